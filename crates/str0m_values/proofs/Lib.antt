@@ -1,0 +1,4 @@
+pub mod BothWays
+pub mod Cells
+pub mod CutLaws
+pub mod NumLaws

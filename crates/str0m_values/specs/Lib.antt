@@ -1,0 +1,4 @@
+pub mod Cuts
+pub mod Fits
+pub mod Parts
+pub mod ShortText

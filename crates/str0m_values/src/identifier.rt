@@ -1,0 +1,47 @@
+//! The names of media sections.
+ghost use Rattle.std.specs.Prelude.{◌≡◌, ◌≤◌, List, ℕ, Some, length};
+ghost use Rattle.std.specs.Str.{IsUtf8};
+ghost use Rattle.str0m_values.specs.ShortText.{IsLongestBeginning};
+
+use crate::short_text::ShortText;
+use std::fmt;
+use std::marker::Model;
+
+/// The name of a media section (RFC 8843, section 15.1.1; RFC 5888): a text of at most 16 bytes.
+#[derive(Clone, Copy, Debug, PartialEq, Eq, Hash)]
+pub struct Mid(ShortText);
+
+impl Model for Mid {
+    ghost Value = { List ℕ };
+
+    ghost view = { λ m. m.0 };
+
+    ghost inverse = { λ t. record { 0 = t } };
+}
+
+impl Mid {
+    pub fn as_str(&self) -> &str
+        ensures value { result.now ≡ self.now }
+        ensures fits { length self.now ≤ 16 }
+        ensures utf8 { IsUtf8 self.now }
+    {
+        self.0.as_str()
+    }
+}
+
+impl<'a> From<&'a str> for Mid {
+    ghost from_gives = { λ text m. IsLongestBeginning 16 text.now m };
+
+    fn from(text: &'a str) -> Mid {
+        Mid(ShortText::beginning(text))
+    }
+}
+
+impl fmt::Display for Mid {
+    ghost output = { λ m. Some m };
+
+    fn fmt<W: fmt::Write>(&self, f: &mut fmt::Formatter<W>) -> fmt::Result {
+        let text = self.0.as_str();
+        write!(f, "{text}")
+    }
+}
