@@ -1,0 +1,102 @@
+-- The longest beginning of a text that fits: there is one, and only one.
+use Rattle.std.proofs.Common.{◌≡◌, ◌⊎◌, ℕ, zero, suc, ◌<◌, ◌≤◌, Bool, true, false, ◌||◌, ltb, leb, List, [], ◌++◌, length, take, drop, get_or, refl, sym, ap, subst, ◌∙◌, inl, inr, arith, take-append-drop, length-take-le}
+use Rattle.std.specs.Str.{IsCharBoundary}
+use Rattle.std.specs.Fmt.{is_char_start}
+use Rattle.std.specs.Fmt.Cut.{floor_char_boundary}
+use Rattle.std.proofs.lemmas.Bool.{ltb-true, lt-ltb, leb-true, leb-false, le-leb, cases_Bool, cases_lt, both_ways}
+use Rattle.std.proofs.lemmas.List.{append-nil}
+use Rattle.std.proofs.Math.Seq.{take-append_seam}
+use Rattle.str0m_values.specs.ShortText.{IsLongestBeginning, beginning_of}
+
+-- where a character ends at i or before it, the last such place
+record IsLastSeam (text : List ℕ) (i at : ℕ) : Type 0 where
+  bound : at ≤ i
+  seam : (at ≡ 0) ⊎ IsCharBoundary text at
+  last : (j : ℕ) → at < j → j ≤ i → IsCharBoundary text j → ⊥
+
+starts : (b : ℕ) → is_char_start b ≡ true → 128 ≤ b → 192 ≤ b
+starts b e high = grind (arith, ltb-true, leb-true)
+
+inside : (b : ℕ) → is_char_start b ≡ false → (128 ≤ b → 192 ≤ b) → ⊥
+inside b e h =
+    elim (cases_lt b 128) [
+      | inl low ↦ both_ways (is_char_start b) e (rw (lt-ltb b 128 low) refl)
+      | inr high ↦ both_ways (is_char_start b) e (rw (le-leb 192 b (h high)) (or_true (ltb b 128)))
+    ]
+  where
+    or_true : (b : Bool) → (b || true) ≡ true
+    or_true true = refl
+    or_true false = refl
+
+floor_is : (text : List ℕ) (i : ℕ) → i < length text → IsLastSeam text i (floor_char_boundary text i)
+unfolding floor_char_boundary
+floor_is text zero within = record { bound = omega arith; seam = inl refl; last = λ j above below is. absurd (omega arith) }
+floor_is text (suc i) within =
+    elim (cases_Bool (is_char_start (get_or text (suc i) 0))) [
+      | inl yes' ↦ rw yes' (record {
+        bound = omega arith;
+        seam = inr (omega arith, λ _ high. starts (get_or text (suc i) 0) yes' high);
+        last = λ j above below is. absurd (omega arith);
+      })
+      | inr no' ↦
+          let before = floor_is text i (omega arith) in
+          rw no' (record {
+            bound = omega (arith, before.bound);
+            seam = before.seam;
+            last = λ j above below is. elim (cases_lt j (suc i)) [
+              | inl lower ↦ before.last j above (omega arith) is
+              | inr at ↦
+                  let same : j ≡ suc i = omega arith in
+                  inside (get_or text (suc i) 0) no' (λ high. (subst (IsCharBoundary text) same is).1 within high)
+            ];
+          })
+    ]
+
+-- the function gives a longest beginning
+pub beginning_is : (room : ℕ) (text : List ℕ) → IsLongestBeginning room text (beginning_of room text)
+unfolding beginning_of
+beginning_is room text =
+    elim (cases_Bool (leb (length text) room)) [
+      | inl whole ↦
+          let small : length text ≤ room = leb-true (length text) room whole in
+          rw whole (record {
+            begins = ([], sym (append-nil text));
+            fits = small;
+            whole = inr (omega arith, λ within high. absurd (omega arith));
+            longest = λ n above fits is. absurd (omega (arith, is.0));
+          })
+      | inr long ↦
+          let within : room < length text = leb-false (length text) room long in
+          let at = floor_is text room within in
+          let len : length (take (floor_char_boundary text room) text) ≡ floor_char_boundary text room = length-take-le (floor_char_boundary text room) text (omega (arith, at.bound)) in
+          rw long (record {
+            begins = (drop (floor_char_boundary text room) text, sym (take-append-drop (floor_char_boundary text room) text));
+            fits = omega (arith, at.bound);
+            whole = rw len at.seam;
+            longest = λ n above fits is. at.last n (omega arith) fits is;
+          })
+    ]
+
+no_longer : (room : ℕ) (text a b : List ℕ) → IsLongestBeginning room text a → IsLongestBeginning room text b → length a < length b → ⊥
+no_longer room text a b h k below = elim k.whole [
+  | inl nothing ↦ omega arith
+  | inr seam ↦ h.longest (length b) below k.fits seam
+]
+
+one_beginning : (room : ℕ) (text a b : List ℕ) → IsLongestBeginning room text a → IsLongestBeginning room text b → a ≡ b
+one_beginning room text a b h k =
+    let same : length a ≡ length b = elim (cases_lt (length a) (length b)) [
+      | inl below ↦ absurd (no_longer room text a b h k below)
+      | inr rest ↦ elim (cases_lt (length b) (length a)) [
+        | inl above ↦ absurd (no_longer room text b a k h above)
+        | inr more ↦ omega arith
+      ]
+    ] in
+    sym (take-append_seam a h.begins.0)
+    ∙ ap (λ (t : List ℕ). take (length a) t) (sym h.begins.1 ∙ k.begins.1)
+    ∙ ap (λ (n : ℕ). take n (b ++ k.begins.0)) same
+    ∙ take-append_seam b k.begins.0
+
+-- two longest beginnings are one
+pub beginning_only : (room : ℕ) (text kept : List ℕ) → IsLongestBeginning room text kept → kept ≡ beginning_of room text
+beginning_only room text kept h = one_beginning room text kept (beginning_of room text) h (beginning_is room text)
