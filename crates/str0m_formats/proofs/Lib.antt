@@ -1,0 +1,2 @@
+pub mod CodecNames
+pub mod ParamLaws

@@ -1,0 +1,7 @@
+use Rattle.std.proofs.Common.{◌≡◌, map, take}
+use Rattle.str0m_formats.specs.FormatParam.{pair_texts, param_of}
+use Rattle.str0m_formats.proofs.format_param.FormatParam.parse_pairs.Given as goal
+
+-- the parameters so far are those of the pairs so far
+abbrev pub invariant-loop-key : goal.invariant-loop-key
+invariant-loop-key l = l.params.items ≡ map param_of (pair_texts (take l.key-index l.pairs))

@@ -1,0 +1,47 @@
+-- When a section is consistent.
+use Rattle.std.specs.Prelude.{◌≡◌, ◌≢◌, ◌≤◌, ◌⊎◌, ◌==◌, ℕ, Bool, true, false, List, [], count_by, IsFalse}
+use Rattle.std.specs.Prelude.{All}
+use Rattle.str0m_sdp.specs.declared.attribute.MediaAttribute.{MediaAttribute}
+use Rattle.str0m_sdp.specs.declared.attribute.MediaAttribute.TheVariants.{Setup, Mid, RecvOnly, SendRecv, SendOnly, Inactive, RtpMap, Fmtp, Unused}
+use Rattle.str0m_sdp.specs.declared.media_line.MediaLine.{MediaLine}
+use Rattle.str0m_sdp.specs.declared.proto.Proto.TheVariants.{Srtp}
+
+abbrev pub is_mid : MediaAttribute → Bool
+is_mid (Mid mid) = true
+is_mid _ = false
+
+abbrev pub is_setup : MediaAttribute → Bool
+is_setup (Setup setup) = true
+is_setup _ = false
+
+abbrev pub is_direction : MediaAttribute → Bool
+is_direction RecvOnly = true
+is_direction SendRecv = true
+is_direction SendOnly = true
+is_direction Inactive = true
+is_direction _ = false
+
+abbrev pub maps : ℕ → MediaAttribute → Bool
+maps pt (RtpMap n value) = n == pt
+maps pt _ = false
+
+-- PCMU, PCMA, G722 and CN need no mapping
+abbrev pub IsStatic : ℕ → Type 0
+IsStatic pt = (pt ≡ 0) ⊎ ((pt ≡ 8) ⊎ ((pt ≡ 9) ⊎ (pt ≡ 13)))
+
+-- one mapping, or none where the type is static
+abbrev pub IsMapped : List MediaAttribute → ℕ → Type 0
+IsMapped attrs pt = (count_by (maps pt) attrs ≡ 1) ⊎ ((count_by (maps pt) attrs ≡ 0) × IsStatic pt)
+
+-- one mid, and at most one setup
+abbrev pub FitsCounts : List MediaAttribute → Type 0
+FitsCounts attrs = (count_by is_mid attrs ≡ 1) × (count_by is_setup attrs ≤ 1)
+
+-- over Srtp one direction, and some type unless the section is disabled
+abbrev pub FitsProto : MediaLine → Type 0
+FitsProto m = m.proto ≡ Srtp → (count_by is_direction m.attrs ≡ 1) × (m.disabled ≡ false → m.pts ≢ [])
+
+pub record Consistent (m : MediaLine) : Type 0 where
+  pub counts : FitsCounts m.attrs
+  pub proto : FitsProto m
+  pub mapped : All (IsMapped m.attrs) m.pts

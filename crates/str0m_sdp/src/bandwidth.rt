@@ -1,0 +1,35 @@
+//! Proposed bandwidths.
+ghost use Rattle.std.specs.Prelude.{◌≡◌, IfOk, Some};
+ghost use Rattle.str0m_sdp.specs.Bandwidth.{bandwidth_text};
+
+use std::alloc::AllocError;
+use std::fmt;
+use str0m_values::Text;
+
+/// A bandwidth and what it counts (RFC 8866, section 5.8).
+#[derive(Clone, Debug, PartialEq, Eq, Drop)]
+pub struct Bandwidth {
+    /// What the value counts, as `AS` or `TIAS`.
+    pub typ: Text,
+    /// The value, in the unit of its type.
+    pub val: Text,
+}
+
+impl Bandwidth {
+    /// A copy that equals its source.
+    pub fn clone(&self) -> Result<Bandwidth, AllocError>
+        ensures { IfOk result (λ bw. bw ≡ self.now) }
+    {
+        Clone::clone(self)
+    }
+}
+
+/// The `b=` line, with its end.
+impl fmt::Display for Bandwidth {
+    ghost output = { λ bw. Some (bandwidth_text bw) };
+
+    fn fmt<W: fmt::Write>(&self, f: &mut fmt::Formatter<W>) -> fmt::Result {
+        let Bandwidth { typ, val } = self;
+        write!(f, "b={typ}:{val}\r\n")
+    }
+}

@@ -1,0 +1,36 @@
+//! Why a session description is refused.
+ghost use Rattle.std.specs.Prelude.{◌≡◌};
+ghost use Rattle.str0m_sdp.specs.declared.error.SdpError.TheVariants.{Memory};
+
+use std::alloc::{AllocError, AllocFailed};
+use thiserror::Error;
+
+/// Why a session description is refused.
+#[derive(Debug, Drop, Error)]
+pub enum SdpError {
+    /// A text has no reading by the grammar: where it failed, or the first fault of a section.
+    #[error("SDP parse: {0}")]
+    ParseError(String),
+    /// A session contradicts itself.
+    #[error("SDP inconsistent: {0}")]
+    Inconsistent(String),
+    /// A growth was refused.
+    #[error("SDP: out of memory")]
+    Memory,
+}
+
+impl From<AllocError> for SdpError {
+    ghost from_gives = { λ _ e. e ≡ Memory };
+
+    fn from(_refused: AllocError) -> SdpError {
+        SdpError::Memory
+    }
+}
+
+impl<T: Drop> From<AllocFailed<T>> for SdpError {
+    ghost from_gives = { λ _ e. e ≡ Memory };
+
+    fn from(_refused: AllocFailed<T>) -> SdpError {
+        SdpError::Memory
+    }
+}

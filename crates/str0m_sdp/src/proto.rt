@@ -1,0 +1,25 @@
+//! What carries a section.
+ghost use Rattle.std.specs.Prelude.{Some};
+ghost use Rattle.str0m_sdp.specs.Proto.{proto_text};
+
+use std::fmt;
+
+/// The transport of a section: RTP over DTLS-SRTP (RFC 5764) or SCTP over DTLS (RFC 8841).
+#[derive(Clone, Copy, Debug, Default, PartialEq, Eq)]
+pub enum Proto {
+    #[default]
+    Srtp,
+    Sctp,
+}
+
+/// The protocol as m-lines print it.
+impl fmt::Display for Proto {
+    ghost output = { λ proto. Some (proto_text proto) };
+
+    fn fmt<W: fmt::Write>(&self, f: &mut fmt::Formatter<W>) -> fmt::Result {
+        match self {
+            Proto::Srtp => f.write_str("UDP/TLS/RTP/SAVPF"),
+            Proto::Sctp => f.write_str("UDP/DTLS/SCTP"),
+        }
+    }
+}
