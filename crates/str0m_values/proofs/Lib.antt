@@ -3,3 +3,4 @@ pub mod BothWays
 pub mod Cells
 pub mod CutLaws
 pub mod NumLaws
+pub mod WordLaws

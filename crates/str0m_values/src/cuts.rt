@@ -1,7 +1,9 @@
-//! The parts of a line.
+//! The parts of a line: what the readers of the crates above cut texts with.
+//!
+//! Characters to cut at are ASCII, so that a cut always falls between characters.
 
-ghost use Rattle.std.specs.Prelude.{◌≡◌, ◌<◌, ◌≤◌, option_map};
-ghost use Rattle.str0m_values.specs.Cuts.{cut, strip, num, parts};
+ghost use Rattle.std.specs.Prelude.{◌≡◌, ◌<◌, not, option_map};
+ghost use Rattle.str0m_values.specs.Cuts.{cut, before, strip, num, parts, lacks};
 
 /// The parts before and after the first `at`.
 pub fn cut(text: &str, at: char) -> Option<(&str, &str)>
@@ -11,6 +13,25 @@ pub fn cut(text: &str, at: char) -> Option<(&str, &str)>
     text.split_once(at)
 }
 
+/// The text before the first `at`, or the whole of it.
+pub fn before(text: &str, at: char) -> &str
+    requires { at < 128 }
+    ensures { result.now ≡ before at text.now }
+{
+    match cut(text, at) {
+        Some((front, _)) => front,
+        None => text,
+    }
+}
+
+/// Whether the character stands in the text.
+pub fn has(text: &str, at: char) -> bool
+    requires { at < 128 }
+    ensures { result ≡ not (lacks at text.now) }
+{
+    cut(text, at).is_some()
+}
+
 /// What follows the prefix.
 pub fn strip<'a>(text: &'a str, prefix: &str) -> Option<&'a str>
     ensures { option_map (λ x. x.now) result ≡ strip prefix.now text.now }
@@ -18,6 +39,7 @@ pub fn strip<'a>(text: &'a str, prefix: &str) -> Option<&'a str>
     text.strip_prefix(prefix)
 }
 
+/// The number that std reads in decimal, where it is at most `limit`.
 pub fn num_u8(text: &str, limit: u8) -> Option<u8>
     ensures { result ≡ num limit text.now }
 {
@@ -27,6 +49,7 @@ pub fn num_u8(text: &str, limit: u8) -> Option<u8>
     }
 }
 
+/// The number of 32 bits that std reads in decimal.
 pub fn num_u32(text: &str) -> Option<u32>
     ensures { result ≡ num 4294967295 text.now }
 {

@@ -1,0 +1,45 @@
+-- The clauses of a reader.
+use Rattle.std.proofs.Common.{◌≡◌, ℕ, List, Option, Some, None, Result, Ok, Err, refl, sym, ap, subst, ◌∙◌}
+use Rattle.std.specs.Borrow.{Bor}
+use Rattle.std.proofs.lemmas.Option.{none-some}
+use Rattle.str0m_sdp.specs.declared.error.SdpError.{SdpError}
+use Rattle.str0m_sdp.specs.declared.error.SdpError.TheVariants.{ParseError, Inconsistent, Memory}
+use Rattle.str0m_values.proofs.BothWays.{Reads}
+use Rattle.str0m_signal.specs.Answers.{Answers, AtMostOne, Gives, Refuses, IsRefusal, unread}
+use Rattle.str0m_signal.specs.Lines.{Line, joined, Lines, OneLine, OfText}
+use Rattle.str0m_signal.specs.LineReading.{lines_of, line_read, left}
+use Rattle.str0m_signal.proofs.LineLaws.{joined_lines, lines_both, lines_only, line_found, line_given, pair_is}
+use Rattle.str0m_signal.proofs.ChainLaws.{OnlyOne}
+
+-- what was read of the lines of a text was read of the text
+pub text_answers : {A : Type 0} (S : List Line → A → List Line → Type 0) (text : List ℕ) (r : Result (A × Bor (List ℕ)) SdpError) → Answers left r (λ v. S (lines_of text) v.0 v.1) → Answers unread r (OfText S text)
+text_answers S text (Ok x) h = (lines_of text, lines_of x.1.now, lines_both text, h, sym (joined_lines x.1.now))
+text_answers S text (Err (ParseError message)) h = λ v k. h (v.0, k.1) (subst (λ (ls : List Line). S ls v.0 k.1) (sym (lines_only text k.0 k.2)) k.3)
+text_answers S text (Err (Inconsistent message)) h = absurd h
+text_answers S text (Err Memory) h = tt
+
+pub text_one : {A : Type 0} (S : List Line → A → List Line → Type 0) → OnlyOne S → (text : List ℕ) → AtMostOne (OfText S text)
+text_one S one text v w h k =
+    let lines : h.0 ≡ k.0 = sym (lines_only text h.0 h.2) ∙ lines_only text k.0 k.2 in
+    let same = one k.0 v.0 w.0 h.1 k.1 (subst (λ (ls : List Line). S ls v.0 h.1) lines h.3) k.3 in
+    pair_is v w same.0 (h.4 ∙ ap joined same.1 ∙ sym k.4)
+
+-- what was read of the first line, by a function that reads its form
+pub line_answers : {A : Type 0} {F : List ℕ → A → Type 0} {f : List ℕ → Option A} → Reads F f → (lines : List Line) (r : Result (A × Bor (List ℕ)) SdpError) → Gives left r (line_read f lines) → Answers left r (λ v. OneLine F lines v.0 v.1)
+line_answers reads lines (Ok x) h = line_found reads lines x.0 (lines_of x.1.now) h
+line_answers reads lines (Err (ParseError message)) h = λ v k. none-some (v.0, v.1) (sym h ∙ line_given reads lines v.0 v.1 k)
+line_answers reads lines (Err (Inconsistent message)) h = absurd h
+line_answers reads lines (Err Memory) h = tt
+
+-- ---- errors
+
+pub refused : {V : Type 0} (e : SdpError) (P : V → Type 0) → IsRefusal e → ((v : V) → P v → ⊥) → Refuses e P
+refused (ParseError message) P h none = none
+refused (Inconsistent message) P h none = absurd h
+refused Memory P h none = tt
+
+-- what a part was refused for refuses the whole
+pub passed_on : {V W : Type 0} (e : SdpError) (P : V → Type 0) (Q : W → Type 0) → Refuses e P → ((w : W) → Q w → (v : V) × P v) → Refuses e Q
+passed_on (ParseError message) P Q h of = λ w q. let p = of w q in h p.0 p.1
+passed_on (Inconsistent message) P Q h of = absurd h
+passed_on Memory P Q h of = tt

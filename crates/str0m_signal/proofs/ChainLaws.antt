@@ -1,0 +1,62 @@
+-- Parts of a list of lines that stand one after another.
+use Rattle.std.proofs.Common.{◌≡◌, ℕ, ◌<◌, ◌≤◌, ◌+◌, List, [], ◌∷◌, ◌++◌, length, Option, Some, None, refl, sym, ap, subst, inl, inr, ◌∙◌, arith}
+use Rattle.std.specs.Prelude.{option_map}
+use Rattle.std.specs.Borrow.{Bor}
+use Rattle.str0m_signal.specs.Lines.{Line, OneLine}
+use Rattle.str0m_signal.specs.Chains.{Chain, Stops, Run, Taken}
+use Rattle.std.proofs.lemmas.Option.{none-some}
+use Rattle.str0m_signal.specs.LineReading.{lines_of, line_read, left, Next}
+use Rattle.str0m_values.proofs.BothWays.{Reads, one_value}
+use Rattle.str0m_signal.proofs.LineLaws.{line_found, line_given}
+
+-- one more part at the end
+pub chain_more : {A : Type 0} (S : List Line → A → List Line → Type 0) (start : List Line) (done : List A) (now : List Line) (a : A) (next : List Line) → Chain S start done now → S now a next → Chain S start (done ++ a ∷ []) next
+chain_more S start [] now a next h s = (next, subst (λ (ls : List Line). S ls a next) (sym h) s, refl)
+chain_more S start (d ∷ ds) now a next h s = (h.0, h.1, chain_more S h.0 ds now a next h.2 s)
+
+-- fewer lines follow
+pub one_fewer : {A : Type 0} (F : List ℕ → A → Type 0) (lines : List Line) (a : A) (after : List Line) → OneLine F lines a after → length after < length lines
+one_fewer F lines a after h = omega (arith, ap length h.1)
+
+pub chain_fewer : {A : Type 0} (F : List ℕ → A → Type 0) (lines : List Line) (as' : List A) (rest : List Line) → Chain (OneLine F) lines as' rest → length rest ≤ length lines
+chain_fewer F lines [] rest h = omega (arith, ap length h)
+chain_fewer F lines (a ∷ as') rest h = omega (arith, one_fewer F lines a h.0 h.1, chain_fewer F h.0 as' rest h.2)
+
+pub taken_fewer : {A : Type 0} (F : List ℕ → A → Type 0) (lines : List Line) (o : Option A) (rest : List Line) → Taken (OneLine F) lines o rest → length rest ≤ length lines
+taken_fewer F lines None rest h = omega (arith, ap length h.0)
+taken_fewer F lines (Some a) rest h = omega (arith, one_fewer F lines a rest h)
+
+pub next_of : {A : Type 0} {F : List ℕ → A → Type 0} {f : List ℕ → Option A} → Reads F f → (text : List ℕ) (o : Option (A × Bor (List ℕ))) → option_map left o ≡ line_read f (lines_of text) → Next (OneLine F) text o
+next_of reads text None e = λ a after h. none-some (a, after) (e ∙ line_given reads (lines_of text) a after h)
+next_of {F} reads text (Some x) e = line_found reads (lines_of text) x.0 (lines_of x.1.now) (sym e)
+
+-- ---- at most one
+
+abbrev pub OnlyOne : {A : Type 0} → (List Line → A → List Line → Type 0) → Type 0
+OnlyOne S = (lines : List Line) (a b : _) (after after' : List Line) → S lines a after → S lines b after' → (a ≡ b) × (after ≡ after')
+
+cons_is : (x y : Line) (xs ys : List Line) → x ∷ xs ≡ y ∷ ys → (x ≡ y) × (xs ≡ ys)
+cons_is x y xs ys e = (cc, cc)
+
+pub one_line_only : {A : Type 0} {F : List ℕ → A → Type 0} {f : List ℕ → Option A} → Reads F f → OnlyOne (OneLine F)
+one_line_only {F} reads lines a b after after' h k =
+    let same = cons_is h.0 k.0 after after' (sym h.1 ∙ k.1) in
+    (one_value reads k.0.content a b (subst (λ (line : Line). F line.content a) same.0 h.3) k.3, same.1)
+
+pub chain_ends : {A : Type 0} (S : List Line → A → List Line → Type 0) → OnlyOne S → (lines : List Line) (as' bs : List A) (rest rest' : List Line) → Run S lines as' rest → Run S lines bs rest' → (as' ≡ bs) × (rest ≡ rest')
+chain_ends S one lines [] [] rest rest' h k = (refl, sym h.0 ∙ k.0)
+chain_ends S one lines [] (b ∷ bs) rest rest' h k = absurd (h.1 b k.0.0 (subst (λ (ls : List Line). S ls b k.0.0) h.0 k.0.1))
+chain_ends S one lines (a ∷ as') [] rest rest' h k = absurd (k.1 a h.0.0 (subst (λ (ls : List Line). S ls a h.0.0) k.0 h.0.1))
+chain_ends {A} S one lines (a ∷ as') (b ∷ bs) rest rest' h k =
+    let first = one lines a b h.0.0 k.0.0 h.0.1 k.0.1 in
+    let more = chain_ends S one h.0.0 as' bs rest rest' (h.0.2, h.1) (subst (λ (ls : List Line). Chain S ls bs rest') (sym first.1) k.0.2, k.1) in
+    (ap (λ (x : A). x ∷ as') first.0 ∙ ap (λ (xs : List A). b ∷ xs) more.0, more.1)
+
+pub taken_only : {A : Type 0} (S : List Line → A → List Line → Type 0) → OnlyOne S → (lines : List Line) (o p : Option A) (rest rest' : List Line) → Taken S lines o rest → Taken S lines p rest' → (o ≡ p) × (rest ≡ rest')
+taken_only S one lines None None rest rest' h k = (refl, sym h.0 ∙ k.0)
+taken_only S one lines None (Some b) rest rest' h k = absurd (h.1 b rest' k)
+taken_only S one lines (Some a) None rest rest' h k = absurd (k.1 a rest h)
+taken_only S one lines (Some a) (Some b) rest rest' h k = let p = one lines a b rest rest' h k in (ap (λ x. Some x) p.0, p.1)
+
+pub taken_none : {A : Type 0} {F : List ℕ → A → Type 0} {f : List ℕ → Option A} → Reads F f → (text : List ℕ) → None ≡ line_read f (lines_of text) → Taken (OneLine F) (lines_of text) None (lines_of text)
+taken_none reads text e = (refl, λ a after h. none-some (a, after) (e ∙ line_given reads (lines_of text) a after h))

@@ -1,0 +1,121 @@
+-- The lines of a header are read exactly where their forms hold.
+use Rattle.std.proofs.Common.{◌≡◌, ◌≢◌, ◌⊎◌, ◌&&◌, ℕ, ◌<◌, ◌≤◌, ◌^◌, Bool, true, false, cond, eqb, leb, ltb, List, [], ◌∷◌, ◌++◌, length, get_or, Option, Some, None, Result, refl, sym, ap, subst, ◌∙◌, arith, inl, inr}
+use Rattle.std.specs.Prelude.{codes}
+use Rattle.std.specs.Bool.{Decides, MatchBool}
+use Rattle.std.specs.Result.{result_ok}
+use Rattle.std.specs.Str.{bytes_eq, IsCharBoundary}
+use Rattle.std.specs.Str.Pattern.{FindsCharPrefix}
+use Rattle.std.specs.Str.Parse.{IsNumeral, digits_value, without_leading_plus, ParsesUnsigned}
+use Rattle.std.proofs.lemmas.Bool.{ltb-true, le-leb, leb-true, and_parts, and_from, ne_eqb, both_ways}
+use Rattle.std.proofs.lemmas.Slice.Eq.{bytes_eq-Decides}
+use Rattle.std.proofs.lemmas.Option.{some_pair_parts}
+use Rattle.std.proofs.lemmas.Str.Parse.{without_leading_plus_none}
+use Rattle.std.proofs.lemmas.Str.Pattern.{starts_char}
+use Rattle.str0m_values.specs.Parts.{Lacks, IsRest}
+use Rattle.str0m_signal.specs.Lines.{Line, OneLine}
+use Rattle.str0m_signal.specs.Header.{IsExactly, IsDigits, IsOrigin, IsOneField, IsInfo, IsOpening, IsHeader}
+use Rattle.str0m_signal.specs.Section.{IsField}
+use Rattle.str0m_values.specs.Cuts.{◌>>=◌, ◌<|>◌, cut, strip, when, is_rest, is_numeral, num}
+use Rattle.str0m_signal.specs.LineReading.{line_read}
+use Rattle.str0m_signal.specs.SectionReading.{field_read}
+use Rattle.str0m_signal.specs.HeaderReading.{exact_read, digits_read, origin_read, one_field_read, info_read, opening_read}
+use Rattle.str0m_values.proofs.CutLaws.{cut_at, cut_found, strip_at, strip_found}
+use Rattle.str0m_values.proofs.NumLaws.{when_some, when_true, numeral_true, numeral_from, parsed_whole}
+use Rattle.str0m_values.proofs.BothWays.{Reads, bind_some, some_is, reads_either}
+use Rattle.std.specs.List.{AllByRecursion}
+use Rattle.std.proofs.Math.Seq.{drop-append_seam}
+use Rattle.std.proofs.Common.{drop}
+use Rattle.str0m_values.proofs.NumLaws.{digits_lack, rest_true}
+use Rattle.str0m_signal.proofs.LineLaws.{line_found, line_given}
+use Rattle.str0m_signal.proofs.SectionLaws.{field_both}
+
+pub exact_both : (word : List ℕ) → Reads (IsExactly word) (exact_read word)
+exact_both word = record {
+  sound = λ content text e. let w = when_some (bytes_eq content word) word text e in ((bytes_eq-Decides content word).0 w.0, sym w.1);
+  complete = λ content text h. when_true (bytes_eq content word) word ((bytes_eq-Decides content word).1 h.0) ∙ ap (λ (t : List ℕ). Some t) (sym h.1);
+}
+
+digits_both : Reads IsDigits digits_read
+digits_both = record {
+  sound = λ text n e.
+      let w = when_some (is_numeral text && leb (digits_value 10 text) 18446744073709551615) (digits_value 10 text) n e in
+      let p = and_parts (is_numeral text) (leb (digits_value 10 text) 18446744073709551615) w.0 in
+      let le : digits_value 10 text ≤ 18446744073709551615 = leb-true _ _ p.1 in
+      record { numeral = numeral_from text p.0; value = w.1; fits = rw (← w.1) le };
+  complete = λ text n h.
+      let le : digits_value 10 text ≤ 18446744073709551615 = rw h.value h.fits in
+      when_true (is_numeral text && leb (digits_value 10 text) 18446744073709551615) (digits_value 10 text) (and_from _ _ (numeral_true text h.numeral) (le-leb _ _ le)) ∙ ap (λ (k : ℕ). Some k) h.value;
+}
+
+-- std's reading of a text that doesn't begin with a plus
+pub digits_parsed : {E : Type 0} (text : List ℕ) (b : Bool) (r : Result ℕ E) → MatchBool b ((n : ℕ) × FindsCharPrefix 43 text (Some n) × IsCharBoundary text n) (FindsCharPrefix 43 text None) → b ≡ false → ParsesUnsigned 64 10 text r → result_ok r ≡ digits_read text
+digits_parsed text b r starts e h =
+    let plain : without_leading_plus text ≡ text = without_leading_plus_none text (λ plus. both_ways b e ((starts_char 43 text b starts (omega arith) (omega arith)).1 plus)) in
+    parsed_whole 64 18446744073709551615 text r h refl ∙ ap (λ ds. when (is_numeral ds && leb (digits_value 10 ds) 18446744073709551615) (digits_value 10 ds)) plain
+
+origin_both : Reads IsOrigin origin_read
+origin_both = record { sound = found; complete = given }
+  where
+    found : (content : List ℕ) (id : ℕ) → origin_read content ≡ Some id → IsOrigin content id
+    found content id e =
+        let a = bind_some (strip (codes "o=") content) (λ body. cut 32 body >>= λ name. when (is_rest name.0) name.0 >>= λ word. cut 32 name.1 >>= λ number. digits_read number.0 >>= λ id. when (is_rest number.1) number.1 >>= λ more. Some id) id e in
+        let n = bind_some (cut 32 a.0) (λ name. when (is_rest name.0) name.0 >>= λ word. cut 32 name.1 >>= λ number. digits_read number.0 >>= λ id. when (is_rest number.1) number.1 >>= λ more. Some id) id a.2 in
+        let w = bind_some (when (is_rest n.0.0) n.0.0) (λ word. cut 32 n.0.1 >>= λ number. digits_read number.0 >>= λ id. when (is_rest number.1) number.1 >>= λ more. Some id) id n.2 in
+        let d = bind_some (cut 32 n.0.1) (λ number. digits_read number.0 >>= λ id. when (is_rest number.1) number.1 >>= λ more. Some id) id w.2 in
+        let v = bind_some (digits_read d.0.0) (λ id. when (is_rest d.0.1) d.0.1 >>= λ more. Some id) id d.2 in
+        let m = bind_some (when (is_rest d.0.1) d.0.1) (λ more. Some v.0) id v.2 in
+        let word = when_some (is_rest n.0.0) n.0.0 w.0 w.1 in
+        let more = when_some (is_rest d.0.1) d.0.1 m.0 m.1 in
+        let name = cut_found 32 a.0 n.0.0 n.0.1 n.1 in
+        let number = cut_found 32 n.0.1 d.0.0 d.0.1 d.1 in
+        record {
+          name = n.0.0;
+          number = d.0.0;
+          more = d.0.1;
+          joined = strip_found (codes "o=") content a.0 a.1 ∙ ap (λ (x : List ℕ). codes "o=" ++ x) (name.0 ∙ ap (λ (x : List ℕ). n.0.0 ++ (32 ∷ x)) number.0);
+          name_is = (ltb-true 0 (length n.0.0) word.0, name.1);
+          number_is = subst (IsDigits d.0.0) (some_is v.0 id m.2) (digits_both.sound d.0.0 v.0 v.1);
+          more_is = ltb-true 0 (length d.0.1) more.0;
+        }
+
+    given : (content : List ℕ) (id : ℕ) → IsOrigin content id → origin_read content ≡ Some id
+    given content id h =
+        let behind = h.number ++ (32 ∷ h.more) in
+        let lacks : Lacks 32 h.number = digits_lack 32 h.number (omega arith) h.number_is.numeral.1 in
+        ap origin_read h.joined ∙ rw (cut_at 32 h.name behind h.name_is.1, rest_true h.name h.name_is.0, cut_at 32 h.number h.more lacks, digits_both.complete h.number id h.number_is, rest_true h.more h.more_is) refl
+
+one_behind : (letter : List ℕ) → length letter ≡ 2 → (content text : List ℕ) → IsField letter content text → text ≡ drop 2 content
+one_behind letter two content text h = sym (rw (h.0, ← two) (drop-append_seam letter text))
+
+-- what a field of two characters says stands behind them
+field_behind : (letters : List (List ℕ)) → AllByRecursion (λ letter. length letter ≡ 2) letters → (content text : List ℕ) → IsOneField letters content text → text ≡ drop 2 content
+field_behind [] two content text h = absurd h
+field_behind (letter ∷ letters) two content text h = elim h [ inl k ↦ one_behind letter two.0 content text k | inr k ↦ field_behind letters two.1 content text k ]
+
+fields_both : (letters : List (List ℕ)) → AllByRecursion (λ letter. length letter ≡ 2) letters → Reads (IsOneField letters) (one_field_read letters)
+fields_both [] two = record { sound = λ content text e. absurd cc; complete = λ content text h. absurd h }
+fields_both (letter ∷ letters) two =
+    reads_either (field_both letter) (fields_both letters two.1) (λ content text other h k. one_behind letter two.0 content text h ∙ sym (field_behind letters two.1 content other k))
+
+pub info_both : Reads IsInfo info_read
+info_both = fields_both (codes "i=" ∷ codes "u=" ∷ codes "e=" ∷ codes "p=" ∷ codes "c=" ∷ codes "z=" ∷ codes "k=" ∷ []) (refl, refl, refl, refl, refl, refl, refl, tt)
+
+pub opening_found : (lines : List Line) (id : ℕ) (rest : List Line) → opening_read lines ≡ Some (id, rest) → IsOpening lines id rest
+opening_found lines id rest e =
+    let v = bind_some (line_read (exact_read (codes "v=0")) lines) (λ version. line_read origin_read version.1 >>= λ origin. line_read (field_read (codes "s=")) origin.1 >>= λ name. Some (origin.0, name.1)) (id, rest) e in
+    let o = bind_some (line_read origin_read v.0.1) (λ origin. line_read (field_read (codes "s=")) origin.1 >>= λ name. Some (origin.0, name.1)) (id, rest) v.2 in
+    let n = bind_some (line_read (field_read (codes "s=")) o.0.1) (λ name. Some (o.0.0, name.1)) (id, rest) o.2 in
+    let pair = some_pair_parts o.0.0 id n.0.1 rest n.2 in
+    let version = line_found (exact_both (codes "v=0")) lines v.0.0 v.0.1 v.1 in
+    record {
+      after_version = v.0.1;
+      after_origin = o.0.1;
+      name = n.0.0;
+      version_is = (version.0, version.1, version.2, (version.3.0, refl));
+      origin_is = subst (λ (i : ℕ). OneLine IsOrigin v.0.1 i o.0.1) pair.0 (line_found origin_both v.0.1 o.0.0 o.0.1 o.1);
+      name_is = subst (λ (ls : List Line). OneLine (IsField (codes "s=")) o.0.1 n.0.0 ls) pair.1 (line_found (field_both (codes "s=")) o.0.1 n.0.0 n.0.1 n.1);
+    }
+
+pub opening_given : (lines : List Line) (id : ℕ) (rest : List Line) → IsOpening lines id rest → opening_read lines ≡ Some (id, rest)
+opening_given lines id rest h =
+    rw (line_given (exact_both (codes "v=0")) lines (codes "v=0") h.after_version h.version_is, line_given origin_both h.after_version id h.after_origin h.origin_is, line_given (field_both (codes "s=")) h.after_origin h.name rest h.name_is) refl

@@ -1,0 +1,12 @@
+pub mod AnswerLaws
+pub mod ChainLaws
+pub mod FmtpLaws
+pub mod HeaderLaws
+pub mod LineLaws
+pub mod MediaLaws
+pub mod NumberLaws
+pub mod PairLaws
+pub mod ReadingLaws
+pub mod RtpMapLaws
+pub mod SectionLaws
+pub mod SessionLaws

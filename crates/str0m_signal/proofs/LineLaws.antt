@@ -1,0 +1,256 @@
+-- `lines_of` gives the lines of a text, and no others are.
+use Rattle.std.proofs.Common.{◌≡◌, ◌≢◌, ◌⊎◌, ℕ, zero, suc, ◌<◌, ◌+◌, Bool, true, false, cond, not, ◌&&◌, eqb, List, [], ◌∷◌, ◌++◌, length, Option, Some, None, refl, sym, ap, ◌∙◌, arith, inl, inr, append_assoc}
+use Rattle.std.proofs.lemmas.Bool.{eqb-true, eq-eqb, ne_eqb, cases_eq, cases_Bool, both_ways, not-true, and_parts, and_left, and_right, and_from}
+use Rattle.std.proofs.lemmas.List.{append-nil}
+use Rattle.std.proofs.Common.{take, ◌-◌}
+use Rattle.std.specs.Prelude.{MatchOption, unwrap_or, is_some}
+use Rattle.std.specs.Borrow.{Bor}
+use Rattle.std.specs.Str.Pattern.{FindsCharSuffix}
+use Rattle.std.proofs.lemmas.Bool.{false_from_ne_true}
+use Rattle.std.proofs.lemmas.Option.{some_pair_parts, none-some}
+use Rattle.std.proofs.lemmas.Str.Pattern.{strip_suffix_char}
+use Rattle.str0m_values.specs.Cuts.{cut, parts}
+use Rattle.str0m_values.proofs.CutLaws.{lacks_true, lacks_from, Lacks-append}
+use Rattle.std.specs.Prelude.{codes}
+use Rattle.str0m_values.specs.Cuts.{strip, ◌>>=◌}
+use Rattle.str0m_signal.specs.Lines.{IsAttributeLine, OneLine, FirstLine}
+use Rattle.str0m_signal.specs.LineReading.{plain_line, read_attribute, line_read, left, Next}
+use Rattle.str0m_values.proofs.CutLaws.{strip_found, strip_at}
+use Rattle.std.proofs.Common.{Result, Ok, Err}
+use Rattle.str0m_sdp.specs.declared.error.SdpError.{SdpError}
+use Rattle.str0m_sdp.specs.declared.error.SdpError.TheVariants.{ParseError, Inconsistent, Memory}
+use Rattle.str0m_signal.specs.Answers.{Answers, AtMostOne, Gives, unread}
+use Rattle.str0m_values.proofs.BothWays.{Reads, bind_some, some_is, if_some}
+use Rattle.str0m_values.specs.Parts.{Lacks, IsRest}
+use Rattle.str0m_signal.specs.Lines.{Line, joined, EndsIn, IsLine, AreLines, Lines}
+use Rattle.str0m_signal.specs.LineReading.{is_crlf, longer, behind_first, line_from, lines_of, first_line}
+use Rattle.str0m_values.specs.Cuts.{lacks}
+
+cons_parts : (x y : ℕ) (xs ys : List ℕ) → x ∷ xs ≡ y ∷ ys → (x ≡ y) × (xs ≡ ys)
+cons_parts x y xs ys e = (cc, cc)
+
+nil_cons : (y : ℕ) (ys : List ℕ) → [] ≡ y ∷ ys → ⊥
+nil_cons y ys e = absurd cc
+
+nil_ends : (c : ℕ) → EndsIn c [] → ⊥
+nil_ends c h = go h.0 h.1
+  where
+    go : (front : List ℕ) → [] ≡ front ++ (c ∷ []) → ⊥
+    go [] e = nil_cons c [] e
+    go (f ∷ fs) e = nil_cons f (fs ++ (c ∷ [])) e
+
+-- what ends in c behind x, or is x alone
+cons_ends : (c x : ℕ) (xs : List ℕ) → EndsIn c (x ∷ xs) → ((x ≡ c) × (xs ≡ [])) ⊎ EndsIn c xs
+cons_ends c x xs h = go h.0 h.1
+  where
+    go : (front : List ℕ) → x ∷ xs ≡ front ++ (c ∷ []) → ((x ≡ c) × (xs ≡ [])) ⊎ EndsIn c xs
+    go [] e = inl (cons_parts x c xs [] e)
+    go (f ∷ fs) e = inr (fs, (cons_parts x f xs (fs ++ (c ∷ [])) e).1)
+
+crlf_parts : (x : ℕ) (xs : List ℕ) → is_crlf x xs ≡ true → (x ≡ 13) × ((ys : List ℕ) × (xs ≡ 10 ∷ ys))
+crlf_parts x [] e = absurd cc
+crlf_parts x (y ∷ ys) e = let p = and_parts (eqb x 13) (eqb y 10) e in (eqb-true x 13 p.0, (ys, ap (λ (z : ℕ). z ∷ ys) (eqb-true y 10 p.1)))
+
+at_lf : (xs : List ℕ) (lines : List Line) → line_from 10 xs lines ≡ record { content = []; ending = 10 ∷ [] } ∷ lines
+at_lf xs lines = refl
+
+at_crlf : (x : ℕ) (xs : List ℕ) (lines : List Line) → x ≢ 10 → is_crlf x xs ≡ true → line_from x xs lines ≡ record { content = []; ending = 13 ∷ 10 ∷ [] } ∷ behind_first lines
+at_crlf x xs lines other e = rw (ne_eqb x 10 other, e) refl
+
+at_other : (x : ℕ) (xs : List ℕ) (lines : List Line) → x ≢ 10 → is_crlf x xs ≡ false → line_from x xs lines ≡ longer x lines
+at_other x xs lines other e = rw (ne_eqb x 10 other, e) refl
+
+joined_longer : (x : ℕ) (lines : List Line) → joined (longer x lines) ≡ x ∷ joined lines
+joined_longer x [] = refl
+joined_longer x (line ∷ lines) = refl
+
+pub joined_lines : (text : List ℕ) → joined (lines_of text) ≡ text
+unfolding lines_of
+joined_lines [] = refl
+joined_lines (x ∷ xs) =
+    elim (cases_eq x 10) [
+      | inl lf ↦ rw lf (ap (λ (t : List ℕ). 10 ∷ t) (joined_lines xs))
+      | inr other ↦ elim (cases_Bool (is_crlf x xs)) [
+        | inl crlf ↦
+            let p = crlf_parts x xs crlf in
+            let behind : 10 ∷ joined (behind_first (lines_of xs)) ≡ xs = sym (ap (λ (t : List ℕ). 10 ∷ joined (behind_first (lines_of t))) (sym p.1.1)) ∙ ap (λ (t : List ℕ). joined (lines_of t)) (sym p.1.1) ∙ joined_lines xs in
+            ap joined (at_crlf x xs (lines_of xs) other crlf) ∙ ap (λ (t : List ℕ). 13 ∷ t) behind ∙ ap (λ (z : ℕ). z ∷ xs) (sym p.0)
+        | inr plain ↦ ap joined (at_other x xs (lines_of xs) other plain) ∙ joined_longer x (lines_of xs) ∙ ap (λ (t : List ℕ). x ∷ t) (joined_lines xs)
+      ]
+    ]
+
+-- ---- they are lines
+
+AreLines-behind : (lines : List Line) → AreLines lines → AreLines (behind_first lines)
+AreLines-behind [] h = tt
+AreLines-behind (line ∷ lines) h = h.1
+
+longer_line : (x : ℕ) (line : Line) (rest : List ℕ) → x ≢ 10 → is_crlf x (line.content ++ (line.ending ++ rest)) ≡ false → IsLine line rest → IsLine (record { content = x ∷ line.content; ending = line.ending }) rest
+longer_line x line rest other plain h = record {
+  inside = (other, h.inside);
+  ends = elim h.ends [
+    | inl lf ↦ inl (
+      lf.0,
+      λ e. elim (cons_ends 13 x line.content e) [
+        | inl alone ↦
+            let crlf : is_crlf x (line.content ++ (line.ending ++ rest)) ≡ true = rw (alone.1, lf.0, alone.0) refl in
+            absurd (both_ways (is_crlf x (line.content ++ (line.ending ++ rest))) plain crlf)
+        | inr behind ↦ lf.1 behind
+      ],
+    )
+    | inr more ↦ elim more [
+      | inl crlf ↦ inr (inl crlf)
+      | inr last ↦ inr (inr (last.0, last.1, omega arith))
+    ]
+  ];
+}
+
+AreLines-longer : (x : ℕ) (lines : List Line) → x ≢ 10 → is_crlf x (joined lines) ≡ false → AreLines lines → AreLines (longer x lines)
+AreLines-longer x [] other plain h = (record { inside = (other, tt); ends = inr (inr (refl, refl, omega arith)) }, tt)
+AreLines-longer x (line ∷ lines) other plain h = (longer_line x line (joined lines) other plain h.0, h.1)
+
+pub lines_are : (text : List ℕ) → AreLines (lines_of text)
+unfolding lines_of
+lines_are [] = tt
+lines_are (x ∷ xs) =
+    elim (cases_eq x 10) [
+      | inl lf ↦ rw lf (record { inside = tt; ends = inl (refl, nil_ends 13) }, lines_are xs)
+      | inr other ↦ elim (cases_Bool (is_crlf x xs)) [
+        | inl crlf ↦ rw (at_crlf x xs (lines_of xs) other crlf) (record { inside = tt; ends = inr (inl refl) }, AreLines-behind (lines_of xs) (lines_are xs))
+        | inr plain ↦ rw (at_other x xs (lines_of xs) other plain) (AreLines-longer x (lines_of xs) other (rw joined_lines plain) (lines_are xs))
+      ]
+    ]
+
+pub lines_both : (text : List ℕ) → Lines text (lines_of text)
+lines_both text = (sym (joined_lines text), lines_are text)
+
+-- ---- no others are
+
+not_crlf : (x : ℕ) (content ending rest : List ℕ) → x ≢ 10 → IsLine (record { content = x ∷ content; ending = ending }) rest → is_crlf x (content ++ (ending ++ rest)) ≡ false
+not_crlf x [] ending rest other h =
+    elim h.ends [
+      | inl lf ↦ rw lf.0 (and_left (eqb x 13) true (ne_eqb x 13 (λ e. lf.1 ([], ap (λ (z : ℕ). z ∷ []) e))))
+      | inr more ↦ elim more [
+        | inl crlf ↦ rw crlf (and_right (eqb x 13) false refl)
+        | inr last ↦ rw (last.0, last.1) refl
+      ]
+    ]
+not_crlf x (y ∷ ys) ending rest other h = and_right (eqb x 13) (eqb y 10) (ne_eqb y 10 h.inside.1.0)
+
+-- the line without its first character
+shorter_ends : (x y : ℕ) (content ending rest : List ℕ) → IsLine (record { content = x ∷ y ∷ content; ending = ending }) rest → IsLine (record { content = y ∷ content; ending = ending }) rest
+shorter_ends x y content ending rest h = record {
+  inside = h.inside.1;
+  ends = elim h.ends [
+    | inl lf ↦ inl (lf.0, λ e. lf.1 (x ∷ e.0, ap (λ (t : List ℕ). x ∷ t) e.1))
+    | inr more ↦ elim more [
+      | inl crlf ↦ inr (inl crlf)
+      | inr last ↦ inr (inr (last.0, last.1, omega arith))
+    ]
+  ];
+}
+
+at_content : (content ending rest : List ℕ) → IsLine (record { content = content; ending = ending }) rest → lines_of (content ++ (ending ++ rest)) ≡ record { content = content; ending = ending } ∷ lines_of rest
+unfolding lines_of
+at_content [] ending rest h =
+    elim h.ends [
+      | inl lf ↦ rw lf.0 refl
+      | inr more ↦ elim more [
+        | inl crlf ↦ rw crlf refl
+        | inr last ↦ absurd (omega (arith, last.2))
+      ]
+    ]
+at_content (x ∷ []) ending rest h =
+    let other = h.inside.0 in
+    let step : lines_of (x ∷ (ending ++ rest)) ≡ longer x (lines_of (ending ++ rest)) = at_other x (ending ++ rest) (lines_of (ending ++ rest)) other (not_crlf x [] ending rest other h) in
+    step ∙ elim h.ends as (λ _. longer x (lines_of (ending ++ rest)) ≡ record { content = x ∷ []; ending = ending } ∷ lines_of rest) [
+      | inl lf ↦ rw lf.0 refl
+      | inr more ↦ elim more as (λ _. longer x (lines_of (ending ++ rest)) ≡ record { content = x ∷ []; ending = ending } ∷ lines_of rest) [
+        | inl crlf ↦ rw crlf refl
+        | inr last ↦ rw (last.0, last.1) refl
+      ]
+    ]
+at_content (x ∷ (y ∷ ys)) ending rest h =
+    let other = h.inside.0 in
+    at_other x (y ∷ ys ++ (ending ++ rest)) (lines_of (y ∷ ys ++ (ending ++ rest))) other (not_crlf x (y ∷ ys) ending rest other h)
+    ∙ ap (longer x) (at_content (y ∷ ys) ending rest (shorter_ends x y ys ending rest h))
+
+pub lines_of_joined : (lines : List Line) → AreLines lines → lines_of (joined lines) ≡ lines
+unfolding lines_of
+lines_of_joined [] h = refl
+lines_of_joined (line ∷ lines) h = at_content line.content line.ending (joined lines) h.0 ∙ ap (λ (ls : List Line). line ∷ ls) (lines_of_joined lines h.1)
+
+pub lines_only : (text : List ℕ) (lines : List Line) → Lines text lines → lines_of text ≡ lines
+lines_only text lines h = ap lines_of h.0 ∙ lines_of_joined lines h.1
+
+-- ---- the first line
+
+pub line_here : (text : List ℕ) (line : Line) (rest : List ℕ) → text ≡ line.content ++ (line.ending ++ rest) → IsLine line rest → lines_of text ≡ line ∷ lines_of rest
+line_here text line rest e h = ap lines_of e ∙ at_content line.content line.ending rest h
+
+first_is : (text : List ℕ) (line : Line) (rest : List ℕ) → text ≡ line.content ++ (line.ending ++ rest) → IsLine line rest → Some (line.content, lines_of rest) ≡ first_line (lines_of text)
+first_is text line rest e h = sym (ap first_line (line_here text line rest e h))
+
+-- what is cut at LF
+pub first_at_lf : (text a content rest : List ℕ) → text ≡ a ++ (10 ∷ rest) → Lacks 10 a → (a ≡ content ++ (13 ∷ [])) ⊎ ((content ≡ a) × (EndsIn 13 a → ⊥)) → Some (content, lines_of rest) ≡ first_line (lines_of text)
+first_at_lf text a content rest e h cases =
+    elim cases [
+      | inl crlf ↦
+          let whole : text ≡ content ++ (13 ∷ 10 ∷ rest) = e ∙ ap (λ (t : List ℕ). t ++ (10 ∷ rest)) crlf ∙ append_assoc content (13 ∷ []) (10 ∷ rest) in
+          let inside : Lacks 10 content = Lacks-append 10 content (13 ∷ []) (rw (← crlf) h) in
+          first_is text (record { content = content; ending = 13 ∷ 10 ∷ [] }) rest whole (record { inside = inside; ends = inr (inl refl) })
+      | inr lf ↦
+          let whole : text ≡ content ++ (10 ∷ rest) = e ∙ ap (λ (t : List ℕ). t ++ (10 ∷ rest)) (sym lf.0) in
+          first_is text (record { content = content; ending = 10 ∷ [] }) rest whole (record { inside = rw lf.0 h; ends = inl (refl, rw lf.0 lf.1) })
+    ]
+
+-- the last line has no end
+pub first_at_end : (text : List ℕ) → Lacks 10 text → IsRest text → Some (text, lines_of []) ≡ first_line (lines_of text)
+first_at_end text h rest = first_is text (record { content = text; ending = [] }) [] (sym (append-nil text)) (record { inside = h; ends = inr (inr (refl, refl, rest)) })
+
+pub without_suffix : (line : Bor (List ℕ)) (r : Option (Bor (List ℕ))) → MatchOption r (FindsCharSuffix 13 line.now None) (λ x. (n : ℕ) × FindsCharSuffix 13 line.now (Some n) × (x.now ≡ take (length line.now - n) line.now) × (length x.now + n ≡ length line.now))
+    → (line.now ≡ (unwrap_or r line).now ++ (13 ∷ [])) ⊎ (((unwrap_or r line).now ≡ line.now) × (EndsIn 13 line.now → ⊥))
+without_suffix line None h = inr (refl, λ e. strip_suffix_char 13 line.now None h (omega arith) e.0 e.1)
+without_suffix line (Some x) h = inl (strip_suffix_char 13 line.now (Some x) h (omega arith))
+
+pub first_of_none : (text : List ℕ) → eqb (length text) 0 ≡ true → None ≡ first_line (lines_of text)
+unfolding lines_of
+first_of_none [] e = refl
+first_of_none (x ∷ xs) e = absurd (omega (arith, eqb-true (length (x ∷ xs)) 0 e))
+
+pub rest_from : (text : List ℕ) → eqb (length text) 0 ≡ false → IsRest text
+rest_from [] e = absurd cc
+rest_from (x ∷ xs) e = omega arith
+
+-- ---- the first line, as a relation
+
+pub attribute_both : {A : Type 0} {F : List ℕ → A → Type 0} {f : List ℕ → Option A} → Reads F f → Reads (IsAttributeLine F) (read_attribute f)
+attribute_both {A} {F} {f} reads = record { sound = found; complete = given }
+  where
+    found : (content : List ℕ) (x : A) → read_attribute f content ≡ Some x → IsAttributeLine F content x
+    found content x e =
+        let a = bind_some (strip (codes "a=") content) f x e in
+        (a.0, strip_found (codes "a=") content a.0 a.1, reads.sound a.0 x a.2)
+
+    given : (content : List ℕ) (x : A) → IsAttributeLine F content x → read_attribute f content ≡ Some x
+    given content x h = ap (read_attribute f) h.1 ∙ reads.complete h.0 x h.2
+
+-- what is read of the first line, both ways
+pub line_found : {A : Type 0} {F : List ℕ → A → Type 0} {f : List ℕ → Option A} → Reads F f → (lines : List Line) (x : A) (behind : List Line) → line_read f lines ≡ Some (x, behind) → OneLine F lines x behind
+line_found {A} {F} {f} reads [] x behind e = absurd cc
+line_found {A} {F} {f} reads (line ∷ lines) x behind e =
+    let a = bind_some (cond (lacks 13 line.content) (Some (line.content, lines)) None) (λ found. f found.0 >>= λ value. Some (value, found.1)) (x, behind) e in
+    let b = if_some (lacks 13 line.content) (Some (line.content, lines)) a.0 a.1 in
+    let pair = some_pair_parts line.content a.0.0 lines a.0.1 b.1 in
+    let c = bind_some (f a.0.0) (λ value. Some (value, a.0.1)) (x, behind) a.2 in
+    let got = some_pair_parts c.0 x a.0.1 behind c.2 in
+    (line, ap (λ (ls : List Line). line ∷ ls) (pair.1 ∙ got.1), lacks_from 13 line.content b.0, reads.sound line.content x (ap f pair.0 ∙ c.1 ∙ ap (λ (v : A). Some v) got.0))
+
+pub line_given : {A : Type 0} {F : List ℕ → A → Type 0} {f : List ℕ → Option A} → Reads F f → (lines : List Line) (x : A) (behind : List Line) → OneLine F lines x behind → line_read f lines ≡ Some (x, behind)
+line_given {A} {F} {f} reads lines x behind h = ap (line_read f) h.1 ∙ rw (lacks_true 13 h.0.content h.2, reads.complete h.0.content x h.3) refl
+
+pub pair_is : {A B : Type 0} (x y : A × B) → x.0 ≡ y.0 → x.1 ≡ y.1 → x ≡ y
+pair_is {A} {B} x y e f =
+    let first : ◌≡◌ {A = A × B} (x.0, x.1) (y.0, x.1) = ap (λ (a : A). (a, x.1)) e in
+    let second : ◌≡◌ {A = A × B} (y.0, x.1) (y.0, y.1) = ap (λ (b : B). (y.0, b)) f in
+    first ∙ second

@@ -1,0 +1,108 @@
+-- An rtpmap line is read exactly where its form holds.
+use Rattle.std.proofs.Common.{◌≡◌, ℕ, ◌<◌, ◌≤◌, Bool, ltb, List, [], ◌∷◌, ◌++◌, length, Option, Some, None, refl, sym, ap, subst, ◌∙◌, arith}
+use Rattle.std.specs.Prelude.{codes}
+use Rattle.std.proofs.lemmas.Bool.{ltb-true, lt-ltb}
+use Rattle.std.proofs.lemmas.List.{append-nil}
+use Rattle.std.proofs.lemmas.Option.{some_pair_parts}
+use Rattle.str0m_values.specs.Parts.{Lacks, IsRest, IsNum, IsWithout}
+use Rattle.str0m_values.specs.Cuts.{◌>>=◌, cut, strip, when, is_rest, num}
+use Rattle.str0m_values.proofs.CutLaws.{cut_none, cut_none_lacks, cut_at, cut_found, strip_found}
+use Rattle.str0m_values.proofs.NumLaws.{when_some, num_found, num_reads, number_lacks, rest_true}
+use Rattle.str0m_values.proofs.BothWays.{Reads, bind_some, some_is}
+use Rattle.str0m_formats.specs.declared.codec.Codec.{Codec}
+use Rattle.str0m_formats.specs.Codec.{codec_of, IsReadAs}
+use Rattle.str0m_formats.proofs.CodecNames.{read_as, read_only}
+use Rattle.str0m_sdp.specs.declared.rtp_map.RtpMap.{RtpMap as Mapping}
+use Rattle.str0m_signal.specs.RtpMap.{IsChannels, IsRtpMap}
+use Rattle.str0m_signal.specs.RtpMapReading.{frequency_read, clock_read, mapping_read, rtpmap_fields_read}
+
+pub frequency_sound : (text : List ℕ) (hertz : ℕ) → frequency_read text ≡ Some hertz → IsNum 4294967295 text hertz × (0 < hertz)
+frequency_sound text hertz e =
+    let a = bind_some (num 4294967295 text) (λ n. when (ltb 0 n) n) hertz e in
+    let w = when_some (ltb 0 a.0) a.0 hertz a.2 in
+    let positive : 0 < a.0 = ltb-true 0 a.0 w.0 in
+    (num_found 4294967295 text hertz (a.1 ∙ ap (λ (n : ℕ). Some n) w.1), rw (← w.1) positive)
+
+pub frequency_complete : (text : List ℕ) (hertz : ℕ) → IsNum 4294967295 text hertz → 0 < hertz → frequency_read text ≡ Some hertz
+frequency_complete text hertz h positive = rw (num_reads 4294967295 text hertz h, lt-ltb 0 hertz positive) refl
+
+-- a clock rate and the channels behind it
+record IsClock (text : List ℕ) (hertz : ℕ) (channels : Option ℕ) : Type 0 where
+  number : List ℕ
+  more : List ℕ
+  joined : text ≡ number ++ more
+  number_is : IsWithout 47 number × IsNum 4294967295 number hertz × (0 < hertz)
+  more_is : IsChannels more channels
+
+without : (text : List ℕ) (hertz : ℕ) → Lacks 47 text → IsNum 4294967295 text hertz → IsWithout 47 text
+without [] hertz h n = absurd (omega (arith, n.numeral.0))
+without (x ∷ xs) hertz h n = (omega arith, h)
+
+clock_sound : (text : List ℕ) (hertz : ℕ) (channels : Option ℕ) (o : Option (List ℕ × List ℕ)) → cut 47 text ≡ o → clock_read text o ≡ Some (hertz, channels) → IsClock text hertz channels
+clock_sound text hertz channels None cut-is e =
+    let a = bind_some (frequency_read text) (λ hz. Some (hz, None)) (hertz, channels) e in
+    let pair = some_pair_parts a.0 hertz None channels a.2 in
+    let f = frequency_sound text hertz (a.1 ∙ ap (λ (n : ℕ). Some n) pair.0) in
+    rw (← pair.1) (record { number = text; more = []; joined = sym (append-nil text); number_is = (without text hertz (cut_none_lacks 47 text cut-is) f.0, f.0, f.1); more_is = refl })
+clock_sound text hertz channels (Some p) cut-is e =
+    let a = bind_some (frequency_read p.0) (λ hz. num 255 p.1 >>= λ n. Some (hz, Some n)) (hertz, channels) e in
+    let b = bind_some (num 255 p.1) (λ n. Some (a.0, Some n)) (hertz, channels) a.2 in
+    let pair = some_pair_parts a.0 hertz (Some b.0) channels b.2 in
+    let f = frequency_sound p.0 hertz (a.1 ∙ ap (λ (n : ℕ). Some n) pair.0) in
+    let found = cut_found 47 text p.0 p.1 cut-is in
+    rw (← pair.1) (record { number = p.0; more = 47 ∷ p.1; joined = found.0; number_is = (without p.0 hertz found.1 f.0, f.0, f.1); more_is = (p.1, refl, num_found 255 p.1 b.0 b.1) })
+
+channels_lack : (text : List ℕ) (hertz : List ℕ) (channels : Option ℕ) (rate : ℕ) → IsWithout 47 hertz → IsNum 4294967295 hertz rate → 0 < rate → IsChannels text channels → clock_read (hertz ++ text) (cut 47 (hertz ++ text)) ≡ Some (rate, channels)
+channels_lack text hertz None rate w n positive h =
+    let whole : hertz ++ text ≡ hertz = ap (λ (t : List ℕ). hertz ++ t) h ∙ append-nil hertz in
+    ap (λ (t : List ℕ). clock_read t (cut 47 t)) whole ∙ rw (cut_none 47 hertz w.1, frequency_complete hertz rate n positive) refl
+channels_lack text hertz (Some channels) rate w n positive h =
+    ap (λ (t : List ℕ). clock_read (hertz ++ t) (cut 47 (hertz ++ t))) h.1
+    ∙ rw (cut_at 47 hertz h.0 w.1, frequency_complete hertz rate n positive, num_reads 255 h.0 channels h.2) refl
+
+made : ℕ → Codec → Mapping → Option (ℕ × Mapping)
+made pt codec value = Some (pt, record { codec = codec; clock_rate = value.clock_rate; channels = value.channels })
+
+rtpmap_found : (text : List ℕ) (fields : ℕ × Mapping) → rtpmap_fields_read text ≡ Some fields → IsRtpMap text fields.0 fields.1
+rtpmap_found text fields e =
+    let a = bind_some (strip (codes "rtpmap:") text) (λ body. cut 32 body >>= λ fields. num 127 fields.0 >>= λ pt. mapping_read fields.1 >>= λ value. Some (pt, value)) fields e in
+    let b = bind_some (cut 32 a.0) (λ fields. num 127 fields.0 >>= λ pt. mapping_read fields.1 >>= λ value. Some (pt, value)) fields a.2 in
+    let n = bind_some (num 127 b.0.0) (λ pt. mapping_read b.0.1 >>= λ value. Some (pt, value)) fields b.2 in
+    let m = bind_some (mapping_read b.0.1) (λ value. Some (n.0, value)) fields n.2 in
+    let c = bind_some (cut 47 b.0.1) (λ codec. when (is_rest codec.0) codec.0 >>= λ name. clock_read codec.1 (cut 47 codec.1) >>= λ clock. Some (record { codec = codec_of name; clock_rate = clock.0; channels = clock.1 })) m.0 m.1 in
+    let w = bind_some (when (is_rest c.0.0) c.0.0) (λ name. clock_read c.0.1 (cut 47 c.0.1) >>= λ clock. Some (record { codec = codec_of name; clock_rate = clock.0; channels = clock.1 })) m.0 c.2 in
+    let k = bind_some (clock_read c.0.1 (cut 47 c.0.1)) (λ clock. Some (record { codec = codec_of w.0; clock_rate = clock.0; channels = clock.1 })) m.0 w.2 in
+    let name = when_some (is_rest c.0.0) c.0.0 w.0 w.1 in
+    let clock = clock_sound c.0.1 k.0.0 k.0.1 (cut 47 c.0.1) refl k.1 in
+    let head = strip_found (codes "rtpmap:") text a.0 a.1 in
+    let cut_at_space = cut_found 32 a.0 b.0.0 b.0.1 b.1 in
+    let codec = cut_found 47 b.0.1 c.0.0 c.0.1 c.1 in
+    let value : Mapping = record { codec = codec_of w.0; clock_rate = k.0.0; channels = k.0.1 } in
+    let made : IsRtpMap text n.0 value = record {
+      number = b.0.0;
+      codec = c.0.0;
+      clock = clock.number;
+      channels = clock.more;
+      joined = head ∙ ap (λ (t : List ℕ). codes "rtpmap:" ++ t) (cut_at_space.0 ∙ ap (λ (t : List ℕ). b.0.0 ++ (32 ∷ t)) (codec.0 ∙ ap (λ (t : List ℕ). c.0.0 ++ (47 ∷ t)) clock.joined));
+      number_is = num_found 127 b.0.0 n.0 n.1;
+      codec_is = ((ltb-true 0 (length c.0.0) name.0, codec.1), subst (λ (t : List ℕ). IsReadAs c.0.0 (codec_of t)) name.1 (read_as c.0.0));
+      clock_is = clock.number_is;
+      channels_is = clock.more_is;
+    } in
+    subst (λ (f : ℕ × Mapping). IsRtpMap text f.0 f.1) (some_is (n.0, m.0) fields m.2) (subst (IsRtpMap text n.0) (some_is value m.0 k.2) made)
+
+rtpmap_given : (text : List ℕ) (fields : ℕ × Mapping) → IsRtpMap text fields.0 fields.1 → rtpmap_fields_read text ≡ Some fields
+rtpmap_given text fields h =
+    let pt = fields.0 in
+    let value = fields.1 in
+    let behind = h.clock ++ h.channels in
+    let mapped = h.codec ++ (47 ∷ behind) in
+    let lacks = number_lacks 32 h.number (omega arith) (λ e. absurd (omega arith)) h.number_is.numeral in
+    let clock = channels_lack h.channels h.clock value.channels value.clock_rate h.clock_is.0 h.clock_is.1 h.clock_is.2 h.channels_is in
+    let mapping : mapping_read mapped ≡ Some (record { codec = codec_of h.codec; clock_rate = value.clock_rate; channels = value.channels }) = rw (cut_at 47 h.codec behind h.codec_is.0.1, rest_true h.codec h.codec_is.0.0, clock) refl in
+    let codec : codec_of h.codec ≡ value.codec = sym (read_only h.codec value.codec h.codec_is.1) in
+    let same : ◌≡◌ {A = Option (ℕ × Mapping)} (Some (pt, record { codec = codec_of h.codec; clock_rate = value.clock_rate; channels = value.channels })) (Some (pt, value)) = ap (λ (c : Codec). made pt c value) codec in
+    ap rtpmap_fields_read h.joined ∙ rw (cut_at 32 h.number mapped lacks, num_reads 127 h.number pt h.number_is, mapping) same
+
+pub rtpmap_fields_both : Reads (λ text fields. IsRtpMap text fields.0 fields.1) rtpmap_fields_read
+rtpmap_fields_both = record { sound = rtpmap_found; complete = rtpmap_given }

@@ -1,0 +1,234 @@
+-- The lines of a section are read exactly where their forms hold.
+use Rattle.std.proofs.Common.{◌≡◌, ◌≢◌, ◌⊎◌, ℕ, zero, suc, ◌<◌, ◌≤◌, Bool, true, false, cond, eqb, ltb, List, [], ◌∷◌, ◌++◌, length, Option, Some, None, refl, sym, ap, subst, ◌∙◌, arith, inl, inr, append_assoc}
+use Rattle.std.specs.Prelude.{codes, is_some, IsTrue}
+use Rattle.std.specs.Str.{bytes_eq}
+use Rattle.std.proofs.lemmas.Bool.{ltb-true, lt-ltb, both_ways, false_from_ne_true}
+use Rattle.std.proofs.lemmas.List.{append-nil}
+use Rattle.std.proofs.lemmas.Bool.Decides.{same_from_decides}
+use Rattle.str0m_signal.proofs.NumberLaws.{numbers_at, numbers_last}
+use Rattle.std.proofs.lemmas.Slice.Eq.{bytes_eq-Decides}
+use Rattle.std.proofs.lemmas.Option.{some_pair_parts, none-some}
+use Rattle.str0m_sdp.specs.declared.bandwidth.Bandwidth.{Bandwidth}
+use Rattle.str0m_sdp.specs.declared.media_type.MediaType.{MediaType}
+use Rattle.str0m_sdp.specs.declared.media_type.MediaType.TheVariants.{Audio, Video, Application, Unknown}
+use Rattle.str0m_sdp.specs.declared.proto.Proto.{Proto}
+use Rattle.str0m_sdp.specs.declared.proto.Proto.TheVariants.{Srtp, Sctp}
+use Rattle.str0m_values.specs.Parts.{Lacks, IsRest, IsNum, IsWord, IsWithout}
+use Rattle.str0m_values.specs.Fits.{FirstFit}
+use Rattle.str0m_signal.specs.Section.{IsField, IsBandwidth, Begins, IsKind, IsProto, AreNumbers, NoTypes, Head, IsHead, IsSection}
+use Rattle.str0m_values.specs.Cuts.{◌>>=◌, ◌<|>◌, cut, strip, when, is_rest, num}
+use Rattle.str0m_signal.specs.SectionReading.{field_read, bandwidth_read, unknown_read, kind_read, proto_read, all_numbers, numbers_read, no_types_read, types_read, head_read}
+use Rattle.str0m_values.proofs.CutLaws.{cut_none, cut_none_lacks, cut_at, cut_found, strip_at, strip_found}
+use Rattle.str0m_values.proofs.NumLaws.{when_some, when_true, num_found, num_reads}
+use Rattle.str0m_values.proofs.BothWays.{Sound, Reads, or_some, bind_some, some_is, if_some, sound_or, reads_first}
+use Rattle.str0m_values.proofs.WordLaws.{word_sound}
+use Rattle.str0m_values.proofs.NumLaws.{number_lacks, rest_true}
+
+pub field_both : (letter : List ℕ) → Reads (IsField letter) (field_read letter)
+field_both letter = record {
+  sound = λ content text e.
+      let a = bind_some (strip letter content) (λ t. when (is_rest t) t) text e in
+      let w = when_some (is_rest a.0) a.0 text a.2 in
+      let filled : IsRest a.0 = ltb-true 0 (length a.0) w.0 in
+      (strip_found letter content a.0 a.1 ∙ ap (λ (t : List ℕ). letter ++ t) w.1, subst IsRest w.1 filled);
+  complete = λ content text h. ap (field_read letter) h.0 ∙ rw (strip_at letter text, rest_true text h.1) refl;
+}
+
+pub bandwidth_both : Reads IsBandwidth bandwidth_read
+bandwidth_both = record { sound = found; complete = given }
+  where
+    found : (content : List ℕ) (bw : Bandwidth) → bandwidth_read content ≡ Some bw → IsBandwidth content bw
+    found content bw e =
+        let a = bind_some (strip (codes "b=") content) (λ body. cut 58 body >>= λ fields. when (is_rest fields.0) fields.0 >>= λ typ. when (is_rest fields.1) fields.1 >>= λ val. Some (record { typ = typ; val = val })) bw e in
+        let b = bind_some (cut 58 a.0) (λ fields. when (is_rest fields.0) fields.0 >>= λ typ. when (is_rest fields.1) fields.1 >>= λ val. Some (record { typ = typ; val = val })) bw a.2 in
+        let t = bind_some (when (is_rest b.0.0) b.0.0) (λ typ. when (is_rest b.0.1) b.0.1 >>= λ val. Some (record { typ = typ; val = val })) bw b.2 in
+        let v = bind_some (when (is_rest b.0.1) b.0.1) (λ val. Some (record { typ = t.0; val = val })) bw t.2 in
+        let typ = when_some (is_rest b.0.0) b.0.0 t.0 t.1 in
+        let val = when_some (is_rest b.0.1) b.0.1 v.0 v.1 in
+        let fields = cut_found 58 a.0 b.0.0 b.0.1 b.1 in
+        let made : Bandwidth = record { typ = b.0.0; val = b.0.1 } in
+        let same : made ≡ bw = ap (λ (t : List ℕ). let m : Bandwidth = record { typ = t; val = b.0.1 } in m) typ.1 ∙ ap (λ (x : List ℕ). let m : Bandwidth = record { typ = t.0; val = x } in m) val.1 ∙ some_is (record { typ = t.0; val = v.0 }) bw v.2 in
+        subst (IsBandwidth content) same (strip_found (codes "b=") content a.0 a.1 ∙ ap (λ (x : List ℕ). codes "b=" ++ x) fields.0, (ltb-true 0 (length b.0.0) typ.0, fields.1), ltb-true 0 (length b.0.1) val.0)
+
+    given : (content : List ℕ) (bw : Bandwidth) → IsBandwidth content bw → bandwidth_read content ≡ Some bw
+    given content bw h = ap bandwidth_read h.0 ∙ rw (cut_at 58 bw.typ bw.val h.1.1, rest_true bw.typ h.1.0, rest_true bw.val h.2) refl
+
+-- ---- kinds and protocols
+
+unless : {A : Type 0} (test : Bool) (o : Option A) (x : A) → cond test None o ≡ Some x → (test ≡ false) × (o ≡ Some x)
+unless true o x e = absurd cc
+unless false o x e = (refl, e)
+
+not_begun : (front text : List ℕ) → is_some (strip front text) ≡ false → Begins front text → ⊥
+not_begun front text e h =
+    let begun : is_some (strip front text) ≡ true = ap (λ (t : List ℕ). is_some (strip front t)) h.1 ∙ ap (λ (o : Option (List ℕ)). is_some o) (strip_at front h.0) in
+    absurd (both_ways (is_some (strip front text)) e begun)
+
+begun_not : (front text : List ℕ) → (Begins front text → ⊥) → is_some (strip front text) ≡ false
+begun_not front text h = go (strip front text) refl
+  where
+    go : (o : Option (List ℕ)) → strip front text ≡ o → is_some o ≡ false
+    go None e = refl
+    go (Some rest) e = absurd (h (rest, strip_found front text rest e))
+
+word_not : (front text : List ℕ) → (Begins front text → ⊥) → bytes_eq text front ≡ false
+word_not front text h = false_from_ne_true (bytes_eq text front) (λ e. h ([], (bytes_eq-Decides text front).0 e ∙ sym (append-nil front)))
+
+unknown_sound : Sound IsKind unknown_read
+unknown_sound = record {
+  law = λ text kind e.
+      let a = unless (is_some (strip (codes "audio") text)) (cond (is_some (strip (codes "video") text)) None (cond (is_some (strip (codes "application") text)) None (when (is_rest text) (Unknown text)))) kind e in
+      let v = unless (is_some (strip (codes "video") text)) (cond (is_some (strip (codes "application") text)) None (when (is_rest text) (Unknown text))) kind a.1 in
+      let p = unless (is_some (strip (codes "application") text)) (when (is_rest text) (Unknown text)) kind v.1 in
+      let w = when_some (is_rest text) (Unknown text) kind p.1 in
+      subst (IsKind text) w.1 (refl, ltb-true 0 (length text) w.0, not_begun (codes "audio") text a.0, not_begun (codes "video") text v.0, not_begun (codes "application") text p.0);
+}
+
+kind_sound : Sound IsKind kind_read
+kind_sound = sound_or (word_sound (codes "audio") Audio refl) (sound_or (word_sound (codes "video") Video refl) (sound_or (word_sound (codes "application") Application refl) unknown_sound))
+
+kind_complete : (text : List ℕ) (kind : MediaType) → IsKind text kind → kind_read text ≡ Some kind
+kind_complete text Audio h = rw h refl
+kind_complete text Video h = rw h refl
+kind_complete text Application h = rw h refl
+kind_complete text (Unknown name) h =
+    rw (word_not (codes "audio") text h.2, word_not (codes "video") text h.3, word_not (codes "application") text h.4, begun_not (codes "audio") text h.2, begun_not (codes "video") text h.3, begun_not (codes "application") text h.4, rest_true text h.1)
+    (ap (λ (t : List ℕ). Some (Unknown t)) h.0)
+
+kind_filled : (text : List ℕ) (kind : MediaType) → IsKind text kind → IsRest text
+kind_filled text Audio h = rw h (omega arith)
+kind_filled text Video h = rw h (omega arith)
+kind_filled text Application h = rw h (omega arith)
+kind_filled text (Unknown name) h = h.1
+
+proto_sound : Sound IsProto proto_read
+proto_sound = sound_or (word_sound (codes "UDP/TLS/RTP/SAVPF") Srtp refl) (sound_or (word_sound (codes "DTLS/SCTP") Sctp (inl refl)) (word_sound (codes "UDP/DTLS/SCTP") Sctp (inr refl)))
+
+proto_complete : (text : List ℕ) (proto : Proto) → IsProto text proto → proto_read text ≡ Some proto
+proto_complete text Srtp h = rw h refl
+proto_complete text Sctp h = elim h [ inl e ↦ rw e refl | inr e ↦ rw e refl ]
+
+proto_filled : (text : List ℕ) (proto : Proto) → IsProto text proto → IsRest text
+proto_filled text Srtp h = rw h (omega arith)
+proto_filled text Sctp h = elim h [ inl e ↦ rw e (omega arith) | inr e ↦ rw e (omega arith) ]
+
+-- ---- types
+
+tail_is : (n m : ℕ) (ns ms : List ℕ) → n ∷ ns ≡ m ∷ ms → (n ≡ m) × (ns ≡ ms)
+tail_is n m ns ms e = (cc, cc)
+
+not_nil : (n : ℕ) (ns : List ℕ) → n ∷ ns ≡ [] → ⊥
+not_nil n ns e = absurd cc
+
+-- one number, or a number and more behind a space
+record Last (text : List ℕ) (ns : List ℕ) : Type 0 where
+  n : ℕ
+  number_is : IsNum 255 text n
+  same : n ∷ [] ≡ ns
+
+record More (text : List ℕ) (ns : List ℕ) : Type 0 where
+  n : ℕ
+  ms : List ℕ
+  number : List ℕ
+  behind : List ℕ
+  joined : text ≡ number ++ (32 ∷ behind)
+  number_is : IsNum 255 number n
+  more_are : numbers_read behind ≡ Some ms
+  same : n ∷ ms ≡ ns
+
+numbers_step : (text ns : List ℕ) (o : Option (List ℕ × List ℕ)) → cut 32 text ≡ o → numbers_read text ≡ Some ns → Last text ns ⊎ More text ns
+numbers_step text ns None cut-is e =
+    let a = bind_some (num 255 text) (λ n. Some (n ∷ [])) ns (sym (numbers_last text (cut_none_lacks 32 text cut-is)) ∙ e) in
+    inl (record { n = a.0; number_is = num_found 255 text a.0 a.1; same = some_is (a.0 ∷ []) ns a.2 })
+numbers_step text ns (Some p) cut-is e =
+    let found = cut_found 32 text p.0 p.1 cut-is in
+    let a = bind_some (num 255 p.0) (λ n. numbers_read p.1 >>= λ ms. Some (n ∷ ms)) ns (sym (ap numbers_read found.0 ∙ numbers_at p.0 p.1 found.1) ∙ e) in
+    let b = bind_some (numbers_read p.1) (λ ms. Some (a.0 ∷ ms)) ns a.2 in
+    inr (record { n = a.0; ms = b.0; number = p.0; behind = p.1; joined = found.0; number_is = num_found 255 p.0 a.0 a.1; more_are = b.1; same = some_is (a.0 ∷ b.0) ns b.2 })
+
+numbers_sound : (ns text : List ℕ) → numbers_read text ≡ Some ns → AreNumbers text ns
+numbers_sound [] text e =
+    elim (numbers_step text [] (cut 32 text) refl e) [
+      | inl last ↦ absurd (not_nil last.n [] last.same)
+      | inr more ↦ absurd (not_nil more.n more.ms more.same)
+    ]
+numbers_sound (n ∷ []) text e =
+    elim (numbers_step text (n ∷ []) (cut 32 text) refl e) [
+      | inl last ↦ subst (IsNum 255 text) (tail_is last.n n [] [] last.same).0 last.number_is
+      | inr more ↦ absurd (numbers_sound [] more.behind (more.more_are ∙ ap (λ (t : List ℕ). Some t) (tail_is more.n n more.ms [] more.same).1))
+    ]
+numbers_sound (n ∷ (m ∷ ns)) text e =
+    elim (numbers_step text (n ∷ (m ∷ ns)) (cut 32 text) refl e) [
+      | inl last ↦ absurd (not_nil m ns (sym (tail_is last.n n [] (m ∷ ns) last.same).1))
+      | inr more ↦
+          let same = tail_is more.n n more.ms (m ∷ ns) more.same in
+          (more.number, more.behind, more.joined, subst (IsNum 255 more.number) same.0 more.number_is, numbers_sound (m ∷ ns) more.behind (more.more_are ∙ ap (λ (t : List ℕ). Some t) same.1))
+    ]
+
+num_lacks : (limit : ℕ) (text : List ℕ) (n : ℕ) → IsNum limit text n → Lacks 32 text
+num_lacks limit text n h = number_lacks 32 text (omega arith) (λ e. absurd (omega arith)) h.numeral
+
+numbers_complete : (ns text : List ℕ) → AreNumbers text ns → numbers_read text ≡ Some ns
+numbers_complete [] text h = absurd h
+numbers_complete (n ∷ []) text h = numbers_last text (num_lacks 255 text n h) ∙ rw (num_reads 255 text n h) refl
+numbers_complete (n ∷ (m ∷ ns)) text h =
+    ap numbers_read h.2 ∙ numbers_at h.0 h.1 (num_lacks 255 h.0 n h.3) ∙ rw (num_reads 255 h.0 n h.3, numbers_complete (m ∷ ns) h.1 h.4) refl
+
+numbers_both : Reads AreNumbers numbers_read
+numbers_both = record { sound = λ text ns e. numbers_sound ns text e; complete = λ text ns h. numbers_complete ns text h }
+
+no_types_both : Reads NoTypes no_types_read
+no_types_both = record {
+  sound = λ text ns e. let u = unless (is_some (strip (codes " ") text)) (Some []) ns e in (sym (some_is [] ns u.1), not_begun (codes " ") text u.0);
+  complete = λ text ns h. rw (begun_not (codes " ") text h.1) (ap (λ (t : List ℕ). Some t) (sym h.0));
+}
+
+types_both : Reads (FirstFit AreNumbers NoTypes) types_read
+types_both = reads_first numbers_both no_types_both
+
+-- ---- the m-line
+
+abbrev made_head : MediaType → Bool → Proto → List ℕ → Head
+made_head typ disabled proto pts = record { typ = typ; disabled = disabled; proto = proto; pts = pts }
+
+head_found : (content : List ℕ) (head : Head) → head_read content ≡ Some head → IsHead content head
+head_found content head e =
+    let a = bind_some (strip (codes "m=") content) (λ body. cut 32 body >>= λ kind. cut 32 kind.1 >>= λ port. cut 32 port.1 >>= λ protocol. kind_read kind.0 >>= λ typ. when (is_rest port.0) port.0 >>= λ number. proto_read protocol.0 >>= λ proto. types_read protocol.1 >>= λ pts. Some (record { typ = typ; disabled = bytes_eq number (codes "0"); proto = proto; pts = pts })) head e in
+    let k = bind_some (cut 32 a.0) (λ kind. cut 32 kind.1 >>= λ port. cut 32 port.1 >>= λ protocol. kind_read kind.0 >>= λ typ. when (is_rest port.0) port.0 >>= λ number. proto_read protocol.0 >>= λ proto. types_read protocol.1 >>= λ pts. Some (record { typ = typ; disabled = bytes_eq number (codes "0"); proto = proto; pts = pts })) head a.2 in
+    let p = bind_some (cut 32 k.0.1) (λ port. cut 32 port.1 >>= λ protocol. kind_read k.0.0 >>= λ typ. when (is_rest port.0) port.0 >>= λ number. proto_read protocol.0 >>= λ proto. types_read protocol.1 >>= λ pts. Some (record { typ = typ; disabled = bytes_eq number (codes "0"); proto = proto; pts = pts })) head k.2 in
+    let r = bind_some (cut 32 p.0.1) (λ protocol. kind_read k.0.0 >>= λ typ. when (is_rest p.0.0) p.0.0 >>= λ number. proto_read protocol.0 >>= λ proto. types_read protocol.1 >>= λ pts. Some (record { typ = typ; disabled = bytes_eq number (codes "0"); proto = proto; pts = pts })) head p.2 in
+    let t = bind_some (kind_read k.0.0) (λ typ. when (is_rest p.0.0) p.0.0 >>= λ number. proto_read r.0.0 >>= λ proto. types_read r.0.1 >>= λ pts. Some (record { typ = typ; disabled = bytes_eq number (codes "0"); proto = proto; pts = pts })) head r.2 in
+    let n = bind_some (when (is_rest p.0.0) p.0.0) (λ number. proto_read r.0.0 >>= λ proto. types_read r.0.1 >>= λ pts. Some (record { typ = t.0; disabled = bytes_eq number (codes "0"); proto = proto; pts = pts })) head t.2 in
+    let o = bind_some (proto_read r.0.0) (λ proto. types_read r.0.1 >>= λ pts. Some (record { typ = t.0; disabled = bytes_eq n.0 (codes "0"); proto = proto; pts = pts })) head n.2 in
+    let y = bind_some (types_read r.0.1) (λ pts. Some (record { typ = t.0; disabled = bytes_eq n.0 (codes "0"); proto = o.0; pts = pts })) head o.2 in
+    let number = when_some (is_rest p.0.0) p.0.0 n.0 n.1 in
+    let kind = cut_found 32 a.0 k.0.0 k.0.1 k.1 in
+    let port = cut_found 32 k.0.1 p.0.0 p.0.1 p.1 in
+    let protocol = cut_found 32 p.0.1 r.0.0 r.0.1 r.1 in
+    let kind_is = kind_sound.law k.0.0 t.0 t.1 in
+    let proto_is = proto_sound.law r.0.0 o.0 o.1 in
+    let made : IsHead content (record { typ = t.0; disabled = bytes_eq p.0.0 (codes "0"); proto = o.0; pts = y.0 }) = record {
+      kind = k.0.0;
+      port = p.0.0;
+      protocol = r.0.0;
+      types = r.0.1;
+      joined = strip_found (codes "m=") content a.0 a.1 ∙ ap (λ (x : List ℕ). codes "m=" ++ x) (kind.0 ∙ ap (λ (x : List ℕ). k.0.0 ++ (32 ∷ x)) (port.0 ∙ ap (λ (x : List ℕ). p.0.0 ++ (32 ∷ x)) protocol.0));
+      kind_is = ((kind_filled k.0.0 t.0 kind_is, kind.1), kind_is);
+      port_is = ((ltb-true 0 (length p.0.0) number.0, port.1), bytes_eq-Decides p.0.0 (codes "0"));
+      protocol_is = ((proto_filled r.0.0 o.0 proto_is, protocol.1), proto_is);
+      types_are = types_both.sound r.0.1 y.0 y.1;
+    } in
+    let same = ap (λ (w : List ℕ). made_head t.0 (bytes_eq w (codes "0")) o.0 y.0) number.1 ∙ some_is (made_head t.0 (bytes_eq n.0 (codes "0")) o.0 y.0) head y.2 in
+    subst (IsHead content) same made
+
+head_given : (content : List ℕ) (head : Head) → IsHead content head → head_read content ≡ Some head
+head_given content head h =
+    let behind_port = h.protocol ++ (32 ∷ h.types) in
+    let behind_kind = h.port ++ (32 ∷ behind_port) in
+    let disabled : bytes_eq h.port (codes "0") ≡ head.disabled = same_from_decides (bytes_eq h.port (codes "0")) head.disabled (bytes_eq-Decides h.port (codes "0")) h.port_is.1 in
+    ap head_read h.joined
+    ∙ rw (cut_at 32 h.kind behind_kind h.kind_is.0.1, cut_at 32 h.port behind_port h.port_is.0.1, cut_at 32 h.protocol h.types h.protocol_is.0.1, kind_complete h.kind head.typ h.kind_is.1, rest_true h.port h.port_is.0.0, proto_complete h.protocol head.proto h.protocol_is.1, types_both.complete h.types head.pts h.types_are)
+    (ap (λ (b : Bool). Some (made_head head.typ b head.proto head.pts)) disabled)
+
+pub head_both : Reads IsHead head_read
+head_both = record { sound = head_found; complete = head_given }

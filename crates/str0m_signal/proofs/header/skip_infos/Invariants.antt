@@ -1,0 +1,16 @@
+use Rattle.std.proofs.Common.{List, ℕ, length}
+use denote.Text.{Utf8}
+use denote.Shadow.{shadow}
+use Rattle.str0m_signal.specs.Chains.{Chain}
+use Rattle.str0m_signal.specs.Lines.{OneLine}
+use Rattle.str0m_signal.specs.LineReading.{lines_of}
+use Rattle.str0m_signal.specs.Header.{IsInfo}
+use Rattle.str0m_signal.proofs.header.skip_infos.Given as goal
+
+-- the lines before the rest are such fields
+abbrev pub invariant-loop-after : goal.invariant-loop-after
+invariant-loop-after l =
+    shadow (Utf8 l.rest) × ((texts : List (List ℕ)) × Chain (OneLine IsInfo) (lines_of l.fn.text) texts (lines_of l.rest))
+
+abbrev pub decreases-loop-after : goal.decreases-loop-after
+decreases-loop-after l = length (lines_of l.rest)

@@ -1,0 +1,64 @@
+-- Reading of the pairs of an fmtp line as functions.
+use Rattle.std.specs.Prelude.{ℕ, zero, suc, Bool, List, [], ◌∷◌, Option, Some, None, codes, length, map, if◌then◌else◌, ◌==◌}
+use Rattle.str0m_formats.specs.declared.format_param.FormatParam.{FormatParam}
+use Rattle.str0m_formats.specs.declared.format_param.FormatParam.TheVariants.{Unknown}
+use Rattle.str0m_formats.specs.FormatParam.{param_of}
+use Rattle.str0m_values.specs.Cuts.{◌>>=◌, ◌<|>◌, cut, strip, when, is_rest, num, before, lacks}
+
+-- the value of an fmtp pair, which ends at `;`, space or tab, and what follows it
+abbrev pub value_read : List ℕ → Option (List ℕ × List ℕ)
+value_read text = do
+  value ← Some (before 9 (before 32 (before 59 text)))
+  filled ← when (is_rest value) value
+  rest ← strip filled text
+  Some (filled, rest)
+
+-- the text without the spaces and tabs at its front
+abbrev pub skip_blanks : List ℕ → List ℕ
+skip_blanks [] = []
+skip_blanks (x ∷ xs) = if x == 32 then skip_blanks xs else if x == 9 then skip_blanks xs else x ∷ xs
+
+-- what stands behind a value and its blanks: the end, or `;` and more
+abbrev pub next_read : List ℕ → Option (Option (List ℕ))
+next_read text = if is_rest text then (strip (codes ";") text >>= λ t. Some (when (is_rest (skip_blanks t)) (skip_blanks t))) else Some None
+
+abbrev pub key_read : List ℕ → Option (List ℕ)
+key_read text = if lacks 32 text then (if lacks 9 text then when (is_rest text) text else None) else None
+
+abbrev pub pair_read : List ℕ → Option ((List ℕ × List ℕ) × Option (List ℕ))
+pair_read text = do
+  fields ← cut 61 text
+  key ← key_read fields.0
+  value ← value_read fields.1
+  next ← next_read (skip_blanks value.1)
+  Some ((key, value.0), next)
+
+-- one pair, and those that are read of what follows
+abbrev pub pairs_after : (List ℕ → Option (List (List ℕ × List ℕ))) → List ℕ × List ℕ → Option (List ℕ) → Option (List (List ℕ × List ℕ))
+pairs_after read pair None = Some (pair ∷ [])
+pairs_after read pair (Some more) = read more >>= λ pairs. Some (pair ∷ pairs)
+
+-- the pairs of a text of fewer than n characters
+unfoldable pub pairs_at : ℕ → List ℕ → Option (List (List ℕ × List ℕ))
+pairs_at zero text = None
+pairs_at (suc n) text = pair_read text >>= λ p. pairs_after (pairs_at n) p.0 p.1
+
+abbrev pub pairs_read : List ℕ → Option (List (List ℕ × List ℕ))
+pairs_read text = pairs_at (suc (length text)) text
+
+abbrev pub pairs_form_read : List ℕ → Option (List FormatParam)
+pairs_form_read more = do
+  text ← strip (codes " ") more
+  pairs ← pairs_read (skip_blanks text)
+  Some (map param_of pairs)
+
+abbrev pub fmtp_values_read : List ℕ → Option (List FormatParam)
+fmtp_values_read more = pairs_form_read more <|> Some (Unknown ∷ [])
+
+abbrev pub fmtp_fields_read : List ℕ → Option (ℕ × List FormatParam)
+fmtp_fields_read text = do
+  body ← strip (codes "fmtp:") text
+  pt ← num 127 (before 32 body)
+  more ← strip (before 32 body) body
+  values ← fmtp_values_read more
+  Some (pt, values)

@@ -1,0 +1,37 @@
+-- The reading of a text.
+use Rattle.std.specs.Prelude.{◌≡◌, ℕ, List, Option}
+use Rattle.str0m_sdp.specs.declared.media_line.MediaLine.{MediaLine}
+use Rattle.str0m_sdp.specs.declared.session.Session.{Session as TheSession}
+use Rattle.str0m_sdp.specs.declared.session.Sdp.{Sdp}
+use Rattle.str0m_sdp.specs.Consistency.{Consistent}
+use Rattle.str0m_signal.specs.Lines.{Line, OneLine, OfText}
+use Rattle.str0m_signal.specs.Chains.{Chain, Stops, Run}
+use Rattle.str0m_signal.specs.SessionAttribute.{IsSessionLine}
+use Rattle.str0m_signal.specs.Section.{IsHead, IsSection}
+use Rattle.str0m_signal.specs.Header.{IsHeader}
+
+-- the lines are a header, the longest run of session attributes, and the rest (RFC 8866, section 5)
+pub record IsSession (lines : List Line) (session : TheSession) (rest : List Line) : Type 0 where
+  pub after_header : List Line
+  pub header_is : IsHeader lines (record { id = session.id; bw = session.bw }) after_header
+  pub attributes_are : Run (OneLine IsSessionLine) after_header session.attrs rest
+
+abbrev pub ConsistentSection : List Line → MediaLine → List Line → Type 0
+ConsistentSection lines m rest = IsSection lines m rest × Consistent m
+
+-- consistent sections, and then no m-line
+abbrev pub Sections : List Line → List MediaLine → List Line → Type 0
+Sections lines sections rest = Chain ConsistentSection lines sections rest × Stops (OneLine IsHead) rest
+
+-- the lines are a session's, those of consistent sections, and the rest
+pub record IsReading (lines : List Line) (sdp : Sdp) (rest : List Line) : Type 0 where
+  pub after_session : List Line
+  pub session_is : IsSession lines sdp.session after_session
+  pub sections_are : Sections after_session sdp.media_lines rest
+
+-- the text is read so, and the rest of it is left
+abbrev pub Reading : List ℕ → Sdp × List ℕ → Type 0
+Reading = OfText IsReading
+
+abbrev pub SessionReading : List ℕ → TheSession × List ℕ → Type 0
+SessionReading = OfText IsSession

@@ -1,0 +1,23 @@
+-- The attributes of a session, each with the text that stands for it after `a=`.
+use Rattle.std.specs.Prelude.{◌≡◌, ◌++◌, ℕ, List, codes}
+use Rattle.str0m_sdp.specs.declared.attribute.SessionAttribute.{SessionAttribute}
+use Rattle.str0m_sdp.specs.declared.attribute.SessionAttribute.TheVariants.{Setup, Unused}
+use Rattle.str0m_values.specs.Parts.{IsRest}
+use Rattle.str0m_values.specs.Fits.{FirstFit}
+use Rattle.str0m_sdp.specs.Setup.{setup_text}
+use Rattle.str0m_signal.specs.Lines.{IsAttributeLine}
+
+-- each attribute but `Unused`
+abbrev pub Named : List ℕ → SessionAttribute → Type 0
+Named text (Setup setup) = text ≡ codes "setup:" ++ setup_text setup
+Named text (Unused other) = ⊥
+
+-- any text
+abbrev pub IsUnused : List ℕ → SessionAttribute → Type 0
+IsUnused text attribute = IsRest text × (attribute ≡ Unused text)
+
+abbrev pub SessionForm : List ℕ → SessionAttribute → Type 0
+SessionForm = FirstFit Named IsUnused
+
+abbrev pub IsSessionLine : List ℕ → SessionAttribute → Type 0
+IsSessionLine = IsAttributeLine SessionForm

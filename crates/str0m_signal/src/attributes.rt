@@ -1,0 +1,96 @@
+//! Attribute lines, and runs of them.
+
+ghost use Rattle.std.specs.Prelude.{◌≡◌, ℕ, List, Option, IfOk, option_map};
+ghost use Rattle.str0m_values.proofs.BothWays.{Reads};
+ghost use Rattle.str0m_signal.specs.Answers.{Answers};
+ghost use Rattle.str0m_signal.specs.Chains.{Run};
+ghost use Rattle.str0m_signal.specs.Lines.{OneLine, IsAttributeLine};
+ghost use Rattle.str0m_signal.specs.LineReading.{lines_of, line_read, read_attribute, left, Next};
+
+use crate::lines::plain_line;
+use crate::reader::refusal;
+use std::alloc::{AllocError, Global};
+use str0m_sdp::SdpError;
+use str0m_values::Items;
+use str0m_values::cuts::strip;
+
+/// What a line `a=` and a text may say: the attributes of sessions are one such table of forms,
+/// those of sections another.
+pub(crate) trait Attribute: Drop {
+    /// Which text behind `a=` stands for which attribute.
+    ghost form: { List ℕ → Self → Type 0 };
+
+    /// The same as a function.
+    ghost reading: { List ℕ → Option Self };
+
+    /// The attribute of the text behind `a=`.
+    fn read(alloc: Global, text: &str) -> Result<Option<Self>, AllocError>
+    where
+        Self: Sized,
+        ensures { IfOk result (λ found. found ≡ reading text.now) };
+
+    ghost both_ways: { Reads form reading };
+}
+
+fn line<A: Attribute>(alloc: Global, line: &str) -> Result<Option<A>, AllocError>
+    ensures { IfOk result (λ found. found ≡ read_attribute A.reading line.now) }
+{
+    match strip(line, "a=") {
+        Some(text) => A::read(alloc, text),
+        None => Ok(None),
+    }
+}
+
+fn read_line<A: Attribute>(
+    alloc: Global,
+    text: &str,
+) -> Result<Option<(A, &str)>, AllocError>
+    ensures { IfOk result (λ found. option_map left found ≡ line_read (read_attribute A.reading) (lines_of text.now)) }
+{
+    let Some((content, rest)) = plain_line(text) else {
+        return Ok(None);
+    };
+    match line(alloc, content)? {
+        Some(attribute) => Ok(Some((attribute, rest))),
+        None => Ok(None),
+    }
+}
+
+/// The attribute line that stands next.
+fn next_line<A: Attribute>(
+    alloc: Global,
+    text: &str,
+) -> Result<Option<(A, &str)>, AllocError>
+    ensures { IfOk result (Next (OneLine (IsAttributeLine A.form)) text.now) }
+{
+    read_line(alloc, text)
+}
+
+/// The run of attribute lines that stands next.
+pub(crate) fn attribute_run<A: Attribute>(
+    alloc: Global,
+    text: &str,
+) -> Result<(Items<A>, &str), AllocError>
+    ensures { IfOk result (λ found. Run (OneLine (IsAttributeLine A.form)) (lines_of text.now) found.0 (lines_of found.1.now)) }
+{
+    let mut attributes = Vec::new(alloc);
+    let mut rest = text;
+    while let Some((attribute, after)) = next_line(alloc, rest)? {
+        attributes.push(attribute)?;
+        rest = after;
+    }
+    Ok((Items::from(attributes), rest))
+}
+
+/// The attribute of the first line.
+pub(crate) fn first_attribute<A: Attribute>(
+    alloc: Global,
+    text: &str,
+) -> Result<(A, &str), SdpError>
+    ensures { Answers left result (λ v. OneLine (IsAttributeLine A.form) (lines_of text.now) v.0 v.1) }
+{
+    match next_line(alloc, text)? {
+        Some(found) => Ok(found),
+        None => Err(refusal(alloc, "line does not fit")),
+    }
+}

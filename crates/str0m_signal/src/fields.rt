@@ -1,0 +1,38 @@
+//! What fields of several lines share.
+
+ghost use Rattle.std.specs.Prelude.{◌≡◌, option_map};
+ghost use Rattle.str0m_signal.specs.MediaAttributeReading.{role_read};
+ghost use Rattle.str0m_signal.specs.SectionReading.{field_read};
+ghost use Rattle.str0m_signal.specs.LineReading.{lines_of, line_read, both_left};
+
+use crate::lines::plain_line;
+use str0m_sdp::Setup;
+use str0m_values::cuts::strip;
+
+/// What follows `letter`, where that is not nothing.
+pub(crate) fn field<'a>(line: &'a str, letter: &str) -> Option<&'a str>
+    ensures { option_map (λ x. x.now) result ≡ field_read letter.now line.now }
+{
+    let text = strip(line, letter)?;
+    if text.is_empty() { None } else { Some(text) }
+}
+
+/// What follows `letter` in the first line, and what follows that line.
+pub(crate) fn read_field<'a>(text: &'a str, letter: &str) -> Option<(&'a str, &'a str)>
+    ensures { option_map both_left result ≡ line_read (field_read letter.now) (lines_of text.now) }
+{
+    let (line, rest) = plain_line(text)?;
+    Some((field(line, letter)?, rest))
+}
+
+/// The setup that a word says.
+pub(crate) fn role(word: &str) -> Option<Setup>
+    ensures { result ≡ role_read word.now }
+{
+    match word {
+        "actpass" => Some(Setup::ActPass),
+        "active" => Some(Setup::Active),
+        "passive" => Some(Setup::Passive),
+        _ => None,
+    }
+}

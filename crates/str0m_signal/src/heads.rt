@@ -1,0 +1,173 @@
+//! The m-lines of sections.
+
+ghost use Rattle.std.specs.Prelude.{◌≡◌, IfOk, is_some, option_map};
+ghost use Rattle.str0m_signal.specs.SectionReading.{unknown_read, kind_read, proto_read, numbers_read, types_read, head_read};
+ghost use Rattle.str0m_signal.specs.Kinds.{kind_is};
+
+use std::alloc::{AllocError, Global};
+use std::marker::Model;
+use str0m_sdp::{MediaType, Proto};
+use str0m_values::cuts::{cut, num_u8, strip};
+use str0m_values::{Items, Pt, Text};
+
+/// What an m-line says.
+#[derive(Debug, Drop)]
+pub(crate) struct MediaHead {
+    pub(crate) typ: MediaType,
+    pub(crate) disabled: bool,
+    pub(crate) proto: Proto,
+    pub(crate) pts: Items<Pt>,
+}
+
+impl Model for MediaHead {
+    ghost use Rattle.str0m_signal.specs.Section.{Head};
+
+    ghost Value = { Head };
+
+    ghost view = { λ head. record { typ = head.typ; disabled = head.disabled; proto = head.proto; pts = head.pts } };
+}
+
+/// A media type that isn't copied out of its line yet.
+#[derive(Clone, Copy, Debug)]
+enum Kind<'a> {
+    Audio,
+    Video,
+    Application,
+    Unknown(&'a str),
+}
+
+impl<'a> Kind<'a> {
+    fn to_media_type(self, alloc: Global) -> Result<MediaType, AllocError>
+        ensures { IfOk result (λ typ. typ ≡ kind_is self.entry) }
+    {
+        match self {
+            Kind::Audio => Ok(MediaType::Audio),
+            Kind::Video => Ok(MediaType::Video),
+            Kind::Application => Ok(MediaType::Application),
+            Kind::Unknown(text) => Ok(MediaType::Unknown(Text::from_str(alloc, text)?)),
+        }
+    }
+}
+
+fn unknown(text: &str) -> Option<Kind<'_>>
+    ensures { option_map kind_is result ≡ unknown_read text.now }
+{
+    if strip(text, "audio").is_some() {
+        return None;
+    }
+    if strip(text, "video").is_some() {
+        return None;
+    }
+    if strip(text, "application").is_some() {
+        return None;
+    }
+    if text.is_empty() {
+        return None;
+    }
+    Some(Kind::Unknown(text))
+}
+
+fn kind(text: &str) -> Option<Kind<'_>>
+    ensures { option_map kind_is result ≡ kind_read text.now }
+{
+    match text {
+        "audio" => Some(Kind::Audio),
+        "video" => Some(Kind::Video),
+        "application" => Some(Kind::Application),
+        _ => unknown(text),
+    }
+}
+
+fn proto(text: &str) -> Option<Proto>
+    ensures { result ≡ proto_read text.now }
+{
+    match text {
+        "UDP/TLS/RTP/SAVPF" => Some(Proto::Srtp),
+        "DTLS/SCTP" => Some(Proto::Sctp),
+        "UDP/DTLS/SCTP" => Some(Proto::Sctp),
+        _ => None,
+    }
+}
+
+/// Whether the text is numbers parted by spaces.
+fn are_numbers(text: &str) -> bool
+    ensures { result ≡ is_some (numbers_read text.now) }
+{
+    let mut rest = text;
+    while let Some((number, more)) = cut(rest, ' ') {
+        if num_u8(number, 255).is_none() {
+            return false;
+        }
+        rest = more;
+    }
+    num_u8(rest, 255).is_some()
+}
+
+fn numbers(alloc: Global, text: &str) -> Result<Option<Items<Pt>>, AllocError>
+    ensures { IfOk result (λ found. found ≡ numbers_read text.now) }
+{
+    let mut numbers = Vec::new(alloc);
+    let mut rest = text;
+    while let Some((number, more)) = cut(rest, ' ') {
+        let Some(value) = num_u8(number, 255) else {
+            return Ok(None);
+        };
+        numbers.push(Pt::new_with_value(value))?;
+        rest = more;
+    }
+    let Some(value) = num_u8(rest, 255) else {
+        return Ok(None);
+    };
+    numbers.push(Pt::new_with_value(value))?;
+    Ok(Some(Items::from(numbers)))
+}
+
+/// The types of an m-line. Memory is asked for only where they are numbers.
+fn types(alloc: Global, text: &str) -> Result<Option<Items<Pt>>, AllocError>
+    ensures { IfOk result (λ found. found ≡ types_read text.now) }
+{
+    if are_numbers(text) {
+        return numbers(alloc, text);
+    }
+    if strip(text, " ").is_some() {
+        return Ok(None);
+    }
+    Ok(Some(Items::empty(alloc)))
+}
+
+/// The m-line of a section. Memory is asked for only where it is one.
+pub(crate) fn head(alloc: Global, line: &str) -> Result<Option<MediaHead>, AllocError>
+    ensures { IfOk result (λ found. found ≡ head_read line.now) }
+{
+    let Some(body) = strip(line, "m=") else {
+        return Ok(None);
+    };
+    let Some((kind_text, body)) = cut(body, ' ') else {
+        return Ok(None);
+    };
+    let Some((port, body)) = cut(body, ' ') else {
+        return Ok(None);
+    };
+    let Some((protocol, body)) = cut(body, ' ') else {
+        return Ok(None);
+    };
+    let Some(kind) = kind(kind_text) else {
+        return Ok(None);
+    };
+    if port.is_empty() {
+        return Ok(None);
+    }
+    let Some(proto) = proto(protocol) else {
+        return Ok(None);
+    };
+    let Some(pts) = types(alloc, body)? else {
+        return Ok(None);
+    };
+    let typ = kind.to_media_type(alloc)?;
+    Ok(Some(MediaHead {
+        typ,
+        disabled: port == "0",
+        proto,
+        pts,
+    }))
+}
