@@ -1,0 +1,27 @@
+-- A copy that the derived `clone` makes equals its source.
+use Rattle.std.proofs.Common.{arith, ◌≡◌}
+use Rattle.std.proofs.lemmas.Grind.{elements}
+use Rattle.std.proofs.lemmas.List.Elements.{same_from_all_zip}
+use Rattle.str0m_sdp.specs.declared.attribute.MediaAttribute.{MediaAttribute}
+use Rattle.str0m_sdp.specs.declared.media_line.MediaLine.{MediaLine}
+use Rattle.str0m_sdp.specs.declared.session.Session.{Session}
+use Rattle.str0m_sdp.specs.declared.session.Sdp.{Sdp}
+use Rattle.str0m_sdp.specs.contracts.attribute.MediaAttributeClone.TheImpl as attribute
+use Rattle.str0m_sdp.specs.contracts.media_line.MediaLineClone.TheImpl as line
+use Rattle.str0m_sdp.specs.contracts.session.SessionClone.TheImpl as session
+use Rattle.str0m_sdp.specs.contracts.session.SdpClone.TheImpl as sdp
+
+pub attribute_copied : (a b : MediaAttribute) → attribute.is_clone-value.it a b → b ≡ a
+attribute_copied a b h = grind (arith, elements)
+
+pub line_copied : (a b : MediaLine) → line.is_clone-value.it a b → b ≡ a
+line_copied a b h = grind (arith, elements, attribute_copied)
+
+session_copied : (a b : Session) → session.is_clone-value.it a b → b ≡ a
+session_copied a b h = grind (arith, elements)
+
+pub sdp_copied : (a b : Sdp) → sdp.is_clone-value.it a b → b ≡ a
+sdp_copied a b h =
+    let same : b.session ≡ a.session = session_copied a.session b.session h.0 in
+    let lines : b.media_lines ≡ a.media_lines = same_from_all_zip _ a.media_lines b.media_lines h.1.0 line_copied in
+    λ i. record { session = same i; media_lines = lines i }
