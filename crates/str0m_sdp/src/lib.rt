@@ -4,6 +4,7 @@
 
 mod attribute;
 mod bandwidth;
+mod checking;
 mod consistency;
 mod error;
 mod media_line;

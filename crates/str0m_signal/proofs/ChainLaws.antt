@@ -1,12 +1,13 @@
 -- Parts of a list of lines that stand one after another.
-use Rattle.std.proofs.Common.{◌≡◌, ℕ, ◌<◌, ◌≤◌, ◌+◌, List, [], ◌∷◌, ◌++◌, length, Option, Some, None, refl, sym, ap, subst, inl, inr, ◌∙◌, arith}
+use Rattle.std.proofs.Common.{◌≡◌, ℕ, ◌<◌, ◌≤◌, ◌+◌, List, [], ◌∷◌, ◌++◌, length, cond, Option, Some, None, refl, sym, ap, subst, inl, inr, ◌∙◌, arith}
 use Rattle.std.specs.Prelude.{option_map}
 use Rattle.std.specs.Borrow.{Bor}
 use Rattle.str0m_signal.specs.Lines.{Line, OneLine}
 use Rattle.str0m_signal.specs.Chains.{Chain, Stops, Run, Taken}
-use Rattle.std.proofs.lemmas.Option.{none-some}
-use Rattle.str0m_signal.specs.LineReading.{lines_of, line_read, left, Next}
-use Rattle.str0m_values.proofs.BothWays.{Reads, one_value}
+use Rattle.std.proofs.lemmas.Option.{none-some, some_pair_parts}
+use Rattle.str0m_signal.specs.LineReading.{lines_of, line_read, left, Next, IsRead}
+use Rattle.str0m_values.specs.Cuts.{◌>>=◌, lacks}
+use Rattle.str0m_values.proofs.BothWays.{Reads, one_value, bind_some, if_some}
 use Rattle.str0m_signal.proofs.LineLaws.{line_found, line_given}
 
 -- one more part at the end
@@ -60,3 +61,27 @@ taken_only S one lines (Some a) (Some b) rest rest' h k = let p = one lines a b 
 
 pub taken_none : {A : Type 0} {F : List ℕ → A → Type 0} {f : List ℕ → Option A} → Reads F f → (text : List ℕ) → None ≡ line_read f (lines_of text) → Taken (OneLine F) (lines_of text) None (lines_of text)
 taken_none reads text e = (refl, λ a after h. none-some (a, after) (e ∙ line_given reads (lines_of text) a after h))
+
+-- ---- runs of what a function reads
+
+pub read_fewer : {A : Type 0} (f : List ℕ → Option A) (lines : List Line) (a : A) (after : List Line) → IsRead f lines a after → length after < length lines
+read_fewer f [] a after e = absurd (none-some (a, after) e)
+read_fewer {A} f (line ∷ lines) a after e =
+    let p = bind_some (cond (lacks 13 line.content) (Some (line.content, lines)) None) (λ found. f found.0 >>= λ value. Some (value, found.1)) (a, after) e in
+    let b = if_some (lacks 13 line.content) (Some (line.content, lines)) p.0 p.1 in
+    let c = bind_some (f p.0.0) (λ value. Some (value, p.0.1)) (a, after) p.2 in
+    let rest = some_pair_parts line.content p.0.0 lines p.0.1 b.1 in
+    let got = some_pair_parts c.0 a p.0.1 after c.2 in
+    omega (arith, ap length (rest.1 ∙ got.1))
+
+pub read_stops : {A : Type 0} (f : List ℕ → Option A) (lines : List Line) → None ≡ line_read f lines → Stops (IsRead f) lines
+read_stops f lines none = λ a after e. none-some (a, after) (none ∙ e)
+
+module _ {A : Type 0} {F : List ℕ → A → Type 0} {f : List ℕ → Option A} (reads : Reads F f) where
+  chain_of : (lines : List Line) (as' : List A) (rest : List Line) → Chain (IsRead f) lines as' rest → Chain (OneLine F) lines as' rest
+  chain_of lines [] rest h = h
+  chain_of lines (a ∷ as') rest h = (h.0, line_found reads lines a h.0 h.1, chain_of h.0 as' rest h.2)
+
+  -- a run of what f reads is a run of lines of its form
+  pub run_of : (lines : List Line) (as' : List A) (rest : List Line) → Run (IsRead f) lines as' rest → Run (OneLine F) lines as' rest
+  run_of lines as' rest h = (chain_of lines as' rest h.0, λ a after is. h.1 a after (line_given reads rest a after is))

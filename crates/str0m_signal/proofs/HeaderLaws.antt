@@ -98,7 +98,7 @@ fields_both (letter ∷ letters) two =
     reads_either (field_both letter) (fields_both letters two.1) (λ content text other h k. one_behind letter two.0 content text h ∙ sym (field_behind letters two.1 content other k))
 
 pub info_both : Reads IsInfo info_read
-info_both = fields_both (codes "i=" ∷ codes "u=" ∷ codes "e=" ∷ codes "p=" ∷ codes "c=" ∷ codes "z=" ∷ codes "k=" ∷ []) (refl, refl, refl, refl, refl, refl, refl, tt)
+info_both = fields_both (codes "i=" ∷ codes "u=" ∷ codes "e=" ∷ codes "p=" ∷ codes "c=" ∷ codes "z=" ∷ codes "k=" ∷ []) (refl, (refl, (refl, (refl, (refl, (refl, (refl, tt)))))))
 
 pub opening_found : (lines : List Line) (id : ℕ) (rest : List Line) → opening_read lines ≡ Some (id, rest) → IsOpening lines id rest
 opening_found lines id rest e =

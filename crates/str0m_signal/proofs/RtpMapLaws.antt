@@ -60,7 +60,7 @@ channels_lack text hertz (Some channels) rate w n positive h =
     ap (λ (t : List ℕ). clock_read (hertz ++ t) (cut 47 (hertz ++ t))) h.1
     ∙ rw (cut_at 47 hertz h.0 w.1, frequency_complete hertz rate n positive, num_reads 255 h.0 channels h.2) refl
 
-made : ℕ → Codec → Mapping → Option (ℕ × Mapping)
+abbrev made : ℕ → Codec → Mapping → Option (ℕ × Mapping)
 made pt codec value = Some (pt, record { codec = codec; clock_rate = value.clock_rate; channels = value.channels })
 
 rtpmap_found : (text : List ℕ) (fields : ℕ × Mapping) → rtpmap_fields_read text ≡ Some fields → IsRtpMap text fields.0 fields.1

@@ -1,5 +1,5 @@
 -- The lines of a text as a function.
-use Rattle.std.specs.Prelude.{ℕ, Bool, false, codes, List, [], ◌∷◌, Option, Some, None, ◌==◌, ◌&&◌, if◌then◌else◌}
+use Rattle.std.specs.Prelude.{◌≡◌, ℕ, Bool, false, codes, List, [], ◌∷◌, Option, Some, None, ◌==◌, ◌&&◌, if◌then◌else◌}
 use Rattle.str0m_values.specs.Cuts.{strip, lacks, ◌>>=◌}
 use Rattle.std.specs.Borrow.{Bor}
 use Rattle.str0m_signal.specs.Lines.{Line, joined}
@@ -39,6 +39,10 @@ plain_line (line ∷ lines) = if lacks 13 line.content then Some (line.content, 
 -- what f reads of the first line
 abbrev pub line_read : {A : Type 0} → (List ℕ → Option A) → List Line → Option (A × List Line)
 line_read f lines = plain_line lines >>= λ found. f found.0 >>= λ value. Some (value, found.1)
+
+-- f reads this of the first line
+abbrev pub IsRead : {A : Type 0} → (List ℕ → Option A) → List Line → A → List Line → Type 0
+IsRead f lines value rest = line_read f lines ≡ Some (value, rest)
 
 -- a value and what is left of the text, as lines
 abbrev pub left : {A : Type 0} → A × Bor (List ℕ) → A × List Line

@@ -1,11 +1,9 @@
 //! Attribute lines, and runs of them.
 
 ghost use Rattle.std.specs.Prelude.{◌≡◌, ℕ, List, Option, IfOk, option_map};
-ghost use Rattle.str0m_values.proofs.BothWays.{Reads};
-ghost use Rattle.str0m_signal.specs.Answers.{Answers};
+ghost use Rattle.str0m_signal.specs.Answers.{Gives};
 ghost use Rattle.str0m_signal.specs.Chains.{Run};
-ghost use Rattle.str0m_signal.specs.Lines.{OneLine, IsAttributeLine};
-ghost use Rattle.str0m_signal.specs.LineReading.{lines_of, line_read, read_attribute, left, Next};
+ghost use Rattle.str0m_signal.specs.LineReading.{lines_of, line_read, read_attribute, left, IsRead};
 
 use crate::lines::plain_line;
 use crate::reader::refusal;
@@ -14,13 +12,10 @@ use str0m_sdp::SdpError;
 use str0m_values::Items;
 use str0m_values::cuts::strip;
 
-/// What a line `a=` and a text may say: the attributes of sessions are one such table of forms,
+/// What a line of `a=` and a text may say: the attributes of sessions are one such table of forms,
 /// those of sections another.
 pub(crate) trait Attribute: Drop {
-    /// Which text behind `a=` stands for which attribute.
-    ghost form: { List ℕ → Self → Type 0 };
-
-    /// The same as a function.
+    /// Which attribute a text behind `a=` stands for.
     ghost reading: { List ℕ → Option Self };
 
     /// The attribute of the text behind `a=`.
@@ -28,8 +23,6 @@ pub(crate) trait Attribute: Drop {
     where
         Self: Sized,
         ensures { IfOk result (λ found. found ≡ reading text.now) };
-
-    ghost both_ways: { Reads form reading };
 }
 
 fn line<A: Attribute>(alloc: Global, line: &str) -> Result<Option<A>, AllocError>
@@ -41,10 +34,8 @@ fn line<A: Attribute>(alloc: Global, line: &str) -> Result<Option<A>, AllocError
     }
 }
 
-fn read_line<A: Attribute>(
-    alloc: Global,
-    text: &str,
-) -> Result<Option<(A, &str)>, AllocError>
+/// The attribute of the first line, and what follows that line.
+fn next_line<A: Attribute>(alloc: Global, text: &str) -> Result<Option<(A, &str)>, AllocError>
     ensures { IfOk result (λ found. option_map left found ≡ line_read (read_attribute A.reading) (lines_of text.now)) }
 {
     let Some((content, rest)) = plain_line(text) else {
@@ -56,22 +47,12 @@ fn read_line<A: Attribute>(
     }
 }
 
-/// The attribute line that stands next.
-fn next_line<A: Attribute>(
-    alloc: Global,
-    text: &str,
-) -> Result<Option<(A, &str)>, AllocError>
-    ensures { IfOk result (Next (OneLine (IsAttributeLine A.form)) text.now) }
-{
-    read_line(alloc, text)
-}
-
 /// The run of attribute lines that stands next.
 pub(crate) fn attribute_run<A: Attribute>(
     alloc: Global,
     text: &str,
 ) -> Result<(Items<A>, &str), AllocError>
-    ensures { IfOk result (λ found. Run (OneLine (IsAttributeLine A.form)) (lines_of text.now) found.0 (lines_of found.1.now)) }
+    ensures { IfOk result (λ found. Run (IsRead (read_attribute A.reading)) (lines_of text.now) found.0 (lines_of found.1.now)) }
 {
     let mut attributes = Vec::new(alloc);
     let mut rest = text;
@@ -82,12 +63,12 @@ pub(crate) fn attribute_run<A: Attribute>(
     Ok((Items::from(attributes), rest))
 }
 
-/// The attribute of the first line.
+/// The attribute of the first line, where it is one.
 pub(crate) fn first_attribute<A: Attribute>(
     alloc: Global,
     text: &str,
 ) -> Result<(A, &str), SdpError>
-    ensures { Answers left result (λ v. OneLine (IsAttributeLine A.form) (lines_of text.now) v.0 v.1) }
+    ensures { Gives left result (line_read (read_attribute A.reading) (lines_of text.now)) }
 {
     match next_line(alloc, text)? {
         Some(found) => Ok(found),

@@ -133,7 +133,10 @@ fn skip_repeats(text: &str) -> &str
 }
 
 /// The header that stands at the front of a text.
-pub(crate) fn next_header(alloc: Global, text: &str) -> Result<Option<(SessionHead, &str)>, AllocError>
+pub(crate) fn next_header(
+    alloc: Global,
+    text: &str,
+) -> Result<Option<(SessionHead, &str)>, AllocError>
     ensures { IfOk result (Next IsHeader text.now) }
 {
     let Some((id, rest)) = opening(text) else {

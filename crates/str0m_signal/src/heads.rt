@@ -67,7 +67,7 @@ fn unknown(text: &str) -> Option<Kind<'_>>
     Some(Kind::Unknown(text))
 }
 
-fn kind(text: &str) -> Option<Kind<'_>>
+fn kind_of(text: &str) -> Option<Kind<'_>>
     ensures { option_map kind_is result ≡ kind_read text.now }
 {
     match text {
@@ -151,7 +151,7 @@ pub(crate) fn head(alloc: Global, line: &str) -> Result<Option<MediaHead>, Alloc
     let Some((protocol, body)) = cut(body, ' ') else {
         return Ok(None);
     };
-    let Some(kind) = kind(kind_text) else {
+    let Some(kind) = kind_of(kind_text) else {
         return Ok(None);
     };
     if port.is_empty() {

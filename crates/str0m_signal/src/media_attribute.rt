@@ -2,18 +2,20 @@
 
 ghost use Rattle.std.specs.Prelude.{◌≡◌, IfOk};
 ghost use Rattle.str0m_values.specs.ShortText.{beginning_of};
-ghost use Rattle.str0m_signal.specs.MediaAttribute.{MediaForm};
+ghost use Rattle.str0m_signal.specs.MediaAttribute.{IsMediaLine};
 ghost use Rattle.str0m_signal.specs.MediaAttributeReading.{direction_read, setup_read, mid_read, named_read, media_read};
-ghost use Rattle.str0m_signal.proofs.MediaLaws.{media_both};
+ghost use Rattle.str0m_signal.specs.Chains.{Run};
+ghost use Rattle.str0m_signal.specs.Lines.{OneLine};
+ghost use Rattle.str0m_signal.specs.LineReading.{lines_of};
 
-use crate::attributes::Attribute;
+use crate::attributes::{Attribute, attribute_run};
 use crate::fields::role;
 use crate::fmtp::fmtp;
 use crate::rtp_map::rtp_map;
 use std::alloc::{AllocError, Global};
 use str0m_sdp::MediaAttribute;
 use str0m_values::cuts::strip;
-use str0m_values::{Mid, Text};
+use str0m_values::{Items, Mid, Text};
 
 fn direction(text: &str) -> Option<MediaAttribute>
     ensures { result ≡ direction_read text.now }
@@ -75,11 +77,7 @@ fn named(alloc: Global, text: &str) -> Result<Option<MediaAttribute>, AllocError
 }
 
 impl Attribute for MediaAttribute {
-    ghost form = { MediaForm };
-
     ghost reading = { media_read };
-
-    ghost both_ways = { media_both };
 
     fn read(alloc: Global, text: &str) -> Result<Option<MediaAttribute>, AllocError> {
         if let Some(found) = named(alloc, text)? {
@@ -90,4 +88,14 @@ impl Attribute for MediaAttribute {
         }
         Ok(Some(MediaAttribute::Unused(Text::from_str(alloc, text)?)))
     }
+}
+
+/// The run of attribute lines that stands next.
+pub(crate) fn media_attributes(
+    alloc: Global,
+    text: &str,
+) -> Result<(Items<MediaAttribute>, &str), AllocError>
+    ensures { IfOk result (λ found. Run (OneLine IsMediaLine) (lines_of text.now) found.0 (lines_of found.1.now)) }
+{
+    attribute_run(alloc, text)
 }

@@ -8,9 +8,10 @@ ghost use Rattle.str0m_signal.specs.MediaAttribute.{IsMediaLine};
 ghost use Rattle.str0m_signal.specs.SessionAttribute.{IsSessionLine};
 ghost use Rattle.str0m_signal.specs.Reading.{Sections, IsSession, IsReading, Reading, SessionReading};
 
-use crate::attributes::{attribute_run, first_attribute};
+use crate::attributes::first_attribute;
 use crate::header::{SessionHead, next_header};
 use crate::section::section;
+use crate::session_attribute::session_attributes;
 use std::alloc::Global;
 use str0m_sdp::{MediaAttribute, MediaLine, Sdp, SdpError, Session, SessionAttribute};
 use str0m_values::Items;
@@ -47,7 +48,7 @@ fn read_session(alloc: Global, text: &str) -> Result<(Session, &str), SdpError>
     let Some((head, rest)) = next_header(alloc, text)? else {
         return Err(refusal(alloc, "bad session header"));
     };
-    let (attrs, rest) = attribute_run(alloc, rest)?;
+    let (attrs, rest) = session_attributes(alloc, rest)?;
     let SessionHead { id, bw } = head;
     Ok((Session { id, bw, attrs }, rest))
 }

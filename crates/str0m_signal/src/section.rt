@@ -7,11 +7,11 @@ ghost use Rattle.str0m_signal.specs.LineReading.{lines_of, line_read, left};
 ghost use Rattle.str0m_signal.specs.Section.{IsField};
 ghost use Rattle.str0m_signal.specs.SectionReading.{head_read, NextSection};
 
-use crate::attributes::attribute_run;
 use crate::bandwidth::take_bandwidth;
 use crate::fields::read_field;
 use crate::heads::{MediaHead, head};
 use crate::lines::plain_line;
+use crate::media_attribute::media_attributes;
 use std::alloc::{AllocError, Global};
 use str0m_sdp::MediaLine;
 
@@ -45,7 +45,7 @@ pub(crate) fn section(alloc: Global, text: &str) -> Result<Option<(MediaLine, &s
     };
     let rest = skip_connection(rest);
     let (bw, rest) = take_bandwidth(alloc, rest)?;
-    let (attrs, rest) = attribute_run(alloc, rest)?;
+    let (attrs, rest) = media_attributes(alloc, rest)?;
     let MediaHead {
         typ,
         disabled,

@@ -12,4 +12,4 @@ returns-in-Some c =
     first_at_lf c.args.text.now c.in-Some.line.now c.without_return.result.now c.in-Some.rest.now found.0 found.1 c.without_return.ensures
 
 pub returns-in-None : goal.returns-in-None
-returns-in-None c = first_at_end c.args.text.now (cut_none_lacks 10 c.args.text.now (sym c.in-None.ensures)) (rest_from c.args.text.now (sym c.is_empty.ensures ∙ c.if-is_empty.false))
+returns-in-None c = let h = c.range_from.ensures in let g = c.len.ensures in ? first_at_end c.args.text.now (cut_none_lacks 10 c.args.text.now (sym c.in-None.ensures)) (rest_from c.args.text.now (sym c.is_empty.ensures ∙ c.if-is_empty.false))

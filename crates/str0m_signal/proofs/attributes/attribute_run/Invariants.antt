@@ -1,0 +1,14 @@
+use Rattle.std.proofs.Common.{length}
+use denote.Text.{Utf8}
+use denote.Shadow.{shadow}
+use Rattle.str0m_signal.specs.Chains.{Chain}
+use Rattle.str0m_signal.specs.LineReading.{lines_of, read_attribute, IsRead}
+use Rattle.str0m_signal.proofs.attributes.attribute_run.Given as goal
+
+-- the attributes so far are those of the lines before the rest
+abbrev pub invariant-loop-attributes : goal.invariant-loop-attributes
+invariant-loop-attributes g l =
+    shadow (Utf8 l.rest) × Chain (IsRead (read_attribute g.A.Attribute.reading)) (lines_of l.fn.text) l.attributes.items (lines_of l.rest)
+
+abbrev pub decreases-loop-attributes : goal.decreases-loop-attributes
+decreases-loop-attributes g l = length (lines_of l.rest)

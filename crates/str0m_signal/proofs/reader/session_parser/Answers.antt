@@ -1,0 +1,10 @@
+use Rattle.str0m_signal.specs.Reading.{IsSession}
+use Rattle.str0m_signal.proofs.AnswerLaws.{text_answers, text_one}
+use Rattle.str0m_signal.proofs.ReadingLaws.{session_only}
+use Rattle.str0m_signal.proofs.reader.session_parser.Goals as goal
+
+pub returns-clause-read : goal.returns-clause-read
+returns-clause-read c = text_answers IsSession c.args.text.now c.read_session.result c.read_session.ensures
+
+pub returns-clause-one : goal.returns-clause-one
+returns-clause-one c = text_one IsSession session_only c.args.text.now

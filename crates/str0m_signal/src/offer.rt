@@ -1,2 +1,0 @@
-//! Offers and answers: descriptions that one side proposes, and that the other settles.
-
