@@ -1,6 +1,7 @@
 -- The clauses of a reader.
 use Rattle.std.proofs.Common.{◌≡◌, ℕ, List, Option, Some, None, Result, Ok, Err, refl, sym, ap, subst, ◌∙◌}
 use Rattle.std.specs.Borrow.{Bor}
+use Rattle.std.specs.Prelude.{IsErrAnd}
 use Rattle.std.proofs.lemmas.Option.{none-some}
 use Rattle.str0m_sdp.specs.declared.error.SdpError.{SdpError}
 use Rattle.str0m_sdp.specs.declared.error.SdpError.TheVariants.{ParseError, Inconsistent, Memory}
@@ -43,3 +44,8 @@ pub passed_on : {V W : Type 0} (e : SdpError) (P : V → Type 0) (Q : W → Type
 passed_on (ParseError message) P Q h of = λ w q. let p = of w q in h p.0 p.1
 passed_on (Inconsistent message) P Q h of = absurd h
 passed_on Memory P Q h of = tt
+
+-- an error that `?` hands on
+pub handed_on : {X V : Type 0} (view : X → V) (r : Result X SdpError) (e : SdpError) (P : V → Type 0) → IsErrAnd r (λ x. x ≡ e) → Refuses e P → Answers view r P
+handed_on view (Ok x) e P is h = absurd is
+handed_on view (Err x) e P is h = subst (λ (y : SdpError). Refuses y P) (sym is) h

@@ -7,7 +7,8 @@ use Rattle.std.proofs.lemmas.Option.{some_pair_parts, none-some}
 use Rattle.str0m_formats.specs.declared.format_param.FormatParam.{FormatParam}
 use Rattle.str0m_values.specs.Parts.{Lacks, IsRest}
 use Rattle.str0m_signal.specs.Fmtp.{IsBlank, AreBlanks, IsKey, IsValue, IsEnd, StartsPlain, IsPair, ArePairs, IsPairsForm, IsAnything, IsFmtp}
-use Rattle.str0m_formats.specs.FormatParam.{AreParsed}
+use Rattle.std.specs.Borrow.{Bor}
+use Rattle.str0m_formats.specs.FormatParam.{AreParsed, pair_texts}
 use Rattle.str0m_formats.proofs.ParamLaws.{all_parsed, all_parsed_only}
 use Rattle.str0m_formats.specs.FormatParam.{param_of}
 use Rattle.str0m_values.specs.Fits.{FirstFit}
@@ -185,6 +186,10 @@ module _ (done : List (List ℕ × List ℕ)) (total : Option (List (List ℕ ×
       let one : pairs_at (suc k) rest ≡ (pairs_at k more >>= λ pairs. Some (pair ∷ pairs)) = rw e refl in
       (k, omega (arith, pair_shorter rest pair more e), regroup done pair (pairs_at k more) ∙ sym (ap (with_pairs done) one) ∙ so_far)
 
+pub texts_push : (pairs : List (Bor (List ℕ) × Bor (List ℕ))) (key value : Bor (List ℕ)) → pair_texts (pairs ++ (key, value) ∷ []) ≡ pair_texts pairs ++ (key.now, value.now) ∷ []
+texts_push [] key value = refl
+texts_push (pair ∷ pairs) key value = ap (λ (t : List (List ℕ × List ℕ)). (pair.0.now, pair.1.now) ∷ t) (texts_push pairs key value)
+
 -- ---- what stands so is read
 
 blanks_end : (blanks tail : List ℕ) → AreBlanks blanks → EndsValue tail → EndsValue (blanks ++ tail)
@@ -272,6 +277,9 @@ pairs_both = record {
       let read : pairs_read (skip_blanks (h.0 ++ h.1)) ≡ Some h.2 = ap pairs_read kept ∙ pairs_given h.2 (suc (length h.1)) h.1 h.5 (omega arith) in
       ap pairs_form_read h.3 ∙ ap (λ (o : Option (List (List ℕ × List ℕ))). o >>= λ pairs. Some (map param_of pairs)) read ∙ ap (λ (t : List FormatParam). Some t) (sym (all_parsed_only h.2 values h.6));
 }
+
+pub pairs_form_of : (more text : List ℕ) (pairs : List (List ℕ × List ℕ)) (values : List FormatParam) → Some text ≡ strip (codes " ") more → Some pairs ≡ pairs_read (skip_blanks text) → AreParsed pairs values → Some values ≡ pairs_form_read more
+pairs_form_of more text pairs values at read are = rw (← at, ← read) (ap (λ (t : List FormatParam). Some t) (all_parsed_only pairs values are))
 
 anything_both : Reads IsAnything (λ more. Some (Unknown ∷ []))
 anything_both = record {

@@ -1,10 +1,10 @@
 -- Numbers parted by spaces.
 use Rattle.std.proofs.Common.{◌≡◌, ℕ, ◌<◌, ◌+◌, Bool, true, false, eqb, List, [], ◌∷◌, ◌++◌, length, Option, Some, None, refl, sym, ap, ◌∙◌, arith, append_assoc, length-append}
-use Rattle.std.specs.Prelude.{option_map}
+use Rattle.std.specs.Prelude.{option_map, is_some}
 use Rattle.std.specs.List.{slice_split, onto_first}
 use Rattle.std.proofs.lemmas.Bool.{ne_eqb, eq-eqb}
 use Rattle.str0m_values.specs.Parts.{Lacks}
-use Rattle.str0m_values.specs.Cuts.{◌>>=◌, cut, num}
+use Rattle.str0m_values.specs.Cuts.{◌>>=◌, ◌<|>◌, cut, num}
 use Rattle.str0m_signal.specs.SectionReading.{all_numbers, numbers_read}
 use Rattle.str0m_values.proofs.CutLaws.{cut_found, cut_none_lacks}
 
@@ -57,3 +57,36 @@ numbers_end_fail text front rest cut-is num-is so_far =
 
 pub cut_shorter : (c : ℕ) (text a b : List ℕ) → cut c text ≡ Some (a, b) → length b < length text
 cut_shorter c text a b e = let found = cut_found c text a b e in omega (arith, ap length found.0, length-append a (c ∷ b))
+
+-- ---- whether all are numbers
+
+some_bound : (o : Option (List ℕ)) (n : ℕ) → is_some (o >>= λ ns. Some (n ∷ ns)) ≡ is_some o
+some_bound None n = refl
+some_bound (Some ns) n = refl
+
+-- behind a number, the rest decides
+pub one_number : (rest a b : List ℕ) (n : ℕ) → cut 32 rest ≡ Some (a, b) → num 255 a ≡ Some n → is_some (numbers_read rest) ≡ is_some (numbers_read b)
+one_number rest a b n cut-is num-is =
+    let found = cut_found 32 rest a b cut-is in
+    ap (λ (o : Option (List ℕ)). is_some o) (ap numbers_read found.0 ∙ numbers_at a b found.1 ∙ rw num-is refl) ∙ some_bound (numbers_read b) n
+
+pub no_number : (rest a b : List ℕ) → cut 32 rest ≡ Some (a, b) → num 255 a ≡ None → is_some (numbers_read rest) ≡ false
+no_number rest a b cut-is num-is =
+    let found = cut_found 32 rest a b cut-is in
+    ap (λ (o : Option (List ℕ)). is_some o) (ap numbers_read found.0 ∙ numbers_at a b found.1 ∙ ap (λ (o : Option ℕ). o >>= λ n. numbers_read b >>= λ ns. Some (n ∷ ns)) num-is)
+
+pub last_number : (rest : List ℕ) → cut 32 rest ≡ None → is_some (numbers_read rest) ≡ is_some (num 255 rest)
+last_number rest cut-is = ap (λ (o : Option (List ℕ)). is_some o) (numbers_last rest (cut_none_lacks 32 rest cut-is)) ∙ go (num 255 rest)
+  where
+    go : (o : Option ℕ) → is_some (o >>= λ n. Some (n ∷ [])) ≡ is_some o
+    go None = refl
+    go (Some n) = refl
+
+-- what is numbers is the types
+pub numbers_first : (o p : Option (List ℕ)) → is_some o ≡ true → o ≡ (o <|> p)
+numbers_first None p e = absurd cc
+numbers_first (Some ns) p e = refl
+
+pub numbers_none : (o p : Option (List ℕ)) → is_some o ≡ false → (o <|> p) ≡ p
+numbers_none None p e = refl
+numbers_none (Some ns) p e = absurd cc

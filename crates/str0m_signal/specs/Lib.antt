@@ -4,7 +4,7 @@ pub mod Fmtp
 pub mod FmtpReading
 pub mod Header
 pub mod HeaderReading
-pub mod Kinds
+pub mod Heads
 pub mod LineReading
 pub mod Lines
 pub mod MediaAttribute

@@ -6,13 +6,13 @@ ghost use Rattle.str0m_signal.specs.Lines.{OneLine};
 ghost use Rattle.str0m_signal.specs.LineReading.{lines_of, line_read, left, both_left, Next};
 ghost use Rattle.str0m_signal.specs.Section.{IsField};
 ghost use Rattle.str0m_signal.specs.Header.{IsInfo, IsHeader};
+ghost use Rattle.str0m_signal.specs.Heads.{session_head};
 ghost use Rattle.str0m_signal.specs.HeaderReading.{exact_read, digits_read, origin_read, info_read, opening_read};
 
 use crate::bandwidth::take_bandwidth;
 use crate::fields::{field, read_field};
 use crate::lines::plain_line;
 use std::alloc::{AllocError, Global};
-use std::marker::Model;
 use str0m_sdp::Bandwidth;
 use str0m_values::SessionId;
 use str0m_values::cuts::{cut, strip};
@@ -22,14 +22,6 @@ use str0m_values::cuts::{cut, strip};
 pub(crate) struct SessionHead {
     pub(crate) id: SessionId,
     pub(crate) bw: Option<Bandwidth>,
-}
-
-impl Model for SessionHead {
-    ghost use Rattle.str0m_signal.specs.Header.{Header};
-
-    ghost Value = { Header };
-
-    ghost view = { λ head. record { id = head.id; bw = head.bw } };
 }
 
 /// What follows the first line, where that is the word.
@@ -137,7 +129,7 @@ pub(crate) fn next_header(
     alloc: Global,
     text: &str,
 ) -> Result<Option<(SessionHead, &str)>, AllocError>
-    ensures { IfOk result (Next IsHeader text.now) }
+    ensures { IfOk result (λ found. Next IsHeader text.now (option_map session_head found)) }
 {
     let Some((id, rest)) = opening(text) else {
         return Ok(None);

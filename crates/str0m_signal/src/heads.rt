@@ -2,10 +2,9 @@
 
 ghost use Rattle.std.specs.Prelude.{◌≡◌, IfOk, is_some, option_map};
 ghost use Rattle.str0m_signal.specs.SectionReading.{unknown_read, kind_read, proto_read, numbers_read, types_read, head_read};
-ghost use Rattle.str0m_signal.specs.Kinds.{kind_is};
+ghost use Rattle.str0m_signal.specs.Heads.{kind_is, media_head};
 
 use std::alloc::{AllocError, Global};
-use std::marker::Model;
 use str0m_sdp::{MediaType, Proto};
 use str0m_values::cuts::{cut, num_u8, strip};
 use str0m_values::{Items, Pt, Text};
@@ -17,14 +16,6 @@ pub(crate) struct MediaHead {
     pub(crate) disabled: bool,
     pub(crate) proto: Proto,
     pub(crate) pts: Items<Pt>,
-}
-
-impl Model for MediaHead {
-    ghost use Rattle.str0m_signal.specs.Section.{Head};
-
-    ghost Value = { Head };
-
-    ghost view = { λ head. record { typ = head.typ; disabled = head.disabled; proto = head.proto; pts = head.pts } };
 }
 
 /// A media type that isn't copied out of its line yet.
@@ -95,9 +86,9 @@ fn are_numbers(text: &str) -> bool
 {
     let mut rest = text;
     while let Some((number, more)) = cut(rest, ' ') {
-        if num_u8(number, 255).is_none() {
+        let Some(_) = num_u8(number, 255) else {
             return false;
-        }
+        };
         rest = more;
     }
     num_u8(rest, 255).is_some()
@@ -137,7 +128,7 @@ fn types(alloc: Global, text: &str) -> Result<Option<Items<Pt>>, AllocError>
 
 /// The m-line of a section. Memory is asked for only where it is one.
 pub(crate) fn head(alloc: Global, line: &str) -> Result<Option<MediaHead>, AllocError>
-    ensures { IfOk result (λ found. found ≡ head_read line.now) }
+    ensures { IfOk result (λ found. option_map media_head found ≡ head_read line.now) }
 {
     let Some(body) = strip(line, "m=") else {
         return Ok(None);

@@ -56,20 +56,13 @@ fn read_session(alloc: Global, text: &str) -> Result<(Session, &str), SdpError>
 fn read_sdp(alloc: Global, text: &str) -> Result<(Sdp, &str), SdpError>
     ensures { Answers left result (λ v. IsReading (lines_of text.now) v.0 v.1) }
 {
-    let (session, rest) = match read_session(alloc, text) {
-        Ok(found) => found,
-        Err(error) => return Err(error),
+    let (session, rest) = read_session(alloc, text)?;
+    let (media_lines, rest) = sections(alloc, rest)?;
+    let sdp = Sdp {
+        session,
+        media_lines,
     };
-    match sections(alloc, rest) {
-        Ok((media_lines, rest)) => Ok((
-            Sdp {
-                session,
-                media_lines,
-            },
-            rest,
-        )),
-        Err(error) => Err(error),
-    }
+    Ok((sdp, rest))
 }
 
 /// Reads the session that a text begins with: its header and its attribute lines (RFC 8866,

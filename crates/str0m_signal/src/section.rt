@@ -3,7 +3,8 @@
 ghost use Rattle.std.specs.Prelude.{◌≡◌, IfOk, List, ℕ, Option, codes, option_map};
 ghost use Rattle.str0m_signal.specs.Chains.{Taken};
 ghost use Rattle.str0m_signal.specs.Lines.{OneLine};
-ghost use Rattle.str0m_signal.specs.LineReading.{lines_of, line_read, left};
+ghost use Rattle.str0m_signal.specs.LineReading.{lines_of, line_read};
+ghost use Rattle.str0m_signal.specs.Heads.{media_head_left};
 ghost use Rattle.str0m_signal.specs.Section.{IsField};
 ghost use Rattle.str0m_signal.specs.SectionReading.{head_read, NextSection};
 
@@ -25,7 +26,7 @@ fn skip_connection(text: &str) -> &str
 }
 
 fn read_head(alloc: Global, text: &str) -> Result<Option<(MediaHead, &str)>, AllocError>
-    ensures { IfOk result (λ found. option_map left found ≡ line_read head_read (lines_of text.now)) }
+    ensures { IfOk result (λ found. option_map media_head_left found ≡ line_read head_read (lines_of text.now)) }
 {
     let Some((line, rest)) = plain_line(text) else {
         return Ok(None);
