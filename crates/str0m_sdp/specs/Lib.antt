@@ -1,6 +1,11 @@
+pub mod Attribute
 pub mod Bandwidth
 pub mod Consistency
+pub mod Fmtp
+pub mod Lines
+pub mod MediaLine
 pub mod MediaType
 pub mod Proto
 pub mod RtpMap
+pub mod Session
 pub mod Setup

@@ -1,6 +1,6 @@
 //! Proposed bandwidths.
 ghost use Rattle.std.specs.Prelude.{◌≡◌, IfOk, Some};
-ghost use Rattle.str0m_sdp.specs.Bandwidth.{bandwidth_text};
+ghost use Rattle.str0m_sdp.specs.Bandwidth.{bandwidth_text, bandwidth_line};
 
 use std::alloc::AllocError;
 use std::fmt;
@@ -31,5 +31,20 @@ impl fmt::Display for Bandwidth {
     fn fmt<W: fmt::Write>(&self, f: &mut fmt::Formatter<W>) -> fmt::Result {
         let Bandwidth { typ, val } = self;
         write!(f, "b={typ}:{val}\r\n")
+    }
+}
+
+/// The `b=` line of a session or a section, where there is one.
+#[derive(Drop)]
+pub(crate) struct BandwidthLine<'a>(pub(crate) &'a Option<Bandwidth>);
+
+impl<'a> fmt::Display for BandwidthLine<'a> {
+    ghost output = { λ line. Some (bandwidth_line line.0.now) };
+
+    fn fmt<W: fmt::Write>(&self, f: &mut fmt::Formatter<W>) -> fmt::Result {
+        match self.0 {
+            None => Ok(()),
+            Some(bw) => write!(f, "{bw}"),
+        }
     }
 }

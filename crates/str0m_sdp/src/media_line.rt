@@ -1,11 +1,14 @@
 //! The sections of a session description.
-ghost use Rattle.std.specs.Prelude.{◌≡◌, IfOk};
+ghost use Rattle.std.specs.Prelude.{◌≡◌, IfOk, Some, refl};
+ghost use Rattle.str0m_sdp.specs.MediaLine.{formats_text, media_line_text};
 
 use crate::attribute::MediaAttribute;
-use crate::bandwidth::Bandwidth;
+use crate::bandwidth::{Bandwidth, BandwidthLine};
 use crate::media_type::MediaType;
+use crate::printed::{Each, Joined, Printed};
 use crate::proto::Proto;
 use std::alloc::AllocError;
+use std::fmt;
 use str0m_values::{Items, Pt};
 
 /// A section: an m-line and the lines that belong to it (RFC 8866, section 5.14).
@@ -29,4 +32,53 @@ impl MediaLine {
     {
         Clone::clone(self)
     }
+}
+
+/// The formats of an m-line: `webrtc-datachannel` for an application section, else the payload
+/// types, `0` where there is none.
+#[derive(Drop)]
+struct Formats<'a> {
+    typ: &'a MediaType,
+    pts: &'a [Pt],
+}
+
+impl<'a> fmt::Display for Formats<'a> {
+    ghost output = { λ formats. Some (formats_text formats.typ.now formats.pts.now) };
+
+    fn fmt<W: fmt::Write>(&self, f: &mut fmt::Formatter<W>) -> fmt::Result {
+        if let MediaType::Application = self.typ {
+            return f.write_str("webrtc-datachannel");
+        }
+        if self.pts.is_empty() {
+            return f.write_str("0");
+        }
+        let items = self.pts;
+        let numbers = Joined {
+            items,
+            separator: " ",
+        };
+        write!(f, "{numbers}")
+    }
+}
+
+/// The lines of the section: `m=`, `c=`, its bandwidth and its attributes.
+impl fmt::Display for MediaLine {
+    ghost output = { λ line. Some (media_line_text line) };
+
+    fn fmt<W: fmt::Write>(&self, f: &mut fmt::Formatter<W>) -> fmt::Result {
+        let (typ, proto) = (&self.typ, self.proto);
+        let port = if self.disabled { "0" } else { "9" };
+        let pts = self.pts.as_slice();
+        let formats = Formats { typ, pts };
+        write!(f, "m={typ} {port} {proto} {formats}\r\n")?;
+        let bw = BandwidthLine(&self.bw);
+        let attrs = Each(self.attrs.as_slice());
+        write!(f, "c=IN IP4 0.0.0.0\r\n{bw}{attrs}")
+    }
+}
+
+impl Printed for MediaLine {
+    ghost text = { media_line_text };
+
+    ghost prints = { λ _. refl };
 }

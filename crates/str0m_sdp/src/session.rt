@@ -1,10 +1,13 @@
 //! Session descriptions.
-ghost use Rattle.std.specs.Prelude.{◌≡◌, IfOk};
+ghost use Rattle.std.specs.Prelude.{◌≡◌, IfOk, Some};
+ghost use Rattle.str0m_sdp.specs.Session.{origin_line, session_text, sdp_text};
 
 use crate::attribute::SessionAttribute;
-use crate::bandwidth::Bandwidth;
+use crate::bandwidth::{Bandwidth, BandwidthLine};
 use crate::media_line::MediaLine;
+use crate::printed::Each;
 use std::alloc::AllocError;
+use std::fmt;
 use str0m_values::{Items, SessionId};
 
 /// A session description (RFC 8866, section 5).
@@ -39,5 +42,41 @@ impl Session {
         ensures { IfOk result (λ session. session ≡ self.now) }
     {
         Clone::clone(self)
+    }
+}
+
+/// The `o=` line of a session (RFC 8866, section 5.2), with its end.
+#[derive(Drop)]
+struct Origin(SessionId);
+
+impl fmt::Display for Origin {
+    ghost output = { λ origin. Some (origin_line origin.0) };
+
+    fn fmt<W: fmt::Write>(&self, f: &mut fmt::Formatter<W>) -> fmt::Result {
+        let id = self.0;
+        write!(f, "o=str0m-0.25.0 {id} 2 IN IP4 0.0.0.0\r\n")
+    }
+}
+
+/// The lines of the session: `v=`, `o=`, `s=`, its bandwidth, `t=` and its attributes.
+impl fmt::Display for Session {
+    ghost output = { λ session. Some (session_text session) };
+
+    fn fmt<W: fmt::Write>(&self, f: &mut fmt::Formatter<W>) -> fmt::Result {
+        let origin = Origin(self.id);
+        let bw = BandwidthLine(&self.bw);
+        let attrs = Each(self.attrs.as_slice());
+        write!(f, "v=0\r\n{origin}s=-\r\n{bw}t=0 0\r\n{attrs}")
+    }
+}
+
+/// The whole description: the session and its sections in order.
+impl fmt::Display for Sdp {
+    ghost output = { λ sdp. Some (sdp_text sdp) };
+
+    fn fmt<W: fmt::Write>(&self, f: &mut fmt::Formatter<W>) -> fmt::Result {
+        let session = &self.session;
+        let media_lines = Each(self.media_lines.as_slice());
+        write!(f, "{session}{media_lines}")
     }
 }

@@ -1,0 +1,10 @@
+-- The parts that printed lines share.
+use Rattle.std.specs.Prelude.{ℕ, List, [], ◌∷◌, ◌++◌, codes}
+
+-- CR LF, by which every printed line ends (RFC 8866, section 5)
+abbrev pub line_end : List ℕ
+line_end = 13 ∷ 10 ∷ []
+
+-- the line of an attribute (RFC 8866, section 5.13)
+abbrev pub attribute_line : List ℕ → List ℕ
+attribute_line text = codes "a=" ++ (text ++ line_end)

@@ -1,0 +1,58 @@
+//! Lists as text.
+ghost use Rattle.std.specs.Prelude.{◌≡◌, List, ℕ, Some, refl};
+ghost use Rattle.std.specs.Fmt.{decimal};
+ghost use Rattle.std.specs.List.{flat_map, join_by};
+
+use std::fmt;
+use str0m_values::Pt;
+
+/// What prints one text, whatever writes it: `text` says which.
+pub(crate) trait Printed: fmt::Display {
+    ghost text: { Self → List ℕ };
+
+    ghost prints: { (item : Self) → Self.output item ≡ Some (text item) };
+}
+
+impl Printed for Pt {
+    ghost text = { decimal };
+
+    ghost prints = { λ _. refl };
+}
+
+/// Items one right behind the other.
+#[derive(Drop)]
+pub(crate) struct Each<'a, T>(pub(crate) &'a [T]);
+
+impl<'a, T: Printed> fmt::Display for Each<'a, T> {
+    ghost output = { λ each. Some (flat_map T.text each.0.now) };
+
+    fn fmt<W: fmt::Write>(&self, f: &mut fmt::Formatter<W>) -> fmt::Result {
+        for item in self.0 {
+            write!(f, "{item}")?;
+        }
+        Ok(())
+    }
+}
+
+/// Items with a separator between each two.
+#[derive(Drop)]
+pub(crate) struct Joined<'a, T> {
+    pub(crate) items: &'a [T],
+    pub(crate) separator: &'static str,
+}
+
+impl<'a, T: Printed> fmt::Display for Joined<'a, T> {
+    ghost output = { λ joined. Some (join_by T.text joined.separator.now joined.items.now) };
+
+    fn fmt<W: fmt::Write>(&self, f: &mut fmt::Formatter<W>) -> fmt::Result {
+        let separator = self.separator;
+        let Some((first, more)) = self.items.split_first() else {
+            return Ok(());
+        };
+        write!(f, "{first}")?;
+        for item in more {
+            write!(f, "{separator}{item}")?;
+        }
+        Ok(())
+    }
+}
