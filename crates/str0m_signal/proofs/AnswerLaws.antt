@@ -49,3 +49,7 @@ passed_on Memory P Q h of = tt
 pub handed_on : {X V : Type 0} (view : X → V) (r : Result X SdpError) (e : SdpError) (P : V → Type 0) → IsErrAnd r (λ x. x ≡ e) → Refuses e P → Answers view r P
 handed_on view (Ok x) e P is h = absurd is
 handed_on view (Err x) e P is h = subst (λ (y : SdpError). Refuses y P) (sym is) h
+
+-- the value alone, whatever is left
+pub one_described : {A : Type 0} (P : A × List ℕ → Type 0) → AtMostOne P → AtMostOne (λ a. (rest : List ℕ) × P (a, rest))
+one_described {A} P one v w h k = ap (λ (x : A × List ℕ). x.0) (one (v, h.0) (w, k.0) h.1 k.1)

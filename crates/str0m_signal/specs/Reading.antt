@@ -35,3 +35,7 @@ Reading = OfText IsReading
 
 abbrev pub SessionReading : List ℕ → TheSession × List ℕ → Type 0
 SessionReading = OfText IsSession
+
+-- a text describes the session that is read of it, whatever follows
+abbrev pub Described : List ℕ → Sdp → Type 0
+Described text sdp = (rest : List ℕ) × Reading text (sdp, rest)

@@ -9,12 +9,14 @@ mod header;
 mod heads;
 mod lines;
 mod media_attribute;
+mod offer;
 mod pairs;
 mod reader;
 mod rtp_map;
 mod section;
 mod session_attribute;
 
+pub use offer::{SdpAnswer, SdpOffer};
 pub use reader::{media_attribute_line, sdp_parser, session_attribute_line, session_parser};
 pub use str0m_formats::{Codec, FormatParam};
 pub use str0m_sdp::{

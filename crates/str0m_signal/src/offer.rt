@@ -1,0 +1,167 @@
+//! Offers and answers: the description that one side proposes, and the one that settles it
+//! (RFC 3264).
+
+ghost use Rattle.std.specs.Prelude.{◌≡◌, IfOk, Some};
+ghost use Rattle.std.specs.String.{string_bytes};
+ghost use Rattle.str0m_sdp.specs.Session.{sdp_text};
+ghost use Rattle.str0m_signal.specs.Answers.{Answers, AtMostOne};
+ghost use Rattle.str0m_signal.specs.Reading.{Described};
+
+use crate::reader::sdp_parser;
+use std::alloc::{AllocError, Global};
+use std::fmt;
+use std::marker::Model;
+use std::ops::Deref;
+use str0m_sdp::{Sdp, SdpError};
+
+/// A description that one side proposes.
+#[derive(Debug, PartialEq, Eq, Drop)]
+pub struct SdpOffer(Sdp);
+
+/// A description that answers an offer.
+#[derive(Debug, PartialEq, Eq, Drop)]
+pub struct SdpAnswer(Sdp);
+
+/// The description that a text begins with; what follows it is dropped.
+fn described(alloc: Global, text: &str) -> Result<Sdp, SdpError>
+    ensures read { Answers (λ sdp. sdp) result (Described text.now) }
+    ensures one { AtMostOne (Described text.now) }
+{
+    match sdp_parser(alloc, text) {
+        Ok((sdp, _)) => Ok(sdp),
+        Err(error) => Err(error),
+    }
+}
+
+/// The printed description.
+fn printed(alloc: Global, sdp: &Sdp) -> Result<String, AllocError>
+    ensures { IfOk result (λ text. string_bytes text ≡ sdp_text sdp.now) }
+{
+    format!(in alloc; "{sdp}")
+}
+
+impl Model for SdpOffer {
+    ghost use Rattle.str0m_sdp.specs.declared.session.Sdp.{Sdp};
+
+    ghost Value = { Sdp };
+
+    ghost view = { λ offer. offer.0 };
+
+    ghost inverse = { λ sdp. record { 0 = sdp } };
+}
+
+impl SdpOffer {
+    /// Reads the description that a text begins with. What follows the first line that fits
+    /// nowhere is dropped.
+    ///
+    /// # Errors
+    ///
+    /// `ParseError` exactly where a header line is missing or wrong, or where a section that is
+    /// reached isn't consistent; `Memory` where a growth was refused.
+    pub fn from_sdp_string(alloc: Global, text: &str) -> Result<SdpOffer, SdpError>
+        ensures read { Answers (λ offer. offer) result (Described text.now) }
+        ensures one { AtMostOne (Described text.now) }
+    {
+        match described(alloc, text) {
+            Ok(sdp) => Ok(SdpOffer(sdp)),
+            Err(error) => Err(error),
+        }
+    }
+
+    /// The description as a text, each line ended by CR LF.
+    pub fn to_sdp_string(&self, alloc: Global) -> Result<String, AllocError>
+        ensures { IfOk result (λ text. string_bytes text ≡ sdp_text self.now) }
+    {
+        printed(alloc, &self.0)
+    }
+}
+
+impl From<Sdp> for SdpOffer {
+    ghost from_gives = { λ sdp offer. offer ≡ sdp };
+
+    fn from(sdp: Sdp) -> SdpOffer {
+        SdpOffer(sdp)
+    }
+}
+
+impl Deref for SdpOffer {
+    type Target = Sdp;
+
+    ghost deref_gives = { λ offer sdp. sdp ≡ offer };
+
+    fn deref(&self) -> &Sdp {
+        &self.0
+    }
+}
+
+impl fmt::Display for SdpOffer {
+    ghost output = { λ offer. Some (sdp_text offer) };
+
+    fn fmt<W: fmt::Write>(&self, f: &mut fmt::Formatter<W>) -> fmt::Result {
+        let sdp = &self.0;
+        write!(f, "{sdp}")
+    }
+}
+
+impl Model for SdpAnswer {
+    ghost use Rattle.str0m_sdp.specs.declared.session.Sdp.{Sdp};
+
+    ghost Value = { Sdp };
+
+    ghost view = { λ answer. answer.0 };
+
+    ghost inverse = { λ sdp. record { 0 = sdp } };
+}
+
+impl SdpAnswer {
+    /// Reads the description that a text begins with. What follows the first line that fits
+    /// nowhere is dropped.
+    ///
+    /// # Errors
+    ///
+    /// `ParseError` exactly where a header line is missing or wrong, or where a section that is
+    /// reached isn't consistent; `Memory` where a growth was refused.
+    pub fn from_sdp_string(alloc: Global, text: &str) -> Result<SdpAnswer, SdpError>
+        ensures read { Answers (λ answer. answer) result (Described text.now) }
+        ensures one { AtMostOne (Described text.now) }
+    {
+        match described(alloc, text) {
+            Ok(sdp) => Ok(SdpAnswer(sdp)),
+            Err(error) => Err(error),
+        }
+    }
+
+    /// The description as a text, each line ended by CR LF.
+    pub fn to_sdp_string(&self, alloc: Global) -> Result<String, AllocError>
+        ensures { IfOk result (λ text. string_bytes text ≡ sdp_text self.now) }
+    {
+        printed(alloc, &self.0)
+    }
+}
+
+impl From<Sdp> for SdpAnswer {
+    ghost from_gives = { λ sdp answer. answer ≡ sdp };
+
+    fn from(sdp: Sdp) -> SdpAnswer {
+        SdpAnswer(sdp)
+    }
+}
+
+impl Deref for SdpAnswer {
+    type Target = Sdp;
+
+    ghost deref_gives = { λ answer sdp. sdp ≡ answer };
+
+    fn deref(&self) -> &Sdp {
+        &self.0
+    }
+}
+
+impl fmt::Display for SdpAnswer {
+    ghost output = { λ answer. Some (sdp_text answer) };
+
+    fn fmt<W: fmt::Write>(&self, f: &mut fmt::Formatter<W>) -> fmt::Result {
+        let sdp = &self.0;
+        write!(f, "{sdp}")
+    }
+}
