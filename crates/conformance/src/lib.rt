@@ -1,0 +1,2 @@
+//! Tests.
+#![tactic(auto)]
