@@ -4,7 +4,6 @@
 
 mod attribute;
 mod bandwidth;
-mod checking;
 mod consistency;
 mod error;
 mod fmtp;
