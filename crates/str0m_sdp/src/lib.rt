@@ -6,6 +6,7 @@ mod attribute;
 mod bandwidth;
 mod consistency;
 mod error;
+mod fault;
 mod fmtp;
 mod media_line;
 mod media_type;
