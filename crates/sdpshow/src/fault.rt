@@ -1,0 +1,43 @@
+//! Why a run of the program fails.
+
+use std::alloc::AllocError;
+use std::fmt;
+use str0m_signal::SdpError;
+
+/// Why a run ends with status 1. It displays as the line on standard error.
+#[derive(Debug, Drop)]
+pub(crate) enum Fault {
+    /// The text is no description, or a growth was refused.
+    Refused(SdpError),
+    NotUtf8,
+    Unreadable,
+    Unwritable,
+}
+
+impl Fault {
+    /// A growth was refused.
+    pub(crate) const OUT_OF_MEMORY: Fault = Fault::Refused(SdpError::Memory);
+}
+
+impl From<SdpError> for Fault {
+    fn from(refusal: SdpError) -> Fault {
+        Fault::Refused(refusal)
+    }
+}
+
+impl From<AllocError> for Fault {
+    fn from(_refused: AllocError) -> Fault {
+        Fault::OUT_OF_MEMORY
+    }
+}
+
+impl fmt::Display for Fault {
+    fn fmt<W: fmt::Write>(&self, f: &mut fmt::Formatter<W>) -> fmt::Result {
+        match self {
+            Fault::Refused(refusal) => write!(f, "{refusal}"),
+            Fault::NotUtf8 => f.write_str("input is not UTF-8"),
+            Fault::Unreadable => f.write_str("cannot read input"),
+            Fault::Unwritable => f.write_str("cannot write output"),
+        }
+    }
+}

@@ -1,0 +1,38 @@
+//! Shows session descriptions: `sdpshow text` reads one from standard input and prints it again.
+#![tactic(auto)]
+
+mod fault;
+mod run;
+
+use crate::fault::Fault;
+use crate::run::{refuse, run, usage};
+use std::env;
+use std::io;
+use std::io::ErrorKind;
+use std::process::ExitCode;
+
+/// The words after the program's name.
+fn words(rt: &HostRuntime) -> io::Result<Vec<String>> {
+    let mut words = Vec::new(rt.alloc());
+    for word in env::args(rt)?.skip(1) {
+        words.push(word)?;
+    }
+    Ok(words)
+}
+
+fn main(rt: HostRuntime) -> ExitCode {
+    let status = match words(&rt) {
+        Ok(words) => run(
+            rt.alloc(),
+            words.as_slice(),
+            &mut rt.stdin(),
+            &mut rt.stdout(),
+            &mut rt.stderr(),
+        ),
+        Err(error) => match error.kind() {
+            ErrorKind::OutOfMemory => refuse(&mut rt.stderr(), &Fault::OUT_OF_MEMORY),
+            _ => usage(&mut rt.stderr()),
+        },
+    };
+    ExitCode::from(status)
+}
