@@ -1,4 +1,9 @@
+pub mod AddressBothWays
+pub mod AddressLaws
+pub mod AddressText
 pub mod BothWays
 pub mod Cells
 pub mod CutLaws
 pub mod NumLaws
+pub mod OnlyLaws
+pub mod WordLaws

@@ -1,7 +1,11 @@
+pub mod Address
+pub mod AddressReading
 pub mod CandidateKind
 pub mod CandidateReading
 pub mod Cuts
 pub mod Fits
+pub mod Joined
+pub mod Only
 pub mod Parts
 pub mod Protocol
 pub mod ShortText

@@ -1,6 +1,7 @@
 //! Plain values that session descriptions speak of, and the parts that their lines are made of.
 #![tactic(auto)]
 
+mod address;
 mod candidate_kind;
 pub mod cuts;
 mod frequency;
@@ -13,6 +14,7 @@ mod session_id;
 mod short_text;
 mod text;
 
+pub use address::{IpAddr, SocketAddr};
 pub use candidate_kind::CandidateKind;
 pub use frequency::Frequency;
 pub use ice_creds::IceCreds;
