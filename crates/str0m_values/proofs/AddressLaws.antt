@@ -98,19 +98,21 @@ module _ {v4 : Bool} {Last : List ℕ → List ℕ → Type 0} (ends : Ends v4 L
 short_from : (text groups : List ℕ) → net.IsElided text groups → IsShortened text groups × (length groups ≡ 8)
 short_from text groups h =
     let zeros = 8 - length h.head - length h.tail in
-    let whole : groups ≡ h.head ++ (replicate zeros 0 ++ h.tail) = h.value ∙ append_assoc h.head (replicate zeros 0) h.tail in
-    (record {
-      front_text = h.head_text;
-      back_text = h.tail_text;
-      front = h.head;
-      back = h.tail;
-      zeros = zeros;
-      joined = h.spelled ∙ append_assoc h.head_text (codes "::") h.tail_text;
-      front_is = any_from plain_ends h.head_text h.head h.head_groups;
-      back_is = any_from all_ends h.tail_text h.tail h.tail_groups;
-      some = omega (arith, h.room);
-      groups_are = whole;
-    }, omega (arith, h.room, ap length whole, length-append {A = ℕ}, length-replicate {A = ℕ}))
+    let whole : groups ≡ h.head ++ (replicate zeros 0 ++ h.tail) = h.value ∙ append_assoc h.head (replicate zeros 0) h.tail in (
+      record {
+        front_text = h.head_text;
+        back_text = h.tail_text;
+        front = h.head;
+        back = h.tail;
+        zeros = zeros;
+        joined = h.spelled ∙ append_assoc h.head_text (codes "::") h.tail_text;
+        front_is = any_from plain_ends h.head_text h.head h.head_groups;
+        back_is = any_from all_ends h.tail_text h.tail h.tail_groups;
+        some = omega (arith, h.room);
+        groups_are = whole;
+      },
+      omega (arith, h.room, ap length whole, length-append {A = ℕ}, length-replicate {A = ℕ}),
+    )
 
 short_to : (text groups : List ℕ) → IsShortened text groups → length groups ≡ 8 → net.IsElided text groups
 short_to text groups h eight =

@@ -1,10 +1,12 @@
 pub mod Address
 pub mod AddressReading
+pub mod Candidate
 pub mod CandidateKind
 pub mod CandidateReading
 pub mod Cuts
 pub mod Fits
 pub mod Joined
+pub mod Labels
 pub mod Only
 pub mod Parts
 pub mod Protocol

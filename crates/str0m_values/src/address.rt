@@ -2,8 +2,7 @@
 ghost use Rattle.std.specs.Prelude.{◌≡◌, Some};
 ghost use Rattle.str0m_values.specs.Only.{IsTheOnly};
 
-use std::fmt;
-use std::net;
+use std::{fmt, net};
 
 /// An IP address: the four octets of a V4 address, or the eight groups of 16 bits of a V6 address,
 /// in the order in which they are written.

@@ -2,6 +2,7 @@
 #![tactic(auto)]
 
 mod address;
+mod candidate;
 mod candidate_kind;
 pub mod cuts;
 mod frequency;
@@ -15,6 +16,7 @@ mod short_text;
 mod text;
 
 pub use address::{IpAddr, SocketAddr};
+pub use candidate::Candidate;
 pub use candidate_kind::CandidateKind;
 pub use frequency::Frequency;
 pub use ice_creds::IceCreds;
