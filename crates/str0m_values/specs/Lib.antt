@@ -5,7 +5,9 @@ pub mod CandidateKind
 pub mod CandidateReading
 pub mod Cuts
 pub mod Fits
+pub mod Found
 pub mod Joined
+pub mod LabelReading
 pub mod Labels
 pub mod Only
 pub mod Parts

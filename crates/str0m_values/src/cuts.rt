@@ -27,6 +27,12 @@ pub fn num_u8(text: &str, limit: u8) -> Option<u8>
     }
 }
 
+pub fn num_u16(text: &str) -> Option<u16>
+    ensures { result ≡ num 65535 text.now }
+{
+    text.parse::<u16>().ok()
+}
+
 pub fn num_u32(text: &str) -> Option<u32>
     ensures { result ≡ num 4294967295 text.now }
 {

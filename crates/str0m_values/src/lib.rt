@@ -4,11 +4,13 @@
 mod address;
 mod candidate;
 mod candidate_kind;
+pub mod candidate_text;
 pub mod cuts;
 mod frequency;
 mod ice_creds;
 mod identifier;
 mod items;
+mod labels;
 mod payload_type;
 mod protocol;
 mod session_id;
