@@ -2,8 +2,10 @@ pub mod AddressBothWays
 pub mod AddressLaws
 pub mod AddressText
 pub mod BothWays
+pub mod CandidateParts
 pub mod Cells
 pub mod CutLaws
+pub mod LabelLaws
 pub mod NumLaws
 pub mod OnlyLaws
 pub mod WordLaws
