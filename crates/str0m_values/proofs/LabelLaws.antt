@@ -1,10 +1,10 @@
 -- Words behind labels are read both ways.
-use Rattle.std.proofs.Common.{◌≡◌, ◌⊎◌, ℕ, ◌<◌, Bool, true, false, cond, List, [], ◌∷◌, ◌++◌, length, Option, Some, None, refl, sym, ap, ◌∙◌, inl, inr, append-nil, append_assoc}
+use Rattle.std.proofs.Common.{◌≡◌, ◌⊎◌, ℕ, List, [], ◌∷◌, ◌++◌, length, Option, Some, None, refl, sym, ap, ◌∙◌, inl, inr, append-nil, append_assoc}
 use Rattle.std.specs.List.{AllByRecursion}
 use Rattle.std.proofs.lemmas.Bool.{ltb-true}
 use Rattle.str0m_values.specs.Parts.{IsWord}
 use Rattle.str0m_values.specs.Cuts.{◌>>=◌, before, strip, when, is_rest}
-use Rattle.str0m_values.specs.Labels.{IsSame, IsLabelled, IsOptional, IsLeftOut}
+use Rattle.str0m_values.specs.Labels.{IsSame, IsLabelled, IsOptional}
 use Rattle.str0m_values.specs.LabelReading.{word_read, labelled_read, part_read, optional_after, optional_read, value_read}
 use Rattle.str0m_values.proofs.CutLaws.{before_front, before_lacks, strip_at, strip_found}
 use Rattle.str0m_values.proofs.NumLaws.{when_some, rest_true}

@@ -2,6 +2,7 @@ pub mod AddressBothWays
 pub mod AddressLaws
 pub mod AddressText
 pub mod BothWays
+pub mod CandidateLaws
 pub mod CandidateParts
 pub mod Cells
 pub mod CutLaws
