@@ -1,9 +1,11 @@
 pub mod AddressBothWays
 pub mod AddressLaws
 pub mod AddressText
+pub mod AddressWords
 pub mod BothWays
 pub mod CandidateLaws
 pub mod CandidateParts
+pub mod CandidateText
 pub mod Cells
 pub mod CutLaws
 pub mod LabelLaws

@@ -1,11 +1,11 @@
 -- The text of a candidate, which stands behind `a=` (RFC 8839 section 5.1; for tcptype RFC 6544 section 4.5).
-use Rattle.std.specs.Prelude.{◌≡◌, ◌⊎◌, ℕ, List, [], ◌++◌, Option, Some, None, codes}
+use Rattle.std.specs.Prelude.{◌≡◌, ◌⊎◌, ◌<◌, ◌^◌, IfSome, ℕ, List, [], ◌++◌, Option, Some, None, codes}
 use Rattle.std.specs.Fmt.{decimal}
 use Rattle.str0m_values.specs.declared.address.SocketAddr.{SocketAddr}
 use Rattle.str0m_values.specs.declared.candidate.Candidate.{Candidate}
-use Rattle.str0m_values.specs.Parts.{IsNum}
+use Rattle.str0m_values.specs.Parts.{IsWord, IsNum}
 use Rattle.str0m_values.specs.Labels.{IsSame, IsLabelled, IsOptional, IsLeftOut, optional_text}
-use Rattle.str0m_values.specs.Address.{IsIpText, ip_text}
+use Rattle.str0m_values.specs.Address.{IsIpText, IsInRange, ip_text}
 use Rattle.str0m_values.specs.CandidateKind.{IsKindText, kind_text}
 use Rattle.str0m_values.specs.Protocol.{IsProtocolText, IsTcpTypeText, protocol_text, tcp_type_text}
 
@@ -72,3 +72,16 @@ abbrev pub candidate_text : Candidate → List ℕ
 candidate_text c =
     codes "candidate:" ++ (c.foundation ++ (codes " " ++ (decimal c.component_id ++ (codes " " ++ (protocol_text c.proto ++ (codes " " ++ (decimal c.prio
     ++ (socket_text (codes " ") (codes " ") c.addr ++ (codes " typ " ++ (kind_text c.kind ++ extras_text c))))))))))
+
+-- what its types keep
+abbrev pub IsSocketInRange : SocketAddr → Type 0
+IsSocketInRange addr = IsInRange addr.ip × (addr.port < 2 ^ 16)
+
+-- a candidate whose numbers keep to their types and whose texts are words
+pub record IsPrintable (c : Candidate) : Type 0 where
+  pub foundation : IsWord c.foundation
+  pub component_id : c.component_id < 2 ^ 16
+  pub prio : c.prio < 2 ^ 32
+  pub addr : IsSocketInRange c.addr
+  pub raddr : IfSome c.raddr IsSocketInRange
+  pub ufrag : IfSome c.ufrag IsWord

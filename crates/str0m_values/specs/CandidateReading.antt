@@ -65,7 +65,7 @@ names_read text = do
   network ← optional_read (codes " network-id ") text
   name ← optional_read (codes " ufrag ") network.1
   if is_some network.0 || is_none name.0 then Some name
-    else (optional_read (codes " network-id ") name.1 >>= λ behind. Some (name.0, behind.1))
+      else (optional_read (codes " network-id ") name.1 >>= λ behind. Some (name.0, behind.1))
 
 abbrev pub candidate_read : List ℕ → Option Candidate
 candidate_read text = do

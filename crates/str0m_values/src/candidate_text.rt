@@ -1,7 +1,10 @@
 //! The text of a candidate, for the readers of lines.
 ghost use Rattle.std.specs.Prelude.{◌≡◌, IfOk, Some, option_map, codes};
+ghost use Rattle.str0m_values.specs.declared.candidate.Candidate.{Candidate};
+ghost use Rattle.str0m_values.specs.Only.{IsTheOnly};
 ghost use Rattle.str0m_values.specs.Cuts.{num};
 ghost use Rattle.str0m_values.specs.LabelReading.{part_read};
+ghost use Rattle.str0m_values.specs.Candidate.{IsCandidateText, IsPrintable, candidate_text};
 ghost use Rattle.str0m_values.specs.Found.{seen};
 ghost use Rattle.str0m_values.specs.CandidateReading.{protocol_read, kind_read, socket_read, related_read, tcp_part_read, names_read, candidate_read};
 
@@ -132,11 +135,8 @@ fn find(text: &str) -> Option<Found<'_>>
     })
 }
 
-/// The candidate of the text that follows `a=` in its line, whole, without the line's end; `None`
-/// where the text has another form. It begins with `candidate:` (RFC 8839, section 5.1); words for
-/// the protocol and the TCP type are read without regard to ASCII case. Memory is asked for only
-/// where there is a candidate, for the texts that it keeps.
-pub fn candidate(alloc: Global, text: &str) -> Result<Option<Candidate>, AllocError>
+/// The candidate of a text, with copies of the texts that it keeps.
+fn keep(alloc: Global, text: &str) -> Result<Option<Candidate>, AllocError>
     ensures { IfOk result (λ found. found ≡ candidate_read text.now) }
 {
     let Some(found) = find(text) else {
@@ -158,4 +158,20 @@ pub fn candidate(alloc: Global, text: &str) -> Result<Option<Candidate>, AllocEr
         tcptype: found.tcptype,
         ufrag,
     }))
+}
+
+/// The candidate of the text that follows `a=` in its line, without the line's end; `None` where the
+/// text, as a whole, has another form (RFC 8839, section 5.1).
+///
+/// The text begins with `candidate:`. Words for the protocol and the TCP type are read without
+/// regard to ASCII case. Memory is asked for only where there is a candidate, for the texts that it
+/// keeps; without it the call is refused.
+pub fn candidate(alloc: Global, text: &str) -> Result<Option<Candidate>, AllocError>
+    ensures read { IfOk result (IsTheOnly (IsCandidateText text.now)) }
+    ensures printed { (c : Candidate) → IsPrintable c → text.now ≡ candidate_text c → IfOk result (λ found. found ≡ Some c) }
+
+    // As the readers of lines compute it.
+    ensures computed { IfOk result (λ found. found ≡ candidate_read text.now) }
+{
+    keep(alloc, text)
 }
