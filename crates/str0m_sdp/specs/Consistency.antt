@@ -1,8 +1,7 @@
--- When a section is consistent.
-use Rattle.std.specs.Prelude.{◌≡◌, ◌≢◌, ◌≤◌, ◌⊎◌, ◌==◌, ℕ, Bool, true, false, List, [], count_by, IsFalse}
-use Rattle.std.specs.Prelude.{All}
+-- Which sections are consistent.
+use Rattle.std.specs.Prelude.{◌≡◌, ◌≢◌, ◌≤◌, ◌⊎◌, ◌==◌, ℕ, Bool, true, false, List, [], Option, MatchOption, All, count_by}
 use Rattle.str0m_sdp.specs.declared.attribute.MediaAttribute.{MediaAttribute}
-use Rattle.str0m_sdp.specs.declared.attribute.MediaAttribute.TheVariants.{Setup, Mid, RecvOnly, SendRecv, SendOnly, Inactive, RtpMap, Fmtp, Unused}
+use Rattle.str0m_sdp.specs.declared.attribute.MediaAttribute.TheVariants.{Setup, Mid, RecvOnly, SendRecv, SendOnly, Inactive, RtpMap}
 use Rattle.str0m_sdp.specs.declared.media_line.MediaLine.{MediaLine}
 use Rattle.str0m_sdp.specs.declared.proto.Proto.TheVariants.{Srtp}
 
@@ -14,6 +13,7 @@ abbrev pub is_setup : MediaAttribute → Bool
 is_setup (Setup setup) = true
 is_setup _ = false
 
+-- the four directions (RFC 8866, section 6.7)
 abbrev pub is_direction : MediaAttribute → Bool
 is_direction RecvOnly = true
 is_direction SendRecv = true
@@ -21,11 +21,12 @@ is_direction SendOnly = true
 is_direction Inactive = true
 is_direction _ = false
 
+-- a mapping of this payload type (RFC 8866, section 6.6)
 abbrev pub maps : ℕ → MediaAttribute → Bool
 maps pt (RtpMap n value) = n == pt
 maps pt _ = false
 
--- PCMU, PCMA, G722 and CN need no mapping
+-- PCMU, PCMA, G722 and CN need no mapping (RFC 3551, section 6)
 abbrev pub IsStatic : ℕ → Type 0
 IsStatic pt = (pt ≡ 0) ⊎ ((pt ≡ 8) ⊎ ((pt ≡ 9) ⊎ (pt ≡ 13)))
 
@@ -33,15 +34,16 @@ IsStatic pt = (pt ≡ 0) ⊎ ((pt ≡ 8) ⊎ ((pt ≡ 9) ⊎ (pt ≡ 13)))
 abbrev pub IsMapped : List MediaAttribute → ℕ → Type 0
 IsMapped attrs pt = (count_by (maps pt) attrs ≡ 1) ⊎ ((count_by (maps pt) attrs ≡ 0) × IsStatic pt)
 
--- one mid, and at most one setup
-abbrev pub FitsCounts : List MediaAttribute → Type 0
-FitsCounts attrs = (count_by is_mid attrs ≡ 1) × (count_by is_setup attrs ≤ 1)
-
 -- over Srtp one direction, and some type unless the section is disabled
 abbrev pub FitsProto : MediaLine → Type 0
 FitsProto m = m.proto ≡ Srtp → (count_by is_direction m.attrs ≡ 1) × (m.disabled ≡ false → m.pts ≢ [])
 
 pub record Consistent (m : MediaLine) : Type 0 where
-  pub counts : FitsCounts m.attrs
+  pub mid : count_by is_mid m.attrs ≡ 1
+  pub setup : count_by is_setup m.attrs ≤ 1
   pub proto : FitsProto m
   pub mapped : All (IsMapped m.attrs) m.pts
+
+-- none where P holds, and a value where it doesn't
+abbrev pub NoneIff : {A : Type 0} → Option A → Type 0 → Type 0
+NoneIff o P = MatchOption o P (λ _. ¬ P)

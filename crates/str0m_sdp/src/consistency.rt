@@ -1,25 +1,13 @@
 //! Which sections are consistent.
-
-ghost use Rattle.std.specs.Prelude.{◌≡◌, ◌⊎◌, IsTrue, ◌↔◌, count_by, MatchOption};
-ghost use Rattle.std.specs.Prelude.{All};
-ghost use Rattle.str0m_sdp.specs.Consistency.{is_mid, is_setup, is_direction, maps, IsStatic, IsMapped, FitsCounts, FitsProto, Consistent};
+ghost use Rattle.std.specs.Prelude.{◌≡◌, ◌<◌, ◌≤◌, ◌↔◌, All, IfOk, IsOk, IsSome, IsTrue, Ok, None, count_by};
+ghost use Rattle.str0m_sdp.specs.Consistency.{is_mid, is_setup, is_direction, maps, IsStatic, IsMapped, FitsProto, Consistent, NoneIff};
 
 use crate::attribute::MediaAttribute;
+use crate::fault::{Fault, Message};
 use crate::media_line::MediaLine;
 use crate::proto::Proto;
-use str0m_values::Pt;
-
-/// Why a section isn't consistent.
-#[derive(Clone, Copy, Debug, PartialEq, Eq)]
-pub(crate) enum Fault {
-    MissingMid,
-    SecondMid,
-    SecondSetup,
-    Directions,
-    MissingType,
-    MissingMap(Pt),
-    SecondMap(Pt),
-}
+use std::alloc::{AllocError, Global};
+use str0m_values::{Mid, Pt};
 
 impl MediaAttribute {
     fn is_mid(&self) -> bool
@@ -34,6 +22,7 @@ impl MediaAttribute {
         matches!(self, MediaAttribute::Setup(_))
     }
 
+    /// Whether this is one of the four directions (RFC 8866, section 6.7).
     pub fn is_direction(&self) -> bool
         ensures { result ≡ is_direction self.now }
     {
@@ -86,74 +75,112 @@ fn is_static(pt: Pt) -> bool
     matches!(pt.value(), 0 | 8 | 9 | 13)
 }
 
-fn map_fault(attrs: &[MediaAttribute], pt: Pt) -> Option<Fault>
-    ensures { MatchOption result (IsMapped attrs.now pt) (λ _. IsMapped attrs.now pt → ⊥) }
+fn first_mid(attrs: &[MediaAttribute]) -> Option<Mid>
+    ensures { IsSome result ↔ (0 < count_by is_mid attrs.now) }
+{
+    for attr in attrs {
+        if let MediaAttribute::Mid(mid) = attr {
+            return Some(*mid);
+        }
+    }
+    None
+}
+
+/// The mid where there is exactly one.
+fn only_mid(attrs: &[MediaAttribute]) -> Result<Mid, Fault>
+    ensures { IsOk result ↔ (count_by is_mid attrs.now ≡ 1) }
+{
+    let Some(mid) = first_mid(attrs) else {
+        return Err(Fault::MissingMid);
+    };
+    if count_mids(attrs) > 1 {
+        return Err(Fault::SecondMid);
+    }
+    Ok(mid)
+}
+
+fn check_setups(attrs: &[MediaAttribute], mid: Mid) -> Result<(), Fault>
+    ensures { IsOk result ↔ (count_by is_setup attrs.now ≤ 1) }
+{
+    if count_setups(attrs) > 1 {
+        return Err(Fault::SecondSetup(mid));
+    }
+    Ok(())
+}
+
+fn check_proto(m: &MediaLine, mid: Mid) -> Result<(), Fault>
+    ensures { IsOk result ↔ FitsProto m.now }
+{
+    match m.proto {
+        Proto::Sctp => Ok(()),
+        Proto::Srtp => {
+            if count_directions(m.attrs.as_slice()) != 1 {
+                return Err(Fault::Directions(mid));
+            }
+            if m.disabled || !m.pts.as_slice().is_empty() {
+                return Ok(());
+            }
+            Err(Fault::MissingType(mid))
+        }
+    }
+}
+
+fn check_map(attrs: &[MediaAttribute], pt: Pt, mid: Mid) -> Result<(), Fault>
+    ensures { IsOk result ↔ IsMapped attrs.now pt }
 {
     match count_maps(attrs, pt) {
         0 => if is_static(pt) {
-            None
+            Ok(())
         } else {
-            Some(Fault::MissingMap(pt))
+            Err(Fault::MissingMap { mid, pt })
         },
-        1 => None,
-        _ => Some(Fault::SecondMap(pt)),
+        1 => Ok(()),
+        _ => Err(Fault::SecondMap { mid, pt }),
     }
 }
 
-fn type_fault(attrs: &[MediaAttribute], pts: &[Pt]) -> Option<Fault>
-    ensures { MatchOption result (All (IsMapped attrs.now) pts.now) (λ _. All (IsMapped attrs.now) pts.now → ⊥) }
+fn check_maps(attrs: &[MediaAttribute], pts: &[Pt], mid: Mid) -> Result<(), Fault>
+    ensures { IsOk result ↔ All (IsMapped attrs.now) pts.now }
 {
     for pt in pts {
-        if let Some(fault) = map_fault(attrs, *pt) {
-            return Some(fault);
-        }
+        check_map(attrs, *pt, mid)?;
     }
-    None
+    Ok(())
 }
 
-fn count_fault(attrs: &[MediaAttribute]) -> Option<Fault>
-    ensures { MatchOption result (FitsCounts attrs.now) (λ _. FitsCounts attrs.now → ⊥) }
-{
-    let mids = count_mids(attrs);
-    if mids == 0 {
-        return Some(Fault::MissingMid);
-    }
-    if mids > 1 {
-        return Some(Fault::SecondMid);
-    }
-    if count_setups(attrs) > 1 {
-        return Some(Fault::SecondSetup);
-    }
-    None
-}
-
-fn srtp_fault(m: &MediaLine) -> Option<Fault>
-    ensures { MatchOption result (FitsProto m.now) (λ _. FitsProto m.now → ⊥) }
-{
-    match m.proto {
-        Proto::Sctp => None,
-        Proto::Srtp => {
-            if count_directions(m.attrs.as_slice()) != 1 {
-                return Some(Fault::Directions);
-            }
-            if m.disabled || !m.pts.as_slice().is_empty() {
-                return None;
-            }
-            Some(Fault::MissingType)
-        }
-    }
-}
-
-/// The first fault of a section.
-pub(crate) fn first_fault(m: &MediaLine) -> Option<Fault>
-    ensures { MatchOption result (Consistent m.now) (λ _. Consistent m.now → ⊥) }
+/// The first fault of a section, as the error.
+fn check(m: &MediaLine) -> Result<(), Fault>
+    ensures { IsOk result ↔ Consistent m.now }
 {
     let attrs = m.attrs.as_slice();
-    if let Some(fault) = count_fault(attrs) {
-        return Some(fault);
+    let mid = only_mid(attrs)?;
+    check_setups(attrs, mid)?;
+    check_proto(m, mid)?;
+    check_maps(attrs, m.pts.as_slice(), mid)
+}
+
+impl MediaLine {
+    /// The message of the section's first fault; `None` where it is consistent.
+    ///
+    /// A section has exactly one `a=mid` line and at most one `a=setup` line (RFC 8829, section
+    /// 5.2.1). Over Srtp it has exactly one direction, and a payload type unless it is disabled.
+    /// Each payload type has exactly one `a=rtpmap` line (RFC 8866, section 6.6); the static types
+    /// of PCMU, PCMA, G722 and CN (RFC 3551, section 6) may have none. Faults are looked for in
+    /// this order.
+    ///
+    /// Only a message takes memory, so a consistent section needs none; the only error is that
+    /// memory for the message was refused.
+    pub fn check_consistent(&self, alloc: Global) -> Result<Option<String>, AllocError>
+        ensures told { IfOk result (λ message. NoneIff message (Consistent self.now)) }
+        ensures takes_no_memory { Consistent self.now → result ≡ Ok None }
+    {
+        match check(self) {
+            Ok(()) => Ok(None),
+            Err(fault) => {
+                let section = self;
+                let message = Message { fault, section };
+                Ok(Some(message.to_string(alloc)?))
+            }
+        }
     }
-    if let Some(fault) = srtp_fault(m) {
-        return Some(fault);
-    }
-    type_fault(attrs, m.pts.as_slice())
 }

@@ -4,9 +4,9 @@
 
 mod attribute;
 mod bandwidth;
-mod checking;
 mod consistency;
 mod error;
+mod fault;
 mod fmtp;
 mod media_line;
 mod media_type;

@@ -1,6 +1,16 @@
+pub mod AddressBothWays
+pub mod AddressLaws
+pub mod AddressText
+pub mod AddressWords
 pub mod Beginnings
 pub mod BothWays
+pub mod CandidateLaws
+pub mod CandidateParts
+pub mod CandidateText
+pub mod CandidateWords
 pub mod Cells
 pub mod CutLaws
+pub mod LabelLaws
 pub mod NumLaws
+pub mod OnlyLaws
 pub mod WordLaws

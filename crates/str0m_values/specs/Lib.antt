@@ -1,4 +1,15 @@
+pub mod Address
+pub mod AddressReading
+pub mod Candidate
+pub mod CandidateKind
+pub mod CandidateReading
 pub mod Cuts
 pub mod Fits
+pub mod Found
+pub mod Joined
+pub mod LabelReading
+pub mod Labels
+pub mod Only
 pub mod Parts
+pub mod Protocol
 pub mod ShortText

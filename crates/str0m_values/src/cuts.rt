@@ -49,6 +49,13 @@ pub fn num_u8(text: &str, limit: u8) -> Option<u8>
     }
 }
 
+/// The number of 16 bits that std reads in decimal.
+pub fn num_u16(text: &str) -> Option<u16>
+    ensures { result ≡ num 65535 text.now }
+{
+    text.parse::<u16>().ok()
+}
+
 /// The number of 32 bits that std reads in decimal.
 pub fn num_u32(text: &str) -> Option<u32>
     ensures { result ≡ num 4294967295 text.now }

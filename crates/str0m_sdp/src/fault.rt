@@ -1,0 +1,44 @@
+//! Why sections aren't consistent.
+
+use crate::media_line::MediaLine;
+use std::fmt;
+use str0m_values::{Mid, Pt};
+
+/// Why a section isn't consistent; with its mid, where it has exactly one.
+#[derive(Clone, Copy)]
+pub(crate) enum Fault {
+    MissingMid,
+    SecondMid,
+    SecondSetup(Mid),
+    Directions(Mid),
+    MissingType(Mid),
+    MissingMap { mid: Mid, pt: Pt },
+    SecondMap { mid: Mid, pt: Pt },
+}
+
+/// What a fault says of its section.
+#[derive(Drop)]
+pub(crate) struct Message<'a> {
+    pub(crate) fault: Fault,
+    pub(crate) section: &'a MediaLine,
+}
+
+impl<'a> fmt::Display for Message<'a> {
+    fn fmt<W: fmt::Write>(&self, f: &mut fmt::Formatter<W>) -> fmt::Result {
+        let (typ, proto) = (&self.section.typ, self.section.proto);
+        match self.fault {
+            Fault::MissingMid => write!(f, "Media is missing a=mid: {typ} {proto}"),
+            Fault::SecondMid => write!(f, "Media has more than one a=mid: {typ} {proto}"),
+            Fault::SecondSetup(mid) => { write!(f, "Expected 0 or 1 a=setup: line for mid: {mid}") }
+            Fault::Directions(mid) => write!(
+                f,
+                "Expected exactly one of a=sendrecv, a=sendonly, a=recvonly, a=inactive for mid: {mid}"
+            ),
+            Fault::MissingType(mid) => write!(f, "Expected at least one PT for mid: {mid}"),
+            Fault::MissingMap { mid, pt } => write!(f, "Missing a=rtp_map:{pt} for mid: {mid}"),
+            Fault::SecondMap { mid, pt } => {
+                write!(f, "More than one a=rtp_map:{pt} for mid: {mid}")
+            }
+        }
+    }
+}

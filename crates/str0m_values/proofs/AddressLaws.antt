@@ -1,0 +1,139 @@
+-- The grammar of addresses here and that of std say the same.
+use Rattle.std.proofs.Common.{◌≡◌, ◌⊎◌, ℕ, ◌+◌, ◌-◌, ◌*◌, Bool, true, false, List, [], ◌∷◌, ◌++◌, length, replicate, refl, sym, ap, ◌∙◌, subst, arith, inl, inr, append-nil, append_assoc, length-append, true≢false}
+use Rattle.std.specs.Prelude.{codes, IsTrue, decimal}
+use Rattle.std.specs.Net.Addr.{segments_of}
+use Rattle.std.specs.Net.Grammar as net
+use Rattle.std.proofs.lemmas.List.{length-replicate}
+use Rattle.str0m_values.specs.Joined.{Parted}
+use Rattle.str0m_values.specs.Address.{IsOctet, IsV4Text, IsGroup, IsOneGroup, pairs, IsV4Tail, IsEnd, AreGroups, AreAnyGroups, IsShortened, IsV6Text}
+
+-- ---- V4
+
+pub v4_from : (text octets : List ℕ) → net.IsDotted text octets → IsV4Text text octets
+v4_from text octets h =
+    let spelled : text ≡ decimal h.a ++ (46 ∷ (decimal h.b ++ (46 ∷ (decimal h.c ++ (46 ∷ decimal h.d))))) = h.spelled ∙ simp append_assoc in
+    subst (IsV4Text text) (sym h.value) ((_, _, spelled, (refl, h.fit.0), (_, _, refl, (refl, h.fit.1), (_, _, refl, (refl, h.fit.2), (refl, h.fit.3)))), refl)
+
+four : (text : List ℕ) (a b c d : ℕ) → Parted 46 IsOctet text (a ∷ b ∷ c ∷ d ∷ []) → net.IsDotted text (a ∷ b ∷ c ∷ d ∷ [])
+four text a b c d h = record {
+  a = a;
+  b = b;
+  c = c;
+  d = d;
+  fit = (h.3.1, h.4.3.1, h.4.4.3.1, h.4.4.4.1);
+  value = refl;
+  spelled = h.2 ∙ rw (h.3.0, h.4.2, h.4.3.0, h.4.4.2, h.4.4.3.0, h.4.4.4.0) (simp append_assoc);
+}
+
+pub v4_to : (text octets : List ℕ) → IsV4Text text octets → net.IsDotted text octets
+v4_to text (a ∷ b ∷ c ∷ d ∷ []) h = four text a b c d h.0
+v4_to text (a ∷ b ∷ c ∷ d ∷ e ∷ more) h = absurd (omega (arith, h.1))
+v4_to text [] h = absurd (omega (arith, h.1))
+v4_to text (a ∷ []) h = absurd (omega (arith, h.1))
+v4_to text (a ∷ b ∷ []) h = absurd (omega (arith, h.1))
+v4_to text (a ∷ b ∷ c ∷ []) h = absurd (omega (arith, h.1))
+
+-- ---- groups
+
+group_from : (text : List ℕ) (n : ℕ) → net.IsGroup text n → IsGroup text n
+group_from text n h = record { numeral = h.0.0; value = h.0.1; short = h.1 }
+
+group_to : (text : List ℕ) (n : ℕ) → IsGroup text n → net.IsGroup text n
+group_to text n h = ((h.numeral, h.value), h.short)
+
+pairs_from : (octets : List ℕ) → segments_of octets ≡ pairs octets
+pairs_from [] = refl
+pairs_from (a ∷ []) = refl
+pairs_from (a ∷ b ∷ octets) = ap (λ (groups : List ℕ). (a * 256 + b) ∷ groups) (pairs_from octets)
+
+-- what may end groups, with and without a V4 address
+record Ends (v4 : Bool) (Last : List ℕ → List ℕ → Type 0) : Type 0 where
+  one : (text groups : List ℕ) → IsOneGroup text groups → Last text groups
+  tail : IsTrue v4 → (text groups : List ℕ) → IsV4Tail text groups → Last text groups
+  only : (text groups : List ℕ) → Last text groups → IsOneGroup text groups ⊎ (IsTrue v4 × IsV4Tail text groups)
+
+plain_ends : Ends false IsOneGroup
+plain_ends = record { one = λ text groups h. h; tail = λ never text groups h. absurd (true≢false (sym never)); only = λ text groups h. inl h }
+
+all_ends : Ends true IsEnd
+all_ends = record {
+  one = λ text groups h. inl h;
+  tail = λ always text groups h. inr h;
+  only = λ text groups h. elim h [ inl k ↦ inl k | inr k ↦ inr (refl, k) ];
+}
+
+module _ {v4 : Bool} {Last : List ℕ → List ℕ → Type 0} (ends : Ends v4 Last) where
+  groups_from : (lead text : List ℕ) (n : ℕ) (groups : List ℕ) → net.IsGroupsAfter v4 lead text (n ∷ groups) → (body : List ℕ) × (text ≡ lead ++ body) × AreGroups Last body (n ∷ groups)
+  groups_from lead text n groups (inr h) = (h.0, h.3, inl (ends.tail h.2 h.0 (n ∷ groups) (h.1, v4_from h.0 h.1 h.4, h.5 ∙ pairs_from h.1)))
+  groups_from lead text n [] (inl h) =
+      (h.0, h.2 ∙ ap (λ (rest : List ℕ). lead ++ h.0 ++ rest) h.4 ∙ append-nil (lead ++ h.0), inl (ends.one h.0 (n ∷ []) (n, group_from h.0 n h.3, refl)))
+  groups_from lead text n (m ∷ groups) (inl h) =
+      let more = groups_from (codes ":") h.1 m groups h.4 in
+      (h.0 ++ (codes ":" ++ more.0), h.2 ∙ ap (λ (rest : List ℕ). lead ++ h.0 ++ rest) more.1 ∙ append_assoc lead h.0 (codes ":" ++ more.0), inr (h.0, more.0, refl, group_from h.0 n h.3, more.2))
+
+  one_to : (lead text : List ℕ) (groups : List ℕ) → IsOneGroup text groups → net.IsGroupsAfter v4 lead (lead ++ text) groups
+  one_to lead text groups h = subst (net.IsGroupsAfter v4 lead (lead ++ text)) (sym h.2) (inl (text, [], sym (append-nil (lead ++ text)), group_to text h.0 h.1, refl))
+
+  tail_to : (lead text : List ℕ) (n : ℕ) (groups : List ℕ) → IsTrue v4 → IsV4Tail text (n ∷ groups) → net.IsGroupsAfter v4 lead (lead ++ text) (n ∷ groups)
+  tail_to lead text n groups allowed h = inr (text, h.0, allowed, refl, v4_to text h.0 h.1, h.2 ∙ sym (pairs_from h.0))
+
+  groups_to : (lead text : List ℕ) (groups : List ℕ) → AreGroups Last text groups → net.IsGroupsAfter v4 lead (lead ++ text) groups
+  groups_to lead text [] h = absurd h
+  groups_to lead text (n ∷ groups) (inl h) =
+      elim (ends.only text (n ∷ groups) h) [ inl k ↦ one_to lead text (n ∷ groups) k | inr k ↦ tail_to lead text n groups k.0 k.1 ]
+  groups_to lead text (n ∷ groups) (inr h) =
+      let more = groups_to (codes ":") h.1 groups h.4 in
+      inl (h.0, codes ":" ++ h.1, ap (λ (t : List ℕ). lead ++ t) h.2 ∙ sym (append_assoc lead h.0 (codes ":" ++ h.1)), group_to h.0 n h.3, more)
+
+  any_from : (text groups : List ℕ) → net.IsGroups v4 text groups → AreAnyGroups Last text groups
+  any_from text [] h = inl (h, refl)
+  any_from text (n ∷ groups) h = let all = groups_from [] text n groups h in inr (subst (λ (t : List ℕ). AreGroups Last t (n ∷ groups)) (sym all.1) all.2)
+
+  any_to : (text groups : List ℕ) → AreAnyGroups Last text groups → net.IsGroups v4 text groups
+  any_to text groups (inl h) = subst (net.IsGroups v4 text) (sym h.1) h.0
+  any_to text groups (inr h) = groups_to [] text groups h
+
+-- ---- V6
+
+short_from : (text groups : List ℕ) → net.IsElided text groups → IsShortened text groups × (length groups ≡ 8)
+short_from text groups h =
+    let zeros = 8 - length h.head - length h.tail in
+    let whole : groups ≡ h.head ++ (replicate zeros 0 ++ h.tail) = h.value ∙ append_assoc h.head (replicate zeros 0) h.tail in (
+      record {
+        front_text = h.head_text;
+        back_text = h.tail_text;
+        front = h.head;
+        back = h.tail;
+        zeros = zeros;
+        joined = h.spelled ∙ append_assoc h.head_text (codes "::") h.tail_text;
+        front_is = any_from plain_ends h.head_text h.head h.head_groups;
+        back_is = any_from all_ends h.tail_text h.tail h.tail_groups;
+        some = omega (arith, h.room);
+        groups_are = whole;
+      },
+      omega (arith, h.room, ap length whole, length-append {A = ℕ}, length-replicate {A = ℕ}),
+    )
+
+short_to : (text groups : List ℕ) → IsShortened text groups → length groups ≡ 8 → net.IsElided text groups
+short_to text groups h eight =
+    let count : length h.front + (h.zeros + length h.back) ≡ 8 = omega (arith, ap length h.groups_are, length-append {A = ℕ}, length-replicate {A = ℕ}) in
+    let zeros : h.zeros ≡ 8 - length h.front - length h.back = omega arith in
+    record {
+      head_text = h.front_text;
+      tail_text = h.back_text;
+      head = h.front;
+      tail = h.back;
+      spelled = h.joined ∙ sym (append_assoc h.front_text (codes "::") h.back_text);
+      head_groups = any_to plain_ends h.front_text h.front h.front_is;
+      tail_groups = any_to all_ends h.back_text h.back h.back_is;
+      room = omega (arith, h.some);
+      value = h.groups_are ∙ ap (λ (k : ℕ). h.front ++ (replicate k 0 ++ h.back)) zeros ∙ sym (append_assoc h.front (replicate (8 - length h.front - length h.back) 0) h.back);
+    }
+
+pub v6_from : (text groups : List ℕ) → net.IsColonHex text groups → IsV6Text text groups
+v6_from text [] (inl h) = absurd (omega (arith, h.1))
+v6_from text (n ∷ groups) (inl h) = let all = groups_from all_ends [] text n groups h.0 in (inl (subst (λ (t : List ℕ). AreGroups IsEnd t (n ∷ groups)) (sym all.1) all.2), h.1)
+v6_from text groups (inr h) = let all = short_from text groups h in (inr all.0, all.1)
+
+pub v6_to : (text groups : List ℕ) → IsV6Text text groups → net.IsColonHex text groups
+v6_to text groups h = elim h.0 [ inl all ↦ inl (groups_to all_ends [] text groups all, h.1) | inr short ↦ inr (short_to text groups short h.1) ]

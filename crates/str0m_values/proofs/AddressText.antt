@@ -1,0 +1,73 @@
+-- What is printed of an address stands for it.
+use Rattle.std.proofs.Common.{◌≡◌, ℕ, zero, suc, ◌<◌, ◌≤◌, ◌+◌, ◌^◌, List, [], ◌∷◌, ◌++◌, length, get_or, refl, sym, ap, subst, arith, inl, inr, append-nil, append_assoc, take, drop, lit<}
+use Rattle.std.specs.List.{AllByRecursion}
+use Rattle.std.proofs.Math.Nat.{max-eq_left, max-eq_right}
+use Rattle.std.proofs.lemmas.Bool.{cases_lt, eq-eqb, ne_eqb, lt-leb, le-leb}
+use Rattle.std.specs.Net.Text as net
+use Rattle.std.specs.Net.Text.{hex, hex_groups_text}
+use Rattle.std.proofs.NetLemmas.Arrays.{four_items}
+use Rattle.std.proofs.NetLemmas.Texts.{IsDotted-ipv4_text, IsColonHex-hex_groups_text}
+use Rattle.str0m_values.specs.declared.address.IpAddr.{IpAddr}
+use Rattle.str0m_values.specs.declared.address.IpAddr.TheVariants.{V4, V6}
+use Rattle.str0m_values.specs.Address.{IsV4Text, IsV6Text, IsIpText, v4_text, groups_text, zeros_at_front, longest_run, first_run, v6_text, ip_text, IsInRange}
+use Rattle.str0m_values.proofs.AddressLaws.{v4_from, v6_from}
+
+-- ---- std's printing and ours
+
+more_groups : (n : ℕ) (groups : List ℕ) → net.groups_text (n ∷ groups) ≡ groups_text (n ∷ groups)
+more_groups n [] = append-nil (hex n)
+more_groups n (m ∷ groups) = ap (λ (t : List ℕ). hex n ++ (58 ∷ t)) (more_groups m groups)
+
+same_groups : (groups : List ℕ) → net.groups_text groups ≡ groups_text groups
+same_groups [] = refl
+same_groups (n ∷ groups) = more_groups n groups
+
+-- a later run is the first of the longest, or the one at the front is
+later_run : (n : ℕ) (groups : List ℕ) → zeros_at_front (n ∷ groups) < longest_run groups → ◌≡◌ {A = ℕ × ℕ} (first_run (longest_run groups) groups + 1, longest_run groups) (first_run (longest_run (n ∷ groups)) (n ∷ groups), longest_run (n ∷ groups))
+later_run n groups shorter =
+    let len = longest_run groups in
+    let most = max-eq_right {n = zeros_at_front (n ∷ groups)} {m = len} (omega arith) in
+    let there : ◌≡◌ {A = ℕ × ℕ} (first_run len groups + 1, len) (first_run len (n ∷ groups), len) = rw (ne_eqb (zeros_at_front (n ∷ groups)) len (omega arith)) refl in
+    subst (λ (k : ℕ). ◌≡◌ {A = ℕ × ℕ} (first_run len groups + 1, len) (first_run k (n ∷ groups), k)) (sym most) there
+
+front_run : (n : ℕ) (groups : List ℕ) → longest_run groups ≤ zeros_at_front (n ∷ groups) → ◌≡◌ {A = ℕ × ℕ} (0, zeros_at_front (n ∷ groups)) (first_run (longest_run (n ∷ groups)) (n ∷ groups), longest_run (n ∷ groups))
+front_run n groups longer =
+    let len = zeros_at_front (n ∷ groups) in
+    let most = max-eq_left {n = len} {m = longest_run groups} longer in
+    let here : ◌≡◌ {A = ℕ × ℕ} (0, len) (first_run len (n ∷ groups), len) = rw (eq-eqb len len refl) refl in
+    subst (λ (k : ℕ). ◌≡◌ {A = ℕ × ℕ} (0, len) (first_run k (n ∷ groups), k)) (sym most) here
+
+same_run : (groups : List ℕ) → net.longest_zero_run groups ≡ (first_run (longest_run groups) groups, longest_run groups)
+same_run [] = refl
+same_run (n ∷ groups) =
+    rw (same_run groups) (elim (cases_lt (zeros_at_front (n ∷ groups)) (longest_run groups)) [
+      | inl shorter ↦ rw (lt-leb _ _ shorter) (later_run n groups shorter)
+      | inr longer ↦ rw (le-leb _ _ longer) (front_run n groups longer)
+    ])
+
+pub same_v6 : (groups : List ℕ) → hex_groups_text groups ≡ v6_text groups
+unfolding hex_groups_text v6_text
+same_v6 groups =
+    let len = longest_run groups in
+    let start = first_run len groups in
+    rw (same_run groups, same_groups groups, same_groups (take start groups), same_groups (drop (start + len) groups)) (simp append_assoc)
+
+-- ---- what is printed is in the grammar
+
+each : (limit : ℕ) (xs : List ℕ) → 0 < limit → AllByRecursion (λ n. n < limit) xs → (k : ℕ) → get_or xs k 0 < limit
+each limit [] some h k = some
+each limit (x ∷ xs) some h zero = h.0
+each limit (x ∷ xs) some h (suc k) = each limit xs some h.1 k
+
+same_v4 : (octets : List ℕ) → length octets ≡ 4 → net.ipv4_text octets ≡ v4_text octets
+same_v4 octets four = rw (four_items octets four) (simp append_assoc)
+
+pub printed_v4 : (octets : List ℕ) → length octets ≡ 4 → AllByRecursion (λ n. n < 2 ^ 8) octets → IsV4Text (v4_text octets) octets
+printed_v4 octets four small = subst (λ t. IsV4Text t octets) (same_v4 octets four) (v4_from (net.ipv4_text octets) octets (IsDotted-ipv4_text octets four (each (2 ^ 8) octets (lit< tt) small)))
+
+pub printed_v6 : (groups : List ℕ) → length groups ≡ 8 → AllByRecursion (λ n. n < 2 ^ 16) groups → IsV6Text (v6_text groups) groups
+printed_v6 groups eight small = subst (λ t. IsV6Text t groups) (same_v6 groups) (v6_from (hex_groups_text groups) groups (IsColonHex-hex_groups_text groups eight (each (2 ^ 16) groups (lit< tt) small)))
+
+pub printed : (a : IpAddr) → IsInRange a → IsIpText (ip_text a) a
+printed (V4 octets) h = printed_v4 octets h.0 h.1
+printed (V6 groups) h = printed_v6 groups h.0 h.1

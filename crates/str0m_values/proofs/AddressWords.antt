@@ -1,0 +1,73 @@
+-- The text of an address is a word.
+use Rattle.std.proofs.Common.{◌≡◌, ◌≢◌, ℕ, ◌<◌, ◌≤◌, ◌+◌, ◌^◌, List, [], ◌∷◌, ◌++◌, length, ap, ◌∙◌, inl, inr, arith, lit≤, length-append}
+use Rattle.std.specs.Prelude.{codes, decimal}
+use Rattle.std.specs.Char.{digit_value}
+use Rattle.std.specs.Str.Parse.{IsNumeral, AllDigits}
+use Rattle.std.proofs.lemmas.Fmt.{decimal_is_IsNumeral}
+use Rattle.str0m_values.specs.declared.address.IpAddr.{IpAddr}
+use Rattle.str0m_values.specs.declared.address.IpAddr.TheVariants.{V4, V6}
+use Rattle.str0m_values.specs.Parts.{Lacks, IsRest, IsWord}
+use Rattle.str0m_values.specs.Joined.{Parted}
+use Rattle.str0m_values.specs.Address.{IsOctet, IsV4Text, IsGroup, IsOneGroup, IsEnd, AreGroups, AreAnyGroups, IsShortened, IsIpText}
+
+pub lacks_both : (c : ℕ) (xs ys : List ℕ) → Lacks c xs → Lacks c ys → Lacks c (xs ++ ys)
+lacks_both c [] ys h k = k
+lacks_both c (x ∷ xs) ys h k = (h.0, lacks_both c xs ys h.1 k)
+
+-- a word, a character other than space, and what lacks spaces
+word_then : (word : List ℕ) (c : ℕ) (rest : List ℕ) → IsWord word → c ≢ 32 → Lacks 32 rest → IsWord (word ++ (c ∷ rest))
+word_then [] c rest h other lacks = absurd (omega (arith, h.0))
+word_then (x ∷ word) c rest h other lacks = (omega arith, lacks_both 32 (x ∷ word) (c ∷ rest) h.1 (other, lacks))
+
+-- digits of a radix lack a character that is none of them
+digits_lack_other : (c radix : ℕ) (digits : List ℕ) → radix ≤ digit_value c → AllDigits radix digits → Lacks c digits
+digits_lack_other c radix [] far h = tt
+digits_lack_other c radix (x ∷ digits) far h = ((λ (e : x ≡ c). let lt : digit_value c < radix = rw (← e) h.0 in absurd (omega arith)), digits_lack_other c radix digits far h.1)
+
+pub numeral_word : (radix : ℕ) (text : List ℕ) → radix ≤ 16 → IsNumeral radix text → IsWord text
+numeral_word radix text low h = (h.0, digits_lack_other 32 radix text (omega arith) h.1)
+
+pub decimal_word : (n : ℕ) → n < 2 ^ 64 → IsWord (decimal n)
+decimal_word n small = numeral_word 10 (decimal n) (lit≤ tt) (decimal_is_IsNumeral n small).0
+
+parted_word : (c : ℕ) (F : List ℕ → ℕ → Type 0) → c ≢ 32 → ((text : List ℕ) (x : ℕ) → F text x → IsWord text) → (text : List ℕ) (xs : List ℕ) → Parted c F text xs → IsWord text
+parted_word c F other word text [] h = absurd h
+parted_word c F other word text (x ∷ []) h = word text x h
+parted_word c F other word text (x ∷ y ∷ ys) h = rw h.2 (word_then h.0 c h.1 (word h.0 x h.3) other (parted_word c F other word h.1 (y ∷ ys) h.4).1)
+
+v4_word : (text octets : List ℕ) → IsV4Text text octets → IsWord text
+v4_word text octets h = parted_word 46 IsOctet (λ e. absurd (omega arith)) (λ t n o. rw o.0 (decimal_word n (omega (arith, o.1)))) text octets h.0
+
+colon : ◌≢◌ {A = ℕ} 58 32
+colon e = absurd (omega arith)
+
+group_word : (text : List ℕ) (n : ℕ) → IsGroup text n → IsWord text
+group_word text n h = numeral_word 16 text (lit≤ tt) h.numeral
+
+one_word : (text groups : List ℕ) → IsOneGroup text groups → IsWord text
+one_word text groups h = group_word text h.0 h.1
+
+end_word : (text groups : List ℕ) → IsEnd text groups → IsWord text
+end_word text groups h = elim h [ inl k ↦ one_word text groups k | inr k ↦ v4_word text k.0 k.1 ]
+
+module _ (Last : List ℕ → List ℕ → Type 0) (last_word : (text groups : List ℕ) → Last text groups → IsWord text) where
+  groups_word : (text groups : List ℕ) → AreGroups Last text groups → IsWord text
+  groups_word text [] h = absurd h
+  groups_word text (n ∷ groups) (inl h) = last_word text (n ∷ groups) h
+  groups_word text (n ∷ groups) (inr h) = rw h.2 (word_then h.0 58 h.1 (group_word h.0 n h.3) colon (groups_word h.1 groups h.4).1)
+
+  any_lacks : (text groups : List ℕ) → AreAnyGroups Last text groups → Lacks 32 text
+  any_lacks text groups h = elim h [ inl k ↦ rw k.0 tt | inr k ↦ (groups_word text groups k).1 ]
+
+short_word : (text groups : List ℕ) → IsShortened text groups → IsWord text
+short_word text groups h =
+    let front = any_lacks IsOneGroup one_word h.front_text h.front h.front_is in
+    let back = any_lacks IsEnd end_word h.back_text h.back h.back_is in
+    let lacks : Lacks 32 text = rw h.joined (lacks_both 32 h.front_text (codes "::" ++ h.back_text) front (colon, (colon, back))) in
+    let len : length text ≡ length h.front_text + length (codes "::" ++ h.back_text) = ap length h.joined ∙ length-append h.front_text (codes "::" ++ h.back_text) in
+    let rest : IsRest text = omega arith in
+    (rest, lacks)
+
+pub ip_word : (text : List ℕ) (a : IpAddr) → IsIpText text a → IsWord text
+ip_word text (V4 octets) h = v4_word text octets h
+ip_word text (V6 groups) h = elim h.0 [ inl all ↦ groups_word IsEnd end_word text groups all | inr short ↦ short_word text groups short ]

@@ -1,0 +1,107 @@
+-- What is printed of a candidate stands for it.
+use Rattle.std.proofs.Common.{◌≡◌, ◌≢◌, ℕ, ◌<◌, ◌≤◌, ◌^◌, List, [], ◌∷◌, ◌++◌, get_or, Option, Some, None, refl, sym, inl, arith, subst, append-nil, append_assoc, lit<}
+use Rattle.std.specs.Prelude.{codes, decimal, IfSome}
+use Rattle.std.specs.Char.{digit_value}
+use Rattle.std.specs.Str.Parse.{IsNumeral, without_leading_plus}
+use Rattle.std.proofs.lemmas.Fmt.{decimal_is_IsNumeral}
+use Rattle.std.proofs.lemmas.Str.Parse.{without_leading_plus_none}
+use Rattle.str0m_values.specs.declared.address.SocketAddr.{SocketAddr}
+use Rattle.str0m_values.specs.declared.candidate.Candidate.{Candidate}
+use Rattle.str0m_values.specs.declared.candidate_kind.CandidateKind.{CandidateKind}
+use Rattle.str0m_values.specs.declared.candidate_kind.CandidateKind.TheVariants.{Host, PeerReflexive, ServerReflexive, Relayed}
+use Rattle.str0m_values.specs.declared.protocol.Protocol.{Protocol}
+use Rattle.str0m_values.specs.declared.protocol.Protocol.TheVariants.{Udp, Tcp, SslTcp, Tls}
+use Rattle.str0m_values.specs.declared.protocol.TcpType.{TcpType}
+use Rattle.str0m_values.specs.declared.protocol.TcpType.TheVariants.{Active, Passive, So}
+use Rattle.str0m_values.specs.Parts.{IsWord, IsNum}
+use Rattle.str0m_values.specs.Labels.{IsSame, IsLabelled, IsOptional, optional_text}
+use Rattle.str0m_values.specs.Address.{ip_text}
+use Rattle.str0m_values.specs.CandidateKind.{kind_text}
+use Rattle.str0m_values.specs.Protocol.{IsProtocolText, IsTcpTypeText, protocol_text, tcp_type_text}
+use Rattle.str0m_values.specs.Candidate.{IsSocket, IsRelated, IsCandidateText, socket_text, related_text, candidate_text, IsSocketInRange, IsPrintable}
+use Rattle.str0m_values.proofs.AddressText.{printed}
+use Rattle.str0m_values.proofs.AddressWords.{decimal_word, ip_word}
+use Rattle.str0m_values.proofs.CutLaws.{lacks_from}
+
+-- ---- numbers and words
+
+no_plus : (digits : List ℕ) → IsNumeral 10 digits → get_or digits 0 0 ≢ 43
+no_plus [] h = absurd (omega (arith, h.0))
+no_plus (x ∷ digits) h = λ (e : x ≡ 43). let lt : digit_value 43 < 10 = subst (λ y. digit_value y < 10) e h.1.0 in absurd (omega arith)
+
+number_text : (limit n : ℕ) → n ≤ limit → limit < 2 ^ 64 → IsNum limit (decimal n) n
+number_text limit n fits small =
+    let numeral = decimal_is_IsNumeral n (omega arith) in
+    let plain : without_leading_plus (decimal n) ≡ decimal n = without_leading_plus_none (decimal n) (no_plus (decimal n) numeral.0) in
+    record { numeral = rw plain numeral.0; value = rw plain numeral.1; fits = fits }
+
+protocol_word : (p : Protocol) → IsWord (protocol_text p) × IsProtocolText (protocol_text p) p
+protocol_word Udp = ((lit< tt, lacks_from 32 (codes "udp") refl), refl)
+protocol_word Tcp = ((lit< tt, lacks_from 32 (codes "tcp") refl), refl)
+protocol_word SslTcp = ((lit< tt, lacks_from 32 (codes "ssltcp") refl), refl)
+protocol_word Tls = ((lit< tt, lacks_from 32 (codes "tls") refl), refl)
+
+tcp_type_word : (t : TcpType) → IsWord (tcp_type_text t) × IsTcpTypeText (tcp_type_text t) t
+tcp_type_word Active = ((lit< tt, lacks_from 32 (codes "active") refl), refl)
+tcp_type_word Passive = ((lit< tt, lacks_from 32 (codes "passive") refl), refl)
+tcp_type_word So = ((lit< tt, lacks_from 32 (codes "so") refl), refl)
+
+kind_word : (k : CandidateKind) → IsWord (kind_text k)
+kind_word Host = (lit< tt, lacks_from 32 (codes "host") refl)
+kind_word PeerReflexive = (lit< tt, lacks_from 32 (codes "prflx") refl)
+kind_word ServerReflexive = (lit< tt, lacks_from 32 (codes "srflx") refl)
+kind_word Relayed = (lit< tt, lacks_from 32 (codes "relay") refl)
+
+-- ---- parts
+
+number_part : (label : List ℕ) (limit n : ℕ) → n ≤ limit → limit < 2 ^ 64 → IsLabelled label (IsNum limit) (label ++ decimal n) n
+number_part label limit n fits small = (decimal n, refl, decimal_word n (omega arith), number_text limit n fits small)
+
+socket_part : (ip_label port_label : List ℕ) (a : SocketAddr) → IsSocketInRange a → IsSocket ip_label port_label (socket_text ip_label port_label a) a
+socket_part ip_label port_label a h =
+    let ip-is = printed a.ip h.0 in (
+      ip_label ++ ip_text a.ip,
+      port_label ++ decimal a.port,
+      sym (append_assoc ip_label (ip_text a.ip) (port_label ++ decimal a.port)),
+      (ip_text a.ip, refl, ip_word (ip_text a.ip) a.ip ip-is, ip-is),
+      number_part port_label 65535 a.port (omega (arith, h.1)) (lit< tt),
+    )
+
+related_part : (o : Option SocketAddr) → IfSome o IsSocketInRange → IsRelated (related_text o) o
+related_part None h = refl
+related_part (Some a) h = socket_part (codes " raddr ") (codes " rport ") a h
+
+tcp_type_part : (o : Option TcpType) → IsOptional (codes " tcptype ") IsTcpTypeText (optional_text (codes " tcptype ") tcp_type_text o) o
+tcp_type_part None = refl
+tcp_type_part (Some t) = (tcp_type_text t, refl, (tcp_type_word t).0, (tcp_type_word t).1)
+
+ufrag_part : (o : Option (List ℕ)) → IfSome o IsWord → IsOptional (codes " ufrag ") IsSame (optional_text (codes " ufrag ") (λ t. t) o) o
+ufrag_part None h = refl
+ufrag_part (Some word) h = (word, refl, h, refl)
+
+pub printed_candidate : (c : Candidate) → IsPrintable c → IsCandidateText (candidate_text c) c
+printed_candidate c h = record {
+  foundation = codes "candidate:" ++ c.foundation;
+  component = codes " " ++ decimal c.component_id;
+  protocol = codes " " ++ protocol_text c.proto;
+  priority = codes " " ++ decimal c.prio;
+  address = socket_text (codes " ") (codes " ") c.addr;
+  kind = codes " typ " ++ kind_text c.kind;
+  related = related_text c.raddr;
+  tcp_type = optional_text (codes " tcptype ") tcp_type_text c.tcptype;
+  generation = [];
+  names = optional_text (codes " ufrag ") (λ t. t) c.ufrag;
+  cost = [];
+  joined = simp (append_assoc, append-nil);
+  foundation_is = (c.foundation, refl, h.foundation, refl);
+  component_is = number_part (codes " ") 65535 c.component_id (omega (arith, h.component_id)) (lit< tt);
+  protocol_is = (protocol_text c.proto, refl, (protocol_word c.proto).0, (protocol_word c.proto).1);
+  priority_is = number_part (codes " ") 4294967295 c.prio (omega (arith, h.prio)) (lit< tt);
+  address_is = socket_part (codes " ") (codes " ") c.addr h.addr;
+  kind_is = (kind_text c.kind, refl, kind_word c.kind, refl);
+  related_is = related_part c.raddr h.raddr;
+  tcp_type_is = tcp_type_part c.tcptype;
+  generation_is = (None, refl);
+  names_are = inl ([], optional_text (codes " ufrag ") (λ t. t) c.ufrag, refl, (None, refl), ufrag_part c.ufrag h.ufrag);
+  cost_is = (None, refl);
+}

@@ -1,0 +1,115 @@
+-- Words behind labels are read both ways.
+use Rattle.std.proofs.Common.{◌≡◌, ◌⊎◌, ℕ, List, [], ◌∷◌, ◌++◌, length, Option, Some, None, refl, sym, ap, ◌∙◌, inl, inr, append-nil, append_assoc}
+use Rattle.std.specs.List.{AllByRecursion}
+use Rattle.std.proofs.lemmas.Bool.{ltb-true}
+use Rattle.str0m_values.specs.Parts.{IsWord}
+use Rattle.str0m_values.specs.Cuts.{◌>>=◌, before, strip, when, is_rest}
+use Rattle.str0m_values.specs.Labels.{IsSame, IsLabelled, IsOptional}
+use Rattle.str0m_values.specs.LabelReading.{word_read, labelled_read, part_read, optional_after, optional_read, value_read}
+use Rattle.str0m_values.proofs.CutLaws.{before_front, before_lacks, strip_at, strip_found}
+use Rattle.str0m_values.proofs.NumLaws.{when_some, rest_true}
+use Rattle.str0m_values.proofs.BothWays.{Reads, some_is}
+
+-- ---- steps
+
+pub bound : {A B C : Type 0} (o : Option A) (f : A → Option B) (y : B) → (o >>= f) ≡ Some y → ((x : A) → o ≡ Some x → f x ≡ Some y → C) → C
+bound None f y e then = absurd cc
+bound (Some x) f y e then = then x refl e
+
+pub bind_is : {A B : Type 0} (o : Option A) (x : A) (f : A → Option B) (y : Option B) → o ≡ Some x → f x ≡ y → (o >>= f) ≡ y
+bind_is o x f y e more = ap (λ p. p >>= f) e ∙ more
+
+-- ---- what may stand behind a part
+
+-- nothing, or text that begins with one of the labels
+abbrev pub Starts : List (List ℕ) → List ℕ → Type 0
+Starts [] text = text ≡ []
+Starts (label ∷ labels) text = ((more : List ℕ) × (text ≡ label ++ more)) ⊎ Starts labels text
+
+-- what holds of nothing and of what begins with a label
+pub starts_all : (P : List ℕ → Type 0) (labels : List (List ℕ)) → P [] → AllByRecursion (λ label. (more : List ℕ) → P (label ++ more)) labels → (text : List ℕ) → Starts labels text → P text
+starts_all P [] none all text s = rw s none
+starts_all P (label ∷ labels) none all text s = elim s [ inl h ↦ rw h.1 (all.0 h.0) | inr h ↦ starts_all P labels none all.1 text h ]
+
+pub starts_optional : {B : Type 0} (F : List ℕ → B → Type 0) (label : List ℕ) (labels : List (List ℕ)) (part rest : List ℕ) (x : Option B) → IsOptional label F part x → Starts labels rest → Starts (label ∷ labels) (part ++ rest)
+starts_optional F label labels part rest None h s = inr (rw h s)
+starts_optional F label labels part rest (Some x) h s = inl (h.0 ++ rest, ap (λ (t : List ℕ). t ++ rest) h.1 ∙ append_assoc label h.0 rest)
+
+-- the word before ends there
+abbrev pub Ends : List ℕ → Type 0
+Ends rest = before 32 rest ≡ []
+
+-- and no part with this label follows
+abbrev pub EndsWithout : List ℕ → List ℕ → Type 0
+EndsWithout label rest = Ends rest × (strip label rest ≡ None)
+
+-- ---- parts
+
+-- p reads a part with its value by F from the front of a text, where Behind holds of what follows
+pub record Front {B : Type 0} (F : List ℕ → B → Type 0) (Behind : List ℕ → Type 0) (p : List ℕ → Option (B × List ℕ)) : Type 0 where
+  pub sound : (text : List ℕ) (x : B × List ℕ) → p text ≡ Some x → (part : List ℕ) × (text ≡ part ++ x.1) × F part x.0
+  pub complete : (part : List ℕ) (x : B) (rest : List ℕ) → F part x → Behind rest → p (part ++ rest) ≡ Some (x, rest)
+
+word_sound : (text : List ℕ) (x : List ℕ × List ℕ) → word_read text ≡ Some x → (text ≡ x.0 ++ x.1) × IsWord x.0
+word_sound text x e =
+    bound (when (is_rest (before 32 text)) (before 32 text)) _ _ e λ word e₁ k.
+    bound (strip word text) _ _ k λ rest e₂ same.
+    let w = when_some (is_rest (before 32 text)) (before 32 text) word e₁ in
+    let whole : IsWord word = rw (← w.1) (ltb-true 0 (length (before 32 text)) w.0, before_lacks 32 text) in
+    rw (← some_is (word, rest) x same) (strip_found word text rest e₂, whole)
+
+word_complete : (word rest : List ℕ) → IsWord word → Ends rest → word_read (word ++ rest) ≡ Some (word, rest)
+word_complete word rest h ends =
+    let front : before 32 (word ++ rest) ≡ word = before_front 32 word rest h.1 ∙ ap (λ (t : List ℕ). word ++ t) ends ∙ append-nil word in
+    rw (front, rest_true word h.0, strip_at word rest) refl
+
+pub labelled_sound : (label text : List ℕ) (x : List ℕ × List ℕ) → labelled_read label text ≡ Some x → (text ≡ (label ++ x.0) ++ x.1) × IsWord x.0
+labelled_sound label text x e =
+    bound (strip label text) _ _ e λ body e₁ k.
+    let word = word_sound body x k in
+    (strip_found label text body e₁ ∙ ap (λ (t : List ℕ). label ++ t) word.0 ∙ sym (append_assoc label x.0 x.1), word.1)
+
+pub labelled_complete : (label word rest : List ℕ) → IsWord word → Ends rest → labelled_read label ((label ++ word) ++ rest) ≡ Some (word, rest)
+labelled_complete label word rest h ends = rw (append_assoc label word rest, strip_at label (word ++ rest)) (word_complete word rest h ends)
+
+pub labelled_front : (label : List ℕ) → Front (IsLabelled label IsSame) Ends (labelled_read label)
+labelled_front label = record {
+  sound = λ text x e. let found = labelled_sound label text x e in (label ++ x.0, found.0, (x.0, refl, found.1, refl));
+  complete = λ part x rest h ends. ap (λ (t : List ℕ). labelled_read label (t ++ rest)) h.1 ∙ labelled_complete label h.0 rest h.2 ends ∙ ap (λ (t : List ℕ). Some (t, rest)) (sym h.3);
+}
+
+pub part_front : {B : Type 0} {F : List ℕ → B → Type 0} {f : List ℕ → Option B} (label : List ℕ) → Reads F f → Front (IsLabelled label F) Ends (part_read label f)
+part_front {f} label reads = record {
+  sound = λ text x e.
+      bound (labelled_read label text) _ _ e λ word e₁ k.
+      bound (f word.0) _ _ k λ y e₂ same.
+      let found = labelled_sound label text word e₁ in
+      rw (← some_is (y, word.1) x same) (label ++ word.0, found.0, (word.0, refl, found.1, reads.sound word.0 y e₂));
+  complete = λ part x rest h ends.
+      ap (λ (t : List ℕ). part_read label f (t ++ rest)) h.1
+      ∙ bind_is _ _ _ _ (labelled_complete label h.0 rest h.2 ends) (bind_is _ _ _ _ (reads.complete h.0 x h.3) refl);
+}
+
+optional_sound : (label text : List ℕ) (x : Option (List ℕ) × List ℕ) (o : Option (List ℕ)) → strip label text ≡ o → optional_after text o ≡ Some x → (part : List ℕ) × (text ≡ part ++ x.1) × IsOptional label IsSame part x.0
+optional_sound label text x None is e = rw (← some_is (None, text) x e) ([], refl, refl)
+optional_sound label text x (Some body) is e =
+    bound (word_read body) _ _ e λ word e₁ same.
+    let found = word_sound body word e₁ in
+    let text-is = strip_found label text body is ∙ ap (λ (t : List ℕ). label ++ t) found.0 ∙ sym (append_assoc label word.0 word.1) in
+    rw (← some_is (Some word.0, word.1) x same) (label ++ word.0, text-is, (word.0, refl, found.1, refl))
+
+optional_complete : (label part : List ℕ) (x : Option (List ℕ)) (rest : List ℕ) → IsOptional label IsSame part x → EndsWithout label rest → optional_read label (part ++ rest) ≡ Some (x, rest)
+optional_complete label part None rest h ends = rw (h, ends.1) refl
+optional_complete label part (Some x) rest h ends =
+    rw (h.1, append_assoc label h.0 rest, strip_at label (h.0 ++ rest))
+    (bind_is _ _ _ _ (word_complete h.0 rest h.2 ends.0) (ap (λ (t : List ℕ). Some (Some t, rest)) (sym h.3)))
+
+pub optional_front : (label : List ℕ) → Front (IsOptional label IsSame) (EndsWithout label) (optional_read label)
+optional_front label = record { sound = λ text x e. optional_sound label text x (strip label text) refl e; complete = optional_complete label }
+
+-- a word and its value
+pub value_sound : {B : Type 0} {F : List ℕ → B → Type 0} {f : List ℕ → Option B} → Reads F f → (label part : List ℕ) (word : Option (List ℕ)) (x : Option B) → IsOptional label IsSame part word → value_read f word ≡ Some x → IsOptional label F part x
+value_sound reads label part None x h e = rw (← some_is None x e) h
+value_sound {f} reads label part (Some word) x h e =
+    bound (f word) _ _ e λ y e₁ same.
+    rw (← some_is (Some y) x same) (h.0, h.1, h.2, reads.sound h.0 y (ap f (sym h.3) ∙ e₁))

@@ -1,0 +1,12 @@
+use Rattle.std.proofs.Common.{◌∙◌, ap}
+use Rattle.str0m_values.specs.AddressReading.{ip_read}
+use Rattle.str0m_values.proofs.OnlyLaws.{only_read}
+use Rattle.str0m_values.proofs.AddressText.{printed}
+use Rattle.str0m_values.proofs.AddressBothWays.{ip_both}
+use Rattle.str0m_values.proofs.address.IpAddr.from_text.Goals as goal
+
+pub returns-clause-read : goal.returns-clause-read
+returns-clause-read c = only_read ip_both c.args.text.now c.parsed.result c.parsed.ensures
+
+pub returns-clause-printed : goal.returns-clause-printed
+returns-clause-printed c = λ a fits is. c.parsed.ensures ∙ ap ip_read is ∙ ip_both.complete _ a (printed a fits)

@@ -1,0 +1,13 @@
+use Rattle.std.proofs.Common.{◌∙◌, ap, sym}
+use Rattle.std.proofs.Output.{has_written_of_eq}
+use Rattle.std.specs.Net.Text.{hex_groups_text}
+use Rattle.std.specs.Net.Addr.{ipv6_segments}
+use Rattle.str0m_values.specs.Address.{ip_text}
+use Rattle.str0m_values.proofs.AddressText.{same_v6}
+use Rattle.str0m_values.proofs.address.IpAddrDisplay.fmt.Goals as goal
+
+pub returns-in-V6-clause-writes : goal.returns-in-V6-clause-writes
+returns-in-V6-clause-writes g c = λ plain ok.
+    let groups = ap ipv6_segments c.hex_groups-groups.ensures ∙ c.from_segments.ensures in
+    let text = ap hex_groups_text groups ∙ same_v6 c.in-V6.groups ∙ ap ip_text (sym c.in-V6.is) in
+    has_written_of_eq _ _ _ _ _ text (c.write-in-V6.ensures.writes plain ok)

@@ -1,0 +1,118 @@
+-- The texts of addresses (RFC 4291 section 2.2), and the one that is printed (RFC 5952 section 4).
+use Rattle.std.specs.Prelude.{◌≡◌, ◌⊎◌, ℕ, ◌+◌, ◌*◌, ◌^◌, ◌<◌, ◌≤◌, ◌==◌, nat_lt, max, List, [], ◌∷◌, ◌++◌, length, take, drop, map, replicate, codes, if◌then◌else◌}
+use Rattle.std.specs.List.{AllByRecursion, prefix_len}
+use Rattle.std.specs.Fmt.{decimal}
+use Rattle.std.specs.Net.Text.{hex}
+use Rattle.std.specs.Str.Parse.{IsNumeral, digits_value}
+use Rattle.str0m_values.specs.declared.address.IpAddr.{IpAddr}
+use Rattle.str0m_values.specs.declared.address.IpAddr.TheVariants.{V4, V6}
+use Rattle.str0m_values.specs.Joined.{Parted, joined}
+
+-- ---- what a text stands for
+
+-- a decimal number up to 255 without leading zeros
+abbrev pub IsOctet : List ℕ → ℕ → Type 0
+IsOctet text n = (text ≡ decimal n) × (n < 2 ^ 8)
+
+-- four of them parted by dots
+abbrev pub IsV4Text : List ℕ → List ℕ → Type 0
+IsV4Text text octets = Parted 46 IsOctet text octets × (length octets ≡ 4)
+
+-- one to four hex digits
+pub record IsGroup (text : List ℕ) (n : ℕ) : Type 0 where
+  pub numeral : IsNumeral 16 text
+  pub value : digits_value 16 text ≡ n
+  pub short : length text ≤ 4
+
+-- one group
+abbrev pub IsOneGroup : List ℕ → List ℕ → Type 0
+IsOneGroup text groups = (n : ℕ) × IsGroup text n × (groups ≡ n ∷ [])
+
+-- each two octets as a group
+abbrev pub pairs : List ℕ → List ℕ
+pairs (a ∷ b ∷ octets) = (a * 256 + b) ∷ pairs octets
+pairs octets = []
+
+-- a V4 address for the last two groups
+abbrev pub IsV4Tail : List ℕ → List ℕ → Type 0
+IsV4Tail text groups = (octets : List ℕ) × IsV4Text text octets × (groups ≡ pairs octets)
+
+-- what ends an address
+abbrev pub IsEnd : List ℕ → List ℕ → Type 0
+IsEnd text groups = IsOneGroup text groups ⊎ IsV4Tail text groups
+
+-- groups parted by colons, the last of them as Last says
+abbrev pub AreGroups : (List ℕ → List ℕ → Type 0) → List ℕ → List ℕ → Type 0
+AreGroups Last text [] = ⊥
+AreGroups Last text (n ∷ groups) =
+    Last text (n ∷ groups)
+    ⊎ ((group : List ℕ) × (rest : List ℕ) × (text ≡ group ++ (codes ":" ++ rest)) × IsGroup group n × AreGroups Last rest groups)
+
+-- the same, or nothing
+abbrev pub AreAnyGroups : (List ℕ → List ℕ → Type 0) → List ℕ → List ℕ → Type 0
+AreAnyGroups Last text groups = ((text ≡ []) × (groups ≡ [])) ⊎ AreGroups Last text groups
+
+-- `::` in place of one or more groups, which are zero
+pub record IsShortened (text groups : List ℕ) : Type 0 where
+  pub front_text : List ℕ
+  pub back_text : List ℕ
+  pub front : List ℕ
+  pub back : List ℕ
+  pub zeros : ℕ
+  pub joined : text ≡ front_text ++ (codes "::" ++ back_text)
+  pub front_is : AreAnyGroups IsOneGroup front_text front
+  pub back_is : AreAnyGroups IsEnd back_text back
+  pub some : 0 < zeros
+  pub groups_are : groups ≡ front ++ (replicate zeros 0 ++ back)
+
+abbrev pub IsV6Text : List ℕ → List ℕ → Type 0
+IsV6Text text groups = (AreGroups IsEnd text groups ⊎ IsShortened text groups) × (length groups ≡ 8)
+
+-- the text stands for the address
+abbrev pub IsIpText : List ℕ → IpAddr → Type 0
+IsIpText text (V4 octets) = IsV4Text text octets
+IsIpText text (V6 groups) = IsV6Text text groups
+
+-- ---- what is printed
+
+-- octets in decimal
+abbrev pub v4_text : List ℕ → List ℕ
+v4_text octets = joined 46 (map decimal octets)
+
+-- groups in lower-case hex without leading zeros
+abbrev pub groups_text : List ℕ → List ℕ
+groups_text groups = joined 58 (map hex groups)
+
+-- how many zero groups stand at the front
+abbrev pub zeros_at_front : List ℕ → ℕ
+zeros_at_front groups = prefix_len (λ n. n == 0) groups
+
+-- the length of the longest run of zero groups
+abbrev pub longest_run : List ℕ → ℕ
+longest_run [] = 0
+longest_run (n ∷ groups) = max (zeros_at_front (n ∷ groups)) (longest_run groups)
+
+-- the first place from which so many zero groups stand
+abbrev pub first_run : ℕ → List ℕ → ℕ
+first_run len [] = 0
+first_run len (n ∷ groups) = if zeros_at_front (n ∷ groups) == len then 0 else first_run len groups + 1
+
+-- `::` in place of len groups from start on
+abbrev pub shortened : ℕ → ℕ → List ℕ → List ℕ
+shortened start len groups = groups_text (take start groups) ++ (codes "::" ++ groups_text (drop (start + len) groups))
+
+-- groups with `::` in place of the longest run of two or more zero groups, and of such runs the first
+unfoldable pub v6_text : List ℕ → List ℕ
+v6_text groups =
+    let len = longest_run groups in
+    if nat_lt 1 len then shortened (first_run len groups) len groups else groups_text groups
+
+-- what is printed of an address
+abbrev pub ip_text : IpAddr → List ℕ
+ip_text (V4 octets) = v4_text octets
+ip_text (V6 groups) = v6_text groups
+
+-- what the types keep: four octets, or eight groups of 16 bits
+abbrev pub IsInRange : IpAddr → Type 0
+IsInRange (V4 octets) = (length octets ≡ 4) × AllByRecursion (λ n. n < 2 ^ 8) octets
+IsInRange (V6 groups) = (length groups ≡ 8) × AllByRecursion (λ n. n < 2 ^ 16) groups

@@ -1,0 +1,87 @@
+-- The text of a candidate, which stands behind `a=` (RFC 8839 section 5.1; for tcptype RFC 6544 section 4.5).
+use Rattle.std.specs.Prelude.{◌≡◌, ◌⊎◌, ◌<◌, ◌^◌, IfSome, ℕ, List, [], ◌++◌, Option, Some, None, codes}
+use Rattle.std.specs.Fmt.{decimal}
+use Rattle.str0m_values.specs.declared.address.SocketAddr.{SocketAddr}
+use Rattle.str0m_values.specs.declared.candidate.Candidate.{Candidate}
+use Rattle.str0m_values.specs.Parts.{IsWord, IsNum}
+use Rattle.str0m_values.specs.Labels.{IsSame, IsLabelled, IsOptional, IsLeftOut, optional_text}
+use Rattle.str0m_values.specs.Address.{IsIpText, IsInRange, ip_text}
+use Rattle.str0m_values.specs.CandidateKind.{IsKindText, kind_text}
+use Rattle.str0m_values.specs.Protocol.{IsProtocolText, IsTcpTypeText, protocol_text, tcp_type_text}
+
+-- ---- what a text stands for
+
+-- a word that is an address and a word that is a port, each behind its label
+abbrev pub IsSocket : List ℕ → List ℕ → List ℕ → SocketAddr → Type 0
+IsSocket ip_label port_label text addr =
+    (ip : List ℕ) × (port : List ℕ) × (text ≡ ip ++ port) × IsLabelled ip_label IsIpText ip addr.ip × IsLabelled port_label (IsNum 65535) port addr.port
+
+-- nothing, or ` raddr ` address ` rport ` port
+abbrev pub IsRelated : List ℕ → Option SocketAddr → Type 0
+IsRelated text None = text ≡ []
+IsRelated text (Some addr) = IsSocket (codes " raddr ") (codes " rport ") text addr
+
+-- a network's id and a name fragment, each of them or not; where both stand, in any order
+abbrev pub AreNames : List ℕ → Option (List ℕ) → Type 0
+AreNames text ufrag =
+    ((network : List ℕ) × (name : List ℕ) × (text ≡ network ++ name) × IsLeftOut (codes " network-id ") network × IsOptional (codes " ufrag ") IsSame name ufrag)
+    ⊎ ((name : List ℕ) × (network : List ℕ) × (word : List ℕ) × (fragment : List ℕ) × (text ≡ name ++ network)
+    × IsLabelled (codes " ufrag ") IsSame name fragment × IsLabelled (codes " network-id ") IsSame network word × (ufrag ≡ Some fragment))
+
+-- the text stands for the candidate: seven parts, and then each of the others or not, in this order
+pub record IsCandidateText (text : List ℕ) (c : Candidate) : Type 0 where
+  pub foundation : List ℕ
+  pub component : List ℕ
+  pub protocol : List ℕ
+  pub priority : List ℕ
+  pub address : List ℕ
+  pub kind : List ℕ
+  pub related : List ℕ
+  pub tcp_type : List ℕ
+  pub generation : List ℕ
+  pub names : List ℕ
+  pub cost : List ℕ
+  pub joined : text ≡ foundation ++ (component ++ (protocol ++ (priority ++ (address ++ (kind ++ (related ++ (tcp_type ++ (generation ++ (names ++ cost)))))))))
+  pub foundation_is : IsLabelled (codes "candidate:") IsSame foundation c.foundation
+  pub component_is : IsLabelled (codes " ") (IsNum 65535) component c.component_id
+  pub protocol_is : IsLabelled (codes " ") IsProtocolText protocol c.proto
+  pub priority_is : IsLabelled (codes " ") (IsNum 4294967295) priority c.prio
+  pub address_is : IsSocket (codes " ") (codes " ") address c.addr
+  pub kind_is : IsLabelled (codes " typ ") IsKindText kind c.kind
+  pub related_is : IsRelated related c.raddr
+  pub tcp_type_is : IsOptional (codes " tcptype ") IsTcpTypeText tcp_type c.tcptype
+  pub generation_is : IsLeftOut (codes " generation ") generation
+  pub names_are : AreNames names c.ufrag
+  pub cost_is : IsLeftOut (codes " network-cost ") cost
+
+-- ---- what is printed
+
+-- an address and a port, each behind its label
+abbrev pub socket_text : List ℕ → List ℕ → SocketAddr → List ℕ
+socket_text ip_label port_label addr = ip_label ++ (ip_text addr.ip ++ (port_label ++ decimal addr.port))
+
+abbrev pub related_text : Option SocketAddr → List ℕ
+related_text None = []
+related_text (Some addr) = socket_text (codes " raddr ") (codes " rport ") addr
+
+-- the parts that stand behind the kind
+abbrev pub extras_text : Candidate → List ℕ
+extras_text c = related_text c.raddr ++ (optional_text (codes " tcptype ") tcp_type_text c.tcptype ++ optional_text (codes " ufrag ") (λ t. t) c.ufrag)
+
+abbrev pub candidate_text : Candidate → List ℕ
+candidate_text c =
+    codes "candidate:" ++ (c.foundation ++ (codes " " ++ (decimal c.component_id ++ (codes " " ++ (protocol_text c.proto ++ (codes " " ++ (decimal c.prio
+    ++ (socket_text (codes " ") (codes " ") c.addr ++ (codes " typ " ++ (kind_text c.kind ++ extras_text c))))))))))
+
+-- what its types keep
+abbrev pub IsSocketInRange : SocketAddr → Type 0
+IsSocketInRange addr = IsInRange addr.ip × (addr.port < 2 ^ 16)
+
+-- a candidate whose numbers keep to their types and whose texts are words
+pub record IsPrintable (c : Candidate) : Type 0 where
+  pub foundation : IsWord c.foundation
+  pub component_id : c.component_id < 2 ^ 16
+  pub prio : c.prio < 2 ^ 32
+  pub addr : IsSocketInRange c.addr
+  pub raddr : IfSome c.raddr IsSocketInRange
+  pub ufrag : IfSome c.ufrag IsWord

@@ -1,0 +1,93 @@
+-- Reading of a candidate's text as functions. The relations are in Candidate.
+use Rattle.std.specs.Prelude.{ℕ, List, Option, Some, None, ◌||◌, is_some, is_none, if◌then◌else◌, codes}
+use Rattle.std.specs.Str.{bytes_eq, str_to_ascii_lowercase}
+use Rattle.str0m_values.specs.declared.protocol.Protocol.{Protocol}
+use Rattle.str0m_values.specs.declared.protocol.Protocol.TheVariants.{Udp, Tcp, SslTcp, Tls}
+use Rattle.str0m_values.specs.declared.protocol.TcpType.{TcpType}
+use Rattle.str0m_values.specs.declared.protocol.TcpType.TheVariants.{Active, Passive, So}
+use Rattle.str0m_values.specs.declared.candidate_kind.CandidateKind.{CandidateKind}
+use Rattle.str0m_values.specs.declared.candidate_kind.CandidateKind.TheVariants.{Host, PeerReflexive, ServerReflexive, Relayed}
+use Rattle.str0m_values.specs.declared.address.SocketAddr.{SocketAddr}
+use Rattle.str0m_values.specs.declared.candidate.Candidate.{Candidate}
+use Rattle.str0m_values.specs.Cuts.{◌>>=◌, ◌<|>◌, strip, when, is_rest, num}
+use Rattle.str0m_values.specs.LabelReading.{labelled_read, part_read, optional_read, value_read}
+use Rattle.str0m_values.specs.AddressReading.{ip_read}
+
+-- the protocol whose word this is
+abbrev pub protocol_of : List ℕ → Option Protocol
+protocol_of word =
+    when (bytes_eq word (codes "udp")) Udp
+    <|> when (bytes_eq word (codes "tcp")) Tcp
+    <|> when (bytes_eq word (codes "ssltcp")) SslTcp
+    <|> when (bytes_eq word (codes "tls")) Tls
+
+abbrev pub protocol_read : List ℕ → Option Protocol
+protocol_read word = protocol_of (str_to_ascii_lowercase word)
+
+abbrev pub tcp_type_of : List ℕ → Option TcpType
+tcp_type_of word =
+    when (bytes_eq word (codes "active")) Active
+    <|> when (bytes_eq word (codes "passive")) Passive
+    <|> when (bytes_eq word (codes "so")) So
+
+abbrev pub tcp_type_read : List ℕ → Option TcpType
+tcp_type_read word = tcp_type_of (str_to_ascii_lowercase word)
+
+abbrev pub kind_read : List ℕ → Option CandidateKind
+kind_read word =
+    when (bytes_eq word (codes "host")) Host
+    <|> when (bytes_eq word (codes "prflx")) PeerReflexive
+    <|> when (bytes_eq word (codes "srflx")) ServerReflexive
+    <|> when (bytes_eq word (codes "relay")) Relayed
+
+-- an address and a port, each behind its label, and what stands behind them
+abbrev pub socket_read : List ℕ → List ℕ → List ℕ → Option (SocketAddr × List ℕ)
+socket_read ip_label port_label text = do
+  ip ← part_read ip_label ip_read text
+  port ← part_read port_label (num 65535) ip.1
+  Some (record { ip = ip.0; port = port.0 }, port.1)
+
+abbrev pub related_read : List ℕ → Option (Option SocketAddr × List ℕ)
+related_read text =
+    if is_some (strip (codes " raddr ") text)
+    then (socket_read (codes " raddr ") (codes " rport ") text >>= λ addr. Some (Some addr.0, addr.1))
+    else Some (None, text)
+
+abbrev pub tcp_part_read : List ℕ → Option (Option TcpType × List ℕ)
+tcp_part_read text = do
+  word ← optional_read (codes " tcptype ") text
+  tcp_type ← value_read tcp_type_read word.0
+  Some (tcp_type, word.1)
+
+-- a network's id is looked for behind the name fragment where none stood before it
+abbrev pub names_read : List ℕ → Option (Option (List ℕ) × List ℕ)
+names_read text = do
+  network ← optional_read (codes " network-id ") text
+  name ← optional_read (codes " ufrag ") network.1
+  if is_some network.0 || is_none name.0 then Some name
+      else (optional_read (codes " network-id ") name.1 >>= λ behind. Some (name.0, behind.1))
+
+abbrev pub candidate_read : List ℕ → Option Candidate
+candidate_read text = do
+  foundation ← labelled_read (codes "candidate:") text
+  component ← part_read (codes " ") (num 65535) foundation.1
+  protocol ← part_read (codes " ") protocol_read component.1
+  priority ← part_read (codes " ") (num 4294967295) protocol.1
+  address ← socket_read (codes " ") (codes " ") priority.1
+  kind ← part_read (codes " typ ") kind_read address.1
+  related ← related_read kind.1
+  tcp_type ← tcp_part_read related.1
+  generation ← optional_read (codes " generation ") tcp_type.1
+  names ← names_read generation.1
+  cost ← optional_read (codes " network-cost ") names.1
+  if is_rest cost.1 then None else Some (record {
+    foundation = foundation.0;
+    component_id = component.0;
+    proto = protocol.0;
+    prio = priority.0;
+    addr = address.0;
+    kind = kind.0;
+    raddr = related.0;
+    tcptype = tcp_type.0;
+    ufrag = names.0;
+  })

@@ -1,0 +1,34 @@
+-- Reading of words behind labels as functions. The relations are in Labels.
+use Rattle.std.specs.Prelude.{List, ℕ, Option, Some, None}
+use Rattle.str0m_values.specs.Cuts.{◌>>=◌, before, strip, when, is_rest}
+
+-- the word at the front, and what stands behind it
+abbrev pub word_read : List ℕ → Option (List ℕ × List ℕ)
+word_read text = do
+  word ← when (is_rest (before 32 text)) (before 32 text)
+  rest ← strip word text
+  Some (word, rest)
+
+-- the word behind a label, and what stands behind it
+abbrev pub labelled_read : List ℕ → List ℕ → Option (List ℕ × List ℕ)
+labelled_read label text = strip label text >>= word_read
+
+-- the same with the word's value
+abbrev pub part_read : {B : Type 0} → List ℕ → (List ℕ → Option B) → List ℕ → Option (B × List ℕ)
+part_read label f text = do
+  word ← labelled_read label text
+  x ← f word.0
+  Some (x, word.1)
+
+-- the word where the label stands, else nothing, and what stands behind it
+abbrev pub optional_after : List ℕ → Option (List ℕ) → Option (Option (List ℕ) × List ℕ)
+optional_after text None = Some (None, text)
+optional_after text (Some body) = word_read body >>= λ word. Some (Some word.0, word.1)
+
+abbrev pub optional_read : List ℕ → List ℕ → Option (Option (List ℕ) × List ℕ)
+optional_read label text = optional_after text (strip label text)
+
+-- the value of a word that is there
+abbrev pub value_read : {B : Type 0} → (List ℕ → Option B) → Option (List ℕ) → Option (Option B)
+value_read f None = Some None
+value_read f (Some word) = f word >>= λ x. Some (Some x)

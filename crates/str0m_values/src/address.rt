@@ -1,0 +1,79 @@
+//! IP addresses.
+ghost use Rattle.std.specs.Prelude.{◌≡◌, Some};
+ghost use Rattle.str0m_values.specs.Only.{IsTheOnly};
+
+use std::{fmt, net};
+
+/// An IP address: the four octets of a V4 address, or the eight groups of 16 bits of a V6 address,
+/// in the order in which they are written.
+#[derive(Clone, Copy, Debug, PartialEq, Eq, Hash)]
+pub enum IpAddr {
+    V4([u8; 4]),
+    V6([u16; 8]),
+}
+
+impl IpAddr {
+    ghost use Rattle.str0m_values.specs.Address.{IsIpText, IsInRange, ip_text};
+    ghost use Rattle.str0m_values.specs.AddressReading.{own_address, ip_read};
+
+    fn from_net(address: net::IpAddr) -> IpAddr
+        ensures { result ≡ own_address address }
+    {
+        match address {
+            net::IpAddr::V4(address) => IpAddr::V4(address.octets()),
+            net::IpAddr::V6(address) => IpAddr::V6(address.segments()),
+        }
+    }
+
+    /// The address that a text stands for, as the readers of lines compute it.
+    pub(crate) fn parsed(text: &str) -> Option<IpAddr>
+        ensures { result ≡ ip_read text.now }
+    {
+        match text.parse::<net::IpAddr>() {
+            Ok(address) => Some(IpAddr::from_net(address)),
+            Err(_) => None,
+        }
+    }
+
+    /// The address that a text stands for; `None` where it stands for none.
+    ///
+    /// A V4 text is four decimal numbers from 0 to 255, without leading zeros, parted by dots. A V6
+    /// text is eight groups of one to four hex digits of either case, parted by colons. `::` may
+    /// stand once, in place of one or more groups, and the last two groups may be a V4 text
+    /// (RFC 4291, section 2.2).
+    pub fn from_text(text: &str) -> Option<IpAddr>
+        ensures read { IsTheOnly (IsIpText text.now) result }
+        ensures printed { (a : IpAddr) → IsInRange a → text.now ≡ ip_text a → result ≡ Some a }
+    {
+        IpAddr::parsed(text)
+    }
+}
+
+/// V4: the octets in decimal, parted by dots. V6: the groups in lower-case hex without leading
+/// zeros, parted by colons, with `::` in place of the first longest run of two or more zero groups
+/// (RFC 5952, section 4). A V6 address never ends in dots and decimals.
+impl fmt::Display for IpAddr {
+    ghost use Rattle.str0m_values.specs.Address.{ip_text};
+
+    ghost output = { λ a. Some (ip_text a) };
+
+    fn fmt<W: fmt::Write>(&self, f: &mut fmt::Formatter<W>) -> fmt::Result {
+        match *self {
+            IpAddr::V4(octets) => {
+                let address = net::Ipv4Addr::from_octets(octets);
+                write!(f, "{address}")
+            }
+            IpAddr::V6(groups) => {
+                let groups = net::Ipv6Addr::from_segments(groups).hex_groups();
+                write!(f, "{groups}")
+            }
+        }
+    }
+}
+
+/// An IP address and a port.
+#[derive(Clone, Copy, Debug, PartialEq, Eq, Hash)]
+pub struct SocketAddr {
+    pub ip: IpAddr,
+    pub port: u16,
+}

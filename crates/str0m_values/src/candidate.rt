@@ -1,0 +1,180 @@
+//! Candidates.
+ghost use Rattle.std.specs.Prelude.{◌≡◌, IfOk, Some, option_map};
+ghost use Rattle.std.specs.String.{string_bytes};
+ghost use Rattle.std.specs.Str.{IsUtf8};
+
+use crate::address::SocketAddr;
+use crate::candidate_kind::CandidateKind;
+use crate::protocol::{Protocol, TcpType};
+use crate::text::Text;
+use std::alloc::{AllocError, Global};
+use std::fmt;
+
+/// An address at which a peer may be reached (RFC 8445, section 5.1; RFC 8839, section 5.1). It is a
+/// record: any values can be held, also texts that would not read back.
+#[derive(Clone, Debug, PartialEq, Eq, Hash, Drop)]
+pub struct Candidate {
+    pub(crate) foundation: Text,
+    pub(crate) component_id: u16,
+    pub(crate) proto: Protocol,
+    pub(crate) prio: u32,
+    pub(crate) addr: SocketAddr,
+    pub(crate) kind: CandidateKind,
+    pub(crate) raddr: Option<SocketAddr>,
+    pub(crate) tcptype: Option<TcpType>,
+    pub(crate) ufrag: Option<Text>,
+}
+
+impl Candidate {
+    ghost use Rattle.str0m_values.specs.Candidate.{candidate_text};
+
+    /// The candidate of its nine parts. Takes no memory.
+    pub fn from_parts(
+        foundation: Text,
+        component_id: u16,
+        proto: Protocol,
+        prio: u32,
+        addr: SocketAddr,
+        kind: CandidateKind,
+        raddr: Option<SocketAddr>,
+        tcptype: Option<TcpType>,
+        ufrag: Option<Text>,
+    ) -> Candidate
+        ensures { result ≡ record {
+          foundation = foundation;
+          component_id = component_id;
+          proto = proto;
+          prio = prio;
+          addr = addr;
+          kind = kind;
+          raddr = raddr;
+          tcptype = tcptype;
+          ufrag = ufrag;
+        } }
+    {
+        Candidate {
+            foundation,
+            component_id,
+            proto,
+            prio,
+            addr,
+            kind,
+            raddr,
+            tcptype,
+            ufrag,
+        }
+    }
+
+    /// What candidates have in common that were found in one way from one address.
+    pub fn foundation(&self) -> &str
+        ensures value { result.now ≡ self.now.foundation }
+        ensures utf8 { IsUtf8 self.now.foundation }
+    {
+        self.foundation.as_str()
+    }
+
+    /// 1 for RTP, 2 for RTCP.
+    pub fn component_id(&self) -> u16
+        ensures { result ≡ self.now.component_id }
+    {
+        self.component_id
+    }
+
+    pub fn proto(&self) -> Protocol
+        ensures { result ≡ self.now.proto }
+    {
+        self.proto
+    }
+
+    /// The priority; the greater is tried first.
+    pub fn prio(&self) -> u32
+        ensures { result ≡ self.now.prio }
+    {
+        self.prio
+    }
+
+    pub fn addr(&self) -> SocketAddr
+        ensures { result ≡ self.now.addr }
+    {
+        self.addr
+    }
+
+    pub fn kind(&self) -> CandidateKind
+        ensures { result ≡ self.now.kind }
+    {
+        self.kind
+    }
+
+    /// The related address: the host's own behind a reflexive or a relayed one.
+    pub fn raddr(&self) -> Option<SocketAddr>
+        ensures { result ≡ self.now.raddr }
+    {
+        self.raddr
+    }
+
+    /// How a connection is opened, for candidates on TCP.
+    pub fn tcptype(&self) -> Option<TcpType>
+        ensures { result ≡ self.now.tcptype }
+    {
+        self.tcptype
+    }
+
+    /// The name fragment of the agent that the candidate belongs to.
+    pub fn ufrag(&self) -> Option<&str>
+        ensures { option_map (λ u. u.now) result ≡ self.now.ufrag }
+    {
+        match &self.ufrag {
+            Some(ufrag) => Some(ufrag.as_str()),
+            None => None,
+        }
+    }
+
+    /// The text of its line, without `a=` and a line's end: `candidate:` and its parts. Generation,
+    /// network's id and network's cost, which it doesn't hold, are left out.
+    pub fn to_sdp_string(&self, alloc: Global) -> Result<String, AllocError>
+        ensures { IfOk result (λ text. string_bytes text ≡ candidate_text self.now) }
+    {
+        self.to_string(alloc)
+    }
+
+    /// A copy, which equals its source.
+    pub fn clone(&self) -> Result<Candidate, AllocError>
+        ensures { IfOk result (λ c. c ≡ self.now) }
+    {
+        Clone::clone(self)
+    }
+}
+
+/// The text of `to_sdp_string`.
+impl fmt::Display for Candidate {
+    ghost use Rattle.str0m_values.specs.Candidate.{candidate_text};
+
+    ghost output = { λ c. Some (candidate_text c) };
+
+    fn fmt<W: fmt::Write>(&self, f: &mut fmt::Formatter<W>) -> fmt::Result {
+        let Candidate {
+            foundation,
+            component_id,
+            proto,
+            prio,
+            addr,
+            kind,
+            ..
+        } = self;
+        let SocketAddr { ip, port } = addr;
+        write!(
+            f,
+            "candidate:{foundation} {component_id} {proto} {prio} {ip} {port} typ {kind}"
+        )?;
+        if let Some(SocketAddr { ip, port }) = self.raddr {
+            write!(f, " raddr {ip} rport {port}")?;
+        }
+        if let Some(tcptype) = self.tcptype {
+            write!(f, " tcptype {tcptype}")?;
+        }
+        if let Some(ufrag) = &self.ufrag {
+            write!(f, " ufrag {ufrag}")?;
+        }
+        Ok(())
+    }
+}

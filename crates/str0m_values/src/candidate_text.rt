@@ -1,0 +1,177 @@
+//! The text of a candidate, for the readers of lines.
+ghost use Rattle.std.specs.Prelude.{◌≡◌, IfOk, Some, option_map, codes};
+ghost use Rattle.str0m_values.specs.declared.candidate.Candidate.{Candidate};
+ghost use Rattle.str0m_values.specs.Only.{IsTheOnly};
+ghost use Rattle.str0m_values.specs.Cuts.{num};
+ghost use Rattle.str0m_values.specs.LabelReading.{part_read};
+ghost use Rattle.str0m_values.specs.Candidate.{IsCandidateText, IsPrintable, candidate_text};
+ghost use Rattle.str0m_values.specs.Found.{seen};
+ghost use Rattle.str0m_values.specs.CandidateReading.{protocol_read, kind_read, socket_read, related_read, tcp_part_read, names_read, candidate_read};
+
+use crate::address::{IpAddr, SocketAddr};
+use crate::candidate::Candidate;
+use crate::candidate_kind::CandidateKind;
+use crate::cuts::{num_u16, num_u32, strip};
+use crate::labels::{labelled, optional};
+use crate::protocol::{Protocol, TcpType};
+use crate::text::Text;
+use std::alloc::{AllocError, Global};
+
+/// A candidate whose texts still lie in the text that was read.
+#[derive(Clone, Copy)]
+struct Found<'a> {
+    foundation: &'a str,
+    component_id: u16,
+    proto: Protocol,
+    prio: u32,
+    addr: SocketAddr,
+    kind: CandidateKind,
+    raddr: Option<SocketAddr>,
+    tcptype: Option<TcpType>,
+    ufrag: Option<&'a str>,
+}
+
+fn component(text: &str) -> Option<(u16, &str)>
+    ensures { option_map (λ x. (x.0, x.1.now)) result ≡ part_read (codes " ") (num 65535) text.now }
+{
+    let (word, rest) = labelled(text, " ")?;
+    Some((num_u16(word)?, rest))
+}
+
+fn protocol(text: &str) -> Option<(Protocol, &str)>
+    ensures { option_map (λ x. (x.0, x.1.now)) result ≡ part_read (codes " ") protocol_read text.now }
+{
+    let (word, rest) = labelled(text, " ")?;
+    Some((Protocol::from_word(word)?, rest))
+}
+
+fn priority(text: &str) -> Option<(u32, &str)>
+    ensures { option_map (λ x. (x.0, x.1.now)) result ≡ part_read (codes " ") (num 4294967295) text.now }
+{
+    let (word, rest) = labelled(text, " ")?;
+    Some((num_u32(word)?, rest))
+}
+
+/// An address and a port, each behind its label.
+fn socket<'a>(text: &'a str, ip_label: &str, port_label: &str) -> Option<(SocketAddr, &'a str)>
+    ensures { option_map (λ x. (x.0, x.1.now)) result ≡ socket_read ip_label.now port_label.now text.now }
+{
+    let (word, rest) = labelled(text, ip_label)?;
+    let ip = IpAddr::parsed(word)?;
+    let (word, rest) = labelled(rest, port_label)?;
+    let port = num_u16(word)?;
+    Some((SocketAddr { ip, port }, rest))
+}
+
+fn kind(text: &str) -> Option<(CandidateKind, &str)>
+    ensures { option_map (λ x. (x.0, x.1.now)) result ≡ part_read (codes " typ ") kind_read text.now }
+{
+    let (word, rest) = labelled(text, " typ ")?;
+    Some((CandidateKind::from_word(word)?, rest))
+}
+
+fn related(text: &str) -> Option<(Option<SocketAddr>, &str)>
+    ensures { option_map (λ x. (x.0, x.1.now)) result ≡ related_read text.now }
+{
+    if strip(text, " raddr ").is_some() {
+        let (addr, rest) = socket(text, " raddr ", " rport ")?;
+        Some((Some(addr), rest))
+    } else {
+        Some((None, text))
+    }
+}
+
+fn tcp_type(text: &str) -> Option<(Option<TcpType>, &str)>
+    ensures { option_map (λ x. (x.0, x.1.now)) result ≡ tcp_part_read text.now }
+{
+    let (word, rest) = optional(text, " tcptype ")?;
+    match word {
+        None => Some((None, rest)),
+        Some(word) => Some((Some(TcpType::from_word(word)?), rest)),
+    }
+}
+
+/// The name fragment; a network's id may stand on either side of it, and on one alone.
+fn names(text: &str) -> Option<(Option<&str>, &str)>
+    ensures { option_map (λ x. (option_map (λ w. w.now) x.0, x.1.now)) result ≡ names_read text.now }
+{
+    let (network, rest) = optional(text, " network-id ")?;
+    let (ufrag, rest) = optional(rest, " ufrag ")?;
+    if network.is_some() || ufrag.is_none() {
+        return Some((ufrag, rest));
+    }
+    let (_, rest) = optional(rest, " network-id ")?;
+    Some((ufrag, rest))
+}
+
+/// The candidate of a text, without a copy of its texts.
+fn find(text: &str) -> Option<Found<'_>>
+    ensures { option_map seen result ≡ candidate_read text.now }
+{
+    let (foundation, rest) = labelled(text, "candidate:")?;
+    let (component_id, rest) = component(rest)?;
+    let (proto, rest) = protocol(rest)?;
+    let (prio, rest) = priority(rest)?;
+    let (addr, rest) = socket(rest, " ", " ")?;
+    let (kind, rest) = kind(rest)?;
+    let (raddr, rest) = related(rest)?;
+    let (tcptype, rest) = tcp_type(rest)?;
+    let (_, rest) = optional(rest, " generation ")?;
+    let (ufrag, rest) = names(rest)?;
+    let (_, rest) = optional(rest, " network-cost ")?;
+    if !rest.is_empty() {
+        return None;
+    }
+    Some(Found {
+        foundation,
+        component_id,
+        proto,
+        prio,
+        addr,
+        kind,
+        raddr,
+        tcptype,
+        ufrag,
+    })
+}
+
+/// The candidate of a text, with copies of the texts that it keeps.
+fn keep(alloc: Global, text: &str) -> Result<Option<Candidate>, AllocError>
+    ensures { IfOk result (λ found. found ≡ candidate_read text.now) }
+{
+    let Some(found) = find(text) else {
+        return Ok(None);
+    };
+    let foundation = Text::from_str(alloc, found.foundation)?;
+    let ufrag = match found.ufrag {
+        Some(ufrag) => Some(Text::from_str(alloc, ufrag)?),
+        None => None,
+    };
+    Ok(Some(Candidate {
+        foundation,
+        component_id: found.component_id,
+        proto: found.proto,
+        prio: found.prio,
+        addr: found.addr,
+        kind: found.kind,
+        raddr: found.raddr,
+        tcptype: found.tcptype,
+        ufrag,
+    }))
+}
+
+/// The candidate of the text that follows `a=` in its line, without the line's end; `None` where the
+/// text, as a whole, has another form (RFC 8839, section 5.1).
+///
+/// The text begins with `candidate:`. Words for the protocol and the TCP type are read without
+/// regard to ASCII case. Memory is asked for only where there is a candidate, for the texts that it
+/// keeps; without it the call is refused.
+pub fn candidate(alloc: Global, text: &str) -> Result<Option<Candidate>, AllocError>
+    ensures read { IfOk result (IsTheOnly (IsCandidateText text.now)) }
+    ensures printed { (c : Candidate) → IsPrintable c → text.now ≡ candidate_text c → IfOk result (λ found. found ≡ Some c) }
+
+    // As the readers of lines compute it.
+    ensures computed { IfOk result (λ found. found ≡ candidate_read text.now) }
+{
+    keep(alloc, text)
+}

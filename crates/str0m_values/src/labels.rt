@@ -1,0 +1,41 @@
+//! Words behind labels.
+ghost use Rattle.std.specs.Prelude.{◌≡◌, option_map};
+ghost use Rattle.str0m_values.specs.Cuts.{parts};
+ghost use Rattle.str0m_values.specs.LabelReading.{word_read, labelled_read, optional_read};
+
+use crate::cuts::{cut, strip};
+
+/// The word at the front of a text, and what stands behind it.
+pub(crate) fn word(text: &str) -> Option<(&str, &str)>
+    ensures { parts result ≡ word_read text.now }
+{
+    let word = match cut(text, ' ') {
+        Some((word, _)) => word,
+        None => text,
+    };
+    if word.is_empty() {
+        return None;
+    }
+    let rest = strip(text, word)?;
+    Some((word, rest))
+}
+
+/// The word behind a label, and what stands behind it.
+pub(crate) fn labelled<'a>(text: &'a str, label: &str) -> Option<(&'a str, &'a str)>
+    ensures { parts result ≡ labelled_read label.now text.now }
+{
+    word(strip(text, label)?)
+}
+
+/// The word behind a label, or nothing where the label doesn't stand, and what stands behind it.
+pub(crate) fn optional<'a>(text: &'a str, label: &str) -> Option<(Option<&'a str>, &'a str)>
+    ensures { option_map (λ x. (option_map (λ w. w.now) x.0, x.1.now)) result ≡ optional_read label.now text.now }
+{
+    match strip(text, label) {
+        None => Some((None, text)),
+        Some(body) => {
+            let (word, rest) = word(body)?;
+            Some((Some(word), rest))
+        }
+    }
+}

@@ -1,0 +1,92 @@
+//! The transports that carry a candidate.
+ghost use Rattle.std.specs.Prelude.{◌≡◌, Some};
+ghost use Rattle.str0m_values.specs.Protocol.{protocol_text, tcp_type_text};
+ghost use Rattle.str0m_values.specs.CandidateReading.{protocol_read, tcp_type_read};
+
+use std::fmt;
+
+/// The transport of a candidate (RFC 8839, section 5.1; RFC 6544, section 4.5).
+#[derive(Clone, Copy, Debug, PartialEq, Eq, Hash)]
+pub enum Protocol {
+    Udp,
+    Tcp,
+    /// TCP that begins with an SSL handshake, which gets it past some proxies.
+    SslTcp,
+    Tls,
+}
+
+impl Protocol {
+    /// The protocol of a word, without regard to ASCII case.
+    pub(crate) fn from_word(word: &str) -> Option<Protocol>
+        ensures { result ≡ protocol_read word.now }
+    {
+        if word.eq_ignore_ascii_case("udp") {
+            Some(Protocol::Udp)
+        } else if word.eq_ignore_ascii_case("tcp") {
+            Some(Protocol::Tcp)
+        } else if word.eq_ignore_ascii_case("ssltcp") {
+            Some(Protocol::SslTcp)
+        } else if word.eq_ignore_ascii_case("tls") {
+            Some(Protocol::Tls)
+        } else {
+            None
+        }
+    }
+}
+
+/// The word of a candidate's line, in lower case.
+impl fmt::Display for Protocol {
+    ghost output = { λ p. Some (protocol_text p) };
+
+    fn fmt<W: fmt::Write>(&self, f: &mut fmt::Formatter<W>) -> fmt::Result {
+        let word = match self {
+            Protocol::Udp => "udp",
+            Protocol::Tcp => "tcp",
+            Protocol::SslTcp => "ssltcp",
+            Protocol::Tls => "tls",
+        };
+        write!(f, "{word}")
+    }
+}
+
+/// Which side opens the connection of a TCP candidate (RFC 6544, section 4.5).
+#[derive(Clone, Copy, Debug, PartialEq, Eq, Hash)]
+pub enum TcpType {
+    /// It opens a connection and accepts none.
+    Active,
+    /// It accepts connections and opens none.
+    Passive,
+    /// Both sides open one at the same time.
+    So,
+}
+
+impl TcpType {
+    /// The type of a word, without regard to ASCII case.
+    pub(crate) fn from_word(word: &str) -> Option<TcpType>
+        ensures { result ≡ tcp_type_read word.now }
+    {
+        if word.eq_ignore_ascii_case("active") {
+            Some(TcpType::Active)
+        } else if word.eq_ignore_ascii_case("passive") {
+            Some(TcpType::Passive)
+        } else if word.eq_ignore_ascii_case("so") {
+            Some(TcpType::So)
+        } else {
+            None
+        }
+    }
+}
+
+/// The word of a candidate's line, in lower case.
+impl fmt::Display for TcpType {
+    ghost output = { λ t. Some (tcp_type_text t) };
+
+    fn fmt<W: fmt::Write>(&self, f: &mut fmt::Formatter<W>) -> fmt::Result {
+        let word = match self {
+            TcpType::Active => "active",
+            TcpType::Passive => "passive",
+            TcpType::So => "so",
+        };
+        write!(f, "{word}")
+    }
+}
