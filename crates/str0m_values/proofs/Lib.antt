@@ -1,3 +1,4 @@
+pub mod Beginnings
 pub mod BothWays
 pub mod Cells
 pub mod CutLaws

@@ -1,4 +1,7 @@
 pub mod Cuts
+pub mod Direction
 pub mod Fits
+pub mod Frequency
+pub mod Only
 pub mod Parts
 pub mod ShortText

@@ -2,6 +2,8 @@
 
 ghost use Rattle.std.specs.Prelude.{◌≡◌, ◌<◌, ◌≤◌, option_map};
 ghost use Rattle.str0m_values.specs.Cuts.{cut, strip, num, parts};
+ghost use Rattle.str0m_values.specs.Only.{IsTheOnly};
+ghost use Rattle.str0m_values.specs.Parts.{IsNumber};
 
 /// The parts before and after the first `at`.
 pub fn cut(text: &str, at: char) -> Option<(&str, &str)>
@@ -27,8 +29,28 @@ pub fn num_u8(text: &str, limit: u8) -> Option<u8>
     }
 }
 
+pub fn num_u16(text: &str) -> Option<u16>
+    ensures { result ≡ num 65535 text.now }
+{
+    text.parse::<u16>().ok()
+}
+
 pub fn num_u32(text: &str) -> Option<u32>
     ensures { result ≡ num 4294967295 text.now }
 {
     text.parse::<u32>().ok()
+}
+
+/// The byte that std reads in the text in hexadecimal: a leading plus and leading zeros are allowed.
+pub fn hex_u8(text: &str) -> Option<u8>
+    ensures { IsTheOnly (IsNumber 16 255 text.now) result }
+{
+    u8::from_str_radix(text, 16).ok()
+}
+
+/// The number that std reads in the text in hexadecimal.
+pub fn hex_u32(text: &str) -> Option<u32>
+    ensures { IsTheOnly (IsNumber 16 4294967295 text.now) result }
+{
+    u32::from_str_radix(text, 16).ok()
 }

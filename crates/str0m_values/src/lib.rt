@@ -2,17 +2,25 @@
 #![tactic(auto)]
 
 pub mod cuts;
+mod direction;
+mod extension;
 mod frequency;
 mod identifier;
 mod items;
+mod media_kind;
 mod payload_type;
 mod session_id;
 mod short_text;
+mod ssrc;
 mod text;
 
+pub use direction::Direction;
+pub use extension::Extension;
 pub use frequency::Frequency;
-pub use identifier::Mid;
+pub use identifier::{Mid, Rid};
 pub use items::Items;
+pub use media_kind::MediaKind;
 pub use payload_type::Pt;
 pub use session_id::SessionId;
+pub use ssrc::Ssrc;
 pub use text::Text;
