@@ -1,5 +1,6 @@
 pub mod Cuts
 pub mod Direction
+pub mod Fingerprint
 pub mod Fits
 pub mod Frequency
 pub mod Only

@@ -1,6 +1,7 @@
 //! The parts of a line.
 
 ghost use Rattle.std.specs.Prelude.{◌≡◌, ◌<◌, ◌≤◌, option_map};
+ghost use Rattle.std.specs.Str.{str_eq_ignore_ascii_case};
 ghost use Rattle.str0m_values.specs.Cuts.{cut, strip, num, parts};
 ghost use Rattle.str0m_values.specs.Only.{IsTheOnly};
 ghost use Rattle.str0m_values.specs.Parts.{IsNumber};
@@ -53,4 +54,11 @@ pub fn hex_u32(text: &str) -> Option<u32>
     ensures { IsTheOnly (IsNumber 16 4294967295 text.now) result }
 {
     u32::from_str_radix(text, 16).ok()
+}
+
+/// Whether two texts are equal without regard to the case of ASCII letters.
+pub fn is_same_text(text: &str, other: &str) -> bool
+    ensures { result ≡ str_eq_ignore_ascii_case text.now other.now }
+{
+    text.eq_ignore_ascii_case(other)
 }

@@ -30,7 +30,8 @@ impl Mid {
 }
 
 impl<'a> From<&'a str> for Mid {
-    ghost from_gives = { λ text m. IsLongestBeginning 16 text.now m × (length text.now ≤ 16 → m ≡ text.now) };
+    ghost from_gives = { λ text m.
+        IsLongestBeginning 16 text.now m × (length text.now ≤ 16 → m ≡ text.now) };
 
     fn from(text: &'a str) -> Mid {
         Mid(ShortText::beginning(text))
@@ -69,7 +70,8 @@ impl Rid {
 }
 
 impl<'a> From<&'a str> for Rid {
-    ghost from_gives = { λ text r. IsLongestBeginning 16 text.now r × (length text.now ≤ 16 → r ≡ text.now) };
+    ghost from_gives = { λ text r.
+        IsLongestBeginning 16 text.now r × (length text.now ≤ 16 → r ≡ text.now) };
 
     fn from(text: &'a str) -> Rid {
         Rid(ShortText::beginning(text))

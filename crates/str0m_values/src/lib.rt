@@ -4,6 +4,7 @@
 pub mod cuts;
 mod direction;
 mod extension;
+mod fingerprint;
 mod frequency;
 mod identifier;
 mod items;
@@ -16,6 +17,7 @@ mod text;
 
 pub use direction::Direction;
 pub use extension::Extension;
+pub use fingerprint::{Fingerprint, FingerprintError, FingerprintFmt};
 pub use frequency::Frequency;
 pub use identifier::{Mid, Rid};
 pub use items::Items;
