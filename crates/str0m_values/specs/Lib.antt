@@ -3,6 +3,8 @@ pub mod Direction
 pub mod Fingerprint
 pub mod Fits
 pub mod Frequency
+pub mod H265
+pub mod H266
 pub mod Only
 pub mod Parts
 pub mod ShortText

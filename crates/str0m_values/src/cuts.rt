@@ -4,7 +4,7 @@ ghost use Rattle.std.specs.Prelude.{◌≡◌, ◌<◌, ◌≤◌, option_map};
 ghost use Rattle.std.specs.Str.{str_eq_ignore_ascii_case};
 ghost use Rattle.str0m_values.specs.Cuts.{cut, strip, num, parts};
 ghost use Rattle.str0m_values.specs.Only.{IsTheOnly};
-ghost use Rattle.str0m_values.specs.Parts.{IsNumber};
+ghost use Rattle.str0m_values.specs.Parts.{IsNumber, IsNumOr};
 
 /// The parts before and after the first `at`.
 pub fn cut(text: &str, at: char) -> Option<(&str, &str)>
@@ -27,6 +27,16 @@ pub fn num_u8(text: &str, limit: u8) -> Option<u8>
     match text.parse::<u8>() {
         Ok(n) if n <= limit => Some(n),
         _ => None,
+    }
+}
+
+/// The number in the text, or the default where there is no text.
+pub fn num_u8_or(text: Option<&str>, default: u8) -> Option<u8>
+    ensures { IsTheOnly (IsNumOr 255 default text.entry) result }
+{
+    match text {
+        None => Some(default),
+        Some(text) => num_u8(text, 255),
     }
 }
 
