@@ -5,4 +5,5 @@ pub mod CutLaws
 pub mod FingerprintLaws
 pub mod NumLaws
 pub mod Pairs
+pub mod Patterns
 pub mod ZipLaws

@@ -3,6 +3,7 @@ pub mod Direction
 pub mod Fingerprint
 pub mod Fits
 pub mod Frequency
+pub mod H264
 pub mod H265
 pub mod H266
 pub mod Only

@@ -165,8 +165,10 @@ impl H265Level {
         ensures place { result ≡ level_ordinal self }
 
         // Levels are in the order of their places, and so are their numbers.
-        ensures order { (a b : H265Level) → ⟦<H265Level as Ord>⟧.cmp a b ≡ nat_cmp (level_ordinal a) (level_ordinal b) }
-        ensures numbers { (a b : H265Level) → nat_lt (level_id a) (level_id b) ≡ nat_lt (level_ordinal a) (level_ordinal b) }
+        ensures order { (a b : H265Level) →
+            ⟦<H265Level as Ord>⟧.cmp a b ≡ nat_cmp (level_ordinal a) (level_ordinal b) }
+        ensures numbers { (a b : H265Level) →
+            nat_lt (level_id a) (level_id b) ≡ nat_lt (level_ordinal a) (level_ordinal b) }
     {
         self as usize
     }
