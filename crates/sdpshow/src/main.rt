@@ -6,10 +6,9 @@ mod run;
 
 use crate::fault::Fault;
 use crate::run::{refuse, run, usage};
-use std::env;
-use std::io;
 use std::io::ErrorKind;
 use std::process::ExitCode;
+use std::{env, io};
 
 /// The words after the program's name.
 fn words(rt: &HostRuntime) -> io::Result<Vec<String>> {

@@ -1,5 +1,8 @@
 //! The program over any reader and any two writers.
-ghost use Rattle.std.specs.Prelude.{◌≡◌, ◌⊎◌};
+ghost use Rattle.std.specs.Prelude.{◌≡◌, ◌↔◌, ◌⊎◌, ◌∷◌, [], ℕ, List, IsTrue, IfOk, IfSome, OnOk, OnErr, map, codes};
+ghost use Rattle.std.specs.String.{string_bytes};
+ghost use Rattle.std.specs.Io.KnownBytes.{Appends, IsAtEnd};
+ghost use Rattle.sdpshow.specs.Show.{Prints, Shows, Describes};
 
 use crate::fault::Fault;
 use std::alloc::Global;
@@ -22,8 +25,10 @@ pub(crate) fn refuse<F: Write>(faults: &mut F, fault: &Fault) -> u8
     1
 }
 
-/// Whether the words are the one word `text`.
-fn asks_for_text(words: &[String]) -> bool {
+/// Whether the words are `text` alone.
+fn ask_for_text(words: &[String]) -> bool
+    ensures { IsTrue result ↔ (map string_bytes words.now ≡ codes "text" ∷ []) }
+{
     match words {
         [word] => word.as_str() == "text",
         _ => false,
@@ -31,7 +36,10 @@ fn asks_for_text(words: &[String]) -> bool {
 }
 
 /// All that the reader holds.
-fn whole_text<R: Read>(alloc: Global, input: &mut R) -> Result<String, Fault> {
+fn whole_text<R: Read>(alloc: Global, input: &mut R) -> Result<String, Fault>
+    ensures whole { IfOk result (λ text. IfSome (R.remaining input.old) (λ held. string_bytes text ≡ held)) }
+    ensures end { OnOk result (IsAtEnd (R.remaining input.new)) }
+{
     let mut bytes = Vec::new(alloc);
     if let Err(error) = input.read_to_end(&mut bytes) {
         return match error.kind() {
@@ -46,12 +54,16 @@ fn whole_text<R: Read>(alloc: Global, input: &mut R) -> Result<String, Fault> {
 }
 
 /// The description that the text begins with, printed.
-fn printed(alloc: Global, text: &str) -> Result<String, Fault> {
+fn printed(alloc: Global, text: &str) -> Result<String, Fault>
+    ensures { IfOk result (λ printed. Prints text.now (string_bytes printed)) }
+{
     let offer = SdpOffer::from_sdp_string(alloc, text)?;
     Ok(offer.to_sdp_string(alloc)?)
 }
 
-fn write_whole<W: Write>(output: &mut W, text: &str) -> Result<(), Fault> {
+fn write_whole<W: Write>(output: &mut W, text: &str) -> Result<(), Fault>
+    ensures { OnOk result (Appends (W.contents output.old) (W.contents output.new) text.now) }
+{
     if output.write_all(text.as_bytes()).is_err() || output.flush().is_err() {
         return Err(Fault::Unwritable);
     }
@@ -59,27 +71,28 @@ fn write_whole<W: Write>(output: &mut W, text: &str) -> Result<(), Fault> {
 }
 
 /// Prints the description that the reader holds.
-fn show_text<R: Read, W: Write>(
-    alloc: Global,
-    input: &mut R,
-    output: &mut W,
-) -> Result<(), Fault> {
+fn show_text<R: Read, W: Write>(alloc: Global, input: &mut R, output: &mut W) -> Result<(), Fault>
+    ensures shown { OnOk result ((printed : List ℕ) × Shows (R.remaining input.old) printed
+        × Appends (W.contents output.old) (W.contents output.new) printed) }
+    ensures end { OnOk result (IsAtEnd (R.remaining input.new)) }
+    ensures refused { OnErr result ((output.new ≡ output.old) ⊎ Describes (R.remaining input.old)) }
+{
     let text = whole_text(alloc, input)?;
     let printed = printed(alloc, text.as_str())?;
     write_whole(output, printed.as_str())
 }
 
-/// Runs the program: its words behind its name, what it reads, writes, and says of faults. Answers
-/// the exit status.
+/// Runs the program: the words behind its name, what it reads, what it writes, and what it says of
+/// faults. Answers the exit status.
 ///
-/// The one word `text` reads the whole input as UTF-8, and prints the session description that it
-/// begins with (RFC 8866, section 5). Nothing is read before the words are compared, and nothing
+/// The one word `text` reads the whole input as UTF-8 and prints the session description that it
+/// begins with (RFC 8866, section 5). Nothing is read before the words are compared, and nothing is
 /// written before the output is whole.
 ///
-/// Status 0: it is printed, and nothing is said of faults. Status 1: it isn't, and one line says
-/// why: the text is refused, isn't UTF-8 or can't be read, memory is refused, or the output can't
-/// be written. Status 2: the words are others, and one line says how the program is called. A line
-/// that can't be written leaves the status as it is.
+/// Status 0: it is printed, and nothing is said. Status 1, and one line that says why: the text is
+/// no description, is not UTF-8 or can't be read, a growth was refused, or the output can't be
+/// written. Status 2, and one line that says how the program is called: the words are others. Where
+/// that line can't be written, the status is the same.
 pub fn run<R: Read, W: Write, F: Write>(
     alloc: Global,
     words: &[String],
@@ -88,8 +101,22 @@ pub fn run<R: Read, W: Write, F: Write>(
     faults: &mut F,
 ) -> u8
     ensures statuses { (result ≡ 0) ⊎ (result ≡ 1) ⊎ (result ≡ 2) }
+
+    // Status 2 is for other words, and then nothing is read or written.
+    ensures usage { (result ≡ 2) ↔ ((map string_bytes words.now ≡ codes "text" ∷ []) → ⊥) }
+    ensures unread { result ≡ 2 → input.new ≡ input.old }
+    ensures unwritten { result ≡ 2 → output.new ≡ output.old }
+
+    // Status 0: all that was held is read, its description is printed, and nothing is said.
+    ensures shown { result ≡ 0 → (printed : List ℕ) × Shows (R.remaining input.old) printed
+        × Appends (W.contents output.old) (W.contents output.new) printed }
+    ensures end { result ≡ 0 → IsAtEnd (R.remaining input.new) }
+    ensures silent { result ≡ 0 → faults.new ≡ faults.old }
+
+    // Status 1: nothing is written of a text that describes no session.
+    ensures refused { result ≡ 1 → (output.new ≡ output.old) ⊎ Describes (R.remaining input.old) }
 {
-    if !asks_for_text(words) {
+    if !ask_for_text(words) {
         return usage(faults);
     }
     match show_text(alloc, input, output) {
@@ -97,3 +124,6 @@ pub fn run<R: Read, W: Write, F: Write>(
         Err(fault) => refuse(faults, &fault),
     }
 }
+
+#[cfg(test)]
+mod tests;

@@ -1,0 +1,24 @@
+//! Tests of the libraries as their callers meet them: texts that are read, refused and printed, with
+//! answers from RFC 8866 and from the project's own tables.
+#![tactic(auto)]
+
+#[cfg(test)]
+mod attributes;
+#[cfg(test)]
+mod consistency;
+#[cfg(test)]
+mod formats;
+#[cfg(test)]
+mod header;
+#[cfg(test)]
+mod lines;
+#[cfg(test)]
+mod offers;
+#[cfg(test)]
+mod prefixes;
+#[cfg(test)]
+mod printing;
+#[cfg(test)]
+mod sections;
+#[cfg(test)]
+mod texts;

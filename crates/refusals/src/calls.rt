@@ -1,0 +1,175 @@
+//! The calls that allocate, and what each answers.
+
+use crate::copies;
+use crate::fault::Fault;
+use crate::samples::{BAD_HEADER, BAD_SECTION, MEDIA_LINES, SESSION_LINES, TEXT, sample};
+use std::alloc::Global;
+use str0m_formats::FormatParam;
+use str0m_signal::{
+    SdpAnswer, SdpOffer, media_attribute_line, sdp_parser, session_attribute_line, session_parser,
+};
+use str0m_values::{Items, Text};
+
+/// The names of the calls.
+pub(crate) const NAMES: [&str; 25] = [
+    "session_parser",
+    "session_parser_refuses",
+    "sdp_parser",
+    "sdp_parser_refuses",
+    "session_attribute_line",
+    "session_attribute_line_refuses",
+    "media_attribute_line",
+    "media_attribute_line_refuses",
+    "offer_from_sdp_string",
+    "offer_to_sdp_string",
+    "answer_from_sdp_string",
+    "answer_to_sdp_string",
+    "check_consistent",
+    "parse_pairs",
+    "text_from_str",
+    "items_push",
+    "text_clone",
+    "items_clone",
+    "bandwidth_clone",
+    "media_type_clone",
+    "session_attribute_clone",
+    "media_attribute_clone",
+    "media_line_clone",
+    "session_clone",
+    "sdp_clone",
+];
+
+/// Makes the call of that name and shows its answer.
+pub(crate) fn show(rt: &impl Print, alloc: Global, name: &str) -> Result<(), Fault> {
+    match name {
+        "session_parser" => show_session(rt, alloc, TEXT),
+        "session_parser_refuses" => show_session(rt, alloc, BAD_HEADER),
+        "sdp_parser" => show_sdp(rt, alloc, TEXT),
+        "sdp_parser_refuses" => show_sdp(rt, alloc, BAD_SECTION),
+        "session_attribute_line" => show_session_lines(rt, alloc),
+        "session_attribute_line_refuses" => show_session_line(rt, alloc, TEXT),
+        "media_attribute_line" => show_media_lines(rt, alloc),
+        "media_attribute_line_refuses" => show_media_line(rt, alloc, TEXT),
+        "offer_from_sdp_string" => show_offer(rt, alloc),
+        "offer_to_sdp_string" => show_offer_text(rt, alloc),
+        "answer_from_sdp_string" => show_answer(rt, alloc),
+        "answer_to_sdp_string" => show_answer_text(rt, alloc),
+        "check_consistent" => show_messages(rt, alloc),
+        "parse_pairs" => show_params(rt, alloc),
+        "text_from_str" => show_text(rt, alloc),
+        "items_push" => show_items(rt, alloc),
+        _ => copies::show(rt, alloc, name),
+    }
+}
+
+fn show_session(rt: &impl Print, alloc: Global, text: &str) -> Result<(), Fault> {
+    let (session, rest) = session_parser(alloc, text)?;
+    let count = rest.len();
+    print!(rt; "{session}")?;
+    println!(rt; "rest of {count} bytes")?;
+    Ok(())
+}
+
+fn show_sdp(rt: &impl Print, alloc: Global, text: &str) -> Result<(), Fault> {
+    let (sdp, rest) = sdp_parser(alloc, text)?;
+    println!(rt; "{sdp}{rest:?}")?;
+    Ok(())
+}
+
+fn show_session_line(rt: &impl Print, alloc: Global, text: &str) -> Result<(), Fault> {
+    let (attribute, _) = session_attribute_line(alloc, text)?;
+    print!(rt; "{attribute}")?;
+    Ok(())
+}
+
+fn show_session_lines(rt: &impl Print, alloc: Global) -> Result<(), Fault> {
+    let mut attributes = Vec::new(alloc);
+    for line in SESSION_LINES {
+        let (attribute, _) = session_attribute_line(alloc, line)?;
+        attributes.push(attribute)?;
+    }
+    for attribute in &attributes {
+        print!(rt; "{attribute}")?;
+    }
+    Ok(())
+}
+
+fn show_media_line(rt: &impl Print, alloc: Global, text: &str) -> Result<(), Fault> {
+    let (attribute, _) = media_attribute_line(alloc, text)?;
+    print!(rt; "{attribute}")?;
+    Ok(())
+}
+
+fn show_media_lines(rt: &impl Print, alloc: Global) -> Result<(), Fault> {
+    let mut attributes = Vec::new(alloc);
+    for line in MEDIA_LINES {
+        let (attribute, _) = media_attribute_line(alloc, line)?;
+        attributes.push(attribute)?;
+    }
+    for attribute in &attributes {
+        print!(rt; "{attribute}")?;
+    }
+    Ok(())
+}
+
+fn show_offer(rt: &impl Print, alloc: Global) -> Result<(), Fault> {
+    let offer = SdpOffer::from_sdp_string(alloc, TEXT)?;
+    print!(rt; "{offer}")?;
+    Ok(())
+}
+
+fn show_offer_text(rt: &impl Print, alloc: Global) -> Result<(), Fault> {
+    let offer = SdpOffer::from(sample(alloc)?);
+    let text = offer.to_sdp_string(alloc)?;
+    print!(rt; "{text}")?;
+    Ok(())
+}
+
+fn show_answer(rt: &impl Print, alloc: Global) -> Result<(), Fault> {
+    let answer = SdpAnswer::from_sdp_string(alloc, TEXT)?;
+    print!(rt; "{answer}")?;
+    Ok(())
+}
+
+fn show_answer_text(rt: &impl Print, alloc: Global) -> Result<(), Fault> {
+    let answer = SdpAnswer::from(sample(alloc)?);
+    let text = answer.to_sdp_string(alloc)?;
+    print!(rt; "{text}")?;
+    Ok(())
+}
+
+/// What is said of a section as it was read, and of what is left where it has no attributes.
+fn show_messages(rt: &impl Print, alloc: Global) -> Result<(), Fault> {
+    let mut sections = sample(alloc)?.media_lines.into_vec();
+    if let Some(section) = sections.first_mut() {
+        let none = section.check_consistent(alloc)?;
+        section.attrs = Items::empty(alloc);
+        let some = section.check_consistent(alloc)?;
+        println!(rt; "{none:?} {some:?}")?;
+    }
+    Ok(())
+}
+
+fn show_params(rt: &impl Print, alloc: Global) -> Result<(), Fault> {
+    let params = FormatParam::parse_pairs(alloc, &[("minptime", "10"), ("useinbandfec", "1")])?;
+    for param in &params {
+        println!(rt; "{param}")?;
+    }
+    Ok(())
+}
+
+fn show_text(rt: &impl Print, alloc: Global) -> Result<(), Fault> {
+    let text = Text::from_str(alloc, "one line")?;
+    println!(rt; "{text}")?;
+    Ok(())
+}
+
+fn show_items(rt: &impl Print, alloc: Global) -> Result<(), Fault> {
+    let mut items = Items::empty(alloc);
+    for number in 0..9u8 {
+        items.push(number)?;
+    }
+    let items = items.as_slice();
+    println!(rt; "{items:?}")?;
+    Ok(())
+}

@@ -1,0 +1,108 @@
+//! Copies of values that hold texts or lists.
+
+use crate::fault::Fault;
+use crate::samples::sample;
+use std::alloc::Global;
+use str0m_signal::{Sdp, SdpError};
+use str0m_values::Text;
+
+/// Copies a value of that name and shows the copy.
+pub(crate) fn show(rt: &impl Print, alloc: Global, name: &str) -> Result<(), Fault> {
+    let source = sample(alloc)?;
+    match name {
+        "text_clone" => show_text(rt, alloc),
+        "items_clone" => show_sections(rt, &source),
+        "bandwidth_clone" => show_bandwidth(rt, &source),
+        "media_type_clone" => show_media_types(rt, alloc, &source),
+        "session_attribute_clone" => show_session_attributes(rt, alloc, &source),
+        "media_attribute_clone" => show_media_attributes(rt, alloc, &source),
+        "media_line_clone" => show_media_lines(rt, alloc, &source),
+        "session_clone" => show_session(rt, &source),
+        "sdp_clone" => show_sdp(rt, &source),
+        _ => Err(Fault::from(SdpError::ParseError(String::from_str(
+            alloc,
+            "no such call",
+        )?))),
+    }
+}
+
+fn show_text(rt: &impl Print, alloc: Global) -> Result<(), Fault> {
+    let text = Text::from_str(alloc, "one line")?;
+    let copy = text.clone()?;
+    println!(rt; "{copy}")?;
+    Ok(())
+}
+
+fn show_sections(rt: &impl Print, source: &Sdp) -> Result<(), Fault> {
+    let copy = source.media_lines.clone()?;
+    for section in copy.as_slice() {
+        print!(rt; "{section}")?;
+    }
+    Ok(())
+}
+
+fn show_bandwidth(rt: &impl Print, source: &Sdp) -> Result<(), Fault> {
+    if let Some(bandwidth) = &source.session.bw {
+        let copy = bandwidth.clone()?;
+        print!(rt; "{copy}")?;
+    }
+    Ok(())
+}
+
+fn show_media_types(rt: &impl Print, alloc: Global, source: &Sdp) -> Result<(), Fault> {
+    let mut copies = Vec::new(alloc);
+    for section in source.media_lines.as_slice() {
+        copies.push(section.typ.clone()?)?;
+    }
+    for copy in &copies {
+        println!(rt; "{copy}")?;
+    }
+    Ok(())
+}
+
+fn show_session_attributes(rt: &impl Print, alloc: Global, source: &Sdp) -> Result<(), Fault> {
+    let mut copies = Vec::new(alloc);
+    for attribute in source.session.attrs.as_slice() {
+        copies.push(attribute.clone()?)?;
+    }
+    for copy in &copies {
+        print!(rt; "{copy}")?;
+    }
+    Ok(())
+}
+
+fn show_media_attributes(rt: &impl Print, alloc: Global, source: &Sdp) -> Result<(), Fault> {
+    let mut copies = Vec::new(alloc);
+    for section in source.media_lines.as_slice() {
+        for attribute in section.attrs.as_slice() {
+            copies.push(attribute.clone()?)?;
+        }
+    }
+    for copy in &copies {
+        print!(rt; "{copy}")?;
+    }
+    Ok(())
+}
+
+fn show_media_lines(rt: &impl Print, alloc: Global, source: &Sdp) -> Result<(), Fault> {
+    let mut copies = Vec::new(alloc);
+    for section in source.media_lines.as_slice() {
+        copies.push(section.clone()?)?;
+    }
+    for copy in &copies {
+        print!(rt; "{copy}")?;
+    }
+    Ok(())
+}
+
+fn show_session(rt: &impl Print, source: &Sdp) -> Result<(), Fault> {
+    let copy = source.session.clone()?;
+    print!(rt; "{copy}")?;
+    Ok(())
+}
+
+fn show_sdp(rt: &impl Print, source: &Sdp) -> Result<(), Fault> {
+    let copy = source.clone()?;
+    print!(rt; "{copy}")?;
+    Ok(())
+}

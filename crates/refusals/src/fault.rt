@@ -1,0 +1,37 @@
+//! Why a call has no answer to show.
+
+use std::alloc::{AllocError, AllocFailed};
+use std::io;
+use str0m_signal::SdpError;
+
+#[derive(Debug, Drop)]
+pub(crate) enum Fault {
+    /// The call refuses its text, or a growth was refused.
+    Refused(SdpError),
+    /// The answer can't be written.
+    Unwritable(io::Error),
+}
+
+impl From<SdpError> for Fault {
+    fn from(refusal: SdpError) -> Fault {
+        Fault::Refused(refusal)
+    }
+}
+
+impl From<AllocError> for Fault {
+    fn from(_refused: AllocError) -> Fault {
+        Fault::Refused(SdpError::Memory)
+    }
+}
+
+impl<T: Drop> From<AllocFailed<T>> for Fault {
+    fn from(_refused: AllocFailed<T>) -> Fault {
+        Fault::Refused(SdpError::Memory)
+    }
+}
+
+impl From<io::Error> for Fault {
+    fn from(error: io::Error) -> Fault {
+        Fault::Unwritable(error)
+    }
+}

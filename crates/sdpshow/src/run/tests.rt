@@ -1,0 +1,224 @@
+//! Runs of the program over memory.
+
+use super::run;
+use std::alloc::{AllocError, Global};
+use std::io;
+use std::io::{ErrorKind, Read, Write};
+use std::test::Fail;
+
+const USAGE: &str = "usage: sdpshow text|rows|negotiate\n";
+
+const HEADER: &str = "v=0\r\no=- 7 2 IN IP4 127.0.0.1\r\ns=-\r\nt=0 0\r\n";
+
+/// The header, printed.
+const PRINTED: &str = "v=0\r\no=str0m-0.25.0 7 2 IN IP4 0.0.0.0\r\ns=-\r\nt=0 0\r\n";
+
+/// Gives its bytes, one a read, and then fails.
+#[derive(Drop)]
+struct Broken<'a> {
+    bytes: &'a [u8],
+    kind: ErrorKind,
+}
+
+impl<'a> Read for Broken<'a> {
+    fn read(&mut self, buf: &mut [u8]) -> io::Result<usize> {
+        let Some((first, rest)) = self.bytes.split_first() else {
+            return Err(io::Error::from(self.kind));
+        };
+        let Some(cell) = buf.first_mut() else {
+            return Ok(0);
+        };
+        *cell = *first;
+        self.bytes = rest;
+        Ok(1)
+    }
+}
+
+/// Takes so many bytes, one a write, and then fails.
+#[derive(Drop)]
+struct Full {
+    room: usize,
+    taken: Vec<u8>,
+}
+
+impl Write for Full {
+    fn write(&mut self, buf: &[u8]) -> io::Result<usize> {
+        let (Some(first), true) = (buf.first(), self.taken.len() < self.room) else {
+            return Err(io::Error::from(ErrorKind::BrokenPipe));
+        };
+        self.taken.push(*first)?;
+        Ok(1)
+    }
+
+    fn flush(&mut self) -> io::Result<()> {
+        Ok(())
+    }
+}
+
+/// A writer with so much room.
+fn with_room(alloc: Global, room: usize) -> Full {
+    Full {
+        room,
+        taken: Vec::new(alloc),
+    }
+}
+
+fn owned(alloc: Global, words: &[&str]) -> Result<Vec<String>, AllocError> {
+    let mut all = Vec::new(alloc);
+    for word in words {
+        all.push(String::from_str(alloc, word)?)?;
+    }
+    Ok(all)
+}
+
+/// Words, what is read, the status, and what is written and said.
+const RUNS: [(&[&str], &[u8], u8, &str, &str); 15] = [
+    (&[], b"", 2, "", USAGE),
+    (&[""], b"", 2, "", USAGE),
+    (&["show"], b"", 2, "", USAGE),
+    (&["Text"], b"", 2, "", USAGE),
+    (&["text "], b"", 2, "", USAGE),
+    (&["rows"], b"", 2, "", USAGE),
+    (&["negotiate"], b"", 2, "", USAGE),
+    (&["text", "text"], b"", 2, "", USAGE),
+    (&["text", ""], b"", 2, "", USAGE),
+    (&["text"], b"v=0\no=- 7 2 x\ns=-\nt=0 0\n", 0, PRINTED, ""),
+    (
+        &["text"],
+        b"v=0\no=- 7 2 x\ns=-\nt=0 0\n\xc3\xa9\n",
+        0,
+        PRINTED,
+        "",
+    ),
+    (
+        &["text"],
+        b"v=0\no=- 7 2 x\ns=-\nt=0 0\n\xff\n",
+        1,
+        "",
+        "input is not UTF-8\n",
+    ),
+    (&["text"], b"\xc3", 1, "", "input is not UTF-8\n"),
+    (&["text"], b"", 1, "", "SDP parse: bad session header\n"),
+    (
+        &["text"],
+        b"v=0\no=- 7 2 x\ns=-\nt=0 0\nm=audio 9 UDP/TLS/RTP/SAVPF 0\n",
+        1,
+        "",
+        "SDP parse: Media is missing a=mid: audio UDP/TLS/RTP/SAVPF\n",
+    ),
+];
+
+#[test]
+fn each_status_comes_with_its_line(rt: HostRuntime) -> Result<(), Fail> {
+    let alloc = rt.alloc();
+    for (words, mut input, status, written, said) in RUNS {
+        let mut output: Vec<u8> = Vec::new(alloc);
+        let mut faults: Vec<u8> = Vec::new(alloc);
+        let owned = owned(alloc, words)?;
+        let answer = run(
+            alloc,
+            owned.as_slice(),
+            &mut input,
+            &mut output,
+            &mut faults,
+        );
+        assert_eq!(rt; answer, status, "{words:?}");
+        assert_eq!(rt; output.as_slice(), written.as_bytes(), "{words:?}");
+        assert_eq!(rt; faults.as_slice(), said.as_bytes(), "{words:?}");
+    }
+    Ok(())
+}
+
+/// Words are compared before anything is read, and input that ends in an error is not shown.
+#[test]
+fn input_that_cannot_be_read(rt: HostRuntime) -> Result<(), Fail> {
+    let alloc = rt.alloc();
+    for (word, bytes, kind, status, said) in [
+        (
+            "text",
+            "",
+            ErrorKind::PermissionDenied,
+            1,
+            "cannot read input\n",
+        ),
+        (
+            "text",
+            HEADER,
+            ErrorKind::BrokenPipe,
+            1,
+            "cannot read input\n",
+        ),
+        (
+            "text",
+            "",
+            ErrorKind::OutOfMemory,
+            1,
+            "SDP: out of memory\n",
+        ),
+        ("show", "", ErrorKind::PermissionDenied, 2, USAGE),
+    ] {
+        let words = owned(alloc, &[word])?;
+        let mut input = Broken {
+            bytes: bytes.as_bytes(),
+            kind,
+        };
+        let mut output: Vec<u8> = Vec::new(alloc);
+        let mut faults: Vec<u8> = Vec::new(alloc);
+        let answer = run(
+            alloc,
+            words.as_slice(),
+            &mut input,
+            &mut output,
+            &mut faults,
+        );
+        assert_eq!(rt; answer, status, "{said:?}");
+        assert_eq!(rt; output.len(), 0, "{said:?}");
+        assert_eq!(rt; faults.as_slice(), said.as_bytes());
+        assert_eq!(rt;
+            input.bytes.len() == bytes.len(),
+            status == 2 || bytes.is_empty(),
+            "{said:?}"
+        );
+    }
+    Ok(())
+}
+
+/// A description is written whole or the run says so; a line of faults that can't be written leaves
+/// the status as it is.
+#[test]
+fn output_that_cannot_be_written(rt: HostRuntime) -> Result<(), Fail> {
+    let alloc = rt.alloc();
+    for (word, room, status, said) in [
+        ("text", PRINTED.len(), 0, ""),
+        ("text", PRINTED.len() - 1, 1, "cannot write output\n"),
+        ("text", 0, 1, "cannot write output\n"),
+        ("show", 0, 2, USAGE),
+    ] {
+        let words = owned(alloc, &[word])?;
+        for is_heard in [true, false] {
+            let mut input = HEADER.as_bytes();
+            let mut output = with_room(alloc, room);
+            let mut faults = with_room(alloc, if is_heard { 100 } else { 0 });
+            let answer = run(
+                alloc,
+                words.as_slice(),
+                &mut input,
+                &mut output,
+                &mut faults,
+            );
+            assert_eq!(rt; answer, status, "{said:?}");
+            assert!(rt;
+                PRINTED.as_bytes().starts_with(output.taken.as_slice()),
+                "{said:?}"
+            );
+            assert_eq!(rt;
+                output.taken.len() == PRINTED.len(),
+                status == 0,
+                "{said:?}"
+            );
+            let said = if is_heard { said } else { "" };
+            assert_eq!(rt; faults.taken.as_slice(), said.as_bytes());
+        }
+    }
+    Ok(())
+}
