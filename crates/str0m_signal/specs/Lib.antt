@@ -1,4 +1,5 @@
 pub mod Answers
+pub mod CandidateLine
 pub mod Chains
 pub mod Fmtp
 pub mod FmtpReading

@@ -3,6 +3,7 @@
 
 mod attributes;
 mod bandwidth;
+mod candidate_line;
 mod fields;
 mod fmtp;
 mod header;
@@ -17,10 +18,18 @@ mod section;
 mod session_attribute;
 
 pub use offer::{SdpAnswer, SdpOffer};
-pub use reader::{media_attribute_line, sdp_parser, session_attribute_line, session_parser};
+pub use reader::{
+    candidate_attribute, media_attribute_line, sdp_parser, session_attribute_line, session_parser,
+};
 pub use str0m_formats::{Codec, FormatParam};
 pub use str0m_sdp::{
     Bandwidth, MediaAttribute, MediaLine, MediaType, Proto, RtpMap, Sdp, SdpError, Session,
     SessionAttribute, Setup,
 };
-pub use str0m_values::{Frequency, Items, Mid, Pt, SessionId, Text};
+pub use str0m_values::{
+    Candidate, CandidateKind, Direction, Extension, Fingerprint, FingerprintError, FingerprintFmt,
+    Frequency, H264Level, H264Profile, H264ProfileLevel, H265Level, H265Profile,
+    H265ProfileTierLevel, H265Tier, H266Level, H266Profile, H266ProfileTierLevel, H266Tier,
+    IceCreds, IpAddr, Items, MediaKind, Mid, NoProfileLevel, Protocol, Pt, Rid, SessionId,
+    SocketAddr, Ssrc, TcpType, Text,
+};

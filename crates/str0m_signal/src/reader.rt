@@ -4,6 +4,7 @@ ghost use Rattle.std.specs.Prelude.{◌≡◌, IfOk};
 ghost use Rattle.str0m_signal.specs.Answers.{Answers, AtMostOne, IsRefusal, unread};
 ghost use Rattle.str0m_signal.specs.Lines.{FirstLine};
 ghost use Rattle.str0m_signal.specs.LineReading.{lines_of, left};
+ghost use Rattle.str0m_signal.specs.CandidateLine.{IsCandidateLine};
 ghost use Rattle.str0m_signal.specs.MediaAttribute.{IsMediaLine};
 ghost use Rattle.str0m_signal.specs.SessionAttribute.{IsSessionLine};
 ghost use Rattle.str0m_signal.specs.Reading.{Sections, IsSession, IsReading, Reading, SessionReading};
@@ -14,7 +15,7 @@ use crate::section::section;
 use crate::session_attribute::session_attributes;
 use std::alloc::Global;
 use str0m_sdp::{MediaAttribute, MediaLine, Sdp, SdpError, Session, SessionAttribute};
-use str0m_values::Items;
+use str0m_values::{Candidate, Items};
 
 /// The refusal with a message, or want of memory for it.
 pub(crate) fn refusal(alloc: Global, message: &str) -> SdpError
@@ -122,6 +123,19 @@ pub fn session_attribute_line(
 pub fn media_attribute_line(alloc: Global, text: &str) -> Result<(MediaAttribute, &str), SdpError>
     ensures read { Answers unread result (FirstLine IsMediaLine text.now) }
     ensures one { AtMostOne (FirstLine IsMediaLine text.now) }
+{
+    first_attribute(alloc, text)
+}
+
+/// Reads the first line of a text as the line of a candidate (RFC 8839, section 5.1). Answers the
+/// candidate and the rest behind the line, a slice of the text.
+///
+/// # Errors
+///
+/// `ParseError` exactly where the first line is no candidate's; `Memory` where a growth was refused.
+pub fn candidate_attribute(alloc: Global, text: &str) -> Result<(Candidate, &str), SdpError>
+    ensures read { Answers unread result (FirstLine IsCandidateLine text.now) }
+    ensures one { AtMostOne (FirstLine IsCandidateLine text.now) }
 {
     first_attribute(alloc, text)
 }

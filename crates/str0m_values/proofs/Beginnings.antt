@@ -6,6 +6,8 @@ use Rattle.std.specs.Fmt.Cut.{floor_char_boundary}
 use Rattle.std.proofs.lemmas.Bool.{ltb-true, lt-ltb, leb-true, leb-false, le-leb, cases_Bool, cases_lt, both_ways}
 use Rattle.std.proofs.lemmas.List.{append-nil}
 use Rattle.std.proofs.Math.Seq.{take-append_seam}
+use Rattle.std.proofs.Common.{◌+◌, ◌∷◌, length-append}
+use Rattle.std.proofs.lemmas.Str.{IsCharBoundary-end}
 use Rattle.str0m_values.specs.ShortText.{IsLongestBeginning, beginning_of}
 
 -- where a character ends at i or before it, the last such place
@@ -100,3 +102,16 @@ one_beginning room text a b h k =
 -- two longest beginnings are one
 pub beginning_only : (room : ℕ) (text kept : List ℕ) → IsLongestBeginning room text kept → kept ≡ beginning_of room text
 beginning_only room text kept h = one_beginning room text kept (beginning_of room text) h (beginning_is room text)
+
+-- ---- a text that has room is its own longest beginning
+
+-- a beginning that isn't the whole of a text is shorter
+shorter : (text kept rest : List ℕ) → text ≡ kept ++ rest → (length kept < length text → ⊥) → kept ≡ text
+shorter text kept [] e whole = sym (e ∙ append-nil kept)
+shorter text kept (x ∷ xs) e whole =
+    let len : length text ≡ length kept + length (x ∷ xs) = ap length e ∙ length-append kept (x ∷ xs) in
+    absurd (whole (omega arith))
+
+pub whole_where_room : (room : ℕ) (text kept : List ℕ) → IsLongestBeginning room text kept → length text ≤ room → kept ≡ text
+whole_where_room room text kept h fits =
+    shorter text kept h.begins.0 h.begins.1 (λ lt. h.longest (length text) lt fits (IsCharBoundary-end text))

@@ -10,7 +10,11 @@ pub mod CandidateText
 pub mod CandidateWords
 pub mod Cells
 pub mod CutLaws
+pub mod FingerprintLaws
 pub mod LabelLaws
 pub mod NumLaws
 pub mod OnlyLaws
+pub mod Pairs
+pub mod Patterns
 pub mod WordLaws
+pub mod ZipLaws

@@ -1,5 +1,6 @@
 -- What the reading of a number gives.
 use Rattle.std.proofs.Common.{◌≡◌, ℕ, ◌<◌, ◌≤◌, ◌+◌, ◌^◌, Bool, true, false, ◌&&◌, leb, List, [], ◌∷◌, length, Option, Some, None, Result, Ok, Err, refl, sym, ap, ◌∙◌, arith, inl, inr}
+use Rattle.std.specs.Prelude.{IfSome}
 use Rattle.std.specs.Result.{result_ok}
 use Rattle.std.specs.Str.{all_ascii_digits}
 use Rattle.std.specs.Str.Parse.{IsNumeral, AllDigits, digits_value, without_leading_plus, ParsesUnsigned}
@@ -8,6 +9,7 @@ use Rattle.std.proofs.lemmas.Str.Parse.{IsNumeralModel, numerals_by_value, tells
 use Rattle.std.proofs.Common.{◌≢◌}
 use Rattle.std.specs.Char.{digit_value}
 use Rattle.std.proofs.lemmas.Bool.{eq-eqb, ne_eqb, cases_eq}
+use Rattle.str0m_values.specs.Only.{IsTheOnly}
 use Rattle.str0m_values.specs.Parts.{IsNum, Lacks, IsRest}
 use Rattle.str0m_values.specs.Cuts.{is_rest, is_numeral, num, when}
 
@@ -51,6 +53,14 @@ pub num_none : (limit : ℕ) (text : List ℕ) → ((n : ℕ) → IsNum limit te
 num_none limit text none =
     let cases : (o : Option ℕ) → num limit text ≡ o → o ≡ None = λ o e. elim o as (λ v. num limit text ≡ v → v ≡ None) [ None ↦ λ _. refl | Some n ↦ λ f. absurd (none n (num_found limit text n f)) ] e in
     cases (num limit text) refl
+
+-- the reading function reads what the relation says, both ways
+pub num_only : (limit : ℕ) (text : List ℕ) → IsTheOnly (IsNum limit text) (num limit text)
+num_only limit text = record { found = found (num limit text) refl; only = num_reads limit text }
+  where
+    found : (o : Option ℕ) → num limit text ≡ o → IfSome o (IsNum limit text)
+    found None e = tt
+    found (Some n) e = num_found limit text n e
 
 pub parsed_ok : (k limit : ℕ) (text : List ℕ) (x : ℕ) → (IsNumeral 10 (without_leading_plus text) × (digits_value 10 (without_leading_plus text) < 2 ^ k)) × (x ≡ digits_value 10 (without_leading_plus text)) → x ≤ limit → Some x ≡ num limit text
 parsed_ok k limit text x h le = sym (num_reads limit text x (record { numeral = h.0.0; value = sym h.1; fits = le }))

@@ -4,8 +4,14 @@ pub mod Candidate
 pub mod CandidateKind
 pub mod CandidateReading
 pub mod Cuts
+pub mod Direction
+pub mod Fingerprint
 pub mod Fits
 pub mod Found
+pub mod Frequency
+pub mod H264
+pub mod H265
+pub mod H266
 pub mod Joined
 pub mod LabelReading
 pub mod Labels

@@ -1,7 +1,10 @@
 //! Clock rates.
-ghost use Rattle.std.specs.Prelude.{◌≡◌, ◌<◌, ◌^◌, ◌↔◌, ℕ, IsSome, IfSome, Some};
+ghost use Rattle.std.specs.Prelude.{◌≡◌, ◌<◌, ◌^◌, ◌↔◌, ◌∷◌, [], ℕ, IsSome, IfSome, Some};
 ghost use Rattle.std.specs.Fmt.{decimal};
+ghost use Rattle.str0m_values.specs.Only.{IsTheOnly};
+ghost use Rattle.str0m_values.specs.Frequency.{IsRate};
 
+use crate::cuts::num_u32;
 use std::fmt;
 use std::marker::Model;
 
@@ -20,6 +23,26 @@ impl Model for Frequency {
 }
 
 impl Frequency {
+    pub const EIGHT_KHZ: Frequency = Frequency(8_000);
+
+    pub const SIXTEEN_KHZ: Frequency = Frequency(16_000);
+
+    pub const FORTY_EIGHT_KHZ: Frequency = Frequency(48_000);
+
+    pub const NINETY_KHZ: Frequency = Frequency(90_000);
+
+    /// The rates that have names, ascending.
+    pub fn named() -> [Frequency; 4]
+        ensures { result ≡ 8000 ∷ 16000 ∷ 48000 ∷ 90000 ∷ [] }
+    {
+        [
+            Frequency::EIGHT_KHZ,
+            Frequency::SIXTEEN_KHZ,
+            Frequency::FORTY_EIGHT_KHZ,
+            Frequency::NINETY_KHZ,
+        ]
+    }
+
     /// The rate of so many Hz; `None` for zero.
     pub fn new(hertz: u32) -> Option<Frequency>
         ensures rate { IfSome result (λ f. f ≡ hertz) }
@@ -29,6 +52,14 @@ impl Frequency {
             return None;
         }
         Some(Frequency(hertz))
+    }
+
+    /// The rate that a text names: a decimal number of 32 bits as std reads it, so a leading plus
+    /// and leading zeros are allowed. `None` for any other text, and for zero.
+    pub fn from_str(text: &str) -> Option<Frequency>
+        ensures { IsTheOnly (IsRate text.now) result }
+    {
+        Frequency::new(num_u32(text)?)
     }
 
     /// The rate in Hz.

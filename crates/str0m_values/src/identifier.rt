@@ -1,4 +1,4 @@
-//! The names of media sections.
+//! The names of media sections, and of the streams in them.
 ghost use Rattle.std.specs.Prelude.{◌≡◌, ◌≤◌, List, ℕ, Some, length};
 ghost use Rattle.std.specs.Str.{IsUtf8};
 ghost use Rattle.str0m_values.specs.ShortText.{IsLongestBeginning};
@@ -30,7 +30,8 @@ impl Mid {
 }
 
 impl<'a> From<&'a str> for Mid {
-    ghost from_gives = { λ text m. IsLongestBeginning 16 text.now m };
+    ghost from_gives = { λ text m.
+        IsLongestBeginning 16 text.now m × (length text.now ≤ 16 → m ≡ text.now) };
 
     fn from(text: &'a str) -> Mid {
         Mid(ShortText::beginning(text))
@@ -39,6 +40,46 @@ impl<'a> From<&'a str> for Mid {
 
 impl fmt::Display for Mid {
     ghost output = { λ m. Some m };
+
+    fn fmt<W: fmt::Write>(&self, f: &mut fmt::Formatter<W>) -> fmt::Result {
+        let text = self.0.as_str();
+        write!(f, "{text}")
+    }
+}
+
+/// The name of a stream that may be restricted (RFC 8851, section 10): a text of at most 16 bytes.
+#[derive(Clone, Copy, Debug, PartialEq, Eq, Hash)]
+pub struct Rid(ShortText);
+
+impl Model for Rid {
+    ghost Value = { List ℕ };
+
+    ghost view = { λ r. r.0 };
+
+    ghost inverse = { λ t. record { 0 = t } };
+}
+
+impl Rid {
+    pub fn as_str(&self) -> &str
+        ensures value { result.now ≡ self.now }
+        ensures fits { length self.now ≤ 16 }
+        ensures utf8 { IsUtf8 self.now }
+    {
+        self.0.as_str()
+    }
+}
+
+impl<'a> From<&'a str> for Rid {
+    ghost from_gives = { λ text r.
+        IsLongestBeginning 16 text.now r × (length text.now ≤ 16 → r ≡ text.now) };
+
+    fn from(text: &'a str) -> Rid {
+        Rid(ShortText::beginning(text))
+    }
+}
+
+impl fmt::Display for Rid {
+    ghost output = { λ r. Some r };
 
     fn fmt<W: fmt::Write>(&self, f: &mut fmt::Formatter<W>) -> fmt::Result {
         let text = self.0.as_str();

@@ -1,0 +1,16 @@
+//! Lines with a candidate.
+
+ghost use Rattle.str0m_values.specs.CandidateReading.{candidate_read};
+
+use crate::attributes::Attribute;
+use std::alloc::{AllocError, Global};
+use str0m_values::Candidate;
+use str0m_values::candidate_text::candidate;
+
+impl Attribute for Candidate {
+    ghost reading = { candidate_read };
+
+    fn read(alloc: Global, text: &str) -> Result<Option<Candidate>, AllocError> {
+        candidate(alloc, text)
+    }
+}

@@ -1,0 +1,98 @@
+-- A text is read as one fingerprint at most, and what is printed is read as itself.
+use Rattle.std.proofs.Common.{◌≡◌, ◌<◌, ℕ, List, [], ◌∷◌, All, Any, length, Some, Result, Ok, Err, arith, refl, sym, ap, ◌∙◌, subst}
+use Rattle.std.specs.Prelude.{IsErr, IsErrOf}
+use Rattle.std.specs.Result.{IsErrAnd}
+use Rattle.std.specs.List.{AllZip}
+use Rattle.std.proofs.lemmas.Option.{some_pair_parts, none-some}
+use Rattle.str0m_values.specs.Cuts.{cut}
+use Rattle.str0m_values.specs.Parts.{Lacks}
+use Rattle.str0m_values.specs.Fingerprint.{IsNamed, IsByte, pieces_of, IsFingerprint, HasBadPiece, HasBadByte, IsBytesReading, IsReading, Gives, CanBeReadBack, fingerprint_text, pairs_text}
+use Rattle.str0m_values.specs.declared.fingerprint.Fingerprint.{Fingerprint}
+use Rattle.str0m_values.specs.declared.fingerprint.FingerprintError.{FingerprintError}
+use Rattle.str0m_values.specs.declared.fingerprint.FingerprintError.TheVariants.{NoSpace, BadByte, Memory}
+use Rattle.str0m_values.proofs.CutLaws.{cut_at, cut_none}
+use Rattle.str0m_values.proofs.Pairs.{printed_read}
+use Rattle.str0m_values.proofs.ZipLaws.{AllZip-at}
+
+-- ---- the name
+
+named_cut : (text name rest : List ℕ) → IsNamed text name rest → cut 32 text ≡ Some (name, rest)
+named_cut text name rest h = ap (cut 32) h.whole ∙ cut_at 32 name rest h.word
+
+pub named_one : (text a b x y : List ℕ) → IsNamed text a x → IsNamed text b y → (a ≡ b) × (x ≡ y)
+named_one text a b x y h k = some_pair_parts a b x y (sym (named_cut text a x h) ∙ named_cut text b y k)
+
+pub named_space : (text name rest : List ℕ) → IsNamed text name rest → ¬ (Lacks 32 text)
+named_space text name rest h lacks = none-some (name, rest) (sym (cut_none 32 text lacks) ∙ named_cut text name rest h)
+
+-- ---- the bytes
+
+bytes_one : (pieces : List (List ℕ)) (a b : List ℕ) → AllZip IsByte pieces a → AllZip IsByte pieces b → a ≡ b
+bytes_one [] [] [] h k = refl
+bytes_one [] [] (y ∷ ys) h k = absurd k
+bytes_one [] (x ∷ xs) b h k = absurd h
+bytes_one (piece ∷ pieces) [] b h k = absurd h
+bytes_one (piece ∷ pieces) (x ∷ xs) [] h k = absurd k
+bytes_one (piece ∷ pieces) (x ∷ xs) (y ∷ ys) h k =
+    let here : x ≡ y = sym h.0.value ∙ k.0.value in
+    let there : xs ≡ ys = bytes_one pieces xs ys h.1 k.1 in
+    cc
+
+-- where each piece is a byte, none is bad
+none_bad : (pieces : List (List ℕ)) (bytes : List ℕ) → AllZip IsByte pieces bytes → Any (λ piece. (byte : ℕ) → ¬ (IsByte piece byte)) pieces → ⊥
+none_bad pieces bytes h any =
+    let at = AllZip-at IsByte pieces bytes any.0 any.1 h any.2 in
+    any.4 at.0 (rw any.3 at at.1)
+
+-- ---- the whole
+
+same_fingerprint : (text : List ℕ) (f g : Fingerprint) → IsFingerprint text f → IsFingerprint text g → f ≡ g
+same_fingerprint text f g h k =
+    let named = named_one text f.hash_func g.hash_func h.0 k.0 h.1 k.1 in
+    let again : AllZip IsByte (pieces_of h.0) g.bytes = rw named.1 k.2 in
+    let bytes : f.bytes ≡ g.bytes = bytes_one (pieces_of h.0) f.bytes g.bytes h.2 again in
+    λ i. record { hash_func = named.0 i; bytes = bytes i }
+
+fingerprint_good : (text : List ℕ) (f : Fingerprint) → IsFingerprint text f → ¬ (HasBadByte text)
+fingerprint_good text f h bad =
+    let named = named_one text f.hash_func bad.0 h.0 bad.1 h.1 bad.2 in
+    let again : HasBadPiece h.0 = rw named.1 bad.3 in
+    none_bad (pieces_of h.0) f.bytes h.2 again
+
+pub only_one : (text : List ℕ) (r : Result Fingerprint FingerprintError) → IsReading text r → (f : Fingerprint) → IsFingerprint text f → Gives f r
+only_one text (Ok g) h f is = same_fingerprint text g f h is
+only_one text (Err NoSpace) h f is = absurd (named_space text f.hash_func is.0 is.1 h)
+only_one text (Err BadByte) h f is = absurd (fingerprint_good text f is h)
+only_one text (Err Memory) h f is = refl
+
+pub no_space : (text : List ℕ) (r : Result Fingerprint FingerprintError) → IsReading text r → (IsErrOf r NoSpace → Lacks 32 text) × (Lacks 32 text → IsErrOf r NoSpace)
+no_space text (Ok g) h = (λ e. absurd cc, λ lacks. absurd (named_space text g.hash_func h.0 h.1 lacks))
+no_space text (Err NoSpace) h = (λ e. h, λ lacks. refl)
+no_space text (Err BadByte) h = (λ e. absurd cc, λ lacks. absurd (named_space text h.0 h.1 h.2 lacks))
+no_space text (Err Memory) h = (λ e. absurd cc, λ lacks. absurd (h lacks))
+
+pub refuses : (text : List ℕ) (r : Result Fingerprint FingerprintError) → IsReading text r → HasBadByte text → IsErr r
+refuses text (Ok f) h bad = absurd (fingerprint_good text f h bad)
+refuses text (Err e) h bad = refl
+
+-- a fingerprint with a byte and no space in its name is what its printed text is read as
+reads_back : (f : Fingerprint) (bytes : List ℕ) → f.bytes ≡ bytes → CanBeReadBack f → IsFingerprint (fingerprint_text f) f
+reads_back f [] e can = let some = can.some in absurd (omega (arith, ap length e))
+reads_back f (first ∷ more) e can =
+    let small : All (λ byte. byte < 256) (first ∷ more) = subst (λ (bytes : List ℕ). All (λ byte. byte < 256) bytes) e can.bytes in
+    let read = subst (λ (bytes : List ℕ). AllZip IsByte (pieces_of (pairs_text bytes)) bytes) (sym e) (printed_read first more small) in
+    (pairs_text f.bytes, record { whole = refl; word = can.word }, read)
+
+pub itself : (text : List ℕ) (r : Result Fingerprint FingerprintError) → IsReading text r → (f : Fingerprint) → CanBeReadBack f → text ≡ fingerprint_text f → Gives f r
+itself text r h f can e = only_one text r h f (subst (λ (t : List ℕ). IsFingerprint t f) (sym e) (reads_back f f.bytes refl can))
+
+-- ---- what a refusal inside says of the whole
+
+pub refused : (text name rest : List ℕ) (e : FingerprintError) → IsNamed text name rest → IsBytesReading rest (Err e) → IsReading text (Err e)
+refused text name rest NoSpace named h = absurd h
+refused text name rest BadByte named h = (name, rest, named, h)
+refused text name rest Memory named h = named_space text name rest named
+
+pub was_err : {T E : Type 0} (r : Result T E) (e : E) → IsErr r × IsErrAnd r (λ x. x ≡ e) → r ≡ Err e
+was_err (Ok x) e h = absurd h.1
+was_err (Err x) e h = ap Err h.1

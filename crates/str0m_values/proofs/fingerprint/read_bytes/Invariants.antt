@@ -1,0 +1,10 @@
+use Rattle.std.proofs.Common.{length, take}
+use Rattle.std.specs.List.{AllZip}
+use Rattle.str0m_values.specs.Fingerprint.{IsByte, pieces_of}
+use Rattle.str0m_values.proofs.fingerprint.read_bytes.Given as goal
+
+abbrev pub invariant-loop-piece : goal.invariant-loop-piece
+invariant-loop-piece l =
+    (goal.iterator-loop-piece).can_next l.piece-iterator ×
+    (goal.iterator-loop-piece).is_finite l.piece-iterator ×
+    AllZip IsByte (take (length l.yielded) (pieces_of l.text)) l.bytes

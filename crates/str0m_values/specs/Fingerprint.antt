@@ -1,0 +1,86 @@
+-- Fingerprints of certificates in texts (RFC 8122, section 5).
+use Rattle.std.specs.Prelude.{◌≡◌, ◌<◌, ◌==◌, ◌/◌, ◌%◌, ⊤, ℕ, true, List, [], ◌∷◌, ◌++◌, length, All, Any, Result, Ok, Err, codes, if◌then◌else◌}
+use Rattle.std.specs.List.{AllZip, flat_map, slice_split}
+use Rattle.std.specs.Str.{str_eq_ignore_ascii_case}
+use Rattle.std.specs.Fmt.{digit_glyph}
+use Rattle.str0m_values.specs.Parts.{Lacks, IsNumber}
+use Rattle.str0m_values.specs.declared.fingerprint.Fingerprint.{Fingerprint}
+use Rattle.str0m_values.specs.declared.fingerprint.FingerprintError.{FingerprintError}
+use Rattle.str0m_values.specs.declared.fingerprint.FingerprintError.TheVariants.{NoSpace, BadByte, Memory}
+
+-- ---- printed
+
+-- a byte as two upper-case hex digits
+abbrev pub hex_pair : ℕ → List ℕ
+hex_pair byte = digit_glyph true (byte / 16) ∷ digit_glyph true (byte % 16) ∷ []
+
+-- bytes as such pairs, with `:` before each but the first
+abbrev pub pairs_text : List ℕ → List ℕ
+pairs_text [] = []
+pairs_text (first ∷ more) = hex_pair first ++ flat_map (λ byte. 58 ∷ hex_pair byte) more
+
+-- the name, a space, and the bytes
+abbrev pub fingerprint_text : Fingerprint → List ℕ
+fingerprint_text f = f.hash_func ++ (32 ∷ pairs_text f.bytes)
+
+-- ---- read
+
+-- the text is a name that holds no space, a space, and a rest
+pub record IsNamed (text name rest : List ℕ) : Type 0 where
+  pub whole : text ≡ name ++ (32 ∷ rest)
+  pub word : Lacks 32 name
+
+-- what stands between the `:`s
+abbrev pub pieces_of : List ℕ → List (List ℕ)
+pieces_of text = slice_split (λ b. b == 58) text
+
+-- the piece is the byte, in hexadecimal as std reads it
+abbrev pub IsByte : List ℕ → ℕ → Type 0
+IsByte piece byte = IsNumber 16 255 piece byte
+
+-- the text is read as this fingerprint
+abbrev pub IsFingerprint : List ℕ → Fingerprint → Type 0
+IsFingerprint text f = (rest : List ℕ) × IsNamed text f.hash_func rest × AllZip IsByte (pieces_of rest) f.bytes
+
+-- some piece of the text is no byte
+abbrev pub HasBadPiece : List ℕ → Type 0
+HasBadPiece text = Any (λ piece. (byte : ℕ) → ¬ (IsByte piece byte)) (pieces_of text)
+
+-- some piece after the first space is no byte
+abbrev pub HasBadByte : List ℕ → Type 0
+HasBadByte text = (name : List ℕ) × (rest : List ℕ) × IsNamed text name rest × HasBadPiece rest
+
+-- the answer is this fingerprint, memory aside
+abbrev pub Gives : Fingerprint → Result Fingerprint FingerprintError → Type 0
+Gives f (Ok g) = g ≡ f
+Gives f (Err e) = e ≡ Memory
+
+-- what the bytes of a text are read as, or why they aren't
+abbrev pub IsBytesReading : List ℕ → Result (List ℕ) FingerprintError → Type 0
+IsBytesReading text (Ok bytes) = AllZip IsByte (pieces_of text) bytes
+IsBytesReading text (Err NoSpace) = ⊥
+IsBytesReading text (Err BadByte) = HasBadPiece text
+IsBytesReading text (Err Memory) = ⊤
+
+-- what a text is read as, or why it isn't; memory is asked for only behind a space
+abbrev pub IsReading : List ℕ → Result Fingerprint FingerprintError → Type 0
+IsReading text (Ok f) = IsFingerprint text f
+IsReading text (Err NoSpace) = Lacks 32 text
+IsReading text (Err BadByte) = HasBadByte text
+IsReading text (Err Memory) = ¬ (Lacks 32 text)
+
+-- ---- printed and read
+
+-- what is needed for the printed text to read as the fingerprint: a name that holds no space, and a byte
+pub record CanBeReadBack (f : Fingerprint) : Type 0 where
+  pub word : Lacks 32 f.hash_func
+  pub some : 0 < length f.bytes
+  pub bytes : All (λ byte. byte < 256) f.bytes
+
+-- ---- preferred
+
+-- the place of a hash function in the order of preference
+abbrev pub preference_of : List ℕ → ℕ
+preference_of name =
+    if str_eq_ignore_ascii_case name (codes "sha-256") then 0
+    else (if str_eq_ignore_ascii_case name (codes "sha-1") then 1 else 2)

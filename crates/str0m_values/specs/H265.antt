@@ -1,0 +1,68 @@
+-- Profiles, tiers and levels of H265 (RFC 7798, section 7.1), in one table each.
+use Rattle.std.specs.Prelude.{◌≡◌, ℕ, List, Option}
+use Rattle.std.specs.Borrow.{Bor}
+use Rattle.str0m_values.specs.Parts.{IsNumOr}
+use Rattle.str0m_values.specs.declared.h265.H265Profile.{H265Profile}
+use Rattle.str0m_values.specs.declared.h265.H265Profile.TheVariants as profile
+use Rattle.str0m_values.specs.declared.h265.H265Tier.{H265Tier}
+use Rattle.str0m_values.specs.declared.h265.H265Tier.TheVariants as tier
+use Rattle.str0m_values.specs.declared.h265.H265Level.{H265Level}
+use Rattle.str0m_values.specs.declared.h265.H265Level.TheVariants as level
+use Rattle.str0m_values.specs.declared.h265.H265ProfileTierLevel.{H265ProfileTierLevel}
+
+-- the number of each profile
+abbrev pub profile_id : H265Profile → ℕ
+profile_id profile.Main = 1
+profile_id profile.Main10 = 2
+profile_id profile.MainStillPicture = 3
+profile_id profile.RangeExtensions = 4
+profile_id profile.HighThroughput = 5
+profile_id profile.MultiviewMain = 6
+profile_id profile.ScalableMain = 7
+profile_id profile.Main3D = 8
+profile_id profile.ScreenExtended = 9
+profile_id profile.ScalableRangeExtensions = 10
+profile_id profile.HighThroughputScreenExtended = 11
+
+-- the flag of each tier
+abbrev pub tier_flag : H265Tier → ℕ
+tier_flag tier.Main = 0
+tier_flag tier.High = 1
+
+-- the number of each level, and its place among them
+abbrev pub level_row : H265Level → ℕ × ℕ
+level_row level.L1 = (30, 0)
+level_row level.L2 = (60, 1)
+level_row level.L2_1 = (63, 2)
+level_row level.L3 = (90, 3)
+level_row level.L3_1 = (93, 4)
+level_row level.L4 = (120, 5)
+level_row level.L4_1 = (123, 6)
+level_row level.L5 = (150, 7)
+level_row level.L5_1 = (153, 8)
+level_row level.L5_2 = (156, 9)
+level_row level.L6 = (180, 10)
+level_row level.L6_1 = (183, 11)
+level_row level.L6_2 = (186, 12)
+
+abbrev pub level_id : H265Level → ℕ
+level_id level = (level_row level).0
+
+abbrev pub level_ordinal : H265Level → ℕ
+level_ordinal level = (level_row level).1
+
+-- the numbers that an absent part stands for, and those of the fallback
+abbrev pub defaults : ℕ × ℕ × ℕ
+defaults = (1, 0, 93)
+
+-- the triple has these numbers
+pub record IsTriple (profile tier level : ℕ) (triple : H265ProfileTierLevel) : Type 0 where
+  pub profile_is : profile_id triple.profile ≡ profile
+  pub tier_is : tier_flag triple.tier ≡ tier
+  pub level_is : level_id triple.level ≡ level
+
+-- the triple has the numbers of these texts, or the defaults where there is none
+pub record IsTripleOfTexts (profile tier level : Option (Bor (List ℕ))) (triple : H265ProfileTierLevel) : Type 0 where
+  pub profile_is : IsNumOr 255 defaults.0 profile (profile_id triple.profile)
+  pub tier_is : IsNumOr 255 defaults.1 tier (tier_flag triple.tier)
+  pub level_is : IsNumOr 255 defaults.2 level (level_id triple.level)

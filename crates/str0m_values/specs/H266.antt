@@ -1,0 +1,64 @@
+-- Profiles, tiers and levels of H266 (RFC 9328, section 7.2), in one table each.
+use Rattle.std.specs.Prelude.{◌≡◌, ℕ, List, Option}
+use Rattle.std.specs.Borrow.{Bor}
+use Rattle.str0m_values.specs.Parts.{IsNumOr}
+use Rattle.str0m_values.specs.declared.h266.H266Profile.{H266Profile}
+use Rattle.str0m_values.specs.declared.h266.H266Profile.TheVariants as profile
+use Rattle.str0m_values.specs.declared.h266.H266Tier.{H266Tier}
+use Rattle.str0m_values.specs.declared.h266.H266Tier.TheVariants as tier
+use Rattle.str0m_values.specs.declared.h266.H266Level.{H266Level}
+use Rattle.str0m_values.specs.declared.h266.H266Level.TheVariants as level
+use Rattle.str0m_values.specs.declared.h266.H266ProfileTierLevel.{H266ProfileTierLevel}
+
+-- the number of each profile
+abbrev pub profile_id : H266Profile → ℕ
+profile_id profile.Main10 = 1
+profile_id profile.MultilayerMain10 = 17
+profile_id profile.Main10_444 = 33
+profile_id profile.MultilayerMain10_444 = 49
+profile_id profile.Main10StillPicture = 65
+profile_id profile.Main10_444StillPicture = 97
+
+-- the flag of each tier
+abbrev pub tier_flag : H266Tier → ℕ
+tier_flag tier.Main = 0
+tier_flag tier.High = 1
+
+-- the number of each level, and its place among them
+abbrev pub level_row : H266Level → ℕ × ℕ
+level_row level.L1 = (16, 0)
+level_row level.L2 = (32, 1)
+level_row level.L2_1 = (35, 2)
+level_row level.L3 = (48, 3)
+level_row level.L3_1 = (51, 4)
+level_row level.L4 = (64, 5)
+level_row level.L4_1 = (67, 6)
+level_row level.L5 = (80, 7)
+level_row level.L5_1 = (83, 8)
+level_row level.L5_2 = (86, 9)
+level_row level.L6 = (96, 10)
+level_row level.L6_1 = (99, 11)
+level_row level.L6_2 = (102, 12)
+level_row level.L6_3 = (105, 13)
+
+abbrev pub level_id : H266Level → ℕ
+level_id level = (level_row level).0
+
+abbrev pub level_ordinal : H266Level → ℕ
+level_ordinal level = (level_row level).1
+
+-- the numbers that an absent part stands for, and those of the fallback
+abbrev pub defaults : ℕ × ℕ × ℕ
+defaults = (1, 0, 51)
+
+-- the triple has these numbers
+pub record IsTriple (profile tier level : ℕ) (triple : H266ProfileTierLevel) : Type 0 where
+  pub profile_is : profile_id triple.profile ≡ profile
+  pub tier_is : tier_flag triple.tier ≡ tier
+  pub level_is : level_id triple.level ≡ level
+
+-- the triple has the numbers of these texts, or the defaults where there is none
+pub record IsTripleOfTexts (profile tier level : Option (Bor (List ℕ))) (triple : H266ProfileTierLevel) : Type 0 where
+  pub profile_is : IsNumOr 255 defaults.0 profile (profile_id triple.profile)
+  pub tier_is : IsNumOr 255 defaults.1 tier (tier_flag triple.tier)
+  pub level_is : IsNumOr 255 defaults.2 level (level_id triple.level)

@@ -1,0 +1,52 @@
+//! Header extensions of RTP.
+ghost use Rattle.std.specs.Prelude.{◌≡◌, IfOk, true};
+
+use crate::text::Text;
+use std::alloc::{AllocError, Global};
+
+/// A header extension, which its URI names (RFC 8285, section 5).
+#[derive(Clone, Debug, PartialEq, Eq, Drop)]
+pub struct Extension {
+    /// The URI that names it.
+    pub uri: Text,
+    /// Whether descriptions list it; one that they don't is for this side's own use.
+    pub serialized: bool,
+}
+
+impl Extension {
+    /// The extension of a URI that stands in a description, so that descriptions list it.
+    pub fn from_sdp_uri(alloc: Global, uri: &str) -> Result<Extension, AllocError>
+        ensures { IfOk result (λ e. e ≡ record { uri = uri.now; serialized = true }) }
+    {
+        Extension::new(alloc, uri, true)
+    }
+
+    /// The extension of a URI, which descriptions list where `serialized` holds.
+    pub fn new(alloc: Global, uri: &str, serialized: bool) -> Result<Extension, AllocError>
+        ensures { IfOk result (λ e. e ≡ record { uri = uri.now; serialized = serialized }) }
+    {
+        let uri = Text::from_str(alloc, uri)?;
+        Ok(Extension { uri, serialized })
+    }
+
+    /// A copy that equals its source.
+    pub fn clone(&self) -> Result<Extension, AllocError>
+        ensures { IfOk result (λ e. e ≡ self.now) }
+    {
+        Clone::clone(self)
+    }
+
+    /// The URI that names it.
+    pub fn as_uri(&self) -> &str
+        ensures { result.now ≡ self.now.uri }
+    {
+        self.uri.as_str()
+    }
+
+    /// Whether descriptions list it.
+    pub fn is_serialized(&self) -> bool
+        ensures { result ≡ self.now.serialized }
+    {
+        self.serialized
+    }
+}

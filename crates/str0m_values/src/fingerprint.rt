@@ -1,0 +1,167 @@
+//! Fingerprints of certificates.
+ghost use Rattle.std.specs.Prelude.{◌≡◌, ◌↔◌, ◌++◌, ◌∷◌, IfOk, IsErr, IsErrOf, IsTrue, Some};
+ghost use Rattle.str0m_values.specs.Parts.{Lacks};
+ghost use Rattle.str0m_values.specs.Fingerprint.{IsFingerprint, HasBadByte, IsBytesReading, IsReading, Gives, CanBeReadBack, fingerprint_text, hex_pair, pairs_text, preference_of};
+ghost use Rattle.str0m_values.specs.declared.fingerprint.Fingerprint.{Fingerprint};
+ghost use Rattle.str0m_values.specs.declared.fingerprint.FingerprintError.TheVariants.{NoSpace, BadByte, Memory};
+
+use crate::cuts::{cut, hex_u8, is_same_text};
+use crate::items::Items;
+use crate::text::Text;
+use std::alloc::{AllocError, AllocFailed, Global};
+use std::fmt;
+use std::hash::Hash;
+use thiserror::Error;
+
+/// Why a text is no fingerprint.
+#[derive(Clone, Copy, Debug, PartialEq, Eq, Error)]
+pub enum FingerprintError {
+    #[error("no space")]
+    NoSpace,
+    #[error("bad byte")]
+    BadByte,
+    #[error("out of memory")]
+    Memory,
+}
+
+impl From<AllocError> for FingerprintError {
+    ghost from_gives = { λ _ e. e ≡ Memory };
+
+    fn from(_refused: AllocError) -> FingerprintError {
+        FingerprintError::Memory
+    }
+}
+
+impl<T: Drop> From<AllocFailed<T>> for FingerprintError {
+    ghost from_gives = { λ _ e. e ≡ Memory };
+
+    fn from(_refused: AllocFailed<T>) -> FingerprintError {
+        FingerprintError::Memory
+    }
+}
+
+/// A hash of a certificate, by which a peer that shows it is known (RFC 8122, section 5).
+#[derive(Clone, Debug, PartialEq, Eq, Hash, Drop)]
+pub struct Fingerprint {
+    /// The name of the hash function, as it stands in the description.
+    pub hash_func: Text,
+    /// The hash.
+    pub bytes: Items<u8>,
+}
+
+impl Fingerprint {
+    /// Reads the name of a hash function, a space, and bytes with `:` between each two.
+    ///
+    /// The name reaches to the first space. Each byte is in hexadecimal as std reads a `u8`, so one
+    /// digit is enough, and a leading plus and leading zeros are allowed; an empty one is no byte.
+    /// `NoSpace` where there is no space, `BadByte` where a byte can't be read, and `Memory` where
+    /// there is no room for what was read so far.
+    pub fn from_str(alloc: Global, text: &str) -> Result<Fingerprint, FingerprintError>
+        ensures reads { IfOk result (IsFingerprint text.now) }
+        ensures only { (f : Fingerprint) → IsFingerprint text.now f → Gives f result }
+        ensures no_space { IsErrOf result NoSpace ↔ Lacks 32 text.now }
+        ensures bad_byte { IsErrOf result BadByte → HasBadByte text.now }
+        ensures refuses { HasBadByte text.now → IsErr result }
+
+        // What is printed reads as itself.
+        ensures itself { (f : Fingerprint) → CanBeReadBack f → text.now ≡ fingerprint_text f → Gives f result }
+
+        // Equal fingerprints hash alike.
+        ensures alike { (f g : Fingerprint) → IsTrue (⟦<Fingerprint as PartialEq>⟧.eq f g) →
+            ⟦<Fingerprint as Hash>⟧.hash_input f ≡ ⟦<Fingerprint as Hash>⟧.hash_input g }
+    {
+        read(alloc, text)
+    }
+
+    /// A copy that equals its source.
+    pub fn clone(&self) -> Result<Fingerprint, AllocError>
+        ensures { IfOk result (λ f. f ≡ self.now) }
+    {
+        Clone::clone(self)
+    }
+
+    /// Where the hash stands in the order of preference: 0 for `sha-256`, 1 for `sha-1`, without
+    /// regard to ASCII case, and 2 for all others. A least one is preferred (RFC 8122, section 5.1).
+    pub fn hash_preference(&self) -> u8
+        ensures { result ≡ preference_of self.now.hash_func }
+    {
+        let name = self.hash_func.as_str();
+        if is_same_text(name, "sha-256") {
+            0
+        } else if is_same_text(name, "sha-1") {
+            1
+        } else {
+            2
+        }
+    }
+}
+
+fn read(alloc: Global, text: &str) -> Result<Fingerprint, FingerprintError>
+    ensures { IsReading text.now result }
+{
+    let Some((name, rest)) = cut(text, ' ') else {
+        return Err(FingerprintError::NoSpace);
+    };
+    let bytes = read_bytes(alloc, rest)?;
+    let hash_func = Text::from_str(alloc, name)?;
+    Ok(Fingerprint { hash_func, bytes })
+}
+
+fn read_bytes(alloc: Global, text: &str) -> Result<Items<u8>, FingerprintError>
+    ensures { IsBytesReading text.now result }
+{
+    let mut bytes = Items::empty(alloc);
+    for piece in text.split(':') {
+        let Some(byte) = hex_u8(piece) else {
+            return Err(FingerprintError::BadByte);
+        };
+        bytes.push(byte)?;
+    }
+    Ok(bytes)
+}
+
+impl fmt::Display for Fingerprint {
+    ghost output = { λ f. Some (fingerprint_text f) };
+
+    fn fmt<W: fmt::Write>(&self, f: &mut fmt::Formatter<W>) -> fmt::Result {
+        let name = self.hash_func.as_str();
+        let bytes = FingerprintFmt(self.bytes.as_slice());
+        write!(f, "{name} {bytes}")
+    }
+}
+
+/// The bytes of a fingerprint as descriptions show them: two upper-case hex digits for each, with
+/// `:` between each two (RFC 8122, section 5). No bytes print nothing.
+#[derive(Clone, Copy, Debug)]
+pub struct FingerprintFmt<'a>(pub &'a [u8]);
+
+impl<'a> fmt::Display for FingerprintFmt<'a> {
+    ghost output = { λ b. Some (pairs_text b.0.now) };
+
+    fn fmt<W: fmt::Write>(&self, f: &mut fmt::Formatter<W>) -> fmt::Result {
+        let Some((first, more)) = self.0.split_first() else {
+            return Ok(());
+        };
+        let pair = HexPair(*first);
+        write!(f, "{pair}")?;
+        for byte in more {
+            let pair = HexPair(*byte);
+            write!(f, ":{pair}")?;
+        }
+        Ok(())
+    }
+}
+
+/// A byte as two upper-case hex digits.
+#[derive(Clone, Copy)]
+struct HexPair(u8);
+
+impl fmt::Display for HexPair {
+    ghost output = { λ b. Some (hex_pair b.0) };
+
+    #[tactic(auto, using(std::proofs::lemmas::Fmt::hex_byte))]
+    fn fmt<W: fmt::Write>(&self, f: &mut fmt::Formatter<W>) -> fmt::Result {
+        let byte = self.0;
+        write!(f, "{byte:02X}")
+    }
+}

@@ -1,0 +1,246 @@
+//! Profiles, tiers and levels of H266.
+ghost use Rattle.std.specs.Prelude.{◌≡◌, nat_lt};
+ghost use Rattle.std.specs.Ordering.{nat_cmp};
+ghost use Rattle.str0m_values.specs.Only.{IsTheOnly};
+ghost use Rattle.str0m_values.specs.H266.{profile_id, tier_flag, level_id, level_ordinal, defaults, IsTriple, IsTripleOfTexts};
+
+use crate::cuts::num_u8_or;
+
+/// A profile of H266: which of its tools a stream may use (RFC 9328, section 7.2).
+#[derive(Clone, Copy, Debug, PartialEq, Eq, Hash)]
+pub enum H266Profile {
+    Main10,
+    MultilayerMain10,
+    Main10_444,
+    MultilayerMain10_444,
+    Main10StillPicture,
+    Main10_444StillPicture,
+}
+
+/// A tier of H266: how high the bit rate of a level may be.
+#[derive(Clone, Copy, Debug, PartialEq, Eq, Hash)]
+pub enum H266Tier {
+    Main,
+    High,
+}
+
+/// A level of H266, in the order of what a decoder has to bear: `L4_1` is level 4.1.
+#[derive(Clone, Copy, Debug, PartialEq, Eq, PartialOrd, Ord, Hash)]
+pub enum H266Level {
+    L1,
+    L2,
+    L2_1,
+    L3,
+    L3_1,
+    L4,
+    L4_1,
+    L5,
+    L5_1,
+    L5_2,
+    L6,
+    L6_1,
+    L6_2,
+    L6_3,
+}
+
+/// A profile, a tier and a level of H266: what a stream holds, or what a decoder bears (RFC 9328, section 7.2).
+#[derive(Clone, Copy, Debug, PartialEq, Eq, Hash)]
+pub struct H266ProfileTierLevel {
+    pub profile: H266Profile,
+    pub tier: H266Tier,
+    pub level: H266Level,
+}
+
+impl H266Profile {
+    /// The number that stands for the profile in `profile-id`.
+    pub fn to_id(self) -> u8
+        ensures { result ≡ profile_id self }
+    {
+        match self {
+            H266Profile::Main10 => 1,
+            H266Profile::MultilayerMain10 => 17,
+            H266Profile::Main10_444 => 33,
+            H266Profile::MultilayerMain10_444 => 49,
+            H266Profile::Main10StillPicture => 65,
+            H266Profile::Main10_444StillPicture => 97,
+        }
+    }
+
+    fn from_id(id: u8) -> Option<H266Profile>
+        ensures { IsTheOnly (λ profile. profile_id profile ≡ id) result }
+    {
+        match id {
+            1 => Some(H266Profile::Main10),
+            17 => Some(H266Profile::MultilayerMain10),
+            33 => Some(H266Profile::Main10_444),
+            49 => Some(H266Profile::MultilayerMain10_444),
+            65 => Some(H266Profile::Main10StillPicture),
+            97 => Some(H266Profile::Main10_444StillPicture),
+            _ => None,
+        }
+    }
+}
+
+impl H266Tier {
+    /// The number that stands for the tier in `tier-flag`.
+    pub fn to_id(self) -> u8
+        ensures { result ≡ tier_flag self }
+    {
+        match self {
+            H266Tier::Main => 0,
+            H266Tier::High => 1,
+        }
+    }
+
+    fn from_id(id: u8) -> Option<H266Tier>
+        ensures { IsTheOnly (λ tier. tier_flag tier ≡ id) result }
+    {
+        match id {
+            0 => Some(H266Tier::Main),
+            1 => Some(H266Tier::High),
+            _ => None,
+        }
+    }
+}
+
+impl H266Level {
+    /// The number that stands for the level in `level-id`.
+    pub fn to_id(self) -> u8
+        ensures { result ≡ level_id self }
+    {
+        match self {
+            H266Level::L1 => 16,
+            H266Level::L2 => 32,
+            H266Level::L2_1 => 35,
+            H266Level::L3 => 48,
+            H266Level::L3_1 => 51,
+            H266Level::L4 => 64,
+            H266Level::L4_1 => 67,
+            H266Level::L5 => 80,
+            H266Level::L5_1 => 83,
+            H266Level::L5_2 => 86,
+            H266Level::L6 => 96,
+            H266Level::L6_1 => 99,
+            H266Level::L6_2 => 102,
+            H266Level::L6_3 => 105,
+        }
+    }
+
+    fn from_id(id: u8) -> Option<H266Level>
+        ensures { IsTheOnly (λ level. level_id level ≡ id) result }
+    {
+        match id {
+            16 => Some(H266Level::L1),
+            32 => Some(H266Level::L2),
+            35 => Some(H266Level::L2_1),
+            48 => Some(H266Level::L3),
+            51 => Some(H266Level::L3_1),
+            64 => Some(H266Level::L4),
+            67 => Some(H266Level::L4_1),
+            80 => Some(H266Level::L5),
+            83 => Some(H266Level::L5_1),
+            86 => Some(H266Level::L5_2),
+            96 => Some(H266Level::L6),
+            99 => Some(H266Level::L6_1),
+            102 => Some(H266Level::L6_2),
+            105 => Some(H266Level::L6_3),
+            _ => None,
+        }
+    }
+
+    /// The place of the level among the levels, from 0.
+    pub fn ordinal(self) -> usize
+        ensures place { result ≡ level_ordinal self }
+
+        // Levels are in the order of their places, and so are their numbers.
+        ensures order { (a b : H266Level) →
+            ⟦<H266Level as Ord>⟧.cmp a b ≡ nat_cmp (level_ordinal a) (level_ordinal b) }
+        ensures numbers { (a b : H266Level) →
+            nat_lt (level_id a) (level_id b) ≡ nat_lt (level_ordinal a) (level_ordinal b) }
+    {
+        self as usize
+    }
+}
+
+impl H266ProfileTierLevel {
+    /// What a description means that says nothing: Main 10 profile, Main tier, level 3.1.
+    pub const FALLBACK: H266ProfileTierLevel = H266ProfileTierLevel {
+        profile: H266Profile::Main10,
+        tier: H266Tier::Main,
+        level: H266Level::L3_1,
+    };
+
+    /// The triple of these numbers; `None` where one of them stands in no table.
+    pub fn new(profile_id: u8, tier_flag: u8, level_id: u8) -> Option<H266ProfileTierLevel>
+        ensures { IsTheOnly (IsTriple profile_id tier_flag level_id) result }
+    {
+        Some(H266ProfileTierLevel {
+            profile: H266Profile::from_id(profile_id)?,
+            tier: H266Tier::from_id(tier_flag)?,
+            level: H266Level::from_id(level_id)?,
+        })
+    }
+
+    /// The triple of the values of `profile-id`, `tier-flag` and `level-id`, where an absent one
+    /// takes that of the fallback. `None` where one is no number of 8 bits, or stands in no table.
+    pub fn from_fmtp(
+        profile: Option<&str>,
+        tier: Option<&str>,
+        level: Option<&str>,
+    ) -> Option<H266ProfileTierLevel>
+        ensures triple { IsTheOnly (IsTripleOfTexts profile.entry tier.entry level.entry) result }
+        ensures fallback { IsTriple defaults.0 defaults.1 defaults.2 H266ProfileTierLevel.FALLBACK }
+    {
+        H266ProfileTierLevel::new(
+            num_u8_or(profile, 1)?,
+            num_u8_or(tier, 0)?,
+            num_u8_or(level, 51)?,
+        )
+    }
+
+    pub fn profile(self) -> H266Profile
+        ensures { result ≡ self.profile }
+    {
+        self.profile
+    }
+
+    pub fn tier(self) -> H266Tier
+        ensures { result ≡ self.tier }
+    {
+        self.tier
+    }
+
+    pub fn level(self) -> H266Level
+        ensures { result ≡ self.level }
+    {
+        self.level
+    }
+
+    /// The value of `profile-id`.
+    pub fn profile_id(self) -> u8
+        ensures { result ≡ profile_id self.profile }
+    {
+        self.profile.to_id()
+    }
+
+    /// The value of `tier-flag`.
+    pub fn tier_flag(self) -> u8
+        ensures { result ≡ tier_flag self.tier }
+    {
+        self.tier.to_id()
+    }
+
+    /// The value of `level-id`.
+    pub fn level_id(self) -> u8
+        ensures { result ≡ level_id self.level }
+    {
+        self.level.to_id()
+    }
+
+    /// The same profile and tier at another level.
+    pub fn with_level(self, level: H266Level) -> H266ProfileTierLevel
+        ensures { result ≡ record self { level = level } }
+    {
+        H266ProfileTierLevel { level, ..self }
+    }
+}
