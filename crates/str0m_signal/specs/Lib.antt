@@ -17,3 +17,4 @@ pub mod Section
 pub mod SectionReading
 pub mod SessionAttribute
 pub mod SessionAttributeReading
+pub use Rattle.str0m_sdp.specs.Session
