@@ -1,5 +1,5 @@
 -- Reading as functions on texts: what the readers of lines compute. The relations of the grammar are in Parts.
-use Rattle.std.specs.Prelude.{ℕ, Bool, true, List, [], ◌∷◌, Option, Some, None, ◌==◌, ◌&&◌, not, nat_le, nat_lt, length, if◌then◌else◌, ◌≡◌}
+use Rattle.std.specs.Prelude.{ℕ, Bool, true, List, [], ◌∷◌, Option, Some, None, ◌==◌, ◌&&◌, not, nat_le, nat_lt, length, if◌then◌else◌}
 use Rattle.std.specs.Str.{all_ascii_digits}
 use Rattle.std.specs.Str.Parse.{digits_value, without_leading_plus}
 use Rattle.std.specs.Borrow.{Bor}
