@@ -3,6 +3,8 @@
 #![tactic(auto)]
 
 #[cfg(test)]
+mod addresses;
+#[cfg(test)]
 mod attributes;
 #[cfg(test)]
 mod consistency;
@@ -22,3 +24,5 @@ mod printing;
 mod sections;
 #[cfg(test)]
 mod texts;
+#[cfg(test)]
+mod values;

@@ -164,9 +164,9 @@ impl MediaLine {
     ///
     /// A section has exactly one `a=mid` line and at most one `a=setup` line (RFC 8829, section
     /// 5.2.1). Over Srtp it has exactly one direction, and a payload type unless it is disabled.
-    /// Each payload type has exactly one `a=rtpmap` line (RFC 8866, section 6.6); the static types
-    /// of PCMU, PCMA, G722 and CN (RFC 3551, section 6) may have none. Faults are looked for in
-    /// this order.
+    /// Each payload type of its m-line has exactly one `a=rtpmap` line (RFC 8866, section 6.6); the
+    /// static types of PCMU, PCMA, G722 and CN (RFC 3551, section 6) may have none. Faults are
+    /// looked for in this order.
     ///
     /// Only a message takes memory, so a consistent section needs none; the only error is that
     /// memory for the message was refused.

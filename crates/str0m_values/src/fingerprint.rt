@@ -1,5 +1,5 @@
 //! Fingerprints of certificates.
-ghost use Rattle.std.specs.Prelude.{◌≡◌, ◌↔◌, ◌++◌, ◌∷◌, IfOk, IsErr, IsErrOf, IsTrue, Some};
+ghost use Rattle.std.specs.Prelude.{◌≡◌, ◌↔◌, IfOk, IsErr, IsErrOf, IsTrue, Some};
 ghost use Rattle.str0m_values.specs.Parts.{Lacks};
 ghost use Rattle.str0m_values.specs.Fingerprint.{IsFingerprint, HasBadByte, IsBytesReading, IsReading, Gives, CanBeReadBack, fingerprint_text, hex_pair, pairs_text, preference_of};
 ghost use Rattle.str0m_values.specs.declared.fingerprint.Fingerprint.{Fingerprint};
