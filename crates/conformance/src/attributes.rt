@@ -156,7 +156,7 @@ fn a_mid_keeps_sixteen_bytes(rt: HostRuntime) -> Result<(), Fail> {
 fn a_mapping_says_codec_clock_rate_and_channels(rt: HostRuntime) -> Result<(), Fail> {
     for (line, number, codec, hertz, channels) in MAPPINGS {
         let (attribute, _) = media_attribute_line(rt.alloc(), line)?;
-        let found = match attribute {
+        let found = match &attribute {
             MediaAttribute::RtpMap { pt, value } => Some((
                 pt.value(),
                 value.codec,

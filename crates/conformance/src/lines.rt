@@ -40,20 +40,6 @@ fn the_run_of_attributes_ends_before_a_line_that_fits_nowhere(rt: HostRuntime) -
     Ok(())
 }
 
-/// What is left is a piece of the text itself, up to its end.
-#[test]
-fn the_rest_is_a_slice_of_the_text(rt: HostRuntime) -> Result<(), Fail> {
-    for (lines, _, left) in RUNS {
-        let text = with_header(rt.alloc(), lines)?;
-        let (_, rest) = session_parser(rt.alloc(), text.as_str())?;
-        let bytes = text.as_bytes();
-        let end = &bytes[bytes.len().saturating_sub(left.len())..];
-        assert!(rt; rest.as_bytes().as_ptr() == end.as_ptr(), "{lines:?}");
-        assert_eq!(rt; rest.len(), end.len(), "{lines:?}");
-    }
-    Ok(())
-}
-
 /// The readers of one line take its end with it and leave what follows.
 #[test]
 fn one_line_is_taken_with_its_end(rt: HostRuntime) -> Result<(), Fail> {

@@ -1,6 +1,7 @@
 //! Sections: their m-lines, and the `c=` and `b=` lines behind them (RFC 8866, section 5.14).
 
 use crate::texts::{message, with_header};
+use std::alloc::{AllocError, Global};
 use std::test::Fail;
 use str0m_signal::{Proto, sdp_parser};
 
@@ -170,37 +171,57 @@ fn an_m_line_says_type_port_protocol_and_payload_types(rt: HostRuntime) -> Resul
 /// section, which is refused where it isn't consistent up to there.
 #[test]
 fn connection_and_bandwidth_stand_in_this_order(rt: HostRuntime) -> Result<(), Fail> {
-    const ATTRIBUTES: &str = "a=mid:0\r\na=sendrecv\r\n";
-    let missing = Some("Media is missing a=mid: audio UDP/TLS/RTP/SAVPF");
-    for (between, bandwidth, refusal) in [
-        ("", None, None),
-        ("c=x\r\n", None, None),
-        ("b=AS:1\r\n", Some(("AS", "1")), None),
-        ("c=x\r\nb=X:a:b\r\n", Some(("X", "a:b")), None),
-        ("b=AS:1\r\nc=x\r\n", None, missing),
-        ("b=AS:1\r\nb=AS:2\r\n", None, missing),
-        ("c=x\r\nc=y\r\n", None, missing),
-        ("c=\r\n", None, missing),
-        ("b=:1\r\n", None, missing),
-        ("b=AS:\r\n", None, missing),
-        ("b=AS\r\n", None, missing),
-        ("i=x\r\n", None, missing),
+    for (between, bandwidth) in [
+        ("", ""),
+        ("c=x\r\n", ""),
+        ("b=AS:1\r\n", "b=AS:1\r\n"),
+        ("c=x\r\nb=X:a:b\r\n", "b=X:a:b\r\n"),
     ] {
-        let lines = format!(in rt.alloc();
-            "m=audio 9 UDP/TLS/RTP/SAVPF 0\r\n{between}{ATTRIBUTES}"
-        )?;
-        let text = with_header(rt.alloc(), lines.as_str())?;
-        let answer = sdp_parser(rt.alloc(), text.as_str());
-        assert_eq!(rt; message(&answer), refusal, "{between:?}");
-        if let Ok((sdp, rest)) = answer {
-            assert_eq!(rt; rest, "", "{between:?}");
-            assert_eq!(rt; sdp.media_lines.len(), 1, "{between:?}");
-            let bw = &sdp.media_lines.as_slice()[0].bw;
-            let found = bw.as_ref().map(|bw| (bw.typ.as_str(), bw.val.as_str()));
-            assert_eq!(rt; found, bandwidth, "{between:?}");
+        let text = section_with(rt.alloc(), between)?;
+        let (sdp, rest) = sdp_parser(rt.alloc(), text.as_str())?;
+        assert_eq!(rt; rest, "", "{between:?}");
+        assert_eq!(rt; sdp.media_lines.len(), 1, "{between:?}");
+        for section in sdp.media_lines.as_slice() {
+            let printed = match &section.bw {
+                Some(bw) => bw.to_string(rt.alloc())?,
+                None => String::new(rt.alloc()),
+            };
+            assert_eq!(rt; printed.as_str(), bandwidth, "{between:?}");
         }
     }
     Ok(())
+}
+
+/// A line that stands out of order, or is none, ends the section before its mid.
+#[test]
+fn other_lines_end_a_section(rt: HostRuntime) -> Result<(), Fail> {
+    for between in [
+        "b=AS:1\r\nc=x\r\n",
+        "b=AS:1\r\nb=AS:2\r\n",
+        "c=x\r\nc=y\r\n",
+        "c=\r\n",
+        "b=:1\r\n",
+        "b=AS:\r\n",
+        "b=AS\r\n",
+        "i=x\r\n",
+    ] {
+        let text = section_with(rt.alloc(), between)?;
+        let answer = sdp_parser(rt.alloc(), text.as_str());
+        assert_eq!(rt;
+            message(&answer),
+            Some("Media is missing a=mid: audio UDP/TLS/RTP/SAVPF"),
+            "{between:?}"
+        );
+    }
+    Ok(())
+}
+
+/// A header and an audio section with lines behind its m-line.
+fn section_with(alloc: Global, between: &str) -> Result<String, AllocError> {
+    let lines = format!(in alloc;
+        "m=audio 9 UDP/TLS/RTP/SAVPF 0\r\n{between}a=mid:0\r\na=sendrecv\r\n"
+    )?;
+    with_header(alloc, lines.as_str())
 }
 
 /// Attribute lines belong to the section above them; the first line that fits nowhere ends all.
