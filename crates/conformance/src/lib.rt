@@ -7,6 +7,8 @@ mod addresses;
 #[cfg(test)]
 mod attributes;
 #[cfg(test)]
+mod candidate_lines;
+#[cfg(test)]
 mod consistency;
 #[cfg(test)]
 mod formats;

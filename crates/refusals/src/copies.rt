@@ -17,10 +17,7 @@ pub(crate) fn show(rt: &impl Print, alloc: Global, name: &str) -> Result<(), Fau
         "media_line_clone" => show_media_lines(rt, alloc, &source),
         "session_clone" => show_session(rt, &source),
         "sdp_clone" => show_sdp(rt, &source),
-        _ => Err(Fault::from(SdpError::ParseError(String::from_str(
-            alloc,
-            "no such call",
-        )?))),
+        _ => Err(Fault::from(SdpError::ParseError(String::from_str(alloc, "no such call")?))),
     }
 }
 

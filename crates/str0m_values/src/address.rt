@@ -60,11 +60,12 @@ impl fmt::Display for IpAddr {
     fn fmt<W: fmt::Write>(&self, f: &mut fmt::Formatter<W>) -> fmt::Result {
         match *self {
             IpAddr::V4(octets) => {
-                let address = net::Ipv4Addr::from_octets(octets);
-                write!(f, "{address}")
+                let v4 = net::Ipv4Addr::from_octets(octets);
+                write!(f, "{v4}")
             }
             IpAddr::V6(groups) => {
-                let groups = net::Ipv6Addr::from_segments(groups).hex_groups();
+                let v6 = net::Ipv6Addr::from_segments(groups);
+                let groups = v6.hex_groups();
                 write!(f, "{groups}")
             }
         }
