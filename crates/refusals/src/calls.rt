@@ -1,17 +1,19 @@
 //! The calls that allocate, and what each answers.
 
-use crate::copies;
 use crate::fault::Fault;
-use crate::samples::{BAD_HEADER, BAD_SECTION, MEDIA_LINES, SESSION_LINES, TEXT, sample};
+use crate::samples::{
+    BAD_HEADER, BAD_SECTION, CANDIDATE, MEDIA_LINES, SESSION_LINES, TEXT, sample,
+};
+use crate::values;
 use std::alloc::Global;
 use str0m_formats::FormatParam;
 use str0m_signal::{
-    SdpAnswer, SdpOffer, media_attribute_line, sdp_parser, session_attribute_line, session_parser,
+    SdpAnswer, SdpOffer, candidate_attribute, media_attribute_line, sdp_parser, session_attribute_line, session_parser,
 };
-use str0m_values::{Items, Text};
+use str0m_values::Items;
 
 /// The names of the calls.
-pub(crate) const NAMES: [&str; 25] = [
+pub(crate) const NAMES: [&str; 35] = [
     "session_parser",
     "session_parser_refuses",
     "sdp_parser",
@@ -20,6 +22,8 @@ pub(crate) const NAMES: [&str; 25] = [
     "session_attribute_line_refuses",
     "media_attribute_line",
     "media_attribute_line_refuses",
+    "candidate_attribute",
+    "candidate_attribute_refuses",
     "offer_from_sdp_string",
     "offer_to_sdp_string",
     "answer_from_sdp_string",
@@ -28,8 +32,16 @@ pub(crate) const NAMES: [&str; 25] = [
     "parse_pairs",
     "text_from_str",
     "items_push",
+    "candidate_to_sdp_string",
+    "fingerprint_from_str",
+    "extension_from_sdp_uri",
+    "extension_new",
     "text_clone",
     "items_clone",
+    "candidate_clone",
+    "fingerprint_clone",
+    "extension_clone",
+    "ice_creds_clone",
     "bandwidth_clone",
     "media_type_clone",
     "session_attribute_clone",
@@ -50,15 +62,15 @@ pub(crate) fn show(rt: &impl Print, alloc: Global, name: &str) -> Result<(), Fau
         "session_attribute_line_refuses" => show_session_line(rt, alloc, TEXT),
         "media_attribute_line" => show_media_lines(rt, alloc),
         "media_attribute_line_refuses" => show_media_line(rt, alloc, TEXT),
+        "candidate_attribute" => show_candidate(rt, alloc, CANDIDATE),
+        "candidate_attribute_refuses" => show_candidate(rt, alloc, TEXT),
         "offer_from_sdp_string" => show_offer(rt, alloc),
         "offer_to_sdp_string" => show_offer_text(rt, alloc),
         "answer_from_sdp_string" => show_answer(rt, alloc),
         "answer_to_sdp_string" => show_answer_text(rt, alloc),
         "check_consistent" => show_messages(rt, alloc),
         "parse_pairs" => show_params(rt, alloc),
-        "text_from_str" => show_text(rt, alloc),
-        "items_push" => show_items(rt, alloc),
-        _ => copies::show(rt, alloc, name),
+        _ => values::show(rt, alloc, name),
     }
 }
 
@@ -112,6 +124,12 @@ fn show_media_lines(rt: &impl Print, alloc: Global) -> Result<(), Fault> {
     Ok(())
 }
 
+fn show_candidate(rt: &impl Print, alloc: Global, text: &str) -> Result<(), Fault> {
+    let (candidate, rest) = candidate_attribute(alloc, text)?;
+    println!(rt; "{candidate} {rest:?}")?;
+    Ok(())
+}
+
 fn show_offer(rt: &impl Print, alloc: Global) -> Result<(), Fault> {
     let offer = SdpOffer::from_sdp_string(alloc, TEXT)?;
     print!(rt; "{offer}")?;
@@ -155,21 +173,5 @@ fn show_params(rt: &impl Print, alloc: Global) -> Result<(), Fault> {
     for param in &params {
         println!(rt; "{param}")?;
     }
-    Ok(())
-}
-
-fn show_text(rt: &impl Print, alloc: Global) -> Result<(), Fault> {
-    let text = Text::from_str(alloc, "one line")?;
-    println!(rt; "{text}")?;
-    Ok(())
-}
-
-fn show_items(rt: &impl Print, alloc: Global) -> Result<(), Fault> {
-    let mut items = Items::empty(alloc);
-    for number in 0..9u8 {
-        items.push(number)?;
-    }
-    let items = items.as_slice();
-    println!(rt; "{items:?}")?;
     Ok(())
 }

@@ -1,16 +1,14 @@
-//! Copies of values that hold texts or lists.
+//! Copies of a description and its parts.
 
 use crate::fault::Fault;
 use crate::samples::sample;
 use std::alloc::Global;
 use str0m_signal::{Sdp, SdpError};
-use str0m_values::Text;
 
-/// Copies a value of that name and shows the copy.
+/// Copies the part of that name and shows the copy.
 pub(crate) fn show(rt: &impl Print, alloc: Global, name: &str) -> Result<(), Fault> {
     let source = sample(alloc)?;
     match name {
-        "text_clone" => show_text(rt, alloc),
         "items_clone" => show_sections(rt, &source),
         "bandwidth_clone" => show_bandwidth(rt, &source),
         "media_type_clone" => show_media_types(rt, alloc, &source),
@@ -21,13 +19,6 @@ pub(crate) fn show(rt: &impl Print, alloc: Global, name: &str) -> Result<(), Fau
         "sdp_clone" => show_sdp(rt, &source),
         _ => Err(Fault::from(SdpError::ParseError(String::from_str(alloc, "no such call")?))),
     }
-}
-
-fn show_text(rt: &impl Print, alloc: Global) -> Result<(), Fault> {
-    let text = Text::from_str(alloc, "one line")?;
-    let copy = text.clone()?;
-    println!(rt; "{copy}")?;
-    Ok(())
 }
 
 fn show_sections(rt: &impl Print, source: &Sdp) -> Result<(), Fault> {

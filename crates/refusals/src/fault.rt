@@ -2,7 +2,7 @@
 
 use std::alloc::{AllocError, AllocFailed};
 use std::io;
-use str0m_signal::SdpError;
+use str0m_signal::{FingerprintError, SdpError};
 
 #[derive(Debug, Drop)]
 pub(crate) enum Fault {
@@ -15,6 +15,13 @@ pub(crate) enum Fault {
 impl From<SdpError> for Fault {
     fn from(refusal: SdpError) -> Fault {
         Fault::Refused(refusal)
+    }
+}
+
+/// The fingerprint that is read here is one, so only a growth can be refused.
+impl From<FingerprintError> for Fault {
+    fn from(_refusal: FingerprintError) -> Fault {
+        Fault::Refused(SdpError::Memory)
     }
 }
 

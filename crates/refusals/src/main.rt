@@ -7,6 +7,7 @@ mod calls;
 mod copies;
 mod fault;
 mod samples;
+mod values;
 
 use crate::calls::{NAMES, show};
 use crate::fault::Fault;

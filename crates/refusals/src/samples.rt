@@ -1,7 +1,7 @@
 //! The texts that the calls are given.
 
 use std::alloc::Global;
-use str0m_signal::{MediaLine, Sdp, SdpError, sdp_parser};
+use str0m_signal::{Candidate, Sdp, SdpError, candidate_attribute, sdp_parser};
 
 /// A description with every form of line, and a rest.
 pub(crate) const TEXT: &str =
@@ -31,8 +31,22 @@ pub(crate) const MEDIA_LINES: [&str; 10] = [
     "a=rtcp-rsize\r\n",
 ];
 
+/// The line of a candidate, with every part that may be left out.
+pub(crate) const CANDIDATE: &str = "a=candidate:842163049 1 tcp 1677729535 192.0.2.1 9 typ srflx raddr 10.0.0.1 rport 60000 tcptype active generation 0 ufrag user network-id 1 network-cost 50\r\n";
+
+pub(crate) const FINGERPRINT: &str = "sha-256 00:0A:ff:80";
+
+/// The URI of a header extension.
+pub(crate) const URI: &str = "urn:ietf:params:rtp-hdrext:sdes:mid";
+
 /// The description that `TEXT` begins with.
 pub(crate) fn sample(alloc: Global) -> Result<Sdp, SdpError> {
     let (sdp, _) = sdp_parser(alloc, TEXT)?;
     Ok(sdp)
+}
+
+/// The candidate of `CANDIDATE`.
+pub(crate) fn sample_candidate(alloc: Global) -> Result<Candidate, SdpError> {
+    let (candidate, _) = candidate_attribute(alloc, CANDIDATE)?;
+    Ok(candidate)
 }
