@@ -8,7 +8,8 @@ use crate::values;
 use std::alloc::Global;
 use str0m_formats::FormatParam;
 use str0m_signal::{
-    SdpAnswer, SdpOffer, candidate_attribute, media_attribute_line, sdp_parser, session_attribute_line, session_parser,
+    SdpAnswer, SdpOffer, candidate_attribute, media_attribute_line, sdp_parser,
+    session_attribute_line, session_parser,
 };
 use str0m_values::Items;
 

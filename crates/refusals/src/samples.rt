@@ -32,7 +32,8 @@ pub(crate) const MEDIA_LINES: [&str; 10] = [
 ];
 
 /// The line of a candidate, with every part that may be left out.
-pub(crate) const CANDIDATE: &str = "a=candidate:842163049 1 tcp 1677729535 192.0.2.1 9 typ srflx raddr 10.0.0.1 rport 60000 tcptype active generation 0 ufrag user network-id 1 network-cost 50\r\n";
+pub(crate) const CANDIDATE: &str =
+    "a=candidate:842163049 1 tcp 1677729535 192.0.2.1 9 typ srflx raddr 10.0.0.1 rport 60000 tcptype active generation 0 ufrag user network-id 1 network-cost 50\r\n";
 
 pub(crate) const FINGERPRINT: &str = "sha-256 00:0A:ff:80";
 
