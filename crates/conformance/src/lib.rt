@@ -11,19 +11,9 @@ mod candidate_lines;
 #[cfg(test)]
 mod consistency;
 #[cfg(test)]
-mod formats;
-#[cfg(test)]
-mod header;
-#[cfg(test)]
 mod lines;
 #[cfg(test)]
 mod offers;
-#[cfg(test)]
-mod prefixes;
-#[cfg(test)]
-mod printing;
-#[cfg(test)]
-mod sections;
 #[cfg(test)]
 mod texts;
 #[cfg(test)]
