@@ -9,11 +9,7 @@ mod attributes;
 #[cfg(test)]
 mod candidate_lines;
 #[cfg(test)]
-mod consistency;
-#[cfg(test)]
 mod lines;
-#[cfg(test)]
-mod offers;
 #[cfg(test)]
 mod texts;
 #[cfg(test)]

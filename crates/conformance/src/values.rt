@@ -1,52 +1,10 @@
 //! Plain values: what is read, what is printed, and the limits on both sides.
 //!
 //! Expected values were worked out by hand from the forms and tables of docs/VALUES.md.
-use std::test::Fail;
 use str0m_values::{
-    Direction, Fingerprint, FingerprintFmt, H265Level, H265Profile, H265ProfileTierLevel, H265Tier,
-    H266Level, H266Profile, H266ProfileTierLevel, H266Tier, Items, Text,
+    H265Level, H265Profile, H265ProfileTierLevel, H265Tier, H266Level, H266Profile,
+    H266ProfileTierLevel, H266Tier,
 };
-
-#[test]
-fn fingerprints_keep_their_parts(rt: HostRuntime) -> Result<(), Fail> {
-    let alloc = rt.alloc();
-    let read = Fingerprint::from_str(alloc, "foo 09:0A:11")?;
-    assert_eq!(rt; read.hash_func.as_str(), "foo");
-    assert_eq!(rt; read.bytes.as_slice(), [9, 10, 17].as_slice());
-    let made = Fingerprint {
-        hash_func: Text::from_str(alloc, "foo")?,
-        bytes: Items::from(vec![in alloc; 9u8, 10, 17]?),
-    };
-    assert!(rt; read == made);
-    assert!(rt; read.clone()? == made);
-    let other = Fingerprint::from_str(alloc, "foo 09:0A:12")?;
-    assert!(rt; read != other);
-    Ok(())
-}
-
-#[test]
-fn no_bytes_print_nothing(rt: HostRuntime) -> Result<(), Fail> {
-    let alloc = rt.alloc();
-    let bare = Fingerprint {
-        hash_func: Text::from_str(alloc, "foo")?,
-        bytes: Items::empty(alloc),
-    };
-    let text = bare.to_string(alloc)?;
-    assert_eq!(rt; text.as_str(), "foo ");
-    let text = FingerprintFmt(&[]).to_string(alloc)?;
-    assert_eq!(rt; text.as_str(), "");
-    let text = FingerprintFmt(&[0, 255]).to_string(alloc)?;
-    assert_eq!(rt; text.as_str(), "00:FF");
-    Ok(())
-}
-
-#[test]
-fn directions_say_who_receives(rt: HostRuntime) {
-    assert!(rt; Direction::SendRecv.sdp_is_receiving());
-    assert!(rt; !Direction::SendOnly.sdp_is_receiving());
-    assert!(rt; Direction::RecvOnly.sdp_is_receiving());
-    assert!(rt; !Direction::Inactive.sdp_is_receiving());
-}
 
 #[test]
 fn h265_triples_have_their_parts(rt: HostRuntime) {
