@@ -1,7 +1,9 @@
 //! Lines of candidates, as the reader of one line meets them (RFC 8839, section 5.1).
 
+use crate::texts::refusal;
+use std::alloc::Global;
 use std::test::Fail;
-use str0m_signal::{SdpError, candidate_attribute};
+use str0m_signal::candidate_attribute;
 
 /// Texts, what the candidate of their first line prints, and what stands behind that line.
 const LINES: [(&str, &str, &str); 9] = [
@@ -63,22 +65,27 @@ const OTHERS: [&str; 6] = [
     "",
 ];
 
+/// The candidate of a text's first line, printed, and what stands behind that line.
+fn printed(alloc: Global, text: &str) -> Result<(String, &str), Fail> {
+    let (candidate, rest) = candidate_attribute(alloc, text)?;
+    Ok((candidate.to_sdp_string(alloc)?, rest))
+}
+
 #[test]
 fn lines_of_candidates(rt: HostRuntime) -> Result<(), Fail> {
-    for (text, printed, behind) in LINES {
-        let (candidate, rest) = candidate_attribute(rt.alloc(), text)
-            .ok()
-            .ok_or("the line of a candidate")?;
-        assert_eq!(rt; candidate.to_sdp_string(rt.alloc())?.as_str(), printed);
+    for (text, want, behind) in LINES {
+        let (found, rest) = printed(rt.alloc(), text)?;
+        assert_eq!(rt; found.as_str(), want);
         assert_eq!(rt; rest, behind);
     }
     Ok(())
 }
 
 #[test]
-fn lines_of_no_candidate(rt: HostRuntime) {
+fn lines_of_no_candidate(rt: HostRuntime) -> Result<(), Fail> {
     for text in OTHERS {
-        let read = candidate_attribute(rt.alloc(), text);
-        assert!(rt; matches!(read, Err(SdpError::ParseError(_))), "of `{text}`");
+        let message = refusal(rt.alloc(), candidate_attribute(rt.alloc(), text))?;
+        assert_eq!(rt; message.as_str(), "line does not fit", "of `{text}`");
     }
+    Ok(())
 }

@@ -9,8 +9,28 @@ mod attributes;
 #[cfg(test)]
 mod candidate_lines;
 #[cfg(test)]
+mod candidates;
+#[cfg(test)]
+mod consistency;
+#[cfg(test)]
+mod fingerprints;
+#[cfg(test)]
+mod formats;
+#[cfg(test)]
+mod header;
+#[cfg(test)]
+mod identifiers;
+#[cfg(test)]
 mod lines;
 #[cfg(test)]
-mod texts;
+mod offers;
 #[cfg(test)]
-mod values;
+mod prefixes;
+#[cfg(test)]
+mod printing;
+#[cfg(test)]
+mod profiles;
+#[cfg(test)]
+mod sections;
+#[cfg(test)]
+mod texts;
