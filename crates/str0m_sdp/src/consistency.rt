@@ -1,6 +1,6 @@
 //! Which sections are consistent.
 ghost use Rattle.std.specs.Prelude.{◌≡◌, ◌<◌, ◌≤◌, ◌↔◌, All, IfOk, IsOk, IsSome, IsTrue, Ok, None, count_by};
-ghost use Rattle.str0m_sdp.specs.Consistency.{is_mid, is_setup, is_direction, maps, IsStatic, IsMapped, FitsProto, Consistent, NoneIff};
+ghost use Rattle.str0m_sdp.specs.Consistency.{is_mid, is_setup, is_direction, is_counted, maps, IsStatic, IsMapped, FitsProto, Consistent, NoneIff};
 
 use crate::attribute::MediaAttribute;
 use crate::fault::{Fault, Message};
@@ -45,22 +45,48 @@ impl MediaAttribute {
     }
 }
 
+/// The attributes that are counted in a section.
+#[derive(Clone, Copy)]
+enum Counted {
+    Mids,
+    Setups,
+    Directions,
+}
+
+impl Counted {
+    fn holds(self, attr: &MediaAttribute) -> bool
+        ensures { result ≡ is_counted self attr.now }
+    {
+        match self {
+            Counted::Mids => attr.is_mid(),
+            Counted::Setups => attr.is_setup(),
+            Counted::Directions => attr.is_direction(),
+        }
+    }
+}
+
+fn count(attrs: &[MediaAttribute], counted: Counted) -> usize
+    ensures { result ≡ count_by (is_counted counted) attrs.now }
+{
+    attrs.iter().filter(|a| counted.holds(a)).count()
+}
+
 fn count_mids(attrs: &[MediaAttribute]) -> usize
     ensures { result ≡ count_by is_mid attrs.now }
 {
-    attrs.iter().filter(|a| a.is_mid()).count()
+    count(attrs, Counted::Mids)
 }
 
 fn count_setups(attrs: &[MediaAttribute]) -> usize
     ensures { result ≡ count_by is_setup attrs.now }
 {
-    attrs.iter().filter(|a| a.is_setup()).count()
+    count(attrs, Counted::Setups)
 }
 
 fn count_directions(attrs: &[MediaAttribute]) -> usize
     ensures { result ≡ count_by is_direction attrs.now }
 {
-    attrs.iter().filter(|a| a.is_direction()).count()
+    count(attrs, Counted::Directions)
 }
 
 fn count_maps(attrs: &[MediaAttribute], pt: Pt) -> usize
