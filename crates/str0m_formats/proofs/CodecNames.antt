@@ -1,42 +1,113 @@
 -- The codec of a name is the one that its text reads as.
-use Rattle.std.proofs.Common.{◌≡◌, ◌≢◌, ℕ, true, false, List, refl, inl, inr}
-use Rattle.std.specs.Prelude.{codes}
-use Rattle.std.specs.Str.{str_eq_ignore_ascii_case, str_to_ascii_lowercase}
-use Rattle.std.proofs.lemmas.Bool.{cases_Bool, both_ways}
+use Rattle.std.proofs.Common.{◌≡◌, ◌≢◌, ℕ, Bool, true, false, ◌⊎◌, inl, inr, List, map, Option, Some, None, IfSome, refl, sym, ap, ◌∙◌}
+use Rattle.std.specs.Prelude.{unwrap_or}
+use Rattle.std.specs.Char.{to_ascii_lowercase}
+use Rattle.std.specs.Str.{bytes_eq, str_eq_ignore_ascii_case}
 use Rattle.std.proofs.lemmas.Slice.Eq.{bytes_eq-Decides}
+use Rattle.std.proofs.lemmas.Bool.{false≢true}
+use Rattle.str0m_formats.specs.declared.codec.TheConstants.{NAMED}
 use Rattle.str0m_formats.specs.declared.codec.Codec.{Codec}
-use Rattle.str0m_formats.specs.declared.codec.Codec.TheVariants.{Opus, Unknown}
-use Rattle.str0m_formats.specs.Codec.{codec_text, codec_of, IsSameText, IsReadAs}
+use Rattle.str0m_formats.specs.declared.codec.Codec.TheVariants.{Opus, PCMU, PCMA, G722, CN, AmrWb, H264, H265, H266, Vp8, Vp9, Av1, Tele, Rtx, Red, Null, Unknown}
+use Rattle.str0m_formats.specs.Codec.{codec_text, codec_of, printed_and_read, IsSameText, IsReadAs}
+use Rattle.str0m_formats.proofs.Lookup.{find_passes, if_some_map, row_at}
 
 -- the test of two texts says whether they are the same
 pub same_text : (s t : List ℕ) → str_eq_ignore_ascii_case s t ≡ true → IsSameText s t
-same_text s t e = (bytes_eq-Decides (str_to_ascii_lowercase s) (str_to_ascii_lowercase t)).0 e
+same_text s t e = (bytes_eq-Decides (map to_ascii_lowercase s) (map to_ascii_lowercase t)).0 e
 
 pub text_same : (s t : List ℕ) → IsSameText s t → str_eq_ignore_ascii_case s t ≡ true
-text_same s t e = (bytes_eq-Decides (str_to_ascii_lowercase s) (str_to_ascii_lowercase t)).1 e
+text_same s t e = (bytes_eq-Decides (map to_ascii_lowercase s) (map to_ascii_lowercase t)).1 e
 
--- each codec's own text reads as that codec
-own_text : (text : List ℕ) (codec : Codec) → IsSameText text (codec_text codec) → codec_of text ≡ codec
-own_text text Opus e = rw e refl
-own_text text Unknown e = rw e refl
+is_unknown : (c : Codec) → (c ≡ Unknown) ⊎ (c ≢ Unknown)
+is_unknown Unknown = inl refl
+is_unknown Opus = inr (λ e. cc)
+is_unknown PCMU = inr (λ e. cc)
+is_unknown PCMA = inr (λ e. cc)
+is_unknown G722 = inr (λ e. cc)
+is_unknown CN = inr (λ e. cc)
+is_unknown AmrWb = inr (λ e. cc)
+is_unknown H264 = inr (λ e. cc)
+is_unknown H265 = inr (λ e. cc)
+is_unknown H266 = inr (λ e. cc)
+is_unknown Vp8 = inr (λ e. cc)
+is_unknown Vp9 = inr (λ e. cc)
+is_unknown Av1 = inr (λ e. cc)
+is_unknown Tele = inr (λ e. cc)
+is_unknown Rtx = inr (λ e. cc)
+is_unknown Red = inr (λ e. cc)
+is_unknown Null = inr (λ e. cc)
+
+-- the codec of which this is the text in lower case
+abbrev codec_at : List ℕ → Codec
+codec_at low = unwrap_or (row_at codec_text NAMED low) Unknown
+
+-- no two codecs have the same text, and that of Null is not looked up
+codec_at-text : (c : Codec) → codec_at (map to_ascii_lowercase (codec_text c)) ≡ printed_and_read c
+codec_at-text Opus = refl
+codec_at-text PCMU = refl
+codec_at-text PCMA = refl
+codec_at-text G722 = refl
+codec_at-text CN = refl
+codec_at-text AmrWb = refl
+codec_at-text H264 = refl
+codec_at-text H265 = refl
+codec_at-text H266 = refl
+codec_at-text Vp8 = refl
+codec_at-text Vp9 = refl
+codec_at-text Av1 = refl
+codec_at-text Tele = refl
+codec_at-text Rtx = refl
+codec_at-text Red = refl
+codec_at-text Null = refl
+codec_at-text Unknown = refl
+
+not_null : (c : Codec) → c ≢ Null → printed_and_read c ≡ c
+not_null Opus other = refl
+not_null PCMU other = refl
+not_null PCMA other = refl
+not_null G722 other = refl
+not_null CN other = refl
+not_null AmrWb other = refl
+not_null H264 other = refl
+not_null H265 other = refl
+not_null H266 other = refl
+not_null Vp8 other = refl
+not_null Vp9 other = refl
+not_null Av1 other = refl
+not_null Tele other = refl
+not_null Rtx other = refl
+not_null Red other = refl
+not_null Null other = absurd (other refl)
+not_null Unknown other = refl
+
+abbrev is_named : Codec → Bool
+is_named Null = false
+is_named _ = true
 
 pub read_as : (text : List ℕ) → IsReadAs text (codec_of text)
+unfolding codec_of
 read_as text = record {
-  named = own_text text;
-  only = λ known. elim (cases_Bool (str_eq_ignore_ascii_case text (codes "opus"))) [
-    | inl opus ↦ rw opus (same_text text (codes "opus") opus)
-    | inr other ↦ absurd (known (rw other refl))
-  ];
+  named = λ c other e. ap codec_at e ∙ codec_at-text c ∙ not_null c other;
+  only = known text (row_at codec_text NAMED (map to_ascii_lowercase text)) (if_some_map {P = λ c. (is_named c ≡ true) × (str_eq_ignore_ascii_case text (codec_text c) ≡ true)} {Q = λ c. (c ≢ Null) × IsSameText text (codec_text c)} _ (find_passes is_named (λ c. str_eq_ignore_ascii_case text (codec_text c)) NAMED refl) (λ c h. ((λ n. false≢true (sym (ap is_named n) ∙ h.0)), same_text text (codec_text c) h.1)));
 }
+  where
+    known : (text : List ℕ) (o : Option Codec) → IfSome o (λ c. (c ≢ Null) × IsSameText text (codec_text c)) → unwrap_or o Unknown ≢ Unknown → (unwrap_or o Unknown ≢ Null) × IsSameText text (codec_text (unwrap_or o Unknown))
+    known text None found other = absurd (other refl)
+    known text (Some c) found other = found
 
 -- and a text reads as one codec
 pub read_only : (text : List ℕ) (codec : Codec) → IsReadAs text codec → codec ≡ codec_of text
 read_only text codec h =
-    elim (cases_Bool (str_eq_ignore_ascii_case text (codes "opus"))) [
-      | inl opus ↦ rw opus (h.named Opus (same_text text (codes "opus") opus))
-      | inr other ↦ rw other (unknown codec h other)
+    let own = read_as text in
+    elim (is_unknown codec) [
+      | inr known ↦ sym (own.named codec (h.only known).0 (h.only known).1)
+      | inl unknown ↦ elim (is_unknown (codec_of text)) [
+        | inl none ↦ unknown ∙ sym none
+        | inr known ↦ h.named (codec_of text) (own.only known).0 (own.only known).1
+      ]
     ]
-  where
-    unknown : (codec : Codec) → IsReadAs text codec → str_eq_ignore_ascii_case text (codes "opus") ≡ false → codec ≡ Unknown
-    unknown Opus h other = absurd (both_ways (str_eq_ignore_ascii_case text (codes "opus")) other (text_same text (codes "opus") (h.only (λ e. absurd cc))))
-    unknown Unknown h other = refl
+
+-- what is printed reads as itself, but for Null
+pub read_printed : (text : List ℕ) (codec : Codec) → IsReadAs text codec → (c : Codec) → text ≡ codec_text c → codec ≡ printed_and_read c
+unfolding codec_of
+read_printed text codec h c e = read_only text codec h ∙ ap (λ t. codec_at (map to_ascii_lowercase t)) e ∙ codec_at-text c

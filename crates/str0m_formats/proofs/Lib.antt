@@ -1,2 +1,13 @@
 pub mod CodecNames
+pub mod LineLaws
+pub mod Listed
+pub mod Lookup
+pub mod Modes
+pub mod Only
+pub mod PairsLaws
 pub mod ParamLaws
+pub mod ParamReadingLaws
+pub mod Printed
+pub mod RoundTrip
+pub mod SetAll
+pub mod TripleLaws

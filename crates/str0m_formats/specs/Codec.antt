@@ -1,24 +1,68 @@
--- The names of codecs.
-use Rattle.std.specs.Prelude.{◌≡◌, ◌≢◌, ℕ, List, map, codes, if◌then◌else◌}
+-- The codecs: one table of their names and of what they carry.
+use Rattle.std.specs.Prelude.{◌≡◌, ◌≢◌, ℕ, List, map, codes, find, unwrap_or}
 use Rattle.std.specs.Char.{to_ascii_lowercase}
 use Rattle.std.specs.Str.{str_eq_ignore_ascii_case}
+use Rattle.str0m_values.specs.declared.media_kind.MediaKind.{MediaKind}
+use Rattle.str0m_values.specs.declared.media_kind.MediaKind.TheVariants.{Audio, Video}
 use Rattle.str0m_formats.specs.declared.codec.Codec.{Codec}
-use Rattle.str0m_formats.specs.declared.codec.Codec.TheVariants.{Opus, Unknown}
+use Rattle.str0m_formats.specs.declared.codec.Codec.TheVariants.{Opus, PCMU, PCMA, G722, CN, AmrWb, H264, H265, H266, Vp8, Vp9, Av1, Tele, Rtx, Red, Null, Unknown}
+use Rattle.str0m_formats.specs.declared.codec.TheConstants.{NAMED}
 
--- what each codec prints
+-- what a codec carries
+pub data Content : Type 0 where
+  audio : Content
+  video : Content
+  events : Content
+  other : Content
+
+-- the name of each codec in rtpmap lines, and what it carries
+abbrev pub codec_row : Codec → List ℕ × Content
+codec_row Opus = (codes "opus", audio)
+codec_row PCMU = (codes "PCMU", audio)
+codec_row PCMA = (codes "PCMA", audio)
+codec_row G722 = (codes "G722", audio)
+codec_row CN = (codes "CN", audio)
+codec_row AmrWb = (codes "AMR-WB", audio)
+codec_row H264 = (codes "H264", video)
+codec_row H265 = (codes "H265", video)
+codec_row H266 = (codes "H266", video)
+codec_row Vp8 = (codes "VP8", video)
+codec_row Vp9 = (codes "VP9", video)
+codec_row Av1 = (codes "AV1", video)
+codec_row Tele = (codes "telephone-event", events)
+codec_row Rtx = (codes "rtx", other)
+codec_row Red = (codes "red", other)
+codec_row Null = (codes "null", other)
+codec_row Unknown = (codes "unknown", other)
+
 abbrev pub codec_text : Codec → List ℕ
-codec_text Opus = codes "opus"
-codec_text Unknown = codes "unknown"
+codec_text codec = (codec_row codec).0
+
+abbrev pub content : Codec → Content
+content codec = (codec_row codec).1
+
+-- the kind of the sections that it stands in
+abbrev pub media_kind : Content → MediaKind
+media_kind audio = Audio
+media_kind video = Video
+media_kind events = Audio
+media_kind other = Video
 
 -- the texts are equal without regard to the case of ASCII letters
 abbrev pub IsSameText : List ℕ → List ℕ → Type 0
 IsSameText s t = map to_ascii_lowercase s ≡ map to_ascii_lowercase t
 
--- a codec is read where its own text stands, and only there; every other text reads as Unknown
+-- a codec other than Null is read where its own text stands, and only there; Null is never read, and a text of no
+-- codec reads as Unknown
 pub record IsReadAs (text : List ℕ) (codec : Codec) : Type 0 where
-  pub named : (c : Codec) → IsSameText text (codec_text c) → codec ≡ c
-  pub only : codec ≢ Unknown → IsSameText text (codec_text codec)
+  pub named : (c : Codec) → c ≢ Null → IsSameText text (codec_text c) → codec ≡ c
+  pub only : codec ≢ Unknown → (codec ≢ Null) × IsSameText text (codec_text codec)
 
--- that reading as a function
-abbrev pub codec_of : List ℕ → Codec
-codec_of text = if str_eq_ignore_ascii_case text (codes "opus") then Opus else Unknown
+-- what a codec's own text reads as
+abbrev pub printed_and_read : Codec → Codec
+printed_and_read Null = Unknown
+printed_and_read codec = codec
+
+-- the reading as a function
+unfoldable pub codec_of : List ℕ → Codec
+codec_of text = unwrap_or (find (λ codec. str_eq_ignore_ascii_case text (codec_text codec)) NAMED) Unknown

@@ -1,23 +1,94 @@
--- The parameters of formats: how a key and its value read, and what a parameter prints.
-use Rattle.std.specs.Prelude.{◌≡◌, ◌↔◌, ℕ, Bool, List, [], ◌∷◌, ◌++◌, Option, Some, None, codes, IsTrue, map, if◌then◌else◌}
-use Rattle.std.specs.Fmt.{decimal}
-use Rattle.std.specs.Str.{bytes_eq, str_eq_ignore_ascii_case}
+-- The parameters of formats: one table of keys and values, by which a key and its value are read and printed.
+use Rattle.std.specs.Prelude.{◌≡◌, ◌↔◌, ◌≤◌, ◌<◌, ◌^◌, ◌-◌, ◌==◌, ℕ, Bool, true, false, not, List, [], ◌∷◌, ◌++◌, length, replicate, map, filter, codes, IsTrue, IsBitSet, Any, All, Option, Some, None, MatchOption}
+use Rattle.std.specs.Fmt.{decimal, digits}
+use Rattle.std.specs.Str.{trim}
+use Rattle.std.specs.Str.Parse.{IsNumeral, digits_value}
+use Rattle.std.specs.List.{slice_split, join_with_byte, range_with_len}
+use Rattle.std.specs.Int.Bits.{bit_and}
 use Rattle.std.specs.Borrow.{Bor}
-use Rattle.str0m_values.specs.Parts.{IsNum}
-use Rattle.str0m_values.specs.Cuts.{num}
+use Rattle.str0m_values.specs.Parts.{IsNumber, IsNum}
 use Rattle.str0m_values.specs.Fits.{FirstFit}
+use Rattle.str0m_values.specs.H265 as h265
+use Rattle.str0m_values.specs.H266 as h266
 use Rattle.str0m_formats.specs.Codec.{IsSameText}
+use Rattle.str0m_formats.specs.FormatKey.{key_text}
+use Rattle.str0m_formats.specs.declared.format_key.FormatKey.{FormatKey}
+use Rattle.str0m_formats.specs.declared.format_key.FormatKey.TheVariants as key
 use Rattle.str0m_formats.specs.declared.format_param.FormatParam.{FormatParam}
-use Rattle.str0m_formats.specs.declared.format_param.FormatParam.TheVariants.{MinPTime, UseInbandFec, Unknown}
+use Rattle.str0m_formats.specs.declared.format_param.FormatParam.TheVariants.{MinPTime, Stereo, SpropStereo, UseInbandFec, UseDtx, LevelAsymmetryAllowed, PacketizationMode, ProfileLevelId, ProfileId, Profile, LevelIdx, Tier, H265ProfileTierLevel, H266ProfileTierLevel, SpropMaxDonDiff, TelephoneEvents, BareRange, BarePtList, OctetAlign, ModeSet, AmrWbUnsupported, Apt, Red, Unknown}
 
--- The table of the keys: a key, read without regard to ASCII case, and how its value reads.
+-- what stands behind a key: a flag, a number with its limit, a number that prints in hexadecimal, or a set of modes
+pub data Value : Type 0 where
+  flag : Bool → Value
+  number : (limit n : ℕ) → Value
+  hex : ℕ → Value
+  modes : ℕ → Value
+
+-- The table of the keys: each parameter that is written `key=value`.
+abbrev pub entry : FormatParam → Option (FormatKey × Value)
+entry (MinPTime n) = Some (key.MinPTime, number 255 n)
+entry (Stereo b) = Some (key.Stereo, flag b)
+entry (SpropStereo b) = Some (key.SpropStereo, flag b)
+entry (UseInbandFec b) = Some (key.UseInbandFec, flag b)
+entry (UseDtx b) = Some (key.UseDtx, flag b)
+entry (LevelAsymmetryAllowed b) = Some (key.LevelAsymmetryAllowed, flag b)
+entry (PacketizationMode n) = Some (key.PacketizationMode, number 255 n)
+entry (ProfileLevelId n) = Some (key.ProfileLevelId, hex n)
+entry (ProfileId n) = Some (key.ProfileId, number 4294967295 n)
+entry (Profile n) = Some (key.Profile, number 255 n)
+entry (LevelIdx n) = Some (key.LevelIdx, number 255 n)
+entry (Tier n) = Some (key.Tier, number 255 n)
+entry (SpropMaxDonDiff n) = Some (key.SpropMaxDonDiff, number 32767 n)
+entry (OctetAlign b) = Some (key.OctetAlign, flag b)
+entry (ModeSet n) = Some (key.ModeSet, modes n)
+entry (Apt pt) = Some (key.Apt, number 255 pt)
+entry _ = None
+
+-- ---- how values read
+
+-- the number in hexadecimal, or in decimal where the text is none in hexadecimal
+abbrev pub IsHexElseDecimal : List ℕ → ℕ → Type 0
+IsHexElseDecimal = FirstFit (IsNumber 16 4294967295) (IsNum 4294967295)
+
+-- the piece is the number of a mode, up to white space around it
+abbrev pub IsMode : List ℕ → ℕ → Type 0
+IsMode piece mode = IsNum 8 (trim piece) mode
+
+-- every piece names a mode, and the mask has the bits of these modes, and no other bits
+pub record IsMask (pieces : List (List ℕ)) (mask : ℕ) : Type 0 where
+  pub modes : All (λ piece. (mode : ℕ) × IsMode piece mode) pieces
+  pub bits : (mode : ℕ) → IsBitSet mask mode ↔ Any (λ piece. IsMode piece mode) pieces
+
+-- the text names the modes of the mask, parted by commas
+unfoldable pub IsModeSet : List ℕ → ℕ → Type 0
+IsModeSet text mask = IsMask (slice_split (λ b. b == 44) text) mask
+
+-- how each value reads: a flag is true exactly for `1`
+abbrev pub Reads : Value → List ℕ → Type 0
+Reads (flag b) text = IsTrue b ↔ (text ≡ codes "1")
+Reads (number limit n) text = IsNum limit text n
+Reads (hex n) text = IsHexElseDecimal text n
+Reads (modes mask) text = IsModeSet text mask
+
+-- which keys, at which values, ask for what isn't there of AMR-WB (RFC 4867, section 8.2)
+abbrev pub AsksUnsupported : FormatKey → List ℕ → Type 0
+AsksUnsupported key.Crc value = value ≡ codes "1"
+AsksUnsupported key.RobustSorting value = value ≡ codes "1"
+AsksUnsupported key.ModeChangePeriod value = value ≡ codes "2"
+AsksUnsupported key.Interleaving value = Unit {0}
+AsksUnsupported _ value = ⊥
+
+-- the value behind the key spells the parameter
+abbrev pub Holds : FormatKey → List ℕ → FormatParam → Type 0
+Holds key value AmrWbUnsupported = AsksUnsupported key value
+Holds key value param = MatchOption (entry param) ⊥ (λ e. (e.0 ≡ key) × Reads e.1 value)
+
+-- the key and the value spell the parameter
 abbrev pub Spells : List ℕ × List ℕ → FormatParam → Type 0
-Spells (key, value) (MinPTime n) = IsSameText key (codes "minptime") × IsNum 255 value n
-Spells (key, value) (UseInbandFec flag) = IsSameText key (codes "useinbandfec") × (IsTrue flag ↔ (value ≡ codes "1"))
-Spells (key, value) Unknown = ⊥
+Spells pair param = (key : FormatKey) × IsSameText pair.0 (key_text key) × Holds key pair.1 param
 
-abbrev pub IsUnknown : List ℕ × List ℕ → FormatParam → Type 0
-IsUnknown pair param = param ≡ Unknown
+abbrev pub IsUnknown : {A : Type 0} → A → FormatParam → Type 0
+IsUnknown text param = param ≡ Unknown
 
 -- what a key and its value read as: the parameter that they spell, else Unknown
 abbrev pub IsParsed : List ℕ × List ℕ → FormatParam → Type 0
@@ -33,22 +104,69 @@ AreParsed _ _ = ⊥
 abbrev pub pair_texts : List (Bor (List ℕ) × Bor (List ℕ)) → List (List ℕ × List ℕ)
 pair_texts pairs = map (λ pair. (pair.0.now, pair.1.now)) pairs
 
-abbrev pub minptime_of : Option ℕ → FormatParam
-minptime_of None = Unknown
-minptime_of (Some n) = MinPTime n
+-- ---- events (RFC 4733, section 2.4)
 
--- that reading as a function
-abbrev pub param_of : List ℕ × List ℕ → FormatParam
-param_of pair =
-    if str_eq_ignore_ascii_case pair.0 (codes "minptime") then minptime_of (num 255 pair.1)
-    else if str_eq_ignore_ascii_case pair.0 (codes "useinbandfec") then UseInbandFec (bytes_eq pair.1 (codes "1"))
-    else Unknown
+-- the text is the range from 0 up to the event, written in digits alone
+pub record IsEventRange (text : List ℕ) (event : ℕ) : Type 0 where
+  pub range : (end : List ℕ) × (text ≡ codes "0-" ++ end) × IsNumeral 10 end × (digits_value 10 end ≡ event)
+  pub fits : event ≤ 255
+
+abbrev pub IsEvents : List ℕ → FormatParam → Type 0
+IsEvents text param = (n : ℕ) × (param ≡ TelephoneEvents n) × IsEventRange text n
+
+-- what a value without a key reads as: a range of events, else Unknown
+abbrev pub IsBare : List ℕ → FormatParam → Type 0
+IsBare = FirstFit IsEvents IsUnknown
+
+-- ---- how parameters print
 
 abbrev pub flag_text : Bool → List ℕ
-flag_text flag = if flag then codes "1" else codes "0"
+flag_text true = codes "1"
+flag_text false = codes "0"
 
--- what a parameter prints
+-- lower-case hexadecimal, with zeros in front up to six digits
+abbrev pub six_digits : ℕ → List ℕ
+six_digits n = replicate (6 - length (digits 16 false n)) 48 ++ digits 16 false n
+
+abbrev pub comma_if : Bool → List ℕ
+comma_if true = codes ","
+comma_if false = []
+
+-- the modes of a mask, ascending, parted by commas
+abbrev pub mode_list : ℕ → List ℕ
+mode_list mask = join_with_byte 44 (map decimal (filter (λ mode. not (bit_and mask (2 ^ mode) == 0)) (range_with_len 0 9)))
+
+-- how each value prints
+abbrev pub value_text : Value → List ℕ
+value_text (flag b) = flag_text b
+value_text (number limit n) = decimal n
+value_text (hex n) = six_digits n
+value_text (modes mask) = mode_list mask
+
+-- which values read back as they print
+abbrev pub InRange : Value → Type 0
+InRange (flag b) = Unit {0}
+InRange (number limit n) = n ≤ limit
+InRange (hex n) = n ≤ 4294967295
+InRange (modes mask) = (0 < mask) × (mask ≤ 511)
+
+-- the key and the value are what the parameter prints
+abbrev pub IsPrinted : FormatParam → List ℕ × List ℕ → Type 0
+IsPrinted param pair = MatchOption (entry param) ⊥ (λ e. (pair.0 ≡ key_text e.0) × (pair.1 ≡ value_text e.1) × InRange e.1)
+
+abbrev pub triple_text : ℕ → ℕ → ℕ → List ℕ
+triple_text profile tier level = codes "profile-id=" ++ (decimal profile ++ (codes ";tier-flag=" ++ (decimal tier ++ (codes ";level-id=" ++ decimal level))))
+
+abbrev pub entry_text : Option (FormatKey × Value) → List ℕ
+entry_text None = []
+entry_text (Some (key, value)) = key_text key ++ codes "=" ++ value_text value
+
+-- what a parameter prints: `key=value` where the table has it
 abbrev pub param_text : FormatParam → List ℕ
-param_text (MinPTime n) = codes "minptime=" ++ decimal n
-param_text (UseInbandFec flag) = codes "useinbandfec=" ++ flag_text flag
-param_text Unknown = []
+param_text (H265ProfileTierLevel t) = triple_text (h265.profile_id t.profile) (h265.tier_flag t.tier) (h265.level_id t.level)
+param_text (H266ProfileTierLevel t) = triple_text (h266.profile_id t.profile) (h266.tier_flag t.tier) (h266.level_id t.level)
+param_text (TelephoneEvents n) = codes "0-" ++ decimal n
+param_text (BareRange n) = codes "0-" ++ decimal n
+param_text (BarePtList pt) = decimal pt ++ codes "/" ++ decimal pt
+param_text (Red pt) = decimal pt ++ codes "/" ++ decimal pt
+param_text param = entry_text (entry param)

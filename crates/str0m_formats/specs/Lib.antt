@@ -1,2 +1,10 @@
 pub mod Codec
+pub mod CodecSpec
+pub mod FormatKey
+pub mod FormatLine
 pub mod FormatParam
+pub mod FormatParams
+pub mod Pairs
+pub mod PairsReading
+pub mod ParamReading
+pub mod Triple

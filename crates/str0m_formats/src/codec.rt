@@ -1,46 +1,173 @@
 //! Codecs.
-ghost use Rattle.std.specs.Prelude.{◌≡◌, Some};
-ghost use Rattle.str0m_formats.specs.Codec.{codec_text, codec_of, IsReadAs};
+ghost use Rattle.std.specs.Prelude.{◌≡◌, ◌↔◌, IsTrue, Some, find};
+ghost use Rattle.std.specs.Str.{str_eq_ignore_ascii_case};
+ghost use Rattle.str0m_formats.specs.Codec.{codec_text, content, audio, video, events, media_kind, codec_of, IsReadAs, printed_and_read};
 
 use std::fmt;
+use str0m_values::MediaKind;
+use str0m_values::cuts::is_same_text;
 
 /// A codec, or what else an `a=rtpmap` line may name (RFC 8866, section 6.6).
 #[derive(Clone, Copy, Debug, PartialEq, Eq)]
 pub enum Codec {
+    /// Opus (RFC 7587).
     Opus,
+    /// G.711 with the mu-law (RFC 3551, section 4.5.14).
+    PCMU,
+    /// G.711 with the A-law (RFC 3551, section 4.5.14).
+    PCMA,
+    /// G.722 (RFC 3551, section 4.5.2).
+    G722,
+    /// Comfort noise (RFC 3389).
+    CN,
+    /// Adaptive multi-rate wideband (RFC 4867).
+    AmrWb,
+    /// H.264 (RFC 6184).
+    H264,
+    /// H.265 (RFC 7798).
+    H265,
+    /// H.266 (RFC 9328).
+    H266,
+    /// VP8 (RFC 7741).
+    Vp8,
+    /// VP9 (RFC 9628).
+    Vp9,
+    /// AV1, by the payload format of the Alliance for Open Media.
+    Av1,
+    /// Telephone events (RFC 4733).
+    Tele,
+    /// Retransmissions (RFC 4588).
+    Rtx,
+    /// Redundant audio (RFC 2198).
+    Red,
+    /// The codec of packets that carry nothing. No text names it.
+    Null,
+    /// A codec that isn't known.
     Unknown,
 }
 
+/// The codecs that a text can name.
+const NAMED: [Codec; 15] = [
+    Codec::Opus,
+    Codec::PCMU,
+    Codec::PCMA,
+    Codec::G722,
+    Codec::CN,
+    Codec::AmrWb,
+    Codec::H264,
+    Codec::H265,
+    Codec::H266,
+    Codec::Vp8,
+    Codec::Vp9,
+    Codec::Av1,
+    Codec::Tele,
+    Codec::Rtx,
+    Codec::Red,
+];
+
 impl Codec {
+    /// Whether the codec carries sound: `Opus`, `PCMU`, `PCMA`, `G722`, `CN` or `AmrWb`.
+    pub fn is_audio(self) -> bool
+        ensures { IsTrue result ↔ (content self ≡ audio) }
+    {
+        matches!(
+            self,
+            Codec::Opus | Codec::PCMU | Codec::PCMA | Codec::G722 | Codec::CN | Codec::AmrWb
+        )
+    }
+
+    /// Whether the codec carries pictures: `H264`, `H265`, `H266`, `Vp8`, `Vp9` or `Av1`.
+    pub fn is_video(self) -> bool
+        ensures { IsTrue result ↔ (content self ≡ video) }
+    {
+        matches!(
+            self,
+            Codec::H264 | Codec::H265 | Codec::H266 | Codec::Vp8 | Codec::Vp9 | Codec::Av1
+        )
+    }
+
+    /// Whether the codec carries telephone events (RFC 4733).
+    pub fn is_tele(self) -> bool
+        ensures { IsTrue result ↔ (content self ≡ events) }
+    {
+        matches!(self, Codec::Tele)
+    }
+
+    /// The kind of the sections that the codec stands in: audio for what carries sound or telephone
+    /// events, video for all else.
+    pub fn kind(self) -> MediaKind
+        ensures { result ≡ media_kind (content self) }
+    {
+        if self.is_audio() || self.is_tele() {
+            MediaKind::Audio
+        } else {
+            MediaKind::Video
+        }
+    }
+
     /// The name that rtpmap lines carry.
     fn name(self) -> &'static str
         ensures { result.now ≡ codec_text self }
     {
         match self {
             Codec::Opus => "opus",
+            Codec::PCMU => "PCMU",
+            Codec::PCMA => "PCMA",
+            Codec::G722 => "G722",
+            Codec::CN => "CN",
+            Codec::AmrWb => "AMR-WB",
+            Codec::H264 => "H264",
+            Codec::H265 => "H265",
+            Codec::H266 => "H266",
+            Codec::Vp8 => "VP8",
+            Codec::Vp9 => "VP9",
+            Codec::Av1 => "AV1",
+            Codec::Tele => "telephone-event",
+            Codec::Rtx => "rtx",
+            Codec::Red => "red",
+            Codec::Null => "null",
             Codec::Unknown => "unknown",
         }
     }
 }
 
+fn known(name: &str) -> Option<Codec>
+    ensures { result ≡ find (λ codec. str_eq_ignore_ascii_case name.now (codec_text codec)) NAMED }
+{
+    NAMED
+        .iter()
+        .copied()
+        .find(|codec| is_same_text(name, codec.name()))
+}
+
 /// The codec of a name.
+#[tactic(auto, unfolding(crate::specs::Codec::codec_of))]
 fn named(name: &str) -> Codec
     ensures { result ≡ codec_of name.now }
 {
-    if name.eq_ignore_ascii_case("opus") {
-        Codec::Opus
-    } else {
-        Codec::Unknown
-    }
+    known(name).unwrap_or(Codec::Unknown)
 }
 
-/// Reads a name without regard to the case of ASCII letters. A name that isn't known is `Unknown`.
+#[tactic(auto, using(crate::proofs::CodecNames::read_as))]
+fn read(name: &str) -> Codec
+    ensures { IsReadAs name.now result }
+{
+    named(name)
+}
+
+/// Reads a name without regard to the case of ASCII letters. A name that isn't known is `Unknown`,
+/// and so is that of `Null`.
 impl From<&str> for Codec {
     ghost from_gives = { λ name codec. IsReadAs name.now codec };
 
-    #[tactic(auto, using(crate::proofs::CodecNames::read_as))]
-    fn from(name: &str) -> Codec {
-        named(name)
+    #[tactic(auto, using(crate::proofs::CodecNames::read_printed))]
+    fn from(name: &str) -> Codec
+        ensures read { IsReadAs name.now result }
+
+        // What a codec prints reads as that codec, and what `Null` prints as `Unknown`.
+        ensures printed { (codec : Codec) → name.now ≡ codec_text codec → result ≡ printed_and_read codec }
+    {
+        read(name)
     }
 }
 

@@ -1,73 +1,267 @@
-//! The parameters of formats.
-ghost use Rattle.std.specs.Prelude.{◌≡◌, IfOk, Some};
-ghost use Rattle.str0m_formats.specs.FormatParam.{IsParsed, AreParsed, pair_texts, param_of, param_text};
+//! The parameters of formats, and how they are read.
+ghost use Rattle.std.specs.Prelude.{◌≡◌, IfOk, codes};
+ghost use Rattle.std.specs.Str.{bytes_eq};
+ghost use Rattle.str0m_values.specs.Cuts.{num, when};
+ghost use Rattle.str0m_values.specs.Parts.{IsNum};
+ghost use Rattle.str0m_values.specs.Only.{IsTheOnly};
+ghost use Rattle.str0m_formats.specs.FormatParam.{IsMode, IsModeSet, IsParsed, IsEventRange, IsBare, IsPrinted, pair_texts};
+ghost use Rattle.str0m_formats.specs.Pairs.{AreRead};
+ghost use Rattle.str0m_formats.specs.declared.format_param.FormatParam.{FormatParam};
+ghost use Rattle.str0m_formats.specs.declared.format_param.FormatParam.TheVariants.{AmrWbUnsupported};
+ghost use Rattle.str0m_formats.specs.ParamReading.{number_read, hex_read, modes_read, value_read, param_of, bare_param};
 
+use crate::format_key::FormatKey;
+use crate::pairs::params;
 use std::alloc::{AllocError, Global};
-use std::fmt;
-use str0m_values::cuts::num_u8;
+use str0m_values::cuts::{hex_u32, num_u8, num_u16, num_u32};
+use str0m_values::{H265ProfileTierLevel, H266ProfileTierLevel, Pt};
 
 /// One parameter of a format, as the values of an `a=fmtp` line give them (RFC 8866, section 6.15).
 #[derive(Clone, Copy, Debug, PartialEq, Eq)]
 pub enum FormatParam {
     /// The least packet time in milliseconds (`minptime`; RFC 7587, section 6.1).
     MinPTime(u8),
+    /// Whether the receiver prefers stereo (`stereo`; RFC 7587, section 6.1).
+    Stereo(bool),
+    /// Whether the sender is likely to send stereo (`sprop-stereo`; RFC 7587, section 6.1).
+    SpropStereo(bool),
     /// Whether the decoder can use in-band FEC (`useinbandfec`; RFC 7587, section 6.1).
     UseInbandFec(bool),
+    /// Whether silence may be left out (`usedtx`; RFC 7587, section 6.1).
+    UseDtx(bool),
+    /// Whether the levels of the two directions may differ (`level-asymmetry-allowed`; RFC 6184,
+    /// section 8.1).
+    LevelAsymmetryAllowed(bool),
+    /// How H264 is put into packets (`packetization-mode`; RFC 6184, section 8.1).
+    PacketizationMode(u8),
+    /// The profile and level of H264, three bytes (`profile-level-id`; RFC 6184, section 8.1).
+    ProfileLevelId(u32),
+    /// The profile of VP9, H265 or H266 (`profile-id`; RFC 9628, section 6; RFC 7798, section 7.1;
+    /// RFC 9328, section 7.2).
+    ProfileId(u32),
+    /// The profile of AV1 (`profile`).
+    Profile(u8),
+    /// The level of AV1 (`level-idx`).
+    LevelIdx(u8),
+    /// The tier of AV1 (`tier`).
+    Tier(u8),
+    /// The profile, tier and level of H265 (`profile-id`, `tier-flag`, `level-id`; RFC 7798, section
+    /// 7.1).
+    H265ProfileTierLevel(H265ProfileTierLevel),
+    /// The profile, tier and level of H266 (`profile-id`, `tier-flag`, `level-id`; RFC 9328, section
+    /// 7.2).
+    H266ProfileTierLevel(H266ProfileTierLevel),
+    /// How far NAL units may be out of decoding order, 0 to 32767 (`sprop-max-don-diff`; RFC 7798,
+    /// section 7.1).
+    SpropMaxDonDiff(u16),
+    /// The highest telephone event, from 0 on (RFC 4733, section 2.4).
+    TelephoneEvents(u8),
+    /// A range from 0 on, of which the codec says what it is.
+    BareRange(u8),
+    /// A list of payload types, by its first (RFC 2198, section 5).
+    BarePtList(Pt),
+    /// Whether AMR-WB is aligned to bytes (`octet-align`; RFC 4867, section 8.2).
+    OctetAlign(bool),
+    /// The modes of AMR-WB, bit N for mode N (`mode-set`; RFC 4867, section 8.2).
+    ModeSet(u16),
+    /// What asks for features of AMR-WB that aren't there: `crc=1`, `robust-sorting=1`,
+    /// `mode-change-period=2` or any `interleaving` (RFC 4867, section 8.2).
+    AmrWbUnsupported,
+    /// The payload type that is retransmitted (`apt`; RFC 4588, section 8.1).
+    Apt(Pt),
+    /// The payload type of redundant audio (RFC 2198, section 5).
+    Red(Pt),
     /// A key that isn't known, or a value that its key doesn't take.
     Unknown,
 }
 
+fn is_text(text: &str, other: &str) -> bool
+    ensures { result ≡ bytes_eq text.now other.now }
+{
+    text == other
+}
+
+fn is_one(value: &str) -> bool
+    ensures { result ≡ bytes_eq value.now (codes "1") }
+{
+    is_text(value, "1")
+}
+
+#[tactic(auto, using(crate::proofs::ParamReadingLaws::hex_is))]
+fn hex(text: &str) -> Option<u32>
+    ensures { result ≡ number_read 16 4294967295 text.now }
+{
+    hex_u32(text)
+}
+
+/// The number in hexadecimal, or in decimal where it is none in hexadecimal.
+#[tactic(auto, unfolding(crate::specs::ParamReading::hex_read))]
+fn hex_else_decimal(text: &str) -> Option<u32>
+    ensures { result ≡ hex_read text.now }
+{
+    match hex(text) {
+        Some(n) => Some(n),
+        None => num_u32(text),
+    }
+}
+
+/// The number in decimal, where it is at most 32767.
+fn distance(text: &str) -> Option<u16>
+    ensures { result ≡ num 32767 text.now }
+{
+    match text.parse::<u16>() {
+        Ok(n) if n <= 32767 => Some(n),
+        _ => None,
+    }
+}
+
+fn mode(piece: &str) -> Option<u8>
+    ensures { IsTheOnly (IsMode piece.now) result }
+{
+    num_u8(piece.trim(), 8)
+}
+
+#[tactic(auto, unfolding(crate::specs::FormatParam::IsModeSet))]
+fn mode_mask(text: &str) -> Option<u16>
+    ensures { IsTheOnly (IsModeSet text.now) result }
+{
+    let mut mask = 0u16;
+    for piece in text.split(',') {
+        mask |= 1 << mode(piece)?;
+    }
+    Some(mask)
+}
+
+/// The modes that are parted by commas, as a mask.
+#[tactic(auto, using(crate::proofs::Modes::modes_are))]
+fn modes(text: &str) -> Option<u16>
+    ensures { result ≡ modes_read text.now }
+{
+    mode_mask(text)
+}
+
+impl FormatKey {
+    /// The parameter of a value behind the key.
+    fn param(self, value: &str) -> Option<FormatParam>
+        ensures { result ≡ value_read self value.now }
+    {
+        match self {
+            FormatKey::MinPTime => Some(FormatParam::MinPTime(num_u8(value, 255)?)),
+            FormatKey::Stereo => Some(FormatParam::Stereo(is_one(value))),
+            FormatKey::SpropStereo => Some(FormatParam::SpropStereo(is_one(value))),
+            FormatKey::UseInbandFec => Some(FormatParam::UseInbandFec(is_one(value))),
+            FormatKey::UseDtx => Some(FormatParam::UseDtx(is_one(value))),
+            FormatKey::LevelAsymmetryAllowed => {
+                Some(FormatParam::LevelAsymmetryAllowed(is_one(value)))
+            }
+            FormatKey::PacketizationMode => {
+                Some(FormatParam::PacketizationMode(num_u8(value, 255)?))
+            }
+            FormatKey::ProfileLevelId => {
+                Some(FormatParam::ProfileLevelId(hex_else_decimal(value)?))
+            }
+            FormatKey::ProfileId => Some(FormatParam::ProfileId(num_u32(value)?)),
+            FormatKey::Profile => Some(FormatParam::Profile(num_u8(value, 255)?)),
+            FormatKey::LevelIdx => Some(FormatParam::LevelIdx(num_u8(value, 255)?)),
+            FormatKey::Tier => Some(FormatParam::Tier(num_u8(value, 255)?)),
+            FormatKey::SpropMaxDonDiff => Some(FormatParam::SpropMaxDonDiff(distance(value)?)),
+            FormatKey::OctetAlign => Some(FormatParam::OctetAlign(is_one(value))),
+            FormatKey::ModeSet => Some(FormatParam::ModeSet(modes(value)?)),
+            FormatKey::Apt => Some(FormatParam::Apt(Pt::new_with_value(num_u8(value, 255)?))),
+            FormatKey::Crc => unsupported(is_one(value)),
+            FormatKey::RobustSorting => unsupported(is_one(value)),
+            FormatKey::ModeChangePeriod => unsupported(is_text(value, "2")),
+            FormatKey::Interleaving => Some(FormatParam::AmrWbUnsupported),
+        }
+    }
+}
+
+fn unsupported(is_asked: bool) -> Option<FormatParam>
+    ensures { result ≡ when is_asked AmrWbUnsupported }
+{
+    if is_asked {
+        Some(FormatParam::AmrWbUnsupported)
+    } else {
+        None
+    }
+}
+
 /// The parameter of a key and its value.
-fn param(key: &str, value: &str) -> FormatParam
+#[tactic(auto, unfolding(crate::specs::ParamReading::param_of))]
+pub(crate) fn param(key: &str, value: &str) -> FormatParam
     ensures { result ≡ param_of (key.now, value.now) }
 {
-    if key.eq_ignore_ascii_case("minptime") {
-        return match num_u8(value, 255) {
-            Some(n) => FormatParam::MinPTime(n),
-            None => FormatParam::Unknown,
-        };
+    match FormatKey::named(key) {
+        Some(key) => key.param(value).unwrap_or(FormatParam::Unknown),
+        None => FormatParam::Unknown,
     }
-    if key.eq_ignore_ascii_case("useinbandfec") {
-        FormatParam::UseInbandFec(value == "1")
-    } else {
-        FormatParam::Unknown
+}
+
+#[tactic(auto, using(crate::proofs::ParamLaws::parsed))]
+fn parsed(key: &str, value: &str) -> FormatParam
+    ensures { IsParsed (key.now, value.now) result }
+{
+    param(key, value)
+}
+
+fn byte(text: &str) -> Option<u8>
+    ensures { IsTheOnly (IsNum 255 text.now) result }
+{
+    num_u8(text, 255)
+}
+
+/// The highest event of the range `0-X`, in digits alone.
+fn last_event(value: &str) -> Option<u8>
+    ensures { IsTheOnly (IsEventRange value.now) result }
+{
+    match value.strip_prefix("0-") {
+        Some(end) if !end.starts_with('+') => byte(end),
+        _ => None,
+    }
+}
+
+fn events(last: Option<u8>) -> FormatParam
+    ensures { result ≡ bare_param last }
+{
+    match last {
+        Some(max) => FormatParam::TelephoneEvents(max),
+        None => FormatParam::Unknown,
     }
 }
 
 impl FormatParam {
     /// Reads a key, without regard to the case of ASCII letters, and its value. Numbers read as
     /// std reads them; a flag is true exactly for `1`. What doesn't read is `Unknown`.
-    #[tactic(auto, using(crate::proofs::ParamLaws::parsed))]
     pub fn parse(key: &str, value: &str) -> FormatParam
-        ensures { IsParsed (key.now, value.now) result }
+        ensures parsed { IsParsed (key.now, value.now) result }
+
+        // What a parameter prints reads as that parameter.
+        ensures printed { (param : FormatParam) → IsPrinted param (key.now, value.now) → result ≡ param }
     {
-        param(key, value)
+        parsed(key, value)
     }
 
-    /// Reads keys and their values, each on its own, in order.
+    /// Reads a value without a key: `0-X`, with X in digits and at most 255, is a range of
+    /// telephone events (RFC 4733, section 2.4). What doesn't read is `Unknown`.
+    #[tactic(auto, using(crate::proofs::ParamLaws::bare_of))]
+    pub fn parse_telephone_events(value: &str) -> FormatParam
+        ensures { IsBare value.now result }
+    {
+        events(last_event(value))
+    }
+
+    /// Reads keys and their values. Where a key is `tier-flag` or `level-id`, which only H265 and
+    /// H266 have, keys are taken once each, in the order of their first appearance, with their last
+    /// values; the profile, tier and level of H265, else of H266, that they name comes first (RFC
+    /// 7798, section 7.1; RFC 9328, section 7.2), and their three keys are passed over. Otherwise each
+    /// pair is read on its own, in order. The only error is that memory was refused.
+    #[tactic(auto, using(crate::proofs::PairsLaws::are_read))]
     pub fn parse_pairs(
         alloc: Global,
         pairs: &[(&str, &str)],
     ) -> Result<Vec<FormatParam>, AllocError>
-        ensures { IfOk result (λ params. AreParsed (pair_texts pairs.now) params.items) }
+        ensures { IfOk result (λ params. AreRead (pair_texts pairs.now) params.items) }
     {
-        let mut params = Vec::with_capacity(alloc, pairs.len())?;
-        for (key, value) in pairs {
-            params.push(param(key, value))?;
-        }
-        Ok(params)
-    }
-}
-
-impl fmt::Display for FormatParam {
-    ghost output = { λ param. Some (param_text param) };
-
-    fn fmt<W: fmt::Write>(&self, f: &mut fmt::Formatter<W>) -> fmt::Result {
-        match *self {
-            FormatParam::MinPTime(value) => write!(f, "minptime={value}"),
-            FormatParam::UseInbandFec(true) => f.write_str("useinbandfec=1"),
-            FormatParam::UseInbandFec(false) => f.write_str("useinbandfec=0"),
-            FormatParam::Unknown => Ok(()),
-        }
+        params(alloc, pairs)
     }
 }

@@ -1,7 +1,12 @@
 -- Which sections are consistent.
-use Rattle.std.specs.Prelude.{◌≡◌, ◌≢◌, ◌≤◌, ◌⊎◌, ◌==◌, ℕ, Bool, true, false, List, [], Option, MatchOption, All, count_by}
+use Rattle.std.specs.Prelude.{◌≡◌, ◌≢◌, ◌≤◌, ◌⊎◌, ◌==◌, ℕ, Bool, true, false, List, [], ◌∷◌, Option, Some, None, IfSome, MatchOption, All, count_by, if◌then◌else◌}
 use Rattle.str0m_sdp.specs.declared.attribute.MediaAttribute.{MediaAttribute}
-use Rattle.str0m_sdp.specs.declared.attribute.MediaAttribute.TheVariants.{Setup, Mid, RecvOnly, SendRecv, SendOnly, Inactive, RtpMap}
+use Rattle.str0m_sdp.specs.declared.attribute.MediaAttribute.TheVariants.{Setup, Mid, RecvOnly, SendRecv, SendOnly, Inactive, RtpMap, Fmtp}
+use Rattle.str0m_formats.specs.declared.format_param.FormatParam.{FormatParam}
+use Rattle.str0m_formats.specs.declared.format_param.FormatParam.TheVariants.{Apt}
+use Rattle.str0m_values.specs.Cuts.{◌<|>◌}
+use Rattle.str0m_sdp.specs.declared.consistency.Counted.{Counted}
+use Rattle.str0m_sdp.specs.declared.consistency.Counted.TheVariants as counted
 use Rattle.str0m_sdp.specs.declared.media_line.MediaLine.{MediaLine}
 use Rattle.str0m_sdp.specs.declared.proto.Proto.TheVariants.{Srtp}
 
@@ -21,6 +26,12 @@ is_direction SendOnly = true
 is_direction Inactive = true
 is_direction _ = false
 
+-- the attributes that are counted in a section
+abbrev pub is_counted : Counted → MediaAttribute → Bool
+is_counted counted.Mids attr = is_mid attr
+is_counted counted.Setups attr = is_setup attr
+is_counted counted.Directions attr = is_direction attr
+
 -- a mapping of this payload type (RFC 8866, section 6.6)
 abbrev pub maps : ℕ → MediaAttribute → Bool
 maps pt (RtpMap n value) = n == pt
@@ -38,11 +49,40 @@ IsMapped attrs pt = (count_by (maps pt) attrs ≡ 1) ⊎ ((count_by (maps pt) at
 abbrev pub FitsProto : MediaLine → Type 0
 FitsProto m = m.proto ≡ Srtp → (count_by is_direction m.attrs ≡ 1) × (m.disabled ≡ false → m.pts ≢ [])
 
+-- the primary type that a value of an fmtp line names (RFC 4588, section 8.1)
+abbrev pub apt_of : FormatParam → Option ℕ
+apt_of (Apt pt) = Some pt
+apt_of _ = None
+
+-- the first that the values name
+abbrev pub apt_among : List FormatParam → Option ℕ
+apt_among [] = None
+apt_among (value ∷ values) = apt_of value <|> apt_among values
+
+-- the first that an fmtp line of the payload type names
+abbrev pub apt_in : ℕ → MediaAttribute → Option ℕ
+apt_in pt (Fmtp n values) = if n == pt then apt_among values else None
+apt_in pt _ = None
+
+abbrev pub first_apt : ℕ → List MediaAttribute → Option ℕ
+first_apt pt [] = None
+first_apt pt (attr ∷ attrs) = apt_in pt attr <|> first_apt pt attrs
+
+-- the value names no other type than this one
+abbrev pub NamesNoOther : ℕ → FormatParam → Type 0
+NamesNoOther first value = IfSome (apt_of value) (λ other. first ≡ other)
+
+-- no value of an fmtp line names another primary type than the first that is named for its payload type
+abbrev pub AgreesOnApt : List MediaAttribute → MediaAttribute → Type 0
+AgreesOnApt attrs (Fmtp pt values) = IfSome (first_apt pt attrs) (λ first. All (NamesNoOther first) values)
+AgreesOnApt attrs _ = Unit {0}
+
 pub record Consistent (m : MediaLine) : Type 0 where
   pub mid : count_by is_mid m.attrs ≡ 1
   pub setup : count_by is_setup m.attrs ≤ 1
   pub proto : FitsProto m
   pub mapped : All (IsMapped m.attrs) m.pts
+  pub apt : All (AgreesOnApt m.attrs) m.attrs
 
 -- none where P holds, and a value where it doesn't
 abbrev pub NoneIff : {A : Type 0} → Option A → Type 0 → Type 0

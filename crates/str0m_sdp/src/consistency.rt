@@ -1,12 +1,13 @@
 //! Which sections are consistent.
 ghost use Rattle.std.specs.Prelude.{◌≡◌, ◌<◌, ◌≤◌, ◌↔◌, All, IfOk, IsOk, IsSome, IsTrue, Ok, None, count_by};
-ghost use Rattle.str0m_sdp.specs.Consistency.{is_mid, is_setup, is_direction, maps, IsStatic, IsMapped, FitsProto, Consistent, NoneIff};
+ghost use Rattle.str0m_sdp.specs.Consistency.{is_mid, is_setup, is_direction, is_counted, maps, IsStatic, IsMapped, apt_of, apt_among, apt_in, first_apt, NamesNoOther, AgreesOnApt, FitsProto, Consistent, NoneIff};
 
 use crate::attribute::MediaAttribute;
-use crate::fault::{Fault, Message};
+use crate::fault::{Clash, Fault, Message};
 use crate::media_line::MediaLine;
 use crate::proto::Proto;
 use std::alloc::{AllocError, Global};
+use str0m_formats::FormatParam;
 use str0m_values::{Mid, Pt};
 
 impl MediaAttribute {
@@ -43,24 +44,64 @@ impl MediaAttribute {
             _ => false,
         }
     }
+
+    /// The first primary type that this fmtp line names, where it is one of the wanted type.
+    fn apt_for(&self, wanted: Pt) -> Option<Pt>
+        ensures { result ≡ apt_in wanted self.now }
+    {
+        match self {
+            MediaAttribute::Fmtp { pt, values } => if *pt == wanted {
+                apt_among(values.as_slice())
+            } else {
+                None
+            },
+            _ => None,
+        }
+    }
+}
+
+/// The attributes that are counted in a section.
+#[derive(Clone, Copy)]
+enum Counted {
+    Mids,
+    Setups,
+    Directions,
+}
+
+impl Counted {
+    fn holds(self, attr: &MediaAttribute) -> bool
+        ensures { result ≡ is_counted self attr.now }
+    {
+        match self {
+            Counted::Mids => attr.is_mid(),
+            Counted::Setups => attr.is_setup(),
+            Counted::Directions => attr.is_direction(),
+        }
+    }
+}
+
+fn count(attrs: &[MediaAttribute], counted: Counted) -> usize
+    ensures { result ≡ count_by (is_counted counted) attrs.now }
+{
+    attrs.iter().filter(|a| counted.holds(a)).count()
 }
 
 fn count_mids(attrs: &[MediaAttribute]) -> usize
     ensures { result ≡ count_by is_mid attrs.now }
 {
-    attrs.iter().filter(|a| a.is_mid()).count()
+    count(attrs, Counted::Mids)
 }
 
 fn count_setups(attrs: &[MediaAttribute]) -> usize
     ensures { result ≡ count_by is_setup attrs.now }
 {
-    attrs.iter().filter(|a| a.is_setup()).count()
+    count(attrs, Counted::Setups)
 }
 
 fn count_directions(attrs: &[MediaAttribute]) -> usize
     ensures { result ≡ count_by is_direction attrs.now }
 {
-    attrs.iter().filter(|a| a.is_direction()).count()
+    count(attrs, Counted::Directions)
 }
 
 fn count_maps(attrs: &[MediaAttribute], pt: Pt) -> usize
@@ -148,6 +189,90 @@ fn check_maps(attrs: &[MediaAttribute], pts: &[Pt], mid: Mid) -> Result<(), Faul
     Ok(())
 }
 
+fn apt_of(value: FormatParam) -> Option<Pt>
+    ensures { result ≡ apt_of value }
+{
+    match value {
+        FormatParam::Apt(pt) => Some(pt),
+        _ => None,
+    }
+}
+
+/// The first primary type that the values name.
+fn apt_among(values: &[FormatParam]) -> Option<Pt>
+    ensures { result ≡ apt_among values.now }
+{
+    let mut left = values;
+    while let Some((value, more)) = left.split_first() {
+        if let Some(apt) = apt_of(*value) {
+            return Some(apt);
+        }
+        left = more;
+    }
+    None
+}
+
+/// The first primary type that fmtp lines name for the payload type.
+fn first_apt(attrs: &[MediaAttribute], pt: Pt) -> Option<Pt>
+    ensures { result ≡ first_apt pt attrs.now }
+{
+    let mut left = attrs;
+    while let Some((attr, more)) = left.split_first() {
+        if let Some(apt) = attr.apt_for(pt) {
+            return Some(apt);
+        }
+        left = more;
+    }
+    None
+}
+
+fn check_value(value: FormatParam, first: Pt, pt: Pt, mid: Mid) -> Result<(), Fault>
+    ensures { IsOk result ↔ NamesNoOther first value }
+{
+    let Some(other) = apt_of(value) else {
+        return Ok(());
+    };
+    if other == first {
+        return Ok(());
+    }
+    Err(Fault::Apts(Clash {
+        mid,
+        pt,
+        first,
+        other,
+    }))
+}
+
+fn check_values(values: &[FormatParam], first: Pt, pt: Pt, mid: Mid) -> Result<(), Fault>
+    ensures { IsOk result ↔ All (NamesNoOther first) values.now }
+{
+    for value in values {
+        check_value(*value, first, pt, mid)?;
+    }
+    Ok(())
+}
+
+fn check_apt(attrs: &[MediaAttribute], attr: &MediaAttribute, mid: Mid) -> Result<(), Fault>
+    ensures { IsOk result ↔ AgreesOnApt attrs.now attr.now }
+{
+    match attr {
+        MediaAttribute::Fmtp { pt, values } => match first_apt(attrs, *pt) {
+            Some(first) => check_values(values.as_slice(), first, *pt, mid),
+            None => Ok(()),
+        },
+        _ => Ok(()),
+    }
+}
+
+fn check_apts(attrs: &[MediaAttribute], mid: Mid) -> Result<(), Fault>
+    ensures { IsOk result ↔ All (AgreesOnApt attrs.now) attrs.now }
+{
+    for attr in attrs {
+        check_apt(attrs, attr, mid)?;
+    }
+    Ok(())
+}
+
 /// The first fault of a section, as the error.
 fn check(m: &MediaLine) -> Result<(), Fault>
     ensures { IsOk result ↔ Consistent m.now }
@@ -156,7 +281,8 @@ fn check(m: &MediaLine) -> Result<(), Fault>
     let mid = only_mid(attrs)?;
     check_setups(attrs, mid)?;
     check_proto(m, mid)?;
-    check_maps(attrs, m.pts.as_slice(), mid)
+    check_maps(attrs, m.pts.as_slice(), mid)?;
+    check_apts(attrs, mid)
 }
 
 impl MediaLine {
@@ -165,8 +291,9 @@ impl MediaLine {
     /// A section has exactly one `a=mid` line and at most one `a=setup` line (RFC 8829, section
     /// 5.2.1). Over Srtp it has exactly one direction, and a payload type unless it is disabled.
     /// Each payload type of its m-line has exactly one `a=rtpmap` line (RFC 8866, section 6.6); the
-    /// static types of PCMU, PCMA, G722 and CN (RFC 3551, section 6) may have none. Faults are
-    /// looked for in this order.
+    /// static types of PCMU, PCMA, G722 and CN (RFC 3551, section 6) may have none. The `apt` values of
+    /// one payload type's fmtp lines name one primary type (RFC 4588, section 8.1). Faults are looked
+    /// for in this order.
     ///
     /// Only a message takes memory, so a consistent section needs none; the only error is that
     /// memory for the message was refused.

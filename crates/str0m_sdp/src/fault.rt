@@ -14,6 +14,16 @@ pub(crate) enum Fault {
     MissingType(Mid),
     MissingMap { mid: Mid, pt: Pt },
     SecondMap { mid: Mid, pt: Pt },
+    Apts(Clash),
+}
+
+/// Two primary types that fmtp lines name for one payload type.
+#[derive(Clone, Copy)]
+pub(crate) struct Clash {
+    pub(crate) mid: Mid,
+    pub(crate) pt: Pt,
+    pub(crate) first: Pt,
+    pub(crate) other: Pt,
 }
 
 /// What a fault says of its section.
@@ -38,6 +48,14 @@ impl<'a> fmt::Display for Message<'a> {
             Fault::MissingMap { mid, pt } => write!(f, "Missing a=rtp_map:{pt} for mid: {mid}"),
             Fault::SecondMap { mid, pt } => {
                 write!(f, "More than one a=rtp_map:{pt} for mid: {mid}")
+            }
+            Fault::Apts(clash) => {
+                let (pt, mid) = (clash.pt, clash.mid);
+                let (first, other) = (clash.first, clash.other);
+                write!(
+                    f,
+                    "PT {pt} has conflicting apt values {first} and {other} for mid: {mid}"
+                )
             }
         }
     }

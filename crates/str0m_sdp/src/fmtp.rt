@@ -17,7 +17,7 @@ pub(crate) struct FmtpLine<'a> {
 fn is_shown(value: FormatParam) -> bool
     ensures { result ≡ is_shown value }
 {
-    !matches!(value, FormatParam::Unknown)
+    !matches!(value, FormatParam::Unknown | FormatParam::AmrWbUnsupported)
 }
 
 /// The first value that is shown, and those behind it.

@@ -8,9 +8,10 @@ use Rattle.str0m_formats.specs.declared.format_param.FormatParam.{FormatParam}
 use Rattle.str0m_values.specs.Parts.{Lacks, IsRest}
 use Rattle.str0m_signal.specs.Fmtp.{IsBlank, AreBlanks, IsKey, IsValue, IsEnd, StartsPlain, IsPair, ArePairs, IsPairsForm, IsAnything, IsFmtp}
 use Rattle.std.specs.Borrow.{Bor}
-use Rattle.str0m_formats.specs.FormatParam.{AreParsed, pair_texts}
-use Rattle.str0m_formats.proofs.ParamLaws.{all_parsed, all_parsed_only}
-use Rattle.str0m_formats.specs.FormatParam.{param_of}
+use Rattle.str0m_formats.specs.FormatParam.{pair_texts}
+use Rattle.str0m_formats.specs.Pairs.{AreRead}
+use Rattle.str0m_formats.proofs.PairsLaws.{pairs_read_is, pairs_read_only}
+use Rattle.str0m_formats.specs.PairsReading.{params_read}
 use Rattle.str0m_values.specs.Fits.{FirstFit}
 use Rattle.str0m_formats.specs.declared.format_param.FormatParam.TheVariants.{Unknown}
 use Rattle.str0m_values.specs.Cuts.{lacks}
@@ -266,20 +267,20 @@ pairs_start (p ∷ (q ∷ qs)) text h = subst StartsPlain (sym h.1.2) (key_start
 pairs_both : Reads IsPairsForm pairs_form_read
 pairs_both = record {
   sound = λ more values e.
-      let a = bind_some (strip (codes " ") more) (λ t. pairs_read (skip_blanks t) >>= λ pairs. Some (map param_of pairs)) values e in
-      let p = bind_some (pairs_read (skip_blanks a.0)) (λ pairs. Some (map param_of pairs)) values a.2 in
+      let a = bind_some (strip (codes " ") more) (λ t. pairs_read (skip_blanks t) >>= λ pairs. Some (params_read pairs)) values e in
+      let p = bind_some (pairs_read (skip_blanks a.0)) (λ pairs. Some (params_read pairs)) values a.2 in
       let s = skips a.0 in
       let r = pairs_found (suc (length (skip_blanks a.0))) (skip_blanks a.0) p.0 p.1 in
-      let values_are : AreParsed p.0 values = subst (AreParsed p.0) (some_is (map param_of p.0) values p.2) (all_parsed p.0) in
+      let values_are : AreRead p.0 values = subst (AreRead p.0) (some_is (params_read p.0) values p.2) (pairs_read_is p.0) in
       (s.blanks, skip_blanks a.0, p.0, strip_found (codes " ") more a.0 a.1 ∙ ap (λ (t : List ℕ). codes " " ++ t) s.joined, s.are, r, values_are);
   complete = λ more values h.
       let kept : skip_blanks (h.0 ++ h.1) ≡ h.1 = IsBlank-skip h.0 h.1 h.4 ∙ starts_kept h.1 (pairs_start h.2 h.1 h.5) in
       let read : pairs_read (skip_blanks (h.0 ++ h.1)) ≡ Some h.2 = ap pairs_read kept ∙ pairs_given h.2 (suc (length h.1)) h.1 h.5 (omega arith) in
-      ap pairs_form_read h.3 ∙ ap (λ (o : Option (List (List ℕ × List ℕ))). o >>= λ pairs. Some (map param_of pairs)) read ∙ ap (λ (t : List FormatParam). Some t) (sym (all_parsed_only h.2 values h.6));
+      ap pairs_form_read h.3 ∙ ap (λ (o : Option (List (List ℕ × List ℕ))). o >>= λ pairs. Some (params_read pairs)) read ∙ ap (λ (t : List FormatParam). Some t) (sym (pairs_read_only h.2 values h.6));
 }
 
-pub pairs_form_of : (more text : List ℕ) (pairs : List (List ℕ × List ℕ)) (values : List FormatParam) → Some text ≡ strip (codes " ") more → Some pairs ≡ pairs_read (skip_blanks text) → AreParsed pairs values → Some values ≡ pairs_form_read more
-pairs_form_of more text pairs values at read are = rw (← at, ← read) (ap (λ (t : List FormatParam). Some t) (all_parsed_only pairs values are))
+pub pairs_form_of : (more text : List ℕ) (pairs : List (List ℕ × List ℕ)) (values : List FormatParam) → Some text ≡ strip (codes " ") more → Some pairs ≡ pairs_read (skip_blanks text) → AreRead pairs values → Some values ≡ pairs_form_read more
+pairs_form_of more text pairs values at read are = rw (← at, ← read) (ap (λ (t : List FormatParam). Some t) (pairs_read_only pairs values are))
 
 anything_both : Reads IsAnything (λ more. Some (Unknown ∷ []))
 anything_both = record {

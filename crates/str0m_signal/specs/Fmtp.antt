@@ -3,7 +3,7 @@ use Rattle.std.specs.Prelude.{◌≡◌, ◌⊎◌, ℕ, List, [], ◌∷◌, �
 use Rattle.std.specs.List.{AllByRecursion}
 use Rattle.str0m_formats.specs.declared.format_param.FormatParam.{FormatParam}
 use Rattle.str0m_formats.specs.declared.format_param.FormatParam.TheVariants.{Unknown}
-use Rattle.str0m_formats.specs.FormatParam.{AreParsed}
+use Rattle.str0m_formats.specs.Pairs.{AreRead}
 use Rattle.str0m_values.specs.Parts.{Lacks, IsRest, IsPt}
 use Rattle.str0m_values.specs.Fits.{FirstFit}
 
@@ -46,7 +46,7 @@ ArePairs text (p ∷ q ∷ qs) = (more : List ℕ) × IsPair text p (Some more) 
 -- SP and pairs, blanks before them
 abbrev pub IsPairsForm : List ℕ → List FormatParam → Type 0
 IsPairsForm more values = (blanks : List ℕ) × (text : List ℕ) × (pairs : List (List ℕ × List ℕ)) × (more ≡ codes " " ++ (blanks ++ text))
-    × AreBlanks blanks × ArePairs text pairs × AreParsed pairs values
+    × AreBlanks blanks × ArePairs text pairs × AreRead pairs values
 
 abbrev pub IsAnything : List ℕ → List FormatParam → Type 0
 IsAnything more values = values ≡ Unknown ∷ []

@@ -1,8 +1,8 @@
 -- Reading of the pairs of an fmtp line as functions.
-use Rattle.std.specs.Prelude.{ℕ, zero, suc, Bool, List, [], ◌∷◌, Option, Some, None, codes, length, map, if◌then◌else◌, ◌==◌}
+use Rattle.std.specs.Prelude.{ℕ, zero, suc, Bool, List, [], ◌∷◌, Option, Some, None, codes, length, if◌then◌else◌, ◌==◌}
 use Rattle.str0m_formats.specs.declared.format_param.FormatParam.{FormatParam}
 use Rattle.str0m_formats.specs.declared.format_param.FormatParam.TheVariants.{Unknown}
-use Rattle.str0m_formats.specs.FormatParam.{param_of}
+use Rattle.str0m_formats.specs.PairsReading.{params_read}
 use Rattle.str0m_values.specs.Cuts.{◌>>=◌, ◌<|>◌, cut, strip, when, is_rest, num, before, lacks}
 
 -- the value of an fmtp pair, which ends at `;`, space or tab, and what follows it
@@ -50,7 +50,7 @@ abbrev pub pairs_form_read : List ℕ → Option (List FormatParam)
 pairs_form_read more = do
   text ← strip (codes " ") more
   pairs ← pairs_read (skip_blanks text)
-  Some (map param_of pairs)
+  Some (params_read pairs)
 
 abbrev pub fmtp_values_read : List ℕ → Option (List FormatParam)
 fmtp_values_read more = pairs_form_read more <|> Some (Unknown ∷ [])

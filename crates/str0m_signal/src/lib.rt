@@ -21,7 +21,7 @@ pub use offer::{SdpAnswer, SdpOffer};
 pub use reader::{
     candidate_attribute, media_attribute_line, sdp_parser, session_attribute_line, session_parser,
 };
-pub use str0m_formats::{Codec, FormatParam};
+pub use str0m_formats::{Codec, CodecSpec, FormatParam, FormatParams};
 pub use str0m_sdp::{
     Bandwidth, MediaAttribute, MediaLine, MediaType, Proto, RtpMap, Sdp, SdpError, Session,
     SessionAttribute, Setup,

@@ -1,6 +1,7 @@
 use Rattle.std.proofs.Common.{◌≡◌, map, take}
-use Rattle.str0m_formats.specs.FormatParam.{pair_texts, param_of}
-use Rattle.str0m_formats.proofs.format_param.FormatParam.parse_pairs.Given as goal
+use Rattle.str0m_formats.specs.FormatParam.{pair_texts}
+use Rattle.str0m_formats.specs.ParamReading.{param_of}
+use Rattle.str0m_formats.proofs.pairs.each.Given as goal
 
 -- the parameters so far are those of the pairs so far
 abbrev pub invariant-loop-key : goal.invariant-loop-key

@@ -1,0 +1,22 @@
+-- Rows of a table that are looked up by their texts, without regard to the case of ASCII letters.
+use Rattle.std.proofs.Common.{◌≡◌, ℕ, Bool, true, false, cond, List, [], ◌∷◌, map, Option, Some, None, IfSome, refl}
+use Rattle.std.specs.List.{find, list_all}
+use Rattle.std.specs.Char.{to_ascii_lowercase}
+use Rattle.std.specs.Str.{bytes_eq}
+use Rattle.std.proofs.lemmas.Bool.{and_parts}
+
+-- what is found stands in the list and passes
+pub find_passes : {A : Type 0} (own test : A → Bool) (xs : List A) → list_all own xs ≡ true → IfSome (find test xs) (λ x. (own x ≡ true) × (test x ≡ true))
+find_passes own test [] all = tt
+find_passes {A} own test (x ∷ xs) all =
+    let k = and_parts (own x) (list_all own xs) all in
+    let passes : (b : Bool) → test x ≡ b → IfSome (cond b (Some x) (find test xs)) (λ x. (own x ≡ true) × (test x ≡ true)) = λ b e. elim b as (λ v. test x ≡ v → IfSome (cond v (Some x) (find test xs)) (λ (x : A). (own x ≡ true) × (test x ≡ true))) [ true ↦ λ e. (k.0, e) | false ↦ λ e. find_passes own test xs k.1 ] e in
+    passes (test x) refl
+
+pub if_some_map : {A : Type 0} {P Q : A → Type 0} (o : Option A) → IfSome o P → ((x : A) → P x → Q x) → IfSome o Q
+if_some_map None h then = tt
+if_some_map (Some x) h then = then x h
+
+-- the row of which this is the text in lower case
+abbrev pub row_at : {A : Type 0} → (A → List ℕ) → List A → List ℕ → Option A
+row_at text rows low = find (λ row. bytes_eq low (map to_ascii_lowercase (text row))) rows

@@ -1,0 +1,8 @@
+use Rattle.std.proofs.Common.{ap, ◌∙◌}
+use Rattle.std.specs.Str.{trim}
+use Rattle.str0m_values.specs.Cuts.{num}
+use Rattle.str0m_formats.proofs.ParamReadingLaws.{num_is_only}
+use Rattle.str0m_formats.proofs.format_param.mode.Goals as goal
+
+pub returns : goal.returns
+returns c = num_is_only 8 (trim c.args.piece.now) _ (c.num_u8.ensures ∙ ap (num 8) c.trim.ensures.trim)

@@ -1,0 +1,39 @@
+-- The profile, tier and level that three values of a format name: H265's table (RFC 7798, section 7.1) comes first, then
+-- H266's (RFC 9328, section 7.2).
+use Rattle.std.specs.Prelude.{◌≡◌, ℕ, List, Option, Some, None}
+use Rattle.str0m_values.specs.Parts.{IsNum}
+use Rattle.str0m_values.specs.Fits.{FirstFit}
+use Rattle.str0m_values.specs.H265 as h265
+use Rattle.str0m_values.specs.H266 as h266
+use Rattle.str0m_values.specs.declared.h265.H265ProfileTierLevel.{H265ProfileTierLevel as h265_triple}
+use Rattle.str0m_values.specs.declared.h266.H266ProfileTierLevel.{H266ProfileTierLevel as h266_triple}
+use Rattle.str0m_formats.specs.declared.format_param.FormatParam.{FormatParam}
+use Rattle.str0m_formats.specs.declared.format_param.FormatParam.TheVariants.{H265ProfileTierLevel, H266ProfileTierLevel}
+
+-- the number in the text, or the default where there is no text
+abbrev pub IsGiven : ℕ → Option (List ℕ) → ℕ → Type 0
+IsGiven default None n = n ≡ default
+IsGiven default (Some text) n = IsNum 255 text n
+
+-- the values of `profile-id`, `tier-flag` and `level-id`, where they are given
+abbrev pub Texts : Type 0
+Texts = Option (List ℕ) × Option (List ℕ) × Option (List ℕ)
+
+abbrev pub IsH265 : Texts → h265_triple → Type 0
+IsH265 texts t = IsGiven h265.defaults.0 texts.0 (h265.profile_id t.profile) × IsGiven h265.defaults.1 texts.1 (h265.tier_flag t.tier) × IsGiven h265.defaults.2 texts.2 (h265.level_id t.level)
+
+abbrev pub IsH266 : Texts → h266_triple → Type 0
+IsH266 texts t = IsGiven h266.defaults.0 texts.0 (h266.profile_id t.profile) × IsGiven h266.defaults.1 texts.1 (h266.tier_flag t.tier) × IsGiven h266.defaults.2 texts.2 (h266.level_id t.level)
+
+abbrev pub IsH265Param : Texts → Option FormatParam → Type 0
+IsH265Param texts param = (t : h265_triple) × IsH265 texts t × (param ≡ Some (H265ProfileTierLevel t))
+
+abbrev pub IsH266Param : Texts → Option FormatParam → Type 0
+IsH266Param texts param = (t : h266_triple) × IsH266 texts t × (param ≡ Some (H266ProfileTierLevel t))
+
+abbrev pub IsNoParam : Texts → Option FormatParam → Type 0
+IsNoParam texts param = param ≡ None
+
+-- the triple of H265 where the values name one, else that of H266, else none
+abbrev pub IsTripleParam : Texts → Option FormatParam → Type 0
+IsTripleParam = FirstFit IsH265Param (FirstFit IsH266Param IsNoParam)

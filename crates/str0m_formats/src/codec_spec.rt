@@ -1,0 +1,61 @@
+//! Codecs with their clock rates, channels and formats.
+ghost use Rattle.std.specs.Prelude.{◌≡◌};
+ghost use Rattle.str0m_values.specs.Only.{IsTheOnly};
+ghost use Rattle.str0m_formats.specs.CodecSpec.{IsStatic, rtp_rate};
+
+use crate::codec::Codec;
+use crate::format_params::FormatParams;
+use str0m_values::{Frequency, Pt};
+
+/// A codec with its clock rate, its channels and its format.
+#[derive(Clone, Copy, Debug, PartialEq, Eq)]
+pub struct CodecSpec {
+    pub codec: Codec,
+    /// The rate at which the codec samples, in Hz.
+    pub clock_rate: Frequency,
+    /// The channels, where they are given.
+    pub channels: Option<u8>,
+    pub format: FormatParams,
+}
+
+/// The rates of 8 and 16 kHz.
+fn eight_and_sixteen() -> (Frequency, Frequency)
+    ensures { result ≡ (8000, 16000) }
+{
+    let [eight, sixteen, _, _] = Frequency::named();
+    (eight, sixteen)
+}
+
+impl CodecSpec {
+    /// The clock rate of RTP timestamps, in Hz: 8000 for G722, which samples at 16000 (RFC 3551,
+    /// section 4.5.2), else the clock rate.
+    pub fn rtp_clock_rate(self) -> Frequency
+        ensures { result ≡ rtp_rate self.codec self.clock_rate }
+    {
+        match self.codec {
+            Codec::G722 => eight_and_sixteen().0,
+            _ => self.clock_rate,
+        }
+    }
+
+    /// What a payload type stands for without a mapping (RFC 3551, section 6): 0 PCMU, 8 PCMA and 13
+    /// CN at 8000 Hz, 9 G722 at 16000 Hz. `None` for any other type.
+    pub fn from_static_pt(pt: Pt) -> Option<CodecSpec>
+        ensures { IsTheOnly (IsStatic pt) result }
+    {
+        let (eight, sixteen) = eight_and_sixteen();
+        let (codec, clock_rate) = match pt.value() {
+            0 => (Codec::PCMU, eight),
+            8 => (Codec::PCMA, eight),
+            9 => (Codec::G722, sixteen),
+            13 => (Codec::CN, eight),
+            _ => return None,
+        };
+        Some(CodecSpec {
+            codec,
+            clock_rate,
+            channels: None,
+            format: FormatParams::default(),
+        })
+    }
+}

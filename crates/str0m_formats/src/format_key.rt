@@ -1,0 +1,95 @@
+//! The keys of format parameters.
+ghost use Rattle.std.specs.Prelude.{◌≡◌};
+ghost use Rattle.str0m_formats.specs.FormatKey.{key_text};
+ghost use Rattle.str0m_formats.specs.ParamReading.{key_read};
+
+use str0m_values::cuts::is_same_text;
+
+/// A key of a format parameter.
+#[derive(Clone, Copy)]
+pub(crate) enum FormatKey {
+    MinPTime,
+    Stereo,
+    SpropStereo,
+    UseInbandFec,
+    UseDtx,
+    LevelAsymmetryAllowed,
+    PacketizationMode,
+    ProfileLevelId,
+    ProfileId,
+    Profile,
+    LevelIdx,
+    Tier,
+    SpropMaxDonDiff,
+    OctetAlign,
+    ModeSet,
+    Apt,
+    Crc,
+    RobustSorting,
+    ModeChangePeriod,
+    Interleaving,
+}
+
+/// Every key.
+const KEYS: [FormatKey; 20] = [
+    FormatKey::MinPTime,
+    FormatKey::Stereo,
+    FormatKey::SpropStereo,
+    FormatKey::UseInbandFec,
+    FormatKey::UseDtx,
+    FormatKey::LevelAsymmetryAllowed,
+    FormatKey::PacketizationMode,
+    FormatKey::ProfileLevelId,
+    FormatKey::ProfileId,
+    FormatKey::Profile,
+    FormatKey::LevelIdx,
+    FormatKey::Tier,
+    FormatKey::SpropMaxDonDiff,
+    FormatKey::OctetAlign,
+    FormatKey::ModeSet,
+    FormatKey::Apt,
+    FormatKey::Crc,
+    FormatKey::RobustSorting,
+    FormatKey::ModeChangePeriod,
+    FormatKey::Interleaving,
+];
+
+impl FormatKey {
+    /// The text of the key.
+    pub(crate) fn text(self) -> &'static str
+        ensures { result.now ≡ key_text self }
+    {
+        match self {
+            FormatKey::MinPTime => "minptime",
+            FormatKey::Stereo => "stereo",
+            FormatKey::SpropStereo => "sprop-stereo",
+            FormatKey::UseInbandFec => "useinbandfec",
+            FormatKey::UseDtx => "usedtx",
+            FormatKey::LevelAsymmetryAllowed => "level-asymmetry-allowed",
+            FormatKey::PacketizationMode => "packetization-mode",
+            FormatKey::ProfileLevelId => "profile-level-id",
+            FormatKey::ProfileId => "profile-id",
+            FormatKey::Profile => "profile",
+            FormatKey::LevelIdx => "level-idx",
+            FormatKey::Tier => "tier",
+            FormatKey::SpropMaxDonDiff => "sprop-max-don-diff",
+            FormatKey::OctetAlign => "octet-align",
+            FormatKey::ModeSet => "mode-set",
+            FormatKey::Apt => "apt",
+            FormatKey::Crc => "crc",
+            FormatKey::RobustSorting => "robust-sorting",
+            FormatKey::ModeChangePeriod => "mode-change-period",
+            FormatKey::Interleaving => "interleaving",
+        }
+    }
+
+    /// The key of this text, without regard to ASCII case.
+    #[tactic(auto, unfolding(crate::specs::ParamReading::key_read))]
+    pub(crate) fn named(text: &str) -> Option<FormatKey>
+        ensures { result ≡ key_read text.now }
+    {
+        KEYS.iter()
+            .copied()
+            .find(|key| is_same_text(text, key.text()))
+    }
+}
