@@ -9,6 +9,8 @@ mod attributes;
 #[cfg(test)]
 mod candidate_lines;
 #[cfg(test)]
+mod forms;
+#[cfg(test)]
 mod lines;
 #[cfg(test)]
 mod texts;

@@ -1,6 +1,8 @@
 pub mod AnswerLaws
+pub mod CandidateLineLaws
 pub mod ChainLaws
 pub mod FmtpLaws
+pub mod FormLaws
 pub mod HeaderLaws
 pub mod LineLaws
 pub mod MediaLaws

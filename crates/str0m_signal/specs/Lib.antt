@@ -1,8 +1,11 @@
 pub mod Answers
 pub mod CandidateLine
 pub mod Chains
+pub mod FieldsReading
 pub mod Fmtp
 pub mod FmtpReading
+pub mod FormReading
+pub mod Forms
 pub mod Header
 pub mod HeaderReading
 pub mod Heads

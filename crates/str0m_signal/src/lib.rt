@@ -4,6 +4,7 @@
 mod attributes;
 mod bandwidth;
 mod candidate_line;
+mod ext_map;
 mod fields;
 mod fmtp;
 mod header;
@@ -16,6 +17,7 @@ mod reader;
 mod rtp_map;
 mod section;
 mod session_attribute;
+mod sources;
 
 pub use offer::{SdpAnswer, SdpOffer};
 pub use reader::{
@@ -23,8 +25,9 @@ pub use reader::{
 };
 pub use str0m_formats::{Codec, FormatParam};
 pub use str0m_sdp::{
-    Bandwidth, MediaAttribute, MediaLine, MediaType, Proto, RtpMap, Sdp, SdpError, Session,
-    SessionAttribute, Setup,
+    Bandwidth, MediaAttribute, MediaLine, MediaType, Msid, Proto, RestrictionId, RtpMap, Sdp,
+    SdpError, Session, SessionAttribute, Setup, Simulcast, SimulcastGroups, SimulcastLayer, Word,
+    is_no_stream,
 };
 pub use str0m_values::{
     Candidate, CandidateKind, Direction, Extension, Fingerprint, FingerprintError, FingerprintFmt,
