@@ -7,7 +7,7 @@ use str0m_signal::{
 
 /// Lines of sections, with the attribute's name and what it prints. The lines are those of
 /// browsers, their nearest misses, and the limits of numbers.
-const MEDIA: [(&str, &str, &str); 44] = [
+const MEDIA: [(&str, &str, &str); 53] = [
     ("a=rtcp:9 IN IP4 0.0.0.0", "Rtcp", "a=rtcp:9 IN IP4 0.0.0.0"),
     ("a=rtcp:", "Unused", "a=rtcp:"),
     ("a=ice-ufrag:6yI8", "IceUfrag", "a=ice-ufrag:6yI8"),
@@ -82,12 +82,45 @@ const MEDIA: [(&str, &str, &str); 44] = [
     ("a=ssrc:4294967295 a b:c", "Ssrc", "a=ssrc:4294967295 a b:c"),
     ("a=ssrc:4294967296 a:b", "Unused", "a=ssrc:4294967296 a:b"),
     ("a=ssrc:1 label", "Unused", "a=ssrc:1 label"),
+    (
+        "a=ssrc-group:FID 3 04294967295",
+        "SsrcGroup",
+        "a=ssrc-group:FID 3 4294967295",
+    ),
+    ("a=ssrc-group:FID 3 ", "Unused", "a=ssrc-group:FID 3 "),
+    ("a=ssrc-group:FID", "Unused", "a=ssrc-group:FID"),
+    (
+        "a=ssrc-group:FID 4294967296",
+        "Unused",
+        "a=ssrc-group:FID 4294967296",
+    ),
+    (
+        "a=fingerprint:sha-256 aB:09:fF",
+        "Fingerprint",
+        "a=fingerprint:sha-256 AB:09:FF",
+    ),
+    (
+        "a=fingerprint:sha-1 AB:9",
+        "Unused",
+        "a=fingerprint:sha-1 AB:9",
+    ),
+    ("a=fingerprint:sha-1 +B", "Unused", "a=fingerprint:sha-1 +B"),
+    (
+        "a=fingerprint:sha-1 AB:",
+        "Unused",
+        "a=fingerprint:sha-1 AB:",
+    ),
+    (
+        "a=fingerprint:sha-1 ABC",
+        "Unused",
+        "a=fingerprint:sha-1 ABC",
+    ),
     ("a=extmap-allow-mixed", "Unused", "a=extmap-allow-mixed"),
     ("a=ice-lite", "Unused", "a=ice-lite"),
 ];
 
 /// The same of a session.
-const SESSION: [(&str, &str, &str); 11] = [
+const SESSION: [(&str, &str, &str); 25] = [
     ("a=ice-lite", "IceLite", "a=ice-lite"),
     ("a=ice-lite ", "Unused", "a=ice-lite "),
     ("a=ice-ufrag:6yI8", "IceUfrag", "a=ice-ufrag:6yI8"),
@@ -109,6 +142,40 @@ const SESSION: [(&str, &str, &str); 11] = [
         "a=candidate:1 1 udp 1 ::1 5 typ relay",
     ),
     ("a=extmap-allow-mixed", "Unused", "a=extmap-allow-mixed"),
+    ("a=group:BUNDLE 0 1", "Group", "a=group:BUNDLE 0 1"),
+    ("a=group:BUNDLE", "Group", "a=group:BUNDLE"),
+    ("a=group:BUNDLE ", "Group", "a=group:BUNDLE"),
+    ("a=group:LS a ", "Group", "a=group:LS a"),
+    ("a=group:BUNDLE  ", "Unused", "a=group:BUNDLE  "),
+    ("a=group:BUNDLE  0", "Unused", "a=group:BUNDLE  0"),
+    ("a=group: 0", "Unused", "a=group: 0"),
+    (
+        "a=group:LS 12345678901234567",
+        "Group",
+        "a=group:LS 1234567890123456",
+    ),
+    (
+        "a=msid-semantic:WMS *",
+        "MsidSemantic",
+        "a=msid-semantic: WMS *",
+    ),
+    (
+        "a=msid-semantic: WMS a b",
+        "MsidSemantic",
+        "a=msid-semantic: WMS a b",
+    ),
+    ("a=msid-semantic: WMS", "Unused", "a=msid-semantic: WMS"),
+    (
+        "a=msid-semantic:  WMS a",
+        "Unused",
+        "a=msid-semantic:  WMS a",
+    ),
+    ("a=msid-semantic:WMS a ", "Unused", "a=msid-semantic:WMS a "),
+    (
+        "a=fingerprint:md5 00",
+        "Fingerprint",
+        "a=fingerprint:md5 00",
+    ),
     ("a=rtcp-mux", "Unused", "a=rtcp-mux"),
     ("a=sctp-port:5000", "Unused", "a=sctp-port:5000"),
 ];
@@ -132,6 +199,8 @@ fn media_name(attribute: &MediaAttribute) -> &'static str {
         MediaAttribute::Msid(_) => "Msid",
         MediaAttribute::RtcpFb { .. } => "RtcpFb",
         MediaAttribute::Ssrc { .. } => "Ssrc",
+        MediaAttribute::SsrcGroup { .. } => "SsrcGroup",
+        MediaAttribute::Fingerprint(_) => "Fingerprint",
         MediaAttribute::Unused(_) => "Unused",
         _ => "another",
     }
@@ -139,6 +208,9 @@ fn media_name(attribute: &MediaAttribute) -> &'static str {
 
 fn session_name(attribute: &SessionAttribute) -> &'static str {
     match attribute {
+        SessionAttribute::Group { .. } => "Group",
+        SessionAttribute::MsidSemantic { .. } => "MsidSemantic",
+        SessionAttribute::Fingerprint(_) => "Fingerprint",
         SessionAttribute::IceLite => "IceLite",
         SessionAttribute::IceUfrag(_) => "IceUfrag",
         SessionAttribute::IcePwd(_) => "IcePwd",

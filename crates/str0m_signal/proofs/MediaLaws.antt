@@ -12,11 +12,14 @@ use Rattle.str0m_sdp.specs.declared.setup.Setup.{Setup as Role}
 use Rattle.str0m_sdp.specs.declared.setup.Setup.TheVariants.{ActPass, Active, Passive}
 use Rattle.str0m_sdp.specs.declared.rtp_map.RtpMap.{RtpMap as Mapping}
 use Rattle.str0m_sdp.specs.declared.attribute.MediaAttribute.{MediaAttribute}
-use Rattle.str0m_sdp.specs.declared.attribute.MediaAttribute.TheVariants.{Rtcp, IceUfrag, IcePwd, IceOptions, Setup, Mid, SctpPort, MaxMessageSize, SctpInit, ExtMap, RecvOnly, SendRecv, SendOnly, Inactive, Msid, RtcpMux, RtcpMuxOnly, RtcpRsize, Candidate, EndOfCandidates, RtpMap, RtcpFb, Fmtp, Ssrc, Unused}
+use Rattle.str0m_sdp.specs.declared.attribute.MediaAttribute.TheVariants.{Rtcp, IceUfrag, IcePwd, IceOptions, Fingerprint, Setup, Mid, SctpPort, MaxMessageSize, SctpInit, ExtMap, RecvOnly, SendRecv, SendOnly, Inactive, Msid, RtcpMux, RtcpMuxOnly, RtcpRsize, Candidate, EndOfCandidates, RtpMap, RtcpFb, Fmtp, SsrcGroup, Ssrc, Unused}
 use Rattle.str0m_values.specs.Parts.{IsPt}
 use Rattle.str0m_signal.specs.Forms.{IsText, Two, Tailed}
-use Rattle.str0m_signal.specs.FormReading.{text_read, two_read, tailed_read}
-use Rattle.str0m_signal.specs.FieldsReading.{ext_map_read, msid_read, rtcp_fb_read, ssrc_read}
+use Rattle.str0m_signal.specs.FormReading.{text_read, two_read, tailed_read, parted_read}
+use Rattle.str0m_signal.specs.FieldsReading.{ext_map_read, msid_read, rtcp_fb_read, ssrc_read, ssrc_group_read, fingerprint_read}
+use Rattle.str0m_values.specs.Joined.{Parted}
+use Rattle.str0m_signal.proofs.WordsLaws.{sources_both}
+use Rattle.str0m_signal.proofs.FingerprintLineLaws.{fingerprint_fields, fingerprint_both}
 use Rattle.str0m_values.specs.declared.candidate.Candidate.{Candidate as TheCandidate}
 use Rattle.str0m_values.specs.Candidate.{IsCandidateText}
 use Rattle.str0m_values.specs.CandidateReading.{candidate_read}
@@ -30,7 +33,7 @@ use Rattle.str0m_signal.specs.MediaAttribute.{Named, IsUnused, MediaForm, IsMedi
 use Rattle.str0m_values.specs.Cuts.{◌>>=◌, ◌<|>◌, cut, strip, when, is_rest, num}
 use Rattle.str0m_formats.specs.declared.format_param.FormatParam.{FormatParam}
 use Rattle.str0m_signal.specs.FmtpReading.{fmtp_fields_read}
-use Rattle.str0m_signal.specs.MediaAttributeReading.{words_read, texts_read, numbers_read, candidate_form_read, fmtp_read, role_read, setup_read, mid_read, rtpmap_read, plain_read, held_read, named_read, media_read}
+use Rattle.str0m_signal.specs.MediaAttributeReading.{words_read, texts_read, numbers_read, candidate_form_read, fingerprint_form_read, fmtp_read, role_read, setup_read, mid_read, rtpmap_read, plain_read, held_read, named_read, media_read}
 use Rattle.str0m_signal.specs.RtpMapReading.{rtpmap_fields_read}
 use Rattle.str0m_signal.proofs.RtpMapLaws.{rtpmap_fields_both}
 use Rattle.str0m_values.specs.ShortText.{beginning_of}
@@ -144,6 +147,15 @@ ssrc_fields = two_both 32 (num_both 4294967295) (two_both 58 text_both text_both
 ssrc_sound : Sound Named ssrc_read
 ssrc_sound = form_sound (λ p. Ssrc p.0 p.1.0 p.1.1) (behind_both (codes "ssrc:") ssrc_fields) (λ text p h. h)
 
+ssrc_group_fields : Reads (Two 32 IsText (Parted 32 (IsNum 4294967295))) (two_read 32 text_read (parted_read 32 (num 4294967295)))
+ssrc_group_fields = two_both 32 text_both sources_both
+
+ssrc_group_sound : Sound Named ssrc_group_read
+ssrc_group_sound = form_sound (λ p. SsrcGroup p.0 p.1) (behind_both (codes "ssrc-group:") ssrc_group_fields) (λ text p h. h)
+
+fingerprint_sound : Sound Named fingerprint_form_read
+fingerprint_sound = form_sound Fingerprint fingerprint_both (λ text x h. h)
+
 plain_sound : Sound Named plain_read
 plain_sound = sound_or words_sound (sound_or setup_sound (sound_or mid_sound (sound_or numbers_sound rtpmap_sound)))
 
@@ -154,7 +166,9 @@ held_sound =
     (sound_or ext_map_sound
     (sound_or msid_sound
     (sound_or rtcp_fb_sound
-    (sound_or ssrc_sound fmtp_sound)))))
+    (sound_or ssrc_sound
+    (sound_or ssrc_group_sound
+    (sound_or fingerprint_sound fmtp_sound)))))))
 
 named_sound : Sound Named named_read
 named_sound = sound_or plain_sound held_sound
@@ -188,6 +202,7 @@ named_complete text (Rtcp value) h = ap named_read h.1 ∙ rw (text_both.complet
 named_complete text (IceUfrag value) h = ap named_read h.1 ∙ rw (text_both.complete h.0 value h.2) refl
 named_complete text (IcePwd value) h = ap named_read h.1 ∙ rw (text_both.complete h.0 value h.2) refl
 named_complete text (IceOptions value) h = ap named_read h.1 ∙ rw (text_both.complete h.0 value h.2) refl
+named_complete text (Fingerprint hash) h = ap named_read h.1 ∙ rw (fingerprint_fields.complete h.0 (hash.hash_func, hash.bytes) h.2) refl
 named_complete text (Setup role) h = ap named_read h ∙ setup_reads role
 named_complete text (Mid mid) h = ap named_read h.1 ∙ mid_reads h.0 h.2 ∙ ap (λ (t : List ℕ). Some (Mid t)) (sym (beginning_only 16 h.0 mid h.3))
 named_complete text (SctpPort port) h = ap named_read h.1 ∙ rw (num_reads 65535 h.0 port h.2) refl
@@ -214,6 +229,7 @@ named_complete text (Fmtp pt values) h =
     let fields = fmtp_fields_both.complete text (pt, values) h in
     ap named_read h.joined ∙ fmtp_named (codes "fmtp:" ++ (h.number ++ h.more)) pt values (ap fmtp_fields_read (sym h.joined) ∙ fields) h.number h.more refl
 named_complete text (RtcpFb pt value) h = ap named_read h.1 ∙ rw (rtcp_fb_fields.complete h.0 (pt, value) h.2) refl
+named_complete text (SsrcGroup semantics ssrcs) h = ap named_read h.1 ∙ rw (ssrc_group_fields.complete h.0 (semantics, ssrcs) h.2) refl
 named_complete text (Ssrc ssrc attr value) h = ap named_read h.1 ∙ rw (ssrc_fields.complete h.0 (ssrc, (attr, value)) h.2) refl
 named_complete text _ h = absurd h
 

@@ -1,5 +1,6 @@
 -- Reading of the pieces that forms share, as functions.
-use Rattle.std.specs.Prelude.{ℕ, List, Option, Some, None}
+use Rattle.std.specs.Prelude.{ℕ, List, [], ◌∷◌, ◌==◌, Option, Some, None}
+use Rattle.std.specs.List.{slice_split}
 use Rattle.std.specs.Str.{bytes_eq}
 use Rattle.str0m_values.specs.Cuts.{◌>>=◌, cut, strip, when, is_rest}
 
@@ -31,3 +32,15 @@ tail_after f text (Some parts) = do
 
 abbrev pub tailed_read : {A : Type 0} → ℕ → (List ℕ → Option A) → List ℕ → Option A
 tailed_read c f text = tail_after f text (cut c text)
+
+-- what f reads of each piece
+abbrev pub all_read : {A : Type 0} → (List ℕ → Option A) → List (List ℕ) → Option (List A)
+all_read f [] = Some []
+all_read f (piece ∷ pieces) = do
+  x ← f piece
+  xs ← all_read f pieces
+  Some (x ∷ xs)
+
+-- what f reads of each piece between the c
+abbrev pub parted_read : {A : Type 0} → ℕ → (List ℕ → Option A) → List ℕ → Option (List A)
+parted_read c f text = all_read f (slice_split (λ b. b == c) text)

@@ -1,10 +1,12 @@
 -- The attributes of a section, each with the text that stands for it after `a=`.
 use Rattle.std.specs.Prelude.{◌≡◌, ◌++◌, ℕ, true, List, codes}
 use Rattle.str0m_sdp.specs.declared.attribute.MediaAttribute.{MediaAttribute}
-use Rattle.str0m_sdp.specs.declared.attribute.MediaAttribute.TheVariants.{Rtcp, IceUfrag, IcePwd, IceOptions, Setup, Mid, SctpPort, MaxMessageSize, SctpInit, ExtMap, RecvOnly, SendRecv, SendOnly, Inactive, Msid, RtcpMux, RtcpMuxOnly, RtcpRsize, Candidate, EndOfCandidates, RtpMap, RtcpFb, Fmtp, Ssrc, Unused}
+use Rattle.str0m_sdp.specs.declared.attribute.MediaAttribute.TheVariants.{Rtcp, IceUfrag, IcePwd, IceOptions, Fingerprint, Setup, Mid, SctpPort, MaxMessageSize, SctpInit, ExtMap, RecvOnly, SendRecv, SendOnly, Inactive, Msid, RtcpMux, RtcpMuxOnly, RtcpRsize, Candidate, EndOfCandidates, RtpMap, RtcpFb, Fmtp, SsrcGroup, Ssrc, Unused}
 use Rattle.str0m_values.specs.Candidate.{IsCandidateText}
 use Rattle.str0m_values.specs.Parts.{IsRest, IsNum, IsPt}
 use Rattle.str0m_values.specs.ShortText.{IsLongestBeginning}
+use Rattle.str0m_values.specs.Joined.{Parted}
+use Rattle.str0m_signal.specs.FingerprintLine.{IsFingerprintText}
 use Rattle.str0m_signal.specs.Forms.{Behind, IsText, Two, Tailed}
 use Rattle.str0m_signal.specs.Fmtp.{IsFmtp}
 use Rattle.str0m_signal.specs.RtpMap.{IsRtpMap}
@@ -18,6 +20,7 @@ Named text (Rtcp value) = Behind (codes "rtcp:") IsText text value
 Named text (IceUfrag value) = Behind (codes "ice-ufrag:") IsText text value
 Named text (IcePwd value) = Behind (codes "ice-pwd:") IsText text value
 Named text (IceOptions value) = Behind (codes "ice-options:") IsText text value
+Named text (Fingerprint hash) = IsFingerprintText text hash
 Named text (Setup setup) = text ≡ codes "setup:" ++ setup_text setup
 Named text (Mid mid) = (name : List ℕ) × (text ≡ codes "mid:" ++ name) × IsRest name × IsLongestBeginning 16 name mid
 Named text (SctpPort port) = Behind (codes "sctp-port:") (IsNum 65535) text port
@@ -37,6 +40,7 @@ Named text EndOfCandidates = text ≡ codes "end-of-candidates"
 Named text (RtpMap pt value) = IsRtpMap text pt value
 Named text (RtcpFb pt value) = Behind (codes "rtcp-fb:") (Two 32 IsPt IsText) text (pt, value)
 Named text (Fmtp pt values) = IsFmtp text pt values
+Named text (SsrcGroup semantics ssrcs) = Behind (codes "ssrc-group:") (Two 32 IsText (Parted 32 (IsNum 4294967295))) text (semantics, ssrcs)
 Named text (Ssrc ssrc attr value) = Behind (codes "ssrc:") (Two 32 (IsNum 4294967295) (Two 58 IsText IsText)) text (ssrc, (attr, value))
 Named text _ = ⊥
 

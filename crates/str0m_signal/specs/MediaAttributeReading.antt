@@ -4,9 +4,9 @@ use Rattle.std.specs.Str.{bytes_eq}
 use Rattle.str0m_sdp.specs.declared.setup.Setup.{Setup as Role}
 use Rattle.str0m_sdp.specs.declared.setup.Setup.TheVariants.{ActPass, Active, Passive}
 use Rattle.str0m_sdp.specs.declared.attribute.MediaAttribute.{MediaAttribute}
-use Rattle.str0m_sdp.specs.declared.attribute.MediaAttribute.TheVariants.{Rtcp, IceUfrag, IcePwd, IceOptions, Setup, Mid, SctpPort, MaxMessageSize, SctpInit, RecvOnly, SendRecv, SendOnly, Inactive, RtcpMux, RtcpMuxOnly, RtcpRsize, Candidate, EndOfCandidates, RtpMap, Fmtp, Unused}
+use Rattle.str0m_sdp.specs.declared.attribute.MediaAttribute.TheVariants.{Rtcp, IceUfrag, IcePwd, IceOptions, Fingerprint, Setup, Mid, SctpPort, MaxMessageSize, SctpInit, RecvOnly, SendRecv, SendOnly, Inactive, RtcpMux, RtcpMuxOnly, RtcpRsize, Candidate, EndOfCandidates, RtpMap, Fmtp, Unused}
 use Rattle.str0m_values.specs.CandidateReading.{candidate_read}
-use Rattle.str0m_signal.specs.FieldsReading.{ext_map_read, msid_read, rtcp_fb_read, ssrc_read}
+use Rattle.str0m_signal.specs.FieldsReading.{ext_map_read, msid_read, rtcp_fb_read, ssrc_read, ssrc_group_read, fingerprint_read}
 use Rattle.str0m_signal.specs.FormReading.{alone, behind, text_read}
 use Rattle.str0m_values.specs.ShortText.{beginning_of}
 use Rattle.str0m_signal.specs.RtpMapReading.{rtpmap_fields_read}
@@ -39,6 +39,9 @@ abbrev pub numbers_read : List ℕ → Option MediaAttribute
 numbers_read text =
     (behind (codes "sctp-port:") (num 65535) text >>= λ port. Some (SctpPort port))
     <|> (behind (codes "max-message-size:") (num 18446744073709551615) text >>= λ size. Some (MaxMessageSize size))
+
+abbrev pub fingerprint_form_read : List ℕ → Option MediaAttribute
+fingerprint_form_read text = fingerprint_read text >>= λ hash. Some (Fingerprint hash)
 
 abbrev pub candidate_form_read : List ℕ → Option MediaAttribute
 candidate_form_read text = candidate_read text >>= λ candidate. Some (Candidate candidate)
@@ -84,6 +87,8 @@ held_read text =
     <|> msid_read text
     <|> rtcp_fb_read text
     <|> ssrc_read text
+    <|> ssrc_group_read text
+    <|> fingerprint_form_read text
     <|> fmtp_read text
 
 abbrev pub named_read : List ℕ → Option MediaAttribute

@@ -2,6 +2,7 @@
 
 ghost use Rattle.std.specs.Prelude.{◌≡◌, IfOk, option_map};
 ghost use Rattle.str0m_values.specs.Cuts.{num};
+ghost use Rattle.str0m_values.specs.ShortText.{beginning_of};
 ghost use Rattle.str0m_signal.specs.FormReading.{behind, text_read};
 ghost use Rattle.str0m_signal.specs.MediaAttributeReading.{role_read};
 ghost use Rattle.str0m_signal.specs.SectionReading.{field_read};
@@ -10,8 +11,8 @@ ghost use Rattle.str0m_signal.specs.LineReading.{lines_of, line_read, both_left}
 use crate::lines::plain_line;
 use std::alloc::{AllocError, Global};
 use str0m_sdp::Setup;
-use str0m_values::Text;
 use str0m_values::cuts::strip;
+use str0m_values::{Mid, Text};
 
 /// What follows `letter`, where that is not nothing.
 pub(crate) fn field<'a>(line: &'a str, letter: &str) -> Option<&'a str>
@@ -44,6 +45,14 @@ pub(crate) fn num_u64(text: &str) -> Option<u64>
     ensures { result ≡ num 18446744073709551615 text.now }
 {
     text.parse::<u64>().ok()
+}
+
+/// A name, as far as it is kept.
+#[tactic(auto, using(str0m_values::proofs::Beginnings::beginning_only))]
+pub(crate) fn short(name: &str) -> Mid
+    ensures { result ≡ beginning_of 16 name.now }
+{
+    Mid::from(name)
 }
 
 /// The setup that a word says.

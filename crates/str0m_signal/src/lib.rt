@@ -6,18 +6,22 @@ mod bandwidth;
 mod candidate_line;
 mod ext_map;
 mod fields;
+mod fingerprint;
 mod fmtp;
+mod groups;
 mod header;
 mod heads;
 mod lines;
 mod media_attribute;
 mod offer;
 mod pairs;
+mod parts;
 mod reader;
 mod rtp_map;
 mod section;
 mod session_attribute;
 mod sources;
+mod words;
 
 pub use offer::{SdpAnswer, SdpOffer};
 pub use reader::{

@@ -1,24 +1,24 @@
 //! The attributes of a section.
 
 ghost use Rattle.std.specs.Prelude.{◌≡◌, IfOk};
-ghost use Rattle.str0m_values.specs.ShortText.{beginning_of};
 ghost use Rattle.str0m_signal.specs.MediaAttribute.{IsMediaLine};
-ghost use Rattle.str0m_signal.specs.MediaAttributeReading.{words_read, texts_read, numbers_read, candidate_form_read, setup_read, mid_read, plain_read, held_read, named_read, media_read};
+ghost use Rattle.str0m_signal.specs.MediaAttributeReading.{words_read, texts_read, numbers_read, candidate_form_read, fingerprint_form_read, setup_read, mid_read, plain_read, held_read, named_read, media_read};
 ghost use Rattle.str0m_signal.specs.Chains.{Run};
 ghost use Rattle.str0m_signal.specs.Lines.{OneLine};
 ghost use Rattle.str0m_signal.specs.LineReading.{lines_of};
 
 use crate::attributes::{Attribute, attribute_run};
 use crate::ext_map::ext_map;
-use crate::fields::{kept, num_u64, role};
+use crate::fields::{kept, num_u64, role, short};
+use crate::fingerprint::fingerprint;
 use crate::fmtp::fmtp;
 use crate::rtp_map::rtp_map;
-use crate::sources::{msid, rtcp_fb, ssrc};
+use crate::sources::{msid, rtcp_fb, ssrc, ssrc_group};
 use std::alloc::{AllocError, Global};
 use str0m_sdp::MediaAttribute;
 use str0m_values::candidate_text::candidate;
 use str0m_values::cuts::{num_u16, strip};
-use str0m_values::{Items, Mid, Text};
+use str0m_values::{Items, Text};
 
 /// The attributes that are a word alone.
 fn word(text: &str) -> Option<MediaAttribute>
@@ -70,6 +70,15 @@ fn labelled_number(text: &str) -> Option<MediaAttribute>
     Some(MediaAttribute::MaxMessageSize(num_u64(body)?))
 }
 
+fn fingerprint_form(alloc: Global, text: &str) -> Result<Option<MediaAttribute>, AllocError>
+    ensures { IfOk result (λ found. found ≡ fingerprint_form_read text.now) }
+{
+    match fingerprint(alloc, text)? {
+        Some(hash) => Ok(Some(MediaAttribute::Fingerprint(hash))),
+        None => Ok(None),
+    }
+}
+
 fn candidate_form(alloc: Global, text: &str) -> Result<Option<MediaAttribute>, AllocError>
     ensures { IfOk result (λ found. found ≡ candidate_form_read text.now) }
 {
@@ -84,14 +93,6 @@ fn setup(text: &str) -> Option<MediaAttribute>
 {
     let word = strip(text, "setup:")?;
     Some(MediaAttribute::Setup(role(word)?))
-}
-
-/// The name of a section, as far as it is kept.
-#[tactic(auto, using(str0m_values::proofs::Beginnings::beginning_only))]
-fn short(name: &str) -> Mid
-    ensures { result ≡ beginning_of 16 name.now }
-{
-    Mid::from(name)
 }
 
 fn mid(text: &str) -> Option<MediaAttribute>
@@ -143,6 +144,12 @@ fn held(alloc: Global, text: &str) -> Result<Option<MediaAttribute>, AllocError>
         return Ok(Some(found));
     }
     if let Some(found) = ssrc(alloc, text)? {
+        return Ok(Some(found));
+    }
+    if let Some(found) = ssrc_group(alloc, text)? {
+        return Ok(Some(found));
+    }
+    if let Some(found) = fingerprint_form(alloc, text)? {
         return Ok(Some(found));
     }
     fmtp(alloc, text)

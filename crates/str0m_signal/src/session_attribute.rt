@@ -2,13 +2,15 @@
 
 ghost use Rattle.std.specs.Prelude.{◌≡◌, IfOk};
 ghost use Rattle.str0m_signal.specs.SessionAttribute.{IsSessionLine};
-ghost use Rattle.str0m_signal.specs.SessionAttributeReading.{words_read, setup_read, texts_read, candidate_form_read, named_read, session_read};
+ghost use Rattle.str0m_signal.specs.SessionAttributeReading.{words_read, setup_read, texts_read, candidate_form_read, fingerprint_form_read, named_read, session_read};
 ghost use Rattle.str0m_signal.specs.Chains.{Run};
 ghost use Rattle.str0m_signal.specs.Lines.{OneLine};
 ghost use Rattle.str0m_signal.specs.LineReading.{lines_of};
 
 use crate::attributes::{Attribute, attribute_run};
 use crate::fields::{kept, role};
+use crate::fingerprint::fingerprint;
+use crate::groups::{group, msid_semantic};
 use std::alloc::{AllocError, Global};
 use str0m_sdp::SessionAttribute;
 use str0m_values::candidate_text::candidate;
@@ -49,6 +51,15 @@ fn labelled_text(alloc: Global, text: &str) -> Result<Option<SessionAttribute>, 
     Ok(None)
 }
 
+fn fingerprint_form(alloc: Global, text: &str) -> Result<Option<SessionAttribute>, AllocError>
+    ensures { IfOk result (λ found. found ≡ fingerprint_form_read text.now) }
+{
+    match fingerprint(alloc, text)? {
+        Some(hash) => Ok(Some(SessionAttribute::Fingerprint(hash))),
+        None => Ok(None),
+    }
+}
+
 fn candidate_form(alloc: Global, text: &str) -> Result<Option<SessionAttribute>, AllocError>
     ensures { IfOk result (λ found. found ≡ candidate_form_read text.now) }
 {
@@ -67,7 +78,16 @@ fn named(alloc: Global, text: &str) -> Result<Option<SessionAttribute>, AllocErr
     if let Some(found) = setup(text) {
         return Ok(Some(found));
     }
+    if let Some(found) = group(alloc, text)? {
+        return Ok(Some(found));
+    }
+    if let Some(found) = msid_semantic(alloc, text)? {
+        return Ok(Some(found));
+    }
     if let Some(found) = labelled_text(alloc, text)? {
+        return Ok(Some(found));
+    }
+    if let Some(found) = fingerprint_form(alloc, text)? {
         return Ok(Some(found));
     }
     candidate_form(alloc, text)

@@ -2,8 +2,9 @@
 ghost use Rattle.std.specs.Prelude.{◌≡◌, ◌<◌, IfOk};
 ghost use Rattle.str0m_values.specs.Cuts.{parts};
 ghost use Rattle.str0m_signal.specs.FormReading.{text_read, two_read};
-ghost use Rattle.str0m_signal.specs.FieldsReading.{msid_read, rtcp_fb_read, ssrc_read};
+ghost use Rattle.str0m_signal.specs.FieldsReading.{msid_read, rtcp_fb_read, ssrc_read, ssrc_group_read};
 
+use crate::parts::parts;
 use std::alloc::{AllocError, Global};
 use str0m_sdp::{MediaAttribute, Msid};
 use str0m_values::cuts::{cut, num_u8, num_u32, strip};
@@ -88,4 +89,24 @@ pub(crate) fn ssrc(alloc: Global, text: &str) -> Result<Option<MediaAttribute>, 
         attr,
         value,
     }))
+}
+
+/// The ssrc-group line of the text behind `a=`.
+pub(crate) fn ssrc_group(alloc: Global, text: &str) -> Result<Option<MediaAttribute>, AllocError>
+    ensures { IfOk result (λ found. found ≡ ssrc_group_read text.now) }
+{
+    let Some(body) = strip(text, "ssrc-group:") else {
+        return Ok(None);
+    };
+    let Some((word, sources)) = cut(body, ' ') else {
+        return Ok(None);
+    };
+    if word.is_empty() {
+        return Ok(None);
+    }
+    let Some(ssrcs) = parts(alloc, sources, ' ')? else {
+        return Ok(None);
+    };
+    let semantics = Text::from_str(alloc, word)?;
+    Ok(Some(MediaAttribute::SsrcGroup { semantics, ssrcs }))
 }
