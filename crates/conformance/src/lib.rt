@@ -17,6 +17,8 @@ mod fingerprints;
 #[cfg(test)]
 mod formats;
 #[cfg(test)]
+mod forms;
+#[cfg(test)]
 mod header;
 #[cfg(test)]
 mod identifiers;

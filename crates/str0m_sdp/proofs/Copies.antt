@@ -6,18 +6,25 @@ use Rattle.str0m_sdp.specs.declared.attribute.MediaAttribute.{MediaAttribute}
 use Rattle.str0m_sdp.specs.declared.media_line.MediaLine.{MediaLine}
 use Rattle.str0m_sdp.specs.declared.session.Session.{Session}
 use Rattle.str0m_sdp.specs.declared.session.Sdp.{Sdp}
+use Rattle.str0m_sdp.specs.declared.simulcast.Simulcast.{Simulcast}
 use Rattle.str0m_sdp.specs.contracts.attribute.MediaAttributeClone.TheImpl as attribute
 use Rattle.str0m_sdp.specs.contracts.media_line.MediaLineClone.TheImpl as line
 use Rattle.str0m_sdp.specs.contracts.session.SessionClone.TheImpl as session
 use Rattle.str0m_sdp.specs.contracts.session.SdpClone.TheImpl as sdp
+use Rattle.str0m_sdp.specs.contracts.simulcast.SimulcastClone.TheImpl as simulcast
+
+pub simulcast_copied : (a b : Simulcast) → simulcast.is_clone-value.it a b → b ≡ a
+simulcast_copied a b h = grind (arith, elements)
 
 pub attribute_copied : (a b : MediaAttribute) → attribute.is_clone-value.it a b → b ≡ a
 attribute_copied a b h = grind (arith, elements)
 
 pub line_copied : (a b : MediaLine) → line.is_clone-value.it a b → b ≡ a
-line_copied a b h = grind (arith, elements, attribute_copied)
+line_copied a b h =
+    let attrs : b.attrs ≡ a.attrs = same_from_all_zip _ a.attrs b.attrs h.1.1.1.1.1.0 attribute_copied in
+    grind (arith, elements)
 
-session_copied : (a b : Session) → session.is_clone-value.it a b → b ≡ a
+pub session_copied : (a b : Session) → session.is_clone-value.it a b → b ≡ a
 session_copied a b h = grind (arith, elements)
 
 pub sdp_copied : (a b : Sdp) → sdp.is_clone-value.it a b → b ≡ a

@@ -1,11 +1,17 @@
 pub mod Attribute
 pub mod Bandwidth
 pub mod Consistency
+pub mod ExtMap
 pub mod Fmtp
+pub mod Group
 pub mod Lines
 pub mod MediaLine
 pub mod MediaType
+pub mod Msid
 pub mod Proto
+pub mod Rid
 pub mod RtpMap
 pub mod Session
 pub mod Setup
+pub mod Simulcast
+pub mod SsrcGroup

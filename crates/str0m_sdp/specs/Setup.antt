@@ -7,3 +7,9 @@ abbrev pub setup_text : Setup → List ℕ
 setup_text ActPass = codes "actpass"
 setup_text Active = codes "active"
 setup_text Passive = codes "passive"
+
+-- the role of the other side
+abbrev pub inverse : Setup → Setup
+inverse ActPass = ActPass
+inverse Active = Passive
+inverse Passive = Active

@@ -1,21 +1,54 @@
 //! The attributes of sessions and of sections.
 ghost use Rattle.std.specs.Prelude.{◌≡◌, IfOk, Some, refl};
-ghost use Rattle.str0m_sdp.specs.Attribute.{session_attribute_text, media_attribute_text};
+ghost use Rattle.str0m_sdp.specs.Attribute.{session_attribute_text, media_attribute_text, long_text, direction_attribute};
 
+use crate::ext_map::ExtMapLine;
 use crate::fmtp::FmtpLine;
+use crate::group::{GroupLine, MsidSemanticLine};
+use crate::msid::Msid;
 use crate::printed::Printed;
+use crate::rid::RidLine;
 use crate::rtp_map::RtpMap;
 use crate::setup::Setup;
+use crate::simulcast::{RestrictionId, Simulcast, SimulcastLine};
+use crate::ssrc_group::SsrcGroupLine;
+use crate::word::Word;
 use std::alloc::AllocError;
 use std::fmt;
 use str0m_formats::FormatParam;
-use str0m_values::{Items, Mid, Pt, Text};
+use str0m_values::{Candidate, Direction, Extension, Fingerprint, Items, Mid, Pt, Ssrc, Text};
 
 /// An attribute line of a session (RFC 8866, section 5.13).
 #[derive(Clone, Debug, PartialEq, Eq, Drop)]
 pub enum SessionAttribute {
+    /// `a=group:` (RFC 5888, section 5; RFC 8843, section 7).
+    Group {
+        typ: Text,
+        mids: Items<Mid>,
+    },
+    /// `a=msid-semantic:` (an early draft of RFC 8830).
+    MsidSemantic {
+        semantic: Text,
+        stream_ids: Items<Text>,
+    },
+    /// `a=extmap-allow-mixed` (RFC 8285, section 6).
+    AllowMixedExts,
+    /// `a=ice-lite` (RFC 8839, section 5.3).
+    IceLite,
+    /// `a=ice-ufrag:` (RFC 8839, section 5.4).
+    IceUfrag(Text),
+    /// `a=ice-pwd:` (RFC 8839, section 5.4).
+    IcePwd(Text),
+    /// `a=ice-options:` (RFC 8839, section 5.6).
+    IceOptions(Text),
+    /// `a=fingerprint:` (RFC 8122, section 5).
+    Fingerprint(Fingerprint),
     /// `a=setup:` (RFC 8842, section 5.2).
     Setup(Setup),
+    /// `a=candidate:` (RFC 8839, section 5.1).
+    Candidate(Candidate),
+    /// `a=end-of-candidates` (RFC 8840, section 8.2).
+    EndOfCandidates,
     /// Any other attribute, as the text behind `a=`.
     Unused(Text),
 }
@@ -23,10 +56,31 @@ pub enum SessionAttribute {
 /// An attribute line of a section (RFC 8866, section 5.13).
 #[derive(Clone, Debug, PartialEq, Eq, Drop)]
 pub enum MediaAttribute {
+    /// `a=rtcp:` (RFC 3605, section 2.1).
+    Rtcp(Text),
+    /// `a=ice-ufrag:` (RFC 8839, section 5.4).
+    IceUfrag(Text),
+    /// `a=ice-pwd:` (RFC 8839, section 5.4).
+    IcePwd(Text),
+    /// `a=ice-options:` (RFC 8839, section 5.6).
+    IceOptions(Text),
+    /// `a=fingerprint:` (RFC 8122, section 5).
+    Fingerprint(Fingerprint),
     /// `a=setup:` (RFC 8842, section 5.2).
     Setup(Setup),
     /// `a=mid:` (RFC 5888, section 4).
     Mid(Mid),
+    /// `a=sctp-port:` (RFC 8841, section 5).
+    SctpPort(u16),
+    /// `a=max-message-size:` in bytes (RFC 8841, section 6).
+    MaxMessageSize(u64),
+    /// `a=sctp-init:`, an INIT chunk in base 64.
+    SctpInit(Text),
+    /// `a=extmap:` (RFC 8285, section 5).
+    ExtMap {
+        id: u8,
+        ext: Extension,
+    },
     /// `a=recvonly` (RFC 8866, section 6.7.1).
     RecvOnly,
     /// `a=sendrecv` (RFC 8866, section 6.7.2).
@@ -35,10 +89,53 @@ pub enum MediaAttribute {
     SendOnly,
     /// `a=inactive` (RFC 8866, section 6.7.4).
     Inactive,
+    /// `a=msid:` (RFC 8830, section 2).
+    Msid(Msid),
+    /// `a=rtcp-mux` (RFC 5761, section 5.1.1).
+    RtcpMux,
+    /// `a=rtcp-mux-only` (RFC 8858, section 3).
+    RtcpMuxOnly,
+    /// `a=rtcp-rsize` (RFC 5506, section 5).
+    RtcpRsize,
+    /// `a=candidate:` (RFC 8839, section 5.1).
+    Candidate(Candidate),
+    /// `a=end-of-candidates` (RFC 8840, section 8.2).
+    EndOfCandidates,
     /// `a=rtpmap:` (RFC 8866, section 6.6).
-    RtpMap { pt: Pt, value: RtpMap },
+    RtpMap {
+        pt: Pt,
+        value: RtpMap,
+    },
+    /// `a=rtcp-fb:` (RFC 4585, section 4.2).
+    RtcpFb {
+        pt: Pt,
+        value: Text,
+    },
     /// `a=fmtp:` (RFC 8866, section 6.15).
-    Fmtp { pt: Pt, values: Items<FormatParam> },
+    Fmtp {
+        pt: Pt,
+        values: Items<FormatParam>,
+    },
+    /// `a=rid:` (RFC 8851, section 4). The direction is `send` or `recv` in what is read.
+    Rid {
+        id: RestrictionId,
+        direction: Word,
+        pt: Items<Pt>,
+        restriction: Items<(Text, Text)>,
+    },
+    /// `a=simulcast:` (RFC 8853, section 5.1).
+    Simulcast(Simulcast),
+    /// `a=ssrc-group:` (RFC 5576, section 4.2).
+    SsrcGroup {
+        semantics: Text,
+        ssrcs: Items<Ssrc>,
+    },
+    /// `a=ssrc:` (RFC 5576, section 4.1).
+    Ssrc {
+        ssrc: Ssrc,
+        attr: Text,
+        value: Text,
+    },
     /// Any other attribute, as the text behind `a=`.
     Unused(Text),
 }
@@ -61,13 +158,51 @@ impl MediaAttribute {
     }
 }
 
+/// The attribute that says the direction of a section.
+impl From<Direction> for MediaAttribute {
+    ghost from_gives = { λ direction attribute. attribute ≡ direction_attribute direction };
+
+    fn from(direction: Direction) -> MediaAttribute {
+        match direction {
+            Direction::SendRecv => MediaAttribute::SendRecv,
+            Direction::SendOnly => MediaAttribute::SendOnly,
+            Direction::RecvOnly => MediaAttribute::RecvOnly,
+            Direction::Inactive => MediaAttribute::Inactive,
+        }
+    }
+}
+
 /// The `a=` line, with its end.
 impl fmt::Display for SessionAttribute {
     ghost output = { λ attribute. Some (session_attribute_text attribute) };
 
     fn fmt<W: fmt::Write>(&self, f: &mut fmt::Formatter<W>) -> fmt::Result {
         match self {
+            SessionAttribute::Group { typ, mids } => {
+                let mids = mids.as_slice();
+                let line = GroupLine { typ, mids };
+                write!(f, "{line}")
+            }
+            SessionAttribute::MsidSemantic {
+                semantic,
+                stream_ids,
+            } => {
+                let stream_ids = stream_ids.as_slice();
+                let line = MsidSemanticLine {
+                    semantic,
+                    stream_ids,
+                };
+                write!(f, "{line}")
+            }
+            SessionAttribute::AllowMixedExts => f.write_str("a=extmap-allow-mixed\r\n"),
+            SessionAttribute::IceLite => f.write_str("a=ice-lite\r\n"),
+            SessionAttribute::IceUfrag(text) => write!(f, "a=ice-ufrag:{text}\r\n"),
+            SessionAttribute::IcePwd(text) => write!(f, "a=ice-pwd:{text}\r\n"),
+            SessionAttribute::IceOptions(text) => write!(f, "a=ice-options:{text}\r\n"),
+            SessionAttribute::Fingerprint(hash) => write!(f, "a=fingerprint:{hash}\r\n"),
             SessionAttribute::Setup(setup) => write!(f, "a=setup:{setup}\r\n"),
+            SessionAttribute::Candidate(candidate) => write!(f, "a={candidate}\r\n"),
+            SessionAttribute::EndOfCandidates => f.write_str("a=end-of-candidates\r\n"),
             SessionAttribute::Unused(text) => write!(f, "a={text}\r\n"),
         }
     }
@@ -79,25 +214,89 @@ impl Printed for SessionAttribute {
     ghost prints = { λ _. refl };
 }
 
-/// The `a=` line, with its end; nothing for an `Fmtp` none of whose values has a text.
+/// The `a=` line, with its end; nothing for what has no line: an `Fmtp` none of whose values has a
+/// text, an extension that isn't written, layers that are none or munged, a group without sources.
 impl fmt::Display for MediaAttribute {
     ghost output = { λ attribute. Some (media_attribute_text attribute) };
 
     fn fmt<W: fmt::Write>(&self, f: &mut fmt::Formatter<W>) -> fmt::Result {
         match self {
+            MediaAttribute::Rtcp(text) => write!(f, "a=rtcp:{text}\r\n"),
+            MediaAttribute::IceUfrag(text) => write!(f, "a=ice-ufrag:{text}\r\n"),
+            MediaAttribute::IcePwd(text) => write!(f, "a=ice-pwd:{text}\r\n"),
+            MediaAttribute::IceOptions(text) => write!(f, "a=ice-options:{text}\r\n"),
+            MediaAttribute::Fingerprint(hash) => write!(f, "a=fingerprint:{hash}\r\n"),
             MediaAttribute::Setup(setup) => write!(f, "a=setup:{setup}\r\n"),
             MediaAttribute::Mid(mid) => write!(f, "a=mid:{mid}\r\n"),
+            MediaAttribute::SctpPort(port) => write!(f, "a=sctp-port:{port}\r\n"),
+            MediaAttribute::MaxMessageSize(size) => write!(f, "a=max-message-size:{size}\r\n"),
+            MediaAttribute::SctpInit(text) => write!(f, "a=sctp-init:{text}\r\n"),
             MediaAttribute::RecvOnly => f.write_str("a=recvonly\r\n"),
             MediaAttribute::SendRecv => f.write_str("a=sendrecv\r\n"),
             MediaAttribute::SendOnly => f.write_str("a=sendonly\r\n"),
             MediaAttribute::Inactive => f.write_str("a=inactive\r\n"),
+            MediaAttribute::Msid(msid) => write!(f, "a=msid:{msid}\r\n"),
+            MediaAttribute::RtcpMux => f.write_str("a=rtcp-mux\r\n"),
+            MediaAttribute::RtcpMuxOnly => f.write_str("a=rtcp-mux-only\r\n"),
+            MediaAttribute::RtcpRsize => f.write_str("a=rtcp-rsize\r\n"),
+            MediaAttribute::Candidate(candidate) => write!(f, "a={candidate}\r\n"),
+            MediaAttribute::EndOfCandidates => f.write_str("a=end-of-candidates\r\n"),
             MediaAttribute::RtpMap { pt, value } => write!(f, "a=rtpmap:{pt} {value}\r\n"),
+            MediaAttribute::RtcpFb { pt, value } => write!(f, "a=rtcp-fb:{pt} {value}\r\n"),
+            MediaAttribute::Ssrc { ssrc, attr, value } => {
+                write!(f, "a=ssrc:{ssrc} {attr}:{value}\r\n")
+            }
+            MediaAttribute::Unused(text) => write!(f, "a={text}\r\n"),
+            other => {
+                let line = LongLine(other);
+                write!(f, "{line}")
+            }
+        }
+    }
+}
+
+/// The line of an attribute that prints a list, or nothing; no other attribute prints so.
+#[derive(Drop)]
+struct LongLine<'a>(&'a MediaAttribute);
+
+impl<'a> fmt::Display for LongLine<'a> {
+    ghost output = { λ line. Some (long_text line.0.now) };
+
+    fn fmt<W: fmt::Write>(&self, f: &mut fmt::Formatter<W>) -> fmt::Result {
+        match self.0 {
+            MediaAttribute::ExtMap { id, ext } => {
+                let line = ExtMapLine { id: *id, ext };
+                write!(f, "{line}")
+            }
             MediaAttribute::Fmtp { pt, values } => {
                 let values = values.as_slice();
                 let line = FmtpLine { pt: *pt, values };
                 write!(f, "{line}")
             }
-            MediaAttribute::Unused(text) => write!(f, "a={text}\r\n"),
+            MediaAttribute::Rid {
+                id,
+                direction,
+                pt,
+                restriction,
+            } => {
+                let line = RidLine {
+                    id,
+                    direction,
+                    pts: pt.as_slice(),
+                    restrictions: restriction.as_slice(),
+                };
+                write!(f, "{line}")
+            }
+            MediaAttribute::Simulcast(simulcast) => {
+                let line = SimulcastLine(simulcast);
+                write!(f, "{line}")
+            }
+            MediaAttribute::SsrcGroup { semantics, ssrcs } => {
+                let ssrcs = ssrcs.as_slice();
+                let line = SsrcGroupLine { semantics, ssrcs };
+                write!(f, "{line}")
+            }
+            _ => Ok(()),
         }
     }
 }

@@ -1,5 +1,5 @@
 //! Lists as text.
-ghost use Rattle.std.specs.Prelude.{◌≡◌, List, ℕ, Some, refl};
+ghost use Rattle.std.specs.Prelude.{◌≡◌, ◌++◌, List, ℕ, Some, refl};
 ghost use Rattle.std.specs.Fmt.{decimal};
 ghost use Rattle.std.specs.List.{flat_map, join_by};
 
@@ -29,6 +29,25 @@ impl<'a, T: Printed> fmt::Display for Each<'a, T> {
     fn fmt<W: fmt::Write>(&self, f: &mut fmt::Formatter<W>) -> fmt::Result {
         for item in self.0 {
             write!(f, "{item}")?;
+        }
+        Ok(())
+    }
+}
+
+/// Items, each behind a lead.
+#[derive(Drop)]
+pub(crate) struct Led<'a, T> {
+    pub(crate) items: &'a [T],
+    pub(crate) lead: &'static str,
+}
+
+impl<'a, T: Printed> fmt::Display for Led<'a, T> {
+    ghost output = { λ led. Some (flat_map (λ item. led.lead.now ++ T.text item) led.items.now) };
+
+    fn fmt<W: fmt::Write>(&self, f: &mut fmt::Formatter<W>) -> fmt::Result {
+        let lead = self.lead;
+        for item in self.items {
+            write!(f, "{lead}{item}")?;
         }
         Ok(())
     }

@@ -1,5 +1,5 @@
 //! What carries a section.
-ghost use Rattle.std.specs.Prelude.{Some};
+ghost use Rattle.std.specs.Prelude.{◌≡◌, Some};
 ghost use Rattle.str0m_sdp.specs.Proto.{proto_text};
 
 use std::fmt;
@@ -12,14 +12,24 @@ pub enum Proto {
     Sctp,
 }
 
-/// The protocol as m-lines print it.
+impl Proto {
+    /// The protocol as m-lines print it.
+    pub fn proto_line(&self) -> &str
+        ensures { result.now ≡ proto_text self.now }
+    {
+        match self {
+            Proto::Srtp => "UDP/TLS/RTP/SAVPF",
+            Proto::Sctp => "UDP/DTLS/SCTP",
+        }
+    }
+}
+
+/// The text of `proto_line`.
 impl fmt::Display for Proto {
     ghost output = { λ proto. Some (proto_text proto) };
 
     fn fmt<W: fmt::Write>(&self, f: &mut fmt::Formatter<W>) -> fmt::Result {
-        match self {
-            Proto::Srtp => f.write_str("UDP/TLS/RTP/SAVPF"),
-            Proto::Sctp => f.write_str("UDP/DTLS/SCTP"),
-        }
+        let line = self.proto_line();
+        f.write_str(line)
     }
 }

@@ -1,6 +1,6 @@
 //! Who begins the DTLS handshake.
-ghost use Rattle.std.specs.Prelude.{Some};
-ghost use Rattle.str0m_sdp.specs.Setup.{setup_text};
+ghost use Rattle.std.specs.Prelude.{◌≡◌, Some};
+ghost use Rattle.str0m_sdp.specs.Setup.{setup_text, inverse};
 
 use std::fmt;
 
@@ -13,14 +13,36 @@ pub enum Setup {
     Passive,
 }
 
+impl Setup {
+    /// The word of the role.
+    pub fn setup_line(&self) -> &str
+        ensures { result.now ≡ setup_text self.now }
+    {
+        match self {
+            Setup::ActPass => "actpass",
+            Setup::Active => "active",
+            Setup::Passive => "passive",
+        }
+    }
+
+    /// The role of the other side: who begins on one side waits on the other. A side that offers
+    /// both offers both.
+    pub fn invert(&self) -> Setup
+        ensures { result ≡ inverse self.now }
+    {
+        match self {
+            Setup::ActPass => Setup::ActPass,
+            Setup::Active => Setup::Passive,
+            Setup::Passive => Setup::Active,
+        }
+    }
+}
+
 impl fmt::Display for Setup {
     ghost output = { λ setup. Some (setup_text setup) };
 
     fn fmt<W: fmt::Write>(&self, f: &mut fmt::Formatter<W>) -> fmt::Result {
-        match self {
-            Setup::ActPass => f.write_str("actpass"),
-            Setup::Active => f.write_str("active"),
-            Setup::Passive => f.write_str("passive"),
-        }
+        let line = self.setup_line();
+        f.write_str(line)
     }
 }

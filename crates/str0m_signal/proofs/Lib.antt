@@ -1,12 +1,16 @@
 pub mod AnswerLaws
+pub mod CandidateLineLaws
 pub mod ChainLaws
+pub mod FingerprintLineLaws
 pub mod FmtpLaws
+pub mod FormLaws
 pub mod HeaderLaws
 pub mod LineLaws
 pub mod MediaLaws
-pub mod NumberLaws
 pub mod PairLaws
+pub mod PartLaws
 pub mod ReadingLaws
 pub mod RtpMapLaws
 pub mod SectionLaws
 pub mod SessionLaws
+pub mod WordsLaws

@@ -208,10 +208,10 @@ first_at_lf text a content rest e h cases =
 pub first_at_end : (text : List ℕ) → Lacks 10 text → IsRest text → Some (text, lines_of []) ≡ first_line (lines_of text)
 first_at_end text h rest = first_is text (record { content = text; ending = [] }) [] (sym (append-nil text)) (record { inside = h; ends = inr (inr (refl, refl, rest)) })
 
-pub without_suffix : (line : Bor (List ℕ)) (r : Option (Bor (List ℕ))) → MatchOption r (FindsCharSuffix 13 line.now None) (λ x. (n : ℕ) × FindsCharSuffix 13 line.now (Some n) × (x.now ≡ take (length line.now - n) line.now) × (length x.now + n ≡ length line.now))
-    → (line.now ≡ (unwrap_or r line).now ++ (13 ∷ [])) ⊎ (((unwrap_or r line).now ≡ line.now) × (EndsIn 13 line.now → ⊥))
-without_suffix line None h = inr (refl, λ e. strip_suffix_char 13 line.now None h (omega arith) e.0 e.1)
-without_suffix line (Some x) h = inl (strip_suffix_char 13 line.now (Some x) h (omega arith))
+pub without_suffix : (c : ℕ) → c < 128 → (line : Bor (List ℕ)) (r : Option (Bor (List ℕ))) → MatchOption r (FindsCharSuffix c line.now None) (λ x. (n : ℕ) × FindsCharSuffix c line.now (Some n) × (x.now ≡ take (length line.now - n) line.now) × (length x.now + n ≡ length line.now))
+    → (line.now ≡ (unwrap_or r line).now ++ (c ∷ [])) ⊎ (((unwrap_or r line).now ≡ line.now) × (EndsIn c line.now → ⊥))
+without_suffix c low line None h = inr (refl, λ e. strip_suffix_char c line.now None h low e.0 e.1)
+without_suffix c low line (Some x) h = inl (strip_suffix_char c line.now (Some x) h low)
 
 pub first_of_none : (text : List ℕ) → eqb (length text) 0 ≡ true → None ≡ first_line (lines_of text)
 unfolding lines_of

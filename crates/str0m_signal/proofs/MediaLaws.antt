@@ -12,7 +12,20 @@ use Rattle.str0m_sdp.specs.declared.setup.Setup.{Setup as Role}
 use Rattle.str0m_sdp.specs.declared.setup.Setup.TheVariants.{ActPass, Active, Passive}
 use Rattle.str0m_sdp.specs.declared.rtp_map.RtpMap.{RtpMap as Mapping}
 use Rattle.str0m_sdp.specs.declared.attribute.MediaAttribute.{MediaAttribute}
-use Rattle.str0m_sdp.specs.declared.attribute.MediaAttribute.TheVariants.{Setup, Mid, RecvOnly, SendRecv, SendOnly, Inactive, RtpMap, Fmtp, Unused}
+use Rattle.str0m_sdp.specs.declared.attribute.MediaAttribute.TheVariants.{Rtcp, IceUfrag, IcePwd, IceOptions, Fingerprint, Setup, Mid, SctpPort, MaxMessageSize, SctpInit, ExtMap, RecvOnly, SendRecv, SendOnly, Inactive, Msid, RtcpMux, RtcpMuxOnly, RtcpRsize, Candidate, EndOfCandidates, RtpMap, RtcpFb, Fmtp, SsrcGroup, Ssrc, Unused}
+use Rattle.str0m_values.specs.Parts.{IsPt}
+use Rattle.str0m_signal.specs.Forms.{IsText, Two, Tailed}
+use Rattle.str0m_signal.specs.FormReading.{text_read, two_read, tailed_read, parted_read}
+use Rattle.str0m_signal.specs.FieldsReading.{ext_map_read, msid_read, rtcp_fb_read, ssrc_read, ssrc_group_read, fingerprint_read}
+use Rattle.str0m_values.specs.Joined.{Parted}
+use Rattle.str0m_signal.proofs.WordsLaws.{sources_both}
+use Rattle.str0m_signal.proofs.FingerprintLineLaws.{fingerprint_fields, fingerprint_both}
+use Rattle.str0m_values.specs.declared.candidate.Candidate.{Candidate as TheCandidate}
+use Rattle.str0m_values.specs.Candidate.{IsCandidateText}
+use Rattle.str0m_values.specs.CandidateReading.{candidate_read}
+use Rattle.str0m_values.proofs.CandidateLaws.{candidate_both}
+use Rattle.str0m_signal.proofs.CandidateLineLaws.{candidate_begins}
+use Rattle.str0m_signal.proofs.FormLaws.{text_both, num_both, behind_both, two_both, tailed_both, form_sound}
 use Rattle.str0m_values.specs.Parts.{Lacks, IsRest, IsNum, IsWithout}
 use Rattle.str0m_values.specs.Fits.{FirstFit}
 use Rattle.str0m_sdp.specs.Setup.{setup_text}
@@ -20,7 +33,7 @@ use Rattle.str0m_signal.specs.MediaAttribute.{Named, IsUnused, MediaForm, IsMedi
 use Rattle.str0m_values.specs.Cuts.{◌>>=◌, ◌<|>◌, cut, strip, when, is_rest, num}
 use Rattle.str0m_formats.specs.declared.format_param.FormatParam.{FormatParam}
 use Rattle.str0m_signal.specs.FmtpReading.{fmtp_fields_read}
-use Rattle.str0m_signal.specs.MediaAttributeReading.{fmtp_read, direction_read, role_read, setup_read, mid_read, rtpmap_read, named_read, media_read}
+use Rattle.str0m_signal.specs.MediaAttributeReading.{words_read, texts_read, numbers_read, candidate_form_read, fingerprint_form_read, fmtp_read, role_read, setup_read, mid_read, rtpmap_read, plain_read, held_read, named_read, media_read}
 use Rattle.str0m_signal.specs.RtpMapReading.{rtpmap_fields_read}
 use Rattle.str0m_signal.proofs.RtpMapLaws.{rtpmap_fields_both}
 use Rattle.str0m_values.specs.ShortText.{beginning_of}
@@ -35,12 +48,32 @@ use Rattle.str0m_values.proofs.BothWays.{Sound, Reads, or_some, bind_some, some_
 
 -- ---- what is read has its form
 
-direction_sound : Sound Named direction_read
-direction_sound =
+words_sound : Sound Named words_read
+words_sound =
     sound_or (word_sound (codes "recvonly") RecvOnly refl)
     (sound_or (word_sound (codes "sendrecv") SendRecv refl)
     (sound_or (word_sound (codes "sendonly") SendOnly refl)
-    (word_sound (codes "inactive") Inactive refl)))
+    (sound_or (word_sound (codes "inactive") Inactive refl)
+    (sound_or (word_sound (codes "rtcp-mux") RtcpMux refl)
+    (sound_or (word_sound (codes "rtcp-mux-only") RtcpMuxOnly refl)
+    (sound_or (word_sound (codes "rtcp-rsize") RtcpRsize refl)
+    (word_sound (codes "end-of-candidates") EndOfCandidates refl)))))))
+
+texts_sound : Sound Named texts_read
+texts_sound =
+    sound_or (form_sound Rtcp (behind_both (codes "rtcp:") text_both) (λ text x h. h))
+    (sound_or (form_sound IceUfrag (behind_both (codes "ice-ufrag:") text_both) (λ text x h. h))
+    (sound_or (form_sound IcePwd (behind_both (codes "ice-pwd:") text_both) (λ text x h. h))
+    (sound_or (form_sound IceOptions (behind_both (codes "ice-options:") text_both) (λ text x h. h))
+    (form_sound SctpInit (behind_both (codes "sctp-init:") text_both) (λ text x h. h)))))
+
+numbers_sound : Sound Named numbers_read
+numbers_sound =
+    sound_or (form_sound SctpPort (behind_both (codes "sctp-port:") (num_both 65535)) (λ text x h. h))
+    (form_sound MaxMessageSize (behind_both (codes "max-message-size:") (num_both 18446744073709551615)) (λ text x h. h))
+
+candidate_sound : Sound Named candidate_form_read
+candidate_sound = form_sound Candidate candidate_both (λ text x h. h)
 
 pub role_sound : (text : List ℕ) (role : Role) → role_read text ≡ Some role → text ≡ setup_text role
 role_sound text role e =
@@ -90,8 +123,55 @@ fmtp_sound = record {
       rw (← some_is (Fmtp a.0.0 a.0.1) x a.2) (fmtp_fields_both.sound text a.0 a.1);
 }
 
+ext_map_fields : Reads (Two 32 (Tailed 47 (IsNum 255)) (Tailed 32 IsText)) (two_read 32 (tailed_read 47 (num 255)) (tailed_read 32 text_read))
+ext_map_fields = two_both 32 (tailed_both 47 (num_both 255)) (tailed_both 32 text_both)
+
+ext_map_sound : Sound Named ext_map_read
+ext_map_sound = form_sound (λ p. ExtMap p.0 (record { uri = p.1; serialized = true })) (behind_both (codes "extmap:") ext_map_fields) (λ text p h. (h, refl))
+
+msid_fields : Reads (Two 32 IsText IsText) (two_read 32 text_read text_read)
+msid_fields = two_both 32 text_both text_both
+
+msid_sound : Sound Named msid_read
+msid_sound = form_sound (λ p. Msid (record { stream_id = p.0; track_id = p.1 })) (behind_both (codes "msid:") msid_fields) (λ text p h. h)
+
+rtcp_fb_fields : Reads (Two 32 IsPt IsText) (two_read 32 (num 127) text_read)
+rtcp_fb_fields = two_both 32 (num_both 127) text_both
+
+rtcp_fb_sound : Sound Named rtcp_fb_read
+rtcp_fb_sound = form_sound (λ p. RtcpFb p.0 p.1) (behind_both (codes "rtcp-fb:") rtcp_fb_fields) (λ text p h. h)
+
+ssrc_fields : Reads (Two 32 (IsNum 4294967295) (Two 58 IsText IsText)) (two_read 32 (num 4294967295) (two_read 58 text_read text_read))
+ssrc_fields = two_both 32 (num_both 4294967295) (two_both 58 text_both text_both)
+
+ssrc_sound : Sound Named ssrc_read
+ssrc_sound = form_sound (λ p. Ssrc p.0 p.1.0 p.1.1) (behind_both (codes "ssrc:") ssrc_fields) (λ text p h. h)
+
+ssrc_group_fields : Reads (Two 32 IsText (Parted 32 (IsNum 4294967295))) (two_read 32 text_read (parted_read 32 (num 4294967295)))
+ssrc_group_fields = two_both 32 text_both sources_both
+
+ssrc_group_sound : Sound Named ssrc_group_read
+ssrc_group_sound = form_sound (λ p. SsrcGroup p.0 p.1) (behind_both (codes "ssrc-group:") ssrc_group_fields) (λ text p h. h)
+
+fingerprint_sound : Sound Named fingerprint_form_read
+fingerprint_sound = form_sound Fingerprint fingerprint_both (λ text x h. h)
+
+plain_sound : Sound Named plain_read
+plain_sound = sound_or words_sound (sound_or setup_sound (sound_or mid_sound (sound_or numbers_sound rtpmap_sound)))
+
+held_sound : Sound Named held_read
+held_sound =
+    sound_or texts_sound
+    (sound_or candidate_sound
+    (sound_or ext_map_sound
+    (sound_or msid_sound
+    (sound_or rtcp_fb_sound
+    (sound_or ssrc_sound
+    (sound_or ssrc_group_sound
+    (sound_or fingerprint_sound fmtp_sound)))))))
+
 named_sound : Sound Named named_read
-named_sound = sound_or direction_sound (sound_or setup_sound (sound_or mid_sound (sound_or rtpmap_sound fmtp_sound)))
+named_sound = sound_or plain_sound held_sound
 
 -- ---- what has a form is read
 
@@ -104,6 +184,9 @@ mid_reads : (name : List ℕ) → IsRest name → named_read (codes "mid:" ++ na
 mid_reads name h = rw (rest_true name h) refl
 
 -- no other form begins so
+candidate_named : (more : List ℕ) (candidate : TheCandidate) → candidate_read (codes "candidate:" ++ more) ≡ Some candidate → named_read (codes "candidate:" ++ more) ≡ Some (Candidate candidate)
+candidate_named more candidate e = rw e refl
+
 rtpmap_named : (text : List ℕ) (pt : ℕ) (value : Mapping) → rtpmap_fields_read text ≡ Some (pt, value) → (more : List ℕ) → text ≡ codes "rtpmap:" ++ more → named_read (codes "rtpmap:" ++ more) ≡ Some (RtpMap pt value)
 rtpmap_named text pt value e more is =
     let here : rtpmap_fields_read (codes "rtpmap:" ++ more) ≡ Some (pt, value) = ap rtpmap_fields_read (sym is) ∙ e in
@@ -115,12 +198,29 @@ fmtp_named text pt values e number more is =
     ap (λ (o : Option (ℕ × List FormatParam)). o >>= λ fields. Some (Fmtp fields.0 fields.1)) here
 
 named_complete : (text : List ℕ) (x : MediaAttribute) → Named text x → named_read text ≡ Some x
+named_complete text (Rtcp value) h = ap named_read h.1 ∙ rw (text_both.complete h.0 value h.2) refl
+named_complete text (IceUfrag value) h = ap named_read h.1 ∙ rw (text_both.complete h.0 value h.2) refl
+named_complete text (IcePwd value) h = ap named_read h.1 ∙ rw (text_both.complete h.0 value h.2) refl
+named_complete text (IceOptions value) h = ap named_read h.1 ∙ rw (text_both.complete h.0 value h.2) refl
+named_complete text (Fingerprint hash) h = ap named_read h.1 ∙ rw (fingerprint_fields.complete h.0 (hash.hash_func, hash.bytes) h.2) refl
 named_complete text (Setup role) h = ap named_read h ∙ setup_reads role
 named_complete text (Mid mid) h = ap named_read h.1 ∙ mid_reads h.0 h.2 ∙ ap (λ (t : List ℕ). Some (Mid t)) (sym (beginning_only 16 h.0 mid h.3))
+named_complete text (SctpPort port) h = ap named_read h.1 ∙ rw (num_reads 65535 h.0 port h.2) refl
+named_complete text (MaxMessageSize size) h = ap named_read h.1 ∙ rw (num_reads 18446744073709551615 h.0 size h.2) refl
+named_complete text (SctpInit value) h = ap named_read h.1 ∙ rw (text_both.complete h.0 value h.2) refl
+named_complete text (ExtMap id ext) h = ap named_read h.0.1 ∙ rw (ext_map_fields.complete h.0.0 (id, ext.uri) h.0.2, h.1) refl
 named_complete text RecvOnly h = rw h refl
 named_complete text SendRecv h = rw h refl
 named_complete text SendOnly h = rw h refl
 named_complete text Inactive h = rw h refl
+named_complete text (Msid msid) h = ap named_read h.1 ∙ rw (msid_fields.complete h.0 (msid.stream_id, msid.track_id) h.2) refl
+named_complete text RtcpMux h = rw h refl
+named_complete text RtcpMuxOnly h = rw h refl
+named_complete text RtcpRsize h = rw h refl
+named_complete text (Candidate candidate) h =
+    let begins = candidate_begins text candidate h in
+    ap named_read begins.1 ∙ candidate_named begins.0 candidate (ap candidate_read (sym begins.1) ∙ candidate_both.complete text candidate h)
+named_complete text EndOfCandidates h = rw h refl
 named_complete text (RtpMap pt value) h =
     let fields = rtpmap_fields_both.complete text (pt, value) h in
     let more = h.number ++ (codes " " ++ (h.codec ++ (codes "/" ++ (h.clock ++ h.channels)))) in
@@ -128,7 +228,10 @@ named_complete text (RtpMap pt value) h =
 named_complete text (Fmtp pt values) h =
     let fields = fmtp_fields_both.complete text (pt, values) h in
     ap named_read h.joined ∙ fmtp_named (codes "fmtp:" ++ (h.number ++ h.more)) pt values (ap fmtp_fields_read (sym h.joined) ∙ fields) h.number h.more refl
-named_complete text (Unused other) h = absurd h
+named_complete text (RtcpFb pt value) h = ap named_read h.1 ∙ rw (rtcp_fb_fields.complete h.0 (pt, value) h.2) refl
+named_complete text (SsrcGroup semantics ssrcs) h = ap named_read h.1 ∙ rw (ssrc_group_fields.complete h.0 (semantics, ssrcs) h.2) refl
+named_complete text (Ssrc ssrc attr value) h = ap named_read h.1 ∙ rw (ssrc_fields.complete h.0 (ssrc, (attr, value)) h.2) refl
+named_complete text _ h = absurd h
 
 named_both : Reads Named named_read
 named_both = record { sound = named_sound.law; complete = named_complete }

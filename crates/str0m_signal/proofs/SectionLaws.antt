@@ -5,7 +5,9 @@ use Rattle.std.specs.Str.{bytes_eq}
 use Rattle.std.proofs.lemmas.Bool.{ltb-true, lt-ltb, both_ways, false_from_ne_true}
 use Rattle.std.proofs.lemmas.List.{append-nil}
 use Rattle.std.proofs.lemmas.Bool.Decides.{same_from_decides}
-use Rattle.str0m_signal.proofs.NumberLaws.{numbers_at, numbers_last}
+use Rattle.str0m_values.specs.Joined.{Parted}
+use Rattle.str0m_signal.proofs.FormLaws.{num_both}
+use Rattle.str0m_signal.proofs.PartLaws.{parted_both}
 use Rattle.std.proofs.lemmas.Slice.Eq.{bytes_eq-Decides}
 use Rattle.std.proofs.lemmas.Option.{some_pair_parts, none-some}
 use Rattle.str0m_sdp.specs.declared.bandwidth.Bandwidth.{Bandwidth}
@@ -15,9 +17,9 @@ use Rattle.str0m_sdp.specs.declared.proto.Proto.{Proto}
 use Rattle.str0m_sdp.specs.declared.proto.Proto.TheVariants.{Srtp, Sctp}
 use Rattle.str0m_values.specs.Parts.{Lacks, IsRest, IsNum, IsWord, IsWithout}
 use Rattle.str0m_values.specs.Fits.{FirstFit}
-use Rattle.str0m_signal.specs.Section.{IsField, IsBandwidth, Begins, IsKind, IsProto, AreNumbers, NoTypes, Head, IsHead, IsSection}
+use Rattle.str0m_signal.specs.Section.{IsField, IsBandwidth, Begins, IsKind, IsProto, NoTypes, Head, IsHead, IsSection}
 use Rattle.str0m_values.specs.Cuts.{◌>>=◌, ◌<|>◌, cut, strip, when, is_rest, num}
-use Rattle.str0m_signal.specs.SectionReading.{field_read, bandwidth_read, unknown_read, kind_read, proto_read, all_numbers, numbers_read, no_types_read, types_read, head_read}
+use Rattle.str0m_signal.specs.SectionReading.{field_read, bandwidth_read, unknown_read, kind_read, proto_read, numbers_read, no_types_read, types_read, head_read}
 use Rattle.str0m_values.proofs.CutLaws.{cut_none, cut_none_lacks, cut_at, cut_found, strip_at, strip_found}
 use Rattle.str0m_values.proofs.NumLaws.{when_some, when_true, num_found, num_reads}
 use Rattle.str0m_values.proofs.BothWays.{Sound, Reads, or_some, bind_some, some_is, if_some, sound_or, reads_first}
@@ -114,68 +116,11 @@ proto_filled text Sctp h = elim h [ inl e ↦ rw e (omega arith) | inr e ↦ rw 
 
 -- ---- types
 
-tail_is : (n m : ℕ) (ns ms : List ℕ) → n ∷ ns ≡ m ∷ ms → (n ≡ m) × (ns ≡ ms)
-tail_is n m ns ms e = (cc, cc)
-
-not_nil : (n : ℕ) (ns : List ℕ) → n ∷ ns ≡ [] → ⊥
-not_nil n ns e = absurd cc
-
--- one number, or a number and more behind a space
-record Last (text : List ℕ) (ns : List ℕ) : Type 0 where
-  n : ℕ
-  number_is : IsNum 255 text n
-  same : n ∷ [] ≡ ns
-
-record More (text : List ℕ) (ns : List ℕ) : Type 0 where
-  n : ℕ
-  ms : List ℕ
-  number : List ℕ
-  behind : List ℕ
-  joined : text ≡ number ++ (32 ∷ behind)
-  number_is : IsNum 255 number n
-  more_are : numbers_read behind ≡ Some ms
-  same : n ∷ ms ≡ ns
-
-numbers_step : (text ns : List ℕ) (o : Option (List ℕ × List ℕ)) → cut 32 text ≡ o → numbers_read text ≡ Some ns → Last text ns ⊎ More text ns
-numbers_step text ns None cut-is e =
-    let a = bind_some (num 255 text) (λ n. Some (n ∷ [])) ns (sym (numbers_last text (cut_none_lacks 32 text cut-is)) ∙ e) in
-    inl (record { n = a.0; number_is = num_found 255 text a.0 a.1; same = some_is (a.0 ∷ []) ns a.2 })
-numbers_step text ns (Some p) cut-is e =
-    let found = cut_found 32 text p.0 p.1 cut-is in
-    let a = bind_some (num 255 p.0) (λ n. numbers_read p.1 >>= λ ms. Some (n ∷ ms)) ns (sym (ap numbers_read found.0 ∙ numbers_at p.0 p.1 found.1) ∙ e) in
-    let b = bind_some (numbers_read p.1) (λ ms. Some (a.0 ∷ ms)) ns a.2 in
-    inr (record { n = a.0; ms = b.0; number = p.0; behind = p.1; joined = found.0; number_is = num_found 255 p.0 a.0 a.1; more_are = b.1; same = some_is (a.0 ∷ b.0) ns b.2 })
-
-numbers_sound : (ns text : List ℕ) → numbers_read text ≡ Some ns → AreNumbers text ns
-numbers_sound [] text e =
-    elim (numbers_step text [] (cut 32 text) refl e) [
-      | inl last ↦ absurd (not_nil last.n [] last.same)
-      | inr more ↦ absurd (not_nil more.n more.ms more.same)
-    ]
-numbers_sound (n ∷ []) text e =
-    elim (numbers_step text (n ∷ []) (cut 32 text) refl e) [
-      | inl last ↦ subst (IsNum 255 text) (tail_is last.n n [] [] last.same).0 last.number_is
-      | inr more ↦ absurd (numbers_sound [] more.behind (more.more_are ∙ ap (λ (t : List ℕ). Some t) (tail_is more.n n more.ms [] more.same).1))
-    ]
-numbers_sound (n ∷ (m ∷ ns)) text e =
-    elim (numbers_step text (n ∷ (m ∷ ns)) (cut 32 text) refl e) [
-      | inl last ↦ absurd (not_nil m ns (sym (tail_is last.n n [] (m ∷ ns) last.same).1))
-      | inr more ↦
-          let same = tail_is more.n n more.ms (m ∷ ns) more.same in
-          (more.number, more.behind, more.joined, subst (IsNum 255 more.number) same.0 more.number_is, numbers_sound (m ∷ ns) more.behind (more.more_are ∙ ap (λ (t : List ℕ). Some t) same.1))
-    ]
-
 num_lacks : (limit : ℕ) (text : List ℕ) (n : ℕ) → IsNum limit text n → Lacks 32 text
 num_lacks limit text n h = number_lacks 32 text (omega arith) (λ e. absurd (omega arith)) h.numeral
 
-numbers_complete : (ns text : List ℕ) → AreNumbers text ns → numbers_read text ≡ Some ns
-numbers_complete [] text h = absurd h
-numbers_complete (n ∷ []) text h = numbers_last text (num_lacks 255 text n h) ∙ rw (num_reads 255 text n h) refl
-numbers_complete (n ∷ (m ∷ ns)) text h =
-    ap numbers_read h.2 ∙ numbers_at h.0 h.1 (num_lacks 255 h.0 n h.3) ∙ rw (num_reads 255 h.0 n h.3, numbers_complete (m ∷ ns) h.1 h.4) refl
-
-numbers_both : Reads AreNumbers numbers_read
-numbers_both = record { sound = λ text ns e. numbers_sound ns text e; complete = λ text ns h. numbers_complete ns text h }
+numbers_both : Reads (Parted 32 (IsNum 255)) numbers_read
+numbers_both = parted_both 32 (num_both 255) (num_lacks 255)
 
 no_types_both : Reads NoTypes no_types_read
 no_types_both = record {
@@ -183,7 +128,7 @@ no_types_both = record {
   complete = λ text ns h. rw (begun_not (codes " ") text h.1) (ap (λ (t : List ℕ). Some t) (sym h.0));
 }
 
-types_both : Reads (FirstFit AreNumbers NoTypes) types_read
+types_both : Reads (FirstFit (Parted 32 (IsNum 255)) NoTypes) types_read
 types_both = reads_first numbers_both no_types_both
 
 -- ---- the m-line

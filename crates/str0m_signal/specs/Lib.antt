@@ -1,8 +1,12 @@
 pub mod Answers
 pub mod CandidateLine
 pub mod Chains
+pub mod FieldsReading
+pub mod FingerprintLine
 pub mod Fmtp
 pub mod FmtpReading
+pub mod FormReading
+pub mod Forms
 pub mod Header
 pub mod HeaderReading
 pub mod Heads
@@ -17,4 +21,6 @@ pub mod Section
 pub mod SectionReading
 pub mod SessionAttribute
 pub mod SessionAttributeReading
+pub mod Words
+pub mod WordsReading
 pub use Rattle.str0m_sdp.specs.Session

@@ -8,6 +8,7 @@ use Rattle.str0m_sdp.specs.declared.proto.Proto.{Proto}
 use Rattle.str0m_sdp.specs.declared.proto.Proto.TheVariants.{Srtp, Sctp}
 use Rattle.str0m_values.specs.Parts.{IsRest, IsWord, IsWithout, IsNum}
 use Rattle.str0m_values.specs.Fits.{FirstFit}
+use Rattle.str0m_values.specs.Joined.{Parted}
 use Rattle.str0m_signal.specs.Lines.{Line, OneLine}
 use Rattle.str0m_signal.specs.Chains.{Taken, Run}
 use Rattle.str0m_signal.specs.MediaAttribute.{IsMediaLine}
@@ -35,12 +36,6 @@ abbrev pub IsProto : List ℕ → Proto → Type 0
 IsProto text Srtp = text ≡ codes "UDP/TLS/RTP/SAVPF"
 IsProto text Sctp = (text ≡ codes "DTLS/SCTP") ⊎ (text ≡ codes "UDP/DTLS/SCTP")
 
--- numbers parted by one space each
-abbrev pub AreNumbers : List ℕ → List ℕ → Type 0
-AreNumbers text [] = ⊥
-AreNumbers text (n ∷ []) = IsNum 255 text n
-AreNumbers text (n ∷ m ∷ ns) = (number : List ℕ) × (more : List ℕ) × (text ≡ number ++ (codes " " ++ more)) × IsNum 255 number n × AreNumbers more (m ∷ ns)
-
 -- any other text that doesn't begin with a space is read as no types
 abbrev pub NoTypes : List ℕ → List ℕ → Type 0
 NoTypes text pts = (pts ≡ []) × (Begins (codes " ") text → ⊥)
@@ -52,7 +47,7 @@ pub record Head : Type 0 where
   pub proto : Proto
   pub pts : List ℕ
 
--- `m=` kind SP port SP protocol SP types; the port `0` means disabled (RFC 8866, section 5.14)
+-- `m=` kind SP port SP protocol SP types, which are numbers parted by one space each; the port `0` means disabled (RFC 8866, section 5.14)
 pub record IsHead (content : List ℕ) (head : Head) : Type 0 where
   pub kind : List ℕ
   pub port : List ℕ
@@ -62,7 +57,7 @@ pub record IsHead (content : List ℕ) (head : Head) : Type 0 where
   pub kind_is : IsWord kind × IsKind kind head.typ
   pub port_is : IsWord port × (IsTrue head.disabled ↔ (port ≡ codes "0"))
   pub protocol_is : IsWord protocol × IsProto protocol head.proto
-  pub types_are : FirstFit AreNumbers NoTypes types head.pts
+  pub types_are : FirstFit (Parted 32 (IsNum 255)) NoTypes types head.pts
 
 -- a section: its m-line, then a `c=` line and a `b=` line, each taken where it stands next, and the run of attribute lines
 pub record IsSection (lines : List Line) (m : MediaLine) (rest : List Line) : Type 0 where

@@ -1,6 +1,5 @@
 -- Reading of a section's first lines as functions.
 use Rattle.std.specs.Prelude.{ℕ, Bool, List, [], ◌∷◌, Option, Some, None, codes, if◌then◌else◌, ◌==◌, is_some}
-use Rattle.std.specs.List.{slice_split}
 use Rattle.std.specs.Str.{bytes_eq}
 use Rattle.str0m_sdp.specs.declared.bandwidth.Bandwidth.{Bandwidth}
 use Rattle.str0m_sdp.specs.declared.media_type.MediaType.{MediaType}
@@ -13,6 +12,7 @@ use Rattle.str0m_signal.specs.Lines.{OneLine}
 use Rattle.str0m_signal.specs.Chains.{Stops}
 use Rattle.str0m_signal.specs.LineReading.{lines_of}
 use Rattle.str0m_signal.specs.Section.{Head, IsHead, IsSection}
+use Rattle.str0m_signal.specs.FormReading.{parted_read}
 use Rattle.str0m_values.specs.Cuts.{◌>>=◌, ◌<|>◌, cut, strip, when, is_rest, num}
 
 abbrev pub field_read : List ℕ → List ℕ → Option (List ℕ)
@@ -48,16 +48,9 @@ proto_read text =
     <|> when (bytes_eq text (codes "DTLS/SCTP")) Sctp
     <|> when (bytes_eq text (codes "UDP/DTLS/SCTP")) Sctp
 
--- each piece as a number
-abbrev pub all_numbers : List (List ℕ) → Option (List ℕ)
-all_numbers [] = Some []
-all_numbers (piece ∷ pieces) = do
-  n ← num 255 piece
-  ns ← all_numbers pieces
-  Some (n ∷ ns)
-
+-- numbers parted by spaces
 abbrev pub numbers_read : List ℕ → Option (List ℕ)
-numbers_read text = all_numbers (slice_split (λ b. b == 32) text)
+numbers_read = parted_read 32 (num 255)
 
 abbrev pub no_types_read : List ℕ → Option (List ℕ)
 no_types_read text = if is_some (strip (codes " ") text) then None else Some []

@@ -1,13 +1,18 @@
 //! What fields of several lines share.
 
-ghost use Rattle.std.specs.Prelude.{◌≡◌, option_map};
+ghost use Rattle.std.specs.Prelude.{◌≡◌, IfOk, option_map};
+ghost use Rattle.str0m_values.specs.Cuts.{num};
+ghost use Rattle.str0m_values.specs.ShortText.{beginning_of};
+ghost use Rattle.str0m_signal.specs.FormReading.{behind, text_read};
 ghost use Rattle.str0m_signal.specs.MediaAttributeReading.{role_read};
 ghost use Rattle.str0m_signal.specs.SectionReading.{field_read};
 ghost use Rattle.str0m_signal.specs.LineReading.{lines_of, line_read, both_left};
 
 use crate::lines::plain_line;
+use std::alloc::{AllocError, Global};
 use str0m_sdp::Setup;
 use str0m_values::cuts::strip;
+use str0m_values::{Mid, Text};
 
 /// What follows `letter`, where that is not nothing.
 pub(crate) fn field<'a>(line: &'a str, letter: &str) -> Option<&'a str>
@@ -23,6 +28,31 @@ pub(crate) fn read_field<'a>(text: &'a str, letter: &str) -> Option<(&'a str, &'
 {
     let (line, rest) = plain_line(text)?;
     Some((field(line, letter)?, rest))
+}
+
+/// A copy of what follows `label`, where that is not nothing.
+pub(crate) fn kept(alloc: Global, text: &str, label: &str) -> Result<Option<Text>, AllocError>
+    ensures { IfOk result (λ found. found ≡ behind label.now text_read text.now) }
+{
+    match field(text, label) {
+        Some(body) => Ok(Some(Text::from_str(alloc, body)?)),
+        None => Ok(None),
+    }
+}
+
+/// The number of 64 bits that std reads in decimal.
+pub(crate) fn num_u64(text: &str) -> Option<u64>
+    ensures { result ≡ num 18446744073709551615 text.now }
+{
+    text.parse::<u64>().ok()
+}
+
+/// A name, as far as it is kept.
+#[tactic(auto, using(str0m_values::proofs::Beginnings::beginning_only))]
+pub(crate) fn short(name: &str) -> Mid
+    ensures { result ≡ beginning_of 16 name.now }
+{
+    Mid::from(name)
 }
 
 /// The setup that a word says.

@@ -4,18 +4,24 @@
 mod attributes;
 mod bandwidth;
 mod candidate_line;
+mod ext_map;
 mod fields;
+mod fingerprint;
 mod fmtp;
+mod groups;
 mod header;
 mod heads;
 mod lines;
 mod media_attribute;
 mod offer;
 mod pairs;
+mod parts;
 mod reader;
 mod rtp_map;
 mod section;
 mod session_attribute;
+mod sources;
+mod words;
 
 pub use offer::{SdpAnswer, SdpOffer};
 pub use reader::{
@@ -23,8 +29,9 @@ pub use reader::{
 };
 pub use str0m_formats::{Codec, CodecSpec, FormatParam, FormatParams};
 pub use str0m_sdp::{
-    Bandwidth, MediaAttribute, MediaLine, MediaType, Proto, RtpMap, Sdp, SdpError, Session,
-    SessionAttribute, Setup,
+    Bandwidth, MediaAttribute, MediaLine, MediaType, Msid, Proto, RestrictionId, RtpMap, Sdp,
+    SdpError, Session, SessionAttribute, Setup, Simulcast, SimulcastGroups, SimulcastLayer, Word,
+    is_no_stream,
 };
 pub use str0m_values::{
     Candidate, CandidateKind, Direction, Extension, Fingerprint, FingerprintError, FingerprintFmt,

@@ -2,30 +2,102 @@
 
 ghost use Rattle.std.specs.Prelude.{◌≡◌, IfOk};
 ghost use Rattle.str0m_signal.specs.SessionAttribute.{IsSessionLine};
-ghost use Rattle.str0m_signal.specs.SessionAttributeReading.{named_read, session_read};
+ghost use Rattle.str0m_signal.specs.SessionAttributeReading.{words_read, setup_read, texts_read, candidate_form_read, fingerprint_form_read, named_read, session_read};
 ghost use Rattle.str0m_signal.specs.Chains.{Run};
 ghost use Rattle.str0m_signal.specs.Lines.{OneLine};
 ghost use Rattle.str0m_signal.specs.LineReading.{lines_of};
 
 use crate::attributes::{Attribute, attribute_run};
-use crate::fields::role;
+use crate::fields::{kept, role};
+use crate::fingerprint::fingerprint;
+use crate::groups::{group, msid_semantic};
 use std::alloc::{AllocError, Global};
 use str0m_sdp::SessionAttribute;
+use str0m_values::candidate_text::candidate;
 use str0m_values::cuts::strip;
 use str0m_values::{Items, Text};
 
-fn named(text: &str) -> Option<SessionAttribute>
-    ensures { result ≡ named_read text.now }
+/// The attributes that are a word alone.
+fn word(text: &str) -> Option<SessionAttribute>
+    ensures { result ≡ words_read text.now }
+{
+    match text {
+        "ice-lite" => Some(SessionAttribute::IceLite),
+        "end-of-candidates" => Some(SessionAttribute::EndOfCandidates),
+        _ => None,
+    }
+}
+
+fn setup(text: &str) -> Option<SessionAttribute>
+    ensures { result ≡ setup_read text.now }
 {
     let word = strip(text, "setup:")?;
     Some(SessionAttribute::Setup(role(word)?))
+}
+
+/// The attributes that are a label and a text.
+fn labelled_text(alloc: Global, text: &str) -> Result<Option<SessionAttribute>, AllocError>
+    ensures { IfOk result (λ found. found ≡ texts_read text.now) }
+{
+    if let Some(value) = kept(alloc, text, "ice-ufrag:")? {
+        return Ok(Some(SessionAttribute::IceUfrag(value)));
+    }
+    if let Some(value) = kept(alloc, text, "ice-pwd:")? {
+        return Ok(Some(SessionAttribute::IcePwd(value)));
+    }
+    if let Some(value) = kept(alloc, text, "ice-options:")? {
+        return Ok(Some(SessionAttribute::IceOptions(value)));
+    }
+    Ok(None)
+}
+
+fn fingerprint_form(alloc: Global, text: &str) -> Result<Option<SessionAttribute>, AllocError>
+    ensures { IfOk result (λ found. found ≡ fingerprint_form_read text.now) }
+{
+    match fingerprint(alloc, text)? {
+        Some(hash) => Ok(Some(SessionAttribute::Fingerprint(hash))),
+        None => Ok(None),
+    }
+}
+
+fn candidate_form(alloc: Global, text: &str) -> Result<Option<SessionAttribute>, AllocError>
+    ensures { IfOk result (λ found. found ≡ candidate_form_read text.now) }
+{
+    match candidate(alloc, text)? {
+        Some(candidate) => Ok(Some(SessionAttribute::Candidate(candidate))),
+        None => Ok(None),
+    }
+}
+
+fn named(alloc: Global, text: &str) -> Result<Option<SessionAttribute>, AllocError>
+    ensures { IfOk result (λ found. found ≡ named_read text.now) }
+{
+    if let Some(found) = word(text) {
+        return Ok(Some(found));
+    }
+    if let Some(found) = setup(text) {
+        return Ok(Some(found));
+    }
+    if let Some(found) = group(alloc, text)? {
+        return Ok(Some(found));
+    }
+    if let Some(found) = msid_semantic(alloc, text)? {
+        return Ok(Some(found));
+    }
+    if let Some(found) = labelled_text(alloc, text)? {
+        return Ok(Some(found));
+    }
+    if let Some(found) = fingerprint_form(alloc, text)? {
+        return Ok(Some(found));
+    }
+    candidate_form(alloc, text)
 }
 
 impl Attribute for SessionAttribute {
     ghost reading = { session_read };
 
     fn read(alloc: Global, text: &str) -> Result<Option<SessionAttribute>, AllocError> {
-        if let Some(found) = named(text) {
+        if let Some(found) = named(alloc, text)? {
             return Ok(Some(found));
         }
         if text.is_empty() {

@@ -1,0 +1,6 @@
+use Rattle.std.proofs.Common.{rules}
+use Rattle.str0m_sdp.proofs.Copies.{attribute_copied}
+use Rattle.str0m_sdp.proofs.attribute.MediaAttribute.clone.Goals as goal
+
+pub returns : goal.returns
+returns c = search (rules, attribute_copied)

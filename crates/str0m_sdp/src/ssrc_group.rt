@@ -1,0 +1,38 @@
+//! The lines of groups of sources.
+ghost use Rattle.std.specs.Prelude.{Some, refl};
+ghost use Rattle.std.specs.Fmt.{decimal};
+ghost use Rattle.str0m_sdp.specs.SsrcGroup.{ssrc_group_text};
+
+use crate::printed::{Joined, Printed};
+use std::fmt;
+use str0m_values::{Ssrc, Text};
+
+impl Printed for Ssrc {
+    ghost text = { decimal };
+
+    ghost prints = { λ _. refl };
+}
+
+/// The `a=ssrc-group` line, with its end (RFC 5576, section 4.2); nothing without sources.
+#[derive(Drop)]
+pub(crate) struct SsrcGroupLine<'a> {
+    pub(crate) semantics: &'a Text,
+    pub(crate) ssrcs: &'a [Ssrc],
+}
+
+impl<'a> fmt::Display for SsrcGroupLine<'a> {
+    ghost output = { λ line. Some (ssrc_group_text line.semantics.now line.ssrcs.now) };
+
+    fn fmt<W: fmt::Write>(&self, f: &mut fmt::Formatter<W>) -> fmt::Result {
+        let semantics = self.semantics;
+        let items = self.ssrcs;
+        if items.is_empty() {
+            return Ok(());
+        }
+        let sources = Joined {
+            items,
+            separator: " ",
+        };
+        write!(f, "a=ssrc-group:{semantics} {sources}\r\n")
+    }
+}

@@ -1,0 +1,67 @@
+-- The pieces that forms share are read both ways.
+use Rattle.std.proofs.Common.{◌≡◌, ℕ, List, [], ◌∷◌, ◌++◌, length, Option, Some, None, refl, sym, ap, ◌∙◌, inl, inr, append-nil}
+use Rattle.std.proofs.lemmas.Bool.{ltb-true}
+use Rattle.str0m_values.specs.Cuts.{◌>>=◌, cut, strip, when, is_rest, num}
+use Rattle.str0m_values.specs.Parts.{IsNum}
+use Rattle.str0m_values.proofs.BothWays.{Sound, Reads, bind_some, some_is}
+use Rattle.str0m_values.proofs.CutLaws.{cut_none, cut_none_lacks, cut_at, cut_found, strip_at, strip_found}
+use Rattle.str0m_values.proofs.NumLaws.{when_some, when_true, num_found, num_reads, rest_true}
+use Rattle.str0m_signal.specs.Forms.{Behind, IsText, Two, Tailed}
+use Rattle.str0m_signal.specs.FormReading.{behind, text_read, two_read, tail_after, tailed_read}
+
+pub text_both : Reads IsText text_read
+text_both = record {
+  sound = λ text x e. let w = when_some (is_rest text) text x e in (ltb-true 0 (length text) w.0, sym w.1);
+  complete = λ text x h. when_true (is_rest text) text (rest_true text h.0) ∙ ap (λ (t : List ℕ). Some t) (sym h.1);
+}
+
+pub num_both : (limit : ℕ) → Reads (IsNum limit) (num limit)
+num_both limit = record { sound = num_found limit; complete = num_reads limit }
+
+pub behind_both : {A : Type 0} {F : List ℕ → A → Type 0} {f : List ℕ → Option A} (label : List ℕ) → Reads F f → Reads (Behind label F) (behind label f)
+behind_both {f} label reads = record {
+  sound = λ text x e. let a = bind_some (strip label text) f x e in (a.0, strip_found label text a.0 a.1, reads.sound a.0 x a.2);
+  complete = λ text x h. ap (behind label f) h.1 ∙ ap (λ (o : Option (List ℕ)). o >>= f) (strip_at label h.0) ∙ reads.complete h.0 x h.2;
+}
+
+-- what is read of a text makes a value that the text stands for
+pub form_sound : {A B : Type 0} {F : List ℕ → A → Type 0} {f : List ℕ → Option A} {G : List ℕ → B → Type 0} (make : A → B) → Reads F f → ((text : List ℕ) (x : A) → F text x → G text (make x)) → Sound G (λ text. f text >>= λ x. Some (make x))
+form_sound {A} {B} {F} {f} {G} make reads stands = record {
+  law = λ text y e.
+      let a = bind_some (f text) (λ x. Some (make x)) y e in
+      rw (← some_is (make a.0) y a.2) (stands text a.0 (reads.sound text a.0 a.1));
+}
+
+pub two_both : {A B : Type 0} {F : List ℕ → A → Type 0} {G : List ℕ → B → Type 0} {f : List ℕ → Option A} {g : List ℕ → Option B} (c : ℕ) → Reads F f → Reads G g → Reads (Two c F G) (two_read c f g)
+two_both {A} {B} {F} {G} {f} {g} c first second = record {
+  sound = λ text x e.
+      let p = bind_some (cut c text) (λ parts. f parts.0 >>= λ a. g parts.1 >>= λ b. Some (a, b)) x e in
+      let a = bind_some (f p.0.0) (λ a. g p.0.1 >>= λ b. Some (a, b)) x p.2 in
+      let b = bind_some (g p.0.1) (λ b. Some (a.0, b)) x a.2 in
+      let found = cut_found c text p.0.0 p.0.1 p.1 in
+      rw (← some_is (a.0, b.0) x b.2) (p.0.0, p.0.1, found.0, found.1, first.sound p.0.0 a.0 a.1, second.sound p.0.1 b.0 b.1);
+  complete = λ text x h.
+      ap (two_read c f g) h.2 ∙ rw (cut_at c h.0 h.1 h.3, first.complete h.0 x.0 h.4, second.complete h.1 x.1 h.5) refl;
+}
+
+pub tailed_both : {A : Type 0} {F : List ℕ → A → Type 0} {f : List ℕ → Option A} (c : ℕ) → Reads F f → Reads (Tailed c F) (tailed_read c f)
+tailed_both {A} {F} {f} c reads = record { sound = λ text x e. found text x (cut c text) refl e; complete = given }
+  where
+    found : (text : List ℕ) (x : A) (o : Option (List ℕ × List ℕ)) → cut c text ≡ o → tail_after f text o ≡ Some x → Tailed c F text x
+    found text x None cut-is e = (text, [], sym (append-nil text), cut_none_lacks c text cut-is, reads.sound text x e, inl refl)
+    found text x (Some p) cut-is e =
+        let a = bind_some (f p.0) (λ v. when (is_rest p.1) v) x e in
+        let w = when_some (is_rest p.1) a.0 x a.2 in
+        let cut-found = cut_found c text p.0 p.1 cut-is in
+        rw (← w.1) (p.0, c ∷ p.1, cut-found.0, cut-found.1, reads.sound p.0 a.0 a.1, inr (p.1, refl, ltb-true 0 (length p.1) w.0))
+
+    given : (text : List ℕ) (x : A) → Tailed c F text x → tailed_read c f text ≡ Some x
+    given text x h =
+        elim h.5 [
+          | inl none ↦
+              let whole : text ≡ h.0 = h.2 ∙ ap (λ (t : List ℕ). h.0 ++ t) none ∙ append-nil h.0 in
+              ap (tailed_read c f) whole ∙ rw (cut_none c h.0 h.3) (reads.complete h.0 x h.4)
+          | inr tail ↦
+              let whole : text ≡ h.0 ++ (c ∷ tail.0) = h.2 ∙ ap (λ (t : List ℕ). h.0 ++ t) tail.1 in
+              ap (tailed_read c f) whole ∙ rw (cut_at c h.0 tail.0 h.3, reads.complete h.0 x h.4, rest_true tail.0 tail.2) refl
+        ]

@@ -1,0 +1,6 @@
+use Rattle.std.proofs.Common.{◌∙◌, refl}
+use Rattle.str0m_values.proofs.NumLaws.{parsed_whole}
+use Rattle.str0m_signal.proofs.fields.num_u64.Goals as goal
+
+pub returns : goal.returns
+returns c = c.ok.ensures.value ∙ parsed_whole 64 18446744073709551615 c.args.text.now c.parse.result c.parse.ensures.value.0 refl

@@ -1,0 +1,58 @@
+//! Lines of header extensions.
+ghost use Rattle.std.specs.Prelude.{◌≡◌, IfOk, option_map};
+ghost use Rattle.str0m_values.specs.Cuts.{num};
+ghost use Rattle.str0m_signal.specs.FormReading.{text_read, tailed_read};
+ghost use Rattle.str0m_signal.specs.FieldsReading.{ext_map_read};
+
+use std::alloc::{AllocError, Global};
+use str0m_sdp::MediaAttribute;
+use str0m_values::Extension;
+use str0m_values::cuts::{cut, num_u8, strip};
+
+/// The number of the extension; a direction may stand behind it.
+fn id(text: &str) -> Option<u8>
+    ensures { result ≡ tailed_read 47 (num 255) text.now }
+{
+    match cut(text, '/') {
+        None => num_u8(text, 255),
+        Some((number, direction)) => {
+            let id = num_u8(number, 255)?;
+            if direction.is_empty() { None } else { Some(id) }
+        }
+    }
+}
+
+/// The URI; more may stand behind it.
+fn uri(text: &str) -> Option<&str>
+    ensures { option_map (λ x. x.now) result ≡ tailed_read 32 text_read text.now }
+{
+    match cut(text, ' ') {
+        None => { if text.is_empty() { None } else { Some(text) } }
+        Some((uri, more)) => {
+            if uri.is_empty() {
+                return None;
+            }
+            if more.is_empty() { None } else { Some(uri) }
+        }
+    }
+}
+
+/// The extmap line of the text behind `a=`.
+pub(crate) fn ext_map(alloc: Global, text: &str) -> Result<Option<MediaAttribute>, AllocError>
+    ensures { IfOk result (λ found. found ≡ ext_map_read text.now) }
+{
+    let Some(body) = strip(text, "extmap:") else {
+        return Ok(None);
+    };
+    let Some((number, rest)) = cut(body, ' ') else {
+        return Ok(None);
+    };
+    let Some(id) = id(number) else {
+        return Ok(None);
+    };
+    let Some(uri) = uri(rest) else {
+        return Ok(None);
+    };
+    let ext = Extension::from_sdp_uri(alloc, uri)?;
+    Ok(Some(MediaAttribute::ExtMap { id, ext }))
+}

@@ -1,0 +1,28 @@
+//! Lines with the fingerprint of a certificate.
+ghost use Rattle.std.specs.Prelude.{◌≡◌, IfOk};
+ghost use Rattle.str0m_signal.specs.FieldsReading.{fingerprint_read};
+
+use crate::parts::parts;
+use std::alloc::{AllocError, Global};
+use str0m_values::cuts::{cut, strip};
+use str0m_values::{Fingerprint, Text};
+
+/// The fingerprint of the text behind `a=`.
+pub(crate) fn fingerprint(alloc: Global, text: &str) -> Result<Option<Fingerprint>, AllocError>
+    ensures { IfOk result (λ found. found ≡ fingerprint_read text.now) }
+{
+    let Some(body) = strip(text, "fingerprint:") else {
+        return Ok(None);
+    };
+    let Some((name, pairs)) = cut(body, ' ') else {
+        return Ok(None);
+    };
+    if name.is_empty() {
+        return Ok(None);
+    }
+    let Some(bytes) = parts(alloc, pairs, ':')? else {
+        return Ok(None);
+    };
+    let hash_func = Text::from_str(alloc, name)?;
+    Ok(Some(Fingerprint { hash_func, bytes }))
+}

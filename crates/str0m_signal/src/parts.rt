@@ -1,0 +1,75 @@
+//! Lists whose items have a character between them.
+ghost use Rattle.std.specs.Prelude.{◌≡◌, ◌<◌, ℕ, List, Option, IfOk, is_some};
+ghost use Rattle.str0m_signal.specs.FormReading.{parted_read};
+
+use std::alloc::{AllocError, Global};
+use str0m_values::Items;
+use str0m_values::cuts::cut;
+
+/// What one item of a list stands for.
+pub(crate) trait Part: Drop {
+    /// Which item a text is.
+    ghost reading: { List ℕ → Option Self };
+
+    /// Whether the text is an item. Takes no memory.
+    fn is_part(text: &str) -> bool
+        ensures { result ≡ is_some (reading text.now) };
+
+    /// The item of the text.
+    fn read(alloc: Global, text: &str) -> Result<Option<Self>, AllocError>
+    where
+        Self: Sized,
+        ensures { IfOk result (λ found. found ≡ reading text.now) };
+}
+
+/// Whether the text is items with `at` between each two.
+fn are_parts<T: Part>(text: &str, at: char) -> bool
+    requires { at < 128 }
+    ensures { result ≡ is_some (parted_read at T.reading text.now) }
+{
+    let mut rest = text;
+    while let Some((part, more)) = cut(rest, at) {
+        if !T::is_part(part) {
+            return false;
+        }
+        rest = more;
+    }
+    T::is_part(rest)
+}
+
+/// The items of the text. Memory is taken for those that stand before one that can't be read, too.
+fn read_parts<T: Part>(alloc: Global, text: &str, at: char) -> Result<Option<Items<T>>, AllocError>
+    requires { at < 128 }
+    ensures { IfOk result (λ found. found ≡ parted_read at T.reading text.now) }
+{
+    let mut parts = Vec::new(alloc);
+    let mut rest = text;
+    while let Some((part, more)) = cut(rest, at) {
+        let Some(value) = T::read(alloc, part)? else {
+            return Ok(None);
+        };
+        parts.push(value)?;
+        rest = more;
+    }
+    let Some(value) = T::read(alloc, rest)? else {
+        return Ok(None);
+    };
+    parts.push(value)?;
+    Ok(Some(Items::from(parts)))
+}
+
+/// The items of the text, with `at` between each two. Memory is asked for only where all are items.
+pub(crate) fn parts<T: Part>(
+    alloc: Global,
+    text: &str,
+    at: char,
+) -> Result<Option<Items<T>>, AllocError>
+    requires { at < 128 }
+    ensures { IfOk result (λ found. found ≡ parted_read at T.reading text.now) }
+{
+    if are_parts::<T>(text, at) {
+        read_parts(alloc, text, at)
+    } else {
+        Ok(None)
+    }
+}

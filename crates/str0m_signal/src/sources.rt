@@ -1,0 +1,112 @@
+//! Lines of streams, of sources and of feedback.
+ghost use Rattle.std.specs.Prelude.{◌≡◌, ◌<◌, IfOk};
+ghost use Rattle.str0m_values.specs.Cuts.{parts};
+ghost use Rattle.str0m_signal.specs.FormReading.{text_read, two_read};
+ghost use Rattle.str0m_signal.specs.FieldsReading.{msid_read, rtcp_fb_read, ssrc_read, ssrc_group_read};
+
+use crate::parts::parts;
+use std::alloc::{AllocError, Global};
+use str0m_sdp::{MediaAttribute, Msid};
+use str0m_values::cuts::{cut, num_u8, num_u32, strip};
+use str0m_values::{Pt, Ssrc, Text};
+
+/// The texts before and behind the first `at`, where neither is nothing.
+fn two_texts(text: &str, at: char) -> Option<(&str, &str)>
+    requires { at < 128 }
+    ensures { parts result ≡ two_read at text_read text_read text.now }
+{
+    let (first, second) = cut(text, at)?;
+    if first.is_empty() {
+        return None;
+    }
+    if second.is_empty() {
+        return None;
+    }
+    Some((first, second))
+}
+
+/// The msid line of the text behind `a=`.
+pub(crate) fn msid(alloc: Global, text: &str) -> Result<Option<MediaAttribute>, AllocError>
+    ensures { IfOk result (λ found. found ≡ msid_read text.now) }
+{
+    let Some(body) = strip(text, "msid:") else {
+        return Ok(None);
+    };
+    let Some((stream, track)) = two_texts(body, ' ') else {
+        return Ok(None);
+    };
+    let stream_id = Text::from_str(alloc, stream)?;
+    let track_id = Text::from_str(alloc, track)?;
+    Ok(Some(MediaAttribute::Msid(Msid {
+        stream_id,
+        track_id,
+    })))
+}
+
+/// The rtcp-fb line of the text behind `a=`.
+pub(crate) fn rtcp_fb(alloc: Global, text: &str) -> Result<Option<MediaAttribute>, AllocError>
+    ensures { IfOk result (λ found. found ≡ rtcp_fb_read text.now) }
+{
+    let Some(body) = strip(text, "rtcp-fb:") else {
+        return Ok(None);
+    };
+    let Some((number, value)) = cut(body, ' ') else {
+        return Ok(None);
+    };
+    let Some(pt) = num_u8(number, 127) else {
+        return Ok(None);
+    };
+    if value.is_empty() {
+        return Ok(None);
+    }
+    let value = Text::from_str(alloc, value)?;
+    Ok(Some(MediaAttribute::RtcpFb {
+        pt: Pt::new_with_value(pt),
+        value,
+    }))
+}
+
+/// The ssrc line of the text behind `a=`.
+pub(crate) fn ssrc(alloc: Global, text: &str) -> Result<Option<MediaAttribute>, AllocError>
+    ensures { IfOk result (λ found. found ≡ ssrc_read text.now) }
+{
+    let Some(body) = strip(text, "ssrc:") else {
+        return Ok(None);
+    };
+    let Some((number, more)) = cut(body, ' ') else {
+        return Ok(None);
+    };
+    let Some(ssrc) = num_u32(number) else {
+        return Ok(None);
+    };
+    let Some((attr, value)) = two_texts(more, ':') else {
+        return Ok(None);
+    };
+    let attr = Text::from_str(alloc, attr)?;
+    let value = Text::from_str(alloc, value)?;
+    Ok(Some(MediaAttribute::Ssrc {
+        ssrc: Ssrc::from(ssrc),
+        attr,
+        value,
+    }))
+}
+
+/// The ssrc-group line of the text behind `a=`.
+pub(crate) fn ssrc_group(alloc: Global, text: &str) -> Result<Option<MediaAttribute>, AllocError>
+    ensures { IfOk result (λ found. found ≡ ssrc_group_read text.now) }
+{
+    let Some(body) = strip(text, "ssrc-group:") else {
+        return Ok(None);
+    };
+    let Some((word, sources)) = cut(body, ' ') else {
+        return Ok(None);
+    };
+    if word.is_empty() {
+        return Ok(None);
+    }
+    let Some(ssrcs) = parts(alloc, sources, ' ')? else {
+        return Ok(None);
+    };
+    let semantics = Text::from_str(alloc, word)?;
+    Ok(Some(MediaAttribute::SsrcGroup { semantics, ssrcs }))
+}

@@ -1,0 +1,107 @@
+//! The items of lists.
+ghost use Rattle.std.specs.Prelude.{◌≡◌};
+ghost use Rattle.str0m_values.specs.Cuts.{num};
+ghost use Rattle.str0m_signal.specs.WordsReading.{word_read, name_read, digit_read, hex_pair_read, without_space};
+
+use crate::fields::short;
+use crate::parts::Part;
+use std::alloc::{AllocError, Global};
+use str0m_values::cuts::{has, num_u32};
+use str0m_values::{Mid, Ssrc, Text};
+
+/// A word.
+impl Part for Text {
+    ghost reading = { word_read };
+
+    fn is_part(text: &str) -> bool {
+        if has(text, ' ') {
+            return false;
+        }
+        !text.is_empty()
+    }
+
+    fn read(alloc: Global, text: &str) -> Result<Option<Text>, AllocError> {
+        if has(text, ' ') {
+            return Ok(None);
+        }
+        if text.is_empty() {
+            return Ok(None);
+        }
+        Ok(Some(Text::from_str(alloc, text)?))
+    }
+}
+
+/// A word, as far as it is kept.
+impl Part for Mid {
+    ghost reading = { name_read };
+
+    fn is_part(text: &str) -> bool {
+        if has(text, ' ') {
+            return false;
+        }
+        !text.is_empty()
+    }
+
+    fn read(_alloc: Global, text: &str) -> Result<Option<Mid>, AllocError> {
+        if has(text, ' ') {
+            return Ok(None);
+        }
+        if text.is_empty() {
+            return Ok(None);
+        }
+        Ok(Some(short(text)))
+    }
+}
+
+/// A number of 32 bits.
+impl Part for Ssrc {
+    ghost reading = { num 4294967295 };
+
+    fn is_part(text: &str) -> bool {
+        num_u32(text).is_some()
+    }
+
+    fn read(_alloc: Global, text: &str) -> Result<Option<Ssrc>, AllocError> {
+        match num_u32(text) {
+            Some(number) => Ok(Some(Ssrc::from(number))),
+            None => Ok(None),
+        }
+    }
+}
+
+fn digit(byte: u8) -> Option<u32>
+    ensures { result ≡ digit_read byte }
+{
+    char::from(byte).to_digit(16)
+}
+
+fn hex_pair(text: &str) -> Option<u8>
+    ensures { result ≡ hex_pair_read text.now }
+{
+    let [high, low] = text.as_bytes() else {
+        return None;
+    };
+    let first = digit(*high)?;
+    let second = digit(*low)?;
+    Some((first * 16 + second) as u8)
+}
+
+/// A byte as two hexadecimal digits.
+impl Part for u8 {
+    ghost reading = { hex_pair_read };
+
+    fn is_part(text: &str) -> bool {
+        hex_pair(text).is_some()
+    }
+
+    fn read(_alloc: Global, text: &str) -> Result<Option<u8>, AllocError> {
+        Ok(hex_pair(text))
+    }
+}
+
+/// The text without the space at its end.
+pub(crate) fn without_space(text: &str) -> &str
+    ensures { result.now ≡ without_space text.now }
+{
+    text.strip_suffix(' ').unwrap_or(text)
+}
