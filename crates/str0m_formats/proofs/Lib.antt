@@ -1,4 +1,5 @@
 pub mod CodecNames
+pub mod Joined
 pub mod LineLaws
 pub mod Listed
 pub mod Lookup
@@ -7,7 +8,11 @@ pub mod Only
 pub mod PairsLaws
 pub mod ParamLaws
 pub mod ParamReadingLaws
+pub mod Plain
 pub mod Printed
+pub mod PrintedLine
 pub mod RoundTrip
+pub mod Rows
 pub mod SetAll
+pub mod Shown
 pub mod TripleLaws

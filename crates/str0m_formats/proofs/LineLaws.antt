@@ -1,19 +1,17 @@
 -- What the loops over lines keep.
-use Rattle.std.proofs.Common.{◌≡◌, ◌<◌, ◌+◌, ◌||◌, ℕ, Bool, true, false, not, List, [], ◌∷◌, ◌++◌, length, get_or, take, map, filter, Option, Some, None, refl, sym, ap, subst, ◌∙◌}
-use Rattle.std.specs.List.{AllZip, cons_option, filter_map, list_any, fold}
+use Rattle.std.proofs.Common.{◌≡◌, ◌<◌, ◌+◌, ◌||◌, ℕ, Bool, List, [], ◌∷◌, ◌++◌, length, get_or, take, Option, Some, None, refl, sym, ap, subst, ◌∙◌}
+use Rattle.std.specs.List.{AllZip, cons_option, list_any}
 use Rattle.std.specs.Borrow.{Bor}
 use Rattle.std.proofs.lemmas.List.{take_more, append_assoc, append-nil, map-append}
-use Rattle.std.proofs.lemmas.List.Elements.{filter_map-append, filter-append}
+use Rattle.std.proofs.lemmas.List.Elements.{filter_map-append}
 use Rattle.str0m_formats.specs.declared.codec.Codec.TheVariants.{AmrWb}
 use Rattle.str0m_formats.specs.declared.format_param.FormatParam.{FormatParam}
 use Rattle.str0m_formats.specs.declared.format_params.FormatParams.{FormatParams}
-use Rattle.std.specs.Str.{trim}
 use Rattle.indexmap.proofs.SetLemmas.{AllZip-push}
-use Rattle.str0m_values.specs.Cuts.{lacks, when}
 use Rattle.str0m_formats.specs.FormatParam.{IsBare, pair_texts}
 use Rattle.str0m_formats.specs.Pairs.{AreRead}
 use Rattle.str0m_formats.specs.FormatParams.{empty, set, set_all}
-use Rattle.str0m_formats.specs.FormatLine.{pair_in, bare_in, pairs_in, bares_in, pieces, IsFormatOfBares, IsFormatOfLine, is_events, is_unsupported, is_refused, kept, values_of, line_values}
+use Rattle.str0m_formats.specs.FormatLine.{pair_in, bare_in, pairs_in, bares_in, pieces, IsFormatOfBares, IsFormatOfLine, is_unsupported, is_refused, kept, values_of, line_values}
 
 pub set_all-append : (xs ys : List FormatParam) (p : FormatParams) → set_all p (xs ++ ys) ≡ set_all (set_all p xs) ys
 set_all-append [] ys p = refl

@@ -4,7 +4,7 @@ use Rattle.std.specs.List.{join_with_byte, filter_map, cons_option}
 use Rattle.std.proofs.lemmas.List.{append_assoc, append-nil, take_more}
 use Rattle.std.proofs.lemmas.List.Elements.{filter_map-append}
 use Rattle.str0m_formats.specs.FormatParam.{param_text}
-use Rattle.str0m_formats.specs.FormatParams.{param_at, fields, semicolon_if, params_text, params_of}
+use Rattle.str0m_formats.specs.FormatParams.{param_at, semicolon_if, params_text, params_of}
 use Rattle.str0m_formats.specs.declared.format_param.FormatParam.{FormatParam}
 use Rattle.str0m_formats.specs.declared.format_params.Field.{Field}
 use Rattle.str0m_formats.specs.declared.format_params.TheConstants.{FIELDS}

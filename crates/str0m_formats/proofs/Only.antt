@@ -1,5 +1,5 @@
 -- Readings that answer an Option.
-use Rattle.std.proofs.Common.{◌≡◌, Option, Some, None, IfSome, refl, sym, ◌∙◌}
+use Rattle.std.proofs.Common.{◌≡◌, Option, Some, None, IfSome, refl, sym}
 use Rattle.std.specs.Prelude.{option_map}
 use Rattle.str0m_values.specs.Only.{IsTheOnly}
 

@@ -1,7 +1,7 @@
 -- Numbers behind keys are read both ways.
-use Rattle.std.proofs.Common.{◌≡◌, ◌≤◌, ℕ, Bool, true, ◌&&◌, leb, ltb, List, [], ◌∷◌, length, Option, Some, refl, ap, ◌∙◌, arith}
+use Rattle.std.proofs.Common.{◌≡◌, ◌≤◌, ℕ, true, ◌&&◌, leb, ltb, List, [], ◌∷◌, length, Option, Some, refl, ap, ◌∙◌}
 use Rattle.std.specs.Char.{digit_value}
-use Rattle.std.specs.Str.Parse.{IsNumeral, AllDigits, digits_value, without_leading_plus}
+use Rattle.std.specs.Str.Parse.{AllDigits, digits_value, without_leading_plus}
 use Rattle.std.proofs.lemmas.Bool.{ltb-true, lt-ltb, le-leb, leb-true, and_parts, and_from}
 use Rattle.str0m_values.specs.Only.{IsTheOnly}
 use Rattle.str0m_values.specs.Parts.{IsNumber, IsNum}

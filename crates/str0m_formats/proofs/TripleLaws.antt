@@ -1,13 +1,12 @@
 -- The triple of three values is read both ways.
-use Rattle.std.proofs.Common.{◌≡◌, ◌==◌, ℕ, Bool, true, List, [], ◌∷◌, Option, Some, None, IfSome, refl, sym, ap, subst, ◌∙◌, inl, inr}
+use Rattle.std.proofs.Common.{◌≡◌, ◌==◌, ℕ, true, List, [], ◌∷◌, Option, Some, None, IfSome, refl, sym, ap, subst, ◌∙◌}
 use Rattle.std.specs.List.{list_all}
-use Rattle.std.specs.Prelude.{option_map, find}
+use Rattle.std.specs.Prelude.{option_map}
 use Rattle.std.specs.Borrow.{Bor}
 use Rattle.std.proofs.lemmas.Bool.{eqb-true}
 use Rattle.str0m_values.specs.Only.{IsTheOnly}
 use Rattle.str0m_values.specs.Parts.{IsNumOr}
-use Rattle.str0m_values.specs.Fits.{FirstFit}
-use Rattle.str0m_values.specs.Cuts.{◌>>=◌, ◌<|>◌, num}
+use Rattle.str0m_values.specs.Cuts.{◌>>=◌, ◌<|>◌}
 use Rattle.str0m_values.specs.H265 as h265
 use Rattle.str0m_values.specs.H266 as h266
 use Rattle.str0m_values.specs.declared.h265.H265Profile.{H265Profile}
@@ -29,7 +28,7 @@ use Rattle.str0m_values.proofs.OnlyLaws.{only_read}
 use Rattle.str0m_values.proofs.BothWays.{Reads, bind_some, some_is, reads_first}
 use Rattle.str0m_formats.specs.declared.format_param.FormatParam.{FormatParam}
 use Rattle.str0m_formats.specs.declared.format_param.FormatParam.TheVariants.{H265ProfileTierLevel, H266ProfileTierLevel}
-use Rattle.str0m_formats.specs.Triple.{Texts, IsGiven, IsH265, IsH266, IsH265Param, IsH266Param, IsNoParam, IsTripleParam}
+use Rattle.str0m_formats.specs.Triple.{Texts, IsGiven, IsH265, IsH266, IsNoParam, IsTripleParam}
 use Rattle.str0m_formats.specs.PairsReading.{profiles5, tiers5, levels5, profiles6, tiers6, levels6, row_of, given_read, row_read, lay, h265_read, h266_read, triple_read}
 use Rattle.str0m_formats.proofs.Lookup.{find_passes, if_some_map}
 use Rattle.str0m_formats.proofs.Only.{only_same}
@@ -85,7 +84,7 @@ own_tier5 : (a : H265Tier) → row_of h265.tier_flag tiers5 (h265.tier_flag a) �
 own_tier5 tier5.Main = refl
 own_tier5 tier5.High = refl
 
-own_level5 : (a : H265Level) → row_of h265.level_id levels5 (h265.level_id a) ≡ Some a
+pub own_level5 : (a : H265Level) → row_of h265.level_id levels5 (h265.level_id a) ≡ Some a
 own_level5 level5.L1 = refl
 own_level5 level5.L2 = refl
 own_level5 level5.L2_1 = refl

@@ -1,5 +1,5 @@
 -- Formats: which field each parameter sets, and in which order the fields print.
-use Rattle.std.specs.Prelude.{◌≡◌, ◌⊎◌, ◌≤◌, ◌<◌, ℕ, Bool, true, false, codes, List, [], ◌∷◌, map, All, Option, Some, None, IsSome, IfSome, MatchOption, option_map, filter_map}
+use Rattle.std.specs.Prelude.{◌≡◌, ◌⊎◌, ◌≤◌, ℕ, Bool, true, false, codes, List, [], ◌∷◌, map, Option, Some, None, IfSome, MatchOption, option_map, filter_map}
 use Rattle.std.specs.List.{join_with_byte, fold}
 use Rattle.str0m_formats.specs.FormatParam.{InRange, entry, param_text}
 use Rattle.str0m_formats.specs.declared.format_param.FormatParam.{FormatParam}
@@ -85,9 +85,9 @@ abbrev pub IsWithin : FormatParam → Type 0
 IsWithin (TelephoneEvents n) = n ≤ 255
 IsWithin param = MatchOption (entry param) (Unit {0}) (λ e. InRange e.1)
 
--- the format reads back as it prints: its values do, modes 1 to 511 and the distance up to 32767 among them, and it
--- holds one profile, tier and level at most, and no `profile-id` beside it
+-- the format reads back as it prints: the values of its fields do, modes 1 to 511 and the distance up to 32767 among
+-- them, and it holds one profile, tier and level at most, and no `profile-id` beside it
 pub record CanBeReadBack (p : FormatParams) : Type 0 where
-  pub values : All IsWithin (params_of p)
+  pub values : (f : Field) → IfSome (param_at f p) IsWithin
   pub triples : (p.h265_profile_tier_level ≡ None) ⊎ (p.h266_profile_tier_level ≡ None)
   pub profile : (p.profile_id ≡ None) ⊎ ((p.h265_profile_tier_level ≡ None) × (p.h266_profile_tier_level ≡ None))

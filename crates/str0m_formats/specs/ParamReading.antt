@@ -1,5 +1,5 @@
 -- Reading of keys and values as functions.
-use Rattle.std.specs.Prelude.{ℕ, ◌==◌, ◌^◌, ◌&&◌, Bool, true, List, [], ◌∷◌, Option, Some, None, codes, option_map, unwrap_or, find, nat_le, nat_lt, if◌then◌else◌}
+use Rattle.std.specs.Prelude.{ℕ, ◌==◌, ◌^◌, ◌&&◌, Bool, true, List, [], ◌∷◌, Option, Some, None, codes, option_map, unwrap_or, find, nat_le, nat_lt}
 use Rattle.std.specs.Char.{digit_value}
 use Rattle.std.specs.Int.Bits.{bit_or}
 use Rattle.std.specs.List.{slice_split}

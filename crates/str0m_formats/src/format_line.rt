@@ -2,9 +2,10 @@
 ghost use Rattle.std.specs.Prelude.{◌≡◌, ◌∷◌, [], IfOk, option_map};
 ghost use Rattle.std.specs.List.{list_any};
 ghost use Rattle.str0m_formats.specs.FormatParam.{pair_texts};
-ghost use Rattle.str0m_formats.specs.FormatParams.{empty, set_all};
+ghost use Rattle.str0m_formats.specs.FormatParams.{empty, set_all, params_text, CanBeReadBack};
 ghost use Rattle.str0m_formats.specs.FormatLine.{pieces, pair_in, bare_in, pairs_in, IsFormatOfLine, IsFormatOfBares, is_events, is_unsupported, events_end, is_refused, kept, values_of, format_of_fmtp, line_values};
 ghost use Rattle.str0m_formats.specs.declared.codec.Codec.TheVariants.{AmrWb};
+ghost use Rattle.str0m_formats.specs.declared.format_params.FormatParams.{FormatParams};
 
 use crate::codec::Codec;
 use crate::format_param::FormatParam;
@@ -56,6 +57,17 @@ fn bares_in(line: &str) -> FormatParams
     format
 }
 
+/// The format that a line says.
+fn format_in(alloc: Global, line: &str) -> Result<FormatParams, AllocError>
+    ensures { IfOk result (IsFormatOfLine line.now) }
+{
+    let pairs = pairs_in(alloc, line)?;
+    let params = FormatParam::parse_pairs(alloc, pairs.as_slice())?;
+    let mut format = bares_in(line);
+    format.set_all(params.as_slice());
+    Ok(format)
+}
+
 impl FormatParams {
     fn set_all(&mut self, params: &[FormatParam])
         ensures { self.new ≡ set_all self.old params.now }
@@ -83,13 +95,13 @@ impl FormatParams {
     /// `=` say is set first, by `parse_telephone_events`; then what the pairs say, by
     /// `parse_pairs`. What doesn't read is passed over. The only error is that memory was refused.
     pub fn parse_line(alloc: Global, line: &str) -> Result<FormatParams, AllocError>
-        ensures { IfOk result (IsFormatOfLine line.now) }
+        ensures format { IfOk result (IsFormatOfLine line.now) }
+
+        // A format that can be read back, printed and read, is itself.
+        ensures itself { (params : FormatParams) → CanBeReadBack params → line.now ≡ params_text params →
+            IfOk result (λ format. format ≡ params) }
     {
-        let pairs = pairs_in(alloc, line)?;
-        let params = FormatParam::parse_pairs(alloc, pairs.as_slice())?;
-        let mut format = bares_in(line);
-        format.set_all(params.as_slice());
-        Ok(format)
+        format_in(alloc, line)
     }
 
     /// The highest telephone event where no line says it (RFC 4733, section 2.5.1.1).

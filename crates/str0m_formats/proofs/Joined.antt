@@ -1,0 +1,16 @@
+-- Texts that are joined by a byte, and cut there.
+use Rattle.std.proofs.Common.{◌≡◌, ◌==◌, ℕ, false, List, [], ◌∷◌, All, refl, ap, ◌∙◌}
+use Rattle.std.specs.List.{slice_split, join_with_byte}
+use Rattle.std.proofs.lemmas.List.Splits.{slice_split_none, slice_split_at}
+use Rattle.std.proofs.lemmas.Bool.{eq-eqb}
+
+-- no text holds the byte
+abbrev pub AreFreeOf : ℕ → List (List ℕ) → Type 0
+AreFreeOf c [] = Unit {0}
+AreFreeOf c (text ∷ texts) = All (λ b. (b == c) ≡ false) text × AreFreeOf c texts
+
+-- texts that are joined by a byte that none of them holds, and then cut there, are themselves
+pub slice_split-join : (c : ℕ) (text : List ℕ) (texts : List (List ℕ)) → AreFreeOf c (text ∷ texts) → slice_split (λ b. b == c) (join_with_byte c (text ∷ texts)) ≡ text ∷ texts
+slice_split-join c text [] free = slice_split_none (λ b. b == c) text free.0
+slice_split-join c text (next ∷ texts) free =
+    slice_split_at (λ b. b == c) text c (join_with_byte c (next ∷ texts)) free.0 (eq-eqb c c refl) ∙ ap (λ ps. text ∷ ps) (slice_split-join c next texts free.1)

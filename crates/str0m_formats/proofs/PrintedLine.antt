@@ -1,0 +1,391 @@
+-- A format that is printed, and read by its line, is itself.
+use Rattle.std.proofs.Common.{◌≡◌, ◌<◌, ◌≤◌, ◌⊎◌, inl, inr, ℕ, true, false, List, [], ◌∷◌, ◌++◌, length, drop, map, filter_map, Option, Some, None, IfSome, Result, Ok, Err, IfOk, option_map, refl, sym, ap, subst, ◌∙◌, arith}
+use Rattle.std.specs.Prelude.{codes}
+use Rattle.std.specs.Fmt.{decimal}
+use Rattle.std.specs.List.{AllByRecursion, AllZip, cons_option, join_with_byte, list_all}
+use Rattle.std.specs.Str.Parse.{digits_value}
+use Rattle.std.proofs.lemmas.Bool.{and_parts, false_from_ne_true}
+use Rattle.std.proofs.lemmas.Fmt.{decimal_is_IsNumeral}
+use Rattle.std.proofs.lemmas.List.{append_assoc, append-nil, map-append}
+use Rattle.std.proofs.lemmas.List.Elements.{filter_map-append}
+use Rattle.std.proofs.lemmas.Option.{none-some}
+use Rattle.str0m_values.specs.Parts.{Lacks}
+use Rattle.str0m_values.specs.Cuts.{before, front, lacks}
+use Rattle.str0m_values.specs.H265 as h265
+use Rattle.str0m_values.specs.H266 as h266
+use Rattle.str0m_values.specs.declared.h266.H266Level.{H266Level}
+use Rattle.str0m_values.specs.declared.h266.H266Level.TheVariants as level6
+use Rattle.str0m_values.specs.declared.h265.H265ProfileTierLevel.{H265ProfileTierLevel as h265_triple}
+use Rattle.str0m_values.specs.declared.h266.H266ProfileTierLevel.{H266ProfileTierLevel as h266_triple}
+use Rattle.str0m_values.proofs.CutLaws.{cut_at, cut_none, lacks_true, lacks_from}
+use Rattle.str0m_values.proofs.BothWays.{reads_none}
+use Rattle.str0m_formats.specs.declared.format_param.FormatParam.{FormatParam}
+use Rattle.str0m_formats.specs.declared.format_param.FormatParam.TheVariants.{H265ProfileTierLevel, H266ProfileTierLevel, TelephoneEvents, Unknown}
+use Rattle.str0m_formats.specs.declared.format_params.Field.{Field}
+use Rattle.str0m_formats.specs.declared.format_params.Field.TheVariants as field
+use Rattle.str0m_formats.specs.declared.format_params.FormatParams.{FormatParams}
+use Rattle.str0m_formats.specs.FormatParam.{IsBare, param_text}
+use Rattle.str0m_formats.specs.FormatParams.{empty, set, set_all, fields, param_at, params_of, params_text, IsWithin, CanBeReadBack}
+use Rattle.str0m_formats.specs.FormatLine.{pieces, pair_in, bare_in, pairs_in, bares_in, IsFormatOfLine}
+use Rattle.str0m_formats.specs.ParamReading.{param_of}
+use Rattle.str0m_formats.specs.Pairs.{has_mark, merged, others, texts_of}
+use Rattle.str0m_formats.specs.PairsReading.{levels5, row_of, h265_read, triple_read, joined_read, params_read}
+use Rattle.str0m_formats.specs.Triple.{Texts}
+use Rattle.str0m_formats.proofs.Joined.{AreFreeOf, slice_split-join}
+use Rattle.str0m_formats.proofs.LineLaws.{set_all-append}
+use Rattle.str0m_formats.proofs.PairsLaws.{pairs_read_only}
+use Rattle.str0m_formats.proofs.Plain.{IsPlain, plain_lacks, lacks_free, trim_plain}
+use Rattle.str0m_formats.proofs.RoundTrip.{decimal_reads}
+use Rattle.str0m_formats.proofs.Rows.{Rows, given, given-append, look, look_given, mark_given, others_given, merged_given}
+use Rattle.str0m_formats.proofs.SetAll.{part, all_done, set_each}
+use Rattle.str0m_formats.proofs.Shown.{rows_at, bares_at, joined_pair, pieces_at, IsPlainPair, IsShown, shows, is_single, reads, h265_small, h266_small}
+use Rattle.str0m_formats.proofs.TripleLaws.{own_level5, h265_both, h266_both}
+
+-- ---- lists of fields
+
+abbrev all_pieces : List Field → FormatParams → List (List ℕ)
+all_pieces [] p = []
+all_pieces (f ∷ fs) p = pieces_at f p ++ all_pieces fs p
+
+abbrev all_pairs : List Field → FormatParams → List (List ℕ × List ℕ)
+all_pairs [] p = []
+all_pairs (f ∷ fs) p = given (rows_at f p) ++ all_pairs fs p
+
+abbrev all_rows : List Field → FormatParams → Rows
+all_rows [] p = []
+all_rows (f ∷ fs) p = rows_at f p ++ all_rows fs p
+
+abbrev all_bares : List Field → FormatParams → List (List ℕ)
+all_bares [] p = []
+all_bares (f ∷ fs) p = bares_at f p ++ all_bares fs p
+
+pairs_rows : (fs : List Field) (p : FormatParams) → all_pairs fs p ≡ given (all_rows fs p)
+pairs_rows [] p = refl
+pairs_rows (f ∷ fs) p = ap (λ (t : List (List ℕ × List ℕ)). given (rows_at f p) ++ t) (pairs_rows fs p) ∙ sym (given-append (rows_at f p) (all_rows fs p))
+
+-- the values of all fields read back
+abbrev AllWithin : FormatParams → Type 0
+AllWithin p = (f : Field) → IfSome (param_at f p) IsWithin
+
+-- ---- the text is the pieces, joined
+
+abbrev joined : List (List ℕ) → List ℕ
+joined texts = join_with_byte 59 texts
+
+join_cons : (text : List ℕ) (texts : List (List ℕ)) → 0 < length texts → joined (text ∷ texts) ≡ text ++ (59 ∷ joined texts)
+join_cons text [] some = absurd (omega arith)
+join_cons text (next ∷ texts) some = refl
+
+join_append : (first : List ℕ) (more ys : List (List ℕ)) → 0 < length ys → joined ((first ∷ more) ++ ys) ≡ joined (first ∷ more) ++ (59 ∷ joined ys)
+join_append first [] ys some = join_cons first ys some
+join_append first (next ∷ more) ys some = ap (λ (t : List ℕ). first ++ (59 ∷ t)) (join_append next more ys some) ∙ sym (append_assoc first (59 ∷ joined (next ∷ more)) (59 ∷ joined ys))
+
+abbrev AreAlike : List (List ℕ) → List (List ℕ) → Type 0
+AreAlike texts pieces = ((texts ≡ []) × (pieces ≡ [])) ⊎ ((0 < length texts) × (0 < length pieces) × (joined texts ≡ joined pieces))
+
+alike_step : (o : Option FormatParam) (qs : List FormatParam) (own rest : List (List ℕ)) → IsShown o own → AreAlike (map param_text qs) rest → AreAlike (map param_text (cons_option o qs)) (own ++ rest)
+alike_step None qs own rest shown alike = rw shown alike
+alike_step (Some q) qs own rest shown alike =
+    rw shown.2 (elim alike [
+      | inl none ↦ inr (omega arith, omega arith, rw none.0 (shown.3 ∙ ap joined (sym (append-nil (shown.0 ∷ shown.1)) ∙ ap (λ (t : List (List ℕ)). (shown.0 ∷ shown.1) ++ t) (sym none.1))))
+      | inr some ↦ inr (
+        omega arith,
+        omega arith,
+        join_cons (param_text q) (map param_text qs) some.0 ∙ ap (λ (t : List ℕ). t ++ (59 ∷ joined (map param_text qs))) shown.3
+            ∙ ap (λ (t : List ℕ). joined (shown.0 ∷ shown.1) ++ (59 ∷ t)) some.2 ∙ sym (join_append shown.0 shown.1 rest some.1),
+      )
+    ])
+
+alike : (fs : List Field) (p : FormatParams) → AllWithin p → AreAlike (map param_text (filter_map (λ f. param_at f p) fs)) (all_pieces fs p)
+alike [] p h = inl (refl, refl)
+alike (f ∷ fs) p h = alike_step (param_at f p) (filter_map (λ f. param_at f p) fs) (pieces_at f p) (all_pieces fs p) (shows f p (h f)).shown (alike fs p h)
+
+-- ---- and is cut into them
+
+lacks_both : (c : ℕ) (xs ys : List ℕ) → Lacks c xs → Lacks c ys → Lacks c (xs ++ ys)
+lacks_both c [] ys h k = k
+lacks_both c (x ∷ xs) ys h k = (h.0, lacks_both c xs ys h.1 k)
+
+free_append : (xs ys : List (List ℕ)) → AreFreeOf 59 xs → AreFreeOf 59 ys → AreFreeOf 59 (xs ++ ys)
+free_append [] ys h k = k
+free_append (x ∷ xs) ys h k = (h.0, free_append xs ys h.1 k)
+
+free_pairs : (pairs : List (List ℕ × List ℕ)) → AllByRecursion IsPlainPair pairs → AreFreeOf 59 (map joined_pair pairs)
+free_pairs [] h = tt
+free_pairs (pair ∷ pairs) h = (lacks_free 59 (joined_pair pair) (lacks_both 59 pair.0 (61 ∷ pair.1) (plain_lacks 59 pair.0 refl h.0.0) ((λ e. absurd (omega (arith, e))), plain_lacks 59 pair.1 refl h.0.1)), free_pairs pairs h.1)
+
+free_bares : (texts : List (List ℕ)) → AllByRecursion IsPlain texts → AreFreeOf 59 texts
+free_bares [] h = tt
+free_bares (text ∷ texts) h = (lacks_free 59 text (plain_lacks 59 text refl h.0), free_bares texts h.1)
+
+free_pieces : (fs : List Field) (p : FormatParams) → AllWithin p → AreFreeOf 59 (all_pieces fs p)
+free_pieces [] p h = tt
+free_pieces (f ∷ fs) p h =
+    let own = shows f p (h f) in
+    free_append (pieces_at f p) (all_pieces fs p) (free_append (map joined_pair (given (rows_at f p))) (bares_at f p) (free_pairs (given (rows_at f p)) own.plain) (free_bares (bares_at f p) own.bare)) (free_pieces fs p h)
+
+cut_pieces : (texts : List (List ℕ)) (all : List (List ℕ)) → AreAlike texts all → AreFreeOf 59 all → (pieces (joined texts) ≡ all) ⊎ ((all ≡ []) × (pieces (joined texts) ≡ [] ∷ []))
+cut_pieces texts [] alike free = elim alike [ inl none ↦ inr (refl, rw none.0 refl) | inr some ↦ absurd (omega (arith, some.1)) ]
+cut_pieces texts (first ∷ more) alike free = elim alike [ inl none ↦ absurd cc | inr some ↦ inl (ap pieces some.2 ∙ slice_split-join 59 first more free) ]
+
+-- ---- keys and values of pieces
+
+pair_found : (pair : List ℕ × List ℕ) → IsPlainPair pair → pair_in (joined_pair pair) ≡ Some pair
+pair_found pair h =
+    let whole : before 61 pair.1 ≡ pair.1 = ap (front pair.1) (cut_none 61 pair.1 (plain_lacks 61 pair.1 refl h.1)) in
+    rw (cut_at 61 pair.0 pair.1 (plain_lacks 61 pair.0 refl h.0), whole, trim_plain pair.0 h.0, trim_plain pair.1 h.1) refl
+
+no_bare : (pair : List ℕ × List ℕ) → IsPlainPair pair → bare_in (joined_pair pair) ≡ None
+no_bare pair h =
+    let free : lacks 61 (joined_pair pair) ≡ false = false_from_ne_true (lacks 61 (joined_pair pair)) (λ t. none-some (pair.0, pair.1) (sym (cut_none 61 (joined_pair pair) (lacks_from 61 (joined_pair pair) t)) ∙ cut_at 61 pair.0 pair.1 (plain_lacks 61 pair.0 refl h.0))) in
+    rw free refl
+
+no_pair : (text : List ℕ) → IsPlain text → pair_in text ≡ None
+no_pair text h = rw (cut_none 61 text (plain_lacks 61 text refl h)) refl
+
+bare_found : (text : List ℕ) → IsPlain text → bare_in text ≡ Some text
+bare_found text h = rw (lacks_true 61 text (plain_lacks 61 text refl h), trim_plain text h) refl
+
+pairs_found : (pairs : List (List ℕ × List ℕ)) → AllByRecursion IsPlainPair pairs → (filter_map pair_in (map joined_pair pairs) ≡ pairs) × (filter_map bare_in (map joined_pair pairs) ≡ [])
+pairs_found [] h = (refl, refl)
+pairs_found (pair ∷ pairs) h =
+    let rest = pairs_found pairs h.1 in
+    (rw (pair_found pair h.0) (ap (λ (t : List (List ℕ × List ℕ)). pair ∷ t) rest.0), rw (no_bare pair h.0) rest.1)
+
+bares_found : (texts : List (List ℕ)) → AllByRecursion IsPlain texts → (filter_map pair_in texts ≡ []) × (filter_map bare_in texts ≡ texts)
+bares_found [] h = (refl, refl)
+bares_found (text ∷ texts) h =
+    let rest = bares_found texts h.1 in
+    (rw (no_pair text h.0) rest.0, rw (bare_found text h.0) (ap (λ (t : List (List ℕ)). text ∷ t) rest.1))
+
+found : (fs : List Field) (p : FormatParams) → AllWithin p → (pairs_in (all_pieces fs p) ≡ all_pairs fs p) × (bares_in (all_pieces fs p) ≡ all_bares fs p)
+unfolding pairs_in bares_in
+found [] p h = (refl, refl)
+found (f ∷ fs) p h =
+    let own = shows f p (h f) in
+    let keyed = map joined_pair (given (rows_at f p)) in
+    let pairs = pairs_found (given (rows_at f p)) own.plain in
+    let bares = bares_found (bares_at f p) own.bare in
+    let rest = found fs p h in (
+      filter_map-append pair_in (keyed ++ bares_at f p) (all_pieces fs p)
+          ∙ ap (λ (t : List (List ℕ × List ℕ)). t ++ filter_map pair_in (all_pieces fs p)) (filter_map-append pair_in keyed (bares_at f p) ∙ ap (λ (t : List (List ℕ × List ℕ)). t ++ filter_map pair_in (bares_at f p)) pairs.0 ∙ ap (λ (t : List (List ℕ × List ℕ)). given (rows_at f p) ++ t) bares.0 ∙ append-nil (given (rows_at f p)))
+          ∙ ap (λ (t : List (List ℕ × List ℕ)). given (rows_at f p) ++ t) rest.0,
+      filter_map-append bare_in (keyed ++ bares_at f p) (all_pieces fs p)
+          ∙ ap (λ (t : List (List ℕ)). t ++ filter_map bare_in (all_pieces fs p)) (filter_map-append bare_in keyed (bares_at f p) ∙ ap (λ (t : List (List ℕ)). t ++ filter_map bare_in (bares_at f p)) pairs.1 ∙ bares.1)
+          ∙ ap (λ (t : List (List ℕ)). bares_at f p ++ t) rest.1,
+    )
+
+-- ---- what the pairs read as
+
+abbrev singles : List Field
+singles = field.MinPTime ∷ field.Stereo ∷ field.SpropStereo ∷ field.UseInbandFec ∷ field.UseDtx ∷ field.LevelAsymmetryAllowed ∷ field.PacketizationMode ∷ field.ProfileLevelId ∷ field.ProfileId ∷ field.Profile ∷ field.LevelIdx ∷ field.Tier ∷ field.SpropMaxDonDiff ∷ field.OctetAlign ∷ field.ModeSet ∷ []
+
+abbrev rest : List Field
+rest = field.MinPTime ∷ field.Stereo ∷ field.SpropStereo ∷ field.UseInbandFec ∷ field.UseDtx ∷ field.LevelAsymmetryAllowed ∷ field.PacketizationMode ∷ field.ProfileLevelId ∷ field.Profile ∷ field.LevelIdx ∷ field.Tier ∷ field.SpropMaxDonDiff ∷ field.OctetAlign ∷ field.ModeSet ∷ []
+
+cons_append : {A : Type 0} (o : Option A) (xs : List A) → cons_option o [] ++ xs ≡ cons_option o xs
+cons_append None xs = refl
+cons_append (Some x) xs = refl
+
+reads_all : (fs : List Field) (p : FormatParams) → AllWithin p → list_all is_single fs ≡ true → map param_of (all_pairs fs p) ≡ filter_map (λ f. param_at f p) fs
+reads_all [] p h single = refl
+reads_all (f ∷ fs) p h single =
+    let k = and_parts (is_single f) (list_all is_single fs) single in
+    map-append param_of (given (rows_at f p)) (all_pairs fs p)
+    ∙ ap (λ (t : List FormatParam). t ++ map param_of (all_pairs fs p)) (reads f p k.0 (h f))
+    ∙ ap (λ (t : List FormatParam). cons_option (param_at f p) [] ++ t) (reads_all fs p h k.1)
+    ∙ cons_append (param_at f p) (filter_map (λ f. param_at f p) fs)
+
+unmarked : (pairs : List (List ℕ × List ℕ)) → has_mark pairs ≡ false → params_read pairs ≡ map param_of pairs
+unfolding params_read
+unmarked pairs e = rw e refl
+
+marked : (pairs : List (List ℕ × List ℕ)) → has_mark pairs ≡ true → merged pairs ≡ pairs → params_read pairs ≡ joined_read pairs
+unfolding params_read
+marked pairs e same = rw (e, same) refl
+
+without_triple : (p : FormatParams) → AllWithin p → p.h265_profile_tier_level ≡ None → p.h266_profile_tier_level ≡ None → params_read (all_pairs fields p) ≡ filter_map (λ f. param_at f p) (field.H265ProfileTierLevel ∷ field.H266ProfileTierLevel ∷ singles)
+without_triple p h e5 e6 =
+    let own : all_pairs fields p ≡ all_pairs singles p = rw (e5, e6) refl in
+    let mark : has_mark (all_pairs singles p) ≡ false = ap has_mark (pairs_rows singles p) ∙ mark_given (all_rows singles p) in
+    ap params_read own ∙ unmarked (all_pairs singles p) mark ∙ reads_all singles p h refl ∙ rw (e5, e6) refl
+
+abbrev triple_first : List Field
+triple_first = field.H265ProfileTierLevel ∷ field.H266ProfileTierLevel ∷ field.ProfileId ∷ rest
+
+-- ---- with a triple of H265
+
+abbrev fields5 : List Field
+fields5 = field.MinPTime ∷ field.Stereo ∷ field.SpropStereo ∷ field.UseInbandFec ∷ field.UseDtx ∷ field.LevelAsymmetryAllowed ∷ field.PacketizationMode ∷ field.ProfileLevelId ∷ field.Profile ∷ field.LevelIdx ∷ field.Tier ∷ field.H265ProfileTierLevel ∷ field.SpropMaxDonDiff ∷ field.OctetAlign ∷ field.ModeSet ∷ []
+
+abbrev fields6 : List Field
+fields6 = field.MinPTime ∷ field.Stereo ∷ field.SpropStereo ∷ field.UseInbandFec ∷ field.UseDtx ∷ field.LevelAsymmetryAllowed ∷ field.PacketizationMode ∷ field.ProfileLevelId ∷ field.Profile ∷ field.LevelIdx ∷ field.Tier ∷ field.H266ProfileTierLevel ∷ field.SpropMaxDonDiff ∷ field.OctetAlign ∷ field.ModeSet ∷ []
+
+with_h265 : (p : FormatParams) (t : h265_triple) → AllWithin p → p.h265_profile_tier_level ≡ Some t → p.h266_profile_tier_level ≡ None → p.profile_id ≡ None → params_read (all_pairs fields p) ≡ filter_map (λ f. param_at f p) triple_first
+with_h265 p t h e5 e6 ei =
+    let rows = all_rows fields5 p in
+    let own : all_pairs fields p ≡ all_pairs fields5 p = rw (e6, ei) refl in
+    let mark : has_mark (given rows) ≡ true = mark_given rows ∙ rw e5 refl in
+    let texts : texts_of (given rows) ≡ (Some (decimal (h265.profile_id t.profile)), Some (decimal (h265.tier_flag t.tier)), Some (decimal (h265.level_id t.level))) = λ i. ((look_given (codes "profile-id") rows ∙ profile) i, (look_given (codes "tier-flag") rows ∙ tier) i, (look_given (codes "level-id") rows ∙ level) i) in
+    let small = h265_small t in
+    let read : triple_read (texts_of (given rows)) ≡ Some (H265ProfileTierLevel t) = ap triple_read texts ∙ rw (h265_both.complete (Some (decimal (h265.profile_id t.profile)), Some (decimal (h265.tier_flag t.tier)), Some (decimal (h265.level_id t.level))) t (decimal_reads 255 (h265.profile_id t.profile) small.0 (omega (arith, small.0)), decimal_reads 255 (h265.tier_flag t.tier) small.1 (omega (arith, small.1)), decimal_reads 255 (h265.level_id t.level) small.2 (omega (arith, small.2)))) refl in
+    let others_are : map param_of (others (given rows)) ≡ filter_map (λ f. param_at f p) rest = ap (map param_of) (others_given rows ∙ sym (pairs_rows rest p)) ∙ reads_all rest p h refl in
+    ap params_read (own ∙ pairs_rows fields5 p) ∙ marked (given rows) mark (merged_given rows refl)
+    ∙ ap (λ (o : Option FormatParam). cons_option o (map param_of (others (given rows)))) read
+    ∙ ap (λ (qs : List FormatParam). H265ProfileTierLevel t ∷ qs) others_are ∙ rw (e5, e6, ei) refl
+  where
+    profile : look (codes "profile-id") (all_rows fields5 p) ≡ Some (decimal (h265.profile_id t.profile))
+    profile = rw e5 refl
+
+    tier : look (codes "tier-flag") (all_rows fields5 p) ≡ Some (decimal (h265.tier_flag t.tier))
+    tier = rw e5 refl
+
+    level : look (codes "level-id") (all_rows fields5 p) ≡ Some (decimal (h265.level_id t.level))
+    level = rw e5 refl
+
+-- ---- with a triple of H266
+
+-- no level has one number in both tables
+apart : (b : H266Level) → row_of h265.level_id levels5 (h266.level_id b) ≡ None
+apart level6.L1 = refl
+apart level6.L2 = refl
+apart level6.L2_1 = refl
+apart level6.L3 = refl
+apart level6.L3_1 = refl
+apart level6.L4 = refl
+apart level6.L4_1 = refl
+apart level6.L5 = refl
+apart level6.L5_1 = refl
+apart level6.L5_2 = refl
+apart level6.L6 = refl
+apart level6.L6_1 = refl
+apart level6.L6_2 = refl
+apart level6.L6_3 = refl
+
+no_h265 : (profile tier : Option (List ℕ)) (b : H266Level) → h266.level_id b ≤ 255 → h265_read (profile, tier, Some (decimal (h266.level_id b))) ≡ None
+no_h265 profile tier b small =
+    let texts : Texts = (profile, tier, Some (decimal (h266.level_id b))) in
+    let printed = decimal_reads 255 (h266.level_id b) small (omega (arith, small)) in
+    reads_none h265_both texts (λ t is.
+    let same : h265.level_id t.level ≡ h266.level_id b = sym is.2.value ∙ printed.value in
+    none-some t.level (sym (apart b) ∙ ap (row_of h265.level_id levels5) (sym same) ∙ own_level5 t.level))
+
+with_h266 : (p : FormatParams) (t : h266_triple) → AllWithin p → p.h266_profile_tier_level ≡ Some t → p.h265_profile_tier_level ≡ None → p.profile_id ≡ None → params_read (all_pairs fields p) ≡ filter_map (λ f. param_at f p) triple_first
+with_h266 p t h e6 e5 ei =
+    let rows = all_rows fields6 p in
+    let own : all_pairs fields p ≡ all_pairs fields6 p = rw (e5, ei) refl in
+    let mark : has_mark (given rows) ≡ true = mark_given rows ∙ rw e6 refl in
+    let texts : texts_of (given rows) ≡ (Some (decimal (h266.profile_id t.profile)), Some (decimal (h266.tier_flag t.tier)), Some (decimal (h266.level_id t.level))) = λ i. ((look_given (codes "profile-id") rows ∙ profile) i, (look_given (codes "tier-flag") rows ∙ tier) i, (look_given (codes "level-id") rows ∙ level) i) in
+    let small = h266_small t in
+    let none = no_h265 (Some (decimal (h266.profile_id t.profile))) (Some (decimal (h266.tier_flag t.tier))) t.level small.2 in
+    let read : triple_read (texts_of (given rows)) ≡ Some (H266ProfileTierLevel t) = ap triple_read texts ∙ rw (none, h266_both.complete (Some (decimal (h266.profile_id t.profile)), Some (decimal (h266.tier_flag t.tier)), Some (decimal (h266.level_id t.level))) t (decimal_reads 255 (h266.profile_id t.profile) small.0 (omega (arith, small.0)), decimal_reads 255 (h266.tier_flag t.tier) small.1 (omega (arith, small.1)), decimal_reads 255 (h266.level_id t.level) small.2 (omega (arith, small.2)))) refl in
+    let others_are : map param_of (others (given rows)) ≡ filter_map (λ f. param_at f p) rest = ap (map param_of) (others_given rows ∙ sym (pairs_rows rest p)) ∙ reads_all rest p h refl in
+    ap params_read (own ∙ pairs_rows fields6 p) ∙ marked (given rows) mark (merged_given rows refl)
+    ∙ ap (λ (o : Option FormatParam). cons_option o (map param_of (others (given rows)))) read
+    ∙ ap (λ (qs : List FormatParam). H266ProfileTierLevel t ∷ qs) others_are ∙ rw (e5, e6, ei) refl
+  where
+    profile : look (codes "profile-id") (all_rows fields6 p) ≡ Some (decimal (h266.profile_id t.profile))
+    profile = rw e6 refl
+
+    tier : look (codes "tier-flag") (all_rows fields6 p) ≡ Some (decimal (h266.tier_flag t.tier))
+    tier = rw e6 refl
+
+    level : look (codes "level-id") (all_rows fields6 p) ≡ Some (decimal (h266.level_id t.level))
+    level = rw e6 refl
+
+-- ---- values without a key
+
+bare_is : (n : ℕ) (param : FormatParam) → n ≤ 255 → IsBare (codes "0-" ++ decimal n) param → param ≡ TelephoneEvents n
+bare_is n param small h =
+    let digits = decimal_is_IsNumeral n (omega arith) in
+    elim h [
+      | inl events ↦
+          let same : decimal n ≡ events.2.range.0 = ap (drop 2) events.2.range.1 in
+          let value : events.0 ≡ n = sym events.2.range.3 ∙ ap (digits_value 10) (sym same) ∙ digits.1 in
+          events.1 ∙ ap (λ (k : ℕ). TelephoneEvents k) value
+      | inr none ↦ absurd (none.0 (TelephoneEvents n) (n, refl, record { range = (decimal n, refl, digits.0, digits.1); fits = small }))
+    ]
+
+bares_set : (o : Option ℕ) (bares : List FormatParam) → IfSome (option_map (λ n. TelephoneEvents n) o) IsWithin → AllZip IsBare (cons_option (option_map (λ n. codes "0-" ++ decimal n) o) []) bares → bares ≡ cons_option (option_map (λ n. TelephoneEvents n) o) []
+bares_set None [] h are = refl
+bares_set None (b ∷ bares) h are = absurd are
+bares_set (Some n) [] h are = absurd are
+bares_set (Some n) (b ∷ []) h are = ap (λ (q : FormatParam). q ∷ []) (bare_is n b h are.0)
+bares_set (Some n) (b ∷ (c ∷ bares)) h are = absurd are.1
+
+nothing_is : (param : FormatParam) → IsBare [] param → param ≡ Unknown
+nothing_is param h = elim h [ inl events ↦ absurd (let e = events.2.range.1 in cc) | inr none ↦ none.1 ]
+
+nothing_set : (bares : List FormatParam) → AllZip IsBare ([] ∷ []) bares → set_all empty bares ≡ empty
+nothing_set [] are = absurd are
+nothing_set (b ∷ []) are = ap (λ (q : FormatParam). set q empty) (nothing_is b are.0)
+nothing_set (b ∷ (c ∷ bares)) are = absurd are.1
+
+no_events : (o : Option ℕ) → cons_option (option_map (λ n. codes "0-" ++ decimal n) o) [] ≡ [] → o ≡ None
+no_events None e = refl
+no_events (Some n) e = absurd cc
+
+-- ---- the whole
+
+clash : {A C : Type 0} (o : Option A) (x : A) → o ≡ Some x → o ≡ None → C
+clash o x e f = absurd (none-some x (sym f ∙ e))
+
+conclude : (order : List Field) (p r : FormatParams) (bares params : List FormatParam) → part (all_done [] (field.TelephoneEvents ∷ order)) p ≡ p → set_all empty bares ≡ set_all empty (cons_option (param_at field.TelephoneEvents p) []) → params ≡ filter_map (λ f. param_at f p) order → r ≡ set_all empty (bares ++ params) → r ≡ p
+conclude order p r bares params whole first second e =
+    let events = cons_option (param_at field.TelephoneEvents p) [] in
+    e ∙ set_all-append bares params empty ∙ ap (λ q. set_all q params) first ∙ ap (set_all (set_all empty events)) second
+    ∙ sym (set_all-append events (filter_map (λ f. param_at f p) order) empty)
+    ∙ ap (set_all empty) (cons_append (param_at field.TelephoneEvents p) (filter_map (λ f. param_at f p) order))
+    ∙ set_each (field.TelephoneEvents ∷ order) [] p ∙ whole
+
+-- the order in which the parameters of a printed line are set
+record Order (p : FormatParams) : Type 0 where
+  order : List Field
+  whole : part (all_done [] (field.TelephoneEvents ∷ order)) p ≡ p
+  read : params_read (all_pairs fields p) ≡ filter_map (λ f. param_at f p) order
+
+order_of : (p : FormatParams) → CanBeReadBack p → (o5 : Option h265_triple) (o6 : Option h266_triple) → p.h265_profile_tier_level ≡ o5 → p.h266_profile_tier_level ≡ o6 → Order p
+order_of p h None None e5 e6 = record { order = field.H265ProfileTierLevel ∷ field.H266ProfileTierLevel ∷ singles; whole = refl; read = without_triple p h.values e5 e6 }
+order_of p h (Some t) None e5 e6 = record { order = triple_first; whole = refl; read = with_h265 p t h.values e5 e6 (elim h.profile [ inl e ↦ e | inr both ↦ clash p.h265_profile_tier_level t e5 both.0 ]) }
+order_of p h None (Some u) e5 e6 = record { order = triple_first; whole = refl; read = with_h266 p u h.values e6 e5 (elim h.profile [ inl e ↦ e | inr both ↦ clash p.h266_profile_tier_level u e6 both.1 ]) }
+order_of p h (Some t) (Some u) e5 e6 = elim h.triples [ inl e ↦ clash p.h265_profile_tier_level t e5 e | inr e ↦ clash p.h266_profile_tier_level u e6 e ]
+
+-- the values without a key that are printed
+bares_printed : (p : FormatParams) → all_bares fields p ≡ bares_at field.TelephoneEvents p
+bares_printed p = append-nil (bares_at field.TelephoneEvents p)
+
+line_texts : (p : FormatParams) → params_text p ≡ joined (map param_text (filter_map (λ f. param_at f p) fields))
+unfolding params_text params_of
+line_texts p = refl
+
+no_pairs : pairs_in ([] ∷ []) ≡ []
+unfolding pairs_in
+no_pairs = refl
+
+one_bare : bares_in ([] ∷ []) ≡ [] ∷ []
+unfolding bares_in
+one_bare = rw (trim_plain [] tt) refl
+
+pub itself : (line : List ℕ) (p r : FormatParams) → CanBeReadBack p → line ≡ params_text p → IsFormatOfLine line r → r ≡ p
+unfolding pairs_in bares_in
+itself line p r h printed reading =
+    let order = order_of p h p.h265_profile_tier_level p.h266_profile_tier_level refl refl in
+    let is = found fields p h.values in
+    let events = h.values field.TelephoneEvents in
+    let params_are : pairs_in (pieces line) ≡ all_pairs fields p → reading.params ≡ filter_map (λ f. param_at f p) order.order = λ same. pairs_read_only (pairs_in (pieces line)) reading.params reading.params_are ∙ ap params_read same ∙ order.read in
+    elim (cut_pieces (map param_text (filter_map (λ f. param_at f p) fields)) (all_pieces fields p) (alike fields p h.values) (free_pieces fields p h.values)) [
+      | inl same ↦
+          let whole : pieces line ≡ all_pieces fields p = ap pieces (printed ∙ line_texts p) ∙ same in
+          let bares_are = bares_set p.telephone_event_max reading.bares events (subst (λ (ts : List (List ℕ)). AllZip IsBare ts reading.bares) (ap bares_in whole ∙ is.1 ∙ bares_printed p) reading.bares_are) in
+          conclude order.order p r reading.bares reading.params order.whole (ap (set_all empty) bares_are) (params_are (ap pairs_in whole ∙ is.0)) reading.format
+      | inr empty_text ↦
+          let whole : pieces line ≡ [] ∷ [] = ap pieces (printed ∙ line_texts p) ∙ empty_text.1 in
+          let none : p.telephone_event_max ≡ None = no_events p.telephone_event_max (sym (bares_printed p) ∙ sym is.1 ∙ ap bares_in empty_text.0) in
+          let pairs_are : pairs_in (pieces line) ≡ all_pairs fields p = ap pairs_in whole ∙ no_pairs ∙ sym (ap pairs_in empty_text.0) ∙ is.0 in
+          let bares_are = nothing_set reading.bares (subst (λ (ts : List (List ℕ)). AllZip IsBare ts reading.bares) (ap bares_in whole ∙ one_bare) reading.bares_are) in
+          conclude order.order p r reading.bares reading.params order.whole (bares_are ∙ ap (λ (o : Option ℕ). set_all empty (cons_option (option_map (λ n. TelephoneEvents n) o) [])) (sym none)) (params_are pairs_are) reading.format
+    ]
+
+pub line_itself : {E : Type 0} (line : List ℕ) (answer : Result FormatParams E) → IfOk answer (IsFormatOfLine line) → (p : FormatParams) → CanBeReadBack p → line ≡ params_text p → IfOk answer (λ r. r ≡ p)
+line_itself line (Ok r) h p can printed = itself line p r can printed h
+line_itself line (Err e) h p can printed = tt

@@ -1,0 +1,281 @@
+-- What each field of a format prints: keys with values, and the range of events.
+use Rattle.std.proofs.Common.{◌≡◌, ◌≤◌, ◌<◌, ◌-◌, ◌^◌, ℕ, zero, suc, replicate, length, Bool, true, false, List, [], ◌∷◌, ◌++◌, map, Option, Some, None, IfSome, option_map, refl, ap, arith, lit≤}
+use Rattle.std.specs.Prelude.{codes}
+use Rattle.std.specs.Fmt.{decimal, digits}
+use Rattle.std.specs.List.{AllByRecursion, cons_option, join_with_byte, list_all}
+use Rattle.std.proofs.lemmas.Bool.{false≢true}
+use Rattle.std.proofs.lemmas.Fmt.{decimal_is_IsNumeral, digits_is_IsNumeral}
+use Rattle.str0m_values.specs.H265 as h265
+use Rattle.str0m_values.specs.H266 as h266
+use Rattle.str0m_values.specs.declared.h265.H265ProfileTierLevel.{H265ProfileTierLevel as h265_triple}
+use Rattle.str0m_values.specs.declared.h266.H266ProfileTierLevel.{H266ProfileTierLevel as h266_triple}
+use Rattle.str0m_values.specs.declared.h265.H265Profile.{H265Profile}
+use Rattle.str0m_values.specs.declared.h265.H265Profile.TheVariants as profile5
+use Rattle.str0m_values.specs.declared.h265.H265Tier.{H265Tier}
+use Rattle.str0m_values.specs.declared.h265.H265Tier.TheVariants as tier5
+use Rattle.str0m_values.specs.declared.h265.H265Level.{H265Level}
+use Rattle.str0m_values.specs.declared.h265.H265Level.TheVariants as level5
+use Rattle.str0m_values.specs.declared.h266.H266Profile.{H266Profile}
+use Rattle.str0m_values.specs.declared.h266.H266Profile.TheVariants as profile6
+use Rattle.str0m_values.specs.declared.h266.H266Tier.{H266Tier}
+use Rattle.str0m_values.specs.declared.h266.H266Tier.TheVariants as tier6
+use Rattle.str0m_values.specs.declared.h266.H266Level.{H266Level}
+use Rattle.str0m_values.specs.declared.h266.H266Level.TheVariants as level6
+use Rattle.str0m_formats.specs.declared.format_key.FormatKey.{FormatKey}
+use Rattle.str0m_formats.specs.declared.format_key.FormatKey.TheVariants as key
+use Rattle.str0m_formats.specs.declared.format_param.FormatParam.{FormatParam}
+use Rattle.str0m_formats.specs.declared.format_param.FormatParam.TheVariants.{MinPTime, Stereo, SpropStereo, UseInbandFec, UseDtx, LevelAsymmetryAllowed, PacketizationMode, ProfileLevelId, ProfileId, Profile, LevelIdx, Tier, H265ProfileTierLevel, H266ProfileTierLevel, SpropMaxDonDiff, TelephoneEvents, OctetAlign, ModeSet}
+use Rattle.str0m_formats.specs.declared.format_params.Field.{Field}
+use Rattle.str0m_formats.specs.declared.format_params.Field.TheVariants as field
+use Rattle.str0m_formats.specs.declared.format_params.FormatParams.{FormatParams}
+use Rattle.str0m_formats.specs.FormatKey.{key_text}
+use Rattle.str0m_formats.specs.FormatParam.{Value, flag, number, hex, modes, InRange, IsPrinted, value_text, six_digits, mode_list, param_text}
+use Rattle.str0m_formats.specs.FormatParams.{param_at, IsWithin}
+use Rattle.str0m_formats.specs.ParamReading.{param_of}
+use Rattle.str0m_formats.proofs.ParamLaws.{parsed}
+use Rattle.str0m_formats.proofs.Plain.{IsPlain, is_plain, plain_from, plain_append, digits_plain, below, below_at}
+use Rattle.str0m_formats.proofs.RoundTrip.{HasSmallLimit, parsed_printed}
+use Rattle.str0m_formats.proofs.Rows.{Rows, given}
+
+-- ---- plain values
+
+pub decimal_plain : (n : ℕ) → n ≤ 4294967295 → IsPlain (decimal n)
+decimal_plain n small = digits_plain 10 (decimal n) (lit≤ tt) (decimal_is_IsNumeral n (omega arith)).0.1
+
+zeros_plain : (k : ℕ) → IsPlain (replicate k 48)
+zeros_plain zero = tt
+zeros_plain (suc k) = (refl, zeros_plain k)
+
+six_plain : (n : ℕ) → n ≤ 4294967295 → IsPlain (six_digits n)
+six_plain n le =
+    let small : n < 16 ^ 64 = omega arith in
+    plain_append (replicate (6 - length (digits 16 false n)) 48) (digits 16 false n) (zeros_plain (6 - length (digits 16 false n))) (digits_plain 16 (digits 16 false n) (lit≤ tt) (digits_is_IsNumeral 16 false (lit≤ tt) (lit≤ tt) n small).0.1)
+
+all_modes_plain : below (λ mask. list_all is_plain (mode_list mask)) 512 ≡ true
+unfolding below digits
+all_modes_plain = refl
+
+value_plain : (v : Value) → HasSmallLimit v → InRange v → IsPlain (value_text v)
+value_plain (flag true) small h = plain_from (codes "1") refl
+value_plain (flag false) small h = plain_from (codes "0") refl
+value_plain (number limit n) small h = decimal_plain n (omega arith)
+value_plain (hex n) small h = six_plain n h
+value_plain (modes mask) small h = plain_from (mode_list mask) (below_at (λ mask. list_all is_plain (mode_list mask)) 512 mask all_modes_plain (omega (arith, h.1)))
+
+-- ---- rows
+
+abbrev pub row : {A : Type 0} → FormatKey → (A → Value) → Option A → Rows
+row k value o = (key_text k, option_map (λ x. value_text (value x)) o) ∷ []
+
+abbrev pub triple_rows : {A : Type 0} → (A → ℕ) → (A → ℕ) → (A → ℕ) → Option A → Rows
+triple_rows profile tier level o = (codes "profile-id", option_map (λ t. decimal (profile t)) o) ∷ (codes "tier-flag", option_map (λ t. decimal (tier t)) o) ∷ (codes "level-id", option_map (λ t. decimal (level t)) o) ∷ []
+
+-- the keys of a field, with their values
+abbrev pub rows_at : Field → FormatParams → Rows
+rows_at field.MinPTime p = row key.MinPTime (λ x. number 255 x) p.min_p_time
+rows_at field.Stereo p = row key.Stereo (λ x. flag x) p.stereo
+rows_at field.SpropStereo p = row key.SpropStereo (λ x. flag x) p.sprop_stereo
+rows_at field.UseInbandFec p = row key.UseInbandFec (λ x. flag x) p.use_inband_fec
+rows_at field.UseDtx p = row key.UseDtx (λ x. flag x) p.use_dtx
+rows_at field.LevelAsymmetryAllowed p = row key.LevelAsymmetryAllowed (λ x. flag x) p.level_asymmetry_allowed
+rows_at field.PacketizationMode p = row key.PacketizationMode (λ x. number 255 x) p.packetization_mode
+rows_at field.ProfileLevelId p = row key.ProfileLevelId (λ x. hex x) p.profile_level_id
+rows_at field.ProfileId p = row key.ProfileId (λ x. number 4294967295 x) p.profile_id
+rows_at field.Profile p = row key.Profile (λ x. number 255 x) p.profile
+rows_at field.LevelIdx p = row key.LevelIdx (λ x. number 255 x) p.level_idx
+rows_at field.Tier p = row key.Tier (λ x. number 255 x) p.tier
+rows_at field.H265ProfileTierLevel p = triple_rows (λ t. h265.profile_id t.profile) (λ t. h265.tier_flag t.tier) (λ t. h265.level_id t.level) p.h265_profile_tier_level
+rows_at field.H266ProfileTierLevel p = triple_rows (λ t. h266.profile_id t.profile) (λ t. h266.tier_flag t.tier) (λ t. h266.level_id t.level) p.h266_profile_tier_level
+rows_at field.SpropMaxDonDiff p = row key.SpropMaxDonDiff (λ x. number 32767 x) p.sprop_max_don_diff
+rows_at field.TelephoneEvents p = []
+rows_at field.OctetAlign p = row key.OctetAlign (λ x. flag x) p.octet_align
+rows_at field.ModeSet p = row key.ModeSet (λ x. modes x) p.mode_set
+
+-- the texts of a field that have no key
+abbrev pub bares_at : Field → FormatParams → List (List ℕ)
+bares_at field.TelephoneEvents p = cons_option (option_map (λ n. codes "0-" ++ decimal n) p.telephone_event_max) []
+bares_at f p = []
+
+abbrev pub joined_pair : List ℕ × List ℕ → List ℕ
+joined_pair pair = pair.0 ++ (61 ∷ pair.1)
+
+-- the pieces that a field prints
+abbrev pub pieces_at : Field → FormatParams → List (List ℕ)
+pieces_at f p = map joined_pair (given (rows_at f p)) ++ bares_at f p
+
+abbrev pub IsPlainPair : List ℕ × List ℕ → Type 0
+IsPlainPair pair = IsPlain pair.0 × IsPlain pair.1
+
+-- the text of one field: nothing, or its pieces joined
+abbrev pub IsShown : Option FormatParam → List (List ℕ) → Type 0
+IsShown None pieces = pieces ≡ []
+IsShown (Some param) pieces = (first : List ℕ) × (more : List (List ℕ)) × (pieces ≡ first ∷ more) × (param_text param ≡ join_with_byte 59 (first ∷ more))
+
+pub record Shows (f : Field) (p : FormatParams) : Type 0 where
+  pub shown : IsShown (param_at f p) (pieces_at f p)
+  pub plain : AllByRecursion IsPlainPair (given (rows_at f p))
+  pub bare : AllByRecursion IsPlain (bares_at f p)
+
+-- the pairs of a field read as its parameter
+abbrev pub Reads : Field → FormatParams → Type 0
+Reads f p = map param_of (given (rows_at f p)) ≡ cons_option (param_at f p) []
+
+-- a field with one key
+module _ {A : Type 0} (make : A → FormatParam) (k : FormatKey) (value : A → Value)
+    (small : (x : A) → HasSmallLimit (value x)) (text : (x : A) → param_text (make x) ≡ join_with_byte 59 (joined_pair (key_text k, value_text (value x)) ∷ []))
+    (within : (x : A) → IsWithin (make x) → InRange (value x)) (plain_key : list_all is_plain (key_text k) ≡ true)
+    (printed : (x : A) → InRange (value x) → IsPrinted (make x) (key_text k, value_text (value x))) where
+  one_shown : (o : Option A) → IsShown (option_map make o) (map joined_pair (given (row k value o)) ++ [])
+  one_shown None = refl
+  one_shown (Some x) = (joined_pair (key_text k, value_text (value x)), [], refl, text x)
+
+  one_plain : (o : Option A) → IfSome (option_map make o) IsWithin → AllByRecursion IsPlainPair (given (row k value o))
+  one_plain None h = tt
+  one_plain (Some x) h = ((plain_from (key_text k) plain_key, value_plain (value x) (small x) (within x h)), tt)
+
+  one_reads : (o : Option A) → IfSome (option_map make o) IsWithin → map param_of (given (row k value o)) ≡ cons_option (option_map make o) []
+  one_reads None h = refl
+  one_reads (Some x) h = ap (λ (q : FormatParam). q ∷ []) (parsed_printed (key_text k) (value_text (value x)) (param_of (key_text k, value_text (value x))) (parsed (key_text k) (value_text (value x))) (make x) (printed x (within x h)))
+
+-- a field with a profile, tier and level
+module _ {A : Type 0} (make : A → FormatParam) (profile tier level : A → ℕ)
+    (small : (t : A) → (profile t ≤ 255) × (tier t ≤ 255) × (level t ≤ 255))
+    (text : (t : A) → param_text (make t) ≡ join_with_byte 59 (joined_pair (codes "profile-id", decimal (profile t)) ∷ joined_pair (codes "tier-flag", decimal (tier t)) ∷ joined_pair (codes "level-id", decimal (level t)) ∷ [])) where
+  triple_shown : (o : Option A) → IsShown (option_map make o) (map joined_pair (given (triple_rows profile tier level o)) ++ [])
+  triple_shown None = refl
+  triple_shown (Some t) = (joined_pair (codes "profile-id", decimal (profile t)), joined_pair (codes "tier-flag", decimal (tier t)) ∷ joined_pair (codes "level-id", decimal (level t)) ∷ [], refl, text t)
+
+  triple_plain : (o : Option A) → AllByRecursion IsPlainPair (given (triple_rows profile tier level o))
+  triple_plain None = tt
+  triple_plain (Some t) =
+      let k = small t in (
+        (plain_from (codes "profile-id") refl, decimal_plain (profile t) (omega (arith, k.0))),
+        (
+          (plain_from (codes "tier-flag") refl, decimal_plain (tier t) (omega (arith, k.1))),
+          ((plain_from (codes "level-id") refl, decimal_plain (level t) (omega (arith, k.2))), tt),
+        ),
+      )
+
+profile5_small : (a : H265Profile) → h265.profile_id a ≤ 255
+profile5_small profile5.Main = lit≤ tt
+profile5_small profile5.Main10 = lit≤ tt
+profile5_small profile5.MainStillPicture = lit≤ tt
+profile5_small profile5.RangeExtensions = lit≤ tt
+profile5_small profile5.HighThroughput = lit≤ tt
+profile5_small profile5.MultiviewMain = lit≤ tt
+profile5_small profile5.ScalableMain = lit≤ tt
+profile5_small profile5.Main3D = lit≤ tt
+profile5_small profile5.ScreenExtended = lit≤ tt
+profile5_small profile5.ScalableRangeExtensions = lit≤ tt
+profile5_small profile5.HighThroughputScreenExtended = lit≤ tt
+
+tier5_small : (a : H265Tier) → h265.tier_flag a ≤ 255
+tier5_small tier5.Main = lit≤ tt
+tier5_small tier5.High = lit≤ tt
+
+level5_small : (a : H265Level) → h265.level_id a ≤ 255
+level5_small level5.L1 = lit≤ tt
+level5_small level5.L2 = lit≤ tt
+level5_small level5.L2_1 = lit≤ tt
+level5_small level5.L3 = lit≤ tt
+level5_small level5.L3_1 = lit≤ tt
+level5_small level5.L4 = lit≤ tt
+level5_small level5.L4_1 = lit≤ tt
+level5_small level5.L5 = lit≤ tt
+level5_small level5.L5_1 = lit≤ tt
+level5_small level5.L5_2 = lit≤ tt
+level5_small level5.L6 = lit≤ tt
+level5_small level5.L6_1 = lit≤ tt
+level5_small level5.L6_2 = lit≤ tt
+
+pub h265_small : (t : h265_triple) → (h265.profile_id t.profile ≤ 255) × (h265.tier_flag t.tier ≤ 255) × (h265.level_id t.level ≤ 255)
+h265_small t = (profile5_small t.profile, tier5_small t.tier, level5_small t.level)
+
+profile6_small : (a : H266Profile) → h266.profile_id a ≤ 255
+profile6_small profile6.Main10 = lit≤ tt
+profile6_small profile6.MultilayerMain10 = lit≤ tt
+profile6_small profile6.Main10_444 = lit≤ tt
+profile6_small profile6.MultilayerMain10_444 = lit≤ tt
+profile6_small profile6.Main10StillPicture = lit≤ tt
+profile6_small profile6.Main10_444StillPicture = lit≤ tt
+
+tier6_small : (a : H266Tier) → h266.tier_flag a ≤ 255
+tier6_small tier6.Main = lit≤ tt
+tier6_small tier6.High = lit≤ tt
+
+level6_small : (a : H266Level) → h266.level_id a ≤ 255
+level6_small level6.L1 = lit≤ tt
+level6_small level6.L2 = lit≤ tt
+level6_small level6.L2_1 = lit≤ tt
+level6_small level6.L3 = lit≤ tt
+level6_small level6.L3_1 = lit≤ tt
+level6_small level6.L4 = lit≤ tt
+level6_small level6.L4_1 = lit≤ tt
+level6_small level6.L5 = lit≤ tt
+level6_small level6.L5_1 = lit≤ tt
+level6_small level6.L5_2 = lit≤ tt
+level6_small level6.L6 = lit≤ tt
+level6_small level6.L6_1 = lit≤ tt
+level6_small level6.L6_2 = lit≤ tt
+level6_small level6.L6_3 = lit≤ tt
+
+pub h266_small : (t : h266_triple) → (h266.profile_id t.profile ≤ 255) × (h266.tier_flag t.tier ≤ 255) × (h266.level_id t.level ≤ 255)
+h266_small t = (profile6_small t.profile, tier6_small t.tier, level6_small t.level)
+
+triple_parts : (a b c : List ℕ) → codes "profile-id=" ++ (a ++ (codes ";tier-flag=" ++ (b ++ (codes ";level-id=" ++ c)))) ≡ join_with_byte 59 (joined_pair (codes "profile-id", a) ∷ joined_pair (codes "tier-flag", b) ∷ joined_pair (codes "level-id", c) ∷ [])
+triple_parts a b c = refl
+
+events_shown : (o : Option ℕ) → IsShown (option_map (λ n. TelephoneEvents n) o) (cons_option (option_map (λ n. codes "0-" ++ decimal n) o) [])
+events_shown None = refl
+events_shown (Some n) = (codes "0-" ++ decimal n, [], refl, refl)
+
+events_plain : (o : Option ℕ) → IfSome (option_map (λ n. TelephoneEvents n) o) IsWithin → AllByRecursion IsPlain (cons_option (option_map (λ n. codes "0-" ++ decimal n) o) [])
+events_plain None h = tt
+events_plain (Some n) h = (plain_append (codes "0-") (decimal n) (plain_from (codes "0-") refl) (decimal_plain n (omega (arith, h))), tt)
+
+pub shows : (f : Field) (p : FormatParams) → IfSome (param_at f p) IsWithin → Shows f p
+shows field.MinPTime p h = record { shown = one_shown (λ x. MinPTime x) key.MinPTime (λ x. number 255 x) (λ x. lit≤ tt) (λ x. refl) (λ x h. h) refl (λ x h. (refl, refl, h)) p.min_p_time; plain = one_plain (λ x. MinPTime x) key.MinPTime (λ x. number 255 x) (λ x. lit≤ tt) (λ x. refl) (λ x h. h) refl (λ x h. (refl, refl, h)) p.min_p_time h; bare = tt }
+shows field.Stereo p h = record { shown = one_shown (λ x. Stereo x) key.Stereo (λ x. flag x) (λ x. tt) (λ x. refl) (λ x h. h) refl (λ x h. (refl, refl, h)) p.stereo; plain = one_plain (λ x. Stereo x) key.Stereo (λ x. flag x) (λ x. tt) (λ x. refl) (λ x h. h) refl (λ x h. (refl, refl, h)) p.stereo h; bare = tt }
+shows field.SpropStereo p h = record { shown = one_shown (λ x. SpropStereo x) key.SpropStereo (λ x. flag x) (λ x. tt) (λ x. refl) (λ x h. h) refl (λ x h. (refl, refl, h)) p.sprop_stereo; plain = one_plain (λ x. SpropStereo x) key.SpropStereo (λ x. flag x) (λ x. tt) (λ x. refl) (λ x h. h) refl (λ x h. (refl, refl, h)) p.sprop_stereo h; bare = tt }
+shows field.UseInbandFec p h = record { shown = one_shown (λ x. UseInbandFec x) key.UseInbandFec (λ x. flag x) (λ x. tt) (λ x. refl) (λ x h. h) refl (λ x h. (refl, refl, h)) p.use_inband_fec; plain = one_plain (λ x. UseInbandFec x) key.UseInbandFec (λ x. flag x) (λ x. tt) (λ x. refl) (λ x h. h) refl (λ x h. (refl, refl, h)) p.use_inband_fec h; bare = tt }
+shows field.UseDtx p h = record { shown = one_shown (λ x. UseDtx x) key.UseDtx (λ x. flag x) (λ x. tt) (λ x. refl) (λ x h. h) refl (λ x h. (refl, refl, h)) p.use_dtx; plain = one_plain (λ x. UseDtx x) key.UseDtx (λ x. flag x) (λ x. tt) (λ x. refl) (λ x h. h) refl (λ x h. (refl, refl, h)) p.use_dtx h; bare = tt }
+shows field.LevelAsymmetryAllowed p h = record { shown = one_shown (λ x. LevelAsymmetryAllowed x) key.LevelAsymmetryAllowed (λ x. flag x) (λ x. tt) (λ x. refl) (λ x h. h) refl (λ x h. (refl, refl, h)) p.level_asymmetry_allowed; plain = one_plain (λ x. LevelAsymmetryAllowed x) key.LevelAsymmetryAllowed (λ x. flag x) (λ x. tt) (λ x. refl) (λ x h. h) refl (λ x h. (refl, refl, h)) p.level_asymmetry_allowed h; bare = tt }
+shows field.PacketizationMode p h = record { shown = one_shown (λ x. PacketizationMode x) key.PacketizationMode (λ x. number 255 x) (λ x. lit≤ tt) (λ x. refl) (λ x h. h) refl (λ x h. (refl, refl, h)) p.packetization_mode; plain = one_plain (λ x. PacketizationMode x) key.PacketizationMode (λ x. number 255 x) (λ x. lit≤ tt) (λ x. refl) (λ x h. h) refl (λ x h. (refl, refl, h)) p.packetization_mode h; bare = tt }
+shows field.ProfileLevelId p h = record { shown = one_shown (λ x. ProfileLevelId x) key.ProfileLevelId (λ x. hex x) (λ x. tt) (λ x. refl) (λ x h. h) refl (λ x h. (refl, refl, h)) p.profile_level_id; plain = one_plain (λ x. ProfileLevelId x) key.ProfileLevelId (λ x. hex x) (λ x. tt) (λ x. refl) (λ x h. h) refl (λ x h. (refl, refl, h)) p.profile_level_id h; bare = tt }
+shows field.ProfileId p h = record { shown = one_shown (λ x. ProfileId x) key.ProfileId (λ x. number 4294967295 x) (λ x. lit≤ tt) (λ x. refl) (λ x h. h) refl (λ x h. (refl, refl, h)) p.profile_id; plain = one_plain (λ x. ProfileId x) key.ProfileId (λ x. number 4294967295 x) (λ x. lit≤ tt) (λ x. refl) (λ x h. h) refl (λ x h. (refl, refl, h)) p.profile_id h; bare = tt }
+shows field.Profile p h = record { shown = one_shown (λ x. Profile x) key.Profile (λ x. number 255 x) (λ x. lit≤ tt) (λ x. refl) (λ x h. h) refl (λ x h. (refl, refl, h)) p.profile; plain = one_plain (λ x. Profile x) key.Profile (λ x. number 255 x) (λ x. lit≤ tt) (λ x. refl) (λ x h. h) refl (λ x h. (refl, refl, h)) p.profile h; bare = tt }
+shows field.LevelIdx p h = record { shown = one_shown (λ x. LevelIdx x) key.LevelIdx (λ x. number 255 x) (λ x. lit≤ tt) (λ x. refl) (λ x h. h) refl (λ x h. (refl, refl, h)) p.level_idx; plain = one_plain (λ x. LevelIdx x) key.LevelIdx (λ x. number 255 x) (λ x. lit≤ tt) (λ x. refl) (λ x h. h) refl (λ x h. (refl, refl, h)) p.level_idx h; bare = tt }
+shows field.Tier p h = record { shown = one_shown (λ x. Tier x) key.Tier (λ x. number 255 x) (λ x. lit≤ tt) (λ x. refl) (λ x h. h) refl (λ x h. (refl, refl, h)) p.tier; plain = one_plain (λ x. Tier x) key.Tier (λ x. number 255 x) (λ x. lit≤ tt) (λ x. refl) (λ x h. h) refl (λ x h. (refl, refl, h)) p.tier h; bare = tt }
+shows field.H265ProfileTierLevel p h = record { shown = triple_shown (λ t. H265ProfileTierLevel t) (λ t. h265.profile_id t.profile) (λ t. h265.tier_flag t.tier) (λ t. h265.level_id t.level) h265_small (λ t. triple_parts (decimal (h265.profile_id t.profile)) (decimal (h265.tier_flag t.tier)) (decimal (h265.level_id t.level))) p.h265_profile_tier_level; plain = triple_plain (λ t. H265ProfileTierLevel t) (λ t. h265.profile_id t.profile) (λ t. h265.tier_flag t.tier) (λ t. h265.level_id t.level) h265_small (λ t. triple_parts (decimal (h265.profile_id t.profile)) (decimal (h265.tier_flag t.tier)) (decimal (h265.level_id t.level))) p.h265_profile_tier_level; bare = tt }
+shows field.H266ProfileTierLevel p h = record { shown = triple_shown (λ t. H266ProfileTierLevel t) (λ t. h266.profile_id t.profile) (λ t. h266.tier_flag t.tier) (λ t. h266.level_id t.level) h266_small (λ t. triple_parts (decimal (h266.profile_id t.profile)) (decimal (h266.tier_flag t.tier)) (decimal (h266.level_id t.level))) p.h266_profile_tier_level; plain = triple_plain (λ t. H266ProfileTierLevel t) (λ t. h266.profile_id t.profile) (λ t. h266.tier_flag t.tier) (λ t. h266.level_id t.level) h266_small (λ t. triple_parts (decimal (h266.profile_id t.profile)) (decimal (h266.tier_flag t.tier)) (decimal (h266.level_id t.level))) p.h266_profile_tier_level; bare = tt }
+shows field.SpropMaxDonDiff p h = record { shown = one_shown (λ x. SpropMaxDonDiff x) key.SpropMaxDonDiff (λ x. number 32767 x) (λ x. lit≤ tt) (λ x. refl) (λ x h. h) refl (λ x h. (refl, refl, h)) p.sprop_max_don_diff; plain = one_plain (λ x. SpropMaxDonDiff x) key.SpropMaxDonDiff (λ x. number 32767 x) (λ x. lit≤ tt) (λ x. refl) (λ x h. h) refl (λ x h. (refl, refl, h)) p.sprop_max_don_diff h; bare = tt }
+shows field.TelephoneEvents p h = record { shown = events_shown p.telephone_event_max; plain = tt; bare = events_plain p.telephone_event_max h }
+shows field.OctetAlign p h = record { shown = one_shown (λ x. OctetAlign x) key.OctetAlign (λ x. flag x) (λ x. tt) (λ x. refl) (λ x h. h) refl (λ x h. (refl, refl, h)) p.octet_align; plain = one_plain (λ x. OctetAlign x) key.OctetAlign (λ x. flag x) (λ x. tt) (λ x. refl) (λ x h. h) refl (λ x h. (refl, refl, h)) p.octet_align h; bare = tt }
+shows field.ModeSet p h = record { shown = one_shown (λ x. ModeSet x) key.ModeSet (λ x. modes x) (λ x. tt) (λ x. refl) (λ x h. h) refl (λ x h. (refl, refl, h)) p.mode_set; plain = one_plain (λ x. ModeSet x) key.ModeSet (λ x. modes x) (λ x. tt) (λ x. refl) (λ x h. h) refl (λ x h. (refl, refl, h)) p.mode_set h; bare = tt }
+
+-- whether the field has one key
+abbrev pub is_single : Field → Bool
+is_single field.H265ProfileTierLevel = false
+is_single field.H266ProfileTierLevel = false
+is_single field.TelephoneEvents = false
+is_single f = true
+
+pub reads : (f : Field) (p : FormatParams) → is_single f ≡ true → IfSome (param_at f p) IsWithin → Reads f p
+reads field.MinPTime p single h = one_reads (λ x. MinPTime x) key.MinPTime (λ x. number 255 x) (λ x. lit≤ tt) (λ x. refl) (λ x h. h) refl (λ x h. (refl, refl, h)) p.min_p_time h
+reads field.Stereo p single h = one_reads (λ x. Stereo x) key.Stereo (λ x. flag x) (λ x. tt) (λ x. refl) (λ x h. h) refl (λ x h. (refl, refl, h)) p.stereo h
+reads field.SpropStereo p single h = one_reads (λ x. SpropStereo x) key.SpropStereo (λ x. flag x) (λ x. tt) (λ x. refl) (λ x h. h) refl (λ x h. (refl, refl, h)) p.sprop_stereo h
+reads field.UseInbandFec p single h = one_reads (λ x. UseInbandFec x) key.UseInbandFec (λ x. flag x) (λ x. tt) (λ x. refl) (λ x h. h) refl (λ x h. (refl, refl, h)) p.use_inband_fec h
+reads field.UseDtx p single h = one_reads (λ x. UseDtx x) key.UseDtx (λ x. flag x) (λ x. tt) (λ x. refl) (λ x h. h) refl (λ x h. (refl, refl, h)) p.use_dtx h
+reads field.LevelAsymmetryAllowed p single h = one_reads (λ x. LevelAsymmetryAllowed x) key.LevelAsymmetryAllowed (λ x. flag x) (λ x. tt) (λ x. refl) (λ x h. h) refl (λ x h. (refl, refl, h)) p.level_asymmetry_allowed h
+reads field.PacketizationMode p single h = one_reads (λ x. PacketizationMode x) key.PacketizationMode (λ x. number 255 x) (λ x. lit≤ tt) (λ x. refl) (λ x h. h) refl (λ x h. (refl, refl, h)) p.packetization_mode h
+reads field.ProfileLevelId p single h = one_reads (λ x. ProfileLevelId x) key.ProfileLevelId (λ x. hex x) (λ x. tt) (λ x. refl) (λ x h. h) refl (λ x h. (refl, refl, h)) p.profile_level_id h
+reads field.ProfileId p single h = one_reads (λ x. ProfileId x) key.ProfileId (λ x. number 4294967295 x) (λ x. lit≤ tt) (λ x. refl) (λ x h. h) refl (λ x h. (refl, refl, h)) p.profile_id h
+reads field.Profile p single h = one_reads (λ x. Profile x) key.Profile (λ x. number 255 x) (λ x. lit≤ tt) (λ x. refl) (λ x h. h) refl (λ x h. (refl, refl, h)) p.profile h
+reads field.LevelIdx p single h = one_reads (λ x. LevelIdx x) key.LevelIdx (λ x. number 255 x) (λ x. lit≤ tt) (λ x. refl) (λ x h. h) refl (λ x h. (refl, refl, h)) p.level_idx h
+reads field.Tier p single h = one_reads (λ x. Tier x) key.Tier (λ x. number 255 x) (λ x. lit≤ tt) (λ x. refl) (λ x h. h) refl (λ x h. (refl, refl, h)) p.tier h
+reads field.H265ProfileTierLevel p single h = absurd (false≢true single)
+reads field.H266ProfileTierLevel p single h = absurd (false≢true single)
+reads field.SpropMaxDonDiff p single h = one_reads (λ x. SpropMaxDonDiff x) key.SpropMaxDonDiff (λ x. number 32767 x) (λ x. lit≤ tt) (λ x. refl) (λ x h. h) refl (λ x h. (refl, refl, h)) p.sprop_max_don_diff h
+reads field.TelephoneEvents p single h = absurd (false≢true single)
+reads field.OctetAlign p single h = one_reads (λ x. OctetAlign x) key.OctetAlign (λ x. flag x) (λ x. tt) (λ x. refl) (λ x h. h) refl (λ x h. (refl, refl, h)) p.octet_align h
+reads field.ModeSet p single h = one_reads (λ x. ModeSet x) key.ModeSet (λ x. modes x) (λ x. tt) (λ x. refl) (λ x h. h) refl (λ x h. (refl, refl, h)) p.mode_set h
