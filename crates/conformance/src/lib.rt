@@ -15,7 +15,7 @@ mod consistency;
 #[cfg(test)]
 mod fingerprints;
 #[cfg(test)]
-mod formats;
+mod fmtp;
 #[cfg(test)]
 mod forms;
 #[cfg(test)]
