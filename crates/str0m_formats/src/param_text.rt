@@ -1,11 +1,14 @@
 //! How parameters of formats print.
-ghost use Rattle.std.specs.Prelude.{◌++◌, Some};
+ghost use Rattle.std.specs.Prelude.{◌≡◌, ◌++◌, Some};
+ghost use Rattle.str0m_values.specs.H265 as h265;
+ghost use Rattle.str0m_values.specs.H266 as h266;
 ghost use Rattle.std.specs.Fmt.{decimal};
 ghost use Rattle.str0m_formats.specs.FormatParam.{flag_text, six_digits, mode_list, triple_text, param_text};
 ghost use Rattle.str0m_formats.specs.FormatParam.{comma_if};
 
 use crate::format_param::FormatParam;
 use std::fmt;
+use str0m_values::{H265ProfileTierLevel, H266ProfileTierLevel};
 
 /// A flag, which prints as a digit.
 #[derive(Clone, Copy)]
@@ -43,6 +46,36 @@ struct Triple {
     profile: u8,
     tier: u8,
     level: u8,
+}
+
+impl Triple {
+    fn of_h265(triple: H265ProfileTierLevel) -> Triple
+        ensures { result ≡ record {
+          profile = h265.profile_id triple.profile;
+          tier = h265.tier_flag triple.tier;
+          level = h265.level_id triple.level;
+        } }
+    {
+        Triple {
+            profile: triple.profile_id(),
+            tier: triple.tier_flag(),
+            level: triple.level_id(),
+        }
+    }
+
+    fn of_h266(triple: H266ProfileTierLevel) -> Triple
+        ensures { result ≡ record {
+          profile = h266.profile_id triple.profile;
+          tier = h266.tier_flag triple.tier;
+          level = h266.level_id triple.level;
+        } }
+    {
+        Triple {
+            profile: triple.profile_id(),
+            tier: triple.tier_flag(),
+            level: triple.level_id(),
+        }
+    }
 }
 
 impl fmt::Display for Triple {
@@ -103,62 +136,28 @@ impl fmt::Display for FormatParam {
     fn fmt<W: fmt::Write>(&self, f: &mut fmt::Formatter<W>) -> fmt::Result {
         match *self {
             FormatParam::MinPTime(n) => write!(f, "minptime={n}"),
-            FormatParam::Stereo(b) => {
-                let flag = Flag(b);
-                write!(f, "stereo={flag}")
-            }
-            FormatParam::SpropStereo(b) => {
-                let flag = Flag(b);
-                write!(f, "sprop-stereo={flag}")
-            }
-            FormatParam::UseInbandFec(b) => {
-                let flag = Flag(b);
-                write!(f, "useinbandfec={flag}")
-            }
-            FormatParam::UseDtx(b) => {
-                let flag = Flag(b);
-                write!(f, "usedtx={flag}")
-            }
-            FormatParam::LevelAsymmetryAllowed(b) => {
-                let flag = Flag(b);
-                write!(f, "level-asymmetry-allowed={flag}")
-            }
+            FormatParam::Stereo(b) => write!(f, "stereo={}", Flag(b)),
+            FormatParam::SpropStereo(b) => write!(f, "sprop-stereo={}", Flag(b)),
+            FormatParam::UseInbandFec(b) => write!(f, "useinbandfec={}", Flag(b)),
+            FormatParam::UseDtx(b) => write!(f, "usedtx={}", Flag(b)),
+            FormatParam::LevelAsymmetryAllowed(b) => write!(
+                f,
+                "level-asymmetry-allowed={}",
+                Flag(b)
+            ),
             FormatParam::PacketizationMode(n) => write!(f, "packetization-mode={n}"),
-            FormatParam::ProfileLevelId(n) => {
-                let id = SixDigits(n);
-                write!(f, "profile-level-id={id}")
-            }
+            FormatParam::ProfileLevelId(n) => write!(f, "profile-level-id={}", SixDigits(n)),
             FormatParam::ProfileId(n) => write!(f, "profile-id={n}"),
             FormatParam::Profile(n) => write!(f, "profile={n}"),
             FormatParam::LevelIdx(n) => write!(f, "level-idx={n}"),
             FormatParam::Tier(n) => write!(f, "tier={n}"),
-            FormatParam::H265ProfileTierLevel(triple) => {
-                let triple = Triple {
-                    profile: triple.profile_id(),
-                    tier: triple.tier_flag(),
-                    level: triple.level_id(),
-                };
-                write!(f, "{triple}")
-            }
-            FormatParam::H266ProfileTierLevel(triple) => {
-                let triple = Triple {
-                    profile: triple.profile_id(),
-                    tier: triple.tier_flag(),
-                    level: triple.level_id(),
-                };
-                write!(f, "{triple}")
-            }
+            FormatParam::H265ProfileTierLevel(triple) => write!(f, "{}", Triple::of_h265(triple)),
+            FormatParam::H266ProfileTierLevel(triple) => write!(f, "{}", Triple::of_h266(triple)),
             FormatParam::SpropMaxDonDiff(n) => write!(f, "sprop-max-don-diff={n}"),
             FormatParam::TelephoneEvents(n) | FormatParam::BareRange(n) => write!(f, "0-{n}"),
             FormatParam::BarePtList(pt) | FormatParam::Red(pt) => write!(f, "{pt}/{pt}"),
-            FormatParam::OctetAlign(b) => {
-                let flag = Flag(b);
-                write!(f, "octet-align={flag}")
-            }
-            FormatParam::ModeSet(mask) => {
-                let modes = ModeList(mask);
-                write!(f, "mode-set={modes}")
-            }
+            FormatParam::OctetAlign(b) => write!(f, "octet-align={}", Flag(b)),
+            FormatParam::ModeSet(mask) => write!(f, "mode-set={}", ModeList(mask)),
             FormatParam::Apt(pt) => write!(f, "apt={pt}"),
             FormatParam::AmrWbUnsupported | FormatParam::Unknown => Ok(()),
         }
