@@ -17,6 +17,8 @@ mod fingerprints;
 #[cfg(test)]
 mod fmtp;
 #[cfg(test)]
+mod formats;
+#[cfg(test)]
 mod forms;
 #[cfg(test)]
 mod header;
@@ -28,6 +30,8 @@ mod lines;
 mod offers;
 #[cfg(test)]
 mod prefixes;
+#[cfg(test)]
+mod primary_types;
 #[cfg(test)]
 mod printing;
 #[cfg(test)]

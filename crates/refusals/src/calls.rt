@@ -4,9 +4,8 @@ use crate::fault::Fault;
 use crate::samples::{
     BAD_HEADER, BAD_SECTION, CANDIDATE, MEDIA_LINES, SESSION_LINES, TEXT, sample,
 };
-use crate::values;
+use crate::{formats, values};
 use std::alloc::Global;
-use str0m_formats::FormatParam;
 use str0m_signal::{
     SdpAnswer, SdpOffer, candidate_attribute, media_attribute_line, sdp_parser,
     session_attribute_line, session_parser,
@@ -14,7 +13,7 @@ use str0m_signal::{
 use str0m_values::Items;
 
 /// The names of the calls.
-pub(crate) const NAMES: [&str; 35] = [
+pub(crate) const NAMES: [&str; 38] = [
     "session_parser",
     "session_parser_refuses",
     "sdp_parser",
@@ -31,6 +30,9 @@ pub(crate) const NAMES: [&str; 35] = [
     "answer_to_sdp_string",
     "check_consistent",
     "parse_pairs",
+    "parse_pairs_with_a_triple",
+    "parse_line",
+    "to_format_param",
     "text_from_str",
     "items_push",
     "candidate_to_sdp_string",
@@ -70,7 +72,9 @@ pub(crate) fn show(rt: &impl Print, alloc: Global, name: &str) -> Result<(), Fau
         "answer_from_sdp_string" => show_answer(rt, alloc),
         "answer_to_sdp_string" => show_answer_text(rt, alloc),
         "check_consistent" => show_messages(rt, alloc),
-        "parse_pairs" => show_params(rt, alloc),
+        "parse_pairs" | "parse_pairs_with_a_triple" | "parse_line" | "to_format_param" => {
+            formats::show(rt, alloc, name)
+        }
         _ => values::show(rt, alloc, name),
     }
 }
@@ -165,14 +169,6 @@ fn show_messages(rt: &impl Print, alloc: Global) -> Result<(), Fault> {
         section.attrs = Items::empty(alloc);
         let some = section.check_consistent(alloc)?;
         println!(rt; "{none:?} {some:?}")?;
-    }
-    Ok(())
-}
-
-fn show_params(rt: &impl Print, alloc: Global) -> Result<(), Fault> {
-    let params = FormatParam::parse_pairs(alloc, &[("minptime", "10"), ("useinbandfec", "1")])?;
-    for param in &params {
-        println!(rt; "{param}")?;
     }
     Ok(())
 }

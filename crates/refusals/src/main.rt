@@ -6,6 +6,7 @@
 mod calls;
 mod copies;
 mod fault;
+mod formats;
 mod samples;
 mod values;
 
