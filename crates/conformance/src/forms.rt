@@ -7,7 +7,7 @@ use str0m_signal::{
 
 /// Lines of sections, with the attribute's name and what it prints. The lines are those of
 /// browsers, their nearest misses, and the limits of numbers.
-const MEDIA: [(&str, &str, &str); 53] = [
+const MEDIA: [(&str, &str, &str); 61] = [
     ("a=rtcp:9 IN IP4 0.0.0.0", "Rtcp", "a=rtcp:9 IN IP4 0.0.0.0"),
     ("a=rtcp:", "Unused", "a=rtcp:"),
     ("a=ice-ufrag:6yI8", "IceUfrag", "a=ice-ufrag:6yI8"),
@@ -115,6 +115,34 @@ const MEDIA: [(&str, &str, &str); 53] = [
         "Unused",
         "a=fingerprint:sha-1 ABC",
     ),
+    (
+        "a=simulcast:send 2,3;4",
+        "Simulcast",
+        "a=simulcast:send 2;4",
+    ),
+    (
+        "a=simulcast:recv 2;3 send 4",
+        "Simulcast",
+        "a=simulcast:send 4 recv 2;3",
+    ),
+    (
+        "a=simulcast:send ~a,c;b",
+        "Simulcast",
+        "a=simulcast:send ~a;b",
+    ),
+    (
+        "a=simulcast:send \u{e9}\u{663}",
+        "Simulcast",
+        "a=simulcast:send \u{e9}\u{663}",
+    ),
+    ("a=simulcast:send a-b", "Unused", "a=simulcast:send a-b"),
+    (
+        "a=simulcast:send a send b",
+        "Unused",
+        "a=simulcast:send a send b",
+    ),
+    ("a=simulcast:send a;", "Unused", "a=simulcast:send a;"),
+    ("a=simulcast: send a", "Unused", "a=simulcast: send a"),
     ("a=extmap-allow-mixed", "Unused", "a=extmap-allow-mixed"),
     ("a=ice-lite", "Unused", "a=ice-lite"),
 ];
@@ -201,6 +229,7 @@ fn media_name(attribute: &MediaAttribute) -> &'static str {
         MediaAttribute::Ssrc { .. } => "Ssrc",
         MediaAttribute::SsrcGroup { .. } => "SsrcGroup",
         MediaAttribute::Fingerprint(_) => "Fingerprint",
+        MediaAttribute::Simulcast(_) => "Simulcast",
         MediaAttribute::Unused(_) => "Unused",
         _ => "another",
     }

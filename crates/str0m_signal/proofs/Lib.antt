@@ -13,4 +13,5 @@ pub mod ReadingLaws
 pub mod RtpMapLaws
 pub mod SectionLaws
 pub mod SessionLaws
+pub mod SimulcastLaws
 pub mod WordsLaws

@@ -12,7 +12,8 @@ use Rattle.str0m_sdp.specs.declared.setup.Setup.{Setup as Role}
 use Rattle.str0m_sdp.specs.declared.setup.Setup.TheVariants.{ActPass, Active, Passive}
 use Rattle.str0m_sdp.specs.declared.rtp_map.RtpMap.{RtpMap as Mapping}
 use Rattle.str0m_sdp.specs.declared.attribute.MediaAttribute.{MediaAttribute}
-use Rattle.str0m_sdp.specs.declared.attribute.MediaAttribute.TheVariants.{Rtcp, IceUfrag, IcePwd, IceOptions, Fingerprint, Setup, Mid, SctpPort, MaxMessageSize, SctpInit, ExtMap, RecvOnly, SendRecv, SendOnly, Inactive, Msid, RtcpMux, RtcpMuxOnly, RtcpRsize, Candidate, EndOfCandidates, RtpMap, RtcpFb, Fmtp, SsrcGroup, Ssrc, Unused}
+use Rattle.str0m_sdp.specs.declared.attribute.MediaAttribute.TheVariants.{Rtcp, IceUfrag, IcePwd, IceOptions, Fingerprint, Setup, Mid, SctpPort, MaxMessageSize, SctpInit, ExtMap, RecvOnly, SendRecv, SendOnly, Inactive, Msid, RtcpMux, RtcpMuxOnly, RtcpRsize, Candidate, EndOfCandidates, RtpMap, RtcpFb, Fmtp, Simulcast, SsrcGroup, Ssrc, Unused}
+use Rattle.str0m_signal.proofs.SimulcastLaws.{simulcast_fields_both}
 use Rattle.str0m_values.specs.Parts.{IsPt}
 use Rattle.str0m_signal.specs.Forms.{IsText, Two, Tailed}
 use Rattle.str0m_signal.specs.FormReading.{text_read, two_read, tailed_read, parted_read}
@@ -33,7 +34,7 @@ use Rattle.str0m_signal.specs.MediaAttribute.{Named, IsUnused, MediaForm, IsMedi
 use Rattle.str0m_values.specs.Cuts.{◌>>=◌, ◌<|>◌, cut, strip, when, is_rest, num}
 use Rattle.str0m_formats.specs.declared.format_param.FormatParam.{FormatParam}
 use Rattle.str0m_signal.specs.FmtpReading.{fmtp_fields_read}
-use Rattle.str0m_signal.specs.MediaAttributeReading.{words_read, texts_read, numbers_read, candidate_form_read, fingerprint_form_read, fmtp_read, role_read, setup_read, mid_read, rtpmap_read, plain_read, held_read, named_read, media_read}
+use Rattle.str0m_signal.specs.MediaAttributeReading.{words_read, texts_read, numbers_read, candidate_form_read, fingerprint_form_read, fmtp_read, role_read, setup_read, mid_read, rtpmap_read, plain_read, simulcast_read, fields_read, held_read, named_read, media_read}
 use Rattle.str0m_signal.specs.RtpMapReading.{rtpmap_fields_read}
 use Rattle.str0m_signal.proofs.RtpMapLaws.{rtpmap_fields_both}
 use Rattle.str0m_values.specs.ShortText.{beginning_of}
@@ -159,16 +160,19 @@ fingerprint_sound = form_sound Fingerprint fingerprint_both (λ text x h. h)
 plain_sound : Sound Named plain_read
 plain_sound = sound_or words_sound (sound_or setup_sound (sound_or mid_sound (sound_or numbers_sound rtpmap_sound)))
 
-held_sound : Sound Named held_read
-held_sound =
-    sound_or texts_sound
-    (sound_or candidate_sound
-    (sound_or ext_map_sound
+simulcast_sound : Sound Named simulcast_read
+simulcast_sound = form_sound Simulcast (behind_both (codes "simulcast:") simulcast_fields_both) (λ text x h. h)
+
+fields_sound : Sound Named fields_read
+fields_sound =
+    sound_or ext_map_sound
     (sound_or msid_sound
     (sound_or rtcp_fb_sound
     (sound_or ssrc_sound
-    (sound_or ssrc_group_sound
-    (sound_or fingerprint_sound fmtp_sound)))))))
+    (sound_or ssrc_group_sound simulcast_sound))))
+
+held_sound : Sound Named held_read
+held_sound = sound_or texts_sound (sound_or candidate_sound (sound_or fields_sound (sound_or fingerprint_sound fmtp_sound)))
 
 named_sound : Sound Named named_read
 named_sound = sound_or plain_sound held_sound
@@ -229,6 +233,7 @@ named_complete text (Fmtp pt values) h =
     let fields = fmtp_fields_both.complete text (pt, values) h in
     ap named_read h.joined ∙ fmtp_named (codes "fmtp:" ++ (h.number ++ h.more)) pt values (ap fmtp_fields_read (sym h.joined) ∙ fields) h.number h.more refl
 named_complete text (RtcpFb pt value) h = ap named_read h.1 ∙ rw (rtcp_fb_fields.complete h.0 (pt, value) h.2) refl
+named_complete text (Simulcast simulcast) h = ap named_read h.1 ∙ rw (simulcast_fields_both.complete h.0 simulcast h.2) refl
 named_complete text (SsrcGroup semantics ssrcs) h = ap named_read h.1 ∙ rw (ssrc_group_fields.complete h.0 (semantics, ssrcs) h.2) refl
 named_complete text (Ssrc ssrc attr value) h = ap named_read h.1 ∙ rw (ssrc_fields.complete h.0 (ssrc, (attr, value)) h.2) refl
 named_complete text _ h = absurd h

@@ -21,6 +21,10 @@ pub mod Section
 pub mod SectionReading
 pub mod SessionAttribute
 pub mod SessionAttributeReading
+pub mod Sides
+pub mod Simulcast
+pub mod SimulcastReading
+pub mod StreamName
 pub mod Words
 pub mod WordsReading
 pub use Rattle.str0m_sdp.specs.Session

@@ -4,9 +4,10 @@ use Rattle.std.specs.Str.{bytes_eq}
 use Rattle.str0m_sdp.specs.declared.setup.Setup.{Setup as Role}
 use Rattle.str0m_sdp.specs.declared.setup.Setup.TheVariants.{ActPass, Active, Passive}
 use Rattle.str0m_sdp.specs.declared.attribute.MediaAttribute.{MediaAttribute}
-use Rattle.str0m_sdp.specs.declared.attribute.MediaAttribute.TheVariants.{Rtcp, IceUfrag, IcePwd, IceOptions, Fingerprint, Setup, Mid, SctpPort, MaxMessageSize, SctpInit, RecvOnly, SendRecv, SendOnly, Inactive, RtcpMux, RtcpMuxOnly, RtcpRsize, Candidate, EndOfCandidates, RtpMap, Fmtp, Unused}
+use Rattle.str0m_sdp.specs.declared.attribute.MediaAttribute.TheVariants.{Rtcp, IceUfrag, IcePwd, IceOptions, Fingerprint, Setup, Mid, SctpPort, MaxMessageSize, SctpInit, RecvOnly, SendRecv, SendOnly, Inactive, RtcpMux, RtcpMuxOnly, RtcpRsize, Candidate, EndOfCandidates, RtpMap, Fmtp, Simulcast, Unused}
 use Rattle.str0m_values.specs.CandidateReading.{candidate_read}
 use Rattle.str0m_signal.specs.FieldsReading.{ext_map_read, msid_read, rtcp_fb_read, ssrc_read, ssrc_group_read, fingerprint_read}
+use Rattle.str0m_signal.specs.SimulcastReading.{simulcast_fields_read}
 use Rattle.str0m_signal.specs.FormReading.{alone, behind, text_read}
 use Rattle.str0m_values.specs.ShortText.{beginning_of}
 use Rattle.str0m_signal.specs.RtpMapReading.{rtpmap_fields_read}
@@ -78,16 +79,25 @@ plain_read text =
     <|> numbers_read text
     <|> rtpmap_read text
 
+abbrev pub simulcast_read : List ℕ → Option MediaAttribute
+simulcast_read text = behind (codes "simulcast:") simulcast_fields_read text >>= λ simulcast. Some (Simulcast simulcast)
+
+-- the forms of fields
+abbrev pub fields_read : List ℕ → Option MediaAttribute
+fields_read text =
+    ext_map_read text
+    <|> msid_read text
+    <|> rtcp_fb_read text
+    <|> ssrc_read text
+    <|> ssrc_group_read text
+    <|> simulcast_read text
+
 -- the forms of which something is kept
 abbrev pub held_read : List ℕ → Option MediaAttribute
 held_read text =
     texts_read text
     <|> candidate_form_read text
-    <|> ext_map_read text
-    <|> msid_read text
-    <|> rtcp_fb_read text
-    <|> ssrc_read text
-    <|> ssrc_group_read text
+    <|> fields_read text
     <|> fingerprint_form_read text
     <|> fmtp_read text
 

@@ -20,6 +20,7 @@ mod reader;
 mod rtp_map;
 mod section;
 mod session_attribute;
+mod simulcast;
 mod sources;
 mod words;
 

@@ -2,7 +2,7 @@
 
 ghost use Rattle.std.specs.Prelude.{◌≡◌, IfOk};
 ghost use Rattle.str0m_signal.specs.MediaAttribute.{IsMediaLine};
-ghost use Rattle.str0m_signal.specs.MediaAttributeReading.{words_read, texts_read, numbers_read, candidate_form_read, fingerprint_form_read, setup_read, mid_read, plain_read, held_read, named_read, media_read};
+ghost use Rattle.str0m_signal.specs.MediaAttributeReading.{words_read, texts_read, numbers_read, candidate_form_read, fingerprint_form_read, setup_read, mid_read, plain_read, fields_read, held_read, named_read, media_read};
 ghost use Rattle.str0m_signal.specs.Chains.{Run};
 ghost use Rattle.str0m_signal.specs.Lines.{OneLine};
 ghost use Rattle.str0m_signal.specs.LineReading.{lines_of};
@@ -13,6 +13,7 @@ use crate::fields::{kept, num_u64, role, short};
 use crate::fingerprint::fingerprint;
 use crate::fmtp::fmtp;
 use crate::rtp_map::rtp_map;
+use crate::simulcast::simulcast_line;
 use crate::sources::{msid, rtcp_fb, ssrc, ssrc_group};
 use std::alloc::{AllocError, Global};
 use str0m_sdp::MediaAttribute;
@@ -124,16 +125,10 @@ fn plain(text: &str) -> Option<MediaAttribute>
     rtp_map(text)
 }
 
-/// The forms of which something is kept that takes memory.
-fn held(alloc: Global, text: &str) -> Result<Option<MediaAttribute>, AllocError>
-    ensures { IfOk result (λ found. found ≡ held_read text.now) }
+/// The forms of fields.
+fn fields(alloc: Global, text: &str) -> Result<Option<MediaAttribute>, AllocError>
+    ensures { IfOk result (λ found. found ≡ fields_read text.now) }
 {
-    if let Some(found) = labelled_text(alloc, text)? {
-        return Ok(Some(found));
-    }
-    if let Some(found) = candidate_form(alloc, text)? {
-        return Ok(Some(found));
-    }
     if let Some(found) = ext_map(alloc, text)? {
         return Ok(Some(found));
     }
@@ -147,6 +142,22 @@ fn held(alloc: Global, text: &str) -> Result<Option<MediaAttribute>, AllocError>
         return Ok(Some(found));
     }
     if let Some(found) = ssrc_group(alloc, text)? {
+        return Ok(Some(found));
+    }
+    simulcast_line(alloc, text)
+}
+
+/// The forms of which something is kept that takes memory.
+fn held(alloc: Global, text: &str) -> Result<Option<MediaAttribute>, AllocError>
+    ensures { IfOk result (λ found. found ≡ held_read text.now) }
+{
+    if let Some(found) = labelled_text(alloc, text)? {
+        return Ok(Some(found));
+    }
+    if let Some(found) = candidate_form(alloc, text)? {
+        return Ok(Some(found));
+    }
+    if let Some(found) = fields(alloc, text)? {
         return Ok(Some(found));
     }
     if let Some(found) = fingerprint_form(alloc, text)? {

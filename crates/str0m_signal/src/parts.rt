@@ -23,7 +23,7 @@ pub(crate) trait Part: Drop {
 }
 
 /// Whether the text is items with `at` between each two.
-fn are_parts<T: Part>(text: &str, at: char) -> bool
+pub(crate) fn are_parts<T: Part>(text: &str, at: char) -> bool
     requires { at < 128 }
     ensures { result ≡ is_some (parted_read at T.reading text.now) }
 {

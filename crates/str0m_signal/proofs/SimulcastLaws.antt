@@ -1,0 +1,217 @@
+-- A simulcast line is read exactly where its form holds.
+use Rattle.std.proofs.Common.{◌≡◌, ◌≢◌, ◌⊎◌, ◌<◌, ℕ, Bool, true, false, cond, eqb, List, [], ◌∷◌, ◌++◌, length, Option, Some, None, refl, sym, ap, subst, ◌∙◌, arith, inl, inr}
+use Rattle.std.specs.Prelude.{codes, is_some, ◌&&◌}
+use Rattle.std.specs.List.{list_all}
+use Rattle.std.specs.Str.{chars}
+use Rattle.std.proofs.lemmas.Bool.{ltb-true, ne_eqb, and_parts, and_from}
+use Rattle.str0m_sdp.specs.declared.simulcast.RestrictionId.{RestrictionId}
+use Rattle.str0m_sdp.specs.declared.simulcast.SimulcastLayer.{SimulcastLayer}
+use Rattle.str0m_sdp.specs.declared.simulcast.Simulcast.{Simulcast}
+use Rattle.str0m_sdp.specs.Simulcast.{name_text, id_text}
+use Rattle.str0m_values.specs.Cuts.{◌>>=◌, ◌<|>◌, cut, strip, when, is_rest, lacks}
+use Rattle.str0m_values.specs.Joined.{Parted}
+use Rattle.str0m_values.specs.Parts.{Lacks, IsRest}
+use Rattle.str0m_values.proofs.BothWays.{Sound, Reads, bind_some, some_is, or_some, sound_or}
+use Rattle.str0m_values.proofs.CutLaws.{cut_none, cut_none_lacks, cut_at, cut_found, strip_found, lacks_true, lacks_from}
+use Rattle.str0m_values.proofs.NumLaws.{when_some, when_true, rest_true}
+use Rattle.str0m_signal.specs.Forms.{Behind, Two}
+use Rattle.str0m_signal.specs.FormReading.{behind, parted_read}
+use Rattle.str0m_signal.specs.StreamName.{is_name_character, IsStreamName, is_stream_name}
+use Rattle.str0m_signal.specs.Simulcast.{IsAlternative, IsLayer, IsSide, AreBoth, AreSides, IsSimulcast}
+use Rattle.str0m_signal.specs.SimulcastReading.{alternative_after, alternative_read, first_after, layer_read, side_read, sides_after, sides_read, layers_of, simulcast_fields_read}
+use Rattle.str0m_signal.proofs.FormLaws.{behind_both, form_sound}
+use Rattle.str0m_signal.proofs.PartLaws.{parted_both}
+
+-- ---- names
+
+name_from : (text : List ℕ) → is_stream_name text ≡ true → IsStreamName text
+name_from text e =
+    let a = and_parts (is_rest text) _ e in
+    let b = and_parts (list_all is_name_character (chars text)) _ a.1 in
+    let c = and_parts (lacks 32 text) _ b.1 in
+    let d = and_parts (lacks 44 text) _ c.1 in
+    let f = and_parts (lacks 59 text) (lacks 126 text) d.1 in
+    record { filled = ltb-true 0 (length text) a.0; characters = b.0; space = lacks_from 32 text c.0; comma = lacks_from 44 text d.0; semicolon = lacks_from 59 text f.0; tilde = lacks_from 126 text f.1 }
+
+name_true : (text : List ℕ) → IsStreamName text → is_stream_name text ≡ true
+name_true text h =
+    and_from (is_rest text) _ (rest_true text h.filled)
+    (and_from (list_all is_name_character (chars text)) _ h.characters
+    (and_from (lacks 32 text) _ (lacks_true 32 text h.space)
+    (and_from (lacks 44 text) _ (lacks_true 44 text h.comma)
+    (and_from (lacks 59 text) (lacks 126 text) (lacks_true 59 text h.semicolon) (lacks_true 126 text h.tilde)))))
+
+-- ---- alternatives
+
+alternative_found : (text : List ℕ) (id : RestrictionId) (o : Option (List ℕ)) → strip (codes "~") text ≡ o → alternative_after text o ≡ Some id → IsAlternative text id
+alternative_found text id None is e =
+    let w = when_some (is_stream_name text) (record { 0 = text; 1 = true }) id e in
+    rw (← w.1) (refl, name_from text w.0)
+alternative_found text id (Some name) is e =
+    let w = when_some (is_stream_name name) (record { 0 = name; 1 = false }) id e in
+    rw (← w.1) (strip_found (codes "~") text name is, name_from name w.0)
+
+no_tilde : (text : List ℕ) → IsRest text → Lacks 126 text → strip (codes "~") text ≡ None
+no_tilde [] filled h = absurd (omega (arith, filled))
+no_tilde (x ∷ xs) filled h = rw (ne_eqb 126 x (λ e. h.0 (sym e))) refl
+
+alternative_given : (text name : List ℕ) (active : Bool) → text ≡ name_text name active → IsStreamName name → alternative_read text ≡ Some (record { 0 = name; 1 = active })
+alternative_given text name true is h = ap alternative_read is ∙ rw (no_tilde name h.filled h.tilde, name_true name h) refl
+alternative_given text name false is h = ap alternative_read is ∙ rw (name_true name h) refl
+
+alternative_both : Reads IsAlternative alternative_read
+alternative_both = record {
+  sound = λ text id e. alternative_found text id (strip (codes "~") text) refl e;
+  complete = λ text id h. alternative_given text id.0 id.1 h.0 h.1;
+}
+
+alternative_lacks : (c : ℕ) → 126 ≢ c → ((name : List ℕ) → IsStreamName name → Lacks c name) → (text name : List ℕ) (active : Bool) → text ≡ name_text name active → IsStreamName name → Lacks c text
+alternative_lacks c other lacks text name true is h = rw is (lacks name h)
+alternative_lacks c other lacks text name false is h = rw is (other, lacks name h)
+
+alternative_comma : (text : List ℕ) (id : RestrictionId) → IsAlternative text id → Lacks 44 text
+alternative_comma text id h = alternative_lacks 44 (λ e. absurd (omega arith)) (λ name k. k.comma) text id.0 id.1 h.0 h.1
+
+alternatives_both : Reads (Parted 44 IsAlternative) (parted_read 44 alternative_read)
+alternatives_both = parted_both 44 alternative_both alternative_comma
+
+-- ---- what parts lack, the whole lacks
+
+lacks_joined : (c d : ℕ) (a b : List ℕ) → d ≢ c → Lacks c a → Lacks c b → Lacks c (a ++ (d ∷ b))
+lacks_joined c d [] b other h k = (other, k)
+lacks_joined c d (x ∷ xs) b other h k = (h.0, lacks_joined c d xs b other h.1 k)
+
+parted_lacks : {A : Type 0} {F : List ℕ → A → Type 0} (c d : ℕ) → d ≢ c → ((text : List ℕ) (x : A) → F text x → Lacks c text) → (xs : List A) (text : List ℕ) → Parted d F text xs → Lacks c text
+parted_lacks c d other lacks [] text h = absurd h
+parted_lacks c d other lacks (x ∷ []) text h = lacks text x h
+parted_lacks c d other lacks (x ∷ (y ∷ ys)) text h = rw h.2 (lacks_joined c d h.0 h.1 other (lacks h.0 x h.3) (parted_lacks c d other lacks (y ∷ ys) h.1 h.4))
+
+-- ---- layers
+
+first_found : (text : List ℕ) (id : RestrictionId) (o : Option (List ℕ × List ℕ)) → cut 44 text ≡ o → first_after text o ≡ Some id → (others : List RestrictionId) × Parted 44 IsAlternative text (id ∷ others)
+first_found text id None is e = ([], alternative_both.sound text id e)
+first_found text id (Some p) is e =
+    let a = bind_some (alternative_read p.0) (λ x. when (is_some (parted_read 44 alternative_read p.1)) x) id e in
+    let w = when_some (is_some (parted_read 44 alternative_read p.1)) a.0 id a.2 in
+    let first : IsAlternative p.0 id = alternative_both.sound p.0 id (a.1 ∙ ap (λ (x : RestrictionId). Some x) w.1) in
+    let found = cut_found 44 text p.0 p.1 is in
+    others_of (parted_read 44 alternative_read p.1) refl w.0 p.0 found.0 first
+  where
+    listed : (front : List ℕ) → text ≡ front ++ (44 ∷ p.1) → IsAlternative front id → (others : List RestrictionId) → Parted 44 IsAlternative p.1 others → (more : List RestrictionId) × Parted 44 IsAlternative text (id ∷ more)
+    listed front joined first [] h = absurd h
+    listed front joined first (x ∷ xs) h = (x ∷ xs, (front, p.1, joined, first, h))
+
+    others_of : (o : Option (List RestrictionId)) → parted_read 44 alternative_read p.1 ≡ o → is_some o ≡ true → (front : List ℕ) → text ≡ front ++ (44 ∷ p.1) → IsAlternative front id → (more : List RestrictionId) × Parted 44 IsAlternative text (id ∷ more)
+    others_of None e some front joined first = absurd cc
+    others_of (Some others) e some front joined first = listed front joined first others (alternatives_both.sound p.1 others e)
+
+first_given : (text : List ℕ) (id : RestrictionId) (others : List RestrictionId) → Parted 44 IsAlternative text (id ∷ others) → first_after text (cut 44 text) ≡ Some id
+first_given text id [] h = rw (cut_none 44 text (alternative_comma text id h)) (alternative_both.complete text id h)
+first_given text id (x ∷ xs) h =
+    ap (λ (t : List ℕ). first_after t (cut 44 t)) h.2
+    ∙ ap (λ (o : Option (List ℕ × List ℕ)). first_after (h.0 ++ (44 ∷ h.1)) o) (cut_at 44 h.0 h.1 (alternative_comma h.0 id h.3))
+    ∙ ap (λ (o : Option RestrictionId). o >>= λ y. when (is_some (parted_read 44 alternative_read h.1)) y) (alternative_both.complete h.0 id h.3)
+    ∙ when_true (is_some (parted_read 44 alternative_read h.1)) id (ap (λ (o : Option (List RestrictionId)). is_some o) (alternatives_both.complete h.1 (x ∷ xs) h.4))
+
+layer_both : Reads IsLayer layer_read
+layer_both = record {
+  sound = λ text layer e.
+      let a = bind_some (first_after text (cut 44 text)) (λ id. Some (record { restriction_id = id; attributes = None })) layer e in
+      let found = first_found text a.0 (cut 44 text) refl a.1 in
+      subst (IsLayer text) (some_is (record { restriction_id = a.0; attributes = None }) layer a.2) (found.0, found.1, refl);
+  complete = λ text layer h.
+      ap (λ (o : Option RestrictionId). o >>= λ id. Some (record { restriction_id = id; attributes = None })) (first_given text layer.restriction_id h.0 h.1)
+      ∙ ap (λ (attributes : Option (List (List ℕ × List ℕ))). let made : SimulcastLayer = record { restriction_id = layer.restriction_id; attributes = attributes } in Some made) (sym h.2);
+}
+
+layer_semicolon : (text : List ℕ) (layer : SimulcastLayer) → IsLayer text layer → Lacks 59 text
+layer_semicolon text layer h =
+    parted_lacks {F = IsAlternative} 59 44 (λ e. absurd (omega arith)) (λ t id k. alternative_lacks 59 (λ e. absurd (omega arith)) (λ name n. n.semicolon) t id.0 id.1 k.0 k.1) (layer.restriction_id ∷ h.0) text h.1
+
+layer_space : (text : List ℕ) (layer : SimulcastLayer) → IsLayer text layer → Lacks 32 text
+layer_space text layer h =
+    parted_lacks {F = IsAlternative} 32 44 (λ e. absurd (omega arith)) (λ t id k. alternative_lacks 32 (λ e. absurd (omega arith)) (λ name n. n.space) t id.0 id.1 k.0 k.1) (layer.restriction_id ∷ h.0) text h.1
+
+side_both : Reads IsSide side_read
+side_both = parted_both 59 layer_both layer_semicolon
+
+side_space : (text : List ℕ) (layers : List SimulcastLayer) → IsSide text layers → Lacks 32 text
+side_space text layers h = parted_lacks {F = IsLayer} 32 59 (λ e. absurd (omega arith)) layer_space layers text h
+
+-- ---- sides
+
+-- one side behind its word, or the other one behind it
+abbrev AreOrdered : List ℕ → List ℕ → List SimulcastLayer → List SimulcastLayer → Type 0
+AreOrdered other text first [] = IsSide text first
+AreOrdered other text first (x ∷ second) = Two 32 IsSide (Behind other IsSide) text (first, x ∷ second)
+
+sides_found : (other text : List ℕ) (sides : List SimulcastLayer × List SimulcastLayer) (o : Option (List ℕ × List ℕ)) → cut 32 text ≡ o → sides_after other text o ≡ Some sides → AreOrdered other text sides.0 sides.1
+sides_found other text sides None is e =
+    let a = bind_some (side_read text) (λ first. Some (first, [])) sides e in
+    rw (← some_is (a.0, []) sides a.2) (side_both.sound text a.0 a.1)
+sides_found other text sides (Some p) is e =
+    let a = bind_some (side_read p.0) (λ first. behind other side_read p.1 >>= λ second. Some (first, second)) sides e in
+    let b = bind_some (behind other side_read p.1) (λ second. Some (a.0, second)) sides a.2 in
+    let found = cut_found 32 text p.0 p.1 is in
+    let second = (behind_both other side_both).sound p.1 b.0 b.1 in
+    rw (← some_is (a.0, b.0) sides b.2) (both a.0 b.0 (p.0, p.1, found.0, found.1, side_both.sound p.0 a.0 a.1, second))
+  where
+    both : (first second : List SimulcastLayer) → Two 32 IsSide (Behind other IsSide) text (first, second) → AreOrdered other text first second
+    both first [] h = absurd h.5.2
+    both first (x ∷ xs) h = h
+
+sides_given : (other text : List ℕ) (first second : List SimulcastLayer) → AreOrdered other text first second → sides_read other text ≡ Some (first, second)
+sides_given other text first [] h = rw (cut_none 32 text (side_space text first h), side_both.complete text first h) refl
+sides_given other text first (x ∷ second) h =
+    ap (sides_read other) h.2 ∙ rw (cut_at 32 h.0 h.1 h.3, side_both.complete h.0 first h.4, (behind_both other side_both).complete h.1 (x ∷ second) h.5) refl
+
+sent_first : (text : List ℕ) (first second : List SimulcastLayer) → Behind (codes "send ") (λ body layers. AreOrdered (codes "recv ") body first second) text first → AreSides text first second
+sent_first text [] [] h = absurd h.2
+sent_first text [] (x ∷ xs) h = absurd h.2.4
+sent_first text (s ∷ send) [] h = h
+sent_first text (s ∷ send) (x ∷ xs) h = inl h
+
+received_first : (text : List ℕ) (first second : List SimulcastLayer) → Behind (codes "recv ") (λ body layers. AreOrdered (codes "send ") body first second) text first → AreSides text second first
+received_first text [] [] h = absurd h.2
+received_first text [] (x ∷ xs) h = absurd h.2.4
+received_first text (r ∷ recv) [] h = h
+received_first text (r ∷ recv) (x ∷ xs) h = inr h
+
+abbrev sent_read : List ℕ → Option Simulcast
+sent_read text = behind (codes "send ") (sides_read (codes "recv ")) text >>= λ sides. Some (layers_of sides.0 sides.1)
+
+abbrev received_read : List ℕ → Option Simulcast
+received_read text = behind (codes "recv ") (sides_read (codes "send ")) text >>= λ sides. Some (layers_of sides.1 sides.0)
+
+sent_sound : Sound IsSimulcast sent_read
+sent_sound = record {
+  law = λ text x e.
+      let a = bind_some (behind (codes "send ") (sides_read (codes "recv ")) text) (λ sides. Some (layers_of sides.0 sides.1)) x e in
+      let b = bind_some (strip (codes "send ") text) (sides_read (codes "recv ")) a.0 a.1 in
+      let found = sides_found (codes "recv ") b.0 a.0 (cut 32 b.0) refl b.2 in
+      subst (IsSimulcast text) (some_is (layers_of a.0.0 a.0.1) x a.2) (sent_first text a.0.0 a.0.1 (b.0, strip_found (codes "send ") text b.0 b.1, found), refl);
+}
+
+received_sound : Sound IsSimulcast received_read
+received_sound = record {
+  law = λ text x e.
+      let a = bind_some (behind (codes "recv ") (sides_read (codes "send ")) text) (λ sides. Some (layers_of sides.1 sides.0)) x e in
+      let b = bind_some (strip (codes "recv ") text) (sides_read (codes "send ")) a.0 a.1 in
+      let found = sides_found (codes "send ") b.0 a.0 (cut 32 b.0) refl b.2 in
+      subst (IsSimulcast text) (some_is (layers_of a.0.1 a.0.0) x a.2) (received_first text a.0.0 a.0.1 (b.0, strip_found (codes "recv ") text b.0 b.1, found), refl);
+}
+
+sides_complete : (text : List ℕ) (send recv : List SimulcastLayer) → AreSides text send recv → simulcast_fields_read text ≡ Some (layers_of send recv)
+sides_complete text [] [] h = absurd h
+sides_complete text (s ∷ send) [] h = ap simulcast_fields_read h.1 ∙ rw (sides_given (codes "recv ") h.0 (s ∷ send) [] h.2) refl
+sides_complete text [] (r ∷ recv) h = ap simulcast_fields_read h.1 ∙ rw (sides_given (codes "send ") h.0 (r ∷ recv) [] h.2) refl
+sides_complete text (s ∷ send) (r ∷ recv) (inl h) = ap simulcast_fields_read h.1 ∙ rw (sides_given (codes "recv ") h.0 (s ∷ send) (r ∷ recv) h.2) refl
+sides_complete text (s ∷ send) (r ∷ recv) (inr h) = ap simulcast_fields_read h.1 ∙ rw (sides_given (codes "send ") h.0 (r ∷ recv) (s ∷ send) h.2) refl
+
+pub simulcast_fields_both : Reads IsSimulcast simulcast_fields_read
+simulcast_fields_both = record {
+  sound = (sound_or sent_sound received_sound).law;
+  complete = λ text x h.
+      sides_complete text x.send.0 x.recv.0 h.0
+      ∙ ap (λ (munged : Bool). let made : Simulcast = record { send = x.send; recv = x.recv; is_munged = munged } in Some made) (sym h.1);
+}
