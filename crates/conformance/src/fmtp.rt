@@ -5,7 +5,7 @@ use std::test::Fail;
 use str0m_signal::{FormatParam, Items, MediaAttribute, media_attribute_line};
 
 /// What stands behind `a=fmtp:111`, and the values that it gives: each as it prints, or `?` for one that isn't known.
-const VALUES: [(&str, &str); 22] = [
+const VALUES: [(&str, &str); 23] = [
     (" minptime=10", "minptime=10 "),
     (" minptime=10;useinbandfec=1", "minptime=10 useinbandfec=1 "),
     (
@@ -21,6 +21,7 @@ const VALUES: [(&str, &str); 22] = [
     (" minptime=10;;", "? "),
     (" minptime=10; ;", "? "),
     (" minptime=10;;useinbandfec=1", "minptime=10 ? "),
+    (" minptime=10;;stereo=1", "minptime=10 ? "),
     (" ;minptime=10", "? "),
     (" minptime=10 useinbandfec=1", "? "),
     (" MinPTime=10", "minptime=10 "),
