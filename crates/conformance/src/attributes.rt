@@ -81,6 +81,13 @@ const MIDS: [(&str, &str); 7] = [
     ("a=mid:0123456789abcd😀", "0123456789abcd"),
 ];
 
+/// Lines that say who begins.
+const SETUPS: [(&str, Setup); 3] = [
+    ("a=setup:actpass", Setup::ActPass),
+    ("a=setup:active\n", Setup::Active),
+    ("a=setup:passive\r\n", Setup::Passive),
+];
+
 fn of_session(alloc: Global, line: &str) -> Result<SessionAttribute, Fail> {
     Ok(session_attribute_line(alloc, line)?.0)
 }
@@ -105,6 +112,29 @@ fn kept_by_section(alloc: Global, text: &str) -> Result<Text, Fail> {
         MediaAttribute::Unused(kept) => Ok(kept),
         _ => Err("another attribute")?,
     }
+}
+
+/// Who begins, as a session says it.
+fn setup_of_session(alloc: Global, line: &str) -> Result<Setup, Fail> {
+    let attribute = of_session(alloc, line)?;
+    match &attribute {
+        SessionAttribute::Setup(setup) => Ok(*setup),
+        _ => Err("no setup")?,
+    }
+}
+
+/// Who begins, as a section says it.
+fn setup_of_section(alloc: Global, line: &str) -> Result<Setup, Fail> {
+    let attribute = of_section(alloc, line)?;
+    match &attribute {
+        MediaAttribute::Setup(setup) => Ok(*setup),
+        _ => Err("no setup")?,
+    }
+}
+
+/// An attribute of a section, printed.
+fn printed(alloc: Global, line: &str) -> Result<String, Fail> {
+    Ok(of_section(alloc, line)?.to_string(alloc)?)
 }
 
 /// The name of a section.
@@ -158,44 +188,32 @@ fn a_session_keeps_what_is_a_sections_alone(rt: HostRuntime) -> Result<(), Fail>
 
 #[test]
 fn setup_of_a_session_says_who_begins(rt: HostRuntime) -> Result<(), Fail> {
-    let found = of_session(rt.alloc(), "a=setup:actpass")?;
-    assert_eq!(rt; found, SessionAttribute::Setup(Setup::ActPass));
-    let found = of_session(rt.alloc(), "a=setup:active\n")?;
-    assert_eq!(rt; found, SessionAttribute::Setup(Setup::Active));
-    let found = of_session(rt.alloc(), "a=setup:passive\r\n")?;
-    assert_eq!(rt; found, SessionAttribute::Setup(Setup::Passive));
+    for (line, want) in SETUPS {
+        assert_eq!(rt; setup_of_session(rt.alloc(), line)?, want, "{line:?}");
+    }
     Ok(())
 }
 
 #[test]
 fn setup_of_a_section_says_who_begins(rt: HostRuntime) -> Result<(), Fail> {
-    let found = of_section(rt.alloc(), "a=setup:actpass")?;
-    assert_eq!(rt; found, MediaAttribute::Setup(Setup::ActPass));
-    let found = of_section(rt.alloc(), "a=setup:active\n")?;
-    assert_eq!(rt; found, MediaAttribute::Setup(Setup::Active));
-    let found = of_section(rt.alloc(), "a=setup:passive\r\n")?;
-    assert_eq!(rt; found, MediaAttribute::Setup(Setup::Passive));
+    for (line, want) in SETUPS {
+        assert_eq!(rt; setup_of_section(rt.alloc(), line)?, want, "{line:?}");
+    }
     Ok(())
 }
 
+/// Each prints the word that it was read of.
 #[test]
 fn directions_are_words(rt: HostRuntime) -> Result<(), Fail> {
-    assert_eq!(rt;
-        of_section(rt.alloc(), "a=recvonly\r\n")?,
-        MediaAttribute::RecvOnly
-    );
-    assert_eq!(rt;
-        of_section(rt.alloc(), "a=sendrecv\r\n")?,
-        MediaAttribute::SendRecv
-    );
-    assert_eq!(rt;
-        of_section(rt.alloc(), "a=sendonly\r\n")?,
-        MediaAttribute::SendOnly
-    );
-    assert_eq!(rt;
-        of_section(rt.alloc(), "a=inactive\r\n")?,
-        MediaAttribute::Inactive
-    );
+    for line in [
+        "a=recvonly\r\n",
+        "a=sendrecv\r\n",
+        "a=sendonly\r\n",
+        "a=inactive\r\n",
+    ] {
+        let found = printed(rt.alloc(), line)?;
+        assert_eq!(rt; found.as_str(), line);
+    }
     Ok(())
 }
 
