@@ -37,9 +37,46 @@ const VALUES: [(&str, &str); 23] = [
     ("", "? "),
 ];
 
+/// What stands behind `a=fmtp:63` where payload types are listed (RFC 2198, section 5), and what it is: the first type
+/// of two or more, as it prints.
+const LISTS: [(&str, &str); 12] = [
+    (" 111/111", "list 111/111"),
+    (" 111/255", "list 111/111"),
+    (" 255/0", "list 255/255"),
+    (" +1/002/3", "list 1/1"),
+    (" 111", "unknown "),
+    (" 111/256", "unknown "),
+    (" 256/111", "unknown "),
+    (" 111/", "unknown "),
+    (" /111", "unknown "),
+    (" 111//111", "unknown "),
+    (" 111/111 ", "unknown "),
+    ("  111/111", "unknown "),
+];
+
+/// What stands behind `a=fmtp:101` where a range is given (RFC 4733, section 2.4), and what it is: a range from 0 on, as
+/// it prints.
+const RANGES: [(&str, &str); 12] = [
+    (" 0-15", "range 0-15"),
+    (" 0-16", "range 0-16"),
+    (" 0-255", "range 0-255"),
+    (" 0-0", "range 0-0"),
+    (" 0-007", "range 0-7"),
+    (" 0-256", "unknown "),
+    (" 1-15", "unknown "),
+    (" 00-15", "unknown "),
+    (" 0-", "unknown "),
+    (" 0-+15", "unknown "),
+    (" 0-15,16", "unknown "),
+    ("  0-15", "unknown "),
+];
+
 /// Lines of formats, and what they print: values that aren't known print nothing, and a line of them alone isn't
 /// printed.
-const PRINTED: [(&str, &str); 6] = [
+const PRINTED: [(&str, &str); 9] = [
+    ("a=fmtp:63 111/111", "a=fmtp:63 111/111\r\n"),
+    ("a=fmtp:63 111/112", "a=fmtp:63 111/111\r\n"),
+    ("a=fmtp:101 0-15", "a=fmtp:101 0-15\r\n"),
     (
         "a=fmtp:111 minptime=10;;stereo=1",
         "a=fmtp:111 minptime=10\r\n",
@@ -88,6 +125,27 @@ fn shown(alloc: Global, line: &str) -> Result<String, Fail> {
     Ok(text)
 }
 
+fn kind(value: &FormatParam) -> &'static str {
+    match value {
+        FormatParam::BarePtList(_) => "list",
+        FormatParam::BareRange(_) => "range",
+        FormatParam::Unknown => "unknown",
+        _ => "another",
+    }
+}
+
+/// Which kind the only value is, and how it prints.
+fn only_value(alloc: Global, line: &str) -> Result<String, Fail> {
+    let values = values(alloc, line)?;
+    match values.as_slice() {
+        [value] => {
+            let printed = value.to_string(alloc)?;
+            Ok(format!(in alloc; "{} {}", kind(value), printed)?)
+        }
+        _ => Err("not one value")?,
+    }
+}
+
 /// The payload type of a format's line; 255 where it is none.
 fn payload_type(alloc: Global, line: &str) -> Result<u8, Fail> {
     let (attribute, _) = media_attribute_line(alloc, line)?;
@@ -108,6 +166,43 @@ fn pairs_are_parted_by_semicolons_between_blanks(rt: HostRuntime) -> Result<(), 
     for (behind, want) in VALUES {
         let line = format!(in rt.alloc(); "a=fmtp:111{behind}\r\n")?;
         let found = shown(rt.alloc(), line.as_str())?;
+        assert_eq!(rt; found.as_str(), want, "{behind:?}");
+    }
+    Ok(())
+}
+
+/// What is read of a pair and of what is none, and that the line's end takes its blanks with it.
+#[test]
+fn what_is_no_pair_is_unknown(rt: HostRuntime) -> Result<(), Fail> {
+    let found = values(rt.alloc(), "a=fmtp:111 minptime=10;;stereo=1")?;
+    let expected = [FormatParam::MinPTime(10), FormatParam::Unknown];
+    assert!(rt; found.as_slice() == expected.as_slice());
+    let found = values(
+        rt.alloc(),
+        "a=fmtp:111  \tminptime=10 \t; \tuseinbandfec=1 \t; \t\r\na=mid:0",
+    )?;
+    let expected = [FormatParam::MinPTime(10), FormatParam::UseInbandFec(true)];
+    assert!(rt; found.as_slice() == expected.as_slice());
+    let found = values(rt.alloc(), "a=fmtp:96")?;
+    assert!(rt; found.as_slice() == [FormatParam::Unknown].as_slice());
+    Ok(())
+}
+
+#[test]
+fn a_list_of_types_is_its_first(rt: HostRuntime) -> Result<(), Fail> {
+    for (behind, want) in LISTS {
+        let line = format!(in rt.alloc(); "a=fmtp:63{behind}\r\n")?;
+        let found = only_value(rt.alloc(), line.as_str())?;
+        assert_eq!(rt; found.as_str(), want, "{behind:?}");
+    }
+    Ok(())
+}
+
+#[test]
+fn a_range_begins_at_0_and_ends_by_255(rt: HostRuntime) -> Result<(), Fail> {
+    for (behind, want) in RANGES {
+        let line = format!(in rt.alloc(); "a=fmtp:101{behind}\r\n")?;
+        let found = only_value(rt.alloc(), line.as_str())?;
         assert_eq!(rt; found.as_str(), want, "{behind:?}");
     }
     Ok(())

@@ -224,9 +224,13 @@ const ICE: [(&str, &str); 12] = [
     ("a=sctp-port:5000", "Unused a=sctp-port:5000\r\n"),
 ];
 
-/// The name of the attributes that these tables speak of.
-fn media_name(attribute: &MediaAttribute) -> &'static str {
+/// The name of the attributes that tables speak of.
+pub(crate) fn media_name(attribute: &MediaAttribute) -> &'static str {
     match attribute {
+        MediaAttribute::Mid(_) => "Mid",
+        MediaAttribute::Inactive => "Inactive",
+        MediaAttribute::RtpMap { .. } => "RtpMap",
+        MediaAttribute::Fmtp { .. } => "Fmtp",
         MediaAttribute::Rtcp(_) => "Rtcp",
         MediaAttribute::IceUfrag(_) => "IceUfrag",
         MediaAttribute::IcePwd(_) => "IcePwd",
@@ -251,7 +255,7 @@ fn media_name(attribute: &MediaAttribute) -> &'static str {
     }
 }
 
-fn session_name(attribute: &SessionAttribute) -> &'static str {
+pub(crate) fn session_name(attribute: &SessionAttribute) -> &'static str {
     match attribute {
         SessionAttribute::Group { .. } => "Group",
         SessionAttribute::MsidSemantic { .. } => "MsidSemantic",
@@ -291,7 +295,7 @@ fn with_name(alloc: Global, name: &str, printed: &str) -> Result<String, AllocEr
 }
 
 #[test]
-fn texts(rt: HostRuntime) -> Result<(), Fail> {
+fn a_text_is_kept_as_it_came(rt: HostRuntime) -> Result<(), Fail> {
     for (line, read) in TEXTS {
         assert_eq!(rt; of_section(rt.alloc(), line)?.as_str(), read);
     }
@@ -299,7 +303,7 @@ fn texts(rt: HostRuntime) -> Result<(), Fail> {
 }
 
 #[test]
-fn numbers(rt: HostRuntime) -> Result<(), Fail> {
+fn numbers_keep_their_limits(rt: HostRuntime) -> Result<(), Fail> {
     for (line, read) in NUMBERS {
         assert_eq!(rt; of_section(rt.alloc(), line)?.as_str(), read);
     }
@@ -307,7 +311,7 @@ fn numbers(rt: HostRuntime) -> Result<(), Fail> {
 }
 
 #[test]
-fn words(rt: HostRuntime) -> Result<(), Fail> {
+fn words_stand_alone(rt: HostRuntime) -> Result<(), Fail> {
     for (line, read) in WORDS {
         assert_eq!(rt; of_section(rt.alloc(), line)?.as_str(), read);
     }
@@ -315,7 +319,7 @@ fn words(rt: HostRuntime) -> Result<(), Fail> {
 }
 
 #[test]
-fn extensions_and_streams(rt: HostRuntime) -> Result<(), Fail> {
+fn extensions_and_streams_keep_their_two_parts(rt: HostRuntime) -> Result<(), Fail> {
     for (line, read) in EXTENSIONS {
         assert_eq!(rt; of_section(rt.alloc(), line)?.as_str(), read);
     }
@@ -323,7 +327,7 @@ fn extensions_and_streams(rt: HostRuntime) -> Result<(), Fail> {
 }
 
 #[test]
-fn feedback_and_sources(rt: HostRuntime) -> Result<(), Fail> {
+fn feedback_and_sources_have_numbers_in_range(rt: HostRuntime) -> Result<(), Fail> {
     for (line, read) in SOURCES {
         assert_eq!(rt; of_section(rt.alloc(), line)?.as_str(), read);
     }
@@ -331,7 +335,7 @@ fn feedback_and_sources(rt: HostRuntime) -> Result<(), Fail> {
 }
 
 #[test]
-fn fingerprints_and_candidates(rt: HostRuntime) -> Result<(), Fail> {
+fn a_fingerprint_or_candidate_fits_in_whole(rt: HostRuntime) -> Result<(), Fail> {
     for (line, read) in HASHES {
         assert_eq!(rt; of_section(rt.alloc(), line)?.as_str(), read);
     }
@@ -339,7 +343,7 @@ fn fingerprints_and_candidates(rt: HostRuntime) -> Result<(), Fail> {
 }
 
 #[test]
-fn layers(rt: HostRuntime) -> Result<(), Fail> {
+fn a_layer_is_its_first_alternative(rt: HostRuntime) -> Result<(), Fail> {
     for (line, read) in LAYERS {
         assert_eq!(rt; of_section(rt.alloc(), line)?.as_str(), read);
     }
@@ -347,7 +351,7 @@ fn layers(rt: HostRuntime) -> Result<(), Fail> {
 }
 
 #[test]
-fn lists_of_names(rt: HostRuntime) -> Result<(), Fail> {
+fn groups_and_semantics_list_names(rt: HostRuntime) -> Result<(), Fail> {
     for (line, read) in NAMES {
         assert_eq!(rt; of_session(rt.alloc(), line)?.as_str(), read);
     }
@@ -355,7 +359,7 @@ fn lists_of_names(rt: HostRuntime) -> Result<(), Fail> {
 }
 
 #[test]
-fn others_of_a_session(rt: HostRuntime) -> Result<(), Fail> {
+fn a_session_has_forms_of_its_own(rt: HostRuntime) -> Result<(), Fail> {
     for (line, read) in ICE {
         assert_eq!(rt; of_session(rt.alloc(), line)?.as_str(), read);
     }

@@ -27,6 +27,8 @@ mod identifiers;
 #[cfg(test)]
 mod lines;
 #[cfg(test)]
+mod lines_of_browsers;
+#[cfg(test)]
 mod offers;
 #[cfg(test)]
 mod prefixes;
@@ -37,6 +39,10 @@ mod printing;
 #[cfg(test)]
 mod profiles;
 #[cfg(test)]
+mod rids;
+#[cfg(test)]
 mod sections;
 #[cfg(test)]
 mod texts;
+#[cfg(test)]
+mod unwritten;

@@ -2,7 +2,7 @@
 
 use crate::fault::Fault;
 use crate::samples::{
-    BAD_HEADER, BAD_SECTION, CANDIDATE, MEDIA_LINES, SESSION_LINES, TEXT, sample,
+    BAD_HEADER, BAD_SECTION, CANDIDATE, MEDIA_LINES, SESSION_LINES, SHORT, TEXT, sample,
 };
 use crate::{formats, values};
 use std::alloc::Global;
@@ -13,7 +13,7 @@ use str0m_signal::{
 use str0m_values::Items;
 
 /// The names of the calls.
-pub(crate) const NAMES: [&str; 38] = [
+pub(crate) const NAMES: [&str; 49] = [
     "session_parser",
     "session_parser_refuses",
     "sdp_parser",
@@ -39,12 +39,23 @@ pub(crate) const NAMES: [&str; 38] = [
     "fingerprint_from_str",
     "extension_from_sdp_uri",
     "extension_new",
+    "candidate_of_text",
+    "text_empty",
+    "items_empty",
     "text_clone",
     "items_clone",
     "candidate_clone",
     "fingerprint_clone",
     "extension_clone",
     "ice_creds_clone",
+    "msid_clone",
+    "restriction_id_empty",
+    "restriction_id_clone",
+    "restriction_id_to_sdp",
+    "rid_clone",
+    "simulcast_layer_clone",
+    "simulcast_groups_clone",
+    "simulcast_clone",
     "bandwidth_clone",
     "media_type_clone",
     "session_attribute_clone",
@@ -136,20 +147,21 @@ fn show_candidate(rt: &impl Print, alloc: Global, text: &str) -> Result<(), Faul
 }
 
 fn show_offer(rt: &impl Print, alloc: Global) -> Result<(), Fault> {
-    let offer = SdpOffer::from_sdp_string(alloc, TEXT)?;
+    let offer = SdpOffer::from_sdp_string(alloc, SHORT)?;
     print!(rt; "{offer}")?;
     Ok(())
 }
 
 fn show_offer_text(rt: &impl Print, alloc: Global) -> Result<(), Fault> {
-    let offer = SdpOffer::from(sample(alloc)?);
+    let (sdp, _) = sdp_parser(alloc, TEXT)?;
+    let offer = SdpOffer::from(sdp);
     let text = offer.to_sdp_string(alloc)?;
     print!(rt; "{text}")?;
     Ok(())
 }
 
 fn show_answer(rt: &impl Print, alloc: Global) -> Result<(), Fault> {
-    let answer = SdpAnswer::from_sdp_string(alloc, TEXT)?;
+    let answer = SdpAnswer::from_sdp_string(alloc, SHORT)?;
     print!(rt; "{answer}")?;
     Ok(())
 }

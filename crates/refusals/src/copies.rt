@@ -1,22 +1,27 @@
 //! Copies of a description and its parts.
 
 use crate::fault::Fault;
-use crate::samples::sample;
+use crate::samples::{MEDIA_LINES, SESSION_LINES, sample};
 use std::alloc::Global;
-use str0m_signal::{Sdp, SdpError};
+use str0m_signal::{Sdp, SdpError, media_attribute_line, session_attribute_line};
 
 /// Copies the part of that name and shows the copy.
 pub(crate) fn show(rt: &impl Print, alloc: Global, name: &str) -> Result<(), Fault> {
-    let source = sample(alloc)?;
     match name {
-        "items_clone" => show_sections(rt, &source),
-        "bandwidth_clone" => show_bandwidth(rt, &source),
-        "media_type_clone" => show_media_types(rt, alloc, &source),
-        "session_attribute_clone" => show_session_attributes(rt, alloc, &source),
-        "media_attribute_clone" => show_media_attributes(rt, alloc, &source),
-        "media_line_clone" => show_media_lines(rt, alloc, &source),
-        "session_clone" => show_session(rt, &source),
-        "sdp_clone" => show_sdp(rt, &source),
+        "session_attribute_clone" => show_session_attributes(rt, alloc),
+        "media_attribute_clone" => show_media_attributes(rt, alloc),
+        _ => show_part(rt, alloc, &sample(alloc)?, name),
+    }
+}
+
+fn show_part(rt: &impl Print, alloc: Global, source: &Sdp, name: &str) -> Result<(), Fault> {
+    match name {
+        "items_clone" => show_sections(rt, source),
+        "bandwidth_clone" => show_bandwidth(rt, source),
+        "media_type_clone" => show_media_types(rt, alloc, source),
+        "media_line_clone" => show_media_lines(rt, alloc, source),
+        "session_clone" => show_session(rt, source),
+        "sdp_clone" => show_sdp(rt, source),
         _ => Err(Fault::from(SdpError::ParseError(String::from_str(alloc, "no such call")?))),
     }
 }
@@ -48,9 +53,11 @@ fn show_media_types(rt: &impl Print, alloc: Global, source: &Sdp) -> Result<(), 
     Ok(())
 }
 
-fn show_session_attributes(rt: &impl Print, alloc: Global, source: &Sdp) -> Result<(), Fault> {
+/// Reads an attribute of each form, and shows the copies.
+fn show_session_attributes(rt: &impl Print, alloc: Global) -> Result<(), Fault> {
     let mut copies = Vec::new(alloc);
-    for attribute in source.session.attrs.as_slice() {
+    for line in SESSION_LINES {
+        let (attribute, _) = session_attribute_line(alloc, line)?;
         copies.push(attribute.clone()?)?;
     }
     for copy in &copies {
@@ -59,12 +66,12 @@ fn show_session_attributes(rt: &impl Print, alloc: Global, source: &Sdp) -> Resu
     Ok(())
 }
 
-fn show_media_attributes(rt: &impl Print, alloc: Global, source: &Sdp) -> Result<(), Fault> {
+/// Reads an attribute of each form, and shows the copies.
+fn show_media_attributes(rt: &impl Print, alloc: Global) -> Result<(), Fault> {
     let mut copies = Vec::new(alloc);
-    for section in source.media_lines.as_slice() {
-        for attribute in section.attrs.as_slice() {
-            copies.push(attribute.clone()?)?;
-        }
+    for line in MEDIA_LINES {
+        let (attribute, _) = media_attribute_line(alloc, line)?;
+        copies.push(attribute.clone()?)?;
     }
     for copy in &copies {
         print!(rt; "{copy}")?;

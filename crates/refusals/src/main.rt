@@ -8,6 +8,7 @@ mod copies;
 mod fault;
 mod formats;
 mod samples;
+mod streams;
 mod values;
 
 use crate::calls::{NAMES, show};

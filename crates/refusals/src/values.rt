@@ -1,9 +1,10 @@
 //! Plain values that hold texts or lists, and their copies.
 
-use crate::copies;
 use crate::fault::Fault;
-use crate::samples::{FINGERPRINT, URI, sample_candidate};
+use crate::samples::{CANDIDATE, FINGERPRINT, URI, sample_candidate};
+use crate::streams;
 use std::alloc::Global;
+use str0m_values::candidate_text::candidate;
 use str0m_values::{Extension, Fingerprint, IceCreds, Items, Text};
 
 /// Makes the call of that name and shows its answer.
@@ -15,18 +16,34 @@ pub(crate) fn show(rt: &impl Print, alloc: Global, name: &str) -> Result<(), Fau
         "fingerprint_from_str" => show_fingerprint(rt, alloc),
         "extension_from_sdp_uri" => show_extension(rt, Extension::from_sdp_uri(alloc, URI)?),
         "extension_new" => show_extension(rt, Extension::new(alloc, URI, false)?),
+        "candidate_of_text" => show_candidate(rt, alloc),
+        "text_empty" => show_empty_text(rt, alloc),
+        "items_empty" => show_empty_items(rt, alloc),
         "text_clone" => show_text_copy(rt, alloc),
         "candidate_clone" => show_candidate_copy(rt, alloc),
         "fingerprint_clone" => show_fingerprint_copy(rt, alloc),
         "extension_clone" => show_extension(rt, Extension::new(alloc, URI, true)?.clone()?),
         "ice_creds_clone" => show_creds_copy(rt, alloc),
-        _ => copies::show(rt, alloc, name),
+        _ => streams::show(rt, alloc, name),
     }
 }
 
 fn show_text(rt: &impl Print, alloc: Global) -> Result<(), Fault> {
     let text = Text::from_str(alloc, "one line")?;
     println!(rt; "{text}")?;
+    Ok(())
+}
+
+fn show_empty_text(rt: &impl Print, alloc: Global) -> Result<(), Fault> {
+    let text = Text::empty(alloc);
+    println!(rt; "{text}")?;
+    Ok(())
+}
+
+fn show_empty_items(rt: &impl Print, alloc: Global) -> Result<(), Fault> {
+    let items: Items<u8> = Items::empty(alloc);
+    let count = items.len();
+    println!(rt; "{count} items")?;
     Ok(())
 }
 
@@ -44,6 +61,18 @@ fn show_items(rt: &impl Print, alloc: Global) -> Result<(), Fault> {
     }
     let items = items.as_slice();
     println!(rt; "{items:?}")?;
+    Ok(())
+}
+
+/// What stands behind `a=` in the line of a candidate, and the line whole, which is none.
+fn show_candidate(rt: &impl Print, alloc: Global) -> Result<(), Fault> {
+    let text = CANDIDATE.trim_end();
+    for text in [text.strip_prefix("a=").unwrap_or(text), text] {
+        match candidate(alloc, text)? {
+            Some(candidate) => println!(rt; "{candidate}")?,
+            None => println!(rt; "no candidate")?,
+        }
+    }
     Ok(())
 }
 

@@ -11,21 +11,22 @@ use crate::codec::Codec;
 use crate::format_param::FormatParam;
 use crate::format_params::FormatParams;
 use std::alloc::{AllocError, Global};
+use str0m_values::Separator;
 use str0m_values::cuts::{before, cut, has};
 
 /// The key and the value of a piece, trimmed.
 fn pair_in(piece: &str) -> Option<(&str, &str)>
     ensures { option_map (λ pair. (pair.0.now, pair.1.now)) result ≡ pair_in piece.now }
 {
-    let (key, rest) = cut(piece, '=')?;
-    Some((key.trim(), before(rest, '=').trim()))
+    let (key, rest) = cut(piece, Separator::Equals)?;
+    Some((key.trim(), before(rest, Separator::Equals).trim()))
 }
 
 /// The value of a piece without a key, trimmed.
 fn bare_in(piece: &str) -> Option<&str>
     ensures { option_map (λ text. text.now) result ≡ bare_in piece.now }
 {
-    if has(piece, '=') {
+    if has(piece, Separator::Equals) {
         return None;
     }
     Some(piece.trim())

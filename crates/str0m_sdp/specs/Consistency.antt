@@ -2,6 +2,8 @@
 use Rattle.std.specs.Prelude.{◌≡◌, ◌≢◌, ◌≤◌, ◌⊎◌, ◌==◌, ℕ, Bool, true, false, List, [], ◌∷◌, Option, Some, None, IfSome, MatchOption, All, count_by, if◌then◌else◌}
 use Rattle.str0m_sdp.specs.declared.attribute.MediaAttribute.{MediaAttribute}
 use Rattle.str0m_sdp.specs.declared.attribute.MediaAttribute.TheVariants.{Setup, Mid, RecvOnly, SendRecv, SendOnly, Inactive, RtpMap, Fmtp}
+use Rattle.str0m_formats.specs.CodecSpec.{IsStatic}
+use Rattle.str0m_formats.specs.declared.codec_spec.CodecSpec.{CodecSpec}
 use Rattle.str0m_formats.specs.declared.format_param.FormatParam.{FormatParam}
 use Rattle.str0m_formats.specs.declared.format_param.FormatParam.TheVariants.{Apt}
 use Rattle.str0m_values.specs.Cuts.{◌<|>◌}
@@ -37,13 +39,13 @@ abbrev pub maps : ℕ → MediaAttribute → Bool
 maps pt (RtpMap n value) = n == pt
 maps pt _ = false
 
--- PCMU, PCMA, G722 and CN need no mapping (RFC 3551, section 6)
-abbrev pub IsStatic : ℕ → Type 0
-IsStatic pt = (pt ≡ 0) ⊎ ((pt ≡ 8) ⊎ ((pt ≡ 9) ⊎ (pt ≡ 13)))
+-- the payload type stands for a codec without a mapping (RFC 3551, section 6)
+abbrev pub NeedsNoMapping : ℕ → Type 0
+NeedsNoMapping pt = (spec : CodecSpec) × IsStatic pt spec
 
--- one mapping, or none where the type is static
+-- one mapping, or none where the type needs none
 abbrev pub IsMapped : List MediaAttribute → ℕ → Type 0
-IsMapped attrs pt = (count_by (maps pt) attrs ≡ 1) ⊎ ((count_by (maps pt) attrs ≡ 0) × IsStatic pt)
+IsMapped attrs pt = (count_by (maps pt) attrs ≡ 1) ⊎ ((count_by (maps pt) attrs ≡ 0) × NeedsNoMapping pt)
 
 -- over Srtp one direction, and some type unless the section is disabled
 abbrev pub FitsProto : MediaLine → Type 0

@@ -1,13 +1,14 @@
 //! Which sections are consistent.
-ghost use Rattle.std.specs.Prelude.{◌≡◌, ◌<◌, ◌≤◌, ◌↔◌, All, IfOk, IsOk, IsSome, IsTrue, Ok, None, count_by};
-ghost use Rattle.str0m_sdp.specs.Consistency.{is_mid, is_setup, is_direction, is_counted, maps, IsStatic, IsMapped, apt_of, apt_among, apt_in, first_apt, NamesNoOther, AgreesOnApt, FitsProto, Consistent, NoneIff};
+ghost use Rattle.std.specs.Prelude.{◌≡◌, ◌<◌, ◌≤◌, ◌↔◌, ◌⊎◌, All, IfOk, IfSome, IsOk, IsSome, IsTrue, Ok, None, count_by};
+ghost use Rattle.str0m_sdp.specs.Consistency.{is_mid, is_setup, is_direction, is_counted, NeedsNoMapping, IsMapped, NamesNoOther, AgreesOnApt, FitsProto, Consistent, NoneIff};
 
 use crate::attribute::MediaAttribute;
 use crate::fault::{Clash, Fault, Message};
 use crate::media_line::MediaLine;
 use crate::proto::Proto;
+use crate::type_tables::{apt_of, count_maps, first_apts, row};
 use std::alloc::{AllocError, Global};
-use str0m_formats::FormatParam;
+use str0m_formats::{CodecSpec, FormatParam};
 use str0m_values::{Mid, Pt};
 
 impl MediaAttribute {
@@ -34,29 +35,6 @@ impl MediaAttribute {
                 | MediaAttribute::SendOnly
                 | MediaAttribute::Inactive
         )
-    }
-
-    fn maps(&self, wanted: Pt) -> bool
-        ensures { result ≡ maps wanted self.now }
-    {
-        match self {
-            MediaAttribute::RtpMap { pt, .. } => *pt == wanted,
-            _ => false,
-        }
-    }
-
-    /// The first primary type that this fmtp line names, where it is one of the wanted type.
-    fn apt_for(&self, wanted: Pt) -> Option<Pt>
-        ensures { result ≡ apt_in wanted self.now }
-    {
-        match self {
-            MediaAttribute::Fmtp { pt, values } => if *pt == wanted {
-                apt_among(values.as_slice())
-            } else {
-                None
-            },
-            _ => None,
-        }
     }
 }
 
@@ -104,16 +82,10 @@ fn count_directions(attrs: &[MediaAttribute]) -> usize
     count(attrs, Counted::Directions)
 }
 
-fn count_maps(attrs: &[MediaAttribute], pt: Pt) -> usize
-    ensures { result ≡ count_by (maps pt) attrs.now }
+fn needs_no_mapping(pt: Pt) -> bool
+    ensures { IsTrue result ↔ NeedsNoMapping pt }
 {
-    attrs.iter().filter(|a| a.maps(pt)).count()
-}
-
-fn is_static(pt: Pt) -> bool
-    ensures { IsTrue result ↔ IsStatic pt }
-{
-    matches!(pt.value(), 0 | 8 | 9 | 13)
+    CodecSpec::from_static_pt(pt).is_some()
 }
 
 fn first_mid(attrs: &[MediaAttribute]) -> Option<Mid>
@@ -166,11 +138,12 @@ fn check_proto(m: &MediaLine, mid: Mid) -> Result<(), Fault>
     }
 }
 
-fn check_map(attrs: &[MediaAttribute], pt: Pt, mid: Mid) -> Result<(), Fault>
-    ensures { IsOk result ↔ IsMapped attrs.now pt }
+/// Of a payload type that has this many mappings.
+fn check_map(count: usize, pt: Pt, mid: Mid) -> Result<(), Fault>
+    ensures { IsOk result ↔ (count ≡ 1) ⊎ ((count ≡ 0) × NeedsNoMapping pt) }
 {
-    match count_maps(attrs, pt) {
-        0 => if is_static(pt) {
+    match count {
+        0 => if needs_no_mapping(pt) {
             Ok(())
         } else {
             Err(Fault::MissingMap { mid, pt })
@@ -183,47 +156,11 @@ fn check_map(attrs: &[MediaAttribute], pt: Pt, mid: Mid) -> Result<(), Fault>
 fn check_maps(attrs: &[MediaAttribute], pts: &[Pt], mid: Mid) -> Result<(), Fault>
     ensures { IsOk result ↔ All (IsMapped attrs.now) pts.now }
 {
+    let counts = count_maps(attrs);
     for pt in pts {
-        check_map(attrs, *pt, mid)?;
+        check_map(counts[row(*pt)], *pt, mid)?;
     }
     Ok(())
-}
-
-fn apt_of(value: FormatParam) -> Option<Pt>
-    ensures { result ≡ apt_of value }
-{
-    match value {
-        FormatParam::Apt(pt) => Some(pt),
-        _ => None,
-    }
-}
-
-/// The first primary type that the values name.
-fn apt_among(values: &[FormatParam]) -> Option<Pt>
-    ensures { result ≡ apt_among values.now }
-{
-    let mut left = values;
-    while let Some((value, more)) = left.split_first() {
-        if let Some(apt) = apt_of(*value) {
-            return Some(apt);
-        }
-        left = more;
-    }
-    None
-}
-
-/// The first primary type that fmtp lines name for the payload type.
-fn first_apt(attrs: &[MediaAttribute], pt: Pt) -> Option<Pt>
-    ensures { result ≡ first_apt pt attrs.now }
-{
-    let mut left = attrs;
-    while let Some((attr, more)) = left.split_first() {
-        if let Some(apt) = attr.apt_for(pt) {
-            return Some(apt);
-        }
-        left = more;
-    }
-    None
 }
 
 fn check_value(value: FormatParam, first: Pt, pt: Pt, mid: Mid) -> Result<(), Fault>
@@ -252,23 +189,24 @@ fn check_values(values: &[FormatParam], first: Pt, pt: Pt, mid: Mid) -> Result<(
     Ok(())
 }
 
-fn check_apt(attrs: &[MediaAttribute], attr: &MediaAttribute, mid: Mid) -> Result<(), Fault>
-    ensures { IsOk result ↔ AgreesOnApt attrs.now attr.now }
+/// Of an fmtp line, where this is the first primary type that is named for its payload type.
+fn check_apt(first: Option<Pt>, values: &[FormatParam], pt: Pt, mid: Mid) -> Result<(), Fault>
+    ensures { IsOk result ↔ IfSome first (λ x. All (NamesNoOther x) values.now) }
 {
-    match attr {
-        MediaAttribute::Fmtp { pt, values } => match first_apt(attrs, *pt) {
-            Some(first) => check_values(values.as_slice(), first, *pt, mid),
-            None => Ok(()),
-        },
-        _ => Ok(()),
+    match first {
+        Some(first) => check_values(values, first, pt, mid),
+        None => Ok(()),
     }
 }
 
 fn check_apts(attrs: &[MediaAttribute], mid: Mid) -> Result<(), Fault>
     ensures { IsOk result ↔ All (AgreesOnApt attrs.now) attrs.now }
 {
+    let firsts = first_apts(attrs);
     for attr in attrs {
-        check_apt(attrs, attr, mid)?;
+        if let MediaAttribute::Fmtp { pt, values } = attr {
+            check_apt(firsts[row(*pt)], values.as_slice(), *pt, mid)?;
+        }
     }
     Ok(())
 }

@@ -21,6 +21,7 @@ mod session;
 mod setup;
 mod simulcast;
 mod ssrc_group;
+mod type_tables;
 mod word;
 
 pub use attribute::{MediaAttribute, SessionAttribute};

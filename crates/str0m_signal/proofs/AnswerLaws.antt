@@ -1,5 +1,5 @@
 -- The clauses of a reader.
-use Rattle.std.proofs.Common.{◌≡◌, ℕ, List, Option, Some, None, Result, Ok, Err, refl, sym, ap, subst, ◌∙◌}
+use Rattle.std.proofs.Common.{◌≡◌, ℕ, List, Option, Result, Ok, Err, sym, ap, subst, ◌∙◌}
 use Rattle.std.specs.Borrow.{Bor}
 use Rattle.std.specs.Prelude.{IsErrAnd}
 use Rattle.std.proofs.lemmas.Option.{none-some}
@@ -7,7 +7,7 @@ use Rattle.str0m_sdp.specs.declared.error.SdpError.{SdpError}
 use Rattle.str0m_sdp.specs.declared.error.SdpError.TheVariants.{ParseError, Inconsistent, Memory}
 use Rattle.str0m_values.proofs.BothWays.{Reads}
 use Rattle.str0m_signal.specs.Answers.{Answers, AtMostOne, Gives, Refuses, IsRefusal, unread}
-use Rattle.str0m_signal.specs.Lines.{Line, joined, Lines, OneLine, OfText}
+use Rattle.str0m_signal.specs.Lines.{Line, joined, OneLine, OfText}
 use Rattle.str0m_signal.specs.LineReading.{lines_of, line_read, left}
 use Rattle.str0m_signal.proofs.LineLaws.{joined_lines, lines_both, lines_only, line_found, line_given, pair_is}
 use Rattle.str0m_signal.proofs.ChainLaws.{OnlyOne}

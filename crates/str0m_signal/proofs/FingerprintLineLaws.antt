@@ -1,12 +1,10 @@
 -- The line of a fingerprint is read exactly where its form holds.
-use Rattle.std.proofs.Common.{◌≡◌, ℕ, List, Option, Some, refl, ap, ◌∙◌}
+use Rattle.std.proofs.Common.{refl, ap, ◌∙◌}
 use Rattle.std.specs.Prelude.{codes}
-use Rattle.str0m_values.specs.declared.fingerprint.Fingerprint.{Fingerprint}
-use Rattle.str0m_values.specs.Cuts.{◌>>=◌}
 use Rattle.str0m_values.specs.Joined.{Parted}
 use Rattle.str0m_values.proofs.BothWays.{Sound, Reads}
 use Rattle.str0m_signal.specs.Forms.{IsText, Two}
-use Rattle.str0m_signal.specs.FormReading.{behind, text_read, two_read, parted_read}
+use Rattle.str0m_signal.specs.FormReading.{text_read, two_read, parted_read}
 use Rattle.str0m_signal.specs.FieldsReading.{fingerprint_read}
 use Rattle.str0m_signal.specs.FingerprintLine.{IsFingerprintText}
 use Rattle.str0m_signal.specs.Words.{IsHexPair}

@@ -1,19 +1,18 @@
 -- The pairs of an fmtp line are read exactly where they stand.
-use Rattle.std.proofs.Common.{◌≡◌, ◌≢◌, ◌⊎◌, ℕ, zero, suc, ◌<◌, ◌+◌, Bool, true, false, cond, eqb, ltb, List, [], ◌∷◌, ◌++◌, length, map, Option, Some, None, refl, sym, ap, subst, ◌∙◌, arith, inl, inr, append_assoc, length-append}
+use Rattle.std.proofs.Common.{◌≡◌, ◌⊎◌, ℕ, zero, suc, ◌<◌, Bool, true, false, cond, List, [], ◌∷◌, ◌++◌, length, Option, Some, None, refl, sym, ap, subst, ◌∙◌, arith, inl, inr, append_assoc, length-append}
 use Rattle.std.specs.Prelude.{codes, option_map}
-use Rattle.std.proofs.lemmas.Bool.{eq-eqb, ne_eqb, ltb-true, lt-ltb, cases_eq, cases_Bool, both_ways}
+use Rattle.std.proofs.lemmas.Bool.{ne_eqb, ltb-true, lt-ltb, cases_eq, both_ways}
 use Rattle.std.proofs.lemmas.List.{append-nil}
-use Rattle.std.proofs.lemmas.Option.{some_pair_parts, none-some}
+use Rattle.std.proofs.lemmas.Option.{some_pair_parts}
 use Rattle.str0m_formats.specs.declared.format_param.FormatParam.{FormatParam}
 use Rattle.str0m_values.specs.Parts.{Lacks, IsRest}
-use Rattle.str0m_signal.specs.Fmtp.{IsBlank, AreBlanks, IsKey, IsValue, IsEnd, StartsPlain, IsPair, ArePairs, IsPairsForm, IsAnything, IsFmtp}
+use Rattle.str0m_signal.specs.Fmtp.{IsBlank, AreBlanks, IsKey, IsValue, IsEnd, StartsPlain, IsPair, ArePairs, IsPairsForm, IsListForm, IsRangeForm, IsAnything, IsFmtp}
 use Rattle.std.specs.Borrow.{Bor}
 use Rattle.str0m_formats.specs.FormatParam.{pair_texts}
 use Rattle.str0m_formats.specs.Pairs.{AreRead}
 use Rattle.str0m_formats.proofs.PairsLaws.{pairs_read_is, pairs_read_only}
 use Rattle.str0m_formats.specs.PairsReading.{params_read}
 use Rattle.str0m_values.specs.Fits.{FirstFit}
-use Rattle.str0m_formats.specs.declared.format_param.FormatParam.TheVariants.{Unknown}
 use Rattle.str0m_values.specs.Cuts.{lacks}
 use Rattle.str0m_values.specs.Cuts.{◌>>=◌, cut, strip, when, is_rest, num, front, before}
 use Rattle.str0m_signal.specs.FmtpReading.{value_read, skip_blanks}
@@ -24,6 +23,7 @@ use Rattle.str0m_values.proofs.CutLaws.{lacks_true, lacks_from, Lacks-append}
 use Rattle.str0m_values.proofs.BothWays.{Reads, bind_some, some_is, if_some, reads_first}
 use Rattle.str0m_values.proofs.NumLaws.{rest_true, number_lacks, num_found, num_reads}
 use Rattle.str0m_values.proofs.CutLaws.{before_lacks, before_front}
+use Rattle.str0m_signal.proofs.BareLaws.{bare_both}
 use Rattle.str0m_signal.proofs.PairLaws.{value_given, EndsValue, IsBlank-skip}
 
 abbrev pub with_pairs : List (List ℕ × List ℕ) → Option (List (List ℕ × List ℕ)) → Option (List (List ℕ × List ℕ))
@@ -42,7 +42,7 @@ before_keeps c d text h = go (cut c text) refl
     go None e = h
     go (Some p) e = Lacks-append d p.0 (c ∷ p.1) (rw (cut_found c text p.0 p.1 e).0 at h)
 
-value_found : (text value rest : List ℕ) → value_read text ≡ Some (value, rest) → (text ≡ value ++ rest) × IsValue value
+pub value_found : (text value rest : List ℕ) → value_read text ≡ Some (value, rest) → (text ≡ value ++ rest) × IsValue value
 value_found text value rest e =
     let v = before 9 (before 32 (before 59 text)) in
     let a = bind_some (when (is_rest v) v) (λ filled. strip filled text >>= λ rest. Some (filled, rest)) (value, rest) e in
@@ -57,7 +57,7 @@ value_found text value rest e =
       subst IsValue same (filled, semicolon, space, before_lacks 9 (before 32 (before 59 text))),
     )
 
-key_found : (text key : List ℕ) → Lacks 61 text → key_read text ≡ Some key → (text ≡ key) × IsKey key
+pub key_found : (text key : List ℕ) → Lacks 61 text → key_read text ≡ Some key → (text ≡ key) × IsKey key
 key_found text key equals e =
     let a = if_some (lacks 32 text) (cond (lacks 9 text) (when (is_rest text) text) None) key e in
     let b = if_some (lacks 9 text) (when (is_rest text) text) key a.1 in
@@ -65,15 +65,15 @@ key_found text key equals e =
     let filled : IsRest text = ltb-true 0 (length text) w.0 in
     (w.1, subst IsKey w.1 (filled, equals, lacks_from 32 text a.0, lacks_from 9 text b.0))
 
-key_given : (key : List ℕ) → IsKey key → key_read key ≡ Some key
+pub key_given : (key : List ℕ) → IsKey key → key_read key ≡ Some key
 key_given key h = rw (lacks_true 32 key h.2, lacks_true 9 key h.3, rest_true key h.0) refl
 
 -- blanks, and then nothing or another character
-record Skips (text : List ℕ) : Type 0 where
-  blanks : List ℕ
-  joined : text ≡ blanks ++ skip_blanks text
-  are : AreBlanks blanks
-  plain : IsRest (skip_blanks text) → StartsPlain (skip_blanks text)
+pub record Skips (text : List ℕ) : Type 0 where
+  pub blanks : List ℕ
+  pub joined : text ≡ blanks ++ skip_blanks text
+  pub are : AreBlanks blanks
+  pub plain : IsRest (skip_blanks text) → StartsPlain (skip_blanks text)
 
 skips_more : (b : ℕ) (xs : List ℕ) → IsBlank b → skip_blanks (b ∷ xs) ≡ skip_blanks xs → Skips xs → Skips (b ∷ xs)
 skips_more b xs is e more = record {
@@ -83,7 +83,7 @@ skips_more b xs is e more = record {
   plain = λ h. subst StartsPlain (sym e) (more.plain (subst IsRest e h));
 }
 
-skips : (text : List ℕ) → Skips text
+pub skips : (text : List ℕ) → Skips text
 skips [] = record { blanks = []; joined = refl; are = tt; plain = λ h. absurd (omega (arith, h)) }
 skips (x ∷ xs) =
     elim (cases_eq x 32) [
@@ -96,7 +96,7 @@ skips (x ∷ xs) =
       ]
     ]
 
-starts_kept : (text : List ℕ) → StartsPlain text → skip_blanks text ≡ text
+pub starts_kept : (text : List ℕ) → StartsPlain text → skip_blanks text ≡ text
 starts_kept [] h = refl
 starts_kept (x ∷ xs) h = rw (ne_eqb x 32 (λ e. h (inl e)), ne_eqb x 9 (λ e. h (inr e))) refl
 
@@ -255,7 +255,7 @@ pairs_given (p ∷ (q ∷ qs)) (suc n) text h lt =
 
 -- ---- the forms of an fmtp line
 
-key_starts : (key rest : List ℕ) → IsKey key → StartsPlain (key ++ rest)
+pub key_starts : (key rest : List ℕ) → IsKey key → StartsPlain (key ++ rest)
 key_starts [] rest h = absurd (omega (arith, h.0))
 key_starts (x ∷ xs) rest h = λ (b : IsBlank x). elim b [ inl e ↦ h.2.0 e | inr e ↦ h.3.0 e ]
 
@@ -282,14 +282,8 @@ pairs_both = record {
 pub pairs_form_of : (more text : List ℕ) (pairs : List (List ℕ × List ℕ)) (values : List FormatParam) → Some text ≡ strip (codes " ") more → Some pairs ≡ pairs_read (skip_blanks text) → AreRead pairs values → Some values ≡ pairs_form_read more
 pairs_form_of more text pairs values at read are = rw (← at, ← read) (ap (λ (t : List FormatParam). Some t) (pairs_read_only pairs values are))
 
-anything_both : Reads IsAnything (λ more. Some (Unknown ∷ []))
-anything_both = record {
-  sound = λ more values e. sym (some_is (Unknown ∷ []) values e);
-  complete = λ more values h. ap (λ (t : List FormatParam). Some t) (sym h);
-}
-
-values_both : Reads (FirstFit IsPairsForm IsAnything) fmtp_values_read
-values_both = reads_first pairs_both anything_both
+values_both : Reads (FirstFit IsPairsForm (FirstFit IsListForm (FirstFit IsRangeForm IsAnything))) fmtp_values_read
+values_both = reads_first pairs_both bare_both
 
 behind : (c : ℕ) (text more : List ℕ) → strip (before c text) text ≡ Some more → (more ≡ []) ⊎ ((rest : List ℕ) × (more ≡ c ∷ rest))
 behind c text more e = go (cut c text) refl e

@@ -1,25 +1,25 @@
 -- The lines of a header are read exactly where their forms hold.
-use Rattle.std.proofs.Common.{◌≡◌, ◌≢◌, ◌⊎◌, ◌&&◌, ℕ, ◌<◌, ◌≤◌, ◌^◌, Bool, true, false, cond, eqb, leb, ltb, List, [], ◌∷◌, ◌++◌, length, get_or, Option, Some, None, Result, refl, sym, ap, subst, ◌∙◌, arith, inl, inr}
+use Rattle.std.proofs.Common.{◌≡◌, ◌&&◌, ℕ, ◌≤◌, Bool, false, leb, List, [], ◌∷◌, ◌++◌, length, Some, None, Result, refl, sym, ap, subst, ◌∙◌, arith, inl, inr}
 use Rattle.std.specs.Prelude.{codes}
-use Rattle.std.specs.Bool.{Decides, MatchBool}
+use Rattle.std.specs.Bool.{MatchBool}
 use Rattle.std.specs.Result.{result_ok}
 use Rattle.std.specs.Str.{bytes_eq, IsCharBoundary}
 use Rattle.std.specs.Str.Pattern.{FindsCharPrefix}
-use Rattle.std.specs.Str.Parse.{IsNumeral, digits_value, without_leading_plus, ParsesUnsigned}
-use Rattle.std.proofs.lemmas.Bool.{ltb-true, le-leb, leb-true, and_parts, and_from, ne_eqb, both_ways}
+use Rattle.std.specs.Str.Parse.{digits_value, without_leading_plus, ParsesUnsigned}
+use Rattle.std.proofs.lemmas.Bool.{ltb-true, le-leb, leb-true, and_parts, and_from, both_ways}
 use Rattle.std.proofs.lemmas.Slice.Eq.{bytes_eq-Decides}
 use Rattle.std.proofs.lemmas.Option.{some_pair_parts}
 use Rattle.std.proofs.lemmas.Str.Parse.{without_leading_plus_none}
 use Rattle.std.proofs.lemmas.Str.Pattern.{starts_char}
-use Rattle.str0m_values.specs.Parts.{Lacks, IsRest}
+use Rattle.str0m_values.specs.Parts.{Lacks}
 use Rattle.str0m_signal.specs.Lines.{Line, OneLine}
-use Rattle.str0m_signal.specs.Header.{IsExactly, IsDigits, IsOrigin, IsOneField, IsInfo, IsOpening, IsHeader}
+use Rattle.str0m_signal.specs.Header.{IsExactly, IsDigits, IsOrigin, IsOneField, IsInfo, IsOpening}
 use Rattle.str0m_signal.specs.Section.{IsField}
-use Rattle.str0m_values.specs.Cuts.{◌>>=◌, ◌<|>◌, cut, strip, when, is_rest, is_numeral, num}
+use Rattle.str0m_values.specs.Cuts.{◌>>=◌, cut, strip, when, is_rest, is_numeral}
 use Rattle.str0m_signal.specs.LineReading.{line_read}
 use Rattle.str0m_signal.specs.SectionReading.{field_read}
 use Rattle.str0m_signal.specs.HeaderReading.{exact_read, digits_read, origin_read, one_field_read, info_read, opening_read}
-use Rattle.str0m_values.proofs.CutLaws.{cut_at, cut_found, strip_at, strip_found}
+use Rattle.str0m_values.proofs.CutLaws.{cut_at, cut_found, strip_found}
 use Rattle.str0m_values.proofs.NumLaws.{when_some, when_true, numeral_true, numeral_from, parsed_whole}
 use Rattle.str0m_values.proofs.BothWays.{Reads, bind_some, some_is, reads_either}
 use Rattle.std.specs.List.{AllByRecursion}

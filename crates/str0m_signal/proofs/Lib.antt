@@ -1,4 +1,5 @@
 pub mod AnswerLaws
+pub mod BareLaws
 pub mod CandidateLineLaws
 pub mod ChainLaws
 pub mod FingerprintLineLaws
@@ -10,6 +11,7 @@ pub mod MediaLaws
 pub mod PairLaws
 pub mod PartLaws
 pub mod ReadingLaws
+pub mod RidLaws
 pub mod RtpMapLaws
 pub mod SectionLaws
 pub mod SessionLaws

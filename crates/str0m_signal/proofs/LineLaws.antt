@@ -1,26 +1,20 @@
 -- `lines_of` gives the lines of a text, and no others are.
-use Rattle.std.proofs.Common.{◌≡◌, ◌≢◌, ◌⊎◌, ℕ, zero, suc, ◌<◌, ◌+◌, Bool, true, false, cond, not, ◌&&◌, eqb, List, [], ◌∷◌, ◌++◌, length, Option, Some, None, refl, sym, ap, ◌∙◌, arith, inl, inr, append_assoc}
-use Rattle.std.proofs.lemmas.Bool.{eqb-true, eq-eqb, ne_eqb, cases_eq, cases_Bool, both_ways, not-true, and_parts, and_left, and_right, and_from}
+use Rattle.std.proofs.Common.{◌≡◌, ◌≢◌, ◌⊎◌, ℕ, ◌<◌, ◌+◌, true, false, cond, eqb, List, [], ◌∷◌, ◌++◌, length, Option, Some, None, refl, sym, ap, ◌∙◌, arith, inl, inr, append_assoc}
+use Rattle.std.proofs.lemmas.Bool.{eqb-true, ne_eqb, cases_eq, cases_Bool, both_ways, and_parts, and_left, and_right}
 use Rattle.std.proofs.lemmas.List.{append-nil}
 use Rattle.std.proofs.Common.{take, ◌-◌}
-use Rattle.std.specs.Prelude.{MatchOption, unwrap_or, is_some}
+use Rattle.std.specs.Prelude.{MatchOption, unwrap_or}
 use Rattle.std.specs.Borrow.{Bor}
 use Rattle.std.specs.Str.Pattern.{FindsCharSuffix}
-use Rattle.std.proofs.lemmas.Bool.{false_from_ne_true}
-use Rattle.std.proofs.lemmas.Option.{some_pair_parts, none-some}
+use Rattle.std.proofs.lemmas.Option.{some_pair_parts}
 use Rattle.std.proofs.lemmas.Str.Pattern.{strip_suffix_char}
-use Rattle.str0m_values.specs.Cuts.{cut, parts}
 use Rattle.str0m_values.proofs.CutLaws.{lacks_true, lacks_from, Lacks-append}
 use Rattle.std.specs.Prelude.{codes}
 use Rattle.str0m_values.specs.Cuts.{strip, ◌>>=◌}
-use Rattle.str0m_signal.specs.Lines.{IsAttributeLine, OneLine, FirstLine}
-use Rattle.str0m_signal.specs.LineReading.{plain_line, read_attribute, line_read, left, Next}
-use Rattle.str0m_values.proofs.CutLaws.{strip_found, strip_at}
-use Rattle.std.proofs.Common.{Result, Ok, Err}
-use Rattle.str0m_sdp.specs.declared.error.SdpError.{SdpError}
-use Rattle.str0m_sdp.specs.declared.error.SdpError.TheVariants.{ParseError, Inconsistent, Memory}
-use Rattle.str0m_signal.specs.Answers.{Answers, AtMostOne, Gives, unread}
-use Rattle.str0m_values.proofs.BothWays.{Reads, bind_some, some_is, if_some}
+use Rattle.str0m_signal.specs.Lines.{IsAttributeLine, OneLine}
+use Rattle.str0m_signal.specs.LineReading.{read_attribute, line_read}
+use Rattle.str0m_values.proofs.CutLaws.{strip_found}
+use Rattle.str0m_values.proofs.BothWays.{Reads, bind_some, if_some}
 use Rattle.str0m_values.specs.Parts.{Lacks, IsRest}
 use Rattle.str0m_signal.specs.Lines.{Line, joined, EndsIn, IsLine, AreLines, Lines}
 use Rattle.str0m_signal.specs.LineReading.{is_crlf, longer, behind_first, line_from, lines_of, first_line}

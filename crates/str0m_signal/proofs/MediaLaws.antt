@@ -1,49 +1,44 @@
 -- A section's attribute is read exactly where its form holds.
-use Rattle.std.proofs.Common.{◌≡◌, ◌≢◌, ℕ, zero, suc, ◌<◌, ◌≤◌, Bool, true, false, cond, eqb, ltb, List, [], ◌∷◌, ◌++◌, length, Option, Some, None, refl, sym, ap, ◌∙◌, arith, inl, inr, append_assoc}
+use Rattle.std.proofs.Common.{◌≡◌, ℕ, true, List, ◌++◌, length, Option, Some, refl, sym, ap, ◌∙◌, inl, inr}
 use Rattle.std.specs.Prelude.{codes}
 use Rattle.std.specs.Str.{bytes_eq}
-use Rattle.std.specs.Str.Parse.{IsNumeral, AllDigits, digits_value, without_leading_plus}
-use Rattle.std.specs.Char.{digit_value}
-use Rattle.std.proofs.lemmas.Bool.{ltb-true, lt-ltb, eqb-true, eq-eqb, ne_eqb, cases_eq}
+use Rattle.std.proofs.lemmas.Bool.{ltb-true}
 use Rattle.std.proofs.lemmas.Slice.Eq.{bytes_eq-Decides}
-use Rattle.std.proofs.lemmas.Option.{some_pair_parts}
-use Rattle.std.proofs.lemmas.List.{append-nil}
 use Rattle.str0m_sdp.specs.declared.setup.Setup.{Setup as Role}
 use Rattle.str0m_sdp.specs.declared.setup.Setup.TheVariants.{ActPass, Active, Passive}
 use Rattle.str0m_sdp.specs.declared.rtp_map.RtpMap.{RtpMap as Mapping}
 use Rattle.str0m_sdp.specs.declared.attribute.MediaAttribute.{MediaAttribute}
-use Rattle.str0m_sdp.specs.declared.attribute.MediaAttribute.TheVariants.{Rtcp, IceUfrag, IcePwd, IceOptions, Fingerprint, Setup, Mid, SctpPort, MaxMessageSize, SctpInit, ExtMap, RecvOnly, SendRecv, SendOnly, Inactive, Msid, RtcpMux, RtcpMuxOnly, RtcpRsize, Candidate, EndOfCandidates, RtpMap, RtcpFb, Fmtp, Simulcast, SsrcGroup, Ssrc, Unused}
+use Rattle.str0m_sdp.specs.declared.attribute.MediaAttribute.TheVariants.{Rtcp, IceUfrag, IcePwd, IceOptions, Fingerprint, Setup, Mid, SctpPort, MaxMessageSize, SctpInit, ExtMap, RecvOnly, SendRecv, SendOnly, Inactive, Msid, RtcpMux, RtcpMuxOnly, RtcpRsize, Candidate, EndOfCandidates, RtpMap, RtcpFb, Fmtp, Rid, Simulcast, SsrcGroup, Ssrc, Unused}
+use Rattle.str0m_signal.proofs.RidLaws.{rid_fields_both}
 use Rattle.str0m_signal.proofs.SimulcastLaws.{simulcast_fields_both}
 use Rattle.str0m_values.specs.Parts.{IsPt}
 use Rattle.str0m_signal.specs.Forms.{IsText, Two, Tailed}
 use Rattle.str0m_signal.specs.FormReading.{text_read, two_read, tailed_read, parted_read}
-use Rattle.str0m_signal.specs.FieldsReading.{ext_map_read, msid_read, rtcp_fb_read, ssrc_read, ssrc_group_read, fingerprint_read}
+use Rattle.str0m_signal.specs.FieldsReading.{ext_map_read, msid_read, rtcp_fb_read, ssrc_read, ssrc_group_read}
 use Rattle.str0m_values.specs.Joined.{Parted}
 use Rattle.str0m_signal.proofs.WordsLaws.{sources_both}
 use Rattle.str0m_signal.proofs.FingerprintLineLaws.{fingerprint_fields, fingerprint_both}
 use Rattle.str0m_values.specs.declared.candidate.Candidate.{Candidate as TheCandidate}
-use Rattle.str0m_values.specs.Candidate.{IsCandidateText}
 use Rattle.str0m_values.specs.CandidateReading.{candidate_read}
 use Rattle.str0m_values.proofs.CandidateLaws.{candidate_both}
 use Rattle.str0m_signal.proofs.CandidateLineLaws.{candidate_begins}
 use Rattle.str0m_signal.proofs.FormLaws.{text_both, num_both, behind_both, two_both, tailed_both, form_sound}
-use Rattle.str0m_values.specs.Parts.{Lacks, IsRest, IsNum, IsWithout}
-use Rattle.str0m_values.specs.Fits.{FirstFit}
+use Rattle.str0m_values.specs.Parts.{IsRest, IsNum}
 use Rattle.str0m_sdp.specs.Setup.{setup_text}
 use Rattle.str0m_signal.specs.MediaAttribute.{Named, IsUnused, MediaForm, IsMediaLine}
-use Rattle.str0m_values.specs.Cuts.{◌>>=◌, ◌<|>◌, cut, strip, when, is_rest, num}
+use Rattle.str0m_values.specs.Cuts.{◌>>=◌, ◌<|>◌, strip, when, is_rest, num}
 use Rattle.str0m_formats.specs.declared.format_param.FormatParam.{FormatParam}
 use Rattle.str0m_signal.specs.FmtpReading.{fmtp_fields_read}
-use Rattle.str0m_signal.specs.MediaAttributeReading.{words_read, texts_read, numbers_read, candidate_form_read, fingerprint_form_read, fmtp_read, role_read, setup_read, mid_read, rtpmap_read, plain_read, simulcast_read, fields_read, held_read, named_read, media_read}
+use Rattle.str0m_signal.specs.MediaAttributeReading.{words_read, texts_read, numbers_read, candidate_form_read, fingerprint_form_read, fmtp_read, role_read, setup_read, mid_read, rtpmap_read, plain_read, rid_read, simulcast_read, fields_read, held_read, named_read, media_read}
 use Rattle.str0m_signal.specs.RtpMapReading.{rtpmap_fields_read}
 use Rattle.str0m_signal.proofs.RtpMapLaws.{rtpmap_fields_both}
 use Rattle.str0m_values.specs.ShortText.{beginning_of}
 use Rattle.str0m_values.proofs.Beginnings.{beginning_is, beginning_only}
 use Rattle.str0m_values.proofs.WordLaws.{word_sound}
 use Rattle.str0m_signal.specs.LineReading.{read_attribute}
-use Rattle.str0m_values.proofs.CutLaws.{cut_none, cut_none_lacks, cut_at, cut_found, strip_at, strip_found}
+use Rattle.str0m_values.proofs.CutLaws.{strip_found}
 use Rattle.str0m_signal.proofs.LineLaws.{attribute_both}
-use Rattle.str0m_values.proofs.NumLaws.{when_some, when_true, num_found, num_reads, number_lacks, rest_true}
+use Rattle.str0m_values.proofs.NumLaws.{when_some, when_true, num_reads, rest_true}
 use Rattle.str0m_signal.proofs.FmtpLaws.{fmtp_fields_both}
 use Rattle.str0m_values.proofs.BothWays.{Sound, Reads, or_some, bind_some, some_is, sound_or, reads_first}
 
@@ -160,6 +155,9 @@ fingerprint_sound = form_sound Fingerprint fingerprint_both (λ text x h. h)
 plain_sound : Sound Named plain_read
 plain_sound = sound_or words_sound (sound_or setup_sound (sound_or mid_sound (sound_or numbers_sound rtpmap_sound)))
 
+rid_sound : Sound Named rid_read
+rid_sound = form_sound (λ p. Rid p.0 p.1.0 p.1.1.0 p.1.1.1) (behind_both (codes "rid:") rid_fields_both) (λ text p h. h)
+
 simulcast_sound : Sound Named simulcast_read
 simulcast_sound = form_sound Simulcast (behind_both (codes "simulcast:") simulcast_fields_both) (λ text x h. h)
 
@@ -169,7 +167,8 @@ fields_sound =
     (sound_or msid_sound
     (sound_or rtcp_fb_sound
     (sound_or ssrc_sound
-    (sound_or ssrc_group_sound simulcast_sound))))
+    (sound_or ssrc_group_sound
+    (sound_or rid_sound simulcast_sound)))))
 
 held_sound : Sound Named held_read
 held_sound = sound_or texts_sound (sound_or candidate_sound (sound_or fields_sound (sound_or fingerprint_sound fmtp_sound)))
@@ -233,6 +232,7 @@ named_complete text (Fmtp pt values) h =
     let fields = fmtp_fields_both.complete text (pt, values) h in
     ap named_read h.joined ∙ fmtp_named (codes "fmtp:" ++ (h.number ++ h.more)) pt values (ap fmtp_fields_read (sym h.joined) ∙ fields) h.number h.more refl
 named_complete text (RtcpFb pt value) h = ap named_read h.1 ∙ rw (rtcp_fb_fields.complete h.0 (pt, value) h.2) refl
+named_complete text (Rid id direction types restrictions) h = ap named_read h.1 ∙ rw (rid_fields_both.complete h.0 (id, (direction, (types, restrictions))) h.2) refl
 named_complete text (Simulcast simulcast) h = ap named_read h.1 ∙ rw (simulcast_fields_both.complete h.0 simulcast h.2) refl
 named_complete text (SsrcGroup semantics ssrcs) h = ap named_read h.1 ∙ rw (ssrc_group_fields.complete h.0 (semantics, ssrcs) h.2) refl
 named_complete text (Ssrc ssrc attr value) h = ap named_read h.1 ∙ rw (ssrc_fields.complete h.0 (ssrc, (attr, value)) h.2) refl

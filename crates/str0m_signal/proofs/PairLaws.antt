@@ -1,15 +1,12 @@
 -- The parts of an fmtp pair.
-use Rattle.std.proofs.Common.{◌≡◌, ◌≢◌, ◌⊎◌, ℕ, ◌<◌, Bool, true, false, cond, eqb, List, [], ◌∷◌, ◌++◌, length, Option, Some, None, refl, sym, ap, ◌∙◌, arith, inl, inr, length-append}
-use Rattle.std.proofs.lemmas.Bool.{eq-eqb, ne_eqb, ltb-true, lt-ltb, cases_eq}
+use Rattle.std.proofs.Common.{◌≡◌, ◌⊎◌, ℕ, List, [], ◌∷◌, ◌++◌, length, Some, refl, ap, ◌∙◌, arith, inl, inr}
+use Rattle.std.proofs.lemmas.Bool.{lt-ltb}
 use Rattle.std.proofs.lemmas.List.{append-nil}
-use Rattle.std.proofs.lemmas.Option.{some_pair_parts}
 use Rattle.std.specs.List.{AllByRecursion}
 use Rattle.str0m_values.specs.Parts.{Lacks, IsRest}
-use Rattle.str0m_values.specs.Cuts.{◌>>=◌, cut, before_cut, strip, when, is_rest, front, before}
+use Rattle.str0m_values.specs.Cuts.{before}
 use Rattle.str0m_signal.specs.FmtpReading.{value_read, skip_blanks}
 use Rattle.str0m_values.proofs.CutLaws.{before_front, strip_at}
-use Rattle.str0m_values.proofs.NumLaws.{when_some}
-use Rattle.str0m_values.proofs.BothWays.{bind_some}
 
 -- a value ends at the end of the text, at `;`, at a space or at a tab
 abbrev pub EndsValue : List ℕ → Type 0

@@ -1,10 +1,10 @@
 -- Parts with a character between them are read both ways, and one by one.
-use Rattle.std.proofs.Common.{◌≡◌, ◌⊎◌, ℕ, ◌<◌, ◌+◌, Bool, true, false, eqb, List, [], ◌∷◌, ◌++◌, length, Option, Some, None, refl, sym, ap, subst, ◌∙◌, arith, inl, inr, append_assoc, length-append}
+use Rattle.std.proofs.Common.{◌≡◌, ◌⊎◌, ℕ, ◌<◌, true, false, eqb, List, [], ◌∷◌, ◌++◌, length, Option, Some, None, refl, sym, ap, subst, ◌∙◌, arith, inl, inr, append_assoc, length-append}
 use Rattle.std.specs.Prelude.{option_map, is_some}
 use Rattle.std.specs.List.{slice_split, onto_first}
 use Rattle.std.proofs.lemmas.Bool.{ne_eqb, eq-eqb}
 use Rattle.str0m_values.specs.Parts.{Lacks}
-use Rattle.str0m_values.specs.Cuts.{◌>>=◌, ◌<|>◌, cut}
+use Rattle.str0m_values.specs.Cuts.{◌>>=◌, cut}
 use Rattle.str0m_values.specs.Joined.{Parted}
 use Rattle.str0m_values.proofs.BothWays.{Reads, bind_some, some_is}
 use Rattle.str0m_values.proofs.CutLaws.{cut_found, cut_none_lacks}

@@ -1,13 +1,13 @@
 -- A text has at most one reading.
-use Rattle.std.proofs.Common.{◌≡◌, ℕ, ◌<◌, ◌≤◌, List, [], ◌∷◌, ◌++◌, length, Option, Some, None, refl, sym, ap, subst, ◌∙◌, arith}
+use Rattle.std.proofs.Common.{◌≡◌, ℕ, ◌<◌, List, [], ◌∷◌, length, Option, Some, sym, ap, subst, ◌∙◌, arith}
 use Rattle.std.specs.Prelude.{codes}
 use Rattle.std.proofs.lemmas.Option.{some_pair_parts}
 use Rattle.str0m_sdp.specs.declared.bandwidth.Bandwidth.{Bandwidth}
 use Rattle.str0m_sdp.specs.declared.media_line.MediaLine.{MediaLine}
 use Rattle.str0m_sdp.specs.declared.attribute.MediaAttribute.{MediaAttribute}
-use Rattle.str0m_signal.specs.Lines.{Line, joined, OneLine}
+use Rattle.str0m_signal.specs.Lines.{Line, OneLine}
 use Rattle.str0m_signal.specs.Chains.{Chain, Stops, Run, Taken}
-use Rattle.str0m_signal.specs.Header.{Header, IsExactly, IsInfo, IsOpening, IsHeader}
+use Rattle.str0m_signal.specs.Header.{Header, IsExactly, IsInfo, IsHeader}
 use Rattle.str0m_signal.specs.Section.{IsField, IsBandwidth, Head, IsHead, IsSection}
 use Rattle.str0m_signal.specs.MediaAttribute.{IsMediaLine}
 use Rattle.str0m_sdp.specs.Consistency.{Consistent}
@@ -18,7 +18,7 @@ use Rattle.str0m_sdp.specs.declared.attribute.SessionAttribute.{SessionAttribute
 use Rattle.str0m_signal.specs.SessionAttribute.{IsSessionLine}
 use Rattle.str0m_signal.proofs.SessionLaws.{session_line_both}
 use Rattle.str0m_signal.specs.HeaderReading.{opening_read}
-use Rattle.str0m_signal.proofs.ChainLaws.{OnlyOne, one_line_only, chain_ends, taken_only, chain_more, one_fewer, chain_fewer, taken_fewer}
+use Rattle.str0m_signal.proofs.ChainLaws.{OnlyOne, one_line_only, chain_ends, taken_only, one_fewer, chain_fewer, taken_fewer}
 use Rattle.str0m_signal.proofs.MediaLaws.{media_line_both}
 use Rattle.str0m_signal.proofs.SectionLaws.{field_both, bandwidth_both, head_both}
 use Rattle.str0m_signal.proofs.HeaderLaws.{exact_both, info_both, opening_given}

@@ -1,28 +1,27 @@
 -- The lines of a section are read exactly where their forms hold.
-use Rattle.std.proofs.Common.{◌≡◌, ◌≢◌, ◌⊎◌, ℕ, zero, suc, ◌<◌, ◌≤◌, Bool, true, false, cond, eqb, ltb, List, [], ◌∷◌, ◌++◌, length, Option, Some, None, refl, sym, ap, subst, ◌∙◌, arith, inl, inr, append_assoc}
-use Rattle.std.specs.Prelude.{codes, is_some, IsTrue}
+use Rattle.std.proofs.Common.{◌≡◌, ℕ, Bool, true, false, cond, List, [], ◌∷◌, ◌++◌, length, Option, Some, None, refl, sym, ap, subst, ◌∙◌, arith, inl, inr}
+use Rattle.std.specs.Prelude.{codes, is_some}
 use Rattle.std.specs.Str.{bytes_eq}
-use Rattle.std.proofs.lemmas.Bool.{ltb-true, lt-ltb, both_ways, false_from_ne_true}
+use Rattle.std.proofs.lemmas.Bool.{ltb-true, both_ways, false_from_ne_true}
 use Rattle.std.proofs.lemmas.List.{append-nil}
 use Rattle.std.proofs.lemmas.Bool.Decides.{same_from_decides}
 use Rattle.str0m_values.specs.Joined.{Parted}
 use Rattle.str0m_signal.proofs.FormLaws.{num_both}
 use Rattle.str0m_signal.proofs.PartLaws.{parted_both}
 use Rattle.std.proofs.lemmas.Slice.Eq.{bytes_eq-Decides}
-use Rattle.std.proofs.lemmas.Option.{some_pair_parts, none-some}
 use Rattle.str0m_sdp.specs.declared.bandwidth.Bandwidth.{Bandwidth}
 use Rattle.str0m_sdp.specs.declared.media_type.MediaType.{MediaType}
 use Rattle.str0m_sdp.specs.declared.media_type.MediaType.TheVariants.{Audio, Video, Application, Unknown}
 use Rattle.str0m_sdp.specs.declared.proto.Proto.{Proto}
 use Rattle.str0m_sdp.specs.declared.proto.Proto.TheVariants.{Srtp, Sctp}
-use Rattle.str0m_values.specs.Parts.{Lacks, IsRest, IsNum, IsWord, IsWithout}
+use Rattle.str0m_values.specs.Parts.{Lacks, IsRest, IsNum}
 use Rattle.str0m_values.specs.Fits.{FirstFit}
-use Rattle.str0m_signal.specs.Section.{IsField, IsBandwidth, Begins, IsKind, IsProto, NoTypes, Head, IsHead, IsSection}
-use Rattle.str0m_values.specs.Cuts.{◌>>=◌, ◌<|>◌, cut, strip, when, is_rest, num}
+use Rattle.str0m_signal.specs.Section.{IsField, IsBandwidth, Begins, IsKind, IsProto, NoTypes, Head, IsHead}
+use Rattle.str0m_values.specs.Cuts.{◌>>=◌, cut, strip, when, is_rest}
 use Rattle.str0m_signal.specs.SectionReading.{field_read, bandwidth_read, unknown_read, kind_read, proto_read, numbers_read, no_types_read, types_read, head_read}
-use Rattle.str0m_values.proofs.CutLaws.{cut_none, cut_none_lacks, cut_at, cut_found, strip_at, strip_found}
-use Rattle.str0m_values.proofs.NumLaws.{when_some, when_true, num_found, num_reads}
-use Rattle.str0m_values.proofs.BothWays.{Sound, Reads, or_some, bind_some, some_is, if_some, sound_or, reads_first}
+use Rattle.str0m_values.proofs.CutLaws.{cut_at, cut_found, strip_at, strip_found}
+use Rattle.str0m_values.proofs.NumLaws.{when_some}
+use Rattle.str0m_values.proofs.BothWays.{Sound, Reads, bind_some, some_is, sound_or, reads_first}
 use Rattle.str0m_values.proofs.WordLaws.{word_sound}
 use Rattle.str0m_values.proofs.NumLaws.{number_lacks, rest_true}
 

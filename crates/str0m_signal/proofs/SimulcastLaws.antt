@@ -1,30 +1,30 @@
 -- A simulcast line is read exactly where its form holds.
-use Rattle.std.proofs.Common.{◌≡◌, ◌≢◌, ◌⊎◌, ◌<◌, ℕ, Bool, true, false, cond, eqb, List, [], ◌∷◌, ◌++◌, length, Option, Some, None, refl, sym, ap, subst, ◌∙◌, arith, inl, inr}
-use Rattle.std.specs.Prelude.{codes, is_some, ◌&&◌}
+use Rattle.std.proofs.Common.{◌≡◌, ◌≢◌, ℕ, Bool, true, false, List, [], ◌∷◌, ◌++◌, length, Option, Some, None, refl, sym, ap, subst, ◌∙◌, arith, inl, inr}
+use Rattle.std.specs.Prelude.{codes, is_some}
 use Rattle.std.specs.List.{list_all}
 use Rattle.std.specs.Str.{chars}
 use Rattle.std.proofs.lemmas.Bool.{ltb-true, ne_eqb, and_parts, and_from}
 use Rattle.str0m_sdp.specs.declared.simulcast.RestrictionId.{RestrictionId}
 use Rattle.str0m_sdp.specs.declared.simulcast.SimulcastLayer.{SimulcastLayer}
 use Rattle.str0m_sdp.specs.declared.simulcast.Simulcast.{Simulcast}
-use Rattle.str0m_sdp.specs.Simulcast.{name_text, id_text}
-use Rattle.str0m_values.specs.Cuts.{◌>>=◌, ◌<|>◌, cut, strip, when, is_rest, lacks}
+use Rattle.str0m_sdp.specs.Simulcast.{name_text}
+use Rattle.str0m_values.specs.Cuts.{◌>>=◌, cut, strip, when, is_rest, lacks}
 use Rattle.str0m_values.specs.Joined.{Parted}
 use Rattle.str0m_values.specs.Parts.{Lacks, IsRest}
-use Rattle.str0m_values.proofs.BothWays.{Sound, Reads, bind_some, some_is, or_some, sound_or}
-use Rattle.str0m_values.proofs.CutLaws.{cut_none, cut_none_lacks, cut_at, cut_found, strip_found, lacks_true, lacks_from}
+use Rattle.str0m_values.proofs.BothWays.{Sound, Reads, bind_some, some_is, sound_or}
+use Rattle.str0m_values.proofs.CutLaws.{cut_none, cut_at, cut_found, strip_found, lacks_true, lacks_from}
 use Rattle.str0m_values.proofs.NumLaws.{when_some, when_true, rest_true}
 use Rattle.str0m_signal.specs.Forms.{Behind, Two}
 use Rattle.str0m_signal.specs.FormReading.{behind, parted_read}
 use Rattle.str0m_signal.specs.StreamName.{is_name_character, IsStreamName, is_stream_name}
-use Rattle.str0m_signal.specs.Simulcast.{IsAlternative, IsLayer, IsSide, AreBoth, AreSides, IsSimulcast}
+use Rattle.str0m_signal.specs.Simulcast.{IsAlternative, IsLayer, IsSide, AreSides, IsSimulcast}
 use Rattle.str0m_signal.specs.SimulcastReading.{alternative_after, alternative_read, first_after, layer_read, side_read, sides_after, sides_read, layers_of, simulcast_fields_read}
-use Rattle.str0m_signal.proofs.FormLaws.{behind_both, form_sound}
+use Rattle.str0m_signal.proofs.FormLaws.{behind_both}
 use Rattle.str0m_signal.proofs.PartLaws.{parted_both}
 
 -- ---- names
 
-name_from : (text : List ℕ) → is_stream_name text ≡ true → IsStreamName text
+pub name_from : (text : List ℕ) → is_stream_name text ≡ true → IsStreamName text
 name_from text e =
     let a = and_parts (is_rest text) _ e in
     let b = and_parts (list_all is_name_character (chars text)) _ a.1 in
@@ -33,7 +33,7 @@ name_from text e =
     let f = and_parts (lacks 59 text) (lacks 126 text) d.1 in
     record { filled = ltb-true 0 (length text) a.0; characters = b.0; space = lacks_from 32 text c.0; comma = lacks_from 44 text d.0; semicolon = lacks_from 59 text f.0; tilde = lacks_from 126 text f.1 }
 
-name_true : (text : List ℕ) → IsStreamName text → is_stream_name text ≡ true
+pub name_true : (text : List ℕ) → IsStreamName text → is_stream_name text ≡ true
 name_true text h =
     and_from (is_rest text) _ (rest_true text h.filled)
     (and_from (list_all is_name_character (chars text)) _ h.characters
@@ -81,7 +81,7 @@ lacks_joined : (c d : ℕ) (a b : List ℕ) → d ≢ c → Lacks c a → Lacks 
 lacks_joined c d [] b other h k = (other, k)
 lacks_joined c d (x ∷ xs) b other h k = (h.0, lacks_joined c d xs b other h.1 k)
 
-parted_lacks : {A : Type 0} {F : List ℕ → A → Type 0} (c d : ℕ) → d ≢ c → ((text : List ℕ) (x : A) → F text x → Lacks c text) → (xs : List A) (text : List ℕ) → Parted d F text xs → Lacks c text
+pub parted_lacks : {A : Type 0} {F : List ℕ → A → Type 0} (c d : ℕ) → d ≢ c → ((text : List ℕ) (x : A) → F text x → Lacks c text) → (xs : List A) (text : List ℕ) → Parted d F text xs → Lacks c text
 parted_lacks c d other lacks [] text h = absurd h
 parted_lacks c d other lacks (x ∷ []) text h = lacks text x h
 parted_lacks c d other lacks (x ∷ (y ∷ ys)) text h = rw h.2 (lacks_joined c d h.0 h.1 other (lacks h.0 x h.3) (parted_lacks c d other lacks (y ∷ ys) h.1 h.4))

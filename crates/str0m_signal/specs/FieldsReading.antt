@@ -1,5 +1,5 @@
 -- Reading of the attributes that are a label and several fields, as functions.
-use Rattle.std.specs.Prelude.{ℕ, true, List, Option, Some, None, codes}
+use Rattle.std.specs.Prelude.{ℕ, true, List, Option, Some, codes}
 use Rattle.str0m_sdp.specs.declared.attribute.MediaAttribute.{MediaAttribute}
 use Rattle.str0m_sdp.specs.declared.attribute.MediaAttribute.TheVariants.{ExtMap, Msid, RtcpFb, SsrcGroup, Ssrc}
 use Rattle.str0m_values.specs.declared.fingerprint.Fingerprint.{Fingerprint}

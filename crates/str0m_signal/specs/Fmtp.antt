@@ -2,10 +2,13 @@
 use Rattle.std.specs.Prelude.{◌≡◌, ◌⊎◌, ℕ, List, [], ◌∷◌, ◌++◌, Option, Some, None, codes}
 use Rattle.std.specs.List.{AllByRecursion}
 use Rattle.str0m_formats.specs.declared.format_param.FormatParam.{FormatParam}
-use Rattle.str0m_formats.specs.declared.format_param.FormatParam.TheVariants.{Unknown}
+use Rattle.str0m_formats.specs.declared.format_param.FormatParam.TheVariants.{BareRange, BarePtList, Unknown}
+use Rattle.str0m_formats.specs.FormatParam.{IsEventRange}
 use Rattle.str0m_formats.specs.Pairs.{AreRead}
-use Rattle.str0m_values.specs.Parts.{Lacks, IsRest, IsPt}
+use Rattle.str0m_values.specs.Joined.{Parted}
+use Rattle.str0m_values.specs.Parts.{Lacks, IsRest, IsNum, IsPt}
 use Rattle.str0m_values.specs.Fits.{FirstFit}
+use Rattle.str0m_signal.specs.Forms.{Behind}
 
 -- a space or a tab
 abbrev pub IsBlank : ℕ → Type 0
@@ -48,6 +51,14 @@ abbrev pub IsPairsForm : List ℕ → List FormatParam → Type 0
 IsPairsForm more values = (blanks : List ℕ) × (text : List ℕ) × (pairs : List (List ℕ × List ℕ)) × (more ≡ codes " " ++ (blanks ++ text))
     × AreBlanks blanks × ArePairs text pairs × AreRead pairs values
 
+-- SP and two or more payload types, parted by `/`: the first of them (RFC 2198, section 5)
+abbrev pub IsListForm : List ℕ → List FormatParam → Type 0
+IsListForm more values = (first : ℕ) × (second : ℕ) × (others : List ℕ) × Behind (codes " ") (Parted 47 (IsNum 255)) more (first ∷ second ∷ others) × (values ≡ BarePtList first ∷ [])
+
+-- SP and a range from 0 on, written in digits alone: where it ends (RFC 4733, section 2.4)
+abbrev pub IsRangeForm : List ℕ → List FormatParam → Type 0
+IsRangeForm more values = (last : ℕ) × Behind (codes " ") IsEventRange more last × (values ≡ BareRange last ∷ [])
+
 abbrev pub IsAnything : List ℕ → List FormatParam → Type 0
 IsAnything more values = values ≡ Unknown ∷ []
 
@@ -58,4 +69,4 @@ pub record IsFmtp (text : List ℕ) (pt : ℕ) (values : List FormatParam) : Typ
   pub joined : text ≡ codes "fmtp:" ++ (number ++ more)
   pub number_is : IsPt number pt
   pub word_ends : (more ≡ []) ⊎ ((rest : List ℕ) × (more ≡ codes " " ++ rest))
-  pub values_are : FirstFit IsPairsForm IsAnything more values
+  pub values_are : FirstFit IsPairsForm (FirstFit IsListForm (FirstFit IsRangeForm IsAnything)) more values

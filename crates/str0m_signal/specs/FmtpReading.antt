@@ -1,8 +1,9 @@
--- Reading of the pairs of an fmtp line as functions.
-use Rattle.std.specs.Prelude.{ℕ, zero, suc, Bool, List, [], ◌∷◌, Option, Some, None, codes, length, if◌then◌else◌, ◌==◌}
+-- Reading of an fmtp line as functions.
+use Rattle.std.specs.Prelude.{ℕ, zero, suc, List, [], ◌∷◌, Option, Some, None, codes, is_some, length, if◌then◌else◌, ◌==◌}
 use Rattle.str0m_formats.specs.declared.format_param.FormatParam.{FormatParam}
-use Rattle.str0m_formats.specs.declared.format_param.FormatParam.TheVariants.{Unknown}
+use Rattle.str0m_formats.specs.declared.format_param.FormatParam.TheVariants.{BareRange, BarePtList, Unknown}
 use Rattle.str0m_formats.specs.PairsReading.{params_read}
+use Rattle.str0m_signal.specs.FormReading.{behind, two_read, parted_read}
 use Rattle.str0m_values.specs.Cuts.{◌>>=◌, ◌<|>◌, cut, strip, when, is_rest, num, before, lacks}
 
 -- the value of an fmtp pair, which ends at `;`, space or tab, and what follows it
@@ -52,8 +53,29 @@ pairs_form_read more = do
   pairs ← pairs_read (skip_blanks text)
   Some (params_read pairs)
 
+-- the first of two or more numbers that are parted by `/`
+abbrev pub first_read : List ℕ → Option ℕ
+first_read text = two_read 47 (num 255) (parted_read 47 (num 255)) text >>= λ numbers. Some numbers.0
+
+abbrev pub digits_read : List ℕ → Option ℕ
+digits_read text = if is_some (strip (codes "+") text) then None else num 255 text
+
+-- where a range from 0 on ends
+abbrev pub range_read : List ℕ → Option ℕ
+range_read text = strip (codes "0-") text >>= digits_read
+
+abbrev pub list_form_read : List ℕ → Option (List FormatParam)
+list_form_read more = behind (codes " ") first_read more >>= λ first. Some (BarePtList first ∷ [])
+
+abbrev pub range_form_read : List ℕ → Option (List FormatParam)
+range_form_read more = behind (codes " ") range_read more >>= λ last. Some (BareRange last ∷ [])
+
+-- what isn't pairs
+abbrev pub bare_read : List ℕ → Option (List FormatParam)
+bare_read more = list_form_read more <|> (range_form_read more <|> Some (Unknown ∷ []))
+
 abbrev pub fmtp_values_read : List ℕ → Option (List FormatParam)
-fmtp_values_read more = pairs_form_read more <|> Some (Unknown ∷ [])
+fmtp_values_read more = pairs_form_read more <|> bare_read more
 
 abbrev pub fmtp_fields_read : List ℕ → Option (ℕ × List FormatParam)
 fmtp_fields_read text = do

@@ -15,6 +15,9 @@ pub mod Lines
 pub mod MediaAttribute
 pub mod MediaAttributeReading
 pub mod Reading
+pub mod Rid
+pub mod RidLists
+pub mod RidReading
 pub mod RtpMap
 pub mod RtpMapReading
 pub mod Section

@@ -2,7 +2,7 @@
 use Rattle.std.specs.Prelude.{◌≡◌, ℕ, Bool, false, codes, List, [], ◌∷◌, Option, Some, None, ◌==◌, ◌&&◌, if◌then◌else◌}
 use Rattle.str0m_values.specs.Cuts.{strip, lacks, ◌>>=◌}
 use Rattle.std.specs.Borrow.{Bor}
-use Rattle.str0m_signal.specs.Lines.{Line, joined}
+use Rattle.str0m_signal.specs.Lines.{Line}
 use Rattle.str0m_signal.specs.Chains.{Stops}
 
 abbrev pub is_crlf : ℕ → List ℕ → Bool

@@ -1,7 +1,7 @@
 -- The attributes of a section, each with the text that stands for it after `a=`.
 use Rattle.std.specs.Prelude.{◌≡◌, ◌++◌, ℕ, true, List, codes}
 use Rattle.str0m_sdp.specs.declared.attribute.MediaAttribute.{MediaAttribute}
-use Rattle.str0m_sdp.specs.declared.attribute.MediaAttribute.TheVariants.{Rtcp, IceUfrag, IcePwd, IceOptions, Fingerprint, Setup, Mid, SctpPort, MaxMessageSize, SctpInit, ExtMap, RecvOnly, SendRecv, SendOnly, Inactive, Msid, RtcpMux, RtcpMuxOnly, RtcpRsize, Candidate, EndOfCandidates, RtpMap, RtcpFb, Fmtp, Simulcast, SsrcGroup, Ssrc, Unused}
+use Rattle.str0m_sdp.specs.declared.attribute.MediaAttribute.TheVariants.{Rtcp, IceUfrag, IcePwd, IceOptions, Fingerprint, Setup, Mid, SctpPort, MaxMessageSize, SctpInit, ExtMap, RecvOnly, SendRecv, SendOnly, Inactive, Msid, RtcpMux, RtcpMuxOnly, RtcpRsize, Candidate, EndOfCandidates, RtpMap, RtcpFb, Fmtp, Rid, Simulcast, SsrcGroup, Ssrc, Unused}
 use Rattle.str0m_values.specs.Candidate.{IsCandidateText}
 use Rattle.str0m_values.specs.Parts.{IsRest, IsNum, IsPt}
 use Rattle.str0m_values.specs.ShortText.{IsLongestBeginning}
@@ -10,6 +10,7 @@ use Rattle.str0m_signal.specs.FingerprintLine.{IsFingerprintText}
 use Rattle.str0m_signal.specs.Simulcast.{IsSimulcast}
 use Rattle.str0m_signal.specs.Forms.{Behind, IsText, Two, Tailed}
 use Rattle.str0m_signal.specs.Fmtp.{IsFmtp}
+use Rattle.str0m_signal.specs.Rid.{IsRid}
 use Rattle.str0m_signal.specs.RtpMap.{IsRtpMap}
 use Rattle.str0m_values.specs.Fits.{FirstFit}
 use Rattle.str0m_signal.specs.Lines.{IsAttributeLine}
@@ -41,6 +42,7 @@ Named text EndOfCandidates = text ≡ codes "end-of-candidates"
 Named text (RtpMap pt value) = IsRtpMap text pt value
 Named text (RtcpFb pt value) = Behind (codes "rtcp-fb:") (Two 32 IsPt IsText) text (pt, value)
 Named text (Fmtp pt values) = IsFmtp text pt values
+Named text (Rid id direction types restrictions) = Behind (codes "rid:") IsRid text (id, (direction, (types, restrictions)))
 Named text (Simulcast simulcast) = Behind (codes "simulcast:") IsSimulcast text simulcast
 Named text (SsrcGroup semantics ssrcs) = Behind (codes "ssrc-group:") (Two 32 IsText (Parted 32 (IsNum 4294967295))) text (semantics, ssrcs)
 Named text (Ssrc ssrc attr value) = Behind (codes "ssrc:") (Two 32 (IsNum 4294967295) (Two 58 IsText IsText)) text (ssrc, (attr, value))

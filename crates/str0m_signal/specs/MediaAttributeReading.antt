@@ -1,18 +1,19 @@
 -- Reading of a section's attribute as a function.
-use Rattle.std.specs.Prelude.{ℕ, List, [], ◌∷◌, Option, Some, None, codes}
+use Rattle.std.specs.Prelude.{ℕ, List, Option, Some, codes}
 use Rattle.std.specs.Str.{bytes_eq}
 use Rattle.str0m_sdp.specs.declared.setup.Setup.{Setup as Role}
 use Rattle.str0m_sdp.specs.declared.setup.Setup.TheVariants.{ActPass, Active, Passive}
 use Rattle.str0m_sdp.specs.declared.attribute.MediaAttribute.{MediaAttribute}
-use Rattle.str0m_sdp.specs.declared.attribute.MediaAttribute.TheVariants.{Rtcp, IceUfrag, IcePwd, IceOptions, Fingerprint, Setup, Mid, SctpPort, MaxMessageSize, SctpInit, RecvOnly, SendRecv, SendOnly, Inactive, RtcpMux, RtcpMuxOnly, RtcpRsize, Candidate, EndOfCandidates, RtpMap, Fmtp, Simulcast, Unused}
+use Rattle.str0m_sdp.specs.declared.attribute.MediaAttribute.TheVariants.{Rtcp, IceUfrag, IcePwd, IceOptions, Fingerprint, Setup, Mid, SctpPort, MaxMessageSize, SctpInit, RecvOnly, SendRecv, SendOnly, Inactive, RtcpMux, RtcpMuxOnly, RtcpRsize, Candidate, EndOfCandidates, RtpMap, Fmtp, Rid, Simulcast, Unused}
 use Rattle.str0m_values.specs.CandidateReading.{candidate_read}
 use Rattle.str0m_signal.specs.FieldsReading.{ext_map_read, msid_read, rtcp_fb_read, ssrc_read, ssrc_group_read, fingerprint_read}
+use Rattle.str0m_signal.specs.RidReading.{rid_fields_read}
 use Rattle.str0m_signal.specs.SimulcastReading.{simulcast_fields_read}
 use Rattle.str0m_signal.specs.FormReading.{alone, behind, text_read}
 use Rattle.str0m_values.specs.ShortText.{beginning_of}
 use Rattle.str0m_signal.specs.RtpMapReading.{rtpmap_fields_read}
 use Rattle.str0m_signal.specs.FmtpReading.{fmtp_fields_read}
-use Rattle.str0m_values.specs.Cuts.{◌>>=◌, ◌<|>◌, cut, strip, when, is_rest, num}
+use Rattle.str0m_values.specs.Cuts.{◌>>=◌, ◌<|>◌, strip, when, is_rest, num}
 
 -- the attributes that are a word alone
 abbrev pub words_read : List ℕ → Option MediaAttribute
@@ -82,6 +83,9 @@ plain_read text =
 abbrev pub simulcast_read : List ℕ → Option MediaAttribute
 simulcast_read text = behind (codes "simulcast:") simulcast_fields_read text >>= λ simulcast. Some (Simulcast simulcast)
 
+abbrev pub rid_read : List ℕ → Option MediaAttribute
+rid_read text = behind (codes "rid:") rid_fields_read text >>= λ f. Some (Rid f.0 f.1.0 f.1.1.0 f.1.1.1)
+
 -- the forms of fields
 abbrev pub fields_read : List ℕ → Option MediaAttribute
 fields_read text =
@@ -90,6 +94,7 @@ fields_read text =
     <|> rtcp_fb_read text
     <|> ssrc_read text
     <|> ssrc_group_read text
+    <|> rid_read text
     <|> simulcast_read text
 
 -- the forms of which something is kept

@@ -1,5 +1,5 @@
 -- The reading of a text.
-use Rattle.std.specs.Prelude.{◌≡◌, ℕ, List, Option}
+use Rattle.std.specs.Prelude.{ℕ, List}
 use Rattle.str0m_sdp.specs.declared.media_line.MediaLine.{MediaLine}
 use Rattle.str0m_sdp.specs.declared.session.Session.{Session as TheSession}
 use Rattle.str0m_sdp.specs.declared.session.Sdp.{Sdp}

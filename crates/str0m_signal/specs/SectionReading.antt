@@ -1,5 +1,5 @@
 -- Reading of a section's first lines as functions.
-use Rattle.std.specs.Prelude.{ℕ, Bool, List, [], ◌∷◌, Option, Some, None, codes, if◌then◌else◌, ◌==◌, is_some}
+use Rattle.std.specs.Prelude.{ℕ, List, [], Option, Some, None, codes, if◌then◌else◌, is_some}
 use Rattle.std.specs.Str.{bytes_eq}
 use Rattle.str0m_sdp.specs.declared.bandwidth.Bandwidth.{Bandwidth}
 use Rattle.str0m_sdp.specs.declared.media_type.MediaType.{MediaType}

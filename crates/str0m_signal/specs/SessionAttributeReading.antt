@@ -1,5 +1,5 @@
 -- Reading of a session's attribute as a function.
-use Rattle.std.specs.Prelude.{ℕ, List, Option, Some, None, codes}
+use Rattle.std.specs.Prelude.{ℕ, List, Option, Some, codes}
 use Rattle.str0m_sdp.specs.declared.attribute.SessionAttribute.{SessionAttribute}
 use Rattle.str0m_sdp.specs.declared.attribute.SessionAttribute.TheVariants.{Group, MsidSemantic, IceLite, IceUfrag, IcePwd, IceOptions, Fingerprint, Setup, Candidate, EndOfCandidates, Unused}
 use Rattle.str0m_values.specs.CandidateReading.{candidate_read}

@@ -1,5 +1,5 @@
 -- The form of a simulcast line (RFC 8853, section 5.1).
-use Rattle.std.specs.Prelude.{◌≡◌, ◌⊎◌, ◌++◌, false, ℕ, List, [], ◌∷◌, None, codes}
+use Rattle.std.specs.Prelude.{◌≡◌, ◌⊎◌, false, ℕ, List, [], ◌∷◌, None, codes}
 use Rattle.str0m_sdp.specs.declared.simulcast.RestrictionId.{RestrictionId}
 use Rattle.str0m_sdp.specs.declared.simulcast.SimulcastLayer.{SimulcastLayer}
 use Rattle.str0m_sdp.specs.declared.simulcast.Simulcast.{Simulcast}

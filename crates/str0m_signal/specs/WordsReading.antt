@@ -1,7 +1,7 @@
 -- Reading of lists of words as functions.
 use Rattle.std.specs.Prelude.{ℕ, ◌+◌, ◌*◌, ◌==◌, nat_lt, List, [], ◌∷◌, Option, Some, None, codes, if◌then◌else◌}
 use Rattle.std.specs.Char.{digit_value}
-use Rattle.str0m_values.specs.Cuts.{◌>>=◌, cut, strip, when, is_rest, lacks}
+use Rattle.str0m_values.specs.Cuts.{◌>>=◌, cut, strip, when, lacks}
 use Rattle.str0m_values.specs.ShortText.{beginning_of}
 use Rattle.str0m_signal.specs.FormReading.{text_read, two_read, parted_read}
 

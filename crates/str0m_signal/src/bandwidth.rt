@@ -10,8 +10,8 @@ ghost use Rattle.str0m_signal.specs.SectionReading.{bandwidth_read};
 use crate::lines::plain_line;
 use std::alloc::{AllocError, Global};
 use str0m_sdp::Bandwidth;
-use str0m_values::Text;
 use str0m_values::cuts::{cut, strip};
+use str0m_values::{Separator, Text};
 
 fn bandwidth(alloc: Global, line: &str) -> Result<Option<Bandwidth>, AllocError>
     ensures { IfOk result (λ found. found ≡ bandwidth_read line.now) }
@@ -19,7 +19,7 @@ fn bandwidth(alloc: Global, line: &str) -> Result<Option<Bandwidth>, AllocError>
     let Some(body) = strip(line, "b=") else {
         return Ok(None);
     };
-    let Some((typ, val)) = cut(body, ':') else {
+    let Some((typ, val)) = cut(body, Separator::Colon) else {
         return Ok(None);
     };
     if typ.is_empty() || val.is_empty() {

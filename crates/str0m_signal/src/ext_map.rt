@@ -6,14 +6,14 @@ ghost use Rattle.str0m_signal.specs.FieldsReading.{ext_map_read};
 
 use std::alloc::{AllocError, Global};
 use str0m_sdp::MediaAttribute;
-use str0m_values::Extension;
 use str0m_values::cuts::{cut, num_u8, strip};
+use str0m_values::{Extension, Separator};
 
 /// The number of the extension; a direction may stand behind it.
 fn id(text: &str) -> Option<u8>
     ensures { result ≡ tailed_read 47 (num 255) text.now }
 {
-    match cut(text, '/') {
+    match cut(text, Separator::Slash) {
         None => num_u8(text, 255),
         Some((number, direction)) => {
             let id = num_u8(number, 255)?;
@@ -26,7 +26,7 @@ fn id(text: &str) -> Option<u8>
 fn uri(text: &str) -> Option<&str>
     ensures { option_map (λ x. x.now) result ≡ tailed_read 32 text_read text.now }
 {
-    match cut(text, ' ') {
+    match cut(text, Separator::Space) {
         None => { if text.is_empty() { None } else { Some(text) } }
         Some((uri, more)) => {
             if uri.is_empty() {
@@ -44,7 +44,7 @@ pub(crate) fn ext_map(alloc: Global, text: &str) -> Result<Option<MediaAttribute
     let Some(body) = strip(text, "extmap:") else {
         return Ok(None);
     };
-    let Some((number, rest)) = cut(body, ' ') else {
+    let Some((number, rest)) = cut(body, Separator::Space) else {
         return Ok(None);
     };
     let Some(id) = id(number) else {

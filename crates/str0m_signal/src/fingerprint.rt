@@ -5,7 +5,7 @@ ghost use Rattle.str0m_signal.specs.FieldsReading.{fingerprint_read};
 use crate::parts::parts;
 use std::alloc::{AllocError, Global};
 use str0m_values::cuts::{cut, strip};
-use str0m_values::{Fingerprint, Text};
+use str0m_values::{Fingerprint, Separator, Text};
 
 /// The fingerprint of the text behind `a=`.
 pub(crate) fn fingerprint(alloc: Global, text: &str) -> Result<Option<Fingerprint>, AllocError>
@@ -14,13 +14,13 @@ pub(crate) fn fingerprint(alloc: Global, text: &str) -> Result<Option<Fingerprin
     let Some(body) = strip(text, "fingerprint:") else {
         return Ok(None);
     };
-    let Some((name, pairs)) = cut(body, ' ') else {
+    let Some((name, pairs)) = cut(body, Separator::Space) else {
         return Ok(None);
     };
     if name.is_empty() {
         return Ok(None);
     }
-    let Some(bytes) = parts(alloc, pairs, ':')? else {
+    let Some(bytes) = parts(alloc, pairs, Separator::Colon)? else {
         return Ok(None);
     };
     let hash_func = Text::from_str(alloc, name)?;

@@ -4,12 +4,13 @@ ghost use Rattle.std.specs.Prelude.{◌≡◌, IfOk, Some};
 ghost use Rattle.str0m_signal.specs.FmtpReading.{pairs_form_read, fmtp_values_read};
 ghost use Rattle.str0m_signal.specs.MediaAttributeReading.{fmtp_read};
 
+use crate::bare_values::bare;
 use crate::pairs::{pairs, skip_blanks};
 use std::alloc::{AllocError, Global};
 use str0m_formats::FormatParam;
 use str0m_sdp::MediaAttribute;
 use str0m_values::cuts::{before, num_u8, strip};
-use str0m_values::{Items, Pt};
+use str0m_values::{Items, Pt, Separator};
 
 /// The values of pairs behind a space.
 fn pairs_form(alloc: Global, more: &str) -> Result<Option<Items<FormatParam>>, AllocError>
@@ -35,7 +36,7 @@ fn values(alloc: Global, more: &str) -> Result<Items<FormatParam>, AllocError>
         return Ok(values);
     }
     let mut values = Vec::new(alloc);
-    values.push(FormatParam::Unknown)?;
+    values.push(bare(more))?;
     Ok(Items::from(values))
 }
 
@@ -46,7 +47,7 @@ pub(crate) fn fmtp(alloc: Global, text: &str) -> Result<Option<MediaAttribute>, 
     let Some(body) = strip(text, "fmtp:") else {
         return Ok(None);
     };
-    let number = before(body, ' ');
+    let number = before(body, Separator::Space);
     let Some(pt) = num_u8(number, 127) else {
         return Ok(None);
     };

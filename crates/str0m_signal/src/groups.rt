@@ -7,13 +7,13 @@ use crate::words::without_space;
 use std::alloc::{AllocError, Global};
 use str0m_sdp::SessionAttribute;
 use str0m_values::cuts::{cut, strip};
-use str0m_values::{Items, Text};
+use str0m_values::{Items, Separator, Text};
 
 /// The group of a word and of names behind it.
 fn names(alloc: Global, text: &str) -> Result<Option<SessionAttribute>, AllocError>
     ensures { IfOk result (λ found. found ≡ names_form_read text.now) }
 {
-    let Some((word, list)) = cut(text, ' ') else {
+    let Some((word, list)) = cut(text, Separator::Space) else {
         if text.is_empty() {
             return Ok(None);
         }
@@ -24,7 +24,7 @@ fn names(alloc: Global, text: &str) -> Result<Option<SessionAttribute>, AllocErr
     if word.is_empty() {
         return Ok(None);
     }
-    let Some(mids) = parts(alloc, list, ' ')? else {
+    let Some(mids) = parts(alloc, list, Separator::Space)? else {
         return Ok(None);
     };
     let typ = Text::from_str(alloc, word)?;
@@ -55,13 +55,13 @@ pub(crate) fn msid_semantic(
         Some(rest) => rest,
         None => body,
     };
-    let Some((word, list)) = cut(words, ' ') else {
+    let Some((word, list)) = cut(words, Separator::Space) else {
         return Ok(None);
     };
     if word.is_empty() {
         return Ok(None);
     }
-    let Some(stream_ids) = parts(alloc, list, ' ')? else {
+    let Some(stream_ids) = parts(alloc, list, Separator::Space)? else {
         return Ok(None);
     };
     let semantic = Text::from_str(alloc, word)?;

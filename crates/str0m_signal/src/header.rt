@@ -14,8 +14,8 @@ use crate::fields::{field, read_field};
 use crate::lines::plain_line;
 use std::alloc::{AllocError, Global};
 use str0m_sdp::Bandwidth;
-use str0m_values::SessionId;
 use str0m_values::cuts::{cut, strip};
+use str0m_values::{Separator, SessionId};
 
 /// What a header says.
 #[derive(Debug, Drop)]
@@ -46,11 +46,11 @@ fn origin(line: &str) -> Option<u64>
     ensures { result ≡ origin_read line.now }
 {
     let body = strip(line, "o=")?;
-    let (name, body) = cut(body, ' ')?;
+    let (name, body) = cut(body, Separator::Space)?;
     if name.is_empty() {
         return None;
     }
-    let (number, more) = cut(body, ' ')?;
+    let (number, more) = cut(body, Separator::Space)?;
     let id = digits(number)?;
     if more.is_empty() { None } else { Some(id) }
 }

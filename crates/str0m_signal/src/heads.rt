@@ -1,13 +1,16 @@
 //! The m-lines of sections.
 
 ghost use Rattle.std.specs.Prelude.{◌≡◌, IfOk, is_some, option_map};
+ghost use Rattle.str0m_values.specs.Cuts.{num};
+ghost use Rattle.str0m_values.specs.Separator.{code};
+ghost use Rattle.str0m_signal.specs.FormReading.{parted_read};
 ghost use Rattle.str0m_signal.specs.SectionReading.{unknown_read, kind_read, proto_read, numbers_read, types_read, head_read};
 ghost use Rattle.str0m_signal.specs.Heads.{kind_is, media_head};
 
 use std::alloc::{AllocError, Global};
 use str0m_sdp::{MediaType, Proto};
 use str0m_values::cuts::{cut, num_u8, strip};
-use str0m_values::{Items, Pt, Text};
+use str0m_values::{Items, Pt, Separator, Text};
 
 /// What an m-line says.
 #[derive(Debug, Drop)]
@@ -80,12 +83,12 @@ fn proto(text: &str) -> Option<Proto>
     }
 }
 
-/// Whether the text is numbers parted by spaces.
-fn are_numbers(text: &str) -> bool
-    ensures { result ≡ is_some (numbers_read text.now) }
+/// Whether the text is numbers with `at` between each two.
+pub(crate) fn are_numbers(text: &str, at: Separator) -> bool
+    ensures { result ≡ is_some (parted_read (code at) (num 255) text.now) }
 {
     let mut rest = text;
-    while let Some((number, more)) = cut(rest, ' ') {
+    while let Some((number, more)) = cut(rest, at) {
         let Some(_) = num_u8(number, 255) else {
             return false;
         };
@@ -99,7 +102,7 @@ fn numbers(alloc: Global, text: &str) -> Result<Option<Items<Pt>>, AllocError>
 {
     let mut numbers = Vec::new(alloc);
     let mut rest = text;
-    while let Some((number, more)) = cut(rest, ' ') {
+    while let Some((number, more)) = cut(rest, Separator::Space) {
         let Some(value) = num_u8(number, 255) else {
             return Ok(None);
         };
@@ -117,7 +120,7 @@ fn numbers(alloc: Global, text: &str) -> Result<Option<Items<Pt>>, AllocError>
 fn types(alloc: Global, text: &str) -> Result<Option<Items<Pt>>, AllocError>
     ensures { IfOk result (λ found. found ≡ types_read text.now) }
 {
-    if are_numbers(text) {
+    if are_numbers(text, Separator::Space) {
         return numbers(alloc, text);
     }
     if strip(text, " ").is_some() {
@@ -133,13 +136,13 @@ pub(crate) fn head(alloc: Global, line: &str) -> Result<Option<MediaHead>, Alloc
     let Some(body) = strip(line, "m=") else {
         return Ok(None);
     };
-    let Some((kind_text, body)) = cut(body, ' ') else {
+    let Some((kind_text, body)) = cut(body, Separator::Space) else {
         return Ok(None);
     };
-    let Some((port, body)) = cut(body, ' ') else {
+    let Some((port, body)) = cut(body, Separator::Space) else {
         return Ok(None);
     };
-    let Some((protocol, body)) = cut(body, ' ') else {
+    let Some((protocol, body)) = cut(body, Separator::Space) else {
         return Ok(None);
     };
     let Some(kind) = kind_of(kind_text) else {

@@ -3,6 +3,7 @@
 
 mod attributes;
 mod bandwidth;
+mod bare_values;
 mod candidate_line;
 mod ext_map;
 mod fields;
@@ -17,6 +18,7 @@ mod offer;
 mod pairs;
 mod parts;
 mod reader;
+mod rid;
 mod rtp_map;
 mod section;
 mod session_attribute;

@@ -4,6 +4,7 @@ ghost use Rattle.std.specs.Prelude.{◌≡◌, ◌⊎◌, ◌++◌, ◌∷◌, [
 ghost use Rattle.str0m_signal.specs.Lines.{EndsIn};
 ghost use Rattle.str0m_signal.specs.LineReading.{lines_of, first_line, plain_line, both_left};
 
+use str0m_values::Separator;
 use str0m_values::cuts::{cut, has};
 
 /// The line without the carriage return at its end.
@@ -21,7 +22,7 @@ fn first_line(text: &str) -> Option<(&str, &str)>
     if text.is_empty() {
         return None;
     }
-    match cut(text, '\n') {
+    match cut(text, Separator::LineFeed) {
         Some((line, rest)) => Some((without_return(line), rest)),
         None => Some((text, &text[text.len()..])),
     }
@@ -32,7 +33,7 @@ pub(crate) fn plain_line(text: &str) -> Option<(&str, &str)>
     ensures { option_map both_left result ≡ plain_line (lines_of text.now) }
 {
     let (line, rest) = first_line(text)?;
-    if has(line, '\r') {
+    if has(line, Separator::CarriageReturn) {
         None
     } else {
         Some((line, rest))

@@ -12,6 +12,7 @@ use crate::ext_map::ext_map;
 use crate::fields::{kept, num_u64, role, short};
 use crate::fingerprint::fingerprint;
 use crate::fmtp::fmtp;
+use crate::rid::rid;
 use crate::rtp_map::rtp_map;
 use crate::simulcast::simulcast_line;
 use crate::sources::{msid, rtcp_fb, ssrc, ssrc_group};
@@ -142,6 +143,9 @@ fn fields(alloc: Global, text: &str) -> Result<Option<MediaAttribute>, AllocErro
         return Ok(Some(found));
     }
     if let Some(found) = ssrc_group(alloc, text)? {
+        return Ok(Some(found));
+    }
+    if let Some(found) = rid(alloc, text)? {
         return Ok(Some(found));
     }
     simulcast_line(alloc, text)

@@ -6,13 +6,15 @@ ghost use Rattle.str0m_formats.specs.FormatParam.{pair_texts};
 ghost use Rattle.str0m_signal.specs.FmtpReading.{value_read, skip_blanks, next_read, key_read, pair_read, pairs_read};
 
 use std::alloc::{AllocError, Global};
+use str0m_values::Separator;
 use str0m_values::cuts::{before, cut, has, strip};
 
 /// A value, which ends at `;`, space or tab, and what follows it.
 pub(crate) fn value(text: &str) -> Option<(&str, &str)>
     ensures { parts result ≡ value_read text.now }
 {
-    let value = before(before(before(text, ';'), ' '), '\t');
+    let item = before(text, Separator::Semicolon);
+    let value = before(before(item, Separator::Space), Separator::Tab);
     if value.is_empty() {
         return None;
     }
@@ -36,13 +38,14 @@ pub(crate) fn skip_blanks(text: &str) -> &str
     }
 }
 
-fn key(text: &str) -> Option<&str>
+/// A key: one or more characters other than space and tab.
+pub(crate) fn key(text: &str) -> Option<&str>
     ensures { option_map (λ x. x.now) result ≡ key_read text.now }
 {
-    if has(text, ' ') {
+    if has(text, Separator::Space) {
         return None;
     }
-    if has(text, '\t') {
+    if has(text, Separator::Tab) {
         return None;
     }
     if text.is_empty() { None } else { Some(text) }
@@ -66,7 +69,7 @@ fn next(text: &str) -> Option<Option<&str>>
 fn pair(text: &str) -> Option<(&str, &str, Option<&str>)>
     ensures { option_map (λ x. ((x.0.now, x.1.now), option_map (λ y. y.now) x.2)) result ≡ pair_read text.now }
 {
-    let (front, behind) = cut(text, '=')?;
+    let (front, behind) = cut(text, Separator::Equals)?;
     let key = key(front)?;
     let (value, behind) = value(behind)?;
     let more = next(skip_blanks(behind))?;

@@ -1,10 +1,11 @@
 //! Lists whose items have a character between them.
-ghost use Rattle.std.specs.Prelude.{◌≡◌, ◌<◌, ℕ, List, Option, IfOk, is_some};
+ghost use Rattle.std.specs.Prelude.{◌≡◌, ℕ, List, Option, IfOk, is_some};
+ghost use Rattle.str0m_values.specs.Separator.{code};
 ghost use Rattle.str0m_signal.specs.FormReading.{parted_read};
 
 use std::alloc::{AllocError, Global};
-use str0m_values::Items;
 use str0m_values::cuts::cut;
+use str0m_values::{Items, Separator};
 
 /// What one item of a list stands for.
 pub(crate) trait Part: Drop {
@@ -23,9 +24,8 @@ pub(crate) trait Part: Drop {
 }
 
 /// Whether the text is items with `at` between each two.
-pub(crate) fn are_parts<T: Part>(text: &str, at: char) -> bool
-    requires { at < 128 }
-    ensures { result ≡ is_some (parted_read at T.reading text.now) }
+pub(crate) fn are_parts<T: Part>(text: &str, at: Separator) -> bool
+    ensures { result ≡ is_some (parted_read (code at) T.reading text.now) }
 {
     let mut rest = text;
     while let Some((part, more)) = cut(rest, at) {
@@ -38,9 +38,12 @@ pub(crate) fn are_parts<T: Part>(text: &str, at: char) -> bool
 }
 
 /// The items of the text. Memory is taken for those that stand before one that can't be read, too.
-fn read_parts<T: Part>(alloc: Global, text: &str, at: char) -> Result<Option<Items<T>>, AllocError>
-    requires { at < 128 }
-    ensures { IfOk result (λ found. found ≡ parted_read at T.reading text.now) }
+fn read_parts<T: Part>(
+    alloc: Global,
+    text: &str,
+    at: Separator,
+) -> Result<Option<Items<T>>, AllocError>
+    ensures { IfOk result (λ found. found ≡ parted_read (code at) T.reading text.now) }
 {
     let mut parts = Vec::new(alloc);
     let mut rest = text;
@@ -62,10 +65,9 @@ fn read_parts<T: Part>(alloc: Global, text: &str, at: char) -> Result<Option<Ite
 pub(crate) fn parts<T: Part>(
     alloc: Global,
     text: &str,
-    at: char,
+    at: Separator,
 ) -> Result<Option<Items<T>>, AllocError>
-    requires { at < 128 }
-    ensures { IfOk result (λ found. found ≡ parted_read at T.reading text.now) }
+    ensures { IfOk result (λ found. found ≡ parted_read (code at) T.reading text.now) }
 {
     if are_parts::<T>(text, at) {
         read_parts(alloc, text, at)

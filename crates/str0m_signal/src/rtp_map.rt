@@ -9,7 +9,7 @@ ghost use Rattle.str0m_signal.specs.MediaAttributeReading.{rtpmap_read};
 use str0m_formats::Codec;
 use str0m_sdp::{MediaAttribute, RtpMap};
 use str0m_values::cuts::{cut, num_u8, num_u32, strip};
-use str0m_values::{Frequency, Pt};
+use str0m_values::{Frequency, Pt, Separator};
 
 #[tactic(auto, using(str0m_formats::proofs::CodecNames::read_only))]
 fn codec(name: &str) -> Codec
@@ -27,7 +27,7 @@ fn frequency(text: &str) -> Option<Frequency>
 fn clock(text: &str) -> Option<(Frequency, Option<u8>)>
     ensures { result ≡ clock_read text.now (cut 47 text.now) }
 {
-    match cut(text, '/') {
+    match cut(text, Separator::Slash) {
         None => Some((frequency(text)?, None)),
         Some((hertz, channels)) => Some((frequency(hertz)?, Some(num_u8(channels, 255)?))),
     }
@@ -36,7 +36,7 @@ fn clock(text: &str) -> Option<(Frequency, Option<u8>)>
 fn mapping(text: &str) -> Option<RtpMap>
     ensures { result ≡ mapping_read text.now }
 {
-    let (name, rates) = cut(text, '/')?;
+    let (name, rates) = cut(text, Separator::Slash)?;
     if name.is_empty() {
         return None;
     }
@@ -53,7 +53,7 @@ pub(crate) fn rtp_map(text: &str) -> Option<MediaAttribute>
     ensures { result ≡ rtpmap_read text.now }
 {
     let body = strip(text, "rtpmap:")?;
-    let (number, mapped) = cut(body, ' ')?;
+    let (number, mapped) = cut(body, Separator::Space)?;
     let pt = num_u8(number, 127)?;
     let value = mapping(mapped)?;
     Some(MediaAttribute::RtpMap {

@@ -11,7 +11,7 @@ use crate::parts::{Part, are_parts, parts};
 use std::alloc::{AllocError, Global};
 use str0m_sdp::{MediaAttribute, RestrictionId, Simulcast, SimulcastGroups, SimulcastLayer};
 use str0m_values::cuts::{cut, has, strip};
-use str0m_values::{Items, Text};
+use str0m_values::{Items, Separator, Text};
 use unicode::properties::{GeneralCategory, is_alphabetic};
 
 #[tactic(auto, unfolding(crate::specs::StreamName::is_name_character))]
@@ -45,16 +45,16 @@ pub(crate) fn is_stream_name(text: &str) -> bool
     if !are_name_characters(text) {
         return false;
     }
-    if has(text, ' ') {
+    if has(text, Separator::Space) {
         return false;
     }
-    if has(text, ',') {
+    if has(text, Separator::Comma) {
         return false;
     }
-    if has(text, ';') {
+    if has(text, Separator::Semicolon) {
         return false;
     }
-    !has(text, '~')
+    !has(text, Separator::Tilde)
 }
 
 /// A name, behind `~` where it isn't active.
@@ -88,10 +88,10 @@ impl Part for RestrictionId {
 fn first_name(alloc: Global, text: &str) -> Result<Option<RestrictionId>, AllocError>
     ensures { IfOk result (λ found. found ≡ first_read text.now) }
 {
-    let Some((first, others)) = cut(text, ',') else {
+    let Some((first, others)) = cut(text, Separator::Comma) else {
         return RestrictionId::read(alloc, text);
     };
-    if are_parts::<RestrictionId>(others, ',') {
+    if are_parts::<RestrictionId>(others, Separator::Comma) {
         RestrictionId::read(alloc, first)
     } else {
         Ok(None)
@@ -103,11 +103,11 @@ impl Part for SimulcastLayer {
     ghost reading = { layer_read };
 
     fn is_part(text: &str) -> bool {
-        match cut(text, ',') {
+        match cut(text, Separator::Comma) {
             None => RestrictionId::is_part(text),
             Some((first, others)) => {
                 if RestrictionId::is_part(first) {
-                    are_parts::<RestrictionId>(others, ',')
+                    are_parts::<RestrictionId>(others, Separator::Comma)
                 } else {
                     false
                 }
@@ -137,8 +137,8 @@ struct Sides {
 fn both_sides(alloc: Global, text: &str, other: &str) -> Result<Option<Sides>, AllocError>
     ensures { IfOk result (λ found. option_map sides_of found ≡ sides_read other.now text.now) }
 {
-    let Some((front, behind)) = cut(text, ' ') else {
-        return match parts(alloc, text, ';')? {
+    let Some((front, behind)) = cut(text, Separator::Space) else {
+        return match parts(alloc, text, Separator::Semicolon)? {
             Some(first) => {
                 let second = Items::empty(alloc);
                 Ok(Some(Sides { first, second }))
@@ -149,13 +149,13 @@ fn both_sides(alloc: Global, text: &str, other: &str) -> Result<Option<Sides>, A
     let Some(rest) = strip(behind, other) else {
         return Ok(None);
     };
-    if !are_parts::<SimulcastLayer>(rest, ';') {
+    if !are_parts::<SimulcastLayer>(rest, Separator::Semicolon) {
         return Ok(None);
     }
-    let Some(first) = parts(alloc, front, ';')? else {
+    let Some(first) = parts(alloc, front, Separator::Semicolon)? else {
         return Ok(None);
     };
-    let Some(second) = parts(alloc, rest, ';')? else {
+    let Some(second) = parts(alloc, rest, Separator::Semicolon)? else {
         return Ok(None);
     };
     Ok(Some(Sides { first, second }))

@@ -1,6 +1,7 @@
 //! Lines of streams, of sources and of feedback.
-ghost use Rattle.std.specs.Prelude.{◌≡◌, ◌<◌, IfOk};
+ghost use Rattle.std.specs.Prelude.{◌≡◌, IfOk};
 ghost use Rattle.str0m_values.specs.Cuts.{parts};
+ghost use Rattle.str0m_values.specs.Separator.{code};
 ghost use Rattle.str0m_signal.specs.FormReading.{text_read, two_read};
 ghost use Rattle.str0m_signal.specs.FieldsReading.{msid_read, rtcp_fb_read, ssrc_read, ssrc_group_read};
 
@@ -8,12 +9,11 @@ use crate::parts::parts;
 use std::alloc::{AllocError, Global};
 use str0m_sdp::{MediaAttribute, Msid};
 use str0m_values::cuts::{cut, num_u8, num_u32, strip};
-use str0m_values::{Pt, Ssrc, Text};
+use str0m_values::{Pt, Separator, Ssrc, Text};
 
 /// The texts before and behind the first `at`, where neither is nothing.
-fn two_texts(text: &str, at: char) -> Option<(&str, &str)>
-    requires { at < 128 }
-    ensures { parts result ≡ two_read at text_read text_read text.now }
+fn two_texts(text: &str, at: Separator) -> Option<(&str, &str)>
+    ensures { parts result ≡ two_read (code at) text_read text_read text.now }
 {
     let (first, second) = cut(text, at)?;
     if first.is_empty() {
@@ -32,7 +32,7 @@ pub(crate) fn msid(alloc: Global, text: &str) -> Result<Option<MediaAttribute>, 
     let Some(body) = strip(text, "msid:") else {
         return Ok(None);
     };
-    let Some((stream, track)) = two_texts(body, ' ') else {
+    let Some((stream, track)) = two_texts(body, Separator::Space) else {
         return Ok(None);
     };
     let stream_id = Text::from_str(alloc, stream)?;
@@ -50,7 +50,7 @@ pub(crate) fn rtcp_fb(alloc: Global, text: &str) -> Result<Option<MediaAttribute
     let Some(body) = strip(text, "rtcp-fb:") else {
         return Ok(None);
     };
-    let Some((number, value)) = cut(body, ' ') else {
+    let Some((number, value)) = cut(body, Separator::Space) else {
         return Ok(None);
     };
     let Some(pt) = num_u8(number, 127) else {
@@ -73,13 +73,13 @@ pub(crate) fn ssrc(alloc: Global, text: &str) -> Result<Option<MediaAttribute>, 
     let Some(body) = strip(text, "ssrc:") else {
         return Ok(None);
     };
-    let Some((number, more)) = cut(body, ' ') else {
+    let Some((number, more)) = cut(body, Separator::Space) else {
         return Ok(None);
     };
     let Some(ssrc) = num_u32(number) else {
         return Ok(None);
     };
-    let Some((attr, value)) = two_texts(more, ':') else {
+    let Some((attr, value)) = two_texts(more, Separator::Colon) else {
         return Ok(None);
     };
     let attr = Text::from_str(alloc, attr)?;
@@ -98,13 +98,13 @@ pub(crate) fn ssrc_group(alloc: Global, text: &str) -> Result<Option<MediaAttrib
     let Some(body) = strip(text, "ssrc-group:") else {
         return Ok(None);
     };
-    let Some((word, sources)) = cut(body, ' ') else {
+    let Some((word, sources)) = cut(body, Separator::Space) else {
         return Ok(None);
     };
     if word.is_empty() {
         return Ok(None);
     }
-    let Some(ssrcs) = parts(alloc, sources, ' ')? else {
+    let Some(ssrcs) = parts(alloc, sources, Separator::Space)? else {
         return Ok(None);
     };
     let semantics = Text::from_str(alloc, word)?;

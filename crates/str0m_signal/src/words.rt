@@ -7,21 +7,21 @@ use crate::fields::short;
 use crate::parts::Part;
 use std::alloc::{AllocError, Global};
 use str0m_values::cuts::{has, num_u32};
-use str0m_values::{Mid, Ssrc, Text};
+use str0m_values::{Mid, Separator, Ssrc, Text};
 
 /// A word.
 impl Part for Text {
     ghost reading = { word_read };
 
     fn is_part(text: &str) -> bool {
-        if has(text, ' ') {
+        if has(text, Separator::Space) {
             return false;
         }
         !text.is_empty()
     }
 
     fn read(alloc: Global, text: &str) -> Result<Option<Text>, AllocError> {
-        if has(text, ' ') {
+        if has(text, Separator::Space) {
             return Ok(None);
         }
         if text.is_empty() {
@@ -36,14 +36,14 @@ impl Part for Mid {
     ghost reading = { name_read };
 
     fn is_part(text: &str) -> bool {
-        if has(text, ' ') {
+        if has(text, Separator::Space) {
             return false;
         }
         !text.is_empty()
     }
 
     fn read(_alloc: Global, text: &str) -> Result<Option<Mid>, AllocError> {
-        if has(text, ' ') {
+        if has(text, Separator::Space) {
             return Ok(None);
         }
         if text.is_empty() {

@@ -18,4 +18,5 @@ pub mod Labels
 pub mod Only
 pub mod Parts
 pub mod Protocol
+pub mod Separator
 pub mod ShortText

@@ -1,25 +1,24 @@
 //! The parts of a line: what the readers of the crates above cut texts with.
 //!
-//! Characters to cut at are ASCII, so that a cut always falls between characters.
-
-ghost use Rattle.std.specs.Prelude.{◌≡◌, ◌<◌, not, option_map};
+ghost use Rattle.std.specs.Prelude.{◌≡◌, not, option_map};
 ghost use Rattle.std.specs.Str.{str_eq_ignore_ascii_case};
 ghost use Rattle.str0m_values.specs.Cuts.{cut, before, strip, num, parts, lacks};
 ghost use Rattle.str0m_values.specs.Only.{IsTheOnly};
 ghost use Rattle.str0m_values.specs.Parts.{IsNumber, IsNumOr};
+ghost use Rattle.str0m_values.specs.Separator.{code};
+
+use crate::separator::Separator;
 
 /// The parts before and after the first `at`.
-pub fn cut(text: &str, at: char) -> Option<(&str, &str)>
-    requires { at < 128 }
-    ensures { parts result ≡ cut at text.now }
+pub fn cut(text: &str, at: Separator) -> Option<(&str, &str)>
+    ensures { parts result ≡ cut (code at) text.now }
 {
-    text.split_once(at)
+    text.split_once(at.character())
 }
 
 /// The text before the first `at`, or the whole of it.
-pub fn before(text: &str, at: char) -> &str
-    requires { at < 128 }
-    ensures { result.now ≡ before at text.now }
+pub fn before(text: &str, at: Separator) -> &str
+    ensures { result.now ≡ before (code at) text.now }
 {
     match cut(text, at) {
         Some((front, _)) => front,
@@ -27,10 +26,9 @@ pub fn before(text: &str, at: char) -> &str
     }
 }
 
-/// Whether the character stands in the text.
-pub fn has(text: &str, at: char) -> bool
-    requires { at < 128 }
-    ensures { result ≡ not (lacks at text.now) }
+/// Whether the separator stands in the text.
+pub fn has(text: &str, at: Separator) -> bool
+    ensures { result ≡ not (lacks (code at) text.now) }
 {
     cut(text, at).is_some()
 }

@@ -7,6 +7,7 @@ ghost use Rattle.str0m_values.specs.declared.fingerprint.FingerprintError.TheVar
 
 use crate::cuts::{cut, hex_u8, is_same_text};
 use crate::items::Items;
+use crate::separator::Separator;
 use crate::text::Text;
 use std::alloc::{AllocError, AllocFailed, Global};
 use std::fmt;
@@ -99,7 +100,7 @@ impl Fingerprint {
 fn read(alloc: Global, text: &str) -> Result<Fingerprint, FingerprintError>
     ensures { IsReading text.now result }
 {
-    let Some((name, rest)) = cut(text, ' ') else {
+    let Some((name, rest)) = cut(text, Separator::Space) else {
         return Err(FingerprintError::NoSpace);
     };
     let bytes = read_bytes(alloc, rest)?;

@@ -4,12 +4,13 @@ ghost use Rattle.str0m_values.specs.Cuts.{parts};
 ghost use Rattle.str0m_values.specs.LabelReading.{word_read, labelled_read, optional_read};
 
 use crate::cuts::{cut, strip};
+use crate::separator::Separator;
 
 /// The word at the front of a text, and what stands behind it.
 pub(crate) fn word(text: &str) -> Option<(&str, &str)>
     ensures { parts result ≡ word_read text.now }
 {
-    let word = match cut(text, ' ') {
+    let word = match cut(text, Separator::Space) {
         Some((word, _)) => word,
         None => text,
     };

@@ -1,6 +1,6 @@
 use Rattle.std.proofs.Common.{rules, sym}
 use Rattle.str0m_signal.specs.LineReading.{lines_of, read_attribute, IsRead}
-use Rattle.str0m_signal.proofs.ChainLaws.{chain_more, read_fewer, read_stops}
+use Rattle.str0m_signal.proofs.ChainLaws.{chain_more, read_fewer}
 use Rattle.str0m_signal.proofs.attributes.attribute_run.Goals as goal
 
 pub loop-attributes-preserved : goal.loop-attributes-preserved

@@ -1,6 +1,4 @@
-use Rattle.std.proofs.Common.{◌≡◌, ◌∙◌, Some, ap, sym, subst, List, ℕ}
 use Rattle.str0m_formats.specs.FormatParam.{pair_texts}
-use Rattle.str0m_signal.specs.FmtpReading.{pairs_read, skip_blanks}
 use Rattle.str0m_signal.proofs.FmtpLaws.{pairs_form_of}
 use Rattle.str0m_signal.proofs.fmtp.pairs_form.Goals as goal
 

@@ -2,12 +2,13 @@ use Rattle.std.proofs.Common.{◌≡◌, length}
 use Rattle.std.specs.Prelude.{is_some}
 use denote.Text.{Utf8}
 use denote.Shadow.{shadow}
+use Rattle.str0m_values.specs.Separator.{code}
 use Rattle.str0m_signal.specs.FormReading.{parted_read}
 use Rattle.str0m_signal.proofs.parts.are_parts.Given as goal
 
 -- the rest is items where the text is
 abbrev pub invariant-loop-part : goal.invariant-loop-part
-invariant-loop-part g l = shadow (Utf8 l.rest) × (is_some (parted_read l.fn.at g.T.Part.reading l.rest) ≡ is_some (parted_read l.fn.at g.T.Part.reading l.fn.text))
+invariant-loop-part g l = shadow (Utf8 l.rest) × (is_some (parted_read (code l.fn.at) g.T.Part.reading l.rest) ≡ is_some (parted_read (code l.fn.at) g.T.Part.reading l.fn.text))
 
 abbrev pub decreases-loop-part : goal.decreases-loop-part
 decreases-loop-part g l = length l.rest

@@ -1,6 +1,6 @@
 use Rattle.std.proofs.Common.{◌≡◌, length}
 use Rattle.str0m_sdp.specs.Consistency.{apt_among}
-use Rattle.str0m_sdp.proofs.consistency.apt_among.Given as goal
+use Rattle.str0m_sdp.proofs.type_tables.apt_among.Given as goal
 
 -- none that was passed names a type
 abbrev pub invariant-loop-value : goal.invariant-loop-value

@@ -1,0 +1,139 @@
+-- Tables by payload type, one attribute more.
+use Rattle.std.proofs.Common.{◌≡◌, ◌<◌, ◌+◌, ◌++◌, ℕ, true, false, List, [], ◌∷◌, length, take, set, get_or, Option, Some, None, is_some, count_by, refl, sym, ap, ◌∙◌, inl, inr}
+use Rattle.std.proofs.lemmas.Bool.{cases_eq, eq-eqb, ne_eqb}
+use Rattle.std.proofs.lemmas.Grind.{take_at_read}
+use Rattle.std.proofs.lemmas.List.{get_or-set_same, get_or-set_other, get_or_read}
+use Rattle.std.proofs.lemmas.List.Sums.{count_by_more_no, count_by_more_yes}
+use Rattle.str0m_formats.specs.declared.format_param.FormatParam.{FormatParam}
+use Rattle.str0m_sdp.specs.Consistency.{maps, apt_among, apt_in, first_apt, AgreesOnApt}
+use Rattle.str0m_sdp.specs.declared.attribute.MediaAttribute.{MediaAttribute}
+use Rattle.str0m_sdp.specs.declared.attribute.MediaAttribute.TheVariants.{RtpMap, Fmtp}
+use Rattle.str0m_sdp.specs.declared.rtp_map.RtpMap.{RtpMap as Mapping}
+use Rattle.str0m_values.specs.Cuts.{◌<|>◌}
+
+-- ---- mappings
+
+pub maps_none : (pt : ℕ) (attr : MediaAttribute) → ((n : ℕ) (value : Mapping) → attr ≡ RtpMap n value → ⊥) → maps pt attr ≡ false
+maps_none pt (RtpMap n value) other = absurd (other n value refl)
+maps_none pt _ other = refl
+
+-- an attribute that maps no type changes no count
+pub count_same : (attrs : List MediaAttribute) (counts : List ℕ) (i : ℕ) (attr : MediaAttribute)
+    → i < length attrs → attr ≡ get_or attrs i attr → ((n : ℕ) (value : Mapping) → attr ≡ RtpMap n value → ⊥)
+    → (pt : ℕ) → get_or counts pt 0 ≡ count_by (maps pt) (take i attrs)
+    → get_or counts pt 0 ≡ count_by (maps pt) (take (i + 1) attrs)
+count_same attrs counts i attr lt is other pt so_far =
+    so_far ∙ sym (count_by_more_no (maps pt) attrs i attr lt (ap (maps pt) (sym is) ∙ maps_none pt attr other))
+
+-- a mapping counts for its own type alone
+pub count_more : (attrs : List MediaAttribute) (counts : List ℕ) (i n : ℕ) (value : Mapping) (attr : MediaAttribute)
+    → i < length attrs → n < length counts → attr ≡ get_or attrs i attr → attr ≡ RtpMap n value
+    → (pt : ℕ) → get_or counts pt 0 ≡ count_by (maps pt) (take i attrs)
+    → get_or (set counts n (get_or counts n 0 + 1)) pt 0 ≡ count_by (maps pt) (take (i + 1) attrs)
+count_more attrs counts i n value attr lt row is variant pt so_far =
+    let read : get_or attrs i attr ≡ RtpMap n value = sym is ∙ variant in
+    elim (cases_eq n pt) [
+      | inl same ↦
+          let at_row = rw (← same) at so_far in
+          rw (← same) (get_or-set_same counts n (get_or counts n 0 + 1) 0 row ∙ ap (λ (k : ℕ). k + 1) at_row
+              ∙ sym (count_by_more_yes (maps n) attrs i attr lt (ap (maps n) read ∙ eq-eqb n n refl)))
+      | inr apart ↦
+          get_or-set_other counts n pt (get_or counts n 0 + 1) 0 (λ same. apart (sym same)) ∙ so_far
+              ∙ sym (count_by_more_no (maps pt) attrs i attr lt (ap (maps pt) read ∙ ne_eqb n pt apart))
+    ]
+
+-- ---- primary types
+
+or_none : (o : Option ℕ) → (o <|> None) ≡ o
+or_none None = refl
+or_none (Some x) = refl
+
+or_assoc : (a b c : Option ℕ) → ((a <|> b) <|> c) ≡ (a <|> (b <|> c))
+or_assoc None b c = refl
+or_assoc (Some x) b c = refl
+
+none_is : (o : Option ℕ) → is_some o ≡ false → o ≡ None
+none_is None empty = refl
+none_is (Some x) empty = absurd cc
+
+some_or : (a b : Option ℕ) → is_some a ≡ true → a ≡ (a <|> b)
+some_or None b full = absurd cc
+some_or (Some x) b full = refl
+
+first_append : (pt : ℕ) (xs ys : List MediaAttribute) → first_apt pt (xs ++ ys) ≡ (first_apt pt xs <|> first_apt pt ys)
+first_append pt [] ys = refl
+first_append pt (x ∷ xs) ys =
+    ap (λ (o : Option ℕ). apt_in pt x <|> o) (first_append pt xs ys) ∙ sym (or_assoc (apt_in pt x) (first_apt pt xs) (first_apt pt ys))
+
+first_more : (pt : ℕ) (attrs : List MediaAttribute) (i : ℕ) (attr : MediaAttribute) → i < length attrs → attr ≡ get_or attrs i attr
+    → first_apt pt (take (i + 1) attrs) ≡ (first_apt pt (take i attrs) <|> apt_in pt attr)
+first_more pt attrs i attr lt is =
+    ap (first_apt pt) (take_at_read attrs i attr lt).1 ∙ first_append pt (take i attrs) (get_or attrs i attr ∷ [])
+        ∙ ap (λ (o : Option ℕ). first_apt pt (take i attrs) <|> o) (or_none (apt_in pt (get_or attrs i attr)) ∙ ap (apt_in pt) (sym is))
+
+apt_own : (n : ℕ) (values : List FormatParam) → apt_in n (Fmtp n values) ≡ apt_among values
+apt_own n values = rw (eq-eqb n n refl) refl
+
+apt_apart : (n pt : ℕ) (values : List FormatParam) → (n ≡ pt → ⊥) → apt_in pt (Fmtp n values) ≡ None
+apt_apart n pt values apart = rw (ne_eqb n pt apart) refl
+
+apt_none : (pt : ℕ) (attr : MediaAttribute) → ((n : ℕ) (values : List FormatParam) → attr ≡ Fmtp n values → ⊥) → apt_in pt attr ≡ None
+apt_none pt (Fmtp n values) other = absurd (other n values refl)
+apt_none pt _ other = refl
+
+-- an attribute that names no type for this one changes nothing
+pub first_same : (attrs : List MediaAttribute) (firsts : List (Option ℕ)) (i : ℕ) (attr : MediaAttribute)
+    → i < length attrs → attr ≡ get_or attrs i attr
+    → (pt : ℕ) → apt_in pt attr ≡ None
+    → get_or firsts pt None ≡ first_apt pt (take i attrs)
+    → get_or firsts pt None ≡ first_apt pt (take (i + 1) attrs)
+first_same attrs firsts i attr lt is pt silent so_far =
+    so_far ∙ sym (first_more pt attrs i attr lt is ∙ ap (λ (o : Option ℕ). first_apt pt (take i attrs) <|> o) silent ∙ or_none (first_apt pt (take i attrs)))
+
+-- what is no fmtp line names none
+pub first_other : (attrs : List MediaAttribute) (firsts : List (Option ℕ)) (i : ℕ) (attr : MediaAttribute)
+    → i < length attrs → attr ≡ get_or attrs i attr → ((n : ℕ) (values : List FormatParam) → attr ≡ Fmtp n values → ⊥)
+    → (pt : ℕ) → get_or firsts pt None ≡ first_apt pt (take i attrs)
+    → get_or firsts pt None ≡ first_apt pt (take (i + 1) attrs)
+first_other attrs firsts i attr lt is other pt so_far = first_same attrs firsts i attr lt is pt (apt_none pt attr other) so_far
+
+-- the first that is named stays
+pub first_kept : (attrs : List MediaAttribute) (firsts : List (Option ℕ)) (i n : ℕ) (values : List FormatParam) (attr : MediaAttribute)
+    → i < length attrs → attr ≡ get_or attrs i attr → attr ≡ Fmtp n values → is_some (get_or firsts n None) ≡ true
+    → (pt : ℕ) → get_or firsts pt None ≡ first_apt pt (take i attrs)
+    → get_or firsts pt None ≡ first_apt pt (take (i + 1) attrs)
+first_kept attrs firsts i n values attr lt is variant named pt so_far =
+    elim (cases_eq n pt) [
+      | inl same ↦
+          let there = ap (λ (o : Option ℕ). is_some o) (sym so_far) ∙ rw same at named in
+          so_far ∙ some_or (first_apt pt (take i attrs)) (apt_in pt attr) there ∙ sym (first_more pt attrs i attr lt is)
+      | inr apart ↦ first_same attrs firsts i attr lt is pt (ap (apt_in pt) variant ∙ apt_apart n pt values apart) so_far
+    ]
+
+-- where none is named yet, the line's own is the first
+pub first_named : (attrs : List MediaAttribute) (firsts : List (Option ℕ)) (i n : ℕ) (values : List FormatParam) (attr : MediaAttribute)
+    → i < length attrs → n < length firsts → attr ≡ get_or attrs i attr → attr ≡ Fmtp n values → is_some (get_or firsts n None) ≡ false
+    → (pt : ℕ) → get_or firsts pt None ≡ first_apt pt (take i attrs)
+    → get_or (set firsts n (apt_among values)) pt None ≡ first_apt pt (take (i + 1) attrs)
+first_named attrs firsts i n values attr lt row is variant none pt so_far =
+    elim (cases_eq n pt) [
+      | inl same ↦
+          let at_row = rw (← same) at so_far in
+          let nothing : first_apt n (take i attrs) ≡ None = sym at_row ∙ none_is (get_or firsts n None) none in
+          rw (← same) (get_or-set_same firsts n (apt_among values) None row ∙ sym (first_more n attrs i attr lt is
+              ∙ ap (λ (o : Option ℕ). o <|> apt_in n attr) nothing ∙ ap (apt_in n) variant ∙ apt_own n values))
+      | inr apart ↦
+          get_or-set_other firsts n pt (apt_among values) None (λ same. apart (sym same))
+              ∙ first_same attrs firsts i attr lt is pt (ap (apt_in pt) variant ∙ apt_apart n pt values apart) so_far
+    ]
+
+-- a row that is read, by any default
+pub first_read : (attrs : List MediaAttribute) (firsts : List (Option ℕ)) (n : ℕ) (found : Option ℕ)
+    → n < length firsts → found ≡ get_or firsts n found → get_or firsts n None ≡ first_apt n attrs
+    → get_or firsts n found ≡ first_apt n attrs
+first_read attrs firsts n found row is first = sym is ∙ get_or_read firsts n found row is None ∙ first
+
+-- what is no fmtp line agrees
+pub agrees_other : (attrs : List MediaAttribute) (attr : MediaAttribute) → ((n : ℕ) (values : List FormatParam) → attr ≡ Fmtp n values → ⊥) → AgreesOnApt attrs attr
+agrees_other attrs (Fmtp n values) other = absurd (other n values refl)
+agrees_other attrs _ other = tt

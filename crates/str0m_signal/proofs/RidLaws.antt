@@ -1,0 +1,309 @@
+-- The line of a stream that may be restricted is read exactly where its form holds.
+use Rattle.std.proofs.Common.{◌≡◌, ◌≢◌, ℕ, zero, suc, ◌<◌, Bool, true, false, List, [], ◌∷◌, ◌++◌, length, Option, Some, None, refl, sym, ap, subst, ◌∙◌, arith, inl, inr, append_assoc, length-append}
+use Rattle.std.specs.Prelude.{codes, is_some}
+use Rattle.std.proofs.lemmas.Option.{some_pair_parts, none-some}
+use Rattle.std.proofs.lemmas.List.{append-nil}
+use Rattle.str0m_sdp.specs.declared.simulcast.RestrictionId.{RestrictionId}
+use Rattle.str0m_values.specs.Cuts.{◌>>=◌, cut, strip}
+use Rattle.str0m_values.specs.Joined.{Parted}
+use Rattle.str0m_values.specs.Parts.{Lacks, IsPt}
+use Rattle.str0m_values.proofs.BothWays.{Reads, bind_some, some_is, or_some}
+use Rattle.str0m_values.proofs.CutLaws.{cut_none, cut_at, cut_found, strip_at, strip_found, strip_none}
+use Rattle.str0m_values.proofs.NumLaws.{when_some, number_lacks, rest_true}
+use Rattle.str0m_signal.specs.Fmtp.{AreBlanks, IsKey, IsValue}
+use Rattle.str0m_signal.specs.FmtpReading.{value_read, skip_blanks, key_read, pairs_after}
+use Rattle.str0m_signal.specs.Rid.{IsActive, IsRestriction, AreRestrictions, AreTyped, AreLists, IsMore, IsDirection, IsDirected, IsRid}
+use Rattle.str0m_signal.specs.RidReading.{active_read, next_read, restriction_read, restrictions_at, restrictions_read, restricted_read, types_read, typed_after, typed_read, lists_after, lists_read, more_read, word_read, direction_read, directed_read, rid_fields_read}
+use Rattle.str0m_signal.specs.StreamName.{is_stream_name}
+use Rattle.str0m_signal.proofs.FmtpLaws.{with_pairs, value_found, key_found, key_given, skips, starts_kept, key_starts}
+use Rattle.str0m_signal.proofs.FormLaws.{num_both, two_both}
+use Rattle.str0m_signal.proofs.PairLaws.{EndsValue, value_given, IsBlank-skip}
+use Rattle.str0m_signal.proofs.PartLaws.{parted_both}
+use Rattle.str0m_signal.proofs.SimulcastLaws.{name_from, name_true, parted_lacks}
+
+abbrev Pairs : Type 0
+Pairs = List (List ℕ × List ℕ)
+
+-- ---- one restriction
+
+-- a restriction, and behind it the end, or `;` and more
+abbrev pub Stands : List ℕ → List ℕ × List ℕ → Option (List ℕ) → Type 0
+Stands text pair None = IsRestriction text pair
+Stands text pair (Some more) = (part : List ℕ) × (text ≡ part ++ (59 ∷ more)) × IsRestriction part pair
+
+-- what stands behind a value
+abbrev tail_of : Option (List ℕ) → List ℕ
+tail_of None = []
+tail_of (Some more) = 59 ∷ more
+
+next_found : (text : List ℕ) (next : Option (List ℕ)) → next_read text ≡ Some next → text ≡ tail_of next
+next_found [] next e = ap tail_of (some_is None next e)
+next_found (x ∷ xs) next e =
+    let e' : (strip (codes ";") (x ∷ xs) >>= λ more. Some (Some more)) ≡ Some next = rw (rest_true (x ∷ xs) (omega arith)) at e in
+    let a = bind_some (strip (codes ";") (x ∷ xs)) (λ more. Some (Some more)) next e' in
+    strip_found (codes ";") (x ∷ xs) a.0 a.1 ∙ ap tail_of (some_is (Some a.0) next a.2)
+
+next_given : (next : Option (List ℕ)) → next_read (tail_of next) ≡ Some next
+next_given None = refl
+next_given (Some more) = rw (rest_true (59 ∷ more) (omega arith)) refl
+
+tail_ends : (next : Option (List ℕ)) → EndsValue (tail_of next)
+tail_ends None = tt
+tail_ends (Some more) = inl refl
+
+-- blanks, key, `=` and value, and what stands behind them
+regroup : (blanks key value tail : List ℕ) → (blanks ++ (key ++ (61 ∷ value))) ++ tail ≡ blanks ++ (key ++ (61 ∷ (value ++ tail)))
+regroup blanks key value tail = append_assoc blanks (key ++ (61 ∷ value)) tail ∙ ap (λ (t : List ℕ). blanks ++ t) (append_assoc key (61 ∷ value) tail)
+
+stands : (text blanks : List ℕ) (pair : List ℕ × List ℕ) (next : Option (List ℕ)) → text ≡ (blanks ++ (pair.0 ++ (61 ∷ pair.1))) ++ tail_of next → AreBlanks blanks → IsKey pair.0 → IsValue pair.1 → Stands text pair next
+stands text blanks pair None e are key value = (blanks, e ∙ append-nil (blanks ++ (pair.0 ++ (61 ∷ pair.1))), are, key, value)
+stands text blanks pair (Some more) e are key value = (blanks ++ (pair.0 ++ (61 ∷ pair.1)), e, (blanks, refl, are, key, value))
+
+pub restriction_found : (text : List ℕ) (pair : List ℕ × List ℕ) (next : Option (List ℕ)) → restriction_read text ≡ Some (pair, next) → Stands text pair next
+restriction_found text pair next e =
+    let a = bind_some (cut 61 (skip_blanks text)) (λ fields. key_read fields.0 >>= λ key. value_read fields.1 >>= λ value. next_read value.1 >>= λ next. Some ((key, value.0), next)) (pair, next) e in
+    let k = bind_some (key_read a.0.0) (λ key. value_read a.0.1 >>= λ value. next_read value.1 >>= λ next. Some ((key, value.0), next)) (pair, next) a.2 in
+    let v = bind_some (value_read a.0.1) (λ value. next_read value.1 >>= λ next. Some ((k.0, value.0), next)) (pair, next) k.2 in
+    let n = bind_some (next_read v.0.1) (λ next. Some ((k.0, v.0.0), next)) (pair, next) v.2 in
+    let s = skips text in
+    let fields = cut_found 61 (skip_blanks text) a.0.0 a.0.1 a.1 in
+    let key = key_found a.0.0 k.0 fields.1 k.1 in
+    let value = value_found a.0.1 v.0.0 v.0.1 v.1 in
+    let same = some_pair_parts (k.0, v.0.0) pair n.0 next n.2 in
+    let plain : skip_blanks text ≡ k.0 ++ (61 ∷ (v.0.0 ++ tail_of n.0)) =
+    fields.0 ∙ ap (λ (t : List ℕ). t ++ (61 ∷ a.0.1)) key.0
+    ∙ ap (λ (t : List ℕ). k.0 ++ (61 ∷ t)) (value.0 ∙ ap (λ (t : List ℕ). v.0.0 ++ t) (next_found v.0.1 n.0 n.1)) in
+    let whole : text ≡ (s.blanks ++ (k.0 ++ (61 ∷ v.0.0))) ++ tail_of n.0 =
+    s.joined ∙ ap (λ (t : List ℕ). s.blanks ++ t) plain ∙ sym (regroup s.blanks k.0 v.0.0 (tail_of n.0)) in
+    let made = stands text s.blanks (k.0, v.0.0) n.0 whole s.are key.1 value.1 in
+    subst (λ (p : List ℕ × List ℕ). Stands text p next) same.0 (subst (Stands text (k.0, v.0.0)) same.1 made)
+
+read_so : (text blanks : List ℕ) (pair : List ℕ × List ℕ) (next : Option (List ℕ)) → text ≡ (blanks ++ (pair.0 ++ (61 ∷ pair.1))) ++ tail_of next → AreBlanks blanks → IsKey pair.0 → IsValue pair.1 → restriction_read text ≡ Some (pair, next)
+read_so text blanks pair next e are key value =
+    let body = pair.0 ++ (61 ∷ (pair.1 ++ tail_of next)) in
+    let plain : skip_blanks text ≡ body =
+    ap skip_blanks (e ∙ regroup blanks pair.0 pair.1 (tail_of next)) ∙ IsBlank-skip blanks body are
+    ∙ starts_kept body (key_starts pair.0 (61 ∷ (pair.1 ++ tail_of next)) key) in
+    rw (plain, cut_at 61 pair.0 (pair.1 ++ tail_of next) key.1, key_given pair.0 key, value_given pair.1 (tail_of next) value.0 value.1 value.2 value.3 (tail_ends next), next_given next) refl
+
+pub restriction_given : (text : List ℕ) (pair : List ℕ × List ℕ) (next : Option (List ℕ)) → Stands text pair next → restriction_read text ≡ Some (pair, next)
+restriction_given text pair None h = read_so text h.0 pair None (h.1 ∙ sym (append-nil (h.0 ++ (pair.0 ++ (61 ∷ pair.1))))) h.2 h.3 h.4
+restriction_given text pair (Some more) h = read_so text h.2.0 pair (Some more) (h.1 ∙ ap (λ (t : List ℕ). t ++ (59 ∷ more)) h.2.1) h.2.2 h.2.3 h.2.4
+
+pub restriction_shorter : (text : List ℕ) (pair : List ℕ × List ℕ) (more : List ℕ) → restriction_read text ≡ Some (pair, Some more) → length more < length text
+restriction_shorter text pair more e =
+    let h = restriction_found text pair (Some more) e in
+    omega (arith, ap length h.1, length-append h.0 (59 ∷ more))
+
+-- ---- the loops
+
+regroup_pairs : (done : Pairs) (pair : List ℕ × List ℕ) (o : Option Pairs) → with_pairs (done ++ pair ∷ []) o ≡ with_pairs done (o >>= λ pairs. Some (pair ∷ pairs))
+regroup_pairs done pair None = refl
+regroup_pairs done pair (Some pairs) = ap (λ (t : Pairs). Some t) (append_assoc done (pair ∷ []) pairs)
+
+module _ (done : Pairs) (total : Option Pairs) (rest : List ℕ) where
+  pub restrictions_fail : (k : ℕ) → length rest < k → restriction_read rest ≡ None → with_pairs done (restrictions_at k rest) ≡ total → None ≡ total
+  unfolding restrictions_at
+  restrictions_fail zero lt e so_far = absurd (omega arith)
+  restrictions_fail (suc k) lt e so_far =
+      let one : restrictions_at (suc k) rest ≡ None = rw e refl in
+      sym (ap (with_pairs done) one) ∙ so_far
+
+  pub restrictions_end : (k : ℕ) (pair : List ℕ × List ℕ) → length rest < k → restriction_read rest ≡ Some (pair, None) → with_pairs done (restrictions_at k rest) ≡ total → Some (done ++ pair ∷ []) ≡ total
+  unfolding restrictions_at
+  restrictions_end zero pair lt e so_far = absurd (omega arith)
+  restrictions_end (suc k) pair lt e so_far =
+      let one : restrictions_at (suc k) rest ≡ Some (pair ∷ []) = rw e refl in
+      sym (ap (with_pairs done) one) ∙ so_far
+
+  pub restrictions_more : (k : ℕ) (pair : List ℕ × List ℕ) (more : List ℕ) → length rest < k → restriction_read rest ≡ Some (pair, Some more) → with_pairs done (restrictions_at k rest) ≡ total → (n : ℕ) × (length more < n) × (with_pairs (done ++ pair ∷ []) (restrictions_at n more) ≡ total)
+  unfolding restrictions_at
+  restrictions_more zero pair more lt e so_far = absurd (omega arith)
+  restrictions_more (suc k) pair more lt e so_far =
+      let one : restrictions_at (suc k) rest ≡ (restrictions_at k more >>= λ pairs. Some (pair ∷ pairs)) = rw e refl in
+      (k, omega (arith, restriction_shorter rest pair more e), regroup_pairs done pair (restrictions_at k more) ∙ sym (ap (with_pairs done) one) ∙ so_far)
+
+some_more : (pair : List ℕ × List ℕ) (o : Option Pairs) → is_some (o >>= λ pairs. Some (pair ∷ pairs)) ≡ is_some o
+some_more pair None = refl
+some_more pair (Some pairs) = refl
+
+module _ (total : Bool) (rest : List ℕ) where
+  pub are_none : (k : ℕ) → length rest < k → restriction_read rest ≡ None → is_some (restrictions_at k rest) ≡ total → false ≡ total
+  unfolding restrictions_at
+  are_none zero lt e so_far = absurd (omega arith)
+  are_none (suc k) lt e so_far =
+      let one : restrictions_at (suc k) rest ≡ None = rw e refl in
+      sym (ap (λ (o : Option Pairs). is_some o) one) ∙ so_far
+
+  pub are_ended : (k : ℕ) (pair : List ℕ × List ℕ) → length rest < k → restriction_read rest ≡ Some (pair, None) → is_some (restrictions_at k rest) ≡ total → true ≡ total
+  unfolding restrictions_at
+  are_ended zero pair lt e so_far = absurd (omega arith)
+  are_ended (suc k) pair lt e so_far =
+      let one : restrictions_at (suc k) rest ≡ Some (pair ∷ []) = rw e refl in
+      sym (ap (λ (o : Option Pairs). is_some o) one) ∙ so_far
+
+  pub are_more : (k : ℕ) (pair : List ℕ × List ℕ) (more : List ℕ) → length rest < k → restriction_read rest ≡ Some (pair, Some more) → is_some (restrictions_at k rest) ≡ total → (n : ℕ) × (length more < n) × (is_some (restrictions_at n more) ≡ total)
+  unfolding restrictions_at
+  are_more zero pair more lt e so_far = absurd (omega arith)
+  are_more (suc k) pair more lt e so_far =
+      let one : restrictions_at (suc k) rest ≡ (restrictions_at k more >>= λ pairs. Some (pair ∷ pairs)) = rw e refl in
+      (k, omega (arith, restriction_shorter rest pair more e), sym (some_more pair (restrictions_at k more)) ∙ sym (ap (λ (o : Option Pairs). is_some o) one) ∙ so_far)
+
+-- ---- restrictions
+
+longer : (text : List ℕ) (pair : List ℕ × List ℕ) (more : List ℕ) (pairs : Pairs) → Stands text pair (Some more) → Parted 59 IsRestriction more pairs → Parted 59 IsRestriction text (pair ∷ pairs)
+longer text pair more [] h ps = absurd ps
+longer text pair more (q ∷ qs) h ps = (h.0, more, h.1, h.2, ps)
+
+restrictions_found : (n : ℕ) (text : List ℕ) (pairs : Pairs) → restrictions_at n text ≡ Some pairs → Parted 59 IsRestriction text pairs
+unfolding restrictions_at
+restrictions_found zero text pairs e = absurd cc
+restrictions_found (suc n) text pairs e =
+    let a = bind_some (restriction_read text) (λ p. pairs_after (restrictions_at n) p.0 p.1) pairs e in
+    go a.0.0 a.0.1 (restriction_found text a.0.0 a.0.1 a.1) a.2 (restrictions_found n)
+  where
+    go : (p : List ℕ × List ℕ) (next : Option (List ℕ)) → Stands text p next → pairs_after (restrictions_at n) p next ≡ Some pairs
+        → ((more : List ℕ) (ps : Pairs) → restrictions_at n more ≡ Some ps → Parted 59 IsRestriction more ps)
+        → Parted 59 IsRestriction text pairs
+    go p None h e again = subst (Parted 59 IsRestriction text) (some_is (p ∷ []) pairs e) h
+    go p (Some more) h e again =
+        let b = bind_some (restrictions_at n more) (λ ps. Some (p ∷ ps)) pairs e in
+        subst (Parted 59 IsRestriction text) (some_is (p ∷ b.0) pairs b.2) (longer text p more b.0 h (again more b.0 b.1))
+
+restrictions_given : (pairs : Pairs) (n : ℕ) (text : List ℕ) → Parted 59 IsRestriction text pairs → length text < n → restrictions_at n text ≡ Some pairs
+unfolding restrictions_at
+restrictions_given [] n text h lt = absurd h
+restrictions_given (p ∷ []) zero text h lt = absurd (omega arith)
+restrictions_given (p ∷ []) (suc n) text h lt = rw (restriction_given text p None h) refl
+restrictions_given (p ∷ (q ∷ qs)) zero text h lt = absurd (omega arith)
+restrictions_given (p ∷ (q ∷ qs)) (suc n) text h lt =
+    let read = restriction_given text p (Some h.1) (h.0, h.2, h.3) in
+    let again = restrictions_given (q ∷ qs) n h.1 h.4 (omega (arith, restriction_shorter text p h.1 read)) in
+    rw (read, again) refl
+
+none_restrict : restrictions_read [] ≡ None
+unfolding restrictions_at
+none_restrict = refl
+
+restricted_both : Reads AreRestrictions restricted_read
+restricted_both = record { sound = found; complete = given }
+  where
+    some_of : (text : List ℕ) (pairs : Pairs) → Parted 59 IsRestriction text pairs → AreRestrictions text pairs
+    some_of text [] h = absurd h
+    some_of text (p ∷ ps) h = h
+
+    found : (text : List ℕ) (pairs : Pairs) → restricted_read text ≡ Some pairs → AreRestrictions text pairs
+    found [] pairs e = subst (AreRestrictions []) (some_is [] pairs e) refl
+    found (x ∷ xs) pairs e =
+        let e' : restrictions_read (x ∷ xs) ≡ Some pairs = rw (rest_true (x ∷ xs) (omega arith)) at e in
+        some_of (x ∷ xs) pairs (restrictions_found (suc (length (x ∷ xs))) (x ∷ xs) pairs e')
+
+    given : (text : List ℕ) (pairs : Pairs) → AreRestrictions text pairs → restricted_read text ≡ Some pairs
+    given text [] h = rw h refl
+    given [] (p ∷ ps) h = absurd (none-some (p ∷ ps) (sym none_restrict ∙ restrictions_given (p ∷ ps) 1 [] h (omega arith)))
+    given (x ∷ xs) (p ∷ ps) h = rw (rest_true (x ∷ xs) (omega arith)) (restrictions_given (p ∷ ps) (suc (length (x ∷ xs))) (x ∷ xs) h (omega arith))
+
+-- ---- payload types
+
+types_both : Reads (Parted 44 IsPt) types_read
+types_both = parted_both 44 (num_both 127) (λ text n h. number_lacks 44 text (omega arith) (λ e. absurd (omega arith)) h.numeral)
+
+types_semicolon : (text types : List ℕ) → Parted 44 IsPt text types → Lacks 59 text
+types_semicolon text types h = parted_lacks {F = IsPt} 59 44 (λ e. absurd (omega arith)) (λ part n k. number_lacks 59 part (omega arith) (λ e. absurd (omega arith)) k.numeral) types text h
+
+-- ---- the lists
+
+typed_found : (text : List ℕ) (lists : List ℕ × Pairs) (o : Option (List ℕ × List ℕ)) → cut 59 text ≡ o → typed_after text o ≡ Some lists → AreTyped text lists
+typed_found text lists None is e =
+    let a = bind_some (types_read text) (λ types. Some (types, [])) lists e in
+    rw (← some_is (a.0, []) lists a.2) (inl (types_both.sound text a.0 a.1, refl))
+typed_found text lists (Some p) is e =
+    let a = bind_some (types_read p.0) (λ types. restricted_read p.1 >>= λ pairs. Some (types, pairs)) lists e in
+    let b = bind_some (restricted_read p.1) (λ pairs. Some (a.0, pairs)) lists a.2 in
+    let found = cut_found 59 text p.0 p.1 is in
+    rw (← some_is (a.0, b.0) lists b.2) (inr (p.0, p.1, found.0, found.1, types_both.sound p.0 a.0 a.1, restricted_both.sound p.1 b.0 b.1))
+
+typed_both : Reads AreTyped typed_read
+typed_both = record {
+  sound = λ text lists e. typed_found text lists (cut 59 text) refl e;
+  complete = λ text lists h.
+      elim h [
+        | inl k ↦ rw (cut_none 59 text (types_semicolon text lists.0 k.0), types_both.complete text lists.0 k.0) (ap (λ (pairs : Pairs). Some (lists.0, pairs)) (sym k.1))
+        | inr k ↦ ap typed_read k.2 ∙ rw (cut_at 59 k.0 k.1 k.3, types_both.complete k.0 lists.0 k.4, restricted_both.complete k.1 lists.1 k.5) refl
+      ];
+}
+
+lists_found : (text : List ℕ) (lists : List ℕ × Pairs) (o : Option (List ℕ)) → strip (codes "pt=") text ≡ o → lists_after text o ≡ Some lists → AreLists text lists
+lists_found text lists None is e =
+    let a = bind_some (restricted_read text) (λ pairs. Some ([], pairs)) lists e in
+    let none : (rest : List ℕ) → text ≢ codes "pt=" ++ rest = λ rest h. none-some rest (sym is ∙ ap (strip (codes "pt=")) h ∙ strip_at (codes "pt=") rest) in
+    rw (← some_is ([], a.0) lists a.2) (inr (none, refl, restricted_both.sound text a.0 a.1))
+lists_found text lists (Some typed) is e = inl (typed, strip_found (codes "pt=") text typed is, typed_both.sound typed lists e)
+
+lists_both : Reads AreLists lists_read
+lists_both = record {
+  sound = λ text lists e. lists_found text lists (strip (codes "pt=") text) refl e;
+  complete = λ text lists h.
+      elim h [
+        | inl k ↦ ap lists_read k.1 ∙ typed_both.complete k.0 lists k.2
+        | inr k ↦ rw (strip_none (codes "pt=") text k.0, restricted_both.complete text lists.1 k.2) (ap (λ (types : List ℕ). Some (types, lists.1)) (sym k.1))
+      ];
+}
+
+more_found : (text : List ℕ) (lists : List ℕ × Pairs) → more_read text ≡ Some lists → IsMore text lists
+more_found [] lists e = inl (refl, sym (some_is ([], []) lists e))
+more_found (x ∷ xs) lists e =
+    let e' : (strip (codes " ") (x ∷ xs) >>= lists_read) ≡ Some lists = rw (rest_true (x ∷ xs) (omega arith)) at e in
+    let a = bind_some (strip (codes " ") (x ∷ xs)) lists_read lists e' in
+    inr (a.0, strip_found (codes " ") (x ∷ xs) a.0 a.1, lists_both.sound a.0 lists a.2)
+
+more_both : Reads IsMore more_read
+more_both = record {
+  sound = more_found;
+  complete = λ text lists h.
+      elim h [
+        | inl k ↦ rw k.0 (ap (λ (l : List ℕ × Pairs). Some l) (sym k.1))
+        | inr k ↦ ap more_read k.1 ∙ rw (rest_true (32 ∷ k.0) (omega arith)) (lists_both.complete k.0 lists k.2)
+      ];
+}
+
+-- ---- the line
+
+active_both : Reads IsActive active_read
+active_both = record {
+  sound = λ text id e.
+      let w = when_some (is_stream_name text) (record { 0 = text; 1 = true }) id e in
+      rw (← w.1) (refl, name_from text w.0, refl);
+  complete = λ text id h.
+      ap active_read h.0 ∙ rw (name_true id.0 h.1) (ap (λ (active : Bool). let made : RestrictionId = record { 0 = id.0; 1 = active } in Some made) (sym h.2));
+}
+
+direction_found : (text word behind : List ℕ) → direction_read text ≡ Some (word, behind) → (text ≡ word ++ behind) × IsDirection word
+direction_found text word behind e =
+    elim (or_some (word_read (codes "send") text) (word_read (codes "recv") text) (word, behind) e) [
+      | inl h ↦ let k = one (codes "send") h in (k.0, inl k.1)
+      | inr h ↦ let k = one (codes "recv") h.1 in (k.0, inr k.1)
+    ]
+  where
+    one : (known : List ℕ) → word_read known text ≡ Some (word, behind) → (text ≡ word ++ behind) × (word ≡ known)
+    one known e =
+        let a = bind_some (strip known text) (λ more. Some (known, more)) (word, behind) e in
+        let same = some_pair_parts known word a.0 behind a.2 in
+        (strip_found known text a.0 a.1 ∙ ap (λ (t : List ℕ). t ++ a.0) same.0 ∙ ap (λ (t : List ℕ). word ++ t) same.1, sym same.0)
+
+direction_given : (word behind : List ℕ) → IsDirection word → direction_read (word ++ behind) ≡ Some (word, behind)
+direction_given word behind h = elim h [ inl e ↦ rw e refl | inr e ↦ rw e refl ]
+
+directed_both : Reads IsDirected directed_read
+directed_both = record {
+  sound = λ text fields e.
+      let a = bind_some (direction_read text) (λ parts. more_read parts.1 >>= λ lists. Some (parts.0, lists)) fields e in
+      let b = bind_some (more_read a.0.1) (λ lists. Some (a.0.0, lists)) fields a.2 in
+      let found = direction_found text a.0.0 a.0.1 a.1 in
+      rw (← some_is (a.0.0, b.0) fields b.2) (a.0.1, found.0, found.1, more_both.sound a.0.1 b.0 b.1);
+  complete = λ text fields h.
+      ap directed_read h.1 ∙ rw (direction_given fields.0 h.0 h.2, more_both.complete h.0 fields.1 h.3) refl;
+}
+
+pub rid_fields_both : Reads IsRid rid_fields_read
+rid_fields_both = two_both 32 active_both directed_both

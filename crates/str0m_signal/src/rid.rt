@@ -1,0 +1,233 @@
+//! Lines of streams that may be restricted.
+ghost use Rattle.std.specs.Prelude.{◌≡◌, IfOk, option_map, is_some};
+ghost use Rattle.str0m_values.specs.Cuts.{num, parts};
+ghost use Rattle.str0m_signal.specs.MediaAttributeReading.{rid_read};
+ghost use Rattle.str0m_signal.specs.RidLists.{lists_of};
+ghost use Rattle.str0m_signal.specs.RidReading.{next_read, restriction_read, restrictions_read, restricted_read, typed_read, lists_read, more_read, direction_read};
+
+use crate::pairs::{key, skip_blanks, value};
+use crate::parts::{Part, parts};
+use crate::simulcast::is_stream_name;
+use std::alloc::{AllocError, Global};
+use str0m_sdp::{MediaAttribute, RestrictionId, Word};
+use str0m_values::cuts::{cut, num_u8, strip};
+use str0m_values::{Items, Pt, Separator, Text};
+
+/// A payload type.
+impl Part for Pt {
+    ghost reading = { num 127 };
+
+    fn is_part(text: &str) -> bool {
+        num_u8(text, 127).is_some()
+    }
+
+    fn read(_alloc: Global, text: &str) -> Result<Option<Pt>, AllocError> {
+        match num_u8(text, 127) {
+            Some(number) => Ok(Some(Pt::new_with_value(number))),
+            None => Ok(None),
+        }
+    }
+}
+
+/// What stands behind a value: the end, or `;` and more.
+fn next(text: &str) -> Option<Option<&str>>
+    ensures { option_map (λ o. option_map (λ x. x.now) o) result ≡ next_read text.now }
+{
+    if text.is_empty() {
+        return Some(None);
+    }
+    let more = strip(text, ";")?;
+    Some(Some(more))
+}
+
+/// The restriction at the front of the text, and what stands behind it.
+fn restriction(text: &str) -> Option<(&str, &str, Option<&str>)>
+    ensures { option_map (λ x. ((x.0.now, x.1.now), option_map (λ y. y.now) x.2)) result ≡ restriction_read text.now }
+{
+    let (front, behind) = cut(skip_blanks(text), Separator::Equals)?;
+    let key = key(front)?;
+    let (value, behind) = value(behind)?;
+    let more = next(behind)?;
+    Some((key, value, more))
+}
+
+/// Whether the text is restrictions.
+fn are_restrictions(text: &str) -> bool
+    ensures { result ≡ is_some (restrictions_read text.now) }
+{
+    let mut rest = text;
+    loop {
+        let Some((_, _, next)) = restriction(rest) else {
+            return false;
+        };
+        let Some(more) = next else {
+            return true;
+        };
+        rest = more;
+    }
+}
+
+/// The restrictions of the text. Memory is taken for those that stand before one that can't be read, too.
+fn restrictions(alloc: Global, text: &str) -> Result<Option<Items<(Text, Text)>>, AllocError>
+    ensures { IfOk result (λ found. found ≡ restrictions_read text.now) }
+{
+    let mut pairs = Vec::new(alloc);
+    let mut rest = text;
+    loop {
+        let Some((key, value, next)) = restriction(rest) else {
+            return Ok(None);
+        };
+        let key = Text::from_str(alloc, key)?;
+        let value = Text::from_str(alloc, value)?;
+        pairs.push((key, value))?;
+        let Some(more) = next else {
+            return Ok(Some(Items::from(pairs)));
+        };
+        rest = more;
+    }
+}
+
+/// Whether the text is nothing or restrictions.
+fn is_restricted(text: &str) -> bool
+    ensures { result ≡ is_some (restricted_read text.now) }
+{
+    if text.is_empty() {
+        true
+    } else {
+        are_restrictions(text)
+    }
+}
+
+/// The restrictions of the text, or none where it is nothing. Memory is asked for only where all can be read.
+fn restricted(alloc: Global, text: &str) -> Result<Option<Items<(Text, Text)>>, AllocError>
+    ensures { IfOk result (λ found. found ≡ restricted_read text.now) }
+{
+    if text.is_empty() {
+        return Ok(Some(Items::empty(alloc)));
+    }
+    if are_restrictions(text) {
+        restrictions(alloc, text)
+    } else {
+        Ok(None)
+    }
+}
+
+/// The payload types that the stream may have, and its other restrictions.
+#[derive(Drop)]
+struct Lists {
+    types: Items<Pt>,
+    restrictions: Items<(Text, Text)>,
+}
+
+/// The lists behind `pt=`. Memory is asked for only where both can be read.
+fn typed(alloc: Global, text: &str) -> Result<Option<Lists>, AllocError>
+    ensures { IfOk result (λ found. option_map lists_of found ≡ typed_read text.now) }
+{
+    let Some((front, behind)) = cut(text, Separator::Semicolon) else {
+        return match parts(alloc, text, Separator::Comma)? {
+            Some(types) => {
+                let restrictions = Items::empty(alloc);
+                Ok(Some(Lists {
+                    types,
+                    restrictions,
+                }))
+            }
+            None => Ok(None),
+        };
+    };
+    if !is_restricted(behind) {
+        return Ok(None);
+    }
+    let Some(types) = parts(alloc, front, Separator::Comma)? else {
+        return Ok(None);
+    };
+    let Some(restrictions) = restricted(alloc, behind)? else {
+        return Ok(None);
+    };
+    Ok(Some(Lists {
+        types,
+        restrictions,
+    }))
+}
+
+/// The lists behind the direction and a space.
+fn listed(alloc: Global, text: &str) -> Result<Option<Lists>, AllocError>
+    ensures { IfOk result (λ found. option_map lists_of found ≡ lists_read text.now) }
+{
+    if let Some(body) = strip(text, "pt=") {
+        return typed(alloc, body);
+    }
+    match restricted(alloc, text)? {
+        Some(restrictions) => {
+            let types = Items::empty(alloc);
+            Ok(Some(Lists {
+                types,
+                restrictions,
+            }))
+        }
+        None => Ok(None),
+    }
+}
+
+/// The lists behind the direction.
+fn more(alloc: Global, text: &str) -> Result<Option<Lists>, AllocError>
+    ensures { IfOk result (λ found. option_map lists_of found ≡ more_read text.now) }
+{
+    if text.is_empty() {
+        let types = Items::empty(alloc);
+        let restrictions = Items::empty(alloc);
+        return Ok(Some(Lists {
+            types,
+            restrictions,
+        }));
+    }
+    match strip(text, " ") {
+        Some(body) => listed(alloc, body),
+        None => Ok(None),
+    }
+}
+
+/// The word at the front of the text, and what stands behind it.
+fn direction(text: &str) -> Option<(&'static str, &str)>
+    ensures { parts result ≡ direction_read text.now }
+{
+    if let Some(behind) = strip(text, "send") {
+        return Some(("send", behind));
+    }
+    let behind = strip(text, "recv")?;
+    Some(("recv", behind))
+}
+
+/// The rid line of the text behind `a=`.
+pub(crate) fn rid(alloc: Global, text: &str) -> Result<Option<MediaAttribute>, AllocError>
+    ensures { IfOk result (λ found. found ≡ rid_read text.now) }
+{
+    let Some(body) = strip(text, "rid:") else {
+        return Ok(None);
+    };
+    let Some((name, directed)) = cut(body, Separator::Space) else {
+        return Ok(None);
+    };
+    if !is_stream_name(name) {
+        return Ok(None);
+    }
+    let Some((word, behind)) = direction(directed) else {
+        return Ok(None);
+    };
+    let Some(
+        Lists {
+            types,
+            restrictions,
+        },
+    ) = more(alloc, behind)?
+    else {
+        return Ok(None);
+    };
+    let name = Text::from_str(alloc, name)?;
+    Ok(Some(MediaAttribute::Rid {
+        id: RestrictionId(name, true),
+        direction: Word(word),
+        pt: types,
+        restriction: restrictions,
+    }))
+}
