@@ -36,10 +36,10 @@ count_more attrs counts i n value attr lt row is variant pt so_far =
       | inl same ↦
           let at_row = rw (← same) at so_far in
           rw (← same) (get_or-set_same counts n (get_or counts n 0 + 1) 0 row ∙ ap (λ (k : ℕ). k + 1) at_row
-              ∙ sym (count_by_more_yes (maps n) attrs i attr lt (ap (maps n) read ∙ eq-eqb n n refl)))
+          ∙ sym (count_by_more_yes (maps n) attrs i attr lt (ap (maps n) read ∙ eq-eqb n n refl)))
       | inr apart ↦
           get_or-set_other counts n pt (get_or counts n 0 + 1) 0 (λ same. apart (sym same)) ∙ so_far
-              ∙ sym (count_by_more_no (maps pt) attrs i attr lt (ap (maps pt) read ∙ ne_eqb n pt apart))
+          ∙ sym (count_by_more_no (maps pt) attrs i attr lt (ap (maps pt) read ∙ ne_eqb n pt apart))
     ]
 
 -- ---- primary types
@@ -69,7 +69,7 @@ first_more : (pt : ℕ) (attrs : List MediaAttribute) (i : ℕ) (attr : MediaAtt
     → first_apt pt (take (i + 1) attrs) ≡ (first_apt pt (take i attrs) <|> apt_in pt attr)
 first_more pt attrs i attr lt is =
     ap (first_apt pt) (take_at_read attrs i attr lt).1 ∙ first_append pt (take i attrs) (get_or attrs i attr ∷ [])
-        ∙ ap (λ (o : Option ℕ). first_apt pt (take i attrs) <|> o) (or_none (apt_in pt (get_or attrs i attr)) ∙ ap (apt_in pt) (sym is))
+    ∙ ap (λ (o : Option ℕ). first_apt pt (take i attrs) <|> o) (or_none (apt_in pt (get_or attrs i attr)) ∙ ap (apt_in pt) (sym is))
 
 apt_own : (n : ℕ) (values : List FormatParam) → apt_in n (Fmtp n values) ≡ apt_among values
 apt_own n values = rw (eq-eqb n n refl) refl
@@ -121,10 +121,10 @@ first_named attrs firsts i n values attr lt row is variant none pt so_far =
           let at_row = rw (← same) at so_far in
           let nothing : first_apt n (take i attrs) ≡ None = sym at_row ∙ none_is (get_or firsts n None) none in
           rw (← same) (get_or-set_same firsts n (apt_among values) None row ∙ sym (first_more n attrs i attr lt is
-              ∙ ap (λ (o : Option ℕ). o <|> apt_in n attr) nothing ∙ ap (apt_in n) variant ∙ apt_own n values))
+          ∙ ap (λ (o : Option ℕ). o <|> apt_in n attr) nothing ∙ ap (apt_in n) variant ∙ apt_own n values))
       | inr apart ↦
           get_or-set_other firsts n pt (apt_among values) None (λ same. apart (sym same))
-              ∙ first_same attrs firsts i attr lt is pt (ap (apt_in pt) variant ∙ apt_apart n pt values apart) so_far
+          ∙ first_same attrs firsts i attr lt is pt (ap (apt_in pt) variant ∙ apt_apart n pt values apart) so_far
     ]
 
 -- a row that is read, by any default

@@ -18,7 +18,7 @@ loop-attr-preserved c = λ k d lt.
                 let n = w.row.result in
                 let row = rw (← c.first_apts-firsts.ensures.whole) at w.row.ensures.within in
                 let first = first_read c.args.attrs.now c.first_apts-firsts.result n w.index-firsts-row.result row w.index-firsts-row.is
-                    (c.first_apts-firsts.ensures.rows n w.row.ensures.within) in
+                (c.first_apts-firsts.ensures.rows n w.row.ensures.within) in
                 rw w.in-Fmtp.is (rw (w.as_slice.ensures, first, w.row.ensures.is) at (w.in_ok-check_apt.ensures.0 refl))
             | in_default w ↦ agrees_other c.args.attrs.now c.attr-item.result w.in_default.not-Fmtp
           ])
@@ -30,7 +30,7 @@ returns-in_err-check_apt c =
     let n = c.row.result in
     let row = rw (← c.first_apts-firsts.ensures.whole) at c.row.ensures.within in
     let first = first_read c.args.attrs.now c.first_apts-firsts.result n c.index-firsts-row.result row c.index-firsts-row.is
-        (c.first_apts-firsts.ensures.rows n c.row.ensures.within) in
+    (c.first_apts-firsts.ensures.rows n c.row.ensures.within) in
     let checked = rw (c.as_slice.ensures, first, c.row.ensures.is) at c.in_err-check_apt.ensures in
     let failed = c.from_residual.ensures.0 in (
       (λ ok. grind (arith, common_steps)),

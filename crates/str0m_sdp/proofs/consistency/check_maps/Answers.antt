@@ -12,7 +12,7 @@ loop-pt-preserved c = λ k d lt.
       | inr at ↦
           let same : k ≡ c.loop-pt.pt-index = omega arith in
           rw (same, ← get_or_read c.args.pts.now c.loop-pt.pt-index c.pt-item.result c.loop-pt-test.true c.pt-item.is d)
-            (rw (c.row.ensures.is, counted) at (c.in_ok-check_map.ensures.0 refl))
+          (rw (c.row.ensures.is, counted) at (c.in_ok-check_map.ensures.0 refl))
     ]
 
 pub returns-in_err-check_map : goal.returns-in_err-check_map

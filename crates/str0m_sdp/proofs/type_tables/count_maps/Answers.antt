@@ -16,9 +16,13 @@ loop-attr-preserved c =
           let n = w.row.result in
           let row = rw (← c.loop-attr.invariant.0) at w.row.ensures.within in
           let variant = rw (← w.row.ensures.is) at w.in-RtpMap.is in
-          rw w.counts-is (length-set c.loop-attr.counts n _ ∙ c.loop-attr.invariant.0,
-            λ pt lt. count_more attrs c.loop-attr.counts i n w.in-RtpMap.value c.attr-item.result c.loop-attr-test.true row c.attr-item.is variant pt (c.loop-attr.invariant.1 pt lt))
+          rw w.counts-is (
+            length-set c.loop-attr.counts n _ ∙ c.loop-attr.invariant.0,
+            λ pt lt. count_more attrs c.loop-attr.counts i n w.in-RtpMap.value c.attr-item.result c.loop-attr-test.true row c.attr-item.is variant pt (c.loop-attr.invariant.1 pt lt),
+          )
       | in_default w ↦
-          rw w.counts-is (c.loop-attr.invariant.0,
-            λ pt lt. count_same attrs c.loop-attr.counts i c.attr-item.result c.loop-attr-test.true c.attr-item.is w.in_default.not-RtpMap pt (c.loop-attr.invariant.1 pt lt))
+          rw w.counts-is (
+            c.loop-attr.invariant.0,
+            λ pt lt. count_same attrs c.loop-attr.counts i c.attr-item.result c.loop-attr-test.true c.attr-item.is w.in_default.not-RtpMap pt (c.loop-attr.invariant.1 pt lt),
+          )
     ]

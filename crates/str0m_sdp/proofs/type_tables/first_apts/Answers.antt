@@ -22,16 +22,22 @@ loop-attr-preserved c =
           let row = rw (← c.loop-attr.invariant.0) at w.row-row.ensures.within in
           let variant = rw (← w.row-row.ensures.is, ← w.as_slice.ensures) at w.in-Fmtp.is in
           let empty = read firsts n w.index-firsts-row.result row w.index-firsts-row.is ∙ w.is_none.ensures ∙ ap not w.if-is_none.true in
-          rw (w.firsts-is, w.apt_among.ensures) (length-set firsts n _ ∙ c.loop-attr.invariant.0,
-            λ pt lt. first_named attrs firsts i n w.as_slice.result.now c.attr-item.result c.loop-attr-test.true row c.attr-item.is variant empty pt (c.loop-attr.invariant.1 pt lt))
+          rw (w.firsts-is, w.apt_among.ensures) (
+            length-set firsts n _ ∙ c.loop-attr.invariant.0,
+            λ pt lt. first_named attrs firsts i n w.as_slice.result.now c.attr-item.result c.loop-attr-test.true row c.attr-item.is variant empty pt (c.loop-attr.invariant.1 pt lt),
+          )
       | in-Fmtp+else-is_none w ↦
           let n = w.row-row.result in
           let row = rw (← c.loop-attr.invariant.0) at w.row-row.ensures.within in
           let variant = rw (← w.row-row.ensures.is) at w.in-Fmtp.is in
           let full = read firsts n w.index-firsts-row.result row w.index-firsts-row.is ∙ w.is_none.ensures ∙ ap not w.if-is_none.false in
-          rw w.firsts-is (c.loop-attr.invariant.0,
-            λ pt lt. first_kept attrs firsts i n w.in-Fmtp.values c.attr-item.result c.loop-attr-test.true c.attr-item.is variant full pt (c.loop-attr.invariant.1 pt lt))
+          rw w.firsts-is (
+            c.loop-attr.invariant.0,
+            λ pt lt. first_kept attrs firsts i n w.in-Fmtp.values c.attr-item.result c.loop-attr-test.true c.attr-item.is variant full pt (c.loop-attr.invariant.1 pt lt),
+          )
       | in_default w ↦
-          rw w.firsts-is (c.loop-attr.invariant.0,
-            λ pt lt. first_other attrs firsts i c.attr-item.result c.loop-attr-test.true c.attr-item.is w.in_default.not-Fmtp pt (c.loop-attr.invariant.1 pt lt))
+          rw w.firsts-is (
+            c.loop-attr.invariant.0,
+            λ pt lt. first_other attrs firsts i c.attr-item.result c.loop-attr-test.true c.attr-item.is w.in_default.not-Fmtp pt (c.loop-attr.invariant.1 pt lt),
+          )
     ]
