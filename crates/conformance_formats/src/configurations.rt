@@ -1,7 +1,7 @@
 //! Configurations: the rows that stand by default, and what is asked of rows. Expected values are
 //! those of the table of default rows in docs/ROUNDS.md.
 
-use crate::rows::{Row, config, row_of, shown};
+use crate::rows::{Row, config, row_of, rows, shown};
 use std::alloc::{AllocError, Global};
 use std::test::Fail;
 use str0m_formats::{Codec, CodecConfig, PayloadParams};
@@ -199,8 +199,11 @@ fn a_triple_that_is_in_no_table_becomes_the_fallback(rt: HostRuntime) -> Result<
 /// The primary type of the row that matches best.
 fn best(alloc: Global, own: &[Row], asked: Row) -> Result<Option<u8>, AllocError> {
     let config = config(alloc, own)?;
-    let asked = row_of(alloc, asked)?;
-    Ok(config.match_params(asked).map(|row| row.pt().value()))
+    let asked = rows(alloc, &[asked])?;
+    match asked.first() {
+        None => Ok(None),
+        Some(asked) => Ok(config.match_params(*asked).map(|row| row.pt().value())),
+    }
 }
 
 /// Rows, a row that is asked for, and the primary type of the best match.

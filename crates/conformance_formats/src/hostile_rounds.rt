@@ -5,12 +5,12 @@ use crate::rows::{Row, config, round, row_of};
 use std::alloc::{AllocError, Global};
 use std::test::Fail;
 use str0m_formats::{Codec, CodecConfig, PayloadParams};
-use str0m_values::{Direction, Pt};
+use str0m_values::Direction;
 
 /// Rows, the remote rows of a round, its direction, and what comes of it.
 type Case = (&'static [Row], &'static [Row], Direction, &'static str);
 
-const CASES: [Case; 7] = [
+const CASES: [Case; 8] = [
     (
         &[Row::Vp8(96, Some(97))],
         &[Row::Vp8(100, Some(100))],
@@ -52,6 +52,12 @@ const CASES: [Case; 7] = [
         &[],
         Direction::SendOnly,
         "payload type 128 is above 127: open 96 97 128|",
+    ),
+    (
+        &[Row::Opus(111)],
+        &[Row::Types(Codec::Vp8, 90000, None, 96, Some(128), Some(129))],
+        Direction::SendOnly,
+        "payload type 128 is above 127: open 111 - -|",
     ),
 ];
 
@@ -101,7 +107,7 @@ fn vp8_everywhere(alloc: Global) -> Result<Vec<PayloadParams>, AllocError> {
     for pt in 35_u8..128 {
         if may_be_given(pt) {
             let one = row_of(alloc, Row::Vp8(pt, None))?;
-            rows.push(one)?;
+            rows.extend_from_slice(&[one])?;
         }
     }
     Ok(rows)
@@ -119,7 +125,7 @@ fn crowded(
         None => {}
         Some(more) => {
             let more = row_of(alloc, more)?;
-            rows.push(more)?;
+            rows.extend_from_slice(&[more])?;
         }
     }
     let before = rows.clone()?;
@@ -184,11 +190,11 @@ fn fourteen(alloc: Global) -> Result<Vec<PayloadParams>, AllocError> {
         let pt = next;
         let resend = after(pt);
         let red = after(resend);
-        let one = row(
+        let one = row_of(
             alloc,
             Row::Types(Codec::Opus, 48000, Some(2), pt, Some(resend), Some(red)),
         )?;
-        rows.push(one)?;
+        rows.extend_from_slice(&[one])?;
         next = after(red);
     }
     Ok(rows)
@@ -213,20 +219,5 @@ fn fourteen_rows_keep_their_types_and_find_new_reds(rt: HostRuntime) -> Result<(
         locked 108 109 94|locked 111 112 95|locked 114 115 77|locked 117 118 78|locked 120 121 35|\
         locked 123 124 36|locked 126 127 37|locked 81 82 38|locked 84 85 39|locked 87 88 40|";
     assert_eq!(rt; found.as_str(), expected);
-    Ok(())
-}
-
-/// Whether some type above 127 is named where a row of the configuration has one.
-#[test]
-fn the_type_that_is_too_large_is_named(rt: HostRuntime) -> Result<(), Fail> {
-    let own = [row(
-        rt.alloc(),
-        Row::Types(Codec::Vp8, 90000, None, 96, Some(128), Some(129)),
-    )?];
-    let mut config = config(rt.alloc(), &[Row::Opus(111)])?;
-    let outcome = config.update_params(&own, Direction::SendOnly);
-    let named =
-        matches!(outcome, Err(str0m_formats::NegotiationError::TypeTooLarge(pt)) if pt == Pt::from(128));
-    assert!(rt; named);
     Ok(())
 }

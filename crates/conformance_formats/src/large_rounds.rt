@@ -8,10 +8,10 @@ use str0m_values::Direction;
 
 /// So many rows that nothing matches, each at 96.
 fn many(alloc: Global, count: usize, codec: Codec) -> Result<Vec<PayloadParams>, AllocError> {
-    let one = row_of(alloc, Row::Plain(codec, 8000, 96, ""))?;
     let mut rows = Vec::new(alloc);
     for _ in 0..count {
-        rows.push(one)?;
+        let one = row_of(alloc, Row::Plain(codec, 8000, 96, ""))?;
+        rows.extend_from_slice(&[one])?;
     }
     Ok(rows)
 }
@@ -21,9 +21,9 @@ fn many(alloc: Global, count: usize, codec: Codec) -> Result<Vec<PayloadParams>,
 fn last_is_locked(alloc: Global, count: usize) -> Result<bool, AllocError> {
     let mut own = many(alloc, count, Codec::PCMU)?;
     let last = row_of(alloc, Row::Opus(111))?;
-    own.push(last)?;
+    own.extend_from_slice(&[last])?;
     let mut remote = many(alloc, count, Codec::PCMA)?;
-    remote.push(last)?;
+    remote.extend_from_slice(&[last])?;
     let mut config = CodecConfig::new_from_payload_params(own);
     let is_ok = config
         .update_params(remote.as_slice(), Direction::RecvOnly)

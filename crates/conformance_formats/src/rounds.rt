@@ -151,7 +151,7 @@ fn with_opus_and_its_red(alloc: Global) -> Result<CodecConfig, AllocError> {
 /// Remote Opus rows in the format of browsers, with a RED at 63 and without.
 fn remote_opus(alloc: Global, red: Option<u8>) -> Result<[PayloadParams; 1], AllocError> {
     let format = "minptime=10;useinbandfec=1";
-    let opus = row(
+    let opus = row_of(
         alloc,
         Row::Channels(Codec::Opus, 48000, Some(2), 111, format),
     )?;

@@ -74,7 +74,7 @@ pub(crate) fn rows(alloc: Global, list: &[Row]) -> Result<Vec<PayloadParams>, Al
     let mut made = Vec::new(alloc);
     for one in list {
         let one = row_of(alloc, *one)?;
-        made.push(one)?;
+        made.extend_from_slice(&[one])?;
     }
     Ok(made)
 }

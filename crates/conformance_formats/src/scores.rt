@@ -1,6 +1,6 @@
 //! How well two rows match. Expected values were worked out by hand from the table of docs/ROUNDS.md.
 
-use crate::rows::{Row, row_of};
+use crate::rows::{Row, rows};
 use std::alloc::{AllocError, Global};
 use std::test::Fail;
 use str0m_formats::Codec;
@@ -255,13 +255,20 @@ const OTHER_VIDEO: [Formats; 9] = [
     (Codec::Av1, 90000, None, "", "tier=1", None),
 ];
 
-fn score(
-    alloc: Global,
-    (codec, rate, channels, own, other, _): Formats,
-) -> Result<Option<usize>, AllocError> {
-    let own = row_of(alloc, Row::Channels(codec, rate, channels, 96, own))?;
-    let other = row_of(alloc, Row::Channels(codec, rate, channels, 97, other))?;
-    Ok(own.match_score(&other))
+/// The score of two rows.
+fn score_of(alloc: Global, own: Row, other: Row) -> Result<Option<usize>, AllocError> {
+    let pair = rows(alloc, &[own, other])?;
+    match pair.as_slice() {
+        [own, other] => Ok(own.match_score(other)),
+        _ => Ok(None),
+    }
+}
+
+fn score(alloc: Global, formats: Formats) -> Result<Option<usize>, AllocError> {
+    let (codec, rate, channels, own, other, _) = formats;
+    let own = Row::Channels(codec, rate, channels, 96, own);
+    let other = Row::Channels(codec, rate, channels, 97, other);
+    score_of(alloc, own, other)
 }
 
 #[test]
@@ -347,9 +354,9 @@ const SPECS: [Specs; 7] = [
 ];
 
 fn plain_score(alloc: Global, (own, other, _): Specs) -> Result<Option<usize>, AllocError> {
-    let own = row_of(alloc, Row::Channels(own.0, own.1, own.2, 96, ""))?;
-    let other = row_of(alloc, Row::Channels(other.0, other.1, other.2, 97, ""))?;
-    Ok(own.match_score(&other))
+    let own = Row::Channels(own.0, own.1, own.2, 96, "");
+    let other = Row::Channels(other.0, other.1, other.2, 97, "");
+    score_of(alloc, own, other)
 }
 
 #[test]

@@ -28,11 +28,23 @@ fn show_rows(rt: &impl Print, config: &CodecConfig) -> Result<(), Fault> {
     Ok(())
 }
 
+fn show_type(rt: &impl Print, pt: Option<Pt>) -> Result<(), Fault> {
+    match pt {
+        None => print!(rt; "- ")?,
+        Some(pt) => print!(rt; "{pt} ")?,
+    }
+    Ok(())
+}
+
+/// Whether the row is locked, its types, its codec and its format.
 fn show_row(rt: &impl Print, row: &PayloadParams) -> Result<(), Fault> {
-    let spec = row.spec();
-    let (pt, resend, red) = (row.pt(), row.resend(), row.red());
     let state = if row.locked() { "locked" } else { "open" };
-    println!(rt; "{state} {pt} {resend:?} {red:?} {} {}", spec.codec, spec.format)?;
+    print!(rt; "{state} ")?;
+    show_type(rt, Some(row.pt()))?;
+    show_type(rt, row.resend())?;
+    show_type(rt, row.red())?;
+    let spec = row.spec();
+    println!(rt; "{} {}", spec.codec, spec.format)?;
     Ok(())
 }
 
@@ -126,7 +138,7 @@ fn rounds(alloc: Global) -> Result<Vec<Round>, AllocError> {
     for direction in [Direction::SendRecv, Direction::SendOnly] {
         let mut rows = Vec::new(alloc);
         for row in remote() {
-            rows.push(row)?;
+            rows.extend_from_slice(&[row])?;
         }
         let round = Round {
             remote: rows,
