@@ -4,7 +4,6 @@
 #![tactic(auto)]
 
 mod calls;
-mod configurations;
 mod copies;
 mod fault;
 mod formats;
