@@ -4,7 +4,7 @@ use crate::fault::Fault;
 use crate::samples::{
     BAD_HEADER, BAD_SECTION, CANDIDATE, MEDIA_LINES, SESSION_LINES, SHORT, TEXT, sample,
 };
-use crate::{formats, values};
+use crate::{configurations, formats, values};
 use std::alloc::Global;
 use str0m_signal::{
     SdpAnswer, SdpOffer, candidate_attribute, media_attribute_line, sdp_parser,
@@ -13,7 +13,7 @@ use str0m_signal::{
 use str0m_values::Items;
 
 /// The names of the calls.
-pub(crate) const NAMES: [&str; 49] = [
+pub(crate) const NAMES: [&str; 69] = [
     "session_parser",
     "session_parser_refuses",
     "sdp_parser",
@@ -33,6 +33,26 @@ pub(crate) const NAMES: [&str; 49] = [
     "parse_pairs_with_a_triple",
     "parse_line",
     "to_format_param",
+    "config_clone",
+    "new_with_defaults",
+    "add_config",
+    "add_h264",
+    "add_h265",
+    "add_h266",
+    "enable_pcmu",
+    "enable_pcma",
+    "enable_g722",
+    "enable_opus",
+    "enable_comfort_noise",
+    "enable_amr_wb",
+    "enable_vp8",
+    "enable_h264",
+    "enable_h265",
+    "enable_h266",
+    "enable_vp9",
+    "enable_av1",
+    "update_params",
+    "update_all",
     "text_from_str",
     "items_push",
     "candidate_to_sdp_string",
@@ -85,6 +105,12 @@ pub(crate) fn show(rt: &impl Print, alloc: Global, name: &str) -> Result<(), Fau
         "check_consistent" => show_messages(rt, alloc),
         "parse_pairs" | "parse_pairs_with_a_triple" | "parse_line" | "to_format_param" => {
             formats::show(rt, alloc, name)
+        }
+        "config_clone" | "new_with_defaults" | "update_params" | "update_all" => {
+            configurations::show(rt, alloc, name)
+        }
+        _ if name.starts_with("add_") || name.starts_with("enable_") => {
+            configurations::show(rt, alloc, name)
         }
         _ => values::show(rt, alloc, name),
     }

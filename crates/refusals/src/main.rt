@@ -4,6 +4,7 @@
 #![tactic(auto)]
 
 mod calls;
+mod configurations;
 mod copies;
 mod fault;
 mod formats;

@@ -30,7 +30,10 @@ pub use offer::{SdpAnswer, SdpOffer};
 pub use reader::{
     candidate_attribute, media_attribute_line, sdp_parser, session_attribute_line, session_parser,
 };
-pub use str0m_formats::{Codec, CodecSpec, FormatParam, FormatParams};
+pub use str0m_formats::{
+    Claimed, Codec, CodecConfig, CodecSpec, FormatParam, FormatParams, KindRows, NegotiationError,
+    PayloadParams, Round,
+};
 pub use str0m_sdp::{
     Bandwidth, MediaAttribute, MediaLine, MediaType, Msid, Proto, RestrictionId, RtpMap, Sdp,
     SdpError, Session, SessionAttribute, Setup, Simulcast, SimulcastGroups, SimulcastLayer, Word,

@@ -4,7 +4,7 @@
 
 use std::alloc::{AllocError, Global};
 use std::test::Fail;
-use str0m_signal::{Codec, CodecSpec, FormatParam, FormatParams, SdpError, media_attribute_line};
+use str0m_formats::{Codec, CodecSpec, FormatParam, FormatParams};
 use str0m_values::{MediaKind, Pt};
 
 /// Keys and values, and what the parameter prints: a value that reads, one at its limit, one past
@@ -204,34 +204,6 @@ fn line(alloc: Global, text: &str) -> Result<String, AllocError> {
 fn lines_are_read_and_printed_in_one_order(rt: HostRuntime) -> Result<(), Fail> {
     for (text, again) in LINES {
         let found = line(rt.alloc(), text)?;
-        assert_eq!(rt; found.as_str(), again, "{text}");
-    }
-    Ok(())
-}
-
-/// Fmtp lines, and what they print.
-const FMTP_LINES: [(&str, &str); 4] = [
-    (
-        "a=fmtp:111 minptime=10;;stereo=1",
-        "a=fmtp:111 minptime=10\r\n",
-    ),
-    (
-        "a=fmtp:96 tier-flag=0;minptime=1;MINPTIME=2",
-        "a=fmtp:96 profile-id=1;tier-flag=0;level-id=93;minptime=2\r\n",
-    ),
-    ("a=fmtp:97 apt=96", "a=fmtp:97 apt=96\r\n"),
-    ("a=fmtp:97 crc=1;a=b", ""),
-];
-
-fn fmtp_line(alloc: Global, line: &str) -> Result<String, SdpError> {
-    let (attribute, _) = media_attribute_line(alloc, line)?;
-    Ok(attribute.to_string(alloc)?)
-}
-
-#[test]
-fn fmtp_lines_hold_every_key(rt: HostRuntime) -> Result<(), Fail> {
-    for (text, again) in FMTP_LINES {
-        let found = fmtp_line(rt.alloc(), text)?;
         assert_eq!(rt; found.as_str(), again, "{text}");
     }
     Ok(())

@@ -73,7 +73,7 @@ const RANGES: [(&str, &str); 12] = [
 
 /// Lines of formats, and what they print: values that aren't known print nothing, and a line of them alone isn't
 /// printed.
-const PRINTED: [(&str, &str); 9] = [
+const PRINTED: [(&str, &str); 12] = [
     ("a=fmtp:63 111/111", "a=fmtp:63 111/111\r\n"),
     ("a=fmtp:63 111/112", "a=fmtp:63 111/111\r\n"),
     ("a=fmtp:101 0-15", "a=fmtp:101 0-15\r\n"),
@@ -92,6 +92,12 @@ const PRINTED: [(&str, &str); 9] = [
     ),
     ("a=fmtp:111 x=y", ""),
     ("a=fmtp:111", ""),
+    (
+        "a=fmtp:96 tier-flag=0;minptime=1;MINPTIME=2",
+        "a=fmtp:96 profile-id=1;tier-flag=0;level-id=93;minptime=2\r\n",
+    ),
+    ("a=fmtp:97 apt=96", "a=fmtp:97 apt=96\r\n"),
+    ("a=fmtp:97 crc=1;a=b", ""),
 ];
 
 /// Lines with the payload type of the format that they are; 255 where they are none.

@@ -1,0 +1,172 @@
+-- Default rows are distinct, and stay default while codecs are enabled and disabled.
+use Rattle.std.proofs.Common.{◌≡◌, ◌==◌, ℕ, ◌+◌, ◌≤◌, Bool, true, false, not, cond, Option, Some, None, option_map, unwrap_or, find, List, [], ◌∷◌, ◌++◌, map, All, Result, Ok, Err, OnOk, OnErr, is_ok, if◌then◌else◌, refl, sym, ap, ◌∙◌, subst, arith}
+use Rattle.std.specs.List.{AllByRecursion, Contains, list_all, flat_map}
+use Rattle.std.specs.declared.alloc.AllocError.{AllocError}
+use Rattle.std.proofs.lemmas.Bool.{eqb-true, true≢false}
+use Rattle.std.proofs.lemmas.List.{map-append}
+use Rattle.std.proofs.lemmas.List.Elements.{All-append, All-filter, All-weaker, All-contains, All-contains_itself, All-from_recursion, recursion_from_All, All-nil}
+use Rattle.str0m_formats.specs.declared.codec.Codec.{Codec}
+use Rattle.str0m_formats.specs.declared.codec.Codec.TheVariants.{Opus, PCMU, PCMA, G722, CN, AmrWb, H264, H265, H266, Vp8, Vp9, Av1, Tele, Rtx, Red, Null, Unknown}
+use Rattle.str0m_formats.specs.declared.payload_params.PayloadParams.{PayloadParams}
+use Rattle.str0m_formats.specs.Rows.{types_of, types}
+use Rattle.str0m_formats.specs.TypeSets.{has, times, AllDistinct}
+use Rattle.str0m_formats.specs.DefaultRows.{default_rows, others, enabled_rows, IsDefault, AreDefault}
+use Rattle.str0m_formats.specs.Scores.{same_codec}
+use Rattle.str0m_formats.proofs.Times.{one_if, times-cons, times-append, all_apart, once_within}
+
+-- the whole table, with its REDs
+abbrev table : List PayloadParams
+table = flat_map (λ codec. default_rows codec true) (Opus ∷ PCMU ∷ PCMA ∷ G722 ∷ CN ∷ AmrWb ∷ Vp8 ∷ H264 ∷ H265 ∷ H266 ∷ Vp9 ∷ Av1 ∷ [])
+
+-- the payload type of the row that a type stands in
+abbrev owner : ℕ → ℕ
+owner t = unwrap_or (option_map (λ row. row.pt) (find (λ row. has (types_of row) t) table)) 0
+
+-- whether a payload type is that of a row of the codec
+abbrev is_codec : Codec → Option PayloadParams → Bool
+is_codec codec None = false
+is_codec codec (Some row) = same_codec row.spec.codec codec
+
+abbrev codec_at : ℕ → Option PayloadParams
+codec_at t = find (λ row. row.pt == t) table
+
+-- what the table shows of a row: each type of it is its own, and stands there once
+abbrev Known : PayloadParams → Type 0
+Known row = (option_map (λ r. r.spec.codec) (codec_at row.pt) ≡ Some row.spec.codec) × (list_all (λ t. row.pt == owner t) (types_of row) ≡ true) × (all_apart (types_of row) ≡ true)
+
+known : (codec : Codec) (use_red : Bool) → AllByRecursion Known (default_rows codec use_red)
+known Opus true = ((refl, refl, refl), tt)
+known Opus false = ((refl, refl, refl), tt)
+known PCMU true = ((refl, refl, refl), tt)
+known PCMU false = ((refl, refl, refl), tt)
+known PCMA true = ((refl, refl, refl), tt)
+known PCMA false = ((refl, refl, refl), tt)
+known G722 true = ((refl, refl, refl), tt)
+known G722 false = ((refl, refl, refl), tt)
+known CN _ = ((refl, refl, refl), tt)
+known AmrWb _ = ((refl, refl, refl), tt)
+known H264 _ = ((refl, refl, refl), ((refl, refl, refl), ((refl, refl, refl), ((refl, refl, refl), ((refl, refl, refl), ((refl, refl, refl), ((refl, refl, refl), tt)))))))
+known H265 _ = ((refl, refl, refl), tt)
+known H266 _ = ((refl, refl, refl), tt)
+known Vp8 _ = ((refl, refl, refl), tt)
+known Vp9 _ = ((refl, refl, refl), ((refl, refl, refl), tt))
+known Av1 _ = ((refl, refl, refl), tt)
+known Tele _ = tt
+known Rtx _ = tt
+known Red _ = tt
+known Null _ = tt
+known Unknown _ = tt
+
+abbrev primaries : List PayloadParams → List ℕ
+primaries rows = map (λ row. row.pt) rows
+
+-- the payload types of the rows of a codec are those of the codec, and differ
+once_new : (codec : Codec) (use_red : Bool) → (list_all (λ t. is_codec codec (codec_at t)) (primaries (default_rows codec use_red)) ≡ true) × (all_apart (primaries (default_rows codec use_red)) ≡ true)
+once_new Opus true = (refl, refl)
+once_new Opus false = (refl, refl)
+once_new PCMU true = (refl, refl)
+once_new PCMU false = (refl, refl)
+once_new PCMA true = (refl, refl)
+once_new PCMA false = (refl, refl)
+once_new G722 true = (refl, refl)
+once_new G722 false = (refl, refl)
+once_new CN _ = (refl, refl)
+once_new AmrWb _ = (refl, refl)
+once_new H264 _ = (refl, refl)
+once_new H265 _ = (refl, refl)
+once_new H266 _ = (refl, refl)
+once_new Vp8 _ = (refl, refl)
+once_new Vp9 _ = (refl, refl)
+once_new Av1 _ = (refl, refl)
+once_new Tele _ = (refl, refl)
+once_new Rtx _ = (refl, refl)
+once_new Red _ = (refl, refl)
+once_new Null _ = (refl, refl)
+once_new Unknown _ = (refl, refl)
+
+known_default : (row : PayloadParams) → IsDefault row → Known row
+known_default row d = All-contains Known (default_rows d.0 d.1) row (All-from_recursion Known (default_rows d.0 d.1) (known d.0 d.1)) d.2
+
+all_known : (rows : List PayloadParams) → All IsDefault rows → AllByRecursion Known rows
+all_known rows d = recursion_from_All Known rows (All-weaker IsDefault Known known_default rows d)
+
+-- ---- distinct
+
+-- a type stands among the types of the rows no more often than the row that owns it among the rows
+owned : (rows : List PayloadParams) → AllByRecursion Known rows → (t : ℕ) → times (types rows) t ≤ times (primaries rows) (owner t)
+owned [] k t = omega arith
+owned (row ∷ rows) k t =
+    omega (arith, times-append (types_of row) (types rows) t, once_within (λ u. row.pt == owner u) (types_of row) k.0.1 k.0.2 t, times-cons row.pt (primaries rows) (owner t), owned rows k.1 t)
+
+pub default_distinct : (rows : List PayloadParams) → AreDefault rows → AllDistinct (types rows)
+default_distinct rows d t =
+    let o = owned rows (all_known rows d.each) t in
+    let w = d.once (owner t) in
+    omega arith
+
+-- ---- enabling
+
+-- no row of the codec is left among the others
+others_once : (codec : Codec) (rows : List PayloadParams) → AllByRecursion Known rows → (t : ℕ) → times (primaries (others codec rows)) t ≤ cond {A = ℕ} (is_codec codec (codec_at t)) 0 (times (primaries rows) t)
+others_once codec [] k t = go (is_codec codec (codec_at t)) where
+  go : (b : Bool) → 0 ≤ cond {A = ℕ} b 0 0
+  go true = omega arith
+  go false = omega arith
+others_once codec (row ∷ rows) k t =
+    step (same_codec row.spec.codec codec) (row.pt == t) (is_codec codec (codec_at t)) (λ e. of_row (eqb-true row.pt t e)) refl (others_once codec rows k.1 t)
+  where
+    found : (o : Option PayloadParams) → option_map (λ r. r.spec.codec) o ≡ Some row.spec.codec → is_codec codec o ≡ same_codec row.spec.codec codec
+    found None e = absurd (cc)
+    found (Some r) e = let same : r.spec.codec ≡ row.spec.codec = cc in ap (λ c. same_codec c codec) same
+
+    of_row : row.pt ≡ t → is_codec codec (codec_at t) ≡ same_codec row.spec.codec codec
+    of_row same = sym (ap (λ u. is_codec codec (codec_at u)) same) ∙ found (codec_at row.pt) k.0.0
+
+    step : (b h i : Bool) → (h ≡ true → i ≡ b) → (row.pt == t) ≡ h → times (primaries (others codec rows)) t ≤ cond {A = ℕ} i 0 (times (primaries rows) t) → times (primaries (cond (not b) (row ∷ others codec rows) (others codec rows))) t ≤ cond {A = ℕ} i 0 (times (primaries (row ∷ rows)) t)
+    step true h true own e l = l
+    step true h false own e l = omega (arith, times-cons row.pt (primaries rows) t)
+    step false true true own e l = absurd (true≢false (own refl))
+    step false false true own e l = omega (arith, times-cons row.pt (primaries (others codec rows)) t, one_if (row.pt == t) false e)
+    step false h false own e l = omega (arith, times-cons row.pt (primaries (others codec rows)) t, times-cons row.pt (primaries rows) t)
+
+new_default : (codec : Codec) (use_red : Bool) → All IsDefault (default_rows codec use_red)
+new_default codec use_red =
+    All-weaker (Contains (default_rows codec use_red)) IsDefault (λ row c. (codec, use_red, c)) (default_rows codec use_red) (All-contains_itself (default_rows codec use_red))
+
+once_both : (i : Bool) (a b n : ℕ) → a ≤ cond {A = ℕ} i 0 n → b ≤ cond {A = ℕ} i 1 0 → n ≤ 1 → a + b ≤ 1
+once_both true a b n h k l = omega arith
+once_both false a b n h k l = omega arith
+
+-- rows of the codec come last
+put_last : (codec : Codec) (new rows : List PayloadParams) → All IsDefault new → ((t : ℕ) → times (primaries new) t ≤ cond {A = ℕ} (is_codec codec (codec_at t)) 1 0) → AreDefault rows → AreDefault (others codec rows ++ new)
+put_last codec new rows all once d = record {
+  each = All-append IsDefault (others codec rows) new (All-filter (λ row. not (same_codec row.spec.codec codec)) IsDefault rows d.each) all;
+  once = λ t.
+      let joined : times (primaries (others codec rows ++ new)) t ≡ times (primaries (others codec rows)) t + times (primaries new) t =
+      ap (λ ts. times ts t) (map-append (λ row. row.pt) (others codec rows) new) ∙ times-append (primaries (others codec rows)) (primaries new) t in
+      let both = once_both (is_codec codec (codec_at t)) (times (primaries (others codec rows)) t) (times (primaries new) t) (times (primaries rows) t) (others_once codec rows (all_known rows d.each) t) (once t) (d.once t) in
+      omega arith;
+}
+
+none_within : (b : Bool) → 0 ≤ cond {A = ℕ} b 1 0
+none_within true = omega arith
+none_within false = omega arith
+
+enabled_stay : (codec : Codec) (enabled use_red : Bool) (rows : List PayloadParams) → AreDefault rows → AreDefault (enabled_rows codec enabled use_red rows)
+enabled_stay codec true use_red rows d =
+    put_last codec (default_rows codec use_red) rows (new_default codec use_red)
+    (once_within (λ t. is_codec codec (codec_at t)) (primaries (default_rows codec use_red)) (once_new codec use_red).0 (once_new codec use_red).1) d
+enabled_stay codec false use_red rows d = put_last codec [] rows (All-nil IsDefault) (λ t. none_within (is_codec codec (codec_at t))) d
+
+-- whatever a call answers that enables or disables a codec
+pub default_stay : (r : Result (Unit {0}) AllocError) (codec : Codec) (enabled use_red : Bool) (old new : List PayloadParams) → OnOk r (new ≡ enabled_rows codec enabled use_red old) → OnErr r (new ≡ old) → AreDefault old → AreDefault new
+default_stay (Ok x) codec enabled use_red old new ok err d = subst AreDefault (sym ok) (enabled_stay codec enabled use_red old d)
+default_stay (Err e) codec enabled use_red old new ok err d = subst AreDefault (sym err) d
+
+pub default_none : AreDefault []
+default_none = record { each = All-nil IsDefault; once = λ t. omega arith }
+
+-- what a call answers that takes the rows of a codec out and appends others
+pub put_ok : (r : Result (Unit {0}) AllocError) (codec : Codec) (old kept rows new : List PayloadParams) → kept ≡ others codec old → new ≡ (if is_ok r then kept ++ rows else kept) → OnOk r (new ≡ others codec old ++ rows)
+put_ok (Ok x) codec old kept rows new k e = e ∙ ap (λ xs. xs ++ rows) k
+put_ok (Err x) codec old kept rows new k e = tt

@@ -1,0 +1,165 @@
+-- The first pass of a round: what one row changes, and the state between two rows.
+use Prim.Native.Nat.{zero, suc}
+use Rattle.std.proofs.Common.{◌≡◌, ℕ, ◌+◌, ◌<◌, ◌⊎◌, inl, inr, Bool, true, false, not, ◌||◌, ◌&&◌, cond, if◌then◌else◌, find, nat_lt, List, [], ◌∷◌, ◌++◌, length, take, drop, set, get_or, Option, Some, None, Result, Ok, Err, IfSome, IfErr, refl, sym, ap, ◌∙◌, subst, arith}
+use Rattle.std.specs.List.{slice_get}
+use Rattle.std.specs.Option.{option_or}
+use Rattle.std.proofs.lemmas.Option.{same_Some}
+use Rattle.std.proofs.lemmas.List.{append_assoc, take_more_set, drop-set-lt, length-set, length-take-le, length_push}
+use Rattle.std.proofs.lemmas.Grind.{drop_more_same}
+use Rattle.std.proofs.lemmas.Bool.{false≢true}
+use Rattle.str0m_formats.specs.declared.negotiation_error.NegotiationError.{NegotiationError}
+use Rattle.str0m_formats.specs.declared.payload_params.PayloadParams.{PayloadParams}
+use Rattle.str0m_formats.specs.TypeSets.{TypeSet, has, with_type, either}
+use Rattle.str0m_formats.specs.Rows.{AllSmall, types_of, types, locked_types, open_types}
+use Rattle.str0m_formats.specs.Narrowing.{narrowed}
+use Rattle.str0m_formats.specs.Choices.{IsChoice, points_for}
+use Rattle.str0m_formats.specs.Rounds.{taken_by, placed, locked_to, and_then, role_type, rtx_type, Becomes, Begun, MayBegin, StopsFirst}
+use Rattle.str0m_formats.proofs.Ranges.{find-append}
+use Rattle.str0m_formats.proofs.Passes.{EachPlace, each_push, get_from_rest}
+use Rattle.str0m_formats.proofs.RowSets.{has-append, either-covered, locked_types-push, locked_types-at}
+
+-- ---- types of at most 127
+
+pub none-parts : (p : ℕ → Bool) (xs ys : List ℕ) → find p (xs ++ ys) ≡ None → (find p xs ≡ None) × (find p ys ≡ None)
+none-parts p xs ys h = go (find p xs) (find p ys) (sym (find-append p xs ys) ∙ h) where
+  go : (a b : Option ℕ) → option_or a b ≡ None → (a ≡ None) × (b ≡ None)
+  go None b e = (refl, e)
+  go (Some a) b e = absurd (cc)
+
+pub small_at : (rows : List PayloadParams) (i : ℕ) (row : PayloadParams) → AllSmall (types rows) → slice_get rows i ≡ Some row → AllSmall (types_of row)
+small_at [] i row h e = absurd (cc)
+small_at (r ∷ rows) zero row h e =
+    let P : PayloadParams → Type 0 = λ x. AllSmall (types_of x) in subst P (same_Some r row e) (none-parts (nat_lt 127) (types_of r) (types rows) h).0
+small_at (r ∷ rows) (suc i) row h e = small_at rows i row (none-parts (nat_lt 127) (types_of r) (types rows) h).1 e
+
+at_split : {A : Type 0} (xs : List A) (y : A) (ys : List A) → slice_get (xs ++ y ∷ ys) (length xs) ≡ Some y
+at_split [] y ys = refl
+at_split (x ∷ xs) y ys = at_split xs y ys
+
+pub small_choice : (points : PayloadParams → Option ℕ) (remote : List PayloadParams) (choice : Option PayloadParams) → IsChoice points remote choice → AllSmall (types remote) → IfSome choice (λ c. AllSmall (types_of c))
+small_choice points remote None h s = tt
+small_choice points remote (Some c) h s = small_at remote (length h.before) c s (ap (λ xs. slice_get xs (length h.before)) h.split ∙ at_split h.before c h.after)
+
+-- ---- what becomes of one row
+
+pub and_then-ok : {A B : Type 0} (r : Result A NegotiationError) (f : A → Result B NegotiationError) (y : B) → and_then r f ≡ Ok y → (x : A) × (r ≡ Ok x) × (f x ≡ Ok y)
+and_then-ok (Ok x) f y h = (x, refl, h)
+and_then-ok (Err e) f y h = absurd (cc)
+
+pub same_Ok : {A : Type 0} (x y : A) → ◌≡◌ {A = Result A NegotiationError} (Ok x) (Ok y) → x ≡ y
+same_Ok x y h = cc
+
+pub locked_to-locks : (taken unlocked : TypeSet) (receives : Bool) (row choice new : PayloadParams) → locked_to taken unlocked receives row choice ≡ Ok new → new.locked ≡ true
+unfolding locked_to
+locked_to-locks taken unlocked receives row choice new h =
+    let first = and_then-ok (role_type taken unlocked receives choice.pt (Some row.pt)) _ new h in
+    let second = and_then-ok (rtx_type (with_type taken first.0) unlocked receives choice.resend row.resend) _ new first.2 in
+    ap (λ r. r.locked) (sym (same_Ok _ new second.2))
+
+-- a locked row stays locked and keeps its types; an open row stays as it is, or is locked
+pub placed-locked : (taken unlocked : TypeSet) (receives : Bool) (row new : PayloadParams) (choice : Option PayloadParams) → placed taken unlocked receives row choice ≡ Ok new → row.locked ≡ true → (new.locked ≡ true) × (types_of new ≡ types_of row)
+unfolding placed
+placed-locked taken unlocked receives row new None h l =
+    let e = same_Ok row new h in (ap (λ r. r.locked) (sym e) ∙ l, ap types_of (sym e))
+placed-locked taken unlocked receives row new (Some c) h l =
+    let e = same_Ok (record row { spec = narrowed row.spec c.spec }) new (sym (ap (λ b. cond b (Ok (record row { spec = narrowed row.spec c.spec })) (locked_to taken unlocked receives row c)) l) ∙ h) in
+    (ap (λ r. r.locked) (sym e) ∙ l, ap types_of (sym e))
+
+pub placed-open : (taken unlocked : TypeSet) (receives : Bool) (row new : PayloadParams) (choice : Option PayloadParams) → placed taken unlocked receives row choice ≡ Ok new → row.locked ≡ false → (new ≡ row) ⊎ (new.locked ≡ true)
+unfolding placed
+placed-open taken unlocked receives row new None h l = inl (sym (same_Ok row new h))
+placed-open taken unlocked receives row new (Some c) h l =
+    inr (locked_to-locks taken unlocked receives row c new (sym (ap (λ b. cond b (Ok (record row { spec = narrowed row.spec c.spec })) (locked_to taken unlocked receives row c)) l) ∙ h))
+
+-- what a row adds to the types that are taken
+pub taken-push : (taken unlocked : TypeSet) (receives : Bool) (before done : List PayloadParams) (i : ℕ) (row new : PayloadParams) (choice : Option PayloadParams) → slice_get before i ≡ Some row → placed taken unlocked receives row choice ≡ Ok new
+    → (if new.locked && not row.locked then either (taken_by before done) (has (types_of new)) else taken_by before done) ≡ taken_by before (done ++ new ∷ [])
+taken-push taken unlocked receives before done i row new choice at_row h = go row.locked new.locked refl refl where
+  longer : locked_types before ++ locked_types (done ++ new ∷ []) ≡ (locked_types before ++ locked_types done) ++ cond new.locked (types_of new) []
+  longer = ap (λ ts. locked_types before ++ ts) (locked_types-push done new) ∙ sym (append_assoc (locked_types before) (locked_types done) (cond new.locked (types_of new) []))
+
+  all : taken_by before (done ++ new ∷ []) ≡ either (taken_by before done) (has (cond new.locked (types_of new) []))
+  all = ap has longer ∙ has-append (locked_types before ++ locked_types done) (cond new.locked (types_of new) [])
+
+  none_more : new.locked ≡ false → either (taken_by before done) (has (cond new.locked (types_of new) [])) ≡ taken_by before done
+  none_more e = ap (λ b. either (taken_by before done) (has (cond b (types_of new) []))) e ∙ either-covered (taken_by before done) [] (λ t f. absurd (false≢true f))
+
+  go : (b n : Bool) → row.locked ≡ b → new.locked ≡ n → (if new.locked && not row.locked then either (taken_by before done) (has (types_of new)) else taken_by before done) ≡ taken_by before (done ++ new ∷ [])
+  go b false eb en = ap (λ x. cond (x && not row.locked) (either (taken_by before done) (has (types_of new))) (taken_by before done)) en ∙ sym (all ∙ none_more en)
+  go false true eb en =
+      ap (λ x. cond (x && not row.locked) (either (taken_by before done) (has (types_of new))) (taken_by before done)) en
+      ∙ ap (λ x. cond (not x) (either (taken_by before done) (has (types_of new))) (taken_by before done)) eb
+      ∙ sym (all ∙ ap (λ x. either (taken_by before done) (has (cond x (types_of new) []))) en)
+  go true true eb en =
+      ap (λ x. cond (x && not row.locked) (either (taken_by before done) (has (types_of new))) (taken_by before done)) en
+      ∙ ap (λ x. cond (not x) (either (taken_by before done) (has (types_of new))) (taken_by before done)) eb
+      ∙ sym (all ∙ ap (λ x. either (taken_by before done) (has (cond x (types_of new) []))) en
+      ∙ either-covered (taken_by before done) (types_of new)
+      (λ t ht. ap (λ f. f t) (has-append (locked_types before) (locked_types done))
+      ∙ ap (λ x. x || has (locked_types done) t) (locked_types-at before i row t at_row eb (ap (λ ts. has ts t) (sym (placed-locked taken unlocked receives row new choice h eb).1) ∙ ht))))
+
+-- ---- between two rows
+
+pub record FirstState (before remote : List PayloadParams) (receives : Bool) (rows : List PayloadParams) (i : ℕ) (claimed unlocked : TypeSet) : Type 0 where
+  pub begun : Begun before remote receives (take i rows)
+  pub rest : drop i rows ≡ drop i before
+  pub whole : length rows ≡ length before
+  pub claimed_is : claimed ≡ taken_by before (take i rows)
+  pub unlocked_is : unlocked ≡ has (open_types before)
+
+-- the row that is next
+pub next_row : (before remote : List PayloadParams) (receives : Bool) (rows : List PayloadParams) (i : ℕ) (claimed unlocked : TypeSet) (row : PayloadParams) → FirstState before remote receives rows i claimed unlocked → i < length rows → row ≡ get_or rows i row → slice_get before i ≡ Some row
+next_row before remote receives rows i claimed unlocked row s h e = get_from_rest rows before i row h s.rest ∙ ap (λ r. Some r) (sym e)
+
+becomes_now : (before remote : List PayloadParams) (receives : Bool) (rows : List PayloadParams) (i : ℕ) (claimed unlocked : TypeSet) (row : PayloadParams) (choice : Option PayloadParams) (outcome : Result PayloadParams NegotiationError) → FirstState before remote receives rows i claimed unlocked → IsChoice (points_for claimed receives row) remote choice → placed claimed unlocked receives row choice ≡ outcome
+    → Becomes (taken_by before (take i rows)) (has (open_types before)) remote receives row outcome
+becomes_now before remote receives rows i claimed unlocked row choice outcome s c p =
+    let P : TypeSet → Type 0 = λ t. IsChoice (points_for t receives row) remote choice in
+    let Q : TypeSet → Type 0 = λ t. placed t unlocked receives row choice ≡ outcome in
+    let R : TypeSet → Type 0 = λ u. placed (taken_by before (take i rows)) u receives row choice ≡ outcome in
+    record { choice = choice; is_choice = subst P s.claimed_is c; placed_so = subst R s.unlocked_is (subst Q s.claimed_is p) }
+
+pub first_step : (before remote : List PayloadParams) (receives : Bool) (rows : List PayloadParams) (i : ℕ) (claimed unlocked claimed' unlocked' : TypeSet) (row new : PayloadParams) (choice : Option PayloadParams)
+    → FirstState before remote receives rows i claimed unlocked → i < length rows → row ≡ get_or rows i row → IsChoice (points_for claimed receives row) remote choice → placed claimed unlocked receives row choice ≡ Ok new
+    → claimed' ≡ (if new.locked && not row.locked then either claimed (has (types_of new)) else claimed) → unlocked' ≡ unlocked
+    → FirstState before remote receives (set rows i new) (i + 1) claimed' unlocked'
+first_step before remote receives rows i claimed unlocked claimed' unlocked' row new choice s h e c p k u =
+    let at_row = next_row before remote receives rows i claimed unlocked row s h e in
+    let there : length (take i rows) ≡ i = length-take-le i rows (omega arith) in
+    let front : take i rows ++ new ∷ [] ≡ take (i + 1) (set rows i new) = sym (take_more_set rows i new h) in
+    let now = becomes_now before remote receives rows i claimed unlocked row choice (Ok new) s c p in
+    let Next : ℕ → Type 0 = λ n. slice_get before n ≡ Some row in
+    let each = each_push (λ d r n. Becomes (taken_by before d) (has (open_types before)) remote receives r (Ok n)) before (take i rows) row new s.begun.each (subst Next (sym there) at_row) now in
+    let Front : List PayloadParams → Type 0 = λ d. EachPlace (λ d r n. Becomes (taken_by before d) (has (open_types before)) remote receives r (Ok n)) before d in
+    record {
+      begun = record { within = omega (arith, ap length front, length_push (take i rows) new, there, s.whole); each = subst Front front each };
+      rest = drop-set-lt (i + 1) rows i new (omega arith) ∙ drop_more_same rows before i s.rest;
+      whole = length-set rows i new ∙ s.whole;
+      claimed_is =
+          k ∙ ap (λ t. cond (new.locked && not row.locked) (either t (has (types_of new))) t) s.claimed_is
+          ∙ taken-push claimed unlocked receives before (take i rows) i row new choice at_row p ∙ ap (taken_by before) front;
+      unlocked_is = u ∙ s.unlocked_is;
+    }
+
+-- where the next row can't be placed, the round stops there
+pub first_stops : (before remote : List PayloadParams) (receives : Bool) (rows : List PayloadParams) (i : ℕ) (claimed unlocked : TypeSet) (row : PayloadParams) (choice : Option PayloadParams) (cause : NegotiationError)
+    → MayBegin before remote → FirstState before remote receives rows i claimed unlocked → i < length rows → row ≡ get_or rows i row → IsChoice (points_for claimed receives row) remote choice → placed claimed unlocked receives row choice ≡ Err cause
+    → StopsFirst before remote receives cause
+first_stops before remote receives rows i claimed unlocked row choice cause may s h e c p =
+    let there : length (take i rows) ≡ i = length-take-le i rows (omega arith) in
+    let Next : ℕ → Type 0 = λ n. slice_get before n ≡ Some row in
+    record {
+      may = may;
+      done = take i rows;
+      begun = s.begun;
+      row = row;
+      next = subst Next (sym there) (next_row before remote receives rows i claimed unlocked row s h e);
+      stops = becomes_now before remote receives rows i claimed unlocked row choice (Err cause) s c p;
+    }
+
+-- a fact of the error, where a result is that error
+pub IfErr_from : {A : Type 0} (result : Result A NegotiationError) (cause : NegotiationError) (P : NegotiationError → Type 0) → result ≡ Err cause → P cause → IfErr result P
+IfErr_from (Ok x) cause P h p = tt
+IfErr_from (Err e) cause P h p = let same : cause ≡ e = sym (same_Err e cause h) in subst P same p where
+  same_Err : {B : Type 0} (a b : NegotiationError) → ◌≡◌ {A = Result B NegotiationError} (Err a) (Err b) → a ≡ b
+  same_Err a b e = cc

@@ -1,0 +1,132 @@
+-- When two formats are equal, and two specs: `==` of each field decides, and so does that of the record.
+use Rattle.std.proofs.Common.{◌≡◌, ◌&&◌, ℕ, Bool, Option, None, Some, nat_eq, refl, ap}
+use Rattle.std.specs.Bool.{Decides, beq}
+use Rattle.std.specs.Cmp.{unsigned_Decides, booleans_Decides}
+use Rattle.std.specs.Option.{option_eq}
+use Rattle.std.proofs.lemmas.Bool.Decides.{Decides-and, Decides-like}
+use denote.Enum.Bare.{Bare, sameb, same_true, true_same}
+use denote.Enum.Declared.{Declared}
+use Rattle.str0m_values.specs.contracts.h265.H265Profile as h265_profile
+use Rattle.str0m_values.specs.contracts.h265.H265Tier as h265_tier
+use Rattle.str0m_values.specs.contracts.h265.H265Level as h265_level
+use Rattle.str0m_values.specs.contracts.h265.H265ProfileTierLevelPartialEq.TheImpl as h265
+use Rattle.str0m_values.specs.contracts.h266.H266Profile as h266_profile
+use Rattle.str0m_values.specs.contracts.h266.H266Tier as h266_tier
+use Rattle.str0m_values.specs.contracts.h266.H266Level as h266_level
+use Rattle.str0m_values.specs.contracts.h266.H266ProfileTierLevelPartialEq.TheImpl as h266
+use Rattle.str0m_values.specs.declared.h265.H265ProfileTierLevel.{H265ProfileTierLevel}
+use Rattle.str0m_values.specs.declared.h266.H266ProfileTierLevel.{H266ProfileTierLevel}
+use Rattle.str0m_formats.specs.contracts.codec.Codec as codec
+use Rattle.str0m_formats.specs.contracts.format_params.FormatParamsPartialEq.TheImpl as format
+use Rattle.str0m_formats.specs.declared.codec.Codec.{Codec}
+use Rattle.str0m_formats.specs.declared.codec_spec.CodecSpec.{CodecSpec}
+use Rattle.str0m_formats.specs.declared.format_params.FormatParams.{FormatParams}
+use Rattle.str0m_formats.specs.Scores.{same_codec, same_spec}
+
+-- pairs of proofs, and of tests that decide, to the right
+infixr 20 ◌⊗◌
+abbrev pub ◌⊗◌ : {P Q : Type 0} → P → Q → P × Q
+p ⊗ q = (p, q)
+
+infixr 20 ◌and◌
+pub ◌and◌ : {s t : Bool} {P Q : Type 0} → Decides s P → Decides t Q → Decides (s && t) (P × Q)
+p and q = Decides-and _ _ p q
+
+-- `==` on options decides equality where `==` on what they hold does
+option_Decides : {T : Type 0} (E : T → T → Bool) → ((x y : T) → Decides (E x y) (x ≡ y)) → (a b : Option T) → Decides (option_eq E a b) (a ≡ b)
+option_Decides E each None None = (λ _. refl, λ _. refl)
+option_Decides E each None (Some y) = (λ h. cc, λ h. cc)
+option_Decides E each (Some x) None = (λ h. cc, λ h. cc)
+option_Decides E each (Some x) (Some y) = Decides-like (E x y) (λ e. ap Some e) (λ e. cc) (each x y)
+
+pub numbers : (a b : Option ℕ) → Decides (option_eq nat_eq a b) (a ≡ b)
+numbers = option_Decides nat_eq unsigned_Decides
+
+flags : (a b : Option Bool) → Decides (option_eq beq a b) (a ≡ b)
+flags = option_Decides beq booleans_Decides
+
+-- and so does that of an enum without fields
+bare_Decides : (D : Declared) → Bare D.parts → (a b : D.D) → Decides (sameb D a b) (a ≡ b)
+bare_Decides D bare a b = (same_true D bare a b, true_same D a b)
+
+h265_Decides : (a b : H265ProfileTierLevel) → Decides (h265.eq-value.it a b) (a ≡ b)
+h265_Decides a b =
+    Decides-like _ (λ e i. record { profile = e.0 i; tier = e.1.0 i; level = e.1.1 i })
+    (λ e. (λ i. (e i).profile) ⊗ (λ i. (e i).tier) ⊗ (λ i. (e i).level))
+    (bare_Decides h265_profile.the_type tt a.profile b.profile
+    and bare_Decides h265_tier.the_type tt a.tier b.tier
+    and bare_Decides h265_level.the_type tt a.level b.level)
+
+h265_triples : (a b : Option H265ProfileTierLevel) → Decides (option_eq (λ x y. h265.eq-value.it x y) a b) (a ≡ b)
+h265_triples = option_Decides _ h265_Decides
+
+h266_Decides : (a b : H266ProfileTierLevel) → Decides (h266.eq-value.it a b) (a ≡ b)
+h266_Decides a b =
+    Decides-like _ (λ e i. record { profile = e.0 i; tier = e.1.0 i; level = e.1.1 i })
+    (λ e. (λ i. (e i).profile) ⊗ (λ i. (e i).tier) ⊗ (λ i. (e i).level))
+    (bare_Decides h266_profile.the_type tt a.profile b.profile
+    and bare_Decides h266_tier.the_type tt a.tier b.tier
+    and bare_Decides h266_level.the_type tt a.level b.level)
+
+h266_triples : (a b : Option H266ProfileTierLevel) → Decides (option_eq (λ x y. h266.eq-value.it x y) a b) (a ≡ b)
+h266_triples = option_Decides _ h266_Decides
+
+pub format_Decides : (a b : FormatParams) → Decides (format.eq-value.it a b) (a ≡ b)
+format_Decides a b =
+    Decides-like _
+    (λ e i. record {
+      min_p_time = e.0 i;
+      stereo = e.1.0 i;
+      sprop_stereo = e.1.1.0 i;
+      use_inband_fec = e.1.1.1.0 i;
+      use_dtx = e.1.1.1.1.0 i;
+      level_asymmetry_allowed = e.1.1.1.1.1.0 i;
+      packetization_mode = e.1.1.1.1.1.1.0 i;
+      profile_level_id = e.1.1.1.1.1.1.1.0 i;
+      profile_id = e.1.1.1.1.1.1.1.1.0 i;
+      profile = e.1.1.1.1.1.1.1.1.1.0 i;
+      level_idx = e.1.1.1.1.1.1.1.1.1.1.0 i;
+      tier = e.1.1.1.1.1.1.1.1.1.1.1.0 i;
+      h265_profile_tier_level = e.1.1.1.1.1.1.1.1.1.1.1.1.0 i;
+      h266_profile_tier_level = e.1.1.1.1.1.1.1.1.1.1.1.1.1.0 i;
+      sprop_max_don_diff = e.1.1.1.1.1.1.1.1.1.1.1.1.1.1.0 i;
+      telephone_event_max = e.1.1.1.1.1.1.1.1.1.1.1.1.1.1.1.0 i;
+      octet_align = e.1.1.1.1.1.1.1.1.1.1.1.1.1.1.1.1.0 i;
+      mode_set = e.1.1.1.1.1.1.1.1.1.1.1.1.1.1.1.1.1 i;
+    })
+    (λ e. (λ i. (e i).min_p_time) ⊗ (λ i. (e i).stereo) ⊗ (λ i. (e i).sprop_stereo)
+    ⊗ (λ i. (e i).use_inband_fec) ⊗ (λ i. (e i).use_dtx) ⊗ (λ i. (e i).level_asymmetry_allowed)
+    ⊗ (λ i. (e i).packetization_mode) ⊗ (λ i. (e i).profile_level_id) ⊗ (λ i. (e i).profile_id)
+    ⊗ (λ i. (e i).profile) ⊗ (λ i. (e i).level_idx) ⊗ (λ i. (e i).tier)
+    ⊗ (λ i. (e i).h265_profile_tier_level) ⊗ (λ i. (e i).h266_profile_tier_level) ⊗ (λ i. (e i).sprop_max_don_diff)
+    ⊗ (λ i. (e i).telephone_event_max) ⊗ (λ i. (e i).octet_align) ⊗ (λ i. (e i).mode_set))
+    (numbers a.min_p_time b.min_p_time
+    and flags a.stereo b.stereo
+    and flags a.sprop_stereo b.sprop_stereo
+    and flags a.use_inband_fec b.use_inband_fec
+    and flags a.use_dtx b.use_dtx
+    and flags a.level_asymmetry_allowed b.level_asymmetry_allowed
+    and numbers a.packetization_mode b.packetization_mode
+    and numbers a.profile_level_id b.profile_level_id
+    and numbers a.profile_id b.profile_id
+    and numbers a.profile b.profile
+    and numbers a.level_idx b.level_idx
+    and numbers a.tier b.tier
+    and h265_triples a.h265_profile_tier_level b.h265_profile_tier_level
+    and h266_triples a.h266_profile_tier_level b.h266_profile_tier_level
+    and numbers a.sprop_max_don_diff b.sprop_max_don_diff
+    and numbers a.telephone_event_max b.telephone_event_max
+    and flags a.octet_align b.octet_align
+    and numbers a.mode_set b.mode_set)
+
+pub codec_Decides : (a b : Codec) → Decides (same_codec a b) (a ≡ b)
+codec_Decides a b = bare_Decides codec.the_type tt a b
+
+pub spec_Decides : (a b : CodecSpec) → Decides (same_spec a b) (a ≡ b)
+spec_Decides a b =
+    Decides-like _ (λ e i. record { codec = e.0 i; clock_rate = e.1.0 i; channels = e.1.1.0 i; format = e.1.1.1 i })
+    (λ e. (λ i. (e i).codec) ⊗ (λ i. (e i).clock_rate) ⊗ (λ i. (e i).channels) ⊗ (λ i. (e i).format))
+    (codec_Decides a.codec b.codec
+    and unsigned_Decides a.clock_rate b.clock_rate
+    and numbers a.channels b.channels
+    and format_Decides a.format b.format)

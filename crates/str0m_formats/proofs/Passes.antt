@@ -1,0 +1,79 @@
+-- A pass over rows, one row a step.
+use Prim.Native.Nat.{zero, suc}
+use Rattle.std.proofs.Common.{◌≡◌, ℕ, ◌≤◌, ◌<◌, ◌⊎◌, inl, inr, List, [], ◌∷◌, ◌++◌, length, take, drop, get_or, Option, Some, None, refl, sym, ap, ◌∙◌, subst, arith}
+use Rattle.std.specs.List.{slice_get}
+use Rattle.std.proofs.lemmas.Option.{slice_get_within, same_Some}
+use Rattle.std.proofs.lemmas.List.{length_push, take-append-le}
+use Rattle.std.proofs.lemmas.Bool.{cases_order}
+
+-- at each place, the done rows before it, the row there and the new row stand in a relation
+abbrev pub EachPlace : {A : Type 0} → (List A → A → A → Type 0) → List A → List A → Type 0
+EachPlace {A} R rows done = (i : ℕ) (row new : A) → slice_get rows i ≡ Some row → slice_get done i ≡ Some new → R (take i done) row new
+
+slice_get-append_left : {A : Type 0} (xs ys : List A) (i : ℕ) → i < length xs → slice_get (xs ++ ys) i ≡ slice_get xs i
+slice_get-append_left [] ys i h = absurd (omega arith)
+slice_get-append_left (x ∷ xs) ys zero h = refl
+slice_get-append_left (x ∷ xs) ys (suc i) h = slice_get-append_left xs ys i (omega arith)
+
+slice_get-append_here : {A : Type 0} (xs : List A) (y : A) → slice_get (xs ++ y ∷ []) (length xs) ≡ Some y
+slice_get-append_here [] y = refl
+slice_get-append_here (x ∷ xs) y = slice_get-append_here xs y
+
+pub take-length_append : {A : Type 0} (xs ys : List A) → take (length xs) (xs ++ ys) ≡ xs
+take-length_append [] ys = refl
+take-length_append (x ∷ xs) ys = ap (λ zs. x ∷ zs) (take-length_append xs ys)
+
+-- a pass goes on by one row
+pub each_push : {A : Type 0} (R : List A → A → A → Type 0) (rows done : List A) (row new : A) → EachPlace R rows done → slice_get rows (length done) ≡ Some row → R done row new → EachPlace R rows (done ++ new ∷ [])
+each_push {A} R rows done row new each next here = λ i a b at_a at_b. go i a b at_a at_b (cases_order i (length done)) where
+  go : (i : ℕ) (a b : A) → slice_get rows i ≡ Some a → slice_get (done ++ new ∷ []) i ≡ Some b → (i ≡ length done) ⊎ ((i < length done) ⊎ (length done < i)) → R (take i (done ++ new ∷ [])) a b
+  go i a b at_a at_b (inl e) =
+      let same_a : row ≡ a = same_Some row a (sym next ∙ ap (slice_get rows) (sym e) ∙ at_a) in
+      let same_b : new ≡ b = same_Some new b (sym (slice_get-append_here done new) ∙ ap (slice_get (done ++ new ∷ [])) (sym e) ∙ at_b) in
+      let front : done ≡ take i (done ++ new ∷ []) = sym (ap (λ n. take n (done ++ new ∷ [])) e ∙ take-length_append done (new ∷ [])) in
+      let P : List A → Type 0 = λ d. R d a b in
+      let Q : A → Type 0 = λ x. R done x b in
+      let S : A → Type 0 = λ y. R done row y in
+      subst P front (subst Q same_a (subst S same_b here))
+  go i a b at_a at_b (inr (inl l)) =
+      let front : take i done ≡ take i (done ++ new ∷ []) = sym (take-append-le i done (new ∷ []) (omega arith)) in
+      let P : List A → Type 0 = λ d. R d a b in
+      subst P front (each i a b at_a (sym (slice_get-append_left done (new ∷ []) i l) ∙ at_b))
+  go i a b at_a at_b (inr (inr l)) = absurd (omega (arith, slice_get_within (done ++ new ∷ []) i b at_b, length_push done new))
+
+pub none_within : {A : Type 0} (xs : List A) (i : ℕ) → i < length xs → slice_get xs i ≡ None → ⊥
+none_within [] i h e = omega arith
+none_within (x ∷ xs) zero h e = cc
+none_within (x ∷ xs) (suc i) h e = none_within xs i (omega arith) e
+
+pub take_suc : {A : Type 0} (xs : List A) (n : ℕ) (x : A) → slice_get xs n ≡ Some x → take (suc n) xs ≡ take n xs ++ x ∷ []
+take_suc [] n x e = absurd (cc)
+take_suc (y ∷ xs) zero x e = ap (λ z. z ∷ []) (same_Some y x e)
+take_suc (y ∷ xs) (suc n) x e = ap (λ zs. y ∷ zs) (take_suc xs n x e)
+
+-- two passes over the same rows agree as far as the shorter goes
+pub each_same : {A : Type 0} (R : List A → A → A → Type 0) (rows xs ys : List A) → ((d : List A) (row a b : A) → R d row a → R d row b → a ≡ b) → EachPlace R rows xs → EachPlace R rows ys → length xs ≤ length rows
+    → (n : ℕ) → n ≤ length xs → n ≤ length ys → take n xs ≡ take n ys
+each_same R rows xs ys one ex ey l zero hx hy = refl
+each_same {A} R rows xs ys one ex ey l (suc n) hx hy =
+    next (each_same R rows xs ys one ex ey l n (omega arith) (omega arith)) (slice_get rows n) refl (slice_get xs n) refl (slice_get ys n) refl where
+      next : take n xs ≡ take n ys → (r : Option A) → slice_get rows n ≡ r → (a : Option A) → slice_get xs n ≡ a → (b : Option A) → slice_get ys n ≡ b → take (suc n) xs ≡ take (suc n) ys
+      next front None er a ea b eb = absurd (none_within rows n (omega arith) er)
+      next front (Some r) er None ea b eb = absurd (none_within xs n (omega arith) ea)
+      next front (Some r) er (Some a) ea None eb = absurd (none_within ys n (omega arith) eb)
+      next front (Some r) er (Some a) ea (Some b) eb =
+          let P : List A → Type 0 = λ d. R d r a in
+          let same : a ≡ b = one (take n ys) r a b (subst P front (ex n r a er ea)) (ey n r b er eb) in
+          take_suc xs n a ea ∙ ap (λ zs. zs ++ a ∷ []) front ∙ ap (λ z. take n ys ++ z ∷ []) same ∙ sym (take_suc ys n b eb)
+
+-- what the rest of a list says of the element at a place
+pub get_from_rest : {A : Type 0} (xs ys : List A) (i : ℕ) (d : A) → i < length xs → drop i xs ≡ drop i ys → slice_get ys i ≡ Some (get_or xs i d)
+get_from_rest [] ys i d h e = absurd (omega arith)
+get_from_rest (x ∷ xs) [] zero d h e = absurd (cc)
+get_from_rest (x ∷ xs) (y ∷ ys) zero d h e = cc
+get_from_rest (x ∷ xs) [] (suc i) d h e = absurd (not_empty xs i (omega arith) e) where
+  not_empty : {B : Type 0} (zs : List B) (k : ℕ) → k < length zs → drop k zs ≡ [] → ⊥
+  not_empty [] k h e = omega arith
+  not_empty (z ∷ zs) zero h e = cc
+  not_empty (z ∷ zs) (suc k) h e = not_empty zs k (omega arith) e
+get_from_rest (x ∷ xs) (y ∷ ys) (suc i) d h e = get_from_rest xs ys i d (omega arith) e

@@ -1,0 +1,125 @@
+-- What is kept of the distances given.
+use Prim.Native.Nat.{zero, suc}
+use Rattle.std.proofs.Common.{◌≡◌, ◌==◌, ◌↔◌, ◌⊎◌, inl, inr, ℕ, ◌+◌, ◌-◌, ◌<◌, ◌≤◌, Bool, true, false, ◌||◌, ◌&&◌, cond, List, [], ◌∷◌, ◌++◌, filter, All, length, take, set, refl, sym, ap, ◌∙◌, arith, add-one}
+use Rattle.std.specs.Cmp.{IsEquivalence}
+use Rattle.std.specs.List.{Contains, list_any, range_with_len}
+use Rattle.std.specs.List.Sorted.{IsStrictlyIncreasing}
+use Rattle.std.proofs.lemmas.Bool.{or_cases, or_left, or_right, and_parts, eqb-true, eq-eqb}
+use Rattle.std.proofs.lemmas.List.{append-nil, take_more_set}
+use Rattle.std.proofs.lemmas.List.Elements.{All-filter, All-from_get_or, filter-append}
+use Rattle.std.proofs.lemmas.List.FromFn.{length-range_with_len, get_or-range_with_len}
+use Rattle.std.proofs.lemmas.List.Kept.{IsStrictlyIncreasing-filter}
+use Rattle.std.proofs.lemmas.Map.Views.{list_any-from_Contains, Contains-from_any}
+use Rattle.str0m_formats.specs.RedDistances.{IsKept, AreKept, AreDistances, keeps, kept_to}
+
+range_push : (a n : ℕ) → range_with_len a (suc n) ≡ range_with_len a n ++ (a + n) ∷ []
+range_push a zero = ap (λ k. k ∷ []) (omega arith)
+range_push a (suc n) = ap (λ ks. a ∷ ks) (range_push (a + 1) n ∙ ap (λ k. range_with_len (a + 1) n ++ k ∷ []) (omega arith))
+
+-- one number more
+pub kept_more : (given : List ℕ) (n : ℕ) → kept_to (n + 1) given ≡ kept_to n given ++ cond (keeps given (n + 1)) ((n + 1) ∷ []) []
+unfolding kept_to
+kept_more given n =
+    let longer : range_with_len 1 (n + 1) ≡ range_with_len 1 n ++ (1 + n) ∷ [] = rw add-one (range_push 1 n) in
+    ap (filter (keeps given)) longer ∙ (filter-append (keeps given) (range_with_len 1 n) ((1 + n) ∷ [])
+    ∙ ap (λ k. filter (keeps given) (range_with_len 1 n) ++ filter (keeps given) (k ∷ [])) (omega arith))
+
+pub kept_taken : (given levels : List ℕ) (n count : ℕ) → keeps given (n + 1) ≡ true → count < length levels → take count levels ≡ kept_to n given → take (count + 1) (set levels count (n + 1)) ≡ kept_to (n + 1) given
+kept_taken given levels n count e l h =
+    take_more_set levels count (n + 1) l ∙ (ap (λ ks. ks ++ (n + 1) ∷ []) h ∙ sym (kept_more given n ∙ ap (λ b. kept_to n given ++ cond b ((n + 1) ∷ []) []) e))
+
+pub kept_skipped : (given levels : List ℕ) (n count : ℕ) → keeps given (n + 1) ≡ false → take count levels ≡ kept_to n given → take count levels ≡ kept_to (n + 1) given
+kept_skipped given levels n count e h =
+    h ∙ sym (kept_more given n ∙ ap (λ b. kept_to n given ++ cond b ((n + 1) ∷ []) []) e ∙ append-nil (kept_to n given))
+
+pub kept_none : (given : List ℕ) → kept_to 0 given ≡ []
+unfolding kept_to
+kept_none given = refl
+
+increasing : (n : ℕ) → IsStrictlyIncreasing (range_with_len 1 n)
+increasing n k l =
+    let len = length-range_with_len 1 n in
+    omega (arith, get_or-range_with_len 1 n k 0 (omega arith), get_or-range_with_len 1 n (k + 1) 0 (omega arith))
+
+bounded : All (λ d. d ≤ 16) (range_with_len 1 16)
+bounded = All-from_get_or (λ d. d ≤ 16) (range_with_len 1 16) 0 (λ i l. omega (arith, length-range_with_len 1 16, get_or-range_with_len 1 16 i 0 (omega (arith, length-range_with_len 1 16))))
+
+pub kept_distances : (given : List ℕ) → AreDistances (kept_to 16 given)
+unfolding kept_to
+kept_distances given = record {
+  first = (filter (keeps given) (range_with_len 2 15), refl);
+  increasing = IsStrictlyIncreasing-filter (keeps given) (range_with_len 1 16) (increasing 16);
+  bounded = All-filter (keeps given) (λ d. d ≤ 16) (range_with_len 1 16) bounded;
+}
+
+-- ---- which numbers stand there
+
+equality : IsEquivalence (λ (a b : ℕ). a == b)
+equality = record {
+  refl = λ x. eq-eqb x x refl;
+  symm = λ x y. go x y (x == y) (y == x) refl refl;
+  congr = λ x y z e. ap (λ k. k == z) (eqb-true x y e);
+}
+  where
+    go : (x y : ℕ) (b c : Bool) → (x == y) ≡ b → (y == x) ≡ c → b ≡ c
+    go x y true true h k = refl
+    go x y false false h k = refl
+    go x y true false h k = sym (eq-eqb y x (sym (eqb-true x y h))) ∙ k
+    go x y false true h k = sym h ∙ eq-eqb x y (sym (eqb-true y x k))
+
+any_filter : (p : ℕ → Bool) (d : ℕ) (xs : List ℕ) → list_any (λ x. d == x) (filter p xs) ≡ (p d && list_any (λ x. d == x) xs)
+any_filter p d [] = nothing (p d) where
+  nothing : (b : Bool) → false ≡ (b && false)
+  nothing true = refl
+  nothing false = refl
+any_filter p d (x ∷ xs) = go (p x) (d == x) refl refl (any_filter p d xs) where
+  go : (b h : Bool) → p x ≡ b → (d == x) ≡ h → list_any (λ y. d == y) (filter p xs) ≡ (p d && list_any (λ y. d == y) xs) → list_any (λ y. d == y) (cond b (x ∷ filter p xs) (filter p xs)) ≡ (p d && ((d == x) || list_any (λ y. d == y) xs))
+  go true true e i rest =
+      let mine : p d ≡ true = ap p (eqb-true d x i) ∙ e in
+      rw (i, mine) refl
+  go true false e i rest = rw i rest
+  go false true e i rest =
+      let mine : p d ≡ false = ap p (eqb-true d x i) ∙ e in
+      rest ∙ rw mine refl
+  go false false e i rest = rw i rest
+
+contains_kept : (p : ℕ → Bool) (d : ℕ) (xs : List ℕ) → Contains (filter p xs) d ↔ ((p d ≡ true) × Contains xs d)
+contains_kept p d xs = (
+  λ c. let parts = and_parts (p d) (list_any (λ x. d == x) xs) (sym (any_filter p d xs) ∙ list_any-from_Contains equality d (filter p xs) c) in (parts.0, Contains-from_any (λ x y e. eqb-true x y e) d xs parts.1),
+  λ c. Contains-from_any (λ x y e. eqb-true x y e) d (filter p xs) (any_filter p d xs ∙ both (p d) (list_any (λ x. d == x) xs) c.0 (list_any-from_Contains equality d xs c.1)),
+)
+  where
+    both : (a b : Bool) → a ≡ true → b ≡ true → (a && b) ≡ true
+    both true true h k = refl
+    both true false h k = k
+    both false b h k = h
+
+in_range : (d : ℕ) → 1 ≤ d → d ≤ 16 → Contains (range_with_len 1 16) d
+in_range d low high = (d - 1, omega (arith, length-range_with_len 1 16), get_or-range_with_len 1 16 (d - 1) d (omega arith) ∙ omega arith)
+
+of_range : (d : ℕ) → Contains (range_with_len 1 16) d → (1 ≤ d) × (d ≤ 16)
+of_range d c =
+    let inside : c.0 < 16 = omega (arith, length-range_with_len 1 16, c.1) in
+    let same : 1 + c.0 ≡ d = sym (get_or-range_with_len 1 16 c.0 d inside) ∙ c.2 in
+    (omega arith, omega arith)
+
+-- a number that passes was given, or is 1
+passed : (given : List ℕ) (d : ℕ) → keeps given d ≡ true → (1 ≤ d) × (d ≤ 16) → IsKept given d
+passed given d e r = go (or_cases (d == 1) (list_any (λ g. d == g) given) e) where
+  go : ((d == 1) ≡ true) ⊎ (list_any (λ g. d == g) given ≡ true) → IsKept given d
+  go (inl h) = inl (eqb-true d 1 h)
+  go (inr h) = inr (Contains-from_any (λ x y i. eqb-true x y i) d given h, r.0, r.1)
+
+passes : (given : List ℕ) (d : ℕ) → IsKept given d → (keeps given d ≡ true) × (1 ≤ d) × (d ≤ 16)
+passes given d (inl h) = (or_left (d == 1) (list_any (λ g. d == g) given) (eq-eqb d 1 h), omega arith, omega arith)
+passes given d (inr h) = (or_right (d == 1) (list_any (λ g. d == g) given) (list_any-from_Contains equality d given h.0), h.1, h.2)
+
+pub are_kept : (given : List ℕ) → AreKept given (kept_to 16 given)
+unfolding kept_to
+are_kept given = record {
+  each = λ d. (
+    λ c. let k = (contains_kept (keeps given) d (range_with_len 1 16)).0 c in passed given d k.0 (of_range d k.1),
+    λ k. let p = passes given d k in (contains_kept (keeps given) d (range_with_len 1 16)).1 (p.0, in_range d p.1 p.2),
+  );
+  increasing = IsStrictlyIncreasing-filter (keeps given) (range_with_len 1 16) (increasing 16);
+}

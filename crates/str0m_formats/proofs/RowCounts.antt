@@ -1,0 +1,68 @@
+-- How often a type stands among the rows that pass a test, as the rows are gone over one by one.
+use Prim.Native.Nat.{zero, suc}
+use Rattle.std.proofs.Common.{◌≡◌, ℕ, ◌+◌, ◌≤◌, Bool, true, false, cond, List, [], ◌∷◌, ◌++◌, take, drop, Option, Some, None, filter, refl, ap, ◌∙◌, arith}
+use Rattle.std.specs.List.{slice_get}
+use Rattle.std.proofs.lemmas.Option.{same_Some}
+use Rattle.std.proofs.lemmas.List.Elements.{filter-append}
+use Rattle.std.proofs.lemmas.Grind.{flat_map-append}
+use Rattle.str0m_formats.specs.declared.payload_params.PayloadParams.{PayloadParams}
+use Rattle.str0m_formats.specs.TypeSets.{times}
+use Rattle.str0m_formats.specs.Rows.{types_of, types}
+use Rattle.str0m_formats.proofs.Passes.{take_suc}
+use Rattle.str0m_formats.proofs.Times.{times-append, times-nil}
+
+pub drop_suc : {A : Type 0} (xs : List A) (i : ℕ) (x : A) → slice_get xs i ≡ Some x → drop i xs ≡ x ∷ drop (suc i) xs
+drop_suc [] i x e = absurd (cc)
+drop_suc (y ∷ xs) zero x e = ap (λ z. z ∷ xs) (same_Some y x e)
+drop_suc (y ∷ xs) (suc i) x e = drop_suc xs i x e
+
+-- with one row more, first or last
+pub times_where-cons : (test : PayloadParams → Bool) (row : PayloadParams) (rows : List PayloadParams) (t : ℕ) → times (types (filter test (row ∷ rows))) t ≡ times (cond (test row) (types_of row) []) t + times (types (filter test rows)) t
+times_where-cons test row rows t = go (test row) where
+  go : (b : Bool) → times (types (cond b (row ∷ filter test rows) (filter test rows))) t ≡ times (cond b (types_of row) []) t + times (types (filter test rows)) t
+  go true = times-append (types_of row) (types (filter test rows)) t
+  go false = omega (arith, times-nil t)
+
+pub times_where-push : (test : PayloadParams → Bool) (rows : List PayloadParams) (row : PayloadParams) (t : ℕ) → times (types (filter test (rows ++ row ∷ []))) t ≡ times (types (filter test rows)) t + times (cond (test row) (types_of row) []) t
+times_where-push test rows row t =
+    let apart : times (types (filter test (rows ++ row ∷ []))) t ≡ times (types (filter test rows) ++ types (filter test (row ∷ []))) t =
+    ap (λ xs. times (types xs) t) (filter-append test rows (row ∷ [])) ∙ ap (λ ts. times ts t) (flat_map-append types_of (filter test rows) (filter test (row ∷ []))) in
+    omega (arith, apart, times-append (types (filter test rows)) (types (filter test (row ∷ []))) t, times_where-cons test row [] t, times-nil t)
+
+-- the rows from a place on have no more
+pub times_where-drop : (test : PayloadParams → Bool) (rows : List PayloadParams) (i t : ℕ) → times (types (filter test (drop i rows))) t ≤ times (types (filter test rows)) t
+times_where-drop test rows zero t = omega arith
+times_where-drop test [] (suc i) t = omega arith
+times_where-drop test (r ∷ rows) (suc i) t = omega (arith, times_where-drop test rows i t, times_where-cons test r rows t)
+
+-- among the rows done and the rows to come
+abbrev pub Standing : (PayloadParams → Bool) → List PayloadParams → List PayloadParams → ℕ → ℕ → ℕ
+Standing test rows done i t = times (types (filter test (take i done))) t + times (types (filter test (drop i rows))) t
+
+-- what stands changes by the one row
+pub standing_step : (test : PayloadParams → Bool) (rows done : List PayloadParams) (i t : ℕ) (old new : PayloadParams) → slice_get rows i ≡ Some old → slice_get done i ≡ Some new
+    → Standing test rows done (suc i) t + times (cond (test old) (types_of old) []) t ≡ Standing test rows done i t + times (cond (test new) (types_of new) []) t
+standing_step test rows done i t old new at_old at_new =
+    let front : times (types (filter test (take (suc i) done))) t ≡ times (types (filter test (take i done))) t + times (cond (test new) (types_of new) []) t =
+    ap (λ xs. times (types (filter test xs)) t) (take_suc done i new at_new) ∙ times_where-push test (take i done) new t in
+    let back : times (types (filter test (drop i rows))) t ≡ times (cond (test old) (types_of old) []) t + times (types (filter test (drop (suc i) rows))) t =
+    ap (λ xs. times (types (filter test xs)) t) (drop_suc rows i old at_old) ∙ times_where-cons test old (drop (suc i) rows) t in
+    omega (arith, front, back)
+
+-- a list whose passing rows stand in another at their places has no more
+pub times_where-fewer : (test : PayloadParams → Bool) (rows fewer : List PayloadParams) (t : ℕ) → ((i : ℕ) (row : PayloadParams) → slice_get fewer i ≡ Some row → test row ≡ true → slice_get rows i ≡ Some row)
+    → times (types (filter test fewer)) t ≤ times (types (filter test rows)) t
+times_where-fewer test rows [] t h = omega (arith, times-nil t)
+times_where-fewer test [] (f ∷ fewer) t h = go (times_where-fewer test [] fewer t (λ i row e p. absurd (none_some (h (suc i) row e p)))) (test f) refl where
+  none_some : {row : PayloadParams} → ◌≡◌ {A = Option PayloadParams} None (Some row) → ⊥
+  none_some e = cc
+
+  go : times (types (filter test fewer)) t ≤ times (types (filter test [])) t → (b : Bool) → test f ≡ b → times (types (filter test (f ∷ fewer))) t ≤ times (types (filter test [])) t
+  go rec true e = absurd (none_some (h zero f refl e))
+  go rec false e = let skipped = ap (λ b. times (cond b (types_of f) []) t) e in omega (arith, rec, times_where-cons test f fewer t, skipped, times-nil t)
+times_where-fewer test (r ∷ rows) (f ∷ fewer) t h = go (times_where-fewer test rows fewer t (λ i row e p. h (suc i) row e p)) (test f) refl where
+  go : times (types (filter test fewer)) t ≤ times (types (filter test rows)) t → (b : Bool) → test f ≡ b → times (types (filter test (f ∷ fewer))) t ≤ times (types (filter test (r ∷ rows))) t
+  go rec true e =
+      let same = ap (λ x. times (cond (test x) (types_of x) []) t) (same_Some r f (h zero f refl e)) in
+      omega (arith, rec, times_where-cons test f fewer t, times_where-cons test r rows t, same)
+  go rec false e = let skipped = ap (λ b. times (cond b (types_of f) []) t) e in omega (arith, rec, times_where-cons test f fewer t, times_where-cons test r rows t, skipped, times-nil t)

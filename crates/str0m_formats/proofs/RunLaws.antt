@@ -1,0 +1,153 @@
+-- What holds over every list of rounds.
+use Rattle.std.proofs.Common.{◌≡◌, ◌≢◌, ◌≤◌, Bool, true, false, List, [], ◌∷◌, length, Ok, Err, refl, sym, ◌∙◌, subst, arith}
+use Rattle.std.specs.Prelude.{All}
+use Rattle.std.proofs.lemmas.Option.{same_Some}
+use Rattle.std.proofs.lemmas.List.Elements.{All-nil, All-cons, All-head, All-tail}
+use Rattle.str0m_values.specs.Direction.{receives}
+use Rattle.str0m_formats.specs.declared.negotiation_error.NegotiationError.{NegotiationError}
+use Rattle.str0m_formats.specs.declared.negotiation_error.NegotiationError.TheVariants.{TypeTooLarge, ClaimedTwice, Exhausted, Memory}
+use Rattle.str0m_formats.specs.declared.payload_params.PayloadParams.{PayloadParams}
+use Rattle.str0m_formats.specs.declared.rounds.Round.{Round}
+use Rattle.str0m_formats.specs.TypeSets.{AllDistinct}
+use Rattle.str0m_formats.specs.Rows.{AllSmall, types, locked_types}
+use Rattle.str0m_formats.specs.Rounds.{Leaves}
+use Rattle.str0m_formats.specs.Runs.{Outcome, Ran, Reached, AtEachOk}
+use Rattle.str0m_formats.specs.Promises.{AtEachRow, LockedStay, StaysLocked, TelephoneNarrows, Promises, OnlyForMemory, RunPromises}
+use Rattle.str0m_formats.proofs.WholeRound.{row_before}
+use Rattle.str0m_formats.proofs.Counting.{never_exhausted}
+use Rattle.str0m_formats.proofs.LockedStays.{stays-same, stays-then}
+use Rattle.str0m_formats.proofs.Telephone.{Narrows, narrows-same, narrows-then}
+use Rattle.str0m_formats.proofs.SmallTypes.{small-append, bounds_kept}
+use Rattle.str0m_formats.proofs.MemoryAlone.{only_for_memory}
+use Rattle.str0m_formats.proofs.Promised.{promised}
+
+-- ---- one round after another
+
+-- a refused round changes no row
+unchanged : (before remote : List PayloadParams) (dir : Bool) (cause : NegotiationError) (after : List PayloadParams) → Ran before remote dir (Err cause) after → after ≡ before
+unchanged before remote dir Memory after ran = ran
+unchanged before remote dir (TypeTooLarge t) after ran = ran.1
+unchanged before remote dir (ClaimedTwice t) after ran = ran.1
+unchanged before remote dir Exhausted after ran = ran.1
+
+-- each accepted round of a list keeps its promises
+pub promised_each : (before : List PayloadParams) (rounds : List Round) (outcomes : List Outcome) (after : List PayloadParams) → Reached before rounds outcomes after → AtEachOk Promises before rounds outcomes after
+promised_each before [] [] after h = h
+promised_each before [] (o ∷ outcomes) after h = h
+promised_each before (round ∷ rounds) [] after h = h
+promised_each before (round ∷ rounds) (Ok done ∷ outcomes) after h =
+    (h.0, promised before round.remote.items (receives round.direction) h.0 h.1, promised_each h.0 rounds outcomes after h.2)
+promised_each before (round ∷ rounds) (Err cause ∷ outcomes) after h =
+    let From : List PayloadParams → Type 0 = λ rows. AtEachOk Promises rows rounds outcomes after in
+    subst From (unchanged before round.remote.items (receives round.direction) cause h.0 h.1) (promised_each h.0 rounds outcomes after h.2)
+
+-- what holds of no rounds and of each accepted one, and goes on from one to the next, holds over a list of them
+along : (Holds : List PayloadParams → List PayloadParams → Type 0) → ((rows : List PayloadParams) → Holds rows rows) → ((a b c : List PayloadParams) → Holds a b → Holds b c → Holds a c)
+    → ((a remote : List PayloadParams) (dir : Bool) (b : List PayloadParams) → Promises a remote dir b → Holds a b)
+    → (before : List PayloadParams) (rounds : List Round) (outcomes : List Outcome) (after : List PayloadParams) → Reached before rounds outcomes after → Holds before after
+along Holds same next one before rounds outcomes after reached = go before rounds outcomes after (promised_each before rounds outcomes after reached) where
+  go : (rows : List PayloadParams) (rounds : List Round) (outcomes : List Outcome) (end : List PayloadParams) → AtEachOk Promises rows rounds outcomes end → Holds rows end
+  go rows [] [] end h = subst (Holds rows) (sym h) (same rows)
+  go rows [] (o ∷ outcomes) end h = absurd h
+  go rows (round ∷ rounds) [] end h = absurd h
+  go rows (round ∷ rounds) (Ok done ∷ outcomes) end h = next rows h.0 end (one rows round.remote.items (receives round.direction) h.0 h.1) (go h.0 rounds outcomes end h.2)
+  go rows (round ∷ rounds) (Err cause ∷ outcomes) end h = go rows rounds outcomes end h
+
+-- ---- what holds at each place
+
+-- there are as many rows, and each stands to the one at its place before
+abbrev InPlace : (PayloadParams → PayloadParams → Type 0) → List PayloadParams → List PayloadParams → Type 0
+InPlace holds before after = (length after ≡ length before) × AtEachRow holds before after
+
+module _ (holds : PayloadParams → PayloadParams → Type 0) (same : (row : PayloadParams) → holds row row) (next : (a b c : PayloadParams) → holds a b → holds b c → holds a c) where
+  in_place-same : (rows : List PayloadParams) → InPlace holds rows rows
+  in_place-same rows = (refl, λ i old new at_old at_new. subst (holds old) (same_Some old new (sym at_old ∙ at_new)) (same old))
+
+  in_place-next : (a b c : List PayloadParams) → InPlace holds a b → InPlace holds b c → InPlace holds a c
+  in_place-next a b c first second = (
+    second.0 ∙ first.0,
+    λ i old new at_old at_new.
+        let mid = row_before b c i new second.0 at_new in
+        next old mid.0 new (first.1 i old mid.0 at_old mid.1) (second.1 i mid.0 new mid.1 at_new),
+  )
+
+  along_places : ((a remote : List PayloadParams) (dir : Bool) (b : List PayloadParams) → Promises a remote dir b → AtEachRow holds a b)
+      → (before : List PayloadParams) (rounds : List Round) (outcomes : List Outcome) (after : List PayloadParams) → Reached before rounds outcomes after → InPlace holds before after
+  along_places one = along (InPlace holds) in_place-same in_place-next (λ a remote dir b p. (p.rows, one a remote dir b p))
+
+-- ---- over every list of rounds
+
+-- rows are neither lost nor added
+pub run_rows : (before : List PayloadParams) (rounds : List Round) (outcomes : List Outcome) (after : List PayloadParams) → Reached before rounds outcomes after → length after ≡ length before
+run_rows = along (λ a b. length b ≡ length a) (λ rows. refl) (λ a b c first second. second ∙ first) (λ a remote dir b p. p.rows)
+
+-- a locked row stays locked, with its types each in its role
+pub run_locked_stay : (before : List PayloadParams) (rounds : List Round) (outcomes : List Outcome) (after : List PayloadParams) → Reached before rounds outcomes after → LockedStay before after
+run_locked_stay before rounds outcomes after h =
+    (along_places (λ old new. old.locked ≡ true → StaysLocked old new) stays-same stays-then (λ a remote dir b p. p.stay) before rounds outcomes after h).1
+
+-- distinct types stay distinct
+pub run_distinct_stay : (before : List PayloadParams) (rounds : List Round) (outcomes : List Outcome) (after : List PayloadParams) → Reached before rounds outcomes after → AllDistinct (types before) → AllDistinct (types after)
+run_distinct_stay = along (λ a b. AllDistinct (types a) → AllDistinct (types b)) (λ rows d. d) (λ a b c first second d. second (first d)) (λ a remote dir b p. p.distinct)
+
+-- the maximum of a telephone row never grows
+pub run_telephone_narrows : (before : List PayloadParams) (rounds : List Round) (outcomes : List Outcome) (after : List PayloadParams) → Reached before rounds outcomes after → TelephoneNarrows before after
+run_telephone_narrows before rounds outcomes after h =
+    (along_places (λ old new. Narrows old.spec new.spec) (λ row. narrows-same row.spec) (λ a b c. narrows-then a.spec b.spec c.spec) (λ a remote dir b p. p.telephone) before rounds outcomes after h).1
+
+-- ---- why rounds are refused
+
+-- what each round tells of its outcome, by what holds of the rows before it and after it
+each_outcome : (Holds : List PayloadParams → Type 0) (May : Round → Type 0) (Tells : Outcome → Type 0)
+    → ((before : List PayloadParams) (round : Round) (outcome : Outcome) (after : List PayloadParams) → Holds before → May round → Ran before round.remote.items (receives round.direction) outcome after → Tells outcome)
+    → ((before : List PayloadParams) (round : Round) (after : List PayloadParams) → Leaves before round.remote.items (receives round.direction) after → Holds before → Holds after)
+    → (before : List PayloadParams) (rounds : List Round) (outcomes : List Outcome) (after : List PayloadParams) → Reached before rounds outcomes after → Holds before → All May rounds → All Tells outcomes
+each_outcome Holds May Tells tells keeps before rounds [] after h held may = All-nil Tells
+each_outcome Holds May Tells tells keeps before [] (o ∷ outcomes) after h held may = absurd h
+each_outcome Holds May Tells tells keeps before (round ∷ rounds) (outcome ∷ outcomes) after h held may =
+    All-cons Tells outcome outcomes (tells before round outcome h.0 held (All-head May round rounds may) h.1)
+    (each_outcome Holds May Tells tells keeps h.0 rounds outcomes after h.2 (on outcome h.1) (All-tail May round rounds may)) where
+      on : (o : Outcome) → Ran before round.remote.items (receives round.direction) o h.0 → Holds h.0
+      on (Ok done) ran = keeps before round h.0 ran held
+      on (Err cause) ran = subst Holds (sym (unchanged before round.remote.items (receives round.direction) cause h.0 ran)) held
+
+as_few : (before remote : List PayloadParams) (dir : Bool) (after : List PayloadParams) → Leaves before remote dir after → length before ≤ 14 → length after ≤ 14
+as_few before remote dir after r few = omega (arith, few, r.whole, r.first.whole)
+
+-- with at most fourteen rows no round is refused for want of a type
+pub run_never_exhausted : (before : List PayloadParams) (rounds : List Round) (outcomes : List Outcome) (after : List PayloadParams) → Reached before rounds outcomes after → length before ≤ 14 → All (λ outcome. outcome ≢ Err Exhausted) outcomes
+run_never_exhausted before rounds outcomes after h few =
+    each_outcome (λ rows. length rows ≤ 14) (λ round. Unit {0}) (λ outcome. outcome ≢ Err Exhausted) not_exhausted
+    (λ now round next r. as_few now round.remote.items (receives round.direction) next r) before rounds outcomes after h few (λ k d lt. tt) where
+      not_exhausted : (now : List PayloadParams) (round : Round) (outcome : Outcome) (next : List PayloadParams) → length now ≤ 14 → Unit {0} → Ran now round.remote.items (receives round.direction) outcome next → outcome ≢ Err Exhausted
+      not_exhausted now round outcome next few may ran e =
+          let At : Outcome → Type 0 = λ o. Ran now round.remote.items (receives round.direction) o next in
+          never_exhausted now round.remote.items (receives round.direction) few (subst At e ran).0
+
+-- if also types on both sides have seven bits, no two locked rows share one, and no remote receives, then each round that
+-- is refused is refused for memory alone
+pub run_only_for_memory : (before : List PayloadParams) (rounds : List Round) (outcomes : List Outcome) (after : List PayloadParams) → Reached before rounds outcomes after
+    → length before ≤ 14 → AllSmall (types before) → AllDistinct (locked_types before) → All (λ round. AllSmall (types round.remote.items)) rounds → All (λ round. receives round.direction ≡ false) rounds
+    → All OnlyForMemory outcomes
+run_only_for_memory before rounds outcomes after h few small distinct remotes directions =
+    each_outcome Bounded May OnlyForMemory
+    (λ now round outcome next b may ran. only_for_memory now round.remote.items (receives round.direction) outcome next b.0 (small-append (types now) (types round.remote.items) b.1 may.0, b.2) may.1 ran)
+    (λ now round next r b. let kept = bounds_kept now round.remote.items (receives round.direction) next r in (as_few now round.remote.items (receives round.direction) next r b.0, kept.0, kept.1))
+    before rounds outcomes after h (few, small, distinct) (λ k d lt. (remotes k d lt, directions k d lt)) where
+      Bounded : List PayloadParams → Type 0
+      Bounded rows = (length rows ≤ 14) × AllSmall (types rows) × AllDistinct (locked_types rows)
+
+      May : Round → Type 0
+      May round = AllSmall (types round.remote.items) × (receives round.direction ≡ false)
+
+-- all of it
+pub run_promised : (before : List PayloadParams) (rounds : List Round) (outcomes : List Outcome) (after : List PayloadParams) → Reached before rounds outcomes after → RunPromises before rounds outcomes after
+run_promised before rounds outcomes after r = record {
+  each = promised_each before rounds outcomes after r;
+  rows = run_rows before rounds outcomes after r;
+  stay = run_locked_stay before rounds outcomes after r;
+  distinct = run_distinct_stay before rounds outcomes after r;
+  telephone = run_telephone_narrows before rounds outcomes after r;
+  room = run_never_exhausted before rounds outcomes after r;
+  bounded = run_only_for_memory before rounds outcomes after r;
+}

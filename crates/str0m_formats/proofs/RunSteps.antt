@@ -1,0 +1,44 @@
+-- A run of rounds goes on by one round.
+use Rattle.std.proofs.Common.{◌≡◌, ◌≢◌, ℕ, ◌+◌, ◌<◌, Bool, Result, Ok, Err, OnOk, OnErr, IfErr, List, [], ◌∷◌, ◌++◌, length, take, set, get_or, refl, sym, ap, ◌∙◌, subst}
+use Rattle.std.proofs.lemmas.List.{take_more, take_more_set}
+use Rattle.str0m_formats.specs.declared.negotiation_error.NegotiationError.{NegotiationError}
+use Rattle.str0m_formats.specs.declared.negotiation_error.NegotiationError.TheVariants.{TypeTooLarge, ClaimedTwice, Exhausted, Memory}
+use Rattle.str0m_formats.specs.declared.payload_params.PayloadParams.{PayloadParams}
+use Rattle.str0m_formats.specs.declared.rounds.Round.{Round}
+use Rattle.str0m_formats.specs.Rounds.{Leaves, Refused}
+use Rattle.str0m_values.specs.Direction.{receives}
+use Rattle.str0m_formats.specs.Runs.{Ran, Reached}
+
+pub reached_push : (before : List PayloadParams) (rounds : List Round) (outcomes : List (Result (Unit {0}) NegotiationError)) (mid after : List PayloadParams) (round : Round) (outcome : Result (Unit {0}) NegotiationError)
+    → Reached before rounds outcomes mid → Ran mid round.remote.items (receives round.direction) outcome after → Reached before (rounds ++ round ∷ []) (outcomes ++ outcome ∷ []) after
+reached_push before [] [] mid after round outcome h r =
+    let P : List PayloadParams → Type 0 = λ m. Ran m round.remote.items (receives round.direction) outcome after in (after, subst P h r, refl)
+reached_push before [] (o ∷ outcomes) mid after round outcome h r = absurd h
+reached_push before (x ∷ rounds) [] mid after round outcome h r = absurd h
+reached_push before (x ∷ rounds) (o ∷ outcomes) mid after round outcome h r = (h.0, h.1, reached_push h.0 rounds outcomes mid after round outcome h.2 r)
+
+-- what the clauses of one round say together
+pub ran_from : (before remote after : List PayloadParams) (dir : Bool) (result : Result (Unit {0}) NegotiationError) → OnOk result (Leaves before remote dir after) → IfErr result (λ cause. cause ≢ Memory → Refused before remote dir cause) → OnErr result (after ≡ before) → Ran before remote dir result after
+ran_from before remote after dir (Ok x) ok cause err = ok
+ran_from before remote after dir (Err Memory) ok cause err = err
+ran_from before remote after dir (Err (TypeTooLarge t)) ok cause err = (cause (λ e. cc), err)
+ran_from before remote after dir (Err (ClaimedTwice t)) ok cause err = (cause (λ e. cc), err)
+ran_from before remote after dir (Err Exhausted) ok cause err = (cause (λ e. cc), err)
+
+pub reached_step : (before now after : List PayloadParams) (rounds : List Round) (outcomes : List (Result (Unit {0}) NegotiationError)) (i : ℕ) (round : Round) (outcome : Result (Unit {0}) NegotiationError)
+    → i < length rounds → i < length outcomes → round ≡ get_or rounds i round → Reached before (take i rounds) (take i outcomes) now → Ran now round.remote.items (receives round.direction) outcome after
+    → Reached before (take (i + 1) rounds) (take (i + 1) (set outcomes i outcome)) after
+reached_step before now after rounds outcomes i round outcome h k e r s =
+    let front : take i rounds ++ round ∷ [] ≡ take (i + 1) rounds = sym (take_more rounds i round h ∙ ap (λ x. take i rounds ++ x ∷ []) (sym e)) in
+    let back : take i outcomes ++ outcome ∷ [] ≡ take (i + 1) (set outcomes i outcome) = sym (take_more_set outcomes i outcome k) in
+    let P : List Round → Type 0 = λ xs. Reached before xs (take i outcomes ++ outcome ∷ []) after in
+    let Q : List (Result (Unit {0}) NegotiationError) → Type 0 = λ ys. Reached before (take (i + 1) rounds) ys after in
+    subst Q back (subst P front (reached_push before (take i rounds) (take i outcomes) now after round outcome r s))
+
+pub OnErr_map : {P Q : Type 0} (result : Result (Unit {0}) NegotiationError) → (P → Q) → OnErr result P → OnErr result Q
+OnErr_map (Ok x) f h = tt
+OnErr_map (Err e) f h = f h
+
+pub OnOk_map : {P Q : Type 0} (result : Result (Unit {0}) NegotiationError) → (P → Q) → OnOk result P → OnOk result Q
+OnOk_map (Ok x) f h = f h
+OnOk_map (Err e) f h = tt

@@ -1,0 +1,27 @@
+use Rattle.std.proofs.Common.{List, ap, ◌∙◌, subst, arith}
+use Rattle.std.proofs.lemmas.List.{length-set}
+use Rattle.str0m_formats.specs.declared.payload_params.PayloadParams.{PayloadParams}
+use Rattle.str0m_values.specs.Direction.{receives}
+use Rattle.str0m_formats.specs.declared.codec_config.CodecConfig.{CodecConfig}
+use Rattle.str0m_formats.specs.Runs.{Ran}
+use Rattle.str0m_formats.proofs.RunSteps.{ran_from, reached_step, OnErr_map}
+use Rattle.str0m_formats.proofs.codec_config.CodecConfig.run_all.Goals as goal
+
+pub loop-i-preserved : goal.loop-i-preserved
+loop-i-preserved c =
+    let with_rows : CodecConfig → CodecConfig = λ config. record config { params = c.update_params-outcome.new.self.params } in
+    let now = c.loop-i.self.params.items in
+    let after = c.update_params-outcome.new.self.params.items in
+    let round = c.index-rounds-i.result in
+    let outcome = c.update_params-outcome.result in
+    let Remote : List PayloadParams → Type 0 = λ rows. Ran now rows (receives round.direction) outcome after in
+    let ran = ran_from now c.deref.result.now after (receives round.direction) outcome c.update_params-outcome.ensures.ok c.update_params-outcome.ensures.cause
+    (OnErr_map outcome (λ e. ap (λ s. s.params.items) e) c.update_params-outcome.ensures.err) in (
+      reached_step c.args.self.now.params.items now after c.args.rounds.now c.loop-i.outcomes.items c.loop-i.i round outcome c.loop-i-test.true (omega (arith, c.loop-i.invariant.1)) c.index-rounds-i.is c.loop-i.invariant.0
+          (subst Remote c.deref.ensures.value ran),
+      length-set c.loop-i.outcomes.items c.loop-i.i outcome ∙ c.loop-i.invariant.1,
+      c.update_params-outcome.ensures.else_same ∙ ap with_rows c.loop-i.invariant.2,
+    )
+
+pub returns-clause-else_same : goal.returns-clause-else_same
+returns-clause-else_same c = c.loop-i.invariant.2

@@ -1,0 +1,45 @@
+-- The rows that a configuration takes in.
+use Rattle.std.specs.Prelude.{◌≡◌, ℕ, Bool, true, Option, Some, None, if◌then◌else◌}
+use Rattle.str0m_values.specs.H265 as h265
+use Rattle.str0m_values.specs.H266 as h266
+use Rattle.str0m_values.specs.declared.h265.H265ProfileTierLevel.{H265ProfileTierLevel}
+use Rattle.str0m_values.specs.declared.h266.H266ProfileTierLevel.{H266ProfileTierLevel}
+use Rattle.str0m_formats.specs.declared.codec.Codec.{Codec}
+use Rattle.str0m_formats.specs.declared.codec.Codec.TheVariants.{H264, H265, H266}
+use Rattle.str0m_formats.specs.declared.codec_spec.CodecSpec.{CodecSpec}
+use Rattle.str0m_formats.specs.declared.format_params.FormatParams.{FormatParams}
+use Rattle.str0m_formats.specs.FormatParams.{empty}
+use Rattle.str0m_formats.specs.declared.payload_params.PayloadParams.{PayloadParams}
+use Rattle.str0m_formats.specs.Rows.{new_row}
+
+-- a codec of pictures: at 90000 Hz, and without channels
+abbrev pub picture_spec : Codec → FormatParams → CodecSpec
+picture_spec codec format = record { codec = codec; clock_rate = 90000; channels = None; format = format }
+
+-- a row of H264, whose levels may differ in the two directions (RFC 6184, section 8.1)
+abbrev pub h264_row : ℕ → Option ℕ → Bool → ℕ → PayloadParams
+h264_row pt resend packetization_mode profile_level_id = new_row pt resend (picture_spec H264 (record empty {
+  level_asymmetry_allowed = Some true;
+  packetization_mode = Some (if packetization_mode then 1 else 0);
+  profile_level_id = Some profile_level_id;
+}))
+
+-- a row of H265 (RFC 7798, section 7.1)
+abbrev pub h265_row : ℕ → Option ℕ → H265ProfileTierLevel → PayloadParams
+h265_row pt resend triple = new_row pt resend (picture_spec H265 (record empty { h265_profile_tier_level = Some triple }))
+
+-- a row of H266 (RFC 9328, section 7.2)
+abbrev pub h266_row : ℕ → Option ℕ → H266ProfileTierLevel → PayloadParams
+h266_row pt resend triple = new_row pt resend (picture_spec H266 (record empty { h266_profile_tier_level = Some triple }))
+
+-- the value that some numbers stand for, or where they stand for none, the one that stands in
+pub record IsThatOr {A : Type 0} (P otherwise : A → Type 0) (value : A) : Type 0 where
+  pub that : (x : A) → P x → value ≡ x
+  pub stands_in : ((x : A) → ¬ (P x)) → otherwise value
+
+-- the triple of three numbers; outside the table that of a text which says nothing
+abbrev pub IsH265Triple : ℕ → ℕ → ℕ → H265ProfileTierLevel → Type 0
+IsH265Triple profile tier level = IsThatOr (h265.IsTriple profile tier level) (h265.IsTriple h265.defaults.0 h265.defaults.1 h265.defaults.2)
+
+abbrev pub IsH266Triple : ℕ → ℕ → ℕ → H266ProfileTierLevel → Type 0
+IsH266Triple profile tier level = IsThatOr (h266.IsTriple profile tier level) (h266.IsTriple h266.defaults.0 h266.defaults.1 h266.defaults.2)

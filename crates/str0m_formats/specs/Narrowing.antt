@@ -1,0 +1,77 @@
+-- What the row that a row is matched with changes in its format.
+use Rattle.std.specs.Prelude.{ℕ, Option, Some, None, unwrap_or, min, nat_lt, if◌then◌else◌}
+use Rattle.std.specs.Option.{option_or}
+use Rattle.str0m_values.specs.H265 as h265
+use Rattle.str0m_values.specs.H266 as h266
+use Rattle.str0m_values.specs.declared.h265.H265ProfileTierLevel.{H265ProfileTierLevel}
+use Rattle.str0m_values.specs.declared.h266.H266ProfileTierLevel.{H266ProfileTierLevel}
+use Rattle.str0m_formats.specs.declared.codec.Codec.{Codec}
+use Rattle.str0m_formats.specs.declared.codec.Codec.TheVariants.{Opus, PCMU, PCMA, G722, CN, AmrWb, H264, H265, H266, Vp8, Vp9, Av1, Tele, Rtx, Red, Null, Unknown}
+use Rattle.str0m_formats.specs.declared.format_params.FormatParams.{FormatParams}
+use Rattle.str0m_formats.specs.declared.codec_spec.CodecSpec.{CodecSpec}
+
+-- the highest telephone event of a format, 16 where it gives none (RFC 4733, section 2.4.1)
+abbrev pub telephone_max : FormatParams → ℕ
+telephone_max format = unwrap_or format.telephone_event_max 16
+
+-- the triple of the choice, its level the lower of both where the row has one (RFC 7798, section 7.2.2)
+abbrev pub lower_h265 : Option H265ProfileTierLevel → Option H265ProfileTierLevel → Option H265ProfileTierLevel
+lower_h265 (Some own) (Some chosen) =
+    if nat_lt (h265.level_ordinal own.level) (h265.level_ordinal chosen.level) then Some (record chosen { level = own.level }) else Some chosen
+lower_h265 None (Some chosen) = Some chosen
+lower_h265 _ None = None
+
+-- likewise of H266 (RFC 9328, section 7.3.2)
+abbrev pub lower_h266 : Option H266ProfileTierLevel → Option H266ProfileTierLevel → Option H266ProfileTierLevel
+lower_h266 (Some own) (Some chosen) =
+    if nat_lt (h266.level_ordinal own.level) (h266.level_ordinal chosen.level) then Some (record chosen { level = own.level }) else Some chosen
+lower_h266 None (Some chosen) = Some chosen
+lower_h266 _ None = None
+
+-- the profile id of the choice, which stands only where it has no triple
+abbrev pub id_beside : {Triple : Type 0} → Option Triple → Option ℕ → Option ℕ
+id_beside (Some triple) id = None
+id_beside None id = id
+
+-- the format of a row of each codec once it is matched
+abbrev pub narrowed_as : Codec → CodecSpec → CodecSpec → CodecSpec
+narrowed_as Tele own chosen = record own {
+  format = record own.format { telephone_event_max = Some (min (telephone_max own.format) (telephone_max chosen.format)) };
+}
+narrowed_as H265 own chosen = record own {
+  format = record own.format {
+    h265_profile_tier_level = lower_h265 own.format.h265_profile_tier_level chosen.format.h265_profile_tier_level;
+    profile_id = id_beside chosen.format.h265_profile_tier_level chosen.format.profile_id;
+    sprop_max_don_diff = option_or chosen.format.sprop_max_don_diff own.format.sprop_max_don_diff;
+  };
+}
+narrowed_as H266 own chosen = record own {
+  format = record own.format {
+    h266_profile_tier_level = lower_h266 own.format.h266_profile_tier_level chosen.format.h266_profile_tier_level;
+    profile_id = id_beside chosen.format.h266_profile_tier_level chosen.format.profile_id;
+    sprop_max_don_diff = option_or chosen.format.sprop_max_don_diff own.format.sprop_max_don_diff;
+  };
+}
+narrowed_as AmrWb own chosen = record own {
+  channels = chosen.channels;
+  format = record own.format {
+    octet_align = chosen.format.octet_align;
+    mode_set = option_or own.format.mode_set chosen.format.mode_set;
+  };
+}
+narrowed_as Opus own chosen = own
+narrowed_as PCMU own chosen = own
+narrowed_as PCMA own chosen = own
+narrowed_as G722 own chosen = own
+narrowed_as CN own chosen = own
+narrowed_as H264 own chosen = own
+narrowed_as Vp8 own chosen = own
+narrowed_as Vp9 own chosen = own
+narrowed_as Av1 own chosen = own
+narrowed_as Rtx own chosen = own
+narrowed_as Red own chosen = own
+narrowed_as Null own chosen = own
+narrowed_as Unknown own chosen = own
+
+unfoldable pub narrowed : CodecSpec → CodecSpec → CodecSpec
+narrowed own chosen = narrowed_as own.codec own chosen

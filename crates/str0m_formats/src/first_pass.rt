@@ -1,0 +1,98 @@
+//! The first pass of a round: each row that is matched is locked.
+ghost use Rattle.std.specs.Prelude.{◌≡◌, IfOk, IfErr, IfSome, OnOk, not, ◌&&◌, if◌then◌else◌, true};
+ghost use Rattle.str0m_formats.specs.TypeSets.{has, either};
+ghost use Rattle.str0m_formats.specs.Rows.{AllSmall, types_of, locked_types, open_types};
+ghost use Rattle.str0m_formats.specs.Rounds.{locked_to, placed, taken_by, MayBegin, Begun, StopsFirst};
+
+use crate::claimed::Claimed;
+use crate::claims::Claims;
+use crate::narrowing::narrowed_to;
+use crate::negotiation_error::NegotiationError;
+use crate::payload_params::PayloadParams;
+
+impl<C: Claimed> Claims<C> {
+    /// Locks an open row to its choice.
+    #[tactic(auto, unfolding(crate::specs::Rounds::locked_to))]
+    fn lock(
+        &mut self,
+        row: &PayloadParams,
+        choice: &PayloadParams,
+    ) -> Result<PayloadParams, NegotiationError>
+        requires row { AllSmall (types_of row.now) }
+        requires choice { AllSmall (types_of choice.now) }
+        ensures value { result
+            ≡ locked_to (C.holds self.old.claimed) (C.holds self.old.unlocked) self.old.receives row.now choice.now }
+        ensures claimed { IfOk result
+            (λ new. C.holds self.new.claimed ≡ either (C.holds self.old.claimed) (has (types_of new))) }
+        ensures locked { IfOk result (λ new. new.locked ≡ true) }
+        ensures unlocked { self.new.unlocked ≡ self.old.unlocked }
+        ensures receives { self.new.receives ≡ self.old.receives }
+    {
+        // The primary type counts as taken for the RTX, and both for the RED.
+        let pt = self.take(choice.pt, Some(row.pt))?;
+        let resend = self.take_rtx(choice.resend, row.resend)?;
+        let red = self.take_audio_red(row.spec.codec, choice.red, row.red);
+        Ok(PayloadParams {
+            pt,
+            resend,
+            red,
+            spec: narrowed_to(&row.spec, &choice.spec),
+            fb_transport_cc: row.fb_transport_cc && choice.fb_transport_cc,
+            locked: true,
+            ..*row
+        })
+    }
+
+    /// A row after the first pass, by its choice. A row that was locked keeps its types.
+    #[tactic(auto, unfolding(crate::specs::Rounds::placed))]
+    fn place(
+        &mut self,
+        row: &PayloadParams,
+        choice: Option<PayloadParams>,
+    ) -> Result<PayloadParams, NegotiationError>
+        requires row { AllSmall (types_of row.now) }
+        requires choice { IfSome choice (λ c. AllSmall (types_of c)) }
+        ensures value { result
+            ≡ placed (C.holds self.old.claimed) (C.holds self.old.unlocked) self.old.receives row.now choice }
+        ensures claimed { IfOk result
+            (λ new. C.holds self.new.claimed ≡ (if new.locked && not row.now.locked then either (C.holds self.old.claimed) (has (types_of new)) else C.holds self.old.claimed)) }
+        ensures unlocked { self.new.unlocked ≡ self.old.unlocked }
+        ensures receives { self.new.receives ≡ self.old.receives }
+    {
+        match choice {
+            None => Ok(*row),
+            Some(choice) => {
+                if row.locked {
+                    Ok(PayloadParams {
+                        spec: narrowed_to(&row.spec, &choice.spec),
+                        ..*row
+                    })
+                } else {
+                    self.lock(row, &choice)
+                }
+            }
+        }
+    }
+
+    /// Matches each row with its choice, and locks it.
+    pub(crate) fn lock_rows(
+        &mut self,
+        rows: &mut [PayloadParams],
+        remote: &[PayloadParams],
+    ) -> Result<(), NegotiationError>
+        requires may { MayBegin rows.old remote.now }
+        requires claimed { C.holds self.old.claimed ≡ has (locked_types rows.old) }
+        requires unlocked { C.holds self.old.unlocked ≡ has (open_types rows.old) }
+        ensures ok { OnOk result (Begun rows.old remote.now self.old.receives rows.new) }
+        ensures claimed { OnOk result (C.holds self.new.claimed ≡ taken_by rows.old rows.new) }
+        ensures unlocked { OnOk result (C.holds self.new.unlocked ≡ has (open_types rows.old)) }
+        ensures err { IfErr result (StopsFirst rows.old remote.now self.old.receives) }
+    {
+        for row in rows.iter_mut() {
+            let choice = self.choice(row, remote);
+            let new = self.place(row, choice)?;
+            *row = new;
+        }
+        Ok(())
+    }
+}

@@ -1,0 +1,274 @@
+//! How well two specs fit.
+ghost use Rattle.std.specs.Prelude.{◌≡◌, ◌≤◌, IfSome, option_map};
+ghost use Rattle.str0m_formats.specs.Scores.{same_flag, unless, opus_score, is_mono, mode_score, amr_wb_score, level_score, h264_named, h264_level_score, h264_score, h265_triple, h266_triple, profile_of, triple_score, profile_score, vp9_score, av1_score, format_score, codec_score, score};
+
+use crate::codec::Codec;
+use crate::codec_spec::CodecSpec;
+use crate::format_params::FormatParams;
+use str0m_values::{H264ProfileLevel, H265ProfileTierLevel, H266ProfileTierLevel};
+
+/// The score of what fits in full.
+const FULL: usize = 100;
+
+/// The score of formats of which no more than the profiles are known to be the same.
+const SAME_PROFILE: usize = 90;
+
+/// The numbers of a profile and a tier, and the place of a level among its like.
+type Triple = (u8, u8, usize);
+
+/// Whether two flags are the same, of which an absent one is false.
+fn is_same_flag(own: Option<bool>, other: Option<bool>) -> bool
+    ensures { result ≡ same_flag own other }
+{
+    own.unwrap_or(false) == other.unwrap_or(false)
+}
+
+/// What a difference costs.
+fn cost_unless(is_same: bool, cost: usize) -> usize
+    ensures cost { result ≡ unless is_same cost }
+    ensures bound { result ≤ cost }
+{
+    if is_same { 0 } else { cost }
+}
+
+fn opus_score(own: FormatParams, other: FormatParams) -> usize
+    ensures score { result ≡ opus_score own other }
+    ensures bound { result ≤ 100 }
+{
+    FULL - cost_unless(own.min_p_time == other.min_p_time, 1)
+        - cost_unless(own.use_inband_fec == other.use_inband_fec, 2)
+        - cost_unless(own.use_dtx == other.use_dtx, 4)
+        - cost_unless(is_same_flag(own.stereo, other.stereo), 8)
+        - cost_unless(is_same_flag(own.sprop_stereo, other.sprop_stereo), 8)
+}
+
+fn mode_score(own: Option<u16>, other: Option<u16>) -> Option<usize>
+    ensures score { result ≡ mode_score own other }
+    ensures bound { IfSome result (λ n. n ≤ 100) }
+{
+    match (own, other) {
+        (None, None) => Some(FULL),
+        (Some(mine), Some(theirs)) if mine != theirs => None,
+        _ => Some(FULL - 1),
+    }
+}
+
+/// Whether there is one channel, as there is where nothing is said of it.
+fn is_mono(channels: Option<u8>) -> bool
+    ensures { result ≡ is_mono channels }
+{
+    channels.unwrap_or(1) == 1
+}
+
+fn amr_wb_score(own: CodecSpec, other: CodecSpec) -> Option<usize>
+    ensures score { result ≡ amr_wb_score own other }
+    ensures bound { IfSome result (λ n. n ≤ 100) }
+{
+    if is_mono(own.channels)
+        && is_mono(other.channels)
+        && is_same_flag(own.format.octet_align, other.format.octet_align)
+    {
+        mode_score(own.format.mode_set, other.format.mode_set)
+    } else {
+        None
+    }
+}
+
+/// The score of two levels of what else is the same, by their places.
+fn level_score(is_same: bool, own: usize, other: usize) -> Option<usize>
+    ensures score { result ≡ level_score is_same own other }
+    ensures bound { IfSome result (λ n. n ≤ 100) }
+{
+    if is_same {
+        Some(FULL.saturating_sub(own.abs_diff(other)))
+    } else {
+        None
+    }
+}
+
+/// What the profile-level-id of an H264 format names.
+#[tactic(auto, unfolding(crate::specs::Scores::h264_named))]
+fn h264_level(id: Option<u32>) -> Option<H264ProfileLevel>
+    ensures { result ≡ h264_named id }
+{
+    match id {
+        None => Some(H264ProfileLevel::FALLBACK),
+        Some(id) => H264ProfileLevel::try_from(id).ok(),
+    }
+}
+
+fn h264_level_score(own: Option<H264ProfileLevel>, other: Option<H264ProfileLevel>) -> Option<usize>
+    ensures score { result ≡ h264_level_score own other }
+    ensures bound { IfSome result (λ n. n ≤ 100) }
+{
+    match (own, other) {
+        (Some(mine), Some(theirs)) => {
+            let is_same = mine.profile == theirs.profile;
+            level_score(is_same, mine.level.ordinal(), theirs.level.ordinal())
+        }
+        _ => None,
+    }
+}
+
+fn h264_score(own: FormatParams, other: FormatParams) -> Option<usize>
+    ensures score { result ≡ h264_score own other }
+    ensures bound { IfSome result (λ n. n ≤ 100) }
+{
+    if own.packetization_mode.unwrap_or(0) == other.packetization_mode.unwrap_or(0) {
+        h264_level_score(
+            h264_level(own.profile_level_id),
+            h264_level(other.profile_level_id),
+        )
+    } else {
+        None
+    }
+}
+
+fn h265_triple(triple: Option<H265ProfileTierLevel>) -> Option<Triple>
+    ensures { result ≡ option_map h265_triple triple }
+{
+    let triple = triple?;
+    Some((
+        triple.profile_id(),
+        triple.tier_flag(),
+        triple.level().ordinal(),
+    ))
+}
+
+fn h266_triple(triple: Option<H266ProfileTierLevel>) -> Option<Triple>
+    ensures { result ≡ option_map h266_triple triple }
+{
+    let triple = triple?;
+    Some((
+        triple.profile_id(),
+        triple.tier_flag(),
+        triple.level().ordinal(),
+    ))
+}
+
+/// The profile of a triple, else the last byte of a profile id, else the first profile.
+fn profile(triple: Option<Triple>, id: Option<u32>) -> u8
+    ensures { result ≡ profile_of triple id }
+{
+    match (triple, id) {
+        (Some(triple), _) => triple.0,
+        (None, Some(id)) => (id % 256) as u8,
+        (None, None) => 1,
+    }
+}
+
+fn triple_score(own: Triple, other: Triple) -> Option<usize>
+    ensures score { result ≡ triple_score own other }
+    ensures bound { IfSome result (λ n. n ≤ 100) }
+{
+    let is_same = own.0 == other.0 && own.1 == other.1;
+    level_score(is_same, own.2, other.2)
+}
+
+/// The score of what each side says of profile, tier and level: its triple and its profile id.
+fn profile_score(
+    own: Option<Triple>,
+    other: Option<Triple>,
+    own_id: Option<u32>,
+    other_id: Option<u32>,
+) -> Option<usize>
+    ensures score { result ≡ profile_score own other own_id other_id }
+    ensures bound { IfSome result (λ n. n ≤ 100) }
+{
+    match (own, other) {
+        (Some(mine), Some(theirs)) => triple_score(mine, theirs),
+        _ if profile(own, own_id) == profile(other, other_id) => Some(SAME_PROFILE),
+        _ => None,
+    }
+}
+
+fn vp9_score(own: FormatParams, other: FormatParams) -> Option<usize>
+    ensures score { result ≡ vp9_score own other }
+    ensures bound { IfSome result (λ n. n ≤ 100) }
+{
+    if own.profile_id.unwrap_or(0) == other.profile_id.unwrap_or(0) {
+        Some(FULL)
+    } else {
+        None
+    }
+}
+
+fn av1_score(own: FormatParams, other: FormatParams) -> Option<usize>
+    ensures score { result ≡ av1_score own other }
+    ensures bound { IfSome result (λ n. n ≤ 100) }
+{
+    if own.profile.unwrap_or(0) == other.profile.unwrap_or(0)
+        && own.level_idx.unwrap_or(5) == other.level_idx.unwrap_or(5)
+        && own.tier.unwrap_or(0) == other.tier.unwrap_or(0)
+    {
+        Some(FULL)
+    } else {
+        None
+    }
+}
+
+/// The score of two formats of a codec.
+fn format_score(codec: Codec, own: FormatParams, other: FormatParams) -> Option<usize>
+    ensures score { result ≡ format_score codec own other }
+    ensures bound { IfSome result (λ n. n ≤ 100) }
+{
+    match codec {
+        Codec::Opus => Some(opus_score(own, other)),
+        Codec::H264 => h264_score(own, other),
+        Codec::H265 => profile_score(
+            h265_triple(own.h265_profile_tier_level),
+            h265_triple(other.h265_profile_tier_level),
+            own.profile_id,
+            other.profile_id,
+        ),
+        Codec::H266 => profile_score(
+            h266_triple(own.h266_profile_tier_level),
+            h266_triple(other.h266_profile_tier_level),
+            own.profile_id,
+            other.profile_id,
+        ),
+        Codec::Vp9 => vp9_score(own, other),
+        Codec::Av1 => av1_score(own, other),
+        Codec::PCMU
+        | Codec::PCMA
+        | Codec::G722
+        | Codec::CN
+        | Codec::AmrWb
+        | Codec::Vp8
+        | Codec::Tele
+        | Codec::Rtx
+        | Codec::Red
+        | Codec::Null
+        | Codec::Unknown => None,
+    }
+}
+
+/// The score of two specs of one codec at the same clock rate.
+fn codec_score(own: CodecSpec, other: CodecSpec) -> Option<usize>
+    ensures score { result ≡ codec_score own.codec own other }
+    ensures bound { IfSome result (λ n. n ≤ 100) }
+{
+    match own.codec {
+        Codec::Tele => Some(FULL),
+        Codec::AmrWb => amr_wb_score(own, other),
+        codec if own.channels == other.channels => format_score(codec, own.format, other.format),
+        _ => None,
+    }
+}
+
+/// The score of two specs: the first rule that applies.
+#[tactic(auto, unfolding(crate::specs::Scores::score))]
+pub(crate) fn spec_score(own: CodecSpec, other: CodecSpec) -> Option<usize>
+    ensures score { result ≡ score own other }
+    ensures bound { IfSome result (λ n. n ≤ 100) }
+{
+    let is_same = own == other;
+    if is_same && own.codec != Codec::AmrWb {
+        return Some(FULL);
+    }
+    if own.codec == other.codec && own.clock_rate == other.clock_rate {
+        codec_score(own, other)
+    } else {
+        None
+    }
+}

@@ -1,0 +1,135 @@
+//! Rounds of negotiation, one and many.
+ghost use Rattle.std.specs.Prelude.{◌≡◌, ◌≢◌, ◌≤◌, length, false, Err, OnOk, OnErr, IfErr, IfOk};
+ghost use Rattle.str0m_values.specs.Direction.{receives};
+ghost use Rattle.str0m_formats.specs.declared.negotiation_error.NegotiationError.TheVariants.{Memory};
+ghost use Rattle.str0m_formats.specs.Rounds.{Leaves, Refused, LeavesOnly, RefusedOnly};
+ghost use Rattle.str0m_formats.specs.Promises.{Promises, RunPromises, KeepsBounds, OnlyForMemory};
+ghost use Rattle.str0m_formats.specs.Runs.{Reached};
+
+use crate::beginning::{check_types, claims_of};
+use crate::claimed::Claimed;
+use crate::claims::Claims;
+use crate::codec_config::CodecConfig;
+use crate::negotiation_error::NegotiationError;
+use crate::payload_params::PayloadParams;
+use std::alloc::AllocError;
+use str0m_values::Direction;
+
+/// What one round brings.
+#[derive(Debug, Drop)]
+pub struct Round {
+    /// The rows of the other side.
+    pub remote: Vec<PayloadParams>,
+    /// The direction that the other side describes.
+    pub direction: Direction,
+}
+
+/// One round over rows that may be left in any state where it is refused.
+fn run_round<C: Claimed>(
+    rows: &mut [PayloadParams],
+    remote: &[PayloadParams],
+    receives: bool,
+) -> Result<(), NegotiationError>
+    ensures ok { OnOk result (Leaves rows.old remote.now receives rows.new) }
+    ensures err { IfErr result (Refused rows.old remote.now receives) }
+{
+    check_types(rows, remote)?;
+    let mut claims: Claims<C> = claims_of(rows, receives)?;
+    claims.lock_rows(rows, remote)?;
+    claims.settle_rows(rows)
+}
+
+impl CodecConfig {
+    /// `update_params`, over any table of claims.
+    fn update_params_in<C: Claimed>(
+        &mut self,
+        remote: &[PayloadParams],
+        dir: Direction,
+    ) -> Result<(), NegotiationError>
+        ensures ok { OnOk result (Leaves self.old.params.items remote.now (receives dir) self.new.params.items) }
+        ensures cause { IfErr result (λ cause. cause ≢ Memory → Refused self.old.params.items remote.now (receives dir) cause) }
+        ensures alone { OnOk result (LeavesOnly self.old.params.items remote.now (receives dir) self.new.params.items) }
+        ensures one_cause { IfErr result (λ cause. cause ≢ Memory → RefusedOnly self.old.params.items remote.now (receives dir) cause) }
+        ensures room { length self.old.params.items ≤ 14 → result ≢ Err NegotiationError.Exhausted }
+        ensures else_same { self.new ≡ record self.old { params = self.new.params } }
+        ensures err { OnErr result (self.new ≡ self.old) }
+    {
+        // The room comes first, and then the causes: a round works on a copy, so that the rows are
+        // as they were where it is refused.
+        let mut rows = self.params.clone()?;
+        run_round::<C>(&mut rows, remote, dir.sdp_is_receiving())?;
+        self.params = rows;
+        Ok(())
+    }
+
+    /// One round of negotiation against the rows of the other side, whose direction is `dir` (RFC 3264).
+    ///
+    /// Each row that some remote row matches goes with the last remote row of greatest score, narrows
+    /// its format to that one's, and is locked: its payload types then never change (section 8.3.2). A
+    /// row that is newly locked has the primary and RTX types of that remote row where the other side
+    /// receives, and otherwise where they aren't taken; else its own, or else a free type. A row that
+    /// stays open keeps each type that no locked row has, and is given a free one for each other. A RED
+    /// type that can't be had is dropped.
+    ///
+    /// The types of rows that were locked before are taken, and those that the round gives. Free types
+    /// are sought in the order 96 to 127, 80 to 95, 77 to 78, 35 to 71.
+    ///
+    /// Answers, in this order and with nothing changed: `Memory`, where there was no room for a copy of
+    /// the rows; `TypeTooLarge`, where a type of this side, or else of the other, is above 127;
+    /// `ClaimedTwice`, where two roles of locked rows have one type, or where the other side receives and
+    /// demands a primary or RTX type that is taken; `Exhausted`, where no type is free for a primary or
+    /// RTX type, which can't be with fourteen rows or fewer.
+    #[tactic(auto, using(crate::proofs::RunSteps::OnOk_map, crate::proofs::RunSteps::ran_from, crate::proofs::Promised::promised, crate::proofs::MemoryAlone::only_for_memory))]
+    pub fn update_params(
+        &mut self,
+        remote: &[PayloadParams],
+        dir: Direction,
+    ) -> Result<(), NegotiationError>
+        ensures ok { OnOk result (Leaves self.old.params.items remote.now (receives dir) self.new.params.items) }
+        ensures cause { IfErr result (λ cause. cause ≢ Memory → Refused self.old.params.items remote.now (receives dir) cause) }
+        // There is one outcome: these rows alone and no cause, or this cause alone and no rows.
+        ensures alone { OnOk result (LeavesOnly self.old.params.items remote.now (receives dir) self.new.params.items) }
+        ensures one_cause { IfErr result (λ cause. cause ≢ Memory → RefusedOnly self.old.params.items remote.now (receives dir) cause) }
+        ensures room { length self.old.params.items ≤ 14 → result ≢ Err NegotiationError.Exhausted }
+        // Where few rows with types of seven bits meet a side that demands nothing, only memory can be wanting.
+        ensures bounded { length self.old.params.items ≤ 14 → KeepsBounds self.old.params.items remote.now → receives dir ≡ false → OnlyForMemory result }
+        // What holds of the rows before, the remote rows and the rows after alone.
+        ensures promises { OnOk result (Promises self.old.params.items remote.now (receives dir) self.new.params.items) }
+        ensures else_same { self.new ≡ record self.old { params = self.new.params } }
+        ensures err { OnErr result (self.new ≡ self.old) }
+    {
+        self.update_params_in::<[bool; 128]>(remote, dir)
+    }
+
+    /// `update_all`, as the run of its rounds.
+    fn run_all(&mut self, rounds: &[Round]) -> Result<Vec<Result<(), NegotiationError>>, AllocError>
+        ensures ok { IfOk result (λ outcomes. Reached self.old.params.items rounds.now outcomes.items self.new.params.items) }
+        ensures else_same { self.new ≡ record self.old { params = self.new.params } }
+        ensures err { OnErr result (self.new ≡ self.old) }
+    {
+        let alloc = *self.params.allocator();
+        let mut outcomes: Vec<Result<(), NegotiationError>> = vec![in alloc; Ok(()); rounds.len()]?;
+        for (i, round) in rounds.iter().enumerate() {
+            let outcome = self.update_params(&round.remote, round.direction);
+            outcomes[i] = outcome;
+        }
+        Ok(outcomes)
+    }
+
+    /// Runs each round in turn, whatever the others answered, and gives the outcome of each in order.
+    ///
+    /// Answers `AllocError` where there was no room for the outcomes: no round has run then, and nothing
+    /// is changed. Want of room within a round is that round's own outcome.
+    pub fn update_all(
+        &mut self,
+        rounds: &[Round],
+    ) -> Result<Vec<Result<(), NegotiationError>>, AllocError>
+        ensures ok { IfOk result (λ outcomes. Reached self.old.params.items rounds.now outcomes.items self.new.params.items) }
+        // What each accepted round promises, and what holds from the first rows to the last.
+        ensures promises { IfOk result (λ outcomes. RunPromises self.old.params.items rounds.now outcomes.items self.new.params.items) }
+        ensures else_same { self.new ≡ record self.old { params = self.new.params } }
+        ensures err { OnErr result (self.new ≡ self.old) }
+    {
+        self.run_all(rounds)
+    }
+}
