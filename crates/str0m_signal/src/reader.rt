@@ -34,7 +34,7 @@ fn sections(alloc: Global, text: &str) -> Result<(Items<MediaLine>, &str), SdpEr
     let mut sections = Vec::new(alloc);
     let mut rest = text;
     while let Some((m, after)) = section(alloc, rest)? {
-        if let Some(message) = m.check_consistent(alloc)? {
+        if let Some(message) = m.check_consistent()? {
             return Err(SdpError::ParseError(message));
         }
         sections.push(m)?;

@@ -1,0 +1,167 @@
+//! What sessions and sections say, and sections that are made of rows.
+ghost use Rattle.std.specs.Prelude.{ℕ, ◌+◌, ◌%◌, ◌^◌};
+ghost use Rattle.rand_core.specs.Steps.{stream_of, steps_u32};
+
+use crate::fault::Fault;
+use crate::samples::TEXT;
+use rand_core::utils::NextWord;
+use rand_core::{Rng, utils};
+use std::alloc::Global;
+use std::marker::Model;
+use str0m_signal::{
+    AsMediaAttrs, MediaAttribute, MediaLine, Msid, Sdp, SsrcInfo, section_of, sdp_parser,
+};
+
+/// Gives the numbers from one on.
+#[derive(Drop)]
+struct Counter(u32);
+
+impl Model for Counter {
+    ghost Value = { ℕ };
+
+    ghost view = { λ counter. counter.0 };
+}
+
+impl NextWord<u32> for Counter {
+    ghost step = { λ s. (s, (s + 1) % 2 ^ 32) };
+
+    fn next_word(&mut self) -> u32 {
+        let word = self.0;
+        self.0 = word.wrapping_add(1);
+        word
+    }
+}
+
+impl Rng for Counter {
+    ghost stream = { stream_of (steps_u32 (λ s. (s, (s + 1) % 2 ^ 32))) };
+
+    fn next_u32(&mut self) -> u32 {
+        self.next_word()
+    }
+
+    fn next_u64(&mut self) -> u64 {
+        utils::next_u64_via_u32(self)
+    }
+
+    fn fill_bytes(&mut self, dst: &mut [u8]) {
+        utils::fill_bytes_via_u32(self, dst)
+    }
+}
+
+/// Makes the call of that name and shows its answer.
+pub(crate) fn show(rt: &impl Print, alloc: Global, name: &str) -> Result<(), Fault> {
+    match name {
+        "media_line_new" => {
+            print!(rt; "{}", MediaLine::new(alloc))?;
+            Ok(())
+        }
+        "msid_random" => show_random(rt, alloc),
+        _ => {
+            let (sdp, _) = sdp_parser(alloc, TEXT)?;
+            show_said(rt, alloc, name, &sdp)
+        }
+    }
+}
+
+/// The names that are drawn, and how many words were. Where there is no room none was.
+fn show_random(rt: &impl Print, alloc: Global) -> Result<(), Fault> {
+    let mut counter = Counter(0);
+    let drawn = Msid::random(alloc, &mut counter);
+    if drawn.is_err() && counter.0 != 0 {
+        println!(rt; "words were drawn")?;
+        return Ok(());
+    }
+    println!(rt; "{} {}", drawn?, counter.0)?;
+    Ok(())
+}
+
+fn show_said(rt: &impl Print, alloc: Global, name: &str, sdp: &Sdp) -> Result<(), Fault> {
+    match name {
+        "assert_consistency" => show_faults(rt, alloc, sdp),
+        "ice_creds" => {
+            for creds in [sdp.ice_creds()?, sdp.session.ice_creds()?] {
+                println!(rt; "{creds:?}")?;
+            }
+            Ok(())
+        }
+        "fingerprint" => {
+            for print in [sdp.fingerprint()?, sdp.session.fingerprint()?] {
+                println!(rt; "{print:?}")?;
+            }
+            Ok(())
+        }
+        "ice_candidates" => {
+            for candidate in sdp.ice_candidates()? {
+                println!(rt; "{candidate}")?;
+            }
+            Ok(())
+        }
+        _ => {
+            for section in &sdp.media_lines {
+                show_section(rt, alloc, name, section)?;
+            }
+            Ok(())
+        }
+    }
+}
+
+/// What is said of the description, of its copy without a session, and of that without a group.
+fn show_faults(rt: &impl Print, alloc: Global, sdp: &Sdp) -> Result<(), Fault> {
+    if let Err(fault) = sdp.assert_consistency() {
+        println!(rt; "{fault}")?;
+    }
+    let mut other = sdp.clone()?;
+    other.session.attrs.0.clear();
+    if let Err(fault) = other.assert_consistency() {
+        println!(rt; "{fault}")?;
+    }
+    let _ = alloc;
+    Ok(())
+}
+
+fn show_section(rt: &impl Print, alloc: Global, name: &str, section: &MediaLine) -> Result<(), Fault> {
+    match name {
+        "msid" => println!(rt; "{:?}", section.msid()?)?,
+        "extmaps" => println!(rt; "{:?}", section.extmaps()?)?,
+        "rids" => println!(rt; "{:?}", section.rids()?)?,
+        "simulcast" => println!(rt; "{:?}", section.simulcast()?)?,
+        "ssrc_info" => println!(rt; "{:?}", section.ssrc_info()?)?,
+        "ssrc_info_clone" => show_copies(rt, section)?,
+        "rtp_params" => println!(rt; "{:?}", section.rtp_params()?)?,
+        "section_of" => {
+            let rows = section.rtp_params()?;
+            print!(rt; "{}", section_of(section, rows.as_slice())?)?;
+        }
+        "as_media_attrs" => show_lines(rt, alloc, section)?,
+        _ => {}
+    }
+    Ok(())
+}
+
+fn show_copies(rt: &impl Print, section: &MediaLine) -> Result<(), Fault> {
+    for info in &section.ssrc_info()? {
+        let copy: SsrcInfo = info.clone()?;
+        println!(rt; "{}", copy == *info)?;
+    }
+    Ok(())
+}
+
+/// The lines of the section's rows, behind one that must stay where a call is refused.
+fn show_lines(rt: &impl Print, alloc: Global, section: &MediaLine) -> Result<(), Fault> {
+    let rows = section.rtp_params()?;
+    let mut lines = Vec::new(alloc);
+    lines.push(MediaAttribute::RtcpMux)?;
+    for row in &rows {
+        let before = lines.len();
+        let added = row.as_media_attrs(&mut lines);
+        if added.is_err() && lines.len() != before {
+            println!(rt; "lines were left")?;
+            return Ok(());
+        }
+        added?;
+    }
+    for line in &lines {
+        print!(rt; "{line}")?;
+    }
+    Ok(())
+}
