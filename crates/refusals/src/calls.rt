@@ -201,7 +201,7 @@ fn show_offer(rt: &impl Print, alloc: Global) -> Result<(), Fault> {
 fn show_offer_text(rt: &impl Print, alloc: Global) -> Result<(), Fault> {
     let (sdp, _) = sdp_parser(alloc, TEXT)?;
     let offer = SdpOffer::from(sdp);
-    let text = offer.to_sdp_string(alloc)?;
+    let text = offer.to_sdp_string()?;
     print!(rt; "{text}")?;
     Ok(())
 }
@@ -214,7 +214,7 @@ fn show_answer(rt: &impl Print, alloc: Global) -> Result<(), Fault> {
 
 fn show_answer_text(rt: &impl Print, alloc: Global) -> Result<(), Fault> {
     let answer = SdpAnswer::from(sample(alloc)?);
-    let text = answer.to_sdp_string(alloc)?;
+    let text = answer.to_sdp_string()?;
     print!(rt; "{text}")?;
     Ok(())
 }

@@ -73,7 +73,7 @@ fn printed(alloc: Global, shown: Shown, text: &str) -> Result<String, Fault>
 {
     let offer = SdpOffer::from_sdp_string(alloc, text)?;
     match shown {
-        Shown::Text => Ok(offer.to_sdp_string(alloc)?),
+        Shown::Text => Ok(offer.to_sdp_string()?),
         Shown::Rows => Ok(rows_text(alloc, &offer)?),
     }
 }

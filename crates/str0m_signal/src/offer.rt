@@ -34,9 +34,10 @@ fn described(alloc: Global, text: &str) -> Result<Sdp, SdpError>
 }
 
 /// The printed description.
-fn printed(alloc: Global, sdp: &Sdp) -> Result<String, AllocError>
+fn printed(sdp: &Sdp) -> Result<String, AllocError>
     ensures { IfOk result (λ text. string_bytes text ≡ sdp_text sdp.now) }
 {
+    let alloc = *sdp.media_lines.allocator();
     format!(in alloc; "{sdp}")
 }
 
@@ -69,10 +70,10 @@ impl SdpOffer {
     }
 
     /// The description as a text, each line ended by CR LF.
-    pub fn to_sdp_string(&self, alloc: Global) -> Result<String, AllocError>
+    pub fn to_sdp_string(&self) -> Result<String, AllocError>
         ensures { IfOk result (λ text. string_bytes text ≡ sdp_text self.now) }
     {
-        printed(alloc, &self.0)
+        printed(&self.0)
     }
 }
 
@@ -132,10 +133,10 @@ impl SdpAnswer {
     }
 
     /// The description as a text, each line ended by CR LF.
-    pub fn to_sdp_string(&self, alloc: Global) -> Result<String, AllocError>
+    pub fn to_sdp_string(&self) -> Result<String, AllocError>
         ensures { IfOk result (λ text. string_bytes text ≡ sdp_text self.now) }
     {
-        printed(alloc, &self.0)
+        printed(&self.0)
     }
 }
 
