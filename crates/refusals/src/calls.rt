@@ -13,7 +13,7 @@ use str0m_signal::{
 use str0m_values::Items;
 
 /// The names of the calls.
-pub(crate) const NAMES: [&str; 84] = [
+pub(crate) const NAMES: [&str; 83] = [
     "session_parser",
     "session_parser_refuses",
     "sdp_parser",
@@ -40,7 +40,6 @@ pub(crate) const NAMES: [&str; 84] = [
     "rids",
     "simulcast",
     "ssrc_info",
-    "ssrc_info_clone",
     "rtp_params",
     "as_media_attrs",
     "section_of",
@@ -129,7 +128,7 @@ pub(crate) fn show(rt: &impl Print, alloc: Global, name: &str) -> Result<(), Fau
         }
         "assert_consistency" | "media_line_new" | "ice_creds" | "fingerprint"
         | "ice_candidates" | "msid" | "msid_random" | "extmaps" | "rids" | "simulcast"
-        | "ssrc_info" | "ssrc_info_clone" | "rtp_params" | "as_media_attrs" | "section_of" => {
+        | "ssrc_info" | "rtp_params" | "as_media_attrs" | "section_of" => {
             sections::show(rt, alloc, name)
         }
         _ => values::show(rt, alloc, name),

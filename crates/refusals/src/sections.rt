@@ -2,6 +2,7 @@
 ghost use Rattle.std.specs.Prelude.{ℕ, ◌+◌, ◌%◌, ◌^◌};
 ghost use Rattle.rand_core.specs.Steps.{stream_of, steps_u32};
 
+use crate::configurations::show_row;
 use crate::fault::Fault;
 use crate::samples::TEXT;
 use rand_core::utils::NextWord;
@@ -9,7 +10,7 @@ use rand_core::{Rng, utils};
 use std::alloc::Global;
 use std::marker::Model;
 use str0m_signal::{
-    AsMediaAttrs, MediaAttribute, MediaLine, Msid, Sdp, SsrcInfo, section_of, sdp_parser,
+    AsMediaAttrs, MediaAttribute, MediaLine, Msid, Sdp, section_of, sdp_parser,
 };
 
 /// Gives the numbers from one on.
@@ -77,16 +78,16 @@ fn show_random(rt: &impl Print, alloc: Global) -> Result<(), Fault> {
 
 fn show_said(rt: &impl Print, alloc: Global, name: &str, sdp: &Sdp) -> Result<(), Fault> {
     match name {
-        "assert_consistency" => show_faults(rt, alloc, sdp),
+        "assert_consistency" => show_faults(rt, sdp),
         "ice_creds" => {
-            for creds in [sdp.ice_creds()?, sdp.session.ice_creds()?] {
-                println!(rt; "{creds:?}")?;
+            if let Some(creds) = sdp.ice_creds()? {
+                println!(rt; "{} {}", creds.ufrag, creds.pass)?;
             }
             Ok(())
         }
         "fingerprint" => {
-            for print in [sdp.fingerprint()?, sdp.session.fingerprint()?] {
-                println!(rt; "{print:?}")?;
+            if let Some(print) = sdp.fingerprint()? {
+                println!(rt; "{print}")?;
             }
             Ok(())
         }
@@ -97,7 +98,7 @@ fn show_said(rt: &impl Print, alloc: Global, name: &str, sdp: &Sdp) -> Result<()
             Ok(())
         }
         _ => {
-            for section in &sdp.media_lines {
+            for section in sdp.media_lines.as_slice() {
                 show_section(rt, alloc, name, section)?;
             }
             Ok(())
@@ -105,8 +106,8 @@ fn show_said(rt: &impl Print, alloc: Global, name: &str, sdp: &Sdp) -> Result<()
     }
 }
 
-/// What is said of the description, of its copy without a session, and of that without a group.
-fn show_faults(rt: &impl Print, alloc: Global, sdp: &Sdp) -> Result<(), Fault> {
+/// What is said of the description, and of its copy without attributes of the session.
+fn show_faults(rt: &impl Print, sdp: &Sdp) -> Result<(), Fault> {
     if let Err(fault) = sdp.assert_consistency() {
         println!(rt; "{fault}")?;
     }
@@ -115,33 +116,72 @@ fn show_faults(rt: &impl Print, alloc: Global, sdp: &Sdp) -> Result<(), Fault> {
     if let Err(fault) = other.assert_consistency() {
         println!(rt; "{fault}")?;
     }
-    let _ = alloc;
     Ok(())
 }
 
-fn show_section(rt: &impl Print, alloc: Global, name: &str, section: &MediaLine) -> Result<(), Fault> {
+fn show_section(
+    rt: &impl Print,
+    alloc: Global,
+    name: &str,
+    section: &MediaLine,
+) -> Result<(), Fault> {
     match name {
-        "msid" => println!(rt; "{:?}", section.msid()?)?,
-        "extmaps" => println!(rt; "{:?}", section.extmaps()?)?,
-        "rids" => println!(rt; "{:?}", section.rids()?)?,
-        "simulcast" => println!(rt; "{:?}", section.simulcast()?)?,
-        "ssrc_info" => println!(rt; "{:?}", section.ssrc_info()?)?,
-        "ssrc_info_clone" => show_copies(rt, section)?,
-        "rtp_params" => println!(rt; "{:?}", section.rtp_params()?)?,
+        "as_media_attrs" => show_lines(rt, alloc, section),
         "section_of" => {
             let rows = section.rtp_params()?;
             print!(rt; "{}", section_of(section, rows.as_slice())?)?;
+            Ok(())
         }
-        "as_media_attrs" => show_lines(rt, alloc, section)?,
+        "rtp_params" => {
+            for row in &section.rtp_params()? {
+                show_row(rt, row)?;
+            }
+            Ok(())
+        }
+        "ssrc_info" => show_sources(rt, section),
+        _ => show_one(rt, name, section),
+    }
+}
+
+fn show_one(rt: &impl Print, name: &str, section: &MediaLine) -> Result<(), Fault> {
+    match name {
+        "msid" => {
+            if let Some(msid) = section.msid()? {
+                println!(rt; "{msid}")?;
+            }
+        }
+        "extmaps" => {
+            for (id, extension) in section.extmaps()? {
+                println!(rt; "{id} {}", extension.as_uri())?;
+            }
+        }
+        "rids" => {
+            for rid in &section.rids()? {
+                println!(rt; "{rid}")?;
+            }
+        }
+        "simulcast" => {
+            if let Some(simulcast) = section.simulcast()? {
+                println!(rt; "{} to {}", simulcast.send, simulcast.recv)?;
+            }
+        }
         _ => {}
     }
     Ok(())
 }
 
-fn show_copies(rt: &impl Print, section: &MediaLine) -> Result<(), Fault> {
+/// Copies of what is said of each source: its name, and the source that it repairs.
+fn show_sources(rt: &impl Print, section: &MediaLine) -> Result<(), Fault> {
     for info in &section.ssrc_info()? {
-        let copy: SsrcInfo = info.clone()?;
-        println!(rt; "{}", copy == *info)?;
+        let copy = info.clone()?;
+        print!(rt; "{}", copy.ssrc)?;
+        if let Some(name) = &copy.cname {
+            print!(rt; " {name}")?;
+        }
+        if let Some(repaired) = copy.repairs {
+            print!(rt; " repairs {repaired}")?;
+        }
+        println!(rt; "")?;
     }
     Ok(())
 }

@@ -74,7 +74,7 @@ pub(crate) fn rows_text(alloc: Global, sdp: &Sdp) -> Result<String, AllocError>
     ensures { IfOk result (λ text. string_bytes text ≡ rows_text sdp.now) }
 {
     let mut text = String::new(alloc);
-    for section in &sdp.media_lines {
+    for section in sdp.media_lines.as_slice() {
         append_rows(alloc, &mut text, section)?;
     }
     Ok(text)

@@ -10,6 +10,7 @@ pub mod LineLaws
 pub mod MediaLaws
 pub mod PairLaws
 pub mod PartLaws
+pub mod ReadBounds
 pub mod ReadingLaws
 pub mod RidLaws
 pub mod RtpMapLaws
