@@ -1,0 +1,24 @@
+use Rattle.std.proofs.Common.{◌≡◌, ◌++◌, Option, Some, None, option_to_list, sym, ap, ◌∙◌}
+use Rattle.std.proofs.lemmas.List.{append-nil}
+use Rattle.str0m_formats.specs.declared.payload_params.PayloadParams.{PayloadParams}
+use Rattle.str0m_formats.specs.FormatLine.{format_of_fmtp}
+use Rattle.str0m_sdp.specs.SectionRows.{lines_of}
+use Rattle.str0m_sdp.proofs.SectionRowLaws.{row_is, no_row, pushed}
+use Rattle.str0m_sdp.proofs.media_line.MediaLine.push_row.Goals as goal
+
+pub returns-in-Some : goal.returns-in-Some
+returns-in-Some c = λ say.
+    let m = c.args.self.now in
+    let pt = c.args.pt in
+    let spec = c.args.spec in
+    let read : Some c.in-Some.format ≡ format_of_fmtp spec.codec (lines_of m.attrs pt) = sym c.in-Some.is ∙ rw c.as_slice.ensures at c.in_ok-format.ensures in
+    pushed c.extend_from_slice.result c.args.rows.now.items c.extend_from_slice.new.self.items c.row_of.result _ c.extend_from_slice.ensures.items
+    (row_is m c.args.words.now pt spec c.in-Some.format say c.row_of.ensures.within read
+    ∙ ap (λ (r : PayloadParams). Some r) (sym c.row_of.ensures.row))
+
+pub returns-in-None : goal.returns-in-None
+returns-in-None c = λ say.
+    let m = c.args.self.now in
+    let rows = c.args.rows.now.items in
+    let read : None ≡ format_of_fmtp c.args.spec.codec (lines_of m.attrs c.args.pt) = sym c.in-None.is ∙ rw c.as_slice.ensures at c.in_ok-format.ensures in
+    sym (ap (λ (o : Option PayloadParams). rows ++ option_to_list o) (no_row m c.args.pt c.args.spec read) ∙ append-nil rows)
