@@ -215,15 +215,15 @@ pass_value lines i line es new inside at other h same =
 
 module _ (sources : List ℕ) (lines : List MediaAttribute) (i : ℕ) (line : MediaAttribute) (es new : List (ℕ × SsrcInfo)) (inside : i < length lines) (at : line ≡ get_or lines i line)
     (h : AreGathered (sources ++ filter_map repair_source (take i lines)) (take i lines) lines es) where
-  pub put_repair : (first second : ℕ) → repair_pair line ≡ Some (first, second) → new ≡ insert_entry nat_eq es second (record (so_far es second) { repairs = Some first })
+  pub put_repair : (pair : ℕ × ℕ) → repair_pair line ≡ Some pair → new ≡ insert_entry nat_eq es pair.1 (record (so_far es pair.1) { repairs = Some pair.0 })
       → AreGathered (sources ++ filter_map repair_source (take (i + 1) lines)) (take (i + 1) lines) lines new
-  put_repair first second is put =
+  put_repair pair is put =
       let done = take i lines in
-      let set : new ≡ insert_entry nat_eq es second (record (info_from done lines second) { repairs = Some first }) = put ∙ ap (λ info. insert_entry nat_eq es second (record info { repairs = Some first })) (h.said second) in
-      let more : (sources ++ filter_map repair_source done) ++ second ∷ [] ≡ sources ++ filter_map repair_source (done ++ line ∷ []) = append_assoc sources (filter_map repair_source done) (second ∷ []) ∙ ap (λ l. sources ++ l) (chosen repair_source done line (Some second) (ap (option_map (λ pair. pair.1)) is)) in
+      let set : new ≡ insert_entry nat_eq es pair.1 (record (info_from done lines pair.1) { repairs = Some pair.0 }) = put ∙ ap (λ info. insert_entry nat_eq es pair.1 (record info { repairs = Some pair.0 })) (h.said pair.1) in
+      let more : (sources ++ filter_map repair_source done) ++ pair.1 ∷ [] ≡ sources ++ filter_map repair_source (done ++ line ∷ []) = append_assoc sources (filter_map repair_source done) (pair.1 ∷ []) ∙ ap (λ l. sources ++ l) (chosen repair_source done line (Some pair.1) (ap (option_map (λ pair. pair.1)) is)) in
       subst (λ l. AreGathered (sources ++ filter_map repair_source l) l lines new) (sym (taken lines i line inside at))
       (subst (λ l. AreGathered l (done ++ line ∷ []) lines new) more
-      (gathered_put _ done lines (done ++ line ∷ []) lines es new second _ h set (one_group done lines line first second is)))
+      (gathered_put _ done lines (done ++ line ∷ []) lines es new pair.1 _ h set (one_group done lines line pair.0 pair.1 is)))
 
   pub pass_repair : repair_pair line ≡ None → new ≡ es → AreGathered (sources ++ filter_map repair_source (take (i + 1) lines)) (take (i + 1) lines) lines new
   pass_repair none same =

@@ -1,5 +1,5 @@
 -- The candidates of a whole description, each once.
-use Rattle.std.specs.Prelude.{◌≡◌, ◌≢◌, ◌↔◌, List, map}
+use Rattle.std.specs.Prelude.{◌≢◌, ◌↔◌, List, map}
 use Rattle.std.specs.List.{AllPairs, Contains}
 use Rattle.str0m_values.specs.declared.candidate.Candidate.{Candidate}
 use Rattle.str0m_sdp.specs.declared.distinct_candidates.DistinctCandidates.{DistinctCandidates}

@@ -4,6 +4,7 @@ use Rattle.str0m_formats.specs.Rows.{AllSmall, types_of}
 use Rattle.str0m_formats.specs.declared.format_param.FormatParam.{FormatParam}
 use Rattle.str0m_formats.specs.declared.format_param.FormatParam.TheVariants.{ModeSet, SpropMaxDonDiff}
 use Rattle.str0m_formats.specs.declared.payload_params.PayloadParams.{PayloadParams}
+use Rattle.str0m_sdp.specs.SectionRows.{rows}
 use Rattle.str0m_sdp.specs.declared.attribute.MediaAttribute.{MediaAttribute}
 use Rattle.str0m_sdp.specs.declared.attribute.MediaAttribute.TheVariants.{RtpMap, Fmtp}
 use Rattle.str0m_sdp.specs.declared.media_line.MediaLine.{MediaLine}
@@ -36,3 +37,7 @@ KeepsToLine _ = Unit {0}
 
 abbrev pub KeepsToLines : MediaLine → Type 0
 KeepsToLines m = All KeepsToLine m.attrs
+
+-- each row that the section describes is so
+abbrev pub HasBoundedRows : MediaLine → Type 0
+HasBoundedRows m = All IsBounded (rows m)

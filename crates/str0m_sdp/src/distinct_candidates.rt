@@ -35,7 +35,8 @@ impl Sdp {
     ghost use Rattle.str0m_sdp.specs.DistinctCandidates.{distinct_left, IsEachOnce};
 
     /// Each candidate that the session or a section lists, once, in order of first appearance: those
-    /// of the session before those of the sections (RFC 8839, section 5.1).
+    /// of the session before those of the sections (RFC 8839, section 5.1). `AllocError` where memory
+    /// is refused.
     pub fn ice_candidates(&self) -> Result<DistinctCandidates<'_>, AllocError>
         ensures distinct { IfOk result (λ candidates. distinct_left candidates ≡ distinct same_candidate (all_candidates self.now)) }
         ensures once { IfOk result (λ candidates. IsEachOnce (all_candidates self.now) (distinct_left candidates)) }

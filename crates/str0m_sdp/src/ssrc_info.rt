@@ -1,5 +1,5 @@
 //! The sources of a section.
-ghost use Rattle.std.specs.Prelude.{◌≡◌, ◌++◌, [], nat_eq, Some, IfOk, OnOk, option_copied};
+ghost use Rattle.std.specs.Prelude.{◌≡◌, ◌++◌, [], nat_eq, Some, IfOk, OnOk};
 ghost use Rattle.std.specs.List.{filter_map};
 ghost use Rattle.std.specs.Map.{values_of};
 ghost use Rattle.indexmap.specs.IndexMap.{insert_entry};
@@ -20,8 +20,11 @@ pub struct SsrcInfo {
     pub ssrc: Ssrc,
     /// The source whose packets this one sends again.
     pub repairs: Option<Ssrc>,
+    /// The name of the endpoint that sends it (RFC 5576, section 6.1).
     pub cname: Option<Text>,
+    /// The id of its stream (RFC 8830, section 2).
     pub stream_id: Option<Text>,
+    /// The id of its track in the stream.
     pub track_id: Option<Text>,
 }
 
@@ -84,7 +87,6 @@ impl SsrcInfo {
 
 /// Source 0, of which nothing is said.
 impl Default for SsrcInfo {
-
     ghost is_default = { λ info. info ≡ empty_info 0 };
 
     fn default() -> SsrcInfo {
@@ -127,8 +129,8 @@ fn take_info(infos: &mut IndexMap<Ssrc, SsrcInfo>, ssrc: Ssrc) -> Result<SsrcInf
 /// Adds what the value of an `Ssrc` attribute says.
 #[tactic(auto, using(crate::proofs::SsrcLaws::insert_twice))]
 fn add_value(
-    infos: &mut IndexMap<Ssrc, SsrcInfo>,
     alloc: Global,
+    infos: &mut IndexMap<Ssrc, SsrcInfo>,
     ssrc: Ssrc,
     name: &str,
     value: &str,
@@ -157,10 +159,7 @@ fn add_repair(
 }
 
 /// The values of the entries, in order.
-fn values(
-    alloc: Global,
-    infos: IndexMap<Ssrc, SsrcInfo>,
-) -> Result<Vec<SsrcInfo>, AllocError>
+fn values(alloc: Global, infos: IndexMap<Ssrc, SsrcInfo>) -> Result<Vec<SsrcInfo>, AllocError>
     ensures { IfOk result (λ list. list.items ≡ values_of infos.entries) }
 {
     infos.into_values().collect(alloc)
@@ -176,7 +175,7 @@ impl MediaLine {
         let mut infos = IndexMap::new(alloc);
         for line in self.attrs.as_slice() {
             if let MediaAttribute::Ssrc { ssrc, attr, value } = line {
-                add_value(&mut infos, alloc, *ssrc, attr.as_str(), value.as_str())?;
+                add_value(alloc, &mut infos, *ssrc, attr.as_str(), value.as_str())?;
             }
         }
         Ok(infos)
@@ -202,7 +201,8 @@ impl MediaLine {
     /// that of its track; white space at their ends is left out, and `-` stands for none (RFC 8830,
     /// section 2). A group `FID` of two sources says that the second repairs the first; a second one
     /// without an entry gets one at the end. Where two attributes say the same of a source, the later
-    /// one holds. Names are compared without regard to the case of ASCII letters.
+    /// one holds. Names are compared without regard to the case of ASCII letters. `AllocError` where
+    /// memory is refused.
     #[tactic(auto, using(crate::proofs::SsrcLaws::gathered_infos))]
     pub fn ssrc_info(&self) -> Result<Vec<SsrcInfo>, AllocError>
         ensures { IfOk result (λ list. list.items ≡ infos self.now.attrs) }

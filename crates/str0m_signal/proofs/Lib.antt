@@ -1,5 +1,6 @@
 pub mod AnswerLaws
 pub mod BareLaws
+pub mod BoundLaws
 pub mod CandidateLineLaws
 pub mod ChainLaws
 pub mod FingerprintLineLaws
@@ -10,7 +11,6 @@ pub mod LineLaws
 pub mod MediaLaws
 pub mod PairLaws
 pub mod PartLaws
-pub mod ReadBounds
 pub mod ReadingLaws
 pub mod RidLaws
 pub mod RtpMapLaws

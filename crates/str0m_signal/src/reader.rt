@@ -1,6 +1,7 @@
 //! The readers of whole texts and of single lines.
 
-ghost use Rattle.std.specs.Prelude.{◌≡◌, IfOk};
+ghost use Rattle.std.specs.Prelude.{◌≡◌, All, IfOk};
+ghost use Rattle.str0m_sdp.specs.RowBounds.{HasBoundedRows};
 ghost use Rattle.str0m_signal.specs.Answers.{Answers, AtMostOne, IsRefusal, unread};
 ghost use Rattle.str0m_signal.specs.Lines.{FirstLine};
 ghost use Rattle.str0m_signal.specs.LineReading.{lines_of, left};
@@ -92,6 +93,9 @@ pub fn session_parser(alloc: Global, text: &str) -> Result<(Session, &str), SdpE
 pub fn sdp_parser(alloc: Global, text: &str) -> Result<(Sdp, &str), SdpError>
     ensures read { Answers unread result (Reading text.now) }
     ensures one { AtMostOne (Reading text.now) }
+
+    // The rows of its sections have types of seven bits, and modes and distances in their ranges.
+    ensures bounded { IfOk result (λ read. All HasBoundedRows read.0.media_lines) }
 {
     read_sdp(alloc, text)
 }

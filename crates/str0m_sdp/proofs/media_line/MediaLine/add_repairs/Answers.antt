@@ -1,4 +1,4 @@
-use Rattle.std.proofs.Common.{Some, ap, sym, ◌∙◌}
+use Rattle.std.proofs.Common.{ap, sym, ◌∙◌}
 use Rattle.std.specs.List.{filter_map}
 use Rattle.str0m_sdp.specs.SsrcInfo.{source_of}
 use Rattle.str0m_sdp.proofs.SsrcLaws.{put_repair, pass_repair}
@@ -11,7 +11,7 @@ loop-line-preserved c =
     elim c.match-repair_pair.branch [
       | in-Some+in_ok-add_repair w ↦
           put_repair (filter_map source_of lines) lines c.loop-line.line-index c.line-item.result c.loop-line.infos.entries c.match-repair_pair.infos.entries c.loop-line-test.true c.line-item.is c.loop-line.invariant
-          w.in-Some.repaired w.in-Some.repairing (sym w.in-Some.ensures ∙ (λ i. Some (w.in-Some.repaired-is i, w.in-Some.repairing-is i))) (ap (λ infos. infos.entries) w.infos-is ∙ w.in_ok-add_repair.ensures)
+          _ (sym w.in-Some.ensures) (ap (λ infos. infos.entries) w.infos-is ∙ w.in_ok-add_repair.ensures)
       | in_default w ↦
           pass_repair (filter_map source_of lines) lines c.loop-line.line-index c.line-item.result c.loop-line.infos.entries c.match-repair_pair.infos.entries c.loop-line-test.true c.line-item.is c.loop-line.invariant
           (sym w.in_default.ensures) (ap (λ infos. infos.entries) w.infos-is)

@@ -1,8 +1,7 @@
-use Rattle.std.proofs.Common.{◌≡◌, sym, subst}
+use Rattle.std.proofs.Common.{sym, subst}
 use Rattle.std.specs.Cmp.{decided}
 use Rattle.str0m_sdp.specs.Candidates.{section_candidates, all_candidates, same_candidate}
-use Rattle.str0m_sdp.specs.DistinctCandidates.{distinct_left, IsEachOnce}
-use Rattle.str0m_sdp.specs.Lists.{distinct}
+use Rattle.str0m_sdp.specs.DistinctCandidates.{IsEachOnce}
 use Rattle.str0m_sdp.proofs.CandidateEqual.{candidate_Decides}
 use Rattle.str0m_sdp.proofs.DistinctLaws.{all_put, each_once}
 use Rattle.str0m_sdp.proofs.session.Sdp.ice_candidates.Goals as goal
