@@ -47,10 +47,7 @@ fn an_offer_and_an_answer_print_alike(rt: HostRuntime) -> Result<(), Fail> {
 #[test]
 fn display_prints_what_to_sdp_string_answers(rt: HostRuntime) -> Result<(), Fail> {
     let offer = SdpOffer::from_sdp_string(rt.alloc(), OPUS)?;
-    let (text, shown) = (
-        offer.to_sdp_string()?,
-        offer.to_string(rt.alloc())?,
-    );
+    let (text, shown) = (offer.to_sdp_string()?, offer.to_string(rt.alloc())?);
     assert_eq!(rt; shown.as_str(), text.as_str());
     let answer = SdpAnswer::from_sdp_string(rt.alloc(), OPUS)?;
     let shown = answer.to_string(rt.alloc())?;

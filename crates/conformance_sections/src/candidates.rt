@@ -5,7 +5,9 @@ use std::alloc::Global;
 use std::test::Fail;
 
 const X: &str = "a=candidate:1 1 udp 1 192.0.2.1 1 typ host\r\n";
+
 const Y: &str = "a=candidate:2 1 udp 1 192.0.2.1 1 typ host\r\n";
+
 const Z: &str = "a=candidate:3 1 udp 1 192.0.2.1 1 typ host\r\n";
 
 /// The foundations of the candidates of a session with these lines, each with a bar behind it.
@@ -62,7 +64,10 @@ fn each_candidate_is_given_once(rt: HostRuntime) -> Result<(), Fail> {
     for (lines, answer) in [
         (format!(in alloc; "{m}0\r\n")?, ""),
         (format!(in alloc; "{X}{Y}{m}0\r\n{Y}{Z}")?, "1|2|3|"),
-        (format!(in alloc; "{m}0\r\n{Z}{X}{m}1\r\n{Y}{X}{Z}")?, "3|1|2|"),
+        (
+            format!(in alloc; "{m}0\r\n{Z}{X}{m}1\r\n{Y}{X}{Z}")?,
+            "3|1|2|",
+        ),
         (format!(in alloc; "{Y}{Y}{m}0\r\n{X}")?, "2|1|"),
     ] {
         let found = of_description(alloc, lines.as_str())?;

@@ -1,9 +1,7 @@
 //! What values are before anything is said.
 
 use std::test::Fail;
-use str0m_signal::{
-    Direction, MediaLine, MediaType, Proto, RestrictionId, Setup, Ssrc, SsrcInfo,
-};
+use str0m_signal::{Direction, MediaLine, MediaType, Proto, RestrictionId, Setup, Ssrc, SsrcInfo};
 
 #[test]
 fn types_begin_as_sound_over_rtp(rt: HostRuntime) -> Result<(), Fail> {

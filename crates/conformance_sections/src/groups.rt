@@ -43,18 +43,46 @@ const DESCRIPTIONS: [(&str, &str, &str); 15] = [
     ("a=group:BUNDLE 0\r\n", "0", ""),
     ("a=group:BUNDLE 0 1\r\n", "0 1", ""),
     ("a=group:LS 1\r\na=group:BUNDLE 1\r\n", "1", ""),
-    ("a=group:BUNDLE 1 0\r\n", "0 1", "Mid order not matching a=group 0 != 1"),
-    ("a=group:BUNDLE 0 2\r\n", "0 1", "Mid order not matching a=group 1 != 2"),
+    (
+        "a=group:BUNDLE 1 0\r\n",
+        "0 1",
+        "Mid order not matching a=group 0 != 1",
+    ),
+    (
+        "a=group:BUNDLE 0 2\r\n",
+        "0 1",
+        "Mid order not matching a=group 1 != 2",
+    ),
     ("a=group:BUNDLE 0\r\n", "0 -1", ""),
     ("a=group:BUNDLE 0 1\r\n", "0 -1", ""),
     ("a=group:BUNDLE\r\n", "-0 -1", ""),
-    ("a=group:BUNDLE\r\n", "0", "a=group mid count doesn't match m-line count 0 != 1"),
-    ("a=group:BUNDLE 0 1\r\n", "0", "a=group mid count doesn't match m-line count 2 != 1"),
+    (
+        "a=group:BUNDLE\r\n",
+        "0",
+        "a=group mid count doesn't match m-line count 0 != 1",
+    ),
+    (
+        "a=group:BUNDLE 0 1\r\n",
+        "0",
+        "a=group mid count doesn't match m-line count 2 != 1",
+    ),
     ("", "0", "Session attribute a=group missing"),
     ("a=x\r\n", "0", "Session attribute a=group missing"),
-    ("a=group:BUNDLE 0 0\r\n", "0 0", "Mid 0 is used by more than one m-line"),
-    ("a=group:BUNDLE 0 1 1 0\r\n", "0 1 1 0", "Mid 0 is used by more than one m-line"),
-    ("a=group:BUNDLE 2 1 0 1\r\n", "2 1 0 -1", "Mid 1 is used by more than one m-line"),
+    (
+        "a=group:BUNDLE 0 0\r\n",
+        "0 0",
+        "Mid 0 is used by more than one m-line",
+    ),
+    (
+        "a=group:BUNDLE 0 1 1 0\r\n",
+        "0 1 1 0",
+        "Mid 0 is used by more than one m-line",
+    ),
+    (
+        "a=group:BUNDLE 2 1 0 1\r\n",
+        "2 1 0 -1",
+        "Mid 1 is used by more than one m-line",
+    ),
 ];
 
 #[test]
@@ -63,7 +91,11 @@ fn the_first_group_names_the_sections(rt: HostRuntime) -> Result<(), Fail> {
     for (groups, mids, message) in DESCRIPTIONS {
         let lines = lines(alloc, groups, mids)?;
         let said = description(alloc, lines.as_str())?.assert_consistency();
-        assert_eq!(rt; fault(alloc, said)?.as_str(), message, "{groups:?} {mids:?}");
+        assert_eq!(rt;
+            fault(alloc, said)?.as_str(),
+            message,
+            "{groups:?} {mids:?}"
+        );
     }
     Ok(())
 }

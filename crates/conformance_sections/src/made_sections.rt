@@ -5,7 +5,7 @@ use std::alloc::Global;
 use std::test::Fail;
 use str0m_signal::{
     AsMediaAttrs, Codec, CodecConfig, CodecSpec, FormatParams, Frequency, MediaAttribute,
-    MediaLine, PayloadParams, Pt, SdpOffer, section_of, sdp_parser,
+    MediaLine, PayloadParams, Pt, SdpOffer, sdp_parser, section_of,
 };
 
 /// A section of sound with a mid and a direction.
@@ -14,7 +14,8 @@ fn frame(alloc: Global) -> Result<MediaLine, Fail> {
 }
 
 /// What a section of one Opus row with a RED prints.
-const OPUS: &str = "m=audio 9 UDP/TLS/RTP/SAVPF 111 63\r\nc=IN IP4 0.0.0.0\r\na=mid:0\r\na=sendrecv\r\na=rtpmap:111 opus/48000/2\r\na=rtcp-fb:111 transport-cc\r\na=fmtp:111 minptime=10;useinbandfec=1\r\na=rtpmap:63 red/48000/2\r\na=fmtp:63 111/111\r\n";
+const OPUS: &str =
+    "m=audio 9 UDP/TLS/RTP/SAVPF 111 63\r\nc=IN IP4 0.0.0.0\r\na=mid:0\r\na=sendrecv\r\na=rtpmap:111 opus/48000/2\r\na=rtcp-fb:111 transport-cc\r\na=fmtp:111 minptime=10;useinbandfec=1\r\na=rtpmap:63 red/48000/2\r\na=fmtp:63 111/111\r\n";
 
 /// Whether a section of the rows prints as this text, and reads back as the same rows.
 fn prints_and_reads(alloc: Global, rows: &[PayloadParams], text: &str) -> Result<bool, Fail> {
@@ -100,7 +101,9 @@ fn the_lines_of_a_telephone_row(rt: HostRuntime) -> Result<(), Fail> {
         let mut row = PayloadParams::new(Pt::from(101), None, spec);
         row.set_fb_transport_cc(false);
         let found = lines(alloc, row)?;
-        let answer = format!(in alloc; "a=rtpmap:101 telephone-event/8000\r\na=fmtp:101 {range}\r\n")?;
+        let answer = format!(in alloc;
+            "a=rtpmap:101 telephone-event/8000\r\na=fmtp:101 {range}\r\n"
+        )?;
         assert_eq!(rt; found.as_str(), answer.as_str());
     }
     Ok(())
@@ -110,7 +113,9 @@ fn the_lines_of_a_telephone_row(rt: HostRuntime) -> Result<(), Fail> {
 #[test]
 fn the_lines_of_a_row_of_g722(rt: HostRuntime) -> Result<(), Fail> {
     let spec = plain(Codec::G722, Frequency::SIXTEEN_KHZ, Some(2));
-    let mut row = PayloadParams::new(Pt::from(9), Some(Pt::from(98)), spec).with_red(Some(Pt::from(62)));
+    let mut row = PayloadParams::new(Pt::from(9), Some(Pt::from(98)), spec).with_red(Some(Pt::from(
+        62,
+    )));
     row.set_fb_transport_cc(false);
     let found = lines(rt.alloc(), row)?;
     assert_eq!(rt;

@@ -85,8 +85,14 @@ fn a_section_may_say_nothing(rt: HostRuntime) -> Result<(), Fail> {
 fn a_section_prefers_fingerprints(rt: HostRuntime) -> Result<(), Fail> {
     let alloc = rt.alloc();
     for (lines, answer) in [
-        ("a=fingerprint:md5 01\r\na=fingerprint:sha-256 02\r\na=fingerprint:sha-256 03\r\n", "sha-256 02"),
-        ("a=fingerprint:sha-1 01\r\na=fingerprint:md5 02\r\n", "sha-1 01"),
+        (
+            "a=fingerprint:md5 01\r\na=fingerprint:sha-256 02\r\na=fingerprint:sha-256 03\r\n",
+            "sha-256 02",
+        ),
+        (
+            "a=fingerprint:sha-1 01\r\na=fingerprint:md5 02\r\n",
+            "sha-1 01",
+        ),
     ] {
         let found = hash(alloc, section(alloc, lines)?.fingerprint()?)?;
         assert_eq!(rt; found.as_str(), answer, "{lines:?}");
@@ -101,7 +107,10 @@ fn lists_keep_their_order(rt: HostRuntime) -> Result<(), Fail> {
         alloc,
         "a=extmap:4 urn:b\r\na=rid:hi send\r\na=extmap:2/sendonly urn:a more\r\na=rid:lo recv pt=96\r\na=extmap:4 urn:b\r\na=rid:a234567890123456789 send\r\n",
     )?;
-    assert_eq!(rt; extensions(alloc, &said)?.as_str(), "4 urn:b|2 urn:a|4 urn:b|");
+    assert_eq!(rt;
+        extensions(alloc, &said)?.as_str(),
+        "4 urn:b|2 urn:a|4 urn:b|"
+    );
     assert_eq!(rt; names(alloc, &said)?.as_str(), "hi|lo|a234567890123456|");
     Ok(())
 }
@@ -112,7 +121,10 @@ fn the_last_simulcast_counts(rt: HostRuntime) -> Result<(), Fail> {
     let alloc = rt.alloc();
     for (lines, answer) in [
         ("a=simulcast:send hi;lo\r\n", "hi;lo to "),
-        ("a=simulcast:send hi\r\na=simulcast:recv ~lo send a\r\n", "a to ~lo"),
+        (
+            "a=simulcast:send hi\r\na=simulcast:recv ~lo send a\r\n",
+            "a to ~lo",
+        ),
     ] {
         let found = layers(alloc, &section(alloc, lines)?)?;
         assert_eq!(rt; found.as_str(), answer, "{lines:?}");

@@ -3,10 +3,11 @@
 use crate::texts::{description, or_dash, session};
 use std::alloc::Global;
 use std::test::Fail;
-use str0m_signal::{IceCreds, Fingerprint, Setup};
+use str0m_signal::{Fingerprint, IceCreds, Setup};
 
 /// Two sections of data, of which the second has everything that a section may have.
-const SECTIONS: &str = "m=application 9 UDP/DTLS/SCTP x\r\na=mid:0\r\nm=application 9 UDP/DTLS/SCTP x\r\na=mid:1\r\na=ice-ufrag:u\r\na=ice-pwd:p\r\na=fingerprint:sha-1 0A\r\na=setup:passive\r\na=sctp-init:AQ==\r\n";
+const SECTIONS: &str =
+    "m=application 9 UDP/DTLS/SCTP x\r\na=mid:0\r\nm=application 9 UDP/DTLS/SCTP x\r\na=mid:1\r\na=ice-ufrag:u\r\na=ice-pwd:p\r\na=fingerprint:sha-1 0A\r\na=setup:passive\r\na=sctp-init:AQ==\r\n";
 
 /// The first group is of another kind.
 const GROUPS: &str = "a=group:LS 0\r\na=group:bundle 2\r\na=group:BUNDLE 1\r\na=group:BUNDLE 3\r\n";
@@ -47,7 +48,10 @@ fn credentials_need_both_parts(rt: HostRuntime) -> Result<(), Fail> {
         ("a=ice-ufrag:u\r\n", "-"),
         ("a=ice-pwd:p\r\n", "-"),
         ("a=ice-pwd:p\r\na=ice-ufrag:u\r\n", "u p"),
-        ("a=ice-ufrag:u\r\na=ice-ufrag:v\r\na=ice-pwd:p\r\na=ice-pwd:q\r\n", "u p"),
+        (
+            "a=ice-ufrag:u\r\na=ice-ufrag:v\r\na=ice-pwd:p\r\na=ice-pwd:q\r\n",
+            "u p",
+        ),
     ] {
         let found = credentials(alloc, session(alloc, lines)?.ice_creds()?)?;
         assert_eq!(rt; found.as_str(), answer, "{lines:?}");
@@ -61,8 +65,14 @@ fn the_first_preferred_fingerprint_counts(rt: HostRuntime) -> Result<(), Fail> {
     let alloc = rt.alloc();
     for (lines, answer) in [
         ("", "-"),
-        ("a=fingerprint:sha-512 01\r\na=fingerprint:md5 02\r\n", "sha-512 01"),
-        ("a=fingerprint:md5 01\r\na=fingerprint:sha-1 02\r\na=fingerprint:SHA-1 03\r\n", "sha-1 02"),
+        (
+            "a=fingerprint:sha-512 01\r\na=fingerprint:md5 02\r\n",
+            "sha-512 01",
+        ),
+        (
+            "a=fingerprint:md5 01\r\na=fingerprint:sha-1 02\r\na=fingerprint:SHA-1 03\r\n",
+            "sha-1 02",
+        ),
         (
             "a=fingerprint:sha-1 01\r\na=fingerprint:SHA-256 0B\r\na=fingerprint:sha-256 0C\r\n",
             "SHA-256 0B",
@@ -131,7 +141,10 @@ fn the_first_data_section_has_the_init(rt: HostRuntime) -> Result<(), Fail> {
     let alloc = rt.alloc();
     for (lines, answer) in [
         ("", "-"),
-        ("m=application 9 UDP/DTLS/SCTP x\r\na=mid:0\r\na=sctp-init:AQ==\r\na=sctp-init:Ag==\r\n", "AQ=="),
+        (
+            "m=application 9 UDP/DTLS/SCTP x\r\na=mid:0\r\na=sctp-init:AQ==\r\na=sctp-init:Ag==\r\n",
+            "AQ==",
+        ),
         (
             "m=audio 0 UDP/TLS/RTP/SAVPF 0\r\na=mid:0\r\na=sendrecv\r\na=sctp-init:x\r\nm=application 9 UDP/DTLS/SCTP x\r\na=mid:1\r\na=sctp-init:AQ==\r\n",
             "AQ==",

@@ -15,7 +15,11 @@ fn shown(text: &Option<Text>) -> &str {
 /// One source: its number, the one that it repairs (0 for none), and its names.
 fn one(alloc: Global, info: &SsrcInfo) -> Result<String, AllocError> {
     let repairs = info.repairs.map_or(0, |ssrc| *ssrc);
-    let (name, stream, track) = (shown(&info.cname), shown(&info.stream_id), shown(&info.track_id));
+    let (name, stream, track) = (
+        shown(&info.cname),
+        shown(&info.stream_id),
+        shown(&info.track_id),
+    );
     format!(in alloc; "{} {repairs} {name} {stream} {track}|", info.ssrc)
 }
 
@@ -43,7 +47,10 @@ const SOURCES: [(&str, &str); 12] = [
     ("a=ssrc:1 msid:s\r\n", "1 0 none s none|"),
     ("a=ssrc:1 msid:s t u\r\n", "1 0 none s t|"),
     ("a=ssrc:1 msid:s t\r\na=ssrc:1 msid:v\r\n", "1 0 none v t|"),
-    ("a=ssrc:1 msid:s t\r\na=ssrc:1 msid:- -\r\n", "1 0 none none none|"),
+    (
+        "a=ssrc:1 msid:s t\r\na=ssrc:1 msid:- -\r\n",
+        "1 0 none none none|",
+    ),
     ("a=ssrc:1 msid:\t-\t \tt\t\r\n", "1 0 none none t|"),
     (
         "a=ssrc-group:fid 1 2 3\r\na=ssrc-group:fid 1\r\na=ssrc-group:SIM 1 2\r\na=ssrc:1 x:y\r\n",

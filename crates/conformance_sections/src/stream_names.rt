@@ -61,7 +61,14 @@ fn random_names_spell_the_words_of_the_generator(rt: HostRuntime) -> Result<(), 
 /// An id of `-` says that there is no stream, whatever white space stands around it.
 #[test]
 fn no_stream_is_a_dash(rt: HostRuntime) -> Result<(), Fail> {
-    for (id, answer) in [("-", true), (" -\t", true), ("", false), ("--", false), ("- -", false), ("a", false)] {
+    for (id, answer) in [
+        ("-", true),
+        (" -\t", true),
+        ("", false),
+        ("--", false),
+        ("- -", false),
+        ("a", false),
+    ] {
         assert_eq!(rt; is_no_stream(id), answer, "{id:?}");
     }
     Ok(())

@@ -3,8 +3,8 @@
 use std::alloc::{AllocError, Global};
 use std::test::Fail;
 use str0m_signal::{
-    Items, MediaAttribute, MediaLine, PayloadParams, Sdp, SdpError, Session,
-    media_attribute_line, sdp_parser, session_parser,
+    Items, MediaAttribute, MediaLine, PayloadParams, Sdp, SdpError, Session, media_attribute_line,
+    sdp_parser, session_parser,
 };
 
 /// A header with nothing that may be left out.
@@ -49,9 +49,18 @@ pub(crate) fn or_dash(text: Option<&str>) -> &str {
 /// A row's types (RTX and RED in brackets), mapping, format and feedback, as tests show them.
 pub(crate) fn shown(alloc: Global, row: PayloadParams) -> Result<String, AllocError> {
     let spec = row.spec();
-    let (resend, red) = (number(alloc, row.resend().map(|pt| pt.value()))?, number(alloc, row.red().map(|pt| pt.value()))?);
+    let (resend, red) = (
+        number(alloc, row.resend().map(|pt| pt.value()))?,
+        number(alloc, row.red().map(|pt| pt.value()))?,
+    );
     let channels = number(alloc, spec.channels)?;
-    format!(in alloc; "{} {resend} {red} {}/{}/{channels} {}", row.pt(), spec.codec, spec.clock_rate, spec.format)
+    format!(in alloc;
+        "{} {resend} {red} {}/{}/{channels} {}",
+        row.pt(),
+        spec.codec,
+        spec.clock_rate,
+        spec.format
+    )
 }
 
 /// A number that may be missing.

@@ -126,11 +126,20 @@ pub(crate) fn show(rt: &impl Print, alloc: Global, name: &str) -> Result<(), Fau
         _ if name.starts_with("add_") || name.starts_with("enable_") => {
             configurations::show(rt, alloc, name)
         }
-        "assert_consistency" | "media_line_new" | "ice_creds" | "fingerprint"
-        | "ice_candidates" | "msid" | "msid_random" | "extmaps" | "rids" | "simulcast"
-        | "ssrc_info" | "rtp_params" | "as_media_attrs" | "section_of" => {
-            sections::show(rt, alloc, name)
-        }
+        "assert_consistency"
+        | "media_line_new"
+        | "ice_creds"
+        | "fingerprint"
+        | "ice_candidates"
+        | "msid"
+        | "msid_random"
+        | "extmaps"
+        | "rids"
+        | "simulcast"
+        | "ssrc_info"
+        | "rtp_params"
+        | "as_media_attrs"
+        | "section_of" => { sections::show(rt, alloc, name) }
         _ => values::show(rt, alloc, name),
     }
 }

@@ -9,9 +9,7 @@ use rand_core::utils::NextWord;
 use rand_core::{Rng, utils};
 use std::alloc::Global;
 use std::marker::Model;
-use str0m_signal::{
-    AsMediaAttrs, MediaAttribute, MediaLine, Msid, Sdp, section_of, sdp_parser,
-};
+use str0m_signal::{AsMediaAttrs, MediaAttribute, MediaLine, Msid, Sdp, sdp_parser, section_of};
 
 /// Gives the numbers from one on.
 #[derive(Drop)]

@@ -1,7 +1,8 @@
 -- What a run of the program shows.
-use Rattle.std.specs.Prelude.{◌≡◌, ℕ, List, [], ◌∷◌, Option, Some, None, IfSome, codes, if◌then◌else◌, bytes_eq}
+use Rattle.std.specs.Prelude.{◌≡◌, ℕ, List, [], ◌∷◌, Option, Some, None, IfSome, codes, if◌then◌else◌}
+use Rattle.std.specs.Str.{bytes_eq}
 use Rattle.str0m_sdp.specs.declared.session.Sdp.{Sdp}
-use Rattle.str0m_signal.specs.Session.{sdp_text}
+use Rattle.str0m_sdp.specs.Session.{sdp_text}
 use Rattle.str0m_signal.specs.Reading.{Described}
 use Rattle.sdpshow.specs.RowLines.{rows_text}
 use Rattle.sdpshow.specs.declared.run.Shown.{Shown}

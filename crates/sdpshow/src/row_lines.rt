@@ -1,7 +1,7 @@
 //! The lines of `sdpshow rows`.
-ghost use Rattle.std.specs.Prelude.{◌≡◌, ◌++◌, IfOk, OnOk, Some, flat_map, option_map};
+ghost use Rattle.std.specs.Prelude.{◌≡◌, ◌++◌, IfOk, OnOk, Some};
 ghost use Rattle.std.specs.String.{string_bytes};
-ghost use Rattle.sdpshow.specs.RowLines.{or_dash, type_text, row_line, section_lines, rows_text};
+ghost use Rattle.sdpshow.specs.RowLines.{or_dash, type_text, mid_text, line_text, row_line, section_lines, rows_text};
 
 use std::alloc::{AllocError, Global};
 use std::fmt;
@@ -29,20 +29,37 @@ fn or_dash(text: &str) -> &str
     if text.is_empty() { "-" } else { text }
 }
 
-/// The line of a row in the section of this mid.
+/// A row in the section of a mid, with what its format says.
+#[derive(Drop)]
+struct RowLine<'a> {
+    mid: &'a str,
+    row: &'a PayloadParams,
+    format: &'a str,
+}
+
+impl<'a> fmt::Display for RowLine<'a> {
+    ghost output = { λ line. Some (line_text line.mid.now line.row.now line.format.now) };
+
+    fn fmt<W: fmt::Write>(&self, f: &mut fmt::Formatter<W>) -> fmt::Result {
+        let (mid, row, format) = (self.mid, self.row, self.format);
+        let (pt, resend, red) = (row.pt(), TypeOrDash(row.resend()), TypeOrDash(row.red()));
+        let spec = row.spec();
+        let map = RtpMap {
+            codec: spec.codec,
+            clock_rate: spec.clock_rate,
+            channels: spec.channels,
+        };
+        write!(f, "{mid} {pt} {resend} {red} {map} {format}\n")
+    }
+}
+
 fn row_line(alloc: Global, mid: &str, row: &PayloadParams) -> Result<String, AllocError>
     ensures { IfOk result (λ line. string_bytes line ≡ row_line mid.now row.now) }
 {
-    let spec = row.spec();
-    let (pt, resend, red) = (row.pt(), TypeOrDash(row.resend()), TypeOrDash(row.red()));
-    let map = RtpMap {
-        codec: spec.codec,
-        clock_rate: spec.clock_rate,
-        channels: spec.channels,
-    };
-    let format = spec.format.to_string(alloc)?;
+    let format = row.spec().format.to_string(alloc)?;
     let format = or_dash(format.as_str());
-    format!(in alloc; "{mid} {pt} {resend} {red} {map} {format}\n")
+    let line = RowLine { mid, row, format };
+    line.to_string(alloc)
 }
 
 /// Appends the lines of a section's rows.

@@ -2,7 +2,7 @@
 ghost use Rattle.std.specs.Prelude.{◌≡◌, ◌↔◌, ◌⊎◌, ℕ, List, None, IfOk, IfSome, OnOk, OnErr, map};
 ghost use Rattle.std.specs.String.{string_bytes};
 ghost use Rattle.std.specs.Io.KnownBytes.{Appends, IsAtEnd};
-ghost use Rattle.sdpshow.specs.Show.{asked, Prints, Shows, ShowsAsked, Describes};
+ghost use Rattle.sdpshow.specs.Show.{asked, asked_by, Prints, Shows, ShowsAsked, Describes};
 
 use crate::fault::Fault;
 use crate::row_lines::rows_text;
@@ -35,16 +35,23 @@ enum Shown {
     Rows,
 }
 
-/// What the words ask for: `text` or `rows`, alone and exactly so.
+/// What a word asks for: `text` or `rows`, exactly so written.
+fn asked_by(word: &str) -> Option<Shown>
+    ensures { result ≡ asked_by word.now }
+{
+    match word {
+        "text" => Some(Shown::Text),
+        "rows" => Some(Shown::Rows),
+        _ => None,
+    }
+}
+
+/// What the words ask for: that one word alone.
 fn asked(words: &[String]) -> Option<Shown>
     ensures { result ≡ asked (map string_bytes words.now) }
 {
     match words {
-        [word] => match word.as_str() {
-            "text" => Some(Shown::Text),
-            "rows" => Some(Shown::Rows),
-            _ => None,
-        },
+        [word] => asked_by(word.as_str()),
         _ => None,
     }
 }

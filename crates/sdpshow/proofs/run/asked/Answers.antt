@@ -1,6 +1,6 @@
-use Rattle.std.proofs.Common.{◌≡◌, ◌<◌, ◌≤◌, ◌↔◌, ℕ, List, [], ◌∷◌, IsTrue, length, get_or, codes, ap, sym, arith, rules}
-use Rattle.std.specs.String.{string_bytes}
-use Rattle.sdpshow.proofs.run.ask_for_text.Goals as goal
+use Rattle.std.proofs.Common.{◌≡◌, ◌<◌, ◌≤◌, List, [], ◌∷◌, length, get_or, ap, sym, ◌∙◌, arith}
+use Rattle.sdpshow.specs.Show.{asked_by}
+use Rattle.sdpshow.proofs.run.asked.Goals as goal
 
 -- a list of one item
 alone : {A : Type 0} (xs : List A) (x : A) → 1 ≤ length xs → length xs < 2 → x ≡ get_or xs 0 x → xs ≡ x ∷ []
@@ -11,5 +11,4 @@ alone (y ∷ z ∷ zs) x some few is = absurd (omega (arith, few))
 pub returns-in-len1 : goal.returns-in-len1
 returns-in-len1 c =
     let only = alone c.args.words.now c.word-item.result c.in-len1.len_at_least c.in-len1.len_below c.word-item.is in
-    let same : IsTrue c.eq.result ↔ (string_bytes c.word-item.result ≡ codes "text") = search rules in
-    rw only (λ is. ap (λ word. word ∷ []) (same.0 is), λ is. same.1 (ap (λ words. get_or words 0 []) is))
+    rw only (c.asked_by.ensures ∙ ap asked_by c.as_str.ensures.value)

@@ -1,8 +1,7 @@
-use Rattle.std.proofs.Common.{◌≡◌, ℕ, List, Result, Ok, Err, OnOk, OnErr, inr}
+use Rattle.std.proofs.Common.{Result, Ok, Err, OnErr, inr}
 use Rattle.std.specs.String.{string_bytes}
 use Rattle.std.proofs.lemmas.Result.{on_ok_weaker}
-use Rattle.sdpshow.specs.Show.{Prints, Shows, Describes}
-use Rattle.sdpshow.proofs.run.show_text.Goals as goal
+use Rattle.sdpshow.proofs.run.show.Goals as goal
 
 -- what holds in any case holds on an error
 on_err : {T E P : Type 0} (r : Result T E) → P → OnErr r P
@@ -18,4 +17,4 @@ returns-clause-shown g c =
 pub returns-clause-refused : goal.returns-clause-refused
 returns-clause-refused g c =
     let prints = rw c.as_str.ensures.value at c.in_ok-printed.ensures in
-    on_err c.write_whole.result (inr (string_bytes c.in_ok-printed.printed, (string_bytes c.in_ok-text.text, c.in_ok-text.ensures.whole, prints)))
+    on_err c.write_whole.result (inr (string_bytes c.in_ok-text.text, c.in_ok-text.ensures.whole, (prints.0, prints.1)))
