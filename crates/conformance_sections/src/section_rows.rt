@@ -3,7 +3,8 @@
 use crate::texts::{description, section, shown};
 use std::alloc::Global;
 use std::test::Fail;
-use str0m_signal::{Codec, CodecSpec, Frequency, MediaLine, PayloadParams, RtpMap};
+use str0m_sdp::RtpMap;
+use str0m_signal::{Codec, CodecSpec, Frequency, MediaLine};
 
 fn rows(alloc: Global, said: &MediaLine) -> Result<String, Fail> {
     let mut all = String::new(alloc);

@@ -5,6 +5,7 @@ pub mod DistinctLaws
 pub mod FeedbackLaws
 pub mod FilterMapLaws
 pub mod Finding
+pub mod FmtpLineLaws
 pub mod Holders
 pub mod ListLaws
 pub mod MappingLaws

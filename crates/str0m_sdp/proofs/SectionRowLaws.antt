@@ -1,10 +1,7 @@
 -- The row of a type, as tables tell it.
 use Rattle.std.proofs.Common.{◌≡◌, ◌<◌, ◌++◌, ℕ, List, [], ◌∷◌, Option, Some, None, Result, Ok, Err, OnOk, is_ok, option_map, option_to_list, if◌then◌else◌, refl, sym, ap, ◌∙◌}
-use Rattle.std.specs.Borrow.{Bor}
-use Rattle.std.proofs.lemmas.List.{map-append}
-use Rattle.str0m_formats.specs.FormatLine.{format_of_fmtp, line_values}
+use Rattle.str0m_formats.specs.FormatLine.{format_of_fmtp}
 use Rattle.str0m_formats.specs.declared.codec_spec.CodecSpec.{CodecSpec}
-use Rattle.str0m_formats.specs.declared.format_param.FormatParam.{FormatParam}
 use Rattle.str0m_formats.specs.declared.format_params.FormatParams.{FormatParams}
 use Rattle.str0m_formats.specs.declared.payload_params.PayloadParams.{PayloadParams}
 use Rattle.str0m_sdp.specs.SectionRows.{lines_of, row, row_with}
@@ -29,10 +26,6 @@ row_is m words pt spec format say small is =
 pub no_row : (m : MediaLine) (pt : ℕ) (spec : CodecSpec) → None ≡ format_of_fmtp spec.codec (lines_of m.attrs pt) → row m (pt, spec) ≡ None
 unfolding row
 no_row m pt spec is = ap (λ (o : Option FormatParams). option_map (row_with m pt spec) o) (sym is)
-
--- a line more, without where it lies in memory
-pub line_more : (lines : List (Bor (List FormatParam))) (line : Bor (List FormatParam)) → line_values (lines ++ line ∷ []) ≡ line_values lines ++ line.now ∷ []
-line_more lines line = map-append (λ (l : Bor (List FormatParam)). l.now) lines (line ∷ [])
 
 -- what is pushed where a row is there
 pub pushed : {X E : Type 0} (r : Result (Unit {0}) E) (before after : List X) (x : X) (o : Option X)

@@ -1,5 +1,6 @@
--- What the attributes of a section say of each type, as tables.
-use Rattle.std.specs.Prelude.{◌≡◌, ◌<◌, ℕ, None, get_or, if◌then◌else◌}
+-- What a section says of each type, as tables.
+use Rattle.std.specs.Prelude.{◌≡◌, ◌==◌, ◌<◌, ℕ, false, None, get_or, if◌then◌else◌}
+use Rattle.std.specs.List.{list_any}
 use Rattle.str0m_formats.specs.Codec.{content}
 use Rattle.str0m_formats.specs.KindRows.{has_sound}
 use Rattle.str0m_formats.specs.Rows.{new_row}
@@ -22,6 +23,7 @@ row_of words pt spec =
 
 -- the tables say what the section says
 pub record SayOf (m : MediaLine) (words : TypeWords) : Type 0 where
+  pub in_m_line : (pt : ℕ) → pt < 256 → get_or words.in_m_line pt false ≡ list_any (λ n. n == pt) m.pts
   pub rtx : (pt : ℕ) → pt < 256 → get_or words.rtx pt None ≡ companion Rtx (mapped m) m.attrs pt
   pub red : (pt : ℕ) → pt < 256 → get_or words.red pt None ≡ companion Red (mapped m) m.attrs pt
   pub feedback : (pt : ℕ) → pt < 256 → get_or words.feedback pt none ≡ feedback_of m.attrs pt

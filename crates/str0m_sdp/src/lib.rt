@@ -13,6 +13,7 @@ mod ext_map;
 mod fault;
 mod feedback;
 mod fmtp;
+mod fmtp_lines;
 mod group;
 mod made_section;
 mod mappings;

@@ -1,26 +1,28 @@
 //! The rows that a section describes.
-ghost use Rattle.std.specs.Prelude.{◌≡◌, ◌==◌, ◌<◌, ◌++◌, All, IfOk, OnOk, option_map, option_to_list};
-ghost use Rattle.std.specs.List.{list_any};
+ghost use Rattle.std.specs.Prelude.{◌≡◌, ◌<◌, ◌++◌, All, IfOk, OnOk, option_to_list};
 ghost use Rattle.str0m_formats.specs.Choices.{has_events};
 ghost use Rattle.str0m_formats.specs.Codec.{content};
 ghost use Rattle.str0m_formats.specs.KindRows.{has_sound};
 ghost use Rattle.str0m_formats.specs.Rows.{has_pictures};
-ghost use Rattle.str0m_formats.specs.FormatLine.{format_of_fmtp};
+ghost use Rattle.str0m_formats.specs.FormatLine.{line_values};
 ghost use Rattle.str0m_sdp.specs.RowBounds.{IsBounded, KeepsToLines};
-ghost use Rattle.str0m_sdp.specs.SectionRows.{values_in, lines_of, is_kept, row, rows};
+ghost use Rattle.str0m_sdp.specs.SectionRows.{lines_of, is_kept, row, rows};
+ghost use Rattle.str0m_sdp.specs.declared.media_line.MediaLine.{MediaLine};
 
-use crate::attribute::MediaAttribute;
 use crate::companions::companions;
 use crate::feedback::{Feedback, feedback_of};
+use crate::fmtp_lines::fmtp_lines;
 use crate::media_line::MediaLine;
-use crate::type_tables::row;
-use std::alloc::{AllocError, Global};
+use crate::type_tables::{row, types_in};
+use std::alloc::AllocError;
 use str0m_formats::{Codec, CodecSpec, FormatParam, FormatParams, PayloadParams};
 use str0m_values::Pt;
 
-/// What the attributes of a section say of each payload type.
+/// What a section says of each payload type.
 #[derive(Drop)]
 struct TypeWords {
+    /// Whether the type stands in the m-line.
+    in_m_line: [bool; 256],
     /// The types of retransmissions and of redundant audio.
     rtx: [Option<Pt>; 256],
     red: [Option<Pt>; 256],
@@ -28,7 +30,7 @@ struct TypeWords {
 }
 
 impl TypeWords {
-    ghost use Rattle.str0m_sdp.specs.TypeWords.{row_of};
+    ghost use Rattle.str0m_sdp.specs.TypeWords.{row_of, SayOf};
 
     /// The row of a type.
     fn row_of(&self, pt: Pt, spec: CodecSpec) -> PayloadParams
@@ -43,6 +45,34 @@ impl TypeWords {
         };
         let params = PayloadParams::new(pt, self.rtx[row], spec).with_red(red);
         self.feedback[row].switched_on(params)
+    }
+
+    /// Whether the type has a row.
+    fn is_kept(&self, pt: Pt, spec: CodecSpec) -> bool
+        ensures { (m : MediaLine) → SayOf m self.now → result ≡ is_kept m (pt, spec) }
+    {
+        let codec = spec.codec;
+        is_sound(codec) || is_pictures(codec) || (is_events(codec) && self.in_m_line[row(pt)])
+    }
+
+    /// One more row, where the type has one, by the values of its fmtp lines.
+    fn push_row(
+        &self,
+        rows: &mut Vec<PayloadParams>,
+        lines: &[&[FormatParam]],
+        pt: Pt,
+        spec: CodecSpec,
+    ) -> Result<(), AllocError>
+        ensures { (m : MediaLine) → SayOf m self.now → line_values lines.now ≡ lines_of m.attrs pt →
+            OnOk result (rows.new.items ≡ rows.old.items ++ option_to_list (row m (pt, spec))) }
+    {
+        match FormatParams::from_sdp_fmtp(spec.codec, lines) {
+            Some(format) => {
+                let spec = CodecSpec { format, ..spec };
+                rows.extend_from_slice(&[self.row_of(pt, spec)])
+            }
+            None => Ok(()),
+        }
     }
 }
 
@@ -64,82 +94,20 @@ fn is_events(codec: Codec) -> bool
     codec.is_tele()
 }
 
-/// The values of an fmtp line of the type.
-fn values_in(attr: &MediaAttribute, pt: Pt) -> Option<&[FormatParam]>
-    ensures { option_map (λ values. values.now) result ≡ values_in pt attr.now }
-{
-    match attr {
-        MediaAttribute::Fmtp { pt: own, values } if *own == pt => Some(values.as_slice()),
-        _ => None,
-    }
-}
-
-/// The format that the fmtp lines of a type say of its codec.
-fn format_of(
-    alloc: Global,
-    attrs: &[MediaAttribute],
-    pt: Pt,
-    codec: Codec,
-) -> Result<Option<FormatParams>, AllocError>
-    ensures { IfOk result (λ format. format ≡ format_of_fmtp codec (lines_of attrs.now pt)) }
-{
-    let mut lines = Vec::new(alloc);
-    for attr in attrs {
-        if let Some(values) = values_in(attr, pt) {
-            lines.push(values)?;
-        }
-    }
-    Ok(FormatParams::from_sdp_fmtp(codec, lines.as_slice()))
-}
-
 impl MediaLine {
     ghost use Rattle.str0m_sdp.specs.Mappings.{mapped};
     ghost use Rattle.str0m_sdp.specs.TypeWords.{SayOf};
 
-    /// Whether the type stands in the m-line.
-    fn names_type(&self, pt: Pt) -> bool
-        ensures { result ≡ list_any (λ n. n == pt) self.now.pts }
-    {
-        self.pts.as_slice().iter().any(|other| *other == pt)
-    }
-
-    /// Whether the type has a row.
-    fn is_kept(&self, pt: Pt, spec: CodecSpec) -> bool
-        ensures { result ≡ is_kept self.now (pt, spec) }
-    {
-        let codec = spec.codec;
-        is_sound(codec) || is_pictures(codec) || (is_events(codec) && self.names_type(pt))
-    }
-
-    /// What the attributes say of each payload type, by the mapped types.
+    /// What the section says of each payload type, by the mapped types.
     fn type_words(&self, types: &[(Pt, CodecSpec)]) -> TypeWords
         ensures { types.now ≡ mapped self.now → SayOf self.now result }
     {
         let attrs = self.attrs.as_slice();
         TypeWords {
+            in_m_line: types_in(self.pts.as_slice()),
             rtx: companions(Codec::Rtx, types, attrs),
             red: companions(Codec::Red, types, attrs),
             feedback: feedback_of(attrs),
-        }
-    }
-
-    /// One more row, where the type has one.
-    fn push_row(
-        &self,
-        rows: &mut Vec<PayloadParams>,
-        words: &TypeWords,
-        pt: Pt,
-        spec: CodecSpec,
-    ) -> Result<(), AllocError>
-        ensures { SayOf self.now words.now → OnOk result (rows.new.items ≡ rows.old.items ++ option_to_list (row self.now (pt, spec))) }
-    {
-        let alloc = *self.attrs.allocator();
-        match format_of(alloc, self.attrs.as_slice(), pt, spec.codec)? {
-            Some(format) => {
-                let spec = CodecSpec { format, ..spec };
-                rows.extend_from_slice(&[words.row_of(pt, spec)])
-            }
-            None => Ok(()),
         }
     }
 
@@ -163,12 +131,15 @@ impl MediaLine {
         // Types of seven bits and parameters in their ranges give rows of such.
         ensures bounded { KeepsToLines self.now → IfOk result (λ params. All IsBounded params.items) }
     {
+        let alloc = *self.attrs.allocator();
         let mapped = self.mapped()?;
         let words = self.type_words(mapped.as_slice());
-        let mut rows = Vec::new(*self.attrs.allocator());
+        let lines = fmtp_lines(alloc, self.attrs.as_slice())?;
+        let mut rows = Vec::new(alloc);
         for (pt, spec) in mapped.as_slice() {
-            if self.is_kept(*pt, *spec) {
-                self.push_row(&mut rows, &words, *pt, *spec)?;
+            if words.is_kept(*pt, *spec) {
+                let lines = lines[row(*pt)].as_slice();
+                words.push_row(&mut rows, lines, *pt, *spec)?;
             }
         }
         Ok(rows)
