@@ -25,11 +25,10 @@ pub(crate) fn session(alloc: Global, lines: &str) -> Result<Session, SdpError> {
 /// What each of these lines stands for.
 fn attributes(alloc: Global, lines: &str) -> Result<Items<MediaAttribute>, SdpError> {
     let mut all = Items::empty(alloc);
-    let mut left = lines;
-    while !left.is_empty() {
-        let (attribute, rest) = media_attribute_line(alloc, left)?;
-        all.push(attribute)?;
-        left = rest;
+    for line in lines.split("\r\n") {
+        if !line.is_empty() {
+            all.push(media_attribute_line(alloc, line)?.0)?;
+        }
     }
     Ok(all)
 }

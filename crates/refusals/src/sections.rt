@@ -4,12 +4,66 @@ ghost use Rattle.rand_core.specs.Steps.{stream_of, steps_u32};
 
 use crate::configurations::show_row;
 use crate::fault::Fault;
-use crate::samples::TEXT;
 use rand_core::utils::NextWord;
 use rand_core::{Rng, utils};
 use std::alloc::Global;
 use std::marker::Model;
 use str0m_signal::{AsMediaAttrs, MediaAttribute, MediaLine, Msid, Sdp, sdp_parser, section_of};
+
+/// What a session says of its transport.
+const TRANSPORT: &str = "\
+    v=0\r\no=- 7 2 IN IP4 127.0.0.1\r\ns=-\r\nt=0 0\r\n\
+    a=group:BUNDLE 1\r\n\
+    a=ice-ufrag:user\r\n\
+    a=ice-pwd:secret\r\n\
+    a=fingerprint:sha-256 00:0a\r\n\
+    a=candidate:1 1 udp 1 ::1 9 typ host\r\n\
+    m=application 9 UDP/DTLS/SCTP x\r\n\
+    a=mid:0\r\n\
+    a=candidate:1 1 udp 1 ::1 9 typ host\r\n\
+    a=candidate:2 1 udp 1 ::1 9 typ host\r\n";
+
+/// What a section says of its streams.
+const STREAMS: &str = "\
+    v=0\r\no=- 7 2 IN IP4 127.0.0.1\r\ns=-\r\nt=0 0\r\n\
+    m=video 9 UDP/TLS/RTP/SAVPF 0\r\n\
+    a=mid:0\r\n\
+    a=sendrecv\r\n\
+    a=msid:stream track\r\n\
+    a=extmap:1 urn:x\r\n\
+    a=rid:hi send\r\n\
+    a=simulcast:send hi;~lo recv x\r\n\
+    a=ssrc-group:FID 1 2\r\n\
+    a=ssrc:1 cname:user\r\n\
+    a=ssrc:1 msid:stream track\r\n";
+
+/// Sections with rows of every kind of line.
+const ROWS: &str = "\
+    v=0\r\no=- 7 2 IN IP4 127.0.0.1\r\ns=-\r\nt=0 0\r\n\
+    m=audio 9 UDP/TLS/RTP/SAVPF 111 63 101 0\r\n\
+    b=AS:64\r\n\
+    a=mid:0\r\n\
+    a=sendrecv\r\n\
+    a=rtpmap:111 opus/48000/2\r\n\
+    a=fmtp:111 minptime=10\r\n\
+    a=rtpmap:63 red/48000/2\r\n\
+    a=fmtp:63 111/111\r\n\
+    a=rtpmap:101 telephone-event/8000\r\n\
+    m=video 9 UDP/TLS/RTP/SAVPF 96 97\r\n\
+    a=mid:1\r\n\
+    a=sendrecv\r\n\
+    a=rtpmap:96 VP8/90000\r\n\
+    a=rtpmap:97 rtx/90000\r\n\
+    a=fmtp:97 apt=96\r\n";
+
+/// The text that a call is asked about: short, since each allocation of its reading is refused, too.
+fn text_of(name: &str) -> &'static str {
+    match name {
+        "rtp_params" | "as_media_attrs" | "section_of" => ROWS,
+        "msid" | "extmaps" | "rids" | "simulcast" | "ssrc_info" => STREAMS,
+        _ => TRANSPORT,
+    }
+}
 
 /// Gives the numbers from one on.
 #[derive(Drop)]
@@ -56,7 +110,7 @@ pub(crate) fn show(rt: &impl Print, alloc: Global, name: &str) -> Result<(), Fau
         }
         "msid_random" => show_random(rt, alloc),
         _ => {
-            let (sdp, _) = sdp_parser(alloc, TEXT)?;
+            let (sdp, _) = sdp_parser(alloc, text_of(name))?;
             show_said(rt, alloc, name, &sdp)
         }
     }
