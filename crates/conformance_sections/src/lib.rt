@@ -12,6 +12,8 @@ mod made_sections;
 #[cfg(test)]
 mod section_accessors;
 #[cfg(test)]
+mod section_faults;
+#[cfg(test)]
 mod section_rows;
 #[cfg(test)]
 mod session_accessors;
