@@ -13,7 +13,7 @@ use str0m_signal::{
 use str0m_values::Items;
 
 /// The names of the calls.
-pub(crate) const NAMES: [&str; 83] = [
+pub(crate) const NAMES: [&str; 84] = [
     "session_parser",
     "session_parser_refuses",
     "sdp_parser",
@@ -30,6 +30,7 @@ pub(crate) const NAMES: [&str; 83] = [
     "answer_to_sdp_string",
     "check_consistent",
     "assert_consistency",
+    "assert_consistency_without_a_group",
     "media_line_new",
     "ice_creds",
     "fingerprint",
@@ -127,6 +128,7 @@ pub(crate) fn show(rt: &impl Print, alloc: Global, name: &str) -> Result<(), Fau
             configurations::show(rt, alloc, name)
         }
         "assert_consistency"
+        | "assert_consistency_without_a_group"
         | "media_line_new"
         | "ice_creds"
         | "fingerprint"

@@ -8,7 +8,9 @@ use rand_core::utils::NextWord;
 use rand_core::{Rng, utils};
 use std::alloc::Global;
 use std::marker::Model;
-use str0m_signal::{AsMediaAttrs, MediaAttribute, MediaLine, Msid, Sdp, sdp_parser, section_of};
+use str0m_signal::{
+    AsMediaAttrs, MediaAttribute, MediaLine, Msid, Sdp, SdpError, sdp_parser, section_of,
+};
 
 /// What a session says of its transport.
 const TRANSPORT: &str = "\
@@ -37,10 +39,10 @@ const STREAMS: &str = "\
     a=ssrc:1 cname:user\r\n\
     a=ssrc:1 msid:stream track\r\n";
 
-/// Sections with rows of every kind of line.
+/// A section with rows of every kind of line.
 const ROWS: &str = "\
     v=0\r\no=- 7 2 IN IP4 127.0.0.1\r\ns=-\r\nt=0 0\r\n\
-    m=audio 9 UDP/TLS/RTP/SAVPF 111 63 101 0\r\n\
+    m=audio 9 UDP/TLS/RTP/SAVPF 111 63 101 0 96 97\r\n\
     b=AS:64\r\n\
     a=mid:0\r\n\
     a=sendrecv\r\n\
@@ -49,9 +51,6 @@ const ROWS: &str = "\
     a=rtpmap:63 red/48000/2\r\n\
     a=fmtp:63 111/111\r\n\
     a=rtpmap:101 telephone-event/8000\r\n\
-    m=video 9 UDP/TLS/RTP/SAVPF 96 97\r\n\
-    a=mid:1\r\n\
-    a=sendrecv\r\n\
     a=rtpmap:96 VP8/90000\r\n\
     a=rtpmap:97 rtx/90000\r\n\
     a=fmtp:97 apt=96\r\n";
@@ -130,7 +129,12 @@ fn show_random(rt: &impl Print, alloc: Global) -> Result<(), Fault> {
 
 fn show_said(rt: &impl Print, alloc: Global, name: &str, sdp: &Sdp) -> Result<(), Fault> {
     match name {
-        "assert_consistency" => show_faults(rt, sdp),
+        "assert_consistency" => show_fault(rt, sdp.assert_consistency()),
+        "assert_consistency_without_a_group" => {
+            let mut other = sdp.clone()?;
+            other.session.attrs.0.clear();
+            show_fault(rt, other.assert_consistency())
+        }
         "ice_creds" => {
             if let Some(creds) = sdp.ice_creds()? {
                 println!(rt; "{} {}", creds.ufrag, creds.pass)?;
@@ -158,14 +162,9 @@ fn show_said(rt: &impl Print, alloc: Global, name: &str, sdp: &Sdp) -> Result<()
     }
 }
 
-/// What is said of the description, and of its copy without attributes of the session.
-fn show_faults(rt: &impl Print, sdp: &Sdp) -> Result<(), Fault> {
-    if let Err(fault) = sdp.assert_consistency() {
-        println!(rt; "{fault}")?;
-    }
-    let mut other = sdp.clone()?;
-    other.session.attrs.0.clear();
-    if let Err(fault) = other.assert_consistency() {
+/// What is said of a description.
+fn show_fault(rt: &impl Print, said: Result<(), SdpError>) -> Result<(), Fault> {
+    if let Err(fault) = said {
         println!(rt; "{fault}")?;
     }
     Ok(())

@@ -1,55 +1,24 @@
 //! The candidates of sessions and of sections.
-ghost use Rattle.std.specs.Prelude.{◌≡◌, [], ◌∷◌, Option, option_copied, MatchOption};
+ghost use Rattle.std.specs.Prelude.{◌≡◌, [], ◌∷◌, MatchOption};
 ghost use Rattle.std.specs.List.{filter_map};
 ghost use Rattle.std.specs.Iterator.{YieldsFirstRef, item_count};
-ghost use Rattle.str0m_values.specs.declared.candidate.Candidate.{Candidate as CandidateValue};
-ghost use Rattle.str0m_sdp.specs.Candidates.{session_candidate, media_candidate};
 
 use crate::attribute::{MediaAttribute, SessionAttribute};
 use crate::media_line::MediaLine;
 use crate::session::Session;
+use crate::transport::TransportAttribute;
 use str0m_values::Candidate;
 
-/// An attribute that may hold a candidate.
-trait HoldsCandidate {
-    ghost held: { Self → Option CandidateValue };
-
-    fn candidate(&self) -> Option<&Candidate>
-        ensures { option_copied result ≡ held self.now };
-}
-
-impl HoldsCandidate for SessionAttribute {
-    ghost held = { session_candidate };
-
-    fn candidate(&self) -> Option<&Candidate> {
-        match self {
-            SessionAttribute::Candidate(candidate) => Some(candidate),
-            _ => None,
-        }
-    }
-}
-
-impl HoldsCandidate for MediaAttribute {
-    ghost held = { media_candidate };
-
-    fn candidate(&self) -> Option<&Candidate> {
-        match self {
-            MediaAttribute::Candidate(candidate) => Some(candidate),
-            _ => None,
-        }
-    }
-}
-
 /// The first candidate, and the attributes behind it.
-fn first_candidate<'a, A: HoldsCandidate>(attrs: &'a [A]) -> Option<(&'a Candidate, &'a [A])>
+fn first_candidate<'a, A: TransportAttribute>(attrs: &'a [A]) -> Option<(&'a Candidate, &'a [A])>
     ensures { MatchOption result
-        (filter_map A.held attrs.now ≡ [])
-        (λ found. filter_map A.held attrs.now ≡ found.0.now ∷ filter_map A.held found.1.now) }
+        (filter_map A.candidate attrs.now ≡ [])
+        (λ found. filter_map A.candidate attrs.now ≡ found.0.now ∷ filter_map A.candidate found.1.now) }
 {
     let mut left = attrs;
     while let Some((attr, more)) = left.split_first() {
         left = more;
-        if let Some(candidate) = attr.candidate() {
+        if let Some(candidate) = attr.as_candidate() {
             return Some((candidate, left));
         }
     }

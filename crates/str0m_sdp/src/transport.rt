@@ -2,7 +2,9 @@
 ghost use Rattle.std.specs.Prelude.{◌≡◌, Bool, IfOk, List, Option, filter_map, ℕ};
 ghost use Rattle.std.specs.List.{list_any};
 ghost use Rattle.std.specs.Option.{option_copied, option_map};
+ghost use Rattle.str0m_values.specs.declared.candidate.Candidate.{Candidate as CandidateValue};
 ghost use Rattle.str0m_values.specs.declared.fingerprint.Fingerprint.{Fingerprint};
+ghost use Rattle.str0m_sdp.specs.Candidates.{session_candidate, media_candidate};
 ghost use Rattle.str0m_sdp.specs.Lists.{first};
 ghost use Rattle.str0m_sdp.specs.Transport.{session_setup, session_ufrag, session_pwd, session_fingerprint, session_ends, media_setup, media_ufrag, media_pwd, media_fingerprint, media_ends, creds, creds_at};
 ghost use Rattle.str0m_sdp.specs.declared.setup.Setup.{Setup};
@@ -10,7 +12,7 @@ ghost use Rattle.str0m_sdp.specs.declared.setup.Setup.{Setup};
 use crate::attribute::{MediaAttribute, SessionAttribute};
 use crate::setup::Setup;
 use std::alloc::AllocError;
-use str0m_values::{Fingerprint, IceCreds, Text};
+use str0m_values::{Candidate, Fingerprint, IceCreds, Text};
 
 /// An attribute of a session or of a section, which may say something of the transport.
 pub(crate) trait TransportAttribute {
@@ -21,6 +23,8 @@ pub(crate) trait TransportAttribute {
     ghost pwd: { Self → Option (List ℕ) };
 
     ghost fingerprint: { Self → Option Fingerprint };
+
+    ghost candidate: { Self → Option CandidateValue };
 
     ghost ends: { Self → Bool };
 
@@ -36,6 +40,9 @@ pub(crate) trait TransportAttribute {
     fn as_fingerprint(&self) -> Option<&Fingerprint>
         ensures { option_copied result ≡ fingerprint self.now };
 
+    fn as_candidate(&self) -> Option<&Candidate>
+        ensures { option_copied result ≡ candidate self.now };
+
     fn is_end(&self) -> bool
         ensures { result ≡ ends self.now };
 }
@@ -48,6 +55,8 @@ impl TransportAttribute for SessionAttribute {
     ghost pwd = { session_pwd };
 
     ghost fingerprint = { session_fingerprint };
+
+    ghost candidate = { session_candidate };
 
     ghost ends = { session_ends };
 
@@ -79,6 +88,13 @@ impl TransportAttribute for SessionAttribute {
         }
     }
 
+    fn as_candidate(&self) -> Option<&Candidate> {
+        match self {
+            SessionAttribute::Candidate(candidate) => Some(candidate),
+            _ => None,
+        }
+    }
+
     fn is_end(&self) -> bool {
         matches!(self, SessionAttribute::EndOfCandidates)
     }
@@ -92,6 +108,8 @@ impl TransportAttribute for MediaAttribute {
     ghost pwd = { media_pwd };
 
     ghost fingerprint = { media_fingerprint };
+
+    ghost candidate = { media_candidate };
 
     ghost ends = { media_ends };
 
@@ -119,6 +137,13 @@ impl TransportAttribute for MediaAttribute {
     fn as_fingerprint(&self) -> Option<&Fingerprint> {
         match self {
             MediaAttribute::Fingerprint(hash) => Some(hash),
+            _ => None,
+        }
+    }
+
+    fn as_candidate(&self) -> Option<&Candidate> {
+        match self {
+            MediaAttribute::Candidate(candidate) => Some(candidate),
             _ => None,
         }
     }
