@@ -4,7 +4,7 @@ use crate::fault::Fault;
 use crate::samples::{
     BAD_HEADER, BAD_SECTION, CANDIDATE, MEDIA_LINES, SESSION_LINES, SHORT, TEXT, sample,
 };
-use crate::{configurations, formats, sections, values};
+use crate::{configurations, formats, values};
 use std::alloc::Global;
 use str0m_signal::{
     SdpAnswer, SdpOffer, candidate_attribute, media_attribute_line, sdp_parser,
@@ -13,7 +13,7 @@ use str0m_signal::{
 use str0m_values::Items;
 
 /// The names of the calls.
-pub(crate) const NAMES: [&str; 84] = [
+pub(crate) const NAMES: [&str; 69] = [
     "session_parser",
     "session_parser_refuses",
     "sdp_parser",
@@ -29,21 +29,6 @@ pub(crate) const NAMES: [&str; 84] = [
     "answer_from_sdp_string",
     "answer_to_sdp_string",
     "check_consistent",
-    "assert_consistency",
-    "assert_consistency_without_a_group",
-    "media_line_new",
-    "ice_creds",
-    "fingerprint",
-    "ice_candidates",
-    "msid",
-    "msid_random",
-    "extmaps",
-    "rids",
-    "simulcast",
-    "ssrc_info",
-    "rtp_params",
-    "as_media_attrs",
-    "section_of",
     "parse_pairs",
     "parse_pairs_with_a_triple",
     "parse_line",
@@ -127,21 +112,6 @@ pub(crate) fn show(rt: &impl Print, alloc: Global, name: &str) -> Result<(), Fau
         _ if name.starts_with("add_") || name.starts_with("enable_") => {
             configurations::show(rt, alloc, name)
         }
-        "assert_consistency"
-        | "assert_consistency_without_a_group"
-        | "media_line_new"
-        | "ice_creds"
-        | "fingerprint"
-        | "ice_candidates"
-        | "msid"
-        | "msid_random"
-        | "extmaps"
-        | "rids"
-        | "simulcast"
-        | "ssrc_info"
-        | "rtp_params"
-        | "as_media_attrs"
-        | "section_of" => { sections::show(rt, alloc, name) }
         _ => values::show(rt, alloc, name),
     }
 }
@@ -211,7 +181,7 @@ fn show_offer(rt: &impl Print, alloc: Global) -> Result<(), Fault> {
 fn show_offer_text(rt: &impl Print, alloc: Global) -> Result<(), Fault> {
     let (sdp, _) = sdp_parser(alloc, TEXT)?;
     let offer = SdpOffer::from(sdp);
-    let text = offer.to_sdp_string()?;
+    let text = offer.to_sdp_string(alloc)?;
     print!(rt; "{text}")?;
     Ok(())
 }
@@ -224,7 +194,7 @@ fn show_answer(rt: &impl Print, alloc: Global) -> Result<(), Fault> {
 
 fn show_answer_text(rt: &impl Print, alloc: Global) -> Result<(), Fault> {
     let answer = SdpAnswer::from(sample(alloc)?);
-    let text = answer.to_sdp_string()?;
+    let text = answer.to_sdp_string(alloc)?;
     print!(rt; "{text}")?;
     Ok(())
 }
@@ -233,9 +203,9 @@ fn show_answer_text(rt: &impl Print, alloc: Global) -> Result<(), Fault> {
 fn show_messages(rt: &impl Print, alloc: Global) -> Result<(), Fault> {
     let mut sections = sample(alloc)?.media_lines.into_vec();
     if let Some(section) = sections.first_mut() {
-        let none = section.check_consistent()?;
+        let none = section.check_consistent(alloc)?;
         section.attrs = Items::empty(alloc);
-        let some = section.check_consistent()?;
+        let some = section.check_consistent(alloc)?;
         println!(rt; "{none:?} {some:?}")?;
     }
     Ok(())

@@ -9,7 +9,6 @@ mod copies;
 mod fault;
 mod formats;
 mod samples;
-mod sections;
 mod streams;
 mod values;
 

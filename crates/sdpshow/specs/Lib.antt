@@ -1,2 +1,1 @@
-pub mod RowLines
 pub mod Show

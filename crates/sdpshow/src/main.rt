@@ -1,9 +1,7 @@
-//! Shows session descriptions: `sdpshow text` reads one from standard input and prints it again,
-//! `sdpshow rows` prints the rows of its sections.
+//! Shows session descriptions: `sdpshow text` reads one from standard input and prints it again.
 #![tactic(auto)]
 
 mod fault;
-mod row_lines;
 mod run;
 
 use crate::fault::Fault;

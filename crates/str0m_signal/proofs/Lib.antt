@@ -1,6 +1,5 @@
 pub mod AnswerLaws
 pub mod BareLaws
-pub mod BoundLaws
 pub mod CandidateLineLaws
 pub mod ChainLaws
 pub mod FingerprintLineLaws
