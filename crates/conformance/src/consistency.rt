@@ -128,9 +128,9 @@ fn a_session_is_read_before_any_section(rt: HostRuntime) -> Result<(), Fail> {
 fn a_section_tells_its_fault(rt: HostRuntime) -> Result<(), Fail> {
     let text = with_header(rt.alloc(), SECTIONS[0].0)?;
     let mut section = first_section(rt.alloc(), text.as_str())?;
-    assert!(rt; section.check_consistent(rt.alloc())?.is_none());
+    assert!(rt; section.check_consistent()?.is_none());
     section.attrs.0.clear();
-    let fault = section.check_consistent(rt.alloc())?.ok_or("a fault")?;
+    let fault = section.check_consistent()?.ok_or("a fault")?;
     assert_eq!(rt;
         fault.as_str(),
         "Media is missing a=mid: audio UDP/TLS/RTP/SAVPF"

@@ -38,8 +38,8 @@ fn an_answer_holds_what_was_read(rt: HostRuntime) -> Result<(), Fail> {
 fn an_offer_and_an_answer_print_alike(rt: HostRuntime) -> Result<(), Fail> {
     let offer = SdpOffer::from_sdp_string(rt.alloc(), OPUS)?;
     let answer = SdpAnswer::from_sdp_string(rt.alloc(), OPUS)?;
-    let text = offer.to_sdp_string(rt.alloc())?;
-    let of_answer = answer.to_sdp_string(rt.alloc())?;
+    let text = offer.to_sdp_string()?;
+    let of_answer = answer.to_sdp_string()?;
     assert_eq!(rt; of_answer.as_str(), text.as_str());
     Ok(())
 }
@@ -47,10 +47,7 @@ fn an_offer_and_an_answer_print_alike(rt: HostRuntime) -> Result<(), Fail> {
 #[test]
 fn display_prints_what_to_sdp_string_answers(rt: HostRuntime) -> Result<(), Fail> {
     let offer = SdpOffer::from_sdp_string(rt.alloc(), OPUS)?;
-    let (text, shown) = (
-        offer.to_sdp_string(rt.alloc())?,
-        offer.to_string(rt.alloc())?,
-    );
+    let (text, shown) = (offer.to_sdp_string()?, offer.to_string(rt.alloc())?);
     assert_eq!(rt; shown.as_str(), text.as_str());
     let answer = SdpAnswer::from_sdp_string(rt.alloc(), OPUS)?;
     let shown = answer.to_string(rt.alloc())?;
@@ -61,7 +58,7 @@ fn display_prints_what_to_sdp_string_answers(rt: HostRuntime) -> Result<(), Fail
 #[test]
 fn an_offer_printed_and_read_is_itself(rt: HostRuntime) -> Result<(), Fail> {
     let offer = SdpOffer::from_sdp_string(rt.alloc(), OPUS)?;
-    let text = offer.to_sdp_string(rt.alloc())?;
+    let text = offer.to_sdp_string()?;
     let again = SdpOffer::from_sdp_string(rt.alloc(), text.as_str())?;
     assert_eq!(rt; again, offer);
     Ok(())

@@ -56,7 +56,7 @@ fn printed_section(alloc: Global, lines: &str) -> Result<String, Fail> {
 /// A text, read and printed.
 fn printed(alloc: Global, text: &str) -> Result<String, Fail> {
     let offer = SdpOffer::from_sdp_string(alloc, text)?;
-    Ok(offer.to_sdp_string(alloc)?)
+    Ok(offer.to_sdp_string()?)
 }
 
 #[test]
@@ -69,7 +69,7 @@ fn a_session_alone_prints_its_header(rt: HostRuntime) -> Result<(), Fail> {
         },
         media_lines: Items::empty(rt.alloc()),
     });
-    let text = offer.to_sdp_string(rt.alloc())?;
+    let text = offer.to_sdp_string()?;
     assert_eq!(rt;
         text.as_str(),
         "v=0\r\no=str0m-0.25.0 123 2 IN IP4 0.0.0.0\r\ns=-\r\nt=0 0\r\n"

@@ -4,7 +4,7 @@ use crate::fault::Fault;
 use crate::samples::{
     BAD_HEADER, BAD_SECTION, CANDIDATE, MEDIA_LINES, SESSION_LINES, SHORT, TEXT, sample,
 };
-use crate::{configurations, formats, values};
+use crate::{configurations, formats, sections, values};
 use std::alloc::Global;
 use str0m_signal::{
     SdpAnswer, SdpOffer, candidate_attribute, media_attribute_line, sdp_parser,
@@ -13,7 +13,7 @@ use str0m_signal::{
 use str0m_values::Items;
 
 /// The names of the calls.
-pub(crate) const NAMES: [&str; 69] = [
+pub(crate) const NAMES: [&str; 84] = [
     "session_parser",
     "session_parser_refuses",
     "sdp_parser",
@@ -29,6 +29,21 @@ pub(crate) const NAMES: [&str; 69] = [
     "answer_from_sdp_string",
     "answer_to_sdp_string",
     "check_consistent",
+    "assert_consistency",
+    "assert_consistency_without_a_group",
+    "media_line_new",
+    "ice_creds",
+    "fingerprint",
+    "ice_candidates",
+    "msid",
+    "msid_random",
+    "extmaps",
+    "rids",
+    "simulcast",
+    "ssrc_info",
+    "rtp_params",
+    "as_media_attrs",
+    "section_of",
     "parse_pairs",
     "parse_pairs_with_a_triple",
     "parse_line",
@@ -112,6 +127,21 @@ pub(crate) fn show(rt: &impl Print, alloc: Global, name: &str) -> Result<(), Fau
         _ if name.starts_with("add_") || name.starts_with("enable_") => {
             configurations::show(rt, alloc, name)
         }
+        "assert_consistency"
+        | "assert_consistency_without_a_group"
+        | "media_line_new"
+        | "ice_creds"
+        | "fingerprint"
+        | "ice_candidates"
+        | "msid"
+        | "msid_random"
+        | "extmaps"
+        | "rids"
+        | "simulcast"
+        | "ssrc_info"
+        | "rtp_params"
+        | "as_media_attrs"
+        | "section_of" => { sections::show(rt, alloc, name) }
         _ => values::show(rt, alloc, name),
     }
 }
@@ -181,7 +211,7 @@ fn show_offer(rt: &impl Print, alloc: Global) -> Result<(), Fault> {
 fn show_offer_text(rt: &impl Print, alloc: Global) -> Result<(), Fault> {
     let (sdp, _) = sdp_parser(alloc, TEXT)?;
     let offer = SdpOffer::from(sdp);
-    let text = offer.to_sdp_string(alloc)?;
+    let text = offer.to_sdp_string()?;
     print!(rt; "{text}")?;
     Ok(())
 }
@@ -194,7 +224,7 @@ fn show_answer(rt: &impl Print, alloc: Global) -> Result<(), Fault> {
 
 fn show_answer_text(rt: &impl Print, alloc: Global) -> Result<(), Fault> {
     let answer = SdpAnswer::from(sample(alloc)?);
-    let text = answer.to_sdp_string(alloc)?;
+    let text = answer.to_sdp_string()?;
     print!(rt; "{text}")?;
     Ok(())
 }
@@ -203,9 +233,9 @@ fn show_answer_text(rt: &impl Print, alloc: Global) -> Result<(), Fault> {
 fn show_messages(rt: &impl Print, alloc: Global) -> Result<(), Fault> {
     let mut sections = sample(alloc)?.media_lines.into_vec();
     if let Some(section) = sections.first_mut() {
-        let none = section.check_consistent(alloc)?;
+        let none = section.check_consistent()?;
         section.attrs = Items::empty(alloc);
-        let some = section.check_consistent(alloc)?;
+        let some = section.check_consistent()?;
         println!(rt; "{none:?} {some:?}")?;
     }
     Ok(())

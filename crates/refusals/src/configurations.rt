@@ -37,7 +37,7 @@ fn show_type(rt: &impl Print, pt: Option<Pt>) -> Result<(), Fault> {
 }
 
 /// Whether the row is locked, its types, its codec and its format.
-fn show_row(rt: &impl Print, row: &PayloadParams) -> Result<(), Fault> {
+pub(crate) fn show_row(rt: &impl Print, row: &PayloadParams) -> Result<(), Fault> {
     let state = if row.locked() { "locked" } else { "open" };
     print!(rt; "{state} ")?;
     show_type(rt, Some(row.pt()))?;

@@ -9,6 +9,7 @@ mod copies;
 mod fault;
 mod formats;
 mod samples;
+mod sections;
 mod streams;
 mod values;
 

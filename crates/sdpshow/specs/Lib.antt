@@ -1,1 +1,2 @@
+pub mod RowLines
 pub mod Show

@@ -1,16 +1,38 @@
 -- What a run of the program shows.
-use Rattle.std.specs.Prelude.{◌≡◌, ℕ, List, Option, IfSome}
-use Rattle.str0m_signal.specs.Session.{sdp_text}
+use Rattle.std.specs.Prelude.{◌≡◌, ℕ, List, [], ◌∷◌, Option, Some, None, IfSome, codes, if◌then◌else◌}
+use Rattle.std.specs.Str.{bytes_eq}
+use Rattle.str0m_sdp.specs.declared.session.Sdp.{Sdp}
+use Rattle.str0m_sdp.specs.Session.{sdp_text}
 use Rattle.str0m_signal.specs.Reading.{Described}
+use Rattle.sdpshow.specs.RowLines.{rows_text}
+use Rattle.sdpshow.specs.declared.run.Shown.{Shown}
+use Rattle.sdpshow.specs.declared.run.Shown.TheVariants.{Text, Rows}
 
--- the bytes describe a session, and this is its printed text
-abbrev pub Prints : List ℕ → List ℕ → Type 0
-Prints bytes printed = (sdp : _) × Described bytes sdp × (printed ≡ sdp_text sdp)
+-- what the words ask for: one word alone, exactly so written
+abbrev pub asked_by : List ℕ → Option Shown
+asked_by word = if bytes_eq word (codes "text") then Some Text else if bytes_eq word (codes "rows") then Some Rows else None
 
--- what a reader holds, where that is known, describes a session with this printed text
-abbrev pub Shows : Option (List ℕ) → List ℕ → Type 0
-Shows held printed = (bytes : List ℕ) × IfSome held (λ known. bytes ≡ known) × Prints bytes printed
+abbrev pub asked : List (List ℕ) → Option Shown
+asked (word ∷ []) = asked_by word
+asked _ = None
+
+-- what is shown of a description
+abbrev pub shown_text : Shown → Sdp → List ℕ
+shown_text Text sdp = sdp_text sdp
+shown_text Rows sdp = rows_text sdp
+
+-- the bytes describe a session, and this is shown of it
+abbrev pub Prints : Shown → List ℕ → List ℕ → Type 0
+Prints shown bytes printed = (sdp : Sdp) × Described bytes sdp × (printed ≡ shown_text shown sdp)
+
+-- what a reader holds, where that is known, describes a session of which this is shown
+abbrev pub Shows : Shown → Option (List ℕ) → List ℕ → Type 0
+Shows shown held printed = (bytes : List ℕ) × IfSome held (λ known. bytes ≡ known) × Prints shown bytes printed
+
+-- something is asked for, and this is shown
+abbrev pub ShowsAsked : Option Shown → Option (List ℕ) → List ℕ → Type 0
+ShowsAsked asked held printed = (shown : Shown) × (asked ≡ Some shown) × Shows shown held printed
 
 -- what a reader holds, where that is known, describes a session
 abbrev pub Describes : Option (List ℕ) → Type 0
-Describes held = (printed : List ℕ) × Shows held printed
+Describes held = (bytes : List ℕ) × IfSome held (λ known. bytes ≡ known) × ((sdp : Sdp) × Described bytes sdp)

@@ -1,7 +1,9 @@
-//! Shows session descriptions: `sdpshow text` reads one from standard input and prints it again.
+//! Shows session descriptions: `sdpshow text` reads one from standard input and prints it again,
+//! `sdpshow rows` prints the rows of its sections.
 #![tactic(auto)]
 
 mod fault;
+mod row_lines;
 mod run;
 
 use crate::fault::Fault;

@@ -1,10 +1,11 @@
 //! The program over any reader and any two writers.
-ghost use Rattle.std.specs.Prelude.{◌≡◌, ◌↔◌, ◌⊎◌, ◌∷◌, [], ℕ, List, IsTrue, IfOk, IfSome, OnOk, OnErr, map, codes};
+ghost use Rattle.std.specs.Prelude.{◌≡◌, ◌↔◌, ◌⊎◌, ℕ, List, None, IfOk, IfSome, OnOk, OnErr, map};
 ghost use Rattle.std.specs.String.{string_bytes};
 ghost use Rattle.std.specs.Io.KnownBytes.{Appends, IsAtEnd};
-ghost use Rattle.sdpshow.specs.Show.{Prints, Shows, Describes};
+ghost use Rattle.sdpshow.specs.Show.{asked, asked_by, Prints, Shows, ShowsAsked, Describes};
 
 use crate::fault::Fault;
+use crate::row_lines::rows_text;
 use std::alloc::Global;
 use std::io::{ErrorKind, Read, Write};
 use str0m_signal::SdpOffer;
@@ -25,13 +26,33 @@ pub(crate) fn refuse<F: Write>(faults: &mut F, fault: &Fault) -> u8
     1
 }
 
-/// Whether the words are `text` alone.
-fn ask_for_text(words: &[String]) -> bool
-    ensures { IsTrue result ↔ (map string_bytes words.now ≡ codes "text" ∷ []) }
+/// What the program is asked to show of a description.
+#[derive(Clone, Copy)]
+enum Shown {
+    /// Its text.
+    Text,
+    /// Its rows.
+    Rows,
+}
+
+/// What a word asks for: `text` or `rows`, exactly so written.
+fn asked_by(word: &str) -> Option<Shown>
+    ensures { result ≡ asked_by word.now }
+{
+    match word {
+        "text" => Some(Shown::Text),
+        "rows" => Some(Shown::Rows),
+        _ => None,
+    }
+}
+
+/// What the words ask for: that one word alone.
+fn asked(words: &[String]) -> Option<Shown>
+    ensures { result ≡ asked (map string_bytes words.now) }
 {
     match words {
-        [word] => word.as_str() == "text",
-        _ => false,
+        [word] => asked_by(word.as_str()),
+        _ => None,
     }
 }
 
@@ -53,12 +74,15 @@ fn whole_text<R: Read>(alloc: Global, input: &mut R) -> Result<String, Fault>
     }
 }
 
-/// The description that the text begins with, printed.
-fn printed(alloc: Global, text: &str) -> Result<String, Fault>
-    ensures { IfOk result (λ printed. Prints text.now (string_bytes printed)) }
+/// What is shown of the description that the text begins with.
+fn printed(alloc: Global, shown: Shown, text: &str) -> Result<String, Fault>
+    ensures { IfOk result (λ printed. Prints shown text.now (string_bytes printed)) }
 {
     let offer = SdpOffer::from_sdp_string(alloc, text)?;
-    Ok(offer.to_sdp_string(alloc)?)
+    match shown {
+        Shown::Text => Ok(offer.to_sdp_string()?),
+        Shown::Rows => Ok(rows_text(alloc, &offer)?),
+    }
 }
 
 fn write_whole<W: Write>(output: &mut W, text: &str) -> Result<(), Fault>
@@ -70,24 +94,31 @@ fn write_whole<W: Write>(output: &mut W, text: &str) -> Result<(), Fault>
     Ok(())
 }
 
-/// Prints the description that the reader holds.
-fn show_text<R: Read, W: Write>(alloc: Global, input: &mut R, output: &mut W) -> Result<(), Fault>
-    ensures shown { OnOk result ((printed : List ℕ) × Shows (R.remaining input.old) printed
+/// Shows the description that the reader holds.
+fn show<R: Read, W: Write>(
+    alloc: Global,
+    shown: Shown,
+    input: &mut R,
+    output: &mut W,
+) -> Result<(), Fault>
+    ensures shown { OnOk result ((printed : List ℕ) × Shows shown (R.remaining input.old) printed
         × Appends (W.contents output.old) (W.contents output.new) printed) }
     ensures end { OnOk result (IsAtEnd (R.remaining input.new)) }
     ensures refused { OnErr result ((output.new ≡ output.old) ⊎ Describes (R.remaining input.old)) }
 {
     let text = whole_text(alloc, input)?;
-    let printed = printed(alloc, text.as_str())?;
+    let printed = printed(alloc, shown, text.as_str())?;
     write_whole(output, printed.as_str())
 }
 
 /// Runs the program: the words behind its name, what it reads, what it writes, and what it says of
 /// faults. Answers the exit status.
 ///
-/// The one word `text` reads the whole input as UTF-8 and prints the session description that it
-/// begins with (RFC 8866, section 5). Nothing is read before the words are compared, and nothing is
-/// written before the output is whole.
+/// The word `text` or `rows` alone reads the whole input as UTF-8. `text` prints the session
+/// description that it begins with (RFC 8866, section 5); `rows` prints the rows of its sections, a
+/// line each: `MID PT RTX RED CODEC/CLOCK[/CHANNELS] FORMAT`, the clock in Hz, with `-` for what is
+/// absent. Nothing is read before the words are compared, and nothing is written before the output
+/// is whole.
 ///
 /// Status 0: it is printed, and nothing is said. Status 1, and one line that says why: the text is
 /// no description, is not UTF-8 or can't be read, a growth was refused, or the output can't be
@@ -103,12 +134,13 @@ pub fn run<R: Read, W: Write, F: Write>(
     ensures statuses { (result ≡ 0) ⊎ (result ≡ 1) ⊎ (result ≡ 2) }
 
     // Status 2 is for other words, and then nothing is read or written.
-    ensures usage { (result ≡ 2) ↔ ((map string_bytes words.now ≡ codes "text" ∷ []) → ⊥) }
+    ensures usage { (result ≡ 2) ↔ (asked (map string_bytes words.now) ≡ None) }
     ensures unread { result ≡ 2 → input.new ≡ input.old }
     ensures unwritten { result ≡ 2 → output.new ≡ output.old }
 
-    // Status 0: all that was held is read, its description is printed, and nothing is said.
-    ensures shown { result ≡ 0 → (printed : List ℕ) × Shows (R.remaining input.old) printed
+    // Status 0: all that was held is read, what was asked for is printed, and nothing is said.
+    ensures shown { result ≡ 0 → (printed : List ℕ)
+        × ShowsAsked (asked (map string_bytes words.now)) (R.remaining input.old) printed
         × Appends (W.contents output.old) (W.contents output.new) printed }
     ensures end { result ≡ 0 → IsAtEnd (R.remaining input.new) }
     ensures silent { result ≡ 0 → faults.new ≡ faults.old }
@@ -116,10 +148,10 @@ pub fn run<R: Read, W: Write, F: Write>(
     // Status 1: nothing is written of a text that describes no session.
     ensures refused { result ≡ 1 → (output.new ≡ output.old) ⊎ Describes (R.remaining input.old) }
 {
-    if !ask_for_text(words) {
+    let Some(shown) = asked(words) else {
         return usage(faults);
-    }
-    match show_text(alloc, input, output) {
+    };
+    match show(alloc, shown, input, output) {
         Ok(()) => 0,
         Err(fault) => refuse(faults, &fault),
     }

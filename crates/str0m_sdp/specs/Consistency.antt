@@ -16,6 +16,11 @@ abbrev pub is_mid : MediaAttribute → Bool
 is_mid (Mid mid) = true
 is_mid _ = false
 
+-- the name that an attribute gives its section (RFC 5888, section 4)
+abbrev pub mid_of : MediaAttribute → Option (List ℕ)
+mid_of (Mid mid) = Some mid
+mid_of _ = None
+
 abbrev pub is_setup : MediaAttribute → Bool
 is_setup (Setup setup) = true
 is_setup _ = false

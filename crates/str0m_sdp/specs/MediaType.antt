@@ -1,5 +1,5 @@
--- The words of media types.
-use Rattle.std.specs.Prelude.{ℕ, List, codes}
+-- Media types: their words, and which of them carry media.
+use Rattle.std.specs.Prelude.{ℕ, Bool, true, false, List, codes}
 use Rattle.str0m_sdp.specs.declared.media_type.MediaType.{MediaType}
 use Rattle.str0m_sdp.specs.declared.media_type.MediaType.TheVariants.{Audio, Video, Application, Unknown}
 
@@ -8,3 +8,17 @@ media_type_text Audio = codes "audio"
 media_type_text Video = codes "video"
 media_type_text Application = codes "application"
 media_type_text (Unknown text) = text
+
+-- what carries media, over RTP
+abbrev pub is_media : MediaType → Bool
+is_media Audio = true
+is_media Video = true
+is_media Application = false
+is_media (Unknown text) = false
+
+-- what carries data channels (RFC 8841, section 4)
+abbrev pub is_channel : MediaType → Bool
+is_channel Application = true
+is_channel Audio = false
+is_channel Video = false
+is_channel (Unknown text) = false

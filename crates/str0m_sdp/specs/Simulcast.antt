@@ -34,3 +34,7 @@ unless_munged false line = line
 
 abbrev pub simulcast_text : Simulcast → List ℕ
 simulcast_text s = unless_munged s.is_munged (sides_text s.send.0 s.recv.0)
+
+-- what the other side calls it: what is sent here is received there
+abbrev pub inverted : Simulcast → Simulcast
+inverted s = record { send = s.recv; recv = s.send; is_munged = s.is_munged }

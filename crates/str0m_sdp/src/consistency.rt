@@ -1,13 +1,14 @@
 //! Which sections are consistent.
-ghost use Rattle.std.specs.Prelude.{◌≡◌, ◌<◌, ◌≤◌, ◌↔◌, ◌⊎◌, All, IfOk, IfSome, IsOk, IsSome, IsTrue, Ok, None, count_by};
-ghost use Rattle.str0m_sdp.specs.Consistency.{is_mid, is_setup, is_direction, is_counted, NeedsNoMapping, IsMapped, NamesNoOther, AgreesOnApt, FitsProto, Consistent, NoneIff};
+ghost use Rattle.std.specs.Prelude.{◌≡◌, ◌<◌, ◌≤◌, ◌↔◌, ◌⊎◌, All, IfOk, IfSome, IsOk, IsSome, IsTrue, Ok, None, count_by, filter_map};
+ghost use Rattle.str0m_sdp.specs.Consistency.{is_mid, mid_of, is_setup, is_direction, is_counted, NeedsNoMapping, IsMapped, NamesNoOther, AgreesOnApt, FitsProto, Consistent, NoneIff};
+ghost use Rattle.str0m_sdp.specs.Lists.{first};
 
 use crate::attribute::MediaAttribute;
 use crate::fault::{Clash, Fault, Message};
 use crate::media_line::MediaLine;
 use crate::proto::Proto;
 use crate::type_tables::{apt_of, count_maps, first_apts, row};
-use std::alloc::{AllocError, Global};
+use std::alloc::AllocError;
 use str0m_formats::{CodecSpec, FormatParam};
 use str0m_values::{Mid, Pt};
 
@@ -16,6 +17,15 @@ impl MediaAttribute {
         ensures { result ≡ is_mid self.now }
     {
         matches!(self, MediaAttribute::Mid(_))
+    }
+
+    fn as_mid(&self) -> Option<Mid>
+        ensures { result ≡ mid_of self.now }
+    {
+        match self {
+            MediaAttribute::Mid(mid) => Some(*mid),
+            _ => None,
+        }
     }
 
     fn is_setup(&self) -> bool
@@ -88,15 +98,12 @@ fn needs_no_mapping(pt: Pt) -> bool
     CodecSpec::from_static_pt(pt).is_some()
 }
 
-fn first_mid(attrs: &[MediaAttribute]) -> Option<Mid>
-    ensures { IsSome result ↔ (0 < count_by is_mid attrs.now) }
+/// The first mid, where there is one.
+pub(crate) fn first_mid(attrs: &[MediaAttribute]) -> Option<Mid>
+    ensures mid { result ≡ first (filter_map mid_of attrs.now) }
+    ensures found { IsSome result ↔ (0 < count_by is_mid attrs.now) }
 {
-    for attr in attrs {
-        if let MediaAttribute::Mid(mid) = attr {
-            return Some(*mid);
-        }
-    }
-    None
+    attrs.iter().find_map(|attr| attr.as_mid())
 }
 
 /// The mid where there is exactly one.
@@ -235,7 +242,7 @@ impl MediaLine {
     ///
     /// Only a message takes memory, so a consistent section needs none; the only error is that
     /// memory for the message was refused.
-    pub fn check_consistent(&self, alloc: Global) -> Result<Option<String>, AllocError>
+    pub fn check_consistent(&self) -> Result<Option<String>, AllocError>
         ensures told { IfOk result (λ message. NoneIff message (Consistent self.now)) }
         ensures takes_no_memory { Consistent self.now → result ≡ Ok None }
     {
@@ -244,6 +251,7 @@ impl MediaLine {
             Err(fault) => {
                 let section = self;
                 let message = Message { fault, section };
+                let alloc = *self.attrs.0.allocator();
                 Ok(Some(message.to_string(alloc)?))
             }
         }

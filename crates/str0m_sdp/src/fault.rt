@@ -1,4 +1,4 @@
-//! Why sections aren't consistent.
+//! Why sections and sessions aren't consistent.
 
 use crate::media_line::MediaLine;
 use std::fmt;
@@ -56,6 +56,35 @@ impl<'a> fmt::Display for Message<'a> {
                     f,
                     "PT {pt} has conflicting apt values {first} and {other} for mid: {mid}"
                 )
+            }
+        }
+    }
+}
+
+/// Why a session isn't consistent whose sections are.
+#[derive(Clone, Copy)]
+pub(crate) enum SessionFault {
+    SharedMid(Mid),
+    MissingGroup,
+    /// How many mids the group has, and how many sections take part.
+    Count { group: usize, sections: usize },
+    /// The mid of a section, and the one that the group has in its place.
+    Order { section: Mid, group: Mid },
+}
+
+impl fmt::Display for SessionFault {
+    fn fmt<W: fmt::Write>(&self, f: &mut fmt::Formatter<W>) -> fmt::Result {
+        match self {
+            SessionFault::SharedMid(mid) => {
+                write!(f, "Mid {mid} is used by more than one m-line")
+            }
+            SessionFault::MissingGroup => f.write_str("Session attribute a=group missing"),
+            SessionFault::Count { group, sections } => write!(
+                f,
+                "a=group mid count doesn't match m-line count {group} != {sections}"
+            ),
+            SessionFault::Order { section, group } => {
+                write!(f, "Mid order not matching a=group {section} != {group}")
             }
         }
     }

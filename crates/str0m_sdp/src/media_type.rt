@@ -1,14 +1,15 @@
 //! What a section carries.
 ghost use Rattle.std.specs.Prelude.{◌≡◌, IfOk, Some};
-ghost use Rattle.str0m_sdp.specs.MediaType.{media_type_text};
+ghost use Rattle.str0m_sdp.specs.MediaType.{is_channel, is_media, media_type_text};
 
 use std::alloc::AllocError;
 use std::fmt;
 use str0m_values::Text;
 
 /// The media type of a section (RFC 8866, section 5.14).
-#[derive(Clone, Debug, PartialEq, Eq, Drop)]
+#[derive(Clone, Debug, Default, PartialEq, Eq, Drop)]
 pub enum MediaType {
+    #[default]
     Audio,
     Video,
     Application,
@@ -22,6 +23,20 @@ impl MediaType {
         ensures { IfOk result (λ typ. typ ≡ self.now) }
     {
         Clone::clone(self)
+    }
+
+    /// Whether sections of this type carry media: audio or video.
+    pub fn is_media(&self) -> bool
+        ensures { result ≡ is_media self.now }
+    {
+        matches!(self, MediaType::Audio | MediaType::Video)
+    }
+
+    /// Whether sections of this type carry data channels (RFC 8841, section 4).
+    pub fn is_channel(&self) -> bool
+        ensures { result ≡ is_channel self.now }
+    {
+        matches!(self, MediaType::Application)
     }
 }
 

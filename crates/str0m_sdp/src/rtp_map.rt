@@ -1,9 +1,9 @@
 //! What a payload type stands for.
-ghost use Rattle.std.specs.Prelude.{Some};
-ghost use Rattle.str0m_sdp.specs.RtpMap.{rtp_map_text};
+ghost use Rattle.std.specs.Prelude.{◌≡◌, Some};
+ghost use Rattle.str0m_sdp.specs.RtpMap.{rtp_map_text, sampling_rate, channels_of, spec_of_map, map_of_spec};
 
 use std::fmt;
-use str0m_formats::Codec;
+use str0m_formats::{Codec, CodecSpec, FormatParams};
 use str0m_values::Frequency;
 
 /// The codec of a payload type, its clock rate and its channels (RFC 8866, section 6.6).
@@ -28,6 +28,63 @@ impl fmt::Display for RtpMap {
         match channels {
             None => write!(f, "{codec}/{clock_rate}"),
             Some(channels) => write!(f, "{codec}/{clock_rate}/{channels}"),
+        }
+    }
+}
+
+/// The rate at which the codec samples.
+fn sampling_rate(codec: Codec, clock_rate: Frequency) -> Frequency
+    ensures { result ≡ sampling_rate codec clock_rate }
+{
+    let [_, sixteen, _, _] = Frequency::named();
+    match codec {
+        Codec::G722 => sixteen,
+        _ => clock_rate,
+    }
+}
+
+/// The channels of the codec, without a count that says no more than none does.
+fn channels_of(codec: Codec, channels: Option<u8>) -> Option<u8>
+    ensures { result ≡ channels_of codec channels }
+{
+    match (codec, channels) {
+        (Codec::G722, Some(1)) => None,
+        _ => channels,
+    }
+}
+
+/// The codec that a mapping names, with its rate and channels, and the default format.
+///
+/// G722 samples at 16 kHz though its mapping says 8 kHz for historical reasons (RFC 3551, section
+/// 4.5.2), and where its mapping counts one channel, the spec counts none.
+impl From<RtpMap> for CodecSpec {
+    ghost from_gives = { λ map spec. spec ≡ spec_of_map map };
+
+    fn from(map: RtpMap) -> CodecSpec {
+        CodecSpec {
+            codec: map.codec,
+            clock_rate: sampling_rate(map.codec, map.clock_rate),
+            channels: channels_of(map.codec, map.channels),
+            format: FormatParams::default(),
+        }
+    }
+}
+
+/// The mapping that names a codec (RFC 8866, section 6.6), at its clock rate in RTP, which for G722
+/// is 8 kHz (RFC 3551, section 4.5.2). Its format stands in fmtp lines.
+impl From<CodecSpec> for RtpMap {
+    ghost from_gives = { λ spec map. map ≡ map_of_spec spec };
+
+    fn from(spec: CodecSpec) -> RtpMap {
+        let CodecSpec {
+            codec,
+            channels,
+            ..
+        } = spec;
+        RtpMap {
+            codec,
+            clock_rate: spec.rtp_clock_rate(),
+            channels,
         }
     }
 }

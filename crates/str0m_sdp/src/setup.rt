@@ -1,6 +1,7 @@
 //! Who begins the DTLS handshake.
-ghost use Rattle.std.specs.Prelude.{◌≡◌, Some};
-ghost use Rattle.str0m_sdp.specs.Setup.{setup_text, inverse};
+ghost use Rattle.std.specs.Prelude.{◌≡◌, ◌≢◌, Some, None, MatchOption};
+ghost use Rattle.str0m_sdp.specs.Setup.{setup_text, inverse, settled};
+ghost use Rattle.str0m_sdp.specs.declared.setup.Setup.TheVariants.{ActPass};
 
 use std::fmt;
 
@@ -28,12 +29,39 @@ impl Setup {
     /// The role of the other side: who begins on one side waits on the other. A side that offers
     /// both offers both.
     pub fn invert(&self) -> Setup
-        ensures { result ≡ inverse self.now }
+        ensures inverse { result ≡ inverse self.now }
+
+        // The other side of the other side is this one.
+        ensures twice { inverse result ≡ self.now }
     {
         match self {
             Setup::ActPass => Setup::ActPass,
             Setup::Active => Setup::Passive,
             Setup::Passive => Setup::Active,
+        }
+    }
+
+    /// The role that this side takes, where `self` is what it offers and `remote` what the other
+    /// side offers; `None` where both offer the same (RFC 4145, section 4.1).
+    ///
+    /// A side that offers both takes the inverse of what the other offers; one that offers a single
+    /// role keeps it.
+    pub fn compare_to_remote(&self, remote: Setup) -> Option<Setup>
+        ensures settled { result ≡ settled self.now remote }
+
+        // The other side settles on the inverse role, and on none where this one does.
+        ensures agreed { MatchOption result
+            (settled remote self.now ≡ None)
+            (λ role. (role ≢ ActPass) × (settled remote self.now ≡ Some (inverse role))) }
+    {
+        match (*self, remote) {
+            (Setup::ActPass, Setup::Active) => Some(Setup::Passive),
+            (Setup::ActPass, Setup::Passive) => Some(Setup::Active),
+            (Setup::Active, Setup::ActPass | Setup::Passive) => Some(Setup::Active),
+            (Setup::Passive, Setup::ActPass | Setup::Active) => Some(Setup::Passive),
+            (Setup::ActPass, Setup::ActPass)
+            | (Setup::Active, Setup::Active)
+            | (Setup::Passive, Setup::Passive) => None,
         }
     }
 }

@@ -1,7 +1,7 @@
 //! Streams that are sent and received in several layers.
 ghost use Rattle.std.specs.Prelude.{◌≡◌, IfOk, Some, [], true, refl};
 ghost use Rattle.std.specs.String.{string_bytes};
-ghost use Rattle.str0m_sdp.specs.Simulcast.{id_text, layer_text, layers_text, simulcast_text};
+ghost use Rattle.str0m_sdp.specs.Simulcast.{id_text, inverted, layer_text, layers_text, simulcast_text};
 
 use crate::printed::{Joined, Printed};
 use std::alloc::{AllocError, Global};
@@ -129,7 +129,10 @@ pub struct Simulcast {
 impl Simulcast {
     /// What the other side calls it: what is sent here is received there.
     pub fn invert(self) -> Simulcast
-        ensures { result ≡ record { send = self.recv; recv = self.send; is_munged = self.is_munged } }
+        ensures inverted { result ≡ inverted self }
+
+        // The other side of the other side is this one.
+        ensures twice { inverted result ≡ self }
     {
         Simulcast {
             send: self.recv,

@@ -1,5 +1,6 @@
 //! What a section says of each payload type, gathered in one pass over its attributes.
-ghost use Rattle.std.specs.Prelude.{◌≡◌, ◌<◌, ℕ, None, count_by, get_or, length};
+ghost use Rattle.std.specs.Prelude.{◌≡◌, ◌==◌, ◌<◌, ℕ, false, None, count_by, get_or, length};
+ghost use Rattle.std.specs.List.{list_any};
 ghost use Rattle.str0m_sdp.specs.Consistency.{maps, apt_of, apt_among, first_apt};
 
 use crate::attribute::MediaAttribute;
@@ -12,6 +13,17 @@ pub(crate) fn row(pt: Pt) -> usize
     ensures within { result < 256 }
 {
     usize::from(pt.value())
+}
+
+/// Which payload types stand in the list.
+pub(crate) fn types_in(pts: &[Pt]) -> [bool; 256]
+    ensures { (pt : ℕ) → pt < 256 → get_or result pt false ≡ list_any (λ n. n == pt) pts.now }
+{
+    let mut types = [false; 256];
+    for pt in pts {
+        types[row(*pt)] = true;
+    }
+    types
 }
 
 /// How many mappings each payload type has (RFC 8866, section 6.6).

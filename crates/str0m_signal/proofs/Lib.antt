@@ -1,5 +1,6 @@
 pub mod AnswerLaws
 pub mod BareLaws
+pub mod BoundLaws
 pub mod CandidateLineLaws
 pub mod ChainLaws
 pub mod FingerprintLineLaws

@@ -35,9 +35,9 @@ pub use str0m_formats::{
     PayloadParams, Round,
 };
 pub use str0m_sdp::{
-    Bandwidth, MediaAttribute, MediaLine, MediaType, Msid, Proto, RestrictionId, RtpMap, Sdp,
-    SdpError, Session, SessionAttribute, Setup, Simulcast, SimulcastGroups, SimulcastLayer, Word,
-    is_no_stream,
+    AsMediaAttrs, Bandwidth, Candidates, DistinctCandidates, MediaAttribute, MediaLine, MediaType,
+    Msid, Proto, RestrictionId, RtpMap, Sdp, SdpError, Session, SessionAttribute, Setup, Simulcast,
+    SimulcastGroups, SimulcastLayer, SsrcInfo, Word, is_no_stream, section_of,
 };
 pub use str0m_values::{
     Candidate, CandidateKind, Direction, Extension, Fingerprint, FingerprintError, FingerprintFmt,

@@ -1,8 +1,9 @@
 //! Offers and answers: the description that one side proposes, and the one that settles it
 //! (RFC 3264).
 
-ghost use Rattle.std.specs.Prelude.{◌≡◌, IfOk, Some};
+ghost use Rattle.std.specs.Prelude.{◌≡◌, All, IfOk, Some};
 ghost use Rattle.std.specs.String.{string_bytes};
+ghost use Rattle.str0m_sdp.specs.RowBounds.{HasBoundedRows};
 ghost use Rattle.str0m_sdp.specs.Session.{sdp_text};
 ghost use Rattle.str0m_signal.specs.Answers.{Answers, AtMostOne};
 ghost use Rattle.str0m_signal.specs.Reading.{Described};
@@ -26,6 +27,7 @@ pub struct SdpAnswer(Sdp);
 fn described(alloc: Global, text: &str) -> Result<Sdp, SdpError>
     ensures read { Answers (λ sdp. sdp) result (Described text.now) }
     ensures one { AtMostOne (Described text.now) }
+    ensures bounded { IfOk result (λ sdp. All HasBoundedRows sdp.media_lines) }
 {
     match sdp_parser(alloc, text) {
         Ok((sdp, _)) => Ok(sdp),
@@ -34,9 +36,10 @@ fn described(alloc: Global, text: &str) -> Result<Sdp, SdpError>
 }
 
 /// The printed description.
-fn printed(alloc: Global, sdp: &Sdp) -> Result<String, AllocError>
+fn printed(sdp: &Sdp) -> Result<String, AllocError>
     ensures { IfOk result (λ text. string_bytes text ≡ sdp_text sdp.now) }
 {
+    let alloc = *sdp.media_lines.allocator();
     format!(in alloc; "{sdp}")
 }
 
@@ -61,6 +64,9 @@ impl SdpOffer {
     pub fn from_sdp_string(alloc: Global, text: &str) -> Result<SdpOffer, SdpError>
         ensures read { Answers (λ offer. offer) result (Described text.now) }
         ensures one { AtMostOne (Described text.now) }
+
+        // The rows of its sections have types of seven bits, and modes and distances in their ranges.
+        ensures bounded { IfOk result (λ offer. All HasBoundedRows offer.media_lines) }
     {
         match described(alloc, text) {
             Ok(sdp) => Ok(SdpOffer(sdp)),
@@ -69,10 +75,10 @@ impl SdpOffer {
     }
 
     /// The description as a text, each line ended by CR LF.
-    pub fn to_sdp_string(&self, alloc: Global) -> Result<String, AllocError>
+    pub fn to_sdp_string(&self) -> Result<String, AllocError>
         ensures { IfOk result (λ text. string_bytes text ≡ sdp_text self.now) }
     {
-        printed(alloc, &self.0)
+        printed(&self.0)
     }
 }
 
@@ -124,6 +130,9 @@ impl SdpAnswer {
     pub fn from_sdp_string(alloc: Global, text: &str) -> Result<SdpAnswer, SdpError>
         ensures read { Answers (λ answer. answer) result (Described text.now) }
         ensures one { AtMostOne (Described text.now) }
+
+        // The rows of its sections have types of seven bits, and modes and distances in their ranges.
+        ensures bounded { IfOk result (λ answer. All HasBoundedRows answer.media_lines) }
     {
         match described(alloc, text) {
             Ok(sdp) => Ok(SdpAnswer(sdp)),
@@ -132,10 +141,10 @@ impl SdpAnswer {
     }
 
     /// The description as a text, each line ended by CR LF.
-    pub fn to_sdp_string(&self, alloc: Global) -> Result<String, AllocError>
+    pub fn to_sdp_string(&self) -> Result<String, AllocError>
         ensures { IfOk result (λ text. string_bytes text ≡ sdp_text self.now) }
     {
-        printed(alloc, &self.0)
+        printed(&self.0)
     }
 }
 

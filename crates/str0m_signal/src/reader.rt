@@ -1,6 +1,7 @@
 //! The readers of whole texts and of single lines.
 
-ghost use Rattle.std.specs.Prelude.{◌≡◌, IfOk};
+ghost use Rattle.std.specs.Prelude.{◌≡◌, All, IfOk};
+ghost use Rattle.str0m_sdp.specs.RowBounds.{HasBoundedRows};
 ghost use Rattle.str0m_signal.specs.Answers.{Answers, AtMostOne, IsRefusal, unread};
 ghost use Rattle.str0m_signal.specs.Lines.{FirstLine};
 ghost use Rattle.str0m_signal.specs.LineReading.{lines_of, left};
@@ -34,7 +35,7 @@ fn sections(alloc: Global, text: &str) -> Result<(Items<MediaLine>, &str), SdpEr
     let mut sections = Vec::new(alloc);
     let mut rest = text;
     while let Some((m, after)) = section(alloc, rest)? {
-        if let Some(message) = m.check_consistent(alloc)? {
+        if let Some(message) = m.check_consistent()? {
             return Err(SdpError::ParseError(message));
         }
         sections.push(m)?;
@@ -92,6 +93,9 @@ pub fn session_parser(alloc: Global, text: &str) -> Result<(Session, &str), SdpE
 pub fn sdp_parser(alloc: Global, text: &str) -> Result<(Sdp, &str), SdpError>
     ensures read { Answers unread result (Reading text.now) }
     ensures one { AtMostOne (Reading text.now) }
+
+    // The rows of its sections have types of seven bits, and modes and distances in their ranges.
+    ensures bounded { IfOk result (λ read. All HasBoundedRows read.0.media_lines) }
 {
     read_sdp(alloc, text)
 }

@@ -71,15 +71,49 @@ fn owned(alloc: Global, words: &[&str]) -> Result<Vec<String>, AllocError> {
     Ok(all)
 }
 
+/// Sections with rows of every kind of line.
+const SECTIONS: &[u8] =
+    b"v=0\no=- 7 2 x\ns=-\nt=0 0\nm=audio 9 UDP/TLS/RTP/SAVPF 111 63 101 9\na=mid:0\na=sendrecv\na=rtpmap:111 opus/48000/2\na=fmtp:111 minptime=10;useinbandfec=1\na=rtpmap:63 red/48000/2\na=fmtp:63 111/111\na=rtpmap:101 telephone-event/8000\nm=video 9 UDP/TLS/RTP/SAVPF 96 97\na=mid:one\na=sendonly\na=rtpmap:96 VP8/90000\na=rtpmap:97 rtx/90000\na=fmtp:97 apt=96\nm=audio 9 UDP/TLS/RTP/SAVPF 122\na=mid:2\na=sendrecv\na=rtpmap:122 AMR-WB/16000\na=fmtp:122 crc=1\n";
+
+/// Their rows.
+const ROWS: &str =
+    "0 111 - 63 opus/48000/2 minptime=10;useinbandfec=1\n0 101 - - telephone-event/8000 0-16\n0 9 - - G722/16000 -\none 96 97 - VP8/90000 -\n";
+
+/// A section of one row.
+const OPUS: &[u8] =
+    b"v=0\r\no=- 7 2 IN IP4 127.0.0.1\r\ns=-\r\nt=0 0\r\nm=audio 9 UDP/TLS/RTP/SAVPF 111\r\nc=IN IP4 0.0.0.0\r\na=setup:actpass\r\na=mid:0\r\na=sendrecv\r\na=rtpmap:111 opus/48000/2\r\na=fmtp:111 minptime=10;useinbandfec=1\r\n";
+
+/// A section of static types alone.
+const STATIC: &[u8] =
+    b"v=0\r\no=- 1 1 IN IP4 127.0.0.1\r\ns=-\r\nt=0 0\r\na=group:BUNDLE 0\r\nm=audio 9 UDP/TLS/RTP/SAVPF 0 8 9 13\r\nc=IN IP4 0.0.0.0\r\na=setup:actpass\r\na=sendrecv\r\na=mid:0\r\n";
+
 /// Words, what is read, the status, and what is written and said.
-const RUNS: [(&[&str], &[u8], u8, &str, &str); 15] = [
+const RUNS: [(&[&str], &[u8], u8, &str, &str); 21] = [
     (&[], b"", 2, "", USAGE),
     (&[""], b"", 2, "", USAGE),
     (&["show"], b"", 2, "", USAGE),
     (&["Text"], b"", 2, "", USAGE),
     (&["text "], b"", 2, "", USAGE),
-    (&["rows"], b"", 2, "", USAGE),
+    (&["Rows"], b"", 2, "", USAGE),
     (&["negotiate"], b"", 2, "", USAGE),
+    (&["rows", "rows"], b"", 2, "", USAGE),
+    (&["rows"], b"", 1, "", "SDP parse: bad session header\n"),
+    (&["rows"], b"v=0\no=- 7 2 x\ns=-\nt=0 0\n", 0, "", ""),
+    (&["rows"], SECTIONS, 0, ROWS, ""),
+    (
+        &["rows"],
+        OPUS,
+        0,
+        "0 111 - - opus/48000/2 minptime=10;useinbandfec=1\n",
+        "",
+    ),
+    (
+        &["rows"],
+        STATIC,
+        0,
+        "0 0 - - PCMU/8000 -\n0 8 - - PCMA/8000 -\n0 9 - - G722/16000 -\n0 13 - - CN/8000 -\n",
+        "",
+    ),
     (&["text", "text"], b"", 2, "", USAGE),
     (&["text", ""], b"", 2, "", USAGE),
     (&["text"], b"v=0\no=- 7 2 x\ns=-\nt=0 0\n", 0, PRINTED, ""),

@@ -1,0 +1,75 @@
+//! Random names of streams and tracks (RFC 8830, section 2).
+ghost use Rattle.std.specs.Prelude.{ℕ, ◌+◌, ◌%◌, ◌^◌};
+ghost use Rattle.rand_core.specs.Steps.{stream_of, steps_u32};
+
+use rand_core::utils::NextWord;
+use rand_core::{Rng, utils};
+use std::marker::Model;
+use std::test::Fail;
+use str0m_signal::{Msid, is_no_stream};
+
+/// Gives the numbers from one on.
+#[derive(Drop)]
+struct Counter(u32);
+
+impl Model for Counter {
+    ghost Value = { ℕ };
+
+    ghost view = { λ counter. counter.0 };
+}
+
+impl NextWord<u32> for Counter {
+    ghost step = { λ s. (s, (s + 1) % 2 ^ 32) };
+
+    fn next_word(&mut self) -> u32 {
+        let word = self.0;
+        self.0 = word.wrapping_add(1);
+        word
+    }
+}
+
+impl Rng for Counter {
+    ghost stream = { stream_of (steps_u32 (λ s. (s, (s + 1) % 2 ^ 32))) };
+
+    fn next_u32(&mut self) -> u32 {
+        self.next_word()
+    }
+
+    fn next_u64(&mut self) -> u64 {
+        utils::next_u64_via_u32(self)
+    }
+
+    fn fill_bytes(&mut self, dst: &mut [u8]) {
+        utils::fill_bytes_via_u32(self, dst)
+    }
+}
+
+/// Each letter is the next word modulo 62, in digits, capitals and small letters.
+#[test]
+fn random_names_spell_the_words_of_the_generator(rt: HostRuntime) -> Result<(), Fail> {
+    let mut counter = Counter(0);
+    let msid = Msid::random(rt.alloc(), &mut counter)?;
+    assert_eq!(rt; msid.stream_id.as_str(), "0123456789ABCDEFGHIJKLMNOPQRST");
+    assert_eq!(rt; msid.track_id.as_str(), "UVWXYZabcdefghijklmnopqrstuvwx");
+    assert_eq!(rt; counter.next_u32(), 60);
+    let mut counter = Counter(58);
+    let msid = Msid::random(rt.alloc(), &mut counter)?;
+    assert_eq!(rt; msid.stream_id.as_str(), "wxyz0123456789ABCDEFGHIJKLMNOP");
+    Ok(())
+}
+
+/// An id of `-` says that there is no stream, whatever white space stands around it.
+#[test]
+fn no_stream_is_a_dash(rt: HostRuntime) -> Result<(), Fail> {
+    for (id, answer) in [
+        ("-", true),
+        (" -\t", true),
+        ("", false),
+        ("--", false),
+        ("- -", false),
+        ("a", false),
+    ] {
+        assert_eq!(rt; is_no_stream(id), answer, "{id:?}");
+    }
+    Ok(())
+}

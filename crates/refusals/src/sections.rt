@@ -1,0 +1,258 @@
+//! What sessions and sections say, and sections that are made of rows.
+ghost use Rattle.std.specs.Prelude.{ℕ, ◌+◌, ◌%◌, ◌^◌};
+ghost use Rattle.rand_core.specs.Steps.{stream_of, steps_u32};
+
+use crate::configurations::show_row;
+use crate::fault::Fault;
+use rand_core::utils::NextWord;
+use rand_core::{Rng, utils};
+use std::alloc::Global;
+use std::marker::Model;
+use str0m_signal::{
+    AsMediaAttrs, MediaAttribute, MediaLine, Msid, Sdp, SdpError, sdp_parser, section_of,
+};
+
+/// What a session says of its transport.
+const TRANSPORT: &str = "\
+    v=0\r\no=- 7 2 IN IP4 127.0.0.1\r\ns=-\r\nt=0 0\r\n\
+    a=group:BUNDLE 1\r\n\
+    a=ice-ufrag:user\r\n\
+    a=ice-pwd:secret\r\n\
+    a=fingerprint:sha-256 00:0a\r\n\
+    a=candidate:1 1 udp 1 ::1 9 typ host\r\n\
+    m=application 9 UDP/DTLS/SCTP x\r\n\
+    a=mid:0\r\n\
+    a=candidate:1 1 udp 1 ::1 9 typ host\r\n\
+    a=candidate:2 1 udp 1 ::1 9 typ host\r\n";
+
+/// What a section says of its streams.
+const STREAMS: &str = "\
+    v=0\r\no=- 7 2 IN IP4 127.0.0.1\r\ns=-\r\nt=0 0\r\n\
+    m=video 9 UDP/TLS/RTP/SAVPF 0\r\n\
+    a=mid:0\r\n\
+    a=sendrecv\r\n\
+    a=msid:stream track\r\n\
+    a=extmap:1 urn:x\r\n\
+    a=rid:hi send\r\n\
+    a=simulcast:send hi;~lo recv x\r\n\
+    a=ssrc-group:FID 1 2\r\n\
+    a=ssrc:1 cname:user\r\n\
+    a=ssrc:1 msid:stream track\r\n";
+
+/// A section with rows of every kind of line.
+const ROWS: &str = "\
+    v=0\r\no=- 7 2 IN IP4 127.0.0.1\r\ns=-\r\nt=0 0\r\n\
+    m=audio 9 UDP/TLS/RTP/SAVPF 111 63 101 0 96 97\r\n\
+    b=AS:64\r\n\
+    a=mid:0\r\n\
+    a=sendrecv\r\n\
+    a=rtpmap:111 opus/48000/2\r\n\
+    a=fmtp:111 minptime=10\r\n\
+    a=rtpmap:63 red/48000/2\r\n\
+    a=fmtp:63 111/111\r\n\
+    a=rtpmap:101 telephone-event/8000\r\n\
+    a=rtpmap:96 VP8/90000\r\n\
+    a=rtpmap:97 rtx/90000\r\n\
+    a=fmtp:97 apt=96\r\n";
+
+/// The text that a call is asked about: short, since each allocation of its reading is refused, too.
+fn text_of(name: &str) -> &'static str {
+    match name {
+        "rtp_params" | "as_media_attrs" | "section_of" => ROWS,
+        "msid" | "extmaps" | "rids" | "simulcast" | "ssrc_info" => STREAMS,
+        _ => TRANSPORT,
+    }
+}
+
+/// Gives the numbers from one on.
+#[derive(Drop)]
+struct Counter(u32);
+
+impl Model for Counter {
+    ghost Value = { ℕ };
+
+    ghost view = { λ counter. counter.0 };
+}
+
+impl NextWord<u32> for Counter {
+    ghost step = { λ s. (s, (s + 1) % 2 ^ 32) };
+
+    fn next_word(&mut self) -> u32 {
+        let word = self.0;
+        self.0 = word.wrapping_add(1);
+        word
+    }
+}
+
+impl Rng for Counter {
+    ghost stream = { stream_of (steps_u32 (λ s. (s, (s + 1) % 2 ^ 32))) };
+
+    fn next_u32(&mut self) -> u32 {
+        self.next_word()
+    }
+
+    fn next_u64(&mut self) -> u64 {
+        utils::next_u64_via_u32(self)
+    }
+
+    fn fill_bytes(&mut self, dst: &mut [u8]) {
+        utils::fill_bytes_via_u32(self, dst)
+    }
+}
+
+/// Makes the call of that name and shows its answer.
+pub(crate) fn show(rt: &impl Print, alloc: Global, name: &str) -> Result<(), Fault> {
+    match name {
+        "media_line_new" => {
+            print!(rt; "{}", MediaLine::new(alloc))?;
+            Ok(())
+        }
+        "msid_random" => show_random(rt, alloc),
+        _ => {
+            let (sdp, _) = sdp_parser(alloc, text_of(name))?;
+            show_said(rt, alloc, name, &sdp)
+        }
+    }
+}
+
+/// The names that are drawn, and how many words were. Where there is no room none was.
+fn show_random(rt: &impl Print, alloc: Global) -> Result<(), Fault> {
+    let mut counter = Counter(0);
+    let drawn = Msid::random(alloc, &mut counter);
+    if drawn.is_err() && counter.0 != 0 {
+        println!(rt; "words were drawn")?;
+        return Ok(());
+    }
+    println!(rt; "{} {}", drawn?, counter.0)?;
+    Ok(())
+}
+
+fn show_said(rt: &impl Print, alloc: Global, name: &str, sdp: &Sdp) -> Result<(), Fault> {
+    match name {
+        "assert_consistency" => show_fault(rt, sdp.assert_consistency()),
+        "assert_consistency_without_a_group" => {
+            let mut other = sdp.clone()?;
+            other.session.attrs.0.clear();
+            show_fault(rt, other.assert_consistency())
+        }
+        "ice_creds" => {
+            if let Some(creds) = sdp.ice_creds()? {
+                println!(rt; "{} {}", creds.ufrag, creds.pass)?;
+            }
+            Ok(())
+        }
+        "fingerprint" => {
+            if let Some(print) = sdp.fingerprint()? {
+                println!(rt; "{print}")?;
+            }
+            Ok(())
+        }
+        "ice_candidates" => {
+            for candidate in sdp.ice_candidates()? {
+                println!(rt; "{candidate}")?;
+            }
+            Ok(())
+        }
+        _ => {
+            for section in sdp.media_lines.as_slice() {
+                show_section(rt, alloc, name, section)?;
+            }
+            Ok(())
+        }
+    }
+}
+
+/// What is said of a description.
+fn show_fault(rt: &impl Print, said: Result<(), SdpError>) -> Result<(), Fault> {
+    if let Err(fault) = said {
+        println!(rt; "{fault}")?;
+    }
+    Ok(())
+}
+
+fn show_section(
+    rt: &impl Print,
+    alloc: Global,
+    name: &str,
+    section: &MediaLine,
+) -> Result<(), Fault> {
+    match name {
+        "as_media_attrs" => show_lines(rt, alloc, section),
+        "section_of" => {
+            let rows = section.rtp_params()?;
+            print!(rt; "{}", section_of(section, rows.as_slice())?)?;
+            Ok(())
+        }
+        "rtp_params" => {
+            for row in &section.rtp_params()? {
+                show_row(rt, row)?;
+            }
+            Ok(())
+        }
+        "ssrc_info" => show_sources(rt, section),
+        _ => show_one(rt, name, section),
+    }
+}
+
+fn show_one(rt: &impl Print, name: &str, section: &MediaLine) -> Result<(), Fault> {
+    match name {
+        "msid" => {
+            if let Some(msid) = section.msid()? {
+                println!(rt; "{msid}")?;
+            }
+        }
+        "extmaps" => {
+            for (id, extension) in section.extmaps()? {
+                println!(rt; "{id} {}", extension.as_uri())?;
+            }
+        }
+        "rids" => {
+            for rid in &section.rids()? {
+                println!(rt; "{rid}")?;
+            }
+        }
+        "simulcast" => {
+            if let Some(simulcast) = section.simulcast()? {
+                println!(rt; "{} to {}", simulcast.send, simulcast.recv)?;
+            }
+        }
+        _ => {}
+    }
+    Ok(())
+}
+
+/// Copies of what is said of each source: its name, and the source that it repairs.
+fn show_sources(rt: &impl Print, section: &MediaLine) -> Result<(), Fault> {
+    for info in &section.ssrc_info()? {
+        let copy = info.clone()?;
+        print!(rt; "{}", copy.ssrc)?;
+        if let Some(name) = &copy.cname {
+            print!(rt; " {name}")?;
+        }
+        if let Some(repaired) = copy.repairs {
+            print!(rt; " repairs {repaired}")?;
+        }
+        println!(rt; "")?;
+    }
+    Ok(())
+}
+
+/// The lines of the section's rows, behind one that must stay where a call is refused.
+fn show_lines(rt: &impl Print, alloc: Global, section: &MediaLine) -> Result<(), Fault> {
+    let rows = section.rtp_params()?;
+    let mut lines = Vec::new(alloc);
+    lines.push(MediaAttribute::RtcpMux)?;
+    for row in &rows {
+        let before = lines.len();
+        let added = row.as_media_attrs(&mut lines);
+        if added.is_err() && lines.len() != before {
+            println!(rt; "lines were left")?;
+            return Ok(());
+        }
+        added?;
+    }
+    for line in &lines {
+        print!(rt; "{line}")?;
+    }
+    Ok(())
+}

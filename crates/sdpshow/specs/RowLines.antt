@@ -1,0 +1,47 @@
+-- The lines of `sdpshow rows`.
+use Rattle.std.specs.Prelude.{ℕ, List, [], ◌∷◌, ◌++◌, Option, Some, None, codes, filter_map}
+use Rattle.std.specs.Option.{unwrap_or}
+use Rattle.std.specs.List.{flat_map}
+use Rattle.std.specs.Fmt.{decimal}
+use Rattle.str0m_formats.specs.FormatParams.{params_text}
+use Rattle.str0m_formats.specs.declared.payload_params.PayloadParams.{PayloadParams}
+use Rattle.str0m_sdp.specs.Lists.{first}
+use Rattle.str0m_sdp.specs.RtpMap.{rtp_map_text}
+use Rattle.str0m_sdp.specs.Consistency.{mid_of}
+use Rattle.str0m_sdp.specs.SectionRows.{rows}
+use Rattle.str0m_sdp.specs.declared.media_line.MediaLine.{MediaLine}
+use Rattle.str0m_sdp.specs.declared.session.Sdp.{Sdp}
+
+-- a text, and `-` for one that is absent or empty
+abbrev pub or_dash : List ℕ → List ℕ
+or_dash [] = codes "-"
+or_dash (c ∷ text) = c ∷ text
+
+-- a payload type
+abbrev pub type_text : Option ℕ → List ℕ
+type_text None = codes "-"
+type_text (Some pt) = decimal pt
+
+-- the codec, its rate in Hz and its channels, as an rtpmap line has them but at the codec's own rate
+abbrev pub codec_text_of : PayloadParams → List ℕ
+codec_text_of row = rtp_map_text (record { codec = row.spec.codec; clock_rate = row.spec.clock_rate; channels = row.spec.channels })
+
+-- the mid of the section, the primary, RTX and RED type, the codec, and what the format says
+abbrev pub line_text : List ℕ → PayloadParams → List ℕ → List ℕ
+line_text mid row format =
+    mid ++ (codes " " ++ (decimal row.pt ++ (codes " " ++ (type_text row.resend ++ (codes " " ++ (type_text row.red
+    ++ (codes " " ++ (codec_text_of row ++ (codes " " ++ (format ++ (10 ∷ [])))))))))))
+
+-- the section's mid
+abbrev pub mid_text : MediaLine → List ℕ
+mid_text m = unwrap_or (first (filter_map mid_of m.attrs)) (codes "-")
+
+abbrev pub row_line : List ℕ → PayloadParams → List ℕ
+row_line mid row = line_text mid row (or_dash (params_text row.spec.format))
+
+abbrev pub section_lines : MediaLine → List ℕ
+section_lines m = flat_map (row_line (mid_text m)) (rows m)
+
+-- the rows of all sections in order
+abbrev pub rows_text : Sdp → List ℕ
+rows_text sdp = flat_map section_lines sdp.media_lines

@@ -1,0 +1,85 @@
+-- The types that go with others, one attribute more.
+use Rattle.std.proofs.Common.{◌≡◌, ◌<◌, ◌+◌, ◌++◌, ◌&&◌, ℕ, Bool, true, false, cond, List, [], ◌∷◌, length, take, get_or, Option, Some, None, filter_map, refl, sym, ap, ◌∙◌}
+use Rattle.std.specs.Option.{option_or}
+use Rattle.std.specs.List.{list_any}
+use Rattle.std.proofs.lemmas.Grind.{take_at_read}
+use Rattle.std.proofs.lemmas.List.Elements.{filter_map-append}
+use Rattle.str0m_values.specs.Cuts.{when}
+use Rattle.str0m_formats.specs.declared.codec.Codec.{Codec}
+use Rattle.str0m_formats.specs.declared.codec_spec.CodecSpec.{CodecSpec}
+use Rattle.str0m_formats.specs.declared.format_param.FormatParam.{FormatParam}
+use Rattle.str0m_sdp.specs.Companions.{names, companion_in, companion}
+use Rattle.str0m_sdp.specs.Lists.{last}
+use Rattle.str0m_sdp.specs.Mappings.{is_mapped_to}
+use Rattle.str0m_sdp.specs.declared.attribute.MediaAttribute.{MediaAttribute}
+use Rattle.str0m_sdp.specs.declared.attribute.MediaAttribute.TheVariants.{Fmtp}
+
+or_none : {X : Type 0} (o : Option X) → option_or o None ≡ o
+or_none None = refl
+or_none (Some x) = refl
+
+or_assoc : {X : Type 0} (a b c : Option X) → option_or (option_or a b) c ≡ option_or a (option_or b c)
+or_assoc None b c = refl
+or_assoc (Some x) b c = refl
+
+-- the last of two lists is that of the second, where it has one
+last_append : {X : Type 0} (xs ys : List X) → last (xs ++ ys) ≡ option_or (last ys) (last xs)
+last_append [] ys = sym (or_none (last ys))
+last_append {X} (x ∷ xs) ys = ap (λ (o : Option X). option_or o (Some x)) (last_append xs ys) ∙ or_assoc (last ys) (last xs) (Some x)
+
+last_one : {X Y : Type 0} (f : X → Option Y) (x : X) (o : Option Y) → f x ≡ o → last (filter_map f (x ∷ [])) ≡ o
+last_one f x None is = rw is refl
+last_one f x (Some y) is = rw is refl
+
+-- what the attribute that is read says comes before what was said so far
+pub companion_more : (codec : Codec) (mapped : List (ℕ × CodecSpec)) (attrs : List MediaAttribute) (i : ℕ) (attr : MediaAttribute) (pt : ℕ)
+    → i < length attrs → attr ≡ get_or attrs i attr
+    → companion codec mapped (take (i + 1) attrs) pt ≡ option_or (companion_in codec mapped pt attr) (companion codec mapped (take i attrs) pt)
+unfolding companion
+companion_more codec mapped attrs i attr pt lt is =
+    let f = companion_in codec mapped pt in
+    ap (λ (xs : List MediaAttribute). last (filter_map f xs)) ((take_at_read attrs i attr lt).1 ∙ ap (λ (x : MediaAttribute). take i attrs ++ x ∷ []) (sym is))
+    ∙ ap (λ (ns : List ℕ). last ns) (filter_map-append f (take i attrs) (attr ∷ []))
+    ∙ last_append (filter_map f (take i attrs)) (filter_map f (attr ∷ []))
+    ∙ ap (λ (o : Option ℕ). option_or o (last (filter_map f (take i attrs)))) (last_one f attr (f attr) refl)
+
+none_in : (codec : Codec) (mapped : List (ℕ × CodecSpec)) (pt : ℕ) (attr : MediaAttribute)
+    → ((n : ℕ) (values : List FormatParam) → attr ≡ Fmtp n values → ⊥) → companion_in codec mapped pt attr ≡ None
+none_in codec mapped pt (Fmtp n values) other = absurd (other n values refl)
+none_in codec mapped pt _ other = refl
+
+-- what is no fmtp line names no type
+pub companion_other : (codec : Codec) (mapped : List (ℕ × CodecSpec)) (attrs : List MediaAttribute) (i : ℕ) (attr : MediaAttribute) (pt : ℕ)
+    → i < length attrs → attr ≡ get_or attrs i attr → ((n : ℕ) (values : List FormatParam) → attr ≡ Fmtp n values → ⊥)
+    → companion codec mapped (take (i + 1) attrs) pt ≡ companion codec mapped (take i attrs) pt
+companion_other codec mapped attrs i attr pt lt is other =
+    companion_more codec mapped attrs i attr pt lt is
+    ∙ ap (λ (o : Option ℕ). option_or o (companion codec mapped (take i attrs) pt)) (none_in codec mapped pt attr other)
+
+-- nor does an fmtp line of another codec
+pub companion_apart : (codec : Codec) (mapped : List (ℕ × CodecSpec)) (attrs : List MediaAttribute) (i n : ℕ) (values : List FormatParam) (attr : MediaAttribute) (pt : ℕ)
+    → i < length attrs → attr ≡ get_or attrs i attr → attr ≡ Fmtp n values → is_mapped_to codec mapped n ≡ false
+    → companion codec mapped (take (i + 1) attrs) pt ≡ companion codec mapped (take i attrs) pt
+companion_apart codec mapped attrs i n values attr pt lt is variant apart =
+    companion_more codec mapped attrs i attr pt lt is
+    ∙ ap (λ (a : MediaAttribute). option_or (companion_in codec mapped pt a) (companion codec mapped (take i attrs) pt)) variant
+    ∙ ap (λ (b : Bool). option_or (when (b && list_any (names codec pt) values) n) (companion codec mapped (take i attrs) pt)) apart
+
+when_or : {X : Type 0} (b : Bool) (x : X) (o : Option X) → option_or (when b x) o ≡ cond b (Some x) o
+when_or true x o = refl
+when_or false x o = refl
+
+-- a line of the codec goes with each type that it names
+pub companion_named : (codec : Codec) (mapped : List (ℕ × CodecSpec)) (attrs : List MediaAttribute) (i n : ℕ) (values : List FormatParam) (attr : MediaAttribute) (pt : ℕ)
+    → i < length attrs → attr ≡ get_or attrs i attr → attr ≡ Fmtp n values → is_mapped_to codec mapped n ≡ true
+    → companion codec mapped (take (i + 1) attrs) pt ≡ cond (list_any (names codec pt) values) (Some n) (companion codec mapped (take i attrs) pt)
+companion_named codec mapped attrs i n values attr pt lt is variant of_codec =
+    companion_more codec mapped attrs i attr pt lt is
+    ∙ ap (λ (a : MediaAttribute). option_or (companion_in codec mapped pt a) (companion codec mapped (take i attrs) pt)) variant
+    ∙ ap (λ (b : Bool). option_or (when (b && list_any (names codec pt) values) n) (companion codec mapped (take i attrs) pt)) of_codec
+    ∙ when_or (list_any (names codec pt) values) n (companion codec mapped (take i attrs) pt)
+
+-- before any attribute there is none
+pub companion_start : (codec : Codec) (mapped : List (ℕ × CodecSpec)) (pt : ℕ) → None ≡ companion codec mapped [] pt
+unfolding companion
+companion_start codec mapped pt = refl

@@ -1,0 +1,179 @@
+-- What `distinct` keeps of a list: each of its values, once, as a set in order of insertion does.
+use Rattle.std.proofs.Common.{◌≡◌, ◌≤◌, ◌||◌, ℕ, Bool, true, false, cond, not, List, [], ◌∷◌, ◌++◌, length, map, drop, refl, sym, ap, ◌∙◌, append_assoc, true≢false}
+use Rattle.std.specs.Bool.{Decides}
+use Rattle.std.specs.Borrow.{Bor}
+use Rattle.std.specs.Cmp.{IsEquivalence, decided}
+use Rattle.std.specs.List.{filter, list_any, flat_map, AllByRecursion, IsDistinct, AllPairs, Contains}
+use Rattle.std.proofs.lemmas.List.{append-nil, drop_all, map-append}
+use Rattle.std.proofs.lemmas.List.Elements.{filter-append}
+use Rattle.std.proofs.lemmas.List.Folds.{list_any-append}
+use Rattle.std.proofs.lemmas.Map.Keys.{apart_from_distinct}
+use Rattle.std.proofs.lemmas.Map.Steps.{list_any_congr}
+use Rattle.std.proofs.lemmas.Map.Views.{list_any-from_Contains}
+use Rattle.indexmap.specs.IndexSet.{insert_key, insert_all}
+use Rattle.indexmap.proofs.CallerLemmas.{Contains-list_any}
+use Rattle.str0m_sdp.specs.Lists.{distinct}
+use Rattle.str0m_sdp.specs.DistinctCandidates.{IsEachOnce}
+
+module _ {X : Type 0} (same : X → X → Bool) (laws : IsEquivalence same) where
+  -- those that aren't among others
+  abbrev unseen : List X → List X → List X
+  unseen seen xs = filter (λ y. not (list_any (same y) seen)) xs
+
+  -- those that differ from x
+  abbrev others : X → List X → List X
+  others x xs = filter (λ y. not (same x y)) xs
+
+  unseen-none : (xs : List X) → unseen [] xs ≡ xs
+  unseen-none [] = refl
+  unseen-none (x ∷ xs) = ap (λ rest. x ∷ rest) (unseen-none xs)
+
+  -- what is the same as one that was seen was seen
+  seen_others : (seen : List X) (x : X) → list_any (same x) seen ≡ true → (xs : List X) → unseen seen (others x xs) ≡ unseen seen xs
+  seen_others seen x was [] = refl
+  seen_others seen x was (y ∷ ys) = by (same x y) refl (seen_others seen x was ys)
+    where
+      by : (b : Bool) → same x y ≡ b → unseen seen (others x ys) ≡ unseen seen ys → unseen seen (cond (not b) (y ∷ others x ys) (others x ys)) ≡ unseen seen (y ∷ ys)
+      by true e rest = rest ∙ sym (ap (λ b. cond (not b) (y ∷ unseen seen ys) (unseen seen ys)) (sym (list_any_congr laws x y seen e) ∙ was))
+      by false e rest = ap (λ l. cond (not (list_any (same y) seen)) (y ∷ l) l) rest
+
+  -- one more that was seen
+  seen_more : (seen : List X) (x : X) (xs : List X) → unseen (seen ++ x ∷ []) xs ≡ unseen seen (others x xs)
+  seen_more seen x [] = refl
+  seen_more seen x (y ∷ ys) =
+      ap (λ b. cond (not b) (y ∷ unseen (seen ++ x ∷ []) ys) (unseen (seen ++ x ∷ []) ys)) (list_any-append (same y) seen (x ∷ []) ∙ ap (λ b. list_any (same y) seen || (b || false)) (laws.symm y x))
+      ∙ ap (λ l. cond (not (list_any (same y) seen || (same x y || false))) (y ∷ l) l) (seen_more seen x ys)
+      ∙ by (same x y) (list_any (same y) seen) refl
+    where
+      by : (b c : Bool) → list_any (same y) seen ≡ c → cond (not (c || (b || false))) (y ∷ unseen seen (others x ys)) (unseen seen (others x ys)) ≡ unseen seen (cond (not b) (y ∷ others x ys) (others x ys))
+      by true true e = refl
+      by true false e = refl
+      by false true e = sym (ap (λ b. cond (not b) (y ∷ unseen seen (others x ys)) (unseen seen (others x ys))) e)
+      by false false e = sym (ap (λ b. cond (not b) (y ∷ unseen seen (others x ys)) (unseen seen (others x ys))) e)
+
+  -- a set keeps what it had, and then each value that it hadn't
+  inserted : (seen xs : List X) → insert_all same seen xs ≡ seen ++ unseen seen (distinct same xs)
+  inserted seen [] = sym (append-nil seen)
+  inserted seen (x ∷ xs) = by (list_any (same x) seen) refl (inserted seen xs) (inserted (seen ++ x ∷ []) xs)
+    where
+      rest : List X
+      rest = others x (distinct same xs)
+
+      by : (b : Bool) → list_any (same x) seen ≡ b → insert_all same seen xs ≡ seen ++ unseen seen (distinct same xs) → insert_all same (seen ++ x ∷ []) xs ≡ (seen ++ x ∷ []) ++ unseen (seen ++ x ∷ []) (distinct same xs)
+          → insert_all same (cond b seen (seen ++ x ∷ [])) xs ≡ seen ++ cond (not b) (x ∷ unseen seen rest) (unseen seen rest)
+      by true e kept more = kept ∙ ap (λ l. seen ++ l) (sym (seen_others seen x e (distinct same xs)))
+      by false e kept more = more ∙ append_assoc seen (x ∷ []) _ ∙ ap (λ l. seen ++ x ∷ l) (seen_more seen x (distinct same xs))
+
+  -- a set into which a list is put has its values, each once
+  pub inserted-distinct : (xs : List X) → insert_all same [] xs ≡ distinct same xs
+  inserted-distinct xs = inserted [] xs ∙ unseen-none (distinct same xs)
+
+  -- leaving out what differs from k loses no k
+  any-others : (k x : X) → same k x ≡ false → (xs : List X) → list_any (same k) (others x xs) ≡ list_any (same k) xs
+  any-others k x apart [] = refl
+  any-others k x apart (y ∷ ys) = by (same x y) refl (any-others k x apart ys)
+    where
+      by : (b : Bool) → same x y ≡ b → list_any (same k) (others x ys) ≡ list_any (same k) ys → list_any (same k) (cond (not b) (y ∷ others x ys) (others x ys)) ≡ list_any (same k) (y ∷ ys)
+      by true e rest = rest ∙ ap (λ b. b || list_any (same k) ys) (sym (laws.symm k y ∙ sym (laws.congr x y k e) ∙ laws.symm x k ∙ apart))
+      by false e rest = ap (λ b. same k y || b) rest
+
+  any-distinct : (k : X) (xs : List X) → list_any (same k) (distinct same xs) ≡ list_any (same k) xs
+  any-distinct k [] = refl
+  any-distinct k (x ∷ xs) = by (same k x) refl (any-distinct k xs)
+    where
+      by : (b : Bool) → same k x ≡ b → list_any (same k) (distinct same xs) ≡ list_any (same k) xs → (b || list_any (same k) (others x (distinct same xs))) ≡ (b || list_any (same k) xs)
+      by true e rest = refl
+      by false e rest = any-others k x e (distinct same xs) ∙ rest
+
+  all-filter : (P : X → Type 0) (test : X → Bool) (xs : List X) → AllByRecursion P xs → AllByRecursion P (filter test xs)
+  all-filter P test [] all = tt
+  all-filter P test (x ∷ xs) all = by (test x) (all-filter P test xs all.1)
+    where
+      by : (b : Bool) → AllByRecursion P (filter test xs) → AllByRecursion P (cond b (x ∷ filter test xs) (filter test xs))
+      by true rest = (all.0, rest)
+      by false rest = rest
+
+  distinct-filter : (test : X → Bool) (xs : List X) → IsDistinct same xs → IsDistinct same (filter test xs)
+  unfolding IsDistinct
+  distinct-filter test [] apart = tt
+  distinct-filter test (x ∷ xs) apart = by (test x) (distinct-filter test xs apart.1)
+    where
+      by : (b : Bool) → IsDistinct same (filter test xs) → IsDistinct same (cond b (x ∷ filter test xs) (filter test xs))
+      by true rest = (all-filter (λ y. same x y ≡ false) test xs apart.0, rest)
+      by false rest = rest
+
+  others-apart : (x : X) (xs : List X) → AllByRecursion (λ y. same x y ≡ false) (others x xs)
+  others-apart x [] = tt
+  others-apart x (y ∷ ys) = by (same x y) refl (others-apart x ys)
+    where
+      by : (b : Bool) → same x y ≡ b → AllByRecursion (λ y. same x y ≡ false) (others x ys) → AllByRecursion (λ y. same x y ≡ false) (cond (not b) (y ∷ others x ys) (others x ys))
+      by true e rest = rest
+      by false e rest = (e, rest)
+
+  pub distinct-apart : (xs : List X) → IsDistinct same (distinct same xs)
+  unfolding IsDistinct
+  distinct-apart [] = tt
+  distinct-apart (x ∷ xs) = (others-apart x (distinct same xs), distinct-filter (λ y. not (same x y)) (distinct same xs) (distinct-apart xs))
+
+-- where the test decides equality, `distinct` keeps each value once and no others
+pub each_once : {X : Type 0} (same : X → X → Bool) → ((x y : X) → Decides (same x y) (x ≡ y)) → (xs : List X) → IsEachOnce xs (distinct same xs)
+each_once {X} same decides xs = record { apart = apart; same_values = λ x. (λ h. among x xs (sym (any-distinct same laws x xs) ∙ found x _ h), λ h. among x _ (any-distinct same laws x xs ∙ found x xs h)) }
+  where
+    laws : IsEquivalence same
+    laws = decided same decides
+
+    found : (x : X) (ys : List X) → Contains ys x → list_any (same x) ys ≡ true
+    found x ys h = list_any-from_Contains laws x ys h
+
+    among : (x : X) (ys : List X) → list_any (same x) ys ≡ true → Contains ys x
+    among x ys h = Contains-list_any same (λ a b. (decides a b).0) ys x h
+
+    apart : AllPairs (λ x y. x ≡ y → ⊥) (distinct same xs)
+    apart i j d before inside equal = true≢false (sym ((decides _ _).1 equal) ∙ apart_from_distinct same (distinct same xs) i j d (distinct-apart same laws xs) before inside)
+
+-- ---- sets of references
+
+module _ {X : Type 0} (same : X → X → Bool) where
+  -- whether references' values pass
+  any-shown : (test : X → Bool) (keys : List (Bor X)) → list_any (λ k. test k.now) keys ≡ list_any test (map (λ k. k.now) keys)
+  any-shown test [] = refl
+  any-shown test (k ∷ ks) = ap (λ b. test k.now || b) (any-shown test ks)
+
+  insert_key-shown : (keys : List (Bor X)) (k : Bor X) → map (λ k. k.now) (insert_key (λ a b. same a.now b.now) keys k) ≡ insert_key same (map (λ k. k.now) keys) k.now
+  insert_key-shown keys k =
+      by (list_any (λ x. same k.now x.now) keys)
+      ∙ ap (λ b. cond b (map (λ x. x.now) keys) (map (λ x. x.now) keys ++ k.now ∷ [])) (any-shown (same k.now) keys)
+    where
+      by : (b : Bool) → map (λ x. x.now) (cond b keys (keys ++ k ∷ [])) ≡ cond b (map (λ x. x.now) keys) (map (λ x. x.now) keys ++ k.now ∷ [])
+      by true = refl
+      by false = map-append (λ (x : Bor X). x.now) keys (k ∷ [])
+
+  -- one of the values that are still to be put in
+  pub one_more : (keys new : List (Bor X)) (k : Bor X) (left rest : List X) → new ≡ insert_key (λ a b. same a.now b.now) keys k → left ≡ k.now ∷ rest → insert_all same (map (λ k. k.now) new) rest ≡ insert_all same (map (λ k. k.now) keys) left
+  one_more keys new k left rest put next =
+      ap (λ l. insert_all same l rest) (ap (map (λ x. x.now)) put ∙ insert_key-shown keys k) ∙ sym (ap (insert_all same (map (λ x. x.now) keys)) next)
+
+  -- once every value is put in, those that are there are each of them, once
+  pub all_put : {A : Type 0} → IsEquivalence same → (values : A → List X) (owners : List A) (i : ℕ) (keys given : List (Bor X)) (all : List X) → length owners ≤ i → given ≡ keys
+      → insert_all same (map (λ k. k.now) keys) (flat_map values (drop i owners)) ≡ insert_all same [] all → map (λ k. k.now) given ≡ distinct same all
+  all_put laws values owners i keys given all past is put =
+      ap (map (λ k. k.now)) is ∙ sym (ap (λ l. insert_all same (map (λ k. k.now) keys) (flat_map values l)) (drop_all i owners past)) ∙ put ∙ inserted-distinct same laws all
+
+-- ---- one item more
+
+-- one item under a test that is known of it
+one_kept : {X : Type 0} (test : X → Bool) (x : X) (s b : Bool) → test x ≡ not s → filter test (cond b [] (x ∷ [])) ≡ cond (s || b) [] (x ∷ [])
+one_kept test x true true is = refl
+one_kept test x true false is = rw is refl
+one_kept test x false true is = refl
+one_kept test x false false is = rw is refl
+
+-- one item more stands behind the others, unless it is the same as one of them
+pub distinct_push : {X : Type 0} (same : X → X → Bool) (xs : List X) (x : X)
+    → distinct same (xs ++ x ∷ []) ≡ distinct same xs ++ cond (list_any (λ y. same y x) xs) [] (x ∷ [])
+distinct_push same [] x = refl
+distinct_push {X} same (y ∷ xs) x =
+    let test = λ (z : X). not (same y z) in
+    ap (λ (zs : List X). y ∷ filter test zs) (distinct_push same xs x)
+    ∙ ap (λ (zs : List X). y ∷ zs) (filter-append test (distinct same xs) (cond (list_any (λ z. same z x) xs) [] (x ∷ [])))
+    ∙ ap (λ (zs : List X). y ∷ (filter test (distinct same xs) ++ zs)) (one_kept test x (same y x) (list_any (λ z. same z x) xs) refl)

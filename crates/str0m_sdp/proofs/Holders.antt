@@ -1,0 +1,42 @@
+-- Where a section has a mid and a direction.
+use Rattle.std.proofs.Common.{◌≡◌, ◌<◌, true, List, filter_map, count_by, Some, refl, ap, ◌∙◌, ◌↔◌}
+use Rattle.std.specs.Option.{is_some, unwrap_or}
+use Rattle.str0m_values.specs.declared.direction.Direction.{Direction}
+use Rattle.str0m_values.specs.declared.direction.Direction.TheVariants as way
+use Rattle.str0m_sdp.specs.Attribute.{direction_attribute}
+use Rattle.str0m_sdp.specs.Consistency.{is_mid, is_direction, mid_of}
+use Rattle.str0m_sdp.specs.Lists.{first}
+use Rattle.str0m_sdp.specs.SectionDirection.{direction_of, section_direction, with_direction}
+use Rattle.str0m_sdp.specs.declared.attribute.MediaAttribute.{MediaAttribute}
+use Rattle.str0m_sdp.specs.declared.attribute.MediaAttribute.TheVariants.{Mid, RecvOnly, SendRecv, SendOnly, Inactive}
+use Rattle.str0m_sdp.proofs.ListLaws.{first_counted, first_set, first_within}
+
+mid_is : (attr : MediaAttribute) → is_some (mid_of attr) ≡ is_mid attr
+mid_is (Mid mid) = refl
+mid_is _ = refl
+
+pub mid_counted : (attrs : List MediaAttribute) → (is_some (first (filter_map mid_of attrs)) ≡ true) ↔ (0 < count_by is_mid attrs)
+mid_counted attrs = first_counted mid_of is_mid mid_is attrs
+
+pub direction_is : (attr : MediaAttribute) → is_some (direction_of attr) ≡ is_direction attr
+direction_is RecvOnly = refl
+direction_is SendRecv = refl
+direction_is SendOnly = refl
+direction_is Inactive = refl
+direction_is _ = refl
+
+pub direction_counted : (attrs : List MediaAttribute) → (is_some (first (filter_map direction_of attrs)) ≡ true) ↔ (0 < count_by is_direction attrs)
+direction_counted attrs = first_counted direction_of is_direction direction_is attrs
+
+-- what is set is read back
+pub direction_read_back : (attrs : List MediaAttribute) (direction : Direction) → 0 < count_by is_direction attrs
+    → section_direction (with_direction direction attrs) ≡ direction
+direction_read_back attrs direction some =
+    let at = first_set direction_of is_direction direction_is attrs (direction_attribute direction) (ap is_some (said direction)) (first_within is_direction attrs some) in
+    ap (λ o. unwrap_or o way.Inactive) (at ∙ said direction)
+  where
+    said : (direction : Direction) → direction_of (direction_attribute direction) ≡ Some direction
+    said way.SendRecv = refl
+    said way.SendOnly = refl
+    said way.RecvOnly = refl
+    said way.Inactive = refl

@@ -1,0 +1,164 @@
+-- Where lines keep to their ranges, rows do.
+use Rattle.std.proofs.Common.{◌≡◌, ◌<◌, ◌≤◌, ◌++◌, ℕ, Bool, true, false, cond, not, List, [], ◌∷◌, Option, Some, None, All, IfSome, filter, find, nat_lt, nat_eq, option_map, option_to_list, filter_map, refl, inl, inr, arith}
+use Rattle.std.specs.List.{list_any}
+use Rattle.std.proofs.lemmas.Bool.{cases_lt, le-ltb, ne_eqb}
+use Rattle.std.proofs.lemmas.List.Elements.{All-nil, All-head, All-tail, All-append, All-filter}
+use Rattle.str0m_values.specs.Cuts.{when}
+use Rattle.str0m_formats.specs.FormatLine.{format_of_fmtp, events_end, is_events, is_refused, kept, values_of}
+use Rattle.str0m_formats.specs.FormatParams.{empty, set, set_all}
+use Rattle.str0m_formats.specs.declared.codec.Codec.{Codec}
+use Rattle.str0m_formats.specs.declared.codec.Codec.TheVariants.{Tele}
+use Rattle.str0m_formats.specs.declared.codec_spec.CodecSpec.{CodecSpec}
+use Rattle.str0m_formats.specs.declared.format_param.FormatParam.{FormatParam}
+use Rattle.str0m_formats.specs.declared.format_param.FormatParam.TheVariants.{ModeSet, SpropMaxDonDiff}
+use Rattle.str0m_formats.specs.declared.format_params.FormatParams.{FormatParams}
+use Rattle.str0m_sdp.specs.Companions.{companion_in, companion, rtx_type, red_type}
+use Rattle.str0m_sdp.specs.Consistency.{maps}
+use Rattle.str0m_sdp.specs.Lists.{distinct}
+use Rattle.str0m_sdp.specs.Mappings.{mapping, static_spec, static_row, unmapped, mapped}
+use Rattle.str0m_sdp.specs.RowBounds.{AreModes, IsDistance, IsBounded, IsInRange, KeepsToLine, KeepsToLines}
+use Rattle.str0m_sdp.specs.SectionRows.{values_in, lines_of, is_kept, row_with, row, rows}
+use Rattle.str0m_sdp.specs.declared.attribute.MediaAttribute.{MediaAttribute}
+use Rattle.str0m_sdp.specs.declared.attribute.MediaAttribute.TheVariants.{RtpMap, Fmtp}
+use Rattle.str0m_sdp.specs.declared.media_line.MediaLine.{MediaLine}
+use Rattle.str0m_sdp.proofs.FilterMapLaws.{all_mapped, last_of_all}
+
+abbrev Small : ℕ → Type 0
+Small n = n ≤ 127
+
+-- ---- formats
+
+-- the fields of a format that have ranges keep to them
+abbrev Within : FormatParams → Type 0
+Within p = IfSome p.mode_set AreModes × IfSome p.sprop_max_don_diff IsDistance
+
+set_within : (param : FormatParam) (p : FormatParams) → IsInRange param → Within p → Within (set param p)
+set_within (ModeSet mask) p range within = (range, within.1)
+set_within (SpropMaxDonDiff n) p range within = (within.0, range)
+set_within _ p range within = within
+
+all_within : (params : List FormatParam) (p : FormatParams) → All IsInRange params → Within p → Within (set_all p params)
+all_within [] p ranges within = within
+all_within (param ∷ params) p ranges within =
+    all_within params (set param p) (All-tail IsInRange param params ranges) (set_within param p (All-head IsInRange param params ranges) within)
+
+values_within : (lines : List (List FormatParam)) → All (All IsInRange) lines → All IsInRange (values_of lines)
+values_within [] ranges = All-nil IsInRange
+values_within (line ∷ lines) ranges =
+    All-append IsInRange (kept line) (values_of lines)
+    (All-filter (λ param. not (is_events param)) IsInRange line (All-head (All IsInRange) line lines ranges))
+    (values_within lines (All-tail (All IsInRange) line lines ranges))
+
+events_within : (max : Option ℕ) → IfSome (option_map (λ n. record empty { telephone_event_max = Some n }) max) Within
+events_within None = tt
+events_within (Some n) = (tt, tt)
+
+unless_refused : (b : Bool) (p : FormatParams) → Within p → IfSome (cond b None (Some p)) Within
+unless_refused true p within = tt
+unless_refused false p within = within
+
+format_within : (codec : Codec) (lines : List (List FormatParam)) → All (All IsInRange) lines → IfSome (format_of_fmtp codec lines) Within
+format_within Tele lines ranges = events_within (events_end lines)
+format_within codec lines ranges =
+    unless_refused (is_refused codec lines) (set_all empty (values_of lines)) (all_within (values_of lines) empty (values_within lines ranges) (tt, tt))
+
+when_line : (b : Bool) (values : List FormatParam) → All IsInRange values → IfSome (cond b (Some values) None) (All IsInRange)
+when_line true values ranges = ranges
+when_line false values ranges = tt
+
+line_within : (pt : ℕ) (attr : MediaAttribute) → KeepsToLine attr → IfSome (values_in pt attr) (All IsInRange)
+line_within pt (Fmtp n values) keeps = when_line (nat_eq n pt) values keeps.1
+line_within pt _ keeps = tt
+
+lines_within : (attrs : List MediaAttribute) (pt : ℕ) → All KeepsToLine attrs → All (All IsInRange) (lines_of attrs pt)
+unfolding lines_of
+lines_within attrs pt keeps = all_mapped KeepsToLine (All IsInRange) (values_in pt) (line_within pt) attrs keeps
+
+-- ---- types
+
+small_when : (b : Bool) (n : ℕ) → n ≤ 127 → IfSome (when b n) Small
+small_when true n small = small
+small_when false n small = tt
+
+companion_small_in : (codec : Codec) (types : List (ℕ × CodecSpec)) (pt : ℕ) (attr : MediaAttribute) → KeepsToLine attr → IfSome (companion_in codec types pt attr) Small
+companion_small_in codec types pt (Fmtp n values) keeps = small_when _ n keeps.0
+companion_small_in codec types pt _ keeps = tt
+
+companion_small : (codec : Codec) (types : List (ℕ × CodecSpec)) (attrs : List MediaAttribute) (pt : ℕ) → All KeepsToLine attrs → IfSome (companion codec types attrs pt) Small
+unfolding companion
+companion_small codec types attrs pt keeps =
+    last_of_all Small (filter_map (companion_in codec types pt) attrs)
+    (all_mapped KeepsToLine Small (companion_in codec types pt) (companion_small_in codec types pt) attrs keeps)
+
+small_if : (b : Bool) (o : Option ℕ) → IfSome o Small → IfSome (cond b o None) Small
+small_if true o small = small
+small_if false o small = tt
+
+mapping_small : (attr : MediaAttribute) → KeepsToLine attr → IfSome (mapping attr) (λ type. Small type.0)
+mapping_small (RtpMap pt value) keeps = keeps
+mapping_small _ keeps = tt
+
+-- a type above 127 isn't in the table
+large : (pt : ℕ) → 127 < pt → static_spec pt ≡ None
+unfolding static_spec
+large pt above =
+    rw (
+      ne_eqb pt 0 (λ e. absurd (omega arith)),
+      ne_eqb pt 8 (λ e. absurd (omega arith)),
+      ne_eqb pt 9 (λ e. absurd (omega arith)),
+      ne_eqb pt 13 (λ e. absurd (omega arith)),
+    ) refl
+
+small_or_none : (pt : ℕ) (o : Option CodecSpec) → (127 < pt → o ≡ None) → IfSome {T = ℕ × CodecSpec} (option_map (λ spec. (pt, spec)) o) (λ type. Small type.0)
+small_or_none pt None none = tt
+small_or_none pt (Some spec) none =
+    elim (cases_lt 127 pt) [
+      | inl above ↦ let no : Some spec ≡ None = none above in absurd cc
+      | inr small ↦ small
+    ]
+
+unless_mapped : {X : Type 0} (P : X → Type 0) (b : Bool) (o : Option X) → IfSome o P → IfSome (cond b None o) P
+unless_mapped P true o holds = tt
+unless_mapped P false o holds = holds
+
+unmapped_small : (attrs : List MediaAttribute) (pt : ℕ) → Unit {0} → IfSome (unmapped attrs pt) (λ type. Small type.0)
+unmapped_small attrs pt _ = unless_mapped (λ type. Small type.0) (list_any (maps pt) attrs) (static_row pt) (small_or_none pt (static_spec pt) (large pt))
+
+mapped_small : (m : MediaLine) → KeepsToLines m → All (λ type. Small type.0) (mapped m)
+unfolding mapped
+mapped_small m keeps =
+    All-append (λ type. Small type.0) (filter_map mapping m.attrs) (filter_map (unmapped m.attrs) (distinct nat_eq m.pts))
+    (all_mapped KeepsToLine (λ type. Small type.0) mapping mapping_small m.attrs keeps)
+    (all_mapped (λ _. Unit {0}) (λ type. Small type.0) (unmapped m.attrs) (unmapped_small m.attrs) (distinct nat_eq m.pts) (λ k d lt. tt))
+
+-- ---- rows
+
+small_types : (pt : ℕ) (resend red : Option ℕ) → Small pt → IfSome resend Small → IfSome red Small
+    → find (nat_lt 127) (pt ∷ (option_to_list resend ++ option_to_list red)) ≡ None
+small_types pt None None first second third = rw (le-ltb 127 pt first) refl
+small_types pt None (Some c) first second third = rw (le-ltb 127 pt first, le-ltb 127 c third) refl
+small_types pt (Some b) None first second third = rw (le-ltb 127 pt first, le-ltb 127 b second) refl
+small_types pt (Some b) (Some c) first second third = rw (le-ltb 127 pt first, le-ltb 127 b second, le-ltb 127 c third) refl
+
+if_format : {X Y : Type 0} (P : X → Type 0) (Q : Y → Type 0) (f : X → Y) (o : Option X) → ((x : X) → P x → Q (f x)) → IfSome o P → IfSome (option_map f o) Q
+if_format P Q f None each holds = tt
+if_format P Q f (Some x) each holds = each x holds
+
+row_bounded : (m : MediaLine) → KeepsToLines m → (type : ℕ × CodecSpec) → Small type.0 → IfSome (row m type) IsBounded
+unfolding row
+row_bounded m keeps (pt, spec) small =
+    if_format Within IsBounded (row_with m pt spec) (format_of_fmtp spec.codec (lines_of m.attrs pt))
+    (λ format within. record {
+      types = small_types pt (rtx_type m pt) (red_type m pt spec.codec) small
+          (companion_small _ (mapped m) m.attrs pt keeps) (small_if _ _ (companion_small _ (mapped m) m.attrs pt keeps));
+      modes = within.0;
+      distance = within.1;
+    })
+    (format_within spec.codec (lines_of m.attrs pt) (lines_within m.attrs pt keeps))
+
+-- the rows of a section whose lines keep to their ranges keep to theirs
+pub rows_bounded : (m : MediaLine) → KeepsToLines m → All IsBounded (rows m)
+unfolding rows
+rows_bounded m keeps =
+    all_mapped (λ type. Small type.0) IsBounded (row m) (row_bounded m keeps) (filter (is_kept m) (mapped m))
+    (All-filter (is_kept m) (λ type. Small type.0) (mapped m) (mapped_small m keeps))

@@ -1,0 +1,36 @@
+-- Tables that mark types, one item more.
+use Rattle.std.proofs.Common.{◌≡◌, ◌<◌, ◌+◌, ◌==◌, ℕ, Bool, true, false, ◌&&◌, ◌||◌, List, length, take, set, get_or, refl, sym, ap, ◌∙◌, inl, inr}
+use Rattle.std.specs.List.{list_any}
+use Rattle.std.proofs.lemmas.Bool.{cases_eq, eq-eqb, ne_eqb, or_right}
+use Rattle.std.proofs.lemmas.List.{get_or-set_same, get_or-set_other}
+use Rattle.std.proofs.lemmas.List.Folds.{list_any_more}
+
+pub or_false : (b : Bool) → (b || false) ≡ b
+or_false true = refl
+or_false false = refl
+
+pub and_true : (a b : Bool) → b ≡ true → (a && b) ≡ a
+and_true true b is = is
+and_true false b is = refl
+
+-- some item passes so far, or the one that is read
+pub any_more : {X : Type 0} (p : X → Bool) (xs : List X) (i : ℕ) (x : X) → i < length xs → x ≡ get_or xs i x
+    → list_any p (take (i + 1) xs) ≡ (list_any p (take i xs) || p x)
+any_more p xs i x lt is = list_any_more p xs i x lt ∙ ap (λ (b : Bool). list_any p (take i xs) || b) (ap p (sym is))
+
+-- an item that doesn't pass marks nothing
+pub any_same : {X : Type 0} (p : X → Bool) (xs : List X) (i : ℕ) (x : X) → i < length xs → x ≡ get_or xs i x → p x ≡ false
+    → list_any p (take (i + 1) xs) ≡ list_any p (take i xs)
+any_same p xs i x lt is fails = any_more p xs i x lt is ∙ ap (λ (b : Bool). list_any p (take i xs) || b) fails ∙ or_false (list_any p (take i xs))
+
+-- a type that is marked is marked on its own
+pub marked : (marks : List Bool) (n pt : ℕ) (so_far : Bool) → n < length marks → get_or marks pt false ≡ so_far
+    → get_or (set marks n true) pt false ≡ (so_far || n == pt)
+marked marks n pt so_far row is =
+    elim (cases_eq n pt) [
+      | inl same ↦
+          rw (← same) (get_or-set_same marks n true false row ∙ sym (or_right so_far (n == n) (eq-eqb n n refl)))
+      | inr apart ↦
+          get_or-set_other marks n pt true false (λ same. apart (sym same)) ∙ is
+          ∙ sym (ap (λ (b : Bool). so_far || b) (ne_eqb n pt apart) ∙ or_false so_far)
+    ]

@@ -1,0 +1,8 @@
+use Rattle.std.proofs.Common.{rules, tests}
+use Rattle.std.proofs.lemmas.Iterator.{YieldsList-from_slice, items_from_collect}
+use Rattle.std.proofs.lemmas.Iterator.Consumers.{YieldsList-from_filter_map}
+use Rattle.str0m_sdp.specs.Mappings.{mapping}
+use Rattle.str0m_sdp.proofs.mappings.mappings.Goals as goal
+
+pub returns : goal.returns
+returns c = items_from_collect _ c.collect.ensures.ran (YieldsList-from_filter_map _ mapping (YieldsList-from_slice c.args.attrs.now cc) c.filter_map.ensures.closure (λ x r q k. search (rules, tests)))

@@ -1,0 +1,18 @@
+use Rattle.std.proofs.Common.{ap, sym, ◌∙◌}
+use Rattle.std.specs.List.{filter_map}
+use Rattle.str0m_sdp.specs.SsrcInfo.{source_of}
+use Rattle.str0m_sdp.proofs.SsrcLaws.{put_repair, pass_repair}
+use Rattle.str0m_sdp.proofs.media_line.MediaLine.add_repairs.Goals as goal
+use Rattle.str0m_sdp.proofs.media_line.MediaLine.add_repairs.Goals.{in-Some+in_ok-add_repair, in_default}
+
+pub loop-line-preserved : goal.loop-line-preserved
+loop-line-preserved c =
+    let lines = c.as_slice-line-items.result.now in
+    elim c.match-repair_pair.branch [
+      | in-Some+in_ok-add_repair w ↦
+          put_repair (filter_map source_of lines) lines c.loop-line.line-index c.line-item.result c.loop-line.infos.entries c.match-repair_pair.infos.entries c.loop-line-test.true c.line-item.is c.loop-line.invariant
+          _ (sym w.in-Some.ensures) (ap (λ infos. infos.entries) w.infos-is ∙ w.in_ok-add_repair.ensures)
+      | in_default w ↦
+          pass_repair (filter_map source_of lines) lines c.loop-line.line-index c.line-item.result c.loop-line.infos.entries c.match-repair_pair.infos.entries c.loop-line-test.true c.line-item.is c.loop-line.invariant
+          (sym w.in_default.ensures) (ap (λ infos. infos.entries) w.infos-is)
+    ]

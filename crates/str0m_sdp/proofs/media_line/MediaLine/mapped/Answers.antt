@@ -1,0 +1,54 @@
+use Rattle.std.proofs.Common.{◌++◌, ℕ, List, take, filter_map, nat_eq, ap, sym, ◌∙◌, append_assoc}
+use Rattle.std.specs.List.{list_any}
+use Rattle.std.specs.Option.{option_to_list}
+use Rattle.std.proofs.lemmas.List.{length-set, take_all}
+use Rattle.str0m_formats.specs.declared.codec_spec.CodecSpec.{CodecSpec}
+use Rattle.str0m_sdp.specs.Consistency.{maps}
+use Rattle.str0m_sdp.specs.Lists.{distinct}
+use Rattle.str0m_sdp.specs.Mappings.{mapping, unmapped, mapped, static_row}
+use Rattle.str0m_sdp.proofs.MappingLaws.{statics_new, statics_seen, mark_new, mark_seen}
+use Rattle.str0m_sdp.proofs.media_line.MediaLine.mapped.Goals.{then-not-seen-row+in_ok-push_static, else-not-seen-row}
+use Rattle.str0m_sdp.proofs.media_line.MediaLine.mapped.Goals as goal
+
+pub loop-pt-preserved : goal.loop-pt-preserved
+loop-pt-preserved c =
+    let attrs = c.args.self.now.attrs in
+    let pts = c.as_slice-pt-items.result.now in
+    let i = c.loop-pt.pt-index in
+    let pt = c.pt-item.result in
+    let seen = c.loop-pt.seen in
+    let lines = filter_map mapping attrs in
+    let before = filter_map (unmapped attrs) (distinct nat_eq (take i pts)) in
+    let lt = c.loop-pt-test.true in
+    let is = c.pt-item.is in
+    let row = rw (c.row-row.ensures.is, ← c.loop-pt.invariant.whole) at c.row-row.ensures.within in
+    let so_far = c.loop-pt.invariant.seen pt (rw c.row-row.ensures.is at c.row-row.ensures.within) in
+    elim c.if-not-seen-row.branch [
+      | then-not-seen-row+in_ok-push_static w ↦
+          let new = rw c.row-row.ensures.is at w.if-not-seen-row.true in
+          rw (w.mapped-is, w.seen-is, c.row-row.ensures.is) (record {
+            rows = w.in_ok-push_static.ensures
+                ∙ ap (λ (rows : List (ℕ × CodecSpec)). rows ++ option_to_list (static_row pt)) c.loop-pt.invariant.rows
+                ∙ append_assoc lines before (option_to_list (static_row pt))
+                ∙ sym (ap (λ (rows : List (ℕ × CodecSpec)). lines ++ rows) (statics_new attrs pts i pt lt is (sym so_far ∙ new)));
+            whole = length-set seen pt _ ∙ c.loop-pt.invariant.whole;
+            seen = λ n small. mark_new seen pts i pt n (list_any (maps n) attrs) lt is row (c.loop-pt.invariant.seen n small);
+          })
+      | else-not-seen-row w ↦
+          let old = rw c.row-row.ensures.is at w.if-not-seen-row.false in
+          rw (w.mapped-is, w.seen-is) (record {
+            rows = c.loop-pt.invariant.rows
+                ∙ sym (ap (λ (rows : List (ℕ × CodecSpec)). lines ++ rows) (statics_seen attrs pts i pt lt is (sym so_far ∙ old)));
+            whole = c.loop-pt.invariant.whole;
+            seen = λ n small. mark_seen seen pts i pt n (list_any (maps n) attrs) lt is old (c.loop-pt.invariant.seen n small);
+          })
+    ]
+
+pub returns : goal.returns
+unfolding mapped
+returns c =
+    let attrs = c.args.self.now.attrs in
+    let pts = c.as_slice-pt-items.result.now in
+    c.loop-pt.invariant.rows
+    ∙ ap (λ (ns : List ℕ). filter_map mapping attrs ++ filter_map (unmapped attrs) (distinct nat_eq ns))
+    (take_all c.loop-pt.pt-index pts c.loop-pt-test.false ∙ c.as_slice-pt-items.ensures)

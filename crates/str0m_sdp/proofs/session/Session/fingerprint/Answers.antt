@@ -1,0 +1,9 @@
+use Rattle.std.proofs.Common.{ap, filter_map, ◌∙◌}
+use Rattle.str0m_sdp.specs.PreferredFingerprint.{preferred}
+use Rattle.str0m_sdp.specs.Transport.{session_fingerprint}
+use Rattle.str0m_sdp.proofs.Preferred.{preferred_copied}
+use Rattle.str0m_sdp.proofs.session.Session.fingerprint.Goals as goal
+
+pub returns : goal.returns
+returns c = preferred_copied c.copied_fingerprint.result _ _ c.copied_fingerprint.ensures
+    (c.preferred.ensures ∙ ap (λ attrs. preferred (filter_map session_fingerprint attrs)) c.as_slice.ensures)

@@ -1,0 +1,14 @@
+use Rattle.std.proofs.Common.{rules}
+use Rattle.std.specs.Str.{bytes_eq}
+use Rattle.std.proofs.lemmas.Iterator.{YieldsList-from_slice}
+use Rattle.std.proofs.lemmas.Iterator.Consumers.{YieldsList-from_filter_map}
+use Rattle.std.proofs.lemmas.Iterator.Search.{any_from_yields_List}
+use borrow.Author.Tests.{tests}
+use Rattle.str0m_sdp.specs.SessionConsistency.{section_mid}
+use Rattle.str0m_sdp.proofs.session_consistency.has_mid.Goals as goal
+
+pub returns : goal.returns
+returns c =
+    any_from_yields_List (λ other. bytes_eq other c.args.mid) _ _ _ c.any.ensures.ran
+    (YieldsList-from_filter_map _ section_mid (YieldsList-from_slice c.args.sections.now cc) c.filter_map.ensures.closure (λ x r q k. search (rules, tests)))
+    (λ x b q k. search (rules, tests))

@@ -1,0 +1,60 @@
+-- The feedback that a section speaks of (RFC 4585, section 4.2).
+use Rattle.std.specs.Prelude.{ℕ, Bool, false, ◌==◌, ◌&&◌, ◌||◌, List, codes, bytes_eq}
+use Rattle.std.specs.List.{list_any}
+use Rattle.str0m_formats.specs.declared.payload_params.PayloadParams.{PayloadParams}
+use Rattle.str0m_sdp.specs.declared.attribute.MediaAttribute.{MediaAttribute}
+use Rattle.str0m_sdp.specs.declared.attribute.MediaAttribute.TheVariants.{RtcpFb}
+use Rattle.str0m_sdp.specs.declared.feedback.Feedback.{Feedback}
+
+-- an rtcp-fb line of the type with this value
+abbrev pub is_feedback : ℕ → List ℕ → MediaAttribute → Bool
+is_feedback pt words (RtcpFb n value) = n == pt && bytes_eq value words
+is_feedback pt words _ = false
+
+unfoldable pub has_feedback : List MediaAttribute → ℕ → List ℕ → Bool
+has_feedback attrs pt words = list_any (is_feedback pt words) attrs
+
+-- the feedback of a type: transport-wide congestion control, full intra requests (RFC 5104, section 4.3.1), NACK and
+-- picture loss indication (RFC 4585, section 6), and the receiver's estimate of the bitrate
+abbrev pub feedback_of : List MediaAttribute → ℕ → Feedback
+feedback_of attrs pt = record {
+  transport_cc = has_feedback attrs pt (codes "transport-cc");
+  fir = has_feedback attrs pt (codes "ccm fir");
+  nack = has_feedback attrs pt (codes "nack");
+  pli = has_feedback attrs pt (codes "nack pli");
+  remb = has_feedback attrs pt (codes "goog-remb");
+}
+
+abbrev pub none : Feedback
+none = record { transport_cc = false; fir = false; nack = false; pli = false; remb = false }
+
+-- what the value of an rtcp-fb line names
+abbrev pub named : List ℕ → Feedback
+named words = record {
+  transport_cc = bytes_eq words (codes "transport-cc");
+  fir = bytes_eq words (codes "ccm fir");
+  nack = bytes_eq words (codes "nack");
+  pli = bytes_eq words (codes "nack pli");
+  remb = bytes_eq words (codes "goog-remb");
+}
+
+-- what one or the other names
+abbrev pub either : Feedback → Feedback → Feedback
+either a b = record {
+  transport_cc = a.transport_cc || b.transport_cc;
+  fir = a.fir || b.fir;
+  nack = a.nack || b.nack;
+  pli = a.pli || b.pli;
+  remb = a.remb || b.remb;
+}
+
+-- the row with this feedback: transport-wide congestion control exactly where it is spoken of, any other also where the
+-- row had it
+abbrev pub with_feedback : Feedback → PayloadParams → PayloadParams
+with_feedback feedback row = record row {
+  fb_transport_cc = feedback.transport_cc;
+  fb_fir = row.fb_fir || feedback.fir;
+  fb_nack = row.fb_nack || feedback.nack;
+  fb_pli = row.fb_pli || feedback.pli;
+  fb_remb = row.fb_remb || feedback.remb;
+}

@@ -1,0 +1,68 @@
+//! The candidates of a whole description, each once.
+ghost use Rattle.std.specs.Prelude.{◌≡◌, IfOk, OnOk, map};
+ghost use Rattle.std.specs.Iterator.{YieldsFirstBy, item_count};
+ghost use Rattle.indexmap.specs.IndexSet.{insert_all};
+ghost use Rattle.str0m_sdp.specs.Candidates.{all_candidates, candidates_left, same_candidate};
+ghost use Rattle.str0m_sdp.specs.Lists.{distinct};
+
+use crate::candidates::Candidates;
+use crate::session::Sdp;
+use indexmap::IndexSet;
+use indexmap::set::IntoIter;
+use std::alloc::AllocError;
+use str0m_values::Candidate;
+
+/// Candidates in order of first appearance, each once.
+#[derive(Drop)]
+pub struct DistinctCandidates<'a> {
+    left: IntoIter<&'a Candidate>,
+}
+
+/// Adds those that aren't there yet, in order.
+fn add_all<'a>(
+    seen: &mut IndexSet<&'a Candidate>,
+    candidates: Candidates<'a>,
+) -> Result<(), AllocError>
+    ensures { OnOk result (map (λ c. c.now) seen.new.keys ≡ insert_all same_candidate (map (λ c. c.now) seen.old.keys) (candidates_left candidates.entry)) }
+{
+    for candidate in candidates {
+        seen.insert(candidate)?;
+    }
+    Ok(())
+}
+
+impl Sdp {
+    ghost use Rattle.str0m_sdp.specs.DistinctCandidates.{distinct_left, IsEachOnce};
+
+    /// Each candidate that the session or a section lists, once, in order of first appearance: those
+    /// of the session before those of the sections (RFC 8839, section 5.1). `AllocError` where memory
+    /// is refused.
+    pub fn ice_candidates(&self) -> Result<DistinctCandidates<'_>, AllocError>
+        ensures distinct { IfOk result (λ candidates. distinct_left candidates ≡ distinct same_candidate (all_candidates self.now)) }
+        ensures once { IfOk result (λ candidates. IsEachOnce (all_candidates self.now) (distinct_left candidates)) }
+    {
+        let mut seen = IndexSet::new(*self.media_lines.0.allocator());
+        add_all(&mut seen, self.session.ice_candidates())?;
+        for line in self.media_lines.as_slice() {
+            add_all(&mut seen, line.ice_candidates())?;
+        }
+        Ok(DistinctCandidates {
+            left: seen.into_iter(),
+        })
+    }
+}
+
+/// It gives exactly those, each once, and then ends.
+impl<'a> Iterator for DistinctCandidates<'a> {
+    ghost use Rattle.str0m_sdp.specs.DistinctCandidates.{distinct_left};
+
+    type Item = &'a Candidate;
+
+    ghost next_gives = { YieldsFirstBy (λ candidate. candidate.now) distinct_left };
+
+    ghost remaining = { item_count distinct_left };
+
+    fn next(&mut self) -> Option<&'a Candidate> {
+        self.left.next()
+    }
+}

@@ -1,0 +1,87 @@
+//! The feedback that a section speaks of, by payload type.
+ghost use Rattle.std.specs.Prelude.{◌≡◌, ◌<◌, ℕ, get_or, length};
+
+use crate::attribute::MediaAttribute;
+use crate::type_tables::row;
+use str0m_formats::PayloadParams;
+
+/// The feedback that goes with a payload type (RFC 4585, section 4.2).
+#[derive(Clone, Copy)]
+pub(crate) struct Feedback {
+    pub(crate) transport_cc: bool,
+    pub(crate) fir: bool,
+    pub(crate) nack: bool,
+    pub(crate) pli: bool,
+    pub(crate) remb: bool,
+}
+
+impl Feedback {
+    ghost use Rattle.str0m_sdp.specs.Feedback.{none, named, either, with_feedback};
+
+    fn none() -> Feedback
+        ensures { result ≡ none }
+    {
+        Feedback {
+            transport_cc: false,
+            fir: false,
+            nack: false,
+            pli: false,
+            remb: false,
+        }
+    }
+
+    /// What the value of an rtcp-fb line names.
+    fn named(value: &str) -> Feedback
+        ensures { result ≡ named value.now }
+    {
+        Feedback {
+            transport_cc: value == "transport-cc",
+            fir: value == "ccm fir",
+            nack: value == "nack",
+            pli: value == "nack pli",
+            remb: value == "goog-remb",
+        }
+    }
+
+    /// What either of both names.
+    fn or(self, other: Feedback) -> Feedback
+        ensures { result ≡ either self other }
+    {
+        Feedback {
+            transport_cc: self.transport_cc || other.transport_cc,
+            fir: self.fir || other.fir,
+            nack: self.nack || other.nack,
+            pli: self.pli || other.pli,
+            remb: self.remb || other.remb,
+        }
+    }
+
+    /// The row with this feedback.
+    pub(crate) fn switched_on(self, mut row: PayloadParams) -> PayloadParams
+        ensures { result ≡ with_feedback self row }
+    {
+        row.set_fb_transport_cc(self.transport_cc);
+        row.set_fb_fir(row.fb_fir() || self.fir);
+        row.set_fb_nack(row.fb_nack() || self.nack);
+        row.set_fb_pli(row.fb_pli() || self.pli);
+        row.set_fb_remb(row.fb_remb() || self.remb);
+        row
+    }
+}
+
+ghost use Rattle.str0m_sdp.specs.Feedback.{none, feedback_of};
+
+/// The feedback of each payload type.
+pub(crate) fn feedback_of(attrs: &[MediaAttribute]) -> [Feedback; 256]
+    ensures rows { (pt : ℕ) → pt < 256 → get_or result pt none ≡ feedback_of attrs.now pt }
+    ensures whole { length result ≡ 256 }
+{
+    let mut table = [Feedback::none(); 256];
+    for attr in attrs {
+        if let MediaAttribute::RtcpFb { pt, value } = attr {
+            let row = row(*pt);
+            table[row] = table[row].or(Feedback::named(value.as_str()));
+        }
+    }
+    table
+}

@@ -1,0 +1,95 @@
+//! Which codec each payload type of a section stands for.
+ghost use Rattle.std.specs.Prelude.{◌≡◌, ◌<◌, ◌++◌, ℕ, false, IfOk, OnOk, get_or, length, filter_map, option_to_list};
+ghost use Rattle.std.specs.List.{list_any};
+ghost use Rattle.str0m_sdp.specs.Consistency.{maps};
+ghost use Rattle.str0m_sdp.specs.Mappings.{mapping, static_spec, static_row, mapped, is_mapped_to};
+
+use crate::attribute::MediaAttribute;
+use crate::media_line::MediaLine;
+use crate::type_tables::row;
+use std::alloc::{AllocError, Global};
+use str0m_formats::{Codec, CodecSpec};
+use str0m_values::Pt;
+
+/// The type of an rtpmap line, and the codec that it names.
+fn mapping(attr: &MediaAttribute) -> Option<(Pt, CodecSpec)>
+    ensures { result ≡ mapping attr.now }
+{
+    match attr {
+        MediaAttribute::RtpMap { pt, value } => Some((*pt, CodecSpec::from(*value))),
+        _ => None,
+    }
+}
+
+/// The types of rtpmap lines with their codecs, in order.
+fn mappings(alloc: Global, attrs: &[MediaAttribute]) -> Result<Vec<(Pt, CodecSpec)>, AllocError>
+    ensures { IfOk result (λ rows. rows.items ≡ filter_map mapping attrs.now) }
+{
+    attrs.iter().filter_map(|attr| mapping(attr)).collect(alloc)
+}
+
+/// The codec that a type stands for without an rtpmap line.
+fn static_spec(pt: Pt) -> Option<CodecSpec>
+    ensures { result ≡ static_spec pt }
+{
+    CodecSpec::from_static_pt(pt)
+}
+
+/// Which types have an rtpmap line.
+fn line_types(attrs: &[MediaAttribute]) -> [bool; 256]
+    ensures rows { (pt : ℕ) → pt < 256 → get_or result pt false ≡ list_any (maps pt) attrs.now }
+    ensures whole { length result ≡ 256 }
+{
+    let mut types = [false; 256];
+    for attr in attrs {
+        if let MediaAttribute::RtpMap { pt, .. } = attr {
+            types[row(*pt)] = true;
+        }
+    }
+    types
+}
+
+/// Which types stand for the codec.
+pub(crate) fn types_of(mapped: &[(Pt, CodecSpec)], codec: Codec) -> [bool; 256]
+    ensures rows { (pt : ℕ) → pt < 256 → get_or result pt false ≡ is_mapped_to codec mapped.now pt }
+    ensures whole { length result ≡ 256 }
+{
+    let mut types = [false; 256];
+    for (pt, spec) in mapped {
+        if spec.codec == codec {
+            types[row(*pt)] = true;
+        }
+    }
+    types
+}
+
+/// One more type, where it needs no rtpmap line.
+fn push_static(mapped: &mut Vec<(Pt, CodecSpec)>, pt: Pt) -> Result<(), AllocError>
+    ensures { OnOk result (mapped.new.items ≡ mapped.old.items ++ option_to_list (static_row pt)) }
+{
+    match static_spec(pt) {
+        Some(spec) => mapped.extend_from_slice(&[(pt, spec)]),
+        None => Ok(()),
+    }
+}
+
+impl MediaLine {
+    /// The types with their codecs: those of rtpmap lines (RFC 8866, section 6.6), then those of the
+    /// m-line that need none (RFC 3551, section 6), each once. The only error is that memory was
+    /// refused.
+    pub(crate) fn mapped(&self) -> Result<Vec<(Pt, CodecSpec)>, AllocError>
+        ensures { IfOk result (λ rows. rows.items ≡ mapped self.now) }
+    {
+        let attrs = self.attrs.as_slice();
+        let mut mapped = mappings(*self.attrs.allocator(), attrs)?;
+        let mut seen = line_types(attrs);
+        for pt in self.pts.as_slice() {
+            let row = row(*pt);
+            if !seen[row] {
+                seen[row] = true;
+                push_static(&mut mapped, *pt)?;
+            }
+        }
+        Ok(mapped)
+    }
+}

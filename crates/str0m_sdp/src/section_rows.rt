@@ -1,0 +1,147 @@
+//! The rows that a section describes.
+ghost use Rattle.std.specs.Prelude.{◌≡◌, ◌<◌, ◌++◌, All, IfOk, OnOk, option_to_list};
+ghost use Rattle.str0m_formats.specs.Choices.{has_events};
+ghost use Rattle.str0m_formats.specs.Codec.{content};
+ghost use Rattle.str0m_formats.specs.KindRows.{has_sound};
+ghost use Rattle.str0m_formats.specs.Rows.{has_pictures};
+ghost use Rattle.str0m_formats.specs.FormatLine.{line_values};
+ghost use Rattle.str0m_sdp.specs.RowBounds.{IsBounded, KeepsToLines};
+ghost use Rattle.str0m_sdp.specs.SectionRows.{lines_of, is_kept, row, rows};
+ghost use Rattle.str0m_sdp.specs.declared.media_line.MediaLine.{MediaLine};
+
+use crate::companions::companions;
+use crate::feedback::{Feedback, feedback_of};
+use crate::fmtp_lines::fmtp_lines;
+use crate::media_line::MediaLine;
+use crate::type_tables::{row, types_in};
+use std::alloc::AllocError;
+use str0m_formats::{Codec, CodecSpec, FormatParam, FormatParams, PayloadParams};
+use str0m_values::Pt;
+
+/// What a section says of each payload type.
+#[derive(Drop)]
+struct TypeWords {
+    /// Whether the type stands in the m-line.
+    in_m_line: [bool; 256],
+    /// The types of retransmissions and of redundant audio.
+    rtx: [Option<Pt>; 256],
+    red: [Option<Pt>; 256],
+    feedback: [Feedback; 256],
+}
+
+impl TypeWords {
+    ghost use Rattle.str0m_sdp.specs.TypeWords.{row_of, SayOf};
+
+    /// The row of a type.
+    fn row_of(&self, pt: Pt, spec: CodecSpec) -> PayloadParams
+        ensures row { result ≡ row_of self.now pt spec }
+        ensures within { pt < 256 }
+    {
+        let row = row(pt);
+        let red = if is_sound(spec.codec) {
+            self.red[row]
+        } else {
+            None
+        };
+        let params = PayloadParams::new(pt, self.rtx[row], spec).with_red(red);
+        self.feedback[row].switched_on(params)
+    }
+
+    /// Whether the type has a row.
+    fn is_kept(&self, pt: Pt, spec: CodecSpec) -> bool
+        ensures { (m : MediaLine) → SayOf m self.now → result ≡ is_kept m (pt, spec) }
+    {
+        let codec = spec.codec;
+        is_sound(codec) || is_pictures(codec) || (is_events(codec) && self.in_m_line[row(pt)])
+    }
+
+    /// One more row, where the type has one, by the values of its fmtp lines.
+    fn push_row(
+        &self,
+        rows: &mut Vec<PayloadParams>,
+        lines: &[&[FormatParam]],
+        pt: Pt,
+        spec: CodecSpec,
+    ) -> Result<(), AllocError>
+        ensures { (m : MediaLine) → SayOf m self.now → line_values lines.now ≡ lines_of m.attrs pt →
+            OnOk result (rows.new.items ≡ rows.old.items ++ option_to_list (row m (pt, spec))) }
+    {
+        match FormatParams::from_sdp_fmtp(spec.codec, lines) {
+            Some(format) => {
+                let spec = CodecSpec { format, ..spec };
+                rows.extend_from_slice(&[self.row_of(pt, spec)])
+            }
+            None => Ok(()),
+        }
+    }
+}
+
+fn is_sound(codec: Codec) -> bool
+    ensures { result ≡ has_sound (content codec) }
+{
+    codec.is_audio()
+}
+
+fn is_pictures(codec: Codec) -> bool
+    ensures { result ≡ has_pictures (content codec) }
+{
+    codec.is_video()
+}
+
+fn is_events(codec: Codec) -> bool
+    ensures { result ≡ has_events (content codec) }
+{
+    codec.is_tele()
+}
+
+impl MediaLine {
+    ghost use Rattle.str0m_sdp.specs.Mappings.{mapped};
+    ghost use Rattle.str0m_sdp.specs.TypeWords.{SayOf};
+
+    /// What the section says of each payload type, by the mapped types.
+    fn type_words(&self, types: &[(Pt, CodecSpec)]) -> TypeWords
+        ensures { types.now ≡ mapped self.now → SayOf self.now result }
+    {
+        let attrs = self.attrs.as_slice();
+        TypeWords {
+            in_m_line: types_in(self.pts.as_slice()),
+            rtx: companions(Codec::Rtx, types, attrs),
+            red: companions(Codec::Red, types, attrs),
+            feedback: feedback_of(attrs),
+        }
+    }
+
+    /// The rows that the section describes.
+    ///
+    /// Each rtpmap line of a codec of sound or pictures gives a row, in order (RFC 8866, section 6.6),
+    /// and one of telephone events where its type stands in the m-line; then each type of the m-line
+    /// that needs no rtpmap line and has none (RFC 3551, section 6) gives one.
+    ///
+    /// The format is what the fmtp lines of the type say of its codec, by
+    /// `FormatParams::from_sdp_fmtp`; where that refuses, there is no row. The RTX type is the last
+    /// type of `rtx` whose fmtp line names this one by `apt` (RFC 4588, section 8.1), the RED type of
+    /// sound the last type of `red` whose fmtp line names this one by a list (RFC 2198, section 5).
+    /// The rtcp-fb values `transport-cc`, `ccm fir`, `nack`, `nack pli` and `goog-remb` of the type
+    /// turn feedback on (RFC 4585, section 4.2); pictures have all of it but `transport-cc` anyway. No
+    /// row is locked.
+    ///
+    /// The only error is that memory was refused. The section stays as it is.
+    pub fn rtp_params(&self) -> Result<Vec<PayloadParams>, AllocError>
+        ensures rows { IfOk result (λ params. params.items ≡ rows self.now) }
+        // Types of seven bits and parameters in their ranges give rows of such.
+        ensures bounded { KeepsToLines self.now → IfOk result (λ params. All IsBounded params.items) }
+    {
+        let alloc = *self.attrs.allocator();
+        let mapped = self.mapped()?;
+        let words = self.type_words(mapped.as_slice());
+        let lines = fmtp_lines(alloc, self.attrs.as_slice())?;
+        let mut rows = Vec::new(alloc);
+        for (pt, spec) in mapped.as_slice() {
+            if words.is_kept(*pt, *spec) {
+                let lines = lines[row(*pt)].as_slice();
+                words.push_row(&mut rows, lines, *pt, *spec)?;
+            }
+        }
+        Ok(rows)
+    }
+}

@@ -1,0 +1,175 @@
+//! Which sessions are consistent.
+ghost use Rattle.std.specs.Prelude.{◌≡◌, ◌↔◌, All, IfErr, IfOk, IsNone, IsOk, None, Ok, find, length, not, option_map, Some};
+ghost use Rattle.std.specs.List.{zip};
+ghost use Rattle.std.specs.Str.{bytes_eq};
+ghost use Rattle.str0m_sdp.specs.Consistency.{Consistent, NoneIff};
+ghost use Rattle.str0m_sdp.specs.SessionConsistency.{AreDistinct, ConsistentSdp, IsContradiction, IsGrouped, first_group, is_listed, parts, section_mid, section_mids, takes_part};
+
+use crate::attribute::SessionAttribute;
+use crate::consistency::first_mid;
+use crate::error::SdpError;
+use crate::fault::SessionFault;
+use crate::media_line::MediaLine;
+use crate::session::Sdp;
+use std::alloc::AllocError;
+use str0m_values::Mid;
+
+fn section_mid(m: &MediaLine) -> Option<Mid>
+    ensures { result ≡ section_mid m.now }
+{
+    first_mid(m.attrs.as_slice())
+}
+
+/// The message of the first section that has a fault.
+fn section_message(sections: &[MediaLine]) -> Result<Option<String>, AllocError>
+    ensures told { IfOk result (λ message. NoneIff message (All Consistent sections.now)) }
+    ensures takes_no_memory { All Consistent sections.now → result ≡ Ok None }
+{
+    for section in sections {
+        if let Some(message) = section.check_consistent()? {
+            return Ok(Some(message));
+        }
+    }
+    Ok(None)
+}
+
+fn is_same(a: Mid, b: Mid) -> bool
+    ensures { result ≡ bytes_eq a b }
+{
+    a == b
+}
+
+/// Whether one of the sections has the mid.
+fn has_mid(sections: &[MediaLine], mid: Mid) -> bool
+    ensures { result ≡ is_listed (section_mids sections.now) (Some mid) }
+{
+    sections
+        .iter()
+        .filter_map(|m| section_mid(m))
+        .any(|other| is_same(other, mid))
+}
+
+/// The first mid that stands again in a later section.
+fn shared_mid(sections: &[MediaLine]) -> Option<Mid>
+    ensures { IsNone result ↔ AreDistinct (section_mids sections.now) }
+{
+    let mut left = sections;
+    while let Some((section, later)) = left.split_first() {
+        if let Some(mid) = section_mid(section) {
+            if has_mid(later, mid) {
+                return Some(mid);
+            }
+        }
+        left = later;
+    }
+    None
+}
+
+/// The mids of the first group.
+fn first_group(attrs: &[SessionAttribute]) -> Option<&[Mid]>
+    ensures { option_map (λ mids. mids.now) result ≡ first_group attrs.now }
+{
+    let mut left = attrs;
+    while let Some((attr, more)) = left.split_first() {
+        if let SessionAttribute::Group { mids, .. } = attr {
+            return Some(mids.as_slice());
+        }
+        left = more;
+    }
+    None
+}
+
+fn is_listed(group: &[Mid], mid: Option<Mid>) -> bool
+    ensures { result ≡ is_listed group.now mid }
+{
+    match mid {
+        Some(mid) => group.contains(&mid),
+        None => false,
+    }
+}
+
+fn takes_part(group: &[Mid], m: &MediaLine) -> bool
+    ensures { result ≡ takes_part group.now m.now }
+{
+    !m.disabled || is_listed(group, section_mid(m))
+}
+
+/// How many sections take part.
+fn count_parts(group: &[Mid], sections: &[MediaLine]) -> usize
+    ensures { result ≡ length (parts group.now sections.now) }
+{
+    sections
+        .iter()
+        .filter(|m| takes_part(group, m))
+        .filter_map(|m| section_mid(m))
+        .count()
+}
+
+/// The first place where the sections that take part and the group differ.
+fn first_difference(group: &[Mid], sections: &[MediaLine]) -> Option<(Mid, Mid)>
+    ensures { result ≡ find (λ pair. not (bytes_eq pair.0 pair.1)) (zip (parts group.now sections.now) group.now) }
+{
+    sections
+        .iter()
+        .filter(|m| takes_part(group, m))
+        .filter_map(|m| section_mid(m))
+        .zip(group.iter().copied())
+        .find(|pair| !is_same(pair.0, pair.1))
+}
+
+fn check_group(group: &[Mid], sections: &[MediaLine]) -> Result<(), SessionFault>
+    ensures { IsOk result ↔ (parts group.now sections.now ≡ group.now) }
+{
+    let count = count_parts(group, sections);
+    if count != group.len() {
+        return Err(SessionFault::Count {
+            group: group.len(),
+            sections: count,
+        });
+    }
+    match first_difference(group, sections) {
+        Some((section, group)) => Err(SessionFault::Order { section, group }),
+        None => Ok(()),
+    }
+}
+
+/// Finds the first fault between the sections, and between them and the group.
+fn check_session(sdp: &Sdp) -> Result<(), SessionFault>
+    ensures { IsOk result ↔ AreDistinct (section_mids sdp.now.media_lines) × IsGrouped sdp.now }
+{
+    let sections = sdp.media_lines.as_slice();
+    if let Some(mid) = shared_mid(sections) {
+        return Err(SessionFault::SharedMid(mid));
+    }
+    match first_group(sdp.session.attrs.as_slice()) {
+        Some(group) => check_group(group, sections),
+        None => Err(SessionFault::MissingGroup),
+    }
+}
+
+impl Sdp {
+    /// Checks that the session doesn't contradict itself.
+    ///
+    /// Each section is consistent, as `MediaLine::check_consistent` says. No two sections have one
+    /// mid (RFC 5888, section 4). There is an `a=group` line, and the first, of whatever type, lists
+    /// the mids of the sections that take part, in their order (RFC 8829, section 5.2.1; RFC 9143,
+    /// sections 5 and 7): of those that aren't disabled, and of those that are but that it lists.
+    /// The error is `Inconsistent` with the first fault that is found in this order, or `Memory`
+    /// where memory for its message was refused. A consistent session needs none.
+    pub fn assert_consistency(&self) -> Result<(), SdpError>
+        ensures exact { IsOk result ↔ ConsistentSdp self.now }
+        ensures takes_no_memory { ConsistentSdp self.now → result ≡ Ok tt }
+        ensures named { IfErr result IsContradiction }
+    {
+        if let Some(message) = section_message(self.media_lines.as_slice())? {
+            return Err(SdpError::Inconsistent(message));
+        }
+        match check_session(self) {
+            Ok(()) => Ok(()),
+            Err(fault) => {
+                let alloc = *self.media_lines.0.allocator();
+                Err(SdpError::Inconsistent(fault.to_string(alloc)?))
+            }
+        }
+    }
+}

@@ -1,0 +1,215 @@
+//! The sources of a section.
+ghost use Rattle.std.specs.Prelude.{◌≡◌, ◌++◌, [], nat_eq, Some, IfOk, OnOk};
+ghost use Rattle.std.specs.List.{filter_map};
+ghost use Rattle.std.specs.Map.{values_of};
+ghost use Rattle.indexmap.specs.IndexMap.{insert_entry};
+ghost use Rattle.str0m_sdp.specs.SsrcInfo.{id_of, empty_info};
+ghost use Rattle.str0m_sdp.specs.SsrcReading.{with_value, so_far, AreGathered};
+
+use crate::attribute::MediaAttribute;
+use crate::media_line::MediaLine;
+use crate::msid::is_no_stream;
+use indexmap::IndexMap;
+use std::alloc::{AllocError, Global};
+use str0m_values::cuts::{before, cut, is_same_text};
+use str0m_values::{Separator, Ssrc, Text};
+
+/// What a section says of a source of RTP packets (RFC 5576).
+#[derive(Clone, Debug, PartialEq, Eq, Drop)]
+pub struct SsrcInfo {
+    pub ssrc: Ssrc,
+    /// The source whose packets this one sends again.
+    pub repairs: Option<Ssrc>,
+    /// The name of the endpoint that sends it (RFC 5576, section 6.1).
+    pub cname: Option<Text>,
+    /// The id of its stream (RFC 8830, section 2).
+    pub stream_id: Option<Text>,
+    /// The id of its track in the stream.
+    pub track_id: Option<Text>,
+}
+
+/// The id in a piece of a value, where it has one (RFC 8830, section 2).
+fn id_of(alloc: Global, piece: &str) -> Result<Option<Text>, AllocError>
+    ensures { IfOk result (λ id. id ≡ id_of piece.now) }
+{
+    if is_no_stream(piece) {
+        return Ok(None);
+    }
+    Ok(Some(Text::from_str(alloc, piece.trim())?))
+}
+
+impl SsrcInfo {
+    ghost use Rattle.str0m_sdp.specs.SsrcReading.{with_ids};
+
+    /// A source of which nothing is said.
+    fn empty(ssrc: Ssrc) -> SsrcInfo
+        ensures { result ≡ empty_info ssrc }
+    {
+        SsrcInfo {
+            ssrc,
+            repairs: None,
+            cname: None,
+            stream_id: None,
+            track_id: None,
+        }
+    }
+
+    /// A copy that equals its source.
+    pub fn clone(&self) -> Result<SsrcInfo, AllocError>
+        ensures { IfOk result (λ info. info ≡ self.now) }
+    {
+        Clone::clone(self)
+    }
+
+    /// Sets the ids of an `msid` value: a stream, and behind a space a track.
+    fn set_ids(&mut self, alloc: Global, value: &str) -> Result<(), AllocError>
+        ensures { OnOk result (self.new ≡ with_ids value.now self.old) }
+    {
+        self.stream_id = id_of(alloc, before(value, Separator::Space))?;
+        if let Some((_, rest)) = cut(value, Separator::Space) {
+            self.track_id = id_of(alloc, before(rest, Separator::Space))?;
+        }
+        Ok(())
+    }
+
+    /// Sets what the value of an `Ssrc` attribute says (RFC 5576, section 4.1).
+    fn set_value(&mut self, alloc: Global, name: &str, value: &str) -> Result<(), AllocError>
+        ensures { OnOk result (self.new ≡ with_value name.now value.now self.old) }
+    {
+        if is_same_text(name, "cname") {
+            self.cname = Some(Text::from_str(alloc, value)?);
+        } else if is_same_text(name, "msid") {
+            self.set_ids(alloc, value)?;
+        }
+        Ok(())
+    }
+}
+
+/// Source 0, of which nothing is said.
+impl Default for SsrcInfo {
+    ghost is_default = { λ info. info ≡ empty_info 0 };
+
+    fn default() -> SsrcInfo {
+        SsrcInfo::empty(Ssrc::from(0))
+    }
+}
+
+impl MediaAttribute {
+    ghost use Rattle.str0m_sdp.specs.SsrcInfo.{repair_pair};
+
+    /// A source and the one that repairs it, where this is their group (RFC 5576, section 4.2).
+    fn repair_pair(&self) -> Option<(Ssrc, Ssrc)>
+        ensures { result ≡ repair_pair self.now }
+    {
+        let MediaAttribute::SsrcGroup { semantics, ssrcs } = self else {
+            return None;
+        };
+        match ssrcs.as_slice() {
+            [repaired, repairing] if is_same_text(semantics.as_str(), "fid") => {
+                Some((*repaired, *repairing))
+            }
+            _ => None,
+        }
+    }
+}
+
+/// Takes what is said of a source so far, and leaves an empty entry in its place, which is the last
+/// one where there was none.
+fn take_info(infos: &mut IndexMap<Ssrc, SsrcInfo>, ssrc: Ssrc) -> Result<SsrcInfo, AllocError>
+    ensures info { IfOk result (λ info. info ≡ so_far infos.old.entries ssrc) }
+    ensures entries { OnOk result (infos.new.entries ≡ insert_entry nat_eq infos.old.entries ssrc (empty_info ssrc)) }
+{
+    let old = infos.insert(ssrc, SsrcInfo::empty(ssrc))?;
+    match old {
+        Some(info) => Ok(info),
+        None => Ok(SsrcInfo::empty(ssrc)),
+    }
+}
+
+/// Adds what the value of an `Ssrc` attribute says.
+#[tactic(auto, using(crate::proofs::SsrcLaws::insert_twice))]
+fn add_value(
+    alloc: Global,
+    infos: &mut IndexMap<Ssrc, SsrcInfo>,
+    ssrc: Ssrc,
+    name: &str,
+    value: &str,
+) -> Result<(), AllocError>
+    ensures { OnOk result (infos.new.entries ≡ insert_entry nat_eq infos.old.entries ssrc (with_value name.now value.now (so_far infos.old.entries ssrc))) }
+{
+    let mut info = take_info(infos, ssrc)?;
+    info.set_value(alloc, name, value)?;
+    infos.insert(ssrc, info)?;
+    Ok(())
+}
+
+/// Adds that a source repairs another one.
+#[tactic(auto, using(crate::proofs::SsrcLaws::insert_twice))]
+fn add_repair(
+    infos: &mut IndexMap<Ssrc, SsrcInfo>,
+    repaired: Ssrc,
+    repairing: Ssrc,
+) -> Result<(), AllocError>
+    ensures { OnOk result (infos.new.entries ≡ insert_entry nat_eq infos.old.entries repairing (record (so_far infos.old.entries repairing) { repairs = Some repaired })) }
+{
+    let mut info = take_info(infos, repairing)?;
+    info.repairs = Some(repaired);
+    infos.insert(repairing, info)?;
+    Ok(())
+}
+
+/// The values of the entries, in order.
+fn values(alloc: Global, infos: IndexMap<Ssrc, SsrcInfo>) -> Result<Vec<SsrcInfo>, AllocError>
+    ensures { IfOk result (λ list. list.items ≡ values_of infos.entries) }
+{
+    infos.into_values().collect(alloc)
+}
+
+impl MediaLine {
+    ghost use Rattle.str0m_sdp.specs.SsrcInfo.{infos, source_of, repair_source};
+
+    /// What the `Ssrc` attributes say of each source, in order of first appearance.
+    fn gather_values(&self, alloc: Global) -> Result<IndexMap<Ssrc, SsrcInfo>, AllocError>
+        ensures { IfOk result (λ infos. AreGathered (filter_map source_of self.now.attrs) [] self.now.attrs infos.entries) }
+    {
+        let mut infos = IndexMap::new(alloc);
+        for line in self.attrs.as_slice() {
+            if let MediaAttribute::Ssrc { ssrc, attr, value } = line {
+                add_value(alloc, &mut infos, *ssrc, attr.as_str(), value.as_str())?;
+            }
+        }
+        Ok(infos)
+    }
+
+    /// Adds which sources repair others. Those that have no entry yet come last.
+    fn add_repairs(&self, infos: &mut IndexMap<Ssrc, SsrcInfo>) -> Result<(), AllocError>
+        requires { AreGathered (filter_map source_of self.now.attrs) [] self.now.attrs infos.old.entries }
+        ensures { OnOk result (AreGathered (filter_map source_of self.now.attrs ++ filter_map repair_source self.now.attrs) self.now.attrs self.now.attrs infos.new.entries) }
+    {
+        for line in self.attrs.as_slice() {
+            if let Some((repaired, repairing)) = line.repair_pair() {
+                add_repair(infos, repaired, repairing)?;
+            }
+        }
+        Ok(())
+    }
+
+    /// What the section says of each of its sources (RFC 5576, sections 4.1, 4.2 and 6.1).
+    ///
+    /// There is one entry for each source of an `Ssrc` attribute, in order of first appearance. Its
+    /// `cname` attribute names it. Its `msid` attribute has the id of its stream and, behind a space,
+    /// that of its track; white space at their ends is left out, and `-` stands for none (RFC 8830,
+    /// section 2). A group `FID` of two sources says that the second repairs the first; a second one
+    /// without an entry gets one at the end. Where two attributes say the same of a source, the later
+    /// one holds. Names are compared without regard to the case of ASCII letters. `AllocError` where
+    /// memory is refused.
+    #[tactic(auto, using(crate::proofs::SsrcLaws::gathered_infos))]
+    pub fn ssrc_info(&self) -> Result<Vec<SsrcInfo>, AllocError>
+        ensures { IfOk result (λ list. list.items ≡ infos self.now.attrs) }
+    {
+        let alloc = *self.attrs.0.allocator();
+        let mut infos = self.gather_values(alloc)?;
+        self.add_repairs(&mut infos)?;
+        values(alloc, infos)
+    }
+}
