@@ -76,15 +76,21 @@ fn each_candidate_is_given_once(rt: HostRuntime) -> Result<(), Fail> {
     Ok(())
 }
 
+/// The lines of so many candidates.
+fn numbered(alloc: Global, count: u32) -> Result<String, Fail> {
+    let mut lines = String::new(alloc);
+    for number in 0..count {
+        let line = format!(in alloc; "a=candidate:{number} 1 udp 1 192.0.2.1 1 typ host\r\n")?;
+        lines.push_str(line.as_str())?;
+    }
+    Ok(lines)
+}
+
 /// So many candidates, each twice.
 fn many(alloc: Global, count: u32) -> Result<String, Fail> {
-    let mut lines = String::new(alloc);
-    for _ in 0..2u8 {
-        for number in 0..count {
-            let line = format!(in alloc; "a=candidate:{number} 1 udp 1 192.0.2.1 1 typ host\r\n")?;
-            lines.push_str(line.as_str())?;
-        }
-    }
+    let mut lines = numbered(alloc, count)?;
+    let again = numbered(alloc, count)?;
+    lines.push_str(again.as_str())?;
     Ok(lines)
 }
 

@@ -3,7 +3,7 @@
 use crate::texts::description;
 use std::alloc::{AllocError, Global};
 use std::test::Fail;
-use str0m_signal::{MediaAttribute, SdpError};
+use str0m_signal::{MediaAttribute, Mid, SdpError};
 
 /// A section of sound with this mid.
 fn sound(alloc: Global, mid: &str) -> Result<String, AllocError> {
@@ -108,8 +108,7 @@ fn a_group_of_another_kind_may_come_first(rt: HostRuntime) -> Result<(), Fail> {
     let said = description(alloc, lines.as_str())?;
     assert!(rt; said.assert_consistency().is_ok());
     let mids = said.bundle_mids().ok_or("a bundle")?;
-    let first = mids.first().ok_or("a mid")?.to_string(alloc)?;
-    assert_eq!(rt; first.as_str(), "1");
+    assert_eq!(rt; mids, [Mid::from("1")].as_slice());
     Ok(())
 }
 

@@ -4,7 +4,7 @@ use crate::texts::{description, section, shown};
 use std::alloc::Global;
 use std::test::Fail;
 use str0m_sdp::RtpMap;
-use str0m_signal::{Codec, CodecSpec, Frequency, MediaLine};
+use str0m_signal::{Codec, CodecSpec, Frequency, MediaLine, Pt, sdp_parser};
 
 fn rows(alloc: Global, said: &MediaLine) -> Result<String, Fail> {
     let mut all = String::new(alloc);
@@ -112,6 +112,33 @@ fn rows_of_sections_that_are_read(rt: HostRuntime) -> Result<(), Fail> {
         let sdp = description(alloc, text.as_str())?;
         let said = sdp.media_lines.first().ok_or("a section")?;
         assert_eq!(rt; rows(alloc, said)?.as_str(), answer, "{head:?} {lines:?}");
+    }
+    Ok(())
+}
+
+/// A description whose one section has static types, and no mapping.
+const STATIC: &str =
+    "v=0\r\no=- 1 1 IN IP4 127.0.0.1\r\ns=-\r\nt=0 0\r\na=group:BUNDLE 0\r\nm=audio 9 UDP/TLS/RTP/SAVPF 0 8 9 13\r\nc=IN IP4 0.0.0.0\r\na=setup:actpass\r\na=sendrecv\r\na=mid:0\r\n";
+
+/// Its rows: types, codecs and the rates at which they sample (RFC 3551, section 6).
+const STATIC_ROWS: [(u8, Codec, Frequency); 4] = [
+    (0, Codec::PCMU, Frequency::EIGHT_KHZ),
+    (8, Codec::PCMA, Frequency::EIGHT_KHZ),
+    (9, Codec::G722, Frequency::SIXTEEN_KHZ),
+    (13, Codec::CN, Frequency::EIGHT_KHZ),
+];
+
+#[test]
+fn static_types_are_rows_without_a_mapping(rt: HostRuntime) -> Result<(), Fail> {
+    let (sdp, rest) = sdp_parser(rt.alloc(), STATIC)?;
+    assert_eq!(rt; rest, "");
+    assert_eq!(rt; sdp.media_lines.len(), 1);
+    let found = sdp.media_lines.first().ok_or("a section")?.rtp_params()?;
+    assert_eq!(rt; found.len(), STATIC_ROWS.len());
+    for (row, (pt, codec, clock_rate)) in found.iter().zip(STATIC_ROWS) {
+        assert_eq!(rt; row.pt(), Pt::from(pt));
+        assert_eq!(rt; row.spec().codec, codec);
+        assert_eq!(rt; row.spec().clock_rate, clock_rate);
     }
     Ok(())
 }

@@ -8,7 +8,7 @@ use std::marker::Model;
 use std::test::Fail;
 use str0m_signal::{Msid, is_no_stream};
 
-/// Gives the numbers from one on.
+/// Gives its own number and those after it.
 #[derive(Drop)]
 struct Counter(u32);
 

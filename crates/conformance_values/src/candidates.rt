@@ -60,7 +60,7 @@ const READ: [(&str, &str); 12] = [
         "candidate:a 1 tcp 1 1.2.3.4 5 typ host tcptype SO",
         "candidate:a 1 tcp 1 1.2.3.4 5 typ host tcptype so",
     ),
-    // all of the optional parts; a network's id on either side of the name fragment
+    // all of the optional parts; a network's id on either side of the username fragment
     (
         "candidate:a 1 tcp 1 1.2.3.4 5 typ relay raddr ::1 rport 65535 tcptype so generation 0 network-id 1 ufrag abc network-cost 50",
         "candidate:a 1 tcp 1 1.2.3.4 5 typ relay raddr ::1 rport 65535 tcptype so ufrag abc",

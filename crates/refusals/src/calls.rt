@@ -1,19 +1,20 @@
 //! The calls that allocate, and what each answers.
 
+use crate::answers::show_lines;
 use crate::fault::Fault;
 use crate::samples::{
     BAD_HEADER, BAD_SECTION, CANDIDATE, MEDIA_LINES, SESSION_LINES, SHORT, TEXT, sample,
 };
-use crate::{configurations, formats, sections, values};
+use crate::{configurations, formats, sessions};
 use std::alloc::Global;
 use str0m_signal::{
-    SdpAnswer, SdpOffer, candidate_attribute, media_attribute_line, sdp_parser,
-    session_attribute_line, session_parser,
+    MediaAttribute, SdpAnswer, SdpError, SdpOffer, SessionAttribute, candidate_attribute,
+    media_attribute_line, sdp_parser, session_attribute_line, session_parser,
 };
 use str0m_values::Items;
 
 /// The names of the calls.
-pub(crate) const NAMES: [&str; 84] = [
+pub(crate) const NAMES: [&str; 91] = [
     "session_parser",
     "session_parser_refuses",
     "sdp_parser",
@@ -31,9 +32,16 @@ pub(crate) const NAMES: [&str; 84] = [
     "check_consistent",
     "assert_consistency",
     "assert_consistency_without_a_group",
+    "assert_consistency_of_a_section",
+    "assert_consistency_with_a_shared_mid",
+    "assert_consistency_with_another_count",
     "media_line_new",
     "ice_creds",
+    "session_ice_creds",
+    "section_ice_creds",
     "fingerprint",
+    "session_fingerprint",
+    "section_fingerprint",
     "ice_candidates",
     "msid",
     "msid_random",
@@ -127,22 +135,7 @@ pub(crate) fn show(rt: &impl Print, alloc: Global, name: &str) -> Result<(), Fau
         _ if name.starts_with("add_") || name.starts_with("enable_") => {
             configurations::show(rt, alloc, name)
         }
-        "assert_consistency"
-        | "assert_consistency_without_a_group"
-        | "media_line_new"
-        | "ice_creds"
-        | "fingerprint"
-        | "ice_candidates"
-        | "msid"
-        | "msid_random"
-        | "extmaps"
-        | "rids"
-        | "simulcast"
-        | "ssrc_info"
-        | "rtp_params"
-        | "as_media_attrs"
-        | "section_of" => { sections::show(rt, alloc, name) }
-        _ => values::show(rt, alloc, name),
+        _ => sessions::show(rt, alloc, name),
     }
 }
 
@@ -166,16 +159,17 @@ fn show_session_line(rt: &impl Print, alloc: Global, text: &str) -> Result<(), F
     Ok(())
 }
 
-fn show_session_lines(rt: &impl Print, alloc: Global) -> Result<(), Fault> {
+fn session_attributes(alloc: Global) -> Result<Vec<SessionAttribute>, SdpError> {
     let mut attributes = Vec::new(alloc);
     for line in SESSION_LINES {
         let (attribute, _) = session_attribute_line(alloc, line)?;
         attributes.push(attribute)?;
     }
-    for attribute in &attributes {
-        print!(rt; "{attribute}")?;
-    }
-    Ok(())
+    Ok(attributes)
+}
+
+fn show_session_lines(rt: &impl Print, alloc: Global) -> Result<(), Fault> {
+    show_lines(rt, session_attributes(alloc)?.as_slice())
 }
 
 fn show_media_line(rt: &impl Print, alloc: Global, text: &str) -> Result<(), Fault> {
@@ -184,16 +178,17 @@ fn show_media_line(rt: &impl Print, alloc: Global, text: &str) -> Result<(), Fau
     Ok(())
 }
 
-fn show_media_lines(rt: &impl Print, alloc: Global) -> Result<(), Fault> {
+fn media_attributes(alloc: Global) -> Result<Vec<MediaAttribute>, SdpError> {
     let mut attributes = Vec::new(alloc);
     for line in MEDIA_LINES {
         let (attribute, _) = media_attribute_line(alloc, line)?;
         attributes.push(attribute)?;
     }
-    for attribute in &attributes {
-        print!(rt; "{attribute}")?;
-    }
-    Ok(())
+    Ok(attributes)
+}
+
+fn show_media_lines(rt: &impl Print, alloc: Global) -> Result<(), Fault> {
+    show_lines(rt, media_attributes(alloc)?.as_slice())
 }
 
 fn show_candidate(rt: &impl Print, alloc: Global, text: &str) -> Result<(), Fault> {

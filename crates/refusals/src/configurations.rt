@@ -13,16 +13,16 @@ pub(crate) fn show(rt: &impl Print, alloc: Global, name: &str) -> Result<(), Fau
     match name {
         "config_clone" => {
             let config = CodecConfig::new_with_defaults(alloc)?;
-            show_rows(rt, &config.clone()?)
+            show_rows(rt, config.clone()?.params())
         }
-        "new_with_defaults" => show_rows(rt, &CodecConfig::new_with_defaults(alloc)?),
+        "new_with_defaults" => show_rows(rt, CodecConfig::new_with_defaults(alloc)?.params()),
         "update_all" => show_all_rounds(rt, alloc),
         _ => show_change(rt, alloc, name),
     }
 }
 
-fn show_rows(rt: &impl Print, config: &CodecConfig) -> Result<(), Fault> {
-    for row in config.params() {
+pub(crate) fn show_rows(rt: &impl Print, rows: &[PayloadParams]) -> Result<(), Fault> {
+    for row in rows {
         show_row(rt, row)?;
     }
     Ok(())
@@ -37,7 +37,7 @@ fn show_type(rt: &impl Print, pt: Option<Pt>) -> Result<(), Fault> {
 }
 
 /// Whether the row is locked, its types, its codec and its format.
-pub(crate) fn show_row(rt: &impl Print, row: &PayloadParams) -> Result<(), Fault> {
+fn show_row(rt: &impl Print, row: &PayloadParams) -> Result<(), Fault> {
     let state = if row.locked() { "locked" } else { "open" };
     print!(rt; "{state} ")?;
     show_type(rt, Some(row.pt()))?;
@@ -123,7 +123,7 @@ fn show_change(rt: &impl Print, alloc: Global, name: &str) -> Result<(), Fault> 
     let mut config = filled(alloc)?;
     let before = config.clone()?;
     match change(&mut config, name) {
-        Ok(()) => show_rows(rt, &config),
+        Ok(()) => show_rows(rt, config.params()),
         Err(refused) => {
             if !is_same(&config, &before) {
                 println!(rt; "the configuration has changed")?;
@@ -133,18 +133,22 @@ fn show_change(rt: &impl Print, alloc: Global, name: &str) -> Result<(), Fault> 
     }
 }
 
+/// A round with the rows of the other side.
+fn round(alloc: Global, direction: Direction) -> Result<Round, AllocError> {
+    let mut rows = Vec::new(alloc);
+    for row in remote() {
+        rows.extend_from_slice(&[row])?;
+    }
+    Ok(Round {
+        remote: rows,
+        direction,
+    })
+}
+
 fn rounds(alloc: Global) -> Result<Vec<Round>, AllocError> {
     let mut rounds = Vec::new(alloc);
     for direction in [Direction::SendRecv, Direction::SendOnly] {
-        let mut rows = Vec::new(alloc);
-        for row in remote() {
-            rows.extend_from_slice(&[row])?;
-        }
-        let round = Round {
-            remote: rows,
-            direction,
-        };
-        rounds.push(round)?;
+        rounds.push(round(alloc, direction)?)?;
     }
     Ok(rounds)
 }
@@ -186,5 +190,5 @@ fn show_all_rounds(rt: &impl Print, alloc: Global) -> Result<(), Fault> {
     if wants_memory {
         return Err(Fault::from(AllocError));
     }
-    show_rows(rt, &config)
+    show_rows(rt, config.params())
 }

@@ -1,9 +1,13 @@
 //! Copies of a description and its parts.
 
-use crate::fault::Fault;
+use crate::answers::{show_each, show_lines};
+use crate::fault::{Fault, no_such_call};
 use crate::samples::{MEDIA_LINES, SESSION_LINES, sample};
-use std::alloc::Global;
-use str0m_signal::{Sdp, SdpError, media_attribute_line, session_attribute_line};
+use std::alloc::{AllocError, Global};
+use str0m_signal::{
+    MediaAttribute, MediaLine, MediaType, Sdp, SdpError, SessionAttribute, media_attribute_line,
+    session_attribute_line,
+};
 
 /// Copies the part of that name and shows the copy.
 pub(crate) fn show(rt: &impl Print, alloc: Global, name: &str) -> Result<(), Fault> {
@@ -22,16 +26,12 @@ fn show_part(rt: &impl Print, alloc: Global, source: &Sdp, name: &str) -> Result
         "media_line_clone" => show_media_lines(rt, alloc, source),
         "session_clone" => show_session(rt, source),
         "sdp_clone" => show_sdp(rt, source),
-        _ => Err(Fault::from(SdpError::ParseError(String::from_str(alloc, "no such call")?))),
+        _ => no_such_call(alloc),
     }
 }
 
 fn show_sections(rt: &impl Print, source: &Sdp) -> Result<(), Fault> {
-    let copy = source.media_lines.clone()?;
-    for section in copy.as_slice() {
-        print!(rt; "{section}")?;
-    }
-    Ok(())
+    show_lines(rt, source.media_lines.clone()?.as_slice())
 }
 
 fn show_bandwidth(rt: &impl Print, source: &Sdp) -> Result<(), Fault> {
@@ -42,52 +42,56 @@ fn show_bandwidth(rt: &impl Print, source: &Sdp) -> Result<(), Fault> {
     Ok(())
 }
 
-fn show_media_types(rt: &impl Print, alloc: Global, source: &Sdp) -> Result<(), Fault> {
+fn media_types(alloc: Global, source: &Sdp) -> Result<Vec<MediaType>, AllocError> {
     let mut copies = Vec::new(alloc);
     for section in source.media_lines.as_slice() {
         copies.push(section.typ.clone()?)?;
     }
-    for copy in &copies {
-        println!(rt; "{copy}")?;
-    }
-    Ok(())
+    Ok(copies)
 }
 
-/// Reads an attribute of each form, and shows the copies.
-fn show_session_attributes(rt: &impl Print, alloc: Global) -> Result<(), Fault> {
+fn show_media_types(rt: &impl Print, alloc: Global, source: &Sdp) -> Result<(), Fault> {
+    show_each(rt, media_types(alloc, source)?.as_slice())
+}
+
+/// Copies of an attribute of each form.
+fn session_attributes(alloc: Global) -> Result<Vec<SessionAttribute>, SdpError> {
     let mut copies = Vec::new(alloc);
     for line in SESSION_LINES {
         let (attribute, _) = session_attribute_line(alloc, line)?;
         copies.push(attribute.clone()?)?;
     }
-    for copy in &copies {
-        print!(rt; "{copy}")?;
-    }
-    Ok(())
+    Ok(copies)
 }
 
-/// Reads an attribute of each form, and shows the copies.
-fn show_media_attributes(rt: &impl Print, alloc: Global) -> Result<(), Fault> {
+fn show_session_attributes(rt: &impl Print, alloc: Global) -> Result<(), Fault> {
+    show_lines(rt, session_attributes(alloc)?.as_slice())
+}
+
+/// Copies of an attribute of each form.
+fn media_attributes(alloc: Global) -> Result<Vec<MediaAttribute>, SdpError> {
     let mut copies = Vec::new(alloc);
     for line in MEDIA_LINES {
         let (attribute, _) = media_attribute_line(alloc, line)?;
         copies.push(attribute.clone()?)?;
     }
-    for copy in &copies {
-        print!(rt; "{copy}")?;
-    }
-    Ok(())
+    Ok(copies)
 }
 
-fn show_media_lines(rt: &impl Print, alloc: Global, source: &Sdp) -> Result<(), Fault> {
+fn show_media_attributes(rt: &impl Print, alloc: Global) -> Result<(), Fault> {
+    show_lines(rt, media_attributes(alloc)?.as_slice())
+}
+
+fn sections(alloc: Global, source: &Sdp) -> Result<Vec<MediaLine>, AllocError> {
     let mut copies = Vec::new(alloc);
     for section in source.media_lines.as_slice() {
         copies.push(section.clone()?)?;
     }
-    for copy in &copies {
-        print!(rt; "{copy}")?;
-    }
-    Ok(())
+    Ok(copies)
+}
+
+fn show_media_lines(rt: &impl Print, alloc: Global, source: &Sdp) -> Result<(), Fault> {
+    show_lines(rt, sections(alloc, source)?.as_slice())
 }
 
 fn show_session(rt: &impl Print, source: &Sdp) -> Result<(), Fault> {

@@ -1,6 +1,6 @@
 //! Why a call has no answer to show.
 
-use std::alloc::{AllocError, AllocFailed};
+use std::alloc::{AllocError, AllocFailed, Global};
 use std::io;
 use str0m_signal::{FingerprintError, SdpError};
 
@@ -41,4 +41,10 @@ impl From<io::Error> for Fault {
     fn from(error: io::Error) -> Fault {
         Fault::Unwritable(error)
     }
+}
+
+/// The answer to a name that no call has.
+pub(crate) fn no_such_call(alloc: Global) -> Result<(), Fault> {
+    let message = String::from_str(alloc, "no such call")?;
+    Err(Fault::from(SdpError::ParseError(message)))
 }

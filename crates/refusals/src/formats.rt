@@ -1,6 +1,6 @@
 //! Formats that are read and taken apart.
 
-use crate::fault::Fault;
+use crate::fault::{Fault, no_such_call};
 use std::alloc::Global;
 use str0m_formats::{FormatParam, FormatParams};
 
@@ -17,7 +17,8 @@ pub(crate) fn show(rt: &impl Print, alloc: Global, name: &str) -> Result<(), Fau
             &[("level-id", "93"), ("a", "1"), ("LEVEL-ID", "51")],
         ),
         "parse_line" => show_line(rt, alloc),
-        _ => show_params(rt, alloc),
+        "to_format_param" => show_params(rt, alloc),
+        _ => no_such_call(alloc),
     }
 }
 

@@ -3,6 +3,7 @@
 //! the call's allocation that many before the Nth is, so that one build serves every refusal.
 #![tactic(auto)]
 
+mod answers;
 mod calls;
 mod configurations;
 mod copies;
@@ -10,6 +11,7 @@ mod fault;
 mod formats;
 mod samples;
 mod sections;
+mod sessions;
 mod streams;
 mod values;
 

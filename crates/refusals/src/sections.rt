@@ -1,29 +1,28 @@
-//! What sessions and sections say, and sections that are made of rows.
+//! What sections say, and sections that are made of rows.
 ghost use Rattle.std.specs.Prelude.{ℕ, ◌+◌, ◌%◌, ◌^◌};
 ghost use Rattle.rand_core.specs.Steps.{stream_of, steps_u32};
 
-use crate::configurations::show_row;
-use crate::fault::Fault;
+use crate::answers::{show_each, show_lines};
+use crate::configurations::show_rows;
+use crate::fault::{Fault, no_such_call};
+use crate::sessions::{show_creds, show_fingerprint};
+use crate::values;
 use rand_core::utils::NextWord;
 use rand_core::{Rng, utils};
-use std::alloc::Global;
+use std::alloc::{AllocError, Global};
 use std::marker::Model;
 use str0m_signal::{
-    AsMediaAttrs, MediaAttribute, MediaLine, Msid, Sdp, SdpError, sdp_parser, section_of,
+    AsMediaAttrs, Items, MediaAttribute, MediaLine, Msid, PayloadParams, sdp_parser, section_of,
 };
 
-/// What a session says of its transport.
+/// What a section says of its transport.
 const TRANSPORT: &str = "\
     v=0\r\no=- 7 2 IN IP4 127.0.0.1\r\ns=-\r\nt=0 0\r\n\
-    a=group:BUNDLE 1\r\n\
-    a=ice-ufrag:user\r\n\
-    a=ice-pwd:secret\r\n\
-    a=fingerprint:sha-256 00:0a\r\n\
-    a=candidate:1 1 udp 1 ::1 9 typ host\r\n\
     m=application 9 UDP/DTLS/SCTP x\r\n\
     a=mid:0\r\n\
-    a=candidate:1 1 udp 1 ::1 9 typ host\r\n\
-    a=candidate:2 1 udp 1 ::1 9 typ host\r\n";
+    a=ice-ufrag:user\r\n\
+    a=ice-pwd:secret\r\n\
+    a=fingerprint:sha-256 00:0a\r\n";
 
 /// What a section says of its streams.
 const STREAMS: &str = "\
@@ -64,7 +63,7 @@ fn text_of(name: &str) -> &'static str {
     }
 }
 
-/// Gives the numbers from one on.
+/// Gives its own number and those after it.
 #[derive(Drop)]
 struct Counter(u32);
 
@@ -108,11 +107,27 @@ pub(crate) fn show(rt: &impl Print, alloc: Global, name: &str) -> Result<(), Fau
             Ok(())
         }
         "msid_random" => show_random(rt, alloc),
-        _ => {
-            let (sdp, _) = sdp_parser(alloc, text_of(name))?;
-            show_said(rt, alloc, name, &sdp)
-        }
+        "section_ice_creds"
+        | "section_fingerprint"
+        | "msid"
+        | "extmaps"
+        | "rids"
+        | "simulcast"
+        | "ssrc_info"
+        | "rtp_params"
+        | "as_media_attrs"
+        | "section_of" => { show_sections(rt, alloc, name) }
+        _ => values::show(rt, alloc, name),
     }
+}
+
+/// Asks each section of the call's text.
+fn show_sections(rt: &impl Print, alloc: Global, name: &str) -> Result<(), Fault> {
+    let (sdp, _) = sdp_parser(alloc, text_of(name))?;
+    for section in sdp.media_lines.as_slice() {
+        show_section(rt, alloc, name, section)?;
+    }
+    Ok(())
 }
 
 /// The names that are drawn, and how many words were. Where there is no room none was.
@@ -127,49 +142,6 @@ fn show_random(rt: &impl Print, alloc: Global) -> Result<(), Fault> {
     Ok(())
 }
 
-fn show_said(rt: &impl Print, alloc: Global, name: &str, sdp: &Sdp) -> Result<(), Fault> {
-    match name {
-        "assert_consistency" => show_fault(rt, sdp.assert_consistency()),
-        "assert_consistency_without_a_group" => {
-            let mut other = sdp.clone()?;
-            other.session.attrs.0.clear();
-            show_fault(rt, other.assert_consistency())
-        }
-        "ice_creds" => {
-            if let Some(creds) = sdp.ice_creds()? {
-                println!(rt; "{} {}", creds.ufrag, creds.pass)?;
-            }
-            Ok(())
-        }
-        "fingerprint" => {
-            if let Some(print) = sdp.fingerprint()? {
-                println!(rt; "{print}")?;
-            }
-            Ok(())
-        }
-        "ice_candidates" => {
-            for candidate in sdp.ice_candidates()? {
-                println!(rt; "{candidate}")?;
-            }
-            Ok(())
-        }
-        _ => {
-            for section in sdp.media_lines.as_slice() {
-                show_section(rt, alloc, name, section)?;
-            }
-            Ok(())
-        }
-    }
-}
-
-/// What is said of a description.
-fn show_fault(rt: &impl Print, said: Result<(), SdpError>) -> Result<(), Fault> {
-    if let Err(fault) = said {
-        println!(rt; "{fault}")?;
-    }
-    Ok(())
-}
-
 fn show_section(
     rt: &impl Print,
     alloc: Global,
@@ -177,46 +149,41 @@ fn show_section(
     section: &MediaLine,
 ) -> Result<(), Fault> {
     match name {
-        "as_media_attrs" => show_lines(rt, alloc, section),
+        "section_ice_creds" => show_creds(rt, section.ice_creds()),
+        "section_fingerprint" => show_fingerprint(rt, section.fingerprint()),
+        "as_media_attrs" => show_row_lines(rt, alloc, section),
         "section_of" => {
             let rows = section.rtp_params()?;
             print!(rt; "{}", section_of(section, rows.as_slice())?)?;
             Ok(())
         }
-        "rtp_params" => {
-            for row in &section.rtp_params()? {
-                show_row(rt, row)?;
-            }
-            Ok(())
-        }
+        "rtp_params" => show_rows(rt, section.rtp_params()?.as_slice()),
+        "msid" => show_msid(rt, section),
+        "extmaps" => show_extensions(rt, section),
+        "rids" => show_each(rt, section.rids()?.as_slice()),
+        "simulcast" => show_simulcast(rt, section),
         "ssrc_info" => show_sources(rt, section),
-        _ => show_one(rt, name, section),
+        _ => no_such_call(alloc),
     }
 }
 
-fn show_one(rt: &impl Print, name: &str, section: &MediaLine) -> Result<(), Fault> {
-    match name {
-        "msid" => {
-            if let Some(msid) = section.msid()? {
-                println!(rt; "{msid}")?;
-            }
-        }
-        "extmaps" => {
-            for (id, extension) in section.extmaps()? {
-                println!(rt; "{id} {}", extension.as_uri())?;
-            }
-        }
-        "rids" => {
-            for rid in &section.rids()? {
-                println!(rt; "{rid}")?;
-            }
-        }
-        "simulcast" => {
-            if let Some(simulcast) = section.simulcast()? {
-                println!(rt; "{} to {}", simulcast.send, simulcast.recv)?;
-            }
-        }
-        _ => {}
+fn show_msid(rt: &impl Print, section: &MediaLine) -> Result<(), Fault> {
+    if let Some(msid) = section.msid()? {
+        println!(rt; "{msid}")?;
+    }
+    Ok(())
+}
+
+fn show_extensions(rt: &impl Print, section: &MediaLine) -> Result<(), Fault> {
+    for (id, extension) in section.extmaps()? {
+        println!(rt; "{id} {}", extension.as_uri())?;
+    }
+    Ok(())
+}
+
+fn show_simulcast(rt: &impl Print, section: &MediaLine) -> Result<(), Fault> {
+    if let Some(simulcast) = section.simulcast()? {
+        println!(rt; "{} to {}", simulcast.send, simulcast.recv)?;
     }
     Ok(())
 }
@@ -237,22 +204,34 @@ fn show_sources(rt: &impl Print, section: &MediaLine) -> Result<(), Fault> {
     Ok(())
 }
 
-/// The lines of the section's rows, behind one that must stay where a call is refused.
-fn show_lines(rt: &impl Print, alloc: Global, section: &MediaLine) -> Result<(), Fault> {
-    let rows = section.rtp_params()?;
-    let mut lines = Vec::new(alloc);
+/// The rows' lines, behind one that was there before; none where a call that is refused has changed
+/// the list. Another list is told what it has to be by the calls that aren't.
+fn row_lines(
+    alloc: Global,
+    rows: &[PayloadParams],
+) -> Result<Option<Items<MediaAttribute>>, AllocError> {
+    let mut lines = Items::empty(alloc);
+    let mut before = Items::empty(alloc);
     lines.push(MediaAttribute::RtcpMux)?;
-    for row in &rows {
-        let before = lines.len();
-        let added = row.as_media_attrs(&mut lines);
-        if added.is_err() && lines.len() != before {
-            println!(rt; "lines were left")?;
-            return Ok(());
+    before.push(MediaAttribute::RtcpMux)?;
+    for row in rows {
+        let added = row.as_media_attrs(&mut lines.0);
+        if added.is_err() && lines != before {
+            return Ok(None);
         }
         added?;
+        row.as_media_attrs(&mut before.0)?;
     }
-    for line in &lines {
-        print!(rt; "{line}")?;
+    Ok(Some(lines))
+}
+
+fn show_row_lines(rt: &impl Print, alloc: Global, section: &MediaLine) -> Result<(), Fault> {
+    let rows = section.rtp_params()?;
+    match row_lines(alloc, rows.as_slice())? {
+        Some(lines) => show_lines(rt, lines.as_slice()),
+        None => {
+            println!(rt; "the list has changed")?;
+            Ok(())
+        }
     }
-    Ok(())
 }

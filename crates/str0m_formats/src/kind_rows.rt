@@ -8,7 +8,7 @@ use crate::payload_params::PayloadParams;
 use str0m_values::MediaKind;
 
 /// The rows that stand in sections of a kind, in order.
-#[derive(Drop)]
+#[derive(Debug, Drop)]
 pub struct KindRows<'a> {
     all: &'a [PayloadParams],
     /// Those of them that are still to be looked at.

@@ -49,7 +49,7 @@ abbrev pub media_fingerprint : MediaAttribute → Option Fingerprint
 media_fingerprint (media.Fingerprint hash) = Some hash
 media_fingerprint _ = None
 
--- that no candidate follows (RFC 8840, section 8.2)
+-- that no candidate follows (RFC 8840, section 8.1)
 abbrev pub session_ends : SessionAttribute → Bool
 session_ends session.EndOfCandidates = true
 session_ends _ = false

@@ -21,14 +21,18 @@ use str0m_values::{Candidate, Direction, Extension, Fingerprint, Items, Mid, Pt,
 /// An attribute line of a session (RFC 8866, section 5.13).
 #[derive(Clone, Debug, PartialEq, Eq, Drop)]
 pub enum SessionAttribute {
-    /// `a=group:` (RFC 5888, section 5; RFC 8843, section 7).
+    /// `a=group:` (RFC 5888, section 5; RFC 8843, section 5; now RFC 9143, section 5).
     Group {
+        /// What the sections have in common, as `BUNDLE`.
         typ: Text,
+        /// The names of the sections, in order.
         mids: Items<Mid>,
     },
     /// `a=msid-semantic:` (an early draft of RFC 8830).
     MsidSemantic {
+        /// What the ids mean, as `WMS`.
         semantic: Text,
+        /// The ids of streams, in order.
         stream_ids: Items<Text>,
     },
     /// `a=extmap-allow-mixed` (RFC 8285, section 6).
@@ -47,7 +51,7 @@ pub enum SessionAttribute {
     Setup(Setup),
     /// `a=candidate:` (RFC 8839, section 5.1).
     Candidate(Candidate),
-    /// `a=end-of-candidates` (RFC 8840, section 8.2).
+    /// `a=end-of-candidates` (RFC 8840, section 8.1).
     EndOfCandidates,
     /// Any other attribute, as the text behind `a=`.
     Unused(Text),
@@ -74,11 +78,13 @@ pub enum MediaAttribute {
     SctpPort(u16),
     /// `a=max-message-size:` in bytes (RFC 8841, section 6).
     MaxMessageSize(u64),
-    /// `a=sctp-init:`, an INIT chunk in base 64.
+    /// `a=sctp-init:`, an INIT chunk of SCTP in base 64 (draft-hancke-tsvwg-snap).
     SctpInit(Text),
     /// `a=extmap:` (RFC 8285, section 5).
     ExtMap {
+        /// The number of the extension in RTP packets, 0 to 255.
         id: u8,
+        /// The extension, by its URI.
         ext: Extension,
     },
     /// `a=recvonly` (RFC 8866, section 6.7.1).
@@ -99,41 +105,57 @@ pub enum MediaAttribute {
     RtcpRsize,
     /// `a=candidate:` (RFC 8839, section 5.1).
     Candidate(Candidate),
-    /// `a=end-of-candidates` (RFC 8840, section 8.2).
+    /// `a=end-of-candidates` (RFC 8840, section 8.1).
     EndOfCandidates,
     /// `a=rtpmap:` (RFC 8866, section 6.6).
     RtpMap {
+        /// The payload type; 0 to 127 in what is read.
         pt: Pt,
+        /// The codec, its clock rate in Hz and its channels.
         value: RtpMap,
     },
     /// `a=rtcp-fb:` (RFC 4585, section 4.2).
     RtcpFb {
+        /// The payload type; 0 to 127 in what is read.
         pt: Pt,
+        /// The feedback, as `nack pli`.
         value: Text,
     },
     /// `a=fmtp:` (RFC 8866, section 6.15).
     Fmtp {
+        /// The payload type; 0 to 127 in what is read.
         pt: Pt,
+        /// The parameters of the format, in order.
         values: Items<FormatParam>,
     },
     /// `a=rid:` (RFC 8851, section 4). The direction is `send` or `recv` in what is read.
     Rid {
+        /// The name of the stream. The line doesn't say whether the stream is active.
         id: RestrictionId,
+        /// Which way the stream goes.
         direction: Word,
+        /// The payload types that the stream may have, in order, 0 to 127 in what is read; none
+        /// where it may have any.
         pt: Items<Pt>,
+        /// The names and values of the other restrictions, in order (RFC 8851, section 5).
         restriction: Items<(Text, Text)>,
     },
     /// `a=simulcast:` (RFC 8853, section 5.1).
     Simulcast(Simulcast),
     /// `a=ssrc-group:` (RFC 5576, section 4.2).
     SsrcGroup {
+        /// What the sources have in common, as `FID`.
         semantics: Text,
+        /// The sources, in order.
         ssrcs: Items<Ssrc>,
     },
     /// `a=ssrc:` (RFC 5576, section 4.1).
     Ssrc {
+        /// The source that the line speaks of.
         ssrc: Ssrc,
+        /// The name of what it says, as `cname`.
         attr: Text,
+        /// The text behind the colon that ends the name.
         value: Text,
     },
     /// Any other attribute, as the text behind `a=`.
@@ -141,20 +163,20 @@ pub enum MediaAttribute {
 }
 
 impl SessionAttribute {
-    /// A copy that equals its source.
+    /// A copy that equals its source; the only error is that memory was refused.
     pub fn clone(&self) -> Result<SessionAttribute, AllocError>
         ensures { IfOk result (λ attribute. attribute ≡ self.now) }
     {
-        Clone::clone(self)
+        <SessionAttribute as Clone>::clone(self)
     }
 }
 
 impl MediaAttribute {
-    /// A copy that equals its source.
+    /// A copy that equals its source; the only error is that memory was refused.
     pub fn clone(&self) -> Result<MediaAttribute, AllocError>
         ensures { IfOk result (λ attribute. attribute ≡ self.now) }
     {
-        Clone::clone(self)
+        <MediaAttribute as Clone>::clone(self)
     }
 }
 

@@ -11,12 +11,13 @@ use str0m_values::Text;
 pub struct Bandwidth {
     /// What the value counts, as `AS` or `TIAS`.
     pub typ: Text,
-    /// The value, in the unit of its type.
+    /// The value, in the unit of its type: of `AS` in kbit/s (RFC 8866, section 5.8), of `TIAS` in
+    /// bit/s (RFC 3890, section 6.2).
     pub val: Text,
 }
 
 impl Bandwidth {
-    /// A copy that equals its source.
+    /// A copy that equals its source; the only error is that memory was refused.
     pub fn clone(&self) -> Result<Bandwidth, AllocError>
         ensures { IfOk result (λ bw. bw ≡ self.now) }
     {

@@ -26,10 +26,11 @@ fn first_candidate<'a, A: TransportAttribute>(attrs: &'a [A]) -> Option<(&'a Can
 }
 
 /// The candidates of a session or of a section, in attribute order (RFC 8839, section 5.1).
-#[derive(Drop)]
+#[derive(Debug, Drop)]
 pub struct Candidates<'a> {
-    /// The attributes that are still to be looked at, those of a session before those of a section.
+    /// The attributes of the session that are still to be looked at, before those of the section.
     session: &'a [SessionAttribute],
+    /// Those of the section.
     media: &'a [MediaAttribute],
 }
 
@@ -61,7 +62,7 @@ impl MediaLine {
     }
 }
 
-/// It gives exactly those, each once, and then ends.
+/// It gives exactly those, and then ends.
 impl<'a> Iterator for Candidates<'a> {
     ghost use Rattle.str0m_sdp.specs.Candidates.{candidates_left};
 

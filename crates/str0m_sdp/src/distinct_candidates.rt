@@ -10,12 +10,20 @@ use crate::session::Sdp;
 use indexmap::IndexSet;
 use indexmap::set::IntoIter;
 use std::alloc::AllocError;
+use std::fmt;
 use str0m_values::Candidate;
 
 /// Candidates in order of first appearance, each once.
 #[derive(Drop)]
 pub struct DistinctCandidates<'a> {
     left: IntoIter<&'a Candidate>,
+}
+
+/// The name of the type alone.
+impl<'a> fmt::Debug for DistinctCandidates<'a> {
+    fn fmt<W: fmt::Write>(&self, f: &mut fmt::Formatter<W>) -> fmt::Result {
+        f.debug_struct("DistinctCandidates").finish_non_exhaustive()
+    }
 }
 
 /// Adds those that aren't there yet, in order.

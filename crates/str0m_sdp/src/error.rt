@@ -1,4 +1,4 @@
-//! Why a session description is refused.
+//! The error of reading and of checking session descriptions.
 ghost use Rattle.std.specs.Prelude.{◌≡◌};
 ghost use Rattle.str0m_sdp.specs.declared.error.SdpError.TheVariants.{Memory};
 
@@ -8,10 +8,11 @@ use thiserror::Error;
 /// Why a session description is refused.
 #[derive(Debug, Drop, Error)]
 pub enum SdpError {
-    /// A text has no reading by the grammar: where it failed, or the first fault of a section.
+    /// A text has no reading by the grammar: what was refused, or the first fault of a section.
     #[error("SDP parse: {0}")]
     ParseError(String),
-    /// A session contradicts itself.
+    /// The session contradicts itself: the first fault that was found. Only
+    /// `Sdp::assert_consistency` answers it.
     #[error("SDP inconsistent: {0}")]
     Inconsistent(String),
     /// A growth was refused.

@@ -5,7 +5,9 @@ use crate::attribute::MediaAttribute;
 use crate::type_tables::row;
 use str0m_formats::PayloadParams;
 
-/// The feedback that goes with a payload type (RFC 4585, section 4.2).
+/// The feedback that goes with a payload type: `nack` and `nack pli` (RFC 4585, section 4.2),
+/// `ccm fir` (RFC 5104, section 7.1), `transport-cc`
+/// (draft-holmer-rmcat-transport-wide-cc-extensions) and `goog-remb` (draft-alvestrand-rmcat-remb).
 #[derive(Clone, Copy)]
 pub(crate) struct Feedback {
     pub(crate) transport_cc: bool,
@@ -60,6 +62,8 @@ impl Feedback {
     pub(crate) fn switched_on(self, mut row: PayloadParams) -> PayloadParams
         ensures { result ≡ with_feedback self row }
     {
+        // A new row has transport-cc on, though in a section only a line says it: so it is set. The
+        // other four a new row has on where its codec carries pictures: lines only add to them.
         row.set_fb_transport_cc(self.transport_cc);
         row.set_fb_fir(row.fb_fir() || self.fir);
         row.set_fb_nack(row.fb_nack() || self.nack);

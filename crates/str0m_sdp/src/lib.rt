@@ -58,4 +58,5 @@ pub use session::{Sdp, Session};
 pub use setup::Setup;
 pub use simulcast::{RestrictionId, Simulcast, SimulcastGroups, SimulcastLayer};
 pub use ssrc_info::SsrcInfo;
+pub use str0m_values::FingerprintFmt;
 pub use word::Word;

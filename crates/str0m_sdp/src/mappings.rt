@@ -68,14 +68,16 @@ fn push_static(mapped: &mut Vec<(Pt, CodecSpec)>, pt: Pt) -> Result<(), AllocErr
     ensures { OnOk result (mapped.new.items ≡ mapped.old.items ++ option_to_list (static_row pt)) }
 {
     match static_spec(pt) {
+        // Appended as a slice of one, as rows are; docs/DECISIONS.md says why.
         Some(spec) => mapped.extend_from_slice(&[(pt, spec)]),
         None => Ok(()),
     }
 }
 
 impl MediaLine {
-    /// The types with their codecs: those of rtpmap lines (RFC 8866, section 6.6), then those of the
-    /// m-line that need none (RFC 3551, section 6), each once. The only error is that memory was
+    /// The types with their codecs: that of each rtpmap line (RFC 8866, section 6.6), so that a
+    /// type of many lines stands as many times, then the static types of the m-line that have no
+    /// such line (RFC 3551, section 6), each of these once. The only error is that memory was
     /// refused.
     pub(crate) fn mapped(&self) -> Result<Vec<(Pt, CodecSpec)>, AllocError>
         ensures { IfOk result (λ rows. rows.items ≡ mapped self.now) }

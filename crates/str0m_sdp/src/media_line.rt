@@ -14,19 +14,23 @@ use str0m_values::{Items, Pt};
 /// A section: an m-line and the lines that belong to it (RFC 8866, section 5.14).
 #[derive(Clone, Debug, PartialEq, Eq, Drop)]
 pub struct MediaLine {
+    /// What the section carries.
     pub typ: MediaType,
     /// Whether the port is `0`, by which a section is rejected or stopped (RFC 8829, section 5.3.1).
     pub disabled: bool,
+    /// What carries the section.
     pub proto: Proto,
-    /// The payload types of the m-line, in order.
+    /// The payload types of the m-line, in order: numbers 0 to 255 as they stand there. The types
+    /// of rtpmap, rtcp-fb, fmtp and rid lines are 0 to 127 in what is read.
     pub pts: Items<Pt>,
+    /// The proposed bandwidth, where a `b=` line says one (RFC 8866, section 5.8).
     pub bw: Option<Bandwidth>,
     /// The attribute lines, in order.
     pub attrs: Items<MediaAttribute>,
 }
 
 impl MediaLine {
-    /// A copy that equals its source.
+    /// A copy that equals its source; the only error is that memory was refused.
     pub fn clone(&self) -> Result<MediaLine, AllocError>
         ensures { IfOk result (λ line. line ≡ self.now) }
     {

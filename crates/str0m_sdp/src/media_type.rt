@@ -9,16 +9,19 @@ use str0m_values::Text;
 /// The media type of a section (RFC 8866, section 5.14).
 #[derive(Clone, Debug, Default, PartialEq, Eq, Drop)]
 pub enum MediaType {
+    /// `audio`: sound.
     #[default]
     Audio,
+    /// `video`: pictures.
     Video,
+    /// `application`: data channels (RFC 8841, section 4).
     Application,
     /// A type that is none of these, as its text.
     Unknown(Text),
 }
 
 impl MediaType {
-    /// A copy that equals its source.
+    /// A copy that equals its source; the only error is that memory was refused.
     pub fn clone(&self) -> Result<MediaType, AllocError>
         ensures { IfOk result (λ typ. typ ≡ self.now) }
     {
@@ -40,6 +43,7 @@ impl MediaType {
     }
 }
 
+/// The type as it stands in m-lines: `audio`, `video`, `application`, or the text of another one.
 impl fmt::Display for MediaType {
     ghost output = { λ typ. Some (media_type_text typ) };
 

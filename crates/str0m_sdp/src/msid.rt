@@ -10,12 +10,14 @@ use str0m_values::Text;
 /// The ids of a stream and of a track in it (RFC 8830, section 2). Any texts can be held.
 #[derive(Clone, Debug, PartialEq, Eq, Drop)]
 pub struct Msid {
+    /// The id of the stream; `-` where there is none.
     pub stream_id: Text,
+    /// The id of the track.
     pub track_id: Text,
 }
 
 impl Msid {
-    /// A copy that equals its source.
+    /// A copy that equals its source; the only error is that memory was refused.
     pub fn clone(&self) -> Result<Msid, AllocError>
         ensures { IfOk result (λ msid. msid ≡ self.now) }
     {

@@ -7,8 +7,10 @@ use std::fmt;
 /// The transport of a section: RTP over DTLS-SRTP (RFC 5764) or SCTP over DTLS (RFC 8841).
 #[derive(Clone, Copy, Debug, Default, PartialEq, Eq)]
 pub enum Proto {
+    /// RTP over DTLS-SRTP, with feedback: `UDP/TLS/RTP/SAVPF` (RFC 5764, section 8).
     #[default]
     Srtp,
+    /// SCTP over DTLS: `UDP/DTLS/SCTP` (RFC 8841, section 4).
     Sctp,
 }
 

@@ -178,9 +178,10 @@ fn append(list: &mut Vec<MediaAttribute>, row: &PayloadParams) -> Result<(), All
 }
 
 /// The lines of a row, in order: what its type stands for (RFC 8866, section 6.6), its feedback
-/// (RFC 4585, section 4.2; RFC 5104, section 7.1), its format where that says something, the
-/// highest event for telephone events (RFC 4733, section 2.4.1); then, for its RTX type (RFC 4588,
-/// section 8.1) and for its RED type (RFC 2198, section 5), what it stands for and the primary type.
+/// (RFC 4585, section 4.2; RFC 5104, section 7.1; draft-holmer-rmcat-transport-wide-cc-extensions
+/// and draft-alvestrand-rmcat-remb), its format where that says something, the highest event for
+/// telephone events (RFC 4733, section 2.4.1); then, for its RTX type (RFC 4588, section 8.1) and
+/// for its RED type (RFC 2198, section 5), what it stands for and the primary type.
 impl AsMediaAttrs for PayloadParams {
     ghost attrs = { row_attrs };
 

@@ -9,9 +9,11 @@ use str0m_values::Frequency;
 /// The codec of a payload type, its clock rate and its channels (RFC 8866, section 6.6).
 #[derive(Clone, Copy, Debug, PartialEq, Eq)]
 pub struct RtpMap {
+    /// The codec, by the name in the mapping.
     pub codec: Codec,
-    /// In Hz.
+    /// The clock rate of RTP timestamps, in Hz.
     pub clock_rate: Frequency,
+    /// How many channels sound has, 0 to 255; `None` where the mapping doesn't count them.
     pub channels: Option<u8>,
 }
 

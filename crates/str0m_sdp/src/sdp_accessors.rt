@@ -32,7 +32,7 @@ impl SessionAttribute {
 
 impl Sdp {
     /// The names of the sections that share a transport, in order: of the first group whose type is
-    /// `BUNDLE` (RFC 9143, section 5).
+    /// `BUNDLE` (RFC 8843, section 5; now RFC 9143, section 5).
     pub fn bundle_mids(&self) -> Option<&[Mid]>
         ensures { option_copied result ≡ first (filter_map bundled_of self.now.session.attrs) }
     {
@@ -52,7 +52,8 @@ impl Sdp {
     }
 
     /// A copy of the credentials (RFC 8839, section 5.4) of the session, else of the first section
-    /// that has both a name fragment and a password.
+    /// that has both a username fragment and a password; `None` where there is no such. The only
+    /// error is that memory was refused.
     pub fn ice_creds(&self) -> Result<Option<IceCreds>, AllocError>
         ensures { IfOk result (λ found. found ≡ sdp_creds self.now) }
     {
@@ -62,8 +63,9 @@ impl Sdp {
         }
     }
 
-    /// A copy of the preferred fingerprint (RFC 8122, section 5.1) of the session, else of the first
-    /// section that has any.
+    /// A copy of the preferred fingerprint (RFC 8122, section 5.1) of the session, else of the
+    /// first section that has any; `None` where there is none. The only error is that memory was
+    /// refused.
     pub fn fingerprint(&self) -> Result<Option<Fingerprint>, AllocError>
         ensures { IfOk result (IsPreferred (sdp_fingerprints self.now)) }
     {
@@ -73,7 +75,8 @@ impl Sdp {
         }
     }
 
-    /// The INIT chunk, in base 64, of the first application section; `None` where that one has none.
+    /// The INIT chunk of SCTP, in base 64 (draft-hancke-tsvwg-snap), of the first application
+    /// section; `None` where that one has none, or where there is no such section. Takes no memory.
     pub fn sctp_init(&self) -> Option<&str>
         ensures { option_copied result ≡ sdp_sctp_init self.now }
     {

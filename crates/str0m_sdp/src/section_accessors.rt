@@ -118,30 +118,32 @@ impl MediaLine {
         first_setup(self.attrs.as_slice())
     }
 
-    /// A copy of the first name fragment and the first password (RFC 8839, section 5.4); `None` where
-    /// one of them is missing.
+    /// A copy of the first username fragment and the first password (RFC 8839, section 5.4); `None`
+    /// where one of them is missing. The only error is that memory was refused.
     pub fn ice_creds(&self) -> Result<Option<IceCreds>, AllocError>
         ensures { IfOk result (λ found. found ≡ media_creds self.now.attrs) }
     {
         copied_creds(first_creds(self.attrs.as_slice()))
     }
 
-    /// A copy of the preferred fingerprint (RFC 8122, section 5.1): the first of those with the least
-    /// `hash_preference`.
+    /// A copy of the preferred fingerprint (RFC 8122, section 5.1): the first of those with the
+    /// least `hash_preference`; `None` where there is none. The only error is that memory was
+    /// refused.
     pub fn fingerprint(&self) -> Result<Option<Fingerprint>, AllocError>
         ensures { IfOk result (IsPreferred (filter_map media_fingerprint self.now.attrs)) }
     {
         copied_fingerprint(preferred(self.attrs.as_slice()))
     }
 
-    /// Whether an attribute says that no candidate follows (RFC 8840, section 8.2).
+    /// Whether an attribute says that no candidate follows (RFC 8840, section 8.1).
     pub fn end_of_candidates(&self) -> bool
         ensures { result ≡ list_any media_ends self.now.attrs }
     {
         ends(self.attrs.as_slice())
     }
 
-    /// The first INIT chunk, in base 64.
+    /// The first INIT chunk of SCTP, in base 64 (draft-hancke-tsvwg-snap); `None` where no
+    /// attribute has one. Takes no memory.
     pub fn sctp_init(&self) -> Option<&str>
         ensures { option_copied result ≡ first (filter_map sctp_init_of self.now.attrs) }
     {
@@ -149,7 +151,8 @@ impl MediaLine {
         attrs.iter().find_map(|attr| attr.as_sctp_init())
     }
 
-    /// A copy of the first ids of a stream and a track (RFC 8830, section 2).
+    /// A copy of the first ids of a stream and a track (RFC 8830, section 2); `None` where no
+    /// attribute has them. The only error is that memory was refused.
     pub fn msid(&self) -> Result<Option<Msid>, AllocError>
         ensures { IfOk result (λ found. found ≡ first (filter_map msid_of self.now.attrs)) }
     {
@@ -171,7 +174,8 @@ impl MediaLine {
         attrs.iter().find_map(|attr| attr.as_max_message_size())
     }
 
-    /// A copy of the last layers (RFC 8853, section 5.1).
+    /// A copy of the last layers (RFC 8853, section 5.1); `None` where no attribute has any. The
+    /// only error is that memory was refused.
     pub fn simulcast(&self) -> Result<Option<Simulcast>, AllocError>
         ensures { IfOk result (λ found. found ≡ last (filter_map simulcast_of self.now.attrs)) }
     {
@@ -184,8 +188,8 @@ impl MediaLine {
         }
     }
 
-    /// The header extensions with their numbers (RFC 8285, section 5), in the order of the
-    /// attributes.
+    /// The header extensions with their numbers, 0 to 255 (RFC 8285, section 5), in the order of
+    /// the attributes. The only error is that memory was refused.
     pub fn extmaps(&self) -> Result<Vec<(u8, &Extension)>, AllocError>
         ensures { IfOk result (λ maps. map ext_map_at maps.items ≡ filter_map ext_map_of self.now.attrs) }
     {
@@ -200,7 +204,7 @@ impl MediaLine {
 
     /// The names of the streams that may be restricted (RFC 8851, section 4), in the order of the
     /// attributes; of a name of more than 16 bytes the longest beginning of at most 16 bytes that
-    /// ends between characters.
+    /// ends between characters. The only error is that memory was refused.
     pub fn rids(&self) -> Result<Vec<Rid>, AllocError>
         ensures { IfOk result (λ rids. AllZip IsRidOf (filter_map rid_name_of self.now.attrs) rids.items) }
     {

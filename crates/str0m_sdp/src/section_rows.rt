@@ -69,6 +69,8 @@ impl TypeWords {
         match FormatParams::from_sdp_fmtp(spec.codec, lines) {
             Some(format) => {
                 let spec = CodecSpec { format, ..spec };
+                // A push of a row isn't accepted above the crate that defines it; docs/DECISIONS.md
+                // shows the message.
                 rows.extend_from_slice(&[self.row_of(pt, spec)])
             }
             None => Ok(()),
@@ -121,11 +123,14 @@ impl MediaLine {
     /// `FormatParams::from_sdp_fmtp`; where that refuses, there is no row. The RTX type is the last
     /// type of `rtx` whose fmtp line names this one by `apt` (RFC 4588, section 8.1), the RED type of
     /// sound the last type of `red` whose fmtp line names this one by a list (RFC 2198, section 5).
-    /// The rtcp-fb values `transport-cc`, `ccm fir`, `nack`, `nack pli` and `goog-remb` of the type
-    /// turn feedback on (RFC 4585, section 4.2); pictures have all of it but `transport-cc` anyway. No
+    /// The rtcp-fb values `transport-cc` (draft-holmer-rmcat-transport-wide-cc-extensions),
+    /// `ccm fir`, `nack`, `nack pli` and `goog-remb` (draft-alvestrand-rmcat-remb) of the type turn
+    /// feedback on (RFC 4585, section 4.2); pictures have all of it but `transport-cc` anyway. No
     /// row is locked.
     ///
-    /// The only error is that memory was refused. The section stays as it is.
+    /// The only error is that memory was refused. The section stays as it is. A type that is mapped
+    /// many times, which in a consistent section only one outside the m-line is, costs its mappings
+    /// times its fmtp lines.
     pub fn rtp_params(&self) -> Result<Vec<PayloadParams>, AllocError>
         ensures rows { IfOk result (λ params. params.items ≡ rows self.now) }
         // Types of seven bits and parameters in their ranges give rows of such.

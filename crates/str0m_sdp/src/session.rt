@@ -13,6 +13,7 @@ use str0m_values::{Items, SessionId};
 /// A session description (RFC 8866, section 5).
 #[derive(Clone, Debug, PartialEq, Eq, Drop)]
 pub struct Sdp {
+    /// What is said of the session as a whole.
     pub session: Session,
     /// The sections, in order.
     pub media_lines: Items<MediaLine>,
@@ -21,27 +22,29 @@ pub struct Sdp {
 /// What a description says of the session as a whole.
 #[derive(Clone, Debug, PartialEq, Eq, Drop)]
 pub struct Session {
+    /// The number of 64 bits in the `o=` line (RFC 8866, section 5.2).
     pub id: SessionId,
+    /// The proposed bandwidth, where a `b=` line says one (RFC 8866, section 5.8).
     pub bw: Option<Bandwidth>,
     /// The attribute lines, in order.
     pub attrs: Items<SessionAttribute>,
 }
 
 impl Sdp {
-    /// A copy that equals its source.
+    /// A copy that equals its source; the only error is that memory was refused.
     pub fn clone(&self) -> Result<Sdp, AllocError>
         ensures { IfOk result (λ sdp. sdp ≡ self.now) }
     {
-        Clone::clone(self)
+        <Sdp as Clone>::clone(self)
     }
 }
 
 impl Session {
-    /// A copy that equals its source.
+    /// A copy that equals its source; the only error is that memory was refused.
     pub fn clone(&self) -> Result<Session, AllocError>
         ensures { IfOk result (λ session. session ≡ self.now) }
     {
-        Clone::clone(self)
+        <Session as Clone>::clone(self)
     }
 }
 

@@ -21,23 +21,24 @@ impl Session {
         first_setup(self.attrs.as_slice())
     }
 
-    /// A copy of the first name fragment and the first password (RFC 8839, section 5.4); `None` where
-    /// one of them is missing.
+    /// A copy of the first username fragment and the first password (RFC 8839, section 5.4); `None`
+    /// where one of them is missing. The only error is that memory was refused.
     pub fn ice_creds(&self) -> Result<Option<IceCreds>, AllocError>
         ensures { IfOk result (λ found. found ≡ session_creds self.now.attrs) }
     {
         copied_creds(first_creds(self.attrs.as_slice()))
     }
 
-    /// A copy of the preferred fingerprint (RFC 8122, section 5.1): the first of those with the least
-    /// `hash_preference`.
+    /// A copy of the preferred fingerprint (RFC 8122, section 5.1): the first of those with the
+    /// least `hash_preference`; `None` where there is none. The only error is that memory was
+    /// refused.
     pub fn fingerprint(&self) -> Result<Option<Fingerprint>, AllocError>
         ensures { IfOk result (IsPreferred (filter_map session_fingerprint self.now.attrs)) }
     {
         copied_fingerprint(preferred(self.attrs.as_slice()))
     }
 
-    /// Whether an attribute says that no candidate follows (RFC 8840, section 8.2).
+    /// Whether an attribute says that no candidate follows (RFC 8840, section 8.1).
     pub fn end_of_candidates(&self) -> bool
         ensures { result ≡ list_any session_ends self.now.attrs }
     {

@@ -156,6 +156,10 @@ impl Sdp {
     /// sections 5 and 7): of those that aren't disabled, and of those that are but that it lists.
     /// The error is `Inconsistent` with the first fault that is found in this order, or `Memory`
     /// where memory for its message was refused. A consistent session needs none.
+    ///
+    /// Time grows with the square of the number of sections, since each mid is compared with that
+    /// of each later section, which is looked for among its attributes each time; and with the
+    /// number of disabled sections times that of the mids in the group.
     pub fn assert_consistency(&self) -> Result<(), SdpError>
         ensures exact { IsOk result ↔ ConsistentSdp self.now }
         ensures takes_no_memory { ConsistentSdp self.now → result ≡ Ok tt }

@@ -8,9 +8,12 @@ use std::fmt;
 /// The role of a side in setting up the transport (RFC 8842, section 5.2; RFC 4145, section 4).
 #[derive(Clone, Copy, Debug, Default, PartialEq, Eq)]
 pub enum Setup {
+    /// `actpass`: begins or waits, as the other side settles (RFC 4145, section 4; RFC 8842).
     #[default]
     ActPass,
+    /// `active`: begins the DTLS handshake (RFC 4145, section 4; RFC 8842).
     Active,
+    /// `passive`: waits for the other side to begin it (RFC 4145, section 4; RFC 8842).
     Passive,
 }
 
@@ -66,6 +69,7 @@ impl Setup {
     }
 }
 
+/// The text of `setup_line`.
 impl fmt::Display for Setup {
     ghost output = { λ setup. Some (setup_text setup) };
 

@@ -15,12 +15,14 @@ use str0m_values::{Items, Text};
 pub struct RestrictionId(pub Text, pub bool);
 
 impl RestrictionId {
+    /// One of this name, active or not.
     pub fn new(name: Text, active: bool) -> RestrictionId
         ensures { result ≡ record { 0 = name; 1 = active } }
     {
         RestrictionId(name, active)
     }
 
+    /// An active one of this name.
     pub fn new_active(name: Text) -> RestrictionId
         ensures { result ≡ record { 0 = name; 1 = true } }
     {
@@ -35,18 +37,18 @@ impl RestrictionId {
     }
 
     /// The name as simulcast lines show it: behind `~` where the stream isn't active (RFC 8853,
-    /// section 5.1).
+    /// section 5.1). The only error is that memory was refused.
     pub fn to_sdp(&self, alloc: Global) -> Result<String, AllocError>
         ensures { IfOk result (λ text. string_bytes text ≡ id_text self.now) }
     {
         self.to_string(alloc)
     }
 
-    /// A copy that equals its source.
+    /// A copy that equals its source. The only error is that memory was refused.
     pub fn clone(&self) -> Result<RestrictionId, AllocError>
         ensures { IfOk result (λ id. id ≡ self.now) }
     {
-        Clone::clone(self)
+        <RestrictionId as Clone>::clone(self)
     }
 }
 
@@ -73,6 +75,15 @@ pub struct SimulcastLayer {
     pub attributes: Option<Items<(Text, Text)>>,
 }
 
+impl SimulcastLayer {
+    /// A copy that equals its source. The only error is that memory was refused.
+    pub fn clone(&self) -> Result<SimulcastLayer, AllocError>
+        ensures { IfOk result (λ layer. layer ≡ self.now) }
+    {
+        <SimulcastLayer as Clone>::clone(self)
+    }
+}
+
 /// The name of the layer.
 impl fmt::Display for SimulcastLayer {
     ghost output = { λ layer. Some (layer_text layer) };
@@ -93,13 +104,23 @@ impl Printed for SimulcastLayer {
 #[derive(Clone, Debug, PartialEq, Eq, Drop)]
 pub struct SimulcastGroups(pub Items<SimulcastLayer>);
 
+impl SimulcastGroups {
+    /// A copy that equals its source. The only error is that memory was refused.
+    pub fn clone(&self) -> Result<SimulcastGroups, AllocError>
+        ensures { IfOk result (λ groups. groups ≡ self.now) }
+    {
+        <SimulcastGroups as Clone>::clone(self)
+    }
+}
+
+/// The layers, in order.
 impl Deref for SimulcastGroups {
-    type Target = Items<SimulcastLayer>;
+    type Target = Vec<SimulcastLayer>;
 
-    ghost deref_gives = { λ groups layers. layers ≡ groups.0 };
+    ghost deref_gives = { λ groups layers. layers.items ≡ groups.0 };
 
-    fn deref(&self) -> &Items<SimulcastLayer> {
-        &self.0
+    fn deref(&self) -> &Vec<SimulcastLayer> {
+        &self.0.0
     }
 }
 
@@ -120,7 +141,9 @@ impl fmt::Display for SimulcastGroups {
 /// The layers that are sent and received (RFC 8853, section 5.1).
 #[derive(Clone, Debug, PartialEq, Eq, Drop)]
 pub struct Simulcast {
+    /// The layers that are sent.
     pub send: SimulcastGroups,
+    /// The layers that are received.
     pub recv: SimulcastGroups,
     /// Whether a caller made it of something else. Then it isn't printed.
     pub is_munged: bool,
@@ -141,11 +164,11 @@ impl Simulcast {
         }
     }
 
-    /// A copy that equals its source.
+    /// A copy that equals its source. The only error is that memory was refused.
     pub fn clone(&self) -> Result<Simulcast, AllocError>
         ensures { IfOk result (λ simulcast. simulcast ≡ self.now) }
     {
-        Clone::clone(self)
+        <Simulcast as Clone>::clone(self)
     }
 }
 

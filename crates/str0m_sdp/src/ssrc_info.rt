@@ -17,6 +17,7 @@ use str0m_values::{Separator, Ssrc, Text};
 /// What a section says of a source of RTP packets (RFC 5576).
 #[derive(Clone, Debug, PartialEq, Eq, Drop)]
 pub struct SsrcInfo {
+    /// The number of the source, of 32 bits (RFC 3550, section 3).
     pub ssrc: Ssrc,
     /// The source whose packets this one sends again.
     pub repairs: Option<Ssrc>,
@@ -54,7 +55,7 @@ impl SsrcInfo {
         }
     }
 
-    /// A copy that equals its source.
+    /// A copy that equals its source; the only error is that memory was refused.
     pub fn clone(&self) -> Result<SsrcInfo, AllocError>
         ensures { IfOk result (λ info. info ≡ self.now) }
     {

@@ -19,6 +19,7 @@ impl Model for Word {
 }
 
 impl Word {
+    /// The text of the word, for as long as the program runs. Takes no memory.
     pub fn as_str(&self) -> &'static str
         ensures { result.now ≡ self.now }
     {
@@ -42,7 +43,7 @@ impl PartialEq for Word {
     ghost laws = { Prim.search (comparing, rules) };
 
     fn eq(&self, other: &Word) -> bool {
-        self.0 == other.0
+        self.as_str() == other.as_str()
     }
 }
 
@@ -50,11 +51,12 @@ impl Eq for Word {
     ghost laws = { Prim.search (comparing, rules) };
 }
 
+/// The text of the word.
 impl fmt::Display for Word {
     ghost output = { λ word. Some word };
 
     fn fmt<W: fmt::Write>(&self, f: &mut fmt::Formatter<W>) -> fmt::Result {
-        let word = self.0;
+        let word = self.as_str();
         write!(f, "{word}")
     }
 }

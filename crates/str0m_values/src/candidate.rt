@@ -119,7 +119,7 @@ impl Candidate {
         self.tcptype
     }
 
-    /// The name fragment of the agent that the candidate belongs to.
+    /// The username fragment of the agent that the candidate belongs to.
     pub fn ufrag(&self) -> Option<&str>
         ensures { option_map (λ u. u.now) result ≡ self.now.ufrag }
     {

@@ -91,7 +91,7 @@ fn tcp_type(text: &str) -> Option<(Option<TcpType>, &str)>
     }
 }
 
-/// The name fragment; a network's id may stand on either side of it, and on one alone.
+/// The username fragment; a network's id may stand on either side of it, and on one alone.
 fn names(text: &str) -> Option<(Option<&str>, &str)>
     ensures { option_map (λ x. (option_map (λ w. w.now) x.0, x.1.now)) result ≡ names_read text.now }
 {

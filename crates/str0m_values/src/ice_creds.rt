@@ -4,7 +4,7 @@ ghost use Rattle.std.specs.Prelude.{◌≡◌, IfOk};
 use crate::text::Text;
 use std::alloc::AllocError;
 
-/// The name fragment and the password by which ICE agents know each other's checks (RFC 8839,
+/// The username fragment and the password by which ICE agents know each other's checks (RFC 8839,
 /// section 5.4). Any texts can be held.
 #[derive(Clone, Debug, PartialEq, Eq, Drop)]
 pub struct IceCreds {

@@ -87,8 +87,20 @@ const OPUS: &[u8] =
 const STATIC: &[u8] =
     b"v=0\r\no=- 1 1 IN IP4 127.0.0.1\r\ns=-\r\nt=0 0\r\na=group:BUNDLE 0\r\nm=audio 9 UDP/TLS/RTP/SAVPF 0 8 9 13\r\nc=IN IP4 0.0.0.0\r\na=setup:actpass\r\na=sendrecv\r\na=mid:0\r\n";
 
+/// A section of pictures with a row and its retransmissions.
+const PICTURES: &[u8] =
+    b"v=0\r\no=- 1 1 IN IP4 127.0.0.1\r\ns=-\r\nt=0 0\r\nm=video 9 UDP/TLS/RTP/SAVPF 96 97\r\nc=IN IP4 0.0.0.0\r\na=mid:1\r\na=sendrecv\r\na=rtpmap:96 VP8/90000\r\na=rtpmap:97 rtx/90000\r\na=fmtp:97 apt=96\r\n";
+
+/// A section of telephone events that says no range.
+const TELEPHONE: &[u8] =
+    b"v=0\r\no=- 1 1 IN IP4 127.0.0.1\r\ns=-\r\nt=0 0\r\nm=audio 9 UDP/TLS/RTP/SAVPF 101\r\nc=IN IP4 0.0.0.0\r\na=mid:0\r\na=sendrecv\r\na=rtpmap:101 telephone-event/8000\r\n";
+
+/// A section whose one type asks for checksums, which no row has.
+const CHECKSUMS: &[u8] =
+    b"v=0\r\no=- 1 1 IN IP4 127.0.0.1\r\ns=-\r\nt=0 0\r\nm=audio 9 UDP/TLS/RTP/SAVPF 122\r\nc=IN IP4 0.0.0.0\r\na=mid:0\r\na=sendrecv\r\na=rtpmap:122 AMR-WB/16000\r\na=fmtp:122 crc=1\r\n";
+
 /// Words, what is read, the status, and what is written and said.
-const RUNS: [(&[&str], &[u8], u8, &str, &str); 21] = [
+const RUNS: [(&[&str], &[u8], u8, &str, &str); 24] = [
     (&[], b"", 2, "", USAGE),
     (&[""], b"", 2, "", USAGE),
     (&["show"], b"", 2, "", USAGE),
@@ -114,6 +126,15 @@ const RUNS: [(&[&str], &[u8], u8, &str, &str); 21] = [
         "0 0 - - PCMU/8000 -\n0 8 - - PCMA/8000 -\n0 9 - - G722/16000 -\n0 13 - - CN/8000 -\n",
         "",
     ),
+    (&["rows"], PICTURES, 0, "1 96 97 - VP8/90000 -\n", ""),
+    (
+        &["rows"],
+        TELEPHONE,
+        0,
+        "0 101 - - telephone-event/8000 0-16\n",
+        "",
+    ),
+    (&["rows"], CHECKSUMS, 0, "", ""),
     (&["text", "text"], b"", 2, "", USAGE),
     (&["text", ""], b"", 2, "", USAGE),
     (&["text"], b"v=0\no=- 7 2 x\ns=-\nt=0 0\n", 0, PRINTED, ""),
@@ -163,34 +184,37 @@ fn each_status_comes_with_its_line(rt: HostRuntime) -> Result<(), Fail> {
     Ok(())
 }
 
+/// A word, what is read before an error of which kind, the status, and what is said.
+const UNREADABLE: [(&str, &str, ErrorKind, u8, &str); 4] = [
+    (
+        "text",
+        "",
+        ErrorKind::PermissionDenied,
+        1,
+        "cannot read input\n",
+    ),
+    (
+        "text",
+        HEADER,
+        ErrorKind::BrokenPipe,
+        1,
+        "cannot read input\n",
+    ),
+    (
+        "text",
+        "",
+        ErrorKind::OutOfMemory,
+        1,
+        "SDP: out of memory\n",
+    ),
+    ("show", "", ErrorKind::PermissionDenied, 2, USAGE),
+];
+
 /// Words are compared before anything is read, and input that ends in an error is not shown.
 #[test]
 fn input_that_cannot_be_read(rt: HostRuntime) -> Result<(), Fail> {
     let alloc = rt.alloc();
-    for (word, bytes, kind, status, said) in [
-        (
-            "text",
-            "",
-            ErrorKind::PermissionDenied,
-            1,
-            "cannot read input\n",
-        ),
-        (
-            "text",
-            HEADER,
-            ErrorKind::BrokenPipe,
-            1,
-            "cannot read input\n",
-        ),
-        (
-            "text",
-            "",
-            ErrorKind::OutOfMemory,
-            1,
-            "SDP: out of memory\n",
-        ),
-        ("show", "", ErrorKind::PermissionDenied, 2, USAGE),
-    ] {
+    for (word, bytes, kind, status, said) in UNREADABLE {
         let words = owned(alloc, &[word])?;
         let mut input = Broken {
             bytes: bytes.as_bytes(),
@@ -217,42 +241,54 @@ fn input_that_cannot_be_read(rt: HostRuntime) -> Result<(), Fail> {
     Ok(())
 }
 
+/// The status of a run over the header, and what it writes and says with so much room for each.
+fn run_into(
+    alloc: Global,
+    word: &str,
+    room: usize,
+    faults_room: usize,
+) -> Result<(u8, Full, Full), AllocError> {
+    let words = owned(alloc, &[word])?;
+    let mut input = HEADER.as_bytes();
+    let mut output = with_room(alloc, room);
+    let mut faults = with_room(alloc, faults_room);
+    let answer = run(
+        alloc,
+        words.as_slice(),
+        &mut input,
+        &mut output,
+        &mut faults,
+    );
+    Ok((answer, output, faults))
+}
+
 /// A description is written whole or the run says so; a line of faults that can't be written leaves
 /// the status as it is.
 #[test]
 fn output_that_cannot_be_written(rt: HostRuntime) -> Result<(), Fail> {
     let alloc = rt.alloc();
-    for (word, room, status, said) in [
-        ("text", PRINTED.len(), 0, ""),
-        ("text", PRINTED.len() - 1, 1, "cannot write output\n"),
-        ("text", 0, 1, "cannot write output\n"),
-        ("show", 0, 2, USAGE),
+    for (word, room, faults_room, status, said) in [
+        ("text", PRINTED.len(), 100, 0, ""),
+        ("text", PRINTED.len(), 0, 0, ""),
+        ("text", PRINTED.len() - 1, 100, 1, "cannot write output\n"),
+        ("text", PRINTED.len() - 1, 0, 1, ""),
+        ("text", 0, 100, 1, "cannot write output\n"),
+        ("text", 0, 0, 1, ""),
+        ("show", 0, 100, 2, USAGE),
+        ("show", 0, 0, 2, ""),
     ] {
-        let words = owned(alloc, &[word])?;
-        for is_heard in [true, false] {
-            let mut input = HEADER.as_bytes();
-            let mut output = with_room(alloc, room);
-            let mut faults = with_room(alloc, if is_heard { 100 } else { 0 });
-            let answer = run(
-                alloc,
-                words.as_slice(),
-                &mut input,
-                &mut output,
-                &mut faults,
-            );
-            assert_eq!(rt; answer, status, "{said:?}");
-            assert!(rt;
-                PRINTED.as_bytes().starts_with(output.taken.as_slice()),
-                "{said:?}"
-            );
-            assert_eq!(rt;
-                output.taken.len() == PRINTED.len(),
-                status == 0,
-                "{said:?}"
-            );
-            let said = if is_heard { said } else { "" };
-            assert_eq!(rt; faults.taken.as_slice(), said.as_bytes());
-        }
+        let (answer, output, faults) = run_into(alloc, word, room, faults_room)?;
+        assert_eq!(rt; answer, status, "{said:?}");
+        assert!(rt;
+            PRINTED.as_bytes().starts_with(output.taken.as_slice()),
+            "{said:?}"
+        );
+        assert_eq!(rt;
+            output.taken.len() == PRINTED.len(),
+            status == 0,
+            "{said:?}"
+        );
+        assert_eq!(rt; faults.taken.as_slice(), said.as_bytes());
     }
     Ok(())
 }
