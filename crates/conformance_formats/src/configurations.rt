@@ -39,7 +39,7 @@ fn specs(alloc: Global, config: &CodecConfig) -> Result<String, AllocError> {
 }
 
 /// Enables the default rows of a codec, with RED where it can have one.
-pub(crate) fn enable(config: &mut CodecConfig, codec: Codec, is_on: bool) -> Result<(), AllocError> {
+fn enable(config: &mut CodecConfig, codec: Codec, is_on: bool) -> Result<(), AllocError> {
     match codec {
         Codec::Opus => config.enable_opus(is_on, true),
         Codec::PCMU => config.enable_pcmu(is_on, true),

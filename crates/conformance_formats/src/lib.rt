@@ -14,8 +14,6 @@ mod kept_formats;
 #[cfg(test)]
 mod large_rounds;
 #[cfg(test)]
-mod plain_rows;
-#[cfg(test)]
 mod rounds;
 #[cfg(test)]
 mod rows;

@@ -41,7 +41,6 @@ pub mod Telephone
 pub mod Matched
 pub mod Distinct
 pub mod SmallTypes
-pub mod PlainRounds
 pub mod MemoryAlone
 pub mod Promised
 pub mod RunLaws

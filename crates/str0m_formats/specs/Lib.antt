@@ -1,4 +1,3 @@
-pub mod Bounds
 pub mod Choices
 pub mod Claiming
 pub mod Codec
@@ -15,7 +14,6 @@ pub mod Narrowing
 pub mod Pairs
 pub mod PairsReading
 pub mod ParamReading
-pub mod PlainRow
 pub mod Promises
 pub mod RedDistances
 pub mod Rounds
