@@ -1,0 +1,76 @@
+"""What an edit changes, and the functions that it turns: edits as scripts/edits tries them."""
+import os
+import re
+
+import proved
+
+CRATES = proved.TOP / "crates"
+FUNCTION = re.compile(r"(?P<indent>\s*)(?:pub(?:\([^)]*\))? )?(?:const )?fn (?P<name>\w+)")
+BLOCK = re.compile(r"(?:impl(?:<.*?>)? (?:(?P<trait>.+?) for )?(?P<type>.+?)|.*\btrait (?P<decl>\w+).*?)(?: where .*)?\{")
+
+
+def texts_of(folder):
+    files = [it for part in proved.PARTS for it in sorted((folder / part).rglob("*")) if it.is_file()]
+    return {str(it.relative_to(folder)): it.read_text("utf-8") for it in files}
+
+
+def module_of(path):
+    return re.sub(r"(^|::)(lib|main|mod)$", "", "::".join(os.path.splitext(path)[0].split("/")[1:]))
+
+
+def as_word(text):
+    """A type as it stands in a function's name: RefStr for &'a str, ArrayBool128 for [bool; 128], Vec for Vec<T>."""
+    text = re.sub(r"<.*|'\w+ ?|\w+::", "", text).replace("&", "Ref ").replace("[", "Array ")
+    return "".join(it[0].upper() + it[1:] for it in re.findall(r"\w+", text))
+
+
+def function_at(path, text, offset, homes):
+    """The name, as a check prints it, of the function whose body stands at the offset, or None."""
+    name, module, is_body = None, module_of(path), False
+    for line in reversed(text[: text.index("\n", offset)].split("\n")):
+        found, block = FUNCTION.match(line), BLOCK.match(line)
+        is_body = is_body or re.search(r"^\s*(\).*)?\{$|\bfn .*\{$", line)
+        if found and name is None:
+            name = found["name"]
+            if not is_body or not found["indent"]:
+                return f"{module}::{name}".removeprefix("::") if is_body else None
+        elif block and name is not None:
+            of_trait, _, given = (block["trait"] or "").partition("<")
+            kind = block["decl"] or as_word(block["type"])
+            module = module if of_trait else homes.get(kind, module)  # (a method is named by the module of its type)
+            return f"{module}::{kind}{as_word(of_trait)}{as_word(given.removesuffix('>'))}::{name}".removeprefix("::")
+        elif line == "}":
+            return None
+    return None
+
+
+def changed(texts, changes):
+    """The texts after the changes, where each text that one replaces stands once."""
+    texts = dict(texts)
+    for path, old, new in changes:
+        count = texts.get(path, "").count(old)
+        if count != 1:
+            raise ValueError(f"its text stands in {path} {count} times, and not once: {old.strip()}")
+        texts[path] = texts[path].replace(old, new)
+    return texts
+
+
+class Edit:
+    """What it changes (file, old text, new text), the functions that it turns, and whether it turns more than bodies."""
+
+    def __init__(self, path, texts, homes):
+        self.name, self.changes, self.functions = str(path.relative_to(CRATES)), [], set()
+        said, turned = {}, set()
+        for line in path.read_text("utf-8").split("\n"):
+            word, _, said[word] = line.partition(":")
+            if word == "falls":
+                self.functions.add(said[word].strip())
+            elif word == "new":
+                file, old, new = said["file"].strip(), said["old"].removeprefix(" "), said["new"].removeprefix(" ")
+                before, texts = texts, changed(texts, [(file, old, new)])
+                turned.add(function_at(file, before[file], before[file].index(old), homes))
+                self.changes.append((file, old, new))
+        self.is_wide = None in turned or bool(self.functions)
+        self.functions = self.functions or turned - {None}
+        if not self.functions:
+            raise ValueError("it turns no body: name the function that must fall by a line 'falls: MODULE::FUNCTION'")

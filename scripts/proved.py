@@ -1,0 +1,64 @@
+"""The copy of the repository in which it is proved, and what the proof leaves there: the programs and the libraries.
+
+The copy stands outside the repository, since the gate reads every source below the folder that it judges. It has no
+must-fail/: a crate with an edit there is proved a second time, and all edits are tried together by scripts/edits."""
+import hashlib
+import os
+import shutil
+import tempfile
+from pathlib import Path
+
+TOP = Path(__file__).absolute().parent.parent
+PARTS = ("src", "specs", "proofs")
+LEFT_OUT = ("out", "must-fail", "edits")
+
+
+def folder():
+    """Where the copy stands: a folder for each user and each place of the repository."""
+    key = hashlib.sha256(str(TOP).encode()).hexdigest()[:12]
+    return Path(tempfile.gettempdir(), f"sdp-proved-{os.getuid()}-{key}")
+
+
+def sources(top):
+    """One name for all that the gate judges below the folder."""
+    files = [top / "crates.txt", top / "HANDLES"]
+    for crate in sorted((top / "crates").iterdir()):
+        inside = [it for it in crate.rglob("*") if it.is_file() and it.relative_to(crate).parts[0] not in LEFT_OUT]
+        files += sorted(inside)
+    told = hashlib.sha256()
+    for file in files:
+        told.update(f"{file.relative_to(top)}\0{file.stat().st_size}\0".encode() + file.read_bytes())
+    return told.hexdigest()
+
+
+def copy():
+    """Makes the copy anew; answers where it stands."""
+    to = folder()
+    shutil.rmtree(to, ignore_errors=True)
+    to.mkdir(mode=0o700)
+    shutil.copytree(TOP / "crates", to / "crates", ignore=shutil.ignore_patterns(*LEFT_OUT))
+    for name in ("crates.txt", "HANDLES"):
+        shutil.copyfile(TOP / name, to / name)
+    return to
+
+
+def mark(is_proved):
+    """Says of the copy that the gate has passed over it, or that it has not."""
+    if is_proved:
+        (folder() / "proved").write_text(sources(folder()))
+    else:
+        (folder() / "proved").unlink(missing_ok=True)
+
+
+def is_current():
+    """Whether the gate has passed over these very sources."""
+    said = folder() / "proved"
+    return said.is_file() and said.read_text() == sources(TOP)
+
+
+def program(name):
+    """The path of a proved program, as the gate has built it from these sources."""
+    path = folder() / "crates" / name / "out" / name
+    if not is_current() or not path.is_file():
+        raise SystemExit(f"{name} as it stands here is not proved: run ./test proofs first")
+    return path
