@@ -8,6 +8,7 @@ pub mod ExtMap
 pub mod Feedback
 pub mod Fmtp
 pub mod Group
+pub mod KnownFormats
 pub mod Lines
 pub mod Lists
 pub mod Mappings

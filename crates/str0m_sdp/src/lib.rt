@@ -15,6 +15,7 @@ mod feedback;
 mod fmtp;
 mod fmtp_lines;
 mod group;
+mod known_formats;
 mod made_section;
 mod mappings;
 mod media_line;

@@ -4,7 +4,7 @@ ghost use Rattle.str0m_formats.specs.Choices.{has_events};
 ghost use Rattle.str0m_formats.specs.Codec.{content};
 ghost use Rattle.str0m_formats.specs.KindRows.{has_sound};
 ghost use Rattle.str0m_formats.specs.Rows.{has_pictures};
-ghost use Rattle.str0m_formats.specs.FormatLine.{line_values};
+ghost use Rattle.str0m_formats.specs.FormatLine.{format_of_fmtp};
 ghost use Rattle.str0m_sdp.specs.RowBounds.{IsBounded, KeepsToLines};
 ghost use Rattle.str0m_sdp.specs.SectionRows.{lines_of, is_kept, row, rows};
 ghost use Rattle.str0m_sdp.specs.declared.media_line.MediaLine.{MediaLine};
@@ -12,10 +12,11 @@ ghost use Rattle.str0m_sdp.specs.declared.media_line.MediaLine.{MediaLine};
 use crate::companions::companions;
 use crate::feedback::{Feedback, feedback_of};
 use crate::fmtp_lines::fmtp_lines;
+use crate::known_formats::format_of;
 use crate::media_line::MediaLine;
 use crate::type_tables::{row, types_in};
 use std::alloc::AllocError;
-use str0m_formats::{Codec, CodecSpec, FormatParam, FormatParams, PayloadParams};
+use str0m_formats::{Codec, CodecSpec, FormatParams, PayloadParams};
 use str0m_values::Pt;
 
 /// What a section says of each payload type.
@@ -55,18 +56,18 @@ impl TypeWords {
         is_sound(codec) || is_pictures(codec) || (is_events(codec) && self.in_m_line[row(pt)])
     }
 
-    /// One more row, where the type has one, by the values of its fmtp lines.
+    /// One more row, where the type has one, by what its fmtp lines say of the codec.
     fn push_row(
         &self,
         rows: &mut Vec<PayloadParams>,
-        lines: &[&[FormatParam]],
+        format: Option<FormatParams>,
         pt: Pt,
         spec: CodecSpec,
     ) -> Result<(), AllocError>
-        ensures { (m : MediaLine) → SayOf m self.now → line_values lines.now ≡ lines_of m.attrs pt →
+        ensures { (m : MediaLine) → SayOf m self.now → format ≡ format_of_fmtp spec.codec (lines_of m.attrs pt) →
             OnOk result (rows.new.items ≡ rows.old.items ++ option_to_list (row m (pt, spec))) }
     {
-        match FormatParams::from_sdp_fmtp(spec.codec, lines) {
+        match format {
             Some(format) => {
                 let spec = CodecSpec { format, ..spec };
                 // A push of a row isn't accepted above the crate that defines it; docs/DECISIONS.md
@@ -128,9 +129,7 @@ impl MediaLine {
     /// feedback on (RFC 4585, section 4.2); pictures have all of it but `transport-cc` anyway. No
     /// row is locked.
     ///
-    /// The only error is that memory was refused. The section stays as it is. A type that is mapped
-    /// many times, which in a consistent section only one outside the m-line is, costs its mappings
-    /// times its fmtp lines.
+    /// The only error is that memory was refused. The section stays as it is.
     pub fn rtp_params(&self) -> Result<Vec<PayloadParams>, AllocError>
         ensures rows { IfOk result (λ params. params.items ≡ rows self.now) }
         // Types of seven bits and parameters in their ranges give rows of such.
@@ -140,11 +139,13 @@ impl MediaLine {
         let mapped = self.mapped()?;
         let words = self.type_words(mapped.as_slice());
         let lines = fmtp_lines(alloc, self.attrs.as_slice())?;
+        let mut known = Vec::new(alloc);
         let mut rows = Vec::new(alloc);
         for (pt, spec) in mapped.as_slice() {
             if words.is_kept(*pt, *spec) {
                 let lines = lines[row(*pt)].as_slice();
-                words.push_row(&mut rows, lines, *pt, *spec)?;
+                let format = format_of(&mut known, lines, *pt, spec.codec)?;
+                words.push_row(&mut rows, format, *pt, *spec)?;
             }
         }
         Ok(rows)

@@ -11,7 +11,7 @@ use Rattle.str0m_sdp.specs.SectionRows.{lines_of, is_kept, row, rows}
 use Rattle.str0m_sdp.specs.declared.attribute.MediaAttribute.{MediaAttribute}
 use Rattle.str0m_sdp.proofs.FilterMapLaws.{kept_more, left_out}
 use Rattle.str0m_sdp.proofs.RowBoundLaws.{rows_bounded}
-use Rattle.str0m_sdp.proofs.media_line.MediaLine.rtp_params.Goals.{then-is_kept+in_ok-push_row, else-is_kept}
+use Rattle.str0m_sdp.proofs.media_line.MediaLine.rtp_params.Goals.{then-is_kept+in_ok-format+in_ok-push_row, else-is_kept}
 use Rattle.str0m_sdp.proofs.media_line.MediaLine.rtp_params.Goals as goal
 
 pub loop-pt-preserved : goal.loop-pt-preserved
@@ -20,31 +20,36 @@ loop-pt-preserved c =
     let types = c.as_slice-pt-items.result.now in
     let i = c.loop-pt.pt-index in
     let item = c.loop-pt-item.result in
+    let known = c.loop-pt.invariant.0 in
     let say = c.type_words-words.ensures (c.as_slice.ensures.value ∙ c.in_ok-mapped.ensures) in
     elim c.if-is_kept.branch [
-      | then-is_kept+in_ok-push_row w ↦
+      | then-is_kept+in_ok-format+in_ok-push_row w ↦
           let own =
           ap (λ (ls : List (Bor (List FormatParam))). line_values ls) w.as_slice-lines.ensures.value
           ∙ c.in_ok-lines.ensures w.row.result w.row.ensures.within w.index-lines-row.result
           ∙ ap (λ (attrs : List MediaAttribute). lines_of attrs w.row.result) c.as_slice-2.ensures
-          ∙ ap (lines_of m.attrs) w.row.ensures.is in
-          rw w.rows-is (
-          w.in_ok-push_row.ensures m say own
-          ∙ ap (λ (rows : List PayloadParams). rows ++ option_to_list (row m item)) c.loop-pt.invariant
-          ∙ sym (kept_more (is_kept m) (row m) types i item c.loop-pt-test.true c.loop-pt-item.is (sym (c.is_kept.ensures m say) ∙ w.if-is_kept.true))
+          ∙ ap (lines_of m.attrs) w.row.ensures.is in (
+            rw w.known-is (w.in_ok-format.ensures.known m.attrs known own),
+            rw w.rows-is (
+                w.in_ok-push_row.ensures m say (w.in_ok-format.ensures.format m.attrs known own)
+                ∙ ap (λ (rows : List PayloadParams). rows ++ option_to_list (row m item)) c.loop-pt.invariant.1
+                ∙ sym (kept_more (is_kept m) (row m) types i item c.loop-pt-test.true c.loop-pt-item.is (sym (c.is_kept.ensures m say) ∙ w.if-is_kept.true))
+                ),
           )
-      | else-is_kept w ↦
-          rw w.rows-is (
-          c.loop-pt.invariant
-          ∙ sym (left_out (is_kept m) (row m) types i item c.loop-pt-test.true c.loop-pt-item.is (sym (c.is_kept.ensures m say) ∙ w.if-is_kept.false))
-          )
+      | else-is_kept w ↦ (
+        rw w.known-is known,
+        rw w.rows-is (
+            c.loop-pt.invariant.1
+            ∙ sym (left_out (is_kept m) (row m) types i item c.loop-pt-test.true c.loop-pt-item.is (sym (c.is_kept.ensures m say) ∙ w.if-is_kept.false))
+            ),
+      )
     ]
 
 pub returns-clause-rows : goal.returns-clause-rows
 unfolding rows
 returns-clause-rows c =
     let m = c.args.self.now in
-    c.loop-pt.invariant
+    c.loop-pt.invariant.1
     ∙ ap (λ (types : List (ℕ × CodecSpec)). filter_map (row m) (filter (is_kept m) types))
     (take_all c.loop-pt.pt-index c.as_slice-pt-items.result.now c.loop-pt-test.false ∙ c.as_slice-pt-items.ensures.value ∙ c.in_ok-mapped.ensures)
 

@@ -1,6 +1,5 @@
-use Rattle.std.proofs.Common.{◌≡◌, ◌++◌, ◌∙◌, List, Option, Some, None, option_to_list, sym, ap}
+use Rattle.std.proofs.Common.{◌≡◌, ◌++◌, ◌∙◌, Option, Some, None, option_to_list, sym, ap}
 use Rattle.std.proofs.lemmas.List.{append-nil}
-use Rattle.str0m_formats.specs.declared.format_param.FormatParam.{FormatParam}
 use Rattle.str0m_formats.specs.declared.payload_params.PayloadParams.{PayloadParams}
 use Rattle.str0m_formats.specs.FormatLine.{format_of_fmtp}
 use Rattle.str0m_sdp.specs.SectionRows.{lines_of}
@@ -12,7 +11,7 @@ returns-in-Some c = λ m say own.
     let pt = c.args.pt in
     let spec = c.args.spec in
     let read : Some c.in-Some.format ≡ format_of_fmtp spec.codec (lines_of m.attrs pt) =
-    sym c.in-Some.is ∙ c.from_sdp_fmtp.ensures.format ∙ ap (λ (lines : List (List FormatParam)). format_of_fmtp spec.codec lines) own in
+    sym c.in-Some.is ∙ own in
     pushed c.extend_from_slice.result c.args.rows.now.items c.extend_from_slice.new.self.items c.row_of.result _ c.extend_from_slice.ensures.items
     (row_is m c.args.self.now pt spec c.in-Some.format say c.row_of.ensures.within read
     ∙ ap (λ (r : PayloadParams). Some r) (sym c.row_of.ensures.row))
@@ -21,5 +20,5 @@ pub returns-in-None : goal.returns-in-None
 returns-in-None c = λ m say own.
     let rows = c.args.rows.now.items in
     let read : None ≡ format_of_fmtp c.args.spec.codec (lines_of m.attrs c.args.pt) =
-    sym c.in-None.is ∙ c.from_sdp_fmtp.ensures.format ∙ ap (λ (lines : List (List FormatParam)). format_of_fmtp c.args.spec.codec lines) own in
+    sym c.in-None.is ∙ own in
     sym (ap (λ (o : Option PayloadParams). rows ++ option_to_list o) (no_row m c.args.pt c.args.spec read) ∙ append-nil rows)
