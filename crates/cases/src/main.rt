@@ -3,9 +3,18 @@
 //! a carriage return, a line feed, a tab and a backslash; answers write them the same way.
 #![tactic(auto)]
 
+mod addresses;
+mod candidates;
 mod escapes;
+mod fingerprints;
 mod formats;
+mod h264_profiles;
+mod h265_profiles;
+mod h266_profiles;
+mod identifiers;
 mod lines;
+mod lists;
+mod numbers;
 mod sections;
 mod values;
 

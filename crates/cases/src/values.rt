@@ -1,19 +1,42 @@
-//! Plain values: addresses.
+//! Plain values: each of their modules is asked in turn whether a word is its own.
 
+use crate::{
+    addresses, candidates, fingerprints, h264_profiles, h265_profiles, h266_profiles, identifiers, numbers,
+};
 use std::alloc::{AllocError, Global};
-use str0m_values::IpAddr;
 
 /// What the call that the word names answers of the text; none for a word of others.
 pub(crate) fn answer(alloc: Global, word: &str, text: &str) -> Result<Option<String>, AllocError> {
-    Ok(match word {
-        "address" => Some(address(alloc, text)?),
-        _ => None,
-    })
+    if let Some(answer) = text_answer(alloc, word, text)? {
+        return Ok(Some(answer));
+    }
+    profile_answer(alloc, word, text)
 }
 
-fn address(alloc: Global, text: &str) -> Result<String, AllocError> {
-    match IpAddr::from_text(text) {
-        Some(address) => address.to_string(alloc),
-        None => "none".to_string(alloc),
+/// Of texts, names and numbers.
+fn text_answer(alloc: Global, word: &str, text: &str) -> Result<Option<String>, AllocError> {
+    if let Some(answer) = addresses::answer(alloc, word, text)? {
+        return Ok(Some(answer));
     }
+    if let Some(answer) = candidates::answer(alloc, word, text)? {
+        return Ok(Some(answer));
+    }
+    if let Some(answer) = fingerprints::answer(alloc, word, text)? {
+        return Ok(Some(answer));
+    }
+    if let Some(answer) = identifiers::answer(alloc, word, text)? {
+        return Ok(Some(answer));
+    }
+    numbers::answer(alloc, word, text)
+}
+
+/// Of profiles, tiers and levels.
+fn profile_answer(alloc: Global, word: &str, text: &str) -> Result<Option<String>, AllocError> {
+    if let Some(answer) = h264_profiles::answer(alloc, word, text)? {
+        return Ok(Some(answer));
+    }
+    if let Some(answer) = h265_profiles::answer(alloc, word, text)? {
+        return Ok(Some(answer));
+    }
+    h266_profiles::answer(alloc, word, text)
 }

@@ -17,6 +17,8 @@ mod lines_of_browsers;
 #[cfg(test)]
 mod offers;
 #[cfg(test)]
+mod plain_values;
+#[cfg(test)]
 mod prefixes;
 #[cfg(test)]
 mod primary_types;

@@ -1,0 +1,83 @@
+//! Profiles, tiers and levels of H266.
+
+use crate::lists::{append, three_bytes, value_of};
+use std::alloc::{AllocError, Global};
+use str0m_values::H266ProfileTierLevel;
+
+/// What the call that the word names answers of the text; none for a word of others.
+pub(crate) fn answer(alloc: Global, word: &str, text: &str) -> Result<Option<String>, AllocError> {
+    Ok(match word {
+        "h266" => Some(or_none(alloc, of_words(text))?),
+        "h266-numbers" => Some(or_none(alloc, of_numbers(text))?),
+        "h266-fallback" => Some(shown(alloc, H266ProfileTierLevel::FALLBACK)?),
+        "h266-profiles" => Some(profiles(alloc)?),
+        "h266-tiers" => Some(tiers(alloc)?),
+        "h266-levels" => Some(levels(alloc)?),
+        _ => None,
+    })
+}
+
+/// The triple of the values of a format line.
+fn of_words(text: &str) -> Option<H266ProfileTierLevel> {
+    let (profile, tier) = (value_of(text, "profile-id"), value_of(text, "tier-flag"));
+    H266ProfileTierLevel::from_fmtp(profile, tier, value_of(text, "level-id"))
+}
+
+fn of_numbers(text: &str) -> Option<H266ProfileTierLevel> {
+    let (profile_id, tier_flag, level_id) = three_bytes(text)?;
+    H266ProfileTierLevel::new(profile_id, tier_flag, level_id)
+}
+
+fn or_none(alloc: Global, found: Option<H266ProfileTierLevel>) -> Result<String, AllocError> {
+    match found {
+        Some(found) => shown(alloc, found),
+        None => "none".to_string(alloc),
+    }
+}
+
+/// The parts with their numbers, and the place of the level among the levels.
+fn shown(alloc: Global, found: H266ProfileTierLevel) -> Result<String, AllocError> {
+    let (profile, tier, level) = (found.profile(), found.tier(), found.level());
+    let (profile_id, tier_flag, level_id) = (found.profile_id(), found.tier_flag(), found.level_id());
+    let ordinal = level.ordinal();
+    format!(
+        in alloc;
+        "profile {profile:?} {profile_id}, tier {tier:?} {tier_flag}, level {level:?} {level_id}, ordinal {ordinal}"
+    )
+}
+
+/// Each profile that a number names, with its number.
+fn profiles(alloc: Global) -> Result<String, AllocError> {
+    let mut list = String::new(alloc);
+    for number in 0..=255 {
+        if let Some(found) = H266ProfileTierLevel::new(number, 0, 51) {
+            let (profile, id) = (found.profile(), found.profile().to_id());
+            append(&mut list, format!(in alloc; "{profile:?} {id}")?.as_str())?;
+        }
+    }
+    Ok(list)
+}
+
+/// Each tier that a number names, with its number.
+fn tiers(alloc: Global) -> Result<String, AllocError> {
+    let mut list = String::new(alloc);
+    for number in 0..=255 {
+        if let Some(found) = H266ProfileTierLevel::new(1, number, 51) {
+            let (tier, id) = (found.tier(), found.tier().to_id());
+            append(&mut list, format!(in alloc; "{tier:?} {id}")?.as_str())?;
+        }
+    }
+    Ok(list)
+}
+
+/// Each level that a number names, with its number.
+fn levels(alloc: Global) -> Result<String, AllocError> {
+    let mut list = String::new(alloc);
+    for number in 0..=255 {
+        if let Some(found) = H266ProfileTierLevel::new(1, 0, number) {
+            let (level, id) = (found.level(), found.level().to_id());
+            append(&mut list, format!(in alloc; "{level:?} {id}")?.as_str())?;
+        }
+    }
+    Ok(list)
+}
