@@ -3,10 +3,16 @@
 //! a carriage return, a line feed, a tab and a backslash; answers write them the same way.
 #![tactic(auto)]
 
+mod configuration_calls;
 mod escapes;
+mod format_words;
 mod formats;
 mod lines;
+mod round_words;
+mod row_texts;
+mod row_words;
 mod sections;
+mod unanswered;
 mod values;
 
 use crate::escapes::{indented, unescaped};
