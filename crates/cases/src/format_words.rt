@@ -1,6 +1,7 @@
 //! Codecs, parameters and formats: what is read and what is printed. `-` stands for what prints nothing.
 
-use crate::row_texts::{codec_of, format_of, or_dash, push_part};
+use crate::row_answers::{or_dash, or_none, push_part};
+use crate::row_texts::{codec_of, format_of, type_of, word};
 use crate::unanswered::Unanswered;
 use std::alloc::{AllocError, Global};
 use str0m_formats::{Codec, CodecSpec, FormatParam, FormatParams};
@@ -37,7 +38,7 @@ pub(crate) fn codec(alloc: Global, name: &str) -> Result<String, AllocError> {
 
 /// `static TYPE`: what a payload type stands for without a mapping.
 pub(crate) fn static_type(alloc: Global, text: &str) -> Result<String, Unanswered> {
-    let pt = crate::row_texts::type_of(text)?;
+    let pt = type_of(text)?;
     let Some(spec) = CodecSpec::from_static_pt(pt) else {
         return Ok("none".to_string(alloc)?);
     };
@@ -80,7 +81,7 @@ fn joined(alloc: Global, params: &[FormatParam]) -> Result<String, AllocError> {
         let printed = param.to_string(alloc)?;
         push_part(&mut list, or_dash(printed.as_str()))?;
     }
-    crate::row_texts::or_none(alloc, list)
+    or_none(alloc, list)
 }
 
 /// `pairs KEY=VALUE;KEY=VALUE`: the parameters that pairs read as together.
@@ -120,7 +121,7 @@ pub(crate) fn triple(alloc: Global, text: &str) -> Result<String, AllocError> {
 
 /// `set FORMAT KEY=VALUE`: the format once the parameter is set.
 pub(crate) fn set(alloc: Global, text: &str) -> Result<String, Unanswered> {
-    let (line, pair) = crate::row_texts::word(text);
+    let (line, pair) = word(text);
     let mut format = format_of(alloc, line)?;
     let Some((key, value)) = pair.split_once('=') else {
         return Err(Unanswered::NoSuch("pair"));
@@ -152,7 +153,7 @@ fn lines_of(alloc: Global, text: &str) -> Result<Vec<Items<FormatParam>>, Unansw
 
 /// `fmtp CODEC VALUES | VALUES`: the format that the values of fmtp lines say of the codec.
 pub(crate) fn fmtp(alloc: Global, text: &str) -> Result<String, Unanswered> {
-    let (name, text) = crate::row_texts::word(text);
+    let (name, text) = word(text);
     let codec = codec_of(alloc, name)?;
     let lines = lines_of(alloc, text)?;
     let lines: Vec<&[FormatParam]> = lines.iter().map(|line| line.as_slice()).collect(alloc)?;

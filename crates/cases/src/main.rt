@@ -9,6 +9,7 @@ mod format_words;
 mod formats;
 mod lines;
 mod round_words;
+mod row_answers;
 mod row_texts;
 mod row_words;
 mod sections;

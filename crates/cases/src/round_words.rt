@@ -2,7 +2,8 @@
 //! `recvonly 96 - - opus/48000/2 -`; rounds stand behind this side's rows, each behind ` | `.
 
 use crate::configuration_calls::config_of;
-use crate::row_texts::{rows_of, shown_rows, word};
+use crate::row_answers::shown_rows;
+use crate::row_texts::{rows_of, word};
 use crate::row_words::{direction_of, sides};
 use crate::unanswered::Unanswered;
 use std::alloc::{AllocError, Global};

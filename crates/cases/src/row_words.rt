@@ -1,7 +1,8 @@
 //! What is asked of rows and of configurations.
 
 use crate::configuration_calls::{config_of, made};
-use crate::row_texts::{or_none, push_part, row_of, shown_row, shown_rows, spec_of, type_of, word};
+use crate::row_answers::{or_none, push_part, shown_row, shown_rows};
+use crate::row_texts::{row_of, spec_of, type_of, word};
 use crate::unanswered::Unanswered;
 use std::alloc::{AllocError, Global};
 use str0m_formats::{CodecConfig, PayloadParams};

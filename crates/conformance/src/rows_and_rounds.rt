@@ -210,7 +210,12 @@ fn five_hundred_rows_meet_five_hundred(rt: HostRuntime) -> Result<(), Fail> {
     let own = many(rt.alloc(), 499, Codec::PCMU)?;
     let remote = many(rt.alloc(), 499, Codec::PCMA)?;
     let mut config = CodecConfig::new_from_payload_params(own);
-    let found = round(rt.alloc(), &mut config, remote.as_slice(), Direction::RecvOnly)?;
+    let found = round(
+        rt.alloc(),
+        &mut config,
+        remote.as_slice(),
+        Direction::RecvOnly,
+    )?;
     assert_eq!(rt; found.as_str(), "ok");
     let locked = config.params().iter().filter(|row| row.locked()).count();
     assert_eq!(rt; locked, 1);
