@@ -5,8 +5,10 @@
 
 mod addresses;
 mod candidates;
+mod configuration_calls;
 mod escapes;
 mod fingerprints;
+mod format_words;
 mod formats;
 mod h264_profiles;
 mod h265_profiles;
@@ -15,7 +17,12 @@ mod identifiers;
 mod lines;
 mod lists;
 mod numbers;
+mod round_words;
+mod row_answers;
+mod row_texts;
+mod row_words;
 mod sections;
+mod unanswered;
 mod values;
 
 use crate::escapes::{indented, unescaped};

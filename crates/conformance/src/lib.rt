@@ -25,6 +25,8 @@ mod primary_types;
 #[cfg(test)]
 mod printing;
 #[cfg(test)]
+mod rows_and_rounds;
+#[cfg(test)]
 mod sections;
 #[cfg(test)]
 mod texts;

@@ -1,0 +1,111 @@
+//! Rounds of negotiation, and the distances of RED. A round is a direction and the remote rows, as
+//! `recvonly 96 - - opus/48000/2 -`; rounds stand behind this side's rows, each behind ` | `.
+
+use crate::configuration_calls::config_of;
+use crate::row_answers::shown_rows;
+use crate::row_texts::{rows_of, word};
+use crate::row_words::{direction_of, sides};
+use crate::unanswered::Unanswered;
+use std::alloc::{AllocError, Global};
+use str0m_formats::{CodecConfig, NegotiationError, Round};
+
+fn round_of(alloc: Global, text: &str) -> Result<Round, Unanswered> {
+    let (direction, remote) = word(text);
+    let direction = direction_of(direction)?;
+    let remote = rows_of(alloc, remote)?;
+    Ok(Round { remote, direction })
+}
+
+fn rounds_of(alloc: Global, text: &str) -> Result<Vec<Round>, Unanswered> {
+    let mut rounds = Vec::new(alloc);
+    for one in text.split(" | ") {
+        let round = round_of(alloc, one)?;
+        rounds.push(round).map_err(AllocError::from)?;
+    }
+    Ok(rounds)
+}
+
+/// `ok`, or the text of the cause.
+fn outcome_text(
+    alloc: Global,
+    outcome: Result<(), NegotiationError>,
+) -> Result<String, AllocError> {
+    match outcome {
+        Ok(()) => "ok".to_string(alloc),
+        Err(cause) => cause.to_string(alloc),
+    }
+}
+
+/// One round: its outcome, and the rows that it leaves.
+fn round(alloc: Global, config: &mut CodecConfig, round: &Round) -> Result<String, AllocError> {
+    let outcome = config.update_params(round.remote.as_slice(), round.direction);
+    let outcome = outcome_text(alloc, outcome)?;
+    let rows = shown_rows(alloc, config.params())?;
+    let (outcome, rows) = (outcome.as_str(), rows.as_str());
+    format!(in alloc; "{outcome}: {rows}")
+}
+
+/// `rounds ROWS | ROUND | ROUND`: rounds one after another, each on a line.
+pub(crate) fn rounds(alloc: Global, text: &str) -> Result<String, Unanswered> {
+    let (own, said) = sides(text)?;
+    let mut config = config_of(alloc, own)?;
+    let rounds = rounds_of(alloc, said)?;
+    let mut shown = String::new(alloc);
+    for one in rounds.iter() {
+        if !shown.is_empty() {
+            shown.push_str("\n")?;
+        }
+        let line = round(alloc, &mut config, one)?;
+        shown.push_str(line.as_str())?;
+    }
+    Ok(shown)
+}
+
+/// `together ROWS | ROUND | ROUND`: rounds in one call, their outcomes and the rows that the last one leaves.
+pub(crate) fn together(alloc: Global, text: &str) -> Result<String, Unanswered> {
+    let (own, said) = sides(text)?;
+    let mut config = config_of(alloc, own)?;
+    let rounds = rounds_of(alloc, said)?;
+    let mut shown = String::new(alloc);
+    for outcome in config.update_all(rounds.as_slice())?.iter() {
+        let one = outcome_text(alloc, *outcome)?;
+        shown.push_str(one.as_str())?;
+        shown.push_str(": ")?;
+    }
+    let rows = shown_rows(alloc, config.params())?;
+    shown.push_str(rows.as_str())?;
+    Ok(shown)
+}
+
+fn numbers_of(alloc: Global, text: &str) -> Result<Vec<u32>, Unanswered> {
+    let mut numbers = Vec::new(alloc);
+    for one in text.split_whitespace() {
+        let number = one
+            .parse::<u32>()
+            .map_err(|_| Unanswered::NoSuch("distance"))?;
+        numbers.extend_from_slice(&[number])?;
+    }
+    Ok(numbers)
+}
+
+fn shown_distances(alloc: Global, config: &CodecConfig) -> Result<String, AllocError> {
+    let mut shown = String::new(alloc);
+    for distance in config.red_distances() {
+        if !shown.is_empty() {
+            shown.push_str(" ")?;
+        }
+        let number = distance.to_string(alloc)?;
+        shown.push_str(number.as_str())?;
+    }
+    Ok(shown)
+}
+
+/// `distances N N`: the distances that are kept of those that are asked for; of `-` those of a new configuration.
+pub(crate) fn distances(alloc: Global, text: &str) -> Result<String, Unanswered> {
+    let mut config = CodecConfig::empty(alloc);
+    if text != "-" {
+        let numbers = numbers_of(alloc, text)?;
+        config.set_red_distances(numbers.as_slice());
+    }
+    Ok(shown_distances(alloc, &config)?)
+}

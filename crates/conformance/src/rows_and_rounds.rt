@@ -1,0 +1,224 @@
+//! Rows and rounds that no short text writes: a row at each type, a locked row that stands twice, hundreds of rows.
+//! Expected values were worked out by hand from the rules of docs/ROUNDS.md.
+
+use std::alloc::{AllocError, Global};
+use std::test::Fail;
+use str0m_signal::{
+    Codec, CodecConfig, CodecSpec, Direction, FormatParams, Frequency, PayloadParams, Pt,
+};
+
+/// The types of a row: primary, RTX, RED.
+type Types = (u8, Option<u8>, Option<u8>);
+
+fn type_of(number: Option<u8>) -> Option<Pt> {
+    match number {
+        None => None,
+        Some(number) => Some(Pt::from(number)),
+    }
+}
+
+/// A row without a format.
+fn row_of(
+    codec: Codec,
+    clock_rate: Frequency,
+    channels: Option<u8>,
+    (pt, resend, red): Types,
+) -> PayloadParams {
+    let spec = CodecSpec {
+        codec,
+        clock_rate,
+        channels,
+        format: FormatParams::default(),
+    };
+    PayloadParams::new(Pt::from(pt), type_of(resend), spec).with_red(type_of(red))
+}
+
+/// Opus in stereo.
+fn opus(types: Types) -> PayloadParams {
+    row_of(Codec::Opus, Frequency::FORTY_EIGHT_KHZ, Some(2), types)
+}
+
+fn vp8(pt: u8, resend: Option<u8>) -> PayloadParams {
+    row_of(Codec::Vp8, Frequency::NINETY_KHZ, None, (pt, resend, None))
+}
+
+/// H264 at 96 with its RTX at 97, in packetization mode 1.
+fn h264() -> PayloadParams {
+    let spec = CodecSpec {
+        codec: Codec::H264,
+        clock_rate: Frequency::NINETY_KHZ,
+        channels: None,
+        format: FormatParams {
+            packetization_mode: Some(1),
+            ..FormatParams::default()
+        },
+    };
+    PayloadParams::new(Pt::from(96), Some(Pt::from(97)), spec)
+}
+
+/// What a round answers: `ok`, or the text of its cause.
+fn round(
+    alloc: Global,
+    config: &mut CodecConfig,
+    remote: &[PayloadParams],
+    direction: Direction,
+) -> Result<String, AllocError> {
+    match config.update_params(remote, direction) {
+        Ok(()) => "ok".to_string(alloc),
+        Err(cause) => cause.to_string(alloc),
+    }
+}
+
+/// How many rows are asked before the first that carries pictures is found, and its type.
+fn asked(alloc: Global) -> Result<(usize, Option<u8>), AllocError> {
+    let config = CodecConfig::new_with_defaults(alloc)?;
+    let mut count: usize = 0;
+    let found = config.find(|row| {
+        count = count.saturating_add(1);
+        row.spec().codec.is_video()
+    });
+    let pt = found.map(|row| row.pt().value());
+    Ok((count, pt))
+}
+
+#[test]
+fn no_row_is_asked_after_the_first_accepted_one(rt: HostRuntime) -> Result<(), Fail> {
+    let found = asked(rt.alloc())?;
+    assert_eq!(rt; found, (2, Some(96)));
+    Ok(())
+}
+
+/// A configuration in which a row of H264 that a round has locked stands twice.
+fn doubled(alloc: Global) -> Result<CodecConfig, AllocError> {
+    let rows = Vec::from_slice(alloc, &[h264(), vp8(110, Some(111))])?;
+    let mut config = CodecConfig::new_from_payload_params(rows);
+    let _ = round(alloc, &mut config, &[h264()], Direction::RecvOnly)?;
+    let locked = config.params().first().copied();
+    match (locked, config.last_mut()) {
+        (Some(locked), Some(last)) => *last = locked,
+        _ => {}
+    }
+    Ok(config)
+}
+
+/// Whether the row is locked at 96 with its RTX at 97 and without RED.
+fn is_as_it_was_locked(row: &PayloadParams) -> bool {
+    row.locked()
+        && row.pt() == Pt::from(96)
+        && row.resend() == Some(Pt::from(97))
+        && row.red().is_none()
+}
+
+#[test]
+fn a_locked_type_that_stands_twice_refuses_every_round(rt: HostRuntime) -> Result<(), Fail> {
+    let mut config = doubled(rt.alloc())?;
+    let found = round(rt.alloc(), &mut config, &[], Direction::Inactive)?;
+    assert_eq!(rt; found.as_str(), "payload type 96 is claimed twice");
+    assert_eq!(rt; config.len(), 2);
+    let same = config.params().iter().all(|row| is_as_it_was_locked(row));
+    assert!(rt; same);
+    Ok(())
+}
+
+/// Whether a round may give the type.
+fn may_be_given(pt: u8) -> bool {
+    (35..=71).contains(&pt) || (77..=78).contains(&pt) || (80..=127).contains(&pt)
+}
+
+/// A VP8 row without RTX at each type that a round may give, ascending.
+fn vp8_everywhere(alloc: Global) -> Result<Vec<PayloadParams>, AllocError> {
+    let mut rows = Vec::new(alloc);
+    for pt in 35_u8..128 {
+        if may_be_given(pt) {
+            rows.extend_from_slice(&[vp8(pt, None)])?;
+        }
+    }
+    Ok(rows)
+}
+
+/// What a round over a row at each type and these more answers, and whether it left every row as it was.
+fn crowded(
+    alloc: Global,
+    more: &[PayloadParams],
+    remote: PayloadParams,
+    direction: Direction,
+) -> Result<(String, bool), AllocError> {
+    let mut rows = vp8_everywhere(alloc)?;
+    rows.extend_from_slice(more)?;
+    let mut config = CodecConfig::new_from_payload_params(rows);
+    let before = config.clone()?;
+    let text = round(alloc, &mut config, &[remote], direction)?;
+    let is_open = config.params().iter().all(|row| !row.locked());
+    Ok((text, is_open && config.params() == before.params()))
+}
+
+#[test]
+fn a_crowded_configuration_is_exhausted_and_unchanged(rt: HostRuntime) -> Result<(), Fail> {
+    let (text, same) = crowded(rt.alloc(), &[], vp8(100, None), Direction::SendOnly)?;
+    assert_eq!(rt; text.as_str(), "payload type ranges exhausted");
+    assert!(rt; same);
+    Ok(())
+}
+
+#[test]
+fn a_row_that_stays_open_may_find_no_type(rt: HostRuntime) -> Result<(), Fail> {
+    let more = [opus((0, None, None))];
+    let remote = opus((100, None, None));
+    let (text, same) = crowded(rt.alloc(), &more, remote, Direction::RecvOnly)?;
+    assert_eq!(rt; text.as_str(), "payload type ranges exhausted");
+    assert!(rt; same);
+    Ok(())
+}
+
+/// The first row is Opus at 35 with a RED at 0; all other types have a VP8 row.
+fn red_without_room(alloc: Global) -> Result<CodecConfig, AllocError> {
+    let mut rows = vp8_everywhere(alloc)?;
+    match rows.first_mut() {
+        None => {}
+        Some(first) => *first = opus((35, None, Some(0))),
+    }
+    Ok(CodecConfig::new_from_payload_params(rows))
+}
+
+#[test]
+fn a_red_without_room_is_dropped(rt: HostRuntime) -> Result<(), Fail> {
+    let mut config = red_without_room(rt.alloc())?;
+    let remote = opus((35, None, Some(35)));
+    let found = round(rt.alloc(), &mut config, &[remote], Direction::SendOnly)?;
+    assert_eq!(rt; found.as_str(), "ok");
+    let first = config.params().first().copied().ok_or("a row")?;
+    assert!(rt; first.locked());
+    assert_eq!(rt; first.pt().value(), 35);
+    assert!(rt; first.red().is_none());
+    Ok(())
+}
+
+/// So many rows that nothing matches, each at 96, and then a row of Opus.
+fn many(alloc: Global, count: usize, codec: Codec) -> Result<Vec<PayloadParams>, AllocError> {
+    let mut rows = Vec::new(alloc);
+    for _ in 0..count {
+        let one = row_of(codec, Frequency::EIGHT_KHZ, None, (96, None, None));
+        rows.extend_from_slice(&[one])?;
+    }
+    rows.extend_from_slice(&[opus((111, None, None))])?;
+    Ok(rows)
+}
+
+/// A round has no limit but memory: 500 rows on both sides, of which the last ones match.
+#[test]
+fn five_hundred_rows_meet_five_hundred(rt: HostRuntime) -> Result<(), Fail> {
+    let own = many(rt.alloc(), 499, Codec::PCMU)?;
+    let remote = many(rt.alloc(), 499, Codec::PCMA)?;
+    let mut config = CodecConfig::new_from_payload_params(own);
+    let found = round(
+        rt.alloc(),
+        &mut config,
+        remote.as_slice(),
+        Direction::RecvOnly,
+    )?;
+    assert_eq!(rt; found.as_str(), "ok");
+    let locked = config.params().iter().filter(|row| row.locked()).count();
+    assert_eq!(rt; locked, 1);
+    assert!(rt; config.params().last().is_some_and(|row| row.locked()));
+    Ok(())
+}
