@@ -36,8 +36,7 @@ fn first_parts(alloc: Global, found: &Candidate) -> Result<String, AllocError> {
     let (foundation, component, proto) = (found.foundation(), found.component_id(), found.proto());
     let (prio, addr, kind) = (found.prio(), found.addr(), found.kind());
     let addr = socket(alloc, Some(addr))?;
-    format!(
-        in alloc;
+    format!(in alloc;
         "foundation {foundation}\ncomponent {component}\nprotocol {proto:?}\npriority {prio}\naddress {addr}\nkind {kind:?}"
     )
 }
@@ -47,7 +46,9 @@ fn further_parts(alloc: Global, found: &Candidate) -> Result<String, AllocError>
     let raddr = socket(alloc, found.raddr())?;
     let ufrag = found.ufrag().unwrap_or("-");
     match found.tcptype() {
-        Some(tcptype) => format!(in alloc; "related address {raddr}\nTCP type {tcptype:?}\nufrag {ufrag}"),
+        Some(tcptype) => format!(in alloc;
+            "related address {raddr}\nTCP type {tcptype:?}\nufrag {ufrag}"
+        ),
         None => format!(in alloc; "related address {raddr}\nTCP type -\nufrag {ufrag}"),
     }
 }

@@ -14,7 +14,10 @@ pub(crate) fn answer(alloc: Global, word: &str, text: &str) -> Result<Option<Str
 }
 
 /// The answer, or why the text is no fingerprint.
-fn or_refusal(alloc: Global, answer: Result<String, FingerprintError>) -> Result<String, AllocError> {
+fn or_refusal(
+    alloc: Global,
+    answer: Result<String, FingerprintError>,
+) -> Result<String, AllocError> {
     match answer {
         Ok(answer) => Ok(answer),
         Err(error) => error.to_string(alloc),

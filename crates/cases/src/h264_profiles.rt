@@ -38,7 +38,10 @@ fn levels_of_high(alloc: Global) -> Result<String, AllocError> {
     for level_idc in 0..=255 {
         if let Ok(found) = H264ProfileLevel::try_from(0x640000 | level_idc) {
             let level = found.level();
-            append(&mut list, format!(in alloc; "{level:?} {level_idc}")?.as_str())?;
+            append(
+                &mut list,
+                format!(in alloc; "{level:?} {level_idc}")?.as_str(),
+            )?;
         }
     }
     Ok(list)

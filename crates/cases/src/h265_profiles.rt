@@ -38,10 +38,13 @@ fn or_none(alloc: Global, found: Option<H265ProfileTierLevel>) -> Result<String,
 /// The parts with their numbers, and the place of the level among the levels.
 fn shown(alloc: Global, found: H265ProfileTierLevel) -> Result<String, AllocError> {
     let (profile, tier, level) = (found.profile(), found.tier(), found.level());
-    let (profile_id, tier_flag, level_id) = (found.profile_id(), found.tier_flag(), found.level_id());
+    let (profile_id, tier_flag, level_id) = (
+        found.profile_id(),
+        found.tier_flag(),
+        found.level_id(),
+    );
     let ordinal = level.ordinal();
-    format!(
-        in alloc;
+    format!(in alloc;
         "profile {profile:?} {profile_id}, tier {tier:?} {tier_flag}, level {level:?} {level_id}, ordinal {ordinal}"
     )
 }

@@ -25,5 +25,9 @@ pub(crate) fn value_of<'a>(text: &'a str, name: &str) -> Option<&'a str> {
 pub(crate) fn three_bytes(text: &str) -> Option<(u8, u8, u8)> {
     let (first, rest) = text.split_once(' ')?;
     let (second, third) = rest.split_once(' ')?;
-    Some((first.parse::<u8>().ok()?, second.parse::<u8>().ok()?, third.parse::<u8>().ok()?))
+    Some((
+        first.parse::<u8>().ok()?,
+        second.parse::<u8>().ok()?,
+        third.parse::<u8>().ok()?,
+    ))
 }

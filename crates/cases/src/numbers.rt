@@ -73,8 +73,13 @@ fn rate_of(text: &str) -> Option<Frequency> {
 /// The clock rates that have names.
 fn rate_names(alloc: Global) -> Result<String, AllocError> {
     let (eight, sixteen) = (Frequency::EIGHT_KHZ.get(), Frequency::SIXTEEN_KHZ.get());
-    let (forty_eight, ninety) = (Frequency::FORTY_EIGHT_KHZ.get(), Frequency::NINETY_KHZ.get());
-    format!(in alloc; "EIGHT_KHZ {eight}, SIXTEEN_KHZ {sixteen}, FORTY_EIGHT_KHZ {forty_eight}, NINETY_KHZ {ninety}")
+    let (forty_eight, ninety) = (
+        Frequency::FORTY_EIGHT_KHZ.get(),
+        Frequency::NINETY_KHZ.get(),
+    );
+    format!(in alloc;
+        "EIGHT_KHZ {eight}, SIXTEEN_KHZ {sixteen}, FORTY_EIGHT_KHZ {forty_eight}, NINETY_KHZ {ninety}"
+    )
 }
 
 fn payload_type(text: &str) -> Option<Pt> {

@@ -1,7 +1,8 @@
 //! Plain values: each of their modules is asked in turn whether a word is its own.
 
 use crate::{
-    addresses, candidates, fingerprints, h264_profiles, h265_profiles, h266_profiles, identifiers, numbers,
+    addresses, candidates, fingerprints, h264_profiles, h265_profiles, h266_profiles, identifiers,
+    numbers,
 };
 use std::alloc::{AllocError, Global};
 

@@ -6,12 +6,13 @@ use str0m_values::candidate_text::candidate;
 use str0m_values::{
     Candidate, CandidateKind, Extension, Fingerprint, FingerprintError, FingerprintFmt, H264Level,
     H265Level, H265Profile, H265ProfileTierLevel, H265Tier, H266Level, H266Profile,
-    H266ProfileTierLevel, H266Tier, IceCreds, IpAddr, Items, Mid, Protocol, Rid, SocketAddr, TcpType,
-    Text,
+    H266ProfileTierLevel, H266Tier, IceCreds, IpAddr, Items, Mid, Protocol, Rid, SocketAddr,
+    TcpType, Text,
 };
 
 /// The text of a relayed candidate over TCP with every optional part.
-const RELAYED: &str = "candidate:f 2 tcp 7 ::1 9 typ relay raddr ::1 rport 9 tcptype active ufrag u";
+const RELAYED: &str =
+    "candidate:f 2 tcp 7 ::1 9 typ relay raddr ::1 rport 9 tcptype active ufrag u";
 
 fn loopback() -> SocketAddr {
     SocketAddr {
