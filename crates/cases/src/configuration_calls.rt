@@ -1,12 +1,12 @@
 //! Configurations by the calls that make them, parted by `, `, as `defaults, disable opus`.
 
 use crate::row_texts::{codec_of, row_of, rows_of, type_of, type_or_dash, word};
-use crate::unanswered::Unanswered;
+use crate::unanswered::{Missing, Unanswered};
 use std::alloc::Global;
 use str0m_formats::{Codec, CodecConfig};
 
 fn no_call() -> Unanswered {
-    Unanswered::NoSuch("call")
+    Unanswered::NoSuch(Missing::Call)
 }
 
 fn byte(text: &str) -> Result<u8, Unanswered> {

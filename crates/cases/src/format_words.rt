@@ -2,7 +2,7 @@
 
 use crate::row_answers::{or_dash, or_none, push_part};
 use crate::row_texts::{codec_of, format_of, type_of, word};
-use crate::unanswered::Unanswered;
+use crate::unanswered::{Missing, Unanswered};
 use std::alloc::{AllocError, Global};
 use str0m_formats::{Codec, CodecSpec, FormatParam, FormatParams};
 use str0m_sdp::{MediaAttribute, RtpMap};
@@ -54,7 +54,7 @@ pub(crate) fn static_type(alloc: Global, text: &str) -> Result<String, Unanswere
 /// `param KEY=VALUE`: the parameter that the value reads as behind the key.
 pub(crate) fn param(alloc: Global, text: &str) -> Result<String, Unanswered> {
     let Some((key, value)) = text.split_once('=') else {
-        return Err(Unanswered::NoSuch("pair"));
+        return Err(Unanswered::NoSuch(Missing::Pair));
     };
     let printed = FormatParam::parse(key, value).to_string(alloc)?;
     Ok(dashed(alloc, printed)?)
@@ -69,7 +69,9 @@ pub(crate) fn events(alloc: Global, value: &str) -> Result<String, AllocError> {
 fn pairs_of(alloc: Global, text: &str) -> Result<Vec<(&str, &str)>, Unanswered> {
     let mut pairs = Vec::new(alloc);
     for piece in text.split(';') {
-        let pair = piece.split_once('=').ok_or(Unanswered::NoSuch("pair"))?;
+        let pair = piece
+            .split_once('=')
+            .ok_or(Unanswered::NoSuch(Missing::Pair))?;
         pairs.push(pair).map_err(AllocError::from)?;
     }
     Ok(pairs)
@@ -124,7 +126,7 @@ pub(crate) fn set(alloc: Global, text: &str) -> Result<String, Unanswered> {
     let (line, pair) = word(text);
     let mut format = format_of(alloc, line)?;
     let Some((key, value)) = pair.split_once('=') else {
-        return Err(Unanswered::NoSuch("pair"));
+        return Err(Unanswered::NoSuch(Missing::Pair));
     };
     format.set_param(&FormatParam::parse(key, value));
     Ok(dashed(alloc, format.to_string(alloc)?)?)
@@ -135,7 +137,7 @@ fn values_of(alloc: Global, values: &str) -> Result<Items<FormatParam>, Unanswer
     let line = format!(in alloc; "a=fmtp:96 {values}")?;
     match media_attribute_line(alloc, line.as_str()) {
         Ok((MediaAttribute::Fmtp { values, .. }, _)) => Ok(values),
-        _ => Err(Unanswered::NoSuch("fmtp line")),
+        _ => Err(Unanswered::NoSuch(Missing::FmtpLine)),
     }
 }
 

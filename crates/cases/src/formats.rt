@@ -62,7 +62,10 @@ fn asked(alloc: Global, word: &str, text: &str) -> Result<Option<String>, Unansw
 pub(crate) fn answer(alloc: Global, word: &str, text: &str) -> Result<Option<String>, AllocError> {
     match asked(alloc, word, text) {
         Ok(answer) => Ok(answer),
-        Err(Unanswered::NoSuch(what)) => Ok(Some(format!(in alloc; "no such {what}")?)),
+        Err(Unanswered::NoSuch(missing)) => {
+            let what = missing.name();
+            Ok(Some(format!(in alloc; "no such {what}")?))
+        }
         Err(Unanswered::Memory(refused)) => Err(refused),
     }
 }

@@ -5,7 +5,7 @@ use crate::configuration_calls::config_of;
 use crate::row_answers::shown_rows;
 use crate::row_texts::{rows_of, word};
 use crate::row_words::{direction_of, sides};
-use crate::unanswered::Unanswered;
+use crate::unanswered::{Missing, Unanswered};
 use std::alloc::{AllocError, Global};
 use str0m_formats::{CodecConfig, NegotiationError, Round};
 
@@ -82,7 +82,7 @@ fn numbers_of(alloc: Global, text: &str) -> Result<Vec<u32>, Unanswered> {
     for one in text.split_whitespace() {
         let number = one
             .parse::<u32>()
-            .map_err(|_| Unanswered::NoSuch("distance"))?;
+            .map_err(|_| Unanswered::NoSuch(Missing::Distance))?;
         numbers.extend_from_slice(&[number])?;
     }
     Ok(numbers)

@@ -2,7 +2,7 @@
 //! and RED, the codec with its clock rate (and its channels, as `opus/48000/2`), and the format; `-` stands for what is
 //! absent. Behind it may stand what feedback is off, as `no-transport-cc`. Rows are parted by ` + `; `none` is no row.
 
-use crate::unanswered::Unanswered;
+use crate::unanswered::{Missing, Unanswered};
 use std::alloc::Global;
 use str0m_formats::{Codec, CodecSpec, FormatParams, PayloadParams};
 use str0m_values::{Frequency, Pt};
@@ -13,14 +13,14 @@ pub(crate) fn word(text: &str) -> (&str, &str) {
 }
 
 fn no_row() -> Unanswered {
-    Unanswered::NoSuch("row")
+    Unanswered::NoSuch(Missing::Row)
 }
 
 /// A payload type, 0 to 255.
 pub(crate) fn type_of(text: &str) -> Result<Pt, Unanswered> {
     match text.parse::<u8>() {
         Ok(number) => Ok(Pt::from(number)),
-        Err(_) => Err(Unanswered::NoSuch("payload type")),
+        Err(_) => Err(Unanswered::NoSuch(Missing::PayloadType)),
     }
 }
 
@@ -39,7 +39,7 @@ pub(crate) fn codec_of(alloc: Global, name: &str) -> Result<Codec, Unanswered> {
     if printed.as_str() == name {
         Ok(codec)
     } else {
-        Err(Unanswered::NoSuch("codec"))
+        Err(Unanswered::NoSuch(Missing::Codec))
     }
 }
 
@@ -53,7 +53,7 @@ pub(crate) fn format_of(alloc: Global, line: &str) -> Result<FormatParams, Unans
     if !line.is_empty() && printed.len() == line.len() {
         Ok(format)
     } else {
-        Err(Unanswered::NoSuch("format"))
+        Err(Unanswered::NoSuch(Missing::Format))
     }
 }
 
@@ -93,7 +93,7 @@ fn turn_off(row: &mut PayloadParams, word: &str) -> Result<(), Unanswered> {
         "no-pli" => row.set_fb_pli(false),
         "no-fir" => row.set_fb_fir(false),
         "no-remb" => row.set_fb_remb(false),
-        _ => return Err(Unanswered::NoSuch("feedback")),
+        _ => return Err(Unanswered::NoSuch(Missing::Feedback)),
     }
     Ok(())
 }

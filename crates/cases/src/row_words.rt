@@ -3,7 +3,7 @@
 use crate::configuration_calls::{config_of, made};
 use crate::row_answers::{or_none, push_part, shown_row, shown_rows};
 use crate::row_texts::{row_of, spec_of, type_of, word};
-use crate::unanswered::Unanswered;
+use crate::unanswered::{Missing, Unanswered};
 use std::alloc::{AllocError, Global};
 use str0m_formats::{CodecConfig, PayloadParams};
 use str0m_values::{Direction, MediaKind, Pt};
@@ -11,7 +11,7 @@ use str0m_values::{Direction, MediaKind, Pt};
 /// What stands on both sides of the first bar.
 pub(crate) fn sides(text: &str) -> Result<(&str, &str), Unanswered> {
     text.split_once(" | ")
-        .ok_or(Unanswered::NoSuch("second side"))
+        .ok_or(Unanswered::NoSuch(Missing::SecondSide))
 }
 
 pub(crate) fn direction_of(text: &str) -> Result<Direction, Unanswered> {
@@ -20,7 +20,7 @@ pub(crate) fn direction_of(text: &str) -> Result<Direction, Unanswered> {
         "sendonly" => Ok(Direction::SendOnly),
         "recvonly" => Ok(Direction::RecvOnly),
         "inactive" => Ok(Direction::Inactive),
-        _ => Err(Unanswered::NoSuch("direction")),
+        _ => Err(Unanswered::NoSuch(Missing::Direction)),
     }
 }
 
@@ -28,7 +28,7 @@ fn kind_of(text: &str) -> Result<MediaKind, Unanswered> {
     match text {
         "audio" => Ok(MediaKind::Audio),
         "video" => Ok(MediaKind::Video),
-        _ => Err(Unanswered::NoSuch("kind")),
+        _ => Err(Unanswered::NoSuch(Missing::Kind)),
     }
 }
 
