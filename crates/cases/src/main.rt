@@ -6,7 +6,15 @@
 mod escapes;
 mod formats;
 mod lines;
+mod made_sections;
+mod said_by_both;
+mod said_by_sections;
+mod said_by_sessions;
+mod said_roles;
+mod said_rows;
+mod said_sources;
 mod sections;
+mod spoken;
 mod values;
 
 use crate::escapes::{indented, unescaped};
