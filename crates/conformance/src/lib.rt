@@ -7,6 +7,8 @@ mod candidate_lines;
 #[cfg(test)]
 mod consistency;
 #[cfg(test)]
+mod descriptions;
+#[cfg(test)]
 mod forms;
 #[cfg(test)]
 mod header;
@@ -14,6 +16,8 @@ mod header;
 mod lines;
 #[cfg(test)]
 mod lines_of_browsers;
+#[cfg(test)]
+mod made_rows;
 #[cfg(test)]
 mod offers;
 #[cfg(test)]
@@ -28,5 +32,7 @@ mod printing;
 mod rows_and_rounds;
 #[cfg(test)]
 mod sections;
+#[cfg(test)]
+mod stream_names;
 #[cfg(test)]
 mod texts;

@@ -6,7 +6,7 @@ use rand_core::utils::NextWord;
 use rand_core::{Rng, utils};
 use std::marker::Model;
 use std::test::Fail;
-use str0m_signal::{Msid, is_no_stream};
+use str0m_signal::Msid;
 
 /// Gives its own number and those after it.
 #[derive(Drop)]
@@ -55,21 +55,5 @@ fn random_names_spell_the_words_of_the_generator(rt: HostRuntime) -> Result<(), 
     let mut counter = Counter(58);
     let msid = Msid::random(rt.alloc(), &mut counter)?;
     assert_eq!(rt; msid.stream_id.as_str(), "wxyz0123456789ABCDEFGHIJKLMNOP");
-    Ok(())
-}
-
-/// An id of `-` says that there is no stream, whatever white space stands around it.
-#[test]
-fn no_stream_is_a_dash(rt: HostRuntime) -> Result<(), Fail> {
-    for (id, answer) in [
-        ("-", true),
-        (" -\t", true),
-        ("", false),
-        ("--", false),
-        ("- -", false),
-        ("a", false),
-    ] {
-        assert_eq!(rt; is_no_stream(id), answer, "{id:?}");
-    }
     Ok(())
 }

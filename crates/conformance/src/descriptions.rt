@@ -1,7 +1,11 @@
-//! What values are before anything is said.
+//! What no text makes of descriptions: values before anything is said, and a fault of values.
 
+use crate::made_rows::HEADER;
 use std::test::Fail;
-use str0m_signal::{Direction, MediaLine, MediaType, Proto, RestrictionId, Setup, Ssrc, SsrcInfo};
+use str0m_signal::{
+    Direction, MediaAttribute, MediaLine, MediaType, Proto, RestrictionId, SdpError, Setup, Ssrc,
+    SsrcInfo, sdp_parser,
+};
 
 #[test]
 fn types_begin_as_sound_over_rtp(rt: HostRuntime) -> Result<(), Fail> {
@@ -17,6 +21,7 @@ fn a_source_begins_with_nothing_known(rt: HostRuntime) -> Result<(), Fail> {
     assert_eq!(rt; info.ssrc, Ssrc::from(0));
     assert!(rt; info.repairs.is_none() && info.cname.is_none());
     assert!(rt; info.stream_id.is_none() && info.track_id.is_none());
+    assert_eq!(rt; info.clone()?, info);
     Ok(())
 }
 
@@ -35,7 +40,26 @@ fn a_new_section_is_enabled_and_empty(rt: HostRuntime) -> Result<(), Fail> {
 #[test]
 fn an_empty_restriction_is_active(rt: HostRuntime) -> Result<(), Fail> {
     let id = RestrictionId::empty(rt.alloc());
-    assert_eq!(rt; id.0.as_str(), "");
-    assert!(rt; id.1);
+    assert!(rt; id.1 && id.0.as_str().is_empty());
+    Ok(())
+}
+
+/// A section's own fault is told before all others: here no group is missed.
+#[test]
+fn a_section_with_a_fault_is_told_first(rt: HostRuntime) -> Result<(), Fail> {
+    let lines = "m=audio 9 UDP/TLS/RTP/SAVPF 0\r\na=mid:0\r\na=sendrecv\r\n";
+    let text = format!(in rt.alloc(); "{HEADER}{lines}")?;
+    let (mut said, _) = sdp_parser(rt.alloc(), text.as_str())?;
+    if let Some(section) = said.media_lines.0.first_mut() {
+        section.attrs.push(MediaAttribute::Inactive)?;
+    }
+    let message = match said.assert_consistency() {
+        Err(SdpError::Inconsistent(message)) => message,
+        _ => Err("no contradiction")?,
+    };
+    assert_eq!(rt;
+        message.as_str(),
+        "Expected exactly one of a=sendrecv, a=sendonly, a=recvonly, a=inactive for mid: 0"
+    );
     Ok(())
 }

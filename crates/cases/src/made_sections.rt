@@ -1,0 +1,43 @@
+//! Sections that are made of rows in a frame, and the faults of sections.
+
+use crate::escapes::escaped;
+use crate::spoken::{description, section};
+use std::alloc::Global;
+use str0m_signal::{MediaLine, Pt, SdpError, section_of};
+
+/// What the call that the word names answers of the text; none for a word of others.
+pub(crate) fn answer(alloc: Global, word: &str, text: &str) -> Result<Option<String>, SdpError> {
+    Ok(match word {
+        "made" => Some(made(alloc, text)?),
+        "fault" => Some(fault(alloc, text)?),
+        _ => None,
+    })
+}
+
+/// The rows of the second section of a description in the frame of its first, printed.
+fn made(alloc: Global, text: &str) -> Result<String, SdpError> {
+    let sdp = description(alloc, text)?;
+    match sdp.media_lines.as_slice() {
+        [frame, said] => made_of(alloc, frame, said),
+        _ => Ok("not two sections".to_string(alloc)?),
+    }
+}
+
+fn made_of(alloc: Global, frame: &MediaLine, said: &MediaLine) -> Result<String, SdpError> {
+    let rows = said.rtp_params()?;
+    let made = section_of(frame, rows.as_slice())?.to_string(alloc)?;
+    Ok(escaped(alloc, made.as_str())?)
+}
+
+/// What is said of a section of sound with a payload type, or `-` for none, and these lines.
+fn fault(alloc: Global, text: &str) -> Result<String, SdpError> {
+    let (pt, lines) = text.split_once(' ').unwrap_or((text, ""));
+    let mut section = section(alloc, lines)?;
+    if let Ok(pt) = pt.parse::<u8>() {
+        section.pts.push(Pt::from(pt))?;
+    }
+    match section.check_consistent()? {
+        None => Ok("consistent".to_string(alloc)?),
+        Some(message) => Ok(message),
+    }
+}
