@@ -3,9 +3,14 @@
 //! a carriage return, a line feed, a tab and a backslash; answers write them the same way.
 #![tactic(auto)]
 
+mod attribute_names;
+mod attribute_parts;
+mod cuts;
+mod descriptions;
 mod escapes;
 mod formats;
 mod lines;
+mod section_shown;
 mod sections;
 mod values;
 
