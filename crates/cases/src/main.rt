@@ -4,8 +4,12 @@
 #![tactic(auto)]
 
 mod addresses;
+mod attribute_names;
+mod attribute_parts;
 mod candidates;
 mod configuration_calls;
+mod cuts;
+mod descriptions;
 mod escapes;
 mod fingerprints;
 mod format_words;
@@ -28,6 +32,7 @@ mod said_by_sessions;
 mod said_roles;
 mod said_rows;
 mod said_sources;
+mod section_shown;
 mod sections;
 mod spoken;
 mod unanswered;

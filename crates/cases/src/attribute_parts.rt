@@ -1,0 +1,100 @@
+//! What lines of mappings, formats and rids say, part by part.
+
+use crate::lines::refused;
+use std::alloc::{AllocError, Global};
+use str0m_signal::{FormatParam, MediaAttribute, Pt, RtpMap, media_attribute_line};
+
+/// What the call that the word names answers of the text; none for a word of others.
+pub(crate) fn answer(alloc: Global, word: &str, text: &str) -> Result<Option<String>, AllocError> {
+    match word {
+        "is-direction" | "rtpmap" | "fmtp" | "rid" => Ok(Some(part(alloc, word, text)?)),
+        _ => Ok(None),
+    }
+}
+
+/// What the line says that the text begins with.
+fn part(alloc: Global, word: &str, text: &str) -> Result<String, AllocError> {
+    let attribute = match media_attribute_line(alloc, text) {
+        Ok((attribute, _)) => attribute,
+        Err(error) => return refused(alloc, &error),
+    };
+    match word {
+        "is-direction" => is_direction(alloc, &attribute),
+        "rtpmap" => rtpmap(alloc, &attribute),
+        "fmtp" => fmtp(alloc, &attribute),
+        _ => rid(alloc, &attribute),
+    }
+}
+
+fn is_direction(alloc: Global, attribute: &MediaAttribute) -> Result<String, AllocError> {
+    if attribute.is_direction() {
+        "yes".to_string(alloc)
+    } else {
+        "no".to_string(alloc)
+    }
+}
+
+fn rtpmap(alloc: Global, attribute: &MediaAttribute) -> Result<String, AllocError> {
+    match attribute {
+        MediaAttribute::RtpMap { pt, value } => mapping(alloc, *pt, value),
+        _ => "no mapping".to_string(alloc),
+    }
+}
+
+fn mapping(alloc: Global, pt: Pt, map: &RtpMap) -> Result<String, AllocError> {
+    let (codec, hertz) = (map.codec, map.clock_rate.get());
+    match map.channels {
+        Some(channels) => format!(in alloc; "{pt}: {codec}, {hertz} Hz, channels {channels}"),
+        None => format!(in alloc; "{pt}: {codec}, {hertz} Hz, no channels"),
+    }
+}
+
+fn fmtp(alloc: Global, attribute: &MediaAttribute) -> Result<String, AllocError> {
+    match attribute {
+        MediaAttribute::Fmtp { pt, values } => format_values(alloc, *pt, values.as_slice()),
+        _ => "no format".to_string(alloc),
+    }
+}
+
+/// The payload type, and each value in order.
+fn format_values(alloc: Global, pt: Pt, values: &[FormatParam]) -> Result<String, AllocError> {
+    let mut shown = format!(in alloc; "{pt}:")?;
+    for value in values {
+        let value = format_value(alloc, value)?;
+        shown.push(' ')?;
+        shown.push_str(value.as_str())?;
+    }
+    Ok(shown)
+}
+
+/// What a value prints, with its kind where it is no pair.
+fn format_value(alloc: Global, value: &FormatParam) -> Result<String, AllocError> {
+    match value {
+        FormatParam::Unknown => "unknown".to_string(alloc),
+        FormatParam::BarePtList(_) => format!(in alloc; "list({value})"),
+        FormatParam::BareRange(_) => format!(in alloc; "range({value})"),
+        _ => value.to_string(alloc),
+    }
+}
+
+fn rid(alloc: Global, attribute: &MediaAttribute) -> Result<String, AllocError> {
+    match attribute {
+        MediaAttribute::Rid {
+            id,
+            pt,
+            restriction,
+            ..
+        } => lists(alloc, pt.len(), restriction.len(), id.1),
+        _ => "no rid".to_string(alloc),
+    }
+}
+
+fn lists(
+    alloc: Global,
+    types: usize,
+    restrictions: usize,
+    is_active: bool,
+) -> Result<String, AllocError> {
+    let state = if is_active { "active" } else { "paused" };
+    format!(in alloc; "payload types {types}, restrictions {restrictions}, {state}")
+}
