@@ -7,7 +7,7 @@ use str0m_signal::{FormatParam, MediaAttribute, Pt, RtpMap, media_attribute_line
 /// What the call that the word names answers of the text; none for a word of others.
 pub(crate) fn answer(alloc: Global, word: &str, text: &str) -> Result<Option<String>, AllocError> {
     match word {
-        "is-direction" | "rtpmap" | "fmtp" | "rid" => Ok(Some(part(alloc, word, text)?)),
+        "is-direction" | "rtpmap" | "fmtp-line" | "rid-line" => Ok(Some(part(alloc, word, text)?)),
         _ => Ok(None),
     }
 }
@@ -21,7 +21,7 @@ fn part(alloc: Global, word: &str, text: &str) -> Result<String, AllocError> {
     match word {
         "is-direction" => is_direction(alloc, &attribute),
         "rtpmap" => rtpmap(alloc, &attribute),
-        "fmtp" => fmtp(alloc, &attribute),
+        "fmtp-line" => fmtp(alloc, &attribute),
         _ => rid(alloc, &attribute),
     }
 }

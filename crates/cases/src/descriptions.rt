@@ -15,8 +15,8 @@ pub(crate) fn answer(alloc: Global, word: &str, text: &str) -> Result<Option<Str
     match word {
         "header" => Ok(Some(header(alloc, text)?)),
         "description" => Ok(Some(description(alloc, text)?)),
-        "offer" => Ok(Some(offer(alloc, text)?)),
-        "answer" => Ok(Some(answer_printed(alloc, text)?)),
+        "offer-text" => Ok(Some(offer(alloc, text)?)),
+        "answer-text" => Ok(Some(answer_printed(alloc, text)?)),
         "cut" => Ok(Some(cuts::cut(alloc, text)?)),
         _ => answer_behind_header(alloc, word, text),
     }
