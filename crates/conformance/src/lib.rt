@@ -1,28 +1,12 @@
-//! Tests of the reader and the printer as their callers meet them: texts that are read, refused and
-//! printed, with answers from RFC 8866 and from the project's own tables.
+//! Tests of what no text makes, or no line shows: copies and equality, sections that are changed after
+//! they were read, and attributes that print nothing. Texts with their answers stand in `cases/`.
 #![tactic(auto)]
 
 #[cfg(test)]
-mod candidate_lines;
-#[cfg(test)]
 mod consistency;
-#[cfg(test)]
-mod forms;
-#[cfg(test)]
-mod header;
-#[cfg(test)]
-mod lines;
-#[cfg(test)]
-mod lines_of_browsers;
 #[cfg(test)]
 mod offers;
 #[cfg(test)]
-mod prefixes;
-#[cfg(test)]
-mod primary_types;
-#[cfg(test)]
-mod printing;
-#[cfg(test)]
-mod sections;
-#[cfg(test)]
 mod texts;
+#[cfg(test)]
+mod unwritten;
