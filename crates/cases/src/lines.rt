@@ -1,9 +1,8 @@
 //! Lines of attributes: what each is read as, what it prints, and what is left behind it.
 
 use crate::attribute_names::{media_name, session_name};
-use crate::attribute_parts;
-use crate::descriptions;
 use crate::escapes::escaped;
+use crate::{attribute_parts, descriptions};
 use std::alloc::{AllocError, Global};
 use str0m_signal::{
     MediaAttribute, SdpError, SessionAttribute, candidate_attribute, media_attribute_line,

@@ -24,7 +24,11 @@ fn session_says(alloc: Global, session: &Session) -> Result<String, AllocError> 
     add_flag(&mut answer, "ice-lite", session.ice_lite())?;
     let candidates = foundations(alloc, session.ice_candidates())?;
     add_list(&mut answer, "candidates", candidates.as_str())?;
-    add_flag(&mut answer, "end of candidates", session.end_of_candidates())?;
+    add_flag(
+        &mut answer,
+        "end of candidates",
+        session.end_of_candidates(),
+    )?;
     or_word(alloc, answer, "nothing")
 }
 

@@ -3,8 +3,7 @@
 use crate::spoken::{add_item, description, or_word, section, unread};
 use std::alloc::{AllocError, Global};
 use str0m_signal::{
-    CodecSpec, MediaAttribute, MediaLine, PayloadParams, Pt, RtpMap, SdpError,
-    media_attribute_line,
+    CodecSpec, MediaAttribute, MediaLine, PayloadParams, Pt, RtpMap, SdpError, media_attribute_line,
 };
 
 /// What the call that the word names answers of the text; none for a word of others.
@@ -50,7 +49,10 @@ fn row_text(alloc: Global, row: PayloadParams) -> Result<String, AllocError> {
         clock_rate: spec.clock_rate,
         channels: spec.channels,
     };
-    let (resend, red) = (type_text(alloc, row.resend())?, type_text(alloc, row.red())?);
+    let (resend, red) = (
+        type_text(alloc, row.resend())?,
+        type_text(alloc, row.red())?,
+    );
     let format = or_word(alloc, spec.format.to_string(alloc)?, "-")?;
     format!(in alloc; "{} {resend} {red} {map} {format}", row.pt())
 }

@@ -38,7 +38,11 @@ pub(crate) fn append_section(
 }
 
 fn head(alloc: Global, section: &MediaLine) -> Result<String, AllocError> {
-    let state = if section.disabled { "disabled" } else { "enabled" };
+    let state = if section.disabled {
+        "disabled"
+    } else {
+        "enabled"
+    };
     let proto = match section.proto {
         Proto::Srtp => "SRTP",
         Proto::Sctp => "SCTP",

@@ -120,7 +120,12 @@ fn g722() -> (PayloadParams, &'static str) {
 
 #[test]
 fn the_lines_of_rows_made_by_hand(rt: HostRuntime) -> Result<(), Fail> {
-    for (row, answer) in [pictures(), (telephone(None), ANY), (telephone(Some(15)), SOME), g722()] {
+    for (row, answer) in [
+        pictures(),
+        (telephone(None), ANY),
+        (telephone(Some(15)), SOME),
+        g722(),
+    ] {
         let found = lines(rt.alloc(), row)?;
         assert_eq!(rt; found.as_str(), answer);
     }
