@@ -113,6 +113,9 @@ fn layers(alloc: Global, simulcast: &Simulcast) -> Result<String, AllocError> {
 fn with_direction(alloc: Global, text: &str) -> Result<String, SdpError> {
     let (word, lines) = text.split_once(' ').unwrap_or((text, ""));
     let mut section = section(alloc, lines)?;
+    if !section.has_direction() {
+        return Ok("no direction to set".to_string(alloc)?);
+    }
     section.set_direction(direction_of(word));
     let found = direction_word(section.direction());
     let printed = section.to_string(alloc)?;
