@@ -2,7 +2,7 @@
 
 use crate::configuration_calls::{config_of, made};
 use crate::row_answers::{or_none, push_part, shown_row, shown_rows};
-use crate::row_texts::{row_of, spec_of, type_of, word};
+use crate::row_texts::{row_of, rows_of, spec_of, type_of, word};
 use crate::unanswered::{Missing, Unanswered};
 use std::alloc::{AllocError, Global};
 use str0m_formats::{CodecConfig, PayloadParams};
@@ -39,15 +39,36 @@ fn row_of_spec(alloc: Global, pt: u8, text: &str) -> Result<PayloadParams, Unans
     Ok(PayloadParams::new(Pt::from(pt), None, spec))
 }
 
+/// One row more, of a codec alone.
+fn push_spec(
+    alloc: Global,
+    rows: &mut Vec<PayloadParams>,
+    pt: u8,
+    text: &str,
+) -> Result<(), Unanswered> {
+    let row = row_of_spec(alloc, pt, text)?;
+    rows.extend_from_slice(&[row])?;
+    Ok(())
+}
+
+fn score_of(alloc: Global, rows: &[PayloadParams]) -> Result<String, AllocError> {
+    let score = match rows {
+        [own, other] => own.match_score(other),
+        _ => None,
+    };
+    match score {
+        Some(score) => score.to_string(alloc),
+        None => "none".to_string(alloc),
+    }
+}
+
 /// `score SPEC | SPEC`: how well two rows match.
 pub(crate) fn score(alloc: Global, text: &str) -> Result<String, Unanswered> {
     let (own, other) = sides(text)?;
-    let own = row_of_spec(alloc, 96, own)?;
-    let other = row_of_spec(alloc, 97, other)?;
-    Ok(match own.match_score(&other) {
-        Some(score) => score.to_string(alloc)?,
-        None => "none".to_string(alloc)?,
-    })
+    let mut rows = Vec::new(alloc);
+    push_spec(alloc, &mut rows, 96, own)?;
+    push_spec(alloc, &mut rows, 97, other)?;
+    Ok(score_of(alloc, rows.as_slice())?)
 }
 
 /// `configuration CALLS`: the rows that the calls leave.
@@ -67,8 +88,11 @@ fn shown_or_none(alloc: Global, row: Option<&PayloadParams>) -> Result<String, A
 pub(crate) fn best(alloc: Global, text: &str) -> Result<String, Unanswered> {
     let (own, asked) = sides(text)?;
     let config = config_of(alloc, own)?;
-    let asked = row_of(alloc, asked)?;
-    Ok(shown_or_none(alloc, config.match_params(asked))?)
+    let rows = rows_of(alloc, asked)?;
+    match rows.first() {
+        Some(asked) => Ok(shown_or_none(alloc, config.match_params(*asked))?),
+        None => Err(Unanswered::NoSuch(Missing::Row)),
+    }
 }
 
 /// `meet DIRECTION ROWS | ROW`: the type under which the remote row of the direction is met.
@@ -144,8 +168,11 @@ fn with_feedback(alloc: Global, row: &PayloadParams) -> Result<String, AllocErro
 
 /// `feedback ROW`: the row, and the feedback that is on.
 pub(crate) fn feedback(alloc: Global, text: &str) -> Result<String, Unanswered> {
-    let row = row_of(alloc, text)?;
-    Ok(with_feedback(alloc, &row)?)
+    let rows = rows_of(alloc, text)?;
+    match rows.first() {
+        Some(row) => Ok(with_feedback(alloc, row)?),
+        None => Err(Unanswered::NoSuch(Missing::Row)),
+    }
 }
 
 /// `probe TYPE`: a row for packets that only probe.
