@@ -1,10 +1,11 @@
 //! What no text makes of descriptions: values before anything is said, and a fault of values.
 
-use crate::made_rows::HEADER;
+use crate::texts::HEADER;
+use std::alloc::Global;
 use std::test::Fail;
 use str0m_signal::{
-    Direction, MediaAttribute, MediaLine, MediaType, Proto, RestrictionId, SdpError, Setup, Ssrc,
-    SsrcInfo, sdp_parser,
+    Direction, MediaAttribute, MediaLine, MediaType, Proto, RestrictionId, Sdp, SdpError, Setup,
+    Ssrc, SsrcInfo, sdp_parser,
 };
 
 #[test]
@@ -44,19 +45,31 @@ fn an_empty_restriction_is_active(rt: HostRuntime) -> Result<(), Fail> {
     Ok(())
 }
 
+/// What a header and these lines describe.
+fn description(alloc: Global, lines: &str) -> Result<Sdp, Fail> {
+    let text = format!(in alloc; "{HEADER}{lines}")?;
+    Ok(sdp_parser(alloc, text.as_str())?.0)
+}
+
+/// What is said of a description; nothing where it is consistent.
+fn fault(alloc: Global, said: Result<(), SdpError>) -> Result<String, Fail> {
+    match said {
+        Ok(()) => Ok(String::new(alloc)),
+        Err(SdpError::Inconsistent(message)) => Ok(message),
+        Err(_) => Err("another refusal")?,
+    }
+}
+
 /// A section's own fault is told before all others: here no group is missed.
 #[test]
 fn a_section_with_a_fault_is_told_first(rt: HostRuntime) -> Result<(), Fail> {
+    let alloc = rt.alloc();
     let lines = "m=audio 9 UDP/TLS/RTP/SAVPF 0\r\na=mid:0\r\na=sendrecv\r\n";
-    let text = format!(in rt.alloc(); "{HEADER}{lines}")?;
-    let (mut said, _) = sdp_parser(rt.alloc(), text.as_str())?;
+    let mut said = description(alloc, lines)?;
     if let Some(section) = said.media_lines.0.first_mut() {
         section.attrs.push(MediaAttribute::Inactive)?;
     }
-    let message = match said.assert_consistency() {
-        Err(SdpError::Inconsistent(message)) => message,
-        _ => Err("no contradiction")?,
-    };
+    let message = fault(alloc, said.assert_consistency())?;
     assert_eq!(rt;
         message.as_str(),
         "Expected exactly one of a=sendrecv, a=sendonly, a=recvonly, a=inactive for mid: 0"

@@ -1,14 +1,12 @@
 //! Rows that no text makes: default rows, and rows made by hand, as lines and as sections.
 
+use crate::texts::HEADER;
 use std::alloc::Global;
 use std::test::Fail;
 use str0m_signal::{
     AsMediaAttrs, Codec, CodecConfig, CodecSpec, FormatParams, Frequency, MediaAttribute,
     MediaLine, Mid, PayloadParams, Pt, sdp_parser, section_of,
 };
-
-/// A header with nothing that may be left out.
-pub(crate) const HEADER: &str = "v=0\r\no=- 1 1 IN IP4 127.0.0.1\r\ns=-\r\nt=0 0\r\n";
 
 /// A section of sound with a mid and a direction.
 fn frame(alloc: Global) -> Result<MediaLine, Fail> {
