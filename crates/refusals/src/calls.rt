@@ -3,7 +3,8 @@
 use crate::answers::show_lines;
 use crate::fault::Fault;
 use crate::samples::{
-    BAD_HEADER, BAD_SECTION, CANDIDATE, MEDIA_LINES, SESSION_LINES, SHORT, TEXT, sample,
+    BAD_HEADER, BAD_SECTION, CANDIDATE, HEADER, HEADER_AND_MORE, MEDIA_LINES, SESSION_LINES, SHORT,
+    TEXT, sample,
 };
 use crate::{configurations, formats, sessions};
 use std::alloc::Global;
@@ -14,11 +15,13 @@ use str0m_signal::{
 use str0m_values::Items;
 
 /// The names of the calls.
-pub(crate) const NAMES: [&str; 91] = [
+pub(crate) const NAMES: [&str; 94] = [
     "session_parser",
     "session_parser_refuses",
     "sdp_parser",
     "sdp_parser_refuses",
+    "sdp_parser_of_a_header",
+    "sdp_parser_of_a_header_and_more",
     "session_attribute_line",
     "session_attribute_line_refuses",
     "media_attribute_line",
@@ -50,6 +53,7 @@ pub(crate) const NAMES: [&str; 91] = [
     "simulcast",
     "ssrc_info",
     "rtp_params",
+    "rtp_params_of_many_lines",
     "as_media_attrs",
     "section_of",
     "parse_pairs",
@@ -115,6 +119,8 @@ pub(crate) fn show(rt: &impl Print, alloc: Global, name: &str) -> Result<(), Fau
         "session_parser_refuses" => show_session(rt, alloc, BAD_HEADER),
         "sdp_parser" => show_sdp(rt, alloc, TEXT),
         "sdp_parser_refuses" => show_sdp(rt, alloc, BAD_SECTION),
+        "sdp_parser_of_a_header" => show_sdp(rt, alloc, HEADER),
+        "sdp_parser_of_a_header_and_more" => show_sdp(rt, alloc, HEADER_AND_MORE),
         "session_attribute_line" => show_session_lines(rt, alloc),
         "session_attribute_line_refuses" => show_session_line(rt, alloc, TEXT),
         "media_attribute_line" => show_media_lines(rt, alloc),

@@ -1,6 +1,5 @@
-//! Makes calls of the libraries under a refused allocation: standard input is the name of a call, or
-//! `all`, and how many allocations to make before it. Where the Nth allocation of a run is refused,
-//! the call's allocation that many before the Nth is, so that one build serves every refusal.
+//! Makes calls of the libraries, so that each of their allocations can be refused in turn: standard input is the name
+//! of a call, or `all`.
 #![tactic(auto)]
 
 mod answers;
@@ -17,16 +16,8 @@ mod values;
 
 use crate::calls::{NAMES, show};
 use crate::fault::Fault;
-use std::alloc::Global;
 use std::io;
 use std::io::Read;
-
-/// Makes so many allocations, which are given back at once.
-fn allocate(alloc: Global, count: u32) {
-    for _ in 0..count {
-        let _ = Box::new(alloc, 0u8);
-    }
-}
 
 /// Makes the call, and shows under its name what it answers.
 fn call(rt: &HostRuntime, name: &str) -> io::Result<()> {
@@ -41,9 +32,7 @@ fn call(rt: &HostRuntime, name: &str) -> io::Result<()> {
 fn main(rt: HostRuntime) -> io::Result<()> {
     let mut bytes = [0u8; 80];
     let count = rt.stdin().read(&mut bytes)?;
-    let line = str::from_utf8(&bytes[..count]).unwrap_or("");
-    let (name, before) = line.trim_ascii().split_once(' ').unwrap_or((line, "0"));
-    allocate(rt.alloc(), before.parse::<u32>().unwrap_or(0));
+    let name = str::from_utf8(&bytes[..count]).unwrap_or("").trim_ascii();
     if name != "all" {
         return call(&rt, name);
     }

@@ -3,6 +3,12 @@
 use std::alloc::Global;
 use str0m_signal::{Candidate, Sdp, SdpError, candidate_attribute, sdp_parser};
 
+/// A header alone, of which nothing is kept that takes memory.
+pub(crate) const HEADER: &str = "v=0\r\no=- 7 2 IN IP4 127.0.0.1\r\ns=-\r\nt=0 0\r\n";
+
+/// The same with a rest.
+pub(crate) const HEADER_AND_MORE: &str = "v=0\r\no=- 7 2 IN IP4 127.0.0.1\r\ns=-\r\nt=0 0\r\nx";
+
 /// A description with every form of line, and a rest. The four directions stand in four sections.
 pub(crate) const TEXT: &str = "\
     v=0\r\no=- 7 2 IN IP4 127.0.0.1\r\ns=-\r\ni=x\r\nb=AS:64\r\nt=0 0\r\nr=1 1 0\r\n\

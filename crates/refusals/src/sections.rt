@@ -54,10 +54,22 @@ const ROWS: &str = "\
     a=rtpmap:97 rtx/90000\r\n\
     a=fmtp:97 apt=96\r\n";
 
+/// A section in which one type has two mappings and seventeen fmtp lines.
+const MANY_LINES: &str = "\
+    v=0\r\no=- 7 2 IN IP4 127.0.0.1\r\ns=-\r\nt=0 0\r\n\
+    m=video 9 UDP/TLS/RTP/SAVPF 96\r\na=mid:0\r\na=sendrecv\r\n\
+    a=rtpmap:96 VP8/90000\r\na=rtpmap:97 VP9/90000\r\na=rtpmap:97 VP9/90000\r\n\
+    a=fmtp:97 profile-id=2\r\na=fmtp:97 profile-id=2\r\na=fmtp:97 profile-id=2\r\na=fmtp:97 profile-id=2\r\n\
+    a=fmtp:97 profile-id=2\r\na=fmtp:97 profile-id=2\r\na=fmtp:97 profile-id=2\r\na=fmtp:97 profile-id=2\r\n\
+    a=fmtp:97 profile-id=2\r\na=fmtp:97 profile-id=2\r\na=fmtp:97 profile-id=2\r\na=fmtp:97 profile-id=2\r\n\
+    a=fmtp:97 profile-id=2\r\na=fmtp:97 profile-id=2\r\na=fmtp:97 profile-id=2\r\na=fmtp:97 profile-id=2\r\n\
+    a=fmtp:97 profile-id=2\r\n";
+
 /// The text that a call is asked about: short, since each allocation of its reading is refused, too.
 fn text_of(name: &str) -> &'static str {
     match name {
         "rtp_params" | "as_media_attrs" | "section_of" => ROWS,
+        "rtp_params_of_many_lines" => MANY_LINES,
         "msid" | "extmaps" | "rids" | "simulcast" | "ssrc_info" => STREAMS,
         _ => TRANSPORT,
     }
@@ -115,6 +127,7 @@ pub(crate) fn show(rt: &impl Print, alloc: Global, name: &str) -> Result<(), Fau
         | "simulcast"
         | "ssrc_info"
         | "rtp_params"
+        | "rtp_params_of_many_lines"
         | "as_media_attrs"
         | "section_of" => { show_sections(rt, alloc, name) }
         _ => values::show(rt, alloc, name),
@@ -157,7 +170,9 @@ fn show_section(
             print!(rt; "{}", section_of(section, rows.as_slice())?)?;
             Ok(())
         }
-        "rtp_params" => show_rows(rt, section.rtp_params()?.as_slice()),
+        "rtp_params" | "rtp_params_of_many_lines" => {
+            show_rows(rt, section.rtp_params()?.as_slice())
+        }
         "msid" => show_msid(rt, section),
         "extmaps" => show_extensions(rt, section),
         "rids" => show_each(rt, section.rids()?.as_slice()),

@@ -1,0 +1,32 @@
+// Refuses one allocation of the program that it is loaded into by LD_PRELOAD: the one whose number, from 1, stands in the
+// environment under REFUSED. In the end it says on standard error how many were asked for.
+#include <stddef.h>
+#include <stdio.h>
+#include <stdlib.h>
+
+void *__libc_malloc(size_t size);
+void *__libc_realloc(void *block, size_t size);
+
+static long asked;
+
+static int is_refused(void)
+{
+    const char *refused = getenv("REFUSED");
+    asked += 1;
+    return refused && asked == atol(refused);
+}
+
+void *malloc(size_t size)
+{
+    return is_refused() ? NULL : __libc_malloc(size);
+}
+
+void *realloc(void *block, size_t size)
+{
+    return is_refused() ? NULL : __libc_realloc(block, size);
+}
+
+__attribute__((destructor)) static void tell(void)
+{
+    dprintf(2, "allocations: %ld\n", asked);
+}
