@@ -26,12 +26,15 @@ def as_word(text):
 
 def function_at(path, text, offset, homes):
     """The name, as a check prints it, of the function whose body stands at the offset, or None."""
-    name, module, is_body = None, module_of(path), False
+    name, module, is_body, is_behind = None, module_of(path), False, False
     for line in reversed(text[: text.index("\n", offset)].split("\n")):
         found, block = FUNCTION.match(line), BLOCK.match(line)
+        is_behind = is_behind or line == "    }"  # (where a method ends)
         is_body = is_body or re.search(r"^\s*(\).*)?\{$|\bfn .*\{$", line)
         if found and name is None:
             name = found["name"]
+            if is_behind and found["indent"]:
+                return None
             if not is_body or not found["indent"]:
                 return f"{module}::{name}".removeprefix("::") if is_body else None
         elif block and name is not None:
