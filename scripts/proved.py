@@ -6,6 +6,7 @@ import hashlib
 import os
 import shutil
 import tempfile
+import time
 from pathlib import Path
 
 TOP = Path(__file__).absolute().parent.parent
@@ -31,10 +32,15 @@ def sources(top):
     return told.hexdigest()
 
 
+def forget():
+    """Removes the copy of an earlier run."""
+    shutil.rmtree(folder(), ignore_errors=True)
+
+
 def copy():
     """Makes the copy anew; answers where it stands."""
+    forget()
     to = folder()
-    shutil.rmtree(to, ignore_errors=True)
     to.mkdir(mode=0o700)
     shutil.copytree(TOP / "crates", to / "crates", ignore=shutil.ignore_patterns(*LEFT_OUT))
     for name in ("crates.txt", "HANDLES"):
@@ -42,18 +48,33 @@ def copy():
     return to
 
 
-def mark(is_proved):
-    """Says of the copy that the gate has passed over it, or that it has not."""
-    if is_proved:
-        (folder() / "proved").write_text(sources(folder()))
-    else:
-        (folder() / "proved").unlink(missing_ok=True)
+def mark(name):
+    """Says in the copy that the crate is proved."""
+    (folder() / f"{name}.proved").touch()
+
+
+def end(is_proved):
+    """Says in the copy that the gate has ended, and whether it has passed over these sources."""
+    (folder() / "ended").write_text(sources(folder()) if is_proved else "")
 
 
 def is_current():
     """Whether the gate has passed over these very sources."""
-    said = folder() / "proved"
+    said = folder() / "ended"
     return said.is_file() and said.read_text() == sources(TOP)
+
+
+def wait_for(names):
+    """Waits until the gate, which runs beside this, has proved the crates, or has ended without that."""
+    while not (folder() / "ended").is_file() and not all((folder() / f"{it}.proved").is_file() for it in names):
+        time.sleep(1)
+
+
+def wait_for_end():
+    """Waits until the gate, which runs beside this, has ended; answers whether it has passed over these sources."""
+    while not (folder() / "ended").is_file():
+        time.sleep(1)
+    return is_current()
 
 
 def program(name):
