@@ -137,5 +137,5 @@ pub(crate) fn config_of(alloc: Global, text: &str) -> Result<CodecConfig, Unansw
         return made(alloc, calls);
     }
     let rows = rows_of(alloc, text)?;
-    Ok(CodecConfig::new_from_payload_params(rows))
+    Ok(CodecConfig::new_from_payload_params(alloc, rows))
 }

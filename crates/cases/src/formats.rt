@@ -1,7 +1,7 @@
 //! Codecs, formats, rows and rounds: the words of their cases.
 
 use crate::unanswered::Unanswered;
-use crate::{format_words, round_words, row_words};
+use crate::{format_words, plain_rows, round_words, row_words};
 use std::alloc::{AllocError, Global};
 
 /// What is asked of codecs and formats.
@@ -34,6 +34,7 @@ fn of_rows(alloc: Global, word: &str, text: &str) -> Result<Option<String>, Unan
         "has" => row_words::has(alloc, text)?,
         "feedback" => row_words::feedback(alloc, text)?,
         "probe" => row_words::probe(alloc, text)?,
+        "plain" => plain_rows::plain(alloc, text)?,
         _ => return Ok(None),
     }))
 }

@@ -22,6 +22,7 @@ mod lines;
 mod lists;
 mod made_sections;
 mod numbers;
+mod plain_rows;
 mod round_words;
 mod row_answers;
 mod row_texts;

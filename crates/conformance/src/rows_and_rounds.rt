@@ -91,7 +91,7 @@ fn no_row_is_asked_after_the_first_accepted_one(rt: HostRuntime) -> Result<(), F
 /// A configuration in which a row of H264 that a round has locked stands twice.
 fn doubled(alloc: Global) -> Result<CodecConfig, AllocError> {
     let rows = Vec::from_slice(alloc, &[h264(), vp8(110, Some(111))])?;
-    let mut config = CodecConfig::new_from_payload_params(rows);
+    let mut config = CodecConfig::new_from_payload_params(alloc, rows);
     let _ = round(alloc, &mut config, &[h264()], Direction::RecvOnly)?;
     let locked = config.params().first().copied();
     match (locked, config.last_mut()) {
@@ -145,7 +145,7 @@ fn crowded(
 ) -> Result<(String, bool), AllocError> {
     let mut rows = vp8_everywhere(alloc)?;
     rows.extend_from_slice(more)?;
-    let mut config = CodecConfig::new_from_payload_params(rows);
+    let mut config = CodecConfig::new_from_payload_params(alloc, rows);
     let before = config.clone()?;
     let text = round(alloc, &mut config, &[remote], direction)?;
     let is_open = config.params().iter().all(|row| !row.locked());
@@ -177,7 +177,7 @@ fn red_without_room(alloc: Global) -> Result<CodecConfig, AllocError> {
         None => {}
         Some(first) => *first = opus((35, None, Some(0))),
     }
-    Ok(CodecConfig::new_from_payload_params(rows))
+    Ok(CodecConfig::new_from_payload_params(alloc, rows))
 }
 
 #[test]
@@ -209,7 +209,7 @@ fn many(alloc: Global, count: usize, codec: Codec) -> Result<Vec<PayloadParams>,
 fn five_hundred_rows_meet_five_hundred(rt: HostRuntime) -> Result<(), Fail> {
     let own = many(rt.alloc(), 499, Codec::PCMU)?;
     let remote = many(rt.alloc(), 499, Codec::PCMA)?;
-    let mut config = CodecConfig::new_from_payload_params(own);
+    let mut config = CodecConfig::new_from_payload_params(rt.alloc(), own);
     let found = round(
         rt.alloc(),
         &mut config,

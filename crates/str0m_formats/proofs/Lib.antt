@@ -11,6 +11,7 @@ pub mod ParamReadingLaws
 pub mod Plain
 pub mod Printed
 pub mod PrintedLine
+pub mod PrintedPairs
 pub mod RoundTrip
 pub mod Rows
 pub mod SetAll
@@ -41,6 +42,8 @@ pub mod Telephone
 pub mod Matched
 pub mod Distinct
 pub mod SmallTypes
+pub mod PlainRounds
+pub mod PlainFormats
 pub mod MemoryAlone
 pub mod Promised
 pub mod RunLaws

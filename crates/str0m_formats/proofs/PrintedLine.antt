@@ -43,15 +43,15 @@ use Rattle.str0m_formats.proofs.TripleLaws.{own_level5, h265_both, h266_both}
 
 -- ---- lists of fields
 
-abbrev all_pieces : List Field → FormatParams → List (List ℕ)
+abbrev pub all_pieces : List Field → FormatParams → List (List ℕ)
 all_pieces [] p = []
 all_pieces (f ∷ fs) p = pieces_at f p ++ all_pieces fs p
 
-abbrev all_pairs : List Field → FormatParams → List (List ℕ × List ℕ)
+abbrev pub all_pairs : List Field → FormatParams → List (List ℕ × List ℕ)
 all_pairs [] p = []
 all_pairs (f ∷ fs) p = given (rows_at f p) ++ all_pairs fs p
 
-abbrev all_rows : List Field → FormatParams → Rows
+abbrev pub all_rows : List Field → FormatParams → Rows
 all_rows [] p = []
 all_rows (f ∷ fs) p = rows_at f p ++ all_rows fs p
 
@@ -64,12 +64,12 @@ pairs_rows [] p = refl
 pairs_rows (f ∷ fs) p = ap (λ (t : List (List ℕ × List ℕ)). given (rows_at f p) ++ t) (pairs_rows fs p) ∙ sym (given-append (rows_at f p) (all_rows fs p))
 
 -- the values of all fields read back
-abbrev AllWithin : FormatParams → Type 0
+abbrev pub AllWithin : FormatParams → Type 0
 AllWithin p = (f : Field) → IfSome (param_at f p) IsWithin
 
 -- ---- the text is the pieces, joined
 
-abbrev joined : List (List ℕ) → List ℕ
+abbrev pub joined : List (List ℕ) → List ℕ
 joined texts = join_with_byte 59 texts
 
 join_cons : (text : List ℕ) (texts : List (List ℕ)) → 0 < length texts → joined (text ∷ texts) ≡ text ++ (59 ∷ joined texts)
@@ -80,7 +80,7 @@ join_append : (first : List ℕ) (more ys : List (List ℕ)) → 0 < length ys �
 join_append first [] ys some = join_cons first ys some
 join_append first (next ∷ more) ys some = ap (λ (t : List ℕ). first ++ (59 ∷ t)) (join_append next more ys some) ∙ sym (append_assoc first (59 ∷ joined (next ∷ more)) (59 ∷ joined ys))
 
-abbrev AreAlike : List (List ℕ) → List (List ℕ) → Type 0
+abbrev pub AreAlike : List (List ℕ) → List (List ℕ) → Type 0
 AreAlike texts pieces = ((texts ≡ []) × (pieces ≡ [])) ⊎ ((0 < length texts) × (0 < length pieces) × (joined texts ≡ joined pieces))
 
 alike_step : (o : Option FormatParam) (qs : List FormatParam) (own rest : List (List ℕ)) → IsShown o own → AreAlike (map param_text qs) rest → AreAlike (map param_text (cons_option o qs)) (own ++ rest)
@@ -96,7 +96,7 @@ alike_step (Some q) qs own rest shown alike =
       )
     ])
 
-alike : (fs : List Field) (p : FormatParams) → AllWithin p → AreAlike (map param_text (filter_map (λ f. param_at f p) fs)) (all_pieces fs p)
+pub alike : (fs : List Field) (p : FormatParams) → AllWithin p → AreAlike (map param_text (filter_map (λ f. param_at f p) fs)) (all_pieces fs p)
 alike [] p h = inl (refl, refl)
 alike (f ∷ fs) p h = alike_step (param_at f p) (filter_map (λ f. param_at f p) fs) (pieces_at f p) (all_pieces fs p) (shows f p (h f)).shown (alike fs p h)
 
@@ -339,12 +339,12 @@ conclude order p r bares params whole first second e =
     ∙ set_each (field.TelephoneEvents ∷ order) [] p ∙ whole
 
 -- the order in which the parameters of a printed line are set
-record Order (p : FormatParams) : Type 0 where
-  order : List Field
-  whole : part (all_done [] (field.TelephoneEvents ∷ order)) p ≡ p
-  read : params_read (all_pairs fields p) ≡ filter_map (λ f. param_at f p) order
+pub record Order (p : FormatParams) : Type 0 where
+  pub order : List Field
+  pub whole : part (all_done [] (field.TelephoneEvents ∷ order)) p ≡ p
+  pub read : params_read (all_pairs fields p) ≡ filter_map (λ f. param_at f p) order
 
-order_of : (p : FormatParams) → CanBeReadBack p → (o5 : Option h265_triple) (o6 : Option h266_triple) → p.h265_profile_tier_level ≡ o5 → p.h266_profile_tier_level ≡ o6 → Order p
+pub order_of : (p : FormatParams) → CanBeReadBack p → (o5 : Option h265_triple) (o6 : Option h266_triple) → p.h265_profile_tier_level ≡ o5 → p.h266_profile_tier_level ≡ o6 → Order p
 order_of p h None None e5 e6 = record { order = field.H265ProfileTierLevel ∷ field.H266ProfileTierLevel ∷ singles; whole = refl; read = without_triple p h.values e5 e6 }
 order_of p h (Some t) None e5 e6 = record { order = triple_first; whole = refl; read = with_h265 p t h.values e5 e6 (elim h.profile [ inl e ↦ e | inr both ↦ clash p.h265_profile_tier_level t e5 both.0 ]) }
 order_of p h None (Some u) e5 e6 = record { order = triple_first; whole = refl; read = with_h266 p u h.values e6 e5 (elim h.profile [ inl e ↦ e | inr both ↦ clash p.h266_profile_tier_level u e6 both.1 ]) }

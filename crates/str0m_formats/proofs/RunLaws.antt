@@ -9,6 +9,8 @@ use Rattle.str0m_formats.specs.declared.negotiation_error.NegotiationError.TheVa
 use Rattle.str0m_formats.specs.declared.payload_params.PayloadParams.{PayloadParams}
 use Rattle.str0m_formats.specs.declared.rounds.Round.{Round}
 use Rattle.str0m_formats.specs.TypeSets.{AllDistinct}
+use Rattle.str0m_formats.specs.Bounds.{IsBounded}
+use Rattle.str0m_formats.specs.PlainRow.{IsPlain}
 use Rattle.str0m_formats.specs.Rows.{AllSmall, types, locked_types}
 use Rattle.str0m_formats.specs.Rounds.{Leaves}
 use Rattle.str0m_formats.specs.Runs.{Outcome, Ran, Reached, AtEachOk}
@@ -95,6 +97,23 @@ pub run_telephone_narrows : (before : List PayloadParams) (rounds : List Round) 
 run_telephone_narrows before rounds outcomes after h =
     (along_places (λ old new. Narrows old.spec new.spec) (λ row. narrows-same row.spec) (λ a b c. narrows-then a.spec b.spec c.spec) (λ a remote dir b p. p.telephone) before rounds outcomes after h).1
 
+-- plain rows stay plain through rounds against rows that keep to their ranges
+pub run_plain_stay : (before : List PayloadParams) (rounds : List Round) (outcomes : List Outcome) (after : List PayloadParams)
+    → Reached before rounds outcomes after → All IsPlain before → All (λ round. All IsBounded round.remote.items) rounds
+    → All IsPlain after
+run_plain_stay before rounds outcomes after h = go before rounds outcomes after (promised_each before rounds outcomes after h) where
+  Keeps : Round → Type 0
+  Keeps round = All IsBounded round.remote.items
+
+  go : (rows : List PayloadParams) (rounds : List Round) (outcomes : List Outcome) (end : List PayloadParams)
+      → AtEachOk Promises rows rounds outcomes end → All IsPlain rows → All Keeps rounds → All IsPlain end
+  go rows [] [] end h p k = subst (All IsPlain) (sym h) p
+  go rows [] (o ∷ outcomes) end h p k = absurd h
+  go rows (round ∷ rounds) [] end h p k = absurd h
+  go rows (round ∷ rounds) (Ok done ∷ outcomes) end h p k =
+      go h.0 rounds outcomes end h.2 (h.1.plain p (All-head Keeps round rounds k)) (All-tail Keeps round rounds k)
+  go rows (round ∷ rounds) (Err cause ∷ outcomes) end h p k = go rows rounds outcomes end h p (All-tail Keeps round rounds k)
+
 -- ---- why rounds are refused
 
 -- what each round tells of its outcome, by what holds of the rows before it and after it
@@ -148,6 +167,7 @@ run_promised before rounds outcomes after r = record {
   stay = run_locked_stay before rounds outcomes after r;
   distinct = run_distinct_stay before rounds outcomes after r;
   telephone = run_telephone_narrows before rounds outcomes after r;
+  plain = run_plain_stay before rounds outcomes after r;
   room = run_never_exhausted before rounds outcomes after r;
   bounded = run_only_for_memory before rounds outcomes after r;
 }

@@ -1,9 +1,11 @@
 -- What each field of a format prints: keys with values, and the range of events.
-use Rattle.std.proofs.Common.{◌≡◌, ◌≤◌, ◌<◌, ◌-◌, ◌^◌, ℕ, zero, suc, replicate, length, Bool, true, false, List, [], ◌∷◌, ◌++◌, map, Option, Some, None, IfSome, option_map, refl, ap, arith, lit≤}
+use Rattle.std.proofs.Common.{◌≡◌, ◌≤◌, ◌<◌, ◌-◌, ◌^◌, ℕ, zero, suc, replicate, length, Bool, true, false, List, [], ◌∷◌, ◌++◌, map, Option, Some, None, IfSome, option_map, refl, ap, arith, lit≤, lit<, ◌==◌, ◌||◌, nat_lt}
 use Rattle.std.specs.Prelude.{codes}
 use Rattle.std.specs.Fmt.{decimal, digits}
 use Rattle.std.specs.List.{AllByRecursion, cons_option, join_with_byte, list_all}
-use Rattle.std.proofs.lemmas.Bool.{false≢true}
+use Rattle.std.proofs.lemmas.Bool.{false≢true, eqb-true, ltb-true}
+use Rattle.std.proofs.lemmas.List.{length-append}
+use Rattle.str0m_values.specs.Parts.{IsRest}
 use Rattle.std.proofs.lemmas.Fmt.{decimal_is_IsNumeral, digits_is_IsNumeral}
 use Rattle.str0m_values.specs.H265 as h265
 use Rattle.str0m_values.specs.H266 as h266
@@ -62,6 +64,57 @@ value_plain (number limit n) small h = decimal_plain n (omega arith)
 value_plain (hex n) small h = six_plain n h
 value_plain (modes mask) small h = plain_from (mode_list mask) (below_at (λ mask. list_all is_plain (mode_list mask)) 512 mask all_modes_plain (omega (arith, h.1)))
 
+-- ---- and not empty
+
+key_filled : (k : FormatKey) → IsRest (key_text k)
+key_filled key.MinPTime = lit< tt
+key_filled key.Stereo = lit< tt
+key_filled key.SpropStereo = lit< tt
+key_filled key.UseInbandFec = lit< tt
+key_filled key.UseDtx = lit< tt
+key_filled key.LevelAsymmetryAllowed = lit< tt
+key_filled key.PacketizationMode = lit< tt
+key_filled key.ProfileLevelId = lit< tt
+key_filled key.ProfileId = lit< tt
+key_filled key.Profile = lit< tt
+key_filled key.LevelIdx = lit< tt
+key_filled key.Tier = lit< tt
+key_filled key.SpropMaxDonDiff = lit< tt
+key_filled key.OctetAlign = lit< tt
+key_filled key.ModeSet = lit< tt
+key_filled key.Apt = lit< tt
+key_filled key.Crc = lit< tt
+key_filled key.RobustSorting = lit< tt
+key_filled key.ModeChangePeriod = lit< tt
+key_filled key.Interleaving = lit< tt
+
+decimal_filled : (n : ℕ) → n ≤ 4294967295 → IsRest (decimal n)
+decimal_filled n small = (decimal_is_IsNumeral n (omega arith)).0.0
+
+all_modes_filled : below (λ mask. (mask == 0) || nat_lt 0 (length (mode_list mask))) 512 ≡ true
+unfolding below digits
+all_modes_filled = refl
+
+modes_filled : (mask : ℕ) → 0 < mask → mask ≤ 511 → IsRest (mode_list mask)
+modes_filled mask some le = go (mask == 0) refl (below_at Filled 512 mask all_modes_filled (omega arith)) where
+  Filled : ℕ → Bool
+  Filled mask = (mask == 0) || nat_lt 0 (length (mode_list mask))
+
+  go : (b : Bool) → (mask == 0) ≡ b → (b || nat_lt 0 (length (mode_list mask))) ≡ true → IsRest (mode_list mask)
+  go true e h = absurd (omega (arith, eqb-true mask 0 e))
+  go false e h = ltb-true 0 (length (mode_list mask)) h
+
+value_filled : (v : Value) → HasSmallLimit v → InRange v → IsRest (value_text v)
+value_filled (flag true) small h = lit< tt
+value_filled (flag false) small h = lit< tt
+value_filled (number limit n) small h = decimal_filled n (omega arith)
+value_filled (hex n) small h =
+    let below : n < 16 ^ 64 = omega arith in
+    let zeros : List ℕ = replicate (6 - length (digits 16 false n)) 48 in
+    let some = (digits_is_IsNumeral 16 false (lit≤ tt) (lit≤ tt) n below).0.0 in
+    omega (arith, length-append zeros (digits 16 false n), some)
+value_filled (modes mask) small h = modes_filled mask h.0 h.1
+
 -- ---- rows
 
 abbrev pub row : {A : Type 0} → FormatKey → (A → Value) → Option A → Rows
@@ -103,8 +156,9 @@ joined_pair pair = pair.0 ++ (61 ∷ pair.1)
 abbrev pub pieces_at : Field → FormatParams → List (List ℕ)
 pieces_at f p = map joined_pair (given (rows_at f p)) ++ bares_at f p
 
+-- a key and a value of plain characters, one or more each
 abbrev pub IsPlainPair : List ℕ × List ℕ → Type 0
-IsPlainPair pair = IsPlain pair.0 × IsPlain pair.1
+IsPlainPair pair = IsPlain pair.0 × IsPlain pair.1 × IsRest pair.0 × IsRest pair.1
 
 -- the text of one field: nothing, or its pieces joined
 abbrev pub IsShown : Option FormatParam → List (List ℕ) → Type 0
@@ -131,7 +185,9 @@ module _ {A : Type 0} (make : A → FormatParam) (k : FormatKey) (value : A → 
 
   one_plain : (o : Option A) → IfSome (option_map make o) IsWithin → AllByRecursion IsPlainPair (given (row k value o))
   one_plain None h = tt
-  one_plain (Some x) h = ((plain_from (key_text k) plain_key, value_plain (value x) (small x) (within x h)), tt)
+  one_plain (Some x) h =
+      let ranged = within x h in
+      ((plain_from (key_text k) plain_key, value_plain (value x) (small x) ranged, key_filled k, value_filled (value x) (small x) ranged), tt)
 
   one_reads : (o : Option A) → IfSome (option_map make o) IsWithin → map param_of (given (row k value o)) ≡ cons_option (option_map make o) []
   one_reads None h = refl
@@ -149,10 +205,10 @@ module _ {A : Type 0} (make : A → FormatParam) (profile tier level : A → ℕ
   triple_plain None = tt
   triple_plain (Some t) =
       let k = small t in (
-        (plain_from (codes "profile-id") refl, decimal_plain (profile t) (omega (arith, k.0))),
+        (plain_from (codes "profile-id") refl, decimal_plain (profile t) (omega (arith, k.0)), lit< tt, decimal_filled (profile t) (omega (arith, k.0))),
         (
-          (plain_from (codes "tier-flag") refl, decimal_plain (tier t) (omega (arith, k.1))),
-          ((plain_from (codes "level-id") refl, decimal_plain (level t) (omega (arith, k.2))), tt),
+          (plain_from (codes "tier-flag") refl, decimal_plain (tier t) (omega (arith, k.1)), lit< tt, decimal_filled (tier t) (omega (arith, k.1))),
+          ((plain_from (codes "level-id") refl, decimal_plain (level t) (omega (arith, k.2)), lit< tt, decimal_filled (level t) (omega (arith, k.2))), tt),
         ),
       )
 

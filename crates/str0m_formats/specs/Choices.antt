@@ -52,7 +52,7 @@ abbrev pub RefusedAll : {F X : Type 0} → (F → Bor X → Bool → F → Type 
 RefusedAll step f [] g = g ≡ f
 RefusedAll {F} {X} step f (x ∷ xs) g = (h : F) × ((b : Bor X) × (b.now ≡ x) × step f b false h) × RefusedAll step h xs g
 
--- the first item that the closure accepted, where it refused each before it and was asked of none after it
+-- the first item that the closure accepted, where it refused each before it
 abbrev pub FirstAccepted : {F X : Type 0} → (F → Bor X → Bool → F → Type 0) → F → List X → Option X → Type 0
 FirstAccepted {F} step f xs None = (g : F) × RefusedAll step f xs g
 FirstAccepted {F} {X} step f xs (Some x) = (before after : List X) × (g h : F) × (xs ≡ before ++ x ∷ after) × RefusedAll step f before g × ((b : Bor X) × (b.now ≡ x) × step g b true h)

@@ -1,3 +1,4 @@
+pub mod Bounds
 pub mod Choices
 pub mod Claiming
 pub mod Codec
@@ -14,6 +15,7 @@ pub mod Narrowing
 pub mod Pairs
 pub mod PairsReading
 pub mod ParamReading
+pub mod PlainRow
 pub mod Promises
 pub mod RedDistances
 pub mod Rounds

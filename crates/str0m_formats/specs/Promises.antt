@@ -3,6 +3,8 @@ use Rattle.std.specs.Prelude.{◌≡◌, ◌≢◌, ◌≤◌, ℕ, Bool, true, 
 use Rattle.str0m_values.specs.Direction.{receives}
 use Rattle.str0m_formats.specs.declared.codec.Codec.TheVariants.{AmrWb, Tele}
 use Rattle.str0m_formats.specs.declared.payload_params.PayloadParams.{PayloadParams}
+use Rattle.str0m_formats.specs.Bounds.{IsBounded}
+use Rattle.str0m_formats.specs.PlainRow.{IsPlain}
 use Rattle.str0m_formats.specs.Rows.{types, locked_types, AllSmall}
 use Rattle.str0m_formats.specs.Scores.{score}
 use Rattle.str0m_formats.specs.TypeSets.{has, times, AllDistinct}
@@ -67,6 +69,8 @@ pub record Promises (before remote : List PayloadParams) (receives : Bool) (afte
   pub best : receives ≡ true → LockedAtBest remote before after
   pub distinct : AllDistinct (types before) → AllDistinct (types after)
   pub telephone : TelephoneNarrows before after
+  -- against rows whose numbers keep to their ranges
+  pub plain : All IsPlain before → All IsBounded remote → All IsPlain after
 
 -- types on both sides have seven bits, and no two locked rows share one
 abbrev pub KeepsBounds : List PayloadParams → List PayloadParams → Type 0
@@ -84,6 +88,8 @@ pub record RunPromises (before : List PayloadParams) (rounds : List Round) (outc
   pub stay : LockedStay before after
   pub distinct : AllDistinct (types before) → AllDistinct (types after)
   pub telephone : TelephoneNarrows before after
+  -- where the remote rows of every round keep to their ranges
+  pub plain : All IsPlain before → All (λ round. All IsBounded round.remote.items) rounds → All IsPlain after
   -- fourteen rows never exhaust the types that may be given
   pub room : length before ≤ 14 → All (λ outcome. outcome ≢ Err Exhausted) outcomes
   -- and where besides no other side receives, and types have seven bits, only memory can be wanting

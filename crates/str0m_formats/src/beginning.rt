@@ -11,7 +11,7 @@ use crate::payload_params::PayloadParams;
 use str0m_values::Pt;
 
 /// The first type of a row above 127.
-fn first_large_of(row: &PayloadParams) -> Option<Pt>
+pub(crate) fn first_large_of(row: &PayloadParams) -> Option<Pt>
     ensures { result ≡ find (nat_lt 127) (types_of row.now) }
 {
     if row.pt.value() > 127 {

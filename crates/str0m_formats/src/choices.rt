@@ -52,8 +52,9 @@ impl CodecConfig {
         }
     }
 
-    /// The first row that `accept` accepts; it refused each row before that one, and no later row is
-    /// asked. `None` where it refused them all.
+    /// The first row that `accept` accepts; it refused each row before that one. `None` where it
+    /// refused them all. No row is asked after the accepted one, which a test shows: a clause can't
+    /// tell in what state a closure is that was handed over.
     pub fn find<F: FnMut(&PayloadParams) -> bool>(&self, mut accept: F) -> Option<&PayloadParams>
         requires { F.IsAlwaysCallable accept }
         ensures { FirstAccepted F.step accept self.now.params.items (option_copied result) }

@@ -19,7 +19,8 @@ pub trait Claimed: Copy {
         ensures answer { result ≡ nat_le pt 127 && not (holds self.old pt) }
         ensures claimed { (t : ℕ) → holds self.new t ≡ holds self.old t || (result && pt == t) };
 
-    /// Whether the type is claimed: false for each type above 127.
+    /// Whether the type stands in the set. None above 127 does in a set that these calls made, since
+    /// `none_claimed` has none and `claim_once` adds none.
     fn is_claimed(&self, pt: Pt) -> bool
         ensures { result ≡ holds self.now pt };
 

@@ -97,12 +97,12 @@ impl CodecConfig {
         ensures default { AreDefault result.params.items }
         ensures distinct { AllDistinct (types result.params.items) }
     {
-        CodecConfig::new_from_payload_params(Vec::new(alloc))
+        CodecConfig::new_from_payload_params(alloc, Vec::new(alloc))
     }
 
-    /// A configuration of these rows, whose redundant audio reaches back to the packet before. Takes
-    /// no memory.
-    pub fn new_from_payload_params(params: Vec<PayloadParams>) -> CodecConfig
+    /// A configuration of these rows, whose redundant audio reaches back to the packet before. It is
+    /// handed the allocator as its neighbours are, keeps that of the rows, and takes no memory.
+    pub fn new_from_payload_params(_alloc: Global, params: Vec<PayloadParams>) -> CodecConfig
         ensures rows { result.params ≡ params }
         ensures distances { result.red_distances ≡ 1 ∷ [] }
     {

@@ -23,6 +23,7 @@ mod negotiation_error;
 mod pairs;
 mod param_text;
 mod payload_params;
+mod plain_row;
 mod red_distances;
 mod rounds;
 mod settling;

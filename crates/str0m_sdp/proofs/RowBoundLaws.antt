@@ -4,6 +4,7 @@ use Rattle.std.specs.List.{list_any}
 use Rattle.std.proofs.lemmas.Bool.{cases_lt, le-ltb, ne_eqb}
 use Rattle.std.proofs.lemmas.List.Elements.{All-nil, All-head, All-tail, All-append, All-filter}
 use Rattle.str0m_values.specs.Cuts.{when}
+use Rattle.str0m_formats.specs.Bounds.{AreModes, IsDistance, IsBounded}
 use Rattle.str0m_formats.specs.FormatLine.{format_of_fmtp, events_end, is_events, is_refused, kept, values_of}
 use Rattle.str0m_formats.specs.FormatParams.{empty, set, set_all}
 use Rattle.str0m_formats.specs.declared.codec.Codec.{Codec}
@@ -16,7 +17,7 @@ use Rattle.str0m_sdp.specs.Companions.{companion_in, companion, rtx_type, red_ty
 use Rattle.str0m_sdp.specs.Consistency.{maps}
 use Rattle.str0m_sdp.specs.Lists.{distinct}
 use Rattle.str0m_sdp.specs.Mappings.{mapping, static_spec, static_row, unmapped, mapped}
-use Rattle.str0m_sdp.specs.RowBounds.{AreModes, IsDistance, IsBounded, IsInRange, KeepsToLine, KeepsToLines}
+use Rattle.str0m_sdp.specs.RowBounds.{IsInRange, KeepsToLine, KeepsToLines}
 use Rattle.str0m_sdp.specs.SectionRows.{values_in, lines_of, is_kept, row_with, row, rows}
 use Rattle.str0m_sdp.specs.declared.attribute.MediaAttribute.{MediaAttribute}
 use Rattle.str0m_sdp.specs.declared.attribute.MediaAttribute.TheVariants.{RtpMap, Fmtp}

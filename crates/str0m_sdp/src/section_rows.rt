@@ -1,11 +1,12 @@
 //! The rows that a section describes.
 ghost use Rattle.std.specs.Prelude.{◌≡◌, ◌<◌, ◌++◌, All, IfOk, OnOk, option_to_list};
+ghost use Rattle.str0m_formats.specs.Bounds.{IsBounded};
 ghost use Rattle.str0m_formats.specs.Choices.{has_events};
 ghost use Rattle.str0m_formats.specs.Codec.{content};
 ghost use Rattle.str0m_formats.specs.KindRows.{has_sound};
 ghost use Rattle.str0m_formats.specs.Rows.{has_pictures};
 ghost use Rattle.str0m_formats.specs.FormatLine.{format_of_fmtp};
-ghost use Rattle.str0m_sdp.specs.RowBounds.{IsBounded, KeepsToLines};
+ghost use Rattle.str0m_sdp.specs.RowBounds.{KeepsToLines};
 ghost use Rattle.str0m_sdp.specs.SectionRows.{lines_of, is_kept, row, rows};
 ghost use Rattle.str0m_sdp.specs.declared.media_line.MediaLine.{MediaLine};
 

@@ -12,13 +12,14 @@ use Rattle.std.proofs.lemmas.List.Elements.{All-nil, All-cons}
 use Rattle.std.proofs.lemmas.List.Splits.{length-slice_split}
 use Rattle.std.proofs.lemmas.Nat.Bits.{and_pow, bit_at-lt, bit_at-zero, bit_at_cat_high, same_from_bits}
 use Rattle.str0m_formats.proofs.Modes.{bit_at_set}
+use Rattle.str0m_formats.specs.Bounds.{AreModes}
 use Rattle.str0m_formats.specs.FormatParam.{IsMask, IsModeSet, Holds, IsParsed, AreParsed}
 use Rattle.str0m_formats.specs.Pairs.{AreJoined, merged, has_mark}
 use Rattle.str0m_formats.specs.Triple.{Texts, IsTripleParam}
 use Rattle.str0m_formats.specs.declared.format_param.FormatParam.{FormatParam}
 use Rattle.str0m_formats.specs.declared.format_param.FormatParam.TheVariants.{ModeSet, SpropMaxDonDiff}
 use Rattle.str0m_sdp.proofs.RowBoundLaws.{rows_bounded}
-use Rattle.str0m_sdp.specs.RowBounds.{AreModes, IsInRange, KeepsToLine, KeepsToLines, HasBoundedRows}
+use Rattle.str0m_sdp.specs.RowBounds.{IsInRange, KeepsToLine, KeepsToLines, HasBoundedRows}
 use Rattle.str0m_sdp.specs.declared.attribute.MediaAttribute.{MediaAttribute}
 use Rattle.str0m_sdp.specs.declared.attribute.MediaAttribute.TheVariants.{RtpMap, Fmtp}
 use Rattle.str0m_sdp.specs.declared.error.SdpError.{SdpError}

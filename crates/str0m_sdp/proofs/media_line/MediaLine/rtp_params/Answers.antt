@@ -6,7 +6,7 @@ use Rattle.str0m_formats.specs.FormatLine.{line_values}
 use Rattle.str0m_formats.specs.declared.format_param.FormatParam.{FormatParam}
 use Rattle.str0m_formats.specs.declared.codec_spec.CodecSpec.{CodecSpec}
 use Rattle.str0m_formats.specs.declared.payload_params.PayloadParams.{PayloadParams}
-use Rattle.str0m_sdp.specs.RowBounds.{IsBounded}
+use Rattle.str0m_formats.specs.Bounds.{IsBounded}
 use Rattle.str0m_sdp.specs.SectionRows.{lines_of, is_kept, row, rows}
 use Rattle.str0m_sdp.specs.declared.attribute.MediaAttribute.{MediaAttribute}
 use Rattle.str0m_sdp.proofs.FilterMapLaws.{kept_more, left_out}

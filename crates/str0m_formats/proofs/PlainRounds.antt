@@ -1,0 +1,286 @@
+-- Plain rows stay plain through a round against rows whose numbers keep to their ranges.
+use Prim.Native.Nat.{zero, suc}
+use Rattle.std.proofs.Common.{◌≡◌, ◌≢◌, ℕ, Bool, true, false, List, [], ◌∷◌, ◌++◌, Option, Some, None, Ok, IfSome, All, take, refl, sym, ap, ◌∙◌, subst}
+use Rattle.std.specs.Prelude.{min}
+use Rattle.std.specs.List.{slice_get}
+use Rattle.std.specs.Option.{option_or}
+use Rattle.std.proofs.lemmas.Option.{same_Some}
+use Rattle.std.proofs.lemmas.List.Elements.{All-nil, All-cons, All-head, All-tail}
+use Rattle.str0m_formats.specs.declared.codec.Codec.{Codec}
+use Rattle.str0m_formats.specs.declared.codec.Codec.TheVariants.{Opus, PCMU, PCMA, G722, CN, AmrWb, H264, H265, H266, Vp8, Vp9, Av1, Tele, Rtx, Red, Null, Unknown}
+use Rattle.str0m_formats.specs.declared.codec_spec.CodecSpec.{CodecSpec}
+use Rattle.str0m_formats.specs.declared.payload_params.PayloadParams.{PayloadParams}
+use Rattle.str0m_formats.specs.Bounds.{AreModes, IsDistance, IsBounded}
+use Rattle.str0m_formats.specs.Codec.{Content, content, audio, video, events, other}
+use Rattle.str0m_formats.specs.declared.format_params.FormatParams.{FormatParams}
+use Rattle.str0m_formats.specs.Narrowing.{narrowed, narrowed_as, lower_h265, lower_h266, id_beside, telephone_max}
+use Rattle.str0m_formats.specs.PlainRow.{IsPlain, IsPlainG722, HasPictureFeedback, HasPlainTriples, SaysEventsAlone}
+use Rattle.str0m_formats.specs.Rows.{AllSmall, types_of, locked_types, open_types}
+use Rattle.str0m_formats.specs.Choices.{IsChoice, points_for}
+use Rattle.str0m_formats.specs.TypeSets.{TypeSet, has}
+use Rattle.str0m_formats.specs.Rounds.{taken_by, taken_after, placed, settled, kept_red, only_audio, Leaves}
+use Rattle.str0m_formats.proofs.FirstPass.{small_at, same_Ok}
+use Rattle.str0m_formats.proofs.WholeRound.{row_before}
+use Rattle.str0m_formats.proofs.RowSteps.{row_steps, placed-locked_row, placed-open_row, placed-no_choice, locked_parts, settled_parts, settled-same}
+use Rattle.str0m_formats.proofs.SmallTypes.{small_after}
+
+-- ---- a plain row is one of small types, a plain spec, and feedback and RED that go with what the codec carries
+
+record PlainSpec (spec : CodecSpec) : Type 0 where
+  carried : content spec.codec ≢ other
+  modes : IfSome spec.format.mode_set AreModes
+  distance : IfSome spec.format.sprop_max_don_diff IsDistance
+  triples : HasPlainTriples spec
+  g722 : spec.codec ≡ G722 → IsPlainG722 spec
+  telephone : content spec.codec ≡ events → SaysEventsAlone spec.format
+  no_maximum : content spec.codec ≢ events → spec.format.telephone_event_max ≡ None
+
+-- whatever its types are
+record PlainBeside (row : PayloadParams) : Type 0 where
+  spec : PlainSpec row.spec
+  pictures : content row.spec.codec ≡ video → HasPictureFeedback row
+  redundant : row.red ≢ None → content row.spec.codec ≡ audio
+
+beside : (row : PayloadParams) → IsPlain row → PlainBeside row
+beside row p = record {
+  spec = record {
+    carried = p.carried;
+    modes = p.bounded.modes;
+    distance = p.bounded.distance;
+    triples = p.triples;
+    g722 = p.g722;
+    telephone = p.telephone;
+    no_maximum = p.no_maximum;
+  };
+  pictures = p.pictures;
+  redundant = p.redundant;
+}
+
+plain : (row : PayloadParams) → AllSmall (types_of row) → PlainBeside row → IsPlain row
+plain row small p = record {
+  carried = p.spec.carried;
+  bounded = record { types = small; modes = p.spec.modes; distance = p.spec.distance };
+  triples = p.spec.triples;
+  g722 = p.spec.g722;
+  pictures = p.pictures;
+  redundant = p.redundant;
+  telephone = p.spec.telephone;
+  no_maximum = p.spec.no_maximum;
+}
+
+-- ---- narrowing
+
+or-holds : {A : Type 0} (P : A → Type 0) (a b : Option A) → IfSome a P → IfSome b P → IfSome (option_or a b) P
+or-holds P None b h k = k
+or-holds P (Some x) b h k = h
+
+no_id_beside-h265 : (own chosen : CodecSpec)
+    → lower_h265 own.format.h265_profile_tier_level chosen.format.h265_profile_tier_level ≢ None
+    → id_beside chosen.format.h265_profile_tier_level chosen.format.profile_id ≡ None
+no_id_beside-h265 own chosen = go own.format.h265_profile_tier_level chosen.format.h265_profile_tier_level where
+  go : (a b : Option _) → lower_h265 a b ≢ None → id_beside b chosen.format.profile_id ≡ None
+  go a (Some t) h = refl
+  go None None h = absurd (h refl)
+  go (Some s) None h = absurd (h refl)
+
+no_id_beside-h266 : (own chosen : CodecSpec)
+    → lower_h266 own.format.h266_profile_tier_level chosen.format.h266_profile_tier_level ≢ None
+    → id_beside chosen.format.h266_profile_tier_level chosen.format.profile_id ≡ None
+no_id_beside-h266 own chosen = go own.format.h266_profile_tier_level chosen.format.h266_profile_tier_level where
+  go : (a b : Option _) → lower_h266 a b ≢ None → id_beside b chosen.format.profile_id ≡ None
+  go a (Some t) h = refl
+  go None None h = absurd (h refl)
+  go (Some s) None h = absurd (h refl)
+
+events-narrowed : (own chosen : CodecSpec) → own.codec ≡ Tele → PlainSpec own → PlainSpec (narrowed_as Tele own chosen)
+events-narrowed own chosen is p = record {
+  carried = p.carried;
+  modes = p.modes;
+  distance = p.distance;
+  triples = record { h265 = p.triples.h265; h266 = p.triples.h266 };
+  g722 = λ e. absurd (cc);
+  telephone = λ e.
+      let smaller = min (telephone_max own.format) (telephone_max chosen.format) in
+      (smaller, ap {A = FormatParams} (λ f. record f { telephone_event_max = Some smaller }) (p.telephone e).1);
+  no_maximum = λ other_than. absurd (other_than (ap content is));
+}
+
+h265-narrowed : (own chosen : CodecSpec) → own.codec ≡ H265 → PlainSpec own → IfSome chosen.format.sprop_max_don_diff IsDistance
+    → PlainSpec (narrowed_as H265 own chosen)
+h265-narrowed own chosen is p d = record {
+  carried = p.carried;
+  modes = p.modes;
+  distance = or-holds IsDistance chosen.format.sprop_max_don_diff own.format.sprop_max_don_diff d p.distance;
+  triples = record {
+    h265 = λ some. (is, no_id_beside-h265 own chosen some);
+    h266 = λ some. let e = (p.triples.h266 some).0 in absurd (cc);
+  };
+  g722 = λ e. absurd (cc);
+  telephone = λ e. let v = sym (ap content is) ∙ e in absurd (cc);
+  no_maximum = p.no_maximum;
+}
+
+h266-narrowed : (own chosen : CodecSpec) → own.codec ≡ H266 → PlainSpec own → IfSome chosen.format.sprop_max_don_diff IsDistance
+    → PlainSpec (narrowed_as H266 own chosen)
+h266-narrowed own chosen is p d = record {
+  carried = p.carried;
+  modes = p.modes;
+  distance = or-holds IsDistance chosen.format.sprop_max_don_diff own.format.sprop_max_don_diff d p.distance;
+  triples = record {
+    h265 = λ some. let e = (p.triples.h265 some).0 in absurd (cc);
+    h266 = λ some. (is, no_id_beside-h266 own chosen some);
+  };
+  g722 = λ e. absurd (cc);
+  telephone = λ e. let v = sym (ap content is) ∙ e in absurd (cc);
+  no_maximum = p.no_maximum;
+}
+
+amr_wb-narrowed : (own chosen : CodecSpec) → own.codec ≡ AmrWb → PlainSpec own → IfSome chosen.format.mode_set AreModes
+    → PlainSpec (narrowed_as AmrWb own chosen)
+amr_wb-narrowed own chosen is p m = record {
+  carried = p.carried;
+  modes = or-holds AreModes own.format.mode_set chosen.format.mode_set p.modes m;
+  distance = p.distance;
+  triples = record { h265 = p.triples.h265; h266 = p.triples.h266 };
+  g722 = λ e. absurd (cc);
+  telephone = λ e. let v = sym (ap content is) ∙ e in absurd (cc);
+  no_maximum = p.no_maximum;
+}
+
+spec-narrowed : (own chosen : CodecSpec) → PlainSpec own
+    → IfSome chosen.format.mode_set AreModes → IfSome chosen.format.sprop_max_don_diff IsDistance
+    → PlainSpec (narrowed own chosen)
+unfolding narrowed
+spec-narrowed own chosen p m d = go own.codec refl where
+  go : (codec : Codec) → own.codec ≡ codec → PlainSpec (narrowed_as codec own chosen)
+  go Tele e = events-narrowed own chosen e p
+  go H265 e = h265-narrowed own chosen e p d
+  go H266 e = h266-narrowed own chosen e p d
+  go AmrWb e = amr_wb-narrowed own chosen e p m
+  go Opus e = p
+  go PCMU e = p
+  go PCMA e = p
+  go G722 e = p
+  go CN e = p
+  go H264 e = p
+  go Vp8 e = p
+  go Vp9 e = p
+  go Av1 e = p
+  go Rtx e = p
+  go Red e = p
+  go Null e = p
+  go Unknown e = p
+
+codec-narrowed : (own chosen : CodecSpec) → (narrowed own chosen).codec ≡ own.codec
+unfolding narrowed
+codec-narrowed own chosen = go own.codec where
+  go : (codec : Codec) → (narrowed_as codec own chosen).codec ≡ own.codec
+  go Tele = refl
+  go H265 = refl
+  go H266 = refl
+  go AmrWb = refl
+  go Opus = refl
+  go PCMU = refl
+  go PCMA = refl
+  go G722 = refl
+  go CN = refl
+  go H264 = refl
+  go Vp8 = refl
+  go Vp9 = refl
+  go Av1 = refl
+  go Rtx = refl
+  go Red = refl
+  go Null = refl
+  go Unknown = refl
+
+-- ---- a row through both passes
+
+audio_alone : (c : Content) (red : Option ℕ) → only_audio c red ≢ None → c ≡ audio
+audio_alone audio red h = refl
+audio_alone video red h = absurd (h refl)
+audio_alone events red h = absurd (h refl)
+audio_alone other red h = absurd (h refl)
+
+placed-plain : (taken unlocked : TypeSet) (receives : Bool) (row new : PayloadParams) (choice : Option PayloadParams)
+    → placed taken unlocked receives row choice ≡ Ok new → IfSome choice IsBounded → PlainBeside row → PlainBeside new
+placed-plain taken unlocked receives row new None h b p = subst PlainBeside (placed-no_choice taken unlocked receives row new h) p
+placed-plain taken unlocked receives row new (Some c) h b p = go row.locked refl where
+  carries : content (narrowed row.spec c.spec).codec ≡ content row.spec.codec
+  carries = ap content (codec-narrowed row.spec c.spec)
+
+  pictures : content (narrowed row.spec c.spec).codec ≡ video → HasPictureFeedback row
+  pictures e = p.pictures (sym carries ∙ e)
+
+  go : (b : Bool) → row.locked ≡ b → PlainBeside new
+  go true l =
+      let same = sym (placed-locked_row taken unlocked receives row c l) ∙ h in
+      subst PlainBeside (same_Ok (record row { spec = narrowed row.spec c.spec }) new same) (record {
+        spec = spec-narrowed row.spec c.spec p.spec b.modes b.distance;
+        pictures = λ e. let f = pictures e in record { nack = f.nack; pli = f.pli; fir = f.fir; remb = f.remb };
+        redundant = λ some. carries ∙ p.redundant some;
+      })
+  go false l =
+      let same = sym (placed-open_row taken unlocked receives row c l) ∙ h in
+      subst PlainBeside (locked_parts taken unlocked receives row c new same).all (record {
+        spec = spec-narrowed row.spec c.spec p.spec b.modes b.distance;
+        pictures = λ e. let f = pictures e in record { nack = f.nack; pli = f.pli; fir = f.fir; remb = f.remb };
+        redundant = λ some. carries ∙ audio_alone (content row.spec.codec) _ some;
+      })
+
+-- a RED is kept or given where there was one
+had_red : (locked taken unlocked : TypeSet) (own : Option ℕ) → kept_red locked taken unlocked own ≢ None → own ≢ None
+had_red locked taken unlocked None h = h
+had_red locked taken unlocked (Some t) h = λ e. cc
+
+settled-plain : (locked taken unlocked : TypeSet) (row new : PayloadParams) → settled locked taken unlocked row ≡ Ok new
+    → PlainBeside row → PlainBeside new
+settled-plain locked taken unlocked row new h p = go row.locked refl where
+  go : (b : Bool) → row.locked ≡ b → PlainBeside new
+  go true l = subst PlainBeside (sym (settled-same locked taken unlocked row new h l)) p
+  go false l = subst PlainBeside (settled_parts locked taken unlocked row new h l).all (record {
+    spec = p.spec;
+    pictures = λ e. let f = p.pictures e in record { nack = f.nack; pli = f.pli; fir = f.fir; remb = f.remb };
+    redundant = λ some. p.redundant (had_red locked _ unlocked row.red some);
+  })
+
+-- ---- a round
+
+at_row : {A : Type 0} (P : A → Type 0) (rows : List A) (i : ℕ) (row : A) → All P rows → slice_get rows i ≡ Some row → P row
+at_row P [] i row h e = absurd (cc)
+at_row P (r ∷ rows) zero row h e = subst P (same_Some r row e) (All-head P r rows h)
+at_row P (r ∷ rows) (suc i) row h e = at_row P rows i row (All-tail P r rows h) e
+
+each_row : {A : Type 0} (P : A → Type 0) (rows : List A) → ((i : ℕ) (row : A) → slice_get rows i ≡ Some row → P row)
+    → All P rows
+each_row P [] h = All-nil P
+each_row P (r ∷ rows) h = All-cons P r rows (h zero r refl) (each_row P rows (λ i row e. h (suc i) row e))
+
+at_split : {A : Type 0} (P : A → Type 0) (xs : List A) (y : A) (ys : List A) → All P (xs ++ y ∷ ys) → P y
+at_split P [] y ys h = All-head P y ys h
+at_split P (x ∷ xs) y ys h = at_split P xs y ys (All-tail P x (xs ++ y ∷ ys) h)
+
+chosen : (points : PayloadParams → Option ℕ) (remote : List PayloadParams) (choice : Option PayloadParams)
+    → IsChoice points remote choice → All IsBounded remote → IfSome choice IsBounded
+chosen points remote None h all = tt
+chosen points remote (Some c) h all = at_split IsBounded h.before c h.after (subst (All IsBounded) h.split all)
+
+at_each : (before remote : List PayloadParams) (receives : Bool) (after : List PayloadParams) → Leaves before remote receives after
+    → All IsPlain before → All IsBounded remote
+    → (i : ℕ) (new : PayloadParams) → slice_get after i ≡ Some new → IsPlain new
+at_each before remote receives after r all bounded i new at_new =
+    let old = row_before before after i new (r.whole ∙ r.first.whole) at_new in
+    let steps = row_steps before remote receives after r i old.0 new old.1 at_new in
+    let taken = taken_by before (take i r.mid) in
+    let unlocked = has (open_types before) in
+    let choice = chosen (points_for taken receives old.0) remote steps.became.choice steps.became.is_choice bounded in
+    let placed_so = steps.became.placed_so in
+    let was = beside old.0 (at_row IsPlain before i old.0 all old.1) in
+    let between = placed-plain taken unlocked receives old.0 steps.between steps.became.choice placed_so choice was in
+    let given = taken_after r.mid (take i after) in
+    let now = settled-plain (has (locked_types r.mid)) given unlocked steps.between new steps.then_settled between in
+    plain new (small_at after i new (small_after before remote receives after r) at_new) now
+
+-- plain rows stay plain against rows that keep to their ranges
+pub plain_stay : (before remote : List PayloadParams) (receives : Bool) (after : List PayloadParams) → Leaves before remote receives after
+    → All IsPlain before → All IsBounded remote → All IsPlain after
+plain_stay before remote receives after r all bounded = each_row IsPlain after (at_each before remote receives after r all bounded)

@@ -1,0 +1,171 @@
+-- A format that is printed as an fmtp line: its pairs, and what they read as.
+use Rattle.std.proofs.Common.{◌≡◌, ◌≢◌, ℕ, Bool, false, List, [], ◌∷◌, ◌++◌, length, map, filter_map, Option, Some, None, IfSome, option_map, ◌||◌, inl, inr, refl, sym, arith, ap, subst, ◌∙◌}
+use Rattle.std.specs.List.{AllByRecursion, cons_option, list_any}
+use Rattle.str0m_formats.specs.declared.format_param.FormatParam.{FormatParam}
+use Rattle.str0m_formats.specs.declared.format_param.FormatParam.TheVariants.{TelephoneEvents, BareRange, BarePtList, AmrWbUnsupported, Apt, Red, Unknown}
+use Rattle.str0m_formats.specs.declared.codec.Codec.{Codec}
+use Rattle.str0m_formats.specs.declared.codec.Codec.TheVariants as codec
+use Rattle.str0m_formats.specs.declared.format_params.Field.{Field}
+use Rattle.str0m_formats.specs.declared.format_params.Field.TheVariants as field
+use Rattle.str0m_formats.specs.declared.format_params.FormatParams.{FormatParams}
+use Rattle.str0m_formats.specs.FormatParam.{param_text}
+use Rattle.str0m_formats.specs.FormatParams.{empty, set_all, fields, param_at, params_of, CanBeReadBack}
+use Rattle.str0m_formats.specs.FormatLine.{is_events, is_unsupported, is_refused, kept, values_of, format_of_fmtp}
+use Rattle.str0m_formats.specs.PairsReading.{params_read}
+use Rattle.str0m_formats.proofs.PrintedLine.{all_pieces, all_pairs, joined, alike, order_of}
+use Rattle.str0m_formats.proofs.SetAll.{set_each}
+use Rattle.str0m_formats.proofs.Shown.{joined_pair, rows_at, bares_at, IsPlainPair, shows}
+use Rattle.str0m_formats.proofs.Rows.{given}
+use Rattle.std.proofs.lemmas.List.{append-nil, map-append}
+
+-- a parameter of a field: not one that only lines hold, and no range of events
+abbrev pub IsOwn : FormatParam → Type 0
+IsOwn (TelephoneEvents n) = ⊥
+IsOwn (BareRange n) = ⊥
+IsOwn (BarePtList pt) = ⊥
+IsOwn AmrWbUnsupported = ⊥
+IsOwn (Apt pt) = ⊥
+IsOwn (Red pt) = ⊥
+IsOwn Unknown = ⊥
+IsOwn param = Unit {0}
+
+some_own : {A : Type 0} (make : A → FormatParam) (o : Option A) → ((x : A) → IsOwn (make x)) → IfSome (option_map make o) IsOwn
+some_own make None own = tt
+some_own make (Some x) own = own x
+
+own_at : (f : Field) (p : FormatParams) → p.telephone_event_max ≡ None → IfSome (param_at f p) IsOwn
+own_at field.MinPTime p none = some_own _ p.min_p_time (λ x. tt)
+own_at field.Stereo p none = some_own _ p.stereo (λ x. tt)
+own_at field.SpropStereo p none = some_own _ p.sprop_stereo (λ x. tt)
+own_at field.UseInbandFec p none = some_own _ p.use_inband_fec (λ x. tt)
+own_at field.UseDtx p none = some_own _ p.use_dtx (λ x. tt)
+own_at field.LevelAsymmetryAllowed p none = some_own _ p.level_asymmetry_allowed (λ x. tt)
+own_at field.PacketizationMode p none = some_own _ p.packetization_mode (λ x. tt)
+own_at field.ProfileLevelId p none = some_own _ p.profile_level_id (λ x. tt)
+own_at field.ProfileId p none = some_own _ p.profile_id (λ x. tt)
+own_at field.Profile p none = some_own _ p.profile (λ x. tt)
+own_at field.LevelIdx p none = some_own _ p.level_idx (λ x. tt)
+own_at field.Tier p none = some_own _ p.tier (λ x. tt)
+own_at field.H265ProfileTierLevel p none = some_own _ p.h265_profile_tier_level (λ x. tt)
+own_at field.H266ProfileTierLevel p none = some_own _ p.h266_profile_tier_level (λ x. tt)
+own_at field.SpropMaxDonDiff p none = some_own _ p.sprop_max_don_diff (λ x. tt)
+own_at field.TelephoneEvents p none = rw none tt
+own_at field.OctetAlign p none = some_own _ p.octet_align (λ x. tt)
+own_at field.ModeSet p none = some_own _ p.mode_set (λ x. tt)
+
+own_step : (o : Option FormatParam) (params : List FormatParam) → IfSome o IsOwn → AllByRecursion IsOwn params
+    → AllByRecursion IsOwn (cons_option o params)
+own_step None params h k = k
+own_step (Some param) params h k = (h, k)
+
+own_all : (fs : List Field) (p : FormatParams) → p.telephone_event_max ≡ None
+    → AllByRecursion IsOwn (filter_map (λ f. param_at f p) fs)
+own_all [] p none = tt
+own_all (f ∷ fs) p none = own_step (param_at f p) (filter_map (λ f. param_at f p) fs) (own_at f p none) (own_all fs p none)
+
+-- ---- pairs alone, where there is no range of events
+
+both : {A : Type 0} (P : A → Type 0) (xs ys : List A) → AllByRecursion P xs → AllByRecursion P ys → AllByRecursion P (xs ++ ys)
+both P [] ys h k = k
+both P (x ∷ xs) ys h k = (h.0, both P xs ys h.1 k)
+
+no_bares : (f : Field) (p : FormatParams) → p.telephone_event_max ≡ None → bares_at f p ≡ []
+no_bares field.TelephoneEvents p none = rw none refl
+no_bares f p none = refl
+
+pieces_are : (fs : List Field) (p : FormatParams) → p.telephone_event_max ≡ None
+    → all_pieces fs p ≡ map joined_pair (all_pairs fs p)
+pieces_are [] p none = refl
+pieces_are (f ∷ fs) p none =
+    ap (λ (t : List (List ℕ)). (map joined_pair (given (rows_at f p)) ++ t) ++ all_pieces fs p) (no_bares f p none)
+    ∙ ap (λ (t : List (List ℕ)). t ++ all_pieces fs p) (append-nil (map joined_pair (given (rows_at f p))))
+    ∙ ap (λ (t : List (List ℕ)). map joined_pair (given (rows_at f p)) ++ t) (pieces_are fs p none)
+    ∙ sym (map-append joined_pair (given (rows_at f p)) (all_pairs fs p))
+
+plain_pairs : (fs : List Field) (p : FormatParams) → CanBeReadBack p → AllByRecursion IsPlainPair (all_pairs fs p)
+plain_pairs [] p h = tt
+plain_pairs (f ∷ fs) p h = both IsPlainPair (given (rows_at f p)) (all_pairs fs p) (shows f p (h.values f)).plain (plain_pairs fs p h)
+
+-- what the line of a format is
+pub record IsLineOf (p : FormatParams) (pairs : List (List ℕ × List ℕ)) : Type 0 where
+  pub plain : AllByRecursion IsPlainPair pairs
+  pub text : joined (map param_text (params_of p)) ≡ joined (map joined_pair pairs)
+  pub some : params_of p ≢ [] → pairs ≢ []
+  pub none : params_of p ≡ [] → pairs ≡ []
+  pub own : AllByRecursion IsOwn (params_read pairs)
+  pub format : set_all empty (params_read pairs) ≡ p
+
+nothing_of : (pairs : List (List ℕ × List ℕ)) → map joined_pair pairs ≡ [] → pairs ≡ []
+nothing_of [] e = refl
+nothing_of (pair ∷ pairs) e = absurd cc
+
+pub line_of_pairs : (p : FormatParams) → CanBeReadBack p → p.telephone_event_max ≡ None → IsLineOf p (all_pairs fields p)
+unfolding params_of
+line_of_pairs p h none =
+    let order = order_of p h p.h265_profile_tier_level p.h266_profile_tier_level refl refl in
+    let pairs = all_pairs fields p in
+    let same = pieces_are fields p none in
+    record {
+      plain = plain_pairs fields p h;
+      text = elim (alike fields p h.values) [
+        | inl none_at_all ↦ ap joined none_at_all.0 ∙ ap joined (sym none_at_all.1 ∙ same)
+        | inr some ↦ some.2 ∙ ap joined same
+      ];
+      some = λ given_some nothing. elim (alike fields p h.values) [
+        | inl none_at_all ↦ given_some (none_of (filter_map (λ f. param_at f p) fields) none_at_all.0)
+        | inr some ↦ absurd (omega (arith, some.1, ap (λ (t : List (List ℕ)). length t) (same ∙ ap (map joined_pair) nothing)))
+      ];
+      none = λ given_none. elim (alike fields p h.values) [
+        | inl none_at_all ↦ nothing_of pairs (sym same ∙ none_at_all.1)
+        | inr some ↦ absurd (omega (arith, some.0, ap (λ (params : List FormatParam). length (map param_text params)) given_none))
+      ];
+      own = subst (AllByRecursion IsOwn) (sym order.read) (own_all order.order p none);
+      format =
+          ap (set_all empty) order.read
+          ∙ ap (λ (o : Option FormatParam). set_all empty (cons_option o (filter_map (λ f. param_at f p) order.order)))
+          (sym (ap (λ (o : Option ℕ). option_map (λ n. TelephoneEvents n) o) none))
+          ∙ set_each (field.TelephoneEvents ∷ order.order) [] p ∙ order.whole;
+    }
+  where
+    none_of : (params : List FormatParam) → map param_text params ≡ [] → params ≡ []
+    none_of [] e = refl
+    none_of (q ∷ qs) e = absurd cc
+
+pub line_of_format : (p : FormatParams) → CanBeReadBack p → p.telephone_event_max ≡ None
+    → (pairs : List (List ℕ × List ℕ)) × IsLineOf p pairs
+line_of_format p h none = (all_pairs fields p, line_of_pairs p h none)
+
+-- ---- the format that such a line says
+
+kept_one : (q : FormatParam) (params : List FormatParam) → IsOwn q → kept params ≡ params → kept (q ∷ params) ≡ q ∷ params
+unfolding is_events
+kept_one (TelephoneEvents n) params mine e = absurd mine
+kept_one q params mine e = ap (λ (qs : List FormatParam). q ∷ qs) e
+
+kept_own : (params : List FormatParam) → AllByRecursion IsOwn params → kept params ≡ params
+kept_own [] own = refl
+kept_own (q ∷ params) own = kept_one q params own.0 (kept_own params own.1)
+
+supported_one : (q : FormatParam) (params : List FormatParam) → IsOwn q → list_any is_unsupported params ≡ false
+    → list_any is_unsupported (q ∷ params) ≡ false
+unfolding is_unsupported
+supported_one AmrWbUnsupported params mine e = absurd mine
+supported_one q params mine e = e
+
+supported : (params : List FormatParam) → AllByRecursion IsOwn params → list_any is_unsupported params ≡ false
+supported [] own = refl
+supported (q ∷ params) own = supported_one q params own.0 (supported params own.1)
+
+-- a line of own parameters is read as the format that they make, for every codec but telephone events
+values_one : (params : List FormatParam) → AllByRecursion IsOwn params → values_of (params ∷ []) ≡ params
+values_one params own = append-nil (kept params) ∙ kept_own params own
+
+refused_none : (c : Codec) (params : List FormatParam) → AllByRecursion IsOwn params → is_refused c (params ∷ []) ≡ false
+unfolding is_refused
+refused_none codec.AmrWb params own = ap (λ (b : Bool). b || false) (supported params own)
+refused_none c params own = refl
+
+pub said : (c : Codec) (p : FormatParams) (params : List FormatParam) → c ≢ codec.Tele → AllByRecursion IsOwn params
+    → set_all empty params ≡ p → format_of_fmtp c (params ∷ []) ≡ Some p
+said codec.Tele p params other own e = absurd (other refl)
+said c p params other own e = rw (refused_none c params own, values_one params own, e) refl
