@@ -17,6 +17,7 @@ pub(crate) fn answer(alloc: Global, word: &str, text: &str) -> Result<Option<Str
         "description" => Ok(Some(description(alloc, text)?)),
         "offer-text" => Ok(Some(offer(alloc, text)?)),
         "answer-text" => Ok(Some(answer_printed(alloc, text)?)),
+        "copied" => Ok(Some(copied(alloc, text)?)),
         "cut" => Ok(Some(cuts::cut(alloc, text)?)),
         _ => answer_behind_header(alloc, word, text),
     }
@@ -68,6 +69,17 @@ fn sdp_shown(alloc: Global, sdp: &Sdp) -> Result<String, AllocError> {
         append_section(alloc, &mut shown, section)?;
     }
     Ok(shown)
+}
+
+/// What a copy of the description prints that the text begins with: all of its parts are copied with it.
+fn copied(alloc: Global, text: &str) -> Result<String, AllocError> {
+    match sdp_parser(alloc, text) {
+        Ok((sdp, _)) => {
+            let printed = sdp.clone()?.to_string(alloc)?;
+            escaped(alloc, printed.as_str())
+        }
+        Err(error) => refused(alloc, &error),
+    }
 }
 
 /// Whether the sections of the text are consistent, and why not.

@@ -3,30 +3,14 @@
 //! a carriage return, a line feed, a tab and a backslash; answers write them the same way.
 #![tactic(auto)]
 
-mod addresses;
 mod attribute_names;
 mod attribute_parts;
-mod candidates;
-mod configuration_calls;
 mod cuts;
 mod descriptions;
 mod escapes;
-mod fingerprints;
-mod format_words;
-mod formats;
-mod h264_profiles;
-mod h265_profiles;
-mod h266_profiles;
-mod identifiers;
+mod fmtp_lines;
 mod lines;
-mod lists;
 mod made_sections;
-mod numbers;
-mod plain_rows;
-mod round_words;
-mod row_answers;
-mod row_texts;
-mod row_words;
 mod said_by_both;
 mod said_by_sections;
 mod said_by_sessions;
@@ -36,8 +20,6 @@ mod said_sources;
 mod section_shown;
 mod sections;
 mod spoken;
-mod unanswered;
-mod values;
 
 use crate::escapes::{indented, unescaped};
 use std::alloc::{AllocError, Global};
@@ -45,10 +27,7 @@ use std::io;
 
 /// What the call that the word names answers of the text.
 fn answer(alloc: Global, word: &str, text: &str) -> Result<String, AllocError> {
-    if let Some(answer) = values::answer(alloc, word, text)? {
-        return Ok(answer);
-    }
-    if let Some(answer) = formats::answer(alloc, word, text)? {
+    if let Some(answer) = plain_cases::answer(alloc, word, text)? {
         return Ok(answer);
     }
     if let Some(answer) = lines::answer(alloc, word, text)? {

@@ -19,7 +19,8 @@ pub(crate) fn add_credentials(
     match found {
         None => Ok(()),
         Some(creds) => {
-            let text = format!(in alloc; "{} {}", creds.ufrag, creds.pass)?;
+            let copy = creds.clone()?;
+            let text = format!(in alloc; "{} {}", copy.ufrag, copy.pass)?;
             add_line(answer, "credentials", text.as_str())
         }
     }

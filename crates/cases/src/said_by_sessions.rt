@@ -10,7 +10,8 @@ pub(crate) fn answer(alloc: Global, word: &str, text: &str) -> Result<Option<Str
     Ok(match word {
         "session-says" => Some(session_says(alloc, &session(alloc, text)?)?),
         "description-says" => Some(description_says(alloc, &description(alloc, text)?)?),
-        "consistency" => Some(consistency(alloc, text)?),
+        "consistency" => Some(consistency(alloc, &description(alloc, text)?)?),
+        "emptied" => Some(emptied(alloc, text)?),
         "numbered-candidates" => Some(numbered(alloc, text)?),
         _ => None,
     })
@@ -65,13 +66,21 @@ fn listed(alloc: Global, mids: &[Mid]) -> Result<String, AllocError> {
 }
 
 /// What is said of a description that contradicts itself.
-fn consistency(alloc: Global, text: &str) -> Result<String, SdpError> {
-    let sdp = description(alloc, text)?;
+fn consistency(alloc: Global, sdp: &Sdp) -> Result<String, SdpError> {
     match sdp.assert_consistency() {
         Ok(()) => Ok("consistent".to_string(alloc)?),
         Err(SdpError::Inconsistent(message)) => Ok(message),
         Err(error) => Err(error),
     }
+}
+
+/// The same of one whose first section was taken its attributes.
+fn emptied(alloc: Global, text: &str) -> Result<String, SdpError> {
+    let mut sdp = description(alloc, text)?;
+    if let Some(section) = sdp.media_lines.0.first_mut() {
+        section.attrs.0.clear();
+    }
+    consistency(alloc, &sdp)
 }
 
 /// A session of as many candidates as the text says, numbered from 0, each twice: those that it gives.

@@ -20,12 +20,13 @@ fn stream_id(alloc: Global, id: &str) -> Result<String, AllocError> {
     "a stream".to_string(alloc)
 }
 
-/// The sources of a section of sound with these lines, a line each.
+/// Copies of the sources of a section of sound with these lines, a line each.
 fn sources(alloc: Global, lines: &str) -> Result<String, SdpError> {
     let section = section(alloc, lines)?;
     let mut answer = String::new(alloc);
     for info in section.ssrc_info()?.iter() {
-        add_item(&mut answer, one(alloc, info)?.as_str(), "\n")?;
+        let copy = info.clone()?;
+        add_item(&mut answer, one(alloc, &copy)?.as_str(), "\n")?;
     }
     Ok(or_word(alloc, answer, "no source")?)
 }

@@ -1,7 +1,8 @@
 //! Sessions and sections: what they say, and the sections that are made of rows.
 
 use crate::{
-    made_sections, said_by_sections, said_by_sessions, said_roles, said_rows, said_sources,
+    fmtp_lines, made_sections, said_by_sections, said_by_sessions, said_roles, said_rows,
+    said_sources,
 };
 use std::alloc::{AllocError, Global};
 use str0m_signal::SdpError;
@@ -29,6 +30,9 @@ fn said(alloc: Global, word: &str, text: &str) -> Result<Option<String>, SdpErro
         return Ok(Some(answer));
     }
     if let Some(answer) = said_roles::answer(alloc, word, text)? {
+        return Ok(Some(answer));
+    }
+    if let Some(answer) = fmtp_lines::answer(alloc, word, text)? {
         return Ok(Some(answer));
     }
     made_sections::answer(alloc, word, text)

@@ -6,7 +6,8 @@ use crate::row_texts::{row_of, rows_of, spec_of, type_of, word};
 use crate::unanswered::{Missing, Unanswered};
 use std::alloc::{AllocError, Global};
 use str0m_formats::{CodecConfig, PayloadParams};
-use str0m_values::{Direction, MediaKind, Pt};
+use str0m_sdp::{AsMediaAttrs, MediaAttribute};
+use str0m_values::{Direction, Items, MediaKind, Pt};
 
 /// What stands on both sides of the first bar.
 pub(crate) fn sides(text: &str) -> Result<(&str, &str), Unanswered> {
@@ -179,4 +180,37 @@ pub(crate) fn feedback(alloc: Global, text: &str) -> Result<String, Unanswered> 
 pub(crate) fn probe(alloc: Global, text: &str) -> Result<String, Unanswered> {
     let row = PayloadParams::new_probe(type_of(text)?);
     Ok(with_feedback(alloc, &row)?)
+}
+
+/// Appends the row's lines. Where that is refused, the list has to be what it was.
+fn append_lines(lines: &mut Items<MediaAttribute>, row: &PayloadParams) -> Result<(), Unanswered> {
+    let before = lines.clone()?;
+    match row.as_media_attrs(&mut lines.0) {
+        Ok(()) => Ok(()),
+        Err(refused) if *lines == before => Err(Unanswered::Memory(refused)),
+        Err(_) => Err(Unanswered::Changed),
+    }
+}
+
+/// `row-lines ROWS`: the lines that describe the rows, behind one that was there before.
+pub(crate) fn row_lines(alloc: Global, text: &str) -> Result<String, Unanswered> {
+    let rows = rows_of(alloc, text)?;
+    let mut lines = Items::empty(alloc);
+    lines.push(MediaAttribute::RtcpMux)?;
+    for row in rows.iter() {
+        append_lines(&mut lines, row)?;
+    }
+    Ok(lines_text(alloc, lines.as_slice())?)
+}
+
+fn lines_text(alloc: Global, lines: &[MediaAttribute]) -> Result<String, AllocError> {
+    let mut shown = String::new(alloc);
+    for line in lines {
+        let printed = line.to_string(alloc)?;
+        if !shown.is_empty() {
+            shown.push('\n')?;
+        }
+        shown.push_str(printed.trim_end())?;
+    }
+    Ok(shown)
 }

@@ -2,7 +2,7 @@
 
 use crate::{
     addresses, candidates, fingerprints, h264_profiles, h265_profiles, h266_profiles, identifiers,
-    numbers,
+    layers, numbers,
 };
 use std::alloc::{AllocError, Global};
 
@@ -31,7 +31,7 @@ fn text_answer(alloc: Global, word: &str, text: &str) -> Result<Option<String>, 
     numbers::answer(alloc, word, text)
 }
 
-/// Of profiles, tiers and levels.
+/// Of profiles, tiers and levels, and of layers.
 fn profile_answer(alloc: Global, word: &str, text: &str) -> Result<Option<String>, AllocError> {
     if let Some(answer) = h264_profiles::answer(alloc, word, text)? {
         return Ok(Some(answer));
@@ -39,5 +39,8 @@ fn profile_answer(alloc: Global, word: &str, text: &str) -> Result<Option<String
     if let Some(answer) = h265_profiles::answer(alloc, word, text)? {
         return Ok(Some(answer));
     }
-    h266_profiles::answer(alloc, word, text)
+    if let Some(answer) = h266_profiles::answer(alloc, word, text)? {
+        return Ok(Some(answer));
+    }
+    layers::answer(alloc, word, text)
 }

@@ -10,9 +10,7 @@ pub(crate) fn answer(alloc: Global, word: &str, text: &str) -> Result<Option<Str
         "h265" => Some(or_none(alloc, of_words(text))?),
         "h265-numbers" => Some(or_none(alloc, of_numbers(text))?),
         "h265-fallback" => Some(shown(alloc, H265ProfileTierLevel::FALLBACK)?),
-        "h265-profiles" => Some(profiles(alloc)?),
-        "h265-tiers" => Some(tiers(alloc)?),
-        "h265-levels" => Some(levels(alloc)?),
+        "h265-profiles" | "h265-tiers" | "h265-levels" => Some(listed(alloc, word)?),
         _ => None,
     })
 }
@@ -49,38 +47,28 @@ fn shown(alloc: Global, found: H265ProfileTierLevel) -> Result<String, AllocErro
     )
 }
 
-/// Each profile that a number names, with its number.
-fn profiles(alloc: Global) -> Result<String, AllocError> {
+/// Each profile, tier or level that a number names, as the word asks, with its number.
+fn listed(alloc: Global, word: &str) -> Result<String, AllocError> {
     let mut list = String::new(alloc);
     for number in 0..=255 {
-        if let Some(found) = H265ProfileTierLevel::new(number, 0, 93) {
-            let (profile, id) = (found.profile(), found.profile().to_id());
-            append(&mut list, format!(in alloc; "{profile:?} {id}")?.as_str())?;
+        let found = match word {
+            "h265-profiles" => H265ProfileTierLevel::new(number, 0, 93),
+            "h265-tiers" => H265ProfileTierLevel::new(1, number, 93),
+            _ => H265ProfileTierLevel::new(1, 0, number),
+        };
+        if let Some(found) = found {
+            append(&mut list, part(alloc, word, found)?.as_str())?;
         }
     }
     Ok(list)
 }
 
-/// Each tier that a number names, with its number.
-fn tiers(alloc: Global) -> Result<String, AllocError> {
-    let mut list = String::new(alloc);
-    for number in 0..=255 {
-        if let Some(found) = H265ProfileTierLevel::new(1, number, 93) {
-            let (tier, id) = (found.tier(), found.tier().to_id());
-            append(&mut list, format!(in alloc; "{tier:?} {id}")?.as_str())?;
-        }
+/// The part that the word asks for, with its number.
+fn part(alloc: Global, word: &str, found: H265ProfileTierLevel) -> Result<String, AllocError> {
+    let (profile, tier, level) = (found.profile(), found.tier(), found.level());
+    match word {
+        "h265-profiles" => format!(in alloc; "{profile:?} {}", profile.to_id()),
+        "h265-tiers" => format!(in alloc; "{tier:?} {}", tier.to_id()),
+        _ => format!(in alloc; "{level:?} {}", level.to_id()),
     }
-    Ok(list)
-}
-
-/// Each level that a number names, with its number.
-fn levels(alloc: Global) -> Result<String, AllocError> {
-    let mut list = String::new(alloc);
-    for number in 0..=255 {
-        if let Some(found) = H265ProfileTierLevel::new(1, 0, number) {
-            let (level, id) = (found.level(), found.level().to_id());
-            append(&mut list, format!(in alloc; "{level:?} {id}")?.as_str())?;
-        }
-    }
-    Ok(list)
 }

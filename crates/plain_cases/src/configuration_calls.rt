@@ -2,7 +2,7 @@
 
 use crate::row_texts::{codec_of, row_of, rows_of, type_of, type_or_dash, word};
 use crate::unanswered::{Missing, Unanswered};
-use std::alloc::Global;
+use std::alloc::{AllocError, Global};
 use str0m_formats::{Codec, CodecConfig};
 
 fn no_call() -> Unanswered {
@@ -122,11 +122,37 @@ fn call(alloc: Global, config: &mut CodecConfig, text: &str) -> Result<(), Unans
     Ok(())
 }
 
+/// Whether two configurations have the same rows, locked in the same places, and distances.
+fn is_same(one: &CodecConfig, other: &CodecConfig) -> bool {
+    let is_locked_alike = one
+        .params()
+        .iter()
+        .zip(other.params())
+        .all(|(a, b)| a.locked() == b.locked());
+    is_locked_alike
+        && one.params() == other.params()
+        && one.red_distances() == other.red_distances()
+}
+
+/// A call was refused memory: it has to leave the configuration as it was before.
+pub(crate) fn unchanged(config: &CodecConfig, before: &CodecConfig) -> Unanswered {
+    if is_same(config, before) {
+        Unanswered::Memory(AllocError)
+    } else {
+        Unanswered::Changed
+    }
+}
+
 /// The configuration that the calls make of an empty one.
 pub(crate) fn made(alloc: Global, calls: &str) -> Result<CodecConfig, Unanswered> {
     let mut config = CodecConfig::empty(alloc);
     for one in calls.split(", ") {
-        call(alloc, &mut config, one)?;
+        let before = config.clone()?;
+        match call(alloc, &mut config, one) {
+            Ok(()) => {}
+            Err(Unanswered::Memory(_)) => return Err(unchanged(&config, &before)),
+            Err(unanswered) => return Err(unanswered),
+        }
     }
     Ok(config)
 }

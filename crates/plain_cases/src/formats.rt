@@ -16,7 +16,6 @@ fn of_formats(alloc: Global, word: &str, text: &str) -> Result<Option<String>, U
         "parameters" => format_words::parameters(alloc, text)?,
         "triple" => format_words::triple(alloc, text)?,
         "set" => format_words::set(alloc, text)?,
-        "fmtp" => format_words::fmtp(alloc, text)?,
         _ => return Ok(None),
     }))
 }
@@ -35,6 +34,7 @@ fn of_rows(alloc: Global, word: &str, text: &str) -> Result<Option<String>, Unan
         "feedback" => row_words::feedback(alloc, text)?,
         "probe" => row_words::probe(alloc, text)?,
         "plain" => plain_rows::plain(alloc, text)?,
+        "row-lines" => row_words::row_lines(alloc, text)?,
         _ => return Ok(None),
     }))
 }
@@ -67,6 +67,7 @@ pub(crate) fn answer(alloc: Global, word: &str, text: &str) -> Result<Option<Str
             let what = missing.name();
             Ok(Some(format!(in alloc; "no such {what}")?))
         }
+        Err(Unanswered::Changed) => Ok(Some("changed where memory was refused".to_string(alloc)?)),
         Err(Unanswered::Memory(refused)) => Err(refused),
     }
 }

@@ -1,7 +1,7 @@
 //! Rounds of negotiation, and the distances of RED. A round is a direction and the remote rows, as
 //! `recvonly 96 - - opus/48000/2 -`; rounds stand behind this side's rows, each behind ` | `.
 
-use crate::configuration_calls::config_of;
+use crate::configuration_calls::{config_of, unchanged};
 use crate::row_answers::shown_rows;
 use crate::row_texts::{rows_of, word};
 use crate::row_words::{direction_of, sides};
@@ -36,13 +36,24 @@ fn outcome_text(
     }
 }
 
+/// Runs one round. Where memory is refused, the configuration has to be what it was.
+fn run(
+    config: &mut CodecConfig,
+    round: &Round,
+) -> Result<Result<(), NegotiationError>, Unanswered> {
+    let before = config.clone()?;
+    match config.update_params(round.remote.as_slice(), round.direction) {
+        Err(NegotiationError::Memory) => Err(unchanged(config, &before)),
+        outcome => Ok(outcome),
+    }
+}
+
 /// One round: its outcome, and the rows that it leaves.
-fn round(alloc: Global, config: &mut CodecConfig, round: &Round) -> Result<String, AllocError> {
-    let outcome = config.update_params(round.remote.as_slice(), round.direction);
-    let outcome = outcome_text(alloc, outcome)?;
+fn round(alloc: Global, config: &mut CodecConfig, round: &Round) -> Result<String, Unanswered> {
+    let outcome = outcome_text(alloc, run(config, round)?)?;
     let rows = shown_rows(alloc, config.params())?;
     let (outcome, rows) = (outcome.as_str(), rows.as_str());
-    format!(in alloc; "{outcome}: {rows}")
+    Ok(format!(in alloc; "{outcome}: {rows}")?)
 }
 
 /// `rounds ROWS | ROUND | ROUND`: rounds one after another, each on a line.
@@ -61,13 +72,40 @@ pub(crate) fn rounds(alloc: Global, text: &str) -> Result<String, Unanswered> {
     Ok(shown)
 }
 
+/// Runs rounds in one call. Where the whole call is refused memory, the configuration has to be what it was; a round
+/// that is refused it has to leave the rows as those before it left them, as `alone` is told round by round.
+fn run_all(
+    config: &mut CodecConfig,
+    alone: &mut CodecConfig,
+    rounds: &[Round],
+) -> Result<Vec<Result<(), NegotiationError>>, Unanswered> {
+    let Ok(outcomes) = config.update_all(rounds) else {
+        return Err(unchanged(config, alone));
+    };
+    let mut wants_memory = false;
+    for (round, outcome) in rounds.iter().zip(outcomes.iter()) {
+        match outcome {
+            Err(NegotiationError::Memory) => wants_memory = true,
+            _ => {
+                run(alone, round)?.unwrap_or(());
+            }
+        }
+    }
+    match unchanged(config, alone) {
+        Unanswered::Changed => Err(Unanswered::Changed),
+        refused if wants_memory => Err(refused),
+        _ => Ok(outcomes),
+    }
+}
+
 /// `together ROWS | ROUND | ROUND`: rounds in one call, their outcomes and the rows that the last one leaves.
 pub(crate) fn together(alloc: Global, text: &str) -> Result<String, Unanswered> {
     let (own, said) = sides(text)?;
     let mut config = config_of(alloc, own)?;
+    let mut alone = config.clone()?;
     let rounds = rounds_of(alloc, said)?;
     let mut shown = String::new(alloc);
-    for outcome in config.update_all(rounds.as_slice())?.iter() {
+    for outcome in run_all(&mut config, &mut alone, rounds.as_slice())?.iter() {
         let one = outcome_text(alloc, *outcome)?;
         shown.push_str(one.as_str())?;
         shown.push_str(": ")?;

@@ -1,13 +1,12 @@
 //! Codecs, parameters and formats: what is read and what is printed. `-` stands for what prints nothing.
 
 use crate::row_answers::{or_dash, or_none, push_part};
-use crate::row_texts::{codec_of, format_of, type_of, word};
+use crate::row_texts::{format_of, type_of, word};
 use crate::unanswered::{Missing, Unanswered};
 use std::alloc::{AllocError, Global};
 use str0m_formats::{Codec, CodecSpec, FormatParam, FormatParams};
-use str0m_sdp::{MediaAttribute, RtpMap};
-use str0m_signal::media_attribute_line;
-use str0m_values::{Items, MediaKind};
+use str0m_sdp::RtpMap;
+use str0m_values::MediaKind;
 
 /// The text, and `-` for an empty one.
 fn dashed(alloc: Global, text: String) -> Result<String, AllocError> {
@@ -130,37 +129,4 @@ pub(crate) fn set(alloc: Global, text: &str) -> Result<String, Unanswered> {
     };
     format.set_param(&FormatParam::parse(key, value));
     Ok(dashed(alloc, format.to_string(alloc)?)?)
-}
-
-/// The values of an fmtp line, by the reader of attributes.
-fn values_of(alloc: Global, values: &str) -> Result<Items<FormatParam>, Unanswered> {
-    let line = format!(in alloc; "a=fmtp:96 {values}")?;
-    match media_attribute_line(alloc, line.as_str()) {
-        Ok((MediaAttribute::Fmtp { values, .. }, _)) => Ok(values),
-        _ => Err(Unanswered::NoSuch(Missing::FmtpLine)),
-    }
-}
-
-fn lines_of(alloc: Global, text: &str) -> Result<Vec<Items<FormatParam>>, Unanswered> {
-    let mut lines = Vec::new(alloc);
-    if text.is_empty() {
-        return Ok(lines);
-    }
-    for one in text.split(" | ") {
-        let values = values_of(alloc, one)?;
-        lines.push(values).map_err(AllocError::from)?;
-    }
-    Ok(lines)
-}
-
-/// `fmtp CODEC VALUES | VALUES`: the format that the values of fmtp lines say of the codec.
-pub(crate) fn fmtp(alloc: Global, text: &str) -> Result<String, Unanswered> {
-    let (name, text) = word(text);
-    let codec = codec_of(alloc, name)?;
-    let lines = lines_of(alloc, text)?;
-    let lines: Vec<&[FormatParam]> = lines.iter().map(|line| line.as_slice()).collect(alloc)?;
-    match FormatParams::from_sdp_fmtp(codec, lines.as_slice()) {
-        Some(format) => Ok(dashed(alloc, format.to_string(alloc)?)?),
-        None => Ok("refused".to_string(alloc)?),
-    }
 }

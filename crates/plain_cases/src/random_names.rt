@@ -1,0 +1,55 @@
+//! Names that are drawn at random, here of a counter.
+ghost use Rattle.std.specs.Prelude.{ℕ, ◌+◌, ◌%◌, ◌^◌};
+ghost use Rattle.rand_core.specs.Steps.{stream_of, steps_u32};
+
+use rand_core::utils::NextWord;
+use rand_core::{Rng, utils};
+use std::alloc::{AllocError, Global};
+use std::marker::Model;
+use str0m_sdp::Msid;
+
+/// Gives its own number and those after it.
+#[derive(Drop)]
+struct Counter(u32);
+
+impl Model for Counter {
+    ghost Value = { ℕ };
+
+    ghost view = { λ counter. counter.0 };
+}
+
+impl NextWord<u32> for Counter {
+    ghost step = { λ s. (s, (s + 1) % 2 ^ 32) };
+
+    fn next_word(&mut self) -> u32 {
+        let word = self.0;
+        self.0 = word.wrapping_add(1);
+        word
+    }
+}
+
+impl Rng for Counter {
+    ghost stream = { stream_of (steps_u32 (λ s. (s, (s + 1) % 2 ^ 32))) };
+
+    fn next_u32(&mut self) -> u32 {
+        self.next_word()
+    }
+
+    fn next_u64(&mut self) -> u64 {
+        utils::next_u64_via_u32(self)
+    }
+
+    fn fill_bytes(&mut self, dst: &mut [u8]) {
+        utils::fill_bytes_via_u32(self, dst)
+    }
+}
+
+/// The names that are drawn, and how many words were. Where there is no room, none has to be.
+pub(crate) fn drawn(alloc: Global) -> Result<String, AllocError> {
+    let mut counter = Counter(0);
+    let drawn = Msid::random(alloc, &mut counter);
+    if drawn.is_err() && counter.0 != 0 {
+        return "words were drawn".to_string(alloc);
+    }
+    format!(in alloc; "{} {}", drawn?, counter.0)
+}
