@@ -1,3 +1,4 @@
+pub mod Causes
 pub mod Choices
 pub mod Claiming
 pub mod Codec

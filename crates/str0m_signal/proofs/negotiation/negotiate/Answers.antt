@@ -7,4 +7,4 @@ use Rattle.str0m_signal.proofs.negotiation.negotiate.Goals as goal
 pub returns-clause-distinct : goal.returns-clause-distinct
 returns-clause-distinct c =
     kept_or_same (λ (config : CodecConfig). AllDistinct (types config.params.items)) _ c.update_all.result c.args.config.now c.update_all.new.self
-        (λ outcomes promises. promises.distinct) c.update_all.ensures.promises c.update_all.ensures.err
+    (λ outcomes promises. promises.distinct) c.update_all.ensures.promises c.update_all.ensures.err

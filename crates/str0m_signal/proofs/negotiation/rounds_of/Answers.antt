@@ -14,8 +14,8 @@ loop-section-preserved c =
     elim c.match-branch-2.branch [
       | in-Some+in_ok-push w ↦
           rw w.rounds-is (step w.push.new.self.items found c.loop-section-test.true c.section-item.is c.in_ok-round.ensures
-              (w.in_ok-push.ensures.items ∙ ap (λ (o : Option Round). rounds ++ option_to_list o) (sym w.in-Some.is)) c.loop-section.invariant)
+          (w.in_ok-push.ensures.items ∙ ap (λ (o : Option Round). rounds ++ option_to_list o) (sym w.in-Some.is)) c.loop-section.invariant)
       | in_default w ↦
           rw w.rounds-is (step rounds found c.loop-section-test.true c.section-item.is c.in_ok-round.ensures
-              (sym (append-nil rounds) ∙ ap (λ (o : Option Round). rounds ++ option_to_list o) (sym w.in_default.is)) c.loop-section.invariant)
+          (sym (append-nil rounds) ∙ ap (λ (o : Option Round). rounds ++ option_to_list o) (sym w.in_default.is)) c.loop-section.invariant)
     ]
