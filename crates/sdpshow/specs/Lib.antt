@@ -1,2 +1,3 @@
+pub mod NegotiationLines
 pub mod RowLines
 pub mod Show

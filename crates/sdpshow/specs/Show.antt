@@ -4,26 +4,32 @@ use Rattle.std.specs.Str.{bytes_eq}
 use Rattle.str0m_sdp.specs.declared.session.Sdp.{Sdp}
 use Rattle.str0m_sdp.specs.Session.{sdp_text}
 use Rattle.str0m_signal.specs.Reading.{Described}
+use Rattle.sdpshow.specs.NegotiationLines.{PrintsRounds}
 use Rattle.sdpshow.specs.RowLines.{rows_text}
 use Rattle.sdpshow.specs.declared.run.Shown.{Shown}
-use Rattle.sdpshow.specs.declared.run.Shown.TheVariants.{Text, Rows}
+use Rattle.sdpshow.specs.declared.run.Shown.TheVariants.{Text, Rows, Negotiation}
 
 -- what the words ask for: one word alone, exactly so written
 abbrev pub asked_by : List ℕ → Option Shown
-asked_by word = if bytes_eq word (codes "text") then Some Text else if bytes_eq word (codes "rows") then Some Rows else None
+asked_by word =
+    if bytes_eq word (codes "text") then Some Text
+    else if bytes_eq word (codes "rows") then Some Rows
+    else if bytes_eq word (codes "negotiate") then Some Negotiation
+    else None
 
 abbrev pub asked : List (List ℕ) → Option Shown
 asked (word ∷ []) = asked_by word
 asked _ = None
 
--- what is shown of a description
-abbrev pub shown_text : Shown → Sdp → List ℕ
-shown_text Text sdp = sdp_text sdp
-shown_text Rows sdp = rows_text sdp
+-- the bytes describe a session, of which this is the text
+abbrev pub PrintsBy : (Sdp → List ℕ) → List ℕ → List ℕ → Type 0
+PrintsBy text bytes printed = (sdp : Sdp) × Described bytes sdp × (printed ≡ text sdp)
 
 -- the bytes describe a session, and this is shown of it
 abbrev pub Prints : Shown → List ℕ → List ℕ → Type 0
-Prints shown bytes printed = (sdp : Sdp) × Described bytes sdp × (printed ≡ shown_text shown sdp)
+Prints Text = PrintsBy sdp_text
+Prints Rows = PrintsBy rows_text
+Prints Negotiation = PrintsRounds
 
 -- what a reader holds, where that is known, describes a session of which this is shown
 abbrev pub Shows : Shown → Option (List ℕ) → List ℕ → Type 0

@@ -1,8 +1,10 @@
 //! Shows session descriptions: `sdpshow text` reads one from standard input and prints it again,
-//! `sdpshow rows` prints the rows of its sections.
+//! `sdpshow rows` prints the rows of its sections, `sdpshow negotiate` what rounds of negotiation
+//! with it come to.
 #![tactic(auto)]
 
 mod fault;
+mod negotiation_lines;
 mod row_lines;
 mod run;
 

@@ -53,7 +53,7 @@ impl<'a> fmt::Display for RowLine<'a> {
     }
 }
 
-fn row_line(alloc: Global, mid: &str, row: &PayloadParams) -> Result<String, AllocError>
+pub(crate) fn row_line(alloc: Global, mid: &str, row: &PayloadParams) -> Result<String, AllocError>
     ensures { IfOk result (λ line. string_bytes line ≡ row_line mid.now row.now) }
 {
     let format = row.spec().format.to_string(alloc)?;

@@ -2,13 +2,16 @@
 ghost use Rattle.std.specs.Prelude.{◌≡◌, ◌↔◌, ◌⊎◌, ℕ, List, None, IfOk, IfSome, OnOk, OnErr, map};
 ghost use Rattle.std.specs.String.{string_bytes};
 ghost use Rattle.std.specs.Io.KnownBytes.{Appends, IsAtEnd};
-ghost use Rattle.sdpshow.specs.Show.{asked, asked_by, Prints, Shows, ShowsAsked, Describes};
+ghost use Rattle.str0m_sdp.specs.Session.{sdp_text};
+ghost use Rattle.sdpshow.specs.RowLines.{rows_text};
+ghost use Rattle.sdpshow.specs.Show.{asked, asked_by, Prints, PrintsBy, Shows, ShowsAsked, Describes};
 
 use crate::fault::Fault;
+use crate::negotiation_lines::negotiation_text;
 use crate::row_lines::rows_text;
 use std::alloc::Global;
 use std::io::{ErrorKind, Read, Write};
-use str0m_signal::SdpOffer;
+use str0m_signal::{SdpError, SdpOffer};
 
 /// Says how the program is called; the status of that.
 pub(crate) fn usage<F: Write>(faults: &mut F) -> u8
@@ -33,15 +36,18 @@ enum Shown {
     Text,
     /// Its rows.
     Rows,
+    /// What the rounds of its sections come to.
+    Negotiation,
 }
 
-/// What a word asks for: `text` or `rows`, exactly so written.
+/// What a word asks for: `text`, `rows` or `negotiate`, exactly so written.
 fn asked_by(word: &str) -> Option<Shown>
     ensures { result ≡ asked_by word.now }
 {
     match word {
         "text" => Some(Shown::Text),
         "rows" => Some(Shown::Rows),
+        "negotiate" => Some(Shown::Negotiation),
         _ => None,
     }
 }
@@ -74,14 +80,28 @@ fn whole_text<R: Read>(alloc: Global, input: &mut R) -> Result<String, Fault>
     }
 }
 
-/// What is shown of the description that the text begins with.
-fn printed(alloc: Global, shown: Shown, text: &str) -> Result<String, Fault>
-    ensures { IfOk result (λ printed. Prints shown text.now (string_bytes printed)) }
+fn offer_text(alloc: Global, text: &str) -> Result<String, SdpError>
+    ensures { IfOk result (λ printed. PrintsBy sdp_text text.now (string_bytes printed)) }
 {
     let offer = SdpOffer::from_sdp_string(alloc, text)?;
+    Ok(offer.to_sdp_string()?)
+}
+
+fn offer_rows(alloc: Global, text: &str) -> Result<String, SdpError>
+    ensures { IfOk result (λ printed. PrintsBy rows_text text.now (string_bytes printed)) }
+{
+    let offer = SdpOffer::from_sdp_string(alloc, text)?;
+    Ok(rows_text(alloc, &offer)?)
+}
+
+/// What is shown of the description that the text begins with.
+fn printed(alloc: Global, shown: Shown, text: &str) -> Result<String, SdpError>
+    ensures { IfOk result (λ printed. Prints shown text.now (string_bytes printed)) }
+{
     match shown {
-        Shown::Text => Ok(offer.to_sdp_string()?),
-        Shown::Rows => Ok(rows_text(alloc, &offer)?),
+        Shown::Text => offer_text(alloc, text),
+        Shown::Rows => offer_rows(alloc, text),
+        Shown::Negotiation => negotiation_text(alloc, text),
     }
 }
 
@@ -114,11 +134,14 @@ fn show<R: Read, W: Write>(
 /// Runs the program: the words behind its name, what it reads, what it writes, and what it says of
 /// faults. Answers the exit status.
 ///
-/// The word `text` or `rows` alone reads the whole input as UTF-8. `text` prints the session
-/// description that it begins with (RFC 8866, section 5); `rows` prints the rows of its sections, a
-/// line each: `MID PT RTX RED CODEC/CLOCK[/CHANNELS] FORMAT`, the clock in Hz, with `-` for what is
-/// absent. Nothing is read before the words are compared, and nothing is written before the output
-/// is whole.
+/// The word `text`, `rows` or `negotiate` alone reads the whole input as UTF-8. `text` prints the
+/// session description that it begins with (RFC 8866, section 5); `rows` prints the rows of its
+/// sections, a line each: `MID PT RTX RED CODEC/CLOCK[/CHANNELS] FORMAT`, the clock in Hz, with `-`
+/// for what is absent. `negotiate` runs a round of the default configuration for each audio and video
+/// section, and prints `round N ok` or `round N refused: CAUSE`, counted from 1, then the rows of the
+/// configuration, with `locked` or `open` in place of the mid; a round that is refused is no fault of
+/// the run. Nothing is read before the words are compared, and nothing is written before the output is
+/// whole.
 ///
 /// Status 0: it is printed, and nothing is said. Status 1, and one line that says why: the text is
 /// no description, is not UTF-8 or can't be read, a growth was refused, or the output can't be

@@ -1,4 +1,5 @@
 pub mod Bounds
+pub mod Causes
 pub mod Choices
 pub mod Claiming
 pub mod Codec

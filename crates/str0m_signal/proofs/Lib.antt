@@ -9,6 +9,7 @@ pub mod FormLaws
 pub mod HeaderLaws
 pub mod LineLaws
 pub mod MediaLaws
+pub mod NegotiationLaws
 pub mod PairLaws
 pub mod PartLaws
 pub mod ReadingLaws

@@ -14,6 +14,7 @@ pub mod LineReading
 pub mod Lines
 pub mod MediaAttribute
 pub mod MediaAttributeReading
+pub mod Negotiation
 pub mod Reading
 pub mod Rid
 pub mod RidLists

@@ -14,6 +14,7 @@ mod header;
 mod heads;
 mod lines;
 mod media_attribute;
+mod negotiation;
 mod offer;
 mod pairs;
 mod parts;
@@ -26,6 +27,7 @@ mod simulcast;
 mod sources;
 mod words;
 
+pub use negotiation::negotiate_text;
 pub use offer::{SdpAnswer, SdpOffer};
 pub use reader::{
     candidate_attribute, media_attribute_line, sdp_parser, session_attribute_line, session_parser,

@@ -24,7 +24,7 @@ pub struct SdpOffer(Sdp);
 pub struct SdpAnswer(Sdp);
 
 /// The description that a text begins with; what follows it is dropped.
-fn described(alloc: Global, text: &str) -> Result<Sdp, SdpError>
+pub(crate) fn described(alloc: Global, text: &str) -> Result<Sdp, SdpError>
     ensures read { Answers (λ sdp. sdp) result (Described text.now) }
     ensures one { AtMostOne (Described text.now) }
     ensures bounded { IfOk result (λ sdp. All HasBoundedRows sdp.media_lines) }
