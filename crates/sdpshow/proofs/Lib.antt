@@ -1,0 +1,2 @@
+pub mod OutcomeLines
+pub mod Shows

@@ -15,7 +15,7 @@ outcome_line n (Ok done) = codes "round " ++ (decimal n ++ codes " ok\n")
 outcome_line n (Err cause) = codes "round " ++ (decimal n ++ (codes " refused: " ++ (cause_text cause ++ codes "\n")))
 
 -- those of rounds one after another, the first of them of this number
-unfoldable pub outcome_lines : ℕ → List Outcome → List ℕ
+abbrev pub outcome_lines : ℕ → List Outcome → List ℕ
 outcome_lines n [] = []
 outcome_lines n (outcome ∷ outcomes) = outcome_line n outcome ++ outcome_lines (n + 1) outcomes
 

@@ -1,6 +1,7 @@
 use Rattle.std.proofs.Common.{Result, Ok, Err, OnErr, inr}
 use Rattle.std.specs.String.{string_bytes}
 use Rattle.std.proofs.lemmas.Result.{on_ok_weaker}
+use Rattle.sdpshow.proofs.Shows.{described_by}
 use Rattle.sdpshow.proofs.run.show.Goals as goal
 
 -- what holds in any case holds on an error
@@ -17,4 +18,4 @@ returns-clause-shown g c =
 pub returns-clause-refused : goal.returns-clause-refused
 returns-clause-refused g c =
     let prints = rw c.as_str.ensures.value at c.in_ok-printed.ensures in
-    on_err c.write_whole.result (inr (string_bytes c.in_ok-text.text, c.in_ok-text.ensures.whole, (prints.0, prints.1)))
+    on_err c.write_whole.result (inr (string_bytes c.in_ok-text.text, c.in_ok-text.ensures.whole, described_by _ _ _ prints))
