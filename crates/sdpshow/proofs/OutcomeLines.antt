@@ -1,6 +1,6 @@
 -- The lines of outcomes, one more.
 use native.Mathlib.Omega.{arith}
-use Rattle.std.proofs.Common.{◌≡◌, ◌<◌, ◌+◌, ◌++◌, ℕ, List, [], ◌∷◌, length, take, get_or, refl, sym, ap, subst, ◌∙◌}
+use Rattle.std.proofs.Common.{◌≡◌, ◌<◌, ◌+◌, ◌++◌, ℕ, List, [], ◌∷◌, length, take, get_or, sym, ap, ◌∙◌}
 use Rattle.std.proofs.lemmas.Grind.{take_at_read}
 use Rattle.std.proofs.lemmas.List.{append-nil, append_assoc, length-take}
 use Rattle.str0m_formats.specs.Runs.{Outcome}
@@ -14,7 +14,7 @@ lines_more n [] outcome =
 lines_more n (first ∷ outcomes) outcome =
     let next : n + 1 + length outcomes ≡ n + length (first ∷ outcomes) = omega arith in
     ap (λ (lines : List ℕ). outcome_line n first ++ lines)
-        (lines_more (n + 1) outcomes outcome ∙ ap (λ (k : ℕ). outcome_lines (n + 1) outcomes ++ outcome_line k outcome) next)
+    (lines_more (n + 1) outcomes outcome ∙ ap (λ (k : ℕ). outcome_lines (n + 1) outcomes ++ outcome_line k outcome) next)
     ∙ sym (append_assoc (outcome_line n first) (outcome_lines (n + 1) outcomes) (outcome_line (n + length (first ∷ outcomes)) outcome))
 
 -- counted from 1, the line behind the first i is that of i + 1
