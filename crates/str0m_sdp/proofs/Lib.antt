@@ -1,3 +1,4 @@
+pub mod AttributeEqual
 pub mod CandidateEqual
 pub mod CompanionLaws
 pub mod Copies
