@@ -65,7 +65,7 @@ mapping_Decides a b =
     (λ e. (λ i. (e i).codec) ⊗ (λ i. (e i).clock_rate) ⊗ (λ i. (e i).channels))
     (bare_Decides codec.the_type tt a.codec b.codec and unsigned_Decides a.clock_rate b.clock_rate and numbers a.channels b.channels)
 
-id_Decides : (a b : RestrictionId) → Decides (id.eq-value.it a b) (a ≡ b)
+pub id_Decides : (a b : RestrictionId) → Decides (id.eq-value.it a b) (a ≡ b)
 id_Decides a b =
     Decides-like _ (λ e i. record { 0 = e.0 i; 1 = e.1 i }) (λ e. (λ i. (e i).0) ⊗ (λ i. (e i).1))
     (bytes_decides a.0 b.0 and booleans_Decides a.1 b.1)

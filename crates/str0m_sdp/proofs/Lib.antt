@@ -1,3 +1,4 @@
+pub mod AlikeLaws
 pub mod AttributeEqual
 pub mod CandidateEqual
 pub mod CompanionLaws
