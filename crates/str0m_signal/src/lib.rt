@@ -18,6 +18,7 @@ mod negotiation;
 mod offer;
 mod pairs;
 mod parts;
+mod read_back;
 mod reader;
 mod rid;
 mod rtp_map;
