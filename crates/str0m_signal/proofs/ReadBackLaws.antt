@@ -1,11 +1,13 @@
 -- What is printed, read again line by line.
-use Rattle.std.proofs.Common.{◌≡◌, ◌++◌, ◌&&◌, ℕ, Bool, true, false, List, Some, None, refl, sym, ap, subst, ◌∙◌, true≢false}
+use Rattle.std.proofs.Common.{◌≡◌, ◌<◌, ◌+◌, ◌++◌, ◌∷◌, [], ◌&&◌, ℕ, suc, Bool, true, false, List, length, take, drop, get_or, Option, Some, None, option_map, option_to_list, inl, inr, refl, sym, ap, subst, ◌∙◌, true≢false, take-append-drop, drop-cons}
+use Rattle.std.proofs.lemmas.Grind.{take_at_read}
 use Rattle.std.proofs.lemmas.List.{append_cancel_right}
 use Rattle.str0m_values.specs.Cuts.{lacks}
 use Rattle.str0m_values.specs.Only.{IsTheOnly}
 use Rattle.str0m_values.specs.Parts.{Lacks}
 use Rattle.str0m_values.proofs.CutLaws.{lacks_true, lacks_from}
 use Rattle.str0m_sdp.specs.Lines.{line_end}
+use Rattle.str0m_signal.specs.Writable.{AreReadAs, IsPrintedAs}
 
 -- the text is this line and its end
 abbrev pub IsContent : List ℕ → List ℕ → Type 0
@@ -29,3 +31,72 @@ other_content text line e other = record {
       let plain : lacks 10 content && lacks 13 content ≡ true = rw (lacks_true 10 content is.1) (lacks_true 13 content is.2) in
       absurd (true≢false (sym plain ∙ ap (λ (l : List ℕ). lacks 10 l && lacks 13 l) same ∙ other));
 }
+
+-- ---- what comes back of lists
+
+none_some : {A : Type 0} (x : A) → None ≡ Some x → ⊥
+none_some x e = cc
+
+some_is : {A : Type 0} (x y : A) → Some x ≡ Some y → x ≡ y
+some_is x y e = cc
+
+module _ {X : Type 0} (text : X → List ℕ) (F : List ℕ → X → Type 0) (GoesWith : X → X → Type 0) where
+  abbrev pub ReadAs : List X → List X → Type 0
+  ReadAs = AreReadAs text F GoesWith
+
+  back_both : (xs ys reads more : List X) → ReadAs xs reads → ReadAs ys more → ReadAs (xs ++ ys) (reads ++ more)
+  back_both [] ys reads more h k = subst (λ (list : List X). ReadAs ys (list ++ more)) (sym h) k
+  back_both (x ∷ xs) ys reads more (inl h) k = inl (h.0, back_both xs ys reads more h.1 k)
+  back_both (x ∷ xs) ys reads more (inr h) k =
+      inr (h.0, h.1 ++ more, ap (λ (list : List X). list ++ more) h.2, h.3, h.4, back_both xs ys h.1 more h.5 k)
+
+  back_parts : (xs ys reads : List X) → ReadAs (xs ++ ys) reads → (front : List X) × (back : List X) × (reads ≡ front ++ back) × ReadAs xs front × ReadAs ys back
+  back_parts [] ys reads h = ([], reads, refl, refl, h)
+  back_parts (x ∷ xs) ys reads (inl h) =
+      let parts = back_parts xs ys reads h.1 in
+      (parts.0, parts.1, parts.2, inl (h.0, parts.3), parts.4)
+  back_parts (x ∷ xs) ys reads (inr h) =
+      let parts = back_parts xs ys h.1 h.5 in
+      (h.0 ∷ parts.0, parts.1, h.2 ∙ ap (λ (list : List X). h.0 ∷ list) parts.2, inr (h.0, parts.0, refl, h.3, h.4, parts.3), parts.4)
+
+  -- what comes back of two lists comes back of both together, and nothing else
+  pub only_both : (xs ys reads more : List X) → IsTheOnly (ReadAs xs) (Some reads) → IsTheOnly (ReadAs ys) (Some more)
+      → IsTheOnly (ReadAs (xs ++ ys)) (Some (reads ++ more))
+  only_both xs ys reads more h k = record {
+    found = back_both xs ys reads more h.found k.found;
+    only = λ others is.
+        let parts = back_parts xs ys others is in
+        let front = some_is reads parts.0 (h.only parts.0 parts.3) in
+        let back = some_is more parts.1 (k.only parts.1 parts.4) in
+        ap Some (ap (λ (list : List X). list ++ more) front ∙ ap (λ (list : List X). parts.0 ++ list) back ∙ sym parts.2);
+  }
+
+  -- what doesn't come back lets nothing around it come back
+  pub none_within : (xs ys zs : List X) → IsTheOnly (ReadAs ys) None → IsTheOnly (ReadAs (xs ++ (ys ++ zs))) None
+  none_within xs ys zs none = record {
+    found = tt;
+    only = λ others is.
+        let parts = back_parts xs (ys ++ zs) others is in
+        let inner = back_parts ys zs parts.1 parts.4 in
+        absurd (none_some inner.0 (none.only inner.0 inner.3));
+  }
+
+  -- ---- an attribute at its place in the list
+
+  pub lost_at : (xs : List X) (i : ℕ) (x : X) (found : Option (Option X)) → i < length xs → x ≡ get_or xs i x → found ≡ None
+      → IsTheOnly (ReadAs (x ∷ [])) (option_map option_to_list found) → IsTheOnly (ReadAs xs) None
+  lost_at xs i x found lt at lost one =
+      let split = sym (take-append-drop i xs)
+      ∙ ap (λ (back : List X). take i xs ++ back) (drop-cons xs i x lt ∙ ap (λ (y : X). y ∷ drop (suc i) xs) (sym at)) in
+      let none = subst (λ (o : Option (Option X)). IsTheOnly (ReadAs (x ∷ [])) (option_map option_to_list o)) lost one in
+      subst (λ (list : List X). IsTheOnly (ReadAs list) None) (sym split) (none_within (take i xs) (x ∷ []) (drop (suc i) xs) none)
+
+  pub back_at : (xs : List X) (i : ℕ) (x : X) (reads more : List X) (found : Option (Option X)) (read : Option X) → i < length xs → x ≡ get_or xs i x
+      → found ≡ Some read → IsTheOnly (ReadAs (x ∷ [])) (option_map option_to_list found) → more ≡ reads ++ option_to_list read
+      → IsTheOnly (ReadAs (take i xs)) (Some reads) → IsTheOnly (ReadAs (take (i + 1) xs)) (Some more)
+  back_at xs i x reads more found read lt at is one appended before =
+      let split = (take_at_read xs i x lt).1 ∙ ap (λ (y : X). take i xs ++ y ∷ []) (sym at) in
+      let last = subst (λ (o : Option (Option X)). IsTheOnly (ReadAs (x ∷ [])) (option_map option_to_list o)) is one in
+      let both = only_both (take i xs) (x ∷ []) reads (option_to_list read) before last in
+      subst (λ (list : List X). IsTheOnly (ReadAs list) (Some more)) (sym split)
+      (subst (λ (list : List X). IsTheOnly (ReadAs (take i xs ++ x ∷ [])) (Some list)) (sym appended) both)

@@ -60,3 +60,40 @@ fn line_back<A: ReadBack>(alloc: Global, attr: &A, text: &str) -> Result<Option<
         Ok(None)
     }
 }
+
+/// What the attribute comes back as once it is printed and read: no attribute where it prints
+/// nothing; `None` where it doesn't come back.
+fn item_back<A: ReadBack + Printed>(
+    alloc: Global,
+    attr: &A,
+) -> Result<Option<Option<A>>, AllocError>
+    ensures { IfOk result (λ found. IsTheOnly (AreReadAs A.text (IsReadBy A.reading) A.GoesWith (attr.now ∷ [])) (option_map option_to_list found)) }
+{
+    let text = attr.to_string(alloc)?;
+    if text.is_empty() {
+        return Ok(Some(None));
+    }
+    match line_back(alloc, attr, text.as_str())? {
+        Some(read) => Ok(Some(Some(read))),
+        None => Ok(None),
+    }
+}
+
+/// What the attributes come back as, in order; `None` where one doesn't come back.
+pub(crate) fn read_back<A: ReadBack + Printed>(
+    alloc: Global,
+    attrs: &[A],
+) -> Result<Option<Items<A>>, AllocError>
+    ensures { IfOk result (IsTheOnly (AreReadAs A.text (IsReadBy A.reading) A.GoesWith attrs.now)) }
+{
+    let mut reads = Vec::new(alloc);
+    for attr in attrs {
+        let Some(read) = item_back(alloc, attr)? else {
+            return Ok(None);
+        };
+        if let Some(read) = read {
+            reads.push(read)?;
+        }
+    }
+    Ok(Some(Items::from(reads)))
+}
