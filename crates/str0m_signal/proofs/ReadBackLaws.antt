@@ -1,5 +1,5 @@
 -- What is printed, read again line by line.
-use Rattle.std.proofs.Common.{◌≡◌, ◌<◌, ◌+◌, ◌++◌, ◌∷◌, [], ◌&&◌, ℕ, suc, Bool, true, false, List, length, take, drop, get_or, Option, Some, None, option_map, option_to_list, inl, inr, refl, sym, ap, subst, ◌∙◌, true≢false, take-append-drop, drop-cons}
+use Rattle.std.proofs.Common.{◌≡◌, ◌<◌, ◌+◌, ◌++◌, ◌∷◌, [], ◌&&◌, ℕ, suc, Bool, true, false, List, length, take, drop, get_or, Option, Some, None, option_map, option_to_list, IfSome, inl, inr, refl, sym, ap, subst, ◌∙◌, true≢false, take-append-drop, drop-cons}
 use Rattle.std.proofs.lemmas.Grind.{take_at_read}
 use Rattle.std.proofs.lemmas.List.{append_cancel_right}
 use Rattle.str0m_values.specs.Cuts.{lacks}
@@ -7,7 +7,9 @@ use Rattle.str0m_values.specs.Only.{IsTheOnly}
 use Rattle.str0m_values.specs.Parts.{Lacks}
 use Rattle.str0m_values.proofs.CutLaws.{lacks_true, lacks_from}
 use Rattle.str0m_sdp.specs.Lines.{line_end}
-use Rattle.str0m_signal.specs.Writable.{AreReadAs, IsPrintedAs}
+use Rattle.str0m_values.proofs.BothWays.{Reads}
+use Rattle.str0m_signal.specs.LineReading.{read_attribute}
+use Rattle.str0m_signal.specs.Writable.{AreReadAs, IsReadBy}
 
 -- the text is this line and its end
 abbrev pub IsContent : List ℕ → List ℕ → Type 0
@@ -100,3 +102,28 @@ module _ {X : Type 0} (text : X → List ℕ) (F : List ℕ → X → Type 0) (G
       let both = only_both (take i xs) (x ∷ []) reads (option_to_list read) before last in
       subst (λ (list : List X). IsTheOnly (ReadAs list) (Some more)) (sym split)
       (subst (λ (list : List X). IsTheOnly (ReadAs (take i xs ++ x ∷ [])) (Some list)) (sym appended) both)
+
+-- ---- the same by another form of the lines
+
+back_by : {X : Type 0} (text : X → List ℕ) (F G : List ℕ → X → Type 0) (GoesWith : X → X → Type 0) → ((content : List ℕ) (x : X) → F content x → G content x)
+    → (xs reads : List X) → AreReadAs text F GoesWith xs reads → AreReadAs text G GoesWith xs reads
+back_by text F G GoesWith by [] reads h = h
+back_by text F G GoesWith by (x ∷ xs) reads (inl h) = inl (h.0, back_by text F G GoesWith by xs reads h.1)
+back_by text F G GoesWith by (x ∷ xs) reads (inr h) =
+    let line = h.3 in
+    inr (h.0, h.1, h.2, (line.0, line.1, line.2, line.3, by line.0 h.0 line.4), h.4, back_by text F G GoesWith by xs h.1 h.5)
+
+if_some : {A : Type 0} {P Q : A → Type 0} → ((a : A) → P a → Q a) → (o : Option A) → IfSome o P → IfSome o Q
+if_some by None h = h
+if_some by (Some a) h = by a h
+
+pub only_by : {A : Type 0} {P Q : A → Type 0} (o : Option A) → ((a : A) → P a → Q a) → ((a : A) → Q a → P a) → IsTheOnly P o → IsTheOnly Q o
+only_by o there back h = record { found = if_some there o h.found; only = λ a q. h.only a (back a q) }
+
+-- what is read by a function is read by the form that it reads
+pub back_by_form : {X : Type 0} (text : X → List ℕ) (F : List ℕ → X → Type 0) (f : List ℕ → Option X) (GoesWith : X → X → Type 0) → Reads F (read_attribute f)
+    → (xs : List X) (found : Option (List X)) → IsTheOnly (AreReadAs text (IsReadBy f) GoesWith xs) found → IsTheOnly (AreReadAs text F GoesWith xs) found
+back_by_form text F f GoesWith reads xs found =
+    only_by found
+        (λ list. back_by text (IsReadBy f) F GoesWith (λ content x. reads.sound content x) xs list)
+        (λ list. back_by text F (IsReadBy f) GoesWith (λ content x. reads.complete content x) xs list)

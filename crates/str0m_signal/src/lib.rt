@@ -2,6 +2,7 @@
 #![tactic(auto)]
 
 mod attributes;
+mod attributes_back;
 mod bandwidth;
 mod bare_values;
 mod candidate_line;
