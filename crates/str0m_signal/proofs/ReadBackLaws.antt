@@ -1,5 +1,5 @@
 -- What is printed, read again line by line.
-use Rattle.std.proofs.Common.{◌≡◌, ◌<◌, ◌+◌, ◌++◌, ◌∷◌, [], ◌&&◌, ℕ, suc, Bool, true, false, List, length, take, drop, get_or, Option, Some, None, option_map, option_to_list, IfSome, inl, inr, refl, sym, ap, subst, ◌∙◌, true≢false, take-append-drop, drop-cons}
+use Rattle.std.proofs.Common.{◌≡◌, ◌<◌, ◌+◌, ◌++◌, ◌∷◌, [], ◌&&◌, ℕ, suc, Bool, true, false, List, length, take, drop, get_or, Option, Some, None, option_map, option_to_list, IfSome, Result, Ok, Err, IfOk, inl, inr, refl, sym, ap, subst, ◌∙◌, true≢false, take-append-drop, drop-cons}
 use Rattle.std.proofs.lemmas.Grind.{take_at_read}
 use Rattle.std.proofs.lemmas.List.{append_cancel_right}
 use Rattle.str0m_values.specs.Cuts.{lacks}
@@ -127,3 +127,7 @@ back_by_form text F f GoesWith reads xs found =
     only_by found
         (λ list. back_by text (IsReadBy f) F GoesWith (λ content x. reads.sound content x) xs list)
         (λ list. back_by text F (IsReadBy f) GoesWith (λ content x. reads.complete content x) xs list)
+
+pub ok_by : {A E : Type 0} {P Q : A → Type 0} → ((a : A) → P a → Q a) → (r : Result A E) → IfOk r P → IfOk r Q
+ok_by there (Ok a) h = there a h
+ok_by there (Err e) h = h
