@@ -9,7 +9,7 @@ use Rattle.str0m_values.proofs.CutLaws.{lacks_true, lacks_from}
 use Rattle.str0m_sdp.specs.Lines.{line_end}
 use Rattle.str0m_values.proofs.BothWays.{Reads}
 use Rattle.str0m_signal.specs.LineReading.{read_attribute}
-use Rattle.str0m_signal.specs.Writable.{AreReadAs, IsReadBy}
+use Rattle.str0m_signal.specs.Writable.{AreReadAs, IsPrintedAs, IsReadBy}
 
 -- the text is this line and its end
 abbrev pub IsContent : List ℕ → List ℕ → Type 0
@@ -131,3 +131,18 @@ back_by_form text F f GoesWith reads xs found =
 pub ok_by : {A E : Type 0} {P Q : A → Type 0} → ((a : A) → P a → Q a) → (r : Result A E) → IfOk r P → IfOk r Q
 ok_by there (Ok a) h = there a h
 ok_by there (Err e) h = h
+
+-- what a function reads of the content is all that the text is printed as
+pub printed_by : {A : Type 0} {F : List ℕ → A → Type 0} {f : List ℕ → Option A} → Reads F f → (text : List ℕ) (line : List ℕ) (found : Option A)
+    → IsTheOnly (IsContent text) (Some line) → found ≡ f line → IsTheOnly (IsPrintedAs F text) found
+printed_by {A} {F} {f} reads text line found content is = record {
+  found = held found is;
+  only = λ a h. is ∙ ap f (some_is line h.0 (content.only h.0 (h.1, h.2, h.3))) ∙ reads.complete h.0 a h.4;
+} where
+  held : (o : Option A) → o ≡ f line → IfSome o (IsPrintedAs F text)
+  held None e = tt
+  held (Some a) e = (line, content.found.0, content.found.1, content.found.2, reads.sound line a (sym e))
+
+-- a text that is no line is printed as nothing
+pub printed_nothing : {A : Type 0} (F : List ℕ → A → Type 0) (text : List ℕ) → IsTheOnly (IsContent text) None → IsTheOnly (IsPrintedAs F text) None
+printed_nothing F text none = record { found = tt; only = λ a h. absurd (none_some h.0 (none.only h.0 (h.1, h.2, h.3))) }

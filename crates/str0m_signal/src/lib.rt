@@ -24,6 +24,7 @@ mod reader;
 mod rid;
 mod rtp_map;
 mod section;
+mod section_back;
 mod session_attribute;
 mod simulcast;
 mod sources;

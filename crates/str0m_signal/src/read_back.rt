@@ -37,7 +37,7 @@ fn is_plain(line: &str) -> bool
 }
 
 /// The line without its end, where the text is one whole line.
-fn content(text: &str) -> Option<&str>
+pub(crate) fn content(text: &str) -> Option<&str>
     ensures { IsTheOnly (λ line. (text.now ≡ line ++ line_end) × Lacks 10 line × Lacks 13 line) (option_copied result) }
 {
     let line = text.strip_suffix("\r\n")?;
