@@ -1,5 +1,3 @@
-pub mod AlikeLaws
-pub mod AttributeEqual
 pub mod CandidateEqual
 pub mod CompanionLaws
 pub mod Copies

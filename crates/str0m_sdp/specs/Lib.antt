@@ -1,4 +1,3 @@
-pub mod Alike
 pub mod Attribute
 pub mod Bandwidth
 pub mod Candidates

@@ -2,7 +2,6 @@
 //! consistent, and how each item prints.
 #![tactic(auto)]
 
-mod alike;
 mod attribute;
 mod bandwidth;
 mod candidates;

@@ -12,7 +12,6 @@ pub mod MediaLaws
 pub mod NegotiationLaws
 pub mod PairLaws
 pub mod PartLaws
-pub mod ReadBackLaws
 pub mod ReadingLaws
 pub mod RidLaws
 pub mod RtpMapLaws

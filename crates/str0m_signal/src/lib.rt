@@ -2,7 +2,6 @@
 #![tactic(auto)]
 
 mod attributes;
-mod attributes_back;
 mod bandwidth;
 mod bare_values;
 mod candidate_line;
@@ -19,12 +18,10 @@ mod negotiation;
 mod offer;
 mod pairs;
 mod parts;
-mod read_back;
 mod reader;
 mod rid;
 mod rtp_map;
 mod section;
-mod section_back;
 mod session_attribute;
 mod simulcast;
 mod sources;
