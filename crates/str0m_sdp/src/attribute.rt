@@ -1,12 +1,12 @@
 //! The attributes of sessions and of sections.
 ghost use Rattle.std.specs.Prelude.{◌≡◌, IfOk, Some, refl};
-ghost use Rattle.str0m_sdp.specs.Attribute.{session_attribute_text, media_attribute_text, long_text, direction_attribute};
+ghost use Rattle.str0m_sdp.specs.Attribute.{session_attribute_text, session_words, media_attribute_text, media_words, value_text, pair_text, long_text, direction_attribute};
 
 use crate::ext_map::ExtMapLine;
 use crate::fmtp::FmtpLine;
 use crate::group::{GroupLine, MsidSemanticLine};
 use crate::msid::Msid;
-use crate::printed::Printed;
+use crate::printed::{Printed, TextLine};
 use crate::rid::RidLine;
 use crate::rtp_map::RtpMap;
 use crate::setup::Setup;
@@ -194,6 +194,23 @@ impl From<Direction> for MediaAttribute {
     }
 }
 
+/// The label of a line that has a text behind it, or none, and that text; for other lines nothing.
+fn session_words(attribute: &SessionAttribute) -> (&'static str, &str)
+    ensures label { result.0.now ≡ (session_words attribute.now).0 }
+    ensures text { result.1.now ≡ (session_words attribute.now).1 }
+{
+    match attribute {
+        SessionAttribute::AllowMixedExts => ("extmap-allow-mixed", ""),
+        SessionAttribute::IceLite => ("ice-lite", ""),
+        SessionAttribute::IceUfrag(text) => ("ice-ufrag:", text.as_str()),
+        SessionAttribute::IcePwd(text) => ("ice-pwd:", text.as_str()),
+        SessionAttribute::IceOptions(text) => ("ice-options:", text.as_str()),
+        SessionAttribute::EndOfCandidates => ("end-of-candidates", ""),
+        SessionAttribute::Unused(text) => ("", text.as_str()),
+        _ => ("", ""),
+    }
+}
+
 /// The `a=` line, with its end.
 impl fmt::Display for SessionAttribute {
     ghost output = { λ attribute. Some (session_attribute_text attribute) };
@@ -202,8 +219,7 @@ impl fmt::Display for SessionAttribute {
         match self {
             SessionAttribute::Group { typ, mids } => {
                 let mids = mids.as_slice();
-                let line = GroupLine { typ, mids };
-                write!(f, "{line}")
+                GroupLine { typ, mids }.fmt(f)
             }
             SessionAttribute::MsidSemantic {
                 semantic,
@@ -214,18 +230,15 @@ impl fmt::Display for SessionAttribute {
                     semantic,
                     stream_ids,
                 };
-                write!(f, "{line}")
+                line.fmt(f)
             }
-            SessionAttribute::AllowMixedExts => f.write_str("a=extmap-allow-mixed\r\n"),
-            SessionAttribute::IceLite => f.write_str("a=ice-lite\r\n"),
-            SessionAttribute::IceUfrag(text) => write!(f, "a=ice-ufrag:{text}\r\n"),
-            SessionAttribute::IcePwd(text) => write!(f, "a=ice-pwd:{text}\r\n"),
-            SessionAttribute::IceOptions(text) => write!(f, "a=ice-options:{text}\r\n"),
             SessionAttribute::Fingerprint(hash) => write!(f, "a=fingerprint:{hash}\r\n"),
             SessionAttribute::Setup(setup) => write!(f, "a=setup:{setup}\r\n"),
             SessionAttribute::Candidate(candidate) => write!(f, "a={candidate}\r\n"),
-            SessionAttribute::EndOfCandidates => f.write_str("a=end-of-candidates\r\n"),
-            SessionAttribute::Unused(text) => write!(f, "a={text}\r\n"),
+            other => {
+                let (label, text) = session_words(other);
+                TextLine { label, text }.fmt(f)
+            }
         }
     }
 }
@@ -236,6 +249,30 @@ impl Printed for SessionAttribute {
     ghost prints = { λ _. refl };
 }
 
+/// The label and the text of a section's line that has no more than these; for other lines nothing.
+fn media_words(attribute: &MediaAttribute) -> (&'static str, &str)
+    ensures label { result.0.now ≡ (media_words attribute.now).0 }
+    ensures text { result.1.now ≡ (media_words attribute.now).1 }
+{
+    match attribute {
+        MediaAttribute::Rtcp(text) => ("rtcp:", text.as_str()),
+        MediaAttribute::IceUfrag(text) => ("ice-ufrag:", text.as_str()),
+        MediaAttribute::IcePwd(text) => ("ice-pwd:", text.as_str()),
+        MediaAttribute::IceOptions(text) => ("ice-options:", text.as_str()),
+        MediaAttribute::SctpInit(text) => ("sctp-init:", text.as_str()),
+        MediaAttribute::RecvOnly => ("recvonly", ""),
+        MediaAttribute::SendRecv => ("sendrecv", ""),
+        MediaAttribute::SendOnly => ("sendonly", ""),
+        MediaAttribute::Inactive => ("inactive", ""),
+        MediaAttribute::RtcpMux => ("rtcp-mux", ""),
+        MediaAttribute::RtcpMuxOnly => ("rtcp-mux-only", ""),
+        MediaAttribute::RtcpRsize => ("rtcp-rsize", ""),
+        MediaAttribute::EndOfCandidates => ("end-of-candidates", ""),
+        MediaAttribute::Unused(text) => ("", text.as_str()),
+        _ => ("", ""),
+    }
+}
+
 /// The `a=` line, with its end; nothing for what has no line: an `Fmtp` none of whose values has a
 /// text, an extension that isn't written, layers that are none or munged, a group without sources.
 impl fmt::Display for MediaAttribute {
@@ -243,36 +280,66 @@ impl fmt::Display for MediaAttribute {
 
     fn fmt<W: fmt::Write>(&self, f: &mut fmt::Formatter<W>) -> fmt::Result {
         match self {
-            MediaAttribute::Rtcp(text) => write!(f, "a=rtcp:{text}\r\n"),
-            MediaAttribute::IceUfrag(text) => write!(f, "a=ice-ufrag:{text}\r\n"),
-            MediaAttribute::IcePwd(text) => write!(f, "a=ice-pwd:{text}\r\n"),
-            MediaAttribute::IceOptions(text) => write!(f, "a=ice-options:{text}\r\n"),
+            MediaAttribute::Fingerprint(_)
+            | MediaAttribute::Setup(_)
+            | MediaAttribute::Mid(_)
+            | MediaAttribute::SctpPort(_)
+            | MediaAttribute::MaxMessageSize(_)
+            | MediaAttribute::Msid(_)
+            | MediaAttribute::Candidate(_) => ValueLine(self).fmt(f),
+            MediaAttribute::RtpMap { .. }
+            | MediaAttribute::RtcpFb { .. }
+            | MediaAttribute::Ssrc { .. } => PairLine(self).fmt(f),
+            MediaAttribute::ExtMap { .. }
+            | MediaAttribute::Fmtp { .. }
+            | MediaAttribute::Rid { .. }
+            | MediaAttribute::Simulcast(_)
+            | MediaAttribute::SsrcGroup { .. } => LongLine(self).fmt(f),
+            other => {
+                let (label, text) = media_words(other);
+                TextLine { label, text }.fmt(f)
+            }
+        }
+    }
+}
+
+/// The line of an attribute that prints one value that isn't a text; no other attribute prints so.
+#[derive(Drop)]
+struct ValueLine<'a>(&'a MediaAttribute);
+
+impl<'a> fmt::Display for ValueLine<'a> {
+    ghost output = { λ line. Some (value_text line.0.now) };
+
+    fn fmt<W: fmt::Write>(&self, f: &mut fmt::Formatter<W>) -> fmt::Result {
+        match self.0 {
             MediaAttribute::Fingerprint(hash) => write!(f, "a=fingerprint:{hash}\r\n"),
             MediaAttribute::Setup(setup) => write!(f, "a=setup:{setup}\r\n"),
             MediaAttribute::Mid(mid) => write!(f, "a=mid:{mid}\r\n"),
             MediaAttribute::SctpPort(port) => write!(f, "a=sctp-port:{port}\r\n"),
             MediaAttribute::MaxMessageSize(size) => write!(f, "a=max-message-size:{size}\r\n"),
-            MediaAttribute::SctpInit(text) => write!(f, "a=sctp-init:{text}\r\n"),
-            MediaAttribute::RecvOnly => f.write_str("a=recvonly\r\n"),
-            MediaAttribute::SendRecv => f.write_str("a=sendrecv\r\n"),
-            MediaAttribute::SendOnly => f.write_str("a=sendonly\r\n"),
-            MediaAttribute::Inactive => f.write_str("a=inactive\r\n"),
             MediaAttribute::Msid(msid) => write!(f, "a=msid:{msid}\r\n"),
-            MediaAttribute::RtcpMux => f.write_str("a=rtcp-mux\r\n"),
-            MediaAttribute::RtcpMuxOnly => f.write_str("a=rtcp-mux-only\r\n"),
-            MediaAttribute::RtcpRsize => f.write_str("a=rtcp-rsize\r\n"),
             MediaAttribute::Candidate(candidate) => write!(f, "a={candidate}\r\n"),
-            MediaAttribute::EndOfCandidates => f.write_str("a=end-of-candidates\r\n"),
+            _ => Ok(()),
+        }
+    }
+}
+
+/// The line of an attribute that says something of a payload type or of a source; no other attribute
+/// prints so.
+#[derive(Drop)]
+struct PairLine<'a>(&'a MediaAttribute);
+
+impl<'a> fmt::Display for PairLine<'a> {
+    ghost output = { λ line. Some (pair_text line.0.now) };
+
+    fn fmt<W: fmt::Write>(&self, f: &mut fmt::Formatter<W>) -> fmt::Result {
+        match self.0 {
             MediaAttribute::RtpMap { pt, value } => write!(f, "a=rtpmap:{pt} {value}\r\n"),
             MediaAttribute::RtcpFb { pt, value } => write!(f, "a=rtcp-fb:{pt} {value}\r\n"),
             MediaAttribute::Ssrc { ssrc, attr, value } => {
                 write!(f, "a=ssrc:{ssrc} {attr}:{value}\r\n")
             }
-            MediaAttribute::Unused(text) => write!(f, "a={text}\r\n"),
-            other => {
-                let line = LongLine(other);
-                write!(f, "{line}")
-            }
+            _ => Ok(()),
         }
     }
 }
@@ -288,12 +355,12 @@ impl<'a> fmt::Display for LongLine<'a> {
         match self.0 {
             MediaAttribute::ExtMap { id, ext } => {
                 let line = ExtMapLine { id: *id, ext };
-                write!(f, "{line}")
+                line.fmt(f)
             }
             MediaAttribute::Fmtp { pt, values } => {
                 let values = values.as_slice();
                 let line = FmtpLine { pt: *pt, values };
-                write!(f, "{line}")
+                line.fmt(f)
             }
             MediaAttribute::Rid {
                 id,
@@ -307,16 +374,16 @@ impl<'a> fmt::Display for LongLine<'a> {
                     pts: pt.as_slice(),
                     restrictions: restriction.as_slice(),
                 };
-                write!(f, "{line}")
+                line.fmt(f)
             }
             MediaAttribute::Simulcast(simulcast) => {
                 let line = SimulcastLine(simulcast);
-                write!(f, "{line}")
+                line.fmt(f)
             }
             MediaAttribute::SsrcGroup { semantics, ssrcs } => {
                 let ssrcs = ssrcs.as_slice();
                 let line = SsrcGroupLine { semantics, ssrcs };
-                write!(f, "{line}")
+                line.fmt(f)
             }
             _ => Ok(()),
         }
