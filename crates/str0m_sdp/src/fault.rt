@@ -26,6 +26,17 @@ pub(crate) struct Clash {
     pub(crate) other: Pt,
 }
 
+impl fmt::Display for Clash {
+    fn fmt<W: fmt::Write>(&self, f: &mut fmt::Formatter<W>) -> fmt::Result {
+        let (pt, mid) = (self.pt, self.mid);
+        let (first, other) = (self.first, self.other);
+        write!(
+            f,
+            "PT {pt} has conflicting apt values {first} and {other} for mid: {mid}"
+        )
+    }
+}
+
 /// What a fault says of its section.
 #[derive(Drop)]
 pub(crate) struct Message<'a> {
@@ -49,14 +60,7 @@ impl<'a> fmt::Display for Message<'a> {
             Fault::SecondMap { mid, pt } => {
                 write!(f, "More than one a=rtp_map:{pt} for mid: {mid}")
             }
-            Fault::Apts(clash) => {
-                let (pt, mid) = (clash.pt, clash.mid);
-                let (first, other) = (clash.first, clash.other);
-                write!(
-                    f,
-                    "PT {pt} has conflicting apt values {first} and {other} for mid: {mid}"
-                )
-            }
+            Fault::Apts(clash) => clash.fmt(f),
         }
     }
 }

@@ -61,7 +61,7 @@ impl<'a> fmt::Display for Formats<'a> {
             items,
             separator: " ",
         };
-        write!(f, "{numbers}")
+        numbers.fmt(f)
     }
 }
 

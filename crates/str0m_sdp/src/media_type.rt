@@ -52,7 +52,7 @@ impl fmt::Display for MediaType {
             MediaType::Audio => f.write_str("audio"),
             MediaType::Video => f.write_str("video"),
             MediaType::Application => f.write_str("application"),
-            MediaType::Unknown(text) => write!(f, "{text}"),
+            MediaType::Unknown(text) => f.write_str(text.as_str()),
         }
     }
 }

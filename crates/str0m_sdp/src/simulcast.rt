@@ -59,7 +59,7 @@ impl fmt::Display for RestrictionId {
     fn fmt<W: fmt::Write>(&self, f: &mut fmt::Formatter<W>) -> fmt::Result {
         let name = self.0.as_str();
         if self.1 {
-            write!(f, "{name}")
+            f.write_str(name)
         } else {
             write!(f, "~{name}")
         }
@@ -134,7 +134,7 @@ impl fmt::Display for SimulcastGroups {
             items,
             separator: ";",
         };
-        write!(f, "{layers}")
+        layers.fmt(f)
     }
 }
 
