@@ -1,7 +1,7 @@
 //! Rows that no text makes: default rows, and rows made by hand, as lines and as sections.
 
 use crate::texts::HEADER;
-use std::alloc::Global;
+use std::alloc::{AllocError, Global};
 use std::test::Fail;
 use str0m_signal::{
     AsMediaAttrs, Codec, CodecConfig, CodecSpec, FormatParams, Frequency, MediaAttribute,
@@ -9,7 +9,7 @@ use str0m_signal::{
 };
 
 /// A section of sound with a mid and a direction.
-fn frame(alloc: Global) -> Result<MediaLine, Fail> {
+fn frame(alloc: Global) -> Result<MediaLine, AllocError> {
     let mut frame = MediaLine::new(alloc);
     frame.attrs.push(MediaAttribute::Mid(Mid::from("0")))?;
     frame.attrs.push(MediaAttribute::SendRecv)?;
@@ -22,32 +22,61 @@ const OPUS: &str =
 
 /// What a section of the rows prints, and whether it reads back as the same rows.
 fn printed(alloc: Global, rows: &[PayloadParams]) -> Result<(String, bool), Fail> {
-    let made = section_of(&frame(alloc)?, rows)?.to_string(alloc)?;
-    let text = format!(in alloc; "{HEADER}{made}")?;
-    let (sdp, rest) = sdp_parser(alloc, text.as_str())?;
-    let read = sdp.media_lines.first().ok_or("a section")?.rtp_params()?;
-    Ok((made, rest.is_empty() && read.as_slice() == rows))
+    let made = section_text(alloc, rows)?;
+    let is_same = reads_back(alloc, made.as_str(), rows)?;
+    Ok((made, is_same))
 }
 
-/// The default row of Opus, and the same made by hand.
-#[test]
-fn opus_prints_and_reads_back(rt: HostRuntime) -> Result<(), Fail> {
-    let mut config = CodecConfig::empty(rt.alloc());
+fn section_text(alloc: Global, rows: &[PayloadParams]) -> Result<String, AllocError> {
+    let frame = frame(alloc)?;
+    section_of(&frame, rows)?.to_string(alloc)
+}
+
+/// Whether the section behind a header is read whole, as the rows.
+fn reads_back(alloc: Global, section: &str, rows: &[PayloadParams]) -> Result<bool, Fail> {
+    let text = format!(in alloc; "{HEADER}{section}")?;
+    has_rows(alloc, text.as_str(), rows)
+}
+
+fn has_rows(alloc: Global, text: &str, rows: &[PayloadParams]) -> Result<bool, Fail> {
+    let (sdp, rest) = sdp_parser(alloc, text)?;
+    let section = sdp.media_lines.first().ok_or("a section")?;
+    Ok(rest.is_empty() && section.rtp_params()?.as_slice() == rows)
+}
+
+/// What the default row of Opus prints.
+fn default_opus(alloc: Global) -> Result<(String, bool), Fail> {
+    let mut config = CodecConfig::empty(alloc);
     config.enable_opus(true, true)?;
-    let own = [opus()];
-    for rows in [config.params(), own.as_slice()] {
-        let (made, is_same) = printed(rt.alloc(), rows)?;
-        assert_eq!(rt; made.as_str(), OPUS);
-        assert!(rt; is_same);
-    }
+    printed(alloc, config.params())
+}
+
+#[test]
+fn the_default_row_of_opus_prints_and_reads_back(rt: HostRuntime) -> Result<(), Fail> {
+    let (made, is_same) = default_opus(rt.alloc())?;
+    assert_eq!(rt; made.as_str(), OPUS);
+    assert!(rt; is_same);
     Ok(())
+}
+
+#[test]
+fn opus_made_by_hand_prints_and_reads_back(rt: HostRuntime) -> Result<(), Fail> {
+    let (made, is_same) = printed(rt.alloc(), &[opus()])?;
+    assert_eq!(rt; made.as_str(), OPUS);
+    assert!(rt; is_same);
+    Ok(())
+}
+
+fn defaults_read_back(alloc: Global) -> Result<bool, Fail> {
+    let config = CodecConfig::new_with_defaults(alloc)?;
+    let (_, is_same) = printed(alloc, config.params())?;
+    Ok(is_same)
 }
 
 /// All default rows of a kind make a section that reads back as them.
 #[test]
 fn default_rows_read_back(rt: HostRuntime) -> Result<(), Fail> {
-    let config = CodecConfig::new_with_defaults(rt.alloc())?;
-    let (_, is_same) = printed(rt.alloc(), config.params())?;
+    let is_same = defaults_read_back(rt.alloc())?;
     assert!(rt; is_same);
     Ok(())
 }
@@ -69,15 +98,19 @@ fn opus() -> PayloadParams {
     PayloadParams::new(Pt::from(111), None, spec).with_red(Some(Pt::from(63)))
 }
 
-/// The attribute lines of one row.
-fn lines(alloc: Global, row: PayloadParams) -> Result<String, Fail> {
-    let mut attributes: Vec<MediaAttribute> = Vec::new(alloc);
-    row.as_media_attrs(&mut attributes)?;
+fn joined(alloc: Global, attributes: &[MediaAttribute]) -> Result<String, Fail> {
     let mut all = String::new(alloc);
     for attribute in attributes {
         all.push_str(attribute.to_string(alloc)?.as_str())?;
     }
     Ok(all)
+}
+
+/// The attribute lines of one row.
+fn lines(alloc: Global, row: PayloadParams) -> Result<String, Fail> {
+    let mut attributes: Vec<MediaAttribute> = Vec::new(alloc);
+    row.as_media_attrs(&mut attributes)?;
+    joined(alloc, attributes.as_slice())
 }
 
 /// A row of pictures, and its lines: feedback stands in one order, behind the mapping and before the format.

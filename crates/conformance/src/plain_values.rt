@@ -36,34 +36,81 @@ fn relayed(alloc: Global) -> Result<Candidate, AllocError> {
     ))
 }
 
+/// Whether the candidate is the one that is read of its text.
+fn is_read(alloc: Global, made: &Candidate) -> Result<bool, Fail> {
+    let read = candidate(alloc, RELAYED)?.ok_or("a candidate")?;
+    Ok(*made == read)
+}
+
+/// The same of the candidate made of its parts.
+fn relayed_is_read(alloc: Global) -> Result<bool, Fail> {
+    let made = relayed(alloc)?;
+    is_read(alloc, &made)
+}
+
 #[test]
 fn a_candidate_of_its_parts_is_the_one_that_is_read(rt: HostRuntime) -> Result<(), Fail> {
-    let made = relayed(rt.alloc())?;
-    let read = candidate(rt.alloc(), RELAYED)?.ok_or("a candidate")?;
-    assert!(rt; made == read);
-    assert!(rt; made.clone()? == made);
+    let is_read = relayed_is_read(rt.alloc())?;
+    assert!(rt; is_read);
+    Ok(())
+}
+
+fn relayed_is_copied(alloc: Global) -> Result<bool, AllocError> {
+    let made = relayed(alloc)?;
+    Ok(made.clone()? == made)
+}
+
+#[test]
+fn a_copy_of_a_candidate_equals_it(rt: HostRuntime) -> Result<(), Fail> {
+    let is_same = relayed_is_copied(rt.alloc())?;
+    assert!(rt; is_same);
+    Ok(())
+}
+
+fn relayed_line(alloc: Global) -> Result<String, AllocError> {
+    relayed(alloc)?.to_sdp_string(alloc)
+}
+
+fn relayed_text(alloc: Global) -> Result<String, AllocError> {
+    relayed(alloc)?.to_string(alloc)
+}
+
+#[test]
+fn every_part_of_a_candidate_is_in_its_line(rt: HostRuntime) -> Result<(), Fail> {
+    let line = relayed_line(rt.alloc())?;
+    assert_eq!(rt; line.as_str(), RELAYED);
     Ok(())
 }
 
 #[test]
 fn every_part_of_a_candidate_is_printed(rt: HostRuntime) -> Result<(), Fail> {
-    let made = relayed(rt.alloc())?;
-    let line = made.to_sdp_string(rt.alloc())?;
-    assert_eq!(rt; line.as_str(), RELAYED);
-    let text = made.to_string(rt.alloc())?;
+    let text = relayed_text(rt.alloc())?;
     assert_eq!(rt; text.as_str(), RELAYED);
     Ok(())
 }
 
+fn creds(alloc: Global) -> Result<IceCreds, AllocError> {
+    Ok(IceCreds {
+        ufrag: Text::from_str(alloc, "u")?,
+        pass: Text::from_str(alloc, "p")?,
+    })
+}
+
+/// Whether a copy equals its source, and has its password.
+fn are_copied(creds: &IceCreds) -> Result<(bool, bool), AllocError> {
+    let copy = creds.clone()?;
+    Ok((copy == *creds, copy.pass.as_str() == "p"))
+}
+
+fn creds_are_copied(alloc: Global) -> Result<(bool, bool), AllocError> {
+    let creds = creds(alloc)?;
+    are_copied(&creds)
+}
+
 #[test]
 fn a_copy_of_credentials_equals_them(rt: HostRuntime) -> Result<(), Fail> {
-    let creds = IceCreds {
-        ufrag: Text::from_str(rt.alloc(), "u")?,
-        pass: Text::from_str(rt.alloc(), "p")?,
-    };
-    let copy = creds.clone()?;
-    assert!(rt; copy == creds);
-    assert_eq!(rt; copy.pass.as_str(), "p");
+    let found = creds_are_copied(rt.alloc())?;
+    assert_eq!(rt; found, (true, true));
     Ok(())
 }
 
@@ -74,33 +121,56 @@ fn fingerprint(alloc: Global, bytes: [u8; 3]) -> Result<Fingerprint, Fail> {
     })
 }
 
+/// Whether the fingerprint equals the one of these bytes.
+fn has_bytes(alloc: Global, read: &Fingerprint, bytes: [u8; 3]) -> Result<bool, Fail> {
+    Ok(*read == fingerprint(alloc, bytes)?)
+}
+
+/// Whether a fingerprint equals that of its bytes, that of others, and its copy.
+fn equal_fingerprints(alloc: Global) -> Result<[bool; 3], Fail> {
+    let read = Fingerprint::from_str(alloc, "foo 09:0A:11")?;
+    let is_of_its_bytes = has_bytes(alloc, &read, [9, 10, 17])?;
+    let is_of_others = has_bytes(alloc, &read, [9, 10, 18])?;
+    Ok([is_of_its_bytes, is_of_others, read.clone()? == read])
+}
+
 #[test]
 fn fingerprints_are_equal_by_their_parts(rt: HostRuntime) -> Result<(), Fail> {
-    let read = Fingerprint::from_str(rt.alloc(), "foo 09:0A:11")?;
-    assert!(rt; read == fingerprint(rt.alloc(), [9, 10, 17])?);
-    assert!(rt; read != fingerprint(rt.alloc(), [9, 10, 18])?);
-    assert!(rt; read.clone()? == read);
+    let found = equal_fingerprints(rt.alloc())?;
+    assert_eq!(rt; found, [true, false, true]);
     Ok(())
 }
 
 /// No text is read as a fingerprint of no bytes.
+fn bare(alloc: Global) -> Result<Fingerprint, AllocError> {
+    Ok(Fingerprint {
+        hash_func: Text::from_str(alloc, "foo")?,
+        bytes: Items::empty(alloc),
+    })
+}
+
+fn bare_text(alloc: Global) -> Result<String, AllocError> {
+    bare(alloc)?.to_string(alloc)
+}
+
 #[test]
 fn a_fingerprint_of_no_bytes_prints_its_name(rt: HostRuntime) -> Result<(), Fail> {
-    let bare = Fingerprint {
-        hash_func: Text::from_str(rt.alloc(), "foo")?,
-        bytes: Items::empty(rt.alloc()),
-    };
-    let text = bare.to_string(rt.alloc())?;
+    let text = bare_text(rt.alloc())?;
     assert_eq!(rt; text.as_str(), "foo ");
     Ok(())
 }
 
+fn bytes_text(alloc: Global, bytes: &[u8]) -> Result<String, AllocError> {
+    FingerprintFmt(bytes).to_string(alloc)
+}
+
 #[test]
 fn bytes_are_printed_without_a_name(rt: HostRuntime) -> Result<(), Fail> {
-    let text = FingerprintFmt(&[]).to_string(rt.alloc())?;
-    assert_eq!(rt; text.as_str(), "");
-    let text = FingerprintFmt(&[0, 255]).to_string(rt.alloc())?;
-    assert_eq!(rt; text.as_str(), "00:FF");
+    let none: &[u8] = &[];
+    for (bytes, answer) in [(none, ""), (&[0, 255], "00:FF")] {
+        let text = bytes_text(rt.alloc(), bytes)?;
+        assert_eq!(rt; text.as_str(), answer);
+    }
     Ok(())
 }
 
@@ -118,13 +188,25 @@ fn names_are_equal_by_what_they_keep(rt: HostRuntime) {
     assert!(rt; Rid::from("hi") == Rid::from("hi"));
 }
 
+const URI: &str = "urn:ietf:params:rtp-hdrext:sdes:mid";
+
+/// Whether the extension is one of one's own with that URI, listed or not.
+fn is_own(alloc: Global, read: &Extension, serialized: bool) -> Result<bool, AllocError> {
+    Ok(*read == Extension::new(alloc, URI, serialized)?)
+}
+
+/// Whether an extension that was read equals its copy, one that isn't listed, and one that is.
+fn equal_extensions(alloc: Global) -> Result<[bool; 3], AllocError> {
+    let read = Extension::from_sdp_uri(alloc, URI)?;
+    let is_unlisted = is_own(alloc, &read, false)?;
+    let is_listed = is_own(alloc, &read, true)?;
+    Ok([read.clone()? == read, is_unlisted, is_listed])
+}
+
 #[test]
 fn an_extension_of_ones_own_is_another(rt: HostRuntime) -> Result<(), Fail> {
-    let uri = "urn:ietf:params:rtp-hdrext:sdes:mid";
-    let read = Extension::from_sdp_uri(rt.alloc(), uri)?;
-    assert!(rt; read.clone()? == read);
-    assert!(rt; read != Extension::new(rt.alloc(), uri, false)?);
-    assert!(rt; read == Extension::new(rt.alloc(), uri, true)?);
+    let found = equal_extensions(rt.alloc())?;
+    assert_eq!(rt; found, [true, false, true]);
     Ok(())
 }
 

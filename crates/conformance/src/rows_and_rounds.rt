@@ -93,12 +93,17 @@ fn doubled(alloc: Global) -> Result<CodecConfig, AllocError> {
     let rows = Vec::from_slice(alloc, &[h264(), vp8(110, Some(111))])?;
     let mut config = CodecConfig::new_from_payload_params(rows);
     let _ = round(alloc, &mut config, &[h264()], Direction::RecvOnly)?;
-    let locked = config.params().first().copied();
-    match (locked, config.last_mut()) {
-        (Some(locked), Some(last)) => *last = locked,
+    double(&mut config);
+    Ok(config)
+}
+
+/// Puts the first row in the place of the last.
+fn double(config: &mut CodecConfig) {
+    let first = config.params().first().copied();
+    match (first, config.last_mut()) {
+        (Some(first), Some(last)) => *last = first,
         _ => {}
     }
-    Ok(config)
 }
 
 /// Whether the row is locked at 96 with its RTX at 97 and without RED.
@@ -109,14 +114,19 @@ fn is_as_it_was_locked(row: &PayloadParams) -> bool {
         && row.red().is_none()
 }
 
+/// What a round without rows answers there, how many rows it leaves, and whether they are as they were locked.
+fn round_of_doubled(alloc: Global) -> Result<(String, usize, bool), AllocError> {
+    let mut config = doubled(alloc)?;
+    let found = round(alloc, &mut config, &[], Direction::Inactive)?;
+    let same = config.params().iter().all(|row| is_as_it_was_locked(row));
+    Ok((found, config.len(), same))
+}
+
 #[test]
 fn a_locked_type_that_stands_twice_refuses_every_round(rt: HostRuntime) -> Result<(), Fail> {
-    let mut config = doubled(rt.alloc())?;
-    let found = round(rt.alloc(), &mut config, &[], Direction::Inactive)?;
+    let (found, count, same) = round_of_doubled(rt.alloc())?;
     assert_eq!(rt; found.as_str(), "payload type 96 is claimed twice");
-    assert_eq!(rt; config.len(), 2);
-    let same = config.params().iter().all(|row| is_as_it_was_locked(row));
-    assert!(rt; same);
+    assert_eq!(rt; (count, same), (2, true));
     Ok(())
 }
 
@@ -143,13 +153,22 @@ fn crowded(
     remote: PayloadParams,
     direction: Direction,
 ) -> Result<(String, bool), AllocError> {
-    let mut rows = vp8_everywhere(alloc)?;
-    rows.extend_from_slice(more)?;
-    let mut config = CodecConfig::new_from_payload_params(rows);
+    let mut config = everywhere_and(alloc, more)?;
     let before = config.clone()?;
     let text = round(alloc, &mut config, &[remote], direction)?;
+    Ok((text, is_open_as(&config, &before)))
+}
+
+fn everywhere_and(alloc: Global, more: &[PayloadParams]) -> Result<CodecConfig, AllocError> {
+    let mut rows = vp8_everywhere(alloc)?;
+    rows.extend_from_slice(more)?;
+    Ok(CodecConfig::new_from_payload_params(rows))
+}
+
+/// Whether every row is open, and as it was before.
+fn is_open_as(config: &CodecConfig, before: &CodecConfig) -> bool {
     let is_open = config.params().iter().all(|row| !row.locked());
-    Ok((text, is_open && config.params() == before.params()))
+    is_open && config.params() == before.params()
 }
 
 #[test]
@@ -160,11 +179,14 @@ fn a_crowded_configuration_is_exhausted_and_unchanged(rt: HostRuntime) -> Result
     Ok(())
 }
 
+fn crowded_by_opus(alloc: Global) -> Result<(String, bool), AllocError> {
+    let more = [opus((0, None, None))];
+    crowded(alloc, &more, opus((100, None, None)), Direction::RecvOnly)
+}
+
 #[test]
 fn a_row_that_stays_open_may_find_no_type(rt: HostRuntime) -> Result<(), Fail> {
-    let more = [opus((0, None, None))];
-    let remote = opus((100, None, None));
-    let (text, same) = crowded(rt.alloc(), &more, remote, Direction::RecvOnly)?;
+    let (text, same) = crowded_by_opus(rt.alloc())?;
     assert_eq!(rt; text.as_str(), "payload type ranges exhausted");
     assert!(rt; same);
     Ok(())
@@ -180,16 +202,27 @@ fn red_without_room(alloc: Global) -> Result<CodecConfig, AllocError> {
     Ok(CodecConfig::new_from_payload_params(rows))
 }
 
+/// What a round with a RED answers there, and the first row then.
+fn round_without_room(alloc: Global) -> Result<(String, Option<PayloadParams>), AllocError> {
+    let mut config = red_without_room(alloc)?;
+    let remote = opus((35, None, Some(35)));
+    let found = round(alloc, &mut config, &[remote], Direction::SendOnly)?;
+    Ok((found, config.params().first().copied()))
+}
+
+/// Whether the row is locked, its type, and whether it has no RED.
+fn first_state(first: Option<PayloadParams>) -> Option<(bool, u8, bool)> {
+    match first {
+        Some(row) => Some((row.locked(), row.pt().value(), row.red().is_none())),
+        None => None,
+    }
+}
+
 #[test]
 fn a_red_without_room_is_dropped(rt: HostRuntime) -> Result<(), Fail> {
-    let mut config = red_without_room(rt.alloc())?;
-    let remote = opus((35, None, Some(35)));
-    let found = round(rt.alloc(), &mut config, &[remote], Direction::SendOnly)?;
+    let (found, first) = round_without_room(rt.alloc())?;
     assert_eq!(rt; found.as_str(), "ok");
-    let first = config.params().first().copied().ok_or("a row")?;
-    assert!(rt; first.locked());
-    assert_eq!(rt; first.pt().value(), 35);
-    assert!(rt; first.red().is_none());
+    assert_eq!(rt; first_state(first), Some((true, 35, true)));
     Ok(())
 }
 
@@ -204,21 +237,31 @@ fn many(alloc: Global, count: usize, codec: Codec) -> Result<Vec<PayloadParams>,
     Ok(rows)
 }
 
+/// 500 rows behind a round with 500, of which the last ones match, and what it answered.
+fn met(alloc: Global) -> Result<(String, CodecConfig), AllocError> {
+    let remote = many(alloc, 499, Codec::PCMA)?;
+    let mut config = CodecConfig::new_from_payload_params(many(alloc, 499, Codec::PCMU)?);
+    let found = round(alloc, &mut config, remote.as_slice(), Direction::RecvOnly)?;
+    Ok((found, config))
+}
+
+/// How many rows are locked, and whether the last is.
+fn locked(config: &CodecConfig) -> (usize, bool) {
+    let count = config.params().iter().filter(|row| row.locked()).count();
+    let last = config.params().last().is_some_and(|row| row.locked());
+    (count, last)
+}
+
+fn met_state(alloc: Global) -> Result<(String, (usize, bool)), AllocError> {
+    let (found, config) = met(alloc)?;
+    Ok((found, locked(&config)))
+}
+
 /// A round has no limit but memory: 500 rows on both sides, of which the last ones match.
 #[test]
 fn five_hundred_rows_meet_five_hundred(rt: HostRuntime) -> Result<(), Fail> {
-    let own = many(rt.alloc(), 499, Codec::PCMU)?;
-    let remote = many(rt.alloc(), 499, Codec::PCMA)?;
-    let mut config = CodecConfig::new_from_payload_params(own);
-    let found = round(
-        rt.alloc(),
-        &mut config,
-        remote.as_slice(),
-        Direction::RecvOnly,
-    )?;
+    let (found, state) = met_state(rt.alloc())?;
     assert_eq!(rt; found.as_str(), "ok");
-    let locked = config.params().iter().filter(|row| row.locked()).count();
-    assert_eq!(rt; locked, 1);
-    assert!(rt; config.params().last().is_some_and(|row| row.locked()));
+    assert_eq!(rt; state, (1, true));
     Ok(())
 }

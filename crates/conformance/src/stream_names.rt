@@ -4,6 +4,7 @@ ghost use Rattle.rand_core.specs.Steps.{stream_of, steps_u32};
 
 use rand_core::utils::NextWord;
 use rand_core::{Rng, utils};
+use std::alloc::{AllocError, Global};
 use std::marker::Model;
 use std::test::Fail;
 use str0m_signal::Msid;
@@ -44,16 +45,35 @@ impl Rng for Counter {
     }
 }
 
+/// Both names that a counter draws from a number on, and the number that it would give next.
+fn drawn(alloc: Global, first: u32) -> Result<String, AllocError> {
+    let mut counter = Counter(first);
+    let msid = Msid::random(alloc, &mut counter)?;
+    let next = counter.next_u32();
+    shown(alloc, &msid, next)
+}
+
+fn shown(alloc: Global, msid: &Msid, next: u32) -> Result<String, AllocError> {
+    let stream = &msid.stream_id;
+    let track = &msid.track_id;
+    format!(in alloc; "{stream} {track} {next}")
+}
+
 /// Each letter is the next word modulo 62, in digits, capitals and small letters.
 #[test]
 fn random_names_spell_the_words_of_the_generator(rt: HostRuntime) -> Result<(), Fail> {
-    let mut counter = Counter(0);
-    let msid = Msid::random(rt.alloc(), &mut counter)?;
-    assert_eq!(rt; msid.stream_id.as_str(), "0123456789ABCDEFGHIJKLMNOPQRST");
-    assert_eq!(rt; msid.track_id.as_str(), "UVWXYZabcdefghijklmnopqrstuvwx");
-    assert_eq!(rt; counter.next_u32(), 60);
-    let mut counter = Counter(58);
-    let msid = Msid::random(rt.alloc(), &mut counter)?;
-    assert_eq!(rt; msid.stream_id.as_str(), "wxyz0123456789ABCDEFGHIJKLMNOP");
+    for (first, answer) in [
+        (
+            0,
+            "0123456789ABCDEFGHIJKLMNOPQRST UVWXYZabcdefghijklmnopqrstuvwx 60",
+        ),
+        (
+            58,
+            "wxyz0123456789ABCDEFGHIJKLMNOP QRSTUVWXYZabcdefghijklmnopqrst 118",
+        ),
+    ] {
+        let names = drawn(rt.alloc(), first)?;
+        assert_eq!(rt; names.as_str(), answer);
+    }
     Ok(())
 }
