@@ -6,6 +6,7 @@ import proved
 
 CRATES = proved.TOP / "crates"
 FUNCTION = re.compile(r"(?P<indent>\s*)(?:pub(?:\([^)]*\))? )?(?:const )?fn (?P<name>\w+)")
+TABLE = re.compile(r"^ *(?:pub(?:\([^)]*\))? )?const (?P<name>\w+):.*?;$", re.M | re.S)
 BLOCK = re.compile(r"(?:impl(?:<.*?>)? (?:(?P<trait>.+?) for )?(?P<type>.+?)|.*\btrait (?P<decl>\w+).*?)(?: where .*)?\{")
 
 
@@ -58,12 +59,28 @@ def changed(texts, changes):
     return texts
 
 
+def readers_of(path, table, texts, homes):
+    """The functions in whose bodies the table stands, or None where it may count elsewhere too, as in a clause."""
+    word, found = re.compile(rf"\b{table['name']}\b"), set()
+    early = {name for text in texts.values() for name in re.findall(r"\bconst fn (\w+)", text)}
+    for file, text in texts.items():
+        own = table.span() if file == path else (0, 0)
+        for it in word.finditer(text):
+            if not own[0] <= it.start() < own[1]:
+                found.add(function_at(file, text, it.start(), homes) if file.startswith("src/") else None)
+    # (by a const function another table can be made of this one)
+    return None if None in found or early & {it.rpartition("::")[2] for it in found} else found
+
+
 class Edit:
-    """What it changes (file, old text, new text), the functions that it turns, and whether it turns more than bodies."""
+    """What it changes (file, old text, new text), the functions that it turns or names, and whether it turns more than bodies.
+
+    The functions that can fall by it are its reach: no others than these where it turns bodies, and those that read a table
+    where it turns that. It is None where nothing bounds it."""
 
     def __init__(self, path, texts, homes):
         self.name, self.changes, self.functions = str(path.relative_to(CRATES)), [], set()
-        said, turned = {}, set()
+        said, turned, readers = {}, set(), []
         for line in path.read_text("utf-8").split("\n"):
             word, _, said[word] = line.partition(":")
             if word == "falls":
@@ -71,9 +88,16 @@ class Edit:
             elif word == "new":
                 file, old, new = said["file"].strip(), said["old"].removeprefix(" "), said["new"].removeprefix(" ")
                 before, texts = texts, changed(texts, [(file, old, new)])
-                turned.add(function_at(file, before[file], before[file].index(old), homes))
+                at = before[file].index(old)
+                turned.add(function_at(file, before[file], at, homes))
+                table = next((it for it in TABLE.finditer(before[file]) if it.start() <= at and at + len(old) <= it.end()), None)
+                readers.append(table and readers_of(file, table, before, homes))
                 self.changes.append((file, old, new))
         self.is_wide = None in turned or bool(self.functions)
         self.functions = self.functions or turned - {None}
+        self.reach = self.functions
+        if self.is_wide:
+            is_table = turned == {None} and None not in readers and self.functions <= set().union(*readers)
+            self.reach = set().union(*readers) if is_table else None
         if not self.functions:
             raise ValueError("it turns no body: name the function that must fall by a line 'falls: MODULE::FUNCTION'")

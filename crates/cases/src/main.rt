@@ -20,6 +20,7 @@ mod said_sources;
 mod section_shown;
 mod sections;
 mod spoken;
+mod writable;
 
 use crate::escapes::{indented, unescaped};
 use std::alloc::{AllocError, Global};

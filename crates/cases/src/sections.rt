@@ -2,7 +2,7 @@
 
 use crate::{
     fmtp_lines, made_sections, said_by_sections, said_by_sessions, said_roles, said_rows,
-    said_sources,
+    said_sources, writable,
 };
 use std::alloc::{AllocError, Global};
 use str0m_signal::SdpError;
@@ -33,6 +33,9 @@ fn said(alloc: Global, word: &str, text: &str) -> Result<Option<String>, SdpErro
         return Ok(Some(answer));
     }
     if let Some(answer) = fmtp_lines::answer(alloc, word, text)? {
+        return Ok(Some(answer));
+    }
+    if let Some(answer) = writable::answer(alloc, word, text)? {
         return Ok(Some(answer));
     }
     made_sections::answer(alloc, word, text)

@@ -1,5 +1,6 @@
 //! Tests of what no text makes, or no line shows: copies and equality, sections that are changed after
-//! they were read, and attributes that print nothing. Texts with their answers stand in `cases/`.
+//! they were read, attributes that print nothing, and rounds that a text doesn't run. Texts with their
+//! answers stand in `cases/`.
 #![tactic(auto)]
 
 #[cfg(test)]
@@ -8,6 +9,8 @@ mod consistency;
 mod descriptions;
 #[cfg(test)]
 mod made_rows;
+#[cfg(test)]
+mod negotiation;
 #[cfg(test)]
 mod offers;
 #[cfg(test)]

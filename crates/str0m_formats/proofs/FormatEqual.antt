@@ -33,7 +33,7 @@ pub ◌and◌ : {s t : Bool} {P Q : Type 0} → Decides s P → Decides t Q → 
 p and q = Decides-and _ _ p q
 
 -- `==` on options decides equality where `==` on what they hold does
-option_Decides : {T : Type 0} (E : T → T → Bool) → ((x y : T) → Decides (E x y) (x ≡ y)) → (a b : Option T) → Decides (option_eq E a b) (a ≡ b)
+pub option_Decides : {T : Type 0} (E : T → T → Bool) → ((x y : T) → Decides (E x y) (x ≡ y)) → (a b : Option T) → Decides (option_eq E a b) (a ≡ b)
 option_Decides E each None None = (λ _. refl, λ _. refl)
 option_Decides E each None (Some y) = (λ h. cc, λ h. cc)
 option_Decides E each (Some x) None = (λ h. cc, λ h. cc)
@@ -46,10 +46,10 @@ flags : (a b : Option Bool) → Decides (option_eq beq a b) (a ≡ b)
 flags = option_Decides beq booleans_Decides
 
 -- and so does that of an enum without fields
-bare_Decides : (D : Declared) → Bare D.parts → (a b : D.D) → Decides (sameb D a b) (a ≡ b)
+pub bare_Decides : (D : Declared) → Bare D.parts → (a b : D.D) → Decides (sameb D a b) (a ≡ b)
 bare_Decides D bare a b = (same_true D bare a b, true_same D a b)
 
-h265_Decides : (a b : H265ProfileTierLevel) → Decides (h265.eq-value.it a b) (a ≡ b)
+pub h265_Decides : (a b : H265ProfileTierLevel) → Decides (h265.eq-value.it a b) (a ≡ b)
 h265_Decides a b =
     Decides-like _ (λ e i. record { profile = e.0 i; tier = e.1.0 i; level = e.1.1 i })
     (λ e. (λ i. (e i).profile) ⊗ (λ i. (e i).tier) ⊗ (λ i. (e i).level))
@@ -60,7 +60,7 @@ h265_Decides a b =
 h265_triples : (a b : Option H265ProfileTierLevel) → Decides (option_eq (λ x y. h265.eq-value.it x y) a b) (a ≡ b)
 h265_triples = option_Decides _ h265_Decides
 
-h266_Decides : (a b : H266ProfileTierLevel) → Decides (h266.eq-value.it a b) (a ≡ b)
+pub h266_Decides : (a b : H266ProfileTierLevel) → Decides (h266.eq-value.it a b) (a ≡ b)
 h266_Decides a b =
     Decides-like _ (λ e i. record { profile = e.0 i; tier = e.1.0 i; level = e.1.1 i })
     (λ e. (λ i. (e i).profile) ⊗ (λ i. (e i).tier) ⊗ (λ i. (e i).level))

@@ -6,6 +6,7 @@ pub mod Lookup
 pub mod Modes
 pub mod Only
 pub mod PairsLaws
+pub mod ParamEqual
 pub mod ParamLaws
 pub mod ParamReadingLaws
 pub mod Plain

@@ -1,3 +1,5 @@
+pub mod AlikeLaws
+pub mod AttributeEqual
 pub mod CandidateEqual
 pub mod CompanionLaws
 pub mod Copies

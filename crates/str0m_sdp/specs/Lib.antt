@@ -1,3 +1,4 @@
+pub mod Alike
 pub mod Attribute
 pub mod Bandwidth
 pub mod Candidates

@@ -14,14 +14,14 @@ pub(crate) struct FmtpLine<'a> {
     pub(crate) values: &'a [FormatParam],
 }
 
-fn is_shown(value: FormatParam) -> bool
+pub(crate) fn is_shown(value: FormatParam) -> bool
     ensures { result ≡ is_shown value }
 {
     !matches!(value, FormatParam::Unknown | FormatParam::AmrWbUnsupported)
 }
 
 /// The first value that is shown, and those behind it.
-fn first_shown(values: &[FormatParam]) -> Option<(FormatParam, &[FormatParam])>
+pub(crate) fn first_shown(values: &[FormatParam]) -> Option<(FormatParam, &[FormatParam])>
     ensures { MatchOption result
         (filter is_shown values.now ≡ [])
         (λ found. filter is_shown values.now ≡ found.0 ∷ filter is_shown found.1.now) }

@@ -2,6 +2,7 @@
 //! consistent, and how each item prints.
 #![tactic(auto)]
 
+mod alike;
 mod attribute;
 mod bandwidth;
 mod candidates;

@@ -37,14 +37,19 @@ fn push_types(pts: &mut Vec<Pt>, row: &PayloadParams) -> Result<(), AllocError>
     Ok(())
 }
 
-/// Whether the line describes a payload type.
-fn is_of_type(attr: &MediaAttribute) -> bool
-    ensures { result ≡ is_of_type attr.now }
-{
-    matches!(
-        attr,
-        MediaAttribute::RtpMap { .. } | MediaAttribute::RtcpFb { .. } | MediaAttribute::Fmtp { .. }
-    )
+impl MediaAttribute {
+    /// Whether the attribute describes a payload type: an rtpmap, rtcp-fb or fmtp line (RFC 8866,
+    /// section 6.6; RFC 4585, section 4.2; RFC 8866, section 6.15).
+    pub fn is_of_type(&self) -> bool
+        ensures { result ≡ is_of_type self.now }
+    {
+        matches!(
+            self,
+            MediaAttribute::RtpMap { .. }
+                | MediaAttribute::RtcpFb { .. }
+                | MediaAttribute::Fmtp { .. }
+        )
+    }
 }
 
 /// Copies of the lines that describe no payload type.
@@ -53,7 +58,7 @@ fn kept(alloc: Global, attrs: &[MediaAttribute]) -> Result<Vec<MediaAttribute>, 
 {
     let mut kept = Vec::new(alloc);
     for attr in attrs {
-        if !is_of_type(attr) {
+        if !attr.is_of_type() {
             kept.push(attr.clone()?)?;
         }
     }

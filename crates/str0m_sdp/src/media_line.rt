@@ -1,6 +1,7 @@
 //! The sections of a session description.
 ghost use Rattle.std.specs.Prelude.{◌≡◌, IfOk, Some, refl};
-ghost use Rattle.str0m_sdp.specs.MediaLine.{formats_text, media_line_text};
+ghost use Rattle.std.specs.String.{string_bytes};
+ghost use Rattle.str0m_sdp.specs.MediaLine.{formats_text, m_line, media_line_text};
 
 use crate::attribute::MediaAttribute;
 use crate::bandwidth::{Bandwidth, BandwidthLine};
@@ -36,6 +37,14 @@ impl MediaLine {
     {
         Clone::clone(self)
     }
+
+    /// The m-line that the section prints, with its end. The only error is that memory was refused.
+    pub fn m_line(&self) -> Result<String, AllocError>
+        ensures { IfOk result (λ text. string_bytes text ≡ m_line self.now) }
+    {
+        let head = HeadLine(self);
+        head.to_string(*self.attrs.0.allocator())
+    }
 }
 
 /// The formats of an m-line: `webrtc-datachannel` for an application section, else the payload
@@ -65,19 +74,32 @@ impl<'a> fmt::Display for Formats<'a> {
     }
 }
 
+/// The m-line of a section, with its end.
+#[derive(Drop)]
+struct HeadLine<'a>(&'a MediaLine);
+
+impl<'a> fmt::Display for HeadLine<'a> {
+    ghost output = { λ head. Some (m_line head.0.now) };
+
+    fn fmt<W: fmt::Write>(&self, f: &mut fmt::Formatter<W>) -> fmt::Result {
+        let section = self.0;
+        let (typ, proto) = (&section.typ, section.proto);
+        let port = if section.disabled { "0" } else { "9" };
+        let pts = section.pts.as_slice();
+        let formats = Formats { typ, pts };
+        write!(f, "m={typ} {port} {proto} {formats}\r\n")
+    }
+}
+
 /// The lines of the section: `m=`, `c=`, its bandwidth and its attributes.
 impl fmt::Display for MediaLine {
     ghost output = { λ line. Some (media_line_text line) };
 
     fn fmt<W: fmt::Write>(&self, f: &mut fmt::Formatter<W>) -> fmt::Result {
-        let (typ, proto) = (&self.typ, self.proto);
-        let port = if self.disabled { "0" } else { "9" };
-        let pts = self.pts.as_slice();
-        let formats = Formats { typ, pts };
-        write!(f, "m={typ} {port} {proto} {formats}\r\n")?;
+        let head = HeadLine(self);
         let bw = BandwidthLine(&self.bw);
         let attrs = Each(self.attrs.as_slice());
-        write!(f, "c=IN IP4 0.0.0.0\r\n{bw}{attrs}")
+        write!(f, "{head}c=IN IP4 0.0.0.0\r\n{bw}{attrs}")
     }
 }
 

@@ -12,6 +12,7 @@ pub mod MediaLaws
 pub mod NegotiationLaws
 pub mod PairLaws
 pub mod PartLaws
+pub mod ReadBackLaws
 pub mod ReadingLaws
 pub mod RidLaws
 pub mod RtpMapLaws
@@ -19,3 +20,4 @@ pub mod SectionLaws
 pub mod SessionLaws
 pub mod SimulcastLaws
 pub mod WordsLaws
+pub mod WritableLaws

@@ -1,7 +1,18 @@
 -- Rounds of sections, one after another.
-use Rattle.std.proofs.Common.{◌≡◌, ◌<◌, ◌+◌, ◌++◌, ℕ, List, Option, Some, None, Result, Ok, Err, IfOk, OnErr, length, take, get_or, map, filter_map, option_map, option_to_list, refl, sym, ap, subst, ◌∙◌}
+use Rattle.std.proofs.Common.{◌≡◌, ◌<◌, ◌+◌, ◌++◌, ℕ, Bool, true, false, cond, List, [], ◌∷◌, Option, Some, None, Result, Ok, Err, All, IfOk, IfSome, OnErr, length, take, get_or, map, filter_map, option_map, option_to_list, refl, sym, ap, subst, ◌∙◌}
 use Rattle.std.proofs.lemmas.List.{map-append}
-use Rattle.str0m_sdp.proofs.FilterMapLaws.{map_more}
+use Rattle.std.proofs.lemmas.List.Elements.{All-nil, All-cons, All-head, All-tail}
+use Rattle.str0m_formats.specs.Bounds.{IsBounded}
+use Rattle.str0m_formats.specs.declared.payload_params.PayloadParams.{PayloadParams}
+use Rattle.str0m_formats.specs.declared.rounds.Round.{Round}
+use Rattle.str0m_sdp.proofs.FilterMapLaws.{all_mapped, map_more}
+use Rattle.str0m_sdp.specs.MediaType.{is_media}
+use Rattle.str0m_sdp.specs.RowBounds.{HasBoundedRows}
+use Rattle.str0m_sdp.specs.SectionDirection.{section_direction}
+use Rattle.str0m_sdp.specs.SectionRows.{rows}
+use Rattle.str0m_sdp.specs.declared.media_line.MediaLine.{MediaLine}
+use Rattle.str0m_signal.specs.Negotiation.{AreRoundsOf, brought, brought_by}
+use Rattle.str0m_values.specs.declared.direction.Direction.{Direction}
 
 map_found : {Y Z : Type 0} (g : Y → Z) (found : Option Y) → map g (option_to_list found) ≡ option_to_list (option_map g found)
 map_found g None = refl
@@ -23,3 +34,25 @@ pub kept_or_same : {A E S : Type 0} (P : S → Type 0) (Q : A → Type 0) (resul
     → ((answer : A) → Q answer → P old → P new) → IfOk result Q → OnErr result (new ≡ old) → P old → P new
 kept_or_same P Q (Ok answer) old new keeps ok err before = keeps answer ok before
 kept_or_same P Q (Err error) old new keeps ok err before = subst P (sym err) before
+
+-- ---- what the rounds of sections bring
+
+-- the rows that are brought keep to their ranges
+abbrev BringsBounded : List PayloadParams × Direction → Type 0
+BringsBounded (remote, direction) = All IsBounded remote
+
+when_media : (b : Bool) (m : MediaLine) → HasBoundedRows m → IfSome (cond b (Some (rows m, section_direction m.attrs)) None) BringsBounded
+when_media true m bounded = bounded
+when_media false m bounded = tt
+
+-- what holds of all images holds of the image of each
+of_images : {X Y : Type 0} (P : Y → Type 0) (f : X → Y) (xs : List X) → All P (map f xs) → All (λ x. P (f x)) xs
+of_images P f [] all = All-nil (λ x. P (f x))
+of_images P f (x ∷ xs) all = All-cons (λ x. P (f x)) x xs (All-head P (f x) (map f xs) all) (of_images P f xs (All-tail P (f x) (map f xs) all))
+
+-- where the rows of each section keep to their ranges, those of each round do
+pub rounds_bounded : (sections : List MediaLine) (rounds : List Round) → AreRoundsOf sections rounds → All HasBoundedRows sections
+    → All (λ round. All IsBounded round.remote.items) rounds
+rounds_bounded sections rounds are bounded =
+    of_images BringsBounded brought rounds
+    (subst (All BringsBounded) (sym are) (all_mapped HasBoundedRows BringsBounded brought_by (λ m. when_media (is_media m.typ) m) sections bounded))

@@ -31,4 +31,5 @@ pub mod SimulcastReading
 pub mod StreamName
 pub mod Words
 pub mod WordsReading
+pub mod Writable
 pub use Rattle.str0m_sdp.specs.Session

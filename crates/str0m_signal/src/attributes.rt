@@ -25,7 +25,7 @@ pub(crate) trait Attribute: Drop {
         ensures { IfOk result (λ found. found ≡ reading text.now) };
 }
 
-fn line<A: Attribute>(alloc: Global, line: &str) -> Result<Option<A>, AllocError>
+pub(crate) fn line<A: Attribute>(alloc: Global, line: &str) -> Result<Option<A>, AllocError>
     ensures { IfOk result (λ found. found ≡ read_attribute A.reading line.now) }
 {
     match strip(line, "a=") {

@@ -13,7 +13,7 @@ use str0m_sdp::Bandwidth;
 use str0m_values::cuts::{cut, strip};
 use str0m_values::{Separator, Text};
 
-fn bandwidth(alloc: Global, line: &str) -> Result<Option<Bandwidth>, AllocError>
+pub(crate) fn bandwidth(alloc: Global, line: &str) -> Result<Option<Bandwidth>, AllocError>
     ensures { IfOk result (λ found. found ≡ bandwidth_read line.now) }
 {
     let Some(body) = strip(line, "b=") else {

@@ -2,6 +2,7 @@
 #![tactic(auto)]
 
 mod attributes;
+mod attributes_back;
 mod bandwidth;
 mod bare_values;
 mod candidate_line;
@@ -18,14 +19,17 @@ mod negotiation;
 mod offer;
 mod pairs;
 mod parts;
+mod read_back;
 mod reader;
 mod rid;
 mod rtp_map;
 mod section;
+mod section_back;
 mod session_attribute;
 mod simulcast;
 mod sources;
 mod words;
+mod writable;
 
 pub use negotiation::negotiate_text;
 pub use offer::{SdpAnswer, SdpOffer};
@@ -48,3 +52,4 @@ pub use str0m_values::{
     IceCreds, IpAddr, Items, MediaKind, Mid, NoProfileLevel, Protocol, Pt, Rid, SessionId,
     SocketAddr, Ssrc, TcpType, Text,
 };
+pub use writable::is_writable;

@@ -1,8 +1,10 @@
 //! Rounds of negotiation over a whole text.
 
-ghost use Rattle.std.specs.Prelude.{◌≡◌, IfErr, IfOk, OnErr, filter_map, map, option_map};
+ghost use Rattle.std.specs.Prelude.{◌≡◌, All, IfErr, IfOk, OnErr, filter_map, map, option_map};
+ghost use Rattle.str0m_formats.specs.PlainRow.{IsPlain};
 ghost use Rattle.str0m_formats.specs.Rows.{types};
 ghost use Rattle.str0m_formats.specs.TypeSets.{AllDistinct};
+ghost use Rattle.str0m_sdp.specs.RowBounds.{HasBoundedRows};
 ghost use Rattle.str0m_signal.specs.Answers.{Refuses};
 ghost use Rattle.str0m_signal.specs.Negotiation.{Negotiated, NegotiatedText, brought, brought_by};
 ghost use Rattle.str0m_signal.specs.Reading.{Described};
@@ -47,6 +49,7 @@ fn negotiate(
     ensures else_same { config.new ≡ record config.old { params = config.new.params } }
     ensures err { OnErr result (config.new ≡ config.old) }
     ensures distinct { AllDistinct (types config.old.params.items) → AllDistinct (types config.new.params.items) }
+    ensures plain { All HasBoundedRows sections.now → All IsPlain config.old.params.items → All IsPlain config.new.params.items }
 {
     let rounds = rounds_of(*config.allocator(), sections)?;
     config.update_all(rounds.as_slice())
@@ -56,6 +59,9 @@ fn negotiate(
 /// order, disabled ones too: against the rows that the section describes, `MediaLine::rtp_params`, and
 /// its direction. Answers the outcome of each round, in order, as `CodecConfig::update_all` does: a
 /// round that is refused names its cause, changes nothing, and the next one runs.
+///
+/// Whatever the text holds, payload types that were distinct stay distinct, and rows that were plain,
+/// `PayloadParams::is_plain`, stay plain.
 ///
 /// # Errors
 ///
@@ -71,8 +77,9 @@ pub fn negotiate_text(
     ensures err { OnErr result (config.new ≡ config.old) }
     ensures else_same { config.new ≡ record config.old { params = config.new.params } }
 
-    // Whatever is answered, payload types that were distinct are distinct.
+    // Whatever is answered, payload types that were distinct are distinct, and rows that were plain are plain.
     ensures distinct { AllDistinct (types config.old.params.items) → AllDistinct (types config.new.params.items) }
+    ensures plain { All IsPlain config.old.params.items → All IsPlain config.new.params.items }
 {
     let sdp = described(*config.allocator(), text)?;
     Ok(negotiate(config, sdp.media_lines.as_slice())?)

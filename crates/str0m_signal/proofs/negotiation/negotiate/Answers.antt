@@ -1,10 +1,18 @@
+use Rattle.std.proofs.Common.{All}
+use Rattle.str0m_formats.specs.PlainRow.{IsPlain}
 use Rattle.str0m_formats.specs.Rows.{types}
 use Rattle.str0m_formats.specs.TypeSets.{AllDistinct}
 use Rattle.str0m_formats.specs.declared.codec_config.CodecConfig.{CodecConfig}
-use Rattle.str0m_signal.proofs.NegotiationLaws.{kept_or_same}
+use Rattle.str0m_signal.proofs.NegotiationLaws.{kept_or_same, rounds_bounded}
 use Rattle.str0m_signal.proofs.negotiation.negotiate.Goals as goal
 
 pub returns-clause-distinct : goal.returns-clause-distinct
 returns-clause-distinct c =
     kept_or_same (λ (config : CodecConfig). AllDistinct (types config.params.items)) _ c.update_all.result c.args.config.now c.update_all.new.self
     (λ outcomes promises. promises.distinct) c.update_all.ensures.promises c.update_all.ensures.err
+
+pub returns-clause-plain : goal.returns-clause-plain
+returns-clause-plain c = λ bounded.
+    kept_or_same (λ (config : CodecConfig). All IsPlain config.params.items) _ c.update_all.result c.args.config.now c.update_all.new.self
+    (λ outcomes promises before. promises.plain before (rw c.as_slice.ensures.value (rounds_bounded c.args.sections.now c.in_ok-rounds.rounds.items c.in_ok-rounds.ensures bounded)))
+    c.update_all.ensures.promises c.update_all.ensures.err

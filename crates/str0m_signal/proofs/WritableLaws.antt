@@ -1,0 +1,187 @@
+-- When a session is writable, by what its parts come back as.
+use native.Mathlib.Omega.{arith}
+use Rattle.std.proofs.Common.{◌≡◌, ◌≢◌, ◌<◌, ◌≤◌, ◌+◌, ℕ, Bool, true, false, not, List, [], length, get_or, Option, Some, None, is_some, IfSome, inl, inr, refl, sym, ap, subst, ◌∙◌, true≢false}
+use Rattle.std.specs.Prelude.{◌↔◌, IsTrue, All}
+use Rattle.std.specs.List.{list_any, slice_get}
+use Rattle.std.proofs.lemmas.Bool.{cases_Bool, cases_lt}
+use Rattle.std.proofs.lemmas.List.Folds.{list_any_at, list_any_none}
+use Rattle.std.proofs.lemmas.List.Elements.{All-nil, All-weaker}
+use Rattle.std.proofs.lemmas.Option.{none-some, same_Some, slice_get_read, slice_get_within}
+use Rattle.str0m_values.specs.Only.{IsTheOnly}
+use Rattle.str0m_sdp.specs.Attribute.{session_attribute_text}
+use Rattle.str0m_sdp.specs.Bandwidth.{bandwidth_text}
+use Rattle.str0m_sdp.specs.Consistency.{AgreesOnApt, Consistent, NoneIff}
+use Rattle.str0m_sdp.specs.SectionOf.{is_of_type}
+use Rattle.str0m_sdp.specs.declared.attribute.MediaAttribute.{MediaAttribute}
+use Rattle.str0m_sdp.specs.declared.attribute.SessionAttribute.{SessionAttribute}
+use Rattle.str0m_sdp.specs.declared.bandwidth.Bandwidth.{Bandwidth}
+use Rattle.str0m_sdp.specs.declared.media_line.MediaLine.{MediaLine}
+use Rattle.str0m_sdp.specs.declared.session.Sdp.{Sdp}
+use Rattle.str0m_sdp.specs.declared.proto.Proto.TheVariants.{Srtp}
+use Rattle.str0m_sdp.proofs.TypeTableLaws.{agrees_other}
+use Rattle.str0m_signal.specs.Section.{Head, IsBandwidth}
+use Rattle.str0m_signal.specs.SessionAttribute.{IsSessionLine}
+use Rattle.str0m_signal.specs.Writable.{AreReadAs, HasTypes, IsFrame, IsPrintedAs, IsReadAs, MediaAreReadAs, SessionGoesWith, Writable, frame_of}
+
+-- ---- the only value that comes back
+
+module _ {A : Type 0} {P : A → Type 0} where
+  -- is the one that is asked for, or another one
+  pub back_same : (read asked : A) {T : Type 0} → IsTheOnly P (Some read) → T ↔ (read ≡ asked) → T ↔ P asked
+  back_same read asked only is =
+      (λ t. subst P (is.0 t) only.found, λ p. is.1 (same_Some read asked (only.only asked p)))
+
+  pub lost_same : (asked : A) → IsTheOnly P None → IsTrue false ↔ P asked
+  lost_same asked none = (λ h. absurd (true≢false (sym h)), λ p. absurd (none-some asked (none.only asked p)))
+
+  -- has a property, or there is none that has it
+  pub back_with : (read : A) {Q : A → Type 0} {T : Type 0} → IsTheOnly P (Some read) → T ↔ Q read → T ↔ ((x : A) × P x × Q x)
+  back_with read {Q} only is =
+      (λ t. (read, only.found, is.0 t), λ h. is.1 (subst Q (sym (same_Some read h.0 (only.only h.0 h.1))) h.2))
+
+  pub lost_with : {Q : A → Type 0} → IsTheOnly P None → IsTrue false ↔ ((x : A) × P x × Q x)
+  lost_with none = (λ h. absurd (true≢false (sym h)), λ h. absurd (none-some h.0 (none.only h.0 h.1)))
+
+  -- stands beside another promise
+  pub back_beside : (read : A) {Q T : Type 0} → IsTheOnly P (Some read) → T ↔ Q → T ↔ (((x : A) × P x) × Q)
+  back_beside read only is = (λ t. ((read, only.found), is.0 t), λ h. is.1 h.1)
+
+  pub lost_beside : {Q : Type 0} → IsTheOnly P None → IsTrue false ↔ (((x : A) × P x) × Q)
+  lost_beside none = (λ h. absurd (true≢false (sym h)), λ h. absurd (none-some h.0.0 (none.only h.0.0 h.0.1)))
+
+-- ---- the m-line
+
+abbrev pub IsSame : Head → MediaLine → Type 0
+IsSame head m = (head.typ ≡ m.typ) × (head.disabled ≡ m.disabled) × (head.proto ≡ m.proto)
+
+module _ (m : MediaLine) (F : Head → Type 0) where
+  abbrev pub with_types : List ℕ → Head
+  with_types pts = record { typ = m.typ; disabled = m.disabled; proto = m.proto; pts = pts }
+
+  pub no_head : IsTheOnly F None → IsTheOnly (λ pts. F (with_types pts)) None
+  no_head none = record { found = tt; only = λ pts h. absurd (none-some (with_types pts) (none.only (with_types pts) h)) }
+
+  pub same_head : (head : Head) → IsTheOnly F (Some head) → IsSame head m → IsTheOnly (λ pts. F (with_types pts)) (Some head.pts)
+  same_head head only same =
+      let is : head ≡ with_types head.pts = λ i. record { typ = same.0 i; disabled = same.1 i; proto = same.2 i; pts = head.pts } in
+      record {
+        found = subst F is only.found;
+        only = λ pts h. ap (λ (o : Head). Some o.pts) (same_Some head (with_types pts) (only.only (with_types pts) h));
+      }
+
+  pub other_head : (head : Head) → IsTheOnly F (Some head) → ¬ IsSame head m → IsTheOnly (λ pts. F (with_types pts)) None
+  other_head head only other = record {
+    found = tt;
+    only = λ pts h.
+        let is = same_Some head (with_types pts) (only.only (with_types pts) h) in
+        absurd (other (ap (λ (o : Head). o.typ) is, ap (λ (o : Head). o.disabled) is, ap (λ (o : Head). o.proto) is));
+  }
+
+-- ---- a section
+
+abbrev pub BandwidthComesBack : Option Bandwidth → Type 0
+BandwidthComesBack bw = IfSome bw (λ bw. IsPrintedAs IsBandwidth (bandwidth_text bw) bw)
+
+module _ (m : MediaLine) where
+  pub no_bandwidth : ¬ BandwidthComesBack m.bw → IsTheOnly (IsReadAs m) None
+  no_bandwidth lost = record { found = tt; only = λ read is. absurd (lost is.bandwidth) }
+
+  pub no_types : IsTheOnly (HasTypes m) None → IsTheOnly (IsReadAs m) None
+  no_types none = record { found = tt; only = λ read is. absurd (none-some read.pts (none.only read.pts is.head)) }
+
+  pub no_attributes : IsTheOnly (MediaAreReadAs m.attrs) None → IsTheOnly (IsReadAs m) None
+  no_attributes none = record { found = tt; only = λ read is. absurd (none-some read.attrs (none.only read.attrs is.attributes)) }
+
+  pub whole_section : (pts : List ℕ) (attrs : List MediaAttribute) → BandwidthComesBack m.bw → IsTheOnly (HasTypes m) (Some pts)
+      → IsTheOnly (MediaAreReadAs m.attrs) (Some attrs) → IsTheOnly (IsReadAs m) (Some (record m { pts = pts; attrs = attrs }))
+  whole_section pts attrs bw types attributes = record {
+    found = record { same = refl; head = types.found; bandwidth = bw; attributes = attributes.found };
+    only = λ read is.
+        let types_are = same_Some pts read.pts (types.only read.pts is.head) in
+        let attributes_are = same_Some attrs read.attrs (attributes.only read.attrs is.attributes) in
+        ap Some ((λ i. record m { pts = types_are i; attrs = attributes_are i }) ∙ sym is.same);
+  }
+
+-- ---- consistency, told by no fault
+
+pub told_by : {A : Type 0} (fault : Option A) (P : Type 0) (answer : Bool) → NoneIff fault P → is_some fault ≡ not answer → IsTrue answer ↔ P
+told_by None P true told is = (λ h. told, λ p. refl)
+told_by None P false told is = absurd (true≢false (sym is))
+told_by (Some x) P true told is = absurd (true≢false is)
+told_by (Some x) P false told is = (λ h. absurd (true≢false (sym h)), λ p. absurd (told p))
+
+-- ---- a frame, by the consistency of a section without payload types
+
+-- the section over Srtp that is disabled and has no payload types
+abbrev pub alone : MediaLine → MediaLine
+alone m = record m { disabled = true; proto = Srtp; pts = [] }
+
+none_of : (attrs : List MediaAttribute) → list_any is_of_type attrs ≡ false → All (λ attr. is_of_type attr ≡ false) attrs
+none_of attrs none = λ k d lt. elim (cases_Bool (is_of_type (get_or attrs k d))) [
+  | inl is ↦ absurd (true≢false (sym (list_any_at is_of_type attrs k d lt is) ∙ none))
+  | inr is ↦ is
+]
+
+agrees : (attrs : List MediaAttribute) (attr : MediaAttribute) → is_of_type attr ≡ false → AgreesOnApt attrs attr
+agrees attrs attr none = agrees_other attrs attr (λ n values is. absurd (true≢false (sym (ap is_of_type is) ∙ none)))
+
+pub frame_alone : (m : MediaLine) {T : Type 0} → list_any is_of_type m.attrs ≡ false → T ↔ Consistent (alone m) → T ↔ IsFrame m
+frame_alone m none is =
+    let without = none_of m.attrs none in (
+      (λ t. let told = is.0 t in record { mid = told.mid; setup = told.setup; direction = (told.proto refl).0; none_of_type = without }),
+      (λ frame. is.1 (record {
+        mid = frame.mid;
+        setup = frame.setup;
+        proto = λ over. (frame.direction, λ used. absurd (true≢false used));
+        mapped = All-nil _;
+        apt = All-weaker _ _ (agrees m.attrs) m.attrs without;
+      })),
+    )
+
+pub no_frame : (m : MediaLine) → list_any is_of_type m.attrs ≡ true → IsTrue false ↔ IsFrame m
+no_frame m some = (λ h. absurd (true≢false (sym h)), λ is. absurd (true≢false (sym some ∙ list_any_none is_of_type m.attrs is.none_of_type)))
+
+-- ---- the other sections
+
+abbrev pub ComesBack : MediaLine → Type 0
+ComesBack m = (read : MediaLine) × IsReadAs m read × Consistent read
+
+-- those before a place
+abbrev pub OthersBefore : List MediaLine → ℕ → ℕ → Type 0
+OthersBefore sections own i = (j : ℕ) (m : MediaLine) → j < i → slice_get sections j ≡ Some m → j ≢ own → ComesBack m
+
+-- all
+abbrev pub Others : List MediaLine → ℕ → Type 0
+Others sections own = (j : ℕ) (m : MediaLine) → slice_get sections j ≡ Some m → j ≢ own → ComesBack m
+
+pub others_more : (sections : List MediaLine) (own i : ℕ) (m : MediaLine) → i < length sections → m ≡ get_or sections i m → (i ≢ own → ComesBack m)
+    → OthersBefore sections own i → OthersBefore sections own (i + 1)
+others_more sections own i m lt at back before = λ j x below is other. elim (cases_lt j i) [
+  | inl earlier ↦ before j x earlier is other
+  | inr from ↦
+      let same : j ≡ i = omega (arith, below, from) in
+      let found = slice_get_read sections (length sections) i m refl lt at in
+      subst ComesBack (same_Some m x (sym found ∙ ap (slice_get sections) (sym same) ∙ is)) (back (λ own_is. other (same ∙ own_is)))
+]
+
+pub one_lost : (sections : List MediaLine) (own i : ℕ) (m : MediaLine) → i < length sections → m ≡ get_or sections i m → i ≢ own → ¬ ComesBack m
+    → IsTrue false ↔ Others sections own
+one_lost sections own i m lt at other lost =
+    (λ h. absurd (true≢false (sym h)), λ all. absurd (lost (all i m (slice_get_read sections (length sections) i m refl lt at) other)))
+
+pub all_back : (sections : List MediaLine) (own i : ℕ) → length sections ≤ i → OthersBefore sections own i
+    → IsTrue true ↔ Others sections own
+all_back sections own i end before =
+    (λ h j m is other. let within = slice_get_within sections j m is in before j m (omega (arith, end, within)) is other, λ all. refl)
+
+-- ---- all of it
+
+pub writable_with : (sdp : Sdp) (i : ℕ) (section : MediaLine) → slice_get sdp.media_lines i ≡ Some section
+    → ((reads : List SessionAttribute) × AreReadAs session_attribute_text IsSessionLine SessionGoesWith sdp.session.attrs reads) × BandwidthComesBack sdp.session.bw
+    → ((read : MediaLine) × IsReadAs (frame_of section) read × IsFrame read) → {T : Type 0}
+    → T ↔ Others sdp.media_lines i
+    → T ↔ Writable sdp i
+writable_with sdp i section at session own is = (
+  (λ t. record { section = section; at = at; session = session.0; bandwidth = session.1; others = is.0 t; own = own }),
+  (λ writable. is.1 writable.others),
+)

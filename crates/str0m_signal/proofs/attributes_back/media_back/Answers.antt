@@ -1,0 +1,12 @@
+use Rattle.std.proofs.lemmas.Result.{IfOk-weaker}
+use Rattle.str0m_sdp.specs.Attribute.{media_attribute_text}
+use Rattle.str0m_signal.specs.MediaAttribute.{IsMediaLine}
+use Rattle.str0m_signal.specs.MediaAttributeReading.{media_read}
+use Rattle.str0m_signal.specs.Writable.{MediaGoesWith}
+use Rattle.str0m_signal.proofs.MediaLaws.{media_line_both}
+use Rattle.str0m_signal.proofs.ReadBackLaws.{back_by_form}
+use Rattle.str0m_signal.proofs.attributes_back.media_back.Goals as goal
+
+pub returns : goal.returns
+returns c =
+    IfOk-weaker c.read_back.result _ _ (λ found. back_by_form media_attribute_text IsMediaLine media_read MediaGoesWith media_line_both c.args.attrs.now found) c.read_back.ensures

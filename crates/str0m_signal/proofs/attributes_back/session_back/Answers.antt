@@ -1,0 +1,12 @@
+use Rattle.std.proofs.lemmas.Result.{IfOk-weaker}
+use Rattle.str0m_sdp.specs.Attribute.{session_attribute_text}
+use Rattle.str0m_signal.specs.SessionAttribute.{IsSessionLine}
+use Rattle.str0m_signal.specs.SessionAttributeReading.{session_read}
+use Rattle.str0m_signal.specs.Writable.{SessionGoesWith}
+use Rattle.str0m_signal.proofs.SessionLaws.{session_line_both}
+use Rattle.str0m_signal.proofs.ReadBackLaws.{back_by_form}
+use Rattle.str0m_signal.proofs.attributes_back.session_back.Goals as goal
+
+pub returns : goal.returns
+returns c =
+    IfOk-weaker c.read_back.result _ _ (λ found. back_by_form session_attribute_text IsSessionLine session_read SessionGoesWith session_line_both c.args.attrs.now found) c.read_back.ensures

@@ -1,0 +1,99 @@
+//! What is printed, read again line by line.
+
+ghost use Rattle.std.specs.Prelude.{◌≡◌, ◌∷◌, ◌++◌, ◌↔◌, ◌&&◌, [], ℕ, List, Some, IfOk, IsTrue, option_map, option_to_list};
+ghost use Rattle.std.specs.Option.{option_copied};
+ghost use Rattle.str0m_values.specs.Cuts.{lacks};
+ghost use Rattle.str0m_values.specs.Only.{IsTheOnly};
+ghost use Rattle.str0m_values.specs.Parts.{Lacks};
+ghost use Rattle.str0m_sdp.specs.Lines.{line_end};
+ghost use Rattle.str0m_signal.specs.Writable.{AreReadAs, IsPrintedAs, IsReadBy};
+
+use crate::attributes::{Attribute, line};
+use std::alloc::{AllocError, Global};
+use std::fmt;
+use str0m_values::cuts::has;
+use str0m_values::{Items, Separator};
+
+/// What prints one text, whatever writes it: `text` says which.
+pub(crate) trait Printed: fmt::Display {
+    ghost text: { Self → List ℕ };
+
+    ghost prints: { (item : Self) → Self.output item ≡ Some (text item) };
+}
+
+/// An attribute, and what may be read in its place.
+pub(crate) trait ReadBack: Attribute {
+    ghost GoesWith: { Self → Self → Type 0 };
+
+    /// Whether the one that was read may stand in the place of this one.
+    fn goes_with(&self, read: &Self) -> bool
+        ensures { IsTrue result ↔ GoesWith self.now read.now };
+}
+
+fn is_plain(line: &str) -> bool
+    ensures { result ≡ lacks 10 line.now && lacks 13 line.now }
+{
+    !has(line, Separator::LineFeed) && !has(line, Separator::CarriageReturn)
+}
+
+/// The line without its end, where the text is one whole line.
+pub(crate) fn content(text: &str) -> Option<&str>
+    ensures { IsTheOnly (λ line. (text.now ≡ line ++ line_end) × Lacks 10 line × Lacks 13 line) (option_copied result) }
+{
+    let line = text.strip_suffix("\r\n")?;
+    if is_plain(line) { Some(line) } else { None }
+}
+
+/// What the attribute's line is read as, where it goes with the attribute.
+fn line_back<A: ReadBack>(alloc: Global, attr: &A, text: &str) -> Result<Option<A>, AllocError>
+    ensures { IfOk result (IsTheOnly (λ read. IsPrintedAs (IsReadBy A.reading) text.now read × A.GoesWith attr.now read)) }
+{
+    let Some(content) = content(text) else {
+        return Ok(None);
+    };
+    let Some(read) = line::<A>(alloc, content)? else {
+        return Ok(None);
+    };
+    if attr.goes_with(&read) {
+        Ok(Some(read))
+    } else {
+        Ok(None)
+    }
+}
+
+/// What the attribute comes back as once it is printed and read: no attribute where it prints
+/// nothing; `None` where it doesn't come back.
+fn item_back<A: ReadBack + Printed>(
+    alloc: Global,
+    attr: &A,
+) -> Result<Option<Option<A>>, AllocError>
+    ensures { IfOk result (λ found. IsTheOnly (AreReadAs A.text (IsReadBy A.reading) A.GoesWith (attr.now ∷ [])) (option_map option_to_list found)) }
+{
+    let text = attr.to_string(alloc)?;
+    if text.is_empty() {
+        return Ok(Some(None));
+    }
+    match line_back(alloc, attr, text.as_str())? {
+        Some(read) => Ok(Some(Some(read))),
+        None => Ok(None),
+    }
+}
+
+/// What the attributes come back as, in order; `None` where one doesn't come back.
+pub(crate) fn read_back<A: ReadBack + Printed>(
+    alloc: Global,
+    attrs: &[A],
+) -> Result<Option<Items<A>>, AllocError>
+    ensures { IfOk result (IsTheOnly (AreReadAs A.text (IsReadBy A.reading) A.GoesWith attrs.now)) }
+{
+    let mut reads = Vec::new(alloc);
+    for attr in attrs {
+        let Some(read) = item_back(alloc, attr)? else {
+            return Ok(None);
+        };
+        if let Some(read) = read {
+            reads.push(read)?;
+        }
+    }
+    Ok(Some(Items::from(reads)))
+}
