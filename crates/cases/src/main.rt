@@ -11,6 +11,8 @@ mod escapes;
 mod fmtp_lines;
 mod lines;
 mod made_sections;
+mod negotiated;
+mod read_back;
 mod said_by_both;
 mod said_by_sections;
 mod said_by_sessions;

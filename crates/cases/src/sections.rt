@@ -1,8 +1,8 @@
-//! Sessions and sections: what they say, and the sections that are made of rows.
+//! Sessions and sections: what they say, and the sections that are made of rows; rounds with whole texts.
 
 use crate::{
-    fmtp_lines, made_sections, said_by_sections, said_by_sessions, said_roles, said_rows,
-    said_sources, writable,
+    fmtp_lines, made_sections, negotiated, read_back, said_by_sections, said_by_sessions,
+    said_roles, said_rows, said_sources, writable,
 };
 use std::alloc::{AllocError, Global};
 use str0m_signal::SdpError;
@@ -36,6 +36,12 @@ fn said(alloc: Global, word: &str, text: &str) -> Result<Option<String>, SdpErro
         return Ok(Some(answer));
     }
     if let Some(answer) = writable::answer(alloc, word, text)? {
+        return Ok(Some(answer));
+    }
+    if let Some(answer) = negotiated::answer(alloc, word, text)? {
+        return Ok(Some(answer));
+    }
+    if let Some(answer) = read_back::answer(alloc, word, text)? {
         return Ok(Some(answer));
     }
     made_sections::answer(alloc, word, text)

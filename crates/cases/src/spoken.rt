@@ -9,23 +9,28 @@ use str0m_signal::{
 /// A header with nothing that may be left out.
 const HEADER: &str = "v=0\r\no=- 1 1 IN IP4 127.0.0.1\r\ns=-\r\nt=0 0\r\n";
 
+/// The header, and these lines behind it.
+pub(crate) fn behind_header(alloc: Global, lines: &str) -> Result<String, AllocError> {
+    format!(in alloc; "{HEADER}{lines}")
+}
+
 /// What the header and these lines describe; a line that fits nowhere ends it.
 pub(crate) fn description(alloc: Global, lines: &str) -> Result<Sdp, SdpError> {
-    let text = format!(in alloc; "{HEADER}{lines}")?;
+    let text = behind_header(alloc, lines)?;
     let (sdp, _) = sdp_parser(alloc, text.as_str())?;
     Ok(sdp)
 }
 
 /// What the header and these lines leave unread.
 pub(crate) fn unread(alloc: Global, lines: &str) -> Result<String, SdpError> {
-    let text = format!(in alloc; "{HEADER}{lines}")?;
+    let text = behind_header(alloc, lines)?;
     let (_, rest) = sdp_parser(alloc, text.as_str())?;
     Ok(rest.to_string(alloc)?)
 }
 
 /// A session with these attribute lines.
 pub(crate) fn session(alloc: Global, lines: &str) -> Result<Session, SdpError> {
-    let text = format!(in alloc; "{HEADER}{lines}")?;
+    let text = behind_header(alloc, lines)?;
     let (session, _) = session_parser(alloc, text.as_str())?;
     Ok(session)
 }

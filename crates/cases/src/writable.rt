@@ -16,15 +16,21 @@ pub(crate) fn answer(alloc: Global, word: &str, text: &str) -> Result<Option<Str
 }
 
 fn writable(alloc: Global, text: &str) -> Result<String, SdpError> {
+    let (index, sdp) = section_asked(alloc, text)?;
+    match index {
+        Some(index) if is_writable(&sdp, index)? => Ok("true".to_string(alloc)?),
+        Some(_) => Ok("false".to_string(alloc)?),
+        None => Ok("no index".to_string(alloc)?),
+    }
+}
+
+/// `INDEX LINES | CHANGE`: the section's index, none where no number stands there, and the changed description.
+pub(crate) fn section_asked(alloc: Global, text: &str) -> Result<(Option<usize>, Sdp), SdpError> {
     let (index, text) = text.split_once(' ').unwrap_or((text, ""));
     let (lines, change) = text.split_once(" | ").unwrap_or((text, ""));
     let mut sdp = description(alloc, lines)?;
     change_description(alloc, &mut sdp, change)?;
-    match index.parse::<usize>() {
-        Ok(index) if is_writable(&sdp, index)? => Ok("true".to_string(alloc)?),
-        Ok(_) => Ok("false".to_string(alloc)?),
-        Err(_) => Ok("no index".to_string(alloc)?),
-    }
+    Ok((index.parse::<usize>().ok(), sdp))
 }
 
 /// Changes what the first word names: `session`, or a section by its number.

@@ -123,7 +123,7 @@ fn call(alloc: Global, config: &mut CodecConfig, text: &str) -> Result<(), Unans
 }
 
 /// Whether two configurations have the same rows, locked in the same places, and distances.
-fn is_same(one: &CodecConfig, other: &CodecConfig) -> bool {
+pub fn is_same(one: &CodecConfig, other: &CodecConfig) -> bool {
     let is_locked_alike = one
         .params()
         .iter()
@@ -164,4 +164,13 @@ pub(crate) fn config_of(alloc: Global, text: &str) -> Result<CodecConfig, Unansw
     }
     let rows = rows_of(alloc, text)?;
     Ok(CodecConfig::new_from_payload_params(alloc, rows))
+}
+
+/// The configuration that a case names by rows or calls; none where it names no such thing.
+pub fn configuration(alloc: Global, text: &str) -> Result<Option<CodecConfig>, AllocError> {
+    match config_of(alloc, text) {
+        Ok(config) => Ok(Some(config)),
+        Err(Unanswered::Memory(refused)) => Err(refused),
+        Err(_) => Ok(None),
+    }
 }

@@ -23,6 +23,8 @@ mod row_words;
 mod unanswered;
 mod values;
 
+pub use crate::configuration_calls::{configuration, is_same};
+pub use crate::row_answers::shown_rows;
 use std::alloc::{AllocError, Global};
 
 /// What the call that the word names answers of the text; none for a word that is not of this crate.

@@ -62,7 +62,7 @@ pub(crate) fn or_none(alloc: Global, list: String) -> Result<String, AllocError>
 }
 
 /// The rows, each behind `locked` or `open`.
-pub(crate) fn shown_rows(alloc: Global, rows: &[PayloadParams]) -> Result<String, AllocError> {
+pub fn shown_rows(alloc: Global, rows: &[PayloadParams]) -> Result<String, AllocError> {
     let mut shown = String::new(alloc);
     for row in rows {
         let lock = if row.locked() { "locked" } else { "open" };

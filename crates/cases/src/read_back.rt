@@ -1,0 +1,100 @@
+//! Rows that are put into a section of a description, printed with it and read again.
+
+use crate::escapes::escaped;
+use crate::negotiated::outcome_lines;
+use crate::spoken::{add_item, description};
+use crate::writable::section_asked;
+use plain_cases::{configuration, shown_rows};
+use std::alloc::Global;
+use str0m_signal::{
+    CodecConfig, PayloadParams, Sdp, SdpError, is_writable, negotiate_text, sdp_parser, section_of,
+};
+
+/// What the call that the word names answers of the text; none for a word of others.
+pub(crate) fn answer(alloc: Global, word: &str, text: &str) -> Result<Option<String>, SdpError> {
+    if !matches!(word, "section-of" | "read-back" | "negotiate-back") {
+        return Ok(None);
+    }
+    let (own, text) = text.split_once(" | ").unwrap_or((text, ""));
+    let Some(mut config) = configuration(alloc, own)? else {
+        return Ok(Some("no such configuration".to_string(alloc)?));
+    };
+    Ok(Some(match word {
+        "section-of" => section_printed(alloc, config.params(), text)?,
+        "read-back" => read_back(alloc, config.params(), text)?,
+        _ => negotiated_back(alloc, &mut config, text)?,
+    }))
+}
+
+/// The rows in the frame of a description's first section, printed.
+fn section_printed(alloc: Global, rows: &[PayloadParams], lines: &str) -> Result<String, SdpError> {
+    let sdp = description(alloc, lines)?;
+    match sdp.media_lines.as_slice().first() {
+        Some(frame) => {
+            let made = section_of(frame, rows)?.to_string(alloc)?;
+            Ok(escaped(alloc, made.as_str())?)
+        }
+        None => Ok("no section".to_string(alloc)?),
+    }
+}
+
+/// `read-back ROWS | INDEX LINES | CHANGE`: whether the rows come back from the section at the index.
+fn read_back(alloc: Global, rows: &[PayloadParams], text: &str) -> Result<String, SdpError> {
+    let (index, sdp) = section_asked(alloc, text)?;
+    match index {
+        Some(index) => come_back(alloc, &sdp, index, rows),
+        None => Ok("no index".to_string(alloc)?),
+    }
+}
+
+/// Runs the rounds of the text: what each comes to, and whether the rows that they leave come back from each of its
+/// sections of sound and pictures.
+fn negotiated_back(
+    alloc: Global,
+    config: &mut CodecConfig,
+    text: &str,
+) -> Result<String, SdpError> {
+    let outcomes = negotiate_text(config, text)?;
+    let mut answer = outcome_lines(alloc, outcomes.as_slice())?;
+    let (sdp, _) = sdp_parser(alloc, text)?;
+    for (index, section) in sdp.media_lines.as_slice().iter().enumerate() {
+        if section.typ.is_media() {
+            let said = come_back(alloc, &sdp, index, config.params())?;
+            let line = format!(in alloc; "section {index}: {said}")?;
+            add_item(&mut answer, line.as_str(), "\n")?;
+        }
+    }
+    Ok(answer)
+}
+
+/// Prints the description with the rows in the section at the index, if that is writable, and reads it again: whether
+/// all of it is read, and that section describes these rows in this order.
+fn come_back(
+    alloc: Global,
+    sdp: &Sdp,
+    index: usize,
+    rows: &[PayloadParams],
+) -> Result<String, SdpError> {
+    if !is_writable(sdp, index)? {
+        return Ok("not writable".to_string(alloc)?);
+    }
+    let mut sdp = sdp.clone()?;
+    if let Some(section) = sdp.media_lines.0.get_mut(index) {
+        let made = section_of(section, rows)?;
+        *section = made;
+    }
+    let printed = sdp.to_string(alloc)?;
+    let (again, rest) = sdp_parser(alloc, printed.as_str())?;
+    if !rest.is_empty() {
+        return Ok("unread lines".to_string(alloc)?);
+    }
+    let found = match again.media_lines.as_slice().get(index) {
+        Some(section) => section.rtp_params()?,
+        None => Vec::new(alloc),
+    };
+    if found.as_slice() == rows {
+        return Ok("equal".to_string(alloc)?);
+    }
+    let found = shown_rows(alloc, found.as_slice())?;
+    Ok(format!(in alloc; "other rows: {found}")?)
+}
