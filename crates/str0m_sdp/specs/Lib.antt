@@ -16,6 +16,7 @@ pub mod Mappings
 pub mod MediaLine
 pub mod MediaType
 pub mod Msid
+pub mod NamesOne
 pub mod PreferredFingerprint
 pub mod Proto
 pub mod RandomId

@@ -15,6 +15,7 @@ pub mod Lines
 pub mod MediaAttribute
 pub mod MediaAttributeReading
 pub mod Negotiation
+pub mod ReadBack
 pub mod Reading
 pub mod Rid
 pub mod RidLists

@@ -14,6 +14,7 @@ mod groups;
 mod header;
 mod heads;
 mod lines;
+mod locked;
 mod media_attribute;
 mod negotiation;
 mod offer;
@@ -31,6 +32,7 @@ mod sources;
 mod words;
 mod writable;
 
+pub use locked::locked_rows;
 pub use negotiation::negotiate_text;
 pub use offer::{SdpAnswer, SdpOffer};
 pub use reader::{

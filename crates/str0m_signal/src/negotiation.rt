@@ -1,13 +1,16 @@
 //! Rounds of negotiation over a whole text.
 
-ghost use Rattle.std.specs.Prelude.{◌≡◌, All, IfErr, IfOk, OnErr, filter_map, map, option_map};
+ghost use Rattle.std.specs.Prelude.{◌≡◌, All, IfErr, IfOk, OnErr, filter_map, map, option_map, ℕ};
 ghost use Rattle.str0m_formats.specs.PlainRow.{IsPlain};
 ghost use Rattle.str0m_formats.specs.Rows.{types};
 ghost use Rattle.str0m_formats.specs.TypeSets.{AllDistinct};
 ghost use Rattle.str0m_sdp.specs.RowBounds.{HasBoundedRows};
 ghost use Rattle.str0m_signal.specs.Answers.{Refuses};
 ghost use Rattle.str0m_signal.specs.Negotiation.{Negotiated, NegotiatedText, brought, brought_by};
+ghost use Rattle.str0m_sdp.specs.declared.session.Sdp.{Sdp};
+ghost use Rattle.str0m_signal.specs.ReadBack.{MayBePrinted, ReadsBack};
 ghost use Rattle.str0m_signal.specs.Reading.{Described};
+ghost use Rattle.str0m_signal.specs.Writable.{Writable};
 
 use crate::offer::described;
 use std::alloc::{AllocError, Global};
@@ -50,6 +53,7 @@ fn negotiate(
     ensures err { OnErr result (config.new ≡ config.old) }
     ensures distinct { AllDistinct (types config.old.params.items) → AllDistinct (types config.new.params.items) }
     ensures plain { All HasBoundedRows sections.now → All IsPlain config.old.params.items → All IsPlain config.new.params.items }
+    ensures printable { All HasBoundedRows sections.now → MayBePrinted config.old.params.items → MayBePrinted config.new.params.items }
 {
     let rounds = rounds_of(*config.allocator(), sections)?;
     config.update_all(rounds.as_slice())
@@ -61,7 +65,8 @@ fn negotiate(
 /// round that is refused names its cause, changes nothing, and the next one runs.
 ///
 /// Whatever the text holds, payload types that were distinct stay distinct, and rows that were plain,
-/// `PayloadParams::is_plain`, stay plain.
+/// `PayloadParams::is_plain`, stay plain. So the rows that are left, printed in any section that is
+/// writable (`is_writable`), are read back, in order.
 ///
 /// # Errors
 ///
@@ -80,6 +85,10 @@ pub fn negotiate_text(
     // Whatever is answered, payload types that were distinct are distinct, and rows that were plain are plain.
     ensures distinct { AllDistinct (types config.old.params.items) → AllDistinct (types config.new.params.items) }
     ensures plain { All IsPlain config.old.params.items → All IsPlain config.new.params.items }
+    ensures printable { MayBePrinted config.old.params.items → MayBePrinted config.new.params.items }
+
+    // So they are read back: the rows that are left, printed in any session that is writable, at any place.
+    ensures read_back { MayBePrinted config.old.params.items → (sdp : Sdp) (i : ℕ) → Writable sdp i → ReadsBack sdp i config.new.params.items }
 {
     let sdp = described(*config.allocator(), text)?;
     Ok(negotiate(config, sdp.media_lines.as_slice())?)

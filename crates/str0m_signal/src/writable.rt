@@ -1,12 +1,14 @@
 //! Whether rows may be printed in a session and are read again.
 
-ghost use Rattle.std.specs.Prelude.{◌≡◌, ◌≢◌, ◌↔◌, ℕ, List, IfOk, IfSome, IsTrue, Some};
+ghost use Rattle.std.specs.Prelude.{◌≡◌, ◌≢◌, ◌↔◌, ℕ, List, IfOk, IfSome, IsTrue, Ok, Some, true};
 ghost use Rattle.std.specs.List.{slice_get};
+ghost use Rattle.str0m_formats.specs.declared.payload_params.PayloadParams.{PayloadParams};
 ghost use Rattle.str0m_sdp.specs.Attribute.{session_attribute_text};
 ghost use Rattle.str0m_sdp.specs.Bandwidth.{bandwidth_text};
 ghost use Rattle.str0m_sdp.specs.Consistency.{Consistent};
 ghost use Rattle.str0m_sdp.specs.declared.attribute.SessionAttribute.{SessionAttribute};
 ghost use Rattle.str0m_sdp.specs.declared.media_line.MediaLine.{MediaLine};
+ghost use Rattle.str0m_signal.specs.ReadBack.{MayBePrinted, ReadsBack};
 ghost use Rattle.str0m_signal.specs.Section.{IsBandwidth};
 ghost use Rattle.str0m_signal.specs.SessionAttribute.{IsSessionLine};
 ghost use Rattle.str0m_signal.specs.Writable.{AreReadAs, IsPrintedAs, IsReadAs, SessionGoesWith, Writable};
@@ -41,14 +43,8 @@ fn others_come_back(alloc: Global, sections: &[MediaLine], own: usize) -> Result
     Ok(true)
 }
 
-/// Whether rows may be printed in the section at this index and are read again: each line of the
-/// session, of the other sections and of the section's frame (its attributes but rtpmap, rtcp-fb and
-/// fmtp lines) is read as what it was printed of, or is kept unread; the other sections are
-/// consistent then, and the frame has one mid, at most one setup and one direction. `false` where
-/// there is no such section.
-///
-/// The only error is that memory was refused. Nothing is changed.
-pub fn is_writable(sdp: &Sdp, section: usize) -> Result<bool, AllocError>
+/// Whether what stands around the rows of a section is read again.
+fn surroundings_come_back(sdp: &Sdp, section: usize) -> Result<bool, AllocError>
     ensures { IfOk result (λ answer. IsTrue answer ↔ Writable sdp.now section) }
 {
     let alloc = *sdp.media_lines.allocator();
@@ -60,4 +56,23 @@ pub fn is_writable(sdp: &Sdp, section: usize) -> Result<bool, AllocError>
         return Ok(false);
     }
     others_come_back(alloc, sections, section)
+}
+
+/// Whether rows may be printed in the section at this index and are read again: each line of the
+/// session, of the other sections and of the section's frame (its attributes but rtpmap, rtcp-fb and
+/// fmtp lines) is read as what it was printed of, or is kept unread; the other sections are
+/// consistent then, and the frame has one mid, at most one setup and one direction. `false` where
+/// there is no such section.
+///
+/// Where it is `true`, rows that are plain (`PayloadParams::is_plain`), none of whose payload types
+/// stands twice, come back: where an audio or video section stands there, the text of the session with
+/// `section_of` of it and the rows in its place is read to its end, and the section there describes
+/// these rows, in order. Whether a row is locked isn't printed.
+///
+/// The only error is that memory was refused. Nothing is changed.
+pub fn is_writable(sdp: &Sdp, section: usize) -> Result<bool, AllocError>
+    ensures exact { IfOk result (λ answer. IsTrue answer ↔ Writable sdp.now section) }
+    ensures read_back { result ≡ Ok true → (rows : List PayloadParams) → MayBePrinted rows → ReadsBack sdp.now section rows }
+{
+    surroundings_come_back(sdp, section)
 }

@@ -1,4 +1,19 @@
+use Rattle.str0m_signal.proofs.RowsReadBack.{reads_back}
 use Rattle.str0m_signal.proofs.negotiation.negotiate_text.Goals as goal
 
 pub returns-clause-plain : goal.returns-clause-plain
 returns-clause-plain c = c.negotiate.ensures.plain (rw c.as_slice.ensures c.in_ok-sdp.ensures.bounded)
+
+pub returns-clause-printable : goal.returns-clause-printable
+returns-clause-printable c = c.negotiate.ensures.printable (rw c.as_slice.ensures c.in_ok-sdp.ensures.bounded)
+
+pub returns-clause-read_back : goal.returns-clause-read_back
+returns-clause-read_back c = λ may sdp i writable.
+    reads_back sdp i writable _ (c.negotiate.ensures.printable (rw c.as_slice.ensures c.in_ok-sdp.ensures.bounded) may)
+
+pub returns-in_err-negotiate-clause-read_back : goal.returns-in_err-negotiate-clause-read_back
+returns-in_err-negotiate-clause-read_back c = λ may sdp i writable.
+    reads_back sdp i writable _ (c.negotiate.ensures.printable (rw c.as_slice.ensures c.in_ok-sdp.ensures.bounded) may)
+
+pub returns-in_err-sdp-clause-read_back : goal.returns-in_err-sdp-clause-read_back
+returns-in_err-sdp-clause-read_back c = λ may sdp i writable. reads_back sdp i writable _ may

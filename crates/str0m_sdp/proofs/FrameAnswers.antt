@@ -1,0 +1,52 @@
+-- Lines that describe no payload type answer nothing.
+use Rattle.std.proofs.Common.{◌≡◌, ℕ, false, List, None}
+use Rattle.std.proofs.Common.{refl}
+use Rattle.std.specs.List.{AllByRecursion}
+use Rattle.std.proofs.lemmas.Bool.{true≢false}
+use Rattle.str0m_formats.specs.declared.codec.Codec.{Codec}
+use Rattle.str0m_formats.specs.declared.codec_spec.CodecSpec.{CodecSpec}
+use Rattle.str0m_formats.specs.declared.format_param.FormatParam.{FormatParam}
+use Rattle.str0m_sdp.specs.declared.attribute.MediaAttribute.{MediaAttribute}
+use Rattle.str0m_sdp.specs.declared.attribute.MediaAttribute.TheVariants.{RtpMap, RtcpFb, Fmtp}
+use Rattle.str0m_sdp.specs.SectionOf.{is_of_type}
+use Rattle.str0m_sdp.specs.SectionRows.{values_in}
+use Rattle.str0m_sdp.specs.Companions.{companion_in, listed}
+use Rattle.str0m_sdp.specs.Consistency.{maps, apt_of, apt_in}
+use Rattle.str0m_sdp.specs.Feedback.{is_feedback}
+use Rattle.str0m_sdp.specs.Mappings.{mapping}
+
+-- the value names no payload type
+abbrev pub NamesNoType : FormatParam → Type 0
+NamesNoType value = (apt_of value ≡ None) × (listed value ≡ None)
+
+-- no value of these lines does
+abbrev pub NameNoType : List (List FormatParam) → Type 0
+NameNoType vs = AllByRecursion (λ v. AllByRecursion NamesNoType v) vs
+
+abbrev pub HasNoTypes : List MediaAttribute → Type 0
+HasNoTypes frame = AllByRecursion (λ attr. is_of_type attr ≡ false) frame
+
+pub frame_mapping : (attr : MediaAttribute) → is_of_type attr ≡ false → mapping attr ≡ None
+frame_mapping (RtpMap n m) h = absurd (true≢false h)
+frame_mapping _ h = refl
+
+pub frame_maps : (t : ℕ) (attr : MediaAttribute) → is_of_type attr ≡ false → maps t attr ≡ false
+frame_maps t (RtpMap n m) h = absurd (true≢false h)
+frame_maps t _ h = refl
+
+pub frame_feedback : (t : ℕ) (words : List ℕ) (attr : MediaAttribute) → is_of_type attr ≡ false → is_feedback t words attr ≡ false
+frame_feedback t words (RtcpFb n w) h = absurd (true≢false h)
+frame_feedback t words _ h = refl
+
+pub frame_values : (t : ℕ) (attr : MediaAttribute) → is_of_type attr ≡ false → values_in t attr ≡ None
+frame_values t (Fmtp n v) h = absurd (true≢false h)
+frame_values t _ h = refl
+
+pub frame_apt : (t : ℕ) (attr : MediaAttribute) → is_of_type attr ≡ false → apt_in t attr ≡ None
+frame_apt t (Fmtp n v) h = absurd (true≢false h)
+frame_apt t _ h = refl
+
+pub frame_companion : (c : Codec) (mapped : List (ℕ × CodecSpec)) (t : ℕ) (attr : MediaAttribute) → is_of_type attr ≡ false
+    → companion_in c mapped t attr ≡ None
+frame_companion c mapped t (Fmtp n v) h = absurd (true≢false h)
+frame_companion c mapped t _ h = refl

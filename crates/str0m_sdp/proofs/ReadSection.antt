@@ -1,0 +1,70 @@
+-- A section that was read, whose types and lines are those of plain, distinct rows, describes these rows.
+use Rattle.std.proofs.Common.{◌≡◌, ◌≢◌, ◌≤◌, false, List, [], map, All, sym, subst}
+use Rattle.std.specs.Prelude.{count_by}
+use Rattle.std.specs.List.{AllByRecursion, AllZip, flat_map}
+use Rattle.std.proofs.lemmas.List.Elements.{recursion_from_All}
+use Rattle.str0m_formats.specs.PlainRow.{IsPlain}
+use Rattle.str0m_formats.specs.Rows.{types, SameRow}
+use Rattle.str0m_formats.specs.TypeSets.{AllDistinct}
+use Rattle.str0m_formats.specs.declared.format_param.FormatParam.{FormatParam}
+use Rattle.str0m_formats.specs.declared.payload_params.PayloadParams.{PayloadParams}
+use Rattle.str0m_sdp.specs.Consistency.{is_mid, is_setup, is_direction, Consistent}
+use Rattle.str0m_sdp.specs.Mappings.{mapped}
+use Rattle.str0m_sdp.specs.SectionOf.{is_of_type}
+use Rattle.str0m_sdp.specs.SectionRows.{rows as rows_of}
+use Rattle.str0m_sdp.specs.declared.attribute.MediaAttribute.{MediaAttribute}
+use Rattle.str0m_sdp.specs.declared.media_line.MediaLine.{MediaLine}
+use Rattle.str0m_sdp.specs.declared.proto.Proto.TheVariants.{Srtp}
+use Rattle.str0m_sdp.specs.NamesOne.{NamesOne}
+use Rattle.str0m_sdp.proofs.RowAnswers.{entries}
+use Rattle.str0m_sdp.proofs.FrameAnswers.{HasNoTypes}
+use Rattle.str0m_sdp.proofs.RowQuestions.{attrs_of}
+use Rattle.str0m_sdp.proofs.RowsBack.{IsSaid, unlocked, section, mapped_is}
+use Rattle.str0m_sdp.proofs.RowsAgain.{rows_are, rows_same}
+use Rattle.str0m_sdp.proofs.SectionConsistent.{consistent, names_one}
+
+-- what a frame says beside its types: one mid, one setup at most, one direction over Srtp, and no line of a type
+pub record IsFrame (m : MediaLine) (frame : List MediaAttribute) : Type 0 where
+  pub bare : All (λ attr. is_of_type attr ≡ false) frame
+  pub mid : count_by is_mid frame ≡ 1
+  pub setup : count_by is_setup frame ≤ 1
+  pub direction : m.proto ≡ Srtp → count_by is_direction frame ≡ 1
+
+-- the section is consistent, names one primary type in each line of a companion, maps the types of the rows in order, and
+-- describes the rows
+pub record Describes (m : MediaLine) (rows : List PayloadParams) : Type 0 where
+  pub consistent : Consistent m
+  pub names_one : All (NamesOne m) m.attrs
+  pub types_are : mapped m ≡ flat_map entries rows
+  pub rows_are : rows_of m ≡ map unlocked rows
+  pub same : AllZip SameRow (rows_of m) rows
+
+module _ (values : PayloadParams → List (List FormatParam)) where
+  of_section : (frame : MediaLine) (rows : List PayloadParams) → IsFrame frame frame.attrs → All IsPlain rows → AllDistinct (types rows)
+      → All (λ row. IsSaid row (values row)) rows → rows ≢ [] → Describes (section values frame rows) rows
+  of_section frame rows f plain d said some = record {
+    consistent = consistent values frame bare rows d said' f.mid f.setup f.direction some;
+    names_one = names_one values frame bare rows d said' plain';
+    types_are = mapped_is values frame rows bare plain';
+    rows_are = rows_are values frame bare rows plain' d said';
+    same = rows_same values frame bare rows plain' d said';
+  } where
+    bare : HasNoTypes frame.attrs
+    bare = recursion_from_All (λ attr. is_of_type attr ≡ false) frame.attrs f.bare
+
+    plain' : AllByRecursion IsPlain rows
+    plain' = recursion_from_All IsPlain rows plain
+
+    said' : AllByRecursion (λ row. IsSaid row (values row)) rows
+    said' = recursion_from_All (λ row. IsSaid row (values row)) rows said
+
+  pub describes : (m : MediaLine) (frame : List MediaAttribute) (rows : List PayloadParams) → IsFrame m frame
+      → m.attrs ≡ attrs_of values frame rows → m.pts ≡ types rows → All IsPlain rows → AllDistinct (types rows)
+      → All (λ row. IsSaid row (values row)) rows → rows ≢ [] → Describes m rows
+  describes m frame rows f attrs pts plain d said some =
+      subst (λ n. Describes n rows) (sym same)
+      (of_section (record m { attrs = frame }) rows
+      (record { bare = f.bare; mid = f.mid; setup = f.setup; direction = f.direction }) plain d said some)
+    where
+      same : m ≡ section values (record m { attrs = frame }) rows
+      same = λ i. record m { pts = pts i; attrs = attrs i }

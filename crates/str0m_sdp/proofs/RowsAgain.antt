@@ -1,0 +1,197 @@
+-- The rows of a section of plain, distinct rows: these rows again, unlocked and in order.
+use Rattle.std.proofs.Common.{◌≡◌, ◌≢◌, ◌&&◌, ◌||◌, ℕ, Bool, true, false, cond, List, [], ◌∷◌, ◌++◌, map, Option, Some, None}
+use Rattle.std.proofs.Common.{refl, sym, ap, ◌∙◌, subst}
+use Rattle.std.specs.Prelude.{option_map}
+use Rattle.std.proofs.lemmas.Bool.{or_left, or_right}
+use Rattle.std.specs.List.{AllByRecursion, AllZip, filter, filter_map, flat_map, cons_option}
+use Rattle.std.proofs.lemmas.List.Elements.{filter_map-append, filter-append}
+use Rattle.str0m_formats.specs.Choices.{has_events}
+use Rattle.str0m_formats.specs.Codec.{Content, content, audio, video, events, other}
+use Rattle.str0m_formats.specs.FormatLine.{format_of_fmtp}
+use Rattle.str0m_formats.specs.FormatParams.{empty}
+use Rattle.str0m_formats.specs.KindRows.{has_sound}
+use Rattle.str0m_formats.specs.Rows.{types_of, types, has_pictures, SameRow}
+use Rattle.str0m_formats.specs.Scores.{same_codec}
+use Rattle.str0m_formats.specs.TypeSets.{has, AllDistinct}
+use Rattle.str0m_formats.specs.declared.codec.Codec.{Codec}
+use Rattle.str0m_formats.specs.declared.codec.Codec.TheVariants as codec
+use Rattle.str0m_formats.specs.declared.format_param.FormatParam.{FormatParam}
+use Rattle.str0m_formats.specs.declared.payload_params.PayloadParams.{PayloadParams}
+use Rattle.str0m_sdp.specs.Companions.{rtx_type, red_type}
+use Rattle.str0m_sdp.specs.Mappings.{mapped, is_mapped_to}
+use Rattle.str0m_sdp.specs.SectionRows.{is_kept, row as row_at, row_with, rows as rows_of}
+use Rattle.str0m_sdp.specs.declared.media_line.MediaLine.{MediaLine}
+use Rattle.str0m_formats.specs.PlainRow.{IsPlain}
+use Rattle.str0m_sdp.proofs.Parts.{weaker, taken_apart, each_among}
+use Rattle.str0m_sdp.proofs.Apart.{Roles, roles, row_distinct, has_pt, has_rtx, has_red, has-append}
+use Rattle.str0m_sdp.proofs.FrameAnswers.{HasNoTypes, NameNoType}
+use Rattle.str0m_sdp.proofs.RowAnswers.{entries, rtx_entry, red_entry}
+use Rattle.str0m_sdp.proofs.RowQuestions.{attrs_of, values_are, feedback_is, SayFeedback, rtx_is, red_is}
+use Rattle.str0m_sdp.proofs.RowsBack.{IsSaid, unlocked, section, mapped_is, mapped_among, entry_pt, entry_rtx, entry_red}
+
+has_types : (before : List PayloadParams) (row : PayloadParams) (after : List PayloadParams) (t : ℕ) → has (types_of row) t ≡ true
+    → has (types (before ++ row ∷ after)) t ≡ true
+has_types [] row after t h = has-append (types_of row) (types after) t ∙ or_left (has (types_of row) t) _ h
+has_types (r ∷ before) row after t h =
+    has-append (types_of r) (types (before ++ row ∷ after)) t ∙ or_right (has (types_of r) t) _ (has_types before row after t h)
+
+pictures_or : (c : Content) (b : Bool) → (c ≡ video → b ≡ true) → (has_pictures c || b) ≡ b
+pictures_or video b h = sym (h refl)
+pictures_or audio b h = refl
+pictures_or events b h = refl
+pictures_or other b h = refl
+
+picked : (c : Content) (found mine : Bool) → found ≡ mine → (c ≡ video → mine ≡ true) → (has_pictures c || found) ≡ mine
+picked c found mine e h = ap (λ b. has_pictures c || b) e ∙ pictures_or c mine h
+
+kept_content : (c : Content) (there : Bool) → c ≢ other → there ≡ true
+    → (has_sound c || (has_pictures c || (has_events c && there))) ≡ true
+kept_content audio there h k = refl
+kept_content video there h k = refl
+kept_content events there h k = k
+kept_content other there h k = absurd (h refl)
+
+-- sound alone has RED
+only_sound : (c : Content) (red found : Option ℕ) → (red ≢ None → c ≡ audio) → found ≡ red → cond (has_sound c) found None ≡ red
+only_sound audio red found h e = e
+only_sound video red found h e = none red h where
+  none : (red : Option ℕ) → (red ≢ None → video ≡ audio) → None ≡ red
+  none None k = refl
+  none (Some n) k = let same = k (λ e. cc) in absurd cc
+only_sound events red found h e = none red h where
+  none : (red : Option ℕ) → (red ≢ None → events ≡ audio) → None ≡ red
+  none None k = refl
+  none (Some n) k = let same = k (λ e. cc) in absurd cc
+only_sound other red found h e = none red h where
+  none : (red : Option ℕ) → (red ≢ None → other ≡ audio) → None ≡ red
+  none None k = refl
+  none (Some n) k = let same = k (λ e. cc) in absurd cc
+
+kept_rows : {R X Y : Type 0} (p : X → Bool) (f : X → Option Y) (entries : R → List X) (g : R → Y) (rows : List R)
+    → AllByRecursion (λ r. filter_map f (filter p (entries r)) ≡ g r ∷ []) rows
+    → filter_map f (filter p (flat_map entries rows)) ≡ map g rows
+kept_rows p f entries g [] h = refl
+kept_rows p f entries g (r ∷ rows) h =
+    ap (λ xs. filter_map f xs) (filter-append p (entries r) (flat_map entries rows))
+    ∙ filter_map-append f (filter p (entries r)) (filter p (flat_map entries rows))
+    ∙ ap (λ ys. ys ++ filter_map f (filter p (flat_map entries rows))) h.0 ∙ ap (λ ys. g r ∷ ys) (kept_rows p f entries g rows h.1)
+
+no_others : (m : MediaLine) (row : PayloadParams) (a b : Option ℕ) → filter (is_kept m) (rtx_entry row a ++ red_entry row b) ≡ []
+no_others m row None None = refl
+no_others m row None (Some n) = refl
+no_others m row (Some n) None = refl
+no_others m row (Some n) (Some k) = refl
+
+module _ (values : PayloadParams → List (List FormatParam)) (frame : MediaLine) (bare : HasNoTypes frame.attrs) where
+  module _ (before : List PayloadParams) (row : PayloadParams) (after : List PayloadParams)
+      (plain : AllByRecursion IsPlain (before ++ row ∷ after)) (d : AllDistinct (types (before ++ row ∷ after))) where
+    own_roles : Roles row
+    own_roles = roles row (row_distinct before row after d)
+
+    -- what each of its types is mapped to
+    pub pt_mapped : (c : Codec) → is_mapped_to c (mapped (section values frame (before ++ row ∷ after))) row.pt
+        ≡ same_codec row.spec.codec c
+    pt_mapped c =
+        ap (λ m. is_mapped_to c m row.pt) (mapped_is values frame (before ++ row ∷ after) bare plain)
+        ∙ mapped_among c row.pt before row after d (has_pt row) ∙ entry_pt c row.pt row own_roles refl
+
+    pub rtx_mapped : (c : Codec) (n : ℕ) → row.resend ≡ Some n
+        → is_mapped_to c (mapped (section values frame (before ++ row ∷ after))) n ≡ same_codec codec.Rtx c
+    rtx_mapped c n is =
+        ap (λ m. is_mapped_to c m n) (mapped_is values frame (before ++ row ∷ after) bare plain)
+        ∙ mapped_among c n before row after d (has_rtx row n is) ∙ entry_rtx c n row own_roles is
+
+    pub red_mapped : (c : Codec) (n : ℕ) → row.red ≡ Some n
+        → is_mapped_to c (mapped (section values frame (before ++ row ∷ after))) n ≡ same_codec codec.Red c
+    red_mapped c n is =
+        ap (λ m. is_mapped_to c m n) (mapped_is values frame (before ++ row ∷ after) bare plain)
+        ∙ mapped_among c n before row after d (has_red row n is) ∙ entry_red c n row own_roles is
+
+    module _ (said : AllByRecursion (λ r. IsSaid r (values r)) (before ++ row ∷ after)) where
+      silent : AllByRecursion (λ r. NameNoType (values r)) (before ++ row ∷ after)
+      silent = weaker _ (λ r. NameNoType (values r)) (λ r s. s.silent) (before ++ row ∷ after) said
+
+      own_plain : IsPlain row
+      own_plain = (taken_apart IsPlain before row after plain).1
+
+      own_said : IsSaid row (values row)
+      own_said = (taken_apart (λ r. IsSaid r (values r)) before row after said).1
+
+      pub rtx_type_is : rtx_type (section values frame (before ++ row ∷ after)) row.pt ≡ row.resend
+      rtx_type_is =
+          rtx_is values frame.attrs bare before row after d (mapped (section values frame (before ++ row ∷ after))) silent
+          (λ n e. rtx_mapped codec.Rtx n e ∙ refl)
+
+      pub red_type_is : red_type (section values frame (before ++ row ∷ after)) row.pt row.spec.codec ≡ row.red
+      red_type_is =
+          only_sound (content row.spec.codec) row.red _ own_plain.redundant
+          (red_is values frame.attrs bare before row after d (mapped (section values frame (before ++ row ∷ after))) silent
+          (λ n e. red_mapped codec.Red n e ∙ refl))
+
+      same_row : row_with (section values frame (before ++ row ∷ after)) row.pt
+          (record row.spec { format = empty }) row.spec.format ≡ unlocked row
+      same_row = λ i. record {
+        pt = row.pt;
+        resend = rtx_type_is i;
+        red = red_type_is i;
+        spec = row.spec;
+        fb_transport_cc = fb.transport_cc i;
+        fb_fir = picked (content row.spec.codec) _ row.fb_fir fb.fir (λ v. (own_plain.pictures v).fir) i;
+        fb_nack = picked (content row.spec.codec) _ row.fb_nack fb.nack (λ v. (own_plain.pictures v).nack) i;
+        fb_pli = picked (content row.spec.codec) _ row.fb_pli fb.pli (λ v. (own_plain.pictures v).pli) i;
+        fb_remb = picked (content row.spec.codec) _ row.fb_remb fb.remb (λ v. (own_plain.pictures v).remb) i;
+        locked = false;
+      } where
+        fb : SayFeedback (attrs_of values frame.attrs (before ++ row ∷ after)) row
+        fb = feedback_is values frame.attrs bare before row after d
+
+      -- the row of its primary type
+      pub row_is : row_at (section values frame (before ++ row ∷ after)) (row.pt, record row.spec { format = empty })
+          ≡ Some (unlocked row)
+      unfolding row_at
+      row_is =
+          ap (λ o. option_map (row_with (section values frame (before ++ row ∷ after)) row.pt (record row.spec { format = empty })) o)
+          (ap (λ vs. format_of_fmtp row.spec.codec vs) (values_are values frame.attrs bare before row after d) ∙ own_said.format)
+          ∙ ap (λ r. Some r) same_row
+
+      -- of its types the primary one alone has a row
+      pub one_row : filter_map (row_at (section values frame (before ++ row ∷ after)))
+          (filter (is_kept (section values frame (before ++ row ∷ after))) (entries row)) ≡ unlocked row ∷ []
+      one_row =
+          ap (λ b. filter_map (row_at m)
+          (cond b ((row.pt, record row.spec { format = empty }) ∷ filter (is_kept m)
+          (rtx_entry row row.resend ++ red_entry row row.red)) (filter (is_kept m) (rtx_entry row row.resend ++ red_entry row row.red))))
+          (kept_content (content row.spec.codec) (has (types (before ++ row ∷ after)) row.pt) own_plain.carried
+          (has_types before row after row.pt (has_pt row)))
+          ∙ ap (λ es. filter_map (row_at m) ((row.pt, record row.spec { format = empty }) ∷ es)) (no_others m row row.resend row.red)
+          ∙ ap (λ o. cons_option o []) row_is
+        where
+          m : MediaLine
+          m = section values frame (before ++ row ∷ after)
+
+  -- the rows that the section describes
+  pub rows_are : (rows : List PayloadParams) → AllByRecursion IsPlain rows → AllDistinct (types rows)
+      → AllByRecursion (λ r. IsSaid r (values r)) rows
+      → rows_of (section values frame rows) ≡ map unlocked rows
+  unfolding rows_of
+  rows_are rows plain d said =
+      ap (λ es. filter_map (row_at m) (filter (is_kept m) es)) (mapped_is values frame rows bare plain)
+      ∙ kept_rows (is_kept m) (row_at m) entries unlocked rows (each_among _ rows one)
+    where
+      m : MediaLine
+      m = section values frame rows
+
+      one : (before : List PayloadParams) (row : PayloadParams) (after : List PayloadParams) → rows ≡ before ++ row ∷ after
+          → filter_map (row_at m) (filter (is_kept m) (entries row)) ≡ unlocked row ∷ []
+      one before row after e =
+          ap (λ xs. filter_map (row_at (section values frame xs)) (filter (is_kept (section values frame xs)) (entries row))) e
+          ∙ one_row before row after (subst (AllByRecursion IsPlain) e plain) (subst (λ xs. AllDistinct (types xs)) e d)
+          (subst (AllByRecursion (λ r. IsSaid r (values r))) e said)
+
+  pub rows_same : (rows : List PayloadParams) → AllByRecursion IsPlain rows → AllDistinct (types rows)
+      → AllByRecursion (λ r. IsSaid r (values r)) rows
+      → AllZip SameRow (rows_of (section values frame rows)) rows
+  rows_same rows plain d said = subst (λ xs. AllZip SameRow xs rows) (sym (rows_are rows plain d said)) (go rows) where
+    go : (rows : List PayloadParams) → AllZip SameRow (map unlocked rows) rows
+    go [] = tt
+    go (row ∷ rows) = (refl, go rows)

@@ -1,0 +1,145 @@
+-- Printed mappings and feedback have their forms.
+use Rattle.std.proofs.Common.{◌≡◌, ◌<◌, ◌≤◌, ℕ, true, List, ◌++◌, Option, Some, None, IfSome, refl, subst, arith, lit<, lit≤}
+use Rattle.std.specs.Prelude.{codes}
+use Rattle.std.specs.Fmt.{decimal}
+use Rattle.std.proofs.lemmas.Fmt.{decimal_nonempty}
+use Rattle.str0m_values.specs.Cuts.{lacks}
+use Rattle.str0m_values.specs.Parts.{Lacks, IsRest}
+use Rattle.str0m_values.proofs.CutLaws.{lacks_from}
+use Rattle.str0m_formats.specs.Codec.{codec_text, codec_of, IsReadAs, printed_and_read}
+use Rattle.str0m_formats.specs.declared.codec.Codec.{Codec}
+use Rattle.str0m_formats.specs.declared.codec.Codec.TheVariants as codec
+use Rattle.str0m_formats.proofs.CodecNames.{read_as}
+use Rattle.str0m_sdp.specs.Attribute.{media_attribute_text}
+use Rattle.str0m_sdp.specs.RtpMap.{channels_text, rtp_map_text}
+use Rattle.str0m_sdp.specs.declared.rtp_map.RtpMap.{RtpMap as Mapping}
+use Rattle.str0m_sdp.specs.declared.attribute.MediaAttribute.TheVariants.{RtpMap, RtcpFb}
+use Rattle.str0m_signal.specs.RtpMap.{IsChannels, IsRtpMap}
+use Rattle.str0m_signal.specs.MediaAttribute.{IsMediaLine}
+use Rattle.str0m_signal.specs.Writable.{IsPrintedAs}
+use Rattle.str0m_signal.proofs.PrintedAttributes.{HoldsNoEnd, no_ends, no_end, num_is, decimal_lacks, decimal_no_end, attribute_printed}
+
+-- ---- the name of a codec
+
+printed_codec : (c : Codec) → codec_of (codec_text c) ≡ printed_and_read c
+unfolding codec_of
+printed_codec codec.Opus = refl
+printed_codec codec.PCMU = refl
+printed_codec codec.PCMA = refl
+printed_codec codec.G722 = refl
+printed_codec codec.CN = refl
+printed_codec codec.AmrWb = refl
+printed_codec codec.H264 = refl
+printed_codec codec.H265 = refl
+printed_codec codec.H266 = refl
+printed_codec codec.Vp8 = refl
+printed_codec codec.Vp9 = refl
+printed_codec codec.Av1 = refl
+printed_codec codec.Tele = refl
+printed_codec codec.Rtx = refl
+printed_codec codec.Red = refl
+printed_codec codec.Null = refl
+printed_codec codec.Unknown = refl
+
+-- the name of a codec reads as it, but for Null
+pub codec_is : (c : Codec) → IsReadAs (codec_text c) (printed_and_read c)
+codec_is c = subst (IsReadAs (codec_text c)) (printed_codec c) (read_as (codec_text c))
+
+pub record IsPlainName (name : List ℕ) : Type 0 where
+  pub filled : IsRest name
+  pub no_slash : Lacks 47 name
+  pub quiet : HoldsNoEnd name
+
+plain_name : (name : List ℕ) → IsRest name → lacks 47 name ≡ true → lacks 10 name ≡ true → lacks 13 name ≡ true → IsPlainName name
+plain_name name filled e f g = record { filled = filled; no_slash = lacks_from 47 name e; quiet = no_end name f g }
+
+pub name_is_plain : (c : Codec) → IsPlainName (codec_text c)
+name_is_plain codec.Opus = plain_name _ (lit< tt) refl refl refl
+name_is_plain codec.PCMU = plain_name _ (lit< tt) refl refl refl
+name_is_plain codec.PCMA = plain_name _ (lit< tt) refl refl refl
+name_is_plain codec.G722 = plain_name _ (lit< tt) refl refl refl
+name_is_plain codec.CN = plain_name _ (lit< tt) refl refl refl
+name_is_plain codec.AmrWb = plain_name _ (lit< tt) refl refl refl
+name_is_plain codec.H264 = plain_name _ (lit< tt) refl refl refl
+name_is_plain codec.H265 = plain_name _ (lit< tt) refl refl refl
+name_is_plain codec.H266 = plain_name _ (lit< tt) refl refl refl
+name_is_plain codec.Vp8 = plain_name _ (lit< tt) refl refl refl
+name_is_plain codec.Vp9 = plain_name _ (lit< tt) refl refl refl
+name_is_plain codec.Av1 = plain_name _ (lit< tt) refl refl refl
+name_is_plain codec.Tele = plain_name _ (lit< tt) refl refl refl
+name_is_plain codec.Rtx = plain_name _ (lit< tt) refl refl refl
+name_is_plain codec.Red = plain_name _ (lit< tt) refl refl refl
+name_is_plain codec.Null = plain_name _ (lit< tt) refl refl refl
+name_is_plain codec.Unknown = plain_name _ (lit< tt) refl refl refl
+
+-- ---- mappings
+
+channels_are : (channels : Option ℕ) → IfSome channels (λ n. n ≤ 255) → IsChannels (channels_text channels) channels
+channels_are None small = refl
+channels_are (Some n) small = (decimal n, refl, num_is 255 n small (lit< tt))
+
+channels_no_end : (channels : Option ℕ) → IfSome channels (λ n. n ≤ 255) → HoldsNoEnd (channels_text channels)
+channels_no_end None small = (tt, tt)
+channels_no_end (Some n) small = no_ends (codes "/") (decimal n) (no_end (codes "/") refl refl) (decimal_no_end n (omega arith))
+
+-- a mapping as it is read: Null by its name is Unknown
+abbrev pub mapping_read : Mapping → Mapping
+mapping_read value = record value { codec = printed_and_read value.codec }
+
+-- numbers as an rtpmap line holds them
+pub record KeepsToMapping (value : Mapping) : Type 0 where
+  pub clock : (0 < value.clock_rate) × (value.clock_rate ≤ 4294967295)
+  pub channels : IfSome value.channels (λ n. n ≤ 255)
+
+pub mapping_printed : (pt : ℕ) (value : Mapping) → pt ≤ 127 → KeepsToMapping value
+    → IsPrintedAs IsMediaLine (media_attribute_text (RtpMap pt value)) (RtpMap pt (mapping_read value))
+mapping_printed pt value small keeps = attribute_printed text (RtpMap pt (mapping_read value)) quiet is where
+  clock : HoldsNoEnd (decimal value.clock_rate)
+  clock = let limit = keeps.clock.1 in decimal_no_end value.clock_rate (omega arith)
+
+  name : IsPlainName (codec_text value.codec)
+  name = name_is_plain value.codec
+
+  text : List ℕ
+  text = codes "rtpmap:" ++ (decimal pt ++ (codes " " ++ rtp_map_text value))
+
+  quiet : HoldsNoEnd text
+  quiet =
+      no_ends (codes "rtpmap:") _ (no_end (codes "rtpmap:") refl refl)
+      (no_ends (decimal pt) _ (decimal_no_end pt (omega arith))
+      (no_ends (codes " ") _ (no_end (codes " ") refl refl)
+      (no_ends (codec_text value.codec) _ name.quiet
+      (no_ends (codes "/") _ (no_end (codes "/") refl refl)
+      (no_ends (decimal value.clock_rate) (channels_text value.channels) clock (channels_no_end value.channels keeps.channels))))))
+
+  is : IsRtpMap text pt (mapping_read value)
+  is =
+      let limit = keeps.clock.1 in
+      record {
+        number = decimal pt;
+        codec = codec_text value.codec;
+        clock = decimal value.clock_rate;
+        channels = channels_text value.channels;
+        joined = refl;
+        number_is = num_is 127 pt small (lit< tt);
+        codec_is = ((name.filled, name.no_slash), codec_is value.codec);
+        clock_is = (
+          (decimal_nonempty value.clock_rate (omega arith), decimal_lacks 47 value.clock_rate (lit≤ tt) (omega arith)),
+          num_is 4294967295 value.clock_rate limit (lit< tt),
+          keeps.clock.0,
+        );
+        channels_is = channels_are value.channels keeps.channels;
+      }
+
+-- ---- feedback
+
+pub feedback_printed : (pt : ℕ) (value : List ℕ) → pt ≤ 127 → IsRest value → HoldsNoEnd value
+    → IsPrintedAs IsMediaLine (media_attribute_text (RtcpFb pt value)) (RtcpFb pt value)
+feedback_printed pt value small filled quiet =
+    attribute_printed (codes "rtcp-fb:" ++ (decimal pt ++ (codes " " ++ value))) (RtcpFb pt value)
+    (no_ends (codes "rtcp-fb:") _ (no_end (codes "rtcp-fb:") refl refl)
+    (no_ends (decimal pt) _ (decimal_no_end pt (omega arith)) (no_ends (codes " ") value (no_end (codes " ") refl refl) quiet))) (
+      decimal pt ++ (codes " " ++ value),
+      refl,
+      (decimal pt, value, refl, decimal_lacks 32 pt (lit≤ tt) (omega arith), num_is 127 pt small (lit< tt), (filled, refl)),
+    )

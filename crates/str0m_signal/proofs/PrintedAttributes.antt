@@ -1,0 +1,71 @@
+-- Printed attribute lines and their parts.
+use Rattle.std.proofs.Common.{◌≡◌, ◌⊎◌, ◌≤◌, ◌<◌, ◌^◌, ℕ, true, List, [], ◌∷◌, ◌++◌, refl, sym, subst, arith, lit≤, inl, inr}
+use Rattle.std.specs.Prelude.{codes}
+use Rattle.std.specs.Char.{digit_value}
+use Rattle.std.specs.Fmt.{decimal}
+use Rattle.std.proofs.lemmas.Fmt.{decimal_is_IsNumeral}
+use Rattle.str0m_values.specs.Cuts.{lacks}
+use Rattle.str0m_values.specs.Parts.{Lacks, IsNum}
+use Rattle.str0m_values.proofs.CutLaws.{lacks_from}
+use Rattle.str0m_values.proofs.NumLaws.{digits_lack}
+use Rattle.str0m_formats.proofs.RoundTrip.{decimal_reads}
+use Rattle.str0m_sdp.specs.Lines.{line_end, attribute_line}
+use Rattle.str0m_sdp.specs.declared.attribute.MediaAttribute.{MediaAttribute}
+use Rattle.str0m_signal.specs.MediaAttribute.{Named, IsMediaLine}
+use Rattle.str0m_signal.specs.Writable.{IsPrintedAs}
+
+-- each item prints nothing, or one line that reads as the value in its place
+abbrev pub AreReadAs : {X A : Type 0} → (X → List ℕ) → (List ℕ → A → Type 0) → List X → List A → Type 0
+AreReadAs text F [] reads = reads ≡ []
+AreReadAs {A} text F (x ∷ xs) reads =
+    ((text x ≡ []) × AreReadAs text F xs reads)
+    ⊎ ((a : A) × (more : List A) × (reads ≡ a ∷ more) × IsPrintedAs F (text x) a × AreReadAs text F xs more)
+
+pub one_read : {X A : Type 0} (text : X → List ℕ) (F : List ℕ → A → Type 0) (x : X) (a : A) (xs : List X) (reads : List A)
+    → IsPrintedAs F (text x) a → AreReadAs text F xs reads → AreReadAs text F (x ∷ xs) (a ∷ reads)
+one_read text F x a xs reads line more = inr (a, reads, refl, line, more)
+
+pub both_read : {X A : Type 0} (text : X → List ℕ) (F : List ℕ → A → Type 0) (xs ys : List X) (reads more : List A)
+    → AreReadAs text F xs reads → AreReadAs text F ys more → AreReadAs text F (xs ++ ys) (reads ++ more)
+both_read text F [] ys reads more h k = subst (λ rs. AreReadAs text F ys (rs ++ more)) (sym h) k
+both_read text F (x ∷ xs) ys reads more (inl nothing) k = inl (nothing.0, both_read text F xs ys reads more nothing.1 k)
+both_read {A} text F (x ∷ xs) ys reads more (inr (a, rest, e, line, later)) k =
+    subst (λ (rs : List A). AreReadAs text F (x ∷ (xs ++ ys)) (rs ++ more)) (sym e)
+    (one_read text F x a (xs ++ ys) (rest ++ more) line (both_read text F xs ys rest more later k))
+
+-- ---- what a line holds no end within
+
+-- neither LF nor CR stands in the text
+abbrev pub HoldsNoEnd : List ℕ → Type 0
+HoldsNoEnd text = Lacks 10 text × Lacks 13 text
+
+pub both_lack : (c : ℕ) (xs ys : List ℕ) → Lacks c xs → Lacks c ys → Lacks c (xs ++ ys)
+both_lack c [] ys h k = k
+both_lack c (x ∷ xs) ys h k = (h.0, both_lack c xs ys h.1 k)
+
+pub no_ends : (xs ys : List ℕ) → HoldsNoEnd xs → HoldsNoEnd ys → HoldsNoEnd (xs ++ ys)
+no_ends xs ys h k = (both_lack 10 xs ys h.0 k.0, both_lack 13 xs ys h.1 k.1)
+
+pub no_end : (text : List ℕ) → lacks 10 text ≡ true → lacks 13 text ≡ true → HoldsNoEnd text
+no_end text e f = (lacks_from 10 text e, lacks_from 13 text f)
+
+-- ---- numbers
+
+pub num_is : (limit n : ℕ) → n ≤ limit → limit < 2 ^ 64 → IsNum limit (decimal n) n
+num_is limit n small fits = decimal_reads limit n small (omega arith)
+
+-- digits hold no character that isn't one
+pub decimal_lacks : (c n : ℕ) → 10 ≤ digit_value c → n < 2 ^ 64 → Lacks c (decimal n)
+decimal_lacks c n other small = digits_lack c (decimal n) other (decimal_is_IsNumeral n small).0.1
+
+pub decimal_no_end : (n : ℕ) → n < 2 ^ 64 → HoldsNoEnd (decimal n)
+decimal_no_end n small = (decimal_lacks 10 n (lit≤ tt) small, decimal_lacks 13 n (lit≤ tt) small)
+
+-- ---- attributes
+
+-- an attribute with a form of its own, on a line of its own
+pub attribute_printed : (text : List ℕ) (attr : MediaAttribute) → HoldsNoEnd text → Named text attr
+    → IsPrintedAs IsMediaLine (attribute_line text) attr
+attribute_printed text attr quiet form =
+    let front = no_ends (codes "a=") text (no_end (codes "a=") refl refl) quiet in
+    (codes "a=" ++ text, refl, front.0, front.1, (text, refl, inl form))

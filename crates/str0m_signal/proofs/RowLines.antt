@@ -1,0 +1,253 @@
+-- The printed lines of a row have their forms, and read as the row's lines.
+use Rattle.std.proofs.Common.{◌≡◌, ◌≢◌, ◌<◌, ◌≤◌, ℕ, Bool, true, false, List, [], ◌∷◌, ◌++◌, map, filter_map, Option, Some, None}
+use Rattle.std.proofs.Common.{IfSome, option_map, refl, sym, ap, subst, arith, lit<, lit≤}
+use Rattle.std.specs.Prelude.{codes}
+use Rattle.std.specs.List.{AllByRecursion, cons_option, flat_map}
+use Rattle.str0m_values.specs.Parts.{IsRest}
+use Rattle.str0m_formats.specs.Codec.{printed_and_read}
+use Rattle.str0m_formats.specs.CodecSpec.{rtp_rate}
+use Rattle.str0m_formats.specs.FormatParam.{param_text}
+use Rattle.str0m_formats.specs.FormatParams.{params_of, fields, param_at}
+use Rattle.str0m_formats.specs.Narrowing.{telephone_max}
+use Rattle.str0m_formats.specs.PairsReading.{params_read}
+use Rattle.str0m_formats.specs.declared.codec.Codec.{Codec}
+use Rattle.str0m_formats.specs.declared.codec.Codec.TheVariants as codec
+use Rattle.str0m_formats.specs.declared.format_param.FormatParam.{FormatParam}
+use Rattle.str0m_formats.specs.declared.format_param.FormatParam.TheVariants.{MinPTime, Stereo, SpropStereo, UseInbandFec, UseDtx}
+use Rattle.str0m_formats.specs.declared.format_param.FormatParam.TheVariants.{LevelAsymmetryAllowed, PacketizationMode}
+use Rattle.str0m_formats.specs.declared.format_param.FormatParam.TheVariants.{ProfileLevelId, ProfileId, Profile, LevelIdx, Tier}
+use Rattle.str0m_formats.specs.declared.format_param.FormatParam.TheVariants.{H265ProfileTierLevel, H266ProfileTierLevel}
+use Rattle.str0m_formats.specs.declared.format_param.FormatParam.TheVariants.{SpropMaxDonDiff, TelephoneEvents, BareRange}
+use Rattle.str0m_formats.specs.declared.format_param.FormatParam.TheVariants.{BarePtList, OctetAlign, ModeSet, Apt, Red}
+use Rattle.str0m_formats.specs.declared.format_params.FormatParams.{FormatParams}
+use Rattle.str0m_formats.specs.declared.payload_params.PayloadParams.{PayloadParams}
+use Rattle.str0m_formats.proofs.PrintedLine.{joined}
+use Rattle.str0m_formats.proofs.PrintedPairs.{IsLineOf}
+use Rattle.str0m_formats.proofs.Shown.{IsPlainPair, joined_pair}
+use Rattle.str0m_sdp.specs.Attribute.{media_attribute_text}
+use Rattle.str0m_sdp.specs.RowAttributes.{feedback_line, feedback_attrs, fmtp_line, format_values, format_attrs, rtx_lines}
+use Rattle.str0m_sdp.specs.RowAttributes.{rtx_attrs, red_lines, red_attrs, row_attrs}
+use Rattle.str0m_sdp.specs.RtpMap.{map_of_spec}
+use Rattle.str0m_sdp.specs.declared.attribute.MediaAttribute.{MediaAttribute}
+use Rattle.str0m_sdp.specs.declared.attribute.MediaAttribute.TheVariants.{RtpMap, RtcpFb, Fmtp}
+use Rattle.str0m_sdp.specs.declared.rtp_map.RtpMap.{RtpMap as Mapping}
+use Rattle.str0m_signal.specs.MediaAttribute.{IsMediaLine}
+use Rattle.str0m_signal.specs.Writable.{IsPrintedAs}
+use Rattle.str0m_signal.proofs.PrintedAttributes.{AreReadAs, one_read, both_read, HoldsNoEnd, no_end}
+use Rattle.str0m_signal.proofs.Mapped.{KeepsToMapping, mapping_printed, feedback_printed}
+use Rattle.str0m_signal.proofs.Formats.{AreShown, apt_printed, red_printed, events_printed, pairs_printed}
+use Rattle.str0m_sdp.proofs.ReadValues.{line_read}
+use Rattle.str0m_sdp.proofs.RowReads.{fmtp_lines, red_reads, reads}
+
+-- the attributes print lines that read as these
+abbrev pub ReadAs : List MediaAttribute → List MediaAttribute → Type 0
+ReadAs = AreReadAs media_attribute_text IsMediaLine
+
+pub joins : (xs ys reads more : List MediaAttribute) → ReadAs xs reads → ReadAs ys more → ReadAs (xs ++ ys) (reads ++ more)
+joins = both_read media_attribute_text IsMediaLine
+
+pub one : (x a : MediaAttribute) → IsPrintedAs IsMediaLine (media_attribute_text x) a → ReadAs (x ∷ []) (a ∷ [])
+one x a h = one_read media_attribute_text IsMediaLine x a [] [] h refl
+
+-- ---- mappings of codecs that have a name
+
+kept : (c : Codec) → c ≢ codec.Null → printed_and_read c ≡ c
+kept codec.Null other = absurd (other refl)
+kept c other = refl
+
+pub named_printed : (pt : ℕ) (value : Mapping) → pt ≤ 127 → KeepsToMapping value → value.codec ≢ codec.Null
+    → IsPrintedAs IsMediaLine (media_attribute_text (RtpMap pt value)) (RtpMap pt value)
+named_printed pt value small keeps other =
+    subst (λ (c : Codec). IsPrintedAs IsMediaLine (media_attribute_text (RtpMap pt value)) (RtpMap pt (record value { codec = c })))
+    (kept value.codec other) (mapping_printed pt value small keeps)
+
+abbrev pub IsRate : ℕ → Type 0
+IsRate rate = (0 < rate) × (rate ≤ 4294967295)
+
+rate_keeps : (c : Codec) (rate : ℕ) → IsRate rate → IsRate (rtp_rate c rate)
+rate_keeps codec.G722 rate h = (lit< tt, lit≤ tt)
+rate_keeps c rate h = h
+
+-- ---- rows
+
+-- a codec with a name, types of seven bits, a clock rate of 32 bits that isn't zero, channels of eight
+pub record KeepsToRow (row : PayloadParams) : Type 0 where
+  pub pt : row.pt ≤ 127
+  pub resend : IfSome row.resend (λ n. n ≤ 127)
+  pub red : IfSome row.red (λ n. n ≤ 127)
+  pub named : row.spec.codec ≢ codec.Null
+  pub rate : IsRate row.spec.clock_rate
+  pub channels : IfSome row.spec.channels (λ n. n ≤ 255)
+
+module _ (row : PayloadParams) (keeps : KeepsToRow row) where
+  rate : IsRate (rtp_rate row.spec.codec row.spec.clock_rate)
+  rate = rate_keeps row.spec.codec row.spec.clock_rate keeps.rate
+
+  small : row.pt ≤ 127
+  small = keeps.pt
+
+  feedback : (w : List ℕ) (b : Bool) → IsRest w → HoldsNoEnd w → ReadAs (feedback_line row.pt w b) (feedback_line row.pt w b)
+  feedback w true filled quiet = one (RtcpFb row.pt w) (RtcpFb row.pt w) (feedback_printed row.pt w small filled quiet)
+  feedback w false filled quiet = refl
+
+  pub feedback_read : ReadAs (feedback_attrs row) (feedback_attrs row)
+  feedback_read =
+      joins _ _ _ _ (feedback (codes "transport-cc") row.fb_transport_cc (lit< tt) (no_end (codes "transport-cc") refl refl))
+      (joins _ _ _ _ (feedback (codes "goog-remb") row.fb_remb (lit< tt) (no_end (codes "goog-remb") refl refl))
+      (joins _ _ _ _ (feedback (codes "ccm fir") row.fb_fir (lit< tt) (no_end (codes "ccm fir") refl refl))
+      (joins _ _ _ _ (feedback (codes "nack") row.fb_nack (lit< tt) (no_end (codes "nack") refl refl))
+      (feedback (codes "nack pli") row.fb_pli (lit< tt) (no_end (codes "nack pli") refl refl)))))
+
+  rtx : (o : Option ℕ) → IfSome o (λ n. n ≤ 127) → ReadAs (rtx_lines row o) (rtx_lines row o)
+  rtx None h = refl
+  rtx (Some n) h =
+      let map : Mapping = record { codec = codec.Rtx; clock_rate = rtp_rate row.spec.codec row.spec.clock_rate; channels = None } in
+      let apt = Fmtp n (Apt row.pt ∷ []) in
+      joins (RtpMap n map ∷ []) (apt ∷ []) (RtpMap n map ∷ []) (apt ∷ [])
+      (one (RtpMap n map) (RtpMap n map) (named_printed n map h (record { clock = rate; channels = tt }) (λ e. cc)))
+      (one apt apt (apt_printed n row.pt h (omega (arith, small))))
+
+  red : (o : Option ℕ) → IfSome o (λ n. n ≤ 127) → ReadAs (red_lines row o) (red_reads row o)
+  red None h = refl
+  red (Some n) h =
+      let clock = rtp_rate row.spec.codec row.spec.clock_rate in
+      let map : Mapping = record { codec = codec.Red; clock_rate = clock; channels = row.spec.channels } in
+      let twice = Fmtp n (Red row.pt ∷ []) in
+      let list = Fmtp n (BarePtList row.pt ∷ []) in
+      joins (RtpMap n map ∷ []) (twice ∷ []) (RtpMap n map ∷ []) (list ∷ [])
+      (one (RtpMap n map) (RtpMap n map) (named_printed n map h (record { clock = rate; channels = keeps.channels }) (λ e. cc)))
+      (one twice list (red_printed n row.pt h (omega (arith, small))))
+
+  -- the lines of a row, where its format's lines read as these values
+  pub row_read : (values : List (List FormatParam)) → ReadAs (format_attrs row) (fmtp_lines row.pt values)
+      → ReadAs (row_attrs row) (reads row values)
+  row_read values format =
+      joins (RtpMap row.pt (map_of_spec row.spec) ∷ []) _ (RtpMap row.pt (map_of_spec row.spec) ∷ []) _
+      (one (RtpMap row.pt (map_of_spec row.spec)) (RtpMap row.pt (map_of_spec row.spec))
+      (named_printed row.pt (map_of_spec row.spec) small (record { clock = rate; channels = keeps.channels }) keeps.named))
+      (joins (feedback_attrs row) _ (feedback_attrs row) _ feedback_read
+      (joins (format_attrs row) _ (fmtp_lines row.pt values) _ format
+      (joins (rtx_attrs row) (red_attrs row) (rtx_lines row row.resend) (red_reads row row.red) (rtx row.resend keeps.resend)
+      (red row.red keeps.red))))
+
+-- ---- the lines of a format
+
+pub params_printed : (pt : ℕ) (params : List FormatParam) (pairs : List (List ℕ × List ℕ)) → pt ≤ 127 → AreShown params
+    → AllByRecursion IsPlainPair pairs → joined (map param_text params) ≡ joined (map joined_pair pairs)
+    → (params ≢ [] → pairs ≢ []) → (params ≡ [] → pairs ≡ [])
+    → ReadAs (fmtp_line pt params) (fmtp_lines pt (line_read pairs))
+params_printed pt [] [] small shown plain e some none = refl
+params_printed pt [] (p ∷ ps) small shown plain e some none = let f = none refl in absurd cc
+params_printed pt (v ∷ vs) [] small shown plain e some none = absurd (some (λ f. absurd cc) refl)
+params_printed pt (v ∷ vs) (p ∷ ps) small shown plain e some none =
+    one (Fmtp pt (v ∷ vs)) (Fmtp pt (params_read (p ∷ ps))) (pairs_printed pt v vs p ps small shown plain e)
+
+cons_shown : (o : Option FormatParam) (params : List FormatParam) → IfSome o (λ v. IsRest (param_text v)) → AreShown params
+    → AreShown (cons_option o params)
+cons_shown None params h k = k
+cons_shown (Some v) params h k = (h, k)
+
+each_shown : {X : Type 0} (g : X → Option FormatParam) (xs : List X)
+    → AllByRecursion (λ x. IfSome (g x) (λ v. IsRest (param_text v))) xs → AreShown (filter_map g xs)
+each_shown g [] h = tt
+each_shown g (x ∷ xs) h = cons_shown (g x) (filter_map g xs) h.0 (each_shown g xs h.1)
+
+made : {A : Type 0} (make : A → FormatParam) (o : Option A) → ((x : A) → IsRest (param_text (make x)))
+    → IfSome (option_map make o) (λ v. IsRest (param_text v))
+made make None h = tt
+made make (Some x) h = h x
+
+-- the parameters of a format all print something
+pub params_shown : (p : FormatParams) → AreShown (params_of p)
+unfolding params_of
+params_shown p = each_shown (λ f. param_at f p) fields (
+  made (λ x. MinPTime x) p.min_p_time (λ x. omega arith),
+  (
+    made (λ x. Stereo x) p.stereo (λ x. omega arith),
+    (
+      made (λ x. SpropStereo x) p.sprop_stereo (λ x. omega arith),
+      (
+        made (λ x. UseInbandFec x) p.use_inband_fec (λ x. omega arith),
+        (
+          made (λ x. UseDtx x) p.use_dtx (λ x. omega arith),
+          (
+            made (λ x. LevelAsymmetryAllowed x) p.level_asymmetry_allowed (λ x. omega arith),
+            (
+              made (λ x. PacketizationMode x) p.packetization_mode (λ x. omega arith),
+              (
+                made (λ x. ProfileLevelId x) p.profile_level_id (λ x. omega arith),
+                (
+                  made (λ x. ProfileId x) p.profile_id (λ x. omega arith),
+                  (
+                    made (λ x. Profile x) p.profile (λ x. omega arith),
+                    (
+                      made (λ x. LevelIdx x) p.level_idx (λ x. omega arith),
+                      (
+                        made (λ x. Tier x) p.tier (λ x. omega arith),
+                        (
+                          made (λ x. H265ProfileTierLevel x) p.h265_profile_tier_level (λ x. omega arith),
+                          (
+                            made (λ x. H266ProfileTierLevel x) p.h266_profile_tier_level (λ x. omega arith),
+                            (
+                              made (λ x. SpropMaxDonDiff x) p.sprop_max_don_diff (λ x. omega arith),
+                              (
+                                made (λ x. TelephoneEvents x) p.telephone_event_max (λ x. omega arith),
+                                (
+                                  made (λ x. OctetAlign x) p.octet_align (λ x. omega arith),
+                                  (made (λ x. ModeSet x) p.mode_set (λ x. omega arith), tt),
+                                ),
+                              ),
+                            ),
+                          ),
+                        ),
+                      ),
+                    ),
+                  ),
+                ),
+              ),
+            ),
+          ),
+        ),
+      ),
+    ),
+  ),
+)
+
+-- ---- rows of each codec
+
+-- telephone events: a range up to the highest
+pub events_read : (row : PayloadParams) → KeepsToRow row → row.spec.codec ≡ codec.Tele → telephone_max row.spec.format ≤ 255
+    → ReadAs (row_attrs row) (reads row ((BareRange (telephone_max row.spec.format) ∷ []) ∷ []))
+events_read row keeps tele fits =
+    let values = (BareRange (telephone_max row.spec.format) ∷ []) ∷ [] in
+    let range = TelephoneEvents (telephone_max row.spec.format) ∷ [] in
+    row_read row keeps values
+    (subst (λ (params : List FormatParam). ReadAs (fmtp_line row.pt params) (fmtp_lines row.pt values))
+    (sym (ap (λ (c : Codec). format_values c row.spec.format) tele))
+    (one (Fmtp row.pt range) (Fmtp row.pt (BareRange (telephone_max row.spec.format) ∷ []))
+    (events_printed row.pt (telephone_max row.spec.format) keeps.pt fits)))
+
+format_of : (c : Codec) (p : FormatParams) → c ≢ codec.Tele → format_values c p ≡ params_of p
+format_of codec.Tele p other = absurd (other refl)
+format_of c p other = refl
+
+-- any other codec, whose format prints as plain pairs: what these read as together
+pub pairs_row_read : (row : PayloadParams) → KeepsToRow row → row.spec.codec ≢ codec.Tele → (pairs : List (List ℕ × List ℕ))
+    → IsLineOf row.spec.format pairs
+    → ReadAs (row_attrs row) (reads row (line_read pairs))
+pairs_row_read row keeps other pairs line =
+    let values = line_read pairs in
+    row_read row keeps values
+    (subst (λ (params : List FormatParam). ReadAs (fmtp_line row.pt params) (fmtp_lines row.pt values))
+    (sym (format_of row.spec.codec row.spec.format other))
+    (params_printed row.pt (params_of row.spec.format) pairs keeps.pt (params_shown row.spec.format) line.plain line.text line.some
+    line.none))
+
+-- ---- rows one after another
+
+pub rows_read : (rows : List PayloadParams) (values : PayloadParams → List (List FormatParam))
+    → AllByRecursion (λ row. ReadAs (row_attrs row) (reads row (values row))) rows
+    → ReadAs (flat_map row_attrs rows) (flat_map (λ row. reads row (values row)) rows)
+rows_read [] values h = refl
+rows_read (row ∷ rows) values h =
+    joins (row_attrs row) (flat_map row_attrs rows) (reads row (values row)) _ h.0 (rows_read rows values h.1)

@@ -1,0 +1,64 @@
+-- The last part of the headline: plain, distinct rows, printed in a writable session, are read back, in order.
+use Rattle.std.proofs.Common.{◌≡◌, ◌≢◌, ◌<◌, ◌^◌, ℕ, true, zero, suc, List, [], ◌∷◌, length, refl, sym, ap, ◌∙◌, subst, inl, inr}
+use Rattle.std.specs.Prelude.{All}
+use Rattle.std.proofs.lemmas.List.Elements.{recursion_from_All}
+use Rattle.std.proofs.lemmas.Option.{same_Some}
+use Rattle.str0m_formats.specs.Bounds.{HoldsRowNumbers}
+use Rattle.str0m_formats.specs.PlainRow.{IsPlain}
+use Rattle.str0m_formats.specs.Rows.{types}
+use Rattle.str0m_formats.specs.TypeSets.{AllDistinct}
+use Rattle.str0m_formats.specs.declared.payload_params.PayloadParams.{PayloadParams}
+use Rattle.str0m_sdp.specs.MediaType.{is_media}
+use Rattle.str0m_sdp.specs.declared.media_line.MediaLine.{MediaLine}
+use Rattle.str0m_sdp.specs.declared.session.Sdp.{Sdp}
+use Rattle.str0m_sdp.proofs.ReadSection.{Describes}
+use Rattle.str0m_sdp.proofs.ReadValues.{values_printed, describes_read_back}
+use Rattle.str0m_signal.specs.ReadBack.{ReadBack, MayBePrinted, ReadsBack}
+use Rattle.str0m_signal.specs.Writable.{Writable}
+use Rattle.str0m_signal.proofs.PlainRows.{types_fit, plain_rows_read}
+use Rattle.str0m_signal.proofs.WithRows.{section_read, ReadWithRows, with_rows_read}
+
+of_section : (sdp : Sdp) (i : ℕ) (w : Writable sdp i) (theirs : List PayloadParams) → sdp.session.id < 2 ^ 64
+    → is_media w.section.typ ≡ true → MayBePrinted theirs → All HoldsRowNumbers theirs → ReadBack sdp i w.section theirs
+of_section sdp i w [] small media may holds = absurd (may.some refl)
+of_section sdp i w (first ∷ more) small media may holds =
+    let theirs = first ∷ more in
+    let m = section_read w.section w.own.0 theirs values_printed in
+    let frame = w.own.2 in
+    let plain = recursion_from_All IsPlain theirs may.plain in
+    let d : Describes m theirs =
+    describes_read_back m w.own.0.attrs theirs
+    (record { bare = frame.none_of_type; mid = frame.mid; setup = frame.setup; direction = λ srtp. frame.direction })
+    refl refl may.plain holds may.distinct may.some in
+    let found : ReadWithRows sdp i w.section m theirs =
+    with_rows_read sdp i w first more values_printed small media (types_fit theirs plain)
+    (plain_rows_read theirs plain (recursion_from_All HoldsRowNumbers theirs holds)) d.consistent in
+    record {
+      read = found.read;
+      whole = found.whole;
+      section = m;
+      at = found.at;
+      consistent = d.consistent;
+      names_one = d.names_one;
+      same = d.same;
+    }
+
+pub reads_back : (sdp : Sdp) (i : ℕ) → Writable sdp i → (theirs : List PayloadParams) → MayBePrinted theirs → ReadsBack sdp i theirs
+reads_back sdp i w theirs may = λ frame at media fit.
+    let same : w.section ≡ frame = same_Some w.section frame (sym w.at ∙ at) in
+    subst (λ (m : MediaLine). ReadBack sdp i m theirs) same
+    (of_section sdp i w theirs fit.0 (subst (λ (m : MediaLine). is_media m.typ ≡ true) (sym same) media) may fit.1)
+
+some_left : (before after : List PayloadParams) → length after ≡ length before → before ≢ [] → after ≢ []
+some_left [] after e some = absurd (some refl)
+some_left (row ∷ rows) [] e some = let d = e in absurd cc
+some_left (row ∷ rows) (first ∷ more) e some = λ none. absurd cc
+
+-- rows that stay as many, plain and distinct may be printed still
+pub still_printable : (before after : List PayloadParams) → length after ≡ length before → (All IsPlain before → All IsPlain after)
+    → (AllDistinct (types before) → AllDistinct (types after)) → MayBePrinted before → MayBePrinted after
+still_printable before after e plain distinct may = record {
+  some = some_left before after e may.some;
+  plain = plain may.plain;
+  distinct = distinct may.distinct;
+}

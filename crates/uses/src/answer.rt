@@ -1,0 +1,57 @@
+//! An offer that is answered.
+
+ghost use Rattle.std.specs.Prelude.{◌≡◌, ◌<◌, IfOk, IfSome, Some, filter, length, slice_set};
+ghost use Rattle.std.specs.List.{slice_get};
+ghost use Rattle.std.specs.String.{string_bytes};
+ghost use Rattle.str0m_sdp.specs.Session.{sdp_text};
+ghost use Rattle.str0m_sdp.specs.declared.media_line.MediaLine.{MediaLine};
+ghost use Rattle.str0m_signal.specs.ReadBack.{MayBePrinted, ReadsBack, with_rows};
+
+use str0m_signal::{
+    CodecConfig, MediaLine, Sdp, SdpAnswer, SdpError, is_writable, locked_rows, negotiate_text,
+    section_of,
+};
+
+/// The text of a description with this section in the place of one.
+fn with_section(mut own: Sdp, at: usize, section: MediaLine) -> Result<String, SdpError>
+    requires { at < length own.media_lines }
+    ensures { IfOk result (λ text. string_bytes text ≡ sdp_text (record own { media_lines = slice_set own.media_lines at section })) }
+{
+    own.media_lines.0[at] = section;
+    let answer = SdpAnswer::from(own);
+    Ok(answer.to_sdp_string()?)
+}
+
+/// Negotiates with an offer, and answers with `own`, the description of the answering side: in its
+/// section at `at`, counted from 0, stand the rows that are locked then. `None` where no row is locked,
+/// or where `own` has no section there in which rows are read back.
+///
+/// The other side reads the answer to its end, and finds these rows in that section, in order, where
+/// it is one of audio or video and the rows of the configuration were plain and distinct.
+///
+/// # Errors
+///
+/// `ParseError` where the offer's text describes no session; `Memory` where memory was refused.
+pub fn answer_section(
+    config: &mut CodecConfig,
+    offer: &str,
+    own: Sdp,
+    at: usize,
+) -> Result<Option<String>, SdpError>
+    ensures text { IfOk result (λ answer. IfSome answer (λ text.
+        (frame : MediaLine) × (slice_get own.media_lines at ≡ Some frame)
+        × (string_bytes text ≡ sdp_text (with_rows own at frame (filter (λ row. row.locked) config.new.params.items))))) }
+    ensures read_back { MayBePrinted config.old.params.items → IfOk result (λ answer. IfSome answer (λ text.
+        ReadsBack own at (filter (λ row. row.locked) config.new.params.items))) }
+{
+    negotiate_text(config, offer)?;
+    let rows = locked_rows(config)?;
+    if rows.is_empty() || !is_writable(&own, at)? {
+        return Ok(None);
+    }
+    let Some(frame) = own.media_lines.get(at) else {
+        return Ok(None);
+    };
+    let section = section_of(frame, rows.as_slice())?;
+    Ok(Some(with_section(own, at, section)?))
+}
