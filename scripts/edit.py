@@ -59,6 +59,38 @@ def changed(texts, changes):
     return texts
 
 
+def block_of(path, text, offset, homes):
+    """The text of the function whose body stands at the offset, with what stands above its head, or None where no copy of it can
+    stand beside it: a method of a trait, and one of a cycle of calls."""
+    lines, at = text.split("\n"), text.count("\n", 0, offset)
+    heads = [it for it in range(at + 1) if FUNCTION.match(lines[it])]
+    name = function_at(path, text, offset, homes)
+    if name is None or not heads:
+        return None
+    head = FUNCTION.match(lines[heads[-1]])
+    if head["indent"]:
+        block = next((it for it in reversed(lines[: heads[-1]]) if BLOCK.match(it)), "")
+        found = BLOCK.match(block)
+        if not found or found["trait"] or found["decl"]:
+            return None
+    start = heads[-1]
+    while lines[start - 1] and not lines[start - 1].endswith("{"):
+        start -= 1
+    end = lines.index(head["indent"] + "}", heads[-1]) + 1
+    block = "\n".join(lines[start:end])
+    return block if text.count(block) == 1 and "#[cycle" not in block else None
+
+
+def copied(texts, name, block, number):
+    """A copy of a function under another name: that name, the copy's text, and the texts of its proof."""
+    short, again = name.rpartition("::")[2], f"{name}_again{number}"
+    folder, dotted = f"proofs/{name.replace('::', '/')}/", re.escape(name.replace("::", "."))
+    proof = {f"proofs/{again.replace('::', '/')}/{it.removeprefix(folder)}": text for it, text in texts.items() if it.startswith(folder)}
+    for path, text in proof.items():
+        proof[path] = re.sub(rf"(\.proofs\.{dotted})\b|\b{short}(?=_spec\b)", rf"\g<0>_again{number}", text)
+    return again, re.sub(rf"\bfn {short}\b", f"fn {short}_again{number}", block, count=1), proof
+
+
 def readers_of(path, table, texts, homes):
     """The functions in whose bodies the table stands, or None where it may count elsewhere too, as in a clause."""
     word, found = re.compile(rf"\b{table['name']}\b"), set()
@@ -79,8 +111,8 @@ class Edit:
     where it turns that. It is None where nothing bounds it."""
 
     def __init__(self, path, texts, homes):
-        self.name, self.changes, self.functions = str(path.relative_to(CRATES)), [], set()
-        said, turned, readers = {}, set(), []
+        self.name, self.changes, self.functions, self.block = str(path.relative_to(CRATES)), [], set(), None
+        first, said, turned, readers = texts, {}, set(), []
         for line in path.read_text("utf-8").split("\n"):
             word, _, said[word] = line.partition(":")
             if word == "falls":
@@ -101,3 +133,8 @@ class Edit:
             self.reach = set().union(*readers) if is_table else None
         if not self.functions:
             raise ValueError("it turns no body: name the function that must fall by a line 'falls: MODULE::FUNCTION'")
+        file, old, _ = self.changes[0]
+        if not self.is_wide and len(self.functions) == 1:
+            block = block_of(file, first[file], first[file].index(old), homes)
+            if block and all(it[0] == file and it[1] in block for it in self.changes):
+                self.block = block
