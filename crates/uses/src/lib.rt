@@ -3,7 +3,13 @@
 #![tactic(auto)]
 
 mod answer;
+mod later_round;
+mod offered;
+mod stored;
 #[cfg(test)]
 mod tests;
 
 pub use answer::answer_section;
+pub use later_round::negotiate_again;
+pub use offered::offered_rows;
+pub use stored::is_as_printed;
