@@ -1,30 +1,35 @@
 //! An offer that is answered.
 
-ghost use Rattle.std.specs.Prelude.{◌≡◌, ◌<◌, IfOk, IfSome, Some, filter, length, slice_set};
+ghost use Rattle.std.specs.Prelude.{◌≡◌, ◌<◌, IfErr, IfOk, IfSome, List, Some, filter, length, slice_set};
 ghost use Rattle.std.specs.List.{slice_get};
 ghost use Rattle.std.specs.String.{string_bytes};
 ghost use Rattle.str0m_sdp.specs.Session.{sdp_text};
 ghost use Rattle.str0m_sdp.specs.declared.media_line.MediaLine.{MediaLine};
+ghost use Rattle.str0m_formats.specs.Runs.{Outcome};
+ghost use Rattle.str0m_signal.specs.Answers.{Refuses};
+ghost use Rattle.str0m_signal.specs.Negotiation.{NegotiatedText};
 ghost use Rattle.str0m_signal.specs.ReadBack.{MayBePrinted, ReadsBack, with_rows};
+ghost use Rattle.str0m_signal.specs.Reading.{Described};
 
+use std::alloc::AllocError;
 use str0m_signal::{
     CodecConfig, MediaLine, Sdp, SdpAnswer, SdpError, is_writable, locked_rows, negotiate_text,
     section_of,
 };
 
 /// The text of a description with this section in the place of one.
-fn with_section(mut own: Sdp, at: usize, section: MediaLine) -> Result<String, SdpError>
+fn with_section(mut own: Sdp, at: usize, section: MediaLine) -> Result<String, AllocError>
     requires { at < length own.media_lines }
     ensures { IfOk result (λ text. string_bytes text ≡ sdp_text (record own { media_lines = slice_set own.media_lines at section })) }
 {
     own.media_lines.0[at] = section;
     let answer = SdpAnswer::from(own);
-    Ok(answer.to_sdp_string()?)
+    answer.to_sdp_string()
 }
 
 /// Negotiates with an offer, and answers with `own`, the description of the answering side: in its
 /// section at `at`, counted from 0, stand the rows that are locked then. `None` where no row is locked,
-/// or where `own` has no section there in which rows are read back.
+/// or where `is_writable` is false of `own` and `at`.
 ///
 /// The other side reads the answer to its end, and finds these rows in that section, in order, where
 /// it is one of audio or video and the rows of the configuration were plain and distinct.
@@ -38,6 +43,10 @@ pub fn answer_section(
     own: Sdp,
     at: usize,
 ) -> Result<Option<String>, SdpError>
+    ensures negotiated { IfOk result (λ answer. (outcomes : List Outcome)
+        × NegotiatedText offer.now config.old.params.items outcomes config.new.params.items) }
+    ensures refused { IfErr result (λ error. Refuses error (Described offer.now)) }
+    ensures printable { MayBePrinted config.old.params.items → MayBePrinted config.new.params.items }
     ensures text { IfOk result (λ answer. IfSome answer (λ text.
         (frame : MediaLine) × (slice_get own.media_lines at ≡ Some frame)
         × (string_bytes text ≡ sdp_text (with_rows own at frame (filter (λ row. row.locked) config.new.params.items))))) }
