@@ -65,8 +65,8 @@ fn negotiate(
 /// round that is refused names its cause, changes nothing, and the next one runs.
 ///
 /// Whatever the text holds, payload types that were distinct stay distinct, and rows that were plain,
-/// `PayloadParams::is_plain`, stay plain. So the rows that are left, printed in any section that is
-/// writable (`is_writable`), are read back, in order.
+/// `PayloadParams::is_plain`, stay plain. So the rows that are left, where there is one, printed in any
+/// section of audio or video that is writable (`is_writable`), are read back, in order.
 ///
 /// # Errors
 ///

@@ -64,7 +64,7 @@ fn surroundings_come_back(sdp: &Sdp, section: usize) -> Result<bool, AllocError>
 /// consistent then, and the frame has one mid, at most one setup and one direction. `false` where
 /// there is no such section.
 ///
-/// Where it is `true`, rows that are plain (`PayloadParams::is_plain`), none of whose payload types
+/// Where it is `true`, one row or more, each plain (`PayloadParams::is_plain`), none of whose types
 /// stands twice, come back: where an audio or video section stands there, the text of the session with
 /// `section_of` of it and the rows in its place is read to its end, and the section there describes
 /// these rows, in order. Whether a row is locked isn't printed.
