@@ -101,7 +101,7 @@ fn is_same_attribute(attribute: &MediaAttribute, other: &MediaAttribute) -> bool
 }
 
 impl MediaAttribute {
-    /// Whether both say the same once they are printed and read: they are equal, or fmtp lines of one
+    /// Whether the one may be read where the other was printed: they are equal, or fmtp lines of one
     /// type whose values print alike, in order, or simulcast lines whose layers have the same names.
     pub fn is_alike(&self, other: &MediaAttribute) -> bool
         ensures { IsTrue result ↔ Alike self.now other.now }
