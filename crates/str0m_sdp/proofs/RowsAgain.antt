@@ -1,7 +1,7 @@
 -- The rows of a section of plain, distinct rows: these rows again, unlocked and in order.
 use Rattle.std.proofs.Common.{◌≡◌, ◌≢◌, ◌&&◌, ◌||◌, ℕ, Bool, true, false, cond, List, [], ◌∷◌, ◌++◌, map, Option, Some, None}
 use Rattle.std.proofs.Common.{refl, sym, ap, ◌∙◌, subst}
-use Rattle.std.specs.Prelude.{option_map}
+use Rattle.std.specs.Prelude.{◌==◌, option_map}
 use Rattle.std.proofs.lemmas.Bool.{or_left, or_right}
 use Rattle.std.specs.List.{AllByRecursion, AllZip, filter, filter_map, flat_map, cons_option}
 use Rattle.std.proofs.lemmas.List.Elements.{filter_map-append, filter-append}
@@ -19,11 +19,12 @@ use Rattle.str0m_formats.specs.declared.format_param.FormatParam.{FormatParam}
 use Rattle.str0m_formats.specs.declared.payload_params.PayloadParams.{PayloadParams}
 use Rattle.str0m_sdp.specs.Companions.{rtx_type, red_type}
 use Rattle.str0m_sdp.specs.Mappings.{mapped, is_mapped_to}
+use Rattle.str0m_sdp.specs.NamesOne.{primary_types}
 use Rattle.str0m_sdp.specs.SectionRows.{is_kept, row as row_at, row_with, rows as rows_of}
 use Rattle.str0m_sdp.specs.declared.media_line.MediaLine.{MediaLine}
 use Rattle.str0m_formats.specs.PlainRow.{IsPlain}
 use Rattle.str0m_sdp.proofs.Parts.{weaker, taken_apart, each_among}
-use Rattle.str0m_sdp.proofs.Apart.{Roles, roles, row_distinct, has_pt, has_rtx, has_red, has-append}
+use Rattle.str0m_sdp.proofs.Apart.{Roles, roles, row_distinct, self, has_pt, has_rtx, has_red, has-append}
 use Rattle.str0m_sdp.proofs.FrameAnswers.{HasNoTypes, NameNoType}
 use Rattle.str0m_sdp.proofs.RowAnswers.{entries, rtx_entry, red_entry}
 use Rattle.str0m_sdp.proofs.RowQuestions.{attrs_of, values_are, feedback_is, SayFeedback, rtx_is, red_is}
@@ -34,6 +35,11 @@ has_types : (before : List PayloadParams) (row : PayloadParams) (after : List Pa
 has_types [] row after t h = has-append (types_of row) (types after) t ∙ or_left (has (types_of row) t) _ h
 has_types (r ∷ before) row after t h =
     has-append (types_of r) (types (before ++ row ∷ after)) t ∙ or_right (has (types_of r) t) _ (has_types before row after t h)
+
+has_primary : (before : List PayloadParams) (row : PayloadParams) (after : List PayloadParams)
+    → has (map (λ r. r.pt) (map unlocked (before ++ row ∷ after))) row.pt ≡ true
+has_primary [] row after = or_left (row.pt == row.pt) _ (self row.pt)
+has_primary (r ∷ before) row after = or_right (r.pt == row.pt) _ (has_primary before row after)
 
 pictures_or : (c : Content) (b : Bool) → (c ≡ video → b ≡ true) → (has_pictures c || b) ≡ b
 pictures_or video b h = sym (h refl)
@@ -195,3 +201,11 @@ module _ (values : PayloadParams → List (List FormatParam)) (frame : MediaLine
     go : (rows : List PayloadParams) → AllZip SameRow (map unlocked rows) rows
     go [] = tt
     go (row ∷ rows) = (refl, go rows)
+
+  pub primary_among : (before : List PayloadParams) (row : PayloadParams) (after : List PayloadParams)
+      → AllByRecursion IsPlain (before ++ row ∷ after) → AllDistinct (types (before ++ row ∷ after))
+      → AllByRecursion (λ r. IsSaid r (values r)) (before ++ row ∷ after)
+      → has (primary_types (section values frame (before ++ row ∷ after))) row.pt ≡ true
+  primary_among before row after plain d said =
+      ap (λ found. has (map (λ r. r.pt) found) row.pt) (rows_are (before ++ row ∷ after) plain d said)
+      ∙ has_primary before row after

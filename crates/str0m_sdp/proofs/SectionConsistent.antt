@@ -24,14 +24,14 @@ use Rattle.str0m_sdp.specs.declared.attribute.MediaAttribute.TheVariants.{Fmtp}
 use Rattle.str0m_sdp.specs.declared.media_line.MediaLine.{MediaLine}
 use Rattle.str0m_sdp.specs.declared.proto.Proto.TheVariants.{Srtp}
 use Rattle.str0m_formats.specs.PlainRow.{IsPlain}
-use Rattle.str0m_sdp.specs.NamesOne.{NamesOne}
+use Rattle.str0m_sdp.specs.NamesOne.{NamesOne, primary_types}
 use Rattle.str0m_sdp.proofs.Parts.{both, weaker, over_lines, each_among, taken_apart, count-append, none_counted}
 use Rattle.str0m_sdp.proofs.Apart.{once_at_least}
 use Rattle.str0m_sdp.proofs.RowReads.{each}
 use Rattle.str0m_sdp.proofs.FrameAnswers.{HasNoTypes, NameNoType, NamesNoType}
 use Rattle.str0m_sdp.proofs.RowQuestions.{lines, attrs_of, apt_is, maps_are}
 use Rattle.str0m_sdp.proofs.RowsBack.{IsSaid, section, each_type}
-use Rattle.str0m_sdp.proofs.RowsAgain.{pt_mapped, rtx_mapped, red_mapped}
+use Rattle.str0m_sdp.proofs.RowsAgain.{pt_mapped, rtx_mapped, red_mapped, primary_among}
 
 -- ---- what is counted stands in the frame alone
 
@@ -172,14 +172,20 @@ module _ (values : PayloadParams → List (List FormatParam)) where
             → AllByRecursion (NamesOne m) (lines values row)
         one before row after e =
             each (NamesOne m) row (values row) (λ m. tt) (λ w. tt) (format (values row))
-            (λ n is. (λ m. tt, (λ named. (row.pt, refl), λ named. absurd (true≢false (sym named ∙ of_rtx n is)))))
-            (λ n is. (λ m. tt, (λ named. absurd (true≢false (sym named ∙ of_red n is)), λ named. (row.pt, refl))))
+            (λ n is. (λ m. tt, (λ named. (row.pt, primary, refl), λ named. absurd (true≢false (sym named ∙ of_rtx n is)))))
+            (λ n is. (λ m. tt, (λ named. absurd (true≢false (sym named ∙ of_red n is)), λ named. (row.pt, primary, refl))))
           where
             plain' : AllByRecursion IsPlain (before ++ row ∷ after)
             plain' = subst (AllByRecursion IsPlain) e plain
 
             d' : AllDistinct (types (before ++ row ∷ after))
             d' = subst (λ xs. AllDistinct (types xs)) e d
+
+            primary : has (primary_types m) row.pt ≡ true
+            primary =
+                ap (λ xs. has (primary_types (section values frame xs)) row.pt) e
+                ∙ primary_among values frame bare before row after plain' d'
+                (subst (AllByRecursion (λ r. IsSaid r (values r))) e said)
 
             of_rtx : (n : ℕ) → row.resend ≡ Some n → is_mapped_to codec.Red (mapped m) n ≡ false
             of_rtx n is =
