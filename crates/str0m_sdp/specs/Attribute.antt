@@ -34,15 +34,6 @@ session_attribute_text (session.Candidate candidate) = attribute_line (candidate
 session_attribute_text session.EndOfCandidates = attribute_line (codes "end-of-candidates")
 session_attribute_text (session.Unused text) = attribute_line text
 
--- those that print a list, or no line for some values
-abbrev pub long_text : MediaAttribute → List ℕ
-long_text (media.ExtMap id ext) = ext_map_text id ext
-long_text (media.Fmtp pt values) = fmtp_text pt values
-long_text (media.Rid id direction pts restrictions) = rid_text id direction pts restrictions
-long_text (media.Simulcast simulcast) = simulcast_text simulcast
-long_text (media.SsrcGroup semantics ssrcs) = ssrc_group_text semantics ssrcs
-long_text _ = []
-
 abbrev pub media_attribute_text : MediaAttribute → List ℕ
 media_attribute_text (media.Rtcp text) = attribute_line (codes "rtcp:" ++ text)
 media_attribute_text (media.IceUfrag text) = attribute_line (codes "ice-ufrag:" ++ text)

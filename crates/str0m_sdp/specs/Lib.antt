@@ -1,5 +1,6 @@
 pub mod Alike
 pub mod Attribute
+pub mod AttributeParts
 pub mod Bandwidth
 pub mod Candidates
 pub mod Companions

@@ -8,3 +8,7 @@ line_end = 13 ∷ 10 ∷ []
 -- the line of an attribute (RFC 8866, section 5.13)
 abbrev pub attribute_line : List ℕ → List ℕ
 attribute_line text = codes "a=" ++ (text ++ line_end)
+
+-- an attribute line of a label and a text right behind it
+abbrev pub labeled_line : List ℕ → List ℕ → List ℕ
+labeled_line label text = codes "a=" ++ (label ++ (text ++ line_end))

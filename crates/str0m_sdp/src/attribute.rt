@@ -1,17 +1,14 @@
 //! The attributes of sessions and of sections.
 ghost use Rattle.std.specs.Prelude.{◌≡◌, IfOk, Some, refl};
-ghost use Rattle.str0m_sdp.specs.Attribute.{session_attribute_text, media_attribute_text, long_text, direction_attribute};
+ghost use Rattle.str0m_sdp.specs.Attribute.{session_attribute_text, media_attribute_text, direction_attribute};
 
-use crate::ext_map::ExtMapLine;
-use crate::fmtp::FmtpLine;
+use crate::attribute_parts::{LongLine, PairLine, ValueLine, media_words, session_words};
 use crate::group::{GroupLine, MsidSemanticLine};
 use crate::msid::Msid;
-use crate::printed::Printed;
-use crate::rid::RidLine;
+use crate::printed::{Printed, TextLine};
 use crate::rtp_map::RtpMap;
 use crate::setup::Setup;
-use crate::simulcast::{RestrictionId, Simulcast, SimulcastLine};
-use crate::ssrc_group::SsrcGroupLine;
+use crate::simulcast::{RestrictionId, Simulcast};
 use crate::word::Word;
 use std::alloc::AllocError;
 use std::fmt;
@@ -202,8 +199,7 @@ impl fmt::Display for SessionAttribute {
         match self {
             SessionAttribute::Group { typ, mids } => {
                 let mids = mids.as_slice();
-                let line = GroupLine { typ, mids };
-                write!(f, "{line}")
+                GroupLine { typ, mids }.fmt(f)
             }
             SessionAttribute::MsidSemantic {
                 semantic,
@@ -214,18 +210,15 @@ impl fmt::Display for SessionAttribute {
                     semantic,
                     stream_ids,
                 };
-                write!(f, "{line}")
+                line.fmt(f)
             }
-            SessionAttribute::AllowMixedExts => f.write_str("a=extmap-allow-mixed\r\n"),
-            SessionAttribute::IceLite => f.write_str("a=ice-lite\r\n"),
-            SessionAttribute::IceUfrag(text) => write!(f, "a=ice-ufrag:{text}\r\n"),
-            SessionAttribute::IcePwd(text) => write!(f, "a=ice-pwd:{text}\r\n"),
-            SessionAttribute::IceOptions(text) => write!(f, "a=ice-options:{text}\r\n"),
             SessionAttribute::Fingerprint(hash) => write!(f, "a=fingerprint:{hash}\r\n"),
             SessionAttribute::Setup(setup) => write!(f, "a=setup:{setup}\r\n"),
             SessionAttribute::Candidate(candidate) => write!(f, "a={candidate}\r\n"),
-            SessionAttribute::EndOfCandidates => f.write_str("a=end-of-candidates\r\n"),
-            SessionAttribute::Unused(text) => write!(f, "a={text}\r\n"),
+            other => {
+                let (label, text) = session_words(other);
+                TextLine { label, text }.fmt(f)
+            }
         }
     }
 }
@@ -243,82 +236,25 @@ impl fmt::Display for MediaAttribute {
 
     fn fmt<W: fmt::Write>(&self, f: &mut fmt::Formatter<W>) -> fmt::Result {
         match self {
-            MediaAttribute::Rtcp(text) => write!(f, "a=rtcp:{text}\r\n"),
-            MediaAttribute::IceUfrag(text) => write!(f, "a=ice-ufrag:{text}\r\n"),
-            MediaAttribute::IcePwd(text) => write!(f, "a=ice-pwd:{text}\r\n"),
-            MediaAttribute::IceOptions(text) => write!(f, "a=ice-options:{text}\r\n"),
-            MediaAttribute::Fingerprint(hash) => write!(f, "a=fingerprint:{hash}\r\n"),
-            MediaAttribute::Setup(setup) => write!(f, "a=setup:{setup}\r\n"),
-            MediaAttribute::Mid(mid) => write!(f, "a=mid:{mid}\r\n"),
-            MediaAttribute::SctpPort(port) => write!(f, "a=sctp-port:{port}\r\n"),
-            MediaAttribute::MaxMessageSize(size) => write!(f, "a=max-message-size:{size}\r\n"),
-            MediaAttribute::SctpInit(text) => write!(f, "a=sctp-init:{text}\r\n"),
-            MediaAttribute::RecvOnly => f.write_str("a=recvonly\r\n"),
-            MediaAttribute::SendRecv => f.write_str("a=sendrecv\r\n"),
-            MediaAttribute::SendOnly => f.write_str("a=sendonly\r\n"),
-            MediaAttribute::Inactive => f.write_str("a=inactive\r\n"),
-            MediaAttribute::Msid(msid) => write!(f, "a=msid:{msid}\r\n"),
-            MediaAttribute::RtcpMux => f.write_str("a=rtcp-mux\r\n"),
-            MediaAttribute::RtcpMuxOnly => f.write_str("a=rtcp-mux-only\r\n"),
-            MediaAttribute::RtcpRsize => f.write_str("a=rtcp-rsize\r\n"),
-            MediaAttribute::Candidate(candidate) => write!(f, "a={candidate}\r\n"),
-            MediaAttribute::EndOfCandidates => f.write_str("a=end-of-candidates\r\n"),
-            MediaAttribute::RtpMap { pt, value } => write!(f, "a=rtpmap:{pt} {value}\r\n"),
-            MediaAttribute::RtcpFb { pt, value } => write!(f, "a=rtcp-fb:{pt} {value}\r\n"),
-            MediaAttribute::Ssrc { ssrc, attr, value } => {
-                write!(f, "a=ssrc:{ssrc} {attr}:{value}\r\n")
-            }
-            MediaAttribute::Unused(text) => write!(f, "a={text}\r\n"),
+            MediaAttribute::Fingerprint(_)
+            | MediaAttribute::Setup(_)
+            | MediaAttribute::Mid(_)
+            | MediaAttribute::SctpPort(_)
+            | MediaAttribute::MaxMessageSize(_)
+            | MediaAttribute::Msid(_)
+            | MediaAttribute::Candidate(_) => ValueLine(self).fmt(f),
+            MediaAttribute::RtpMap { .. }
+            | MediaAttribute::RtcpFb { .. }
+            | MediaAttribute::Ssrc { .. } => PairLine(self).fmt(f),
+            MediaAttribute::ExtMap { .. }
+            | MediaAttribute::Fmtp { .. }
+            | MediaAttribute::Rid { .. }
+            | MediaAttribute::Simulcast(_)
+            | MediaAttribute::SsrcGroup { .. } => LongLine(self).fmt(f),
             other => {
-                let line = LongLine(other);
-                write!(f, "{line}")
+                let (label, text) = media_words(other);
+                TextLine { label, text }.fmt(f)
             }
-        }
-    }
-}
-
-/// The line of an attribute that prints a list, or nothing; no other attribute prints so.
-#[derive(Drop)]
-struct LongLine<'a>(&'a MediaAttribute);
-
-impl<'a> fmt::Display for LongLine<'a> {
-    ghost output = { λ line. Some (long_text line.0.now) };
-
-    fn fmt<W: fmt::Write>(&self, f: &mut fmt::Formatter<W>) -> fmt::Result {
-        match self.0 {
-            MediaAttribute::ExtMap { id, ext } => {
-                let line = ExtMapLine { id: *id, ext };
-                write!(f, "{line}")
-            }
-            MediaAttribute::Fmtp { pt, values } => {
-                let values = values.as_slice();
-                let line = FmtpLine { pt: *pt, values };
-                write!(f, "{line}")
-            }
-            MediaAttribute::Rid {
-                id,
-                direction,
-                pt,
-                restriction,
-            } => {
-                let line = RidLine {
-                    id,
-                    direction,
-                    pts: pt.as_slice(),
-                    restrictions: restriction.as_slice(),
-                };
-                write!(f, "{line}")
-            }
-            MediaAttribute::Simulcast(simulcast) => {
-                let line = SimulcastLine(simulcast);
-                write!(f, "{line}")
-            }
-            MediaAttribute::SsrcGroup { semantics, ssrcs } => {
-                let ssrcs = ssrcs.as_slice();
-                let line = SsrcGroupLine { semantics, ssrcs };
-                write!(f, "{line}")
-            }
-            _ => Ok(()),
         }
     }
 }

@@ -4,6 +4,7 @@
 
 mod alike;
 mod attribute;
+mod attribute_parts;
 mod bandwidth;
 mod candidates;
 mod companions;

@@ -2,6 +2,7 @@
 ghost use Rattle.std.specs.Prelude.{◌≡◌, ◌++◌, List, ℕ, Some, refl};
 ghost use Rattle.std.specs.Fmt.{decimal};
 ghost use Rattle.std.specs.List.{flat_map, join_by};
+ghost use Rattle.str0m_sdp.specs.Lines.{labeled_line};
 
 use std::fmt;
 use str0m_values::Pt;
@@ -73,5 +74,22 @@ impl<'a, T: Printed> fmt::Display for Joined<'a, T> {
             write!(f, "{separator}{item}")?;
         }
         Ok(())
+    }
+}
+
+/// The `a=` line of a label and a text right behind it, with its end.
+#[derive(Drop)]
+pub(crate) struct TextLine<'a> {
+    pub(crate) label: &'static str,
+    pub(crate) text: &'a str,
+}
+
+impl<'a> fmt::Display for TextLine<'a> {
+    ghost output = { λ line. Some (labeled_line line.label.now line.text.now) };
+
+    fn fmt<W: fmt::Write>(&self, f: &mut fmt::Formatter<W>) -> fmt::Result {
+        let label = self.label;
+        let text = self.text;
+        write!(f, "a={label}{text}\r\n")
     }
 }
