@@ -24,6 +24,7 @@ pub mod ScoreRules
 pub mod ScoreLaws
 pub mod Sets
 pub mod Ranges
+pub mod MaskBits
 pub mod ChoiceSteps
 pub mod Passes
 pub mod RowSets

@@ -1,6 +1,6 @@
 -- The first number of a range that passes a test.
 use Prim.Native.Nat.{zero, suc}
-use Rattle.std.proofs.Common.{◌≡◌, ℕ, ◌+◌, ◌-◌, ◌<◌, ◌≤◌, ◌++◌, [], ◌∷◌, Bool, true, false, cond, find, Option, Some, None, List, replicate, get_or, length, drop, refl, is_some, sym, ◌∙◌, arith}
+use Rattle.std.proofs.Common.{◌≡◌, ℕ, ◌+◌, ◌-◌, ◌<◌, ◌≤◌, ◌++◌, [], ◌∷◌, Bool, true, false, cond, find, Option, Some, None, List, replicate, get_or, length, drop, refl, is_some, sym, ap, ◌∙◌, arith}
 use Rattle.std.proofs.lemmas.List.{at_drop_more}
 use Rattle.std.proofs.lemmas.Bool.{true≢false}
 use Rattle.std.specs.Option.{option_or}
@@ -17,6 +17,28 @@ find-range_here p t n h e = let s : n - t ≡ suc (n - (t + 1)) = omega arith in
 -- an empty range has none
 pub find-range_none : (p : ℕ → Bool) (t n : ℕ) → n ≤ t → find p (range_with_len t (n - t)) ≡ None
 find-range_none p t n h = let s : n - t ≡ 0 = omega arith in rw s refl
+
+-- numbers that fail are passed over
+pub find-range_skips : (p : ℕ → Bool) (n d s : ℕ) → s + d ≤ n → ((i : ℕ) → s ≤ i → i < s + d → p i ≡ false)
+    → find p (range_with_len s (n - s)) ≡ find p (range_with_len (s + d) (n - (s + d)))
+find-range_skips p n zero s h fails = let e : s + 0 ≡ s = omega arith in ap (λ k. find p (range_with_len k (n - k))) (sym e)
+find-range_skips p n (suc d) s h fails =
+    let e : (s + 1) + d ≡ s + suc d = omega arith in
+    find-range_more p s n (omega arith) (fails s (omega arith) (omega arith))
+    ∙ find-range_skips p n d (s + 1) (omega arith) (λ i a b. fails i (omega arith) (omega arith))
+    ∙ ap (λ k. find p (range_with_len k (n - k))) e
+
+-- where a test fails after a range, only the range is searched; there it may be another test of the same answers
+pub find-range_cut : (p q : ℕ → Bool) (n d s : ℕ) → s + d ≤ n → ((i : ℕ) → s ≤ i → i < s + d → p i ≡ q i)
+    → ((i : ℕ) → s + d ≤ i → i < n → p i ≡ false) → find p (range_with_len s (n - s)) ≡ find q (range_with_len s d)
+find-range_cut p q n zero s h same fails =
+    find-range_skips p n (n - s) s (omega arith) (λ i a b. fails i (omega arith) (omega arith)) ∙ find-range_none p (s + (n - s)) n (omega arith)
+find-range_cut p q n (suc d) s h same fails =
+    let long : n - s ≡ suc (n - (s + 1)) = omega arith in
+    let rest = find-range_cut p q n d (s + 1) (omega arith) (λ i a b. same i (omega arith) (omega arith)) (λ i a b. fails i (omega arith) b) in
+    ap (λ k. find p (range_with_len s k)) long
+    ∙ ap (λ b. cond b (Some s) (find p (range_with_len (s + 1) (n - (s + 1))))) (same s (omega arith) (omega arith))
+    ∙ ap (λ o. cond (q s) (Some s) o) rest
 
 -- a list of one value, read anywhere with that value as the default
 pub get_or-replicate_same : {A : Type 0} (n : ℕ) (a : A) (i : ℕ) → get_or (replicate n a) i a ≡ a

@@ -38,7 +38,3 @@ reached_step before now after rounds outcomes i round outcome h k e r s =
 pub OnErr_map : {P Q : Type 0} (result : Result (Unit {0}) NegotiationError) → (P → Q) → OnErr result P → OnErr result Q
 OnErr_map (Ok x) f h = tt
 OnErr_map (Err e) f h = f h
-
-pub OnOk_map : {P Q : Type 0} (result : Result (Unit {0}) NegotiationError) → (P → Q) → OnOk result P → OnOk result Q
-OnOk_map (Ok x) f h = f h
-OnOk_map (Err e) f h = tt

@@ -116,3 +116,11 @@ round_err before remote receives claims_receive mid set unlocked (Ok x) small h 
 round_err before remote receives claims_receive mid set unlocked (Err e) small h r begun whole u s =
     let P : TypeSet → Type 0 = λ un. StopsSettling un mid e in
     in_second e (record { mid = mid; first = all_begun before remote receives claims_receive mid set small h r begun whole; second = subst P u s })
+
+-- what refuses a copy of the rows refuses the rows
+pub refused_as_copied : (before copied now remote : List PayloadParams) (receives now_receives : Bool) (cause : NegotiationError)
+    → now ≡ copied → copied ≡ before → now_receives ≡ receives → Refused now remote now_receives cause → Refused before remote receives cause
+refused_as_copied before copied now remote receives now_receives cause same_now same_copy same_receives refused =
+    let Of : List PayloadParams → Type 0 = λ rows. Refused rows remote receives cause in
+    let Dir : Bool → Type 0 = λ b. Refused now remote b cause in
+    subst Of (same_now ∙ same_copy) (subst Dir same_receives refused)

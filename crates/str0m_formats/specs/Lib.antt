@@ -1,6 +1,7 @@
 pub mod Bounds
 pub mod Causes
 pub mod Choices
+pub mod ClaimMask
 pub mod Claiming
 pub mod Codec
 pub mod CodecConfig

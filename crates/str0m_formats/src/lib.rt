@@ -4,6 +4,7 @@
 
 mod beginning;
 mod choices;
+mod claim_mask;
 mod claimed;
 mod claims;
 mod codec;
@@ -28,6 +29,7 @@ mod red_distances;
 mod rounds;
 mod settling;
 
+pub use claim_mask::ClaimMask;
 pub use claimed::Claimed;
 pub use codec::Codec;
 pub use codec_config::CodecConfig;

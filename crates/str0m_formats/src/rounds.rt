@@ -7,6 +7,7 @@ ghost use Rattle.str0m_formats.specs.Promises.{Promises, RunPromises, KeepsBound
 ghost use Rattle.str0m_formats.specs.Runs.{Reached};
 
 use crate::beginning::{check_types, claims_of};
+use crate::claim_mask::ClaimMask;
 use crate::claimed::Claimed;
 use crate::claims::Claims;
 use crate::codec_config::CodecConfig;
@@ -40,28 +41,6 @@ fn run_round<C: Claimed>(
 }
 
 impl CodecConfig {
-    /// `update_params`, over any table of claims.
-    fn update_params_in<C: Claimed>(
-        &mut self,
-        remote: &[PayloadParams],
-        dir: Direction,
-    ) -> Result<(), NegotiationError>
-        ensures ok { OnOk result (Leaves self.old.params.items remote.now (receives dir) self.new.params.items) }
-        ensures cause { IfErr result (λ cause. cause ≢ Memory → Refused self.old.params.items remote.now (receives dir) cause) }
-        ensures alone { OnOk result (LeavesOnly self.old.params.items remote.now (receives dir) self.new.params.items) }
-        ensures one_cause { IfErr result (λ cause. cause ≢ Memory → RefusedOnly self.old.params.items remote.now (receives dir) cause) }
-        ensures room { length self.old.params.items ≤ 14 → result ≢ Err NegotiationError.Exhausted }
-        ensures else_same { self.new ≡ record self.old { params = self.new.params } }
-        ensures err { OnErr result (self.new ≡ self.old) }
-    {
-        // The room comes first, and then the causes: a round works on a copy, so that the rows are
-        // as they were where it is refused.
-        let mut rows = self.params.clone()?;
-        run_round::<C>(&mut rows, remote, dir.sdp_is_receiving())?;
-        self.params = rows;
-        Ok(())
-    }
-
     /// One round of negotiation against the rows of the other side, whose direction is `dir` (RFC 3264).
     ///
     /// Each row that some remote row matches goes with the last remote row of greatest score, narrows
@@ -79,7 +58,6 @@ impl CodecConfig {
     /// `ClaimedTwice`, where two roles of locked rows have one type, or where the other side receives and
     /// demands a primary or RTX type that is taken; `Exhausted`, where no type is free for a primary or
     /// RTX type, which can't be with fourteen rows or fewer.
-    #[tactic(auto, using(crate::proofs::RunSteps::OnOk_map, crate::proofs::RunSteps::ran_from, crate::proofs::Promised::promised, crate::proofs::MemoryAlone::only_for_memory))]
     pub fn update_params(
         &mut self,
         remote: &[PayloadParams],
@@ -98,7 +76,32 @@ impl CodecConfig {
         ensures else_same { self.new ≡ record self.old { params = self.new.params } }
         ensures err { OnErr result (self.new ≡ self.old) }
     {
-        self.update_params_in::<[bool; 128]>(remote, dir)
+        self.update_params_in::<ClaimMask>(remote, dir)
+    }
+
+    /// `update_params`, which keeps what is claimed in a table of the caller's choice. Every table has the
+    /// same answers.
+    pub fn update_params_in<C: Claimed>(
+        &mut self,
+        remote: &[PayloadParams],
+        dir: Direction,
+    ) -> Result<(), NegotiationError>
+        ensures ok { OnOk result (Leaves self.old.params.items remote.now (receives dir) self.new.params.items) }
+        ensures cause { IfErr result (λ cause. cause ≢ Memory → Refused self.old.params.items remote.now (receives dir) cause) }
+        ensures alone { OnOk result (LeavesOnly self.old.params.items remote.now (receives dir) self.new.params.items) }
+        ensures one_cause { IfErr result (λ cause. cause ≢ Memory → RefusedOnly self.old.params.items remote.now (receives dir) cause) }
+        ensures room { length self.old.params.items ≤ 14 → result ≢ Err NegotiationError.Exhausted }
+        ensures bounded { length self.old.params.items ≤ 14 → KeepsBounds self.old.params.items remote.now → receives dir ≡ false → OnlyForMemory result }
+        ensures promises { OnOk result (Promises self.old.params.items remote.now (receives dir) self.new.params.items) }
+        ensures else_same { self.new ≡ record self.old { params = self.new.params } }
+        ensures err { OnErr result (self.new ≡ self.old) }
+    {
+        // The room comes first, and then the causes: a round works on a copy, so that the rows are
+        // as they were where it is refused.
+        let mut rows = self.params.clone()?;
+        run_round::<C>(&mut rows, remote, dir.sdp_is_receiving())?;
+        self.params = rows;
+        Ok(())
     }
 
     /// `update_all`, as the run of its rounds.

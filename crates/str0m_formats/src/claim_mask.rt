@@ -1,0 +1,82 @@
+//! A table of claimed payload types in one number.
+ghost use Rattle.std.specs.Prelude.{◌≡◌, ◌<◌, ◌^◌, ℕ};
+ghost use Rattle.str0m_formats.specs.ClaimMask.{bit_set, least_bit};
+
+use crate::claimed::Claimed;
+use std::marker::Model;
+use str0m_values::Pt;
+
+/// A set of payload types from 0 to 127 (RFC 3550, section 5.1) in one number, whose bit `t` says whether
+/// the type `t` is claimed.
+///
+/// It has the answers of the table `[bool; 128]`, and no call of it goes over types one by one.
+/// `CodecConfig::update_params` keeps in it what is claimed.
+#[derive(Clone, Copy, Debug, PartialEq, Eq)]
+pub struct ClaimMask(u128);
+
+impl Model for ClaimMask {
+    ghost Value = { ℕ };
+
+    ghost view = { λ m. m.0 };
+
+    ghost invariant = { λ m. m.0 < 2 ^ 128 };
+
+    ghost inverse = { λ n. record { 0 = n } };
+}
+
+// The ranges in which types are given, in order: each type as a one.
+const FROM_96_TO_127: u128 = 0xffff_ffff << 96;
+
+const FROM_80_TO_95: u128 = 0xffff << 80;
+
+const FROM_77_TO_78: u128 = 0b11 << 77;
+
+const FROM_35_TO_71: u128 = 0x1f_ffff_ffff << 35;
+
+/// The type of the least bit that is set.
+fn least_type(bits: u128) -> Option<Pt>
+    ensures { result ≡ least_bit bits }
+{
+    if bits == 0 {
+        None
+    } else {
+        Some(Pt::new_with_value(bits.trailing_zeros() as u8))
+    }
+}
+
+impl ClaimMask {
+    fn bits(self) -> u128
+        ensures { result ≡ self }
+    {
+        self.0
+    }
+}
+
+impl Claimed for ClaimMask {
+    ghost holds = { λ mask. bit_set mask };
+
+    fn none_claimed() -> Self {
+        ClaimMask(0)
+    }
+
+    fn claim_once(&mut self, pt: Pt) -> bool {
+        if pt.value() > 127 || self.is_claimed(pt) {
+            return false;
+        }
+        *self = ClaimMask(self.bits() | 1 << pt.value());
+        true
+    }
+
+    fn is_claimed(&self, pt: Pt) -> bool {
+        let bits = self.bits();
+        pt.value() < 128 && bits >> pt.value() & 1 == 1
+    }
+
+    fn find_unclaimed(&self, unlocked: &Self) -> Option<Pt> {
+        let free = !(self.bits() | unlocked.bits());
+        least_type(free & FROM_96_TO_127)
+            .or(least_type(free & FROM_80_TO_95))
+            .or(least_type(free & FROM_77_TO_78))
+            .or(least_type(free & FROM_35_TO_71))
+    }
+}
