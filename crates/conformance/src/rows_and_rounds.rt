@@ -56,14 +56,26 @@ fn h264() -> PayloadParams {
     PayloadParams::new(Pt::from(96), Some(Pt::from(97)), spec)
 }
 
-/// What a round answers: `ok`, or the text of its cause.
+/// Whether two configurations have the same rows, locked in the same places.
+fn is_same(one: &CodecConfig, other: &CodecConfig) -> bool {
+    let mut pairs = one.params().iter().zip(other.params());
+    one.params() == other.params() && pairs.all(|(a, b)| a.locked() == b.locked())
+}
+
+/// What a round answers: `ok`, or the text of its cause. A round with the other table of claims has to come to the same.
 fn round(
     alloc: Global,
     config: &mut CodecConfig,
     remote: &[PayloadParams],
     direction: Direction,
 ) -> Result<String, AllocError> {
-    match config.update_params(remote, direction) {
+    let mut other = config.clone()?;
+    let in_table = other.update_params_in::<[bool; 128]>(remote, direction);
+    let outcome = config.update_params(remote, direction);
+    if outcome != in_table || !is_same(config, &other) {
+        return "two tables of claims differ".to_string(alloc);
+    }
+    match outcome {
         Ok(()) => "ok".to_string(alloc),
         Err(cause) => cause.to_string(alloc),
     }

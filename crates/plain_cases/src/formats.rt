@@ -1,7 +1,7 @@
 //! Codecs, formats, rows and rounds: the words of their cases.
 
 use crate::unanswered::Unanswered;
-use crate::{format_words, plain_rows, round_words, row_words};
+use crate::{claim_words, format_words, plain_rows, round_words, row_words};
 use std::alloc::{AllocError, Global};
 
 /// What is asked of codecs and formats.
@@ -39,11 +39,13 @@ fn of_rows(alloc: Global, word: &str, text: &str) -> Result<Option<String>, Unan
     }))
 }
 
-/// Rounds.
+/// Rounds, and what they claim.
 fn of_rounds(alloc: Global, word: &str, text: &str) -> Result<Option<String>, Unanswered> {
     Ok(Some(match word {
         "rounds" => round_words::rounds(alloc, text)?,
         "together" => round_words::together(alloc, text)?,
+        "claims" => claim_words::claims(alloc, text)?,
+        "unclaimed" => claim_words::unclaimed(alloc, text)?,
         "distances" => round_words::distances(alloc, text)?,
         _ => return Ok(None),
     }))
@@ -67,6 +69,7 @@ pub(crate) fn answer(alloc: Global, word: &str, text: &str) -> Result<Option<Str
             let what = missing.name();
             Ok(Some(format!(in alloc; "no such {what}")?))
         }
+        Err(Unanswered::Differs) => Ok(Some("two tables of claims differ".to_string(alloc)?)),
         Err(Unanswered::Changed) => Ok(Some("changed where memory was refused".to_string(alloc)?)),
         Err(Unanswered::Memory(refused)) => Err(refused),
     }

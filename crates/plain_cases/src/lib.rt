@@ -3,6 +3,7 @@
 
 mod addresses;
 mod candidates;
+mod claim_words;
 mod configuration_calls;
 mod fingerprints;
 mod format_words;

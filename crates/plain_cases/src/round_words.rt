@@ -1,13 +1,15 @@
 //! Rounds of negotiation, and the distances of RED. A round is a direction and the remote rows, as
 //! `recvonly 96 - - opus/48000/2 -`; rounds stand behind this side's rows, each behind ` | `.
 
-use crate::configuration_calls::{config_of, unchanged};
+use crate::configuration_calls::{config_of, is_same, unchanged};
 use crate::row_answers::shown_rows;
 use crate::row_texts::{rows_of, word};
 use crate::row_words::{direction_of, sides};
 use crate::unanswered::{Missing, Unanswered};
 use std::alloc::{AllocError, Global};
-use str0m_formats::{CodecConfig, NegotiationError, Round};
+use str0m_formats::{ClaimMask, Claimed, CodecConfig, NegotiationError, Round};
+
+type Outcome = Result<(), NegotiationError>;
 
 fn round_of(alloc: Global, text: &str) -> Result<Round, Unanswered> {
     let (direction, remote) = word(text);
@@ -26,25 +28,30 @@ fn rounds_of(alloc: Global, text: &str) -> Result<Vec<Round>, Unanswered> {
 }
 
 /// `ok`, or the text of the cause.
-fn outcome_text(
-    alloc: Global,
-    outcome: Result<(), NegotiationError>,
-) -> Result<String, AllocError> {
+fn outcome_text(alloc: Global, outcome: Outcome) -> Result<String, AllocError> {
     match outcome {
         Ok(()) => "ok".to_string(alloc),
         Err(cause) => cause.to_string(alloc),
     }
 }
 
-/// Runs one round. Where memory is refused, the configuration has to be what it was.
-fn run(
-    config: &mut CodecConfig,
-    round: &Round,
-) -> Result<Result<(), NegotiationError>, Unanswered> {
+/// Runs one round with a table of claims. Where memory is refused, the configuration has to be what it was.
+fn run_in<C: Claimed>(config: &mut CodecConfig, round: &Round) -> Result<Outcome, Unanswered> {
     let before = config.clone()?;
-    match config.update_params(round.remote.as_slice(), round.direction) {
+    match config.update_params_in::<C>(round.remote.as_slice(), round.direction) {
         Err(NegotiationError::Memory) => Err(unchanged(config, &before)),
         outcome => Ok(outcome),
+    }
+}
+
+/// Runs one round with every table of claims; all have to come to the same.
+fn run(config: &mut CodecConfig, round: &Round) -> Result<Outcome, Unanswered> {
+    let mut other = config.clone()?;
+    let outcome = run_in::<ClaimMask>(config, round)?;
+    if run_in::<[bool; 128]>(&mut other, round)? == outcome && is_same(config, &other) {
+        Ok(outcome)
+    } else {
+        Err(Unanswered::Differs)
     }
 }
 
@@ -78,7 +85,7 @@ fn run_all(
     config: &mut CodecConfig,
     alone: &mut CodecConfig,
     rounds: &[Round],
-) -> Result<Vec<Result<(), NegotiationError>>, Unanswered> {
+) -> Result<Vec<Outcome>, Unanswered> {
     let Ok(outcomes) = config.update_all(rounds) else {
         return Err(unchanged(config, alone));
     };

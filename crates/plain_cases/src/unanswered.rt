@@ -43,6 +43,8 @@ impl Missing {
 pub(crate) enum Unanswered {
     /// Its text names no such thing, as `no such row` says.
     NoSuch(Missing),
+    /// Two tables of claims answer it in two ways.
+    Differs,
     /// Memory was refused, and the call has not left things as they were.
     Changed,
     /// Memory was refused.

@@ -39,8 +39,8 @@ pub use reader::{
     candidate_attribute, media_attribute_line, sdp_parser, session_attribute_line, session_parser,
 };
 pub use str0m_formats::{
-    Claimed, Codec, CodecConfig, CodecSpec, FormatParam, FormatParams, KindRows, NegotiationError,
-    PayloadParams, Round,
+    ClaimMask, Claimed, Codec, CodecConfig, CodecSpec, FormatParam, FormatParams, KindRows,
+    NegotiationError, PayloadParams, Round,
 };
 pub use str0m_sdp::{
     AsMediaAttrs, Bandwidth, Candidates, DistinctCandidates, MediaAttribute, MediaLine, MediaType,
