@@ -8,6 +8,8 @@ mod consistency;
 #[cfg(test)]
 mod descriptions;
 #[cfg(test)]
+mod fourteen_rows;
+#[cfg(test)]
 mod made_rows;
 #[cfg(test)]
 mod negotiation;

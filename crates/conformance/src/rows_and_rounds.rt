@@ -8,7 +8,15 @@ use str0m_signal::{
 };
 
 /// The types of a row: primary, RTX, RED.
-type Types = (u8, Option<u8>, Option<u8>);
+pub(crate) type Types = (u8, Option<u8>, Option<u8>);
+
+/// What a side may describe.
+pub(crate) const DIRECTIONS: [Direction; 4] = [
+    Direction::SendRecv,
+    Direction::SendOnly,
+    Direction::RecvOnly,
+    Direction::Inactive,
+];
 
 fn type_of(number: Option<u8>) -> Option<Pt> {
     match number {
@@ -18,7 +26,7 @@ fn type_of(number: Option<u8>) -> Option<Pt> {
 }
 
 /// A row without a format.
-fn row_of(
+pub(crate) fn row_of(
     codec: Codec,
     clock_rate: Frequency,
     channels: Option<u8>,
@@ -124,11 +132,17 @@ fn is_as_it_was_locked(row: &PayloadParams) -> bool {
 #[test]
 fn a_locked_type_that_stands_twice_refuses_every_round(rt: HostRuntime) -> Result<(), Fail> {
     let mut config = doubled(rt.alloc())?;
-    let found = round(rt.alloc(), &mut config, &[], Direction::Inactive)?;
-    assert_eq!(rt; found.as_str(), "payload type 96 is claimed twice");
-    assert_eq!(rt; config.len(), 2);
-    let same = config.params().iter().all(|row| is_as_it_was_locked(row));
-    assert!(rt; same);
+    for direction in DIRECTIONS {
+        let found = round(rt.alloc(), &mut config, &[], direction)?;
+        assert_eq!(rt;
+            found.as_str(),
+            "payload type 96 is claimed twice",
+            "{direction:?}"
+        );
+        assert_eq!(rt; config.len(), 2);
+        let same = config.params().iter().all(|row| is_as_it_was_locked(row));
+        assert!(rt; same, "{direction:?}");
+    }
     Ok(())
 }
 

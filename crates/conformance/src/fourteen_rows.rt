@@ -1,0 +1,93 @@
+//! Fourteen rows, of three types each, against remote rows that demand each payload type in turn. So many rows never exhaust
+//! the types, and a type of a locked row never gets a second role (docs/ROUNDS.md).
+
+use crate::rows_and_rounds::{DIRECTIONS, Types, row_of};
+use std::alloc::{AllocError, Global};
+use std::test::Fail;
+use str0m_signal::{Codec, CodecConfig, Direction, Frequency, NegotiationError, PayloadParams, Pt};
+
+/// Opus with so many channels: rows with other channels don't match it.
+fn opus(channels: u8, types: Types) -> PayloadParams {
+    row_of(
+        Codec::Opus,
+        Frequency::FORTY_EIGHT_KHZ,
+        Some(channels),
+        types,
+    )
+}
+
+/// A row of its own spec at three types that follow each other; behind 127 stands 0. Rows with one channel more begin so many
+/// types behind each other as the step says.
+fn row(channels: u8, first: u8, step: u8) -> PayloadParams {
+    let pt = first.wrapping_add(channels.wrapping_mul(step));
+    let (resend, red) = (pt.wrapping_add(1), pt.wrapping_add(2));
+    opus(channels, (pt % 128, Some(resend % 128), Some(red % 128)))
+}
+
+/// Fourteen rows at 83 to 124, each of its own spec.
+fn fourteen(alloc: Global) -> Result<CodecConfig, AllocError> {
+    let mut rows = Vec::new(alloc);
+    for channels in 1_u8..15 {
+        rows.extend_from_slice(&[row(channels, 80, 3)])?;
+    }
+    Ok(CodecConfig::new_from_payload_params(alloc, rows))
+}
+
+fn types(row: &PayloadParams) -> [Option<Pt>; 3] {
+    [Some(row.pt()), row.resend(), row.red()]
+}
+
+/// In how many roles the type stands.
+fn roles(rows: &[PayloadParams], pt: Pt) -> usize {
+    let mut count: usize = 0;
+    for row in rows {
+        let of_row = types(row).iter().filter(|it| **it == Some(pt)).count();
+        count = count.saturating_add(of_row);
+    }
+    count
+}
+
+/// Whether each type of the row stands in one role alone.
+fn is_alone(rows: &[PayloadParams], row: &PayloadParams) -> bool {
+    types(row).iter().all(|it| match it {
+        None => true,
+        Some(pt) => roles(rows, *pt) == 1,
+    })
+}
+
+/// Runs a round: it is accepted, and then no type of a locked row has a second role; or the remote receives, and a type is
+/// claimed twice.
+fn is_held(config: &mut CodecConfig, remote: PayloadParams, direction: Direction) -> bool {
+    match config.update_params(&[remote], direction) {
+        Ok(()) => {
+            let rows = config.params();
+            rows.iter().all(|row| !row.locked() || is_alone(rows, row))
+        }
+        Err(NegotiationError::ClaimedTwice(_)) => direction.sdp_is_receiving(),
+        Err(_) => false,
+    }
+}
+
+/// Fourteen rounds one after another, each of which demands three types for one of the rows. In the end all rows are locked,
+/// but where the remote receives and two rounds demanded one type.
+fn are_held(alloc: Global, first: u8, step: u8, direction: Direction) -> Result<bool, AllocError> {
+    let mut config = fourteen(alloc)?;
+    let mut all = true;
+    for channels in 1_u8..15 {
+        all = is_held(&mut config, row(channels, first, step), direction) && all;
+    }
+    let are_locked = config.params().iter().all(|row| row.locked());
+    Ok(all && (are_locked || (step < 3 && direction.sdp_is_receiving())))
+}
+
+/// The rounds begin at each of the 128 types, and in turn demand types that are none, one, two or three apart.
+#[test]
+fn fourteen_rows_are_never_exhausted(rt: HostRuntime) -> Result<(), Fail> {
+    for direction in DIRECTIONS {
+        for first in 0_u8..128 {
+            let held = are_held(rt.alloc(), first, first % 4, direction)?;
+            assert!(rt; held, "{direction:?} {first}");
+        }
+    }
+    Ok(())
+}
