@@ -108,7 +108,7 @@ const CHECKSUMS: &[u8] =
     b"v=0\r\no=- 1 1 IN IP4 127.0.0.1\r\ns=-\r\nt=0 0\r\nm=audio 9 UDP/TLS/RTP/SAVPF 122\r\nc=IN IP4 0.0.0.0\r\na=mid:0\r\na=sendrecv\r\na=rtpmap:122 AMR-WB/16000\r\na=fmtp:122 crc=1\r\n";
 
 /// Words, what is read, the status, and what is written and said.
-const RUNS: [(&[&str], &[u8], u8, &str, &str); 27] = [
+const RUNS: [(&[&str], &[u8], u8, &str, &str); 30] = [
     (&[], b"", 2, "", USAGE),
     (&[""], b"", 2, "", USAGE),
     (&["show"], b"", 2, "", USAGE),
@@ -170,6 +170,9 @@ const RUNS: [(&[&str], &[u8], u8, &str, &str); 27] = [
         "input is not UTF-8\n",
     ),
     (&["text"], b"\xc3", 1, "", "input is not UTF-8\n"),
+    (&["text"], b"\xff", 1, "", "input is not UTF-8\n"),
+    (&["rows"], b"\xff", 1, "", "input is not UTF-8\n"),
+    (&["negotiate"], b"\xff", 1, "", "input is not UTF-8\n"),
     (&["text"], b"", 1, "", "SDP parse: bad session header\n"),
     (
         &["text"],
