@@ -9,6 +9,7 @@ mod cuts;
 mod descriptions;
 mod escapes;
 mod fmtp_lines;
+mod held_texts;
 mod lines;
 mod made_sections;
 mod negotiated;

@@ -1,16 +1,23 @@
 //! Whether sessions are writable, as they are read and with one change that no text makes.
 
+use crate::escapes::escaped;
+use crate::held_texts;
 use crate::spoken::description;
 use std::alloc::Global;
 use str0m_signal::{
-    Bandwidth, FormatParam, Items, MediaAttribute, MediaLine, MediaType, Mid, Proto, Pt,
-    RestrictionId, Sdp, SdpError, Session, SessionAttribute, Text, Word, is_writable,
+    Bandwidth, FormatParam, Items, MediaAttribute, MediaLine, MediaType, Mid, Proto, Pt, Sdp,
+    SdpError, SdpOffer, Session, SessionAttribute, Text, is_writable,
 };
+
+/// Two sections of sound.
+const TWO: &str =
+    "m=audio 9 UDP/TLS/RTP/SAVPF 0\r\na=mid:0\r\na=sendrecv\r\nm=audio 9 UDP/TLS/RTP/SAVPF 0\r\na=mid:1\r\na=sendrecv\r\n";
 
 /// What the call that the word names answers of the text; none for a word of others.
 pub(crate) fn answer(alloc: Global, word: &str, text: &str) -> Result<Option<String>, SdpError> {
     Ok(match word {
         "writable" => Some(writable(alloc, text)?),
+        "printed-with" => Some(printed_with(alloc, text)?),
         _ => None,
     })
 }
@@ -18,10 +25,40 @@ pub(crate) fn answer(alloc: Global, word: &str, text: &str) -> Result<Option<Str
 fn writable(alloc: Global, text: &str) -> Result<String, SdpError> {
     let (index, sdp) = section_asked(alloc, text)?;
     match index {
-        Some(index) if is_writable(&sdp, index)? => Ok("true".to_string(alloc)?),
-        Some(_) => Ok("false".to_string(alloc)?),
+        Some(index) => Ok(is_writable_word(&sdp, index)?.to_string(alloc)?),
         None => Ok("no index".to_string(alloc)?),
     }
+}
+
+fn is_writable_word(sdp: &Sdp, index: usize) -> Result<&'static str, SdpError> {
+    if is_writable(sdp, index)? {
+        Ok("true")
+    } else {
+        Ok("false")
+    }
+}
+
+/// `printed-with CHANGE`: what the change adds to the printed text of two sections, and whether the first and the second
+/// are writable then.
+fn printed_with(alloc: Global, change: &str) -> Result<String, SdpError> {
+    let mut sdp = description(alloc, TWO)?;
+    let (session, before) = (sdp.session.to_string(alloc)?, sdp.to_string(alloc)?);
+    change_description(alloc, &mut sdp, change)?;
+    let (first, second) = (is_writable_word(&sdp, 0)?, is_writable_word(&sdp, 1)?);
+    let printed = SdpOffer::from(sdp).to_sdp_string()?;
+    let added = added(printed.as_str(), before.as_str(), session.as_str());
+    let added = escaped(alloc, added)?;
+    Ok(format!(in alloc; "{added}\nwritable {first}, {second}")?)
+}
+
+/// What stands in the printed text behind the one before, or else behind its session and before its sections.
+fn added<'a>(printed: &'a str, before: &str, session: &str) -> &'a str {
+    if let Some(added) = printed.strip_prefix(before) {
+        return added;
+    }
+    let sections = before.strip_prefix(session).unwrap_or("");
+    let behind = printed.strip_prefix(session).unwrap_or(printed);
+    behind.strip_suffix(sections).unwrap_or(behind)
 }
 
 /// `INDEX LINES | CHANGE`: the section's index, none where no number stands there, and the changed description.
@@ -50,13 +87,13 @@ fn change_session(
     text: &str,
 ) -> Result<(), SdpError> {
     let attribute = match change {
+        "" => return Ok(()),
         "mixed" => SessionAttribute::AllowMixedExts,
-        "unused" => SessionAttribute::Unused(Text::from_str(alloc, text)?),
         "bandwidth" => {
             session.bw = Some(bandwidth(alloc, text)?);
             return Ok(());
         }
-        _ => return Ok(()),
+        field => held_texts::in_session(alloc, field, text)?,
     };
     Ok(session.attrs.push(attribute)?)
 }
@@ -101,22 +138,11 @@ fn named(alloc: Global, name: &str) -> Result<Items<MediaAttribute>, SdpError> {
 /// One attribute, which may hold what no line is read as.
 fn attribute(alloc: Global, word: &str, text: &str) -> Result<MediaAttribute, SdpError> {
     Ok(match word {
-        "mid" => MediaAttribute::Mid(Mid::from(text)),
-        "rid" => rid(alloc, text)?,
         "events" => fmtp(alloc, FormatParam::TelephoneEvents(15))?,
         "red" => fmtp(alloc, FormatParam::Red(Pt::from(111)))?,
         "distance" => fmtp(alloc, FormatParam::SpropMaxDonDiff(40_000))?,
         "unknown" => fmtp(alloc, FormatParam::Unknown)?,
-        _ => MediaAttribute::Unused(Text::from_str(alloc, text)?),
-    })
-}
-
-fn rid(alloc: Global, name: &str) -> Result<MediaAttribute, SdpError> {
-    Ok(MediaAttribute::Rid {
-        id: RestrictionId::new_active(Text::from_str(alloc, name)?),
-        direction: Word("send"),
-        pt: Items::empty(alloc),
-        restriction: Items::empty(alloc),
+        field => held_texts::in_section(alloc, field, text)?,
     })
 }
 

@@ -1,0 +1,186 @@
+//! Attributes that hold a given text in one field, also a text that no line is read as.
+
+use std::alloc::{AllocError, Global};
+use str0m_signal::{
+    Candidate, CandidateKind, Extension, Fingerprint, IpAddr, Items, MediaAttribute, Mid, Msid,
+    Protocol, Pt, RestrictionId, SessionAttribute, Simulcast, SimulcastGroups, SimulcastLayer,
+    SocketAddr, Ssrc, Text, Word,
+};
+
+/// An attribute of a session with the text in this field; where there is no such field, one that is kept unread.
+pub(crate) fn in_session(
+    alloc: Global,
+    field: &str,
+    text: &str,
+) -> Result<SessionAttribute, AllocError> {
+    let (held, other) = (Text::from_str(alloc, text)?, Text::from_str(alloc, "1")?);
+    Ok(match field {
+        "group" => SessionAttribute::Group {
+            typ: held,
+            mids: Items::empty(alloc),
+        },
+        "group-mid" => SessionAttribute::Group {
+            typ: other,
+            mids: one(alloc, Mid::from(text))?,
+        },
+        "semantic" => SessionAttribute::MsidSemantic {
+            semantic: held,
+            stream_ids: Items::empty(alloc),
+        },
+        "semantic-stream" => SessionAttribute::MsidSemantic {
+            semantic: other,
+            stream_ids: one(alloc, held)?,
+        },
+        "ice-ufrag" => SessionAttribute::IceUfrag(held),
+        "ice-pwd" => SessionAttribute::IcePwd(held),
+        "ice-options" => SessionAttribute::IceOptions(held),
+        "fingerprint" => SessionAttribute::Fingerprint(fingerprint(alloc, held)?),
+        "candidate" => SessionAttribute::Candidate(candidate(held, None)),
+        "candidate-ufrag" => SessionAttribute::Candidate(candidate(other, Some(held))),
+        _ => SessionAttribute::Unused(held),
+    })
+}
+
+/// An attribute of a section with the text in this field; where there is no such field, one that is kept unread.
+pub(crate) fn in_section(
+    alloc: Global,
+    field: &str,
+    text: &str,
+) -> Result<MediaAttribute, AllocError> {
+    let (held, other) = (Text::from_str(alloc, text)?, Text::from_str(alloc, "1")?);
+    Ok(match field {
+        "rtcp" => MediaAttribute::Rtcp(held),
+        "ice-ufrag" => MediaAttribute::IceUfrag(held),
+        "ice-pwd" => MediaAttribute::IcePwd(held),
+        "ice-options" => MediaAttribute::IceOptions(held),
+        "fingerprint" => MediaAttribute::Fingerprint(fingerprint(alloc, held)?),
+        "candidate" => MediaAttribute::Candidate(candidate(held, None)),
+        "candidate-ufrag" => MediaAttribute::Candidate(candidate(other, Some(held))),
+        "mid" => MediaAttribute::Mid(Mid::from(text)),
+        "sctp-init" => MediaAttribute::SctpInit(held),
+        "extension" => MediaAttribute::ExtMap {
+            id: 1,
+            ext: Extension::new(alloc, text, true)?,
+        },
+        "feedback" => MediaAttribute::RtcpFb {
+            pt: Pt::from(111),
+            value: held,
+        },
+        _ => in_stream(alloc, field, held, other)?,
+    })
+}
+
+/// An attribute that speaks of streams or sources with the text in this field, and the other text in the field beside it.
+fn in_stream(
+    alloc: Global,
+    field: &str,
+    held: Text,
+    other: Text,
+) -> Result<MediaAttribute, AllocError> {
+    let ssrc = Ssrc::from(1);
+    Ok(match field {
+        "msid-stream" => MediaAttribute::Msid(Msid {
+            stream_id: held,
+            track_id: other,
+        }),
+        "msid-track" => MediaAttribute::Msid(Msid {
+            stream_id: other,
+            track_id: held,
+        }),
+        "source-group" => MediaAttribute::SsrcGroup {
+            semantics: held,
+            ssrcs: one(alloc, ssrc)?,
+        },
+        "source-name" => MediaAttribute::Ssrc {
+            ssrc,
+            attr: held,
+            value: other,
+        },
+        "source-value" => MediaAttribute::Ssrc {
+            ssrc,
+            attr: other,
+            value: held,
+        },
+        "send" | "recv" | "layer-note" => in_layer(alloc, field, held)?,
+        _ => in_rid(alloc, field, held, other)?,
+    })
+}
+
+/// A rid whose restriction, if it has one, is named or given by the text.
+fn in_rid(
+    alloc: Global,
+    field: &str,
+    held: Text,
+    other: Text,
+) -> Result<MediaAttribute, AllocError> {
+    let value = Text::from_str(alloc, "2")?;
+    Ok(match field {
+        "rid" => rid(alloc, held, "send", Items::empty(alloc)),
+        "rid-way" => rid(alloc, other, "x\r\na=mid:9", Items::empty(alloc)),
+        "rid-key" => rid(alloc, other, "send", one(alloc, (held, value))?),
+        "rid-value" => rid(alloc, other, "send", one(alloc, (value, held))?),
+        _ => MediaAttribute::Unused(held),
+    })
+}
+
+fn rid(
+    alloc: Global,
+    name: Text,
+    direction: &'static str,
+    restriction: Items<(Text, Text)>,
+) -> MediaAttribute {
+    MediaAttribute::Rid {
+        id: RestrictionId::new_active(name),
+        direction: Word(direction),
+        pt: Items::empty(alloc),
+        restriction,
+    }
+}
+
+/// One layer that is sent or received under this name, or one of which the text is noted.
+fn in_layer(alloc: Global, field: &str, held: Text) -> Result<MediaAttribute, AllocError> {
+    let other = Text::from_str(alloc, "1")?;
+    let (name, attributes) = match field {
+        "layer-note" => (other, Some(one(alloc, (held.clone()?, held))?)),
+        _ => (held, None),
+    };
+    let restriction_id = RestrictionId::new_active(name);
+    let layer = SimulcastLayer {
+        restriction_id,
+        attributes,
+    };
+    let none = SimulcastGroups(Items::empty(alloc));
+    let layers = SimulcastGroups(one(alloc, layer)?);
+    let (send, recv) = if field == "recv" {
+        (none, layers)
+    } else {
+        (layers, none)
+    };
+    Ok(MediaAttribute::Simulcast(Simulcast {
+        send,
+        recv,
+        is_munged: false,
+    }))
+}
+
+/// A fingerprint of one byte.
+fn fingerprint(alloc: Global, hash_func: Text) -> Result<Fingerprint, AllocError> {
+    let bytes = one(alloc, 5)?;
+    Ok(Fingerprint { hash_func, bytes })
+}
+
+fn candidate(foundation: Text, ufrag: Option<Text>) -> Candidate {
+    let addr = SocketAddr {
+        ip: IpAddr::V4([192, 0, 2, 1]),
+        port: 9,
+    };
+    let (proto, kind) = (Protocol::Udp, CandidateKind::Host);
+    Candidate::from_parts(foundation, 1, proto, 1, addr, kind, None, None, ufrag)
+}
+
+/// A list of one item.
+fn one<T: Drop>(alloc: Global, item: T) -> Result<Items<T>, AllocError> {
+    let mut list = Items::empty(alloc);
+    list.push(item)?;
+    Ok(list)
+}
