@@ -4,7 +4,7 @@ use crate::lines::refused;
 use crate::spoken::{add_item, behind_header};
 use plain_cases::{configuration, is_same, shown_rows};
 use std::alloc::{AllocError, Global};
-use str0m_signal::{NegotiationError, SdpError, negotiate_text};
+use str0m_signal::{NegotiationError, SdpError, locked_rows, negotiate_text};
 
 /// What the call that the word names answers of the text; none for a word of others.
 pub(crate) fn answer(alloc: Global, word: &str, text: &str) -> Result<Option<String>, SdpError> {
@@ -15,6 +15,7 @@ pub(crate) fn answer(alloc: Global, word: &str, text: &str) -> Result<Option<Str
             Ok(Some(negotiated(alloc, own, text.as_str())?))
         }
         "negotiate-text" => Ok(Some(negotiated(alloc, own, text)?)),
+        "negotiate-locked" => Ok(Some(locked(alloc, own, text)?)),
         _ => Ok(None),
     }
 }
@@ -36,6 +37,19 @@ fn negotiated(alloc: Global, own: &str, text: &str) -> Result<String, SdpError> 
         Err(error) => refused(alloc, &error)?,
     };
     let rows = shown_rows(alloc, config.params())?;
+    add_item(&mut said, rows.as_str(), "\n")?;
+    Ok(said)
+}
+
+/// What the rounds of the text come to, a line each, and then the rows that are locked by them.
+fn locked(alloc: Global, own: &str, text: &str) -> Result<String, SdpError> {
+    let Some(mut config) = configuration(alloc, own)? else {
+        return Ok("no such configuration".to_string(alloc)?);
+    };
+    let outcomes = negotiate_text(&mut config, text)?;
+    let mut said = outcome_lines(alloc, outcomes.as_slice())?;
+    let rows = locked_rows(&config)?;
+    let rows = shown_rows(alloc, rows.as_slice())?;
     add_item(&mut said, rows.as_str(), "\n")?;
     Ok(said)
 }
