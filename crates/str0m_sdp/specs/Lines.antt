@@ -10,5 +10,5 @@ abbrev pub attribute_line : List ℕ → List ℕ
 attribute_line text = codes "a=" ++ (text ++ line_end)
 
 -- an attribute line of a label and a text right behind it
-abbrev pub labeled_line : List ℕ → List ℕ → List ℕ
-labeled_line label text = codes "a=" ++ (label ++ (text ++ line_end))
+abbrev pub labelled_line : List ℕ → List ℕ → List ℕ
+labelled_line label text = codes "a=" ++ (label ++ (text ++ line_end))

@@ -2,7 +2,7 @@
 ghost use Rattle.std.specs.Prelude.{◌≡◌, ◌++◌, List, ℕ, Some, refl};
 ghost use Rattle.std.specs.Fmt.{decimal};
 ghost use Rattle.std.specs.List.{flat_map, join_by};
-ghost use Rattle.str0m_sdp.specs.Lines.{labeled_line};
+ghost use Rattle.str0m_sdp.specs.Lines.{labelled_line};
 
 use std::fmt;
 use str0m_values::Pt;
@@ -85,7 +85,7 @@ pub(crate) struct TextLine<'a> {
 }
 
 impl<'a> fmt::Display for TextLine<'a> {
-    ghost output = { λ line. Some (labeled_line line.label.now line.text.now) };
+    ghost output = { λ line. Some (labelled_line line.label.now line.text.now) };
 
     fn fmt<W: fmt::Write>(&self, f: &mut fmt::Formatter<W>) -> fmt::Result {
         let label = self.label;
