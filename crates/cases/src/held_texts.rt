@@ -101,7 +101,7 @@ fn in_stream(
             attr: other,
             value: held,
         },
-        "send" | "recv" | "layer-note" => in_layer(alloc, field, held)?,
+        "send" | "recv" | "layer-note" => in_layer(alloc, field, held, other)?,
         _ => in_rid(alloc, field, held, other)?,
     })
 }
@@ -137,30 +137,39 @@ fn rid(
     }
 }
 
-/// One layer that is sent or received under this name, or one of which the text is noted.
-fn in_layer(alloc: Global, field: &str, held: Text) -> Result<MediaAttribute, AllocError> {
-    let other = Text::from_str(alloc, "1")?;
-    let (name, attributes) = match field {
-        "layer-note" => (other, Some(one(alloc, (held.clone()?, held))?)),
-        _ => (held, None),
-    };
-    let restriction_id = RestrictionId::new_active(name);
-    let layer = SimulcastLayer {
-        restriction_id,
-        attributes,
-    };
+/// A layer that is sent or received under this name; else one that is sent under the other, of which the text is noted.
+fn in_layer(
+    alloc: Global,
+    field: &str,
+    held: Text,
+    other: Text,
+) -> Result<MediaAttribute, AllocError> {
     let none = SimulcastGroups(Items::empty(alloc));
-    let layers = SimulcastGroups(one(alloc, layer)?);
-    let (send, recv) = if field == "recv" {
-        (none, layers)
-    } else {
-        (layers, none)
+    let key = Text::from_str(alloc, "x")?;
+    let (send, recv) = match field {
+        "send" => (layer(alloc, held, None)?, none),
+        "recv" => (none, layer(alloc, held, None)?),
+        _ => (layer(alloc, other, Some(one(alloc, (key, held))?))?, none),
     };
     Ok(MediaAttribute::Simulcast(Simulcast {
         send,
         recv,
         is_munged: false,
     }))
+}
+
+/// One layer, and what is noted of it.
+fn layer(
+    alloc: Global,
+    name: Text,
+    attributes: Option<Items<(Text, Text)>>,
+) -> Result<SimulcastGroups, AllocError> {
+    let restriction_id = RestrictionId::new_active(name);
+    let layer = SimulcastLayer {
+        restriction_id,
+        attributes,
+    };
+    Ok(SimulcastGroups(one(alloc, layer)?))
 }
 
 /// A fingerprint of one byte.

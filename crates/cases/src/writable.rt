@@ -3,7 +3,7 @@
 use crate::escapes::escaped;
 use crate::held_texts;
 use crate::spoken::description;
-use std::alloc::Global;
+use std::alloc::{AllocError, Global};
 use str0m_signal::{
     Bandwidth, FormatParam, Items, MediaAttribute, MediaLine, MediaType, Mid, Proto, Pt, Sdp,
     SdpError, SdpOffer, Session, SessionAttribute, Text, is_writable,
@@ -46,19 +46,25 @@ fn printed_with(alloc: Global, change: &str) -> Result<String, SdpError> {
     change_description(alloc, &mut sdp, change)?;
     let (first, second) = (is_writable_word(&sdp, 0)?, is_writable_word(&sdp, 1)?);
     let printed = SdpOffer::from(sdp).to_sdp_string()?;
-    let added = added(printed.as_str(), before.as_str(), session.as_str());
-    let added = escaped(alloc, added)?;
+    let added = added(alloc, printed.as_str(), before.as_str(), session.as_str())?;
     Ok(format!(in alloc; "{added}\nwritable {first}, {second}")?)
 }
 
-/// What stands in the printed text behind the one before, or else behind its session and before its sections.
-fn added<'a>(printed: &'a str, before: &str, session: &str) -> &'a str {
+/// What stands in the printed text behind the one before, or else between its session and its sections.
+fn added(alloc: Global, printed: &str, before: &str, session: &str) -> Result<String, AllocError> {
     if let Some(added) = printed.strip_prefix(before) {
-        return added;
+        return escaped(alloc, added);
     }
-    let sections = before.strip_prefix(session).unwrap_or("");
-    let behind = printed.strip_prefix(session).unwrap_or(printed);
-    behind.strip_suffix(sections).unwrap_or(behind)
+    let (Some(behind), Some(sections)) = (
+        printed.strip_prefix(session),
+        before.strip_prefix(session),
+    ) else {
+        return escaped(alloc, printed);
+    };
+    match behind.strip_suffix(sections) {
+        Some(added) => escaped(alloc, added),
+        None => escaped(alloc, behind),
+    }
 }
 
 /// `INDEX LINES | CHANGE`: the section's index, none where no number stands there, and the changed description.
