@@ -105,8 +105,14 @@ find_four : (p : ℕ → Bool) (a b c d : List ℕ)
     → option_or (option_or (option_or (find p a) (find p b)) (find p c)) (find p d) ≡ find p (a ++ (b ++ (c ++ (d ++ []))))
 find_four p a b c d =
     regroup (find p a) (find p b) (find p c) (find p d)
-    ∙ sym (rw (find-append p a (b ++ (c ++ (d ++ []))), find-append p b (c ++ (d ++ [])), find-append p c (d ++ []), find-append p d []) refl) where
-      regroup : (w x y z : Option ℕ) → option_or (option_or (option_or w x) y) z ≡ option_or w (option_or x (option_or y (option_or z None)))
+    ∙ sym (rw (
+      find-append p a (b ++ (c ++ (d ++ []))),
+      find-append p b (c ++ (d ++ [])),
+      find-append p c (d ++ []),
+      find-append p d [],
+    ) refl) where
+      regroup : (w x y z : Option ℕ)
+          → option_or (option_or (option_or w x) y) z ≡ option_or w (option_or x (option_or y (option_or z None)))
       regroup (Some n) x y z = refl
       regroup None (Some n) y z = refl
       regroup None None (Some n) z = refl

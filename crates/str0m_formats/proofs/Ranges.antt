@@ -32,10 +32,13 @@ find-range_skips p n (suc d) s h fails =
 pub find-range_cut : (p q : ℕ → Bool) (n d s : ℕ) → s + d ≤ n → ((i : ℕ) → s ≤ i → i < s + d → p i ≡ q i)
     → ((i : ℕ) → s + d ≤ i → i < n → p i ≡ false) → find p (range_with_len s (n - s)) ≡ find q (range_with_len s d)
 find-range_cut p q n zero s h same fails =
-    find-range_skips p n (n - s) s (omega arith) (λ i a b. fails i (omega arith) (omega arith)) ∙ find-range_none p (s + (n - s)) n (omega arith)
+    find-range_skips p n (n - s) s (omega arith) (λ i a b. fails i (omega arith) (omega arith))
+    ∙ find-range_none p (s + (n - s)) n (omega arith)
 find-range_cut p q n (suc d) s h same fails =
     let long : n - s ≡ suc (n - (s + 1)) = omega arith in
-    let rest = find-range_cut p q n d (s + 1) (omega arith) (λ i a b. same i (omega arith) (omega arith)) (λ i a b. fails i (omega arith) b) in
+    let rest =
+    find-range_cut p q n d (s + 1) (omega arith) (λ i a b. same i (omega arith) (omega arith))
+    (λ i a b. fails i (omega arith) b) in
     ap (λ k. find p (range_with_len s k)) long
     ∙ ap (λ b. cond b (Some s) (find p (range_with_len (s + 1) (n - (s + 1))))) (same s (omega arith) (omega arith))
     ∙ ap (λ o. cond (q s) (Some s) o) rest

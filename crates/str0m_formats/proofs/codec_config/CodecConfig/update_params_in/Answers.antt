@@ -35,7 +35,9 @@ returns-in_err-run_round-clause-one_cause g c =
     let before = c.args.self.now.params.items in
     let cause = c.in_err-run_round.field-0.0 in
     let same : c.in_ok-rows.rows.items ≡ before = search (rules, same_from_all_zip) in
-    let refused = refused_as_copied before _ _ c.args.remote.now (receives c.args.dir) _ cause c.deref_mut.ensures.value same c.sdp_is_receiving.ensures c.in_err-run_round.ensures.err in
+    let refused =
+    refused_as_copied before _ _ c.args.remote.now (receives c.args.dir) _ cause
+    c.deref_mut.ensures.value same c.sdp_is_receiving.ensures c.in_err-run_round.ensures.err in
     IfErr_from c.from_residual-in_err-run_round.result cause _ (search rules)
     (λ not_memory. refused_only before c.args.remote.now (receives c.args.dir) cause refused)
 
@@ -45,7 +47,9 @@ returns-in_err-run_round-clause-room g c = λ few exhausted.
     let cause = c.in_err-run_round.field-0.0 in
     let same : c.in_ok-rows.rows.items ≡ before = search (rules, same_from_all_zip) in
     let is : c.from_residual-in_err-run_round.result ≡ Err cause = search rules in
-    let refused = refused_as_copied before _ _ c.args.remote.now (receives c.args.dir) _ cause c.deref_mut.ensures.value same c.sdp_is_receiving.ensures c.in_err-run_round.ensures.err in
+    let refused =
+    refused_as_copied before _ _ c.args.remote.now (receives c.args.dir) _ cause
+    c.deref_mut.ensures.value same c.sdp_is_receiving.ensures c.in_err-run_round.ensures.err in
     not_exhausted before c.args.remote.now (receives c.args.dir) cause _ few is refused exhausted
 
 pub returns-in_err-run_round-clause-bounded : goal.returns-in_err-run_round-clause-bounded
@@ -53,5 +57,7 @@ returns-in_err-run_round-clause-bounded g c = λ few bounds is_false.
     let before = c.args.self.now.params.items in
     let cause = c.in_err-run_round.field-0.0 in
     let same : c.in_ok-rows.rows.items ≡ before = search (rules, same_from_all_zip) in
-    let refused = refused_as_copied before _ _ c.args.remote.now (receives c.args.dir) _ cause c.deref_mut.ensures.value same c.sdp_is_receiving.ensures c.in_err-run_round.ensures.err in
+    let refused =
+    refused_as_copied before _ _ c.args.remote.now (receives c.args.dir) _ cause
+    c.deref_mut.ensures.value same c.sdp_is_receiving.ensures c.in_err-run_round.ensures.err in
     absurd (never_refused before c.args.remote.now (receives c.args.dir) few bounds is_false cause refused)
