@@ -18,7 +18,11 @@ use str0m_signal::{
 };
 
 /// The text of a description with this section in the place of one.
-fn with_section(mut own: Sdp, at: usize, section: MediaLine) -> Result<String, AllocError>
+pub(crate) fn with_section(
+    mut own: Sdp,
+    at: usize,
+    section: MediaLine,
+) -> Result<String, AllocError>
     requires { at < length own.media_lines }
     ensures { IfOk result (λ text. string_bytes text ≡ sdp_text (record own { media_lines = slice_set own.media_lines at section })) }
 {

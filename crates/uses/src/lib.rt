@@ -3,7 +3,17 @@
 #![tactic(auto)]
 
 mod answer;
+mod call_error;
+mod later_round;
+mod offered;
+mod own_section;
+mod stored;
 #[cfg(test)]
 mod tests;
 
 pub use answer::answer_section;
+pub use call_error::CallError;
+pub use later_round::negotiate_again;
+pub use offered::offered_rows;
+pub use own_section::{own_frame, own_offer, own_sdp};
+pub use stored::{ReadText, checked};

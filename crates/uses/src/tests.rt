@@ -1,11 +1,27 @@
-//! The example of docs/HEADLINE.md: an offer of Opus under type 109, answered in a section of one's own.
+//! The example of docs/HEADLINE.md, an offer of Opus under type 109: read, answered, met again, stored, and made of nothing
+//! but values.
 
 use crate::answer::answer_section;
+use crate::later_round::negotiate_again;
+use crate::offered::offered_rows;
+use crate::own_section::{own_frame, own_offer, own_sdp};
+use crate::stored::checked;
+use std::alloc::{AllocError, Global};
 use std::test::Fail;
-use str0m_signal::{CodecConfig, sdp_parser};
+use str0m_signal::{
+    Codec, CodecConfig, Fingerprint, IceCreds, Mid, Pt, Text, locked_rows, sdp_parser,
+};
 
 const OFFER: &str =
     "v=0\r\no=str0m-0.25.0 7 2 IN IP4 0.0.0.0\r\ns=-\r\nt=0 0\r\nm=audio 9 UDP/TLS/RTP/SAVPF 109\r\nc=IN IP4 0.0.0.0\r\na=mid:0\r\na=sendrecv\r\na=rtpmap:109 opus/48000/2\r\na=fmtp:109 minptime=10;useinbandfec=1\r\n";
+
+/// Opus comes under type 120 now, and VP8 under that of Opus.
+const LATER_OFFER: &str =
+    "v=0\r\no=- 7 3 IN IP4 0.0.0.0\r\ns=-\r\nt=0 0\r\nm=audio 9 UDP/TLS/RTP/SAVPF 120\r\na=mid:0\r\na=sendrecv\r\na=rtpmap:120 opus/48000/2\r\na=fmtp:120 minptime=10;useinbandfec=1\r\nm=video 9 UDP/TLS/RTP/SAVPF 109\r\na=mid:1\r\na=sendrecv\r\na=rtpmap:109 VP8/90000\r\n";
+
+/// An offer of the default row of Opus, with the lines of docs/PRINTING.md.
+const OWN_OFFER: &str =
+    "v=0\r\no=str0m-0.25.0 7 2 IN IP4 0.0.0.0\r\ns=-\r\nt=0 0\r\na=group:BUNDLE 0\r\nm=audio 9 UDP/TLS/RTP/SAVPF 111\r\nc=IN IP4 0.0.0.0\r\na=mid:0\r\na=sendrecv\r\na=setup:actpass\r\na=ice-ufrag:abcd\r\na=ice-pwd:0123456789abcdef012345\r\na=fingerprint:sha-256 AB:CD\r\na=rtcp-mux\r\na=rtpmap:111 opus/48000/2\r\na=rtcp-fb:111 transport-cc\r\na=fmtp:111 minptime=10;useinbandfec=1\r\n";
 
 #[test]
 fn an_answer_lists_the_row_that_is_locked(rt: HostRuntime) -> Result<(), Fail> {
@@ -22,5 +38,68 @@ fn a_section_that_is_not_there_is_not_answered(rt: HostRuntime) -> Result<(), Fa
     let (own, _) = sdp_parser(rt.alloc(), OFFER)?;
     let answer = answer_section(&mut config, OFFER, own, 1)?;
     assert!(rt; answer.is_none());
+    Ok(())
+}
+
+#[test]
+fn an_offer_holds_the_rows_of_its_section(rt: HostRuntime) -> Result<(), Fail> {
+    let (_, found) = offered_rows(rt.alloc(), OFFER, 0)?;
+    let rows = found.ok_or("a section")?;
+    assert_eq!(rt; rows.len(), 1);
+    assert_eq!(rt; rows[0].pt(), Pt::from(109));
+    assert_eq!(rt; rows[0].spec().codec, Codec::Opus);
+    let (offer, found) = offered_rows(rt.alloc(), OFFER, 1)?;
+    assert_eq!(rt; offer.media_lines.len(), 1);
+    assert!(rt; found.is_none());
+    Ok(())
+}
+
+#[test]
+fn a_locked_type_is_not_given_to_another_codec(rt: HostRuntime) -> Result<(), Fail> {
+    let mut config = CodecConfig::new_with_defaults(rt.alloc())?;
+    negotiate_again(&mut config, OFFER)?;
+    let Err(error) = negotiate_again(&mut config, LATER_OFFER) else {
+        panic!(rt; "accepted");
+    };
+    let told = error.to_string(rt.alloc())?;
+    assert_eq!(rt;
+        told.as_str(),
+        "round refused: payload type 109 is claimed twice"
+    );
+    let rows = locked_rows(&config)?;
+    assert_eq!(rt; rows.len(), 1);
+    assert_eq!(rt; rows[0].pt(), Pt::from(109));
+    Ok(())
+}
+
+#[test]
+fn a_text_that_would_lose_a_line_is_not_stored(rt: HostRuntime) -> Result<(), Fail> {
+    assert!(rt; checked(rt.alloc(), OWN_OFFER)?.may_be_stored);
+    // It has no group.
+    assert!(rt; !checked(rt.alloc(), OFFER)?.may_be_stored);
+    let and_more = format!(in rt.alloc(); "{OWN_OFFER}x=1\r\n")?;
+    let found = checked(rt.alloc(), and_more.as_str())?;
+    assert_eq!(rt; found.rest, "x=1\r\n");
+    assert!(rt; !found.may_be_stored);
+    Ok(())
+}
+
+fn credentials(alloc: Global) -> Result<IceCreds, AllocError> {
+    Ok(IceCreds {
+        ufrag: Text::from_str(alloc, "abcd")?,
+        pass: Text::from_str(alloc, "0123456789abcdef012345")?,
+    })
+}
+
+#[test]
+fn an_offer_is_made_of_values(rt: HostRuntime) -> Result<(), Fail> {
+    let mut config = CodecConfig::empty(rt.alloc());
+    config.enable_opus(true, false)?;
+    let mid = Mid::from("0");
+    let fingerprint = Fingerprint::from_str(rt.alloc(), "sha-256 AB:CD")?;
+    let frame = own_frame(rt.alloc(), mid, credentials(rt.alloc())?, fingerprint)?;
+    let own = own_sdp(rt.alloc(), 7, mid, frame)?;
+    let offer = own_offer(&config, own, 0)?.ok_or("an offer")?;
+    assert_eq!(rt; offer.as_str(), OWN_OFFER);
     Ok(())
 }

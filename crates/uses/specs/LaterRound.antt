@@ -1,0 +1,34 @@
+-- What negotiating with a later offer comes to.
+use Rattle.std.specs.Prelude.{◌≡◌, ◌<◌, ℕ, Result, Ok, Err, Option, Some, None, List, MatchOption}
+use Rattle.std.specs.List.{slice_get}
+use Rattle.str0m_formats.specs.Runs.{Outcome}
+use Rattle.str0m_formats.specs.declared.negotiation_error.NegotiationError.{NegotiationError}
+use Rattle.str0m_formats.specs.declared.payload_params.PayloadParams.{PayloadParams}
+use Rattle.str0m_signal.specs.Answers.{Refuses}
+use Rattle.str0m_signal.specs.Negotiation.{NegotiatedText}
+use Rattle.str0m_signal.specs.Reading.{Described}
+use Rattle.uses.specs.declared.call_error.CallError.{CallError}
+use Rattle.uses.specs.declared.call_error.CallError.TheVariants.{NotRead, Refused, Memory}
+
+abbrev pub refusal : Outcome → Option NegotiationError
+refusal (Ok done) = None
+refusal (Err cause) = Some cause
+
+-- the first of the outcomes that is a refusal has this cause; None where none is
+abbrev pub IsFirstRefusal : List Outcome → Option NegotiationError → Type 0
+IsFirstRefusal outcomes refused = MatchOption refused
+    ((k : ℕ) (outcome : Outcome) → slice_get outcomes k ≡ Some outcome → refusal outcome ≡ None)
+    (λ cause. (i : ℕ) × (slice_get outcomes i ≡ Some (Err cause))
+    × ((k : ℕ) (outcome : Outcome) → k < i → slice_get outcomes k ≡ Some outcome → refusal outcome ≡ None))
+
+-- the text's rounds lead from the rows before them to the rows after them, and this is the first refusal among them
+abbrev pub Negotiates : List ℕ → List PayloadParams → Option NegotiationError → List PayloadParams → Type 0
+Negotiates text before refused after =
+    (outcomes : List Outcome) × NegotiatedText text before outcomes after × IsFirstRefusal outcomes refused
+
+-- Ok where no round was refused, else the first refusal; what isn't read changes nothing
+abbrev pub ComesTo : List ℕ → List PayloadParams → Result (Unit {0}) CallError → List PayloadParams → Type 0
+ComesTo text before (Ok done) after = Negotiates text before None after
+ComesTo text before (Err (Refused cause)) after = Negotiates text before (Some cause) after
+ComesTo text before (Err (NotRead error)) after = Refuses error (Described text) × (after ≡ before)
+ComesTo text before (Err Memory) after = ⊥

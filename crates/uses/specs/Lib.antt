@@ -1,0 +1,2 @@
+pub mod LaterRound
+pub mod OwnSection

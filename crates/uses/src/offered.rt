@@ -1,0 +1,45 @@
+//! What an offer holds.
+
+ghost use Rattle.std.specs.Prelude.{◌≡◌, IfErr, IfOk, MatchOption, None, Some};
+ghost use Rattle.std.specs.List.{slice_get};
+ghost use Rattle.str0m_sdp.specs.SectionRows.{rows};
+ghost use Rattle.str0m_sdp.specs.declared.media_line.MediaLine.{MediaLine};
+ghost use Rattle.str0m_signal.specs.Answers.{Refuses};
+ghost use Rattle.str0m_signal.specs.Reading.{Described};
+
+use std::alloc::{AllocError, Global};
+use str0m_signal::{PayloadParams, Sdp, SdpError, SdpOffer};
+
+/// The rows of the section at `at`, where there is one.
+fn rows_at(sdp: &Sdp, at: usize) -> Result<Option<Vec<PayloadParams>>, AllocError>
+    ensures { IfOk result (λ found. MatchOption found
+        (slice_get sdp.now.media_lines at ≡ None)
+        (λ theirs. (section : MediaLine) × (slice_get sdp.now.media_lines at ≡ Some section) × (theirs.items ≡ rows section))) }
+{
+    match sdp.media_lines.get(at) {
+        Some(section) => Ok(Some(section.rtp_params()?)),
+        None => Ok(None),
+    }
+}
+
+/// The description that an offer begins with, and the rows that its section at `at` describes, counted
+/// from 0; `None` where it has no such section.
+///
+/// # Errors
+///
+/// `ParseError` exactly where the text describes no session; `Memory` where memory was refused.
+pub fn offered_rows(
+    alloc: Global,
+    text: &str,
+    at: usize,
+) -> Result<(SdpOffer, Option<Vec<PayloadParams>>), SdpError>
+    ensures described { IfOk result (λ offered. Described text.now offered.0) }
+    ensures rows { IfOk result (λ offered. MatchOption offered.1
+        (slice_get offered.0.media_lines at ≡ None)
+        (λ theirs. (section : MediaLine) × (slice_get offered.0.media_lines at ≡ Some section) × (theirs.items ≡ rows section))) }
+    ensures refused { IfErr result (λ error. Refuses error (Described text.now)) }
+{
+    let offer = SdpOffer::from_sdp_string(alloc, text)?;
+    let rows = rows_at(&offer, at)?;
+    Ok((offer, rows))
+}

@@ -1,0 +1,85 @@
+//! A section of one's own, made of nothing but values.
+
+ghost use Rattle.std.specs.Prelude.{◌≡◌, IfOk, IfSome, Some};
+ghost use Rattle.std.specs.List.{slice_get};
+ghost use Rattle.std.specs.String.{string_bytes};
+ghost use Rattle.str0m_sdp.specs.Session.{sdp_text};
+ghost use Rattle.str0m_sdp.specs.declared.media_line.MediaLine.{MediaLine};
+ghost use Rattle.str0m_signal.specs.ReadBack.{MayBePrinted, ReadsBack, with_rows};
+ghost use Rattle.uses.specs.OwnSection.{own_frame, own_sdp};
+
+use crate::answer::with_section;
+use std::alloc::{AllocError, Global};
+use str0m_signal::{
+    CodecConfig, Fingerprint, IceCreds, Items, MediaAttribute, MediaLine, Mid, Sdp, Session,
+    SessionAttribute, Setup, Text, is_writable, section_of,
+};
+
+/// A section of audio without rows yet: its name, and how this side's transport is reached. The only
+/// error is that memory was refused.
+pub fn own_frame(
+    alloc: Global,
+    mid: Mid,
+    creds: IceCreds,
+    fingerprint: Fingerprint,
+) -> Result<MediaLine, AllocError>
+    ensures { IfOk result (λ frame. frame ≡ own_frame mid creds fingerprint) }
+{
+    let mut frame = MediaLine::new(alloc);
+    frame.attrs.push(MediaAttribute::Mid(mid))?;
+    frame.attrs.push(MediaAttribute::SendRecv)?;
+    frame.attrs.push(MediaAttribute::Setup(Setup::ActPass))?;
+    frame.attrs.push(MediaAttribute::IceUfrag(creds.ufrag))?;
+    frame.attrs.push(MediaAttribute::IcePwd(creds.pass))?;
+    frame.attrs.push(MediaAttribute::Fingerprint(fingerprint))?;
+    frame.attrs.push(MediaAttribute::RtcpMux)?;
+    Ok(frame)
+}
+
+/// A description of one section, which its `BUNDLE` group lists. The only error is that memory was
+/// refused.
+pub fn own_sdp(alloc: Global, id: u64, mid: Mid, frame: MediaLine) -> Result<Sdp, AllocError>
+    ensures { IfOk result (λ own. own ≡ own_sdp id mid frame) }
+{
+    let typ = Text::from_str(alloc, "BUNDLE")?;
+    let mut mids = Items::empty(alloc);
+    mids.push(mid)?;
+    let mut attrs = Items::empty(alloc);
+    attrs.push(SessionAttribute::Group { typ, mids })?;
+    let mut media_lines = Items::empty(alloc);
+    media_lines.push(frame)?;
+    let session = Session {
+        id: id.into(),
+        bw: None,
+        attrs,
+    };
+    Ok(Sdp {
+        session,
+        media_lines,
+    })
+}
+
+/// The text of `own` with the rows of a configuration in its section at `at`, counted from 0. `None`
+/// where there is no such section, or where what stands around the rows wouldn't be read again, as a
+/// name with a line end in it.
+///
+/// The other side reads the text to its end, and finds these rows in that section, in order, where it
+/// is one of audio or video and they are plain and distinct.
+///
+/// The only error is that memory was refused.
+pub fn own_offer(config: &CodecConfig, own: Sdp, at: usize) -> Result<Option<String>, AllocError>
+    ensures text { IfOk result (λ offer. IfSome offer (λ text.
+        (frame : MediaLine) × (slice_get own.media_lines at ≡ Some frame)
+        × (string_bytes text ≡ sdp_text (with_rows own at frame config.now.params.items)))) }
+    ensures read_back { MayBePrinted config.now.params.items → IfOk result (λ offer. IfSome offer (λ text.
+        ReadsBack own at config.now.params.items)) }
+{
+    if !is_writable(&own, at)? {
+        return Ok(None);
+    }
+    let Some(frame) = own.media_lines.get(at) else {
+        return Ok(None);
+    };
+    let section = section_of(frame, config.params())?;
+    Ok(Some(with_section(own, at, section)?))
+}
