@@ -73,14 +73,20 @@ fn a_locked_type_is_not_given_to_another_codec(rt: HostRuntime) -> Result<(), Fa
 }
 
 #[test]
-fn a_text_that_would_lose_a_line_is_not_stored(rt: HostRuntime) -> Result<(), Fail> {
-    assert!(rt; checked(rt.alloc(), OWN_OFFER)?.may_be_stored);
+fn a_text_that_would_lose_a_line_is_told(rt: HostRuntime) -> Result<(), Fail> {
+    let found = checked(rt.alloc(), OWN_OFFER)?;
+    assert_eq!(rt;
+        (found.rest, found.is_consistent, found.is_printed_so),
+        ("", true, true)
+    );
     // It has no group.
-    assert!(rt; !checked(rt.alloc(), OFFER)?.may_be_stored);
+    assert!(rt; !checked(rt.alloc(), OFFER)?.is_consistent);
     let and_more = format!(in rt.alloc(); "{OWN_OFFER}x=1\r\n")?;
     let found = checked(rt.alloc(), and_more.as_str())?;
-    assert_eq!(rt; found.rest, "x=1\r\n");
-    assert!(rt; !found.may_be_stored);
+    assert_eq!(rt;
+        (found.rest, found.is_consistent, found.is_printed_so),
+        ("x=1\r\n", true, false)
+    );
     Ok(())
 }
 
