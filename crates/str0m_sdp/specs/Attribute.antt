@@ -1,5 +1,5 @@
 -- What attributes print: a line for each form (RFC 8866, sections 5.13 and 6).
-use Rattle.std.specs.Prelude.{ℕ, List, [], ◌++◌, codes}
+use Rattle.std.specs.Prelude.{ℕ, List, ◌++◌, codes}
 use Rattle.std.specs.Fmt.{decimal}
 use Rattle.str0m_values.specs.Candidate.{candidate_text}
 use Rattle.str0m_values.specs.Fingerprint.{fingerprint_text}
