@@ -1,5 +1,5 @@
 -- When two parameters are equal: each variant by what it holds, and two variants never.
-use Rattle.std.proofs.Common.{◌≡◌, Bool, true, refl, ap, sym, subst, true≢false}
+use Rattle.std.proofs.Common.{◌≡◌, true, refl, ap, sym, subst, true≢false}
 use Rattle.std.specs.Bool.{Decides}
 use Rattle.std.specs.Cmp.{unsigned_Decides, booleans_Decides}
 use Rattle.str0m_formats.specs.contracts.format_param.FormatParamPartialEq.TheImpl as param

@@ -1,6 +1,5 @@
 -- Some of the rows that may be printed may be printed, where there is one.
 use Rattle.std.proofs.Common.{◌≡◌, ◌≢◌, ◌≤◌, ℕ, Bool, true, false, cond, filter, List, [], ◌∷◌, sym, subst, ◌∙◌, arith}
-use Rattle.std.specs.Prelude.{All}
 use Rattle.std.specs.List.{AllByRecursion}
 use Rattle.std.proofs.lemmas.List.Elements.{All-from_recursion, recursion_from_All}
 use Rattle.str0m_formats.specs.PlainRow.{IsPlain}

@@ -9,7 +9,7 @@ use Rattle.str0m_values.specs.Parts.{Lacks, IsNum}
 use Rattle.str0m_values.proofs.CutLaws.{lacks_from}
 use Rattle.str0m_values.proofs.NumLaws.{digits_lack}
 use Rattle.str0m_formats.proofs.RoundTrip.{decimal_reads}
-use Rattle.str0m_sdp.specs.Lines.{line_end, attribute_line}
+use Rattle.str0m_sdp.specs.Lines.{attribute_line}
 use Rattle.str0m_sdp.specs.declared.attribute.MediaAttribute.{MediaAttribute}
 use Rattle.str0m_signal.specs.MediaAttribute.{Named, IsMediaLine}
 use Rattle.str0m_signal.specs.Writable.{IsPrintedAs}
