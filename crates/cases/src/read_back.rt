@@ -5,7 +5,7 @@ use crate::negotiated::outcome_lines;
 use crate::spoken::{add_item, description};
 use crate::writable::section_asked;
 use plain_cases::{configuration, shown_rows};
-use std::alloc::Global;
+use std::alloc::{AllocError, Global};
 use str0m_signal::{
     CodecConfig, PayloadParams, Sdp, SdpError, is_writable, negotiate_text, sdp_parser, section_of,
 };
@@ -79,22 +79,43 @@ fn come_back(
         return Ok("not writable".to_string(alloc)?);
     }
     let mut sdp = sdp.clone()?;
+    put_rows(&mut sdp, index, rows)?;
+    let printed = sdp.to_string(alloc)?;
+    are_read(alloc, printed.as_str(), index, rows)
+}
+
+/// Puts the rows into the section at the index, if there is one.
+fn put_rows(sdp: &mut Sdp, index: usize, rows: &[PayloadParams]) -> Result<(), AllocError> {
     if let Some(section) = sdp.media_lines.0.get_mut(index) {
         let made = section_of(section, rows)?;
         *section = made;
     }
-    let printed = sdp.to_string(alloc)?;
-    let (again, rest) = sdp_parser(alloc, printed.as_str())?;
+    Ok(())
+}
+
+/// Whether all of the text is read, and its section at the index describes these rows.
+fn are_read(
+    alloc: Global,
+    text: &str,
+    index: usize,
+    rows: &[PayloadParams],
+) -> Result<String, SdpError> {
+    let (sdp, rest) = sdp_parser(alloc, text)?;
     if !rest.is_empty() {
         return Ok("unread lines".to_string(alloc)?);
     }
-    let found = match again.media_lines.as_slice().get(index) {
-        Some(section) => section.rtp_params()?,
-        None => Vec::new(alloc),
-    };
+    let found = rows_at(alloc, &sdp, index)?;
     if found.as_slice() == rows {
         return Ok("equal".to_string(alloc)?);
     }
     let found = shown_rows(alloc, found.as_slice())?;
     Ok(format!(in alloc; "other rows: {found}")?)
+}
+
+/// The rows of the section at the index; none where there is no such section.
+fn rows_at(alloc: Global, sdp: &Sdp, index: usize) -> Result<Vec<PayloadParams>, AllocError> {
+    match sdp.media_lines.as_slice().get(index) {
+        Some(section) => section.rtp_params(),
+        None => Ok(Vec::new(alloc)),
+    }
 }
