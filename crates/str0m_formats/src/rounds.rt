@@ -79,8 +79,8 @@ impl CodecConfig {
         self.update_params_in::<ClaimMask>(remote, dir)
     }
 
-    /// `update_params`, which keeps what is claimed in a table of the caller's choice. Every table has the
-    /// same answers.
+    /// `update_params`, with what is claimed kept in a table of the caller's choice: what it answers, each
+    /// error and what stays unchanged are the same with every table.
     pub fn update_params_in<C: Claimed>(
         &mut self,
         remote: &[PayloadParams],
