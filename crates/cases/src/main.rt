@@ -3,29 +3,9 @@
 //! a carriage return, a line feed, a tab and a backslash; answers write them the same way.
 #![tactic(auto)]
 
-mod attribute_names;
-mod attribute_parts;
-mod cuts;
-mod descriptions;
-mod escapes;
-mod fmtp_lines;
-mod held_texts;
-mod lines;
-mod made_sections;
-mod negotiated;
-mod read_back;
-mod said_by_both;
-mod said_by_sections;
-mod said_by_sessions;
-mod said_roles;
-mod said_rows;
-mod said_sources;
-mod section_shown;
 mod sections;
-mod spoken;
-mod writable;
 
-use crate::escapes::{indented, unescaped};
+use case_texts::{indented, unescaped};
 use std::alloc::{AllocError, Global};
 use std::io;
 
@@ -34,7 +14,7 @@ fn answer(alloc: Global, word: &str, text: &str) -> Result<String, AllocError> {
     if let Some(answer) = plain_cases::answer(alloc, word, text)? {
         return Ok(answer);
     }
-    if let Some(answer) = lines::answer(alloc, word, text)? {
+    if let Some(answer) = line_cases::answer(alloc, word, text)? {
         return Ok(answer);
     }
     match sections::answer(alloc, word, text)? {

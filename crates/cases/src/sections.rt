@@ -1,9 +1,5 @@
 //! Sessions and sections: what they say, and the sections that are made of rows; rounds with whole texts.
 
-use crate::{
-    fmtp_lines, made_sections, negotiated, read_back, said_by_sections, said_by_sessions,
-    said_roles, said_rows, said_sources, writable,
-};
 use std::alloc::{AllocError, Global};
 use str0m_signal::SdpError;
 
@@ -17,32 +13,8 @@ pub(crate) fn answer(alloc: Global, word: &str, text: &str) -> Result<Option<Str
 }
 
 fn said(alloc: Global, word: &str, text: &str) -> Result<Option<String>, SdpError> {
-    if let Some(answer) = said_by_sections::answer(alloc, word, text)? {
-        return Ok(Some(answer));
+    match said_cases::answer(alloc, word, text)? {
+        Some(answer) => Ok(Some(answer)),
+        None => back_cases::answer(alloc, word, text),
     }
-    if let Some(answer) = said_by_sessions::answer(alloc, word, text)? {
-        return Ok(Some(answer));
-    }
-    if let Some(answer) = said_rows::answer(alloc, word, text)? {
-        return Ok(Some(answer));
-    }
-    if let Some(answer) = said_sources::answer(alloc, word, text)? {
-        return Ok(Some(answer));
-    }
-    if let Some(answer) = said_roles::answer(alloc, word, text)? {
-        return Ok(Some(answer));
-    }
-    if let Some(answer) = fmtp_lines::answer(alloc, word, text)? {
-        return Ok(Some(answer));
-    }
-    if let Some(answer) = writable::answer(alloc, word, text)? {
-        return Ok(Some(answer));
-    }
-    if let Some(answer) = negotiated::answer(alloc, word, text)? {
-        return Ok(Some(answer));
-    }
-    if let Some(answer) = read_back::answer(alloc, word, text)? {
-        return Ok(Some(answer));
-    }
-    made_sections::answer(alloc, word, text)
 }

@@ -1,7 +1,7 @@
 //! What sessions and sections hold, a line for each part.
 
-use crate::escapes::escaped;
 use crate::lines::{media_shown, session_shown};
+use case_texts::escaped;
 use std::alloc::{AllocError, Global};
 use str0m_signal::{Bandwidth, MediaLine, Proto, Pt, Session};
 

@@ -1,6 +1,6 @@
 //! The rows that sections describe, as `sdpshow rows` prints them without the mid.
 
-use crate::spoken::{add_item, description, or_word, section, unread};
+use case_texts::{add_item, description, or_word, section, unread};
 use std::alloc::{AllocError, Global};
 use str0m_signal::{
     CodecSpec, MediaAttribute, MediaLine, PayloadParams, Pt, RtpMap, SdpError, media_attribute_line,

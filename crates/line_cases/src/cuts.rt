@@ -1,6 +1,6 @@
 //! The beginnings of one text, as offers.
 
-use crate::lines::refused;
+use case_texts::refused;
 use std::alloc::{AllocError, Global};
 use std::str;
 use str0m_signal::{MediaAttribute, MediaLine, SdpOffer};

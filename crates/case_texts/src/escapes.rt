@@ -3,7 +3,7 @@
 use std::alloc::{AllocError, Global};
 
 /// The text that a case writes with `\r`, `\n`, `\t` and `\\`.
-pub(crate) fn unescaped(alloc: Global, text: &str) -> Result<String, AllocError> {
+pub fn unescaped(alloc: Global, text: &str) -> Result<String, AllocError> {
     let mut plain = String::new(alloc);
     let mut is_escaped = false;
     for character in text.chars() {
@@ -29,7 +29,7 @@ fn meaning(escape: char) -> char {
 }
 
 /// The text as an answer writes it: a line break stands behind each `\n` but the last.
-pub(crate) fn escaped(alloc: Global, text: &str) -> Result<String, AllocError> {
+pub fn escaped(alloc: Global, text: &str) -> Result<String, AllocError> {
     let mut shown = String::new(alloc);
     for character in text.trim_end_matches('\n').chars() {
         match character {
@@ -47,7 +47,7 @@ pub(crate) fn escaped(alloc: Global, text: &str) -> Result<String, AllocError> {
 }
 
 /// The answer behind `=>`: a space before it, and its further lines under its first.
-pub(crate) fn indented(alloc: Global, answer: &str) -> Result<String, AllocError> {
+pub fn indented(alloc: Global, answer: &str) -> Result<String, AllocError> {
     let mut shown = String::new(alloc);
     if !answer.is_empty() {
         shown.push(' ')?;

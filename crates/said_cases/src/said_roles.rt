@@ -1,6 +1,6 @@
 //! Roles in setting up the transport (RFC 8842, section 5.2), and what m-lines carry.
 
-use crate::spoken::{description, session};
+use case_texts::{description, session};
 use std::alloc::{AllocError, Global};
 use str0m_signal::{MediaLine, SdpError, Setup};
 

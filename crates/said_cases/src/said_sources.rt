@@ -1,6 +1,6 @@
 //! What sections say of their sources (RFC 5576), and ids that say that there is no stream.
 
-use crate::spoken::{add_item, or_word, section};
+use case_texts::{add_item, or_word, section};
 use std::alloc::{AllocError, Global};
 use str0m_signal::{SdpError, SsrcInfo, Text, is_no_stream};
 

@@ -1,14 +1,11 @@
 //! Descriptions: their sessions and sections, what is left behind them, and why they are refused.
 
 use crate::cuts;
-use crate::escapes::escaped;
-use crate::lines::{refused, with_rest};
+use crate::lines::with_rest;
 use crate::section_shown::{append_section, append_session};
+use case_texts::{behind_header, escaped, refused};
 use std::alloc::{AllocError, Global};
 use str0m_signal::{Sdp, SdpAnswer, SdpOffer, sdp_parser, session_parser};
-
-/// A header with nothing that may be left out.
-const HEADER: &str = "v=0\r\no=- 1 1 IN IP4 127.0.0.1\r\ns=-\r\nt=0 0\r\n";
 
 /// What the call that the word names answers of the text; none for a word of others.
 pub(crate) fn answer(alloc: Global, word: &str, text: &str) -> Result<Option<String>, AllocError> {
@@ -29,7 +26,7 @@ fn answer_behind_header(
     word: &str,
     lines: &str,
 ) -> Result<Option<String>, AllocError> {
-    let text = format!(in alloc; "{HEADER}{lines}")?;
+    let text = behind_header(alloc, lines)?;
     match word {
         "header-with" => Ok(Some(header(alloc, text.as_str())?)),
         "description-with" => Ok(Some(description(alloc, text.as_str())?)),

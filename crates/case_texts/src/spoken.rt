@@ -10,26 +10,26 @@ use str0m_signal::{
 const HEADER: &str = "v=0\r\no=- 1 1 IN IP4 127.0.0.1\r\ns=-\r\nt=0 0\r\n";
 
 /// The header, and these lines behind it.
-pub(crate) fn behind_header(alloc: Global, lines: &str) -> Result<String, AllocError> {
+pub fn behind_header(alloc: Global, lines: &str) -> Result<String, AllocError> {
     format!(in alloc; "{HEADER}{lines}")
 }
 
 /// What the header and these lines describe; a line that fits nowhere ends it.
-pub(crate) fn description(alloc: Global, lines: &str) -> Result<Sdp, SdpError> {
+pub fn description(alloc: Global, lines: &str) -> Result<Sdp, SdpError> {
     let text = behind_header(alloc, lines)?;
     let (sdp, _) = sdp_parser(alloc, text.as_str())?;
     Ok(sdp)
 }
 
 /// What the header and these lines leave unread.
-pub(crate) fn unread(alloc: Global, lines: &str) -> Result<String, SdpError> {
+pub fn unread(alloc: Global, lines: &str) -> Result<String, SdpError> {
     let text = behind_header(alloc, lines)?;
     let (_, rest) = sdp_parser(alloc, text.as_str())?;
     Ok(rest.to_string(alloc)?)
 }
 
 /// A session with these attribute lines.
-pub(crate) fn session(alloc: Global, lines: &str) -> Result<Session, SdpError> {
+pub fn session(alloc: Global, lines: &str) -> Result<Session, SdpError> {
     let text = behind_header(alloc, lines)?;
     let (session, _) = session_parser(alloc, text.as_str())?;
     Ok(session)
@@ -48,14 +48,14 @@ fn attributes(alloc: Global, lines: &str) -> Result<Items<MediaAttribute>, SdpEr
 }
 
 /// A section of sound with these attribute lines alone, consistent or not.
-pub(crate) fn section(alloc: Global, lines: &str) -> Result<MediaLine, SdpError> {
+pub fn section(alloc: Global, lines: &str) -> Result<MediaLine, SdpError> {
     let mut section = MediaLine::new(alloc);
     section.attrs = attributes(alloc, lines)?;
     Ok(section)
 }
 
 /// Appends an item, behind the separator where it isn't the first.
-pub(crate) fn add_item(list: &mut String, item: &str, separator: &str) -> Result<(), AllocError> {
+pub fn add_item(list: &mut String, item: &str, separator: &str) -> Result<(), AllocError> {
     if !list.is_empty() {
         list.push_str(separator)?;
     }
@@ -63,14 +63,14 @@ pub(crate) fn add_item(list: &mut String, item: &str, separator: &str) -> Result
 }
 
 /// Appends a line `LABEL: TEXT`.
-pub(crate) fn add_line(answer: &mut String, label: &str, text: &str) -> Result<(), AllocError> {
+pub fn add_line(answer: &mut String, label: &str, text: &str) -> Result<(), AllocError> {
     add_item(answer, label, "\n")?;
     answer.push_str(": ")?;
     answer.push_str(text)
 }
 
 /// Appends a line `LABEL: LIST`, but for a list of nothing.
-pub(crate) fn add_list(answer: &mut String, label: &str, list: &str) -> Result<(), AllocError> {
+pub fn add_list(answer: &mut String, label: &str, list: &str) -> Result<(), AllocError> {
     if list.is_empty() {
         return Ok(());
     }
@@ -78,9 +78,14 @@ pub(crate) fn add_list(answer: &mut String, label: &str, list: &str) -> Result<(
 }
 
 /// The list, or a word for an empty one.
-pub(crate) fn or_word(alloc: Global, list: String, word: &str) -> Result<String, AllocError> {
+pub fn or_word(alloc: Global, list: String, word: &str) -> Result<String, AllocError> {
     if list.is_empty() {
         return word.to_string(alloc);
     }
     Ok(list)
+}
+
+/// Why a text is refused.
+pub fn refused(alloc: Global, error: &SdpError) -> Result<String, AllocError> {
+    format!(in alloc; "refused, {error}")
 }

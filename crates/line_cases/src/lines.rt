@@ -1,8 +1,8 @@
 //! Lines of attributes: what each is read as, what it prints, and what is left behind it.
 
 use crate::attribute_names::{media_name, session_name};
-use crate::escapes::escaped;
 use crate::{attribute_parts, descriptions};
+use case_texts::{escaped, refused};
 use std::alloc::{AllocError, Global};
 use str0m_signal::{
     MediaAttribute, SdpError, SessionAttribute, candidate_attribute, media_attribute_line,
@@ -89,9 +89,4 @@ pub(crate) fn with_rest(alloc: Global, answer: String, rest: &str) -> Result<Str
         let left = escaped(alloc, rest)?;
         format!(in alloc; "{answer}\nleft {left}")
     }
-}
-
-/// Why a text is refused.
-pub(crate) fn refused(alloc: Global, error: &SdpError) -> Result<String, AllocError> {
-    format!(in alloc; "refused, {error}")
 }

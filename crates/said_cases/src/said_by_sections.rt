@@ -1,8 +1,7 @@
 //! What sections say (RFC 8866, section 5.14), and their direction when it is set.
 
-use crate::escapes::escaped;
 use crate::said_by_both::{add_credentials, add_fingerprint, add_flag, add_setup, foundations};
-use crate::spoken::{add_item, add_line, add_list, section};
+use case_texts::{add_item, add_line, add_list, escaped, section};
 use std::alloc::{AllocError, Global};
 use str0m_signal::{Direction, MediaLine, SdpError, Simulcast};
 

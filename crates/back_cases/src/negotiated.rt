@@ -1,7 +1,6 @@
 //! Rounds of negotiation with a whole text.
 
-use crate::lines::refused;
-use crate::spoken::{add_item, behind_header};
+use case_texts::{add_item, behind_header, refused};
 use plain_cases::{configuration, is_same, shown_rows};
 use std::alloc::{AllocError, Global};
 use str0m_signal::{NegotiationError, SdpError, locked_rows, negotiate_text};

@@ -1,9 +1,8 @@
 //! Rows that are put into a section of a description, printed with it and read again.
 
-use crate::escapes::escaped;
 use crate::negotiated::outcome_lines;
-use crate::spoken::{add_item, description};
 use crate::writable::section_asked;
+use case_texts::{add_item, description, escaped};
 use plain_cases::{configuration, shown_rows};
 use std::alloc::{AllocError, Global};
 use str0m_signal::{

@@ -1,6 +1,6 @@
 //! What fmtp lines say of a codec.
 
-use crate::spoken::or_word;
+use case_texts::or_word;
 use std::alloc::{AllocError, Global};
 use str0m_signal::{
     Codec, FormatParam, FormatParams, Items, MediaAttribute, SdpError, media_attribute_line,

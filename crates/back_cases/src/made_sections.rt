@@ -1,7 +1,6 @@
 //! Sections that are made of rows in a frame, and the faults of sections.
 
-use crate::escapes::escaped;
-use crate::spoken::{description, section};
+use case_texts::{description, escaped, section};
 use std::alloc::Global;
 use str0m_signal::{MediaLine, Pt, SdpError, section_of};
 

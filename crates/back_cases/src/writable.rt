@@ -1,8 +1,7 @@
 //! Whether sessions are writable, as they are read and with one change that no text makes.
 
-use crate::escapes::escaped;
 use crate::held_texts;
-use crate::spoken::description;
+use case_texts::{description, escaped};
 use std::alloc::{AllocError, Global};
 use str0m_signal::{
     Bandwidth, FormatParam, Items, MediaAttribute, MediaLine, MediaType, Mid, Proto, Pt, Sdp,

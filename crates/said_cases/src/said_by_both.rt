@@ -1,6 +1,6 @@
 //! What sessions, sections and descriptions may all say: a line of the answer for each, none where nothing is said.
 
-use crate::spoken::{add_item, add_line};
+use case_texts::{add_item, add_line};
 use std::alloc::{AllocError, Global};
 use str0m_signal::{Candidates, Fingerprint, IceCreds, Setup};
 

@@ -1,6 +1,6 @@
 //! What lines of mappings, formats and rids say, part by part.
 
-use crate::lines::refused;
+use case_texts::refused;
 use std::alloc::{AllocError, Global};
 use str0m_signal::{FormatParam, MediaAttribute, Pt, RtpMap, media_attribute_line};
 

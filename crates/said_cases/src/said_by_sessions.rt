@@ -1,7 +1,7 @@
 //! What sessions say, and what descriptions say in their session or their sections.
 
 use crate::said_by_both::{add_credentials, add_fingerprint, add_flag, add_setup, foundations};
-use crate::spoken::{add_item, add_line, add_list, description, or_word, session};
+use case_texts::{add_item, add_line, add_list, description, or_word, session};
 use std::alloc::{AllocError, Global};
 use str0m_signal::{Mid, Sdp, SdpError, Session};
 
