@@ -1,5 +1,6 @@
 //! The first pass of a round: each row that is matched is locked.
 ghost use Rattle.std.specs.Prelude.{◌≡◌, IfOk, IfErr, IfSome, OnOk, not, ◌&&◌, if◌then◌else◌, true};
+ghost use Rattle.std.specs.Option.{option_copied};
 ghost use Rattle.str0m_formats.specs.TypeSets.{has, either};
 ghost use Rattle.str0m_formats.specs.Rows.{AllSmall, types_of, locked_types, open_types};
 ghost use Rattle.str0m_formats.specs.Rounds.{locked_to, placed, taken_by, MayBegin, Begun, StopsFirst};
@@ -48,12 +49,12 @@ impl<C: Claimed> Claims<C> {
     fn place(
         &mut self,
         row: &PayloadParams,
-        choice: Option<PayloadParams>,
+        choice: Option<&PayloadParams>,
     ) -> Result<PayloadParams, NegotiationError>
         requires row { AllSmall (types_of row.now) }
-        requires choice { IfSome choice (λ c. AllSmall (types_of c)) }
+        requires choice { IfSome (option_copied choice) (λ c. AllSmall (types_of c)) }
         ensures value { result
-            ≡ placed (C.holds self.old.claimed) (C.holds self.old.unlocked) self.old.receives row.now choice }
+            ≡ placed (C.holds self.old.claimed) (C.holds self.old.unlocked) self.old.receives row.now (option_copied choice.entry) }
         ensures claimed { IfOk result
             (λ new. C.holds self.new.claimed ≡ (if new.locked && not row.now.locked then either (C.holds self.old.claimed) (has (types_of new)) else C.holds self.old.claimed)) }
         ensures unlocked { self.new.unlocked ≡ self.old.unlocked }
@@ -68,7 +69,7 @@ impl<C: Claimed> Claims<C> {
                         ..*row
                     })
                 } else {
-                    self.lock(row, &choice)
+                    self.lock(row, choice)
                 }
             }
         }
