@@ -125,11 +125,12 @@ impl MediaLine {
         let words = self.type_words(types);
         let lines = fmtp_lines(alloc, self.attrs.as_slice())?;
         let mut known = Vec::new(alloc);
+        let mut found = Vec::new(alloc);
         let mut rows = Vec::new(alloc);
         for (pt, spec) in types {
             if words.is_kept(*pt, *spec) {
-                let lines = lines[row(*pt)].as_slice();
-                let format = format_of(&mut known, lines, *pt, spec.codec)?;
+                let lines = lines.as_slice();
+                let format = format_of(&mut known, &mut found, lines, *pt, spec.codec)?;
                 words.push_row(&mut rows, format, *pt, *spec)?;
             }
         }

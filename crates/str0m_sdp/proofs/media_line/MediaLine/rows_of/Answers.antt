@@ -7,6 +7,7 @@ use Rattle.str0m_formats.specs.declared.format_param.FormatParam.{FormatParam}
 use Rattle.str0m_formats.specs.declared.codec_spec.CodecSpec.{CodecSpec}
 use Rattle.str0m_formats.specs.declared.payload_params.PayloadParams.{PayloadParams}
 use Rattle.str0m_formats.specs.Bounds.{IsBounded}
+use Rattle.str0m_sdp.specs.FmtpLines.{lines_with}
 use Rattle.str0m_sdp.specs.SectionRows.{lines_of, is_kept, row, rows}
 use Rattle.str0m_sdp.specs.declared.attribute.MediaAttribute.{MediaAttribute}
 use Rattle.str0m_sdp.proofs.FilterMapLaws.{kept_more, left_out}
@@ -24,11 +25,11 @@ loop-pt-preserved c =
     let say = c.type_words-words.ensures c.requires in
     elim c.if-is_kept.branch [
       | then-is_kept+in_ok-format+in_ok-push_row w ↦
+          let pt = item.0 in
           let own =
-          ap (λ (ls : List (Bor (List FormatParam))). line_values ls) w.as_slice-lines.ensures.value
-          ∙ c.in_ok-lines.ensures w.row.result w.row.ensures.within w.index-lines-row.result
-          ∙ ap (λ (attrs : List MediaAttribute). lines_of attrs w.row.result) c.as_slice.ensures
-          ∙ ap (lines_of m.attrs) w.row.ensures.is in (
+          ap (λ (ls : List (ℕ × Bor (List FormatParam))). line_values (lines_with pt ls)) w.as_slice-lines.ensures.value
+          ∙ c.in_ok-lines.ensures pt
+          ∙ ap (λ (attrs : List MediaAttribute). lines_of attrs pt) c.as_slice.ensures in (
             rw w.known-is (w.in_ok-format.ensures.known m.attrs known own),
             rw w.rows-is (
                 w.in_ok-push_row.ensures m say (w.in_ok-format.ensures.format m.attrs known own)
