@@ -1,6 +1,7 @@
 //! What a round has claimed: which remote row a row then goes with, and which types it may take.
 ghost use Rattle.std.specs.Prelude.{◌≡◌, ◌≤◌, IfOk, IfSome, not};
 ghost use Rattle.std.specs.Bool.{OnTrue, OnFalse};
+ghost use Rattle.std.specs.Option.{option_copied};
 ghost use Rattle.str0m_formats.specs.TypeSets.{with_type, with_option, either, free};
 ghost use Rattle.str0m_formats.specs.Choices.{points_for, IsChoice};
 ghost use Rattle.str0m_formats.specs.Rounds.{role_type, own_or_free, rtx_type, red_type, only_audio};
@@ -43,12 +44,12 @@ impl<C: Claimed> Claims<C> {
     }
 
     /// The last of the remote rows of greatest score.
-    pub(crate) fn choice(
+    pub(crate) fn choice<'a>(
         &self,
         row: &PayloadParams,
-        remote: &[PayloadParams],
-    ) -> Option<PayloadParams>
-        ensures { IsChoice (points_for (C.holds self.now.claimed) self.now.receives row.now) remote.now result }
+        remote: &'a [PayloadParams],
+    ) -> Option<&'a PayloadParams>
+        ensures { IsChoice (points_for (C.holds self.now.claimed) self.now.receives row.now) remote.now (option_copied result) }
     {
         let mut best = None;
         let mut most = 0;
@@ -58,7 +59,7 @@ impl<C: Claimed> Claims<C> {
                 Some(points) => {
                     // A later row of the same score goes before an earlier one.
                     if points >= most {
-                        best = Some(*theirs);
+                        best = Some(theirs);
                         most = points;
                     }
                 }

@@ -1,12 +1,13 @@
 //! The first pass of a round: each row that is matched is locked.
-ghost use Rattle.std.specs.Prelude.{◌≡◌, IfOk, IfErr, IfSome, OnOk, not, ◌&&◌, if◌then◌else◌, true};
+ghost use Rattle.std.specs.Prelude.{◌≡◌, Ok, IfErr, IfSome, OnOk, not, ◌&&◌, if◌then◌else◌, true};
+ghost use Rattle.std.specs.Option.{option_copied};
 ghost use Rattle.str0m_formats.specs.TypeSets.{has, either};
 ghost use Rattle.str0m_formats.specs.Rows.{AllSmall, types_of, locked_types, open_types};
-ghost use Rattle.str0m_formats.specs.Rounds.{locked_to, placed, taken_by, MayBegin, Begun, StopsFirst};
+ghost use Rattle.str0m_formats.specs.Rounds.{and_then, locked_to, placed, taken_by, MayBegin, Begun, StopsFirst};
 
 use crate::claimed::Claimed;
 use crate::claims::Claims;
-use crate::narrowing::narrowed_to;
+use crate::narrowing::narrow;
 use crate::negotiation_error::NegotiationError;
 use crate::payload_params::PayloadParams;
 
@@ -15,16 +16,16 @@ impl<C: Claimed> Claims<C> {
     #[tactic(auto, unfolding(crate::specs::Rounds::locked_to))]
     fn lock(
         &mut self,
-        row: &PayloadParams,
+        row: &mut PayloadParams,
         choice: &PayloadParams,
-    ) -> Result<PayloadParams, NegotiationError>
-        requires row { AllSmall (types_of row.now) }
+    ) -> Result<(), NegotiationError>
+        requires row { AllSmall (types_of row.old) }
         requires choice { AllSmall (types_of choice.now) }
-        ensures value { result
-            ≡ locked_to (C.holds self.old.claimed) (C.holds self.old.unlocked) self.old.receives row.now choice.now }
-        ensures claimed { IfOk result
-            (λ new. C.holds self.new.claimed ≡ either (C.holds self.old.claimed) (has (types_of new))) }
-        ensures locked { IfOk result (λ new. new.locked ≡ true) }
+        ensures value { and_then result (λ _. Ok row.new)
+            ≡ locked_to (C.holds self.old.claimed) (C.holds self.old.unlocked) self.old.receives row.old choice.now }
+        ensures claimed { OnOk result
+            (C.holds self.new.claimed ≡ either (C.holds self.old.claimed) (has (types_of row.new))) }
+        ensures locked { OnOk result (row.new.locked ≡ true) }
         ensures unlocked { self.new.unlocked ≡ self.old.unlocked }
         ensures receives { self.new.receives ≡ self.old.receives }
     {
@@ -32,43 +33,39 @@ impl<C: Claimed> Claims<C> {
         let pt = self.take(choice.pt, Some(row.pt))?;
         let resend = self.take_rtx(choice.resend, row.resend)?;
         let red = self.take_audio_red(row.spec.codec, choice.red, row.red);
-        Ok(PayloadParams {
-            pt,
-            resend,
-            red,
-            spec: narrowed_to(&row.spec, &choice.spec),
-            fb_transport_cc: row.fb_transport_cc && choice.fb_transport_cc,
-            locked: true,
-            ..*row
-        })
+        row.pt = pt;
+        row.resend = resend;
+        row.red = red;
+        narrow(&mut row.spec, &choice.spec);
+        row.fb_transport_cc = row.fb_transport_cc && choice.fb_transport_cc;
+        row.locked = true;
+        Ok(())
     }
 
-    /// A row after the first pass, by its choice. A row that was locked keeps its types.
+    /// What a row is after the first pass, by its choice. A row that was locked keeps its types.
     #[tactic(auto, unfolding(crate::specs::Rounds::placed))]
     fn place(
         &mut self,
-        row: &PayloadParams,
-        choice: Option<PayloadParams>,
-    ) -> Result<PayloadParams, NegotiationError>
-        requires row { AllSmall (types_of row.now) }
-        requires choice { IfSome choice (λ c. AllSmall (types_of c)) }
-        ensures value { result
-            ≡ placed (C.holds self.old.claimed) (C.holds self.old.unlocked) self.old.receives row.now choice }
-        ensures claimed { IfOk result
-            (λ new. C.holds self.new.claimed ≡ (if new.locked && not row.now.locked then either (C.holds self.old.claimed) (has (types_of new)) else C.holds self.old.claimed)) }
+        row: &mut PayloadParams,
+        choice: Option<&PayloadParams>,
+    ) -> Result<(), NegotiationError>
+        requires row { AllSmall (types_of row.old) }
+        requires choice { IfSome (option_copied choice) (λ c. AllSmall (types_of c)) }
+        ensures value { and_then result (λ _. Ok row.new)
+            ≡ placed (C.holds self.old.claimed) (C.holds self.old.unlocked) self.old.receives row.old (option_copied choice.entry) }
+        ensures claimed { OnOk result
+            (C.holds self.new.claimed ≡ (if row.new.locked && not row.old.locked then either (C.holds self.old.claimed) (has (types_of row.new)) else C.holds self.old.claimed)) }
         ensures unlocked { self.new.unlocked ≡ self.old.unlocked }
         ensures receives { self.new.receives ≡ self.old.receives }
     {
         match choice {
-            None => Ok(*row),
+            None => Ok(()),
             Some(choice) => {
                 if row.locked {
-                    Ok(PayloadParams {
-                        spec: narrowed_to(&row.spec, &choice.spec),
-                        ..*row
-                    })
+                    narrow(&mut row.spec, &choice.spec);
+                    Ok(())
                 } else {
-                    self.lock(row, &choice)
+                    self.lock(row, choice)
                 }
             }
         }
@@ -90,8 +87,7 @@ impl<C: Claimed> Claims<C> {
     {
         for row in rows.iter_mut() {
             let choice = self.choice(row, remote);
-            let new = self.place(row, choice)?;
-            *row = new;
+            self.place(row, choice)?;
         }
         Ok(())
     }

@@ -31,8 +31,8 @@ fn cost_unless(is_same: bool, cost: usize) -> usize
     if is_same { 0 } else { cost }
 }
 
-fn opus_score(own: FormatParams, other: FormatParams) -> usize
-    ensures score { result ≡ opus_score own other }
+fn opus_score(own: &FormatParams, other: &FormatParams) -> usize
+    ensures score { result ≡ opus_score own.now other.now }
     ensures bound { result ≤ 100 }
 {
     FULL - cost_unless(own.min_p_time == other.min_p_time, 1)
@@ -60,8 +60,8 @@ fn is_mono(channels: Option<u8>) -> bool
     channels.unwrap_or(1) == 1
 }
 
-fn amr_wb_score(own: CodecSpec, other: CodecSpec) -> Option<usize>
-    ensures score { result ≡ amr_wb_score own other }
+fn amr_wb_score(own: &CodecSpec, other: &CodecSpec) -> Option<usize>
+    ensures score { result ≡ amr_wb_score own.now other.now }
     ensures bound { IfSome result (λ n. n ≤ 100) }
 {
     if is_mono(own.channels)
@@ -110,8 +110,8 @@ fn h264_level_score(own: Option<H264ProfileLevel>, other: Option<H264ProfileLeve
     }
 }
 
-fn h264_score(own: FormatParams, other: FormatParams) -> Option<usize>
-    ensures score { result ≡ h264_score own other }
+fn h264_score(own: &FormatParams, other: &FormatParams) -> Option<usize>
+    ensures score { result ≡ h264_score own.now other.now }
     ensures bound { IfSome result (λ n. n ≤ 100) }
 {
     if own.packetization_mode.unwrap_or(0) == other.packetization_mode.unwrap_or(0) {
@@ -182,8 +182,8 @@ fn profile_score(
     }
 }
 
-fn vp9_score(own: FormatParams, other: FormatParams) -> Option<usize>
-    ensures score { result ≡ vp9_score own other }
+fn vp9_score(own: &FormatParams, other: &FormatParams) -> Option<usize>
+    ensures score { result ≡ vp9_score own.now other.now }
     ensures bound { IfSome result (λ n. n ≤ 100) }
 {
     if own.profile_id.unwrap_or(0) == other.profile_id.unwrap_or(0) {
@@ -193,8 +193,8 @@ fn vp9_score(own: FormatParams, other: FormatParams) -> Option<usize>
     }
 }
 
-fn av1_score(own: FormatParams, other: FormatParams) -> Option<usize>
-    ensures score { result ≡ av1_score own other }
+fn av1_score(own: &FormatParams, other: &FormatParams) -> Option<usize>
+    ensures score { result ≡ av1_score own.now other.now }
     ensures bound { IfSome result (λ n. n ≤ 100) }
 {
     if own.profile.unwrap_or(0) == other.profile.unwrap_or(0)
@@ -208,8 +208,8 @@ fn av1_score(own: FormatParams, other: FormatParams) -> Option<usize>
 }
 
 /// The score of two formats of a codec.
-fn format_score(codec: Codec, own: FormatParams, other: FormatParams) -> Option<usize>
-    ensures score { result ≡ format_score codec own other }
+fn format_score(codec: Codec, own: &FormatParams, other: &FormatParams) -> Option<usize>
+    ensures score { result ≡ format_score codec own.now other.now }
     ensures bound { IfSome result (λ n. n ≤ 100) }
 {
     match codec {
@@ -244,25 +244,25 @@ fn format_score(codec: Codec, own: FormatParams, other: FormatParams) -> Option<
 }
 
 /// The score of two specs of one codec at the same clock rate.
-fn codec_score(own: CodecSpec, other: CodecSpec) -> Option<usize>
-    ensures score { result ≡ codec_score own.codec own other }
+fn codec_score(own: &CodecSpec, other: &CodecSpec) -> Option<usize>
+    ensures score { result ≡ codec_score own.now.codec own.now other.now }
     ensures bound { IfSome result (λ n. n ≤ 100) }
 {
     match own.codec {
         Codec::Tele => Some(FULL),
         Codec::AmrWb => amr_wb_score(own, other),
-        codec if own.channels == other.channels => format_score(codec, own.format, other.format),
+        codec if own.channels == other.channels => format_score(codec, &own.format, &other.format),
         _ => None,
     }
 }
 
 /// The score of two specs: the first rule that applies.
 #[tactic(auto, unfolding(crate::specs::Scores::score))]
-pub(crate) fn spec_score(own: CodecSpec, other: CodecSpec) -> Option<usize>
-    ensures score { result ≡ score own other }
+pub(crate) fn spec_score(own: &CodecSpec, other: &CodecSpec) -> Option<usize>
+    ensures score { result ≡ score own.now other.now }
     ensures bound { IfSome result (λ n. n ≤ 100) }
 {
-    let is_same = own == other;
+    let is_same = *own == *other;
     if is_same && own.codec != Codec::AmrWb {
         return Some(FULL);
     }

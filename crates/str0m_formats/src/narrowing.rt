@@ -56,89 +56,66 @@ fn lower_h266_triple(
 }
 
 /// A telephone row may send no more events than either side takes.
-fn narrowed_events(own: &CodecSpec, chosen: &CodecSpec) -> CodecSpec
-    ensures { result ≡ narrowed_as Tele own.now chosen.now }
+fn narrow_events(own: &mut CodecSpec, chosen: &CodecSpec)
+    ensures { own.new ≡ narrowed_as Tele own.old chosen.now }
 {
     let ours = highest_event(&own.format);
     let theirs = highest_event(&chosen.format);
-    let format = FormatParams {
-        telephone_event_max: Some(ours.min(theirs)),
-        ..own.format
-    };
-    CodecSpec { format, ..*own }
+    own.format.telephone_event_max = Some(ours.min(theirs));
 }
 
 /// The triple of the choice with the lower level, or else its profile id, which would say a part of
 /// the triple once more.
-fn narrowed_h265(own: &CodecSpec, chosen: &CodecSpec) -> CodecSpec
-    ensures { result ≡ narrowed_as H265 own.now chosen.now }
+fn narrow_h265(own: &mut CodecSpec, chosen: &CodecSpec)
+    ensures { own.new ≡ narrowed_as H265 own.old chosen.now }
 {
-    let ours = own.format;
-    let theirs = chosen.format;
-    let profile_id = match theirs.h265_profile_tier_level {
+    let theirs = &chosen.format;
+    own.format.profile_id = match theirs.h265_profile_tier_level {
         Some(_) => None,
         None => theirs.profile_id,
     };
-    let format = FormatParams {
-        h265_profile_tier_level: lower_h265_triple(
-            ours.h265_profile_tier_level,
-            theirs.h265_profile_tier_level,
-        ),
-        profile_id,
-        sprop_max_don_diff: theirs.sprop_max_don_diff.or(ours.sprop_max_don_diff),
-        ..ours
-    };
-    CodecSpec { format, ..*own }
+    own.format.h265_profile_tier_level = lower_h265_triple(
+        own.format.h265_profile_tier_level,
+        theirs.h265_profile_tier_level,
+    );
+    own.format.sprop_max_don_diff = theirs.sprop_max_don_diff.or(own.format.sprop_max_don_diff);
 }
 
 /// Likewise of H266.
-fn narrowed_h266(own: &CodecSpec, chosen: &CodecSpec) -> CodecSpec
-    ensures { result ≡ narrowed_as H266 own.now chosen.now }
+fn narrow_h266(own: &mut CodecSpec, chosen: &CodecSpec)
+    ensures { own.new ≡ narrowed_as H266 own.old chosen.now }
 {
-    let ours = own.format;
-    let theirs = chosen.format;
-    let profile_id = match theirs.h266_profile_tier_level {
+    let theirs = &chosen.format;
+    own.format.profile_id = match theirs.h266_profile_tier_level {
         Some(_) => None,
         None => theirs.profile_id,
     };
-    let format = FormatParams {
-        h266_profile_tier_level: lower_h266_triple(
-            ours.h266_profile_tier_level,
-            theirs.h266_profile_tier_level,
-        ),
-        profile_id,
-        sprop_max_don_diff: theirs.sprop_max_don_diff.or(ours.sprop_max_don_diff),
-        ..ours
-    };
-    CodecSpec { format, ..*own }
+    own.format.h266_profile_tier_level = lower_h266_triple(
+        own.format.h266_profile_tier_level,
+        theirs.h266_profile_tier_level,
+    );
+    own.format.sprop_max_don_diff = theirs.sprop_max_don_diff.or(own.format.sprop_max_don_diff);
 }
 
 /// An AMR-WB row is aligned as the choice is, and keeps its own modes where it names some.
-fn narrowed_amr_wb(own: &CodecSpec, chosen: &CodecSpec) -> CodecSpec
-    ensures { result ≡ narrowed_as AmrWb own.now chosen.now }
+fn narrow_amr_wb(own: &mut CodecSpec, chosen: &CodecSpec)
+    ensures { own.new ≡ narrowed_as AmrWb own.old chosen.now }
 {
-    let format = FormatParams {
-        octet_align: chosen.format.octet_align,
-        mode_set: own.format.mode_set.or(chosen.format.mode_set),
-        ..own.format
-    };
-    CodecSpec {
-        channels: chosen.channels,
-        format,
-        ..*own
-    }
+    own.format.octet_align = chosen.format.octet_align;
+    own.format.mode_set = own.format.mode_set.or(chosen.format.mode_set);
+    own.channels = chosen.channels;
 }
 
-/// The spec of a row once it is matched with a row of the spec `chosen`.
+/// Narrows the spec of a row that is matched with a row of the spec `chosen`.
 #[tactic(auto, unfolding(crate::specs::Narrowing::narrowed))]
-pub(crate) fn narrowed_to(own: &CodecSpec, chosen: &CodecSpec) -> CodecSpec
-    ensures { result ≡ narrowed own.now chosen.now }
+pub(crate) fn narrow(own: &mut CodecSpec, chosen: &CodecSpec)
+    ensures { own.new ≡ narrowed own.old chosen.now }
 {
     match own.codec {
-        Codec::Tele => narrowed_events(own, chosen),
-        Codec::H265 => narrowed_h265(own, chosen),
-        Codec::H266 => narrowed_h266(own, chosen),
-        Codec::AmrWb => narrowed_amr_wb(own, chosen),
-        _ => *own,
+        Codec::Tele => narrow_events(own, chosen),
+        Codec::H265 => narrow_h265(own, chosen),
+        Codec::H266 => narrow_h266(own, chosen),
+        Codec::AmrWb => narrow_amr_wb(own, chosen),
+        _ => {}
     }
 }

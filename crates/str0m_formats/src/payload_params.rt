@@ -221,6 +221,6 @@ impl PayloadParams {
         ensures equality { (a b : CodecSpec) →
             IsTrue (⟦<CodecSpec as PartialEq>⟧.eq a b) ↔ (a ≡ b) }
     {
-        spec_score(self.spec, other.spec)
+        spec_score(&self.spec, &other.spec)
     }
 }

@@ -1,10 +1,10 @@
 //! The second pass of a round: a row that is still open gives up each type that a locked row has.
-ghost use Rattle.std.specs.Prelude.{◌≡◌, ℕ, IfOk, IfErr, IfSome, OnOk, if◌then◌else◌, true, false, Some, slice_get};
+ghost use Rattle.std.specs.Prelude.{◌≡◌, ℕ, Ok, IfOk, IfErr, IfSome, OnOk, if◌then◌else◌, true, false, Some, slice_get};
 ghost use Rattle.str0m_formats.specs.declared.payload_params.PayloadParams.{PayloadParams};
 ghost use Rattle.str0m_formats.specs.TypeSets.{TypeSet, has, with_option, either};
 ghost use Rattle.str0m_formats.specs.Claiming.{Serves};
 ghost use Rattle.str0m_formats.specs.Rows.{types_of, locked_types};
-ghost use Rattle.str0m_formats.specs.Rounds.{kept_or_free, kept_red, kept_rtx, settled, Settled, StopsSettling};
+ghost use Rattle.str0m_formats.specs.Rounds.{and_then, kept_or_free, kept_red, kept_rtx, settled, Settled, StopsSettling};
 
 use crate::claimed::Claimed;
 use crate::claims::Claims;
@@ -64,28 +64,26 @@ impl<C: Claimed> Claims<C> {
         }
     }
 
-    /// A row after the second pass: primary, RED, RTX in this order.
-    fn settle(&mut self, row: &PayloadParams) -> Result<PayloadParams, NegotiationError>
-        requires { row.now.locked ≡ false → (t : ℕ) → has (types_of row.now) t ≡ true → C.holds self.old.unlocked t ≡ true }
+    /// What a row is after the second pass: primary, RED, RTX in this order.
+    fn settle(&mut self, row: &mut PayloadParams) -> Result<(), NegotiationError>
+        requires { row.old.locked ≡ false → (t : ℕ) → has (types_of row.old) t ≡ true → C.holds self.old.unlocked t ≡ true }
         ensures value { (locked taken : TypeSet) → Serves (C.holds self.old.claimed) (C.holds self.old.unlocked) locked taken
-            → result ≡ settled locked taken (C.holds self.old.unlocked) row.now }
+            → and_then result (λ _. Ok row.new) ≡ settled locked taken (C.holds self.old.unlocked) row.old }
         ensures claimed { (locked taken : TypeSet) → Serves (C.holds self.old.claimed) (C.holds self.old.unlocked) locked taken
-            → IfOk result (λ new. Serves (C.holds self.new.claimed) (C.holds self.old.unlocked) locked
-            (if row.now.locked then taken else either taken (has (types_of new)))) }
+            → OnOk result (Serves (C.holds self.new.claimed) (C.holds self.old.unlocked) locked
+            (if row.old.locked then taken else either taken (has (types_of row.new)))) }
         ensures unlocked { self.new.unlocked ≡ self.old.unlocked }
     {
         if row.locked {
-            return Ok(*row);
+            return Ok(());
         }
         let pt = self.keep(row.pt).ok_or(NegotiationError::Exhausted)?;
         let red = self.keep_red(row.red);
         let resend = self.keep_rtx(row.resend)?;
-        Ok(PayloadParams {
-            pt,
-            resend,
-            red,
-            ..*row
-        })
+        row.pt = pt;
+        row.resend = resend;
+        row.red = red;
+        Ok(())
     }
 
     /// Gives each open row types that no locked row has.
@@ -97,8 +95,7 @@ impl<C: Claimed> Claims<C> {
         ensures err { IfErr result (StopsSettling (C.holds self.old.unlocked) rows.old) }
     {
         for row in rows.iter_mut() {
-            let new = self.settle(row)?;
-            *row = new;
+            self.settle(row)?;
         }
         Ok(())
     }

@@ -1,20 +1,31 @@
 -- The fmtp lines of types, one attribute more.
-use Rattle.std.proofs.Common.{◌≡◌, ◌<◌, ◌+◌, ◌++◌, ℕ, List, [], ◌∷◌, length, take, set, get_or, Option, Some, None, filter_map, option_to_list, refl, sym, ap, ◌∙◌, inl, inr}
+use Rattle.std.proofs.Common.{◌≡◌, ◌==◌, ◌<◌, ◌+◌, ◌++◌, ℕ, true, false, List, [], ◌∷◌, length, take, get_or, Option, Some, None, filter_map, option_to_list, refl, sym, ap, ◌∙◌, inl, inr}
 use Rattle.std.specs.Borrow.{Bor}
-use Rattle.std.specs.Global.{Vec}
 use Rattle.std.proofs.lemmas.Bool.{cases_eq, eq-eqb, ne_eqb}
-use Rattle.std.proofs.lemmas.List.{append-nil, map-append, get_or-set_same, get_or-set_other}
+use Rattle.std.proofs.lemmas.List.{append-nil, map-append}
+use Rattle.std.proofs.lemmas.List.Elements.{filter_map-append}
 use Rattle.str0m_formats.specs.FormatLine.{line_values}
 use Rattle.str0m_formats.specs.declared.format_param.FormatParam.{FormatParam}
+use Rattle.str0m_sdp.specs.FmtpLines.{line_with, lines_with}
 use Rattle.str0m_sdp.specs.SectionRows.{values_in, lines_of}
 use Rattle.str0m_sdp.specs.declared.attribute.MediaAttribute.{MediaAttribute}
 use Rattle.str0m_sdp.specs.declared.attribute.MediaAttribute.TheVariants.{Fmtp}
-use Rattle.str0m_sdp.proofs.FilterMapLaws.{map_more}
+use Rattle.str0m_sdp.proofs.FilterMapLaws.{map_one, map_more}
 
 -- before any attribute there are none
-pub no_lines : (lines : List (Bor (List FormatParam))) (pt : ℕ) → lines ≡ [] → line_values lines ≡ lines_of [] pt
+pub no_lines : (lines : List (ℕ × Bor (List FormatParam))) (pt : ℕ) → lines ≡ [] → line_values (lines_with pt lines) ≡ lines_of [] pt
 unfolding lines_of
-no_lines lines pt empty = ap (λ (ls : List (Bor (List FormatParam))). line_values ls) empty
+no_lines lines pt empty = ap (λ (ls : List (ℕ × Bor (List FormatParam))). line_values (lines_with pt ls)) empty
+
+-- one line more, beside its type
+with_more : (pt : ℕ) (lines : List (ℕ × Bor (List FormatParam))) (item : ℕ × Bor (List FormatParam)) (o : Option (Bor (List FormatParam)))
+    → line_with pt item ≡ o
+    → line_values (lines_with pt (lines ++ item ∷ [])) ≡ line_values (lines_with pt lines) ++ line_values (option_to_list o)
+with_more pt lines item o is =
+    ap (λ (ls : List (Bor (List FormatParam))). line_values ls)
+    (filter_map-append (line_with pt) lines (item ∷ [])
+    ∙ ap (λ (ls : List (Bor (List FormatParam))). lines_with pt lines ++ ls) (map_one (line_with pt) item o is))
+    ∙ map-append (λ (l : Bor (List FormatParam)). l.now) (lines_with pt lines) (option_to_list o)
 
 lines_more : (attrs : List MediaAttribute) (i : ℕ) (attr : MediaAttribute) (pt : ℕ) (o : Option (List FormatParam)) → i < length attrs → attr ≡ get_or attrs i attr
     → values_in pt attr ≡ o → lines_of (take (i + 1) attrs) pt ≡ lines_of (take i attrs) pt ++ option_to_list o
@@ -31,11 +42,17 @@ silent : (pt : ℕ) (attr : MediaAttribute) → ((n : ℕ) (values : List Format
 silent pt (Fmtp n values) other = absurd (other n values refl)
 silent pt _ other = refl
 
-own : (n : ℕ) (values : List FormatParam) → values_in n (Fmtp n values) ≡ Some values
-own n values = rw (eq-eqb n n refl) refl
+own : (n pt : ℕ) (values : List FormatParam) → n ≡ pt → values_in pt (Fmtp n values) ≡ Some values
+own n pt values same = rw (eq-eqb n pt same) refl
 
 apart : (n pt : ℕ) (values : List FormatParam) → (n ≡ pt → ⊥) → values_in pt (Fmtp n values) ≡ None
 apart n pt values ne = rw (ne_eqb n pt ne) refl
+
+with_own : (n pt : ℕ) (line : Bor (List FormatParam)) → n ≡ pt → line_with pt (n, line) ≡ Some line
+with_own n pt line same = rw (eq-eqb n pt same) refl
+
+with_other : (n pt : ℕ) (line : Bor (List FormatParam)) → (n ≡ pt → ⊥) → line_with pt (n, line) ≡ None
+with_other n pt line ne = rw (ne_eqb n pt ne) refl
 
 -- what is no fmtp line adds none
 pub lines_other : (attrs : List MediaAttribute) (i : ℕ) (attr : MediaAttribute) (pt : ℕ) → i < length attrs → attr ≡ get_or attrs i attr
@@ -43,24 +60,42 @@ pub lines_other : (attrs : List MediaAttribute) (i : ℕ) (attr : MediaAttribute
 lines_other attrs i attr pt lt is other = lines_same attrs i attr pt lt is (silent pt attr other)
 
 -- an fmtp line adds its values to its own type's lines
-pub lines_pushed : (attrs : List MediaAttribute) (table : List (Vec (Bor (List FormatParam)))) (i n : ℕ) (line : Bor (List FormatParam)) (attr : MediaAttribute)
-    (old new : Vec (Bor (List FormatParam))) (pt : ℕ) (d : Vec (Bor (List FormatParam)))
-    → i < length attrs → n < length table → attr ≡ get_or attrs i attr → attr ≡ Fmtp n line.now
-    → new.items ≡ old.items ++ line ∷ []
-    → line_values old.items ≡ lines_of (take i attrs) n
-    → line_values (get_or table pt d).items ≡ lines_of (take i attrs) pt
-    → line_values (get_or (set table n new) pt d).items ≡ lines_of (take (i + 1) attrs) pt
-lines_pushed attrs table i n line attr old new pt d lt row is variant pushed old_is so_far =
+pub lines_pushed : (attrs : List MediaAttribute) (lines : List (ℕ × Bor (List FormatParam))) (i n : ℕ) (line : Bor (List FormatParam)) (attr : MediaAttribute) (pt : ℕ)
+    → i < length attrs → attr ≡ get_or attrs i attr → attr ≡ Fmtp n line.now
+    → line_values (lines_with pt lines) ≡ lines_of (take i attrs) pt
+    → line_values (lines_with pt (lines ++ (n, line) ∷ [])) ≡ lines_of (take (i + 1) attrs) pt
+lines_pushed attrs lines i n line attr pt lt is variant so_far =
     elim (cases_eq n pt) [
       | inl same ↦
-          rw (← same) (
-          ap (λ (v : Vec (Bor (List FormatParam))). line_values v.items) (get_or-set_same table n new d row)
-          ∙ ap (λ (ls : List (Bor (List FormatParam))). line_values ls) pushed
-          ∙ map-append (λ (l : Bor (List FormatParam)). l.now) old.items (line ∷ [])
-          ∙ ap (λ (vs : List (List FormatParam)). vs ++ line.now ∷ []) old_is
-          ∙ sym (lines_more attrs i attr n (Some line.now) lt is (ap (values_in n) variant ∙ own n line.now))
-          )
+          with_more pt lines (n, line) (Some line) (with_own n pt line same)
+          ∙ ap (λ (vs : List (List FormatParam)). vs ++ line.now ∷ []) so_far
+          ∙ sym (lines_more attrs i attr pt (Some line.now) lt is (ap (values_in pt) variant ∙ own n pt line.now same))
       | inr ne ↦
-          ap (λ (v : Vec (Bor (List FormatParam))). line_values v.items) (get_or-set_other table n pt new d (λ same. ne (sym same)))
+          with_more pt lines (n, line) None (with_other n pt line ne)
+          ∙ append-nil (line_values (lines_with pt lines))
           ∙ so_far ∙ sym (lines_same attrs i attr pt lt is (ap (values_in pt) variant ∙ apart n pt line.now ne))
     ]
+
+yes : (pt : ℕ) (item : ℕ × Bor (List FormatParam)) → (item.0 == pt) ≡ true → line_with pt item ≡ Some item.1
+yes pt item is = rw is refl
+
+no : (pt : ℕ) (item : ℕ × Bor (List FormatParam)) → (item.0 == pt) ≡ false → line_with pt item ≡ None
+no pt item is = rw is refl
+
+-- a line of the type is found
+pub found_own : (lines : List (ℕ × Bor (List FormatParam))) (found : List (Bor (List FormatParam))) (i pt : ℕ) (item : ℕ × Bor (List FormatParam))
+    → i < length lines → item ≡ get_or lines i item → (item.0 == pt) ≡ true → found ≡ lines_with pt (take i lines)
+    → found ++ item.1 ∷ [] ≡ lines_with pt (take (i + 1) lines)
+found_own lines found i pt item lt is same so_far =
+    ap (λ (ls : List (Bor (List FormatParam))). ls ++ item.1 ∷ []) so_far
+    ∙ sym (map_more (line_with pt) lines i item lt is
+    ∙ ap (λ (o : Option (Bor (List FormatParam))). lines_with pt (take i lines) ++ option_to_list o) (yes pt item same))
+
+-- one of another type isn't
+pub found_other : (lines : List (ℕ × Bor (List FormatParam))) (found : List (Bor (List FormatParam))) (i pt : ℕ) (item : ℕ × Bor (List FormatParam))
+    → i < length lines → item ≡ get_or lines i item → (item.0 == pt) ≡ false → found ≡ lines_with pt (take i lines)
+    → found ≡ lines_with pt (take (i + 1) lines)
+found_other lines found i pt item lt is apart so_far =
+    so_far ∙ sym (map_more (line_with pt) lines i item lt is
+    ∙ ap (λ (o : Option (Bor (List FormatParam))). lines_with pt (take i lines) ++ option_to_list o) (no pt item apart)
+    ∙ append-nil (lines_with pt (take i lines)))

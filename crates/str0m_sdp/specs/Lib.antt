@@ -9,6 +9,7 @@ pub mod DistinctCandidates
 pub mod ExtMap
 pub mod Feedback
 pub mod Fmtp
+pub mod FmtpLines
 pub mod Group
 pub mod KnownFormats
 pub mod Lines

@@ -1,26 +1,49 @@
-//! The fmtp lines of a section, by payload type.
-ghost use Rattle.std.specs.Prelude.{◌≡◌, ◌<◌, ℕ, IfOk, get_or};
+//! The fmtp lines of a section, and those of a payload type.
+ghost use Rattle.std.specs.Prelude.{◌≡◌, ◌==◌, ℕ, IfOk, OnOk};
 ghost use Rattle.str0m_formats.specs.FormatLine.{line_values};
+ghost use Rattle.str0m_sdp.specs.FmtpLines.{lines_with};
 ghost use Rattle.str0m_sdp.specs.SectionRows.{lines_of};
 
 use crate::attribute::MediaAttribute;
-use crate::type_tables::row;
 use std::alloc::{AllocError, Global};
-use std::array;
 use str0m_formats::FormatParam;
+use str0m_values::Pt;
 
-/// The values of the fmtp lines of each payload type, in order (RFC 8866, section 6.15).
+/// The values of the fmtp lines, each beside the number of its payload type, in order (RFC 8866, section 6.15).
 pub(crate) fn fmtp_lines<'a>(
     alloc: Global,
     attrs: &'a [MediaAttribute],
-) -> Result<[Vec<&'a [FormatParam]>; 256], AllocError>
-    ensures { IfOk result (λ table. (pt : ℕ) → pt < 256 → (d : _) → line_values (get_or table pt d).items ≡ lines_of attrs.now pt) }
+) -> Result<Vec<(u8, &'a [FormatParam])>, AllocError>
+    ensures { IfOk result (λ lines. (pt : ℕ) → line_values (lines_with pt lines.items) ≡ lines_of attrs.now pt) }
 {
-    let mut table = array::from_fn(|_| Vec::new(alloc));
+    let mut lines = Vec::new(alloc);
     for attr in attrs {
         if let MediaAttribute::Fmtp { pt, values } = attr {
-            table[row(*pt)].push(values.as_slice())?;
+            lines.push((pt.value(), values.as_slice()))?;
         }
     }
-    Ok(table)
+    Ok(lines)
+}
+
+fn is_of(number: u8, pt: Pt) -> bool
+    ensures { result ≡ (number == pt) }
+{
+    number == pt.value()
+}
+
+/// Puts the values of the lines of the type in place of what was found before.
+pub(crate) fn find_lines<'a>(
+    found: &mut Vec<&'a [FormatParam]>,
+    lines: &[(u8, &'a [FormatParam])],
+    pt: Pt,
+) -> Result<(), AllocError>
+    ensures { OnOk result (found.new.items ≡ lines_with pt lines.now) }
+{
+    found.clear();
+    for (number, values) in lines {
+        if is_of(*number, pt) {
+            found.push(*values)?;
+        }
+    }
+    Ok(())
 }

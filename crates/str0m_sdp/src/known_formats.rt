@@ -1,16 +1,18 @@
-//! What the fmtp lines of a payload type say of a codec, made once where the type has many lines.
+//! What the fmtp lines of a payload type say of a codec, made once where the section has many lines.
 ghost use Rattle.std.specs.Prelude.{◌≡◌, All, IfOk, IfSome, List};
 ghost use Rattle.str0m_formats.specs.FormatLine.{format_of_fmtp, line_values};
+ghost use Rattle.str0m_sdp.specs.FmtpLines.{lines_with};
 ghost use Rattle.str0m_sdp.specs.KnownFormats.{IsKnown};
 ghost use Rattle.str0m_sdp.specs.SectionRows.{lines_of};
 ghost use Rattle.str0m_sdp.specs.declared.attribute.MediaAttribute.{MediaAttribute};
 
+use crate::fmtp_lines::find_lines;
 use std::alloc::AllocError;
 use str0m_formats::{Codec, FormatParam, FormatParams};
 use str0m_values::Pt;
 
-/// Lines that are read again as soon as their value is looked up.
-const FEW: usize = 16;
+/// As many lines as are gone over for each type anew: that takes no longer than to look up what is known.
+const FEW: usize = 64;
 
 /// What the fmtp lines of a type say of a codec; none where they are refused.
 #[derive(Clone, Copy)]
@@ -33,41 +35,56 @@ fn known_format(known: &[KnownFormat], pt: Pt, codec: Codec) -> Option<Option<Fo
     None
 }
 
-/// What the lines say of the codec, which joins what is known.
-#[tactic(auto, unfolding(crate::specs::KnownFormats::IsKnown))]
-fn learnt(
-    known: &mut Vec<KnownFormat>,
-    lines: &[&[FormatParam]],
+/// What the lines of the type say of the codec.
+fn format_said<'a>(
+    found: &mut Vec<&'a [FormatParam]>,
+    lines: &[(u8, &'a [FormatParam])],
     pt: Pt,
     codec: Codec,
 ) -> Result<Option<FormatParams>, AllocError>
-    ensures format { IfOk result (λ format. format ≡ format_of_fmtp codec (line_values lines.now)) }
-    ensures known { (attrs : List MediaAttribute) → All (IsKnown attrs) known.old.items → line_values lines.now ≡ lines_of attrs pt →
+    ensures { IfOk result (λ format. format ≡ format_of_fmtp codec (line_values (lines_with pt lines.now))) }
+{
+    find_lines(found, lines, pt)?;
+    Ok(FormatParams::from_sdp_fmtp(codec, found.as_slice()))
+}
+
+/// What the lines of the type say of the codec, which joins what is known.
+#[tactic(auto, unfolding(crate::specs::KnownFormats::IsKnown))]
+fn learnt<'a>(
+    known: &mut Vec<KnownFormat>,
+    found: &mut Vec<&'a [FormatParam]>,
+    lines: &[(u8, &'a [FormatParam])],
+    pt: Pt,
+    codec: Codec,
+) -> Result<Option<FormatParams>, AllocError>
+    ensures format { IfOk result (λ format. format ≡ format_of_fmtp codec (line_values (lines_with pt lines.now))) }
+    ensures known { (attrs : List MediaAttribute) → All (IsKnown attrs) known.old.items → line_values (lines_with pt lines.now) ≡ lines_of attrs pt →
         All (IsKnown attrs) known.new.items }
 {
-    let format = FormatParams::from_sdp_fmtp(codec, lines);
+    let format = format_said(found, lines, pt, codec)?;
     known.push(KnownFormat { pt, codec, format })?;
     Ok(format)
 }
 
-/// What the lines say of the codec, where they are the fmtp lines of the type. A type with many lines is looked up
-/// among those that are known, and joins them.
-pub(crate) fn format_of(
+/// What the fmtp lines of the type say of the codec, where these are the lines of the section. Where those are many, it is
+/// looked up among what is known, and joins it. What was found before makes room for what is found now.
+pub(crate) fn format_of<'a>(
     known: &mut Vec<KnownFormat>,
-    lines: &[&[FormatParam]],
+    found: &mut Vec<&'a [FormatParam]>,
+    lines: &[(u8, &'a [FormatParam])],
     pt: Pt,
     codec: Codec,
 ) -> Result<Option<FormatParams>, AllocError>
-    ensures format { (attrs : List MediaAttribute) → All (IsKnown attrs) known.old.items → line_values lines.now ≡ lines_of attrs pt →
+    ensures format { (attrs : List MediaAttribute) → All (IsKnown attrs) known.old.items → line_values (lines_with pt lines.now) ≡ lines_of attrs pt →
         IfOk result (λ format. format ≡ format_of_fmtp codec (lines_of attrs pt)) }
-    ensures known { (attrs : List MediaAttribute) → All (IsKnown attrs) known.old.items → line_values lines.now ≡ lines_of attrs pt →
+    ensures known { (attrs : List MediaAttribute) → All (IsKnown attrs) known.old.items → line_values (lines_with pt lines.now) ≡ lines_of attrs pt →
         All (IsKnown attrs) known.new.items }
 {
     if lines.len() <= FEW {
-        return Ok(FormatParams::from_sdp_fmtp(codec, lines));
+        return format_said(found, lines, pt, codec);
     }
     match known_format(known.as_slice(), pt, codec) {
         Some(format) => Ok(format),
-        None => learnt(known, lines, pt, codec),
+        None => learnt(known, found, lines, pt, codec),
     }
 }

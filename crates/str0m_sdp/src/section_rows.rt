@@ -115,6 +115,28 @@ impl MediaLine {
         }
     }
 
+    /// The rows of the section, by the mapped types.
+    fn rows_of(&self, types: &[(Pt, CodecSpec)]) -> Result<Vec<PayloadParams>, AllocError>
+        requires { types.now ≡ mapped self.now }
+        ensures rows { IfOk result (λ params. params.items ≡ rows self.now) }
+        ensures bounded { KeepsToLines self.now → IfOk result (λ params. All IsBounded params.items) }
+    {
+        let alloc = *self.attrs.allocator();
+        let words = self.type_words(types);
+        let lines = fmtp_lines(alloc, self.attrs.as_slice())?;
+        let mut known = Vec::new(alloc);
+        let mut found = Vec::new(alloc);
+        let mut rows = Vec::new(alloc);
+        for (pt, spec) in types {
+            if words.is_kept(*pt, *spec) {
+                let lines = lines.as_slice();
+                let format = format_of(&mut known, &mut found, lines, *pt, spec.codec)?;
+                words.push_row(&mut rows, format, *pt, *spec)?;
+            }
+        }
+        Ok(rows)
+    }
+
     /// The rows that the section describes.
     ///
     /// Each rtpmap line of a codec of sound or pictures gives a row, in order (RFC 8866, section 6.6),
@@ -131,24 +153,17 @@ impl MediaLine {
     /// row is locked.
     ///
     /// The only error is that memory was refused. The section stays as it is.
+    #[tactic(auto, unfolding(crate::specs::SectionRows::rows))]
     pub fn rtp_params(&self) -> Result<Vec<PayloadParams>, AllocError>
         ensures rows { IfOk result (λ params. params.items ≡ rows self.now) }
         // Types of seven bits and parameters in their ranges give rows of such.
         ensures bounded { KeepsToLines self.now → IfOk result (λ params. All IsBounded params.items) }
     {
-        let alloc = *self.attrs.allocator();
         let mapped = self.mapped()?;
-        let words = self.type_words(mapped.as_slice());
-        let lines = fmtp_lines(alloc, self.attrs.as_slice())?;
-        let mut known = Vec::new(alloc);
-        let mut rows = Vec::new(alloc);
-        for (pt, spec) in mapped.as_slice() {
-            if words.is_kept(*pt, *spec) {
-                let lines = lines[row(*pt)].as_slice();
-                let format = format_of(&mut known, lines, *pt, spec.codec)?;
-                words.push_row(&mut rows, format, *pt, *spec)?;
-            }
+        match mapped.as_slice() {
+            // A section without types has no rows, and needs no tables.
+            [] => Ok(Vec::new(*self.attrs.allocator())),
+            types => self.rows_of(types),
         }
-        Ok(rows)
     }
 }

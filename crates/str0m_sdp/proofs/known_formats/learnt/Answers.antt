@@ -8,5 +8,5 @@ use Rattle.str0m_sdp.proofs.known_formats.learnt.Goals as goal
 pub returns-clause-known : goal.returns-clause-known
 unfolding IsKnown
 returns-clause-known c = λ attrs all own.
-    let is = c.from_sdp_fmtp-format.ensures.format ∙ ap (λ (lines : List (List FormatParam)). format_of_fmtp c.args.codec lines) own in
+    let is = c.in_ok-format.ensures ∙ ap (λ (lines : List (List FormatParam)). format_of_fmtp c.args.codec lines) own in
     All-same (IsKnown attrs) c.push.new.self.items _ c.in_ok-push.ensures.items (All-push (IsKnown attrs) c.args.known.now.items _ all is)

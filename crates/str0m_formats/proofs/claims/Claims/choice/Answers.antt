@@ -1,4 +1,5 @@
-use Rattle.std.proofs.Common.{take, Some, sym, ◌∙◌}
+use Rattle.std.proofs.Common.{take, Some, sym, ap, ◌∙◌}
+use Rattle.std.specs.Option.{option_copied}
 use Rattle.str0m_formats.specs.Choices.{points_for}
 use Rattle.str0m_formats.proofs.ChoiceSteps.{choice_takes, choice_skips, choice_keeps, choice_next}
 use Rattle.str0m_formats.proofs.claims.Claims.choice.Goals as goal
@@ -10,13 +11,13 @@ loop-theirs-preserved g c =
     let remote = c.args.remote.now in
     let i = c.loop-theirs.theirs-index in
     let row = c.theirs-item.result in
-    let best = c.loop-theirs.best in
+    let best = option_copied c.loop-theirs.best in
     let most = c.loop-theirs.most in
     elim c.match-points.branch [
-      | in-None w ↦ choice_next points remote i row best _ most _ c.loop-theirs-test.true c.theirs-item.is w.best-is w.most-is
+      | in-None w ↦ choice_next points remote i row best _ most _ c.loop-theirs-test.true c.theirs-item.is (ap option_copied w.best-is) w.most-is
           (choice_skips points (take i remote) best most row (sym c.points.ensures ∙ w.in-None.is) c.loop-theirs.invariant)
-      | in-Some+then-points-most w ↦ choice_next points remote i row (Some row) _ w.in-Some.points _ c.loop-theirs-test.true c.theirs-item.is w.best-is w.most-is
+      | in-Some+then-points-most w ↦ choice_next points remote i row (Some row) _ w.in-Some.points _ c.loop-theirs-test.true c.theirs-item.is (ap option_copied w.best-is) w.most-is
           (choice_takes points (take i remote) best most w.in-Some.points row (sym c.points.ensures ∙ w.in-Some.is) w.if-points-most.true c.loop-theirs.invariant)
-      | in-Some+else-points-most w ↦ choice_next points remote i row best _ most _ c.loop-theirs-test.true c.theirs-item.is w.best-is w.most-is
+      | in-Some+else-points-most w ↦ choice_next points remote i row best _ most _ c.loop-theirs-test.true c.theirs-item.is (ap option_copied w.best-is) w.most-is
           (choice_keeps points (take i remote) best most w.in-Some.points row (sym c.points.ensures ∙ w.in-Some.is) w.if-points-most.false c.loop-theirs.invariant)
     ]

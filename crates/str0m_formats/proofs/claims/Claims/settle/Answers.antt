@@ -1,9 +1,10 @@
-use Rattle.std.proofs.Common.{◌≡◌, ℕ, Option, Some, Ok, Err, sym, ap, ◌∙◌, subst, rules}
+use Rattle.std.proofs.Common.{◌≡◌, ℕ, Option, Some, Result, Ok, Err, sym, ap, ◌∙◌, subst, rules}
 use Rattle.std.specs.Option.{ok_or}
+use Rattle.str0m_formats.specs.declared.negotiation_error.NegotiationError.{NegotiationError}
 use Rattle.str0m_formats.specs.declared.negotiation_error.NegotiationError.TheVariants.{Exhausted}
 use Rattle.str0m_formats.specs.TypeSets.{TypeSet, with_type, with_option}
 use Rattle.str0m_formats.specs.Claiming.{Serves}
-use Rattle.str0m_formats.specs.Rounds.{kept_rtx}
+use Rattle.str0m_formats.specs.Rounds.{and_then, kept_rtx}
 use Rattle.str0m_formats.proofs.Sets.{with_row_types}
 use Rattle.str0m_formats.proofs.SecondPass.{settled_if_locked, settled_stops, settled_by, red_step}
 use Rattle.str0m_formats.proofs.claims.Claims.settle.Goals as goal
@@ -15,7 +16,7 @@ pub returns-in_err-pt-clause-value : goal.returns-in_err-pt-clause-value
 returns-in_err-pt-clause-value g c = λ locked taken serves.
     let is : c.from_residual.result ≡ Err c.in_err-pt.field-0.0 = search rules in
     let stops : ok_or c.keep.result Exhausted ≡ Err c.in_err-pt.field-0.0 = search rules in
-    is ∙ settled_stops locked taken (g.C.Claimed.holds c.args.self.now.unlocked) c.args.row.now c.keep.result c.in_err-pt.field-0.0 c.if-row.false (c.keep.ensures.value locked taken serves) stops
+    ap (λ (r : Result (Unit {0}) NegotiationError). and_then r (λ u. Ok c.args.row.now)) is ∙ settled_stops locked taken (g.C.Claimed.holds c.args.self.now.unlocked) c.args.row.now c.keep.result c.in_err-pt.field-0.0 c.if-row.false (c.keep.ensures.value locked taken serves) stops
 
 pub returns-in_err-resend-clause-value : goal.returns-in_err-resend-clause-value
 returns-in_err-resend-clause-value g c = λ locked taken serves.
@@ -31,7 +32,7 @@ returns-in_err-resend-clause-value g c = λ locked taken serves.
     let red = red_step (holds c.keep.new.self.claimed) (holds c.keep_red-red.new.self.claimed) unlocked (holds c.keep.new.self.unlocked) (holds c.keep_red-red.new.self.unlocked) locked one c.keep_red-red.result row.red
     same1 same2 (subst After pt (c.keep.ensures.claimed locked taken serves)) c.keep_red-red.ensures.value c.keep_red-red.ensures.claimed in
     let is : c.from_residual-in_err-resend.result ≡ Err c.in_err-resend.field-0.0 = search rules in
-    is
+    ap (λ (r : Result (Unit {0}) NegotiationError). and_then r (λ u. Ok c.args.row.now)) is
     ∙ settled_by locked taken unlocked row c.in_ok-pt.pt c.keep_red-red.result (Err c.in_err-resend.field-0.0) c.if-row.false (sym pt ∙ c.keep.ensures.value locked taken serves) red.0
     (sym c.in_err-resend.was ∙ c.keep_rtx.ensures.value locked two red.1 ∙ ap (λ u. kept_rtx locked two u row.resend) (same2 ∙ same1))
 

@@ -7,28 +7,29 @@ use Rattle.str0m_formats.specs.declared.format_param.FormatParam.{FormatParam}
 use Rattle.str0m_formats.specs.declared.codec_spec.CodecSpec.{CodecSpec}
 use Rattle.str0m_formats.specs.declared.payload_params.PayloadParams.{PayloadParams}
 use Rattle.str0m_formats.specs.Bounds.{IsBounded}
+use Rattle.str0m_sdp.specs.FmtpLines.{lines_with}
 use Rattle.str0m_sdp.specs.SectionRows.{lines_of, is_kept, row, rows}
 use Rattle.str0m_sdp.specs.declared.attribute.MediaAttribute.{MediaAttribute}
 use Rattle.str0m_sdp.proofs.FilterMapLaws.{kept_more, left_out}
 use Rattle.str0m_sdp.proofs.RowBoundLaws.{rows_bounded}
-use Rattle.str0m_sdp.proofs.media_line.MediaLine.rtp_params.Goals.{then-is_kept+in_ok-format+in_ok-push_row, else-is_kept}
-use Rattle.str0m_sdp.proofs.media_line.MediaLine.rtp_params.Goals as goal
+use Rattle.str0m_sdp.proofs.media_line.MediaLine.rows_of.Goals.{then-is_kept+in_ok-format+in_ok-push_row, else-is_kept}
+use Rattle.str0m_sdp.proofs.media_line.MediaLine.rows_of.Goals as goal
 
 pub loop-pt-preserved : goal.loop-pt-preserved
 loop-pt-preserved c =
     let m = c.args.self.now in
-    let types = c.as_slice-pt-items.result.now in
+    let types = c.args.types.now in
     let i = c.loop-pt.pt-index in
     let item = c.loop-pt-item.result in
     let known = c.loop-pt.invariant.0 in
-    let say = c.type_words-words.ensures (c.as_slice.ensures.value ∙ c.in_ok-mapped.ensures) in
+    let say = c.type_words-words.ensures c.requires in
     elim c.if-is_kept.branch [
       | then-is_kept+in_ok-format+in_ok-push_row w ↦
+          let pt = item.0 in
           let own =
-          ap (λ (ls : List (Bor (List FormatParam))). line_values ls) w.as_slice-lines.ensures.value
-          ∙ c.in_ok-lines.ensures w.row.result w.row.ensures.within w.index-lines-row.result
-          ∙ ap (λ (attrs : List MediaAttribute). lines_of attrs w.row.result) c.as_slice-2.ensures
-          ∙ ap (lines_of m.attrs) w.row.ensures.is in (
+          ap (λ (ls : List (ℕ × Bor (List FormatParam))). line_values (lines_with pt ls)) w.as_slice-lines.ensures.value
+          ∙ c.in_ok-lines.ensures pt
+          ∙ ap (λ (attrs : List MediaAttribute). lines_of attrs pt) c.as_slice.ensures in (
             rw w.known-is (w.in_ok-format.ensures.known m.attrs known own),
             rw w.rows-is (
                 w.in_ok-push_row.ensures m say (w.in_ok-format.ensures.format m.attrs known own)
@@ -51,7 +52,7 @@ returns-clause-rows c =
     let m = c.args.self.now in
     c.loop-pt.invariant.1
     ∙ ap (λ (types : List (ℕ × CodecSpec)). filter_map (row m) (filter (is_kept m) types))
-    (take_all c.loop-pt.pt-index c.as_slice-pt-items.result.now c.loop-pt-test.false ∙ c.as_slice-pt-items.ensures.value ∙ c.in_ok-mapped.ensures)
+    (take_all c.loop-pt.pt-index c.args.types.now c.loop-pt-test.false ∙ c.requires)
 
 pub returns-clause-bounded : goal.returns-clause-bounded
 returns-clause-bounded c = λ keeps.
