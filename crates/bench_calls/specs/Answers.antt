@@ -1,0 +1,28 @@
+-- The numbers that the calls answer.
+use Rattle.std.specs.Prelude.{◌≡◌, ◌≢◌, ◌-◌, ◌^◌, ℕ, List, length}
+use Rattle.str0m_formats.specs.DefaultRows.{usual_rows}
+use Rattle.str0m_formats.specs.Runs.{Outcome}
+use Rattle.str0m_formats.specs.declared.payload_params.PayloadParams.{PayloadParams}
+use Rattle.str0m_sdp.specs.Session.{sdp_text}
+use Rattle.str0m_sdp.specs.declared.session.Sdp.{Sdp}
+use Rattle.str0m_signal.specs.Negotiation.{NegotiatedText}
+use Rattle.str0m_signal.specs.Reading.{Described}
+
+abbrev pub sections : Sdp → ℕ
+sections sdp = length sdp.media_lines
+
+abbrev pub text_length : Sdp → ℕ
+text_length sdp = length (sdp_text sdp)
+
+-- the text describes a session, and the number is what follows from that
+abbrev pub HasAnswer : List ℕ → (Sdp → ℕ) → ℕ → Type 0
+HasAnswer text answer told = (sdp : Sdp) × Described text sdp × (told ≡ answer sdp)
+
+-- so many rounds of the default configuration were run with the text
+abbrev pub HasRounds : List ℕ → ℕ → Type 0
+HasRounds text told = (outcomes : List Outcome) × (after : List PayloadParams)
+    × NegotiatedText text usual_rows outcomes after × (told ≡ length outcomes)
+
+-- a call tells what is said of its number, or else the greatest of 64 bits: that there is no description, or no memory
+abbrev pub Tells : (ℕ → Type 0) → ℕ → Type 0
+Tells holds told = told ≢ 2 ^ 64 - 1 → holds told

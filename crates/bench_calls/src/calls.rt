@@ -1,0 +1,76 @@
+//! What C calls: each takes a text, does its task, and does it as often again as `more` says. It answers `UINT64_MAX` where
+//! the text describes no session, or where memory was refused. C passes nothing for the allocator, and a text by its
+//! pointer and its length.
+
+ghost use Rattle.std.specs.Prelude.{◌≡◌, ◌-◌, ◌^◌, MatchOption};
+ghost use Rattle.bench_calls.specs.Answers.{HasAnswer, HasRounds, Tells, sections, text_length};
+
+use crate::task::{done, negotiated};
+use crate::tasks::{Candidates, Consistency, Mark, Print, Rows, Sources};
+use std::alloc::Global;
+
+/// The number as C gets it.
+fn told(answer: Option<usize>) -> u64
+    ensures { MatchOption answer (result ≡ 2 ^ 64 - 1) (λ n. result ≡ n) }
+{
+    match answer {
+        Some(n) => n as u64,
+        None => u64::MAX,
+    }
+}
+
+/// Reads the text, and answers how many sections it has. Its last allocation is of one byte, and is made when the text is read.
+#[unsafe(no_mangle)]
+pub extern "C" fn bench_read(alloc: Global, text: &[u8]) -> u64
+    ensures { Tells (HasAnswer text.now sections) result }
+{
+    told(done::<Mark>(alloc, text, 0))
+}
+
+/// Reads the text, makes the rows of all sections, and answers how many sections it has.
+#[unsafe(no_mangle)]
+pub extern "C" fn bench_rows(alloc: Global, text: &[u8], more: u32) -> u64
+    ensures { Tells (HasAnswer text.now sections) result }
+{
+    told(done::<Rows>(alloc, text, more))
+}
+
+/// Negotiates with the text, which is read each time, and answers how many rounds that were.
+#[unsafe(no_mangle)]
+pub extern "C" fn bench_negotiate(alloc: Global, text: &[u8], more: u32) -> u64
+    ensures { Tells (HasRounds text.now) result }
+{
+    told(negotiated(alloc, text, more))
+}
+
+/// Reads the text, prints the description, and answers how many bytes were printed.
+#[unsafe(no_mangle)]
+pub extern "C" fn bench_print(alloc: Global, text: &[u8], more: u32) -> u64
+    ensures { Tells (HasAnswer text.now text_length) result }
+{
+    told(done::<Print>(alloc, text, more))
+}
+
+/// Reads the text, gathers what is said of the sources of all sections, and answers how many sections it has.
+#[unsafe(no_mangle)]
+pub extern "C" fn bench_sources(alloc: Global, text: &[u8], more: u32) -> u64
+    ensures { Tells (HasAnswer text.now sections) result }
+{
+    told(done::<Sources>(alloc, text, more))
+}
+
+/// Reads the text, gathers the candidates, each once, and answers how many sections it has.
+#[unsafe(no_mangle)]
+pub extern "C" fn bench_candidates(alloc: Global, text: &[u8], more: u32) -> u64
+    ensures { Tells (HasAnswer text.now sections) result }
+{
+    told(done::<Candidates>(alloc, text, more))
+}
+
+/// Reads the text, asks whether the description is consistent, and answers how many sections it has.
+#[unsafe(no_mangle)]
+pub extern "C" fn bench_consistency(alloc: Global, text: &[u8], more: u32) -> u64
+    ensures { Tells (HasAnswer text.now sections) result }
+{
+    told(done::<Consistency>(alloc, text, more))
+}

@@ -1,0 +1,90 @@
+//! A task that is timed, over a text.
+
+ghost use Rattle.std.specs.Prelude.{◌≡◌, IfOk, IfSome, length, ℕ};
+ghost use Rattle.str0m_formats.specs.DefaultRows.{usual_rows};
+ghost use Rattle.str0m_sdp.specs.declared.session.Sdp.{Sdp};
+ghost use Rattle.bench_calls.specs.Answers.{HasAnswer, HasRounds};
+ghost use Rattle.str0m_signal.specs.Reading.{Described};
+
+use std::alloc::{AllocError, Global};
+use std::str;
+use str0m_signal::{CodecConfig, SdpError, SdpOffer, negotiate_text};
+
+/// What is done with a description that was read. Answers a number that follows from the description; the only error is that
+/// memory was refused.
+pub(crate) trait Task {
+    ghost answer: { Sdp → ℕ };
+
+    fn run(offer: &SdpOffer) -> Result<usize, AllocError>
+        ensures { IfOk result (λ answer. answer ≡ Self.answer offer.now) };
+}
+
+/// The description that a text begins with; `None` where there is none, or where memory was refused.
+fn offer_in(alloc: Global, text: &[u8]) -> Option<SdpOffer>
+    ensures { IfSome result (λ offer. Described text.now offer) }
+{
+    match str::from_utf8(text) {
+        Ok(text) => match SdpOffer::from_sdp_string(alloc, text) {
+            Ok(offer) => Some(offer),
+            Err(_) => None,
+        },
+        Err(_) => None,
+    }
+}
+
+fn run_once<T: Task>(offer: &SdpOffer) -> Option<usize>
+    ensures { IfSome result (λ answer. answer ≡ T.answer offer.now) }
+{
+    match T::run(offer) {
+        Ok(answer) => Some(answer),
+        Err(_) => None,
+    }
+}
+
+/// Reads a text once, and does a task with it once, and then as often again as `more` says.
+pub(crate) fn done<T: Task>(alloc: Global, text: &[u8], more: u32) -> Option<usize>
+    ensures { IfSome result (HasAnswer text.now T.answer) }
+{
+    match offer_in(alloc, text) {
+        Some(offer) => {
+            for _ in 0..more {
+                let _ = run_once::<T>(&offer);
+            }
+            run_once::<T>(&offer)
+        }
+        None => None,
+    }
+}
+
+/// Runs the rounds of the default configuration with a text, and answers how many they are.
+fn rounds(alloc: Global, text: &str) -> Result<usize, SdpError>
+    ensures { IfOk result (HasRounds text.now) }
+{
+    let mut config = CodecConfig::new_with_defaults(alloc)?;
+    let outcomes = negotiate_text(&mut config, text)?;
+    Ok(outcomes.len())
+}
+
+fn rounds_once(alloc: Global, text: &str) -> Option<usize>
+    ensures { IfSome result (HasRounds text.now) }
+{
+    match rounds(alloc, text) {
+        Ok(count) => Some(count),
+        Err(_) => None,
+    }
+}
+
+/// The same once, and then as often again as `more` says: each time the text is read, too.
+pub(crate) fn negotiated(alloc: Global, text: &[u8], more: u32) -> Option<usize>
+    ensures { IfSome result (HasRounds text.now) }
+{
+    match str::from_utf8(text) {
+        Ok(text) => {
+            for _ in 0..more {
+                let _ = rounds_once(alloc, text);
+            }
+            rounds_once(alloc, text)
+        }
+        Err(_) => None,
+    }
+}

@@ -1,0 +1,87 @@
+//! What is done with a description.
+
+ghost use Rattle.bench_calls.specs.Answers.{sections, text_length};
+
+use crate::task::Task;
+use std::alloc::AllocError;
+use str0m_signal::{SdpError, SdpOffer};
+
+/// Nothing but one byte, which is given back: who counts allocations sees by it where the reading has ended. Answers how many
+/// sections there are.
+pub(crate) struct Mark;
+
+impl Task for Mark {
+    ghost answer = { sections };
+
+    fn run(offer: &SdpOffer) -> Result<usize, AllocError> {
+        let sections = &offer.media_lines;
+        let _mark = Box::new(*sections.allocator(), 0u8)?;
+        Ok(sections.len())
+    }
+}
+
+/// The rows of each section. Answers how many sections there are.
+pub(crate) struct Rows;
+
+impl Task for Rows {
+    ghost answer = { sections };
+
+    fn run(offer: &SdpOffer) -> Result<usize, AllocError> {
+        for section in offer.media_lines.as_slice() {
+            let _made = section.rtp_params()?;
+        }
+        Ok(offer.media_lines.len())
+    }
+}
+
+/// What is said of the sources of each section. Answers how many sections there are.
+pub(crate) struct Sources;
+
+impl Task for Sources {
+    ghost answer = { sections };
+
+    fn run(offer: &SdpOffer) -> Result<usize, AllocError> {
+        for section in offer.media_lines.as_slice() {
+            let _made = section.ssrc_info()?;
+        }
+        Ok(offer.media_lines.len())
+    }
+}
+
+/// The candidates of the session and of the sections, each once, to the last. Answers how many sections there are.
+pub(crate) struct Candidates;
+
+impl Task for Candidates {
+    ghost answer = { sections };
+
+    fn run(offer: &SdpOffer) -> Result<usize, AllocError> {
+        let _last = offer.ice_candidates()?.last();
+        Ok(offer.media_lines.len())
+    }
+}
+
+/// Whether the description contradicts itself is asked. Answers how many sections there are.
+pub(crate) struct Consistency;
+
+impl Task for Consistency {
+    ghost answer = { sections };
+
+    fn run(offer: &SdpOffer) -> Result<usize, AllocError> {
+        match offer.assert_consistency() {
+            Err(SdpError::Memory) => Err(AllocError),
+            _ => Ok(offer.media_lines.len()),
+        }
+    }
+}
+
+/// The printed text. Answers how many bytes it has.
+pub(crate) struct Print;
+
+impl Task for Print {
+    ghost answer = { text_length };
+
+    fn run(offer: &SdpOffer) -> Result<usize, AllocError> {
+        let text = offer.to_sdp_string()?;
+        Ok(text.len())
+    }
+}

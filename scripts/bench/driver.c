@@ -1,0 +1,166 @@
+// Times calls on texts, in one process:   driver BATCHES CALL,CALL.. FILE..
+//
+// The first line says how many nanoseconds a step of a fixed loop takes. Behind it stands a line for each file and call: the
+// file, the call, nanoseconds, allocations, bytes held when the last of them was made, and the most bytes held at once; 'refused'
+// where the text wasn't read. A time is the least of so many batches, by the clock of the thread, so that other work beside it
+// counts little.
+#include "calls.h"
+#include "counted.h"
+
+#include <inttypes.h>
+#include <stdio.h>
+#include <stdlib.h>
+#include <string.h>
+#include <time.h>
+
+static const double BATCH = 10e6; // nanoseconds that a batch takes at least, where one call takes less
+static int batches = 1;
+
+typedef uint64_t (*run)(const uint8_t *, size_t, uint32_t);
+
+struct call {
+    const char *name;
+    run run;
+    int reads_once; // (then the reading isn't counted)
+};
+
+struct text {
+    uint8_t *bytes;
+    size_t length;
+};
+
+static uint64_t read_again(const uint8_t *text, size_t length, uint32_t more)
+{
+    for (uint32_t i = 0; i < more; i++)
+        if (bench_read(text, length) == UINT64_MAX)
+            return UINT64_MAX;
+    return bench_read(text, length);
+}
+
+static const struct call CALLS[] = {
+    {"read", read_again, 0},
+    {"rows", bench_rows, 1},
+    {"negotiate", bench_negotiate, 0},
+    {"print", bench_print, 1},
+    {"sources", bench_sources, 1},
+    {"candidates", bench_candidates, 1},
+    {"consistency", bench_consistency, 1},
+#ifdef HAS_GSTREAMER
+    {"gstreamer", gstreamer_read, 0},
+#endif
+#ifdef HAS_SOFIA
+    {"sofia", sofia_read, 0},
+#endif
+};
+
+static double now(void)
+{
+    struct timespec at;
+    clock_gettime(CLOCK_THREAD_CPUTIME_ID, &at);
+    return at.tv_sec * 1e9 + at.tv_nsec;
+}
+
+static double taken(const struct call *call, struct text text, uint32_t more)
+{
+    double begin = now();
+    if (call->run(text.bytes, text.length, more) == UINT64_MAX)
+        return -1;
+    return now() - begin;
+}
+
+// Nanoseconds of one call, the least of some batches; below 0 where the text isn't read.
+static double least(const struct call *call, struct text text)
+{
+    double once = taken(call, text, 1), best = -1;
+    if (once < 0)
+        return -1;
+    double times = 2 * BATCH / once;
+    uint32_t more = times < 2 ? 2 : times > 1e5 ? 100000 : (uint32_t)times;
+    for (int i = 0; i < batches; i++) {
+        double all = taken(call, text, more);
+        double one = call->reads_once ? (all - taken(call, text, 0)) / more : all / (more + 1);
+        if (best < 0 || one < best)
+            best = one < 0 ? 0 : one;
+    }
+    return best;
+}
+
+volatile uint64_t kept; // (so that no compiler leaves the loop out)
+
+// Nanoseconds of a step of a loop that is the same on every machine: a generator of random numbers.
+static double loop(void)
+{
+    enum { STEPS = 20000000 };
+    double best = -1;
+    for (int i = 0; i < batches; i++) {
+        uint64_t x = 88172645463325252u;
+        double begin = now();
+        for (int step = 0; step < STEPS; step++) {
+            x ^= x << 13;
+            x ^= x >> 7;
+            x ^= x << 17;
+        }
+        kept = x;
+        double one = (now() - begin) / STEPS;
+        if (best < 0 || one < best)
+            best = one;
+    }
+    return best;
+}
+
+static struct text text_of(const char *path)
+{
+    FILE *file = fopen(path, "rb");
+    if (!file || fseek(file, 0, SEEK_END) != 0)
+        exit((perror(path), 1));
+    struct text text = {NULL, (size_t)ftell(file)};
+    rewind(file);
+    text.bytes = malloc(text.length + 1);
+    if (!text.bytes || fread(text.bytes, 1, text.length, file) != text.length)
+        exit((perror(path), 1));
+    text.bytes[text.length] = 0;
+    fclose(file);
+    return text;
+}
+
+static void show(const char *path, const struct call *call, struct text text)
+{
+    count_begin();
+    uint64_t answer = call->run(text.bytes, text.length, 0);
+    struct counted counted = count_end();
+    if (answer == UINT64_MAX) {
+        printf("%s\t%s\trefused\n", path, call->name);
+        return;
+    }
+    double time = least(call, text);
+    printf("%s\t%s\t%.1f\t%ld\t%ld\t%ld\n", path, call->name, time, counted.allocations, counted.last, counted.peak);
+    fflush(stdout);
+}
+
+// Whether a name stands between commas in a list.
+static int is_listed(const char *name, const char *list)
+{
+    size_t length = strlen(name);
+    for (const char *at = list; at; at = strchr(at, ',') ? strchr(at, ',') + 1 : NULL)
+        if (strncmp(at, name, length) == 0 && (at[length] == ',' || at[length] == 0))
+            return 1;
+    return 0;
+}
+
+int main(int count, char **words)
+{
+    if (count < 3) {
+        fprintf(stderr, "usage: driver BATCHES CALL,CALL.. FILE..\n");
+        return 2;
+    }
+    batches = atoi(words[1]);
+    printf("loop\t%.3f\n", loop());
+    for (int i = 3; i < count; i++) {
+        struct text text = text_of(words[i]);
+        for (size_t j = 0; j < sizeof CALLS / sizeof *CALLS; j++)
+            if (is_listed(CALLS[j].name, words[2]))
+                show(words[i], &CALLS[j], text);
+        free(text.bytes);
+    }
+    return 0;
+}
