@@ -8,6 +8,7 @@ pub mod FmtpLaws
 pub mod FormLaws
 pub mod Formats
 pub mod HeaderLaws
+pub mod LineEndLaws
 pub mod LineLaws
 pub mod Mapped
 pub mod MediaLaws

@@ -1,23 +1,21 @@
 -- `lines_of` gives the lines of a text, and no others are.
-use Rattle.std.proofs.Common.{◌≡◌, ◌≢◌, ◌⊎◌, ℕ, ◌<◌, ◌+◌, true, false, cond, eqb, List, [], ◌∷◌, ◌++◌, length, Option, Some, None, refl, sym, ap, ◌∙◌, arith, inl, inr, append_assoc}
+use Rattle.std.proofs.Common.{◌≡◌, ◌≢◌, ◌⊎◌, ℕ, ◌<◌, ◌+◌, true, false, cond, eqb, List, [], ◌∷◌, ◌++◌, length, Option, Some, None, refl, sym, ap, ◌∙◌, arith, inl, inr}
 use Rattle.std.proofs.lemmas.Bool.{eqb-true, ne_eqb, cases_eq, cases_Bool, both_ways, and_parts, and_left, and_right}
-use Rattle.std.proofs.lemmas.List.{append-nil}
 use Rattle.std.proofs.Common.{take, ◌-◌}
 use Rattle.std.specs.Prelude.{MatchOption, unwrap_or}
 use Rattle.std.specs.Borrow.{Bor}
 use Rattle.std.specs.Str.Pattern.{FindsCharSuffix}
 use Rattle.std.proofs.lemmas.Option.{some_pair_parts}
 use Rattle.std.proofs.lemmas.Str.Pattern.{strip_suffix_char}
-use Rattle.str0m_values.proofs.CutLaws.{lacks_true, lacks_from, Lacks-append}
+use Rattle.str0m_values.proofs.CutLaws.{lacks_true, lacks_from}
 use Rattle.std.specs.Prelude.{codes}
 use Rattle.str0m_values.specs.Cuts.{strip, ◌>>=◌}
 use Rattle.str0m_signal.specs.Lines.{IsAttributeLine, OneLine}
 use Rattle.str0m_signal.specs.LineReading.{read_attribute, line_read}
 use Rattle.str0m_values.proofs.CutLaws.{strip_found}
 use Rattle.str0m_values.proofs.BothWays.{Reads, bind_some, if_some}
-use Rattle.str0m_values.specs.Parts.{Lacks, IsRest}
 use Rattle.str0m_signal.specs.Lines.{Line, joined, EndsIn, IsLine, AreLines, Lines}
-use Rattle.str0m_signal.specs.LineReading.{is_crlf, longer, behind_first, line_from, lines_of, first_line}
+use Rattle.str0m_signal.specs.LineReading.{is_crlf, longer, behind_first, line_from, lines_of}
 use Rattle.str0m_values.specs.Cuts.{lacks}
 
 cons_parts : (x y : ℕ) (xs ys : List ℕ) → x ∷ xs ≡ y ∷ ys → (x ≡ y) × (xs ≡ ys)
@@ -51,7 +49,7 @@ at_lf xs lines = refl
 at_crlf : (x : ℕ) (xs : List ℕ) (lines : List Line) → x ≢ 10 → is_crlf x xs ≡ true → line_from x xs lines ≡ record { content = []; ending = 13 ∷ 10 ∷ [] } ∷ behind_first lines
 at_crlf x xs lines other e = rw (ne_eqb x 10 other, e) refl
 
-at_other : (x : ℕ) (xs : List ℕ) (lines : List Line) → x ≢ 10 → is_crlf x xs ≡ false → line_from x xs lines ≡ longer x lines
+pub at_other : (x : ℕ) (xs : List ℕ) (lines : List Line) → x ≢ 10 → is_crlf x xs ≡ false → line_from x xs lines ≡ longer x lines
 at_other x xs lines other e = rw (ne_eqb x 10 other, e) refl
 
 joined_longer : (x : ℕ) (lines : List Line) → joined (longer x lines) ≡ x ∷ joined lines
@@ -182,39 +180,10 @@ lines_only text lines h = ap lines_of h.0 ∙ lines_of_joined lines h.1
 pub line_here : (text : List ℕ) (line : Line) (rest : List ℕ) → text ≡ line.content ++ (line.ending ++ rest) → IsLine line rest → lines_of text ≡ line ∷ lines_of rest
 line_here text line rest e h = ap lines_of e ∙ at_content line.content line.ending rest h
 
-first_is : (text : List ℕ) (line : Line) (rest : List ℕ) → text ≡ line.content ++ (line.ending ++ rest) → IsLine line rest → Some (line.content, lines_of rest) ≡ first_line (lines_of text)
-first_is text line rest e h = sym (ap first_line (line_here text line rest e h))
-
--- what is cut at LF
-pub first_at_lf : (text a content rest : List ℕ) → text ≡ a ++ (10 ∷ rest) → Lacks 10 a → (a ≡ content ++ (13 ∷ [])) ⊎ ((content ≡ a) × (EndsIn 13 a → ⊥)) → Some (content, lines_of rest) ≡ first_line (lines_of text)
-first_at_lf text a content rest e h cases =
-    elim cases [
-      | inl crlf ↦
-          let whole : text ≡ content ++ (13 ∷ 10 ∷ rest) = e ∙ ap (λ (t : List ℕ). t ++ (10 ∷ rest)) crlf ∙ append_assoc content (13 ∷ []) (10 ∷ rest) in
-          let inside : Lacks 10 content = Lacks-append 10 content (13 ∷ []) (rw (← crlf) h) in
-          first_is text (record { content = content; ending = 13 ∷ 10 ∷ [] }) rest whole (record { inside = inside; ends = inr (inl refl) })
-      | inr lf ↦
-          let whole : text ≡ content ++ (10 ∷ rest) = e ∙ ap (λ (t : List ℕ). t ++ (10 ∷ rest)) (sym lf.0) in
-          first_is text (record { content = content; ending = 10 ∷ [] }) rest whole (record { inside = rw lf.0 h; ends = inl (refl, rw lf.0 lf.1) })
-    ]
-
--- the last line has no end
-pub first_at_end : (text : List ℕ) → Lacks 10 text → IsRest text → Some (text, lines_of []) ≡ first_line (lines_of text)
-first_at_end text h rest = first_is text (record { content = text; ending = [] }) [] (sym (append-nil text)) (record { inside = h; ends = inr (inr (refl, refl, rest)) })
-
 pub without_suffix : (c : ℕ) → c < 128 → (line : Bor (List ℕ)) (r : Option (Bor (List ℕ))) → MatchOption r (FindsCharSuffix c line.now None) (λ x. (n : ℕ) × FindsCharSuffix c line.now (Some n) × (x.now ≡ take (length line.now - n) line.now) × (length x.now + n ≡ length line.now))
     → (line.now ≡ (unwrap_or r line).now ++ (c ∷ [])) ⊎ (((unwrap_or r line).now ≡ line.now) × (EndsIn c line.now → ⊥))
 without_suffix c low line None h = inr (refl, λ e. strip_suffix_char c line.now None h low e.0 e.1)
 without_suffix c low line (Some x) h = inl (strip_suffix_char c line.now (Some x) h low)
-
-pub first_of_none : (text : List ℕ) → eqb (length text) 0 ≡ true → None ≡ first_line (lines_of text)
-unfolding lines_of
-first_of_none [] e = refl
-first_of_none (x ∷ xs) e = absurd (omega (arith, eqb-true (length (x ∷ xs)) 0 e))
-
-pub rest_from : (text : List ℕ) → eqb (length text) 0 ≡ false → IsRest text
-rest_from [] e = absurd cc
-rest_from (x ∷ xs) e = omega arith
 
 -- ---- the first line, as a relation
 

@@ -1,5 +1,5 @@
 -- A section's attribute is read exactly where its form holds.
-use Rattle.std.proofs.Common.{◌≡◌, ℕ, true, List, ◌++◌, length, Option, Some, refl, sym, ap, ◌∙◌, inl, inr}
+use Rattle.std.proofs.Common.{◌≡◌, ℕ, Bool, true, false, cond, eqb, List, ◌++◌, length, Option, Some, None, refl, sym, ap, ◌∙◌, inl, inr}
 use Rattle.std.specs.Prelude.{codes}
 use Rattle.std.specs.Str.{bytes_eq}
 use Rattle.std.proofs.lemmas.Bool.{ltb-true}
@@ -29,7 +29,7 @@ use Rattle.str0m_signal.specs.MediaAttribute.{Named, IsUnused, MediaForm, IsMedi
 use Rattle.str0m_values.specs.Cuts.{◌>>=◌, ◌<|>◌, strip, when, is_rest, num}
 use Rattle.str0m_formats.specs.declared.format_param.FormatParam.{FormatParam}
 use Rattle.str0m_signal.specs.FmtpReading.{fmtp_fields_read}
-use Rattle.str0m_signal.specs.MediaAttributeReading.{words_read, texts_read, numbers_read, candidate_form_read, fingerprint_form_read, fmtp_read, role_read, setup_read, mid_read, rtpmap_read, plain_read, rid_read, simulcast_read, fields_read, held_read, named_read, media_read}
+use Rattle.str0m_signal.specs.MediaAttributeReading.{words_read, ice_read, rtcp_read, sctp_port_read, sctp_init_read, max_message_size_read, candidate_form_read, fingerprint_form_read, fmtp_read, role_read, setup_read, mid_read, rtpmap_read, rid_read, simulcast_read, first_byte, with_e_read, with_f_read, with_i_read, with_m_read, with_r_read, with_s_read, with_letter_read, named_read, media_read}
 use Rattle.str0m_signal.specs.RtpMapReading.{rtpmap_fields_read}
 use Rattle.str0m_signal.proofs.RtpMapLaws.{rtpmap_fields_both}
 use Rattle.str0m_values.specs.ShortText.{beginning_of}
@@ -44,6 +44,10 @@ use Rattle.str0m_values.proofs.BothWays.{Sound, Reads, or_some, bind_some, some_
 
 -- ---- what is read has its form
 
+sound_if : {f g : List ℕ → Option MediaAttribute} (test : Bool) → Sound Named f → Sound Named g → Sound Named (λ text. cond test (f text) (g text))
+sound_if true p q = p
+sound_if false p q = q
+
 words_sound : Sound Named words_read
 words_sound =
     sound_or (word_sound (codes "recvonly") RecvOnly refl)
@@ -55,18 +59,23 @@ words_sound =
     (sound_or (word_sound (codes "rtcp-rsize") RtcpRsize refl)
     (word_sound (codes "end-of-candidates") EndOfCandidates refl)))))))
 
-texts_sound : Sound Named texts_read
-texts_sound =
-    sound_or (form_sound Rtcp (behind_both (codes "rtcp:") text_both) (λ text x h. h))
-    (sound_or (form_sound IceUfrag (behind_both (codes "ice-ufrag:") text_both) (λ text x h. h))
+ice_sound : Sound Named ice_read
+ice_sound =
+    sound_or (form_sound IceUfrag (behind_both (codes "ice-ufrag:") text_both) (λ text x h. h))
     (sound_or (form_sound IcePwd (behind_both (codes "ice-pwd:") text_both) (λ text x h. h))
-    (sound_or (form_sound IceOptions (behind_both (codes "ice-options:") text_both) (λ text x h. h))
-    (form_sound SctpInit (behind_both (codes "sctp-init:") text_both) (λ text x h. h)))))
+    (form_sound IceOptions (behind_both (codes "ice-options:") text_both) (λ text x h. h)))
 
-numbers_sound : Sound Named numbers_read
-numbers_sound =
-    sound_or (form_sound SctpPort (behind_both (codes "sctp-port:") (num_both 65535)) (λ text x h. h))
-    (form_sound MaxMessageSize (behind_both (codes "max-message-size:") (num_both 18446744073709551615)) (λ text x h. h))
+rtcp_sound : Sound Named rtcp_read
+rtcp_sound = form_sound Rtcp (behind_both (codes "rtcp:") text_both) (λ text x h. h)
+
+sctp_port_sound : Sound Named sctp_port_read
+sctp_port_sound = form_sound SctpPort (behind_both (codes "sctp-port:") (num_both 65535)) (λ text x h. h)
+
+sctp_init_sound : Sound Named sctp_init_read
+sctp_init_sound = form_sound SctpInit (behind_both (codes "sctp-init:") text_both) (λ text x h. h)
+
+max_message_size_sound : Sound Named max_message_size_read
+max_message_size_sound = form_sound MaxMessageSize (behind_both (codes "max-message-size:") (num_both 18446744073709551615)) (λ text x h. h)
 
 candidate_sound : Sound Named candidate_form_read
 candidate_sound = form_sound Candidate candidate_both (λ text x h. h)
@@ -152,29 +161,52 @@ ssrc_group_sound = form_sound (λ p. SsrcGroup p.0 p.1) (behind_both (codes "ssr
 fingerprint_sound : Sound Named fingerprint_form_read
 fingerprint_sound = form_sound Fingerprint fingerprint_both (λ text x h. h)
 
-plain_sound : Sound Named plain_read
-plain_sound = sound_or words_sound (sound_or setup_sound (sound_or mid_sound (sound_or numbers_sound rtpmap_sound)))
-
 rid_sound : Sound Named rid_read
 rid_sound = form_sound (λ p. Rid p.0 p.1.0 p.1.1.0 p.1.1.1) (behind_both (codes "rid:") rid_fields_both) (λ text p h. h)
 
 simulcast_sound : Sound Named simulcast_read
 simulcast_sound = form_sound Simulcast (behind_both (codes "simulcast:") simulcast_fields_both) (λ text x h. h)
 
-fields_sound : Sound Named fields_read
-fields_sound =
-    sound_or ext_map_sound
-    (sound_or msid_sound
-    (sound_or rtcp_fb_sound
-    (sound_or ssrc_sound
-    (sound_or ssrc_group_sound
-    (sound_or rid_sound simulcast_sound)))))
+with_e_sound : Sound Named with_e_read
+with_e_sound = sound_or ext_map_sound words_sound
 
-held_sound : Sound Named held_read
-held_sound = sound_or texts_sound (sound_or candidate_sound (sound_or fields_sound (sound_or fingerprint_sound fmtp_sound)))
+with_f_sound : Sound Named with_f_read
+with_f_sound = sound_or fmtp_sound fingerprint_sound
+
+with_i_sound : Sound Named with_i_read
+with_i_sound = sound_or ice_sound words_sound
+
+with_m_sound : Sound Named with_m_read
+with_m_sound = sound_or mid_sound (sound_or msid_sound max_message_size_sound)
+
+with_r_sound : Sound Named with_r_read
+with_r_sound = sound_or rtpmap_sound (sound_or rtcp_fb_sound (sound_or rid_sound (sound_or rtcp_sound words_sound)))
+
+with_s_sound : Sound Named with_s_read
+with_s_sound =
+    sound_or ssrc_sound
+    (sound_or setup_sound
+    (sound_or ssrc_group_sound
+    (sound_or simulcast_sound
+    (sound_or sctp_port_sound
+    (sound_or sctp_init_sound words_sound)))))
+
+none_sound : Sound Named (λ _. None)
+none_sound = record { law = λ text x e. absurd cc }
+
+-- the forms that are asked, whichever letter it is
+with_letter_sound : (letter : ℕ) → Sound Named (with_letter_read letter)
+with_letter_sound letter =
+    sound_if (eqb letter 99) candidate_sound
+    (sound_if (eqb letter 101) with_e_sound
+    (sound_if (eqb letter 102) with_f_sound
+    (sound_if (eqb letter 105) with_i_sound
+    (sound_if (eqb letter 109) with_m_sound
+    (sound_if (eqb letter 114) with_r_sound
+    (sound_if (eqb letter 115) with_s_sound none_sound))))))
 
 named_sound : Sound Named named_read
-named_sound = sound_or plain_sound held_sound
+named_sound = record { law = λ text x e. (with_letter_sound (first_byte text)).law text x e }
 
 -- ---- what has a form is read
 
@@ -198,7 +230,7 @@ rtpmap_named text pt value e more is =
 fmtp_named : (text : List ℕ) (pt : ℕ) (values : List FormatParam) → fmtp_fields_read text ≡ Some (pt, values) → (number more : List ℕ) → text ≡ codes "fmtp:" ++ (number ++ more) → named_read (codes "fmtp:" ++ (number ++ more)) ≡ Some (Fmtp pt values)
 fmtp_named text pt values e number more is =
     let here : fmtp_fields_read (codes "fmtp:" ++ (number ++ more)) ≡ Some (pt, values) = ap fmtp_fields_read (sym is) ∙ e in
-    ap (λ (o : Option (ℕ × List FormatParam)). o >>= λ fields. Some (Fmtp fields.0 fields.1)) here
+    ap (λ (o : Option (ℕ × List FormatParam)). (o >>= λ fields. Some (Fmtp fields.0 fields.1)) <|> fingerprint_form_read (codes "fmtp:" ++ (number ++ more))) here
 
 named_complete : (text : List ℕ) (x : MediaAttribute) → Named text x → named_read text ≡ Some x
 named_complete text (Rtcp value) h = ap named_read h.1 ∙ rw (text_both.complete h.0 value h.2) refl

@@ -1,6 +1,6 @@
 -- The lines of a text as a function.
-use Rattle.std.specs.Prelude.{◌≡◌, ℕ, Bool, false, codes, List, [], ◌∷◌, Option, Some, None, ◌==◌, ◌&&◌, if◌then◌else◌}
-use Rattle.str0m_values.specs.Cuts.{strip, lacks, ◌>>=◌}
+use Rattle.std.specs.Prelude.{◌≡◌, ◌⊎◌, ℕ, Bool, false, codes, List, [], ◌∷◌, length, Option, Some, None, ◌==◌, ◌&&◌, if◌then◌else◌}
+use Rattle.str0m_values.specs.Cuts.{strip, lacks, when, ◌>>=◌, ◌<|>◌}
 use Rattle.std.specs.Borrow.{Bor}
 use Rattle.str0m_signal.specs.Lines.{Line}
 use Rattle.str0m_signal.specs.Chains.{Stops}
@@ -27,9 +27,17 @@ unfoldable pub lines_of : List ℕ → List Line
 lines_of [] = []
 lines_of (x ∷ xs) = line_from x xs (lines_of xs)
 
-abbrev pub first_line : List Line → Option (List ℕ × List Line)
-first_line [] = None
-first_line (line ∷ lines) = Some (line.content, lines)
+-- the text is at its end, at a line feed or at a carriage return
+abbrev pub IsAtEnd : List ℕ → Type 0
+IsAtEnd [] = Unit {0}
+IsAtEnd (x ∷ xs) = (x ≡ 10) ⊎ (x ≡ 13)
+
+-- what follows the line's end that stands there
+abbrev pub behind_end : List ℕ → Option (List ℕ)
+behind_end text =
+    strip (13 ∷ 10 ∷ []) text
+    <|> strip (10 ∷ []) text
+    <|> when (length text == 0) text
 
 -- the first line, if it holds no CR, and the lines behind it
 abbrev pub plain_line : List Line → Option (List ℕ × List Line)

@@ -1,5 +1,5 @@
 -- Reading of a section's attribute as a function.
-use Rattle.std.specs.Prelude.{ℕ, List, Option, Some, codes}
+use Rattle.std.specs.Prelude.{ℕ, List, [], ◌∷◌, Option, Some, None, codes, ◌==◌, if◌then◌else◌}
 use Rattle.std.specs.Str.{bytes_eq}
 use Rattle.str0m_sdp.specs.declared.setup.Setup.{Setup as Role}
 use Rattle.str0m_sdp.specs.declared.setup.Setup.TheVariants.{ActPass, Active, Passive}
@@ -27,20 +27,23 @@ words_read text =
     <|> alone (codes "rtcp-rsize") RtcpRsize text
     <|> alone (codes "end-of-candidates") EndOfCandidates text
 
--- the attributes that are a label and a text
-abbrev pub texts_read : List ℕ → Option MediaAttribute
-texts_read text =
-    (behind (codes "rtcp:") text_read text >>= λ value. Some (Rtcp value))
-    <|> (behind (codes "ice-ufrag:") text_read text >>= λ value. Some (IceUfrag value))
+abbrev pub ice_read : List ℕ → Option MediaAttribute
+ice_read text =
+    (behind (codes "ice-ufrag:") text_read text >>= λ value. Some (IceUfrag value))
     <|> (behind (codes "ice-pwd:") text_read text >>= λ value. Some (IcePwd value))
     <|> (behind (codes "ice-options:") text_read text >>= λ value. Some (IceOptions value))
-    <|> (behind (codes "sctp-init:") text_read text >>= λ value. Some (SctpInit value))
 
--- the attributes that are a label and a number
-abbrev pub numbers_read : List ℕ → Option MediaAttribute
-numbers_read text =
-    (behind (codes "sctp-port:") (num 65535) text >>= λ port. Some (SctpPort port))
-    <|> (behind (codes "max-message-size:") (num 18446744073709551615) text >>= λ size. Some (MaxMessageSize size))
+abbrev pub rtcp_read : List ℕ → Option MediaAttribute
+rtcp_read text = behind (codes "rtcp:") text_read text >>= λ value. Some (Rtcp value)
+
+abbrev pub sctp_port_read : List ℕ → Option MediaAttribute
+sctp_port_read text = behind (codes "sctp-port:") (num 65535) text >>= λ port. Some (SctpPort port)
+
+abbrev pub sctp_init_read : List ℕ → Option MediaAttribute
+sctp_init_read text = behind (codes "sctp-init:") text_read text >>= λ value. Some (SctpInit value)
+
+abbrev pub max_message_size_read : List ℕ → Option MediaAttribute
+max_message_size_read text = behind (codes "max-message-size:") (num 18446744073709551615) text >>= λ size. Some (MaxMessageSize size)
 
 abbrev pub fingerprint_form_read : List ℕ → Option MediaAttribute
 fingerprint_form_read text = fingerprint_read text >>= λ hash. Some (Fingerprint hash)
@@ -71,43 +74,61 @@ rtpmap_read text = rtpmap_fields_read text >>= λ fields. Some (RtpMap fields.0 
 abbrev pub fmtp_read : List ℕ → Option MediaAttribute
 fmtp_read text = fmtp_fields_read text >>= λ fields. Some (Fmtp fields.0 fields.1)
 
--- the forms that take no memory
-abbrev pub plain_read : List ℕ → Option MediaAttribute
-plain_read text =
-    words_read text
-    <|> setup_read text
-    <|> mid_read text
-    <|> numbers_read text
-    <|> rtpmap_read text
-
 abbrev pub simulcast_read : List ℕ → Option MediaAttribute
 simulcast_read text = behind (codes "simulcast:") simulcast_fields_read text >>= λ simulcast. Some (Simulcast simulcast)
 
 abbrev pub rid_read : List ℕ → Option MediaAttribute
 rid_read text = behind (codes "rid:") rid_fields_read text >>= λ f. Some (Rid f.0 f.1.0 f.1.1.0 f.1.1.1)
 
--- the forms of fields
-abbrev pub fields_read : List ℕ → Option MediaAttribute
-fields_read text =
-    ext_map_read text
-    <|> msid_read text
-    <|> rtcp_fb_read text
-    <|> ssrc_read text
-    <|> ssrc_group_read text
-    <|> rid_read text
-    <|> simulcast_read text
+-- the forms whose names begin with a letter
+abbrev pub with_e_read : List ℕ → Option MediaAttribute
+with_e_read text = ext_map_read text <|> words_read text
 
--- the forms of which something is kept
-abbrev pub held_read : List ℕ → Option MediaAttribute
-held_read text =
-    texts_read text
-    <|> candidate_form_read text
-    <|> fields_read text
-    <|> fingerprint_form_read text
-    <|> fmtp_read text
+abbrev pub with_f_read : List ℕ → Option MediaAttribute
+with_f_read text = fmtp_read text <|> fingerprint_form_read text
+
+abbrev pub with_i_read : List ℕ → Option MediaAttribute
+with_i_read text = ice_read text <|> words_read text
+
+abbrev pub with_m_read : List ℕ → Option MediaAttribute
+with_m_read text = mid_read text <|> msid_read text <|> max_message_size_read text
+
+abbrev pub with_r_read : List ℕ → Option MediaAttribute
+with_r_read text =
+    rtpmap_read text
+    <|> rtcp_fb_read text
+    <|> rid_read text
+    <|> rtcp_read text
+    <|> words_read text
+
+abbrev pub with_s_read : List ℕ → Option MediaAttribute
+with_s_read text =
+    ssrc_read text
+    <|> setup_read text
+    <|> ssrc_group_read text
+    <|> simulcast_read text
+    <|> sctp_port_read text
+    <|> sctp_init_read text
+    <|> words_read text
+
+abbrev pub first_byte : List ℕ → ℕ
+first_byte [] = 0
+first_byte (x ∷ xs) = x
+
+-- the forms whose names begin with this letter
+abbrev pub with_letter_read : ℕ → List ℕ → Option MediaAttribute
+with_letter_read letter text =
+    if letter == 99 then candidate_form_read text
+    else if letter == 101 then with_e_read text
+    else if letter == 102 then with_f_read text
+    else if letter == 105 then with_i_read text
+    else if letter == 109 then with_m_read text
+    else if letter == 114 then with_r_read text
+    else if letter == 115 then with_s_read text
+    else None
 
 abbrev pub named_read : List ℕ → Option MediaAttribute
-named_read text = plain_read text <|> held_read text
+named_read text = with_letter_read (first_byte text) text
 
 abbrev pub media_read : List ℕ → Option MediaAttribute
 media_read text = named_read text <|> when (is_rest text) (Unused text)

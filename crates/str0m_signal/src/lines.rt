@@ -1,41 +1,50 @@
 //! The lines of a text.
 
-ghost use Rattle.std.specs.Prelude.{◌≡◌, ◌⊎◌, ◌++◌, ◌∷◌, [], option_map};
-ghost use Rattle.str0m_signal.specs.Lines.{EndsIn};
-ghost use Rattle.str0m_signal.specs.LineReading.{lines_of, first_line, plain_line, both_left};
+ghost use Rattle.std.specs.Prelude.{◌≡◌, ◌++◌, option_map};
+ghost use Rattle.str0m_values.specs.Parts.{Lacks};
+ghost use Rattle.str0m_signal.specs.LineReading.{lines_of, plain_line, behind_end, IsAtEnd, both_left};
 
-use str0m_values::Separator;
-use str0m_values::cuts::{cut, has};
+use memchr::memchr2;
+use str0m_values::cuts::strip;
 
-/// The line without the carriage return at its end.
-fn without_return(line: &str) -> &str
-    ensures { (line.now ≡ result.now ++ 13 ∷ [])
-        ⊎ ((result.now ≡ line.now) × (EndsIn 13 line.now → ⊥)) }
+/// The text before its first line feed or carriage return, and the text from there on.
+fn cut_at_end(text: &str) -> (&str, &str)
+    ensures whole { text.now ≡ result.0.now ++ result.1.now }
+    ensures no_feed { Lacks 10 result.0.now }
+    ensures no_return { Lacks 13 result.0.now }
+    ensures stops { IsAtEnd result.1.now }
 {
-    line.strip_suffix('\r').unwrap_or(line)
+    match memchr2(b'\n', b'\r', text.as_bytes()) {
+        Some(at) => text.split_at(at),
+        None => text.split_at(text.len()),
+    }
 }
 
-/// The first line, without its end, and what follows it.
-fn first_line(text: &str) -> Option<(&str, &str)>
-    ensures { option_map both_left result ≡ first_line (lines_of text.now) }
+/// What follows the line's end that the text begins with; at the end of the text there is none. A carriage return alone
+/// ends no line.
+fn behind_end(text: &str) -> Option<&str>
+    ensures { option_map (λ x. x.now) result ≡ behind_end text.now }
+{
+    if let Some(rest) = strip(text, "\r\n") {
+        return Some(rest);
+    }
+    if let Some(rest) = strip(text, "\n") {
+        return Some(rest);
+    }
+    if text.is_empty() { Some(text) } else { None }
+}
+
+/// The first line, without its end, and what follows it. A line that holds a carriage return fits no form, so nobody
+/// needs to know where it ends.
+pub(crate) fn plain_line(text: &str) -> Option<(&str, &str)>
+    ensures { option_map both_left result ≡ plain_line (lines_of text.now) }
 {
     if text.is_empty() {
         return None;
     }
-    match cut(text, Separator::LineFeed) {
-        Some((line, rest)) => Some((without_return(line), rest)),
-        None => Some((text, &text[text.len()..])),
-    }
-}
-
-/// The first line and what follows it. A line that holds a carriage return fits no form.
-pub(crate) fn plain_line(text: &str) -> Option<(&str, &str)>
-    ensures { option_map both_left result ≡ plain_line (lines_of text.now) }
-{
-    let (line, rest) = first_line(text)?;
-    if has(line, Separator::CarriageReturn) {
-        None
-    } else {
-        Some((line, rest))
+    let (line, end) = cut_at_end(text);
+    match behind_end(end) {
+        Some(rest) => Some((line, rest)),
+        None => None,
     }
 }

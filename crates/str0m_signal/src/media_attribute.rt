@@ -2,7 +2,7 @@
 
 ghost use Rattle.std.specs.Prelude.{◌≡◌, IfOk};
 ghost use Rattle.str0m_signal.specs.MediaAttribute.{IsMediaLine};
-ghost use Rattle.str0m_signal.specs.MediaAttributeReading.{words_read, texts_read, numbers_read, candidate_form_read, fingerprint_form_read, setup_read, mid_read, plain_read, fields_read, held_read, named_read, media_read};
+ghost use Rattle.str0m_signal.specs.MediaAttributeReading.{words_read, ice_read, rtcp_read, sctp_port_read, sctp_init_read, max_message_size_read, candidate_form_read, fingerprint_form_read, setup_read, mid_read, first_byte, with_e_read, with_f_read, with_i_read, with_m_read, with_r_read, with_s_read, named_read, media_read};
 ghost use Rattle.str0m_signal.specs.Chains.{Run};
 ghost use Rattle.str0m_signal.specs.Lines.{OneLine};
 ghost use Rattle.str0m_signal.specs.LineReading.{lines_of};
@@ -39,35 +39,50 @@ fn word(text: &str) -> Option<MediaAttribute>
     }
 }
 
-/// The attributes that are a label and a text.
-fn labelled_text(alloc: Global, text: &str) -> Result<Option<MediaAttribute>, AllocError>
-    ensures { IfOk result (λ found. found ≡ texts_read text.now) }
+/// The credentials of ICE and its options.
+fn ice(alloc: Global, text: &str) -> Result<Option<MediaAttribute>, AllocError>
+    ensures { IfOk result (λ found. found ≡ ice_read text.now) }
 {
-    if let Some(value) = kept(alloc, text, "rtcp:")? {
-        return Ok(Some(MediaAttribute::Rtcp(value)));
-    }
     if let Some(value) = kept(alloc, text, "ice-ufrag:")? {
         return Ok(Some(MediaAttribute::IceUfrag(value)));
     }
     if let Some(value) = kept(alloc, text, "ice-pwd:")? {
         return Ok(Some(MediaAttribute::IcePwd(value)));
     }
-    if let Some(value) = kept(alloc, text, "ice-options:")? {
-        return Ok(Some(MediaAttribute::IceOptions(value)));
+    match kept(alloc, text, "ice-options:")? {
+        Some(value) => Ok(Some(MediaAttribute::IceOptions(value))),
+        None => Ok(None),
     }
-    if let Some(value) = kept(alloc, text, "sctp-init:")? {
-        return Ok(Some(MediaAttribute::SctpInit(value)));
-    }
-    Ok(None)
 }
 
-/// The attributes that are a label and a number.
-fn labelled_number(text: &str) -> Option<MediaAttribute>
-    ensures { result ≡ numbers_read text.now }
+fn rtcp(alloc: Global, text: &str) -> Result<Option<MediaAttribute>, AllocError>
+    ensures { IfOk result (λ found. found ≡ rtcp_read text.now) }
 {
-    if let Some(body) = strip(text, "sctp-port:") {
-        return Some(MediaAttribute::SctpPort(num_u16(body)?));
+    match kept(alloc, text, "rtcp:")? {
+        Some(value) => Ok(Some(MediaAttribute::Rtcp(value))),
+        None => Ok(None),
     }
+}
+
+fn sctp_port(text: &str) -> Option<MediaAttribute>
+    ensures { result ≡ sctp_port_read text.now }
+{
+    let body = strip(text, "sctp-port:")?;
+    Some(MediaAttribute::SctpPort(num_u16(body)?))
+}
+
+fn sctp_init(alloc: Global, text: &str) -> Result<Option<MediaAttribute>, AllocError>
+    ensures { IfOk result (λ found. found ≡ sctp_init_read text.now) }
+{
+    match kept(alloc, text, "sctp-init:")? {
+        Some(value) => Ok(Some(MediaAttribute::SctpInit(value))),
+        None => Ok(None),
+    }
+}
+
+fn max_message_size(text: &str) -> Option<MediaAttribute>
+    ensures { result ≡ max_message_size_read text.now }
+{
     let body = strip(text, "max-message-size:")?;
     Some(MediaAttribute::MaxMessageSize(num_u64(body)?))
 }
@@ -107,76 +122,116 @@ fn mid(text: &str) -> Option<MediaAttribute>
     Some(MediaAttribute::Mid(short(name)))
 }
 
-/// The forms that take no memory.
-fn plain(text: &str) -> Option<MediaAttribute>
-    ensures { result ≡ plain_read text.now }
-{
-    if let Some(found) = word(text) {
-        return Some(found);
-    }
-    if let Some(found) = setup(text) {
-        return Some(found);
-    }
-    if let Some(found) = mid(text) {
-        return Some(found);
-    }
-    if let Some(found) = labelled_number(text) {
-        return Some(found);
-    }
-    rtp_map(text)
-}
-
-/// The forms of fields.
-fn fields(alloc: Global, text: &str) -> Result<Option<MediaAttribute>, AllocError>
-    ensures { IfOk result (λ found. found ≡ fields_read text.now) }
+/// The forms whose names begin with `e`.
+fn with_e(alloc: Global, text: &str) -> Result<Option<MediaAttribute>, AllocError>
+    ensures { IfOk result (λ found. found ≡ with_e_read text.now) }
 {
     if let Some(found) = ext_map(alloc, text)? {
+        return Ok(Some(found));
+    }
+    Ok(word(text))
+}
+
+/// The forms whose names begin with `f`.
+fn with_f(alloc: Global, text: &str) -> Result<Option<MediaAttribute>, AllocError>
+    ensures { IfOk result (λ found. found ≡ with_f_read text.now) }
+{
+    if let Some(found) = fmtp(alloc, text)? {
+        return Ok(Some(found));
+    }
+    fingerprint_form(alloc, text)
+}
+
+/// The forms whose names begin with `i`.
+fn with_i(alloc: Global, text: &str) -> Result<Option<MediaAttribute>, AllocError>
+    ensures { IfOk result (λ found. found ≡ with_i_read text.now) }
+{
+    if let Some(found) = ice(alloc, text)? {
+        return Ok(Some(found));
+    }
+    Ok(word(text))
+}
+
+/// The forms whose names begin with `m`.
+fn with_m(alloc: Global, text: &str) -> Result<Option<MediaAttribute>, AllocError>
+    ensures { IfOk result (λ found. found ≡ with_m_read text.now) }
+{
+    if let Some(found) = mid(text) {
         return Ok(Some(found));
     }
     if let Some(found) = msid(alloc, text)? {
         return Ok(Some(found));
     }
+    Ok(max_message_size(text))
+}
+
+/// The forms whose names begin with `r`.
+fn with_r(alloc: Global, text: &str) -> Result<Option<MediaAttribute>, AllocError>
+    ensures { IfOk result (λ found. found ≡ with_r_read text.now) }
+{
+    if let Some(found) = rtp_map(text) {
+        return Ok(Some(found));
+    }
     if let Some(found) = rtcp_fb(alloc, text)? {
-        return Ok(Some(found));
-    }
-    if let Some(found) = ssrc(alloc, text)? {
-        return Ok(Some(found));
-    }
-    if let Some(found) = ssrc_group(alloc, text)? {
         return Ok(Some(found));
     }
     if let Some(found) = rid(alloc, text)? {
         return Ok(Some(found));
     }
-    simulcast_line(alloc, text)
+    if let Some(found) = rtcp(alloc, text)? {
+        return Ok(Some(found));
+    }
+    Ok(word(text))
 }
 
-/// The forms of which something is kept that takes memory.
-fn held(alloc: Global, text: &str) -> Result<Option<MediaAttribute>, AllocError>
-    ensures { IfOk result (λ found. found ≡ held_read text.now) }
+/// The forms whose names begin with `s`.
+fn with_s(alloc: Global, text: &str) -> Result<Option<MediaAttribute>, AllocError>
+    ensures { IfOk result (λ found. found ≡ with_s_read text.now) }
 {
-    if let Some(found) = labelled_text(alloc, text)? {
+    if let Some(found) = ssrc(alloc, text)? {
         return Ok(Some(found));
     }
-    if let Some(found) = candidate_form(alloc, text)? {
+    if let Some(found) = setup(text) {
         return Ok(Some(found));
     }
-    if let Some(found) = fields(alloc, text)? {
+    if let Some(found) = ssrc_group(alloc, text)? {
         return Ok(Some(found));
     }
-    if let Some(found) = fingerprint_form(alloc, text)? {
+    if let Some(found) = simulcast_line(alloc, text)? {
         return Ok(Some(found));
     }
-    fmtp(alloc, text)
+    if let Some(found) = sctp_port(text) {
+        return Ok(Some(found));
+    }
+    if let Some(found) = sctp_init(alloc, text)? {
+        return Ok(Some(found));
+    }
+    Ok(word(text))
 }
 
+fn first_byte(text: &str) -> u8
+    ensures { result ≡ first_byte text.now }
+{
+    match text.as_bytes() {
+        [first, ..] => *first,
+        [] => 0,
+    }
+}
+
+/// The attribute whose form is named: only forms whose names begin as the text does are asked.
 fn named(alloc: Global, text: &str) -> Result<Option<MediaAttribute>, AllocError>
     ensures { IfOk result (λ found. found ≡ named_read text.now) }
 {
-    if let Some(found) = plain(text) {
-        return Ok(Some(found));
+    match first_byte(text) {
+        b'c' => candidate_form(alloc, text),
+        b'e' => with_e(alloc, text),
+        b'f' => with_f(alloc, text),
+        b'i' => with_i(alloc, text),
+        b'm' => with_m(alloc, text),
+        b'r' => with_r(alloc, text),
+        b's' => with_s(alloc, text),
+        _ => Ok(None),
     }
-    held(alloc, text)
 }
 
 impl Attribute for MediaAttribute {

@@ -35,12 +35,27 @@ pub(crate) fn described(alloc: Global, text: &str) -> Result<Sdp, SdpError>
     }
 }
 
+/// How many bytes of text a line takes, as a guess that most lines don't pass.
+const BYTES_OF_A_LINE: usize = 48;
+
+/// How many bytes the description takes where it is printed, as a guess: no answer depends on it.
+fn likely_length(sdp: &Sdp) -> usize {
+    let mut lines = sdp.session.attrs.as_slice().len().saturating_add(8);
+    for section in sdp.media_lines.as_slice() {
+        let more = section.attrs.as_slice().len().saturating_add(4);
+        lines = lines.saturating_add(more);
+    }
+    lines.saturating_mul(BYTES_OF_A_LINE)
+}
+
 /// The printed description.
 fn printed(sdp: &Sdp) -> Result<String, AllocError>
     ensures { IfOk result (λ text. string_bytes text ≡ sdp_text sdp.now) }
 {
     let alloc = *sdp.media_lines.allocator();
-    format!(in alloc; "{sdp}")
+    let mut text = String::with_capacity(alloc, likely_length(sdp))?;
+    write!(text, "{sdp}")?;
+    Ok(text)
 }
 
 impl Model for SdpOffer {
