@@ -1,10 +1,14 @@
 pub mod CodecNames
 pub mod Joined
+pub mod KeyedParams
 pub mod LineLaws
 pub mod Listed
 pub mod Lookup
+pub mod MergedKeys
+pub mod ModeBounds
 pub mod Modes
 pub mod Only
+pub mod PairsAgain
 pub mod PairsLaws
 pub mod ParamEqual
 pub mod ParamLaws

@@ -196,11 +196,11 @@ reads_all (f ∷ fs) p h single =
     ∙ ap (λ (t : List FormatParam). cons_option (param_at f p) [] ++ t) (reads_all fs p h k.1)
     ∙ cons_append (param_at f p) (filter_map (λ f. param_at f p) fs)
 
-unmarked : (pairs : List (List ℕ × List ℕ)) → has_mark pairs ≡ false → params_read pairs ≡ map param_of pairs
+pub unmarked : (pairs : List (List ℕ × List ℕ)) → has_mark pairs ≡ false → params_read pairs ≡ map param_of pairs
 unfolding params_read
 unmarked pairs e = rw e refl
 
-marked : (pairs : List (List ℕ × List ℕ)) → has_mark pairs ≡ true → merged pairs ≡ pairs → params_read pairs ≡ joined_read pairs
+pub marked : (pairs : List (List ℕ × List ℕ)) → has_mark pairs ≡ true → merged pairs ≡ pairs → params_read pairs ≡ joined_read pairs
 unfolding params_read
 marked pairs e same = rw (e, same) refl
 
@@ -262,7 +262,7 @@ apart level6.L6_1 = refl
 apart level6.L6_2 = refl
 apart level6.L6_3 = refl
 
-no_h265 : (profile tier : Option (List ℕ)) (b : H266Level) → h266.level_id b ≤ 255 → h265_read (profile, tier, Some (decimal (h266.level_id b))) ≡ None
+pub no_h265 : (profile tier : Option (List ℕ)) (b : H266Level) → h266.level_id b ≤ 255 → h265_read (profile, tier, Some (decimal (h266.level_id b))) ≡ None
 no_h265 profile tier b small =
     let texts : Texts = (profile, tier, Some (decimal (h266.level_id b))) in
     let printed = decimal_reads 255 (h266.level_id b) small (omega (arith, small)) in

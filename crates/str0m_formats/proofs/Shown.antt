@@ -57,7 +57,7 @@ all_modes_plain : below (λ mask. list_all is_plain (mode_list mask)) 512 ≡ tr
 unfolding below digits
 all_modes_plain = refl
 
-value_plain : (v : Value) → HasSmallLimit v → InRange v → IsPlain (value_text v)
+pub value_plain : (v : Value) → HasSmallLimit v → InRange v → IsPlain (value_text v)
 value_plain (flag true) small h = plain_from (codes "1") refl
 value_plain (flag false) small h = plain_from (codes "0") refl
 value_plain (number limit n) small h = decimal_plain n (omega arith)
@@ -66,7 +66,7 @@ value_plain (modes mask) small h = plain_from (mode_list mask) (below_at (λ mas
 
 -- ---- and not empty
 
-key_filled : (k : FormatKey) → IsRest (key_text k)
+pub key_filled : (k : FormatKey) → IsRest (key_text k)
 key_filled key.MinPTime = lit< tt
 key_filled key.Stereo = lit< tt
 key_filled key.SpropStereo = lit< tt
@@ -104,7 +104,7 @@ modes_filled mask some le = go (mask == 0) refl (below_at Filled 512 mask all_mo
   go true e h = absurd (omega (arith, eqb-true mask 0 e))
   go false e h = ltb-true 0 (length (mode_list mask)) h
 
-value_filled : (v : Value) → HasSmallLimit v → InRange v → IsRest (value_text v)
+pub value_filled : (v : Value) → HasSmallLimit v → InRange v → IsRest (value_text v)
 value_filled (flag true) small h = lit< tt
 value_filled (flag false) small h = lit< tt
 value_filled (number limit n) small h = decimal_filled n (omega arith)

@@ -59,7 +59,7 @@ not_at : (c : ℕ) (a b : List ℕ) → Lacks c (a ++ (c ∷ b)) → ⊥
 not_at c [] b h = h.0 refl
 not_at c (x ∷ xs) b h = not_at c xs b h.1
 
-behind_lacks : (c : ℕ) (a b : List ℕ) → Lacks c (a ++ b) → Lacks c b
+pub behind_lacks : (c : ℕ) (a b : List ℕ) → Lacks c (a ++ b) → Lacks c b
 behind_lacks c [] b h = h
 behind_lacks c (x ∷ xs) b h = behind_lacks c xs b h.1
 
@@ -226,7 +226,7 @@ apt_printed pt n small fits =
     values_printed pt (Apt n) [] (codes "apt=" ++ decimal n) (Apt n ∷ []) small (omega arith, tt) refl
     (no_ends (codes "apt=") (decimal n) (no_end (codes "apt=") refl refl) (decimal_no_end n (omega arith))) (apt_is n fits)
 
-list_shown : (n : ℕ) → n ≤ 255 → IsRest ((decimal n ++ codes "/") ++ decimal n)
+pub list_shown : (n : ℕ) → n ≤ 255 → IsRest ((decimal n ++ codes "/") ++ decimal n)
 list_shown n small = omega (arith, length-append (decimal n ++ codes "/") (decimal n), decimal_nonempty n (omega arith))
 
 list_no_end : (n : ℕ) → n ≤ 255 → HoldsNoEnd (decimal n ++ (codes "/" ++ decimal n))

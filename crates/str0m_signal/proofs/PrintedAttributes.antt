@@ -11,7 +11,8 @@ use Rattle.str0m_values.proofs.NumLaws.{digits_lack}
 use Rattle.str0m_formats.proofs.RoundTrip.{decimal_reads}
 use Rattle.str0m_sdp.specs.Lines.{attribute_line}
 use Rattle.str0m_sdp.specs.declared.attribute.MediaAttribute.{MediaAttribute}
-use Rattle.str0m_signal.specs.MediaAttribute.{Named, IsMediaLine}
+use Rattle.str0m_signal.specs.Lines.{IsAttributeLine}
+use Rattle.str0m_signal.specs.MediaAttribute.{Named, MediaForm, IsMediaLine}
 use Rattle.str0m_signal.specs.Writable.{IsPrintedAs}
 
 -- each item prints nothing, or one line that reads as the value in its place
@@ -63,9 +64,14 @@ decimal_no_end n small = (decimal_lacks 10 n (lit≤ tt) small, decimal_lacks 13
 
 -- ---- attributes
 
+-- a text that has the form, on a line of its own
+pub line_printed : {A : Type 0} (Form : List ℕ → A → Type 0) (text : List ℕ) (attr : A) → HoldsNoEnd text → Form text attr
+    → IsPrintedAs (IsAttributeLine Form) (attribute_line text) attr
+line_printed Form text attr quiet form =
+    let front = no_ends (codes "a=") text (no_end (codes "a=") refl refl) quiet in
+    (codes "a=" ++ text, refl, front.0, front.1, (text, refl, form))
+
 -- an attribute with a form of its own, on a line of its own
 pub attribute_printed : (text : List ℕ) (attr : MediaAttribute) → HoldsNoEnd text → Named text attr
     → IsPrintedAs IsMediaLine (attribute_line text) attr
-attribute_printed text attr quiet form =
-    let front = no_ends (codes "a=") text (no_end (codes "a=") refl refl) quiet in
-    (codes "a=" ++ text, refl, front.0, front.1, (text, refl, inl form))
+attribute_printed text attr quiet form = line_printed MediaForm text attr quiet (inl form)

@@ -118,7 +118,7 @@ proto_filled text Sctp h = elim h [ inl e ↦ rw e (omega arith) | inr e ↦ rw 
 num_lacks : (limit : ℕ) (text : List ℕ) (n : ℕ) → IsNum limit text n → Lacks 32 text
 num_lacks limit text n h = number_lacks 32 text (omega arith) (λ e. absurd (omega arith)) h.numeral
 
-numbers_both : Reads (Parted 32 (IsNum 255)) numbers_read
+pub numbers_both : Reads (Parted 32 (IsNum 255)) numbers_read
 numbers_both = parted_both 32 (num_both 255) (num_lacks 255)
 
 no_types_both : Reads NoTypes no_types_read

@@ -6,6 +6,7 @@ use Rattle.std.specs.List.{AllByRecursion, join_by}
 use Rattle.std.specs.Fmt.{decimal}
 use Rattle.std.proofs.lemmas.Bool.{false≢true}
 use Rattle.std.proofs.lemmas.List.{append_assoc, append-nil}
+use Rattle.str0m_values.specs.Fits.{FirstFit}
 use Rattle.str0m_values.specs.Joined.{Parted}
 use Rattle.str0m_values.specs.Parts.{IsWord, IsNum}
 use Rattle.str0m_values.proofs.CutLaws.{lacks_from}
@@ -18,7 +19,7 @@ use Rattle.str0m_sdp.specs.declared.media_type.MediaType.{MediaType}
 use Rattle.str0m_sdp.specs.declared.media_type.MediaType.TheVariants as typ
 use Rattle.str0m_sdp.specs.declared.proto.Proto.{Proto}
 use Rattle.str0m_sdp.specs.declared.proto.Proto.TheVariants.{Srtp, Sctp}
-use Rattle.str0m_signal.specs.Section.{IsKind, IsProto, IsHead}
+use Rattle.str0m_signal.specs.Section.{IsKind, IsProto, IsHead, NoTypes}
 use Rattle.str0m_signal.specs.Writable.{IsPrintedAs}
 use Rattle.str0m_signal.proofs.PrintedAttributes.{HoldsNoEnd, no_ends, no_end, num_is, decimal_no_end}
 
@@ -81,18 +82,16 @@ head_no_end kind port protocol types k p q t =
     (no_ends port _ p (no_ends (codes " ") _ (no_end (codes " ") refl refl)
     (no_ends protocol _ q (no_ends (codes " ") types (no_end (codes " ") refl refl) t))))))
 
--- a section of sound or pictures with some types: its m-line reads as what it says
-pub head_printed : (m : MediaLine) → is_media m.typ ≡ true → (pt : ℕ) (pts : List ℕ) → m.pts ≡ pt ∷ pts → AreTypes (pt ∷ pts)
-    → IsPrintedAs IsHead (m_line m) (record { typ = m.typ; disabled = m.disabled; proto = m.proto; pts = m.pts })
-head_printed m media pt pts e small =
-    let kind = kind_is m.typ media in
+-- an m-line whose kind and whose types have their forms reads as what it says, with these types
+pub head_of : (m : MediaLine) (types pts : List ℕ)
+    → IsWord (media_type_text m.typ) × IsKind (media_type_text m.typ) m.typ × HoldsNoEnd (media_type_text m.typ)
+    → formats_text m.typ m.pts ≡ types → HoldsNoEnd types → FirstFit (Parted 32 (IsNum 255)) NoTypes types pts
+    → IsPrintedAs IsHead (m_line m) (record { typ = m.typ; disabled = m.disabled; proto = m.proto; pts = pts })
+head_of m types pts kind printed no_end are =
     let port = port_is m.disabled in
     let protocol = proto_is m.proto in
-    let types = join_by decimal (codes " ") (pt ∷ pts) in
-    let printed : formats_text m.typ m.pts ≡ types = formats_are m.typ m.pts media ∙ ap pts_text e in
     let text = head_text (media_type_text m.typ) (port_text m.disabled) (proto_text m.proto) types in
-    let quiet = head_no_end (media_type_text m.typ) (port_text m.disabled) (proto_text m.proto) types kind.2 port.1 protocol.1
-    (types_no_end pt pts small) in (
+    let quiet = head_no_end (media_type_text m.typ) (port_text m.disabled) (proto_text m.proto) types kind.2 port.1 protocol.1 no_end in (
       text,
       ap (λ (t : List ℕ). head_text (media_type_text m.typ) (port_text m.disabled) (proto_text m.proto) (t ++ line_end)) printed
           ∙ head_whole (media_type_text m.typ) (port_text m.disabled) (proto_text m.proto) types,
@@ -107,6 +106,14 @@ head_printed m media pt pts e small =
         kind_is = (kind.0, kind.1);
         port_is = port.0;
         protocol_is = protocol.0;
-        types_are = inl (subst (λ (ns : List ℕ). Parted 32 (IsNum 255) types ns) (sym e) (types_are pt pts small));
+        types_are = are;
       },
     )
+
+-- a section of sound or pictures with some types: its m-line reads as what it says
+pub head_printed : (m : MediaLine) → is_media m.typ ≡ true → (pt : ℕ) (pts : List ℕ) → m.pts ≡ pt ∷ pts → AreTypes (pt ∷ pts)
+    → IsPrintedAs IsHead (m_line m) (record { typ = m.typ; disabled = m.disabled; proto = m.proto; pts = m.pts })
+head_printed m media pt pts e small =
+    let types = join_by decimal (codes " ") (pt ∷ pts) in
+    head_of m types m.pts (kind_is m.typ media) (formats_are m.typ m.pts media ∙ ap pts_text e) (types_no_end pt pts small)
+    (inl (subst (λ (ns : List ℕ). Parted 32 (IsNum 255) types ns) (sym e) (types_are pt pts small)))

@@ -33,4 +33,5 @@ pub mod StreamName
 pub mod Words
 pub mod WordsReading
 pub mod Writable
+pub mod WrittenAgain
 pub use Rattle.str0m_sdp.specs.Session

@@ -12,6 +12,7 @@ ghost use Rattle.str0m_signal.specs.ReadBack.{MayBePrinted, ReadsBack};
 ghost use Rattle.str0m_signal.specs.Section.{IsBandwidth};
 ghost use Rattle.str0m_signal.specs.SessionAttribute.{IsSessionLine};
 ghost use Rattle.str0m_signal.specs.Writable.{AreReadAs, IsPrintedAs, IsReadAs, SessionGoesWith, Writable};
+ghost use Rattle.str0m_signal.specs.WrittenAgain.{IsOverSrtp, IsRead, MayBeWrittenAgain};
 
 use crate::attributes_back::session_back;
 use crate::section_back::{bandwidth_comes_back, comes_back, frame_comes_back};
@@ -69,9 +70,14 @@ fn surroundings_come_back(sdp: &Sdp, section: usize) -> Result<bool, AllocError>
 /// `section_of` of it and the rows in its place is read to its end, and the section there describes
 /// these rows, in order. Whether a row is locked isn't printed.
 ///
+/// It is `true` of a session that was read of a text, at each section over Srtp, where each application
+/// section is on Sctp, each other one has payload types, and no rid has a restriction of the key `pt`,
+/// which would be read as its list of payload types.
+///
 /// The only error is that memory was refused. Nothing is changed.
 pub fn is_writable(sdp: &Sdp, section: usize) -> Result<bool, AllocError>
     ensures exact { IfOk result (λ answer. IsTrue answer ↔ Writable sdp.now section) }
+    ensures of_reading { IfOk result (λ answer. IsRead sdp.now → MayBeWrittenAgain sdp.now → IsOverSrtp sdp.now section → IsTrue answer) }
     ensures read_back { result ≡ Ok true → (rows : List PayloadParams) → MayBePrinted rows → ReadsBack sdp.now section rows }
 {
     surroundings_come_back(sdp, section)

@@ -1,0 +1,237 @@
+-- What pairs were read as prints as pairs that are read as the same, but for what prints nothing.
+use Rattle.std.proofs.Common.{◌≡◌, ◌≢◌, ◌≤◌, ◌<◌, ◌||◌, ◌^◌, ℕ, Bool, true, false, not, List, [], ◌∷◌, ◌++◌, length, map, filter, nat_lt, Option, Some, None, MatchOption, refl, sym, ap, ◌∙◌, subst, arith, lit<, inl, inr}
+use Rattle.std.specs.Prelude.{codes}
+use Rattle.std.specs.Bool.{MatchBool}
+use Rattle.std.specs.Fmt.{decimal}
+use Rattle.std.specs.List.{AllByRecursion, IsDistinct, cons_option, join_with_byte}
+use Rattle.std.specs.Map.{keys_of}
+use Rattle.std.specs.Str.{bytes_eq, str_to_ascii_lowercase}
+use Rattle.std.proofs.lemmas.Bool.{lt-ltb, false≢true, false_from_ne_true}
+use Rattle.std.proofs.lemmas.Fmt.{decimal_nonempty}
+use Rattle.std.proofs.lemmas.List.{append_assoc}
+use Rattle.std.proofs.lemmas.Map.Keys.{IsDistinct-cons, IsDistinct-head, IsDistinct-tail}
+use Rattle.std.proofs.lemmas.Slice.Eq.{bytes_eq-Decides}
+use Rattle.str0m_values.specs.H265 as h265
+use Rattle.str0m_values.specs.H266 as h266
+use Rattle.str0m_values.specs.declared.h265.H265ProfileTierLevel.{H265ProfileTierLevel as h265_triple}
+use Rattle.str0m_values.specs.declared.h266.H266ProfileTierLevel.{H266ProfileTierLevel as h266_triple}
+use Rattle.str0m_formats.specs.declared.format_key.FormatKey.{FormatKey}
+use Rattle.str0m_formats.specs.declared.format_param.FormatParam.{FormatParam}
+use Rattle.str0m_formats.specs.declared.format_param.FormatParam.TheVariants.{AmrWbUnsupported, H265ProfileTierLevel, H266ProfileTierLevel}
+use Rattle.str0m_formats.specs.FormatKey.{key_text}
+use Rattle.str0m_formats.specs.FormatParam.{Value, Reads, Holds, IsParsed, AreParsed, entry, param_text}
+use Rattle.str0m_formats.specs.Pairs.{has_mark, merged, others, texts_of, is_part, AreJoined, AreRead}
+use Rattle.str0m_formats.specs.PairsReading.{params_read, joined_read, triple_read}
+use Rattle.str0m_formats.specs.ParamReading.{param_of}
+use Rattle.str0m_formats.proofs.KeyedParams.{IsKeyed, AreKeyed, pair_of, entry_pair, prints, key_unmarked, keyed_or_hidden, keyed_shown, shown_keyed, keyed_params, keyed_texts, keyed_pairs, keyed_unmarked}
+use Rattle.str0m_formats.proofs.MergedKeys.{IsLow, AreLow, AreApart, merged_apart, others_all, others_apart, others_other, others_same, merged_same}
+use Rattle.str0m_formats.proofs.PrintedLine.{unmarked, marked, no_h265}
+use Rattle.str0m_formats.proofs.Plain.{plain_from}
+use Rattle.str0m_formats.proofs.RoundTrip.{decimal_reads}
+use Rattle.str0m_formats.proofs.Shown.{IsPlainPair, joined_pair, decimal_plain, h265_small, h266_small}
+use Rattle.str0m_formats.proofs.TripleLaws.{h265_both, h266_both}
+
+-- the parameters print as pairs that are read as them
+pub record IsPairsLine (shown : List FormatParam) : Type 0 where
+  pub pairs : List (List ℕ × List ℕ)
+  pub plain : AllByRecursion IsPlainPair pairs
+  pub text : join_with_byte 59 (map param_text shown) ≡ join_with_byte 59 (map joined_pair pairs)
+  pub read : params_read pairs ≡ shown
+  pub some : shown ≢ [] → pairs ≢ []
+
+-- ---- parameters of the table alone
+
+keyed_line : (params : List FormatParam) → AreKeyed params → IsPairsLine params
+keyed_line params keyed = record {
+  pairs = map pair_of params;
+  plain = keyed_pairs params keyed;
+  text = ap (join_with_byte 59) (keyed_texts params keyed);
+  read = unmarked (map pair_of params) (keyed_unmarked params keyed) ∙ keyed_params params keyed;
+  some = pairs_too params;
+}
+  where
+    pairs_too : (params : List FormatParam) → params ≢ [] → map pair_of params ≢ []
+    pairs_too [] some e = some refl
+    pairs_too (param ∷ params) some e = absurd cc
+
+read_alone : (pairs : List (List ℕ × List ℕ)) (params : List FormatParam) → AreParsed pairs params → IsPairsLine (filter prints params)
+read_alone pairs params are = keyed_line (filter prints params) (shown_keyed pairs params are)
+
+-- ---- keys that stand once
+
+key_at : (k : FormatKey) (text : List ℕ) (o : Option (FormatKey × Value)) → MatchOption o ⊥ (λ e. (e.0 ≡ k) × Reads e.1 text)
+    → (entry_pair o).0 ≡ key_text k
+key_at k text None h = absurd h
+key_at k text (Some e) h = ap key_text h.0
+
+-- what is read of a pair in lower case prints the pair's key
+key_spelled : (k : FormatKey) (text : List ℕ) (param : FormatParam) → Holds k text param → IsKeyed param → (pair_of param).0 ≡ key_text k
+key_spelled k text AmrWbUnsupported h keyed = absurd keyed
+key_spelled k text param h keyed = key_at k text (entry param) h
+
+same_key : (pair : List ℕ × List ℕ) (param : FormatParam) → IsLow pair.0 → IsParsed pair param → IsKeyed param → (pair_of param).0 ≡ pair.0
+same_key pair param low (inl spells) keyed =
+    key_spelled spells.0 pair.1 param spells.2 keyed ∙ sym (key_unmarked spells.0).1 ∙ sym spells.1 ∙ low
+same_key pair param low (inr unknown) keyed = absurd (subst IsKeyed unknown.1 keyed)
+
+-- what all keys of pairs have, all keys of what is printed have
+all_keys : (P : List ℕ → Type 0) (pairs : List (List ℕ × List ℕ)) (params : List FormatParam) → AreLow pairs → AreParsed pairs params
+    → AllByRecursion P (keys_of pairs) → AllByRecursion P (keys_of (map pair_of (filter prints params)))
+all_keys P [] [] low are all = tt
+all_keys P [] (param ∷ params) low are all = absurd are
+all_keys P (pair ∷ pairs) [] low are all = absurd are
+all_keys P (pair ∷ pairs) (param ∷ params) low are all =
+    elim (keyed_or_hidden pair param are.0) [
+      | inl keyed ↦
+          rw (lt-ltb 0 (length (param_text param)) (keyed_shown param keyed))
+          (subst P (sym (same_key pair param low.0 are.0 keyed)) all.0, all_keys P pairs params low.1 are.1 all.1)
+      | inr hidden ↦ rw hidden (all_keys P pairs params low.1 are.1 all.1)
+    ]
+
+distinct_keys : (pairs : List (List ℕ × List ℕ)) (params : List FormatParam) → AreLow pairs → AreParsed pairs params
+    → IsDistinct bytes_eq (keys_of pairs) → IsDistinct bytes_eq (keys_of (map pair_of (filter prints params)))
+distinct_keys [] [] low are all = all
+distinct_keys [] (param ∷ params) low are all = absurd are
+distinct_keys (pair ∷ pairs) [] low are all = absurd are
+distinct_keys (pair ∷ pairs) (param ∷ params) low are all =
+    let more = distinct_keys pairs params low.1 are.1 (IsDistinct-tail bytes_eq pair.0 (keys_of pairs) all) in
+    elim (keyed_or_hidden pair param are.0) [
+      | inl keyed ↦
+          rw (lt-ltb 0 (length (param_text param)) (keyed_shown param keyed))
+          (IsDistinct-cons bytes_eq (pair_of param).0 (keys_of (map pair_of (filter prints params)))
+          (all_keys (λ k. bytes_eq (pair_of param).0 k ≡ false) pairs params low.1 are.1
+          (subst (λ (k : List ℕ). AllByRecursion (λ j. bytes_eq k j ≡ false) (keys_of pairs)) (sym (same_key pair param low.0 are.0 keyed))
+          (IsDistinct-head bytes_eq pair.0 (keys_of pairs) all)))
+          more)
+      | inr hidden ↦ rw hidden more
+    ]
+
+-- ---- a profile, tier and level before them
+
+abbrev triple_pairs : List ℕ → List ℕ → List ℕ → List (List ℕ × List ℕ)
+triple_pairs a b c = (codes "profile-id", a) ∷ (codes "tier-flag", b) ∷ (codes "level-id", c) ∷ []
+
+abbrev triple_joined : List ℕ → List ℕ → List ℕ → List ℕ
+triple_joined a b c = codes "profile-id=" ++ (a ++ (codes ";tier-flag=" ++ (b ++ (codes ";level-id=" ++ c))))
+
+-- parameters whose keys differ, and are none of the triple's
+record AreOthers (params : List FormatParam) : Type 0 where
+  keyed : AreKeyed params
+  low : AreLow (map pair_of params)
+  apart : AreApart (map pair_of params)
+  other : AllByRecursion (λ k. is_part k ≡ false) (keys_of (map pair_of params))
+
+-- a key that is no part differs from each part
+no_part : (P : List ℕ → Type 0) (ks : List (List ℕ)) → ((k : List ℕ) → is_part k ≡ false → P k)
+    → AllByRecursion (λ k. is_part k ≡ false) ks → AllByRecursion P ks
+no_part P [] each none = tt
+no_part P (k ∷ ks) each none = (each k none.0, no_part P ks each none.1)
+
+differs : (part k : List ℕ) → is_part part ≡ true → is_part k ≡ false → bytes_eq part k ≡ false
+differs part k is other =
+    false_from_ne_true (bytes_eq part k) (λ same. false≢true (sym other ∙ ap is_part (sym ((bytes_eq-Decides part k).0 same)) ∙ is))
+
+part_apart : (part : List ℕ) (params : List FormatParam) → is_part part ≡ true → AreOthers params
+    → AllByRecursion (λ k. bytes_eq part k ≡ false) (keys_of (map pair_of params))
+part_apart part params is h = no_part (λ k. bytes_eq part k ≡ false) (keys_of (map pair_of params)) (λ k other. differs part k is other) h.other
+
+whole_apart : (a b c : List ℕ) (params : List FormatParam) → AreOthers params → AreApart (triple_pairs a b c ++ map pair_of params)
+whole_apart a b c params h =
+    IsDistinct-cons bytes_eq (codes "profile-id") _ (refl, (refl, part_apart (codes "profile-id") params refl h))
+    (IsDistinct-cons bytes_eq (codes "tier-flag") _ (refl, part_apart (codes "tier-flag") params refl h)
+    (IsDistinct-cons bytes_eq (codes "level-id") _ (part_apart (codes "level-id") params refl h) h.apart))
+
+whole_marked : (a b c : List ℕ) (pairs : List (List ℕ × List ℕ)) → has_mark (triple_pairs a b c ++ pairs) ≡ true
+unfolding has_mark
+whole_marked a b c pairs = refl
+
+whole_text : (q : FormatParam) (a b c : List ℕ) (params : List FormatParam) → AreKeyed params → param_text q ≡ triple_joined a b c
+    → join_with_byte 59 (map param_text (q ∷ params)) ≡ join_with_byte 59 (map joined_pair (triple_pairs a b c ++ map pair_of params))
+whole_text q a b c [] keyed e = e
+whole_text q a b c (param ∷ params) keyed e =
+    ap (λ (t : List ℕ). t ++ (59 ∷ join_with_byte 59 (map param_text (param ∷ params)))) e
+    ∙ ap (λ (ts : List (List ℕ)). triple_joined a b c ++ (59 ∷ join_with_byte 59 ts)) (keyed_texts (param ∷ params) keyed)
+    ∙ simp append_assoc
+
+triple_line : (q : FormatParam) (a b c : List ℕ) (params : List FormatParam) → param_text q ≡ triple_joined a b c
+    → AllByRecursion IsPlainPair (triple_pairs a b c) → triple_read (Some a, Some b, Some c) ≡ Some q → AreOthers params
+    → IsPairsLine (q ∷ params)
+triple_line q a b c params text plain read h = record {
+  pairs = pairs;
+  plain = (plain.0, (plain.1.0, (plain.1.1.0, keyed_pairs params h.keyed)));
+  text = whole_text q a b c params h.keyed text;
+  read =
+      marked pairs (whole_marked a b c (map pair_of params)) (merged_same pairs (refl, (refl, (refl, h.low))) (whole_apart a b c params h))
+      ∙ (λ i. cons_option (read i) (map param_of (others_same (map pair_of params) h.other i)))
+      ∙ ap (λ (ps : List FormatParam). q ∷ ps) (keyed_params params h.keyed);
+  some = λ some e. absurd cc;
+}
+  where
+    pairs : List (List ℕ × List ℕ)
+    pairs = triple_pairs a b c ++ map pair_of params
+
+numbers_plain : (k m n : ℕ) → k ≤ 255 → m ≤ 255 → n ≤ 255 → AllByRecursion IsPlainPair (triple_pairs (decimal k) (decimal m) (decimal n))
+numbers_plain k m n p q r = (
+  (plain_from (codes "profile-id") refl, decimal_plain k (omega (arith, p)), lit< tt, decimal_nonempty k (omega (arith, p))),
+  (
+    (plain_from (codes "tier-flag") refl, decimal_plain m (omega (arith, q)), lit< tt, decimal_nonempty m (omega (arith, q))),
+    ((plain_from (codes "level-id") refl, decimal_plain n (omega (arith, r)), lit< tt, decimal_nonempty n (omega (arith, r))), tt),
+  ),
+)
+
+h265_line : (t : h265_triple) (params : List FormatParam) → AreOthers params → IsPairsLine (H265ProfileTierLevel t ∷ params)
+h265_line t params h =
+    let small = h265_small t in
+    let a = decimal (h265.profile_id t.profile) in
+    let b = decimal (h265.tier_flag t.tier) in
+    let c = decimal (h265.level_id t.level) in
+    let is = h265_both.complete (Some a, Some b, Some c) t (
+      decimal_reads 255 (h265.profile_id t.profile) small.0 (omega (arith, small.0)),
+      decimal_reads 255 (h265.tier_flag t.tier) small.1 (omega (arith, small.1)),
+      decimal_reads 255 (h265.level_id t.level) small.2 (omega (arith, small.2)),
+    ) in
+    triple_line (H265ProfileTierLevel t) a b c params refl (numbers_plain _ _ _ small.0 small.1 small.2) (rw is refl) h
+
+h266_line : (t : h266_triple) (params : List FormatParam) → AreOthers params → IsPairsLine (H266ProfileTierLevel t ∷ params)
+h266_line t params h =
+    let small = h266_small t in
+    let a = decimal (h266.profile_id t.profile) in
+    let b = decimal (h266.tier_flag t.tier) in
+    let c = decimal (h266.level_id t.level) in
+    let is = h266_both.complete (Some a, Some b, Some c) t (
+      decimal_reads 255 (h266.profile_id t.profile) small.0 (omega (arith, small.0)),
+      decimal_reads 255 (h266.tier_flag t.tier) small.1 (omega (arith, small.1)),
+      decimal_reads 255 (h266.level_id t.level) small.2 (omega (arith, small.2)),
+    ) in
+    triple_line (H266ProfileTierLevel t) a b c params refl (numbers_plain _ _ _ small.0 small.1 small.2)
+    (rw (no_h265 (Some a) (Some b) t.level small.2, is) refl) h
+
+-- ---- all pairs
+
+others_of : (pairs : List (List ℕ × List ℕ)) (params : List FormatParam) → AreParsed (others (merged pairs)) params
+    → AreOthers (filter prints params)
+others_of pairs params are =
+    let kept = others (merged pairs) in
+    let all = merged_apart pairs in
+    let low = others_all IsLow (merged pairs) all.1 in
+    record {
+      keyed = shown_keyed kept params are;
+      low = all_keys IsLow kept params low are low;
+      apart = distinct_keys kept params low are (others_apart (merged pairs) all.0);
+      other = all_keys (λ k. is_part k ≡ false) kept params low are (others_other (merged pairs));
+    }
+
+joined_line : (pairs : List (List ℕ × List ℕ)) (params : List FormatParam) → AreJoined (merged pairs) params → IsPairsLine (filter prints params)
+joined_line pairs params (triple, rest, inl (t, h265, is), are, joined) =
+    rw (joined, is, lt-ltb 0 (length (param_text (H265ProfileTierLevel t))) (omega arith)) (h265_line t (filter prints rest) (others_of pairs rest are))
+joined_line pairs params (triple, rest, inr (no_h265, inl (t, h266, is)), are, joined) =
+    rw (joined, is, lt-ltb 0 (length (param_text (H266ProfileTierLevel t))) (omega arith)) (h266_line t (filter prints rest) (others_of pairs rest are))
+joined_line pairs params (triple, rest, inr (no_h265, inr (no_h266, is)), are, joined) =
+    rw (joined, is) (read_alone (others (merged pairs)) rest are)
+
+pub pairs_again : (pairs : List (List ℕ × List ℕ)) (params : List FormatParam) → AreRead pairs params → IsPairsLine (filter prints params)
+pairs_again pairs params read = go (has_mark pairs) read
+  where
+    go : (marked : Bool) → MatchBool marked (AreJoined (merged pairs) params) (AreParsed pairs params) → IsPairsLine (filter prints params)
+    go true h = joined_line pairs params h
+    go false h = read_alone pairs params h

@@ -1,0 +1,103 @@
+-- In a text of UTF-8 characters begin close to each other, so something is kept of each text that isn't empty.
+use Rattle.std.proofs.Common.{◌≡◌, ◌⊎◌, ◌≤◌, ◌<◌, ◌+◌, ◌-◌, ◌/◌, ◌%◌, ℕ, suc, Bool, true, false, cond, ltb, List, [], ◌∷◌, ◌++◌, length}
+use Rattle.std.proofs.Common.{refl, subst, arith, lit<, lit≤, inl, inr}
+use Rattle.std.specs.Char.{encode_utf8}
+use Rattle.std.specs.Str.{IsUtf8, IsCharBoundary, encode_utf8_all}
+use Rattle.std.proofs.lemmas.Bool.{cases_lt, ltb-true}
+use Rattle.str0m_values.specs.Parts.{IsRest}
+use Rattle.str0m_values.specs.ShortText.{IsLongestBeginning}
+
+-- a byte inside a character
+abbrev IsInside : ℕ → Type 0
+IsInside b = (128 ≤ b) × (b < 192)
+
+-- a character begins behind at most k bytes, and from each on behind at most three
+abbrev pub StartsWithin : ℕ → List ℕ → Type 0
+StartsWithin k [] = Unit {0}
+StartsWithin k (x ∷ xs) = (IsInside x × (0 < k) × StartsWithin (k - 1) xs) ⊎ (¬ (IsInside x) × StartsWithin 3 xs)
+
+-- ---- of UTF-8
+
+inside : (n : ℕ) → IsInside (128 + n % 64)
+inside n = (omega arith, omega arith)
+
+lead : (b n : ℕ) → 192 ≤ b → ¬ (IsInside (b + n))
+lead b n high = λ h. absurd (omega (arith, high, h.1))
+
+one_character : (c k : ℕ) (rest : List ℕ) → ((j : ℕ) → StartsWithin j rest) → StartsWithin k (encode_utf8 c ++ rest)
+unfolding encode_utf8
+one_character c k rest all = go (ltb c 128) (ltb c 2048) (ltb c 65536) refl where
+  second : List ℕ
+  second = (128 + c % 64) ∷ []
+
+  third : List ℕ
+  third = (128 + (c / 64) % 64) ∷ second
+
+  fourth : List ℕ
+  fourth = (128 + (c / 4096) % 64) ∷ third
+
+  go : (a b d : Bool) → ltb c 128 ≡ a
+      → StartsWithin k
+      (cond a (c ∷ []) (cond b ((192 + c / 64) ∷ second) (cond d ((224 + c / 4096) ∷ third) ((240 + c / 262144) ∷ fourth))) ++ rest)
+  go true b d e = inr (λ h. let low = ltb-true c 128 e in absurd (omega (arith, low, h.0)), all 3)
+  go false true d e = inr (lead 192 (c / 64) (lit≤ tt), inl (inside c, lit< tt, all 2))
+  go false false true e =
+      inr (lead 224 (c / 4096) (lit≤ tt), inl (inside (c / 64), lit< tt, inl (inside c, lit< tt, all 1)))
+  go false false false e =
+      inr (
+        lead 240 (c / 262144) (lit≤ tt),
+        inl (inside (c / 4096), lit< tt, inl (inside (c / 64), lit< tt, inl (inside c, lit< tt, all 0))),
+      )
+
+all_characters : (cs : List ℕ) (k : ℕ) → StartsWithin k (encode_utf8_all cs)
+all_characters [] k = tt
+all_characters (c ∷ cs) k = one_character c k (encode_utf8_all cs) (all_characters cs)
+
+pub of_utf8 : (text : List ℕ) → IsUtf8 text → StartsWithin 3 text
+of_utf8 text h = subst (StartsWithin 3) h.1.1 (all_characters h.0 3)
+
+-- ---- of parts
+
+later : (j k : ℕ) (xs : List ℕ) → j ≤ k → k ≤ 3 → StartsWithin j xs → StartsWithin k xs
+later j k [] le small h = tt
+later j k (x ∷ xs) le small (inl (is, some, more)) = inl (is, omega arith, later (j - 1) (k - 1) xs (omega arith) (omega arith) more)
+later j k (x ∷ xs) le small (inr h) = inr h
+
+pub front_starts : (k : ℕ) (xs ys : List ℕ) → StartsWithin k (xs ++ ys) → StartsWithin k xs
+front_starts k [] ys h = tt
+front_starts k (x ∷ xs) ys (inl (is, some, more)) = inl (is, some, front_starts (k - 1) xs ys more)
+front_starts k (x ∷ xs) ys (inr (no', more)) = inr (no', front_starts 3 xs ys more)
+
+pub behind_starts : (k : ℕ) (xs ys : List ℕ) → k ≤ 3 → StartsWithin k (xs ++ ys) → StartsWithin 3 ys
+behind_starts k [] ys small h = later k 3 ys small (lit≤ tt) h
+behind_starts k (x ∷ xs) ys small (inl (is, some, more)) = behind_starts (k - 1) xs ys (omega arith) more
+behind_starts k (x ∷ xs) ys small (inr (no', more)) = behind_starts 3 xs ys (lit≤ tt) more
+
+-- ---- what is kept
+
+outside : (y : ℕ) → ¬ (IsInside y) → 128 ≤ y → 192 ≤ y
+outside y no' high = elim (cases_lt y 192) [ inl low ↦ absurd (no' (high, low)) | inr above ↦ above ]
+
+boundary : (k : ℕ) (xs : List ℕ) → k ≤ 3 → StartsWithin k xs → (n : ℕ) × (n ≤ k) × IsCharBoundary xs n
+boundary k [] small h = (0, omega arith, (omega arith, λ lt. absurd (omega (arith, lt))))
+boundary k (y ∷ ys) small (inr (no', more)) = (0, omega arith, (omega arith, λ lt high. outside y no' high))
+boundary k (y ∷ ys) small (inl (is, some, more)) =
+    let next = boundary (k - 1) ys (omega arith) more in
+    let at = next.1 in
+    (suc next.0, omega (arith, at, some), (omega (arith, next.2.0), λ lt high. next.2.1 (omega (arith, lt)) high))
+
+pub kept_some : (text kept : List ℕ) → IsRest text → StartsWithin 3 text → IsLongestBeginning 16 text kept → IsRest kept
+kept_some [] kept filled starts h = absurd (omega (arith, filled))
+kept_some (x ∷ xs) kept filled starts h =
+    let next = boundary 3 xs (lit≤ tt) (tail starts) in
+    let at = next.1 in
+    elim (cases_lt 0 (length kept)) [
+      | inl some ↦ some
+      | inr none ↦
+          absurd (h.longest (suc next.0) (omega arith) (omega arith)
+          (omega (arith, next.2.0), λ lt high. next.2.1 (omega (arith, lt)) high))
+    ]
+  where
+    tail : StartsWithin 3 (x ∷ xs) → StartsWithin 3 xs
+    tail (inl (is, some, more)) = later 2 3 xs (lit≤ tt) (lit≤ tt) more
+    tail (inr (no', more)) = more

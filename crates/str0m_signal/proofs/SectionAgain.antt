@@ -1,0 +1,216 @@
+-- A section is printed as it was read: its lines are read as a section that is consistent where it was.
+use Rattle.std.proofs.Common.{◌≡◌, ◌≢◌, ◌⊎◌, ◌<◌, ◌+◌, ◌==◌, map, ℕ, Bool, true, false, not, cond, List, [], ◌∷◌, filter, zero-add}
+use Rattle.std.proofs.Common.{length, Option, Some, None, IfSome, All, refl, sym, subst, ap, ◌∙◌, arith, inl, inr}
+use Rattle.std.specs.Prelude.{count_by}
+use Rattle.std.specs.List.{AllByRecursion}
+use Rattle.std.proofs.lemmas.Bool.{cases_Bool, lt-ltb, false≢true, true≢false, not-true}
+use Rattle.std.proofs.lemmas.List.Sums.{sum_by-cons}
+use Rattle.std.proofs.lemmas.List.Elements.{All-nil, All-cons, All-head, All-tail, All-weaker, All-filter, filter_passes}
+use Rattle.str0m_values.specs.Cuts.{◌<|>◌}
+use Rattle.str0m_formats.specs.FormatParam.{param_text}
+use Rattle.str0m_formats.specs.declared.format_param.FormatParam.{FormatParam}
+use Rattle.str0m_formats.specs.declared.format_param.FormatParam.TheVariants.{Apt}
+use Rattle.str0m_sdp.specs.Alike.{Alike, as_read}
+use Rattle.str0m_sdp.specs.Attribute.{media_attribute_text}
+use Rattle.str0m_sdp.specs.Consistency.{Consistent, IsMapped, AgreesOnApt, NamesNoOther, apt_of, apt_among, apt_in, first_apt, maps}
+use Rattle.str0m_sdp.specs.Consistency.{is_mid, is_setup, is_direction}
+use Rattle.str0m_sdp.specs.Fmtp.{is_shown, shown_line}
+use Rattle.str0m_sdp.specs.SectionOf.{is_of_type}
+use Rattle.str0m_sdp.specs.declared.attribute.MediaAttribute.{MediaAttribute}
+use Rattle.str0m_sdp.specs.declared.attribute.MediaAttribute.TheVariants.{Fmtp, Simulcast, RtpMap, RtcpFb}
+use Rattle.str0m_sdp.specs.declared.media_line.MediaLine.{MediaLine}
+use Rattle.str0m_sdp.specs.declared.proto.Proto.TheVariants.{Srtp, Sctp}
+use Rattle.str0m_sdp.specs.declared.rtp_map.RtpMap.{RtpMap as Mapping}
+use Rattle.str0m_signal.specs.Writable.{MediaAreReadAs, IsFrame, frame_of}
+use Rattle.str0m_signal.proofs.AttributesAgain.{ComesBack, IsHidden, shown_only}
+
+-- ---- attributes
+
+-- the attributes with the values that they show, without those that print nothing
+abbrev pub AreShownAs : List MediaAttribute → List MediaAttribute → Type 0
+AreShownAs [] reads = reads ≡ []
+AreShownAs (x ∷ xs) reads =
+    (IsHidden x × AreShownAs xs reads) ⊎ ((more : List MediaAttribute) × (reads ≡ shown_only x ∷ more) × AreShownAs xs more)
+
+shown_twice : (values : List FormatParam) → filter is_shown (filter is_shown values) ≡ filter is_shown values
+shown_twice [] = refl
+shown_twice (v ∷ vs) =
+    elim (cases_Bool (is_shown v)) [
+      | inl yes' ↦ rw (yes', yes') (ap (λ (ws : List FormatParam). v ∷ ws) (shown_twice vs))
+      | inr no' ↦ rw no' (shown_twice vs)
+    ]
+
+goes_with : (x : MediaAttribute) → Alike x (shown_only x)
+goes_with (Fmtp pt values) = (refl, ap (λ (vs : List FormatParam). map as_read vs) (sym (shown_twice values)))
+goes_with (Simulcast simulcast) = inl refl
+goes_with x = refl
+
+prints_nothing : (x : MediaAttribute) → IsHidden x → media_attribute_text x ≡ []
+prints_nothing (Fmtp pt values) hidden = ap (shown_line pt) hidden
+prints_nothing x hidden = absurd hidden
+
+-- attributes each of which comes back are read as what they show
+pub are_again : (attrs : List MediaAttribute) → AllByRecursion ComesBack attrs
+    → (reads : List MediaAttribute) × AreShownAs attrs reads × MediaAreReadAs attrs reads
+are_again [] all = ([], refl, refl)
+are_again (x ∷ xs) all =
+    let more = are_again xs all.1 in
+    elim all.0 [
+      | inl printed ↦
+          (shown_only x ∷ more.0, inr (more.0, refl, more.1), inr (shown_only x, more.0, refl, printed, inl (goes_with x), more.2))
+      | inr hidden ↦ (more.0, inl (hidden, more.1), inl (prints_nothing x hidden, more.2))
+    ]
+
+-- what all have, all that is read has
+all_again : (P Q : MediaAttribute → Type 0) → ((x : MediaAttribute) → P x → Q (shown_only x)) → (attrs reads : List MediaAttribute)
+    → All P attrs
+    → AreShownAs attrs reads → All Q reads
+all_again P Q each [] reads all are = subst (All Q) (sym are) (All-nil Q)
+all_again P Q each (x ∷ xs) reads all (inl are) = all_again P Q each xs reads (All-tail P x xs all) are.1
+all_again P Q each (x ∷ xs) reads all (inr are) =
+    subst (All Q) (sym are.1)
+    (All-cons Q (shown_only x) are.0 (each x (All-head P x xs all)) (all_again P Q each xs are.0 (All-tail P x xs all) are.2))
+
+-- ---- counting
+
+counted : (p : MediaAttribute → Bool) (x : MediaAttribute) (xs : List MediaAttribute)
+    → count_by p (x ∷ xs) ≡ cond (p x) 1 0 + count_by p xs
+counted p x xs = sum_by-cons (λ x. cond (p x) 1 0) x xs
+
+module _ (p : MediaAttribute → Bool) (no_fmtp : (pt : ℕ) (values : List FormatParam) → p (Fmtp pt values) ≡ false) where
+  same_test : (x : MediaAttribute) → p (shown_only x) ≡ p x
+  same_test (Fmtp pt values) = no_fmtp pt (filter is_shown values) ∙ sym (no_fmtp pt values)
+  same_test x = refl
+
+  hidden_test : (x : MediaAttribute) → IsHidden x → p x ≡ false
+  hidden_test (Fmtp pt values) hidden = no_fmtp pt values
+  hidden_test x hidden = absurd hidden
+
+  -- an attribute that isn't an fmtp line is counted alike
+  pub count_again : (attrs reads : List MediaAttribute) → AreShownAs attrs reads → count_by p reads ≡ count_by p attrs
+  count_again [] reads are = ap (count_by p) are
+  count_again (x ∷ xs) reads (inl are) =
+      count_again xs reads are.1 ∙ sym (zero-add (count_by p xs))
+      ∙ sym (counted p x xs ∙ ap (λ (b : Bool). cond b 1 0 + count_by p xs) (hidden_test x are.0))
+  count_again (x ∷ xs) reads (inr are) =
+      ap (count_by p) are.1 ∙ counted p (shown_only x) are.0
+      ∙ (λ i. cond (same_test x i) 1 0 + count_again xs are.0 are.2 i) ∙ sym (counted p x xs)
+
+-- ---- the types that fmtp lines name
+
+hidden_names_none : (v : FormatParam) → is_shown v ≡ false → apt_of v ≡ None
+hidden_names_none (Apt pt) hidden =
+    absurd (true≢false (sym (lt-ltb 0 (length (param_text (Apt pt))) (omega arith)) ∙ hidden))
+hidden_names_none v hidden = refl
+
+shown_apt : (values : List FormatParam) → apt_among (filter is_shown values) ≡ apt_among values
+shown_apt [] = refl
+shown_apt (v ∷ vs) =
+    elim (cases_Bool (is_shown v)) [
+      | inl yes' ↦ rw yes' (ap (λ (o : Option ℕ). apt_of v <|> o) (shown_apt vs))
+      | inr no' ↦ rw (no', hidden_names_none v no') (shown_apt vs)
+    ]
+
+apt_again : (n : ℕ) (x : MediaAttribute) → apt_in n (shown_only x) ≡ apt_in n x
+apt_again n (Fmtp pt values) = ap (λ (o : Option ℕ). cond (pt == n) o None) (shown_apt values)
+apt_again n x = refl
+
+either_none : (b : Bool) (o : Option ℕ) → o ≡ None → cond b o None ≡ None
+either_none true o e = e
+either_none false o e = refl
+
+hidden_apt : (n : ℕ) (x : MediaAttribute) → IsHidden x → apt_in n x ≡ None
+hidden_apt n (Fmtp pt values) hidden = either_none (pt == n) (apt_among values) (sym (shown_apt values) ∙ ap apt_among hidden)
+hidden_apt n x hidden = absurd hidden
+
+first_again : (n : ℕ) (attrs reads : List MediaAttribute) → AreShownAs attrs reads → first_apt n reads ≡ first_apt n attrs
+first_again n [] reads are = ap (first_apt n) are
+first_again n (x ∷ xs) reads (inl are) = rw (hidden_apt n x are.0) (first_again n xs reads are.1)
+first_again n (x ∷ xs) reads (inr are) =
+    ap (first_apt n) are.1 ∙ (λ i. apt_again n x i <|> first_again n xs are.0 are.2 i)
+
+fewer_values : (o : Option ℕ) (values : List FormatParam) → IfSome o (λ first. All (NamesNoOther first) values)
+    → IfSome o (λ first. All (NamesNoOther first) (filter is_shown values))
+fewer_values None values h = tt
+fewer_values (Some first) values h = All-filter is_shown (NamesNoOther first) values h
+
+agrees_again : (attrs reads : List MediaAttribute) → AreShownAs attrs reads → (x : MediaAttribute) → AgreesOnApt attrs x
+    → AgreesOnApt reads (shown_only x)
+agrees_again attrs reads are (Fmtp pt values) h =
+    subst (λ (o : Option ℕ). IfSome o (λ first. All (NamesNoOther first) (filter is_shown values))) (sym (first_again pt attrs reads are))
+    (fewer_values (first_apt pt attrs) values h)
+agrees_again attrs reads are x h = tt
+
+-- ---- consistency
+
+mapped_again : (attrs reads : List MediaAttribute) → AreShownAs attrs reads → (pt : ℕ) → IsMapped attrs pt → IsMapped reads pt
+mapped_again attrs reads are pt (inl one) = inl (count_again (maps pt) (λ n values. refl) attrs reads are ∙ one)
+mapped_again attrs reads are pt (inr none) = inr (count_again (maps pt) (λ n values. refl) attrs reads are ∙ none.0, none.1)
+
+-- the section with what its attributes show, and the same types, or none where it is on Sctp
+pub consistent_again : (m : MediaLine) (pts : List ℕ) (reads : List MediaAttribute) → AreShownAs m.attrs reads
+    → (pts ≡ m.pts) ⊎ ((pts ≡ []) × (m.proto ≡ Sctp)) → Consistent m → Consistent (record m { pts = pts; attrs = reads })
+consistent_again m pts reads are types h = record {
+  mid = count_again is_mid (λ n values. refl) m.attrs reads are ∙ h.mid;
+  setup = let same = count_again is_setup (λ n values. refl) m.attrs reads are in let most = h.setup in omega arith;
+  proto = λ over. (
+    count_again is_direction (λ n values. refl) m.attrs reads are ∙ (h.proto over).0,
+    λ used. elim types [
+      | inl same ↦ λ none. (h.proto over).1 used (sym same ∙ none)
+      | inr sctp ↦ absurd (let e = sym sctp.1 ∙ over in cc)
+    ],
+  );
+  mapped = elim types [
+    | inl same ↦ subst (All (IsMapped reads)) (sym same) (All-weaker _ _ (mapped_again m.attrs reads are) m.pts h.mapped)
+    | inr sctp ↦ subst (All (IsMapped reads)) (sym sctp.0) (All-nil _)
+  ];
+  apt = all_again (AgreesOnApt m.attrs) (AgreesOnApt reads) (agrees_again m.attrs reads are) m.attrs reads h.apt are;
+}
+
+-- ---- the frame
+
+-- what isn't of a payload type is counted alike in the frame
+count_frame : (p : MediaAttribute → Bool) → ((x : MediaAttribute) → is_of_type x ≡ true → p x ≡ false) → (attrs : List MediaAttribute)
+    → count_by p (filter (λ attr. not (is_of_type attr)) attrs) ≡ count_by p attrs
+count_frame p none [] = refl
+count_frame p none (x ∷ xs) =
+    elim (cases_Bool (is_of_type x)) [
+      | inl of_type ↦
+          rw of_type (count_frame p none xs ∙ sym (zero-add (count_by p xs))
+          ∙ sym (counted p x xs ∙ ap (λ (b : Bool). cond b 1 0 + count_by p xs) (none x of_type)))
+      | inr other ↦
+          rw other (counted p x (filter (λ attr. not (is_of_type attr)) xs)
+          ∙ ap (λ (n : ℕ). cond (p x) 1 0 + n) (count_frame p none xs) ∙ sym (counted p x xs))
+    ]
+
+not_of_type : (p : MediaAttribute → Bool) → ((pt : ℕ) → (value : Mapping) → p (RtpMap pt value) ≡ false)
+    → ((pt : ℕ) (value : List ℕ) → p (RtcpFb pt value) ≡ false)
+    → ((pt : ℕ) (values : List FormatParam) → p (Fmtp pt values) ≡ false) → (x : MediaAttribute) → is_of_type x ≡ true → p x ≡ false
+not_of_type p maps feedback fmtp (RtpMap pt value) h = maps pt value
+not_of_type p maps feedback fmtp (RtcpFb pt value) h = feedback pt value
+not_of_type p maps feedback fmtp (Fmtp pt values) h = fmtp pt values
+not_of_type p maps feedback fmtp x h = absurd (false≢true h)
+
+type_again : (x : MediaAttribute) → not (is_of_type x) ≡ true → is_of_type (shown_only x) ≡ false
+type_again (Fmtp pt values) h = absurd (false≢true h)
+type_again x h = not-true (is_of_type x) h
+
+-- the frame of a consistent section over Srtp, as it is read
+pub frame_again : (m : MediaLine) (pts : List ℕ) (reads : List MediaAttribute) → AreShownAs (frame_of m).attrs reads → m.proto ≡ Srtp
+    → Consistent m
+    → IsFrame (record (frame_of m) { pts = pts; attrs = reads })
+frame_again m pts reads are over h = record {
+  mid = same is_mid (λ n values. refl) (not_of_type is_mid (λ n v. refl) (λ n v. refl) (λ n v. refl)) ∙ h.mid;
+  setup =
+      let setups = same is_setup (λ n values. refl) (not_of_type is_setup (λ n v. refl) (λ n v. refl) (λ n v. refl)) in
+      let most = h.setup in
+      omega arith;
+  direction = same is_direction (λ n values. refl) (not_of_type is_direction (λ n v. refl) (λ n v. refl) (λ n v. refl)) ∙ (h.proto over).0;
+  none_of_type =
+      all_again (λ attr. not (is_of_type attr) ≡ true) (λ attr. is_of_type attr ≡ false) type_again (frame_of m).attrs reads
+      (filter_passes (λ attr. not (is_of_type attr)) m.attrs) are;
+}
+  where
+    same : (p : MediaAttribute → Bool) → ((pt : ℕ) (values : List FormatParam) → p (Fmtp pt values) ≡ false)
+        → ((x : MediaAttribute) → is_of_type x ≡ true → p x ≡ false) → count_by p reads ≡ count_by p m.attrs
+    same p no_fmtp none = count_again p no_fmtp (frame_of m).attrs reads are ∙ count_frame p none m.attrs
