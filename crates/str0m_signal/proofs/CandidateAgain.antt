@@ -97,11 +97,10 @@ in_range text (V6 groups) (inr short, eight) = (
 module _ (c : ℕ) (far : 16 ≤ digit_value c) (no_dot : 46 ≢ c) (no_colon : 58 ≢ c) where
   digits_lack : (digits : List ℕ) → AllDigits 16 digits → Lacks c digits
   digits_lack [] h = tt
-  digits_lack (x ∷ xs) h =
-      (
-        (λ (e : x ≡ c). let lt : digit_value c < 16 = subst (λ (y : ℕ). digit_value y < 16) e h.0 in absurd (omega arith)),
-        digits_lack xs h.1,
-      )
+  digits_lack (x ∷ xs) h = (
+    (λ (e : x ≡ c). let lt : digit_value c < 16 = subst (λ (y : ℕ). digit_value y < 16) e h.0 in absurd (omega arith)),
+    digits_lack xs h.1,
+  )
 
   octets_lack : (text octets : List ℕ) → Parted 46 IsOctet text octets → Lacks c text
   octets_lack text [] h = absurd h

@@ -148,15 +148,14 @@ pub head_again : (m : MediaLine) → FitsKind m.typ m.proto m.pts → IsOnLine I
 head_again m fits (content, quiet, starts, h) =
     let front = codes "m=" in
     let behind : (c : ℕ) → Lacks c content → Lacks c h.kind × Lacks c h.types = λ c none.
-        let whole = behind_lacks c front _ (subst (Lacks c) h.joined none) in
-        let port = behind_lacks c (codes " ") _ (behind_lacks c h.kind _ whole) in
-        let protocol = behind_lacks c (codes " ") _ (behind_lacks c h.port _ port) in
-        (Lacks-append c h.kind _ whole, behind_lacks c (codes " ") h.types (behind_lacks c h.protocol _ protocol)) in
+    let whole = behind_lacks c front _ (subst (Lacks c) h.joined none) in
+    let port = behind_lacks c (codes " ") _ (behind_lacks c h.kind _ whole) in
+    let protocol = behind_lacks c (codes " ") _ (behind_lacks c h.port _ port) in
+    (Lacks-append c h.kind _ whole, behind_lacks c (codes " ") h.types (behind_lacks c h.protocol _ protocol)) in
     let lf = behind 10 quiet.0 in
     let cr = behind 13 quiet.1 in
     let kind = kind_again h.kind m.typ h.kind_is.1 in
-    let formats = formats_again m.typ m.proto m.pts h.types fits h.types_are (lf.1, cr.1) in
-    (
+    let formats = formats_again m.typ m.proto m.pts h.types fits h.types_are (lf.1, cr.1) in (
       formats.types,
       head_of m (formats_text m.typ m.pts) formats.types
           (subst (λ (t : List ℕ). IsWord t × IsKind t m.typ × HoldsNoEnd t) kind (h.kind_is.0, h.kind_is.1, (lf.0, cr.0)))

@@ -67,8 +67,7 @@ section_again : (m : MediaLine) → WasRead m → FitsKind m.typ m.proto m.pts �
     → (read : MediaLine) × IsReadAs m read × Consistent read
 section_again m was fits may =
     let head = head_again m fits was.head in
-    let attrs = are_again m.attrs (come_back m.attrs was.attributes may) in
-    (
+    let attrs = are_again m.attrs (come_back m.attrs was.attributes may) in (
       record m { pts = head.0; attrs = attrs.0 },
       record { same = refl; head = head.1; bandwidth = bandwidth_again m.bw was.bandwidth; attributes = attrs.2 },
       consistent_again m head.0 attrs.0 attrs.1 head.2 was.consistent,
@@ -88,8 +87,7 @@ own_again : (m : MediaLine) → WasRead m → FitsKind m.typ m.proto m.pts → A
     → (read : MediaLine) × IsReadAs (frame_of m) read × IsFrame read
 own_again m was fits may over =
     let head = head_again m fits was.head in
-    let attrs = are_again (frame_of m).attrs (framed m.attrs (come_back m.attrs was.attributes may)) in
-    (
+    let attrs = are_again (frame_of m).attrs (framed m.attrs (come_back m.attrs was.attributes may)) in (
       record (frame_of m) { pts = head.0; attrs = attrs.0 },
       record { same = refl; head = head.1; bandwidth = bandwidth_again m.bw was.bandwidth; attributes = attrs.2 },
       frame_again m head.0 attrs.0 attrs.1 over was.consistent,
