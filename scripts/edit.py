@@ -7,7 +7,6 @@ import proved
 CRATES = proved.TOP / "crates"
 FUNCTION = re.compile(r"(?P<indent>\s*)(?:pub(?:\([^)]*\))? )?(?:const )?fn (?P<name>\w+)")
 TABLE = re.compile(r"^ *(?:pub(?:\([^)]*\))? )?const (?P<name>\w+):.*?;$", re.M | re.S)
-BODY = re.compile(r"^\s*(?:\).*)?\{$|^.*\bfn .*\{$", re.M)
 BLOCK = re.compile(r"(?:impl(?:<.*?>)? (?:(?P<trait>.+?) for )?(?P<type>.+?)|.*\btrait (?P<decl>\w+).*?)(?: where .*)?\{")
 
 
@@ -32,7 +31,7 @@ def function_at(path, text, offset, homes):
     for line in reversed(text[: text.index("\n", offset)].split("\n")):
         found, block = FUNCTION.match(line), BLOCK.match(line)
         is_behind = is_behind or line == "    }"  # (where a method ends)
-        is_body = is_body or BODY.match(line)
+        is_body = is_body or re.search(r"^\s*(\).*)?\{$|\bfn .*\{$", line)
         if found and name is None:
             name = found["name"]
             if is_behind and found["indent"]:
@@ -47,15 +46,6 @@ def function_at(path, text, offset, homes):
         elif line == "}":
             return None
     return None
-
-
-def bodies(texts, homes):
-    """The names, as a check prints them, of the functions whose bodies stand in the sources."""
-    found = set()
-    for path in (it for it in texts if it.endswith(".rt")):
-        for line in BODY.finditer(texts[path]):
-            found.add(function_at(path, texts[path], line.end(), homes))
-    return found - {None}
 
 
 def changed(texts, changes):
@@ -103,7 +93,6 @@ class Edit:
                 table = next((it for it in TABLE.finditer(before[file]) if it.start() <= at and at + len(old) <= it.end()), None)
                 readers.append(table and readers_of(file, table, before, homes))
                 self.changes.append((file, old, new))
-        self.waited = False  # (whether it was tried without what it calls, and may have waited for that)
         self.is_wide = None in turned or bool(self.functions)
         self.functions = self.functions or turned - {None}
         self.reach = self.functions
