@@ -1,5 +1,9 @@
 //! Why a run of the program fails.
 
+ghost use Rattle.std.specs.Prelude.{◌≡◌};
+ghost use Rattle.str0m_sdp.specs.declared.error.SdpError.TheVariants.{Memory};
+ghost use Rattle.sdpshow.specs.declared.fault.Fault.TheVariants.{Refused};
+
 use std::alloc::AllocError;
 use std::fmt;
 use str0m_signal::SdpError;
@@ -20,18 +24,26 @@ impl Fault {
 }
 
 impl From<SdpError> for Fault {
-    fn from(refusal: SdpError) -> Fault {
-        Fault::Refused(refusal)
+    ghost from_gives = { λ error fault. fault ≡ Refused error };
+
+    fn from(error: SdpError) -> Fault {
+        Fault::Refused(error)
     }
 }
 
 impl From<AllocError> for Fault {
+    ghost from_gives = { λ _ fault. fault ≡ Refused Memory };
+
     fn from(_refused: AllocError) -> Fault {
         Fault::OUT_OF_MEMORY
     }
 }
 
 impl fmt::Display for Fault {
+    ghost use Rattle.sdpshow.specs.Faults.{fault_text};
+
+    ghost output = { λ fault. fault_text fault };
+
     fn fmt<W: fmt::Write>(&self, f: &mut fmt::Formatter<W>) -> fmt::Result {
         match self {
             Fault::Refused(refusal) => write!(f, "{refusal}"),

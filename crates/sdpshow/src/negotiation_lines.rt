@@ -1,7 +1,9 @@
 //! The lines of `sdpshow negotiate`.
-ghost use Rattle.std.specs.Prelude.{◌≡◌, ◌++◌, IfOk, OnOk, Some};
+ghost use Rattle.std.specs.Prelude.{◌≡◌, ◌++◌, IfErr, IfOk, OnOk, Some};
 ghost use Rattle.std.specs.List.{flat_map};
 ghost use Rattle.std.specs.String.{string_bytes};
+ghost use Rattle.str0m_signal.specs.Answers.{Refuses};
+ghost use Rattle.str0m_signal.specs.Reading.{Described};
 ghost use Rattle.sdpshow.specs.NegotiationLines.{PrintsRounds, outcome_line, outcome_lines, state_line, state_text};
 
 use crate::row_lines::row_line;
@@ -66,7 +68,8 @@ fn append_states(alloc: Global, text: &mut String, rows: &[PayloadParams]) -> Re
 
 /// The rounds of the default configuration against a text: what each came to, and then the rows.
 pub(crate) fn negotiation_text(alloc: Global, text: &str) -> Result<String, SdpError>
-    ensures { IfOk result (λ printed. PrintsRounds text.now (string_bytes printed)) }
+    ensures printed { IfOk result (λ printed. PrintsRounds text.now (string_bytes printed)) }
+    ensures refused { IfErr result (λ error. Refuses error (Described text.now)) }
 {
     let mut config = CodecConfig::new_with_defaults(alloc)?;
     let outcomes = negotiate_text(&mut config, text)?;

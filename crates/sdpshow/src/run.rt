@@ -1,10 +1,14 @@
 //! The program over any reader and any two writers.
-ghost use Rattle.std.specs.Prelude.{◌≡◌, ◌↔◌, ◌⊎◌, ℕ, List, None, IfOk, IfSome, OnOk, OnErr, map};
+ghost use Rattle.std.specs.Prelude.{◌≡◌, ◌↔◌, ◌⊎◌, ℕ, List, None, IfErr, IfOk, IfSome, OnOk, OnErr, map};
 ghost use Rattle.std.specs.String.{string_bytes};
 ghost use Rattle.std.specs.Io.KnownBytes.{Appends, IsAtEnd};
 ghost use Rattle.str0m_sdp.specs.Session.{sdp_text};
+ghost use Rattle.str0m_signal.specs.Answers.{Refuses};
+ghost use Rattle.str0m_signal.specs.Reading.{Described};
+ghost use Rattle.sdpshow.specs.Faults.{IsFaultOf, IsFaultOfInput};
 ghost use Rattle.sdpshow.specs.RowLines.{rows_text};
 ghost use Rattle.sdpshow.specs.Show.{asked, asked_by, Prints, PrintsBy, Shows, ShowsAsked, Describes};
+ghost use Rattle.sdpshow.specs.declared.fault.Fault.TheVariants.{Unwritable};
 
 use crate::fault::Fault;
 use crate::negotiation_lines::negotiation_text;
@@ -63,9 +67,11 @@ fn asked(words: &[String]) -> Option<Shown>
 }
 
 /// All that the reader holds.
+#[tactic(auto, using(crate::proofs::Faults::no_text))]
 fn whole_text<R: Read>(alloc: Global, input: &mut R) -> Result<String, Fault>
     ensures whole { IfOk result (λ text. IfSome (R.remaining input.old) (λ held. string_bytes text ≡ held)) }
     ensures end { OnOk result (IsAtEnd (R.remaining input.new)) }
+    ensures fault { IfErr result (IsFaultOfInput (R.remaining input.old)) }
 {
     let mut bytes = Vec::new(alloc);
     if let Err(error) = input.read_to_end(&mut bytes) {
@@ -81,14 +87,16 @@ fn whole_text<R: Read>(alloc: Global, input: &mut R) -> Result<String, Fault>
 }
 
 fn offer_text(alloc: Global, text: &str) -> Result<String, SdpError>
-    ensures { IfOk result (λ printed. PrintsBy sdp_text text.now (string_bytes printed)) }
+    ensures printed { IfOk result (λ printed. PrintsBy sdp_text text.now (string_bytes printed)) }
+    ensures refused { IfErr result (λ error. Refuses error (Described text.now)) }
 {
     let offer = SdpOffer::from_sdp_string(alloc, text)?;
     Ok(offer.to_sdp_string()?)
 }
 
 fn offer_rows(alloc: Global, text: &str) -> Result<String, SdpError>
-    ensures { IfOk result (λ printed. PrintsBy rows_text text.now (string_bytes printed)) }
+    ensures printed { IfOk result (λ printed. PrintsBy rows_text text.now (string_bytes printed)) }
+    ensures refused { IfErr result (λ error. Refuses error (Described text.now)) }
 {
     let offer = SdpOffer::from_sdp_string(alloc, text)?;
     Ok(rows_text(alloc, &offer)?)
@@ -96,7 +104,8 @@ fn offer_rows(alloc: Global, text: &str) -> Result<String, SdpError>
 
 /// What is shown of the description that the text begins with.
 fn printed(alloc: Global, shown: Shown, text: &str) -> Result<String, SdpError>
-    ensures { IfOk result (λ printed. Prints shown text.now (string_bytes printed)) }
+    ensures printed { IfOk result (λ printed. Prints shown text.now (string_bytes printed)) }
+    ensures refused { IfErr result (λ error. Refuses error (Described text.now)) }
 {
     match shown {
         Shown::Text => offer_text(alloc, text),
@@ -106,7 +115,8 @@ fn printed(alloc: Global, shown: Shown, text: &str) -> Result<String, SdpError>
 }
 
 fn write_whole<W: Write>(output: &mut W, text: &str) -> Result<(), Fault>
-    ensures { OnOk result (Appends (W.contents output.old) (W.contents output.new) text.now) }
+    ensures written { OnOk result (Appends (W.contents output.old) (W.contents output.new) text.now) }
+    ensures fault { IfErr result (λ fault. fault ≡ Unwritable) }
 {
     if output.write_all(text.as_bytes()).is_err() || output.flush().is_err() {
         return Err(Fault::Unwritable);
@@ -115,6 +125,7 @@ fn write_whole<W: Write>(output: &mut W, text: &str) -> Result<(), Fault>
 }
 
 /// Shows the description that the reader holds.
+#[tactic(auto, using(crate::proofs::Faults::of_input, crate::proofs::Faults::of_refusal))]
 fn show<R: Read, W: Write>(
     alloc: Global,
     shown: Shown,
@@ -125,6 +136,7 @@ fn show<R: Read, W: Write>(
         × Appends (W.contents output.old) (W.contents output.new) printed) }
     ensures end { OnOk result (IsAtEnd (R.remaining input.new)) }
     ensures refused { OnErr result ((output.new ≡ output.old) ⊎ Describes (R.remaining input.old)) }
+    ensures fault { IfErr result (IsFaultOf (R.remaining input.old)) }
 {
     let text = whole_text(alloc, input)?;
     let printed = printed(alloc, shown, text.as_str())?;

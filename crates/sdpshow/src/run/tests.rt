@@ -34,10 +34,11 @@ impl<'a> Read for Broken<'a> {
     }
 }
 
-/// Takes so many bytes, one a write, and then fails.
+/// Takes so many bytes, one a write, and then fails; and fails to hand them on, where it is so made.
 #[derive(Drop)]
 struct Full {
     room: usize,
+    hands_on: bool,
     taken: Vec<u8>,
 }
 
@@ -51,7 +52,11 @@ impl Write for Full {
     }
 
     fn flush(&mut self) -> io::Result<()> {
-        Ok(())
+        if self.hands_on {
+            Ok(())
+        } else {
+            Err(io::Error::from(ErrorKind::StorageFull))
+        }
     }
 }
 
@@ -59,6 +64,7 @@ impl Write for Full {
 fn with_room(alloc: Global, room: usize) -> Full {
     Full {
         room,
+        hands_on: true,
         taken: Vec::new(alloc),
     }
 }
@@ -310,5 +316,30 @@ fn output_that_cannot_be_written(rt: HostRuntime) -> Result<(), Fail> {
         );
         assert_eq!(rt; faults.taken.as_slice(), said.as_bytes());
     }
+    Ok(())
+}
+
+/// What is written whole, and isn't handed on, is a fault.
+#[test]
+fn output_that_is_not_handed_on(rt: HostRuntime) -> Result<(), Fail> {
+    let alloc = rt.alloc();
+    let words = owned(alloc, &["text"])?;
+    let mut input = HEADER.as_bytes();
+    let mut output = with_room(alloc, PRINTED.len());
+    output.hands_on = false;
+    let mut faults = with_room(alloc, 100);
+    let answer = run(
+        alloc,
+        words.as_slice(),
+        &mut input,
+        &mut output,
+        &mut faults,
+    );
+    assert_eq!(rt; answer, 1);
+    assert_eq!(rt; output.taken.as_slice(), PRINTED.as_bytes());
+    assert_eq!(rt;
+        faults.taken.as_slice(),
+        b"cannot write output\n".as_slice()
+    );
     Ok(())
 }

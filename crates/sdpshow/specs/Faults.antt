@@ -1,0 +1,50 @@
+-- Why a run of the program fails, and the line that says so.
+use Rattle.std.specs.Prelude.{◌≡◌, ℕ, List, Option, Some, None, IfSome, codes}
+use Rattle.std.specs.Str.{IsUtf8}
+use Rattle.str0m_sdp.specs.declared.error.SdpError.{SdpError}
+use Rattle.str0m_sdp.specs.declared.error.SdpError.TheVariants.{ParseError, Inconsistent, Memory}
+use Rattle.str0m_sdp.specs.declared.session.Sdp.{Sdp}
+use Rattle.str0m_signal.specs.Reading.{Described}
+use Rattle.sdpshow.specs.Show.{Describes}
+use Rattle.sdpshow.specs.declared.fault.Fault.{Fault}
+use Rattle.sdpshow.specs.declared.fault.Fault.TheVariants.{Refused, NotUtf8, Unreadable, Unwritable}
+
+-- what the line says; of a refusal it is the refusal's own wording, which no contract has
+abbrev pub fault_text : Fault → Option (List ℕ)
+fault_text (Refused refusal) = None
+fault_text NotUtf8 = Some (codes "input is not UTF-8")
+fault_text Unreadable = Some (codes "cannot read input")
+fault_text Unwritable = Some (codes "cannot write output")
+
+-- what a reader holds, where that is known, is no text
+abbrev pub IsNoText : Option (List ℕ) → Type 0
+IsNoText held = IfSome held (λ bytes. IsUtf8 bytes → ⊥)
+
+abbrev pub IsWantOfMemory : SdpError → Type 0
+IsWantOfMemory (ParseError message) = ⊥
+IsWantOfMemory (Inconsistent message) = ⊥
+IsWantOfMemory Memory = Unit {0}
+
+-- what may be wrong with the input itself
+abbrev pub IsFaultOfInput : Option (List ℕ) → Fault → Type 0
+IsFaultOfInput held (Refused refusal) = IsWantOfMemory refusal
+IsFaultOfInput held NotUtf8 = IsNoText held
+IsFaultOfInput held Unreadable = Unit {0}
+IsFaultOfInput held Unwritable = ⊥
+
+-- what a reader holds, where that is known, describes no session
+abbrev pub DescribesNone : Option (List ℕ) → Type 0
+DescribesNone held = (bytes : List ℕ) × IfSome held (λ known. bytes ≡ known) × ((sdp : Sdp) → Described bytes sdp → ⊥)
+
+-- what a refusal says of what was read
+abbrev pub IsRefusalOf : Option (List ℕ) → SdpError → Type 0
+IsRefusalOf held (ParseError message) = DescribesNone held
+IsRefusalOf held (Inconsistent message) = ⊥
+IsRefusalOf held Memory = Unit {0}
+
+-- what a fault says of the input; the output is written only where the input describes a session
+abbrev pub IsFaultOf : Option (List ℕ) → Fault → Type 0
+IsFaultOf held (Refused refusal) = IsRefusalOf held refusal
+IsFaultOf held NotUtf8 = IsNoText held
+IsFaultOf held Unreadable = Unit {0}
+IsFaultOf held Unwritable = Describes held
