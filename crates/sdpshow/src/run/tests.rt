@@ -85,6 +85,13 @@ const SECTIONS: &[u8] =
 const ROWS: &str =
     "0 111 - 63 opus/48000/2 minptime=10;useinbandfec=1\n0 101 - - telephone-event/8000 0-16\n0 9 - - G722/16000 -\none 96 97 - VP8/90000 -\n";
 
+/// A session that allows header extensions of one and of two bytes side by side.
+const MIXED: &[u8] = b"v=0\r\no=- 1 1 IN IP4 127.0.0.1\r\ns=-\r\nt=0 0\r\na=extmap-allow-mixed\r\n";
+
+/// What it prints.
+const MIXED_PRINTED: &str =
+    "v=0\r\no=str0m-0.25.0 1 2 IN IP4 0.0.0.0\r\ns=-\r\nt=0 0\r\na=extmap-allow-mixed\r\n";
+
 /// A section of one row.
 const OPUS: &[u8] =
     b"v=0\r\no=- 7 2 IN IP4 127.0.0.1\r\ns=-\r\nt=0 0\r\nm=audio 9 UDP/TLS/RTP/SAVPF 111\r\nc=IN IP4 0.0.0.0\r\na=setup:actpass\r\na=mid:0\r\na=sendrecv\r\na=rtpmap:111 opus/48000/2\r\na=fmtp:111 minptime=10;useinbandfec=1\r\n";
@@ -114,7 +121,7 @@ const CHECKSUMS: &[u8] =
     b"v=0\r\no=- 1 1 IN IP4 127.0.0.1\r\ns=-\r\nt=0 0\r\nm=audio 9 UDP/TLS/RTP/SAVPF 122\r\nc=IN IP4 0.0.0.0\r\na=mid:0\r\na=sendrecv\r\na=rtpmap:122 AMR-WB/16000\r\na=fmtp:122 crc=1\r\n";
 
 /// Words, what is read, the status, and what is written and said.
-const RUNS: [(&[&str], &[u8], u8, &str, &str); 30] = [
+const RUNS: [(&[&str], &[u8], u8, &str, &str); 31] = [
     (&[], b"", 2, "", USAGE),
     (&[""], b"", 2, "", USAGE),
     (&["show"], b"", 2, "", USAGE),
@@ -175,6 +182,7 @@ const RUNS: [(&[&str], &[u8], u8, &str, &str); 30] = [
         "",
         "input is not UTF-8\n",
     ),
+    (&["text"], MIXED, 0, MIXED_PRINTED, ""),
     (&["text"], b"\xc3", 1, "", "input is not UTF-8\n"),
     (&["text"], b"\xff", 1, "", "input is not UTF-8\n"),
     (&["rows"], b"\xff", 1, "", "input is not UTF-8\n"),
