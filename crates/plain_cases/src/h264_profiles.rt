@@ -3,7 +3,7 @@
 use crate::lists::append;
 use std::alloc::{AllocError, Global};
 use str0m_values::cuts::hex_u32;
-use str0m_values::{H264ProfileLevel, NoProfileLevel};
+use str0m_values::{H264ProfileLevel, NoProfileLevel, lower_level};
 
 /// What the call that the word names answers of the text; none for a word of others.
 pub(crate) fn answer(alloc: Global, word: &str, text: &str) -> Result<Option<String>, AllocError> {
@@ -11,6 +11,7 @@ pub(crate) fn answer(alloc: Global, word: &str, text: &str) -> Result<Option<Str
         "h264" => Some(named(alloc, text)?),
         "h264-fallback" => Some(shown(alloc, H264ProfileLevel::FALLBACK)?),
         "h264-levels-of-high" => Some(levels_of_high(alloc)?),
+        "h264-lower" => Some(lower(alloc, text)?),
         _ => None,
     })
 }
@@ -45,4 +46,27 @@ fn levels_of_high(alloc: Global) -> Result<String, AllocError> {
         }
     }
     Ok(list)
+}
+
+/// The id of the lower of two levels, `OWN OTHER`, each in hexadecimal or `-` for none.
+fn lower(alloc: Global, text: &str) -> Result<String, AllocError> {
+    let Some((own, other)) = two_ids(text) else {
+        return "no two numbers".to_string(alloc);
+    };
+    match lower_level(own, other) {
+        Some(id) => format!(in alloc; "{id:06x}"),
+        None => "-".to_string(alloc),
+    }
+}
+
+fn two_ids(text: &str) -> Option<(Option<u32>, Option<u32>)> {
+    let (own, other) = text.split_once(' ')?;
+    Some((id_or_dash(own)?, id_or_dash(other)?))
+}
+
+fn id_or_dash(text: &str) -> Option<Option<u32>> {
+    if text == "-" {
+        return Some(None);
+    }
+    Some(Some(hex_u32(text)?))
 }

@@ -1,6 +1,5 @@
 -- Parameters of the table of keys, as they print and are read again.
-use Rattle.std.proofs.Common.{◌≡◌, ◌⊎◌, ◌≤◌, ◌||◌, ℕ, Bool, true, false, List, [], ◌∷◌, ◌++◌, length, map, filter, nat_lt, Option, Some, None, MatchOption, refl, sym, ap, ◌∙◌, subst, arith, lit≤, inl, inr}
-use Rattle.std.specs.Prelude.{codes}
+use Rattle.std.proofs.Common.{◌≡◌, ◌⊎◌, ℕ, Bool, true, false, List, [], ◌∷◌, length, map, filter, nat_lt, Option, Some, None, MatchOption, refl, ap, arith, lit≤, inl, inr}
 use Rattle.std.specs.List.{AllByRecursion, list_all}
 use Rattle.std.specs.Str.{str_to_ascii_lowercase}
 use Rattle.std.proofs.lemmas.Bool.{lt-ltb}
@@ -9,9 +8,9 @@ use Rattle.str0m_values.specs.Parts.{IsRest}
 use Rattle.str0m_formats.specs.declared.format_key.FormatKey.{FormatKey}
 use Rattle.str0m_formats.specs.declared.format_key.FormatKey.TheVariants as key
 use Rattle.str0m_formats.specs.declared.format_param.FormatParam.{FormatParam}
-use Rattle.str0m_formats.specs.declared.format_param.FormatParam.TheVariants.{MinPTime, PacketizationMode, ProfileId, Profile, LevelIdx, Tier, H265ProfileTierLevel, H266ProfileTierLevel, SpropMaxDonDiff, TelephoneEvents, BareRange, BarePtList, AmrWbUnsupported, Apt, Red, Unknown}
+use Rattle.str0m_formats.specs.declared.format_param.FormatParam.TheVariants.{MinPTime, PacketizationMode, ProfileId, Profile, LevelIdx, Tier, H265ProfileTierLevel, H266ProfileTierLevel, SpropMaxDonDiff, TelephoneEvents, BareRange, BarePtList, AmrWbUnsupported, Apt, Red}
 use Rattle.str0m_formats.specs.FormatKey.{key_text}
-use Rattle.str0m_formats.specs.FormatParam.{Value, flag, number, hex, modes, Reads, Holds, Spells, IsParsed, AreParsed, InRange, IsPrinted, entry, entry_text, value_text, param_text}
+use Rattle.str0m_formats.specs.FormatParam.{Value, flag, number, hex, modes, Reads, Holds, IsParsed, AreParsed, InRange, entry, entry_text, value_text, param_text}
 use Rattle.str0m_formats.specs.Pairs.{is_mark, has_mark}
 use Rattle.str0m_formats.specs.ParamReading.{param_of}
 use Rattle.str0m_formats.proofs.ModeBounds.{modes_within}

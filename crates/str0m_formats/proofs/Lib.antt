@@ -44,7 +44,9 @@ pub mod OpenRows
 pub mod Invariants
 pub mod Counting
 pub mod LockedStays
+pub mod SpecSteps
 pub mod Telephone
+pub mod Levels
 pub mod Matched
 pub mod Distinct
 pub mod SmallTypes

@@ -46,7 +46,7 @@ points-score taken receives row theirs h = ap (λ b. cond b None (score row.spec
   and_more true true false d e = refl
   and_more true true true d e = absurd (true≢false e)
 
-some_score : (taken : TypeSet) (receives : Bool) (row theirs : PayloadParams) (n : ℕ) → points_for taken receives row theirs ≡ Some n → score row.spec theirs.spec ≢ None
+pub some_score : (taken : TypeSet) (receives : Bool) (row theirs : PayloadParams) (n : ℕ) → points_for taken receives row theirs ≡ Some n → score row.spec theirs.spec ≢ None
 unfolding points_for
 some_score taken receives row theirs n h = go (is_amr_wb row.spec.codec && (not row.locked && (receives && taken theirs.pt))) h where
   none_some : ◌≡◌ {A = Option ℕ} None (Some n) → ⊥

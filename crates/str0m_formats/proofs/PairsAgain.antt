@@ -1,11 +1,11 @@
 -- What pairs were read as prints as pairs that are read as the same, but for what prints nothing.
-use Rattle.std.proofs.Common.{◌≡◌, ◌≢◌, ◌≤◌, ◌<◌, ◌||◌, ◌^◌, ℕ, Bool, true, false, not, List, [], ◌∷◌, ◌++◌, length, map, filter, nat_lt, Option, Some, None, MatchOption, refl, sym, ap, ◌∙◌, subst, arith, lit<, inl, inr}
+use Rattle.std.proofs.Common.{◌≡◌, ◌≢◌, ◌≤◌, ℕ, Bool, true, false, List, [], ◌∷◌, ◌++◌, length, map, filter, Option, Some, None, MatchOption, refl, sym, ap, ◌∙◌, subst, arith, lit<, inl, inr}
 use Rattle.std.specs.Prelude.{codes}
 use Rattle.std.specs.Bool.{MatchBool}
 use Rattle.std.specs.Fmt.{decimal}
 use Rattle.std.specs.List.{AllByRecursion, IsDistinct, cons_option, join_with_byte}
 use Rattle.std.specs.Map.{keys_of}
-use Rattle.std.specs.Str.{bytes_eq, str_to_ascii_lowercase}
+use Rattle.std.specs.Str.{bytes_eq}
 use Rattle.std.proofs.lemmas.Bool.{lt-ltb, false≢true, false_from_ne_true}
 use Rattle.std.proofs.lemmas.Fmt.{decimal_nonempty}
 use Rattle.std.proofs.lemmas.List.{append_assoc}
@@ -20,8 +20,8 @@ use Rattle.str0m_formats.specs.declared.format_param.FormatParam.{FormatParam}
 use Rattle.str0m_formats.specs.declared.format_param.FormatParam.TheVariants.{AmrWbUnsupported, H265ProfileTierLevel, H266ProfileTierLevel}
 use Rattle.str0m_formats.specs.FormatKey.{key_text}
 use Rattle.str0m_formats.specs.FormatParam.{Value, Reads, Holds, IsParsed, AreParsed, entry, param_text}
-use Rattle.str0m_formats.specs.Pairs.{has_mark, merged, others, texts_of, is_part, AreJoined, AreRead}
-use Rattle.str0m_formats.specs.PairsReading.{params_read, joined_read, triple_read}
+use Rattle.str0m_formats.specs.Pairs.{has_mark, merged, others, is_part, AreJoined, AreRead}
+use Rattle.str0m_formats.specs.PairsReading.{params_read, triple_read}
 use Rattle.str0m_formats.specs.ParamReading.{param_of}
 use Rattle.str0m_formats.proofs.KeyedParams.{IsKeyed, AreKeyed, pair_of, entry_pair, prints, key_unmarked, keyed_or_hidden, keyed_shown, shown_keyed, keyed_params, keyed_texts, keyed_pairs, keyed_unmarked}
 use Rattle.str0m_formats.proofs.MergedKeys.{IsLow, AreLow, AreApart, merged_apart, others_all, others_apart, others_other, others_same, merged_same}

@@ -105,6 +105,17 @@ events-narrowed own chosen is p = record {
   no_maximum = λ other_than. absurd (other_than (ap content is));
 }
 
+h264-narrowed : (own chosen : CodecSpec) → own.codec ≡ H264 → PlainSpec own → PlainSpec (narrowed_as H264 own chosen)
+h264-narrowed own chosen is p = record {
+  carried = p.carried;
+  modes = p.modes;
+  distance = p.distance;
+  triples = record { h265 = p.triples.h265; h266 = p.triples.h266 };
+  g722 = λ e. absurd (cc);
+  telephone = λ e. let v = sym (ap content is) ∙ e in absurd (cc);
+  no_maximum = p.no_maximum;
+}
+
 h265-narrowed : (own chosen : CodecSpec) → own.codec ≡ H265 → PlainSpec own → IfSome chosen.format.sprop_max_don_diff IsDistance
     → PlainSpec (narrowed_as H265 own chosen)
 h265-narrowed own chosen is p d = record {
@@ -162,7 +173,7 @@ spec-narrowed own chosen p m d = go own.codec refl where
   go PCMA e = p
   go G722 e = p
   go CN e = p
-  go H264 e = p
+  go H264 e = h264-narrowed own chosen e p
   go Vp8 e = p
   go Vp9 e = p
   go Av1 e = p

@@ -8,6 +8,7 @@ use Rattle.str0m_formats.proofs.LockedStays.{locked_stay}
 use Rattle.str0m_formats.proofs.Matched.{matched_are_locked, locked_at_best}
 use Rattle.str0m_formats.proofs.Distinct.{distinct_stay}
 use Rattle.str0m_formats.proofs.Telephone.{telephone_narrows}
+use Rattle.str0m_formats.proofs.Levels.{levels_narrow}
 use Rattle.str0m_formats.proofs.PlainRounds.{plain_stay}
 
 pub promised : (before remote : List PayloadParams) (receives : Bool) (after : List PayloadParams) → Leaves before remote receives after → Promises before remote receives after
@@ -20,5 +21,6 @@ promised before remote receives after r = record {
   best = locked_at_best before remote receives after r;
   distinct = distinct_stay before remote receives after r;
   telephone = telephone_narrows before remote receives after r;
+  levels = levels_narrow before remote receives after r;
   plain = plain_stay before remote receives after r;
 }

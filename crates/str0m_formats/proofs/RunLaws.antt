@@ -14,11 +14,13 @@ use Rattle.str0m_formats.specs.PlainRow.{IsPlain}
 use Rattle.str0m_formats.specs.Rows.{AllSmall, types, locked_types}
 use Rattle.str0m_formats.specs.Rounds.{Leaves}
 use Rattle.str0m_formats.specs.Runs.{Outcome, Ran, Reached, AtEachOk}
-use Rattle.str0m_formats.specs.Promises.{AtEachRow, LockedStay, StaysLocked, TelephoneNarrows, Promises, OnlyForMemory, RunPromises}
+use Rattle.str0m_formats.specs.Promises.{AtEachRow, LockedStay, StaysLocked, TelephoneNarrows, LevelsNarrow}
+use Rattle.str0m_formats.specs.Promises.{Promises, OnlyForMemory, RunPromises}
 use Rattle.str0m_formats.proofs.WholeRound.{row_before}
 use Rattle.str0m_formats.proofs.Counting.{never_exhausted}
 use Rattle.str0m_formats.proofs.LockedStays.{stays-same, stays-then}
 use Rattle.str0m_formats.proofs.Telephone.{Narrows, narrows-same, narrows-then}
+use Rattle.str0m_formats.proofs.Levels.{Lowers, lowers-same, lowers-then}
 use Rattle.str0m_formats.proofs.SmallTypes.{small-append, bounds_kept}
 use Rattle.str0m_formats.proofs.MemoryAlone.{only_for_memory}
 use Rattle.str0m_formats.proofs.Promised.{promised}
@@ -97,6 +99,13 @@ pub run_telephone_narrows : (before : List PayloadParams) (rounds : List Round) 
 run_telephone_narrows before rounds outcomes after h =
     (along_places (λ old new. Narrows old.spec new.spec) (λ row. narrows-same row.spec) (λ a b c. narrows-then a.spec b.spec c.spec) (λ a remote dir b p. p.telephone) before rounds outcomes after h).1
 
+-- the level of an H264 row never grows, and its profile stays
+pub run_levels_narrow : (before : List PayloadParams) (rounds : List Round) (outcomes : List Outcome) (after : List PayloadParams)
+    → Reached before rounds outcomes after → LevelsNarrow before after
+run_levels_narrow before rounds outcomes after h =
+    (along_places (λ old new. Lowers old.spec new.spec) (λ row. lowers-same row.spec) (λ a b c. lowers-then a.spec b.spec c.spec)
+    (λ a remote dir b p. p.levels) before rounds outcomes after h).1
+
 -- plain rows stay plain through rounds against rows that keep to their ranges
 pub run_plain_stay : (before : List PayloadParams) (rounds : List Round) (outcomes : List Outcome) (after : List PayloadParams)
     → Reached before rounds outcomes after → All IsPlain before → All (λ round. All IsBounded round.remote.items) rounds
@@ -167,6 +176,7 @@ run_promised before rounds outcomes after r = record {
   stay = run_locked_stay before rounds outcomes after r;
   distinct = run_distinct_stay before rounds outcomes after r;
   telephone = run_telephone_narrows before rounds outcomes after r;
+  levels = run_levels_narrow before rounds outcomes after r;
   plain = run_plain_stay before rounds outcomes after r;
   room = run_never_exhausted before rounds outcomes after r;
   bounded = run_only_for_memory before rounds outcomes after r;

@@ -1,6 +1,7 @@
 -- What the row that a row is matched with changes in its format.
-use Rattle.std.specs.Prelude.{ℕ, Option, Some, None, unwrap_or, min, nat_lt, if◌then◌else◌}
+use Rattle.std.specs.Prelude.{◌&&◌, ℕ, Bool, false, Option, Some, None, unwrap_or, min, nat_lt, if◌then◌else◌}
 use Rattle.std.specs.Option.{option_or}
+use Rattle.str0m_values.specs.H264.{lower_level}
 use Rattle.str0m_values.specs.H265 as h265
 use Rattle.str0m_values.specs.H266 as h266
 use Rattle.str0m_values.specs.declared.h265.H265ProfileTierLevel.{H265ProfileTierLevel}
@@ -33,10 +34,22 @@ abbrev pub id_beside : {Triple : Type 0} → Option Triple → Option ℕ → Op
 id_beside (Some triple) id = None
 id_beside None id = id
 
+-- whether each side may send at a level of its own, as it may where both say so (RFC 6184, section 8.1)
+abbrev pub levels_differ : FormatParams → FormatParams → Bool
+levels_differ own chosen = unwrap_or own.level_asymmetry_allowed false && unwrap_or chosen.level_asymmetry_allowed false
+
+-- the profile-level-id of a row: its own where levels may differ, else that of the lower level (RFC 6184, section 8.2.2)
+abbrev pub lower_h264 : FormatParams → FormatParams → Option ℕ
+lower_h264 own chosen =
+    if levels_differ own chosen then own.profile_level_id else lower_level own.profile_level_id chosen.profile_level_id
+
 -- the format of a row of each codec once it is matched
 abbrev pub narrowed_as : Codec → CodecSpec → CodecSpec → CodecSpec
 narrowed_as Tele own chosen = record own {
   format = record own.format { telephone_event_max = Some (min (telephone_max own.format) (telephone_max chosen.format)) };
+}
+narrowed_as H264 own chosen = record own {
+  format = record own.format { profile_level_id = lower_h264 own.format chosen.format };
 }
 narrowed_as H265 own chosen = record own {
   format = record own.format {
@@ -64,7 +77,6 @@ narrowed_as PCMU own chosen = own
 narrowed_as PCMA own chosen = own
 narrowed_as G722 own chosen = own
 narrowed_as CN own chosen = own
-narrowed_as H264 own chosen = own
 narrowed_as Vp8 own chosen = own
 narrowed_as Vp9 own chosen = own
 narrowed_as Av1 own chosen = own

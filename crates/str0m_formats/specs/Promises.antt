@@ -1,7 +1,10 @@
 -- What every accepted round promises, read off the rows before it, the remote rows and the rows after it alone.
-use Rattle.std.specs.Prelude.{◌≡◌, ◌≢◌, ◌≤◌, ℕ, Bool, true, false, Some, None, Ok, Err, List, ◌++◌, length, slice_get, Contains, All}
+use Rattle.std.specs.Prelude.{◌≡◌, ◌≢◌, ◌≤◌, ℕ, Bool, true, false, Option, Some, None, Ok, Err, List, ◌++◌, length, slice_get}
+use Rattle.std.specs.Prelude.{Contains, All}
 use Rattle.str0m_values.specs.Direction.{receives}
-use Rattle.str0m_formats.specs.declared.codec.Codec.TheVariants.{AmrWb, Tele}
+use Rattle.str0m_values.specs.H264.{named, level_ordinal}
+use Rattle.str0m_values.specs.declared.h264.H264ProfileLevel.{H264ProfileLevel}
+use Rattle.str0m_formats.specs.declared.codec.Codec.TheVariants.{AmrWb, H264, Tele}
 use Rattle.str0m_formats.specs.declared.payload_params.PayloadParams.{PayloadParams}
 use Rattle.str0m_formats.specs.Bounds.{IsBounded}
 use Rattle.str0m_formats.specs.PlainRow.{IsPlain}
@@ -59,6 +62,19 @@ abbrev pub TelephoneNarrows : List PayloadParams → List PayloadParams → Type
 TelephoneNarrows = AtEachRow (λ old new. old.spec.codec ≡ Tele
     → (new.spec.codec ≡ Tele) × (telephone_max new.spec.format ≤ telephone_max old.spec.format))
 
+-- the id names a level that is no higher, and is of the same profile
+pub record NamesNoHigher (had : H264ProfileLevel) (id : Option ℕ) : Type 0 where
+  pub level : H264ProfileLevel
+  pub named_so : named id ≡ Some level
+  pub profile : level.profile ≡ had.profile
+  pub no_higher : level_ordinal level.level ≤ level_ordinal had.level
+
+-- an H264 row stays one, and where it names a level it does so after, of the same profile, and the level doesn't grow
+abbrev pub LevelsNarrow : List PayloadParams → List PayloadParams → Type 0
+LevelsNarrow = AtEachRow (λ old new. old.spec.codec ≡ H264
+    → (had : H264ProfileLevel) → named old.spec.format.profile_level_id ≡ Some had
+    → (new.spec.codec ≡ H264) × NamesNoHigher had new.spec.format.profile_level_id)
+
 -- what an accepted round promises
 pub record Promises (before remote : List PayloadParams) (receives : Bool) (after : List PayloadParams) : Type 0 where
   pub leaves : Leaves before remote receives after
@@ -69,6 +85,7 @@ pub record Promises (before remote : List PayloadParams) (receives : Bool) (afte
   pub best : receives ≡ true → LockedAtBest remote before after
   pub distinct : AllDistinct (types before) → AllDistinct (types after)
   pub telephone : TelephoneNarrows before after
+  pub levels : LevelsNarrow before after
   -- against rows whose numbers keep to their ranges
   pub plain : All IsPlain before → All IsBounded remote → All IsPlain after
 
@@ -88,6 +105,7 @@ pub record RunPromises (before : List PayloadParams) (rounds : List Round) (outc
   pub stay : LockedStay before after
   pub distinct : AllDistinct (types before) → AllDistinct (types after)
   pub telephone : TelephoneNarrows before after
+  pub levels : LevelsNarrow before after
   -- where the remote rows of every round keep to their ranges
   pub plain : All IsPlain before → All (λ round. All IsBounded round.remote.items) rounds → All IsPlain after
   -- fourteen rows never exhaust the types that may be given

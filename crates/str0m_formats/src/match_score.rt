@@ -1,6 +1,7 @@
 //! How well two specs fit.
 ghost use Rattle.std.specs.Prelude.{◌≡◌, ◌≤◌, IfSome, option_map};
-ghost use Rattle.str0m_formats.specs.Scores.{same_flag, unless, opus_score, is_mono, mode_score, amr_wb_score, level_score, h264_named, h264_level_score, h264_score, h265_triple, h266_triple, profile_of, triple_score, profile_score, vp9_score, av1_score, format_score, codec_score, score};
+ghost use Rattle.str0m_values.specs.H264.{named};
+ghost use Rattle.str0m_formats.specs.Scores.{same_flag, unless, opus_score, is_mono, mode_score, amr_wb_score, level_score, h264_level_score, h264_score, h265_triple, h266_triple, profile_of, triple_score, profile_score, vp9_score, av1_score, format_score, codec_score, score};
 
 use crate::codec::Codec;
 use crate::codec_spec::CodecSpec;
@@ -87,9 +88,9 @@ fn level_score(is_same: bool, own: usize, other: usize) -> Option<usize>
 }
 
 /// What the profile-level-id of an H264 format names.
-#[tactic(auto, unfolding(crate::specs::Scores::h264_named))]
+#[tactic(auto, unfolding(str0m_values::specs::H264::named))]
 fn h264_level(id: Option<u32>) -> Option<H264ProfileLevel>
-    ensures { result ≡ h264_named id }
+    ensures { result ≡ named id }
 {
     match id {
         None => Some(H264ProfileLevel::FALLBACK),

@@ -1,12 +1,12 @@
 //! What the row that a row is matched with changes in its format.
 ghost use Rattle.std.specs.Prelude.{◌≡◌};
-ghost use Rattle.str0m_formats.specs.Narrowing.{narrowed, narrowed_as, telephone_max, lower_h265, lower_h266};
-ghost use Rattle.str0m_formats.specs.declared.codec.Codec.TheVariants.{AmrWb, H265, H266, Tele};
+ghost use Rattle.str0m_formats.specs.Narrowing.{narrowed, narrowed_as, telephone_max, levels_differ, lower_h265, lower_h266};
+ghost use Rattle.str0m_formats.specs.declared.codec.Codec.TheVariants.{AmrWb, H264, H265, H266, Tele};
 
 use crate::codec::Codec;
 use crate::codec_spec::CodecSpec;
 use crate::format_params::FormatParams;
-use str0m_values::{H265ProfileTierLevel, H266ProfileTierLevel};
+use str0m_values::{H265ProfileTierLevel, H266ProfileTierLevel, lower_level};
 
 /// The highest telephone event of a format.
 fn highest_event(format: &FormatParams) -> u8
@@ -64,6 +64,25 @@ fn narrow_events(own: &mut CodecSpec, chosen: &CodecSpec)
     own.format.telephone_event_max = Some(ours.min(theirs));
 }
 
+/// Whether each side may send at a level of its own.
+fn levels_differ(own: &FormatParams, chosen: &FormatParams) -> bool
+    ensures { result ≡ levels_differ own.now chosen.now }
+{
+    own.level_asymmetry_allowed.unwrap_or(false) && chosen.level_asymmetry_allowed.unwrap_or(false)
+}
+
+/// Where one level holds for both directions, it is the lower one.
+fn narrow_h264(own: &mut CodecSpec, chosen: &CodecSpec)
+    ensures { own.new ≡ narrowed_as H264 own.old chosen.now }
+{
+    if !levels_differ(&own.format, &chosen.format) {
+        own.format.profile_level_id = lower_level(
+            own.format.profile_level_id,
+            chosen.format.profile_level_id,
+        );
+    }
+}
+
 /// The triple of the choice with the lower level, or else its profile id, which would say a part of
 /// the triple once more.
 fn narrow_h265(own: &mut CodecSpec, chosen: &CodecSpec)
@@ -113,6 +132,7 @@ pub(crate) fn narrow(own: &mut CodecSpec, chosen: &CodecSpec)
 {
     match own.codec {
         Codec::Tele => narrow_events(own, chosen),
+        Codec::H264 => narrow_h264(own, chosen),
         Codec::H265 => narrow_h265(own, chosen),
         Codec::H266 => narrow_h266(own, chosen),
         Codec::AmrWb => narrow_amr_wb(own, chosen),

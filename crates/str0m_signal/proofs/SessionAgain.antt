@@ -42,7 +42,7 @@ named_again text (Group typ mids) quiet starts h =
     (h.0, h.1, (h.2, group_filled h.0 (typ, mids) (behind_starts 3 (codes "group:") h.0 (lit≤ tt) (subst (StartsWithin 3) h.1 starts)) h.2))
 named_again text (MsidSemantic semantic ids) quiet starts h =
     labelled meaning_again (codes "msid-semantic:") text (semantic, ids) (MsidSemantic semantic ids) (λ t k. k) quiet h
-named_again text AllowMixedExts quiet starts h = absurd h
+named_again text AllowMixedExts quiet starts h = alone (codes "extmap-allow-mixed") text AllowMixedExts refl quiet h
 named_again text IceLite quiet starts h = alone (codes "ice-lite") text IceLite refl quiet h
 named_again text (IceUfrag value) quiet starts h = labelled text_again (codes "ice-ufrag:") text value (IceUfrag value) (λ t k. k) quiet h
 named_again text (IcePwd value) quiet starts h = labelled text_again (codes "ice-pwd:") text value (IcePwd value) (λ t k. k) quiet h

@@ -5,7 +5,7 @@ use Rattle.std.proofs.lemmas.Bool.{ltb-true}
 use Rattle.str0m_sdp.specs.declared.setup.Setup.{Setup as Role}
 use Rattle.str0m_sdp.specs.declared.setup.Setup.TheVariants.{ActPass, Active, Passive}
 use Rattle.str0m_sdp.specs.declared.attribute.SessionAttribute.{SessionAttribute}
-use Rattle.str0m_sdp.specs.declared.attribute.SessionAttribute.TheVariants.{Group, MsidSemantic, IceLite, IceUfrag, IcePwd, IceOptions, Fingerprint, Setup, Candidate, EndOfCandidates, Unused}
+use Rattle.str0m_sdp.specs.declared.attribute.SessionAttribute.TheVariants.{Group, MsidSemantic, AllowMixedExts, IceLite, IceUfrag, IcePwd, IceOptions, Fingerprint, Setup, Candidate, EndOfCandidates, Unused}
 use Rattle.str0m_values.specs.declared.candidate.Candidate.{Candidate as TheCandidate}
 use Rattle.str0m_values.specs.CandidateReading.{candidate_read}
 use Rattle.str0m_values.proofs.CandidateLaws.{candidate_both}
@@ -33,7 +33,9 @@ setup_reads Active = refl
 setup_reads Passive = refl
 
 words_sound : Sound Named words_read
-words_sound = sound_or (word_sound (codes "ice-lite") IceLite refl) (word_sound (codes "end-of-candidates") EndOfCandidates refl)
+words_sound =
+    sound_or (word_sound (codes "extmap-allow-mixed") AllowMixedExts refl)
+    (sound_or (word_sound (codes "ice-lite") IceLite refl) (word_sound (codes "end-of-candidates") EndOfCandidates refl))
 
 texts_sound : Sound Named texts_read
 texts_sound =
@@ -67,6 +69,7 @@ candidate_named more candidate e = rw e refl
 named_complete : (text : List ℕ) (x : SessionAttribute) → Named text x → named_read text ≡ Some x
 named_complete text (Group typ mids) h = ap named_read h.1 ∙ rw (group_both.complete h.0 (typ, mids) h.2) refl
 named_complete text (MsidSemantic semantic ids) h = ap named_read h.1 ∙ rw (msid_semantic_both.complete h.0 (semantic, ids) h.2) refl
+named_complete text AllowMixedExts h = rw h refl
 named_complete text IceLite h = rw h refl
 named_complete text (IceUfrag value) h = ap named_read h.1 ∙ rw (text_both.complete h.0 value h.2) refl
 named_complete text (IcePwd value) h = ap named_read h.1 ∙ rw (text_both.complete h.0 value h.2) refl

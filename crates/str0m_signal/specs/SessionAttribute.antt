@@ -1,7 +1,7 @@
 -- The attributes of a session, each with the text that stands for it after `a=`.
 use Rattle.std.specs.Prelude.{◌≡◌, ◌++◌, ℕ, List, codes}
 use Rattle.str0m_sdp.specs.declared.attribute.SessionAttribute.{SessionAttribute}
-use Rattle.str0m_sdp.specs.declared.attribute.SessionAttribute.TheVariants.{Group, MsidSemantic, IceLite, IceUfrag, IcePwd, IceOptions, Fingerprint, Setup, Candidate, EndOfCandidates, Unused}
+use Rattle.str0m_sdp.specs.declared.attribute.SessionAttribute.TheVariants.{Group, MsidSemantic, AllowMixedExts, IceLite, IceUfrag, IcePwd, IceOptions, Fingerprint, Setup, Candidate, EndOfCandidates, Unused}
 use Rattle.str0m_values.specs.Candidate.{IsCandidateText}
 use Rattle.str0m_values.specs.Parts.{IsRest}
 use Rattle.str0m_values.specs.Fits.{FirstFit}
@@ -11,10 +11,11 @@ use Rattle.str0m_signal.specs.Forms.{Behind, IsText}
 use Rattle.str0m_sdp.specs.Setup.{setup_text}
 use Rattle.str0m_signal.specs.Lines.{IsAttributeLine}
 
--- each attribute but `Unused`; the others are never read
+-- each attribute but `Unused`
 abbrev pub Named : List ℕ → SessionAttribute → Type 0
 Named text (Group typ mids) = Behind (codes "group:") IsGroup text (typ, mids)
 Named text (MsidSemantic semantic ids) = Behind (codes "msid-semantic:") IsMsidSemantic text (semantic, ids)
+Named text AllowMixedExts = text ≡ codes "extmap-allow-mixed"
 Named text IceLite = text ≡ codes "ice-lite"
 Named text (IceUfrag value) = Behind (codes "ice-ufrag:") IsText text value
 Named text (IcePwd value) = Behind (codes "ice-pwd:") IsText text value

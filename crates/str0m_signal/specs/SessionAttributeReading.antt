@@ -1,7 +1,7 @@
 -- Reading of a session's attribute as a function.
 use Rattle.std.specs.Prelude.{ℕ, List, Option, Some, codes}
 use Rattle.str0m_sdp.specs.declared.attribute.SessionAttribute.{SessionAttribute}
-use Rattle.str0m_sdp.specs.declared.attribute.SessionAttribute.TheVariants.{Group, MsidSemantic, IceLite, IceUfrag, IcePwd, IceOptions, Fingerprint, Setup, Candidate, EndOfCandidates, Unused}
+use Rattle.str0m_sdp.specs.declared.attribute.SessionAttribute.TheVariants.{Group, MsidSemantic, AllowMixedExts, IceLite, IceUfrag, IcePwd, IceOptions, Fingerprint, Setup, Candidate, EndOfCandidates, Unused}
 use Rattle.str0m_values.specs.CandidateReading.{candidate_read}
 use Rattle.str0m_signal.specs.FieldsReading.{fingerprint_read}
 use Rattle.str0m_signal.specs.WordsReading.{names_read, group_fields_read, msid_semantic_fields_read}
@@ -12,7 +12,8 @@ use Rattle.str0m_signal.specs.MediaAttributeReading.{role_read}
 -- the attributes that are a word alone
 abbrev pub words_read : List ℕ → Option SessionAttribute
 words_read text =
-    alone (codes "ice-lite") IceLite text
+    alone (codes "extmap-allow-mixed") AllowMixedExts text
+    <|> alone (codes "ice-lite") IceLite text
     <|> alone (codes "end-of-candidates") EndOfCandidates text
 
 -- the attributes that are a label and a text

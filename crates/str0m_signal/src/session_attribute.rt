@@ -22,6 +22,7 @@ fn word(text: &str) -> Option<SessionAttribute>
     ensures { result ≡ words_read text.now }
 {
     match text {
+        "extmap-allow-mixed" => Some(SessionAttribute::AllowMixedExts),
         "ice-lite" => Some(SessionAttribute::IceLite),
         "end-of-candidates" => Some(SessionAttribute::EndOfCandidates),
         _ => None,

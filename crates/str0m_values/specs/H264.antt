@@ -92,3 +92,19 @@ profile_level_of_bytes idc iop third =
 abbrev pub profile_level_of : ℕ → Option H264ProfileLevel
 profile_level_of id =
     if nat_lt id (2 ^ 24) then profile_level_of_bytes (id / 2 ^ 16) (id / 2 ^ 8 % 2 ^ 8) (id % 2 ^ 8) else None
+
+-- what a profile-level-id names; an absent one means Baseline at level 1
+unfoldable pub named : Option ℕ → Option H264ProfileLevel
+named None = Some (record { profile = Baseline; level = level.L1 })
+named (Some id) = profile_level_of id
+
+-- ---- the lower of two levels (RFC 6184, section 8.2.2)
+
+-- of two profile-level-ids with what they name: the other one where both name a level and its level is lower, else the own one
+abbrev pub lower_of : Option ℕ → Option ℕ → Option H264ProfileLevel → Option H264ProfileLevel → Option ℕ
+lower_of own other (Some ours) (Some theirs) =
+    if nat_lt (level_ordinal theirs.level) (level_ordinal ours.level) then other else own
+lower_of own other _ _ = own
+
+abbrev pub lower_level : Option ℕ → Option ℕ → Option ℕ
+lower_level own other = lower_of own other (named own) (named other)

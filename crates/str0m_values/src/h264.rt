@@ -3,7 +3,7 @@ ghost use Rattle.std.specs.Prelude.{◌≡◌, ◌≤◌, ℕ, count_by, map};
 ghost use Rattle.std.specs.List.{range_with_len};
 ghost use Rattle.std.specs.Ordering.{nat_cmp};
 ghost use Rattle.std.specs.Result.{result_ok};
-ghost use Rattle.str0m_values.specs.H264.{fits, level_of, level_ordinal, levels, marks_1b, patterns, profile_level_of, profile_level_of_bytes, profile_of};
+ghost use Rattle.str0m_values.specs.H264.{fits, level_of, level_ordinal, levels, lower_level, marks_1b, named, patterns, profile_level_of, profile_level_of_bytes, profile_of};
 
 use self::H264Profile::{
     Baseline, ConstrainedBaseline, ConstrainedHigh, High, Main, PredictiveHigh444,
@@ -169,4 +169,27 @@ fn is_1b(idc: u8, iop: u8) -> bool
     ensures { result ≡ marks_1b idc iop }
 {
     (idc == 0x42 || idc == 0x4d || idc == 0x58) && iop & 0x10 == 0x10
+}
+
+/// What a profile-level-id names; an absent one stands for the fallback.
+#[tactic(auto, unfolding(crate::specs::H264::named))]
+fn named(id: Option<u32>) -> Option<H264ProfileLevel>
+    ensures { result ≡ named id }
+{
+    match id {
+        None => Some(H264ProfileLevel::FALLBACK),
+        Some(id) => H264ProfileLevel::try_from(id).ok(),
+    }
+}
+
+/// The profile-level-id that both sides bear where levels may not differ by direction (RFC 6184,
+/// section 8.2.2): `other` where both ids name a profile and a level and that of `other` is lower, else
+/// `own`. An absent id stands for `H264ProfileLevel::FALLBACK`. Profiles aren't compared.
+pub fn lower_level(own: Option<u32>, other: Option<u32>) -> Option<u32>
+    ensures { result ≡ lower_level own other }
+{
+    match (named(own), named(other)) {
+        (Some(ours), Some(theirs)) if theirs.level.ordinal() < ours.level.ordinal() => other,
+        _ => own,
+    }
 }

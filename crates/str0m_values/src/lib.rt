@@ -33,7 +33,7 @@ pub use direction::Direction;
 pub use extension::Extension;
 pub use fingerprint::{Fingerprint, FingerprintError, FingerprintFmt};
 pub use frequency::Frequency;
-pub use h264::{H264Level, H264Profile, H264ProfileLevel, NoProfileLevel};
+pub use h264::{H264Level, H264Profile, H264ProfileLevel, NoProfileLevel, lower_level};
 pub use h265::{H265Level, H265Profile, H265ProfileTierLevel, H265Tier};
 pub use h266::{H266Level, H266Profile, H266ProfileTierLevel, H266Tier};
 pub use ice_creds::IceCreds;

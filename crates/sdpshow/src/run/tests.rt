@@ -85,6 +85,13 @@ const SECTIONS: &[u8] =
 const ROWS: &str =
     "0 111 - 63 opus/48000/2 minptime=10;useinbandfec=1\n0 101 - - telephone-event/8000 0-16\n0 9 - - G722/16000 -\none 96 97 - VP8/90000 -\n";
 
+/// A session that allows header extensions of one and of two bytes side by side.
+const MIXED: &[u8] = b"v=0\r\no=- 1 1 IN IP4 127.0.0.1\r\ns=-\r\nt=0 0\r\na=extmap-allow-mixed\r\n";
+
+/// What it prints.
+const MIXED_PRINTED: &str =
+    "v=0\r\no=str0m-0.25.0 1 2 IN IP4 0.0.0.0\r\ns=-\r\nt=0 0\r\na=extmap-allow-mixed\r\n";
+
 /// A section of one row.
 const OPUS: &[u8] =
     b"v=0\r\no=- 7 2 IN IP4 127.0.0.1\r\ns=-\r\nt=0 0\r\nm=audio 9 UDP/TLS/RTP/SAVPF 111\r\nc=IN IP4 0.0.0.0\r\na=setup:actpass\r\na=mid:0\r\na=sendrecv\r\na=rtpmap:111 opus/48000/2\r\na=fmtp:111 minptime=10;useinbandfec=1\r\n";
@@ -96,6 +103,14 @@ const OPUS_AT_109: &[u8] =
 /// What its round comes to.
 const NEGOTIATED: &str =
     "round 1 ok\nlocked 109 - - opus/48000/2 minptime=10;useinbandfec=1\nopen 96 97 - VP8/90000 -\nopen 127 121 - H264/90000 level-asymmetry-allowed=1;packetization-mode=1;profile-level-id=42001f\nopen 125 107 - H264/90000 level-asymmetry-allowed=1;packetization-mode=0;profile-level-id=42001f\nopen 108 104 - H264/90000 level-asymmetry-allowed=1;packetization-mode=1;profile-level-id=42e01f\nopen 124 120 - H264/90000 level-asymmetry-allowed=1;packetization-mode=0;profile-level-id=42e01f\nopen 123 119 - H264/90000 level-asymmetry-allowed=1;packetization-mode=1;profile-level-id=4d001f\nopen 35 36 - H264/90000 level-asymmetry-allowed=1;packetization-mode=0;profile-level-id=4d001f\nopen 114 115 - H264/90000 level-asymmetry-allowed=1;packetization-mode=1;profile-level-id=64001f\nopen 102 103 - H265/90000 profile-id=1;tier-flag=0;level-id=180\nopen 98 99 - VP9/90000 profile-id=0\nopen 100 101 - VP9/90000 profile-id=2\nopen 45 46 - AV1/90000 -\n";
+
+/// A section of H264 at a lower level than the default rows have, which says nothing of levels of its own.
+const H264_AT_LEVEL_3: &[u8] =
+    b"v=0\r\no=- 1 1 IN IP4 127.0.0.1\r\ns=-\r\nt=0 0\r\nm=video 9 UDP/TLS/RTP/SAVPF 106\r\na=mid:0\r\na=recvonly\r\na=rtpmap:106 H264/90000\r\na=fmtp:106 packetization-mode=1;profile-level-id=42e01e\r\n";
+
+/// What its round comes to.
+const NARROWED: &str =
+    "round 1 ok\nopen 111 - - opus/48000/2 minptime=10;useinbandfec=1\nopen 96 97 - VP8/90000 -\nopen 127 121 - H264/90000 level-asymmetry-allowed=1;packetization-mode=1;profile-level-id=42001f\nopen 125 107 - H264/90000 level-asymmetry-allowed=1;packetization-mode=0;profile-level-id=42001f\nlocked 106 - - H264/90000 level-asymmetry-allowed=1;packetization-mode=1;profile-level-id=42e01e\nopen 124 120 - H264/90000 level-asymmetry-allowed=1;packetization-mode=0;profile-level-id=42e01f\nopen 123 119 - H264/90000 level-asymmetry-allowed=1;packetization-mode=1;profile-level-id=4d001f\nopen 35 36 - H264/90000 level-asymmetry-allowed=1;packetization-mode=0;profile-level-id=4d001f\nopen 114 115 - H264/90000 level-asymmetry-allowed=1;packetization-mode=1;profile-level-id=64001f\nopen 102 103 - H265/90000 profile-id=1;tier-flag=0;level-id=180\nopen 98 99 - VP9/90000 profile-id=0\nopen 100 101 - VP9/90000 profile-id=2\nopen 45 46 - AV1/90000 -\n";
 
 /// A section of static types alone.
 const STATIC: &[u8] =
@@ -114,7 +129,7 @@ const CHECKSUMS: &[u8] =
     b"v=0\r\no=- 1 1 IN IP4 127.0.0.1\r\ns=-\r\nt=0 0\r\nm=audio 9 UDP/TLS/RTP/SAVPF 122\r\nc=IN IP4 0.0.0.0\r\na=mid:0\r\na=sendrecv\r\na=rtpmap:122 AMR-WB/16000\r\na=fmtp:122 crc=1\r\n";
 
 /// Words, what is read, the status, and what is written and said.
-const RUNS: [(&[&str], &[u8], u8, &str, &str); 30] = [
+const RUNS: [(&[&str], &[u8], u8, &str, &str); 32] = [
     (&[], b"", 2, "", USAGE),
     (&[""], b"", 2, "", USAGE),
     (&["show"], b"", 2, "", USAGE),
@@ -131,6 +146,7 @@ const RUNS: [(&[&str], &[u8], u8, &str, &str); 30] = [
         "SDP parse: bad session header\n",
     ),
     (&["negotiate"], OPUS_AT_109, 0, NEGOTIATED, ""),
+    (&["negotiate"], H264_AT_LEVEL_3, 0, NARROWED, ""),
     (&["rows", "rows"], b"", 2, "", USAGE),
     (&["rows"], b"", 1, "", "SDP parse: bad session header\n"),
     (&["rows"], b"v=0\no=- 7 2 x\ns=-\nt=0 0\n", 0, "", ""),
@@ -175,6 +191,7 @@ const RUNS: [(&[&str], &[u8], u8, &str, &str); 30] = [
         "",
         "input is not UTF-8\n",
     ),
+    (&["text"], MIXED, 0, MIXED_PRINTED, ""),
     (&["text"], b"\xc3", 1, "", "input is not UTF-8\n"),
     (&["text"], b"\xff", 1, "", "input is not UTF-8\n"),
     (&["rows"], b"\xff", 1, "", "input is not UTF-8\n"),
