@@ -5,6 +5,7 @@ pub mod CandidateEqual
 pub mod CompanionLaws
 pub mod Copies
 pub mod DistinctLaws
+pub mod FaultLaws
 pub mod FeedbackLaws
 pub mod FilterMapLaws
 pub mod Finding

@@ -7,6 +7,7 @@ pub mod Companions
 pub mod Consistency
 pub mod DistinctCandidates
 pub mod ExtMap
+pub mod Fault
 pub mod Feedback
 pub mod Fmtp
 pub mod FmtpLines

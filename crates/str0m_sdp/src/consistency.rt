@@ -1,7 +1,11 @@
 //! Which sections are consistent.
-ghost use Rattle.std.specs.Prelude.{◌≡◌, ◌<◌, ◌≤◌, ◌↔◌, ◌⊎◌, All, IfOk, IfSome, IsOk, IsSome, IsTrue, Ok, None, count_by, filter_map};
-ghost use Rattle.str0m_sdp.specs.Consistency.{is_mid, mid_of, is_setup, is_direction, is_counted, NeedsNoMapping, IsMapped, NamesNoOther, AgreesOnApt, FitsProto, Consistent, NoneIff};
+ghost use Rattle.std.specs.Prelude.{◌≡◌, ◌<◌, ◌↔◌, IfOk, IsSome, Ok, None, Some, count_by, filter_map, is_some, option_map};
+ghost use Rattle.std.specs.String.{string_bytes};
+ghost use Rattle.str0m_sdp.specs.Consistency.{is_mid, mid_of, is_setup, is_direction, is_counted, Consistent, NoneIff};
+ghost use Rattle.str0m_sdp.specs.Fault.{err_if, only_mid, setup_fault, proto_fault, mapping_fault, map_fault};
+ghost use Rattle.str0m_sdp.specs.Fault.{value_fault, values_fault, apt_fault, first_fault, section_message};
 ghost use Rattle.str0m_sdp.specs.Lists.{first};
+ghost use Rattle.str0m_sdp.specs.Mappings.{static_spec};
 
 use crate::attribute::MediaAttribute;
 use crate::fault::{Clash, Fault, Message};
@@ -93,7 +97,7 @@ fn count_directions(attrs: &[MediaAttribute]) -> usize
 }
 
 fn needs_no_mapping(pt: Pt) -> bool
-    ensures { IsTrue result ↔ NeedsNoMapping pt }
+    ensures { result ≡ is_some (static_spec pt) }
 {
     CodecSpec::from_static_pt(pt).is_some()
 }
@@ -108,7 +112,7 @@ pub(crate) fn first_mid(attrs: &[MediaAttribute]) -> Option<Mid>
 
 /// The mid where there is exactly one.
 fn only_mid(attrs: &[MediaAttribute]) -> Result<Mid, Fault>
-    ensures { IsOk result ↔ (count_by is_mid attrs.now ≡ 1) }
+    ensures { result ≡ only_mid attrs.now }
 {
     let Some(mid) = first_mid(attrs) else {
         return Err(Fault::MissingMid);
@@ -120,7 +124,7 @@ fn only_mid(attrs: &[MediaAttribute]) -> Result<Mid, Fault>
 }
 
 fn check_setups(attrs: &[MediaAttribute], mid: Mid) -> Result<(), Fault>
-    ensures { IsOk result ↔ (count_by is_setup attrs.now ≤ 1) }
+    ensures { result ≡ err_if (setup_fault attrs.now mid) }
 {
     if count_setups(attrs) > 1 {
         return Err(Fault::SecondSetup(mid));
@@ -129,7 +133,7 @@ fn check_setups(attrs: &[MediaAttribute], mid: Mid) -> Result<(), Fault>
 }
 
 fn check_proto(m: &MediaLine, mid: Mid) -> Result<(), Fault>
-    ensures { IsOk result ↔ FitsProto m.now }
+    ensures { result ≡ err_if (proto_fault m.now mid m.now.proto) }
 {
     match m.proto {
         Proto::Sctp => Ok(()),
@@ -147,7 +151,7 @@ fn check_proto(m: &MediaLine, mid: Mid) -> Result<(), Fault>
 
 /// Of a payload type that has this many mappings.
 fn check_map(count: usize, pt: Pt, mid: Mid) -> Result<(), Fault>
-    ensures { IsOk result ↔ (count ≡ 1) ⊎ ((count ≡ 0) × NeedsNoMapping pt) }
+    ensures { result ≡ err_if (mapping_fault count mid pt) }
 {
     match count {
         0 => if needs_no_mapping(pt) {
@@ -161,17 +165,19 @@ fn check_map(count: usize, pt: Pt, mid: Mid) -> Result<(), Fault>
 }
 
 fn check_maps(attrs: &[MediaAttribute], pts: &[Pt], mid: Mid) -> Result<(), Fault>
-    ensures { IsOk result ↔ All (IsMapped attrs.now) pts.now }
+    ensures { result ≡ err_if (first (filter_map (map_fault attrs.now mid) pts.now)) }
 {
     let counts = count_maps(attrs);
-    for pt in pts {
+    let mut left = pts;
+    while let Some((pt, more)) = left.split_first() {
         check_map(counts[row(*pt)], *pt, mid)?;
+        left = more;
     }
     Ok(())
 }
 
 fn check_value(value: FormatParam, first: Pt, pt: Pt, mid: Mid) -> Result<(), Fault>
-    ensures { IsOk result ↔ NamesNoOther first value }
+    ensures { result ≡ err_if (value_fault mid pt first value) }
 {
     let Some(other) = apt_of(value) else {
         return Ok(());
@@ -188,17 +194,19 @@ fn check_value(value: FormatParam, first: Pt, pt: Pt, mid: Mid) -> Result<(), Fa
 }
 
 fn check_values(values: &[FormatParam], first: Pt, pt: Pt, mid: Mid) -> Result<(), Fault>
-    ensures { IsOk result ↔ All (NamesNoOther first) values.now }
+    ensures { result ≡ err_if (values_fault mid pt values.now (Some first)) }
 {
-    for value in values {
+    let mut left = values;
+    while let Some((value, more)) = left.split_first() {
         check_value(*value, first, pt, mid)?;
+        left = more;
     }
     Ok(())
 }
 
 /// Of an fmtp line, where this is the first primary type that is named for its payload type.
 fn check_apt(first: Option<Pt>, values: &[FormatParam], pt: Pt, mid: Mid) -> Result<(), Fault>
-    ensures { IsOk result ↔ IfSome first (λ x. All (NamesNoOther x) values.now) }
+    ensures { result ≡ err_if (values_fault mid pt values.now first) }
 {
     match first {
         Some(first) => check_values(values, first, pt, mid),
@@ -207,20 +215,22 @@ fn check_apt(first: Option<Pt>, values: &[FormatParam], pt: Pt, mid: Mid) -> Res
 }
 
 fn check_apts(attrs: &[MediaAttribute], mid: Mid) -> Result<(), Fault>
-    ensures { IsOk result ↔ All (AgreesOnApt attrs.now) attrs.now }
+    ensures { result ≡ err_if (first (filter_map (apt_fault attrs.now mid) attrs.now)) }
 {
     let firsts = first_apts(attrs);
-    for attr in attrs {
+    let mut left = attrs;
+    while let Some((attr, more)) = left.split_first() {
         if let MediaAttribute::Fmtp { pt, values } = attr {
             check_apt(firsts[row(*pt)], values.as_slice(), *pt, mid)?;
         }
+        left = more;
     }
     Ok(())
 }
 
 /// The first fault of a section, as the error.
 fn check(m: &MediaLine) -> Result<(), Fault>
-    ensures { IsOk result ↔ Consistent m.now }
+    ensures { result ≡ err_if (first_fault m.now) }
 {
     let attrs = m.attrs.as_slice();
     let mid = only_mid(attrs)?;
@@ -242,8 +252,10 @@ impl MediaLine {
     ///
     /// Only a message takes memory, so a consistent section needs none; the only error is that
     /// memory for the message was refused.
+    #[tactic(auto, using(crate::proofs::FaultLaws::consistent_if_ok, crate::proofs::FaultLaws::consistent_not_err))]
     pub fn check_consistent(&self) -> Result<Option<String>, AllocError>
         ensures told { IfOk result (λ message. NoneIff message (Consistent self.now)) }
+        ensures first { IfOk result (λ message. option_map string_bytes message ≡ section_message self.now) }
         ensures takes_no_memory { Consistent self.now → result ≡ Ok None }
     {
         match check(self) {

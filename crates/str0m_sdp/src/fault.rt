@@ -34,6 +34,11 @@ pub(crate) struct Message<'a> {
 }
 
 impl<'a> fmt::Display for Message<'a> {
+    ghost use Rattle.std.specs.Prelude.{Some};
+    ghost use Rattle.str0m_sdp.specs.Fault.{fault_text};
+
+    ghost output = { λ message. Some (fault_text message.section.now message.fault) };
+
     fn fmt<W: fmt::Write>(&self, f: &mut fmt::Formatter<W>) -> fmt::Result {
         let (typ, proto) = (&self.section.typ, self.section.proto);
         match self.fault {

@@ -1,23 +1,22 @@
-use Rattle.std.proofs.Common.{◌≡◌, arith, refl, true, false}
-use Rattle.std.proofs.lemmas.Grind.{common_steps}
+use Rattle.std.proofs.Common.{◌∙◌, filter_map, sym, ap}
+use Rattle.str0m_sdp.specs.Fault.{after_mid, err_if, fault_beside, setup_fault, proto_fault, map_fault}
+use Rattle.str0m_sdp.specs.Lists.{first}
+use Rattle.str0m_sdp.proofs.FaultLaws.{passed}
 use Rattle.str0m_sdp.proofs.consistency.check.Goals as goal
-
-pub returns-in_err-check_maps : goal.returns-in_err-check_maps
-returns-in_err-check_maps c =
-    let mapped = rw (c.as_slice-attrs.ensures, c.as_slice.ensures) at c.in_err-check_maps.ensures in
-    let failed = c.from_residual-in_err-check_maps.ensures.0 in (
-      (λ ok. grind (arith, common_steps)),
-      λ is.
-          let refused : false ≡ true = mapped.1 is.mapped in
-          absurd cc,
-    )
 
 pub returns : goal.returns
 returns c =
+    let m = c.args.m.now in
+    let mid = c.in_ok-mid.mid in
     let attrs = c.as_slice-attrs.ensures in
-    let mid = rw attrs at (c.in_ok-mid.ensures.0 refl) in
-    let setup = rw attrs at (c.in_ok-check_setups.ensures.0 refl) in
-    let proto = c.in_ok-check_proto.ensures.0 refl in
-    let mapped = rw (attrs, c.as_slice.ensures) at (c.in_ok-check_maps.ensures.0 refl) in
-    let apt = rw attrs at c.check_apts.ensures in
-    ((λ ok. record { mid = mid; setup = setup; proto = proto; mapped = mapped; apt = apt.0 ok }), λ is. apt.1 is.apt)
+    let only = rw attrs at c.in_ok-mid.ensures in
+    let setup = rw attrs at c.in_ok-check_setups.ensures in
+    let proto = c.in_ok-check_proto.ensures in
+    let maps = rw (attrs, c.as_slice.ensures) at c.in_ok-check_maps.ensures in
+    let apts = rw attrs at c.check_apts.ensures in
+    apts ∙ ap err_if (sym (
+    ap (λ o. after_mid o (fault_beside m)) (sym only)
+    ∙ passed (setup_fault m.attrs mid) _ setup
+    ∙ passed (proto_fault m mid m.proto) _ proto
+    ∙ passed (first (filter_map (map_fault m.attrs mid) m.pts)) _ maps
+    ))

@@ -1,8 +1,11 @@
-use Rattle.std.proofs.Common.{ℕ, ◌<◌, get_or}
-use Rattle.str0m_sdp.specs.declared.attribute.MediaAttribute.{MediaAttribute}
-use Rattle.str0m_sdp.specs.Consistency.{AgreesOnApt}
+use Rattle.std.proofs.Common.{◌≡◌, filter_map, length}
+use Rattle.str0m_sdp.specs.Fault.{apt_fault}
+use Rattle.str0m_sdp.specs.Lists.{first}
 use Rattle.str0m_sdp.proofs.consistency.check_apts.Given as goal
 
--- the attributes so far agree
+-- no line that was passed clashes
 abbrev pub invariant-loop-attr : goal.invariant-loop-attr
-invariant-loop-attr l = (k : ℕ) (d : MediaAttribute) → k < l.attr-index → AgreesOnApt l.attrs (get_or l.attrs k d)
+invariant-loop-attr l = first (filter_map (apt_fault l.attrs l.mid) l.left) ≡ first (filter_map (apt_fault l.attrs l.mid) l.initial.left)
+
+abbrev pub decreases-loop-attr : goal.decreases-loop-attr
+decreases-loop-attr l = length l.left

@@ -1,7 +1,11 @@
-use Rattle.std.proofs.Common.{ℕ, ◌<◌, get_or}
-use Rattle.str0m_sdp.specs.Consistency.{IsMapped}
+use Rattle.std.proofs.Common.{◌≡◌, filter_map, length}
+use Rattle.str0m_sdp.specs.Fault.{map_fault}
+use Rattle.str0m_sdp.specs.Lists.{first}
 use Rattle.str0m_sdp.proofs.consistency.check_maps.Given as goal
 
--- the types so far are mapped
+-- no type that was passed has a fault
 abbrev pub invariant-loop-pt : goal.invariant-loop-pt
-invariant-loop-pt l = (k d : ℕ) → k < l.pt-index → IsMapped l.attrs (get_or l.pts k d)
+invariant-loop-pt l = first (filter_map (map_fault l.attrs l.mid) l.left) ≡ first (filter_map (map_fault l.attrs l.mid) l.initial.left)
+
+abbrev pub decreases-loop-pt : goal.decreases-loop-pt
+decreases-loop-pt l = length l.left

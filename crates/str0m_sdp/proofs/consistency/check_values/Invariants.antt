@@ -1,8 +1,10 @@
-use Rattle.std.proofs.Common.{ℕ, ◌<◌, get_or}
-use Rattle.str0m_formats.specs.declared.format_param.FormatParam.{FormatParam}
-use Rattle.str0m_sdp.specs.Consistency.{NamesNoOther}
+use Rattle.std.proofs.Common.{◌≡◌, Some, length}
+use Rattle.str0m_sdp.specs.Fault.{values_fault}
 use Rattle.str0m_sdp.proofs.consistency.check_values.Given as goal
 
--- the values so far name no other type
+-- no value that was passed clashes
 abbrev pub invariant-loop-value : goal.invariant-loop-value
-invariant-loop-value l = (k : ℕ) (d : FormatParam) → k < l.value-index → NamesNoOther l.first (get_or l.values k d)
+invariant-loop-value l = values_fault l.mid l.pt l.left (Some l.first) ≡ values_fault l.mid l.pt l.initial.left (Some l.first)
+
+abbrev pub decreases-loop-value : goal.decreases-loop-value
+decreases-loop-value l = length l.left
