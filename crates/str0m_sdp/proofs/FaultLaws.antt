@@ -30,16 +30,20 @@ pub passed : {E : Type 0} (o p : Option E) → Ok tt ≡ err_if o → o <|> p �
 passed None p is = refl
 passed (Some fault) p is = absurd cc
 
-or_none : {E : Type 0} (o p : Option E) → (o <|> p ≡ None) ↔ ((o ≡ None) × (p ≡ None))
+pub none_if_ok : {E : Type 0} (o : Option E) → Ok tt ≡ err_if o → o ≡ None
+none_if_ok None ok = refl
+none_if_ok (Some fault) ok = absurd cc
+
+pub or_none : {E : Type 0} (o p : Option E) → (o <|> p ≡ None) ↔ ((o ≡ None) × (p ≡ None))
 or_none None p = ((λ is. (refl, is)), λ both. both.1)
 or_none (Some x) p = ((λ is. absurd cc), λ both. absurd (let no = both.0 in cc))
 
-when_none : {E : Type 0} (test : Bool) (x : E) → (when test x ≡ None) ↔ (test ≡ false)
+pub when_none : {E : Type 0} (test : Bool) (x : E) → (when test x ≡ None) ↔ (test ≡ false)
 when_none true x = ((λ is. absurd cc), λ is. absurd cc)
 when_none false x = ((λ is. refl), λ is. refl)
 
 -- no item has a fault
-none_first : {E : Type 0} (o : Option E) (os : List E) → (first (cons_option o os) ≡ None) ↔ ((o ≡ None) × (first os ≡ None))
+pub none_first : {E : Type 0} (o : Option E) (os : List E) → (first (cons_option o os) ≡ None) ↔ ((o ≡ None) × (first os ≡ None))
 none_first None os = ((λ is. (refl, is)), λ both. both.1)
 none_first (Some x) os = ((λ is. absurd cc), λ both. absurd (let no = both.0 in cc))
 
@@ -53,7 +57,7 @@ module _ {X E : Type 0} (f : X → Option E) (P : X → Type 0) (each : (x : X) 
         λ all. here.1 ((each x).1 all.0, rest.1 all.1),
       )
 
-  none_among : (xs : List X) → (first (filter_map f xs) ≡ None) ↔ All P xs
+  pub none_among : (xs : List X) → (first (filter_map f xs) ≡ None) ↔ All P xs
   none_among xs =
       let each = by_items xs in
       ((λ is. All-from_recursion P xs (each.0 is)), λ all. each.1 (recursion_from_All P xs all))
@@ -187,11 +191,7 @@ no_fault m =
 
 -- as the answer of what looks for a fault
 pub consistent_if_ok : (m : MediaLine) → Ok tt ≡ err_if (first_fault m) → Consistent m
-consistent_if_ok m ok = (no_fault m).0 (none (first_fault m) ok)
-  where
-    none : (o : Option Fault) → Ok tt ≡ err_if o → o ≡ None
-    none None ok = refl
-    none (Some fault) ok = absurd cc
+consistent_if_ok m ok = (no_fault m).0 (none_if_ok (first_fault m) ok)
 
 pub consistent_not_err : (m : MediaLine) (fault : Fault) → Err fault ≡ err_if (first_fault m) → Consistent m → ⊥
 consistent_not_err m fault err is = let none = (no_fault m).1 is in absurd (let no = rw none at err in cc)

@@ -29,6 +29,7 @@ pub mod RowsAgain
 pub mod RowsBack
 pub mod SectionConsistent
 pub mod SectionRowLaws
+pub mod SessionFaultLaws
 pub mod SessionLaws
 pub mod SsrcLaws
 pub mod StaticTypes

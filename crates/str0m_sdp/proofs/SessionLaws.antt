@@ -7,35 +7,23 @@ use Rattle.std.proofs.lemmas.Bool.{false≢true}
 use Rattle.std.proofs.lemmas.List.Folds.{Any-from_list_any, list_any_at}
 use Rattle.std.proofs.lemmas.List.Kept.{AllPairs-cons}
 use Rattle.std.proofs.lemmas.Slice.Eq.{bytes_eq-Decides}
-use Rattle.str0m_sdp.specs.SessionConsistency.{AreDistinct, is_listed, section_mid, section_mids}
-use Rattle.str0m_sdp.specs.declared.media_line.MediaLine.{MediaLine}
+use Rattle.str0m_sdp.specs.SessionConsistency.{AreDistinct, is_listed}
 
 -- ---- mids that differ
 
-again : (mid : List ℕ) (mids : List (List ℕ)) → is_listed mids (Some mid) ≡ true → AreDistinct (mid ∷ mids) → ⊥
+-- a mid that stands again, and one that doesn't
+pub again : (mid : List ℕ) (mids : List (List ℕ)) → is_listed mids (Some mid) ≡ true → AreDistinct (mid ∷ mids) → ⊥
 again mid mids listed distinct =
     let at = Any-from_list_any (λ other. bytes_eq other mid) mids listed in
     distinct 0 (suc at.0) at.1 (omega arith) (omega (arith, at.2)) (sym (at.3 ∙ (bytes_eq-Decides at.1 mid).0 at.4))
 
-apart : (mid : List ℕ) (mids : List (List ℕ)) → is_listed mids (Some mid) ≡ false → AreDistinct mids ↔ AreDistinct (mid ∷ mids)
+pub apart : (mid : List ℕ) (mids : List (List ℕ)) → is_listed mids (Some mid) ≡ false → AreDistinct mids ↔ AreDistinct (mid ∷ mids)
 apart mid mids unlisted = (
   (λ distinct. AllPairs-cons (λ (a b : List ℕ). a ≢ b) mid mids
       (λ k d lt same. false≢true (sym unlisted ∙ list_any_at (λ other. bytes_eq other mid) mids k d lt ((bytes_eq-Decides (get_or mids k d) mid).1 (sym same))))
       distinct),
   λ distinct i j d lt within. distinct (suc i) (suc j) d (omega arith) (omega arith),
 )
-
--- a mid that a later section has again
-pub mid_again : (section : MediaLine) (later : List MediaLine) (mid : List ℕ) → section_mid section ≡ Some mid
-    → is_listed (section_mids later) (Some mid) ≡ true → AreDistinct (section_mids (section ∷ later)) → ⊥
-mid_again section later mid is listed =
-    rw is (again mid (section_mids later) listed)
-
--- and one that none has
-pub mid_apart : (section : MediaLine) (later : List MediaLine) (mid : List ℕ) → section_mid section ≡ Some mid
-    → is_listed (section_mids later) (Some mid) ≡ false → AreDistinct (section_mids later) ↔ AreDistinct (section_mids (section ∷ later))
-mid_apart section later mid is unlisted =
-    rw is (apart mid (section_mids later) unlisted)
 
 -- ---- two lists, place by place
 

@@ -34,6 +34,7 @@ pub mod SectionOf
 pub mod SectionRows
 pub mod Session
 pub mod SessionConsistency
+pub mod SessionFault
 pub mod Setup
 pub mod Simulcast
 pub mod SsrcGroup

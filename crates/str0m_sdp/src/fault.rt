@@ -78,6 +78,11 @@ pub(crate) enum SessionFault {
 }
 
 impl fmt::Display for SessionFault {
+    ghost use Rattle.std.specs.Prelude.{Some};
+    ghost use Rattle.str0m_sdp.specs.SessionFault.{session_fault_text};
+
+    ghost output = { λ fault. Some (session_fault_text fault) };
+
     fn fmt<W: fmt::Write>(&self, f: &mut fmt::Formatter<W>) -> fmt::Result {
         match self {
             SessionFault::SharedMid(mid) => {

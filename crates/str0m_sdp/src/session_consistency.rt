@@ -1,9 +1,12 @@
 //! Which sessions are consistent.
-ghost use Rattle.std.specs.Prelude.{◌≡◌, ◌↔◌, All, IfErr, IfOk, IsNone, IsOk, None, Ok, find, length, not, option_map, Some};
-ghost use Rattle.std.specs.List.{zip};
+ghost use Rattle.std.specs.Prelude.{◌≡◌, ◌↔◌, IfErr, IfOk, IsOk, None, Ok, length, option_map, Some};
 ghost use Rattle.std.specs.Str.{bytes_eq};
-ghost use Rattle.str0m_sdp.specs.Consistency.{Consistent, NoneIff};
-ghost use Rattle.str0m_sdp.specs.SessionConsistency.{AreDistinct, ConsistentSdp, IsContradiction, IsGrouped, first_group, is_listed, parts, section_mid, section_mids, takes_part};
+ghost use Rattle.std.specs.String.{string_bytes};
+ghost use Rattle.str0m_sdp.specs.Fault.{err_if};
+ghost use Rattle.str0m_sdp.specs.SessionConsistency.{ConsistentSdp, IsContradiction, first_group, is_listed, parts};
+ghost use Rattle.str0m_sdp.specs.SessionConsistency.{section_mid, section_mids, takes_part};
+ghost use Rattle.str0m_sdp.specs.SessionFault.{Tells, first_again, first_difference, first_session_fault, listing_fault};
+ghost use Rattle.str0m_sdp.specs.SessionFault.{sections_message, session_message};
 
 use crate::attribute::SessionAttribute;
 use crate::consistency::first_mid;
@@ -21,14 +24,17 @@ fn section_mid(m: &MediaLine) -> Option<Mid>
 }
 
 /// The message of the first section that has a fault.
+#[tactic(auto, using(crate::proofs::SessionFaultLaws::first_quiet))]
 fn section_message(sections: &[MediaLine]) -> Result<Option<String>, AllocError>
-    ensures told { IfOk result (λ message. NoneIff message (All Consistent sections.now)) }
-    ensures takes_no_memory { All Consistent sections.now → result ≡ Ok None }
+    ensures first { IfOk result (λ message. option_map string_bytes message ≡ sections_message sections.now) }
+    ensures takes_no_memory { sections_message sections.now ≡ None → result ≡ Ok None }
 {
-    for section in sections {
+    let mut left = sections;
+    while let Some((section, later)) = left.split_first() {
         if let Some(message) = section.check_consistent()? {
             return Ok(Some(message));
         }
+        left = later;
     }
     Ok(None)
 }
@@ -51,7 +57,7 @@ fn has_mid(sections: &[MediaLine], mid: Mid) -> bool
 
 /// The first mid that stands again in a later section.
 fn shared_mid(sections: &[MediaLine]) -> Option<Mid>
-    ensures { IsNone result ↔ AreDistinct (section_mids sections.now) }
+    ensures { result ≡ first_again (section_mids sections.now) }
 {
     let mut left = sections;
     while let Some((section, later)) = left.split_first() {
@@ -107,7 +113,7 @@ fn count_parts(group: &[Mid], sections: &[MediaLine]) -> usize
 
 /// The first place where the sections that take part and the group differ.
 fn first_difference(group: &[Mid], sections: &[MediaLine]) -> Option<(Mid, Mid)>
-    ensures { result ≡ find (λ pair. not (bytes_eq pair.0 pair.1)) (zip (parts group.now sections.now) group.now) }
+    ensures { result ≡ first_difference (parts group.now sections.now) group.now }
 {
     sections
         .iter()
@@ -118,7 +124,7 @@ fn first_difference(group: &[Mid], sections: &[MediaLine]) -> Option<(Mid, Mid)>
 }
 
 fn check_group(group: &[Mid], sections: &[MediaLine]) -> Result<(), SessionFault>
-    ensures { IsOk result ↔ (parts group.now sections.now ≡ group.now) }
+    ensures { result ≡ err_if (listing_fault (parts group.now sections.now) group.now) }
 {
     let count = count_parts(group, sections);
     if count != group.len() {
@@ -135,7 +141,7 @@ fn check_group(group: &[Mid], sections: &[MediaLine]) -> Result<(), SessionFault
 
 /// Finds the first fault between the sections, and between them and the group.
 fn check_session(sdp: &Sdp) -> Result<(), SessionFault>
-    ensures { IsOk result ↔ AreDistinct (section_mids sdp.now.media_lines) × IsGrouped sdp.now }
+    ensures { result ≡ err_if (first_session_fault sdp.now) }
 {
     let sections = sdp.media_lines.as_slice();
     if let Some(mid) = shared_mid(sections) {
@@ -160,10 +166,12 @@ impl Sdp {
     /// Time grows with the square of the number of sections, since each mid is compared with that
     /// of each later section, which is looked for among its attributes each time; and with the
     /// number of disabled sections times that of the mids in the group.
+    #[tactic(auto, using(crate::proofs::SessionFaultLaws::contradictions))]
     pub fn assert_consistency(&self) -> Result<(), SdpError>
         ensures exact { IsOk result ↔ ConsistentSdp self.now }
         ensures takes_no_memory { ConsistentSdp self.now → result ≡ Ok tt }
         ensures named { IfErr result IsContradiction }
+        ensures first { IfErr result (Tells (session_message self.now)) }
     {
         if let Some(message) = section_message(self.media_lines.as_slice())? {
             return Err(SdpError::Inconsistent(message));

@@ -1,8 +1,10 @@
-use Rattle.std.proofs.Common.{ℕ, ◌<◌, get_or}
-use Rattle.str0m_sdp.specs.Consistency.{Consistent}
-use Rattle.str0m_sdp.specs.declared.media_line.MediaLine.{MediaLine}
+use Rattle.std.proofs.Common.{◌≡◌, length}
+use Rattle.str0m_sdp.specs.SessionFault.{sections_message}
 use Rattle.str0m_sdp.proofs.session_consistency.section_message.Given as goal
 
--- the sections so far are consistent
+-- no section that was passed has a message
 abbrev pub invariant-loop-section : goal.invariant-loop-section
-invariant-loop-section l = (k : ℕ) (d : MediaLine) → k < l.section-index → Consistent (get_or l.sections k d)
+invariant-loop-section l = sections_message l.left ≡ sections_message l.initial.left
+
+abbrev pub decreases-loop-section : goal.decreases-loop-section
+decreases-loop-section l = length l.left

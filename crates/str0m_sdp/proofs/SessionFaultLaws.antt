@@ -1,0 +1,102 @@
+-- Laws of the first fault of a session: there is none where the session is consistent, and only there.
+use Rattle.std.proofs.Common.{◌≡◌, ℕ, Bool, true, false, inl, inr, List, [], ◌∷◌, Option, Some, None, MatchOption}
+use Rattle.std.proofs.Common.{All, arith, filter_map, length, refl, sym, ap, option_map}
+use Rattle.std.specs.Prelude.{◌↔◌, Ok, Err}
+use Rattle.std.proofs.lemmas.Bool.{cases_eq, eq-eqb, ne_eqb}
+use Rattle.str0m_values.specs.Cuts.{◌<|>◌, when}
+use Rattle.str0m_sdp.specs.Consistency.{Consistent}
+use Rattle.str0m_sdp.specs.Fault.{err_if, fault_text, first_fault, section_message}
+use Rattle.str0m_sdp.specs.SessionConsistency.{AreDistinct, ConsistentSdp, IsGrouped, first_group, is_listed, parts, section_mids}
+use Rattle.str0m_sdp.specs.SessionFault.{first_again, first_difference, first_session_fault, group_fault, listing_fault}
+use Rattle.str0m_sdp.specs.SessionFault.{sections_message}
+use Rattle.str0m_sdp.specs.declared.fault.SessionFault.{SessionFault}
+use Rattle.str0m_sdp.specs.declared.fault.SessionFault.TheVariants.{SharedMid, Order}
+use Rattle.str0m_sdp.specs.declared.media_line.MediaLine.{MediaLine}
+use Rattle.str0m_sdp.specs.declared.session.Sdp.{Sdp}
+use Rattle.str0m_sdp.proofs.FaultLaws.{no_fault, none_among, none_first, none_if_ok, or_none}
+use Rattle.str0m_sdp.proofs.SessionLaws.{again, apart, same_from_none, none_from_same}
+
+mapped_none : {A B : Type 0} (f : A → B) (o : Option A) → (option_map f o ≡ None) ↔ (o ≡ None)
+mapped_none f None = ((λ is. refl), λ is. refl)
+mapped_none f (Some x) = ((λ is. absurd cc), λ is. absurd cc)
+
+both : {A B C D : Type 0} → (A ↔ C) → (B ↔ D) → (A × B) ↔ (C × D)
+both a b = ((λ p. (a.0 p.0, b.0 p.1)), λ q. (a.1 q.0, b.1 q.1))
+
+then : {A B C : Type 0} → (A ↔ B) → (B ↔ C) → A ↔ C
+then a b = ((λ x. b.0 (a.0 x)), λ z. a.1 (b.1 z))
+
+-- ---- the questions
+
+distinct : (mids : List (List ℕ)) → (first_again mids ≡ None) ↔ AreDistinct mids
+distinct [] = ((λ is i j d lt within. omega (arith, lt, within)), λ apart. refl)
+distinct (mid ∷ mids) = go (is_listed mids (Some mid)) refl (distinct mids)
+  where
+    go : (b : Bool) → is_listed mids (Some mid) ≡ b → (first_again mids ≡ None) ↔ AreDistinct mids
+        → (when b mid <|> first_again mids ≡ None) ↔ AreDistinct (mid ∷ mids)
+    go true listed rest = ((λ is. absurd cc), λ all. absurd (again mid mids listed all))
+    go false unlisted rest = then rest (apart mid mids unlisted)
+
+listed : (mids group : List (List ℕ)) → (listing_fault mids group ≡ None) ↔ (mids ≡ group)
+listed mids group =
+    let order = mapped_none (λ pair. Order pair.0 pair.1) (first_difference mids group) in
+    elim (cases_eq (length mids) (length group)) [
+      | inl long ↦
+          rw (eq-eqb (length mids) (length group) long)
+          ((λ is. same_from_none mids group long (order.0 is)), λ same. order.1 (none_from_same mids group same))
+      | inr other ↦
+          rw (ne_eqb (length mids) (length group) other)
+          ((λ is. absurd cc), λ same. absurd (other (ap (λ (xs : List (List ℕ)). length xs) same)))
+    ]
+
+grouped : (sections : List MediaLine) (group : Option (List (List ℕ)))
+    → (group_fault sections group ≡ None) ↔ MatchOption group ⊥ (λ group. parts group sections ≡ group)
+grouped sections None = ((λ is. absurd cc), λ is. absurd is)
+grouped sections (Some group) = listed (parts group sections) group
+
+-- ---- all of them
+
+no_session_fault : (sdp : Sdp) → (first_session_fault sdp ≡ None) ↔ (AreDistinct (section_mids sdp.media_lines) × IsGrouped sdp)
+no_session_fault sdp =
+    let shared = first_again (section_mids sdp.media_lines) in
+    then (or_none (option_map SharedMid shared) (group_fault sdp.media_lines (first_group sdp.session.attrs)))
+    (both (then (mapped_none SharedMid shared) (distinct (section_mids sdp.media_lines)))
+    (grouped sdp.media_lines (first_group sdp.session.attrs)))
+
+pub no_message : (m : MediaLine) → (section_message m ≡ None) ↔ Consistent m
+no_message m = then (mapped_none (fault_text m) (first_fault m)) (no_fault m)
+
+pub no_messages : (sections : List MediaLine) → (sections_message sections ≡ None) ↔ All Consistent sections
+no_messages sections = none_among section_message Consistent no_message sections
+
+-- ---- as the answers of what looks for them
+
+-- where no section has a message, the first has none
+pub first_quiet : (sections : List MediaLine) (m : MediaLine) (more : List MediaLine)
+    → sections ≡ m ∷ more → sections_message sections ≡ None → Consistent m
+first_quiet sections m more whole none =
+    let told : sections_message (m ∷ more) ≡ None = rw whole at none in
+    (no_message m).0 ((none_first (section_message m) (filter_map section_message more)).0 told).0
+
+pub unless_some : {A : Type 0} (o : Option A) → ((x : A) → o ≡ Some x → ⊥) → o ≡ None
+unless_some None never = refl
+unless_some (Some x) never = absurd (never x refl)
+
+pub sdp_if_ok : (sdp : Sdp) → None ≡ sections_message sdp.media_lines → Ok tt ≡ err_if (first_session_fault sdp) → ConsistentSdp sdp
+sdp_if_ok sdp sections session =
+    let rest = (no_session_fault sdp).0 (none_if_ok (first_session_fault sdp) session) in
+    record { sections = (no_messages sdp.media_lines).0 (sym sections); mids = rest.0; group = rest.1 }
+
+-- a consistent session has no message of a section, and no fault of its own
+pub sections_quiet : (sdp : Sdp) → ConsistentSdp sdp → sections_message sdp.media_lines ≡ None
+sections_quiet sdp is = (no_messages sdp.media_lines).1 is.sections
+
+pub sdp_not_some : (sdp : Sdp) (text : List ℕ) → Some text ≡ sections_message sdp.media_lines → ConsistentSdp sdp → ⊥
+sdp_not_some sdp text told is = absurd (let none = sections_quiet sdp is in cc)
+
+pub sdp_not_err : (sdp : Sdp) (fault : SessionFault) → Err fault ≡ err_if (first_session_fault sdp) → ConsistentSdp sdp → ⊥
+sdp_not_err sdp fault err is =
+    let none = (no_session_fault sdp).1 (is.mids, is.group) in
+    absurd (let no = rw none at err in cc)
+
+pub ruleset contradictions = (sections_quiet, sdp_not_some, sdp_not_err)
