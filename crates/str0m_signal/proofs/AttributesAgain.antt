@@ -1,5 +1,5 @@
 -- Attributes are printed as they were read.
-use Rattle.std.proofs.Common.{◌≡◌, ◌⊎◌, ◌≤◌, ◌<◌, ℕ, List, [], ◌∷◌, ◌++◌, Option, Some, None, IfSome, refl, subst}
+use Rattle.std.proofs.Common.{◌≡◌, ◌⊎◌, ◌≤◌, ℕ, List, [], ◌∷◌, ◌++◌, Option, Some, None, IfSome, refl, subst}
 use Rattle.std.proofs.Common.{sym, lit<, lit≤, inl, inr}
 use Rattle.std.specs.Prelude.{Bool, codes, filter}
 use Rattle.std.specs.Fmt.{decimal}

@@ -1,5 +1,5 @@
 -- A section is printed as it was read: its lines are read as a section that is consistent where it was.
-use Rattle.std.proofs.Common.{◌≡◌, ◌≢◌, ◌⊎◌, ◌<◌, ◌+◌, ◌==◌, map, ℕ, Bool, true, false, not, cond, List, [], ◌∷◌, filter, zero-add}
+use Rattle.std.proofs.Common.{◌≡◌, ◌⊎◌, ◌+◌, ◌==◌, map, ℕ, Bool, true, false, not, cond, List, [], ◌∷◌, filter, zero-add}
 use Rattle.std.proofs.Common.{length, Option, Some, None, IfSome, All, refl, sym, subst, ap, ◌∙◌, arith, inl, inr}
 use Rattle.std.specs.Prelude.{count_by}
 use Rattle.std.specs.List.{AllByRecursion}
