@@ -12,6 +12,7 @@ pub mod Cells
 pub mod CutLaws
 pub mod FingerprintLaws
 pub mod LabelLaws
+pub mod NearLaws
 pub mod NumLaws
 pub mod OnlyLaws
 pub mod Pairs

@@ -15,6 +15,7 @@ pub mod H266
 pub mod Joined
 pub mod LabelReading
 pub mod Labels
+pub mod Near
 pub mod Only
 pub mod Parts
 pub mod Protocol

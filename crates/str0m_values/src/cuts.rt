@@ -1,19 +1,46 @@
 //! The parts of a line: what the readers of the crates above cut texts with.
 //!
-ghost use Rattle.std.specs.Prelude.{◌≡◌, not, option_map};
+ghost use Rattle.std.specs.Prelude.{◌≡◌, not, option_map, ◌≤◌, length, MatchOption, IfSome};
 ghost use Rattle.std.specs.Str.{str_eq_ignore_ascii_case};
 ghost use Rattle.str0m_values.specs.Cuts.{cut, before, strip, num, parts, lacks};
+ghost use Rattle.str0m_values.specs.Near.{IsFirstAt, LacksAt, IsWrittenAs};
 ghost use Rattle.str0m_values.specs.Only.{IsTheOnly};
 ghost use Rattle.str0m_values.specs.Parts.{IsNumber, IsNumOr};
 ghost use Rattle.str0m_values.specs.Separator.{code};
 
 use crate::separator::Separator;
 
+/// How many bytes at the front of a text are gone over one by one: most fields end there, and calling a search of std
+/// takes longer than to go over these.
+const NEAR: usize = 20;
+
+/// Where the byte first stands among the first `limit` bytes.
+#[inline(always)]
+fn near(bytes: &[u8], wanted: u8, limit: usize) -> Option<usize>
+    ensures { MatchOption result (length bytes.now ≤ limit → LacksAt wanted bytes.now (length bytes.now)) (IsFirstAt wanted bytes.now) }
+{
+    for i in 0..bytes.len().min(limit) {
+        if bytes[i] == wanted {
+            return Some(i);
+        }
+    }
+    None
+}
+
 /// The parts before and after the first `at`.
+#[inline]
 pub fn cut(text: &str, at: Separator) -> Option<(&str, &str)>
     ensures { parts result ≡ cut (code at) text.now }
 {
-    text.split_once(at.character())
+    let wanted = at.character();
+    match near(text.as_bytes(), wanted as u8, NEAR) {
+        Some(place) => Some((&text[..place], &text[place + 1..])),
+        None => if text.len() <= NEAR {
+            None
+        } else {
+            text.split_once(wanted)
+        },
+    }
 }
 
 /// The text before the first `at`, or the whole of it.
@@ -40,13 +67,49 @@ pub fn strip<'a>(text: &'a str, prefix: &str) -> Option<&'a str>
     text.strip_prefix(prefix)
 }
 
+/// The longest number of digits that 32 bits always hold.
+const SHORT: usize = 9;
+
+/// The number that is written in one to nine digits alone.
+#[inline(always)]
+fn short_number(digits: &[u8]) -> Option<u32>
+    ensures { IfSome result (IsWrittenAs digits.now) }
+{
+    if digits.is_empty() || digits.len() > SHORT {
+        return None;
+    }
+    let mut number = 0;
+    for i in 0..digits.len() {
+        let byte = digits[i];
+        if !byte.is_ascii_digit() {
+            return None;
+        }
+        number = number * 10 + u32::from(byte - b'0');
+    }
+    Some(number)
+}
+
+/// The number that std reads in decimal, where it is at most `limit`. Most are a few digits, which are read in place.
+fn number(text: &str, limit: u32) -> Option<u32>
+    ensures value { result ≡ num limit text.now }
+    ensures within { IfSome result (λ n. n ≤ limit) }
+{
+    match short_number(text.as_bytes()) {
+        Some(number) => if number <= limit { Some(number) } else { None },
+        None => match text.parse::<u32>() {
+            Ok(number) if number <= limit => Some(number),
+            _ => None,
+        },
+    }
+}
+
 /// The number that std reads in decimal, where it is at most `limit`.
 pub fn num_u8(text: &str, limit: u8) -> Option<u8>
     ensures { result ≡ num limit text.now }
 {
-    match text.parse::<u8>() {
-        Ok(n) if n <= limit => Some(n),
-        _ => None,
+    match number(text, u32::from(limit)) {
+        Some(number) => Some(number as u8),
+        None => None,
     }
 }
 
@@ -64,14 +127,17 @@ pub fn num_u8_or(text: Option<&str>, default: u8) -> Option<u8>
 pub fn num_u16(text: &str) -> Option<u16>
     ensures { result ≡ num 65535 text.now }
 {
-    text.parse::<u16>().ok()
+    match number(text, u32::from(u16::MAX)) {
+        Some(number) => Some(number as u16),
+        None => None,
+    }
 }
 
 /// The number of 32 bits that std reads in decimal.
 pub fn num_u32(text: &str) -> Option<u32>
     ensures { result ≡ num 4294967295 text.now }
 {
-    text.parse::<u32>().ok()
+    number(text, u32::MAX)
 }
 
 /// The byte that std reads in the text in hexadecimal: a leading plus and leading zeros are allowed.

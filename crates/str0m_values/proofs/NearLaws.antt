@@ -1,0 +1,41 @@
+-- What going over the bytes of a field finds: a cut, and a number.
+use Rattle.std.proofs.Common.{◌≡◌, ℕ, zero, suc, ◌<◌, ◌≤◌, ◌+◌, ◌-◌, add-one, List, [], ◌∷◌, length, take, drop, Some, None, refl, sym, ap, arith}
+use Rattle.std.specs.Prelude.{slice_range}
+use Rattle.std.specs.Str.Parse.{AllDigits, digits_value, without_leading_plus}
+use Rattle.std.proofs.lemmas.Bool.{eq-eqb, ne_eqb}
+use Rattle.std.proofs.lemmas.Str.Parse.{tells_digits, numerals_by_value, digits_value_short, digit_from_value, without_leading_plus_none}
+use Rattle.std.proofs.lemmas.List.{length-take}
+use Rattle.str0m_values.specs.Near.{LacksAt, IsFirstAt, IsWrittenAs}
+use Rattle.str0m_values.specs.Cuts.{cut, before_cut, num}
+use Rattle.str0m_values.proofs.CutLaws.{cut_none, Lacks-by_index}
+use Rattle.str0m_values.proofs.NumLaws.{num_reads}
+
+behind_first : (c : ℕ) (text : List ℕ) (i : ℕ) → IsFirstAt c text i → Some (take i text, drop (suc i) text) ≡ cut c text
+behind_first c [] i h = absurd (omega (arith, h.0))
+behind_first c (x ∷ xs) zero h = rw (eq-eqb x c h.1) refl
+behind_first c (x ∷ xs) (suc i) h =
+    rw (ne_eqb x c (h.2 0 (omega arith))) (ap (before_cut x) (behind_first c xs i (omega (arith, h.0), h.1, λ k lt. h.2 (suc k) (omega arith))))
+
+-- a cut at the first place
+pub cut_first : (c : ℕ) (text : List ℕ) (i : ℕ) → IsFirstAt c text i → Some (slice_range text 0 i, drop (i + 1) text) ≡ cut c text
+cut_first c text i h =
+    let from_start : i - 0 ≡ i = omega arith in
+    rw (add-one i, from_start) (behind_first c text i h)
+
+pub cut_nowhere : (c : ℕ) (text : List ℕ) → LacksAt c text (length text) → None ≡ cut c text
+cut_nowhere c text h = sym (cut_none c text (Lacks-by_index c text h))
+
+-- eight digits and one more fit 32 bits
+pub eight_digits : (digits : List ℕ) (i : ℕ) → AllDigits 10 (take i digits) → i ≤ 8 → digits_value 10 (take i digits) < 100000000
+eight_digits digits i h le = digits_value_short (numerals_by_value (AllDigits 10) tells_digits) (take i digits) 8 h (omega (arith, length-take i digits, le))
+
+written_plain : (digits : List ℕ) (n : ℕ) → IsWrittenAs digits n → without_leading_plus digits ≡ digits
+written_plain [] n h = absurd (omega (arith, h.0.0))
+written_plain (x ∷ xs) n h =
+    let range = digit_from_value x h.0.1.0 in
+    without_leading_plus_none (x ∷ xs) (λ plus. absurd (omega (arith, range.0, plus)))
+
+pub written_fits : (limit : ℕ) (text : List ℕ) (n : ℕ) → IsWrittenAs text n → n ≤ limit → Some n ≡ num limit text
+written_fits limit text n h le =
+    let same = written_plain text n h in
+    sym (num_reads limit text n (record { numeral = rw same h.0; value = rw same (sym h.1); fits = le }))

@@ -1,6 +1,0 @@
-use Rattle.std.proofs.Common.{◌∙◌, refl}
-use Rattle.str0m_values.proofs.NumLaws.{parsed_whole}
-use Rattle.str0m_values.proofs.cuts.num_u32.Goals as goal
-
-pub returns : goal.returns
-returns c = c.ok.ensures.value ∙ parsed_whole 32 4294967295 c.args.text.now c.parse.result c.parse.ensures.value.0 refl

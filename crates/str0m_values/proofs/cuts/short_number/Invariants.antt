@@ -1,0 +1,6 @@
+use Rattle.std.proofs.Common.{◌≡◌, take}
+use Rattle.std.specs.Str.Parse.{AllDigits, digits_value}
+use Rattle.str0m_values.proofs.cuts.short_number.Given as goal
+
+abbrev pub invariant-loop-i : goal.invariant-loop-i
+invariant-loop-i l = AllDigits 10 (take l.i l.digits) × (l.number ≡ digits_value 10 (take l.i l.digits))
