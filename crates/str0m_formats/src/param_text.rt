@@ -4,7 +4,7 @@ ghost use Rattle.str0m_values.specs.H265 as h265;
 ghost use Rattle.str0m_values.specs.H266 as h266;
 ghost use Rattle.std.specs.Fmt.{decimal};
 ghost use Rattle.str0m_formats.specs.FormatParam.{flag_text, six_digits, mode_list, triple_text, param_text};
-ghost use Rattle.str0m_formats.specs.FormatParam.{comma_if};
+ghost use Rattle.str0m_formats.specs.FormatParam.{comma_if, entry, entry_text};
 
 use crate::format_param::FormatParam;
 use std::fmt;
@@ -130,11 +130,15 @@ impl fmt::Display for ModeList {
     }
 }
 
-impl fmt::Display for FormatParam {
-    ghost output = { λ param. Some (param_text param) };
+/// What a parameter with a key prints: its key and its value; nothing of any other.
+#[derive(Clone, Copy)]
+struct Keyed(FormatParam);
+
+impl fmt::Display for Keyed {
+    ghost output = { λ param. Some (entry_text (entry param.0)) };
 
     fn fmt<W: fmt::Write>(&self, f: &mut fmt::Formatter<W>) -> fmt::Result {
-        match *self {
+        match self.0 {
             FormatParam::MinPTime(n) => write!(f, "minptime={n}"),
             FormatParam::Stereo(b) => write!(f, "stereo={}", Flag(b)),
             FormatParam::SpropStereo(b) => write!(f, "sprop-stereo={}", Flag(b)),
@@ -151,15 +155,25 @@ impl fmt::Display for FormatParam {
             FormatParam::Profile(n) => write!(f, "profile={n}"),
             FormatParam::LevelIdx(n) => write!(f, "level-idx={n}"),
             FormatParam::Tier(n) => write!(f, "tier={n}"),
-            FormatParam::H265ProfileTierLevel(triple) => write!(f, "{}", Triple::of_h265(triple)),
-            FormatParam::H266ProfileTierLevel(triple) => write!(f, "{}", Triple::of_h266(triple)),
             FormatParam::SpropMaxDonDiff(n) => write!(f, "sprop-max-don-diff={n}"),
-            FormatParam::TelephoneEvents(n) | FormatParam::BareRange(n) => write!(f, "0-{n}"),
-            FormatParam::BarePtList(pt) | FormatParam::Red(pt) => write!(f, "{pt}/{pt}"),
             FormatParam::OctetAlign(b) => write!(f, "octet-align={}", Flag(b)),
             FormatParam::ModeSet(mask) => write!(f, "mode-set={}", ModeList(mask)),
             FormatParam::Apt(pt) => write!(f, "apt={pt}"),
-            FormatParam::AmrWbUnsupported | FormatParam::Unknown => Ok(()),
+            _ => Ok(()),
+        }
+    }
+}
+
+impl fmt::Display for FormatParam {
+    ghost output = { λ param. Some (param_text param) };
+
+    fn fmt<W: fmt::Write>(&self, f: &mut fmt::Formatter<W>) -> fmt::Result {
+        match *self {
+            FormatParam::H265ProfileTierLevel(triple) => write!(f, "{}", Triple::of_h265(triple)),
+            FormatParam::H266ProfileTierLevel(triple) => write!(f, "{}", Triple::of_h266(triple)),
+            FormatParam::TelephoneEvents(n) | FormatParam::BareRange(n) => write!(f, "0-{n}"),
+            FormatParam::BarePtList(pt) | FormatParam::Red(pt) => write!(f, "{pt}/{pt}"),
+            param => write!(f, "{}", Keyed(param)),
         }
     }
 }
