@@ -13,32 +13,46 @@ pub(crate) fn in_session(
     field: &str,
     text: &str,
 ) -> Result<SessionAttribute, AllocError> {
-    let (held, other) = (Text::from_str(alloc, text)?, Text::from_str(alloc, "1")?);
-    Ok(match field {
-        "group" => SessionAttribute::Group {
-            typ: held,
-            mids: Items::empty(alloc),
-        },
-        "group-mid" => SessionAttribute::Group {
-            typ: other,
-            mids: one(alloc, Mid::from(text))?,
-        },
-        "semantic" => SessionAttribute::MsidSemantic {
-            semantic: held,
-            stream_ids: Items::empty(alloc),
-        },
-        "semantic-stream" => SessionAttribute::MsidSemantic {
-            semantic: other,
-            stream_ids: one(alloc, held)?,
-        },
+    match field {
+        "group" | "group-mid" => in_group(alloc, field, text),
+        "semantic" | "semantic-stream" => in_semantic(alloc, field, text),
+        "fingerprint" => Ok(SessionAttribute::Fingerprint(fingerprint(alloc, text)?)),
+        "candidate" | "candidate-ufrag" => {
+            Ok(SessionAttribute::Candidate(candidate(alloc, field, text)?))
+        }
+        _ => Ok(in_session_line(field, Text::from_str(alloc, text)?)),
+    }
+}
+
+fn in_group(alloc: Global, field: &str, text: &str) -> Result<SessionAttribute, AllocError> {
+    let (typ, mids) = match field {
+        "group" => (text, Items::empty(alloc)),
+        _ => ("1", one(alloc, Mid::from(text))?),
+    };
+    let typ = Text::from_str(alloc, typ)?;
+    Ok(SessionAttribute::Group { typ, mids })
+}
+
+fn in_semantic(alloc: Global, field: &str, text: &str) -> Result<SessionAttribute, AllocError> {
+    let (semantic, stream_ids) = match field {
+        "semantic" => (text, Items::empty(alloc)),
+        _ => ("1", one(alloc, Text::from_str(alloc, text)?)?),
+    };
+    let semantic = Text::from_str(alloc, semantic)?;
+    Ok(SessionAttribute::MsidSemantic {
+        semantic,
+        stream_ids,
+    })
+}
+
+/// An attribute of a session whose line has one text.
+fn in_session_line(field: &str, held: Text) -> SessionAttribute {
+    match field {
         "ice-ufrag" => SessionAttribute::IceUfrag(held),
         "ice-pwd" => SessionAttribute::IcePwd(held),
         "ice-options" => SessionAttribute::IceOptions(held),
-        "fingerprint" => SessionAttribute::Fingerprint(fingerprint(alloc, held)?),
-        "candidate" => SessionAttribute::Candidate(candidate(held, None)),
-        "candidate-ufrag" => SessionAttribute::Candidate(candidate(other, Some(held))),
         _ => SessionAttribute::Unused(held),
-    })
+    }
 }
 
 /// An attribute of a section with the text in this field; where there is no such field, one that is kept unread.
@@ -47,27 +61,21 @@ pub(crate) fn in_section(
     field: &str,
     text: &str,
 ) -> Result<MediaAttribute, AllocError> {
-    let (held, other) = (Text::from_str(alloc, text)?, Text::from_str(alloc, "1")?);
-    Ok(match field {
-        "rtcp" => MediaAttribute::Rtcp(held),
-        "ice-ufrag" => MediaAttribute::IceUfrag(held),
-        "ice-pwd" => MediaAttribute::IcePwd(held),
-        "ice-options" => MediaAttribute::IceOptions(held),
-        "fingerprint" => MediaAttribute::Fingerprint(fingerprint(alloc, held)?),
-        "candidate" => MediaAttribute::Candidate(candidate(held, None)),
-        "candidate-ufrag" => MediaAttribute::Candidate(candidate(other, Some(held))),
-        "mid" => MediaAttribute::Mid(Mid::from(text)),
-        "sctp-init" => MediaAttribute::SctpInit(held),
-        "extension" => MediaAttribute::ExtMap {
-            id: 1,
-            ext: Extension::new(alloc, text, true)?,
-        },
-        "feedback" => MediaAttribute::RtcpFb {
-            pt: Pt::from(111),
-            value: held,
-        },
-        _ => in_stream(alloc, field, held, other)?,
-    })
+    match field {
+        "mid" => Ok(MediaAttribute::Mid(Mid::from(text))),
+        "extension" => {
+            let ext = Extension::new(alloc, text, true)?;
+            Ok(MediaAttribute::ExtMap { id: 1, ext })
+        }
+        "fingerprint" => Ok(MediaAttribute::Fingerprint(fingerprint(alloc, text)?)),
+        "candidate" | "candidate-ufrag" => {
+            Ok(MediaAttribute::Candidate(candidate(alloc, field, text)?))
+        }
+        _ => {
+            let (held, other) = (Text::from_str(alloc, text)?, Text::from_str(alloc, "1")?);
+            in_stream(alloc, field, held, other)
+        }
+    }
 }
 
 /// An attribute that speaks of streams or sources with the text in this field, and the other text in the field beside it.
@@ -106,7 +114,7 @@ fn in_stream(
     })
 }
 
-/// A rid whose restriction, if it has one, is named or given by the text.
+/// A rid whose restriction, if it has one, is named or given by the text; else an attribute of one text.
 fn in_rid(
     alloc: Global,
     field: &str,
@@ -119,8 +127,22 @@ fn in_rid(
         "rid-way" => rid(alloc, other, "x\r\na=mid:9", Items::empty(alloc)),
         "rid-key" => rid(alloc, other, "send", one(alloc, (held, value))?),
         "rid-value" => rid(alloc, other, "send", one(alloc, (value, held))?),
-        _ => MediaAttribute::Unused(held),
+        _ => in_line(field, held),
     })
+}
+
+/// An attribute of a section whose line has one text, beside which at most a payload type stands.
+fn in_line(field: &str, held: Text) -> MediaAttribute {
+    let pt = Pt::from(111);
+    match field {
+        "rtcp" => MediaAttribute::Rtcp(held),
+        "ice-ufrag" => MediaAttribute::IceUfrag(held),
+        "ice-pwd" => MediaAttribute::IcePwd(held),
+        "ice-options" => MediaAttribute::IceOptions(held),
+        "sctp-init" => MediaAttribute::SctpInit(held),
+        "feedback" => MediaAttribute::RtcpFb { pt, value: held },
+        _ => MediaAttribute::Unused(held),
+    }
 }
 
 fn rid(
@@ -173,12 +195,22 @@ fn layer(
 }
 
 /// A fingerprint of one byte.
-fn fingerprint(alloc: Global, hash_func: Text) -> Result<Fingerprint, AllocError> {
+fn fingerprint(alloc: Global, hash_func: &str) -> Result<Fingerprint, AllocError> {
+    let hash_func = Text::from_str(alloc, hash_func)?;
     let bytes = one(alloc, 5)?;
     Ok(Fingerprint { hash_func, bytes })
 }
 
-fn candidate(foundation: Text, ufrag: Option<Text>) -> Candidate {
+/// A candidate with the text as its user's fragment or as its foundation.
+fn candidate(alloc: Global, field: &str, text: &str) -> Result<Candidate, AllocError> {
+    let held = Text::from_str(alloc, text)?;
+    match field {
+        "candidate-ufrag" => Ok(candidate_of(Text::from_str(alloc, "1")?, Some(held))),
+        _ => Ok(candidate_of(held, None)),
+    }
+}
+
+fn candidate_of(foundation: Text, ufrag: Option<Text>) -> Candidate {
     let addr = SocketAddr {
         ip: IpAddr::V4([192, 0, 2, 1]),
         port: 9,

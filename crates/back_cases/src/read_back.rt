@@ -1,12 +1,13 @@
 //! Rows that are put into a section of a description, printed with it and read again.
 
 use crate::negotiated::outcome_lines;
-use crate::writable::section_asked;
+use crate::writable::changed;
 use case_texts::{add_item, description, escaped};
 use plain_cases::{configuration, shown_rows};
 use std::alloc::{AllocError, Global};
 use str0m_signal::{
-    CodecConfig, PayloadParams, Sdp, SdpError, is_writable, negotiate_text, sdp_parser, section_of,
+    CodecConfig, MediaLine, PayloadParams, Sdp, SdpError, is_writable, negotiate_text, sdp_parser,
+    section_of,
 };
 
 /// What the call that the word names answers of the text; none for a word of others.
@@ -15,34 +16,63 @@ pub(crate) fn answer(alloc: Global, word: &str, text: &str) -> Result<Option<Str
         return Ok(None);
     }
     let (own, text) = text.split_once(" | ").unwrap_or((text, ""));
-    let Some(mut config) = configuration(alloc, own)? else {
-        return Ok(Some("no such configuration".to_string(alloc)?));
+    let answer = match configuration(alloc, own)? {
+        Some(mut config) => asked(alloc, word, &mut config, text)?,
+        None => "no such configuration".to_string(alloc)?,
     };
-    Ok(Some(match word {
-        "section-of" => section_printed(alloc, config.params(), text)?,
-        "read-back" => read_back(alloc, config.params(), text)?,
-        _ => negotiated_back(alloc, &mut config, text)?,
-    }))
+    Ok(Some(answer))
+}
+
+fn asked(
+    alloc: Global,
+    word: &str,
+    config: &mut CodecConfig,
+    text: &str,
+) -> Result<String, SdpError> {
+    match word {
+        "section-of" => section_printed(alloc, config.params(), text),
+        "read-back" => read_back(alloc, config.params(), text),
+        _ => negotiated_back(alloc, config, text),
+    }
 }
 
 /// The rows in the frame of a description's first section, printed.
 fn section_printed(alloc: Global, rows: &[PayloadParams], lines: &str) -> Result<String, SdpError> {
-    let sdp = description(alloc, lines)?;
+    first_printed(alloc, rows, &description(alloc, lines)?)
+}
+
+fn first_printed(alloc: Global, rows: &[PayloadParams], sdp: &Sdp) -> Result<String, SdpError> {
     match sdp.media_lines.as_slice().first() {
-        Some(frame) => {
-            let made = section_of(frame, rows)?.to_string(alloc)?;
-            Ok(escaped(alloc, made.as_str())?)
-        }
+        Some(frame) => made_printed(alloc, frame, rows),
         None => Ok("no section".to_string(alloc)?),
     }
 }
 
+/// What the section prints that is made of the rows in this frame.
+pub(crate) fn made_printed(
+    alloc: Global,
+    frame: &MediaLine,
+    rows: &[PayloadParams],
+) -> Result<String, SdpError> {
+    let made = section_of(frame, rows)?.to_string(alloc)?;
+    Ok(escaped(alloc, made.as_str())?)
+}
+
 /// `read-back ROWS | INDEX LINES | CHANGE`: whether the rows come back from the section at the index.
 fn read_back(alloc: Global, rows: &[PayloadParams], text: &str) -> Result<String, SdpError> {
-    let (index, sdp) = section_asked(alloc, text)?;
-    match index {
-        Some(index) => come_back(alloc, &sdp, index, rows),
-        None => Ok("no index".to_string(alloc)?),
+    let (index, text) = text.split_once(' ').unwrap_or((text, ""));
+    read_back_at(alloc, rows, &changed(alloc, text)?, index)
+}
+
+fn read_back_at(
+    alloc: Global,
+    rows: &[PayloadParams],
+    sdp: &Sdp,
+    index: &str,
+) -> Result<String, SdpError> {
+    match index.parse::<usize>() {
+        Ok(index) => come_back(alloc, sdp, index, rows),
+        Err(_) => Ok("no index".to_string(alloc)?),
     }
 }
 
@@ -55,15 +85,25 @@ fn negotiated_back(
 ) -> Result<String, SdpError> {
     let outcomes = negotiate_text(config, text)?;
     let mut answer = outcome_lines(alloc, outcomes.as_slice())?;
-    let (sdp, _) = sdp_parser(alloc, text)?;
+    let read = sdp_parser(alloc, text)?;
+    add_sections_back(alloc, &mut answer, &read.0, config.params())?;
+    Ok(answer)
+}
+
+fn add_sections_back(
+    alloc: Global,
+    answer: &mut String,
+    sdp: &Sdp,
+    rows: &[PayloadParams],
+) -> Result<(), SdpError> {
     for (index, section) in sdp.media_lines.as_slice().iter().enumerate() {
         if section.typ.is_media() {
-            let said = come_back(alloc, &sdp, index, config.params())?;
+            let said = come_back(alloc, sdp, index, rows)?;
             let line = format!(in alloc; "section {index}: {said}")?;
-            add_item(&mut answer, line.as_str(), "\n")?;
+            add_item(answer, line.as_str(), "\n")?;
         }
     }
-    Ok(answer)
+    Ok(())
 }
 
 /// Prints the description with the rows in the section at the index, if that is writable, and reads it again: whether
@@ -99,16 +139,24 @@ fn are_read(
     index: usize,
     rows: &[PayloadParams],
 ) -> Result<String, SdpError> {
-    let (sdp, rest) = sdp_parser(alloc, text)?;
-    if !rest.is_empty() {
+    let read = sdp_parser(alloc, text)?;
+    if !read.1.is_empty() {
         return Ok("unread lines".to_string(alloc)?);
     }
-    let found = rows_at(alloc, &sdp, index)?;
-    if found.as_slice() == rows {
-        return Ok("equal".to_string(alloc)?);
+    let found = rows_at(alloc, &read.0, index)?;
+    Ok(compared(alloc, found.as_slice(), rows)?)
+}
+
+fn compared(
+    alloc: Global,
+    found: &[PayloadParams],
+    rows: &[PayloadParams],
+) -> Result<String, AllocError> {
+    if found == rows {
+        return "equal".to_string(alloc);
     }
-    let found = shown_rows(alloc, found.as_slice())?;
-    Ok(format!(in alloc; "other rows: {found}")?)
+    let found = shown_rows(alloc, found)?;
+    format!(in alloc; "other rows: {found}")
 }
 
 /// The rows of the section at the index; none where there is no such section.

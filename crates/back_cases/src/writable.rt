@@ -14,18 +14,24 @@ const TWO: &str =
 
 /// What the call that the word names answers of the text; none for a word of others.
 pub(crate) fn answer(alloc: Global, word: &str, text: &str) -> Result<Option<String>, SdpError> {
-    Ok(match word {
-        "writable" => Some(writable(alloc, text)?),
-        "printed-with" => Some(printed_with(alloc, text)?),
-        _ => None,
-    })
+    let answer = match word {
+        "writable" => writable(alloc, text),
+        "printed-with" => printed_with(alloc, text),
+        _ => return Ok(None),
+    };
+    Ok(Some(answer?))
 }
 
+/// `INDEX LINES | CHANGE`: whether the changed description is writable at the index.
 fn writable(alloc: Global, text: &str) -> Result<String, SdpError> {
-    let (index, sdp) = section_asked(alloc, text)?;
-    match index {
-        Some(index) => Ok(is_writable_word(&sdp, index)?.to_string(alloc)?),
-        None => Ok("no index".to_string(alloc)?),
+    let (index, text) = text.split_once(' ').unwrap_or((text, ""));
+    writable_at(alloc, &changed(alloc, text)?, index)
+}
+
+fn writable_at(alloc: Global, sdp: &Sdp, index: &str) -> Result<String, SdpError> {
+    match index.parse::<usize>() {
+        Ok(index) => Ok(is_writable_word(sdp, index)?.to_string(alloc)?),
+        Err(_) => Ok("no index".to_string(alloc)?),
     }
 }
 
@@ -40,13 +46,28 @@ fn is_writable_word(sdp: &Sdp, index: usize) -> Result<&'static str, SdpError> {
 /// `printed-with CHANGE`: what the change adds to the printed text of two sections, and whether the first and the second
 /// are writable then.
 fn printed_with(alloc: Global, change: &str) -> Result<String, SdpError> {
+    let writable = two_writable(alloc, &two_changed(alloc, change)?)?;
+    let printed = SdpOffer::from(two_changed(alloc, change)?).to_sdp_string()?;
+    let added = added_to(alloc, &description(alloc, TWO)?, printed.as_str())?;
+    Ok(format!(in alloc; "{added}\nwritable {writable}")?)
+}
+
+fn two_changed(alloc: Global, change: &str) -> Result<Sdp, SdpError> {
     let mut sdp = description(alloc, TWO)?;
-    let (session, before) = (sdp.session.to_string(alloc)?, sdp.to_string(alloc)?);
     change_description(alloc, &mut sdp, change)?;
-    let (first, second) = (is_writable_word(&sdp, 0)?, is_writable_word(&sdp, 1)?);
-    let printed = SdpOffer::from(sdp).to_sdp_string()?;
-    let added = added(alloc, printed.as_str(), before.as_str(), session.as_str())?;
-    Ok(format!(in alloc; "{added}\nwritable {first}, {second}")?)
+    Ok(sdp)
+}
+
+/// Whether the first and the second section are writable.
+fn two_writable(alloc: Global, sdp: &Sdp) -> Result<String, SdpError> {
+    let (first, second) = (is_writable_word(sdp, 0)?, is_writable_word(sdp, 1)?);
+    Ok(format!(in alloc; "{first}, {second}")?)
+}
+
+/// What stands in the printed text beside what the description prints.
+fn added_to(alloc: Global, sdp: &Sdp, printed: &str) -> Result<String, AllocError> {
+    let (session, before) = (sdp.session.to_string(alloc)?, sdp.to_string(alloc)?);
+    added(alloc, printed, before.as_str(), session.as_str())
 }
 
 /// What stands in the printed text behind the one before, or else between its session and its sections.
@@ -66,13 +87,12 @@ fn added(alloc: Global, printed: &str, before: &str, session: &str) -> Result<St
     }
 }
 
-/// `INDEX LINES | CHANGE`: the section's index, none where no number stands there, and the changed description.
-pub(crate) fn section_asked(alloc: Global, text: &str) -> Result<(Option<usize>, Sdp), SdpError> {
-    let (index, text) = text.split_once(' ').unwrap_or((text, ""));
+/// `LINES | CHANGE`: the description of the lines, changed.
+pub(crate) fn changed(alloc: Global, text: &str) -> Result<Sdp, SdpError> {
     let (lines, change) = text.split_once(" | ").unwrap_or((text, ""));
     let mut sdp = description(alloc, lines)?;
     change_description(alloc, &mut sdp, change)?;
-    Ok((index.parse::<usize>().ok(), sdp))
+    Ok(sdp)
 }
 
 /// Changes what the first word names: `session`, or a section by its number.

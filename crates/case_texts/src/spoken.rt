@@ -35,13 +35,17 @@ pub fn session(alloc: Global, lines: &str) -> Result<Session, SdpError> {
     Ok(session)
 }
 
+/// What this line stands for.
+pub fn attribute(alloc: Global, line: &str) -> Result<MediaAttribute, SdpError> {
+    media_attribute_line(alloc, line).map(|(attribute, _)| attribute)
+}
+
 /// What each of these lines stands for.
 fn attributes(alloc: Global, lines: &str) -> Result<Items<MediaAttribute>, SdpError> {
     let mut all = Items::empty(alloc);
     for line in lines.split("\r\n") {
         if !line.is_empty() {
-            let (attribute, _) = media_attribute_line(alloc, line)?;
-            all.push(attribute)?;
+            all.push(attribute(alloc, line)?)?;
         }
     }
     Ok(all)

@@ -1,28 +1,19 @@
 //! What lines of mappings, formats and rids say, part by part.
 
-use case_texts::refused;
 use std::alloc::{AllocError, Global};
-use str0m_signal::{FormatParam, MediaAttribute, Pt, RtpMap, media_attribute_line};
+use str0m_signal::{FormatParam, MediaAttribute, Pt, RtpMap};
 
-/// What the call that the word names answers of the text; none for a word of others.
-pub(crate) fn answer(alloc: Global, word: &str, text: &str) -> Result<Option<String>, AllocError> {
+/// What the word asks of the attribute.
+pub(crate) fn part_of(
+    alloc: Global,
+    word: &str,
+    attribute: &MediaAttribute,
+) -> Result<String, AllocError> {
     match word {
-        "is-direction" | "rtpmap" | "fmtp-line" | "rid-line" => Ok(Some(part(alloc, word, text)?)),
-        _ => Ok(None),
-    }
-}
-
-/// What the line says that the text begins with.
-fn part(alloc: Global, word: &str, text: &str) -> Result<String, AllocError> {
-    let attribute = match media_attribute_line(alloc, text) {
-        Ok((attribute, _)) => attribute,
-        Err(error) => return refused(alloc, &error),
-    };
-    match word {
-        "is-direction" => is_direction(alloc, &attribute),
-        "rtpmap" => rtpmap(alloc, &attribute),
-        "fmtp-line" => fmtp(alloc, &attribute),
-        _ => rid(alloc, &attribute),
+        "is-direction" => is_direction(alloc, attribute),
+        "rtpmap" => rtpmap(alloc, attribute),
+        "fmtp-line" => fmtp(alloc, attribute),
+        _ => rid(alloc, attribute),
     }
 }
 

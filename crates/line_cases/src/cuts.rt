@@ -3,7 +3,7 @@
 use case_texts::refused;
 use std::alloc::{AllocError, Global};
 use std::str;
-use str0m_signal::{MediaAttribute, MediaLine, SdpOffer};
+use str0m_signal::{MediaAttribute, MediaLine, SdpError, SdpOffer};
 
 /// A header and a section of Opus: 198 bytes.
 const OPUS: &str =
@@ -25,11 +25,17 @@ fn beginning(number: &str) -> Option<&'static str> {
 
 /// How many sections the text has, and the clock rate of each.
 fn sections_of(alloc: Global, text: &str) -> Result<String, AllocError> {
-    let offer = match SdpOffer::from_sdp_string(alloc, text) {
-        Ok(offer) => offer,
-        Err(error) => return refused(alloc, &error),
-    };
-    let sections = offer.media_lines.as_slice();
+    sections_read(alloc, &SdpOffer::from_sdp_string(alloc, text))
+}
+
+fn sections_read(alloc: Global, read: &Result<SdpOffer, SdpError>) -> Result<String, AllocError> {
+    match read {
+        Ok(offer) => sections_shown(alloc, offer.media_lines.as_slice()),
+        Err(error) => refused(alloc, error),
+    }
+}
+
+fn sections_shown(alloc: Global, sections: &[MediaLine]) -> Result<String, AllocError> {
     let mut shown = format!(in alloc; "sections {}", sections.len())?;
     for section in sections {
         let rate = clock_rate(section);

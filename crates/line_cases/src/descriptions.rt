@@ -5,16 +5,17 @@ use crate::lines::with_rest;
 use crate::section_shown::{append_section, append_session};
 use case_texts::{behind_header, escaped, refused};
 use std::alloc::{AllocError, Global};
-use str0m_signal::{Sdp, SdpAnswer, SdpOffer, sdp_parser, session_parser};
+use str0m_signal::{
+    MediaLine, Sdp, SdpAnswer, SdpError, SdpOffer, Session, sdp_parser, session_parser,
+};
 
 /// What the call that the word names answers of the text; none for a word of others.
 pub(crate) fn answer(alloc: Global, word: &str, text: &str) -> Result<Option<String>, AllocError> {
     match word {
         "header" => Ok(Some(header(alloc, text)?)),
-        "description" => Ok(Some(description(alloc, text)?)),
+        "description" | "copied" => Ok(Some(description(alloc, word, text)?)),
         "offer-text" => Ok(Some(offer(alloc, text)?)),
         "answer-text" => Ok(Some(answer_printed(alloc, text)?)),
-        "copied" => Ok(Some(copied(alloc, text)?)),
         "cut" => Ok(Some(cuts::cut(alloc, text)?)),
         _ => answer_behind_header(alloc, word, text),
     }
@@ -29,36 +30,52 @@ fn answer_behind_header(
     let text = behind_header(alloc, lines)?;
     match word {
         "header-with" => Ok(Some(header(alloc, text.as_str())?)),
-        "description-with" => Ok(Some(description(alloc, text.as_str())?)),
-        "consistent" => Ok(Some(consistent(alloc, text.as_str())?)),
-        "section-printed" => Ok(Some(section_printed(alloc, text.as_str())?)),
+        "description-with" | "consistent" | "section-printed" => {
+            Ok(Some(description(alloc, word, text.as_str())?))
+        }
         _ => Ok(None),
     }
 }
 
 /// The session that the text begins with, and what is left.
 fn header(alloc: Global, text: &str) -> Result<String, AllocError> {
-    match session_parser(alloc, text) {
+    header_of(alloc, &session_parser(alloc, text))
+}
+
+fn header_of(
+    alloc: Global,
+    read: &Result<(Session, &str), SdpError>,
+) -> Result<String, AllocError> {
+    match read {
         Ok((session, rest)) => {
             let mut shown = String::new(alloc);
-            append_session(alloc, &mut shown, &session)?;
+            append_session(alloc, &mut shown, session)?;
             with_rest(alloc, shown, rest)
         }
-        Err(error) => refused(alloc, &error),
+        Err(error) => refused(alloc, error),
     }
 }
 
-/// The session and the sections that the text begins with, and what is left.
-fn description(alloc: Global, text: &str) -> Result<String, AllocError> {
-    match sdp_parser(alloc, text) {
-        Ok((sdp, rest)) => {
-            let shown = sdp_shown(alloc, &sdp)?;
-            with_rest(alloc, shown, rest)
-        }
-        Err(error) => refused(alloc, &error),
+/// What the word asks of the description that the text begins with.
+fn description(alloc: Global, word: &str, text: &str) -> Result<String, AllocError> {
+    description_of(alloc, word, &sdp_parser(alloc, text))
+}
+
+fn description_of(
+    alloc: Global,
+    word: &str,
+    read: &Result<(Sdp, &str), SdpError>,
+) -> Result<String, AllocError> {
+    match (word, read) {
+        (_, Err(error)) => refused(alloc, error),
+        ("copied", Ok((sdp, _))) => copied(alloc, sdp),
+        ("consistent", Ok(_)) => "consistent".to_string(alloc),
+        ("section-printed", Ok((sdp, _))) => section_printed(alloc, sdp.media_lines.as_slice()),
+        (_, Ok((sdp, rest))) => with_rest(alloc, sdp_shown(alloc, sdp)?, rest),
     }
 }
 
+/// The session and the sections.
 fn sdp_shown(alloc: Global, sdp: &Sdp) -> Result<String, AllocError> {
     let mut shown = String::new(alloc);
     append_session(alloc, &mut shown, &sdp.session)?;
@@ -68,32 +85,20 @@ fn sdp_shown(alloc: Global, sdp: &Sdp) -> Result<String, AllocError> {
     Ok(shown)
 }
 
-/// What a copy of the description prints that the text begins with: all of its parts are copied with it.
-fn copied(alloc: Global, text: &str) -> Result<String, AllocError> {
-    match sdp_parser(alloc, text) {
-        Ok((sdp, _)) => {
-            let printed = sdp.clone()?.to_string(alloc)?;
-            escaped(alloc, printed.as_str())
-        }
-        Err(error) => refused(alloc, &error),
-    }
+/// What a copy of the description prints: all of its parts are copied with it.
+fn copied(alloc: Global, sdp: &Sdp) -> Result<String, AllocError> {
+    let copy = sdp.clone()?;
+    sdp_printed(alloc, &copy)
 }
 
-/// Whether the sections of the text are consistent, and why not.
-fn consistent(alloc: Global, text: &str) -> Result<String, AllocError> {
-    match sdp_parser(alloc, text) {
-        Ok(_) => "consistent".to_string(alloc),
-        Err(error) => refused(alloc, &error),
-    }
+fn sdp_printed(alloc: Global, sdp: &Sdp) -> Result<String, AllocError> {
+    let printed = sdp.to_string(alloc)?;
+    escaped(alloc, printed.as_str())
 }
 
 /// What the first section prints.
-fn section_printed(alloc: Global, text: &str) -> Result<String, AllocError> {
-    let sdp = match sdp_parser(alloc, text) {
-        Ok((sdp, _)) => sdp,
-        Err(error) => return refused(alloc, &error),
-    };
-    match sdp.media_lines.as_slice().first() {
+fn section_printed(alloc: Global, sections: &[MediaLine]) -> Result<String, AllocError> {
+    match sections.first() {
         Some(section) => {
             let printed = section.to_string(alloc)?;
             escaped(alloc, printed.as_str())
@@ -104,22 +109,24 @@ fn section_printed(alloc: Global, text: &str) -> Result<String, AllocError> {
 
 /// What an offer of this text prints.
 fn offer(alloc: Global, text: &str) -> Result<String, AllocError> {
-    match SdpOffer::from_sdp_string(alloc, text) {
-        Ok(offer) => {
-            let printed = offer.to_sdp_string()?;
-            escaped(alloc, printed.as_str())
-        }
-        Err(error) => refused(alloc, &error),
+    offer_of(alloc, &SdpOffer::from_sdp_string(alloc, text))
+}
+
+fn offer_of(alloc: Global, read: &Result<SdpOffer, SdpError>) -> Result<String, AllocError> {
+    match read {
+        Ok(offer) => escaped(alloc, offer.to_sdp_string()?.as_str()),
+        Err(error) => refused(alloc, error),
     }
 }
 
 /// What an answer of this text prints.
 fn answer_printed(alloc: Global, text: &str) -> Result<String, AllocError> {
-    match SdpAnswer::from_sdp_string(alloc, text) {
-        Ok(answer) => {
-            let printed = answer.to_sdp_string()?;
-            escaped(alloc, printed.as_str())
-        }
-        Err(error) => refused(alloc, &error),
+    answer_of(alloc, &SdpAnswer::from_sdp_string(alloc, text))
+}
+
+fn answer_of(alloc: Global, read: &Result<SdpAnswer, SdpError>) -> Result<String, AllocError> {
+    match read {
+        Ok(answer) => escaped(alloc, answer.to_sdp_string()?.as_str()),
+        Err(error) => refused(alloc, error),
     }
 }

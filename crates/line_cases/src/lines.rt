@@ -1,59 +1,71 @@
 //! Lines of attributes: what each is read as, what it prints, and what is left behind it.
 
 use crate::attribute_names::{media_name, session_name};
-use crate::{attribute_parts, descriptions};
+use crate::attribute_parts::part_of;
+use crate::descriptions;
 use case_texts::{escaped, refused};
 use std::alloc::{AllocError, Global};
 use str0m_signal::{
-    MediaAttribute, SdpError, SessionAttribute, candidate_attribute, media_attribute_line,
-    session_attribute_line,
+    Candidate, MediaAttribute, SdpError, SessionAttribute, candidate_attribute,
+    media_attribute_line, session_attribute_line,
 };
 
 /// What the call that the word names answers of the text; none for a word of others.
 pub(crate) fn answer(alloc: Global, word: &str, text: &str) -> Result<Option<String>, AllocError> {
     match word {
-        "media" => Ok(Some(media(alloc, text)?)),
+        "media" | "is-direction" | "rtpmap" | "fmtp-line" | "rid-line" => {
+            Ok(Some(media(alloc, word, text)?))
+        }
         "session" => Ok(Some(session(alloc, text)?)),
         "candidate-line" => Ok(Some(candidate(alloc, text)?)),
-        _ => answer_of_parts(alloc, word, text),
+        _ => descriptions::answer(alloc, word, text),
     }
 }
 
-/// What is asked of parts of lines, or of more than a line.
-fn answer_of_parts(alloc: Global, word: &str, text: &str) -> Result<Option<String>, AllocError> {
-    match attribute_parts::answer(alloc, word, text)? {
-        Some(answer) => Ok(Some(answer)),
-        None => descriptions::answer(alloc, word, text),
-    }
+fn media(alloc: Global, word: &str, text: &str) -> Result<String, AllocError> {
+    media_of(alloc, word, &media_attribute_line(alloc, text))
 }
 
-fn media(alloc: Global, text: &str) -> Result<String, AllocError> {
-    match media_attribute_line(alloc, text) {
-        Ok((attribute, rest)) => {
-            let shown = media_shown(alloc, &attribute)?;
-            with_rest(alloc, shown, rest)
+/// What the word asks of the line that was read: one part of it, or the whole.
+fn media_of(
+    alloc: Global,
+    word: &str,
+    read: &Result<(MediaAttribute, &str), SdpError>,
+) -> Result<String, AllocError> {
+    match read {
+        Ok((attribute, rest)) if word == "media" => {
+            with_rest(alloc, media_shown(alloc, attribute)?, rest)
         }
-        Err(error) => refused(alloc, &error),
+        Ok((attribute, _)) => part_of(alloc, word, attribute),
+        Err(error) => refused(alloc, error),
     }
 }
 
 fn session(alloc: Global, text: &str) -> Result<String, AllocError> {
-    match session_attribute_line(alloc, text) {
-        Ok((attribute, rest)) => {
-            let shown = session_shown(alloc, &attribute)?;
-            with_rest(alloc, shown, rest)
-        }
-        Err(error) => refused(alloc, &error),
+    session_of(alloc, &session_attribute_line(alloc, text))
+}
+
+fn session_of(
+    alloc: Global,
+    read: &Result<(SessionAttribute, &str), SdpError>,
+) -> Result<String, AllocError> {
+    match read {
+        Ok((attribute, rest)) => with_rest(alloc, session_shown(alloc, attribute)?, rest),
+        Err(error) => refused(alloc, error),
     }
 }
 
 fn candidate(alloc: Global, text: &str) -> Result<String, AllocError> {
-    match candidate_attribute(alloc, text) {
-        Ok((candidate, rest)) => {
-            let shown = candidate.to_sdp_string(alloc)?;
-            with_rest(alloc, shown, rest)
-        }
-        Err(error) => refused(alloc, &error),
+    candidate_of(alloc, &candidate_attribute(alloc, text))
+}
+
+fn candidate_of(
+    alloc: Global,
+    read: &Result<(Candidate, &str), SdpError>,
+) -> Result<String, AllocError> {
+    match read {
+        Ok((candidate, rest)) => with_rest(alloc, candidate.to_sdp_string(alloc)?, rest),
+        Err(error) => refused(alloc, error),
     }
 }
 

@@ -5,11 +5,12 @@ use str0m_values::IpAddr;
 
 /// What the call that the word names answers of the text; none for a word of others.
 pub(crate) fn answer(alloc: Global, word: &str, text: &str) -> Result<Option<String>, AllocError> {
-    Ok(match word {
-        "address" => Some(printed(alloc, text)?),
-        "address-numbers" => Some(numbers(alloc, text)?),
-        _ => None,
-    })
+    let answer = match word {
+        "address" => printed(alloc, text),
+        "address-numbers" => numbers(alloc, text),
+        _ => return Ok(None),
+    };
+    Ok(Some(answer?))
 }
 
 fn printed(alloc: Global, text: &str) -> Result<String, AllocError> {

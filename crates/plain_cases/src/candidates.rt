@@ -6,12 +6,13 @@ use str0m_values::{Candidate, SocketAddr};
 
 /// What the call that the word names answers of the text; none for a word of others.
 pub(crate) fn answer(alloc: Global, word: &str, text: &str) -> Result<Option<String>, AllocError> {
-    Ok(match word {
-        "candidate" => Some(printed(alloc, text)?),
-        "candidate-parts" => Some(parts(alloc, text)?),
-        "candidate-again" => Some(again(alloc, text)?),
-        _ => None,
-    })
+    let answer = match word {
+        "candidate" => printed(alloc, text),
+        "candidate-parts" => parts(alloc, text),
+        "candidate-again" => again(alloc, text),
+        _ => return Ok(None),
+    };
+    Ok(Some(answer?))
 }
 
 fn printed(alloc: Global, text: &str) -> Result<String, AllocError> {
@@ -63,13 +64,17 @@ fn socket(alloc: Global, socket: Option<SocketAddr>) -> Result<String, AllocErro
 
 /// Whether the printed candidate is read as the same candidate again.
 fn again(alloc: Global, text: &str) -> Result<String, AllocError> {
-    let Some(found) = candidate(alloc, text)? else {
-        return "none".to_string(alloc);
-    };
+    match &candidate(alloc, text)? {
+        Some(found) => read_again(alloc, found)?.to_string(alloc),
+        None => "none".to_string(alloc),
+    }
+}
+
+fn read_again(alloc: Global, found: &Candidate) -> Result<&'static str, AllocError> {
     let printed = found.to_sdp_string(alloc)?;
-    match candidate(alloc, printed.as_str())? {
-        Some(again) if again == found => "the same".to_string(alloc),
-        Some(_) => "another".to_string(alloc),
-        None => "none of what was printed".to_string(alloc),
+    match &candidate(alloc, printed.as_str())? {
+        Some(again) if again == found => Ok("the same"),
+        Some(_) => Ok("another"),
+        None => Ok("none of what was printed"),
     }
 }

@@ -47,14 +47,19 @@ fn shown_set<C: Claimed>(alloc: Global, set: &C) -> Result<String, AllocError> {
 /// What claiming each type in turn answers, and the types that then stand in the set.
 fn claims_in<C: Claimed>(alloc: Global, text: &str) -> Result<String, Unanswered> {
     let mut set = C::none_claimed();
+    let answers = claimed_in(alloc, &mut set, text)?;
+    let set = shown_set(alloc, &set)?;
+    Ok(format!(in alloc; "{answers}: {set}")?)
+}
+
+/// Claims each type in turn: whether it is new.
+fn claimed_in<C: Claimed>(alloc: Global, set: &mut C, text: &str) -> Result<String, Unanswered> {
     let mut answers = String::new(alloc);
     for one in text.split(' ') {
         let is_new = set.claim_once(type_of(one)?);
         append(&mut answers, if is_new { "yes" } else { "no" })?;
     }
-    let set = shown_set(alloc, &set)?;
-    let (answers, set) = (answers.as_str(), set.as_str());
-    Ok(format!(in alloc; "{answers}: {set}")?)
+    Ok(answers)
 }
 
 /// `claims TYPE TYPE`: whether each type can be claimed, one after the other, and which types are claimed then.

@@ -5,12 +5,13 @@ use str0m_values::{Fingerprint, FingerprintError};
 
 /// What the call that the word names answers of the text; none for a word of others.
 pub(crate) fn answer(alloc: Global, word: &str, text: &str) -> Result<Option<String>, AllocError> {
-    Ok(match word {
-        "fingerprint" => Some(or_refusal(alloc, printed(alloc, text))?),
-        "fingerprint-parts" => Some(or_refusal(alloc, parts(alloc, text))?),
-        "hash-preference" => Some(or_refusal(alloc, preference(alloc, text))?),
-        _ => None,
-    })
+    let answer = match word {
+        "fingerprint" => or_refusal(alloc, printed(alloc, text)),
+        "fingerprint-parts" => or_refusal(alloc, parts(alloc, text)),
+        "hash-preference" => or_refusal(alloc, preference(alloc, text)),
+        _ => return Ok(None),
+    };
+    Ok(Some(answer?))
 }
 
 /// The answer, or why the text is no fingerprint.

@@ -7,13 +7,14 @@ use str0m_values::{H264ProfileLevel, NoProfileLevel, lower_level};
 
 /// What the call that the word names answers of the text; none for a word of others.
 pub(crate) fn answer(alloc: Global, word: &str, text: &str) -> Result<Option<String>, AllocError> {
-    Ok(match word {
-        "h264" => Some(named(alloc, text)?),
-        "h264-fallback" => Some(shown(alloc, H264ProfileLevel::FALLBACK)?),
-        "h264-levels-of-high" => Some(levels_of_high(alloc)?),
-        "h264-lower" => Some(lower(alloc, text)?),
-        _ => None,
-    })
+    let answer = match word {
+        "h264" => named(alloc, text),
+        "h264-fallback" => shown(alloc, H264ProfileLevel::FALLBACK),
+        "h264-levels-of-high" => levels_of_high(alloc),
+        "h264-lower" => lower(alloc, text),
+        _ => return Ok(None),
+    };
+    Ok(Some(answer?))
 }
 
 /// The profile and level of a profile-level-id, in hexadecimal.

@@ -6,13 +6,14 @@ use str0m_values::H265ProfileTierLevel;
 
 /// What the call that the word names answers of the text; none for a word of others.
 pub(crate) fn answer(alloc: Global, word: &str, text: &str) -> Result<Option<String>, AllocError> {
-    Ok(match word {
-        "h265" => Some(or_none(alloc, of_words(text))?),
-        "h265-numbers" => Some(or_none(alloc, of_numbers(text))?),
-        "h265-fallback" => Some(shown(alloc, H265ProfileTierLevel::FALLBACK)?),
-        "h265-profiles" | "h265-tiers" | "h265-levels" => Some(listed(alloc, word)?),
-        _ => None,
-    })
+    let answer = match word {
+        "h265" => or_none(alloc, of_words(text)),
+        "h265-numbers" => or_none(alloc, of_numbers(text)),
+        "h265-fallback" => shown(alloc, H265ProfileTierLevel::FALLBACK),
+        "h265-profiles" | "h265-tiers" | "h265-levels" => listed(alloc, word),
+        _ => return Ok(None),
+    };
+    Ok(Some(answer?))
 }
 
 /// The triple of the values of a format line.

@@ -6,13 +6,14 @@ use str0m_values::H266ProfileTierLevel;
 
 /// What the call that the word names answers of the text; none for a word of others.
 pub(crate) fn answer(alloc: Global, word: &str, text: &str) -> Result<Option<String>, AllocError> {
-    Ok(match word {
-        "h266" => Some(or_none(alloc, of_words(text))?),
-        "h266-numbers" => Some(or_none(alloc, of_numbers(text))?),
-        "h266-fallback" => Some(shown(alloc, H266ProfileTierLevel::FALLBACK)?),
-        "h266-profiles" | "h266-tiers" | "h266-levels" => Some(listed(alloc, word)?),
-        _ => None,
-    })
+    let answer = match word {
+        "h266" => or_none(alloc, of_words(text)),
+        "h266-numbers" => or_none(alloc, of_numbers(text)),
+        "h266-fallback" => shown(alloc, H266ProfileTierLevel::FALLBACK),
+        "h266-profiles" | "h266-tiers" | "h266-levels" => listed(alloc, word),
+        _ => return Ok(None),
+    };
+    Ok(Some(answer?))
 }
 
 /// The triple of the values of a format line.

@@ -6,18 +6,33 @@ use str0m_values::{Direction, Extension, Mid, Rid, Text};
 
 /// What the call that the word names answers of the text; none for a word of others.
 pub(crate) fn answer(alloc: Global, word: &str, text: &str) -> Result<Option<String>, AllocError> {
-    Ok(match word {
-        "mid" => Some(Mid::from(text).as_str().to_string(alloc)?),
-        "mid-printed" => Some(Mid::from(text).to_string(alloc)?),
-        "rid" => Some(Rid::from(text).as_str().to_string(alloc)?),
-        "rid-printed" => Some(Rid::from(text).to_string(alloc)?),
-        "text" => Some(Text::from_str(alloc, text)?.into_string()),
-        "same-text" => Some(same_text(text).to_string(alloc)?),
-        "receiving" => Some(receiving(text).to_string(alloc)?),
-        "extension" => Some(listing(alloc, &Extension::from_sdp_uri(alloc, text)?)?),
-        "own-extension" => Some(listing(alloc, &Extension::new(alloc, text, false)?)?),
-        _ => None,
-    })
+    let answer = match word {
+        "mid" => Mid::from(text).as_str().to_string(alloc),
+        "mid-printed" => Mid::from(text).to_string(alloc),
+        "rid" => Rid::from(text).as_str().to_string(alloc),
+        "rid-printed" => Rid::from(text).to_string(alloc),
+        "text" => kept(alloc, text),
+        "same-text" => same_text(text).to_string(alloc),
+        "receiving" => receiving(text).to_string(alloc),
+        "extension" => extension(alloc, text),
+        "own-extension" => own_extension(alloc, text),
+        _ => return Ok(None),
+    };
+    Ok(Some(answer?))
+}
+
+fn kept(alloc: Global, text: &str) -> Result<String, AllocError> {
+    Ok(Text::from_str(alloc, text)?.into_string())
+}
+
+/// The extension that a description names by its URI.
+fn extension(alloc: Global, uri: &str) -> Result<String, AllocError> {
+    listing(alloc, &Extension::from_sdp_uri(alloc, uri)?)
+}
+
+/// An extension of a program's own, which descriptions don't list.
+fn own_extension(alloc: Global, uri: &str) -> Result<String, AllocError> {
+    listing(alloc, &Extension::new(alloc, uri, false)?)
 }
 
 /// Whether two words are one text without regard to the case of ASCII letters.

@@ -7,12 +7,13 @@ use str0m_values::{Items, Text};
 
 /// What the call that the word names answers of the text; none for a word of others.
 pub(crate) fn answer(alloc: Global, word: &str, text: &str) -> Result<Option<String>, AllocError> {
-    Ok(match word {
-        "layer" => Some(copied(alloc, text)?),
-        "empty" => Some(empty(alloc)?),
-        "random-msid" => Some(random_names::drawn(alloc)?),
-        _ => None,
-    })
+    let answer = match word {
+        "layer" => copied(alloc, text),
+        "empty" => empty(alloc),
+        "random-msid" => random_names::drawn(alloc),
+        _ => return Ok(None),
+    };
+    Ok(Some(answer?))
 }
 
 /// What is noted of a layer, as `KEY=VALUE`.
@@ -40,12 +41,21 @@ fn layer(alloc: Global, text: &str) -> Result<SimulcastLayer, AllocError> {
 /// The copy of a layer, and what is noted of it.
 fn copied(alloc: Global, text: &str) -> Result<String, AllocError> {
     let copy = layer(alloc, text)?.clone()?;
-    let mut shown = copy.restriction_id.to_sdp(alloc)?;
-    if let Some(notes) = &copy.attributes {
-        for (key, value) in notes.as_slice() {
-            let note = format!(in alloc; " {key}={value}")?;
-            shown.push_str(note.as_str())?;
-        }
+    let id = copy.restriction_id.to_sdp(alloc)?;
+    match &copy.attributes {
+        Some(notes) => with_notes(alloc, id, notes.as_slice()),
+        None => Ok(id),
+    }
+}
+
+fn with_notes(
+    alloc: Global,
+    mut shown: String,
+    notes: &[(Text, Text)],
+) -> Result<String, AllocError> {
+    for (key, value) in notes {
+        let note = format!(in alloc; " {key}={value}")?;
+        shown.push_str(note.as_str())?;
     }
     Ok(shown)
 }

@@ -18,34 +18,37 @@ pub(crate) fn answer(alloc: Global, word: &str, text: &str) -> Result<Option<Str
 
 /// Of clock rates, in Hz.
 fn rate_answer(alloc: Global, word: &str, text: &str) -> Result<Option<String>, AllocError> {
-    Ok(match word {
-        "clock-rate" => Some(shown(alloc, hertz(text))?),
-        "clock-rate-printed" => Some(shown(alloc, Frequency::from_str(text))?),
-        "clock-rate-of" => Some(shown(alloc, rate_of(text))?),
-        "clock-rate-names" => Some(rate_names(alloc)?),
-        _ => None,
-    })
+    let answer = match word {
+        "clock-rate" => shown(alloc, hertz(text)),
+        "clock-rate-printed" => shown(alloc, Frequency::from_str(text)),
+        "clock-rate-of" => shown(alloc, rate_of(text)),
+        "clock-rate-names" => rate_names(alloc),
+        _ => return Ok(None),
+    };
+    Ok(Some(answer?))
 }
 
 /// Of numbers that have a type of their own.
 fn named_answer(alloc: Global, word: &str, text: &str) -> Result<Option<String>, AllocError> {
-    Ok(match word {
-        "payload-type" => Some(shown(alloc, payload_type(text))?),
-        "ssrc" => Some(shown(alloc, source(text))?),
-        "session-id" => Some(shown(alloc, session_id(text))?),
-        _ => None,
-    })
+    let answer = match word {
+        "payload-type" => shown(alloc, payload_type(text)),
+        "ssrc" => shown(alloc, source(text)),
+        "session-id" => shown(alloc, session_id(text)),
+        _ => return Ok(None),
+    };
+    Ok(Some(answer?))
 }
 
 /// Of numbers in texts.
 fn number_answer(alloc: Global, word: &str, text: &str) -> Result<Option<String>, AllocError> {
-    Ok(match word {
-        "number-16-bits" => Some(shown(alloc, num_u16(text))?),
-        "number-8-bits-or-93" => Some(shown(alloc, num_u8_or(unless_dash(text), 93))?),
-        "hex-8-bits" => Some(shown(alloc, hex_u8(text))?),
-        "hex-32-bits" => Some(shown(alloc, hex_u32(text))?),
-        _ => None,
-    })
+    let answer = match word {
+        "number-16-bits" => shown(alloc, num_u16(text)),
+        "number-8-bits-or-93" => shown(alloc, num_u8_or(unless_dash(text), 93)),
+        "hex-8-bits" => shown(alloc, hex_u8(text)),
+        "hex-32-bits" => shown(alloc, hex_u32(text)),
+        _ => return Ok(None),
+    };
+    Ok(Some(answer?))
 }
 
 fn shown<T: Display + Copy>(alloc: Global, value: Option<T>) -> Result<String, AllocError> {

@@ -68,12 +68,20 @@ pub(crate) fn rounds(alloc: Global, text: &str) -> Result<String, Unanswered> {
     let (own, said) = sides(text)?;
     let mut config = config_of(alloc, own)?;
     let rounds = rounds_of(alloc, said)?;
+    one_by_one(alloc, &mut config, rounds.as_slice())
+}
+
+fn one_by_one(
+    alloc: Global,
+    config: &mut CodecConfig,
+    rounds: &[Round],
+) -> Result<String, Unanswered> {
     let mut shown = String::new(alloc);
-    for one in rounds.iter() {
+    for one in rounds {
         if !shown.is_empty() {
             shown.push_str("\n")?;
         }
-        let line = round(alloc, &mut config, one)?;
+        let line = round(alloc, config, one)?;
         shown.push_str(line.as_str())?;
     }
     Ok(shown)
@@ -109,16 +117,30 @@ fn run_all(
 pub(crate) fn together(alloc: Global, text: &str) -> Result<String, Unanswered> {
     let (own, said) = sides(text)?;
     let mut config = config_of(alloc, own)?;
-    let mut alone = config.clone()?;
     let rounds = rounds_of(alloc, said)?;
+    run_together(alloc, &mut config, rounds.as_slice())
+}
+
+fn run_together(
+    alloc: Global,
+    config: &mut CodecConfig,
+    rounds: &[Round],
+) -> Result<String, Unanswered> {
+    let mut alone = config.clone()?;
+    let outcomes = run_all(config, &mut alone, rounds)?;
+    let outcomes = shown_outcomes(alloc, outcomes.as_slice())?;
+    let rows = shown_rows(alloc, config.params())?;
+    Ok(format!(in alloc; "{outcomes}{rows}")?)
+}
+
+/// Each outcome, with a colon behind it.
+fn shown_outcomes(alloc: Global, outcomes: &[Outcome]) -> Result<String, AllocError> {
     let mut shown = String::new(alloc);
-    for outcome in run_all(&mut config, &mut alone, rounds.as_slice())?.iter() {
+    for outcome in outcomes {
         let one = outcome_text(alloc, *outcome)?;
         shown.push_str(one.as_str())?;
         shown.push_str(": ")?;
     }
-    let rows = shown_rows(alloc, config.params())?;
-    shown.push_str(rows.as_str())?;
     Ok(shown)
 }
 

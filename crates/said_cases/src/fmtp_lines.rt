@@ -1,10 +1,8 @@
 //! What fmtp lines say of a codec.
 
-use case_texts::or_word;
+use case_texts::{attribute, or_word};
 use std::alloc::{AllocError, Global};
-use str0m_signal::{
-    Codec, FormatParam, FormatParams, Items, MediaAttribute, SdpError, media_attribute_line,
-};
+use str0m_signal::{Codec, FormatParam, FormatParams, Items, MediaAttribute, SdpError};
 
 /// What the call that the word names answers of the text; none for a word of others.
 pub(crate) fn answer(alloc: Global, word: &str, text: &str) -> Result<Option<String>, SdpError> {
@@ -22,10 +20,19 @@ fn format(alloc: Global, text: &str) -> Result<String, SdpError> {
         return Ok("no such codec".to_string(alloc)?);
     }
     let lines = lines_of(alloc, values)?;
+    Ok(format_of(alloc, codec, lines.as_slice())?)
+}
+
+/// What these lines say of the codec.
+fn format_of(
+    alloc: Global,
+    codec: Codec,
+    lines: &[Items<FormatParam>],
+) -> Result<String, AllocError> {
     let lines: Vec<&[FormatParam]> = lines.iter().map(|line| line.as_slice()).collect(alloc)?;
     match FormatParams::from_sdp_fmtp(codec, lines.as_slice()) {
-        Some(format) => Ok(or_word(alloc, format.to_string(alloc)?, "-")?),
-        None => Ok("refused".to_string(alloc)?),
+        Some(format) => or_word(alloc, format.to_string(alloc)?, "-"),
+        None => "refused".to_string(alloc),
     }
 }
 
@@ -33,11 +40,24 @@ fn format(alloc: Global, text: &str) -> Result<String, SdpError> {
 fn lines_of(alloc: Global, text: &str) -> Result<Vec<Items<FormatParam>>, SdpError> {
     let mut lines = Vec::new(alloc);
     for values in text.split(" | ").filter(|values| !values.is_empty()) {
-        let line = format!(in alloc; "a=fmtp:96 {values}")?;
-        let (attribute, _) = media_attribute_line(alloc, line.as_str())?;
-        if let MediaAttribute::Fmtp { values, .. } = attribute {
-            lines.push(values).map_err(AllocError::from)?;
+        if let Some(line) = line_of(alloc, values)? {
+            lines.push(line).map_err(AllocError::from)?;
         }
     }
     Ok(lines)
+}
+
+/// The values of one fmtp line; none where they make no such line.
+fn line_of(alloc: Global, values: &str) -> Result<Option<Items<FormatParam>>, SdpError> {
+    let line = format!(in alloc; "a=fmtp:96 {values}")?;
+    let attribute = attribute(alloc, line.as_str())?;
+    Ok(values_in(&attribute)?)
+}
+
+/// A copy of the values of an fmtp line; none of another attribute.
+fn values_in(attribute: &MediaAttribute) -> Result<Option<Items<FormatParam>>, AllocError> {
+    match attribute {
+        MediaAttribute::Fmtp { values, .. } => Ok(Some(values.clone()?)),
+        _ => Ok(None),
+    }
 }

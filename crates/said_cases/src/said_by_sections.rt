@@ -8,10 +8,15 @@ use str0m_signal::{Direction, MediaLine, SdpError, Simulcast};
 /// What the call that the word names answers of the text; none for a word of others.
 pub(crate) fn answer(alloc: Global, word: &str, text: &str) -> Result<Option<String>, SdpError> {
     Ok(match word {
-        "section-says" => Some(says(alloc, &section(alloc, text)?)?),
+        "section-says" => Some(section_says(alloc, text)?),
         "set-direction" => Some(with_direction(alloc, text)?),
         _ => None,
     })
+}
+
+fn section_says(alloc: Global, text: &str) -> Result<String, SdpError> {
+    let section = section(alloc, text)?;
+    Ok(says(alloc, &section)?)
 }
 
 /// All that a section says, a line each.
@@ -112,14 +117,27 @@ fn layers(alloc: Global, simulcast: &Simulcast) -> Result<String, AllocError> {
 fn with_direction(alloc: Global, text: &str) -> Result<String, SdpError> {
     let (word, lines) = text.split_once(' ').unwrap_or((text, ""));
     let mut section = section(alloc, lines)?;
+    Ok(turned(alloc, &mut section, direction_of(word))?)
+}
+
+/// The section's direction once this one is set, and the section.
+fn turned(
+    alloc: Global,
+    section: &mut MediaLine,
+    direction: Direction,
+) -> Result<String, AllocError> {
     if !section.has_direction() {
-        return Ok("no direction to set".to_string(alloc)?);
+        return "no direction to set".to_string(alloc);
     }
-    section.set_direction(direction_of(word));
+    section.set_direction(direction);
     let found = direction_word(section.direction());
+    let printed = section_printed(alloc, section)?;
+    format!(in alloc; "{found}\n{printed}")
+}
+
+fn section_printed(alloc: Global, section: &MediaLine) -> Result<String, AllocError> {
     let printed = section.to_string(alloc)?;
-    let printed = escaped(alloc, printed.as_str())?;
-    Ok(format!(in alloc; "{found}\n{printed}")?)
+    escaped(alloc, printed.as_str())
 }
 
 fn direction_of(word: &str) -> Direction {

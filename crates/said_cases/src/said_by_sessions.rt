@@ -8,13 +8,31 @@ use str0m_signal::{Mid, Sdp, SdpError, Session};
 /// What the call that the word names answers of the text; none for a word of others.
 pub(crate) fn answer(alloc: Global, word: &str, text: &str) -> Result<Option<String>, SdpError> {
     Ok(match word {
-        "session-says" => Some(session_says(alloc, &session(alloc, text)?)?),
-        "description-says" => Some(description_says(alloc, &description(alloc, text)?)?),
-        "consistency" => Some(consistency(alloc, &description(alloc, text)?)?),
-        "emptied" => Some(emptied(alloc, text)?),
+        "session-says" => Some(of_session(alloc, text)?),
         "numbered-candidates" => Some(numbered(alloc, text)?),
+        "description-says" | "consistency" | "emptied" => {
+            Some(of_description(alloc, word, text)?)
+        }
         _ => None,
     })
+}
+
+fn of_session(alloc: Global, text: &str) -> Result<String, SdpError> {
+    let session = session(alloc, text)?;
+    Ok(session_says(alloc, &session)?)
+}
+
+fn of_description(alloc: Global, word: &str, text: &str) -> Result<String, SdpError> {
+    let mut sdp = description(alloc, text)?;
+    answer_of(alloc, word, &mut sdp)
+}
+
+fn answer_of(alloc: Global, word: &str, sdp: &mut Sdp) -> Result<String, SdpError> {
+    match word {
+        "description-says" => Ok(description_says(alloc, sdp)?),
+        "emptied" => emptied(alloc, sdp),
+        _ => consistency(alloc, sdp),
+    }
 }
 
 fn session_says(alloc: Global, session: &Session) -> Result<String, AllocError> {
@@ -35,17 +53,28 @@ fn session_says(alloc: Global, session: &Session) -> Result<String, AllocError> 
 
 fn description_says(alloc: Global, sdp: &Sdp) -> Result<String, AllocError> {
     let mut answer = String::new(alloc);
-    add_setup(&mut answer, sdp.setup())?;
-    add_credentials(alloc, &mut answer, sdp.ice_creds()?)?;
-    add_fingerprint(alloc, &mut answer, sdp.fingerprint()?)?;
-    add_list(&mut answer, "candidates", distinct(alloc, sdp)?.as_str())?;
-    if let Some(init) = sdp.sctp_init() {
-        add_line(&mut answer, "sctp-init", init)?;
-    }
-    if let Some(mids) = sdp.bundle_mids() {
-        add_line(&mut answer, "bundle", listed(alloc, mids)?.as_str())?;
-    }
+    add_transport(alloc, &mut answer, sdp)?;
+    add_bundle(alloc, &mut answer, sdp)?;
     or_word(alloc, answer, "nothing")
+}
+
+/// How the description's sections are reached.
+fn add_transport(alloc: Global, answer: &mut String, sdp: &Sdp) -> Result<(), AllocError> {
+    add_setup(answer, sdp.setup())?;
+    add_credentials(alloc, answer, sdp.ice_creds()?)?;
+    add_fingerprint(alloc, answer, sdp.fingerprint()?)?;
+    add_list(answer, "candidates", distinct(alloc, sdp)?.as_str())
+}
+
+/// What its sections are for, and which go together.
+fn add_bundle(alloc: Global, answer: &mut String, sdp: &Sdp) -> Result<(), AllocError> {
+    if let Some(init) = sdp.sctp_init() {
+        add_line(answer, "sctp-init", init)?;
+    }
+    match sdp.bundle_mids() {
+        Some(mids) => add_line(answer, "bundle", listed(alloc, mids)?.as_str()),
+        None => Ok(()),
+    }
 }
 
 /// The foundations of the description's candidates, each once.
@@ -75,12 +104,11 @@ fn consistency(alloc: Global, sdp: &Sdp) -> Result<String, SdpError> {
 }
 
 /// The same of one whose first section was taken its attributes.
-fn emptied(alloc: Global, text: &str) -> Result<String, SdpError> {
-    let mut sdp = description(alloc, text)?;
+fn emptied(alloc: Global, sdp: &mut Sdp) -> Result<String, SdpError> {
     if let Some(section) = sdp.media_lines.0.first_mut() {
         section.attrs.0.clear();
     }
-    consistency(alloc, &sdp)
+    consistency(alloc, sdp)
 }
 
 /// A session of as many candidates as the text says, numbered from 0, each twice: those that it gives.
@@ -89,7 +117,11 @@ fn numbered(alloc: Global, text: &str) -> Result<String, SdpError> {
     let mut lines = String::new(alloc);
     add_numbered(alloc, &mut lines, count)?;
     add_numbered(alloc, &mut lines, count)?;
-    let sdp = description(alloc, lines.as_str())?;
+    of_numbered(alloc, lines.as_str())
+}
+
+fn of_numbered(alloc: Global, lines: &str) -> Result<String, SdpError> {
+    let sdp = description(alloc, lines)?;
     Ok(counted(alloc, &sdp)?)
 }
 

@@ -48,9 +48,13 @@ fn word_of(role: Option<Setup>) -> &'static str {
 fn carries(alloc: Global, head: &str) -> Result<String, SdpError> {
     let lines = format!(in alloc; "{head}\r\na=mid:0\r\na=inactive\r\n")?;
     let sdp = description(alloc, lines.as_str())?;
-    match sdp.media_lines.as_slice().first() {
-        None => Ok("no section".to_string(alloc)?),
-        Some(section) => Ok(kind(alloc, section)?),
+    Ok(kind_of_first(alloc, sdp.media_lines.as_slice())?)
+}
+
+fn kind_of_first(alloc: Global, sections: &[MediaLine]) -> Result<String, AllocError> {
+    match sections.first() {
+        None => "no section".to_string(alloc),
+        Some(section) => kind(alloc, section),
     }
 }
 

@@ -1,16 +1,14 @@
 //! The rows that sections describe, as `sdpshow rows` prints them without the mid.
 
-use case_texts::{add_item, description, or_word, section, unread};
+use case_texts::{add_item, attribute, description, or_word, section, unread};
 use std::alloc::{AllocError, Global};
-use str0m_signal::{
-    CodecSpec, MediaAttribute, MediaLine, PayloadParams, Pt, RtpMap, SdpError, media_attribute_line,
-};
+use str0m_signal::{CodecSpec, MediaAttribute, MediaLine, PayloadParams, Pt, RtpMap, SdpError};
 
 /// What the call that the word names answers of the text; none for a word of others.
 pub(crate) fn answer(alloc: Global, word: &str, text: &str) -> Result<Option<String>, SdpError> {
     Ok(match word {
         "rows" => Some(rows(alloc, text)?),
-        "section-rows" => Some(section_rows(alloc, &section(alloc, text)?)?),
+        "section-rows" => Some(rows_alone(alloc, text)?),
         "row-feedback" => Some(feedback_of_first(alloc, text)?),
         "spec-of" => Some(spec_and_back(alloc, text)?),
         _ => None,
@@ -19,17 +17,32 @@ pub(crate) fn answer(alloc: Global, word: &str, text: &str) -> Result<Option<Str
 
 /// The rows of each section of a description, a line each, and a line of what is left of the text.
 fn rows(alloc: Global, text: &str) -> Result<String, SdpError> {
-    let mut answer = String::new(alloc);
-    let sdp = description(alloc, text)?;
-    for section in sdp.media_lines.as_slice() {
-        let rows = section_rows(alloc, section)?;
-        add_item(&mut answer, rows.as_str(), "\n")?;
-    }
+    let mut answer = rows_described(alloc, text)?;
     let left = unread(alloc, text)?;
     if !left.is_empty() {
         add_item(&mut answer, "unread lines", "\n")?;
     }
     Ok(or_word(alloc, answer, "no section")?)
+}
+
+fn rows_described(alloc: Global, text: &str) -> Result<String, SdpError> {
+    let sdp = description(alloc, text)?;
+    Ok(rows_of(alloc, sdp.media_lines.as_slice())?)
+}
+
+fn rows_of(alloc: Global, sections: &[MediaLine]) -> Result<String, AllocError> {
+    let mut answer = String::new(alloc);
+    for section in sections {
+        let rows = section_rows(alloc, section)?;
+        add_item(&mut answer, rows.as_str(), "\n")?;
+    }
+    Ok(answer)
+}
+
+/// The rows of a section of these attributes.
+fn rows_alone(alloc: Global, text: &str) -> Result<String, SdpError> {
+    let section = section(alloc, text)?;
+    Ok(section_rows(alloc, &section)?)
 }
 
 fn section_rows(alloc: Global, section: &MediaLine) -> Result<String, AllocError> {
@@ -94,10 +107,14 @@ fn add_if(list: &mut String, item: &str, is_on: bool) -> Result<(), AllocError> 
 /// What a mapping makes of a row, and the mapping that this stands for.
 fn spec_and_back(alloc: Global, text: &str) -> Result<String, SdpError> {
     let line = format!(in alloc; "a=rtpmap:96 {text}")?;
-    let (attribute, _) = media_attribute_line(alloc, line.as_str())?;
+    let attribute = attribute(alloc, line.as_str())?;
+    Ok(mapping_both_ways(alloc, &attribute)?)
+}
+
+fn mapping_both_ways(alloc: Global, attribute: &MediaAttribute) -> Result<String, AllocError> {
     match attribute {
-        MediaAttribute::RtpMap { value, .. } => Ok(both_ways(alloc, value)?),
-        _ => Ok("no mapping".to_string(alloc)?),
+        MediaAttribute::RtpMap { value, .. } => both_ways(alloc, *value),
+        _ => "no mapping".to_string(alloc),
     }
 }
 

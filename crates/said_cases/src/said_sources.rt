@@ -2,7 +2,7 @@
 
 use case_texts::{add_item, or_word, section};
 use std::alloc::{AllocError, Global};
-use str0m_signal::{SdpError, SsrcInfo, Text, is_no_stream};
+use str0m_signal::{MediaLine, SdpError, SsrcInfo, Text, is_no_stream};
 
 /// What the call that the word names answers of the text; none for a word of others.
 pub(crate) fn answer(alloc: Global, word: &str, text: &str) -> Result<Option<String>, SdpError> {
@@ -23,12 +23,27 @@ fn stream_id(alloc: Global, id: &str) -> Result<String, AllocError> {
 /// Copies of the sources of a section of sound with these lines, a line each.
 fn sources(alloc: Global, lines: &str) -> Result<String, SdpError> {
     let section = section(alloc, lines)?;
+    Ok(sources_of(alloc, &section)?)
+}
+
+fn sources_of(alloc: Global, section: &MediaLine) -> Result<String, AllocError> {
+    let found = section.ssrc_info()?;
+    let answer = listed(alloc, found.as_slice())?;
+    or_word(alloc, answer, "no source")
+}
+
+fn listed(alloc: Global, sources: &[SsrcInfo]) -> Result<String, AllocError> {
     let mut answer = String::new(alloc);
-    for info in section.ssrc_info()?.iter() {
-        let copy = info.clone()?;
-        add_item(&mut answer, one(alloc, &copy)?.as_str(), "\n")?;
+    for info in sources {
+        let one = one_copied(alloc, info)?;
+        add_item(&mut answer, one.as_str(), "\n")?;
     }
-    Ok(or_word(alloc, answer, "no source")?)
+    Ok(answer)
+}
+
+fn one_copied(alloc: Global, info: &SsrcInfo) -> Result<String, AllocError> {
+    let copy = info.clone()?;
+    one(alloc, &copy)
 }
 
 /// A source, the one that it repairs, and its names, as far as they are said.
