@@ -139,12 +139,21 @@ fn are_read(
     index: usize,
     rows: &[PayloadParams],
 ) -> Result<String, SdpError> {
-    let read = sdp_parser(alloc, text)?;
-    if !read.1.is_empty() {
-        return Ok("unread lines".to_string(alloc)?);
+    Ok(rows_compared(alloc, &sdp_parser(alloc, text)?, index, rows)?)
+}
+
+fn rows_compared(
+    alloc: Global,
+    read: &(Sdp, &str),
+    index: usize,
+    rows: &[PayloadParams],
+) -> Result<String, AllocError> {
+    let (sdp, rest) = read;
+    if !rest.is_empty() {
+        return "unread lines".to_string(alloc);
     }
-    let found = rows_at(alloc, &read.0, index)?;
-    Ok(compared(alloc, found.as_slice(), rows)?)
+    let found = rows_at(alloc, sdp, index)?;
+    compared(alloc, found.as_slice(), rows)
 }
 
 fn compared(

@@ -46,10 +46,19 @@ fn is_writable_word(sdp: &Sdp, index: usize) -> Result<&'static str, SdpError> {
 /// `printed-with CHANGE`: what the change adds to the printed text of two sections, and whether the first and the second
 /// are writable then.
 fn printed_with(alloc: Global, change: &str) -> Result<String, SdpError> {
+    let added = two_added(alloc, change)?;
     let writable = two_writable(alloc, &two_changed(alloc, change)?)?;
-    let printed = SdpOffer::from(two_changed(alloc, change)?).to_sdp_string()?;
-    let added = added_to(alloc, &description(alloc, TWO)?, printed.as_str())?;
     Ok(format!(in alloc; "{added}\nwritable {writable}")?)
+}
+
+fn two_added(alloc: Global, change: &str) -> Result<String, SdpError> {
+    let printed = two_printed(alloc, change)?;
+    Ok(added_to(alloc, &description(alloc, TWO)?, printed.as_str())?)
+}
+
+fn two_printed(alloc: Global, change: &str) -> Result<String, SdpError> {
+    let offer = SdpOffer::from(two_changed(alloc, change)?);
+    Ok(offer.to_sdp_string()?)
 }
 
 fn two_changed(alloc: Global, change: &str) -> Result<Sdp, SdpError> {

@@ -6,6 +6,6 @@ mod spoken;
 
 pub use crate::escapes::{escaped, indented, unescaped};
 pub use crate::spoken::{
-    add_item, add_line, add_list, attribute, behind_header, description, or_word, refused, section,
-    session, unread,
+    add_item, add_line, add_list, behind_header, description, or_word, refused, section, session,
+    unread,
 };

@@ -36,7 +36,7 @@ pub fn session(alloc: Global, lines: &str) -> Result<Session, SdpError> {
 }
 
 /// What this line stands for.
-pub fn attribute(alloc: Global, line: &str) -> Result<MediaAttribute, SdpError> {
+fn attribute(alloc: Global, line: &str) -> Result<MediaAttribute, SdpError> {
     media_attribute_line(alloc, line).map(|(attribute, _)| attribute)
 }
 

@@ -1,6 +1,6 @@
 //! What fmtp lines say of a codec.
 
-use case_texts::{attribute, or_word};
+use case_texts::{or_word, section};
 use std::alloc::{AllocError, Global};
 use str0m_signal::{Codec, FormatParam, FormatParams, Items, MediaAttribute, SdpError};
 
@@ -50,14 +50,14 @@ fn lines_of(alloc: Global, text: &str) -> Result<Vec<Items<FormatParam>>, SdpErr
 /// The values of one fmtp line; none where they make no such line.
 fn line_of(alloc: Global, values: &str) -> Result<Option<Items<FormatParam>>, SdpError> {
     let line = format!(in alloc; "a=fmtp:96 {values}")?;
-    let attribute = attribute(alloc, line.as_str())?;
-    Ok(values_in(&attribute)?)
+    let section = section(alloc, line.as_str())?;
+    Ok(values_in(section.attrs.as_slice())?)
 }
 
-/// A copy of the values of an fmtp line; none of another attribute.
-fn values_in(attribute: &MediaAttribute) -> Result<Option<Items<FormatParam>>, AllocError> {
-    match attribute {
-        MediaAttribute::Fmtp { values, .. } => Ok(Some(values.clone()?)),
+/// A copy of the values of an fmtp line; none of anything else.
+fn values_in(said: &[MediaAttribute]) -> Result<Option<Items<FormatParam>>, AllocError> {
+    match said.first() {
+        Some(MediaAttribute::Fmtp { values, .. }) => Ok(Some(values.clone()?)),
         _ => Ok(None),
     }
 }

@@ -1,6 +1,6 @@
 //! The rows that sections describe, as `sdpshow rows` prints them without the mid.
 
-use case_texts::{add_item, attribute, description, or_word, section, unread};
+use case_texts::{add_item, description, or_word, section, unread};
 use std::alloc::{AllocError, Global};
 use str0m_signal::{CodecSpec, MediaAttribute, MediaLine, PayloadParams, Pt, RtpMap, SdpError};
 
@@ -107,13 +107,13 @@ fn add_if(list: &mut String, item: &str, is_on: bool) -> Result<(), AllocError> 
 /// What a mapping makes of a row, and the mapping that this stands for.
 fn spec_and_back(alloc: Global, text: &str) -> Result<String, SdpError> {
     let line = format!(in alloc; "a=rtpmap:96 {text}")?;
-    let attribute = attribute(alloc, line.as_str())?;
-    Ok(mapping_both_ways(alloc, &attribute)?)
+    let section = section(alloc, line.as_str())?;
+    Ok(mapping_both_ways(alloc, section.attrs.as_slice())?)
 }
 
-fn mapping_both_ways(alloc: Global, attribute: &MediaAttribute) -> Result<String, AllocError> {
-    match attribute {
-        MediaAttribute::RtpMap { value, .. } => both_ways(alloc, *value),
+fn mapping_both_ways(alloc: Global, said: &[MediaAttribute]) -> Result<String, AllocError> {
+    match said.first() {
+        Some(MediaAttribute::RtpMap { value, .. }) => both_ways(alloc, *value),
         _ => "no mapping".to_string(alloc),
     }
 }
