@@ -1,5 +1,7 @@
 //! Fingerprints of certificates.
-ghost use Rattle.std.specs.Prelude.{◌≡◌, ◌↔◌, IfOk, IsErr, IsErrOf, IsTrue, Some};
+ghost use Rattle.std.specs.Prelude.{◌≡◌, ◌<◌, ◌∷◌, ◌↔◌, IfOk, IsErr, IsErrOf, IsTrue, Some, true};
+ghost use Rattle.std.specs.Fmt.{digit_glyph};
+ghost use Rattle.std.specs.List.{flat_map};
 ghost use Rattle.str0m_values.specs.Parts.{Lacks};
 ghost use Rattle.str0m_values.specs.Fingerprint.{IsFingerprint, HasBadByte, IsBytesReading, IsReading, Gives, CanBeReadBack, fingerprint_text, hex_pair, pairs_text, preference_of};
 ghost use Rattle.str0m_values.specs.declared.fingerprint.Fingerprint.{Fingerprint};
@@ -10,8 +12,8 @@ use crate::items::Items;
 use crate::separator::Separator;
 use crate::text::Text;
 use std::alloc::{AllocError, AllocFailed, Global};
-use std::fmt;
 use std::hash::Hash;
+use std::{fmt, str};
 use thiserror::Error;
 
 /// Why a text is no fingerprint.
@@ -143,26 +145,99 @@ impl<'a> fmt::Display for FingerprintFmt<'a> {
         let Some((first, more)) = self.0.split_first() else {
             return Ok(());
         };
-        let pair = HexPair(*first);
-        write!(f, "{pair}")?;
-        for byte in more {
-            let pair = HexPair(*byte);
-            write!(f, ":{pair}")?;
+        HexPair(*first).fmt(f)?;
+        MorePairs(more).fmt(f)
+    }
+}
+
+/// Bytes, each as two upper-case hex digits behind a `:`, written by fours.
+#[derive(Drop)]
+struct MorePairs<'a>(&'a [u8]);
+
+impl<'a> fmt::Display for MorePairs<'a> {
+    ghost output = { λ more. Some (flat_map (λ byte. 58 ∷ hex_pair byte) more.0.now) };
+
+    fn fmt<W: fmt::Write>(&self, f: &mut fmt::Formatter<W>) -> fmt::Result {
+        let mut left = self.0;
+        while let Some((four, rest)) = left.split_first_chunk::<4>() {
+            FourPairs(*four).fmt(f)?;
+            left = rest;
+        }
+        LastPairs(left).fmt(f)
+    }
+}
+
+/// Four such bytes, in one write, which takes less time than a write for each. All of it is ASCII, so it is never refused.
+#[derive(Clone, Copy)]
+struct FourPairs([u8; 4]);
+
+impl fmt::Display for FourPairs {
+    ghost output = { λ four. Some (flat_map (λ byte. 58 ∷ hex_pair byte) four.0) };
+
+    fn fmt<W: fmt::Write>(&self, f: &mut fmt::Formatter<W>) -> fmt::Result {
+        let [a, b, c, d] = self.0;
+        let text = [
+            b':',
+            digit(a / 16),
+            digit(a % 16),
+            b':',
+            digit(b / 16),
+            digit(b % 16),
+            b':',
+            digit(c / 16),
+            digit(c % 16),
+            b':',
+            digit(d / 16),
+            digit(d % 16),
+        ];
+        match str::from_utf8(&text) {
+            Ok(text) => f.write_str(text),
+            Err(_) => Err(fmt::Error),
+        }
+    }
+}
+
+/// Such bytes, one by one.
+#[derive(Drop)]
+struct LastPairs<'a>(&'a [u8]);
+
+impl<'a> fmt::Display for LastPairs<'a> {
+    ghost output = { λ last. Some (flat_map (λ byte. 58 ∷ hex_pair byte) last.0.now) };
+
+    fn fmt<W: fmt::Write>(&self, f: &mut fmt::Formatter<W>) -> fmt::Result {
+        for byte in self.0 {
+            f.write_str(":")?;
+            HexPair(*byte).fmt(f)?;
         }
         Ok(())
     }
 }
 
-/// A byte as two upper-case hex digits.
+/// The upper-case hex digit of a number below 16.
+fn digit(number: u8) -> u8
+    ensures { number < 16 → result ≡ digit_glyph true number }
+{
+    let low = number % 16;
+    if low < 10 {
+        b'0' + low
+    } else {
+        b'A' + (low - 10)
+    }
+}
+
+/// A byte as two upper-case hex digits, which are ASCII.
 #[derive(Clone, Copy)]
 struct HexPair(u8);
 
 impl fmt::Display for HexPair {
     ghost output = { λ b. Some (hex_pair b.0) };
 
-    #[tactic(auto, using(std::proofs::lemmas::Fmt::hex_byte))]
     fn fmt<W: fmt::Write>(&self, f: &mut fmt::Formatter<W>) -> fmt::Result {
         let byte = self.0;
-        write!(f, "{byte:02X}")
+        let pair = [digit(byte / 16), digit(byte % 16)];
+        match str::from_utf8(&pair) {
+            Ok(pair) => f.write_str(pair),
+            Err(_) => Err(fmt::Error),
+        }
     }
 }

@@ -110,6 +110,6 @@ impl fmt::Display for Text {
 
     fn fmt<W: fmt::Write>(&self, f: &mut fmt::Formatter<W>) -> fmt::Result {
         let letters = self.letters.as_str();
-        write!(f, "{letters}")
+        f.write_str(letters)
     }
 }

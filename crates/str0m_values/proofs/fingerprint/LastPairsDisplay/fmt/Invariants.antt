@@ -2,8 +2,8 @@ use Rattle.std.proofs.Common.{◌∷◌, take}
 use Rattle.std.specs.List.{flat_map}
 use Rattle.std.specs.Fmt.{HasWritten, IsPlainFormatter}
 use Rattle.str0m_values.specs.Fingerprint.{hex_pair}
-use Rattle.str0m_values.proofs.fingerprint.FingerprintFmtDisplay.fmt.Given as goal
+use Rattle.str0m_values.proofs.fingerprint.LastPairsDisplay.fmt.Given as goal
 
 abbrev pub invariant-loop-byte : goal.invariant-loop-byte
 invariant-loop-byte g l =
-    IsPlainFormatter l.initial.f → HasWritten g.W.Write.write_str_gives l.initial.f (flat_map (λ byte. 58 ∷ hex_pair byte) (take l.byte-index l.more)) l.f
+    IsPlainFormatter l.initial.f → HasWritten g.W.Write.write_str_gives l.initial.f (flat_map (λ byte. 58 ∷ hex_pair byte) (take l.byte-index l.byte-items)) l.f
