@@ -5,6 +5,7 @@ ghost use Rattle.str0m_sdp.specs.AttributeParts.{session_words, media_words, val
 use crate::attribute::{MediaAttribute, SessionAttribute};
 use crate::ext_map::ExtMapLine;
 use crate::fmtp::FmtpLine;
+use crate::printed::TypeHead;
 use crate::rid::RidLine;
 use crate::simulcast::SimulcastLine;
 use crate::ssrc_group::SsrcGroupLine;
@@ -82,8 +83,18 @@ impl<'a> fmt::Display for PairLine<'a> {
 
     fn fmt<W: fmt::Write>(&self, f: &mut fmt::Formatter<W>) -> fmt::Result {
         match self.0 {
-            MediaAttribute::RtpMap { pt, value } => write!(f, "a=rtpmap:{pt} {value}\r\n"),
-            MediaAttribute::RtcpFb { pt, value } => write!(f, "a=rtcp-fb:{pt} {value}\r\n"),
+            MediaAttribute::RtpMap { pt, value } => {
+                let (label, pt) = ("a=rtpmap:", *pt);
+                TypeHead { label, pt }.fmt(f)?;
+                value.fmt(f)?;
+                f.write_str("\r\n")
+            }
+            MediaAttribute::RtcpFb { pt, value } => {
+                let (label, pt) = ("a=rtcp-fb:", *pt);
+                TypeHead { label, pt }.fmt(f)?;
+                value.fmt(f)?;
+                f.write_str("\r\n")
+            }
             MediaAttribute::Ssrc { ssrc, attr, value } => {
                 write!(f, "a=ssrc:{ssrc} {attr}:{value}\r\n")
             }

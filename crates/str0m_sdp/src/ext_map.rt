@@ -16,12 +16,13 @@ impl<'a> fmt::Display for ExtMapLine<'a> {
     ghost output = { λ line. Some (ext_map_text line.id line.ext.now) };
 
     fn fmt<W: fmt::Write>(&self, f: &mut fmt::Formatter<W>) -> fmt::Result {
-        let id = self.id;
-        let uri = &self.ext.uri;
-        if self.ext.serialized {
-            write!(f, "a=extmap:{id} {uri}\r\n")
-        } else {
-            Ok(())
+        if !self.ext.serialized {
+            return Ok(());
         }
+        f.write_str("a=extmap:")?;
+        f.write(self.id)?;
+        f.write_str(" ")?;
+        f.write_str(self.ext.uri.as_str())?;
+        f.write_str("\r\n")
     }
 }

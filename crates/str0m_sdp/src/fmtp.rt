@@ -2,6 +2,7 @@
 ghost use Rattle.std.specs.Prelude.{◌≡◌, ◌∷◌, [], Some, MatchOption, filter};
 ghost use Rattle.str0m_sdp.specs.Fmtp.{is_shown, fmtp_text};
 
+use crate::printed::TypeHead;
 use std::fmt;
 use str0m_formats::FormatParam;
 use str0m_values::Pt;
@@ -44,10 +45,13 @@ impl<'a> fmt::Display for FmtpLine<'a> {
         let Some((first, more)) = first_shown(self.values) else {
             return Ok(());
         };
-        write!(f, "a=fmtp:{pt} {first}")?;
+        let label = "a=fmtp:";
+        TypeHead { label, pt }.fmt(f)?;
+        first.fmt(f)?;
         for value in more {
             if is_shown(*value) {
-                write!(f, ";{value}")?;
+                f.write_str(";")?;
+                value.fmt(f)?;
             }
         }
         f.write_str("\r\n")

@@ -1,5 +1,5 @@
 //! Lists as text.
-ghost use Rattle.std.specs.Prelude.{◌≡◌, ◌++◌, List, ℕ, Some, refl};
+ghost use Rattle.std.specs.Prelude.{◌≡◌, ◌++◌, List, ℕ, Some, codes, refl};
 ghost use Rattle.std.specs.Fmt.{decimal};
 ghost use Rattle.std.specs.List.{flat_map, join_by};
 ghost use Rattle.str0m_sdp.specs.Lines.{labelled_line};
@@ -29,7 +29,7 @@ impl<'a, T: Printed> fmt::Display for Each<'a, T> {
 
     fn fmt<W: fmt::Write>(&self, f: &mut fmt::Formatter<W>) -> fmt::Result {
         for item in self.0 {
-            write!(f, "{item}")?;
+            item.fmt(f)?;
         }
         Ok(())
     }
@@ -69,9 +69,10 @@ impl<'a, T: Printed> fmt::Display for Joined<'a, T> {
         let Some((first, more)) = self.items.split_first() else {
             return Ok(());
         };
-        write!(f, "{first}")?;
+        first.fmt(f)?;
         for item in more {
-            write!(f, "{separator}{item}")?;
+            f.write_str(separator)?;
+            item.fmt(f)?;
         }
         Ok(())
     }
@@ -88,8 +89,26 @@ impl<'a> fmt::Display for TextLine<'a> {
     ghost output = { λ line. Some (labelled_line line.label.now line.text.now) };
 
     fn fmt<W: fmt::Write>(&self, f: &mut fmt::Formatter<W>) -> fmt::Result {
-        let label = self.label;
-        let text = self.text;
-        write!(f, "a={label}{text}\r\n")
+        f.write_str("a=")?;
+        f.write_str(self.label)?;
+        f.write_str(self.text)?;
+        f.write_str("\r\n")
+    }
+}
+
+/// What a line begins with that says something of a payload type: its label, the type and a space.
+#[derive(Drop)]
+pub(crate) struct TypeHead {
+    pub(crate) label: &'static str,
+    pub(crate) pt: Pt,
+}
+
+impl fmt::Display for TypeHead {
+    ghost output = { λ head. Some (head.label.now ++ (decimal head.pt ++ codes " ")) };
+
+    fn fmt<W: fmt::Write>(&self, f: &mut fmt::Formatter<W>) -> fmt::Result {
+        f.write_str(self.label)?;
+        self.pt.fmt(f)?;
+        f.write_str(" ")
     }
 }

@@ -27,9 +27,12 @@ impl fmt::Display for RtpMap {
             clock_rate,
             channels,
         } = *self;
+        codec.fmt(f)?;
+        f.write_str("/")?;
+        clock_rate.fmt(f)?;
         match channels {
-            None => write!(f, "{codec}/{clock_rate}"),
-            Some(channels) => write!(f, "{codec}/{clock_rate}/{channels}"),
+            None => Ok(()),
+            Some(channels) => write!(f, "/{channels}"),
         }
     }
 }
