@@ -152,22 +152,15 @@ impl fmt::Display for Candidate {
     ghost output = { λ c. Some (candidate_text c) };
 
     fn fmt<W: fmt::Write>(&self, f: &mut fmt::Formatter<W>) -> fmt::Result {
-        let Candidate {
-            foundation,
-            component_id,
-            proto,
-            prio,
-            addr,
-            kind,
-            ..
-        } = self;
-        let SocketAddr { ip, port } = addr;
-        write!(
-            f,
-            "candidate:{foundation} {component_id} {proto} {prio} {ip} {port} typ {kind}"
-        )?;
-        if let Some(SocketAddr { ip, port }) = self.raddr {
-            write!(f, " raddr {ip} rport {port}")?;
+        CandidateParts(self).fmt(f)?;
+        if let Some(addr) = self.raddr {
+            let (ip_label, port_label) = (" raddr ", " rport ");
+            LabelledSocket {
+                ip_label,
+                port_label,
+                addr,
+            }
+            .fmt(f)?;
         }
         if let Some(tcptype) = self.tcptype {
             write!(f, " tcptype {tcptype}")?;
@@ -176,5 +169,101 @@ impl fmt::Display for Candidate {
             write!(f, " ufrag {ufrag}")?;
         }
         Ok(())
+    }
+}
+
+/// The parts that each candidate has.
+#[derive(Drop)]
+struct CandidateParts<'a>(&'a Candidate);
+
+impl<'a> fmt::Display for CandidateParts<'a> {
+    ghost use Rattle.std.specs.Prelude.{◌++◌, codes};
+    ghost use Rattle.std.specs.Fmt.{decimal};
+    ghost use Rattle.str0m_values.specs.Candidate.{socket_text};
+    ghost use Rattle.str0m_values.specs.CandidateKind.{kind_text};
+    ghost use Rattle.str0m_values.specs.Protocol.{protocol_text};
+
+    ghost output = { λ parts. Some (codes "candidate:" ++ (parts.0.now.foundation ++ (codes " " ++ (decimal parts.0.now.component_id ++ (codes " " ++ (protocol_text parts.0.now.proto
+        ++ (codes " " ++ (decimal parts.0.now.prio ++ (socket_text (codes " ") (codes " ") parts.0.now.addr ++ (codes " typ " ++ kind_text parts.0.now.kind)))))))))) };
+
+    fn fmt<W: fmt::Write>(&self, f: &mut fmt::Formatter<W>) -> fmt::Result {
+        let candidate = self.0;
+        CandidateName(candidate).fmt(f)?;
+        let (proto, prio) = (candidate.proto, candidate.prio);
+        Transport { proto, prio }.fmt(f)?;
+        let (ip_label, port_label) = (" ", " ");
+        let addr = candidate.addr;
+        LabelledSocket {
+            ip_label,
+            port_label,
+            addr,
+        }
+        .fmt(f)?;
+        f.write_str(" typ ")?;
+        candidate.kind.fmt(f)
+    }
+}
+
+/// The foundation and the component of a candidate, behind its label.
+#[derive(Drop)]
+struct CandidateName<'a>(&'a Candidate);
+
+impl<'a> fmt::Display for CandidateName<'a> {
+    ghost use Rattle.std.specs.Prelude.{◌++◌, codes};
+    ghost use Rattle.std.specs.Fmt.{decimal};
+
+    ghost output = { λ name. Some (codes "candidate:" ++ (name.0.now.foundation ++ (codes " " ++ decimal name.0.now.component_id))) };
+
+    fn fmt<W: fmt::Write>(&self, f: &mut fmt::Formatter<W>) -> fmt::Result {
+        let candidate = self.0;
+        f.write_str("candidate:")?;
+        f.write_str(candidate.foundation.as_str())?;
+        f.write_str(" ")?;
+        f.write(candidate.component_id)
+    }
+}
+
+/// A transport and a priority, each behind a space.
+#[derive(Drop)]
+struct Transport {
+    proto: Protocol,
+    prio: u32,
+}
+
+impl fmt::Display for Transport {
+    ghost use Rattle.std.specs.Prelude.{◌++◌, codes};
+    ghost use Rattle.std.specs.Fmt.{decimal};
+    ghost use Rattle.str0m_values.specs.Protocol.{protocol_text};
+
+    ghost output = { λ it. Some (codes " " ++ (protocol_text it.proto ++ (codes " " ++ decimal it.prio))) };
+
+    fn fmt<W: fmt::Write>(&self, f: &mut fmt::Formatter<W>) -> fmt::Result {
+        let Transport { proto, prio } = self;
+        f.write_str(" ")?;
+        proto.fmt(f)?;
+        f.write_str(" ")?;
+        f.write(*prio)
+    }
+}
+
+/// An address and a port, each behind its label.
+#[derive(Drop)]
+struct LabelledSocket {
+    ip_label: &'static str,
+    port_label: &'static str,
+    addr: SocketAddr,
+}
+
+impl fmt::Display for LabelledSocket {
+    ghost use Rattle.str0m_values.specs.Candidate.{socket_text};
+
+    ghost output = { λ socket. Some (socket_text socket.ip_label.now socket.port_label.now socket.addr) };
+
+    fn fmt<W: fmt::Write>(&self, f: &mut fmt::Formatter<W>) -> fmt::Result {
+        let SocketAddr { ip, port } = self.addr;
+        f.write_str(self.ip_label)?;
+        ip.fmt(f)?;
+        f.write_str(self.port_label)?;
+        f.write(port)
     }
 }

@@ -44,6 +44,6 @@ impl fmt::Display for CandidateKind {
             CandidateKind::ServerReflexive => "srflx",
             CandidateKind::Relayed => "relay",
         };
-        write!(f, "{word}")
+        f.write_str(word)
     }
 }

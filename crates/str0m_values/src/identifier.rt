@@ -43,7 +43,7 @@ impl fmt::Display for Mid {
 
     fn fmt<W: fmt::Write>(&self, f: &mut fmt::Formatter<W>) -> fmt::Result {
         let text = self.0.as_str();
-        write!(f, "{text}")
+        f.write_str(text)
     }
 }
 
@@ -83,6 +83,6 @@ impl fmt::Display for Rid {
 
     fn fmt<W: fmt::Write>(&self, f: &mut fmt::Formatter<W>) -> fmt::Result {
         let text = self.0.as_str();
-        write!(f, "{text}")
+        f.write_str(text)
     }
 }

@@ -45,7 +45,7 @@ impl fmt::Display for Protocol {
             Protocol::SslTcp => "ssltcp",
             Protocol::Tls => "tls",
         };
-        write!(f, "{word}")
+        f.write_str(word)
     }
 }
 
@@ -87,6 +87,6 @@ impl fmt::Display for TcpType {
             TcpType::Passive => "passive",
             TcpType::So => "so",
         };
-        write!(f, "{word}")
+        f.write_str(word)
     }
 }
