@@ -46,6 +46,7 @@ pub mod Counting
 pub mod LockedStays
 pub mod SpecSteps
 pub mod Telephone
+pub mod LevelNames
 pub mod Levels
 pub mod Matched
 pub mod Distinct

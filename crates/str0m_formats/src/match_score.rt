@@ -1,6 +1,5 @@
 //! How well two specs fit.
 ghost use Rattle.std.specs.Prelude.{◌≡◌, ◌≤◌, IfSome, option_map};
-ghost use Rattle.str0m_values.specs.H264.{named};
 ghost use Rattle.str0m_formats.specs.Scores.{same_flag, unless, opus_score, is_mono, mode_score, amr_wb_score, level_score, h264_level_score, h264_score, h265_triple, h266_triple, profile_of, triple_score, profile_score, vp9_score, av1_score, format_score, codec_score, score};
 
 use crate::codec::Codec;
@@ -87,17 +86,6 @@ fn level_score(is_same: bool, own: usize, other: usize) -> Option<usize>
     }
 }
 
-/// What the profile-level-id of an H264 format names.
-#[tactic(auto, unfolding(str0m_values::specs::H264::named))]
-fn h264_level(id: Option<u32>) -> Option<H264ProfileLevel>
-    ensures { result ≡ named id }
-{
-    match id {
-        None => Some(H264ProfileLevel::FALLBACK),
-        Some(id) => H264ProfileLevel::try_from(id).ok(),
-    }
-}
-
 fn h264_level_score(own: Option<H264ProfileLevel>, other: Option<H264ProfileLevel>) -> Option<usize>
     ensures score { result ≡ h264_level_score own other }
     ensures bound { IfSome result (λ n. n ≤ 100) }
@@ -111,14 +99,15 @@ fn h264_level_score(own: Option<H264ProfileLevel>, other: Option<H264ProfileLeve
     }
 }
 
+#[tactic(auto, using(crate::proofs::LevelNames::same_name))]
 fn h264_score(own: &FormatParams, other: &FormatParams) -> Option<usize>
     ensures score { result ≡ h264_score own.now other.now }
     ensures bound { IfSome result (λ n. n ≤ 100) }
 {
     if own.packetization_mode.unwrap_or(0) == other.packetization_mode.unwrap_or(0) {
         h264_level_score(
-            h264_level(own.profile_level_id),
-            h264_level(other.profile_level_id),
+            H264ProfileLevel::named(own.profile_level_id),
+            H264ProfileLevel::named(other.profile_level_id),
         )
     } else {
         None

@@ -76,6 +76,18 @@ impl H264ProfileLevel {
         level: H264Level::L1,
     };
 
+    /// What the profile-level-id of a format names, `None` where it names no profile or no level; an absent
+    /// one stands for `FALLBACK`.
+    #[tactic(auto, unfolding(crate::specs::H264::named))]
+    pub fn named(id: Option<u32>) -> Option<H264ProfileLevel>
+        ensures { result ≡ named id }
+    {
+        match id {
+            None => Some(H264ProfileLevel::FALLBACK),
+            Some(id) => H264ProfileLevel::try_from(id).ok(),
+        }
+    }
+
     pub fn profile(self) -> H264Profile
         ensures part { result ≡ self.profile }
         ensures fallback { H264ProfileLevel.FALLBACK.profile ≡ H264Profile.Baseline }
@@ -171,24 +183,13 @@ fn is_1b(idc: u8, iop: u8) -> bool
     (idc == 0x42 || idc == 0x4d || idc == 0x58) && iop & 0x10 == 0x10
 }
 
-/// What a profile-level-id names; an absent one stands for the fallback.
-#[tactic(auto, unfolding(crate::specs::H264::named))]
-fn named(id: Option<u32>) -> Option<H264ProfileLevel>
-    ensures { result ≡ named id }
-{
-    match id {
-        None => Some(H264ProfileLevel::FALLBACK),
-        Some(id) => H264ProfileLevel::try_from(id).ok(),
-    }
-}
-
 /// The profile-level-id that both sides bear where levels may not differ by direction (RFC 6184,
 /// section 8.2.2): `other` where both ids name a profile and a level and that of `other` is lower, else
 /// `own`. An absent id stands for `H264ProfileLevel::FALLBACK`. Profiles aren't compared.
 pub fn lower_level(own: Option<u32>, other: Option<u32>) -> Option<u32>
     ensures { result ≡ lower_level own other }
 {
-    match (named(own), named(other)) {
+    match (H264ProfileLevel::named(own), H264ProfileLevel::named(other)) {
         (Some(ours), Some(theirs)) if theirs.level.ordinal() < ours.level.ordinal() => other,
         _ => own,
     }
