@@ -34,6 +34,7 @@ pub mod RidLaws
 pub mod RowLines
 pub mod RowsReadBack
 pub mod RtpMapLaws
+pub mod SearchLaws
 pub mod SectionAgain
 pub mod SectionLaws
 pub mod SectionLines

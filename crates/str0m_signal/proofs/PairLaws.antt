@@ -1,11 +1,11 @@
 -- The parts of an fmtp pair.
-use Rattle.std.proofs.Common.{◌≡◌, ◌⊎◌, ℕ, List, [], ◌∷◌, ◌++◌, length, Some, refl, ap, ◌∙◌, arith, inl, inr}
-use Rattle.std.proofs.lemmas.Bool.{lt-ltb}
-use Rattle.std.proofs.lemmas.List.{append-nil}
+use Rattle.std.proofs.Common.{◌≡◌, ◌⊎◌, ℕ, ◌<◌, ◌≤◌, zero, suc, true, List, [], ◌∷◌, ◌++◌, length, take, drop, None, Some, refl, sym, ap, ◌∙◌, arith, inl, inr}
+use Rattle.std.proofs.lemmas.Bool.{lt-ltb, cases_eq, ne_eqb, false≢true}
+use Rattle.std.proofs.lemmas.List.{append-nil, take-append-drop}
 use Rattle.std.specs.List.{AllByRecursion}
 use Rattle.str0m_values.specs.Parts.{Lacks, IsRest}
 use Rattle.str0m_values.specs.Cuts.{before}
-use Rattle.str0m_signal.specs.FmtpReading.{value_read, skip_blanks}
+use Rattle.str0m_signal.specs.FmtpReading.{ends_value, NoneEnds, IsValueEnd, value_read, skip_blanks}
 use Rattle.str0m_values.proofs.CutLaws.{before_front, strip_at}
 
 -- a value ends at the end of the text, at `;`, at a space or at a tab
@@ -39,3 +39,36 @@ value_given value rest filled semicolon space tab ends =
 pub IsBlank-skip : (blanks text : List ℕ) → AllByRecursion (λ b. (b ≡ 32) ⊎ (b ≡ 9)) blanks → skip_blanks (blanks ++ text) ≡ skip_blanks text
 IsBlank-skip [] text h = refl
 IsBlank-skip (x ∷ xs) text h = elim h.0 [ inl e ↦ rw e (IsBlank-skip xs text h.1) | inr e ↦ rw e (IsBlank-skip xs text h.1) ]
+
+-- ---- the value by the place where it ends
+
+ends_there : (x : ℕ) → ends_value x ≡ true → (x ≡ 59) ⊎ ((x ≡ 32) ⊎ (x ≡ 9))
+ends_there x h = elim (cases_eq x 59) [
+  | inl e ↦ inl e
+  | inr first ↦ elim (cases_eq x 32) [
+    | inl e ↦ inr (inl e)
+    | inr second ↦ elim (cases_eq x 9) [ inl e ↦ inr (inr e) | inr third ↦ absurd (false≢true (rw (ne_eqb x 59 first, ne_eqb x 32 second, ne_eqb x 9 third) at h)) ]
+  ]
+]
+
+ends_at : (n : ℕ) (text : List ℕ) → IsValueEnd text n → EndsValue (drop n text)
+ends_at zero [] h = tt
+ends_at zero (x ∷ xs) h = ends_there x (h.2 (omega arith))
+ends_at (suc n) [] h = absurd (omega (arith, h.0))
+ends_at (suc n) (x ∷ xs) h = ends_at n xs (omega (arith, h.0), (λ k lt. h.1 (suc k) (omega arith)), (λ lt. h.2 (omega arith)))
+
+lacks_to : (c : ℕ) → ends_value c ≡ true → (n : ℕ) (text : List ℕ) → NoneEnds text n → Lacks c (take n text)
+lacks_to c ends zero text h = tt
+lacks_to c ends (suc n) [] h = tt
+lacks_to c ends (suc n) (x ∷ xs) h = ((λ e. false≢true (sym (h 0 (omega arith)) ∙ ap ends_value e ∙ ends)), lacks_to c ends n xs (λ k lt. h (suc k) (omega arith)))
+
+filled_to : (n : ℕ) (text : List ℕ) → 0 < n → n ≤ length text → IsRest (take n text)
+filled_to zero text some le = absurd (omega (arith, some))
+filled_to (suc n) [] some le = absurd (omega (arith, le))
+filled_to (suc n) (x ∷ xs) some le = omega arith
+
+pub value_nowhere : (text : List ℕ) → IsValueEnd text 0 → None ≡ value_read text
+value_nowhere text h = rw (stop_nothing text (ends_at 0 text h)) refl
+
+pub value_to : (text : List ℕ) (n : ℕ) → IsValueEnd text n → 0 < n → Some (take n text, drop n text) ≡ value_read text
+value_to text n h some = sym (ap value_read (sym (take-append-drop n text)) ∙ value_given (take n text) (drop n text) (filled_to n text some h.0) (lacks_to 59 refl n text h.1) (lacks_to 32 refl n text h.1) (lacks_to 9 refl n text h.1) (ends_at n text h))

@@ -1,5 +1,5 @@
 -- Reading of an fmtp line as functions.
-use Rattle.std.specs.Prelude.{ℕ, zero, suc, List, [], ◌∷◌, Option, Some, None, codes, is_some, length, if◌then◌else◌, ◌==◌}
+use Rattle.std.specs.Prelude.{◌≡◌, ◌<◌, ◌≤◌, ◌||◌, ℕ, zero, suc, Bool, true, false, get_or, List, [], ◌∷◌, Option, Some, None, codes, is_some, length, if◌then◌else◌, ◌==◌}
 use Rattle.str0m_formats.specs.declared.format_param.FormatParam.{FormatParam}
 use Rattle.str0m_formats.specs.declared.format_param.FormatParam.TheVariants.{BareRange, BarePtList, Unknown}
 use Rattle.str0m_formats.specs.PairsReading.{params_read}
@@ -13,6 +13,18 @@ value_read text = do
   filled ← when (is_rest value) value
   rest ← strip filled text
   Some (filled, rest)
+
+-- whether a value ends at the character
+abbrev pub ends_value : ℕ → Bool
+ends_value x = x == 59 || x == 32 || x == 9
+
+-- a value ends at none of the first n characters
+abbrev pub NoneEnds : List ℕ → ℕ → Type 0
+NoneEnds text n = (k : ℕ) → k < n → ends_value (get_or text k 0) ≡ false
+
+-- a value ends at the n-th character or at the end of the text, and at none before
+abbrev pub IsValueEnd : List ℕ → ℕ → Type 0
+IsValueEnd text n = (n ≤ length text) × NoneEnds text n × (n < length text → ends_value (get_or text n 0) ≡ true)
 
 -- the text without the spaces and tabs at its front
 abbrev pub skip_blanks : List ℕ → List ℕ

@@ -130,5 +130,9 @@ with_letter_read letter text =
 abbrev pub named_read : List ℕ → Option MediaAttribute
 named_read text = with_letter_read (first_byte text) text
 
+-- what isn't nothing, as it stands
+abbrev pub unused_read : List ℕ → Option MediaAttribute
+unused_read text = when (is_rest text) (Unused text)
+
 abbrev pub media_read : List ℕ → Option MediaAttribute
-media_read text = named_read text <|> when (is_rest text) (Unused text)
+media_read text = named_read text <|> unused_read text

@@ -54,5 +54,9 @@ named_read text =
     <|> fingerprint_form_read text
     <|> candidate_form_read text
 
+-- what isn't nothing, as it stands
+abbrev pub unused_read : List ℕ → Option SessionAttribute
+unused_read text = when (is_rest text) (Unused text)
+
 abbrev pub session_read : List ℕ → Option SessionAttribute
-session_read text = named_read text <|> when (is_rest text) (Unused text)
+session_read text = named_read text <|> unused_read text

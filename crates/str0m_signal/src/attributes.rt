@@ -3,7 +3,7 @@
 ghost use Rattle.std.specs.Prelude.{◌≡◌, ℕ, List, Option, IfOk, option_map};
 ghost use Rattle.str0m_signal.specs.Answers.{Gives};
 ghost use Rattle.str0m_signal.specs.Chains.{Run};
-ghost use Rattle.str0m_signal.specs.LineReading.{lines_of, line_read, read_attribute, left, IsRead};
+ghost use Rattle.str0m_signal.specs.LineReading.{lines_of, line_read, read_attribute, left, IsRead, TakesLine};
 
 use crate::lines::plain_line;
 use crate::reader::refusal;
@@ -47,6 +47,26 @@ fn next_line<A: Attribute>(alloc: Global, text: &str) -> Result<Option<(A, &str)
     }
 }
 
+/// Puts the attribute of the first line behind the others, and answers what follows that line.
+fn take_line<'a, A: Attribute>(
+    alloc: Global,
+    text: &'a str,
+    attributes: &mut Vec<A>,
+) -> Result<Option<&'a str>, AllocError>
+    ensures { IfOk result (λ rest. TakesLine (read_attribute A.reading) (lines_of text.now) attributes.old.items attributes.new.items rest) }
+{
+    let Some((content, rest)) = plain_line(text) else {
+        return Ok(None);
+    };
+    match line(alloc, content)? {
+        Some(attribute) => {
+            attributes.push(attribute)?;
+            Ok(Some(rest))
+        }
+        None => Ok(None),
+    }
+}
+
 /// The run of attribute lines that stands next.
 pub(crate) fn attribute_run<A: Attribute>(
     alloc: Global,
@@ -56,8 +76,7 @@ pub(crate) fn attribute_run<A: Attribute>(
 {
     let mut attributes = Vec::new(alloc);
     let mut rest = text;
-    while let Some((attribute, after)) = next_line(alloc, rest)? {
-        attributes.push(attribute)?;
+    while let Some(after) = take_line(alloc, rest, &mut attributes)? {
         rest = after;
     }
     Ok((Items::from(attributes), rest))

@@ -1,9 +1,10 @@
 //! Lines of header extensions.
 ghost use Rattle.std.specs.Prelude.{◌≡◌, IfOk, option_map};
-ghost use Rattle.str0m_values.specs.Cuts.{num};
+ghost use Rattle.str0m_values.specs.Cuts.{cut, num, parts};
 ghost use Rattle.str0m_signal.specs.FormReading.{text_read, tailed_read};
 ghost use Rattle.str0m_signal.specs.FieldsReading.{ext_map_read};
 
+use memchr::memchr;
 use std::alloc::{AllocError, Global};
 use str0m_sdp::MediaAttribute;
 use str0m_values::cuts::{cut, num_u8, strip};
@@ -22,11 +23,21 @@ fn id(text: &str) -> Option<u8>
     }
 }
 
+/// The parts before and after the first space. URIs are long, so a search over many bytes at once finds it sooner.
+fn cut_far(text: &str) -> Option<(&str, &str)>
+    ensures { parts result ≡ cut 32 text.now }
+{
+    match memchr(b' ', text.as_bytes()) {
+        Some(place) => Some((&text[..place], &text[place + 1..])),
+        None => None,
+    }
+}
+
 /// The URI; more may stand behind it.
 fn uri(text: &str) -> Option<&str>
     ensures { option_map (λ x. x.now) result ≡ tailed_read 32 text_read text.now }
 {
-    match cut(text, Separator::Space) {
+    match cut_far(text) {
         None => { if text.is_empty() { None } else { Some(text) } }
         Some((uri, more)) => {
             if uri.is_empty() {

@@ -2,7 +2,7 @@
 
 ghost use Rattle.std.specs.Prelude.{◌≡◌, IfOk};
 ghost use Rattle.str0m_signal.specs.MediaAttribute.{IsMediaLine};
-ghost use Rattle.str0m_signal.specs.MediaAttributeReading.{words_read, ice_read, rtcp_read, sctp_port_read, sctp_init_read, max_message_size_read, candidate_form_read, fingerprint_form_read, setup_read, mid_read, first_byte, with_e_read, with_f_read, with_i_read, with_m_read, with_r_read, with_s_read, named_read, media_read};
+ghost use Rattle.str0m_signal.specs.MediaAttributeReading.{words_read, ice_read, rtcp_read, sctp_port_read, sctp_init_read, max_message_size_read, candidate_form_read, fingerprint_form_read, setup_read, mid_read, first_byte, with_e_read, with_f_read, with_i_read, with_m_read, with_r_read, with_s_read, named_read, unused_read, media_read};
 ghost use Rattle.str0m_signal.specs.Chains.{Run};
 ghost use Rattle.str0m_signal.specs.Lines.{OneLine};
 ghost use Rattle.str0m_signal.specs.LineReading.{lines_of};
@@ -234,17 +234,24 @@ fn named(alloc: Global, text: &str) -> Result<Option<MediaAttribute>, AllocError
     }
 }
 
+/// What isn't empty, as it stands.
+fn unused(alloc: Global, text: &str) -> Result<Option<MediaAttribute>, AllocError>
+    ensures { IfOk result (λ found. found ≡ unused_read text.now) }
+{
+    if text.is_empty() {
+        return Ok(None);
+    }
+    Ok(Some(MediaAttribute::Unused(Text::from_str(alloc, text)?)))
+}
+
 impl Attribute for MediaAttribute {
     ghost reading = { media_read };
 
     fn read(alloc: Global, text: &str) -> Result<Option<MediaAttribute>, AllocError> {
-        if let Some(found) = named(alloc, text)? {
-            return Ok(Some(found));
+        match named(alloc, text) {
+            Ok(None) => unused(alloc, text),
+            read => read,
         }
-        if text.is_empty() {
-            return Ok(None);
-        }
-        Ok(Some(MediaAttribute::Unused(Text::from_str(alloc, text)?)))
     }
 }
 

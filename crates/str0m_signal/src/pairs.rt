@@ -3,23 +3,40 @@
 ghost use Rattle.std.specs.Prelude.{◌≡◌, IfOk, option_map};
 ghost use Rattle.str0m_values.specs.Cuts.{parts};
 ghost use Rattle.str0m_formats.specs.FormatParam.{pair_texts};
-ghost use Rattle.str0m_signal.specs.FmtpReading.{value_read, skip_blanks, next_read, key_read, pair_read, pairs_read};
+ghost use Rattle.str0m_signal.specs.FmtpReading.{IsValueEnd, ends_value, value_read, skip_blanks, next_read, key_read, pair_read, pairs_read};
 
 use std::alloc::{AllocError, Global};
 use str0m_values::Separator;
-use str0m_values::cuts::{before, cut, has, strip};
+use str0m_values::cuts::{cut, has, strip};
+
+fn ends_value(byte: u8) -> bool
+    ensures { result ≡ ends_value byte }
+{
+    byte == b';' || byte == b' ' || byte == b'\t'
+}
+
+/// Where a value ends. Most are short: to go over them takes less than to call a search.
+fn value_end(bytes: &[u8]) -> usize
+    ensures { IsValueEnd bytes.now result }
+{
+    for i in 0..bytes.len() {
+        if ends_value(bytes[i]) {
+            return i;
+        }
+    }
+    bytes.len()
+}
 
 /// A value, which ends at `;`, space or tab, and what follows it.
 pub(crate) fn value(text: &str) -> Option<(&str, &str)>
     ensures { parts result ≡ value_read text.now }
 {
-    let item = before(text, Separator::Semicolon);
-    let value = before(before(item, Separator::Space), Separator::Tab);
-    if value.is_empty() {
-        return None;
+    let at = value_end(text.as_bytes());
+    if at == 0 {
+        None
+    } else {
+        Some(text.split_at(at))
     }
-    let rest = strip(text, value)?;
-    Some((value, rest))
 }
 
 /// The text without the blanks at its front.

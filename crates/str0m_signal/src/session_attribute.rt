@@ -2,7 +2,7 @@
 
 ghost use Rattle.std.specs.Prelude.{◌≡◌, IfOk};
 ghost use Rattle.str0m_signal.specs.SessionAttribute.{IsSessionLine};
-ghost use Rattle.str0m_signal.specs.SessionAttributeReading.{words_read, setup_read, texts_read, candidate_form_read, fingerprint_form_read, named_read, session_read};
+ghost use Rattle.str0m_signal.specs.SessionAttributeReading.{words_read, setup_read, texts_read, candidate_form_read, fingerprint_form_read, named_read, unused_read, session_read};
 ghost use Rattle.str0m_signal.specs.Chains.{Run};
 ghost use Rattle.str0m_signal.specs.Lines.{OneLine};
 ghost use Rattle.str0m_signal.specs.LineReading.{lines_of};
@@ -94,17 +94,24 @@ fn named(alloc: Global, text: &str) -> Result<Option<SessionAttribute>, AllocErr
     candidate_form(alloc, text)
 }
 
+/// What isn't empty, as it stands.
+fn unused(alloc: Global, text: &str) -> Result<Option<SessionAttribute>, AllocError>
+    ensures { IfOk result (λ found. found ≡ unused_read text.now) }
+{
+    if text.is_empty() {
+        return Ok(None);
+    }
+    Ok(Some(SessionAttribute::Unused(Text::from_str(alloc, text)?)))
+}
+
 impl Attribute for SessionAttribute {
     ghost reading = { session_read };
 
     fn read(alloc: Global, text: &str) -> Result<Option<SessionAttribute>, AllocError> {
-        if let Some(found) = named(alloc, text)? {
-            return Ok(Some(found));
+        match named(alloc, text) {
+            Ok(None) => unused(alloc, text),
+            read => read,
         }
-        if text.is_empty() {
-            return Ok(None);
-        }
-        Ok(Some(SessionAttribute::Unused(Text::from_str(alloc, text)?)))
     }
 }
 
