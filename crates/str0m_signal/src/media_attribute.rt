@@ -248,10 +248,11 @@ impl Attribute for MediaAttribute {
     ghost reading = { media_read };
 
     fn read(alloc: Global, text: &str) -> Result<Option<MediaAttribute>, AllocError> {
-        match named(alloc, text) {
-            Ok(None) => unused(alloc, text),
-            read => read,
+        let found = named(alloc, text);
+        if matches!(found, Ok(None)) {
+            return unused(alloc, text);
         }
+        found
     }
 }
 

@@ -108,10 +108,11 @@ impl Attribute for SessionAttribute {
     ghost reading = { session_read };
 
     fn read(alloc: Global, text: &str) -> Result<Option<SessionAttribute>, AllocError> {
-        match named(alloc, text) {
-            Ok(None) => unused(alloc, text),
-            read => read,
+        let found = named(alloc, text);
+        if matches!(found, Ok(None)) {
+            return unused(alloc, text);
         }
+        found
     }
 }
 
