@@ -77,6 +77,36 @@ fn owned(alloc: Global, words: &[&str]) -> Result<Vec<String>, AllocError> {
     Ok(all)
 }
 
+/// What a run ends with.
+#[derive(Debug, Drop)]
+struct Ran {
+    status: u8,
+    written: Vec<u8>,
+    said: Vec<u8>,
+}
+
+impl Ran {
+    /// Whether the run ended with this status, and wrote and said just this.
+    fn is(&self, status: u8, written: &str, said: &str) -> bool {
+        self.status == status
+            && self.written.as_slice() == written.as_bytes()
+            && self.said.as_slice() == said.as_bytes()
+    }
+}
+
+/// Runs the program into memory.
+fn run_over<R: Read>(alloc: Global, words: &[&str], input: &mut R) -> Result<Ran, AllocError> {
+    let words = owned(alloc, words)?;
+    let mut written = Vec::new(alloc);
+    let mut said = Vec::new(alloc);
+    let status = run(alloc, words.as_slice(), input, &mut written, &mut said);
+    Ok(Ran {
+        status,
+        written,
+        said,
+    })
+}
+
 /// Sections with rows of every kind of line.
 const SECTIONS: &[u8] =
     b"v=0\no=- 7 2 x\ns=-\nt=0 0\nm=audio 9 UDP/TLS/RTP/SAVPF 111 63 101 9\na=mid:0\na=sendrecv\na=rtpmap:111 opus/48000/2\na=fmtp:111 minptime=10;useinbandfec=1\na=rtpmap:63 red/48000/2\na=fmtp:63 111/111\na=rtpmap:101 telephone-event/8000\nm=video 9 UDP/TLS/RTP/SAVPF 96 97\na=mid:one\na=sendonly\na=rtpmap:96 VP8/90000\na=rtpmap:97 rtx/90000\na=fmtp:97 apt=96\nm=audio 9 UDP/TLS/RTP/SAVPF 122\na=mid:2\na=sendrecv\na=rtpmap:122 AMR-WB/16000\na=fmtp:122 crc=1\n";
@@ -208,21 +238,10 @@ const RUNS: [(&[&str], &[u8], u8, &str, &str); 32] = [
 
 #[test]
 fn each_status_comes_with_its_line(rt: HostRuntime) -> Result<(), Fail> {
-    let alloc = rt.alloc();
-    for (words, mut input, status, written, said) in RUNS {
-        let mut output: Vec<u8> = Vec::new(alloc);
-        let mut faults: Vec<u8> = Vec::new(alloc);
-        let owned = owned(alloc, words)?;
-        let answer = run(
-            alloc,
-            owned.as_slice(),
-            &mut input,
-            &mut output,
-            &mut faults,
-        );
-        assert_eq!(rt; answer, status, "{words:?}");
-        assert_eq!(rt; output.as_slice(), written.as_bytes(), "{words:?}");
-        assert_eq!(rt; faults.as_slice(), said.as_bytes(), "{words:?}");
+    for (words, held, status, written, said) in &RUNS {
+        let mut input: &[u8] = held;
+        let ran = run_over(rt.alloc(), words, &mut input)?;
+        assert!(rt; ran.is(*status, written, said), "{words:?}: {ran:?}");
     }
     Ok(())
 }
@@ -256,61 +275,61 @@ const UNREADABLE: [(&str, &str, ErrorKind, u8, &str); 4] = [
 /// Words are compared before anything is read, and input that ends in an error is not shown.
 #[test]
 fn input_that_cannot_be_read(rt: HostRuntime) -> Result<(), Fail> {
-    let alloc = rt.alloc();
-    for (word, bytes, kind, status, said) in UNREADABLE {
-        let words = owned(alloc, &[word])?;
+    for (word, bytes, kind, status, said) in &UNREADABLE {
         let mut input = Broken {
             bytes: bytes.as_bytes(),
-            kind,
+            kind: *kind,
         };
-        let mut output: Vec<u8> = Vec::new(alloc);
-        let mut faults: Vec<u8> = Vec::new(alloc);
-        let answer = run(
-            alloc,
-            words.as_slice(),
-            &mut input,
-            &mut output,
-            &mut faults,
-        );
-        assert_eq!(rt; answer, status, "{said:?}");
-        assert_eq!(rt; output.len(), 0, "{said:?}");
-        assert_eq!(rt; faults.as_slice(), said.as_bytes());
+        let ran = run_over(rt.alloc(), &[word], &mut input)?;
+        assert!(rt; ran.is(*status, "", said), "{said:?}: {ran:?}");
         assert_eq!(rt;
             input.bytes.len() == bytes.len(),
-            status == 2 || bytes.is_empty(),
+            *status == 2 || bytes.is_empty(),
             "{said:?}"
         );
     }
     Ok(())
 }
 
-/// The status of a run over the header, and what it writes and says with so much room for each.
+/// Runs the program over the header, with so much room for faults.
 fn run_into(
     alloc: Global,
     word: &str,
-    room: usize,
+    mut output: Full,
     faults_room: usize,
-) -> Result<(u8, Full, Full), AllocError> {
+) -> Result<Ran, AllocError> {
     let words = owned(alloc, &[word])?;
     let mut input = HEADER.as_bytes();
-    let mut output = with_room(alloc, room);
     let mut faults = with_room(alloc, faults_room);
-    let answer = run(
+    let status = run(
         alloc,
         words.as_slice(),
         &mut input,
         &mut output,
         &mut faults,
     );
-    Ok((answer, output, faults))
+    Ok(Ran {
+        status,
+        written: output.taken,
+        said: faults.taken,
+    })
+}
+
+/// Whether the run ended with this status and said just this, and wrote a beginning of what the header
+/// prints: all of it where the status is 0, and else less.
+fn is_whole_or_told(ran: &Ran, status: u8, said: &str) -> bool {
+    let is_whole = ran.written.len() == PRINTED.len();
+    ran.status == status
+        && ran.said.as_slice() == said.as_bytes()
+        && PRINTED.as_bytes().starts_with(ran.written.as_slice())
+        && is_whole == (status == 0)
 }
 
 /// A description is written whole or the run says so; a line of faults that can't be written leaves
 /// the status as it is.
 #[test]
 fn output_that_cannot_be_written(rt: HostRuntime) -> Result<(), Fail> {
-    let alloc = rt.alloc();
-    for (word, room, faults_room, status, said) in [
+    for (word, room, faults_room, status, said) in &[
         ("text", PRINTED.len(), 100, 0, ""),
         ("text", PRINTED.len(), 0, 0, ""),
         ("text", PRINTED.len() - 1, 100, 1, "cannot write output\n"),
@@ -320,18 +339,9 @@ fn output_that_cannot_be_written(rt: HostRuntime) -> Result<(), Fail> {
         ("show", 0, 100, 2, USAGE),
         ("show", 0, 0, 2, ""),
     ] {
-        let (answer, output, faults) = run_into(alloc, word, room, faults_room)?;
-        assert_eq!(rt; answer, status, "{said:?}");
-        assert!(rt;
-            PRINTED.as_bytes().starts_with(output.taken.as_slice()),
-            "{said:?}"
-        );
-        assert_eq!(rt;
-            output.taken.len() == PRINTED.len(),
-            status == 0,
-            "{said:?}"
-        );
-        assert_eq!(rt; faults.taken.as_slice(), said.as_bytes());
+        let output = with_room(rt.alloc(), *room);
+        let ran = run_into(rt.alloc(), word, output, *faults_room)?;
+        assert!(rt; is_whole_or_told(&ran, *status, said), "{said:?}: {ran:?}");
     }
     Ok(())
 }
@@ -339,24 +349,9 @@ fn output_that_cannot_be_written(rt: HostRuntime) -> Result<(), Fail> {
 /// What is written whole, and isn't handed on, is a fault.
 #[test]
 fn output_that_is_not_handed_on(rt: HostRuntime) -> Result<(), Fail> {
-    let alloc = rt.alloc();
-    let words = owned(alloc, &["text"])?;
-    let mut input = HEADER.as_bytes();
-    let mut output = with_room(alloc, PRINTED.len());
+    let mut output = with_room(rt.alloc(), PRINTED.len());
     output.hands_on = false;
-    let mut faults = with_room(alloc, 100);
-    let answer = run(
-        alloc,
-        words.as_slice(),
-        &mut input,
-        &mut output,
-        &mut faults,
-    );
-    assert_eq!(rt; answer, 1);
-    assert_eq!(rt; output.taken.as_slice(), PRINTED.as_bytes());
-    assert_eq!(rt;
-        faults.taken.as_slice(),
-        b"cannot write output\n".as_slice()
-    );
+    let ran = run_into(rt.alloc(), "text", output, 100)?;
+    assert!(rt; ran.is(1, PRINTED, "cannot write output\n"), "{ran:?}");
     Ok(())
 }
