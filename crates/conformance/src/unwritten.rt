@@ -7,6 +7,11 @@ use str0m_signal::{
     Text,
 };
 
+/// What the attribute prints.
+fn printed(alloc: Global, attribute: MediaAttribute) -> Result<String, AllocError> {
+    attribute.to_string(alloc)
+}
+
 /// One active layer of this name.
 fn layers(alloc: Global, name: &str) -> Result<SimulcastGroups, AllocError> {
     let mut layers = Vec::new(alloc);
@@ -18,22 +23,20 @@ fn layers(alloc: Global, name: &str) -> Result<SimulcastGroups, AllocError> {
 }
 
 /// A simulcast that sends one layer.
-fn simulcast(alloc: Global, is_munged: bool) -> Result<String, Fail> {
-    let attribute = MediaAttribute::Simulcast(Simulcast {
+fn simulcast(alloc: Global, is_munged: bool) -> Result<MediaAttribute, AllocError> {
+    Ok(MediaAttribute::Simulcast(Simulcast {
         send: layers(alloc, "hi")?,
         recv: SimulcastGroups(Items::empty(alloc)),
         is_munged,
-    });
-    Ok(attribute.to_string(alloc)?)
+    }))
 }
 
 /// An extension with the number 2.
-fn extension(alloc: Global, serialized: bool) -> Result<String, Fail> {
-    let attribute = MediaAttribute::ExtMap {
+fn extension(alloc: Global, serialized: bool) -> Result<MediaAttribute, AllocError> {
+    Ok(MediaAttribute::ExtMap {
         id: 2,
         ext: Extension::new(alloc, "urn:x", serialized)?,
-    };
-    Ok(attribute.to_string(alloc)?)
+    })
 }
 
 #[test]
@@ -42,7 +45,8 @@ fn a_group_without_sources_prints_nothing(rt: HostRuntime) -> Result<(), Fail> {
         semantics: Text::from_str(rt.alloc(), "FID")?,
         ssrcs: Items::empty(rt.alloc()),
     };
-    assert_eq!(rt; attribute.to_string(rt.alloc())?.as_str(), "");
+    let found = printed(rt.alloc(), attribute)?;
+    assert_eq!(rt; found.as_str(), "");
     Ok(())
 }
 
@@ -53,22 +57,25 @@ fn a_simulcast_without_layers_prints_nothing(rt: HostRuntime) -> Result<(), Fail
         recv: SimulcastGroups(Items::empty(rt.alloc())),
         is_munged: false,
     });
-    assert_eq!(rt; attribute.to_string(rt.alloc())?.as_str(), "");
+    let found = printed(rt.alloc(), attribute)?;
+    assert_eq!(rt; found.as_str(), "");
     Ok(())
 }
 
 #[test]
 fn a_munged_simulcast_prints_nothing(rt: HostRuntime) -> Result<(), Fail> {
-    assert_eq!(rt; simulcast(rt.alloc(), true)?.as_str(), "");
-    let found = simulcast(rt.alloc(), false)?;
+    let found = printed(rt.alloc(), simulcast(rt.alloc(), true)?)?;
+    assert_eq!(rt; found.as_str(), "");
+    let found = printed(rt.alloc(), simulcast(rt.alloc(), false)?)?;
     assert_eq!(rt; found.as_str(), "a=simulcast:send hi\r\n");
     Ok(())
 }
 
 #[test]
 fn an_extension_that_is_not_listed_prints_nothing(rt: HostRuntime) -> Result<(), Fail> {
-    assert_eq!(rt; extension(rt.alloc(), false)?.as_str(), "");
-    let found = extension(rt.alloc(), true)?;
+    let found = printed(rt.alloc(), extension(rt.alloc(), false)?)?;
+    assert_eq!(rt; found.as_str(), "");
+    let found = printed(rt.alloc(), extension(rt.alloc(), true)?)?;
     assert_eq!(rt; found.as_str(), "a=extmap:2 urn:x\r\n");
     Ok(())
 }
