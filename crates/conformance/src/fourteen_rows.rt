@@ -83,9 +83,9 @@ fn are_held(alloc: Global, first: u8, step: u8, direction: Direction) -> Result<
 /// The rounds begin at each of the 128 types, and in turn demand types that are none, one, two or three apart.
 #[test]
 fn fourteen_rows_are_never_exhausted(rt: HostRuntime) -> Result<(), Fail> {
-    for direction in DIRECTIONS {
+    for direction in &DIRECTIONS {
         for first in 0_u8..128 {
-            let held = are_held(rt.alloc(), first, first % 4, direction)?;
+            let held = are_held(rt.alloc(), first, first % 4, *direction)?;
             assert!(rt; held, "{direction:?} {first}");
         }
     }

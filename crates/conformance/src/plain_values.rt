@@ -36,12 +36,25 @@ fn relayed(alloc: Global) -> Result<Candidate, AllocError> {
     ))
 }
 
+/// Whether that text is read as this candidate.
+fn is_read(alloc: Global, made: &Candidate) -> Result<bool, AllocError> {
+    let read = candidate(alloc, RELAYED)?;
+    match &read {
+        Some(read) => Ok(*made == *read),
+        None => Ok(false),
+    }
+}
+
+fn is_candidate_copied(candidate: &Candidate) -> Result<bool, AllocError> {
+    let copy = candidate.clone()?;
+    Ok(copy == *candidate)
+}
+
 #[test]
 fn a_candidate_of_its_parts_is_the_one_that_is_read(rt: HostRuntime) -> Result<(), Fail> {
     let made = relayed(rt.alloc())?;
-    let read = candidate(rt.alloc(), RELAYED)?.ok_or("a candidate")?;
-    assert!(rt; made == read);
-    assert!(rt; made.clone()? == made);
+    assert!(rt; is_read(rt.alloc(), &made)?);
+    assert!(rt; is_candidate_copied(&made)?);
     Ok(())
 }
 
@@ -74,12 +87,23 @@ fn fingerprint(alloc: Global, bytes: [u8; 3]) -> Result<Fingerprint, Fail> {
     })
 }
 
+/// Whether the fingerprint is the one that is made of these bytes.
+fn has_bytes(alloc: Global, read: &Fingerprint, bytes: [u8; 3]) -> Result<bool, Fail> {
+    let made = fingerprint(alloc, bytes)?;
+    Ok(*read == made)
+}
+
+fn is_fingerprint_copied(read: &Fingerprint) -> Result<bool, AllocError> {
+    let copy = read.clone()?;
+    Ok(copy == *read)
+}
+
 #[test]
 fn fingerprints_are_equal_by_their_parts(rt: HostRuntime) -> Result<(), Fail> {
     let read = Fingerprint::from_str(rt.alloc(), "foo 09:0A:11")?;
-    assert!(rt; read == fingerprint(rt.alloc(), [9, 10, 17])?);
-    assert!(rt; read != fingerprint(rt.alloc(), [9, 10, 18])?);
-    assert!(rt; read.clone()? == read);
+    assert!(rt; has_bytes(rt.alloc(), &read, [9, 10, 17])?);
+    assert!(rt; !has_bytes(rt.alloc(), &read, [9, 10, 18])?);
+    assert!(rt; is_fingerprint_copied(&read)?);
     Ok(())
 }
 
@@ -118,13 +142,25 @@ fn names_are_equal_by_what_they_keep(rt: HostRuntime) {
     assert!(rt; Rid::from("hi") == Rid::from("hi"));
 }
 
+const MID_URI: &str = "urn:ietf:params:rtp-hdrext:sdes:mid";
+
+/// Whether the extension is the one that is made of that URI.
+fn is_made(alloc: Global, read: &Extension, serialized: bool) -> Result<bool, AllocError> {
+    let made = Extension::new(alloc, MID_URI, serialized)?;
+    Ok(*read == made)
+}
+
+fn is_extension_copied(read: &Extension) -> Result<bool, AllocError> {
+    let copy = read.clone()?;
+    Ok(copy == *read)
+}
+
 #[test]
 fn an_extension_of_ones_own_is_another(rt: HostRuntime) -> Result<(), Fail> {
-    let uri = "urn:ietf:params:rtp-hdrext:sdes:mid";
-    let read = Extension::from_sdp_uri(rt.alloc(), uri)?;
-    assert!(rt; read.clone()? == read);
-    assert!(rt; read != Extension::new(rt.alloc(), uri, false)?);
-    assert!(rt; read == Extension::new(rt.alloc(), uri, true)?);
+    let read = Extension::from_sdp_uri(rt.alloc(), MID_URI)?;
+    assert!(rt; is_extension_copied(&read)?);
+    assert!(rt; !is_made(rt.alloc(), &read, false)?);
+    assert!(rt; is_made(rt.alloc(), &read, true)?);
     Ok(())
 }
 

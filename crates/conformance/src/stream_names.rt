@@ -44,14 +44,27 @@ impl Rng for Counter {
     }
 }
 
-/// Each letter is the next word modulo 62, in digits, capitals and small letters.
+fn is_named(msid: &Msid, stream: &str, track: &str) -> bool {
+    msid.stream_id.as_str() == stream && msid.track_id.as_str() == track
+}
+
+/// Each letter is the next word, in digits, capitals and small letters.
 #[test]
 fn random_names_spell_the_words_of_the_generator(rt: HostRuntime) -> Result<(), Fail> {
     let mut counter = Counter(0);
     let msid = Msid::random(rt.alloc(), &mut counter)?;
-    assert_eq!(rt; msid.stream_id.as_str(), "0123456789ABCDEFGHIJKLMNOPQRST");
-    assert_eq!(rt; msid.track_id.as_str(), "UVWXYZabcdefghijklmnopqrstuvwx");
+    let (stream, track) = (
+        "0123456789ABCDEFGHIJKLMNOPQRST",
+        "UVWXYZabcdefghijklmnopqrstuvwx",
+    );
+    assert!(rt; is_named(&msid, stream, track), "{msid:?}");
     assert_eq!(rt; counter.next_u32(), 60);
+    Ok(())
+}
+
+/// A word counts modulo 62.
+#[test]
+fn the_letters_begin_again_behind_the_last(rt: HostRuntime) -> Result<(), Fail> {
     let mut counter = Counter(58);
     let msid = Msid::random(rt.alloc(), &mut counter)?;
     assert_eq!(rt; msid.stream_id.as_str(), "wxyz0123456789ABCDEFGHIJKLMNOP");

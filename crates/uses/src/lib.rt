@@ -8,8 +8,6 @@ mod later_round;
 mod offered;
 mod own_section;
 mod stored;
-#[cfg(test)]
-mod tests;
 
 pub use answer::answer_section;
 pub use call_error::CallError;

@@ -25,14 +25,17 @@ pub fn own_frame(
 ) -> Result<MediaLine, AllocError>
     ensures { IfOk result (λ frame. frame ≡ own_frame mid creds fingerprint) }
 {
+    let attrs = vec![in alloc;
+        MediaAttribute::Mid(mid),
+        MediaAttribute::SendRecv,
+        MediaAttribute::Setup(Setup::ActPass),
+        MediaAttribute::IceUfrag(creds.ufrag),
+        MediaAttribute::IcePwd(creds.pass),
+        MediaAttribute::Fingerprint(fingerprint),
+        MediaAttribute::RtcpMux,
+    ]?;
     let mut frame = MediaLine::new(alloc);
-    frame.attrs.push(MediaAttribute::Mid(mid))?;
-    frame.attrs.push(MediaAttribute::SendRecv)?;
-    frame.attrs.push(MediaAttribute::Setup(Setup::ActPass))?;
-    frame.attrs.push(MediaAttribute::IceUfrag(creds.ufrag))?;
-    frame.attrs.push(MediaAttribute::IcePwd(creds.pass))?;
-    frame.attrs.push(MediaAttribute::Fingerprint(fingerprint))?;
-    frame.attrs.push(MediaAttribute::RtcpMux)?;
+    frame.attrs = Items::from(attrs);
     Ok(frame)
 }
 

@@ -1,16 +1,12 @@
-//! The example of docs/HEADLINE.md, an offer of Opus under type 109: read, answered, met again, stored, and made of nothing
-//! but values.
+//! Each call of `uses` on the example.
 
-use crate::answer::answer_section;
-use crate::later_round::negotiate_again;
-use crate::offered::offered_rows;
-use crate::own_section::{own_frame, own_offer, own_sdp};
-use crate::stored::checked;
 use std::alloc::{AllocError, Global};
 use std::test::Fail;
 use str0m_signal::{
-    Codec, CodecConfig, Fingerprint, IceCreds, Mid, Pt, Text, locked_rows, sdp_parser,
+    Codec, CodecConfig, Fingerprint, IceCreds, Mid, PayloadParams, Pt, Sdp, Text, locked_rows,
+    sdp_parser,
 };
+use uses::{answer_section, checked, negotiate_again, offered_rows, own_frame, own_offer, own_sdp};
 
 const OFFER: &str =
     "v=0\r\no=str0m-0.25.0 7 2 IN IP4 0.0.0.0\r\ns=-\r\nt=0 0\r\nm=audio 9 UDP/TLS/RTP/SAVPF 109\r\nc=IN IP4 0.0.0.0\r\na=mid:0\r\na=sendrecv\r\na=rtpmap:109 opus/48000/2\r\na=fmtp:109 minptime=10;useinbandfec=1\r\n";
@@ -41,46 +37,78 @@ fn a_section_that_is_not_there_is_not_answered(rt: HostRuntime) -> Result<(), Fa
     Ok(())
 }
 
+/// Whether the one row is that of Opus under type 109.
+fn is_opus_at_109(rows: &[PayloadParams]) -> bool {
+    match rows {
+        [row] => row.pt() == Pt::from(109) && row.spec().codec == Codec::Opus,
+        _ => false,
+    }
+}
+
 #[test]
 fn an_offer_holds_the_rows_of_its_section(rt: HostRuntime) -> Result<(), Fail> {
     let (_, found) = offered_rows(rt.alloc(), OFFER, 0)?;
     let rows = found.ok_or("a section")?;
-    assert_eq!(rt; rows.len(), 1);
-    assert_eq!(rt; rows[0].pt(), Pt::from(109));
-    assert_eq!(rt; rows[0].spec().codec, Codec::Opus);
+    assert!(rt; is_opus_at_109(rows.as_slice()), "{rows:?}");
+    Ok(())
+}
+
+#[test]
+fn a_section_that_is_not_there_has_no_rows(rt: HostRuntime) -> Result<(), Fail> {
     let (offer, found) = offered_rows(rt.alloc(), OFFER, 1)?;
     assert_eq!(rt; offer.media_lines.len(), 1);
     assert!(rt; found.is_none());
     Ok(())
 }
 
+/// The default rows, after a round with the offer.
+fn negotiated(alloc: Global) -> Result<CodecConfig, Fail> {
+    let mut config = CodecConfig::new_with_defaults(alloc)?;
+    negotiate_again(&mut config, OFFER)?;
+    Ok(config)
+}
+
+/// What negotiating with the later offer tells; nothing where each round is accepted.
+fn told_of_later(alloc: Global, config: &mut CodecConfig) -> Result<String, AllocError> {
+    match negotiate_again(config, LATER_OFFER) {
+        Ok(()) => Ok(String::new(alloc)),
+        Err(error) => error.to_string(alloc),
+    }
+}
+
 #[test]
 fn a_locked_type_is_not_given_to_another_codec(rt: HostRuntime) -> Result<(), Fail> {
-    let mut config = CodecConfig::new_with_defaults(rt.alloc())?;
-    negotiate_again(&mut config, OFFER)?;
-    let Err(error) = negotiate_again(&mut config, LATER_OFFER) else {
-        panic!(rt; "accepted");
-    };
-    let told = error.to_string(rt.alloc())?;
+    let mut config = negotiated(rt.alloc())?;
+    let told = told_of_later(rt.alloc(), &mut config)?;
     assert_eq!(rt;
         told.as_str(),
         "round refused: payload type 109 is claimed twice"
     );
     let rows = locked_rows(&config)?;
-    assert_eq!(rt; rows.len(), 1);
-    assert_eq!(rt; rows[0].pt(), Pt::from(109));
+    assert!(rt; is_opus_at_109(rows.as_slice()), "{rows:?}");
     Ok(())
 }
 
 #[test]
-fn a_text_that_would_lose_a_line_is_told(rt: HostRuntime) -> Result<(), Fail> {
+fn a_text_that_loses_nothing_may_be_stored(rt: HostRuntime) -> Result<(), Fail> {
     let found = checked(rt.alloc(), OWN_OFFER)?;
     assert_eq!(rt;
         (found.rest, found.is_consistent, found.is_printed_so),
         ("", true, true)
     );
-    // It has no group.
-    assert!(rt; !checked(rt.alloc(), OFFER)?.is_consistent);
+    Ok(())
+}
+
+/// The offer has no group.
+#[test]
+fn a_text_that_contradicts_itself_is_told(rt: HostRuntime) -> Result<(), Fail> {
+    let found = checked(rt.alloc(), OFFER)?;
+    assert!(rt; !found.is_consistent);
+    Ok(())
+}
+
+#[test]
+fn a_text_that_would_lose_a_line_is_told(rt: HostRuntime) -> Result<(), Fail> {
     let and_more = format!(in rt.alloc(); "{OWN_OFFER}x=1\r\n")?;
     let found = checked(rt.alloc(), and_more.as_str())?;
     assert_eq!(rt;
@@ -97,14 +125,19 @@ fn credentials(alloc: Global) -> Result<IceCreds, AllocError> {
     })
 }
 
+/// This side's description: one section, without rows yet.
+fn described(alloc: Global) -> Result<Sdp, Fail> {
+    let mid = Mid::from("0");
+    let fingerprint = Fingerprint::from_str(alloc, "sha-256 AB:CD")?;
+    let frame = own_frame(alloc, mid, credentials(alloc)?, fingerprint)?;
+    Ok(own_sdp(alloc, 7, mid, frame)?)
+}
+
 #[test]
 fn an_offer_is_made_of_values(rt: HostRuntime) -> Result<(), Fail> {
     let mut config = CodecConfig::empty(rt.alloc());
     config.enable_opus(true, false)?;
-    let mid = Mid::from("0");
-    let fingerprint = Fingerprint::from_str(rt.alloc(), "sha-256 AB:CD")?;
-    let frame = own_frame(rt.alloc(), mid, credentials(rt.alloc())?, fingerprint)?;
-    let own = own_sdp(rt.alloc(), 7, mid, frame)?;
+    let own = described(rt.alloc())?;
     let offer = own_offer(&config, own, 0)?.ok_or("an offer")?;
     assert_eq!(rt; offer.as_str(), OWN_OFFER);
     Ok(())
