@@ -1,15 +1,15 @@
 //! Rows that no text makes: default rows, and rows made by hand, as lines and as sections.
 
 use crate::texts::HEADER;
-use std::alloc::Global;
+use std::alloc::{AllocError, Global};
 use std::test::Fail;
 use str0m_signal::{
     AsMediaAttrs, Codec, CodecConfig, CodecSpec, FormatParams, Frequency, MediaAttribute,
-    MediaLine, Mid, PayloadParams, Pt, sdp_parser, section_of,
+    MediaLine, Mid, PayloadParams, Pt, Sdp, SdpError, sdp_parser, section_of,
 };
 
 /// A section of sound with a mid and a direction.
-fn frame(alloc: Global) -> Result<MediaLine, Fail> {
+fn frame(alloc: Global) -> Result<MediaLine, AllocError> {
     let mut frame = MediaLine::new(alloc);
     frame.attrs.push(MediaAttribute::Mid(Mid::from("0")))?;
     frame.attrs.push(MediaAttribute::SendRecv)?;
@@ -20,13 +20,31 @@ fn frame(alloc: Global) -> Result<MediaLine, Fail> {
 const OPUS: &str =
     "m=audio 9 UDP/TLS/RTP/SAVPF 111 63\r\nc=IN IP4 0.0.0.0\r\na=mid:0\r\na=sendrecv\r\na=rtpmap:111 opus/48000/2\r\na=rtcp-fb:111 transport-cc\r\na=fmtp:111 minptime=10;useinbandfec=1\r\na=rtpmap:63 red/48000/2\r\na=fmtp:63 111/111\r\n";
 
+/// What a section of the rows prints.
+fn section_printed(alloc: Global, rows: &[PayloadParams]) -> Result<String, AllocError> {
+    let frame = frame(alloc)?;
+    section_of(&frame, rows)?.to_string(alloc)
+}
+
+/// Whether all of a text was read, and its first section describes the rows.
+fn describes(read: &(Sdp, &str), rows: &[PayloadParams]) -> Result<bool, AllocError> {
+    let (sdp, rest) = read;
+    match sdp.media_lines.first() {
+        Some(section) => Ok(rest.is_empty() && section.rtp_params()?.as_slice() == rows),
+        None => Ok(false),
+    }
+}
+
+fn reads_back(alloc: Global, section: &str, rows: &[PayloadParams]) -> Result<bool, SdpError> {
+    let text = format!(in alloc; "{HEADER}{section}")?;
+    Ok(describes(&sdp_parser(alloc, text.as_str())?, rows)?)
+}
+
 /// What a section of the rows prints, and whether it reads back as the same rows.
-fn printed(alloc: Global, rows: &[PayloadParams]) -> Result<(String, bool), Fail> {
-    let made = section_of(&frame(alloc)?, rows)?.to_string(alloc)?;
-    let text = format!(in alloc; "{HEADER}{made}")?;
-    let (sdp, rest) = sdp_parser(alloc, text.as_str())?;
-    let read = sdp.media_lines.first().ok_or("a section")?.rtp_params()?;
-    Ok((made, rest.is_empty() && read.as_slice() == rows))
+fn printed(alloc: Global, rows: &[PayloadParams]) -> Result<(String, bool), SdpError> {
+    let made = section_printed(alloc, rows)?;
+    let is_same = reads_back(alloc, made.as_str(), rows)?;
+    Ok((made, is_same))
 }
 
 /// The default row of Opus, and the same made by hand.
@@ -70,12 +88,17 @@ fn opus() -> PayloadParams {
 }
 
 /// The attribute lines of one row.
-fn lines(alloc: Global, row: PayloadParams) -> Result<String, Fail> {
+fn lines(alloc: Global, row: PayloadParams) -> Result<String, AllocError> {
     let mut attributes: Vec<MediaAttribute> = Vec::new(alloc);
     row.as_media_attrs(&mut attributes)?;
+    all_printed(alloc, attributes.as_slice())
+}
+
+fn all_printed(alloc: Global, attributes: &[MediaAttribute]) -> Result<String, AllocError> {
     let mut all = String::new(alloc);
     for attribute in attributes {
-        all.push_str(attribute.to_string(alloc)?.as_str())?;
+        let line = attribute.to_string(alloc)?;
+        all.push_str(line.as_str())?;
     }
     Ok(all)
 }
