@@ -1,20 +1,29 @@
 -- Why a run of the program fails, and the line that says so.
-use Rattle.std.specs.Prelude.{◌≡◌, ℕ, List, Option, Some, None, IfSome, codes}
+use Rattle.std.specs.Prelude.{◌≡◌, ◌++◌, ℕ, List, Option, Some, None, IfSome, codes}
 use Rattle.std.specs.Str.{IsUtf8}
 use Rattle.str0m_sdp.specs.declared.error.SdpError.{SdpError}
 use Rattle.str0m_sdp.specs.declared.error.SdpError.TheVariants.{ParseError, Inconsistent, Memory}
+use Rattle.str0m_sdp.specs.Error.{error_text}
 use Rattle.str0m_sdp.specs.declared.session.Sdp.{Sdp}
 use Rattle.str0m_signal.specs.Reading.{Described}
 use Rattle.sdpshow.specs.Show.{Describes}
 use Rattle.sdpshow.specs.declared.fault.Fault.{Fault}
 use Rattle.sdpshow.specs.declared.fault.Fault.TheVariants.{Refused, NotUtf8, Unreadable, Unwritable}
 
--- what the line says; of a refusal it is the refusal's own wording, which no contract has
-abbrev pub fault_text : Fault → Option (List ℕ)
-fault_text (Refused refusal) = None
-fault_text NotUtf8 = Some (codes "input is not UTF-8")
-fault_text Unreadable = Some (codes "cannot read input")
-fault_text Unwritable = Some (codes "cannot write output")
+-- what is said of it; of a refusal, its own words
+abbrev pub fault_text : Fault → List ℕ
+fault_text (Refused refusal) = error_text refusal
+fault_text NotUtf8 = codes "input is not UTF-8"
+fault_text Unreadable = codes "cannot read input"
+fault_text Unwritable = codes "cannot write output"
+
+-- the line that says it
+abbrev pub fault_line : Fault → List ℕ
+fault_line fault = fault_text fault ++ codes "\n"
+
+-- the line that says how the program is called
+abbrev pub usage_line : List ℕ
+usage_line = codes "usage: sdpshow text|rows|negotiate\n"
 
 -- what a reader holds, where that is known, is no text
 abbrev pub IsNoText : Option (List ℕ) → Type 0

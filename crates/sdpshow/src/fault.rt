@@ -40,9 +40,10 @@ impl From<AllocError> for Fault {
 }
 
 impl fmt::Display for Fault {
+    ghost use Rattle.std.specs.Prelude.{Some};
     ghost use Rattle.sdpshow.specs.Faults.{fault_text};
 
-    ghost output = { λ fault. fault_text fault };
+    ghost output = { λ fault. Some (fault_text fault) };
 
     fn fmt<W: fmt::Write>(&self, f: &mut fmt::Formatter<W>) -> fmt::Result {
         match self {

@@ -24,7 +24,7 @@ fn words(rt: &HostRuntime) -> io::Result<Vec<String>> {
 }
 
 fn main(rt: HostRuntime) -> ExitCode {
-    let status = match words(&rt) {
+    let ending = match words(&rt) {
         Ok(words) => run(
             rt.alloc(),
             words.as_slice(),
@@ -37,5 +37,5 @@ fn main(rt: HostRuntime) -> ExitCode {
             _ => usage(&mut rt.stderr()),
         },
     };
-    ExitCode::from(status)
+    ExitCode::from(ending.status)
 }

@@ -5,7 +5,7 @@ ghost use Rattle.std.specs.Io.KnownBytes.{Appends, IsAtEnd};
 ghost use Rattle.str0m_sdp.specs.Session.{sdp_text};
 ghost use Rattle.str0m_signal.specs.Answers.{Refuses};
 ghost use Rattle.str0m_signal.specs.Reading.{Described};
-ghost use Rattle.sdpshow.specs.Faults.{IsFaultOf, IsFaultOfInput};
+ghost use Rattle.sdpshow.specs.Faults.{fault_line, usage_line, IsFaultOf, IsFaultOfInput};
 ghost use Rattle.sdpshow.specs.RowLines.{rows_text};
 ghost use Rattle.sdpshow.specs.Show.{asked, asked_by, Prints, PrintsBy, Shows, ShowsAsked, Describes};
 ghost use Rattle.sdpshow.specs.declared.fault.Fault.TheVariants.{Unwritable};
@@ -14,23 +14,43 @@ use crate::fault::Fault;
 use crate::negotiation_lines::negotiation_text;
 use crate::row_lines::rows_text;
 use std::alloc::Global;
+use std::io;
 use std::io::{ErrorKind, Read, Write};
 use str0m_signal::{SdpError, SdpOffer};
 
-/// Says how the program is called; the status of that.
-pub(crate) fn usage<F: Write>(faults: &mut F) -> u8
-    ensures { result ≡ 2 }
-{
-    let _ = faults.write_all(b"usage: sdpshow text|rows|negotiate\n");
-    2
+/// How a run ended.
+#[derive(Drop)]
+pub struct Ending {
+    /// The exit status.
+    pub status: u8,
+    /// Whether the line that goes with it could be written; without a line it is `Ok`.
+    pub said: io::Result<()>,
 }
 
-/// Says in one line why a run fails; the status of that.
-pub(crate) fn refuse<F: Write>(faults: &mut F, fault: &Fault) -> u8
-    ensures { result ≡ 1 }
+impl Ending {
+    /// What was asked for is shown, and nothing is said.
+    const SHOWN: Ending = Ending {
+        status: 0,
+        said: Ok(()),
+    };
+}
+
+/// Says how the program is called.
+pub(crate) fn usage<F: Write>(faults: &mut F) -> Ending
+    ensures status { result.status ≡ 2 }
+    ensures said { OnOk result.said (Appends (F.contents faults.old) (F.contents faults.new) usage_line) }
 {
-    let _ = writeln!(faults, "{fault}");
-    1
+    let said = faults.write_all(b"usage: sdpshow text|rows|negotiate\n");
+    Ending { status: 2, said }
+}
+
+/// Says in one line why a run fails.
+pub(crate) fn refuse<F: Write>(faults: &mut F, fault: &Fault) -> Ending
+    ensures status { result.status ≡ 1 }
+    ensures said { OnOk result.said (Appends (F.contents faults.old) (F.contents faults.new) (fault_line fault.now)) }
+{
+    let said = writeln!(faults, "{fault}");
+    Ending { status: 1, said }
 }
 
 /// What the program is asked to show of a description.
@@ -144,7 +164,7 @@ fn show<R: Read, W: Write>(
 }
 
 /// Runs the program: the words behind its name, what it reads, what it writes, and what it says of
-/// faults. Answers the exit status.
+/// faults. Answers the exit status, and whether the line that goes with it could be written.
 ///
 /// The word `text`, `rows` or `negotiate` alone reads the whole input as UTF-8. `text` prints the
 /// session description that it begins with (RFC 8866, section 5); `rows` prints the rows of its
@@ -165,29 +185,35 @@ pub fn run<R: Read, W: Write, F: Write>(
     input: &mut R,
     output: &mut W,
     faults: &mut F,
-) -> u8
-    ensures statuses { (result ≡ 0) ⊎ (result ≡ 1) ⊎ (result ≡ 2) }
+) -> Ending
+    ensures statuses { (result.status ≡ 0) ⊎ (result.status ≡ 1) ⊎ (result.status ≡ 2) }
 
     // Status 2 is for other words, and then nothing is read or written.
-    ensures usage { (result ≡ 2) ↔ (asked (map string_bytes words.now) ≡ None) }
-    ensures unread { result ≡ 2 → input.new ≡ input.old }
-    ensures unwritten { result ≡ 2 → output.new ≡ output.old }
+    ensures usage { (result.status ≡ 2) ↔ (asked (map string_bytes words.now) ≡ None) }
+    ensures unread { result.status ≡ 2 → input.new ≡ input.old }
+    ensures unwritten { result.status ≡ 2 → output.new ≡ output.old }
 
     // Status 0: all that was held is read, what was asked for is printed, and nothing is said.
-    ensures shown { result ≡ 0 → (printed : List ℕ)
+    ensures shown { result.status ≡ 0 → (printed : List ℕ)
         × ShowsAsked (asked (map string_bytes words.now)) (R.remaining input.old) printed
         × Appends (W.contents output.old) (W.contents output.new) printed }
-    ensures end { result ≡ 0 → IsAtEnd (R.remaining input.new) }
-    ensures silent { result ≡ 0 → faults.new ≡ faults.old }
+    ensures end { result.status ≡ 0 → IsAtEnd (R.remaining input.new) }
+    ensures silent { result.status ≡ 0 → faults.new ≡ faults.old }
 
     // Status 1: nothing is written of a text that describes no session.
-    ensures refused { result ≡ 1 → (output.new ≡ output.old) ⊎ Describes (R.remaining input.old) }
+    ensures refused { result.status ≡ 1 → (output.new ≡ output.old) ⊎ Describes (R.remaining input.old) }
+
+    // Where it could be written, one line says what is wrong, which is so, or how the program is called.
+    ensures said { result.status ≡ 1 → (fault : Fault) × IsFaultOf (R.remaining input.old) fault
+        × OnOk result.said (Appends (F.contents faults.old) (F.contents faults.new) (fault_line fault)) }
+    ensures called { result.status ≡ 2
+        → OnOk result.said (Appends (F.contents faults.old) (F.contents faults.new) usage_line) }
 {
     let Some(shown) = asked(words) else {
         return usage(faults);
     };
     match show(alloc, shown, input, output) {
-        Ok(()) => 0,
+        Ok(()) => Ending::SHOWN,
         Err(fault) => refuse(faults, &fault),
     }
 }

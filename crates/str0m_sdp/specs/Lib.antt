@@ -6,6 +6,7 @@ pub mod Candidates
 pub mod Companions
 pub mod Consistency
 pub mod DistinctCandidates
+pub mod Error
 pub mod ExtMap
 pub mod Fault
 pub mod Feedback

@@ -3,22 +3,39 @@ ghost use Rattle.std.specs.Prelude.{◌≡◌};
 ghost use Rattle.str0m_sdp.specs.declared.error.SdpError.TheVariants.{Memory};
 
 use std::alloc::{AllocError, AllocFailed};
-use thiserror::Error;
+use std::error::Error;
+use std::fmt;
 
 /// Why a session description is refused.
-#[derive(Debug, Drop, Error)]
+#[derive(Debug, Drop)]
 pub enum SdpError {
     /// A text has no reading by the grammar: what was refused, or the first fault of a section.
-    #[error("SDP parse: {0}")]
     ParseError(String),
     /// The session contradicts itself: the first fault that was found. Only
     /// `Sdp::assert_consistency` answers it.
-    #[error("SDP inconsistent: {0}")]
     Inconsistent(String),
     /// A growth was refused.
-    #[error("SDP: out of memory")]
     Memory,
 }
+
+/// A line of English without an end, where the message has none.
+// Written by hand, since a derived `Display` has no contract.
+impl fmt::Display for SdpError {
+    ghost use Rattle.std.specs.Prelude.{Some};
+    ghost use Rattle.str0m_sdp.specs.Error.{error_text};
+
+    ghost output = { λ error. Some (error_text error) };
+
+    fn fmt<W: fmt::Write>(&self, f: &mut fmt::Formatter<W>) -> fmt::Result {
+        match self {
+            SdpError::ParseError(message) => write!(f, "SDP parse: {message}"),
+            SdpError::Inconsistent(message) => write!(f, "SDP inconsistent: {message}"),
+            SdpError::Memory => f.write_str("SDP: out of memory"),
+        }
+    }
+}
+
+impl Error for SdpError {}
 
 impl From<AllocError> for SdpError {
     ghost from_gives = { λ _ e. e ≡ Memory };

@@ -81,6 +81,8 @@ fn owned(alloc: Global, words: &[&str]) -> Result<Vec<String>, AllocError> {
 #[derive(Debug, Drop)]
 struct Ran {
     status: u8,
+    /// Whether the line that goes with the status could be written.
+    could_say: bool,
     written: Vec<u8>,
     said: Vec<u8>,
 }
@@ -89,6 +91,7 @@ impl Ran {
     /// Whether the run ended with this status, and wrote and said just this.
     fn is(&self, status: u8, written: &str, said: &str) -> bool {
         self.status == status
+            && self.could_say
             && self.written.as_slice() == written.as_bytes()
             && self.said.as_slice() == said.as_bytes()
     }
@@ -99,9 +102,10 @@ fn run_over<R: Read>(alloc: Global, words: &[&str], input: &mut R) -> Result<Ran
     let words = owned(alloc, words)?;
     let mut written = Vec::new(alloc);
     let mut said = Vec::new(alloc);
-    let status = run(alloc, words.as_slice(), input, &mut written, &mut said);
+    let ending = run(alloc, words.as_slice(), input, &mut written, &mut said);
     Ok(Ran {
-        status,
+        status: ending.status,
+        could_say: ending.said.is_ok(),
         written,
         said,
     })
@@ -301,7 +305,7 @@ fn run_into(
     let words = owned(alloc, &[word])?;
     let mut input = HEADER.as_bytes();
     let mut faults = with_room(alloc, faults_room);
-    let status = run(
+    let ending = run(
         alloc,
         words.as_slice(),
         &mut input,
@@ -309,7 +313,8 @@ fn run_into(
         &mut faults,
     );
     Ok(Ran {
-        status,
+        status: ending.status,
+        could_say: ending.said.is_ok(),
         written: output.taken,
         said: faults.taken,
     })
@@ -320,6 +325,7 @@ fn run_into(
 fn is_whole_or_told(ran: &Ran, status: u8, said: &str) -> bool {
     let is_whole = ran.written.len() == PRINTED.len();
     ran.status == status
+        && ran.could_say == (status == 0 || !said.is_empty())
         && ran.said.as_slice() == said.as_bytes()
         && PRINTED.as_bytes().starts_with(ran.written.as_slice())
         && is_whole == (status == 0)
