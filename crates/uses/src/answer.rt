@@ -3,6 +3,7 @@
 ghost use Rattle.std.specs.Prelude.{◌≡◌, ◌<◌, IfErr, IfOk, IfSome, List, Some, filter, length, slice_set};
 ghost use Rattle.std.specs.List.{slice_get};
 ghost use Rattle.std.specs.String.{string_bytes};
+ghost use Rattle.str0m_sdp.specs.SectionOf.{made};
 ghost use Rattle.str0m_sdp.specs.Session.{sdp_text};
 ghost use Rattle.str0m_sdp.specs.declared.media_line.MediaLine.{MediaLine};
 ghost use Rattle.str0m_formats.specs.Runs.{Outcome};
@@ -13,8 +14,8 @@ ghost use Rattle.str0m_signal.specs.Reading.{Described};
 
 use std::alloc::AllocError;
 use str0m_signal::{
-    CodecConfig, MediaLine, Sdp, SdpAnswer, SdpError, is_writable, locked_rows, negotiate_text,
-    section_of,
+    CodecConfig, MediaLine, PayloadParams, Sdp, SdpAnswer, SdpError, is_writable, locked_rows,
+    negotiate_text, section_of,
 };
 
 /// The text of a description with this section in the place of one.
@@ -29,6 +30,50 @@ pub(crate) fn with_section(
     own.media_lines.0[at] = section;
     let answer = SdpAnswer::from(own);
     answer.to_sdp_string()
+}
+
+/// The section of `own` at `at`, counted from 0, with these rows for its own. `None` where there is no such
+/// section, or where rows printed there might not be read again.
+pub(crate) fn printable_section(
+    own: &Sdp,
+    at: usize,
+    rows: &[PayloadParams],
+) -> Result<Option<MediaLine>, AllocError>
+    ensures there { IfOk result (λ found. IfSome found (λ _. at < length own.now.media_lines)) }
+    ensures made { IfOk result (λ found. IfSome found (λ section.
+        (frame : MediaLine) × (slice_get own.now.media_lines at ≡ Some frame) × (section ≡ made frame rows.now))) }
+    ensures read_back { MayBePrinted rows.now → IfOk result (λ found. IfSome found (λ section. ReadsBack own.now at rows.now)) }
+{
+    if !is_writable(own, at)? {
+        return Ok(None);
+    }
+    match own.media_lines.get(at) {
+        Some(frame) => Ok(Some(section_of(frame, rows)?)),
+        None => Ok(None),
+    }
+}
+
+/// That section with the rows that are locked; `None` where none is, too.
+fn locked_section(
+    config: &CodecConfig,
+    own: &Sdp,
+    at: usize,
+) -> Result<Option<MediaLine>, AllocError>
+    ensures there { IfOk result (λ found. IfSome found (λ _. at < length own.now.media_lines)) }
+    ensures made { IfOk result (λ found. IfSome found (λ section. (frame : MediaLine)
+        × (slice_get own.now.media_lines at ≡ Some frame)
+        × (section ≡ made frame (filter (λ row. row.locked) config.now.params.items)))) }
+    ensures read_back { MayBePrinted config.now.params.items → IfOk result (λ found. IfSome found (λ section.
+        ReadsBack own.now at (filter (λ row. row.locked) config.now.params.items))) }
+{
+    let rows = locked_rows(config)?;
+    if rows.is_empty() {
+        return Ok(None);
+    }
+    match printable_section(own, at, rows.as_slice())? {
+        Some(section) => Ok(Some(section)),
+        None => Ok(None),
+    }
 }
 
 /// Negotiates with an offer, and answers with `own`, the description of the answering side: in its
@@ -58,13 +103,8 @@ pub fn answer_section(
         ReadsBack own at (filter (λ row. row.locked) config.new.params.items))) }
 {
     negotiate_text(config, offer)?;
-    let rows = locked_rows(config)?;
-    if rows.is_empty() || !is_writable(&own, at)? {
-        return Ok(None);
+    match locked_section(config, &own, at)? {
+        Some(section) => Ok(Some(with_section(own, at, section)?)),
+        None => Ok(None),
     }
-    let Some(frame) = own.media_lines.get(at) else {
-        return Ok(None);
-    };
-    let section = section_of(frame, rows.as_slice())?;
-    Ok(Some(with_section(own, at, section)?))
 }

@@ -8,11 +8,11 @@ ghost use Rattle.str0m_sdp.specs.declared.media_line.MediaLine.{MediaLine};
 ghost use Rattle.str0m_signal.specs.ReadBack.{MayBePrinted, ReadsBack, with_rows};
 ghost use Rattle.uses.specs.OwnSection.{own_frame, own_sdp};
 
-use crate::answer::with_section;
+use crate::answer::{printable_section, with_section};
 use std::alloc::{AllocError, Global};
 use str0m_signal::{
     CodecConfig, Fingerprint, IceCreds, Items, MediaAttribute, MediaLine, Mid, Sdp, Session,
-    SessionAttribute, Setup, Text, is_writable, section_of,
+    SessionAttribute, Setup, Text,
 };
 
 /// A section of audio without rows yet: its name, and how this side's transport is reached. The only
@@ -77,12 +77,8 @@ pub fn own_offer(config: &CodecConfig, own: Sdp, at: usize) -> Result<Option<Str
     ensures read_back { MayBePrinted config.now.params.items → IfOk result (λ offer. IfSome offer (λ text.
         ReadsBack own at config.now.params.items)) }
 {
-    if !is_writable(&own, at)? {
-        return Ok(None);
+    match printable_section(&own, at, config.params())? {
+        Some(section) => Ok(Some(with_section(own, at, section)?)),
+        None => Ok(None),
     }
-    let Some(frame) = own.media_lines.get(at) else {
-        return Ok(None);
-    };
-    let section = section_of(frame, config.params())?;
-    Ok(Some(with_section(own, at, section)?))
 }
