@@ -70,6 +70,7 @@ fn locked_section(
     if rows.is_empty() {
         return Ok(None);
     }
+    // Taken apart, since the prover carries a clause over to the configuration's rows for one section alone.
     match printable_section(own, at, rows.as_slice())? {
         Some(section) => Ok(Some(section)),
         None => Ok(None),
