@@ -1,5 +1,5 @@
 -- The lines of a text as a function.
-use Rattle.std.specs.Prelude.{◌≡◌, ◌⊎◌, ℕ, Bool, false, codes, List, [], ◌∷◌, ◌++◌, length, Option, Some, None, ◌==◌, ◌&&◌, if◌then◌else◌}
+use Rattle.std.specs.Prelude.{◌≡◌, ◌⊎◌, ℕ, Bool, false, true, codes, List, [], ◌∷◌, ◌++◌, length, Option, Some, None, ◌==◌, ◌&&◌, if◌then◌else◌}
 use Rattle.str0m_values.specs.Cuts.{strip, lacks, when, ◌>>=◌, ◌<|>◌}
 use Rattle.std.specs.Borrow.{Bor}
 use Rattle.str0m_signal.specs.Lines.{Line}
@@ -51,6 +51,11 @@ line_read f lines = plain_line lines >>= λ found. f found.0 >>= λ value. Some 
 -- f reads this of the first line
 abbrev pub IsRead : {A : Type 0} → (List ℕ → Option A) → List Line → A → List Line → Type 0
 IsRead f lines value rest = line_read f lines ≡ Some (value, rest)
+
+-- what was found stands behind the others; or nothing was found, and nothing is added
+abbrev pub Takes : {A : Type 0} → Option A → List A → List A → Bool → Type 0
+Takes {A} found old new true = (value : A) × (found ≡ Some value) × (new ≡ old ++ value ∷ [])
+Takes found old new false = (found ≡ None) × (new ≡ old)
 
 -- what f reads of the first line stands behind the others, and this text is left; or f reads nothing, and nothing is added
 abbrev pub TakesLine : {A : Type 0} → (List ℕ → Option A) → List Line → List A → List A → Option (Bor (List ℕ)) → Type 0

@@ -3,7 +3,7 @@
 ghost use Rattle.std.specs.Prelude.{◌≡◌, ℕ, List, Option, IfOk, option_map};
 ghost use Rattle.str0m_signal.specs.Answers.{Gives};
 ghost use Rattle.str0m_signal.specs.Chains.{Run};
-ghost use Rattle.str0m_signal.specs.LineReading.{lines_of, line_read, read_attribute, left, IsRead, TakesLine};
+ghost use Rattle.str0m_signal.specs.LineReading.{lines_of, line_read, read_attribute, left, IsRead, Takes, TakesLine};
 
 use crate::lines::plain_line;
 use crate::reader::refusal;
@@ -18,19 +18,50 @@ pub(crate) trait Attribute: Drop {
     /// Which attribute a text behind `a=` stands for.
     ghost reading: { List ℕ → Option Self };
 
-    /// The attribute of the text behind `a=`.
-    fn read(alloc: Global, text: &str) -> Result<Option<Self>, AllocError>
+    /// Puts the attribute of the text behind `a=` behind the others, where it is one; whether it is.
+    fn take(alloc: Global, text: &str, attributes: &mut Vec<Self>) -> Result<bool, AllocError>
     where
         Self: Sized,
-        ensures { IfOk result (λ found. found ≡ reading text.now) };
+        ensures { IfOk result (Takes (reading text.now) attributes.old.items attributes.new.items) };
 }
 
+/// Puts what was found behind the others; whether there was anything.
+#[inline(always)]
+pub(crate) fn taken<A: Drop>(found: Option<A>, attributes: &mut Vec<A>) -> Result<bool, AllocError>
+    ensures { IfOk result (Takes found attributes.old.items attributes.new.items) }
+{
+    match found {
+        Some(attribute) => {
+            attributes.push(attribute)?;
+            Ok(true)
+        }
+        None => Ok(false),
+    }
+}
+
+/// Puts the attribute of the line behind the others, where it is one; whether it is.
+fn take_content<A: Attribute>(
+    alloc: Global,
+    line: &str,
+    attributes: &mut Vec<A>,
+) -> Result<bool, AllocError>
+    ensures { IfOk result (Takes (read_attribute A.reading line.now) attributes.old.items attributes.new.items) }
+{
+    match strip(line, "a=") {
+        Some(text) => A::take(alloc, text, attributes),
+        None => Ok(false),
+    }
+}
+
+/// The attribute of the line.
 pub(crate) fn line<A: Attribute>(alloc: Global, line: &str) -> Result<Option<A>, AllocError>
     ensures { IfOk result (λ found. found ≡ read_attribute A.reading line.now) }
 {
-    match strip(line, "a=") {
-        Some(text) => A::read(alloc, text),
-        None => Ok(None),
+    let mut attributes = Vec::new(alloc);
+    if take_content(alloc, line, &mut attributes)? {
+        Ok(attributes.pop())
+    } else {
+        Ok(None)
     }
 }
 
@@ -58,12 +89,10 @@ fn take_line<'a, A: Attribute>(
     let Some((content, rest)) = plain_line(text) else {
         return Ok(None);
     };
-    match line(alloc, content)? {
-        Some(attribute) => {
-            attributes.push(attribute)?;
-            Ok(Some(rest))
-        }
-        None => Ok(None),
+    if take_content(alloc, content, attributes)? {
+        Ok(Some(rest))
+    } else {
+        Ok(None)
     }
 }
 

@@ -2,7 +2,7 @@
 
 ghost use Rattle.str0m_values.specs.CandidateReading.{candidate_read};
 
-use crate::attributes::Attribute;
+use crate::attributes::{Attribute, taken};
 use std::alloc::{AllocError, Global};
 use str0m_values::Candidate;
 use str0m_values::candidate_text::candidate;
@@ -10,7 +10,11 @@ use str0m_values::candidate_text::candidate;
 impl Attribute for Candidate {
     ghost reading = { candidate_read };
 
-    fn read(alloc: Global, text: &str) -> Result<Option<Candidate>, AllocError> {
-        candidate(alloc, text)
+    fn take(
+        alloc: Global,
+        text: &str,
+        candidates: &mut Vec<Candidate>,
+    ) -> Result<bool, AllocError> {
+        taken(candidate(alloc, text)?, candidates)
     }
 }

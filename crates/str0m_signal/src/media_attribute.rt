@@ -5,9 +5,9 @@ ghost use Rattle.str0m_signal.specs.MediaAttribute.{IsMediaLine};
 ghost use Rattle.str0m_signal.specs.MediaAttributeReading.{words_read, ice_read, rtcp_read, sctp_port_read, sctp_init_read, max_message_size_read, candidate_form_read, fingerprint_form_read, setup_read, mid_read, first_byte, with_e_read, with_f_read, with_i_read, with_m_read, with_r_read, with_s_read, named_read, unused_read, media_read};
 ghost use Rattle.str0m_signal.specs.Chains.{Run};
 ghost use Rattle.str0m_signal.specs.Lines.{OneLine};
-ghost use Rattle.str0m_signal.specs.LineReading.{lines_of};
+ghost use Rattle.str0m_signal.specs.LineReading.{lines_of, Takes};
 
-use crate::attributes::{Attribute, attribute_run};
+use crate::attributes::{Attribute, attribute_run, taken};
 use crate::ext_map::ext_map;
 use crate::fields::{kept, num_u64, role, short};
 use crate::fingerprint::fingerprint;
@@ -123,90 +123,114 @@ fn mid(text: &str) -> Option<MediaAttribute>
 }
 
 /// The forms whose names begin with `e`.
-fn with_e(alloc: Global, text: &str) -> Result<Option<MediaAttribute>, AllocError>
-    ensures { IfOk result (λ found. found ≡ with_e_read text.now) }
+fn with_e(
+    alloc: Global,
+    text: &str,
+    attributes: &mut Vec<MediaAttribute>,
+) -> Result<bool, AllocError>
+    ensures { IfOk result (Takes (with_e_read text.now) attributes.old.items attributes.new.items) }
 {
-    if let Some(found) = ext_map(alloc, text)? {
-        return Ok(Some(found));
+    if taken(ext_map(alloc, text)?, attributes)? {
+        return Ok(true);
     }
-    Ok(word(text))
+    taken(word(text), attributes)
 }
 
 /// The forms whose names begin with `f`.
-fn with_f(alloc: Global, text: &str) -> Result<Option<MediaAttribute>, AllocError>
-    ensures { IfOk result (λ found. found ≡ with_f_read text.now) }
+fn with_f(
+    alloc: Global,
+    text: &str,
+    attributes: &mut Vec<MediaAttribute>,
+) -> Result<bool, AllocError>
+    ensures { IfOk result (Takes (with_f_read text.now) attributes.old.items attributes.new.items) }
 {
-    if let Some(found) = fmtp(alloc, text)? {
-        return Ok(Some(found));
+    if taken(fmtp(alloc, text)?, attributes)? {
+        return Ok(true);
     }
-    fingerprint_form(alloc, text)
+    taken(fingerprint_form(alloc, text)?, attributes)
 }
 
 /// The forms whose names begin with `i`.
-fn with_i(alloc: Global, text: &str) -> Result<Option<MediaAttribute>, AllocError>
-    ensures { IfOk result (λ found. found ≡ with_i_read text.now) }
+fn with_i(
+    alloc: Global,
+    text: &str,
+    attributes: &mut Vec<MediaAttribute>,
+) -> Result<bool, AllocError>
+    ensures { IfOk result (Takes (with_i_read text.now) attributes.old.items attributes.new.items) }
 {
-    if let Some(found) = ice(alloc, text)? {
-        return Ok(Some(found));
+    if taken(ice(alloc, text)?, attributes)? {
+        return Ok(true);
     }
-    Ok(word(text))
+    taken(word(text), attributes)
 }
 
 /// The forms whose names begin with `m`.
-fn with_m(alloc: Global, text: &str) -> Result<Option<MediaAttribute>, AllocError>
-    ensures { IfOk result (λ found. found ≡ with_m_read text.now) }
+fn with_m(
+    alloc: Global,
+    text: &str,
+    attributes: &mut Vec<MediaAttribute>,
+) -> Result<bool, AllocError>
+    ensures { IfOk result (Takes (with_m_read text.now) attributes.old.items attributes.new.items) }
 {
-    if let Some(found) = mid(text) {
-        return Ok(Some(found));
+    if taken(mid(text), attributes)? {
+        return Ok(true);
     }
-    if let Some(found) = msid(alloc, text)? {
-        return Ok(Some(found));
+    if taken(msid(alloc, text)?, attributes)? {
+        return Ok(true);
     }
-    Ok(max_message_size(text))
+    taken(max_message_size(text), attributes)
 }
 
 /// The forms whose names begin with `r`.
-fn with_r(alloc: Global, text: &str) -> Result<Option<MediaAttribute>, AllocError>
-    ensures { IfOk result (λ found. found ≡ with_r_read text.now) }
+fn with_r(
+    alloc: Global,
+    text: &str,
+    attributes: &mut Vec<MediaAttribute>,
+) -> Result<bool, AllocError>
+    ensures { IfOk result (Takes (with_r_read text.now) attributes.old.items attributes.new.items) }
 {
-    if let Some(found) = rtp_map(text) {
-        return Ok(Some(found));
+    if taken(rtp_map(text), attributes)? {
+        return Ok(true);
     }
-    if let Some(found) = rtcp_fb(alloc, text)? {
-        return Ok(Some(found));
+    if taken(rtcp_fb(alloc, text)?, attributes)? {
+        return Ok(true);
     }
-    if let Some(found) = rid(alloc, text)? {
-        return Ok(Some(found));
+    if taken(rid(alloc, text)?, attributes)? {
+        return Ok(true);
     }
-    if let Some(found) = rtcp(alloc, text)? {
-        return Ok(Some(found));
+    if taken(rtcp(alloc, text)?, attributes)? {
+        return Ok(true);
     }
-    Ok(word(text))
+    taken(word(text), attributes)
 }
 
 /// The forms whose names begin with `s`.
-fn with_s(alloc: Global, text: &str) -> Result<Option<MediaAttribute>, AllocError>
-    ensures { IfOk result (λ found. found ≡ with_s_read text.now) }
+fn with_s(
+    alloc: Global,
+    text: &str,
+    attributes: &mut Vec<MediaAttribute>,
+) -> Result<bool, AllocError>
+    ensures { IfOk result (Takes (with_s_read text.now) attributes.old.items attributes.new.items) }
 {
-    if let Some(found) = ssrc(alloc, text)? {
-        return Ok(Some(found));
+    if taken(ssrc(alloc, text)?, attributes)? {
+        return Ok(true);
     }
-    if let Some(found) = setup(text) {
-        return Ok(Some(found));
+    if taken(setup(text), attributes)? {
+        return Ok(true);
     }
-    if let Some(found) = ssrc_group(alloc, text)? {
-        return Ok(Some(found));
+    if taken(ssrc_group(alloc, text)?, attributes)? {
+        return Ok(true);
     }
-    if let Some(found) = simulcast_line(alloc, text)? {
-        return Ok(Some(found));
+    if taken(simulcast_line(alloc, text)?, attributes)? {
+        return Ok(true);
     }
-    if let Some(found) = sctp_port(text) {
-        return Ok(Some(found));
+    if taken(sctp_port(text), attributes)? {
+        return Ok(true);
     }
-    if let Some(found) = sctp_init(alloc, text)? {
-        return Ok(Some(found));
+    if taken(sctp_init(alloc, text)?, attributes)? {
+        return Ok(true);
     }
-    Ok(word(text))
+    taken(word(text), attributes)
 }
 
 fn first_byte(text: &str) -> u8
@@ -219,18 +243,22 @@ fn first_byte(text: &str) -> u8
 }
 
 /// The attribute whose form is named: only forms whose names begin as the text does are asked.
-fn named(alloc: Global, text: &str) -> Result<Option<MediaAttribute>, AllocError>
-    ensures { IfOk result (λ found. found ≡ named_read text.now) }
+fn named(
+    alloc: Global,
+    text: &str,
+    attributes: &mut Vec<MediaAttribute>,
+) -> Result<bool, AllocError>
+    ensures { IfOk result (Takes (named_read text.now) attributes.old.items attributes.new.items) }
 {
     match first_byte(text) {
-        b'c' => candidate_form(alloc, text),
-        b'e' => with_e(alloc, text),
-        b'f' => with_f(alloc, text),
-        b'i' => with_i(alloc, text),
-        b'm' => with_m(alloc, text),
-        b'r' => with_r(alloc, text),
-        b's' => with_s(alloc, text),
-        _ => Ok(None),
+        b'c' => taken(candidate_form(alloc, text)?, attributes),
+        b'e' => with_e(alloc, text, attributes),
+        b'f' => with_f(alloc, text, attributes),
+        b'i' => with_i(alloc, text, attributes),
+        b'm' => with_m(alloc, text, attributes),
+        b'r' => with_r(alloc, text, attributes),
+        b's' => with_s(alloc, text, attributes),
+        _ => Ok(false),
     }
 }
 
@@ -247,12 +275,15 @@ fn unused(alloc: Global, text: &str) -> Result<Option<MediaAttribute>, AllocErro
 impl Attribute for MediaAttribute {
     ghost reading = { media_read };
 
-    fn read(alloc: Global, text: &str) -> Result<Option<MediaAttribute>, AllocError> {
-        let found = named(alloc, text);
-        if matches!(found, Ok(None)) {
-            return unused(alloc, text);
+    fn take(
+        alloc: Global,
+        text: &str,
+        attributes: &mut Vec<MediaAttribute>,
+    ) -> Result<bool, AllocError> {
+        if named(alloc, text, attributes)? {
+            return Ok(true);
         }
-        found
+        taken(unused(alloc, text)?, attributes)
     }
 }
 

@@ -7,7 +7,7 @@ ghost use Rattle.str0m_signal.specs.Chains.{Run};
 ghost use Rattle.str0m_signal.specs.Lines.{OneLine};
 ghost use Rattle.str0m_signal.specs.LineReading.{lines_of};
 
-use crate::attributes::{Attribute, attribute_run};
+use crate::attributes::{Attribute, attribute_run, taken};
 use crate::fields::{kept, role};
 use crate::fingerprint::fingerprint;
 use crate::groups::{group, msid_semantic};
@@ -107,12 +107,15 @@ fn unused(alloc: Global, text: &str) -> Result<Option<SessionAttribute>, AllocEr
 impl Attribute for SessionAttribute {
     ghost reading = { session_read };
 
-    fn read(alloc: Global, text: &str) -> Result<Option<SessionAttribute>, AllocError> {
-        let found = named(alloc, text);
-        if matches!(found, Ok(None)) {
-            return unused(alloc, text);
+    fn take(
+        alloc: Global,
+        text: &str,
+        attributes: &mut Vec<SessionAttribute>,
+    ) -> Result<bool, AllocError> {
+        if taken(named(alloc, text)?, attributes)? {
+            return Ok(true);
         }
-        found
+        taken(unused(alloc, text)?, attributes)
     }
 }
 
