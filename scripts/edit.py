@@ -80,6 +80,7 @@ class Edit:
 
     def __init__(self, path, texts, homes):
         self.name, self.changes, self.functions = str(path.relative_to(CRATES)), [], set()
+        self.source, self.added = self, {}  # (copies.py: the edit that is made in a copy, and what that adds to each file)
         said, turned, readers = {}, set(), []
         for line in path.read_text("utf-8").split("\n"):
             word, _, said[word] = line.partition(":")
