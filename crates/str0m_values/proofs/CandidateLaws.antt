@@ -4,86 +4,21 @@ use Rattle.std.specs.Prelude.{codes}
 use Rattle.str0m_values.specs.declared.address.SocketAddr.{SocketAddr}
 use Rattle.str0m_values.specs.declared.candidate.Candidate.{Candidate}
 use Rattle.str0m_values.specs.Cuts.{num, is_rest}
-use Rattle.str0m_values.specs.Labels.{IsSame, IsLabelled}
+use Rattle.str0m_values.specs.Labels.{IsSame, IsLabelled, IsOptional, IsLeftOut}
 use Rattle.str0m_values.specs.LabelReading.{labelled_read, part_read, optional_read}
 use Rattle.str0m_values.specs.Parts.{IsNum}
 use Rattle.str0m_values.specs.Address.{IsIpText}
 use Rattle.str0m_values.specs.CandidateKind.{IsKindText}
 use Rattle.str0m_values.specs.Protocol.{IsProtocolText, IsTcpTypeText}
 use Rattle.str0m_values.specs.Candidate.{IsSocket, IsRelated, AreNames, IsCandidateText}
-use Rattle.str0m_values.specs.CandidateReading.{protocol_read, kind_read, socket_read, related_read, tcp_part_read, names_read, candidate_read}
+use Rattle.str0m_values.specs.CandidateReading.{Lead, Extras, protocol_read, kind_read, socket_read, related_read, tcp_part_read, names_read, lead_read, last_read, extras_read, candidate_read}
 use Rattle.str0m_values.proofs.BothWays.{Reads, some_is}
 use Rattle.str0m_values.proofs.NumLaws.{rest_true}
 use Rattle.str0m_values.proofs.CandidateWords.{protocol_both, kind_both}
 use Rattle.str0m_values.proofs.LabelLaws.{bound, bind_is, Ends, EndsWithout, Starts, starts_all, starts_optional, Front, labelled_front, part_front, optional_front}
 use Rattle.str0m_values.proofs.CandidateParts.{num_both, socket_front, related_front, tcp_front, EndsNames, names_front}
 
--- ---- what is read stands for the candidate
-
--- nothing is left
-nothing_left : (rest : List ℕ) (made c : Candidate) → cond (is_rest rest) None (Some made) ≡ Some c → (rest ≡ []) × (made ≡ c)
-nothing_left [] made c e = (refl, some_is made c e)
-nothing_left (x ∷ rest) made c e = let none = rw (rest_true (x ∷ rest) (omega arith)) at e in absurd cc
-
-spaced_socket : Front (IsSocket (codes " ") (codes " ")) Ends (socket_read (codes " ") (codes " "))
-spaced_socket = socket_front (codes " ") (codes " ") (λ more. refl)
-
-candidate_sound : (text : List ℕ) (c : Candidate) → candidate_read text ≡ Some c → IsCandidateText text c
-candidate_sound text c e =
-    bound (labelled_read (codes "candidate:") text) _ _ e λ foundation e₁ k₁.
-    bound (part_read (codes " ") (num 65535) foundation.1) _ _ k₁ λ component e₂ k₂.
-    bound (part_read (codes " ") protocol_read component.1) _ _ k₂ λ protocol e₃ k₃.
-    bound (part_read (codes " ") (num 4294967295) protocol.1) _ _ k₃ λ priority e₄ k₄.
-    bound (socket_read (codes " ") (codes " ") priority.1) _ _ k₄ λ address e₅ k₅.
-    bound (part_read (codes " typ ") kind_read address.1) _ _ k₅ λ kind e₆ k₆.
-    bound (related_read kind.1) _ _ k₆ λ related e₇ k₇.
-    bound (tcp_part_read related.1) _ _ k₇ λ tcp_type e₈ k₈.
-    bound (optional_read (codes " generation ") tcp_type.1) _ _ k₈ λ generation e₉ k₉.
-    bound (names_read generation.1) _ _ k₉ λ names e₁₀ k₁₀.
-    bound (optional_read (codes " network-cost ") names.1) _ _ k₁₀ λ cost e₁₁ last.
-    let made : Candidate = record { foundation = foundation.0; component_id = component.0; proto = protocol.0; prio = priority.0; addr = address.0; kind = kind.0; raddr = related.0; tcptype = tcp_type.0; ufrag = names.0 } in
-    let done = nothing_left cost.1 made c last in
-    let p₁ = (labelled_front (codes "candidate:")).sound text foundation e₁ in
-    let p₂ = (part_front (codes " ") (num_both 65535)).sound foundation.1 component e₂ in
-    let p₃ = (part_front (codes " ") protocol_both).sound component.1 protocol e₃ in
-    let p₄ = (part_front (codes " ") (num_both 4294967295)).sound protocol.1 priority e₄ in
-    let p₅ = spaced_socket.sound priority.1 address e₅ in
-    let p₆ = (part_front (codes " typ ") kind_both).sound address.1 kind e₆ in
-    let p₇ = related_front.sound kind.1 related e₇ in
-    let p₈ = tcp_front.sound related.1 tcp_type e₈ in
-    let p₉ = (optional_front (codes " generation ")).sound tcp_type.1 generation e₉ in
-    let p₁₀ = names_front.sound generation.1 names e₁₀ in
-    let p₁₁ = (optional_front (codes " network-cost ")).sound names.1 cost e₁₁ in
-    let end : names.1 ≡ p₁₁.0 = p₁₁.1 ∙ ap (λ (t : List ℕ). p₁₁.0 ++ t) done.0 ∙ append-nil p₁₁.0 in
-    subst (IsCandidateText text) done.1 (record {
-      foundation = p₁.0;
-      component = p₂.0;
-      protocol = p₃.0;
-      priority = p₄.0;
-      address = p₅.0;
-      kind = p₆.0;
-      related = p₇.0;
-      tcp_type = p₈.0;
-      generation = p₉.0;
-      names = p₁₀.0;
-      cost = p₁₁.0;
-      joined = p₁.1 ∙ ap (λ (t : List ℕ). p₁.0 ++ t) (p₂.1 ∙ ap (λ (t : List ℕ). p₂.0 ++ t) (p₃.1 ∙ ap (λ (t : List ℕ). p₃.0 ++ t) (p₄.1 ∙ ap (λ (t : List ℕ). p₄.0 ++ t)
-          (p₅.1 ∙ ap (λ (t : List ℕ). p₅.0 ++ t) (p₆.1 ∙ ap (λ (t : List ℕ). p₆.0 ++ t) (p₇.1 ∙ ap (λ (t : List ℕ). p₇.0 ++ t) (p₈.1 ∙ ap (λ (t : List ℕ). p₈.0 ++ t)
-          (p₉.1 ∙ ap (λ (t : List ℕ). p₉.0 ++ t) (p₁₀.1 ∙ ap (λ (t : List ℕ). p₁₀.0 ++ t) end)))))))));
-      foundation_is = p₁.2;
-      component_is = p₂.2;
-      protocol_is = p₃.2;
-      priority_is = p₄.2;
-      address_is = p₅.2;
-      kind_is = p₆.2;
-      related_is = p₇.2;
-      tcp_type_is = p₈.2;
-      generation_is = (generation.0, p₉.2);
-      names_are = p₁₀.2;
-      cost_is = (cost.0, p₁₁.2);
-    })
-
--- ---- what stands for a candidate is read
+-- ---- what may follow a part
 
 -- the labels of the parts behind the kind, from each of them on
 abbrev from_cost : List (List ℕ)
@@ -119,41 +54,259 @@ ends_labelled F label part rest x spaced h = rw (h.1, append_assoc label h.0 res
 ends_socket : (part rest : List ℕ) (x : SocketAddr) → IsSocket (codes " ") (codes " ") part x → Ends (part ++ rest)
 ends_socket part rest x h = rw (h.2, append_assoc h.0 h.1 rest) (ends_labelled IsIpText (codes " ") h.0 (h.1 ++ rest) x.ip (λ more. refl) h.3)
 
-candidate_complete : (text : List ℕ) (c : Candidate) → IsCandidateText text c → candidate_read text ≡ Some c
-candidate_complete text c h =
-    let r₁₁ : List ℕ = h.cost ++ [] in
-    let r₁₀ : List ℕ = h.names ++ r₁₁ in
-    let r₉ : List ℕ = h.generation ++ r₁₀ in
-    let r₈ : List ℕ = h.tcp_type ++ r₉ in
-    let r₇ : List ℕ = h.related ++ r₈ in
-    let r₆ : List ℕ = h.kind ++ r₇ in
-    let r₅ : List ℕ = h.address ++ r₆ in
-    let r₄ : List ℕ = h.priority ++ r₅ in
+-- ---- the parts in front of the address
+
+record IsLead (text : List ℕ) (x : Lead) (rest : List ℕ) : Type 0 where
+  foundation : List ℕ
+  component : List ℕ
+  protocol : List ℕ
+  priority : List ℕ
+  joined : text ≡ foundation ++ (component ++ (protocol ++ (priority ++ rest)))
+  foundation_is : IsLabelled (codes "candidate:") IsSame foundation x.foundation
+  component_is : IsLabelled (codes " ") (IsNum 65535) component x.component_id
+  protocol_is : IsLabelled (codes " ") IsProtocolText protocol x.proto
+  priority_is : IsLabelled (codes " ") (IsNum 4294967295) priority x.prio
+
+lead_sound : (text : List ℕ) (x : Lead × List ℕ) → lead_read text ≡ Some x → IsLead text x.0 x.1
+lead_sound text x e =
+    bound (labelled_read (codes "candidate:") text) _ _ e λ foundation e₁ k₁.
+    bound (part_read (codes " ") (num 65535) foundation.1) _ _ k₁ λ component e₂ k₂.
+    bound (part_read (codes " ") protocol_read component.1) _ _ k₂ λ protocol e₃ k₃.
+    bound (part_read (codes " ") (num 4294967295) protocol.1) _ _ k₃ λ priority e₄ same.
+    let p₁ = (labelled_front (codes "candidate:")).sound text foundation e₁ in
+    let p₂ = (part_front (codes " ") (num_both 65535)).sound foundation.1 component e₂ in
+    let p₃ = (part_front (codes " ") protocol_both).sound component.1 protocol e₃ in
+    let p₄ = (part_front (codes " ") (num_both 4294967295)).sound protocol.1 priority e₄ in
+    let made : Lead = record { foundation = foundation.0; component_id = component.0; proto = protocol.0; prio = priority.0 } in
+    rw (← some_is (made, priority.1) x same) (record {
+      foundation = p₁.0;
+      component = p₂.0;
+      protocol = p₃.0;
+      priority = p₄.0;
+      joined = p₁.1 ∙ ap (λ (t : List ℕ). p₁.0 ++ t) (p₂.1 ∙ ap (λ (t : List ℕ). p₂.0 ++ t) (p₃.1 ∙ ap (λ (t : List ℕ). p₃.0 ++ t) p₄.1));
+      foundation_is = p₁.2;
+      component_is = p₂.2;
+      protocol_is = p₃.2;
+      priority_is = p₄.2;
+    })
+
+lead_complete : (text : List ℕ) (x : Lead) (rest : List ℕ) → IsLead text x rest → Ends rest → lead_read text ≡ Some (x, rest)
+lead_complete text x rest h ends =
+    let r₄ : List ℕ = h.priority ++ rest in
     let r₃ : List ℕ = h.protocol ++ r₄ in
     let r₂ : List ℕ = h.component ++ r₃ in
-    let s₁₁ : Starts from_cost r₁₁ = starts_optional IsSame (codes " network-cost ") [] h.cost [] h.cost_is.0 h.cost_is.1 refl in
-    let s₁₀ : Starts from_names r₁₀ = starts_names h.names r₁₁ c.ufrag h.names_are s₁₁ in
-    let s₉ : Starts from_generation r₉ = starts_optional IsSame (codes " generation ") from_names h.generation r₁₀ h.generation_is.0 h.generation_is.1 s₁₀ in
-    let s₈ : Starts from_tcp_type r₈ = starts_optional IsTcpTypeText (codes " tcptype ") from_generation h.tcp_type r₉ c.tcptype h.tcp_type_is s₉ in
-    let s₇ : Starts from_related r₇ = starts_related h.related r₈ c.raddr h.related_is s₈ in
-    let b₆ : Ends r₇ = starts_all Ends from_related refl (λ m. refl, (λ m. refl, (λ m. refl, (λ m. refl, (λ m. refl, (λ m. refl, tt)))))) r₇ s₇ in
-    let b₇ : EndsWithout (codes " raddr ") r₈ = starts_all (EndsWithout (codes " raddr ")) from_tcp_type (refl, refl) (λ m. (refl, refl), (λ m. (refl, refl), (λ m. (refl, refl), (λ m. (refl, refl), (λ m. (refl, refl), tt))))) r₈ s₈ in
-    let b₈ : EndsWithout (codes " tcptype ") r₉ = starts_all (EndsWithout (codes " tcptype ")) from_generation (refl, refl) (λ m. (refl, refl), (λ m. (refl, refl), (λ m. (refl, refl), (λ m. (refl, refl), tt)))) r₉ s₉ in
-    let b₉ : EndsWithout (codes " generation ") r₁₀ = starts_all (EndsWithout (codes " generation ")) from_names (refl, refl) (λ m. (refl, refl), (λ m. (refl, refl), (λ m. (refl, refl), tt))) r₁₀ s₁₀ in
-    let b₁₀ : EndsNames r₁₁ = starts_all EndsNames from_cost (refl, refl, refl) (λ m. (refl, refl, refl), tt) r₁₁ s₁₁ in
-    let whole : text ≡ h.foundation ++ r₂ = h.joined ∙ ap (λ (t : List ℕ). h.foundation ++ (h.component ++ (h.protocol ++ (h.priority ++ (h.address ++ (h.kind ++ (h.related ++ (h.tcp_type ++ (h.generation ++ (h.names ++ t)))))))))) (sym (append-nil h.cost)) in
-    ap candidate_read whole
-    ∙ bind_is _ _ _ _ ((labelled_front (codes "candidate:")).complete h.foundation c.foundation r₂ h.foundation_is (ends_labelled (IsNum 65535) (codes " ") h.component r₃ c.component_id (λ m. refl) h.component_is))
-    (bind_is _ _ _ _ ((part_front (codes " ") (num_both 65535)).complete h.component c.component_id r₃ h.component_is (ends_labelled IsProtocolText (codes " ") h.protocol r₄ c.proto (λ m. refl) h.protocol_is))
-    (bind_is _ _ _ _ ((part_front (codes " ") protocol_both).complete h.protocol c.proto r₄ h.protocol_is (ends_labelled (IsNum 4294967295) (codes " ") h.priority r₅ c.prio (λ m. refl) h.priority_is))
-    (bind_is _ _ _ _ ((part_front (codes " ") (num_both 4294967295)).complete h.priority c.prio r₅ h.priority_is (ends_socket h.address r₆ c.addr h.address_is))
-    (bind_is _ _ _ _ (spaced_socket.complete h.address c.addr r₆ h.address_is (ends_labelled IsKindText (codes " typ ") h.kind r₇ c.kind (λ m. refl) h.kind_is))
-    (bind_is _ _ _ _ ((part_front (codes " typ ") kind_both).complete h.kind c.kind r₇ h.kind_is b₆)
-    (bind_is _ _ _ _ (related_front.complete h.related c.raddr r₈ h.related_is b₇)
-    (bind_is _ _ _ _ (tcp_front.complete h.tcp_type c.tcptype r₉ h.tcp_type_is b₈)
-    (bind_is _ _ _ _ ((optional_front (codes " generation ")).complete h.generation h.generation_is.0 r₁₀ h.generation_is.1 b₉)
-    (bind_is _ _ _ _ (names_front.complete h.names c.ufrag r₁₁ h.names_are b₁₀)
-    (bind_is _ _ _ _ ((optional_front (codes " network-cost ")).complete h.cost h.cost_is.0 [] h.cost_is.1 (refl, refl)) refl))))))))))
+    ap lead_read h.joined
+    ∙ bind_is _ _ _ _ ((labelled_front (codes "candidate:")).complete h.foundation x.foundation r₂ h.foundation_is
+    (ends_labelled (IsNum 65535) (codes " ") h.component r₃ x.component_id (λ m. refl) h.component_is))
+    (bind_is _ _ _ _ ((part_front (codes " ") (num_both 65535)).complete h.component x.component_id r₃ h.component_is
+    (ends_labelled IsProtocolText (codes " ") h.protocol r₄ x.proto (λ m. refl) h.protocol_is))
+    (bind_is _ _ _ _ ((part_front (codes " ") protocol_both).complete h.protocol x.proto r₄ h.protocol_is
+    (ends_labelled (IsNum 4294967295) (codes " ") h.priority rest x.prio (λ m. refl) h.priority_is))
+    (bind_is _ _ _ _ ((part_front (codes " ") (num_both 4294967295)).complete h.priority x.prio rest h.priority_is ends) refl)))
+
+-- ---- the last parts
+
+-- nothing is left
+nothing_left : {A : Type 0} (rest : List ℕ) (made x : A) → cond (is_rest rest) None (Some made) ≡ Some x → (rest ≡ []) × (made ≡ x)
+nothing_left [] made x e = (refl, some_is made x e)
+nothing_left (y ∷ rest) made x e = let none = rw (rest_true (y ∷ rest) (omega arith)) at e in absurd cc
+
+record IsLast (text : List ℕ) (x : Option (List ℕ)) : Type 0 where
+  generation : List ℕ
+  names : List ℕ
+  cost : List ℕ
+  joined : text ≡ generation ++ (names ++ cost)
+  generation_is : IsLeftOut (codes " generation ") generation
+  names_are : AreNames names x
+  cost_is : IsLeftOut (codes " network-cost ") cost
+
+last_sound : (text : List ℕ) (x : Option (List ℕ)) → last_read text ≡ Some x → IsLast text x
+last_sound text x e =
+    bound (optional_read (codes " generation ") text) _ _ e λ generation e₁ k₁.
+    bound (names_read generation.1) _ _ k₁ λ names e₂ k₂.
+    bound (optional_read (codes " network-cost ") names.1) _ _ k₂ λ cost e₃ last.
+    let done = nothing_left cost.1 names.0 x last in
+    let p₁ = (optional_front (codes " generation ")).sound text generation e₁ in
+    let p₂ = names_front.sound generation.1 names e₂ in
+    let p₃ = (optional_front (codes " network-cost ")).sound names.1 cost e₃ in
+    let end : names.1 ≡ p₃.0 = p₃.1 ∙ ap (λ (t : List ℕ). p₃.0 ++ t) done.0 ∙ append-nil p₃.0 in
+    subst (IsLast text) done.1 (record {
+      generation = p₁.0;
+      names = p₂.0;
+      cost = p₃.0;
+      joined = p₁.1 ∙ ap (λ (t : List ℕ). p₁.0 ++ t) (p₂.1 ∙ ap (λ (t : List ℕ). p₂.0 ++ t) end);
+      generation_is = (generation.0, p₁.2);
+      names_are = p₂.2;
+      cost_is = (cost.0, p₃.2);
+    })
+
+cost_starts : (cost : List ℕ) → IsLeftOut (codes " network-cost ") cost → Starts from_cost cost
+cost_starts cost h = subst (Starts from_cost) (append-nil cost) (starts_optional IsSame (codes " network-cost ") [] cost [] h.0 h.1 refl)
+
+cost_complete : (cost : List ℕ) (h : IsLeftOut (codes " network-cost ") cost) → optional_read (codes " network-cost ") cost ≡ Some (h.0, [])
+cost_complete cost h = ap (optional_read (codes " network-cost ")) (sym (append-nil cost)) ∙ (optional_front (codes " network-cost ")).complete cost h.0 [] h.1 (refl, refl)
+
+names_start : (text : List ℕ) (x : Option (List ℕ)) (h : IsLast text x) → Starts from_names (h.names ++ h.cost)
+names_start text x h = starts_names h.names h.cost x h.names_are (cost_starts h.cost h.cost_is)
+
+last_starts : (text : List ℕ) (x : Option (List ℕ)) → IsLast text x → Starts from_generation text
+last_starts text x h = subst (Starts from_generation) (sym h.joined)
+    (starts_optional IsSame (codes " generation ") from_names h.generation (h.names ++ h.cost) h.generation_is.0 h.generation_is.1 (names_start text x h))
+
+last_complete : (text : List ℕ) (x : Option (List ℕ)) → IsLast text x → last_read text ≡ Some x
+last_complete text x h =
+    let r₂ : List ℕ = h.names ++ h.cost in
+    let b₁ : EndsWithout (codes " generation ") r₂ = starts_all (EndsWithout (codes " generation ")) from_names (refl, refl)
+    (λ m. (refl, refl), (λ m. (refl, refl), (λ m. (refl, refl), tt))) r₂ (names_start text x h) in
+    let b₂ : EndsNames h.cost = starts_all EndsNames from_cost (refl, refl, refl) (λ m. (refl, refl, refl), tt) h.cost (cost_starts h.cost h.cost_is) in
+    ap last_read h.joined
+    ∙ bind_is _ _ _ _ ((optional_front (codes " generation ")).complete h.generation h.generation_is.0 r₂ h.generation_is.1 b₁)
+    (bind_is _ _ _ _ (names_front.complete h.names x h.cost h.names_are b₂) (bind_is _ _ _ _ (cost_complete h.cost h.cost_is) refl))
+
+-- ---- the parts behind the kind
+
+record IsExtras (text : List ℕ) (x : Extras) : Type 0 where
+  related : List ℕ
+  tcp_type : List ℕ
+  last : List ℕ
+  joined : text ≡ related ++ (tcp_type ++ last)
+  related_is : IsRelated related x.raddr
+  tcp_type_is : IsOptional (codes " tcptype ") IsTcpTypeText tcp_type x.tcptype
+  last_is : IsLast last x.ufrag
+
+extras_sound : (text : List ℕ) (x : Extras) → extras_read text ≡ Some x → IsExtras text x
+extras_sound text x e =
+    bound (related_read text) _ _ e λ related e₁ k₁.
+    bound (tcp_part_read related.1) _ _ k₁ λ tcp_type e₂ k₂.
+    bound (last_read tcp_type.1) _ _ k₂ λ ufrag e₃ same.
+    let p₁ = related_front.sound text related e₁ in
+    let p₂ = tcp_front.sound related.1 tcp_type e₂ in
+    let made : Extras = record { raddr = related.0; tcptype = tcp_type.0; ufrag = ufrag } in
+    subst (IsExtras text) (some_is made x same) (record {
+      related = p₁.0;
+      tcp_type = p₂.0;
+      last = tcp_type.1;
+      joined = p₁.1 ∙ ap (λ (t : List ℕ). p₁.0 ++ t) p₂.1;
+      related_is = p₁.2;
+      tcp_type_is = p₂.2;
+      last_is = last_sound tcp_type.1 ufrag e₃;
+    })
+
+tcp_type_starts : (text : List ℕ) (x : Extras) (h : IsExtras text x) → Starts from_tcp_type (h.tcp_type ++ h.last)
+tcp_type_starts text x h = starts_optional IsTcpTypeText (codes " tcptype ") from_generation h.tcp_type h.last x.tcptype h.tcp_type_is (last_starts h.last x.ufrag h.last_is)
+
+extras_end : (text : List ℕ) (x : Extras) → IsExtras text x → Ends text
+extras_end text x h =
+    let starts : Starts from_related (h.related ++ (h.tcp_type ++ h.last)) = starts_related h.related (h.tcp_type ++ h.last) x.raddr h.related_is (tcp_type_starts text x h) in
+    starts_all Ends from_related refl (λ m. refl, (λ m. refl, (λ m. refl, (λ m. refl, (λ m. refl, (λ m. refl, tt)))))) text
+    (subst (Starts from_related) (sym h.joined) starts)
+
+extras_complete : (text : List ℕ) (x : Extras) → IsExtras text x → extras_read text ≡ Some x
+extras_complete text x h =
+    let r₂ : List ℕ = h.tcp_type ++ h.last in
+    let b₁ : EndsWithout (codes " raddr ") r₂ = starts_all (EndsWithout (codes " raddr ")) from_tcp_type (refl, refl)
+    (λ m. (refl, refl), (λ m. (refl, refl), (λ m. (refl, refl), (λ m. (refl, refl), (λ m. (refl, refl), tt))))) r₂ (tcp_type_starts text x h) in
+    let b₂ : EndsWithout (codes " tcptype ") h.last = starts_all (EndsWithout (codes " tcptype ")) from_generation (refl, refl)
+    (λ m. (refl, refl), (λ m. (refl, refl), (λ m. (refl, refl), (λ m. (refl, refl), tt)))) h.last (last_starts h.last x.ufrag h.last_is) in
+    ap extras_read h.joined
+    ∙ bind_is _ _ _ _ (related_front.complete h.related x.raddr r₂ h.related_is b₁)
+    (bind_is _ _ _ _ (tcp_front.complete h.tcp_type x.tcptype h.last h.tcp_type_is b₂) (bind_is _ _ _ _ (last_complete h.last x.ufrag h.last_is) refl))
+
+-- ---- the whole text
+
+spaced_socket : Front (IsSocket (codes " ") (codes " ")) Ends (socket_read (codes " ") (codes " "))
+spaced_socket = socket_front (codes " ") (codes " ") (λ more. refl)
+
+-- what is read stands for the candidate
+candidate_sound : (text : List ℕ) (c : Candidate) → candidate_read text ≡ Some c → IsCandidateText text c
+candidate_sound text c e =
+    bound (lead_read text) _ _ e λ lead e₁ k₁.
+    bound (socket_read (codes " ") (codes " ") lead.1) _ _ k₁ λ address e₂ k₂.
+    bound (part_read (codes " typ ") kind_read address.1) _ _ k₂ λ kind e₃ k₃.
+    bound (extras_read kind.1) _ _ k₃ λ extras e₄ same.
+    let made : Candidate = record {
+      foundation = lead.0.foundation;
+      component_id = lead.0.component_id;
+      proto = lead.0.proto;
+      prio = lead.0.prio;
+      addr = address.0;
+      kind = kind.0;
+      raddr = extras.raddr;
+      tcptype = extras.tcptype;
+      ufrag = extras.ufrag;
+    } in
+    let l = lead_sound text lead e₁ in
+    let a = spaced_socket.sound lead.1 address e₂ in
+    let k = (part_front (codes " typ ") kind_both).sound address.1 kind e₃ in
+    let x = extras_sound kind.1 extras e₄ in
+    subst (IsCandidateText text) (some_is made c same) (record {
+      foundation = l.foundation;
+      component = l.component;
+      protocol = l.protocol;
+      priority = l.priority;
+      address = a.0;
+      kind = k.0;
+      related = x.related;
+      tcp_type = x.tcp_type;
+      generation = x.last_is.generation;
+      names = x.last_is.names;
+      cost = x.last_is.cost;
+      joined = l.joined ∙ ap (λ (t : List ℕ). l.foundation ++ (l.component ++ (l.protocol ++ (l.priority ++ t))))
+          (a.1 ∙ ap (λ (t : List ℕ). a.0 ++ t) (k.1 ∙ ap (λ (t : List ℕ). k.0 ++ t) (x.joined ∙ ap (λ (t : List ℕ). x.related ++ (x.tcp_type ++ t)) x.last_is.joined)));
+      foundation_is = l.foundation_is;
+      component_is = l.component_is;
+      protocol_is = l.protocol_is;
+      priority_is = l.priority_is;
+      address_is = a.2;
+      kind_is = k.2;
+      related_is = x.related_is;
+      tcp_type_is = x.tcp_type_is;
+      generation_is = x.last_is.generation_is;
+      names_are = x.last_is.names_are;
+      cost_is = x.last_is.cost_is;
+    })
+
+-- what stands for a candidate is read
+candidate_complete : (text : List ℕ) (c : Candidate) → IsCandidateText text c → candidate_read text ≡ Some c
+candidate_complete text c h =
+    let r₃ : List ℕ = h.related ++ (h.tcp_type ++ (h.generation ++ (h.names ++ h.cost))) in
+    let r₂ : List ℕ = h.kind ++ r₃ in
+    let r₁ : List ℕ = h.address ++ r₂ in
+    let lead : Lead = record { foundation = c.foundation; component_id = c.component_id; proto = c.proto; prio = c.prio } in
+    let lead-is : IsLead text lead r₁ = record {
+      foundation = h.foundation;
+      component = h.component;
+      protocol = h.protocol;
+      priority = h.priority;
+      joined = h.joined;
+      foundation_is = h.foundation_is;
+      component_is = h.component_is;
+      protocol_is = h.protocol_is;
+      priority_is = h.priority_is;
+    } in
+    let last-is : IsLast (h.generation ++ (h.names ++ h.cost)) c.ufrag = record {
+      generation = h.generation;
+      names = h.names;
+      cost = h.cost;
+      joined = refl;
+      generation_is = h.generation_is;
+      names_are = h.names_are;
+      cost_is = h.cost_is;
+    } in
+    let extras : Extras = record { raddr = c.raddr; tcptype = c.tcptype; ufrag = c.ufrag } in
+    let extras-are : IsExtras r₃ extras = record {
+      related = h.related;
+      tcp_type = h.tcp_type;
+      last = h.generation ++ (h.names ++ h.cost);
+      joined = refl;
+      related_is = h.related_is;
+      tcp_type_is = h.tcp_type_is;
+      last_is = last-is;
+    } in
+    bind_is _ _ _ _ (lead_complete text lead r₁ lead-is (ends_socket h.address r₂ c.addr h.address_is))
+    (bind_is _ _ _ _ (spaced_socket.complete h.address c.addr r₂ h.address_is (ends_labelled IsKindText (codes " typ ") h.kind r₃ c.kind (λ m. refl) h.kind_is))
+    (bind_is _ _ _ _ ((part_front (codes " typ ") kind_both).complete h.kind c.kind r₃ h.kind_is (extras_end r₃ extras extras-are))
+    (bind_is _ _ _ _ (extras_complete r₃ extras extras-are) refl)))
 
 pub candidate_both : Reads IsCandidateText candidate_read
 candidate_both = record { sound = candidate_sound; complete = candidate_complete }

@@ -67,27 +67,56 @@ names_read text = do
   if is_some network.0 || is_none name.0 then Some name
       else (optional_read (codes " network-id ") name.1 >>= λ behind. Some (name.0, behind.1))
 
-abbrev pub candidate_read : List ℕ → Option Candidate
-candidate_read text = do
+-- what stands in front of the address
+pub record Lead : Type 0 where
+  pub foundation : List ℕ
+  pub component_id : ℕ
+  pub proto : Protocol
+  pub prio : ℕ
+
+abbrev pub lead_read : List ℕ → Option (Lead × List ℕ)
+lead_read text = do
   foundation ← labelled_read (codes "candidate:") text
   component ← part_read (codes " ") (num 65535) foundation.1
   protocol ← part_read (codes " ") protocol_read component.1
   priority ← part_read (codes " ") (num 4294967295) protocol.1
-  address ← socket_read (codes " ") (codes " ") priority.1
-  kind ← part_read (codes " typ ") kind_read address.1
-  related ← related_read kind.1
-  tcp_type ← tcp_part_read related.1
-  generation ← optional_read (codes " generation ") tcp_type.1
+  Some (record { foundation = foundation.0; component_id = component.0; proto = protocol.0; prio = priority.0 }, priority.1)
+
+-- the name fragment of the last parts, behind which nothing stands
+abbrev pub last_read : List ℕ → Option (Option (List ℕ))
+last_read text = do
+  generation ← optional_read (codes " generation ") text
   names ← names_read generation.1
   cost ← optional_read (codes " network-cost ") names.1
-  if is_rest cost.1 then None else Some (record {
-    foundation = foundation.0;
-    component_id = component.0;
-    proto = protocol.0;
-    prio = priority.0;
+  if is_rest cost.1 then None else Some names.0
+
+-- what is kept of the parts behind the kind
+pub record Extras : Type 0 where
+  pub raddr : Option SocketAddr
+  pub tcptype : Option TcpType
+  pub ufrag : Option (List ℕ)
+
+abbrev pub extras_read : List ℕ → Option Extras
+extras_read text = do
+  related ← related_read text
+  tcp_type ← tcp_part_read related.1
+  ufrag ← last_read tcp_type.1
+  Some (record { raddr = related.0; tcptype = tcp_type.0; ufrag = ufrag })
+
+abbrev pub candidate_read : List ℕ → Option Candidate
+candidate_read text = do
+  lead ← lead_read text
+  address ← socket_read (codes " ") (codes " ") lead.1
+  kind ← part_read (codes " typ ") kind_read address.1
+  extras ← extras_read kind.1
+  Some (record {
+    foundation = lead.0.foundation;
+    component_id = lead.0.component_id;
+    proto = lead.0.proto;
+    prio = lead.0.prio;
     addr = address.0;
     kind = kind.0;
-    raddr = related.0;
-    tcptype = tcp_type.0;
-    ufrag = names.0;
+    raddr = extras.raddr;
+    tcptype = extras.tcptype;
+    ufrag = extras.ufrag;
   })

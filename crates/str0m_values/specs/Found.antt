@@ -1,17 +1,26 @@
--- A candidate whose texts lie in the text that was read, without where they lie.
+-- A candidate whose texts lie in the text that was read, and its parts, without where they lie.
 use Rattle.std.specs.Prelude.{option_map}
 use Rattle.str0m_values.specs.declared.candidate.Candidate.{Candidate}
+use Rattle.str0m_values.specs.declared.candidate_text.Lead.{Lead as FoundLead}
+use Rattle.str0m_values.specs.declared.candidate_text.Extras.{Extras as FoundExtras}
 use Rattle.str0m_values.specs.declared.candidate_text.Found.{Found}
+use Rattle.str0m_values.specs.CandidateReading.{Lead, Extras}
+
+abbrev pub seen_lead : FoundLead → Lead
+seen_lead lead = record { foundation = lead.foundation.now; component_id = lead.component_id; proto = lead.proto; prio = lead.prio }
+
+abbrev pub seen_extras : FoundExtras → Extras
+seen_extras extras = record { raddr = extras.raddr; tcptype = extras.tcptype; ufrag = option_map (λ t. t.now) extras.ufrag }
 
 abbrev pub seen : Found → Candidate
 seen found = record {
-  foundation = found.foundation.now;
-  component_id = found.component_id;
-  proto = found.proto;
-  prio = found.prio;
+  foundation = found.lead.foundation.now;
+  component_id = found.lead.component_id;
+  proto = found.lead.proto;
+  prio = found.lead.prio;
   addr = found.addr;
   kind = found.kind;
-  raddr = found.raddr;
-  tcptype = found.tcptype;
-  ufrag = option_map (λ t. t.now) found.ufrag;
+  raddr = found.extras.raddr;
+  tcptype = found.extras.tcptype;
+  ufrag = option_map (λ t. t.now) found.extras.ufrag;
 }

@@ -153,22 +153,69 @@ impl fmt::Display for Candidate {
 
     fn fmt<W: fmt::Write>(&self, f: &mut fmt::Formatter<W>) -> fmt::Result {
         CandidateParts(self).fmt(f)?;
-        if let Some(addr) = self.raddr {
-            let (ip_label, port_label) = (" raddr ", " rport ");
-            LabelledSocket {
-                ip_label,
-                port_label,
-                addr,
-            }
-            .fmt(f)?;
+        Related(self.raddr).fmt(f)?;
+        OpenedBy(self.tcptype).fmt(f)?;
+        Fragment(&self.ufrag).fmt(f)
+    }
+}
+
+/// The related address and its port, where there is one.
+#[derive(Drop)]
+struct Related(Option<SocketAddr>);
+
+impl fmt::Display for Related {
+    ghost use Rattle.str0m_values.specs.Candidate.{related_text};
+
+    ghost output = { λ it. Some (related_text it.0) };
+
+    fn fmt<W: fmt::Write>(&self, f: &mut fmt::Formatter<W>) -> fmt::Result {
+        let Some(addr) = self.0 else {
+            return Ok(());
+        };
+        let (ip_label, port_label) = (" raddr ", " rport ");
+        LabelledSocket {
+            ip_label,
+            port_label,
+            addr,
         }
-        if let Some(tcptype) = self.tcptype {
-            write!(f, " tcptype {tcptype}")?;
+        .fmt(f)
+    }
+}
+
+/// How a connection is opened, behind its label, where it is said.
+#[derive(Drop)]
+struct OpenedBy(Option<TcpType>);
+
+impl fmt::Display for OpenedBy {
+    ghost use Rattle.std.specs.Prelude.{codes};
+    ghost use Rattle.str0m_values.specs.Labels.{optional_text};
+    ghost use Rattle.str0m_values.specs.Protocol.{tcp_type_text};
+
+    ghost output = { λ it. Some (optional_text (codes " tcptype ") tcp_type_text it.0) };
+
+    fn fmt<W: fmt::Write>(&self, f: &mut fmt::Formatter<W>) -> fmt::Result {
+        match self.0 {
+            Some(tcptype) => write!(f, " tcptype {tcptype}"),
+            None => Ok(()),
         }
-        if let Some(ufrag) = &self.ufrag {
-            write!(f, " ufrag {ufrag}")?;
+    }
+}
+
+/// The username fragment behind its label, where there is one.
+#[derive(Drop)]
+struct Fragment<'a>(&'a Option<Text>);
+
+impl<'a> fmt::Display for Fragment<'a> {
+    ghost use Rattle.std.specs.Prelude.{codes};
+    ghost use Rattle.str0m_values.specs.Labels.{optional_text};
+
+    ghost output = { λ it. Some (optional_text (codes " ufrag ") (λ t. t) it.0.now) };
+
+    fn fmt<W: fmt::Write>(&self, f: &mut fmt::Formatter<W>) -> fmt::Result {
+        match self.0 {
+            Some(ufrag) => write!(f, " ufrag {ufrag}"),
+            None => Ok(()),
         }
-        Ok(())
     }
 }
 

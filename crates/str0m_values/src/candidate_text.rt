@@ -5,8 +5,8 @@ ghost use Rattle.str0m_values.specs.Only.{IsTheOnly};
 ghost use Rattle.str0m_values.specs.Cuts.{num};
 ghost use Rattle.str0m_values.specs.LabelReading.{part_read};
 ghost use Rattle.str0m_values.specs.Candidate.{IsCandidateText, IsPrintable, candidate_text};
-ghost use Rattle.str0m_values.specs.Found.{seen};
-ghost use Rattle.str0m_values.specs.CandidateReading.{protocol_read, kind_read, socket_read, related_read, tcp_part_read, names_read, candidate_read};
+ghost use Rattle.str0m_values.specs.Found.{seen_lead, seen_extras, seen};
+ghost use Rattle.str0m_values.specs.CandidateReading.{protocol_read, kind_read, socket_read, related_read, tcp_part_read, names_read, lead_read, last_read, extras_read, candidate_read};
 
 use crate::address::{IpAddr, SocketAddr};
 use crate::candidate::Candidate;
@@ -17,18 +17,30 @@ use crate::protocol::{Protocol, TcpType};
 use crate::text::Text;
 use std::alloc::{AllocError, Global};
 
-/// A candidate whose texts still lie in the text that was read.
+/// What stands in front of the address; the text still lies in the text that was read.
 #[derive(Clone, Copy)]
-struct Found<'a> {
+struct Lead<'a> {
     foundation: &'a str,
     component_id: u16,
     proto: Protocol,
     prio: u32,
-    addr: SocketAddr,
-    kind: CandidateKind,
+}
+
+/// What is kept of the parts behind the kind, likewise.
+#[derive(Clone, Copy)]
+struct Extras<'a> {
     raddr: Option<SocketAddr>,
     tcptype: Option<TcpType>,
     ufrag: Option<&'a str>,
+}
+
+/// A candidate whose texts still lie in the text that was read.
+#[derive(Clone, Copy)]
+struct Found<'a> {
+    lead: Lead<'a>,
+    addr: SocketAddr,
+    kind: CandidateKind,
+    extras: Extras<'a>,
 }
 
 fn component(text: &str) -> Option<(u16, &str)>
@@ -104,34 +116,63 @@ fn names(text: &str) -> Option<(Option<&str>, &str)>
     Some((ufrag, rest))
 }
 
-/// The candidate of a text, without a copy of its texts.
-fn find(text: &str) -> Option<Found<'_>>
-    ensures { option_map seen result ≡ candidate_read text.now }
+fn before_address(text: &str) -> Option<(Lead<'_>, &str)>
+    ensures { option_map (λ x. (seen_lead x.0, x.1.now)) result ≡ lead_read text.now }
 {
     let (foundation, rest) = labelled(text, "candidate:")?;
     let (component_id, rest) = component(rest)?;
     let (proto, rest) = protocol(rest)?;
     let (prio, rest) = priority(rest)?;
-    let (addr, rest) = socket(rest, " ", " ")?;
-    let (kind, rest) = kind(rest)?;
-    let (raddr, rest) = related(rest)?;
-    let (tcptype, rest) = tcp_type(rest)?;
-    let (_, rest) = optional(rest, " generation ")?;
+    Some((
+        Lead {
+            foundation,
+            component_id,
+            proto,
+            prio,
+        },
+        rest,
+    ))
+}
+
+/// The username fragment of the last parts, where nothing stands behind them.
+fn last(text: &str) -> Option<Option<&str>>
+    ensures { option_map (λ x. option_map (λ w. w.now) x) result ≡ last_read text.now }
+{
+    let (_, rest) = optional(text, " generation ")?;
     let (ufrag, rest) = names(rest)?;
     let (_, rest) = optional(rest, " network-cost ")?;
     if !rest.is_empty() {
         return None;
     }
-    Some(Found {
-        foundation,
-        component_id,
-        proto,
-        prio,
-        addr,
-        kind,
+    Some(ufrag)
+}
+
+fn behind_kind(text: &str) -> Option<Extras<'_>>
+    ensures { option_map seen_extras result ≡ extras_read text.now }
+{
+    let (raddr, rest) = related(text)?;
+    let (tcptype, rest) = tcp_type(rest)?;
+    let ufrag = last(rest)?;
+    Some(Extras {
         raddr,
         tcptype,
         ufrag,
+    })
+}
+
+/// The candidate of a text, without a copy of its texts.
+fn find(text: &str) -> Option<Found<'_>>
+    ensures { option_map seen result ≡ candidate_read text.now }
+{
+    let (lead, rest) = before_address(text)?;
+    let (addr, rest) = socket(rest, " ", " ")?;
+    let (kind, rest) = kind(rest)?;
+    let extras = behind_kind(rest)?;
+    Some(Found {
+        lead,
+        addr,
+        kind,
+        extras,
     })
 }
 
@@ -142,20 +183,21 @@ fn keep(alloc: Global, text: &str) -> Result<Option<Candidate>, AllocError>
     let Some(found) = find(text) else {
         return Ok(None);
     };
-    let foundation = Text::from_str(alloc, found.foundation)?;
-    let ufrag = match found.ufrag {
+    let (lead, extras) = (found.lead, found.extras);
+    let foundation = Text::from_str(alloc, lead.foundation)?;
+    let ufrag = match extras.ufrag {
         Some(ufrag) => Some(Text::from_str(alloc, ufrag)?),
         None => None,
     };
     Ok(Some(Candidate {
         foundation,
-        component_id: found.component_id,
-        proto: found.proto,
-        prio: found.prio,
+        component_id: lead.component_id,
+        proto: lead.proto,
+        prio: lead.prio,
         addr: found.addr,
         kind: found.kind,
-        raddr: found.raddr,
-        tcptype: found.tcptype,
+        raddr: extras.raddr,
+        tcptype: extras.tcptype,
         ufrag,
     }))
 }
