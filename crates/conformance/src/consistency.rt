@@ -17,25 +17,13 @@ fn opus(alloc: Global) -> Result<MediaLine, Fail> {
     first_section(sdp.media_lines.as_slice())
 }
 
-fn is_consistent(section: &MediaLine) -> Result<bool, AllocError> {
-    let fault = section.check_consistent()?;
-    Ok(fault.is_none())
-}
-
-#[test]
-fn a_section_that_was_read_is_consistent(rt: HostRuntime) -> Result<(), Fail> {
-    let section = opus(rt.alloc())?;
-    assert!(rt; is_consistent(&section)?);
-    Ok(())
-}
-
 /// Whether this is what the section tells of itself.
 fn is_told(section: &MediaLine, message: &str) -> Result<bool, AllocError> {
     let fault = section.check_consistent()?;
     Ok(fault.as_ref().is_some_and(|told| told.as_str() == message))
 }
 
-/// Without its attributes it isn't.
+/// A section that was read is consistent, and isn't without its attributes.
 #[test]
 fn a_section_tells_its_fault(rt: HostRuntime) -> Result<(), Fail> {
     let mut section = opus(rt.alloc())?;

@@ -4,9 +4,10 @@ use std::alloc::{AllocError, Global};
 use std::test::Fail;
 use str0m_values::candidate_text::candidate;
 use str0m_values::{
-    Candidate, CandidateKind, Extension, Fingerprint, FingerprintError, FingerprintFmt, H265Level,
-    H265Profile, H265ProfileTierLevel, H265Tier, H266Level, H266Profile, H266ProfileTierLevel,
-    H266Tier, IceCreds, IpAddr, Items, Mid, Protocol, Rid, SocketAddr, TcpType, Text,
+    Candidate, CandidateKind, Extension, Fingerprint, FingerprintError, FingerprintFmt, H264Level,
+    H265Level, H265Profile, H265ProfileTierLevel, H265Tier, H266Level, H266Profile,
+    H266ProfileTierLevel, H266Tier, IceCreds, IpAddr, Items, Mid, Protocol, Rid, SocketAddr,
+    TcpType, Text,
 };
 
 /// The text of a relayed candidate over TCP with every optional part.
@@ -159,6 +160,13 @@ fn an_extension_of_ones_own_is_another(rt: HostRuntime) -> Result<(), Fail> {
     assert!(rt; !is_made(rt.alloc(), &read, false)?);
     assert!(rt; is_made(rt.alloc(), &read, true)?);
     Ok(())
+}
+
+#[test]
+fn levels_are_in_order(rt: HostRuntime) {
+    assert!(rt; H264Level::L1B < H264Level::L1_1);
+    assert!(rt; H265Level::L5_2 < H265Level::L6);
+    assert!(rt; H266Level::L6_2 < H266Level::L6_3);
 }
 
 /// Main10 and the tier High have the ids 2 and 1, and levels thirty times theirs (RFC 7798, section 7.1).
