@@ -3,6 +3,7 @@ ghost use Rattle.std.specs.Prelude.{◌≡◌, Ok, IfErr, IfSome, OnOk, not, ◌
 ghost use Rattle.std.specs.Option.{option_copied};
 ghost use Rattle.str0m_formats.specs.TypeSets.{has, either};
 ghost use Rattle.str0m_formats.specs.Rows.{AllSmall, types_of, locked_types, open_types};
+ghost use Rattle.str0m_formats.specs.Narrowing.{narrowed};
 ghost use Rattle.str0m_formats.specs.Rounds.{and_then, locked_to, placed, taken_by, MayBegin, Begun, StopsFirst};
 
 use crate::claimed::Claimed;
@@ -10,6 +11,19 @@ use crate::claims::Claims;
 use crate::narrowing::narrow;
 use crate::negotiation_error::NegotiationError;
 use crate::payload_params::PayloadParams;
+
+/// Locks a row whose types are those that its choice gives it: the rest of it is what both agree on.
+fn agree(row: &mut PayloadParams, choice: &PayloadParams)
+    ensures { row.new ≡ record row.old {
+      spec = narrowed row.old.spec choice.now.spec;
+      fb_transport_cc = row.old.fb_transport_cc && choice.now.fb_transport_cc;
+      locked = true;
+    } }
+{
+    narrow(&mut row.spec, &choice.spec);
+    row.fb_transport_cc = row.fb_transport_cc && choice.fb_transport_cc;
+    row.locked = true;
+}
 
 impl<C: Claimed> Claims<C> {
     /// Locks an open row to its choice.
@@ -36,9 +50,7 @@ impl<C: Claimed> Claims<C> {
         row.pt = pt;
         row.resend = resend;
         row.red = red;
-        narrow(&mut row.spec, &choice.spec);
-        row.fb_transport_cc = row.fb_transport_cc && choice.fb_transport_cc;
-        row.locked = true;
+        agree(row, choice);
         Ok(())
     }
 
