@@ -7,6 +7,7 @@ import os
 import subprocess
 import tempfile
 from pathlib import Path
+from threading import Lock
 
 import proved
 
@@ -17,7 +18,7 @@ MOST = 8  # tables of one crate, the newest: each is one state of the sources
 def toolchain():
     """One name for the toolchain, and for what judges its answers."""
     said = subprocess.run(["rt", "version"], capture_output=True, stdin=subprocess.DEVNULL, check=True).stdout
-    judges = [proved.TOP / "scripts" / it for it in ("edits", "edit.py")]
+    judges = [proved.TOP / "scripts" / it for it in ("edits", "edit.py", "copies.py", "verdict.py", "bases.py")]
     return hashlib.sha256(b"\0".join([said, *[it.read_bytes() for it in judges]])).hexdigest()
 
 
@@ -26,7 +27,7 @@ class Kept:
 
     def __init__(self, name, sources, is_anew):
         told = hashlib.sha256(repr((toolchain(), sources)).encode()).hexdigest()
-        self.name, self.path, self.refused = name, FOLDER / f"{name}-{told[:32]}.json", {}
+        self.name, self.path, self.refused, self.turn = name, FOLDER / f"{name}-{told[:32]}.json", {}, Lock()
         if not is_anew and self.path.is_file():
             self.refused = json.loads(self.path.read_text())
 
@@ -36,11 +37,12 @@ class Kept:
 
     def add(self, paths, is_little):
         """Keeps that the prover refused these edits."""
-        self.refused |= {self.of(it): is_little for it in paths}
         FOLDER.mkdir(mode=0o700, parents=True, exist_ok=True)
-        with tempfile.NamedTemporaryFile("w", dir=FOLDER, delete=False) as file:
+        with self.turn, tempfile.NamedTemporaryFile("w", dir=FOLDER, delete=False) as file:
+            self.refused |= {self.of(it): is_little for it in paths}
             json.dump(self.refused, file)
-        os.replace(file.name, self.path)
+            file.close()
+            os.replace(file.name, self.path)
         tables = sorted(FOLDER.glob(f"{self.name}-*.json"), key=lambda it: it.stat().st_mtime)
         for old in tables[:-MOST]:
             old.unlink(missing_ok=True)

@@ -1,0 +1,79 @@
+"""What `rt ci` has checked of each crate, as a base on which the checks of its edits begin.
+
+While rattle proves a crate, it has each module that it has checked in a folder of the run's own, below that for temporary files, and
+removes them in the end. They are such as `--incremental` takes, and aren't changed once they are written; so each gets a second name
+here while the run lasts. Nothing is taken for whole: what is missed, or is of other sources, rattle checks again."""
+import contextlib
+import os
+import re
+import shutil
+import tempfile
+import threading
+from pathlib import Path
+
+import proved
+
+RUN = re.compile(r"rattle-logic-built-locked-(\d+)-\d+")
+KERNEL = re.compile(rb"^--@ kernel (\S+)$", re.M)
+PARTS = (".", "long")  # (the second has those whose names are too long)
+
+
+def folder(name):
+    return proved.folder() / "checked" / name
+
+
+def of(name):
+    """The base of a crate of the copy; None where nothing was kept of it."""
+    return folder(name) if any(folder(name).glob("*.oantt")) else None
+
+
+def crate_of(run):
+    """The crate of the copy that the process proves, without its tests; None where it is no such process."""
+    with contextlib.suppress(OSError):
+        at, words = Path(os.readlink(f"/proc/{run}/cwd")), Path(f"/proc/{run}/cmdline").read_bytes().split(b"\0")
+        return at.name if at.parent == proved.folder() / "crates" and b"--test" not in words else None
+    return None
+
+
+def link(modules, to, known=()):
+    """Gives the modules of a folder second names in another, but for those that are known; answers all that it has."""
+    found = {it for part in PARTS for it in (f"{part}/{name}" for name in os.listdir(modules / part)) if it.endswith(".oantt")}
+    for part in PARTS:
+        os.makedirs(to / part, exist_ok=True)
+    for it in found.difference(known):
+        with contextlib.suppress(OSError):
+            os.link(modules / it, to / it)
+    return found
+
+
+def keep_all(end):
+    known = {}
+    while not end.wait(1):
+        for it in Path(tempfile.gettempdir()).iterdir():
+            run = RUN.fullmatch(it.name)
+            name = run and crate_of(run[1])
+            if name:
+                with contextlib.suppress(OSError):  # (it ends meanwhile)
+                    known[it] = link(it, folder(name), known.get(it, ()))
+
+
+@contextlib.contextmanager
+def kept():
+    """Keeps what is checked in the copy as long as the block runs."""
+    end = threading.Event()
+    keeper = threading.Thread(target=keep_all, args=[end])
+    keeper.start()
+    try:
+        yield
+    finally:
+        end.set()
+        keeper.join()
+
+
+def lay(base, to):
+    """Has the folder hold the base alone, as `--incremental` looks for it."""
+    shutil.rmtree(to, ignore_errors=True)
+    first = next(base.glob("*.oantt"))
+    with open(first, "rb") as file:
+        kernel = KERNEL.search(file.read(4096))[1].decode().replace("/", "_")
+    link(base, Path(to, kernel))
