@@ -40,6 +40,8 @@ static uint64_t read_again(const uint8_t *text, size_t length, uint32_t more)
 static const struct call CALLS[] = {
     {"read", read_again, 0},
     {"rows", bench_rows, 1},
+    {"defaults", bench_defaults, 1},
+    {"rounds", bench_rounds, 1},
     {"negotiate", bench_negotiate, 0},
     {"print", bench_print, 1},
     {"sources", bench_sources, 1},

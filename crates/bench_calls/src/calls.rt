@@ -6,7 +6,7 @@ ghost use Rattle.std.specs.Prelude.{◌≡◌, ◌-◌, ◌^◌, MatchOption};
 ghost use Rattle.bench_calls.specs.Answers.{HasAnswer, HasRounds, Tells, sections, text_length};
 
 use crate::task::{done, negotiated};
-use crate::tasks::{Candidates, Consistency, Mark, Print, Rows, Sources};
+use crate::tasks::{Candidates, Consistency, Defaults, Mark, Print, Rounds, Rows, Sources};
 use std::alloc::Global;
 
 /// The number as C gets it.
@@ -33,6 +33,23 @@ pub extern "C" fn bench_rows(alloc: Global, text: &[u8], more: u32) -> u64
     ensures { Tells (HasAnswer text.now sections) result }
 {
     told(done::<Rows>(alloc, text, more))
+}
+
+/// Reads the text, makes the configuration with the default rows, and answers how many sections the text has.
+#[unsafe(no_mangle)]
+pub extern "C" fn bench_defaults(alloc: Global, text: &[u8], more: u32) -> u64
+    ensures { Tells (HasAnswer text.now sections) result }
+{
+    told(done::<Defaults>(alloc, text, more))
+}
+
+/// Reads the text, makes that configuration and the rows of all sections, runs a round with those of each section of audio or video,
+/// and answers how many sections the text has.
+#[unsafe(no_mangle)]
+pub extern "C" fn bench_rounds(alloc: Global, text: &[u8], more: u32) -> u64
+    ensures { Tells (HasAnswer text.now sections) result }
+{
+    told(done::<Rounds>(alloc, text, more))
 }
 
 /// Negotiates with the text, which is read each time, and answers how many rounds that were.

@@ -4,7 +4,7 @@ ghost use Rattle.bench_calls.specs.Answers.{sections, text_length};
 
 use crate::task::Task;
 use std::alloc::AllocError;
-use str0m_signal::{SdpError, SdpOffer};
+use str0m_signal::{CodecConfig, MediaLine, NegotiationError, SdpError, SdpOffer};
 
 /// Nothing but one byte, which is given back: who counts allocations sees by it where the reading has ended. Answers how many
 /// sections there are.
@@ -31,6 +31,47 @@ impl Task for Rows {
             let _made = section.rtp_params()?;
         }
         Ok(offer.media_lines.len())
+    }
+}
+
+/// The configuration with the default rows. Answers how many sections there are.
+pub(crate) struct Defaults;
+
+impl Task for Defaults {
+    ghost answer = { sections };
+
+    fn run(offer: &SdpOffer) -> Result<usize, AllocError> {
+        let sections = &offer.media_lines;
+        let _made = CodecConfig::new_with_defaults(*sections.allocator())?;
+        Ok(sections.len())
+    }
+}
+
+/// A round with the rows of the section, where it is one of audio or video. That one is refused, other than for memory, is no fault.
+fn meet(config: &mut CodecConfig, section: &MediaLine) -> Result<(), AllocError> {
+    if !section.typ.is_media() {
+        return Ok(());
+    }
+    let rows = section.rtp_params()?;
+    match config.update_params(rows.as_slice(), section.direction()) {
+        Err(NegotiationError::Memory) => Err(AllocError),
+        _ => Ok(()),
+    }
+}
+
+/// Such a configuration, and a round with each section's rows. Answers how many sections there are.
+pub(crate) struct Rounds;
+
+impl Task for Rounds {
+    ghost answer = { sections };
+
+    fn run(offer: &SdpOffer) -> Result<usize, AllocError> {
+        let sections = &offer.media_lines;
+        let mut config = CodecConfig::new_with_defaults(*sections.allocator())?;
+        for section in sections.as_slice() {
+            meet(&mut config, section)?;
+        }
+        Ok(sections.len())
     }
 }
 
