@@ -52,8 +52,8 @@ def keep_all(end):
         for it in Path(tempfile.gettempdir()).iterdir():
             run = RUN.fullmatch(it.name)
             name = run and crate_of(run[1])
-            if name:
-                with contextlib.suppress(OSError):  # (it ends meanwhile)
+            with contextlib.suppress(OSError):  # (it ends meanwhile)
+                if name and it.stat().st_uid == os.getuid():
                     known[it] = link(it, folder(name), known.get(it, ()))
 
 

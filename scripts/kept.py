@@ -18,7 +18,7 @@ MOST = 8  # tables of one crate, the newest: each is one state of the sources
 def toolchain():
     """One name for the toolchain, and for what judges its answers."""
     said = subprocess.run(["rt", "version"], capture_output=True, stdin=subprocess.DEVNULL, check=True).stdout
-    judges = [proved.TOP / "scripts" / it for it in ("edits", "edit.py", "copies.py", "verdict.py", "bases.py")]
+    judges = [proved.TOP / "scripts" / it for it in ("edits", "edit.py", "groups.py", "copies.py", "verdict.py", "bases.py")]
     return hashlib.sha256(b"\0".join([said, *[it.read_bytes() for it in judges]])).hexdigest()
 
 

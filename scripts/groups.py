@@ -1,0 +1,39 @@
+"""Which edits one check tries: those by which no function falls but their own."""
+import contextlib
+
+from copies import copy_of
+from edit import changed
+
+
+class Group:
+    """Edits that one check tries: each as it is or in a copy of its function, so that none brings down a function of another."""
+
+    def __init__(self, texts):
+        self.texts = self.edited = texts
+        self.edits, self.functions, self.reach, self.of_tables = [], set(), set(), set()
+
+    def takes(self, edit):
+        """Takes an edit in, if it can."""
+        own = edit.reach or set()
+        if self.edits and None in (edit.reach, self.edits[0].reach):
+            return False
+        if not self.functions & own and not self.reach & edit.functions:
+            with contextlib.suppress(ValueError):  # (an earlier one takes its text away)
+                self.edited = changed(self.edited, edit.changes)
+                self.functions, self.reach = self.functions | edit.functions, self.reach | own
+                self.of_tables |= own if edit.is_wide else set()
+                self.edits.append(edit)
+                return True
+        made = None if self.of_tables & edit.functions else copy_of(edit, self.texts, len(self.edits))
+        self.edits += [made] * bool(made)
+        return bool(made)
+
+
+def groups_of(edits, texts, count):
+    """The edits in so many groups, each in the smallest that takes it, and in a further one where none does."""
+    groups = [Group(texts) for _ in range(count)]
+    for edit in edits:
+        if not any(it.takes(edit) for it in sorted(groups, key=lambda it: len(it.edits))):
+            groups.append(Group(texts))
+            groups[-1].takes(edit)
+    return [it.edits for it in groups]
