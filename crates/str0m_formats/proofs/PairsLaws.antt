@@ -80,14 +80,18 @@ merged_push : (pairs : List (List ℕ × List ℕ)) (pair : List ℕ × List ℕ
 unfolding merged
 merged_push pairs pair = ap (insert_all bytes_eq []) (map-append (λ pair. (str_to_ascii_lowercase pair.0, pair.1)) pairs (pair ∷ [])) ∙ insert_all_push bytes_eq [] (map (λ pair. (str_to_ascii_lowercase pair.0, pair.1)) pairs) (str_to_ascii_lowercase pair.0, pair.1)
 
+-- one entry more
+pub entry_put : {S : Type 0} (es after : List (String S × Bor (List ℕ))) (k : String S) (v : Bor (List ℕ)) (text : List ℕ) → after ≡ insert_entry (λ a b. bytes_eq (string_bytes a) (string_bytes b)) es k v → string_bytes k ≡ text
+    → entry_texts after ≡ insert_entry bytes_eq (entry_texts es) text v.now
+entry_put es after k v text put is = ap entry_texts put ∙ insert_texts es k v ∙ ap (λ (t : List ℕ). insert_entry bytes_eq (entry_texts es) t v.now) is
+
 -- one more pair
-pub merged_more : {S : Type 0} (es : List (String S × Bor (List ℕ))) (k : String S) (pairs : List (Bor (List ℕ) × Bor (List ℕ))) (i : ℕ) (d : Bor (List ℕ) × Bor (List ℕ)) → i < length pairs → entry_texts es ≡ merged (pair_texts (take i pairs)) → string_bytes k ≡ str_to_ascii_lowercase (get_or pairs i d).0.now
-    → entry_texts (insert_entry (λ a b. bytes_eq (string_bytes a) (string_bytes b)) es k (get_or pairs i d).1) ≡ merged (pair_texts (take (i + 1) pairs))
-merged_more es k pairs i d lt so_far lowered =
+pub merged_more : (before after : List (List ℕ × List ℕ)) (pairs : List (Bor (List ℕ) × Bor (List ℕ))) (i : ℕ) (d : Bor (List ℕ) × Bor (List ℕ)) → i < length pairs → before ≡ merged (pair_texts (take i pairs)) → after ≡ insert_entry bytes_eq before (str_to_ascii_lowercase (get_or pairs i d).0.now) (get_or pairs i d).1.now
+    → after ≡ merged (pair_texts (take (i + 1) pairs))
+merged_more before after pairs i d lt so_far put =
     let pair = get_or pairs i d in
-    insert_texts es k pair.1
-    ∙ ap (λ (t : List (List ℕ × List ℕ)). insert_entry bytes_eq t (string_bytes k) pair.1.now) so_far
-    ∙ ap (λ (t : List ℕ). insert_entry bytes_eq (merged (pair_texts (take i pairs))) t pair.1.now) lowered
+    put
+    ∙ ap (λ (t : List (List ℕ × List ℕ)). insert_entry bytes_eq t (str_to_ascii_lowercase pair.0.now) pair.1.now) so_far
     ∙ sym (merged_push (pair_texts (take i pairs)) (pair.0.now, pair.1.now))
     ∙ ap merged (sym (map-append (λ p. (p.0.now, p.1.now)) (take i pairs) (pair ∷ [])))
     ∙ ap (λ ps. merged (pair_texts ps)) (sym (take_more pairs i d lt))

@@ -17,6 +17,7 @@ pub mod Narrowing
 pub mod Pairs
 pub mod PairsReading
 pub mod ParamReading
+pub mod ParamText
 pub mod PlainRow
 pub mod Promises
 pub mod RedDistances

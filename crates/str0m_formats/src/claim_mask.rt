@@ -1,6 +1,7 @@
 //! A table of claimed payload types in one number.
-ghost use Rattle.std.specs.Prelude.{◌≡◌, ◌<◌, ◌^◌, ℕ};
+ghost use Rattle.std.specs.Prelude.{◌≡◌, ◌<◌, ◌==◌, ◌||◌, ◌&&◌, ◌^◌, ℕ, not, nat_le};
 ghost use Rattle.str0m_formats.specs.ClaimMask.{bit_set, least_bit};
+ghost use Rattle.str0m_formats.specs.TypeSets.{free};
 
 use crate::claimed::Claimed;
 use std::marker::Model;
@@ -50,6 +51,37 @@ impl ClaimMask {
     {
         self.0
     }
+
+    /// Whether the type is claimed; none above 127 is.
+    fn has(&self, pt: Pt) -> bool
+        ensures { result ≡ bit_set self.now pt }
+    {
+        let bits = self.bits();
+        pt.value() < 128 && bits >> pt.value() & 1 == 1
+    }
+
+    /// Claims a type; false, and the mask is as it was, where it is claimed or above 127.
+    fn claim(&mut self, pt: Pt) -> bool
+        ensures answer { result ≡ nat_le pt 127 && not (bit_set self.old pt) }
+        ensures claimed { (t : ℕ) → bit_set self.new t ≡ bit_set self.old t || (result && pt == t) }
+    {
+        if pt.value() > 127 || self.has(pt) {
+            return false;
+        }
+        *self = ClaimMask(self.bits() | 1 << pt.value());
+        true
+    }
+
+    /// The first type that neither mask has, in the order in which types are given.
+    fn first_free(&self, unlocked: &ClaimMask) -> Option<Pt>
+        ensures { result ≡ free (λ t. bit_set self.now t || bit_set unlocked.now t) }
+    {
+        let free = !(self.bits() | unlocked.bits());
+        least_type(free & FROM_96_TO_127)
+            .or(least_type(free & FROM_80_TO_95))
+            .or(least_type(free & FROM_77_TO_78))
+            .or(least_type(free & FROM_35_TO_71))
+    }
 }
 
 impl Claimed for ClaimMask {
@@ -60,23 +92,14 @@ impl Claimed for ClaimMask {
     }
 
     fn claim_once(&mut self, pt: Pt) -> bool {
-        if pt.value() > 127 || self.is_claimed(pt) {
-            return false;
-        }
-        *self = ClaimMask(self.bits() | 1 << pt.value());
-        true
+        self.claim(pt)
     }
 
     fn is_claimed(&self, pt: Pt) -> bool {
-        let bits = self.bits();
-        pt.value() < 128 && bits >> pt.value() & 1 == 1
+        self.has(pt)
     }
 
     fn find_unclaimed(&self, unlocked: &Self) -> Option<Pt> {
-        let free = !(self.bits() | unlocked.bits());
-        least_type(free & FROM_96_TO_127)
-            .or(least_type(free & FROM_80_TO_95))
-            .or(least_type(free & FROM_77_TO_78))
-            .or(least_type(free & FROM_35_TO_71))
+        self.first_free(unlocked)
     }
 }

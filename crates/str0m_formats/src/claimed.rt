@@ -50,6 +50,20 @@ fn first_in(claimed: &[bool; 128], unlocked: &[bool; 128], first: u8, last: u8) 
     None
 }
 
+/// The first type that is in neither table, in the order in which types are given.
+fn first_free(claimed: &[bool; 128], unlocked: &[bool; 128]) -> Option<Pt>
+    ensures { result
+        ≡ free (λ t. slice_index_or claimed.now t false || slice_index_or unlocked.now t false) }
+{
+    for (first, last) in PREFERRED_RANGES {
+        let found = first_in(claimed, unlocked, first, last);
+        if found.is_some() {
+            return found;
+        }
+    }
+    None
+}
+
 /// A table with a place for each type: true where the type is claimed.
 impl Claimed for [bool; 128] {
     ghost holds = { λ table t. slice_index_or table t false };
@@ -73,12 +87,6 @@ impl Claimed for [bool; 128] {
     }
 
     fn find_unclaimed(&self, unlocked: &Self) -> Option<Pt> {
-        for (first, last) in PREFERRED_RANGES {
-            let found = first_in(self, unlocked, first, last);
-            if found.is_some() {
-                return found;
-            }
-        }
-        None
+        first_free(self, unlocked)
     }
 }

@@ -109,6 +109,12 @@ pub(crate) fn plain_row(codec: Codec, pt: u8, resend: u8) -> PayloadParams
     picture_row(codec, pt, resend, FormatParams::default())
 }
 
+pub(crate) fn av1_row() -> PayloadParams
+    ensures { result ∷ [] ≡ default_rows Codec.Av1 false }
+{
+    plain_row(Codec::Av1, 45, 46)
+}
+
 /// A row of VP9 with this profile (RFC 9628, section 6).
 pub(crate) fn vp9_row(pt: u8, resend: u8, profile: u32) -> PayloadParams
     ensures { result ≡ picture_row Codec.Vp9 pt resend (record empty { profile_id = Some profile }) }

@@ -9,7 +9,7 @@ ghost use Rattle.str0m_formats.specs.Scores.{same_codec};
 use crate::codec::Codec;
 use crate::codec_config::CodecConfig;
 use crate::default_row::{
-    amr_wb_row, comfort_noise_row, default_h265_row, default_h266_row, g711_row, g722_row,
+    amr_wb_row, av1_row, comfort_noise_row, default_h265_row, default_h266_row, g711_row, g722_row,
     h264_rows, opus_row, plain_row, vp9_row,
 };
 use crate::payload_params::PayloadParams;
@@ -73,7 +73,7 @@ impl CodecConfig {
             Codec::H265 => self.put(codec, &[default_h265_row()]),
             Codec::H266 => self.put(codec, &[default_h266_row()]),
             Codec::Vp9 => self.put(codec, &[vp9_row(98, 99, 0), vp9_row(100, 101, 2)]),
-            Codec::Av1 => self.put(codec, &[plain_row(codec, 45, 46)]),
+            Codec::Av1 => self.put(codec, &[av1_row()]),
             Codec::Tele | Codec::Rtx | Codec::Red | Codec::Null | Codec::Unknown => {
                 self.put(codec, &[])
             }

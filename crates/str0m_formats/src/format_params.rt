@@ -162,38 +162,32 @@ impl FormatParams {
         ensures { result ≡ param_at field self }
     {
         match field {
-            Field::MinPTime => self.min_p_time.map(|n| FormatParam::MinPTime(n)),
-            Field::Stereo => self.stereo.map(|b| FormatParam::Stereo(b)),
-            Field::SpropStereo => self.sprop_stereo.map(|b| FormatParam::SpropStereo(b)),
-            Field::UseInbandFec => self.use_inband_fec.map(|b| FormatParam::UseInbandFec(b)),
-            Field::UseDtx => self.use_dtx.map(|b| FormatParam::UseDtx(b)),
-            Field::LevelAsymmetryAllowed => self
-                .level_asymmetry_allowed
-                .map(|b| FormatParam::LevelAsymmetryAllowed(b)),
-            Field::PacketizationMode => self
-                .packetization_mode
-                .map(|n| FormatParam::PacketizationMode(n)),
-            Field::ProfileLevelId => self
-                .profile_level_id
-                .map(|n| FormatParam::ProfileLevelId(n)),
-            Field::ProfileId => self.profile_id.map(|n| FormatParam::ProfileId(n)),
-            Field::Profile => self.profile.map(|n| FormatParam::Profile(n)),
-            Field::LevelIdx => self.level_idx.map(|n| FormatParam::LevelIdx(n)),
-            Field::Tier => self.tier.map(|n| FormatParam::Tier(n)),
-            Field::H265ProfileTierLevel => self
-                .h265_profile_tier_level
-                .map(|t| FormatParam::H265ProfileTierLevel(t)),
-            Field::H266ProfileTierLevel => self
-                .h266_profile_tier_level
-                .map(|t| FormatParam::H266ProfileTierLevel(t)),
-            Field::SpropMaxDonDiff => self
-                .sprop_max_don_diff
-                .map(|n| FormatParam::SpropMaxDonDiff(n)),
-            Field::TelephoneEvents => self
-                .telephone_event_max
-                .map(|n| FormatParam::TelephoneEvents(n)),
-            Field::OctetAlign => self.octet_align.map(|b| FormatParam::OctetAlign(b)),
-            Field::ModeSet => self.mode_set.map(|n| FormatParam::ModeSet(n)),
+            Field::MinPTime => Some(FormatParam::MinPTime(self.min_p_time?)),
+            Field::Stereo => Some(FormatParam::Stereo(self.stereo?)),
+            Field::SpropStereo => Some(FormatParam::SpropStereo(self.sprop_stereo?)),
+            Field::UseInbandFec => Some(FormatParam::UseInbandFec(self.use_inband_fec?)),
+            Field::UseDtx => Some(FormatParam::UseDtx(self.use_dtx?)),
+            Field::LevelAsymmetryAllowed => Some(FormatParam::LevelAsymmetryAllowed(
+                self.level_asymmetry_allowed?,
+            )),
+            Field::PacketizationMode => Some(FormatParam::PacketizationMode(
+                self.packetization_mode?,
+            )),
+            Field::ProfileLevelId => Some(FormatParam::ProfileLevelId(self.profile_level_id?)),
+            Field::ProfileId => Some(FormatParam::ProfileId(self.profile_id?)),
+            Field::Profile => Some(FormatParam::Profile(self.profile?)),
+            Field::LevelIdx => Some(FormatParam::LevelIdx(self.level_idx?)),
+            Field::Tier => Some(FormatParam::Tier(self.tier?)),
+            Field::H265ProfileTierLevel => Some(FormatParam::H265ProfileTierLevel(
+                self.h265_profile_tier_level?,
+            )),
+            Field::H266ProfileTierLevel => Some(FormatParam::H266ProfileTierLevel(
+                self.h266_profile_tier_level?,
+            )),
+            Field::SpropMaxDonDiff => Some(FormatParam::SpropMaxDonDiff(self.sprop_max_don_diff?)),
+            Field::TelephoneEvents => Some(FormatParam::TelephoneEvents(self.telephone_event_max?)),
+            Field::OctetAlign => Some(FormatParam::OctetAlign(self.octet_align?)),
+            Field::ModeSet => Some(FormatParam::ModeSet(self.mode_set?)),
         }
     }
 

@@ -1,8 +1,9 @@
 //! Pairs of keys and values that are read together.
-ghost use Rattle.std.specs.Prelude.{◌≡◌, IfOk, map};
+ghost use Rattle.std.specs.Prelude.{◌≡◌, IfOk, OnOk, map};
 ghost use Rattle.std.specs.List.{list_any};
 ghost use Rattle.std.specs.String.{string_bytes};
-ghost use Rattle.std.specs.Str.{str_to_ascii_lowercase};
+ghost use Rattle.std.specs.Str.{bytes_eq, str_to_ascii_lowercase};
+ghost use Rattle.indexmap.specs.IndexMap.{insert_entry};
 ghost use Rattle.str0m_formats.specs.FormatParam.{pair_texts};
 ghost use Rattle.str0m_formats.specs.ParamReading.{param_of};
 ghost use Rattle.str0m_formats.specs.Pairs.{is_mark, has_mark, merged, value_of, is_part};
@@ -42,6 +43,21 @@ fn lower(alloc: Global, text: &str) -> Result<String, AllocError>
     Ok(lowered)
 }
 
+/// Puts a value under the key in lower case: in the place where that stands already, else last.
+fn put<'a>(
+    alloc: Global,
+    merged: &mut IndexMap<String, &'a str>,
+    key: &str,
+    value: &'a str,
+) -> Result<(), AllocError>
+    ensures { OnOk result (entry_texts merged.new.entries
+        ≡ insert_entry bytes_eq (entry_texts merged.old.entries) (str_to_ascii_lowercase key.now) value.now) }
+{
+    let key = lower(alloc, key)?;
+    merged.insert(key, value)?;
+    Ok(())
+}
+
 /// The pairs with each key once, in lower case, where it first stands, with its last value.
 fn merge<'a>(
     alloc: Global,
@@ -51,8 +67,7 @@ fn merge<'a>(
 {
     let mut merged: IndexMap<String, &str> = IndexMap::new(alloc);
     for (key, value) in pairs {
-        let key = lower(alloc, key)?;
-        merged.insert(key, *value)?;
+        put(alloc, &mut merged, key, *value)?;
     }
     Ok(merged)
 }

@@ -1,14 +1,16 @@
 //! How parameters of formats print.
-ghost use Rattle.std.specs.Prelude.{◌≡◌, ◌++◌, Some};
+ghost use Rattle.std.specs.Prelude.{◌≡◌, ◌++◌, Some, codes};
 ghost use Rattle.str0m_values.specs.H265 as h265;
 ghost use Rattle.str0m_values.specs.H266 as h266;
 ghost use Rattle.std.specs.Fmt.{decimal};
 ghost use Rattle.str0m_formats.specs.FormatParam.{flag_text, six_digits, mode_list, triple_text, param_text};
 ghost use Rattle.str0m_formats.specs.FormatParam.{comma_if, entry, entry_text};
+ghost use Rattle.str0m_formats.specs.ParamText.{shown, keyed_text};
 
+use crate::format_key::FormatKey;
 use crate::format_param::FormatParam;
 use std::fmt;
-use str0m_values::{H265ProfileTierLevel, H266ProfileTierLevel};
+use str0m_values::{H265ProfileTierLevel, H266ProfileTierLevel, Pt};
 
 /// A flag, which prints as a digit.
 #[derive(Clone, Copy)]
@@ -130,6 +132,58 @@ impl fmt::Display for ModeList {
     }
 }
 
+/// What stands behind a key, as it prints.
+#[derive(Clone, Copy)]
+enum Value {
+    Flag(bool),
+    Number(u32),
+    SixDigits(u32),
+    Modes(u16),
+}
+
+impl fmt::Display for Value {
+    ghost output = { λ value. Some (shown value) };
+
+    fn fmt<W: fmt::Write>(&self, f: &mut fmt::Formatter<W>) -> fmt::Result {
+        match *self {
+            Value::Flag(b) => write!(f, "{}", Flag(b)),
+            Value::Number(n) => write!(f, "{n}"),
+            Value::SixDigits(n) => write!(f, "{}", SixDigits(n)),
+            Value::Modes(mask) => write!(f, "{}", ModeList(mask)),
+        }
+    }
+}
+
+/// The key and the value of a parameter; none where it has no key.
+fn entry(param: FormatParam) -> Option<(FormatKey, Value)>
+    ensures { keyed_text result ≡ entry_text (entry param) }
+{
+    let (key, value) = match param {
+        FormatParam::MinPTime(n) => (FormatKey::MinPTime, Value::Number(u32::from(n))),
+        FormatParam::Stereo(b) => (FormatKey::Stereo, Value::Flag(b)),
+        FormatParam::SpropStereo(b) => (FormatKey::SpropStereo, Value::Flag(b)),
+        FormatParam::UseInbandFec(b) => (FormatKey::UseInbandFec, Value::Flag(b)),
+        FormatParam::UseDtx(b) => (FormatKey::UseDtx, Value::Flag(b)),
+        FormatParam::LevelAsymmetryAllowed(b) => (FormatKey::LevelAsymmetryAllowed, Value::Flag(b)),
+        FormatParam::PacketizationMode(n) => {
+            (FormatKey::PacketizationMode, Value::Number(u32::from(n)))
+        }
+        FormatParam::ProfileLevelId(n) => (FormatKey::ProfileLevelId, Value::SixDigits(n)),
+        FormatParam::ProfileId(n) => (FormatKey::ProfileId, Value::Number(n)),
+        FormatParam::Profile(n) => (FormatKey::Profile, Value::Number(u32::from(n))),
+        FormatParam::LevelIdx(n) => (FormatKey::LevelIdx, Value::Number(u32::from(n))),
+        FormatParam::Tier(n) => (FormatKey::Tier, Value::Number(u32::from(n))),
+        FormatParam::SpropMaxDonDiff(n) => {
+            (FormatKey::SpropMaxDonDiff, Value::Number(u32::from(n)))
+        }
+        FormatParam::OctetAlign(b) => (FormatKey::OctetAlign, Value::Flag(b)),
+        FormatParam::ModeSet(mask) => (FormatKey::ModeSet, Value::Modes(mask)),
+        FormatParam::Apt(pt) => (FormatKey::Apt, Value::Number(u32::from(pt.value()))),
+        _ => return None,
+    };
+    Some((key, value))
+}
+
 /// What a parameter with a key prints: its key and its value; nothing of any other.
 #[derive(Clone, Copy)]
 struct Keyed(FormatParam);
@@ -138,29 +192,36 @@ impl fmt::Display for Keyed {
     ghost output = { λ param. Some (entry_text (entry param.0)) };
 
     fn fmt<W: fmt::Write>(&self, f: &mut fmt::Formatter<W>) -> fmt::Result {
-        match self.0 {
-            FormatParam::MinPTime(n) => write!(f, "minptime={n}"),
-            FormatParam::Stereo(b) => write!(f, "stereo={}", Flag(b)),
-            FormatParam::SpropStereo(b) => write!(f, "sprop-stereo={}", Flag(b)),
-            FormatParam::UseInbandFec(b) => write!(f, "useinbandfec={}", Flag(b)),
-            FormatParam::UseDtx(b) => write!(f, "usedtx={}", Flag(b)),
-            FormatParam::LevelAsymmetryAllowed(b) => write!(
-                f,
-                "level-asymmetry-allowed={}",
-                Flag(b)
-            ),
-            FormatParam::PacketizationMode(n) => write!(f, "packetization-mode={n}"),
-            FormatParam::ProfileLevelId(n) => write!(f, "profile-level-id={}", SixDigits(n)),
-            FormatParam::ProfileId(n) => write!(f, "profile-id={n}"),
-            FormatParam::Profile(n) => write!(f, "profile={n}"),
-            FormatParam::LevelIdx(n) => write!(f, "level-idx={n}"),
-            FormatParam::Tier(n) => write!(f, "tier={n}"),
-            FormatParam::SpropMaxDonDiff(n) => write!(f, "sprop-max-don-diff={n}"),
-            FormatParam::OctetAlign(b) => write!(f, "octet-align={}", Flag(b)),
-            FormatParam::ModeSet(mask) => write!(f, "mode-set={}", ModeList(mask)),
-            FormatParam::Apt(pt) => write!(f, "apt={pt}"),
-            _ => Ok(()),
+        match entry(self.0) {
+            Some((key, value)) => write!(f, "{}={value}", key.text()),
+            None => Ok(()),
         }
+    }
+}
+
+/// A range from 0 on.
+#[derive(Clone, Copy)]
+struct Range(u8);
+
+impl fmt::Display for Range {
+    ghost output = { λ range. Some (codes "0-" ++ decimal range.0) };
+
+    fn fmt<W: fmt::Write>(&self, f: &mut fmt::Formatter<W>) -> fmt::Result {
+        let last = self.0;
+        write!(f, "0-{last}")
+    }
+}
+
+/// A payload type as a list, in which it stands twice (RFC 2198, section 5).
+#[derive(Clone, Copy)]
+struct TypeList(Pt);
+
+impl fmt::Display for TypeList {
+    ghost output = { λ list. Some (decimal list.0 ++ codes "/" ++ decimal list.0) };
+
+    fn fmt<W: fmt::Write>(&self, f: &mut fmt::Formatter<W>) -> fmt::Result {
+        let pt = self.0;
+        write!(f, "{pt}/{pt}")
     }
 }
 
@@ -171,8 +232,12 @@ impl fmt::Display for FormatParam {
         match *self {
             FormatParam::H265ProfileTierLevel(triple) => write!(f, "{}", Triple::of_h265(triple)),
             FormatParam::H266ProfileTierLevel(triple) => write!(f, "{}", Triple::of_h266(triple)),
-            FormatParam::TelephoneEvents(n) | FormatParam::BareRange(n) => write!(f, "0-{n}"),
-            FormatParam::BarePtList(pt) | FormatParam::Red(pt) => write!(f, "{pt}/{pt}"),
+            FormatParam::TelephoneEvents(n) | FormatParam::BareRange(n) => write!(
+                f,
+                "{}",
+                Range(n)
+            ),
+            FormatParam::BarePtList(pt) | FormatParam::Red(pt) => write!(f, "{}", TypeList(pt)),
             param => write!(f, "{}", Keyed(param)),
         }
     }

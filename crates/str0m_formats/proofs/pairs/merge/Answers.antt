@@ -1,4 +1,4 @@
-use Rattle.std.proofs.Common.{ap, ◌∙◌}
+use Rattle.std.proofs.Common.{ap}
 use Rattle.str0m_formats.specs.Pairs.{merged}
 use Rattle.str0m_formats.specs.PairsReading.{entry_texts}
 use Rattle.str0m_formats.proofs.PairsLaws.{merged_more}
@@ -9,4 +9,4 @@ unfolding merged
 loop-key-init c = ap entry_texts c.new-merged.ensures.empty
 
 pub loop-key-preserved : goal.loop-key-preserved
-loop-key-preserved c = ap entry_texts c.in_ok-insert.ensures.entries ∙ merged_more c.loop-key.merged.entries c.in_ok-key.key c.args.pairs.now c.loop-key.key-index _ c.loop-key-test.true c.loop-key.invariant c.in_ok-key.ensures
+loop-key-preserved c = merged_more (entry_texts c.loop-key.merged.entries) _ c.args.pairs.now c.loop-key.key-index _ c.loop-key-test.true c.loop-key.invariant c.in_ok-put.ensures

@@ -2,7 +2,7 @@ use Rattle.std.proofs.Common.{◌*◌, ◌^◌, ◌%◌, bit_or, ap, ◌∙◌, 
 use Rattle.std.proofs.lemmas.Nat.{or_lt}
 use Rattle.str0m_formats.specs.ClaimMask.{bit_set}
 use Rattle.str0m_formats.proofs.MaskBits.{set_bit}
-use Rattle.str0m_formats.proofs.claim_mask.ClaimMaskClaimed.claim_once.Goals as goal
+use Rattle.str0m_formats.proofs.claim_mask.ClaimMask.claim.Goals as goal
 
 pub invariant_of-self : goal.invariant_of-self
 invariant_of-self c = or_lt 128 c.bits.result _ c.bits.type_inv (omega arith)

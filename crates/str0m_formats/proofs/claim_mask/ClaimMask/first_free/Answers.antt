@@ -2,7 +2,7 @@ use Rattle.std.proofs.Common.{◌≡◌, ◌||◌, refl, ap, ◌∙◌}
 use Rattle.str0m_formats.specs.TypeSets.{free}
 use Rattle.str0m_formats.specs.ClaimMask.{bit_set}
 use Rattle.str0m_formats.proofs.MaskBits.{free-from_masks}
-use Rattle.str0m_formats.proofs.claim_mask.ClaimMaskClaimed.find_unclaimed.Goals as goal
+use Rattle.str0m_formats.proofs.claim_mask.ClaimMask.first_free.Goals as goal
 
 pub returns : goal.returns
 returns c =

@@ -2,7 +2,7 @@ use Rattle.std.proofs.Common.{sym, ap, ◌∙◌, arith}
 use Rattle.std.proofs.lemmas.Bool.{le-ltb}
 use Rattle.str0m_formats.specs.ClaimMask.{bit_set}
 use Rattle.str0m_formats.proofs.MaskBits.{no_bit}
-use Rattle.str0m_formats.proofs.claim_mask.ClaimMaskClaimed.is_claimed.Goals as goal
+use Rattle.str0m_formats.proofs.claim_mask.ClaimMask.has.Goals as goal
 
 pub returns-else-value-lt128 : goal.returns-else-value-lt128
 returns-else-value-lt128 c =
