@@ -28,24 +28,35 @@ session_words session.EndOfCandidates = (codes "end-of-candidates", [])
 session_words (session.Unused text) = ([], text)
 session_words _ = ([], [])
 
+-- the word of those that print no more than a word
+abbrev pub media_word : MediaAttribute → List ℕ
+media_word media.RecvOnly = codes "recvonly"
+media_word media.SendRecv = codes "sendrecv"
+media_word media.SendOnly = codes "sendonly"
+media_word media.Inactive = codes "inactive"
+media_word media.RtcpMux = codes "rtcp-mux"
+media_word media.RtcpMuxOnly = codes "rtcp-mux-only"
+media_word media.RtcpRsize = codes "rtcp-rsize"
+media_word media.EndOfCandidates = codes "end-of-candidates"
+media_word _ = []
+
+-- the label and the text of those that have a text behind their label
 abbrev pub media_words : MediaAttribute → List ℕ × List ℕ
 media_words (media.Rtcp text) = (codes "rtcp:", text)
 media_words (media.IceUfrag text) = (codes "ice-ufrag:", text)
 media_words (media.IcePwd text) = (codes "ice-pwd:", text)
 media_words (media.IceOptions text) = (codes "ice-options:", text)
 media_words (media.SctpInit text) = (codes "sctp-init:", text)
-media_words media.RecvOnly = (codes "recvonly", [])
-media_words media.SendRecv = (codes "sendrecv", [])
-media_words media.SendOnly = (codes "sendonly", [])
-media_words media.Inactive = (codes "inactive", [])
-media_words media.RtcpMux = (codes "rtcp-mux", [])
-media_words media.RtcpMuxOnly = (codes "rtcp-mux-only", [])
-media_words media.RtcpRsize = (codes "rtcp-rsize", [])
-media_words media.EndOfCandidates = (codes "end-of-candidates", [])
 media_words (media.Unused text) = ([], text)
 media_words _ = ([], [])
 
 -- those that print one value that isn't a text
+abbrev pub session_value_text : SessionAttribute → List ℕ
+session_value_text (session.Fingerprint hash) = attribute_line (codes "fingerprint:" ++ fingerprint_text hash)
+session_value_text (session.Setup setup) = attribute_line (codes "setup:" ++ setup_text setup)
+session_value_text (session.Candidate candidate) = attribute_line (candidate_text candidate)
+session_value_text _ = []
+
 abbrev pub value_text : MediaAttribute → List ℕ
 value_text (media.Fingerprint hash) = attribute_line (codes "fingerprint:" ++ fingerprint_text hash)
 value_text (media.Setup setup) = attribute_line (codes "setup:" ++ setup_text setup)

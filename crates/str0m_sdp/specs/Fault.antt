@@ -11,6 +11,7 @@ use Rattle.str0m_sdp.specs.MediaType.{media_type_text}
 use Rattle.str0m_sdp.specs.Proto.{proto_text}
 use Rattle.str0m_sdp.specs.declared.attribute.MediaAttribute.{MediaAttribute}
 use Rattle.str0m_sdp.specs.declared.attribute.MediaAttribute.TheVariants.{Fmtp}
+use Rattle.str0m_sdp.specs.declared.fault.Clash.{Clash}
 use Rattle.str0m_sdp.specs.declared.fault.Fault.{Fault}
 use Rattle.str0m_sdp.specs.declared.fault.Fault.TheVariants.{MissingMid, SecondMid, SecondSetup, Directions}
 use Rattle.str0m_sdp.specs.declared.fault.Fault.TheVariants.{MissingType, MissingMap, SecondMap, Apts}
@@ -100,6 +101,11 @@ for_mid mid = codes " for mid: " ++ mid
 abbrev pub nameless : MediaLine → List ℕ
 nameless m = media_type_text m.typ ++ (codes " " ++ proto_text m.proto)
 
+abbrev pub clash_text : Clash → List ℕ
+clash_text c =
+    codes "PT " ++ (decimal c.pt ++ (codes " has conflicting apt values " ++ (decimal c.first
+    ++ (codes " and " ++ (decimal c.other ++ for_mid c.mid)))))
+
 abbrev pub fault_text : MediaLine → Fault → List ℕ
 fault_text m MissingMid = codes "Media is missing a=mid: " ++ nameless m
 fault_text m SecondMid = codes "Media has more than one a=mid: " ++ nameless m
@@ -109,9 +115,7 @@ fault_text m (Directions mid) =
 fault_text m (MissingType mid) = codes "Expected at least one PT" ++ for_mid mid
 fault_text m (MissingMap mid pt) = codes "Missing a=rtp_map:" ++ (decimal pt ++ for_mid mid)
 fault_text m (SecondMap mid pt) = codes "More than one a=rtp_map:" ++ (decimal pt ++ for_mid mid)
-fault_text m (Apts c) =
-    codes "PT " ++ (decimal c.pt ++ (codes " has conflicting apt values " ++ (decimal c.first
-    ++ (codes " and " ++ (decimal c.other ++ for_mid c.mid)))))
+fault_text m (Apts c) = clash_text c
 
 -- the message of a section that isn't consistent
 abbrev pub section_message : MediaLine → Option (List ℕ)

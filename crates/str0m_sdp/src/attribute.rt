@@ -2,10 +2,12 @@
 ghost use Rattle.std.specs.Prelude.{◌≡◌, IfOk, Some, refl};
 ghost use Rattle.str0m_sdp.specs.Attribute.{session_attribute_text, media_attribute_text, direction_attribute};
 
-use crate::attribute_parts::{LongLine, PairLine, ValueLine, media_words, session_words};
+use crate::attribute_parts::{
+    LongLine, PairLine, SessionValueLine, ValueLine, media_word, media_words, session_words,
+};
 use crate::group::{GroupLine, MsidSemanticLine};
 use crate::msid::Msid;
-use crate::printed::{Printed, TextLine};
+use crate::printed::{Labelled, Printed};
 use crate::rtp_map::RtpMap;
 use crate::setup::Setup;
 use crate::simulcast::{RestrictionId, Simulcast};
@@ -212,12 +214,12 @@ impl fmt::Display for SessionAttribute {
                 };
                 line.fmt(f)
             }
-            SessionAttribute::Fingerprint(hash) => write!(f, "a=fingerprint:{hash}\r\n"),
-            SessionAttribute::Setup(setup) => write!(f, "a=setup:{setup}\r\n"),
-            SessionAttribute::Candidate(candidate) => write!(f, "a={candidate}\r\n"),
+            SessionAttribute::Fingerprint(_)
+            | SessionAttribute::Setup(_)
+            | SessionAttribute::Candidate(_) => SessionValueLine(self).fmt(f),
             other => {
                 let (label, text) = session_words(other);
-                TextLine { label, text }.fmt(f)
+                Labelled(label, &text).fmt(f)
             }
         }
     }
@@ -251,9 +253,18 @@ impl fmt::Display for MediaAttribute {
             | MediaAttribute::Rid { .. }
             | MediaAttribute::Simulcast(_)
             | MediaAttribute::SsrcGroup { .. } => LongLine(self).fmt(f),
+            MediaAttribute::Rtcp(_)
+            | MediaAttribute::IceUfrag(_)
+            | MediaAttribute::IcePwd(_)
+            | MediaAttribute::IceOptions(_)
+            | MediaAttribute::SctpInit(_)
+            | MediaAttribute::Unused(_) => {
+                let (label, text) = media_words(self);
+                Labelled(label, &text).fmt(f)
+            }
             other => {
-                let (label, text) = media_words(other);
-                TextLine { label, text }.fmt(f)
+                let word = media_word(other);
+                Labelled("", &word).fmt(f)
             }
         }
     }

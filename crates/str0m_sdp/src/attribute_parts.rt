@@ -1,15 +1,18 @@
 //! The parts in which attributes print: words and texts, values, pairs and long lines. Each is proved by itself.
-ghost use Rattle.std.specs.Prelude.{◌≡◌, Some};
-ghost use Rattle.str0m_sdp.specs.AttributeParts.{session_words, media_words, value_text, pair_text, long_text};
+ghost use Rattle.std.specs.Prelude.{◌≡◌, ◌++◌, Some, codes, refl};
+ghost use Rattle.str0m_values.specs.Candidate.{candidate_text};
+ghost use Rattle.str0m_sdp.specs.Lines.{attribute_line};
+ghost use Rattle.str0m_sdp.specs.AttributeParts.{session_words, session_value_text, media_word, media_words, value_text, pair_text, long_text};
 
 use crate::attribute::{MediaAttribute, SessionAttribute};
 use crate::ext_map::ExtMapLine;
 use crate::fmtp::FmtpLine;
-use crate::printed::TypeHead;
+use crate::printed::{Labelled, Pair, Printed};
 use crate::rid::RidLine;
 use crate::simulcast::SimulcastLine;
 use crate::ssrc_group::SsrcGroupLine;
 use std::fmt;
+use str0m_values::{Candidate, Text};
 
 /// The label of a line that has a text behind it, or none, and that text; for other lines nothing.
 pub(crate) fn session_words(attribute: &SessionAttribute) -> (&'static str, &str)
@@ -28,7 +31,25 @@ pub(crate) fn session_words(attribute: &SessionAttribute) -> (&'static str, &str
     }
 }
 
-/// The label and the text of a section's line that has no more than these; for other lines nothing.
+/// The word of a section's line that is no more than a word; for other lines nothing.
+pub(crate) fn media_word(attribute: &MediaAttribute) -> &'static str
+    ensures { result.now ≡ media_word attribute.now }
+{
+    match attribute {
+        MediaAttribute::RecvOnly => "recvonly",
+        MediaAttribute::SendRecv => "sendrecv",
+        MediaAttribute::SendOnly => "sendonly",
+        MediaAttribute::Inactive => "inactive",
+        MediaAttribute::RtcpMux => "rtcp-mux",
+        MediaAttribute::RtcpMuxOnly => "rtcp-mux-only",
+        MediaAttribute::RtcpRsize => "rtcp-rsize",
+        MediaAttribute::EndOfCandidates => "end-of-candidates",
+        _ => "",
+    }
+}
+
+/// The label, or none, of a section's line that has a text behind it, and that text; for other lines
+/// nothing.
 pub(crate) fn media_words(attribute: &MediaAttribute) -> (&'static str, &str)
     ensures label { result.0.now ≡ (media_words attribute.now).0 }
     ensures text { result.1.now ≡ (media_words attribute.now).1 }
@@ -39,16 +60,26 @@ pub(crate) fn media_words(attribute: &MediaAttribute) -> (&'static str, &str)
         MediaAttribute::IcePwd(text) => ("ice-pwd:", text.as_str()),
         MediaAttribute::IceOptions(text) => ("ice-options:", text.as_str()),
         MediaAttribute::SctpInit(text) => ("sctp-init:", text.as_str()),
-        MediaAttribute::RecvOnly => ("recvonly", ""),
-        MediaAttribute::SendRecv => ("sendrecv", ""),
-        MediaAttribute::SendOnly => ("sendonly", ""),
-        MediaAttribute::Inactive => ("inactive", ""),
-        MediaAttribute::RtcpMux => ("rtcp-mux", ""),
-        MediaAttribute::RtcpMuxOnly => ("rtcp-mux-only", ""),
-        MediaAttribute::RtcpRsize => ("rtcp-rsize", ""),
-        MediaAttribute::EndOfCandidates => ("end-of-candidates", ""),
         MediaAttribute::Unused(text) => ("", text.as_str()),
         _ => ("", ""),
+    }
+}
+
+/// The line of a session's attribute that prints one value that isn't a text; no other attribute
+/// prints so.
+#[derive(Drop)]
+pub(crate) struct SessionValueLine<'a>(pub(crate) &'a SessionAttribute);
+
+impl<'a> fmt::Display for SessionValueLine<'a> {
+    ghost output = { λ line. Some (session_value_text line.0.now) };
+
+    fn fmt<W: fmt::Write>(&self, f: &mut fmt::Formatter<W>) -> fmt::Result {
+        match self.0 {
+            SessionAttribute::Fingerprint(hash) => Labelled("fingerprint:", hash).fmt(f),
+            SessionAttribute::Setup(setup) => Labelled("setup:", setup).fmt(f),
+            SessionAttribute::Candidate(candidate) => CandidateLine(candidate).fmt(f),
+            _ => Ok(()),
+        }
     }
 }
 
@@ -61,15 +92,28 @@ impl<'a> fmt::Display for ValueLine<'a> {
 
     fn fmt<W: fmt::Write>(&self, f: &mut fmt::Formatter<W>) -> fmt::Result {
         match self.0 {
-            MediaAttribute::Fingerprint(hash) => write!(f, "a=fingerprint:{hash}\r\n"),
-            MediaAttribute::Setup(setup) => write!(f, "a=setup:{setup}\r\n"),
-            MediaAttribute::Mid(mid) => write!(f, "a=mid:{mid}\r\n"),
-            MediaAttribute::SctpPort(port) => write!(f, "a=sctp-port:{port}\r\n"),
-            MediaAttribute::MaxMessageSize(size) => write!(f, "a=max-message-size:{size}\r\n"),
-            MediaAttribute::Msid(msid) => write!(f, "a=msid:{msid}\r\n"),
-            MediaAttribute::Candidate(candidate) => write!(f, "a={candidate}\r\n"),
+            MediaAttribute::Fingerprint(hash) => Labelled("fingerprint:", hash).fmt(f),
+            MediaAttribute::Setup(setup) => Labelled("setup:", setup).fmt(f),
+            MediaAttribute::Mid(mid) => Labelled("mid:", mid).fmt(f),
+            MediaAttribute::SctpPort(port) => Labelled("sctp-port:", port).fmt(f),
+            MediaAttribute::MaxMessageSize(size) => Labelled("max-message-size:", size).fmt(f),
+            MediaAttribute::Msid(msid) => Labelled("msid:", msid).fmt(f),
+            MediaAttribute::Candidate(candidate) => CandidateLine(candidate).fmt(f),
             _ => Ok(()),
         }
+    }
+}
+
+/// The line of a candidate, whose text has its own label.
+#[derive(Drop)]
+struct CandidateLine<'a>(&'a Candidate);
+
+impl<'a> fmt::Display for CandidateLine<'a> {
+    ghost output = { λ line. Some (attribute_line (candidate_text line.0.now)) };
+
+    fn fmt<W: fmt::Write>(&self, f: &mut fmt::Formatter<W>) -> fmt::Result {
+        let candidate = self.0;
+        write!(f, "a={candidate}\r\n")
     }
 }
 
@@ -84,23 +128,43 @@ impl<'a> fmt::Display for PairLine<'a> {
     fn fmt<W: fmt::Write>(&self, f: &mut fmt::Formatter<W>) -> fmt::Result {
         match self.0 {
             MediaAttribute::RtpMap { pt, value } => {
-                let (label, pt) = ("a=rtpmap:", *pt);
-                TypeHead { label, pt }.fmt(f)?;
-                value.fmt(f)?;
-                f.write_str("\r\n")
+                let pair = Pair(pt, value);
+                Labelled("rtpmap:", &pair).fmt(f)
             }
             MediaAttribute::RtcpFb { pt, value } => {
-                let (label, pt) = ("a=rtcp-fb:", *pt);
-                TypeHead { label, pt }.fmt(f)?;
-                value.fmt(f)?;
-                f.write_str("\r\n")
+                let pair = Pair(pt, value);
+                Labelled("rtcp-fb:", &pair).fmt(f)
             }
             MediaAttribute::Ssrc { ssrc, attr, value } => {
-                write!(f, "a=ssrc:{ssrc} {attr}:{value}\r\n")
+                let said = Said { attr, value };
+                let pair = Pair(ssrc, &said);
+                Labelled("ssrc:", &pair).fmt(f)
             }
             _ => Ok(()),
         }
     }
+}
+
+/// What is said of a source: a name and a value behind a colon.
+#[derive(Drop)]
+struct Said<'a> {
+    attr: &'a Text,
+    value: &'a Text,
+}
+
+impl<'a> fmt::Display for Said<'a> {
+    ghost output = { λ said. Some (said.attr.now ++ (codes ":" ++ said.value.now)) };
+
+    fn fmt<W: fmt::Write>(&self, f: &mut fmt::Formatter<W>) -> fmt::Result {
+        let (attr, value) = (self.attr, self.value);
+        write!(f, "{attr}:{value}")
+    }
+}
+
+impl<'a> Printed for Said<'a> {
+    ghost text = { λ said. said.attr.now ++ (codes ":" ++ said.value.now) };
+
+    ghost prints = { λ _. refl };
 }
 
 /// The line of an attribute that prints a list, or nothing; no other attribute prints so.

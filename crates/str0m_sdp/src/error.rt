@@ -27,10 +27,23 @@ impl fmt::Display for SdpError {
     ghost output = { λ error. Some (error_text error) };
 
     fn fmt<W: fmt::Write>(&self, f: &mut fmt::Formatter<W>) -> fmt::Result {
+        let (kind, message) = self.words();
+        write!(f, "{kind}{message}")
+    }
+}
+
+impl SdpError {
+    ghost use Rattle.std.specs.Prelude.{◌++◌};
+    ghost use Rattle.str0m_sdp.specs.Error.{error_text};
+
+    /// What kind of error it is, and the message that it holds.
+    fn words(&self) -> (&'static str, &str)
+        ensures { result.0.now ++ result.1.now ≡ error_text self.now }
+    {
         match self {
-            SdpError::ParseError(message) => write!(f, "SDP parse: {message}"),
-            SdpError::Inconsistent(message) => write!(f, "SDP inconsistent: {message}"),
-            SdpError::Memory => f.write_str("SDP: out of memory"),
+            SdpError::ParseError(message) => ("SDP parse: ", message.as_str()),
+            SdpError::Inconsistent(message) => ("SDP inconsistent: ", message.as_str()),
+            SdpError::Memory => ("SDP: out of memory", ""),
         }
     }
 }

@@ -2,6 +2,7 @@
 ghost use Rattle.std.specs.Prelude.{Some};
 ghost use Rattle.str0m_sdp.specs.ExtMap.{ext_map_text};
 
+use crate::printed::{Labelled, Pair};
 use std::fmt;
 use str0m_values::Extension;
 
@@ -19,10 +20,7 @@ impl<'a> fmt::Display for ExtMapLine<'a> {
         if !self.ext.serialized {
             return Ok(());
         }
-        f.write_str("a=extmap:")?;
-        f.write(self.id)?;
-        f.write_str(" ")?;
-        f.write_str(self.ext.uri.as_str())?;
-        f.write_str("\r\n")
+        let value = Pair(&self.id, &self.ext.uri);
+        Labelled("extmap:", &value).fmt(f)
     }
 }

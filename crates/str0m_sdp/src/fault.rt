@@ -40,10 +40,10 @@ impl<'a> fmt::Display for Message<'a> {
     ghost output = { λ message. Some (fault_text message.section.now message.fault) };
 
     fn fmt<W: fmt::Write>(&self, f: &mut fmt::Formatter<W>) -> fmt::Result {
-        let (typ, proto) = (&self.section.typ, self.section.proto);
+        let section = Nameless(self.section);
         match self.fault {
-            Fault::MissingMid => write!(f, "Media is missing a=mid: {typ} {proto}"),
-            Fault::SecondMid => write!(f, "Media has more than one a=mid: {typ} {proto}"),
+            Fault::MissingMid => write!(f, "Media is missing a=mid: {section}"),
+            Fault::SecondMid => write!(f, "Media has more than one a=mid: {section}"),
             Fault::SecondSetup(mid) => { write!(f, "Expected 0 or 1 a=setup: line for mid: {mid}") }
             Fault::Directions(mid) => write!(
                 f,
@@ -54,15 +54,45 @@ impl<'a> fmt::Display for Message<'a> {
             Fault::SecondMap { mid, pt } => {
                 write!(f, "More than one a=rtp_map:{pt} for mid: {mid}")
             }
-            Fault::Apts(clash) => {
-                let (pt, mid) = (clash.pt, clash.mid);
-                let (first, other) = (clash.first, clash.other);
-                write!(
-                    f,
-                    "PT {pt} has conflicting apt values {first} and {other} for mid: {mid}"
-                )
-            }
+            Fault::Apts(clash) => clash.fmt(f),
         }
+    }
+}
+
+/// A section without a name of its own, by its media type and its protocol.
+#[derive(Drop)]
+struct Nameless<'a>(&'a MediaLine);
+
+impl<'a> fmt::Display for Nameless<'a> {
+    ghost use Rattle.std.specs.Prelude.{Some};
+    ghost use Rattle.str0m_sdp.specs.Fault.{nameless};
+
+    ghost output = { λ section. Some (nameless section.0.now) };
+
+    fn fmt<W: fmt::Write>(&self, f: &mut fmt::Formatter<W>) -> fmt::Result {
+        let (typ, proto) = (&self.0.typ, self.0.proto);
+        write!(f, "{typ} {proto}")
+    }
+}
+
+/// What is said of a clash.
+impl fmt::Display for Clash {
+    ghost use Rattle.std.specs.Prelude.{Some};
+    ghost use Rattle.str0m_sdp.specs.Fault.{clash_text};
+
+    ghost output = { λ clash. Some (clash_text clash) };
+
+    fn fmt<W: fmt::Write>(&self, f: &mut fmt::Formatter<W>) -> fmt::Result {
+        let Clash {
+            mid,
+            pt,
+            first,
+            other,
+        } = *self;
+        write!(
+            f,
+            "PT {pt} has conflicting apt values {first} and {other} for mid: {mid}"
+        )
     }
 }
 
@@ -89,13 +119,29 @@ impl fmt::Display for SessionFault {
                 write!(f, "Mid {mid} is used by more than one m-line")
             }
             SessionFault::MissingGroup => f.write_str("Session attribute a=group missing"),
-            SessionFault::Count { group, sections } => write!(
-                f,
-                "a=group mid count doesn't match m-line count {group} != {sections}"
-            ),
+            SessionFault::Count { group, sections } => {
+                let counts = Unequal(*group, *sections);
+                write!(f, "a=group mid count doesn't match m-line count {counts}")
+            }
             SessionFault::Order { section, group } => {
                 write!(f, "Mid order not matching a=group {section} != {group}")
             }
         }
+    }
+}
+
+/// Two counts that should be equal.
+#[derive(Drop)]
+struct Unequal(usize, usize);
+
+impl fmt::Display for Unequal {
+    ghost use Rattle.std.specs.Prelude.{◌++◌, Some, codes};
+    ghost use Rattle.std.specs.Fmt.{decimal};
+
+    ghost output = { λ counts. Some (decimal counts.0 ++ (codes " != " ++ decimal counts.1)) };
+
+    fn fmt<W: fmt::Write>(&self, f: &mut fmt::Formatter<W>) -> fmt::Result {
+        let (group, sections) = (self.0, self.1);
+        write!(f, "{group} != {sections}")
     }
 }

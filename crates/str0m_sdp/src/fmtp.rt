@@ -1,8 +1,10 @@
 //! The lines of format parameters.
-ghost use Rattle.std.specs.Prelude.{◌≡◌, ◌∷◌, [], Some, MatchOption, filter};
+ghost use Rattle.std.specs.Prelude.{◌≡◌, ◌∷◌, ◌++◌, [], Some, MatchOption, codes, filter, refl};
+ghost use Rattle.std.specs.List.{flat_map, join_by};
+ghost use Rattle.str0m_formats.specs.FormatParam.{param_text};
 ghost use Rattle.str0m_sdp.specs.Fmtp.{is_shown, fmtp_text};
 
-use crate::printed::TypeHead;
+use crate::printed::{Labelled, Pair, Printed};
 use std::fmt;
 use str0m_formats::FormatParam;
 use str0m_values::Pt;
@@ -41,19 +43,51 @@ impl<'a> fmt::Display for FmtpLine<'a> {
     ghost output = { λ line. Some (fmtp_text line.pt line.values.now) };
 
     fn fmt<W: fmt::Write>(&self, f: &mut fmt::Formatter<W>) -> fmt::Result {
-        let pt = self.pt;
         let Some((first, more)) = first_shown(self.values) else {
             return Ok(());
         };
-        let label = "a=fmtp:";
-        TypeHead { label, pt }.fmt(f)?;
-        first.fmt(f)?;
-        for value in more {
+        let shown = Shown { first, more };
+        let value = Pair(&self.pt, &shown);
+        Labelled("fmtp:", &value).fmt(f)
+    }
+}
+
+/// A value, and each shown one of those behind it, parted by `;`.
+#[derive(Drop)]
+struct Shown<'a> {
+    first: FormatParam,
+    more: &'a [FormatParam],
+}
+
+impl<'a> fmt::Display for Shown<'a> {
+    ghost output = { λ shown. Some (join_by param_text (codes ";") (shown.first ∷ filter is_shown shown.more.now)) };
+
+    fn fmt<W: fmt::Write>(&self, f: &mut fmt::Formatter<W>) -> fmt::Result {
+        self.first.fmt(f)?;
+        MoreShown(self.more).fmt(f)
+    }
+}
+
+impl<'a> Printed for Shown<'a> {
+    ghost text = { λ shown. join_by param_text (codes ";") (shown.first ∷ filter is_shown shown.more.now) };
+
+    ghost prints = { λ _. refl };
+}
+
+/// The values that are shown, each behind `;`.
+#[derive(Drop)]
+struct MoreShown<'a>(&'a [FormatParam]);
+
+impl<'a> fmt::Display for MoreShown<'a> {
+    ghost output = { λ more. Some (flat_map (λ value. codes ";" ++ param_text value) (filter is_shown more.0.now)) };
+
+    fn fmt<W: fmt::Write>(&self, f: &mut fmt::Formatter<W>) -> fmt::Result {
+        for value in self.0 {
             if is_shown(*value) {
                 f.write_str(";")?;
                 value.fmt(f)?;
             }
         }
-        f.write_str("\r\n")
+        Ok(())
     }
 }

@@ -1,22 +1,10 @@
 //! The lines of a session that list names.
-ghost use Rattle.std.specs.Prelude.{Some, refl};
+ghost use Rattle.std.specs.Prelude.{Some};
 ghost use Rattle.str0m_sdp.specs.Group.{group_text, msid_semantic_text};
 
-use crate::printed::{Joined, Led, Printed};
+use crate::printed::{Labelled, Pair, behind_spaces, spaced};
 use std::fmt;
 use str0m_values::{Mid, Text};
-
-impl Printed for Mid {
-    ghost text = { λ mid. mid };
-
-    ghost prints = { λ _. refl };
-}
-
-impl Printed for Text {
-    ghost text = { λ text. text };
-
-    ghost prints = { λ _. refl };
-}
 
 /// The `a=group` line, with its end (RFC 5888, section 5).
 #[derive(Drop)]
@@ -29,9 +17,7 @@ impl<'a> fmt::Display for GroupLine<'a> {
     ghost output = { λ line. Some (group_text line.typ.now line.mids.now) };
 
     fn fmt<W: fmt::Write>(&self, f: &mut fmt::Formatter<W>) -> fmt::Result {
-        let typ = self.typ;
-        let items = self.mids;
-        let mids = Led { items, lead: " " };
+        let (typ, mids) = (self.typ, behind_spaces(self.mids));
         write!(f, "a=group:{typ}{mids}\r\n")
     }
 }
@@ -47,12 +33,8 @@ impl<'a> fmt::Display for MsidSemanticLine<'a> {
     ghost output = { λ line. Some (msid_semantic_text line.semantic.now line.stream_ids.now) };
 
     fn fmt<W: fmt::Write>(&self, f: &mut fmt::Formatter<W>) -> fmt::Result {
-        let semantic = self.semantic;
-        let items = self.stream_ids;
-        let ids = Joined {
-            items,
-            separator: " ",
-        };
-        write!(f, "a=msid-semantic: {semantic} {ids}\r\n")
+        let ids = spaced(self.stream_ids);
+        let value = Pair(self.semantic, &ids);
+        Labelled("msid-semantic: ", &value).fmt(f)
     }
 }

@@ -1,12 +1,12 @@
 //! The sections of a session description.
 ghost use Rattle.std.specs.Prelude.{◌≡◌, IfOk, Some, refl};
 ghost use Rattle.std.specs.String.{string_bytes};
-ghost use Rattle.str0m_sdp.specs.MediaLine.{formats_text, m_line, media_line_text};
+ghost use Rattle.str0m_sdp.specs.MediaLine.{formats_text, m_line, media_line_text, port_text, pts_text};
 
 use crate::attribute::MediaAttribute;
 use crate::bandwidth::{Bandwidth, BandwidthLine};
 use crate::media_type::MediaType;
-use crate::printed::{Each, Joined, Printed};
+use crate::printed::{Each, Printed, spaced};
 use crate::proto::Proto;
 use std::alloc::AllocError;
 use std::fmt;
@@ -62,16 +62,30 @@ impl<'a> fmt::Display for Formats<'a> {
         if let MediaType::Application = self.typ {
             return f.write_str("webrtc-datachannel");
         }
-        if self.pts.is_empty() {
+        Types(self.pts).fmt(f)
+    }
+}
+
+/// Payload types with a space between each two, `0` where there is none.
+#[derive(Drop)]
+struct Types<'a>(&'a [Pt]);
+
+impl<'a> fmt::Display for Types<'a> {
+    ghost output = { λ types. Some (pts_text types.0.now) };
+
+    fn fmt<W: fmt::Write>(&self, f: &mut fmt::Formatter<W>) -> fmt::Result {
+        if self.0.is_empty() {
             return f.write_str("0");
         }
-        let items = self.pts;
-        let numbers = Joined {
-            items,
-            separator: " ",
-        };
-        write!(f, "{numbers}")
+        spaced(self.0).fmt(f)
     }
+}
+
+/// The port of a section: `0` where it is disabled, else the discard port, since ICE finds the port.
+fn port(disabled: bool) -> &'static str
+    ensures { result.now ≡ port_text disabled }
+{
+    if disabled { "0" } else { "9" }
 }
 
 /// The m-line of a section, with its end.
@@ -84,7 +98,7 @@ impl<'a> fmt::Display for HeadLine<'a> {
     fn fmt<W: fmt::Write>(&self, f: &mut fmt::Formatter<W>) -> fmt::Result {
         let section = self.0;
         let (typ, proto) = (&section.typ, section.proto);
-        let port = if section.disabled { "0" } else { "9" };
+        let port = port(section.disabled);
         let pts = section.pts.as_slice();
         let formats = Formats { typ, pts };
         write!(f, "m={typ} {port} {proto} {formats}\r\n")

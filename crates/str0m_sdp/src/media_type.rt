@@ -28,6 +28,18 @@ impl MediaType {
         Clone::clone(self)
     }
 
+    /// The type as it stands in m-lines.
+    fn word(&self) -> &str
+        ensures { result.now ≡ media_type_text self.now }
+    {
+        match self {
+            MediaType::Audio => "audio",
+            MediaType::Video => "video",
+            MediaType::Application => "application",
+            MediaType::Unknown(text) => text.as_str(),
+        }
+    }
+
     /// Whether sections of this type carry media: audio or video.
     pub fn is_media(&self) -> bool
         ensures { result ≡ is_media self.now }
@@ -48,11 +60,7 @@ impl fmt::Display for MediaType {
     ghost output = { λ typ. Some (media_type_text typ) };
 
     fn fmt<W: fmt::Write>(&self, f: &mut fmt::Formatter<W>) -> fmt::Result {
-        match self {
-            MediaType::Audio => f.write_str("audio"),
-            MediaType::Video => f.write_str("video"),
-            MediaType::Application => f.write_str("application"),
-            MediaType::Unknown(text) => write!(f, "{text}"),
-        }
+        let word = self.word();
+        f.write_str(word)
     }
 }

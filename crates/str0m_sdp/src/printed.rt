@@ -1,11 +1,12 @@
-//! Lists as text.
+//! Lists, pairs and lines of values as text.
 ghost use Rattle.std.specs.Prelude.{◌≡◌, ◌++◌, List, ℕ, Some, codes, refl};
 ghost use Rattle.std.specs.Fmt.{decimal};
 ghost use Rattle.std.specs.List.{flat_map, join_by};
+ghost use Rattle.str0m_values.specs.Fingerprint.{fingerprint_text};
 ghost use Rattle.str0m_sdp.specs.Lines.{labelled_line};
 
 use std::fmt;
-use str0m_values::Pt;
+use str0m_values::{Fingerprint, Mid, Pt, Text};
 
 /// What prints one text, whatever writes it: `text` says which.
 pub(crate) trait Printed: fmt::Display {
@@ -16,6 +17,48 @@ pub(crate) trait Printed: fmt::Display {
 
 impl Printed for Pt {
     ghost text = { decimal };
+
+    ghost prints = { λ _. refl };
+}
+
+impl Printed for u8 {
+    ghost text = { decimal };
+
+    ghost prints = { λ _. refl };
+}
+
+impl Printed for u16 {
+    ghost text = { decimal };
+
+    ghost prints = { λ _. refl };
+}
+
+impl Printed for u64 {
+    ghost text = { decimal };
+
+    ghost prints = { λ _. refl };
+}
+
+impl<'a> Printed for &'a str {
+    ghost text = { λ text. text.now };
+
+    ghost prints = { λ _. refl };
+}
+
+impl Printed for Text {
+    ghost text = { λ text. text };
+
+    ghost prints = { λ _. refl };
+}
+
+impl Printed for Mid {
+    ghost text = { λ mid. mid };
+
+    ghost prints = { λ _. refl };
+}
+
+impl Printed for Fingerprint {
+    ghost text = { fingerprint_text };
 
     ghost prints = { λ _. refl };
 }
@@ -39,7 +82,15 @@ impl<'a, T: Printed> fmt::Display for Each<'a, T> {
 #[derive(Drop)]
 pub(crate) struct Led<'a, T> {
     pub(crate) items: &'a [T],
-    pub(crate) lead: &'static str,
+    pub(crate) lead: &'a str,
+}
+
+/// Items, each behind a space.
+pub(crate) fn behind_spaces<T>(items: &[T]) -> Led<T>
+    ensures items { result.items.now ≡ items.now }
+    ensures lead { result.lead.now ≡ codes " " }
+{
+    Led { items, lead: " " }
 }
 
 impl<'a, T: Printed> fmt::Display for Led<'a, T> {
@@ -58,57 +109,70 @@ impl<'a, T: Printed> fmt::Display for Led<'a, T> {
 #[derive(Drop)]
 pub(crate) struct Joined<'a, T> {
     pub(crate) items: &'a [T],
-    pub(crate) separator: &'static str,
+    pub(crate) separator: &'a str,
+}
+
+/// Items with a space between each two.
+pub(crate) fn spaced<T>(items: &[T]) -> Joined<T>
+    ensures items { result.items.now ≡ items.now }
+    ensures separator { result.separator.now ≡ codes " " }
+{
+    Joined {
+        items,
+        separator: " ",
+    }
 }
 
 impl<'a, T: Printed> fmt::Display for Joined<'a, T> {
     ghost output = { λ joined. Some (join_by T.text joined.separator.now joined.items.now) };
 
     fn fmt<W: fmt::Write>(&self, f: &mut fmt::Formatter<W>) -> fmt::Result {
-        let separator = self.separator;
-        let Some((first, more)) = self.items.split_first() else {
+        let lead = self.separator;
+        let Some((first, items)) = self.items.split_first() else {
             return Ok(());
         };
         first.fmt(f)?;
-        for item in more {
-            f.write_str(separator)?;
-            item.fmt(f)?;
-        }
-        Ok(())
+        Led { items, lead }.fmt(f)
     }
 }
 
-/// The `a=` line of a label and a text right behind it, with its end.
-#[derive(Drop)]
-pub(crate) struct TextLine<'a> {
-    pub(crate) label: &'static str,
-    pub(crate) text: &'a str,
+impl<'a, T: Printed> Printed for Joined<'a, T> {
+    ghost text = { λ joined. join_by T.text joined.separator.now joined.items.now };
+
+    ghost prints = { λ _. refl };
 }
 
-impl<'a> fmt::Display for TextLine<'a> {
-    ghost output = { λ line. Some (labelled_line line.label.now line.text.now) };
+/// Two values with a space between them.
+#[derive(Drop)]
+pub(crate) struct Pair<'a, A, B>(pub(crate) &'a A, pub(crate) &'a B);
+
+impl<'a, A: Printed, B: Printed> fmt::Display for Pair<'a, A, B> {
+    ghost output = { λ pair. Some (A.text pair.0.now ++ (codes " " ++ B.text pair.1.now)) };
+
+    fn fmt<W: fmt::Write>(&self, f: &mut fmt::Formatter<W>) -> fmt::Result {
+        self.0.fmt(f)?;
+        f.write_str(" ")?;
+        self.1.fmt(f)
+    }
+}
+
+impl<'a, A: Printed, B: Printed> Printed for Pair<'a, A, B> {
+    ghost text = { λ pair. A.text pair.0.now ++ (codes " " ++ B.text pair.1.now) };
+
+    ghost prints = { λ _. refl };
+}
+
+/// The `a=` line of a label and a value right behind it, with its end.
+#[derive(Drop)]
+pub(crate) struct Labelled<'a, T>(pub(crate) &'a str, pub(crate) &'a T);
+
+impl<'a, T: Printed> fmt::Display for Labelled<'a, T> {
+    ghost output = { λ line. Some (labelled_line line.0.now (T.text line.1.now)) };
 
     fn fmt<W: fmt::Write>(&self, f: &mut fmt::Formatter<W>) -> fmt::Result {
         f.write_str("a=")?;
-        f.write_str(self.label)?;
-        f.write_str(self.text)?;
+        f.write_str(self.0)?;
+        self.1.fmt(f)?;
         f.write_str("\r\n")
-    }
-}
-
-/// What a line begins with that says something of a payload type: its label, the type and a space.
-#[derive(Drop)]
-pub(crate) struct TypeHead {
-    pub(crate) label: &'static str,
-    pub(crate) pt: Pt,
-}
-
-impl fmt::Display for TypeHead {
-    ghost output = { λ head. Some (head.label.now ++ (decimal head.pt ++ codes " ")) };
-
-    fn fmt<W: fmt::Write>(&self, f: &mut fmt::Formatter<W>) -> fmt::Result {
-        f.write_str(self.label)?;
-        self.pt.fmt(f)?;
-        f.write_str(" ")
     }
 }

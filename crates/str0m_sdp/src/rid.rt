@@ -87,12 +87,24 @@ impl<'a> fmt::Display for Pairs<'a> {
         let Some((first, more)) = self.0.split_first() else {
             return Ok(());
         };
-        let (key, value) = first;
-        write!(f, "{key}={value}")?;
+        Restriction(first).fmt(f)?;
         for pair in more {
-            let (key, value) = pair;
-            write!(f, ";{key}={value}")?;
+            let restriction = Restriction(pair);
+            write!(f, ";{restriction}")?;
         }
         Ok(())
+    }
+}
+
+/// A key, `=` and a value.
+#[derive(Drop)]
+struct Restriction<'a>(&'a (Text, Text));
+
+impl<'a> fmt::Display for Restriction<'a> {
+    ghost output = { λ restriction. Some (restriction_text restriction.0.now) };
+
+    fn fmt<W: fmt::Write>(&self, f: &mut fmt::Formatter<W>) -> fmt::Result {
+        let (key, value) = self.0;
+        write!(f, "{key}={value}")
     }
 }

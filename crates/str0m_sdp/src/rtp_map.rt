@@ -1,7 +1,8 @@
 //! What a payload type stands for.
-ghost use Rattle.std.specs.Prelude.{◌≡◌, Some};
-ghost use Rattle.str0m_sdp.specs.RtpMap.{rtp_map_text, sampling_rate, channels_of, spec_of_map, map_of_spec};
+ghost use Rattle.std.specs.Prelude.{◌≡◌, Some, refl};
+ghost use Rattle.str0m_sdp.specs.RtpMap.{rtp_map_text, channels_text, sampling_rate, channels_of, spec_of_map, map_of_spec};
 
+use crate::printed::Printed;
 use std::fmt;
 use str0m_formats::{Codec, CodecSpec, FormatParams};
 use str0m_values::Frequency;
@@ -27,10 +28,26 @@ impl fmt::Display for RtpMap {
             clock_rate,
             channels,
         } = *self;
-        codec.fmt(f)?;
-        f.write_str("/")?;
-        clock_rate.fmt(f)?;
-        match channels {
+        let channels = Channels(channels);
+        write!(f, "{codec}/{clock_rate}{channels}")
+    }
+}
+
+impl Printed for RtpMap {
+    ghost text = { rtp_map_text };
+
+    ghost prints = { λ _. refl };
+}
+
+/// How many channels a mapping counts, behind `/`; nothing where it counts none.
+#[derive(Drop)]
+struct Channels(Option<u8>);
+
+impl fmt::Display for Channels {
+    ghost output = { λ channels. Some (channels_text channels.0) };
+
+    fn fmt<W: fmt::Write>(&self, f: &mut fmt::Formatter<W>) -> fmt::Result {
+        match self.0 {
             None => Ok(()),
             Some(channels) => write!(f, "/{channels}"),
         }

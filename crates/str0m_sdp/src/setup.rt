@@ -1,8 +1,9 @@
 //! Who begins the DTLS handshake.
-ghost use Rattle.std.specs.Prelude.{◌≡◌, ◌≢◌, Some, None, MatchOption};
+ghost use Rattle.std.specs.Prelude.{◌≡◌, ◌≢◌, Some, None, MatchOption, refl};
 ghost use Rattle.str0m_sdp.specs.Setup.{setup_text, inverse, settled};
 ghost use Rattle.str0m_sdp.specs.declared.setup.Setup.TheVariants.{ActPass};
 
+use crate::printed::Printed;
 use std::fmt;
 
 /// The role of a side in setting up the transport (RFC 8842, section 5.2; RFC 4145, section 4).
@@ -77,4 +78,10 @@ impl fmt::Display for Setup {
         let line = self.setup_line();
         f.write_str(line)
     }
+}
+
+impl Printed for Setup {
+    ghost text = { setup_text };
+
+    ghost prints = { λ _. refl };
 }

@@ -1,9 +1,9 @@
 //! Streams that are sent and received in several layers.
-ghost use Rattle.std.specs.Prelude.{◌≡◌, IfOk, Some, [], true, refl};
+ghost use Rattle.std.specs.Prelude.{◌≡◌, ◌++◌, IfOk, Some, [], true, codes, refl};
 ghost use Rattle.std.specs.String.{string_bytes};
-ghost use Rattle.str0m_sdp.specs.Simulcast.{id_text, inverted, layer_text, layers_text, simulcast_text};
+ghost use Rattle.str0m_sdp.specs.Simulcast.{id_text, inverted, layer_text, layers_text, sides_text, simulcast_text};
 
-use crate::printed::{Joined, Printed};
+use crate::printed::{Joined, Labelled, Printed};
 use std::alloc::{AllocError, Global};
 use std::fmt;
 use std::ops::Deref;
@@ -138,6 +138,12 @@ impl fmt::Display for SimulcastGroups {
     }
 }
 
+impl Printed for SimulcastGroups {
+    ghost text = { λ groups. layers_text groups.0 };
+
+    ghost prints = { λ _. refl };
+}
+
 /// The layers that are sent and received (RFC 8853, section 5.1).
 #[derive(Clone, Debug, PartialEq, Eq, Drop)]
 pub struct Simulcast {
@@ -180,20 +186,57 @@ impl<'a> fmt::Display for SimulcastLine<'a> {
     ghost output = { λ line. Some (simulcast_text line.0.now) };
 
     fn fmt<W: fmt::Write>(&self, f: &mut fmt::Formatter<W>) -> fmt::Result {
-        let send = &self.0.send;
-        let recv = &self.0.recv;
         if self.0.is_munged {
             return Ok(());
         }
-        if send.0.as_slice().is_empty() {
-            if recv.0.as_slice().is_empty() {
-                return Ok(());
-            }
-            return write!(f, "a=simulcast:recv {recv}\r\n");
-        }
-        if recv.0.as_slice().is_empty() {
-            return write!(f, "a=simulcast:send {send}\r\n");
-        }
-        write!(f, "a=simulcast:send {send} recv {recv}\r\n")
+        let (send, recv) = (&self.0.send, &self.0.recv);
+        let sides = Sides { send, recv };
+        sides.fmt(f)
     }
+}
+
+/// The line of the sides that have layers; nothing where neither has one.
+#[derive(Drop)]
+struct Sides<'a> {
+    send: &'a SimulcastGroups,
+    recv: &'a SimulcastGroups,
+}
+
+impl<'a> fmt::Display for Sides<'a> {
+    ghost output = { λ sides. Some (sides_text sides.send.now.0 sides.recv.now.0) };
+
+    fn fmt<W: fmt::Write>(&self, f: &mut fmt::Formatter<W>) -> fmt::Result {
+        let (send, recv) = (self.send, self.recv);
+        match (send.is_empty(), recv.is_empty()) {
+            (true, true) => Ok(()),
+            (true, false) => Labelled("simulcast:recv ", recv).fmt(f),
+            (false, true) => Labelled("simulcast:send ", send).fmt(f),
+            (false, false) => {
+                let both = BothSides { send, recv };
+                Labelled("simulcast:send ", &both).fmt(f)
+            }
+        }
+    }
+}
+
+/// The layers that are sent, and behind a word those that are received.
+#[derive(Drop)]
+struct BothSides<'a> {
+    send: &'a SimulcastGroups,
+    recv: &'a SimulcastGroups,
+}
+
+impl<'a> fmt::Display for BothSides<'a> {
+    ghost output = { λ sides. Some (layers_text sides.send.now.0 ++ (codes " recv " ++ layers_text sides.recv.now.0)) };
+
+    fn fmt<W: fmt::Write>(&self, f: &mut fmt::Formatter<W>) -> fmt::Result {
+        let (send, recv) = (self.send, self.recv);
+        write!(f, "{send} recv {recv}")
+    }
+}
+
+impl<'a> Printed for BothSides<'a> {
+    ghost text = { λ sides. layers_text sides.send.now.0 ++ (codes " recv " ++ layers_text sides.recv.now.0) };
+
+    ghost prints = { λ _. refl };
 }

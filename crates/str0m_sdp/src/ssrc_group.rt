@@ -3,7 +3,7 @@ ghost use Rattle.std.specs.Prelude.{Some, refl};
 ghost use Rattle.std.specs.Fmt.{decimal};
 ghost use Rattle.str0m_sdp.specs.SsrcGroup.{ssrc_group_text};
 
-use crate::printed::{Joined, Printed};
+use crate::printed::{Labelled, Pair, Printed, spaced};
 use std::fmt;
 use str0m_values::{Ssrc, Text};
 
@@ -24,15 +24,11 @@ impl<'a> fmt::Display for SsrcGroupLine<'a> {
     ghost output = { λ line. Some (ssrc_group_text line.semantics.now line.ssrcs.now) };
 
     fn fmt<W: fmt::Write>(&self, f: &mut fmt::Formatter<W>) -> fmt::Result {
-        let semantics = self.semantics;
-        let items = self.ssrcs;
-        if items.is_empty() {
+        if self.ssrcs.is_empty() {
             return Ok(());
         }
-        let sources = Joined {
-            items,
-            separator: " ",
-        };
-        write!(f, "a=ssrc-group:{semantics} {sources}\r\n")
+        let sources = spaced(self.ssrcs);
+        let value = Pair(self.semantics, &sources);
+        Labelled("ssrc-group:", &value).fmt(f)
     }
 }

@@ -1,9 +1,0 @@
-use Rattle.std.proofs.Common.{◌++◌, take}
-use Rattle.std.specs.List.{flat_map}
-use Rattle.std.specs.Fmt.{HasWritten, IsPlainFormatter}
-use Rattle.str0m_sdp.proofs.printed.JoinedDisplay.fmt.Given as goal
-
--- the items so far are written, each behind a separator
-abbrev pub invariant-loop-item : goal.invariant-loop-item
-invariant-loop-item g l =
-    IsPlainFormatter l.initial.f → HasWritten g.W.Write.write_str_gives l.initial.f (flat_map (λ item. l.separator ++ g.T.Printed.text item) (take l.item-index l.more)) l.f
