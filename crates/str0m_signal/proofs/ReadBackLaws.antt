@@ -1,5 +1,6 @@
 -- What is printed, read again line by line.
-use Rattle.std.proofs.Common.{◌≡◌, ◌<◌, ◌+◌, ◌++◌, ◌∷◌, [], ◌&&◌, ℕ, suc, Bool, true, false, List, length, take, drop, get_or, Option, Some, None, option_map, option_to_list, IfSome, inl, inr, refl, sym, ap, subst, ◌∙◌, true≢false, take-append-drop, drop-cons}
+use Rattle.std.proofs.Common.{◌≡◌, ◌<◌, ◌+◌, ◌++◌, ◌∷◌, [], ◌&&◌, eqb, arith, ℕ, suc, Bool, true, false, List, length, take, drop, get_or, Option, Some, None, IfSome, inl, inr, refl, sym, ap, subst, ◌∙◌, true≢false, take-append-drop, drop-cons}
+use Rattle.std.proofs.lemmas.Bool.{eqb-true}
 use Rattle.std.proofs.lemmas.Grind.{take_at_read}
 use Rattle.std.proofs.lemmas.List.{append_cancel_right}
 use Rattle.std.proofs.lemmas.Option.{IfSome_then, none-some, same_Some}
@@ -10,7 +11,7 @@ use Rattle.str0m_values.proofs.CutLaws.{lacks_true, lacks_from}
 use Rattle.str0m_sdp.specs.Lines.{line_end}
 use Rattle.str0m_values.proofs.BothWays.{Reads}
 use Rattle.str0m_signal.specs.LineReading.{read_attribute}
-use Rattle.str0m_signal.specs.Writable.{AreReadAs, IsPrintedAs, IsReadBy}
+use Rattle.str0m_signal.specs.Writable.{AreReadAs, IsPrintedAs, IsReadBy, PutsBack}
 
 -- the text is this line and its end
 abbrev pub IsContent : List ℕ → List ℕ → Type 0
@@ -34,6 +35,14 @@ other_content text line e other = record {
       let plain : lacks 10 content && lacks 13 content ≡ true = rw (lacks_true 10 content is.1) (lacks_true 13 content is.2) in
       absurd (true≢false (sym plain ∙ ap (λ (l : List ℕ). lacks 10 l && lacks 13 l) same ∙ other));
 }
+
+nothing : (text : List ℕ) → eqb (length text) 0 ≡ true → text ≡ []
+nothing [] e = refl
+nothing (x ∷ xs) e = absurd (omega (arith, eqb-true (length (x ∷ xs)) 0 e))
+
+no_line : (content : List ℕ) → content ++ line_end ≡ [] → ⊥
+no_line [] e = absurd cc
+no_line (x ∷ xs) e = absurd cc
 
 -- ---- what comes back of lists
 
@@ -78,25 +87,32 @@ module _ {X : Type 0} (text : X → List ℕ) (F : List ℕ → X → Type 0) (G
         absurd (none-some inner.0 (none.only inner.0 inner.3));
   }
 
+  -- what is printed as nothing comes back as nothing
+  pub empty_back : (x : X) → eqb (length (text x)) 0 ≡ true → IsTheOnly (ReadAs (x ∷ [])) (Some [])
+  empty_back x empty = record {
+    found = inl (nothing (text x) empty, refl);
+    only = λ reads is. elim is [
+      | inl h ↦ ap Some (sym h.1)
+      | inr h ↦ absurd (no_line h.3.0 (sym h.3.1 ∙ nothing (text x) empty))
+    ];
+  }
+
   -- ---- an attribute at its place in the list
 
-  pub lost_at : (xs : List X) (i : ℕ) (x : X) (found : Option (Option X)) → i < length xs → x ≡ get_or xs i x → found ≡ None
-      → IsTheOnly (ReadAs (x ∷ [])) (option_map option_to_list found) → IsTheOnly (ReadAs xs) None
-  lost_at xs i x found lt at lost one =
+  pub lost_at : (xs : List X) (i : ℕ) (x : X) → i < length xs → x ≡ get_or xs i x → IsTheOnly (ReadAs (x ∷ [])) None → IsTheOnly (ReadAs xs) None
+  lost_at xs i x lt at none =
       let split = sym (take-append-drop i xs)
       ∙ ap (λ (back : List X). take i xs ++ back) (drop-cons xs i x lt ∙ ap (λ (y : X). y ∷ drop (suc i) xs) (sym at)) in
-      let none = subst (λ (o : Option (Option X)). IsTheOnly (ReadAs (x ∷ [])) (option_map option_to_list o)) lost one in
       subst (λ (list : List X). IsTheOnly (ReadAs list) None) (sym split) (none_within (take i xs) (x ∷ []) (drop (suc i) xs) none)
 
-  pub back_at : (xs : List X) (i : ℕ) (x : X) (reads more : List X) (found : Option (Option X)) (read : Option X) → i < length xs → x ≡ get_or xs i x
-      → found ≡ Some read → IsTheOnly (ReadAs (x ∷ [])) (option_map option_to_list found) → more ≡ reads ++ option_to_list read
+  pub back_at : (xs : List X) (i : ℕ) (x : X) (reads more : List X) → i < length xs → x ≡ get_or xs i x
+      → PutsBack (ReadAs (x ∷ [])) reads more true
       → IsTheOnly (ReadAs (take i xs)) (Some reads) → IsTheOnly (ReadAs (take (i + 1) xs)) (Some more)
-  back_at xs i x reads more found read lt at is one appended before =
+  back_at xs i x reads more lt at last before =
       let split = (take_at_read xs i x lt).1 ∙ ap (λ (y : X). take i xs ++ y ∷ []) (sym at) in
-      let last = subst (λ (o : Option (Option X)). IsTheOnly (ReadAs (x ∷ [])) (option_map option_to_list o)) is one in
-      let both = only_both (take i xs) (x ∷ []) reads (option_to_list read) before last in
+      let both = only_both (take i xs) (x ∷ []) reads last.0 before last.1 in
       subst (λ (list : List X). IsTheOnly (ReadAs list) (Some more)) (sym split)
-      (subst (λ (list : List X). IsTheOnly (ReadAs (take i xs ++ x ∷ [])) (Some list)) (sym appended) both)
+      (subst (λ (list : List X). IsTheOnly (ReadAs (take i xs ++ x ∷ [])) (Some list)) (sym last.2) both)
 
 -- ---- the same by another form of the lines
 

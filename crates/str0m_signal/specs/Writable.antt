@@ -1,6 +1,7 @@
 -- Sessions whose printed text is read line by line as what they hold, up to one section's rows.
-use Rattle.std.specs.Prelude.{◌≡◌, ◌≢◌, ◌≤◌, ◌⊎◌, ℕ, not, List, [], ◌∷◌, ◌++◌, Option, Some, IfSome, All, count_by, false, filter}
+use Rattle.std.specs.Prelude.{◌≡◌, ◌≢◌, ◌≤◌, ◌⊎◌, ℕ, Bool, not, List, [], ◌∷◌, ◌++◌, Option, Some, None, IfSome, All, count_by, true, false, filter}
 use Rattle.std.specs.List.{slice_get}
+use Rattle.str0m_values.specs.Only.{IsTheOnly}
 use Rattle.str0m_values.specs.Parts.{Lacks}
 use Rattle.str0m_sdp.specs.Alike.{Alike}
 use Rattle.str0m_sdp.specs.Attribute.{session_attribute_text, media_attribute_text}
@@ -63,6 +64,11 @@ pub record IsFrame (m : MediaLine) : Type 0 where
   pub setup : count_by is_setup m.attrs ≤ 1
   pub direction : count_by is_direction m.attrs ≡ 1
   pub none_of_type : All (λ attr. is_of_type attr ≡ false) m.attrs
+
+-- the only list with P stands behind the others; or no list has P
+abbrev pub PutsBack : {X : Type 0} → (List X → Type 0) → List X → List X → Bool → Type 0
+PutsBack {X} P old new true = (reads : List X) × IsTheOnly P (Some reads) × (new ≡ old ++ reads)
+PutsBack P old new false = IsTheOnly P None
 
 -- rows may be printed in the section there, and are read again
 pub record Writable (sdp : Sdp) (i : ℕ) : Type 0 where

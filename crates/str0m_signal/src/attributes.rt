@@ -1,6 +1,6 @@
 //! Attribute lines, and runs of them.
 
-ghost use Rattle.std.specs.Prelude.{◌≡◌, ℕ, List, Option, IfOk, option_map};
+ghost use Rattle.std.specs.Prelude.{◌≡◌, ℕ, List, Ok, Option, IfOk, option_map};
 ghost use Rattle.str0m_signal.specs.Answers.{Gives};
 ghost use Rattle.str0m_signal.specs.Chains.{Run};
 ghost use Rattle.str0m_signal.specs.LineReading.{lines_of, line_read, read_attribute, left, IsRead, Takes, TakesLine};
@@ -37,6 +37,17 @@ pub(crate) fn taken<A: Drop>(found: Option<A>, attributes: &mut Vec<A>) -> Resul
         }
         None => Ok(false),
     }
+}
+
+/// The same of what a form answers that asks for memory.
+#[inline(always)]
+pub(crate) fn taken_result<A: Drop>(
+    answer: Result<Option<A>, AllocError>,
+    attributes: &mut Vec<A>,
+) -> Result<bool, AllocError>
+    ensures { IfOk result (λ taken. (found : Option A) × (answer ≡ Ok found) × Takes found attributes.old.items attributes.new.items taken) }
+{
+    taken(answer?, attributes)
 }
 
 /// Puts the attribute of the line behind the others, where it is one; whether it is.

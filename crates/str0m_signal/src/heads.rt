@@ -1,6 +1,7 @@
 //! The m-lines of sections.
 
-ghost use Rattle.std.specs.Prelude.{◌≡◌, IfOk, is_some, option_map};
+ghost use Rattle.std.specs.Prelude.{◌≡◌, IfOk, codes, is_some, option_map};
+ghost use Rattle.std.specs.Str.{bytes_eq};
 ghost use Rattle.str0m_values.specs.Cuts.{num};
 ghost use Rattle.str0m_values.specs.Separator.{code};
 ghost use Rattle.str0m_signal.specs.FormReading.{parted_read};
@@ -83,6 +84,13 @@ fn proto(text: &str) -> Option<Proto>
     }
 }
 
+/// Whether a section on this port is disabled.
+fn is_disabled(port: &str) -> bool
+    ensures { result ≡ bytes_eq port.now (codes "0") }
+{
+    port == "0"
+}
+
 /// Whether the text is numbers with `at` between each two.
 pub(crate) fn are_numbers(text: &str, at: Separator) -> bool
     ensures { result ≡ is_some (parted_read (code at) (num 255) text.now) }
@@ -160,7 +168,7 @@ pub(crate) fn head(alloc: Global, line: &str) -> Result<Option<MediaHead>, Alloc
     let typ = kind.to_media_type(alloc)?;
     Ok(Some(MediaHead {
         typ,
-        disabled: port == "0",
+        disabled: is_disabled(port),
         proto,
         pts,
     }))

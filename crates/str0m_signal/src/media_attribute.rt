@@ -7,7 +7,7 @@ ghost use Rattle.str0m_signal.specs.Chains.{Run};
 ghost use Rattle.str0m_signal.specs.Lines.{OneLine};
 ghost use Rattle.str0m_signal.specs.LineReading.{lines_of, Takes};
 
-use crate::attributes::{Attribute, attribute_run, taken};
+use crate::attributes::{Attribute, attribute_run, taken, taken_result};
 use crate::ext_map::ext_map;
 use crate::fields::{kept, num_u64, role, short};
 use crate::fingerprint::fingerprint;
@@ -130,7 +130,7 @@ fn with_e(
 ) -> Result<bool, AllocError>
     ensures { IfOk result (Takes (with_e_read text.now) attributes.old.items attributes.new.items) }
 {
-    if taken(ext_map(alloc, text)?, attributes)? {
+    if taken_result(ext_map(alloc, text), attributes)? {
         return Ok(true);
     }
     taken(word(text), attributes)
@@ -144,10 +144,10 @@ fn with_f(
 ) -> Result<bool, AllocError>
     ensures { IfOk result (Takes (with_f_read text.now) attributes.old.items attributes.new.items) }
 {
-    if taken(fmtp(alloc, text)?, attributes)? {
+    if taken_result(fmtp(alloc, text), attributes)? {
         return Ok(true);
     }
-    taken(fingerprint_form(alloc, text)?, attributes)
+    taken_result(fingerprint_form(alloc, text), attributes)
 }
 
 /// The forms whose names begin with `i`.
@@ -158,7 +158,7 @@ fn with_i(
 ) -> Result<bool, AllocError>
     ensures { IfOk result (Takes (with_i_read text.now) attributes.old.items attributes.new.items) }
 {
-    if taken(ice(alloc, text)?, attributes)? {
+    if taken_result(ice(alloc, text), attributes)? {
         return Ok(true);
     }
     taken(word(text), attributes)
@@ -175,7 +175,7 @@ fn with_m(
     if taken(mid(text), attributes)? {
         return Ok(true);
     }
-    if taken(msid(alloc, text)?, attributes)? {
+    if taken_result(msid(alloc, text), attributes)? {
         return Ok(true);
     }
     taken(max_message_size(text), attributes)
@@ -192,13 +192,13 @@ fn with_r(
     if taken(rtp_map(text), attributes)? {
         return Ok(true);
     }
-    if taken(rtcp_fb(alloc, text)?, attributes)? {
+    if taken_result(rtcp_fb(alloc, text), attributes)? {
         return Ok(true);
     }
-    if taken(rid(alloc, text)?, attributes)? {
+    if taken_result(rid(alloc, text), attributes)? {
         return Ok(true);
     }
-    if taken(rtcp(alloc, text)?, attributes)? {
+    if taken_result(rtcp(alloc, text), attributes)? {
         return Ok(true);
     }
     taken(word(text), attributes)
@@ -212,22 +212,22 @@ fn with_s(
 ) -> Result<bool, AllocError>
     ensures { IfOk result (Takes (with_s_read text.now) attributes.old.items attributes.new.items) }
 {
-    if taken(ssrc(alloc, text)?, attributes)? {
+    if taken_result(ssrc(alloc, text), attributes)? {
         return Ok(true);
     }
     if taken(setup(text), attributes)? {
         return Ok(true);
     }
-    if taken(ssrc_group(alloc, text)?, attributes)? {
+    if taken_result(ssrc_group(alloc, text), attributes)? {
         return Ok(true);
     }
-    if taken(simulcast_line(alloc, text)?, attributes)? {
+    if taken_result(simulcast_line(alloc, text), attributes)? {
         return Ok(true);
     }
     if taken(sctp_port(text), attributes)? {
         return Ok(true);
     }
-    if taken(sctp_init(alloc, text)?, attributes)? {
+    if taken_result(sctp_init(alloc, text), attributes)? {
         return Ok(true);
     }
     taken(word(text), attributes)
@@ -251,7 +251,7 @@ fn named(
     ensures { IfOk result (Takes (named_read text.now) attributes.old.items attributes.new.items) }
 {
     match first_byte(text) {
-        b'c' => taken(candidate_form(alloc, text)?, attributes),
+        b'c' => taken_result(candidate_form(alloc, text), attributes),
         b'e' => with_e(alloc, text, attributes),
         b'f' => with_f(alloc, text, attributes),
         b'i' => with_i(alloc, text, attributes),
@@ -283,7 +283,7 @@ impl Attribute for MediaAttribute {
         if named(alloc, text, attributes)? {
             return Ok(true);
         }
-        taken(unused(alloc, text)?, attributes)
+        taken_result(unused(alloc, text), attributes)
     }
 }
 

@@ -3,6 +3,7 @@ ghost use Rattle.std.specs.Prelude.{◌≡◌, ℕ, List, Option, IfOk, is_some}
 ghost use Rattle.str0m_values.specs.Separator.{code};
 ghost use Rattle.str0m_signal.specs.FormReading.{parted_read};
 
+use crate::attributes::taken_result;
 use std::alloc::{AllocError, Global};
 use str0m_values::cuts::cut;
 use str0m_values::{Items, Separator};
@@ -48,17 +49,16 @@ fn read_parts<T: Part>(
     let mut parts = Vec::new(alloc);
     let mut rest = text;
     while let Some((part, more)) = cut(rest, at) {
-        let Some(value) = T::read(alloc, part)? else {
+        if !taken_result(T::read(alloc, part), &mut parts)? {
             return Ok(None);
-        };
-        parts.push(value)?;
+        }
         rest = more;
     }
-    let Some(value) = T::read(alloc, rest)? else {
-        return Ok(None);
-    };
-    parts.push(value)?;
-    Ok(Some(Items::from(parts)))
+    if taken_result(T::read(alloc, rest), &mut parts)? {
+        Ok(Some(Items::from(parts)))
+    } else {
+        Ok(None)
+    }
 }
 
 /// The items of the text, with `at` between each two. Memory is asked for only where all are items.

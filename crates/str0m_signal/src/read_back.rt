@@ -1,14 +1,14 @@
 //! What is printed, read again line by line.
 
-ghost use Rattle.std.specs.Prelude.{◌≡◌, ◌∷◌, ◌++◌, ◌↔◌, ◌&&◌, [], ℕ, List, Some, IfOk, IsTrue, option_map, option_to_list};
+ghost use Rattle.std.specs.Prelude.{◌≡◌, ◌∷◌, ◌++◌, ◌↔◌, ◌&&◌, [], ℕ, List, Some, IfOk, IsTrue};
 ghost use Rattle.std.specs.Option.{option_copied};
 ghost use Rattle.str0m_values.specs.Cuts.{lacks};
 ghost use Rattle.str0m_values.specs.Only.{IsTheOnly};
 ghost use Rattle.str0m_values.specs.Parts.{Lacks};
 ghost use Rattle.str0m_sdp.specs.Lines.{line_end};
-ghost use Rattle.str0m_signal.specs.Writable.{AreReadAs, IsPrintedAs, IsReadBy};
+ghost use Rattle.str0m_signal.specs.Writable.{AreReadAs, IsPrintedAs, IsReadBy, PutsBack};
 
-use crate::attributes::{Attribute, line};
+use crate::attributes::{Attribute, line, taken_result};
 use std::alloc::{AllocError, Global};
 use std::fmt;
 use str0m_values::cuts::has;
@@ -44,39 +44,51 @@ pub(crate) fn content(text: &str) -> Option<&str>
     if is_plain(line) { Some(line) } else { None }
 }
 
+/// What was read, where it goes with the attribute.
+fn fitting<A: ReadBack>(attr: &A, read: Option<A>) -> Option<A>
+    ensures { IsTheOnly (λ fit. (read ≡ Some fit) × A.GoesWith attr.now fit) result }
+{
+    match read {
+        Some(read) if attr.goes_with(&read) => Some(read),
+        _ => None,
+    }
+}
+
 /// What the attribute's line is read as, where it goes with the attribute.
 fn line_back<A: ReadBack>(alloc: Global, attr: &A, text: &str) -> Result<Option<A>, AllocError>
     ensures { IfOk result (IsTheOnly (λ read. IsPrintedAs (IsReadBy A.reading) text.now read × A.GoesWith attr.now read)) }
 {
-    let Some(content) = content(text) else {
-        return Ok(None);
-    };
-    let Some(read) = line::<A>(alloc, content)? else {
-        return Ok(None);
-    };
-    if attr.goes_with(&read) {
-        Ok(Some(read))
-    } else {
-        Ok(None)
+    match content(text) {
+        Some(content) => Ok(fitting(attr, line(alloc, content)?)),
+        None => Ok(None),
     }
 }
 
-/// What the attribute comes back as once it is printed and read: no attribute where it prints
-/// nothing; `None` where it doesn't come back.
+/// Puts what the text of the attribute is read as behind the others, nothing where it is empty; whether it comes back.
+fn text_back<A: ReadBack>(
+    alloc: Global,
+    attr: &A,
+    text: &str,
+    reads: &mut Vec<A>,
+) -> Result<bool, AllocError>
+    ensures { IfOk result (PutsBack (AreReadAs (λ _. text.now) (IsReadBy A.reading) A.GoesWith (attr.now ∷ [])) reads.old.items reads.new.items) }
+{
+    if text.is_empty() {
+        return Ok(true);
+    }
+    taken_result(line_back(alloc, attr, text), reads)
+}
+
+/// Puts what the attribute comes back as, once it is printed and read, behind the others; whether it comes back.
 fn item_back<A: ReadBack + Printed>(
     alloc: Global,
     attr: &A,
-) -> Result<Option<Option<A>>, AllocError>
-    ensures { IfOk result (λ found. IsTheOnly (AreReadAs A.text (IsReadBy A.reading) A.GoesWith (attr.now ∷ [])) (option_map option_to_list found)) }
+    reads: &mut Vec<A>,
+) -> Result<bool, AllocError>
+    ensures { IfOk result (PutsBack (AreReadAs A.text (IsReadBy A.reading) A.GoesWith (attr.now ∷ [])) reads.old.items reads.new.items) }
 {
     let text = attr.to_string(alloc)?;
-    if text.is_empty() {
-        return Ok(Some(None));
-    }
-    match line_back(alloc, attr, text.as_str())? {
-        Some(read) => Ok(Some(Some(read))),
-        None => Ok(None),
-    }
+    text_back(alloc, attr, text.as_str(), reads)
 }
 
 /// What the attributes come back as, in order; `None` where one doesn't come back.
@@ -88,11 +100,8 @@ pub(crate) fn read_back<A: ReadBack + Printed>(
 {
     let mut reads = Vec::new(alloc);
     for attr in attrs {
-        let Some(read) = item_back(alloc, attr)? else {
+        if !item_back(alloc, attr, &mut reads)? {
             return Ok(None);
-        };
-        if let Some(read) = read {
-            reads.push(read)?;
         }
     }
     Ok(Some(Items::from(reads)))

@@ -1,8 +1,11 @@
 //! Lines of streams that may be restricted.
-ghost use Rattle.std.specs.Prelude.{◌≡◌, IfOk, option_map, is_some};
-ghost use Rattle.str0m_values.specs.Cuts.{num, parts};
+ghost use Rattle.std.specs.Prelude.{◌≡◌, ◌∷◌, ◌++◌, [], IfOk, codes, option_map, is_some, true};
+ghost use Rattle.str0m_sdp.specs.declared.attribute.MediaAttribute.TheVariants.{Rid};
+ghost use Rattle.str0m_values.specs.Cuts.{num, parts, when};
+ghost use Rattle.str0m_signal.specs.FormReading.{behind, two_read};
 ghost use Rattle.str0m_signal.specs.MediaAttributeReading.{rid_read};
 ghost use Rattle.str0m_signal.specs.RidLists.{lists_of};
+ghost use Rattle.str0m_signal.specs.StreamName.{is_stream_name};
 ghost use Rattle.str0m_signal.specs.RidReading.{next_read, restriction_read, restrictions_read, restricted_read, typed_read, lists_read, more_read, direction_read};
 
 use crate::pairs::{key, skip_blanks, value};
@@ -67,6 +70,21 @@ fn are_restrictions(text: &str) -> bool
     }
 }
 
+/// Puts copies of a key and its value behind the others.
+fn keep_pair(
+    alloc: Global,
+    key: &str,
+    value: &str,
+    pairs: &mut Vec<(Text, Text)>,
+) -> Result<(), AllocError>
+    ensures { IfOk result (λ _. pairs.new.items ≡ pairs.old.items ++ (key.now, value.now) ∷ []) }
+{
+    let key = Text::from_str(alloc, key)?;
+    let value = Text::from_str(alloc, value)?;
+    pairs.push((key, value))?;
+    Ok(())
+}
+
 /// The restrictions of the text. Memory is taken for those that stand before one that can't be read, too.
 fn restrictions(alloc: Global, text: &str) -> Result<Option<Items<(Text, Text)>>, AllocError>
     ensures { IfOk result (λ found. found ≡ restrictions_read text.now) }
@@ -77,9 +95,7 @@ fn restrictions(alloc: Global, text: &str) -> Result<Option<Items<(Text, Text)>>
         let Some((key, value, next)) = restriction(rest) else {
             return Ok(None);
         };
-        let key = Text::from_str(alloc, key)?;
-        let value = Text::from_str(alloc, value)?;
-        pairs.push((key, value))?;
+        keep_pair(alloc, key, value, &mut pairs)?;
         let Some(more) = next else {
             return Ok(Some(Items::from(pairs)));
         };
@@ -198,36 +214,41 @@ fn direction(text: &str) -> Option<(&'static str, &str)>
     Some(("recv", behind))
 }
 
+/// The name of the stream, its direction, and what stands behind them.
+fn fields(text: &str) -> Option<(&str, &'static str, &str)>
+    ensures { option_map (λ x. (x.0.now, (x.1.now, x.2.now))) result ≡ behind (codes "rid:") (two_read 32 (λ name. when (is_stream_name name) name) direction_read) text.now }
+{
+    let body = strip(text, "rid:")?;
+    let (name, directed) = cut(body, Separator::Space)?;
+    if !is_stream_name(name) {
+        return None;
+    }
+    let (word, behind) = direction(directed)?;
+    Some((name, word, behind))
+}
+
+/// The rid line of these parts.
+fn made(name: Text, word: &'static str, lists: Lists) -> MediaAttribute
+    ensures { result ≡ Rid (record { 0 = name; 1 = true }) word.now lists.types lists.restrictions }
+{
+    MediaAttribute::Rid {
+        id: RestrictionId(name, true),
+        direction: Word(word),
+        pt: lists.types,
+        restriction: lists.restrictions,
+    }
+}
+
 /// The rid line of the text behind `a=`.
 pub(crate) fn rid(alloc: Global, text: &str) -> Result<Option<MediaAttribute>, AllocError>
     ensures { IfOk result (λ found. found ≡ rid_read text.now) }
 {
-    let Some(body) = strip(text, "rid:") else {
+    let Some((name, word, behind)) = fields(text) else {
         return Ok(None);
     };
-    let Some((name, directed)) = cut(body, Separator::Space) else {
-        return Ok(None);
-    };
-    if !is_stream_name(name) {
-        return Ok(None);
-    }
-    let Some((word, behind)) = direction(directed) else {
-        return Ok(None);
-    };
-    let Some(
-        Lists {
-            types,
-            restrictions,
-        },
-    ) = more(alloc, behind)?
-    else {
+    let Some(lists) = more(alloc, behind)? else {
         return Ok(None);
     };
     let name = Text::from_str(alloc, name)?;
-    Ok(Some(MediaAttribute::Rid {
-        id: RestrictionId(name, true),
-        direction: Word(word),
-        pt: types,
-        restriction: restrictions,
-    }))
+    Ok(Some(made(name, word, lists)))
 }

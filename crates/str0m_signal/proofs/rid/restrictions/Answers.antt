@@ -17,11 +17,11 @@ pub returns-in_default-next : goal.returns-in_default-next
 returns-in_default-next c =
     let i = c.loop-key.invariant.1 in
     let read = rw c.in_default-next.is at c.in-Some.ensures in
-    rw (c.from.ensures, c.in_ok-push.ensures.items, c.in_ok-key.ensures, c.in_ok-value.ensures) (restrictions_end c.loop-key.pairs.items (restrictions_read c.args.text.now) c.loop-key.rest.now i.0 (c.in-Some.key.now, c.in-Some.value.now) i.1 (sym read) i.2)
+    rw (c.from.ensures, c.in_ok-keep_pair.ensures) (restrictions_end c.loop-key.pairs.items (restrictions_read c.args.text.now) c.loop-key.rest.now i.0 (c.in-Some.key.now, c.in-Some.value.now) i.1 (sym read) i.2)
 
 pub loop-key-preserved : goal.loop-key-preserved
 loop-key-preserved c =
     let i = c.loop-key.invariant.1 in
     let read = rw c.in-Some-next.is at c.in-Some.ensures in
     let m = restrictions_more c.loop-key.pairs.items (restrictions_read c.args.text.now) c.loop-key.rest.now i.0 (c.in-Some.key.now, c.in-Some.value.now) c.in-Some-next.more.now i.1 (sym read) i.2 in
-    (search rules, (m.0, m.1, rw (c.in_ok-push.ensures.items, c.in_ok-key.ensures, c.in_ok-value.ensures) m.2))
+    (search rules, (m.0, m.1, rw c.in_ok-keep_pair.ensures m.2))
