@@ -3,13 +3,8 @@
 //! with it come to.
 #![tactic(auto)]
 
-mod fault;
-mod negotiation_lines;
-mod row_lines;
-mod run;
-
-use crate::fault::Fault;
-use crate::run::{refuse, run, usage};
+use show::fault::Fault;
+use show::run::{refuse, run, usage};
 use std::io::ErrorKind;
 use std::process::ExitCode;
 use std::{env, io};

@@ -1,0 +1,36 @@
+-- What a fault says of the input.
+use Rattle.std.proofs.Common.{◌≡◌, ℕ, List, Option, Some, None, IfSome, Result, Ok, Err, IfErr, subst, sym}
+use Rattle.std.specs.Str.{IsUtf8}
+use Rattle.str0m_sdp.specs.declared.error.SdpError.{SdpError}
+use Rattle.str0m_sdp.specs.declared.error.SdpError.TheVariants.{ParseError, Inconsistent, Memory}
+use Rattle.str0m_signal.specs.Answers.{Refuses}
+use Rattle.str0m_signal.specs.Reading.{Described}
+use Rattle.show.specs.Faults.{IsNoText, IsFaultOfInput, IsFaultOf}
+use Rattle.show.specs.Show.{Describes}
+use Rattle.show.specs.declared.fault.Fault.{Fault}
+use Rattle.show.specs.declared.fault.Fault.TheVariants.{Refused, NotUtf8, Unreadable, Unwritable}
+
+-- what was read whole, and is no text
+pub no_text : (held : Option (List ℕ)) (bytes : List ℕ) → IfSome held (λ known. bytes ≡ known) → (IsUtf8 bytes → ⊥) → IsNoText held
+no_text None bytes is none = tt
+no_text (Some known) bytes is none = subst (λ (b : List ℕ). IsUtf8 b → ⊥) is none
+
+pub of_input : (held : Option (List ℕ)) (fault : Fault) → IsFaultOfInput held fault → IsFaultOf held fault
+of_input held (Refused (ParseError message)) is = absurd is
+of_input held (Refused (Inconsistent message)) is = absurd is
+of_input held (Refused Memory) is = tt
+of_input held NotUtf8 is = is
+of_input held Unreadable is = tt
+of_input held Unwritable is = absurd is
+
+pub of_refusal : (held : Option (List ℕ)) (bytes : List ℕ) (refusal : SdpError) → IfSome held (λ known. bytes ≡ known)
+    → Refuses refusal (Described bytes) → IsFaultOf held (Refused refusal)
+of_refusal held bytes (ParseError message) is none = (bytes, is, none)
+of_refusal held bytes (Inconsistent message) is none = none
+of_refusal held bytes Memory is none = tt
+
+-- the only fault of writing, where what is read describes a session
+pub unwritten : {T : Type 0} (held : Option (List ℕ)) (result : Result T Fault) → IfErr result (λ fault. fault ≡ Unwritable)
+    → Describes held → IfErr result (IsFaultOf held)
+unwritten held (Ok x) is described = tt
+unwritten held (Err fault) is described = subst (IsFaultOf held) (sym is) described

@@ -1,0 +1,59 @@
+-- Why a run of the program fails, and the line that says so.
+use Rattle.std.specs.Prelude.{◌≡◌, ◌++◌, ℕ, List, Option, Some, None, IfSome, codes}
+use Rattle.std.specs.Str.{IsUtf8}
+use Rattle.str0m_sdp.specs.declared.error.SdpError.{SdpError}
+use Rattle.str0m_sdp.specs.declared.error.SdpError.TheVariants.{ParseError, Inconsistent, Memory}
+use Rattle.str0m_sdp.specs.Error.{error_text}
+use Rattle.str0m_sdp.specs.declared.session.Sdp.{Sdp}
+use Rattle.str0m_signal.specs.Reading.{Described}
+use Rattle.show.specs.Show.{Describes}
+use Rattle.show.specs.declared.fault.Fault.{Fault}
+use Rattle.show.specs.declared.fault.Fault.TheVariants.{Refused, NotUtf8, Unreadable, Unwritable}
+
+-- what is said of it; of a refusal, its own words
+abbrev pub fault_text : Fault → List ℕ
+fault_text (Refused refusal) = error_text refusal
+fault_text NotUtf8 = codes "input is not UTF-8"
+fault_text Unreadable = codes "cannot read input"
+fault_text Unwritable = codes "cannot write output"
+
+-- the line that says it
+abbrev pub fault_line : Fault → List ℕ
+fault_line fault = fault_text fault ++ codes "\n"
+
+-- the line that says how the program is called
+abbrev pub usage_line : List ℕ
+usage_line = codes "usage: sdpshow text|rows|negotiate\n"
+
+-- what a reader holds, where that is known, is no text
+abbrev pub IsNoText : Option (List ℕ) → Type 0
+IsNoText held = IfSome held (λ bytes. IsUtf8 bytes → ⊥)
+
+abbrev pub IsWantOfMemory : SdpError → Type 0
+IsWantOfMemory (ParseError message) = ⊥
+IsWantOfMemory (Inconsistent message) = ⊥
+IsWantOfMemory Memory = Unit {0}
+
+-- what may be wrong with the input itself
+abbrev pub IsFaultOfInput : Option (List ℕ) → Fault → Type 0
+IsFaultOfInput held (Refused refusal) = IsWantOfMemory refusal
+IsFaultOfInput held NotUtf8 = IsNoText held
+IsFaultOfInput held Unreadable = Unit {0}
+IsFaultOfInput held Unwritable = ⊥
+
+-- what a reader holds, where that is known, describes no session
+abbrev pub DescribesNone : Option (List ℕ) → Type 0
+DescribesNone held = (bytes : List ℕ) × IfSome held (λ known. bytes ≡ known) × ((sdp : Sdp) → Described bytes sdp → ⊥)
+
+-- what a refusal says of what was read
+abbrev pub IsRefusalOf : Option (List ℕ) → SdpError → Type 0
+IsRefusalOf held (ParseError message) = DescribesNone held
+IsRefusalOf held (Inconsistent message) = ⊥
+IsRefusalOf held Memory = Unit {0}
+
+-- what a fault says of the input; the output is written only where the input describes a session
+abbrev pub IsFaultOf : Option (List ℕ) → Fault → Type 0
+IsFaultOf held (Refused refusal) = IsRefusalOf held refusal
+IsFaultOf held NotUtf8 = IsNoText held
+IsFaultOf held Unreadable = Unit {0}
+IsFaultOf held Unwritable = Describes held

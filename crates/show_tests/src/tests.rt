@@ -1,0 +1,363 @@
+//! Runs of the program over memory.
+
+use show::run::run;
+use std::alloc::{AllocError, Global};
+use std::io;
+use std::io::{ErrorKind, Read, Write};
+use std::test::Fail;
+
+const USAGE: &str = "usage: sdpshow text|rows|negotiate\n";
+
+const HEADER: &str = "v=0\r\no=- 7 2 IN IP4 127.0.0.1\r\ns=-\r\nt=0 0\r\n";
+
+/// The header, printed.
+const PRINTED: &str = "v=0\r\no=str0m-0.25.0 7 2 IN IP4 0.0.0.0\r\ns=-\r\nt=0 0\r\n";
+
+/// Gives its bytes, one a read, and then fails.
+#[derive(Drop)]
+struct Broken<'a> {
+    bytes: &'a [u8],
+    kind: ErrorKind,
+}
+
+impl<'a> Read for Broken<'a> {
+    fn read(&mut self, buf: &mut [u8]) -> io::Result<usize> {
+        let Some((first, rest)) = self.bytes.split_first() else {
+            return Err(io::Error::from(self.kind));
+        };
+        let Some(cell) = buf.first_mut() else {
+            return Ok(0);
+        };
+        *cell = *first;
+        self.bytes = rest;
+        Ok(1)
+    }
+}
+
+/// Takes so many bytes, one a write, and then fails; and fails to hand them on, where it is so made.
+#[derive(Drop)]
+struct Full {
+    room: usize,
+    hands_on: bool,
+    taken: Vec<u8>,
+}
+
+impl Write for Full {
+    fn write(&mut self, buf: &[u8]) -> io::Result<usize> {
+        let (Some(first), true) = (buf.first(), self.taken.len() < self.room) else {
+            return Err(io::Error::from(ErrorKind::BrokenPipe));
+        };
+        self.taken.push(*first)?;
+        Ok(1)
+    }
+
+    fn flush(&mut self) -> io::Result<()> {
+        if self.hands_on {
+            Ok(())
+        } else {
+            Err(io::Error::from(ErrorKind::StorageFull))
+        }
+    }
+}
+
+/// A writer with so much room.
+fn with_room(alloc: Global, room: usize) -> Full {
+    Full {
+        room,
+        hands_on: true,
+        taken: Vec::new(alloc),
+    }
+}
+
+fn owned(alloc: Global, words: &[&str]) -> Result<Vec<String>, AllocError> {
+    let mut all = Vec::new(alloc);
+    for word in words {
+        all.push(String::from_str(alloc, word)?)?;
+    }
+    Ok(all)
+}
+
+/// What a run ends with.
+#[derive(Debug, Drop)]
+struct Ran {
+    status: u8,
+    /// Whether the line that goes with the status could be written.
+    could_say: bool,
+    written: Vec<u8>,
+    said: Vec<u8>,
+}
+
+impl Ran {
+    /// Whether the run ended with this status, and wrote and said just this.
+    fn is(&self, status: u8, written: &str, said: &str) -> bool {
+        self.status == status
+            && self.could_say
+            && self.written.as_slice() == written.as_bytes()
+            && self.said.as_slice() == said.as_bytes()
+    }
+}
+
+/// Runs the program into memory.
+fn run_over<R: Read>(alloc: Global, words: &[&str], input: &mut R) -> Result<Ran, AllocError> {
+    let words = owned(alloc, words)?;
+    let mut written = Vec::new(alloc);
+    let mut said = Vec::new(alloc);
+    let ending = run(alloc, words.as_slice(), input, &mut written, &mut said);
+    Ok(Ran {
+        status: ending.status,
+        could_say: ending.said.is_ok(),
+        written,
+        said,
+    })
+}
+
+/// Sections with rows of every kind of line.
+const SECTIONS: &[u8] =
+    b"v=0\no=- 7 2 x\ns=-\nt=0 0\nm=audio 9 UDP/TLS/RTP/SAVPF 111 63 101 9\na=mid:0\na=sendrecv\na=rtpmap:111 opus/48000/2\na=fmtp:111 minptime=10;useinbandfec=1\na=rtpmap:63 red/48000/2\na=fmtp:63 111/111\na=rtpmap:101 telephone-event/8000\nm=video 9 UDP/TLS/RTP/SAVPF 96 97\na=mid:one\na=sendonly\na=rtpmap:96 VP8/90000\na=rtpmap:97 rtx/90000\na=fmtp:97 apt=96\nm=audio 9 UDP/TLS/RTP/SAVPF 122\na=mid:2\na=sendrecv\na=rtpmap:122 AMR-WB/16000\na=fmtp:122 crc=1\n";
+
+/// Their rows.
+const ROWS: &str =
+    "0 111 - 63 opus/48000/2 minptime=10;useinbandfec=1\n0 101 - - telephone-event/8000 0-16\n0 9 - - G722/16000 -\none 96 97 - VP8/90000 -\n";
+
+/// A session that allows header extensions of one and of two bytes side by side.
+const MIXED: &[u8] = b"v=0\r\no=- 1 1 IN IP4 127.0.0.1\r\ns=-\r\nt=0 0\r\na=extmap-allow-mixed\r\n";
+
+/// What it prints.
+const MIXED_PRINTED: &str =
+    "v=0\r\no=str0m-0.25.0 1 2 IN IP4 0.0.0.0\r\ns=-\r\nt=0 0\r\na=extmap-allow-mixed\r\n";
+
+/// A section of one row.
+const OPUS: &[u8] =
+    b"v=0\r\no=- 7 2 IN IP4 127.0.0.1\r\ns=-\r\nt=0 0\r\nm=audio 9 UDP/TLS/RTP/SAVPF 111\r\nc=IN IP4 0.0.0.0\r\na=setup:actpass\r\na=mid:0\r\na=sendrecv\r\na=rtpmap:111 opus/48000/2\r\na=fmtp:111 minptime=10;useinbandfec=1\r\n";
+
+/// A section that takes a payload type which the default rows give to a retransmission.
+const OPUS_AT_109: &[u8] =
+    b"v=0\r\no=- 1 1 IN IP4 127.0.0.1\r\ns=-\r\nt=0 0\r\nm=audio 9 UDP/TLS/RTP/SAVPF 109\r\nc=IN IP4 0.0.0.0\r\na=setup:actpass\r\na=mid:0\r\na=sendrecv\r\na=rtpmap:109 opus/48000/2\r\na=fmtp:109 minptime=10;useinbandfec=1\r\n";
+
+/// What its round comes to.
+const NEGOTIATED: &str =
+    "round 1 ok\nlocked 109 - - opus/48000/2 minptime=10;useinbandfec=1\nopen 96 97 - VP8/90000 -\nopen 127 121 - H264/90000 level-asymmetry-allowed=1;packetization-mode=1;profile-level-id=42001f\nopen 125 107 - H264/90000 level-asymmetry-allowed=1;packetization-mode=0;profile-level-id=42001f\nopen 108 104 - H264/90000 level-asymmetry-allowed=1;packetization-mode=1;profile-level-id=42e01f\nopen 124 120 - H264/90000 level-asymmetry-allowed=1;packetization-mode=0;profile-level-id=42e01f\nopen 123 119 - H264/90000 level-asymmetry-allowed=1;packetization-mode=1;profile-level-id=4d001f\nopen 35 36 - H264/90000 level-asymmetry-allowed=1;packetization-mode=0;profile-level-id=4d001f\nopen 114 115 - H264/90000 level-asymmetry-allowed=1;packetization-mode=1;profile-level-id=64001f\nopen 102 103 - H265/90000 profile-id=1;tier-flag=0;level-id=180\nopen 98 99 - VP9/90000 profile-id=0\nopen 100 101 - VP9/90000 profile-id=2\nopen 45 46 - AV1/90000 -\n";
+
+/// A section of H264 at a lower level than the default rows have, which says nothing of levels of its own.
+const H264_AT_LEVEL_3: &[u8] =
+    b"v=0\r\no=- 1 1 IN IP4 127.0.0.1\r\ns=-\r\nt=0 0\r\nm=video 9 UDP/TLS/RTP/SAVPF 106\r\na=mid:0\r\na=recvonly\r\na=rtpmap:106 H264/90000\r\na=fmtp:106 packetization-mode=1;profile-level-id=42e01e\r\n";
+
+/// What its round comes to.
+const NARROWED: &str =
+    "round 1 ok\nopen 111 - - opus/48000/2 minptime=10;useinbandfec=1\nopen 96 97 - VP8/90000 -\nopen 127 121 - H264/90000 level-asymmetry-allowed=1;packetization-mode=1;profile-level-id=42001f\nopen 125 107 - H264/90000 level-asymmetry-allowed=1;packetization-mode=0;profile-level-id=42001f\nlocked 106 - - H264/90000 level-asymmetry-allowed=1;packetization-mode=1;profile-level-id=42e01e\nopen 124 120 - H264/90000 level-asymmetry-allowed=1;packetization-mode=0;profile-level-id=42e01f\nopen 123 119 - H264/90000 level-asymmetry-allowed=1;packetization-mode=1;profile-level-id=4d001f\nopen 35 36 - H264/90000 level-asymmetry-allowed=1;packetization-mode=0;profile-level-id=4d001f\nopen 114 115 - H264/90000 level-asymmetry-allowed=1;packetization-mode=1;profile-level-id=64001f\nopen 102 103 - H265/90000 profile-id=1;tier-flag=0;level-id=180\nopen 98 99 - VP9/90000 profile-id=0\nopen 100 101 - VP9/90000 profile-id=2\nopen 45 46 - AV1/90000 -\n";
+
+/// A section of static types alone.
+const STATIC: &[u8] =
+    b"v=0\r\no=- 1 1 IN IP4 127.0.0.1\r\ns=-\r\nt=0 0\r\na=group:BUNDLE 0\r\nm=audio 9 UDP/TLS/RTP/SAVPF 0 8 9 13\r\nc=IN IP4 0.0.0.0\r\na=setup:actpass\r\na=sendrecv\r\na=mid:0\r\n";
+
+/// A section of pictures with a row and its retransmissions.
+const PICTURES: &[u8] =
+    b"v=0\r\no=- 1 1 IN IP4 127.0.0.1\r\ns=-\r\nt=0 0\r\nm=video 9 UDP/TLS/RTP/SAVPF 96 97\r\nc=IN IP4 0.0.0.0\r\na=mid:1\r\na=sendrecv\r\na=rtpmap:96 VP8/90000\r\na=rtpmap:97 rtx/90000\r\na=fmtp:97 apt=96\r\n";
+
+/// A section of telephone events that says no range.
+const TELEPHONE: &[u8] =
+    b"v=0\r\no=- 1 1 IN IP4 127.0.0.1\r\ns=-\r\nt=0 0\r\nm=audio 9 UDP/TLS/RTP/SAVPF 101\r\nc=IN IP4 0.0.0.0\r\na=mid:0\r\na=sendrecv\r\na=rtpmap:101 telephone-event/8000\r\n";
+
+/// A section whose one type asks for checksums, which no row has.
+const CHECKSUMS: &[u8] =
+    b"v=0\r\no=- 1 1 IN IP4 127.0.0.1\r\ns=-\r\nt=0 0\r\nm=audio 9 UDP/TLS/RTP/SAVPF 122\r\nc=IN IP4 0.0.0.0\r\na=mid:0\r\na=sendrecv\r\na=rtpmap:122 AMR-WB/16000\r\na=fmtp:122 crc=1\r\n";
+
+/// Words, what is read, the status, and what is written and said.
+const RUNS: [(&[&str], &[u8], u8, &str, &str); 32] = [
+    (&[], b"", 2, "", USAGE),
+    (&[""], b"", 2, "", USAGE),
+    (&["show"], b"", 2, "", USAGE),
+    (&["Text"], b"", 2, "", USAGE),
+    (&["text "], b"", 2, "", USAGE),
+    (&["Rows"], b"", 2, "", USAGE),
+    (&["Negotiate"], b"", 2, "", USAGE),
+    (&["negotiate", "text"], b"", 2, "", USAGE),
+    (
+        &["negotiate"],
+        b"",
+        1,
+        "",
+        "SDP parse: bad session header\n",
+    ),
+    (&["negotiate"], OPUS_AT_109, 0, NEGOTIATED, ""),
+    (&["negotiate"], H264_AT_LEVEL_3, 0, NARROWED, ""),
+    (&["rows", "rows"], b"", 2, "", USAGE),
+    (&["rows"], b"", 1, "", "SDP parse: bad session header\n"),
+    (&["rows"], b"v=0\no=- 7 2 x\ns=-\nt=0 0\n", 0, "", ""),
+    (&["rows"], SECTIONS, 0, ROWS, ""),
+    (
+        &["rows"],
+        OPUS,
+        0,
+        "0 111 - - opus/48000/2 minptime=10;useinbandfec=1\n",
+        "",
+    ),
+    (
+        &["rows"],
+        STATIC,
+        0,
+        "0 0 - - PCMU/8000 -\n0 8 - - PCMA/8000 -\n0 9 - - G722/16000 -\n0 13 - - CN/8000 -\n",
+        "",
+    ),
+    (&["rows"], PICTURES, 0, "1 96 97 - VP8/90000 -\n", ""),
+    (
+        &["rows"],
+        TELEPHONE,
+        0,
+        "0 101 - - telephone-event/8000 0-16\n",
+        "",
+    ),
+    (&["rows"], CHECKSUMS, 0, "", ""),
+    (&["text", "text"], b"", 2, "", USAGE),
+    (&["text", ""], b"", 2, "", USAGE),
+    (&["text"], b"v=0\no=- 7 2 x\ns=-\nt=0 0\n", 0, PRINTED, ""),
+    (
+        &["text"],
+        b"v=0\no=- 7 2 x\ns=-\nt=0 0\n\xc3\xa9\n",
+        0,
+        PRINTED,
+        "",
+    ),
+    (
+        &["text"],
+        b"v=0\no=- 7 2 x\ns=-\nt=0 0\n\xff\n",
+        1,
+        "",
+        "input is not UTF-8\n",
+    ),
+    (&["text"], MIXED, 0, MIXED_PRINTED, ""),
+    (&["text"], b"\xc3", 1, "", "input is not UTF-8\n"),
+    (&["text"], b"\xff", 1, "", "input is not UTF-8\n"),
+    (&["rows"], b"\xff", 1, "", "input is not UTF-8\n"),
+    (&["negotiate"], b"\xff", 1, "", "input is not UTF-8\n"),
+    (&["text"], b"", 1, "", "SDP parse: bad session header\n"),
+    (
+        &["text"],
+        b"v=0\no=- 7 2 x\ns=-\nt=0 0\nm=audio 9 UDP/TLS/RTP/SAVPF 0\n",
+        1,
+        "",
+        "SDP parse: Media is missing a=mid: audio UDP/TLS/RTP/SAVPF\n",
+    ),
+];
+
+#[test]
+fn each_status_comes_with_its_line(rt: HostRuntime) -> Result<(), Fail> {
+    for (words, held, status, written, said) in &RUNS {
+        let mut input: &[u8] = held;
+        let ran = run_over(rt.alloc(), words, &mut input)?;
+        assert!(rt; ran.is(*status, written, said), "{words:?}: {ran:?}");
+    }
+    Ok(())
+}
+
+/// A word, what is read before an error of which kind, the status, and what is said.
+const UNREADABLE: [(&str, &str, ErrorKind, u8, &str); 4] = [
+    (
+        "text",
+        "",
+        ErrorKind::PermissionDenied,
+        1,
+        "cannot read input\n",
+    ),
+    (
+        "text",
+        HEADER,
+        ErrorKind::BrokenPipe,
+        1,
+        "cannot read input\n",
+    ),
+    (
+        "text",
+        "",
+        ErrorKind::OutOfMemory,
+        1,
+        "SDP: out of memory\n",
+    ),
+    ("show", "", ErrorKind::PermissionDenied, 2, USAGE),
+];
+
+/// Words are compared before anything is read, and input that ends in an error is not shown.
+#[test]
+fn input_that_cannot_be_read(rt: HostRuntime) -> Result<(), Fail> {
+    for (word, bytes, kind, status, said) in &UNREADABLE {
+        let mut input = Broken {
+            bytes: bytes.as_bytes(),
+            kind: *kind,
+        };
+        let ran = run_over(rt.alloc(), &[word], &mut input)?;
+        assert!(rt; ran.is(*status, "", said), "{said:?}: {ran:?}");
+        assert_eq!(rt;
+            input.bytes.len() == bytes.len(),
+            *status == 2 || bytes.is_empty(),
+            "{said:?}"
+        );
+    }
+    Ok(())
+}
+
+/// Runs the program over the header, with so much room for faults.
+fn run_into(
+    alloc: Global,
+    word: &str,
+    mut output: Full,
+    faults_room: usize,
+) -> Result<Ran, AllocError> {
+    let words = owned(alloc, &[word])?;
+    let mut input = HEADER.as_bytes();
+    let mut faults = with_room(alloc, faults_room);
+    let ending = run(
+        alloc,
+        words.as_slice(),
+        &mut input,
+        &mut output,
+        &mut faults,
+    );
+    Ok(Ran {
+        status: ending.status,
+        could_say: ending.said.is_ok(),
+        written: output.taken,
+        said: faults.taken,
+    })
+}
+
+/// Whether the run ended with this status and said just this, and wrote a beginning of what the header
+/// prints: all of it where the status is 0, and else less.
+fn is_whole_or_told(ran: &Ran, status: u8, said: &str) -> bool {
+    let is_whole = ran.written.len() == PRINTED.len();
+    ran.status == status
+        && ran.could_say == (status == 0 || !said.is_empty())
+        && ran.said.as_slice() == said.as_bytes()
+        && PRINTED.as_bytes().starts_with(ran.written.as_slice())
+        && is_whole == (status == 0)
+}
+
+/// A description is written whole or the run says so; a line of faults that can't be written leaves
+/// the status as it is.
+#[test]
+fn output_that_cannot_be_written(rt: HostRuntime) -> Result<(), Fail> {
+    for (word, room, faults_room, status, said) in &[
+        ("text", PRINTED.len(), 100, 0, ""),
+        ("text", PRINTED.len(), 0, 0, ""),
+        ("text", PRINTED.len() - 1, 100, 1, "cannot write output\n"),
+        ("text", PRINTED.len() - 1, 0, 1, ""),
+        ("text", 0, 100, 1, "cannot write output\n"),
+        ("text", 0, 0, 1, ""),
+        ("show", 0, 100, 2, USAGE),
+        ("show", 0, 0, 2, ""),
+    ] {
+        let output = with_room(rt.alloc(), *room);
+        let ran = run_into(rt.alloc(), word, output, *faults_room)?;
+        assert!(rt; is_whole_or_told(&ran, *status, said), "{said:?}: {ran:?}");
+    }
+    Ok(())
+}
+
+/// What is written whole, and isn't handed on, is a fault.
+#[test]
+fn output_that_is_not_handed_on(rt: HostRuntime) -> Result<(), Fail> {
+    let mut output = with_room(rt.alloc(), PRINTED.len());
+    output.hands_on = false;
+    let ran = run_into(rt.alloc(), "text", output, 100)?;
+    assert!(rt; ran.is(1, PRINTED, "cannot write output\n"), "{ran:?}");
+    Ok(())
+}
