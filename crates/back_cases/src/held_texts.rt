@@ -1,6 +1,6 @@
 //! Attributes that hold a given text in one field, also a text that no line is read as.
 
-use std::alloc::{AllocError, Global};
+use plain_cases::Answer;
 use str0m_signal::{
     Candidate, CandidateKind, Extension, Fingerprint, IpAddr, Items, MediaAttribute, Mid, Msid,
     Protocol, Pt, RestrictionId, SessionAttribute, Simulcast, SimulcastGroups, SimulcastLayer,
@@ -8,41 +8,39 @@ use str0m_signal::{
 };
 
 /// An attribute of a session with the text in this field; where there is no such field, one that is kept unread.
-pub(crate) fn in_session(
-    alloc: Global,
-    field: &str,
-    text: &str,
-) -> Result<SessionAttribute, AllocError> {
+pub(crate) fn in_session(answer: &mut Answer, field: &str, text: &str) -> SessionAttribute {
     match field {
-        "group" | "group-mid" => in_group(alloc, field, text),
-        "semantic" | "semantic-stream" => in_semantic(alloc, field, text),
-        "fingerprint" => Ok(SessionAttribute::Fingerprint(fingerprint(alloc, text)?)),
-        "candidate" | "candidate-ufrag" => {
-            Ok(SessionAttribute::Candidate(candidate(alloc, field, text)?))
-        }
-        _ => Ok(in_session_line(field, Text::from_str(alloc, text)?)),
+        "group" | "group-mid" => in_group(answer, field, text),
+        "semantic" | "semantic-stream" => in_semantic(answer, field, text),
+        "fingerprint" => SessionAttribute::Fingerprint(fingerprint(answer, text)),
+        "candidate" => SessionAttribute::Candidate(candidate(answer, text, None)),
+        "candidate-ufrag" => SessionAttribute::Candidate(candidate(answer, "1", Some(text))),
+        _ => in_session_line(field, text_of(answer, text)),
     }
 }
 
-fn in_group(alloc: Global, field: &str, text: &str) -> Result<SessionAttribute, AllocError> {
+fn in_group(answer: &mut Answer, field: &str, text: &str) -> SessionAttribute {
     let (typ, mids) = match field {
-        "group" => (text, Items::empty(alloc)),
-        _ => ("1", one(alloc, Mid::from(text))?),
+        "group" => (text, Items::empty(answer.alloc())),
+        _ => ("1", one(answer, Mid::from(text))),
     };
-    let typ = Text::from_str(alloc, typ)?;
-    Ok(SessionAttribute::Group { typ, mids })
+    let typ = text_of(answer, typ);
+    SessionAttribute::Group { typ, mids }
 }
 
-fn in_semantic(alloc: Global, field: &str, text: &str) -> Result<SessionAttribute, AllocError> {
+fn in_semantic(answer: &mut Answer, field: &str, text: &str) -> SessionAttribute {
     let (semantic, stream_ids) = match field {
-        "semantic" => (text, Items::empty(alloc)),
-        _ => ("1", one(alloc, Text::from_str(alloc, text)?)?),
+        "semantic" => (text, Items::empty(answer.alloc())),
+        _ => {
+            let stream_id = text_of(answer, text);
+            ("1", one(answer, stream_id))
+        }
     };
-    let semantic = Text::from_str(alloc, semantic)?;
-    Ok(SessionAttribute::MsidSemantic {
+    let semantic = text_of(answer, semantic);
+    SessionAttribute::MsidSemantic {
         semantic,
         stream_ids,
-    })
+    }
 }
 
 /// An attribute of a session whose line has one text.
@@ -56,79 +54,78 @@ fn in_session_line(field: &str, held: Text) -> SessionAttribute {
 }
 
 /// An attribute of a section with the text in this field; where there is no such field, one that is kept unread.
-pub(crate) fn in_section(
-    alloc: Global,
-    field: &str,
-    text: &str,
-) -> Result<MediaAttribute, AllocError> {
+pub(crate) fn in_section(answer: &mut Answer, field: &str, text: &str) -> MediaAttribute {
     match field {
-        "mid" => Ok(MediaAttribute::Mid(Mid::from(text))),
-        "extension" => {
-            let ext = Extension::new(alloc, text, true)?;
-            Ok(MediaAttribute::ExtMap { id: 1, ext })
-        }
-        "fingerprint" => Ok(MediaAttribute::Fingerprint(fingerprint(alloc, text)?)),
-        "candidate" | "candidate-ufrag" => {
-            Ok(MediaAttribute::Candidate(candidate(alloc, field, text)?))
-        }
-        _ => {
-            let (held, other) = (Text::from_str(alloc, text)?, Text::from_str(alloc, "1")?);
-            in_stream(alloc, field, held, other)
+        "mid" => MediaAttribute::Mid(Mid::from(text)),
+        "extension" => extension(answer, text),
+        "fingerprint" => MediaAttribute::Fingerprint(fingerprint(answer, text)),
+        "candidate" => MediaAttribute::Candidate(candidate(answer, text, None)),
+        "candidate-ufrag" => MediaAttribute::Candidate(candidate(answer, "1", Some(text))),
+        _ => in_stream(answer, field, text),
+    }
+}
+
+fn extension(answer: &mut Answer, uri: &str) -> MediaAttribute {
+    match Extension::new(answer.alloc(), uri, true) {
+        Ok(ext) => MediaAttribute::ExtMap { id: 1, ext },
+        Err(_) => {
+            answer.refuse();
+            MediaAttribute::SendRecv
         }
     }
 }
 
-/// An attribute that speaks of streams or sources with the text in this field, and the other text in the field beside it.
-fn in_stream(
-    alloc: Global,
-    field: &str,
-    held: Text,
-    other: Text,
-) -> Result<MediaAttribute, AllocError> {
-    let ssrc = Ssrc::from(1);
-    Ok(match field {
-        "msid-stream" => MediaAttribute::Msid(Msid {
-            stream_id: held,
-            track_id: other,
-        }),
-        "msid-track" => MediaAttribute::Msid(Msid {
-            stream_id: other,
-            track_id: held,
-        }),
-        "source-group" => MediaAttribute::SsrcGroup {
-            semantics: held,
-            ssrcs: one(alloc, ssrc)?,
-        },
-        "source-name" => MediaAttribute::Ssrc {
-            ssrc,
-            attr: held,
-            value: other,
-        },
-        "source-value" => MediaAttribute::Ssrc {
-            ssrc,
-            attr: other,
-            value: held,
-        },
-        "send" | "recv" | "layer-note" => in_layer(alloc, field, held, other)?,
-        _ => in_rid(alloc, field, held, other)?,
+/// An attribute that speaks of streams or sources with the text in this field, and another text in the field beside it.
+fn in_stream(answer: &mut Answer, field: &str, text: &str) -> MediaAttribute {
+    match field {
+        "msid-stream" => msid(answer, text, "1"),
+        "msid-track" => msid(answer, "1", text),
+        "source-group" => source_group(answer, text),
+        "source-name" => source(answer, text, "1"),
+        "source-value" => source(answer, "1", text),
+        "send" | "recv" | "layer-note" => in_layer(answer, field, text),
+        _ => in_rid(answer, field, text),
+    }
+}
+
+fn msid(answer: &mut Answer, stream_id: &str, track_id: &str) -> MediaAttribute {
+    MediaAttribute::Msid(Msid {
+        stream_id: text_of(answer, stream_id),
+        track_id: text_of(answer, track_id),
     })
 }
 
+fn source_group(answer: &mut Answer, semantics: &str) -> MediaAttribute {
+    MediaAttribute::SsrcGroup {
+        semantics: text_of(answer, semantics),
+        ssrcs: one(answer, Ssrc::from(1)),
+    }
+}
+
+fn source(answer: &mut Answer, attr: &str, value: &str) -> MediaAttribute {
+    MediaAttribute::Ssrc {
+        ssrc: Ssrc::from(1),
+        attr: text_of(answer, attr),
+        value: text_of(answer, value),
+    }
+}
+
 /// A rid whose restriction, if it has one, is named or given by the text; else an attribute of one text.
-fn in_rid(
-    alloc: Global,
-    field: &str,
-    held: Text,
-    other: Text,
-) -> Result<MediaAttribute, AllocError> {
-    let value = Text::from_str(alloc, "2")?;
-    Ok(match field {
-        "rid" => rid(alloc, held, "send", Items::empty(alloc)),
-        "rid-way" => rid(alloc, other, "x\r\na=mid:9", Items::empty(alloc)),
-        "rid-key" => rid(alloc, other, "send", one(alloc, (held, value))?),
-        "rid-value" => rid(alloc, other, "send", one(alloc, (value, held))?),
-        _ => in_line(field, held),
-    })
+fn in_rid(answer: &mut Answer, field: &str, text: &str) -> MediaAttribute {
+    let none = Items::empty(answer.alloc());
+    match field {
+        "rid" => rid(answer, text, "send", none),
+        "rid-way" => rid(answer, "1", "x\r\na=mid:9", none),
+        "rid-key" => {
+            let restriction = noted(answer, text, "2");
+            rid(answer, "1", "send", restriction)
+        }
+        "rid-value" => {
+            let restriction = noted(answer, "2", text);
+            rid(answer, "1", "send", restriction)
+        }
+        _ => in_line(field, text_of(answer, text)),
+    }
 }
 
 /// An attribute of a section whose line has one text, beside which at most a payload type stands.
@@ -146,71 +143,72 @@ fn in_line(field: &str, held: Text) -> MediaAttribute {
 }
 
 fn rid(
-    alloc: Global,
-    name: Text,
+    answer: &mut Answer,
+    name: &str,
     direction: &'static str,
     restriction: Items<(Text, Text)>,
 ) -> MediaAttribute {
     MediaAttribute::Rid {
-        id: RestrictionId::new_active(name),
+        id: RestrictionId::new_active(text_of(answer, name)),
         direction: Word(direction),
-        pt: Items::empty(alloc),
+        pt: Items::empty(answer.alloc()),
         restriction,
     }
 }
 
-/// A layer that is sent or received under this name; else one that is sent under the other, of which the text is noted.
-fn in_layer(
-    alloc: Global,
-    field: &str,
-    held: Text,
-    other: Text,
-) -> Result<MediaAttribute, AllocError> {
-    let none = SimulcastGroups(Items::empty(alloc));
-    let key = Text::from_str(alloc, "x")?;
+/// A layer that is sent or received under this name; else one that is sent under another, of which the text is noted.
+fn in_layer(answer: &mut Answer, field: &str, text: &str) -> MediaAttribute {
+    let none = SimulcastGroups(Items::empty(answer.alloc()));
     let (send, recv) = match field {
-        "send" => (layer(alloc, held, None)?, none),
-        "recv" => (none, layer(alloc, held, None)?),
-        _ => (layer(alloc, other, Some(one(alloc, (key, held))?))?, none),
+        "send" => (layer(answer, text, None), none),
+        "recv" => (none, layer(answer, text, None)),
+        _ => {
+            let notes = noted(answer, "x", text);
+            (layer(answer, "1", Some(notes)), none)
+        }
     };
-    Ok(MediaAttribute::Simulcast(Simulcast {
+    MediaAttribute::Simulcast(Simulcast {
         send,
         recv,
         is_munged: false,
-    }))
+    })
 }
 
 /// One layer, and what is noted of it.
 fn layer(
-    alloc: Global,
-    name: Text,
+    answer: &mut Answer,
+    name: &str,
     attributes: Option<Items<(Text, Text)>>,
-) -> Result<SimulcastGroups, AllocError> {
-    let restriction_id = RestrictionId::new_active(name);
+) -> SimulcastGroups {
+    let restriction_id = RestrictionId::new_active(text_of(answer, name));
     let layer = SimulcastLayer {
         restriction_id,
         attributes,
     };
-    Ok(SimulcastGroups(one(alloc, layer)?))
+    SimulcastGroups(one(answer, layer))
+}
+
+/// A list of one key and its value.
+fn noted(answer: &mut Answer, key: &str, value: &str) -> Items<(Text, Text)> {
+    let (key, value) = (text_of(answer, key), text_of(answer, value));
+    one(answer, (key, value))
 }
 
 /// A fingerprint of one byte.
-fn fingerprint(alloc: Global, hash_func: &str) -> Result<Fingerprint, AllocError> {
-    let hash_func = Text::from_str(alloc, hash_func)?;
-    let bytes = one(alloc, 5)?;
-    Ok(Fingerprint { hash_func, bytes })
-}
-
-/// A candidate with the text as its user's fragment or as its foundation.
-fn candidate(alloc: Global, field: &str, text: &str) -> Result<Candidate, AllocError> {
-    let held = Text::from_str(alloc, text)?;
-    match field {
-        "candidate-ufrag" => Ok(candidate_of(Text::from_str(alloc, "1")?, Some(held))),
-        _ => Ok(candidate_of(held, None)),
+fn fingerprint(answer: &mut Answer, hash_func: &str) -> Fingerprint {
+    Fingerprint {
+        hash_func: text_of(answer, hash_func),
+        bytes: one(answer, 5),
     }
 }
 
-fn candidate_of(foundation: Text, ufrag: Option<Text>) -> Candidate {
+/// A candidate with this foundation and, where there is one, this user's fragment.
+fn candidate(answer: &mut Answer, foundation: &str, ufrag: Option<&str>) -> Candidate {
+    let foundation = text_of(answer, foundation);
+    let ufrag = match ufrag {
+        Some(ufrag) => Some(text_of(answer, ufrag)),
+        None => None,
+    };
     let addr = SocketAddr {
         ip: IpAddr::V4([192, 0, 2, 1]),
         port: 9,
@@ -219,9 +217,14 @@ fn candidate_of(foundation: Text, ufrag: Option<Text>) -> Candidate {
     Candidate::from_parts(foundation, 1, proto, 1, addr, kind, None, None, ufrag)
 }
 
+pub(crate) fn text_of(answer: &mut Answer, text: &str) -> Text {
+    let alloc = answer.alloc();
+    answer.kept(Text::from_str(alloc, text), Text::empty(alloc))
+}
+
 /// A list of one item.
-fn one<T: Drop>(alloc: Global, item: T) -> Result<Items<T>, AllocError> {
-    let mut list = Items::empty(alloc);
-    list.push(item)?;
-    Ok(list)
+pub(crate) fn one<T: Drop>(answer: &mut Answer, item: T) -> Items<T> {
+    let mut list = Items::empty(answer.alloc());
+    answer.note(list.push(item));
+    list
 }

@@ -7,19 +7,12 @@ mod negotiated;
 mod read_back;
 mod writable;
 
-use std::alloc::Global;
-use str0m_signal::SdpError;
+use plain_cases::Answer;
 
-/// What the call that the word names answers of the text; none for a word that is not of this crate.
-pub fn answer(alloc: Global, word: &str, text: &str) -> Result<Option<String>, SdpError> {
-    if let Some(answer) = writable::answer(alloc, word, text)? {
-        return Ok(Some(answer));
-    }
-    if let Some(answer) = negotiated::answer(alloc, word, text)? {
-        return Ok(Some(answer));
-    }
-    if let Some(answer) = read_back::answer(alloc, word, text)? {
-        return Ok(Some(answer));
-    }
-    made_sections::answer(alloc, word, text)
+/// Answers what the word asks of the text; whether it is a word of this crate.
+pub fn answers(answer: &mut Answer, word: &str, text: &str) -> bool {
+    writable::answers(answer, word, text)
+        || negotiated::answers(answer, word, text)
+        || read_back::answers(answer, word, text)
+        || made_sections::answers(answer, word, text)
 }

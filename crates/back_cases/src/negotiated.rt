@@ -1,77 +1,69 @@
 //! Rounds of negotiation with a whole text.
 
-use case_texts::{add_item, behind_header, refused};
-use plain_cases::{configuration, is_same, shown_rows};
-use std::alloc::{AllocError, Global};
-use str0m_signal::{
-    CodecConfig, NegotiationError, PayloadParams, SdpError, locked_rows, negotiate_text,
-};
+use case_texts::{behind_header, fail, push_refused};
+use plain_cases::{Answer, configuration, is_same, show_rows};
+use str0m_signal::{CodecConfig, NegotiationError, SdpError, locked_rows, negotiate_text};
 
-/// What the call that the word names answers of the text; none for a word of others.
-pub(crate) fn answer(alloc: Global, word: &str, text: &str) -> Result<Option<String>, SdpError> {
+type Outcome = Result<(), NegotiationError>;
+
+/// Answers what the word asks of the text; whether it is one of these words.
+pub(crate) fn answers(answer: &mut Answer, word: &str, text: &str) -> bool {
     let (own, text) = text.split_once(" | ").unwrap_or((text, ""));
     match word {
         "negotiate" => {
-            let text = behind_header(alloc, text)?;
-            Ok(Some(rounds(alloc, word, own, text.as_str())?))
+            let text = behind_header(answer, text);
+            negotiated(answer, own, text.as_str());
         }
-        "negotiate-text" | "negotiate-locked" => Ok(Some(rounds(alloc, word, own, text)?)),
-        _ => Ok(None),
+        "negotiate-text" => negotiated(answer, own, text),
+        "negotiate-locked" => locked(answer, own, text),
+        _ => return false,
+    }
+    true
+}
+
+/// What the rounds of the text come to for the configuration that is named first, a line each, or why it is refused; then
+/// the rows that are left. Where no round is accepted, the configuration has to be what it was.
+fn negotiated(answer: &mut Answer, own: &str, text: &str) {
+    let mut config = configuration(answer, own);
+    let before = copy_of(answer, &config);
+    let outcomes = negotiate_text(&mut config, text);
+    if is_any_accepted(&outcomes) || is_same(&config, &before) {
+        show_outcomes_or_error(answer, &outcomes);
+        answer.item("\n");
+        show_rows(answer, config.params());
+    } else {
+        answer.settle("changed where no round was accepted");
     }
 }
 
-/// What the rounds of the text come to for the configuration that the word names first.
-fn rounds(alloc: Global, word: &str, own: &str, text: &str) -> Result<String, SdpError> {
-    match (word, configuration(alloc, own)?) {
-        (_, None) => Ok("no such configuration".to_string(alloc)?),
-        ("negotiate-locked", Some(mut config)) => locked(alloc, &mut config, text),
-        (_, Some(mut config)) => negotiated(alloc, &mut config, text),
-    }
+fn copy_of(answer: &mut Answer, config: &CodecConfig) -> CodecConfig {
+    let none = CodecConfig::empty(answer.alloc());
+    answer.kept(config.clone(), none)
 }
 
-/// What the rounds of the text come to, a line each, or why it is refused; then the rows that are left. Where no round
-/// is accepted, the configuration has to be what it was.
-fn negotiated(alloc: Global, config: &mut CodecConfig, text: &str) -> Result<String, SdpError> {
-    let before = config.clone()?;
-    let outcomes = negotiate_text(config, text);
-    if !is_any_accepted(&outcomes) && !is_same(config, &before) {
-        return Ok("changed where no round was accepted".to_string(alloc)?);
-    }
-    let said = match &outcomes {
-        Ok(outcomes) => outcome_lines(alloc, outcomes.as_slice())?,
-        Err(error) => refused_text(alloc, error)?,
-    };
-    Ok(with_rows(alloc, said, config.params())?)
-}
-
-/// Why the text is refused. One that is refused memory is no answer.
-fn refused_text(alloc: Global, error: &SdpError) -> Result<String, SdpError> {
-    match error {
-        SdpError::Memory => Err(SdpError::Memory),
-        error => Ok(refused(alloc, error)?),
+fn show_outcomes_or_error(answer: &mut Answer, outcomes: &Result<Vec<Outcome>, SdpError>) {
+    match outcomes {
+        Ok(outcomes) => show_outcomes(answer, outcomes.as_slice()),
+        Err(SdpError::Memory) => answer.refuse(),
+        Err(error) => push_refused(answer, error),
     }
 }
 
 /// What the rounds of the text come to, a line each, and then the rows that are locked by them.
-fn locked(alloc: Global, config: &mut CodecConfig, text: &str) -> Result<String, SdpError> {
-    let outcomes = negotiate_text(config, text)?;
-    let said = outcome_lines(alloc, outcomes.as_slice())?;
-    let rows = locked_rows(config)?;
-    Ok(with_rows(alloc, said, rows.as_slice())?)
+fn locked(answer: &mut Answer, own: &str, text: &str) {
+    let mut config = configuration(answer, own);
+    match &negotiate_text(&mut config, text) {
+        Ok(outcomes) => show_outcomes(answer, outcomes.as_slice()),
+        Err(error) => fail(answer, error),
+    }
+    answer.item("\n");
+    let rows = locked_rows(&config);
+    if let Some(rows) = answer.made(&rows) {
+        show_rows(answer, rows.as_slice());
+    }
 }
 
-/// What is said, and behind it the rows.
-fn with_rows(
-    alloc: Global,
-    mut said: String,
-    rows: &[PayloadParams],
-) -> Result<String, AllocError> {
-    let rows = shown_rows(alloc, rows)?;
-    add_item(&mut said, rows.as_str(), "\n")?;
-    Ok(said)
-}
-
-fn is_any_accepted(outcomes: &Result<Vec<Result<(), NegotiationError>>, SdpError>) -> bool {
+fn is_any_accepted(outcomes: &Result<Vec<Outcome>, SdpError>) -> bool {
     match outcomes {
         Ok(outcomes) => outcomes.iter().any(|outcome| outcome.is_ok()),
         Err(_) => false,
@@ -79,18 +71,13 @@ fn is_any_accepted(outcomes: &Result<Vec<Result<(), NegotiationError>>, SdpError
 }
 
 /// `ok`, or the text of the cause, of each round. A round that is refused memory is no answer.
-pub(crate) fn outcome_lines(
-    alloc: Global,
-    outcomes: &[Result<(), NegotiationError>],
-) -> Result<String, AllocError> {
-    let mut lines = String::new(alloc);
+pub(crate) fn show_outcomes(answer: &mut Answer, outcomes: &[Outcome]) {
     for outcome in outcomes {
-        let line = match outcome {
-            Ok(()) => "ok".to_string(alloc)?,
-            Err(NegotiationError::Memory) => return Err(AllocError),
-            Err(cause) => cause.to_string(alloc)?,
-        };
-        add_item(&mut lines, line.as_str(), "\n")?;
+        answer.item("\n");
+        match outcome {
+            Ok(()) => answer.push("ok"),
+            Err(NegotiationError::Memory) => answer.refuse(),
+            Err(cause) => answer.show(cause),
+        }
     }
-    Ok(lines)
 }

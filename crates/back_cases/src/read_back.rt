@@ -1,177 +1,156 @@
 //! Rows that are put into a section of a description, printed with it and read again.
 
-use crate::negotiated::outcome_lines;
+use crate::made_sections::push_made;
+use crate::negotiated::show_outcomes;
 use crate::writable::changed;
-use case_texts::{add_item, description, escaped};
-use plain_cases::{configuration, shown_rows};
-use std::alloc::{AllocError, Global};
+use case_texts::{description, fail};
+use plain_cases::{Answer, configuration, show_rows};
 use str0m_signal::{
-    CodecConfig, MediaLine, PayloadParams, Sdp, SdpError, is_writable, negotiate_text, sdp_parser,
-    section_of,
+    CodecConfig, PayloadParams, Sdp, SdpError, is_writable, negotiate_text, sdp_parser, section_of,
 };
 
-/// What the call that the word names answers of the text; none for a word of others.
-pub(crate) fn answer(alloc: Global, word: &str, text: &str) -> Result<Option<String>, SdpError> {
+/// Answers what the word asks of the text; whether it is one of these words.
+pub(crate) fn answers(answer: &mut Answer, word: &str, text: &str) -> bool {
     if !matches!(word, "section-of" | "read-back" | "negotiate-back") {
-        return Ok(None);
+        return false;
     }
     let (own, text) = text.split_once(" | ").unwrap_or((text, ""));
-    let answer = match configuration(alloc, own)? {
-        Some(mut config) => asked(alloc, word, &mut config, text)?,
-        None => "no such configuration".to_string(alloc)?,
-    };
-    Ok(Some(answer))
-}
-
-fn asked(
-    alloc: Global,
-    word: &str,
-    config: &mut CodecConfig,
-    text: &str,
-) -> Result<String, SdpError> {
+    let mut config = configuration(answer, own);
     match word {
-        "section-of" => section_printed(alloc, config.params(), text),
-        "read-back" => read_back(alloc, config.params(), text),
-        _ => negotiated_back(alloc, config, text),
+        "section-of" => section_printed(answer, config.params(), text),
+        "read-back" => read_back(answer, config.params(), text),
+        _ => negotiated_back(answer, &mut config, text),
     }
+    true
 }
 
 /// The rows in the frame of a description's first section, printed.
-fn section_printed(alloc: Global, rows: &[PayloadParams], lines: &str) -> Result<String, SdpError> {
-    first_printed(alloc, rows, &description(alloc, lines)?)
-}
-
-fn first_printed(alloc: Global, rows: &[PayloadParams], sdp: &Sdp) -> Result<String, SdpError> {
-    match sdp.media_lines.as_slice().first() {
-        Some(frame) => made_printed(alloc, frame, rows),
-        None => Ok("no section".to_string(alloc)?),
+fn section_printed(answer: &mut Answer, rows: &[PayloadParams], lines: &str) {
+    if let Some(sdp) = &description(answer, lines) {
+        push_made_of_first(answer, sdp, rows);
     }
 }
 
-/// What the section prints that is made of the rows in this frame.
-pub(crate) fn made_printed(
-    alloc: Global,
-    frame: &MediaLine,
-    rows: &[PayloadParams],
-) -> Result<String, SdpError> {
-    let made = section_of(frame, rows)?.to_string(alloc)?;
-    Ok(escaped(alloc, made.as_str())?)
+fn push_made_of_first(answer: &mut Answer, sdp: &Sdp, rows: &[PayloadParams]) {
+    match sdp.media_lines.as_slice().first() {
+        Some(frame) => push_made(answer, frame, rows),
+        None => answer.push("no section"),
+    }
 }
 
 /// `read-back ROWS | INDEX LINES | CHANGE`: whether the rows come back from the section at the index.
-fn read_back(alloc: Global, rows: &[PayloadParams], text: &str) -> Result<String, SdpError> {
+fn read_back(answer: &mut Answer, rows: &[PayloadParams], text: &str) {
     let (index, text) = text.split_once(' ').unwrap_or((text, ""));
-    read_back_at(alloc, rows, &changed(alloc, text)?, index)
+    if let Some(sdp) = &changed(answer, text) {
+        come_back_at(answer, sdp, index, rows);
+    }
 }
 
-fn read_back_at(
-    alloc: Global,
-    rows: &[PayloadParams],
-    sdp: &Sdp,
-    index: &str,
-) -> Result<String, SdpError> {
+fn come_back_at(answer: &mut Answer, sdp: &Sdp, index: &str, rows: &[PayloadParams]) {
     match index.parse::<usize>() {
-        Ok(index) => come_back(alloc, sdp, index, rows),
-        Err(_) => Ok("no index".to_string(alloc)?),
+        Ok(index) => come_back(answer, sdp, index, rows),
+        Err(_) => answer.push("no index"),
     }
 }
 
 /// Runs the rounds of the text: what each comes to, and whether the rows that they leave come back from each of its
 /// sections of sound and pictures.
-fn negotiated_back(
-    alloc: Global,
-    config: &mut CodecConfig,
-    text: &str,
-) -> Result<String, SdpError> {
-    let outcomes = negotiate_text(config, text)?;
-    let mut answer = outcome_lines(alloc, outcomes.as_slice())?;
-    let read = sdp_parser(alloc, text)?;
-    add_sections_back(alloc, &mut answer, &read.0, config.params())?;
-    Ok(answer)
+fn negotiated_back(answer: &mut Answer, config: &mut CodecConfig, text: &str) {
+    match &negotiate_text(config, text) {
+        Ok(outcomes) => show_outcomes(answer, outcomes.as_slice()),
+        Err(error) => fail(answer, error),
+    }
+    let read = sdp_parser(answer.alloc(), text);
+    add_back(answer, &read, config.params());
 }
 
-fn add_sections_back(
-    alloc: Global,
-    answer: &mut String,
-    sdp: &Sdp,
-    rows: &[PayloadParams],
-) -> Result<(), SdpError> {
+fn add_back(answer: &mut Answer, read: &Result<(Sdp, &str), SdpError>, rows: &[PayloadParams]) {
+    match read {
+        Ok((sdp, _)) => add_sections_back(answer, sdp, rows),
+        Err(error) => fail(answer, error),
+    }
+}
+
+fn add_sections_back(answer: &mut Answer, sdp: &Sdp, rows: &[PayloadParams]) {
     for (index, section) in sdp.media_lines.as_slice().iter().enumerate() {
         if section.typ.is_media() {
-            let said = come_back(alloc, sdp, index, rows)?;
-            let line = format!(in alloc; "section {index}: {said}")?;
-            add_item(answer, line.as_str(), "\n")?;
+            answer.item("\n");
+            answer.push("section ");
+            answer.show(&index);
+            answer.push(": ");
+            come_back(answer, sdp, index, rows);
         }
     }
-    Ok(())
 }
 
 /// Prints the description with the rows in the section at the index, if that is writable, and reads it again: whether
 /// all of it is read, and that section describes these rows in this order.
-fn come_back(
-    alloc: Global,
-    sdp: &Sdp,
-    index: usize,
-    rows: &[PayloadParams],
-) -> Result<String, SdpError> {
-    if !is_writable(sdp, index)? {
-        return Ok("not writable".to_string(alloc)?);
+fn come_back(answer: &mut Answer, sdp: &Sdp, index: usize, rows: &[PayloadParams]) {
+    match is_writable(sdp, index) {
+        Ok(true) => put_and_read(answer, sdp, index, rows),
+        Ok(false) => answer.push("not writable"),
+        Err(_) => answer.refuse(),
     }
-    let mut sdp = sdp.clone()?;
-    put_rows(&mut sdp, index, rows)?;
-    let printed = sdp.to_string(alloc)?;
-    are_read(alloc, printed.as_str(), index, rows)
+}
+
+fn put_and_read(answer: &mut Answer, sdp: &Sdp, index: usize, rows: &[PayloadParams]) {
+    match &mut sdp.clone() {
+        Ok(sdp) => {
+            put_rows(answer, sdp, index, rows);
+            read_again(answer, sdp, index, rows);
+        }
+        Err(_) => answer.refuse(),
+    }
 }
 
 /// Puts the rows into the section at the index, if there is one.
-fn put_rows(sdp: &mut Sdp, index: usize, rows: &[PayloadParams]) -> Result<(), AllocError> {
+fn put_rows(answer: &mut Answer, sdp: &mut Sdp, index: usize, rows: &[PayloadParams]) {
     if let Some(section) = sdp.media_lines.0.get_mut(index) {
-        let made = section_of(section, rows)?;
-        *section = made;
+        match section_of(section, rows) {
+            Ok(made) => *section = made,
+            Err(_) => answer.refuse(),
+        }
     }
-    Ok(())
 }
 
-/// Whether all of the text is read, and its section at the index describes these rows.
-fn are_read(
-    alloc: Global,
-    text: &str,
+/// Whether all that the description prints is read, and its section at the index describes these rows.
+fn read_again(answer: &mut Answer, sdp: &Sdp, index: usize, rows: &[PayloadParams]) {
+    let printed = answer.printed(sdp);
+    let read = sdp_parser(answer.alloc(), printed.as_str());
+    compare_read(answer, &read, index, rows);
+}
+
+fn compare_read(
+    answer: &mut Answer,
+    read: &Result<(Sdp, &str), SdpError>,
     index: usize,
     rows: &[PayloadParams],
-) -> Result<String, SdpError> {
-    Ok(rows_compared(alloc, &sdp_parser(alloc, text)?, index, rows)?)
-}
-
-fn rows_compared(
-    alloc: Global,
-    read: &(Sdp, &str),
-    index: usize,
-    rows: &[PayloadParams],
-) -> Result<String, AllocError> {
-    let (sdp, rest) = read;
-    if !rest.is_empty() {
-        return "unread lines".to_string(alloc);
+) {
+    match read {
+        Ok((sdp, rest)) if rest.is_empty() => compare_at(answer, sdp, index, rows),
+        Ok(_) => answer.push("unread lines"),
+        Err(error) => fail(answer, error),
     }
-    let found = rows_at(alloc, sdp, index)?;
-    compared(alloc, found.as_slice(), rows)
 }
 
-fn compared(
-    alloc: Global,
-    found: &[PayloadParams],
-    rows: &[PayloadParams],
-) -> Result<String, AllocError> {
-    if found == rows {
-        return "equal".to_string(alloc);
-    }
-    let found = shown_rows(alloc, found)?;
-    format!(in alloc; "other rows: {found}")
-}
-
-/// The rows of the section at the index; none where there is no such section.
-fn rows_at(alloc: Global, sdp: &Sdp, index: usize) -> Result<Vec<PayloadParams>, AllocError> {
+/// Compares with the rows of the section at the index; none where there is no such section.
+fn compare_at(answer: &mut Answer, sdp: &Sdp, index: usize, rows: &[PayloadParams]) {
     match sdp.media_lines.as_slice().get(index) {
-        Some(section) => section.rtp_params(),
-        None => Ok(Vec::new(alloc)),
+        Some(section) => {
+            let found = section.rtp_params();
+            if let Some(found) = answer.made(&found) {
+                compare(answer, found.as_slice(), rows);
+            }
+        }
+        None => compare(answer, &[], rows),
+    }
+}
+
+fn compare(answer: &mut Answer, found: &[PayloadParams], rows: &[PayloadParams]) {
+    if found == rows {
+        answer.push("equal");
+    } else {
+        answer.push("other rows: ");
+        show_rows(answer, found);
     }
 }

@@ -1,22 +1,20 @@
 //! Texts of several lines as one, and answers of several lines.
 
-use std::alloc::{AllocError, Global};
+use plain_cases::Answer;
 
 /// The text that a case writes with `\r`, `\n`, `\t` and `\\`.
-pub fn unescaped(alloc: Global, text: &str) -> Result<String, AllocError> {
-    let mut plain = String::new(alloc);
+pub fn push_unescaped(plain: &mut Answer, text: &str) {
     let mut is_escaped = false;
     for character in text.chars() {
         if is_escaped {
-            plain.push(meaning(character))?;
+            plain.show(&meaning(character));
             is_escaped = false;
         } else if character == '\\' {
             is_escaped = true;
         } else {
-            plain.push(character)?;
+            plain.show(&character);
         }
     }
-    Ok(plain)
 }
 
 fn meaning(escape: char) -> char {
@@ -29,34 +27,24 @@ fn meaning(escape: char) -> char {
 }
 
 /// The text as an answer writes it: a line break stands behind each `\n` but the last.
-pub fn escaped(alloc: Global, text: &str) -> Result<String, AllocError> {
-    let mut shown = String::new(alloc);
+pub fn push_escaped(answer: &mut Answer, text: &str) {
     for character in text.trim_end_matches('\n').chars() {
         match character {
-            '\r' => shown.push_str("\\r")?,
-            '\n' => shown.push_str("\\n\n")?,
-            '\t' => shown.push_str("\\t")?,
-            '\\' => shown.push_str("\\\\")?,
-            itself => shown.push(itself)?,
+            '\r' => answer.push("\\r"),
+            '\n' => answer.push("\\n\n"),
+            '\t' => answer.push("\\t"),
+            '\\' => answer.push("\\\\"),
+            itself => answer.show(&itself),
         }
     }
-    if text.ends_with('\n') {
-        shown.push_str("\\n")?;
-    }
-    Ok(shown)
+    answer.push_if(text.ends_with('\n'), "\\n");
 }
 
 /// The answer behind `=>`: a space before it, and its further lines under its first.
-pub fn indented(alloc: Global, answer: &str) -> Result<String, AllocError> {
-    let mut shown = String::new(alloc);
-    if !answer.is_empty() {
-        shown.push(' ')?;
-    }
+pub fn push_indented(shown: &mut Answer, answer: &str) {
+    shown.push_if(!answer.is_empty(), " ");
     for character in answer.chars() {
-        shown.push(character)?;
-        if character == '\n' {
-            shown.push_str("   ")?;
-        }
+        shown.show(&character);
+        shown.push_if(character == '\n', "   ");
     }
-    Ok(shown)
 }

@@ -1,11 +1,10 @@
-//! Texts that cases are made of: how they are written on one line, what they describe, and answers that are lists.
+//! Texts that cases are made of: how they are written on one line, and what they describe.
 #![tactic(auto)]
 
 mod escapes;
 mod spoken;
 
-pub use crate::escapes::{escaped, indented, unescaped};
+pub use crate::escapes::{push_escaped, push_indented, push_unescaped};
 pub use crate::spoken::{
-    add_item, add_line, add_list, behind_header, description, or_word, refused, section, session,
-    unread,
+    add_attribute, behind_header, description, fail, push_refused, section, session,
 };

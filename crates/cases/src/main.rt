@@ -3,38 +3,52 @@
 //! a carriage return, a line feed, a tab and a backslash; answers write them the same way.
 #![tactic(auto)]
 
-mod sections;
-
-use case_texts::{indented, unescaped};
+use case_texts::{push_indented, push_unescaped};
+use plain_cases::Answer;
 use std::alloc::{AllocError, Global};
 use std::io;
 
-/// What the call that the word names answers of the text.
-fn answer(alloc: Global, word: &str, text: &str) -> Result<String, AllocError> {
-    if let Some(answer) = plain_cases::answer(alloc, word, text)? {
-        return Ok(answer);
-    }
-    if let Some(answer) = line_cases::answer(alloc, word, text)? {
-        return Ok(answer);
-    }
-    match sections::answer(alloc, word, text)? {
-        Some(answer) => Ok(answer),
-        None => "no such word".to_string(alloc),
-    }
+/// Answers what the word asks of the text.
+fn answer_to(answer: &mut Answer, word: &str, text: &str) {
+    let is_known = plain_cases::answers(answer, word, text)
+        || line_cases::answers(answer, word, text)
+        || said_cases::answers(answer, word, text)
+        || back_cases::answers(answer, word, text);
+    answer.push_if(!is_known, "no such word");
+}
+
+/// The text of a case as it is meant.
+fn plain(alloc: Global, text: &str) -> Result<String, AllocError> {
+    let mut plain = Answer::new(alloc);
+    push_unescaped(&mut plain, text);
+    plain.finish()
+}
+
+/// The answer as it stands behind `=>`.
+fn indented(alloc: Global, answer: &str) -> Result<String, AllocError> {
+    let mut shown = Answer::new(alloc);
+    push_indented(&mut shown, answer);
+    shown.finish()
+}
+
+fn answered(alloc: Global, word: &str, text: &str) -> Result<String, AllocError> {
+    let mut answer = Answer::new(alloc);
+    answer_to(&mut answer, word, text);
+    answer.finish()
 }
 
 /// The case as it is written: its line, and its answer under it.
-fn answered(alloc: Global, line: &str) -> Result<String, AllocError> {
+fn written(alloc: Global, line: &str) -> Result<String, AllocError> {
     let (word, text) = line.split_once(' ').unwrap_or((line, ""));
-    let text = unescaped(alloc, text)?;
-    let answer = answer(alloc, word, text.as_str())?;
+    let text = plain(alloc, text)?;
+    let answer = answered(alloc, word, text.as_str())?;
     let answer = indented(alloc, answer.as_str())?;
     format!(in alloc; "{line}\n=>{answer}")
 }
 
 fn main(rt: HostRuntime) -> io::Result<()> {
     for line in rt.lines(rt.alloc()) {
-        let case = answered(rt.alloc(), line?.as_str())?;
+        let case = written(rt.alloc(), line?.as_str())?;
         println!(rt; "{case}")?;
     }
     Ok(())

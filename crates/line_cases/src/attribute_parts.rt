@@ -1,91 +1,88 @@
 //! What lines of mappings, formats and rids say, part by part.
 
-use std::alloc::{AllocError, Global};
+use plain_cases::Answer;
 use str0m_signal::{FormatParam, MediaAttribute, Pt, RtpMap};
 
 /// What the word asks of the attribute.
-pub(crate) fn part_of(
-    alloc: Global,
-    word: &str,
-    attribute: &MediaAttribute,
-) -> Result<String, AllocError> {
+pub(crate) fn push_part(answer: &mut Answer, word: &str, attribute: &MediaAttribute) {
     match word {
-        "is-direction" => is_direction(alloc, attribute),
-        "rtpmap" => rtpmap(alloc, attribute),
-        "fmtp-line" => fmtp(alloc, attribute),
-        _ => rid(alloc, attribute),
+        "is-direction" => answer.push(if attribute.is_direction() {
+            "yes"
+        } else {
+            "no"
+        }),
+        "rtpmap" => rtpmap(answer, attribute),
+        "fmtp-line" => fmtp(answer, attribute),
+        _ => rid(answer, attribute),
     }
 }
 
-fn is_direction(alloc: Global, attribute: &MediaAttribute) -> Result<String, AllocError> {
-    if attribute.is_direction() {
-        "yes".to_string(alloc)
-    } else {
-        "no".to_string(alloc)
-    }
-}
-
-fn rtpmap(alloc: Global, attribute: &MediaAttribute) -> Result<String, AllocError> {
+fn rtpmap(answer: &mut Answer, attribute: &MediaAttribute) {
     match attribute {
-        MediaAttribute::RtpMap { pt, value } => mapping(alloc, *pt, value),
-        _ => "no mapping".to_string(alloc),
+        MediaAttribute::RtpMap { pt, value } => mapping(answer, *pt, value),
+        _ => answer.push("no mapping"),
     }
 }
 
-fn mapping(alloc: Global, pt: Pt, map: &RtpMap) -> Result<String, AllocError> {
-    let (codec, hertz) = (map.codec, map.clock_rate.get());
+fn mapping(answer: &mut Answer, pt: Pt, map: &RtpMap) {
+    answer.show(&pt);
+    answer.push(": ");
+    answer.show(&map.codec);
+    answer.push(", ");
+    answer.show(&map.clock_rate.get());
     match map.channels {
-        Some(channels) => format!(in alloc; "{pt}: {codec}, {hertz} Hz, channels {channels}"),
-        None => format!(in alloc; "{pt}: {codec}, {hertz} Hz, no channels"),
+        Some(channels) => {
+            answer.push(" Hz, channels ");
+            answer.show(&channels);
+        }
+        None => answer.push(" Hz, no channels"),
     }
 }
 
-fn fmtp(alloc: Global, attribute: &MediaAttribute) -> Result<String, AllocError> {
+fn fmtp(answer: &mut Answer, attribute: &MediaAttribute) {
     match attribute {
-        MediaAttribute::Fmtp { pt, values } => format_values(alloc, *pt, values.as_slice()),
-        _ => "no format".to_string(alloc),
+        MediaAttribute::Fmtp { pt, values } => show_values(answer, *pt, values.as_slice()),
+        _ => answer.push("no format"),
     }
 }
 
 /// The payload type, and each value in order.
-fn format_values(alloc: Global, pt: Pt, values: &[FormatParam]) -> Result<String, AllocError> {
-    let mut shown = format!(in alloc; "{pt}:")?;
+fn show_values(answer: &mut Answer, pt: Pt, values: &[FormatParam]) {
+    answer.show(&pt);
+    answer.push(":");
     for value in values {
-        let value = format_value(alloc, value)?;
-        shown.push(' ')?;
-        shown.push_str(value.as_str())?;
+        answer.push(" ");
+        show_value(answer, value);
     }
-    Ok(shown)
 }
 
 /// What a value prints, with its kind where it is no pair.
-fn format_value(alloc: Global, value: &FormatParam) -> Result<String, AllocError> {
-    match value {
-        FormatParam::Unknown => "unknown".to_string(alloc),
-        FormatParam::BarePtList(_) => format!(in alloc; "list({value})"),
-        FormatParam::BareRange(_) => format!(in alloc; "range({value})"),
-        _ => value.to_string(alloc),
-    }
+fn show_value(answer: &mut Answer, value: &FormatParam) {
+    let kind = match value {
+        FormatParam::Unknown => return answer.push("unknown"),
+        FormatParam::BarePtList(_) => "list(",
+        FormatParam::BareRange(_) => "range(",
+        _ => "",
+    };
+    answer.push(kind);
+    answer.show(value);
+    answer.push_if(!kind.is_empty(), ")");
 }
 
-fn rid(alloc: Global, attribute: &MediaAttribute) -> Result<String, AllocError> {
+fn rid(answer: &mut Answer, attribute: &MediaAttribute) {
     match attribute {
         MediaAttribute::Rid {
             id,
             pt,
             restriction,
             ..
-        } => lists(alloc, pt.len(), restriction.len(), id.1),
-        _ => "no rid".to_string(alloc),
+        } => {
+            answer.push("payload types ");
+            answer.show(&pt.len());
+            answer.push(", restrictions ");
+            answer.show(&restriction.len());
+            answer.push(if id.1 { ", active" } else { ", paused" });
+        }
+        _ => answer.push("no rid"),
     }
-}
-
-fn lists(
-    alloc: Global,
-    types: usize,
-    restrictions: usize,
-    is_active: bool,
-) -> Result<String, AllocError> {
-    let state = if is_active { "active" } else { "paused" };
-    format!(in alloc; "payload types {types}, restrictions {restrictions}, {state}")
 }

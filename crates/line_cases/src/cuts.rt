@@ -1,7 +1,7 @@
 //! The beginnings of one text, as offers.
 
-use case_texts::refused;
-use std::alloc::{AllocError, Global};
+use case_texts::push_refused;
+use plain_cases::Answer;
 use std::str;
 use str0m_signal::{MediaAttribute, MediaLine, SdpError, SdpOffer};
 
@@ -10,10 +10,10 @@ const OPUS: &str =
     "v=0\r\no=- 7 2 IN IP4 127.0.0.1\r\ns=-\r\nt=0 0\r\nm=audio 9 UDP/TLS/RTP/SAVPF 111\r\nc=IN IP4 0.0.0.0\r\na=setup:actpass\r\na=mid:0\r\na=sendrecv\r\na=rtpmap:111 opus/48000/2\r\na=fmtp:111 minptime=10;useinbandfec=1\r\n";
 
 /// How many sections are read of the text's first bytes, so many as the number says.
-pub(crate) fn cut(alloc: Global, number: &str) -> Result<String, AllocError> {
+pub(crate) fn cut(answer: &mut Answer, number: &str) {
     match beginning(number) {
-        Some(text) => sections_of(alloc, text),
-        None => "no beginning".to_string(alloc),
+        Some(text) => sections_of(answer, text),
+        None => answer.push("no beginning"),
     }
 }
 
@@ -24,25 +24,26 @@ fn beginning(number: &str) -> Option<&'static str> {
 }
 
 /// How many sections the text has, and the clock rate of each.
-fn sections_of(alloc: Global, text: &str) -> Result<String, AllocError> {
-    sections_read(alloc, &SdpOffer::from_sdp_string(alloc, text))
+fn sections_of(answer: &mut Answer, text: &str) {
+    let read = SdpOffer::from_sdp_string(answer.alloc(), text);
+    sections_read(answer, &read);
 }
 
-fn sections_read(alloc: Global, read: &Result<SdpOffer, SdpError>) -> Result<String, AllocError> {
+fn sections_read(answer: &mut Answer, read: &Result<SdpOffer, SdpError>) {
     match read {
-        Ok(offer) => sections_shown(alloc, offer.media_lines.as_slice()),
-        Err(error) => refused(alloc, error),
+        Ok(offer) => show_sections(answer, offer.media_lines.as_slice()),
+        Err(error) => push_refused(answer, error),
     }
 }
 
-fn sections_shown(alloc: Global, sections: &[MediaLine]) -> Result<String, AllocError> {
-    let mut shown = format!(in alloc; "sections {}", sections.len())?;
+fn show_sections(answer: &mut Answer, sections: &[MediaLine]) {
+    answer.push("sections ");
+    answer.show(&sections.len());
     for section in sections {
-        let rate = clock_rate(section);
-        let rate = format!(in alloc; ", clock rate {rate} Hz")?;
-        shown.push_str(rate.as_str())?;
+        answer.push(", clock rate ");
+        answer.show(&clock_rate(section));
+        answer.push(" Hz");
     }
-    Ok(shown)
 }
 
 /// The clock rate of the section's last mapping; 0 where it has none.

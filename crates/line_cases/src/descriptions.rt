@@ -1,132 +1,128 @@
 //! Descriptions: their sessions and sections, what is left behind them, and why they are refused.
 
 use crate::cuts;
-use crate::lines::with_rest;
+use crate::lines::{push_printed, push_rest};
 use crate::section_shown::{append_section, append_session};
-use case_texts::{behind_header, escaped, refused};
-use std::alloc::{AllocError, Global};
+use case_texts::{behind_header, push_escaped, push_refused};
+use plain_cases::Answer;
+use std::alloc::AllocError;
 use str0m_signal::{
     MediaLine, Sdp, SdpAnswer, SdpError, SdpOffer, Session, sdp_parser, session_parser,
 };
 
-/// What the call that the word names answers of the text; none for a word of others.
-pub(crate) fn answer(alloc: Global, word: &str, text: &str) -> Result<Option<String>, AllocError> {
+/// Answers what the word asks of the text; whether it is one of these words.
+pub(crate) fn answers(answer: &mut Answer, word: &str, text: &str) -> bool {
     match word {
-        "header" => Ok(Some(header(alloc, text)?)),
-        "description" | "copied" => Ok(Some(description(alloc, word, text)?)),
-        "offer-text" => Ok(Some(offer(alloc, text)?)),
-        "answer-text" => Ok(Some(answer_printed(alloc, text)?)),
-        "cut" => Ok(Some(cuts::cut(alloc, text)?)),
-        _ => answer_behind_header(alloc, word, text),
+        "header" => header(answer, text),
+        "description" | "copied" => description(answer, word, text),
+        "offer-text" => offer(answer, text),
+        "answer-text" => answer_printed(answer, text),
+        "cut" => cuts::cut(answer, text),
+        _ => return of_lines(answer, word, text),
     }
+    true
 }
 
 /// What the word asks of lines behind a header.
-fn answer_behind_header(
-    alloc: Global,
-    word: &str,
-    lines: &str,
-) -> Result<Option<String>, AllocError> {
-    let text = behind_header(alloc, lines)?;
+fn of_lines(answer: &mut Answer, word: &str, lines: &str) -> bool {
+    let text = behind_header(answer, lines);
     match word {
-        "header-with" => Ok(Some(header(alloc, text.as_str())?)),
+        "header-with" => header(answer, text.as_str()),
         "description-with" | "consistent" | "section-printed" => {
-            Ok(Some(description(alloc, word, text.as_str())?))
+            description(answer, word, text.as_str());
         }
-        _ => Ok(None),
+        _ => return false,
     }
+    true
 }
 
 /// The session that the text begins with, and what is left.
-fn header(alloc: Global, text: &str) -> Result<String, AllocError> {
-    header_of(alloc, &session_parser(alloc, text))
+fn header(answer: &mut Answer, text: &str) {
+    let read = session_parser(answer.alloc(), text);
+    header_of(answer, &read);
 }
 
-fn header_of(
-    alloc: Global,
-    read: &Result<(Session, &str), SdpError>,
-) -> Result<String, AllocError> {
+fn header_of(answer: &mut Answer, read: &Result<(Session, &str), SdpError>) {
     match read {
         Ok((session, rest)) => {
-            let mut shown = String::new(alloc);
-            append_session(alloc, &mut shown, session)?;
-            with_rest(alloc, shown, rest)
+            append_session(answer, session);
+            push_rest(answer, rest);
         }
-        Err(error) => refused(alloc, error),
+        Err(error) => push_refused(answer, error),
     }
 }
 
 /// What the word asks of the description that the text begins with.
-fn description(alloc: Global, word: &str, text: &str) -> Result<String, AllocError> {
-    description_of(alloc, word, &sdp_parser(alloc, text))
+fn description(answer: &mut Answer, word: &str, text: &str) {
+    let read = sdp_parser(answer.alloc(), text);
+    description_of(answer, word, &read);
 }
 
-fn description_of(
-    alloc: Global,
-    word: &str,
-    read: &Result<(Sdp, &str), SdpError>,
-) -> Result<String, AllocError> {
-    match (word, read) {
-        (_, Err(error)) => refused(alloc, error),
-        ("copied", Ok((sdp, _))) => copied(alloc, sdp),
-        ("consistent", Ok(_)) => "consistent".to_string(alloc),
-        ("section-printed", Ok((sdp, _))) => section_printed(alloc, sdp.media_lines.as_slice()),
-        (_, Ok((sdp, rest))) => with_rest(alloc, sdp_shown(alloc, sdp)?, rest),
+fn description_of(answer: &mut Answer, word: &str, read: &Result<(Sdp, &str), SdpError>) {
+    match read {
+        Ok((sdp, rest)) => show_description(answer, word, sdp, rest),
+        Err(error) => push_refused(answer, error),
     }
 }
 
-/// The session and the sections.
-fn sdp_shown(alloc: Global, sdp: &Sdp) -> Result<String, AllocError> {
-    let mut shown = String::new(alloc);
-    append_session(alloc, &mut shown, &sdp.session)?;
-    for section in sdp.media_lines.as_slice() {
-        append_section(alloc, &mut shown, section)?;
+fn show_description(answer: &mut Answer, word: &str, sdp: &Sdp, rest: &str) {
+    match word {
+        "copied" => show_copy(answer, &sdp.clone()),
+        "consistent" => answer.push("consistent"),
+        "section-printed" => show_first(answer, sdp.media_lines.as_slice()),
+        _ => {
+            append_session(answer, &sdp.session);
+            for section in sdp.media_lines.as_slice() {
+                append_section(answer, section);
+            }
+            push_rest(answer, rest);
+        }
     }
-    Ok(shown)
 }
 
 /// What a copy of the description prints: all of its parts are copied with it.
-fn copied(alloc: Global, sdp: &Sdp) -> Result<String, AllocError> {
-    let copy = sdp.clone()?;
-    sdp_printed(alloc, &copy)
-}
-
-fn sdp_printed(alloc: Global, sdp: &Sdp) -> Result<String, AllocError> {
-    let printed = sdp.to_string(alloc)?;
-    escaped(alloc, printed.as_str())
+fn show_copy(answer: &mut Answer, copy: &Result<Sdp, AllocError>) {
+    if let Some(copy) = answer.made(copy) {
+        push_printed(answer, copy);
+    }
 }
 
 /// What the first section prints.
-fn section_printed(alloc: Global, sections: &[MediaLine]) -> Result<String, AllocError> {
+fn show_first(answer: &mut Answer, sections: &[MediaLine]) {
     match sections.first() {
-        Some(section) => {
-            let printed = section.to_string(alloc)?;
-            escaped(alloc, printed.as_str())
-        }
-        None => "no section".to_string(alloc),
+        Some(section) => push_printed(answer, section),
+        None => answer.push("no section"),
     }
 }
 
 /// What an offer of this text prints.
-fn offer(alloc: Global, text: &str) -> Result<String, AllocError> {
-    offer_of(alloc, &SdpOffer::from_sdp_string(alloc, text))
+fn offer(answer: &mut Answer, text: &str) {
+    let read = SdpOffer::from_sdp_string(answer.alloc(), text);
+    offer_of(answer, &read);
 }
 
-fn offer_of(alloc: Global, read: &Result<SdpOffer, SdpError>) -> Result<String, AllocError> {
+fn offer_of(answer: &mut Answer, read: &Result<SdpOffer, SdpError>) {
     match read {
-        Ok(offer) => escaped(alloc, offer.to_sdp_string()?.as_str()),
-        Err(error) => refused(alloc, error),
+        Ok(offer) => push_made(answer, &offer.to_sdp_string()),
+        Err(error) => push_refused(answer, error),
     }
 }
 
 /// What an answer of this text prints.
-fn answer_printed(alloc: Global, text: &str) -> Result<String, AllocError> {
-    answer_of(alloc, &SdpAnswer::from_sdp_string(alloc, text))
+fn answer_printed(answer: &mut Answer, text: &str) {
+    let read = SdpAnswer::from_sdp_string(answer.alloc(), text);
+    answer_of(answer, &read);
 }
 
-fn answer_of(alloc: Global, read: &Result<SdpAnswer, SdpError>) -> Result<String, AllocError> {
+fn answer_of(answer: &mut Answer, read: &Result<SdpAnswer, SdpError>) {
     match read {
-        Ok(answer) => escaped(alloc, answer.to_sdp_string()?.as_str()),
-        Err(error) => refused(alloc, error),
+        Ok(read) => push_made(answer, &read.to_sdp_string()),
+        Err(error) => push_refused(answer, error),
+    }
+}
+
+fn push_made(answer: &mut Answer, printed: &Result<String, AllocError>) {
+    if let Some(printed) = answer.made(printed) {
+        push_escaped(answer, printed.as_str());
     }
 }

@@ -8,9 +8,9 @@ mod descriptions;
 mod lines;
 mod section_shown;
 
-use std::alloc::{AllocError, Global};
+use plain_cases::Answer;
 
-/// What the call that the word names answers of the text; none for a word that is not of this crate.
-pub fn answer(alloc: Global, word: &str, text: &str) -> Result<Option<String>, AllocError> {
-    lines::answer(alloc, word, text)
+/// Answers what the word asks of the text; whether it is a word of this crate.
+pub fn answers(answer: &mut Answer, word: &str, text: &str) -> bool {
+    lines::answers(answer, word, text) || descriptions::answers(answer, word, text)
 }

@@ -1,104 +1,122 @@
 //! Lines of attributes: what each is read as, what it prints, and what is left behind it.
 
 use crate::attribute_names::{media_name, session_name};
-use crate::attribute_parts::part_of;
-use crate::descriptions;
-use case_texts::{escaped, refused};
-use std::alloc::{AllocError, Global};
+use crate::attribute_parts::push_part;
+use case_texts::{push_escaped, push_refused};
+use plain_cases::Answer;
+use std::fmt::Display;
 use str0m_signal::{
     Candidate, MediaAttribute, SdpError, SessionAttribute, candidate_attribute,
     media_attribute_line, session_attribute_line,
 };
 
-/// What the call that the word names answers of the text; none for a word of others.
-pub(crate) fn answer(alloc: Global, word: &str, text: &str) -> Result<Option<String>, AllocError> {
+/// Answers what the word asks of the text; whether it is one of these words.
+pub(crate) fn answers(answer: &mut Answer, word: &str, text: &str) -> bool {
     match word {
         "media" | "is-direction" | "rtpmap" | "fmtp-line" | "rid-line" => {
-            Ok(Some(media(alloc, word, text)?))
+            media(answer, word, text);
         }
-        "session" => Ok(Some(session(alloc, text)?)),
-        "candidate-line" => Ok(Some(candidate(alloc, text)?)),
-        _ => descriptions::answer(alloc, word, text),
+        "session" => session(answer, text),
+        "candidate-line" => candidate(answer, text),
+        _ => return false,
     }
+    true
 }
 
-fn media(alloc: Global, word: &str, text: &str) -> Result<String, AllocError> {
-    media_of(alloc, word, &media_attribute_line(alloc, text))
+fn media(answer: &mut Answer, word: &str, text: &str) {
+    let read = media_attribute_line(answer.alloc(), text);
+    media_of(answer, word, &read);
+}
+
+fn media_of(answer: &mut Answer, word: &str, read: &Result<(MediaAttribute, &str), SdpError>) {
+    match read {
+        Ok((attribute, rest)) => media_read(answer, word, attribute, rest),
+        Err(error) => push_refused(answer, error),
+    }
 }
 
 /// What the word asks of the line that was read: one part of it, or the whole.
-fn media_of(
-    alloc: Global,
-    word: &str,
-    read: &Result<(MediaAttribute, &str), SdpError>,
-) -> Result<String, AllocError> {
+fn media_read(answer: &mut Answer, word: &str, attribute: &MediaAttribute, rest: &str) {
+    if word == "media" {
+        show_media(answer, attribute);
+        push_rest(answer, rest);
+    } else {
+        push_part(answer, word, attribute);
+    }
+}
+
+fn session(answer: &mut Answer, text: &str) {
+    let read = session_attribute_line(answer.alloc(), text);
+    session_of(answer, &read);
+}
+
+fn session_of(answer: &mut Answer, read: &Result<(SessionAttribute, &str), SdpError>) {
     match read {
-        Ok((attribute, rest)) if word == "media" => {
-            with_rest(alloc, media_shown(alloc, attribute)?, rest)
+        Ok((attribute, rest)) => {
+            show_session(answer, attribute);
+            push_rest(answer, rest);
         }
-        Ok((attribute, _)) => part_of(alloc, word, attribute),
-        Err(error) => refused(alloc, error),
+        Err(error) => push_refused(answer, error),
     }
 }
 
-fn session(alloc: Global, text: &str) -> Result<String, AllocError> {
-    session_of(alloc, &session_attribute_line(alloc, text))
+fn candidate(answer: &mut Answer, text: &str) {
+    let read = candidate_attribute(answer.alloc(), text);
+    candidate_of(answer, &read);
 }
 
-fn session_of(
-    alloc: Global,
-    read: &Result<(SessionAttribute, &str), SdpError>,
-) -> Result<String, AllocError> {
+fn candidate_of(answer: &mut Answer, read: &Result<(Candidate, &str), SdpError>) {
     match read {
-        Ok((attribute, rest)) => with_rest(alloc, session_shown(alloc, attribute)?, rest),
-        Err(error) => refused(alloc, error),
+        Ok((candidate, rest)) => {
+            show_candidate(answer, candidate);
+            push_rest(answer, rest);
+        }
+        Err(error) => push_refused(answer, error),
     }
 }
 
-fn candidate(alloc: Global, text: &str) -> Result<String, AllocError> {
-    candidate_of(alloc, &candidate_attribute(alloc, text))
-}
-
-fn candidate_of(
-    alloc: Global,
-    read: &Result<(Candidate, &str), SdpError>,
-) -> Result<String, AllocError> {
-    match read {
-        Ok((candidate, rest)) => with_rest(alloc, candidate.to_sdp_string(alloc)?, rest),
-        Err(error) => refused(alloc, error),
+fn show_candidate(answer: &mut Answer, candidate: &Candidate) {
+    let printed = candidate.to_sdp_string(answer.alloc());
+    if let Some(printed) = answer.made(&printed) {
+        answer.push(printed.as_str());
     }
 }
 
 /// The name of the attribute, and the line that it prints.
-pub(crate) fn media_shown(alloc: Global, attribute: &MediaAttribute) -> Result<String, AllocError> {
-    let printed = attribute.to_string(alloc)?;
-    shown(alloc, media_name(attribute), printed.as_str())
+pub(crate) fn show_media(answer: &mut Answer, attribute: &MediaAttribute) {
+    show(answer, media_name(attribute), attribute);
 }
 
 /// The name of the attribute, and the line that it prints.
-pub(crate) fn session_shown(
-    alloc: Global,
-    attribute: &SessionAttribute,
-) -> Result<String, AllocError> {
-    let printed = attribute.to_string(alloc)?;
-    shown(alloc, session_name(attribute), printed.as_str())
+pub(crate) fn show_session(answer: &mut Answer, attribute: &SessionAttribute) {
+    show(answer, session_name(attribute), attribute);
 }
 
-fn shown(alloc: Global, name: &str, printed: &str) -> Result<String, AllocError> {
-    if printed.is_empty() {
-        format!(in alloc; "{name}, not printed")
-    } else {
-        let line = escaped(alloc, printed)?;
-        format!(in alloc; "{name} {line}")
+fn show<T: Display>(answer: &mut Answer, name: &str, attribute: &T) {
+    answer.push(name);
+    let printed = attribute.to_string(answer.alloc());
+    if let Some(line) = answer.made(&printed) {
+        answer.push(if line.is_empty() {
+            ", not printed"
+        } else {
+            " "
+        });
+        push_escaped(answer, line.as_str());
     }
 }
 
-/// The answer, and what is left behind what was read, if anything is.
-pub(crate) fn with_rest(alloc: Global, answer: String, rest: &str) -> Result<String, AllocError> {
-    if rest.is_empty() {
-        Ok(answer)
-    } else {
-        let left = escaped(alloc, rest)?;
-        format!(in alloc; "{answer}\nleft {left}")
+/// What the value prints.
+pub(crate) fn push_printed<T: Display>(answer: &mut Answer, value: &T) {
+    let printed = value.to_string(answer.alloc());
+    if let Some(printed) = answer.made(&printed) {
+        push_escaped(answer, printed.as_str());
+    }
+}
+
+/// What is left behind what was read, if anything is.
+pub(crate) fn push_rest(answer: &mut Answer, rest: &str) {
+    if !rest.is_empty() {
+        answer.push("\nleft ");
+        push_escaped(answer, rest);
     }
 }

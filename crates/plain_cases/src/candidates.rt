@@ -1,80 +1,97 @@
 //! Candidates: as they are printed, and their parts.
 
-use std::alloc::{AllocError, Global};
+use crate::answer::Answer;
+use std::alloc::AllocError;
 use str0m_values::candidate_text::candidate;
 use str0m_values::{Candidate, SocketAddr};
 
-/// What the call that the word names answers of the text; none for a word of others.
-pub(crate) fn answer(alloc: Global, word: &str, text: &str) -> Result<Option<String>, AllocError> {
-    let answer = match word {
-        "candidate" => printed(alloc, text),
-        "candidate-parts" => parts(alloc, text),
-        "candidate-again" => again(alloc, text),
-        _ => return Ok(None),
-    };
-    Ok(Some(answer?))
+/// Answers what the word asks of the text; whether it is one of these words.
+pub(crate) fn answers(answer: &mut Answer, word: &str, text: &str) -> bool {
+    if !matches!(word, "candidate" | "candidate-parts" | "candidate-again") {
+        return false;
+    }
+    let read = candidate(answer.alloc(), text);
+    of_what_is_read(answer, word, &read);
+    true
 }
 
-fn printed(alloc: Global, text: &str) -> Result<String, AllocError> {
-    match candidate(alloc, text)? {
-        Some(found) => found.to_sdp_string(alloc),
-        None => "none".to_string(alloc),
+fn of_what_is_read(answer: &mut Answer, word: &str, read: &Result<Option<Candidate>, AllocError>) {
+    match read {
+        Ok(Some(found)) => of_candidate(answer, word, found),
+        Ok(None) => answer.push("none"),
+        Err(_) => answer.refuse(),
     }
 }
 
-/// Its parts, a line each.
-fn parts(alloc: Global, text: &str) -> Result<String, AllocError> {
-    let Some(found) = candidate(alloc, text)? else {
-        return "none".to_string(alloc);
-    };
-    let first = first_parts(alloc, &found)?;
-    let further = further_parts(alloc, &found)?;
-    format!(in alloc; "{first}\n{further}")
+fn of_candidate(answer: &mut Answer, word: &str, found: &Candidate) {
+    match word {
+        "candidate-parts" => parts(answer, found),
+        "candidate-again" => again(answer, found),
+        _ => {
+            let printed = printed(answer, found);
+            answer.push(printed.as_str());
+        }
+    }
 }
 
-/// The parts that every candidate has.
-fn first_parts(alloc: Global, found: &Candidate) -> Result<String, AllocError> {
-    let (foundation, component, proto) = (found.foundation(), found.component_id(), found.proto());
-    let (prio, addr, kind) = (found.prio(), found.addr(), found.kind());
-    let addr = socket(alloc, Some(addr))?;
-    format!(in alloc;
-        "foundation {foundation}\ncomponent {component}\nprotocol {proto:?}\npriority {prio}\naddress {addr}\nkind {kind:?}"
-    )
+fn printed(answer: &mut Answer, found: &Candidate) -> String {
+    let alloc = answer.alloc();
+    answer.kept(found.to_sdp_string(alloc), String::new(alloc))
 }
 
-/// The parts that may be absent.
-fn further_parts(alloc: Global, found: &Candidate) -> Result<String, AllocError> {
-    let raddr = socket(alloc, found.raddr())?;
-    let ufrag = found.ufrag().unwrap_or("-");
+/// Its parts, a line each: those that every candidate has, and those that may be absent.
+fn parts(answer: &mut Answer, found: &Candidate) {
+    answer.push("foundation ");
+    answer.push(found.foundation());
+    answer.push("\ncomponent ");
+    answer.show(&found.component_id());
+    answer.push("\nprotocol ");
+    answer.debug(&found.proto());
+    answer.push("\npriority ");
+    answer.show(&found.prio());
+    answer.push("\naddress ");
+    socket(answer, Some(found.addr()));
+    answer.push("\nkind ");
+    answer.debug(&found.kind());
+    further_parts(answer, found);
+}
+
+fn further_parts(answer: &mut Answer, found: &Candidate) {
+    answer.push("\nrelated address ");
+    socket(answer, found.raddr());
+    answer.push("\nTCP type ");
     match found.tcptype() {
-        Some(tcptype) => format!(in alloc;
-            "related address {raddr}\nTCP type {tcptype:?}\nufrag {ufrag}"
-        ),
-        None => format!(in alloc; "related address {raddr}\nTCP type -\nufrag {ufrag}"),
+        Some(tcptype) => answer.debug(&tcptype),
+        None => answer.push("-"),
     }
+    answer.push("\nufrag ");
+    answer.push(found.ufrag().unwrap_or("-"));
 }
 
 /// The numbers of an address, and its port.
-fn socket(alloc: Global, socket: Option<SocketAddr>) -> Result<String, AllocError> {
+fn socket(answer: &mut Answer, socket: Option<SocketAddr>) {
     match socket {
-        Some(SocketAddr { ip, port }) => format!(in alloc; "{ip:?} port {port}"),
-        None => "-".to_string(alloc),
+        Some(SocketAddr { ip, port }) => {
+            answer.debug(&ip);
+            answer.push(" port ");
+            answer.show(&port);
+        }
+        None => answer.push("-"),
     }
 }
 
 /// Whether the printed candidate is read as the same candidate again.
-fn again(alloc: Global, text: &str) -> Result<String, AllocError> {
-    match &candidate(alloc, text)? {
-        Some(found) => read_again(alloc, found)?.to_string(alloc),
-        None => "none".to_string(alloc),
-    }
+fn again(answer: &mut Answer, found: &Candidate) {
+    let printed = printed(answer, found);
+    let read = candidate(answer.alloc(), printed.as_str());
+    compared(answer, found, &read);
 }
 
-fn read_again(alloc: Global, found: &Candidate) -> Result<&'static str, AllocError> {
-    let printed = found.to_sdp_string(alloc)?;
-    match &candidate(alloc, printed.as_str())? {
-        Some(again) if again == found => Ok("the same"),
-        Some(_) => Ok("another"),
-        None => Ok("none of what was printed"),
+fn compared(answer: &mut Answer, found: &Candidate, read: &Result<Option<Candidate>, AllocError>) {
+    match read {
+        Ok(Some(again)) if again == found => answer.push("the same"),
+        Ok(Some(_)) => answer.push("another"),
+        Ok(None) => answer.push("none of what was printed"),
+        Err(_) => answer.refuse(),
     }
 }

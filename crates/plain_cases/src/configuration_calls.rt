@@ -1,125 +1,144 @@
 //! Configurations by the calls that make them, parted by `, `, as `defaults, disable opus`.
 
-use crate::row_texts::{codec_of, row_of, rows_of, type_of, type_or_dash, word};
-use crate::unanswered::{Missing, Unanswered};
-use std::alloc::{AllocError, Global};
+use crate::answer::Answer;
+use crate::lists::word;
+use crate::row_texts::{byte_of, codec_of, row_of, rows_of, type_of, type_or_dash};
+use std::alloc::AllocError;
 use str0m_formats::{Codec, CodecConfig};
 
-fn no_call() -> Unanswered {
-    Unanswered::NoSuch(Missing::Call)
-}
-
-fn byte(text: &str) -> Result<u8, Unanswered> {
-    text.parse::<u8>().map_err(|_| no_call())
-}
-
-/// Enables or disables sound that can have RED.
+/// Enables or disables sound that can have RED; none of what can have none.
 fn enable_sound(
     config: &mut CodecConfig,
     codec: Codec,
     is_on: bool,
     use_red: bool,
-) -> Result<(), Unanswered> {
+) -> Option<Result<(), AllocError>> {
     match codec {
-        Codec::Opus => config.enable_opus(is_on, use_red)?,
-        Codec::PCMU => config.enable_pcmu(is_on, use_red)?,
-        Codec::PCMA => config.enable_pcma(is_on, use_red)?,
-        Codec::G722 => config.enable_g722(is_on, use_red)?,
-        _ => return Err(no_call()),
+        Codec::Opus => Some(config.enable_opus(is_on, use_red)),
+        Codec::PCMU => Some(config.enable_pcmu(is_on, use_red)),
+        Codec::PCMA => Some(config.enable_pcma(is_on, use_red)),
+        Codec::G722 => Some(config.enable_g722(is_on, use_red)),
+        _ => None,
     }
-    Ok(())
 }
 
-/// Enables or disables what can have no RED.
-fn enable_other(config: &mut CodecConfig, codec: Codec, is_on: bool) -> Result<(), Unanswered> {
+/// Enables or disables what can have no RED; none of what can have one.
+fn enable_other(
+    config: &mut CodecConfig,
+    codec: Codec,
+    is_on: bool,
+) -> Option<Result<(), AllocError>> {
     match codec {
-        Codec::CN => config.enable_comfort_noise(is_on)?,
-        Codec::AmrWb => config.enable_amr_wb(is_on)?,
-        Codec::Vp8 => config.enable_vp8(is_on)?,
-        Codec::H264 => config.enable_h264(is_on)?,
-        Codec::H265 => config.enable_h265(is_on)?,
-        Codec::H266 => config.enable_h266(is_on)?,
-        Codec::Vp9 => config.enable_vp9(is_on)?,
-        Codec::Av1 => config.enable_av1(is_on)?,
-        _ => return Err(no_call()),
+        Codec::CN => Some(config.enable_comfort_noise(is_on)),
+        Codec::AmrWb => Some(config.enable_amr_wb(is_on)),
+        Codec::Vp8 => Some(config.enable_vp8(is_on)),
+        Codec::H264 => Some(config.enable_h264(is_on)),
+        Codec::H265 => Some(config.enable_h265(is_on)),
+        Codec::H266 => Some(config.enable_h266(is_on)),
+        Codec::Vp9 => Some(config.enable_vp9(is_on)),
+        Codec::Av1 => Some(config.enable_av1(is_on)),
+        _ => None,
     }
-    Ok(())
 }
 
 /// `enable CODEC`, `enable CODEC red` or `enable CODEC plain`: with RED, or without it where it could have one.
 fn enable(
-    alloc: Global,
+    answer: &mut Answer,
     config: &mut CodecConfig,
     text: &str,
     is_on: bool,
-) -> Result<(), Unanswered> {
+) -> Result<(), AllocError> {
     let (name, red) = word(text);
-    let codec = codec_of(alloc, name)?;
-    match red {
+    let codec = codec_of(answer, name);
+    let enabled = match red {
         "red" => enable_sound(config, codec, is_on, true),
         "plain" => enable_sound(config, codec, is_on, false),
         "" => enable_other(config, codec, is_on),
-        _ => Err(no_call()),
+        _ => None,
+    };
+    if enabled.is_none() {
+        answer.no_such("call");
     }
+    enabled.unwrap_or(Ok(()))
 }
 
 /// `add ROW`: a row without RED.
-fn add(alloc: Global, config: &mut CodecConfig, text: &str) -> Result<(), Unanswered> {
-    let row = row_of(alloc, text)?;
+fn add(answer: &mut Answer, config: &mut CodecConfig, text: &str) -> Result<(), AllocError> {
+    let row = row_of(answer, text);
     let spec = row.spec();
-    Ok(config.add_config(
+    config.add_config(
         row.pt(),
         row.resend(),
         spec.codec,
         spec.clock_rate,
         spec.channels,
         spec.format,
-    )?)
+    )
 }
 
 /// `h264 TYPE RTX MODE ID`: the mode is 0 or 1, the profile and level are hexadecimal.
-fn add_h264(config: &mut CodecConfig, text: &str) -> Result<(), Unanswered> {
+fn add_h264(answer: &mut Answer, config: &mut CodecConfig, text: &str) -> Result<(), AllocError> {
     let (pt, rest) = word(text);
     let (resend, rest) = word(rest);
     let (mode, id) = word(rest);
-    let mode = match mode {
-        "0" => false,
-        "1" => true,
-        _ => return Err(no_call()),
-    };
-    let id = u32::from_str_radix(id, 16).map_err(|_| no_call())?;
-    Ok(config.add_h264(type_of(pt)?, type_or_dash(resend)?, mode, id)?)
+    let id = u32::from_str_radix(id, 16);
+    if id.is_err() || !matches!(mode, "0" | "1") {
+        answer.no_such("call");
+    }
+    let (pt, resend) = (type_of(answer, pt), type_or_dash(answer, resend));
+    config.add_h264(pt, resend, mode == "1", id.unwrap_or(0))
 }
 
 /// `h265 TYPE RTX PROFILE TIER LEVEL`, and so of H266.
-fn add_triple(config: &mut CodecConfig, text: &str, is_h266: bool) -> Result<(), Unanswered> {
+fn add_triple(
+    answer: &mut Answer,
+    config: &mut CodecConfig,
+    text: &str,
+    is_h266: bool,
+) -> Result<(), AllocError> {
     let (pt, rest) = word(text);
     let (resend, rest) = word(rest);
     let (profile, rest) = word(rest);
     let (tier, level) = word(rest);
-    let (pt, resend) = (type_of(pt)?, type_or_dash(resend)?);
-    let (profile, tier, level) = (byte(profile)?, byte(tier)?, byte(level)?);
+    let (pt, resend) = (type_of(answer, pt), type_or_dash(answer, resend));
+    let profile = byte_of(answer, profile, "call");
+    let tier = byte_of(answer, tier, "call");
+    let level = byte_of(answer, level, "call");
     if is_h266 {
-        Ok(config.add_h266(pt, resend, profile, tier, level)?)
+        config.add_h266(pt, resend, profile, tier, level)
     } else {
-        Ok(config.add_h265(pt, resend, profile, tier, level)?)
+        config.add_h265(pt, resend, profile, tier, level)
     }
 }
 
-fn call(alloc: Global, config: &mut CodecConfig, text: &str) -> Result<(), Unanswered> {
+fn set_defaults(answer: &mut Answer, config: &mut CodecConfig) -> Result<(), AllocError> {
+    *config = CodecConfig::new_with_defaults(answer.alloc())?;
+    Ok(())
+}
+
+fn call(answer: &mut Answer, config: &mut CodecConfig, text: &str) -> Result<(), AllocError> {
     let (name, rest) = word(text);
     match name {
-        "defaults" => *config = CodecConfig::new_with_defaults(alloc)?,
-        "clear" => config.clear(),
-        "enable" => enable(alloc, config, rest, true)?,
-        "disable" => enable(alloc, config, rest, false)?,
-        "add" => add(alloc, config, rest)?,
-        "h264" => add_h264(config, rest)?,
-        "h265" => add_triple(config, rest, false)?,
-        "h266" => add_triple(config, rest, true)?,
-        _ => return Err(no_call()),
+        "defaults" => set_defaults(answer, config),
+        "enable" => enable(answer, config, rest, true),
+        "disable" => enable(answer, config, rest, false),
+        "add" => add(answer, config, rest),
+        "h264" => add_h264(answer, config, rest),
+        "h265" => add_triple(answer, config, rest, false),
+        "h266" => add_triple(answer, config, rest, true),
+        _ => {
+            clear(answer, config, name);
+            Ok(())
+        }
     }
-    Ok(())
+}
+
+/// The call that wants no memory.
+fn clear(answer: &mut Answer, config: &mut CodecConfig, name: &str) {
+    match name {
+        "clear" => config.clear(),
+        _ => answer.no_such("call"),
+    }
 }
 
 /// Whether two configurations have the same rows, locked in the same places, and distances.
@@ -134,43 +153,60 @@ pub fn is_same(one: &CodecConfig, other: &CodecConfig) -> bool {
         && one.red_distances() == other.red_distances()
 }
 
+/// The answer where a call that is refused memory doesn't leave things as they were.
+pub(crate) const CHANGED: &str = "changed where memory was refused";
+
 /// A call was refused memory: it has to leave the configuration as it was before.
-pub(crate) fn unchanged(config: &CodecConfig, before: &CodecConfig) -> Unanswered {
+pub(crate) fn unchanged(answer: &mut Answer, config: &CodecConfig, before: &CodecConfig) {
     if is_same(config, before) {
-        Unanswered::Memory(AllocError)
+        answer.refuse();
     } else {
-        Unanswered::Changed
+        answer.settle(CHANGED);
     }
+}
+
+/// A copy of the configuration.
+pub(crate) fn copy_of(answer: &mut Answer, config: &CodecConfig) -> CodecConfig {
+    let none = CodecConfig::empty(answer.alloc());
+    answer.kept(config.clone(), none)
 }
 
 /// The configuration that the calls make of an empty one.
-pub(crate) fn made(alloc: Global, calls: &str) -> Result<CodecConfig, Unanswered> {
-    let mut config = CodecConfig::empty(alloc);
+pub(crate) fn made(answer: &mut Answer, calls: &str) -> CodecConfig {
+    let mut config = CodecConfig::empty(answer.alloc());
     for one in calls.split(", ") {
-        let before = config.clone()?;
-        match call(alloc, &mut config, one) {
-            Ok(()) => {}
-            Err(Unanswered::Memory(_)) => return Err(unchanged(&config, &before)),
-            Err(unanswered) => return Err(unanswered),
-        }
+        call_unless_refused(answer, &mut config, one);
     }
-    Ok(config)
+    config
+}
+
+fn call_unless_refused(answer: &mut Answer, config: &mut CodecConfig, text: &str) {
+    let before = copy_of(answer, config);
+    if !answer.is_refused() && call(answer, config, text).is_err() {
+        unchanged(answer, config, &before);
+    }
 }
 
 /// The configuration of these rows, or behind `calls` of those calls.
-pub(crate) fn config_of(alloc: Global, text: &str) -> Result<CodecConfig, Unanswered> {
-    if let Some(calls) = text.strip_prefix("calls ") {
-        return made(alloc, calls);
+pub(crate) fn config_of(answer: &mut Answer, text: &str) -> CodecConfig {
+    match text.strip_prefix("calls ") {
+        Some(calls) => made(answer, calls),
+        None => {
+            let rows = rows_of(answer, text);
+            CodecConfig::new_from_payload_params(answer.alloc(), rows)
+        }
     }
-    let rows = rows_of(alloc, text)?;
-    Ok(CodecConfig::new_from_payload_params(alloc, rows))
 }
 
-/// The configuration that a case names by rows or calls; none where it names no such thing.
-pub fn configuration(alloc: Global, text: &str) -> Result<Option<CodecConfig>, AllocError> {
-    match config_of(alloc, text) {
-        Ok(config) => Ok(Some(config)),
-        Err(Unanswered::Memory(refused)) => Err(refused),
-        Err(_) => Ok(None),
+/// The configuration that a case names by rows or calls; it answers `no such configuration` where it names none.
+pub fn configuration(answer: &mut Answer, text: &str) -> CodecConfig {
+    let mut calls = Answer::new(answer.alloc());
+    let config = config_of(&mut calls, text);
+    if calls.is_settled() {
+        answer.no_such("configuration");
     }
+    if calls.is_refused() {
+        answer.refuse();
+    }
+    config
 }

@@ -1,42 +1,40 @@
 //! Fingerprints: as they are printed, their parts, and which hash is preferred.
 
-use std::alloc::{AllocError, Global};
+use crate::answer::Answer;
 use str0m_values::{Fingerprint, FingerprintError};
 
-/// What the call that the word names answers of the text; none for a word of others.
-pub(crate) fn answer(alloc: Global, word: &str, text: &str) -> Result<Option<String>, AllocError> {
-    let answer = match word {
-        "fingerprint" => or_refusal(alloc, printed(alloc, text)),
-        "fingerprint-parts" => or_refusal(alloc, parts(alloc, text)),
-        "hash-preference" => or_refusal(alloc, preference(alloc, text)),
-        _ => return Ok(None),
-    };
-    Ok(Some(answer?))
+/// Answers what the word asks of the text; whether it is one of these words.
+pub(crate) fn answers(answer: &mut Answer, word: &str, text: &str) -> bool {
+    if !matches!(
+        word,
+        "fingerprint" | "fingerprint-parts" | "hash-preference"
+    ) {
+        return false;
+    }
+    let read = Fingerprint::from_str(answer.alloc(), text);
+    of_what_is_read(answer, word, &read);
+    true
 }
 
-/// The answer, or why the text is no fingerprint.
-fn or_refusal(
-    alloc: Global,
-    answer: Result<String, FingerprintError>,
-) -> Result<String, AllocError> {
-    match answer {
-        Ok(answer) => Ok(answer),
-        Err(error) => error.to_string(alloc),
+/// What the word asks, or why the text is no fingerprint.
+fn of_what_is_read(answer: &mut Answer, word: &str, read: &Result<Fingerprint, FingerprintError>) {
+    match read {
+        Ok(found) => of_fingerprint(answer, word, found),
+        Err(error) => answer.show(error),
     }
 }
 
-fn printed(alloc: Global, text: &str) -> Result<String, FingerprintError> {
-    let fingerprint = Fingerprint::from_str(alloc, text)?;
-    Ok(fingerprint.to_string(alloc)?)
+fn of_fingerprint(answer: &mut Answer, word: &str, found: &Fingerprint) {
+    match word {
+        "fingerprint-parts" => parts(answer, found),
+        "hash-preference" => answer.show(&found.hash_preference()),
+        _ => answer.show(found),
+    }
 }
 
-fn parts(alloc: Global, text: &str) -> Result<String, FingerprintError> {
-    let fingerprint = Fingerprint::from_str(alloc, text)?;
-    let (name, bytes) = (fingerprint.hash_func.as_str(), fingerprint.bytes.as_slice());
-    Ok(format!(in alloc; "hash function {name}, bytes {bytes:?}")?)
-}
-
-fn preference(alloc: Global, text: &str) -> Result<String, FingerprintError> {
-    let fingerprint = Fingerprint::from_str(alloc, text)?;
-    Ok(fingerprint.hash_preference().to_string(alloc)?)
+fn parts(answer: &mut Answer, found: &Fingerprint) {
+    answer.push("hash function ");
+    answer.push(found.hash_func.as_str());
+    answer.push(", bytes ");
+    answer.debug(&found.bytes.as_slice());
 }

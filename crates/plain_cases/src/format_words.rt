@@ -1,16 +1,19 @@
 //! Codecs, parameters and formats: what is read and what is printed. `-` stands for what prints nothing.
 
-use crate::row_answers::{or_dash, or_none, push_part};
-use crate::row_texts::{format_of, type_of, word};
-use crate::unanswered::{Missing, Unanswered};
-use std::alloc::{AllocError, Global};
+use crate::answer::Answer;
+use crate::lists::word;
+use crate::row_answers::{printed, push_or_dash};
+use crate::row_texts::{format_of, type_of};
+use std::alloc::AllocError;
+use std::fmt::Display;
 use str0m_formats::{Codec, CodecSpec, FormatParam, FormatParams};
 use str0m_sdp::RtpMap;
 use str0m_values::MediaKind;
 
-/// The text, and `-` for an empty one.
-fn dashed(alloc: Global, text: String) -> Result<String, AllocError> {
-    or_dash(text.as_str()).to_string(alloc)
+/// What the value prints, and `-` for nothing.
+fn show_or_dash<T: Display>(answer: &mut Answer, value: &T) {
+    let printed = printed(answer, value);
+    push_or_dash(answer, printed.as_str());
 }
 
 /// What packets of the codec carry.
@@ -25,108 +28,130 @@ fn content(codec: Codec) -> &'static str {
 }
 
 /// `codec NAME`: the codec that the name reads as.
-pub(crate) fn codec(alloc: Global, name: &str) -> Result<String, AllocError> {
+pub(crate) fn codec(answer: &mut Answer, name: &str) {
     let codec = Codec::from(name);
-    let content = content(codec);
-    let kind = match codec.kind() {
+    answer.show(&codec);
+    answer.push(" carries ");
+    answer.push(content(codec));
+    answer.push(", stands in ");
+    answer.push(match codec.kind() {
         MediaKind::Audio => "audio",
         MediaKind::Video => "video",
-    };
-    format!(in alloc; "{codec} carries {content}, stands in {kind}")
+    });
 }
 
 /// `static TYPE`: what a payload type stands for without a mapping.
-pub(crate) fn static_type(alloc: Global, text: &str) -> Result<String, Unanswered> {
-    let pt = type_of(text)?;
-    let Some(spec) = CodecSpec::from_static_pt(pt) else {
-        return Ok("none".to_string(alloc)?);
-    };
-    let rate = spec.rtp_clock_rate();
-    let map = RtpMap {
+pub(crate) fn static_type(answer: &mut Answer, text: &str) {
+    match CodecSpec::from_static_pt(type_of(answer, text)) {
+        Some(spec) => show_spec(answer, &spec),
+        None => answer.push("none"),
+    }
+}
+
+fn show_spec(answer: &mut Answer, spec: &CodecSpec) {
+    answer.show(&RtpMap {
         codec: spec.codec,
         clock_rate: spec.clock_rate,
         channels: spec.channels,
-    };
-    Ok(format!(in alloc; "{map}, in RTP at {rate}")?)
+    });
+    answer.push(", in RTP at ");
+    answer.show(&spec.rtp_clock_rate());
+}
+
+/// What stands before and behind the first `=`.
+fn pair<'a>(answer: &mut Answer, text: &'a str) -> (&'a str, &'a str) {
+    match text.split_once('=') {
+        Some(pair) => pair,
+        None => {
+            answer.no_such("pair");
+            (text, "")
+        }
+    }
 }
 
 /// `param KEY=VALUE`: the parameter that the value reads as behind the key.
-pub(crate) fn param(alloc: Global, text: &str) -> Result<String, Unanswered> {
-    let Some((key, value)) = text.split_once('=') else {
-        return Err(Unanswered::NoSuch(Missing::Pair));
-    };
-    let printed = FormatParam::parse(key, value).to_string(alloc)?;
-    Ok(dashed(alloc, printed)?)
+pub(crate) fn param(answer: &mut Answer, text: &str) {
+    let (key, value) = pair(answer, text);
+    show_or_dash(answer, &FormatParam::parse(key, value));
 }
 
 /// `events VALUE`: what a value without a key reads as.
-pub(crate) fn events(alloc: Global, value: &str) -> Result<String, AllocError> {
-    let printed = FormatParam::parse_telephone_events(value).to_string(alloc)?;
-    dashed(alloc, printed)
+pub(crate) fn events(answer: &mut Answer, value: &str) {
+    show_or_dash(answer, &FormatParam::parse_telephone_events(value));
 }
 
-fn pairs_of(alloc: Global, text: &str) -> Result<Vec<(&str, &str)>, Unanswered> {
-    let mut pairs = Vec::new(alloc);
+fn pairs_of<'a>(answer: &mut Answer, text: &'a str) -> Vec<(&'a str, &'a str)> {
+    let mut pairs = Vec::new(answer.alloc());
     for piece in text.split(';') {
-        let pair = piece
-            .split_once('=')
-            .ok_or(Unanswered::NoSuch(Missing::Pair))?;
-        pairs.push(pair).map_err(AllocError::from)?;
+        let pair = pair(answer, piece);
+        answer.note(pairs.extend_from_slice(&[pair]));
     }
-    Ok(pairs)
+    pairs
 }
 
-fn joined(alloc: Global, params: &[FormatParam]) -> Result<String, AllocError> {
-    let mut list = String::new(alloc);
-    for param in params {
-        let printed = param.to_string(alloc)?;
-        push_part(&mut list, or_dash(printed.as_str()))?;
+fn joined(answer: &mut Answer, params: &Result<Vec<FormatParam>, AllocError>) {
+    match params {
+        Ok(params) => show_params(answer, params.as_slice()),
+        Err(_) => answer.refuse(),
     }
-    or_none(alloc, list)
+}
+
+fn show_params(answer: &mut Answer, params: &[FormatParam]) {
+    answer.push_if(params.is_empty(), "none");
+    let mut separator = "";
+    for param in params {
+        answer.push(separator);
+        show_or_dash(answer, param);
+        separator = " + ";
+    }
 }
 
 /// `pairs KEY=VALUE;KEY=VALUE`: the parameters that pairs read as together.
-pub(crate) fn pairs(alloc: Global, text: &str) -> Result<String, Unanswered> {
-    let pairs = pairs_of(alloc, text)?;
-    let params = FormatParam::parse_pairs(alloc, pairs.as_slice())?;
-    Ok(joined(alloc, params.as_slice())?)
+pub(crate) fn pairs(answer: &mut Answer, text: &str) {
+    let pairs = pairs_of(answer, text);
+    let read = FormatParam::parse_pairs(answer.alloc(), pairs.as_slice());
+    joined(answer, &read);
+}
+
+/// The format that the line says.
+fn said(answer: &mut Answer, line: &str) -> FormatParams {
+    let read = FormatParams::parse_line(answer.alloc(), line);
+    answer.kept(read, FormatParams::default())
 }
 
 /// `line LINE`: the format that the line says.
-pub(crate) fn line(alloc: Global, text: &str) -> Result<String, AllocError> {
-    let printed = FormatParams::parse_line(alloc, text)?.to_string(alloc)?;
-    dashed(alloc, printed)
+pub(crate) fn line(answer: &mut Answer, text: &str) {
+    let format = said(answer, text);
+    show_or_dash(answer, &format);
 }
 
 /// `parameters LINE`: the parameters of the format that the line says.
-pub(crate) fn parameters(alloc: Global, text: &str) -> Result<String, AllocError> {
-    let params = FormatParams::parse_line(alloc, text)?.to_format_param(alloc)?;
-    joined(alloc, params.as_slice())
+pub(crate) fn parameters(answer: &mut Answer, text: &str) {
+    let format = said(answer, text);
+    let params = format.to_format_param(answer.alloc());
+    joined(answer, &params);
 }
 
 /// `triple LINE`: whose profile, tier and level the format of the line has.
-pub(crate) fn triple(alloc: Global, text: &str) -> Result<String, AllocError> {
-    let format = FormatParams::parse_line(alloc, text)?;
+pub(crate) fn triple(answer: &mut Answer, text: &str) {
+    let format = said(answer, text);
     let (h265, h266) = (
         format.h265_profile_tier_level.is_some(),
         format.h266_profile_tier_level.is_some(),
     );
-    let found = match (h265, h266) {
+    answer.push(match (h265, h266) {
         (true, false) => "H265",
         (false, true) => "H266",
         (false, false) => "none",
         (true, true) => "both",
-    };
-    found.to_string(alloc)
+    });
 }
 
 /// `set FORMAT KEY=VALUE`: the format once the parameter is set.
-pub(crate) fn set(alloc: Global, text: &str) -> Result<String, Unanswered> {
-    let (line, pair) = word(text);
-    let mut format = format_of(alloc, line)?;
-    let Some((key, value)) = pair.split_once('=') else {
-        return Err(Unanswered::NoSuch(Missing::Pair));
-    };
+pub(crate) fn set(answer: &mut Answer, text: &str) {
+    let (line, said) = word(text);
+    let mut format = format_of(answer, line);
+    let (key, value) = pair(answer, said);
     format.set_param(&FormatParam::parse(key, value));
-    Ok(dashed(alloc, format.to_string(alloc)?)?)
+    show_or_dash(answer, &format);
 }

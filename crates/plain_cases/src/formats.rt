@@ -1,87 +1,70 @@
 //! Codecs, formats, rows and rounds: the words of their cases.
 
-use crate::unanswered::Unanswered;
+use crate::answer::Answer;
 use crate::{claim_words, format_words, plain_rows, round_words, row_words};
-use std::alloc::{AllocError, Global};
+
+/// Answers what the word asks of the text; whether it is a word of formats, rows or rounds.
+pub(crate) fn answers(answer: &mut Answer, word: &str, text: &str) -> bool {
+    of_formats(answer, word, text)
+        || of_configurations(answer, word, text)
+        || of_rows(answer, word, text)
+        || of_rounds(answer, word, text)
+}
 
 /// What is asked of codecs and formats.
-fn of_formats(alloc: Global, word: &str, text: &str) -> Result<Option<String>, Unanswered> {
-    let answer = match word {
-        "static" => format_words::static_type(alloc, text),
-        "param" => format_words::param(alloc, text),
-        "pairs" => format_words::pairs(alloc, text),
-        "set" => format_words::set(alloc, text),
-        _ => return Ok(of_any_text(alloc, word, text)?),
-    };
-    Ok(Some(answer?))
+fn of_formats(answer: &mut Answer, word: &str, text: &str) -> bool {
+    match word {
+        "static" => format_words::static_type(answer, text),
+        "param" => format_words::param(answer, text),
+        "pairs" => format_words::pairs(answer, text),
+        "set" => format_words::set(answer, text),
+        "codec" => format_words::codec(answer, text),
+        "events" => format_words::events(answer, text),
+        "line" => format_words::line(answer, text),
+        "parameters" => format_words::parameters(answer, text),
+        "triple" => format_words::triple(answer, text),
+        _ => return false,
+    }
+    true
 }
 
-/// What is asked of codecs and formats where no text is wrong.
-fn of_any_text(alloc: Global, word: &str, text: &str) -> Result<Option<String>, AllocError> {
-    let answer = match word {
-        "codec" => format_words::codec(alloc, text),
-        "events" => format_words::events(alloc, text),
-        "line" => format_words::line(alloc, text),
-        "parameters" => format_words::parameters(alloc, text),
-        "triple" => format_words::triple(alloc, text),
-        _ => return Ok(None),
-    };
-    Ok(Some(answer?))
+/// What is asked of configurations.
+fn of_configurations(answer: &mut Answer, word: &str, text: &str) -> bool {
+    match word {
+        "configuration" => row_words::configuration(answer, text),
+        "match" => row_words::best(answer, text),
+        "meet" => row_words::met(answer, text),
+        "kind" => row_words::kind(answer, text, false),
+        "offer" => row_words::kind(answer, text, true),
+        "maximum" => row_words::maximum(answer, text),
+        "has" => row_words::has(answer, text),
+        _ => return false,
+    }
+    true
 }
 
-/// What is asked of rows and configurations.
-fn of_rows(alloc: Global, word: &str, text: &str) -> Result<Option<String>, Unanswered> {
-    let answer = match word {
-        "score" => row_words::score(alloc, text),
-        "configuration" => row_words::configuration(alloc, text),
-        "match" => row_words::best(alloc, text),
-        "meet" => row_words::met(alloc, text),
-        "kind" => row_words::kind(alloc, text, false),
-        "offer" => row_words::kind(alloc, text, true),
-        "maximum" => row_words::maximum(alloc, text),
-        "has" => row_words::has(alloc, text),
-        "feedback" => row_words::feedback(alloc, text),
-        "probe" => row_words::probe(alloc, text),
-        "plain" => plain_rows::plain(alloc, text),
-        "row-lines" => row_words::row_lines(alloc, text),
-        _ => return Ok(None),
-    };
-    Ok(Some(answer?))
+/// What is asked of rows.
+fn of_rows(answer: &mut Answer, word: &str, text: &str) -> bool {
+    match word {
+        "score" => row_words::score(answer, text),
+        "feedback" => row_words::feedback(answer, text),
+        "probe" => row_words::probe(answer, text),
+        "plain" => plain_rows::plain(answer, text),
+        "row-lines" => row_words::row_lines(answer, text),
+        _ => return false,
+    }
+    true
 }
 
 /// Rounds, and what they claim.
-fn of_rounds(alloc: Global, word: &str, text: &str) -> Result<Option<String>, Unanswered> {
-    let answer = match word {
-        "rounds" => round_words::rounds(alloc, text),
-        "together" => round_words::together(alloc, text),
-        "claims" => claim_words::claims(alloc, text),
-        "unclaimed" => claim_words::unclaimed(alloc, text),
-        "distances" => round_words::distances(alloc, text),
-        _ => return Ok(None),
-    };
-    Ok(Some(answer?))
-}
-
-fn asked(alloc: Global, word: &str, text: &str) -> Result<Option<String>, Unanswered> {
-    if let Some(answer) = of_formats(alloc, word, text)? {
-        return Ok(Some(answer));
+fn of_rounds(answer: &mut Answer, word: &str, text: &str) -> bool {
+    match word {
+        "rounds" => round_words::rounds(answer, text),
+        "together" => round_words::together(answer, text),
+        "claims" => claim_words::claims(answer, text),
+        "unclaimed" => claim_words::unclaimed(answer, text),
+        "distances" => round_words::distances(answer, text),
+        _ => return false,
     }
-    if let Some(answer) = of_rows(alloc, word, text)? {
-        return Ok(Some(answer));
-    }
-    of_rounds(alloc, word, text)
-}
-
-/// What the call that the word names answers of the text; none for a word of others.
-pub(crate) fn answer(alloc: Global, word: &str, text: &str) -> Result<Option<String>, AllocError> {
-    match asked(alloc, word, text) {
-        Ok(answer) => Ok(answer),
-        Err(Unanswered::NoSuch(missing)) => {
-            let what = missing.name();
-            Ok(Some(format!(in alloc; "no such {what}")?))
-        }
-        Err(Unanswered::Differs) => Ok(Some("two tables of claims differ".to_string(alloc)?)),
-        Err(Unanswered::Changed) => Ok(Some("changed where memory was refused".to_string(alloc)?)),
-        Err(Unanswered::Memory(refused)) => Err(refused),
-    }
+    true
 }

@@ -1,73 +1,85 @@
 //! Profiles and levels of H264.
 
-use crate::lists::append;
-use std::alloc::{AllocError, Global};
+use crate::answer::Answer;
+use crate::lists::word;
 use str0m_values::cuts::hex_u32;
 use str0m_values::{H264ProfileLevel, NoProfileLevel, lower_level};
 
-/// What the call that the word names answers of the text; none for a word of others.
-pub(crate) fn answer(alloc: Global, word: &str, text: &str) -> Result<Option<String>, AllocError> {
-    let answer = match word {
-        "h264" => named(alloc, text),
-        "h264-fallback" => shown(alloc, H264ProfileLevel::FALLBACK),
-        "h264-levels-of-high" => levels_of_high(alloc),
-        "h264-lower" => lower(alloc, text),
-        _ => return Ok(None),
-    };
-    Ok(Some(answer?))
+/// Answers what the word asks of the text; whether it is one of these words.
+pub(crate) fn answers(answer: &mut Answer, asked: &str, text: &str) -> bool {
+    match asked {
+        "h264" => named(answer, text),
+        "h264-fallback" => shown(answer, H264ProfileLevel::FALLBACK),
+        "h264-levels-of-high" => levels_of_high(answer),
+        "h264-lower" => lower(answer, text),
+        _ => return false,
+    }
+    true
 }
 
 /// The profile and level of a profile-level-id, in hexadecimal.
-fn named(alloc: Global, text: &str) -> Result<String, AllocError> {
-    let Some(id) = hex_u32(text) else {
-        return "no number".to_string(alloc);
-    };
-    match H264ProfileLevel::try_from(id) {
-        Ok(found) => shown(alloc, found),
-        Err(NoProfileLevel) => NoProfileLevel.to_string(alloc),
+fn named(answer: &mut Answer, text: &str) {
+    match hex_u32(text) {
+        Some(id) => of_id(answer, id),
+        None => answer.push("no number"),
     }
 }
 
-fn shown(alloc: Global, found: H264ProfileLevel) -> Result<String, AllocError> {
-    let (profile, level) = (found.profile(), found.level());
-    let ordinal = level.ordinal();
-    format!(in alloc; "{profile:?}, level {level:?}, ordinal {ordinal}")
+fn of_id(answer: &mut Answer, id: u32) {
+    match H264ProfileLevel::try_from(id) {
+        Ok(found) => shown(answer, found),
+        Err(NoProfileLevel) => answer.show(&NoProfileLevel),
+    }
+}
+
+fn shown(answer: &mut Answer, found: H264ProfileLevel) {
+    answer.debug(&found.profile());
+    answer.push(", level ");
+    answer.debug(&found.level());
+    answer.push(", ordinal ");
+    answer.show(&found.level().ordinal());
 }
 
 /// Each last byte that names a level of the profile High, with its level.
-fn levels_of_high(alloc: Global) -> Result<String, AllocError> {
-    let mut list = String::new(alloc);
+fn levels_of_high(answer: &mut Answer) {
+    let mut is_any = false;
     for level_idc in 0..=255 {
         if let Ok(found) = H264ProfileLevel::try_from(0x640000 | level_idc) {
-            let level = found.level();
-            append(
-                &mut list,
-                format!(in alloc; "{level:?} {level_idc}")?.as_str(),
-            )?;
+            answer.push_if(is_any, ", ");
+            answer.debug(&found.level());
+            answer.push(" ");
+            answer.show(&level_idc);
+            is_any = true;
         }
     }
-    Ok(list)
 }
 
 /// The id of the lower of two levels, `OWN OTHER`, each in hexadecimal or `-` for none.
-fn lower(alloc: Global, text: &str) -> Result<String, AllocError> {
-    let Some((own, other)) = two_ids(text) else {
-        return "no two numbers".to_string(alloc);
-    };
-    match lower_level(own, other) {
-        Some(id) => format!(in alloc; "{id:06x}"),
-        None => "-".to_string(alloc),
+fn lower(answer: &mut Answer, text: &str) {
+    let (own, other) = word(text);
+    match (id_or_dash(own), id_or_dash(other)) {
+        (Some(own), Some(other)) => lower_of(answer, own, other),
+        _ => answer.push("no two numbers"),
     }
 }
 
-fn two_ids(text: &str) -> Option<(Option<u32>, Option<u32>)> {
-    let (own, other) = text.split_once(' ')?;
-    Some((id_or_dash(own)?, id_or_dash(other)?))
+fn lower_of(answer: &mut Answer, own: Option<u32>, other: Option<u32>) {
+    match lower_level(own, other) {
+        Some(id) => six_digits(answer, id),
+        None => answer.push("-"),
+    }
+}
+
+fn six_digits(answer: &mut Answer, id: u32) {
+    let alloc = answer.alloc();
+    let digits = answer.kept(format!(in alloc; "{id:06x}"), String::new(alloc));
+    answer.push(digits.as_str());
 }
 
 fn id_or_dash(text: &str) -> Option<Option<u32>> {
-    if text == "-" {
-        return Some(None);
+    match hex_u32(text) {
+        None if text == "-" => Some(None),
+        None => None,
+        id => Some(id),
     }
-    Some(Some(hex_u32(text)?))
 }

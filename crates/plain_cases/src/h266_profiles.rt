@@ -1,19 +1,19 @@
 //! Profiles, tiers and levels of H266.
 
-use crate::lists::{append, three_bytes, value_of};
-use std::alloc::{AllocError, Global};
+use crate::answer::Answer;
+use crate::lists::{three_bytes, value_of};
 use str0m_values::H266ProfileTierLevel;
 
-/// What the call that the word names answers of the text; none for a word of others.
-pub(crate) fn answer(alloc: Global, word: &str, text: &str) -> Result<Option<String>, AllocError> {
-    let answer = match word {
-        "h266" => or_none(alloc, of_words(text)),
-        "h266-numbers" => or_none(alloc, of_numbers(text)),
-        "h266-fallback" => shown(alloc, H266ProfileTierLevel::FALLBACK),
-        "h266-profiles" | "h266-tiers" | "h266-levels" => listed(alloc, word),
-        _ => return Ok(None),
-    };
-    Ok(Some(answer?))
+/// Answers what the word asks of the text; whether it is one of these words.
+pub(crate) fn answers(answer: &mut Answer, word: &str, text: &str) -> bool {
+    match word {
+        "h266" => shown_or_none(answer, of_words(text)),
+        "h266-numbers" => shown_or_none(answer, of_numbers(text)),
+        "h266-fallback" => shown(answer, H266ProfileTierLevel::FALLBACK),
+        "h266-profiles" | "h266-tiers" | "h266-levels" => listed(answer, word),
+        _ => return false,
+    }
+    true
 }
 
 /// The triple of the values of a format line.
@@ -27,49 +27,69 @@ fn of_numbers(text: &str) -> Option<H266ProfileTierLevel> {
     H266ProfileTierLevel::new(profile_id, tier_flag, level_id)
 }
 
-fn or_none(alloc: Global, found: Option<H266ProfileTierLevel>) -> Result<String, AllocError> {
+fn shown_or_none(answer: &mut Answer, found: Option<H266ProfileTierLevel>) {
     match found {
-        Some(found) => shown(alloc, found),
-        None => "none".to_string(alloc),
+        Some(found) => shown(answer, found),
+        None => answer.push("none"),
     }
 }
 
 /// The parts with their numbers, and the place of the level among the levels.
-fn shown(alloc: Global, found: H266ProfileTierLevel) -> Result<String, AllocError> {
-    let (profile, tier, level) = (found.profile(), found.tier(), found.level());
-    let (profile_id, tier_flag, level_id) = (
-        found.profile_id(),
-        found.tier_flag(),
-        found.level_id(),
-    );
-    let ordinal = level.ordinal();
-    format!(in alloc;
-        "profile {profile:?} {profile_id}, tier {tier:?} {tier_flag}, level {level:?} {level_id}, ordinal {ordinal}"
-    )
+fn shown(answer: &mut Answer, found: H266ProfileTierLevel) {
+    answer.push("profile ");
+    profile(answer, found, found.profile_id());
+    answer.push(", tier ");
+    tier(answer, found, found.tier_flag());
+    answer.push(", level ");
+    level(answer, found, found.level_id());
+    answer.push(", ordinal ");
+    answer.show(&found.level().ordinal());
+}
+
+fn profile(answer: &mut Answer, found: H266ProfileTierLevel, id: u8) {
+    answer.debug(&found.profile());
+    answer.push(" ");
+    answer.show(&id);
+}
+
+fn tier(answer: &mut Answer, found: H266ProfileTierLevel, id: u8) {
+    answer.debug(&found.tier());
+    answer.push(" ");
+    answer.show(&id);
+}
+
+fn level(answer: &mut Answer, found: H266ProfileTierLevel, id: u8) {
+    answer.debug(&found.level());
+    answer.push(" ");
+    answer.show(&id);
 }
 
 /// Each profile, tier or level that a number names, as the word asks, with its number.
-fn listed(alloc: Global, word: &str) -> Result<String, AllocError> {
-    let mut list = String::new(alloc);
+fn listed(answer: &mut Answer, word: &str) {
+    let mut separator = "";
     for number in 0..=255 {
-        let found = match word {
-            "h266-profiles" => H266ProfileTierLevel::new(number, 0, 51),
-            "h266-tiers" => H266ProfileTierLevel::new(1, number, 51),
-            _ => H266ProfileTierLevel::new(1, 0, number),
-        };
-        if let Some(found) = found {
-            append(&mut list, part(alloc, word, found)?.as_str())?;
+        if let Some(found) = numbered(word, number) {
+            answer.push(separator);
+            part(answer, word, found);
+            separator = ", ";
         }
     }
-    Ok(list)
+}
+
+/// A triple with this number where the word asks for it.
+fn numbered(word: &str, number: u8) -> Option<H266ProfileTierLevel> {
+    match word {
+        "h266-profiles" => H266ProfileTierLevel::new(number, 0, 51),
+        "h266-tiers" => H266ProfileTierLevel::new(1, number, 51),
+        _ => H266ProfileTierLevel::new(1, 0, number),
+    }
 }
 
 /// The part that the word asks for, with its number.
-fn part(alloc: Global, word: &str, found: H266ProfileTierLevel) -> Result<String, AllocError> {
-    let (profile, tier, level) = (found.profile(), found.tier(), found.level());
+fn part(answer: &mut Answer, word: &str, found: H266ProfileTierLevel) {
     match word {
-        "h266-profiles" => format!(in alloc; "{profile:?} {}", profile.to_id()),
-        "h266-tiers" => format!(in alloc; "{tier:?} {}", tier.to_id()),
-        _ => format!(in alloc; "{level:?} {}", level.to_id()),
+        "h266-profiles" => profile(answer, found, found.profile().to_id()),
+        "h266-tiers" => tier(answer, found, found.tier().to_id()),
+        _ => level(answer, found, found.level().to_id()),
     }
 }

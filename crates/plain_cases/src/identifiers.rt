@@ -1,38 +1,40 @@
 //! Names, directions and extensions.
 
-use std::alloc::{AllocError, Global};
+use crate::answer::Answer;
+use std::alloc::AllocError;
 use str0m_values::cuts::is_same_text;
 use str0m_values::{Direction, Extension, Mid, Rid, Text};
 
-/// What the call that the word names answers of the text; none for a word of others.
-pub(crate) fn answer(alloc: Global, word: &str, text: &str) -> Result<Option<String>, AllocError> {
-    let answer = match word {
-        "mid" => Mid::from(text).as_str().to_string(alloc),
-        "mid-printed" => Mid::from(text).to_string(alloc),
-        "rid" => Rid::from(text).as_str().to_string(alloc),
-        "rid-printed" => Rid::from(text).to_string(alloc),
-        "text" => kept(alloc, text),
-        "same-text" => same_text(text).to_string(alloc),
-        "receiving" => receiving(text).to_string(alloc),
-        "extension" => extension(alloc, text),
-        "own-extension" => own_extension(alloc, text),
-        _ => return Ok(None),
-    };
-    Ok(Some(answer?))
+/// Answers what the word asks of the text; whether it is one of these words.
+pub(crate) fn answers(answer: &mut Answer, word: &str, text: &str) -> bool {
+    match word {
+        "mid" => answer.push(Mid::from(text).as_str()),
+        "mid-printed" => answer.show(&Mid::from(text)),
+        "rid" => answer.push(Rid::from(text).as_str()),
+        "rid-printed" => answer.show(&Rid::from(text)),
+        "same-text" => answer.push(same_text(text)),
+        "receiving" => answer.push(receiving(text)),
+        _ => return of_held_texts(answer, word, text),
+    }
+    true
 }
 
-fn kept(alloc: Global, text: &str) -> Result<String, AllocError> {
-    Ok(Text::from_str(alloc, text)?.into_string())
+/// Of values that hold a text.
+fn of_held_texts(answer: &mut Answer, word: &str, text: &str) -> bool {
+    let alloc = answer.alloc();
+    match word {
+        "text" => kept(answer, text),
+        "extension" => listing(answer, &Extension::from_sdp_uri(alloc, text)),
+        "own-extension" => listing(answer, &Extension::new(alloc, text, false)),
+        _ => return false,
+    }
+    true
 }
 
-/// The extension that a description names by its URI.
-fn extension(alloc: Global, uri: &str) -> Result<String, AllocError> {
-    listing(alloc, &Extension::from_sdp_uri(alloc, uri)?)
-}
-
-/// An extension of a program's own, which descriptions don't list.
-fn own_extension(alloc: Global, uri: &str) -> Result<String, AllocError> {
-    listing(alloc, &Extension::new(alloc, uri, false)?)
+fn kept(answer: &mut Answer, text: &str) {
+    let alloc = answer.alloc();
+    let kept = answer.kept(Text::from_str(alloc, text), Text::empty(alloc));
+    answer.push(kept.into_string().as_str());
 }
 
 /// Whether two words are one text without regard to the case of ASCII letters.
@@ -53,7 +55,7 @@ fn receiving(text: &str) -> &'static str {
     }
 }
 
-fn direction(text: &str) -> Option<Direction> {
+pub(crate) fn direction(text: &str) -> Option<Direction> {
     match text {
         "sendrecv" => Some(Direction::SendRecv),
         "sendonly" => Some(Direction::SendOnly),
@@ -63,12 +65,17 @@ fn direction(text: &str) -> Option<Direction> {
     }
 }
 
-/// The extension's URI, and whether descriptions list it.
-fn listing(alloc: Global, extension: &Extension) -> Result<String, AllocError> {
-    let uri = extension.as_uri();
-    if extension.is_serialized() {
-        format!(in alloc; "{uri} listed")
-    } else {
-        format!(in alloc; "{uri} not listed")
+/// The extension's URI, and whether descriptions list it: one that they name, or one of a program's own.
+fn listing(answer: &mut Answer, made: &Result<Extension, AllocError>) {
+    match made {
+        Ok(extension) => {
+            answer.push(extension.as_uri());
+            answer.push(if extension.is_serialized() {
+                " listed"
+            } else {
+                " not listed"
+            });
+        }
+        Err(_) => answer.refuse(),
     }
 }

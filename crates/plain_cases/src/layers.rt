@@ -1,19 +1,22 @@
 //! Layers with what is noted of them, which no line of a description makes; and values that hold nothing.
 
+use crate::answer::Answer;
+use crate::lists::word;
 use crate::random_names;
 use std::alloc::{AllocError, Global};
 use str0m_sdp::{RestrictionId, SimulcastLayer};
 use str0m_values::{Items, Text};
 
-/// What the call that the word names answers of the text; none for a word of others.
-pub(crate) fn answer(alloc: Global, word: &str, text: &str) -> Result<Option<String>, AllocError> {
-    let answer = match word {
-        "layer" => copied(alloc, text),
-        "empty" => empty(alloc),
-        "random-msid" => random_names::drawn(alloc),
-        _ => return Ok(None),
-    };
-    Ok(Some(answer?))
+/// Answers what the word asks of the text; whether it is one of these words.
+pub(crate) fn answers(answer: &mut Answer, asked: &str, text: &str) -> bool {
+    let alloc = answer.alloc();
+    match asked {
+        "layer" => copied(answer, &layer(alloc, text)),
+        "empty" => empty(answer),
+        "random-msid" => random_names::drawn(answer),
+        _ => return false,
+    }
+    true
 }
 
 /// What is noted of a layer, as `KEY=VALUE`.
@@ -28,9 +31,8 @@ fn noted(alloc: Global, text: &str) -> Result<Items<(Text, Text)>, AllocError> {
 
 /// A paused layer, as `NAME KEY=VALUE`.
 fn layer(alloc: Global, text: &str) -> Result<SimulcastLayer, AllocError> {
-    let (name, note) = text.split_once(' ').unwrap_or((text, ""));
-    let name = Text::from_str(alloc, name)?;
-    let restriction_id = RestrictionId::new(name, false);
+    let (name, note) = word(text);
+    let restriction_id = RestrictionId::new(Text::from_str(alloc, name)?, false);
     let attributes = Some(noted(alloc, note)?);
     Ok(SimulcastLayer {
         restriction_id,
@@ -39,30 +41,49 @@ fn layer(alloc: Global, text: &str) -> Result<SimulcastLayer, AllocError> {
 }
 
 /// The copy of a layer, and what is noted of it.
-fn copied(alloc: Global, text: &str) -> Result<String, AllocError> {
-    let copy = layer(alloc, text)?.clone()?;
-    let id = copy.restriction_id.to_sdp(alloc)?;
-    match &copy.attributes {
-        Some(notes) => with_notes(alloc, id, notes.as_slice()),
-        None => Ok(id),
+fn copied(answer: &mut Answer, made: &Result<SimulcastLayer, AllocError>) {
+    match made {
+        Ok(layer) => shown(answer, &layer.clone()),
+        Err(_) => answer.refuse(),
     }
 }
 
-fn with_notes(
-    alloc: Global,
-    mut shown: String,
-    notes: &[(Text, Text)],
-) -> Result<String, AllocError> {
-    for (key, value) in notes {
-        let note = format!(in alloc; " {key}={value}")?;
-        shown.push_str(note.as_str())?;
+fn shown(answer: &mut Answer, copy: &Result<SimulcastLayer, AllocError>) {
+    match copy {
+        Ok(copy) => {
+            id(answer, &copy.restriction_id);
+            if let Some(notes) = &copy.attributes {
+                with_notes(answer, notes.as_slice());
+            }
+        }
+        Err(_) => answer.refuse(),
     }
-    Ok(shown)
+}
+
+fn id(answer: &mut Answer, id: &RestrictionId) {
+    let alloc = answer.alloc();
+    let printed = answer.kept(id.to_sdp(alloc), String::new(alloc));
+    answer.push(printed.as_str());
+}
+
+fn with_notes(answer: &mut Answer, notes: &[(Text, Text)]) {
+    for (key, value) in notes {
+        answer.push(" ");
+        answer.show(key);
+        answer.push("=");
+        answer.show(value);
+    }
 }
 
 /// An empty text, the id of no restriction and a list of nothing, which take no memory.
-fn empty(alloc: Global) -> Result<String, AllocError> {
+fn empty(answer: &mut Answer) {
+    let alloc = answer.alloc();
     let items: Items<u8> = Items::empty(alloc);
-    let (text, id) = (Text::empty(alloc), RestrictionId::empty(alloc));
-    format!(in alloc; "text `{text}`, id `{id}`, {} items", items.len())
+    answer.push("text `");
+    answer.show(&Text::empty(alloc));
+    answer.push("`, id `");
+    answer.show(&RestrictionId::empty(alloc));
+    answer.push("`, ");
+    answer.show(&items.len());
+    answer.push(" items");
 }

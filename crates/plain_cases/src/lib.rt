@@ -2,6 +2,7 @@
 #![tactic(auto)]
 
 mod addresses;
+mod answer;
 mod candidates;
 mod claim_words;
 mod configuration_calls;
@@ -21,17 +22,13 @@ mod round_words;
 mod row_answers;
 mod row_texts;
 mod row_words;
-mod unanswered;
 mod values;
 
+pub use crate::answer::Answer;
 pub use crate::configuration_calls::{configuration, is_same};
-pub use crate::row_answers::shown_rows;
-use std::alloc::{AllocError, Global};
+pub use crate::row_answers::show_rows;
 
-/// What the call that the word names answers of the text; none for a word that is not of this crate.
-pub fn answer(alloc: Global, word: &str, text: &str) -> Result<Option<String>, AllocError> {
-    if let Some(answer) = values::answer(alloc, word, text)? {
-        return Ok(Some(answer));
-    }
-    formats::answer(alloc, word, text)
+/// Answers what the word asks of the text; whether it is a word of this crate.
+pub fn answers(answer: &mut Answer, word: &str, text: &str) -> bool {
+    values::answers(answer, word, text) || formats::answers(answer, word, text)
 }

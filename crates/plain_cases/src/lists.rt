@@ -1,13 +1,8 @@
-//! Lists of words in a text.
+//! Words and numbers in a text.
 
-use std::alloc::AllocError;
-
-/// Appends an item to a list, whose items are parted by commas.
-pub(crate) fn append(list: &mut String, item: &str) -> Result<(), AllocError> {
-    if !list.is_empty() {
-        list.push_str(", ")?;
-    }
-    list.push_str(item)
+/// The first word of a text, and what stands behind the space.
+pub(crate) fn word(text: &str) -> (&str, &str) {
+    text.split_once(' ').unwrap_or((text, ""))
 }
 
 /// The value of a name among `NAME=VALUE` parts, which spaces part.
@@ -23,11 +18,14 @@ pub(crate) fn value_of<'a>(text: &'a str, name: &str) -> Option<&'a str> {
 
 /// Three numbers of 8 bits, which spaces part.
 pub(crate) fn three_bytes(text: &str) -> Option<(u8, u8, u8)> {
-    let (first, rest) = text.split_once(' ')?;
-    let (second, third) = rest.split_once(' ')?;
-    Some((
-        first.parse::<u8>().ok()?,
-        second.parse::<u8>().ok()?,
-        third.parse::<u8>().ok()?,
-    ))
+    let (first, rest) = word(text);
+    let (second, third) = word(rest);
+    match (
+        first.parse::<u8>(),
+        second.parse::<u8>(),
+        third.parse::<u8>(),
+    ) {
+        (Ok(first), Ok(second), Ok(third)) => Some((first, second, third)),
+        _ => None,
+    }
 }

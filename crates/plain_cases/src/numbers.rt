@@ -1,61 +1,34 @@
 //! Numbers: clock rates, what RTP and origin lines name by numbers, and numbers in texts with their limits.
 
-use std::alloc::{AllocError, Global};
-use std::fmt::Display;
+use crate::answer::Answer;
 use str0m_values::cuts::{hex_u8, hex_u32, num_u8, num_u8_or, num_u16, num_u32};
 use str0m_values::{Frequency, Pt, SessionId, Ssrc};
 
-/// What the call that the word names answers of the text; none for a word of others.
-pub(crate) fn answer(alloc: Global, word: &str, text: &str) -> Result<Option<String>, AllocError> {
-    if let Some(answer) = rate_answer(alloc, word, text)? {
-        return Ok(Some(answer));
+/// Answers what the word asks of the text; whether it is one of these words.
+pub(crate) fn answers(answer: &mut Answer, word: &str, text: &str) -> bool {
+    match word {
+        "number-16-bits" => answer.show_or(&num_u16(text), "none"),
+        "number-8-bits-or-93" => answer.show_or(&num_u8_or(unless_dash(text), 93), "none"),
+        "hex-8-bits" => answer.show_or(&hex_u8(text), "none"),
+        "hex-32-bits" => answer.show_or(&hex_u32(text), "none"),
+        "payload-type" => answer.show_or(&payload_type(text), "none"),
+        "ssrc" => answer.show_or(&source(text), "none"),
+        "session-id" => answer.show_or(&session_id(text), "none"),
+        _ => return of_rates(answer, word, text),
     }
-    if let Some(answer) = named_answer(alloc, word, text)? {
-        return Ok(Some(answer));
-    }
-    number_answer(alloc, word, text)
+    true
 }
 
 /// Of clock rates, in Hz.
-fn rate_answer(alloc: Global, word: &str, text: &str) -> Result<Option<String>, AllocError> {
-    let answer = match word {
-        "clock-rate" => shown(alloc, hertz(text)),
-        "clock-rate-printed" => shown(alloc, Frequency::from_str(text)),
-        "clock-rate-of" => shown(alloc, rate_of(text)),
-        "clock-rate-names" => rate_names(alloc),
-        _ => return Ok(None),
-    };
-    Ok(Some(answer?))
-}
-
-/// Of numbers that have a type of their own.
-fn named_answer(alloc: Global, word: &str, text: &str) -> Result<Option<String>, AllocError> {
-    let answer = match word {
-        "payload-type" => shown(alloc, payload_type(text)),
-        "ssrc" => shown(alloc, source(text)),
-        "session-id" => shown(alloc, session_id(text)),
-        _ => return Ok(None),
-    };
-    Ok(Some(answer?))
-}
-
-/// Of numbers in texts.
-fn number_answer(alloc: Global, word: &str, text: &str) -> Result<Option<String>, AllocError> {
-    let answer = match word {
-        "number-16-bits" => shown(alloc, num_u16(text)),
-        "number-8-bits-or-93" => shown(alloc, num_u8_or(unless_dash(text), 93)),
-        "hex-8-bits" => shown(alloc, hex_u8(text)),
-        "hex-32-bits" => shown(alloc, hex_u32(text)),
-        _ => return Ok(None),
-    };
-    Ok(Some(answer?))
-}
-
-fn shown<T: Display + Copy>(alloc: Global, value: Option<T>) -> Result<String, AllocError> {
-    match value {
-        Some(value) => value.to_string(alloc),
-        None => "none".to_string(alloc),
+fn of_rates(answer: &mut Answer, word: &str, text: &str) -> bool {
+    match word {
+        "clock-rate" => answer.show_or(&hertz(text), "none"),
+        "clock-rate-printed" => answer.show_or(&Frequency::from_str(text), "none"),
+        "clock-rate-of" => answer.show_or(&rate_of(text), "none"),
+        "clock-rate-names" => rate_names(answer),
+        _ => return false,
     }
+    true
 }
 
 /// The text; `-` stands for no text.
@@ -74,15 +47,15 @@ fn rate_of(text: &str) -> Option<Frequency> {
 }
 
 /// The clock rates that have names.
-fn rate_names(alloc: Global) -> Result<String, AllocError> {
-    let (eight, sixteen) = (Frequency::EIGHT_KHZ.get(), Frequency::SIXTEEN_KHZ.get());
-    let (forty_eight, ninety) = (
-        Frequency::FORTY_EIGHT_KHZ.get(),
-        Frequency::NINETY_KHZ.get(),
-    );
-    format!(in alloc;
-        "EIGHT_KHZ {eight}, SIXTEEN_KHZ {sixteen}, FORTY_EIGHT_KHZ {forty_eight}, NINETY_KHZ {ninety}"
-    )
+fn rate_names(answer: &mut Answer) {
+    answer.push("EIGHT_KHZ ");
+    answer.show(&Frequency::EIGHT_KHZ.get());
+    answer.push(", SIXTEEN_KHZ ");
+    answer.show(&Frequency::SIXTEEN_KHZ.get());
+    answer.push(", FORTY_EIGHT_KHZ ");
+    answer.show(&Frequency::FORTY_EIGHT_KHZ.get());
+    answer.push(", NINETY_KHZ ");
+    answer.show(&Frequency::NINETY_KHZ.get());
 }
 
 fn payload_type(text: &str) -> Option<Pt> {

@@ -1,62 +1,65 @@
 //! Whether rows are plain. A row may have what no line says, behind a bar: `| modes 512, h266`.
 
+use crate::answer::Answer;
 use crate::configuration_calls::config_of;
-use crate::row_answers::{or_none, push_part};
-use crate::row_texts::{row_of, type_of, word};
-use crate::unanswered::{Missing, Unanswered};
-use std::alloc::{AllocError, Global};
+use crate::lists::word;
+use crate::row_texts::{row_of, type_of};
 use str0m_formats::{FormatParams, PayloadParams};
 use str0m_values::{H265ProfileTierLevel, H266ProfileTierLevel};
 
-fn no_format() -> Unanswered {
-    Unanswered::NoSuch(Missing::Format)
-}
-
-fn number(text: &str) -> Result<u16, Unanswered> {
-    text.parse::<u16>().map_err(|_| no_format())
-}
-
 /// Sets one field of a format: `modes MASK`, `distance N`, `profile-id N`, or the fallback of `h265` or `h266`.
-fn set_one(format: &mut FormatParams, text: &str) -> Result<(), Unanswered> {
+fn set_one(answer: &mut Answer, format: &mut FormatParams, text: &str) {
     let (name, rest) = word(text);
     match name {
-        "modes" => format.mode_set = Some(number(rest)?),
-        "distance" => format.sprop_max_don_diff = Some(number(rest)?),
-        "profile-id" => format.profile_id = Some(u32::from(number(rest)?)),
         "h265" => format.h265_profile_tier_level = Some(H265ProfileTierLevel::FALLBACK),
         "h266" => format.h266_profile_tier_level = Some(H266ProfileTierLevel::FALLBACK),
-        _ => return Err(no_format()),
+        _ => set_number(answer, format, name, rest),
     }
-    Ok(())
+}
+
+fn set_number(answer: &mut Answer, format: &mut FormatParams, name: &str, text: &str) {
+    match (name, text.parse::<u16>()) {
+        ("modes", Ok(mask)) => format.mode_set = Some(mask),
+        ("distance", Ok(number)) => format.sprop_max_don_diff = Some(number),
+        ("profile-id", Ok(number)) => format.profile_id = Some(u32::from(number)),
+        _ => answer.no_such("format"),
+    }
 }
 
 /// The row made anew, all of its feedback on, with the fields set that are named, parted by `, `.
-fn with_fields(row: PayloadParams, fields: &str) -> Result<PayloadParams, Unanswered> {
+fn with_fields(answer: &mut Answer, row: PayloadParams, fields: &str) -> PayloadParams {
     let mut spec = row.spec();
     for one in fields.split(", ") {
-        set_one(&mut spec.format, one)?;
+        set_one(answer, &mut spec.format, one);
     }
-    Ok(PayloadParams::new(row.pt(), row.resend(), spec).with_red(row.red()))
+    PayloadParams::new(row.pt(), row.resend(), spec).with_red(row.red())
 }
 
-fn shown(alloc: Global, rows: &[PayloadParams]) -> Result<String, AllocError> {
-    let mut list = String::new(alloc);
+fn shown(answer: &mut Answer, rows: &[PayloadParams]) {
+    answer.push_if(rows.is_empty(), "none");
+    let mut separator = "";
     for row in rows {
-        push_part(&mut list, if row.is_plain() { "true" } else { "false" })?;
+        answer.push(separator);
+        answer.push(if row.is_plain() { "true" } else { "false" });
+        separator = " + ";
     }
-    or_none(alloc, list)
 }
 
 /// `plain ROWS`, `plain ROW | FIELDS` or `plain probe TYPE`: of each row whether it is plain.
-pub(crate) fn plain(alloc: Global, text: &str) -> Result<String, Unanswered> {
-    if let Some(pt) = text.strip_prefix("probe ") {
-        let row = PayloadParams::new_probe(type_of(pt)?);
-        return Ok(shown(alloc, &[row])?);
+pub(crate) fn plain(answer: &mut Answer, text: &str) {
+    match (text.strip_prefix("probe "), text.split_once(" | ")) {
+        (Some(pt), _) => {
+            let row = PayloadParams::new_probe(type_of(answer, pt));
+            shown(answer, &[row]);
+        }
+        (None, Some((row, fields))) => {
+            let row = row_of(answer, row);
+            let row = with_fields(answer, row, fields);
+            shown(answer, &[row]);
+        }
+        (None, None) => {
+            let config = config_of(answer, text);
+            shown(answer, config.params());
+        }
     }
-    if let Some((row, fields)) = text.split_once(" | ") {
-        let row = with_fields(row_of(alloc, row)?, fields)?;
-        return Ok(shown(alloc, &[row])?);
-    }
-    let config = config_of(alloc, text)?;
-    Ok(shown(alloc, config.params())?)
 }

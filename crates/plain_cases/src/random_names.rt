@@ -2,9 +2,9 @@
 ghost use Rattle.std.specs.Prelude.{ℕ, ◌+◌, ◌%◌, ◌^◌};
 ghost use Rattle.rand_core.specs.Steps.{stream_of, steps_u32};
 
+use crate::answer::Answer;
 use rand_core::utils::NextWord;
 use rand_core::{Rng, utils};
-use std::alloc::{AllocError, Global};
 use std::marker::Model;
 use str0m_sdp::Msid;
 
@@ -45,11 +45,15 @@ impl Rng for Counter {
 }
 
 /// The names that are drawn, and how many words were. Where there is no room, none has to be.
-pub(crate) fn drawn(alloc: Global) -> Result<String, AllocError> {
+pub(crate) fn drawn(answer: &mut Answer) {
     let mut counter = Counter(0);
-    let drawn = Msid::random(alloc, &mut counter);
-    if drawn.is_err() && counter.0 != 0 {
-        return "words were drawn".to_string(alloc);
+    match &Msid::random(answer.alloc(), &mut counter) {
+        Ok(drawn) => {
+            answer.show(drawn);
+            answer.push(" ");
+            answer.show(&counter.0);
+        }
+        Err(_) if counter.0 != 0 => answer.settle("words were drawn"),
+        Err(_) => answer.refuse(),
     }
-    format!(in alloc; "{} {}", drawn?, counter.0)
 }

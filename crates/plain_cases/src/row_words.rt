@@ -1,216 +1,189 @@
 //! What is asked of rows and of configurations.
 
-use crate::configuration_calls::{config_of, made};
-use crate::row_answers::{or_none, push_part, shown_row, shown_rows};
-use crate::row_texts::{row_of, rows_of, spec_of, type_of, word};
-use crate::unanswered::{Missing, Unanswered};
-use std::alloc::{AllocError, Global};
+use crate::answer::Answer;
+use crate::configuration_calls::{CHANGED, config_of, made};
+use crate::identifiers::direction;
+use crate::lists::word;
+use crate::row_answers::{printed, show_row, show_rows};
+use crate::row_texts::{row_of, rows_of, spec_of, type_of};
 use str0m_formats::{CodecConfig, PayloadParams};
 use str0m_sdp::{AsMediaAttrs, MediaAttribute};
 use str0m_values::{Direction, Items, MediaKind, Pt};
 
 /// What stands on both sides of the first bar.
-pub(crate) fn sides(text: &str) -> Result<(&str, &str), Unanswered> {
-    text.split_once(" | ")
-        .ok_or(Unanswered::NoSuch(Missing::SecondSide))
-}
-
-pub(crate) fn direction_of(text: &str) -> Result<Direction, Unanswered> {
-    match text {
-        "sendrecv" => Ok(Direction::SendRecv),
-        "sendonly" => Ok(Direction::SendOnly),
-        "recvonly" => Ok(Direction::RecvOnly),
-        "inactive" => Ok(Direction::Inactive),
-        _ => Err(Unanswered::NoSuch(Missing::Direction)),
+pub(crate) fn sides<'a>(answer: &mut Answer, text: &'a str) -> (&'a str, &'a str) {
+    match text.split_once(" | ") {
+        Some(sides) => sides,
+        None => {
+            answer.no_such("second side");
+            (text, "")
+        }
     }
 }
 
-fn kind_of(text: &str) -> Result<MediaKind, Unanswered> {
+pub(crate) fn direction_of(answer: &mut Answer, text: &str) -> Direction {
+    match direction(text) {
+        Some(direction) => direction,
+        None => {
+            answer.no_such("direction");
+            Direction::Inactive
+        }
+    }
+}
+
+fn kind_of(answer: &mut Answer, text: &str) -> MediaKind {
     match text {
-        "audio" => Ok(MediaKind::Audio),
-        "video" => Ok(MediaKind::Video),
-        _ => Err(Unanswered::NoSuch(Missing::Kind)),
+        "audio" => MediaKind::Audio,
+        "video" => MediaKind::Video,
+        _ => {
+            answer.no_such("kind");
+            MediaKind::Audio
+        }
     }
 }
 
 /// A row of a codec alone, as `opus/48000/2 minptime=10`, at this type.
-fn row_of_spec(alloc: Global, pt: u8, text: &str) -> Result<PayloadParams, Unanswered> {
+fn row_of_spec(answer: &mut Answer, pt: u8, text: &str) -> PayloadParams {
     let (map, format) = word(text);
-    let spec = spec_of(alloc, map, format)?;
-    Ok(PayloadParams::new(Pt::from(pt), None, spec))
-}
-
-/// One row more, of a codec alone.
-fn push_spec(
-    alloc: Global,
-    rows: &mut Vec<PayloadParams>,
-    pt: u8,
-    text: &str,
-) -> Result<(), Unanswered> {
-    let row = row_of_spec(alloc, pt, text)?;
-    rows.extend_from_slice(&[row])?;
-    Ok(())
-}
-
-fn score_of(alloc: Global, rows: &[PayloadParams]) -> Result<String, AllocError> {
-    let score = match rows {
-        [own, other] => own.match_score(other),
-        _ => None,
-    };
-    match score {
-        Some(score) => score.to_string(alloc),
-        None => "none".to_string(alloc),
-    }
+    PayloadParams::new(Pt::from(pt), None, spec_of(answer, map, format))
 }
 
 /// `score SPEC | SPEC`: how well two rows match.
-pub(crate) fn score(alloc: Global, text: &str) -> Result<String, Unanswered> {
-    let (own, other) = sides(text)?;
-    let mut rows = Vec::new(alloc);
-    push_spec(alloc, &mut rows, 96, own)?;
-    push_spec(alloc, &mut rows, 97, other)?;
-    Ok(score_of(alloc, rows.as_slice())?)
+pub(crate) fn score(answer: &mut Answer, text: &str) {
+    let (own, other) = sides(answer, text);
+    let own = row_of_spec(answer, 96, own);
+    let other = row_of_spec(answer, 97, other);
+    answer.show_or(&own.match_score(&other), "none");
 }
 
 /// `configuration CALLS`: the rows that the calls leave.
-pub(crate) fn configuration(alloc: Global, text: &str) -> Result<String, Unanswered> {
-    let config = made(alloc, text)?;
-    Ok(shown_rows(alloc, config.params())?)
+pub(crate) fn configuration(answer: &mut Answer, text: &str) {
+    let config = made(answer, text);
+    show_rows(answer, config.params());
 }
 
-fn shown_or_none(alloc: Global, row: Option<&PayloadParams>) -> Result<String, AllocError> {
+fn show_row_or_none(answer: &mut Answer, row: Option<&PayloadParams>) {
     match row {
-        Some(row) => shown_row(alloc, row),
-        None => "none".to_string(alloc),
+        Some(row) => show_row(answer, row),
+        None => answer.push("none"),
     }
 }
 
 /// `match ROWS | ROW`: the row that matches best.
-pub(crate) fn best(alloc: Global, text: &str) -> Result<String, Unanswered> {
-    let (own, asked) = sides(text)?;
-    let config = config_of(alloc, own)?;
-    let rows = rows_of(alloc, asked)?;
+pub(crate) fn best(answer: &mut Answer, text: &str) {
+    let (own, asked) = sides(answer, text);
+    let config = config_of(answer, own);
+    let rows = rows_of(answer, asked);
     match rows.first() {
-        Some(asked) => Ok(shown_or_none(alloc, config.match_params(*asked))?),
-        None => Err(Unanswered::NoSuch(Missing::Row)),
+        Some(asked) => show_row_or_none(answer, config.match_params(*asked)),
+        None => answer.no_such("row"),
     }
 }
 
 /// `meet DIRECTION ROWS | ROW`: the type under which the remote row of the direction is met.
-pub(crate) fn met(alloc: Global, text: &str) -> Result<String, Unanswered> {
-    let (own, remote) = sides(text)?;
+pub(crate) fn met(answer: &mut Answer, text: &str) {
+    let (own, remote) = sides(answer, text);
     let (direction, own) = word(own);
-    let direction = direction_of(direction)?;
-    let config = config_of(alloc, own)?;
-    let remote = row_of(alloc, remote)?;
-    Ok(match config.sdp_match_remote(remote, direction) {
-        Some(pt) => pt.to_string(alloc)?,
-        None => "none".to_string(alloc)?,
-    })
+    let direction = direction_of(answer, direction);
+    let config = config_of(answer, own);
+    let remote = row_of(answer, remote);
+    answer.show_or(&config.sdp_match_remote(remote, direction), "none");
 }
 
-fn shown_kind(
-    alloc: Global,
-    config: &CodecConfig,
-    kind: MediaKind,
-    for_new_offer: bool,
-) -> Result<String, AllocError> {
-    let mut shown = String::new(alloc);
+fn show_kind(answer: &mut Answer, config: &CodecConfig, kind: MediaKind, for_new_offer: bool) {
+    let mut is_any = false;
     for row in config.all_for_kind(kind, for_new_offer) {
-        let row = shown_row(alloc, row)?;
-        push_part(&mut shown, row.as_str())?;
+        answer.push_if(is_any, " + ");
+        show_row(answer, row);
+        is_any = true;
     }
-    or_none(alloc, shown)
+    answer.push_if(!is_any, "none");
 }
 
 /// `kind KIND ROWS`: the rows of the kind, and by `offer KIND ROWS` those for a new offer.
-pub(crate) fn kind(alloc: Global, text: &str, for_new_offer: bool) -> Result<String, Unanswered> {
+pub(crate) fn kind(answer: &mut Answer, text: &str, for_new_offer: bool) {
     let (kind, rows) = word(text);
-    let kind = kind_of(kind)?;
-    let config = config_of(alloc, rows)?;
-    Ok(shown_kind(alloc, &config, kind, for_new_offer)?)
+    let kind = kind_of(answer, kind);
+    let config = config_of(answer, rows);
+    show_kind(answer, &config, kind, for_new_offer);
 }
 
 /// `maximum TYPE ROWS`: the highest telephone event of the row of the type.
-pub(crate) fn maximum(alloc: Global, text: &str) -> Result<String, Unanswered> {
+pub(crate) fn maximum(answer: &mut Answer, text: &str) {
     let (pt, rows) = word(text);
-    let pt = type_of(pt)?;
-    let config = config_of(alloc, rows)?;
-    Ok(match config.tele_event_max(pt) {
-        Some(highest) => highest.to_string(alloc)?,
-        None => "none".to_string(alloc)?,
-    })
+    let pt = type_of(answer, pt);
+    let config = config_of(answer, rows);
+    answer.show_or(&config.tele_event_max(pt), "none");
 }
 
 /// `has TYPE ROWS`: whether a row has the type as its primary one.
-pub(crate) fn has(alloc: Global, text: &str) -> Result<String, Unanswered> {
+pub(crate) fn has(answer: &mut Answer, text: &str) {
     let (pt, rows) = word(text);
-    let pt = type_of(pt)?;
-    let config = config_of(alloc, rows)?;
-    let has = if config.has_pt(pt) { "yes" } else { "no" };
-    Ok(has.to_string(alloc)?)
+    let pt = type_of(answer, pt);
+    let config = config_of(answer, rows);
+    answer.push(if config.has_pt(pt) { "yes" } else { "no" });
 }
 
 /// The row, and the feedback that is on.
-fn with_feedback(alloc: Global, row: &PayloadParams) -> Result<String, AllocError> {
-    let cc = if row.fb_transport_cc() {
-        " transport-cc"
-    } else {
-        ""
-    };
-    let fir = if row.fb_fir() { " fir" } else { "" };
-    let nack = if row.fb_nack() { " nack" } else { "" };
-    let pli = if row.fb_pli() { " pli" } else { "" };
-    let remb = if row.fb_remb() { " remb" } else { "" };
-    let row = shown_row(alloc, row)?;
-    let row = row.as_str();
-    format!(in alloc; "{row} with{cc}{fir}{nack}{pli}{remb}")
+fn with_feedback(answer: &mut Answer, row: &PayloadParams) {
+    show_row(answer, row);
+    answer.push(" with");
+    answer.push_if(row.fb_transport_cc(), " transport-cc");
+    answer.push_if(row.fb_fir(), " fir");
+    answer.push_if(row.fb_nack(), " nack");
+    answer.push_if(row.fb_pli(), " pli");
+    answer.push_if(row.fb_remb(), " remb");
 }
 
 /// `feedback ROW`: the row, and the feedback that is on.
-pub(crate) fn feedback(alloc: Global, text: &str) -> Result<String, Unanswered> {
-    let rows = rows_of(alloc, text)?;
+pub(crate) fn feedback(answer: &mut Answer, text: &str) {
+    let rows = rows_of(answer, text);
     match rows.first() {
-        Some(row) => Ok(with_feedback(alloc, row)?),
-        None => Err(Unanswered::NoSuch(Missing::Row)),
+        Some(row) => with_feedback(answer, row),
+        None => answer.no_such("row"),
     }
 }
 
 /// `probe TYPE`: a row for packets that only probe.
-pub(crate) fn probe(alloc: Global, text: &str) -> Result<String, Unanswered> {
-    let row = PayloadParams::new_probe(type_of(text)?);
-    Ok(with_feedback(alloc, &row)?)
+pub(crate) fn probe(answer: &mut Answer, text: &str) {
+    let row = PayloadParams::new_probe(type_of(answer, text));
+    with_feedback(answer, &row);
 }
 
 /// Appends the row's lines. Where that is refused, the list has to be what it was.
-fn append_lines(lines: &mut Items<MediaAttribute>, row: &PayloadParams) -> Result<(), Unanswered> {
-    let before = lines.clone()?;
-    match row.as_media_attrs(&mut lines.0) {
-        Ok(()) => Ok(()),
-        Err(refused) if *lines == before => Err(Unanswered::Memory(refused)),
-        Err(_) => Err(Unanswered::Changed),
+fn append_lines(answer: &mut Answer, lines: &mut Items<MediaAttribute>, row: &PayloadParams) {
+    let none = Items::empty(answer.alloc());
+    let before = answer.kept(lines.clone(), none);
+    if row.as_media_attrs(&mut lines.0).is_err() {
+        unchanged(answer, lines, &before);
+    }
+}
+
+fn unchanged(answer: &mut Answer, lines: &Items<MediaAttribute>, before: &Items<MediaAttribute>) {
+    if lines == before {
+        answer.refuse();
+    } else {
+        answer.settle(CHANGED);
     }
 }
 
 /// `row-lines ROWS`: the lines that describe the rows, behind one that was there before.
-pub(crate) fn row_lines(alloc: Global, text: &str) -> Result<String, Unanswered> {
-    let rows = rows_of(alloc, text)?;
-    let mut lines = Items::empty(alloc);
-    lines.push(MediaAttribute::RtcpMux)?;
+pub(crate) fn row_lines(answer: &mut Answer, text: &str) {
+    let rows = rows_of(answer, text);
+    let mut lines = Items::empty(answer.alloc());
+    answer.note(lines.push(MediaAttribute::RtcpMux));
     for row in rows.iter() {
-        append_lines(&mut lines, row)?;
+        append_lines(answer, &mut lines, row);
     }
-    Ok(lines_text(alloc, lines.as_slice())?)
+    show_lines(answer, lines.as_slice());
 }
 
-fn lines_text(alloc: Global, lines: &[MediaAttribute]) -> Result<String, AllocError> {
-    let mut shown = String::new(alloc);
+fn show_lines(answer: &mut Answer, lines: &[MediaAttribute]) {
+    let mut separator = "";
     for line in lines {
-        let printed = line.to_string(alloc)?;
-        if !shown.is_empty() {
-            shown.push('\n')?;
-        }
-        shown.push_str(printed.trim_end())?;
+        let printed = printed(answer, line);
+        answer.push(separator);
+        answer.push(printed.trim_end());
+        separator = "\n";
     }
-    Ok(shown)
 }

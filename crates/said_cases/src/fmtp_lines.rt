@@ -1,63 +1,72 @@
 //! What fmtp lines say of a codec.
 
-use case_texts::{or_word, section};
-use std::alloc::{AllocError, Global};
-use str0m_signal::{Codec, FormatParam, FormatParams, Items, MediaAttribute, SdpError};
+use crate::said_rows::{printed, show_format};
+use case_texts::section;
+use plain_cases::Answer;
+use std::alloc::AllocError;
+use str0m_signal::{Codec, FormatParam, FormatParams, Items, MediaAttribute};
 
-/// What the call that the word names answers of the text; none for a word of others.
-pub(crate) fn answer(alloc: Global, word: &str, text: &str) -> Result<Option<String>, SdpError> {
-    Ok(match word {
-        "fmtp" => Some(format(alloc, text)?),
-        _ => None,
-    })
+/// Answers what the word asks of the text; whether it is one of these words.
+pub(crate) fn answers(answer: &mut Answer, word: &str, text: &str) -> bool {
+    if word != "fmtp" {
+        return false;
+    }
+    format(answer, text);
+    true
 }
 
 /// `fmtp CODEC VALUES | VALUES`: the format that the values of fmtp lines say of the codec.
-fn format(alloc: Global, text: &str) -> Result<String, SdpError> {
+fn format(answer: &mut Answer, text: &str) {
     let (name, values) = text.split_once(' ').unwrap_or((text, ""));
     let codec = Codec::from(name);
-    if codec.to_string(alloc)?.as_str() != name {
-        return Ok("no such codec".to_string(alloc)?);
+    if printed(answer, &codec).as_str() != name {
+        answer.no_such("codec");
     }
-    let lines = lines_of(alloc, values)?;
-    Ok(format_of(alloc, codec, lines.as_slice())?)
+    let lines = lines_of(answer, values);
+    show_said(answer, codec, lines.as_slice());
 }
 
 /// What these lines say of the codec.
-fn format_of(
-    alloc: Global,
-    codec: Codec,
-    lines: &[Items<FormatParam>],
-) -> Result<String, AllocError> {
-    let lines: Vec<&[FormatParam]> = lines.iter().map(|line| line.as_slice()).collect(alloc)?;
-    match FormatParams::from_sdp_fmtp(codec, lines.as_slice()) {
-        Some(format) => or_word(alloc, format.to_string(alloc)?, "-"),
-        None => "refused".to_string(alloc),
+fn show_said(answer: &mut Answer, codec: Codec, lines: &[Items<FormatParam>]) {
+    let lines: Result<Vec<&[FormatParam]>, AllocError> = lines
+        .iter()
+        .map(|line| line.as_slice())
+        .collect(answer.alloc());
+    if let Some(lines) = answer.made(&lines) {
+        match FormatParams::from_sdp_fmtp(codec, lines.as_slice()) {
+            Some(format) => show_format(answer, &format),
+            None => answer.push("refused"),
+        }
     }
 }
 
 /// The values of fmtp lines, by the reader of attributes; what is no such line is left out.
-fn lines_of(alloc: Global, text: &str) -> Result<Vec<Items<FormatParam>>, SdpError> {
-    let mut lines = Vec::new(alloc);
+fn lines_of(answer: &mut Answer, text: &str) -> Vec<Items<FormatParam>> {
+    let mut lines = Vec::new(answer.alloc());
     for values in text.split(" | ").filter(|values| !values.is_empty()) {
-        if let Some(line) = line_of(alloc, values)? {
-            lines.push(line).map_err(AllocError::from)?;
-        }
+        add_line(answer, &mut lines, values);
     }
-    Ok(lines)
+    lines
 }
 
-/// The values of one fmtp line; none where they make no such line.
-fn line_of(alloc: Global, values: &str) -> Result<Option<Items<FormatParam>>, SdpError> {
-    let line = format!(in alloc; "a=fmtp:96 {values}")?;
-    let section = section(alloc, line.as_str())?;
-    Ok(values_in(section.attrs.as_slice())?)
+/// Adds the values of one fmtp line.
+fn add_line(answer: &mut Answer, lines: &mut Vec<Items<FormatParam>>, values: &str) {
+    let alloc = answer.alloc();
+    let line = answer.kept(format!(in alloc; "a=fmtp:96 {values}"), String::new(alloc));
+    let section = section(answer, line.as_str());
+    if let Some(MediaAttribute::Fmtp { values, .. }) = section.attrs.as_slice().first() {
+        add_values(answer, lines, values);
+    }
 }
 
-/// A copy of the values of an fmtp line; none of anything else.
-fn values_in(said: &[MediaAttribute]) -> Result<Option<Items<FormatParam>>, AllocError> {
-    match said.first() {
-        Some(MediaAttribute::Fmtp { values, .. }) => Ok(Some(values.clone()?)),
-        _ => Ok(None),
+fn add_values(
+    answer: &mut Answer,
+    lines: &mut Vec<Items<FormatParam>>,
+    values: &Items<FormatParam>,
+) {
+    let none = Items::empty(answer.alloc());
+    let copy = answer.kept(values.clone(), none);
+    if lines.push(copy).is_err() {
+        answer.refuse();
     }
 }

@@ -9,25 +9,14 @@ mod said_roles;
 mod said_rows;
 mod said_sources;
 
-use std::alloc::Global;
-use str0m_signal::SdpError;
+use plain_cases::Answer;
 
-/// What the call that the word names answers of the text; none for a word that is not of this crate.
-pub fn answer(alloc: Global, word: &str, text: &str) -> Result<Option<String>, SdpError> {
-    if let Some(answer) = said_by_sections::answer(alloc, word, text)? {
-        return Ok(Some(answer));
-    }
-    if let Some(answer) = said_by_sessions::answer(alloc, word, text)? {
-        return Ok(Some(answer));
-    }
-    if let Some(answer) = said_rows::answer(alloc, word, text)? {
-        return Ok(Some(answer));
-    }
-    if let Some(answer) = said_sources::answer(alloc, word, text)? {
-        return Ok(Some(answer));
-    }
-    if let Some(answer) = said_roles::answer(alloc, word, text)? {
-        return Ok(Some(answer));
-    }
-    fmtp_lines::answer(alloc, word, text)
+/// Answers what the word asks of the text; whether it is a word of this crate.
+pub fn answers(answer: &mut Answer, word: &str, text: &str) -> bool {
+    said_by_sections::answers(answer, word, text)
+        || said_by_sessions::answers(answer, word, text)
+        || said_rows::answers(answer, word, text)
+        || said_sources::answers(answer, word, text)
+        || said_roles::answers(answer, word, text)
+        || fmtp_lines::answers(answer, word, text)
 }

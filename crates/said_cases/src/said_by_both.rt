@@ -1,58 +1,53 @@
 //! What sessions, sections and descriptions may all say: a line of the answer for each, none where nothing is said.
 
-use case_texts::{add_item, add_line};
-use std::alloc::{AllocError, Global};
+use plain_cases::Answer;
+use std::alloc::AllocError;
 use str0m_signal::{Candidates, Fingerprint, IceCreds, Setup};
 
-pub(crate) fn add_setup(answer: &mut String, setup: Option<Setup>) -> Result<(), AllocError> {
-    match setup {
-        None => Ok(()),
-        Some(setup) => add_line(answer, "setup", setup.setup_line()),
+pub(crate) fn add_setup(answer: &mut Answer, setup: Option<Setup>) {
+    if let Some(setup) = setup {
+        answer.line("setup");
+        answer.push(setup.setup_line());
     }
 }
 
-pub(crate) fn add_credentials(
-    alloc: Global,
-    answer: &mut String,
-    found: Option<IceCreds>,
-) -> Result<(), AllocError> {
-    match found {
-        None => Ok(()),
-        Some(creds) => {
-            let copy = creds.clone()?;
-            let text = format!(in alloc; "{} {}", copy.ufrag, copy.pass)?;
-            add_line(answer, "credentials", text.as_str())
+/// What a copy of the credentials says.
+pub(crate) fn add_credentials(answer: &mut Answer, found: &Result<Option<IceCreds>, AllocError>) {
+    if let Some(creds) = answer.found(found) {
+        let copy = creds.clone();
+        if let Some(creds) = answer.made(&copy) {
+            answer.line("credentials");
+            answer.show(&creds.ufrag);
+            answer.push(" ");
+            answer.show(&creds.pass);
         }
     }
 }
 
 pub(crate) fn add_fingerprint(
-    alloc: Global,
-    answer: &mut String,
-    found: Option<Fingerprint>,
-) -> Result<(), AllocError> {
-    match found {
-        None => Ok(()),
-        Some(fingerprint) => {
-            let text = fingerprint.to_string(alloc)?;
-            add_line(answer, "fingerprint", text.as_str())
-        }
+    answer: &mut Answer,
+    found: &Result<Option<Fingerprint>, AllocError>,
+) {
+    if let Some(fingerprint) = answer.found(found) {
+        answer.line("fingerprint");
+        answer.show(fingerprint);
     }
 }
 
 /// Appends the words where they are said.
-pub(crate) fn add_flag(answer: &mut String, words: &str, is_said: bool) -> Result<(), AllocError> {
-    if !is_said {
-        return Ok(());
+pub(crate) fn add_flag(answer: &mut Answer, words: &str, is_said: bool) {
+    if is_said {
+        answer.item("\n");
+        answer.push(words);
     }
-    add_item(answer, words, "\n")
 }
 
 /// The foundations of the candidates, in order.
-pub(crate) fn foundations(alloc: Global, all: Candidates<'_>) -> Result<String, AllocError> {
-    let mut list = String::new(alloc);
+pub(crate) fn add_foundations(answer: &mut Answer, all: Candidates<'_>) {
+    let mut index = 0_usize;
     for candidate in all {
-        add_item(&mut list, candidate.foundation(), " + ")?;
+        answer.item_of_line("candidates", index);
+        answer.push(candidate.foundation());
+        index = index.saturating_add(1);
     }
-    Ok(list)
 }

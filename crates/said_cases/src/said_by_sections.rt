@@ -1,44 +1,39 @@
 //! What sections say (RFC 8866, section 5.14), and their direction when it is set.
 
-use crate::said_by_both::{add_credentials, add_fingerprint, add_flag, add_setup, foundations};
-use case_texts::{add_item, add_line, add_list, escaped, section};
-use std::alloc::{AllocError, Global};
-use str0m_signal::{Direction, MediaLine, SdpError, Simulcast};
+use crate::said_by_both::{add_credentials, add_fingerprint, add_flag, add_foundations, add_setup};
+use case_texts::{push_escaped, section};
+use plain_cases::Answer;
+use str0m_signal::{Direction, MediaLine, Simulcast};
 
-/// What the call that the word names answers of the text; none for a word of others.
-pub(crate) fn answer(alloc: Global, word: &str, text: &str) -> Result<Option<String>, SdpError> {
-    Ok(match word {
-        "section-says" => Some(section_says(alloc, text)?),
-        "set-direction" => Some(with_direction(alloc, text)?),
-        _ => None,
-    })
-}
-
-fn section_says(alloc: Global, text: &str) -> Result<String, SdpError> {
-    let section = section(alloc, text)?;
-    Ok(says(alloc, &section)?)
+/// Answers what the word asks of the text; whether it is one of these words.
+pub(crate) fn answers(answer: &mut Answer, word: &str, text: &str) -> bool {
+    match word {
+        "section-says" => section_says(answer, text),
+        "set-direction" => with_direction(answer, text),
+        _ => return false,
+    }
+    true
 }
 
 /// All that a section says, a line each.
-fn says(alloc: Global, section: &MediaLine) -> Result<String, AllocError> {
-    let mut answer = String::new(alloc);
-    add_role(alloc, &mut answer, section)?;
-    add_transport(alloc, &mut answer, section)?;
-    add_data(alloc, &mut answer, section)?;
-    add_streams(alloc, &mut answer, section)?;
-    add_layers(alloc, &mut answer, section)?;
-    Ok(answer)
+fn section_says(answer: &mut Answer, text: &str) {
+    let section = section(answer, text);
+    add_role(answer, &section);
+    add_transport(answer, &section);
+    add_data(answer, &section);
+    add_streams(answer, &section);
+    add_layers(answer, &section);
 }
 
-fn add_role(alloc: Global, answer: &mut String, section: &MediaLine) -> Result<(), AllocError> {
+fn add_role(answer: &mut Answer, section: &MediaLine) {
     if section.has_mid() {
-        add_line(answer, "mid", section.mid().to_string(alloc)?.as_str())?;
+        answer.line("mid");
+        answer.show(&section.mid());
     }
-    add_line(answer, "direction", direction_word(section.direction()))?;
-    if !section.has_direction() {
-        answer.push_str(", as none is said")?;
-    }
-    add_setup(answer, section.setup())
+    answer.line("direction");
+    answer.push(direction_word(section.direction()));
+    answer.push_if(!section.has_direction(), ", as none is said");
+    add_setup(answer, section.setup());
 }
 
 fn direction_word(direction: Direction) -> &'static str {
@@ -50,94 +45,98 @@ fn direction_word(direction: Direction) -> &'static str {
     }
 }
 
-fn add_transport(
-    alloc: Global,
-    answer: &mut String,
-    section: &MediaLine,
-) -> Result<(), AllocError> {
-    add_credentials(alloc, answer, section.ice_creds()?)?;
-    add_fingerprint(alloc, answer, section.fingerprint()?)?;
-    let candidates = foundations(alloc, section.ice_candidates())?;
-    add_list(answer, "candidates", candidates.as_str())?;
-    add_flag(answer, "end of candidates", section.end_of_candidates())
+fn add_transport(answer: &mut Answer, section: &MediaLine) {
+    add_credentials(answer, &section.ice_creds());
+    add_fingerprint(answer, &section.fingerprint());
+    add_foundations(answer, section.ice_candidates());
+    add_flag(answer, "end of candidates", section.end_of_candidates());
 }
 
-fn add_data(alloc: Global, answer: &mut String, section: &MediaLine) -> Result<(), AllocError> {
+fn add_data(answer: &mut Answer, section: &MediaLine) {
     if let Some(init) = section.sctp_init() {
-        add_line(answer, "sctp-init", init)?;
+        answer.line("sctp-init");
+        answer.push(init);
     }
     if let Some(size) = section.max_message_size() {
-        add_line(answer, "max-message-size", size.to_string(alloc)?.as_str())?;
+        answer.line("max-message-size");
+        answer.show(&size);
     }
-    Ok(())
 }
 
-fn add_streams(alloc: Global, answer: &mut String, section: &MediaLine) -> Result<(), AllocError> {
-    if let Some(msid) = section.msid()? {
-        add_line(answer, "msid", msid.to_string(alloc)?.as_str())?;
+fn add_streams(answer: &mut Answer, section: &MediaLine) {
+    let msid = section.msid();
+    if let Some(msid) = answer.found(&msid) {
+        answer.line("msid");
+        answer.show(msid);
     }
-    add_list(answer, "extensions", extensions(alloc, section)?.as_str())?;
-    add_list(answer, "rids", rids(alloc, section)?.as_str())
+    add_extensions(answer, section);
+    add_rids(answer, section);
 }
 
-fn extensions(alloc: Global, section: &MediaLine) -> Result<String, AllocError> {
-    let mut list = String::new(alloc);
-    for (id, extension) in section.extmaps()? {
-        let item = format!(in alloc; "{id} {}", extension.as_uri())?;
-        add_item(&mut list, item.as_str(), " + ")?;
+fn add_extensions(answer: &mut Answer, section: &MediaLine) {
+    let all = section.extmaps();
+    if let Some(all) = answer.made(&all) {
+        for (index, (id, extension)) in all.iter().enumerate() {
+            answer.item_of_line("extensions", index);
+            answer.show(id);
+            answer.push(" ");
+            answer.push(extension.as_uri());
+        }
     }
-    Ok(list)
 }
 
-fn rids(alloc: Global, section: &MediaLine) -> Result<String, AllocError> {
-    let mut list = String::new(alloc);
-    for rid in section.rids()? {
-        add_item(&mut list, rid.to_string(alloc)?.as_str(), " + ")?;
+fn add_rids(answer: &mut Answer, section: &MediaLine) {
+    let all = section.rids();
+    if let Some(all) = answer.made(&all) {
+        for (index, rid) in all.iter().enumerate() {
+            answer.item_of_line("rids", index);
+            answer.show(rid);
+        }
     }
-    Ok(list)
 }
 
 /// The layers of both ways, and what the other side calls them.
-fn add_layers(alloc: Global, answer: &mut String, section: &MediaLine) -> Result<(), AllocError> {
-    if let Some(simulcast) = section.simulcast()? {
-        add_line(answer, "simulcast", layers(alloc, &simulcast)?.as_str())?;
-        let inverted = simulcast.invert();
-        add_line(answer, "inverted", layers(alloc, &inverted)?.as_str())?;
+fn add_layers(answer: &mut Answer, section: &MediaLine) {
+    match section.simulcast() {
+        Ok(Some(simulcast)) => {
+            add_ways(answer, "simulcast", &simulcast);
+            add_ways(answer, "inverted", &simulcast.invert());
+        }
+        Ok(None) => {}
+        Err(_) => answer.refuse(),
     }
-    Ok(())
 }
 
-fn layers(alloc: Global, simulcast: &Simulcast) -> Result<String, AllocError> {
-    let munged = if simulcast.is_munged { ", munged" } else { "" };
-    let (send, recv) = (&simulcast.send, &simulcast.recv);
-    format!(in alloc; "send `{send}` recv `{recv}`{munged}")
+fn add_ways(answer: &mut Answer, label: &str, simulcast: &Simulcast) {
+    answer.line(label);
+    answer.push("send `");
+    answer.show(&simulcast.send);
+    answer.push("` recv `");
+    answer.show(&simulcast.recv);
+    answer.push("`");
+    answer.push_if(simulcast.is_munged, ", munged");
 }
 
 /// The word's direction is set in a section of the lines behind it: the direction then, and the section.
-fn with_direction(alloc: Global, text: &str) -> Result<String, SdpError> {
+fn with_direction(answer: &mut Answer, text: &str) {
     let (word, lines) = text.split_once(' ').unwrap_or((text, ""));
-    let mut section = section(alloc, lines)?;
-    Ok(turned(alloc, &mut section, direction_of(word))?)
-}
-
-/// The section's direction once this one is set, and the section.
-fn turned(
-    alloc: Global,
-    section: &mut MediaLine,
-    direction: Direction,
-) -> Result<String, AllocError> {
-    if !section.has_direction() {
-        return "no direction to set".to_string(alloc);
+    let mut section = section(answer, lines);
+    if section.has_direction() {
+        section.set_direction(direction_of(word));
+        show_turned(answer, &section);
+    } else {
+        answer.push("no direction to set");
     }
-    section.set_direction(direction);
-    let found = direction_word(section.direction());
-    let printed = section_printed(alloc, section)?;
-    format!(in alloc; "{found}\n{printed}")
 }
 
-fn section_printed(alloc: Global, section: &MediaLine) -> Result<String, AllocError> {
-    let printed = section.to_string(alloc)?;
-    escaped(alloc, printed.as_str())
+/// The section's direction, and the section.
+fn show_turned(answer: &mut Answer, section: &MediaLine) {
+    answer.push(direction_word(section.direction()));
+    answer.push("\n");
+    let printed = section.to_string(answer.alloc());
+    if let Some(printed) = answer.made(&printed) {
+        push_escaped(answer, printed.as_str());
+    }
 }
 
 fn direction_of(word: &str) -> Direction {

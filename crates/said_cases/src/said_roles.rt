@@ -1,38 +1,43 @@
 //! Roles in setting up the transport (RFC 8842, section 5.2), and what m-lines carry.
 
 use case_texts::{description, session};
-use std::alloc::{AllocError, Global};
-use str0m_signal::{MediaLine, SdpError, Setup};
+use plain_cases::Answer;
+use str0m_signal::{MediaLine, Setup};
 
-/// What the call that the word names answers of the text; none for a word of others.
-pub(crate) fn answer(alloc: Global, word: &str, text: &str) -> Result<Option<String>, SdpError> {
-    Ok(match word {
-        "roles" => Some(roles(alloc, text)?),
-        "carries" => Some(carries(alloc, text)?),
-        _ => None,
-    })
+/// Answers what the word asks of the text; whether it is one of these words.
+pub(crate) fn answers(answer: &mut Answer, word: &str, text: &str) -> bool {
+    match word {
+        "roles" => roles(answer, text),
+        "carries" => carries(answer, text),
+        _ => return false,
+    }
+    true
 }
 
 /// What two sides become, that offer these roles.
-fn roles(alloc: Global, text: &str) -> Result<String, SdpError> {
+fn roles(answer: &mut Answer, text: &str) {
     let (own, remote) = text.split_once(' ').unwrap_or((text, ""));
-    match (role(alloc, own)?, role(alloc, remote)?) {
-        (Some(own), Some(remote)) => Ok(settled(alloc, own, remote)?),
-        _ => Ok("no such role".to_string(alloc)?),
+    match (role(answer, own), role(answer, remote)) {
+        (Some(own), Some(remote)) => settled(answer, own, remote),
+        _ => answer.no_such("role"),
     }
 }
 
-fn role(alloc: Global, word: &str) -> Result<Option<Setup>, SdpError> {
-    let line = format!(in alloc; "a=setup:{word}\r\n")?;
-    Ok(session(alloc, line.as_str())?.setup())
+fn role(answer: &mut Answer, word: &str) -> Option<Setup> {
+    let alloc = answer.alloc();
+    let line = answer.kept(format!(in alloc; "a=setup:{word}\r\n"), String::new(alloc));
+    match &session(answer, line.as_str()) {
+        Some(session) => session.setup(),
+        None => None,
+    }
 }
 
-fn settled(alloc: Global, own: Setup, remote: Setup) -> Result<String, AllocError> {
-    let (here, there) = (own.compare_to_remote(remote), remote.compare_to_remote(own));
-    let (here, there) = (word_of(here), word_of(there));
-    let again = own.invert().invert();
-    let again = again.setup_line();
-    format!(in alloc; "{here} | {there}, inverted twice {again}")
+fn settled(answer: &mut Answer, own: Setup, remote: Setup) {
+    answer.push(word_of(own.compare_to_remote(remote)));
+    answer.push(" | ");
+    answer.push(word_of(remote.compare_to_remote(own)));
+    answer.push(", inverted twice ");
+    answer.push(own.invert().invert().setup_line());
 }
 
 fn word_of(role: Option<Setup>) -> &'static str {
@@ -45,26 +50,29 @@ fn word_of(role: Option<Setup>) -> &'static str {
 }
 
 /// What a section of this m-line carries.
-fn carries(alloc: Global, head: &str) -> Result<String, SdpError> {
-    let lines = format!(in alloc; "{head}\r\na=mid:0\r\na=inactive\r\n")?;
-    let sdp = description(alloc, lines.as_str())?;
-    Ok(kind_of_first(alloc, sdp.media_lines.as_slice())?)
-}
-
-fn kind_of_first(alloc: Global, sections: &[MediaLine]) -> Result<String, AllocError> {
-    match sections.first() {
-        None => "no section".to_string(alloc),
-        Some(section) => kind(alloc, section),
+fn carries(answer: &mut Answer, head: &str) {
+    let alloc = answer.alloc();
+    let lines = format!(in alloc; "{head}\r\na=mid:0\r\na=inactive\r\n");
+    let lines = answer.kept(lines, String::new(alloc));
+    if let Some(sdp) = &description(answer, lines.as_str()) {
+        show_kind_of_first(answer, sdp.media_lines.as_slice());
     }
 }
 
-fn kind(alloc: Global, section: &MediaLine) -> Result<String, AllocError> {
-    let (typ, proto) = (&section.typ, section.proto);
-    let carried = match (typ.is_media(), typ.is_channel()) {
+fn show_kind_of_first(answer: &mut Answer, sections: &[MediaLine]) {
+    match sections.first() {
+        None => answer.push("no section"),
+        Some(section) => show_kind(answer, section),
+    }
+}
+
+fn show_kind(answer: &mut Answer, section: &MediaLine) {
+    answer.push(match (section.typ.is_media(), section.typ.is_channel()) {
         (true, true) => "media and channels",
         (true, false) => "media",
         (false, true) => "channels",
         (false, false) => "neither media nor channels",
-    };
-    format!(in alloc; "{carried}, over {}", proto.proto_line())
+    });
+    answer.push(", over ");
+    answer.push(section.proto.proto_line());
 }
