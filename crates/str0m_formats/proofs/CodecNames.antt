@@ -2,7 +2,8 @@
 use Rattle.std.proofs.Common.{◌≡◌, ◌≢◌, ℕ, Bool, true, false, ◌⊎◌, inl, inr, List, map, Option, Some, None, IfSome, refl, sym, ap, ◌∙◌}
 use Rattle.std.specs.Prelude.{unwrap_or}
 use Rattle.std.specs.Char.{to_ascii_lowercase}
-use Rattle.std.specs.Str.{str_eq_ignore_ascii_case}
+use Rattle.std.specs.List.{find}
+use Rattle.std.specs.Str.{bytes_eq, str_eq_ignore_ascii_case}
 use Rattle.std.proofs.lemmas.Slice.Eq.{bytes_eq-Decides}
 use Rattle.std.proofs.lemmas.Bool.{false≢true}
 use Rattle.str0m_formats.specs.declared.codec.TheConstants.{NAMED}
@@ -94,6 +95,20 @@ read_as text = record {
     known : (text : List ℕ) (o : Option Codec) → IfSome o (λ c. (c ≢ Null) × IsSameText text (codec_text c)) → unwrap_or o Unknown ≢ Unknown → (unwrap_or o Unknown ≢ Null) × IsSameText text (codec_text (unwrap_or o Unknown))
     known text None found other = absurd (other refl)
     known text (Some c) found other = found
+
+-- whether this is the codec's very text
+abbrev has_text : List ℕ → Codec → Bool
+has_text text codec = bytes_eq text (codec_text codec)
+
+-- the codec of this very text is the codec of the text
+pub written_is : (text : List ℕ) (codec : Codec) → find (has_text text) NAMED ≡ Some codec → codec ≡ codec_of text
+written_is text codec e = is (find (has_text text) NAMED) (find_passes is_named (has_text text) NAMED refl) e
+  where
+    is : (o : Option Codec) → IfSome o (λ c. (is_named c ≡ true) × (has_text text c ≡ true)) → o ≡ Some codec → codec ≡ codec_of text
+    is None h e = cc
+    is (Some c) h e =
+        let other : c ≢ Null = λ n. false≢true (sym (ap is_named n) ∙ h.0) in
+        sym ((read_as text).named c other (ap (map to_ascii_lowercase) ((bytes_eq-Decides text (codec_text c)).0 h.1)) ∙ cc)
 
 -- and a text reads as one codec
 pub read_only : (text : List ℕ) (codec : Codec) → IsReadAs text codec → codec ≡ codec_of text

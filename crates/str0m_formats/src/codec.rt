@@ -1,6 +1,6 @@
 //! Codecs.
 ghost use Rattle.std.specs.Prelude.{◌≡◌, ◌↔◌, IsTrue, Some, find};
-ghost use Rattle.std.specs.Str.{str_eq_ignore_ascii_case};
+ghost use Rattle.std.specs.Str.{bytes_eq, str_eq_ignore_ascii_case};
 ghost use Rattle.str0m_formats.specs.Codec.{codec_text, content, audio, video, events, media_kind, codec_of, IsReadAs, printed_and_read};
 
 use std::fmt;
@@ -46,23 +46,23 @@ pub enum Codec {
     Unknown,
 }
 
-/// The codecs that a text can name.
+/// The codecs that a text can name, first those of which most lines speak.
 const NAMED: [Codec; 15] = [
+    Codec::Rtx,
+    Codec::H264,
+    Codec::Vp8,
+    Codec::Vp9,
+    Codec::Av1,
     Codec::Opus,
+    Codec::Red,
+    Codec::Tele,
+    Codec::H265,
     Codec::PCMU,
     Codec::PCMA,
     Codec::G722,
     Codec::CN,
     Codec::AmrWb,
-    Codec::H264,
-    Codec::H265,
     Codec::H266,
-    Codec::Vp8,
-    Codec::Vp9,
-    Codec::Av1,
-    Codec::Tele,
-    Codec::Rtx,
-    Codec::Red,
 ];
 
 impl Codec {
@@ -131,6 +131,13 @@ impl Codec {
     }
 }
 
+/// The codec that has this very name.
+fn written(name: &str) -> Option<Codec>
+    ensures { result ≡ find (λ codec. bytes_eq name.now (codec_text codec)) NAMED }
+{
+    NAMED.iter().copied().find(|codec| name == codec.name())
+}
+
 fn known(name: &str) -> Option<Codec>
     ensures { result ≡ find (λ codec. str_eq_ignore_ascii_case name.now (codec_text codec)) NAMED }
 {
@@ -140,12 +147,21 @@ fn known(name: &str) -> Option<Codec>
         .find(|codec| is_same_text(name, codec.name()))
 }
 
-/// The codec of a name.
 #[tactic(auto, unfolding(crate::specs::Codec::codec_of))]
-fn named(name: &str) -> Codec
+fn same(name: &str) -> Codec
     ensures { result ≡ codec_of name.now }
 {
     known(name).unwrap_or(Codec::Unknown)
+}
+
+/// The codec of a name. Nearly all names stand in their own case, and texts are compared faster with it than without.
+fn named(name: &str) -> Codec
+    ensures { result ≡ codec_of name.now }
+{
+    match written(name) {
+        Some(codec) => codec,
+        None => same(name),
+    }
 }
 
 #[tactic(auto, using(crate::proofs::CodecNames::read_as))]

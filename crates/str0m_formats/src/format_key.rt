@@ -30,24 +30,24 @@ pub(crate) enum FormatKey {
     Interleaving,
 }
 
-/// Every key.
+/// Every key, first those that stand in most lines.
 const KEYS: [FormatKey; 20] = [
+    FormatKey::Apt,
+    FormatKey::ProfileLevelId,
+    FormatKey::PacketizationMode,
+    FormatKey::LevelAsymmetryAllowed,
+    FormatKey::ProfileId,
     FormatKey::MinPTime,
+    FormatKey::UseInbandFec,
     FormatKey::Stereo,
     FormatKey::SpropStereo,
-    FormatKey::UseInbandFec,
     FormatKey::UseDtx,
-    FormatKey::LevelAsymmetryAllowed,
-    FormatKey::PacketizationMode,
-    FormatKey::ProfileLevelId,
-    FormatKey::ProfileId,
-    FormatKey::Profile,
     FormatKey::LevelIdx,
     FormatKey::Tier,
+    FormatKey::Profile,
     FormatKey::SpropMaxDonDiff,
     FormatKey::OctetAlign,
     FormatKey::ModeSet,
-    FormatKey::Apt,
     FormatKey::Crc,
     FormatKey::RobustSorting,
     FormatKey::ModeChangePeriod,

@@ -1,12 +1,32 @@
 -- The parts of an fmtp pair.
-use Rattle.std.proofs.Common.{◌≡◌, ◌⊎◌, ℕ, ◌<◌, ◌≤◌, zero, suc, true, List, [], ◌∷◌, ◌++◌, length, take, drop, None, Some, refl, sym, ap, ◌∙◌, arith, inl, inr}
+use Rattle.std.proofs.Common.{◌≡◌, ◌⊎◌, ℕ, ◌<◌, ◌≤◌, zero, suc, Bool, true, false, Option, not, ◌&&◌, ◌||◌, ◌==◌, if◌then◌else◌, List, [], ◌∷◌, ◌++◌, length, take, drop, None, Some, refl, sym, ap, ◌∙◌, arith, inl, inr}
 use Rattle.std.proofs.lemmas.Bool.{lt-ltb, cases_eq, ne_eqb, false≢true}
 use Rattle.std.proofs.lemmas.List.{append-nil, take-append-drop}
-use Rattle.std.specs.List.{AllByRecursion}
+use Rattle.std.specs.List.{AllByRecursion, list_any}
 use Rattle.str0m_values.specs.Parts.{Lacks, IsRest}
-use Rattle.str0m_values.specs.Cuts.{before}
-use Rattle.str0m_signal.specs.FmtpReading.{ends_value, NoneEnds, IsValueEnd, value_read, skip_blanks}
+use Rattle.str0m_values.specs.Cuts.{before, lacks, when, is_rest}
+use Rattle.str0m_signal.specs.FmtpReading.{ends_value, NoneEnds, IsValueEnd, value_read, is_blank, skip_blanks, key_read}
 use Rattle.str0m_values.proofs.CutLaws.{before_front, strip_at}
+
+-- a text without spaces and tabs has neither
+blank_in : (text : List ℕ) → list_any is_blank text ≡ not (lacks 32 text && lacks 9 text)
+blank_in [] = refl
+blank_in (x ∷ xs) = ap (λ (b : Bool). (x == 32 || x == 9) || b) (blank_in xs) ∙ both (x == 32) (x == 9) (lacks 32 xs) (lacks 9 xs)
+  where
+    both : (a b p q : Bool) → (a || b) || not (p && q) ≡ not ((not a && p) && (not b && q))
+    both true b p q = refl
+    both false true true q = refl
+    both false true false q = refl
+    both false false p q = refl
+
+-- a key is what has none and isn't empty
+pub key_is : (text : List ℕ) → key_read text ≡ (if list_any is_blank text then None else when (is_rest text) text)
+key_is text = go (lacks 32 text) (lacks 9 text) ∙ ap (λ (b : Bool). if b then None else when (is_rest text) text) (sym (blank_in text))
+  where
+    go : (p q : Bool) → (if p then (if q then when (is_rest text) text else None) else None) ≡ (if not (p && q) then None else when (is_rest text) text)
+    go true true = refl
+    go true false = refl
+    go false q = refl
 
 -- a value ends at the end of the text, at `;`, at a space or at a tab
 abbrev pub EndsValue : List ℕ → Type 0

@@ -26,6 +26,9 @@ NoneEnds text n = (k : ℕ) → k < n → ends_value (get_or text k 0) ≡ false
 abbrev pub IsValueEnd : List ℕ → ℕ → Type 0
 IsValueEnd text n = (n ≤ length text) × NoneEnds text n × (n < length text → ends_value (get_or text n 0) ≡ true)
 
+abbrev pub is_blank : ℕ → Bool
+is_blank x = x == 32 || x == 9
+
 -- the text without the spaces and tabs at its front
 abbrev pub skip_blanks : List ℕ → List ℕ
 skip_blanks [] = []

@@ -1,13 +1,14 @@
 //! Pairs of a key and a value, parted by `;`.
 
 ghost use Rattle.std.specs.Prelude.{◌≡◌, IfOk, option_map};
+ghost use Rattle.std.specs.List.{list_any};
 ghost use Rattle.str0m_values.specs.Cuts.{parts};
 ghost use Rattle.str0m_formats.specs.FormatParam.{pair_texts};
-ghost use Rattle.str0m_signal.specs.FmtpReading.{IsValueEnd, ends_value, value_read, skip_blanks, next_read, key_read, pair_read, pairs_read};
+ghost use Rattle.str0m_signal.specs.FmtpReading.{IsValueEnd, ends_value, is_blank, value_read, skip_blanks, next_read, key_read, pair_read, pairs_read};
 
 use std::alloc::{AllocError, Global};
 use str0m_values::Separator;
-use str0m_values::cuts::{cut, has, strip};
+use str0m_values::cuts::{cut, strip};
 
 fn ends_value(byte: u8) -> bool
     ensures { result ≡ ends_value byte }
@@ -55,14 +56,25 @@ pub(crate) fn skip_blanks(text: &str) -> &str
     }
 }
 
+/// Whether there is a space or a tab.
+fn has_blank(bytes: &[u8]) -> bool
+    ensures { result ≡ list_any is_blank bytes.now }
+{
+    bytes.iter().any(|byte| is_blank(*byte))
+}
+
+fn is_blank(byte: u8) -> bool
+    ensures { result ≡ is_blank byte }
+{
+    byte == b' ' || byte == b'\t'
+}
+
 /// A key: one or more characters other than space and tab.
+#[tactic(auto, using(crate::proofs::PairLaws::key_is))]
 pub(crate) fn key(text: &str) -> Option<&str>
     ensures { option_map (λ x. x.now) result ≡ key_read text.now }
 {
-    if has(text, Separator::Space) {
-        return None;
-    }
-    if has(text, Separator::Tab) {
+    if has_blank(text.as_bytes()) {
         return None;
     }
     if text.is_empty() { None } else { Some(text) }
