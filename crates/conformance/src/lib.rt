@@ -20,8 +20,6 @@ mod plain_values;
 #[cfg(test)]
 mod rows_and_rounds;
 #[cfg(test)]
-mod stream_names;
-#[cfg(test)]
 mod texts;
 #[cfg(test)]
 mod unwritten;

@@ -13,7 +13,7 @@ pub(crate) fn answers(answer: &mut Answer, asked: &str, text: &str) -> bool {
     match asked {
         "layer" => copied(answer, &layer(alloc, text)),
         "empty" => empty(answer),
-        "random-msid" => random_names::drawn(answer),
+        "random-msid" => random_names::drawn(answer, text),
         _ => return false,
     }
     true

@@ -44,16 +44,24 @@ impl Rng for Counter {
     }
 }
 
-/// The names that are drawn, and how many words were. Where there is no room, none has to be.
-pub(crate) fn drawn(answer: &mut Answer) {
-    let mut counter = Counter(0);
+/// The names that are drawn of the number that the text says and those after it, and the number that comes next.
+pub(crate) fn drawn(answer: &mut Answer, text: &str) {
+    match text.parse::<u32>() {
+        Ok(first) => drawn_from(answer, first),
+        Err(_) => answer.no_such("number"),
+    }
+}
+
+/// Where there is no room, no number has to be drawn.
+fn drawn_from(answer: &mut Answer, first: u32) {
+    let mut counter = Counter(first);
     match &Msid::random(answer.alloc(), &mut counter) {
         Ok(drawn) => {
             answer.show(drawn);
             answer.push(" ");
             answer.show(&counter.0);
         }
-        Err(_) if counter.0 != 0 => answer.settle("words were drawn"),
+        Err(_) if counter.0 != first => answer.settle("words were drawn"),
         Err(_) => answer.refuse(),
     }
 }
