@@ -8,6 +8,7 @@
 #include "counted.h"
 
 #include <inttypes.h>
+#include <malloc.h>
 #include <stdio.h>
 #include <stdlib.h>
 #include <string.h>
@@ -155,6 +156,10 @@ int main(int count, char **words)
         fprintf(stderr, "usage: driver BATCHES CALL,CALL.. FILE..\n");
         return 2;
     }
+    // What is freed stays with the process. Else a text that is large enough for malloc to give its pages back each time takes
+    // some times as long as a smaller one, since each page is asked of the system and filled with zeros again.
+    mallopt(M_MMAP_MAX, 0);
+    mallopt(M_TRIM_THRESHOLD, -1);
     batches = atoi(words[1]);
     printf("loop\t%.3f\n", loop());
     for (int i = 3; i < count; i++) {
