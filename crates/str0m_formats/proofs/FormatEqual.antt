@@ -1,5 +1,5 @@
 -- When two formats are equal, and two specs: `==` of each field decides, and so does that of the record.
-use Rattle.std.proofs.Common.{◌≡◌, ◌&&◌, ℕ, Bool, Option, None, Some, nat_eq, refl, ap}
+use Rattle.std.proofs.Common.{◌≡◌, ◌&&◌, ℕ, Bool, true, false, Option, None, Some, nat_eq, refl, sym, ap, ◌∙◌}
 use Rattle.std.specs.Bool.{Decides, beq}
 use Rattle.std.specs.Cmp.{unsigned_Decides, booleans_Decides}
 use Rattle.std.specs.Option.{option_eq}
@@ -21,7 +21,7 @@ use Rattle.str0m_formats.specs.contracts.format_params.FormatParamsPartialEq.The
 use Rattle.str0m_formats.specs.declared.codec.Codec.{Codec}
 use Rattle.str0m_formats.specs.declared.codec_spec.CodecSpec.{CodecSpec}
 use Rattle.str0m_formats.specs.declared.format_params.FormatParams.{FormatParams}
-use Rattle.str0m_formats.specs.Scores.{same_codec, same_spec}
+use Rattle.str0m_formats.specs.Scores.{same_codec, same_number, same_spec}
 
 -- pairs of proofs, and of tests that decide, to the right
 infixr 20 ◌⊗◌
@@ -130,3 +130,22 @@ spec_Decides a b =
     and unsigned_Decides a.clock_rate b.clock_rate
     and numbers a.channels b.channels
     and format_Decides a.format b.format)
+
+-- a test that decides is false of what isn't
+pub fails : {P : Type 0} (t : Bool) → Decides t P → (P → ⊥) → t ≡ false
+fails true d n = absurd (n (d.0 refl))
+fails false d n = refl
+
+-- what is true of equal specs, and false of these two, tells them apart
+apart : (t : Bool) (a b : CodecSpec) → (a ≡ b → t ≡ true) → t ≡ false → same_spec a b ≡ false
+apart t a b holds h = fails (same_spec a b) (spec_Decides a b) (λ e. let it : true ≡ false = sym (holds e) ∙ h in cc)
+
+-- specs of two codecs are not equal, nor are those whose formats differ in a number
+pub other_codec : (a b : CodecSpec) → same_codec a.codec b.codec ≡ false → same_spec a b ≡ false
+other_codec a b = apart (same_codec a.codec b.codec) a b (λ e. (codec_Decides a.codec b.codec).1 (λ i. (e i).codec))
+
+pub other_level : (a b : CodecSpec) → same_number a.format.profile_level_id b.format.profile_level_id ≡ false → same_spec a b ≡ false
+other_level a b = apart (same_number a.format.profile_level_id b.format.profile_level_id) a b (λ e. (numbers _ _).1 (λ i. (e i).format.profile_level_id))
+
+pub other_mode : (a b : CodecSpec) → same_number a.format.packetization_mode b.format.packetization_mode ≡ false → same_spec a b ≡ false
+other_mode a b = apart (same_number a.format.packetization_mode b.format.packetization_mode) a b (λ e. (numbers _ _).1 (λ i. (e i).format.packetization_mode))

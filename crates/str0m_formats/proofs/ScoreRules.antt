@@ -7,16 +7,12 @@ use Rattle.str0m_formats.specs.declared.codec.Codec.{Codec}
 use Rattle.str0m_formats.specs.declared.codec.Codec.TheVariants.{AmrWb, Tele, Unknown}
 use Rattle.str0m_formats.specs.declared.codec_spec.CodecSpec.{CodecSpec}
 use Rattle.str0m_formats.specs.Scores.{same_codec, same_spec, same_number, codec_score, score, IsScore}
-use Rattle.str0m_formats.proofs.FormatEqual.{numbers, codec_Decides, spec_Decides}
+use Rattle.str0m_formats.proofs.FormatEqual.{numbers, codec_Decides, spec_Decides, fails}
 
 -- what a test decides holds or doesn't
 pub either_way : {P : Type 0} (t : Bool) → Decides t P → P ⊎ (P → ⊥)
 either_way true d = inl (d.0 refl)
 either_way false d = inr (λ p. true≢false (sym (d.1 p)))
-
-pub fails : {P : Type 0} (t : Bool) → Decides t P → (P → ⊥) → t ≡ false
-fails true d n = absurd (n (d.0 refl))
-fails false d n = refl
 
 -- the score by its four tests and the codec's own score
 abbrev by_tests : Bool → Bool → Bool → Bool → Option ℕ → Option ℕ

@@ -17,9 +17,12 @@ pub(crate) fn first_large_of(row: &PayloadParams) -> Option<Pt>
     if row.pt.value() > 127 {
         return Some(row.pt);
     }
-    row.resend
-        .filter(|pt| pt.value() > 127)
-        .or(row.red.filter(|pt| pt.value() > 127))
+    if let Some(resend) = row.resend {
+        if resend.value() > 127 {
+            return Some(resend);
+        }
+    }
+    row.red.filter(|pt| pt.value() > 127)
 }
 
 /// The first type of the rows above 127.

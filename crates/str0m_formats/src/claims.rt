@@ -33,14 +33,13 @@ impl<C: Claimed> Claims<C> {
     fn points(&self, row: &PayloadParams, theirs: &PayloadParams) -> Option<usize>
         ensures { result ≡ points_for (C.holds self.now.claimed) self.now.receives row.now theirs.now }
     {
-        if matches!(row.spec.codec, Codec::AmrWb)
+        let points = row.match_score(theirs)?;
+        // Asked of a row that matches, which few do.
+        let is_left_aside = matches!(row.spec.codec, Codec::AmrWb)
             && !row.locked
             && self.receives
-            && self.claimed.is_claimed(theirs.pt)
-        {
-            return None;
-        }
-        row.match_score(theirs)
+            && self.claimed.is_claimed(theirs.pt);
+        if is_left_aside { None } else { Some(points) }
     }
 
     /// The last of the remote rows of greatest score.

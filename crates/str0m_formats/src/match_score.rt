@@ -247,12 +247,23 @@ fn codec_score(own: &CodecSpec, other: &CodecSpec) -> Option<usize>
     }
 }
 
+/// Whether two specs are equal. Most that meet are of two codecs, or of H264 in two profiles, levels or modes: that is looked
+/// at first, since the whole of two formats takes several times as long.
+#[tactic(auto, using(crate::proofs::FormatEqual::other_codec, crate::proofs::FormatEqual::other_level, crate::proofs::FormatEqual::other_mode))]
+fn is_same(own: &CodecSpec, other: &CodecSpec) -> bool
+    ensures { result ≡ same_spec own.now other.now }
+{
+    own.codec == other.codec
+        && own.format.profile_level_id == other.format.profile_level_id
+        && own.format.packetization_mode == other.format.packetization_mode
+        && *own == *other
+}
+
 /// Whether the first rule applies: equal specs fit in full, but for AMR-WB.
 fn is_full(own: &CodecSpec, other: &CodecSpec) -> bool
     ensures { result ≡ same_spec own.now other.now && not (same_codec own.now.codec AmrWb) }
 {
-    let is_same = *own == *other;
-    is_same && own.codec != Codec::AmrWb
+    is_same(own, other) && own.codec != Codec::AmrWb
 }
 
 /// Whether two specs are of one codec at the same clock rate.

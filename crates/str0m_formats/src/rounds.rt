@@ -98,7 +98,7 @@ impl CodecConfig {
     {
         // The room comes first, and then the causes: a round works on a copy, so that the rows are
         // as they were where it is refused.
-        let mut rows = self.params.clone()?;
+        let mut rows = Vec::from_slice(*self.params.allocator(), self.params.as_slice())?;
         run_round::<C>(&mut rows, remote, dir.sdp_is_receiving())?;
         self.params = rows;
         Ok(())

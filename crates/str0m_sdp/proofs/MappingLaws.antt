@@ -8,9 +8,12 @@ use Rattle.std.proofs.lemmas.List.Elements.{filter_map-append}
 use Rattle.str0m_formats.specs.declared.codec_spec.CodecSpec.{CodecSpec}
 use Rattle.str0m_sdp.specs.Consistency.{maps}
 use Rattle.str0m_sdp.specs.Lists.{distinct}
-use Rattle.str0m_sdp.specs.Mappings.{static_row, unmapped}
+use Rattle.str0m_sdp.specs.Mappings.{mapping, static_row, unmapped}
+use Rattle.str0m_sdp.specs.RtpMap.{spec_of_map}
 use Rattle.str0m_sdp.specs.declared.attribute.MediaAttribute.{MediaAttribute}
-use Rattle.str0m_sdp.proofs.FilterMapLaws.{map_one}
+use Rattle.str0m_sdp.specs.declared.attribute.MediaAttribute.TheVariants.{RtpMap}
+use Rattle.str0m_sdp.specs.declared.rtp_map.RtpMap.{RtpMap as Mapping}
+use Rattle.str0m_sdp.proofs.FilterMapLaws.{map_one, map_more}
 use Rattle.str0m_sdp.proofs.DistinctLaws.{distinct_push}
 use Rattle.str0m_sdp.proofs.TypeMarks.{any_more, marked, or_false}
 
@@ -83,3 +86,25 @@ mark_seen marks pts i seen pt a lt is marked so_far =
       | inr apart ↦
           so_far ∙ sym (ap (λ (b : Bool). a || b) (more ∙ ap (λ (b : Bool). before || b) (ne_eqb seen pt apart) ∙ or_false before))
     ]
+
+-- the mappings of the lines, one line more: it is one, or none
+pub mapping_more : (attrs : List MediaAttribute) (rows : List (ℕ × CodecSpec)) (i n : ℕ) (value : Mapping) (attr : MediaAttribute)
+    → i < length attrs → attr ≡ get_or attrs i attr → attr ≡ RtpMap n value → rows ≡ filter_map mapping (take i attrs)
+    → rows ++ (n, spec_of_map value) ∷ [] ≡ filter_map mapping (take (i + 1) attrs)
+mapping_more attrs rows i n value attr lt is variant so_far =
+    ap (λ (before : List (ℕ × CodecSpec)). before ++ (n, spec_of_map value) ∷ []) so_far
+    ∙ sym (map_more mapping attrs i attr lt is
+    ∙ ap (λ (a : MediaAttribute). filter_map mapping (take i attrs) ++ option_to_list (mapping a)) variant)
+
+no_mapping : (attr : MediaAttribute) → ((n : ℕ) (value : Mapping) → attr ≡ RtpMap n value → ⊥) → mapping attr ≡ None
+no_mapping (RtpMap n value) other = absurd (other n value refl)
+no_mapping _ other = refl
+
+pub mapping_other : (attrs : List MediaAttribute) (rows : List (ℕ × CodecSpec)) (i : ℕ) (attr : MediaAttribute)
+    → i < length attrs → attr ≡ get_or attrs i attr → ((n : ℕ) (value : Mapping) → attr ≡ RtpMap n value → ⊥)
+    → rows ≡ filter_map mapping (take i attrs) → rows ≡ filter_map mapping (take (i + 1) attrs)
+mapping_other attrs rows i attr lt is other so_far =
+    so_far
+    ∙ sym (map_more mapping attrs i attr lt is
+    ∙ ap (λ (o : Option (ℕ × CodecSpec)). filter_map mapping (take i attrs) ++ option_to_list o) (no_mapping attr other)
+    ∙ append-nil (filter_map mapping (take i attrs)))

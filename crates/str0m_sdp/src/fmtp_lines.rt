@@ -9,14 +9,16 @@ use std::alloc::{AllocError, Global};
 use str0m_formats::FormatParam;
 use str0m_values::Pt;
 
-/// The values of the fmtp lines, each beside the number of its payload type, in order (RFC 8866, section 6.15).
+/// The values of the fmtp lines, each beside the number of its payload type, in order (RFC 8866, section 6.15). There is room
+/// for as many as are likely.
 pub(crate) fn fmtp_lines<'a>(
     alloc: Global,
     attrs: &'a [MediaAttribute],
+    likely: usize,
 ) -> Result<Vec<(u8, &'a [FormatParam])>, AllocError>
     ensures { IfOk result (λ lines. (pt : ℕ) → line_values (lines_with pt lines.items) ≡ lines_of attrs.now pt) }
 {
-    let mut lines = Vec::new(alloc);
+    let mut lines = Vec::with_capacity(alloc, likely)?;
     for attr in attrs {
         if let MediaAttribute::Fmtp { pt, values } = attr {
             lines.push((pt.value(), values.as_slice()))?;

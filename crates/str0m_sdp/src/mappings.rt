@@ -11,21 +11,22 @@ use std::alloc::{AllocError, Global};
 use str0m_formats::{Codec, CodecSpec};
 use str0m_values::Pt;
 
-/// The type of an rtpmap line, and the codec that it names.
-fn mapping(attr: &MediaAttribute) -> Option<(Pt, CodecSpec)>
-    ensures { result ≡ mapping attr.now }
-{
-    match attr {
-        MediaAttribute::RtpMap { pt, value } => Some((*pt, CodecSpec::from(*value))),
-        _ => None,
-    }
-}
-
-/// The types of rtpmap lines with their codecs, in order.
-fn mappings(alloc: Global, attrs: &[MediaAttribute]) -> Result<Vec<(Pt, CodecSpec)>, AllocError>
+/// The types of rtpmap lines with their codecs, in order. There is room for as many as are likely.
+fn mappings(
+    alloc: Global,
+    attrs: &[MediaAttribute],
+    likely: usize,
+) -> Result<Vec<(Pt, CodecSpec)>, AllocError>
     ensures { IfOk result (λ rows. rows.items ≡ filter_map mapping attrs.now) }
 {
-    attrs.iter().filter_map(|attr| mapping(attr)).collect(alloc)
+    let mut rows = Vec::with_capacity(alloc, likely)?;
+    for attr in attrs {
+        if let MediaAttribute::RtpMap { pt, value } = attr {
+            // Appended as a slice of one, as rows are; docs/DECISIONS.md says why.
+            rows.extend_from_slice(&[(*pt, CodecSpec::from(*value))])?;
+        }
+    }
+    Ok(rows)
 }
 
 /// The codec that a type stands for without an rtpmap line.
@@ -68,7 +69,6 @@ fn push_static(mapped: &mut Vec<(Pt, CodecSpec)>, pt: Pt) -> Result<(), AllocErr
     ensures { OnOk result (mapped.new.items ≡ mapped.old.items ++ option_to_list (static_row pt)) }
 {
     match static_spec(pt) {
-        // Appended as a slice of one, as rows are; docs/DECISIONS.md says why.
         Some(spec) => mapped.extend_from_slice(&[(pt, spec)]),
         None => Ok(()),
     }
@@ -83,7 +83,7 @@ impl MediaLine {
         ensures { IfOk result (λ rows. rows.items ≡ mapped self.now) }
     {
         let attrs = self.attrs.as_slice();
-        let mut mapped = mappings(*self.attrs.allocator(), attrs)?;
+        let mut mapped = mappings(*self.attrs.allocator(), attrs, self.pts.len())?;
         let mut seen = line_types(attrs);
         for pt in self.pts.as_slice() {
             let row = row(*pt);

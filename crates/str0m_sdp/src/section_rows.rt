@@ -123,10 +123,10 @@ impl MediaLine {
     {
         let alloc = *self.attrs.allocator();
         let words = self.type_words(types);
-        let lines = fmtp_lines(alloc, self.attrs.as_slice())?;
+        let lines = fmtp_lines(alloc, self.attrs.as_slice(), types.len())?;
         let mut known = Vec::new(alloc);
         let mut found = Vec::new(alloc);
-        let mut rows = Vec::new(alloc);
+        let mut rows = Vec::with_capacity(alloc, types.len())?;
         for (pt, spec) in types {
             if words.is_kept(*pt, *spec) {
                 let lines = lines.as_slice();

@@ -26,6 +26,7 @@ NoneEnds text n = (k : ℕ) → k < n → ends_value (get_or text k 0) ≡ false
 abbrev pub IsValueEnd : List ℕ → ℕ → Type 0
 IsValueEnd text n = (n ≤ length text) × NoneEnds text n × (n < length text → ends_value (get_or text n 0) ≡ true)
 
+-- whether a character is a space or a tab
 abbrev pub is_blank : ℕ → Bool
 is_blank x = x == 32 || x == 9
 

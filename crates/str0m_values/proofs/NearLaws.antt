@@ -25,9 +25,9 @@ cut_first c text i h =
 pub cut_nowhere : (c : ℕ) (text : List ℕ) → LacksAt c text (length text) → None ≡ cut c text
 cut_nowhere c text h = sym (cut_none c text (Lacks-by_index c text h))
 
--- eight digits and one more fit 32 bits
-pub eight_digits : (digits : List ℕ) (i : ℕ) → AllDigits 10 (take i digits) → i ≤ 8 → digits_value 10 (take i digits) < 100000000
-eight_digits digits i h le = digits_value_short (numerals_by_value (AllDigits 10) tells_digits) (take i digits) 8 h (omega (arith, length-take i digits, le))
+-- eighteen digits and one more fit 64 bits
+pub eighteen_digits : (digits : List ℕ) (i : ℕ) → AllDigits 10 (take i digits) → i ≤ 18 → digits_value 10 (take i digits) < 1000000000000000000
+eighteen_digits digits i h le = digits_value_short (numerals_by_value (AllDigits 10) tells_digits) (take i digits) 18 h (omega (arith, length-take i digits, le))
 
 written_plain : (digits : List ℕ) (n : ℕ) → IsWrittenAs digits n → without_leading_plus digits ≡ digits
 written_plain [] n h = absurd (omega (arith, h.0.0))

@@ -1,10 +1,9 @@
 -- The characters that lines are cut at, each by its number in ASCII.
 use Rattle.std.specs.Prelude.{ℕ}
 use Rattle.str0m_values.specs.declared.separator.Separator.{Separator}
-use Rattle.str0m_values.specs.declared.separator.Separator.TheVariants.{Tab, LineFeed, CarriageReturn, Space, Comma, Slash, Colon, Semicolon, Equals, Tilde}
+use Rattle.str0m_values.specs.declared.separator.Separator.TheVariants.{LineFeed, CarriageReturn, Space, Comma, Slash, Colon, Semicolon, Equals, Tilde}
 
 abbrev pub code : Separator → ℕ
-code Tab = 9
 code LineFeed = 10
 code CarriageReturn = 13
 code Space = 32

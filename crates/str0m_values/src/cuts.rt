@@ -67,12 +67,12 @@ pub fn strip<'a>(text: &'a str, prefix: &str) -> Option<&'a str>
     text.strip_prefix(prefix)
 }
 
-/// The longest number of digits that 32 bits always hold.
-const SHORT: usize = 9;
+/// The longest number of digits that 64 bits always hold.
+const SHORT: usize = 19;
 
-/// The number that is written in one to nine digits alone.
+/// The number that is written in one to nineteen digits alone.
 #[inline(always)]
-fn short_number(digits: &[u8]) -> Option<u32>
+fn short_number(digits: &[u8]) -> Option<u64>
     ensures { IfSome result (IsWrittenAs digits.now) }
 {
     if digits.is_empty() || digits.len() > SHORT {
@@ -84,18 +84,22 @@ fn short_number(digits: &[u8]) -> Option<u32>
         if !byte.is_ascii_digit() {
             return None;
         }
-        number = number * 10 + u32::from(byte - b'0');
+        number = number * 10 + u64::from(byte - b'0');
     }
     Some(number)
 }
 
-/// The number that std reads in decimal, where it is at most `limit`. Most are a few digits, which are read in place.
+/// The number that std reads in decimal, where it is at most `limit`. Most are digits alone, which are read in place.
 fn number(text: &str, limit: u32) -> Option<u32>
     ensures value { result ≡ num limit text.now }
     ensures within { IfSome result (λ n. n ≤ limit) }
 {
     match short_number(text.as_bytes()) {
-        Some(number) => if number <= limit { Some(number) } else { None },
+        Some(number) => if number <= u64::from(limit) {
+            Some(number as u32)
+        } else {
+            None
+        },
         None => match text.parse::<u32>() {
             Ok(number) if number <= limit => Some(number),
             _ => None,

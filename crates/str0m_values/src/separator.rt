@@ -6,7 +6,6 @@ ghost use Rattle.str0m_values.specs.Separator.{code};
 /// falls between two characters.
 #[derive(Clone, Copy, Debug, PartialEq, Eq)]
 pub enum Separator {
-    Tab,
     LineFeed,
     CarriageReturn,
     Space,
@@ -25,7 +24,6 @@ impl Separator {
         ensures ascii { result < 128 }
     {
         match self {
-            Separator::Tab => '\t',
             Separator::LineFeed => '\n',
             Separator::CarriageReturn => '\r',
             Separator::Space => ' ',

@@ -1,8 +1,25 @@
-use Rattle.std.proofs.Common.{rules, tests}
-use Rattle.std.proofs.lemmas.Iterator.{YieldsList-from_slice, items_from_collect}
-use Rattle.std.proofs.lemmas.Iterator.Consumers.{YieldsList-from_filter_map}
+use Rattle.std.proofs.Common.{List, filter_map, ap, ◌∙◌}
+use Rattle.std.proofs.lemmas.List.{take_all}
 use Rattle.str0m_sdp.specs.Mappings.{mapping}
+use Rattle.str0m_sdp.specs.declared.attribute.MediaAttribute.{MediaAttribute}
+use Rattle.str0m_sdp.proofs.MappingLaws.{mapping_more, mapping_other}
+use Rattle.str0m_sdp.proofs.mappings.mappings.Goals.{in-RtpMap+in_ok-extend_from_slice, in_default}
 use Rattle.str0m_sdp.proofs.mappings.mappings.Goals as goal
 
+pub loop-attr-preserved : goal.loop-attr-preserved
+loop-attr-preserved c =
+    let attrs = c.args.attrs.now in
+    let i = c.loop-attr.attr-index in
+    let attr = c.attr-item.result in
+    let lt = c.loop-attr-test.true in
+    elim c.match-attr.branch [
+      | in-RtpMap+in_ok-extend_from_slice w ↦
+          rw (w.rows-is, w.in_ok-extend_from_slice.ensures.items, w.from.ensures)
+          (mapping_more attrs c.loop-attr.rows.items i _ _ attr lt c.attr-item.is w.in-RtpMap.is c.loop-attr.invariant)
+      | in_default w ↦
+          rw w.rows-is (mapping_other attrs c.loop-attr.rows.items i attr lt c.attr-item.is w.in_default.not-RtpMap c.loop-attr.invariant)
+    ]
+
 pub returns : goal.returns
-returns c = items_from_collect _ c.collect.ensures.ran (YieldsList-from_filter_map _ mapping (YieldsList-from_slice c.args.attrs.now cc) c.filter_map.ensures.closure (λ x r q k. search (rules, tests)))
+returns c =
+    c.loop-attr.invariant ∙ ap (λ (attrs : List MediaAttribute). filter_map mapping attrs) (take_all c.loop-attr.attr-index c.args.attrs.now c.loop-attr-test.false)

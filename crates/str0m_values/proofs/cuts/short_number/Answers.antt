@@ -2,19 +2,19 @@ use Rattle.std.proofs.Common.{arith, get_or}
 use Rattle.std.proofs.lemmas.Int.Digits.{digits_more, digits_value_more}
 use Rattle.std.proofs.lemmas.Str.{digit_value_digit}
 use Rattle.std.proofs.lemmas.Str.Parse.{digit_from_value}
-use Rattle.str0m_values.proofs.NearLaws.{eight_digits}
+use Rattle.str0m_values.proofs.NearLaws.{eighteen_digits}
 use Rattle.str0m_values.proofs.cuts.short_number.Goals as goal
 
 pub overflow_mul-number : goal.overflow_mul-number
 overflow_mul-number c =
     let i = c.loop-i.invariant in
-    let small = eight_digits c.args.digits.now c.loop-i.i i.0 (omega (arith, c.loop-i-test.true, c.if-digits-gt-SHORT.false)) in
+    let small = eighteen_digits c.args.digits.now c.loop-i.i i.0 (omega (arith, c.loop-i-test.true, c.if-digits-gt-SHORT.false)) in
     omega (arith, small, i.1)
 
 pub overflow_add-number : goal.overflow_add-number
 overflow_add-number c =
     let i = c.loop-i.invariant in
-    let small = eight_digits c.args.digits.now c.loop-i.i i.0 (omega (arith, c.loop-i-test.true, c.if-digits-gt-SHORT.false)) in
+    let small = eighteen_digits c.args.digits.now c.loop-i.i i.0 (omega (arith, c.loop-i-test.true, c.if-digits-gt-SHORT.false)) in
     let digit = rw c.if-not-is_ascii_digit.false at c.is_ascii_digit.ensures.bound in
     let range = digit_from_value (get_or c.args.digits.now c.loop-i.i 0) digit in
     omega (arith, small, i.1, range.0, range.1, c.from.ensures)
