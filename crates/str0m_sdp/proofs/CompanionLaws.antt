@@ -56,28 +56,33 @@ companion_other codec mapped attrs i attr pt lt is other =
     companion_more codec mapped attrs i attr pt lt is
     ∙ ap (λ (o : Option ℕ). option_or o (companion codec mapped (take i attrs) pt)) (none_in codec mapped pt attr other)
 
--- nor does an fmtp line of another codec
-pub companion_apart : (codec : Codec) (mapped : List (ℕ × CodecSpec)) (attrs : List MediaAttribute) (i n : ℕ) (values : List FormatParam) (attr : MediaAttribute) (pt : ℕ)
-    → i < length attrs → attr ≡ get_or attrs i attr → attr ≡ Fmtp n values → is_mapped_to codec mapped n ≡ false
-    → companion codec mapped (take (i + 1) attrs) pt ≡ companion codec mapped (take i attrs) pt
-companion_apart codec mapped attrs i n values attr pt lt is variant apart =
-    companion_more codec mapped attrs i attr pt lt is
-    ∙ ap (λ (a : MediaAttribute). option_or (companion_in codec mapped pt a) (companion codec mapped (take i attrs) pt)) variant
-    ∙ ap (λ (b : Bool). option_or (when (b && list_any (names codec pt) values) n) (companion codec mapped (take i attrs) pt)) apart
-
 when_or : {X : Type 0} (b : Bool) (x : X) (o : Option X) → option_or (when b x) o ≡ cond b (Some x) o
 when_or true x o = refl
 when_or false x o = refl
 
--- a line of the codec goes with each type that it names
-pub companion_named : (codec : Codec) (mapped : List (ℕ × CodecSpec)) (attrs : List MediaAttribute) (i n : ℕ) (values : List FormatParam) (attr : MediaAttribute) (pt : ℕ)
-    → i < length attrs → attr ≡ get_or attrs i attr → attr ≡ Fmtp n values → is_mapped_to codec mapped n ≡ true
-    → companion codec mapped (take (i + 1) attrs) pt ≡ cond (list_any (names codec pt) values) (Some n) (companion codec mapped (take i attrs) pt)
-companion_named codec mapped attrs i n values attr pt lt is variant of_codec =
+-- an fmtp line goes with each type that it names, where it is of the codec
+companion_fmtp : (codec : Codec) (mapped : List (ℕ × CodecSpec)) (attrs : List MediaAttribute) (i n : ℕ) (values : List FormatParam) (attr : MediaAttribute) (pt : ℕ)
+    → i < length attrs → attr ≡ get_or attrs i attr → attr ≡ Fmtp n values
+    → companion codec mapped (take (i + 1) attrs) pt
+    ≡ cond (is_mapped_to codec mapped n && list_any (names codec pt) values) (Some n) (companion codec mapped (take i attrs) pt)
+companion_fmtp codec mapped attrs i n values attr pt lt is variant =
     companion_more codec mapped attrs i attr pt lt is
     ∙ ap (λ (a : MediaAttribute). option_or (companion_in codec mapped pt a) (companion codec mapped (take i attrs) pt)) variant
-    ∙ ap (λ (b : Bool). option_or (when (b && list_any (names codec pt) values) n) (companion codec mapped (take i attrs) pt)) of_codec
-    ∙ when_or (list_any (names codec pt) values) n (companion codec mapped (take i attrs) pt)
+    ∙ when_or (is_mapped_to codec mapped n && list_any (names codec pt) values) n (companion codec mapped (take i attrs) pt)
+
+-- so a table in which it is noted, where it is of the codec, has what goes with each type one line on
+pub companions_noted : (codec : Codec) (mapped : List (ℕ × CodecSpec)) (attrs : List MediaAttribute) (of_codec : List Bool) (old new : List (Option ℕ))
+    (i n : ℕ) (values : List FormatParam) (attr : MediaAttribute)
+    → i < length attrs → attr ≡ get_or attrs i attr → attr ≡ Fmtp n values
+    → get_or of_codec n false ≡ is_mapped_to codec mapped n → length old ≡ 256
+    → ((m : ℕ) → m < length old → get_or new m None ≡ cond (get_or of_codec n false && list_any (names codec m) values) (Some n) (get_or old m None))
+    → ((pt : ℕ) → pt < 256 → get_or old pt None ≡ companion codec mapped (take i attrs) pt)
+    → (pt : ℕ) → pt < 256 → get_or new pt None ≡ companion codec mapped (take (i + 1) attrs) pt
+companions_noted codec mapped attrs of_codec old new i n values attr lt is variant tells rows noted so_far pt small =
+    noted pt (rw rows small)
+    ∙ ap (λ (o : Option ℕ). cond (get_or of_codec n false && list_any (names codec pt) values) (Some n) o) (so_far pt small)
+    ∙ ap (λ (b : Bool). cond (b && list_any (names codec pt) values) (Some n) (companion codec mapped (take i attrs) pt)) tells
+    ∙ sym (companion_fmtp codec mapped attrs i n values attr pt lt is variant)
 
 -- before any attribute there is none
 pub companion_start : (codec : Codec) (mapped : List (ℕ × CodecSpec)) (pt : ℕ) → None ≡ companion codec mapped [] pt

@@ -12,6 +12,7 @@ pub mod Finding
 pub mod FmtpAnswers
 pub mod FmtpLineLaws
 pub mod FrameAnswers
+pub mod GatherLaws
 pub mod Holders
 pub mod ListLaws
 pub mod MappingLaws

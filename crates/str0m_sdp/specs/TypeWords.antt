@@ -1,15 +1,21 @@
 -- What a section says of each type, as tables.
-use Rattle.std.specs.Prelude.{◌≡◌, ◌==◌, ◌<◌, ℕ, false, None, get_or, if◌then◌else◌}
+use Rattle.std.specs.Prelude.{◌≡◌, ◌==◌, ◌<◌, ℕ, false, List, None, get_or, length, if◌then◌else◌}
+use Rattle.std.specs.Borrow.{Bor}
 use Rattle.std.specs.List.{list_any}
 use Rattle.str0m_formats.specs.Codec.{content}
+use Rattle.str0m_formats.specs.FormatLine.{line_values}
 use Rattle.str0m_formats.specs.KindRows.{has_sound}
 use Rattle.str0m_formats.specs.Rows.{new_row}
 use Rattle.str0m_formats.specs.declared.codec.Codec.TheVariants.{Rtx, Red}
 use Rattle.str0m_formats.specs.declared.codec_spec.CodecSpec.{CodecSpec}
+use Rattle.str0m_formats.specs.declared.format_param.FormatParam.{FormatParam}
 use Rattle.str0m_formats.specs.declared.payload_params.PayloadParams.{PayloadParams}
 use Rattle.str0m_sdp.specs.Companions.{companion}
 use Rattle.str0m_sdp.specs.Feedback.{none, feedback_of, with_feedback}
+use Rattle.str0m_sdp.specs.FmtpLines.{lines_with}
 use Rattle.str0m_sdp.specs.Mappings.{mapped}
+use Rattle.str0m_sdp.specs.SectionRows.{lines_of}
+use Rattle.str0m_sdp.specs.declared.attribute.MediaAttribute.{MediaAttribute}
 use Rattle.str0m_sdp.specs.declared.media_line.MediaLine.{MediaLine}
 use Rattle.str0m_sdp.specs.declared.section_rows.TypeWords.{TypeWords}
 
@@ -27,3 +33,13 @@ pub record SayOf (m : MediaLine) (words : TypeWords) : Type 0 where
   pub rtx : (pt : ℕ) → pt < 256 → get_or words.rtx pt None ≡ companion Rtx (mapped m) m.attrs pt
   pub red : (pt : ℕ) → pt < 256 → get_or words.red pt None ≡ companion Red (mapped m) m.attrs pt
   pub feedback : (pt : ℕ) → pt < 256 → get_or words.feedback pt none ≡ feedback_of m.attrs pt
+
+-- the tables, and the fmtp lines beside their types, say what these attributes say of each type
+pub record AreOf (types : List (ℕ × CodecSpec)) (attrs : List MediaAttribute) (words : TypeWords) (lines : List (ℕ × Bor (List FormatParam))) : Type 0 where
+  pub rtx_rows : length words.rtx ≡ 256
+  pub red_rows : length words.red ≡ 256
+  pub feedback_rows : length words.feedback ≡ 256
+  pub rtx : (pt : ℕ) → pt < 256 → get_or words.rtx pt None ≡ companion Rtx types attrs pt
+  pub red : (pt : ℕ) → pt < 256 → get_or words.red pt None ≡ companion Red types attrs pt
+  pub feedback : (pt : ℕ) → pt < 256 → get_or words.feedback pt none ≡ feedback_of attrs pt
+  pub gathered : (pt : ℕ) → line_values (lines_with pt lines) ≡ lines_of attrs pt

@@ -1,12 +1,10 @@
 //! The payload types that go with another type, by type.
-ghost use Rattle.std.specs.Prelude.{◌≡◌, ◌<◌, ℕ, Some, None, get_or, length, if◌then◌else◌};
+ghost use Rattle.std.specs.Prelude.{◌≡◌, ◌<◌, ◌&&◌, ℕ, false, Some, None, get_or, length, if◌then◌else◌};
 ghost use Rattle.std.specs.List.{list_any};
-ghost use Rattle.str0m_sdp.specs.Companions.{listed, named_by, names, companion};
+ghost use Rattle.str0m_sdp.specs.Companions.{listed, named_by, names};
 
-use crate::attribute::MediaAttribute;
-use crate::mappings::types_of;
 use crate::type_tables::{apt_of, row};
-use str0m_formats::{Codec, CodecSpec, FormatParam};
+use str0m_formats::{Codec, FormatParam};
 use str0m_values::Pt;
 
 /// The first type of a list of types (RFC 2198, section 5).
@@ -43,24 +41,20 @@ fn note(companions: &mut [Option<Pt>; 256], codec: Codec, pt: Pt, values: &[Form
     }
 }
 
-/// The type that goes with each payload type under the codec, which is RTX (RFC 4588, section 8.1) or
-/// RED (RFC 2198, section 5): the last type of the codec whose fmtp line names it.
-pub(crate) fn companions(
+/// Notes the type for each type that its fmtp line names, where it is one of the codec's, which is RTX (RFC 4588, section 8.1)
+/// or RED (RFC 2198, section 5).
+pub(crate) fn note_line(
+    companions: &mut [Option<Pt>; 256],
     codec: Codec,
-    mapped: &[(Pt, CodecSpec)],
-    attrs: &[MediaAttribute],
-) -> [Option<Pt>; 256]
-    ensures rows { (pt : ℕ) → pt < 256 → get_or result pt None ≡ companion codec mapped.now attrs.now pt }
-    ensures whole { length result ≡ 256 }
+    of_codec: &[bool; 256],
+    pt: Pt,
+    values: &[FormatParam],
+)
+    ensures rows { (n : ℕ) → n < length companions.old → get_or companions.new n None
+        ≡ (if get_or of_codec.now pt false && list_any (names codec n) values.now then Some pt else get_or companions.old n None) }
+    ensures whole { length companions.new ≡ length companions.old }
 {
-    let types = types_of(mapped, codec);
-    let mut companions = [None; 256];
-    for attr in attrs {
-        if let MediaAttribute::Fmtp { pt, values } = attr {
-            if types[row(*pt)] {
-                note(&mut companions, codec, *pt, values.as_slice());
-            }
-        }
+    if of_codec[row(pt)] {
+        note(companions, codec, pt, values);
     }
-    companions
 }

@@ -1,9 +1,9 @@
 //! The feedback that a section speaks of, by payload type.
-ghost use Rattle.std.specs.Prelude.{◌≡◌, ◌<◌, ℕ, get_or, length};
+ghost use Rattle.std.specs.Prelude.{◌≡◌, ◌<◌, get_or, set};
 
-use crate::attribute::MediaAttribute;
 use crate::type_tables::row;
 use str0m_formats::PayloadParams;
+use str0m_values::Pt;
 
 /// The feedback that goes with a payload type: `nack` and `nack pli` (RFC 4585, section 4.2),
 /// `ccm fir` (RFC 5104, section 7.1), `transport-cc`
@@ -20,7 +20,7 @@ pub(crate) struct Feedback {
 impl Feedback {
     ghost use Rattle.str0m_sdp.specs.Feedback.{none, named, either, with_feedback};
 
-    fn none() -> Feedback
+    pub(crate) fn none() -> Feedback
         ensures { result ≡ none }
     {
         Feedback {
@@ -73,19 +73,13 @@ impl Feedback {
     }
 }
 
-ghost use Rattle.str0m_sdp.specs.Feedback.{none, feedback_of};
+ghost use Rattle.str0m_sdp.specs.Feedback.{none, named, either};
 
-/// The feedback of each payload type.
-pub(crate) fn feedback_of(attrs: &[MediaAttribute]) -> [Feedback; 256]
-    ensures rows { (pt : ℕ) → pt < 256 → get_or result pt none ≡ feedback_of attrs.now pt }
-    ensures whole { length result ≡ 256 }
+/// Adds what the value of an rtcp-fb line names to the feedback of its payload type.
+pub(crate) fn note_feedback(table: &mut [Feedback; 256], pt: Pt, value: &str)
+    ensures noted { table.new ≡ set table.old pt (either (get_or table.old pt none) (named value.now)) }
+    ensures within { pt < 256 }
 {
-    let mut table = [Feedback::none(); 256];
-    for attr in attrs {
-        if let MediaAttribute::RtcpFb { pt, value } = attr {
-            let row = row(*pt);
-            table[row] = table[row].or(Feedback::named(value.as_str()));
-        }
-    }
-    table
+    let row = row(pt);
+    table[row] = table[row].or(Feedback::named(value));
 }

@@ -1,5 +1,5 @@
 //! The rows that a section describes.
-ghost use Rattle.std.specs.Prelude.{◌≡◌, ◌<◌, ◌++◌, All, IfOk, OnOk, option_to_list};
+ghost use Rattle.std.specs.Prelude.{◌≡◌, ◌<◌, ◌++◌, [], All, IfOk, OnOk, option_to_list};
 ghost use Rattle.str0m_formats.specs.Bounds.{IsBounded};
 ghost use Rattle.str0m_formats.specs.Choices.{has_events};
 ghost use Rattle.str0m_formats.specs.Codec.{content};
@@ -10,14 +10,15 @@ ghost use Rattle.str0m_sdp.specs.RowBounds.{KeepsToLines};
 ghost use Rattle.str0m_sdp.specs.SectionRows.{lines_of, is_kept, row, rows};
 ghost use Rattle.str0m_sdp.specs.declared.media_line.MediaLine.{MediaLine};
 
-use crate::companions::companions;
-use crate::feedback::{Feedback, feedback_of};
-use crate::fmtp_lines::fmtp_lines;
+use crate::attribute::MediaAttribute;
+use crate::companions::note_line;
+use crate::feedback::{Feedback, note_feedback};
 use crate::known_formats::format_of;
+use crate::mappings::types_of;
 use crate::media_line::MediaLine;
 use crate::type_tables::{row, types_in};
-use std::alloc::AllocError;
-use str0m_formats::{Codec, CodecSpec, FormatParams, PayloadParams};
+use std::alloc::{AllocError, Global};
+use str0m_formats::{Codec, CodecSpec, FormatParam, FormatParams, PayloadParams};
 use str0m_values::Pt;
 
 /// What a section says of each payload type.
@@ -32,7 +33,40 @@ struct TypeWords {
 }
 
 impl TypeWords {
-    ghost use Rattle.str0m_sdp.specs.TypeWords.{row_of, SayOf};
+    ghost use Rattle.str0m_sdp.specs.TypeWords.{row_of, SayOf, AreOf};
+
+    /// Gathers in one pass what the attributes say of each type: the fmtp lines (RFC 8866, section 6.15), each beside the number
+    /// of its type, and in the tables what these and the rtcp-fb lines name. A table is changed where it stands, since to hand
+    /// one on takes longer than to fill it.
+    fn gather<'a>(
+        &mut self,
+        alloc: Global,
+        attrs: &'a [MediaAttribute],
+        types: &[(Pt, CodecSpec)],
+    ) -> Result<Vec<(u8, &'a [FormatParam])>, AllocError>
+        requires { AreOf types.now [] self.old [] }
+        ensures words { IfOk result (λ lines. AreOf types.now attrs.now self.new lines.items) }
+        ensures in_m_line { self.new.in_m_line ≡ self.old.in_m_line }
+    {
+        let mut lines = Vec::with_capacity(alloc, types.len())?;
+        let rtx_types = types_of(types, Codec::Rtx);
+        let red_types = types_of(types, Codec::Red);
+        for attr in attrs {
+            match attr {
+                MediaAttribute::Fmtp { pt, values } => {
+                    let values = values.as_slice();
+                    note_line(&mut self.rtx, Codec::Rtx, &rtx_types, *pt, values);
+                    note_line(&mut self.red, Codec::Red, &red_types, *pt, values);
+                    lines.push((pt.value(), values))?;
+                }
+                MediaAttribute::RtcpFb { pt, value } => {
+                    note_feedback(&mut self.feedback, *pt, value.as_str());
+                }
+                _ => {}
+            }
+        }
+        Ok(lines)
+    }
 
     /// The row of a type.
     fn row_of(&self, pt: Pt, spec: CodecSpec) -> PayloadParams
@@ -100,20 +134,6 @@ fn is_events(codec: Codec) -> bool
 
 impl MediaLine {
     ghost use Rattle.str0m_sdp.specs.Mappings.{mapped};
-    ghost use Rattle.str0m_sdp.specs.TypeWords.{SayOf};
-
-    /// What the section says of each payload type, by the mapped types.
-    fn type_words(&self, types: &[(Pt, CodecSpec)]) -> TypeWords
-        ensures { types.now ≡ mapped self.now → SayOf self.now result }
-    {
-        let attrs = self.attrs.as_slice();
-        TypeWords {
-            in_m_line: types_in(self.pts.as_slice()),
-            rtx: companions(Codec::Rtx, types, attrs),
-            red: companions(Codec::Red, types, attrs),
-            feedback: feedback_of(attrs),
-        }
-    }
 
     /// The rows of the section, by the mapped types.
     fn rows_of(&self, types: &[(Pt, CodecSpec)]) -> Result<Vec<PayloadParams>, AllocError>
@@ -122,8 +142,13 @@ impl MediaLine {
         ensures bounded { KeepsToLines self.now → IfOk result (λ params. All IsBounded params.items) }
     {
         let alloc = *self.attrs.allocator();
-        let words = self.type_words(types);
-        let lines = fmtp_lines(alloc, self.attrs.as_slice(), types.len())?;
+        let mut words = TypeWords {
+            in_m_line: types_in(self.pts.as_slice()),
+            rtx: [None; 256],
+            red: [None; 256],
+            feedback: [Feedback::none(); 256],
+        };
+        let lines = words.gather(alloc, self.attrs.as_slice(), types)?;
         let mut known = Vec::new(alloc);
         let mut found = Vec::new(alloc);
         let mut rows = Vec::with_capacity(alloc, types.len())?;

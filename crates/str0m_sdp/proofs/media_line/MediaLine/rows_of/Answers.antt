@@ -1,5 +1,6 @@
-use Rattle.std.proofs.Common.{◌++◌, ℕ, List, filter, filter_map, option_to_list, sym, ap, ◌∙◌}
+use Rattle.std.proofs.Common.{◌++◌, ◌==◌, ℕ, List, replicate, filter, filter_map, option_to_list, refl, sym, ap, ◌∙◌}
 use Rattle.std.specs.Borrow.{Bor}
+use Rattle.std.specs.List.{list_any}
 use Rattle.std.proofs.lemmas.List.{take_all}
 use Rattle.std.proofs.lemmas.List.Elements.{All-same}
 use Rattle.str0m_formats.specs.FormatLine.{line_values}
@@ -10,10 +11,15 @@ use Rattle.str0m_formats.specs.Bounds.{IsBounded}
 use Rattle.str0m_sdp.specs.FmtpLines.{lines_with}
 use Rattle.str0m_sdp.specs.SectionRows.{lines_of, is_kept, row, rows}
 use Rattle.str0m_sdp.specs.declared.attribute.MediaAttribute.{MediaAttribute}
+use Rattle.str0m_sdp.specs.declared.feedback.Feedback.{Feedback}
 use Rattle.str0m_sdp.proofs.FilterMapLaws.{kept_more, left_out}
+use Rattle.str0m_sdp.proofs.GatherLaws.{Marks, nothing_gathered, all_gathered}
 use Rattle.str0m_sdp.proofs.RowBoundLaws.{rows_bounded}
 use Rattle.str0m_sdp.proofs.media_line.MediaLine.rows_of.Goals.{then-is_kept+in_ok-format+in_ok-push_row, else-is_kept}
 use Rattle.str0m_sdp.proofs.media_line.MediaLine.rows_of.Goals as goal
+
+pub gather-requires : goal.gather-requires
+gather-requires c = nothing_gathered c.args.types.now _ refl refl (ap (λ (f : Feedback). replicate 256 f) c.none.ensures)
 
 pub loop-pt-preserved : goal.loop-pt-preserved
 loop-pt-preserved c =
@@ -22,14 +28,16 @@ loop-pt-preserved c =
     let i = c.loop-pt.pt-index in
     let item = c.loop-pt-item.result in
     let known = c.loop-pt.invariant.0 in
-    let say = c.type_words-words.ensures c.requires in
+    let in_m_line : Marks c.gather.new.self.in_m_line (λ pt. list_any (λ n. n == pt) m.pts) =
+    rw (c.in_ok-lines.ensures.in_m_line, ← c.as_slice.ensures) c.types_in.ensures in
+    let all = rw (c.as_slice-2.ensures, c.requires) at c.in_ok-lines.ensures.words in
+    let say = all_gathered m c.gather.new.self c.in_ok-lines.lines.items in_m_line all in
     elim c.if-is_kept.branch [
       | then-is_kept+in_ok-format+in_ok-push_row w ↦
           let pt = item.0 in
           let own =
           ap (λ (ls : List (ℕ × Bor (List FormatParam))). line_values (lines_with pt ls)) w.as_slice-lines.ensures.value
-          ∙ c.in_ok-lines.ensures pt
-          ∙ ap (λ (attrs : List MediaAttribute). lines_of attrs pt) c.as_slice.ensures in (
+          ∙ all.gathered pt in (
             rw w.known-is (w.in_ok-format.ensures.known m.attrs known own),
             rw w.rows-is (
                 w.in_ok-push_row.ensures m say (w.in_ok-format.ensures.format m.attrs known own)
