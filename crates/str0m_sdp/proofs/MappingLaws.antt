@@ -108,3 +108,9 @@ mapping_other attrs rows i attr lt is other so_far =
     ∙ sym (map_more mapping attrs i attr lt is
     ∙ ap (λ (o : Option (ℕ × CodecSpec)). filter_map mapping (take i attrs) ++ option_to_list o) (no_mapping attr other)
     ∙ append-nil (filter_map mapping (take i attrs)))
+
+-- a type is among the mappings where a line maps it
+pub any_mapped : (pt : ℕ) (attrs : List MediaAttribute) → list_any (λ row. row.0 == pt) (filter_map mapping attrs) ≡ list_any (maps pt) attrs
+any_mapped pt [] = refl
+any_mapped pt (RtpMap n value ∷ attrs) = ap (λ (b : Bool). n == pt || b) (any_mapped pt attrs)
+any_mapped pt (_ ∷ attrs) = any_mapped pt attrs

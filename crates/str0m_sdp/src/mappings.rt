@@ -1,7 +1,6 @@
 //! Which codec each payload type of a section stands for.
-ghost use Rattle.std.specs.Prelude.{◌≡◌, ◌<◌, ◌++◌, ℕ, false, IfOk, OnOk, get_or, length, filter_map, option_to_list};
+ghost use Rattle.std.specs.Prelude.{◌≡◌, ◌==◌, ◌<◌, ◌++◌, ℕ, false, IfOk, OnOk, get_or, length, filter_map, option_to_list};
 ghost use Rattle.std.specs.List.{list_any};
-ghost use Rattle.str0m_sdp.specs.Consistency.{maps};
 ghost use Rattle.str0m_sdp.specs.Mappings.{mapping, static_spec, static_row, mapped, is_mapped_to};
 
 use crate::attribute::MediaAttribute;
@@ -36,16 +35,14 @@ fn static_spec(pt: Pt) -> Option<CodecSpec>
     CodecSpec::from_static_pt(pt)
 }
 
-/// Which types have an rtpmap line.
-fn line_types(attrs: &[MediaAttribute]) -> [bool; 256]
-    ensures rows { (pt : ℕ) → pt < 256 → get_or result pt false ≡ list_any (maps pt) attrs.now }
+/// Which types are mapped.
+fn mapped_types(mapped: &[(Pt, CodecSpec)]) -> [bool; 256]
+    ensures rows { (pt : ℕ) → pt < 256 → get_or result pt false ≡ list_any (λ row. row.0 == pt) mapped.now }
     ensures whole { length result ≡ 256 }
 {
     let mut types = [false; 256];
-    for attr in attrs {
-        if let MediaAttribute::RtpMap { pt, .. } = attr {
-            types[row(*pt)] = true;
-        }
+    for (pt, _) in mapped {
+        types[row(*pt)] = true;
     }
     types
 }
@@ -84,7 +81,7 @@ impl MediaLine {
     {
         let attrs = self.attrs.as_slice();
         let mut mapped = mappings(*self.attrs.allocator(), attrs, self.pts.len())?;
-        let mut seen = line_types(attrs);
+        let mut seen = mapped_types(mapped.as_slice());
         for pt in self.pts.as_slice() {
             let row = row(*pt);
             if !seen[row] {

@@ -1,14 +1,29 @@
-use Rattle.std.proofs.Common.{◌++◌, ℕ, List, take, filter_map, nat_eq, ap, sym, ◌∙◌, append_assoc}
+use Rattle.std.proofs.Common.{◌≡◌, ◌==◌, ◌++◌, ℕ, List, take, filter_map, nat_eq, ap, sym, ◌∙◌, append_assoc}
 use Rattle.std.specs.List.{list_any}
 use Rattle.std.specs.Option.{option_to_list}
-use Rattle.std.proofs.lemmas.List.{length-set, take_all}
+use Rattle.std.proofs.lemmas.List.{append-nil, length-set, take_all}
 use Rattle.str0m_formats.specs.declared.codec_spec.CodecSpec.{CodecSpec}
 use Rattle.str0m_sdp.specs.Consistency.{maps}
 use Rattle.str0m_sdp.specs.Lists.{distinct}
 use Rattle.str0m_sdp.specs.Mappings.{mapping, unmapped, mapped, static_row}
-use Rattle.str0m_sdp.proofs.MappingLaws.{statics_new, statics_seen, mark_new, mark_seen}
+use Rattle.str0m_sdp.specs.declared.attribute.MediaAttribute.{MediaAttribute}
+use Rattle.str0m_sdp.proofs.TypeMarks.{or_false}
+use Rattle.str0m_sdp.proofs.MappingLaws.{any_mapped, statics_new, statics_seen, mark_new, mark_seen}
 use Rattle.str0m_sdp.proofs.media_line.MediaLine.mapped.Goals.{then-not-seen-row+in_ok-push_static, else-not-seen-row}
 use Rattle.str0m_sdp.proofs.media_line.MediaLine.mapped.Goals as goal
+
+pub loop-pt-init : goal.loop-pt-init
+loop-pt-init c =
+    let attrs = c.args.self.now.attrs in
+    let rows : c.in_ok-mapped.mapped.items ≡ filter_map mapping attrs =
+    c.in_ok-mapped.ensures ∙ ap (λ (attrs : List MediaAttribute). filter_map mapping attrs) c.as_slice-attrs.ensures in
+    record {
+      rows = rows ∙ sym (append-nil (filter_map mapping attrs));
+      whole = c.mapped_types-seen.ensures.whole;
+      seen = λ pt lt. c.mapped_types-seen.ensures.rows pt lt
+          ∙ ap (λ (rows : List (ℕ × CodecSpec)). list_any (λ row. row.0 == pt) rows) (c.as_slice.ensures.value ∙ rows)
+          ∙ any_mapped pt attrs ∙ sym (or_false (list_any (maps pt) attrs));
+    }
 
 pub loop-pt-preserved : goal.loop-pt-preserved
 loop-pt-preserved c =

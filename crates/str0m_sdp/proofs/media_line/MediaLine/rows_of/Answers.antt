@@ -9,8 +9,7 @@ use Rattle.str0m_formats.specs.declared.codec_spec.CodecSpec.{CodecSpec}
 use Rattle.str0m_formats.specs.declared.payload_params.PayloadParams.{PayloadParams}
 use Rattle.str0m_formats.specs.Bounds.{IsBounded}
 use Rattle.str0m_sdp.specs.FmtpLines.{lines_with}
-use Rattle.str0m_sdp.specs.SectionRows.{lines_of, is_kept, row, rows}
-use Rattle.str0m_sdp.specs.declared.attribute.MediaAttribute.{MediaAttribute}
+use Rattle.str0m_sdp.specs.SectionRows.{is_kept, row, rows}
 use Rattle.str0m_sdp.specs.declared.feedback.Feedback.{Feedback}
 use Rattle.str0m_sdp.proofs.FilterMapLaws.{kept_more, left_out}
 use Rattle.str0m_sdp.proofs.GatherLaws.{Marks, nothing_gathered, all_gathered}
