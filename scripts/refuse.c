@@ -1,5 +1,7 @@
 // Refuses one allocation of the program that it is loaded into by LD_PRELOAD: the one whose number, from 1, stands in the
-// environment under REFUSED. In the end it says on standard error how many were asked for.
+// environment under REFUSED. In the end it says on standard error how many were asked for. A block that is to be no larger than
+// what malloc has given for it stays where it is: that is none of them.
+#include <malloc.h>
 #include <stddef.h>
 #include <stdio.h>
 #include <stdlib.h>
@@ -23,7 +25,8 @@ void *malloc(size_t size)
 
 void *realloc(void *block, size_t size)
 {
-    return is_refused() ? NULL : __libc_realloc(block, size);
+    int has_room = block && size <= malloc_usable_size(block);
+    return !has_room && is_refused() ? NULL : __libc_realloc(block, size);
 }
 
 __attribute__((destructor)) static void tell(void)

@@ -34,7 +34,8 @@ fn of_held_texts(answer: &mut Answer, word: &str, text: &str) -> bool {
 fn kept(answer: &mut Answer, text: &str) {
     let alloc = answer.alloc();
     let kept = answer.kept(Text::from_str(alloc, text), Text::empty(alloc));
-    answer.push(kept.into_string().as_str());
+    let string = answer.kept(kept.into_string(alloc), String::new(alloc));
+    answer.push(string.as_str());
 }
 
 /// Whether two words are one text without regard to the case of ASCII letters.

@@ -10,6 +10,9 @@ use std::alloc::{AllocError, Global};
 use str0m_formats::{Codec, CodecSpec};
 use str0m_values::Pt;
 
+/// As many types as there are.
+const TYPES: usize = 256;
+
 /// The types of rtpmap lines with their codecs, in order. There is room for as many as are likely.
 fn mappings(
     alloc: Global,
@@ -80,7 +83,7 @@ impl MediaLine {
         ensures { IfOk result (λ rows. rows.items ≡ mapped self.now) }
     {
         let attrs = self.attrs.as_slice();
-        let mut mapped = mappings(*self.attrs.allocator(), attrs, self.pts.len())?;
+        let mut mapped = mappings(*self.attrs.allocator(), attrs, self.pts.len().min(TYPES))?;
         let mut seen = mapped_types(mapped.as_slice());
         for pt in self.pts.as_slice() {
             let row = row(*pt);

@@ -140,7 +140,8 @@ fn add_value(
 {
     let mut info = take_info(infos, ssrc)?;
     info.set_value(alloc, name, value)?;
-    infos.insert(ssrc, info)?;
+    // Dropped by a call, so that what it may hold is no case of this proof.
+    drop(infos.insert(ssrc, info)?);
     Ok(())
 }
 

@@ -107,6 +107,19 @@ fn take_line<'a, A: Attribute>(
     }
 }
 
+/// How many further lines a list of attributes may keep room for.
+const SPARE_LINES: usize = 8;
+
+/// The attributes as they are held, which is for longer than they are read: room for many further lines is given back.
+fn held<A: Drop>(mut attributes: Vec<A>) -> Items<A>
+    ensures { result ≡ attributes.items }
+{
+    if attributes.capacity().saturating_sub(attributes.len()) > SPARE_LINES {
+        attributes.shrink_to_fit();
+    }
+    Items::from(attributes)
+}
+
 /// The run of attribute lines that stands next.
 pub(crate) fn attribute_run<A: Attribute>(
     alloc: Global,
@@ -119,7 +132,7 @@ pub(crate) fn attribute_run<A: Attribute>(
     while let Some(after) = take_line(alloc, rest, &mut attributes)? {
         rest = after;
     }
-    Ok((Items::from(attributes), rest))
+    Ok((held(attributes), rest))
 }
 
 /// The attribute of the first line, where it is one.

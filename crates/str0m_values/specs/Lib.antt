@@ -21,3 +21,4 @@ pub mod Parts
 pub mod Protocol
 pub mod Separator
 pub mod ShortText
+pub mod Text

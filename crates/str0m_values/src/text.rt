@@ -7,22 +7,38 @@ ghost use Rattle.std.specs.Cmp.Rules.{comparing, hashing};
 ghost use Rattle.std.proofs.Common.{rules};
 ghost use Rattle.std.specs.Cmp.Lexicographic.{pointwise};
 
+use arrayvec::ArrayString;
 use std::alloc::{AllocError, Global};
 use std::fmt;
 use std::hash::{Hash, Hasher};
 use std::marker::Model;
 use std::ops::AsDeref;
 
-/// A text whose room and allocator no contract sees: two texts are equal where their bytes are.
+/// The most bytes that are kept in place: with their number they take as much room as a `String`. Most texts of a description
+/// have fewer.
+const SHORT: usize = 16;
+
+/// Where the bytes of a text lie: in place, or in memory of their own.
+#[derive(Debug, Drop)]
+enum Letters {
+    Short(ArrayString<SHORT>),
+    Long(String),
+}
+
+/// A text whose room and allocator no contract sees: two texts are equal where their bytes are. One of up to sixteen bytes takes no
+/// memory beyond its own place.
 #[derive(Debug, Drop)]
 pub struct Text {
-    letters: String,
+    letters: Letters,
 }
 
 impl Model for Text {
+    ghost use Rattle.std.specs.Prelude.{List, ℕ};
+    ghost use Rattle.str0m_values.specs.Text.{bytes_of};
+
     ghost Value = { List ℕ };
 
-    ghost view = { λ t. string_bytes t.letters };
+    ghost view = { λ t. bytes_of t.letters };
 }
 
 impl Text {
@@ -30,16 +46,18 @@ impl Text {
     pub fn empty(alloc: Global) -> Text
         ensures { result ≡ [] }
     {
-        Text {
-            letters: String::new(alloc),
-        }
+        let letters = Letters::Long(String::new(alloc));
+        Text { letters }
     }
 
-    /// Copies a slice of a text.
+    /// Copies a slice of a text. The only error is that memory was refused, of which up to sixteen bytes need none.
     pub fn from_str(alloc: Global, letters: &str) -> Result<Text, AllocError>
         ensures { IfOk result (λ t. t ≡ letters.now) }
     {
-        let letters = String::from_str(alloc, letters)?;
+        let letters = match ArrayString::from(letters) {
+            Ok(letters) => Letters::Short(letters),
+            Err(_) => Letters::Long(String::from_str(alloc, letters)?),
+        };
         Ok(Text { letters })
     }
 
@@ -47,20 +65,28 @@ impl Text {
         ensures value { result.now ≡ self.now }
         ensures utf8 { IsUtf8 self.now }
     {
-        self.letters.as_str()
+        match &self.letters {
+            Letters::Short(letters) => letters.as_str(),
+            Letters::Long(letters) => letters.as_str(),
+        }
     }
 
     pub fn len(&self) -> usize
         ensures { result ≡ length self.now }
     {
-        self.letters.len()
+        self.as_str().len()
     }
 
-    /// The string inside, without a copy.
-    pub fn into_string(self) -> String
-        ensures { string_bytes result ≡ self }
+    /// The text as a string: one that lies in memory of its own is handed over, another is copied. The only error is that memory
+    /// was refused.
+    pub fn into_string(self, alloc: Global) -> Result<String, AllocError>
+        ensures { IfOk result (λ s. string_bytes s ≡ self) }
     {
-        self.letters
+        let Text { letters } = self;
+        match letters {
+            Letters::Short(letters) => String::from_str(alloc, letters.as_str()),
+            Letters::Long(letters) => Ok(letters),
+        }
     }
 }
 
@@ -68,7 +94,10 @@ impl Clone for Text {
     ghost is_clone = { λ t u. u ≡ t };
 
     fn clone(&self) -> Result<Text, AllocError> {
-        let letters = self.letters.clone()?;
+        let letters = match &self.letters {
+            Letters::Short(letters) => Letters::Short(*letters),
+            Letters::Long(letters) => Letters::Long(letters.clone()?),
+        };
         Ok(Text { letters })
     }
 }
@@ -77,6 +106,7 @@ impl From<String> for Text {
     ghost from_gives = { λ s t. t ≡ string_bytes s };
 
     fn from(letters: String) -> Text {
+        let letters = Letters::Long(letters);
         Text { letters }
     }
 }
@@ -87,7 +117,7 @@ impl PartialEq for Text {
     ghost laws = { Prim.search (comparing, rules) };
 
     fn eq(&self, other: &Text) -> bool {
-        self.letters.as_str() == other.letters.as_str()
+        self.as_str() == other.as_str()
     }
 }
 
@@ -101,7 +131,7 @@ impl Hash for Text {
     ghost respects_eq = { Prim.search (hashing, rules) };
 
     fn hash<H: Hasher>(&self, state: &mut H) {
-        self.letters.as_str().hash(state);
+        self.as_str().hash(state);
     }
 }
 
@@ -109,7 +139,7 @@ impl fmt::Display for Text {
     ghost output = { λ t. Some t };
 
     fn fmt<W: fmt::Write>(&self, f: &mut fmt::Formatter<W>) -> fmt::Result {
-        let letters = self.letters.as_str();
+        let letters = self.as_str();
         f.write_str(letters)
     }
 }

@@ -1,0 +1,9 @@
+-- The bytes of a text, wherever they lie.
+use Rattle.std.specs.Prelude.{ℕ, List}
+use Rattle.std.specs.String.{string_bytes}
+use Rattle.str0m_values.specs.declared.text.Letters.{Letters}
+use Rattle.str0m_values.specs.declared.text.Letters.TheVariants.{Short, Long}
+
+abbrev pub bytes_of : Letters → List ℕ
+bytes_of (Short letters) = letters.bytes
+bytes_of (Long letters) = string_bytes letters
