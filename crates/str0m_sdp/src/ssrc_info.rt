@@ -140,8 +140,7 @@ fn add_value(
 {
     let mut info = take_info(infos, ssrc)?;
     info.set_value(alloc, name, value)?;
-    // Dropped by a call, so that what it may hold is no case of this proof.
-    drop(infos.insert(ssrc, info)?);
+    infos.insert(ssrc, info)?;
     Ok(())
 }
 

@@ -102,23 +102,12 @@ fn section_back(
     Ok(Some(MediaLine { pts, attrs, ..own }))
 }
 
-fn is_consistent(section: &MediaLine) -> Result<bool, AllocError>
-    ensures { IfOk result (λ answer. IsTrue answer ↔ Consistent section.now) }
-{
-    Ok(section.check_consistent()?.is_none())
-}
-
 /// Whether the section is read of its lines, and consistent then.
 pub(crate) fn comes_back(alloc: Global, section: &MediaLine) -> Result<bool, AllocError>
     ensures { IfOk result (λ answer. IsTrue answer ↔ ((read : MediaLine) × IsReadAs section.now read × Consistent read)) }
 {
     match section_back(alloc, section, section.attrs.as_slice())? {
-        Some(read) => {
-            let answer = is_consistent(&read);
-            // Dropped by a call, so that what it may hold is no case of this proof.
-            drop(read);
-            answer
-        }
+        Some(read) => Ok(read.check_consistent()?.is_none()),
         None => Ok(false),
     }
 }
@@ -151,9 +140,7 @@ pub(crate) fn frame_comes_back(alloc: Global, section: &MediaLine) -> Result<boo
     ensures { IfOk result (λ answer. IsTrue answer ↔ ((read : MediaLine) × IsReadAs (frame_of section.now) read × IsFrame read)) }
 {
     let frame = section_of(section, &[])?;
-    let read = section_back(alloc, section, frame.attrs.as_slice());
-    drop(frame);
-    match read? {
+    match section_back(alloc, section, frame.attrs.as_slice())? {
         Some(read) => is_frame(alloc, read),
         None => Ok(false),
     }
