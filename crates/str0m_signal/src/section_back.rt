@@ -140,7 +140,10 @@ pub(crate) fn frame_comes_back(alloc: Global, section: &MediaLine) -> Result<boo
     ensures { IfOk result (λ answer. IsTrue answer ↔ ((read : MediaLine) × IsReadAs (frame_of section.now) read × IsFrame read)) }
 {
     let frame = section_of(section, &[])?;
-    match section_back(alloc, section, frame.attrs.as_slice())? {
+    let read = section_back(alloc, section, frame.attrs.as_slice());
+    // Dropped by a call, so that what it may hold is no case of this proof.
+    drop(frame);
+    match read? {
         Some(read) => is_frame(alloc, read),
         None => Ok(false),
     }
