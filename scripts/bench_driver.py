@@ -1,15 +1,15 @@
 """The driver of the benchmark: how it is built, and what it says of calls over texts.
 
 It is C (scripts/bench/), linked with the static library of crates/bench_calls, which `rt lib` builds once it is proved, over what
-earlier runs kept; and with other libraries that read descriptions, where their headers are installed."""
+earlier runs kept, those of ./test among them; and with other libraries that read descriptions, where their headers are installed."""
 import subprocess
 import sys
 from dataclasses import dataclass
 from pathlib import Path
 
+import proved
 from proved import TOP
 
-CRATE = TOP / "crates" / "bench_calls"
 BUILD = TOP / "build" / "bench"
 FLAGS = ["-O2", "-std=c17", "-D_GNU_SOURCE", "-Wall", "-Wextra"]
 
@@ -46,6 +46,11 @@ class Timed:
     peak: int
 
 
+def crate():
+    """Where the static library is built: in the copy that ./test has proved, if that is of these very sources; else here."""
+    return (proved.folder() if proved.is_current() else TOP) / "crates" / "bench_calls"
+
+
 def run(command, where=TOP):
     """Runs what has to succeed; what it says is shown where it doesn't."""
     done = subprocess.run(command, cwd=where, stdin=subprocess.DEVNULL, capture_output=True, text=True)
@@ -66,13 +71,14 @@ def build():
     """Builds the driver; answers its path, and the other libraries that it calls."""
     BUILD.mkdir(parents=True, exist_ok=True)
     print("the static library is built, and proved first where it has changed", file=sys.stderr)
-    run(["rt", "lib"], CRATE)
+    library = crate()
+    run(["rt", "lib"], library)
     kit = Path(run(["rt", "doc"]).strip()).parent
     found = [(it, flags) for it in OTHERS if (flags := it.flags()) is not None]
     parts = [compiled("counted", []), compiled("driver", [f"-DHAS_{it.call.upper()}" for it, _ in found])]
     parts += [compiled(it.call, flags) for it, flags in found]
     to, links = BUILD / "driver", [flag for _, flags in found for flag in flags]
-    run(["cc", *parts, CRATE / "out" / "libbench_calls.a", kit / "c" / "liblibc_c.a", *links, "-o", to])
+    run(["cc", *parts, library / "out" / "libbench_calls.a", kit / "c" / "liblibc_c.a", *links, "-o", to])
     return to, [it for it, _ in found]
 
 

@@ -219,7 +219,7 @@ fn candidate(answer: &mut Answer, foundation: &str, ufrag: Option<&str>) -> Cand
 
 pub(crate) fn text_of(answer: &mut Answer, text: &str) -> Text {
     let alloc = answer.alloc();
-    answer.kept(Text::from_str(alloc, text), Text::empty(alloc))
+    answer.kept(Text::from_str(alloc, text), Text::empty())
 }
 
 /// A list of one item.

@@ -62,6 +62,6 @@ fn a_new_section_is_enabled_and_empty(rt: HostRuntime) -> Result<(), Fail> {
 #[test]
 fn an_empty_restriction_is_active(rt: HostRuntime) -> Result<(), Fail> {
     let id = RestrictionId::empty(rt.alloc());
-    assert!(rt; id.1 && id.0.as_str().is_empty());
+    assert!(rt; id.1 && id.0.is_empty());
     Ok(())
 }

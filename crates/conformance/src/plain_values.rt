@@ -133,6 +133,18 @@ fn want_of_memory_is_said(rt: HostRuntime) -> Result<(), Fail> {
     Ok(())
 }
 
+/// A text of more than sixteen bytes lies elsewhere than a shorter one.
+#[test]
+fn a_text_is_asked_and_shows_itself_as_a_str(rt: HostRuntime) -> Result<(), Fail> {
+    let short = Text::from_str(rt.alloc(), "BUNDLE")?;
+    let long = Text::from_str(rt.alloc(), "webrtc-datachannel")?;
+    assert!(rt; short.starts_with("BUN") && long.starts_with("webrtc"));
+    let shown = format!(in rt.alloc(); "{short:?} {long:?}")?;
+    assert_eq!(rt; shown.as_str(), "\"BUNDLE\" \"webrtc-datachannel\"");
+    assert_eq!(rt; Some(long).as_deref(), Some("webrtc-datachannel"));
+    Ok(())
+}
+
 #[test]
 fn names_are_equal_by_what_they_keep(rt: HostRuntime) {
     assert!(rt; Mid::from("0123456789abcdefg") == Mid::from("0123456789abcdef"));

@@ -33,7 +33,7 @@ fn of_held_texts(answer: &mut Answer, word: &str, text: &str) -> bool {
 
 fn kept(answer: &mut Answer, text: &str) {
     let alloc = answer.alloc();
-    let kept = answer.kept(Text::from_str(alloc, text), Text::empty(alloc));
+    let kept = answer.kept(Text::from_str(alloc, text), Text::empty());
     let string = answer.kept(kept.into_string(alloc), String::new(alloc));
     answer.push(string.as_str());
 }

@@ -80,7 +80,7 @@ fn empty(answer: &mut Answer) {
     let alloc = answer.alloc();
     let items: Items<u8> = Items::empty(alloc);
     answer.push("text `");
-    answer.show(&Text::empty(alloc));
+    answer.show(&Text::empty());
     answer.push("`, id `");
     answer.show(&RestrictionId::empty(alloc));
     answer.push("`, ");

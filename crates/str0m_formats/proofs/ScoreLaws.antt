@@ -13,8 +13,7 @@ use Rattle.str0m_formats.specs.declared.codec.Codec.TheVariants.{Opus, AmrWb, H2
 use Rattle.str0m_formats.specs.declared.codec_spec.CodecSpec.{CodecSpec}
 use Rattle.str0m_formats.specs.declared.format_params.FormatParams.{FormatParams}
 use Rattle.str0m_formats.specs.Scores.{same_spec, same_number, same_option, same_flag, same_or, same_profile, opus_score, is_mono, mode_score, amr_wb_score, level_score, h264_named, h264_level_score, h264_score, Triple, h265_triple, h266_triple, profile_of, triple_score, profile_score, av1_score, format_score, codec_score, score, IsSelfScore}
-use Rattle.str0m_formats.proofs.FormatEqual.{codec_Decides, spec_Decides}
-use Rattle.str0m_formats.proofs.FormatEqual.{fails}
+use Rattle.str0m_formats.proofs.FormatEqual.{codec_Decides, fails, spec_Decides}
 use Rattle.str0m_formats.proofs.ScoreRules.{either_way, score_rules}
 
 numbers : (m n : ℕ) → (m == n) ≡ (n == m)

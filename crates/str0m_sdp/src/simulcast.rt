@@ -30,10 +30,10 @@ impl RestrictionId {
     }
 
     /// An active one without a name, which takes no memory.
-    pub fn empty(alloc: Global) -> RestrictionId
+    pub fn empty(_alloc: Global) -> RestrictionId
         ensures { result ≡ record { 0 = []; 1 = true } }
     {
-        RestrictionId(Text::empty(alloc), true)
+        RestrictionId(Text::empty(), true)
     }
 
     /// The name as simulcast lines show it: behind `~` where the stream isn't active (RFC 8853,

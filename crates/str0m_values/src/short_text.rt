@@ -9,10 +9,10 @@ ghost use Rattle.str0m_values.specs.ShortText.{IsLongestBeginning};
 
 use std::hash::{Hash, Hasher};
 use std::marker::Model;
-use std::str;
+use std::{fmt, str};
 
 /// A text of at most sixteen bytes, in place.
-#[derive(Clone, Copy, Debug)]
+#[derive(Clone, Copy)]
 pub(crate) struct ShortText {
     bytes: [u8; 16],
     len: usize,
@@ -63,12 +63,19 @@ impl PartialEq for ShortText {
     ghost laws = { Prim.search (comparing, rules) };
 
     fn eq(&self, other: &ShortText) -> bool {
-        self.as_str() == other.as_str()
+        self.bytes[..self.len] == other.bytes[..other.len]
     }
 }
 
 impl Eq for ShortText {
     ghost laws = { Prim.search (comparing, rules) };
+}
+
+/// The text in quotes, as a `str` shows itself.
+impl fmt::Debug for ShortText {
+    fn fmt<W: fmt::Write>(&self, f: &mut fmt::Formatter<W>) -> fmt::Result {
+        fmt::Debug::fmt(&self.as_str(), f)
+    }
 }
 
 impl Hash for ShortText {

@@ -1,5 +1,5 @@
 //! A text that contracts see as its bytes.
-ghost use Rattle.std.specs.Prelude.{◌≡◌, ◌==◌, List, ℕ, IfOk, IsTrue, ◌↔◌, length, Some, []};
+ghost use Rattle.std.specs.Prelude.{◌≡◌, ◌==◌, ◌≤◌, List, ℕ, IfOk, IsOk, IsTrue, ◌↔◌, length, Some, []};
 ghost use Rattle.std.specs.String.{string_bytes, string_len};
 ghost use Rattle.std.specs.Str.{IsUtf8};
 ghost use Rattle.std.specs.Hash as fed;
@@ -12,22 +12,21 @@ use std::alloc::{AllocError, Global};
 use std::fmt;
 use std::hash::{Hash, Hasher};
 use std::marker::Model;
-use std::ops::AsDeref;
+use std::ops::{AsDeref, DerefStr};
 
 /// The most bytes that are kept in place: with their number they take as much room as a `String`. Most texts of a description
 /// have fewer.
 const SHORT: usize = 16;
 
 /// Where the bytes of a text lie: in place, or in memory of their own.
-#[derive(Debug, Drop)]
+#[derive(Drop)]
 enum Letters {
     Short(ArrayString<SHORT>),
     Long(String),
 }
 
-/// A text whose room and allocator no contract sees: two texts are equal where their bytes are. One of up to sixteen bytes takes no
-/// memory beyond its own place.
-#[derive(Debug)]
+/// A text whose room and allocator no contract sees: two texts are equal where their bytes are. One that is copied from a slice of up
+/// to sixteen bytes takes no memory beyond its own place.
 pub struct Text {
     letters: Letters,
 }
@@ -51,16 +50,17 @@ impl Model for Text {
 
 impl Text {
     /// An empty text, which takes no memory.
-    pub fn empty(alloc: Global) -> Text
+    pub fn empty() -> Text
         ensures { result ≡ [] }
     {
-        let letters = Letters::Long(String::new(alloc));
+        let letters = Letters::Short(ArrayString::new());
         Text { letters }
     }
 
     /// Copies a slice of a text. The only error is that memory was refused, of which up to sixteen bytes need none.
     pub fn from_str(alloc: Global, letters: &str) -> Result<Text, AllocError>
-        ensures { IfOk result (λ t. t ≡ letters.now) }
+        ensures copy { IfOk result (λ t. t ≡ letters.now) }
+        ensures short { length letters.now ≤ 16 → IsOk result }
     {
         let letters = match ArrayString::from(letters) {
             Ok(letters) => Letters::Short(letters),
@@ -95,6 +95,34 @@ impl Text {
             Letters::Short(letters) => String::from_str(alloc, letters.as_str()),
             Letters::Long(letters) => Ok(letters),
         }
+    }
+}
+
+/// What a `str` can be asked, a text can be asked, too.
+impl DerefStr for Text {
+    ghost deref_gives = { λ t bytes. bytes ≡ t };
+
+    fn deref(&self) -> &str
+        ensures { result.now ≡ self.now }
+    {
+        Text::as_str(self)
+    }
+}
+
+/// So an `Option` of a text is asked for a `str`, by `as_deref`.
+impl<'a> AsDeref<'a> for Text {
+    type Shown = &'a str;
+
+    ghost as_deref_gives = { λ t shown. shown.now ≡ t };
+
+    ghost View = { List ℕ };
+
+    ghost view = { λ t. t };
+
+    ghost output_view = { λ shown. shown.now };
+
+    fn shown(&'a self) -> &'a str {
+        self.deref()
     }
 }
 
@@ -140,6 +168,13 @@ impl Hash for Text {
 
     fn hash<H: Hasher>(&self, state: &mut H) {
         self.as_str().hash(state);
+    }
+}
+
+/// The text in quotes, as a `str` shows itself, wherever its bytes lie.
+impl fmt::Debug for Text {
+    fn fmt<W: fmt::Write>(&self, f: &mut fmt::Formatter<W>) -> fmt::Result {
+        fmt::Debug::fmt(&self.as_str(), f)
     }
 }
 

@@ -20,5 +20,5 @@ returns-in_err-hash_func c =
 pub returns : goal.returns
 returns c =
     let found = cut_found 32 c.args.text.now c.in-Some.name.now c.in-Some.rest.now (sym c.in-Some.ensures) in
-    let e = c.in_ok-hash_func.ensures in
+    let e = c.in_ok-hash_func.ensures.copy in
     (c.in-Some.rest.now, record { whole = rw e found.0; word = rw e found.1 }, c.in_ok-bytes.ensures)
