@@ -47,8 +47,9 @@ class Timed:
 
 
 def crate():
-    """Where the static library is built: in the copy that ./test has proved, if that is of these very sources; else here."""
-    return (proved.folder() if proved.is_current() else TOP) / "crates" / "bench_calls"
+    """Where the static library is built: in the copy of these very sources that ./test has proved, if they aren't proved here."""
+    is_proved_here = any(TOP.glob("crates/*/out/rlib"))
+    return (proved.folder() if proved.is_current() and not is_proved_here else TOP) / "crates" / "bench_calls"
 
 
 def run(command, where=TOP):
