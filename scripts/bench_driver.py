@@ -2,6 +2,7 @@
 
 It is C (scripts/bench/), linked with the static library of crates/bench_calls, which `rt lib` builds once it is proved, over what
 earlier runs kept, those of ./test among them; and with other libraries that read descriptions, where their headers are installed."""
+import shutil
 import subprocess
 import sys
 from dataclasses import dataclass
@@ -25,6 +26,8 @@ class Other:
 
     def flags(self):
         """How its part is compiled and linked; None where it isn't installed."""
+        if not shutil.which("pkg-config"):
+            return None
         asked = subprocess.run(["pkg-config", "--cflags", "--libs", self.library], capture_output=True, text=True)
         return asked.stdout.split() if asked.returncode == 0 else None
 

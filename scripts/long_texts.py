@@ -6,7 +6,6 @@ from proved import TOP
 HEADER = "v=0\r\no=- 1 1 IN IP4 127.0.0.1\r\ns=-\r\nt=0 0\r\n"
 SECTION = "m=audio 9 UDP/TLS/RTP/SAVPF 111\r\na=mid:0\r\na=sendrecv\r\na=rtpmap:111 opus/48000/2\r\n"
 DATA = "m=application 9 UDP/DTLS/SCTP webrtc-datachannel\r\na=mid:0\r\n"
-LINES = ("fmtp:111 minptime=10;useinbandfec=1", "rtpmap:96 opus/48000/2", "x-one:two three four")
 
 # Attributes of sessions and of sections, one of each form, of which there may be many.
 SESSION_FORMS = (
@@ -124,6 +123,12 @@ def of_unlisted_type(count):
     return HEADER + SECTION + "a=rtpmap:96 VP8/90000\r\n" * (count // 2) + "a=fmtp:96 profile-id=2\r\n" * (count // 2)
 
 
+def of_long_formats(count):
+    """One type that the m-line doesn't list has half as many mappings, and one fmtp line with as many pairs."""
+    pairs = "profile-id=2;" * (count // 2)
+    return HEADER + SECTION + f"a=fmtp:96 {pairs}\r\n" + "a=rtpmap:96 VP8/90000\r\n" * (count // 2)
+
+
 def of_named_sections(count):
     """So many sections, each under a name of its own, and a group that lists them."""
     group = f"a=group:BUNDLE {numbered(' ')(count)}\r\n"
@@ -150,6 +155,7 @@ LINES_OF = {
     "lines of every form": every_form,
     "payload types, and as many lines": of_types,
     "mappings and formats of a type that the m-line doesn't list": of_unlisted_type,
+    "mappings of such a type, and pairs of its fmtp line": of_long_formats,
     "sources, each said of once": of_numbered_lines(SECTION, "ssrc:{} cname:user@example.com"),
     "pairs of sources": of_numbered_lines(SECTION, "ssrc-group:FID 1 {}"),
     "different candidates": of_numbered_lines(SECTION, "candidate:{} 1 udp 2113937151 192.0.2.1 54400 typ host"),

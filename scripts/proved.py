@@ -2,6 +2,8 @@
 
 The copy stands outside the repository, since the gate reads every source below the folder that it judges. It has no
 must-fail/: a crate with an edit there is proved a second time, and all edits are tried together by scripts/edits."""
+import contextlib
+import fcntl
 import hashlib
 import os
 import shutil
@@ -32,6 +34,18 @@ def sources(top):
     return told.hexdigest()
 
 
+@contextlib.contextmanager
+def alone():
+    """Waits until no other ./test runs in this place of the repository, and keeps others out."""
+    with open(f"{folder()}.lock", "w") as lock:
+        try:
+            fcntl.flock(lock, fcntl.LOCK_EX | fcntl.LOCK_NB)
+        except BlockingIOError:
+            print("waiting for another ./test here to end", flush=True)
+            fcntl.flock(lock, fcntl.LOCK_EX)
+        yield
+
+
 def forget():
     """Removes the copy of an earlier run."""
     shutil.rmtree(folder(), ignore_errors=True)
@@ -55,24 +69,28 @@ def mark(name):
 
 def end(is_proved):
     """Says in the copy that the gate has ended, and whether it has passed over these sources."""
+    folder().mkdir(mode=0o700, exist_ok=True)
     (folder() / "ended").write_text(sources(folder()) if is_proved else "")
+
+
+def has_ended():
+    return (folder() / "ended").is_file()
 
 
 def is_current():
     """Whether the gate has passed over these very sources."""
-    said = folder() / "ended"
-    return said.is_file() and said.read_text() == sources(TOP)
+    return has_ended() and (folder() / "ended").read_text() == sources(TOP)
 
 
 def wait_for(names):
     """Waits until the gate, which runs beside this, has proved the crates, or has ended without that."""
-    while not (folder() / "ended").is_file() and not all((folder() / f"{it}.proved").is_file() for it in names):
+    while not has_ended() and not all((folder() / f"{it}.proved").is_file() for it in names):
         time.sleep(1)
 
 
 def wait_for_end():
     """Waits until the gate, which runs beside this, has ended; answers whether it has passed over these sources."""
-    while not (folder() / "ended").is_file():
+    while not has_ended():
         time.sleep(1)
     return is_current()
 
