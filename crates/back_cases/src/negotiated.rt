@@ -2,7 +2,9 @@
 
 use case_texts::{behind_header, fail, push_refused};
 use plain_cases::{Answer, configuration, is_same, show_rows};
-use str0m_signal::{CodecConfig, NegotiationError, SdpError, locked_rows, negotiate_text};
+use str0m_signal::{
+    CodecConfig, MediaKind, NegotiationError, SdpError, locked_rows, negotiate_text,
+};
 
 type Outcome = Result<(), NegotiationError>;
 
@@ -49,15 +51,23 @@ fn show_outcomes_or_error(answer: &mut Answer, outcomes: &Result<Vec<Outcome>, S
     }
 }
 
-/// What the rounds of the text come to, a line each, and then the rows that are locked by them.
+/// What the rounds of the text come to, a line each, and then the rows that are locked by them, those of audio before those of
+/// video.
 fn locked(answer: &mut Answer, own: &str, text: &str) {
     let mut config = configuration(answer, own);
     match &negotiate_text(&mut config, text) {
         Ok(outcomes) => show_outcomes(answer, outcomes.as_slice()),
         Err(error) => fail(answer, error),
     }
+    show_locked(answer, &config, "audio ", MediaKind::Audio);
+    show_locked(answer, &config, "video ", MediaKind::Video);
+}
+
+/// The locked rows of a kind of media, behind its name.
+fn show_locked(answer: &mut Answer, config: &CodecConfig, name: &str, kind: MediaKind) {
     answer.item("\n");
-    let rows = locked_rows(&config);
+    answer.push(name);
+    let rows = locked_rows(config, kind);
     if let Some(rows) = answer.made(&rows) {
         show_rows(answer, rows.as_slice());
     }

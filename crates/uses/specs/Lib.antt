@@ -1,2 +1,3 @@
+pub mod Agreed
 pub mod LaterRound
 pub mod OwnSection

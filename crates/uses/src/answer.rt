@@ -1,6 +1,6 @@
 //! An offer that is answered.
 
-ghost use Rattle.std.specs.Prelude.{◌≡◌, ◌<◌, IfErr, IfOk, IfSome, List, Some, filter, length, slice_set};
+ghost use Rattle.std.specs.Prelude.{◌≡◌, ◌≢◌, ◌<◌, ⊥, [], IfErr, IfOk, IfSome, List, None, Some, length, slice_set};
 ghost use Rattle.std.specs.List.{slice_get};
 ghost use Rattle.std.specs.String.{string_bytes};
 ghost use Rattle.str0m_sdp.specs.SectionOf.{made};
@@ -11,11 +11,13 @@ ghost use Rattle.str0m_signal.specs.Answers.{Refuses};
 ghost use Rattle.str0m_signal.specs.Negotiation.{NegotiatedText};
 ghost use Rattle.str0m_signal.specs.ReadBack.{MayBePrinted, ReadsBack, with_rows};
 ghost use Rattle.str0m_signal.specs.Reading.{Described};
+ghost use Rattle.str0m_signal.specs.Writable.{Writable};
+ghost use Rattle.uses.specs.Agreed.{agreed};
 
 use std::alloc::AllocError;
 use str0m_signal::{
-    CodecConfig, MediaLine, PayloadParams, Sdp, SdpAnswer, SdpError, is_writable, locked_rows,
-    negotiate_text, section_of,
+    CodecConfig, MediaKind, MediaLine, MediaType, PayloadParams, Sdp, SdpAnswer, SdpError,
+    is_writable, locked_rows, negotiate_text, section_of,
 };
 
 /// The text of a description with this section in the place of one.
@@ -43,6 +45,7 @@ pub(crate) fn printable_section(
     ensures made { IfOk result (λ found. IfSome found (λ section.
         (frame : MediaLine) × (slice_get own.now.media_lines at ≡ Some frame) × (section ≡ made frame rows.now))) }
     ensures read_back { MayBePrinted rows.now → IfOk result (λ found. IfSome found (λ section. ReadsBack own.now at rows.now)) }
+    ensures none { IfOk result (λ found. found ≡ None → Writable own.now at → ⊥) }
 {
     if !is_writable(own, at)? {
         return Ok(None);
@@ -53,7 +56,22 @@ pub(crate) fn printable_section(
     }
 }
 
-/// That section with the rows that are locked; `None` where none is, too.
+/// The rows of a section's kind that are locked.
+fn agreed_rows(
+    config: &CodecConfig,
+    section: &MediaLine,
+) -> Result<Vec<PayloadParams>, AllocError>
+    ensures agreed { IfOk result (λ rows. rows.items ≡ agreed section.now.typ config.now.params.items) }
+    ensures printable { MayBePrinted config.now.params.items → IfOk result (λ rows. rows.items ≢ [] → MayBePrinted rows.items) }
+{
+    match section.typ {
+        MediaType::Audio => locked_rows(config, MediaKind::Audio),
+        MediaType::Video => locked_rows(config, MediaKind::Video),
+        _ => Ok(Vec::new(*config.allocator())),
+    }
+}
+
+/// That section with the rows of its kind that are locked; `None` where none is, too.
 fn locked_section(
     config: &CodecConfig,
     own: &Sdp,
@@ -62,11 +80,17 @@ fn locked_section(
     ensures there { IfOk result (λ found. IfSome found (λ _. at < length own.now.media_lines)) }
     ensures made { IfOk result (λ found. IfSome found (λ section. (frame : MediaLine)
         × (slice_get own.now.media_lines at ≡ Some frame)
-        × (section ≡ made frame (filter (λ row. row.locked) config.now.params.items)))) }
-    ensures read_back { MayBePrinted config.now.params.items → IfOk result (λ found. IfSome found (λ section.
-        ReadsBack own.now at (filter (λ row. row.locked) config.now.params.items))) }
+        × (section ≡ made frame (agreed frame.typ config.now.params.items)))) }
+    ensures read_back { MayBePrinted config.now.params.items → IfOk result (λ found. IfSome found (λ section. (frame : MediaLine)
+        × (slice_get own.now.media_lines at ≡ Some frame)
+        × ReadsBack own.now at (agreed frame.typ config.now.params.items))) }
+    ensures none { IfOk result (λ found. found ≡ None → Writable own.now at → (frame : MediaLine)
+        × (slice_get own.now.media_lines at ≡ Some frame) × (agreed frame.typ config.now.params.items ≡ [])) }
 {
-    let rows = locked_rows(config)?;
+    let Some(frame) = own.media_lines.get(at) else {
+        return Ok(None);
+    };
+    let rows = agreed_rows(config, frame)?;
     if rows.is_empty() {
         return Ok(None);
     }
@@ -78,11 +102,12 @@ fn locked_section(
 }
 
 /// Negotiates with an offer, and answers with `own`, the description of the answering side: in its
-/// section at `at`, counted from 0, stand the rows that are locked then. `None` where no row is locked,
-/// or where `is_writable` is false of `own` and `at`.
+/// section at `at`, counted from 0, stand the rows of its kind that are locked then, those of sound and
+/// telephone events in one of audio, those of pictures in one of video. `None` exactly where no such row
+/// is locked, or where `is_writable` is false of `own` and `at`.
 ///
 /// The other side reads the answer to its end, and finds these rows in that section, in order, where
-/// it is one of audio or video and the rows of the configuration were plain and distinct.
+/// the rows of the configuration were plain and distinct.
 ///
 /// # Errors
 ///
@@ -99,9 +124,12 @@ pub fn answer_section(
     ensures printable { MayBePrinted config.old.params.items → MayBePrinted config.new.params.items }
     ensures text { IfOk result (λ answer. IfSome answer (λ text.
         (frame : MediaLine) × (slice_get own.media_lines at ≡ Some frame)
-        × (string_bytes text ≡ sdp_text (with_rows own at frame (filter (λ row. row.locked) config.new.params.items))))) }
-    ensures read_back { MayBePrinted config.old.params.items → IfOk result (λ answer. IfSome answer (λ text.
-        ReadsBack own at (filter (λ row. row.locked) config.new.params.items))) }
+        × (string_bytes text ≡ sdp_text (with_rows own at frame (agreed frame.typ config.new.params.items))))) }
+    ensures read_back { MayBePrinted config.old.params.items → IfOk result (λ answer. IfSome answer (λ text. (frame : MediaLine)
+        × (slice_get own.media_lines at ≡ Some frame)
+        × ReadsBack own at (agreed frame.typ config.new.params.items))) }
+    ensures none { IfOk result (λ answer. answer ≡ None → Writable own at → (frame : MediaLine)
+        × (slice_get own.media_lines at ≡ Some frame) × (agreed frame.typ config.new.params.items ≡ [])) }
 {
     negotiate_text(config, offer)?;
     match locked_section(config, &own, at)? {

@@ -1,11 +1,12 @@
 //! A section of one's own, made of nothing but values.
 
-ghost use Rattle.std.specs.Prelude.{◌≡◌, IfOk, IfSome, Some};
+ghost use Rattle.std.specs.Prelude.{◌≡◌, ⊥, IfOk, IfSome, None, Some};
 ghost use Rattle.std.specs.List.{slice_get};
 ghost use Rattle.std.specs.String.{string_bytes};
 ghost use Rattle.str0m_sdp.specs.Session.{sdp_text};
 ghost use Rattle.str0m_sdp.specs.declared.media_line.MediaLine.{MediaLine};
 ghost use Rattle.str0m_signal.specs.ReadBack.{MayBePrinted, ReadsBack, with_rows};
+ghost use Rattle.str0m_signal.specs.Writable.{Writable};
 ghost use Rattle.uses.specs.OwnSection.{own_frame, own_sdp};
 
 use crate::answer::{printable_section, with_section};
@@ -62,9 +63,9 @@ pub fn own_sdp(alloc: Global, id: u64, mid: Mid, frame: MediaLine) -> Result<Sdp
     })
 }
 
-/// The text of `own` with the rows of a configuration in its section at `at`, counted from 0. `None`
+/// The text of `own` with the rows of a configuration in its section at `at`, counted from 0. `None` exactly
 /// where there is no such section, or where what stands around the rows wouldn't be read again, as a
-/// name with a line end in it.
+/// name with a line end in it: where `is_writable` is false.
 ///
 /// The other side reads the text to its end, and finds these rows in that section, in order, where it
 /// is one of audio or video and they are plain and distinct.
@@ -76,6 +77,7 @@ pub fn own_offer(config: &CodecConfig, own: Sdp, at: usize) -> Result<Option<Str
         × (string_bytes text ≡ sdp_text (with_rows own at frame config.now.params.items)))) }
     ensures read_back { MayBePrinted config.now.params.items → IfOk result (λ offer. IfSome offer (λ text.
         ReadsBack own at config.now.params.items)) }
+    ensures none { IfOk result (λ offer. offer ≡ None → Writable own at → ⊥) }
 {
     match printable_section(&own, at, config.params())? {
         Some(section) => Ok(Some(with_section(own, at, section)?)),

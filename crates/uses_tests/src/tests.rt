@@ -3,8 +3,8 @@
 use std::alloc::{AllocError, Global};
 use std::test::Fail;
 use str0m_signal::{
-    Codec, CodecConfig, Fingerprint, IceCreds, Mid, PayloadParams, Pt, Sdp, Text, locked_rows,
-    sdp_parser,
+    Codec, CodecConfig, Fingerprint, IceCreds, MediaKind, Mid, PayloadParams, Pt, Sdp, Text,
+    locked_rows, sdp_parser,
 };
 use uses::{answer_section, checked, negotiate_again, offered_rows, own_frame, own_offer, own_sdp};
 
@@ -25,6 +25,22 @@ fn an_answer_lists_the_row_that_is_locked(rt: HostRuntime) -> Result<(), Fail> {
     let (own, _) = sdp_parser(rt.alloc(), OFFER)?;
     let answer = answer_section(&mut config, OFFER, own, 0)?.ok_or("an answer")?;
     assert_eq!(rt; answer.as_str(), OFFER);
+    Ok(())
+}
+
+/// Audio and video, as most offers have them; this side has VP8 under another type.
+const TWO_SECTIONS: &str =
+    "v=0\r\no=str0m-0.25.0 7 2 IN IP4 0.0.0.0\r\ns=-\r\nt=0 0\r\nm=audio 9 UDP/TLS/RTP/SAVPF 109\r\nc=IN IP4 0.0.0.0\r\na=mid:0\r\na=sendrecv\r\na=rtpmap:109 opus/48000/2\r\na=fmtp:109 minptime=10;useinbandfec=1\r\nm=video 9 UDP/TLS/RTP/SAVPF 120\r\nc=IN IP4 0.0.0.0\r\na=mid:1\r\na=sendrecv\r\na=rtpmap:120 VP8/90000\r\na=rtcp-fb:120 goog-remb\r\na=rtcp-fb:120 ccm fir\r\na=rtcp-fb:120 nack\r\na=rtcp-fb:120 nack pli\r\n";
+
+#[test]
+fn each_section_is_answered_with_rows_of_its_kind(rt: HostRuntime) -> Result<(), Fail> {
+    let mut config = CodecConfig::new_with_defaults(rt.alloc())?;
+    let (own, _) = sdp_parser(rt.alloc(), TWO_SECTIONS)?;
+    let audio = answer_section(&mut config, TWO_SECTIONS, own, 0)?.ok_or("an answer")?;
+    assert_eq!(rt; audio.as_str(), TWO_SECTIONS);
+    let (own, _) = sdp_parser(rt.alloc(), TWO_SECTIONS)?;
+    let video = answer_section(&mut config, TWO_SECTIONS, own, 1)?.ok_or("an answer")?;
+    assert_eq!(rt; video.as_str(), TWO_SECTIONS);
     Ok(())
 }
 
@@ -84,7 +100,7 @@ fn a_locked_type_is_not_given_to_another_codec(rt: HostRuntime) -> Result<(), Fa
         told.as_str(),
         "round refused: payload type 109 is claimed twice"
     );
-    let rows = locked_rows(&config)?;
+    let rows = locked_rows(&config, MediaKind::Audio)?;
     assert!(rt; is_opus_at_109(rows.as_slice()), "{rows:?}");
     Ok(())
 }
