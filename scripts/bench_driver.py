@@ -86,7 +86,7 @@ def build():
     return to, [it for it, _ in found]
 
 
-def timed(driver, calls, files, batches=5):
+def timed(driver, calls, files, batches):
     """What the driver says, by file and call, None where the text was refused; and nanoseconds of a step of its loop."""
     loop, *lines = run([driver, str(batches), ",".join(calls), *files]).splitlines()
     told = {}

@@ -57,10 +57,7 @@ pub(crate) fn printable_section(
 }
 
 /// The rows of a section's kind that are locked.
-fn agreed_rows(
-    config: &CodecConfig,
-    section: &MediaLine,
-) -> Result<Vec<PayloadParams>, AllocError>
+fn agreed_rows(config: &CodecConfig, section: &MediaLine) -> Result<Vec<PayloadParams>, AllocError>
     ensures agreed { IfOk result (λ rows. rows.items ≡ agreed section.now.typ config.now.params.items) }
     ensures printable { MayBePrinted config.now.params.items → IfOk result (λ rows. rows.items ≢ [] → MayBePrinted rows.items) }
 {

@@ -11,8 +11,9 @@ use str0m_signal::{Sdp, SdpError, sdp_parser};
 
 /// What was read of a text. It may be stored as it is where nothing is left of it, and the other two
 /// hold: then nothing is lost where it is read and printed again.
-#[derive(Drop)]
+#[derive(Debug, Drop)]
 pub struct ReadText<'a> {
+    /// The description that the text begins with.
     pub sdp: Sdp,
     /// What follows the description.
     pub rest: &'a str,
