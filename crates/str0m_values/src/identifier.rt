@@ -7,7 +7,7 @@ use crate::short_text::ShortText;
 use std::fmt;
 use std::marker::Model;
 
-/// The name of a media section (RFC 8843, section 15.1.1; RFC 5888): a text of at most 16 bytes.
+/// The name of a media section (RFC 5888, section 4; RFC 9143): a text of at most 16 bytes.
 #[derive(Clone, Copy, Debug, PartialEq, Eq, Hash)]
 pub struct Mid(ShortText);
 
@@ -20,6 +20,7 @@ impl Model for Mid {
 }
 
 impl Mid {
+    /// The name, at most 16 bytes.
     pub fn as_str(&self) -> &str
         ensures value { result.now ≡ self.now }
         ensures fits { length self.now ≤ 16 }
@@ -60,6 +61,7 @@ impl Model for Rid {
 }
 
 impl Rid {
+    /// The name, at most 16 bytes.
     pub fn as_str(&self) -> &str
         ensures value { result.now ≡ self.now }
         ensures fits { length self.now ≤ 16 }

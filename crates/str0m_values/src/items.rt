@@ -31,12 +31,14 @@ impl<T> Items<T> {
         Items(Vec::new(alloc))
     }
 
+    /// The items, in their order.
     pub fn as_slice(&self) -> &[T]
         ensures { result.now ≡ self.now }
     {
         self.0.as_slice()
     }
 
+    /// How many items the list has.
     pub fn len(&self) -> usize
         ensures { result ≡ length self.now }
     {
