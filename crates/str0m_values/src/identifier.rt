@@ -26,7 +26,8 @@ impl Mid {
         ensures fits { length self.now ≤ 16 }
         ensures utf8 { IsUtf8 self.now }
     {
-        self.0.as_str()
+        let Mid(name) = self;
+        name.as_str()
     }
 }
 
@@ -43,8 +44,7 @@ impl fmt::Display for Mid {
     ghost output = { λ m. Some m };
 
     fn fmt<W: fmt::Write>(&self, f: &mut fmt::Formatter<W>) -> fmt::Result {
-        let text = self.0.as_str();
-        f.write_str(text)
+        f.write_str(Mid::as_str(self))
     }
 }
 
@@ -67,7 +67,8 @@ impl Rid {
         ensures fits { length self.now ≤ 16 }
         ensures utf8 { IsUtf8 self.now }
     {
-        self.0.as_str()
+        let Rid(name) = self;
+        name.as_str()
     }
 }
 
@@ -84,7 +85,6 @@ impl fmt::Display for Rid {
     ghost output = { λ r. Some r };
 
     fn fmt<W: fmt::Write>(&self, f: &mut fmt::Formatter<W>) -> fmt::Result {
-        let text = self.0.as_str();
-        f.write_str(text)
+        f.write_str(Rid::as_str(self))
     }
 }
