@@ -4,7 +4,7 @@ use Rattle.std.specs.Prelude.{IfSome}
 use Rattle.std.specs.Result.{result_ok}
 use Rattle.std.specs.Str.{all_ascii_digits}
 use Rattle.std.specs.Str.Parse.{IsNumeral, AllDigits, digits_value, without_leading_plus, ParsesUnsigned}
-use Rattle.std.proofs.lemmas.Bool.{ltb-true, lt-ltb, le-leb, leb-true, and_parts, and_from, false_from_ne_true}
+use Rattle.std.proofs.lemmas.Bool.{ltb-true, lt-ltb, le-leb, leb-true, and_parts, and_from}
 use Rattle.std.proofs.lemmas.Str.Parse.{IsNumeralModel, numerals_by_value, tells_all_ascii_digits}
 use Rattle.std.proofs.Common.{◌≢◌}
 use Rattle.std.specs.Char.{digit_value}
@@ -30,9 +30,6 @@ when_some false x y e = absurd cc
 
 pub when_true : {A : Type 0} (test : Bool) (x : A) → test ≡ true → when test x ≡ Some x
 when_true test x e = rw e refl
-
-pub when_false : {A : Type 0} (test : Bool) (x : A) → (test ≡ true → ⊥) → when test x ≡ None
-when_false test x fails = rw (false_from_ne_true test fails) refl
 
 pub num_found : (limit : ℕ) (text : List ℕ) (n : ℕ) → num limit text ≡ Some n → IsNum limit text n
 num_found limit text n e =

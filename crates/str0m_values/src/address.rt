@@ -2,7 +2,8 @@
 ghost use Rattle.std.specs.Prelude.{◌≡◌, Some};
 ghost use Rattle.str0m_values.specs.Only.{IsTheOnly};
 
-use std::{fmt, net};
+use std::fmt;
+use std::net::{self, IpAddr as NetIpAddr};
 
 /// An IP address: the four octets of a V4 address, or the eight groups of 16 bits of a V6 address,
 /// in the order in which they are written.
@@ -14,23 +15,14 @@ pub enum IpAddr {
 
 impl IpAddr {
     ghost use Rattle.str0m_values.specs.Address.{IsIpText, IsInRange, ip_text};
-    ghost use Rattle.str0m_values.specs.AddressReading.{own_address, ip_read};
-
-    fn from_net(address: net::IpAddr) -> IpAddr
-        ensures { result ≡ own_address address }
-    {
-        match address {
-            net::IpAddr::V4(address) => IpAddr::V4(address.octets()),
-            net::IpAddr::V6(address) => IpAddr::V6(address.segments()),
-        }
-    }
+    ghost use Rattle.str0m_values.specs.AddressReading.{ip_read};
 
     /// The address that a text stands for, as the readers of lines compute it.
     pub(crate) fn parsed(text: &str) -> Option<IpAddr>
         ensures { result ≡ ip_read text.now }
     {
-        match text.parse::<net::IpAddr>() {
-            Ok(address) => Some(IpAddr::from_net(address)),
+        match text.parse::<NetIpAddr>() {
+            Ok(address) => Some(IpAddr::from(address)),
             Err(_) => None,
         }
     }
@@ -46,6 +38,20 @@ impl IpAddr {
         ensures printed { (a : IpAddr) → IsInRange a → text.now ≡ ip_text a → result ≡ Some a }
     {
         IpAddr::parsed(text)
+    }
+}
+
+/// The same octets or groups.
+impl From<NetIpAddr> for IpAddr {
+    ghost use Rattle.str0m_values.specs.AddressReading.{own_address};
+
+    ghost from_gives = { λ address own. own ≡ own_address address };
+
+    fn from(address: NetIpAddr) -> IpAddr {
+        match address {
+            NetIpAddr::V4(address) => IpAddr::V4(address.octets()),
+            NetIpAddr::V6(address) => IpAddr::V6(address.segments()),
+        }
     }
 }
 

@@ -80,46 +80,49 @@ impl Candidate {
         self.component_id
     }
 
+    /// The transport that the candidate is reached by.
     pub fn proto(&self) -> Protocol
         ensures { result ≡ self.now.proto }
     {
         self.proto
     }
 
-    /// The priority; the greater is tried first.
+    /// The priority, any number of 32 bits; the greater is tried first.
     pub fn prio(&self) -> u32
         ensures { result ≡ self.now.prio }
     {
         self.prio
     }
 
+    /// The address and the port at which it may be reached.
     pub fn addr(&self) -> SocketAddr
         ensures { result ≡ self.now.addr }
     {
         self.addr
     }
 
+    /// Where the address comes from.
     pub fn kind(&self) -> CandidateKind
         ensures { result ≡ self.now.kind }
     {
         self.kind
     }
 
-    /// The related address: the host's own behind a reflexive or a relayed one.
+    /// The related address: the host's own behind a reflexive or a relayed one; `None` where none was named.
     pub fn raddr(&self) -> Option<SocketAddr>
         ensures { result ≡ self.now.raddr }
     {
         self.raddr
     }
 
-    /// How a connection is opened, for candidates on TCP.
+    /// How a connection is opened, for candidates on TCP; `None` where it isn't said.
     pub fn tcptype(&self) -> Option<TcpType>
         ensures { result ≡ self.now.tcptype }
     {
         self.tcptype
     }
 
-    /// The username fragment of the agent that the candidate belongs to.
+    /// The username fragment of the agent that the candidate belongs to; `None` where it isn't said.
     pub fn ufrag(&self) -> Option<&str>
         ensures { option_map (λ u. u.now) result ≡ self.now.ufrag }
     {
@@ -130,14 +133,15 @@ impl Candidate {
     }
 
     /// The text of its line, without `a=` and a line's end: `candidate:` and its parts. Generation,
-    /// network's id and network's cost, which it doesn't hold, are left out.
+    /// network's id and network's cost, which it doesn't hold, are left out. The only error is that
+    /// memory was refused.
     pub fn to_sdp_string(&self, alloc: Global) -> Result<String, AllocError>
         ensures { IfOk result (λ text. string_bytes text ≡ candidate_text self.now) }
     {
         self.to_string(alloc)
     }
 
-    /// A copy, which equals its source.
+    /// A copy, which equals its source. The only error is that memory was refused.
     pub fn clone(&self) -> Result<Candidate, AllocError>
         ensures { IfOk result (λ c. c ≡ self.now) }
     {

@@ -27,7 +27,7 @@ fn near(bytes: &[u8], wanted: u8, limit: usize) -> Option<usize>
     None
 }
 
-/// The parts before and after the first `at`.
+/// The parts before and after the first `at`; `None` where it doesn't stand in the text.
 #[inline]
 pub fn cut(text: &str, at: Separator) -> Option<(&str, &str)>
     ensures { parts result ≡ cut (code at) text.now }
@@ -60,7 +60,7 @@ pub fn has(text: &str, at: Separator) -> bool
     cut(text, at).is_some()
 }
 
-/// What follows the prefix.
+/// What follows the prefix; `None` where the text doesn't begin with it.
 pub fn strip<'a>(text: &'a str, prefix: &str) -> Option<&'a str>
     ensures { option_map (λ x. x.now) result ≡ strip prefix.now text.now }
 {
@@ -107,7 +107,8 @@ fn number(text: &str, limit: u32) -> Option<u32>
     }
 }
 
-/// The number that std reads in decimal, where it is at most `limit`.
+/// The number that std reads in decimal, so a leading plus and leading zeros are allowed; `None` where it reads none, or
+/// one above `limit`.
 pub fn num_u8(text: &str, limit: u8) -> Option<u8>
     ensures { result ≡ num limit text.now }
 {
@@ -117,7 +118,8 @@ pub fn num_u8(text: &str, limit: u8) -> Option<u8>
     }
 }
 
-/// The number in the text, or the default where there is no text.
+/// The number of 8 bits that std reads in decimal, or the default where there is no text; `None` where there is a text in
+/// which it reads none.
 pub fn num_u8_or(text: Option<&str>, default: u8) -> Option<u8>
     ensures { IsTheOnly (IsNumOr 255 default text.entry) result }
 {
@@ -127,7 +129,7 @@ pub fn num_u8_or(text: Option<&str>, default: u8) -> Option<u8>
     }
 }
 
-/// The number of 16 bits that std reads in decimal.
+/// The number of 16 bits that std reads in decimal; `None` where it reads none.
 pub fn num_u16(text: &str) -> Option<u16>
     ensures { result ≡ num 65535 text.now }
 {
@@ -137,21 +139,22 @@ pub fn num_u16(text: &str) -> Option<u16>
     }
 }
 
-/// The number of 32 bits that std reads in decimal.
+/// The number of 32 bits that std reads in decimal; `None` where it reads none.
 pub fn num_u32(text: &str) -> Option<u32>
     ensures { result ≡ num 4294967295 text.now }
 {
     number(text, u32::MAX)
 }
 
-/// The byte that std reads in the text in hexadecimal: a leading plus and leading zeros are allowed.
+/// The byte that std reads in the text in hexadecimal: a leading plus and leading zeros are allowed. `None` where it reads
+/// none.
 pub fn hex_u8(text: &str) -> Option<u8>
     ensures { IsTheOnly (IsNumber 16 255 text.now) result }
 {
     u8::from_str_radix(text, 16).ok()
 }
 
-/// The number that std reads in the text in hexadecimal.
+/// The number of 32 bits that std reads in the text in hexadecimal, likewise; `None` where it reads none.
 pub fn hex_u32(text: &str) -> Option<u32>
     ensures { IsTheOnly (IsNumber 16 4294967295 text.now) result }
 {

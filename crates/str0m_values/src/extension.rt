@@ -14,14 +14,16 @@ pub struct Extension {
 }
 
 impl Extension {
-    /// The extension of a URI that stands in a description, so that descriptions list it.
+    /// The extension of a URI that stands in a description, so that descriptions list it. The only error is
+    /// that memory was refused.
     pub fn from_sdp_uri(alloc: Global, uri: &str) -> Result<Extension, AllocError>
         ensures { IfOk result (λ e. e ≡ record { uri = uri.now; serialized = true }) }
     {
         Extension::new(alloc, uri, true)
     }
 
-    /// The extension of a URI, which descriptions list where `serialized` holds.
+    /// The extension of a URI, which descriptions list where `serialized` holds. The only error is that memory
+    /// was refused.
     pub fn new(alloc: Global, uri: &str, serialized: bool) -> Result<Extension, AllocError>
         ensures { IfOk result (λ e. e ≡ record { uri = uri.now; serialized = serialized }) }
     {
@@ -29,7 +31,7 @@ impl Extension {
         Ok(Extension { uri, serialized })
     }
 
-    /// A copy that equals its source.
+    /// A copy that equals its source. The only error is that memory was refused.
     pub fn clone(&self) -> Result<Extension, AllocError>
         ensures { IfOk result (λ e. e ≡ self.now) }
     {

@@ -19,10 +19,13 @@ use thiserror::Error;
 /// Why a text is no fingerprint.
 #[derive(Clone, Copy, Debug, PartialEq, Eq, Error)]
 pub enum FingerprintError {
+    /// No space stands in the text, which parts the name from the bytes.
     #[error("no space")]
     NoSpace,
+    /// A byte can't be read, or is empty.
     #[error("bad byte")]
     BadByte,
+    /// Memory was refused.
     #[error("out of memory")]
     Memory,
 }
@@ -76,7 +79,7 @@ impl Fingerprint {
         read(alloc, text)
     }
 
-    /// A copy that equals its source.
+    /// A copy that equals its source. The only error is that memory was refused.
     pub fn clone(&self) -> Result<Fingerprint, AllocError>
         ensures { IfOk result (λ f. f ≡ self.now) }
     {

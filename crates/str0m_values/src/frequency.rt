@@ -23,12 +23,16 @@ impl Model for Frequency {
 }
 
 impl Frequency {
+    /// 8000 Hz.
     pub const EIGHT_KHZ: Frequency = Frequency(8_000);
 
+    /// 16000 Hz.
     pub const SIXTEEN_KHZ: Frequency = Frequency(16_000);
 
+    /// 48000 Hz.
     pub const FORTY_EIGHT_KHZ: Frequency = Frequency(48_000);
 
+    /// 90000 Hz.
     pub const NINETY_KHZ: Frequency = Frequency(90_000);
 
     /// The rates that have names, ascending.

@@ -88,6 +88,7 @@ impl H264ProfileLevel {
         }
     }
 
+    /// The profile: which tools a stream may use.
     pub fn profile(self) -> H264Profile
         ensures part { result ≡ self.profile }
         ensures fallback { H264ProfileLevel.FALLBACK.profile ≡ H264Profile.Baseline }
@@ -95,6 +96,7 @@ impl H264ProfileLevel {
         self.profile
     }
 
+    /// The level: what a decoder has to bear.
     pub fn level(self) -> H264Level
         ensures part { result ≡ self.level }
         ensures fallback { H264ProfileLevel.FALLBACK.level ≡ H264Level.L1 }

@@ -210,18 +210,21 @@ impl H265ProfileTierLevel {
         )
     }
 
+    /// The profile: which tools a stream may use.
     pub fn profile(self) -> H265Profile
         ensures { result ≡ self.profile }
     {
         self.profile
     }
 
+    /// The tier: how high the bit rate of the level may be.
     pub fn tier(self) -> H265Tier
         ensures { result ≡ self.tier }
     {
         self.tier
     }
 
+    /// The level: what a decoder has to bear.
     pub fn level(self) -> H265Level
         ensures { result ≡ self.level }
     {

@@ -198,18 +198,21 @@ impl H266ProfileTierLevel {
         )
     }
 
+    /// The profile: which tools a stream may use.
     pub fn profile(self) -> H266Profile
         ensures { result ≡ self.profile }
     {
         self.profile
     }
 
+    /// The tier: how high the bit rate of the level may be.
     pub fn tier(self) -> H266Tier
         ensures { result ≡ self.tier }
     {
         self.tier
     }
 
+    /// The level: what a decoder has to bear.
     pub fn level(self) -> H266Level
         ensures { result ≡ self.level }
     {

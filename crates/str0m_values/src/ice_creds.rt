@@ -13,7 +13,7 @@ pub struct IceCreds {
 }
 
 impl IceCreds {
-    /// A copy, which equals its source.
+    /// A copy, which equals its source. The only error is that memory was refused.
     pub fn clone(&self) -> Result<IceCreds, AllocError>
         ensures { IfOk result (λ c. c ≡ self.now) }
     {

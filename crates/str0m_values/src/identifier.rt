@@ -7,7 +7,7 @@ use crate::short_text::ShortText;
 use std::fmt;
 use std::marker::Model;
 
-/// The name of a media section (RFC 8843, section 15.1.1; RFC 5888): a text of at most 16 bytes.
+/// The name of a media section (RFC 5888, section 4; RFC 9143): a text of at most 16 bytes.
 #[derive(Clone, Copy, Debug, PartialEq, Eq, Hash)]
 pub struct Mid(ShortText);
 
@@ -20,12 +20,14 @@ impl Model for Mid {
 }
 
 impl Mid {
+    /// The name, at most 16 bytes.
     pub fn as_str(&self) -> &str
         ensures value { result.now ≡ self.now }
         ensures fits { length self.now ≤ 16 }
         ensures utf8 { IsUtf8 self.now }
     {
-        self.0.as_str()
+        let Mid(name) = self;
+        name.as_str()
     }
 }
 
@@ -42,8 +44,7 @@ impl fmt::Display for Mid {
     ghost output = { λ m. Some m };
 
     fn fmt<W: fmt::Write>(&self, f: &mut fmt::Formatter<W>) -> fmt::Result {
-        let text = self.0.as_str();
-        f.write_str(text)
+        f.write_str(Mid::as_str(self))
     }
 }
 
@@ -60,12 +61,14 @@ impl Model for Rid {
 }
 
 impl Rid {
+    /// The name, at most 16 bytes.
     pub fn as_str(&self) -> &str
         ensures value { result.now ≡ self.now }
         ensures fits { length self.now ≤ 16 }
         ensures utf8 { IsUtf8 self.now }
     {
-        self.0.as_str()
+        let Rid(name) = self;
+        name.as_str()
     }
 }
 
@@ -82,7 +85,6 @@ impl fmt::Display for Rid {
     ghost output = { λ r. Some r };
 
     fn fmt<W: fmt::Write>(&self, f: &mut fmt::Formatter<W>) -> fmt::Result {
-        let text = self.0.as_str();
-        f.write_str(text)
+        f.write_str(Rid::as_str(self))
     }
 }

@@ -31,12 +31,14 @@ impl<T> Items<T> {
         Items(Vec::new(alloc))
     }
 
+    /// The items, in their order.
     pub fn as_slice(&self) -> &[T]
         ensures { result.now ≡ self.now }
     {
         self.0.as_slice()
     }
 
+    /// How many items the list has.
     pub fn len(&self) -> usize
         ensures { result ≡ length self.now }
     {
@@ -47,7 +49,8 @@ impl<T> Items<T> {
     pub fn into_vec(self) -> Vec<T>
         ensures { result.items ≡ self }
     {
-        self.0
+        let Items(items) = self;
+        items
     }
 }
 
@@ -95,7 +98,7 @@ impl<T: PartialEq> PartialEq for Items<T> {
     ghost laws = { Prim.search (comparing, rules) };
 
     fn eq(&self, other: &Items<T>) -> bool {
-        self.0.as_slice() == other.0.as_slice()
+        self.as_slice() == other.as_slice()
     }
 }
 
@@ -109,6 +112,6 @@ impl<T: Hash> Hash for Items<T> {
     ghost respects_eq = { (items_Alike (record { fed = T.respects_eq })).fed };
 
     fn hash<H: Hasher>(&self, state: &mut H) {
-        self.0.as_slice().hash(state);
+        self.as_slice().hash(state);
     }
 }

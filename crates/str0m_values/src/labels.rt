@@ -3,17 +3,14 @@ ghost use Rattle.std.specs.Prelude.{◌≡◌, option_map};
 ghost use Rattle.str0m_values.specs.Cuts.{parts};
 ghost use Rattle.str0m_values.specs.LabelReading.{word_read, labelled_read, optional_read};
 
-use crate::cuts::{cut, strip};
+use crate::cuts::{before, strip};
 use crate::separator::Separator;
 
 /// The word at the front of a text, and what stands behind it.
 pub(crate) fn word(text: &str) -> Option<(&str, &str)>
     ensures { parts result ≡ word_read text.now }
 {
-    let word = match cut(text, Separator::Space) {
-        Some((word, _)) => word,
-        None => text,
-    };
+    let word = before(text, Separator::Space);
     if word.is_empty() {
         return None;
     }

@@ -44,7 +44,7 @@ impl From<u8> for Pt {
     ghost from_gives = { λ n p. p ≡ n };
 
     fn from(value: u8) -> Pt {
-        Pt(value)
+        Pt::new_with_value(value)
     }
 }
 

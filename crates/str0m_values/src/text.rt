@@ -69,6 +69,7 @@ impl Text {
         Ok(Text { letters })
     }
 
+    /// The text as a `str`.
     pub fn as_str(&self) -> &str
         ensures value { result.now ≡ self.now }
         ensures utf8 { IsUtf8 self.now }
@@ -79,6 +80,7 @@ impl Text {
         }
     }
 
+    /// How many bytes the text has.
     pub fn len(&self) -> usize
         ensures { result ≡ length self.now }
     {

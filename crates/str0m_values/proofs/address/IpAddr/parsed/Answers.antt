@@ -3,7 +3,7 @@ use Rattle.str0m_values.proofs.AddressBothWays.{parsed_ok, parsed_err}
 use Rattle.str0m_values.proofs.address.IpAddr.parsed.Goals as goal
 
 pub returns-in-Ok : goal.returns-in-Ok
-returns-in-Ok c = ap (λ a. Some a) c.from_net.ensures ∙ parsed_ok c.args.text.now c.in-Ok.address c.in-Ok.ensures.value
+returns-in-Ok c = ap (λ a. Some a) c.from.ensures ∙ parsed_ok c.args.text.now c.in-Ok.address c.in-Ok.ensures.value
 
 pub returns-in-Err : goal.returns-in-Err
 returns-in-Err c = parsed_err c.args.text.now c.in-Err.ensures.value
