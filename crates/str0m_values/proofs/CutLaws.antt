@@ -1,9 +1,13 @@
 -- What a cut at a character, and what follows a prefix, are.
-use Rattle.std.proofs.Common.{◌≡◌, ◌≢◌, ℕ, suc, inl, inr, ◌<◌, ◌+◌, true, not, eqb, List, [], ◌∷◌, ◌++◌, length, get_or, drop, Option, Some, None, refl, sym, ap, ◌∙◌, arith}
+use Rattle.std.proofs.Common.{◌≡◌, ◌≢◌, ℕ, suc, inl, inr, ◌<◌, ◌≤◌, ◌+◌, true, not, eqb, List, [], ◌∷◌, ◌++◌, length, get_or, drop, take, Option, Some, None, refl, sym, ap, ◌∙◌, arith, append-nil}
 use Rattle.std.specs.Prelude.{MatchOption, option_map, is_some}
 use Rattle.std.specs.Borrow.{Bor}
 use Rattle.std.proofs.lemmas.Bool.{eq-eqb, ne_eqb, cases_eq, both_ways, not-true, and_parts, false_from_ne_true}
 use Rattle.std.proofs.lemmas.Option.{some_pair_parts, none-some}
+use Rattle.std.proofs.lemmas.List.{length-append}
+use Rattle.std.proofs.lemmas.Str.{IsCharBoundary-from_take}
+use Rattle.std.proofs.Math.Seq.{drop-append_seam, take-append_seam}
+use Rattle.std.specs.Str.{IsUtf8, IsCharBoundary}
 use Rattle.std.specs.Str.Pattern.{FindsTextPrefix}
 use Rattle.std.proofs.lemmas.Str.Pattern.{IsSplitOnceResult, split_parts}
 use Rattle.str0m_values.specs.Parts.{Lacks}
@@ -129,3 +133,27 @@ before_lacks c text = go (cut c text) refl
     go : (o : Option (List ℕ × List ℕ)) → cut c text ≡ o → Lacks c (front text o)
     go None e = cut_none_lacks c text e
     go (Some p) e = (cut_found c text p.0 p.1 e).1
+
+before_rest : (c : ℕ) (text : List ℕ) → (rest : List ℕ) × (text ≡ before c text ++ rest)
+before_rest c text = go (cut c text) refl
+  where
+    go : (o : Option (List ℕ × List ℕ)) → cut c text ≡ o → (rest : List ℕ) × (text ≡ front text o ++ rest)
+    go None e = ([], sym (append-nil text))
+    go (Some p) e = (c ∷ p.1, (cut_found c text p.0 p.1 e).0)
+
+-- behind what goes before stands the rest
+pub strip_before : (c : ℕ) (text : List ℕ) → strip (before c text) text ≡ Some (drop (length (before c text)) text)
+strip_before c text = let rest = before_rest c text in go (before c text) text rest.0 rest.1
+  where
+    go : (p text rest : List ℕ) → text ≡ p ++ rest → strip p text ≡ Some (drop (length p) text)
+    go p text rest e = rw e (strip_at p rest ∙ ap (λ (t : List ℕ). Some t) (sym (drop-append_seam p rest)))
+
+-- it ends between two characters
+pub before_ends : (c : ℕ) (text : List ℕ) → IsUtf8 text → IsUtf8 (before c text) → IsCharBoundary text (length (before c text))
+before_ends c text whole part = let rest = before_rest c text in go (before c text) text rest.0 rest.1 whole part
+  where
+    go : (p text rest : List ℕ) → text ≡ p ++ rest → IsUtf8 text → IsUtf8 p → IsCharBoundary text (length p)
+    go p text rest e whole part =
+        let le : length p ≤ length text = rw e (omega (arith, length-append p rest)) in
+        let taken : take (length p) text ≡ p = rw e (take-append_seam p rest) in
+        IsCharBoundary-from_take text (length p) whole le (rw taken part)

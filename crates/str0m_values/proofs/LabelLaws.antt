@@ -1,12 +1,13 @@
 -- Words behind labels are read both ways.
-use Rattle.std.proofs.Common.{◌≡◌, ◌⊎◌, ℕ, List, [], ◌∷◌, ◌++◌, length, Option, Some, None, refl, sym, ap, ◌∙◌, inl, inr, append-nil, append_assoc}
+use Rattle.std.proofs.Common.{◌≡◌, ◌⊎◌, ◌<◌, ℕ, zero, suc, List, [], ◌∷◌, ◌++◌, length, drop, false, Option, Some, None, refl, sym, ap, ◌∙◌, inl, inr, arith, append-nil, append_assoc}
+use Rattle.std.specs.Prelude.{◌==◌}
 use Rattle.std.specs.List.{AllByRecursion}
 use Rattle.std.proofs.lemmas.Bool.{ltb-true}
 use Rattle.str0m_values.specs.Parts.{IsWord}
 use Rattle.str0m_values.specs.Cuts.{◌>>=◌, before, strip, when, is_rest}
 use Rattle.str0m_values.specs.Labels.{IsSame, IsLabelled, IsOptional}
 use Rattle.str0m_values.specs.LabelReading.{word_read, labelled_read, part_read, optional_after, optional_read, value_read}
-use Rattle.str0m_values.proofs.CutLaws.{before_front, before_lacks, strip_at, strip_found}
+use Rattle.str0m_values.proofs.CutLaws.{before_front, before_lacks, strip_at, strip_before, strip_found}
 use Rattle.str0m_values.proofs.NumLaws.{when_some, rest_true}
 use Rattle.str0m_values.proofs.BothWays.{Reads, some_is}
 
@@ -62,6 +63,14 @@ word_complete : (word rest : List ℕ) → IsWord word → Ends rest → word_re
 word_complete word rest h ends =
     let front : before 32 (word ++ rest) ≡ word = before_front 32 word rest h.1 ∙ ap (λ (t : List ℕ). word ++ t) ends ∙ append-nil word in
     rw (front, rest_true word h.0, strip_at word rest) refl
+
+-- the word that isn't empty, and what stands behind it
+pub word_before : (text : List ℕ) → false ≡ (length (before 32 text) == 0) → Some (before 32 text, drop (length (before 32 text)) text) ≡ word_read text
+word_before text some = rw (rest_true (before 32 text) (positive (length (before 32 text)) some), strip_before 32 text) refl
+  where
+    positive : (n : ℕ) → false ≡ (n == 0) → 0 < n
+    positive zero e = absurd cc
+    positive (suc n) e = omega arith
 
 pub labelled_sound : (label text : List ℕ) (x : List ℕ × List ℕ) → labelled_read label text ≡ Some x → (text ≡ (label ++ x.0) ++ x.1) × IsWord x.0
 labelled_sound label text x e =

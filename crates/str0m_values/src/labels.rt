@@ -14,8 +14,7 @@ pub(crate) fn word(text: &str) -> Option<(&str, &str)>
     if word.is_empty() {
         return None;
     }
-    let rest = strip(text, word)?;
-    Some((word, rest))
+    Some((word, &text[word.len()..]))
 }
 
 /// The word behind a label, and what stands behind it.
