@@ -10,8 +10,6 @@ use Rattle.str0m_values.specs.H265 as h265
 use Rattle.str0m_values.specs.H266 as h266
 use Rattle.str0m_values.specs.contracts.h264.H264Profile as h264_profile
 use Rattle.str0m_values.specs.declared.h264.H264Profile.{H264Profile}
-use Rattle.str0m_values.specs.declared.h264.H264Profile.TheVariants.{Baseline}
-use Rattle.str0m_values.specs.declared.h264.H264Level.TheVariants.{L1}
 use Rattle.str0m_values.specs.declared.h264.H264ProfileLevel.{H264ProfileLevel}
 use Rattle.str0m_values.specs.declared.h265.H265ProfileTierLevel.{H265ProfileTierLevel}
 use Rattle.str0m_values.specs.declared.h266.H266ProfileTierLevel.{H266ProfileTierLevel}
@@ -84,11 +82,6 @@ amr_wb_score a b =
 abbrev pub level_score : Bool → ℕ → ℕ → Option ℕ
 level_score is_same m n = when is_same (100 - abs_diff m n)
 
--- what a profile-level-id names; an absent one means Baseline at level 1
-unfoldable pub h264_named : Option ℕ → Option H264ProfileLevel
-h264_named None = Some (record { profile = Baseline; level = L1 })
-h264_named (Some id) = h264.profile_level_of id
-
 abbrev pub h264_level_score : Option H264ProfileLevel → Option H264ProfileLevel → Option ℕ
 h264_level_score (Some x) (Some y) = level_score (same_profile x.profile y.profile) (h264.level_ordinal x.level) (h264.level_ordinal y.level)
 h264_level_score _ _ = None
@@ -96,7 +89,7 @@ h264_level_score _ _ = None
 abbrev pub h264_score : FormatParams → FormatParams → Option ℕ
 h264_score a b =
     if same_or 0 a.packetization_mode b.packetization_mode
-    then h264_level_score (h264_named a.profile_level_id) (h264_named b.profile_level_id)
+    then h264_level_score (h264.named a.profile_level_id) (h264.named b.profile_level_id)
     else None
 
 -- ---- H265 (RFC 7798, section 7.1) and H266 (RFC 9328, section 7.2), each by its own triple: the same profile and tier, and one

@@ -100,7 +100,6 @@ fn h264_level_score(own: Option<H264ProfileLevel>, other: Option<H264ProfileLeve
     }
 }
 
-#[tactic(auto, using(crate::proofs::LevelNames::same_name))]
 fn h264_score(own: &FormatParams, other: &FormatParams) -> Option<usize>
     ensures score { result ≡ h264_score own.now other.now }
     ensures bound { IfSome result (λ n. n ≤ 100) }
