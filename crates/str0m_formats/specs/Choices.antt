@@ -1,9 +1,7 @@
 -- Which row of a list is chosen, and which remote row a row is matched with.
 use Rattle.std.specs.Prelude.{◌≡◌, ◌==◌, ◌<◌, ◌≤◌, ℕ, Bool, true, false, ◌&&◌, not, Option, Some, None, List, [], ◌∷◌, ◌++◌, if◌then◌else◌, IfSome, All, find, unwrap_or, option_map}
 use Rattle.std.specs.Borrow.{Bor}
-use Rattle.str0m_formats.specs.declared.codec.Codec.{Codec}
-use Rattle.str0m_formats.specs.declared.codec.Codec.TheVariants.{AmrWb}
-use Rattle.str0m_formats.specs.Codec.{Content, content, events}
+use Rattle.str0m_formats.specs.Codec.{Content, content, events, is_amr_wb}
 use Rattle.str0m_formats.specs.declared.payload_params.PayloadParams.{PayloadParams}
 use Rattle.str0m_formats.specs.Scores.{score}
 use Rattle.str0m_formats.specs.TypeSets.{TypeSet}
@@ -56,11 +54,6 @@ RefusedAll {F} {X} step f (x ∷ xs) g = (h : F) × ((b : Bor X) × (b.now ≡ x
 abbrev pub FirstAccepted : {F X : Type 0} → (F → Bor X → Bool → F → Type 0) → F → List X → Option X → Type 0
 FirstAccepted {F} step f xs None = (g : F) × RefusedAll step f xs g
 FirstAccepted {F} {X} step f xs (Some x) = (before after : List X) × (g h : F) × (xs ≡ before ++ x ∷ after) × RefusedAll step f before g × ((b : Bor X) × (b.now ≡ x) × step g b true h)
-
--- whether the codec is AMR-WB
-abbrev pub is_amr_wb : Codec → Bool
-is_amr_wb AmrWb = true
-is_amr_wb _ = false
 
 -- the score of a remote row for a row. For an AMR-WB row that is open while the remote receives,
 -- a remote row whose primary type is taken is left aside
