@@ -6,7 +6,6 @@ ghost use Rattle.str0m_values.specs.Direction.{receives};
 ghost use Rattle.str0m_formats.specs.Choices.{IsChoice, IsMatchedType, points_with, is_event_row, highest_event, FirstAccepted};
 
 use crate::codec_config::CodecConfig;
-use crate::format_params::FormatParams;
 use crate::payload_params::PayloadParams;
 use str0m_values::{Direction, Pt};
 
@@ -80,7 +79,6 @@ impl CodecConfig {
         ensures { result ≡ highest_event pt self.now.params.items }
     {
         let row = self.params.iter().find(|row| is_event_row(row, pt))?;
-        let highest = row.spec().format.telephone_event_max;
-        Some(highest.unwrap_or(FormatParams::DEFAULT_TELEPHONE_EVENT_MAX))
+        Some(row.spec().format.highest_event())
     }
 }
