@@ -19,6 +19,7 @@ use Rattle.str0m_formats.specs.declared.codec.Codec.{Codec}
 use Rattle.str0m_formats.specs.declared.codec.Codec.TheVariants.{Opus, AmrWb, H264, H265, H266, Vp9, Av1, Tele, Unknown}
 use Rattle.str0m_formats.specs.declared.codec_spec.CodecSpec.{CodecSpec}
 use Rattle.str0m_formats.specs.declared.format_params.FormatParams.{FormatParams}
+use Rattle.str0m_formats.specs.declared.match_score.ProfileNumbers.{ProfileNumbers}
 
 -- ---- tests: `==` of each type, true where both sides are equal and only there
 
@@ -96,26 +97,23 @@ h264_score a b =
 -- less for each level between; where a side has no triple, the same profile
 
 -- the numbers of a profile and a tier, and the place of a level
-abbrev pub Triple : Type 0
-Triple = ℕ × ℕ × ℕ
+abbrev pub h265_triple : H265ProfileTierLevel → ProfileNumbers
+h265_triple t = record { profile = h265.profile_id t.profile; tier = h265.tier_flag t.tier; level = h265.level_ordinal t.level }
 
-abbrev pub h265_triple : H265ProfileTierLevel → Triple
-h265_triple t = (h265.profile_id t.profile, h265.tier_flag t.tier, h265.level_ordinal t.level)
-
-abbrev pub h266_triple : H266ProfileTierLevel → Triple
-h266_triple t = (h266.profile_id t.profile, h266.tier_flag t.tier, h266.level_ordinal t.level)
+abbrev pub h266_triple : H266ProfileTierLevel → ProfileNumbers
+h266_triple t = record { profile = h266.profile_id t.profile; tier = h266.tier_flag t.tier; level = h266.level_ordinal t.level }
 
 -- the profile: that of the triple, else the last byte of the profile id, else 1
-abbrev pub profile_of : Option Triple → Option ℕ → ℕ
-profile_of (Some triple) id = triple.0
+abbrev pub profile_of : Option ProfileNumbers → Option ℕ → ℕ
+profile_of (Some triple) id = triple.profile
 profile_of None (Some id) = id % 2 ^ 8
 profile_of None None = 1
 
-abbrev pub triple_score : Triple → Triple → Option ℕ
-triple_score x y = level_score (x.0 == y.0 && x.1 == y.1) x.2 y.2
+abbrev pub triple_score : ProfileNumbers → ProfileNumbers → Option ℕ
+triple_score x y = level_score (x.profile == y.profile && x.tier == y.tier) x.level y.level
 
 -- by each side's triple, and each side's profile id
-abbrev pub profile_score : Option Triple → Option Triple → Option ℕ → Option ℕ → Option ℕ
+abbrev pub profile_score : Option ProfileNumbers → Option ProfileNumbers → Option ℕ → Option ℕ → Option ℕ
 profile_score (Some x) (Some y) _ _ = triple_score x y
 profile_score x y m n = when (profile_of x m == profile_of y n) 90
 

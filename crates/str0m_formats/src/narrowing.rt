@@ -29,20 +29,20 @@ fn lower_h265_triple(
 
 /// Likewise of H266.
 fn lower_h266_triple(
-    ours: Option<H266ProfileTierLevel>,
-    theirs: Option<H266ProfileTierLevel>,
+    own: Option<H266ProfileTierLevel>,
+    chosen: Option<H266ProfileTierLevel>,
 ) -> Option<H266ProfileTierLevel>
-    ensures { result ≡ lower_h266 ours theirs }
+    ensures { result ≡ lower_h266 own chosen }
 {
-    match (ours, theirs) {
-        (Some(ours), Some(theirs)) => {
-            if ours.level.ordinal() < theirs.level.ordinal() {
-                Some(theirs.with_level(ours.level))
+    match (own, chosen) {
+        (Some(own), Some(chosen)) => {
+            if own.level.ordinal() < chosen.level.ordinal() {
+                Some(chosen.with_level(own.level))
             } else {
-                Some(theirs)
+                Some(chosen)
             }
         }
-        _ => theirs,
+        _ => chosen,
     }
 }
 
