@@ -41,8 +41,7 @@ has_events _ = false
 abbrev pub is_event_row : ℕ → PayloadParams → Bool
 is_event_row pt row = row.pt == pt && has_events (content row.spec.codec)
 
--- the highest event of the first row of telephone events under a payload type: 16 where the row doesn't say it
--- (RFC 4733, section 2.5.1.1)
+-- the highest event of the first row of telephone events under a payload type
 abbrev pub highest_event : ℕ → List PayloadParams → Option ℕ
 highest_event pt rows = option_map (λ row. telephone_max row.spec.format) (find (is_event_row pt) rows)
 

@@ -73,8 +73,9 @@ impl CodecConfig {
         self.params.iter().any(|row| row.pt() == pt)
     }
 
-    /// The highest telephone event of the first row of events under this payload type, 16 where the
-    /// row doesn't say it (RFC 4733, section 2.5.1.1). `None` where there is no such row.
+    /// The highest telephone event of the first row of events under this payload type. Where the row
+    /// doesn't say it, that is 16, the default of `str0m` (RFC 4733 itself has 0 to 15). `None` where
+    /// there is no such row.
     pub fn tele_event_max(&self, pt: Pt) -> Option<u8>
         ensures { result ≡ highest_event pt self.now.params.items }
     {

@@ -106,7 +106,8 @@ impl FormatParams {
         format_in(alloc, line)
     }
 
-    /// The highest telephone event where no line says it (RFC 4733, section 2.5.1.1).
+    /// The highest telephone event where no line says it: 16, the default of `str0m` (RFC 4733
+    /// itself has 0 to 15).
     pub const DEFAULT_TELEPHONE_EVENT_MAX: u8 = 16;
 
     /// The highest telephone event, `DEFAULT_TELEPHONE_EVENT_MAX` where the format doesn't say it.
