@@ -87,10 +87,3 @@ choice_next points remote i row best new most most' h e b m c =
     let s : take i remote ++ row ∷ [] ≡ take (i + 1) remote = sym (take_more remote i row h ∙ ap (λ r. take i remote ++ r ∷ []) (sym e)) in
     let P : List PayloadParams → Type 0 = λ rows. IsChoiceAt points rows new most' in
     subst P s (rw (b, m) c)
-
--- no row passes, or none of so great a score
-pub choice_stays : (points : PayloadParams → Option ℕ) (rows : List PayloadParams) (best : Option PayloadParams) (most : ℕ) (row : PayloadParams) → IfSome (points row) (λ n. n < most) → IsChoiceAt points rows best most → IsChoiceAt points (rows ++ row ∷ []) best most
-choice_stays points rows best most row h c = go (points row) refl h where
-  go : (o : Option ℕ) → points row ≡ o → IfSome o (λ n. n < most) → IsChoiceAt points (rows ++ row ∷ []) best most
-  go None e l = choice_skips points rows best most row e c
-  go (Some n) e l = choice_keeps points rows best most n row e l c

@@ -16,9 +16,6 @@ use Rattle.str0m_formats.proofs.Lookup.{find_passes, if_some_map, row_at}
 pub same_text : (s t : List ℕ) → str_eq_ignore_ascii_case s t ≡ true → IsSameText s t
 same_text s t e = (bytes_eq-Decides (map to_ascii_lowercase s) (map to_ascii_lowercase t)).0 e
 
-pub text_same : (s t : List ℕ) → IsSameText s t → str_eq_ignore_ascii_case s t ≡ true
-text_same s t e = (bytes_eq-Decides (map to_ascii_lowercase s) (map to_ascii_lowercase t)).1 e
-
 is_unknown : (c : Codec) → (c ≡ Unknown) ⊎ (c ≢ Unknown)
 is_unknown Unknown = inl refl
 is_unknown Opus = inr (λ e. cc)

@@ -163,9 +163,6 @@ pub default_stay : (r : Result (Unit {0}) AllocError) (codec : Codec) (enabled u
 default_stay (Ok x) codec enabled use_red old new ok err d = subst AreDefault (sym ok) (enabled_stay codec enabled use_red old d)
 default_stay (Err e) codec enabled use_red old new ok err d = subst AreDefault (sym err) d
 
-pub default_none : AreDefault []
-default_none = record { each = All-nil IsDefault; once = λ t. omega arith }
-
 -- what a call answers that takes the rows of a codec out and appends others
 pub put_ok : (r : Result (Unit {0}) AllocError) (codec : Codec) (old kept rows new : List PayloadParams) → kept ≡ others codec old → new ≡ (if is_ok r then kept ++ rows else kept) → OnOk r (new ≡ others codec old ++ rows)
 put_ok (Ok x) codec old kept rows new k e = e ∙ ap (λ xs. xs ++ rows) k

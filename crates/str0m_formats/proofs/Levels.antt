@@ -15,7 +15,6 @@ use Rattle.str0m_formats.specs.Rounds.{Leaves}
 use Rattle.str0m_formats.specs.Scores.{same_spec, same_codec, same_number, same_or, same_profile}
 use Rattle.str0m_formats.specs.Scores.{level_score, h264_level_score, codec_score, score}
 use Rattle.str0m_formats.specs.Promises.{NamesNoHigher, LevelsNarrow}
-use Rattle.str0m_formats.proofs.LevelNames.{same_name}
 use Rattle.str0m_formats.proofs.FormatEqual.{bare_Decides, codec_Decides, spec_Decides}
 use Rattle.str0m_formats.proofs.ScoreRules.{either_way, score_rules}
 use Rattle.str0m_formats.proofs.SpecSteps.{round_holds}
@@ -57,9 +56,7 @@ same_profiles a b is some x y at_x at_y = elim (fits a b some) [
       let Fits : _ → Type 0 = λ codec. codec_score codec a b ≢ None in
       let modes = if_some (same_number a.channels b.channels) _ (subst Fits is own) in
       let levels = if_some (same_or 0 a.format.packetization_mode b.format.packetization_mode) _ modes in
-      let ours = sym (same_name a.format.profile_level_id) ∙ at_x in
-      let theirs = sym (same_name b.format.profile_level_id) ∙ at_y in
-      levels-profile x y (λ none. levels ((λ i. h264_level_score (ours i) (theirs i)) ∙ none))
+      levels-profile x y (λ none. levels ((λ i. h264_level_score (at_x i) (at_y i)) ∙ none))
 ]
 
 -- ---- the lower of two levels

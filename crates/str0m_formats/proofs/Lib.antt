@@ -46,7 +46,6 @@ pub mod Counting
 pub mod LockedStays
 pub mod SpecSteps
 pub mod Telephone
-pub mod LevelNames
 pub mod Levels
 pub mod Matched
 pub mod Distinct

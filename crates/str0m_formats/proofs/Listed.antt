@@ -44,10 +44,6 @@ params_push p n f param lt given = params_next p n f lt ∙ ap (λ o. params_to 
 pub params_pass : (p : FormatParams) (n : ℕ) (f : Field) → n < length FIELDS → param_at (get_or FIELDS n f) p ≡ None → params_to p (n + 1) ≡ params_to p n
 params_pass p n f lt absent = params_next p n f lt ∙ ap (λ o. params_to p n ++ cons_option o []) absent ∙ append-nil (params_to p n)
 
-pub none_yet : (p : FormatParams) → (has_some (params_to p 0) ≡ false) × (listed (params_to p 0) ≡ [])
-unfolding params_to has_some listed
-none_yet p = (refl, refl)
-
 pub listed_all : (p : FormatParams) → listed (params_to p 18) ≡ params_text p
 unfolding params_to listed params_text params_of
 listed_all p = refl

@@ -11,7 +11,8 @@ use Rattle.str0m_formats.specs.declared.negotiation_error.NegotiationError.TheVa
 use Rattle.str0m_formats.specs.declared.payload_params.PayloadParams.{PayloadParams}
 use Rattle.str0m_formats.specs.TypeSets.{TypeSet}
 use Rattle.str0m_formats.specs.Scores.{score}
-use Rattle.str0m_formats.specs.Choices.{IsBest, IsChoice, is_amr_wb, points_for}
+use Rattle.str0m_formats.specs.Choices.{IsBest, IsChoice, points_for}
+use Rattle.str0m_formats.specs.Codec.{is_amr_wb}
 use Rattle.str0m_formats.specs.Rounds.{role_type, rtx_type, placed, Leaves}
 use Rattle.str0m_formats.specs.Promises.{IsMatched, MatchedAreLocked, HasTypesOf, LockedAtBest}
 use Rattle.str0m_formats.proofs.FirstPass.{and_then-ok, same_Ok, locked_to-locks}

@@ -131,10 +131,6 @@ line_of_pairs p h none =
     none_of [] e = refl
     none_of (q ∷ qs) e = absurd cc
 
-pub line_of_format : (p : FormatParams) → CanBeReadBack p → p.telephone_event_max ≡ None
-    → (pairs : List (List ℕ × List ℕ)) × IsLineOf p pairs
-line_of_format p h none = (all_pairs fields p, line_of_pairs p h none)
-
 -- ---- the format that such a line says
 
 kept_one : (q : FormatParam) (params : List FormatParam) → IsOwn q → kept params ≡ params → kept (q ∷ params) ≡ q ∷ params

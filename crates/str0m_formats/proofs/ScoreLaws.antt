@@ -12,7 +12,8 @@ use Rattle.str0m_formats.specs.declared.codec.Codec.{Codec}
 use Rattle.str0m_formats.specs.declared.codec.Codec.TheVariants.{Opus, AmrWb, H264, H265, H266, Vp9, Av1, Tele}
 use Rattle.str0m_formats.specs.declared.codec_spec.CodecSpec.{CodecSpec}
 use Rattle.str0m_formats.specs.declared.format_params.FormatParams.{FormatParams}
-use Rattle.str0m_formats.specs.Scores.{same_spec, same_number, same_option, same_flag, same_or, same_profile, opus_score, is_mono, mode_score, amr_wb_score, level_score, h264_named, h264_level_score, h264_score, Triple, h265_triple, h266_triple, profile_of, triple_score, profile_score, av1_score, format_score, codec_score, score, IsSelfScore}
+use Rattle.str0m_formats.specs.declared.match_score.ProfileNumbers.{ProfileNumbers}
+use Rattle.str0m_formats.specs.Scores.{same_spec, same_number, same_option, same_flag, same_or, same_profile, opus_score, is_mono, mode_score, amr_wb_score, level_score, h264_level_score, h264_score, h265_triple, h266_triple, profile_of, triple_score, profile_score, av1_score, format_score, codec_score, score, IsSelfScore}
 use Rattle.str0m_formats.proofs.FormatEqual.{codec_Decides, fails, spec_Decides}
 use Rattle.str0m_formats.proofs.ScoreRules.{either_way, score_rules}
 
@@ -77,13 +78,13 @@ h264_levels_flip (Some x) (Some y) =
 h264_flips : (a b : FormatParams) → h264_score a b ≡ h264_score b a
 h264_flips a b =
     let modes = numbers_or 0 a.packetization_mode b.packetization_mode in
-    let levels = h264_levels_flip (h264_named a.profile_level_id) (h264_named b.profile_level_id) in
+    let levels = h264_levels_flip (h264.named a.profile_level_id) (h264.named b.profile_level_id) in
     λ i. if modes i then levels i else None
 
-triples_flip : (x y : Triple) → triple_score x y ≡ triple_score y x
-triples_flip x y = levels_flip _ _ x.2 y.2 (λ i. numbers x.0 y.0 i && numbers x.1 y.1 i)
+triples_flip : (x y : ProfileNumbers) → triple_score x y ≡ triple_score y x
+triples_flip x y = levels_flip _ _ x.level y.level (λ i. numbers x.profile y.profile i && numbers x.tier y.tier i)
 
-profiles_flip : (x y : Option Triple) (m n : Option ℕ) → profile_score x y m n ≡ profile_score y x n m
+profiles_flip : (x y : Option ProfileNumbers) (m n : Option ℕ) → profile_score x y m n ≡ profile_score y x n m
 profiles_flip (Some x) (Some y) m n = triples_flip x y
 profiles_flip (Some x) None m n = number_flips 90 (profile_of (Some x) m) (profile_of None n)
 profiles_flip None (Some y) m n = number_flips 90 (profile_of None m) (profile_of (Some y) n)

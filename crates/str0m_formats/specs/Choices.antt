@@ -1,10 +1,9 @@
 -- Which row of a list is chosen, and which remote row a row is matched with.
-use Rattle.std.specs.Prelude.{◌≡◌, ◌==◌, ◌<◌, ◌≤◌, ℕ, Bool, true, false, ◌&&◌, not, Option, Some, None, List, [], ◌∷◌, ◌++◌, if◌then◌else◌, IfSome, All, find, unwrap_or, option_map}
+use Rattle.std.specs.Prelude.{◌≡◌, ◌==◌, ◌<◌, ◌≤◌, ℕ, Bool, true, false, ◌&&◌, not, Option, Some, None, List, [], ◌∷◌, ◌++◌, if◌then◌else◌, IfSome, All, find, option_map}
 use Rattle.std.specs.Borrow.{Bor}
-use Rattle.str0m_formats.specs.declared.codec.Codec.{Codec}
-use Rattle.str0m_formats.specs.declared.codec.Codec.TheVariants.{AmrWb}
-use Rattle.str0m_formats.specs.Codec.{Content, content, events}
+use Rattle.str0m_formats.specs.Codec.{Content, content, events, is_amr_wb}
 use Rattle.str0m_formats.specs.declared.payload_params.PayloadParams.{PayloadParams}
+use Rattle.str0m_formats.specs.Narrowing.{telephone_max}
 use Rattle.str0m_formats.specs.Scores.{score}
 use Rattle.str0m_formats.specs.TypeSets.{TypeSet}
 
@@ -42,10 +41,9 @@ has_events _ = false
 abbrev pub is_event_row : ℕ → PayloadParams → Bool
 is_event_row pt row = row.pt == pt && has_events (content row.spec.codec)
 
--- the highest event of the first row of telephone events under a payload type: 16 where the row doesn't say it
--- (RFC 4733, section 2.5.1.1)
+-- the highest event of the first row of telephone events under a payload type
 abbrev pub highest_event : ℕ → List PayloadParams → Option ℕ
-highest_event pt rows = option_map (λ row. unwrap_or row.spec.format.telephone_event_max 16) (find (is_event_row pt) rows)
+highest_event pt rows = option_map (λ row. telephone_max row.spec.format) (find (is_event_row pt) rows)
 
 -- the closure, first in the state f, refused each item in order and is then in the state g
 abbrev pub RefusedAll : {F X : Type 0} → (F → Bor X → Bool → F → Type 0) → F → List X → F → Type 0
@@ -56,11 +54,6 @@ RefusedAll {F} {X} step f (x ∷ xs) g = (h : F) × ((b : Bor X) × (b.now ≡ x
 abbrev pub FirstAccepted : {F X : Type 0} → (F → Bor X → Bool → F → Type 0) → F → List X → Option X → Type 0
 FirstAccepted {F} step f xs None = (g : F) × RefusedAll step f xs g
 FirstAccepted {F} {X} step f xs (Some x) = (before after : List X) × (g h : F) × (xs ≡ before ++ x ∷ after) × RefusedAll step f before g × ((b : Bor X) × (b.now ≡ x) × step g b true h)
-
--- whether the codec is AMR-WB
-abbrev pub is_amr_wb : Codec → Bool
-is_amr_wb AmrWb = true
-is_amr_wb _ = false
 
 -- the score of a remote row for a row. For an AMR-WB row that is open while the remote receives,
 -- a remote row whose primary type is taken is left aside

@@ -1,5 +1,5 @@
 -- The codecs: one table of their names and of what they carry.
-use Rattle.std.specs.Prelude.{◌≡◌, ◌≢◌, ℕ, List, map, codes, find, unwrap_or}
+use Rattle.std.specs.Prelude.{◌≡◌, ◌≢◌, ℕ, Bool, true, false, List, map, codes, find, unwrap_or}
 use Rattle.std.specs.Char.{to_ascii_lowercase}
 use Rattle.std.specs.Str.{str_eq_ignore_ascii_case}
 use Rattle.str0m_values.specs.declared.media_kind.MediaKind.{MediaKind}
@@ -40,6 +40,11 @@ codec_text codec = (codec_row codec).0
 
 abbrev pub content : Codec → Content
 content codec = (codec_row codec).1
+
+-- whether the codec is AMR-WB
+abbrev pub is_amr_wb : Codec → Bool
+is_amr_wb AmrWb = true
+is_amr_wb _ = false
 
 -- the kind of the sections that it stands in
 abbrev pub media_kind : Content → MediaKind

@@ -4,11 +4,12 @@ use Rattle.std.specs.List.{AllZip, list_any, slice_split}
 use Rattle.std.specs.Borrow.{Bor}
 use Rattle.std.specs.Str.{trim}
 use Rattle.str0m_values.specs.Cuts.{cut, before, lacks, when}
+use Rattle.str0m_formats.specs.Codec.{is_amr_wb}
 use Rattle.str0m_formats.specs.FormatParam.{IsBare}
 use Rattle.str0m_formats.specs.FormatParams.{empty, set_all}
 use Rattle.str0m_formats.specs.Pairs.{AreRead}
 use Rattle.str0m_formats.specs.declared.codec.Codec.{Codec}
-use Rattle.str0m_formats.specs.declared.codec.Codec.TheVariants.{Tele, AmrWb}
+use Rattle.str0m_formats.specs.declared.codec.Codec.TheVariants.{Tele}
 use Rattle.str0m_formats.specs.declared.format_param.FormatParam.{FormatParam}
 use Rattle.str0m_formats.specs.declared.format_param.FormatParam.TheVariants.{TelephoneEvents, BareRange, AmrWbUnsupported}
 use Rattle.str0m_formats.specs.declared.format_params.FormatParams.{FormatParams}
@@ -66,10 +67,6 @@ abbrev pub events_end : List (List FormatParam) → Option ℕ
 events_end [] = Some 16
 events_end ((param ∷ []) ∷ []) = range_end param
 events_end _ = None
-
-abbrev pub is_amr_wb : Codec → Bool
-is_amr_wb AmrWb = true
-is_amr_wb _ = false
 
 -- the values without ranges of events
 abbrev pub kept : List FormatParam → List FormatParam

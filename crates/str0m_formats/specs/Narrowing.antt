@@ -11,7 +11,7 @@ use Rattle.str0m_formats.specs.declared.codec.Codec.TheVariants.{Opus, PCMU, PCM
 use Rattle.str0m_formats.specs.declared.format_params.FormatParams.{FormatParams}
 use Rattle.str0m_formats.specs.declared.codec_spec.CodecSpec.{CodecSpec}
 
--- the highest telephone event of a format, 16 where it gives none (RFC 4733, section 2.4.1)
+-- the highest telephone event of a format; where it gives none, 16, the default of `str0m` (RFC 4733 itself has 0 to 15)
 abbrev pub telephone_max : FormatParams → ℕ
 telephone_max format = unwrap_or format.telephone_event_max 16
 

@@ -1,5 +1,5 @@
 -- Reading of keys and values as functions.
-use Rattle.std.specs.Prelude.{ℕ, ◌==◌, ◌^◌, ◌&&◌, Bool, true, false, List, [], ◌∷◌, Option, Some, None, codes, option_map, unwrap_or, find, nat_le, nat_lt}
+use Rattle.std.specs.Prelude.{ℕ, ◌==◌, ◌^◌, ◌&&◌, Bool, true, List, [], ◌∷◌, Option, Some, None, codes, option_map, unwrap_or, find, nat_le, nat_lt}
 use Rattle.std.specs.Char.{digit_value}
 use Rattle.std.specs.Int.Bits.{bit_or}
 use Rattle.std.specs.List.{slice_split}
@@ -38,34 +38,6 @@ key_read text = find (λ key. str_eq_ignore_ascii_case text (key_text key)) KEYS
 
 abbrev pub is_one : List ℕ → Bool
 is_one value = bytes_eq value (codes "1")
-
--- the parameter of a flag behind a key
-abbrev pub flag_param : FormatKey → Bool → Option FormatParam
-flag_param key.Stereo b = Some (Stereo b)
-flag_param key.SpropStereo b = Some (SpropStereo b)
-flag_param key.UseInbandFec b = Some (UseInbandFec b)
-flag_param key.UseDtx b = Some (UseDtx b)
-flag_param key.LevelAsymmetryAllowed b = Some (LevelAsymmetryAllowed b)
-flag_param key.OctetAlign b = Some (OctetAlign b)
-flag_param _ b = None
-
--- the parameter of a number of one byte behind a key
-abbrev pub byte_param : FormatKey → ℕ → Option FormatParam
-byte_param key.MinPTime n = Some (MinPTime n)
-byte_param key.PacketizationMode n = Some (PacketizationMode n)
-byte_param key.Profile n = Some (Profile n)
-byte_param key.LevelIdx n = Some (LevelIdx n)
-byte_param key.Tier n = Some (Tier n)
-byte_param key.Apt n = Some (Apt n)
-byte_param _ n = None
-
--- whether the value behind a key asks for what isn't there of AMR-WB
-abbrev pub asks_unsupported : FormatKey → List ℕ → Bool
-asks_unsupported key.Crc value = is_one value
-asks_unsupported key.RobustSorting value = is_one value
-asks_unsupported key.ModeChangePeriod value = bytes_eq value (codes "2")
-asks_unsupported key.Interleaving value = true
-asks_unsupported _ value = false
 
 -- the parameter of a value behind a key
 abbrev pub value_read : FormatKey → List ℕ → Option FormatParam

@@ -10,8 +10,6 @@ use Rattle.str0m_values.specs.H265 as h265
 use Rattle.str0m_values.specs.H266 as h266
 use Rattle.str0m_values.specs.contracts.h264.H264Profile as h264_profile
 use Rattle.str0m_values.specs.declared.h264.H264Profile.{H264Profile}
-use Rattle.str0m_values.specs.declared.h264.H264Profile.TheVariants.{Baseline}
-use Rattle.str0m_values.specs.declared.h264.H264Level.TheVariants.{L1}
 use Rattle.str0m_values.specs.declared.h264.H264ProfileLevel.{H264ProfileLevel}
 use Rattle.str0m_values.specs.declared.h265.H265ProfileTierLevel.{H265ProfileTierLevel}
 use Rattle.str0m_values.specs.declared.h266.H266ProfileTierLevel.{H266ProfileTierLevel}
@@ -21,6 +19,7 @@ use Rattle.str0m_formats.specs.declared.codec.Codec.{Codec}
 use Rattle.str0m_formats.specs.declared.codec.Codec.TheVariants.{Opus, AmrWb, H264, H265, H266, Vp9, Av1, Tele, Unknown}
 use Rattle.str0m_formats.specs.declared.codec_spec.CodecSpec.{CodecSpec}
 use Rattle.str0m_formats.specs.declared.format_params.FormatParams.{FormatParams}
+use Rattle.str0m_formats.specs.declared.match_score.ProfileNumbers.{ProfileNumbers}
 
 -- ---- tests: `==` of each type, true where both sides are equal and only there
 
@@ -84,11 +83,6 @@ amr_wb_score a b =
 abbrev pub level_score : Bool → ℕ → ℕ → Option ℕ
 level_score is_same m n = when is_same (100 - abs_diff m n)
 
--- what a profile-level-id names; an absent one means Baseline at level 1
-unfoldable pub h264_named : Option ℕ → Option H264ProfileLevel
-h264_named None = Some (record { profile = Baseline; level = L1 })
-h264_named (Some id) = h264.profile_level_of id
-
 abbrev pub h264_level_score : Option H264ProfileLevel → Option H264ProfileLevel → Option ℕ
 h264_level_score (Some x) (Some y) = level_score (same_profile x.profile y.profile) (h264.level_ordinal x.level) (h264.level_ordinal y.level)
 h264_level_score _ _ = None
@@ -96,33 +90,30 @@ h264_level_score _ _ = None
 abbrev pub h264_score : FormatParams → FormatParams → Option ℕ
 h264_score a b =
     if same_or 0 a.packetization_mode b.packetization_mode
-    then h264_level_score (h264_named a.profile_level_id) (h264_named b.profile_level_id)
+    then h264_level_score (h264.named a.profile_level_id) (h264.named b.profile_level_id)
     else None
 
 -- ---- H265 (RFC 7798, section 7.1) and H266 (RFC 9328, section 7.2), each by its own triple: the same profile and tier, and one
 -- less for each level between; where a side has no triple, the same profile
 
 -- the numbers of a profile and a tier, and the place of a level
-abbrev pub Triple : Type 0
-Triple = ℕ × ℕ × ℕ
+abbrev pub h265_triple : H265ProfileTierLevel → ProfileNumbers
+h265_triple t = record { profile = h265.profile_id t.profile; tier = h265.tier_flag t.tier; level = h265.level_ordinal t.level }
 
-abbrev pub h265_triple : H265ProfileTierLevel → Triple
-h265_triple t = (h265.profile_id t.profile, h265.tier_flag t.tier, h265.level_ordinal t.level)
-
-abbrev pub h266_triple : H266ProfileTierLevel → Triple
-h266_triple t = (h266.profile_id t.profile, h266.tier_flag t.tier, h266.level_ordinal t.level)
+abbrev pub h266_triple : H266ProfileTierLevel → ProfileNumbers
+h266_triple t = record { profile = h266.profile_id t.profile; tier = h266.tier_flag t.tier; level = h266.level_ordinal t.level }
 
 -- the profile: that of the triple, else the last byte of the profile id, else 1
-abbrev pub profile_of : Option Triple → Option ℕ → ℕ
-profile_of (Some triple) id = triple.0
+abbrev pub profile_of : Option ProfileNumbers → Option ℕ → ℕ
+profile_of (Some triple) id = triple.profile
 profile_of None (Some id) = id % 2 ^ 8
 profile_of None None = 1
 
-abbrev pub triple_score : Triple → Triple → Option ℕ
-triple_score x y = level_score (x.0 == y.0 && x.1 == y.1) x.2 y.2
+abbrev pub triple_score : ProfileNumbers → ProfileNumbers → Option ℕ
+triple_score x y = level_score (x.profile == y.profile && x.tier == y.tier) x.level y.level
 
 -- by each side's triple, and each side's profile id
-abbrev pub profile_score : Option Triple → Option Triple → Option ℕ → Option ℕ → Option ℕ
+abbrev pub profile_score : Option ProfileNumbers → Option ProfileNumbers → Option ℕ → Option ℕ → Option ℕ
 profile_score (Some x) (Some y) _ _ = triple_score x y
 profile_score x y m n = when (profile_of x m == profile_of y n) 90
 

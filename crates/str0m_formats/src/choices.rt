@@ -6,7 +6,6 @@ ghost use Rattle.str0m_values.specs.Direction.{receives};
 ghost use Rattle.str0m_formats.specs.Choices.{IsChoice, IsMatchedType, points_with, is_event_row, highest_event, FirstAccepted};
 
 use crate::codec_config::CodecConfig;
-use crate::format_params::FormatParams;
 use crate::payload_params::PayloadParams;
 use str0m_values::{Direction, Pt};
 
@@ -74,13 +73,13 @@ impl CodecConfig {
         self.params.iter().any(|row| row.pt() == pt)
     }
 
-    /// The highest telephone event of the first row of events under this payload type, 16 where the
-    /// row doesn't say it (RFC 4733, section 2.5.1.1). `None` where there is no such row.
+    /// The highest telephone event of the first row of events under this payload type. Where the row
+    /// doesn't say it, that is 16, the default of `str0m` (RFC 4733 itself has 0 to 15). `None` where
+    /// there is no such row.
     pub fn tele_event_max(&self, pt: Pt) -> Option<u8>
         ensures { result ≡ highest_event pt self.now.params.items }
     {
         let row = self.params.iter().find(|row| is_event_row(row, pt))?;
-        let highest = row.spec().format.telephone_event_max;
-        Some(highest.unwrap_or(FormatParams::DEFAULT_TELEPHONE_EVENT_MAX))
+        Some(row.spec().format.highest_event())
     }
 }

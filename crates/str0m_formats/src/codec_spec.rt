@@ -18,14 +18,6 @@ pub struct CodecSpec {
     pub format: FormatParams,
 }
 
-/// The rates of 8 and 16 kHz.
-fn eight_and_sixteen() -> (Frequency, Frequency)
-    ensures { result ≡ (8000, 16000) }
-{
-    let [eight, sixteen, _, _] = Frequency::named();
-    (eight, sixteen)
-}
-
 impl CodecSpec {
     /// The clock rate of RTP timestamps, in Hz: 8000 for G722, which samples at 16000 (RFC 3551,
     /// section 4.5.2), else the clock rate.
@@ -33,7 +25,7 @@ impl CodecSpec {
         ensures { result ≡ rtp_rate self.codec self.clock_rate }
     {
         match self.codec {
-            Codec::G722 => eight_and_sixteen().0,
+            Codec::G722 => Frequency::EIGHT_KHZ,
             _ => self.clock_rate,
         }
     }
@@ -43,12 +35,11 @@ impl CodecSpec {
     pub fn from_static_pt(pt: Pt) -> Option<CodecSpec>
         ensures { IsTheOnly (IsStatic pt) result }
     {
-        let (eight, sixteen) = eight_and_sixteen();
         let (codec, clock_rate) = match pt.value() {
-            0 => (Codec::PCMU, eight),
-            8 => (Codec::PCMA, eight),
-            9 => (Codec::G722, sixteen),
-            13 => (Codec::CN, eight),
+            0 => (Codec::PCMU, Frequency::EIGHT_KHZ),
+            8 => (Codec::PCMA, Frequency::EIGHT_KHZ),
+            9 => (Codec::G722, Frequency::SIXTEEN_KHZ),
+            13 => (Codec::CN, Frequency::EIGHT_KHZ),
             _ => return None,
         };
         Some(CodecSpec {

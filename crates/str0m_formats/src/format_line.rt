@@ -4,6 +4,7 @@ ghost use Rattle.std.specs.List.{list_any};
 ghost use Rattle.str0m_formats.specs.FormatParam.{pair_texts};
 ghost use Rattle.str0m_formats.specs.FormatParams.{empty, set_all, params_text, CanBeReadBack};
 ghost use Rattle.str0m_formats.specs.FormatLine.{pieces, pair_in, bare_in, pairs_in, IsFormatOfLine, IsFormatOfBares, is_events, is_unsupported, events_end, is_refused, kept, values_of, format_of_fmtp, line_values};
+ghost use Rattle.str0m_formats.specs.Narrowing.{telephone_max};
 ghost use Rattle.str0m_formats.specs.declared.codec.Codec.TheVariants.{AmrWb};
 ghost use Rattle.str0m_formats.specs.declared.format_params.FormatParams.{FormatParams};
 
@@ -105,8 +106,17 @@ impl FormatParams {
         format_in(alloc, line)
     }
 
-    /// The highest telephone event where no line says it (RFC 4733, section 2.5.1.1).
+    /// The highest telephone event where no line says it: 16, the default of `str0m` (RFC 4733
+    /// itself has 0 to 15).
     pub const DEFAULT_TELEPHONE_EVENT_MAX: u8 = 16;
+
+    /// The highest telephone event, `DEFAULT_TELEPHONE_EVENT_MAX` where the format doesn't say it.
+    pub fn highest_event(&self) -> u8
+        ensures { result ≡ telephone_max self.now }
+    {
+        self.telephone_event_max
+            .unwrap_or(FormatParams::DEFAULT_TELEPHONE_EVENT_MAX)
+    }
 
     /// The format that the fmtp lines of a payload type say of its codec.
     ///

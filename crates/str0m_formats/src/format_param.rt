@@ -8,7 +8,7 @@ ghost use Rattle.str0m_formats.specs.FormatParam.{IsMode, IsModeSet, IsParsed, I
 ghost use Rattle.str0m_formats.specs.Pairs.{AreRead};
 ghost use Rattle.str0m_formats.specs.declared.format_param.FormatParam.{FormatParam};
 ghost use Rattle.str0m_formats.specs.declared.format_param.FormatParam.TheVariants.{AmrWbUnsupported};
-ghost use Rattle.str0m_formats.specs.ParamReading.{number_read, hex_read, modes_read, flag_param, byte_param, asks_unsupported, value_read, param_of, bare_param};
+ghost use Rattle.str0m_formats.specs.ParamReading.{number_read, hex_read, modes_read, value_read, param_of, bare_param};
 
 use crate::format_key::FormatKey;
 use crate::pairs::params;
@@ -141,76 +141,37 @@ fn modes(text: &str) -> Option<u16>
 }
 
 impl FormatKey {
-    /// The parameter of a flag behind the key.
-    fn flag(self, is_set: bool) -> Option<FormatParam>
-        ensures { result ≡ flag_param self is_set }
-    {
-        match self {
-            FormatKey::Stereo => Some(FormatParam::Stereo(is_set)),
-            FormatKey::SpropStereo => Some(FormatParam::SpropStereo(is_set)),
-            FormatKey::UseInbandFec => Some(FormatParam::UseInbandFec(is_set)),
-            FormatKey::UseDtx => Some(FormatParam::UseDtx(is_set)),
-            FormatKey::LevelAsymmetryAllowed => Some(FormatParam::LevelAsymmetryAllowed(is_set)),
-            FormatKey::OctetAlign => Some(FormatParam::OctetAlign(is_set)),
-            _ => None,
-        }
-    }
-
-    /// The parameter of a number of one byte behind the key.
-    fn byte(self, n: u8) -> Option<FormatParam>
-        ensures { result ≡ byte_param self n }
-    {
-        match self {
-            FormatKey::MinPTime => Some(FormatParam::MinPTime(n)),
-            FormatKey::PacketizationMode => Some(FormatParam::PacketizationMode(n)),
-            FormatKey::Profile => Some(FormatParam::Profile(n)),
-            FormatKey::LevelIdx => Some(FormatParam::LevelIdx(n)),
-            FormatKey::Tier => Some(FormatParam::Tier(n)),
-            FormatKey::Apt => Some(FormatParam::Apt(Pt::new_with_value(n))),
-            _ => None,
-        }
-    }
-
-    /// Whether the value behind the key asks for what isn't there of AMR-WB.
-    fn asks_unsupported(self, value: &str) -> bool
-        ensures { result ≡ asks_unsupported self value.now }
-    {
-        match self {
-            FormatKey::Crc => is_one(value),
-            FormatKey::RobustSorting => is_one(value),
-            FormatKey::ModeChangePeriod => is_text(value, "2"),
-            FormatKey::Interleaving => true,
-            _ => false,
-        }
-    }
-
     /// The parameter of a value behind the key.
     fn param(self, value: &str) -> Option<FormatParam>
         ensures { result ≡ value_read self value.now }
     {
         match self {
-            FormatKey::Stereo
-            | FormatKey::SpropStereo
-            | FormatKey::UseInbandFec
-            | FormatKey::UseDtx
-            | FormatKey::LevelAsymmetryAllowed
-            | FormatKey::OctetAlign => self.flag(is_one(value)),
-            FormatKey::MinPTime
-            | FormatKey::PacketizationMode
-            | FormatKey::Profile
-            | FormatKey::LevelIdx
-            | FormatKey::Tier
-            | FormatKey::Apt => self.byte(num_u8(value, 255)?),
+            FormatKey::MinPTime => Some(FormatParam::MinPTime(num_u8(value, 255)?)),
+            FormatKey::Stereo => Some(FormatParam::Stereo(is_one(value))),
+            FormatKey::SpropStereo => Some(FormatParam::SpropStereo(is_one(value))),
+            FormatKey::UseInbandFec => Some(FormatParam::UseInbandFec(is_one(value))),
+            FormatKey::UseDtx => Some(FormatParam::UseDtx(is_one(value))),
+            FormatKey::LevelAsymmetryAllowed => {
+                Some(FormatParam::LevelAsymmetryAllowed(is_one(value)))
+            }
+            FormatKey::PacketizationMode => {
+                Some(FormatParam::PacketizationMode(num_u8(value, 255)?))
+            }
             FormatKey::ProfileLevelId => {
                 Some(FormatParam::ProfileLevelId(hex_else_decimal(value)?))
             }
             FormatKey::ProfileId => Some(FormatParam::ProfileId(num_u32(value)?)),
+            FormatKey::Profile => Some(FormatParam::Profile(num_u8(value, 255)?)),
+            FormatKey::LevelIdx => Some(FormatParam::LevelIdx(num_u8(value, 255)?)),
+            FormatKey::Tier => Some(FormatParam::Tier(num_u8(value, 255)?)),
             FormatKey::SpropMaxDonDiff => Some(FormatParam::SpropMaxDonDiff(distance(value)?)),
+            FormatKey::OctetAlign => Some(FormatParam::OctetAlign(is_one(value))),
             FormatKey::ModeSet => Some(FormatParam::ModeSet(modes(value)?)),
-            FormatKey::Crc
-            | FormatKey::RobustSorting
-            | FormatKey::ModeChangePeriod
-            | FormatKey::Interleaving => unsupported(self.asks_unsupported(value)),
+            FormatKey::Apt => Some(FormatParam::Apt(Pt::new_with_value(num_u8(value, 255)?))),
+            FormatKey::Crc => unsupported(is_one(value)),
+            FormatKey::RobustSorting => unsupported(is_one(value)),
+            FormatKey::ModeChangePeriod => unsupported(is_text(value, "2")),
+            FormatKey::Interleaving => Some(FormatParam::AmrWbUnsupported),
         }
     }
 }

@@ -15,7 +15,12 @@ const FULL: usize = 100;
 const SAME_PROFILE: usize = 90;
 
 /// The numbers of a profile and a tier, and the place of a level among its like.
-type Triple = (u8, u8, usize);
+#[derive(Clone, Copy)]
+struct ProfileNumbers {
+    profile: u8,
+    tier: u8,
+    level: usize,
+}
 
 /// Whether two flags are the same, of which an absent one is false.
 fn is_same_flag(own: Option<bool>, other: Option<bool>) -> bool
@@ -100,7 +105,6 @@ fn h264_level_score(own: Option<H264ProfileLevel>, other: Option<H264ProfileLeve
     }
 }
 
-#[tactic(auto, using(crate::proofs::LevelNames::same_name))]
 fn h264_score(own: &FormatParams, other: &FormatParams) -> Option<usize>
     ensures score { result ≡ h264_score own.now other.now }
     ensures bound { IfSome result (λ n. n ≤ 100) }
@@ -115,51 +119,51 @@ fn h264_score(own: &FormatParams, other: &FormatParams) -> Option<usize>
     }
 }
 
-fn h265_triple(triple: Option<H265ProfileTierLevel>) -> Option<Triple>
+fn h265_triple(triple: Option<H265ProfileTierLevel>) -> Option<ProfileNumbers>
     ensures { result ≡ option_map h265_triple triple }
 {
     let triple = triple?;
-    Some((
-        triple.profile_id(),
-        triple.tier_flag(),
-        triple.level().ordinal(),
-    ))
+    Some(ProfileNumbers {
+        profile: triple.profile_id(),
+        tier: triple.tier_flag(),
+        level: triple.level().ordinal(),
+    })
 }
 
-fn h266_triple(triple: Option<H266ProfileTierLevel>) -> Option<Triple>
+fn h266_triple(triple: Option<H266ProfileTierLevel>) -> Option<ProfileNumbers>
     ensures { result ≡ option_map h266_triple triple }
 {
     let triple = triple?;
-    Some((
-        triple.profile_id(),
-        triple.tier_flag(),
-        triple.level().ordinal(),
-    ))
+    Some(ProfileNumbers {
+        profile: triple.profile_id(),
+        tier: triple.tier_flag(),
+        level: triple.level().ordinal(),
+    })
 }
 
 /// The profile of a triple, else the last byte of a profile id, else the first profile.
-fn profile(triple: Option<Triple>, id: Option<u32>) -> u8
+fn profile(triple: Option<ProfileNumbers>, id: Option<u32>) -> u8
     ensures { result ≡ profile_of triple id }
 {
     match (triple, id) {
-        (Some(triple), _) => triple.0,
+        (Some(triple), _) => triple.profile,
         (None, Some(id)) => (id % 256) as u8,
         (None, None) => 1,
     }
 }
 
-fn triple_score(own: Triple, other: Triple) -> Option<usize>
+fn triple_score(own: ProfileNumbers, other: ProfileNumbers) -> Option<usize>
     ensures score { result ≡ triple_score own other }
     ensures bound { IfSome result (λ n. n ≤ 100) }
 {
-    let is_same = own.0 == other.0 && own.1 == other.1;
-    level_score(is_same, own.2, other.2)
+    let is_same = own.profile == other.profile && own.tier == other.tier;
+    level_score(is_same, own.level, other.level)
 }
 
 /// The score of what each side says of profile, tier and level: its triple and its profile id.
 fn profile_score(
-    own: Option<Triple>,
-    other: Option<Triple>,
+    own: Option<ProfileNumbers>,
+    other: Option<ProfileNumbers>,
     own_id: Option<u32>,
     other_id: Option<u32>,
 ) -> Option<usize>

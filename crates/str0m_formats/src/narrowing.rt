@@ -1,21 +1,12 @@
 //! What the row that a row is matched with changes in its format.
 ghost use Rattle.std.specs.Prelude.{◌≡◌};
-ghost use Rattle.str0m_formats.specs.Narrowing.{narrowed, narrowed_as, telephone_max, levels_differ, lower_h265, lower_h266};
+ghost use Rattle.str0m_formats.specs.Narrowing.{narrowed, narrowed_as, levels_differ, lower_h265, lower_h266};
 ghost use Rattle.str0m_formats.specs.declared.codec.Codec.TheVariants.{AmrWb, H264, H265, H266, Tele};
 
 use crate::codec::Codec;
 use crate::codec_spec::CodecSpec;
 use crate::format_params::FormatParams;
 use str0m_values::{H265ProfileTierLevel, H266ProfileTierLevel, lower_level};
-
-/// The highest telephone event of a format.
-fn highest_event(format: &FormatParams) -> u8
-    ensures { result ≡ telephone_max format.now }
-{
-    format
-        .telephone_event_max
-        .unwrap_or(FormatParams::DEFAULT_TELEPHONE_EVENT_MAX)
-}
 
 /// The triple of the choice, its level the lower of both where the row has one.
 fn lower_h265_triple(
@@ -38,20 +29,20 @@ fn lower_h265_triple(
 
 /// Likewise of H266.
 fn lower_h266_triple(
-    ours: Option<H266ProfileTierLevel>,
-    theirs: Option<H266ProfileTierLevel>,
+    own: Option<H266ProfileTierLevel>,
+    chosen: Option<H266ProfileTierLevel>,
 ) -> Option<H266ProfileTierLevel>
-    ensures { result ≡ lower_h266 ours theirs }
+    ensures { result ≡ lower_h266 own chosen }
 {
-    match (ours, theirs) {
-        (Some(ours), Some(theirs)) => {
-            if ours.level.ordinal() < theirs.level.ordinal() {
-                Some(theirs.with_level(ours.level))
+    match (own, chosen) {
+        (Some(own), Some(chosen)) => {
+            if own.level.ordinal() < chosen.level.ordinal() {
+                Some(chosen.with_level(own.level))
             } else {
-                Some(theirs)
+                Some(chosen)
             }
         }
-        _ => theirs,
+        _ => chosen,
     }
 }
 
@@ -59,8 +50,8 @@ fn lower_h266_triple(
 fn narrow_events(own: &mut CodecSpec, chosen: &CodecSpec)
     ensures { own.new ≡ narrowed_as Tele own.old chosen.now }
 {
-    let ours = highest_event(&own.format);
-    let theirs = highest_event(&chosen.format);
+    let ours = own.format.highest_event();
+    let theirs = chosen.format.highest_event();
     own.format.telephone_event_max = Some(ours.min(theirs));
 }
 
