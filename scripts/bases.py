@@ -37,7 +37,7 @@ def crate_of(run):
 
 def link(modules, to, known=()):
     """Gives the modules of a folder second names in another, but for those that are known; answers all that it has."""
-    found = {it for part in PARTS for it in (f"{part}/{name}" for name in os.listdir(modules / part)) if it.endswith(".oantt")}
+    found = {f"{part}/{name}" for part in PARTS if (modules / part).is_dir() for name in os.listdir(modules / part) if name.endswith(".oantt")}
     for part in PARTS:
         os.makedirs(to / part, exist_ok=True)
     for it in found.difference(known):
