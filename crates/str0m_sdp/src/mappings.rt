@@ -32,7 +32,7 @@ fn mappings(
 }
 
 /// The codec that a type stands for without an rtpmap line.
-fn static_spec(pt: Pt) -> Option<CodecSpec>
+pub(crate) fn static_spec(pt: Pt) -> Option<CodecSpec>
     ensures { result ≡ static_spec pt }
 {
     CodecSpec::from_static_pt(pt)
