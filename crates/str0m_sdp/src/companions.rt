@@ -3,7 +3,7 @@ ghost use Rattle.std.specs.Prelude.{◌≡◌, ◌<◌, ◌&&◌, ℕ, false, So
 ghost use Rattle.std.specs.List.{list_any};
 ghost use Rattle.str0m_sdp.specs.Companions.{listed, named_by, names};
 
-use crate::type_tables::{apt_of, row};
+use crate::type_tables::{apt_of, place};
 use str0m_formats::{Codec, FormatParam};
 use str0m_values::Pt;
 
@@ -36,7 +36,7 @@ fn note(companions: &mut [Option<Pt>; 256], codec: Codec, pt: Pt, values: &[Form
 {
     for value in values {
         if let Some(named) = named_by(codec, *value) {
-            companions[row(named)] = Some(pt);
+            companions[place(named)] = Some(pt);
         }
     }
 }
@@ -54,7 +54,7 @@ pub(crate) fn note_line(
         ≡ (if get_or of_codec.now pt false && list_any (names codec n) values.now then Some pt else get_or companions.old n None) }
     ensures whole { length companions.new ≡ length companions.old }
 {
-    if of_codec[row(pt)] {
+    if of_codec[place(pt)] {
         note(companions, codec, pt, values);
     }
 }

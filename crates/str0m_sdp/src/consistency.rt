@@ -11,7 +11,7 @@ use crate::fault::{Clash, Fault, Message};
 use crate::mappings::static_spec;
 use crate::media_line::MediaLine;
 use crate::proto::Proto;
-use crate::type_tables::{apt_of, count_maps, first_apts, row};
+use crate::type_tables::{apt_of, count_maps, first_apts, place};
 use std::alloc::AllocError;
 use str0m_formats::FormatParam;
 use str0m_values::{Mid, Pt};
@@ -164,7 +164,7 @@ fn check_maps(attrs: &[MediaAttribute], pts: &[Pt], mid: Mid) -> Result<(), Faul
     let counts = count_maps(attrs);
     let mut left = pts;
     while let Some((pt, more)) = left.split_first() {
-        check_map(counts[row(*pt)], *pt, mid)?;
+        check_map(counts[place(*pt)], *pt, mid)?;
         left = more;
     }
     Ok(())
@@ -215,7 +215,7 @@ fn check_apts(attrs: &[MediaAttribute], mid: Mid) -> Result<(), Fault>
     let mut left = attrs;
     while let Some((attr, more)) = left.split_first() {
         if let MediaAttribute::Fmtp { pt, values } = attr {
-            check_apt(firsts[row(*pt)], values.as_slice(), *pt, mid)?;
+            check_apt(firsts[place(*pt)], values.as_slice(), *pt, mid)?;
         }
         left = more;
     }

@@ -5,7 +5,7 @@ ghost use Rattle.str0m_sdp.specs.Mappings.{mapping, static_spec, static_row, map
 
 use crate::attribute::MediaAttribute;
 use crate::media_line::MediaLine;
-use crate::type_tables::row;
+use crate::type_tables::place;
 use std::alloc::{AllocError, Global};
 use str0m_formats::{Codec, CodecSpec};
 use str0m_values::Pt;
@@ -45,7 +45,7 @@ fn mapped_types(mapped: &[(Pt, CodecSpec)]) -> [bool; 256]
 {
     let mut types = [false; 256];
     for (pt, _) in mapped {
-        types[row(*pt)] = true;
+        types[place(*pt)] = true;
     }
     types
 }
@@ -58,7 +58,7 @@ pub(crate) fn types_of(mapped: &[(Pt, CodecSpec)], codec: Codec) -> [bool; 256]
     let mut types = [false; 256];
     for (pt, spec) in mapped {
         if spec.codec == codec {
-            types[row(*pt)] = true;
+            types[place(*pt)] = true;
         }
     }
     types
@@ -86,9 +86,9 @@ impl MediaLine {
         let mut mapped = mappings(*self.attrs.allocator(), attrs, self.pts.len().min(TYPES))?;
         let mut seen = mapped_types(mapped.as_slice());
         for pt in self.pts.as_slice() {
-            let row = row(*pt);
-            if !seen[row] {
-                seen[row] = true;
+            let place = place(*pt);
+            if !seen[place] {
+                seen[place] = true;
                 push_static(&mut mapped, *pt)?;
             }
         }

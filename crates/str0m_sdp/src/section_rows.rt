@@ -16,7 +16,7 @@ use crate::feedback::{Feedback, note_feedback};
 use crate::known_formats::{are_few, format_of};
 use crate::mappings::types_of;
 use crate::media_line::MediaLine;
-use crate::type_tables::{row, types_in};
+use crate::type_tables::{place, types_in};
 use std::alloc::{AllocError, Global};
 use str0m_formats::{Codec, CodecSpec, FormatParam, FormatParams, PayloadParams};
 use str0m_values::Pt;
@@ -73,14 +73,14 @@ impl TypeWords {
         ensures row { result ≡ row_of self.now pt spec }
         ensures within { pt < 256 }
     {
-        let row = row(pt);
+        let place = place(pt);
         let red = if is_sound(spec.codec) {
-            self.red[row]
+            self.red[place]
         } else {
             None
         };
-        let params = PayloadParams::new(pt, self.rtx[row], spec).with_red(red);
-        self.feedback[row].switched_on(params)
+        let params = PayloadParams::new(pt, self.rtx[place], spec).with_red(red);
+        self.feedback[place].switched_on(params)
     }
 
     /// Whether the type has a row.
@@ -88,7 +88,7 @@ impl TypeWords {
         ensures { (m : MediaLine) → SayOf m self.now → result ≡ is_kept m (pt, spec) }
     {
         let codec = spec.codec;
-        is_sound(codec) || is_pictures(codec) || (is_events(codec) && self.in_m_line[row(pt)])
+        is_sound(codec) || is_pictures(codec) || (is_events(codec) && self.in_m_line[place(pt)])
     }
 
     /// One more row, where the type has one, by what its fmtp lines say of the codec.

@@ -7,8 +7,8 @@ use crate::attribute::MediaAttribute;
 use str0m_formats::FormatParam;
 use str0m_values::Pt;
 
-/// The row of a payload type in a table of all.
-pub(crate) fn row(pt: Pt) -> usize
+/// The place of a payload type in a table of all.
+pub(crate) fn place(pt: Pt) -> usize
     ensures is { result ≡ pt }
     ensures within { result < 256 }
 {
@@ -21,7 +21,7 @@ pub(crate) fn types_in(pts: &[Pt]) -> [bool; 256]
 {
     let mut types = [false; 256];
     for pt in pts {
-        types[row(*pt)] = true;
+        types[place(*pt)] = true;
     }
     types
 }
@@ -33,7 +33,7 @@ pub(crate) fn count_maps(attrs: &[MediaAttribute]) -> [usize; 256]
     let mut counts = [0; 256];
     for attr in attrs {
         if let MediaAttribute::RtpMap { pt, .. } = attr {
-            counts[row(*pt)] += 1;
+            counts[place(*pt)] += 1;
         }
     }
     counts
@@ -71,9 +71,9 @@ pub(crate) fn first_apts(attrs: &[MediaAttribute]) -> [Option<Pt>; 256]
     let mut firsts = [None; 256];
     for attr in attrs {
         if let MediaAttribute::Fmtp { pt, values } = attr {
-            let row = row(*pt);
-            if firsts[row].is_none() {
-                firsts[row] = apt_among(values.as_slice());
+            let place = place(*pt);
+            if firsts[place].is_none() {
+                firsts[place] = apt_among(values.as_slice());
             }
         }
     }
