@@ -257,7 +257,7 @@ impl MediaLine {
             Err(fault) => {
                 let section = self;
                 let message = Message { fault, section };
-                let alloc = *self.attrs.0.allocator();
+                let alloc = *self.attrs.allocator();
                 Ok(Some(message.to_string(alloc)?))
             }
         }

@@ -43,7 +43,7 @@ impl MediaLine {
         ensures { IfOk result (λ text. string_bytes text ≡ m_line self.now) }
     {
         let head = HeadLine(self);
-        head.to_string(*self.attrs.0.allocator())
+        head.to_string(*self.attrs.allocator())
     }
 }
 

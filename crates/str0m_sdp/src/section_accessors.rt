@@ -193,7 +193,7 @@ impl MediaLine {
     pub fn extmaps(&self) -> Result<Vec<(u8, &Extension)>, AllocError>
         ensures { IfOk result (λ maps. map ext_map_at maps.items ≡ filter_map ext_map_of self.now.attrs) }
     {
-        let mut maps = Vec::new(*self.attrs.0.allocator());
+        let mut maps = Vec::new(*self.attrs.allocator());
         for attr in self.attrs.as_slice() {
             if let Some(lent) = attr.as_ext_map() {
                 maps.push(lent)?;
@@ -208,7 +208,7 @@ impl MediaLine {
     pub fn rids(&self) -> Result<Vec<Rid>, AllocError>
         ensures { IfOk result (λ rids. AllZip IsRidOf (filter_map rid_name_of self.now.attrs) rids.items) }
     {
-        let mut rids = Vec::new(*self.attrs.0.allocator());
+        let mut rids = Vec::new(*self.attrs.allocator());
         for attr in self.attrs.as_slice() {
             if let Some(name) = attr.as_rid_name() {
                 rids.push(Rid::from(name))?;

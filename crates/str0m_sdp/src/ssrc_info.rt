@@ -208,7 +208,7 @@ impl MediaLine {
     pub fn ssrc_info(&self) -> Result<Vec<SsrcInfo>, AllocError>
         ensures { IfOk result (λ list. list.items ≡ infos self.now.attrs) }
     {
-        let alloc = *self.attrs.0.allocator();
+        let alloc = *self.attrs.allocator();
         let mut infos = self.gather_values(alloc)?;
         self.add_repairs(&mut infos)?;
         values(alloc, infos)
