@@ -16,7 +16,7 @@ use crate::feedback::{Feedback, note_feedback};
 use crate::known_formats::{are_few, format_of};
 use crate::mappings::types_of;
 use crate::media_line::MediaLine;
-use crate::type_tables::{place, types_in};
+use crate::type_tables::{TYPES, place, types_in};
 use std::alloc::{AllocError, Global};
 use str0m_formats::{Codec, CodecSpec, FormatParam, FormatParams, PayloadParams};
 use str0m_values::Pt;
@@ -25,11 +25,11 @@ use str0m_values::Pt;
 #[derive(Drop)]
 struct TypeWords {
     /// Whether the type stands in the m-line.
-    in_m_line: [bool; 256],
+    in_m_line: [bool; TYPES],
     /// The types of retransmissions and of redundant audio.
-    rtx: [Option<Pt>; 256],
-    red: [Option<Pt>; 256],
-    feedback: [Feedback; 256],
+    rtx: [Option<Pt>; TYPES],
+    red: [Option<Pt>; TYPES],
+    feedback: [Feedback; TYPES],
 }
 
 impl TypeWords {
@@ -144,9 +144,9 @@ impl MediaLine {
         let alloc = *self.attrs.allocator();
         let mut words = TypeWords {
             in_m_line: types_in(self.pts.as_slice()),
-            rtx: [None; 256],
-            red: [None; 256],
-            feedback: [Feedback::none(); 256],
+            rtx: [None; TYPES],
+            red: [None; TYPES],
+            feedback: [Feedback::none(); TYPES],
         };
         let lines = words.gather(alloc, self.attrs.as_slice(), types)?;
         let are_few = are_few(lines.as_slice());
