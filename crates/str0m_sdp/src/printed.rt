@@ -105,7 +105,8 @@ impl<'a, T: Printed> fmt::Display for Led<'a, T> {
     fn fmt<W: fmt::Write>(&self, f: &mut fmt::Formatter<W>) -> fmt::Result {
         let lead = self.lead;
         for item in self.items {
-            write!(f, "{lead}{item}")?;
+            f.write_str(lead)?;
+            item.fmt(f)?;
         }
         Ok(())
     }
