@@ -6,16 +6,14 @@ use Rattle.std.proofs.lemmas.List.{append-nil}
 use Rattle.str0m_formats.specs.TypeSets.{has}
 use Rattle.str0m_formats.specs.Rows.{types_of}
 use Rattle.str0m_formats.specs.declared.format_param.FormatParam.{FormatParam}
-use Rattle.str0m_formats.specs.declared.format_param.FormatParam.TheVariants.{Apt, BarePtList}
 use Rattle.str0m_formats.specs.declared.payload_params.PayloadParams.{PayloadParams}
 use Rattle.str0m_sdp.specs.declared.attribute.MediaAttribute.TheVariants.{Fmtp}
 use Rattle.str0m_sdp.specs.RowAttributes.{rtx_lines}
 use Rattle.str0m_sdp.specs.SectionRows.{values_in}
-use Rattle.str0m_sdp.specs.Consistency.{apt_among, apt_in}
+use Rattle.str0m_sdp.specs.Consistency.{apt_in}
 use Rattle.str0m_sdp.proofs.Apart.{Roles, self, pt_apart, rtx_apart, red_apart}
 use Rattle.str0m_sdp.proofs.RowReads.{fmtp_lines, red_reads, reads, each, all_fmtp, all_rtx, all_red, quiet}
 use Rattle.str0m_sdp.proofs.RowReads.{parts_said}
-use Rattle.str0m_sdp.proofs.FrameAnswers.{NameNoType, NamesNoType}
 use Rattle.str0m_sdp.proofs.RowAnswers.{flipped}
 
 -- ---- fmtp values
@@ -46,44 +44,7 @@ values_own row vs r =
     (all_red (λ a. values_in row.pt a ≡ None) row row.red (λ n e. (λ m. refl, rw (r.red n e) refl))))
     ∙ append-nil vs
 
--- of its RTX type and of its RED type: one line, which names the primary type
-pub values_own_rtx : (row : PayloadParams) (vs : List (List FormatParam)) (t : ℕ) → Roles row → row.resend ≡ Some t
-    → filter_map (values_in t) (reads row vs) ≡ (Apt row.pt ∷ []) ∷ []
-values_own_rtx row vs t r is =
-    parts_said (values_in t) row vs [] ((Apt row.pt ∷ []) ∷ []) [] refl (λ w. refl)
-    (quiet (values_in t) (fmtp_lines row.pt vs) (all_fmtp (λ a. values_in t a ≡ None) row vs (other vs)))
-    (ap (λ o. filter_map (values_in t) (rtx_lines row o)) is ∙ here)
-    (quiet (values_in t) (red_reads row row.red)
-    (all_red (λ a. values_in t a ≡ None) row row.red (λ n e. (λ m. refl, rw (flipped t n (r.rtx_red t n is e)) refl))))
-  where
-    other : (vs : List (List FormatParam)) → AllByRecursion (λ v. values_in t (Fmtp row.pt v) ≡ None) vs
-    other [] = tt
-    other (v ∷ vs) = (rw (flipped t row.pt (r.rtx t is)) refl, other vs)
-
-    here : filter_map (values_in t) (rtx_lines row (Some t)) ≡ (Apt row.pt ∷ []) ∷ []
-    here = rw (self t) refl
-
-pub values_own_red : (row : PayloadParams) (vs : List (List FormatParam)) (t : ℕ) → Roles row → row.red ≡ Some t
-    → filter_map (values_in t) (reads row vs) ≡ (BarePtList row.pt ∷ []) ∷ []
-values_own_red row vs t r is =
-    parts_said (values_in t) row vs [] [] ((BarePtList row.pt ∷ []) ∷ []) refl (λ w. refl)
-    (quiet (values_in t) (fmtp_lines row.pt vs) (all_fmtp (λ a. values_in t a ≡ None) row vs (other vs)))
-    (quiet (values_in t) (rtx_lines row row.resend)
-    (all_rtx (λ a. values_in t a ≡ None) row row.resend (λ n e. (λ m. refl, rw (r.rtx_red n t e is) refl))))
-    (ap (λ o. filter_map (values_in t) (red_reads row o)) is ∙ here)
-  where
-    other : (vs : List (List FormatParam)) → AllByRecursion (λ v. values_in t (Fmtp row.pt v) ≡ None) vs
-    other [] = tt
-    other (v ∷ vs) = (rw (flipped t row.pt (r.red t is)) refl, other vs)
-
-    here : filter_map (values_in t) (red_reads row (Some t)) ≡ (BarePtList row.pt ∷ []) ∷ []
-    here = rw (self t) refl
-
 -- ---- the primary type that a line of RTX names
-
-no_apt : (v : List FormatParam) → AllByRecursion NamesNoType v → apt_among v ≡ None
-no_apt [] h = refl
-no_apt (x ∷ v) h = rw (h.0.0) (no_apt v h.1)
 
 pub apt_apart : (row : PayloadParams) (vs : List (List FormatParam)) (t : ℕ) → has (types_of row) t ≡ false
     → filter_map (apt_in t) (reads row vs) ≡ []
@@ -110,35 +71,4 @@ apt_own row vs t r is =
     other (v ∷ vs) = (rw (flipped t row.pt (r.rtx t is)) refl, other vs)
 
     here : filter_map (apt_in t) (rtx_lines row (Some t)) ≡ row.pt ∷ []
-    here = rw (self t) refl
-
--- a primary type and a RED type name none
-pub apt_own_pt : (row : PayloadParams) (vs : List (List FormatParam)) → Roles row → NameNoType vs
-    → filter_map (apt_in row.pt) (reads row vs) ≡ []
-apt_own_pt row vs r none =
-    parts_said (apt_in row.pt) row vs [] [] [] refl (λ w. refl)
-    (quiet (apt_in row.pt) (fmtp_lines row.pt vs) (all_fmtp (λ a. apt_in row.pt a ≡ None) row vs (silent vs none)))
-    (quiet (apt_in row.pt) (rtx_lines row row.resend)
-    (all_rtx (λ a. apt_in row.pt a ≡ None) row row.resend (λ n e. (λ m. refl, rw (r.rtx n e) refl))))
-    (quiet (apt_in row.pt) (red_reads row row.red)
-    (all_red (λ a. apt_in row.pt a ≡ None) row row.red (λ n e. (λ m. refl, rw (r.red n e) refl))))
-  where
-    silent : (vs : List (List FormatParam)) → NameNoType vs → AllByRecursion (λ v. apt_in row.pt (Fmtp row.pt v) ≡ None) vs
-    silent [] h = tt
-    silent (v ∷ vs) h = (rw (self row.pt) (no_apt v h.0), silent vs h.1)
-
-pub apt_own_red : (row : PayloadParams) (vs : List (List FormatParam)) (t : ℕ) → Roles row → row.red ≡ Some t
-    → filter_map (apt_in t) (reads row vs) ≡ []
-apt_own_red row vs t r is =
-    parts_said (apt_in t) row vs [] [] [] refl (λ w. refl)
-    (quiet (apt_in t) (fmtp_lines row.pt vs) (all_fmtp (λ a. apt_in t a ≡ None) row vs (other vs)))
-    (quiet (apt_in t) (rtx_lines row row.resend)
-    (all_rtx (λ a. apt_in t a ≡ None) row row.resend (λ n e. (λ m. refl, rw (r.rtx_red n t e is) refl))))
-    (ap (λ o. filter_map (apt_in t) (red_reads row o)) is ∙ here)
-  where
-    other : (vs : List (List FormatParam)) → AllByRecursion (λ v. apt_in t (Fmtp row.pt v) ≡ None) vs
-    other [] = tt
-    other (v ∷ vs) = (rw (flipped t row.pt (r.red t is)) refl, other vs)
-
-    here : filter_map (apt_in t) (red_reads row (Some t)) ≡ []
     here = rw (self t) refl

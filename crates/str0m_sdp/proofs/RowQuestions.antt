@@ -9,7 +9,6 @@ use Rattle.str0m_formats.specs.Rows.{types_of, types}
 use Rattle.str0m_formats.specs.declared.codec.Codec.TheVariants as codec
 use Rattle.str0m_formats.specs.declared.codec_spec.CodecSpec.{CodecSpec}
 use Rattle.str0m_formats.specs.declared.format_param.FormatParam.{FormatParam}
-use Rattle.str0m_formats.specs.declared.format_param.FormatParam.TheVariants.{Apt, BarePtList}
 use Rattle.str0m_formats.specs.declared.payload_params.PayloadParams.{PayloadParams}
 use Rattle.str0m_formats.proofs.Times.{times-append, times-cons}
 use Rattle.str0m_sdp.specs.declared.attribute.MediaAttribute.{MediaAttribute}
@@ -24,14 +23,12 @@ use Rattle.str0m_sdp.specs.Lists.{first, last}
 use Rattle.str0m_sdp.specs.Mappings.{mapping, is_mapped_to}
 use Rattle.str0m_sdp.proofs.Own.{AreOpen, own_said}
 use Rattle.str0m_sdp.proofs.Parts.{or_false, weaker, together, taken_apart, none_passes, none_counted, count-append, own_holds, AllFail}
-use Rattle.str0m_sdp.proofs.Apart.{Apart, Roles, apart, roles, row_distinct, has_pt, has_rtx, has_red}
+use Rattle.str0m_sdp.proofs.Apart.{Apart, Roles, apart, roles, row_distinct, has_pt, has_rtx}
 use Rattle.str0m_sdp.proofs.RowReads.{reads, fmtp_lines, red_reads, quiet, all_feedback, all_fmtp}
 use Rattle.str0m_sdp.proofs.FrameAnswers.{HasNoTypes, NameNoType, frame_mapping, frame_maps, frame_feedback}
 use Rattle.str0m_sdp.proofs.RowAnswers.{NamesItself, entries}
 use Rattle.str0m_sdp.proofs.FrameAnswers.{frame_values, frame_apt, frame_companion}
-use Rattle.str0m_sdp.proofs.FmtpAnswers.{values_apart, values_own, values_own_rtx}
-use Rattle.str0m_sdp.proofs.FmtpAnswers.{values_own_red, apt_apart, apt_own}
-use Rattle.str0m_sdp.proofs.FmtpAnswers.{apt_own_pt, apt_own_red}
+use Rattle.str0m_sdp.proofs.FmtpAnswers.{values_apart, values_own, apt_apart, apt_own}
 use Rattle.str0m_sdp.proofs.RowAnswers.{and_false, rtx_none, rtx_own, red_none, red_own, feedback_apart, feedback_own, mapping_own}
 use Rattle.str0m_sdp.proofs.Apart.{pt_apart}
 
@@ -92,29 +89,6 @@ module _ (values : PayloadParams → List (List FormatParam)) where
         others : (rows : List PayloadParams) → Apart row.pt rows → AreOpen (values_in row.pt) lines rows
         others rows h = weaker _ (λ r. filter_map (values_in row.pt) (lines r) ≡ []) (λ r k. values_apart r (values r) row.pt k) rows h
 
-    -- those of its RTX type and of its RED type: one line, which names the primary type
-    pub rtx_values_are : (t : ℕ) → row.resend ≡ Some t → lines_of (attrs_of frame (before ++ row ∷ after)) t ≡ (Apt row.pt ∷ []) ∷ []
-    unfolding lines_of
-    rtx_values_are t is =
-        own_said (values_in t) lines frame before row after
-        (quiet (values_in t) frame (weaker _ (λ a. values_in t a ≡ None) (frame_values t) frame bare))
-        (others before (apart before row after t d (has_rtx row t is)).0) (others after (apart before row after t d (has_rtx row t is)).1)
-        ∙ values_own_rtx row (values row) t own_roles is
-      where
-        others : (rows : List PayloadParams) → Apart t rows → AreOpen (values_in t) lines rows
-        others rows h = weaker _ (λ r. filter_map (values_in t) (lines r) ≡ []) (λ r k. values_apart r (values r) t k) rows h
-
-    pub red_values_are : (t : ℕ) → row.red ≡ Some t → lines_of (attrs_of frame (before ++ row ∷ after)) t ≡ (BarePtList row.pt ∷ []) ∷ []
-    unfolding lines_of
-    red_values_are t is =
-        own_said (values_in t) lines frame before row after
-        (quiet (values_in t) frame (weaker _ (λ a. values_in t a ≡ None) (frame_values t) frame bare))
-        (others before (apart before row after t d (has_red row t is)).0) (others after (apart before row after t d (has_red row t is)).1)
-        ∙ values_own_red row (values row) t own_roles is
-      where
-        others : (rows : List PayloadParams) → Apart t rows → AreOpen (values_in t) lines rows
-        others rows h = weaker _ (λ r. filter_map (values_in t) (lines r) ≡ []) (λ r k. values_apart r (values r) t k) rows h
-
     -- the primary type that its RTX type names
     pub apt_is : (t : ℕ) → row.resend ≡ Some t → first_apt t (attrs_of frame (before ++ row ∷ after)) ≡ Some row.pt
     apt_is t is =
@@ -123,29 +97,6 @@ module _ (values : PayloadParams → List (List FormatParam)) where
         (quiet (apt_in t) frame (weaker _ (λ a. apt_in t a ≡ None) (frame_apt t) frame bare))
         (others before (apart before row after t d (has_rtx row t is)).0) (others after (apart before row after t d (has_rtx row t is)).1)
         ∙ apt_own row (values row) t own_roles is)
-      where
-        others : (rows : List PayloadParams) → Apart t rows → AreOpen (apt_in t) lines rows
-        others rows h = weaker _ (λ r. filter_map (apt_in t) (lines r) ≡ []) (λ r k. apt_apart r (values r) t k) rows h
-
-    -- its primary type and its RED type name none
-    pub apt_pt_is : NameNoType (values row) → first_apt row.pt (attrs_of frame (before ++ row ∷ after)) ≡ None
-    apt_pt_is none =
-        first_apt-is row.pt (attrs_of frame (before ++ row ∷ after))
-        ∙ ap first (own_said (apt_in row.pt) lines frame before row after
-        (quiet (apt_in row.pt) frame (weaker _ (λ a. apt_in row.pt a ≡ None) (frame_apt row.pt) frame bare))
-        (others before (apart before row after row.pt d (has_pt row)).0) (others after (apart before row after row.pt d (has_pt row)).1)
-        ∙ apt_own_pt row (values row) own_roles none)
-      where
-        others : (rows : List PayloadParams) → Apart row.pt rows → AreOpen (apt_in row.pt) lines rows
-        others rows h = weaker _ (λ r. filter_map (apt_in row.pt) (lines r) ≡ []) (λ r k. apt_apart r (values r) row.pt k) rows h
-
-    pub apt_red_is : (t : ℕ) → row.red ≡ Some t → first_apt t (attrs_of frame (before ++ row ∷ after)) ≡ None
-    apt_red_is t is =
-        first_apt-is t (attrs_of frame (before ++ row ∷ after))
-        ∙ ap first (own_said (apt_in t) lines frame before row after
-        (quiet (apt_in t) frame (weaker _ (λ a. apt_in t a ≡ None) (frame_apt t) frame bare))
-        (others before (apart before row after t d (has_red row t is)).0) (others after (apart before row after t d (has_red row t is)).1)
-        ∙ apt_own_red row (values row) t own_roles is)
       where
         others : (rows : List PayloadParams) → Apart t rows → AreOpen (apt_in t) lines rows
         others rows h = weaker _ (λ r. filter_map (apt_in t) (lines r) ≡ []) (λ r k. apt_apart r (values r) t k) rows h

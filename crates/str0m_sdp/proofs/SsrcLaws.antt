@@ -25,15 +25,6 @@ use Rattle.str0m_sdp.proofs.DistinctLaws.{inserted-distinct, distinct-apart}
 -- ---- entries with a number as their key
 
 module _ {V : Type 0} where
-  -- an entry that is put in twice has its last value
-  pub insert_twice : (es : List (ℕ × V)) (k : ℕ) (v w : V) → insert_entry nat_eq (insert_entry nat_eq es k v) k w ≡ insert_entry nat_eq es k w
-  insert_twice [] k v w = ap (λ b. cond b ((k, w) ∷ []) ((k, v) ∷ (k, w) ∷ [])) (eq-eqb k k refl)
-  insert_twice (e ∷ es) k v w = by (nat_eq k e.0) refl (insert_twice es k v w)
-    where
-      by : (b : Bool) → nat_eq k e.0 ≡ b → insert_entry nat_eq (insert_entry nat_eq es k v) k w ≡ insert_entry nat_eq es k w → insert_entry nat_eq (cond b ((e.0, v) ∷ es) (e ∷ insert_entry nat_eq es k v)) k w ≡ cond b ((e.0, w) ∷ es) (e ∷ insert_entry nat_eq es k w)
-      by true p rest = ap (λ b. cond b ((e.0, w) ∷ es) ((e.0, v) ∷ insert_entry nat_eq es k w)) p
-      by false p rest = ap (λ b. cond b ((e.0, w) ∷ insert_entry nat_eq es k v) (e ∷ insert_entry nat_eq (insert_entry nat_eq es k v) k w)) p ∙ ap (λ l. e ∷ l) rest
-
   keys_put : (es : List (ℕ × V)) (k : ℕ) (v : V) → keys_of (insert_entry nat_eq es k v) ≡ insert_key nat_eq (keys_of es) k
   keys_put [] k v = refl
   keys_put (e ∷ es) k v = by (nat_eq k e.0) (list_any (nat_eq k) (keys_of es)) (keys_put es k v)

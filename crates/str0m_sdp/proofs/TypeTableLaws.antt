@@ -2,7 +2,7 @@
 use Rattle.std.proofs.Common.{◌≡◌, ◌<◌, ◌+◌, ◌++◌, ℕ, true, false, List, [], ◌∷◌, length, take, set, get_or, Option, Some, None, is_some, count_by, refl, sym, ap, ◌∙◌, inl, inr}
 use Rattle.std.proofs.lemmas.Bool.{cases_eq, eq-eqb, ne_eqb}
 use Rattle.std.proofs.lemmas.Grind.{take_at_read}
-use Rattle.std.proofs.lemmas.List.{get_or-set_same, get_or-set_other, get_or_read}
+use Rattle.std.proofs.lemmas.List.{get_or-set_same, get_or-set_other}
 use Rattle.std.proofs.lemmas.List.Sums.{count_by_more_no, count_by_more_yes}
 use Rattle.str0m_formats.specs.declared.format_param.FormatParam.{FormatParam}
 use Rattle.str0m_sdp.specs.Consistency.{maps, apt_among, apt_in, first_apt, AgreesOnApt}
@@ -126,12 +126,6 @@ first_named attrs firsts i n values attr lt row is variant none pt so_far =
           get_or-set_other firsts n pt (apt_among values) None (λ same. apart (sym same))
           ∙ first_same attrs firsts i attr lt is pt (ap (apt_in pt) variant ∙ apt_apart n pt values apart) so_far
     ]
-
--- a row that is read, by any default
-pub first_read : (attrs : List MediaAttribute) (firsts : List (Option ℕ)) (n : ℕ) (found : Option ℕ)
-    → n < length firsts → found ≡ get_or firsts n found → get_or firsts n None ≡ first_apt n attrs
-    → get_or firsts n found ≡ first_apt n attrs
-first_read attrs firsts n found row is first = sym is ∙ get_or_read firsts n found row is None ∙ first
 
 -- what is no fmtp line agrees
 pub agrees_other : (attrs : List MediaAttribute) (attr : MediaAttribute) → ((n : ℕ) (values : List FormatParam) → attr ≡ Fmtp n values → ⊥) → AgreesOnApt attrs attr

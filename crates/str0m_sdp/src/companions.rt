@@ -3,7 +3,7 @@ ghost use Rattle.std.specs.Prelude.{◌≡◌, ◌<◌, ◌&&◌, ℕ, false, So
 ghost use Rattle.std.specs.List.{list_any};
 ghost use Rattle.str0m_sdp.specs.Companions.{listed, named_by, names};
 
-use crate::type_tables::{apt_of, row};
+use crate::type_tables::{TYPES, apt_of, place};
 use str0m_formats::{Codec, FormatParam};
 use str0m_values::Pt;
 
@@ -29,14 +29,14 @@ fn named_by(codec: Codec, value: FormatParam) -> Option<Pt>
 }
 
 /// Notes the type for each type that the values of its fmtp line name.
-fn note(companions: &mut [Option<Pt>; 256], codec: Codec, pt: Pt, values: &[FormatParam])
+fn note(companions: &mut [Option<Pt>; TYPES], codec: Codec, pt: Pt, values: &[FormatParam])
     ensures rows { (n : ℕ) → n < length companions.old →
         get_or companions.new n None ≡ (if list_any (names codec n) values.now then Some pt else get_or companions.old n None) }
     ensures whole { length companions.new ≡ length companions.old }
 {
     for value in values {
         if let Some(named) = named_by(codec, *value) {
-            companions[row(named)] = Some(pt);
+            companions[place(named)] = Some(pt);
         }
     }
 }
@@ -44,9 +44,9 @@ fn note(companions: &mut [Option<Pt>; 256], codec: Codec, pt: Pt, values: &[Form
 /// Notes the type for each type that its fmtp line names, where it is one of the codec's, which is RTX (RFC 4588, section 8.1)
 /// or RED (RFC 2198, section 5).
 pub(crate) fn note_line(
-    companions: &mut [Option<Pt>; 256],
+    companions: &mut [Option<Pt>; TYPES],
     codec: Codec,
-    of_codec: &[bool; 256],
+    of_codec: &[bool; TYPES],
     pt: Pt,
     values: &[FormatParam],
 )
@@ -54,7 +54,7 @@ pub(crate) fn note_line(
         ≡ (if get_or of_codec.now pt false && list_any (names codec n) values.now then Some pt else get_or companions.old n None) }
     ensures whole { length companions.new ≡ length companions.old }
 {
-    if of_codec[row(pt)] {
+    if of_codec[place(pt)] {
         note(companions, codec, pt, values);
     }
 }

@@ -1,19 +1,19 @@
 //! Which sections are consistent.
-ghost use Rattle.std.specs.Prelude.{◌≡◌, ◌<◌, ◌↔◌, IfOk, IsSome, Ok, None, Some, count_by, filter_map, is_some, option_map};
+ghost use Rattle.std.specs.Prelude.{◌≡◌, ◌<◌, ◌↔◌, IfOk, IsSome, Ok, None, Some, count_by, filter_map, option_map};
 ghost use Rattle.std.specs.String.{string_bytes};
 ghost use Rattle.str0m_sdp.specs.Consistency.{is_mid, mid_of, is_setup, is_direction, is_counted, Consistent, NoneIff};
 ghost use Rattle.str0m_sdp.specs.Fault.{err_if, only_mid, setup_fault, proto_fault, mapping_fault, map_fault};
 ghost use Rattle.str0m_sdp.specs.Fault.{value_fault, values_fault, apt_fault, first_fault, section_message};
 ghost use Rattle.str0m_sdp.specs.Lists.{first};
-ghost use Rattle.str0m_sdp.specs.Mappings.{static_spec};
 
 use crate::attribute::MediaAttribute;
 use crate::fault::{Clash, Fault, Message};
+use crate::mappings::static_spec;
 use crate::media_line::MediaLine;
 use crate::proto::Proto;
-use crate::type_tables::{apt_of, count_maps, first_apts, row};
+use crate::type_tables::{apt_of, count_maps, first_apts, place};
 use std::alloc::AllocError;
-use str0m_formats::{CodecSpec, FormatParam};
+use str0m_formats::FormatParam;
 use str0m_values::{Mid, Pt};
 
 impl MediaAttribute {
@@ -96,12 +96,6 @@ fn count_directions(attrs: &[MediaAttribute]) -> usize
     count(attrs, Counted::Directions)
 }
 
-fn needs_no_mapping(pt: Pt) -> bool
-    ensures { result ≡ is_some (static_spec pt) }
-{
-    CodecSpec::from_static_pt(pt).is_some()
-}
-
 /// The first mid, where there is one.
 pub(crate) fn first_mid(attrs: &[MediaAttribute]) -> Option<Mid>
     ensures mid { result ≡ first (filter_map mid_of attrs.now) }
@@ -154,7 +148,7 @@ fn check_map(count: usize, pt: Pt, mid: Mid) -> Result<(), Fault>
     ensures { result ≡ err_if (mapping_fault count mid pt) }
 {
     match count {
-        0 => if needs_no_mapping(pt) {
+        0 => if static_spec(pt).is_some() {
             Ok(())
         } else {
             Err(Fault::MissingMap { mid, pt })
@@ -167,10 +161,14 @@ fn check_map(count: usize, pt: Pt, mid: Mid) -> Result<(), Fault>
 fn check_maps(attrs: &[MediaAttribute], pts: &[Pt], mid: Mid) -> Result<(), Fault>
     ensures { result ≡ err_if (first (filter_map (map_fault attrs.now mid) pts.now)) }
 {
+    // A section without types, as each of data channels, needs no table.
+    if pts.is_empty() {
+        return Ok(());
+    }
     let counts = count_maps(attrs);
     let mut left = pts;
     while let Some((pt, more)) = left.split_first() {
-        check_map(counts[row(*pt)], *pt, mid)?;
+        check_map(counts[place(*pt)], *pt, mid)?;
         left = more;
     }
     Ok(())
@@ -221,7 +219,7 @@ fn check_apts(attrs: &[MediaAttribute], mid: Mid) -> Result<(), Fault>
     let mut left = attrs;
     while let Some((attr, more)) = left.split_first() {
         if let MediaAttribute::Fmtp { pt, values } = attr {
-            check_apt(firsts[row(*pt)], values.as_slice(), *pt, mid)?;
+            check_apt(firsts[place(*pt)], values.as_slice(), *pt, mid)?;
         }
         left = more;
     }
@@ -263,7 +261,7 @@ impl MediaLine {
             Err(fault) => {
                 let section = self;
                 let message = Message { fault, section };
-                let alloc = *self.attrs.0.allocator();
+                let alloc = *self.attrs.allocator();
                 Ok(Some(message.to_string(alloc)?))
             }
         }

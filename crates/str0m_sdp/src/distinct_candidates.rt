@@ -49,7 +49,7 @@ impl Sdp {
         ensures distinct { IfOk result (λ candidates. distinct_left candidates ≡ distinct same_candidate (all_candidates self.now)) }
         ensures once { IfOk result (λ candidates. IsEachOnce (all_candidates self.now) (distinct_left candidates)) }
     {
-        let mut seen = IndexSet::new(*self.media_lines.0.allocator());
+        let mut seen = IndexSet::new(*self.media_lines.allocator());
         add_all(&mut seen, self.session.ice_candidates())?;
         for line in self.media_lines.as_slice() {
             add_all(&mut seen, line.ice_candidates())?;

@@ -1,7 +1,7 @@
 //! The feedback that a section speaks of, by payload type.
 ghost use Rattle.std.specs.Prelude.{◌≡◌, ◌<◌, get_or, set};
 
-use crate::type_tables::row;
+use crate::type_tables::{TYPES, place};
 use str0m_formats::PayloadParams;
 use str0m_values::Pt;
 
@@ -76,10 +76,10 @@ impl Feedback {
 ghost use Rattle.str0m_sdp.specs.Feedback.{none, named, either};
 
 /// Adds what the value of an rtcp-fb line names to the feedback of its payload type.
-pub(crate) fn note_feedback(table: &mut [Feedback; 256], pt: Pt, value: &str)
+pub(crate) fn note_feedback(table: &mut [Feedback; TYPES], pt: Pt, value: &str)
     ensures noted { table.new ≡ set table.old pt (either (get_or table.old pt none) (named value.now)) }
     ensures within { pt < 256 }
 {
-    let row = row(pt);
-    table[row] = table[row].or(Feedback::named(value));
+    let place = place(pt);
+    table[place] = table[place].or(Feedback::named(value));
 }

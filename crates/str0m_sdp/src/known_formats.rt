@@ -1,4 +1,4 @@
-//! What the fmtp lines of a payload type say of a codec, made once where the section has many lines.
+//! What the fmtp lines of a payload type say of a codec, made once where the section says much in them.
 ghost use Rattle.std.specs.Prelude.{◌≡◌, All, IfOk, IfSome, List};
 ghost use Rattle.str0m_formats.specs.FormatLine.{format_of_fmtp, line_values};
 ghost use Rattle.str0m_sdp.specs.FmtpLines.{lines_with};
@@ -11,8 +11,21 @@ use std::alloc::AllocError;
 use str0m_formats::{Codec, FormatParam, FormatParams};
 use str0m_values::Pt;
 
-/// As many lines as are gone over for each type anew: that takes no longer than to look up what is known.
-const FEW: usize = 64;
+/// As many lines and values, together, as are gone over for each type anew: that takes no longer than to look up what is known.
+const FEW: usize = 128;
+
+/// Whether the lines, with their values, are so few. Where they aren't, and one type is mapped time after time, all of them would be
+/// gone over as often.
+pub(crate) fn are_few(lines: &[(u8, &[FormatParam])]) -> bool {
+    let mut left = FEW;
+    for (_, values) in lines {
+        match left.checked_sub(1 + values.len()) {
+            Some(fewer) => left = fewer,
+            None => return false,
+        }
+    }
+    true
+}
 
 /// What the fmtp lines of a type say of a codec; none where they are refused.
 #[derive(Clone, Copy)]
@@ -66,12 +79,13 @@ fn learnt<'a>(
     Ok(format)
 }
 
-/// What the fmtp lines of the type say of the codec, where these are the lines of the section. Where those are many, it is
+/// What the fmtp lines of the type say of the codec, where these are the lines of the section. Where they aren't few, it is
 /// looked up among what is known, and joins it. What was found before makes room for what is found now.
 pub(crate) fn format_of<'a>(
     known: &mut Vec<KnownFormat>,
     found: &mut Vec<&'a [FormatParam]>,
     lines: &[(u8, &'a [FormatParam])],
+    are_few: bool,
     pt: Pt,
     codec: Codec,
 ) -> Result<Option<FormatParams>, AllocError>
@@ -80,7 +94,7 @@ pub(crate) fn format_of<'a>(
     ensures known { (attrs : List MediaAttribute) → All (IsKnown attrs) known.old.items → line_values (lines_with pt lines.now) ≡ lines_of attrs pt →
         All (IsKnown attrs) known.new.items }
 {
-    if lines.len() <= FEW {
+    if are_few {
         return format_said(found, lines, pt, codec);
     }
     match known_format(known.as_slice(), pt, codec) {

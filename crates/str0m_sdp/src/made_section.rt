@@ -97,8 +97,8 @@ fn copied_bandwidth(bw: &Option<Bandwidth>) -> Result<Option<Bandwidth>, AllocEr
 pub fn section_of(frame: &MediaLine, rows: &[PayloadParams]) -> Result<MediaLine, AllocError>
     ensures { IfOk result (λ section. section ≡ made frame.now rows.now) }
 {
-    let pts = row_types(*frame.pts.0.allocator(), rows)?;
-    let own = kept(*frame.attrs.0.allocator(), frame.attrs.as_slice())?;
+    let pts = row_types(*frame.pts.allocator(), rows)?;
+    let own = kept(*frame.attrs.allocator(), frame.attrs.as_slice())?;
     let attrs = with_rows(own, rows)?;
     Ok(MediaLine {
         typ: frame.typ.clone()?,

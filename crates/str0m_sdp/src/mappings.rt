@@ -5,13 +5,10 @@ ghost use Rattle.str0m_sdp.specs.Mappings.{mapping, static_spec, static_row, map
 
 use crate::attribute::MediaAttribute;
 use crate::media_line::MediaLine;
-use crate::type_tables::row;
+use crate::type_tables::{TYPES, place};
 use std::alloc::{AllocError, Global};
 use str0m_formats::{Codec, CodecSpec};
 use str0m_values::Pt;
-
-/// As many types as there are.
-const TYPES: usize = 256;
 
 /// The types of rtpmap lines with their codecs, in order. There is room for as many as are likely.
 fn mappings(
@@ -32,33 +29,33 @@ fn mappings(
 }
 
 /// The codec that a type stands for without an rtpmap line.
-fn static_spec(pt: Pt) -> Option<CodecSpec>
+pub(crate) fn static_spec(pt: Pt) -> Option<CodecSpec>
     ensures { result ≡ static_spec pt }
 {
     CodecSpec::from_static_pt(pt)
 }
 
 /// Which types are mapped.
-fn mapped_types(mapped: &[(Pt, CodecSpec)]) -> [bool; 256]
+fn mapped_types(mapped: &[(Pt, CodecSpec)]) -> [bool; TYPES]
     ensures rows { (pt : ℕ) → pt < 256 → get_or result pt false ≡ list_any (λ row. row.0 == pt) mapped.now }
     ensures whole { length result ≡ 256 }
 {
-    let mut types = [false; 256];
+    let mut types = [false; TYPES];
     for (pt, _) in mapped {
-        types[row(*pt)] = true;
+        types[place(*pt)] = true;
     }
     types
 }
 
 /// Which types stand for the codec.
-pub(crate) fn types_of(mapped: &[(Pt, CodecSpec)], codec: Codec) -> [bool; 256]
+pub(crate) fn types_of(mapped: &[(Pt, CodecSpec)], codec: Codec) -> [bool; TYPES]
     ensures rows { (pt : ℕ) → pt < 256 → get_or result pt false ≡ is_mapped_to codec mapped.now pt }
     ensures whole { length result ≡ 256 }
 {
-    let mut types = [false; 256];
+    let mut types = [false; TYPES];
     for (pt, spec) in mapped {
         if spec.codec == codec {
-            types[row(*pt)] = true;
+            types[place(*pt)] = true;
         }
     }
     types
@@ -86,9 +83,9 @@ impl MediaLine {
         let mut mapped = mappings(*self.attrs.allocator(), attrs, self.pts.len().min(TYPES))?;
         let mut seen = mapped_types(mapped.as_slice());
         for pt in self.pts.as_slice() {
-            let row = row(*pt);
-            if !seen[row] {
-                seen[row] = true;
+            let place = place(*pt);
+            if !seen[place] {
+                seen[place] = true;
                 push_static(&mut mapped, *pt)?;
             }
         }

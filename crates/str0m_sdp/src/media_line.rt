@@ -1,14 +1,16 @@
 //! The sections of a session description.
-ghost use Rattle.std.specs.Prelude.{◌≡◌, IfOk, Some, refl};
+ghost use Rattle.std.specs.Prelude.{◌≡◌, [], IfOk, None, Some, false, refl};
 ghost use Rattle.std.specs.String.{string_bytes};
 ghost use Rattle.str0m_sdp.specs.MediaLine.{formats_text, m_line, media_line_text, port_text, pts_text};
+ghost use Rattle.str0m_sdp.specs.declared.media_type.MediaType.TheVariants.{Audio};
+ghost use Rattle.str0m_sdp.specs.declared.proto.Proto.TheVariants.{Srtp};
 
 use crate::attribute::MediaAttribute;
 use crate::bandwidth::{Bandwidth, BandwidthLine};
 use crate::media_type::MediaType;
 use crate::printed::{Each, Printed, spaced};
 use crate::proto::Proto;
-use std::alloc::AllocError;
+use std::alloc::{AllocError, Global};
 use std::fmt;
 use str0m_values::{Items, Pt};
 
@@ -31,6 +33,21 @@ pub struct MediaLine {
 }
 
 impl MediaLine {
+    /// An audio section over RTP that isn't disabled, without types, bandwidth and attributes. Takes
+    /// no memory.
+    pub fn new(alloc: Global) -> MediaLine
+        ensures { result ≡ record { typ = Audio; disabled = false; proto = Srtp; pts = []; bw = None; attrs = [] } }
+    {
+        MediaLine {
+            typ: MediaType::default(),
+            disabled: false,
+            proto: Proto::default(),
+            pts: Items::empty(alloc),
+            bw: None,
+            attrs: Items::empty(alloc),
+        }
+    }
+
     /// A copy that equals its source; the only error is that memory was refused.
     pub fn clone(&self) -> Result<MediaLine, AllocError>
         ensures { IfOk result (λ line. line ≡ self.now) }
@@ -43,7 +60,7 @@ impl MediaLine {
         ensures { IfOk result (λ text. string_bytes text ≡ m_line self.now) }
     {
         let head = HeadLine(self);
-        head.to_string(*self.attrs.0.allocator())
+        head.to_string(*self.attrs.allocator())
     }
 }
 

@@ -6,7 +6,7 @@ ghost use Rattle.str0m_values.specs.Fingerprint.{fingerprint_text};
 ghost use Rattle.str0m_sdp.specs.Lines.{labelled_line};
 
 use std::fmt;
-use str0m_values::{Fingerprint, Mid, Pt, Text};
+use str0m_values::{Fingerprint, Mid, Pt, Ssrc, Text};
 
 /// What prints one text, whatever writes it: `text` says which.
 pub(crate) trait Printed: fmt::Display {
@@ -16,6 +16,12 @@ pub(crate) trait Printed: fmt::Display {
 }
 
 impl Printed for Pt {
+    ghost text = { decimal };
+
+    ghost prints = { λ _. refl };
+}
+
+impl Printed for Ssrc {
     ghost text = { decimal };
 
     ghost prints = { λ _. refl };
@@ -99,7 +105,8 @@ impl<'a, T: Printed> fmt::Display for Led<'a, T> {
     fn fmt<W: fmt::Write>(&self, f: &mut fmt::Formatter<W>) -> fmt::Result {
         let lead = self.lead;
         for item in self.items {
-            write!(f, "{lead}{item}")?;
+            f.write_str(lead)?;
+            item.fmt(f)?;
         }
         Ok(())
     }

@@ -1,5 +1,5 @@
 //! What a section says.
-ghost use Rattle.std.specs.Prelude.{◌≡◌, ◌+◌, ◌<◌, ◌↔◌, [], IfOk, IsTrue, None, Some, count_by, false, filter_map, map};
+ghost use Rattle.std.specs.Prelude.{◌≡◌, ◌+◌, ◌<◌, ◌↔◌, IfOk, IsTrue, Some, count_by, filter_map, map};
 ghost use Rattle.std.specs.List.{AllZip, list_any};
 ghost use Rattle.std.specs.Option.{option_copied, option_map};
 ghost use Rattle.str0m_sdp.specs.Consistency.{is_mid, mid_of};
@@ -7,21 +7,17 @@ ghost use Rattle.str0m_sdp.specs.Lists.{first, last};
 ghost use Rattle.str0m_sdp.specs.PreferredFingerprint.{IsPreferred};
 ghost use Rattle.str0m_sdp.specs.SectionAccessors.{IsRidOf, ext_map_at, ext_map_of, max_message_size_of, msid_of, rid_name_of, sctp_init_of, simulcast_of};
 ghost use Rattle.str0m_sdp.specs.Transport.{media_creds, media_ends, media_fingerprint, media_setup};
-ghost use Rattle.str0m_sdp.specs.declared.media_type.MediaType.TheVariants.{Audio};
-ghost use Rattle.str0m_sdp.specs.declared.proto.Proto.TheVariants.{Srtp};
 
 use crate::attribute::MediaAttribute;
 use crate::consistency::first_mid;
 use crate::media_line::MediaLine;
-use crate::media_type::MediaType;
 use crate::msid::Msid;
 use crate::preferred_fingerprint::{copied_fingerprint, preferred};
-use crate::proto::Proto;
 use crate::setup::Setup;
 use crate::simulcast::Simulcast;
 use crate::transport::{copied_creds, ends, first_creds, first_setup};
-use std::alloc::{AllocError, Global};
-use str0m_values::{Extension, Fingerprint, IceCreds, Items, Mid, Rid};
+use std::alloc::AllocError;
+use str0m_values::{Extension, Fingerprint, IceCreds, Mid, Rid};
 
 impl MediaAttribute {
     fn as_sctp_init(&self) -> Option<&str>
@@ -80,21 +76,6 @@ impl MediaAttribute {
 }
 
 impl MediaLine {
-    /// An audio section over RTP that isn't disabled, without types, bandwidth and attributes. Takes
-    /// no memory.
-    pub fn new(alloc: Global) -> MediaLine
-        ensures { result ≡ record { typ = Audio; disabled = false; proto = Srtp; pts = []; bw = None; attrs = [] } }
-    {
-        MediaLine {
-            typ: MediaType::default(),
-            disabled: false,
-            proto: Proto::default(),
-            pts: Items::empty(alloc),
-            bw: None,
-            attrs: Items::empty(alloc),
-        }
-    }
-
     /// Whether an attribute names the section (RFC 5888, section 4).
     pub fn has_mid(&self) -> bool
         ensures { IsTrue result ↔ (0 < count_by is_mid self.now.attrs) }
@@ -193,7 +174,7 @@ impl MediaLine {
     pub fn extmaps(&self) -> Result<Vec<(u8, &Extension)>, AllocError>
         ensures { IfOk result (λ maps. map ext_map_at maps.items ≡ filter_map ext_map_of self.now.attrs) }
     {
-        let mut maps = Vec::new(*self.attrs.0.allocator());
+        let mut maps = Vec::new(*self.attrs.allocator());
         for attr in self.attrs.as_slice() {
             if let Some(lent) = attr.as_ext_map() {
                 maps.push(lent)?;
@@ -208,7 +189,7 @@ impl MediaLine {
     pub fn rids(&self) -> Result<Vec<Rid>, AllocError>
         ensures { IfOk result (λ rids. AllZip IsRidOf (filter_map rid_name_of self.now.attrs) rids.items) }
     {
-        let mut rids = Vec::new(*self.attrs.0.allocator());
+        let mut rids = Vec::new(*self.attrs.allocator());
         for attr in self.attrs.as_slice() {
             if let Some(name) = attr.as_rid_name() {
                 rids.push(Rid::from(name))?;

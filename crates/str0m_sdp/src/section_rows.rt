@@ -13,10 +13,10 @@ ghost use Rattle.str0m_sdp.specs.declared.media_line.MediaLine.{MediaLine};
 use crate::attribute::MediaAttribute;
 use crate::companions::note_line;
 use crate::feedback::{Feedback, note_feedback};
-use crate::known_formats::format_of;
+use crate::known_formats::{are_few, format_of};
 use crate::mappings::types_of;
 use crate::media_line::MediaLine;
-use crate::type_tables::{row, types_in};
+use crate::type_tables::{TYPES, place, types_in};
 use std::alloc::{AllocError, Global};
 use str0m_formats::{Codec, CodecSpec, FormatParam, FormatParams, PayloadParams};
 use str0m_values::Pt;
@@ -25,11 +25,11 @@ use str0m_values::Pt;
 #[derive(Drop)]
 struct TypeWords {
     /// Whether the type stands in the m-line.
-    in_m_line: [bool; 256],
+    in_m_line: [bool; TYPES],
     /// The types of retransmissions and of redundant audio.
-    rtx: [Option<Pt>; 256],
-    red: [Option<Pt>; 256],
-    feedback: [Feedback; 256],
+    rtx: [Option<Pt>; TYPES],
+    red: [Option<Pt>; TYPES],
+    feedback: [Feedback; TYPES],
 }
 
 impl TypeWords {
@@ -73,14 +73,14 @@ impl TypeWords {
         ensures row { result ≡ row_of self.now pt spec }
         ensures within { pt < 256 }
     {
-        let row = row(pt);
+        let place = place(pt);
         let red = if is_sound(spec.codec) {
-            self.red[row]
+            self.red[place]
         } else {
             None
         };
-        let params = PayloadParams::new(pt, self.rtx[row], spec).with_red(red);
-        self.feedback[row].switched_on(params)
+        let params = PayloadParams::new(pt, self.rtx[place], spec).with_red(red);
+        self.feedback[place].switched_on(params)
     }
 
     /// Whether the type has a row.
@@ -88,7 +88,7 @@ impl TypeWords {
         ensures { (m : MediaLine) → SayOf m self.now → result ≡ is_kept m (pt, spec) }
     {
         let codec = spec.codec;
-        is_sound(codec) || is_pictures(codec) || (is_events(codec) && self.in_m_line[row(pt)])
+        is_sound(codec) || is_pictures(codec) || (is_events(codec) && self.in_m_line[place(pt)])
     }
 
     /// One more row, where the type has one, by what its fmtp lines say of the codec.
@@ -144,18 +144,19 @@ impl MediaLine {
         let alloc = *self.attrs.allocator();
         let mut words = TypeWords {
             in_m_line: types_in(self.pts.as_slice()),
-            rtx: [None; 256],
-            red: [None; 256],
-            feedback: [Feedback::none(); 256],
+            rtx: [None; TYPES],
+            red: [None; TYPES],
+            feedback: [Feedback::none(); TYPES],
         };
         let lines = words.gather(alloc, self.attrs.as_slice(), types)?;
+        let are_few = are_few(lines.as_slice());
         let mut known = Vec::new(alloc);
         let mut found = Vec::new(alloc);
         let mut rows = Vec::with_capacity(alloc, types.len())?;
         for (pt, spec) in types {
             if words.is_kept(*pt, *spec) {
                 let lines = lines.as_slice();
-                let format = format_of(&mut known, &mut found, lines, *pt, spec.codec)?;
+                let format = format_of(&mut known, &mut found, lines, are_few, *pt, spec.codec)?;
                 words.push_row(&mut rows, format, *pt, *spec)?;
             }
         }

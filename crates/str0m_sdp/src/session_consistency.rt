@@ -179,7 +179,7 @@ impl Sdp {
         match check_session(self) {
             Ok(()) => Ok(()),
             Err(fault) => {
-                let alloc = *self.media_lines.0.allocator();
+                let alloc = *self.media_lines.allocator();
                 Err(SdpError::Inconsistent(fault.to_string(alloc)?))
             }
         }

@@ -1,17 +1,10 @@
 //! The lines of groups of sources.
-ghost use Rattle.std.specs.Prelude.{Some, refl};
-ghost use Rattle.std.specs.Fmt.{decimal};
+ghost use Rattle.std.specs.Prelude.{Some};
 ghost use Rattle.str0m_sdp.specs.SsrcGroup.{ssrc_group_text};
 
-use crate::printed::{Labelled, Pair, Printed, spaced};
+use crate::printed::{Labelled, Pair, spaced};
 use std::fmt;
 use str0m_values::{Ssrc, Text};
-
-impl Printed for Ssrc {
-    ghost text = { decimal };
-
-    ghost prints = { λ _. refl };
-}
 
 /// The `a=ssrc-group` line, with its end (RFC 5576, section 4.2); nothing without sources.
 #[derive(Drop)]

@@ -114,21 +114,7 @@ impl MediaAttribute {
     }
 }
 
-/// Takes what is said of a source so far, and leaves an empty entry in its place, which is the last
-/// one where there was none.
-fn take_info(infos: &mut IndexMap<Ssrc, SsrcInfo>, ssrc: Ssrc) -> Result<SsrcInfo, AllocError>
-    ensures info { IfOk result (λ info. info ≡ so_far infos.old.entries ssrc) }
-    ensures entries { OnOk result (infos.new.entries ≡ insert_entry nat_eq infos.old.entries ssrc (empty_info ssrc)) }
-{
-    let old = infos.insert(ssrc, SsrcInfo::empty(ssrc))?;
-    match old {
-        Some(info) => Ok(info),
-        None => Ok(SsrcInfo::empty(ssrc)),
-    }
-}
-
 /// Adds what the value of an `Ssrc` attribute says.
-#[tactic(auto, using(crate::proofs::SsrcLaws::insert_twice))]
 fn add_value(
     alloc: Global,
     infos: &mut IndexMap<Ssrc, SsrcInfo>,
@@ -138,14 +124,11 @@ fn add_value(
 ) -> Result<(), AllocError>
     ensures { OnOk result (infos.new.entries ≡ insert_entry nat_eq infos.old.entries ssrc (with_value name.now value.now (so_far infos.old.entries ssrc))) }
 {
-    let mut info = take_info(infos, ssrc)?;
-    info.set_value(alloc, name, value)?;
-    infos.insert(ssrc, info)?;
-    Ok(())
+    let info = infos.entry(ssrc)?.or_insert(SsrcInfo::empty(ssrc));
+    info.set_value(alloc, name, value)
 }
 
 /// Adds that a source repairs another one.
-#[tactic(auto, using(crate::proofs::SsrcLaws::insert_twice))]
 fn add_repair(
     infos: &mut IndexMap<Ssrc, SsrcInfo>,
     repaired: Ssrc,
@@ -153,9 +136,10 @@ fn add_repair(
 ) -> Result<(), AllocError>
     ensures { OnOk result (infos.new.entries ≡ insert_entry nat_eq infos.old.entries repairing (record (so_far infos.old.entries repairing) { repairs = Some repaired })) }
 {
-    let mut info = take_info(infos, repairing)?;
+    let info = infos
+        .entry(repairing)?
+        .or_insert(SsrcInfo::empty(repairing));
     info.repairs = Some(repaired);
-    infos.insert(repairing, info)?;
     Ok(())
 }
 
@@ -208,7 +192,7 @@ impl MediaLine {
     pub fn ssrc_info(&self) -> Result<Vec<SsrcInfo>, AllocError>
         ensures { IfOk result (λ list. list.items ≡ infos self.now.attrs) }
     {
-        let alloc = *self.attrs.0.allocator();
+        let alloc = *self.attrs.allocator();
         let mut infos = self.gather_values(alloc)?;
         self.add_repairs(&mut infos)?;
         values(alloc, infos)

@@ -7,8 +7,11 @@ use crate::attribute::MediaAttribute;
 use str0m_formats::FormatParam;
 use str0m_values::Pt;
 
-/// The row of a payload type in a table of all.
-pub(crate) fn row(pt: Pt) -> usize
+/// As many payload types as have a place in a table: eight bits hold their numbers.
+pub(crate) const TYPES: usize = 256;
+
+/// The place of a payload type in a table of all.
+pub(crate) fn place(pt: Pt) -> usize
     ensures is { result ≡ pt }
     ensures within { result < 256 }
 {
@@ -16,24 +19,24 @@ pub(crate) fn row(pt: Pt) -> usize
 }
 
 /// Which payload types stand in the list.
-pub(crate) fn types_in(pts: &[Pt]) -> [bool; 256]
+pub(crate) fn types_in(pts: &[Pt]) -> [bool; TYPES]
     ensures { (pt : ℕ) → pt < 256 → get_or result pt false ≡ list_any (λ n. n == pt) pts.now }
 {
-    let mut types = [false; 256];
+    let mut types = [false; TYPES];
     for pt in pts {
-        types[row(*pt)] = true;
+        types[place(*pt)] = true;
     }
     types
 }
 
 /// How many mappings each payload type has (RFC 8866, section 6.6).
-pub(crate) fn count_maps(attrs: &[MediaAttribute]) -> [usize; 256]
+pub(crate) fn count_maps(attrs: &[MediaAttribute]) -> [usize; TYPES]
     ensures { (pt : ℕ) → pt < 256 → get_or result pt 0 ≡ count_by (maps pt) attrs.now }
 {
-    let mut counts = [0; 256];
+    let mut counts = [0; TYPES];
     for attr in attrs {
         if let MediaAttribute::RtpMap { pt, .. } = attr {
-            counts[row(*pt)] += 1;
+            counts[place(*pt)] += 1;
         }
     }
     counts
@@ -64,16 +67,16 @@ fn apt_among(values: &[FormatParam]) -> Option<Pt>
 }
 
 /// The first primary type that fmtp lines name for each payload type.
-pub(crate) fn first_apts(attrs: &[MediaAttribute]) -> [Option<Pt>; 256]
+pub(crate) fn first_apts(attrs: &[MediaAttribute]) -> [Option<Pt>; TYPES]
     ensures rows { (pt : ℕ) → pt < 256 → get_or result pt None ≡ first_apt pt attrs.now }
     ensures whole { length result ≡ 256 }
 {
-    let mut firsts = [None; 256];
+    let mut firsts = [None; TYPES];
     for attr in attrs {
         if let MediaAttribute::Fmtp { pt, values } = attr {
-            let row = row(*pt);
-            if firsts[row].is_none() {
-                firsts[row] = apt_among(values.as_slice());
+            let place = place(*pt);
+            if firsts[place].is_none() {
+                firsts[place] = apt_among(values.as_slice());
             }
         }
     }

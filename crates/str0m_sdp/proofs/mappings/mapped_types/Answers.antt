@@ -12,8 +12,8 @@ loop-pt-preserved c =
     let rows = c.args.mapped.now in
     let i = c.loop-pt.pt-index in
     let item = c.loop-pt-item.result in
-    let row = rw (← c.loop-pt.invariant.0, c.row.ensures.is) at c.row.ensures.within in
-    rw c.row.ensures.is (
+    let row = rw (← c.loop-pt.invariant.0, c.place.ensures.is) at c.place.ensures.within in
+    rw c.place.ensures.is (
       length-set c.loop-pt.types item.0 _ ∙ c.loop-pt.invariant.0,
       λ pt lt. marked c.loop-pt.types item.0 pt (list_any (λ m. m.0 == pt) (take i rows)) row (c.loop-pt.invariant.1 pt lt)
           ∙ sym (any_more (λ m. m.0 == pt) rows i item c.loop-pt-test.true c.loop-pt-item.is),

@@ -18,8 +18,8 @@ loop-pt-preserved c =
     let passes = is_of c.args.codec in
     elim c.if-eq.branch [
       | then-eq w ↦
-          let row = rw (← c.loop-pt.invariant.0, w.row.ensures.is) at w.row.ensures.within in
-          rw (w.types-is, w.row.ensures.is) (
+          let row = rw (← c.loop-pt.invariant.0, w.place.ensures.is) at w.place.ensures.within in
+          rw (w.types-is, w.place.ensures.is) (
             length-set c.loop-pt.types item.0 _ ∙ c.loop-pt.invariant.0,
             λ pt lt. marked c.loop-pt.types item.0 pt (list_any (passes pt) (take i rows)) row (c.loop-pt.invariant.1 pt lt)
                 ∙ sym (any_more (passes pt) rows i item c.loop-pt-test.true c.loop-pt-item.is

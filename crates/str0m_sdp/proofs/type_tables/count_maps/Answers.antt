@@ -13,9 +13,9 @@ loop-attr-preserved c =
     let i = c.loop-attr.attr-index in
     elim c.match-attr.branch [
       | in-RtpMap w ↦
-          let n = w.row.result in
-          let row = rw (← c.loop-attr.invariant.0) at w.row.ensures.within in
-          let variant = rw (← w.row.ensures.is) at w.in-RtpMap.is in
+          let n = w.place.result in
+          let row = rw (← c.loop-attr.invariant.0) at w.place.ensures.within in
+          let variant = rw (← w.place.ensures.is) at w.in-RtpMap.is in
           rw w.counts-is (
             length-set c.loop-attr.counts n _ ∙ c.loop-attr.invariant.0,
             λ pt lt. count_more attrs c.loop-attr.counts i n w.in-RtpMap.value c.attr-item.result c.loop-attr-test.true row c.attr-item.is variant pt (c.loop-attr.invariant.1 pt lt),

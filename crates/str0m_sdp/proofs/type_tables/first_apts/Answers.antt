@@ -4,7 +4,7 @@ use Rattle.str0m_sdp.proofs.TypeTableLaws.{first_other, first_kept, first_named}
 use Rattle.str0m_sdp.proofs.type_tables.first_apts.Goals.{in-Fmtp+then-is_none, in-Fmtp+else-is_none, in_default}
 use Rattle.str0m_sdp.proofs.type_tables.first_apts.Goals as goal
 
--- the row that is read, by any default
+-- the place that is read, by any default
 read : (firsts : List (Option ℕ)) (n : ℕ) (found : Option ℕ) → n < length firsts → found ≡ get_or firsts n found → is_some (get_or firsts n None) ≡ is_some (get_or firsts n found)
 read firsts n found row is = ap (λ (o : Option ℕ). is_some o) (sym (get_or_read firsts n found row is None) ∙ is)
 
@@ -18,19 +18,19 @@ loop-attr-preserved c =
     let i = c.loop-attr.attr-index in
     elim c.match-attr.branch [
       | in-Fmtp+then-is_none w ↦
-          let n = w.row-row.result in
-          let row = rw (← c.loop-attr.invariant.0) at w.row-row.ensures.within in
-          let variant = rw (← w.row-row.ensures.is, ← w.as_slice.ensures) at w.in-Fmtp.is in
-          let empty = read firsts n w.index-firsts-row.result row w.index-firsts-row.is ∙ w.is_none.ensures ∙ ap not w.if-is_none.true in
+          let n = w.place-place.result in
+          let row = rw (← c.loop-attr.invariant.0) at w.place-place.ensures.within in
+          let variant = rw (← w.place-place.ensures.is, ← w.as_slice.ensures) at w.in-Fmtp.is in
+          let empty = read firsts n w.index-firsts-place.result row w.index-firsts-place.is ∙ w.is_none.ensures ∙ ap not w.if-is_none.true in
           rw (w.firsts-is, w.apt_among.ensures) (
             length-set firsts n _ ∙ c.loop-attr.invariant.0,
             λ pt lt. first_named attrs firsts i n w.as_slice.result.now c.attr-item.result c.loop-attr-test.true row c.attr-item.is variant empty pt (c.loop-attr.invariant.1 pt lt),
           )
       | in-Fmtp+else-is_none w ↦
-          let n = w.row-row.result in
-          let row = rw (← c.loop-attr.invariant.0) at w.row-row.ensures.within in
-          let variant = rw (← w.row-row.ensures.is) at w.in-Fmtp.is in
-          let full = read firsts n w.index-firsts-row.result row w.index-firsts-row.is ∙ w.is_none.ensures ∙ ap not w.if-is_none.false in
+          let n = w.place-place.result in
+          let row = rw (← c.loop-attr.invariant.0) at w.place-place.ensures.within in
+          let variant = rw (← w.place-place.ensures.is) at w.in-Fmtp.is in
+          let full = read firsts n w.index-firsts-place.result row w.index-firsts-place.is ∙ w.is_none.ensures ∙ ap not w.if-is_none.false in
           rw w.firsts-is (
             c.loop-attr.invariant.0,
             λ pt lt. first_kept attrs firsts i n w.in-Fmtp.values c.attr-item.result c.loop-attr-test.true c.attr-item.is variant full pt (c.loop-attr.invariant.1 pt lt),

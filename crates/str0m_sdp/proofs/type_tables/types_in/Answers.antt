@@ -12,8 +12,8 @@ loop-pt-preserved c =
     let pts = c.args.pts.now in
     let i = c.loop-pt.pt-index in
     let n = c.pt-item.result in
-    let row = rw (← c.loop-pt.invariant.0, c.row.ensures.is) at c.row.ensures.within in
-    rw c.row.ensures.is (
+    let row = rw (← c.loop-pt.invariant.0, c.place.ensures.is) at c.place.ensures.within in
+    rw c.place.ensures.is (
       length-set c.loop-pt.types n _ ∙ c.loop-pt.invariant.0,
       λ pt lt. marked c.loop-pt.types n pt (list_any (λ m. m == pt) (take i pts)) row (c.loop-pt.invariant.1 pt lt)
           ∙ sym (any_more (λ m. m == pt) pts i n c.loop-pt-test.true c.pt-item.is),

@@ -9,7 +9,7 @@ use Rattle.str0m_sdp.specs.Mappings.{mapping, unmapped, mapped, static_row}
 use Rattle.str0m_sdp.specs.declared.attribute.MediaAttribute.{MediaAttribute}
 use Rattle.str0m_sdp.proofs.TypeMarks.{or_false}
 use Rattle.str0m_sdp.proofs.MappingLaws.{any_mapped, statics_new, statics_seen, mark_new, mark_seen}
-use Rattle.str0m_sdp.proofs.media_line.MediaLine.mapped.Goals.{then-not-seen-row+in_ok-push_static, else-not-seen-row}
+use Rattle.str0m_sdp.proofs.media_line.MediaLine.mapped.Goals.{then-not-seen-place+in_ok-push_static, else-not-seen-place}
 use Rattle.str0m_sdp.proofs.media_line.MediaLine.mapped.Goals as goal
 
 pub loop-pt-init : goal.loop-pt-init
@@ -36,12 +36,12 @@ loop-pt-preserved c =
     let before = filter_map (unmapped attrs) (distinct nat_eq (take i pts)) in
     let lt = c.loop-pt-test.true in
     let is = c.pt-item.is in
-    let row = rw (c.row-row.ensures.is, ← c.loop-pt.invariant.whole) at c.row-row.ensures.within in
-    let so_far = c.loop-pt.invariant.seen pt (rw c.row-row.ensures.is at c.row-row.ensures.within) in
-    elim c.if-not-seen-row.branch [
-      | then-not-seen-row+in_ok-push_static w ↦
-          let new = rw c.row-row.ensures.is at w.if-not-seen-row.true in
-          rw (w.mapped-is, w.seen-is, c.row-row.ensures.is) (record {
+    let row = rw (c.place-place.ensures.is, ← c.loop-pt.invariant.whole) at c.place-place.ensures.within in
+    let so_far = c.loop-pt.invariant.seen pt (rw c.place-place.ensures.is at c.place-place.ensures.within) in
+    elim c.if-not-seen-place.branch [
+      | then-not-seen-place+in_ok-push_static w ↦
+          let new = rw c.place-place.ensures.is at w.if-not-seen-place.true in
+          rw (w.mapped-is, w.seen-is, c.place-place.ensures.is) (record {
             rows = w.in_ok-push_static.ensures
                 ∙ ap (λ (rows : List (ℕ × CodecSpec)). rows ++ option_to_list (static_row pt)) c.loop-pt.invariant.rows
                 ∙ append_assoc lines before (option_to_list (static_row pt))
@@ -49,8 +49,8 @@ loop-pt-preserved c =
             whole = length-set seen pt _ ∙ c.loop-pt.invariant.whole;
             seen = λ n small. mark_new seen pts i pt n (list_any (maps n) attrs) lt is row (c.loop-pt.invariant.seen n small);
           })
-      | else-not-seen-row w ↦
-          let old = rw c.row-row.ensures.is at w.if-not-seen-row.false in
+      | else-not-seen-place w ↦
+          let old = rw c.place-place.ensures.is at w.if-not-seen-place.false in
           rw (w.mapped-is, w.seen-is) (record {
             rows = c.loop-pt.invariant.rows
                 ∙ sym (ap (λ (rows : List (ℕ × CodecSpec)). lines ++ rows) (statics_seen attrs pts i pt lt is (sym so_far ∙ old)));
