@@ -1,14 +1,16 @@
 -- How the last of greatest score goes on by one row.
-use Rattle.std.proofs.Common.{◌≡◌, ℕ, ◌≤◌, ◌<◌, List, [], ◌∷◌, ◌++◌, Option, Some, None, IfSome, All, refl, sym, ap, ◌∙◌, subst, get_or, take, length, ◌+◌, arith}
+use Rattle.std.proofs.Common.{◌≡◌, ℕ, ◌≤◌, ◌<◌, Bool, true, false, List, [], ◌∷◌, ◌++◌, Option, Some, None, IfSome, All, refl, sym, ap, ◌∙◌, subst, get_or, take, length, ◌+◌, arith}
+use Rattle.std.specs.Prelude.{nat_lt, if◌then◌else◌}
+use Rattle.std.proofs.lemmas.Bool.{ltb-true, ltb-false}
 use Rattle.std.proofs.lemmas.List.Elements.{All-append, All-push, All-cons, All-nil, All-weaker}
 use Rattle.std.proofs.lemmas.List.{append_assoc, take_more}
 use Rattle.str0m_formats.specs.declared.payload_params.PayloadParams.{PayloadParams}
-use Rattle.str0m_formats.specs.Choices.{IsBest, IsChoice}
+use Rattle.str0m_formats.specs.Choices.{IsBest, better}
 
--- the choice so far, with its score; 0 where there is none
-abbrev pub IsChoiceAt : (PayloadParams → Option ℕ) → List PayloadParams → Option PayloadParams → ℕ → Type 0
-IsChoiceAt points rows None most = All (λ row. points row ≡ None) rows × (most ≡ 0)
-IsChoiceAt points rows (Some best) most = (it : IsBest points rows best) × (it.most ≡ most)
+-- the choice so far, with its score
+abbrev pub IsChoiceSoFar : (PayloadParams → Option ℕ) → List PayloadParams → Option (PayloadParams × ℕ) → Type 0
+IsChoiceSoFar points rows None = All (λ row. points row ≡ None) rows
+IsChoiceSoFar points rows (Some (best, most)) = (it : IsBest points rows best) × (it.most ≡ most)
 
 at_most_weaker : (o : Option ℕ) (m n : ℕ) → m ≤ n → IfSome o (λ k. k ≤ m) → IfSome o (λ k. k ≤ n)
 at_most_weaker None m n h p = tt
@@ -39,23 +41,31 @@ best_stays points rows best row it h = (
   refl,
 )
 
-pub choice_skips : (points : PayloadParams → Option ℕ) (rows : List PayloadParams) (best : Option PayloadParams) (most : ℕ) (row : PayloadParams) → points row ≡ None → IsChoiceAt points rows best most → IsChoiceAt points (rows ++ row ∷ []) best most
-choice_skips points rows None most row h c = (All-push (λ r. points r ≡ None) rows row c.0 h, c.1)
-choice_skips points rows (Some best) most row h c =
-    let new = best_stays points rows best row c.0 (none_passes (points row) (λ n. n < c.0.most) h) in (new.0, new.1 ∙ c.1)
+-- a row is the choice where no row before it has a greater score
+goes_last : (points : PayloadParams → Option ℕ) (rows : List PayloadParams) (n : ℕ) (row : PayloadParams) → points row ≡ Some n
+    → All (λ r. IfSome (points r) (λ k. k ≤ n)) rows → IsChoiceSoFar points (rows ++ row ∷ []) (Some (row, n))
+goes_last points rows n row h at_most = (
+  record {
+    before = rows;
+    after = [];
+    most = n;
+    split = refl;
+    has_most = h;
+    before_at_most = at_most;
+    after_below = All-nil (λ r. IfSome (points r) (λ k. k < n));
+  },
+  refl,
+)
 
-pub choice_keeps : (points : PayloadParams → Option ℕ) (rows : List PayloadParams) (best : Option PayloadParams) (most n : ℕ) (row : PayloadParams) → points row ≡ Some n → n < most → IsChoiceAt points rows best most → IsChoiceAt points (rows ++ row ∷ []) best most
-choice_keeps points rows None most n row h l c = absurd (omega arith)
-choice_keeps points rows (Some best) most n row h l c =
-    let new = best_stays points rows best row c.0 (some_passes (points row) (λ k. k < c.0.most) n h (omega (arith, c.1))) in (new.0, new.1 ∙ c.1)
+none_so_far : (points : PayloadParams → Option ℕ) (rows : List PayloadParams) (n : ℕ) → All (λ r. points r ≡ None) rows
+    → All (λ r. IfSome (points r) (λ k. k ≤ n)) rows
+none_so_far points rows n c =
+    All-weaker (λ r. points r ≡ None) (λ r. IfSome (points r) (λ k. k ≤ n)) (λ r e. none_passes (points r) (λ k. k ≤ n) e) rows c
 
 -- no row so far has a greater score
-at_most_so_far : (points : PayloadParams → Option ℕ) (rows : List PayloadParams) (best : Option PayloadParams) (most n : ℕ) → most ≤ n → IsChoiceAt points rows best most → All (λ r. IfSome (points r) (λ k. k ≤ n)) rows
-at_most_so_far points rows None most n l c =
-    All-weaker (λ r. points r ≡ None) (λ r. IfSome (points r) (λ k. k ≤ n)) (λ r e. none_passes (points r) (λ k. k ≤ n) e) rows c.0
-at_most_so_far points rows (Some best) most n l c =
-    let it = c.0 in
-    let m : it.most ≤ n = omega (arith, c.1) in
+at_most_so_far : (points : PayloadParams → Option ℕ) (rows : List PayloadParams) (best : PayloadParams) (n : ℕ) (it : IsBest points rows best)
+    → it.most ≤ n → All (λ r. IfSome (points r) (λ k. k ≤ n)) rows
+at_most_so_far points rows best n it m =
     let P : List PayloadParams → Type 0 = λ xs. All (λ r. IfSome (points r) (λ k. k ≤ n)) xs in
     subst P (sym it.split)
     (All-append (λ r. IfSome (points r) (λ k. k ≤ n)) it.before (best ∷ it.after)
@@ -63,27 +73,29 @@ at_most_so_far points rows (Some best) most n l c =
     (All-cons (λ r. IfSome (points r) (λ k. k ≤ n)) best it.after (some_passes (points best) (λ k. k ≤ n) it.most it.has_most m)
     (All-weaker (λ r. IfSome (points r) (λ k. k < it.most)) (λ r. IfSome (points r) (λ k. k ≤ n)) (λ r p. below_weaker (points r) it.most n m p) it.after it.after_below)))
 
-pub choice_takes : (points : PayloadParams → Option ℕ) (rows : List PayloadParams) (best : Option PayloadParams) (most n : ℕ) (row : PayloadParams) → points row ≡ Some n → most ≤ n → IsChoiceAt points rows best most → IsChoiceAt points (rows ++ row ∷ []) (Some row) n
-choice_takes points rows best most n row h l c = (
-  record {
-    before = rows;
-    after = [];
-    most = n;
-    split = refl;
-    has_most = h;
-    before_at_most = at_most_so_far points rows best most n l c;
-    after_below = All-nil (λ r. IfSome (points r) (λ k. k < n));
-  },
-  refl,
-)
-
-pub choice_of : (points : PayloadParams → Option ℕ) (rows : List PayloadParams) (best : Option PayloadParams) (most : ℕ) → IsChoiceAt points rows best most → IsChoice points rows best
-choice_of points rows None most c = c.0
-choice_of points rows (Some best) most c = c.0
+-- one row more
+choice_step : (points : PayloadParams → Option ℕ) (rows : List PayloadParams) (so_far : Option (PayloadParams × ℕ)) (row : PayloadParams) (o : Option ℕ) → points row ≡ o
+    → IsChoiceSoFar points rows so_far → IsChoiceSoFar points (rows ++ row ∷ []) (better so_far row o)
+choice_step points rows None row None e c = All-push (λ r. points r ≡ None) rows row c e
+choice_step points rows None row (Some n) e c = goes_last points rows n row e (none_so_far points rows n c)
+choice_step points rows (Some (best, most)) row None e c =
+    let new = best_stays points rows best row c.0 (none_passes (points row) (λ n. n < c.0.most) e) in (new.0, new.1 ∙ c.1)
+choice_step points rows (Some (best, most)) row (Some n) e c = go (nat_lt n most) refl where
+  go : (b : Bool) → nat_lt n most ≡ b → IsChoiceSoFar points (rows ++ row ∷ []) (if b then Some (best, most) else Some (row, n))
+  go true l =
+      let less : n < most = ltb-true n most l in
+      let new = best_stays points rows best row c.0 (some_passes (points row) (λ k. k < c.0.most) n e (omega (arith, c.1, less))) in
+      (new.0, new.1 ∙ c.1)
+  go false l =
+      let least : most ≤ n = ltb-false n most l in
+      goes_last points rows n row e (at_most_so_far points rows best n c.0 (omega (arith, c.1, least)))
 
 -- one row further in the list that is gone over
-pub choice_next : (points : PayloadParams → Option ℕ) (remote : List PayloadParams) (i : ℕ) (row : PayloadParams) (best new : Option PayloadParams) (most most' : ℕ) → i < length remote → row ≡ get_or remote i row → new ≡ best → most' ≡ most → IsChoiceAt points (take i remote ++ row ∷ []) best most → IsChoiceAt points (take (i + 1) remote) new most'
-choice_next points remote i row best new most most' h e b m c =
-    let s : take i remote ++ row ∷ [] ≡ take (i + 1) remote = sym (take_more remote i row h ∙ ap (λ r. take i remote ++ r ∷ []) (sym e)) in
-    let P : List PayloadParams → Type 0 = λ rows. IsChoiceAt points rows new most' in
-    subst P s (rw (b, m) c)
+pub choice_next : (points : PayloadParams → Option ℕ) (rows : List PayloadParams) (i : ℕ) (row : PayloadParams) (o : Option ℕ) (so_far new : Option (PayloadParams × ℕ))
+    → i < length rows → row ≡ get_or rows i row → points row ≡ o → new ≡ better so_far row o
+    → IsChoiceSoFar points (take i rows) so_far → IsChoiceSoFar points (take (i + 1) rows) new
+choice_next points rows i row o so_far new h e is n c =
+    let s : take i rows ++ row ∷ [] ≡ take (i + 1) rows = sym (take_more rows i row h ∙ ap (λ r. take i rows ++ r ∷ []) (sym e)) in
+    let P : List PayloadParams → Type 0 = λ rows. IsChoiceSoFar points rows new in
+    let Q : Option (PayloadParams × ℕ) → Type 0 = λ best. IsChoiceSoFar points (take i rows ++ row ∷ []) best in
+    subst P s (subst Q (sym n) (choice_step points (take i rows) so_far row o is c))

@@ -1,5 +1,5 @@
 -- Which row of a list is chosen, and which remote row a row is matched with.
-use Rattle.std.specs.Prelude.{◌≡◌, ◌==◌, ◌<◌, ◌≤◌, ℕ, Bool, true, false, ◌&&◌, not, Option, Some, None, List, [], ◌∷◌, ◌++◌, if◌then◌else◌, IfSome, All, find, option_map}
+use Rattle.std.specs.Prelude.{◌≡◌, ◌==◌, ◌<◌, ◌≤◌, ℕ, Bool, true, false, ◌&&◌, not, Option, Some, None, List, [], ◌∷◌, ◌++◌, if◌then◌else◌, IfSome, All, find, nat_lt, option_map}
 use Rattle.std.specs.Borrow.{Bor}
 use Rattle.str0m_formats.specs.Codec.{Content, content, events, is_amr_wb}
 use Rattle.str0m_formats.specs.declared.payload_params.PayloadParams.{PayloadParams}
@@ -21,6 +21,16 @@ pub record IsBest (points : PayloadParams → Option ℕ) (rows : List PayloadPa
 abbrev pub IsChoice : (PayloadParams → Option ℕ) → List PayloadParams → Option PayloadParams → Type 0
 IsChoice points rows (Some best) = IsBest points rows best
 IsChoice points rows None = All (λ row. points row ≡ None) rows
+
+-- the best row so far, with its score, as it is seen
+abbrev pub seen : Option (Bor PayloadParams × ℕ) → Option (PayloadParams × ℕ)
+seen so_far = option_map (λ it. (it.0.now, it.1)) so_far
+
+-- the best row so far, with its score, once one row more was seen: one of the same score takes its place
+abbrev pub better : Option (PayloadParams × ℕ) → PayloadParams → Option ℕ → Option (PayloadParams × ℕ)
+better so_far row None = so_far
+better None row (Some n) = Some (row, n)
+better (Some (best, most)) row (Some n) = if nat_lt n most then Some (best, most) else Some (row, n)
 
 -- the score of a row with another
 abbrev pub points_with : PayloadParams → PayloadParams → Option ℕ

@@ -3,7 +3,7 @@ ghost use Rattle.std.specs.Prelude.{◌≡◌, ◌==◌};
 ghost use Rattle.std.specs.List.{list_any};
 ghost use Rattle.std.specs.Option.{option_copied};
 ghost use Rattle.str0m_values.specs.Direction.{receives};
-ghost use Rattle.str0m_formats.specs.Choices.{IsChoice, IsMatchedType, points_with, is_event_row, highest_event, FirstAccepted};
+ghost use Rattle.str0m_formats.specs.Choices.{IsChoice, IsMatchedType, points_with, seen, better, is_event_row, highest_event, FirstAccepted};
 
 use crate::codec_config::CodecConfig;
 use crate::payload_params::PayloadParams;
@@ -15,6 +15,24 @@ fn is_event_row(row: &PayloadParams, pt: Pt) -> bool
     row.pt() == pt && row.spec().codec.is_tele()
 }
 
+/// The best row so far, with its score, once one row more was seen: a later row of the same score
+/// goes before an earlier one.
+pub(crate) fn better<'a>(
+    so_far: Option<(&'a PayloadParams, usize)>,
+    row: &'a PayloadParams,
+    score: Option<usize>,
+) -> Option<(&'a PayloadParams, usize)>
+    ensures { seen result ≡ better (seen so_far.entry) row.now score }
+{
+    match score {
+        None => so_far,
+        Some(points) => match so_far {
+            Some((best, most)) if points < most => Some((best, most)),
+            _ => Some((row, points)),
+        },
+    }
+}
+
 impl CodecConfig {
     /// The row that matches these parameters best: the last of those of greatest score. `None` where
     /// no row matches.
@@ -22,19 +40,13 @@ impl CodecConfig {
         ensures { IsChoice (points_with params) self.now.params.items (option_copied result) }
     {
         let mut best = None;
-        let mut most = 0;
         for row in self.params.as_slice() {
-            match row.match_score(&params) {
-                None => {}
-                Some(points) => {
-                    if points >= most {
-                        best = Some(row);
-                        most = points;
-                    }
-                }
-            }
+            best = better(best, row, row.match_score(&params));
         }
-        best
+        match best {
+            Some((row, _)) => Some(row),
+            None => None,
+        }
     }
 
     /// The payload type under which the media of a remote row are sent: the remote's own where the

@@ -7,6 +7,7 @@ ghost use Rattle.str0m_formats.specs.Choices.{points_for, IsChoice};
 ghost use Rattle.str0m_formats.specs.Rounds.{role_type, own_or_free, rtx_type, red_type, only_audio};
 ghost use Rattle.str0m_formats.specs.Codec.{content};
 
+use crate::choices::better;
 use crate::claimed::Claimed;
 use crate::codec::Codec;
 use crate::negotiation_error::NegotiationError;
@@ -51,20 +52,13 @@ impl<C: Claimed> Claims<C> {
         ensures { IsChoice (points_for (C.holds self.now.claimed) self.now.receives row.now) remote.now (option_copied result) }
     {
         let mut best = None;
-        let mut most = 0;
         for theirs in remote {
-            match self.points(row, theirs) {
-                None => {}
-                Some(points) => {
-                    // A later row of the same score goes before an earlier one.
-                    if points >= most {
-                        best = Some(theirs);
-                        most = points;
-                    }
-                }
-            }
+            best = better(best, theirs, self.points(row, theirs));
         }
-        best
+        match best {
+            Some((theirs, _)) => Some(theirs),
+            None => None,
+        }
     }
 
     /// Claims a type; false, and nothing is claimed, where it is taken.

@@ -1,10 +1,9 @@
 use Rattle.std.proofs.Common.{take}
-use Rattle.std.specs.Option.{option_copied}
-use Rattle.str0m_formats.specs.Choices.{points_for}
-use Rattle.str0m_formats.proofs.ChoiceSteps.{IsChoiceAt}
+use Rattle.str0m_formats.specs.Choices.{points_for, seen}
+use Rattle.str0m_formats.proofs.ChoiceSteps.{IsChoiceSoFar}
 use Rattle.str0m_formats.proofs.claims.Claims.choice.Given as goal
 
 -- the choice among the rows so far
 abbrev pub invariant-loop-theirs : goal.invariant-loop-theirs
 invariant-loop-theirs g l =
-    IsChoiceAt (points_for (g.C.Claimed.holds l.self.claimed) l.self.receives l.row) (take l.theirs-index l.remote) (option_copied l.best) l.most
+    IsChoiceSoFar (points_for (g.C.Claimed.holds l.self.claimed) l.self.receives l.row) (take l.theirs-index l.remote) (seen l.best)
