@@ -122,7 +122,7 @@ fn telephone(highest: Option<u8>) -> PayloadParams {
     row
 }
 
-/// Telephone events say their range, 0 to 16 where nothing else is said (RFC 4733, section 2.4.1).
+/// Telephone events say their range (RFC 4733, section 2.4.1), 0 to 16 where nothing else is said.
 const ANY: &str = "a=rtpmap:101 telephone-event/8000\r\na=fmtp:101 0-16\r\n";
 
 const SOME: &str = "a=rtpmap:101 telephone-event/8000\r\na=fmtp:101 0-15\r\n";

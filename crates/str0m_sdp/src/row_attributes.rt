@@ -1,14 +1,13 @@
 //! The attribute lines of a row.
 ghost use Rattle.std.specs.Prelude.{◌≡◌, ◌∷◌, ◌++◌, [], List, OnOk, OnErr, IfOk};
 ghost use Rattle.str0m_formats.specs.declared.format_param.FormatParam.{FormatParam};
-ghost use Rattle.str0m_formats.specs.Narrowing.{telephone_max};
 ghost use Rattle.str0m_sdp.specs.declared.attribute.MediaAttribute.{MediaAttribute};
 ghost use Rattle.str0m_sdp.specs.RowAttributes.{Begins, feedback_line, feedback_attrs, fmtp_line, format_values, format_attrs, rtx_lines, rtx_attrs, red_lines, red_attrs, row_attrs};
 
 use crate::attribute::MediaAttribute;
 use crate::rtp_map::RtpMap;
 use std::alloc::{AllocError, Global};
-use str0m_formats::{Codec, CodecSpec, FormatParam, FormatParams, PayloadParams};
+use str0m_formats::{Codec, CodecSpec, FormatParam, PayloadParams};
 use str0m_values::{Items, Pt, Text};
 
 /// What attribute lines of a section can describe.
@@ -89,15 +88,6 @@ fn append_feedback(list: &mut Vec<MediaAttribute>, row: &PayloadParams) -> Resul
     Ok(())
 }
 
-/// The highest event that a format of telephone events names.
-fn highest_event(format: FormatParams) -> u8
-    ensures { result ≡ telephone_max format }
-{
-    format
-        .telephone_event_max
-        .unwrap_or(FormatParams::DEFAULT_TELEPHONE_EVENT_MAX)
-}
-
 /// The values of a codec's fmtp line.
 fn format_values(alloc: Global, spec: CodecSpec) -> Result<Vec<FormatParam>, AllocError>
     ensures { IfOk result (λ values. values.items ≡ format_values spec.codec spec.format) }
@@ -105,7 +95,7 @@ fn format_values(alloc: Global, spec: CodecSpec) -> Result<Vec<FormatParam>, All
     match spec.codec {
         Codec::Tele => one_value(
             alloc,
-            FormatParam::TelephoneEvents(highest_event(spec.format)),
+            FormatParam::TelephoneEvents(spec.format.highest_event()),
         ),
         _ => spec.format.to_format_param(alloc),
     }
