@@ -1,5 +1,5 @@
 -- Parts with a character between them are read both ways, and one by one.
-use Rattle.std.proofs.Common.{◌≡◌, ◌⊎◌, ℕ, ◌<◌, true, false, eqb, List, [], ◌∷◌, ◌++◌, length, Option, Some, None, Result, Ok, IfOk, Bool, refl, sym, ap, subst, ◌∙◌, arith, inl, inr, append_assoc, length-append}
+use Rattle.std.proofs.Common.{◌≡◌, ◌⊎◌, ℕ, ◌<◌, true, false, eqb, List, [], ◌∷◌, ◌++◌, length, Option, Some, None, Result, Ok, IfOk, Bool, refl, sym, ap, subst, ◌∙◌, arith, inl, inr, append_assoc, length-append, Vec, Global}
 use Rattle.std.specs.Prelude.{option_map, is_some}
 use Rattle.std.specs.List.{slice_split, onto_first}
 use Rattle.std.proofs.lemmas.Bool.{ne_eqb, eq-eqb}
@@ -29,12 +29,16 @@ regroup front x (Some xs) = ap (λ t. Some t) (append_assoc front (x ∷ []) xs)
 pub cut_shorter : (c : ℕ) (text a b : List ℕ) → cut c text ≡ Some (a, b) → length b < length text
 cut_shorter c text a b e = let found = cut_found c text a b e in omega (arith, ap length found.0, length-append a (c ∷ b))
 
+-- the item stands behind the others
+abbrev PutsLast : {A : Type 0} → Vec A Global → A → Vec A Global → Type 0
+PutsLast old item new = new.items ≡ old.items ++ item ∷ []
+
 -- what was read is taken, where memory wasn't refused
-pub takes_read : {A E : Type 0} (answer : Result (Option A) E) (read : Option A) (old new : List A) (taken : Bool) → IfOk answer (λ found. found ≡ read)
-    → (found : Option A) × (answer ≡ Ok found) × Takes found old new taken → Takes read old new taken
+pub takes_read : {A E : Type 0} (answer : Result (Option A) E) (read : Option A) (old new : Vec A Global) (taken : Bool) → IfOk answer (λ found. found ≡ read)
+    → (found : Option A) × (answer ≡ Ok found) × Takes PutsLast found old new taken → Takes PutsLast read old new taken
 takes_read {A} {E} answer read old new taken ensures given =
     let same : given.0 ≡ read = subst (λ (a : Result (Option A) E). IfOk a (λ found. found ≡ read)) given.1 ensures in
-    subst (λ (o : Option A). Takes o old new taken) same given.2
+    subst (λ (o : Option A). Takes PutsLast o old new taken) same given.2
 
 module _ {A : Type 0} (c : ℕ) (f : List ℕ → Option A) where
   pub parted_at : (a b : List ℕ) → Lacks c a → parted_read c f (a ++ (c ∷ b)) ≡ (f a >>= λ x. parted_read c f b >>= λ xs. Some (x ∷ xs))

@@ -52,10 +52,10 @@ line_read f lines = plain_line lines >>= λ found. f found.0 >>= λ value. Some 
 abbrev pub IsRead : {A : Type 0} → (List ℕ → Option A) → List Line → A → List Line → Type 0
 IsRead f lines value rest = line_read f lines ≡ Some (value, rest)
 
--- what was found stands behind the others; or nothing was found, and nothing is added
-abbrev pub Takes : {A : Type 0} → Option A → List A → List A → Bool → Type 0
-Takes {A} found old new true = (value : A) × (found ≡ Some value) × (new ≡ old ++ value ∷ [])
-Takes found old new false = (found ≡ None) × (new ≡ old)
+-- what was found is put in its place; or nothing was found, and the place stays as it is
+abbrev pub Takes : {A P : Type 0} → (P → A → P → Type 0) → Option A → P → P → Bool → Type 0
+Takes {A} Puts found old new true = (value : A) × (found ≡ Some value) × Puts old value new
+Takes Puts found old new false = (found ≡ None) × (new ≡ old)
 
 -- what f reads of the first line stands behind the others, and this text is left; or f reads nothing, and nothing is added
 abbrev pub TakesLine : {A : Type 0} → (List ℕ → Option A) → List Line → List A → List A → Option (Bor (List ℕ)) → Type 0

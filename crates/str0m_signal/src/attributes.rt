@@ -1,6 +1,6 @@
 //! Attribute lines, and runs of them.
 
-ghost use Rattle.std.specs.Prelude.{◌≡◌, ℕ, List, Ok, Option, IfOk, option_map};
+ghost use Rattle.std.specs.Prelude.{◌≡◌, ◌∷◌, ◌++◌, [], ℕ, List, Ok, Option, Some, IfOk, option_map};
 ghost use Rattle.str0m_signal.specs.Answers.{Gives};
 ghost use Rattle.str0m_signal.specs.Chains.{Run};
 ghost use Rattle.str0m_signal.specs.LineReading.{lines_of, line_read, read_attribute, left, IsRead, Takes, TakesLine};
@@ -12,27 +12,61 @@ use str0m_sdp::SdpError;
 use str0m_values::Items;
 use str0m_values::cuts::strip;
 
+/// Where what is found goes.
+pub(crate) trait Place<A> {
+    /// What the place holds once an item was put there.
+    ghost Puts: { Self → A → Self → Type 0 };
+
+    fn put(&mut self, item: A) -> Result<(), AllocError>
+        ensures { IfOk result (λ _. Puts self.old item self.new) };
+}
+
+/// Behind the others of a list.
+impl<A: Drop> Place<A> for Vec<A> {
+    ghost Puts = { λ old item new. new.items ≡ old.items ++ item ∷ [] };
+
+    #[inline(always)]
+    fn put(&mut self, item: A) -> Result<(), AllocError> {
+        self.push(item)?;
+        Ok(())
+    }
+}
+
+/// Alone, for which no memory is asked.
+impl<A: Drop> Place<A> for Option<A> {
+    ghost Puts = { λ _ item new. new ≡ Some item };
+
+    #[inline(always)]
+    fn put(&mut self, item: A) -> Result<(), AllocError> {
+        *self = Some(item);
+        Ok(())
+    }
+}
+
 /// What a line of `a=` and a text may say: the attributes of sessions are one such table of forms,
 /// those of sections another.
 pub(crate) trait Attribute: Drop {
     /// Which attribute a text behind `a=` stands for.
     ghost reading: { List ℕ → Option Self };
 
-    /// Puts the attribute of the text behind `a=` behind the others, where it is one; whether it is.
-    fn take(alloc: Global, text: &str, attributes: &mut Vec<Self>) -> Result<bool, AllocError>
+    /// Puts the attribute of the text behind `a=` in its place, where it is one; whether it is.
+    fn take<P: Place<Self>>(alloc: Global, text: &str, place: &mut P) -> Result<bool, AllocError>
     where
         Self: Sized,
-        ensures { IfOk result (Takes (reading text.now) attributes.old.items attributes.new.items) };
+        ensures { IfOk result (Takes P.Puts (reading text.now) place.old place.new) };
 }
 
-/// Puts what was found behind the others; whether there was anything.
+/// Puts what was found in its place; whether there was anything.
 #[inline(always)]
-pub(crate) fn taken<A: Drop>(found: Option<A>, attributes: &mut Vec<A>) -> Result<bool, AllocError>
-    ensures { IfOk result (Takes found attributes.old.items attributes.new.items) }
+pub(crate) fn taken<A: Drop, P: Place<A>>(
+    found: Option<A>,
+    place: &mut P,
+) -> Result<bool, AllocError>
+    ensures { IfOk result (Takes P.Puts found place.old place.new) }
 {
     match found {
-        Some(attribute) => {
-            attributes.push(attribute)?;
+        Some(item) => {
+            place.put(item)?;
             Ok(true)
         }
         None => Ok(false),
@@ -41,39 +75,36 @@ pub(crate) fn taken<A: Drop>(found: Option<A>, attributes: &mut Vec<A>) -> Resul
 
 /// The same of what a form answers that asks for memory.
 #[inline(always)]
-pub(crate) fn taken_result<A: Drop>(
+pub(crate) fn taken_result<A: Drop, P: Place<A>>(
     answer: Result<Option<A>, AllocError>,
-    attributes: &mut Vec<A>,
+    place: &mut P,
 ) -> Result<bool, AllocError>
-    ensures { IfOk result (λ taken. (found : Option A) × (answer ≡ Ok found) × Takes found attributes.old.items attributes.new.items taken) }
+    ensures { IfOk result (λ taken. (found : Option A) × (answer ≡ Ok found) × Takes P.Puts found place.old place.new taken) }
 {
-    taken(answer?, attributes)
+    taken(answer?, place)
 }
 
-/// Puts the attribute of the line behind the others, where it is one; whether it is.
-fn take_content<A: Attribute>(
+/// Puts the attribute of the line in its place, where it is one; whether it is.
+fn take_content<A: Attribute, P: Place<A>>(
     alloc: Global,
     line: &str,
-    attributes: &mut Vec<A>,
+    place: &mut P,
 ) -> Result<bool, AllocError>
-    ensures { IfOk result (Takes (read_attribute A.reading line.now) attributes.old.items attributes.new.items) }
+    ensures { IfOk result (Takes P.Puts (read_attribute A.reading line.now) place.old place.new) }
 {
     match strip(line, "a=") {
-        Some(text) => A::take(alloc, text, attributes),
+        Some(text) => A::take(alloc, text, place),
         None => Ok(false),
     }
 }
 
-/// The attribute of the line.
+/// The attribute of the line. No list is made for it, which would take memory.
 pub(crate) fn line<A: Attribute>(alloc: Global, line: &str) -> Result<Option<A>, AllocError>
     ensures { IfOk result (λ found. found ≡ read_attribute A.reading line.now) }
 {
-    let mut attributes = Vec::new(alloc);
-    if take_content(alloc, line, &mut attributes)? {
-        Ok(attributes.pop())
-    } else {
-        Ok(None)
-    }
+    let mut found = None;
+    take_content(alloc, line, &mut found)?;
+    Ok(found)
 }
 
 /// The attribute of the first line, and what follows that line.

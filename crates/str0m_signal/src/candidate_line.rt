@@ -2,7 +2,7 @@
 
 ghost use Rattle.str0m_values.specs.CandidateReading.{candidate_read};
 
-use crate::attributes::{Attribute, taken};
+use crate::attributes::{Attribute, Place, taken};
 use std::alloc::{AllocError, Global};
 use str0m_values::Candidate;
 use str0m_values::candidate_text::candidate;
@@ -10,11 +10,11 @@ use str0m_values::candidate_text::candidate;
 impl Attribute for Candidate {
     ghost reading = { candidate_read };
 
-    fn take(
+    fn take<P: Place<Candidate>>(
         alloc: Global,
         text: &str,
-        candidates: &mut Vec<Candidate>,
+        place: &mut P,
     ) -> Result<bool, AllocError> {
-        taken(candidate(alloc, text)?, candidates)
+        taken(candidate(alloc, text)?, place)
     }
 }

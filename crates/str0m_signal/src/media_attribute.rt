@@ -7,7 +7,7 @@ ghost use Rattle.str0m_signal.specs.Chains.{Run};
 ghost use Rattle.str0m_signal.specs.Lines.{OneLine};
 ghost use Rattle.str0m_signal.specs.LineReading.{lines_of, Takes};
 
-use crate::attributes::{Attribute, attribute_run, taken, taken_result};
+use crate::attributes::{Attribute, Place, attribute_run, taken, taken_result};
 use crate::ext_map::ext_map;
 use crate::fields::{kept, num_u64, role, short};
 use crate::fingerprint::fingerprint;
@@ -123,114 +123,114 @@ fn mid(text: &str) -> Option<MediaAttribute>
 }
 
 /// The forms whose names begin with `e`.
-fn with_e(
+fn with_e<P: Place<MediaAttribute>>(
     alloc: Global,
     text: &str,
-    attributes: &mut Vec<MediaAttribute>,
+    place: &mut P,
 ) -> Result<bool, AllocError>
-    ensures { IfOk result (Takes (with_e_read text.now) attributes.old.items attributes.new.items) }
+    ensures { IfOk result (Takes P.Puts (with_e_read text.now) place.old place.new) }
 {
-    if taken_result(ext_map(alloc, text), attributes)? {
+    if taken_result(ext_map(alloc, text), place)? {
         return Ok(true);
     }
-    taken(word(text), attributes)
+    taken(word(text), place)
 }
 
 /// The forms whose names begin with `f`.
-fn with_f(
+fn with_f<P: Place<MediaAttribute>>(
     alloc: Global,
     text: &str,
-    attributes: &mut Vec<MediaAttribute>,
+    place: &mut P,
 ) -> Result<bool, AllocError>
-    ensures { IfOk result (Takes (with_f_read text.now) attributes.old.items attributes.new.items) }
+    ensures { IfOk result (Takes P.Puts (with_f_read text.now) place.old place.new) }
 {
-    if taken_result(fmtp(alloc, text), attributes)? {
+    if taken_result(fmtp(alloc, text), place)? {
         return Ok(true);
     }
-    taken_result(fingerprint_form(alloc, text), attributes)
+    taken_result(fingerprint_form(alloc, text), place)
 }
 
 /// The forms whose names begin with `i`.
-fn with_i(
+fn with_i<P: Place<MediaAttribute>>(
     alloc: Global,
     text: &str,
-    attributes: &mut Vec<MediaAttribute>,
+    place: &mut P,
 ) -> Result<bool, AllocError>
-    ensures { IfOk result (Takes (with_i_read text.now) attributes.old.items attributes.new.items) }
+    ensures { IfOk result (Takes P.Puts (with_i_read text.now) place.old place.new) }
 {
-    if taken_result(ice(alloc, text), attributes)? {
+    if taken_result(ice(alloc, text), place)? {
         return Ok(true);
     }
-    taken(word(text), attributes)
+    taken(word(text), place)
 }
 
 /// The forms whose names begin with `m`.
-fn with_m(
+fn with_m<P: Place<MediaAttribute>>(
     alloc: Global,
     text: &str,
-    attributes: &mut Vec<MediaAttribute>,
+    place: &mut P,
 ) -> Result<bool, AllocError>
-    ensures { IfOk result (Takes (with_m_read text.now) attributes.old.items attributes.new.items) }
+    ensures { IfOk result (Takes P.Puts (with_m_read text.now) place.old place.new) }
 {
-    if taken(mid(text), attributes)? {
+    if taken(mid(text), place)? {
         return Ok(true);
     }
-    if taken_result(msid(alloc, text), attributes)? {
+    if taken_result(msid(alloc, text), place)? {
         return Ok(true);
     }
-    taken(max_message_size(text), attributes)
+    taken(max_message_size(text), place)
 }
 
 /// The forms whose names begin with `r`.
-fn with_r(
+fn with_r<P: Place<MediaAttribute>>(
     alloc: Global,
     text: &str,
-    attributes: &mut Vec<MediaAttribute>,
+    place: &mut P,
 ) -> Result<bool, AllocError>
-    ensures { IfOk result (Takes (with_r_read text.now) attributes.old.items attributes.new.items) }
+    ensures { IfOk result (Takes P.Puts (with_r_read text.now) place.old place.new) }
 {
-    if taken(rtp_map(text), attributes)? {
+    if taken(rtp_map(text), place)? {
         return Ok(true);
     }
-    if taken_result(rtcp_fb(alloc, text), attributes)? {
+    if taken_result(rtcp_fb(alloc, text), place)? {
         return Ok(true);
     }
-    if taken_result(rid(alloc, text), attributes)? {
+    if taken_result(rid(alloc, text), place)? {
         return Ok(true);
     }
-    if taken_result(rtcp(alloc, text), attributes)? {
+    if taken_result(rtcp(alloc, text), place)? {
         return Ok(true);
     }
-    taken(word(text), attributes)
+    taken(word(text), place)
 }
 
 /// The forms whose names begin with `s`.
-fn with_s(
+fn with_s<P: Place<MediaAttribute>>(
     alloc: Global,
     text: &str,
-    attributes: &mut Vec<MediaAttribute>,
+    place: &mut P,
 ) -> Result<bool, AllocError>
-    ensures { IfOk result (Takes (with_s_read text.now) attributes.old.items attributes.new.items) }
+    ensures { IfOk result (Takes P.Puts (with_s_read text.now) place.old place.new) }
 {
-    if taken_result(ssrc(alloc, text), attributes)? {
+    if taken_result(ssrc(alloc, text), place)? {
         return Ok(true);
     }
-    if taken(setup(text), attributes)? {
+    if taken(setup(text), place)? {
         return Ok(true);
     }
-    if taken_result(ssrc_group(alloc, text), attributes)? {
+    if taken_result(ssrc_group(alloc, text), place)? {
         return Ok(true);
     }
-    if taken_result(simulcast_line(alloc, text), attributes)? {
+    if taken_result(simulcast_line(alloc, text), place)? {
         return Ok(true);
     }
-    if taken(sctp_port(text), attributes)? {
+    if taken(sctp_port(text), place)? {
         return Ok(true);
     }
-    if taken_result(sctp_init(alloc, text), attributes)? {
+    if taken_result(sctp_init(alloc, text), place)? {
         return Ok(true);
     }
-    taken(word(text), attributes)
+    taken(word(text), place)
 }
 
 fn first_byte(text: &str) -> u8
@@ -243,21 +243,21 @@ fn first_byte(text: &str) -> u8
 }
 
 /// The attribute whose form is named: only forms whose names begin as the text does are asked.
-fn named(
+fn named<P: Place<MediaAttribute>>(
     alloc: Global,
     text: &str,
-    attributes: &mut Vec<MediaAttribute>,
+    place: &mut P,
 ) -> Result<bool, AllocError>
-    ensures { IfOk result (Takes (named_read text.now) attributes.old.items attributes.new.items) }
+    ensures { IfOk result (Takes P.Puts (named_read text.now) place.old place.new) }
 {
     match first_byte(text) {
-        b'c' => taken_result(candidate_form(alloc, text), attributes),
-        b'e' => with_e(alloc, text, attributes),
-        b'f' => with_f(alloc, text, attributes),
-        b'i' => with_i(alloc, text, attributes),
-        b'm' => with_m(alloc, text, attributes),
-        b'r' => with_r(alloc, text, attributes),
-        b's' => with_s(alloc, text, attributes),
+        b'c' => taken_result(candidate_form(alloc, text), place),
+        b'e' => with_e(alloc, text, place),
+        b'f' => with_f(alloc, text, place),
+        b'i' => with_i(alloc, text, place),
+        b'm' => with_m(alloc, text, place),
+        b'r' => with_r(alloc, text, place),
+        b's' => with_s(alloc, text, place),
         _ => Ok(false),
     }
 }
@@ -275,15 +275,15 @@ fn unused(alloc: Global, text: &str) -> Result<Option<MediaAttribute>, AllocErro
 impl Attribute for MediaAttribute {
     ghost reading = { media_read };
 
-    fn take(
+    fn take<P: Place<MediaAttribute>>(
         alloc: Global,
         text: &str,
-        attributes: &mut Vec<MediaAttribute>,
+        place: &mut P,
     ) -> Result<bool, AllocError> {
-        if named(alloc, text, attributes)? {
+        if named(alloc, text, place)? {
             return Ok(true);
         }
-        taken_result(unused(alloc, text), attributes)
+        taken_result(unused(alloc, text), place)
     }
 }
 

@@ -7,7 +7,7 @@ ghost use Rattle.str0m_signal.specs.Chains.{Run};
 ghost use Rattle.str0m_signal.specs.Lines.{OneLine};
 ghost use Rattle.str0m_signal.specs.LineReading.{lines_of};
 
-use crate::attributes::{Attribute, attribute_run, taken};
+use crate::attributes::{Attribute, Place, attribute_run, taken};
 use crate::fields::{kept, role};
 use crate::fingerprint::fingerprint;
 use crate::groups::{group, msid_semantic};
@@ -107,15 +107,15 @@ fn unused(alloc: Global, text: &str) -> Result<Option<SessionAttribute>, AllocEr
 impl Attribute for SessionAttribute {
     ghost reading = { session_read };
 
-    fn take(
+    fn take<P: Place<SessionAttribute>>(
         alloc: Global,
         text: &str,
-        attributes: &mut Vec<SessionAttribute>,
+        place: &mut P,
     ) -> Result<bool, AllocError> {
-        if taken(named(alloc, text)?, attributes)? {
+        if taken(named(alloc, text)?, place)? {
             return Ok(true);
         }
-        taken(unused(alloc, text)?, attributes)
+        taken(unused(alloc, text)?, place)
     }
 }
 
