@@ -81,6 +81,35 @@ fn pts_back(alloc: Global, section: &MediaLine) -> Result<Option<Items<Pt>>, All
     }
 }
 
+fn copied(bw: &Option<Bandwidth>) -> Result<Option<Bandwidth>, AllocError>
+    ensures { IfOk result (λ copy. copy ≡ bw.now) }
+{
+    match bw {
+        Some(bw) => Ok(Some(bw.clone()?)),
+        None => Ok(None),
+    }
+}
+
+/// A copy of the section with other types and attributes: its own, which may be many, aren't copied.
+fn section_with(
+    section: &MediaLine,
+    pts: Items<Pt>,
+    attrs: Items<MediaAttribute>,
+) -> Result<MediaLine, AllocError>
+    ensures { IfOk result (λ made. made ≡ record section.now { pts = pts; attrs = attrs }) }
+{
+    let typ = section.typ.clone()?;
+    let bw = copied(&section.bw)?;
+    Ok(MediaLine {
+        typ,
+        disabled: section.disabled,
+        proto: section.proto,
+        pts,
+        bw,
+        attrs,
+    })
+}
+
 /// The section with these attributes, as its lines are read; `None` where one doesn't come back.
 fn section_back(
     alloc: Global,
@@ -98,8 +127,8 @@ fn section_back(
     let Some(attrs) = media_back(alloc, attrs)? else {
         return Ok(None);
     };
-    let own = section.clone()?;
-    Ok(Some(MediaLine { pts, attrs, ..own }))
+    let read = section_with(section, pts, attrs)?;
+    Ok(Some(read))
 }
 
 /// Whether the section is read of its lines, and consistent then.

@@ -9,5 +9,5 @@ returns c =
     let types = rw c.in-Some.is at c.in_ok-pts.ensures in
     let attributes = rw c.in-Some-2.is at c.in_ok-attrs.ensures in
     let bandwidth = c.in_ok-bandwidth_comes_back.ensures.0 c.if-not-branch.false in
-    rw c.in_ok-own.ensures
+    rw c.in_ok-read.ensures
     (whole_section (record c.args.section.now { attrs = c.args.attrs.now }) c.in-Some.pts c.in-Some-2.attrs bandwidth types attributes)
