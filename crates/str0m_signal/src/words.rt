@@ -1,6 +1,6 @@
 //! The items of lists.
-ghost use Rattle.std.specs.Prelude.{◌≡◌};
-ghost use Rattle.str0m_values.specs.Cuts.{num};
+ghost use Rattle.std.specs.Prelude.{◌≡◌, ◌&&◌};
+ghost use Rattle.str0m_values.specs.Cuts.{is_rest, lacks, num};
 ghost use Rattle.str0m_signal.specs.WordsReading.{word_read, name_read, digit_read, hex_pair_read, without_space};
 
 use crate::fields::short;
@@ -9,25 +9,26 @@ use std::alloc::{AllocError, Global};
 use str0m_values::cuts::{has, num_u32};
 use str0m_values::{Mid, Separator, Ssrc, Text};
 
+fn is_word(text: &str) -> bool
+    ensures { result ≡ lacks 32 text.now && is_rest text.now }
+{
+    !has(text, Separator::Space) && !text.is_empty()
+}
+
 /// A word.
 impl Part for Text {
     ghost reading = { word_read };
 
     fn is_part(text: &str) -> bool {
-        if has(text, Separator::Space) {
-            return false;
-        }
-        !text.is_empty()
+        is_word(text)
     }
 
     fn read(alloc: Global, text: &str) -> Result<Option<Text>, AllocError> {
-        if has(text, Separator::Space) {
-            return Ok(None);
+        if is_word(text) {
+            Ok(Some(Text::from_str(alloc, text)?))
+        } else {
+            Ok(None)
         }
-        if text.is_empty() {
-            return Ok(None);
-        }
-        Ok(Some(Text::from_str(alloc, text)?))
     }
 }
 
@@ -36,20 +37,15 @@ impl Part for Mid {
     ghost reading = { name_read };
 
     fn is_part(text: &str) -> bool {
-        if has(text, Separator::Space) {
-            return false;
-        }
-        !text.is_empty()
+        is_word(text)
     }
 
     fn read(_alloc: Global, text: &str) -> Result<Option<Mid>, AllocError> {
-        if has(text, Separator::Space) {
-            return Ok(None);
+        if is_word(text) {
+            Ok(Some(short(text)))
+        } else {
+            Ok(None)
         }
-        if text.is_empty() {
-            return Ok(None);
-        }
-        Ok(Some(short(text)))
     }
 }
 
