@@ -1,11 +1,9 @@
 -- Parts of a list of lines that stand one after another.
 use Rattle.std.proofs.Common.{◌≡◌, ℕ, ◌<◌, ◌≤◌, List, [], ◌∷◌, ◌++◌, length, cond, Option, Some, None, refl, sym, ap, subst, ◌∙◌, arith}
-use Rattle.std.specs.Prelude.{option_map}
-use Rattle.std.specs.Borrow.{Bor}
 use Rattle.str0m_signal.specs.Lines.{Line, OneLine}
-use Rattle.str0m_signal.specs.Chains.{Chain, Stops, Run, Taken}
+use Rattle.str0m_signal.specs.Chains.{Chain, Run, Taken}
 use Rattle.std.proofs.lemmas.Option.{none-some, some_pair_parts}
-use Rattle.str0m_signal.specs.LineReading.{lines_of, line_read, left, Next, IsRead}
+use Rattle.str0m_signal.specs.LineReading.{lines_of, line_read, IsRead}
 use Rattle.str0m_values.specs.Cuts.{◌>>=◌, lacks}
 use Rattle.str0m_values.proofs.BothWays.{Reads, one_value, bind_some, if_some}
 use Rattle.str0m_signal.proofs.LineLaws.{line_found, line_given}
@@ -26,10 +24,6 @@ chain_fewer F lines (a ∷ as') rest h = omega (arith, one_fewer F lines a h.0 h
 pub taken_fewer : {A : Type 0} (F : List ℕ → A → Type 0) (lines : List Line) (o : Option A) (rest : List Line) → Taken (OneLine F) lines o rest → length rest ≤ length lines
 taken_fewer F lines None rest h = omega (arith, ap length h.0)
 taken_fewer F lines (Some a) rest h = omega (arith, one_fewer F lines a rest h)
-
-pub next_of : {A : Type 0} {F : List ℕ → A → Type 0} {f : List ℕ → Option A} → Reads F f → (text : List ℕ) (o : Option (A × Bor (List ℕ))) → option_map left o ≡ line_read f (lines_of text) → Next (OneLine F) text o
-next_of reads text None e = λ a after h. none-some (a, after) (e ∙ line_given reads (lines_of text) a after h)
-next_of {F} reads text (Some x) e = line_found reads (lines_of text) x.0 (lines_of x.1.now) (sym e)
 
 -- ---- at most one
 
@@ -73,9 +67,6 @@ read_fewer {A} f (line ∷ lines) a after e =
     let rest = some_pair_parts line.content p.0.0 lines p.0.1 b.1 in
     let got = some_pair_parts c.0 a p.0.1 after c.2 in
     omega (arith, ap length (rest.1 ∙ got.1))
-
-pub read_stops : {A : Type 0} (f : List ℕ → Option A) (lines : List Line) → None ≡ line_read f lines → Stops (IsRead f) lines
-read_stops f lines none = λ a after e. none-some (a, after) (none ∙ e)
 
 module _ {A : Type 0} {F : List ℕ → A → Type 0} {f : List ℕ → Option A} (reads : Reads F f) where
   chain_of : (lines : List Line) (as' : List A) (rest : List Line) → Chain (IsRead f) lines as' rest → Chain (OneLine F) lines as' rest

@@ -43,9 +43,6 @@ crlf_parts : (x : ℕ) (xs : List ℕ) → is_crlf x xs ≡ true → (x ≡ 13) 
 crlf_parts x [] e = absurd cc
 crlf_parts x (y ∷ ys) e = let p = and_parts (eqb x 13) (eqb y 10) e in (eqb-true x 13 p.0, (ys, ap (λ (z : ℕ). z ∷ ys) (eqb-true y 10 p.1)))
 
-at_lf : (xs : List ℕ) (lines : List Line) → line_from 10 xs lines ≡ record { content = []; ending = 10 ∷ [] } ∷ lines
-at_lf xs lines = refl
-
 at_crlf : (x : ℕ) (xs : List ℕ) (lines : List Line) → x ≢ 10 → is_crlf x xs ≡ true → line_from x xs lines ≡ record { content = []; ending = 13 ∷ 10 ∷ [] } ∷ behind_first lines
 at_crlf x xs lines other e = rw (ne_eqb x 10 other, e) refl
 

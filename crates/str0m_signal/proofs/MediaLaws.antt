@@ -93,9 +93,6 @@ role_sound text role e =
     one : (word : List ℕ) (given : Role) → word ≡ setup_text given → when (bytes_eq text word) given ≡ Some role → text ≡ setup_text role
     one word given is h = let w = when_some (bytes_eq text word) given role h in (bytes_eq-Decides text word).0 w.0 ∙ is ∙ ap setup_text w.1
 
-named_role : Role → MediaAttribute
-named_role role = Setup role
-
 setup_sound : Sound Named setup_read
 setup_sound = record {
   law = λ text x e.

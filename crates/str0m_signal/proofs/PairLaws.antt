@@ -1,5 +1,5 @@
 -- The parts of an fmtp pair.
-use Rattle.std.proofs.Common.{◌≡◌, ◌⊎◌, ℕ, ◌<◌, ◌≤◌, zero, suc, Bool, true, false, Option, not, ◌&&◌, ◌||◌, ◌==◌, if◌then◌else◌, List, [], ◌∷◌, ◌++◌, length, take, drop, None, Some, refl, sym, ap, ◌∙◌, arith, inl, inr}
+use Rattle.std.proofs.Common.{◌≡◌, ◌⊎◌, ℕ, ◌<◌, ◌≤◌, zero, suc, Bool, true, false, not, ◌&&◌, ◌||◌, ◌==◌, if◌then◌else◌, List, [], ◌∷◌, ◌++◌, length, take, drop, None, Some, refl, sym, ap, ◌∙◌, arith, inl, inr}
 use Rattle.std.proofs.lemmas.Bool.{lt-ltb, cases_eq, ne_eqb, false≢true}
 use Rattle.std.proofs.lemmas.List.{append-nil, take-append-drop}
 use Rattle.std.specs.List.{AllByRecursion, list_any}
@@ -86,9 +86,6 @@ filled_to : (n : ℕ) (text : List ℕ) → 0 < n → n ≤ length text → IsRe
 filled_to zero text some le = absurd (omega (arith, some))
 filled_to (suc n) [] some le = absurd (omega (arith, le))
 filled_to (suc n) (x ∷ xs) some le = omega arith
-
-pub value_nowhere : (text : List ℕ) → IsValueEnd text 0 → None ≡ value_read text
-value_nowhere text h = rw (stop_nothing text (ends_at 0 text h)) refl
 
 pub value_to : (text : List ℕ) (n : ℕ) → IsValueEnd text n → 0 < n → Some (take n text, drop n text) ≡ value_read text
 value_to text n h some = sym (ap value_read (sym (take-append-drop n text)) ∙ value_given (take n text) (drop n text) (filled_to n text some h.0) (lacks_to 59 refl n text h.1) (lacks_to 32 refl n text h.1) (lacks_to 9 refl n text h.1) (ends_at n text h))

@@ -145,7 +145,3 @@ printed_by {A} {F} {f} reads text line found content is = record {
   held : (o : Option A) → o ≡ f line → IfSome o (IsPrintedAs F text)
   held None e = tt
   held (Some a) e = (line, content.found.0, content.found.1, content.found.2, reads.sound line a (sym e))
-
--- a text that is no line is printed as nothing
-pub printed_nothing : {A : Type 0} (F : List ℕ → A → Type 0) (text : List ℕ) → IsTheOnly (IsContent text) None → IsTheOnly (IsPrintedAs F text) None
-printed_nothing F text none = record { found = tt; only = λ a h. absurd (none-some h.0 (none.only h.0 (h.1, h.2, h.3))) }
