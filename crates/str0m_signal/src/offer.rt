@@ -119,7 +119,7 @@ impl fmt::Display for SdpOffer {
     ghost output = { λ offer. Some (sdp_text offer) };
 
     fn fmt<W: fmt::Write>(&self, f: &mut fmt::Formatter<W>) -> fmt::Result {
-        let sdp = &self.0;
+        let SdpOffer(sdp) = self;
         write!(f, "{sdp}")
     }
 }
@@ -185,7 +185,7 @@ impl fmt::Display for SdpAnswer {
     ghost output = { λ answer. Some (sdp_text answer) };
 
     fn fmt<W: fmt::Write>(&self, f: &mut fmt::Formatter<W>) -> fmt::Result {
-        let sdp = &self.0;
+        let SdpAnswer(sdp) = self;
         write!(f, "{sdp}")
     }
 }
