@@ -89,7 +89,7 @@ impl SdpOffer {
         }
     }
 
-    /// The description as a text, each line ended by CR LF.
+    /// The description as a text, each line ended by CR LF. The only error is that memory was refused.
     pub fn to_sdp_string(&self) -> Result<String, AllocError>
         ensures { IfOk result (λ text. string_bytes text ≡ sdp_text self.now) }
     {
@@ -155,7 +155,7 @@ impl SdpAnswer {
         }
     }
 
-    /// The description as a text, each line ended by CR LF.
+    /// The description as a text, each line ended by CR LF. The only error is that memory was refused.
     pub fn to_sdp_string(&self) -> Result<String, AllocError>
         ensures { IfOk result (λ text. string_bytes text ≡ sdp_text self.now) }
     {
