@@ -1,5 +1,5 @@
 -- What a search over the bytes of a text finds.
-use Rattle.std.proofs.Common.{◌≡◌, ℕ, ◌<◌, List, ◌+◌, length, None, Some, arith}
+use Rattle.std.proofs.Common.{◌≡◌, ℕ, List, ◌+◌, length, None, Some, arith}
 use Rattle.std.specs.Prelude.{slice_range, drop}
 use Rattle.std.proofs.lemmas.Bool.{eqb-true, eq-eqb}
 use Rattle.memchr.specs.Find.{NoneBefore, Nowhere, Passes, is_byte}

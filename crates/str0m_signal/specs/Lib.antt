@@ -12,6 +12,7 @@ pub mod HeaderReading
 pub mod Heads
 pub mod LineReading
 pub mod Lines
+pub mod LockedRows
 pub mod MediaAttribute
 pub mod MediaAttributeReading
 pub mod Negotiation

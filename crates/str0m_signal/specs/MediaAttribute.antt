@@ -16,7 +16,7 @@ use Rattle.str0m_values.specs.Fits.{FirstFit}
 use Rattle.str0m_signal.specs.Lines.{IsAttributeLine}
 use Rattle.str0m_sdp.specs.Setup.{setup_text}
 
--- each attribute but `Unused`; the others are never read
+-- each attribute but `Unused`
 abbrev pub Named : List ℕ → MediaAttribute → Type 0
 Named text (Rtcp value) = Behind (codes "rtcp:") IsText text value
 Named text (IceUfrag value) = Behind (codes "ice-ufrag:") IsText text value

@@ -14,20 +14,20 @@ use str0m_sdp::Setup;
 use str0m_values::cuts::strip;
 use str0m_values::{Mid, Text};
 
-/// What follows `letter`, where that is not nothing.
-pub(crate) fn field<'a>(line: &'a str, letter: &str) -> Option<&'a str>
-    ensures { option_map (λ x. x.now) result ≡ field_read letter.now line.now }
+/// What follows `label`, where that is not nothing.
+pub(crate) fn field<'a>(line: &'a str, label: &str) -> Option<&'a str>
+    ensures { option_map (λ x. x.now) result ≡ field_read label.now line.now }
 {
-    let text = strip(line, letter)?;
+    let text = strip(line, label)?;
     if text.is_empty() { None } else { Some(text) }
 }
 
-/// What follows `letter` in the first line, and what follows that line.
-pub(crate) fn read_field<'a>(text: &'a str, letter: &str) -> Option<(&'a str, &'a str)>
-    ensures { option_map both_left result ≡ line_read (field_read letter.now) (lines_of text.now) }
+/// What follows `label` in the first line, and what follows that line.
+pub(crate) fn read_field<'a>(text: &'a str, label: &str) -> Option<(&'a str, &'a str)>
+    ensures { option_map both_left result ≡ line_read (field_read label.now) (lines_of text.now) }
 {
     let (line, rest) = plain_line(text)?;
-    Some((field(line, letter)?, rest))
+    Some((field(line, label)?, rest))
 }
 
 /// A copy of what follows `label`, where that is not nothing.

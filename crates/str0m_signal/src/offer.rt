@@ -89,7 +89,7 @@ impl SdpOffer {
         }
     }
 
-    /// The description as a text, each line ended by CR LF.
+    /// The description as a text, each line ended by CR LF. The only error is that memory was refused.
     pub fn to_sdp_string(&self) -> Result<String, AllocError>
         ensures { IfOk result (λ text. string_bytes text ≡ sdp_text self.now) }
     {
@@ -119,7 +119,7 @@ impl fmt::Display for SdpOffer {
     ghost output = { λ offer. Some (sdp_text offer) };
 
     fn fmt<W: fmt::Write>(&self, f: &mut fmt::Formatter<W>) -> fmt::Result {
-        let sdp = &self.0;
+        let SdpOffer(sdp) = self;
         write!(f, "{sdp}")
     }
 }
@@ -155,7 +155,7 @@ impl SdpAnswer {
         }
     }
 
-    /// The description as a text, each line ended by CR LF.
+    /// The description as a text, each line ended by CR LF. The only error is that memory was refused.
     pub fn to_sdp_string(&self) -> Result<String, AllocError>
         ensures { IfOk result (λ text. string_bytes text ≡ sdp_text self.now) }
     {
@@ -185,7 +185,7 @@ impl fmt::Display for SdpAnswer {
     ghost output = { λ answer. Some (sdp_text answer) };
 
     fn fmt<W: fmt::Write>(&self, f: &mut fmt::Formatter<W>) -> fmt::Result {
-        let sdp = &self.0;
+        let SdpAnswer(sdp) = self;
         write!(f, "{sdp}")
     }
 }

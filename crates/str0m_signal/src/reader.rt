@@ -1,6 +1,6 @@
 //! The readers of whole texts and of single lines.
 
-ghost use Rattle.std.specs.Prelude.{◌≡◌, All, IfOk};
+ghost use Rattle.std.specs.Prelude.{All, IfOk};
 ghost use Rattle.str0m_sdp.specs.RowBounds.{HasBoundedRows};
 ghost use Rattle.str0m_signal.specs.Answers.{Answers, AtMostOne, IsRefusal, unread};
 ghost use Rattle.str0m_signal.specs.Lines.{FirstLine};

@@ -114,15 +114,23 @@ fn is_restricted(text: &str) -> bool
     }
 }
 
-/// The restrictions of the text, or none where it is nothing. Memory is asked for only where all can be read.
-fn restricted(alloc: Global, text: &str) -> Result<Option<Items<(Text, Text)>>, AllocError>
+/// The restrictions of the text, or none where it is nothing. Memory is taken as `restrictions` takes it.
+fn read_restricted(alloc: Global, text: &str) -> Result<Option<Items<(Text, Text)>>, AllocError>
     ensures { IfOk result (λ found. found ≡ restricted_read text.now) }
 {
     if text.is_empty() {
-        return Ok(Some(Items::empty(alloc)));
-    }
-    if are_restrictions(text) {
+        Ok(Some(Items::empty(alloc)))
+    } else {
         restrictions(alloc, text)
+    }
+}
+
+/// The same, but memory is asked for only where all can be read.
+fn restricted(alloc: Global, text: &str) -> Result<Option<Items<(Text, Text)>>, AllocError>
+    ensures { IfOk result (λ found. found ≡ restricted_read text.now) }
+{
+    if is_restricted(text) {
+        read_restricted(alloc, text)
     } else {
         Ok(None)
     }
@@ -157,7 +165,7 @@ fn typed(alloc: Global, text: &str) -> Result<Option<Lists>, AllocError>
     let Some(types) = parts(alloc, front, Separator::Comma)? else {
         return Ok(None);
     };
-    let Some(restrictions) = restricted(alloc, behind)? else {
+    let Some(restrictions) = read_restricted(alloc, behind)? else {
         return Ok(None);
     };
     Ok(Some(Lists {

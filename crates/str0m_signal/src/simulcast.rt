@@ -1,5 +1,5 @@
 //! Lines of streams in several layers.
-ghost use Rattle.std.specs.Prelude.{◌≡◌, IfOk, option_map, is_some};
+ghost use Rattle.std.specs.Prelude.{◌≡◌, IfOk, option_map};
 ghost use Rattle.std.specs.List.{list_all};
 ghost use Rattle.std.specs.Str.{chars};
 ghost use Rattle.str0m_signal.specs.MediaAttributeReading.{simulcast_read};

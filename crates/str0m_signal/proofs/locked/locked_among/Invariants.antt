@@ -1,6 +1,7 @@
-use Rattle.std.proofs.Common.{◌≡◌, filter, take}
+use Rattle.std.proofs.Common.{◌≡◌, take}
+use Rattle.str0m_signal.specs.LockedRows.{locked_of_kind}
 use Rattle.str0m_signal.proofs.locked.locked_among.Given as goal
 
--- copies of those so far that are locked
+-- copies of those so far that are locked and of the kind
 abbrev pub invariant-loop-row : goal.invariant-loop-row
-invariant-loop-row l = l.locked.items ≡ filter (λ row. row.locked) (take l.row-index l.rows)
+invariant-loop-row l = l.locked.items ≡ locked_of_kind l.kind (take l.row-index l.rows)
