@@ -7,7 +7,7 @@ import proved
 CRATES = proved.TOP / "crates"
 FUNCTION = re.compile(r"(?P<indent>\s*)(?:pub(?:\([^)]*\))? )?(?:const )?fn (?P<name>\w+)")
 TABLE = re.compile(r"^ *(?:pub(?:\([^)]*\))? )?const (?P<name>\w+):.*?;$", re.M | re.S)
-BLOCK = re.compile(r"(?:impl(?:<.*?>)? (?:(?P<trait>.+?) for )?(?P<type>.+?)|.*\btrait (?P<decl>\w+).*?)(?: where .*)?\{")
+BLOCK = re.compile(r"(?:impl(?:<(?P<own>.*?)>)? (?:(?P<trait>.+?) for )?(?P<type>.+?)|.*\btrait (?P<decl>\w+).*?)(?: where .*)?\{")
 
 
 def texts_of(folder):
@@ -40,6 +40,8 @@ def function_at(path, text, offset, homes):
                 return f"{module}::{name}".removeprefix("::") if is_body else None
         elif block and name is not None:
             of_trait, _, given = (block["trait"] or "").partition("<")
+            own = {it.partition(":")[0].strip() for it in (block["own"] or "").split(",")}
+            given = "" if given.removesuffix(">") in own else given  # (a name that stands for any type is none of its own)
             kind = block["decl"] or as_word(block["type"])
             module = module if of_trait else homes.get(kind, module)  # (a method is named by the module of its type)
             return f"{module}::{kind}{as_word(of_trait)}{as_word(given.removesuffix('>'))}::{name}".removeprefix("::")
