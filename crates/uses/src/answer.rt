@@ -1,6 +1,6 @@
 //! An offer that is answered.
 
-ghost use Rattle.std.specs.Prelude.{◌≡◌, ◌≢◌, ◌<◌, ⊥, [], IfErr, IfOk, IfSome, List, None, Some, length, slice_set};
+ghost use Rattle.std.specs.Prelude.{◌≡◌, ◌≢◌, ◌<◌, [], IfErr, IfOk, IfSome, List, None, Some, length, slice_set};
 ghost use Rattle.std.specs.List.{slice_get};
 ghost use Rattle.std.specs.String.{string_bytes};
 ghost use Rattle.str0m_sdp.specs.SectionOf.{made};
@@ -12,7 +12,7 @@ ghost use Rattle.str0m_signal.specs.Negotiation.{NegotiatedText};
 ghost use Rattle.str0m_signal.specs.ReadBack.{MayBePrinted, ReadsBack, with_rows};
 ghost use Rattle.str0m_signal.specs.Reading.{Described};
 ghost use Rattle.str0m_signal.specs.Writable.{Writable};
-ghost use Rattle.uses.specs.Agreed.{agreed};
+ghost use Rattle.uses.specs.Agreed.{agreed, of_type};
 
 use std::alloc::AllocError;
 use str0m_signal::{
@@ -56,15 +56,26 @@ pub(crate) fn printable_section(
     }
 }
 
-/// The rows of a section's kind that are locked.
-fn agreed_rows(config: &CodecConfig, section: &MediaLine) -> Result<Vec<PayloadParams>, AllocError>
-    ensures agreed { IfOk result (λ rows. rows.items ≡ agreed section.now.typ config.now.params.items) }
+/// The locked rows of what sections of this type carry.
+fn rows_of_type(config: &CodecConfig, typ: &MediaType) -> Result<Vec<PayloadParams>, AllocError>
+    ensures rows { IfOk result (λ rows. rows.items ≡ of_type typ.now config.now.params.items) }
     ensures printable { MayBePrinted config.now.params.items → IfOk result (λ rows. rows.items ≢ [] → MayBePrinted rows.items) }
 {
-    match section.typ {
+    match typ {
         MediaType::Audio => locked_rows(config, MediaKind::Audio),
         MediaType::Video => locked_rows(config, MediaKind::Video),
         _ => Ok(Vec::new(*config.allocator())),
+    }
+}
+
+/// The locked rows of what the section at `at` carries; none where there is no such section.
+fn agreed_rows(config: &CodecConfig, own: &Sdp, at: usize) -> Result<Vec<PayloadParams>, AllocError>
+    ensures agreed { IfOk result (λ rows. rows.items ≡ agreed own.now at config.now.params.items) }
+    ensures printable { MayBePrinted config.now.params.items → IfOk result (λ rows. rows.items ≢ [] → MayBePrinted rows.items) }
+{
+    match own.media_lines.get(at) {
+        Some(section) => rows_of_type(config, &section.typ),
+        None => Ok(Vec::new(*config.allocator())),
     }
 }
 
@@ -77,17 +88,12 @@ fn locked_section(
     ensures there { IfOk result (λ found. IfSome found (λ _. at < length own.now.media_lines)) }
     ensures made { IfOk result (λ found. IfSome found (λ section. (frame : MediaLine)
         × (slice_get own.now.media_lines at ≡ Some frame)
-        × (section ≡ made frame (agreed frame.typ config.now.params.items)))) }
-    ensures read_back { MayBePrinted config.now.params.items → IfOk result (λ found. IfSome found (λ section. (frame : MediaLine)
-        × (slice_get own.now.media_lines at ≡ Some frame)
-        × ReadsBack own.now at (agreed frame.typ config.now.params.items))) }
-    ensures none { IfOk result (λ found. found ≡ None → Writable own.now at → (frame : MediaLine)
-        × (slice_get own.now.media_lines at ≡ Some frame) × (agreed frame.typ config.now.params.items ≡ [])) }
+        × (section ≡ made frame (agreed own.now at config.now.params.items)))) }
+    ensures read_back { MayBePrinted config.now.params.items → IfOk result (λ found. IfSome found (λ section.
+        ReadsBack own.now at (agreed own.now at config.now.params.items))) }
+    ensures none { IfOk result (λ found. found ≡ None → Writable own.now at → agreed own.now at config.now.params.items ≡ []) }
 {
-    let Some(frame) = own.media_lines.get(at) else {
-        return Ok(None);
-    };
-    let rows = agreed_rows(config, frame)?;
+    let rows = agreed_rows(config, own, at)?;
     if rows.is_empty() {
         return Ok(None);
     }
@@ -121,12 +127,10 @@ pub fn answer_section(
     ensures printable { MayBePrinted config.old.params.items → MayBePrinted config.new.params.items }
     ensures text { IfOk result (λ answer. IfSome answer (λ text.
         (frame : MediaLine) × (slice_get own.media_lines at ≡ Some frame)
-        × (string_bytes text ≡ sdp_text (with_rows own at frame (agreed frame.typ config.new.params.items))))) }
-    ensures read_back { MayBePrinted config.old.params.items → IfOk result (λ answer. IfSome answer (λ text. (frame : MediaLine)
-        × (slice_get own.media_lines at ≡ Some frame)
-        × ReadsBack own at (agreed frame.typ config.new.params.items))) }
-    ensures none { IfOk result (λ answer. answer ≡ None → Writable own at → (frame : MediaLine)
-        × (slice_get own.media_lines at ≡ Some frame) × (agreed frame.typ config.new.params.items ≡ [])) }
+        × (string_bytes text ≡ sdp_text (with_rows own at frame (agreed own at config.new.params.items))))) }
+    ensures read_back { MayBePrinted config.old.params.items → IfOk result (λ answer. IfSome answer (λ text.
+        ReadsBack own at (agreed own at config.new.params.items))) }
+    ensures none { IfOk result (λ answer. answer ≡ None → Writable own at → agreed own at config.new.params.items ≡ []) }
 {
     negotiate_text(config, offer)?;
     match locked_section(config, &own, at)? {

@@ -1,6 +1,6 @@
 //! A section of one's own, made of nothing but values.
 
-ghost use Rattle.std.specs.Prelude.{◌≡◌, ⊥, IfOk, IfSome, None, Some};
+ghost use Rattle.std.specs.Prelude.{◌≡◌, IfOk, IfSome, None, Some};
 ghost use Rattle.std.specs.List.{slice_get};
 ghost use Rattle.std.specs.String.{string_bytes};
 ghost use Rattle.str0m_sdp.specs.Session.{sdp_text};
