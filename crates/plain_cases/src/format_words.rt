@@ -1,7 +1,5 @@
 //! Codecs, parameters and formats: what is read and what is printed. `-` stands for what prints nothing.
 
-use crate::answer::Answer;
-use crate::lists::word;
 use crate::row_answers::{printed, push_or_dash};
 use crate::row_texts::{format_of, type_of};
 use std::alloc::AllocError;
@@ -9,6 +7,7 @@ use std::fmt::Display;
 use str0m_formats::{Codec, CodecSpec, FormatParam, FormatParams};
 use str0m_sdp::RtpMap;
 use str0m_values::MediaKind;
+use value_cases::{Answer, word};
 
 /// What the value prints, and `-` for nothing.
 fn show_or_dash<T: Display>(answer: &mut Answer, value: &T) {

@@ -1,11 +1,10 @@
 //! Layers with what is noted of them, which no line of a description makes; and values that hold nothing.
 
-use crate::answer::Answer;
-use crate::lists::word;
 use crate::random_names;
 use std::alloc::{AllocError, Global};
 use str0m_sdp::{RestrictionId, SimulcastLayer};
 use str0m_values::{Items, Text};
+use value_cases::{Answer, word};
 
 /// Answers what the word asks of the text; whether it is one of these words.
 pub(crate) fn answers(answer: &mut Answer, asked: &str, text: &str) -> bool {

@@ -1,9 +1,9 @@
 //! Rows and lists as answers show them.
 
-use crate::answer::Answer;
 use std::fmt::Display;
 use str0m_formats::PayloadParams;
 use str0m_sdp::RtpMap;
+use value_cases::Answer;
 
 /// The text, and `-` for an empty one.
 pub(crate) fn push_or_dash(answer: &mut Answer, text: &str) {

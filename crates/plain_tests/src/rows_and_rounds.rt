@@ -3,9 +3,8 @@
 
 use std::alloc::{AllocError, Global};
 use std::test::Fail;
-use str0m_signal::{
-    Codec, CodecConfig, CodecSpec, Direction, FormatParams, Frequency, PayloadParams, Pt,
-};
+use str0m_formats::{Codec, CodecConfig, CodecSpec, FormatParams, PayloadParams};
+use str0m_values::{Direction, Frequency, Pt};
 
 /// The types of a row: primary, RTX, RED.
 pub(crate) type Types = (u8, Option<u8>, Option<u8>);

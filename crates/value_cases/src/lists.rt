@@ -1,7 +1,7 @@
 //! Words and numbers in a text.
 
 /// The first word of a text, and what stands behind the space.
-pub(crate) fn word(text: &str) -> (&str, &str) {
+pub fn word(text: &str) -> (&str, &str) {
     text.split_once(' ').unwrap_or((text, ""))
 }
 

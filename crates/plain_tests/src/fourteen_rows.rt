@@ -4,7 +4,8 @@
 use crate::rows_and_rounds::{DIRECTIONS, Types, row_of};
 use std::alloc::{AllocError, Global};
 use std::test::Fail;
-use str0m_signal::{Codec, CodecConfig, Direction, Frequency, NegotiationError, PayloadParams, Pt};
+use str0m_formats::{Codec, CodecConfig, NegotiationError, PayloadParams};
+use str0m_values::{Direction, Frequency, Pt};
 
 /// Opus with so many channels: rows with other channels don't match it.
 fn opus(channels: u8, types: Types) -> PayloadParams {

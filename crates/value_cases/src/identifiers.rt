@@ -56,7 +56,7 @@ fn receiving(text: &str) -> &'static str {
     }
 }
 
-pub(crate) fn direction(text: &str) -> Option<Direction> {
+pub fn direction(text: &str) -> Option<Direction> {
     match text {
         "sendrecv" => Some(Direction::SendRecv),
         "sendonly" => Some(Direction::SendOnly),
