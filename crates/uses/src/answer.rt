@@ -46,6 +46,7 @@ pub(crate) fn printable_section(
         (frame : MediaLine) × (slice_get own.now.media_lines at ≡ Some frame) × (section ≡ made frame rows.now))) }
     ensures read_back { MayBePrinted rows.now → IfOk result (λ found. IfSome found (λ section. ReadsBack own.now at rows.now)) }
     ensures none { IfOk result (λ found. found ≡ None → Writable own.now at → ⊥) }
+    ensures some { IfOk result (λ found. IfSome found (λ _. Writable own.now at)) }
 {
     if !is_writable(own, at)? {
         return Ok(None);
@@ -92,6 +93,7 @@ fn locked_section(
     ensures read_back { MayBePrinted config.now.params.items → IfOk result (λ found. IfSome found (λ section.
         ReadsBack own.now at (agreed own.now at config.now.params.items))) }
     ensures none { IfOk result (λ found. found ≡ None → Writable own.now at → agreed own.now at config.now.params.items ≡ []) }
+    ensures some { IfOk result (λ found. IfSome found (λ _. Writable own.now at × (agreed own.now at config.now.params.items ≢ []))) }
 {
     let rows = agreed_rows(config, own, at)?;
     if rows.is_empty() {
@@ -131,6 +133,7 @@ pub fn answer_section(
     ensures read_back { MayBePrinted config.old.params.items → IfOk result (λ answer. IfSome answer (λ text.
         ReadsBack own at (agreed own at config.new.params.items))) }
     ensures none { IfOk result (λ answer. answer ≡ None → Writable own at → agreed own at config.new.params.items ≡ []) }
+    ensures some { IfOk result (λ answer. IfSome answer (λ _. Writable own at × (agreed own at config.new.params.items ≢ []))) }
 {
     negotiate_text(config, offer)?;
     match locked_section(config, &own, at)? {

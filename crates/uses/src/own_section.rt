@@ -78,6 +78,7 @@ pub fn own_offer(config: &CodecConfig, own: Sdp, at: usize) -> Result<Option<Str
     ensures read_back { MayBePrinted config.now.params.items → IfOk result (λ offer. IfSome offer (λ text.
         ReadsBack own at config.now.params.items)) }
     ensures none { IfOk result (λ offer. offer ≡ None → Writable own at → ⊥) }
+    ensures some { IfOk result (λ offer. IfSome offer (λ _. Writable own at)) }
 {
     match printable_section(&own, at, config.params())? {
         Some(section) => Ok(Some(with_section(own, at, section)?)),
