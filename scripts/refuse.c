@@ -7,6 +7,7 @@
 #include <stdlib.h>
 
 void *__libc_malloc(size_t size);
+void *__libc_calloc(size_t count, size_t size);
 void *__libc_realloc(void *block, size_t size);
 
 static long asked;
@@ -21,6 +22,11 @@ static int is_refused(void)
 void *malloc(size_t size)
 {
     return is_refused() ? NULL : __libc_malloc(size);
+}
+
+void *calloc(size_t count, size_t size)
+{
+    return is_refused() ? NULL : __libc_calloc(count, size);
 }
 
 void *realloc(void *block, size_t size)

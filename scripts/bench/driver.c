@@ -77,7 +77,8 @@ static double least(const struct call *call, struct text text)
     double once = taken(call, text, 1), best = -1;
     if (once < 0)
         return -1;
-    double times = 2 * BATCH / once;
+    double one_call = call->reads_once ? once - taken(call, text, 0) : once / 2;
+    double times = one_call > 0 ? BATCH / one_call : 1e5;
     uint32_t more = times < 2 ? 2 : times > 1e5 ? 100000 : (uint32_t)times;
     for (int i = 0; i < batches; i++) {
         double all = taken(call, text, more);
