@@ -90,7 +90,8 @@ impl FormatParams {
         }
     }
 
-    /// The format that a line such as `minptime=10;useinbandfec=1` or `0-16` says.
+    /// The format that a line such as `minptime=10;useinbandfec=1` or `0-16` says (RFC 8866, section
+    /// 6.15).
     ///
     /// Pieces are parted by `;`. The key of a piece is what stands before its first `=`, its value
     /// what stands from there to the second `=` or the end; both are trimmed. What pieces without
@@ -121,8 +122,10 @@ impl FormatParams {
     /// The format that the fmtp lines of a payload type say of its codec.
     ///
     /// Of telephone events no line means 0 to 16, and one line that is one range means that range;
-    /// all else is refused. Of other codecs all values are set in order, but for ranges of events;
-    /// where a line of AMR-WB asks for what isn't there, it is refused. `None` where it is refused.
+    /// all else is refused (RFC 4733, section 2.4.1). Of other codecs all values are set in order, but
+    /// for ranges of events; a line of AMR-WB is refused where it asks for `crc`, `robust-sorting`,
+    /// any `interleaving` or a `mode-change-period` of 2 (RFC 4867, section 8.2). `None` where it is
+    /// refused.
     #[tactic(auto, unfolding(crate::specs::FormatLine::is_refused))]
     pub fn from_sdp_fmtp(codec: Codec, lines: &[&[FormatParam]]) -> Option<FormatParams>
         ensures format { result ≡ format_of_fmtp codec (line_values lines.now) }

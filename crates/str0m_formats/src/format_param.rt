@@ -19,7 +19,7 @@ use str0m_values::{H265ProfileTierLevel, H266ProfileTierLevel, Pt};
 /// One parameter of a format, as the values of an `a=fmtp` line give them (RFC 8866, section 6.15).
 #[derive(Clone, Copy, Debug, PartialEq, Eq)]
 pub enum FormatParam {
-    /// The least packet time in milliseconds (`minptime`; RFC 7587, section 6.1).
+    /// The least packet time in milliseconds (`minptime`; an early draft of RFC 7587).
     MinPTime(u8),
     /// Whether the receiver prefers stereo (`stereo`; RFC 7587, section 6.1).
     Stereo(bool),
@@ -230,8 +230,9 @@ fn events(last: Option<u8>) -> FormatParam
 }
 
 impl FormatParam {
-    /// Reads a key, without regard to the case of ASCII letters, and its value. Numbers read as
-    /// std reads them; a flag is true exactly for `1`. What doesn't read is `Unknown`.
+    /// Reads a key, without regard to the case of ASCII letters, and its value (RFC 8866, section
+    /// 6.15). Numbers read as std reads them; a flag is true exactly for `1`. What doesn't read is
+    /// `Unknown`.
     pub fn parse(key: &str, value: &str) -> FormatParam
         ensures parsed { IsParsed (key.now, value.now) result }
 

@@ -56,7 +56,7 @@ const FIELDS: [Field; 18] = [
 /// What a format says of a codec. What it doesn't say is `None`.
 #[derive(Clone, Copy, Debug, PartialEq, Eq)]
 pub struct FormatParams {
-    /// The least packet time in milliseconds (RFC 7587, section 6.1).
+    /// The least packet time in milliseconds (an early draft of RFC 7587).
     pub min_p_time: Option<u8>,
     /// Whether the receiver prefers stereo (RFC 7587, section 6.1).
     pub stereo: Option<bool>,

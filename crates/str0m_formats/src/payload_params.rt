@@ -190,10 +190,11 @@ impl PayloadParams {
     }
 
     /// How well two rows fit, from 0 to 100, by their specs alone: payload types, feedback and
-    /// locks don't count. Equal specs score 100, but for AMR-WB. `None` where the rows don't fit:
-    /// where the codecs or clock rates differ, where both codecs are unknown, and by the codec:
+    /// locks don't count. Equal specs score 100, but for AMR-WB. Others score `None` where the codecs
+    /// or clock rates differ or both codecs are unknown, and else by the codec. Where the channels
+    /// differ, only telephone events and AMR-WB score.
     ///
-    /// - Telephone events (RFC 4733): 100. All codecs below but AMR-WB ask for the same channels.
+    /// - Telephone events (RFC 4733): 100.
     /// - AMR-WB (RFC 4867, section 8.2): `None` where a given channel count isn't 1, the alignment
     ///   differs, or both have mode sets that differ; 100 where neither has one; else 99.
     /// - Opus (RFC 7587, section 6.1): 100 less 1, 2 and 4 where the packet time, FEC and DTX

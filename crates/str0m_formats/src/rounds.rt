@@ -44,7 +44,9 @@ impl CodecConfig {
     /// One round of negotiation against the rows of the other side, whose direction is `dir` (RFC 3264).
     ///
     /// Each row that some remote row matches goes with the last remote row of greatest score, narrows
-    /// its format to that one's, and is locked: its payload types then never change (section 8.3.2). A
+    /// its format to that one's, and is locked: its payload types then never change (section 8.3.2). An
+    /// open row of AMR-WB leaves aside remote rows whose primary type is taken, where the other side
+    /// receives: so it may go with one of lesser score, or stay open. A
     /// row that is newly locked has the primary and RTX types of that remote row where the other side
     /// receives, and otherwise where they aren't taken; else its own, or else a free type. A row that
     /// stays open keeps each type that no locked row has, and is given a free one for each other. A RED

@@ -46,7 +46,7 @@ abbrev pub parts : List (List ℕ) → List MediaLine → List (List ℕ)
 parts group sections = section_mids (filter (takes_part group) sections)
 
 -- there is a group, and the first lists, in order, the sections that take part in it (RFC 8829, section 5.2.1; RFC 9143,
--- section 7.2)
+-- section 7.2, which leave the order free)
 abbrev pub IsGrouped : Sdp → Type 0
 IsGrouped sdp = MatchOption (first_group sdp.session.attrs) ⊥ (λ group. parts group sdp.media_lines ≡ group)
 

@@ -26,7 +26,7 @@ first_again (mid ∷ mids) = when (is_listed mids (Some mid)) mid <|> first_agai
 abbrev pub first_difference : List (List ℕ) → List (List ℕ) → Option (List ℕ × List ℕ)
 first_difference mids others = find (λ pair. not (bytes_eq pair.0 pair.1)) (zip mids others)
 
--- of the mids that take part and those of the group: their number, then their order (RFC 9143, section 7.2)
+-- of the mids that take part and those of the group: their number, then their order (which RFC 9143, section 7.2, leaves free)
 abbrev pub listing_fault : List (List ℕ) → List (List ℕ) → Option SessionFault
 listing_fault mids group =
     when (not (length mids == length group)) (Count (length group) (length mids))
