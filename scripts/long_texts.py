@@ -135,6 +135,16 @@ def of_named_sections(count):
     return HEADER + group + "".join(SECTION.replace("a=mid:0", f"a=mid:{i}", 1) for i in range(count))
 
 
+def of_disabled_sections(count):
+    """The same, each of them disabled: whether it takes part is asked of the group."""
+    return of_named_sections(count).replace("m=audio 9 ", "m=audio 0 ")
+
+
+def of_paired_sections(count):
+    """The same, but that the first two of them have one name with the last two, crosswise: the first fault stands far behind."""
+    return of_named_sections(count - 2) + "".join(SECTION.replace("a=mid:0", f"a=mid:{i}", 1) for i in (1, 0))
+
+
 # By the name of a list, a text by the number of its items.
 LISTS = {
     "mids of a group": of_list("a=group:BUNDLE ", numbered(" ")),

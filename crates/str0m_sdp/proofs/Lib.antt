@@ -16,6 +16,7 @@ pub mod GatherLaws
 pub mod Holders
 pub mod ListLaws
 pub mod MappingLaws
+pub mod OrderedMids
 pub mod Own
 pub mod Parts
 pub mod Preferred

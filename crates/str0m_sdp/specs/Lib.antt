@@ -21,6 +21,7 @@ pub mod MediaLine
 pub mod MediaType
 pub mod Msid
 pub mod NamesOne
+pub mod OrderedMids
 pub mod PreferredFingerprint
 pub mod Proto
 pub mod RandomId

@@ -23,6 +23,7 @@ mod mappings;
 mod media_line;
 mod media_type;
 mod msid;
+mod ordered_mids;
 mod preferred_fingerprint;
 mod printed;
 mod proto;

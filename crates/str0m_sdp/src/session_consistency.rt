@@ -1,21 +1,30 @@
 //! Which sessions are consistent.
-ghost use Rattle.std.specs.Prelude.{◌≡◌, ◌↔◌, IfErr, IfOk, IsOk, None, Ok, length, option_map, Some};
+ghost use Rattle.std.specs.Prelude.{◌≡◌, ◌==◌, ◌↔◌, IfErr, IfOk, IsOk, None, Ok, filter, length, not, option_map, Some};
 ghost use Rattle.std.specs.Str.{bytes_eq};
 ghost use Rattle.std.specs.String.{string_bytes};
+ghost use Rattle.str0m_values.specs.Cuts.{◌<|>◌, when};
 ghost use Rattle.str0m_sdp.specs.Fault.{err_if};
+ghost use Rattle.str0m_sdp.specs.OrderedMids.{is_part};
 ghost use Rattle.str0m_sdp.specs.SessionConsistency.{ConsistentSdp, IsContradiction, first_group, is_listed, parts};
 ghost use Rattle.str0m_sdp.specs.SessionConsistency.{section_mid, section_mids, takes_part};
 ghost use Rattle.str0m_sdp.specs.SessionFault.{Tells, first_again, first_difference, first_session_fault, listing_fault};
 ghost use Rattle.str0m_sdp.specs.SessionFault.{sections_message, session_message};
+ghost use Rattle.str0m_sdp.specs.declared.fault.SessionFault.TheVariants.{Count, Order};
 
 use crate::attribute::SessionAttribute;
 use crate::consistency::first_mid;
 use crate::error::SdpError;
 use crate::fault::SessionFault;
 use crate::media_line::MediaLine;
+use crate::ordered_mids::{find_again, is_held, names_of};
 use crate::session::Sdp;
-use std::alloc::AllocError;
-use str0m_values::Mid;
+use std::alloc::{AllocError, Global};
+use std::collections::BTreeSet;
+use str0m_values::{Items, Mid};
+
+/// The mids of so many sections, and with those of so long a group, are compared each with each, which
+/// takes no memory.
+const FEW: usize = 16;
 
 fn section_mid(m: &MediaLine) -> Option<Mid>
     ensures { result ≡ section_mid m.now }
@@ -55,8 +64,8 @@ fn has_mid(sections: &[MediaLine], mid: Mid) -> bool
         .any(|other| is_same(other, mid))
 }
 
-/// The first mid that stands again in a later section.
-fn shared_mid(sections: &[MediaLine]) -> Option<Mid>
+/// The first mid that stands again in a later section, by a look at each later one.
+fn scan_shared(sections: &[MediaLine]) -> Option<Mid>
     ensures { result ≡ first_again (section_mids sections.now) }
 {
     let mut left = sections;
@@ -69,6 +78,37 @@ fn shared_mid(sections: &[MediaLine]) -> Option<Mid>
         left = later;
     }
     None
+}
+
+/// The mids of the sections, each looked for once.
+fn gather_mids(sections: &[MediaLine], alloc: Global) -> Result<Vec<Mid>, AllocError>
+    ensures { IfOk result (λ mids. mids.items ≡ section_mids sections.now) }
+{
+    sections
+        .iter()
+        .filter_map(|section| section_mid(section))
+        .collect(alloc)
+}
+
+/// The first mid that stands again in a later section, by an ordered set: where memory is granted.
+fn find_shared(sections: &[MediaLine], alloc: Global) -> Result<Option<Mid>, AllocError>
+    ensures { IfOk result (λ found. found ≡ first_again (section_mids sections.now)) }
+{
+    let mids = gather_mids(sections, alloc)?;
+    let found = find_again(mids.as_slice(), alloc)?;
+    Ok(found)
+}
+
+/// The first mid that stands again in a later section.
+fn shared_mid(sections: &Items<MediaLine>) -> Option<Mid>
+    ensures { result ≡ first_again (section_mids sections.now) }
+{
+    if sections.len() > FEW {
+        if let Ok(found) = find_shared(sections.as_slice(), *sections.allocator()) {
+            return found;
+        }
+    }
+    scan_shared(sections.as_slice())
 }
 
 /// The mids of the first group.
@@ -123,27 +163,94 @@ fn first_difference(group: &[Mid], sections: &[MediaLine]) -> Option<(Mid, Mid)>
         .find(|pair| !is_same(pair.0, pair.1))
 }
 
-fn check_group(group: &[Mid], sections: &[MediaLine]) -> Result<(), SessionFault>
-    ensures { result ≡ err_if (listing_fault (parts group.now sections.now) group.now) }
+/// Whether a section takes part in the group whose mids the names are.
+fn is_part(names: &BTreeSet<&str>, m: &MediaLine) -> bool
+    ensures { result ≡ is_part names.now m.now }
 {
-    let count = count_parts(group, sections);
+    !m.disabled || is_held(names, section_mid(m))
+}
+
+/// The mids of the sections that do.
+fn gather_among(
+    names: &BTreeSet<&str>,
+    sections: &[MediaLine],
+    alloc: Global,
+) -> Result<Vec<Mid>, AllocError>
+    ensures { IfOk result (λ mids. mids.items ≡ section_mids (filter (is_part names.now) sections.now)) }
+{
+    sections
+        .iter()
+        .filter(|m| is_part(names, m))
+        .filter_map(|m| section_mid(m))
+        .collect(alloc)
+}
+
+/// The mids of the sections that take part, by an ordered set of the group's: where memory is granted.
+#[tactic(auto, using(crate::proofs::OrderedMids::parts_same))]
+fn gather_parts(
+    group: &[Mid],
+    sections: &[MediaLine],
+    alloc: Global,
+) -> Result<Vec<Mid>, AllocError>
+    ensures { IfOk result (λ mids. mids.items ≡ parts group.now sections.now) }
+{
+    let names = names_of(group, alloc)?;
+    let mids = gather_among(&names, sections, alloc)?;
+    Ok(mids)
+}
+
+/// The first place where two lists of mids differ.
+fn first_unlike(mids: &[Mid], group: &[Mid]) -> Option<(Mid, Mid)>
+    ensures { result ≡ first_difference mids.now group.now }
+{
+    mids.iter()
+        .copied()
+        .zip(group.iter().copied())
+        .find(|pair| !is_same(pair.0, pair.1))
+}
+
+/// The fault of so many sections that take part, and of the first place where they and the group differ.
+fn check_listing(
+    count: usize,
+    difference: Option<(Mid, Mid)>,
+    group: &[Mid],
+) -> Result<(), SessionFault>
+    ensures { result ≡ err_if (when (not (count == length group.now)) (Count (length group.now) count) <|> option_map (λ pair. Order pair.0 pair.1) difference) }
+{
     if count != group.len() {
         return Err(SessionFault::Count {
             group: group.len(),
             sections: count,
         });
     }
-    match first_difference(group, sections) {
+    match difference {
         Some((section, group)) => Err(SessionFault::Order { section, group }),
         None => Ok(()),
     }
+}
+
+fn check_group(group: &[Mid], sections: &Items<MediaLine>) -> Result<(), SessionFault>
+    ensures { result ≡ err_if (listing_fault (parts group.now sections.now) group.now) }
+{
+    if sections.len() > FEW && group.len() > FEW {
+        if let Ok(mids) = gather_parts(group, sections.as_slice(), *sections.allocator()) {
+            let unlike = first_unlike(mids.as_slice(), group);
+            return check_listing(mids.len(), unlike, group);
+        }
+    }
+    let sections = sections.as_slice();
+    check_listing(
+        count_parts(group, sections),
+        first_difference(group, sections),
+        group,
+    )
 }
 
 /// Finds the first fault between the sections, and between them and the group.
 fn check_session(sdp: &Sdp) -> Result<(), SessionFault>
     ensures { result ≡ err_if (first_session_fault sdp.now) }
 {
-    let sections = sdp.media_lines.as_slice();
+    let sections = &sdp.media_lines;
     if let Some(mid) = shared_mid(sections) {
         return Err(SessionFault::SharedMid(mid));
     }
@@ -163,9 +270,11 @@ impl Sdp {
     /// The error is `Inconsistent` with the first fault that is found in this order, or `Memory`
     /// where memory for its message was refused. A consistent session needs none.
     ///
-    /// Time grows with the square of the number of sections, since each mid is compared with that
-    /// of each later section, which is looked for among its attributes each time; and with the
-    /// number of disabled sections times that of the mids in the group.
+    /// Time grows as that of a sort of the mids, and with the session's length beside: those of more
+    /// than sixteen sections, and of a group of more than sixteen mids, are put in an ordered set.
+    /// Where memory for that is refused, each mid is compared with that of each later section, which
+    /// is looked for among its attributes each time, and that of each disabled section with those of
+    /// the group: by the square of the number of sections, and with the same answer.
     #[tactic(auto, using(crate::proofs::SessionFaultLaws::contradictions))]
     pub fn assert_consistency(&self) -> Result<(), SdpError>
         ensures exact { IsOk result ↔ ConsistentSdp self.now }

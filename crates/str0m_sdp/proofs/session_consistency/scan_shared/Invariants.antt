@@ -1,7 +1,7 @@
 use Rattle.std.proofs.Common.{◌≡◌, length}
 use Rattle.str0m_sdp.specs.SessionConsistency.{section_mids}
 use Rattle.str0m_sdp.specs.SessionFault.{first_again}
-use Rattle.str0m_sdp.proofs.session_consistency.shared_mid.Given as goal
+use Rattle.str0m_sdp.proofs.session_consistency.scan_shared.Given as goal
 
 -- no mid that was passed stands again
 abbrev pub invariant-loop-section : goal.invariant-loop-section
