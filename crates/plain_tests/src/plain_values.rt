@@ -206,3 +206,16 @@ fn h266_triples_are_made_of_their_parts(rt: HostRuntime) {
     let lower = triple.with_level(H266Level::L3_1);
     assert_eq!(rt; H266ProfileTierLevel::new(97, 1, 51), Some(lower));
 }
+
+/// Main10, High and level 6.2 of H265 (RFC 7798, section 7.1), and of H266 (RFC 9328, section 7.2), each asked alone.
+#[test]
+fn parts_of_triples_have_numbers(rt: HostRuntime) {
+    assert_eq!(rt; H265Profile::Main10.to_id(), 2);
+    assert_eq!(rt; H265Tier::High.to_id(), 1);
+    assert_eq!(rt; H265Level::L6_2.to_id(), 186);
+    assert_eq!(rt; H265Level::L6_2.ordinal(), 12);
+    assert_eq!(rt; H266Profile::Main10.to_id(), 1);
+    assert_eq!(rt; H266Tier::High.to_id(), 1);
+    assert_eq!(rt; H266Level::L6_2.to_id(), 102);
+    assert_eq!(rt; H266Level::L6_2.ordinal(), 12);
+}

@@ -1,14 +1,15 @@
 -- Profiles, tiers and levels of H265 (RFC 7798, section 7.1), in one table each.
-use Rattle.std.specs.Prelude.{◌≡◌, ℕ, List, Option}
-use Rattle.std.specs.Borrow.{Bor}
-use Rattle.str0m_values.specs.Parts.{IsNumOr}
+use Rattle.std.specs.Prelude.{ℕ}
 use Rattle.str0m_values.specs.declared.h265.H265Profile.{H265Profile}
 use Rattle.str0m_values.specs.declared.h265.H265Profile.TheVariants as profile
 use Rattle.str0m_values.specs.declared.h265.H265Tier.{H265Tier}
 use Rattle.str0m_values.specs.declared.h265.H265Tier.TheVariants as tier
 use Rattle.str0m_values.specs.declared.h265.H265Level.{H265Level}
 use Rattle.str0m_values.specs.declared.h265.H265Level.TheVariants as level
-use Rattle.str0m_values.specs.declared.h265.H265ProfileTierLevel.{H265ProfileTierLevel}
+use Rattle.str0m_values.specs.declared.profile_tier_level.ProfileTierLevel.{ProfileTierLevel}
+
+abbrev pub H265ProfileTierLevel : Type 0
+H265ProfileTierLevel = ProfileTierLevel H265Profile H265Tier H265Level
 
 -- the number of each profile
 abbrev pub profile_id : H265Profile → ℕ
@@ -54,15 +55,3 @@ level_ordinal level = (level_row level).1
 -- the numbers that an absent part stands for, and those of the fallback
 abbrev pub defaults : ℕ × ℕ × ℕ
 defaults = (1, 0, 93)
-
--- the triple has these numbers
-pub record IsTriple (profile tier level : ℕ) (triple : H265ProfileTierLevel) : Type 0 where
-  pub profile_is : profile_id triple.profile ≡ profile
-  pub tier_is : tier_flag triple.tier ≡ tier
-  pub level_is : level_id triple.level ≡ level
-
--- the triple has the numbers of these texts, or the defaults where there is none
-pub record IsTripleOfTexts (profile tier level : Option (Bor (List ℕ))) (triple : H265ProfileTierLevel) : Type 0 where
-  pub profile_is : IsNumOr 255 defaults.0 profile (profile_id triple.profile)
-  pub tier_is : IsNumOr 255 defaults.1 tier (tier_flag triple.tier)
-  pub level_is : IsNumOr 255 defaults.2 level (level_id triple.level)

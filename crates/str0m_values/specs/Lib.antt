@@ -18,6 +18,7 @@ pub mod Labels
 pub mod Near
 pub mod Only
 pub mod Parts
+pub mod ProfileTierLevel
 pub mod Protocol
 pub mod Separator
 pub mod ShortText

@@ -2,9 +2,10 @@
 ghost use Rattle.std.specs.Prelude.{◌≡◌, nat_lt};
 ghost use Rattle.std.specs.Ordering.{nat_cmp};
 ghost use Rattle.str0m_values.specs.Only.{IsTheOnly};
-ghost use Rattle.str0m_values.specs.H265.{profile_id, tier_flag, level_id, level_ordinal, defaults, IsTriple, IsTripleOfTexts};
+ghost use Rattle.str0m_values.specs.H265.{profile_id, tier_flag, level_id, level_ordinal, defaults};
+ghost use Rattle.str0m_values.specs.ProfileTierLevel.{HasNumbers, HasNumbersOfTexts};
 
-use crate::cuts::num_u8_or;
+use crate::profile_tier_level::{Leveled, Numbered, ProfileTierLevel};
 
 /// A profile of H265: which of its tools a stream may use (RFC 7798, section 7.1).
 #[derive(Clone, Copy, Debug, PartialEq, Eq, Hash)]
@@ -48,12 +49,7 @@ pub enum H265Level {
 }
 
 /// A profile, a tier and a level of H265: what a stream holds, or what a decoder bears (RFC 7798, section 7.1).
-#[derive(Clone, Copy, Debug, PartialEq, Eq, Hash)]
-pub struct H265ProfileTierLevel {
-    pub profile: H265Profile,
-    pub tier: H265Tier,
-    pub level: H265Level,
-}
+pub type H265ProfileTierLevel = ProfileTierLevel<H265Profile, H265Tier, H265Level>;
 
 impl H265Profile {
     /// The number that stands for the profile in `profile-id`.
@@ -74,11 +70,17 @@ impl H265Profile {
             H265Profile::HighThroughputScreenExtended => 11,
         }
     }
+}
 
-    fn from_id(id: u8) -> Option<H265Profile>
-        ensures { IsTheOnly (λ profile. profile_id profile ≡ id) result }
-    {
-        match id {
+impl Numbered for H265Profile {
+    ghost number_of = { profile_id };
+
+    fn number(self) -> u8 {
+        H265Profile::to_id(self)
+    }
+
+    fn of_number(number: u8) -> Option<H265Profile> {
+        match number {
             1 => Some(H265Profile::Main),
             2 => Some(H265Profile::Main10),
             3 => Some(H265Profile::MainStillPicture),
@@ -105,11 +107,17 @@ impl H265Tier {
             H265Tier::High => 1,
         }
     }
+}
 
-    fn from_id(id: u8) -> Option<H265Tier>
-        ensures { IsTheOnly (λ tier. tier_flag tier ≡ id) result }
-    {
-        match id {
+impl Numbered for H265Tier {
+    ghost number_of = { tier_flag };
+
+    fn number(self) -> u8 {
+        H265Tier::to_id(self)
+    }
+
+    fn of_number(number: u8) -> Option<H265Tier> {
+        match number {
             0 => Some(H265Tier::Main),
             1 => Some(H265Tier::High),
             _ => None,
@@ -139,10 +147,29 @@ impl H265Level {
         }
     }
 
-    fn from_id(id: u8) -> Option<H265Level>
-        ensures { IsTheOnly (λ level. level_id level ≡ id) result }
+    /// The place of the level among the levels, from 0.
+    pub fn ordinal(self) -> usize
+        ensures place { result ≡ level_ordinal self }
+
+        // Levels are in the order of their places, and so are their numbers.
+        ensures order { (a b : H265Level) →
+            ⟦<H265Level as Ord>⟧.cmp a b ≡ nat_cmp (level_ordinal a) (level_ordinal b) }
+        ensures numbers { (a b : H265Level) →
+            nat_lt (level_id a) (level_id b) ≡ nat_lt (level_ordinal a) (level_ordinal b) }
     {
-        match id {
+        self as usize
+    }
+}
+
+impl Numbered for H265Level {
+    ghost number_of = { level_id };
+
+    fn number(self) -> u8 {
+        H265Level::to_id(self)
+    }
+
+    fn of_number(number: u8) -> Option<H265Level> {
+        match number {
             30 => Some(H265Level::L1),
             60 => Some(H265Level::L2),
             63 => Some(H265Level::L2_1),
@@ -159,39 +186,26 @@ impl H265Level {
             _ => None,
         }
     }
+}
 
-    /// The place of the level among the levels, from 0.
-    pub fn ordinal(self) -> usize
-        ensures place { result ≡ level_ordinal self }
+impl Leveled for H265Level {
+    ghost place_of = { level_ordinal };
 
-        // Levels are in the order of their places, and so are their numbers.
-        ensures order { (a b : H265Level) →
-            ⟦<H265Level as Ord>⟧.cmp a b ≡ nat_cmp (level_ordinal a) (level_ordinal b) }
-        ensures numbers { (a b : H265Level) →
-            nat_lt (level_id a) (level_id b) ≡ nat_lt (level_ordinal a) (level_ordinal b) }
-    {
-        self as usize
+    fn place(self) -> usize {
+        H265Level::ordinal(self)
     }
 }
 
+/// What a description means that says nothing.
+const FALLBACK: H265ProfileTierLevel = ProfileTierLevel {
+    profile: H265Profile::Main,
+    tier: H265Tier::Main,
+    level: H265Level::L3_1,
+};
+
 impl H265ProfileTierLevel {
     /// What a description means that says nothing: Main profile, Main tier, level 3.1.
-    pub const FALLBACK: H265ProfileTierLevel = H265ProfileTierLevel {
-        profile: H265Profile::Main,
-        tier: H265Tier::Main,
-        level: H265Level::L3_1,
-    };
-
-    /// The triple of these numbers; `None` where one of them stands in no table.
-    pub fn new(profile_id: u8, tier_flag: u8, level_id: u8) -> Option<H265ProfileTierLevel>
-        ensures { IsTheOnly (IsTriple profile_id tier_flag level_id) result }
-    {
-        Some(H265ProfileTierLevel {
-            profile: H265Profile::from_id(profile_id)?,
-            tier: H265Tier::from_id(tier_flag)?,
-            level: H265Level::from_id(level_id)?,
-        })
-    }
+    pub const FALLBACK: H265ProfileTierLevel = FALLBACK;
 
     /// The triple of the values of `profile-id`, `tier-flag` and `level-id`, where an absent one
     /// takes that of the fallback. `None` where one is no number of 8 bits, or stands in no table.
@@ -200,62 +214,9 @@ impl H265ProfileTierLevel {
         tier: Option<&str>,
         level: Option<&str>,
     ) -> Option<H265ProfileTierLevel>
-        ensures triple { IsTheOnly (IsTripleOfTexts profile.entry tier.entry level.entry) result }
-        ensures fallback { IsTriple defaults.0 defaults.1 defaults.2 H265ProfileTierLevel.FALLBACK }
+        ensures triple { IsTheOnly (HasNumbersOfTexts profile_id tier_flag level_id defaults profile.entry tier.entry level.entry) result }
+        ensures fallback { HasNumbers profile_id tier_flag level_id defaults.0 defaults.1 defaults.2 FALLBACK }
     {
-        H265ProfileTierLevel::new(
-            num_u8_or(profile, 1)?,
-            num_u8_or(tier, 0)?,
-            num_u8_or(level, 93)?,
-        )
-    }
-
-    /// The profile: which tools a stream may use.
-    pub fn profile(self) -> H265Profile
-        ensures { result ≡ self.profile }
-    {
-        self.profile
-    }
-
-    /// The tier: how high the bit rate of the level may be.
-    pub fn tier(self) -> H265Tier
-        ensures { result ≡ self.tier }
-    {
-        self.tier
-    }
-
-    /// The level: what a decoder has to bear.
-    pub fn level(self) -> H265Level
-        ensures { result ≡ self.level }
-    {
-        self.level
-    }
-
-    /// The value of `profile-id`.
-    pub fn profile_id(self) -> u8
-        ensures { result ≡ profile_id self.profile }
-    {
-        self.profile.to_id()
-    }
-
-    /// The value of `tier-flag`.
-    pub fn tier_flag(self) -> u8
-        ensures { result ≡ tier_flag self.tier }
-    {
-        self.tier.to_id()
-    }
-
-    /// The value of `level-id`.
-    pub fn level_id(self) -> u8
-        ensures { result ≡ level_id self.level }
-    {
-        self.level.to_id()
-    }
-
-    /// The same profile and tier at another level.
-    pub fn with_level(self, level: H265Level) -> H265ProfileTierLevel
-        ensures { result ≡ record self { level = level } }
-    {
-        H265ProfileTierLevel { level, ..self }
+        ProfileTierLevel::of_texts(profile, tier, level, H265ProfileTierLevel::FALLBACK)
     }
 }

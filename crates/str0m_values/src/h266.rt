@@ -2,9 +2,10 @@
 ghost use Rattle.std.specs.Prelude.{◌≡◌, nat_lt};
 ghost use Rattle.std.specs.Ordering.{nat_cmp};
 ghost use Rattle.str0m_values.specs.Only.{IsTheOnly};
-ghost use Rattle.str0m_values.specs.H266.{profile_id, tier_flag, level_id, level_ordinal, defaults, IsTriple, IsTripleOfTexts};
+ghost use Rattle.str0m_values.specs.H266.{profile_id, tier_flag, level_id, level_ordinal, defaults};
+ghost use Rattle.str0m_values.specs.ProfileTierLevel.{HasNumbers, HasNumbersOfTexts};
 
-use crate::cuts::num_u8_or;
+use crate::profile_tier_level::{Leveled, Numbered, ProfileTierLevel};
 
 /// A profile of H266: which of its tools a stream may use (RFC 9328, section 7.2).
 #[derive(Clone, Copy, Debug, PartialEq, Eq, Hash)]
@@ -44,12 +45,7 @@ pub enum H266Level {
 }
 
 /// A profile, a tier and a level of H266: what a stream holds, or what a decoder bears (RFC 9328, section 7.2).
-#[derive(Clone, Copy, Debug, PartialEq, Eq, Hash)]
-pub struct H266ProfileTierLevel {
-    pub profile: H266Profile,
-    pub tier: H266Tier,
-    pub level: H266Level,
-}
+pub type H266ProfileTierLevel = ProfileTierLevel<H266Profile, H266Tier, H266Level>;
 
 impl H266Profile {
     /// The number that stands for the profile in `profile-id`.
@@ -65,11 +61,17 @@ impl H266Profile {
             H266Profile::Main10_444StillPicture => 97,
         }
     }
+}
 
-    fn from_id(id: u8) -> Option<H266Profile>
-        ensures { IsTheOnly (λ profile. profile_id profile ≡ id) result }
-    {
-        match id {
+impl Numbered for H266Profile {
+    ghost number_of = { profile_id };
+
+    fn number(self) -> u8 {
+        H266Profile::to_id(self)
+    }
+
+    fn of_number(number: u8) -> Option<H266Profile> {
+        match number {
             1 => Some(H266Profile::Main10),
             17 => Some(H266Profile::MultilayerMain10),
             33 => Some(H266Profile::Main10_444),
@@ -91,11 +93,17 @@ impl H266Tier {
             H266Tier::High => 1,
         }
     }
+}
 
-    fn from_id(id: u8) -> Option<H266Tier>
-        ensures { IsTheOnly (λ tier. tier_flag tier ≡ id) result }
-    {
-        match id {
+impl Numbered for H266Tier {
+    ghost number_of = { tier_flag };
+
+    fn number(self) -> u8 {
+        H266Tier::to_id(self)
+    }
+
+    fn of_number(number: u8) -> Option<H266Tier> {
+        match number {
             0 => Some(H266Tier::Main),
             1 => Some(H266Tier::High),
             _ => None,
@@ -126,10 +134,29 @@ impl H266Level {
         }
     }
 
-    fn from_id(id: u8) -> Option<H266Level>
-        ensures { IsTheOnly (λ level. level_id level ≡ id) result }
+    /// The place of the level among the levels, from 0.
+    pub fn ordinal(self) -> usize
+        ensures place { result ≡ level_ordinal self }
+
+        // Levels are in the order of their places, and so are their numbers.
+        ensures order { (a b : H266Level) →
+            ⟦<H266Level as Ord>⟧.cmp a b ≡ nat_cmp (level_ordinal a) (level_ordinal b) }
+        ensures numbers { (a b : H266Level) →
+            nat_lt (level_id a) (level_id b) ≡ nat_lt (level_ordinal a) (level_ordinal b) }
     {
-        match id {
+        self as usize
+    }
+}
+
+impl Numbered for H266Level {
+    ghost number_of = { level_id };
+
+    fn number(self) -> u8 {
+        H266Level::to_id(self)
+    }
+
+    fn of_number(number: u8) -> Option<H266Level> {
+        match number {
             16 => Some(H266Level::L1),
             32 => Some(H266Level::L2),
             35 => Some(H266Level::L2_1),
@@ -147,39 +174,26 @@ impl H266Level {
             _ => None,
         }
     }
+}
 
-    /// The place of the level among the levels, from 0.
-    pub fn ordinal(self) -> usize
-        ensures place { result ≡ level_ordinal self }
+impl Leveled for H266Level {
+    ghost place_of = { level_ordinal };
 
-        // Levels are in the order of their places, and so are their numbers.
-        ensures order { (a b : H266Level) →
-            ⟦<H266Level as Ord>⟧.cmp a b ≡ nat_cmp (level_ordinal a) (level_ordinal b) }
-        ensures numbers { (a b : H266Level) →
-            nat_lt (level_id a) (level_id b) ≡ nat_lt (level_ordinal a) (level_ordinal b) }
-    {
-        self as usize
+    fn place(self) -> usize {
+        H266Level::ordinal(self)
     }
 }
 
+/// What a description means that says nothing.
+const FALLBACK: H266ProfileTierLevel = ProfileTierLevel {
+    profile: H266Profile::Main10,
+    tier: H266Tier::Main,
+    level: H266Level::L3_1,
+};
+
 impl H266ProfileTierLevel {
     /// What a description means that says nothing: Main 10 profile, Main tier, level 3.1.
-    pub const FALLBACK: H266ProfileTierLevel = H266ProfileTierLevel {
-        profile: H266Profile::Main10,
-        tier: H266Tier::Main,
-        level: H266Level::L3_1,
-    };
-
-    /// The triple of these numbers; `None` where one of them stands in no table.
-    pub fn new(profile_id: u8, tier_flag: u8, level_id: u8) -> Option<H266ProfileTierLevel>
-        ensures { IsTheOnly (IsTriple profile_id tier_flag level_id) result }
-    {
-        Some(H266ProfileTierLevel {
-            profile: H266Profile::from_id(profile_id)?,
-            tier: H266Tier::from_id(tier_flag)?,
-            level: H266Level::from_id(level_id)?,
-        })
-    }
+    pub const FALLBACK: H266ProfileTierLevel = FALLBACK;
 
     /// The triple of the values of `profile-id`, `tier-flag` and `level-id`, where an absent one
     /// takes that of the fallback. `None` where one is no number of 8 bits, or stands in no table.
@@ -188,62 +202,9 @@ impl H266ProfileTierLevel {
         tier: Option<&str>,
         level: Option<&str>,
     ) -> Option<H266ProfileTierLevel>
-        ensures triple { IsTheOnly (IsTripleOfTexts profile.entry tier.entry level.entry) result }
-        ensures fallback { IsTriple defaults.0 defaults.1 defaults.2 H266ProfileTierLevel.FALLBACK }
+        ensures triple { IsTheOnly (HasNumbersOfTexts profile_id tier_flag level_id defaults profile.entry tier.entry level.entry) result }
+        ensures fallback { HasNumbers profile_id tier_flag level_id defaults.0 defaults.1 defaults.2 FALLBACK }
     {
-        H266ProfileTierLevel::new(
-            num_u8_or(profile, 1)?,
-            num_u8_or(tier, 0)?,
-            num_u8_or(level, 51)?,
-        )
-    }
-
-    /// The profile: which tools a stream may use.
-    pub fn profile(self) -> H266Profile
-        ensures { result ≡ self.profile }
-    {
-        self.profile
-    }
-
-    /// The tier: how high the bit rate of the level may be.
-    pub fn tier(self) -> H266Tier
-        ensures { result ≡ self.tier }
-    {
-        self.tier
-    }
-
-    /// The level: what a decoder has to bear.
-    pub fn level(self) -> H266Level
-        ensures { result ≡ self.level }
-    {
-        self.level
-    }
-
-    /// The value of `profile-id`.
-    pub fn profile_id(self) -> u8
-        ensures { result ≡ profile_id self.profile }
-    {
-        self.profile.to_id()
-    }
-
-    /// The value of `tier-flag`.
-    pub fn tier_flag(self) -> u8
-        ensures { result ≡ tier_flag self.tier }
-    {
-        self.tier.to_id()
-    }
-
-    /// The value of `level-id`.
-    pub fn level_id(self) -> u8
-        ensures { result ≡ level_id self.level }
-    {
-        self.level.to_id()
-    }
-
-    /// The same profile and tier at another level.
-    pub fn with_level(self, level: H266Level) -> H266ProfileTierLevel
-        ensures { result ≡ record self { level = level } }
-    {
-        H266ProfileTierLevel { level, ..self }
+        ProfileTierLevel::of_texts(profile, tier, level, H266ProfileTierLevel::FALLBACK)
     }
 }

@@ -6,11 +6,10 @@ mod answer;
 mod candidates;
 mod fingerprints;
 mod h264_profiles;
-mod h265_profiles;
-mod h266_profiles;
 mod identifiers;
 mod lists;
 mod numbers;
+mod tiered_profiles;
 
 pub use crate::answer::Answer;
 pub use crate::identifiers::direction;
@@ -24,6 +23,5 @@ pub fn answers(answer: &mut Answer, asked: &str, text: &str) -> bool {
         || identifiers::answers(answer, asked, text)
         || numbers::answers(answer, asked, text)
         || h264_profiles::answers(answer, asked, text)
-        || h265_profiles::answers(answer, asked, text)
-        || h266_profiles::answers(answer, asked, text)
+        || tiered_profiles::answers(answer, asked, text)
 }
