@@ -9,13 +9,12 @@ use denote.Enum.Declared.{Declared}
 use Rattle.str0m_values.specs.contracts.h265.H265Profile as h265_profile
 use Rattle.str0m_values.specs.contracts.h265.H265Tier as h265_tier
 use Rattle.str0m_values.specs.contracts.h265.H265Level as h265_level
-use Rattle.str0m_values.specs.contracts.h265.H265ProfileTierLevelPartialEq.TheImpl as h265
 use Rattle.str0m_values.specs.contracts.h266.H266Profile as h266_profile
 use Rattle.str0m_values.specs.contracts.h266.H266Tier as h266_tier
 use Rattle.str0m_values.specs.contracts.h266.H266Level as h266_level
-use Rattle.str0m_values.specs.contracts.h266.H266ProfileTierLevelPartialEq.TheImpl as h266
-use Rattle.str0m_values.specs.declared.h265.H265ProfileTierLevel.{H265ProfileTierLevel}
-use Rattle.str0m_values.specs.declared.h266.H266ProfileTierLevel.{H266ProfileTierLevel}
+use Rattle.str0m_values.specs.declared.profile_tier_level.ProfileTierLevel.{ProfileTierLevel}
+use Rattle.str0m_values.specs.H265.{H265ProfileTierLevel}
+use Rattle.str0m_values.specs.H266.{H266ProfileTierLevel}
 use Rattle.str0m_formats.specs.contracts.codec.Codec as codec
 use Rattle.str0m_formats.specs.contracts.format_params.FormatParamsPartialEq.TheImpl as format
 use Rattle.str0m_formats.specs.declared.codec.Codec.{Codec}
@@ -49,27 +48,25 @@ flags = option_Decides beq booleans_Decides
 pub bare_Decides : (D : Declared) → Bare D.parts → (a b : D.D) → Decides (sameb D a b) (a ≡ b)
 bare_Decides D bare a b = (same_true D bare a b, true_same D a b)
 
-pub h265_Decides : (a b : H265ProfileTierLevel) → Decides (h265.eq-value.it a b) (a ≡ b)
-h265_Decides a b =
+-- `==` of a profile, a tier and a level: that of each part
+abbrev pub same_triple : {P T L : Type 0} → (P → P → Bool) → (T → T → Bool) → (L → L → Bool) → (a b : ProfileTierLevel P T L) → Bool
+same_triple profiles tiers levels a b = profiles a.profile b.profile && (tiers a.tier b.tier && levels a.level b.level)
+
+triple_Decides : {P T L : Type 0} (profiles : P → P → Bool) (tiers : T → T → Bool) (levels : L → L → Bool)
+    → ((x y : P) → Decides (profiles x y) (x ≡ y)) → ((x y : T) → Decides (tiers x y) (x ≡ y)) → ((x y : L) → Decides (levels x y) (x ≡ y))
+    → (a b : ProfileTierLevel P T L) → Decides (same_triple profiles tiers levels a b) (a ≡ b)
+triple_Decides profiles tiers levels of_profiles of_tiers of_levels a b =
     Decides-like _ (λ e i. record { profile = e.0 i; tier = e.1.0 i; level = e.1.1 i })
     (λ e. (λ i. (e i).profile) ⊗ (λ i. (e i).tier) ⊗ (λ i. (e i).level))
-    (bare_Decides h265_profile.the_type tt a.profile b.profile
-    and bare_Decides h265_tier.the_type tt a.tier b.tier
-    and bare_Decides h265_level.the_type tt a.level b.level)
+    (of_profiles a.profile b.profile and of_tiers a.tier b.tier and of_levels a.level b.level)
 
-h265_triples : (a b : Option H265ProfileTierLevel) → Decides (option_eq (λ x y. h265.eq-value.it x y) a b) (a ≡ b)
-h265_triples = option_Decides _ h265_Decides
+pub h265_Decides : (a b : H265ProfileTierLevel) → Decides (same_triple (sameb h265_profile.the_type) (sameb h265_tier.the_type) (sameb h265_level.the_type) a b) (a ≡ b)
+h265_Decides =
+    triple_Decides _ _ _ (bare_Decides h265_profile.the_type tt) (bare_Decides h265_tier.the_type tt) (bare_Decides h265_level.the_type tt)
 
-pub h266_Decides : (a b : H266ProfileTierLevel) → Decides (h266.eq-value.it a b) (a ≡ b)
-h266_Decides a b =
-    Decides-like _ (λ e i. record { profile = e.0 i; tier = e.1.0 i; level = e.1.1 i })
-    (λ e. (λ i. (e i).profile) ⊗ (λ i. (e i).tier) ⊗ (λ i. (e i).level))
-    (bare_Decides h266_profile.the_type tt a.profile b.profile
-    and bare_Decides h266_tier.the_type tt a.tier b.tier
-    and bare_Decides h266_level.the_type tt a.level b.level)
-
-h266_triples : (a b : Option H266ProfileTierLevel) → Decides (option_eq (λ x y. h266.eq-value.it x y) a b) (a ≡ b)
-h266_triples = option_Decides _ h266_Decides
+pub h266_Decides : (a b : H266ProfileTierLevel) → Decides (same_triple (sameb h266_profile.the_type) (sameb h266_tier.the_type) (sameb h266_level.the_type) a b) (a ≡ b)
+h266_Decides =
+    triple_Decides _ _ _ (bare_Decides h266_profile.the_type tt) (bare_Decides h266_tier.the_type tt) (bare_Decides h266_level.the_type tt)
 
 pub format_Decides : (a b : FormatParams) → Decides (format.eq-value.it a b) (a ≡ b)
 format_Decides a b =
@@ -112,8 +109,8 @@ format_Decides a b =
     and numbers a.profile b.profile
     and numbers a.level_idx b.level_idx
     and numbers a.tier b.tier
-    and h265_triples a.h265_profile_tier_level b.h265_profile_tier_level
-    and h266_triples a.h266_profile_tier_level b.h266_profile_tier_level
+    and option_Decides _ h265_Decides a.h265_profile_tier_level b.h265_profile_tier_level
+    and option_Decides _ h266_Decides a.h266_profile_tier_level b.h266_profile_tier_level
     and numbers a.sprop_max_don_diff b.sprop_max_don_diff
     and numbers a.telephone_event_max b.telephone_event_max
     and flags a.octet_align b.octet_align

@@ -11,25 +11,21 @@ use Rattle.std.proofs.lemmas.Fmt.{decimal_nonempty}
 use Rattle.std.proofs.lemmas.List.{append_assoc}
 use Rattle.std.proofs.lemmas.Map.Keys.{IsDistinct-cons, IsDistinct-head, IsDistinct-tail}
 use Rattle.std.proofs.lemmas.Slice.Eq.{bytes_eq-Decides}
-use Rattle.str0m_values.specs.H265 as h265
-use Rattle.str0m_values.specs.H266 as h266
-use Rattle.str0m_values.specs.declared.h265.H265ProfileTierLevel.{H265ProfileTierLevel as h265_triple}
-use Rattle.str0m_values.specs.declared.h266.H266ProfileTierLevel.{H266ProfileTierLevel as h266_triple}
+use Rattle.str0m_values.specs.declared.profile_tier_level.ProfileTierLevel.{ProfileTierLevel}
 use Rattle.str0m_formats.specs.declared.format_key.FormatKey.{FormatKey}
 use Rattle.str0m_formats.specs.declared.format_param.FormatParam.{FormatParam}
 use Rattle.str0m_formats.specs.declared.format_param.FormatParam.TheVariants.{AmrWbUnsupported, H265ProfileTierLevel, H266ProfileTierLevel}
 use Rattle.str0m_formats.specs.FormatKey.{key_text}
-use Rattle.str0m_formats.specs.FormatParam.{Value, Reads, Holds, IsParsed, AreParsed, entry, param_text}
+use Rattle.str0m_formats.specs.FormatParam.{Value, Reads, Holds, IsParsed, AreParsed, entry, triple_text, param_text}
 use Rattle.str0m_formats.specs.Pairs.{has_mark, merged, others, is_part, AreJoined, AreRead}
-use Rattle.str0m_formats.specs.PairsReading.{params_read, triple_read}
+use Rattle.str0m_formats.specs.PairsReading.{Tables, h265_tables, h266_tables, params_read, triple_read}
 use Rattle.str0m_formats.specs.ParamReading.{param_of}
 use Rattle.str0m_formats.proofs.KeyedParams.{IsKeyed, AreKeyed, pair_of, entry_pair, prints, key_unmarked, keyed_or_hidden, keyed_shown, shown_keyed, keyed_params, keyed_texts, keyed_pairs, keyed_unmarked}
 use Rattle.str0m_formats.proofs.MergedKeys.{IsLow, AreLow, AreApart, merged_apart, others_all, others_apart, others_other, others_same, merged_same}
-use Rattle.str0m_formats.proofs.PrintedLine.{unmarked, marked, no_h265}
+use Rattle.str0m_formats.proofs.PrintedLine.{unmarked, marked}
 use Rattle.str0m_formats.proofs.Plain.{plain_from}
-use Rattle.str0m_formats.proofs.RoundTrip.{decimal_reads}
-use Rattle.str0m_formats.proofs.Shown.{IsPlainPair, joined_pair, decimal_plain, h265_small, h266_small}
-use Rattle.str0m_formats.proofs.TripleLaws.{h265_both, h266_both}
+use Rattle.str0m_formats.proofs.Shown.{IsPlainPair, joined_pair, decimal_plain}
+use Rattle.str0m_formats.proofs.TripleLaws.{AreBytes, texts_shown, h265_small, h266_small, h265_again, h266_again}
 
 -- the parameters print as pairs that are read as them
 pub record IsPairsLine (shown : List FormatParam) : Type 0 where
@@ -179,32 +175,12 @@ numbers_plain k m n p q r = (
   ),
 )
 
-h265_line : (t : h265_triple) (params : List FormatParam) → AreOthers params → IsPairsLine (H265ProfileTierLevel t ∷ params)
-h265_line t params h =
-    let small = h265_small t in
-    let a = decimal (h265.profile_id t.profile) in
-    let b = decimal (h265.tier_flag t.tier) in
-    let c = decimal (h265.level_id t.level) in
-    let is = h265_both.complete (Some a, Some b, Some c) t (
-      decimal_reads 255 (h265.profile_id t.profile) small.0 (omega (arith, small.0)),
-      decimal_reads 255 (h265.tier_flag t.tier) small.1 (omega (arith, small.1)),
-      decimal_reads 255 (h265.level_id t.level) small.2 (omega (arith, small.2)),
-    ) in
-    triple_line (H265ProfileTierLevel t) a b c params refl (numbers_plain _ _ _ small.0 small.1 small.2) (rw is refl) h
-
-h266_line : (t : h266_triple) (params : List FormatParam) → AreOthers params → IsPairsLine (H266ProfileTierLevel t ∷ params)
-h266_line t params h =
-    let small = h266_small t in
-    let a = decimal (h266.profile_id t.profile) in
-    let b = decimal (h266.tier_flag t.tier) in
-    let c = decimal (h266.level_id t.level) in
-    let is = h266_both.complete (Some a, Some b, Some c) t (
-      decimal_reads 255 (h266.profile_id t.profile) small.0 (omega (arith, small.0)),
-      decimal_reads 255 (h266.tier_flag t.tier) small.1 (omega (arith, small.1)),
-      decimal_reads 255 (h266.level_id t.level) small.2 (omega (arith, small.2)),
-    ) in
-    triple_line (H266ProfileTierLevel t) a b c params refl (numbers_plain _ _ _ small.0 small.1 small.2)
-    (rw (no_h265 (Some a) (Some b) t.level small.2, is) refl) h
+shown_line : {P T L : Type 0} (tables : Tables P T L) (q : FormatParam) (t : ProfileTierLevel P T L) (params : List FormatParam)
+    → param_text q ≡ triple_text (tables.profile_id t.profile) (tables.tier_flag t.tier) (tables.level_id t.level)
+    → AreBytes tables t → triple_read (texts_shown tables t) ≡ Some q → AreOthers params → IsPairsLine (q ∷ params)
+shown_line tables q t params text small read h =
+    triple_line q (decimal (tables.profile_id t.profile)) (decimal (tables.tier_flag t.tier)) (decimal (tables.level_id t.level)) params text
+    (numbers_plain _ _ _ small.0 small.1 small.2) read h
 
 -- ---- all pairs
 
@@ -223,9 +199,11 @@ others_of pairs params are =
 
 joined_line : (pairs : List (List ℕ × List ℕ)) (params : List FormatParam) → AreJoined (merged pairs) params → IsPairsLine (filter prints params)
 joined_line pairs params (triple, rest, inl (t, h265, is), are, joined) =
-    rw (joined, is, lt-ltb 0 (length (param_text (H265ProfileTierLevel t))) (omega arith)) (h265_line t (filter prints rest) (others_of pairs rest are))
+    rw (joined, is, lt-ltb 0 (length (param_text (H265ProfileTierLevel t))) (omega arith))
+    (shown_line h265_tables (H265ProfileTierLevel t) t (filter prints rest) refl (h265_small t) (h265_again t) (others_of pairs rest are))
 joined_line pairs params (triple, rest, inr (no_h265, inl (t, h266, is)), are, joined) =
-    rw (joined, is, lt-ltb 0 (length (param_text (H266ProfileTierLevel t))) (omega arith)) (h266_line t (filter prints rest) (others_of pairs rest are))
+    rw (joined, is, lt-ltb 0 (length (param_text (H266ProfileTierLevel t))) (omega arith))
+    (shown_line h266_tables (H266ProfileTierLevel t) t (filter prints rest) refl (h266_small t) (h266_again t) (others_of pairs rest are))
 joined_line pairs params (triple, rest, inr (no_h265, inr (no_h266, is)), are, joined) =
     rw (joined, is) (read_alone (others (merged pairs)) rest are)
 

@@ -6,6 +6,9 @@ use Rattle.std.specs.List.{slice_get}
 use Rattle.std.specs.Option.{option_or}
 use Rattle.std.proofs.lemmas.Option.{same_Some}
 use Rattle.std.proofs.lemmas.List.Elements.{All-nil, All-cons, All-head, All-tail}
+use Rattle.str0m_values.specs.H265 as h265
+use Rattle.str0m_values.specs.H266 as h266
+use Rattle.str0m_values.specs.declared.profile_tier_level.ProfileTierLevel.{ProfileTierLevel}
 use Rattle.str0m_formats.specs.declared.codec.Codec.{Codec}
 use Rattle.str0m_formats.specs.declared.codec.Codec.TheVariants.{Opus, PCMU, PCMA, G722, CN, AmrWb, H264, H265, H266, Vp8, Vp9, Av1, Tele, Rtx, Red, Null, Unknown}
 use Rattle.str0m_formats.specs.declared.codec_spec.CodecSpec.{CodecSpec}
@@ -13,7 +16,7 @@ use Rattle.str0m_formats.specs.declared.payload_params.PayloadParams.{PayloadPar
 use Rattle.str0m_formats.specs.Bounds.{AreModes, IsDistance, IsBounded}
 use Rattle.str0m_formats.specs.Codec.{Content, content, audio, video, events, other}
 use Rattle.str0m_formats.specs.declared.format_params.FormatParams.{FormatParams}
-use Rattle.str0m_formats.specs.Narrowing.{narrowed, narrowed_as, lower_h265, lower_h266, id_beside, telephone_max}
+use Rattle.str0m_formats.specs.Narrowing.{narrowed, narrowed_as, lower_triple, id_beside, telephone_max}
 use Rattle.str0m_formats.specs.PlainRow.{IsPlain, IsPlainG722, HasPictureFeedback, HasPlainTriples, SaysEventsAlone}
 use Rattle.str0m_formats.specs.Rows.{AllSmall, types_of, locked_types, open_types}
 use Rattle.str0m_formats.specs.Choices.{IsChoice, points_for}
@@ -74,23 +77,12 @@ or-holds : {A : Type 0} (P : A → Type 0) (a b : Option A) → IfSome a P → I
 or-holds P None b h k = k
 or-holds P (Some x) b h k = h
 
-no_id_beside-h265 : (own chosen : CodecSpec)
-    → lower_h265 own.format.h265_profile_tier_level chosen.format.h265_profile_tier_level ≢ None
-    → id_beside chosen.format.h265_profile_tier_level chosen.format.profile_id ≡ None
-no_id_beside-h265 own chosen = go own.format.h265_profile_tier_level chosen.format.h265_profile_tier_level where
-  go : (a b : Option _) → lower_h265 a b ≢ None → id_beside b chosen.format.profile_id ≡ None
-  go a (Some t) h = refl
-  go None None h = absurd (h refl)
-  go (Some s) None h = absurd (h refl)
-
-no_id_beside-h266 : (own chosen : CodecSpec)
-    → lower_h266 own.format.h266_profile_tier_level chosen.format.h266_profile_tier_level ≢ None
-    → id_beside chosen.format.h266_profile_tier_level chosen.format.profile_id ≡ None
-no_id_beside-h266 own chosen = go own.format.h266_profile_tier_level chosen.format.h266_profile_tier_level where
-  go : (a b : Option _) → lower_h266 a b ≢ None → id_beside b chosen.format.profile_id ≡ None
-  go a (Some t) h = refl
-  go None None h = absurd (h refl)
-  go (Some s) None h = absurd (h refl)
+-- where a triple is left, the choice has one, and so no id stands beside it
+no_id_beside : {P T L : Type 0} (place : L → ℕ) (own chosen : Option (ProfileTierLevel P T L)) (id : Option ℕ)
+    → lower_triple place own chosen ≢ None → id_beside chosen id ≡ None
+no_id_beside place own (Some t) id h = refl
+no_id_beside place None None id h = absurd (h refl)
+no_id_beside place (Some s) None id h = absurd (h refl)
 
 events-narrowed : (own chosen : CodecSpec) → own.codec ≡ Tele → PlainSpec own → PlainSpec (narrowed_as Tele own chosen)
 events-narrowed own chosen is p = record {
@@ -105,46 +97,42 @@ events-narrowed own chosen is p = record {
   no_maximum = λ other_than. absurd (other_than (ap content is));
 }
 
-h264-narrowed : (own chosen : CodecSpec) → own.codec ≡ H264 → PlainSpec own → PlainSpec (narrowed_as H264 own chosen)
-h264-narrowed own chosen is p = record {
+-- a spec of pictures with another format, which keeps to the ranges and has the same maximum of events
+pictures-narrowed : (own : CodecSpec) (format : FormatParams) → content own.codec ≡ video → PlainSpec own
+    → IfSome format.mode_set AreModes → IfSome format.sprop_max_don_diff IsDistance
+    → format.telephone_event_max ≡ own.format.telephone_event_max → HasPlainTriples (record own { format = format })
+    → PlainSpec (record own { format = format })
+pictures-narrowed own format shows p modes distance same triples = record {
   carried = p.carried;
-  modes = p.modes;
-  distance = p.distance;
-  triples = record { h265 = p.triples.h265; h266 = p.triples.h266 };
-  g722 = λ e. absurd (cc);
-  telephone = λ e. let v = sym (ap content is) ∙ e in absurd (cc);
-  no_maximum = p.no_maximum;
+  modes = modes;
+  distance = distance;
+  triples = triples;
+  g722 = λ e. let v = sym shows ∙ ap content e in absurd (cc);
+  telephone = λ e. let v = sym shows ∙ e in absurd (cc);
+  no_maximum = λ other_than. same ∙ p.no_maximum other_than;
 }
+
+h264-narrowed : (own chosen : CodecSpec) → own.codec ≡ H264 → PlainSpec own → PlainSpec (narrowed_as H264 own chosen)
+h264-narrowed own chosen is p =
+    pictures-narrowed own _ (ap content is) p p.modes p.distance refl (record { h265 = p.triples.h265; h266 = p.triples.h266 })
 
 h265-narrowed : (own chosen : CodecSpec) → own.codec ≡ H265 → PlainSpec own → IfSome chosen.format.sprop_max_don_diff IsDistance
     → PlainSpec (narrowed_as H265 own chosen)
-h265-narrowed own chosen is p d = record {
-  carried = p.carried;
-  modes = p.modes;
-  distance = or-holds IsDistance chosen.format.sprop_max_don_diff own.format.sprop_max_don_diff d p.distance;
-  triples = record {
-    h265 = λ some. (is, no_id_beside-h265 own chosen some);
-    h266 = λ some. let e = (p.triples.h266 some).0 in absurd (cc);
-  };
-  g722 = λ e. absurd (cc);
-  telephone = λ e. let v = sym (ap content is) ∙ e in absurd (cc);
-  no_maximum = p.no_maximum;
-}
+h265-narrowed own chosen is p d =
+    let distance = or-holds IsDistance chosen.format.sprop_max_don_diff own.format.sprop_max_don_diff d p.distance in
+    pictures-narrowed own _ (ap content is) p p.modes distance refl (record {
+      h265 = λ some. (is, no_id_beside h265.level_ordinal own.format.h265_profile_tier_level _ chosen.format.profile_id some);
+      h266 = λ some. let e = (p.triples.h266 some).0 in absurd (cc);
+    })
 
 h266-narrowed : (own chosen : CodecSpec) → own.codec ≡ H266 → PlainSpec own → IfSome chosen.format.sprop_max_don_diff IsDistance
     → PlainSpec (narrowed_as H266 own chosen)
-h266-narrowed own chosen is p d = record {
-  carried = p.carried;
-  modes = p.modes;
-  distance = or-holds IsDistance chosen.format.sprop_max_don_diff own.format.sprop_max_don_diff d p.distance;
-  triples = record {
-    h265 = λ some. let e = (p.triples.h265 some).0 in absurd (cc);
-    h266 = λ some. (is, no_id_beside-h266 own chosen some);
-  };
-  g722 = λ e. absurd (cc);
-  telephone = λ e. let v = sym (ap content is) ∙ e in absurd (cc);
-  no_maximum = p.no_maximum;
-}
+h266-narrowed own chosen is p d =
+    let distance = or-holds IsDistance chosen.format.sprop_max_don_diff own.format.sprop_max_don_diff d p.distance in
+    pictures-narrowed own _ (ap content is) p p.modes distance refl (record {
+      h265 = λ some. let e = (p.triples.h265 some).0 in absurd (cc);
+      h266 = λ some. (is, no_id_beside h266.level_ordinal own.format.h266_profile_tier_level _ chosen.format.profile_id some);
+    })
 
 amr_wb-narrowed : (own chosen : CodecSpec) → own.codec ≡ AmrWb → PlainSpec own → IfSome chosen.format.mode_set AreModes
     → PlainSpec (narrowed_as AmrWb own chosen)

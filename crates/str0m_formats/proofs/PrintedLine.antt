@@ -11,14 +11,9 @@ use Rattle.std.proofs.lemmas.List.Elements.{filter_map-append}
 use Rattle.std.proofs.lemmas.Option.{none-some}
 use Rattle.str0m_values.specs.Parts.{Lacks}
 use Rattle.str0m_values.specs.Cuts.{before, front, lacks}
-use Rattle.str0m_values.specs.H265 as h265
-use Rattle.str0m_values.specs.H266 as h266
-use Rattle.str0m_values.specs.declared.h266.H266Level.{H266Level}
-use Rattle.str0m_values.specs.declared.h266.H266Level.TheVariants as level6
-use Rattle.str0m_values.specs.declared.h265.H265ProfileTierLevel.{H265ProfileTierLevel as h265_triple}
-use Rattle.str0m_values.specs.declared.h266.H266ProfileTierLevel.{H266ProfileTierLevel as h266_triple}
+use Rattle.str0m_values.specs.H265.{H265ProfileTierLevel as h265_triple}
+use Rattle.str0m_values.specs.H266.{H266ProfileTierLevel as h266_triple}
 use Rattle.str0m_values.proofs.CutLaws.{cut_at, cut_none, lacks_true, lacks_from}
-use Rattle.str0m_values.proofs.BothWays.{reads_none}
 use Rattle.str0m_formats.specs.declared.format_param.FormatParam.{FormatParam}
 use Rattle.str0m_formats.specs.declared.format_param.FormatParam.TheVariants.{H265ProfileTierLevel, H266ProfileTierLevel, TelephoneEvents, Unknown}
 use Rattle.str0m_formats.specs.declared.format_params.Field.{Field}
@@ -29,17 +24,15 @@ use Rattle.str0m_formats.specs.FormatParams.{empty, set, set_all, fields, param_
 use Rattle.str0m_formats.specs.FormatLine.{pieces, pair_in, bare_in, pairs_in, bares_in, IsFormatOfLine}
 use Rattle.str0m_formats.specs.ParamReading.{param_of}
 use Rattle.str0m_formats.specs.Pairs.{has_mark, merged, others, texts_of}
-use Rattle.str0m_formats.specs.PairsReading.{levels5, row_of, h265_read, triple_read, joined_read, params_read}
-use Rattle.str0m_formats.specs.Triple.{Texts}
+use Rattle.str0m_formats.specs.PairsReading.{triple_read, joined_read, params_read}
 use Rattle.str0m_formats.proofs.Joined.{AreFreeOf, slice_split-join}
 use Rattle.str0m_formats.proofs.LineLaws.{set_all-append}
 use Rattle.str0m_formats.proofs.PairsLaws.{pairs_read_only}
 use Rattle.str0m_formats.proofs.Plain.{IsPlain, plain_lacks, lacks_free, trim_plain}
-use Rattle.str0m_formats.proofs.RoundTrip.{decimal_reads}
-use Rattle.str0m_formats.proofs.Rows.{Rows, given, given-append, look, look_given, mark_given, others_given, merged_given}
+use Rattle.str0m_formats.proofs.Rows.{Rows, given, given-append, look_given, mark_given, others_given, merged_given}
 use Rattle.str0m_formats.proofs.SetAll.{part, all_done, set_each}
-use Rattle.str0m_formats.proofs.Shown.{rows_at, bares_at, joined_pair, pieces_at, IsPlainPair, IsShown, shows, is_single, reads, h265_small, h266_small}
-use Rattle.str0m_formats.proofs.TripleLaws.{own_level5, h265_both, h266_both}
+use Rattle.str0m_formats.proofs.Shown.{rows_at, bares_at, joined_pair, pieces_at, IsPlainPair, IsShown, shows, is_single, reads}
+use Rattle.str0m_formats.proofs.TripleLaws.{h265_again, h266_again}
 
 -- ---- lists of fields
 
@@ -180,8 +173,15 @@ found (f ∷ fs) p h =
 abbrev singles : List Field
 singles = field.MinPTime ∷ field.Stereo ∷ field.SpropStereo ∷ field.UseInbandFec ∷ field.UseDtx ∷ field.LevelAsymmetryAllowed ∷ field.PacketizationMode ∷ field.ProfileLevelId ∷ field.ProfileId ∷ field.Profile ∷ field.LevelIdx ∷ field.Tier ∷ field.SpropMaxDonDiff ∷ field.OctetAlign ∷ field.ModeSet ∷ []
 
+-- the fields before a profile, tier and level, without the profile id, and those behind
+abbrev before_triple : List Field
+before_triple = field.MinPTime ∷ field.Stereo ∷ field.SpropStereo ∷ field.UseInbandFec ∷ field.UseDtx ∷ field.LevelAsymmetryAllowed ∷ field.PacketizationMode ∷ field.ProfileLevelId ∷ field.Profile ∷ field.LevelIdx ∷ field.Tier ∷ []
+
+abbrev behind_triple : List Field
+behind_triple = field.SpropMaxDonDiff ∷ field.OctetAlign ∷ field.ModeSet ∷ []
+
 abbrev rest : List Field
-rest = field.MinPTime ∷ field.Stereo ∷ field.SpropStereo ∷ field.UseInbandFec ∷ field.UseDtx ∷ field.LevelAsymmetryAllowed ∷ field.PacketizationMode ∷ field.ProfileLevelId ∷ field.Profile ∷ field.LevelIdx ∷ field.Tier ∷ field.SpropMaxDonDiff ∷ field.OctetAlign ∷ field.ModeSet ∷ []
+rest = before_triple ++ behind_triple
 
 cons_append : {A : Type 0} (o : Option A) (xs : List A) → cons_option o [] ++ xs ≡ cons_option o xs
 cons_append None xs = refl
@@ -213,85 +213,28 @@ without_triple p h e5 e6 =
 abbrev triple_first : List Field
 triple_first = field.H265ProfileTierLevel ∷ field.H266ProfileTierLevel ∷ field.ProfileId ∷ rest
 
--- ---- with a triple of H265
+-- ---- with a triple
 
-abbrev fields5 : List Field
-fields5 = field.MinPTime ∷ field.Stereo ∷ field.SpropStereo ∷ field.UseInbandFec ∷ field.UseDtx ∷ field.LevelAsymmetryAllowed ∷ field.PacketizationMode ∷ field.ProfileLevelId ∷ field.Profile ∷ field.LevelIdx ∷ field.Tier ∷ field.H265ProfileTierLevel ∷ field.SpropMaxDonDiff ∷ field.OctetAlign ∷ field.ModeSet ∷ []
+-- the keys of a triple, among those of the other fields
+abbrev rows_with : List ℕ → List ℕ → List ℕ → FormatParams → Rows
+rows_with a b c p =
+    all_rows before_triple p ++ ((codes "profile-id", Some a) ∷ (codes "tier-flag", Some b) ∷ (codes "level-id", Some c) ∷ all_rows behind_triple p)
 
-abbrev fields6 : List Field
-fields6 = field.MinPTime ∷ field.Stereo ∷ field.SpropStereo ∷ field.UseInbandFec ∷ field.UseDtx ∷ field.LevelAsymmetryAllowed ∷ field.PacketizationMode ∷ field.ProfileLevelId ∷ field.Profile ∷ field.LevelIdx ∷ field.Tier ∷ field.H266ProfileTierLevel ∷ field.SpropMaxDonDiff ∷ field.OctetAlign ∷ field.ModeSet ∷ []
+with_triple : (q : FormatParam) (a b c : List ℕ) (p : FormatParams) → AllWithin p → all_pairs fields p ≡ given (rows_with a b c p)
+    → triple_read (Some a, Some b, Some c) ≡ Some q → params_read (all_pairs fields p) ≡ q ∷ filter_map (λ f. param_at f p) rest
+with_triple q a b c p h own read =
+    let rows = rows_with a b c p in
+    let texts : texts_of (given rows) ≡ (Some a, Some b, Some c) = λ i. (look_given (codes "profile-id") rows i, look_given (codes "tier-flag") rows i, look_given (codes "level-id") rows i) in
+    let others_are : map param_of (others (given rows)) ≡ filter_map (λ f. param_at f p) rest = ap (map param_of) (others_given rows ∙ sym (pairs_rows rest p)) ∙ reads_all rest p h refl in
+    ap params_read own ∙ marked (given rows) (mark_given rows) (merged_given rows refl)
+    ∙ ap (λ (o : Option FormatParam). cons_option o (map param_of (others (given rows)))) (ap triple_read texts ∙ read)
+    ∙ ap (λ (qs : List FormatParam). q ∷ qs) others_are
 
 with_h265 : (p : FormatParams) (t : h265_triple) → AllWithin p → p.h265_profile_tier_level ≡ Some t → p.h266_profile_tier_level ≡ None → p.profile_id ≡ None → params_read (all_pairs fields p) ≡ filter_map (λ f. param_at f p) triple_first
-with_h265 p t h e5 e6 ei =
-    let rows = all_rows fields5 p in
-    let own : all_pairs fields p ≡ all_pairs fields5 p = rw (e6, ei) refl in
-    let mark : has_mark (given rows) ≡ true = mark_given rows ∙ rw e5 refl in
-    let texts : texts_of (given rows) ≡ (Some (decimal (h265.profile_id t.profile)), Some (decimal (h265.tier_flag t.tier)), Some (decimal (h265.level_id t.level))) = λ i. ((look_given (codes "profile-id") rows ∙ profile) i, (look_given (codes "tier-flag") rows ∙ tier) i, (look_given (codes "level-id") rows ∙ level) i) in
-    let small = h265_small t in
-    let read : triple_read (texts_of (given rows)) ≡ Some (H265ProfileTierLevel t) = ap triple_read texts ∙ rw (h265_both.complete (Some (decimal (h265.profile_id t.profile)), Some (decimal (h265.tier_flag t.tier)), Some (decimal (h265.level_id t.level))) t (decimal_reads 255 (h265.profile_id t.profile) small.0 (omega (arith, small.0)), decimal_reads 255 (h265.tier_flag t.tier) small.1 (omega (arith, small.1)), decimal_reads 255 (h265.level_id t.level) small.2 (omega (arith, small.2)))) refl in
-    let others_are : map param_of (others (given rows)) ≡ filter_map (λ f. param_at f p) rest = ap (map param_of) (others_given rows ∙ sym (pairs_rows rest p)) ∙ reads_all rest p h refl in
-    ap params_read (own ∙ pairs_rows fields5 p) ∙ marked (given rows) mark (merged_given rows refl)
-    ∙ ap (λ (o : Option FormatParam). cons_option o (map param_of (others (given rows)))) read
-    ∙ ap (λ (qs : List FormatParam). H265ProfileTierLevel t ∷ qs) others_are ∙ rw (e5, e6, ei) refl
-  where
-    profile : look (codes "profile-id") (all_rows fields5 p) ≡ Some (decimal (h265.profile_id t.profile))
-    profile = rw e5 refl
-
-    tier : look (codes "tier-flag") (all_rows fields5 p) ≡ Some (decimal (h265.tier_flag t.tier))
-    tier = rw e5 refl
-
-    level : look (codes "level-id") (all_rows fields5 p) ≡ Some (decimal (h265.level_id t.level))
-    level = rw e5 refl
-
--- ---- with a triple of H266
-
--- no level has one number in both tables
-apart : (b : H266Level) → row_of h265.level_id levels5 (h266.level_id b) ≡ None
-apart level6.L1 = refl
-apart level6.L2 = refl
-apart level6.L2_1 = refl
-apart level6.L3 = refl
-apart level6.L3_1 = refl
-apart level6.L4 = refl
-apart level6.L4_1 = refl
-apart level6.L5 = refl
-apart level6.L5_1 = refl
-apart level6.L5_2 = refl
-apart level6.L6 = refl
-apart level6.L6_1 = refl
-apart level6.L6_2 = refl
-apart level6.L6_3 = refl
-
-pub no_h265 : (profile tier : Option (List ℕ)) (b : H266Level) → h266.level_id b ≤ 255 → h265_read (profile, tier, Some (decimal (h266.level_id b))) ≡ None
-no_h265 profile tier b small =
-    let texts : Texts = (profile, tier, Some (decimal (h266.level_id b))) in
-    let printed = decimal_reads 255 (h266.level_id b) small (omega (arith, small)) in
-    reads_none h265_both texts (λ t is.
-    let same : h265.level_id t.level ≡ h266.level_id b = sym is.2.value ∙ printed.value in
-    none-some t.level (sym (apart b) ∙ ap (row_of h265.level_id levels5) (sym same) ∙ own_level5 t.level))
+with_h265 p t h e5 e6 ei = with_triple (H265ProfileTierLevel t) _ _ _ p h (pairs_rows fields p ∙ rw (e5, e6, ei) refl) (h265_again t) ∙ rw (e5, e6, ei) refl
 
 with_h266 : (p : FormatParams) (t : h266_triple) → AllWithin p → p.h266_profile_tier_level ≡ Some t → p.h265_profile_tier_level ≡ None → p.profile_id ≡ None → params_read (all_pairs fields p) ≡ filter_map (λ f. param_at f p) triple_first
-with_h266 p t h e6 e5 ei =
-    let rows = all_rows fields6 p in
-    let own : all_pairs fields p ≡ all_pairs fields6 p = rw (e5, ei) refl in
-    let mark : has_mark (given rows) ≡ true = mark_given rows ∙ rw e6 refl in
-    let texts : texts_of (given rows) ≡ (Some (decimal (h266.profile_id t.profile)), Some (decimal (h266.tier_flag t.tier)), Some (decimal (h266.level_id t.level))) = λ i. ((look_given (codes "profile-id") rows ∙ profile) i, (look_given (codes "tier-flag") rows ∙ tier) i, (look_given (codes "level-id") rows ∙ level) i) in
-    let small = h266_small t in
-    let none = no_h265 (Some (decimal (h266.profile_id t.profile))) (Some (decimal (h266.tier_flag t.tier))) t.level small.2 in
-    let read : triple_read (texts_of (given rows)) ≡ Some (H266ProfileTierLevel t) = ap triple_read texts ∙ rw (none, h266_both.complete (Some (decimal (h266.profile_id t.profile)), Some (decimal (h266.tier_flag t.tier)), Some (decimal (h266.level_id t.level))) t (decimal_reads 255 (h266.profile_id t.profile) small.0 (omega (arith, small.0)), decimal_reads 255 (h266.tier_flag t.tier) small.1 (omega (arith, small.1)), decimal_reads 255 (h266.level_id t.level) small.2 (omega (arith, small.2)))) refl in
-    let others_are : map param_of (others (given rows)) ≡ filter_map (λ f. param_at f p) rest = ap (map param_of) (others_given rows ∙ sym (pairs_rows rest p)) ∙ reads_all rest p h refl in
-    ap params_read (own ∙ pairs_rows fields6 p) ∙ marked (given rows) mark (merged_given rows refl)
-    ∙ ap (λ (o : Option FormatParam). cons_option o (map param_of (others (given rows)))) read
-    ∙ ap (λ (qs : List FormatParam). H266ProfileTierLevel t ∷ qs) others_are ∙ rw (e5, e6, ei) refl
-  where
-    profile : look (codes "profile-id") (all_rows fields6 p) ≡ Some (decimal (h266.profile_id t.profile))
-    profile = rw e6 refl
-
-    tier : look (codes "tier-flag") (all_rows fields6 p) ≡ Some (decimal (h266.tier_flag t.tier))
-    tier = rw e6 refl
-
-    level : look (codes "level-id") (all_rows fields6 p) ≡ Some (decimal (h266.level_id t.level))
-    level = rw e6 refl
+with_h266 p t h e6 e5 ei = with_triple (H266ProfileTierLevel t) _ _ _ p h (pairs_rows fields p ∙ rw (e5, e6, ei) refl) (h266_again t) ∙ rw (e5, e6, ei) refl
 
 -- ---- values without a key
 

@@ -1,5 +1,5 @@
 -- What each field of a format prints: keys with values, and the range of events.
-use Rattle.std.proofs.Common.{◌≡◌, ◌≤◌, ◌<◌, ◌-◌, ◌^◌, ℕ, zero, suc, replicate, length, Bool, true, false, List, [], ◌∷◌, ◌++◌, map, Option, Some, None, IfSome, option_map, refl, ap, arith, lit≤, lit<, ◌==◌, ◌||◌, nat_lt}
+use Rattle.std.proofs.Common.{◌≡◌, ◌≤◌, ◌<◌, ◌-◌, ◌^◌, ℕ, zero, suc, replicate, length, Bool, true, false, List, [], ◌∷◌, ◌++◌, map, Option, Some, None, IfSome, option_map, refl, ap, ◌∙◌, arith, lit≤, lit<, ◌==◌, ◌||◌, nat_lt}
 use Rattle.std.specs.Prelude.{codes}
 use Rattle.std.specs.Fmt.{decimal, digits}
 use Rattle.std.specs.List.{AllByRecursion, cons_option, join_with_byte, list_all}
@@ -7,22 +7,7 @@ use Rattle.std.proofs.lemmas.Bool.{false≢true, eqb-true, ltb-true}
 use Rattle.std.proofs.lemmas.List.{length-append}
 use Rattle.str0m_values.specs.Parts.{IsRest}
 use Rattle.std.proofs.lemmas.Fmt.{decimal_is_IsNumeral, digits_is_IsNumeral}
-use Rattle.str0m_values.specs.H265 as h265
-use Rattle.str0m_values.specs.H266 as h266
-use Rattle.str0m_values.specs.declared.h265.H265ProfileTierLevel.{H265ProfileTierLevel as h265_triple}
-use Rattle.str0m_values.specs.declared.h266.H266ProfileTierLevel.{H266ProfileTierLevel as h266_triple}
-use Rattle.str0m_values.specs.declared.h265.H265Profile.{H265Profile}
-use Rattle.str0m_values.specs.declared.h265.H265Profile.TheVariants as profile5
-use Rattle.str0m_values.specs.declared.h265.H265Tier.{H265Tier}
-use Rattle.str0m_values.specs.declared.h265.H265Tier.TheVariants as tier5
-use Rattle.str0m_values.specs.declared.h265.H265Level.{H265Level}
-use Rattle.str0m_values.specs.declared.h265.H265Level.TheVariants as level5
-use Rattle.str0m_values.specs.declared.h266.H266Profile.{H266Profile}
-use Rattle.str0m_values.specs.declared.h266.H266Profile.TheVariants as profile6
-use Rattle.str0m_values.specs.declared.h266.H266Tier.{H266Tier}
-use Rattle.str0m_values.specs.declared.h266.H266Tier.TheVariants as tier6
-use Rattle.str0m_values.specs.declared.h266.H266Level.{H266Level}
-use Rattle.str0m_values.specs.declared.h266.H266Level.TheVariants as level6
+use Rattle.str0m_values.specs.declared.profile_tier_level.ProfileTierLevel.{ProfileTierLevel}
 use Rattle.str0m_formats.specs.declared.format_key.FormatKey.{FormatKey}
 use Rattle.str0m_formats.specs.declared.format_key.FormatKey.TheVariants as key
 use Rattle.str0m_formats.specs.declared.format_param.FormatParam.{FormatParam}
@@ -31,13 +16,15 @@ use Rattle.str0m_formats.specs.declared.format_params.Field.{Field}
 use Rattle.str0m_formats.specs.declared.format_params.Field.TheVariants as field
 use Rattle.str0m_formats.specs.declared.format_params.FormatParams.{FormatParams}
 use Rattle.str0m_formats.specs.FormatKey.{key_text}
-use Rattle.str0m_formats.specs.FormatParam.{Value, flag, number, hex, modes, InRange, IsPrinted, value_text, six_digits, mode_list, param_text}
+use Rattle.str0m_formats.specs.FormatParam.{Value, flag, number, hex, modes, InRange, IsPrinted, value_text, six_digits, mode_list, triple_text, param_text}
 use Rattle.str0m_formats.specs.FormatParams.{param_at, IsWithin}
+use Rattle.str0m_formats.specs.PairsReading.{Tables, h265_tables, h266_tables}
 use Rattle.str0m_formats.specs.ParamReading.{param_of}
 use Rattle.str0m_formats.proofs.ParamLaws.{parsed}
 use Rattle.str0m_formats.proofs.Plain.{IsPlain, is_plain, plain_from, plain_append, digits_plain, below, below_at}
 use Rattle.str0m_formats.proofs.RoundTrip.{HasSmallLimit, parsed_printed}
 use Rattle.str0m_formats.proofs.Rows.{Rows, given}
+use Rattle.str0m_formats.proofs.TripleLaws.{AreBytes, h265_small, h266_small}
 
 -- ---- plain values
 
@@ -120,8 +107,11 @@ value_filled (modes mask) small h = modes_filled mask h.0 h.1
 abbrev pub row : {A : Type 0} → FormatKey → (A → Value) → Option A → Rows
 row k value o = (key_text k, option_map (λ x. value_text (value x)) o) ∷ []
 
-abbrev pub triple_rows : {A : Type 0} → (A → ℕ) → (A → ℕ) → (A → ℕ) → Option A → Rows
-triple_rows profile tier level o = (codes "profile-id", option_map (λ t. decimal (profile t)) o) ∷ (codes "tier-flag", option_map (λ t. decimal (tier t)) o) ∷ (codes "level-id", option_map (λ t. decimal (level t)) o) ∷ []
+abbrev pub triple_rows : {P T L : Type 0} → Tables P T L → Option (ProfileTierLevel P T L) → Rows
+triple_rows tables o =
+    (codes "profile-id", option_map (λ t. decimal (tables.profile_id t.profile)) o)
+    ∷ (codes "tier-flag", option_map (λ t. decimal (tables.tier_flag t.tier)) o)
+    ∷ (codes "level-id", option_map (λ t. decimal (tables.level_id t.level)) o) ∷ []
 
 -- the keys of a field, with their values
 abbrev pub rows_at : Field → FormatParams → Rows
@@ -137,8 +127,8 @@ rows_at field.ProfileId p = row key.ProfileId (λ x. number 4294967295 x) p.prof
 rows_at field.Profile p = row key.Profile (λ x. number 255 x) p.profile
 rows_at field.LevelIdx p = row key.LevelIdx (λ x. number 255 x) p.level_idx
 rows_at field.Tier p = row key.Tier (λ x. number 255 x) p.tier
-rows_at field.H265ProfileTierLevel p = triple_rows (λ t. h265.profile_id t.profile) (λ t. h265.tier_flag t.tier) (λ t. h265.level_id t.level) p.h265_profile_tier_level
-rows_at field.H266ProfileTierLevel p = triple_rows (λ t. h266.profile_id t.profile) (λ t. h266.tier_flag t.tier) (λ t. h266.level_id t.level) p.h266_profile_tier_level
+rows_at field.H265ProfileTierLevel p = triple_rows h265_tables p.h265_profile_tier_level
+rows_at field.H266ProfileTierLevel p = triple_rows h266_tables p.h266_profile_tier_level
 rows_at field.SpropMaxDonDiff p = row key.SpropMaxDonDiff (λ x. number 32767 x) p.sprop_max_don_diff
 rows_at field.TelephoneEvents p = []
 rows_at field.OctetAlign p = row key.OctetAlign (λ x. flag x) p.octet_align
@@ -193,93 +183,30 @@ module _ {A : Type 0} (make : A → FormatParam) (k : FormatKey) (value : A → 
   one_reads None h = refl
   one_reads (Some x) h = ap (λ (q : FormatParam). q ∷ []) (parsed_printed (key_text k) (value_text (value x)) (param_of (key_text k, value_text (value x))) (parsed (key_text k) (value_text (value x))) (make x) (printed x (within x h)))
 
--- a field with a profile, tier and level
-module _ {A : Type 0} (make : A → FormatParam) (profile tier level : A → ℕ)
-    (small : (t : A) → (profile t ≤ 255) × (tier t ≤ 255) × (level t ≤ 255))
-    (text : (t : A) → param_text (make t) ≡ join_with_byte 59 (joined_pair (codes "profile-id", decimal (profile t)) ∷ joined_pair (codes "tier-flag", decimal (tier t)) ∷ joined_pair (codes "level-id", decimal (level t)) ∷ [])) where
-  triple_shown : (o : Option A) → IsShown (option_map make o) (map joined_pair (given (triple_rows profile tier level o)) ++ [])
-  triple_shown None = refl
-  triple_shown (Some t) = (joined_pair (codes "profile-id", decimal (profile t)), joined_pair (codes "tier-flag", decimal (tier t)) ∷ joined_pair (codes "level-id", decimal (level t)) ∷ [], refl, text t)
+triple_parts : (a b c : List ℕ) → codes "profile-id=" ++ (a ++ (codes ";tier-flag=" ++ (b ++ (codes ";level-id=" ++ c)))) ≡ join_with_byte 59 (joined_pair (codes "profile-id", a) ∷ joined_pair (codes "tier-flag", b) ∷ joined_pair (codes "level-id", c) ∷ [])
+triple_parts a b c = refl
 
-  triple_plain : (o : Option A) → AllByRecursion IsPlainPair (given (triple_rows profile tier level o))
+-- a field with a profile, tier and level
+module _ {P T L : Type 0} (tables : Tables P T L) (make : ProfileTierLevel P T L → FormatParam) (small : (t : ProfileTierLevel P T L) → AreBytes tables t)
+    (text : (t : ProfileTierLevel P T L) → param_text (make t) ≡ triple_text (tables.profile_id t.profile) (tables.tier_flag t.tier) (tables.level_id t.level)) where
+  triple_shown : (o : Option (ProfileTierLevel P T L)) → IsShown (option_map make o) (map joined_pair (given (triple_rows tables o)) ++ [])
+  triple_shown None = refl
+  triple_shown (Some t) =
+      let profile = decimal (tables.profile_id t.profile) in
+      let tier = decimal (tables.tier_flag t.tier) in
+      let level = decimal (tables.level_id t.level) in
+      (joined_pair (codes "profile-id", profile), joined_pair (codes "tier-flag", tier) ∷ joined_pair (codes "level-id", level) ∷ [], refl, text t ∙ triple_parts profile tier level)
+
+  triple_plain : (o : Option (ProfileTierLevel P T L)) → AllByRecursion IsPlainPair (given (triple_rows tables o))
   triple_plain None = tt
   triple_plain (Some t) =
       let k = small t in (
-        (plain_from (codes "profile-id") refl, decimal_plain (profile t) (omega (arith, k.0)), lit< tt, decimal_filled (profile t) (omega (arith, k.0))),
+        (plain_from (codes "profile-id") refl, decimal_plain (tables.profile_id t.profile) (omega (arith, k.0)), lit< tt, decimal_filled (tables.profile_id t.profile) (omega (arith, k.0))),
         (
-          (plain_from (codes "tier-flag") refl, decimal_plain (tier t) (omega (arith, k.1)), lit< tt, decimal_filled (tier t) (omega (arith, k.1))),
-          ((plain_from (codes "level-id") refl, decimal_plain (level t) (omega (arith, k.2)), lit< tt, decimal_filled (level t) (omega (arith, k.2))), tt),
+          (plain_from (codes "tier-flag") refl, decimal_plain (tables.tier_flag t.tier) (omega (arith, k.1)), lit< tt, decimal_filled (tables.tier_flag t.tier) (omega (arith, k.1))),
+          ((plain_from (codes "level-id") refl, decimal_plain (tables.level_id t.level) (omega (arith, k.2)), lit< tt, decimal_filled (tables.level_id t.level) (omega (arith, k.2))), tt),
         ),
       )
-
-profile5_small : (a : H265Profile) → h265.profile_id a ≤ 255
-profile5_small profile5.Main = lit≤ tt
-profile5_small profile5.Main10 = lit≤ tt
-profile5_small profile5.MainStillPicture = lit≤ tt
-profile5_small profile5.RangeExtensions = lit≤ tt
-profile5_small profile5.HighThroughput = lit≤ tt
-profile5_small profile5.MultiviewMain = lit≤ tt
-profile5_small profile5.ScalableMain = lit≤ tt
-profile5_small profile5.Main3D = lit≤ tt
-profile5_small profile5.ScreenExtended = lit≤ tt
-profile5_small profile5.ScalableRangeExtensions = lit≤ tt
-profile5_small profile5.HighThroughputScreenExtended = lit≤ tt
-
-tier5_small : (a : H265Tier) → h265.tier_flag a ≤ 255
-tier5_small tier5.Main = lit≤ tt
-tier5_small tier5.High = lit≤ tt
-
-level5_small : (a : H265Level) → h265.level_id a ≤ 255
-level5_small level5.L1 = lit≤ tt
-level5_small level5.L2 = lit≤ tt
-level5_small level5.L2_1 = lit≤ tt
-level5_small level5.L3 = lit≤ tt
-level5_small level5.L3_1 = lit≤ tt
-level5_small level5.L4 = lit≤ tt
-level5_small level5.L4_1 = lit≤ tt
-level5_small level5.L5 = lit≤ tt
-level5_small level5.L5_1 = lit≤ tt
-level5_small level5.L5_2 = lit≤ tt
-level5_small level5.L6 = lit≤ tt
-level5_small level5.L6_1 = lit≤ tt
-level5_small level5.L6_2 = lit≤ tt
-
-pub h265_small : (t : h265_triple) → (h265.profile_id t.profile ≤ 255) × (h265.tier_flag t.tier ≤ 255) × (h265.level_id t.level ≤ 255)
-h265_small t = (profile5_small t.profile, tier5_small t.tier, level5_small t.level)
-
-profile6_small : (a : H266Profile) → h266.profile_id a ≤ 255
-profile6_small profile6.Main10 = lit≤ tt
-profile6_small profile6.MultilayerMain10 = lit≤ tt
-profile6_small profile6.Main10_444 = lit≤ tt
-profile6_small profile6.MultilayerMain10_444 = lit≤ tt
-profile6_small profile6.Main10StillPicture = lit≤ tt
-profile6_small profile6.Main10_444StillPicture = lit≤ tt
-
-tier6_small : (a : H266Tier) → h266.tier_flag a ≤ 255
-tier6_small tier6.Main = lit≤ tt
-tier6_small tier6.High = lit≤ tt
-
-level6_small : (a : H266Level) → h266.level_id a ≤ 255
-level6_small level6.L1 = lit≤ tt
-level6_small level6.L2 = lit≤ tt
-level6_small level6.L2_1 = lit≤ tt
-level6_small level6.L3 = lit≤ tt
-level6_small level6.L3_1 = lit≤ tt
-level6_small level6.L4 = lit≤ tt
-level6_small level6.L4_1 = lit≤ tt
-level6_small level6.L5 = lit≤ tt
-level6_small level6.L5_1 = lit≤ tt
-level6_small level6.L5_2 = lit≤ tt
-level6_small level6.L6 = lit≤ tt
-level6_small level6.L6_1 = lit≤ tt
-level6_small level6.L6_2 = lit≤ tt
-level6_small level6.L6_3 = lit≤ tt
-
-pub h266_small : (t : h266_triple) → (h266.profile_id t.profile ≤ 255) × (h266.tier_flag t.tier ≤ 255) × (h266.level_id t.level ≤ 255)
-h266_small t = (profile6_small t.profile, tier6_small t.tier, level6_small t.level)
-
-triple_parts : (a b c : List ℕ) → codes "profile-id=" ++ (a ++ (codes ";tier-flag=" ++ (b ++ (codes ";level-id=" ++ c)))) ≡ join_with_byte 59 (joined_pair (codes "profile-id", a) ∷ joined_pair (codes "tier-flag", b) ∷ joined_pair (codes "level-id", c) ∷ [])
-triple_parts a b c = refl
 
 events_shown : (o : Option ℕ) → IsShown (option_map (λ n. TelephoneEvents n) o) (cons_option (option_map (λ n. codes "0-" ++ decimal n) o) [])
 events_shown None = refl
@@ -302,8 +229,8 @@ shows field.ProfileId p h = record { shown = one_shown (λ x. ProfileId x) key.P
 shows field.Profile p h = record { shown = one_shown (λ x. Profile x) key.Profile (λ x. number 255 x) (λ x. lit≤ tt) (λ x. refl) (λ x h. h) refl (λ x h. (refl, refl, h)) p.profile; plain = one_plain (λ x. Profile x) key.Profile (λ x. number 255 x) (λ x. lit≤ tt) (λ x. refl) (λ x h. h) refl (λ x h. (refl, refl, h)) p.profile h; bare = tt }
 shows field.LevelIdx p h = record { shown = one_shown (λ x. LevelIdx x) key.LevelIdx (λ x. number 255 x) (λ x. lit≤ tt) (λ x. refl) (λ x h. h) refl (λ x h. (refl, refl, h)) p.level_idx; plain = one_plain (λ x. LevelIdx x) key.LevelIdx (λ x. number 255 x) (λ x. lit≤ tt) (λ x. refl) (λ x h. h) refl (λ x h. (refl, refl, h)) p.level_idx h; bare = tt }
 shows field.Tier p h = record { shown = one_shown (λ x. Tier x) key.Tier (λ x. number 255 x) (λ x. lit≤ tt) (λ x. refl) (λ x h. h) refl (λ x h. (refl, refl, h)) p.tier; plain = one_plain (λ x. Tier x) key.Tier (λ x. number 255 x) (λ x. lit≤ tt) (λ x. refl) (λ x h. h) refl (λ x h. (refl, refl, h)) p.tier h; bare = tt }
-shows field.H265ProfileTierLevel p h = record { shown = triple_shown (λ t. H265ProfileTierLevel t) (λ t. h265.profile_id t.profile) (λ t. h265.tier_flag t.tier) (λ t. h265.level_id t.level) h265_small (λ t. triple_parts (decimal (h265.profile_id t.profile)) (decimal (h265.tier_flag t.tier)) (decimal (h265.level_id t.level))) p.h265_profile_tier_level; plain = triple_plain (λ t. H265ProfileTierLevel t) (λ t. h265.profile_id t.profile) (λ t. h265.tier_flag t.tier) (λ t. h265.level_id t.level) h265_small (λ t. triple_parts (decimal (h265.profile_id t.profile)) (decimal (h265.tier_flag t.tier)) (decimal (h265.level_id t.level))) p.h265_profile_tier_level; bare = tt }
-shows field.H266ProfileTierLevel p h = record { shown = triple_shown (λ t. H266ProfileTierLevel t) (λ t. h266.profile_id t.profile) (λ t. h266.tier_flag t.tier) (λ t. h266.level_id t.level) h266_small (λ t. triple_parts (decimal (h266.profile_id t.profile)) (decimal (h266.tier_flag t.tier)) (decimal (h266.level_id t.level))) p.h266_profile_tier_level; plain = triple_plain (λ t. H266ProfileTierLevel t) (λ t. h266.profile_id t.profile) (λ t. h266.tier_flag t.tier) (λ t. h266.level_id t.level) h266_small (λ t. triple_parts (decimal (h266.profile_id t.profile)) (decimal (h266.tier_flag t.tier)) (decimal (h266.level_id t.level))) p.h266_profile_tier_level; bare = tt }
+shows field.H265ProfileTierLevel p h = record { shown = triple_shown h265_tables (λ t. H265ProfileTierLevel t) h265_small (λ t. refl) p.h265_profile_tier_level; plain = triple_plain h265_tables (λ t. H265ProfileTierLevel t) h265_small (λ t. refl) p.h265_profile_tier_level; bare = tt }
+shows field.H266ProfileTierLevel p h = record { shown = triple_shown h266_tables (λ t. H266ProfileTierLevel t) h266_small (λ t. refl) p.h266_profile_tier_level; plain = triple_plain h266_tables (λ t. H266ProfileTierLevel t) h266_small (λ t. refl) p.h266_profile_tier_level; bare = tt }
 shows field.SpropMaxDonDiff p h = record { shown = one_shown (λ x. SpropMaxDonDiff x) key.SpropMaxDonDiff (λ x. number 32767 x) (λ x. lit≤ tt) (λ x. refl) (λ x h. h) refl (λ x h. (refl, refl, h)) p.sprop_max_don_diff; plain = one_plain (λ x. SpropMaxDonDiff x) key.SpropMaxDonDiff (λ x. number 32767 x) (λ x. lit≤ tt) (λ x. refl) (λ x h. h) refl (λ x h. (refl, refl, h)) p.sprop_max_don_diff h; bare = tt }
 shows field.TelephoneEvents p h = record { shown = events_shown p.telephone_event_max; plain = tt; bare = events_plain p.telephone_event_max h }
 shows field.OctetAlign p h = record { shown = one_shown (λ x. OctetAlign x) key.OctetAlign (λ x. flag x) (λ x. tt) (λ x. refl) (λ x h. h) refl (λ x h. (refl, refl, h)) p.octet_align; plain = one_plain (λ x. OctetAlign x) key.OctetAlign (λ x. flag x) (λ x. tt) (λ x. refl) (λ x h. h) refl (λ x h. (refl, refl, h)) p.octet_align h; bare = tt }

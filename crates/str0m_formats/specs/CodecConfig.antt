@@ -2,8 +2,10 @@
 use Rattle.std.specs.Prelude.{◌≡◌, ℕ, Bool, true, Option, Some, None, if◌then◌else◌}
 use Rattle.str0m_values.specs.H265 as h265
 use Rattle.str0m_values.specs.H266 as h266
-use Rattle.str0m_values.specs.declared.h265.H265ProfileTierLevel.{H265ProfileTierLevel}
-use Rattle.str0m_values.specs.declared.h266.H266ProfileTierLevel.{H266ProfileTierLevel}
+use Rattle.str0m_values.specs.ProfileTierLevel.{HasNumbers}
+use Rattle.str0m_values.specs.declared.profile_tier_level.ProfileTierLevel.{ProfileTierLevel}
+use Rattle.str0m_values.specs.H265.{H265ProfileTierLevel}
+use Rattle.str0m_values.specs.H266.{H266ProfileTierLevel}
 use Rattle.str0m_formats.specs.declared.codec.Codec.{Codec}
 use Rattle.str0m_formats.specs.declared.codec.Codec.TheVariants.{H264, H265, H266}
 use Rattle.str0m_formats.specs.declared.codec_spec.CodecSpec.{CodecSpec}
@@ -37,9 +39,13 @@ pub record IsThatOr {A : Type 0} (P otherwise : A → Type 0) (value : A) : Type
   pub that : (x : A) → P x → value ≡ x
   pub stands_in : ((x : A) → ¬ (P x)) → otherwise value
 
--- the triple of three numbers; outside the table that of a text which says nothing
+-- the triple of three numbers; outside the table that of the defaults, as of a text which says nothing
+abbrev pub IsTripleOr : {P T L : Type 0} → (P → ℕ) → (T → ℕ) → (L → ℕ) → ℕ × ℕ × ℕ → ℕ → ℕ → ℕ → ProfileTierLevel P T L → Type 0
+IsTripleOr profile_id tier_flag level_id defaults profile tier level =
+    IsThatOr (HasNumbers profile_id tier_flag level_id profile tier level) (HasNumbers profile_id tier_flag level_id defaults.0 defaults.1 defaults.2)
+
 abbrev pub IsH265Triple : ℕ → ℕ → ℕ → H265ProfileTierLevel → Type 0
-IsH265Triple profile tier level = IsThatOr (h265.IsTriple profile tier level) (h265.IsTriple h265.defaults.0 h265.defaults.1 h265.defaults.2)
+IsH265Triple = IsTripleOr h265.profile_id h265.tier_flag h265.level_id h265.defaults
 
 abbrev pub IsH266Triple : ℕ → ℕ → ℕ → H266ProfileTierLevel → Type 0
-IsH266Triple profile tier level = IsThatOr (h266.IsTriple profile tier level) (h266.IsTriple h266.defaults.0 h266.defaults.1 h266.defaults.2)
+IsH266Triple = IsTripleOr h266.profile_id h266.tier_flag h266.level_id h266.defaults

@@ -4,8 +4,7 @@ use Rattle.std.specs.Option.{option_or}
 use Rattle.str0m_values.specs.H264.{lower_level}
 use Rattle.str0m_values.specs.H265 as h265
 use Rattle.str0m_values.specs.H266 as h266
-use Rattle.str0m_values.specs.declared.h265.H265ProfileTierLevel.{H265ProfileTierLevel}
-use Rattle.str0m_values.specs.declared.h266.H266ProfileTierLevel.{H266ProfileTierLevel}
+use Rattle.str0m_values.specs.declared.profile_tier_level.ProfileTierLevel.{ProfileTierLevel}
 use Rattle.str0m_formats.specs.declared.codec.Codec.{Codec}
 use Rattle.str0m_formats.specs.declared.codec.Codec.TheVariants.{Opus, PCMU, PCMA, G722, CN, AmrWb, H264, H265, H266, Vp8, Vp9, Av1, Tele, Rtx, Red, Null, Unknown}
 use Rattle.str0m_formats.specs.declared.format_params.FormatParams.{FormatParams}
@@ -15,19 +14,13 @@ use Rattle.str0m_formats.specs.declared.codec_spec.CodecSpec.{CodecSpec}
 abbrev pub telephone_max : FormatParams → ℕ
 telephone_max format = unwrap_or format.telephone_event_max 16
 
--- the triple of the choice, its level the lower of both where the row has one (RFC 7798, section 7.2.2)
-abbrev pub lower_h265 : Option H265ProfileTierLevel → Option H265ProfileTierLevel → Option H265ProfileTierLevel
-lower_h265 (Some own) (Some chosen) =
-    if nat_lt (h265.level_ordinal own.level) (h265.level_ordinal chosen.level) then Some (record chosen { level = own.level }) else Some chosen
-lower_h265 None (Some chosen) = Some chosen
-lower_h265 _ None = None
-
--- likewise of H266 (RFC 9328, section 7.3.2)
-abbrev pub lower_h266 : Option H266ProfileTierLevel → Option H266ProfileTierLevel → Option H266ProfileTierLevel
-lower_h266 (Some own) (Some chosen) =
-    if nat_lt (h266.level_ordinal own.level) (h266.level_ordinal chosen.level) then Some (record chosen { level = own.level }) else Some chosen
-lower_h266 None (Some chosen) = Some chosen
-lower_h266 _ None = None
+-- the triple of the choice, its level the lower of both by their places where the row has one (RFC 7798, section 7.2.2; RFC 9328,
+-- section 7.3.2)
+abbrev pub lower_triple : {P T L : Type 0} → (L → ℕ) → Option (ProfileTierLevel P T L) → Option (ProfileTierLevel P T L) → Option (ProfileTierLevel P T L)
+lower_triple place (Some own) (Some chosen) =
+    if nat_lt (place own.level) (place chosen.level) then Some (record chosen { level = own.level }) else Some chosen
+lower_triple place None (Some chosen) = Some chosen
+lower_triple place _ None = None
 
 -- the profile id of the choice, which stands only where it has no triple
 abbrev pub id_beside : {Triple : Type 0} → Option Triple → Option ℕ → Option ℕ
@@ -53,14 +46,14 @@ narrowed_as H264 own chosen = record own {
 }
 narrowed_as H265 own chosen = record own {
   format = record own.format {
-    h265_profile_tier_level = lower_h265 own.format.h265_profile_tier_level chosen.format.h265_profile_tier_level;
+    h265_profile_tier_level = lower_triple h265.level_ordinal own.format.h265_profile_tier_level chosen.format.h265_profile_tier_level;
     profile_id = id_beside chosen.format.h265_profile_tier_level chosen.format.profile_id;
     sprop_max_don_diff = option_or chosen.format.sprop_max_don_diff own.format.sprop_max_don_diff;
   };
 }
 narrowed_as H266 own chosen = record own {
   format = record own.format {
-    h266_profile_tier_level = lower_h266 own.format.h266_profile_tier_level chosen.format.h266_profile_tier_level;
+    h266_profile_tier_level = lower_triple h266.level_ordinal own.format.h266_profile_tier_level chosen.format.h266_profile_tier_level;
     profile_id = id_beside chosen.format.h266_profile_tier_level chosen.format.profile_id;
     sprop_max_don_diff = option_or chosen.format.sprop_max_don_diff own.format.sprop_max_don_diff;
   };

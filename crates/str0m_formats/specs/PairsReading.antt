@@ -18,31 +18,44 @@ use Rattle.str0m_values.specs.declared.h266.H266Tier.{H266Tier}
 use Rattle.str0m_values.specs.declared.h266.H266Tier.TheVariants as tier6
 use Rattle.str0m_values.specs.declared.h266.H266Level.{H266Level}
 use Rattle.str0m_values.specs.declared.h266.H266Level.TheVariants as level6
-use Rattle.str0m_values.specs.declared.h265.H265ProfileTierLevel.{H265ProfileTierLevel as h265_triple}
-use Rattle.str0m_values.specs.declared.h266.H266ProfileTierLevel.{H266ProfileTierLevel as h266_triple}
+use Rattle.str0m_values.specs.declared.profile_tier_level.ProfileTierLevel.{ProfileTierLevel}
 use Rattle.str0m_formats.specs.ParamReading.{param_of}
 use Rattle.str0m_formats.specs.Triple.{Texts}
 use Rattle.str0m_formats.specs.Pairs.{has_mark, merged, others, texts_of}
 use Rattle.str0m_formats.specs.declared.format_param.FormatParam.{FormatParam}
 use Rattle.str0m_formats.specs.declared.format_param.FormatParam.TheVariants.{H265ProfileTierLevel, H266ProfileTierLevel}
 
-abbrev pub profiles5 : List H265Profile
-profiles5 = profile5.Main ∷ profile5.Main10 ∷ profile5.MainStillPicture ∷ profile5.RangeExtensions ∷ profile5.HighThroughput ∷ profile5.MultiviewMain ∷ profile5.ScalableMain ∷ profile5.Main3D ∷ profile5.ScreenExtended ∷ profile5.ScalableRangeExtensions ∷ profile5.HighThroughputScreenExtended ∷ []
+-- the profiles, tiers and levels of a codec with the number of each, and the numbers where there is no text
+pub record Tables (P T L : Type 0) : Type 0 where
+  pub profiles : List P
+  pub tiers : List T
+  pub levels : List L
+  pub profile_id : P → ℕ
+  pub tier_flag : T → ℕ
+  pub level_id : L → ℕ
+  pub defaults : ℕ × ℕ × ℕ
 
-abbrev pub tiers5 : List H265Tier
-tiers5 = tier5.Main ∷ tier5.High ∷ []
+abbrev pub h265_tables : Tables H265Profile H265Tier H265Level
+h265_tables = record {
+  profiles = profile5.Main ∷ profile5.Main10 ∷ profile5.MainStillPicture ∷ profile5.RangeExtensions ∷ profile5.HighThroughput ∷ profile5.MultiviewMain ∷ profile5.ScalableMain ∷ profile5.Main3D ∷ profile5.ScreenExtended ∷ profile5.ScalableRangeExtensions ∷ profile5.HighThroughputScreenExtended ∷ [];
+  tiers = tier5.Main ∷ tier5.High ∷ [];
+  levels = level5.L1 ∷ level5.L2 ∷ level5.L2_1 ∷ level5.L3 ∷ level5.L3_1 ∷ level5.L4 ∷ level5.L4_1 ∷ level5.L5 ∷ level5.L5_1 ∷ level5.L5_2 ∷ level5.L6 ∷ level5.L6_1 ∷ level5.L6_2 ∷ [];
+  profile_id = h265.profile_id;
+  tier_flag = h265.tier_flag;
+  level_id = h265.level_id;
+  defaults = h265.defaults;
+}
 
-abbrev pub levels5 : List H265Level
-levels5 = level5.L1 ∷ level5.L2 ∷ level5.L2_1 ∷ level5.L3 ∷ level5.L3_1 ∷ level5.L4 ∷ level5.L4_1 ∷ level5.L5 ∷ level5.L5_1 ∷ level5.L5_2 ∷ level5.L6 ∷ level5.L6_1 ∷ level5.L6_2 ∷ []
-
-abbrev pub profiles6 : List H266Profile
-profiles6 = profile6.Main10 ∷ profile6.MultilayerMain10 ∷ profile6.Main10_444 ∷ profile6.MultilayerMain10_444 ∷ profile6.Main10StillPicture ∷ profile6.Main10_444StillPicture ∷ []
-
-abbrev pub tiers6 : List H266Tier
-tiers6 = tier6.Main ∷ tier6.High ∷ []
-
-abbrev pub levels6 : List H266Level
-levels6 = level6.L1 ∷ level6.L2 ∷ level6.L2_1 ∷ level6.L3 ∷ level6.L3_1 ∷ level6.L4 ∷ level6.L4_1 ∷ level6.L5 ∷ level6.L5_1 ∷ level6.L5_2 ∷ level6.L6 ∷ level6.L6_1 ∷ level6.L6_2 ∷ level6.L6_3 ∷ []
+abbrev pub h266_tables : Tables H266Profile H266Tier H266Level
+h266_tables = record {
+  profiles = profile6.Main10 ∷ profile6.MultilayerMain10 ∷ profile6.Main10_444 ∷ profile6.MultilayerMain10_444 ∷ profile6.Main10StillPicture ∷ profile6.Main10_444StillPicture ∷ [];
+  tiers = tier6.Main ∷ tier6.High ∷ [];
+  levels = level6.L1 ∷ level6.L2 ∷ level6.L2_1 ∷ level6.L3 ∷ level6.L3_1 ∷ level6.L4 ∷ level6.L4_1 ∷ level6.L5 ∷ level6.L5_1 ∷ level6.L5_2 ∷ level6.L6 ∷ level6.L6_1 ∷ level6.L6_2 ∷ level6.L6_3 ∷ [];
+  profile_id = h266.profile_id;
+  tier_flag = h266.tier_flag;
+  level_id = h266.level_id;
+  defaults = h266.defaults;
+}
 
 -- the row with this number
 abbrev pub row_of : {A : Type 0} → (A → ℕ) → List A → ℕ → Option A
@@ -56,22 +69,16 @@ given_read default (Some text) = num 255 text
 abbrev pub row_read : {A : Type 0} → (A → ℕ) → List A → ℕ → Option (List ℕ) → Option A
 row_read id rows default text = given_read default text >>= λ n. row_of id rows n
 
-unfoldable pub h265_read : Texts → Option h265_triple
-h265_read texts = do
-  profile ← row_read h265.profile_id profiles5 h265.defaults.0 texts.0
-  tier ← row_read h265.tier_flag tiers5 h265.defaults.1 texts.1
-  level ← row_read h265.level_id levels5 h265.defaults.2 texts.2
-  Some (record { profile = profile; tier = tier; level = level })
-
-unfoldable pub h266_read : Texts → Option h266_triple
-h266_read texts = do
-  profile ← row_read h266.profile_id profiles6 h266.defaults.0 texts.0
-  tier ← row_read h266.tier_flag tiers6 h266.defaults.1 texts.1
-  level ← row_read h266.level_id levels6 h266.defaults.2 texts.2
+unfoldable pub read_triple : {P T L : Type 0} → Tables P T L → Texts → Option (ProfileTierLevel P T L)
+read_triple tables texts = do
+  profile ← row_read tables.profile_id tables.profiles tables.defaults.0 texts.0
+  tier ← row_read tables.tier_flag tables.tiers tables.defaults.1 texts.1
+  level ← row_read tables.level_id tables.levels tables.defaults.2 texts.2
   Some (record { profile = profile; tier = tier; level = level })
 
 abbrev pub triple_read : Texts → Option FormatParam
-triple_read texts = option_map (λ t. H265ProfileTierLevel t) (h265_read texts) <|> option_map (λ t. H266ProfileTierLevel t) (h266_read texts)
+triple_read texts =
+    option_map (λ t. H265ProfileTierLevel t) (read_triple h265_tables texts) <|> option_map (λ t. H266ProfileTierLevel t) (read_triple h266_tables texts)
 
 -- a text without where it lies in memory
 abbrev pub lay : Option (Bor (List ℕ)) → Option (List ℕ)

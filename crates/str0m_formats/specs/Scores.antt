@@ -11,8 +11,9 @@ use Rattle.str0m_values.specs.H266 as h266
 use Rattle.str0m_values.specs.contracts.h264.H264Profile as h264_profile
 use Rattle.str0m_values.specs.declared.h264.H264Profile.{H264Profile}
 use Rattle.str0m_values.specs.declared.h264.H264ProfileLevel.{H264ProfileLevel}
-use Rattle.str0m_values.specs.declared.h265.H265ProfileTierLevel.{H265ProfileTierLevel}
-use Rattle.str0m_values.specs.declared.h266.H266ProfileTierLevel.{H266ProfileTierLevel}
+use Rattle.str0m_values.specs.declared.profile_tier_level.ProfileTierLevel.{ProfileTierLevel}
+use Rattle.str0m_values.specs.H265.{H265ProfileTierLevel}
+use Rattle.str0m_values.specs.H266.{H266ProfileTierLevel}
 use Rattle.str0m_formats.specs.contracts.codec.Codec as codec
 use Rattle.str0m_formats.specs.contracts.codec_spec.CodecSpecPartialEq.TheImpl as spec
 use Rattle.str0m_formats.specs.declared.codec.Codec.{Codec}
@@ -97,11 +98,14 @@ h264_score a b =
 -- less for each level between; where a side has no triple, the same profile
 
 -- the numbers of a profile and a tier, and the place of a level
+abbrev pub profile_numbers : {P T L : Type 0} → (P → ℕ) → (T → ℕ) → (L → ℕ) → ProfileTierLevel P T L → ProfileNumbers
+profile_numbers profile_id tier_flag level_ordinal t = record { profile = profile_id t.profile; tier = tier_flag t.tier; level = level_ordinal t.level }
+
 abbrev pub h265_triple : H265ProfileTierLevel → ProfileNumbers
-h265_triple t = record { profile = h265.profile_id t.profile; tier = h265.tier_flag t.tier; level = h265.level_ordinal t.level }
+h265_triple t = profile_numbers h265.profile_id h265.tier_flag h265.level_ordinal t
 
 abbrev pub h266_triple : H266ProfileTierLevel → ProfileNumbers
-h266_triple t = record { profile = h266.profile_id t.profile; tier = h266.tier_flag t.tier; level = h266.level_ordinal t.level }
+h266_triple t = profile_numbers h266.profile_id h266.tier_flag h266.level_ordinal t
 
 -- the profile: that of the triple, else the last byte of the profile id, else 1
 abbrev pub profile_of : Option ProfileNumbers → Option ℕ → ℕ

@@ -5,8 +5,9 @@ use Rattle.str0m_values.specs.Parts.{IsNum}
 use Rattle.str0m_values.specs.Fits.{FirstFit}
 use Rattle.str0m_values.specs.H265 as h265
 use Rattle.str0m_values.specs.H266 as h266
-use Rattle.str0m_values.specs.declared.h265.H265ProfileTierLevel.{H265ProfileTierLevel as h265_triple}
-use Rattle.str0m_values.specs.declared.h266.H266ProfileTierLevel.{H266ProfileTierLevel as h266_triple}
+use Rattle.str0m_values.specs.declared.profile_tier_level.ProfileTierLevel.{ProfileTierLevel}
+use Rattle.str0m_values.specs.H265.{H265ProfileTierLevel as h265_triple}
+use Rattle.str0m_values.specs.H266.{H266ProfileTierLevel as h266_triple}
 use Rattle.str0m_formats.specs.declared.format_param.FormatParam.{FormatParam}
 use Rattle.str0m_formats.specs.declared.format_param.FormatParam.TheVariants.{H265ProfileTierLevel, H266ProfileTierLevel}
 
@@ -19,17 +20,18 @@ IsGiven default (Some text) n = IsNum 255 text n
 abbrev pub Texts : Type 0
 Texts = Option (List ℕ) × Option (List ℕ) × Option (List ℕ)
 
-abbrev pub IsH265 : Texts → h265_triple → Type 0
-IsH265 texts t = IsGiven h265.defaults.0 texts.0 (h265.profile_id t.profile) × IsGiven h265.defaults.1 texts.1 (h265.tier_flag t.tier) × IsGiven h265.defaults.2 texts.2 (h265.level_id t.level)
-
-abbrev pub IsH266 : Texts → h266_triple → Type 0
-IsH266 texts t = IsGiven h266.defaults.0 texts.0 (h266.profile_id t.profile) × IsGiven h266.defaults.1 texts.1 (h266.tier_flag t.tier) × IsGiven h266.defaults.2 texts.2 (h266.level_id t.level)
+-- the triple's numbers are those of the texts
+abbrev pub IsGivenTriple : {P T L : Type 0} → (P → ℕ) → (T → ℕ) → (L → ℕ) → ℕ × ℕ × ℕ → Texts → ProfileTierLevel P T L → Type 0
+IsGivenTriple profile_id tier_flag level_id defaults texts t =
+    IsGiven defaults.0 texts.0 (profile_id t.profile) × IsGiven defaults.1 texts.1 (tier_flag t.tier) × IsGiven defaults.2 texts.2 (level_id t.level)
 
 abbrev pub IsH265Param : Texts → Option FormatParam → Type 0
-IsH265Param texts param = (t : h265_triple) × IsH265 texts t × (param ≡ Some (H265ProfileTierLevel t))
+IsH265Param texts param =
+    (t : h265_triple) × IsGivenTriple h265.profile_id h265.tier_flag h265.level_id h265.defaults texts t × (param ≡ Some (H265ProfileTierLevel t))
 
 abbrev pub IsH266Param : Texts → Option FormatParam → Type 0
-IsH266Param texts param = (t : h266_triple) × IsH266 texts t × (param ≡ Some (H266ProfileTierLevel t))
+IsH266Param texts param =
+    (t : h266_triple) × IsGivenTriple h266.profile_id h266.tier_flag h266.level_id h266.defaults texts t × (param ≡ Some (H266ProfileTierLevel t))
 
 abbrev pub IsNoParam : Texts → Option FormatParam → Type 0
 IsNoParam texts param = param ≡ None

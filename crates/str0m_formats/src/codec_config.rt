@@ -1,10 +1,10 @@
 //! The codecs that one side can send and receive.
 ghost use Rattle.std.specs.Prelude.{◌≡◌, ◌++◌, ◌∷◌, [], IfOk, OnOk, OnErr};
-ghost use Rattle.str0m_values.specs.declared.h265.H265ProfileTierLevel.{H265ProfileTierLevel};
-ghost use Rattle.str0m_values.specs.declared.h266.H266ProfileTierLevel.{H266ProfileTierLevel};
+ghost use Rattle.str0m_values.specs.H265.{H265ProfileTierLevel};
+ghost use Rattle.str0m_values.specs.H266.{H266ProfileTierLevel};
 ghost use Rattle.str0m_formats.specs.Rows.{new_row, types};
 ghost use Rattle.str0m_formats.specs.TypeSets.{AllDistinct};
-ghost use Rattle.str0m_formats.specs.CodecConfig.{picture_spec, h264_row, h265_row, h266_row, IsH265Triple, IsH266Triple};
+ghost use Rattle.str0m_formats.specs.CodecConfig.{picture_spec, h264_row, h265_row, h266_row, IsTripleOr, IsH265Triple, IsH266Triple};
 ghost use Rattle.str0m_formats.specs.DefaultRows.{AreDefault};
 
 use crate::codec::Codec;
@@ -14,7 +14,9 @@ use crate::payload_params::PayloadParams;
 use crate::red_distances::RedDistances;
 use std::alloc::{AllocError, Global};
 use std::ops::{Deref, DerefMut};
-use str0m_values::{Frequency, H265ProfileTierLevel, H266ProfileTierLevel, Pt};
+use str0m_values::{
+    Frequency, H265ProfileTierLevel, H266ProfileTierLevel, Numbered, ProfileTierLevel, Pt,
+};
 
 /// The rows of codecs that one side can send and receive, in order of preference, and how far back
 /// its redundant audio reaches.
@@ -76,16 +78,17 @@ pub(crate) fn h266_row(pt: Pt, resend: Option<Pt>, triple: H266ProfileTierLevel)
     PayloadParams::new(pt, resend, picture_spec(Codec::H266, format))
 }
 
-fn h265_triple(profile: u8, tier: u8, level: u8) -> H265ProfileTierLevel
-    ensures { IsH265Triple profile tier level result }
+/// The triple of three numbers; where one of them stands in no table, the fallback.
+fn triple_or<P: Numbered, T: Numbered, L: Numbered>(
+    profile: u8,
+    tier: u8,
+    level: u8,
+    fallback: ProfileTierLevel<P, T, L>,
+) -> ProfileTierLevel<P, T, L>
+    ensures { IsTripleOr P.number_of T.number_of L.number_of
+        (P.number_of fallback.profile, T.number_of fallback.tier, L.number_of fallback.level) profile tier level result }
 {
-    H265ProfileTierLevel::new(profile, tier, level).unwrap_or(H265ProfileTierLevel::FALLBACK)
-}
-
-fn h266_triple(profile: u8, tier: u8, level: u8) -> H266ProfileTierLevel
-    ensures { IsH266Triple profile tier level result }
-{
-    H266ProfileTierLevel::new(profile, tier, level).unwrap_or(H266ProfileTierLevel::FALLBACK)
+    ProfileTierLevel::new(profile, tier, level).unwrap_or(fallback)
 }
 
 impl CodecConfig {
@@ -213,7 +216,8 @@ impl CodecConfig {
         ensures err { OnErr result (self.new.params.items ≡ self.old.params.items) }
         ensures distances { self.new.red_distances ≡ self.old.red_distances }
     {
-        self.add_row(h265_row(pt, resend, h265_triple(profile, tier, level)))
+        let triple = triple_or(profile, tier, level, H265ProfileTierLevel::FALLBACK);
+        self.add_row(h265_row(pt, resend, triple))
     }
 
     /// Adds a row of H266 at the end, at 90 kHz, with this profile, tier and level (RFC 9328, section
@@ -234,7 +238,8 @@ impl CodecConfig {
         ensures err { OnErr result (self.new.params.items ≡ self.old.params.items) }
         ensures distances { self.new.red_distances ≡ self.old.red_distances }
     {
-        self.add_row(h266_row(pt, resend, h266_triple(profile, tier, level)))
+        let triple = triple_or(profile, tier, level, H266ProfileTierLevel::FALLBACK);
+        self.add_row(h266_row(pt, resend, triple))
     }
 }
 

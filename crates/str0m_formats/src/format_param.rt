@@ -13,7 +13,7 @@ ghost use Rattle.str0m_formats.specs.ParamReading.{number_read, hex_read, modes_
 use crate::format_key::FormatKey;
 use crate::pairs::params;
 use std::alloc::{AllocError, Global};
-use str0m_values::cuts::{hex_u32, num_u8, num_u16, num_u32};
+use str0m_values::cuts::{hex_u32, num_u8, num_u32};
 use str0m_values::{H265ProfileTierLevel, H266ProfileTierLevel, Pt};
 
 /// One parameter of a format, as the values of an `a=fmtp` line give them (RFC 8866, section 6.15).

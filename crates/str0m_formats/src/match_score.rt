@@ -1,12 +1,12 @@
 //! How well two specs fit.
 ghost use Rattle.std.specs.Prelude.{◌≡◌, ◌≤◌, ◌==◌, ◌&&◌, IfSome, not, option_map};
-ghost use Rattle.str0m_formats.specs.Scores.{same_flag, unless, opus_score, is_mono, mode_score, amr_wb_score, level_score, h264_level_score, h264_score, h265_triple, h266_triple, profile_of, triple_score, profile_score, vp9_score, av1_score, format_score, codec_score, same_spec, same_codec, score};
+ghost use Rattle.str0m_formats.specs.Scores.{same_flag, unless, opus_score, is_mono, mode_score, amr_wb_score, level_score, h264_level_score, h264_score, profile_numbers, profile_of, triple_score, profile_score, vp9_score, av1_score, format_score, codec_score, same_spec, same_codec, score};
 ghost use Rattle.str0m_formats.specs.declared.codec.Codec.TheVariants.{AmrWb};
 
 use crate::codec::Codec;
 use crate::codec_spec::CodecSpec;
 use crate::format_params::FormatParams;
-use str0m_values::{H264ProfileLevel, H265ProfileTierLevel, H266ProfileTierLevel};
+use str0m_values::{H264ProfileLevel, Leveled, Numbered, ProfileTierLevel};
 
 /// The score of what fits in full.
 const FULL: usize = 100;
@@ -119,25 +119,16 @@ fn h264_score(own: &FormatParams, other: &FormatParams) -> Option<usize>
     }
 }
 
-fn h265_triple(triple: Option<H265ProfileTierLevel>) -> Option<ProfileNumbers>
-    ensures { result ≡ option_map h265_triple triple }
+fn profile_numbers<P: Numbered, T: Numbered, L: Leveled>(
+    triple: Option<ProfileTierLevel<P, T, L>>,
+) -> Option<ProfileNumbers>
+    ensures { result ≡ option_map (λ t. profile_numbers P.number_of T.number_of L.place_of t) triple }
 {
     let triple = triple?;
     Some(ProfileNumbers {
         profile: triple.profile_id(),
         tier: triple.tier_flag(),
-        level: triple.level().ordinal(),
-    })
-}
-
-fn h266_triple(triple: Option<H266ProfileTierLevel>) -> Option<ProfileNumbers>
-    ensures { result ≡ option_map h266_triple triple }
-{
-    let triple = triple?;
-    Some(ProfileNumbers {
-        profile: triple.profile_id(),
-        tier: triple.tier_flag(),
-        level: triple.level().ordinal(),
+        level: triple.level().place(),
     })
 }
 
@@ -211,14 +202,14 @@ fn format_score(codec: Codec, own: &FormatParams, other: &FormatParams) -> Optio
         Codec::Opus => Some(opus_score(own, other)),
         Codec::H264 => h264_score(own, other),
         Codec::H265 => profile_score(
-            h265_triple(own.h265_profile_tier_level),
-            h265_triple(other.h265_profile_tier_level),
+            profile_numbers(own.h265_profile_tier_level),
+            profile_numbers(other.h265_profile_tier_level),
             own.profile_id,
             other.profile_id,
         ),
         Codec::H266 => profile_score(
-            h266_triple(own.h266_profile_tier_level),
-            h266_triple(other.h266_profile_tier_level),
+            profile_numbers(own.h266_profile_tier_level),
+            profile_numbers(other.h266_profile_tier_level),
             own.profile_id,
             other.profile_id,
         ),

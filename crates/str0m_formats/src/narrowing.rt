@@ -1,23 +1,23 @@
 //! What the row that a row is matched with changes in its format.
 ghost use Rattle.std.specs.Prelude.{◌≡◌};
-ghost use Rattle.str0m_formats.specs.Narrowing.{narrowed, narrowed_as, levels_differ, lower_h265, lower_h266};
+ghost use Rattle.str0m_formats.specs.Narrowing.{narrowed, narrowed_as, levels_differ, lower_triple, id_beside};
 ghost use Rattle.str0m_formats.specs.declared.codec.Codec.TheVariants.{AmrWb, H264, H265, H266, Tele};
 
 use crate::codec::Codec;
 use crate::codec_spec::CodecSpec;
 use crate::format_params::FormatParams;
-use str0m_values::{H265ProfileTierLevel, H266ProfileTierLevel, lower_level};
+use str0m_values::{Leveled, Numbered, ProfileTierLevel, lower_level};
 
 /// The triple of the choice, its level the lower of both where the row has one.
-fn lower_h265_triple(
-    own: Option<H265ProfileTierLevel>,
-    chosen: Option<H265ProfileTierLevel>,
-) -> Option<H265ProfileTierLevel>
-    ensures { result ≡ lower_h265 own chosen }
+fn lower_triple<P: Numbered, T: Numbered, L: Leveled>(
+    own: Option<ProfileTierLevel<P, T, L>>,
+    chosen: Option<ProfileTierLevel<P, T, L>>,
+) -> Option<ProfileTierLevel<P, T, L>>
+    ensures { result ≡ lower_triple L.place_of own chosen }
 {
     match (own, chosen) {
         (Some(own), Some(chosen)) => {
-            if own.level.ordinal() < chosen.level.ordinal() {
+            if own.level.place() < chosen.level.place() {
                 Some(chosen.with_level(own.level))
             } else {
                 Some(chosen)
@@ -27,22 +27,13 @@ fn lower_h265_triple(
     }
 }
 
-/// Likewise of H266.
-fn lower_h266_triple(
-    own: Option<H266ProfileTierLevel>,
-    chosen: Option<H266ProfileTierLevel>,
-) -> Option<H266ProfileTierLevel>
-    ensures { result ≡ lower_h266 own chosen }
+/// The profile id, where no triple says it.
+fn id_beside<Triple: Copy>(triple: Option<Triple>, id: Option<u32>) -> Option<u32>
+    ensures { result ≡ id_beside triple id }
 {
-    match (own, chosen) {
-        (Some(own), Some(chosen)) => {
-            if own.level.ordinal() < chosen.level.ordinal() {
-                Some(chosen.with_level(own.level))
-            } else {
-                Some(chosen)
-            }
-        }
-        _ => chosen,
+    match triple {
+        Some(_) => None,
+        None => id,
     }
 }
 
@@ -80,11 +71,8 @@ fn narrow_h265(own: &mut CodecSpec, chosen: &CodecSpec)
     ensures { own.new ≡ narrowed_as H265 own.old chosen.now }
 {
     let theirs = &chosen.format;
-    own.format.profile_id = match theirs.h265_profile_tier_level {
-        Some(_) => None,
-        None => theirs.profile_id,
-    };
-    own.format.h265_profile_tier_level = lower_h265_triple(
+    own.format.profile_id = id_beside(theirs.h265_profile_tier_level, theirs.profile_id);
+    own.format.h265_profile_tier_level = lower_triple(
         own.format.h265_profile_tier_level,
         theirs.h265_profile_tier_level,
     );
@@ -96,11 +84,8 @@ fn narrow_h266(own: &mut CodecSpec, chosen: &CodecSpec)
     ensures { own.new ≡ narrowed_as H266 own.old chosen.now }
 {
     let theirs = &chosen.format;
-    own.format.profile_id = match theirs.h266_profile_tier_level {
-        Some(_) => None,
-        None => theirs.profile_id,
-    };
-    own.format.h266_profile_tier_level = lower_h266_triple(
+    own.format.profile_id = id_beside(theirs.h266_profile_tier_level, theirs.profile_id);
+    own.format.h266_profile_tier_level = lower_triple(
         own.format.h266_profile_tier_level,
         theirs.h266_profile_tier_level,
     );

@@ -7,7 +7,7 @@ ghost use Rattle.indexmap.specs.IndexMap.{insert_entry};
 ghost use Rattle.str0m_formats.specs.FormatParam.{pair_texts};
 ghost use Rattle.str0m_formats.specs.ParamReading.{param_of};
 ghost use Rattle.str0m_formats.specs.Pairs.{is_mark, has_mark, merged, value_of, is_part};
-ghost use Rattle.str0m_formats.specs.PairsReading.{entry_texts, lay, h265_read, h266_read, triple_read, joined_read, params_read};
+ghost use Rattle.str0m_formats.specs.PairsReading.{entry_texts, lay, h265_tables, h266_tables, read_triple, triple_read, joined_read, params_read};
 
 use crate::format_param::{FormatParam, param};
 use indexmap::IndexMap;
@@ -85,7 +85,7 @@ fn h265(
     tier: Option<&str>,
     level: Option<&str>,
 ) -> Option<H265ProfileTierLevel>
-    ensures { result ≡ h265_read (lay profile.entry, lay tier.entry, lay level.entry) }
+    ensures { result ≡ read_triple h265_tables (lay profile.entry, lay tier.entry, lay level.entry) }
 {
     H265ProfileTierLevel::from_fmtp(profile, tier, level)
 }
@@ -96,7 +96,7 @@ fn h266(
     tier: Option<&str>,
     level: Option<&str>,
 ) -> Option<H266ProfileTierLevel>
-    ensures { result ≡ h266_read (lay profile.entry, lay tier.entry, lay level.entry) }
+    ensures { result ≡ read_triple h266_tables (lay profile.entry, lay tier.entry, lay level.entry) }
 {
     H266ProfileTierLevel::from_fmtp(profile, tier, level)
 }

@@ -1,7 +1,5 @@
 //! How parameters of formats print.
 ghost use Rattle.std.specs.Prelude.{◌≡◌, ◌++◌, Some, codes};
-ghost use Rattle.str0m_values.specs.H265 as h265;
-ghost use Rattle.str0m_values.specs.H266 as h266;
 ghost use Rattle.std.specs.Fmt.{decimal};
 ghost use Rattle.str0m_formats.specs.FormatParam.{flag_text, six_digits, mode_list, triple_text, param_text};
 ghost use Rattle.str0m_formats.specs.FormatParam.{comma_if, entry, entry_text};
@@ -10,7 +8,7 @@ ghost use Rattle.str0m_formats.specs.ParamText.{shown, keyed_text};
 use crate::format_key::FormatKey;
 use crate::format_param::FormatParam;
 use std::fmt;
-use str0m_values::{H265ProfileTierLevel, H266ProfileTierLevel, Pt};
+use str0m_values::{Numbered, ProfileTierLevel, Pt};
 
 /// A flag, which prints as a digit.
 #[derive(Clone, Copy)]
@@ -51,25 +49,11 @@ struct Triple {
 }
 
 impl Triple {
-    fn of_h265(triple: H265ProfileTierLevel) -> Triple
+    fn of<P: Numbered, T: Numbered, L: Numbered>(triple: ProfileTierLevel<P, T, L>) -> Triple
         ensures { result ≡ record {
-          profile = h265.profile_id triple.profile;
-          tier = h265.tier_flag triple.tier;
-          level = h265.level_id triple.level;
-        } }
-    {
-        Triple {
-            profile: triple.profile_id(),
-            tier: triple.tier_flag(),
-            level: triple.level_id(),
-        }
-    }
-
-    fn of_h266(triple: H266ProfileTierLevel) -> Triple
-        ensures { result ≡ record {
-          profile = h266.profile_id triple.profile;
-          tier = h266.tier_flag triple.tier;
-          level = h266.level_id triple.level;
+          profile = P.number_of triple.profile;
+          tier = T.number_of triple.tier;
+          level = L.number_of triple.level;
         } }
     {
         Triple {
@@ -230,8 +214,8 @@ impl fmt::Display for FormatParam {
 
     fn fmt<W: fmt::Write>(&self, f: &mut fmt::Formatter<W>) -> fmt::Result {
         match *self {
-            FormatParam::H265ProfileTierLevel(triple) => write!(f, "{}", Triple::of_h265(triple)),
-            FormatParam::H266ProfileTierLevel(triple) => write!(f, "{}", Triple::of_h266(triple)),
+            FormatParam::H265ProfileTierLevel(triple) => write!(f, "{}", Triple::of(triple)),
+            FormatParam::H266ProfileTierLevel(triple) => write!(f, "{}", Triple::of(triple)),
             FormatParam::TelephoneEvents(n) | FormatParam::BareRange(n) => write!(
                 f,
                 "{}",

@@ -72,7 +72,7 @@ fn shown<P: Numbered + Debug, T: Numbered + Debug, L: Leveled + Debug>(
     answer.show(&found.level().place());
 }
 
-fn part<A: Debug>(answer: &mut Answer, found: A, id: u8) {
+fn part<A: Debug + Copy>(answer: &mut Answer, found: A, id: u8) {
     answer.debug(&found);
     answer.push(" ");
     answer.show(&id);
