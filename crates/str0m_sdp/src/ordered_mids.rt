@@ -1,5 +1,5 @@
-//! Mids in the order of their bytes: one is found among many without a look at each, however they
-//! are chosen, as it isn't in a table whose hash is known.
+//! Mids in the order of their bytes, so that one is found among many without a look at each, whoever
+//! chose them. A table whose hash is known has to look at all that were chosen to fall together.
 ghost use Rattle.std.specs.Prelude.{◌≡◌, IfOk};
 ghost use Rattle.str0m_sdp.specs.OrderedMids.{Holds, is_held};
 ghost use Rattle.str0m_sdp.specs.SessionFault.{first_again};

@@ -22,8 +22,8 @@ use std::alloc::{AllocError, Global};
 use std::collections::BTreeSet;
 use str0m_values::{Items, Mid};
 
-/// The mids of so many sections, and with those of so long a group, are compared each with each, which
-/// takes no memory.
+/// Mids of up to so many sections, and of so long a group, are compared each with each, which takes no
+/// memory.
 const FEW: usize = 16;
 
 fn section_mid(m: &MediaLine) -> Option<Mid>
