@@ -5,6 +5,7 @@ mod held_texts;
 mod made_sections;
 mod negotiated;
 mod read_back;
+mod row_lines;
 mod writable;
 
 use plain_cases::Answer;
@@ -15,4 +16,5 @@ pub fn answers(answer: &mut Answer, word: &str, text: &str) -> bool {
         || negotiated::answers(answer, word, text)
         || read_back::answers(answer, word, text)
         || made_sections::answers(answer, word, text)
+        || row_lines::answers(answer, word, text)
 }

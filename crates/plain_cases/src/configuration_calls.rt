@@ -152,18 +152,6 @@ pub fn is_same(one: &CodecConfig, other: &CodecConfig) -> bool {
         && one.red_distances() == other.red_distances()
 }
 
-/// The answer where a call that is refused memory doesn't leave things as they were.
-pub(crate) const CHANGED: &str = "changed where memory was refused";
-
-/// A call was refused memory: it has to leave the configuration as it was before.
-pub(crate) fn unchanged(answer: &mut Answer, config: &CodecConfig, before: &CodecConfig) {
-    if is_same(config, before) {
-        answer.refuse();
-    } else {
-        answer.settle(CHANGED);
-    }
-}
-
 /// A copy of the configuration.
 pub(crate) fn copy_of(answer: &mut Answer, config: &CodecConfig) -> CodecConfig {
     let none = CodecConfig::empty(answer.alloc());
@@ -182,7 +170,7 @@ pub(crate) fn made(answer: &mut Answer, calls: &str) -> CodecConfig {
 fn call_unless_refused(answer: &mut Answer, config: &mut CodecConfig, text: &str) {
     let before = copy_of(answer, config);
     if !answer.is_refused() && call(answer, config, text).is_err() {
-        unchanged(answer, config, &before);
+        answer.refuse_if(is_same(config, &before));
     }
 }
 

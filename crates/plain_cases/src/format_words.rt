@@ -1,17 +1,16 @@
 //! Codecs, parameters and formats: what is read and what is printed. `-` stands for what prints nothing.
 
-use crate::row_answers::{printed, push_or_dash};
+use crate::row_answers::{push_or_dash, show_codec};
 use crate::row_texts::{format_of, type_of};
 use std::alloc::AllocError;
 use std::fmt::Display;
 use str0m_formats::{Codec, CodecSpec, FormatParam, FormatParams};
-use str0m_sdp::RtpMap;
 use str0m_values::MediaKind;
 use value_cases::{Answer, word};
 
 /// What the value prints, and `-` for nothing.
 fn show_or_dash<T: Display>(answer: &mut Answer, value: &T) {
-    let printed = printed(answer, value);
+    let printed = answer.printed(value);
     push_or_dash(answer, printed.as_str());
 }
 
@@ -48,11 +47,7 @@ pub(crate) fn static_type(answer: &mut Answer, text: &str) {
 }
 
 fn show_spec(answer: &mut Answer, spec: &CodecSpec) {
-    answer.show(&RtpMap {
-        codec: spec.codec,
-        clock_rate: spec.clock_rate,
-        channels: spec.channels,
-    });
+    show_codec(answer, spec);
     answer.push(", in RTP at ");
     answer.show(&spec.rtp_clock_rate());
 }

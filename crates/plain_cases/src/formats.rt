@@ -50,7 +50,6 @@ fn of_rows(answer: &mut Answer, word: &str, text: &str) -> bool {
         "feedback" => row_words::feedback(answer, text),
         "probe" => row_words::probe(answer, text),
         "plain" => plain_rows::plain(answer, text),
-        "row-lines" => row_words::row_lines(answer, text),
         _ => return false,
     }
     true

@@ -2,7 +2,7 @@
 //! `recvonly 96 - - opus/48000/2 -`; rounds stand behind this side's rows, each behind ` | `.
 
 use crate::claim_words::DIFFERS;
-use crate::configuration_calls::{config_of, copy_of, is_same, unchanged};
+use crate::configuration_calls::{config_of, copy_of, is_same};
 use crate::row_answers::show_rows;
 use crate::row_texts::rows_of;
 use crate::row_words::{direction_of, sides};
@@ -42,7 +42,7 @@ fn run_in<C: Claimed>(answer: &mut Answer, config: &mut CodecConfig, round: &Rou
     let before = copy_of(answer, config);
     let outcome = config.update_params_in::<C>(round.remote.as_slice(), round.direction);
     if outcome == Err(NegotiationError::Memory) {
-        unchanged(answer, config, &before);
+        answer.refuse_if(is_same(config, &before));
     }
     outcome
 }
@@ -87,10 +87,10 @@ fn run_all(answer: &mut Answer, config: &mut CodecConfig, rounds: &[Round]) {
             show_outcomes(answer, outcomes.as_slice());
             let wants_memory = run_again(answer, &mut alone, rounds, outcomes.as_slice());
             if wants_memory || !is_same(config, &alone) {
-                unchanged(answer, config, &alone);
+                answer.refuse_if(is_same(config, &alone));
             }
         }
-        Err(_) => unchanged(answer, config, &alone),
+        Err(_) => answer.refuse_if(is_same(config, &alone)),
     }
 }
 

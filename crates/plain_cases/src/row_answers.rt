@@ -1,8 +1,6 @@
 //! Rows and lists as answers show them.
 
-use std::fmt::Display;
-use str0m_formats::PayloadParams;
-use str0m_sdp::RtpMap;
+use str0m_formats::{CodecSpec, PayloadParams};
 use value_cases::Answer;
 
 /// The text, and `-` for an empty one.
@@ -10,17 +8,24 @@ pub(crate) fn push_or_dash(answer: &mut Answer, text: &str) {
     answer.push(if text.is_empty() { "-" } else { text });
 }
 
+/// A codec with its rates, as `opus/48000/2`.
+pub(crate) fn show_codec(answer: &mut Answer, spec: &CodecSpec) {
+    answer.show(&spec.codec);
+    answer.push("/");
+    answer.show(&spec.clock_rate);
+    if let Some(channels) = spec.channels {
+        answer.push("/");
+        answer.show(&channels);
+    }
+}
+
 /// A row as a case writes it.
 pub(crate) fn show_row(answer: &mut Answer, row: &PayloadParams) {
     show_types(answer, row);
     let spec = row.spec();
-    answer.show(&RtpMap {
-        codec: spec.codec,
-        clock_rate: spec.clock_rate,
-        channels: spec.channels,
-    });
+    show_codec(answer, &spec);
     answer.push(" ");
-    let format = printed(answer, &spec.format);
+    let format = answer.printed(&spec.format);
     push_or_dash(answer, format.as_str());
     answer.push_if(!row.fb_transport_cc(), " no-transport-cc");
 }
@@ -32,12 +37,6 @@ fn show_types(answer: &mut Answer, row: &PayloadParams) {
     answer.push(" ");
     answer.show_or(&row.red(), "-");
     answer.push(" ");
-}
-
-/// What the value prints.
-pub(crate) fn printed<T: Display>(answer: &mut Answer, value: &T) -> String {
-    let alloc = answer.alloc();
-    answer.kept(value.to_string(alloc), String::new(alloc))
 }
 
 /// The rows, each behind `locked` or `open`; `none` for no row.

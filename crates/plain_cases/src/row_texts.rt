@@ -3,7 +3,6 @@
 //! absent. Behind it may stand what feedback is off, as `no-transport-cc`. Rows are parted by ` + `; `none` is no row.
 //! Of a text that names no such thing the answer says so, and anything stands for it.
 
-use crate::row_answers::printed;
 use str0m_formats::{Codec, CodecSpec, FormatParams, PayloadParams};
 use str0m_values::{Frequency, Pt};
 use value_cases::{Answer, word};
@@ -35,7 +34,7 @@ pub(crate) fn type_or_dash(answer: &mut Answer, text: &str) -> Option<Pt> {
 /// The codec that prints this very name.
 pub(crate) fn codec_of(answer: &mut Answer, name: &str) -> Codec {
     let codec = Codec::from(name);
-    if printed(answer, &codec).as_str() != name {
+    if answer.printed(&codec).as_str() != name {
         answer.no_such("codec");
     }
     codec
@@ -52,7 +51,7 @@ pub(crate) fn format_of(answer: &mut Answer, line: &str) -> FormatParams {
 fn format_said(answer: &mut Answer, line: &str) -> FormatParams {
     let read = FormatParams::parse_line(answer.alloc(), line);
     let format = answer.kept(read, FormatParams::default());
-    let printed = printed(answer, &format);
+    let printed = answer.printed(&format);
     if line.is_empty() || printed.len() != line.len() {
         answer.no_such("format");
     }
@@ -134,7 +133,7 @@ pub(crate) fn add_rows(answer: &mut Answer, rows: &mut Vec<PayloadParams>, text:
 }
 
 /// The rows that a text names.
-pub(crate) fn rows_of(answer: &mut Answer, text: &str) -> Vec<PayloadParams> {
+pub fn rows_of(answer: &mut Answer, text: &str) -> Vec<PayloadParams> {
     let mut rows = Vec::new(answer.alloc());
     add_rows(answer, &mut rows, text);
     rows

@@ -1,11 +1,10 @@
 //! What is asked of rows and of configurations.
 
-use crate::configuration_calls::{CHANGED, config_of, made};
-use crate::row_answers::{printed, show_row, show_rows};
+use crate::configuration_calls::{config_of, made};
+use crate::row_answers::{show_row, show_rows};
 use crate::row_texts::{row_of, rows_of, spec_of, type_of};
 use str0m_formats::{CodecConfig, PayloadParams};
-use str0m_sdp::{AsMediaAttrs, MediaAttribute};
-use str0m_values::{Direction, Items, MediaKind, Pt};
+use str0m_values::{Direction, MediaKind, Pt};
 use value_cases::{Answer, direction, word};
 
 /// What stands on both sides of the first bar.
@@ -146,42 +145,4 @@ pub(crate) fn feedback(answer: &mut Answer, text: &str) {
 pub(crate) fn probe(answer: &mut Answer, text: &str) {
     let row = PayloadParams::new_probe(type_of(answer, text));
     with_feedback(answer, &row);
-}
-
-/// Appends the row's lines. Where that is refused, the list has to be what it was.
-fn append_lines(answer: &mut Answer, lines: &mut Items<MediaAttribute>, row: &PayloadParams) {
-    let none = Items::empty(answer.alloc());
-    let before = answer.kept(lines.clone(), none);
-    if row.as_media_attrs(&mut lines.0).is_err() {
-        unchanged(answer, lines, &before);
-    }
-}
-
-fn unchanged(answer: &mut Answer, lines: &Items<MediaAttribute>, before: &Items<MediaAttribute>) {
-    if lines == before {
-        answer.refuse();
-    } else {
-        answer.settle(CHANGED);
-    }
-}
-
-/// `row-lines ROWS`: the lines that describe the rows, behind one that was there before.
-pub(crate) fn row_lines(answer: &mut Answer, text: &str) {
-    let rows = rows_of(answer, text);
-    let mut lines = Items::empty(answer.alloc());
-    answer.note(lines.push(MediaAttribute::RtcpMux));
-    for row in rows.iter() {
-        append_lines(answer, &mut lines, row);
-    }
-    show_lines(answer, lines.as_slice());
-}
-
-fn show_lines(answer: &mut Answer, lines: &[MediaAttribute]) {
-    let mut separator = "";
-    for line in lines {
-        let printed = printed(answer, line);
-        answer.push(separator);
-        answer.push(printed.trim_end());
-        separator = "\n";
-    }
 }

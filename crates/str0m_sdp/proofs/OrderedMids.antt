@@ -6,6 +6,7 @@ use Rattle.std.specs.BTreeSet.{BTreeSet, Updates, contains}
 use Rattle.std.specs.Cmp.Lexicographic.{slice_cmp}
 use Rattle.std.specs.Ordering.{nat_cmp}
 use Rattle.std.specs.Str.{bytes_eq}
+use Rattle.std.proofs.Math.Bool.{or_comm}
 use Rattle.std.proofs.lemmas.Bool.{false≢true}
 use Rattle.std.proofs.lemmas.Map.Text.{is_eq-slice_cmp}
 use Rattle.str0m_values.specs.Cuts.{◌<|>◌, when}
@@ -20,12 +21,6 @@ use Rattle.str0m_sdp.proofs.TypeMarks.{any_more}
 either : (b other : Bool) → cond b true other ≡ (b || other)
 either true other = refl
 either false other = refl
-
-swapped : (b other : Bool) → (b || other) ≡ (other || b)
-swapped true true = refl
-swapped true false = refl
-swapped false true = refl
-swapped false false = refl
 
 -- one name more
 held_more : (old new : BTreeSet (Bor (List ℕ))) (name : Bor (List ℕ)) (mid : List ℕ) → name.now ≡ mid
@@ -51,7 +46,7 @@ holds_behind old new name mid mids i lt is same more holds None = refl
 holds_behind old new name mid mids i lt is same more holds (Some q) =
     held_more old new name mid same more q
     ∙ ap (λ (b : Bool). bytes_eq mid q || b) (holds (Some q))
-    ∙ swapped (bytes_eq mid q) (is_listed (take i mids) (Some q))
+    ∙ or_comm (bytes_eq mid q) (is_listed (take i mids) (Some q))
     ∙ sym (any_more (λ other. bytes_eq other q) mids i mid lt is)
 
 -- ---- the first that stands again

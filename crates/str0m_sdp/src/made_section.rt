@@ -6,7 +6,6 @@ ghost use Rattle.str0m_sdp.specs.RowAttributes.{row_attrs};
 ghost use Rattle.str0m_sdp.specs.SectionOf.{is_of_type, made};
 
 use crate::attribute::MediaAttribute;
-use crate::bandwidth::Bandwidth;
 use crate::media_line::MediaLine;
 use crate::row_attributes::AsMediaAttrs;
 use std::alloc::{AllocError, Global};
@@ -78,15 +77,6 @@ fn with_rows(
     Ok(attrs)
 }
 
-fn copied_bandwidth(bw: &Option<Bandwidth>) -> Result<Option<Bandwidth>, AllocError>
-    ensures { IfOk result (λ copy. copy ≡ bw.now) }
-{
-    match bw {
-        Some(bw) => Ok(Some(bw.clone()?)),
-        None => Ok(None),
-    }
-}
-
 /// The section that offers or answers these rows where the frame stands.
 ///
 /// Type, protocol and bandwidth are the frame's, and so is whether it is disabled. Its payload types
@@ -105,7 +95,7 @@ pub fn section_of(frame: &MediaLine, rows: &[PayloadParams]) -> Result<MediaLine
         disabled: frame.disabled,
         proto: frame.proto,
         pts: Items(pts),
-        bw: copied_bandwidth(&frame.bw)?,
+        bw: frame.bw.clone()?,
         attrs: Items(attrs),
     })
 }

@@ -29,7 +29,7 @@ use Rattle.str0m_signal.specs.MediaAttribute.{Named, IsUnused, MediaForm, IsMedi
 use Rattle.str0m_values.specs.Cuts.{◌>>=◌, ◌<|>◌, strip, when, is_rest, num}
 use Rattle.str0m_formats.specs.declared.format_param.FormatParam.{FormatParam}
 use Rattle.str0m_signal.specs.FmtpReading.{fmtp_fields_read}
-use Rattle.str0m_signal.specs.MediaAttributeReading.{words_read, ice_read, rtcp_read, sctp_port_read, sctp_init_read, max_message_size_read, candidate_form_read, fingerprint_form_read, fmtp_read, role_read, setup_read, mid_read, rtpmap_read, rid_read, simulcast_read, first_byte, with_e_read, with_f_read, with_i_read, with_m_read, with_r_read, with_s_read, with_letter_read, named_read, media_read}
+use Rattle.str0m_signal.specs.MediaAttributeReading.{words_read, ice_read, rtcp_read, sctp_port_read, sctp_init_read, max_message_size_read, candidate_form_read, fingerprint_form_read, fmtp_read, role_read, setup_read, mid_read, rtpmap_read, rid_read, simulcast_read, first_byte, with_e_read, with_f_read, with_i_read, with_m_read, with_r_read, with_other_s_read, with_s_read, with_letter_read, named_read, media_read}
 use Rattle.str0m_signal.specs.RtpMapReading.{rtpmap_fields_read}
 use Rattle.str0m_signal.proofs.RtpMapLaws.{rtpmap_fields_both}
 use Rattle.str0m_values.specs.ShortText.{beginning_of}
@@ -179,14 +179,11 @@ with_m_sound = sound_or mid_sound (sound_or msid_sound max_message_size_sound)
 with_r_sound : Sound Named with_r_read
 with_r_sound = sound_or rtpmap_sound (sound_or rtcp_fb_sound (sound_or rid_sound (sound_or rtcp_sound words_sound)))
 
+with_other_s_sound : Sound Named with_other_s_read
+with_other_s_sound = sound_or simulcast_sound (sound_or sctp_port_sound (sound_or sctp_init_sound words_sound))
+
 with_s_sound : Sound Named with_s_read
-with_s_sound =
-    sound_or ssrc_sound
-    (sound_or setup_sound
-    (sound_or ssrc_group_sound
-    (sound_or simulcast_sound
-    (sound_or sctp_port_sound
-    (sound_or sctp_init_sound words_sound)))))
+with_s_sound = sound_or ssrc_sound (sound_or setup_sound (sound_or ssrc_group_sound with_other_s_sound))
 
 none_sound : Sound Named (λ _. None)
 none_sound = record { law = λ text x e. absurd cc }

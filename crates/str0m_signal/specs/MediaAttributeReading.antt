@@ -101,15 +101,19 @@ with_r_read text =
     <|> rtcp_read text
     <|> words_read text
 
+abbrev pub with_other_s_read : List ℕ → Option MediaAttribute
+with_other_s_read text =
+    simulcast_read text
+    <|> sctp_port_read text
+    <|> sctp_init_read text
+    <|> words_read text
+
 abbrev pub with_s_read : List ℕ → Option MediaAttribute
 with_s_read text =
     ssrc_read text
     <|> setup_read text
     <|> ssrc_group_read text
-    <|> simulcast_read text
-    <|> sctp_port_read text
-    <|> sctp_init_read text
-    <|> words_read text
+    <|> with_other_s_read text
 
 abbrev pub first_byte : List ℕ → ℕ
 first_byte [] = 0

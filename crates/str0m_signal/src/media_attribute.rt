@@ -2,7 +2,7 @@
 
 ghost use Rattle.std.specs.Prelude.{◌≡◌, IfOk};
 ghost use Rattle.str0m_signal.specs.MediaAttribute.{IsMediaLine};
-ghost use Rattle.str0m_signal.specs.MediaAttributeReading.{words_read, ice_read, rtcp_read, sctp_port_read, sctp_init_read, max_message_size_read, candidate_form_read, fingerprint_form_read, setup_read, mid_read, first_byte, with_e_read, with_f_read, with_i_read, with_m_read, with_r_read, with_s_read, named_read, unused_read, media_read};
+ghost use Rattle.str0m_signal.specs.MediaAttributeReading.{words_read, ice_read, rtcp_read, sctp_port_read, sctp_init_read, max_message_size_read, candidate_form_read, fingerprint_form_read, setup_read, mid_read, first_byte, with_e_read, with_f_read, with_i_read, with_m_read, with_r_read, with_other_s_read, with_s_read, named_read, unused_read, media_read};
 ghost use Rattle.str0m_signal.specs.Chains.{Run};
 ghost use Rattle.str0m_signal.specs.Lines.{OneLine};
 ghost use Rattle.str0m_signal.specs.LineReading.{lines_of, Takes};
@@ -204,6 +204,26 @@ fn with_r<P: Place<MediaAttribute>>(
     taken(word(text), place)
 }
 
+/// The forms whose names begin with `s`, but for those of sources and roles.
+fn with_other_s<P: Place<MediaAttribute>>(
+    alloc: Global,
+    text: &str,
+    place: &mut P,
+) -> Result<bool, AllocError>
+    ensures { IfOk result (Takes P.Puts (with_other_s_read text.now) place.old place.new) }
+{
+    if taken_result(simulcast_line(alloc, text), place)? {
+        return Ok(true);
+    }
+    if taken(sctp_port(text), place)? {
+        return Ok(true);
+    }
+    if taken_result(sctp_init(alloc, text), place)? {
+        return Ok(true);
+    }
+    taken(word(text), place)
+}
+
 /// The forms whose names begin with `s`.
 fn with_s<P: Place<MediaAttribute>>(
     alloc: Global,
@@ -221,16 +241,7 @@ fn with_s<P: Place<MediaAttribute>>(
     if taken_result(ssrc_group(alloc, text), place)? {
         return Ok(true);
     }
-    if taken_result(simulcast_line(alloc, text), place)? {
-        return Ok(true);
-    }
-    if taken(sctp_port(text), place)? {
-        return Ok(true);
-    }
-    if taken_result(sctp_init(alloc, text), place)? {
-        return Ok(true);
-    }
-    taken(word(text), place)
+    with_other_s(alloc, text, place)
 }
 
 fn first_byte(text: &str) -> u8

@@ -81,15 +81,6 @@ fn pts_back(alloc: Global, section: &MediaLine) -> Result<Option<Items<Pt>>, All
     }
 }
 
-fn copied(bw: &Option<Bandwidth>) -> Result<Option<Bandwidth>, AllocError>
-    ensures { IfOk result (λ copy. copy ≡ bw.now) }
-{
-    match bw {
-        Some(bw) => Ok(Some(bw.clone()?)),
-        None => Ok(None),
-    }
-}
-
 /// A copy of the section with other types and attributes: its own, which may be many, aren't copied.
 fn section_with(
     section: &MediaLine,
@@ -99,7 +90,7 @@ fn section_with(
     ensures { IfOk result (λ made. made ≡ record section.now { pts = pts; attrs = attrs }) }
 {
     let typ = section.typ.clone()?;
-    let bw = copied(&section.bw)?;
+    let bw = section.bw.clone()?;
     Ok(MediaLine {
         typ,
         disabled: section.disabled,

@@ -47,6 +47,15 @@ impl Answer {
         self.is_refused = true;
     }
 
+    /// Notes that memory was refused to a call, which has to leave things as they were.
+    pub fn refuse_if(&mut self, is_unchanged: bool) {
+        if is_unchanged {
+            self.refuse();
+        } else {
+            self.settle("changed where memory was refused");
+        }
+    }
+
     /// Notes whether memory was refused.
     pub fn note(&mut self, done: Result<(), AllocError>) {
         self.is_refused = self.is_refused || done.is_err();

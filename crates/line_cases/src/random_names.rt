@@ -2,11 +2,11 @@
 ghost use Rattle.std.specs.Prelude.{ℕ, ◌+◌, ◌%◌, ◌^◌};
 ghost use Rattle.rand_core.specs.Steps.{stream_of, steps_u32};
 
+use plain_cases::Answer;
 use rand_core::utils::NextWord;
 use rand_core::{Rng, utils};
 use std::marker::Model;
-use str0m_sdp::Msid;
-use value_cases::Answer;
+use str0m_signal::Msid;
 
 /// Gives its own number and those after it.
 #[derive(Drop)]

@@ -1,10 +1,9 @@
 //! Layers with what is noted of them, which no line of a description makes; and values that hold nothing.
 
 use crate::random_names;
+use plain_cases::Answer;
 use std::alloc::{AllocError, Global};
-use str0m_sdp::{RestrictionId, SimulcastLayer};
-use str0m_values::{Items, Text};
-use value_cases::{Answer, word};
+use str0m_signal::{Items, RestrictionId, SimulcastLayer, Text};
 
 /// Answers what the word asks of the text; whether it is one of these words.
 pub(crate) fn answers(answer: &mut Answer, asked: &str, text: &str) -> bool {
@@ -30,7 +29,7 @@ fn noted(alloc: Global, text: &str) -> Result<Items<(Text, Text)>, AllocError> {
 
 /// A paused layer, as `NAME KEY=VALUE`.
 fn layer(alloc: Global, text: &str) -> Result<SimulcastLayer, AllocError> {
-    let (name, note) = word(text);
+    let (name, note) = text.split_once(' ').unwrap_or((text, ""));
     let restriction_id = RestrictionId::new(Text::from_str(alloc, name)?, false);
     let attributes = Some(noted(alloc, note)?);
     Ok(SimulcastLayer {
