@@ -14,7 +14,8 @@
 #include <string.h>
 #include <time.h>
 
-static const double BATCH = 10e6; // nanoseconds that a batch takes at least, where one call takes less
+static const double BATCH = 10e6; // nanoseconds that a batch takes at least
+static const uint32_t MOST_CALLS = 100000; // but where so many calls take less
 static int batches = 1;
 
 typedef uint64_t (*run)(const uint8_t *, size_t, uint32_t);
@@ -56,6 +57,8 @@ static const struct call CALLS[] = {
 #endif
 };
 
+volatile uint64_t kept; // (so that no compiler leaves a call out)
+
 static double now(void)
 {
     struct timespec at;
@@ -66,20 +69,29 @@ static double now(void)
 static double taken(const struct call *call, struct text text, uint32_t more)
 {
     double begin = now();
-    if (call->run(text.bytes, text.length, more) == UINT64_MAX)
-        return -1;
+    kept = call->run(text.bytes, text.length, more);
     return now() - begin;
 }
 
-// Nanoseconds of one call, the least of some batches; below 0 where the text isn't read.
+// How many calls make a batch: so many that they take long enough, by themselves and beside the reading that is taken off. They are
+// tried, each time more of them: what one call takes is less than what a long reading varies by.
+static uint32_t calls_of_batch(const struct call *call, struct text text)
+{
+    uint32_t more = 2;
+    for (; more < MOST_CALLS; more *= 4) {
+        double reading = call->reads_once ? taken(call, text, 0) : 0;
+        double own = taken(call, text, more) - reading;
+        if (own >= BATCH && own >= reading / 10)
+            break;
+    }
+    return more;
+}
+
+// Nanoseconds of one call, the least of some batches, of a text that is read.
 static double least(const struct call *call, struct text text)
 {
-    double once = taken(call, text, 1), best = -1;
-    if (once < 0)
-        return -1;
-    double one_call = call->reads_once ? once - taken(call, text, 0) : once / 2;
-    double times = one_call > 0 ? BATCH / one_call : 1e5;
-    uint32_t more = times < 2 ? 2 : times > 1e5 ? 100000 : (uint32_t)times;
+    uint32_t more = calls_of_batch(call, text);
+    double best = -1;
     for (int i = 0; i < batches; i++) {
         double all = taken(call, text, more);
         double one = call->reads_once ? (all - taken(call, text, 0)) / more : all / (more + 1);
@@ -88,8 +100,6 @@ static double least(const struct call *call, struct text text)
     }
     return best;
 }
-
-volatile uint64_t kept; // (so that no compiler leaves the loop out)
 
 // Nanoseconds of a step of a loop that is the same on every machine: a generator of random numbers.
 static double loop(void)
