@@ -73,8 +73,8 @@ static double taken(const struct call *call, struct text text, uint32_t more)
     return now() - begin;
 }
 
-// How many calls make a batch: so many that they take long enough, by themselves and beside the reading that is taken off. They are
-// tried, each time more of them: what one call takes is less than what a long reading varies by.
+// How many calls make a batch: so many that they take long enough, by themselves and beside the reading that is taken off. That is
+// tried, each time with more of them, since one call may take less than what a long reading varies by.
 static uint32_t calls_of_batch(const struct call *call, struct text text)
 {
     uint32_t more = 2;
@@ -84,7 +84,7 @@ static uint32_t calls_of_batch(const struct call *call, struct text text)
         if (own >= BATCH && own >= reading / 10)
             break;
     }
-    return more;
+    return more < MOST_CALLS ? more : MOST_CALLS;
 }
 
 // Nanoseconds of one call, the least of some batches, of a text that is read.
