@@ -1,5 +1,5 @@
 //! Profiles, tiers and levels of H265.
-ghost use Rattle.std.specs.Prelude.{◌≡◌, nat_lt};
+ghost use Rattle.std.specs.Prelude.{◌≡◌, None, Some, nat_lt};
 ghost use Rattle.std.specs.Ordering.{nat_cmp};
 ghost use Rattle.str0m_values.specs.Only.{IsTheOnly};
 ghost use Rattle.str0m_values.specs.H265.{profile_id, tier_flag, level_id, level_ordinal, defaults};
@@ -216,6 +216,7 @@ impl H265ProfileTierLevel {
     ) -> Option<H265ProfileTierLevel>
         ensures triple { IsTheOnly (HasNumbersOfTexts profile_id tier_flag level_id defaults profile.entry tier.entry level.entry) result }
         ensures fallback { HasNumbers profile_id tier_flag level_id defaults.0 defaults.1 defaults.2 FALLBACK }
+        ensures absent { profile.entry ≡ None → tier.entry ≡ None → level.entry ≡ None → result ≡ Some FALLBACK }
     {
         ProfileTierLevel::of_texts(profile, tier, level, H265ProfileTierLevel::FALLBACK)
     }

@@ -1,5 +1,5 @@
 //! Profiles, tiers and levels of H266.
-ghost use Rattle.std.specs.Prelude.{◌≡◌, nat_lt};
+ghost use Rattle.std.specs.Prelude.{◌≡◌, None, Some, nat_lt};
 ghost use Rattle.std.specs.Ordering.{nat_cmp};
 ghost use Rattle.str0m_values.specs.Only.{IsTheOnly};
 ghost use Rattle.str0m_values.specs.H266.{profile_id, tier_flag, level_id, level_ordinal, defaults};
@@ -204,6 +204,7 @@ impl H266ProfileTierLevel {
     ) -> Option<H266ProfileTierLevel>
         ensures triple { IsTheOnly (HasNumbersOfTexts profile_id tier_flag level_id defaults profile.entry tier.entry level.entry) result }
         ensures fallback { HasNumbers profile_id tier_flag level_id defaults.0 defaults.1 defaults.2 FALLBACK }
+        ensures absent { profile.entry ≡ None → tier.entry ≡ None → level.entry ≡ None → result ≡ Some FALLBACK }
     {
         ProfileTierLevel::of_texts(profile, tier, level, H266ProfileTierLevel::FALLBACK)
     }
