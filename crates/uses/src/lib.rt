@@ -2,6 +2,7 @@
 //! clauses of the libraries alone: there is no file of proofs here.
 #![tactic(auto)]
 
+mod agreed_codecs;
 mod answer;
 mod call_error;
 mod later_round;
@@ -9,6 +10,7 @@ mod offered;
 mod own_section;
 mod stored;
 
+pub use agreed_codecs::agreed_codecs;
 pub use answer::answer_section;
 pub use call_error::CallError;
 pub use later_round::negotiate_again;

@@ -6,7 +6,7 @@ use str0m_signal::{
     Codec, CodecConfig, Fingerprint, IceCreds, MediaKind, MediaLine, MediaType, Mid, PayloadParams,
     Pt, Sdp, SdpAnswer, Text, is_writable, locked_rows, negotiate_text, sdp_parser, section_of,
 };
-use uses::{answer_section, checked, negotiate_again, offered_rows, own_frame, own_offer, own_sdp};
+use uses::{agreed_codecs, answer_section, checked, negotiate_again, offered_rows, own_frame, own_offer, own_sdp};
 
 const OFFER: &str =
     "v=0\r\no=str0m-0.25.0 7 2 IN IP4 0.0.0.0\r\ns=-\r\nt=0 0\r\nm=audio 9 UDP/TLS/RTP/SAVPF 109\r\nc=IN IP4 0.0.0.0\r\na=mid:0\r\na=sendrecv\r\na=rtpmap:109 opus/48000/2\r\na=fmtp:109 minptime=10;useinbandfec=1\r\n";
@@ -25,6 +25,17 @@ fn an_answer_lists_the_row_that_is_locked(rt: HostRuntime) -> Result<(), Fail> {
     let (own, _) = sdp_parser(rt.alloc(), OFFER)?;
     let answer = answer_section(&mut config, OFFER, own, 0)?.ok_or("an answer")?;
     assert_eq!(rt; answer.as_str(), OFFER);
+    Ok(())
+}
+
+#[test]
+fn the_codec_of_both_sides_is_agreed_on(rt: HostRuntime) -> Result<(), Fail> {
+    let codecs = agreed_codecs(rt.alloc(), OFFER, MediaKind::Audio)?;
+    assert_eq!(rt; codecs.len(), 1);
+    assert_eq!(rt; codecs[0].spec().codec, Codec::Opus);
+    assert_eq!(rt; codecs[0].pt(), Pt::new_with_value(109));
+    let codecs = agreed_codecs(rt.alloc(), OFFER, MediaKind::Video)?;
+    assert!(rt; codecs.is_empty());
     Ok(())
 }
 

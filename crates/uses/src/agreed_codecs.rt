@@ -1,0 +1,32 @@
+//! The codecs that both sides have.
+
+ghost use Rattle.std.specs.Prelude.{◌≡◌, IfErr, IfOk, List};
+ghost use Rattle.str0m_formats.specs.DefaultRows.{usual_rows};
+ghost use Rattle.str0m_formats.specs.Runs.{Outcome};
+ghost use Rattle.str0m_formats.specs.declared.payload_params.PayloadParams.{PayloadParams};
+ghost use Rattle.str0m_signal.specs.Answers.{Refuses};
+ghost use Rattle.str0m_signal.specs.LockedRows.{locked_of_kind};
+ghost use Rattle.str0m_signal.specs.Negotiation.{NegotiatedText};
+ghost use Rattle.str0m_signal.specs.Reading.{Described};
+
+use std::alloc::Global;
+use str0m_signal::{CodecConfig, MediaKind, PayloadParams, SdpError, locked_rows, negotiate_text};
+
+/// Negotiates the default codecs with an offer, and returns those of a kind that both sides have.
+///
+/// # Errors
+///
+/// `ParseError` where the offer's text describes no session; `Memory` where memory was refused.
+pub fn agreed_codecs(
+    alloc: Global,
+    offer: &str,
+    kind: MediaKind,
+) -> Result<Vec<PayloadParams>, SdpError>
+    ensures agreed { IfOk result (λ codecs. (outcomes : List Outcome) × (after : List PayloadParams)
+        × NegotiatedText offer.now usual_rows outcomes after × (codecs.items ≡ locked_of_kind kind after)) }
+    ensures refused { IfErr result (λ error. Refuses error (Described offer.now)) }
+{
+    let mut config = CodecConfig::new_with_defaults(alloc)?;
+    negotiate_text(&mut config, offer)?;
+    Ok(locked_rows(&config, kind)?)
+}
