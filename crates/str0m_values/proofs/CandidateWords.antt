@@ -1,67 +1,47 @@
 -- The words for protocols, TCP types and kinds of candidates, read both ways.
-use Rattle.std.proofs.Common.{◌≡◌, ℕ, List, Some, refl, ap}
-use Rattle.std.specs.Prelude.{codes}
+use Rattle.std.proofs.Common.{◌≡◌, Some, refl}
 use Rattle.std.specs.Str.{str_to_ascii_lowercase}
+use Rattle.str0m_values.specs.declared.protocol.TheConstants.{PROTOCOLS, TCP_TYPES}
 use Rattle.str0m_values.specs.declared.protocol.Protocol.{Protocol}
 use Rattle.str0m_values.specs.declared.protocol.Protocol.TheVariants.{Udp, Tcp, SslTcp, Tls}
 use Rattle.str0m_values.specs.declared.protocol.TcpType.{TcpType}
 use Rattle.str0m_values.specs.declared.protocol.TcpType.TheVariants.{Active, Passive, So}
+use Rattle.str0m_values.specs.declared.candidate_kind.TheConstants.{KINDS}
 use Rattle.str0m_values.specs.declared.candidate_kind.CandidateKind.{CandidateKind}
 use Rattle.str0m_values.specs.declared.candidate_kind.CandidateKind.TheVariants.{Host, PeerReflexive, ServerReflexive, Relayed}
 use Rattle.str0m_values.specs.Protocol.{protocol_text, tcp_type_text, IsProtocolText, IsTcpTypeText}
-use Rattle.str0m_values.specs.CandidateKind.{IsKindText}
-use Rattle.str0m_values.specs.CandidateReading.{protocol_of, protocol_read, tcp_type_of, tcp_type_read, kind_read}
-use Rattle.str0m_values.proofs.WordLaws.{word_sound}
-use Rattle.str0m_values.proofs.BothWays.{Sound, Reads, sound_or}
+use Rattle.str0m_values.specs.CandidateKind.{kind_text, IsKindText}
+use Rattle.str0m_values.specs.CandidateReading.{protocol_read, tcp_type_read, kind_read}
+use Rattle.str0m_values.specs.Words.{case_alike, case_of}
+use Rattle.str0m_values.proofs.WordsOfCases.{reads_alike, reads_words}
+use Rattle.str0m_values.proofs.BothWays.{Reads}
 
-protocol_sound : Sound (λ word p. word ≡ protocol_text p) protocol_of
-protocol_sound =
-    sound_or (word_sound (codes "udp") Udp refl)
-    (sound_or (word_sound (codes "tcp") Tcp refl)
-    (sound_or (word_sound (codes "ssltcp") SslTcp refl)
-    (word_sound (codes "tls") Tls refl)))
+-- each case by its own word, which is in lower case
+protocol_own : (p : Protocol) → (str_to_ascii_lowercase (protocol_text p) ≡ protocol_text p) × (case_alike protocol_text PROTOCOLS (protocol_text p) ≡ Some p)
+unfolding case_alike
+protocol_own Udp = (refl, refl)
+protocol_own Tcp = (refl, refl)
+protocol_own SslTcp = (refl, refl)
+protocol_own Tls = (refl, refl)
 
-protocol_complete : (word : List ℕ) (p : Protocol) → word ≡ protocol_text p → protocol_of word ≡ Some p
-protocol_complete word Udp h = ap protocol_of h
-protocol_complete word Tcp h = ap protocol_of h
-protocol_complete word SslTcp h = ap protocol_of h
-protocol_complete word Tls h = ap protocol_of h
+tcp_type_own : (t : TcpType) → (str_to_ascii_lowercase (tcp_type_text t) ≡ tcp_type_text t) × (case_alike tcp_type_text TCP_TYPES (tcp_type_text t) ≡ Some t)
+unfolding case_alike
+tcp_type_own Active = (refl, refl)
+tcp_type_own Passive = (refl, refl)
+tcp_type_own So = (refl, refl)
+
+kind_own : (k : CandidateKind) → case_of kind_text KINDS (kind_text k) ≡ Some k
+unfolding case_of
+kind_own Host = refl
+kind_own PeerReflexive = refl
+kind_own ServerReflexive = refl
+kind_own Relayed = refl
 
 pub protocol_both : Reads IsProtocolText protocol_read
-protocol_both = record {
-  sound = λ word p e. protocol_sound.law (str_to_ascii_lowercase word) p e;
-  complete = λ word p h. protocol_complete (str_to_ascii_lowercase word) p h;
-}
-
-tcp_type_sound : Sound (λ word t. word ≡ tcp_type_text t) tcp_type_of
-tcp_type_sound =
-    sound_or (word_sound (codes "active") Active refl)
-    (sound_or (word_sound (codes "passive") Passive refl)
-    (word_sound (codes "so") So refl))
-
-tcp_type_complete : (word : List ℕ) (t : TcpType) → word ≡ tcp_type_text t → tcp_type_of word ≡ Some t
-tcp_type_complete word Active h = ap tcp_type_of h
-tcp_type_complete word Passive h = ap tcp_type_of h
-tcp_type_complete word So h = ap tcp_type_of h
+protocol_both = reads_alike protocol_text PROTOCOLS (λ p. (protocol_own p).0) (λ p. (protocol_own p).1)
 
 pub tcp_type_both : Reads IsTcpTypeText tcp_type_read
-tcp_type_both = record {
-  sound = λ word t e. tcp_type_sound.law (str_to_ascii_lowercase word) t e;
-  complete = λ word t h. tcp_type_complete (str_to_ascii_lowercase word) t h;
-}
-
-kind_sound : Sound IsKindText kind_read
-kind_sound =
-    sound_or (word_sound (codes "host") Host refl)
-    (sound_or (word_sound (codes "prflx") PeerReflexive refl)
-    (sound_or (word_sound (codes "srflx") ServerReflexive refl)
-    (word_sound (codes "relay") Relayed refl)))
-
-kind_complete : (word : List ℕ) (k : CandidateKind) → IsKindText word k → kind_read word ≡ Some k
-kind_complete word Host h = ap kind_read h
-kind_complete word PeerReflexive h = ap kind_read h
-kind_complete word ServerReflexive h = ap kind_read h
-kind_complete word Relayed h = ap kind_read h
+tcp_type_both = reads_alike tcp_type_text TCP_TYPES (λ t. (tcp_type_own t).0) (λ t. (tcp_type_own t).1)
 
 pub kind_both : Reads IsKindText kind_read
-kind_both = record { sound = kind_sound.law; complete = kind_complete }
+kind_both = reads_words kind_text KINDS kind_own

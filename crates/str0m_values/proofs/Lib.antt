@@ -18,4 +18,5 @@ pub mod OnlyLaws
 pub mod Pairs
 pub mod Patterns
 pub mod WordLaws
+pub mod WordsOfCases
 pub mod ZipLaws

@@ -23,3 +23,4 @@ pub mod Protocol
 pub mod Separator
 pub mod ShortText
 pub mod Text
+pub mod Words

@@ -3,6 +3,7 @@ ghost use Rattle.std.specs.Prelude.{◌≡◌, Some};
 ghost use Rattle.str0m_values.specs.CandidateKind.{kind_text};
 ghost use Rattle.str0m_values.specs.CandidateReading.{kind_read};
 
+use crate::words::{Worded, case_of};
 use std::fmt;
 
 /// Where the address of a candidate comes from (RFC 8445, section 4; RFC 8839, section 5.1).
@@ -18,18 +19,32 @@ pub enum CandidateKind {
     Relayed,
 }
 
+const KINDS: [CandidateKind; 4] = [
+    CandidateKind::Host,
+    CandidateKind::PeerReflexive,
+    CandidateKind::ServerReflexive,
+    CandidateKind::Relayed,
+];
+
+impl Worded for CandidateKind {
+    ghost word_of = { kind_text };
+
+    fn word(self) -> &'static str {
+        match self {
+            CandidateKind::Host => "host",
+            CandidateKind::PeerReflexive => "prflx",
+            CandidateKind::ServerReflexive => "srflx",
+            CandidateKind::Relayed => "relay",
+        }
+    }
+}
+
 impl CandidateKind {
     /// The kind of a word, which is in lower case.
     pub(crate) fn from_word(word: &str) -> Option<CandidateKind>
         ensures { result ≡ kind_read word.now }
     {
-        match word {
-            "host" => Some(CandidateKind::Host),
-            "prflx" => Some(CandidateKind::PeerReflexive),
-            "srflx" => Some(CandidateKind::ServerReflexive),
-            "relay" => Some(CandidateKind::Relayed),
-            _ => None,
-        }
+        case_of(&KINDS, word)
     }
 }
 
@@ -38,12 +53,6 @@ impl fmt::Display for CandidateKind {
     ghost output = { λ k. Some (kind_text k) };
 
     fn fmt<W: fmt::Write>(&self, f: &mut fmt::Formatter<W>) -> fmt::Result {
-        let word = match self {
-            CandidateKind::Host => "host",
-            CandidateKind::PeerReflexive => "prflx",
-            CandidateKind::ServerReflexive => "srflx",
-            CandidateKind::Relayed => "relay",
-        };
-        f.write_str(word)
+        f.write_str(self.word())
     }
 }

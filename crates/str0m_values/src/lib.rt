@@ -26,6 +26,7 @@ mod session_id;
 mod short_text;
 mod ssrc;
 mod text;
+mod words;
 
 pub use address::{IpAddr, SocketAddr};
 pub use candidate::Candidate;
@@ -48,3 +49,4 @@ pub use separator::Separator;
 pub use session_id::SessionId;
 pub use ssrc::Ssrc;
 pub use text::Text;
+pub use words::{Worded, case_alike, case_of};

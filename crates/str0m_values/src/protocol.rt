@@ -3,6 +3,7 @@ ghost use Rattle.std.specs.Prelude.{◌≡◌, Some};
 ghost use Rattle.str0m_values.specs.Protocol.{protocol_text, tcp_type_text};
 ghost use Rattle.str0m_values.specs.CandidateReading.{protocol_read, tcp_type_read};
 
+use crate::words::{Worded, case_alike};
 use std::fmt;
 
 /// The transport of a candidate (RFC 8839, section 5.1; RFC 6544, section 4.5).
@@ -15,22 +16,32 @@ pub enum Protocol {
     Tls,
 }
 
+const PROTOCOLS: [Protocol; 4] = [
+    Protocol::Udp,
+    Protocol::Tcp,
+    Protocol::SslTcp,
+    Protocol::Tls,
+];
+
+impl Worded for Protocol {
+    ghost word_of = { protocol_text };
+
+    fn word(self) -> &'static str {
+        match self {
+            Protocol::Udp => "udp",
+            Protocol::Tcp => "tcp",
+            Protocol::SslTcp => "ssltcp",
+            Protocol::Tls => "tls",
+        }
+    }
+}
+
 impl Protocol {
     /// The protocol of a word, without regard to ASCII case.
     pub(crate) fn from_word(word: &str) -> Option<Protocol>
         ensures { result ≡ protocol_read word.now }
     {
-        if word.eq_ignore_ascii_case("udp") {
-            Some(Protocol::Udp)
-        } else if word.eq_ignore_ascii_case("tcp") {
-            Some(Protocol::Tcp)
-        } else if word.eq_ignore_ascii_case("ssltcp") {
-            Some(Protocol::SslTcp)
-        } else if word.eq_ignore_ascii_case("tls") {
-            Some(Protocol::Tls)
-        } else {
-            None
-        }
+        case_alike(&PROTOCOLS, word)
     }
 }
 
@@ -39,13 +50,7 @@ impl fmt::Display for Protocol {
     ghost output = { λ p. Some (protocol_text p) };
 
     fn fmt<W: fmt::Write>(&self, f: &mut fmt::Formatter<W>) -> fmt::Result {
-        let word = match self {
-            Protocol::Udp => "udp",
-            Protocol::Tcp => "tcp",
-            Protocol::SslTcp => "ssltcp",
-            Protocol::Tls => "tls",
-        };
-        f.write_str(word)
+        f.write_str(self.word())
     }
 }
 
@@ -60,20 +65,26 @@ pub enum TcpType {
     So,
 }
 
+const TCP_TYPES: [TcpType; 3] = [TcpType::Active, TcpType::Passive, TcpType::So];
+
+impl Worded for TcpType {
+    ghost word_of = { tcp_type_text };
+
+    fn word(self) -> &'static str {
+        match self {
+            TcpType::Active => "active",
+            TcpType::Passive => "passive",
+            TcpType::So => "so",
+        }
+    }
+}
+
 impl TcpType {
     /// The type of a word, without regard to ASCII case.
     pub(crate) fn from_word(word: &str) -> Option<TcpType>
         ensures { result ≡ tcp_type_read word.now }
     {
-        if word.eq_ignore_ascii_case("active") {
-            Some(TcpType::Active)
-        } else if word.eq_ignore_ascii_case("passive") {
-            Some(TcpType::Passive)
-        } else if word.eq_ignore_ascii_case("so") {
-            Some(TcpType::So)
-        } else {
-            None
-        }
+        case_alike(&TCP_TYPES, word)
     }
 }
 
@@ -82,11 +93,6 @@ impl fmt::Display for TcpType {
     ghost output = { λ t. Some (tcp_type_text t) };
 
     fn fmt<W: fmt::Write>(&self, f: &mut fmt::Formatter<W>) -> fmt::Result {
-        let word = match self {
-            TcpType::Active => "active",
-            TcpType::Passive => "passive",
-            TcpType::So => "so",
-        };
-        f.write_str(word)
+        f.write_str(self.word())
     }
 }
