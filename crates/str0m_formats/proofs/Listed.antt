@@ -47,3 +47,7 @@ params_pass p n f lt absent = params_next p n f lt ∙ ap (λ o. params_to p n +
 pub listed_all : (p : FormatParams) → listed (params_to p 18) ≡ params_text p
 unfolding params_to listed params_text params_of
 listed_all p = refl
+
+pub params_all : (p : FormatParams) → params_to p 18 ≡ params_of p
+unfolding params_to params_of
+params_all p = refl

@@ -191,14 +191,16 @@ impl FormatParams {
         }
     }
 
-    #[tactic(auto, unfolding(crate::specs::FormatParams::params_of))]
     fn given(self, alloc: Global) -> Result<Vec<FormatParam>, AllocError>
         ensures { IfOk result (λ params. params.items ≡ params_of self) }
     {
-        FIELDS
-            .iter()
-            .filter_map(|field| self.param(*field))
-            .collect(alloc)
+        let mut params = Vec::new(alloc);
+        for field in FIELDS.iter() {
+            if let Some(param) = self.param(*field) {
+                params.push(param)?;
+            }
+        }
+        Ok(params)
     }
 
     /// The parameters of the fields that are given, in the order in which they print. The only
