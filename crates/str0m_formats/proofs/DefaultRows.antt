@@ -7,6 +7,7 @@ use Rattle.std.proofs.lemmas.List.{map-append}
 use Rattle.std.proofs.lemmas.List.Elements.{All-append, All-filter, All-weaker, All-contains, All-contains_itself, All-from_recursion, recursion_from_All, All-nil}
 use Rattle.str0m_formats.specs.declared.codec.Codec.{Codec}
 use Rattle.str0m_formats.specs.declared.codec.Codec.TheVariants.{Opus, PCMU, PCMA, G722, CN, AmrWb, H264, H265, H266, Vp8, Vp9, Av1, Tele, Rtx, Red, Null, Unknown}
+use Rattle.str0m_formats.specs.declared.codec_config.CodecConfig.{CodecConfig}
 use Rattle.str0m_formats.specs.declared.payload_params.PayloadParams.{PayloadParams}
 use Rattle.str0m_formats.specs.Rows.{types_of, types}
 use Rattle.str0m_formats.specs.TypeSets.{has, times, AllDistinct}
@@ -159,9 +160,10 @@ enabled_stay codec true use_red rows d =
 enabled_stay codec false use_red rows d = put_last codec [] rows (All-nil IsDefault) (λ t. none_within (is_codec codec (codec_at t))) d
 
 -- whatever a call answers that enables or disables a codec
-pub default_stay : (r : Result (Unit {0}) AllocError) (codec : Codec) (enabled use_red : Bool) (old new : List PayloadParams) → OnOk r (new ≡ enabled_rows codec enabled use_red old) → OnErr r (new ≡ old) → AreDefault old → AreDefault new
-default_stay (Ok x) codec enabled use_red old new ok err d = subst AreDefault (sym ok) (enabled_stay codec enabled use_red old d)
-default_stay (Err e) codec enabled use_red old new ok err d = subst AreDefault (sym err) d
+pub default_stay : (r : Result (Unit {0}) AllocError) (codec : Codec) (enabled use_red : Bool) (old new : CodecConfig) → OnOk r (new.params.items ≡ enabled_rows codec enabled use_red old.params.items) → OnErr r (new ≡ old)
+    → AreDefault old.params.items → AreDefault new.params.items
+default_stay (Ok x) codec enabled use_red old new ok err d = subst AreDefault (sym ok) (enabled_stay codec enabled use_red old.params.items d)
+default_stay (Err e) codec enabled use_red old new ok err d = subst (λ (config : CodecConfig). AreDefault config.params.items) (sym err) d
 
 -- what a call answers that takes the rows of a codec out and appends others
 pub put_ok : (r : Result (Unit {0}) AllocError) (codec : Codec) (old kept rows new : List PayloadParams) → kept ≡ others codec old → new ≡ (if is_ok r then kept ++ rows else kept) → OnOk r (new ≡ others codec old ++ rows)

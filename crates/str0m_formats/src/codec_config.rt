@@ -1,5 +1,5 @@
 //! The codecs that one side can send and receive.
-ghost use Rattle.std.specs.Prelude.{◌≡◌, ◌++◌, ◌∷◌, [], IfOk, OnOk, OnErr};
+ghost use Rattle.std.specs.Prelude.{◌≡◌, ◌+◌, ◌≤◌, ◌++◌, ◌∷◌, [], IfOk, IsOk, OnOk, OnErr, vec_len, vec_capacity};
 ghost use Rattle.str0m_values.specs.H265.{H265ProfileTierLevel};
 ghost use Rattle.str0m_values.specs.H266.{H266ProfileTierLevel};
 ghost use Rattle.str0m_formats.specs.Rows.{new_row, types};
@@ -28,6 +28,9 @@ pub struct CodecConfig {
     pub(crate) params: Vec<PayloadParams>,
     pub(crate) red_distances: RedDistances,
 }
+
+/// How many rows a list has room for at least, once it has one.
+const LEAST_ROOM: usize = 4;
 
 /// A codec of pictures: at 90 kHz, and without channels.
 pub(crate) fn picture_spec(codec: Codec, format: FormatParams) -> CodecSpec
@@ -143,11 +146,33 @@ impl CodecConfig {
         self.params.clear();
     }
 
-    fn add_row(&mut self, row: PayloadParams) -> Result<(), AllocError>
-        ensures ok { OnOk result (self.new.params.items ≡ self.old.params.items ++ row ∷ []) }
-        ensures err { OnErr result (self.new.params.items ≡ self.old.params.items) }
+    /// Makes room for so many more rows. It is made elsewhere, and the rows go there, so that want of it
+    /// changes nothing. Room at least doubles, as that of a list does.
+    pub(crate) fn make_room(&mut self, more: usize) -> Result<(), AllocError>
+        ensures rows { self.new.params.items ≡ self.old.params.items }
+        ensures ok { OnOk result (vec_len self.new.params + more ≤ vec_capacity self.new.params) }
+        ensures enough { vec_len self.old.params + more ≤ vec_capacity self.old.params → IsOk result }
+        ensures err { OnErr result (self.new ≡ self.old) }
         ensures distances { self.new.red_distances ≡ self.old.red_distances }
     {
+        let had = self.params.capacity();
+        if more <= had - self.params.len() {
+            return Ok(());
+        }
+        let room = self.params.len().saturating_add(more);
+        let room = room.max(had.saturating_mul(2)).max(LEAST_ROOM);
+        let mut rows = Vec::with_capacity(*self.params.allocator(), room)?;
+        rows.extend_from_slice(self.params.as_slice())?;
+        self.params = rows;
+        Ok(())
+    }
+
+    fn add_row(&mut self, row: PayloadParams) -> Result<(), AllocError>
+        ensures ok { OnOk result (self.new.params.items ≡ self.old.params.items ++ row ∷ []) }
+        ensures err { OnErr result (self.new ≡ self.old) }
+        ensures distances { self.new.red_distances ≡ self.old.red_distances }
+    {
+        self.make_room(1)?;
         self.params.extend_from_slice(&[row])
     }
 
@@ -167,7 +192,7 @@ impl CodecConfig {
     ) -> Result<(), AllocError>
         ensures ok { OnOk result (self.new.params.items ≡ self.old.params.items
             ++ new_row pt resend (record { codec = codec; clock_rate = clock_rate; channels = channels; format = format }) ∷ []) }
-        ensures err { OnErr result (self.new.params.items ≡ self.old.params.items) }
+        ensures err { OnErr result (self.new ≡ self.old) }
         ensures distances { self.new.red_distances ≡ self.old.red_distances }
     {
         let spec = CodecSpec {
@@ -192,7 +217,7 @@ impl CodecConfig {
         profile_level_id: u32,
     ) -> Result<(), AllocError>
         ensures ok { OnOk result (self.new.params.items ≡ self.old.params.items ++ h264_row pt resend packetization_mode profile_level_id ∷ []) }
-        ensures err { OnErr result (self.new.params.items ≡ self.old.params.items) }
+        ensures err { OnErr result (self.new ≡ self.old) }
         ensures distances { self.new.red_distances ≡ self.old.red_distances }
     {
         self.add_row(h264_row(pt, resend, packetization_mode, profile_level_id))
@@ -213,7 +238,7 @@ impl CodecConfig {
     ) -> Result<(), AllocError>
         ensures ok { OnOk result ((triple : H265ProfileTierLevel) × IsH265Triple profile tier level triple
             × (self.new.params.items ≡ self.old.params.items ++ h265_row pt resend triple ∷ [])) }
-        ensures err { OnErr result (self.new.params.items ≡ self.old.params.items) }
+        ensures err { OnErr result (self.new ≡ self.old) }
         ensures distances { self.new.red_distances ≡ self.old.red_distances }
     {
         let triple = triple_or(profile, tier, level, H265ProfileTierLevel::FALLBACK);
@@ -235,7 +260,7 @@ impl CodecConfig {
     ) -> Result<(), AllocError>
         ensures ok { OnOk result ((triple : H266ProfileTierLevel) × IsH266Triple profile tier level triple
             × (self.new.params.items ≡ self.old.params.items ++ h266_row pt resend triple ∷ [])) }
-        ensures err { OnErr result (self.new.params.items ≡ self.old.params.items) }
+        ensures err { OnErr result (self.new ≡ self.old) }
         ensures distances { self.new.red_distances ≡ self.old.red_distances }
     {
         let triple = triple_or(profile, tier, level, H266ProfileTierLevel::FALLBACK);

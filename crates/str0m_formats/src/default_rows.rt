@@ -45,12 +45,12 @@ impl CodecConfig {
     /// Takes out all rows of the codec, and puts these last.
     fn put(&mut self, codec: Codec, rows: &[PayloadParams]) -> Result<(), AllocError>
         ensures ok { OnOk result (self.new.params.items ≡ others codec self.old.params.items ++ rows.now) }
-        ensures err { OnErr result (self.new.params.items ≡ self.old.params.items) }
+        ensures err { OnErr result (self.new ≡ self.old) }
         ensures none { length rows.now ≡ 0 → IsOk result }
         ensures distances { self.new.red_distances ≡ self.old.red_distances }
     {
         // The room comes first, so that want of it changes nothing.
-        self.params.reserve(rows.len())?;
+        self.make_room(rows.len())?;
         self.params.retain(|row| !is_of(row, codec));
         self.params.extend_from_slice(rows)
     }
@@ -58,7 +58,7 @@ impl CodecConfig {
     /// Takes out all rows of the codec, and puts its default rows last.
     fn put_defaults(&mut self, codec: Codec, use_red: bool) -> Result<(), AllocError>
         ensures ok { OnOk result (self.new.params.items ≡ others codec self.old.params.items ++ default_rows codec use_red) }
-        ensures err { OnErr result (self.new.params.items ≡ self.old.params.items) }
+        ensures err { OnErr result (self.new ≡ self.old) }
         ensures distances { self.new.red_distances ≡ self.old.red_distances }
     {
         match codec {
@@ -82,7 +82,7 @@ impl CodecConfig {
 
     fn put_enabled(&mut self, codec: Codec, enabled: bool, use_red: bool) -> Result<(), AllocError>
         ensures ok { OnOk result (self.new.params.items ≡ enabled_rows codec enabled use_red self.old.params.items) }
-        ensures err { OnErr result (self.new.params.items ≡ self.old.params.items) }
+        ensures err { OnErr result (self.new ≡ self.old) }
         ensures without { enabled ≡ false → IsOk result }
         ensures distances { self.new.red_distances ≡ self.old.red_distances }
     {
@@ -96,7 +96,7 @@ impl CodecConfig {
     /// Takes out all rows of the codec and, where it is enabled, puts its default rows last.
     fn enable(&mut self, codec: Codec, enabled: bool, use_red: bool) -> Result<(), AllocError>
         ensures ok { OnOk result (self.new.params.items ≡ enabled_rows codec enabled use_red self.old.params.items) }
-        ensures err { OnErr result (self.new.params.items ≡ self.old.params.items) }
+        ensures err { OnErr result (self.new ≡ self.old) }
         ensures without { enabled ≡ false → IsOk result }
         ensures distances { self.new.red_distances ≡ self.old.red_distances }
         ensures default { AreDefault self.old.params.items → AreDefault self.new.params.items }
@@ -111,7 +111,7 @@ impl CodecConfig {
     /// error is that memory was refused, which changes nothing; without `enabled` there is none.
     pub fn enable_pcmu(&mut self, enabled: bool, use_red: bool) -> Result<(), AllocError>
         ensures ok { OnOk result (self.new.params.items ≡ enabled_rows Codec.PCMU enabled use_red self.old.params.items) }
-        ensures err { OnErr result (self.new.params.items ≡ self.old.params.items) }
+        ensures err { OnErr result (self.new ≡ self.old) }
         ensures without { enabled ≡ false → IsOk result }
         ensures distances { self.new.red_distances ≡ self.old.red_distances }
         ensures default { AreDefault self.old.params.items → AreDefault self.new.params.items }
@@ -126,7 +126,7 @@ impl CodecConfig {
     /// error is that memory was refused, which changes nothing; without `enabled` there is none.
     pub fn enable_pcma(&mut self, enabled: bool, use_red: bool) -> Result<(), AllocError>
         ensures ok { OnOk result (self.new.params.items ≡ enabled_rows Codec.PCMA enabled use_red self.old.params.items) }
-        ensures err { OnErr result (self.new.params.items ≡ self.old.params.items) }
+        ensures err { OnErr result (self.new ≡ self.old) }
         ensures without { enabled ≡ false → IsOk result }
         ensures distances { self.new.red_distances ≡ self.old.red_distances }
         ensures default { AreDefault self.old.params.items → AreDefault self.new.params.items }
@@ -142,7 +142,7 @@ impl CodecConfig {
     /// error is that memory was refused, which changes nothing; without `enabled` there is none.
     pub fn enable_g722(&mut self, enabled: bool, use_red: bool) -> Result<(), AllocError>
         ensures ok { OnOk result (self.new.params.items ≡ enabled_rows Codec.G722 enabled use_red self.old.params.items) }
-        ensures err { OnErr result (self.new.params.items ≡ self.old.params.items) }
+        ensures err { OnErr result (self.new ≡ self.old) }
         ensures without { enabled ≡ false → IsOk result }
         ensures distances { self.new.red_distances ≡ self.old.red_distances }
         ensures default { AreDefault self.old.params.items → AreDefault self.new.params.items }
@@ -158,7 +158,7 @@ impl CodecConfig {
     /// error is that memory was refused, which changes nothing; without `enabled` there is none.
     pub fn enable_opus(&mut self, enabled: bool, use_red: bool) -> Result<(), AllocError>
         ensures ok { OnOk result (self.new.params.items ≡ enabled_rows Codec.Opus enabled use_red self.old.params.items) }
-        ensures err { OnErr result (self.new.params.items ≡ self.old.params.items) }
+        ensures err { OnErr result (self.new ≡ self.old) }
         ensures without { enabled ≡ false → IsOk result }
         ensures distances { self.new.red_distances ≡ self.old.red_distances }
         ensures default { AreDefault self.old.params.items → AreDefault self.new.params.items }
@@ -174,7 +174,7 @@ impl CodecConfig {
     /// error is that memory was refused, which changes nothing; without `enabled` there is none.
     pub fn enable_comfort_noise(&mut self, enabled: bool) -> Result<(), AllocError>
         ensures ok { OnOk result (self.new.params.items ≡ enabled_rows Codec.CN enabled false self.old.params.items) }
-        ensures err { OnErr result (self.new.params.items ≡ self.old.params.items) }
+        ensures err { OnErr result (self.new ≡ self.old) }
         ensures without { enabled ≡ false → IsOk result }
         ensures distances { self.new.red_distances ≡ self.old.red_distances }
         ensures default { AreDefault self.old.params.items → AreDefault self.new.params.items }
@@ -190,7 +190,7 @@ impl CodecConfig {
     /// error is that memory was refused, which changes nothing; without `enabled` there is none.
     pub fn enable_amr_wb(&mut self, enabled: bool) -> Result<(), AllocError>
         ensures ok { OnOk result (self.new.params.items ≡ enabled_rows Codec.AmrWb enabled false self.old.params.items) }
-        ensures err { OnErr result (self.new.params.items ≡ self.old.params.items) }
+        ensures err { OnErr result (self.new ≡ self.old) }
         ensures without { enabled ≡ false → IsOk result }
         ensures distances { self.new.red_distances ≡ self.old.red_distances }
         ensures default { AreDefault self.old.params.items → AreDefault self.new.params.items }
@@ -205,7 +205,7 @@ impl CodecConfig {
     /// error is that memory was refused, which changes nothing; without `enabled` there is none.
     pub fn enable_vp8(&mut self, enabled: bool) -> Result<(), AllocError>
         ensures ok { OnOk result (self.new.params.items ≡ enabled_rows Codec.Vp8 enabled false self.old.params.items) }
-        ensures err { OnErr result (self.new.params.items ≡ self.old.params.items) }
+        ensures err { OnErr result (self.new ≡ self.old) }
         ensures without { enabled ≡ false → IsOk result }
         ensures distances { self.new.red_distances ≡ self.old.red_distances }
         ensures default { AreDefault self.old.params.items → AreDefault self.new.params.items }
@@ -221,7 +221,7 @@ impl CodecConfig {
     /// error is that memory was refused, which changes nothing; without `enabled` there is none.
     pub fn enable_h264(&mut self, enabled: bool) -> Result<(), AllocError>
         ensures ok { OnOk result (self.new.params.items ≡ enabled_rows Codec.H264 enabled false self.old.params.items) }
-        ensures err { OnErr result (self.new.params.items ≡ self.old.params.items) }
+        ensures err { OnErr result (self.new ≡ self.old) }
         ensures without { enabled ≡ false → IsOk result }
         ensures distances { self.new.red_distances ≡ self.old.red_distances }
         ensures default { AreDefault self.old.params.items → AreDefault self.new.params.items }
@@ -237,7 +237,7 @@ impl CodecConfig {
     /// error is that memory was refused, which changes nothing; without `enabled` there is none.
     pub fn enable_h265(&mut self, enabled: bool) -> Result<(), AllocError>
         ensures ok { OnOk result (self.new.params.items ≡ enabled_rows Codec.H265 enabled false self.old.params.items) }
-        ensures err { OnErr result (self.new.params.items ≡ self.old.params.items) }
+        ensures err { OnErr result (self.new ≡ self.old) }
         ensures without { enabled ≡ false → IsOk result }
         ensures distances { self.new.red_distances ≡ self.old.red_distances }
         ensures default { AreDefault self.old.params.items → AreDefault self.new.params.items }
@@ -253,7 +253,7 @@ impl CodecConfig {
     /// error is that memory was refused, which changes nothing; without `enabled` there is none.
     pub fn enable_h266(&mut self, enabled: bool) -> Result<(), AllocError>
         ensures ok { OnOk result (self.new.params.items ≡ enabled_rows Codec.H266 enabled false self.old.params.items) }
-        ensures err { OnErr result (self.new.params.items ≡ self.old.params.items) }
+        ensures err { OnErr result (self.new ≡ self.old) }
         ensures without { enabled ≡ false → IsOk result }
         ensures distances { self.new.red_distances ≡ self.old.red_distances }
         ensures default { AreDefault self.old.params.items → AreDefault self.new.params.items }
@@ -269,7 +269,7 @@ impl CodecConfig {
     /// error is that memory was refused, which changes nothing; without `enabled` there is none.
     pub fn enable_vp9(&mut self, enabled: bool) -> Result<(), AllocError>
         ensures ok { OnOk result (self.new.params.items ≡ enabled_rows Codec.Vp9 enabled false self.old.params.items) }
-        ensures err { OnErr result (self.new.params.items ≡ self.old.params.items) }
+        ensures err { OnErr result (self.new ≡ self.old) }
         ensures without { enabled ≡ false → IsOk result }
         ensures distances { self.new.red_distances ≡ self.old.red_distances }
         ensures default { AreDefault self.old.params.items → AreDefault self.new.params.items }
@@ -284,7 +284,7 @@ impl CodecConfig {
     /// error is that memory was refused, which changes nothing; without `enabled` there is none.
     pub fn enable_av1(&mut self, enabled: bool) -> Result<(), AllocError>
         ensures ok { OnOk result (self.new.params.items ≡ enabled_rows Codec.Av1 enabled false self.old.params.items) }
-        ensures err { OnErr result (self.new.params.items ≡ self.old.params.items) }
+        ensures err { OnErr result (self.new ≡ self.old) }
         ensures without { enabled ≡ false → IsOk result }
         ensures distances { self.new.red_distances ≡ self.old.red_distances }
         ensures default { AreDefault self.old.params.items → AreDefault self.new.params.items }
