@@ -16,7 +16,7 @@ use Rattle.str0m_formats.specs.declared.negotiation_error.NegotiationError.TheVa
 use Rattle.str0m_formats.specs.Choices.{IsBest}
 use Rattle.str0m_formats.specs.Narrowing.{telephone_max}
 use Rattle.str0m_formats.specs.Rounds.{Leaves}
-use Rattle.str0m_formats.specs.Runs.{Outcome, AtEachOk}
+use Rattle.str0m_formats.specs.Runs.{Outcome, Reached, AtEachOk}
 
 -- each row has its place in both lists: what holds of the row before and the row after, at each place
 abbrev pub AtEachRow : (PayloadParams → PayloadParams → Type 0) → List PayloadParams → List PayloadParams → Type 0
@@ -114,3 +114,8 @@ pub record RunPromises (before : List PayloadParams) (rounds : List Round) (outc
   pub bounded : length before ≤ 14 → AllSmall (types before) → AllDistinct (locked_types before)
       → All (λ round. AllSmall (types round.remote.items)) rounds → All (λ round. receives round.direction ≡ false) rounds
       → All OnlyForMemory outcomes
+
+-- every run that begins with these rows, of whatever rounds and with whatever outcomes, keeps its promises
+abbrev pub EveryRunPromises : List PayloadParams → Type 0
+EveryRunPromises before = (rounds : List Round) (outcomes : List Outcome) (after : List PayloadParams)
+    → Reached before rounds outcomes after → RunPromises before rounds outcomes after

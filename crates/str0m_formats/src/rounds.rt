@@ -3,7 +3,7 @@ ghost use Rattle.std.specs.Prelude.{◌≡◌, ◌≢◌, ◌≤◌, length, fal
 ghost use Rattle.str0m_values.specs.Direction.{receives};
 ghost use Rattle.str0m_formats.specs.declared.negotiation_error.NegotiationError.TheVariants.{Memory};
 ghost use Rattle.str0m_formats.specs.Rounds.{Leaves, Refused, LeavesOnly, RefusedOnly};
-ghost use Rattle.str0m_formats.specs.Promises.{Promises, RunPromises, KeepsBounds, OnlyForMemory};
+ghost use Rattle.str0m_formats.specs.Promises.{Promises, RunPromises, EveryRunPromises, KeepsBounds, OnlyForMemory};
 ghost use Rattle.str0m_formats.specs.Runs.{Reached};
 
 use crate::beginning::{check_types, claims_of};
@@ -130,8 +130,10 @@ impl CodecConfig {
         rounds: &[Round],
     ) -> Result<Vec<Result<(), NegotiationError>>, AllocError>
         ensures ok { IfOk result (λ outcomes. Reached self.old.params.items rounds.now outcomes.items self.new.params.items) }
-        // What each accepted round promises, and what holds from the first rows to the last.
+        // What each accepted round promises, and what holds from the first rows to the last: of this run,
+        // and of every run that begins with these rows.
         ensures promises { IfOk result (λ outcomes. RunPromises self.old.params.items rounds.now outcomes.items self.new.params.items) }
+        ensures every_run { EveryRunPromises self.old.params.items }
         ensures else_same { self.new ≡ record self.old { params = self.new.params } }
         ensures err { OnErr result (self.new ≡ self.old) }
     {
