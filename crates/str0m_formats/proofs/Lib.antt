@@ -10,6 +10,7 @@ pub mod Modes
 pub mod Only
 pub mod PairsAgain
 pub mod PairsLaws
+pub mod PlacesLaws
 pub mod ParamEqual
 pub mod ParamLaws
 pub mod ParamReadingLaws

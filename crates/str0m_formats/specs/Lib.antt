@@ -18,6 +18,7 @@ pub mod Pairs
 pub mod PairsReading
 pub mod ParamReading
 pub mod ParamText
+pub mod Places
 pub mod PlainRow
 pub mod Promises
 pub mod RedDistances

@@ -19,6 +19,7 @@ mod format_param;
 mod format_params;
 mod kind_rows;
 mod match_score;
+mod merged_pairs;
 mod narrowing;
 mod negotiation_error;
 mod pairs;

@@ -1,16 +1,13 @@
 //! Pairs of keys and values that are read together.
-ghost use Rattle.std.specs.Prelude.{◌≡◌, IfOk, OnOk, map};
+ghost use Rattle.std.specs.Prelude.{◌≡◌, IfOk, map};
 ghost use Rattle.std.specs.List.{list_any};
-ghost use Rattle.std.specs.String.{string_bytes};
-ghost use Rattle.std.specs.Str.{bytes_eq, str_to_ascii_lowercase};
-ghost use Rattle.indexmap.specs.IndexMap.{insert_entry};
 ghost use Rattle.str0m_formats.specs.FormatParam.{pair_texts};
 ghost use Rattle.str0m_formats.specs.ParamReading.{param_of};
-ghost use Rattle.str0m_formats.specs.Pairs.{is_mark, has_mark, merged, value_of, is_part};
-ghost use Rattle.str0m_formats.specs.PairsReading.{entry_texts, lay, h265_tables, h266_tables, read_triple, triple_read, joined_read, params_read};
+ghost use Rattle.str0m_formats.specs.Pairs.{is_mark, has_mark, value_of, is_part};
+ghost use Rattle.str0m_formats.specs.PairsReading.{lay, h265_tables, h266_tables, read_triple, triple_read, joined_read, params_read};
 
 use crate::format_param::{FormatParam, param};
-use indexmap::IndexMap;
+use crate::merged_pairs::{lowered, merge, scan};
 use std::alloc::{AllocError, Global};
 use str0m_values::cuts::is_same_text;
 use str0m_values::{H265ProfileTierLevel, H266ProfileTierLevel};
@@ -35,48 +32,14 @@ fn has_mark(pairs: &[(&str, &str)]) -> bool
     any_mark(pairs)
 }
 
-fn lower(alloc: Global, text: &str) -> Result<String, AllocError>
-    ensures { IfOk result (λ lowered. string_bytes lowered ≡ str_to_ascii_lowercase text.now) }
-{
-    let mut lowered = String::from_str(alloc, text)?;
-    lowered.make_ascii_lowercase();
-    Ok(lowered)
-}
-
-/// Puts a value under the key in lower case: in the place where that stands already, else last.
-fn put<'a>(
-    alloc: Global,
-    merged: &mut IndexMap<String, &'a str>,
-    key: &str,
-    value: &'a str,
-) -> Result<(), AllocError>
-    ensures { OnOk result (entry_texts merged.new.entries
-        ≡ insert_entry bytes_eq (entry_texts merged.old.entries) (str_to_ascii_lowercase key.now) value.now) }
-{
-    let key = lower(alloc, key)?;
-    merged.insert(key, value)?;
-    Ok(())
-}
-
-/// The pairs with each key once, in lower case, where it first stands, with its last value.
-fn merge<'a>(
-    alloc: Global,
-    pairs: &[(&str, &'a str)],
-) -> Result<IndexMap<String, &'a str>, AllocError>
-    ensures { IfOk result (λ map. entry_texts map.entries ≡ merged (pair_texts pairs.now)) }
-{
-    let mut merged: IndexMap<String, &str> = IndexMap::new(alloc);
-    for (key, value) in pairs {
-        put(alloc, &mut merged, key, *value)?;
-    }
-    Ok(merged)
-}
-
 /// The value of a key.
-fn value_of<'a>(merged: &IndexMap<String, &'a str>, key: &str) -> Option<&'a str>
-    ensures { lay result ≡ value_of key.now (entry_texts merged.now.entries) }
+fn value_of<'a>(merged: &[(&str, &'a str)], key: &str) -> Option<&'a str>
+    ensures { lay result ≡ value_of key.now (pair_texts merged.now) }
 {
-    merged.get(key).copied()
+    match scan(merged, key) {
+        Some(place) => Some(merged[place].1),
+        None => None,
+    }
 }
 
 #[tactic(auto, using(crate::proofs::TripleLaws::h265_is))]
@@ -133,8 +96,8 @@ fn each(alloc: Global, pairs: &[(&str, &str)]) -> Result<Vec<FormatParam>, Alloc
 }
 
 /// The profile, tier and level of merged pairs, and the parameters of the others.
-fn joined(alloc: Global, merged: &IndexMap<String, &str>) -> Result<Vec<FormatParam>, AllocError>
-    ensures { IfOk result (λ params. params.items ≡ joined_read (entry_texts merged.now.entries)) }
+fn joined(alloc: Global, merged: &[(&str, &str)]) -> Result<Vec<FormatParam>, AllocError>
+    ensures { IfOk result (λ params. params.items ≡ joined_read (pair_texts merged.now)) }
 {
     let mut params = Vec::new(alloc);
     let triple = triple(
@@ -145,8 +108,7 @@ fn joined(alloc: Global, merged: &IndexMap<String, &str>) -> Result<Vec<FormatPa
     if let Some(triple) = triple {
         params.push(triple)?;
     }
-    for (key, value) in merged.iter() {
-        let key = key.as_str();
+    for (key, value) in merged {
         if !is_part(key) {
             params.push(param(key, value))?;
         }
@@ -155,13 +117,14 @@ fn joined(alloc: Global, merged: &IndexMap<String, &str>) -> Result<Vec<FormatPa
 }
 
 /// What the pairs read as, together.
-#[tactic(auto, unfolding(crate::specs::PairsReading::params_read))]
+#[tactic(auto, unfolding(crate::specs::PairsReading::params_read, crate::specs::Pairs::merged))]
 pub(crate) fn params(alloc: Global, pairs: &[(&str, &str)]) -> Result<Vec<FormatParam>, AllocError>
     ensures { IfOk result (λ params. params.items ≡ params_read (pair_texts pairs.now)) }
 {
     if !has_mark(pairs) {
         return each(alloc, pairs);
     }
-    let merged = merge(alloc, pairs)?;
+    let lowered = lowered(alloc, pairs)?;
+    let merged = merge(alloc, &lowered)?;
     joined(alloc, &merged)
 }

@@ -1,7 +1,14 @@
-use Rattle.std.proofs.Common.{ap, ◌∙◌}
-use Rattle.str0m_formats.specs.PairsReading.{lay}
-use Rattle.str0m_formats.proofs.PairsLaws.{looked_up}
+use Rattle.std.proofs.Common.{refl, sym}
+use Rattle.str0m_formats.specs.FormatParam.{pair_texts}
+use Rattle.str0m_formats.proofs.PlacesLaws.{no_value, placed, value_there}
 use Rattle.str0m_formats.proofs.pairs.value_of.Goals as goal
 
-pub returns : goal.returns
-returns c = ap lay (c.copied.ensures ∙ c.get.ensures.value) ∙ looked_up c.args.key.now c.args.merged.now.entries
+pub returns-in-Some : goal.returns-in-Some
+returns-in-Some c =
+    let merged = c.args.merged.now in
+    sym (value_there c.args.key.now merged c.in-Some.place _ (placed c.args.key.now merged merged _ _ refl c.in-Some.is c.scan.ensures.place))
+
+pub returns-in-None : goal.returns-in-None
+returns-in-None c =
+    let merged = c.args.merged.now in
+    sym (no_value c.args.key.now (pair_texts merged) (placed c.args.key.now merged merged _ _ refl c.in-None.is c.scan.ensures.place))
