@@ -6,7 +6,10 @@ use str0m_signal::{
     Codec, CodecConfig, Fingerprint, IceCreds, MediaKind, MediaLine, MediaType, Mid, PayloadParams,
     Pt, Sdp, SdpAnswer, Text, is_writable, locked_rows, negotiate_text, sdp_parser, section_of,
 };
-use uses::{agreed_codecs, answer_section, checked, negotiate_again, offered_rows, own_frame, own_offer, own_sdp};
+use uses::{
+    agreed_codecs, answer_section, checked, negotiate_again, offered_rows, own_frame, own_offer,
+    own_sdp,
+};
 
 const OFFER: &str =
     "v=0\r\no=str0m-0.25.0 7 2 IN IP4 0.0.0.0\r\ns=-\r\nt=0 0\r\nm=audio 9 UDP/TLS/RTP/SAVPF 109\r\nc=IN IP4 0.0.0.0\r\na=mid:0\r\na=sendrecv\r\na=rtpmap:109 opus/48000/2\r\na=fmtp:109 minptime=10;useinbandfec=1\r\n";
