@@ -11,7 +11,10 @@ use str0m_signal::{
 
 /// Answers what the word asks of the text; whether it is one of these words.
 pub(crate) fn answers(answer: &mut Answer, word: &str, text: &str) -> bool {
-    if !matches!(word, "section-of" | "read-back" | "negotiate-back") {
+    if !matches!(
+        word,
+        "section-of" | "read-back" | "negotiate-back" | "first-back"
+    ) {
         return false;
     }
     let (own, text) = text.split_once(" | ").unwrap_or((text, ""));
@@ -19,6 +22,7 @@ pub(crate) fn answers(answer: &mut Answer, word: &str, text: &str) -> bool {
     match word {
         "section-of" => section_printed(answer, config.params(), text),
         "read-back" => read_back(answer, config.params(), text),
+        "first-back" => first_back(answer, &mut config, text),
         _ => negotiated_back(answer, &mut config, text),
     }
     true
@@ -56,12 +60,29 @@ fn come_back_at(answer: &mut Answer, sdp: &Sdp, index: &str, rows: &[PayloadPara
 /// Runs the rounds of the text: what each comes to, and whether the rows that they leave come back from each of its
 /// sections of sound and pictures.
 fn negotiated_back(answer: &mut Answer, config: &mut CodecConfig, text: &str) {
+    negotiated(answer, config, text);
+    let read = sdp_parser(answer.alloc(), text);
+    add_back(answer, &read, config.params());
+}
+
+fn negotiated(answer: &mut Answer, config: &mut CodecConfig, text: &str) {
     match &negotiate_text(config, text) {
         Ok(outcomes) => show_outcomes(answer, outcomes.as_slice()),
         Err(error) => fail(answer, error),
     }
-    let read = sdp_parser(answer.alloc(), text);
-    add_back(answer, &read, config.params());
+}
+
+/// `first-back ROWS | LINES | TEXT`: runs the rounds of the text, and puts the first row that they leave, alone, into the first
+/// section that the lines describe: what each round comes to, what the section prints, and whether the row comes back.
+fn first_back(answer: &mut Answer, config: &mut CodecConfig, text: &str) {
+    let (lines, text) = text.split_once(" | ").unwrap_or((text, ""));
+    negotiated(answer, config, text);
+    if let (Some(sdp), Some(first)) = (&description(answer, lines), config.params().first()) {
+        answer.item("\n");
+        push_made_of_first(answer, sdp, &[*first]);
+        answer.item("\n");
+        come_back(answer, sdp, 0, &[*first]);
+    }
 }
 
 fn add_back(answer: &mut Answer, read: &Result<(Sdp, &str), SdpError>, rows: &[PayloadParams]) {

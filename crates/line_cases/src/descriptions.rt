@@ -1,8 +1,8 @@
 //! Descriptions: their sessions and sections, what is left behind them, and why they are refused.
 
-use crate::cuts;
 use crate::lines::{push_printed, push_rest};
 use crate::section_shown::{append_section, append_session};
+use crate::{copied_parts, cuts, without_memory};
 use case_texts::{behind_header, push_escaped, push_refused};
 use plain_cases::Answer;
 use std::alloc::AllocError;
@@ -18,6 +18,8 @@ pub(crate) fn answers(answer: &mut Answer, word: &str, text: &str) -> bool {
         "offer-text" => offer(answer, text),
         "answer-text" => answer_printed(answer, text),
         "cut" => cuts::cut(answer, text),
+        "copied-parts" => copied_parts::copied(answer, text),
+        "without-memory" => without_memory::read(answer, text),
         _ => return of_lines(answer, word, text),
     }
     true
@@ -28,7 +30,7 @@ fn of_lines(answer: &mut Answer, word: &str, lines: &str) -> bool {
     let text = behind_header(answer, lines);
     match word {
         "header-with" => header(answer, text.as_str()),
-        "description-with" | "consistent" | "section-printed" => {
+        "description-with" | "consistent" | "section-printed" | "m-line" => {
             description(answer, word, text.as_str());
         }
         _ => return false,
@@ -70,6 +72,7 @@ fn show_description(answer: &mut Answer, word: &str, sdp: &Sdp, rest: &str) {
         "copied" => show_copy(answer, &sdp.clone()),
         "consistent" => answer.push("consistent"),
         "section-printed" => show_first(answer, sdp.media_lines.as_slice()),
+        "m-line" => show_m_line(answer, sdp.media_lines.as_slice()),
         _ => {
             append_session(answer, &sdp.session);
             for section in sdp.media_lines.as_slice() {
@@ -93,6 +96,14 @@ fn show_first(answer: &mut Answer, sections: &[MediaLine]) {
         Some(section) => push_printed(answer, section),
         None => answer.push("no section"),
     }
+}
+
+/// The m-line of the first section.
+fn show_m_line(answer: &mut Answer, sections: &[MediaLine]) {
+    if let Some(section) = sections.first() {
+        push_made(answer, &section.m_line());
+    }
+    answer.or_word("no section");
 }
 
 /// What an offer of this text prints.

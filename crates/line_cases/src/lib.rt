@@ -4,12 +4,14 @@
 
 mod attribute_names;
 mod attribute_parts;
+mod copied_parts;
 mod cuts;
 mod descriptions;
 mod layers;
 mod lines;
 mod random_names;
 mod section_shown;
+mod without_memory;
 
 use plain_cases::Answer;
 

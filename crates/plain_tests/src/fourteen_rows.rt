@@ -81,6 +81,31 @@ fn are_held(alloc: Global, first: u8, step: u8, direction: Direction) -> Result<
     Ok(all && (are_locked || (step < 3 && direction.sdp_is_receiving())))
 }
 
+/// 128 rounds one after another, each for the next of the rows, whose types begin at each of the 128 in turn: the first that isn't
+/// held.
+fn first_not_held(config: &mut CodecConfig, direction: Direction) -> Option<u8> {
+    for first in 0_u8..128 {
+        let channels = first % 14 + 1;
+        if !is_held(config, row(channels, first, 0), direction) {
+            return Some(first);
+        }
+    }
+    None
+}
+
+/// In the first forty rounds each row meets a remote row whose types no locked row has.
+#[test]
+fn one_configuration_meets_every_type(rt: HostRuntime) -> Result<(), Fail> {
+    for direction in &DIRECTIONS {
+        let mut config = fourteen(rt.alloc())?;
+        let not_held = first_not_held(&mut config, *direction);
+        assert_eq!(rt; not_held, None, "{direction:?}");
+        let are_locked = config.params().iter().all(|row| row.locked());
+        assert!(rt; are_locked, "{direction:?}");
+    }
+    Ok(())
+}
+
 /// The rounds begin at each of the 128 types, and in turn demand types that are none, one, two or three apart.
 #[test]
 fn fourteen_rows_are_never_exhausted(rt: HostRuntime) -> Result<(), Fail> {

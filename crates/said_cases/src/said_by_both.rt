@@ -14,13 +14,17 @@ pub(crate) fn add_setup(answer: &mut Answer, setup: Option<Setup>) {
 /// What a copy of the credentials says.
 pub(crate) fn add_credentials(answer: &mut Answer, found: &Result<Option<IceCreds>, AllocError>) {
     if let Some(creds) = answer.found(found) {
-        let copy = creds.clone();
-        if let Some(creds) = answer.made(&copy) {
-            answer.line("credentials");
-            answer.show(&creds.ufrag);
-            answer.push(" ");
-            answer.show(&creds.pass);
-        }
+        add_copy(answer, creds);
+    }
+}
+
+fn add_copy(answer: &mut Answer, creds: &IceCreds) {
+    let copy = creds.clone();
+    if let Some(creds) = answer.made(&copy) {
+        answer.line("credentials");
+        answer.show(&creds.ufrag);
+        answer.push(" ");
+        answer.show(&creds.pass);
     }
 }
 
