@@ -1,0 +1,109 @@
+"""What the pages say of the code: whether the code that README.md and CALLING.md show is that of `crates/uses` or its tests, whether
+CALLING.md names each public call and type of the libraries, and whether README.md is short.
+
+A block of code stands in one of those files word for word, but for contracts and comments. One that has `use` lines is to compile as it
+stands: so its items stand in one file, each of them, and what they use of what that file imports or has is imported or stands in the
+block."""
+import re
+
+from proved import TOP
+
+BLOCK = re.compile(r"^```rust\n(.*?)^```$", re.MULTILINE | re.DOTALL)
+CLAUSE = re.compile(r"(ghost|requires|ensures)\b")
+PUBLIC = re.compile(r"^ *pub (?:const )?(?:fn|struct|enum|trait|const) (\w+)", re.MULTILINE)
+EXPORTED = re.compile(r"^pub use (?:\w+::)+(\w+|\{.*?\});", re.MULTILINE | re.DOTALL)
+ITEM = re.compile(r"(?:pub(?:\(crate\))? )?(?:const )?(?:fn|struct|enum|const|trait) (\w+)")
+LOWER, TOPMOST = ("str0m_values", "str0m_formats", "str0m_sdp"), "str0m_signal"
+PAGES = ("README.md", "CALLING.md")
+MOST_WORDS = 900  # of README.md
+
+
+def kept(text):
+    """The lines of code without contracts and comments."""
+    braces = 0
+    for line in text.splitlines():
+        line = line.strip()
+        if braces or CLAUSE.match(line):
+            braces += line.count("{") - line.count("}")
+        elif not line.startswith("//"):
+            yield line
+
+
+def plain(text):
+    """Code on one line, without contracts and comments."""
+    return " ".join(" ".join(kept(text)).split())
+
+
+def items(text):
+    """The items of code, each on one line: `use` lines and all else that stands at its top."""
+    found, braces = [""], 0
+    for line in kept(text):
+        found[-1] = f"{found[-1]} {line}".strip()
+        braces += line.count("{") - line.count("}")
+        if not braces and found[-1].endswith((";", "}")):
+            found.append("")
+    return [it for it in found if it]
+
+
+def imported(all_items):
+    """The paths that `use` lines name."""
+    for item in all_items:
+        found = re.fullmatch(r"use ((?:\w+::)*)(\w+|\{.*\});", item)
+        if found:
+            yield from (found[1] + name for name in re.findall(r"\w+", found[2]))
+
+
+def missing(block, file):
+    """What a block with `use` lines has that the file hasn't, or needs of it and hasn't itself."""
+    own, theirs = items(block), items(file)
+    code = [it for it in own if not it.startswith("use ")]
+    used = {name for it in code for name in re.findall(r"\w+", it)}
+    yield from (it for it in code if it not in theirs)
+    yield from set(imported(own)) - set(imported(theirs))
+    yield from (it for it in set(imported(theirs)) - set(imported(own)) if it.split("::")[-1] in used)
+    defined = [{name for it in all_items if (found := ITEM.match(it)) for name in [found[1]]} for all_items in (own, theirs)]
+    yield from (defined[1] - defined[0]) & used
+
+
+def code_of(crates):
+    return {file: file.read_text() for crate in sorted((TOP / "crates").glob(crates)) for file in sorted((crate / "src").glob("*.rt"))}
+
+
+def block_faults(block, files):
+    """What is wrong with a block of code."""
+    first = block.strip().splitlines()[0]
+    if not re.search(r"^use ", block, re.MULTILINE):
+        if not any(plain(block) in plain(it) for it in files):
+            yield f"not the code of crates/uses or its tests: {first}"
+    else:
+        least = min((sorted(missing(block, it)) for it in files), key=len)
+        yield from (f"this block doesn't stand in one file of crates/uses or its tests, or needs more of it: {it[:80]}" for it in least)
+
+
+def exported(crate):
+    """The names that a library passes on at its root."""
+    code = (TOP / "crates" / crate / "src" / "lib.rt").read_text()
+    return {name for names in EXPORTED.findall(code) for name in re.findall(r"\w+", names)}
+
+
+def calling_faults(text):
+    """What CALLING.md should name and doesn't, and what it says that str0m_signal passes on, which doesn't."""
+    named, last = set(re.findall(r"\w+", text)), set(re.findall(r"\w+", text.splitlines()[-1]))
+    for file, code in code_of("str0m_*").items():
+        for name in PUBLIC.findall(code):
+            if name not in named:
+                yield f"doesn't name {name} of {file.relative_to(TOP)}"
+    for name in sorted(set().union(*map(exported, LOWER)) - exported(TOPMOST) - last):
+        yield f"{TOPMOST} doesn't pass on {name}"
+
+
+def faults(page):
+    """What is wrong with a page."""
+    text, files = (TOP / page).read_text(), list(code_of("uses*").values())
+    for block in BLOCK.findall(text):
+        yield from block_faults(block, files)
+    words = len(text.split())
+    if page == "README.md" and words > MOST_WORDS:
+        yield f"{words} words, {MOST_WORDS} at most"
+    if page == "CALLING.md":
+        yield from calling_faults(text)
