@@ -83,6 +83,12 @@ def of_sections(section):
     return lambda count: HEADER + section * count
 
 
+def of_lines_each(sections, count):
+    """So many sections with as many attribute lines in each."""
+    section = "m=audio 9 UDP/TLS/RTP/SAVPF 0\r\na=mid:0\r\na=sendrecv\r\n"
+    return sections * (section + "a=rtcp-mux\r\n" * (count - 2))
+
+
 def of_video_sections(count):
     """So many times the section of pictures of a browser's offer, each under a name of its own."""
     offer = (TOP / "examples" / "firefox-audio-video-offer.sdp").read_bytes().decode()
