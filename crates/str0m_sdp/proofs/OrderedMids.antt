@@ -4,13 +4,14 @@ use Rattle.std.proofs.Common.{append_assoc, filter, filter_map, refl, sym, ap, �
 use Rattle.std.specs.Borrow.{Bor}
 use Rattle.std.specs.BTreeSet.{BTreeSet, Updates, contains}
 use Rattle.std.specs.Cmp.Lexicographic.{slice_cmp}
+use Rattle.std.specs.List.{cons_option}
 use Rattle.std.specs.Ordering.{nat_cmp}
 use Rattle.std.specs.Str.{bytes_eq}
 use Rattle.std.proofs.Math.Bool.{or_comm}
 use Rattle.std.proofs.lemmas.Bool.{false≢true}
 use Rattle.std.proofs.lemmas.Map.Text.{is_eq-slice_cmp}
 use Rattle.str0m_values.specs.Cuts.{◌<|>◌, when}
-use Rattle.str0m_sdp.specs.OrderedMids.{Holds, is_held, is_part}
+use Rattle.str0m_sdp.specs.OrderedMids.{Holds, is_held, is_part, part_mid}
 use Rattle.str0m_sdp.specs.SessionConsistency.{is_listed, parts, section_mid, takes_part}
 use Rattle.str0m_sdp.specs.SessionFault.{first_again}
 use Rattle.str0m_sdp.specs.declared.media_line.MediaLine.{MediaLine}
@@ -83,15 +84,16 @@ found_later names name mid mids added found same holds told test so_far =
 
 -- ---- the sections that take part
 
--- two tests that agree keep the same
-kept_alike : {X : Type 0} (p q : X → Bool) → ((x : X) → p x ≡ q x) → (xs : List X) → filter p xs ≡ filter q xs
-kept_alike p q alike [] = refl
-kept_alike {X} p q alike (x ∷ xs) =
-    ap (λ (b : Bool). cond b (x ∷ filter p xs) (filter p xs)) (alike x)
-    ∙ ap (λ (ys : List X). cond (q x) (x ∷ ys) ys) (kept_alike p q alike xs)
+-- one section more, which takes part or not
+one_part : (m : MediaLine) (rest : List MediaLine) (b : Bool)
+    → cons_option (cond b (section_mid m) None) (filter_map section_mid rest) ≡ filter_map section_mid (cond b (m ∷ rest) rest)
+one_part m rest true = refl
+one_part m rest false = refl
 
 pub parts_same : (names : BTreeSet (Bor (List ℕ))) (group : List (List ℕ)) (sections : List MediaLine) → Holds names group
-    → filter_map section_mid (filter (is_part names) sections) ≡ parts group sections
-parts_same names group sections holds =
-    ap (λ (ms : List MediaLine). filter_map section_mid ms)
-    (kept_alike (is_part names) (takes_part group) (λ m. ap (λ (b : Bool). not m.disabled || b) (holds (section_mid m))) sections)
+    → filter_map (part_mid names) sections ≡ parts group sections
+parts_same names group [] holds = refl
+parts_same names group (m ∷ ms) holds =
+    ap (λ (b : Bool). cons_option (cond (not m.disabled || b) (section_mid m) None) (filter_map (part_mid names) ms)) (holds (section_mid m))
+    ∙ ap (λ (mids : List (List ℕ)). cons_option (cond (takes_part group m) (section_mid m) None) mids) (parts_same names group ms holds)
+    ∙ one_part m (filter (takes_part group) ms) (takes_part group m)

@@ -1,11 +1,11 @@
 -- Laws of the first fault of a session: there is none where the session is consistent, and only there.
 use Rattle.std.proofs.Common.{◌≡◌, ℕ, Bool, true, false, inl, inr, List, [], ◌∷◌, Option, Some, None, MatchOption}
 use Rattle.std.proofs.Common.{All, arith, filter_map, length, refl, sym, ap, option_map}
-use Rattle.std.specs.Prelude.{◌↔◌, Ok, Err}
+use Rattle.std.specs.Prelude.{◌↔◌}
 use Rattle.std.proofs.lemmas.Bool.{cases_eq, eq-eqb, ne_eqb}
 use Rattle.str0m_values.specs.Cuts.{◌<|>◌, when}
 use Rattle.str0m_sdp.specs.Consistency.{Consistent}
-use Rattle.str0m_sdp.specs.Fault.{err_if, fault_text, first_fault, section_message}
+use Rattle.str0m_sdp.specs.Fault.{fault_text, first_fault, section_message}
 use Rattle.str0m_sdp.specs.SessionConsistency.{AreDistinct, ConsistentSdp, IsGrouped, first_group, is_listed, parts, section_mids}
 use Rattle.str0m_sdp.specs.SessionFault.{first_again, first_difference, first_session_fault, group_fault, listing_fault}
 use Rattle.str0m_sdp.specs.SessionFault.{sections_message}
@@ -13,7 +13,7 @@ use Rattle.str0m_sdp.specs.declared.fault.SessionFault.{SessionFault}
 use Rattle.str0m_sdp.specs.declared.fault.SessionFault.TheVariants.{SharedMid, Order}
 use Rattle.str0m_sdp.specs.declared.media_line.MediaLine.{MediaLine}
 use Rattle.str0m_sdp.specs.declared.session.Sdp.{Sdp}
-use Rattle.str0m_sdp.proofs.FaultLaws.{no_fault, none_among, none_first, none_if_ok, or_none}
+use Rattle.str0m_sdp.proofs.FaultLaws.{no_fault, none_among, none_first, or_none}
 use Rattle.str0m_sdp.proofs.SessionLaws.{again, apart, same_from_none, none_from_same}
 
 mapped_none : {A B : Type 0} (f : A → B) (o : Option A) → (option_map f o ≡ None) ↔ (o ≡ None)
@@ -82,9 +82,9 @@ pub unless_some : {A : Type 0} (o : Option A) → ((x : A) → o ≡ Some x → 
 unless_some None never = refl
 unless_some (Some x) never = absurd (never x refl)
 
-pub sdp_if_ok : (sdp : Sdp) → None ≡ sections_message sdp.media_lines → Ok tt ≡ err_if (first_session_fault sdp) → ConsistentSdp sdp
+pub sdp_if_ok : (sdp : Sdp) → None ≡ sections_message sdp.media_lines → None ≡ first_session_fault sdp → ConsistentSdp sdp
 sdp_if_ok sdp sections session =
-    let rest = (no_session_fault sdp).0 (none_if_ok (first_session_fault sdp) session) in
+    let rest = (no_session_fault sdp).0 (sym session) in
     record { sections = (no_messages sdp.media_lines).0 (sym sections); mids = rest.0; group = rest.1 }
 
 -- a consistent session has no message of a section, and no fault of its own
@@ -94,9 +94,9 @@ sections_quiet sdp is = (no_messages sdp.media_lines).1 is.sections
 pub sdp_not_some : (sdp : Sdp) (text : List ℕ) → Some text ≡ sections_message sdp.media_lines → ConsistentSdp sdp → ⊥
 sdp_not_some sdp text told is = absurd (let none = sections_quiet sdp is in cc)
 
-pub sdp_not_err : (sdp : Sdp) (fault : SessionFault) → Err fault ≡ err_if (first_session_fault sdp) → ConsistentSdp sdp → ⊥
-sdp_not_err sdp fault err is =
+pub sdp_not_fault : (sdp : Sdp) (fault : SessionFault) → Some fault ≡ first_session_fault sdp → ConsistentSdp sdp → ⊥
+sdp_not_fault sdp fault told is =
     let none = (no_session_fault sdp).1 (is.mids, is.group) in
-    absurd (let no = rw none at err in cc)
+    absurd cc
 
-pub ruleset contradictions = (sections_quiet, sdp_not_some, sdp_not_err)
+pub ruleset contradictions = (sections_quiet, sdp_not_some, sdp_not_fault)

@@ -1,5 +1,5 @@
 -- Mids in the order of their bytes.
-use Rattle.std.specs.Prelude.{◌≡◌, ℕ, Bool, false, not, ◌||◌, List, Option, Some, None}
+use Rattle.std.specs.Prelude.{◌≡◌, ℕ, Bool, false, cond, not, ◌||◌, List, Option, Some, None}
 use Rattle.std.specs.Borrow.{Bor}
 use Rattle.std.specs.BTreeSet.{BTreeSet, contains_by}
 use Rattle.std.specs.Cmp.Lexicographic.{slice_cmp}
@@ -19,3 +19,7 @@ Holds names mids = (mid : Option (List ℕ)) → is_held names mid ≡ is_listed
 -- whether a section takes part in the group whose mids the names are
 abbrev pub is_part : BTreeSet (Bor (List ℕ)) → MediaLine → Bool
 is_part names m = not m.disabled || is_held names (section_mid m)
+
+-- the mid of a section that does
+abbrev pub part_mid : BTreeSet (Bor (List ℕ)) → MediaLine → Option (List ℕ)
+part_mid names m = cond (is_part names m) (section_mid m) None

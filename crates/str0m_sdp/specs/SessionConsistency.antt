@@ -1,5 +1,5 @@
 -- Which sessions are consistent.
-use Rattle.std.specs.Prelude.{◌≡◌, ◌≢◌, ℕ, Bool, false, not, ◌||◌, List, filter, filter_map, Option, Some, None, MatchOption, All}
+use Rattle.std.specs.Prelude.{◌≡◌, ◌≢◌, ◌≤◌, ℕ, Bool, false, not, ◌||◌, List, filter, filter_map, length, Option, Some, None, MatchOption, All, Result, Ok, Err}
 use Rattle.std.specs.List.{AllPairs, list_any}
 use Rattle.std.specs.Str.{bytes_eq}
 use Rattle.str0m_sdp.specs.Consistency.{Consistent, mid_of}
@@ -55,6 +55,17 @@ pub record ConsistentSdp (sdp : Sdp) : Type 0 where
   pub sections : All Consistent sdp.media_lines
   pub mids : AreDistinct (section_mids sdp.media_lines)
   pub group : IsGrouped sdp
+
+-- so few sections that their mids are compared each with each, which takes no memory
+abbrev pub AreFew : List MediaLine → Type 0
+AreFew sections = length sections ≤ 16
+
+-- an answer says whether something holds, want of memory aside
+abbrev pub SaysWhether : Type 0 → Result (Unit {0}) SdpError → Type 0
+SaysWhether Holds (Ok done) = Holds
+SaysWhether Holds (Err (ParseError message)) = ⊥
+SaysWhether Holds (Err (Inconsistent message)) = Holds → ⊥
+SaysWhether Holds (Err Memory) = Unit {0}
 
 -- a session contradicts itself, or memory was refused
 abbrev pub IsContradiction : SdpError → Type 0

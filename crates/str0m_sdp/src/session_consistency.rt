@@ -1,12 +1,11 @@
 //! Which sessions are consistent.
-ghost use Rattle.std.specs.Prelude.{◌≡◌, ◌==◌, ◌↔◌, IfErr, IfOk, IsOk, None, Ok, filter, length, not, option_map, Some};
+ghost use Rattle.std.specs.Prelude.{◌≡◌, ◌==◌, ◌++◌, IfErr, IfOk, IsOk, None, Ok, OnOk, filter_map, length, not, option_map, option_to_list, Some};
 ghost use Rattle.std.specs.Str.{bytes_eq};
 ghost use Rattle.std.specs.String.{string_bytes};
 ghost use Rattle.str0m_values.specs.Cuts.{◌<|>◌, when};
-ghost use Rattle.str0m_sdp.specs.Fault.{err_if};
-ghost use Rattle.str0m_sdp.specs.OrderedMids.{is_part};
-ghost use Rattle.str0m_sdp.specs.SessionConsistency.{ConsistentSdp, IsContradiction, first_group, is_listed, parts};
-ghost use Rattle.str0m_sdp.specs.SessionConsistency.{section_mid, section_mids, takes_part};
+ghost use Rattle.str0m_sdp.specs.OrderedMids.{is_part, part_mid};
+ghost use Rattle.str0m_sdp.specs.SessionConsistency.{AreFew, ConsistentSdp, IsContradiction, SaysWhether, first_group, is_listed};
+ghost use Rattle.str0m_sdp.specs.SessionConsistency.{parts, section_mid, section_mids, takes_part};
 ghost use Rattle.str0m_sdp.specs.SessionFault.{Tells, first_again, first_difference, first_session_fault, listing_fault};
 ghost use Rattle.str0m_sdp.specs.SessionFault.{sections_message, session_message};
 ghost use Rattle.str0m_sdp.specs.declared.fault.SessionFault.TheVariants.{Count, Order};
@@ -23,7 +22,7 @@ use std::collections::BTreeSet;
 use str0m_values::{Items, Mid};
 
 /// Mids of up to so many sections, and of so long a group, are compared each with each, which takes no
-/// memory.
+/// memory: as many as are few for contracts.
 const FEW: usize = 16;
 
 fn section_mid(m: &MediaLine) -> Option<Mid>
@@ -80,17 +79,28 @@ fn scan_shared(sections: &[MediaLine]) -> Option<Mid>
     None
 }
 
-/// The mids of the sections, each looked for once.
+/// Puts a mid behind the others, where there is one.
+fn push_mid(mids: &mut Vec<Mid>, mid: Option<Mid>) -> Result<(), AllocError>
+    ensures { OnOk result (mids.new.items ≡ mids.old.items ++ option_to_list mid) }
+{
+    if let Some(mid) = mid {
+        mids.push(mid)?;
+    }
+    Ok(())
+}
+
+/// The mids of the sections, each looked for once, in room that is asked for once.
 fn gather_mids(sections: &[MediaLine], alloc: Global) -> Result<Vec<Mid>, AllocError>
     ensures { IfOk result (λ mids. mids.items ≡ section_mids sections.now) }
 {
-    sections
-        .iter()
-        .filter_map(|section| section_mid(section))
-        .collect(alloc)
+    let mut mids = Vec::with_capacity(alloc, sections.len())?;
+    for section in sections {
+        push_mid(&mut mids, section_mid(section))?;
+    }
+    Ok(mids)
 }
 
-/// The first mid that stands again in a later section, by an ordered set: where memory is granted.
+/// The first mid that stands again in a later section, by an ordered set.
 fn find_shared(sections: &[MediaLine], alloc: Global) -> Result<Option<Mid>, AllocError>
     ensures { IfOk result (λ found. found ≡ first_again (section_mids sections.now)) }
 {
@@ -100,15 +110,14 @@ fn find_shared(sections: &[MediaLine], alloc: Global) -> Result<Option<Mid>, All
 }
 
 /// The first mid that stands again in a later section.
-fn shared_mid(sections: &Items<MediaLine>) -> Option<Mid>
-    ensures { result ≡ first_again (section_mids sections.now) }
+fn shared_mid(sections: &Items<MediaLine>) -> Result<Option<Mid>, AllocError>
+    ensures found { IfOk result (λ found. found ≡ first_again (section_mids sections.now)) }
+    ensures takes_no_memory { AreFew sections.now → IsOk result }
 {
     if sections.len() > FEW {
-        if let Ok(found) = find_shared(sections.as_slice(), *sections.allocator()) {
-            return found;
-        }
+        return find_shared(sections.as_slice(), *sections.allocator());
     }
-    scan_shared(sections.as_slice())
+    Ok(scan_shared(sections.as_slice()))
 }
 
 /// The mids of the first group.
@@ -170,22 +179,33 @@ fn is_part(names: &BTreeSet<&str>, m: &MediaLine) -> bool
     !m.disabled || is_held(names, section_mid(m))
 }
 
-/// The mids of the sections that do.
+/// The mid of a section that does.
+fn part_mid(names: &BTreeSet<&str>, m: &MediaLine) -> Option<Mid>
+    ensures { result ≡ part_mid names.now m.now }
+{
+    if is_part(names, m) {
+        section_mid(m)
+    } else {
+        None
+    }
+}
+
+/// The mids of the sections that do, in room that is asked for once.
 fn gather_among(
     names: &BTreeSet<&str>,
     sections: &[MediaLine],
     alloc: Global,
 ) -> Result<Vec<Mid>, AllocError>
-    ensures { IfOk result (λ mids. mids.items ≡ section_mids (filter (is_part names.now) sections.now)) }
+    ensures { IfOk result (λ mids. mids.items ≡ filter_map (part_mid names.now) sections.now) }
 {
-    sections
-        .iter()
-        .filter(|m| is_part(names, m))
-        .filter_map(|m| section_mid(m))
-        .collect(alloc)
+    let mut mids = Vec::with_capacity(alloc, sections.len())?;
+    for section in sections {
+        push_mid(&mut mids, part_mid(names, section))?;
+    }
+    Ok(mids)
 }
 
-/// The mids of the sections that take part, by an ordered set of the group's: where memory is granted.
+/// The mids of the sections that take part, by an ordered set of the group's.
 #[tactic(auto, using(crate::proofs::OrderedMids::parts_same))]
 fn gather_parts(
     group: &[Mid],
@@ -210,53 +230,67 @@ fn first_unlike(mids: &[Mid], group: &[Mid]) -> Option<(Mid, Mid)>
 }
 
 /// The fault of so many sections that take part, and of the first place where they and the group differ.
-fn check_listing(
+fn listing_fault(
     count: usize,
     difference: Option<(Mid, Mid)>,
     group: &[Mid],
-) -> Result<(), SessionFault>
-    ensures { result ≡ err_if (when (not (count == length group.now)) (Count (length group.now) count) <|> option_map (λ pair. Order pair.0 pair.1) difference) }
+) -> Option<SessionFault>
+    ensures { result ≡ when (not (count == length group.now)) (Count (length group.now) count) <|> option_map (λ pair. Order pair.0 pair.1) difference }
 {
     if count != group.len() {
-        return Err(SessionFault::Count {
+        return Some(SessionFault::Count {
             group: group.len(),
             sections: count,
         });
     }
     match difference {
-        Some((section, group)) => Err(SessionFault::Order { section, group }),
-        None => Ok(()),
+        Some((section, group)) => Some(SessionFault::Order { section, group }),
+        None => None,
     }
 }
 
-fn check_group(group: &[Mid], sections: &Items<MediaLine>) -> Result<(), SessionFault>
-    ensures { result ≡ err_if (listing_fault (parts group.now sections.now) group.now) }
+/// The first fault between many sections and a long group, by an ordered set.
+fn find_group_fault(
+    group: &[Mid],
+    sections: &[MediaLine],
+    alloc: Global,
+) -> Result<Option<SessionFault>, AllocError>
+    ensures { IfOk result (λ fault. fault ≡ listing_fault (parts group.now sections.now) group.now) }
 {
-    if sections.len() > FEW && group.len() > FEW {
-        if let Ok(mids) = gather_parts(group, sections.as_slice(), *sections.allocator()) {
-            let unlike = first_unlike(mids.as_slice(), group);
-            return check_listing(mids.len(), unlike, group);
-        }
-    }
+    let mids = gather_parts(group, sections, alloc)?;
+    let unlike = first_unlike(mids.as_slice(), group);
+    Ok(listing_fault(mids.len(), unlike, group))
+}
+
+/// The first fault between the sections and the group.
+fn group_fault(
+    group: &[Mid],
+    sections: &Items<MediaLine>,
+) -> Result<Option<SessionFault>, AllocError>
+    ensures fault { IfOk result (λ fault. fault ≡ listing_fault (parts group.now sections.now) group.now) }
+    ensures takes_no_memory { AreFew sections.now → IsOk result }
+{
+    let alloc = *sections.allocator();
     let sections = sections.as_slice();
-    check_listing(
-        count_parts(group, sections),
-        first_difference(group, sections),
-        group,
-    )
+    if sections.len() > FEW && group.len() > FEW {
+        return find_group_fault(group, sections, alloc);
+    }
+    let count = count_parts(group, sections);
+    Ok(listing_fault(count, first_difference(group, sections), group))
 }
 
 /// Finds the first fault between the sections, and between them and the group.
-fn check_session(sdp: &Sdp) -> Result<(), SessionFault>
-    ensures { result ≡ err_if (first_session_fault sdp.now) }
+fn session_fault(sdp: &Sdp) -> Result<Option<SessionFault>, AllocError>
+    ensures fault { IfOk result (λ fault. fault ≡ first_session_fault sdp.now) }
+    ensures takes_no_memory { AreFew sdp.now.media_lines → IsOk result }
 {
     let sections = &sdp.media_lines;
-    if let Some(mid) = shared_mid(sections) {
-        return Err(SessionFault::SharedMid(mid));
+    if let Some(mid) = shared_mid(sections)? {
+        return Ok(Some(SessionFault::SharedMid(mid)));
     }
     match first_group(sdp.session.attrs.as_slice()) {
-        Some(group) => check_group(group, sections),
-        None => Err(SessionFault::MissingGroup),
+        Some(group) => group_fault(group, sections),
+        None => Ok(Some(SessionFault::MissingGroup)),
     }
 }
 
@@ -268,26 +302,25 @@ impl Sdp {
     /// the mids of the sections that take part, in their order (RFC 8829, section 5.2.1; RFC 9143,
     /// sections 5 and 7): of those that aren't disabled, and of those that are but that it lists.
     /// The error is `Inconsistent` with the first fault that is found in this order, or `Memory`
-    /// where memory for its message was refused. A consistent session needs none.
+    /// where memory was refused: for its message, and for the mids of more than sixteen sections. A
+    /// consistent session of at most sixteen needs none.
     ///
     /// Time grows as that of a sort of the mids, and with the session's length beside: those of more
     /// than sixteen sections, and of a group of more than sixteen mids, are put in an ordered set.
-    /// Where memory for that is refused, each mid is compared with that of each later section, which
-    /// is looked for among its attributes each time, and that of each disabled section with those of
-    /// the group: by the square of the number of sections, and with the same answer.
     #[tactic(auto, using(crate::proofs::SessionFaultLaws::contradictions))]
     pub fn assert_consistency(&self) -> Result<(), SdpError>
-        ensures exact { IsOk result ↔ ConsistentSdp self.now }
-        ensures takes_no_memory { ConsistentSdp self.now → result ≡ Ok tt }
+        ensures exact { SaysWhether (ConsistentSdp self.now) result }
+        ensures takes_no_memory { AreFew self.now.media_lines → ConsistentSdp self.now → result ≡ Ok tt }
         ensures named { IfErr result IsContradiction }
         ensures first { IfErr result (Tells (session_message self.now)) }
     {
         if let Some(message) = section_message(self.media_lines.as_slice())? {
             return Err(SdpError::Inconsistent(message));
         }
-        match check_session(self) {
-            Ok(()) => Ok(()),
-            Err(fault) => {
+        let fault = session_fault(self)?;
+        match fault {
+            None => Ok(()),
+            Some(fault) => {
                 let alloc = *self.media_lines.allocator();
                 Err(SdpError::Inconsistent(fault.to_string(alloc)?))
             }

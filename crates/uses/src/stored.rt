@@ -23,10 +23,14 @@ pub struct ReadText<'a> {
     pub is_printed_so: bool,
 }
 
-fn is_consistent(sdp: &Sdp) -> bool
-    ensures { IsTrue result ↔ ConsistentSdp sdp.now }
+fn is_consistent(sdp: &Sdp) -> Result<bool, AllocError>
+    ensures { IfOk result (λ answer. IsTrue answer ↔ ConsistentSdp sdp.now) }
 {
-    sdp.assert_consistency().is_ok()
+    match sdp.assert_consistency() {
+        Ok(()) => Ok(true),
+        Err(SdpError::Memory) => Err(AllocError),
+        Err(_) => Ok(false),
+    }
 }
 
 fn is_printed_so(sdp: &Sdp, text: &str) -> Result<bool, AllocError>
@@ -49,7 +53,7 @@ pub fn checked(alloc: Global, text: &str) -> Result<ReadText<'_>, SdpError>
     ensures refused { IfErr result (λ error. Refuses error (Reading text.now)) }
 {
     let (sdp, rest) = sdp_parser(alloc, text)?;
-    let is_consistent = is_consistent(&sdp);
+    let is_consistent = is_consistent(&sdp)?;
     let is_printed_so = is_printed_so(&sdp, text)?;
     Ok(ReadText {
         sdp,

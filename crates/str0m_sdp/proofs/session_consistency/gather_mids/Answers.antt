@@ -1,11 +1,10 @@
-use Rattle.std.proofs.Common.{rules}
-use Rattle.std.proofs.lemmas.Iterator.{YieldsList-from_slice, items_from_collect}
-use Rattle.std.proofs.lemmas.Iterator.Consumers.{YieldsList-from_filter_map}
-use borrow.Author.Tests.{tests}
+use Rattle.std.proofs.Common.{◌++◌, option_to_list, sym, ◌∙◌}
 use Rattle.str0m_sdp.specs.SessionConsistency.{section_mid}
+use Rattle.str0m_sdp.proofs.FilterMapLaws.{map_more}
 use Rattle.str0m_sdp.proofs.session_consistency.gather_mids.Goals as goal
 
-pub returns : goal.returns
-returns c =
-    items_from_collect _ c.collect.ensures.ran
-    (YieldsList-from_filter_map _ section_mid (YieldsList-from_slice c.args.sections.now cc) c.filter_map.ensures.closure (λ x r q k. search (rules, tests)))
+pub loop-section-preserved : goal.loop-section-preserved
+loop-section-preserved c =
+    c.in_ok-push_mid.ensures
+    ∙ (λ i. c.loop-section.invariant i ++ option_to_list (c.section_mid.ensures i))
+    ∙ sym (map_more section_mid c.args.sections.now c.loop-section.section-index c.section-item.result c.loop-section-test.true c.section-item.is)
