@@ -33,6 +33,7 @@ pub mod SectionConsistent
 pub mod SectionRowLaws
 pub mod SessionFaultLaws
 pub mod SessionLaws
+pub mod SourceLaws
 pub mod SsrcLaws
 pub mod StaticTypes
 pub mod TypeMarks

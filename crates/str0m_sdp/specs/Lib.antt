@@ -39,6 +39,7 @@ pub mod SessionConsistency
 pub mod SessionFault
 pub mod Setup
 pub mod Simulcast
+pub mod Sources
 pub mod SsrcGroup
 pub mod SsrcInfo
 pub mod SsrcReading

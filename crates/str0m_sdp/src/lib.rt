@@ -40,6 +40,7 @@ mod session_accessors;
 mod session_consistency;
 mod setup;
 mod simulcast;
+mod sources;
 mod ssrc_group;
 mod ssrc_info;
 mod transport;

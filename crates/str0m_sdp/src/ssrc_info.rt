@@ -1,15 +1,14 @@
 //! The sources of a section.
-ghost use Rattle.std.specs.Prelude.{◌≡◌, ◌++◌, [], nat_eq, Some, IfOk, OnOk};
+ghost use Rattle.std.specs.Prelude.{◌≡◌, ◌++◌, [], IfOk, OnOk};
 ghost use Rattle.std.specs.List.{filter_map};
-ghost use Rattle.std.specs.Map.{values_of};
-ghost use Rattle.indexmap.specs.IndexMap.{insert_entry};
+ghost use Rattle.str0m_sdp.specs.Sources.{ArePlaced, entries};
 ghost use Rattle.str0m_sdp.specs.SsrcInfo.{id_of, empty_info};
-ghost use Rattle.str0m_sdp.specs.SsrcReading.{with_value, so_far, AreGathered};
+ghost use Rattle.str0m_sdp.specs.SsrcReading.{with_value, AreGathered};
 
 use crate::attribute::MediaAttribute;
 use crate::media_line::MediaLine;
 use crate::msid::is_no_stream;
-use indexmap::IndexMap;
+use crate::sources::Sources;
 use std::alloc::{AllocError, Global};
 use str0m_values::cuts::{before, cut, is_same_text};
 use str0m_values::{Separator, Ssrc, Text};
@@ -43,7 +42,7 @@ impl SsrcInfo {
     ghost use Rattle.str0m_sdp.specs.SsrcReading.{with_ids};
 
     /// A source of which nothing is said.
-    fn empty(ssrc: Ssrc) -> SsrcInfo
+    pub(crate) fn empty(ssrc: Ssrc) -> SsrcInfo
         ensures { result ≡ empty_info ssrc }
     {
         SsrcInfo {
@@ -74,7 +73,12 @@ impl SsrcInfo {
     }
 
     /// Sets what the value of an `Ssrc` attribute says (RFC 5576, section 4.1).
-    fn set_value(&mut self, alloc: Global, name: &str, value: &str) -> Result<(), AllocError>
+    pub(crate) fn set_value(
+        &mut self,
+        alloc: Global,
+        name: &str,
+        value: &str,
+    ) -> Result<(), AllocError>
         ensures { OnOk result (self.new ≡ with_value name.now value.now self.old) }
     {
         if is_same_text(name, "cname") {
@@ -114,66 +118,32 @@ impl MediaAttribute {
     }
 }
 
-/// Adds what the value of an `Ssrc` attribute says.
-fn add_value(
-    alloc: Global,
-    infos: &mut IndexMap<Ssrc, SsrcInfo>,
-    ssrc: Ssrc,
-    name: &str,
-    value: &str,
-) -> Result<(), AllocError>
-    ensures { OnOk result (infos.new.entries ≡ insert_entry nat_eq infos.old.entries ssrc (with_value name.now value.now (so_far infos.old.entries ssrc))) }
-{
-    let info = infos.entry(ssrc)?.or_insert(SsrcInfo::empty(ssrc));
-    info.set_value(alloc, name, value)
-}
-
-/// Adds that a source repairs another one.
-fn add_repair(
-    infos: &mut IndexMap<Ssrc, SsrcInfo>,
-    repaired: Ssrc,
-    repairing: Ssrc,
-) -> Result<(), AllocError>
-    ensures { OnOk result (infos.new.entries ≡ insert_entry nat_eq infos.old.entries repairing (record (so_far infos.old.entries repairing) { repairs = Some repaired })) }
-{
-    let info = infos
-        .entry(repairing)?
-        .or_insert(SsrcInfo::empty(repairing));
-    info.repairs = Some(repaired);
-    Ok(())
-}
-
-/// The values of the entries, in order.
-fn values(alloc: Global, infos: IndexMap<Ssrc, SsrcInfo>) -> Result<Vec<SsrcInfo>, AllocError>
-    ensures { IfOk result (λ list. list.items ≡ values_of infos.entries) }
-{
-    infos.into_values().collect(alloc)
-}
-
 impl MediaLine {
     ghost use Rattle.str0m_sdp.specs.SsrcInfo.{infos, source_of, repair_source};
 
     /// What the `Ssrc` attributes say of each source, in order of first appearance.
-    fn gather_values(&self, alloc: Global) -> Result<IndexMap<Ssrc, SsrcInfo>, AllocError>
-        ensures { IfOk result (λ infos. AreGathered (filter_map source_of self.now.attrs) [] self.now.attrs infos.entries) }
+    fn gather_values(&self, alloc: Global) -> Result<Sources, AllocError>
+        ensures said { IfOk result (λ sources. AreGathered (filter_map source_of self.now.attrs) [] self.now.attrs (entries sources)) }
+        ensures placed { IfOk result ArePlaced }
     {
-        let mut infos = IndexMap::new(alloc);
+        let mut sources = Sources::new(alloc);
         for line in self.attrs.as_slice() {
             if let MediaAttribute::Ssrc { ssrc, attr, value } = line {
-                add_value(alloc, &mut infos, *ssrc, attr.as_str(), value.as_str())?;
+                sources.add_value(alloc, *ssrc, attr.as_str(), value.as_str())?;
             }
         }
-        Ok(infos)
+        Ok(sources)
     }
 
     /// Adds which sources repair others. Those that have no entry yet come last.
-    fn add_repairs(&self, infos: &mut IndexMap<Ssrc, SsrcInfo>) -> Result<(), AllocError>
-        requires { AreGathered (filter_map source_of self.now.attrs) [] self.now.attrs infos.old.entries }
-        ensures { OnOk result (AreGathered (filter_map source_of self.now.attrs ++ filter_map repair_source self.now.attrs) self.now.attrs self.now.attrs infos.new.entries) }
+    fn add_repairs(&self, sources: &mut Sources) -> Result<(), AllocError>
+        requires said { AreGathered (filter_map source_of self.now.attrs) [] self.now.attrs (entries sources.old) }
+        requires placed { ArePlaced sources.old }
+        ensures { OnOk result (AreGathered (filter_map source_of self.now.attrs ++ filter_map repair_source self.now.attrs) self.now.attrs self.now.attrs (entries sources.new)) }
     {
         for line in self.attrs.as_slice() {
             if let Some((repaired, repairing)) = line.repair_pair() {
-                add_repair(infos, repaired, repairing)?;
+                sources.add_repair(repaired, repairing)?;
             }
         }
         Ok(())
@@ -186,15 +156,15 @@ impl MediaLine {
     /// that of its track; white space at their ends is left out, and `-` stands for none (RFC 8830,
     /// section 2). A group `FID` of two sources says that the second repairs the first; a second one
     /// without an entry gets one at the end. Where two attributes say the same of a source, the later
-    /// one holds. Names are compared without regard to the case of ASCII letters. `AllocError` where
-    /// memory is refused.
+    /// one holds. Names are compared without regard to the case of ASCII letters. Time grows as that of
+    /// a sort, whatever the numbers are. `AllocError` where memory is refused.
     #[tactic(auto, using(crate::proofs::SsrcLaws::gathered_infos))]
     pub fn ssrc_info(&self) -> Result<Vec<SsrcInfo>, AllocError>
         ensures { IfOk result (λ list. list.items ≡ infos self.now.attrs) }
     {
         let alloc = *self.attrs.allocator();
-        let mut infos = self.gather_values(alloc)?;
-        self.add_repairs(&mut infos)?;
-        values(alloc, infos)
+        let mut sources = self.gather_values(alloc)?;
+        self.add_repairs(&mut sources)?;
+        Ok(sources.into_infos())
     }
 }

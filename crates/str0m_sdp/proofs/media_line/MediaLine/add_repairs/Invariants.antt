@@ -1,5 +1,6 @@
 use Rattle.std.proofs.Common.{take, ◌++◌}
 use Rattle.std.specs.List.{filter_map}
+use Rattle.str0m_sdp.specs.Sources.{ArePlaced, entries}
 use Rattle.str0m_sdp.specs.SsrcInfo.{source_of, repair_source}
 use Rattle.str0m_sdp.specs.SsrcReading.{AreGathered}
 use Rattle.str0m_sdp.proofs.media_line.MediaLine.add_repairs.Given as goal
@@ -7,4 +8,5 @@ use Rattle.str0m_sdp.proofs.media_line.MediaLine.add_repairs.Given as goal
 -- all values and the groups so far are gathered
 abbrev pub invariant-loop-line : goal.invariant-loop-line
 invariant-loop-line l =
-    AreGathered (filter_map source_of l.line-items ++ filter_map repair_source (take l.line-index l.line-items)) (take l.line-index l.line-items) l.line-items l.infos.entries
+    AreGathered (filter_map source_of l.line-items ++ filter_map repair_source (take l.line-index l.line-items)) (take l.line-index l.line-items) l.line-items (entries l.sources)
+    × ArePlaced l.sources

@@ -1,9 +1,11 @@
 use Rattle.std.proofs.Common.{[], take}
 use Rattle.std.specs.List.{filter_map}
+use Rattle.str0m_sdp.specs.Sources.{ArePlaced, entries}
 use Rattle.str0m_sdp.specs.SsrcInfo.{source_of}
 use Rattle.str0m_sdp.specs.SsrcReading.{AreGathered}
 use Rattle.str0m_sdp.proofs.media_line.MediaLine.gather_values.Given as goal
 
 -- the values so far are gathered
 abbrev pub invariant-loop-line : goal.invariant-loop-line
-invariant-loop-line l = AreGathered (filter_map source_of (take l.line-index l.line-items)) [] (take l.line-index l.line-items) l.infos.entries
+invariant-loop-line l =
+    AreGathered (filter_map source_of (take l.line-index l.line-items)) [] (take l.line-index l.line-items) (entries l.sources) × ArePlaced l.sources
