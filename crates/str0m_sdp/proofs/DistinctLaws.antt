@@ -1,10 +1,9 @@
 -- What `distinct` keeps of a list: each of its values, once, as a set in order of insertion does.
-use Rattle.std.proofs.Common.{◌≡◌, ◌≤◌, ◌||◌, ℕ, Bool, true, false, cond, not, List, [], ◌∷◌, ◌++◌, length, map, drop, refl, sym, ap, ◌∙◌, append_assoc, true≢false}
+use Rattle.std.proofs.Common.{◌≡◌, ◌≤◌, ◌||◌, ℕ, Bool, true, false, cond, not, List, [], ◌∷◌, ◌++◌, length, drop, refl, sym, ap, ◌∙◌, append_assoc, true≢false}
 use Rattle.std.specs.Bool.{Decides}
-use Rattle.std.specs.Borrow.{Bor}
 use Rattle.std.specs.Cmp.{IsEquivalence, decided}
 use Rattle.std.specs.List.{filter, list_any, flat_map, AllByRecursion, IsDistinct, AllPairs, Contains}
-use Rattle.std.proofs.lemmas.List.{append-nil, drop_all, map-append}
+use Rattle.std.proofs.lemmas.List.{append-nil, drop_all}
 use Rattle.std.proofs.lemmas.List.Elements.{filter-append}
 use Rattle.std.proofs.lemmas.List.Folds.{list_any-append}
 use Rattle.std.proofs.lemmas.Map.Keys.{apart_from_distinct}
@@ -131,33 +130,18 @@ each_once {X} same decides xs = record { apart = apart; same_values = λ x. (λ 
     apart : AllPairs (λ x y. x ≡ y → ⊥) (distinct same xs)
     apart i j d before inside equal = true≢false (sym ((decides _ _).1 equal) ∙ apart_from_distinct same (distinct same xs) i j d (distinct-apart same laws xs) before inside)
 
--- ---- sets of references
+-- ---- one after another
 
 module _ {X : Type 0} (same : X → X → Bool) where
-  -- whether references' values pass
-  any-shown : (test : X → Bool) (keys : List (Bor X)) → list_any (λ k. test k.now) keys ≡ list_any test (map (λ k. k.now) keys)
-  any-shown test [] = refl
-  any-shown test (k ∷ ks) = ap (λ b. test k.now || b) (any-shown test ks)
-
-  insert_key-shown : (keys : List (Bor X)) (k : Bor X) → map (λ k. k.now) (insert_key (λ a b. same a.now b.now) keys k) ≡ insert_key same (map (λ k. k.now) keys) k.now
-  insert_key-shown keys k =
-      by (list_any (λ x. same k.now x.now) keys)
-      ∙ ap (λ b. cond b (map (λ x. x.now) keys) (map (λ x. x.now) keys ++ k.now ∷ [])) (any-shown (same k.now) keys)
-    where
-      by : (b : Bool) → map (λ x. x.now) (cond b keys (keys ++ k ∷ [])) ≡ cond b (map (λ x. x.now) keys) (map (λ x. x.now) keys ++ k.now ∷ [])
-      by true = refl
-      by false = map-append (λ (x : Bor X). x.now) keys (k ∷ [])
-
   -- one of the values that are still to be put in
-  pub one_more : (keys new : List (Bor X)) (k : Bor X) (left rest : List X) → new ≡ insert_key (λ a b. same a.now b.now) keys k → left ≡ k.now ∷ rest → insert_all same (map (λ k. k.now) new) rest ≡ insert_all same (map (λ k. k.now) keys) left
-  one_more keys new k left rest put next =
-      ap (λ l. insert_all same l rest) (ap (map (λ x. x.now)) put ∙ insert_key-shown keys k) ∙ sym (ap (insert_all same (map (λ x. x.now) keys)) next)
+  pub one_put : (old new : List X) (x : X) (left rest : List X) → new ≡ insert_key same old x → left ≡ x ∷ rest → insert_all same new rest ≡ insert_all same old left
+  one_put old new x left rest put next = ap (λ l. insert_all same l rest) put ∙ sym (ap (insert_all same old) next)
 
   -- once every value is put in, those that are there are each of them, once
-  pub all_put : {A : Type 0} → IsEquivalence same → (values : A → List X) (owners : List A) (i : ℕ) (keys given : List (Bor X)) (all : List X) → length owners ≤ i → given ≡ keys
-      → insert_all same (map (λ k. k.now) keys) (flat_map values (drop i owners)) ≡ insert_all same [] all → map (λ k. k.now) given ≡ distinct same all
+  pub all_put : {A : Type 0} → IsEquivalence same → (values : A → List X) (owners : List A) (i : ℕ) (keys given all : List X) → length owners ≤ i → given ≡ keys
+      → insert_all same keys (flat_map values (drop i owners)) ≡ insert_all same [] all → given ≡ distinct same all
   all_put laws values owners i keys given all past is put =
-      ap (map (λ k. k.now)) is ∙ sym (ap (λ l. insert_all same (map (λ k. k.now) keys) (flat_map values l)) (drop_all i owners past)) ∙ put ∙ inserted-distinct same laws all
+      is ∙ sym (ap (λ l. insert_all same keys (flat_map values l)) (drop_all i owners past)) ∙ put ∙ inserted-distinct same laws all
 
 -- ---- one item more
 

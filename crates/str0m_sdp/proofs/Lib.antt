@@ -2,6 +2,7 @@ pub mod AlikeLaws
 pub mod Apart
 pub mod AttributeEqual
 pub mod CandidateEqual
+pub mod CandidateKeyLaws
 pub mod CompanionLaws
 pub mod Copies
 pub mod DistinctLaws

@@ -2,6 +2,7 @@ pub mod Alike
 pub mod Attribute
 pub mod AttributeParts
 pub mod Bandwidth
+pub mod CandidateKey
 pub mod Candidates
 pub mod Companions
 pub mod Consistency
@@ -34,6 +35,7 @@ pub mod SectionAccessors
 pub mod SectionDirection
 pub mod SectionOf
 pub mod SectionRows
+pub mod SeenCandidates
 pub mod Session
 pub mod SessionConsistency
 pub mod SessionFault

@@ -1,16 +1,17 @@
 //! The candidates of a whole description, each once.
-ghost use Rattle.std.specs.Prelude.{◌≡◌, IfOk, OnOk, map};
+ghost use Rattle.std.specs.Prelude.{◌≡◌, IfOk, OnOk};
 ghost use Rattle.std.specs.Iterator.{YieldsFirstBy, item_count};
 ghost use Rattle.indexmap.specs.IndexSet.{insert_all};
 ghost use Rattle.str0m_sdp.specs.Candidates.{all_candidates, candidates_left, same_candidate};
 ghost use Rattle.str0m_sdp.specs.Lists.{distinct};
+ghost use Rattle.str0m_sdp.specs.SeenCandidates.{AreByKey, seen};
 
 use crate::candidates::Candidates;
+use crate::seen_candidates::SeenCandidates;
 use crate::session::Sdp;
-use indexmap::IndexSet;
-use indexmap::set::IntoIter;
 use std::alloc::AllocError;
 use std::fmt;
+use std::vec::IntoIter;
 use str0m_values::Candidate;
 
 /// Candidates in order of first appearance, each once.
@@ -27,14 +28,13 @@ impl<'a> fmt::Debug for DistinctCandidates<'a> {
 }
 
 /// Adds those that aren't there yet, in order.
-fn add_all<'a>(
-    seen: &mut IndexSet<&'a Candidate>,
-    candidates: Candidates<'a>,
-) -> Result<(), AllocError>
-    ensures { OnOk result (map (λ c. c.now) seen.new.keys ≡ insert_all same_candidate (map (λ c. c.now) seen.old.keys) (candidates_left candidates.entry)) }
+fn add_all<'a>(found: &mut SeenCandidates<'a>, candidates: Candidates<'a>) -> Result<(), AllocError>
+    requires { AreByKey found.old }
+    ensures seen { OnOk result (seen found.new ≡ insert_all same_candidate (seen found.old) (candidates_left candidates.entry)) }
+    ensures by_key { OnOk result (AreByKey found.new) }
 {
     for candidate in candidates {
-        seen.insert(candidate)?;
+        found.add(candidate)?;
     }
     Ok(())
 }
@@ -43,19 +43,19 @@ impl Sdp {
     ghost use Rattle.str0m_sdp.specs.DistinctCandidates.{distinct_left, IsEachOnce};
 
     /// Each candidate that the session or a section lists, once, in order of first appearance: those
-    /// of the session before those of the sections (RFC 8839, section 5.1). `AllocError` where memory
-    /// is refused.
+    /// of the session before those of the sections (RFC 8839, section 5.1). Time grows as that of a
+    /// sort, whatever they are. `AllocError` where memory is refused.
     pub fn ice_candidates(&self) -> Result<DistinctCandidates<'_>, AllocError>
         ensures distinct { IfOk result (λ candidates. distinct_left candidates ≡ distinct same_candidate (all_candidates self.now)) }
         ensures once { IfOk result (λ candidates. IsEachOnce (all_candidates self.now) (distinct_left candidates)) }
     {
-        let mut seen = IndexSet::new(*self.media_lines.allocator());
-        add_all(&mut seen, self.session.ice_candidates())?;
+        let mut found = SeenCandidates::new(*self.media_lines.allocator());
+        add_all(&mut found, self.session.ice_candidates())?;
         for line in self.media_lines.as_slice() {
-            add_all(&mut seen, line.ice_candidates())?;
+            add_all(&mut found, line.ice_candidates())?;
         }
         Ok(DistinctCandidates {
-            left: seen.into_iter(),
+            left: found.into_iter(),
         })
     }
 }

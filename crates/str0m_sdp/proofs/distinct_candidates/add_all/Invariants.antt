@@ -1,11 +1,13 @@
-use Rattle.std.proofs.Common.{◌≡◌, map}
+use Rattle.std.proofs.Common.{◌≡◌}
 use Rattle.indexmap.specs.IndexSet.{insert_all}
 use Rattle.str0m_sdp.specs.Candidates.{candidates_left, same_candidate}
+use Rattle.str0m_sdp.specs.SeenCandidates.{AreByKey, seen}
 use Rattle.str0m_sdp.proofs.distinct_candidates.add_all.Given as goal
 
--- what is there, with the candidates that are still to come
+-- what was seen, with the candidates that are still to come
 abbrev pub invariant-loop-candidate : goal.invariant-loop-candidate
 invariant-loop-candidate l =
     (goal.iterator-loop-candidate).can_next l.candidate-iterator
     × (goal.iterator-loop-candidate).is_finite l.candidate-iterator
-    × (insert_all same_candidate (map (λ c. c.now) l.seen.keys) (candidates_left l.candidate-iterator) ≡ insert_all same_candidate (map (λ c. c.now) l.initial.seen.keys) (candidates_left l.fn.candidates))
+    × (insert_all same_candidate (seen l.found) (candidates_left l.candidate-iterator) ≡ insert_all same_candidate (seen l.initial.found) (candidates_left l.fn.candidates))
+    × AreByKey l.found

@@ -2,13 +2,14 @@ use Rattle.std.proofs.Common.{sym, subst}
 use Rattle.std.specs.Cmp.{decided}
 use Rattle.str0m_sdp.specs.Candidates.{section_candidates, all_candidates, same_candidate}
 use Rattle.str0m_sdp.specs.DistinctCandidates.{IsEachOnce}
+use Rattle.str0m_sdp.specs.SeenCandidates.{seen}
 use Rattle.str0m_sdp.proofs.CandidateEqual.{candidate_Decides}
 use Rattle.str0m_sdp.proofs.DistinctLaws.{all_put, each_once}
 use Rattle.str0m_sdp.proofs.session.Sdp.ice_candidates.Goals as goal
 
 pub returns-clause-distinct : goal.returns-clause-distinct
 returns-clause-distinct c =
-    all_put same_candidate (decided same_candidate candidate_Decides) section_candidates _ c.loop-line.line-index c.loop-line.seen.keys _ (all_candidates c.args.self.now) c.loop-line-test.false c.into_iter.ensures.into_iter_gives.0 c.loop-line.invariant
+    all_put same_candidate (decided same_candidate candidate_Decides) section_candidates _ c.loop-line.line-index (seen c.loop-line.found) _ (all_candidates c.args.self.now) c.loop-line-test.false c.into_iter.ensures c.loop-line.invariant.0
 
 pub returns-clause-once : goal.returns-clause-once
 returns-clause-once c =

@@ -1,10 +1,12 @@
-use Rattle.std.proofs.Common.{◌≡◌, [], drop, map}
+use Rattle.std.proofs.Common.{◌≡◌, [], drop}
 use Rattle.std.specs.List.{flat_map}
 use Rattle.indexmap.specs.IndexSet.{insert_all}
 use Rattle.str0m_sdp.specs.Candidates.{section_candidates, all_candidates, same_candidate}
+use Rattle.str0m_sdp.specs.SeenCandidates.{AreByKey, seen}
 use Rattle.str0m_sdp.proofs.session.Sdp.ice_candidates.Given as goal
 
--- what is there, with the candidates of the sections that are still to come
+-- what was seen, with the candidates of the sections that are still to come
 abbrev pub invariant-loop-line : goal.invariant-loop-line
 invariant-loop-line l =
-    insert_all same_candidate (map (λ c. c.now) l.seen.keys) (flat_map section_candidates (drop l.line-index l.line-items)) ≡ insert_all same_candidate [] (all_candidates l.fn.self)
+    (insert_all same_candidate (seen l.found) (flat_map section_candidates (drop l.line-index l.line-items)) ≡ insert_all same_candidate [] (all_candidates l.fn.self))
+    × AreByKey l.found

@@ -1,0 +1,125 @@
+-- Keys of candidates tell apart what `==` of candidates does.
+use Rattle.std.proofs.Common.{◌≡◌, ◌&&◌, ◌||◌, ◌++◌, ℕ, Bool, true, false, cond, nat_eq, List, [], ◌∷◌, map, Option, None, Some, refl, sym, ap, ◌∙◌}
+use Rattle.std.specs.Prelude.{option_map}
+use Rattle.std.specs.Borrow.{Bor}
+use Rattle.std.specs.BTreeSet.{BTreeSet, Updates, contains}
+use Rattle.std.specs.Cmp.{decided}
+use Rattle.std.specs.List.{list_any}
+use Rattle.std.specs.Option.{option_eq}
+use Rattle.std.specs.Ordering.{is_eq}
+use Rattle.std.specs.Str.{bytes_eq}
+use Rattle.std.proofs.lemmas.List.{map-append}
+use Rattle.std.proofs.lemmas.List.Folds.{list_any-append}
+use denote.Enum.Bare.{sameb}
+use denote.Enum.Declared.{tag_of}
+use Rattle.str0m_values.specs.contracts.address.IpAddrPartialEq.TheImpl as ip
+use Rattle.str0m_values.specs.contracts.address.SocketAddrPartialEq.TheImpl as socket
+use Rattle.str0m_values.specs.contracts.candidate_kind.CandidateKind as kind
+use Rattle.str0m_values.specs.contracts.protocol.Protocol as protocol
+use Rattle.str0m_values.specs.contracts.protocol.TcpType as tcp_type
+use Rattle.str0m_values.specs.declared.address.IpAddr.{IpAddr}
+use Rattle.str0m_values.specs.declared.address.IpAddr.TheVariants.{V4, V6}
+use Rattle.str0m_values.specs.declared.address.SocketAddr.{SocketAddr}
+use Rattle.str0m_values.specs.declared.candidate.Candidate.{Candidate}
+use Rattle.str0m_values.specs.declared.candidate_kind.CandidateKind.{CandidateKind}
+use Rattle.str0m_values.specs.declared.candidate_kind.CandidateKind.TheVariants.{Host, PeerReflexive, ServerReflexive, Relayed}
+use Rattle.str0m_values.specs.declared.protocol.Protocol.{Protocol}
+use Rattle.str0m_values.specs.declared.protocol.Protocol.TheVariants.{Udp, Tcp, SslTcp, Tls}
+use Rattle.str0m_values.specs.declared.protocol.TcpType.{TcpType}
+use Rattle.str0m_values.specs.declared.protocol.TcpType.TheVariants.{Active, Passive, So}
+use Rattle.str0m_sdp.specs.CandidateKey.{IsKeyOf, address_part, ip_part, kind_part, protocol_part, type_part}
+use Rattle.str0m_sdp.specs.Candidates.{same_candidate}
+use Rattle.str0m_sdp.specs.contracts.candidate_key.CandidateKeyOrd.TheImpl as order
+use Rattle.str0m_sdp.specs.contracts.candidate_key.CandidateKeyOrd.TheImpl.Laws as laws
+use Rattle.str0m_sdp.specs.contracts.candidate_key.CandidateKeyPartialEq.TheImpl as key
+use Rattle.str0m_sdp.specs.contracts.candidate_key.IpPartPartialEq.TheImpl as part
+use Rattle.str0m_sdp.specs.declared.candidate_key.CandidateKey.{CandidateKey}
+use Rattle.str0m_sdp.specs.declared.candidate_key.IpPart.{IpPart}
+use Rattle.str0m_sdp.proofs.CandidateEqual.{candidate_Decides}
+
+-- ---- the parts
+
+ip_alike : (a b : IpAddr) → part.eq-value.it (ip_part a) (ip_part b) ≡ ip.eq-value.it a b
+ip_alike (V4 a) (V4 b) = refl
+ip_alike (V4 a) (V6 b) = refl
+ip_alike (V6 a) (V4 b) = refl
+ip_alike (V6 a) (V6 b) = refl
+
+abbrev same_address : IpPart × ℕ → IpPart × ℕ → Bool
+same_address a b = part.eq-value.it a.0 b.0 && nat_eq a.1 b.1
+
+address_alike : (a b : SocketAddr) → same_address (address_part a) (address_part b) ≡ socket.eq-value.it a b
+address_alike a b = ap (λ (same : Bool). same && nat_eq a.port b.port) (ip_alike a.ip b.ip)
+
+option_alike : {X Y : Type 0} (f : X → Y) (E : X → X → Bool) (F : Y → Y → Bool) → ((a b : X) → F (f a) (f b) ≡ E a b)
+    → (a b : Option X) → option_eq F (option_map f a) (option_map f b) ≡ option_eq E a b
+option_alike f E F alike None None = refl
+option_alike f E F alike None (Some b) = refl
+option_alike f E F alike (Some a) None = refl
+option_alike f E F alike (Some a) (Some b) = alike a b
+
+protocol_tag : (a : Protocol) → protocol_part a ≡ tag_of protocol.the_type a
+protocol_tag Udp = refl
+protocol_tag Tcp = refl
+protocol_tag SslTcp = refl
+protocol_tag Tls = refl
+
+kind_tag : (a : CandidateKind) → kind_part a ≡ tag_of kind.the_type a
+kind_tag Host = refl
+kind_tag PeerReflexive = refl
+kind_tag ServerReflexive = refl
+kind_tag Relayed = refl
+
+type_tag : (a : TcpType) → type_part a ≡ tag_of tcp_type.the_type a
+type_tag Active = refl
+type_tag Passive = refl
+type_tag So = refl
+
+type_alike : (a b : TcpType) → nat_eq (type_part a) (type_part b) ≡ sameb tcp_type.the_type a b
+type_alike a b = λ i. nat_eq (type_tag a i) (type_tag b i)
+
+-- ---- the keys
+
+-- they are equal where the candidates are
+equal_alike : (a b : Candidate) (x y : CandidateKey) → IsKeyOf a x → IsKeyOf b y → key.eq-value.it x y ≡ same_candidate a b
+equal_alike a b x y p q =
+    let proto : nat_eq x.proto y.proto ≡ sameb protocol.the_type a.proto b.proto =
+    (λ i. nat_eq (p.proto i) (q.proto i)) ∙ (λ i. nat_eq (protocol_tag a.proto i) (protocol_tag b.proto i)) in
+    let addr = (λ i. same_address (p.addr i) (q.addr i)) ∙ address_alike a.addr b.addr in
+    let kinds : nat_eq x.kind y.kind ≡ sameb kind.the_type a.kind b.kind =
+    (λ i. nat_eq (p.kind i) (q.kind i)) ∙ (λ i. nat_eq (kind_tag a.kind i) (kind_tag b.kind i)) in
+    let raddr = (λ i. option_eq same_address (p.raddr i) (q.raddr i)) ∙ option_alike address_part socket.eq-value.it same_address address_alike a.raddr b.raddr in
+    let tcptype = (λ i. option_eq nat_eq (p.tcptype i) (q.tcptype i)) ∙ option_alike type_part (sameb tcp_type.the_type) nat_eq type_alike a.tcptype b.tcptype in
+    let ufrag =
+    sym (option_alike (λ (t : Bor (List ℕ)). t.now) (λ s t. bytes_eq s.now t.now) bytes_eq (λ s t. refl) x.ufrag y.ufrag)
+    ∙ (λ i. option_eq bytes_eq (p.ufrag i) (q.ufrag i)) in
+    λ i. bytes_eq (p.foundation i) (q.foundation i) && (nat_eq (p.component_id i) (q.component_id i) && (proto i
+    && (nat_eq (p.prio i) (q.prio i) && (addr i && (kinds i && (raddr i && (tcptype i && ufrag i)))))))
+
+-- and stand at one place of the order there
+pub key_alike : (a b : Candidate) (x y : CandidateKey) → IsKeyOf a x → IsKeyOf b y → is_eq (order.cmp-value.it x y) ≡ same_candidate a b
+key_alike a b x y p q = sym (laws.matches_eq-law x y) ∙ equal_alike a b x y p q
+
+-- ---- one more of them
+
+either_last : (s t : Bool) → cond s true t ≡ (t || (s || false))
+either_last true true = refl
+either_last true false = refl
+either_last false true = refl
+either_last false false = refl
+
+-- a candidate behind those that were seen, and its key among theirs
+pub seen_more : (old new : BTreeSet CandidateKey) (once pushed : List (Bor Candidate)) (c : Bor Candidate) (k : CandidateKey)
+    → IsKeyOf c.now k → Updates order.cmp-value.it old new k true → pushed ≡ once ++ c ∷ []
+    → ((d : Candidate) (q : CandidateKey) → IsKeyOf d q → contains order.cmp-value.it old q ≡ list_any (same_candidate d) (map (λ x. x.now) once))
+    → (d : Candidate) (q : CandidateKey) → IsKeyOf d q → contains order.cmp-value.it new q ≡ list_any (same_candidate d) (map (λ x. x.now) pushed)
+seen_more old new once pushed c k is more last seen d q of =
+    let cs = map (λ (x : Bor Candidate). x.now) once in
+    more.0 q
+    ∙ ap (λ (b : Bool). cond b true (contains order.cmp-value.it old q)) (key_alike c.now d k q is of)
+    ∙ ap (λ (b : Bool). cond (same_candidate c.now d) true b) (seen d q of)
+    ∙ ap (λ (b : Bool). cond b true (list_any (same_candidate d) cs)) ((decided same_candidate candidate_Decides).symm c.now d)
+    ∙ either_last (same_candidate d c.now) (list_any (same_candidate d) cs)
+    ∙ sym (ap (λ (xs : List (Bor Candidate)). list_any (same_candidate d) (map (λ x. x.now) xs)) last
+    ∙ ap (λ (xs : List Candidate). list_any (same_candidate d) xs) (map-append (λ (x : Bor Candidate). x.now) once (c ∷ []))
+    ∙ list_any-append (same_candidate d) cs (c.now ∷ []))
