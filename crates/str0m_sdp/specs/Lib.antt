@@ -14,7 +14,6 @@ pub mod Feedback
 pub mod Fmtp
 pub mod FmtpLines
 pub mod Group
-pub mod KnownFormats
 pub mod Lines
 pub mod Lists
 pub mod Mappings
@@ -46,4 +45,5 @@ pub mod SsrcGroup
 pub mod SsrcInfo
 pub mod SsrcReading
 pub mod Transport
+pub mod TypeLines
 pub mod TypeWords

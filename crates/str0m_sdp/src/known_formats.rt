@@ -1,22 +1,24 @@
 //! What the fmtp lines of a payload type say of a codec, made once where the section says much in them.
-ghost use Rattle.std.specs.Prelude.{◌≡◌, All, IfOk, IfSome, List};
+ghost use Rattle.std.specs.Prelude.{◌≡◌, ℕ, IfOk, List};
 ghost use Rattle.str0m_formats.specs.FormatLine.{format_of_fmtp, line_values};
 ghost use Rattle.str0m_sdp.specs.FmtpLines.{lines_with};
-ghost use Rattle.str0m_sdp.specs.KnownFormats.{IsKnown};
 ghost use Rattle.str0m_sdp.specs.SectionRows.{lines_of};
+ghost use Rattle.str0m_sdp.specs.TypeLines.{AreKnown};
 ghost use Rattle.str0m_sdp.specs.declared.attribute.MediaAttribute.{MediaAttribute};
 
 use crate::fmtp_lines::find_lines;
-use std::alloc::AllocError;
+use crate::type_lines::{TypeLines, grouped};
+use crate::type_tables::place;
+use std::alloc::{AllocError, Global};
 use str0m_formats::{Codec, FormatParam, FormatParams};
 use str0m_values::Pt;
 
 /// As many lines and values, together, as are gone over for each type anew: that takes no longer than to look up what is known.
 const FEW: usize = 128;
 
-/// Whether the lines, with their values, are so few. Where they aren't, and one type is mapped time after time, all of them would be
-/// gone over as often.
-pub(crate) fn are_few(lines: &[(u8, &[FormatParam])]) -> bool {
+/// Whether the lines, with their values, are so few. Where they aren't, and many types are mapped, or one time after time, all of
+/// them would be gone over as often.
+fn are_few(lines: &[(u8, &[FormatParam])]) -> bool {
     let mut left = FEW;
     for (_, values) in lines {
         match left.checked_sub(1 + values.len()) {
@@ -27,28 +29,20 @@ pub(crate) fn are_few(lines: &[(u8, &[FormatParam])]) -> bool {
     true
 }
 
-/// What the fmtp lines of a type say of a codec; none where they are refused.
-#[derive(Clone, Copy)]
-pub(crate) struct KnownFormat {
-    pt: Pt,
-    codec: Codec,
-    format: Option<FormatParams>,
-}
-
-#[tactic(auto, unfolding(crate::specs::KnownFormats::IsKnown))]
-fn known_format(known: &[KnownFormat], pt: Pt, codec: Codec) -> Option<Option<FormatParams>>
-    ensures { (attrs : List MediaAttribute) → All (IsKnown attrs) known.now →
-        IfSome result (λ format. format ≡ format_of_fmtp codec (lines_of attrs pt)) }
+/// The lines by type, where they aren't few; else no groups, which takes no memory.
+pub(crate) fn groups_of<'a>(
+    alloc: Global,
+    lines: &[(u8, &'a [FormatParam])],
+) -> Result<Vec<TypeLines<'a>>, AllocError>
+    ensures { (attrs : List MediaAttribute) → ((pt : ℕ) → line_values (lines_with pt lines.now) ≡ lines_of attrs pt) → IfOk result (λ groups. AreKnown attrs groups.items) }
 {
-    for it in known {
-        if it.pt == pt && it.codec == codec {
-            return Some(it.format);
-        }
+    if are_few(lines) {
+        return Ok(Vec::new(alloc));
     }
-    None
+    grouped(alloc, lines)
 }
 
-/// What the lines of the type say of the codec.
+/// What the lines of the type say of the codec, where all are gone over.
 fn format_said<'a>(
     found: &mut Vec<&'a [FormatParam]>,
     lines: &[(u8, &'a [FormatParam])],
@@ -61,44 +55,23 @@ fn format_said<'a>(
     Ok(FormatParams::from_sdp_fmtp(codec, found.as_slice()))
 }
 
-/// What the lines of the type say of the codec, which joins what is known.
-#[tactic(auto, unfolding(crate::specs::KnownFormats::IsKnown))]
-fn learnt<'a>(
-    known: &mut Vec<KnownFormat>,
-    found: &mut Vec<&'a [FormatParam]>,
-    lines: &[(u8, &'a [FormatParam])],
-    pt: Pt,
-    codec: Codec,
-) -> Result<Option<FormatParams>, AllocError>
-    ensures format { IfOk result (λ format. format ≡ format_of_fmtp codec (line_values (lines_with pt lines.now))) }
-    ensures known { (attrs : List MediaAttribute) → All (IsKnown attrs) known.old.items → line_values (lines_with pt lines.now) ≡ lines_of attrs pt →
-        All (IsKnown attrs) known.new.items }
-{
-    let format = format_said(found, lines, pt, codec)?;
-    known.push(KnownFormat { pt, codec, format })?;
-    Ok(format)
-}
-
-/// What the fmtp lines of the type say of the codec, where these are the lines of the section. Where they aren't few, it is
-/// looked up among what is known, and joins it. What was found before makes room for what is found now.
+/// What the fmtp lines of the type say of the codec, where these are the lines of the section. Where they aren't few, the groups
+/// of all types tell it. What was found before makes room for what is found now.
 pub(crate) fn format_of<'a>(
-    known: &mut Vec<KnownFormat>,
+    groups: &mut Vec<TypeLines<'a>>,
     found: &mut Vec<&'a [FormatParam]>,
     lines: &[(u8, &'a [FormatParam])],
-    are_few: bool,
     pt: Pt,
     codec: Codec,
 ) -> Result<Option<FormatParams>, AllocError>
-    ensures format { (attrs : List MediaAttribute) → All (IsKnown attrs) known.old.items → line_values (lines_with pt lines.now) ≡ lines_of attrs pt →
+    ensures format { (attrs : List MediaAttribute) → AreKnown attrs groups.old.items → line_values (lines_with pt lines.now) ≡ lines_of attrs pt →
         IfOk result (λ format. format ≡ format_of_fmtp codec (lines_of attrs pt)) }
-    ensures known { (attrs : List MediaAttribute) → All (IsKnown attrs) known.old.items → line_values (lines_with pt lines.now) ≡ lines_of attrs pt →
-        All (IsKnown attrs) known.new.items }
+    ensures known { (attrs : List MediaAttribute) → AreKnown attrs groups.old.items → AreKnown attrs groups.new.items }
 {
-    if are_few {
-        return format_said(found, lines, pt, codec);
-    }
-    match known_format(known.as_slice(), pt, codec) {
-        Some(format) => Ok(format),
-        None => learnt(known, found, lines, pt, codec),
+    let place = place(pt);
+    if place < groups.len() {
+        groups[place].format_of(codec)
+    } else {
+        format_said(found, lines, pt, codec)
     }
 }

@@ -46,6 +46,7 @@ mod sources;
 mod ssrc_group;
 mod ssrc_info;
 mod transport;
+mod type_lines;
 mod type_tables;
 mod word;
 

@@ -13,7 +13,7 @@ ghost use Rattle.str0m_sdp.specs.declared.media_line.MediaLine.{MediaLine};
 use crate::attribute::MediaAttribute;
 use crate::companions::note_line;
 use crate::feedback::{Feedback, note_feedback};
-use crate::known_formats::{are_few, format_of};
+use crate::known_formats::{format_of, groups_of};
 use crate::mappings::types_of;
 use crate::media_line::MediaLine;
 use crate::type_tables::{TYPES, place, types_in};
@@ -149,14 +149,13 @@ impl MediaLine {
             feedback: [Feedback::none(); TYPES],
         };
         let lines = words.gather(alloc, self.attrs.as_slice(), types)?;
-        let are_few = are_few(lines.as_slice());
-        let mut known = Vec::new(alloc);
+        let mut groups = groups_of(alloc, lines.as_slice())?;
         let mut found = Vec::new(alloc);
         let mut rows = Vec::with_capacity(alloc, types.len())?;
         for (pt, spec) in types {
             if words.is_kept(*pt, *spec) {
                 let lines = lines.as_slice();
-                let format = format_of(&mut known, &mut found, lines, are_few, *pt, spec.codec)?;
+                let format = format_of(&mut groups, &mut found, lines, *pt, spec.codec)?;
                 words.push_row(&mut rows, format, *pt, *spec)?;
             }
         }

@@ -1,4 +1,4 @@
-use Rattle.std.proofs.Common.{◌++◌, ◌==◌, ℕ, List, replicate, filter, filter_map, option_to_list, refl, sym, ap, ◌∙◌}
+use Rattle.std.proofs.Common.{◌++◌, ◌==◌, ℕ, List, replicate, filter, filter_map, option_to_list, refl, rules, tests, sym, ap, ◌∙◌}
 use Rattle.std.specs.Borrow.{Bor}
 use Rattle.std.specs.List.{list_any}
 use Rattle.std.proofs.lemmas.List.{take_all}
@@ -20,6 +20,14 @@ use Rattle.str0m_sdp.proofs.media_line.MediaLine.rows_of.Goals as goal
 pub gather-requires : goal.gather-requires
 gather-requires c = nothing_gathered c.args.types.now _ refl refl (ap (λ (f : Feedback). replicate 256 f) c.none.ensures)
 
+pub loop-pt-init : goal.loop-pt-init
+loop-pt-init c =
+    let m = c.args.self.now in
+    let all = rw (c.as_slice-2.ensures, c.requires) at c.in_ok-lines.ensures.words in (
+      c.in_ok-groups.ensures m.attrs (λ pt. ap (λ (ls : List (ℕ × Bor (List FormatParam))). line_values (lines_with pt ls)) c.as_slice-3.ensures.value ∙ all.gathered pt),
+      search (rules, tests),
+    )
+
 pub loop-pt-preserved : goal.loop-pt-preserved
 loop-pt-preserved c =
     let m = c.args.self.now in
@@ -37,7 +45,7 @@ loop-pt-preserved c =
           let own =
           ap (λ (ls : List (ℕ × Bor (List FormatParam))). line_values (lines_with pt ls)) w.as_slice-lines.ensures.value
           ∙ all.gathered pt in (
-            rw w.known-is (w.in_ok-format.ensures.known m.attrs known own),
+            rw w.groups-is (w.in_ok-format.ensures.known m.attrs known),
             rw w.rows-is (
                 w.in_ok-push_row.ensures m say (w.in_ok-format.ensures.format m.attrs known own)
                 ∙ ap (λ (rows : List PayloadParams). rows ++ option_to_list (row m item)) c.loop-pt.invariant.1
@@ -45,7 +53,7 @@ loop-pt-preserved c =
                 ),
           )
       | else-is_kept w ↦ (
-        rw w.known-is known,
+        rw w.groups-is known,
         rw w.rows-is (
             c.loop-pt.invariant.1
             ∙ sym (left_out (is_kept m) (row m) types i item c.loop-pt-test.true c.loop-pt-item.is (sym (c.is_kept.ensures m say) ∙ w.if-is_kept.false))

@@ -1,0 +1,11 @@
+use Rattle.std.proofs.Common.{rules, ap, sym, ◌∙◌}
+use denote.Enum.Bare.{same_true}
+use Rattle.str0m_formats.specs.FormatLine.{format_of_fmtp}
+use Rattle.str0m_formats.specs.contracts.codec.Codec.{the_type}
+use Rattle.str0m_sdp.specs.TypeLines.{IsKnown}
+use Rattle.str0m_sdp.proofs.type_lines.known_format.Goals as goal
+
+pub returns-then-eq : goal.returns-then-eq
+unfolding IsKnown
+returns-then-eq c = λ lines all.
+    all c.loop-it.it-index _ c.loop-it-test.true ∙ ap (λ codec. format_of_fmtp codec lines) (same_true the_type (search rules) _ _ (sym c.if-eq.ensures))
