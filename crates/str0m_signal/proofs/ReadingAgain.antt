@@ -3,7 +3,6 @@ use Rattle.std.proofs.Common.{◌≡◌, ℕ, zero, suc, not, List, [], ◌∷�
 use Rattle.std.proofs.Common.{IfSome, refl, subst, inl, inr}
 use Rattle.std.specs.Prelude.{codes}
 use Rattle.std.specs.List.{AllByRecursion, slice_get}
-use Rattle.std.specs.Str.{IsUtf8}
 use Rattle.std.proofs.lemmas.Bool.{cases_Bool}
 use Rattle.str0m_values.proofs.BothWays.{some_is}
 use Rattle.str0m_sdp.specs.Attribute.{session_attribute_text}
@@ -17,11 +16,11 @@ use Rattle.str0m_sdp.specs.declared.session.Sdp.{Sdp}
 use Rattle.str0m_signal.specs.Chains.{Chain}
 use Rattle.str0m_signal.specs.Lines.{Line}
 use Rattle.str0m_signal.specs.MediaAttribute.{IsMediaLine}
-use Rattle.str0m_signal.specs.Reading.{Reading, IsReading, ConsistentSection}
+use Rattle.str0m_signal.specs.Reading.{IsReading, ConsistentSection}
 use Rattle.str0m_signal.specs.Header.{IsExactly, IsOrigin, IsInfo}
 use Rattle.str0m_signal.specs.SessionAttribute.{IsSessionLine}
 use Rattle.str0m_signal.specs.Section.{IsField, IsHead, IsBandwidth}
-use Rattle.str0m_signal.specs.WrittenAgain.{FitsKind, FitsAgain, SectionFitsAgain, MayBeWrittenAgain}
+use Rattle.str0m_signal.specs.WrittenAgain.{FitsKind, FitsAgain, SectionFitsAgain, MayBeWrittenAgain, IsOverSrtp, IsRead}
 use Rattle.str0m_signal.specs.Writable.{AreReadAs, SessionGoesWith, IsReadAs, IsFrame, Writable, frame_of}
 use Rattle.str0m_signal.proofs.AttributesAgain.{ComesBack, media_again}
 use Rattle.str0m_signal.proofs.CharacterStarts.{StartsWithin, of_utf8}
@@ -136,10 +135,8 @@ at_place P (y ∷ ys) all zero x e = subst P (some_is y x e) all.0
 at_place P (y ∷ ys) all (suc j) x e = at_place P ys all.1 j x e
 
 -- a session that was read is writable at each section over Srtp
-pub written_again : (text rest : List ℕ) (sdp : Sdp) (i : ℕ) (m : MediaLine) → IsUtf8 text → Reading text (sdp, rest)
-    → MayBeWrittenAgain sdp
-    → slice_get sdp.media_lines i ≡ Some m → m.proto ≡ Srtp → Writable sdp i
-written_again text rest sdp i m utf8 (lines, behind, (whole, are), reading, left) may at over =
+pub read_is_writable : (sdp : Sdp) (i : ℕ) → IsRead sdp → MayBeWrittenAgain sdp → IsOverSrtp sdp i → Writable sdp i
+read_is_writable sdp i (text, rest, utf8, (lines, behind, (whole, are), reading, left)) may (m, at, over) =
     let was = session_was_read lines sdp behind (are, subst (StartsWithin 3) whole (of_utf8 text utf8)) reading in
     let fits : (j : ℕ) (x : MediaLine) → slice_get sdp.media_lines j ≡ Some x → SectionFitsAgain x
     = λ j x e. at_place SectionFitsAgain sdp.media_lines may j x e in

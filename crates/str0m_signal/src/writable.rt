@@ -72,11 +72,13 @@ fn surroundings_come_back(sdp: &Sdp, section: usize) -> Result<bool, AllocError>
 ///
 /// It is `true` of a session that was read of a text, at each section over Srtp, where each application
 /// section is on Sctp, each other one has payload types, and no rid has a restriction of the key `pt`,
-/// which would be read as its list of payload types.
+/// which would be read as its list of payload types. Rows printed there come back even where this
+/// call answers that memory was refused.
 ///
 /// The only error is that memory was refused. Nothing is changed.
 pub fn is_writable(sdp: &Sdp, section: usize) -> Result<bool, AllocError>
     ensures exact { IfOk result (λ answer. IsTrue answer ↔ Writable sdp.now section) }
+    ensures read_is_writable { IsRead sdp.now → MayBeWrittenAgain sdp.now → IsOverSrtp sdp.now section → Writable sdp.now section }
     ensures of_reading { IfOk result (λ answer. IsRead sdp.now → MayBeWrittenAgain sdp.now → IsOverSrtp sdp.now section → IsTrue answer) }
     ensures read_back { result ≡ Ok true → (rows : List PayloadParams) → MayBePrinted rows → ReadsBack sdp.now section rows }
 {

@@ -3,16 +3,19 @@ use Rattle.std.specs.Prelude.{◌↔◌, IsTrue}
 use Rattle.std.proofs.lemmas.Result.{IfOk-weaker}
 use Rattle.str0m_signal.specs.Writable.{Writable}
 use Rattle.str0m_signal.specs.WrittenAgain.{IsOverSrtp, IsRead, MayBeWrittenAgain}
-use Rattle.str0m_signal.proofs.ReadingAgain.{written_again}
+use Rattle.str0m_signal.proofs.ReadingAgain.{read_is_writable}
 use Rattle.str0m_signal.proofs.RowsReadBack.{reads_back}
 use Rattle.str0m_signal.proofs.writable.is_writable.Goals as goal
+
+pub returns-clause-read_is_writable : goal.returns-clause-read_is_writable
+returns-clause-read_is_writable c = read_is_writable c.args.sdp.now c.args.section
 
 pub returns-clause-of_reading : goal.returns-clause-of_reading
 returns-clause-of_reading c =
     let sdp = c.args.sdp.now in
     let i = c.args.section in
     let is : (answer : Bool) → (IsTrue answer ↔ Writable sdp i) → IsRead sdp → MayBeWrittenAgain sdp → IsOverSrtp sdp i → IsTrue answer
-    = λ answer exact read may at. exact.1 (written_again read.0 read.1 sdp i at.0 read.2 read.3 may at.1 at.2) in
+    = λ answer exact read may at. exact.1 (read_is_writable sdp i read may at) in
     IfOk-weaker _ _ _ is c.surroundings_come_back.ensures
 
 pub returns-clause-read_back : goal.returns-clause-read_back
