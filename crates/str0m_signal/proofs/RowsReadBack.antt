@@ -15,7 +15,9 @@ use Rattle.str0m_sdp.proofs.ReadSection.{Describes}
 use Rattle.str0m_sdp.proofs.ReadValues.{values_printed, describes_read_back}
 use Rattle.str0m_signal.specs.ReadBack.{ReadBack, MayBePrinted, ReadsBack}
 use Rattle.str0m_signal.specs.Writable.{Writable}
+use Rattle.str0m_signal.specs.WrittenAgain.{IsOverSrtp, IsRead, MayBeWrittenAgain}
 use Rattle.str0m_signal.proofs.PlainRows.{types_fit, plain_rows_read}
+use Rattle.str0m_signal.proofs.ReadingAgain.{read_is_writable}
 use Rattle.str0m_signal.proofs.WithRows.{section_read, ReadWithRows, with_rows_read}
 
 of_section : (sdp : Sdp) (i : ℕ) (w : Writable sdp i) (theirs : List PayloadParams) → sdp.session.id < 2 ^ 64
@@ -48,6 +50,11 @@ reads_back sdp i w theirs may = λ frame at media fit.
     let same : w.section ≡ frame = same_Some w.section frame (sym w.at ∙ at) in
     subst (λ (m : MediaLine). ReadBack sdp i m theirs) same
     (of_section sdp i w theirs fit.0 (subst (λ (m : MediaLine). is_media m.typ ≡ true) (sym same) media) may fit.1)
+
+-- so are they in each section over Srtp of every session that was read
+pub back_in_readings : (theirs : List PayloadParams) → MayBePrinted theirs → (sdp : Sdp) (i : ℕ) → IsRead sdp → MayBeWrittenAgain sdp
+    → IsOverSrtp sdp i → ReadsBack sdp i theirs
+back_in_readings theirs may sdp i read fits at = reads_back sdp i (read_is_writable sdp i read fits at) theirs may
 
 some_left : (before after : List PayloadParams) → length after ≡ length before → before ≢ [] → after ≢ []
 some_left [] after e some = absurd (some refl)

@@ -11,6 +11,7 @@ ghost use Rattle.str0m_sdp.specs.declared.session.Sdp.{Sdp};
 ghost use Rattle.str0m_signal.specs.ReadBack.{MayBePrinted, ReadsBack};
 ghost use Rattle.str0m_signal.specs.Reading.{Described};
 ghost use Rattle.str0m_signal.specs.Writable.{Writable};
+ghost use Rattle.str0m_signal.specs.WrittenAgain.{IsOverSrtp, IsRead, MayBeWrittenAgain};
 
 use crate::offer::described;
 use std::alloc::{AllocError, Global};
@@ -66,7 +67,9 @@ fn negotiate(
 ///
 /// Whatever the text holds, payload types that were distinct stay distinct, and rows that were plain,
 /// `PayloadParams::is_plain`, stay plain. So the rows that are left, where there is one, printed in any
-/// section of audio or video that is writable (`is_writable`), are read back, in order.
+/// section of audio or video that is writable (`is_writable`), are read back, in order. In a session that
+/// was read of a text they are read back in each such section over Srtp, with no call of `is_writable`,
+/// which says what such a session must not hold.
 ///
 /// # Errors
 ///
@@ -89,6 +92,10 @@ pub fn negotiate_text(
 
     // So they are read back: the rows that are left, printed in any session that is writable, at any place.
     ensures read_back { MayBePrinted config.old.params.items → (sdp : Sdp) (i : ℕ) → Writable sdp i → ReadsBack sdp i config.new.params.items }
+
+    // And so in every session that was read, in each section over Srtp: `is_writable` needn't be asked.
+    ensures back_in_readings { MayBePrinted config.old.params.items → (sdp : Sdp) (i : ℕ) → IsRead sdp → MayBeWrittenAgain sdp
+        → IsOverSrtp sdp i → ReadsBack sdp i config.new.params.items }
 {
     let sdp = described(*config.allocator(), text)?;
     Ok(negotiate(config, sdp.media_lines.as_slice())?)

@@ -1,4 +1,4 @@
-use Rattle.str0m_signal.proofs.RowsReadBack.{reads_back}
+use Rattle.str0m_signal.proofs.RowsReadBack.{reads_back, back_in_readings}
 use Rattle.str0m_signal.proofs.negotiation.negotiate_text.Goals as goal
 
 pub returns-clause-plain : goal.returns-clause-plain
@@ -17,3 +17,14 @@ returns-in_err-negotiate-clause-read_back c = λ may sdp i writable.
 
 pub returns-in_err-sdp-clause-read_back : goal.returns-in_err-sdp-clause-read_back
 returns-in_err-sdp-clause-read_back c = λ may sdp i writable. reads_back sdp i writable _ may
+
+pub returns-clause-back_in_readings : goal.returns-clause-back_in_readings
+returns-clause-back_in_readings c = λ may.
+    back_in_readings _ (c.negotiate.ensures.printable (rw c.as_slice.ensures c.in_ok-sdp.ensures.bounded) may)
+
+pub returns-in_err-negotiate-clause-back_in_readings : goal.returns-in_err-negotiate-clause-back_in_readings
+returns-in_err-negotiate-clause-back_in_readings c = λ may.
+    back_in_readings _ (c.negotiate.ensures.printable (rw c.as_slice.ensures c.in_ok-sdp.ensures.bounded) may)
+
+pub returns-in_err-sdp-clause-back_in_readings : goal.returns-in_err-sdp-clause-back_in_readings
+returns-in_err-sdp-clause-back_in_readings c = λ may. back_in_readings _ may
