@@ -5,7 +5,7 @@ use Rattle.str0m_sdp.specs.declared.error.SdpError.{SdpError}
 use Rattle.str0m_sdp.specs.declared.error.SdpError.TheVariants.{ParseError, Inconsistent, Memory}
 use Rattle.str0m_signal.specs.Answers.{Refuses}
 use Rattle.str0m_signal.specs.Reading.{Described}
-use Rattle.show.specs.Faults.{IsNoText, IsFaultOfInput, IsFaultOf}
+use Rattle.show.specs.Faults.{IsNoText, IsFaultOfReading, IsFaultOfInput, IsFaultOf}
 use Rattle.show.specs.Show.{Describes}
 use Rattle.show.specs.declared.fault.Fault.{Fault}
 use Rattle.show.specs.declared.fault.Fault.TheVariants.{Refused, NotUtf8, Unreadable, Unwritable}
@@ -14,6 +14,13 @@ use Rattle.show.specs.declared.fault.Fault.TheVariants.{Refused, NotUtf8, Unread
 pub no_text : (held : Option (List ℕ)) (bytes : List ℕ) → IfSome held (λ known. bytes ≡ known) → (IsUtf8 bytes → ⊥) → IsNoText held
 no_text None bytes is none = tt
 no_text (Some known) bytes is none = subst (λ (b : List ℕ). IsUtf8 b → ⊥) is none
+
+-- what is wrong while bytes are read is wrong with the input
+pub of_reading : (held : Option (List ℕ)) (fault : Fault) → IsFaultOfReading fault → IsFaultOfInput held fault
+of_reading held (Refused refusal) is = is
+of_reading held NotUtf8 is = absurd is
+of_reading held Unreadable is = tt
+of_reading held Unwritable is = absurd is
 
 pub of_input : (held : Option (List ℕ)) (fault : Fault) → IsFaultOfInput held fault → IsFaultOf held fault
 of_input held (Refused (ParseError message)) is = absurd is

@@ -34,6 +34,13 @@ IsWantOfMemory (ParseError message) = ⊥
 IsWantOfMemory (Inconsistent message) = ⊥
 IsWantOfMemory Memory = Unit {0}
 
+-- what may be wrong while bytes are read, whatever they are
+abbrev pub IsFaultOfReading : Fault → Type 0
+IsFaultOfReading (Refused refusal) = IsWantOfMemory refusal
+IsFaultOfReading NotUtf8 = ⊥
+IsFaultOfReading Unreadable = Unit {0}
+IsFaultOfReading Unwritable = ⊥
+
 -- what may be wrong with the input itself
 abbrev pub IsFaultOfInput : Option (List ℕ) → Fault → Type 0
 IsFaultOfInput held (Refused refusal) = IsWantOfMemory refusal

@@ -2,13 +2,14 @@
 ghost use Rattle.std.specs.Prelude.{◌≡◌, ◌↔◌, ◌⊎◌, ℕ, List, None, IfErr, IfOk, IfSome, OnOk, OnErr, map};
 ghost use Rattle.std.specs.String.{string_bytes};
 ghost use Rattle.std.specs.Io.KnownBytes.{Appends, IsAtEnd};
+ghost use Rattle.std.specs.Str.{IsUtf8};
 ghost use Rattle.str0m_sdp.specs.Session.{sdp_text};
 ghost use Rattle.str0m_signal.specs.Answers.{Refuses};
 ghost use Rattle.str0m_signal.specs.Reading.{Described};
-ghost use Rattle.show.specs.Faults.{fault_line, usage_line, IsFaultOf, IsFaultOfInput};
+ghost use Rattle.show.specs.Faults.{fault_line, usage_line, IsFaultOf, IsFaultOfInput, IsFaultOfReading};
 ghost use Rattle.show.specs.RowLines.{rows_text};
 ghost use Rattle.show.specs.Show.{asked, asked_by, Prints, PrintsBy, Shows, ShowsAsked, Describes};
-ghost use Rattle.show.specs.declared.fault.Fault.TheVariants.{Unwritable};
+ghost use Rattle.show.specs.declared.fault.Fault.TheVariants.{NotUtf8, Unwritable};
 
 use crate::fault::Fault;
 use crate::negotiation_lines::negotiation_text;
@@ -86,12 +87,11 @@ fn asked(words: &[String]) -> Option<Shown>
     }
 }
 
-/// All that the reader holds.
-#[tactic(auto, using(crate::proofs::Faults::no_text))]
-fn whole_text<R: Read>(alloc: Global, input: &mut R) -> Result<String, Fault>
-    ensures whole { IfOk result (λ text. IfSome (R.remaining input.old) (λ held. string_bytes text ≡ held)) }
+/// All bytes that the reader holds.
+fn whole_bytes<R: Read>(alloc: Global, input: &mut R) -> Result<Vec<u8>, Fault>
+    ensures whole { IfOk result (λ bytes. IfSome (R.remaining input.old) (λ held. bytes.items ≡ held)) }
     ensures end { OnOk result (IsAtEnd (R.remaining input.new)) }
-    ensures fault { IfErr result (IsFaultOfInput (R.remaining input.old)) }
+    ensures fault { IfErr result IsFaultOfReading }
 {
     let mut bytes = Vec::new(alloc);
     if let Err(error) = input.read_to_end(&mut bytes) {
@@ -100,10 +100,28 @@ fn whole_text<R: Read>(alloc: Global, input: &mut R) -> Result<String, Fault>
             _ => Err(Fault::Unreadable),
         };
     }
+    Ok(bytes)
+}
+
+/// What was read, as a text: the only fault is that it is none.
+fn text_of(bytes: Vec<u8>) -> Result<String, Fault>
+    ensures text { IfOk result (λ text. string_bytes text ≡ bytes.items) }
+    ensures fault { IfErr result (λ fault. (fault ≡ NotUtf8) × (IsUtf8 bytes.items → ⊥)) }
+{
     match String::from_utf8(bytes) {
         Ok(text) => Ok(text),
         Err(_) => Err(Fault::NotUtf8),
     }
+}
+
+/// All that the reader holds.
+#[tactic(auto, using(crate::proofs::Faults::of_reading, crate::proofs::Faults::no_text))]
+fn whole_text<R: Read>(alloc: Global, input: &mut R) -> Result<String, Fault>
+    ensures whole { IfOk result (λ text. IfSome (R.remaining input.old) (λ held. string_bytes text ≡ held)) }
+    ensures end { OnOk result (IsAtEnd (R.remaining input.new)) }
+    ensures fault { IfErr result (IsFaultOfInput (R.remaining input.old)) }
+{
+    text_of(whole_bytes(alloc, input)?)
 }
 
 fn offer_text(alloc: Global, text: &str) -> Result<String, SdpError>
