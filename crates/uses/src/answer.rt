@@ -5,6 +5,7 @@ ghost use Rattle.std.specs.List.{slice_get};
 ghost use Rattle.std.specs.String.{string_bytes};
 ghost use Rattle.str0m_sdp.specs.SectionOf.{made};
 ghost use Rattle.str0m_sdp.specs.Session.{sdp_text};
+ghost use Rattle.str0m_sdp.specs.declared.error.SdpError.TheVariants.{Memory};
 ghost use Rattle.str0m_sdp.specs.declared.media_line.MediaLine.{MediaLine};
 ghost use Rattle.str0m_formats.specs.Runs.{Outcome};
 ghost use Rattle.str0m_signal.specs.Answers.{Refuses};
@@ -114,9 +115,12 @@ fn locked_section(
 /// The other side reads the answer to its end, and finds these rows in that section, in order, where
 /// the rows of the configuration were plain and distinct.
 ///
+/// Of the configuration nothing but its rows changes.
+///
 /// # Errors
 ///
-/// `ParseError` where the offer's text describes no session; `Memory` where memory was refused.
+/// `ParseError` where the offer's text describes no session: nothing has changed then. `Memory` where
+/// memory was refused, before the rounds or behind them.
 pub fn answer_section(
     config: &mut CodecConfig,
     offer: &str,
@@ -126,6 +130,8 @@ pub fn answer_section(
     ensures negotiated { IfOk result (λ answer. (outcomes : List Outcome)
         × NegotiatedText offer.now config.old.params.items outcomes config.new.params.items) }
     ensures refused { IfErr result (λ error. Refuses error (Described offer.now)) }
+    ensures err { IfErr result (λ error. error ≢ Memory → config.new ≡ config.old) }
+    ensures else_same { config.new ≡ record config.old { params = config.new.params } }
     ensures printable { MayBePrinted config.old.params.items → MayBePrinted config.new.params.items }
     ensures text { IfOk result (λ answer. IfSome answer (λ text.
         (frame : MediaLine) × (slice_get own.media_lines at ≡ Some frame)

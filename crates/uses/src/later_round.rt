@@ -26,7 +26,7 @@ fn first_refusal(outcomes: &[Result<(), NegotiationError>]) -> Option<Negotiatio
 
 /// Negotiates with a later offer. `Ok` where every round was accepted; else the error is the first
 /// refusal, and what the other rounds agreed on stays agreed. Whatever is answered, rows that were
-/// locked stay locked and keep their types, whatever the offer asks for.
+/// locked stay locked and keep their types, whatever the offer asks for, and nothing but rows changes.
 ///
 /// # Errors
 ///
@@ -35,6 +35,7 @@ fn first_refusal(outcomes: &[Result<(), NegotiationError>]) -> Option<Negotiatio
 /// refused, which may be want of memory.
 pub fn negotiate_again(config: &mut CodecConfig, offer: &str) -> Result<(), CallError>
     ensures outcome { ComesTo offer.now config.old.params.items result config.new.params.items }
+    ensures else_same { config.new ≡ record config.old { params = config.new.params } }
     ensures stay { LockedStay config.old.params.items config.new.params.items }
     ensures printable { MayBePrinted config.old.params.items → MayBePrinted config.new.params.items }
 {
