@@ -2,16 +2,16 @@
 //! clauses of the libraries alone: there is no file of proofs here.
 #![tactic(auto)]
 
-mod agreed_codecs;
 mod answer;
+mod both_sides;
 mod call_error;
 mod later_round;
 mod offered;
 mod own_section;
 mod stored;
 
-pub use agreed_codecs::agreed_codecs;
 pub use answer::answer_section;
+pub use both_sides::agreed_codecs;
 pub use call_error::CallError;
 pub use later_round::negotiate_again;
 pub use offered::offered_rows;
