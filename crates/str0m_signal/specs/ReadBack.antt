@@ -1,5 +1,5 @@
 -- Rows that are printed in a session and read again.
-use Rattle.std.specs.Prelude.{◌≡◌, ◌≢◌, ◌<◌, ◌^◌, ℕ, true, List, [], Some, slice_set, All}
+use Rattle.std.specs.Prelude.{◌≡◌, ◌≢◌, ℕ, true, List, [], Some, slice_set, All}
 use Rattle.std.specs.List.{slice_get, AllZip}
 use Rattle.str0m_formats.specs.Bounds.{HoldsRowNumbers}
 use Rattle.str0m_formats.specs.PlainRow.{IsPlain}
@@ -7,6 +7,7 @@ use Rattle.str0m_formats.specs.Rows.{SameRow, types}
 use Rattle.str0m_formats.specs.TypeSets.{AllDistinct}
 use Rattle.str0m_formats.specs.declared.payload_params.PayloadParams.{PayloadParams}
 use Rattle.str0m_sdp.specs.Consistency.{Consistent}
+use Rattle.str0m_sdp.specs.FittingValues.{IsSessionNumber}
 use Rattle.str0m_sdp.specs.MediaType.{is_media}
 use Rattle.str0m_sdp.specs.NamesOne.{NamesOne}
 use Rattle.str0m_sdp.specs.SectionOf.{made}
@@ -38,7 +39,7 @@ pub record MayBePrinted (theirs : List PayloadParams) : Type 0 where
 
 -- the numbers are those that their types can hold: of each value that a program has, they are
 abbrev pub FitTheirTypes : Sdp → List PayloadParams → Type 0
-FitTheirTypes sdp theirs = (sdp.session.id < 2 ^ 64) × All HoldsRowNumbers theirs
+FitTheirTypes sdp theirs = IsSessionNumber sdp.session.id × All HoldsRowNumbers theirs
 
 -- where an audio or video section stands there, the rows printed in its place are read back
 abbrev pub ReadsBack : Sdp → ℕ → List PayloadParams → Type 0
