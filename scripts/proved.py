@@ -6,6 +6,7 @@ import contextlib
 import fcntl
 import hashlib
 import os
+import re
 import shutil
 import tempfile
 import time
@@ -93,6 +94,13 @@ def wait_for_end():
     while not has_ended():
         time.sleep(1)
     return is_current()
+
+
+def below(name):
+    """The libraries of the repository that a crate stands on, lowest first."""
+    listed = dict(re.findall(r"^(\w+)[^:\n]*:(.*)", (TOP / "crates.txt").read_text("utf-8"), re.M))
+    own = [it for it in listed[name].split() if it in listed]
+    return list(dict.fromkeys(low for it in own for low in [*below(it), it]))
 
 
 def program(name):
