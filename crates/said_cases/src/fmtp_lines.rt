@@ -3,7 +3,7 @@
 use crate::said_rows::{printed, show_format};
 use case_texts::section;
 use plain_cases::Answer;
-use std::alloc::AllocError;
+use std::alloc::{AllocError, Global};
 use str0m_signal::{Codec, FormatParam, FormatParams, Items, MediaAttribute};
 
 /// Answers what the word asks of the text; whether it is one of these words.
@@ -26,12 +26,21 @@ fn format(answer: &mut Answer, text: &str) {
     show_said(answer, codec, lines.as_slice());
 }
 
+/// The values of each line, in room that is asked for once.
+fn values_of(
+    alloc: Global,
+    lines: &[Items<FormatParam>],
+) -> Result<Vec<&[FormatParam]>, AllocError> {
+    let mut values = Vec::with_capacity(alloc, lines.len())?;
+    for line in lines {
+        values.push(line.as_slice())?;
+    }
+    Ok(values)
+}
+
 /// What these lines say of the codec.
 fn show_said(answer: &mut Answer, codec: Codec, lines: &[Items<FormatParam>]) {
-    let lines: Result<Vec<&[FormatParam]>, AllocError> = lines
-        .iter()
-        .map(|line| line.as_slice())
-        .collect(answer.alloc());
+    let lines = values_of(answer.alloc(), lines);
     if let Some(lines) = answer.made(&lines) {
         match FormatParams::from_sdp_fmtp(codec, lines.as_slice()) {
             Some(format) => show_format(answer, &format),
