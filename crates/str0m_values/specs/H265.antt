@@ -6,7 +6,9 @@ use Rattle.str0m_values.specs.declared.h265.H265Tier.{H265Tier}
 use Rattle.str0m_values.specs.declared.h265.H265Tier.TheVariants as tier
 use Rattle.str0m_values.specs.declared.h265.H265Level.{H265Level}
 use Rattle.str0m_values.specs.declared.h265.H265Level.TheVariants as level
+use Rattle.str0m_values.specs.declared.h265.TheConstants.{PROFILES, TIERS, LEVELS}
 use Rattle.str0m_values.specs.declared.profile_tier_level.ProfileTierLevel.{ProfileTierLevel}
+use Rattle.str0m_values.specs.ProfileTierLevel.{Tables}
 
 abbrev pub H265ProfileTierLevel : Type 0
 H265ProfileTierLevel = ProfileTierLevel H265Profile H265Tier H265Level
@@ -55,3 +57,6 @@ level_ordinal level = (level_row level).1
 -- the numbers that an absent part stands for, and those of the fallback
 abbrev pub defaults : ℕ × ℕ × ℕ
 defaults = (1, 0, 93)
+
+abbrev pub tables : Tables H265Profile H265Tier H265Level
+tables = record { profile_id = profile_id; tier_flag = tier_flag; level_id = level_id; profiles = PROFILES; tiers = TIERS; levels = LEVELS; defaults = defaults }

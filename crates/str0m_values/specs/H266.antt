@@ -6,7 +6,9 @@ use Rattle.str0m_values.specs.declared.h266.H266Tier.{H266Tier}
 use Rattle.str0m_values.specs.declared.h266.H266Tier.TheVariants as tier
 use Rattle.str0m_values.specs.declared.h266.H266Level.{H266Level}
 use Rattle.str0m_values.specs.declared.h266.H266Level.TheVariants as level
+use Rattle.str0m_values.specs.declared.h266.TheConstants.{PROFILES, TIERS, LEVELS}
 use Rattle.str0m_values.specs.declared.profile_tier_level.ProfileTierLevel.{ProfileTierLevel}
+use Rattle.str0m_values.specs.ProfileTierLevel.{Tables}
 
 abbrev pub H266ProfileTierLevel : Type 0
 H266ProfileTierLevel = ProfileTierLevel H266Profile H266Tier H266Level
@@ -51,3 +53,6 @@ level_ordinal level = (level_row level).1
 -- the numbers that an absent part stands for, and those of the fallback
 abbrev pub defaults : ℕ × ℕ × ℕ
 defaults = (1, 0, 51)
+
+abbrev pub tables : Tables H266Profile H266Tier H266Level
+tables = record { profile_id = profile_id; tier_flag = tier_flag; level_id = level_id; profiles = PROFILES; tiers = TIERS; levels = LEVELS; defaults = defaults }

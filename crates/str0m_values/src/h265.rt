@@ -5,7 +5,7 @@ ghost use Rattle.str0m_values.specs.Only.{IsTheOnly};
 ghost use Rattle.str0m_values.specs.H265.{profile_id, tier_flag, level_id, level_ordinal, defaults};
 ghost use Rattle.str0m_values.specs.ProfileTierLevel.{HasNumbers, HasNumbersOfTexts};
 
-use crate::profile_tier_level::{Leveled, Numbered, ProfileTierLevel};
+use crate::profile_tier_level::{Leveled, Numbered, ProfileTierLevel, value_in};
 
 /// A profile of H265: which of its tools a stream may use (RFC 7798, section 7.1).
 #[derive(Clone, Copy, Debug, PartialEq, Eq, Hash)]
@@ -51,24 +51,27 @@ pub enum H265Level {
 /// A profile, a tier and a level of H265: what a stream holds, or what a decoder bears (RFC 7798, section 7.1).
 pub type H265ProfileTierLevel = ProfileTierLevel<H265Profile, H265Tier, H265Level>;
 
+/// The number of each profile, which stands for it in `profile-id`.
+const PROFILES: [(H265Profile, u8); 11] = [
+    (H265Profile::Main, 1),
+    (H265Profile::Main10, 2),
+    (H265Profile::MainStillPicture, 3),
+    (H265Profile::RangeExtensions, 4),
+    (H265Profile::HighThroughput, 5),
+    (H265Profile::MultiviewMain, 6),
+    (H265Profile::ScalableMain, 7),
+    (H265Profile::Main3D, 8),
+    (H265Profile::ScreenExtended, 9),
+    (H265Profile::ScalableRangeExtensions, 10),
+    (H265Profile::HighThroughputScreenExtended, 11),
+];
+
 impl H265Profile {
     /// The number that stands for the profile in `profile-id`.
     pub fn to_id(self) -> u8
         ensures { result ≡ profile_id self }
     {
-        match self {
-            H265Profile::Main => 1,
-            H265Profile::Main10 => 2,
-            H265Profile::MainStillPicture => 3,
-            H265Profile::RangeExtensions => 4,
-            H265Profile::HighThroughput => 5,
-            H265Profile::MultiviewMain => 6,
-            H265Profile::ScalableMain => 7,
-            H265Profile::Main3D => 8,
-            H265Profile::ScreenExtended => 9,
-            H265Profile::ScalableRangeExtensions => 10,
-            H265Profile::HighThroughputScreenExtended => 11,
-        }
+        PROFILES[self as usize].1
     }
 }
 
@@ -80,32 +83,19 @@ impl Numbered for H265Profile {
     }
 
     fn of_number(number: u8) -> Option<H265Profile> {
-        match number {
-            1 => Some(H265Profile::Main),
-            2 => Some(H265Profile::Main10),
-            3 => Some(H265Profile::MainStillPicture),
-            4 => Some(H265Profile::RangeExtensions),
-            5 => Some(H265Profile::HighThroughput),
-            6 => Some(H265Profile::MultiviewMain),
-            7 => Some(H265Profile::ScalableMain),
-            8 => Some(H265Profile::Main3D),
-            9 => Some(H265Profile::ScreenExtended),
-            10 => Some(H265Profile::ScalableRangeExtensions),
-            11 => Some(H265Profile::HighThroughputScreenExtended),
-            _ => None,
-        }
+        value_in(&PROFILES, number)
     }
 }
+
+/// The number of each tier, which stands for it in `tier-flag`.
+const TIERS: [(H265Tier, u8); 2] = [(H265Tier::Main, 0), (H265Tier::High, 1)];
 
 impl H265Tier {
     /// The number that stands for the tier in `tier-flag`.
     pub fn to_id(self) -> u8
         ensures { result ≡ tier_flag self }
     {
-        match self {
-            H265Tier::Main => 0,
-            H265Tier::High => 1,
-        }
+        TIERS[self as usize].1
     }
 }
 
@@ -117,34 +107,33 @@ impl Numbered for H265Tier {
     }
 
     fn of_number(number: u8) -> Option<H265Tier> {
-        match number {
-            0 => Some(H265Tier::Main),
-            1 => Some(H265Tier::High),
-            _ => None,
-        }
+        value_in(&TIERS, number)
     }
 }
+
+/// The number of each level, which stands for it in `level-id`.
+const LEVELS: [(H265Level, u8); 13] = [
+    (H265Level::L1, 30),
+    (H265Level::L2, 60),
+    (H265Level::L2_1, 63),
+    (H265Level::L3, 90),
+    (H265Level::L3_1, 93),
+    (H265Level::L4, 120),
+    (H265Level::L4_1, 123),
+    (H265Level::L5, 150),
+    (H265Level::L5_1, 153),
+    (H265Level::L5_2, 156),
+    (H265Level::L6, 180),
+    (H265Level::L6_1, 183),
+    (H265Level::L6_2, 186),
+];
 
 impl H265Level {
     /// The number that stands for the level in `level-id`.
     pub fn to_id(self) -> u8
         ensures { result ≡ level_id self }
     {
-        match self {
-            H265Level::L1 => 30,
-            H265Level::L2 => 60,
-            H265Level::L2_1 => 63,
-            H265Level::L3 => 90,
-            H265Level::L3_1 => 93,
-            H265Level::L4 => 120,
-            H265Level::L4_1 => 123,
-            H265Level::L5 => 150,
-            H265Level::L5_1 => 153,
-            H265Level::L5_2 => 156,
-            H265Level::L6 => 180,
-            H265Level::L6_1 => 183,
-            H265Level::L6_2 => 186,
-        }
+        LEVELS[self as usize].1
     }
 
     /// The place of the level among the levels, from 0.
@@ -169,22 +158,7 @@ impl Numbered for H265Level {
     }
 
     fn of_number(number: u8) -> Option<H265Level> {
-        match number {
-            30 => Some(H265Level::L1),
-            60 => Some(H265Level::L2),
-            63 => Some(H265Level::L2_1),
-            90 => Some(H265Level::L3),
-            93 => Some(H265Level::L3_1),
-            120 => Some(H265Level::L4),
-            123 => Some(H265Level::L4_1),
-            150 => Some(H265Level::L5),
-            153 => Some(H265Level::L5_1),
-            156 => Some(H265Level::L5_2),
-            180 => Some(H265Level::L6),
-            183 => Some(H265Level::L6_1),
-            186 => Some(H265Level::L6_2),
-            _ => None,
-        }
+        value_in(&LEVELS, number)
     }
 }
 

@@ -5,7 +5,7 @@ ghost use Rattle.str0m_values.specs.Only.{IsTheOnly};
 ghost use Rattle.str0m_values.specs.H266.{profile_id, tier_flag, level_id, level_ordinal, defaults};
 ghost use Rattle.str0m_values.specs.ProfileTierLevel.{HasNumbers, HasNumbersOfTexts};
 
-use crate::profile_tier_level::{Leveled, Numbered, ProfileTierLevel};
+use crate::profile_tier_level::{Leveled, Numbered, ProfileTierLevel, value_in};
 
 /// A profile of H266: which of its tools a stream may use (RFC 9328, section 7.2).
 #[derive(Clone, Copy, Debug, PartialEq, Eq, Hash)]
@@ -47,19 +47,22 @@ pub enum H266Level {
 /// A profile, a tier and a level of H266: what a stream holds, or what a decoder bears (RFC 9328, section 7.2).
 pub type H266ProfileTierLevel = ProfileTierLevel<H266Profile, H266Tier, H266Level>;
 
+/// The number of each profile, which stands for it in `profile-id`.
+const PROFILES: [(H266Profile, u8); 6] = [
+    (H266Profile::Main10, 1),
+    (H266Profile::MultilayerMain10, 17),
+    (H266Profile::Main10_444, 33),
+    (H266Profile::MultilayerMain10_444, 49),
+    (H266Profile::Main10StillPicture, 65),
+    (H266Profile::Main10_444StillPicture, 97),
+];
+
 impl H266Profile {
     /// The number that stands for the profile in `profile-id`.
     pub fn to_id(self) -> u8
         ensures { result ≡ profile_id self }
     {
-        match self {
-            H266Profile::Main10 => 1,
-            H266Profile::MultilayerMain10 => 17,
-            H266Profile::Main10_444 => 33,
-            H266Profile::MultilayerMain10_444 => 49,
-            H266Profile::Main10StillPicture => 65,
-            H266Profile::Main10_444StillPicture => 97,
-        }
+        PROFILES[self as usize].1
     }
 }
 
@@ -71,27 +74,19 @@ impl Numbered for H266Profile {
     }
 
     fn of_number(number: u8) -> Option<H266Profile> {
-        match number {
-            1 => Some(H266Profile::Main10),
-            17 => Some(H266Profile::MultilayerMain10),
-            33 => Some(H266Profile::Main10_444),
-            49 => Some(H266Profile::MultilayerMain10_444),
-            65 => Some(H266Profile::Main10StillPicture),
-            97 => Some(H266Profile::Main10_444StillPicture),
-            _ => None,
-        }
+        value_in(&PROFILES, number)
     }
 }
+
+/// The number of each tier, which stands for it in `tier-flag`.
+const TIERS: [(H266Tier, u8); 2] = [(H266Tier::Main, 0), (H266Tier::High, 1)];
 
 impl H266Tier {
     /// The number that stands for the tier in `tier-flag`.
     pub fn to_id(self) -> u8
         ensures { result ≡ tier_flag self }
     {
-        match self {
-            H266Tier::Main => 0,
-            H266Tier::High => 1,
-        }
+        TIERS[self as usize].1
     }
 }
 
@@ -103,35 +98,34 @@ impl Numbered for H266Tier {
     }
 
     fn of_number(number: u8) -> Option<H266Tier> {
-        match number {
-            0 => Some(H266Tier::Main),
-            1 => Some(H266Tier::High),
-            _ => None,
-        }
+        value_in(&TIERS, number)
     }
 }
+
+/// The number of each level, which stands for it in `level-id`.
+const LEVELS: [(H266Level, u8); 14] = [
+    (H266Level::L1, 16),
+    (H266Level::L2, 32),
+    (H266Level::L2_1, 35),
+    (H266Level::L3, 48),
+    (H266Level::L3_1, 51),
+    (H266Level::L4, 64),
+    (H266Level::L4_1, 67),
+    (H266Level::L5, 80),
+    (H266Level::L5_1, 83),
+    (H266Level::L5_2, 86),
+    (H266Level::L6, 96),
+    (H266Level::L6_1, 99),
+    (H266Level::L6_2, 102),
+    (H266Level::L6_3, 105),
+];
 
 impl H266Level {
     /// The number that stands for the level in `level-id`.
     pub fn to_id(self) -> u8
         ensures { result ≡ level_id self }
     {
-        match self {
-            H266Level::L1 => 16,
-            H266Level::L2 => 32,
-            H266Level::L2_1 => 35,
-            H266Level::L3 => 48,
-            H266Level::L3_1 => 51,
-            H266Level::L4 => 64,
-            H266Level::L4_1 => 67,
-            H266Level::L5 => 80,
-            H266Level::L5_1 => 83,
-            H266Level::L5_2 => 86,
-            H266Level::L6 => 96,
-            H266Level::L6_1 => 99,
-            H266Level::L6_2 => 102,
-            H266Level::L6_3 => 105,
-        }
+        LEVELS[self as usize].1
     }
 
     /// The place of the level among the levels, from 0.
@@ -156,23 +150,7 @@ impl Numbered for H266Level {
     }
 
     fn of_number(number: u8) -> Option<H266Level> {
-        match number {
-            16 => Some(H266Level::L1),
-            32 => Some(H266Level::L2),
-            35 => Some(H266Level::L2_1),
-            48 => Some(H266Level::L3),
-            51 => Some(H266Level::L3_1),
-            64 => Some(H266Level::L4),
-            67 => Some(H266Level::L4_1),
-            80 => Some(H266Level::L5),
-            83 => Some(H266Level::L5_1),
-            86 => Some(H266Level::L5_2),
-            96 => Some(H266Level::L6),
-            99 => Some(H266Level::L6_1),
-            102 => Some(H266Level::L6_2),
-            105 => Some(H266Level::L6_3),
-            _ => None,
-        }
+        value_in(&LEVELS, number)
     }
 }
 

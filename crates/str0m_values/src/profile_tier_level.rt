@@ -1,7 +1,7 @@
 //! What H265 and H266 say of a stream: a profile, a tier and a level.
 ghost use Rattle.std.specs.Prelude.{◌≡◌, ℕ};
 ghost use Rattle.str0m_values.specs.Only.{IsTheOnly};
-ghost use Rattle.str0m_values.specs.ProfileTierLevel.{HasNumbers, HasNumbersOfTexts};
+ghost use Rattle.str0m_values.specs.ProfileTierLevel.{HasNumbers, HasNumbersOfTexts, value_in};
 
 use crate::cuts::num_u8_or;
 
@@ -17,6 +17,16 @@ pub trait Numbered: Copy {
     /// The value that a number stands for; `None` where it stands for none.
     fn of_number(number: u8) -> Option<Self>
         ensures { IsTheOnly (λ value. number_of value ≡ number) result };
+}
+
+/// The value that a number stands for, in a table of values and their numbers.
+pub(crate) fn value_in<T: Copy>(rows: &[(T, u8)], number: u8) -> Option<T>
+    ensures { result ≡ value_in rows.now number }
+{
+    match rows.iter().find(|row| row.1 == number) {
+        Some(row) => Some(row.0),
+        None => None,
+    }
 }
 
 /// A level, which has its place among the levels of its codec.
