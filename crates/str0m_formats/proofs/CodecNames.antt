@@ -8,8 +8,9 @@ use Rattle.std.proofs.lemmas.Slice.Eq.{bytes_eq-Decides}
 use Rattle.std.proofs.lemmas.Bool.{false≢true}
 use Rattle.str0m_formats.specs.declared.codec.TheConstants.{NAMED}
 use Rattle.str0m_formats.specs.declared.codec.Codec.{Codec}
-use Rattle.str0m_formats.specs.declared.codec.Codec.TheVariants.{Opus, PCMU, PCMA, G722, CN, AmrWb, H264, H265, H266, Vp8, Vp9, Av1, Tele, Rtx, Red, Null, Unknown}
+use Rattle.str0m_formats.specs.declared.codec.Codec.TheVariants.{Null, Unknown}
 use Rattle.str0m_formats.specs.Codec.{codec_text, codec_of, printed_and_read, IsSameText, IsReadAs}
+use Rattle.str0m_values.specs.Words.{case_of}
 use Rattle.str0m_formats.proofs.Lookup.{find_passes, if_some_map, row_at}
 
 -- the test of two texts says whether they are the same
@@ -18,22 +19,7 @@ same_text s t e = (bytes_eq-Decides (map to_ascii_lowercase s) (map to_ascii_low
 
 is_unknown : (c : Codec) → (c ≡ Unknown) ⊎ (c ≢ Unknown)
 is_unknown Unknown = inl refl
-is_unknown Opus = inr (λ e. cc)
-is_unknown PCMU = inr (λ e. cc)
-is_unknown PCMA = inr (λ e. cc)
-is_unknown G722 = inr (λ e. cc)
-is_unknown CN = inr (λ e. cc)
-is_unknown AmrWb = inr (λ e. cc)
-is_unknown H264 = inr (λ e. cc)
-is_unknown H265 = inr (λ e. cc)
-is_unknown H266 = inr (λ e. cc)
-is_unknown Vp8 = inr (λ e. cc)
-is_unknown Vp9 = inr (λ e. cc)
-is_unknown Av1 = inr (λ e. cc)
-is_unknown Tele = inr (λ e. cc)
-is_unknown Rtx = inr (λ e. cc)
-is_unknown Red = inr (λ e. cc)
-is_unknown Null = inr (λ e. cc)
+is_unknown _ = inr (λ e. cc)
 
 -- the codec of which this is the text in lower case
 abbrev codec_at : List ℕ → Codec
@@ -41,42 +27,12 @@ codec_at low = unwrap_or (row_at codec_text NAMED low) Unknown
 
 -- no two codecs have the same text, and that of Null is not looked up
 codec_at-text : (c : Codec) → codec_at (map to_ascii_lowercase (codec_text c)) ≡ printed_and_read c
-codec_at-text Opus = refl
-codec_at-text PCMU = refl
-codec_at-text PCMA = refl
-codec_at-text G722 = refl
-codec_at-text CN = refl
-codec_at-text AmrWb = refl
-codec_at-text H264 = refl
-codec_at-text H265 = refl
-codec_at-text H266 = refl
-codec_at-text Vp8 = refl
-codec_at-text Vp9 = refl
-codec_at-text Av1 = refl
-codec_at-text Tele = refl
-codec_at-text Rtx = refl
-codec_at-text Red = refl
 codec_at-text Null = refl
-codec_at-text Unknown = refl
+codec_at-text _ = refl
 
 not_null : (c : Codec) → c ≢ Null → printed_and_read c ≡ c
-not_null Opus other = refl
-not_null PCMU other = refl
-not_null PCMA other = refl
-not_null G722 other = refl
-not_null CN other = refl
-not_null AmrWb other = refl
-not_null H264 other = refl
-not_null H265 other = refl
-not_null H266 other = refl
-not_null Vp8 other = refl
-not_null Vp9 other = refl
-not_null Av1 other = refl
-not_null Tele other = refl
-not_null Rtx other = refl
-not_null Red other = refl
 not_null Null other = absurd (other refl)
-not_null Unknown other = refl
+not_null _ other = refl
 
 abbrev is_named : Codec → Bool
 is_named Null = false
@@ -98,7 +54,8 @@ abbrev has_text : List ℕ → Codec → Bool
 has_text text codec = bytes_eq text (codec_text codec)
 
 -- the codec of this very text is the codec of the text
-pub written_is : (text : List ℕ) (codec : Codec) → find (has_text text) NAMED ≡ Some codec → codec ≡ codec_of text
+pub written_is : (text : List ℕ) (codec : Codec) → case_of codec_text NAMED text ≡ Some codec → codec ≡ codec_of text
+unfolding case_of
 written_is text codec e = is (find (has_text text) NAMED) (find_passes is_named (has_text text) NAMED refl) e
   where
     is : (o : Option Codec) → IfSome o (λ c. (is_named c ≡ true) × (has_text text c ≡ true)) → o ≡ Some codec → codec ≡ codec_of text

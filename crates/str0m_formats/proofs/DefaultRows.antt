@@ -1,23 +1,25 @@
 -- Default rows are distinct, and stay default while codecs are enabled and disabled.
-use Rattle.std.proofs.Common.{◌≡◌, ◌==◌, ℕ, ◌+◌, ◌≤◌, Bool, true, false, not, cond, Option, Some, None, option_map, unwrap_or, find, List, [], ◌∷◌, ◌++◌, map, All, Result, Ok, Err, OnOk, OnErr, is_ok, if◌then◌else◌, refl, sym, ap, ◌∙◌, subst, arith}
+use Rattle.std.proofs.Common.{◌≡◌, ◌==◌, ℕ, ◌+◌, ◌≤◌, Bool, true, false, not, ◌&&◌, cond, Option, Some, None, option_map, unwrap_or, find, List, [], ◌∷◌, ◌++◌, map, All, Result, Ok, Err, OnOk, OnErr, is_ok, if◌then◌else◌, refl, sym, ap, ◌∙◌, subst, arith}
 use Rattle.std.specs.List.{AllByRecursion, Contains, list_all, flat_map}
 use Rattle.std.specs.declared.alloc.AllocError.{AllocError}
-use Rattle.std.proofs.lemmas.Bool.{eqb-true, true≢false}
+use Rattle.std.proofs.lemmas.Bool.{and_parts, eqb-true, true≢false}
 use Rattle.std.proofs.lemmas.List.{map-append}
 use Rattle.std.proofs.lemmas.List.Elements.{All-append, All-filter, All-weaker, All-contains, All-contains_itself, All-from_recursion, recursion_from_All, All-nil}
 use Rattle.str0m_formats.specs.declared.codec.Codec.{Codec}
-use Rattle.str0m_formats.specs.declared.codec.Codec.TheVariants.{Opus, PCMU, PCMA, G722, CN, AmrWb, H264, H265, H266, Vp8, Vp9, Av1, Tele, Rtx, Red, Null, Unknown}
+use Rattle.str0m_formats.specs.declared.codec.Codec.TheVariants.{Unknown}
+use Rattle.str0m_formats.specs.declared.codec.TheConstants.{NAMED}
 use Rattle.str0m_formats.specs.declared.codec_config.CodecConfig.{CodecConfig}
 use Rattle.str0m_formats.specs.declared.payload_params.PayloadParams.{PayloadParams}
 use Rattle.str0m_formats.specs.Rows.{types_of, types}
 use Rattle.str0m_formats.specs.TypeSets.{has, times, AllDistinct}
 use Rattle.str0m_formats.specs.DefaultRows.{default_rows, others, enabled_rows, IsDefault, AreDefault}
 use Rattle.str0m_formats.specs.Scores.{same_codec}
+use Rattle.str0m_formats.proofs.FormatEqual.{codec_Decides}
 use Rattle.str0m_formats.proofs.Times.{one_if, times-cons, times-append, all_apart, once_within}
 
 -- the whole table, with its REDs
 abbrev table : List PayloadParams
-table = flat_map (λ codec. default_rows codec true) (Opus ∷ PCMU ∷ PCMA ∷ G722 ∷ CN ∷ AmrWb ∷ Vp8 ∷ H264 ∷ H265 ∷ H266 ∷ Vp9 ∷ Av1 ∷ [])
+table = flat_map (λ codec. default_rows codec true) NAMED
 
 -- the payload type of the row that a type stands in
 abbrev owner : ℕ → ℕ
@@ -31,62 +33,37 @@ is_codec codec (Some row) = same_codec row.spec.codec codec
 abbrev codec_at : ℕ → Option PayloadParams
 codec_at t = find (λ row. row.pt == t) table
 
--- what the table shows of a row: each type of it is its own, and stands there once
+-- what the table shows of a row: its type is the codec's, each type of it is its own, and stands there once
 abbrev Known : PayloadParams → Type 0
-Known row = (option_map (λ r. r.spec.codec) (codec_at row.pt) ≡ Some row.spec.codec) × (list_all (λ t. row.pt == owner t) (types_of row) ≡ true) × (all_apart (types_of row) ≡ true)
+Known row = (is_codec row.spec.codec (codec_at row.pt) ≡ true) × (list_all (λ t. row.pt == owner t) (types_of row) ≡ true) × (all_apart (types_of row) ≡ true)
 
-known : (codec : Codec) (use_red : Bool) → AllByRecursion Known (default_rows codec use_red)
-known Opus true = ((refl, refl, refl), tt)
-known Opus false = ((refl, refl, refl), tt)
-known PCMU true = ((refl, refl, refl), tt)
-known PCMU false = ((refl, refl, refl), tt)
-known PCMA true = ((refl, refl, refl), tt)
-known PCMA false = ((refl, refl, refl), tt)
-known G722 true = ((refl, refl, refl), tt)
-known G722 false = ((refl, refl, refl), tt)
-known CN _ = ((refl, refl, refl), tt)
-known AmrWb _ = ((refl, refl, refl), tt)
-known H264 _ = ((refl, refl, refl), ((refl, refl, refl), ((refl, refl, refl), ((refl, refl, refl), ((refl, refl, refl), ((refl, refl, refl), ((refl, refl, refl), tt)))))))
-known H265 _ = ((refl, refl, refl), tt)
-known H266 _ = ((refl, refl, refl), tt)
-known Vp8 _ = ((refl, refl, refl), tt)
-known Vp9 _ = ((refl, refl, refl), ((refl, refl, refl), tt))
-known Av1 _ = ((refl, refl, refl), tt)
-known Tele _ = tt
-known Rtx _ = tt
-known Red _ = tt
-known Null _ = tt
-known Unknown _ = tt
+abbrev is_known : PayloadParams → Bool
+is_known row = is_codec row.spec.codec (codec_at row.pt) && (list_all (λ t. row.pt == owner t) (types_of row) && all_apart (types_of row))
+
+known : (codec : Codec) (use_red : Bool) → list_all is_known (default_rows codec use_red) ≡ true
+known Unknown _ = refl
+known _ true = refl
+known _ false = refl
 
 abbrev primaries : List PayloadParams → List ℕ
 primaries rows = map (λ row. row.pt) rows
 
 -- the payload types of the rows of a codec are those of the codec, and differ
 once_new : (codec : Codec) (use_red : Bool) → (list_all (λ t. is_codec codec (codec_at t)) (primaries (default_rows codec use_red)) ≡ true) × (all_apart (primaries (default_rows codec use_red)) ≡ true)
-once_new Opus true = (refl, refl)
-once_new Opus false = (refl, refl)
-once_new PCMU true = (refl, refl)
-once_new PCMU false = (refl, refl)
-once_new PCMA true = (refl, refl)
-once_new PCMA false = (refl, refl)
-once_new G722 true = (refl, refl)
-once_new G722 false = (refl, refl)
-once_new CN _ = (refl, refl)
-once_new AmrWb _ = (refl, refl)
-once_new H264 _ = (refl, refl)
-once_new H265 _ = (refl, refl)
-once_new H266 _ = (refl, refl)
-once_new Vp8 _ = (refl, refl)
-once_new Vp9 _ = (refl, refl)
-once_new Av1 _ = (refl, refl)
-once_new Tele _ = (refl, refl)
-once_new Rtx _ = (refl, refl)
-once_new Red _ = (refl, refl)
-once_new Null _ = (refl, refl)
 once_new Unknown _ = (refl, refl)
+once_new _ true = (refl, refl)
+once_new _ false = (refl, refl)
+
+rows_known : (rows : List PayloadParams) → list_all is_known rows ≡ true → AllByRecursion Known rows
+rows_known [] all = tt
+rows_known (row ∷ rows) all =
+    let both = and_parts (is_known row) (list_all is_known rows) all in
+    let own = and_parts (is_codec row.spec.codec (codec_at row.pt)) _ both.0 in
+    let types = and_parts (list_all (λ t. row.pt == owner t) (types_of row)) _ own.1 in
+    ((own.0, types.0, types.1), rows_known rows both.1)
 
 known_default : (row : PayloadParams) → IsDefault row → Known row
-known_default row d = All-contains Known (default_rows d.0 d.1) row (All-from_recursion Known (default_rows d.0 d.1) (known d.0 d.1)) d.2
+known_default row d = let rows = default_rows d.0 d.1 in All-contains Known rows row (All-from_recursion Known rows (rows_known rows (known d.0 d.1))) d.2
 
 all_known : (rows : List PayloadParams) → All IsDefault rows → AllByRecursion Known rows
 all_known rows d = recursion_from_All Known rows (All-weaker IsDefault Known known_default rows d)
@@ -116,9 +93,9 @@ others_once codec [] k t = go (is_codec codec (codec_at t)) where
 others_once codec (row ∷ rows) k t =
     step (same_codec row.spec.codec codec) (row.pt == t) (is_codec codec (codec_at t)) (λ e. of_row (eqb-true row.pt t e)) refl (others_once codec rows k.1 t)
   where
-    found : (o : Option PayloadParams) → option_map (λ r. r.spec.codec) o ≡ Some row.spec.codec → is_codec codec o ≡ same_codec row.spec.codec codec
-    found None e = absurd (cc)
-    found (Some r) e = let same : r.spec.codec ≡ row.spec.codec = cc in ap (λ c. same_codec c codec) same
+    found : (o : Option PayloadParams) → is_codec row.spec.codec o ≡ true → is_codec codec o ≡ same_codec row.spec.codec codec
+    found None e = absurd (true≢false (sym e))
+    found (Some r) e = ap (λ c. same_codec c codec) ((codec_Decides r.spec.codec row.spec.codec).0 e)
 
     of_row : row.pt ≡ t → is_codec codec (codec_at t) ≡ same_codec row.spec.codec codec
     of_row same = sym (ap (λ u. is_codec codec (codec_at u)) same) ∙ found (codec_at row.pt) k.0.0

@@ -46,6 +46,7 @@ pub mod Invariants
 pub mod Counting
 pub mod LockedStays
 pub mod SpecSteps
+pub mod StaticTypes
 pub mod Telephone
 pub mod Levels
 pub mod Matched

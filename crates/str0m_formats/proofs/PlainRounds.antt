@@ -10,7 +10,7 @@ use Rattle.str0m_values.specs.H265 as h265
 use Rattle.str0m_values.specs.H266 as h266
 use Rattle.str0m_values.specs.declared.profile_tier_level.ProfileTierLevel.{ProfileTierLevel}
 use Rattle.str0m_formats.specs.declared.codec.Codec.{Codec}
-use Rattle.str0m_formats.specs.declared.codec.Codec.TheVariants.{Opus, PCMU, PCMA, G722, CN, AmrWb, H264, H265, H266, Vp8, Vp9, Av1, Tele, Rtx, Red, Null, Unknown}
+use Rattle.str0m_formats.specs.declared.codec.Codec.TheVariants.{G722, AmrWb, H264, H265, H266, Tele}
 use Rattle.str0m_formats.specs.declared.codec_spec.CodecSpec.{CodecSpec}
 use Rattle.str0m_formats.specs.declared.payload_params.PayloadParams.{PayloadParams}
 use Rattle.str0m_formats.specs.Bounds.{AreModes, IsDistance, IsBounded}
@@ -156,41 +156,15 @@ spec-narrowed own chosen p m d = go own.codec refl where
   go H265 e = h265-narrowed own chosen e p d
   go H266 e = h266-narrowed own chosen e p d
   go AmrWb e = amr_wb-narrowed own chosen e p m
-  go Opus e = p
-  go PCMU e = p
-  go PCMA e = p
-  go G722 e = p
-  go CN e = p
   go H264 e = h264-narrowed own chosen e p
-  go Vp8 e = p
-  go Vp9 e = p
-  go Av1 e = p
-  go Rtx e = p
-  go Red e = p
-  go Null e = p
-  go Unknown e = p
+  go _ e = p
 
 codec-narrowed : (own chosen : CodecSpec) → (narrowed own chosen).codec ≡ own.codec
 unfolding narrowed
 codec-narrowed own chosen = go own.codec where
   go : (codec : Codec) → (narrowed_as codec own chosen).codec ≡ own.codec
   go Tele = refl
-  go H265 = refl
-  go H266 = refl
-  go AmrWb = refl
-  go Opus = refl
-  go PCMU = refl
-  go PCMA = refl
-  go G722 = refl
-  go CN = refl
-  go H264 = refl
-  go Vp8 = refl
-  go Vp9 = refl
-  go Av1 = refl
-  go Rtx = refl
-  go Red = refl
-  go Null = refl
-  go Unknown = refl
+  go _ = refl
 
 -- ---- a row through both passes
 

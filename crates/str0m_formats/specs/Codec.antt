@@ -1,5 +1,5 @@
 -- The codecs: one table of their names and of what they carry.
-use Rattle.std.specs.Prelude.{◌≡◌, ◌≢◌, ℕ, Bool, true, false, List, map, codes, find, unwrap_or}
+use Rattle.std.specs.Prelude.{◌≡◌, ◌≢◌, ℕ, Bool, true, false, Option, Some, None, List, map, codes, find, unwrap_or}
 use Rattle.std.specs.Char.{to_ascii_lowercase}
 use Rattle.std.specs.Str.{str_eq_ignore_ascii_case}
 use Rattle.str0m_values.specs.declared.media_kind.MediaKind.{MediaKind}
@@ -15,31 +15,35 @@ pub data Content : Type 0 where
   events : Content
   other : Content
 
--- the name of each codec in rtpmap lines, and what it carries
-abbrev pub codec_row : Codec → List ℕ × Content
-codec_row Opus = (codes "opus", audio)
-codec_row PCMU = (codes "PCMU", audio)
-codec_row PCMA = (codes "PCMA", audio)
-codec_row G722 = (codes "G722", audio)
-codec_row CN = (codes "CN", audio)
-codec_row AmrWb = (codes "AMR-WB", audio)
-codec_row H264 = (codes "H264", video)
-codec_row H265 = (codes "H265", video)
-codec_row H266 = (codes "H266", video)
-codec_row Vp8 = (codes "VP8", video)
-codec_row Vp9 = (codes "VP9", video)
-codec_row Av1 = (codes "AV1", video)
-codec_row Tele = (codes "telephone-event", events)
-codec_row Rtx = (codes "rtx", other)
-codec_row Red = (codes "red", other)
-codec_row Null = (codes "null", other)
-codec_row Unknown = (codes "unknown", other)
+-- the name of each codec in rtpmap lines, what it carries, and the payload type that stands for it without a mapping, with its
+-- clock rate in Hz (RFC 3551, section 6)
+abbrev pub codec_row : Codec → List ℕ × Content × Option (ℕ × ℕ)
+codec_row Opus = (codes "opus", audio, None)
+codec_row PCMU = (codes "PCMU", audio, Some (0, 8000))
+codec_row PCMA = (codes "PCMA", audio, Some (8, 8000))
+codec_row G722 = (codes "G722", audio, Some (9, 16000))
+codec_row CN = (codes "CN", audio, Some (13, 8000))
+codec_row AmrWb = (codes "AMR-WB", audio, None)
+codec_row H264 = (codes "H264", video, None)
+codec_row H265 = (codes "H265", video, None)
+codec_row H266 = (codes "H266", video, None)
+codec_row Vp8 = (codes "VP8", video, None)
+codec_row Vp9 = (codes "VP9", video, None)
+codec_row Av1 = (codes "AV1", video, None)
+codec_row Tele = (codes "telephone-event", events, None)
+codec_row Rtx = (codes "rtx", other, None)
+codec_row Red = (codes "red", other, None)
+codec_row Null = (codes "null", other, None)
+codec_row Unknown = (codes "unknown", other, None)
 
 abbrev pub codec_text : Codec → List ℕ
 codec_text codec = (codec_row codec).0
 
 abbrev pub content : Codec → Content
 content codec = (codec_row codec).1
+
+abbrev pub static_row : Codec → Option (ℕ × ℕ)
+static_row codec = (codec_row codec).2
 
 -- whether the codec is AMR-WB
 abbrev pub is_amr_wb : Codec → Bool

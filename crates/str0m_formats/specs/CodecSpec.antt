@@ -1,21 +1,31 @@
 -- Codecs with their clock rates.
-use Rattle.std.specs.Prelude.{◌≡◌, ℕ, Option, Some, None}
-use Rattle.str0m_formats.specs.declared.codec.Codec.{Codec}
-use Rattle.str0m_formats.specs.declared.codec.Codec.TheVariants.{PCMU, PCMA, G722, CN}
-use Rattle.str0m_formats.specs.declared.codec_spec.CodecSpec.{CodecSpec}
+use Rattle.std.specs.Prelude.{◌≡◌, ◌==◌, ℕ, Bool, false, Option, Some, None, option_map, find}
+use Rattle.str0m_values.specs.Cuts.{◌>>=◌}
+use Rattle.str0m_formats.specs.Codec.{static_row}
 use Rattle.str0m_formats.specs.FormatParams.{empty}
-
--- the payload type that stands for the codec without a mapping, and its clock rate in Hz (RFC 3551, section 6)
-abbrev pub static_row : Codec → Option (ℕ × ℕ)
-static_row PCMU = Some (0, 8000)
-static_row PCMA = Some (8, 8000)
-static_row G722 = Some (9, 16000)
-static_row CN = Some (13, 8000)
-static_row _ = None
+use Rattle.str0m_formats.specs.declared.codec.TheConstants.{NAMED}
+use Rattle.str0m_formats.specs.declared.codec.Codec.{Codec}
+use Rattle.str0m_formats.specs.declared.codec.Codec.TheVariants.{G722}
+use Rattle.str0m_formats.specs.declared.codec_spec.CodecSpec.{CodecSpec}
 
 -- the payload type stands for the spec: its codec at that rate, and nothing else said
 abbrev pub IsStatic : ℕ → CodecSpec → Type 0
 IsStatic pt spec = (static_row spec.codec ≡ Some (pt, spec.clock_rate)) × (spec.channels ≡ None) × (spec.format ≡ empty)
+
+-- a codec of which nothing is said but its rate
+abbrev pub plain : Codec → ℕ → CodecSpec
+plain codec rate = record { codec = codec; clock_rate = rate; channels = None; format = empty }
+
+abbrev pub is_at : ℕ → Option (ℕ × ℕ) → Bool
+is_at pt None = false
+is_at pt (Some row) = row.0 == pt
+
+-- the codec that a payload type stands for without a mapping, and its spec
+abbrev pub static_codec : ℕ → Option Codec
+static_codec pt = find (λ codec. is_at pt (static_row codec)) NAMED
+
+unfoldable pub static_spec : ℕ → Option CodecSpec
+static_spec pt = static_codec pt >>= λ codec. option_map (λ row. plain codec row.1) (static_row codec)
 
 -- the clock rate in RTP, which for G722 is 8000 for historical reasons (RFC 3551, section 4.5.2)
 abbrev pub rtp_rate : Codec → ℕ → ℕ

@@ -1,6 +1,7 @@
 -- The default rows of each codec, and the lists that they make.
-use Rattle.std.specs.Prelude.{ℕ, Bool, true, false, not, Option, Some, None, List, [], ◌∷◌, ◌++◌, map, filter, All, if◌then◌else◌}
+use Rattle.std.specs.Prelude.{◌≡◌, ℕ, Bool, true, false, not, Option, Some, None, List, [], ◌∷◌, ◌++◌, map, filter, All, Result, OnOk, OnErr, IsOk, if◌then◌else◌}
 use Rattle.std.specs.List.{Contains, flat_map}
+use Rattle.std.specs.declared.alloc.AllocError.{AllocError}
 use Rattle.str0m_values.specs.declared.h265.H265Profile.TheVariants as h265_profile
 use Rattle.str0m_values.specs.declared.h265.H265Tier.TheVariants as h265_tier
 use Rattle.str0m_values.specs.declared.h265.H265Level.TheVariants as h265_level
@@ -8,11 +9,12 @@ use Rattle.str0m_values.specs.declared.h266.H266Profile.TheVariants as h266_prof
 use Rattle.str0m_values.specs.declared.h266.H266Tier.TheVariants as h266_tier
 use Rattle.str0m_values.specs.declared.h266.H266Level.TheVariants as h266_level
 use Rattle.str0m_formats.specs.declared.codec.Codec.{Codec}
-use Rattle.str0m_formats.specs.declared.codec.Codec.TheVariants.{Opus, PCMU, PCMA, G722, CN, AmrWb, H264, H265, H266, Vp8, Vp9, Av1, Tele, Rtx, Red, Null, Unknown}
+use Rattle.str0m_formats.specs.declared.codec.Codec.TheVariants.{Opus, PCMU, PCMA, G722, CN, AmrWb, H264, H265, H266, Vp8, Vp9, Av1}
+use Rattle.str0m_formats.specs.declared.codec_config.CodecConfig.{CodecConfig}
 use Rattle.str0m_formats.specs.declared.format_params.FormatParams.{FormatParams}
 use Rattle.str0m_formats.specs.FormatParams.{empty}
 use Rattle.str0m_formats.specs.declared.payload_params.PayloadParams.{PayloadParams}
-use Rattle.str0m_formats.specs.Rows.{new_row}
+use Rattle.str0m_formats.specs.Rows.{new_row, types}
 use Rattle.str0m_formats.specs.Scores.{same_codec}
 use Rattle.str0m_formats.specs.TypeSets.{AllDistinct}
 use Rattle.str0m_formats.specs.CodecConfig.{picture_spec, h264_row, h265_row, h266_row}
@@ -49,11 +51,7 @@ default_rows H265 _ = h265_row 102 (Some 103) (record { profile = h265_profile.M
 default_rows H266 _ = h266_row 104 (Some 105) (record { profile = h266_profile.Main10; tier = h266_tier.Main; level = h266_level.L6 }) ∷ []
 default_rows Vp9 _ = picture_row Vp9 98 99 (record empty { profile_id = Some 0 }) ∷ picture_row Vp9 100 101 (record empty { profile_id = Some 2 }) ∷ []
 default_rows Av1 _ = picture_row Av1 45 46 empty ∷ []
-default_rows Tele _ = []
-default_rows Rtx _ = []
-default_rows Red _ = []
-default_rows Null _ = []
-default_rows Unknown _ = []
+default_rows _ _ = []
 
 -- the rows of all other codecs
 abbrev pub others : Codec → List PayloadParams → List PayloadParams
@@ -78,3 +76,12 @@ default_codecs = Opus ∷ Vp8 ∷ H264 ∷ H265 ∷ Vp9 ∷ Av1 ∷ []
 
 abbrev pub usual_rows : List PayloadParams
 usual_rows = flat_map (λ codec. default_rows codec false) default_codecs
+
+-- what a call does that enables or disables a codec: refused memory changes nothing, and disabling needs none
+pub record Enables (codec : Codec) (enabled use_red : Bool) (old new : CodecConfig) (result : Result (Unit {0}) AllocError) : Type 0 where
+  pub ok : OnOk result (new.params.items ≡ enabled_rows codec enabled use_red old.params.items)
+  pub err : OnErr result (new ≡ old)
+  pub without : enabled ≡ false → IsOk result
+  pub distances : new.red_distances ≡ old.red_distances
+  pub default : AreDefault old.params.items → AreDefault new.params.items
+  pub distinct : AreDefault old.params.items → AllDistinct (types new.params.items)

@@ -6,7 +6,7 @@ use Rattle.str0m_values.specs.H265 as h265
 use Rattle.str0m_values.specs.H266 as h266
 use Rattle.str0m_values.specs.declared.profile_tier_level.ProfileTierLevel.{ProfileTierLevel}
 use Rattle.str0m_formats.specs.declared.codec.Codec.{Codec}
-use Rattle.str0m_formats.specs.declared.codec.Codec.TheVariants.{Opus, PCMU, PCMA, G722, CN, AmrWb, H264, H265, H266, Vp8, Vp9, Av1, Tele, Rtx, Red, Null, Unknown}
+use Rattle.str0m_formats.specs.declared.codec.Codec.TheVariants.{AmrWb, H264, H265, H266, Tele}
 use Rattle.str0m_formats.specs.declared.format_params.FormatParams.{FormatParams}
 use Rattle.str0m_formats.specs.declared.codec_spec.CodecSpec.{CodecSpec}
 
@@ -65,18 +65,7 @@ narrowed_as AmrWb own chosen = record own {
     mode_set = option_or own.format.mode_set chosen.format.mode_set;
   };
 }
-narrowed_as Opus own chosen = own
-narrowed_as PCMU own chosen = own
-narrowed_as PCMA own chosen = own
-narrowed_as G722 own chosen = own
-narrowed_as CN own chosen = own
-narrowed_as Vp8 own chosen = own
-narrowed_as Vp9 own chosen = own
-narrowed_as Av1 own chosen = own
-narrowed_as Rtx own chosen = own
-narrowed_as Red own chosen = own
-narrowed_as Null own chosen = own
-narrowed_as Unknown own chosen = own
+narrowed_as _ own chosen = own
 
 unfoldable pub narrowed : CodecSpec → CodecSpec → CodecSpec
 narrowed own chosen = narrowed_as own.codec own chosen

@@ -1,11 +1,9 @@
 //! Codecs.
-ghost use Rattle.std.specs.Prelude.{◌≡◌, ◌↔◌, IsTrue, Some, find};
-ghost use Rattle.std.specs.Str.{bytes_eq, str_eq_ignore_ascii_case};
+ghost use Rattle.std.specs.Prelude.{◌≡◌, ◌↔◌, IsTrue, Some};
 ghost use Rattle.str0m_formats.specs.Codec.{codec_text, content, audio, video, events, media_kind, codec_of, IsReadAs, printed_and_read};
 
 use std::fmt;
-use str0m_values::MediaKind;
-use str0m_values::cuts::is_same_text;
+use str0m_values::{MediaKind, Worded, case_alike, case_of};
 
 /// A codec, or what else an `a=rtpmap` line may name (RFC 8866, section 6.6).
 #[derive(Clone, Copy, Debug, PartialEq, Eq)]
@@ -104,11 +102,13 @@ impl Codec {
             MediaKind::Video
         }
     }
+}
 
-    /// The name that rtpmap lines carry.
-    fn name(self) -> &'static str
-        ensures { result.now ≡ codec_text self }
-    {
+/// The names that rtpmap lines carry.
+impl Worded for Codec {
+    ghost word_of = { codec_text };
+
+    fn word(self) -> &'static str {
         match self {
             Codec::Opus => "opus",
             Codec::PCMU => "PCMU",
@@ -131,34 +131,18 @@ impl Codec {
     }
 }
 
-/// The codec that has this very name.
-fn written(name: &str) -> Option<Codec>
-    ensures { result ≡ find (λ codec. bytes_eq name.now (codec_text codec)) NAMED }
-{
-    NAMED.iter().copied().find(|codec| name == codec.name())
-}
-
-fn known(name: &str) -> Option<Codec>
-    ensures { result ≡ find (λ codec. str_eq_ignore_ascii_case name.now (codec_text codec)) NAMED }
-{
-    NAMED
-        .iter()
-        .copied()
-        .find(|codec| is_same_text(name, codec.name()))
-}
-
-#[tactic(auto, unfolding(crate::specs::Codec::codec_of))]
+#[tactic(auto, unfolding(crate::specs::Codec::codec_of, str0m_values::specs::Words::case_alike))]
 fn same(name: &str) -> Codec
     ensures { result ≡ codec_of name.now }
 {
-    known(name).unwrap_or(Codec::Unknown)
+    case_alike(&NAMED, name).unwrap_or(Codec::Unknown)
 }
 
 /// The codec of a name. Nearly all names stand in their own case, and texts are compared faster with it than without.
 fn named(name: &str) -> Codec
     ensures { result ≡ codec_of name.now }
 {
-    match written(name) {
+    match case_of(&NAMED, name) {
         Some(codec) => codec,
         None => same(name),
     }
@@ -191,7 +175,7 @@ impl fmt::Display for Codec {
     ghost output = { λ codec. Some (codec_text codec) };
 
     fn fmt<W: fmt::Write>(&self, f: &mut fmt::Formatter<W>) -> fmt::Result {
-        let name = self.name();
+        let name = self.word();
         write!(f, "{name}")
     }
 }

@@ -3,7 +3,7 @@ ghost use Rattle.std.specs.Prelude.{◌≡◌, ◌++◌, ◌∷◌, [], false, I
 ghost use Rattle.str0m_formats.specs.declared.codec.Codec.{Codec};
 ghost use Rattle.str0m_formats.specs.Rows.{types};
 ghost use Rattle.str0m_formats.specs.TypeSets.{AllDistinct};
-ghost use Rattle.str0m_formats.specs.DefaultRows.{default_rows, others, enabled_rows, AreDefault, usual_rows};
+ghost use Rattle.str0m_formats.specs.DefaultRows.{default_rows, others, enabled_rows, AreDefault, Enables, usual_rows};
 ghost use Rattle.str0m_formats.specs.Scores.{same_codec};
 
 use crate::codec::Codec;
@@ -74,9 +74,7 @@ impl CodecConfig {
             Codec::H266 => self.put(codec, &[default_h266_row()]),
             Codec::Vp9 => self.put(codec, &[vp9_row(98, 99, 0), vp9_row(100, 101, 2)]),
             Codec::Av1 => self.put(codec, &[av1_row()]),
-            Codec::Tele | Codec::Rtx | Codec::Red | Codec::Null | Codec::Unknown => {
-                self.put(codec, &[])
-            }
+            _ => self.put(codec, &[]),
         }
     }
 
@@ -95,12 +93,7 @@ impl CodecConfig {
 
     /// Takes out all rows of the codec and, where it is enabled, puts its default rows last.
     fn enable(&mut self, codec: Codec, enabled: bool, use_red: bool) -> Result<(), AllocError>
-        ensures ok { OnOk result (self.new.params.items ≡ enabled_rows codec enabled use_red self.old.params.items) }
-        ensures err { OnErr result (self.new ≡ self.old) }
-        ensures without { enabled ≡ false → IsOk result }
-        ensures distances { self.new.red_distances ≡ self.old.red_distances }
-        ensures default { AreDefault self.old.params.items → AreDefault self.new.params.items }
-        ensures distinct { AreDefault self.old.params.items → AllDistinct (types self.new.params.items) }
+        ensures { Enables codec enabled use_red self.old self.new result }
     {
         self.put_enabled(codec, enabled, use_red)
     }
@@ -110,12 +103,7 @@ impl CodecConfig {
     /// All rows of the codec are taken out; where it is enabled, its default rows come last. The only
     /// error is that memory was refused, which changes nothing; without `enabled` there is none.
     pub fn enable_pcmu(&mut self, enabled: bool, use_red: bool) -> Result<(), AllocError>
-        ensures ok { OnOk result (self.new.params.items ≡ enabled_rows Codec.PCMU enabled use_red self.old.params.items) }
-        ensures err { OnErr result (self.new ≡ self.old) }
-        ensures without { enabled ≡ false → IsOk result }
-        ensures distances { self.new.red_distances ≡ self.old.red_distances }
-        ensures default { AreDefault self.old.params.items → AreDefault self.new.params.items }
-        ensures distinct { AreDefault self.old.params.items → AllDistinct (types self.new.params.items) }
+        ensures { Enables Codec.PCMU enabled use_red self.old self.new result }
     {
         self.enable(Codec::PCMU, enabled, use_red)
     }
@@ -125,12 +113,7 @@ impl CodecConfig {
     /// All rows of the codec are taken out; where it is enabled, its default rows come last. The only
     /// error is that memory was refused, which changes nothing; without `enabled` there is none.
     pub fn enable_pcma(&mut self, enabled: bool, use_red: bool) -> Result<(), AllocError>
-        ensures ok { OnOk result (self.new.params.items ≡ enabled_rows Codec.PCMA enabled use_red self.old.params.items) }
-        ensures err { OnErr result (self.new ≡ self.old) }
-        ensures without { enabled ≡ false → IsOk result }
-        ensures distances { self.new.red_distances ≡ self.old.red_distances }
-        ensures default { AreDefault self.old.params.items → AreDefault self.new.params.items }
-        ensures distinct { AreDefault self.old.params.items → AllDistinct (types self.new.params.items) }
+        ensures { Enables Codec.PCMA enabled use_red self.old self.new result }
     {
         self.enable(Codec::PCMA, enabled, use_red)
     }
@@ -141,12 +124,7 @@ impl CodecConfig {
     /// All rows of the codec are taken out; where it is enabled, its default rows come last. The only
     /// error is that memory was refused, which changes nothing; without `enabled` there is none.
     pub fn enable_g722(&mut self, enabled: bool, use_red: bool) -> Result<(), AllocError>
-        ensures ok { OnOk result (self.new.params.items ≡ enabled_rows Codec.G722 enabled use_red self.old.params.items) }
-        ensures err { OnErr result (self.new ≡ self.old) }
-        ensures without { enabled ≡ false → IsOk result }
-        ensures distances { self.new.red_distances ≡ self.old.red_distances }
-        ensures default { AreDefault self.old.params.items → AreDefault self.new.params.items }
-        ensures distinct { AreDefault self.old.params.items → AllDistinct (types self.new.params.items) }
+        ensures { Enables Codec.G722 enabled use_red self.old self.new result }
     {
         self.enable(Codec::G722, enabled, use_red)
     }
@@ -157,12 +135,7 @@ impl CodecConfig {
     /// All rows of the codec are taken out; where it is enabled, its default rows come last. The only
     /// error is that memory was refused, which changes nothing; without `enabled` there is none.
     pub fn enable_opus(&mut self, enabled: bool, use_red: bool) -> Result<(), AllocError>
-        ensures ok { OnOk result (self.new.params.items ≡ enabled_rows Codec.Opus enabled use_red self.old.params.items) }
-        ensures err { OnErr result (self.new ≡ self.old) }
-        ensures without { enabled ≡ false → IsOk result }
-        ensures distances { self.new.red_distances ≡ self.old.red_distances }
-        ensures default { AreDefault self.old.params.items → AreDefault self.new.params.items }
-        ensures distinct { AreDefault self.old.params.items → AllDistinct (types self.new.params.items) }
+        ensures { Enables Codec.Opus enabled use_red self.old self.new result }
     {
         self.enable(Codec::Opus, enabled, use_red)
     }
@@ -173,12 +146,7 @@ impl CodecConfig {
     /// All rows of the codec are taken out; where it is enabled, its default rows come last. The only
     /// error is that memory was refused, which changes nothing; without `enabled` there is none.
     pub fn enable_comfort_noise(&mut self, enabled: bool) -> Result<(), AllocError>
-        ensures ok { OnOk result (self.new.params.items ≡ enabled_rows Codec.CN enabled false self.old.params.items) }
-        ensures err { OnErr result (self.new ≡ self.old) }
-        ensures without { enabled ≡ false → IsOk result }
-        ensures distances { self.new.red_distances ≡ self.old.red_distances }
-        ensures default { AreDefault self.old.params.items → AreDefault self.new.params.items }
-        ensures distinct { AreDefault self.old.params.items → AllDistinct (types self.new.params.items) }
+        ensures { Enables Codec.CN enabled false self.old self.new result }
     {
         self.enable(Codec::CN, enabled, false)
     }
@@ -189,12 +157,7 @@ impl CodecConfig {
     /// All rows of the codec are taken out; where it is enabled, its default rows come last. The only
     /// error is that memory was refused, which changes nothing; without `enabled` there is none.
     pub fn enable_amr_wb(&mut self, enabled: bool) -> Result<(), AllocError>
-        ensures ok { OnOk result (self.new.params.items ≡ enabled_rows Codec.AmrWb enabled false self.old.params.items) }
-        ensures err { OnErr result (self.new ≡ self.old) }
-        ensures without { enabled ≡ false → IsOk result }
-        ensures distances { self.new.red_distances ≡ self.old.red_distances }
-        ensures default { AreDefault self.old.params.items → AreDefault self.new.params.items }
-        ensures distinct { AreDefault self.old.params.items → AllDistinct (types self.new.params.items) }
+        ensures { Enables Codec.AmrWb enabled false self.old self.new result }
     {
         self.enable(Codec::AmrWb, enabled, false)
     }
@@ -204,12 +167,7 @@ impl CodecConfig {
     /// All rows of the codec are taken out; where it is enabled, its default rows come last. The only
     /// error is that memory was refused, which changes nothing; without `enabled` there is none.
     pub fn enable_vp8(&mut self, enabled: bool) -> Result<(), AllocError>
-        ensures ok { OnOk result (self.new.params.items ≡ enabled_rows Codec.Vp8 enabled false self.old.params.items) }
-        ensures err { OnErr result (self.new ≡ self.old) }
-        ensures without { enabled ≡ false → IsOk result }
-        ensures distances { self.new.red_distances ≡ self.old.red_distances }
-        ensures default { AreDefault self.old.params.items → AreDefault self.new.params.items }
-        ensures distinct { AreDefault self.old.params.items → AllDistinct (types self.new.params.items) }
+        ensures { Enables Codec.Vp8 enabled false self.old self.new result }
     {
         self.enable(Codec::Vp8, enabled, false)
     }
@@ -220,12 +178,7 @@ impl CodecConfig {
     /// All rows of the codec are taken out; where it is enabled, its default rows come last. The only
     /// error is that memory was refused, which changes nothing; without `enabled` there is none.
     pub fn enable_h264(&mut self, enabled: bool) -> Result<(), AllocError>
-        ensures ok { OnOk result (self.new.params.items ≡ enabled_rows Codec.H264 enabled false self.old.params.items) }
-        ensures err { OnErr result (self.new ≡ self.old) }
-        ensures without { enabled ≡ false → IsOk result }
-        ensures distances { self.new.red_distances ≡ self.old.red_distances }
-        ensures default { AreDefault self.old.params.items → AreDefault self.new.params.items }
-        ensures distinct { AreDefault self.old.params.items → AllDistinct (types self.new.params.items) }
+        ensures { Enables Codec.H264 enabled false self.old self.new result }
     {
         self.enable(Codec::H264, enabled, false)
     }
@@ -236,12 +189,7 @@ impl CodecConfig {
     /// All rows of the codec are taken out; where it is enabled, its default rows come last. The only
     /// error is that memory was refused, which changes nothing; without `enabled` there is none.
     pub fn enable_h265(&mut self, enabled: bool) -> Result<(), AllocError>
-        ensures ok { OnOk result (self.new.params.items ≡ enabled_rows Codec.H265 enabled false self.old.params.items) }
-        ensures err { OnErr result (self.new ≡ self.old) }
-        ensures without { enabled ≡ false → IsOk result }
-        ensures distances { self.new.red_distances ≡ self.old.red_distances }
-        ensures default { AreDefault self.old.params.items → AreDefault self.new.params.items }
-        ensures distinct { AreDefault self.old.params.items → AllDistinct (types self.new.params.items) }
+        ensures { Enables Codec.H265 enabled false self.old self.new result }
     {
         self.enable(Codec::H265, enabled, false)
     }
@@ -252,12 +200,7 @@ impl CodecConfig {
     /// All rows of the codec are taken out; where it is enabled, its default rows come last. The only
     /// error is that memory was refused, which changes nothing; without `enabled` there is none.
     pub fn enable_h266(&mut self, enabled: bool) -> Result<(), AllocError>
-        ensures ok { OnOk result (self.new.params.items ≡ enabled_rows Codec.H266 enabled false self.old.params.items) }
-        ensures err { OnErr result (self.new ≡ self.old) }
-        ensures without { enabled ≡ false → IsOk result }
-        ensures distances { self.new.red_distances ≡ self.old.red_distances }
-        ensures default { AreDefault self.old.params.items → AreDefault self.new.params.items }
-        ensures distinct { AreDefault self.old.params.items → AllDistinct (types self.new.params.items) }
+        ensures { Enables Codec.H266 enabled false self.old self.new result }
     {
         self.enable(Codec::H266, enabled, false)
     }
@@ -268,12 +211,7 @@ impl CodecConfig {
     /// All rows of the codec are taken out; where it is enabled, its default rows come last. The only
     /// error is that memory was refused, which changes nothing; without `enabled` there is none.
     pub fn enable_vp9(&mut self, enabled: bool) -> Result<(), AllocError>
-        ensures ok { OnOk result (self.new.params.items ≡ enabled_rows Codec.Vp9 enabled false self.old.params.items) }
-        ensures err { OnErr result (self.new ≡ self.old) }
-        ensures without { enabled ≡ false → IsOk result }
-        ensures distances { self.new.red_distances ≡ self.old.red_distances }
-        ensures default { AreDefault self.old.params.items → AreDefault self.new.params.items }
-        ensures distinct { AreDefault self.old.params.items → AllDistinct (types self.new.params.items) }
+        ensures { Enables Codec.Vp9 enabled false self.old self.new result }
     {
         self.enable(Codec::Vp9, enabled, false)
     }
@@ -283,12 +221,7 @@ impl CodecConfig {
     /// All rows of the codec are taken out; where it is enabled, its default rows come last. The only
     /// error is that memory was refused, which changes nothing; without `enabled` there is none.
     pub fn enable_av1(&mut self, enabled: bool) -> Result<(), AllocError>
-        ensures ok { OnOk result (self.new.params.items ≡ enabled_rows Codec.Av1 enabled false self.old.params.items) }
-        ensures err { OnErr result (self.new ≡ self.old) }
-        ensures without { enabled ≡ false → IsOk result }
-        ensures distances { self.new.red_distances ≡ self.old.red_distances }
-        ensures default { AreDefault self.old.params.items → AreDefault self.new.params.items }
-        ensures distinct { AreDefault self.old.params.items → AllDistinct (types self.new.params.items) }
+        ensures { Enables Codec.Av1 enabled false self.old self.new result }
     {
         self.enable(Codec::Av1, enabled, false)
     }

@@ -215,17 +215,7 @@ fn format_score(codec: Codec, own: &FormatParams, other: &FormatParams) -> Optio
         ),
         Codec::Vp9 => vp9_score(own, other),
         Codec::Av1 => av1_score(own, other),
-        Codec::PCMU
-        | Codec::PCMA
-        | Codec::G722
-        | Codec::CN
-        | Codec::AmrWb
-        | Codec::Vp8
-        | Codec::Tele
-        | Codec::Rtx
-        | Codec::Red
-        | Codec::Null
-        | Codec::Unknown => None,
+        _ => None,
     }
 }
 

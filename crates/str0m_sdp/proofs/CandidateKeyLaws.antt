@@ -22,11 +22,11 @@ use Rattle.str0m_values.specs.declared.address.IpAddr.TheVariants.{V4, V6}
 use Rattle.str0m_values.specs.declared.address.SocketAddr.{SocketAddr}
 use Rattle.str0m_values.specs.declared.candidate.Candidate.{Candidate}
 use Rattle.str0m_values.specs.declared.candidate_kind.CandidateKind.{CandidateKind}
-use Rattle.str0m_values.specs.declared.candidate_kind.CandidateKind.TheVariants.{Host, PeerReflexive, ServerReflexive, Relayed}
+use Rattle.str0m_values.specs.declared.candidate_kind.CandidateKind.TheVariants.{Host}
 use Rattle.str0m_values.specs.declared.protocol.Protocol.{Protocol}
-use Rattle.str0m_values.specs.declared.protocol.Protocol.TheVariants.{Udp, Tcp, SslTcp, Tls}
+use Rattle.str0m_values.specs.declared.protocol.Protocol.TheVariants.{Udp}
 use Rattle.str0m_values.specs.declared.protocol.TcpType.{TcpType}
-use Rattle.str0m_values.specs.declared.protocol.TcpType.TheVariants.{Active, Passive, So}
+use Rattle.str0m_values.specs.declared.protocol.TcpType.TheVariants.{Active}
 use Rattle.str0m_sdp.specs.CandidateKey.{IsKeyOf, address_part, ip_part, kind_part, protocol_part, type_part}
 use Rattle.str0m_sdp.specs.Candidates.{same_candidate}
 use Rattle.str0m_sdp.specs.contracts.candidate_key.CandidateKeyOrd.TheImpl as order
@@ -60,20 +60,15 @@ option_alike f E F alike (Some a) (Some b) = alike a b
 
 protocol_tag : (a : Protocol) → protocol_part a ≡ tag_of protocol.the_type a
 protocol_tag Udp = refl
-protocol_tag Tcp = refl
-protocol_tag SslTcp = refl
-protocol_tag Tls = refl
+protocol_tag _ = refl
 
 kind_tag : (a : CandidateKind) → kind_part a ≡ tag_of kind.the_type a
 kind_tag Host = refl
-kind_tag PeerReflexive = refl
-kind_tag ServerReflexive = refl
-kind_tag Relayed = refl
+kind_tag _ = refl
 
 type_tag : (a : TcpType) → type_part a ≡ tag_of tcp_type.the_type a
 type_tag Active = refl
-type_tag Passive = refl
-type_tag So = refl
+type_tag _ = refl
 
 type_alike : (a b : TcpType) → nat_eq (type_part a) (type_part b) ≡ sameb tcp_type.the_type a b
 type_alike a b = λ i. nat_eq (type_tag a i) (type_tag b i)

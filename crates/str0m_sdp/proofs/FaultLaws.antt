@@ -12,7 +12,7 @@ use Rattle.str0m_sdp.specs.Consistency.{apt_of, first_apt, is_direction, is_mid,
 use Rattle.str0m_sdp.specs.Fault.{after_mid, apt_fault, clash, err_if, fault_beside, first_fault, map_fault, mapping_fault}
 use Rattle.str0m_sdp.specs.Fault.{one_mid, proto_fault, setup_fault, value_fault, values_fault}
 use Rattle.str0m_sdp.specs.Lists.{first}
-use Rattle.str0m_sdp.specs.Mappings.{static_spec}
+use Rattle.str0m_formats.specs.CodecSpec.{static_spec}
 use Rattle.str0m_sdp.specs.declared.attribute.MediaAttribute.{MediaAttribute}
 use Rattle.str0m_sdp.specs.declared.attribute.MediaAttribute.TheVariants.{Fmtp}
 use Rattle.str0m_sdp.specs.declared.fault.Fault.{Fault}
@@ -21,7 +21,7 @@ use Rattle.str0m_sdp.specs.declared.media_line.MediaLine.{MediaLine}
 use Rattle.str0m_sdp.specs.declared.proto.Proto.{Proto}
 use Rattle.str0m_sdp.specs.declared.proto.Proto.TheVariants.{Srtp, Sctp}
 use Rattle.str0m_sdp.proofs.Holders.{mid_counted}
-use Rattle.str0m_sdp.proofs.StaticTypes.{needs_none}
+use Rattle.str0m_formats.proofs.StaticTypes.{needs_none}
 
 -- ---- the first of several
 

@@ -1,8 +1,8 @@
 -- The feedback of types, one attribute more.
-use Rattle.std.proofs.Common.{◌≡◌, ◌<◌, ◌+◌, ◌||◌, ℕ, Bool, false, List, [], length, take, set, get_or, codes, bytes_eq, refl, sym, ap, ◌∙◌, inl, inr}
+use Rattle.std.proofs.Common.{◌≡◌, ◌<◌, ◌+◌, ◌||◌, ℕ, Bool, false, List, [], length, take, set, get_or, bytes_eq, refl, sym, ap, ◌∙◌, inl, inr}
 use Rattle.std.proofs.lemmas.Bool.{cases_eq, eq-eqb, ne_eqb}
 use Rattle.std.proofs.lemmas.List.{get_or-set_same, get_or-set_other}
-use Rattle.str0m_sdp.specs.Feedback.{is_feedback, has_feedback, feedback_of, none, named, either}
+use Rattle.str0m_sdp.specs.Feedback.{is_feedback, has_feedback, feedback_by, feedback_of, none, named, either}
 use Rattle.str0m_sdp.specs.declared.attribute.MediaAttribute.{MediaAttribute}
 use Rattle.str0m_sdp.specs.declared.attribute.MediaAttribute.TheVariants.{RtcpFb}
 use Rattle.str0m_sdp.specs.declared.feedback.Feedback.{Feedback}
@@ -21,13 +21,11 @@ has_same attrs i attr pt words lt is fails = any_same (is_feedback pt words) att
 
 -- where each word stands or not, feedback is the same
 alike : (xs ys : List MediaAttribute) (pt : ℕ) → ((words : List ℕ) → has_feedback xs pt words ≡ has_feedback ys pt words) → feedback_of xs pt ≡ feedback_of ys pt
-alike xs ys pt same =
-    rw (same (codes "transport-cc"), same (codes "ccm fir"), same (codes "nack"), same (codes "nack pli"), same (codes "goog-remb")) refl
+alike xs ys pt same = λ i. feedback_by (λ words. same words i)
 
 joined : (xs ys : List MediaAttribute) (pt : ℕ) (value : List ℕ) → ((words : List ℕ) → has_feedback ys pt words ≡ (has_feedback xs pt words || bytes_eq value words))
     → feedback_of ys pt ≡ either (feedback_of xs pt) (named value)
-joined xs ys pt value more =
-    rw (more (codes "transport-cc"), more (codes "ccm fir"), more (codes "nack"), more (codes "nack pli"), more (codes "goog-remb")) refl
+joined xs ys pt value more = λ i. feedback_by (λ words. more words i)
 
 silent : (pt : ℕ) (words : List ℕ) (attr : MediaAttribute) → ((n : ℕ) (value : List ℕ) → attr ≡ RtcpFb n value → ⊥) → is_feedback pt words attr ≡ false
 silent pt words (RtcpFb n value) other = absurd (other n value refl)

@@ -8,7 +8,7 @@ use Rattle.str0m_sdp.specs.Consistency.{is_mid, is_direction, mid_of}
 use Rattle.str0m_sdp.specs.Lists.{first}
 use Rattle.str0m_sdp.specs.SectionDirection.{direction_of, section_direction, with_direction}
 use Rattle.str0m_sdp.specs.declared.attribute.MediaAttribute.{MediaAttribute}
-use Rattle.str0m_sdp.specs.declared.attribute.MediaAttribute.TheVariants.{Mid, RecvOnly, SendRecv, SendOnly, Inactive}
+use Rattle.str0m_sdp.specs.declared.attribute.MediaAttribute.TheVariants.{Mid, RecvOnly}
 use Rattle.str0m_sdp.proofs.ListLaws.{first_counted, first_set, first_within}
 
 mid_is : (attr : MediaAttribute) → is_some (mid_of attr) ≡ is_mid attr
@@ -20,9 +20,6 @@ mid_counted attrs = first_counted mid_of is_mid mid_is attrs
 
 pub direction_is : (attr : MediaAttribute) → is_some (direction_of attr) ≡ is_direction attr
 direction_is RecvOnly = refl
-direction_is SendRecv = refl
-direction_is SendOnly = refl
-direction_is Inactive = refl
 direction_is _ = refl
 
 pub direction_counted : (attrs : List MediaAttribute) → (is_some (first (filter_map direction_of attrs)) ≡ true) ↔ (0 < count_by is_direction attrs)
@@ -37,6 +34,4 @@ direction_read_back attrs direction some =
   where
     said : (direction : Direction) → direction_of (direction_attribute direction) ≡ Some direction
     said way.SendRecv = refl
-    said way.SendOnly = refl
-    said way.RecvOnly = refl
-    said way.Inactive = refl
+    said _ = refl

@@ -36,7 +36,6 @@ pub mod SessionFaultLaws
 pub mod SessionLaws
 pub mod SourceLaws
 pub mod SsrcLaws
-pub mod StaticTypes
 pub mod TypeLineLaws
 pub mod TypeMarks
 pub mod TypeTableLaws

@@ -1,7 +1,7 @@
 -- What the lines of one row answer: to questions on its own types exactly its own, to those on other types nothing.
 use Rattle.std.proofs.Common.{◌≡◌, ◌==◌, ◌&&◌, ◌||◌, ℕ, Bool, true, false, List, [], ◌∷◌, ◌++◌, Option, Some, None}
 use Rattle.std.proofs.Common.{option_to_list, refl, sym, ap, ◌∙◌}
-use Rattle.std.specs.Prelude.{codes, bytes_eq}
+use Rattle.std.specs.Prelude.{bytes_eq}
 use Rattle.std.specs.List.{AllByRecursion, filter_map, list_any}
 use Rattle.std.proofs.lemmas.Bool.{ne_eqb, eqb-false}
 use Rattle.std.proofs.lemmas.List.{append-nil}
@@ -15,6 +15,7 @@ use Rattle.str0m_formats.specs.declared.codec.Codec.TheVariants as codec
 use Rattle.str0m_formats.specs.declared.codec_spec.CodecSpec.{CodecSpec}
 use Rattle.str0m_formats.specs.declared.format_param.FormatParam.{FormatParam}
 use Rattle.str0m_formats.specs.declared.payload_params.PayloadParams.{PayloadParams}
+use Rattle.str0m_sdp.specs.declared.feedback.TheConstants.{TRANSPORT_CC, REMB, FIR, NACK, PLI}
 use Rattle.str0m_sdp.specs.declared.attribute.MediaAttribute.{MediaAttribute}
 use Rattle.str0m_sdp.specs.declared.attribute.MediaAttribute.TheVariants.{RtpMap, Fmtp}
 use Rattle.str0m_sdp.specs.RtpMap.{map_of_spec, spec_of_map}
@@ -133,16 +134,16 @@ flag_line t w words b c xs e =
 
 pub feedback_own : (row : PayloadParams) (vs : List (List FormatParam)) (words : List ℕ)
     → list_any (is_feedback row.pt words) (reads row vs)
-    ≡ ((row.fb_transport_cc && bytes_eq (codes "transport-cc") words) ||
-    ((row.fb_remb && bytes_eq (codes "goog-remb") words) || ((row.fb_fir && bytes_eq (codes "ccm fir") words)
-    || ((row.fb_nack && bytes_eq (codes "nack") words) || (row.fb_pli && bytes_eq (codes "nack pli") words)))))
+    ≡ ((row.fb_transport_cc && bytes_eq TRANSPORT_CC.now words) ||
+    ((row.fb_remb && bytes_eq REMB.now words) || ((row.fb_fir && bytes_eq FIR.now words)
+    || ((row.fb_nack && bytes_eq NACK.now words) || (row.fb_pli && bytes_eq PLI.now words)))))
 feedback_own row vs words =
     list_any-append (is_feedback row.pt words) (feedback_attrs row) rest
     ∙ ap (λ b. list_any (is_feedback row.pt words) (feedback_attrs row) || b) quiet_rest
     ∙ or_false _
     ∙ flag_line row.pt _ words row.fb_transport_cc _ _ (flag_line row.pt _ words row.fb_remb _ _
-    (flag_line row.pt _ words row.fb_fir _ _ (flag_line row.pt _ words row.fb_nack _ (feedback_line row.pt (codes "nack pli") row.fb_pli)
-    (one_flag row.pt (codes "nack pli") words row.fb_pli))))
+    (flag_line row.pt _ words row.fb_fir _ _ (flag_line row.pt _ words row.fb_nack _ (feedback_line row.pt PLI.now row.fb_pli)
+    (one_flag row.pt PLI.now words row.fb_pli))))
   where
     rest : List MediaAttribute
     rest = fmtp_lines row.pt vs ++ (rtx_lines row row.resend ++ red_reads row row.red)

@@ -1,10 +1,11 @@
 -- Where lines keep to their ranges, rows do.
-use Rattle.std.proofs.Common.{◌≡◌, ◌<◌, ◌≤◌, ◌++◌, ℕ, Bool, true, false, cond, not, List, [], ◌∷◌, Option, Some, None, All, IfSome, filter, find, nat_lt, nat_eq, option_map, option_to_list, filter_map, refl, inl, inr, arith}
+use Rattle.std.proofs.Common.{◌≡◌, ◌≤◌, ◌++◌, ℕ, Bool, true, false, cond, not, List, [], ◌∷◌, Option, Some, None, All, IfSome, filter, find, nat_lt, nat_eq, option_map, option_to_list, filter_map, refl}
 use Rattle.std.specs.List.{list_any}
-use Rattle.std.proofs.lemmas.Bool.{cases_lt, le-ltb, ne_eqb}
+use Rattle.std.proofs.lemmas.Bool.{le-ltb}
 use Rattle.std.proofs.lemmas.List.Elements.{All-nil, All-head, All-tail, All-append, All-filter}
 use Rattle.str0m_values.specs.Cuts.{when}
 use Rattle.str0m_formats.specs.Bounds.{AreModes, IsDistance, IsBounded}
+use Rattle.str0m_formats.specs.CodecSpec.{static_spec}
 use Rattle.str0m_formats.specs.FormatLine.{format_of_fmtp, events_end, is_events, is_refused, kept, values_of}
 use Rattle.str0m_formats.specs.FormatParams.{empty, set, set_all}
 use Rattle.str0m_formats.specs.declared.codec.Codec.{Codec}
@@ -13,10 +14,11 @@ use Rattle.str0m_formats.specs.declared.codec_spec.CodecSpec.{CodecSpec}
 use Rattle.str0m_formats.specs.declared.format_param.FormatParam.{FormatParam}
 use Rattle.str0m_formats.specs.declared.format_param.FormatParam.TheVariants.{ModeSet, SpropMaxDonDiff}
 use Rattle.str0m_formats.specs.declared.format_params.FormatParams.{FormatParams}
+use Rattle.str0m_formats.proofs.StaticTypes.{static_small}
 use Rattle.str0m_sdp.specs.Companions.{companion_in, companion, rtx_type, red_type}
 use Rattle.str0m_sdp.specs.Consistency.{maps}
 use Rattle.str0m_sdp.specs.Lists.{distinct}
-use Rattle.str0m_sdp.specs.Mappings.{mapping, static_spec, static_row, unmapped, mapped}
+use Rattle.str0m_sdp.specs.Mappings.{mapping, static_row, unmapped, mapped}
 use Rattle.str0m_sdp.specs.RowBounds.{IsInRange, KeepsToLine, KeepsToLines}
 use Rattle.str0m_sdp.specs.SectionRows.{values_in, lines_of, is_kept, row_with, row, rows}
 use Rattle.str0m_sdp.specs.declared.attribute.MediaAttribute.{MediaAttribute}
@@ -99,31 +101,16 @@ mapping_small : (attr : MediaAttribute) → KeepsToLine attr → IfSome (mapping
 mapping_small (RtpMap pt value) keeps = keeps
 mapping_small _ keeps = tt
 
--- a type above 127 isn't in the table
-large : (pt : ℕ) → 127 < pt → static_spec pt ≡ None
-unfolding static_spec
-large pt above =
-    rw (
-      ne_eqb pt 0 (λ e. absurd (omega arith)),
-      ne_eqb pt 8 (λ e. absurd (omega arith)),
-      ne_eqb pt 9 (λ e. absurd (omega arith)),
-      ne_eqb pt 13 (λ e. absurd (omega arith)),
-    ) refl
-
-small_or_none : (pt : ℕ) (o : Option CodecSpec) → (127 < pt → o ≡ None) → IfSome {T = ℕ × CodecSpec} (option_map (λ spec. (pt, spec)) o) (λ type. Small type.0)
-small_or_none pt None none = tt
-small_or_none pt (Some spec) none =
-    elim (cases_lt 127 pt) [
-      | inl above ↦ let no : Some spec ≡ None = none above in absurd cc
-      | inr small ↦ small
-    ]
+small_static : (pt : ℕ) (o : Option CodecSpec) → static_spec pt ≡ o → IfSome {T = ℕ × CodecSpec} (option_map (λ spec. (pt, spec)) o) (λ type. Small type.0)
+small_static pt None is = tt
+small_static pt (Some spec) is = static_small pt spec is
 
 unless_mapped : {X : Type 0} (P : X → Type 0) (b : Bool) (o : Option X) → IfSome o P → IfSome (cond b None o) P
 unless_mapped P true o holds = tt
 unless_mapped P false o holds = holds
 
 unmapped_small : (attrs : List MediaAttribute) (pt : ℕ) → Unit {0} → IfSome (unmapped attrs pt) (λ type. Small type.0)
-unmapped_small attrs pt _ = unless_mapped (λ type. Small type.0) (list_any (maps pt) attrs) (static_row pt) (small_or_none pt (static_spec pt) (large pt))
+unmapped_small attrs pt _ = unless_mapped (λ type. Small type.0) (list_any (maps pt) attrs) (static_row pt) (small_static pt (static_spec pt) refl)
 
 mapped_small : (m : MediaLine) → KeepsToLines m → All (λ type. Small type.0) (mapped m)
 unfolding mapped

@@ -1,7 +1,7 @@
 -- Asked of a frame without lines of types and the lines of all rows, each question on a row's type has that row's answer.
 use Rattle.std.proofs.Common.{◌≡◌, ◌==◌, ◌&&◌, ℕ, Bool, true, false, cond, List, [], ◌∷◌, ◌++◌, Option, Some, None}
 use Rattle.std.proofs.Common.{option_to_list, refl, ap, ◌∙◌, arith}
-use Rattle.std.specs.Prelude.{codes, count_by}
+use Rattle.std.specs.Prelude.{count_by}
 use Rattle.std.specs.List.{AllByRecursion, filter_map, flat_map, list_any}
 use Rattle.std.proofs.lemmas.List.Elements.{filter_map-append}
 use Rattle.str0m_formats.specs.TypeSets.{times, AllDistinct}
@@ -11,6 +11,7 @@ use Rattle.str0m_formats.specs.declared.codec_spec.CodecSpec.{CodecSpec}
 use Rattle.str0m_formats.specs.declared.format_param.FormatParam.{FormatParam}
 use Rattle.str0m_formats.specs.declared.payload_params.PayloadParams.{PayloadParams}
 use Rattle.str0m_formats.proofs.Times.{times-append, times-cons}
+use Rattle.str0m_sdp.specs.declared.feedback.TheConstants.{TRANSPORT_CC, REMB, FIR, NACK, PLI}
 use Rattle.str0m_sdp.specs.declared.attribute.MediaAttribute.{MediaAttribute}
 use Rattle.str0m_sdp.specs.declared.attribute.MediaAttribute.TheVariants.{RtpMap, Fmtp}
 use Rattle.str0m_sdp.specs.RtpMap.{map_of_spec}
@@ -46,11 +47,11 @@ last_option (Some n) = refl
 
 -- the lines say exactly the row's feedback of its primary type
 pub record SayFeedback (attrs : List MediaAttribute) (row : PayloadParams) : Type 0 where
-  pub transport_cc : has_feedback attrs row.pt (codes "transport-cc") ≡ row.fb_transport_cc
-  pub fir : has_feedback attrs row.pt (codes "ccm fir") ≡ row.fb_fir
-  pub nack : has_feedback attrs row.pt (codes "nack") ≡ row.fb_nack
-  pub pli : has_feedback attrs row.pt (codes "nack pli") ≡ row.fb_pli
-  pub remb : has_feedback attrs row.pt (codes "goog-remb") ≡ row.fb_remb
+  pub transport_cc : has_feedback attrs row.pt TRANSPORT_CC.now ≡ row.fb_transport_cc
+  pub fir : has_feedback attrs row.pt FIR.now ≡ row.fb_fir
+  pub nack : has_feedback attrs row.pt NACK.now ≡ row.fb_nack
+  pub pli : has_feedback attrs row.pt PLI.now ≡ row.fb_pli
+  pub remb : has_feedback attrs row.pt REMB.now ≡ row.fb_remb
 
 and_true : (a : Bool) → (a && true) ≡ a
 and_true true = refl
@@ -118,12 +119,11 @@ module _ (values : PayloadParams → List (List FormatParam)) where
 
     pub feedback_is : SayFeedback (attrs_of frame (before ++ row ∷ after)) row
     feedback_is = record {
-      transport_cc =
-          has_flag (codes "transport-cc") ∙ feedback_own row (values row) (codes "transport-cc") ∙ simp (and_true, and_false, or_false);
-      fir = has_flag (codes "ccm fir") ∙ feedback_own row (values row) (codes "ccm fir") ∙ simp (and_true, and_false, or_false);
-      nack = has_flag (codes "nack") ∙ feedback_own row (values row) (codes "nack") ∙ simp (and_true, and_false, or_false);
-      pli = has_flag (codes "nack pli") ∙ feedback_own row (values row) (codes "nack pli") ∙ simp (and_true, and_false);
-      remb = has_flag (codes "goog-remb") ∙ feedback_own row (values row) (codes "goog-remb") ∙ simp (and_true, and_false, or_false);
+      transport_cc = has_flag TRANSPORT_CC.now ∙ feedback_own row (values row) TRANSPORT_CC.now ∙ simp (and_true, and_false, or_false);
+      fir = has_flag FIR.now ∙ feedback_own row (values row) FIR.now ∙ simp (and_true, and_false, or_false);
+      nack = has_flag NACK.now ∙ feedback_own row (values row) NACK.now ∙ simp (and_true, and_false, or_false);
+      pli = has_flag PLI.now ∙ feedback_own row (values row) PLI.now ∙ simp (and_true, and_false);
+      remb = has_flag REMB.now ∙ feedback_own row (values row) REMB.now ∙ simp (and_true, and_false, or_false);
     }
 
     -- its RTX type and its RED type, where these are mapped to RTX and RED, and no value of a row's format names a type

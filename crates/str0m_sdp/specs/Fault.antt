@@ -6,7 +6,7 @@ use Rattle.str0m_formats.specs.declared.format_param.FormatParam.{FormatParam}
 use Rattle.str0m_values.specs.Cuts.{◌<|>◌, when}
 use Rattle.str0m_sdp.specs.Consistency.{is_mid, mid_of, is_setup, is_direction, maps, apt_of, first_apt}
 use Rattle.str0m_sdp.specs.Lists.{first}
-use Rattle.str0m_sdp.specs.Mappings.{static_spec}
+use Rattle.str0m_formats.specs.CodecSpec.{static_spec}
 use Rattle.str0m_sdp.specs.MediaType.{media_type_text}
 use Rattle.str0m_sdp.specs.Proto.{proto_text}
 use Rattle.str0m_sdp.specs.declared.attribute.MediaAttribute.{MediaAttribute}

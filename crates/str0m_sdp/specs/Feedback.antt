@@ -1,10 +1,11 @@
 -- The feedback that a section speaks of (RFC 4585, section 4.2).
-use Rattle.std.specs.Prelude.{ℕ, Bool, false, ◌==◌, ◌&&◌, ◌||◌, List, codes, bytes_eq}
+use Rattle.std.specs.Prelude.{ℕ, Bool, false, ◌==◌, ◌&&◌, ◌||◌, List, bytes_eq}
 use Rattle.std.specs.List.{list_any}
 use Rattle.str0m_formats.specs.declared.payload_params.PayloadParams.{PayloadParams}
 use Rattle.str0m_sdp.specs.declared.attribute.MediaAttribute.{MediaAttribute}
 use Rattle.str0m_sdp.specs.declared.attribute.MediaAttribute.TheVariants.{RtcpFb}
 use Rattle.str0m_sdp.specs.declared.feedback.Feedback.{Feedback}
+use Rattle.str0m_sdp.specs.declared.feedback.TheConstants.{TRANSPORT_CC, REMB, FIR, NACK, PLI}
 
 -- an rtcp-fb line of the type with this value
 abbrev pub is_feedback : ℕ → List ℕ → MediaAttribute → Bool
@@ -14,29 +15,27 @@ is_feedback pt words _ = false
 unfoldable pub has_feedback : List MediaAttribute → ℕ → List ℕ → Bool
 has_feedback attrs pt words = list_any (is_feedback pt words) attrs
 
--- the feedback of a type: transport-wide congestion control, full intra requests (RFC 5104, section 4.3.1), NACK and
+-- the feedback whose words pass: transport-wide congestion control, full intra requests (RFC 5104, section 4.3.1), NACK and
 -- picture loss indication (RFC 4585, section 6), and the receiver's estimate of the bitrate
-abbrev pub feedback_of : List MediaAttribute → ℕ → Feedback
-feedback_of attrs pt = record {
-  transport_cc = has_feedback attrs pt (codes "transport-cc");
-  fir = has_feedback attrs pt (codes "ccm fir");
-  nack = has_feedback attrs pt (codes "nack");
-  pli = has_feedback attrs pt (codes "nack pli");
-  remb = has_feedback attrs pt (codes "goog-remb");
+abbrev pub feedback_by : (List ℕ → Bool) → Feedback
+feedback_by passes = record {
+  transport_cc = passes TRANSPORT_CC.now;
+  fir = passes FIR.now;
+  nack = passes NACK.now;
+  pli = passes PLI.now;
+  remb = passes REMB.now;
 }
 
+-- the feedback of a type
+abbrev pub feedback_of : List MediaAttribute → ℕ → Feedback
+feedback_of attrs pt = feedback_by (has_feedback attrs pt)
+
 abbrev pub none : Feedback
-none = record { transport_cc = false; fir = false; nack = false; pli = false; remb = false }
+none = feedback_by (λ words. false)
 
 -- what the value of an rtcp-fb line names
 abbrev pub named : List ℕ → Feedback
-named words = record {
-  transport_cc = bytes_eq words (codes "transport-cc");
-  fir = bytes_eq words (codes "ccm fir");
-  nack = bytes_eq words (codes "nack");
-  pli = bytes_eq words (codes "nack pli");
-  remb = bytes_eq words (codes "goog-remb");
-}
+named words = feedback_by (bytes_eq words)
 
 -- what one or the other names
 abbrev pub either : Feedback → Feedback → Feedback

@@ -1,10 +1,9 @@
 -- Which codec each type of a section stands for.
 use Rattle.std.specs.Prelude.{ℕ, Bool, ◌==◌, ◌&&◌, nat_eq, List, ◌++◌, Option, Some, None, option_map, filter_map, if◌then◌else◌}
 use Rattle.std.specs.List.{list_any}
-use Rattle.str0m_formats.specs.FormatParams.{empty}
+use Rattle.str0m_formats.specs.CodecSpec.{static_spec}
 use Rattle.str0m_formats.specs.Scores.{same_codec}
 use Rattle.str0m_formats.specs.declared.codec.Codec.{Codec}
-use Rattle.str0m_formats.specs.declared.codec.Codec.TheVariants.{PCMU, PCMA, G722, CN}
 use Rattle.str0m_formats.specs.declared.codec_spec.CodecSpec.{CodecSpec}
 use Rattle.str0m_sdp.specs.Consistency.{maps}
 use Rattle.str0m_sdp.specs.Lists.{distinct}
@@ -18,20 +17,7 @@ abbrev pub mapping : MediaAttribute → Option (ℕ × CodecSpec)
 mapping (RtpMap pt value) = Some (pt, spec_of_map value)
 mapping _ = None
 
--- a codec of which nothing is said but its rate
-abbrev pub plain : Codec → ℕ → CodecSpec
-plain codec rate = record { codec = codec; clock_rate = rate; channels = None; format = empty }
-
--- the codecs of the types that need no rtpmap line (RFC 3551, section 6)
-unfoldable pub static_spec : ℕ → Option CodecSpec
-static_spec pt =
-    if pt == 0 then Some (plain PCMU 8000)
-    else if pt == 8 then Some (plain PCMA 8000)
-    else if pt == 9 then Some (plain G722 16000)
-    else if pt == 13 then Some (plain CN 8000)
-    else None
-
--- such a type with its codec
+-- a type that needs no rtpmap line, with its codec (RFC 3551, section 6)
 abbrev pub static_row : ℕ → Option (ℕ × CodecSpec)
 static_row pt = option_map (λ spec. (pt, spec)) (static_spec pt)
 

@@ -1,12 +1,13 @@
 -- Media types: their words, and which of them carry media.
-use Rattle.std.specs.Prelude.{ℕ, Bool, true, false, List, codes}
+use Rattle.std.specs.Prelude.{ℕ, Bool, true, false, List}
+use Rattle.str0m_sdp.specs.declared.media_type.TheConstants.{AUDIO, VIDEO, APPLICATION}
 use Rattle.str0m_sdp.specs.declared.media_type.MediaType.{MediaType}
 use Rattle.str0m_sdp.specs.declared.media_type.MediaType.TheVariants.{Audio, Video, Application, Unknown}
 
 abbrev pub media_type_text : MediaType → List ℕ
-media_type_text Audio = codes "audio"
-media_type_text Video = codes "video"
-media_type_text Application = codes "application"
+media_type_text Audio = AUDIO.now
+media_type_text Video = VIDEO.now
+media_type_text Application = APPLICATION.now
 media_type_text (Unknown text) = text
 
 -- what carries media, over RTP

@@ -1,5 +1,5 @@
 -- The attribute lines that describe a row: a codec with its format, its feedback and its payload types.
-use Rattle.std.specs.Prelude.{◌≡◌, ℕ, Bool, true, false, List, [], ◌∷◌, ◌++◌, Option, Some, None, codes}
+use Rattle.std.specs.Prelude.{◌≡◌, ℕ, Bool, true, false, List, [], ◌∷◌, ◌++◌, Option, Some, None}
 use Rattle.str0m_formats.specs.CodecSpec.{rtp_rate}
 use Rattle.str0m_formats.specs.FormatParams.{params_of}
 use Rattle.str0m_formats.specs.Narrowing.{telephone_max}
@@ -9,6 +9,7 @@ use Rattle.str0m_formats.specs.declared.format_param.FormatParam.{FormatParam}
 use Rattle.str0m_formats.specs.declared.format_param.FormatParam.TheVariants.{TelephoneEvents, Apt, Red}
 use Rattle.str0m_formats.specs.declared.format_params.FormatParams.{FormatParams}
 use Rattle.str0m_formats.specs.declared.payload_params.PayloadParams.{PayloadParams}
+use Rattle.str0m_sdp.specs.declared.feedback.TheConstants.{TRANSPORT_CC, REMB, FIR, NACK, PLI}
 use Rattle.str0m_sdp.specs.declared.attribute.MediaAttribute.{MediaAttribute}
 use Rattle.str0m_sdp.specs.declared.attribute.MediaAttribute.TheVariants.{RtpMap, RtcpFb, Fmtp}
 use Rattle.str0m_sdp.specs.RtpMap.{map_of_spec}
@@ -22,11 +23,11 @@ feedback_line pt value false = []
 -- 7.1), generic NACK and picture loss indication (RFC 4585, section 4.2)
 abbrev pub feedback_attrs : PayloadParams → List MediaAttribute
 feedback_attrs row =
-    feedback_line row.pt (codes "transport-cc") row.fb_transport_cc
-    ++ (feedback_line row.pt (codes "goog-remb") row.fb_remb
-    ++ (feedback_line row.pt (codes "ccm fir") row.fb_fir
-    ++ (feedback_line row.pt (codes "nack") row.fb_nack
-    ++ feedback_line row.pt (codes "nack pli") row.fb_pli)))
+    feedback_line row.pt TRANSPORT_CC.now row.fb_transport_cc
+    ++ (feedback_line row.pt REMB.now row.fb_remb
+    ++ (feedback_line row.pt FIR.now row.fb_fir
+    ++ (feedback_line row.pt NACK.now row.fb_nack
+    ++ feedback_line row.pt PLI.now row.fb_pli)))
 
 -- one fmtp line (RFC 8866, section 6.15), and none without values
 abbrev pub fmtp_line : ℕ → List FormatParam → List MediaAttribute

@@ -5,9 +5,15 @@ use crate::type_tables::{TYPES, place};
 use str0m_formats::PayloadParams;
 use str0m_values::Pt;
 
-/// The feedback that goes with a payload type: `nack` and `nack pli` (RFC 4585, section 4.2),
-/// `ccm fir` (RFC 5104, section 7.1), `transport-cc`
-/// (draft-holmer-rmcat-transport-wide-cc-extensions) and `goog-remb` (draft-alvestrand-rmcat-remb).
+/// The words of feedback in rtcp-fb lines: draft-holmer-rmcat-transport-wide-cc-extensions,
+/// draft-alvestrand-rmcat-remb, RFC 5104, section 7.1, and RFC 4585, section 4.2.
+pub const TRANSPORT_CC: &str = "transport-cc";
+pub const REMB: &str = "goog-remb";
+pub const FIR: &str = "ccm fir";
+pub const NACK: &str = "nack";
+pub const PLI: &str = "nack pli";
+
+/// The feedback that goes with a payload type.
 #[derive(Clone, Copy)]
 pub(crate) struct Feedback {
     pub(crate) transport_cc: bool,
@@ -37,11 +43,11 @@ impl Feedback {
         ensures { result ≡ named value.now }
     {
         Feedback {
-            transport_cc: value == "transport-cc",
-            fir: value == "ccm fir",
-            nack: value == "nack",
-            pli: value == "nack pli",
-            remb: value == "goog-remb",
+            transport_cc: value == TRANSPORT_CC,
+            fir: value == FIR,
+            nack: value == NACK,
+            pli: value == PLI,
+            remb: value == REMB,
         }
     }
 

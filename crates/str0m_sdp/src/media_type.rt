@@ -6,6 +6,11 @@ use std::alloc::AllocError;
 use std::fmt;
 use str0m_values::Text;
 
+/// The words of media types.
+pub const AUDIO: &str = "audio";
+pub const VIDEO: &str = "video";
+pub const APPLICATION: &str = "application";
+
 /// The media type of a section (RFC 8866, section 5.14).
 #[derive(Clone, Debug, Default, PartialEq, Eq, Drop)]
 pub enum MediaType {
@@ -33,9 +38,9 @@ impl MediaType {
         ensures { result.now ≡ media_type_text self.now }
     {
         match self {
-            MediaType::Audio => "audio",
-            MediaType::Video => "video",
-            MediaType::Application => "application",
+            MediaType::Audio => AUDIO,
+            MediaType::Video => VIDEO,
+            MediaType::Application => APPLICATION,
             MediaType::Unknown(text) => text.as_str(),
         }
     }

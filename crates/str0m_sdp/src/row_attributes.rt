@@ -5,6 +5,7 @@ ghost use Rattle.str0m_sdp.specs.declared.attribute.MediaAttribute.{MediaAttribu
 ghost use Rattle.str0m_sdp.specs.RowAttributes.{Begins, feedback_line, feedback_attrs, fmtp_line, format_values, format_attrs, rtx_lines, rtx_attrs, red_lines, red_attrs, row_attrs};
 
 use crate::attribute::MediaAttribute;
+use crate::feedback::{FIR, NACK, PLI, REMB, TRANSPORT_CC};
 use crate::rtp_map::RtpMap;
 use std::alloc::{AllocError, Global};
 use str0m_formats::{Codec, CodecSpec, FormatParam, PayloadParams};
@@ -80,11 +81,11 @@ fn append_feedback(list: &mut Vec<MediaAttribute>, row: &PayloadParams) -> Resul
     ensures begins { Begins list.old.items list.new.items }
 {
     let pt = row.pt();
-    push_feedback(list, pt, "transport-cc", row.fb_transport_cc())?;
-    push_feedback(list, pt, "goog-remb", row.fb_remb())?;
-    push_feedback(list, pt, "ccm fir", row.fb_fir())?;
-    push_feedback(list, pt, "nack", row.fb_nack())?;
-    push_feedback(list, pt, "nack pli", row.fb_pli())?;
+    push_feedback(list, pt, TRANSPORT_CC, row.fb_transport_cc())?;
+    push_feedback(list, pt, REMB, row.fb_remb())?;
+    push_feedback(list, pt, FIR, row.fb_fir())?;
+    push_feedback(list, pt, NACK, row.fb_nack())?;
+    push_feedback(list, pt, PLI, row.fb_pli())?;
     Ok(())
 }
 

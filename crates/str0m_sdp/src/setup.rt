@@ -5,6 +5,7 @@ ghost use Rattle.str0m_sdp.specs.declared.setup.Setup.TheVariants.{ActPass};
 
 use crate::printed::Printed;
 use std::fmt;
+use str0m_values::Worded;
 
 /// The role of a side in setting up the transport (RFC 8842, section 5.2; RFC 4145, section 4).
 #[derive(Clone, Copy, Debug, Default, PartialEq, Eq)]
@@ -18,16 +19,27 @@ pub enum Setup {
     Passive,
 }
 
-impl Setup {
-    /// The word of the role.
-    pub fn setup_line(&self) -> &str
-        ensures { result.now ≡ setup_text self.now }
-    {
+/// The roles, as their words are looked for.
+pub const SETUPS: [Setup; 3] = [Setup::ActPass, Setup::Active, Setup::Passive];
+
+impl Worded for Setup {
+    ghost word_of = { setup_text };
+
+    fn word(self) -> &'static str {
         match self {
             Setup::ActPass => "actpass",
             Setup::Active => "active",
             Setup::Passive => "passive",
         }
+    }
+}
+
+impl Setup {
+    /// The word of the role.
+    pub fn setup_line(&self) -> &str
+        ensures { result.now ≡ setup_text self.now }
+    {
+        self.word()
     }
 
     /// The role of the other side: who begins on one side waits on the other. A side that offers
@@ -75,8 +87,7 @@ impl fmt::Display for Setup {
     ghost output = { λ setup. Some (setup_text setup) };
 
     fn fmt<W: fmt::Write>(&self, f: &mut fmt::Formatter<W>) -> fmt::Result {
-        let line = self.setup_line();
-        f.write_str(line)
+        f.write_str(self.word())
     }
 }
 

@@ -1,4 +1,4 @@
-use Rattle.str0m_sdp.proofs.StaticTypes.{static_is}
+use Rattle.str0m_formats.proofs.StaticTypes.{static_is}
 use Rattle.str0m_sdp.proofs.mappings.static_spec.Goals as goal
 
 pub returns : goal.returns
