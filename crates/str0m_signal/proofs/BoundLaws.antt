@@ -1,5 +1,5 @@
 -- The numbers of what was read keep to their ranges.
-use Rattle.std.proofs.Common.{ℕ, Bool, true, false, List, [], ◌∷◌, get_or, Option, Result, Ok, Err, All, IfOk, inl, inr}
+use Rattle.std.proofs.Common.{ℕ, Bool, true, false, List, [], ◌∷◌, get_or, Option, Result, Ok, Err, All, IfOk, inl, inr, subst, sym}
 use Rattle.std.specs.Bool.{MatchBool}
 use Rattle.std.specs.Borrow.{Bor}
 use Rattle.std.specs.List.{cons_option}
@@ -13,7 +13,6 @@ use Rattle.str0m_formats.specs.declared.format_param.FormatParam.TheVariants.{Mo
 use Rattle.str0m_sdp.proofs.RowBoundLaws.{rows_bounded}
 use Rattle.str0m_sdp.specs.RowBounds.{IsInRange, KeepsToLine, KeepsToLines, HasBoundedRows}
 use Rattle.str0m_sdp.specs.declared.attribute.MediaAttribute.{MediaAttribute}
-use Rattle.str0m_sdp.specs.declared.attribute.MediaAttribute.TheVariants.{RtpMap, Fmtp}
 use Rattle.str0m_sdp.specs.declared.error.SdpError.{SdpError}
 use Rattle.str0m_sdp.specs.declared.media_line.MediaLine.{MediaLine}
 use Rattle.str0m_sdp.specs.declared.session.Sdp.{Sdp}
@@ -21,8 +20,10 @@ use Rattle.str0m_signal.specs.Answers.{Answers, unread}
 use Rattle.str0m_signal.specs.Chains.{Chain}
 use Rattle.str0m_signal.specs.Fmtp.{IsPairsForm, IsListForm, IsRangeForm, IsAnything}
 use Rattle.str0m_signal.specs.Lines.{Line, OneLine}
-use Rattle.str0m_signal.specs.MediaAttribute.{Named, MediaForm, IsMediaLine}
+use Rattle.str0m_signal.specs.MediaAttribute.{media_forms, MediaForm, IsMediaLine}
 use Rattle.str0m_signal.specs.Reading.{ConsistentSection, Reading}
+use Rattle.str0m_signal.specs.FormTable.{any}
+use Rattle.str0m_signal.proofs.AttributesAgain.{plain_again}
 use Rattle.str0m_values.specs.Fits.{FirstFit}
 
 -- ---- parameters
@@ -60,10 +61,10 @@ values_within more values (inr (no_pairs, inr (no_list, inr (no_range, is)))) = 
 
 -- ---- lines
 
-named_keeps : (text : List ℕ) (attr : MediaAttribute) → Named text attr → KeepsToLine attr
-named_keeps text (RtpMap pt value) is = is.number_is.fits
-named_keeps text (Fmtp pt values) is = (is.number_is.fits, values_within is.more values is.values_are)
-named_keeps text _ is = tt
+named_keeps : (text : List ℕ) (attr : MediaAttribute) → (any media_forms).Is text attr → KeepsToLine attr
+named_keeps text attr (inl (p, is, e)) = subst KeepsToLine (sym e) is.number_is.fits
+named_keeps text attr (inr (inl (p, is, e))) = subst KeepsToLine (sym e) (is.number_is.fits, values_within is.more p.1 is.values_are)
+named_keeps text attr (inr (inr is)) = (plain_again.always text attr is).1
 
 form_keeps : (text : List ℕ) (attr : MediaAttribute) → MediaForm text attr → KeepsToLine attr
 form_keeps text attr (inl named) = named_keeps text attr named

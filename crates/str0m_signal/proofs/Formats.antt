@@ -25,7 +25,7 @@ use Rattle.str0m_sdp.specs.Attribute.{media_attribute_text}
 use Rattle.str0m_sdp.specs.Fmtp.{is_shown, shown_line}
 use Rattle.str0m_sdp.specs.Lines.{attribute_line}
 use Rattle.str0m_sdp.specs.declared.attribute.MediaAttribute.TheVariants.{Fmtp}
-use Rattle.str0m_signal.specs.Fmtp.{IsKey, IsValue, StartsPlain, ArePairs, IsPairsForm, IsListForm, IsRangeForm, IsAnything}
+use Rattle.str0m_signal.specs.Fmtp.{IsKey, IsValue, StartsPlain, ArePairs, IsPairsForm, IsListForm, IsRangeForm, IsAnything, IsFmtp}
 use Rattle.str0m_signal.specs.MediaAttribute.{IsMediaLine}
 use Rattle.str0m_signal.specs.Writable.{IsPrintedAs}
 use Rattle.str0m_signal.proofs.PrintedAttributes.{HoldsNoEnd, both_lack, no_ends, no_end, num_is, decimal_lacks, decimal_no_end}
@@ -43,15 +43,17 @@ fmtp_line_printed pt body values small quiet are =
     attribute_printed (codes "fmtp:" ++ (decimal pt ++ (codes " " ++ body))) (Fmtp pt values)
     (no_ends (codes "fmtp:") _ (no_end (codes "fmtp:") refl refl)
     (no_ends (decimal pt) _ (decimal_no_end pt (omega arith)) (no_ends (codes " ") body (no_end (codes " ") refl refl) quiet)))
-    (record {
+    (inr (inl ((pt, values), is, refl)))
+  where
+    is : IsFmtp (codes "fmtp:" ++ (decimal pt ++ (codes " " ++ body))) pt values
+    is = record {
       number = decimal pt;
       more = codes " " ++ body;
       joined = refl;
-      number_is = num_is 127 pt small
-          (lit< tt);
+      number_is = num_is 127 pt small (lit< tt);
       word_ends = inr (body, refl);
       values_are = are;
-    })
+    }
 
 -- ---- which earlier forms don't hold
 

@@ -6,7 +6,6 @@ pub mod CandidateAgain
 pub mod CandidateLineLaws
 pub mod ChainLaws
 pub mod CharacterStarts
-pub mod FingerprintLineLaws
 pub mod FmtpAgain
 pub mod FmtpLaws
 pub mod FormLaws
@@ -43,6 +42,8 @@ pub mod SessionAgain
 pub mod SessionLaws
 pub mod SessionLines
 pub mod SimulcastLaws
+pub mod TableAgain
+pub mod TableLaws
 pub mod WithRows
 pub mod WordsAgain
 pub mod WordsLaws

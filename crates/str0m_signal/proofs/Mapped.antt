@@ -1,10 +1,10 @@
 -- Printed mappings and feedback have their forms.
-use Rattle.std.proofs.Common.{◌≡◌, ◌<◌, ◌≤◌, ℕ, true, List, ◌++◌, Option, Some, None, IfSome, refl, subst, arith, lit<, lit≤}
+use Rattle.std.proofs.Common.{◌≡◌, ◌<◌, ◌≤◌, ℕ, true, List, ◌++◌, Option, Some, None, IfSome, refl, subst, arith, lit<, lit≤, inl, inr}
 use Rattle.std.specs.Prelude.{codes}
 use Rattle.std.specs.Fmt.{decimal}
 use Rattle.std.proofs.lemmas.Fmt.{decimal_nonempty}
 use Rattle.str0m_values.specs.Cuts.{lacks}
-use Rattle.str0m_values.specs.Parts.{Lacks, IsRest}
+use Rattle.str0m_values.specs.Parts.{Lacks, IsRest, IsPt}
 use Rattle.str0m_values.proofs.CutLaws.{lacks_from}
 use Rattle.str0m_formats.specs.Codec.{codec_text, codec_of, IsReadAs, printed_and_read}
 use Rattle.str0m_formats.specs.declared.codec.Codec.{Codec}
@@ -14,6 +14,7 @@ use Rattle.str0m_sdp.specs.Attribute.{media_attribute_text}
 use Rattle.str0m_sdp.specs.RtpMap.{channels_text, rtp_map_text}
 use Rattle.str0m_sdp.specs.declared.rtp_map.RtpMap.{RtpMap as Mapping}
 use Rattle.str0m_sdp.specs.declared.attribute.MediaAttribute.TheVariants.{RtpMap, RtcpFb}
+use Rattle.str0m_signal.specs.Forms.{Behind, IsText, Two}
 use Rattle.str0m_signal.specs.RtpMap.{IsChannels, IsRtpMap}
 use Rattle.str0m_signal.specs.MediaAttribute.{IsMediaLine}
 use Rattle.str0m_signal.specs.Writable.{IsPrintedAs}
@@ -93,7 +94,7 @@ pub record KeepsToMapping (value : Mapping) : Type 0 where
 
 pub mapping_printed : (pt : ℕ) (value : Mapping) → pt ≤ 127 → KeepsToMapping value
     → IsPrintedAs IsMediaLine (media_attribute_text (RtpMap pt value)) (RtpMap pt (mapping_read value))
-mapping_printed pt value small keeps = attribute_printed text (RtpMap pt (mapping_read value)) quiet is where
+mapping_printed pt value small keeps = attribute_printed text (RtpMap pt (mapping_read value)) quiet (inl ((pt, mapping_read value), is, refl)) where
   clock : HoldsNoEnd (decimal value.clock_rate)
   clock = let limit = keeps.clock.1 in decimal_no_end value.clock_rate (omega arith)
 
@@ -138,7 +139,11 @@ pub feedback_printed : (pt : ℕ) (value : List ℕ) → pt ≤ 127 → IsRest v
 feedback_printed pt value small filled quiet =
     attribute_printed (codes "rtcp-fb:" ++ (decimal pt ++ (codes " " ++ value))) (RtcpFb pt value)
     (no_ends (codes "rtcp-fb:") _ (no_end (codes "rtcp-fb:") refl refl)
-    (no_ends (decimal pt) _ (decimal_no_end pt (omega arith)) (no_ends (codes " ") value (no_end (codes " ") refl refl) quiet))) (
+    (no_ends (decimal pt) _ (decimal_no_end pt (omega arith)) (no_ends (codes " ") value (no_end (codes " ") refl refl) quiet)))
+    (inr (inr (inl ((pt, value), is, refl))))
+  where
+    is : Behind (codes "rtcp-fb:") (Two 32 IsPt IsText) (codes "rtcp-fb:" ++ (decimal pt ++ (codes " " ++ value))) (pt, value)
+    is = (
       decimal pt ++ (codes " " ++ value),
       refl,
       (decimal pt, value, refl, decimal_lacks 32 pt (lit≤ tt) (omega arith), num_is 127 pt small (lit< tt), (filled, refl)),

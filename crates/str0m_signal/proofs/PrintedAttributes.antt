@@ -12,7 +12,8 @@ use Rattle.str0m_formats.proofs.RoundTrip.{decimal_reads}
 use Rattle.str0m_sdp.specs.Lines.{attribute_line}
 use Rattle.str0m_sdp.specs.declared.attribute.MediaAttribute.{MediaAttribute}
 use Rattle.str0m_signal.specs.Lines.{IsAttributeLine}
-use Rattle.str0m_signal.specs.MediaAttribute.{Named, MediaForm, IsMediaLine}
+use Rattle.str0m_signal.specs.FormTable.{any}
+use Rattle.str0m_signal.specs.MediaAttribute.{media_forms, MediaForm, IsMediaLine}
 use Rattle.str0m_signal.specs.Writable.{IsPrintedAs}
 
 -- each item prints nothing, or one line that reads as the value in its place
@@ -72,6 +73,6 @@ line_printed Form text attr quiet form =
     (codes "a=" ++ text, refl, front.0, front.1, (text, refl, form))
 
 -- an attribute with a form of its own, on a line of its own
-pub attribute_printed : (text : List ℕ) (attr : MediaAttribute) → HoldsNoEnd text → Named text attr
+pub attribute_printed : (text : List ℕ) (attr : MediaAttribute) → HoldsNoEnd text → (any media_forms).Is text attr
     → IsPrintedAs IsMediaLine (attribute_line text) attr
 attribute_printed text attr quiet form = line_printed MediaForm text attr quiet (inl form)

@@ -1,11 +1,10 @@
 pub mod Answers
 pub mod CandidateLine
 pub mod Chains
-pub mod FieldsReading
-pub mod FingerprintLine
 pub mod Fmtp
 pub mod FmtpReading
 pub mod FormReading
+pub mod FormTable
 pub mod Forms
 pub mod Header
 pub mod HeaderReading
@@ -26,11 +25,11 @@ pub mod RtpMapReading
 pub mod Section
 pub mod SectionReading
 pub mod SessionAttribute
-pub mod SessionAttributeReading
 pub mod Sides
 pub mod Simulcast
 pub mod SimulcastReading
 pub mod StreamName
+pub mod TransportForms
 pub mod Words
 pub mod WordsReading
 pub mod Writable

@@ -1,61 +1,125 @@
 -- The attributes of a section, each with the text that stands for it after `a=`.
-use Rattle.std.specs.Prelude.{◌≡◌, ◌++◌, ℕ, true, List, codes}
+use Rattle.std.specs.Prelude.{◌≡◌, ℕ, true, List, [], ◌∷◌, Option, codes}
 use Rattle.str0m_sdp.specs.declared.attribute.MediaAttribute.{MediaAttribute}
 use Rattle.str0m_sdp.specs.declared.attribute.MediaAttribute.TheVariants.{Rtcp, IceUfrag, IcePwd, IceOptions, Fingerprint, Setup, Mid, SctpPort, MaxMessageSize, SctpInit, ExtMap, RecvOnly, SendRecv, SendOnly, Inactive, Msid, RtcpMux, RtcpMuxOnly, RtcpRsize, Candidate, EndOfCandidates, RtpMap, RtcpFb, Fmtp, Rid, Simulcast, SsrcGroup, Ssrc, Unused}
-use Rattle.str0m_values.specs.Candidate.{IsCandidateText}
-use Rattle.str0m_values.specs.Parts.{IsRest, IsNum, IsPt}
-use Rattle.str0m_values.specs.ShortText.{IsLongestBeginning}
-use Rattle.str0m_values.specs.Joined.{Parted}
-use Rattle.str0m_signal.specs.FingerprintLine.{IsFingerprintText}
-use Rattle.str0m_signal.specs.Simulcast.{IsSimulcast}
-use Rattle.str0m_signal.specs.Forms.{Behind, IsText, Two, Tailed}
-use Rattle.str0m_signal.specs.Fmtp.{IsFmtp}
-use Rattle.str0m_signal.specs.Rid.{IsRid}
-use Rattle.str0m_signal.specs.RtpMap.{IsRtpMap}
+use Rattle.str0m_values.specs.Cuts.{◌<|>◌, when, is_rest}
 use Rattle.str0m_values.specs.Fits.{FirstFit}
+use Rattle.str0m_values.specs.Parts.{IsRest}
+use Rattle.str0m_values.specs.ShortText.{IsLongestBeginning, beginning_of}
+use Rattle.str0m_signal.specs.Fmtp.{IsFmtp}
+use Rattle.str0m_signal.specs.FmtpReading.{fmtp_fields_read}
+use Rattle.str0m_signal.specs.FormTable.{Piece, Form, own, a_text, number, two, tailed, parted, labelled, made, any, words, texts, IsUnused, unused_read, first_byte, by_letter}
 use Rattle.str0m_signal.specs.Lines.{IsAttributeLine}
-use Rattle.str0m_sdp.specs.Setup.{setup_text}
+use Rattle.str0m_signal.specs.Rid.{IsRid}
+use Rattle.str0m_signal.specs.RidReading.{rid_fields_read}
+use Rattle.str0m_signal.specs.RtpMap.{IsRtpMap}
+use Rattle.str0m_signal.specs.RtpMapReading.{rtpmap_fields_read}
+use Rattle.str0m_signal.specs.Simulcast.{IsSimulcast}
+use Rattle.str0m_signal.specs.SimulcastReading.{simulcast_fields_read}
+use Rattle.str0m_signal.specs.TransportForms.{ice_texts, last_word, candidate, fingerprint, setup}
+
+abbrev pub media_words : List (List ℕ × MediaAttribute)
+media_words =
+    (codes "recvonly", RecvOnly)
+    ∷ (codes "sendrecv", SendRecv)
+    ∷ (codes "sendonly", SendOnly)
+    ∷ (codes "inactive", Inactive)
+    ∷ (codes "rtcp-mux", RtcpMux)
+    ∷ (codes "rtcp-mux-only", RtcpMuxOnly)
+    ∷ (codes "rtcp-rsize", RtcpRsize)
+    ∷ last_word EndOfCandidates
+    ∷ []
+
+abbrev pub media_texts : List (List ℕ × (List ℕ → MediaAttribute))
+media_texts = ice_texts IceUfrag IcePwd IceOptions
+
+abbrev pub rtcp : Form MediaAttribute
+rtcp = labelled (codes "rtcp:") a_text Rtcp
+
+-- a name, as far as it is kept
+abbrev pub name : Piece (List ℕ)
+name = record { Is = λ text mid. IsRest text × IsLongestBeginning 16 text mid; read = λ text. when (is_rest text) (beginning_of 16 text) }
+
+abbrev pub mid : Form MediaAttribute
+mid = labelled (codes "mid:") name Mid
+
+abbrev pub sctp_port : Form MediaAttribute
+sctp_port = labelled (codes "sctp-port:") (number 65535) SctpPort
+
+abbrev pub max_message_size : Form MediaAttribute
+max_message_size = labelled (codes "max-message-size:") (number 18446744073709551615) MaxMessageSize
+
+abbrev pub sctp_init : Form MediaAttribute
+sctp_init = labelled (codes "sctp-init:") a_text SctpInit
+
+abbrev pub ext_map : Form MediaAttribute
+ext_map =
+    labelled (codes "extmap:") (two 32 (tailed 47 (number 255)) (tailed 32 a_text)) (λ p. ExtMap p.0 (record { uri = p.1; serialized = true }))
+
+abbrev pub msid : Form MediaAttribute
+msid = labelled (codes "msid:") (two 32 a_text a_text) (λ p. Msid (record { stream_id = p.0; track_id = p.1 }))
+
+abbrev pub rtpmap : Form MediaAttribute
+rtpmap = made (own (codes "rtpmap:") (λ text p. IsRtpMap text p.0 p.1) rtpmap_fields_read) (λ p. RtpMap p.0 p.1)
+
+abbrev pub rtcp_fb : Form MediaAttribute
+rtcp_fb = labelled (codes "rtcp-fb:") (two 32 (number 127) a_text) (λ p. RtcpFb p.0 p.1)
+
+abbrev pub fmtp : Form MediaAttribute
+fmtp = made (own (codes "fmtp:") (λ text p. IsFmtp text p.0 p.1) fmtp_fields_read) (λ p. Fmtp p.0 p.1)
+
+abbrev pub rid : Form MediaAttribute
+rid = labelled (codes "rid:") (record { Is = IsRid; read = rid_fields_read }) (λ f. Rid f.0 f.1.0 f.1.1.0 f.1.1.1)
+
+abbrev pub simulcast : Form MediaAttribute
+simulcast = labelled (codes "simulcast:") (record { Is = IsSimulcast; read = simulcast_fields_read }) Simulcast
+
+abbrev pub ssrc_group : Form MediaAttribute
+ssrc_group = labelled (codes "ssrc-group:") (two 32 a_text (parted 32 (number 4294967295))) (λ p. SsrcGroup p.0 p.1)
+
+abbrev pub ssrc : Form MediaAttribute
+ssrc = labelled (codes "ssrc:") (two 32 (number 4294967295) (two 58 a_text a_text)) (λ p. Ssrc p.0 p.1.0 p.1.1)
+
+-- those that are neither a mapping nor a format
+abbrev pub plain_forms : List (Form MediaAttribute)
+plain_forms =
+    rtcp_fb
+    ∷ ext_map
+    ∷ made candidate Candidate
+    ∷ ssrc
+    ∷ setup Setup
+    ∷ ssrc_group
+    ∷ texts media_texts
+    ∷ made fingerprint Fingerprint
+    ∷ mid
+    ∷ msid
+    ∷ rid
+    ∷ rtcp
+    ∷ simulcast
+    ∷ sctp_port
+    ∷ max_message_size
+    ∷ sctp_init
+    ∷ words media_words
+    ∷ []
 
 -- each attribute but `Unused`
-abbrev pub Named : List ℕ → MediaAttribute → Type 0
-Named text (Rtcp value) = Behind (codes "rtcp:") IsText text value
-Named text (IceUfrag value) = Behind (codes "ice-ufrag:") IsText text value
-Named text (IcePwd value) = Behind (codes "ice-pwd:") IsText text value
-Named text (IceOptions value) = Behind (codes "ice-options:") IsText text value
-Named text (Fingerprint hash) = IsFingerprintText text hash
-Named text (Setup setup) = text ≡ codes "setup:" ++ setup_text setup
-Named text (Mid mid) = (name : List ℕ) × (text ≡ codes "mid:" ++ name) × IsRest name × IsLongestBeginning 16 name mid
-Named text (SctpPort port) = Behind (codes "sctp-port:") (IsNum 65535) text port
-Named text (MaxMessageSize size) = Behind (codes "max-message-size:") (IsNum 18446744073709551615) text size
-Named text (SctpInit value) = Behind (codes "sctp-init:") IsText text value
-Named text (ExtMap id ext) = Behind (codes "extmap:") (Two 32 (Tailed 47 (IsNum 255)) (Tailed 32 IsText)) text (id, ext.uri) × (ext.serialized ≡ true)
-Named text RecvOnly = text ≡ codes "recvonly"
-Named text SendRecv = text ≡ codes "sendrecv"
-Named text SendOnly = text ≡ codes "sendonly"
-Named text Inactive = text ≡ codes "inactive"
-Named text (Msid msid) = Behind (codes "msid:") (Two 32 IsText IsText) text (msid.stream_id, msid.track_id)
-Named text RtcpMux = text ≡ codes "rtcp-mux"
-Named text RtcpMuxOnly = text ≡ codes "rtcp-mux-only"
-Named text RtcpRsize = text ≡ codes "rtcp-rsize"
-Named text (Candidate candidate) = IsCandidateText text candidate
-Named text EndOfCandidates = text ≡ codes "end-of-candidates"
-Named text (RtpMap pt value) = IsRtpMap text pt value
-Named text (RtcpFb pt value) = Behind (codes "rtcp-fb:") (Two 32 IsPt IsText) text (pt, value)
-Named text (Fmtp pt values) = IsFmtp text pt values
-Named text (Rid id direction types restrictions) = Behind (codes "rid:") IsRid text (id, (direction, (types, restrictions)))
-Named text (Simulcast simulcast) = Behind (codes "simulcast:") IsSimulcast text simulcast
-Named text (SsrcGroup semantics ssrcs) = Behind (codes "ssrc-group:") (Two 32 IsText (Parted 32 (IsNum 4294967295))) text (semantics, ssrcs)
-Named text (Ssrc ssrc attr value) = Behind (codes "ssrc:") (Two 32 (IsNum 4294967295) (Two 58 IsText IsText)) text (ssrc, (attr, value))
-Named text _ = ⊥
+abbrev pub media_forms : List (Form MediaAttribute)
+media_forms = rtpmap ∷ fmtp ∷ plain_forms
 
--- any text
-abbrev pub IsUnused : List ℕ → MediaAttribute → Type 0
-IsUnused text attribute = IsRest text × (attribute ≡ Unused text)
-
--- the text stands for the attribute: `Unused` only where no other case holds
+-- the text stands for the attribute: `Unused` only where no other form holds
 abbrev pub MediaForm : List ℕ → MediaAttribute → Type 0
-MediaForm = FirstFit Named IsUnused
+MediaForm = FirstFit (any media_forms).Is (IsUnused Unused)
 
 -- a line of a section is `a=` and the text of an attribute
 abbrev pub IsMediaLine : List ℕ → MediaAttribute → Type 0
 IsMediaLine = IsAttributeLine MediaForm
+
+-- the letters with which labels begin
+abbrev pub letters : List ℕ
+letters = codes "cefimrs"
+
+abbrev pub named_read : List ℕ → Option MediaAttribute
+named_read text = by_letter letters media_forms (first_byte text) text
+
+abbrev pub media_read : List ℕ → Option MediaAttribute
+media_read text = named_read text <|> unused_read Unused text

@@ -1,37 +1,53 @@
 -- The attributes of a session, each with the text that stands for it after `a=`.
-use Rattle.std.specs.Prelude.{◌≡◌, ◌++◌, ℕ, List, codes}
+use Rattle.std.specs.Prelude.{◌≡◌, ℕ, List, [], ◌∷◌, Option, Some, codes}
 use Rattle.str0m_sdp.specs.declared.attribute.SessionAttribute.{SessionAttribute}
 use Rattle.str0m_sdp.specs.declared.attribute.SessionAttribute.TheVariants.{Group, MsidSemantic, AllowMixedExts, IceLite, IceUfrag, IcePwd, IceOptions, Fingerprint, Setup, Candidate, EndOfCandidates, Unused}
-use Rattle.str0m_values.specs.Candidate.{IsCandidateText}
-use Rattle.str0m_values.specs.Parts.{IsRest}
+use Rattle.str0m_values.specs.Cuts.{◌>>=◌, ◌<|>◌}
 use Rattle.str0m_values.specs.Fits.{FirstFit}
-use Rattle.str0m_signal.specs.FingerprintLine.{IsFingerprintText}
-use Rattle.str0m_signal.specs.Words.{IsGroup, IsMsidSemantic}
-use Rattle.str0m_signal.specs.Forms.{Behind, IsText}
-use Rattle.str0m_sdp.specs.Setup.{setup_text}
+use Rattle.str0m_signal.specs.FormTable.{Form, labelled, made, any, words, texts, IsUnused, unused_read}
 use Rattle.str0m_signal.specs.Lines.{IsAttributeLine}
+use Rattle.str0m_signal.specs.TransportForms.{ice_texts, last_word, candidate, fingerprint, setup}
+use Rattle.str0m_signal.specs.Words.{IsGroup, IsMsidSemantic}
+use Rattle.str0m_signal.specs.WordsReading.{names_read, group_fields_read, msid_semantic_fields_read}
+
+abbrev pub session_words : List (List ℕ × SessionAttribute)
+session_words =
+    (codes "extmap-allow-mixed", AllowMixedExts)
+    ∷ (codes "ice-lite", IceLite)
+    ∷ last_word EndOfCandidates
+    ∷ []
+
+abbrev pub session_texts : List (List ℕ × (List ℕ → SessionAttribute))
+session_texts = ice_texts IceUfrag IcePwd IceOptions
+
+abbrev pub group : Form SessionAttribute
+group = labelled (codes "group:") (record { Is = IsGroup; read = group_fields_read }) (λ g. Group g.0 g.1)
+
+-- a group of a word and names, without a space at their end
+abbrev pub names_form_read : List ℕ → Option SessionAttribute
+names_form_read text = names_read text >>= λ g. Some (Group g.0 g.1)
+
+abbrev pub msid_semantic : Form SessionAttribute
+msid_semantic = labelled (codes "msid-semantic:") (record { Is = IsMsidSemantic; read = msid_semantic_fields_read }) (λ m. MsidSemantic m.0 m.1)
 
 -- each attribute but `Unused`
-abbrev pub Named : List ℕ → SessionAttribute → Type 0
-Named text (Group typ mids) = Behind (codes "group:") IsGroup text (typ, mids)
-Named text (MsidSemantic semantic ids) = Behind (codes "msid-semantic:") IsMsidSemantic text (semantic, ids)
-Named text AllowMixedExts = text ≡ codes "extmap-allow-mixed"
-Named text IceLite = text ≡ codes "ice-lite"
-Named text (IceUfrag value) = Behind (codes "ice-ufrag:") IsText text value
-Named text (IcePwd value) = Behind (codes "ice-pwd:") IsText text value
-Named text (IceOptions value) = Behind (codes "ice-options:") IsText text value
-Named text (Fingerprint hash) = IsFingerprintText text hash
-Named text (Setup setup) = text ≡ codes "setup:" ++ setup_text setup
-Named text (Candidate candidate) = IsCandidateText text candidate
-Named text EndOfCandidates = text ≡ codes "end-of-candidates"
-Named text _ = ⊥
+abbrev pub session_forms : List (Form SessionAttribute)
+session_forms =
+    words session_words
+    ∷ setup Setup
+    ∷ group
+    ∷ msid_semantic
+    ∷ texts session_texts
+    ∷ made fingerprint Fingerprint
+    ∷ made candidate Candidate
+    ∷ []
 
--- any text
-abbrev pub IsUnused : List ℕ → SessionAttribute → Type 0
-IsUnused text attribute = IsRest text × (attribute ≡ Unused text)
-
+-- the text stands for the attribute: `Unused` only where no other form holds
 abbrev pub SessionForm : List ℕ → SessionAttribute → Type 0
-SessionForm = FirstFit Named IsUnused
+SessionForm = FirstFit (any session_forms).Is (IsUnused Unused)
 
 abbrev pub IsSessionLine : List ℕ → SessionAttribute → Type 0
 IsSessionLine = IsAttributeLine SessionForm
+
+abbrev pub session_read : List ℕ → Option SessionAttribute
+session_read text = (any session_forms).read text <|> unused_read Unused text

@@ -2,7 +2,7 @@
 ghost use Rattle.std.specs.Prelude.{◌≡◌, IfOk, option_map};
 ghost use Rattle.str0m_values.specs.Cuts.{cut, num, parts};
 ghost use Rattle.str0m_signal.specs.FormReading.{text_read, tailed_read};
-ghost use Rattle.str0m_signal.specs.FieldsReading.{ext_map_read};
+ghost use Rattle.str0m_signal.specs.MediaAttribute.{ext_map};
 
 use memchr::memchr;
 use std::alloc::{AllocError, Global};
@@ -50,7 +50,7 @@ fn uri(text: &str) -> Option<&str>
 
 /// The extmap line of the text behind `a=`.
 pub(crate) fn ext_map(alloc: Global, text: &str) -> Result<Option<MediaAttribute>, AllocError>
-    ensures { IfOk result (λ found. found ≡ ext_map_read text.now) }
+    ensures { IfOk result (λ found. found ≡ ext_map.read text.now) }
 {
     let Some(body) = strip(text, "extmap:") else {
         return Ok(None);

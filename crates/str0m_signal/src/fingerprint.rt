@@ -1,6 +1,6 @@
 //! Lines with the fingerprint of a certificate.
 ghost use Rattle.std.specs.Prelude.{◌≡◌, IfOk};
-ghost use Rattle.str0m_signal.specs.FieldsReading.{fingerprint_read};
+ghost use Rattle.str0m_signal.specs.TransportForms.{fingerprint};
 
 use crate::parts::parts;
 use std::alloc::{AllocError, Global};
@@ -9,7 +9,7 @@ use str0m_values::{Fingerprint, Separator, Text};
 
 /// The fingerprint of the text behind `a=`.
 pub(crate) fn fingerprint(alloc: Global, text: &str) -> Result<Option<Fingerprint>, AllocError>
-    ensures { IfOk result (λ found. found ≡ fingerprint_read text.now) }
+    ensures { IfOk result (λ found. found ≡ fingerprint.read text.now) }
 {
     let Some(body) = strip(text, "fingerprint:") else {
         return Ok(None);

@@ -2,7 +2,7 @@
 
 ghost use Rattle.std.specs.Prelude.{◌≡◌, IfOk, Some};
 ghost use Rattle.str0m_signal.specs.FmtpReading.{pairs_form_read, fmtp_values_read};
-ghost use Rattle.str0m_signal.specs.MediaAttributeReading.{fmtp_read};
+ghost use Rattle.str0m_signal.specs.MediaAttribute.{fmtp};
 
 use crate::bare_values::bare;
 use crate::pairs::{pairs, skip_blanks};
@@ -42,7 +42,7 @@ fn values(alloc: Global, more: &str) -> Result<Items<FormatParam>, AllocError>
 
 /// The fmtp line of the text behind `a=`.
 pub(crate) fn fmtp(alloc: Global, text: &str) -> Result<Option<MediaAttribute>, AllocError>
-    ensures { IfOk result (λ found. found ≡ fmtp_read text.now) }
+    ensures { IfOk result (λ found. found ≡ fmtp.read text.now) }
 {
     let Some(body) = strip(text, "fmtp:") else {
         return Ok(None);

@@ -1,6 +1,6 @@
 //! Lines of a session that list names.
 ghost use Rattle.std.specs.Prelude.{◌≡◌, IfOk};
-ghost use Rattle.str0m_signal.specs.SessionAttributeReading.{names_form_read, group_read, msid_semantic_read};
+ghost use Rattle.str0m_signal.specs.SessionAttribute.{names_form_read, group, msid_semantic};
 
 use crate::parts::parts;
 use crate::words::without_space;
@@ -33,7 +33,7 @@ fn names(alloc: Global, text: &str) -> Result<Option<SessionAttribute>, AllocErr
 
 /// The group line of the text behind `a=`.
 pub(crate) fn group(alloc: Global, text: &str) -> Result<Option<SessionAttribute>, AllocError>
-    ensures { IfOk result (λ found. found ≡ group_read text.now) }
+    ensures { IfOk result (λ found. found ≡ group.read text.now) }
 {
     match strip(text, "group:") {
         Some(body) => names(alloc, without_space(body)),
@@ -46,7 +46,7 @@ pub(crate) fn msid_semantic(
     alloc: Global,
     text: &str,
 ) -> Result<Option<SessionAttribute>, AllocError>
-    ensures { IfOk result (λ found. found ≡ msid_semantic_read text.now) }
+    ensures { IfOk result (λ found. found ≡ msid_semantic.read text.now) }
 {
     let Some(body) = strip(text, "msid-semantic:") else {
         return Ok(None);

@@ -1,8 +1,10 @@
 //! The attributes of a section.
 
 ghost use Rattle.std.specs.Prelude.{◌≡◌, IfOk};
-ghost use Rattle.str0m_signal.specs.MediaAttribute.{IsMediaLine};
-ghost use Rattle.str0m_signal.specs.MediaAttributeReading.{words_read, ice_read, rtcp_read, sctp_port_read, sctp_init_read, max_message_size_read, candidate_form_read, fingerprint_form_read, setup_read, mid_read, first_byte, with_e_read, with_f_read, with_i_read, with_m_read, with_r_read, with_other_s_read, with_s_read, named_read, unused_read, media_read};
+ghost use Rattle.str0m_sdp.specs.declared.attribute.MediaAttribute.TheVariants.{Fingerprint, Setup, Candidate, Unused};
+ghost use Rattle.str0m_signal.specs.FormTable.{made, words, texts, unused_read, first_byte, letter_read};
+ghost use Rattle.str0m_signal.specs.MediaAttribute.{media_words, media_texts, rtcp, mid, sctp_port, sctp_init, max_message_size, media_forms, named_read, media_read, IsMediaLine};
+ghost use Rattle.str0m_signal.specs.TransportForms.{candidate, fingerprint, setup};
 ghost use Rattle.str0m_signal.specs.Chains.{Run};
 ghost use Rattle.str0m_signal.specs.Lines.{OneLine};
 ghost use Rattle.str0m_signal.specs.LineReading.{lines_of, Takes};
@@ -24,7 +26,7 @@ use str0m_values::{Items, Text};
 
 /// The attributes that are a word alone.
 fn word(text: &str) -> Option<MediaAttribute>
-    ensures { result ≡ words_read text.now }
+    ensures { result ≡ (words media_words).read text.now }
 {
     match text {
         "recvonly" => Some(MediaAttribute::RecvOnly),
@@ -41,7 +43,7 @@ fn word(text: &str) -> Option<MediaAttribute>
 
 /// The credentials of ICE and its options.
 fn ice(alloc: Global, text: &str) -> Result<Option<MediaAttribute>, AllocError>
-    ensures { IfOk result (λ found. found ≡ ice_read text.now) }
+    ensures { IfOk result (λ found. found ≡ (texts media_texts).read text.now) }
 {
     if let Some(value) = kept(alloc, text, "ice-ufrag:")? {
         return Ok(Some(MediaAttribute::IceUfrag(value)));
@@ -56,7 +58,7 @@ fn ice(alloc: Global, text: &str) -> Result<Option<MediaAttribute>, AllocError>
 }
 
 fn rtcp(alloc: Global, text: &str) -> Result<Option<MediaAttribute>, AllocError>
-    ensures { IfOk result (λ found. found ≡ rtcp_read text.now) }
+    ensures { IfOk result (λ found. found ≡ rtcp.read text.now) }
 {
     match kept(alloc, text, "rtcp:")? {
         Some(value) => Ok(Some(MediaAttribute::Rtcp(value))),
@@ -65,14 +67,14 @@ fn rtcp(alloc: Global, text: &str) -> Result<Option<MediaAttribute>, AllocError>
 }
 
 fn sctp_port(text: &str) -> Option<MediaAttribute>
-    ensures { result ≡ sctp_port_read text.now }
+    ensures { result ≡ sctp_port.read text.now }
 {
     let body = strip(text, "sctp-port:")?;
     Some(MediaAttribute::SctpPort(num_u16(body)?))
 }
 
 fn sctp_init(alloc: Global, text: &str) -> Result<Option<MediaAttribute>, AllocError>
-    ensures { IfOk result (λ found. found ≡ sctp_init_read text.now) }
+    ensures { IfOk result (λ found. found ≡ sctp_init.read text.now) }
 {
     match kept(alloc, text, "sctp-init:")? {
         Some(value) => Ok(Some(MediaAttribute::SctpInit(value))),
@@ -81,14 +83,14 @@ fn sctp_init(alloc: Global, text: &str) -> Result<Option<MediaAttribute>, AllocE
 }
 
 fn max_message_size(text: &str) -> Option<MediaAttribute>
-    ensures { result ≡ max_message_size_read text.now }
+    ensures { result ≡ max_message_size.read text.now }
 {
     let body = strip(text, "max-message-size:")?;
     Some(MediaAttribute::MaxMessageSize(num_u64(body)?))
 }
 
 fn fingerprint_form(alloc: Global, text: &str) -> Result<Option<MediaAttribute>, AllocError>
-    ensures { IfOk result (λ found. found ≡ fingerprint_form_read text.now) }
+    ensures { IfOk result (λ found. found ≡ (made fingerprint Fingerprint).read text.now) }
 {
     match fingerprint(alloc, text)? {
         Some(hash) => Ok(Some(MediaAttribute::Fingerprint(hash))),
@@ -97,7 +99,7 @@ fn fingerprint_form(alloc: Global, text: &str) -> Result<Option<MediaAttribute>,
 }
 
 fn candidate_form(alloc: Global, text: &str) -> Result<Option<MediaAttribute>, AllocError>
-    ensures { IfOk result (λ found. found ≡ candidate_form_read text.now) }
+    ensures { IfOk result (λ found. found ≡ (made candidate Candidate).read text.now) }
 {
     match candidate(alloc, text)? {
         Some(candidate) => Ok(Some(MediaAttribute::Candidate(candidate))),
@@ -106,14 +108,14 @@ fn candidate_form(alloc: Global, text: &str) -> Result<Option<MediaAttribute>, A
 }
 
 fn setup(text: &str) -> Option<MediaAttribute>
-    ensures { result ≡ setup_read text.now }
+    ensures { result ≡ (setup Setup).read text.now }
 {
     let word = strip(text, "setup:")?;
     Some(MediaAttribute::Setup(role(word)?))
 }
 
 fn mid(text: &str) -> Option<MediaAttribute>
-    ensures { result ≡ mid_read text.now }
+    ensures { result ≡ mid.read text.now }
 {
     let name = strip(text, "mid:")?;
     if name.is_empty() {
@@ -128,7 +130,7 @@ fn with_e<P: Place<MediaAttribute>>(
     text: &str,
     place: &mut P,
 ) -> Result<bool, AllocError>
-    ensures { IfOk result (Takes P.Puts (with_e_read text.now) place.old place.new) }
+    ensures { IfOk result (Takes P.Puts (letter_read media_forms 101 text.now) place.old place.new) }
 {
     if taken_result(ext_map(alloc, text), place)? {
         return Ok(true);
@@ -142,7 +144,7 @@ fn with_f<P: Place<MediaAttribute>>(
     text: &str,
     place: &mut P,
 ) -> Result<bool, AllocError>
-    ensures { IfOk result (Takes P.Puts (with_f_read text.now) place.old place.new) }
+    ensures { IfOk result (Takes P.Puts (letter_read media_forms 102 text.now) place.old place.new) }
 {
     if taken_result(fmtp(alloc, text), place)? {
         return Ok(true);
@@ -156,7 +158,7 @@ fn with_i<P: Place<MediaAttribute>>(
     text: &str,
     place: &mut P,
 ) -> Result<bool, AllocError>
-    ensures { IfOk result (Takes P.Puts (with_i_read text.now) place.old place.new) }
+    ensures { IfOk result (Takes P.Puts (letter_read media_forms 105 text.now) place.old place.new) }
 {
     if taken_result(ice(alloc, text), place)? {
         return Ok(true);
@@ -170,7 +172,7 @@ fn with_m<P: Place<MediaAttribute>>(
     text: &str,
     place: &mut P,
 ) -> Result<bool, AllocError>
-    ensures { IfOk result (Takes P.Puts (with_m_read text.now) place.old place.new) }
+    ensures { IfOk result (Takes P.Puts (letter_read media_forms 109 text.now) place.old place.new) }
 {
     if taken(mid(text), place)? {
         return Ok(true);
@@ -187,7 +189,7 @@ fn with_r<P: Place<MediaAttribute>>(
     text: &str,
     place: &mut P,
 ) -> Result<bool, AllocError>
-    ensures { IfOk result (Takes P.Puts (with_r_read text.now) place.old place.new) }
+    ensures { IfOk result (Takes P.Puts (letter_read media_forms 114 text.now) place.old place.new) }
 {
     if taken(rtp_map(text), place)? {
         return Ok(true);
@@ -204,14 +206,23 @@ fn with_r<P: Place<MediaAttribute>>(
     taken(word(text), place)
 }
 
-/// The forms whose names begin with `s`, but for those of sources and roles.
-fn with_other_s<P: Place<MediaAttribute>>(
+/// The forms whose names begin with `s`.
+fn with_s<P: Place<MediaAttribute>>(
     alloc: Global,
     text: &str,
     place: &mut P,
 ) -> Result<bool, AllocError>
-    ensures { IfOk result (Takes P.Puts (with_other_s_read text.now) place.old place.new) }
+    ensures { IfOk result (Takes P.Puts (letter_read media_forms 115 text.now) place.old place.new) }
 {
+    if taken_result(ssrc(alloc, text), place)? {
+        return Ok(true);
+    }
+    if taken(setup(text), place)? {
+        return Ok(true);
+    }
+    if taken_result(ssrc_group(alloc, text), place)? {
+        return Ok(true);
+    }
     if taken_result(simulcast_line(alloc, text), place)? {
         return Ok(true);
     }
@@ -224,32 +235,12 @@ fn with_other_s<P: Place<MediaAttribute>>(
     taken(word(text), place)
 }
 
-/// The forms whose names begin with `s`.
-fn with_s<P: Place<MediaAttribute>>(
-    alloc: Global,
-    text: &str,
-    place: &mut P,
-) -> Result<bool, AllocError>
-    ensures { IfOk result (Takes P.Puts (with_s_read text.now) place.old place.new) }
-{
-    if taken_result(ssrc(alloc, text), place)? {
-        return Ok(true);
-    }
-    if taken(setup(text), place)? {
-        return Ok(true);
-    }
-    if taken_result(ssrc_group(alloc, text), place)? {
-        return Ok(true);
-    }
-    with_other_s(alloc, text, place)
-}
-
 fn first_byte(text: &str) -> u8
     ensures { result ≡ first_byte text.now }
 {
     match text.as_bytes() {
         [first, ..] => *first,
-        [] => 0,
+        [] => b'\n',
     }
 }
 
@@ -275,7 +266,7 @@ fn named<P: Place<MediaAttribute>>(
 
 /// What isn't empty, as it stands.
 fn unused(alloc: Global, text: &str) -> Result<Option<MediaAttribute>, AllocError>
-    ensures { IfOk result (λ found. found ≡ unused_read text.now) }
+    ensures { IfOk result (λ found. found ≡ unused_read Unused text.now) }
 {
     if text.is_empty() {
         return Ok(None);

@@ -3,7 +3,7 @@ ghost use Rattle.std.specs.Prelude.{◌≡◌, ◌∷◌, ◌++◌, [], IfOk, co
 ghost use Rattle.str0m_sdp.specs.declared.attribute.MediaAttribute.TheVariants.{Rid};
 ghost use Rattle.str0m_values.specs.Cuts.{num, parts, when};
 ghost use Rattle.str0m_signal.specs.FormReading.{behind, two_read};
-ghost use Rattle.str0m_signal.specs.MediaAttributeReading.{rid_read};
+ghost use Rattle.str0m_signal.specs.MediaAttribute.{rid};
 ghost use Rattle.str0m_signal.specs.RidLists.{lists_of};
 ghost use Rattle.str0m_signal.specs.StreamName.{is_stream_name};
 ghost use Rattle.str0m_signal.specs.RidReading.{next_read, restriction_read, restrictions_read, restricted_read, typed_read, lists_read, more_read, direction_read};
@@ -249,7 +249,7 @@ fn made(name: Text, word: &'static str, lists: Lists) -> MediaAttribute
 
 /// The rid line of the text behind `a=`.
 pub(crate) fn rid(alloc: Global, text: &str) -> Result<Option<MediaAttribute>, AllocError>
-    ensures { IfOk result (λ found. found ≡ rid_read text.now) }
+    ensures { IfOk result (λ found. found ≡ rid.read text.now) }
 {
     let Some((name, word, behind)) = fields(text) else {
         return Ok(None);

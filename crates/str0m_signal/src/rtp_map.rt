@@ -4,7 +4,7 @@ ghost use Rattle.std.specs.Prelude.{◌≡◌};
 ghost use Rattle.str0m_values.specs.Cuts.{cut};
 ghost use Rattle.str0m_formats.specs.Codec.{codec_of};
 ghost use Rattle.str0m_signal.specs.RtpMapReading.{frequency_read, clock_read, mapping_read};
-ghost use Rattle.str0m_signal.specs.MediaAttributeReading.{rtpmap_read};
+ghost use Rattle.str0m_signal.specs.MediaAttribute.{rtpmap};
 
 use str0m_formats::Codec;
 use str0m_sdp::{MediaAttribute, RtpMap};
@@ -50,7 +50,7 @@ fn mapping(text: &str) -> Option<RtpMap>
 
 /// The rtpmap line of the text behind `a=`.
 pub(crate) fn rtp_map(text: &str) -> Option<MediaAttribute>
-    ensures { result ≡ rtpmap_read text.now }
+    ensures { result ≡ rtpmap.read text.now }
 {
     let body = strip(text, "rtpmap:")?;
     let (number, mapped) = cut(body, Separator::Space)?;

@@ -1,8 +1,10 @@
 //! The attributes of a session.
 
 ghost use Rattle.std.specs.Prelude.{◌≡◌, IfOk};
-ghost use Rattle.str0m_signal.specs.SessionAttribute.{IsSessionLine};
-ghost use Rattle.str0m_signal.specs.SessionAttributeReading.{words_read, setup_read, texts_read, candidate_form_read, fingerprint_form_read, named_read, unused_read, session_read};
+ghost use Rattle.str0m_sdp.specs.declared.attribute.SessionAttribute.TheVariants.{Setup, Fingerprint, Candidate, Unused};
+ghost use Rattle.str0m_signal.specs.SessionAttribute.{session_words, session_texts, session_forms, session_read, IsSessionLine};
+ghost use Rattle.str0m_signal.specs.FormTable.{made, any, words, texts, unused_read};
+ghost use Rattle.str0m_signal.specs.TransportForms.{candidate, fingerprint, setup};
 ghost use Rattle.str0m_signal.specs.Chains.{Run};
 ghost use Rattle.str0m_signal.specs.Lines.{OneLine};
 ghost use Rattle.str0m_signal.specs.LineReading.{lines_of};
@@ -19,7 +21,7 @@ use str0m_values::{Items, Text};
 
 /// The attributes that are a word alone.
 fn word(text: &str) -> Option<SessionAttribute>
-    ensures { result ≡ words_read text.now }
+    ensures { result ≡ (words session_words).read text.now }
 {
     match text {
         "extmap-allow-mixed" => Some(SessionAttribute::AllowMixedExts),
@@ -30,7 +32,7 @@ fn word(text: &str) -> Option<SessionAttribute>
 }
 
 fn setup(text: &str) -> Option<SessionAttribute>
-    ensures { result ≡ setup_read text.now }
+    ensures { result ≡ (setup Setup).read text.now }
 {
     let word = strip(text, "setup:")?;
     Some(SessionAttribute::Setup(role(word)?))
@@ -38,7 +40,7 @@ fn setup(text: &str) -> Option<SessionAttribute>
 
 /// The attributes that are a label and a text.
 fn labelled_text(alloc: Global, text: &str) -> Result<Option<SessionAttribute>, AllocError>
-    ensures { IfOk result (λ found. found ≡ texts_read text.now) }
+    ensures { IfOk result (λ found. found ≡ (texts session_texts).read text.now) }
 {
     if let Some(value) = kept(alloc, text, "ice-ufrag:")? {
         return Ok(Some(SessionAttribute::IceUfrag(value)));
@@ -53,7 +55,7 @@ fn labelled_text(alloc: Global, text: &str) -> Result<Option<SessionAttribute>, 
 }
 
 fn fingerprint_form(alloc: Global, text: &str) -> Result<Option<SessionAttribute>, AllocError>
-    ensures { IfOk result (λ found. found ≡ fingerprint_form_read text.now) }
+    ensures { IfOk result (λ found. found ≡ (made fingerprint Fingerprint).read text.now) }
 {
     match fingerprint(alloc, text)? {
         Some(hash) => Ok(Some(SessionAttribute::Fingerprint(hash))),
@@ -62,7 +64,7 @@ fn fingerprint_form(alloc: Global, text: &str) -> Result<Option<SessionAttribute
 }
 
 fn candidate_form(alloc: Global, text: &str) -> Result<Option<SessionAttribute>, AllocError>
-    ensures { IfOk result (λ found. found ≡ candidate_form_read text.now) }
+    ensures { IfOk result (λ found. found ≡ (made candidate Candidate).read text.now) }
 {
     match candidate(alloc, text)? {
         Some(candidate) => Ok(Some(SessionAttribute::Candidate(candidate))),
@@ -71,7 +73,7 @@ fn candidate_form(alloc: Global, text: &str) -> Result<Option<SessionAttribute>,
 }
 
 fn named(alloc: Global, text: &str) -> Result<Option<SessionAttribute>, AllocError>
-    ensures { IfOk result (λ found. found ≡ named_read text.now) }
+    ensures { IfOk result (λ found. found ≡ (any session_forms).read text.now) }
 {
     if let Some(found) = word(text) {
         return Ok(Some(found));
@@ -96,7 +98,7 @@ fn named(alloc: Global, text: &str) -> Result<Option<SessionAttribute>, AllocErr
 
 /// What isn't empty, as it stands.
 fn unused(alloc: Global, text: &str) -> Result<Option<SessionAttribute>, AllocError>
-    ensures { IfOk result (λ found. found ≡ unused_read text.now) }
+    ensures { IfOk result (λ found. found ≡ unused_read Unused text.now) }
 {
     if text.is_empty() {
         return Ok(None);

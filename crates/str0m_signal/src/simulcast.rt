@@ -2,7 +2,7 @@
 ghost use Rattle.std.specs.Prelude.{◌≡◌, IfOk, option_map};
 ghost use Rattle.std.specs.List.{list_all};
 ghost use Rattle.std.specs.Str.{chars};
-ghost use Rattle.str0m_signal.specs.MediaAttributeReading.{simulcast_read};
+ghost use Rattle.str0m_signal.specs.MediaAttribute.{simulcast};
 ghost use Rattle.str0m_signal.specs.Sides.{sides_of};
 ghost use Rattle.str0m_signal.specs.StreamName.{is_name_character, is_stream_name};
 ghost use Rattle.str0m_signal.specs.SimulcastReading.{alternative_read, first_read, layer_read, sides_read, layers_of, simulcast_fields_read};
@@ -195,7 +195,7 @@ pub(crate) fn simulcast_line(
     alloc: Global,
     text: &str,
 ) -> Result<Option<MediaAttribute>, AllocError>
-    ensures { IfOk result (λ found. found ≡ simulcast_read text.now) }
+    ensures { IfOk result (λ found. found ≡ simulcast.read text.now) }
 {
     let Some(body) = strip(text, "simulcast:") else {
         return Ok(None);

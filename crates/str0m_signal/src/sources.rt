@@ -3,7 +3,7 @@ ghost use Rattle.std.specs.Prelude.{◌≡◌, IfOk};
 ghost use Rattle.str0m_values.specs.Cuts.{parts};
 ghost use Rattle.str0m_values.specs.Separator.{code};
 ghost use Rattle.str0m_signal.specs.FormReading.{text_read, two_read};
-ghost use Rattle.str0m_signal.specs.FieldsReading.{msid_read, rtcp_fb_read, ssrc_read, ssrc_group_read};
+ghost use Rattle.str0m_signal.specs.MediaAttribute.{msid, rtcp_fb, ssrc, ssrc_group};
 
 use crate::parts::parts;
 use std::alloc::{AllocError, Global};
@@ -27,7 +27,7 @@ fn two_texts(text: &str, at: Separator) -> Option<(&str, &str)>
 
 /// The msid line of the text behind `a=`.
 pub(crate) fn msid(alloc: Global, text: &str) -> Result<Option<MediaAttribute>, AllocError>
-    ensures { IfOk result (λ found. found ≡ msid_read text.now) }
+    ensures { IfOk result (λ found. found ≡ msid.read text.now) }
 {
     let Some(body) = strip(text, "msid:") else {
         return Ok(None);
@@ -45,7 +45,7 @@ pub(crate) fn msid(alloc: Global, text: &str) -> Result<Option<MediaAttribute>, 
 
 /// The rtcp-fb line of the text behind `a=`.
 pub(crate) fn rtcp_fb(alloc: Global, text: &str) -> Result<Option<MediaAttribute>, AllocError>
-    ensures { IfOk result (λ found. found ≡ rtcp_fb_read text.now) }
+    ensures { IfOk result (λ found. found ≡ rtcp_fb.read text.now) }
 {
     let Some(body) = strip(text, "rtcp-fb:") else {
         return Ok(None);
@@ -68,7 +68,7 @@ pub(crate) fn rtcp_fb(alloc: Global, text: &str) -> Result<Option<MediaAttribute
 
 /// The ssrc line of the text behind `a=`.
 pub(crate) fn ssrc(alloc: Global, text: &str) -> Result<Option<MediaAttribute>, AllocError>
-    ensures { IfOk result (λ found. found ≡ ssrc_read text.now) }
+    ensures { IfOk result (λ found. found ≡ ssrc.read text.now) }
 {
     let Some(body) = strip(text, "ssrc:") else {
         return Ok(None);
@@ -93,7 +93,7 @@ pub(crate) fn ssrc(alloc: Global, text: &str) -> Result<Option<MediaAttribute>, 
 
 /// The ssrc-group line of the text behind `a=`.
 pub(crate) fn ssrc_group(alloc: Global, text: &str) -> Result<Option<MediaAttribute>, AllocError>
-    ensures { IfOk result (λ found. found ≡ ssrc_group_read text.now) }
+    ensures { IfOk result (λ found. found ≡ ssrc_group.read text.now) }
 {
     let Some(body) = strip(text, "ssrc-group:") else {
         return Ok(None);
