@@ -6,9 +6,11 @@ use std::alloc::AllocError;
 use std::fmt;
 use str0m_values::Text;
 
-/// The words of media types.
+// The words of media types.
 pub const AUDIO: &str = "audio";
+
 pub const VIDEO: &str = "video";
+
 pub const APPLICATION: &str = "application";
 
 /// The media type of a section (RFC 8866, section 5.14).
