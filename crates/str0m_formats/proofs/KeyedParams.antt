@@ -1,5 +1,5 @@
 -- Parameters of the table of keys, as they print and are read again.
-use Rattle.std.proofs.Common.{◌≡◌, ◌⊎◌, ℕ, Bool, true, false, List, [], ◌∷◌, length, map, filter, nat_lt, Option, Some, None, MatchOption, refl, ap, arith, lit≤, inl, inr}
+use Rattle.std.proofs.Common.{◌≡◌, ◌⊎◌, ℕ, Bool, true, false, List, [], ◌∷◌, length, map, filter, nat_lt, Option, Some, None, MatchOption, refl, sym, ap, ◌∙◌, subst, arith, inl, inr}
 use Rattle.std.specs.List.{AllByRecursion, list_all}
 use Rattle.std.specs.Str.{str_to_ascii_lowercase}
 use Rattle.std.proofs.lemmas.Bool.{lt-ltb}
@@ -8,145 +8,94 @@ use Rattle.str0m_values.specs.Parts.{IsRest}
 use Rattle.str0m_formats.specs.declared.format_key.FormatKey.{FormatKey}
 use Rattle.str0m_formats.specs.declared.format_key.FormatKey.TheVariants as key
 use Rattle.str0m_formats.specs.declared.format_param.FormatParam.{FormatParam}
-use Rattle.str0m_formats.specs.declared.format_param.FormatParam.TheVariants.{MinPTime, PacketizationMode, ProfileId, Profile, LevelIdx, Tier, H265ProfileTierLevel, H266ProfileTierLevel, SpropMaxDonDiff, TelephoneEvents, BareRange, BarePtList, AmrWbUnsupported, Apt, Red}
 use Rattle.str0m_formats.specs.FormatKey.{key_text}
-use Rattle.str0m_formats.specs.FormatParam.{Value, flag, number, hex, modes, Reads, Holds, IsParsed, AreParsed, InRange, entry, entry_text, value_text, param_text}
+use Rattle.str0m_formats.specs.FormatParam.{Kind, flag, number, hex, modes, exactly, anything, Held, Reads, kind, made, entry, IsParsed, AreParsed, InRange, param_text}
 use Rattle.str0m_formats.specs.Pairs.{is_mark, has_mark}
 use Rattle.str0m_formats.specs.ParamReading.{param_of}
 use Rattle.str0m_formats.proofs.ModeBounds.{modes_within}
-use Rattle.str0m_formats.proofs.ParamLaws.{parsed}
-use Rattle.str0m_formats.proofs.Plain.{is_plain, plain_from}
-use Rattle.str0m_formats.proofs.RoundTrip.{HasSmallLimit, parsed_printed}
-use Rattle.str0m_formats.proofs.Shown.{joined_pair, IsPlainPair, key_filled, value_plain, value_filled}
+use Rattle.str0m_formats.proofs.RoundTrip.{key_reads, entry_made}
+use Rattle.str0m_formats.proofs.Shown.{joined_pair, IsPlainPair, Entry, HasRange, pair_in, pair_plain, text_of}
 
 -- the key and the value that a parameter of the table prints
-abbrev pub entry_pair : Option (FormatKey × Value) → List ℕ × List ℕ
+abbrev pub entry_pair : Option Entry → List ℕ × List ℕ
 entry_pair None = ([], [])
-entry_pair (Some e) = (key_text e.0, value_text e.1)
+entry_pair (Some e) = pair_in e
 
 abbrev pub pair_of : FormatParam → List ℕ × List ℕ
 pair_of param = entry_pair (entry param)
 
 -- a parameter of the table, with a value that reads back
 abbrev pub IsKeyed : FormatParam → Type 0
-IsKeyed param = MatchOption (entry param) ⊥ (λ e. InRange e.1)
-
--- ---- keys
-
-pub key_plain : (k : FormatKey) → list_all is_plain (key_text k) ≡ true
-key_plain key.MinPTime = refl
-key_plain key.Stereo = refl
-key_plain key.SpropStereo = refl
-key_plain key.UseInbandFec = refl
-key_plain key.UseDtx = refl
-key_plain key.LevelAsymmetryAllowed = refl
-key_plain key.PacketizationMode = refl
-key_plain key.ProfileLevelId = refl
-key_plain key.ProfileId = refl
-key_plain key.Profile = refl
-key_plain key.LevelIdx = refl
-key_plain key.Tier = refl
-key_plain key.SpropMaxDonDiff = refl
-key_plain key.OctetAlign = refl
-key_plain key.ModeSet = refl
-key_plain key.Apt = refl
-key_plain key.Crc = refl
-key_plain key.RobustSorting = refl
-key_plain key.ModeChangePeriod = refl
-key_plain key.Interleaving = refl
+IsKeyed param = MatchOption (entry param) ⊥ HasRange
 
 -- no key marks a profile, tier and level, and each is in lower case
 pub key_unmarked : (k : FormatKey) → (is_mark (key_text k) ≡ false) × (str_to_ascii_lowercase (key_text k) ≡ key_text k)
-key_unmarked key.MinPTime = (refl, refl)
-key_unmarked key.Stereo = (refl, refl)
-key_unmarked key.SpropStereo = (refl, refl)
-key_unmarked key.UseInbandFec = (refl, refl)
-key_unmarked key.UseDtx = (refl, refl)
-key_unmarked key.LevelAsymmetryAllowed = (refl, refl)
-key_unmarked key.PacketizationMode = (refl, refl)
-key_unmarked key.ProfileLevelId = (refl, refl)
-key_unmarked key.ProfileId = (refl, refl)
-key_unmarked key.Profile = (refl, refl)
-key_unmarked key.LevelIdx = (refl, refl)
-key_unmarked key.Tier = (refl, refl)
-key_unmarked key.SpropMaxDonDiff = (refl, refl)
-key_unmarked key.OctetAlign = (refl, refl)
-key_unmarked key.ModeSet = (refl, refl)
 key_unmarked key.Apt = (refl, refl)
-key_unmarked key.Crc = (refl, refl)
-key_unmarked key.RobustSorting = (refl, refl)
-key_unmarked key.ModeChangePeriod = (refl, refl)
-key_unmarked key.Interleaving = (refl, refl)
+key_unmarked k = (refl, refl)
 
 -- ---- what is read of a pair
 
-value_ranged : (v : Value) (text : List ℕ) → Reads v text → InRange v
-value_ranged (flag b) text h = tt
-value_ranged (number limit n) text h = h.fits
-value_ranged (hex n) text (inl h) = h.fits
-value_ranged (hex n) text (inr h) = h.1.fits
-value_ranged (modes mask) text h = modes_within text mask h
+abbrev Ranged : (k : Kind) → Held k → Type 0
+Ranged (exactly own) x = Unit {0}
+Ranged anything x = Unit {0}
+Ranged k x = InRange k x
 
-ranged : (k : FormatKey) (text : List ℕ) (o : Option (FormatKey × Value)) → MatchOption o ⊥ (λ e. (e.0 ≡ k) × Reads e.1 text)
-    → MatchOption o ⊥ (λ e. InRange e.1)
-ranged k text None h = absurd h
-ranged k text (Some e) h = value_ranged e.1 text h.1
+value_ranged : (k : Kind) (text : List ℕ) (x : Held k) → Reads k text x → Ranged k x
+value_ranged flag text b h = tt
+value_ranged (number limit) text n h = h.fits
+value_ranged hex text n (inl h) = h.fits
+value_ranged hex text n (inr h) = h.1.fits
+value_ranged modes text mask h = modes_within text mask h
+value_ranged (exactly own) text x h = tt
+value_ranged anything text x h = tt
 
--- what is read of a pair is of the table, or prints nothing
-spelled : (k : FormatKey) (text : List ℕ) (param : FormatParam) → Holds k text param → IsKeyed param ⊎ (param_text param ≡ [])
-spelled k text AmrWbUnsupported h = inr refl
-spelled k text param h = inl (ranged k text (entry param) h)
+-- what is read of a pair is of the table, under its key, or prints nothing
+spelled : (k : FormatKey) (text : List ℕ) (x : Held (kind k)) → Reads (kind k) text x → IsKeyed (made k x) ⊎ (param_text (made k x) ≡ [])
+spelled key.Crc text x h = inr refl
+spelled key.RobustSorting text x h = inr refl
+spelled key.ModeChangePeriod text x h = inr refl
+spelled key.Interleaving text x h = inr refl
+spelled k text x h = inl (value_ranged (kind k) text x h)
 
 pub keyed_or_hidden : (pair : List ℕ × List ℕ) (param : FormatParam) → IsParsed pair param → IsKeyed param ⊎ (param_text param ≡ [])
-keyed_or_hidden pair param (inl spells) = spelled spells.0 pair.1 param spells.2
+keyed_or_hidden pair param (inl spells) =
+    let holds = spells.2 in
+    subst (λ p. IsKeyed p ⊎ (param_text p ≡ [])) (sym holds.1) (spelled spells.0 pair.1 holds.0 holds.2)
 keyed_or_hidden pair param (inr unknown) = inr (ap param_text unknown.1)
+
+pub own_key : (k : FormatKey) (x : Held (kind k)) → IsKeyed (made k x) → (pair_of (made k x)).0 ≡ key_text k
+own_key key.Crc x h = absurd h
+own_key key.RobustSorting x h = absurd h
+own_key key.ModeChangePeriod x h = absurd h
+own_key key.Interleaving x h = absurd h
+own_key k x h = refl
 
 -- ---- what is printed of it
 
-printed_of : (o : Option (FormatKey × Value)) → MatchOption o ⊥ (λ e. InRange e.1)
-    → MatchOption o ⊥ (λ e. ((entry_pair o).0 ≡ key_text e.0) × ((entry_pair o).1 ≡ value_text e.1) × InRange e.1)
-printed_of None h = absurd h
-printed_of (Some e) h = (refl, refl, h)
-
 -- it is read again
-pub keyed_read : (param : FormatParam) → IsKeyed param → param_of (pair_of param) ≡ param
-keyed_read param h =
-    let pair = pair_of param in
-    parsed_printed pair.0 pair.1 (param_of pair) (parsed pair.0 pair.1) param (printed_of (entry param) h)
+read_of : (param : FormatParam) (o : Option Entry) → MatchOption o (Unit {0}) (λ e. param ≡ made e.0 e.1) → MatchOption o ⊥ HasRange
+    → param_of (entry_pair o) ≡ param
+read_of param None is h = absurd h
+read_of param (Some e) is h = key_reads e.0 e.1 h ∙ sym is
 
-limits : (param : FormatParam) → MatchOption (entry param) (Unit {0}) (λ e. HasSmallLimit e.1)
-limits (MinPTime n) = lit≤ tt
-limits (PacketizationMode n) = lit≤ tt
-limits (ProfileId n) = lit≤ tt
-limits (Profile n) = lit≤ tt
-limits (LevelIdx n) = lit≤ tt
-limits (Tier n) = lit≤ tt
-limits (SpropMaxDonDiff n) = lit≤ tt
-limits (Apt n) = lit≤ tt
-limits param = tt
+keyed_read : (param : FormatParam) → IsKeyed param → param_of (pair_of param) ≡ param
+keyed_read param h = read_of param (entry param) (entry_made param) h
 
-plain_of : (o : Option (FormatKey × Value)) → MatchOption o (Unit {0}) (λ e. HasSmallLimit e.1) → MatchOption o ⊥ (λ e. InRange e.1)
-    → IsPlainPair (entry_pair o)
-plain_of None small h = absurd h
-plain_of (Some e) small h = (plain_from (key_text e.0) (key_plain e.0), value_plain e.1 small h, key_filled e.0, value_filled e.1 small h)
+plain_of : (o : Option Entry) → MatchOption o ⊥ HasRange → IsPlainPair (entry_pair o)
+plain_of None h = absurd h
+plain_of (Some e) h = pair_plain e h
 
-pub keyed_plain : (param : FormatParam) → IsKeyed param → IsPlainPair (pair_of param)
-keyed_plain param h = plain_of (entry param) (limits param) h
+keyed_plain : (param : FormatParam) → IsKeyed param → IsPlainPair (pair_of param)
+keyed_plain param h = plain_of (entry param) h
 
-entry_joined : (o : Option (FormatKey × Value)) → MatchOption o ⊥ (λ e. InRange e.1) → entry_text o ≡ joined_pair (entry_pair o)
-entry_joined None h = absurd h
-entry_joined (Some e) h = simp append_assoc
+text_at : (param : FormatParam) (o : Option Entry) → entry param ≡ o → MatchOption o ⊥ HasRange → param_text param ≡ joined_pair (entry_pair o)
+text_at param None is h = absurd h
+text_at param (Some e) is h = text_of param e is
 
-pub keyed_text : (param : FormatParam) → IsKeyed param → param_text param ≡ joined_pair (pair_of param)
-keyed_text (H265ProfileTierLevel t) h = absurd h
-keyed_text (H266ProfileTierLevel t) h = absurd h
-keyed_text (TelephoneEvents n) h = absurd h
-keyed_text (BareRange n) h = absurd h
-keyed_text (BarePtList pt) h = absurd h
-keyed_text (Red pt) h = absurd h
-keyed_text param h = entry_joined (entry param) h
+keyed_text : (param : FormatParam) → IsKeyed param → param_text param ≡ joined_pair (pair_of param)
+keyed_text param h = text_at param (entry param) refl h
 
-mark_of : (o : Option (FormatKey × Value)) → MatchOption o ⊥ (λ e. InRange e.1) → is_mark (entry_pair o).0 ≡ false
+mark_of : (o : Option Entry) → MatchOption o ⊥ HasRange → is_mark (entry_pair o).0 ≡ false
 mark_of None h = absurd h
 mark_of (Some e) h = (key_unmarked e.0).0
 

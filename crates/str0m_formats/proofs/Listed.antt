@@ -44,10 +44,10 @@ params_push p n f param lt given = params_next p n f lt ∙ ap (λ o. params_to 
 pub params_pass : (p : FormatParams) (n : ℕ) (f : Field) → n < length FIELDS → param_at (get_or FIELDS n f) p ≡ None → params_to p (n + 1) ≡ params_to p n
 params_pass p n f lt absent = params_next p n f lt ∙ ap (λ o. params_to p n ++ cons_option o []) absent ∙ append-nil (params_to p n)
 
-pub listed_all : (p : FormatParams) → listed (params_to p 18) ≡ params_text p
+pub listed_all : (p : FormatParams) → listed (params_to p (length FIELDS)) ≡ params_text p
 unfolding params_to listed params_text params_of
 listed_all p = refl
 
-pub params_all : (p : FormatParams) → params_to p 18 ≡ params_of p
+pub params_all : (p : FormatParams) → params_to p (length FIELDS) ≡ params_of p
 unfolding params_to params_of
 params_all p = refl

@@ -16,11 +16,11 @@ use Rattle.str0m_formats.specs.declared.format_key.FormatKey.{FormatKey}
 use Rattle.str0m_formats.specs.declared.format_param.FormatParam.{FormatParam}
 use Rattle.str0m_formats.specs.declared.format_param.FormatParam.TheVariants.{AmrWbUnsupported, H265ProfileTierLevel, H266ProfileTierLevel}
 use Rattle.str0m_formats.specs.FormatKey.{key_text}
-use Rattle.str0m_formats.specs.FormatParam.{Value, Reads, Holds, IsParsed, AreParsed, entry, triple_text, param_text}
+use Rattle.str0m_formats.specs.FormatParam.{IsParsed, AreParsed, triple_text, param_text}
 use Rattle.str0m_formats.specs.Pairs.{has_mark, merged, others, is_part, AreJoined, AreRead}
 use Rattle.str0m_formats.specs.PairsReading.{Tables, h265_tables, h266_tables, params_read, triple_read}
 use Rattle.str0m_formats.specs.ParamReading.{param_of}
-use Rattle.str0m_formats.proofs.KeyedParams.{IsKeyed, AreKeyed, pair_of, entry_pair, prints, key_unmarked, keyed_or_hidden, keyed_shown, shown_keyed, keyed_params, keyed_texts, keyed_pairs, keyed_unmarked}
+use Rattle.str0m_formats.proofs.KeyedParams.{IsKeyed, AreKeyed, pair_of, prints, key_unmarked, own_key, keyed_or_hidden, keyed_shown, shown_keyed, keyed_params, keyed_texts, keyed_pairs, keyed_unmarked}
 use Rattle.str0m_formats.proofs.MergedKeys.{IsLow, AreLow, AreApart, merged_apart, others_all, others_apart, others_other, others_same, merged_same}
 use Rattle.str0m_formats.proofs.PrintedLine.{unmarked, marked}
 use Rattle.str0m_formats.proofs.Plain.{plain_from}
@@ -55,19 +55,11 @@ read_alone pairs params are = keyed_line (filter prints params) (shown_keyed pai
 
 -- ---- keys that stand once
 
-key_at : (k : FormatKey) (text : List ℕ) (o : Option (FormatKey × Value)) → MatchOption o ⊥ (λ e. (e.0 ≡ k) × Reads e.1 text)
-    → (entry_pair o).0 ≡ key_text k
-key_at k text None h = absurd h
-key_at k text (Some e) h = ap key_text h.0
-
 -- what is read of a pair in lower case prints the pair's key
-key_spelled : (k : FormatKey) (text : List ℕ) (param : FormatParam) → Holds k text param → IsKeyed param → (pair_of param).0 ≡ key_text k
-key_spelled k text AmrWbUnsupported h keyed = absurd keyed
-key_spelled k text param h keyed = key_at k text (entry param) h
-
 same_key : (pair : List ℕ × List ℕ) (param : FormatParam) → IsLow pair.0 → IsParsed pair param → IsKeyed param → (pair_of param).0 ≡ pair.0
 same_key pair param low (inl spells) keyed =
-    key_spelled spells.0 pair.1 param spells.2 keyed ∙ sym (key_unmarked spells.0).1 ∙ sym spells.1 ∙ low
+    let made_is = spells.2.1 in
+    ap (λ p. (pair_of p).0) made_is ∙ own_key spells.0 spells.2.0 (subst IsKeyed made_is keyed) ∙ sym (key_unmarked spells.0).1 ∙ sym spells.1 ∙ low
 same_key pair param low (inr unknown) keyed = absurd (subst IsKeyed unknown.1 keyed)
 
 -- what all keys of pairs have, all keys of what is printed have

@@ -1,8 +1,8 @@
 -- A format that is printed, and read by its line, is itself.
-use Rattle.std.proofs.Common.{◌≡◌, ◌<◌, ◌≤◌, ◌⊎◌, inl, inr, ℕ, true, false, List, [], ◌∷◌, ◌++◌, length, drop, map, filter_map, Option, Some, None, IfSome, Result, Ok, Err, IfOk, option_map, refl, sym, ap, subst, ◌∙◌, arith}
+use Rattle.std.proofs.Common.{◌≡◌, ◌<◌, ◌≤◌, ◌⊎◌, inl, inr, ℕ, Bool, true, false, cond, List, [], ◌∷◌, ◌++◌, length, drop, map, filter, filter_map, Option, Some, None, IfSome, Result, Ok, Err, IfOk, option_map, refl, sym, ap, subst, ◌∙◌, arith}
 use Rattle.std.specs.Prelude.{codes}
 use Rattle.std.specs.Fmt.{decimal}
-use Rattle.std.specs.List.{AllByRecursion, AllZip, cons_option, join_with_byte, list_all}
+use Rattle.std.specs.List.{AllByRecursion, AllZip, cons_option, flat_map, join_with_byte, list_all}
 use Rattle.std.specs.Str.Parse.{digits_value}
 use Rattle.std.proofs.lemmas.Bool.{and_parts, false_from_ne_true}
 use Rattle.std.proofs.lemmas.Fmt.{decimal_is_IsNumeral}
@@ -18,9 +18,11 @@ use Rattle.str0m_formats.specs.declared.format_param.FormatParam.{FormatParam}
 use Rattle.str0m_formats.specs.declared.format_param.FormatParam.TheVariants.{H265ProfileTierLevel, H266ProfileTierLevel, TelephoneEvents, Unknown}
 use Rattle.str0m_formats.specs.declared.format_params.Field.{Field}
 use Rattle.str0m_formats.specs.declared.format_params.Field.TheVariants as field
+use Rattle.str0m_formats.specs.declared.format_params.TheConstants.{FIELDS}
+use Rattle.str0m_formats.specs.declared.format_key.FormatKey.TheVariants as key
 use Rattle.str0m_formats.specs.declared.format_params.FormatParams.{FormatParams}
 use Rattle.str0m_formats.specs.FormatParam.{IsBare, param_text}
-use Rattle.str0m_formats.specs.FormatParams.{empty, set, set_all, fields, param_at, params_of, params_text, IsWithin, CanBeReadBack}
+use Rattle.str0m_formats.specs.FormatParams.{empty, get, set, set_all, param_at, params_of, params_text, IsWithin, CanBeReadBack}
 use Rattle.str0m_formats.specs.FormatLine.{pieces, pair_in, bare_in, pairs_in, bares_in, IsFormatOfLine}
 use Rattle.str0m_formats.specs.ParamReading.{param_of}
 use Rattle.str0m_formats.specs.Pairs.{has_mark, merged, others, texts_of}
@@ -30,7 +32,7 @@ use Rattle.str0m_formats.proofs.LineLaws.{set_all-append}
 use Rattle.str0m_formats.proofs.PairsLaws.{pairs_read_only}
 use Rattle.str0m_formats.proofs.Plain.{IsPlain, plain_lacks, lacks_free, trim_plain}
 use Rattle.str0m_formats.proofs.Rows.{Rows, given, given-append, look_given, mark_given, others_given, merged_given}
-use Rattle.str0m_formats.proofs.SetAll.{part, all_done, set_each}
+use Rattle.str0m_formats.proofs.SetAll.{filled, are_fresh, set_each}
 use Rattle.str0m_formats.proofs.Shown.{rows_at, bares_at, joined_pair, pieces_at, IsPlainPair, IsShown, shows, is_single, reads}
 use Rattle.str0m_formats.proofs.TripleLaws.{h265_again, h266_again}
 
@@ -58,7 +60,7 @@ pairs_rows (f ∷ fs) p = ap (λ (t : List (List ℕ × List ℕ)). given (rows_
 
 -- the values of all fields read back
 abbrev pub AllWithin : FormatParams → Type 0
-AllWithin p = (f : Field) → IfSome (param_at f p) IsWithin
+AllWithin p = (f : Field) → IfSome (get f p) (IsWithin f)
 
 -- ---- the text is the pieces, joined
 
@@ -171,17 +173,15 @@ found (f ∷ fs) p h =
 -- ---- what the pairs read as
 
 abbrev singles : List Field
-singles = field.MinPTime ∷ field.Stereo ∷ field.SpropStereo ∷ field.UseInbandFec ∷ field.UseDtx ∷ field.LevelAsymmetryAllowed ∷ field.PacketizationMode ∷ field.ProfileLevelId ∷ field.ProfileId ∷ field.Profile ∷ field.LevelIdx ∷ field.Tier ∷ field.SpropMaxDonDiff ∷ field.OctetAlign ∷ field.ModeSet ∷ []
+singles = filter is_single FIELDS
 
--- the fields before a profile, tier and level, without the profile id, and those behind
-abbrev before_triple : List Field
-before_triple = field.MinPTime ∷ field.Stereo ∷ field.SpropStereo ∷ field.UseInbandFec ∷ field.UseDtx ∷ field.LevelAsymmetryAllowed ∷ field.PacketizationMode ∷ field.ProfileLevelId ∷ field.Profile ∷ field.LevelIdx ∷ field.Tier ∷ []
-
-abbrev behind_triple : List Field
-behind_triple = field.SpropMaxDonDiff ∷ field.OctetAlign ∷ field.ModeSet ∷ []
+-- the fields with one key that may stand beside a profile, tier and level: all but the profile
+abbrev is_beside : Field → Bool
+is_beside (field.Key key.ProfileId) = false
+is_beside f = is_single f
 
 abbrev rest : List Field
-rest = before_triple ++ behind_triple
+rest = filter is_beside FIELDS
 
 cons_append : {A : Type 0} (o : Option A) (xs : List A) → cons_option o [] ++ xs ≡ cons_option o xs
 cons_append None xs = refl
@@ -204,24 +204,27 @@ pub marked : (pairs : List (List ℕ × List ℕ)) → has_mark pairs ≡ true �
 unfolding params_read
 marked pairs e same = rw (e, same) refl
 
-without_triple : (p : FormatParams) → AllWithin p → p.h265_profile_tier_level ≡ None → p.h266_profile_tier_level ≡ None → params_read (all_pairs fields p) ≡ filter_map (λ f. param_at f p) (field.H265ProfileTierLevel ∷ field.H266ProfileTierLevel ∷ singles)
+without_triple : (p : FormatParams) → AllWithin p → p.h265_profile_tier_level ≡ None → p.h266_profile_tier_level ≡ None → params_read (all_pairs FIELDS p) ≡ filter_map (λ f. param_at f p) (field.H265ProfileTierLevel ∷ field.H266ProfileTierLevel ∷ singles)
 without_triple p h e5 e6 =
-    let own : all_pairs fields p ≡ all_pairs singles p = rw (e5, e6) refl in
+    let own : all_pairs FIELDS p ≡ all_pairs singles p = rw (e5, e6) refl in
     let mark : has_mark (all_pairs singles p) ≡ false = ap has_mark (pairs_rows singles p) ∙ mark_given (all_rows singles p) in
     ap params_read own ∙ unmarked (all_pairs singles p) mark ∙ reads_all singles p h refl ∙ rw (e5, e6) refl
 
 abbrev triple_first : List Field
-triple_first = field.H265ProfileTierLevel ∷ field.H266ProfileTierLevel ∷ field.ProfileId ∷ rest
+triple_first = field.H265ProfileTierLevel ∷ field.H266ProfileTierLevel ∷ field.Key key.ProfileId ∷ rest
 
 -- ---- with a triple
 
--- the keys of a triple, among those of the other fields
-abbrev rows_with : List ℕ → List ℕ → List ℕ → FormatParams → Rows
-rows_with a b c p =
-    all_rows before_triple p ++ ((codes "profile-id", Some a) ∷ (codes "tier-flag", Some b) ∷ (codes "level-id", Some c) ∷ all_rows behind_triple p)
+-- the keys of a triple in the place of H265's, among those of the other fields
+abbrev rows_beside : List ℕ → List ℕ → List ℕ → FormatParams → Field → Rows
+rows_beside a b c p field.H265ProfileTierLevel = (codes "profile-id", Some a) ∷ (codes "tier-flag", Some b) ∷ (codes "level-id", Some c) ∷ []
+rows_beside a b c p f = cond (is_beside f) (rows_at f p) []
 
-with_triple : (q : FormatParam) (a b c : List ℕ) (p : FormatParams) → AllWithin p → all_pairs fields p ≡ given (rows_with a b c p)
-    → triple_read (Some a, Some b, Some c) ≡ Some q → params_read (all_pairs fields p) ≡ q ∷ filter_map (λ f. param_at f p) rest
+abbrev rows_with : List ℕ → List ℕ → List ℕ → FormatParams → Rows
+rows_with a b c p = flat_map (rows_beside a b c p) FIELDS
+
+with_triple : (q : FormatParam) (a b c : List ℕ) (p : FormatParams) → AllWithin p → all_pairs FIELDS p ≡ given (rows_with a b c p)
+    → triple_read (Some a, Some b, Some c) ≡ Some q → params_read (all_pairs FIELDS p) ≡ q ∷ filter_map (λ f. param_at f p) rest
 with_triple q a b c p h own read =
     let rows = rows_with a b c p in
     let texts : texts_of (given rows) ≡ (Some a, Some b, Some c) = λ i. (look_given (codes "profile-id") rows i, look_given (codes "tier-flag") rows i, look_given (codes "level-id") rows i) in
@@ -230,11 +233,11 @@ with_triple q a b c p h own read =
     ∙ ap (λ (o : Option FormatParam). cons_option o (map param_of (others (given rows)))) (ap triple_read texts ∙ read)
     ∙ ap (λ (qs : List FormatParam). q ∷ qs) others_are
 
-with_h265 : (p : FormatParams) (t : h265_triple) → AllWithin p → p.h265_profile_tier_level ≡ Some t → p.h266_profile_tier_level ≡ None → p.profile_id ≡ None → params_read (all_pairs fields p) ≡ filter_map (λ f. param_at f p) triple_first
-with_h265 p t h e5 e6 ei = with_triple (H265ProfileTierLevel t) _ _ _ p h (pairs_rows fields p ∙ rw (e5, e6, ei) refl) (h265_again t) ∙ rw (e5, e6, ei) refl
+with_h265 : (p : FormatParams) (t : h265_triple) → AllWithin p → p.h265_profile_tier_level ≡ Some t → p.h266_profile_tier_level ≡ None → p.profile_id ≡ None → params_read (all_pairs FIELDS p) ≡ filter_map (λ f. param_at f p) triple_first
+with_h265 p t h e5 e6 ei = with_triple (H265ProfileTierLevel t) _ _ _ p h (pairs_rows FIELDS p ∙ rw (e5, e6, ei) refl) (h265_again t) ∙ rw (e5, e6, ei) refl
 
-with_h266 : (p : FormatParams) (t : h266_triple) → AllWithin p → p.h266_profile_tier_level ≡ Some t → p.h265_profile_tier_level ≡ None → p.profile_id ≡ None → params_read (all_pairs fields p) ≡ filter_map (λ f. param_at f p) triple_first
-with_h266 p t h e6 e5 ei = with_triple (H266ProfileTierLevel t) _ _ _ p h (pairs_rows fields p ∙ rw (e5, e6, ei) refl) (h266_again t) ∙ rw (e5, e6, ei) refl
+with_h266 : (p : FormatParams) (t : h266_triple) → AllWithin p → p.h266_profile_tier_level ≡ Some t → p.h265_profile_tier_level ≡ None → p.profile_id ≡ None → params_read (all_pairs FIELDS p) ≡ filter_map (λ f. param_at f p) triple_first
+with_h266 p t h e6 e5 ei = with_triple (H266ProfileTierLevel t) _ _ _ p h (pairs_rows FIELDS p ∙ rw (e5, e6, ei) refl) (h266_again t) ∙ rw (e5, e6, ei) refl
 
 -- ---- values without a key
 
@@ -249,7 +252,7 @@ bare_is n param small h =
       | inr none ↦ absurd (none.0 (TelephoneEvents n) (n, refl, record { range = (decimal n, refl, digits.0, digits.1); fits = small }))
     ]
 
-bares_set : (o : Option ℕ) (bares : List FormatParam) → IfSome (option_map (λ n. TelephoneEvents n) o) IsWithin → AllZip IsBare (cons_option (option_map (λ n. codes "0-" ++ decimal n) o) []) bares → bares ≡ cons_option (option_map (λ n. TelephoneEvents n) o) []
+bares_set : (o : Option ℕ) (bares : List FormatParam) → IfSome o (λ n. n ≤ 255) → AllZip IsBare (cons_option (option_map (λ n. codes "0-" ++ decimal n) o) []) bares → bares ≡ cons_option (option_map (λ n. TelephoneEvents n) o) []
 bares_set None [] h are = refl
 bares_set None (b ∷ bares) h are = absurd are
 bares_set (Some n) [] h are = absurd are
@@ -273,31 +276,32 @@ no_events (Some n) e = absurd cc
 clash : {A C : Type 0} (o : Option A) (x : A) → o ≡ Some x → o ≡ None → C
 clash o x e f = absurd (none-some x (sym f ∙ e))
 
-conclude : (order : List Field) (p r : FormatParams) (bares params : List FormatParam) → part (all_done [] (field.TelephoneEvents ∷ order)) p ≡ p → set_all empty bares ≡ set_all empty (cons_option (param_at field.TelephoneEvents p) []) → params ≡ filter_map (λ f. param_at f p) order → r ≡ set_all empty (bares ++ params) → r ≡ p
-conclude order p r bares params whole first second e =
+conclude : (order : List Field) (p r : FormatParams) (bares params : List FormatParam) → are_fresh (field.TelephoneEvents ∷ order) p empty ≡ true → filled (field.TelephoneEvents ∷ order) p empty ≡ p → set_all empty bares ≡ set_all empty (cons_option (param_at field.TelephoneEvents p) []) → params ≡ filter_map (λ f. param_at f p) order → r ≡ set_all empty (bares ++ params) → r ≡ p
+conclude order p r bares params fresh whole first second e =
     let events = cons_option (param_at field.TelephoneEvents p) [] in
     e ∙ set_all-append bares params empty ∙ ap (λ q. set_all q params) first ∙ ap (set_all (set_all empty events)) second
     ∙ sym (set_all-append events (filter_map (λ f. param_at f p) order) empty)
     ∙ ap (set_all empty) (cons_append (param_at field.TelephoneEvents p) (filter_map (λ f. param_at f p) order))
-    ∙ set_each (field.TelephoneEvents ∷ order) [] p ∙ whole
+    ∙ set_each (field.TelephoneEvents ∷ order) p empty fresh ∙ whole
 
 -- the order in which the parameters of a printed line are set
 pub record Order (p : FormatParams) : Type 0 where
   pub order : List Field
-  pub whole : part (all_done [] (field.TelephoneEvents ∷ order)) p ≡ p
-  pub read : params_read (all_pairs fields p) ≡ filter_map (λ f. param_at f p) order
+  pub fresh : are_fresh (field.TelephoneEvents ∷ order) p empty ≡ true
+  pub whole : filled (field.TelephoneEvents ∷ order) p empty ≡ p
+  pub read : params_read (all_pairs FIELDS p) ≡ filter_map (λ f. param_at f p) order
 
 pub order_of : (p : FormatParams) → CanBeReadBack p → (o5 : Option h265_triple) (o6 : Option h266_triple) → p.h265_profile_tier_level ≡ o5 → p.h266_profile_tier_level ≡ o6 → Order p
-order_of p h None None e5 e6 = record { order = field.H265ProfileTierLevel ∷ field.H266ProfileTierLevel ∷ singles; whole = refl; read = without_triple p h.values e5 e6 }
-order_of p h (Some t) None e5 e6 = record { order = triple_first; whole = refl; read = with_h265 p t h.values e5 e6 (elim h.profile [ inl e ↦ e | inr both ↦ clash p.h265_profile_tier_level t e5 both.0 ]) }
-order_of p h None (Some u) e5 e6 = record { order = triple_first; whole = refl; read = with_h266 p u h.values e6 e5 (elim h.profile [ inl e ↦ e | inr both ↦ clash p.h266_profile_tier_level u e6 both.1 ]) }
+order_of p h None None e5 e6 = record { order = field.H265ProfileTierLevel ∷ field.H266ProfileTierLevel ∷ singles; fresh = refl; whole = refl; read = without_triple p h.values e5 e6 }
+order_of p h (Some t) None e5 e6 = record { order = triple_first; fresh = refl; whole = refl; read = with_h265 p t h.values e5 e6 (elim h.profile [ inl e ↦ e | inr both ↦ clash p.h265_profile_tier_level t e5 both.0 ]) }
+order_of p h None (Some u) e5 e6 = record { order = triple_first; fresh = refl; whole = refl; read = with_h266 p u h.values e6 e5 (elim h.profile [ inl e ↦ e | inr both ↦ clash p.h266_profile_tier_level u e6 both.1 ]) }
 order_of p h (Some t) (Some u) e5 e6 = elim h.triples [ inl e ↦ clash p.h265_profile_tier_level t e5 e | inr e ↦ clash p.h266_profile_tier_level u e6 e ]
 
 -- the values without a key that are printed
-bares_printed : (p : FormatParams) → all_bares fields p ≡ bares_at field.TelephoneEvents p
+bares_printed : (p : FormatParams) → all_bares FIELDS p ≡ bares_at field.TelephoneEvents p
 bares_printed p = append-nil (bares_at field.TelephoneEvents p)
 
-line_texts : (p : FormatParams) → params_text p ≡ joined (map param_text (filter_map (λ f. param_at f p) fields))
+line_texts : (p : FormatParams) → params_text p ≡ joined (map param_text (filter_map (λ f. param_at f p) FIELDS))
 unfolding params_text params_of
 line_texts p = refl
 
@@ -313,20 +317,20 @@ pub itself : (line : List ℕ) (p r : FormatParams) → CanBeReadBack p → line
 unfolding pairs_in bares_in
 itself line p r h printed reading =
     let order = order_of p h p.h265_profile_tier_level p.h266_profile_tier_level refl refl in
-    let is = found fields p h.values in
+    let is = found FIELDS p h.values in
     let events = h.values field.TelephoneEvents in
-    let params_are : pairs_in (pieces line) ≡ all_pairs fields p → reading.params ≡ filter_map (λ f. param_at f p) order.order = λ same. pairs_read_only (pairs_in (pieces line)) reading.params reading.params_are ∙ ap params_read same ∙ order.read in
-    elim (cut_pieces (map param_text (filter_map (λ f. param_at f p) fields)) (all_pieces fields p) (alike fields p h.values) (free_pieces fields p h.values)) [
+    let params_are : pairs_in (pieces line) ≡ all_pairs FIELDS p → reading.params ≡ filter_map (λ f. param_at f p) order.order = λ same. pairs_read_only (pairs_in (pieces line)) reading.params reading.params_are ∙ ap params_read same ∙ order.read in
+    elim (cut_pieces (map param_text (filter_map (λ f. param_at f p) FIELDS)) (all_pieces FIELDS p) (alike FIELDS p h.values) (free_pieces FIELDS p h.values)) [
       | inl same ↦
-          let whole : pieces line ≡ all_pieces fields p = ap pieces (printed ∙ line_texts p) ∙ same in
+          let whole : pieces line ≡ all_pieces FIELDS p = ap pieces (printed ∙ line_texts p) ∙ same in
           let bares_are = bares_set p.telephone_event_max reading.bares events (subst (λ (ts : List (List ℕ)). AllZip IsBare ts reading.bares) (ap bares_in whole ∙ is.1 ∙ bares_printed p) reading.bares_are) in
-          conclude order.order p r reading.bares reading.params order.whole (ap (set_all empty) bares_are) (params_are (ap pairs_in whole ∙ is.0)) reading.format
+          conclude order.order p r reading.bares reading.params order.fresh order.whole (ap (set_all empty) bares_are) (params_are (ap pairs_in whole ∙ is.0)) reading.format
       | inr empty_text ↦
           let whole : pieces line ≡ [] ∷ [] = ap pieces (printed ∙ line_texts p) ∙ empty_text.1 in
           let none : p.telephone_event_max ≡ None = no_events p.telephone_event_max (sym (bares_printed p) ∙ sym is.1 ∙ ap bares_in empty_text.0) in
-          let pairs_are : pairs_in (pieces line) ≡ all_pairs fields p = ap pairs_in whole ∙ no_pairs ∙ sym (ap pairs_in empty_text.0) ∙ is.0 in
+          let pairs_are : pairs_in (pieces line) ≡ all_pairs FIELDS p = ap pairs_in whole ∙ no_pairs ∙ sym (ap pairs_in empty_text.0) ∙ is.0 in
           let bares_are = nothing_set reading.bares (subst (λ (ts : List (List ℕ)). AllZip IsBare ts reading.bares) (ap bares_in whole ∙ one_bare) reading.bares_are) in
-          conclude order.order p r reading.bares reading.params order.whole (bares_are ∙ ap (λ (o : Option ℕ). set_all empty (cons_option (option_map (λ n. TelephoneEvents n) o) [])) (sym none)) (params_are pairs_are) reading.format
+          conclude order.order p r reading.bares reading.params order.fresh order.whole (bares_are ∙ ap (λ (o : Option ℕ). set_all empty (cons_option (option_map (λ n. TelephoneEvents n) o) [])) (sym none)) (params_are pairs_are) reading.format
     ]
 
 pub line_itself : {E : Type 0} (line : List ℕ) (answer : Result FormatParams E) → IfOk answer (IsFormatOfLine line) → (p : FormatParams) → CanBeReadBack p → line ≡ params_text p → IfOk answer (λ r. r ≡ p)

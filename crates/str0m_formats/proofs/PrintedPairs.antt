@@ -7,16 +7,20 @@ use Rattle.str0m_formats.specs.declared.codec.Codec.{Codec}
 use Rattle.str0m_formats.specs.declared.codec.Codec.TheVariants as codec
 use Rattle.str0m_formats.specs.declared.format_params.Field.{Field}
 use Rattle.str0m_formats.specs.declared.format_params.Field.TheVariants as field
+use Rattle.str0m_formats.specs.declared.format_params.TheConstants.{FIELDS}
 use Rattle.str0m_formats.specs.declared.format_params.FormatParams.{FormatParams}
-use Rattle.str0m_formats.specs.FormatParam.{param_text}
-use Rattle.str0m_formats.specs.FormatParams.{empty, set_all, fields, param_at, params_of, CanBeReadBack}
+use Rattle.str0m_formats.specs.declared.format_key.FormatKey.{FormatKey}
+use Rattle.str0m_formats.specs.declared.format_key.FormatKey.TheVariants as key
+use Rattle.str0m_formats.specs.FormatParam.{Held, kind, made, entry, param_text}
+use Rattle.str0m_formats.specs.FormatParams.{empty, get, param_in, set_all, param_at, params_of, CanBeReadBack}
 use Rattle.str0m_formats.specs.FormatLine.{is_events, is_unsupported, is_refused, kept, values_of, format_of_fmtp}
 use Rattle.str0m_formats.specs.PairsReading.{params_read}
 use Rattle.str0m_formats.proofs.PrintedLine.{all_pieces, all_pairs, joined, alike, order_of}
-use Rattle.str0m_formats.proofs.SetAll.{set_each}
-use Rattle.str0m_formats.proofs.Shown.{joined_pair, rows_at, bares_at, IsPlainPair, shows}
+use Rattle.str0m_formats.proofs.SetAll.{param_is, set_each}
+use Rattle.str0m_formats.proofs.Shown.{joined_pair, rows_at, bares_at, IsPlainPair, pair_in, text_of, entry_at, shows}
 use Rattle.str0m_formats.proofs.Rows.{given}
-use Rattle.std.proofs.lemmas.List.{append-nil, map-append}
+use Rattle.std.proofs.lemmas.List.{append-nil, length-append, map-append}
+use Rattle.str0m_values.specs.Parts.{IsRest}
 
 -- a parameter of a field: not one that only lines hold, and no range of events
 abbrev pub IsOwn : FormatParam → Type 0
@@ -29,39 +33,61 @@ IsOwn (Red pt) = ⊥
 IsOwn Unknown = ⊥
 IsOwn param = Unit {0}
 
-some_own : {A : Type 0} (make : A → FormatParam) (o : Option A) → ((x : A) → IsOwn (make x)) → IfSome (option_map make o) IsOwn
-some_own make None own = tt
-some_own make (Some x) own = own x
+some_has : {A : Type 0} (P : FormatParam → Type 0) (make : A → FormatParam) (o : Option A) → ((x : A) → P (make x)) → IfSome (option_map make o) P
+some_has P make None each = tt
+some_has P make (Some x) each = each x
+
+key_own : (k : FormatKey) (p : FormatParams) → IfSome (option_map (made k) (get (field.Key k) p)) IsOwn
+key_own key.Apt p = tt
+key_own key.Crc p = tt
+key_own key.RobustSorting p = tt
+key_own key.ModeChangePeriod p = tt
+key_own key.Interleaving p = tt
+key_own k p = some_has IsOwn (made k) (get (field.Key k) p) (λ x. tt)
+
+own_in : (f : Field) (p : FormatParams) → p.telephone_event_max ≡ None → IfSome (option_map (param_in f) (get f p)) IsOwn
+own_in (field.Key k) p none = key_own k p
+own_in field.H265ProfileTierLevel p none = some_has IsOwn _ p.h265_profile_tier_level (λ x. tt)
+own_in field.H266ProfileTierLevel p none = some_has IsOwn _ p.h266_profile_tier_level (λ x. tt)
+own_in field.TelephoneEvents p none = rw none tt
 
 own_at : (f : Field) (p : FormatParams) → p.telephone_event_max ≡ None → IfSome (param_at f p) IsOwn
-own_at field.MinPTime p none = some_own _ p.min_p_time (λ x. tt)
-own_at field.Stereo p none = some_own _ p.stereo (λ x. tt)
-own_at field.SpropStereo p none = some_own _ p.sprop_stereo (λ x. tt)
-own_at field.UseInbandFec p none = some_own _ p.use_inband_fec (λ x. tt)
-own_at field.UseDtx p none = some_own _ p.use_dtx (λ x. tt)
-own_at field.LevelAsymmetryAllowed p none = some_own _ p.level_asymmetry_allowed (λ x. tt)
-own_at field.PacketizationMode p none = some_own _ p.packetization_mode (λ x. tt)
-own_at field.ProfileLevelId p none = some_own _ p.profile_level_id (λ x. tt)
-own_at field.ProfileId p none = some_own _ p.profile_id (λ x. tt)
-own_at field.Profile p none = some_own _ p.profile (λ x. tt)
-own_at field.LevelIdx p none = some_own _ p.level_idx (λ x. tt)
-own_at field.Tier p none = some_own _ p.tier (λ x. tt)
-own_at field.H265ProfileTierLevel p none = some_own _ p.h265_profile_tier_level (λ x. tt)
-own_at field.H266ProfileTierLevel p none = some_own _ p.h266_profile_tier_level (λ x. tt)
-own_at field.SpropMaxDonDiff p none = some_own _ p.sprop_max_don_diff (λ x. tt)
-own_at field.TelephoneEvents p none = rw none tt
-own_at field.OctetAlign p none = some_own _ p.octet_align (λ x. tt)
-own_at field.ModeSet p none = some_own _ p.mode_set (λ x. tt)
+own_at f p none = subst (λ o. IfSome o IsOwn) (sym (param_is f p)) (own_in f p none)
 
-own_step : (o : Option FormatParam) (params : List FormatParam) → IfSome o IsOwn → AllByRecursion IsOwn params
-    → AllByRecursion IsOwn (cons_option o params)
-own_step None params h k = k
-own_step (Some param) params h k = (h, k)
+each_step : (P : FormatParam → Type 0) (o : Option FormatParam) (params : List FormatParam) → IfSome o P → AllByRecursion P params
+    → AllByRecursion P (cons_option o params)
+each_step P None params h k = k
+each_step P (Some param) params h k = (h, k)
 
 own_all : (fs : List Field) (p : FormatParams) → p.telephone_event_max ≡ None
     → AllByRecursion IsOwn (filter_map (λ f. param_at f p) fs)
 own_all [] p none = tt
-own_all (f ∷ fs) p none = own_step (param_at f p) (filter_map (λ f. param_at f p) fs) (own_at f p none) (own_all fs p none)
+own_all (f ∷ fs) p none = each_step IsOwn (param_at f p) (filter_map (λ f. param_at f p) fs) (own_at f p none) (own_all fs p none)
+
+-- ---- each parameter of a format prints something
+
+abbrev Prints : FormatParam → Type 0
+Prints param = IsRest (param_text param)
+
+key_prints : (k : FormatKey) (o : Option (Held (kind k))) → IfSome o (λ x. entry (made k x) ≡ Some (k, x)) → IfSome (option_map (made k) o) Prints
+key_prints k None is = tt
+key_prints k (Some x) is =
+    let pair = pair_in (k, x) in
+    omega (arith, ap length (text_of (made k x) (k, x) is), length-append pair.0 (61 ∷ pair.1))
+
+prints_in : (f : Field) (p : FormatParams) → IfSome (option_map (param_in f) (get f p)) Prints
+prints_in (field.Key k) p = key_prints k (get (field.Key k) p) (entry_at k p)
+prints_in field.H265ProfileTierLevel p = some_has Prints _ p.h265_profile_tier_level (λ x. omega arith)
+prints_in field.H266ProfileTierLevel p = some_has Prints _ p.h266_profile_tier_level (λ x. omega arith)
+prints_in field.TelephoneEvents p = some_has Prints _ p.telephone_event_max (λ x. omega arith)
+
+fields_print : (fs : List Field) (p : FormatParams) → AllByRecursion Prints (filter_map (λ f. param_at f p) fs)
+fields_print [] p = tt
+fields_print (f ∷ fs) p = each_step Prints (param_at f p) (filter_map (λ f. param_at f p) fs) (subst (λ o. IfSome o Prints) (sym (param_is f p)) (prints_in f p)) (fields_print fs p)
+
+pub params_print : (p : FormatParams) → AllByRecursion (λ param. IsRest (param_text param)) (params_of p)
+unfolding params_of
+params_print p = fields_print FIELDS p
 
 -- ---- pairs alone, where there is no range of events
 
@@ -99,23 +125,23 @@ nothing_of : (pairs : List (List ℕ × List ℕ)) → map joined_pair pairs ≡
 nothing_of [] e = refl
 nothing_of (pair ∷ pairs) e = absurd cc
 
-pub line_of_pairs : (p : FormatParams) → CanBeReadBack p → p.telephone_event_max ≡ None → IsLineOf p (all_pairs fields p)
+pub line_of_pairs : (p : FormatParams) → CanBeReadBack p → p.telephone_event_max ≡ None → IsLineOf p (all_pairs FIELDS p)
 unfolding params_of
 line_of_pairs p h none =
     let order = order_of p h p.h265_profile_tier_level p.h266_profile_tier_level refl refl in
-    let pairs = all_pairs fields p in
-    let same = pieces_are fields p none in
+    let pairs = all_pairs FIELDS p in
+    let same = pieces_are FIELDS p none in
     record {
-      plain = plain_pairs fields p h;
-      text = elim (alike fields p h.values) [
+      plain = plain_pairs FIELDS p h;
+      text = elim (alike FIELDS p h.values) [
         | inl none_at_all ↦ ap joined none_at_all.0 ∙ ap joined (sym none_at_all.1 ∙ same)
         | inr some ↦ some.2 ∙ ap joined same
       ];
-      some = λ given_some nothing. elim (alike fields p h.values) [
-        | inl none_at_all ↦ given_some (none_of (filter_map (λ f. param_at f p) fields) none_at_all.0)
+      some = λ given_some nothing. elim (alike FIELDS p h.values) [
+        | inl none_at_all ↦ given_some (none_of (filter_map (λ f. param_at f p) FIELDS) none_at_all.0)
         | inr some ↦ absurd (omega (arith, some.1, ap (λ (t : List (List ℕ)). length t) (same ∙ ap (map joined_pair) nothing)))
       ];
-      none = λ given_none. elim (alike fields p h.values) [
+      none = λ given_none. elim (alike FIELDS p h.values) [
         | inl none_at_all ↦ nothing_of pairs (sym same ∙ none_at_all.1)
         | inr some ↦ absurd (omega (arith, some.0, ap (λ (params : List FormatParam). length (map param_text params)) given_none))
       ];
@@ -124,7 +150,7 @@ line_of_pairs p h none =
           ap (set_all empty) order.read
           ∙ ap (λ (o : Option FormatParam). set_all empty (cons_option o (filter_map (λ f. param_at f p) order.order)))
           (sym (ap (λ (o : Option ℕ). option_map (λ n. TelephoneEvents n) o) none))
-          ∙ set_each (field.TelephoneEvents ∷ order.order) [] p ∙ order.whole;
+          ∙ set_each (field.TelephoneEvents ∷ order.order) p empty order.fresh ∙ order.whole;
     }
   where
     none_of : (params : List FormatParam) → map param_text params ≡ [] → params ≡ []

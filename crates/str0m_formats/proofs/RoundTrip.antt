@@ -13,15 +13,13 @@ use Rattle.str0m_formats.specs.FormatKey.{key_text}
 use Rattle.str0m_formats.specs.declared.format_key.FormatKey.{FormatKey}
 use Rattle.str0m_formats.specs.declared.format_key.FormatKey.TheVariants as key
 use Rattle.str0m_formats.specs.declared.format_param.FormatParam.{FormatParam}
-use Rattle.str0m_formats.specs.declared.format_param.FormatParam.TheVariants.{MinPTime, Stereo, SpropStereo, UseInbandFec, UseDtx, LevelAsymmetryAllowed, PacketizationMode, ProfileLevelId, ProfileId, Profile, LevelIdx, Tier, H265ProfileTierLevel, H266ProfileTierLevel, SpropMaxDonDiff, TelephoneEvents, BareRange, BarePtList, OctetAlign, ModeSet, AmrWbUnsupported, Apt, Red, Unknown}
-use Rattle.std.specs.Char.{to_ascii_lowercase}
-use Rattle.std.proofs.Common.{map}
-use Rattle.str0m_formats.specs.FormatParam.{Holds, Spells, IsParsed, IsPrinted, Value, flag, number, hex, modes, Reads, InRange, IsModeSet, flag_text, six_digits, mode_list, value_text}
-use Rattle.str0m_formats.specs.ParamReading.{modes_read}
+use Rattle.str0m_formats.specs.declared.format_param.FormatParam.TheVariants.{H265ProfileTierLevel, H266ProfileTierLevel, TelephoneEvents, BareRange, BarePtList, AmrWbUnsupported, Red, Unknown}
+use Rattle.str0m_formats.specs.FormatParam.{Kind, flag, number, hex, modes, exactly, anything, Held, Reads, kind, made, entry, IsParsed, IsPrinted, InRange, IsModeSet, flag_text, six_digits, mode_list, value_text}
+use Rattle.str0m_formats.specs.ParamReading.{modes_read, param_of}
 use Rattle.str0m_formats.proofs.Modes.{modes_only}
-use Rattle.str0m_formats.proofs.ParamLaws.{parsed_only}
-use Rattle.std.proofs.Common.{Option, Some, None, inr, ◌==◌, ◌&&◌}
-use Rattle.std.proofs.lemmas.Bool.{and_parts, cases_lt, eqb-true}
+use Rattle.str0m_formats.proofs.ParamLaws.{spelled, parsed_only}
+use Rattle.std.proofs.Common.{Option, Some, None, MatchOption, nat_le, inr, ◌==◌, ◌&&◌}
+use Rattle.std.proofs.lemmas.Bool.{and_parts, cases_lt, eqb-true, leb-true}
 
 -- a numeral begins with no plus
 no_plus : (radix : ℕ) (ds : List ℕ) → radix ≤ 16 → AllDigits radix ds → get_or ds 0 0 ≢ 43
@@ -65,7 +63,7 @@ six_digits_reads n fits =
     (omega (arith, k.0.0, length-append (replicate zeros 48) ds), zeros_digits zeros ds k.0.1)
     (zeros_value zeros ds ∙ k.1) fits
 
-pub flag_reads : (b : Bool) → Reads (flag b) (flag_text b)
+flag_reads : (b : Bool) → Reads flag (flag_text b) b
 flag_reads true = (λ t. refl, λ e. refl)
 flag_reads false = (λ t. absurd (false≢true t), λ e. absurd (let d : 48 ≡ 49 = ap (λ l. get_or l 0 0) e in omega arith))
 
@@ -102,45 +100,47 @@ mode_set_reads : (mask : ℕ) → (0 < mask) × (mask ≤ 511) → IsModeSet (mo
 mode_set_reads mask h = rw (mask_reads 511 mask all_masks h.0 h.1) at (modes_only (mode_list mask)).found
 
 -- the limits of the table have 32 bits
-abbrev pub HasSmallLimit : Value → Type 0
-HasSmallLimit (number limit n) = limit ≤ 4294967295
-HasSmallLimit _ = Unit {0}
+abbrev pub is_small : Kind → Bool
+is_small (number limit) = nat_le limit 4294967295
+is_small k = true
+
+pub key_small : (k : FormatKey) → is_small (kind k) ≡ true
+key_small key.Apt = refl
+key_small k = refl
+
+pub limit_small : (limit n : ℕ) → is_small (number limit) ≡ true → n ≤ limit → n ≤ 4294967295
+limit_small limit n small h = let le : limit ≤ 4294967295 = leb-true limit 4294967295 small in omega arith
 
 -- a printed value reads as itself
-pub value_reads : (v : Value) → HasSmallLimit v → InRange v → Reads v (value_text v)
-value_reads (flag b) small h = flag_reads b
-value_reads (number limit n) small h = decimal_reads limit n h (omega arith)
-value_reads (hex n) small h = inl (six_digits_reads n h)
-value_reads (modes m) small h = mode_set_reads m h
+value_reads : (k : Kind) (x : Held k) → is_small k ≡ true → InRange k x → Reads k (value_text k x) x
+value_reads flag b small h = flag_reads b
+value_reads (number limit) n small h = let le = limit_small limit n small h in decimal_reads limit n h (omega (arith, le))
+value_reads hex n small h = inl (six_digits_reads n h)
+value_reads modes mask small h = mode_set_reads mask h
+value_reads (exactly own) x small h = absurd h
+value_reads anything x small h = absurd h
+
+-- what a key and its value print is read as the parameter that holds them
+pub key_reads : (k : FormatKey) (x : Held (kind k)) → InRange (kind k) x → param_of (key_text k, value_text (kind k) x) ≡ made k x
+key_reads k x h = sym (spelled (key_text k) (value_text (kind k) x) (made k x) (k, refl, (x, refl, value_reads (kind k) x (key_small k) h)))
+
+-- the table and the keys of parameters agree
+pub entry_made : (param : FormatParam) → MatchOption (entry param) (Unit {0}) (λ e. param ≡ made e.0 e.1)
+entry_made (H265ProfileTierLevel t) = tt
+entry_made (H266ProfileTierLevel t) = tt
+entry_made (TelephoneEvents n) = tt
+entry_made (BareRange n) = tt
+entry_made (BarePtList pt) = tt
+entry_made AmrWbUnsupported = tt
+entry_made (Red pt) = tt
+entry_made Unknown = tt
+entry_made param = refl
 
 -- what a parameter of the table prints is read as that parameter
-by_key : (key : FormatKey) (v : Value) → HasSmallLimit v → (p r : FormatParam) (pair : List ℕ × List ℕ) → IsParsed pair r → (pair.0 ≡ key_text key) × (pair.1 ≡ value_text v) × InRange v → (Reads v pair.1 → Holds key pair.1 p) → r ≡ p
-by_key key v small p r pair h printed holds =
-    let spells : Spells pair p = (key, ap (λ t. map to_ascii_lowercase t) printed.0, holds (subst (λ (t : List ℕ). Reads v t) (sym printed.1) (value_reads v small printed.2))) in
-    parsed_only pair.0 pair.1 r h ∙ sym (parsed_only pair.0 pair.1 p (inl spells))
-
 pub parsed_printed : (key_as value : List ℕ) (r : FormatParam) → IsParsed (key_as, value) r → (p : FormatParam) → IsPrinted p (key_as, value) → r ≡ p
-parsed_printed key_as value r h (MinPTime n) printed = by_key key.MinPTime (number 255 n) (lit≤ tt) (MinPTime n) r (key_as, value) h printed (λ reads. (refl, reads))
-parsed_printed key_as value r h (Stereo b) printed = by_key key.Stereo (flag b) tt (Stereo b) r (key_as, value) h printed (λ reads. (refl, reads))
-parsed_printed key_as value r h (SpropStereo b) printed = by_key key.SpropStereo (flag b) tt (SpropStereo b) r (key_as, value) h printed (λ reads. (refl, reads))
-parsed_printed key_as value r h (UseInbandFec b) printed = by_key key.UseInbandFec (flag b) tt (UseInbandFec b) r (key_as, value) h printed (λ reads. (refl, reads))
-parsed_printed key_as value r h (UseDtx b) printed = by_key key.UseDtx (flag b) tt (UseDtx b) r (key_as, value) h printed (λ reads. (refl, reads))
-parsed_printed key_as value r h (LevelAsymmetryAllowed b) printed = by_key key.LevelAsymmetryAllowed (flag b) tt (LevelAsymmetryAllowed b) r (key_as, value) h printed (λ reads. (refl, reads))
-parsed_printed key_as value r h (PacketizationMode n) printed = by_key key.PacketizationMode (number 255 n) (lit≤ tt) (PacketizationMode n) r (key_as, value) h printed (λ reads. (refl, reads))
-parsed_printed key_as value r h (ProfileLevelId n) printed = by_key key.ProfileLevelId (hex n) tt (ProfileLevelId n) r (key_as, value) h printed (λ reads. (refl, reads))
-parsed_printed key_as value r h (ProfileId n) printed = by_key key.ProfileId (number 4294967295 n) (lit≤ tt) (ProfileId n) r (key_as, value) h printed (λ reads. (refl, reads))
-parsed_printed key_as value r h (Profile n) printed = by_key key.Profile (number 255 n) (lit≤ tt) (Profile n) r (key_as, value) h printed (λ reads. (refl, reads))
-parsed_printed key_as value r h (LevelIdx n) printed = by_key key.LevelIdx (number 255 n) (lit≤ tt) (LevelIdx n) r (key_as, value) h printed (λ reads. (refl, reads))
-parsed_printed key_as value r h (Tier n) printed = by_key key.Tier (number 255 n) (lit≤ tt) (Tier n) r (key_as, value) h printed (λ reads. (refl, reads))
-parsed_printed key_as value r h (SpropMaxDonDiff n) printed = by_key key.SpropMaxDonDiff (number 32767 n) (lit≤ tt) (SpropMaxDonDiff n) r (key_as, value) h printed (λ reads. (refl, reads))
-parsed_printed key_as value r h (OctetAlign b) printed = by_key key.OctetAlign (flag b) tt (OctetAlign b) r (key_as, value) h printed (λ reads. (refl, reads))
-parsed_printed key_as value r h (ModeSet n) printed = by_key key.ModeSet (modes n) tt (ModeSet n) r (key_as, value) h printed (λ reads. (refl, reads))
-parsed_printed key_as value r h (Apt n) printed = by_key key.Apt (number 255 n) (lit≤ tt) (Apt n) r (key_as, value) h printed (λ reads. (refl, reads))
-parsed_printed key_as value r h AmrWbUnsupported printed = absurd printed
-parsed_printed key_as value r h (H265ProfileTierLevel _) printed = absurd printed
-parsed_printed key_as value r h (H266ProfileTierLevel _) printed = absurd printed
-parsed_printed key_as value r h (TelephoneEvents _) printed = absurd printed
-parsed_printed key_as value r h (BareRange _) printed = absurd printed
-parsed_printed key_as value r h (BarePtList _) printed = absurd printed
-parsed_printed key_as value r h (Red _) printed = absurd printed
-parsed_printed key_as value r h Unknown printed = absurd printed
+parsed_printed key_as value r h p printed = parsed_only key_as value r h ∙ reads (entry p) (entry_made p) printed
+  where
+    reads : (o : Option ((k : FormatKey) × Held (kind k))) → MatchOption o (Unit {0}) (λ e. p ≡ made e.0 e.1)
+        → MatchOption o ⊥ (λ e. (key_as ≡ key_text e.0) × (value ≡ value_text (kind e.0) e.1) × InRange (kind e.0) e.1) → param_of (key_as, value) ≡ p
+    reads None is printed = absurd printed
+    reads (Some e) is printed = (λ i. param_of (printed.0 i, printed.1 i)) ∙ key_reads e.0 e.1 printed.2 ∙ sym is

@@ -1,4 +1,4 @@
--- The parameters of formats: one table of keys and values, by which a key and its value are read and printed.
+-- The parameters of formats: one table of keys, by which a key and its value are read and printed.
 use Rattle.std.specs.Prelude.{◌≡◌, ◌↔◌, ◌≤◌, ◌<◌, ◌^◌, ◌-◌, ◌==◌, ℕ, Bool, true, false, not, List, [], ◌∷◌, ◌++◌, length, replicate, map, filter, codes, IsTrue, IsBitSet, Any, All, Option, Some, None, MatchOption}
 use Rattle.std.specs.Fmt.{decimal, digits}
 use Rattle.std.specs.Str.{trim}
@@ -17,31 +17,71 @@ use Rattle.str0m_formats.specs.declared.format_key.FormatKey.TheVariants as key
 use Rattle.str0m_formats.specs.declared.format_param.FormatParam.{FormatParam}
 use Rattle.str0m_formats.specs.declared.format_param.FormatParam.TheVariants.{MinPTime, Stereo, SpropStereo, UseInbandFec, UseDtx, LevelAsymmetryAllowed, PacketizationMode, ProfileLevelId, ProfileId, Profile, LevelIdx, Tier, H265ProfileTierLevel, H266ProfileTierLevel, SpropMaxDonDiff, TelephoneEvents, BareRange, BarePtList, OctetAlign, ModeSet, AmrWbUnsupported, Apt, Red, Unknown}
 
--- what stands behind a key: a flag, a number with its limit, a number that prints in hexadecimal, or a set of modes
-pub data Value : Type 0 where
-  flag : Bool → Value
-  number : (limit n : ℕ) → Value
-  hex : ℕ → Value
-  modes : ℕ → Value
+-- what stands behind a key: a flag, a number up to a limit, a number that prints in hexadecimal, a set of modes, one text
+-- alone, or anything
+pub data Kind : Type 0 where
+  flag : Kind
+  number : (limit : ℕ) → Kind
+  hex : Kind
+  modes : Kind
+  exactly : (text : List ℕ) → Kind
+  anything : Kind
 
--- The table of the keys: each parameter that is written `key=value`.
-abbrev pub entry : FormatParam → Option (FormatKey × Value)
-entry (MinPTime n) = Some (key.MinPTime, number 255 n)
-entry (Stereo b) = Some (key.Stereo, flag b)
-entry (SpropStereo b) = Some (key.SpropStereo, flag b)
-entry (UseInbandFec b) = Some (key.UseInbandFec, flag b)
-entry (UseDtx b) = Some (key.UseDtx, flag b)
-entry (LevelAsymmetryAllowed b) = Some (key.LevelAsymmetryAllowed, flag b)
-entry (PacketizationMode n) = Some (key.PacketizationMode, number 255 n)
-entry (ProfileLevelId n) = Some (key.ProfileLevelId, hex n)
-entry (ProfileId n) = Some (key.ProfileId, number 4294967295 n)
-entry (Profile n) = Some (key.Profile, number 255 n)
-entry (LevelIdx n) = Some (key.LevelIdx, number 255 n)
-entry (Tier n) = Some (key.Tier, number 255 n)
-entry (SpropMaxDonDiff n) = Some (key.SpropMaxDonDiff, number 32767 n)
-entry (OctetAlign b) = Some (key.OctetAlign, flag b)
-entry (ModeSet n) = Some (key.ModeSet, modes n)
-entry (Apt pt) = Some (key.Apt, number 255 pt)
+-- what a value of the kind holds
+abbrev pub Held : Kind → Type 0
+Held flag = Bool
+Held (exactly text) = Unit {0}
+Held anything = Unit {0}
+Held kind = ℕ
+
+-- The table of the keys: the kind of each one's values, and the parameter that holds such a value. The last four ask for what
+-- isn't there of AMR-WB (RFC 4867, section 8.2).
+abbrev pub key_row : FormatKey → (kind : Kind) × (Held kind → FormatParam)
+key_row key.MinPTime = (number 255, MinPTime)
+key_row key.Stereo = (flag, Stereo)
+key_row key.SpropStereo = (flag, SpropStereo)
+key_row key.UseInbandFec = (flag, UseInbandFec)
+key_row key.UseDtx = (flag, UseDtx)
+key_row key.LevelAsymmetryAllowed = (flag, LevelAsymmetryAllowed)
+key_row key.PacketizationMode = (number 255, PacketizationMode)
+key_row key.ProfileLevelId = (hex, ProfileLevelId)
+key_row key.ProfileId = (number 4294967295, ProfileId)
+key_row key.Profile = (number 255, Profile)
+key_row key.LevelIdx = (number 255, LevelIdx)
+key_row key.Tier = (number 255, Tier)
+key_row key.SpropMaxDonDiff = (number 32767, SpropMaxDonDiff)
+key_row key.OctetAlign = (flag, OctetAlign)
+key_row key.ModeSet = (modes, ModeSet)
+key_row key.Apt = (number 255, Apt)
+key_row key.Crc = (exactly (codes "1"), λ x. AmrWbUnsupported)
+key_row key.RobustSorting = (exactly (codes "1"), λ x. AmrWbUnsupported)
+key_row key.ModeChangePeriod = (exactly (codes "2"), λ x. AmrWbUnsupported)
+key_row key.Interleaving = (anything, λ x. AmrWbUnsupported)
+
+abbrev pub kind : FormatKey → Kind
+kind key = (key_row key).0
+
+abbrev pub made : (key : FormatKey) → Held (kind key) → FormatParam
+made key = (key_row key).1
+
+-- the key and the value of each parameter that is written `key=value`
+abbrev pub entry : FormatParam → Option ((key : FormatKey) × Held (kind key))
+entry (MinPTime n) = Some (key.MinPTime, n)
+entry (Stereo b) = Some (key.Stereo, b)
+entry (SpropStereo b) = Some (key.SpropStereo, b)
+entry (UseInbandFec b) = Some (key.UseInbandFec, b)
+entry (UseDtx b) = Some (key.UseDtx, b)
+entry (LevelAsymmetryAllowed b) = Some (key.LevelAsymmetryAllowed, b)
+entry (PacketizationMode n) = Some (key.PacketizationMode, n)
+entry (ProfileLevelId n) = Some (key.ProfileLevelId, n)
+entry (ProfileId n) = Some (key.ProfileId, n)
+entry (Profile n) = Some (key.Profile, n)
+entry (LevelIdx n) = Some (key.LevelIdx, n)
+entry (Tier n) = Some (key.Tier, n)
+entry (SpropMaxDonDiff n) = Some (key.SpropMaxDonDiff, n)
+entry (OctetAlign b) = Some (key.OctetAlign, b)
+entry (ModeSet mask) = Some (key.ModeSet, mask)
+entry (Apt pt) = Some (key.Apt, pt)
 entry _ = None
 
 -- ---- how values read
@@ -64,24 +104,17 @@ unfoldable pub IsModeSet : List ℕ → ℕ → Type 0
 IsModeSet text mask = IsMask (slice_split (λ b. b == 44) text) mask
 
 -- how each value reads: a flag is true exactly for `1`
-abbrev pub Reads : Value → List ℕ → Type 0
-Reads (flag b) text = IsTrue b ↔ (text ≡ codes "1")
-Reads (number limit n) text = IsNum limit text n
-Reads (hex n) text = IsHexElseDecimal text n
-Reads (modes mask) text = IsModeSet text mask
-
--- which keys, at which values, ask for what isn't there of AMR-WB (RFC 4867, section 8.2)
-abbrev pub AsksUnsupported : FormatKey → List ℕ → Type 0
-AsksUnsupported key.Crc value = value ≡ codes "1"
-AsksUnsupported key.RobustSorting value = value ≡ codes "1"
-AsksUnsupported key.ModeChangePeriod value = value ≡ codes "2"
-AsksUnsupported key.Interleaving value = Unit {0}
-AsksUnsupported _ value = ⊥
+abbrev pub Reads : (kind : Kind) → List ℕ → Held kind → Type 0
+Reads flag text b = IsTrue b ↔ (text ≡ codes "1")
+Reads (number limit) text n = IsNum limit text n
+Reads hex text n = IsHexElseDecimal text n
+Reads modes text mask = IsModeSet text mask
+Reads (exactly own) text x = text ≡ own
+Reads anything text x = Unit {0}
 
 -- the value behind the key spells the parameter
 abbrev pub Holds : FormatKey → List ℕ → FormatParam → Type 0
-Holds key value AmrWbUnsupported = AsksUnsupported key value
-Holds key value param = MatchOption (entry param) ⊥ (λ e. (e.0 ≡ key) × Reads e.1 value)
+Holds key text param = (x : Held (kind key)) × (param ≡ made key x) × Reads (kind key) text x
 
 -- the key and the value spell the parameter
 abbrev pub Spells : List ℕ × List ℕ → FormatParam → Type 0
@@ -137,29 +170,32 @@ abbrev pub mode_list : ℕ → List ℕ
 mode_list mask = join_with_byte 44 (map decimal (filter (λ mode. not (bit_and mask (2 ^ mode) == 0)) (range_with_len 0 9)))
 
 -- how each value prints
-abbrev pub value_text : Value → List ℕ
-value_text (flag b) = flag_text b
-value_text (number limit n) = decimal n
-value_text (hex n) = six_digits n
-value_text (modes mask) = mode_list mask
+abbrev pub value_text : (kind : Kind) → Held kind → List ℕ
+value_text flag b = flag_text b
+value_text (number limit) n = decimal n
+value_text hex n = six_digits n
+value_text modes mask = mode_list mask
+value_text kind x = []
 
 -- which values read back as they print
-abbrev pub InRange : Value → Type 0
-InRange (flag b) = Unit {0}
-InRange (number limit n) = n ≤ limit
-InRange (hex n) = n ≤ 4294967295
-InRange (modes mask) = (0 < mask) × (mask ≤ 511)
+abbrev pub InRange : (kind : Kind) → Held kind → Type 0
+InRange flag b = Unit {0}
+InRange (number limit) n = n ≤ limit
+InRange hex n = n ≤ 4294967295
+InRange modes mask = (0 < mask) × (mask ≤ 511)
+InRange kind x = ⊥
 
 -- the key and the value are what the parameter prints
 abbrev pub IsPrinted : FormatParam → List ℕ × List ℕ → Type 0
-IsPrinted param pair = MatchOption (entry param) ⊥ (λ e. (pair.0 ≡ key_text e.0) × (pair.1 ≡ value_text e.1) × InRange e.1)
+IsPrinted param pair =
+    MatchOption (entry param) ⊥ (λ e. (pair.0 ≡ key_text e.0) × (pair.1 ≡ value_text (kind e.0) e.1) × InRange (kind e.0) e.1)
 
 abbrev pub triple_text : ℕ → ℕ → ℕ → List ℕ
 triple_text profile tier level = codes "profile-id=" ++ (decimal profile ++ (codes ";tier-flag=" ++ (decimal tier ++ (codes ";level-id=" ++ decimal level))))
 
-abbrev pub entry_text : Option (FormatKey × Value) → List ℕ
+abbrev pub entry_text : Option ((key : FormatKey) × Held (kind key)) → List ℕ
 entry_text None = []
-entry_text (Some (key, value)) = key_text key ++ codes "=" ++ value_text value
+entry_text (Some e) = key_text e.0 ++ codes "=" ++ value_text (kind e.0) e.1
 
 -- what a parameter prints: `key=value` where the table has it
 abbrev pub param_text : FormatParam → List ℕ

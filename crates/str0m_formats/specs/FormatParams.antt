@@ -1,39 +1,86 @@
--- Formats: which field each parameter sets, and in which order the fields print.
-use Rattle.std.specs.Prelude.{◌≡◌, ◌⊎◌, ◌≤◌, ℕ, Bool, true, false, codes, List, [], ◌∷◌, map, Option, Some, None, IfSome, MatchOption, option_map, filter_map}
+-- Formats: what each field holds, which parameter sets it, and how a format prints.
+use Rattle.std.specs.Prelude.{◌≡◌, ◌⊎◌, ◌≤◌, ℕ, Bool, true, false, codes, List, [], ◌∷◌, map, Option, Some, None, IfSome, option_map, filter_map}
 use Rattle.std.specs.List.{join_with_byte, fold}
-use Rattle.str0m_formats.specs.FormatParam.{InRange, entry, param_text}
+use Rattle.str0m_values.specs.H265.{H265ProfileTierLevel as h265_triple}
+use Rattle.str0m_values.specs.H266.{H266ProfileTierLevel as h266_triple}
+use Rattle.str0m_formats.specs.FormatParam.{Held, kind, made, entry, InRange, param_text}
+use Rattle.str0m_formats.specs.declared.format_key.FormatKey.{FormatKey}
+use Rattle.str0m_formats.specs.declared.format_key.FormatKey.TheVariants as key
 use Rattle.str0m_formats.specs.declared.format_param.FormatParam.{FormatParam}
-use Rattle.str0m_formats.specs.declared.format_param.FormatParam.TheVariants.{MinPTime, Stereo, SpropStereo, UseInbandFec, UseDtx, LevelAsymmetryAllowed, PacketizationMode, ProfileLevelId, ProfileId, Profile, LevelIdx, Tier, H265ProfileTierLevel, H266ProfileTierLevel, SpropMaxDonDiff, TelephoneEvents, BareRange, BarePtList, OctetAlign, ModeSet, AmrWbUnsupported, Apt, Red, Unknown}
+use Rattle.str0m_formats.specs.declared.format_param.FormatParam.TheVariants.{H265ProfileTierLevel, H266ProfileTierLevel, TelephoneEvents}
 use Rattle.str0m_formats.specs.declared.format_params.Field.{Field}
 use Rattle.str0m_formats.specs.declared.format_params.Field.TheVariants as field
+use Rattle.str0m_formats.specs.declared.format_params.TheConstants.{FIELDS}
 use Rattle.str0m_formats.specs.declared.format_params.FormatParams.{FormatParams}
 
--- the format, with the value of the parameter in its field
+-- what the field of a format holds: the value of its key, a profile, tier and level, or the highest event
+abbrev pub Content : Field → Type 0
+Content (field.Key key) = Held (kind key)
+Content field.H265ProfileTierLevel = h265_triple
+Content field.H266ProfileTierLevel = h266_triple
+Content field.TelephoneEvents = ℕ
+
+-- what the field holds; a key without a field holds nothing
+abbrev pub get : (field : Field) → FormatParams → Option (Content field)
+get (field.Key key.MinPTime) p = p.min_p_time
+get (field.Key key.Stereo) p = p.stereo
+get (field.Key key.SpropStereo) p = p.sprop_stereo
+get (field.Key key.UseInbandFec) p = p.use_inband_fec
+get (field.Key key.UseDtx) p = p.use_dtx
+get (field.Key key.LevelAsymmetryAllowed) p = p.level_asymmetry_allowed
+get (field.Key key.PacketizationMode) p = p.packetization_mode
+get (field.Key key.ProfileLevelId) p = p.profile_level_id
+get (field.Key key.ProfileId) p = p.profile_id
+get (field.Key key.Profile) p = p.profile
+get (field.Key key.LevelIdx) p = p.level_idx
+get (field.Key key.Tier) p = p.tier
+get (field.Key key.SpropMaxDonDiff) p = p.sprop_max_don_diff
+get (field.Key key.OctetAlign) p = p.octet_align
+get (field.Key key.ModeSet) p = p.mode_set
+get field.H265ProfileTierLevel p = p.h265_profile_tier_level
+get field.H266ProfileTierLevel p = p.h266_profile_tier_level
+get field.TelephoneEvents p = p.telephone_event_max
+get f p = None
+
+-- the format with this in the field
+abbrev pub put : (field : Field) → Option (Content field) → FormatParams → FormatParams
+put (field.Key key.MinPTime) o p = record p { min_p_time = o }
+put (field.Key key.Stereo) o p = record p { stereo = o }
+put (field.Key key.SpropStereo) o p = record p { sprop_stereo = o }
+put (field.Key key.UseInbandFec) o p = record p { use_inband_fec = o }
+put (field.Key key.UseDtx) o p = record p { use_dtx = o }
+put (field.Key key.LevelAsymmetryAllowed) o p = record p { level_asymmetry_allowed = o }
+put (field.Key key.PacketizationMode) o p = record p { packetization_mode = o }
+put (field.Key key.ProfileLevelId) o p = record p { profile_level_id = o }
+put (field.Key key.ProfileId) o p = record p { profile_id = o }
+put (field.Key key.Profile) o p = record p { profile = o }
+put (field.Key key.LevelIdx) o p = record p { level_idx = o }
+put (field.Key key.Tier) o p = record p { tier = o }
+put (field.Key key.SpropMaxDonDiff) o p = record p { sprop_max_don_diff = o }
+put (field.Key key.OctetAlign) o p = record p { octet_align = o }
+put (field.Key key.ModeSet) o p = record p { mode_set = o }
+put field.H265ProfileTierLevel o p = record p { h265_profile_tier_level = o }
+put field.H266ProfileTierLevel o p = record p { h266_profile_tier_level = o }
+put field.TelephoneEvents o p = record p { telephone_event_max = o }
+put f o p = p
+
+-- the parameter of what the field holds
+abbrev pub param_in : (field : Field) → Content field → FormatParam
+param_in (field.Key key) x = made key x
+param_in field.H265ProfileTierLevel t = H265ProfileTierLevel t
+param_in field.H266ProfileTierLevel t = H266ProfileTierLevel t
+param_in field.TelephoneEvents n = TelephoneEvents n
+
+abbrev put_entry : Option ((key : FormatKey) × Held (kind key)) → FormatParams → FormatParams
+put_entry None p = p
+put_entry (Some e) p = put (field.Key e.0) (Some e.1) p
+
+-- the format, with the value of the parameter in its field; a parameter without a field changes nothing
 abbrev pub set : FormatParam → FormatParams → FormatParams
-set (MinPTime n) p = record p { min_p_time = Some n }
-set (Stereo b) p = record p { stereo = Some b }
-set (SpropStereo b) p = record p { sprop_stereo = Some b }
-set (UseInbandFec b) p = record p { use_inband_fec = Some b }
-set (UseDtx b) p = record p { use_dtx = Some b }
-set (LevelAsymmetryAllowed b) p = record p { level_asymmetry_allowed = Some b }
-set (PacketizationMode n) p = record p { packetization_mode = Some n }
-set (ProfileLevelId n) p = record p { profile_level_id = Some n }
-set (ProfileId n) p = record p { profile_id = Some n }
-set (Profile n) p = record p { profile = Some n }
-set (LevelIdx n) p = record p { level_idx = Some n }
-set (Tier n) p = record p { tier = Some n }
-set (H265ProfileTierLevel t) p = record p { h265_profile_tier_level = Some t }
-set (H266ProfileTierLevel t) p = record p { h266_profile_tier_level = Some t }
-set (SpropMaxDonDiff n) p = record p { sprop_max_don_diff = Some n }
-set (TelephoneEvents n) p = record p { telephone_event_max = Some n }
-set (OctetAlign b) p = record p { octet_align = Some b }
-set (ModeSet n) p = record p { mode_set = Some n }
-set (BareRange _) p = p
-set (BarePtList _) p = p
-set AmrWbUnsupported p = p
-set (Apt _) p = p
-set (Red _) p = p
-set Unknown p = p
+set (H265ProfileTierLevel t) p = put field.H265ProfileTierLevel (Some t) p
+set (H266ProfileTierLevel t) p = put field.H266ProfileTierLevel (Some t) p
+set (TelephoneEvents n) p = put field.TelephoneEvents (Some n) p
+set param p = put_entry (entry param) p
 
 -- the format, with the values of the parameters in their fields, one after another
 abbrev pub set_all : FormatParams → List FormatParam → FormatParams
@@ -43,34 +90,17 @@ set_all p params = fold (λ q param. set param q) p params
 abbrev pub empty : FormatParams
 empty = record { min_p_time = None; stereo = None; sprop_stereo = None; use_inband_fec = None; use_dtx = None; level_asymmetry_allowed = None; packetization_mode = None; profile_level_id = None; profile_id = None; profile = None; level_idx = None; tier = None; h265_profile_tier_level = None; h266_profile_tier_level = None; sprop_max_don_diff = None; telephone_event_max = None; octet_align = None; mode_set = None }
 
--- the parameter of a field, where it is given
+abbrev param_given : Field → FormatParams → Option FormatParam
+param_given f p = option_map (param_in f) (get f p)
+
+-- the parameter of a field, where it is given; by cases, so that it computes at each field and at no variable
 abbrev pub param_at : Field → FormatParams → Option FormatParam
-param_at field.MinPTime p = option_map (λ n. MinPTime n) p.min_p_time
-param_at field.Stereo p = option_map (λ b. Stereo b) p.stereo
-param_at field.SpropStereo p = option_map (λ b. SpropStereo b) p.sprop_stereo
-param_at field.UseInbandFec p = option_map (λ b. UseInbandFec b) p.use_inband_fec
-param_at field.UseDtx p = option_map (λ b. UseDtx b) p.use_dtx
-param_at field.LevelAsymmetryAllowed p = option_map (λ b. LevelAsymmetryAllowed b) p.level_asymmetry_allowed
-param_at field.PacketizationMode p = option_map (λ n. PacketizationMode n) p.packetization_mode
-param_at field.ProfileLevelId p = option_map (λ n. ProfileLevelId n) p.profile_level_id
-param_at field.ProfileId p = option_map (λ n. ProfileId n) p.profile_id
-param_at field.Profile p = option_map (λ n. Profile n) p.profile
-param_at field.LevelIdx p = option_map (λ n. LevelIdx n) p.level_idx
-param_at field.Tier p = option_map (λ n. Tier n) p.tier
-param_at field.H265ProfileTierLevel p = option_map (λ t. H265ProfileTierLevel t) p.h265_profile_tier_level
-param_at field.H266ProfileTierLevel p = option_map (λ t. H266ProfileTierLevel t) p.h266_profile_tier_level
-param_at field.SpropMaxDonDiff p = option_map (λ n. SpropMaxDonDiff n) p.sprop_max_don_diff
-param_at field.TelephoneEvents p = option_map (λ n. TelephoneEvents n) p.telephone_event_max
-param_at field.OctetAlign p = option_map (λ b. OctetAlign b) p.octet_align
-param_at field.ModeSet p = option_map (λ n. ModeSet n) p.mode_set
+param_at (field.Key key.Apt) p = param_given (field.Key key.Apt) p
+param_at f p = param_given f p
 
--- the fields in the order in which they print
-abbrev pub fields : List Field
-fields = field.MinPTime ∷ field.Stereo ∷ field.SpropStereo ∷ field.UseInbandFec ∷ field.UseDtx ∷ field.LevelAsymmetryAllowed ∷ field.PacketizationMode ∷ field.ProfileLevelId ∷ field.ProfileId ∷ field.Profile ∷ field.LevelIdx ∷ field.Tier ∷ field.H265ProfileTierLevel ∷ field.H266ProfileTierLevel ∷ field.SpropMaxDonDiff ∷ field.TelephoneEvents ∷ field.OctetAlign ∷ field.ModeSet ∷ []
-
--- the parameters of the fields that are given, in that order
+-- the parameters of the fields that are given, in the order in which the fields stand
 unfoldable pub params_of : FormatParams → List FormatParam
-params_of p = filter_map (λ field. param_at field p) fields
+params_of p = filter_map (λ field. param_at field p) FIELDS
 
 abbrev pub semicolon_if : Bool → List ℕ
 semicolon_if true = codes ";"
@@ -80,14 +110,15 @@ semicolon_if false = []
 unfoldable pub params_text : FormatParams → List ℕ
 params_text p = join_with_byte 59 (map param_text (params_of p))
 
--- the value of the parameter reads back as it prints
-abbrev pub IsWithin : FormatParam → Type 0
-IsWithin (TelephoneEvents n) = n ≤ 255
-IsWithin param = MatchOption (entry param) (Unit {0}) (λ e. InRange e.1)
+-- what the field holds reads back as it prints
+abbrev pub IsWithin : (field : Field) → Content field → Type 0
+IsWithin (field.Key key) x = InRange (kind key) x
+IsWithin field.TelephoneEvents n = n ≤ 255
+IsWithin f x = Unit {0}
 
 -- the format reads back as it prints: the values of its fields do, modes 1 to 511 and the distance up to 32767 among
 -- them, and it holds one profile, tier and level at most, and no `profile-id` beside it
 pub record CanBeReadBack (p : FormatParams) : Type 0 where
-  pub values : (f : Field) → IfSome (param_at f p) IsWithin
+  pub values : (f : Field) → IfSome (get f p) (IsWithin f)
   pub triples : (p.h265_profile_tier_level ≡ None) ⊎ (p.h266_profile_tier_level ≡ None)
   pub profile : (p.profile_id ≡ None) ⊎ ((p.h265_profile_tier_level ≡ None) × (p.h266_profile_tier_level ≡ None))

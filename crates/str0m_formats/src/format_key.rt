@@ -1,93 +1,75 @@
-//! The keys of format parameters.
+//! The keys of format parameters, and their texts.
 ghost use Rattle.std.specs.Prelude.{◌≡◌, IfSome};
 ghost use Rattle.str0m_formats.specs.FormatKey.{key_text};
 ghost use Rattle.str0m_formats.specs.ParamReading.{key_read};
 
 use str0m_values::cuts::is_same_text;
 
-/// A key of a format parameter.
+/// A key of a format parameter, first those that stand in most lines.
 #[derive(Clone, Copy)]
 pub(crate) enum FormatKey {
+    Apt,
+    ProfileLevelId,
+    PacketizationMode,
+    LevelAsymmetryAllowed,
+    ProfileId,
     MinPTime,
+    UseInbandFec,
     Stereo,
     SpropStereo,
-    UseInbandFec,
     UseDtx,
-    LevelAsymmetryAllowed,
-    PacketizationMode,
-    ProfileLevelId,
-    ProfileId,
-    Profile,
     LevelIdx,
     Tier,
+    Profile,
     SpropMaxDonDiff,
     OctetAlign,
     ModeSet,
-    Apt,
     Crc,
     RobustSorting,
     ModeChangePeriod,
     Interleaving,
 }
 
-/// Every key, first those that stand in most lines.
-const KEYS: [FormatKey; 20] = [
-    FormatKey::Apt,
-    FormatKey::ProfileLevelId,
-    FormatKey::PacketizationMode,
-    FormatKey::LevelAsymmetryAllowed,
-    FormatKey::ProfileId,
-    FormatKey::MinPTime,
-    FormatKey::UseInbandFec,
-    FormatKey::Stereo,
-    FormatKey::SpropStereo,
-    FormatKey::UseDtx,
-    FormatKey::LevelIdx,
-    FormatKey::Tier,
-    FormatKey::Profile,
-    FormatKey::SpropMaxDonDiff,
-    FormatKey::OctetAlign,
-    FormatKey::ModeSet,
-    FormatKey::Crc,
-    FormatKey::RobustSorting,
-    FormatKey::ModeChangePeriod,
-    FormatKey::Interleaving,
+/// The text of each key, in the order of `FormatKey`.
+const KEYS: [(FormatKey, &str); 20] = [
+    (FormatKey::Apt, "apt"),
+    (FormatKey::ProfileLevelId, "profile-level-id"),
+    (FormatKey::PacketizationMode, "packetization-mode"),
+    (FormatKey::LevelAsymmetryAllowed, "level-asymmetry-allowed"),
+    (FormatKey::ProfileId, "profile-id"),
+    (FormatKey::MinPTime, "minptime"),
+    (FormatKey::UseInbandFec, "useinbandfec"),
+    (FormatKey::Stereo, "stereo"),
+    (FormatKey::SpropStereo, "sprop-stereo"),
+    (FormatKey::UseDtx, "usedtx"),
+    (FormatKey::LevelIdx, "level-idx"),
+    (FormatKey::Tier, "tier"),
+    (FormatKey::Profile, "profile"),
+    (FormatKey::SpropMaxDonDiff, "sprop-max-don-diff"),
+    (FormatKey::OctetAlign, "octet-align"),
+    (FormatKey::ModeSet, "mode-set"),
+    (FormatKey::Crc, "crc"),
+    (FormatKey::RobustSorting, "robust-sorting"),
+    (FormatKey::ModeChangePeriod, "mode-change-period"),
+    (FormatKey::Interleaving, "interleaving"),
 ];
 
 impl FormatKey {
     /// The text of the key.
+    #[tactic(auto, unfolding(crate::specs::FormatKey::key_text))]
     pub(crate) fn text(self) -> &'static str
         ensures { result.now ≡ key_text self }
     {
-        match self {
-            FormatKey::MinPTime => "minptime",
-            FormatKey::Stereo => "stereo",
-            FormatKey::SpropStereo => "sprop-stereo",
-            FormatKey::UseInbandFec => "useinbandfec",
-            FormatKey::UseDtx => "usedtx",
-            FormatKey::LevelAsymmetryAllowed => "level-asymmetry-allowed",
-            FormatKey::PacketizationMode => "packetization-mode",
-            FormatKey::ProfileLevelId => "profile-level-id",
-            FormatKey::ProfileId => "profile-id",
-            FormatKey::Profile => "profile",
-            FormatKey::LevelIdx => "level-idx",
-            FormatKey::Tier => "tier",
-            FormatKey::SpropMaxDonDiff => "sprop-max-don-diff",
-            FormatKey::OctetAlign => "octet-align",
-            FormatKey::ModeSet => "mode-set",
-            FormatKey::Apt => "apt",
-            FormatKey::Crc => "crc",
-            FormatKey::RobustSorting => "robust-sorting",
-            FormatKey::ModeChangePeriod => "mode-change-period",
-            FormatKey::Interleaving => "interleaving",
-        }
+        KEYS[self as usize].1
     }
 
     /// The key of this very text.
     fn written(text: &str) -> Option<FormatKey>
         ensures { IfSome result (λ key. text.now ≡ key_text key) }
     {
-        KEYS.iter().copied().find(|key| text == key.text())
+        KEYS.iter()
+            .map(|row| row.0)
+            .find(|key| text == key.text())
     }
 
     /// The key of this text, without regard to ASCII case.
@@ -106,7 +88,7 @@ impl FormatKey {
         ensures { result ≡ key_read text.now }
     {
         KEYS.iter()
-            .copied()
+            .map(|row| row.0)
             .find(|key| is_same_text(text, key.text()))
     }
 }

@@ -1,5 +1,5 @@
 //! The parameters of formats, and how they are read.
-ghost use Rattle.std.specs.Prelude.{◌≡◌, IfOk, codes};
+ghost use Rattle.std.specs.Prelude.{◌≡◌, IfOk, codes, option_map};
 ghost use Rattle.std.specs.Str.{bytes_eq};
 ghost use Rattle.str0m_values.specs.Cuts.{num, when};
 ghost use Rattle.str0m_values.specs.Parts.{IsNum};
@@ -177,7 +177,7 @@ impl FormatKey {
 }
 
 fn unsupported(is_asked: bool) -> Option<FormatParam>
-    ensures { result ≡ when is_asked AmrWbUnsupported }
+    ensures { result ≡ option_map (λ x. AmrWbUnsupported) (when is_asked (tt {0})) }
 {
     if is_asked {
         Some(FormatParam::AmrWbUnsupported)

@@ -2,55 +2,43 @@
 ghost use Rattle.std.specs.Prelude.{◌≡◌, ◌++◌, IfOk, Some};
 ghost use Rattle.str0m_formats.specs.FormatParam.{param_text};
 ghost use Rattle.str0m_formats.specs.FormatParams.{set_all, empty, set, param_at, params_of, params_text, semicolon_if};
+ghost use Rattle.str0m_formats.specs.declared.format_params.Field.TheVariants as field;
 
+use crate::format_key::FormatKey;
 use crate::format_param::FormatParam;
 use std::alloc::{AllocError, Global};
 use std::fmt;
 use str0m_values::{H265ProfileTierLevel, H266ProfileTierLevel};
 
-/// A field of a format.
+/// A field of a format: that of a key, or one that has no key of its own.
 #[derive(Clone, Copy)]
 enum Field {
-    MinPTime,
-    Stereo,
-    SpropStereo,
-    UseInbandFec,
-    UseDtx,
-    LevelAsymmetryAllowed,
-    PacketizationMode,
-    ProfileLevelId,
-    ProfileId,
-    Profile,
-    LevelIdx,
-    Tier,
+    Key(FormatKey),
     H265ProfileTierLevel,
     H266ProfileTierLevel,
-    SpropMaxDonDiff,
     TelephoneEvents,
-    OctetAlign,
-    ModeSet,
 }
 
-/// The fields, in the order in which they print.
+/// The fields, in the order in which they stand and print.
 const FIELDS: [Field; 18] = [
-    Field::MinPTime,
-    Field::Stereo,
-    Field::SpropStereo,
-    Field::UseInbandFec,
-    Field::UseDtx,
-    Field::LevelAsymmetryAllowed,
-    Field::PacketizationMode,
-    Field::ProfileLevelId,
-    Field::ProfileId,
-    Field::Profile,
-    Field::LevelIdx,
-    Field::Tier,
+    Field::Key(FormatKey::MinPTime),
+    Field::Key(FormatKey::Stereo),
+    Field::Key(FormatKey::SpropStereo),
+    Field::Key(FormatKey::UseInbandFec),
+    Field::Key(FormatKey::UseDtx),
+    Field::Key(FormatKey::LevelAsymmetryAllowed),
+    Field::Key(FormatKey::PacketizationMode),
+    Field::Key(FormatKey::ProfileLevelId),
+    Field::Key(FormatKey::ProfileId),
+    Field::Key(FormatKey::Profile),
+    Field::Key(FormatKey::LevelIdx),
+    Field::Key(FormatKey::Tier),
     Field::H265ProfileTierLevel,
     Field::H266ProfileTierLevel,
-    Field::SpropMaxDonDiff,
+    Field::Key(FormatKey::SpropMaxDonDiff),
     Field::TelephoneEvents,
-    Field::OctetAlign,
-    Field::ModeSet,
+    Field::Key(FormatKey::OctetAlign),
+    Field::Key(FormatKey::ModeSet),
 ];
 
 /// What a format says of a codec. What it doesn't say is `None`.
@@ -148,12 +136,31 @@ impl FormatParams {
             FormatParam::TelephoneEvents(n) => self.telephone_event_max = Some(n),
             FormatParam::OctetAlign(b) => self.octet_align = Some(b),
             FormatParam::ModeSet(n) => self.mode_set = Some(n),
-            FormatParam::BareRange(_)
-            | FormatParam::BarePtList(_)
-            | FormatParam::AmrWbUnsupported
-            | FormatParam::Apt(_)
-            | FormatParam::Red(_)
-            | FormatParam::Unknown => {}
+            _ => {}
+        }
+    }
+
+    /// The parameter of the field of a key, where it is given.
+    fn keyed(self, key: FormatKey) -> Option<FormatParam>
+        ensures { result ≡ param_at (field.Key key) self }
+    {
+        match key {
+            FormatKey::MinPTime => Some(FormatParam::MinPTime(self.min_p_time?)),
+            FormatKey::Stereo => Some(FormatParam::Stereo(self.stereo?)),
+            FormatKey::SpropStereo => Some(FormatParam::SpropStereo(self.sprop_stereo?)),
+            FormatKey::UseInbandFec => Some(FormatParam::UseInbandFec(self.use_inband_fec?)),
+            FormatKey::UseDtx => Some(FormatParam::UseDtx(self.use_dtx?)),
+            FormatKey::LevelAsymmetryAllowed => Some(FormatParam::LevelAsymmetryAllowed(self.level_asymmetry_allowed?)),
+            FormatKey::PacketizationMode => Some(FormatParam::PacketizationMode(self.packetization_mode?)),
+            FormatKey::ProfileLevelId => Some(FormatParam::ProfileLevelId(self.profile_level_id?)),
+            FormatKey::ProfileId => Some(FormatParam::ProfileId(self.profile_id?)),
+            FormatKey::Profile => Some(FormatParam::Profile(self.profile?)),
+            FormatKey::LevelIdx => Some(FormatParam::LevelIdx(self.level_idx?)),
+            FormatKey::Tier => Some(FormatParam::Tier(self.tier?)),
+            FormatKey::SpropMaxDonDiff => Some(FormatParam::SpropMaxDonDiff(self.sprop_max_don_diff?)),
+            FormatKey::OctetAlign => Some(FormatParam::OctetAlign(self.octet_align?)),
+            FormatKey::ModeSet => Some(FormatParam::ModeSet(self.mode_set?)),
+            _ => None,
         }
     }
 
@@ -162,32 +169,10 @@ impl FormatParams {
         ensures { result ≡ param_at field self }
     {
         match field {
-            Field::MinPTime => Some(FormatParam::MinPTime(self.min_p_time?)),
-            Field::Stereo => Some(FormatParam::Stereo(self.stereo?)),
-            Field::SpropStereo => Some(FormatParam::SpropStereo(self.sprop_stereo?)),
-            Field::UseInbandFec => Some(FormatParam::UseInbandFec(self.use_inband_fec?)),
-            Field::UseDtx => Some(FormatParam::UseDtx(self.use_dtx?)),
-            Field::LevelAsymmetryAllowed => Some(FormatParam::LevelAsymmetryAllowed(
-                self.level_asymmetry_allowed?,
-            )),
-            Field::PacketizationMode => Some(FormatParam::PacketizationMode(
-                self.packetization_mode?,
-            )),
-            Field::ProfileLevelId => Some(FormatParam::ProfileLevelId(self.profile_level_id?)),
-            Field::ProfileId => Some(FormatParam::ProfileId(self.profile_id?)),
-            Field::Profile => Some(FormatParam::Profile(self.profile?)),
-            Field::LevelIdx => Some(FormatParam::LevelIdx(self.level_idx?)),
-            Field::Tier => Some(FormatParam::Tier(self.tier?)),
-            Field::H265ProfileTierLevel => Some(FormatParam::H265ProfileTierLevel(
-                self.h265_profile_tier_level?,
-            )),
-            Field::H266ProfileTierLevel => Some(FormatParam::H266ProfileTierLevel(
-                self.h266_profile_tier_level?,
-            )),
-            Field::SpropMaxDonDiff => Some(FormatParam::SpropMaxDonDiff(self.sprop_max_don_diff?)),
+            Field::Key(key) => self.keyed(key),
+            Field::H265ProfileTierLevel => Some(FormatParam::H265ProfileTierLevel(self.h265_profile_tier_level?)),
+            Field::H266ProfileTierLevel => Some(FormatParam::H266ProfileTierLevel(self.h266_profile_tier_level?)),
             Field::TelephoneEvents => Some(FormatParam::TelephoneEvents(self.telephone_event_max?)),
-            Field::OctetAlign => Some(FormatParam::OctetAlign(self.octet_align?)),
-            Field::ModeSet => Some(FormatParam::ModeSet(self.mode_set?)),
         }
     }
 

@@ -5,11 +5,12 @@ use Rattle.std.specs.Borrow.{Bor}
 use Rattle.std.specs.List.{cons_option}
 use Rattle.std.proofs.lemmas.List.Elements.{All-nil, All-cons}
 use Rattle.str0m_formats.proofs.ModeBounds.{modes_within}
-use Rattle.str0m_formats.specs.FormatParam.{Holds, IsParsed, AreParsed}
+use Rattle.str0m_formats.specs.FormatParam.{Held, kind, made, Reads, IsParsed, AreParsed}
+use Rattle.str0m_formats.specs.declared.format_key.FormatKey.{FormatKey}
+use Rattle.str0m_formats.specs.declared.format_key.FormatKey.TheVariants as key
 use Rattle.str0m_formats.specs.Pairs.{AreJoined, merged, has_mark}
 use Rattle.str0m_formats.specs.Triple.{Texts, IsTripleParam}
 use Rattle.str0m_formats.specs.declared.format_param.FormatParam.{FormatParam}
-use Rattle.str0m_formats.specs.declared.format_param.FormatParam.TheVariants.{ModeSet, SpropMaxDonDiff}
 use Rattle.str0m_sdp.proofs.RowBoundLaws.{rows_bounded}
 use Rattle.str0m_sdp.specs.RowBounds.{IsInRange, KeepsToLine, KeepsToLines, HasBoundedRows}
 use Rattle.str0m_sdp.specs.declared.attribute.MediaAttribute.{MediaAttribute}
@@ -28,13 +29,13 @@ use Rattle.str0m_values.specs.Fits.{FirstFit}
 
 -- ---- parameters
 
-spelled_within : (key : _) (value : List ℕ) (param : FormatParam) → Holds key value param → IsInRange param
-spelled_within key value (ModeSet mask) holds = modes_within value mask holds.1
-spelled_within key value (SpropMaxDonDiff n) holds = holds.1.fits
-spelled_within key value _ holds = tt
+value_within : (k : FormatKey) (text : List ℕ) (x : Held (kind k)) → Reads (kind k) text x → IsInRange (made k x)
+value_within key.ModeSet text mask reads = modes_within text mask reads
+value_within key.SpropMaxDonDiff text n reads = reads.fits
+value_within k text x reads = tt
 
 parsed_within : (pair : List ℕ × List ℕ) (param : FormatParam) → IsParsed pair param → IsInRange param
-parsed_within pair param (inl spells) = spelled_within spells.0 pair.1 param spells.2
+parsed_within pair param (inl (key, same, (x, made_is, reads))) = rw made_is (value_within key pair.1 x reads)
 parsed_within pair param (inr unknown) = rw unknown.1 tt
 
 all_parsed : (pairs : List (List ℕ × List ℕ)) (params : List FormatParam) → AreParsed pairs params → All IsInRange params

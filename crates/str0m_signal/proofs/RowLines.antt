@@ -7,22 +7,17 @@ use Rattle.str0m_values.specs.Parts.{IsRest}
 use Rattle.str0m_formats.specs.Codec.{printed_and_read}
 use Rattle.str0m_formats.specs.CodecSpec.{rtp_rate}
 use Rattle.str0m_formats.specs.FormatParam.{param_text}
-use Rattle.str0m_formats.specs.FormatParams.{params_of, fields, param_at}
+use Rattle.str0m_formats.specs.FormatParams.{params_of}
 use Rattle.str0m_formats.specs.Narrowing.{telephone_max}
 use Rattle.str0m_formats.specs.PairsReading.{params_read}
 use Rattle.str0m_formats.specs.declared.codec.Codec.{Codec}
 use Rattle.str0m_formats.specs.declared.codec.Codec.TheVariants as codec
 use Rattle.str0m_formats.specs.declared.format_param.FormatParam.{FormatParam}
-use Rattle.str0m_formats.specs.declared.format_param.FormatParam.TheVariants.{MinPTime, Stereo, SpropStereo, UseInbandFec, UseDtx}
-use Rattle.str0m_formats.specs.declared.format_param.FormatParam.TheVariants.{LevelAsymmetryAllowed, PacketizationMode}
-use Rattle.str0m_formats.specs.declared.format_param.FormatParam.TheVariants.{ProfileLevelId, ProfileId, Profile, LevelIdx, Tier}
-use Rattle.str0m_formats.specs.declared.format_param.FormatParam.TheVariants.{H265ProfileTierLevel, H266ProfileTierLevel}
-use Rattle.str0m_formats.specs.declared.format_param.FormatParam.TheVariants.{SpropMaxDonDiff, TelephoneEvents, BareRange}
-use Rattle.str0m_formats.specs.declared.format_param.FormatParam.TheVariants.{BarePtList, OctetAlign, ModeSet, Apt, Red}
+use Rattle.str0m_formats.specs.declared.format_param.FormatParam.TheVariants.{TelephoneEvents, BareRange, BarePtList, Apt, Red}
 use Rattle.str0m_formats.specs.declared.format_params.FormatParams.{FormatParams}
 use Rattle.str0m_formats.specs.declared.payload_params.PayloadParams.{PayloadParams}
 use Rattle.str0m_formats.proofs.PrintedLine.{joined}
-use Rattle.str0m_formats.proofs.PrintedPairs.{IsLineOf}
+use Rattle.str0m_formats.proofs.PrintedPairs.{IsLineOf, params_print}
 use Rattle.str0m_formats.proofs.Shown.{IsPlainPair, joined_pair}
 use Rattle.str0m_sdp.specs.Attribute.{media_attribute_text}
 use Rattle.str0m_sdp.specs.RowAttributes.{feedback_line, feedback_attrs, fmtp_line, format_values, format_attrs, rtx_lines}
@@ -142,77 +137,6 @@ params_printed pt (v ∷ vs) [] small shown plain e some none = absurd (some (λ
 params_printed pt (v ∷ vs) (p ∷ ps) small shown plain e some none =
     one (Fmtp pt (v ∷ vs)) (Fmtp pt (params_read (p ∷ ps))) (pairs_printed pt v vs p ps small shown plain e)
 
-cons_shown : (o : Option FormatParam) (params : List FormatParam) → IfSome o (λ v. IsRest (param_text v)) → AreShown params
-    → AreShown (cons_option o params)
-cons_shown None params h k = k
-cons_shown (Some v) params h k = (h, k)
-
-each_shown : {X : Type 0} (g : X → Option FormatParam) (xs : List X)
-    → AllByRecursion (λ x. IfSome (g x) (λ v. IsRest (param_text v))) xs → AreShown (filter_map g xs)
-each_shown g [] h = tt
-each_shown g (x ∷ xs) h = cons_shown (g x) (filter_map g xs) h.0 (each_shown g xs h.1)
-
-made : {A : Type 0} (make : A → FormatParam) (o : Option A) → ((x : A) → IsRest (param_text (make x)))
-    → IfSome (option_map make o) (λ v. IsRest (param_text v))
-made make None h = tt
-made make (Some x) h = h x
-
--- the parameters of a format all print something
-pub params_shown : (p : FormatParams) → AreShown (params_of p)
-unfolding params_of
-params_shown p = each_shown (λ f. param_at f p) fields (
-  made (λ x. MinPTime x) p.min_p_time (λ x. omega arith),
-  (
-    made (λ x. Stereo x) p.stereo (λ x. omega arith),
-    (
-      made (λ x. SpropStereo x) p.sprop_stereo (λ x. omega arith),
-      (
-        made (λ x. UseInbandFec x) p.use_inband_fec (λ x. omega arith),
-        (
-          made (λ x. UseDtx x) p.use_dtx (λ x. omega arith),
-          (
-            made (λ x. LevelAsymmetryAllowed x) p.level_asymmetry_allowed (λ x. omega arith),
-            (
-              made (λ x. PacketizationMode x) p.packetization_mode (λ x. omega arith),
-              (
-                made (λ x. ProfileLevelId x) p.profile_level_id (λ x. omega arith),
-                (
-                  made (λ x. ProfileId x) p.profile_id (λ x. omega arith),
-                  (
-                    made (λ x. Profile x) p.profile (λ x. omega arith),
-                    (
-                      made (λ x. LevelIdx x) p.level_idx (λ x. omega arith),
-                      (
-                        made (λ x. Tier x) p.tier (λ x. omega arith),
-                        (
-                          made (λ x. H265ProfileTierLevel x) p.h265_profile_tier_level (λ x. omega arith),
-                          (
-                            made (λ x. H266ProfileTierLevel x) p.h266_profile_tier_level (λ x. omega arith),
-                            (
-                              made (λ x. SpropMaxDonDiff x) p.sprop_max_don_diff (λ x. omega arith),
-                              (
-                                made (λ x. TelephoneEvents x) p.telephone_event_max (λ x. omega arith),
-                                (
-                                  made (λ x. OctetAlign x) p.octet_align (λ x. omega arith),
-                                  (made (λ x. ModeSet x) p.mode_set (λ x. omega arith), tt),
-                                ),
-                              ),
-                            ),
-                          ),
-                        ),
-                      ),
-                    ),
-                  ),
-                ),
-              ),
-            ),
-          ),
-        ),
-      ),
-    ),
-  ),
-)
-
 -- ---- rows of each codec
 
 -- telephone events: a range up to the highest
@@ -240,7 +164,7 @@ pairs_row_read row keeps other pairs line =
     row_read row keeps values
     (subst (λ (params : List FormatParam). ReadAs (fmtp_line row.pt params) (fmtp_lines row.pt values))
     (sym (format_of row.spec.codec row.spec.format other))
-    (params_printed row.pt (params_of row.spec.format) pairs keeps.pt (params_shown row.spec.format) line.plain line.text line.some
+    (params_printed row.pt (params_of row.spec.format) pairs keeps.pt (params_print row.spec.format) line.plain line.text line.some
     line.none))
 
 -- ---- rows one after another

@@ -1,4 +1,5 @@
-use Rattle.std.proofs.Common.{rules, ◌≡◌, sym, ap, ◌∙◌, arith}
+use Rattle.std.proofs.Common.{rules, ◌≡◌, sym, ap, ◌∙◌, arith, length}
+use Rattle.str0m_formats.specs.declared.format_params.TheConstants.{FIELDS}
 use Rattle.str0m_formats.proofs.Listed.{params_to, params_push, params_pass, params_all}
 use Rattle.str0m_formats.proofs.format_params.FormatParams.given.Goals as goal
 use Rattle.str0m_formats.proofs.format_params.FormatParams.given.Goals.{in-Some+in_ok-push, in_default}
@@ -22,5 +23,5 @@ loop-field-preserved c =
 
 pub returns : goal.returns
 returns c =
-    let all : c.loop-field.field-index ≡ 18 = omega arith in
+    let all : c.loop-field.field-index ≡ length FIELDS = omega arith in
     c.loop-field.invariant ∙ ap (λ n. params_to c.args.self n) all ∙ params_all c.args.self

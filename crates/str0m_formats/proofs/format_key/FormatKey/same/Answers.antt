@@ -1,0 +1,20 @@
+use Rattle.std.proofs.Common.{rules, tests, Option, Some, None, option_map, ◌≡◌, ◌∙◌, refl, sym}
+use Rattle.std.specs.Str.{str_eq_ignore_ascii_case}
+use Rattle.std.proofs.lemmas.Iterator.{YieldsList-from_slice, YieldsList-from_map}
+use Rattle.std.proofs.lemmas.Iterator.Consumers.{YieldsList-at}
+use Rattle.std.proofs.lemmas.Iterator.Search.{find_from_yields_List}
+use Rattle.str0m_formats.specs.FormatKey.{key_text}
+use Rattle.str0m_formats.specs.ParamReading.{key_read}
+use Rattle.str0m_formats.proofs.format_key.FormatKey.same.Goals as goal
+
+itself : {A : Type 0} (o : Option A) → o ≡ option_map (λ x. x) o
+itself None = refl
+itself (Some x) = refl
+
+pub returns : goal.returns
+unfolding key_read
+returns c =
+    itself c.find.result
+    ∙ find_from_yields_List (λ key. str_eq_ignore_ascii_case c.args.text.now (key_text key)) _ _ c.find.result c.find.ensures.ran
+    (YieldsList-from_map _ (λ row. row.0) (YieldsList-at c.map.ensures.source (YieldsList-from_slice _ c.iter.ensures.rest)) c.map.ensures.closure (λ x r q k. search (rules, tests)))
+    (λ x b q k. search (rules, tests))
