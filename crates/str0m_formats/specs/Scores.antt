@@ -121,21 +121,9 @@ abbrev pub profile_score : Option ProfileNumbers → Option ProfileNumbers → O
 profile_score (Some x) (Some y) _ _ = triple_score x y
 profile_score x y m n = when (profile_of x m == profile_of y n) 90
 
-abbrev pub h265_score : FormatParams → FormatParams → Option ℕ
-h265_score a b =
-    profile_score
-    (option_map h265_triple a.h265_profile_tier_level)
-    (option_map h265_triple b.h265_profile_tier_level)
-    a.profile_id
-    b.profile_id
-
-abbrev pub h266_score : FormatParams → FormatParams → Option ℕ
-h266_score a b =
-    profile_score
-    (option_map h266_triple a.h266_profile_tier_level)
-    (option_map h266_triple b.h266_profile_tier_level)
-    a.profile_id
-    b.profile_id
+-- of two formats, by how a codec's triple counts
+abbrev pub tiered_score : (FormatParams → Option ProfileNumbers) → FormatParams → FormatParams → Option ℕ
+tiered_score numbers a b = profile_score (numbers a) (numbers b) a.profile_id b.profile_id
 
 -- ---- VP9 (RFC 9628) and AV1 (the RTP payload format of the Alliance for Open Media): the same profile, and of AV1 the same level
 -- and tier
@@ -152,8 +140,8 @@ av1_score a b = when (same_or 0 a.profile b.profile && (same_or 5 a.level_idx b.
 abbrev pub format_score : Codec → FormatParams → FormatParams → Option ℕ
 format_score Opus a b = Some (opus_score a b)
 format_score H264 a b = h264_score a b
-format_score H265 a b = h265_score a b
-format_score H266 a b = h266_score a b
+format_score H265 a b = tiered_score (λ format. option_map h265_triple format.h265_profile_tier_level) a b
+format_score H266 a b = tiered_score (λ format. option_map h266_triple format.h266_profile_tier_level) a b
 format_score Vp9 a b = vp9_score a b
 format_score Av1 a b = av1_score a b
 format_score _ a b = None

@@ -1,37 +1,27 @@
 -- The profile, tier and level that three values of a format name: H265's table (RFC 7798, section 7.1) comes first, then
 -- H266's (RFC 9328, section 7.2).
 use Rattle.std.specs.Prelude.{◌≡◌, ℕ, List, Option, Some, None}
-use Rattle.str0m_values.specs.Parts.{IsNum}
 use Rattle.str0m_values.specs.Fits.{FirstFit}
 use Rattle.str0m_values.specs.H265 as h265
 use Rattle.str0m_values.specs.H266 as h266
-use Rattle.str0m_values.specs.declared.profile_tier_level.ProfileTierLevel.{ProfileTierLevel}
+use Rattle.str0m_values.specs.ProfileTierLevel.{HasGivenNumbers}
 use Rattle.str0m_values.specs.H265.{H265ProfileTierLevel as h265_triple}
 use Rattle.str0m_values.specs.H266.{H266ProfileTierLevel as h266_triple}
 use Rattle.str0m_formats.specs.declared.format_param.FormatParam.{FormatParam}
 use Rattle.str0m_formats.specs.declared.format_param.FormatParam.TheVariants.{H265ProfileTierLevel, H266ProfileTierLevel}
 
--- the number in the text, or the default where there is no text
-abbrev pub IsGiven : ℕ → Option (List ℕ) → ℕ → Type 0
-IsGiven default None n = n ≡ default
-IsGiven default (Some text) n = IsNum 255 text n
-
 -- the values of `profile-id`, `tier-flag` and `level-id`, where they are given
 abbrev pub Texts : Type 0
 Texts = Option (List ℕ) × Option (List ℕ) × Option (List ℕ)
 
--- the triple's numbers are those of the texts
-abbrev pub IsGivenTriple : {P T L : Type 0} → (P → ℕ) → (T → ℕ) → (L → ℕ) → ℕ × ℕ × ℕ → Texts → ProfileTierLevel P T L → Type 0
-IsGivenTriple profile_id tier_flag level_id defaults texts t =
-    IsGiven defaults.0 texts.0 (profile_id t.profile) × IsGiven defaults.1 texts.1 (tier_flag t.tier) × IsGiven defaults.2 texts.2 (level_id t.level)
-
+-- the parameter is a triple with the numbers of the texts
 abbrev pub IsH265Param : Texts → Option FormatParam → Type 0
 IsH265Param texts param =
-    (t : h265_triple) × IsGivenTriple h265.profile_id h265.tier_flag h265.level_id h265.defaults texts t × (param ≡ Some (H265ProfileTierLevel t))
+    (t : h265_triple) × HasGivenNumbers h265.profile_id h265.tier_flag h265.level_id h265.defaults texts.0 texts.1 texts.2 t × (param ≡ Some (H265ProfileTierLevel t))
 
 abbrev pub IsH266Param : Texts → Option FormatParam → Type 0
 IsH266Param texts param =
-    (t : h266_triple) × IsGivenTriple h266.profile_id h266.tier_flag h266.level_id h266.defaults texts t × (param ≡ Some (H266ProfileTierLevel t))
+    (t : h266_triple) × HasGivenNumbers h266.profile_id h266.tier_flag h266.level_id h266.defaults texts.0 texts.1 texts.2 t × (param ≡ Some (H266ProfileTierLevel t))
 
 abbrev pub IsNoParam : Texts → Option FormatParam → Type 0
 IsNoParam texts param = param ≡ None

@@ -4,7 +4,7 @@ ghost use Rattle.std.specs.List.{list_any};
 ghost use Rattle.str0m_formats.specs.FormatParam.{pair_texts};
 ghost use Rattle.str0m_formats.specs.ParamReading.{param_of};
 ghost use Rattle.str0m_formats.specs.Pairs.{is_mark, has_mark, value_of, is_part};
-ghost use Rattle.str0m_formats.specs.PairsReading.{lay, h265_tables, h266_tables, read_triple, triple_read, joined_read, params_read};
+ghost use Rattle.str0m_formats.specs.PairsReading.{lay, triple_read, joined_read, params_read};
 
 use crate::format_param::{FormatParam, param};
 use crate::merged_pairs::{lowered, merge, scan};
@@ -42,36 +42,15 @@ fn value_of<'a>(merged: &[(&str, &'a str)], key: &str) -> Option<&'a str>
     }
 }
 
-#[tactic(auto, using(crate::proofs::TripleLaws::h265_is))]
-fn h265(
-    profile: Option<&str>,
-    tier: Option<&str>,
-    level: Option<&str>,
-) -> Option<H265ProfileTierLevel>
-    ensures { result ≡ read_triple h265_tables (lay profile.entry, lay tier.entry, lay level.entry) }
-{
-    H265ProfileTierLevel::from_fmtp(profile, tier, level)
-}
-
-#[tactic(auto, using(crate::proofs::TripleLaws::h266_is))]
-fn h266(
-    profile: Option<&str>,
-    tier: Option<&str>,
-    level: Option<&str>,
-) -> Option<H266ProfileTierLevel>
-    ensures { result ≡ read_triple h266_tables (lay profile.entry, lay tier.entry, lay level.entry) }
-{
-    H266ProfileTierLevel::from_fmtp(profile, tier, level)
-}
-
 /// The profile, tier and level of the three values: H265's where they name one, else H266's.
+#[tactic(auto, using(crate::proofs::TripleLaws::h265_is, crate::proofs::TripleLaws::h266_is))]
 fn triple(profile: Option<&str>, tier: Option<&str>, level: Option<&str>) -> Option<FormatParam>
     ensures { result ≡ triple_read (lay profile.entry, lay tier.entry, lay level.entry) }
 {
-    if let Some(triple) = h265(profile, tier, level) {
+    if let Some(triple) = H265ProfileTierLevel::from_fmtp(profile, tier, level) {
         return Some(FormatParam::H265ProfileTierLevel(triple));
     }
-    match h266(profile, tier, level) {
+    match H266ProfileTierLevel::from_fmtp(profile, tier, level) {
         Some(triple) => Some(FormatParam::H266ProfileTierLevel(triple)),
         None => None,
     }

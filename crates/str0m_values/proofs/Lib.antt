@@ -14,7 +14,6 @@ pub mod FingerprintLaws
 pub mod LabelLaws
 pub mod NearLaws
 pub mod NumLaws
-pub mod NumberTables
 pub mod OnlyLaws
 pub mod Pairs
 pub mod Patterns
