@@ -49,6 +49,7 @@ pub mod SpecSteps
 pub mod Telephone
 pub mod Levels
 pub mod Matched
+pub mod DerivedEqual
 pub mod Distinct
 pub mod SmallTypes
 pub mod PlainRounds
