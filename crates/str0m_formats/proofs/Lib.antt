@@ -50,6 +50,7 @@ pub mod StaticTypes
 pub mod Telephone
 pub mod Levels
 pub mod Matched
+pub mod DerivedEqual
 pub mod Distinct
 pub mod SmallTypes
 pub mod PlainRounds

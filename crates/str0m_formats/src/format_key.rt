@@ -67,9 +67,7 @@ impl FormatKey {
     fn written(text: &str) -> Option<FormatKey>
         ensures { IfSome result (λ key. text.now ≡ key_text key) }
     {
-        KEYS.iter()
-            .map(|row| row.0)
-            .find(|key| text == key.text())
+        KEYS.iter().map(|row| row.0).find(|key| text == key.text())
     }
 
     /// The key of this text, without regard to ASCII case.

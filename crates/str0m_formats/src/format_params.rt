@@ -150,14 +150,20 @@ impl FormatParams {
             FormatKey::SpropStereo => Some(FormatParam::SpropStereo(self.sprop_stereo?)),
             FormatKey::UseInbandFec => Some(FormatParam::UseInbandFec(self.use_inband_fec?)),
             FormatKey::UseDtx => Some(FormatParam::UseDtx(self.use_dtx?)),
-            FormatKey::LevelAsymmetryAllowed => Some(FormatParam::LevelAsymmetryAllowed(self.level_asymmetry_allowed?)),
-            FormatKey::PacketizationMode => Some(FormatParam::PacketizationMode(self.packetization_mode?)),
+            FormatKey::LevelAsymmetryAllowed => Some(FormatParam::LevelAsymmetryAllowed(
+                self.level_asymmetry_allowed?,
+            )),
+            FormatKey::PacketizationMode => Some(FormatParam::PacketizationMode(
+                self.packetization_mode?,
+            )),
             FormatKey::ProfileLevelId => Some(FormatParam::ProfileLevelId(self.profile_level_id?)),
             FormatKey::ProfileId => Some(FormatParam::ProfileId(self.profile_id?)),
             FormatKey::Profile => Some(FormatParam::Profile(self.profile?)),
             FormatKey::LevelIdx => Some(FormatParam::LevelIdx(self.level_idx?)),
             FormatKey::Tier => Some(FormatParam::Tier(self.tier?)),
-            FormatKey::SpropMaxDonDiff => Some(FormatParam::SpropMaxDonDiff(self.sprop_max_don_diff?)),
+            FormatKey::SpropMaxDonDiff => Some(FormatParam::SpropMaxDonDiff(
+                self.sprop_max_don_diff?,
+            )),
             FormatKey::OctetAlign => Some(FormatParam::OctetAlign(self.octet_align?)),
             FormatKey::ModeSet => Some(FormatParam::ModeSet(self.mode_set?)),
             _ => None,
@@ -170,8 +176,12 @@ impl FormatParams {
     {
         match field {
             Field::Key(key) => self.keyed(key),
-            Field::H265ProfileTierLevel => Some(FormatParam::H265ProfileTierLevel(self.h265_profile_tier_level?)),
-            Field::H266ProfileTierLevel => Some(FormatParam::H266ProfileTierLevel(self.h266_profile_tier_level?)),
+            Field::H265ProfileTierLevel => Some(FormatParam::H265ProfileTierLevel(
+                self.h265_profile_tier_level?,
+            )),
+            Field::H266ProfileTierLevel => Some(FormatParam::H266ProfileTierLevel(
+                self.h266_profile_tier_level?,
+            )),
             Field::TelephoneEvents => Some(FormatParam::TelephoneEvents(self.telephone_event_max?)),
         }
     }
