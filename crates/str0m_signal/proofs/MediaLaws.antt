@@ -1,11 +1,12 @@
 -- A section's attribute is read exactly where its form holds.
-use Rattle.std.proofs.Common.{◌≡◌, ℕ, Bool, true, false, cond, eqb, List, ◌++◌, length, Option, Some, None, refl, sym, ap, ◌∙◌, inl, inr}
+use Rattle.std.proofs.Common.{◌≡◌, ℕ, Bool, true, false, cond, eqb, List, ◌++◌, length, Option, Some, None, refl, sym, ap, ◌∙◌}
 use Rattle.std.specs.Prelude.{codes}
-use Rattle.std.specs.Str.{bytes_eq}
 use Rattle.std.proofs.lemmas.Bool.{ltb-true}
-use Rattle.std.proofs.lemmas.Slice.Eq.{bytes_eq-Decides}
 use Rattle.str0m_sdp.specs.declared.setup.Setup.{Setup as Role}
-use Rattle.str0m_sdp.specs.declared.setup.Setup.TheVariants.{ActPass, Active, Passive}
+use Rattle.str0m_sdp.specs.declared.setup.Setup.TheVariants.{ActPass}
+use Rattle.str0m_sdp.specs.declared.setup.TheConstants.{SETUPS}
+use Rattle.str0m_values.specs.Words.{case_of}
+use Rattle.str0m_values.proofs.WordsOfCases.{reads_words}
 use Rattle.str0m_sdp.specs.declared.rtp_map.RtpMap.{RtpMap as Mapping}
 use Rattle.str0m_sdp.specs.declared.attribute.MediaAttribute.{MediaAttribute}
 use Rattle.str0m_sdp.specs.declared.attribute.MediaAttribute.TheVariants.{Rtcp, IceUfrag, IcePwd, IceOptions, Fingerprint, Setup, Mid, SctpPort, MaxMessageSize, SctpInit, ExtMap, RecvOnly, SendRecv, SendOnly, Inactive, Msid, RtcpMux, RtcpMuxOnly, RtcpRsize, Candidate, EndOfCandidates, RtpMap, RtcpFb, Fmtp, Rid, Simulcast, SsrcGroup, Ssrc, Unused}
@@ -40,7 +41,7 @@ use Rattle.str0m_values.proofs.CutLaws.{strip_found}
 use Rattle.str0m_signal.proofs.LineLaws.{attribute_both}
 use Rattle.str0m_values.proofs.NumLaws.{when_some, when_true, num_reads, rest_true}
 use Rattle.str0m_signal.proofs.FmtpLaws.{fmtp_fields_both}
-use Rattle.str0m_values.proofs.BothWays.{Sound, Reads, or_some, bind_some, some_is, sound_or, reads_first}
+use Rattle.str0m_values.proofs.BothWays.{Sound, Reads, bind_some, some_is, sound_or, reads_first}
 
 -- ---- what is read has its form
 
@@ -80,18 +81,13 @@ max_message_size_sound = form_sound MaxMessageSize (behind_both (codes "max-mess
 candidate_sound : Sound Named candidate_form_read
 candidate_sound = form_sound Candidate candidate_both (λ text x h. h)
 
+role_own : (role : Role) → role_read (setup_text role) ≡ Some role
+unfolding case_of
+role_own ActPass = refl
+role_own _ = refl
+
 pub role_sound : (text : List ℕ) (role : Role) → role_read text ≡ Some role → text ≡ setup_text role
-role_sound text role e =
-    elim (or_some (when (bytes_eq text (codes "actpass")) ActPass) (when (bytes_eq text (codes "active")) Active <|> when (bytes_eq text (codes "passive")) Passive) role e) [
-      | inl h ↦ one (codes "actpass") ActPass refl h
-      | inr h ↦ elim (or_some (when (bytes_eq text (codes "active")) Active) (when (bytes_eq text (codes "passive")) Passive) role h.1) [
-        | inl k ↦ one (codes "active") Active refl k
-        | inr k ↦ one (codes "passive") Passive refl k.1
-      ]
-    ]
-  where
-    one : (word : List ℕ) (given : Role) → word ≡ setup_text given → when (bytes_eq text word) given ≡ Some role → text ≡ setup_text role
-    one word given is h = let w = when_some (bytes_eq text word) given role h in (bytes_eq-Decides text word).0 w.0 ∙ is ∙ ap setup_text w.1
+role_sound = (reads_words setup_text SETUPS role_own).sound
 
 setup_sound : Sound Named setup_read
 setup_sound = record {
@@ -205,9 +201,9 @@ named_sound = record { law = λ text x e. (with_letter_sound (first_byte text)).
 -- ---- what has a form is read
 
 setup_reads : (role : Role) → named_read (codes "setup:" ++ setup_text role) ≡ Some (Setup role)
+unfolding case_of
 setup_reads ActPass = refl
-setup_reads Active = refl
-setup_reads Passive = refl
+setup_reads _ = refl
 
 mid_reads : (name : List ℕ) → IsRest name → named_read (codes "mid:" ++ name) ≡ Some (Mid (beginning_of 16 name))
 mid_reads name h = rw (rest_true name h) refl

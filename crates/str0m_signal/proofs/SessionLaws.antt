@@ -3,7 +3,8 @@ use Rattle.std.proofs.Common.{◌≡◌, ℕ, List, ◌++◌, length, Some, refl
 use Rattle.std.specs.Prelude.{codes}
 use Rattle.std.proofs.lemmas.Bool.{ltb-true}
 use Rattle.str0m_sdp.specs.declared.setup.Setup.{Setup as Role}
-use Rattle.str0m_sdp.specs.declared.setup.Setup.TheVariants.{ActPass, Active, Passive}
+use Rattle.str0m_sdp.specs.declared.setup.Setup.TheVariants.{ActPass}
+use Rattle.str0m_values.specs.Words.{case_of}
 use Rattle.str0m_sdp.specs.declared.attribute.SessionAttribute.{SessionAttribute}
 use Rattle.str0m_sdp.specs.declared.attribute.SessionAttribute.TheVariants.{Group, MsidSemantic, AllowMixedExts, IceLite, IceUfrag, IcePwd, IceOptions, Fingerprint, Setup, Candidate, EndOfCandidates, Unused}
 use Rattle.str0m_values.specs.declared.candidate.Candidate.{Candidate as TheCandidate}
@@ -28,9 +29,9 @@ use Rattle.str0m_signal.proofs.MediaLaws.{role_sound}
 use Rattle.str0m_values.proofs.NumLaws.{rest_true}
 
 setup_reads : (role : Role) → named_read (codes "setup:" ++ setup_text role) ≡ Some (Setup role)
+unfolding case_of
 setup_reads ActPass = refl
-setup_reads Active = refl
-setup_reads Passive = refl
+setup_reads _ = refl
 
 words_sound : Sound Named words_read
 words_sound =

@@ -1,8 +1,9 @@
 -- Reading of a section's attribute as a function.
 use Rattle.std.specs.Prelude.{ℕ, List, [], ◌∷◌, Option, Some, None, codes, ◌==◌, if◌then◌else◌}
-use Rattle.std.specs.Str.{bytes_eq}
 use Rattle.str0m_sdp.specs.declared.setup.Setup.{Setup as Role}
-use Rattle.str0m_sdp.specs.declared.setup.Setup.TheVariants.{ActPass, Active, Passive}
+use Rattle.str0m_sdp.specs.declared.setup.TheConstants.{SETUPS}
+use Rattle.str0m_sdp.specs.Setup.{setup_text}
+use Rattle.str0m_values.specs.Words.{case_of}
 use Rattle.str0m_sdp.specs.declared.attribute.MediaAttribute.{MediaAttribute}
 use Rattle.str0m_sdp.specs.declared.attribute.MediaAttribute.TheVariants.{Rtcp, IceUfrag, IcePwd, IceOptions, Fingerprint, Setup, Mid, SctpPort, MaxMessageSize, SctpInit, RecvOnly, SendRecv, SendOnly, Inactive, RtcpMux, RtcpMuxOnly, RtcpRsize, Candidate, EndOfCandidates, RtpMap, Fmtp, Rid, Simulcast, Unused}
 use Rattle.str0m_values.specs.CandidateReading.{candidate_read}
@@ -52,10 +53,7 @@ abbrev pub candidate_form_read : List ℕ → Option MediaAttribute
 candidate_form_read text = candidate_read text >>= λ candidate. Some (Candidate candidate)
 
 abbrev pub role_read : List ℕ → Option Role
-role_read text =
-    when (bytes_eq text (codes "actpass")) ActPass
-    <|> when (bytes_eq text (codes "active")) Active
-    <|> when (bytes_eq text (codes "passive")) Passive
+role_read text = case_of setup_text SETUPS text
 
 abbrev pub setup_read : List ℕ → Option MediaAttribute
 setup_read text = do
