@@ -24,23 +24,8 @@ use Rattle.str0m_signal.proofs.PrintedAttributes.{HoldsNoEnd, no_ends, no_end, n
 
 printed_codec : (c : Codec) → codec_of (codec_text c) ≡ printed_and_read c
 unfolding codec_of
-printed_codec codec.Opus = refl
-printed_codec codec.PCMU = refl
-printed_codec codec.PCMA = refl
-printed_codec codec.G722 = refl
-printed_codec codec.CN = refl
-printed_codec codec.AmrWb = refl
-printed_codec codec.H264 = refl
-printed_codec codec.H265 = refl
-printed_codec codec.H266 = refl
-printed_codec codec.Vp8 = refl
-printed_codec codec.Vp9 = refl
-printed_codec codec.Av1 = refl
-printed_codec codec.Tele = refl
-printed_codec codec.Rtx = refl
-printed_codec codec.Red = refl
 printed_codec codec.Null = refl
-printed_codec codec.Unknown = refl
+printed_codec _ = refl
 
 -- the name of a codec reads as it, but for Null
 pub codec_is : (c : Codec) → IsReadAs (codec_text c) (printed_and_read c)
@@ -55,23 +40,8 @@ plain_name : (name : List ℕ) → IsRest name → lacks 47 name ≡ true → la
 plain_name name filled e f g = record { filled = filled; no_slash = lacks_from 47 name e; quiet = no_end name f g }
 
 pub name_is_plain : (c : Codec) → IsPlainName (codec_text c)
-name_is_plain codec.Opus = plain_name _ (lit< tt) refl refl refl
-name_is_plain codec.PCMU = plain_name _ (lit< tt) refl refl refl
-name_is_plain codec.PCMA = plain_name _ (lit< tt) refl refl refl
-name_is_plain codec.G722 = plain_name _ (lit< tt) refl refl refl
-name_is_plain codec.CN = plain_name _ (lit< tt) refl refl refl
-name_is_plain codec.AmrWb = plain_name _ (lit< tt) refl refl refl
-name_is_plain codec.H264 = plain_name _ (lit< tt) refl refl refl
-name_is_plain codec.H265 = plain_name _ (lit< tt) refl refl refl
-name_is_plain codec.H266 = plain_name _ (lit< tt) refl refl refl
-name_is_plain codec.Vp8 = plain_name _ (lit< tt) refl refl refl
-name_is_plain codec.Vp9 = plain_name _ (lit< tt) refl refl refl
-name_is_plain codec.Av1 = plain_name _ (lit< tt) refl refl refl
-name_is_plain codec.Tele = plain_name _ (lit< tt) refl refl refl
-name_is_plain codec.Rtx = plain_name _ (lit< tt) refl refl refl
-name_is_plain codec.Red = plain_name _ (lit< tt) refl refl refl
 name_is_plain codec.Null = plain_name _ (lit< tt) refl refl refl
-name_is_plain codec.Unknown = plain_name _ (lit< tt) refl refl refl
+name_is_plain _ = plain_name _ (lit< tt) refl refl refl
 
 -- ---- mappings
 

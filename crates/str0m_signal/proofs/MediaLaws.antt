@@ -1,17 +1,18 @@
 -- A section's attribute is read exactly where its form holds.
-use Rattle.std.proofs.Common.{◌≡◌, ℕ, List, length, Some, refl, sym, ap, ◌∙◌, inl, inr}
+use Rattle.std.proofs.Common.{◌≡◌, ℕ, List, length, Some, refl, sym, ap, ◌∙◌}
 use Rattle.std.specs.Prelude.{codes}
-use Rattle.std.specs.Str.{bytes_eq}
 use Rattle.std.proofs.lemmas.Bool.{ltb-true}
-use Rattle.std.proofs.lemmas.Slice.Eq.{bytes_eq-Decides}
 use Rattle.str0m_sdp.specs.declared.attribute.MediaAttribute.TheVariants.{Fingerprint, Setup, Candidate, Unused}
 use Rattle.str0m_sdp.specs.declared.setup.Setup.{Setup as Role}
-use Rattle.str0m_sdp.specs.declared.setup.Setup.TheVariants.{ActPass, Active, Passive}
+use Rattle.str0m_sdp.specs.declared.setup.Setup.TheVariants.{ActPass}
+use Rattle.str0m_sdp.specs.declared.setup.TheConstants.{SETUPS}
+use Rattle.str0m_values.specs.Words.{case_of}
+use Rattle.str0m_values.proofs.WordsOfCases.{reads_words}
 use Rattle.str0m_sdp.specs.Setup.{setup_text}
-use Rattle.str0m_values.specs.Cuts.{◌<|>◌, when, is_rest}
+use Rattle.str0m_values.specs.Cuts.{is_rest}
 use Rattle.str0m_values.specs.ShortText.{beginning_of}
 use Rattle.str0m_values.proofs.Beginnings.{beginning_is, beginning_only}
-use Rattle.str0m_values.proofs.BothWays.{Reads, or_some, reads_first}
+use Rattle.str0m_values.proofs.BothWays.{Reads, reads_first}
 use Rattle.str0m_values.proofs.CandidateLaws.{candidate_both}
 use Rattle.str0m_values.proofs.NumLaws.{when_some, when_true, rest_true}
 use Rattle.str0m_signal.specs.LineReading.{read_attribute}
@@ -30,26 +31,13 @@ use Rattle.str0m_signal.proofs.WordsLaws.{hex_pairs_both, sources_both}
 
 -- ---- what sessions and sections share
 
-pub role_sound : (text : List ℕ) (role : Role) → role_read text ≡ Some role → text ≡ setup_text role
-role_sound text role e =
-    elim (or_some (when (bytes_eq text (codes "actpass")) ActPass) (when (bytes_eq text (codes "active")) Active <|> when (bytes_eq text (codes "passive")) Passive) role e) [
-      | inl h ↦ one (codes "actpass") ActPass refl h
-      | inr h ↦ elim (or_some (when (bytes_eq text (codes "active")) Active) (when (bytes_eq text (codes "passive")) Passive) role h.1) [
-        | inl k ↦ one (codes "active") Active refl k
-        | inr k ↦ one (codes "passive") Passive refl k.1
-      ]
-    ]
-  where
-    one : (word : List ℕ) (given : Role) → word ≡ setup_text given → when (bytes_eq text word) given ≡ Some role → text ≡ setup_text role
-    one word given is h = let w = when_some (bytes_eq text word) given role h in (bytes_eq-Decides text word).0 w.0 ∙ is ∙ ap setup_text w.1
+role_own : (role : Role) → role_read (setup_text role) ≡ Some role
+unfolding case_of
+role_own ActPass = refl
+role_own _ = refl
 
 pub role_both : Readable role
-role_both = record { sound = role_sound; complete = λ text setup h. ap role_read h ∙ read setup }
-  where
-    read : (setup : Role) → role_read (setup_text setup) ≡ Some setup
-    read ActPass = refl
-    read Active = refl
-    read Passive = refl
+role_both = record { sound = (reads_words setup_text SETUPS role_own).sound; complete = λ text setup h. ap role_read h ∙ role_own setup }
 
 pub candidate_lawful : Lawful candidate
 candidate_lawful = own_lawful (codes "candidate:") candidate_both candidate_begins

@@ -1,7 +1,6 @@
 -- The printed lines of a row have their forms, and read as the row's lines.
 use Rattle.std.proofs.Common.{◌≡◌, ◌≢◌, ◌<◌, ◌≤◌, ℕ, Bool, true, false, List, [], ◌∷◌, ◌++◌, map, filter_map, Option, Some, None}
 use Rattle.std.proofs.Common.{IfSome, option_map, refl, sym, ap, subst, arith, lit<, lit≤}
-use Rattle.std.specs.Prelude.{codes}
 use Rattle.std.specs.List.{AllByRecursion, cons_option, flat_map}
 use Rattle.str0m_values.specs.Parts.{IsRest}
 use Rattle.str0m_formats.specs.Codec.{printed_and_read}
@@ -23,6 +22,7 @@ use Rattle.str0m_sdp.specs.Attribute.{media_attribute_text}
 use Rattle.str0m_sdp.specs.RowAttributes.{feedback_line, feedback_attrs, fmtp_line, format_values, format_attrs, rtx_lines}
 use Rattle.str0m_sdp.specs.RowAttributes.{rtx_attrs, red_lines, red_attrs, row_attrs}
 use Rattle.str0m_sdp.specs.RtpMap.{map_of_spec}
+use Rattle.str0m_sdp.specs.declared.feedback.TheConstants.{TRANSPORT_CC, REMB, FIR, NACK, PLI}
 use Rattle.str0m_sdp.specs.declared.attribute.MediaAttribute.{MediaAttribute}
 use Rattle.str0m_sdp.specs.declared.attribute.MediaAttribute.TheVariants.{RtpMap, RtcpFb, Fmtp}
 use Rattle.str0m_sdp.specs.declared.rtp_map.RtpMap.{RtpMap as Mapping}
@@ -87,11 +87,11 @@ module _ (row : PayloadParams) (keeps : KeepsToRow row) where
 
   pub feedback_read : ReadAs (feedback_attrs row) (feedback_attrs row)
   feedback_read =
-      joins _ _ _ _ (feedback (codes "transport-cc") row.fb_transport_cc (lit< tt) (no_end (codes "transport-cc") refl refl))
-      (joins _ _ _ _ (feedback (codes "goog-remb") row.fb_remb (lit< tt) (no_end (codes "goog-remb") refl refl))
-      (joins _ _ _ _ (feedback (codes "ccm fir") row.fb_fir (lit< tt) (no_end (codes "ccm fir") refl refl))
-      (joins _ _ _ _ (feedback (codes "nack") row.fb_nack (lit< tt) (no_end (codes "nack") refl refl))
-      (feedback (codes "nack pli") row.fb_pli (lit< tt) (no_end (codes "nack pli") refl refl)))))
+      joins _ _ _ _ (feedback TRANSPORT_CC.now row.fb_transport_cc (lit< tt) (no_end TRANSPORT_CC.now refl refl))
+      (joins _ _ _ _ (feedback REMB.now row.fb_remb (lit< tt) (no_end REMB.now refl refl))
+      (joins _ _ _ _ (feedback FIR.now row.fb_fir (lit< tt) (no_end FIR.now refl refl))
+      (joins _ _ _ _ (feedback NACK.now row.fb_nack (lit< tt) (no_end NACK.now refl refl))
+      (feedback PLI.now row.fb_pli (lit< tt) (no_end PLI.now refl refl)))))
 
   rtx : (o : Option ℕ) → IfSome o (λ n. n ≤ 127) → ReadAs (rtx_lines row o) (rtx_lines row o)
   rtx None h = refl

@@ -10,6 +10,8 @@ use Rattle.str0m_signal.proofs.FormLaws.{num_both}
 use Rattle.str0m_signal.proofs.PartLaws.{parted_both}
 use Rattle.std.proofs.lemmas.Slice.Eq.{bytes_eq-Decides}
 use Rattle.str0m_sdp.specs.declared.bandwidth.Bandwidth.{Bandwidth}
+use Rattle.str0m_sdp.specs.declared.media_type.TheConstants.{AUDIO, VIDEO, APPLICATION}
+use Rattle.str0m_sdp.specs.declared.proto.TheConstants.{SRTP, SCTP, OLD_SCTP}
 use Rattle.str0m_sdp.specs.declared.media_type.MediaType.{MediaType}
 use Rattle.str0m_sdp.specs.declared.media_type.MediaType.TheVariants.{Audio, Video, Application, Unknown}
 use Rattle.str0m_sdp.specs.declared.proto.Proto.{Proto}
@@ -78,22 +80,22 @@ word_not front text h = false_from_ne_true (bytes_eq text front) (λ e. h ([], (
 unknown_sound : Sound IsKind unknown_read
 unknown_sound = record {
   law = λ text kind e.
-      let a = unless (is_some (strip (codes "audio") text)) (cond (is_some (strip (codes "video") text)) None (cond (is_some (strip (codes "application") text)) None (when (is_rest text) (Unknown text)))) kind e in
-      let v = unless (is_some (strip (codes "video") text)) (cond (is_some (strip (codes "application") text)) None (when (is_rest text) (Unknown text))) kind a.1 in
-      let p = unless (is_some (strip (codes "application") text)) (when (is_rest text) (Unknown text)) kind v.1 in
+      let a = unless (is_some (strip AUDIO.now text)) (cond (is_some (strip VIDEO.now text)) None (cond (is_some (strip APPLICATION.now text)) None (when (is_rest text) (Unknown text)))) kind e in
+      let v = unless (is_some (strip VIDEO.now text)) (cond (is_some (strip APPLICATION.now text)) None (when (is_rest text) (Unknown text))) kind a.1 in
+      let p = unless (is_some (strip APPLICATION.now text)) (when (is_rest text) (Unknown text)) kind v.1 in
       let w = when_some (is_rest text) (Unknown text) kind p.1 in
-      subst (IsKind text) w.1 (refl, ltb-true 0 (length text) w.0, not_begun (codes "audio") text a.0, not_begun (codes "video") text v.0, not_begun (codes "application") text p.0);
+      subst (IsKind text) w.1 (refl, ltb-true 0 (length text) w.0, not_begun AUDIO.now text a.0, not_begun VIDEO.now text v.0, not_begun APPLICATION.now text p.0);
 }
 
 kind_sound : Sound IsKind kind_read
-kind_sound = sound_or (word_sound (codes "audio") Audio refl) (sound_or (word_sound (codes "video") Video refl) (sound_or (word_sound (codes "application") Application refl) unknown_sound))
+kind_sound = sound_or (word_sound AUDIO.now Audio refl) (sound_or (word_sound VIDEO.now Video refl) (sound_or (word_sound APPLICATION.now Application refl) unknown_sound))
 
 kind_complete : (text : List ℕ) (kind : MediaType) → IsKind text kind → kind_read text ≡ Some kind
 kind_complete text Audio h = rw h refl
 kind_complete text Video h = rw h refl
 kind_complete text Application h = rw h refl
 kind_complete text (Unknown name) h =
-    rw (word_not (codes "audio") text h.2, word_not (codes "video") text h.3, word_not (codes "application") text h.4, begun_not (codes "audio") text h.2, begun_not (codes "video") text h.3, begun_not (codes "application") text h.4, rest_true text h.1)
+    rw (word_not AUDIO.now text h.2, word_not VIDEO.now text h.3, word_not APPLICATION.now text h.4, begun_not AUDIO.now text h.2, begun_not VIDEO.now text h.3, begun_not APPLICATION.now text h.4, rest_true text h.1)
     (ap (λ (t : List ℕ). Some (Unknown t)) h.0)
 
 kind_filled : (text : List ℕ) (kind : MediaType) → IsKind text kind → IsRest text
@@ -103,7 +105,7 @@ kind_filled text Application h = rw h (omega arith)
 kind_filled text (Unknown name) h = h.1
 
 proto_sound : Sound IsProto proto_read
-proto_sound = sound_or (word_sound (codes "UDP/TLS/RTP/SAVPF") Srtp refl) (sound_or (word_sound (codes "DTLS/SCTP") Sctp (inl refl)) (word_sound (codes "UDP/DTLS/SCTP") Sctp (inr refl)))
+proto_sound = sound_or (word_sound SRTP.now Srtp refl) (sound_or (word_sound OLD_SCTP.now Sctp (inl refl)) (word_sound SCTP.now Sctp (inr refl)))
 
 proto_complete : (text : List ℕ) (proto : Proto) → IsProto text proto → proto_read text ≡ Some proto
 proto_complete text Srtp h = rw h refl

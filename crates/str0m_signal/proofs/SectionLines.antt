@@ -15,6 +15,8 @@ use Rattle.str0m_sdp.specs.MediaLine.{port_text, pts_text, formats_text, m_line}
 use Rattle.str0m_sdp.specs.MediaType.{media_type_text, is_media}
 use Rattle.str0m_sdp.specs.Proto.{proto_text}
 use Rattle.str0m_sdp.specs.declared.media_line.MediaLine.{MediaLine}
+use Rattle.str0m_sdp.specs.declared.media_type.TheConstants.{AUDIO, VIDEO}
+use Rattle.str0m_sdp.specs.declared.proto.TheConstants.{SRTP, SCTP}
 use Rattle.str0m_sdp.specs.declared.media_type.MediaType.{MediaType}
 use Rattle.str0m_sdp.specs.declared.media_type.MediaType.TheVariants as typ
 use Rattle.str0m_sdp.specs.declared.proto.Proto.{Proto}
@@ -26,8 +28,8 @@ use Rattle.str0m_signal.proofs.PrintedAttributes.{HoldsNoEnd, no_ends, no_end, n
 -- ---- the m-line
 
 kind_is : (t : MediaType) → is_media t ≡ true → IsWord (media_type_text t) × IsKind (media_type_text t) t × HoldsNoEnd (media_type_text t)
-kind_is typ.Audio h = ((lit< tt, lacks_from 32 (codes "audio") refl), refl, no_end (codes "audio") refl refl)
-kind_is typ.Video h = ((lit< tt, lacks_from 32 (codes "video") refl), refl, no_end (codes "video") refl refl)
+kind_is typ.Audio h = ((lit< tt, lacks_from 32 AUDIO.now refl), refl, no_end AUDIO.now refl refl)
+kind_is typ.Video h = ((lit< tt, lacks_from 32 VIDEO.now refl), refl, no_end VIDEO.now refl refl)
 kind_is typ.Application h = absurd (false≢true h)
 kind_is (typ.Unknown text) h = absurd (false≢true h)
 
@@ -42,8 +44,8 @@ port_is false = (
 )
 
 proto_is : (p : Proto) → (IsWord (proto_text p) × IsProto (proto_text p) p) × HoldsNoEnd (proto_text p)
-proto_is Srtp = (((lit< tt, lacks_from 32 (codes "UDP/TLS/RTP/SAVPF") refl), refl), no_end (codes "UDP/TLS/RTP/SAVPF") refl refl)
-proto_is Sctp = (((lit< tt, lacks_from 32 (codes "UDP/DTLS/SCTP") refl), inr refl), no_end (codes "UDP/DTLS/SCTP") refl refl)
+proto_is Srtp = (((lit< tt, lacks_from 32 SRTP.now refl), refl), no_end SRTP.now refl refl)
+proto_is Sctp = (((lit< tt, lacks_from 32 SCTP.now refl), inr refl), no_end SCTP.now refl refl)
 
 -- types that an m-line holds
 abbrev pub AreTypes : List ℕ → Type 0

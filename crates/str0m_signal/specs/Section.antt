@@ -2,6 +2,8 @@
 use Rattle.std.specs.Prelude.{◌≡◌, ◌⊎◌, ◌↔◌, ℕ, Bool, List, [], ◌++◌, Option, codes, IsTrue}
 use Rattle.str0m_sdp.specs.declared.bandwidth.Bandwidth.{Bandwidth}
 use Rattle.str0m_sdp.specs.declared.media_line.MediaLine.{MediaLine}
+use Rattle.str0m_sdp.specs.declared.media_type.TheConstants.{AUDIO, VIDEO, APPLICATION}
+use Rattle.str0m_sdp.specs.declared.proto.TheConstants.{SRTP, SCTP, OLD_SCTP}
 use Rattle.str0m_sdp.specs.declared.media_type.MediaType.{MediaType}
 use Rattle.str0m_sdp.specs.declared.media_type.MediaType.TheVariants.{Audio, Video, Application, Unknown}
 use Rattle.str0m_sdp.specs.declared.proto.Proto.{Proto}
@@ -26,15 +28,15 @@ Begins front text = (rest : List ℕ) × (text ≡ front ++ rest)
 
 -- the first of the three with which the text begins is the whole of it, or it begins with none
 abbrev pub IsKind : List ℕ → MediaType → Type 0
-IsKind text Audio = text ≡ codes "audio"
-IsKind text Video = text ≡ codes "video"
-IsKind text Application = text ≡ codes "application"
+IsKind text Audio = text ≡ AUDIO.now
+IsKind text Video = text ≡ VIDEO.now
+IsKind text Application = text ≡ APPLICATION.now
 IsKind text (Unknown name) = (text ≡ name) × IsRest text
-    × (Begins (codes "audio") text → ⊥) × (Begins (codes "video") text → ⊥) × (Begins (codes "application") text → ⊥)
+    × (Begins AUDIO.now text → ⊥) × (Begins VIDEO.now text → ⊥) × (Begins APPLICATION.now text → ⊥)
 
 abbrev pub IsProto : List ℕ → Proto → Type 0
-IsProto text Srtp = text ≡ codes "UDP/TLS/RTP/SAVPF"
-IsProto text Sctp = (text ≡ codes "DTLS/SCTP") ⊎ (text ≡ codes "UDP/DTLS/SCTP")
+IsProto text Srtp = text ≡ SRTP.now
+IsProto text Sctp = (text ≡ OLD_SCTP.now) ⊎ (text ≡ SCTP.now)
 
 -- any other text that doesn't begin with a space is read as no types
 abbrev pub NoTypes : List ℕ → List ℕ → Type 0

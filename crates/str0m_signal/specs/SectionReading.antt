@@ -2,6 +2,8 @@
 use Rattle.std.specs.Prelude.{ℕ, List, [], Option, Some, None, codes, if◌then◌else◌, is_some}
 use Rattle.std.specs.Str.{bytes_eq}
 use Rattle.str0m_sdp.specs.declared.bandwidth.Bandwidth.{Bandwidth}
+use Rattle.str0m_sdp.specs.declared.media_type.TheConstants.{AUDIO, VIDEO, APPLICATION}
+use Rattle.str0m_sdp.specs.declared.proto.TheConstants.{SRTP, SCTP, OLD_SCTP}
 use Rattle.str0m_sdp.specs.declared.media_type.MediaType.{MediaType}
 use Rattle.str0m_sdp.specs.declared.media_type.MediaType.TheVariants.{Audio, Video, Application, Unknown}
 use Rattle.str0m_sdp.specs.declared.proto.Proto.{Proto}
@@ -30,23 +32,23 @@ bandwidth_read content = do
 
 abbrev pub unknown_read : List ℕ → Option MediaType
 unknown_read text =
-    if is_some (strip (codes "audio") text) then None
-    else if is_some (strip (codes "video") text) then None
-    else if is_some (strip (codes "application") text) then None
+    if is_some (strip AUDIO.now text) then None
+    else if is_some (strip VIDEO.now text) then None
+    else if is_some (strip APPLICATION.now text) then None
     else when (is_rest text) (Unknown text)
 
 abbrev pub kind_read : List ℕ → Option MediaType
 kind_read text =
-    when (bytes_eq text (codes "audio")) Audio
-    <|> when (bytes_eq text (codes "video")) Video
-    <|> when (bytes_eq text (codes "application")) Application
+    when (bytes_eq text AUDIO.now) Audio
+    <|> when (bytes_eq text VIDEO.now) Video
+    <|> when (bytes_eq text APPLICATION.now) Application
     <|> unknown_read text
 
 abbrev pub proto_read : List ℕ → Option Proto
 proto_read text =
-    when (bytes_eq text (codes "UDP/TLS/RTP/SAVPF")) Srtp
-    <|> when (bytes_eq text (codes "DTLS/SCTP")) Sctp
-    <|> when (bytes_eq text (codes "UDP/DTLS/SCTP")) Sctp
+    when (bytes_eq text SRTP.now) Srtp
+    <|> when (bytes_eq text OLD_SCTP.now) Sctp
+    <|> when (bytes_eq text SCTP.now) Sctp
 
 -- numbers parted by spaces
 abbrev pub numbers_read : List ℕ → Option (List ℕ)

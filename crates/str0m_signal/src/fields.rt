@@ -10,9 +10,9 @@ ghost use Rattle.str0m_signal.specs.LineReading.{lines_of, line_read, both_left}
 
 use crate::lines::plain_line;
 use std::alloc::{AllocError, Global};
-use str0m_sdp::Setup;
+use str0m_sdp::{SETUPS, Setup};
 use str0m_values::cuts::strip;
-use str0m_values::{Mid, Text};
+use str0m_values::{Mid, Text, case_of};
 
 /// What follows `label`, where that is not nothing.
 pub(crate) fn field<'a>(line: &'a str, label: &str) -> Option<&'a str>
@@ -59,10 +59,5 @@ pub(crate) fn short(name: &str) -> Mid
 pub(crate) fn role(word: &str) -> Option<Setup>
     ensures { result ≡ role_read word.now }
 {
-    match word {
-        "actpass" => Some(Setup::ActPass),
-        "active" => Some(Setup::Active),
-        "passive" => Some(Setup::Passive),
-        _ => None,
-    }
+    case_of(&SETUPS, word)
 }

@@ -9,7 +9,7 @@ ghost use Rattle.str0m_signal.specs.SectionReading.{unknown_read, kind_read, pro
 ghost use Rattle.str0m_signal.specs.Heads.{kind_is, media_head};
 
 use std::alloc::{AllocError, Global};
-use str0m_sdp::{MediaType, Proto};
+use str0m_sdp::{APPLICATION, AUDIO, MediaType, OLD_SCTP, Proto, SCTP, SRTP, VIDEO};
 use str0m_values::cuts::{cut, num_u8, strip};
 use str0m_values::{Items, Pt, Separator, Text};
 
@@ -47,13 +47,13 @@ impl<'a> Kind<'a> {
 fn unknown(text: &str) -> Option<Kind<'_>>
     ensures { option_map kind_is result ≡ unknown_read text.now }
 {
-    if strip(text, "audio").is_some() {
+    if strip(text, AUDIO).is_some() {
         return None;
     }
-    if strip(text, "video").is_some() {
+    if strip(text, VIDEO).is_some() {
         return None;
     }
-    if strip(text, "application").is_some() {
+    if strip(text, APPLICATION).is_some() {
         return None;
     }
     if text.is_empty() {
@@ -66,9 +66,9 @@ fn kind_of(text: &str) -> Option<Kind<'_>>
     ensures { option_map kind_is result ≡ kind_read text.now }
 {
     match text {
-        "audio" => Some(Kind::Audio),
-        "video" => Some(Kind::Video),
-        "application" => Some(Kind::Application),
+        AUDIO => Some(Kind::Audio),
+        VIDEO => Some(Kind::Video),
+        APPLICATION => Some(Kind::Application),
         _ => unknown(text),
     }
 }
@@ -77,9 +77,9 @@ fn proto(text: &str) -> Option<Proto>
     ensures { result ≡ proto_read text.now }
 {
     match text {
-        "UDP/TLS/RTP/SAVPF" => Some(Proto::Srtp),
-        "DTLS/SCTP" => Some(Proto::Sctp),
-        "UDP/DTLS/SCTP" => Some(Proto::Sctp),
+        SRTP => Some(Proto::Srtp),
+        OLD_SCTP => Some(Proto::Sctp),
+        SCTP => Some(Proto::Sctp),
         _ => None,
     }
 }
