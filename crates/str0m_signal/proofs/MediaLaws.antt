@@ -37,7 +37,7 @@ role_own ActPass = refl
 role_own _ = refl
 
 pub role_both : Readable role
-role_both = record { sound = (reads_words setup_text SETUPS role_own).sound; complete = λ text setup h. ap role_read h ∙ role_own setup }
+role_both = reads_words setup_text SETUPS role_own
 
 pub candidate_lawful : Lawful candidate
 candidate_lawful = own_lawful (codes "candidate:") candidate_both candidate_begins
