@@ -35,7 +35,7 @@ value_within key.SpropMaxDonDiff text n reads = reads.fits
 value_within k text x reads = tt
 
 parsed_within : (pair : List ℕ × List ℕ) (param : FormatParam) → IsParsed pair param → IsInRange param
-parsed_within pair param (inl (key, same, (x, made_is, reads))) = rw made_is (value_within key pair.1 x reads)
+parsed_within pair param (inl (k, same, (x, made_is, reads))) = rw made_is (value_within k pair.1 x reads)
 parsed_within pair param (inr unknown) = rw unknown.1 tt
 
 all_parsed : (pairs : List (List ℕ × List ℕ)) (params : List FormatParam) → AreParsed pairs params → All IsInRange params
