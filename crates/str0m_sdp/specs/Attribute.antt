@@ -19,50 +19,51 @@ use Rattle.str0m_sdp.specs.RtpMap.{rtp_map_text}
 use Rattle.str0m_sdp.specs.Setup.{setup_text}
 use Rattle.str0m_sdp.specs.Simulcast.{simulcast_text}
 use Rattle.str0m_sdp.specs.SsrcGroup.{ssrc_group_text}
+use Rattle.str0m_sdp.specs.declared.label.TheConstants as label
 
 abbrev pub session_attribute_text : SessionAttribute → List ℕ
 session_attribute_text (session.Group typ mids) = group_text typ mids
 session_attribute_text (session.MsidSemantic semantic ids) = msid_semantic_text semantic ids
-session_attribute_text session.AllowMixedExts = attribute_line (codes "extmap-allow-mixed")
-session_attribute_text session.IceLite = attribute_line (codes "ice-lite")
-session_attribute_text (session.IceUfrag text) = attribute_line (codes "ice-ufrag:" ++ text)
-session_attribute_text (session.IcePwd text) = attribute_line (codes "ice-pwd:" ++ text)
-session_attribute_text (session.IceOptions text) = attribute_line (codes "ice-options:" ++ text)
-session_attribute_text (session.Fingerprint hash) = attribute_line (codes "fingerprint:" ++ fingerprint_text hash)
-session_attribute_text (session.Setup setup) = attribute_line (codes "setup:" ++ setup_text setup)
+session_attribute_text session.AllowMixedExts = attribute_line label.EXTMAP_ALLOW_MIXED.now
+session_attribute_text session.IceLite = attribute_line label.ICE_LITE.now
+session_attribute_text (session.IceUfrag text) = attribute_line (label.ICE_UFRAG.now ++ text)
+session_attribute_text (session.IcePwd text) = attribute_line (label.ICE_PWD.now ++ text)
+session_attribute_text (session.IceOptions text) = attribute_line (label.ICE_OPTIONS.now ++ text)
+session_attribute_text (session.Fingerprint hash) = attribute_line (label.FINGERPRINT.now ++ fingerprint_text hash)
+session_attribute_text (session.Setup setup) = attribute_line (label.SETUP.now ++ setup_text setup)
 session_attribute_text (session.Candidate candidate) = attribute_line (candidate_text candidate)
-session_attribute_text session.EndOfCandidates = attribute_line (codes "end-of-candidates")
+session_attribute_text session.EndOfCandidates = attribute_line label.END_OF_CANDIDATES.now
 session_attribute_text (session.Unused text) = attribute_line text
 
 abbrev pub media_attribute_text : MediaAttribute → List ℕ
-media_attribute_text (media.Rtcp text) = attribute_line (codes "rtcp:" ++ text)
-media_attribute_text (media.IceUfrag text) = attribute_line (codes "ice-ufrag:" ++ text)
-media_attribute_text (media.IcePwd text) = attribute_line (codes "ice-pwd:" ++ text)
-media_attribute_text (media.IceOptions text) = attribute_line (codes "ice-options:" ++ text)
-media_attribute_text (media.Fingerprint hash) = attribute_line (codes "fingerprint:" ++ fingerprint_text hash)
-media_attribute_text (media.Setup setup) = attribute_line (codes "setup:" ++ setup_text setup)
-media_attribute_text (media.Mid mid) = attribute_line (codes "mid:" ++ mid)
-media_attribute_text (media.SctpPort port) = attribute_line (codes "sctp-port:" ++ decimal port)
-media_attribute_text (media.MaxMessageSize size) = attribute_line (codes "max-message-size:" ++ decimal size)
-media_attribute_text (media.SctpInit text) = attribute_line (codes "sctp-init:" ++ text)
+media_attribute_text (media.Rtcp text) = attribute_line (label.RTCP.now ++ text)
+media_attribute_text (media.IceUfrag text) = attribute_line (label.ICE_UFRAG.now ++ text)
+media_attribute_text (media.IcePwd text) = attribute_line (label.ICE_PWD.now ++ text)
+media_attribute_text (media.IceOptions text) = attribute_line (label.ICE_OPTIONS.now ++ text)
+media_attribute_text (media.Fingerprint hash) = attribute_line (label.FINGERPRINT.now ++ fingerprint_text hash)
+media_attribute_text (media.Setup setup) = attribute_line (label.SETUP.now ++ setup_text setup)
+media_attribute_text (media.Mid mid) = attribute_line (label.MID.now ++ mid)
+media_attribute_text (media.SctpPort port) = attribute_line (label.SCTP_PORT.now ++ decimal port)
+media_attribute_text (media.MaxMessageSize size) = attribute_line (label.MAX_MESSAGE_SIZE.now ++ decimal size)
+media_attribute_text (media.SctpInit text) = attribute_line (label.SCTP_INIT.now ++ text)
 media_attribute_text (media.ExtMap id ext) = ext_map_text id ext
-media_attribute_text media.RecvOnly = attribute_line (codes "recvonly")
-media_attribute_text media.SendRecv = attribute_line (codes "sendrecv")
-media_attribute_text media.SendOnly = attribute_line (codes "sendonly")
-media_attribute_text media.Inactive = attribute_line (codes "inactive")
-media_attribute_text (media.Msid msid) = attribute_line (codes "msid:" ++ msid_text msid)
-media_attribute_text media.RtcpMux = attribute_line (codes "rtcp-mux")
-media_attribute_text media.RtcpMuxOnly = attribute_line (codes "rtcp-mux-only")
-media_attribute_text media.RtcpRsize = attribute_line (codes "rtcp-rsize")
+media_attribute_text media.RecvOnly = attribute_line label.RECV_ONLY.now
+media_attribute_text media.SendRecv = attribute_line label.SEND_RECV.now
+media_attribute_text media.SendOnly = attribute_line label.SEND_ONLY.now
+media_attribute_text media.Inactive = attribute_line label.INACTIVE.now
+media_attribute_text (media.Msid msid) = attribute_line (label.MSID.now ++ msid_text msid)
+media_attribute_text media.RtcpMux = attribute_line label.RTCP_MUX.now
+media_attribute_text media.RtcpMuxOnly = attribute_line label.RTCP_MUX_ONLY.now
+media_attribute_text media.RtcpRsize = attribute_line label.RTCP_RSIZE.now
 media_attribute_text (media.Candidate candidate) = attribute_line (candidate_text candidate)
-media_attribute_text media.EndOfCandidates = attribute_line (codes "end-of-candidates")
-media_attribute_text (media.RtpMap pt value) = attribute_line (codes "rtpmap:" ++ (decimal pt ++ (codes " " ++ rtp_map_text value)))
-media_attribute_text (media.RtcpFb pt value) = attribute_line (codes "rtcp-fb:" ++ (decimal pt ++ (codes " " ++ value)))
+media_attribute_text media.EndOfCandidates = attribute_line label.END_OF_CANDIDATES.now
+media_attribute_text (media.RtpMap pt value) = attribute_line (label.RTPMAP.now ++ (decimal pt ++ (codes " " ++ rtp_map_text value)))
+media_attribute_text (media.RtcpFb pt value) = attribute_line (label.RTCP_FB.now ++ (decimal pt ++ (codes " " ++ value)))
 media_attribute_text (media.Fmtp pt values) = fmtp_text pt values
 media_attribute_text (media.Rid id direction pts restrictions) = rid_text id direction pts restrictions
 media_attribute_text (media.Simulcast simulcast) = simulcast_text simulcast
 media_attribute_text (media.SsrcGroup semantics ssrcs) = ssrc_group_text semantics ssrcs
-media_attribute_text (media.Ssrc ssrc attr value) = attribute_line (codes "ssrc:" ++ (decimal ssrc ++ (codes " " ++ (attr ++ (codes ":" ++ value)))))
+media_attribute_text (media.Ssrc ssrc attr value) = attribute_line (label.SSRC.now ++ (decimal ssrc ++ (codes " " ++ (attr ++ (codes ":" ++ value)))))
 media_attribute_text (media.Unused text) = attribute_line text
 
 -- the attribute of a direction (RFC 8866, section 6.7)

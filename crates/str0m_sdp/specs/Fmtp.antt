@@ -5,6 +5,7 @@ use Rattle.std.specs.Fmt.{decimal}
 use Rattle.str0m_formats.specs.declared.format_param.FormatParam.{FormatParam}
 use Rattle.str0m_formats.specs.FormatParam.{param_text}
 use Rattle.str0m_sdp.specs.Lines.{attribute_line}
+use Rattle.str0m_sdp.specs.declared.label.TheConstants as label
 
 -- a value whose text isn't empty
 abbrev pub is_shown : FormatParam → Bool
@@ -14,7 +15,7 @@ is_shown value = nat_lt 0 (length (param_text value))
 abbrev pub shown_line : ℕ → List FormatParam → List ℕ
 shown_line pt [] = []
 shown_line pt (value ∷ values) =
-    attribute_line (codes "fmtp:" ++ (decimal pt ++ (codes " " ++ join_by param_text (codes ";") (value ∷ values))))
+    attribute_line (label.FMTP.now ++ (decimal pt ++ (codes " " ++ join_by param_text (codes ";") (value ∷ values))))
 
 -- the line of the values that are shown
 abbrev pub fmtp_text : ℕ → List FormatParam → List ℕ

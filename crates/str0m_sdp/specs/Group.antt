@@ -2,10 +2,11 @@
 use Rattle.std.specs.Prelude.{ℕ, List, ◌++◌, codes}
 use Rattle.std.specs.List.{flat_map, join_by}
 use Rattle.str0m_sdp.specs.Lines.{attribute_line}
+use Rattle.str0m_sdp.specs.declared.label.TheConstants as label
 
 -- the kind of the group, and its names, each behind a space (RFC 5888, section 5)
 abbrev pub group_text : List ℕ → List (List ℕ) → List ℕ
-group_text typ mids = attribute_line (codes "group:" ++ (typ ++ flat_map (λ mid. codes " " ++ mid) mids))
+group_text typ mids = attribute_line (label.GROUP.now ++ (typ ++ flat_map (λ mid. codes " " ++ mid) mids))
 
 -- a space, what the ids mean, a space, and the ids with a space between each two
 abbrev pub msid_semantic_text : List ℕ → List (List ℕ) → List ℕ

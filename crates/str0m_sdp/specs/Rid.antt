@@ -4,6 +4,7 @@ use Rattle.std.specs.List.{join_by}
 use Rattle.std.specs.Fmt.{decimal}
 use Rattle.str0m_sdp.specs.declared.simulcast.RestrictionId.{RestrictionId}
 use Rattle.str0m_sdp.specs.Lines.{attribute_line}
+use Rattle.str0m_sdp.specs.declared.label.TheConstants as label
 
 -- key `=` value
 abbrev pub restriction_text : List ℕ × List ℕ → List ℕ
@@ -26,4 +27,4 @@ restrictions_part pts (pair ∷ pairs) = before_restrictions pts ++ join_by rest
 -- the name, the direction, payload types, restrictions
 abbrev pub rid_text : RestrictionId → List ℕ → List ℕ → List (List ℕ × List ℕ) → List ℕ
 rid_text id direction pts restrictions =
-    attribute_line (codes "rid:" ++ (id.0 ++ (codes " " ++ (direction ++ (pts_part pts ++ restrictions_part pts restrictions)))))
+    attribute_line (label.RID.now ++ (id.0 ++ (codes " " ++ (direction ++ (pts_part pts ++ restrictions_part pts restrictions)))))

@@ -3,8 +3,9 @@ use Rattle.std.specs.Prelude.{ℕ, List, [], ◌∷◌, ◌++◌, codes}
 use Rattle.std.specs.List.{join_by}
 use Rattle.std.specs.Fmt.{decimal}
 use Rattle.str0m_sdp.specs.Lines.{attribute_line}
+use Rattle.str0m_sdp.specs.declared.label.TheConstants as label
 
 -- no line without sources
 abbrev pub ssrc_group_text : List ℕ → List ℕ → List ℕ
 ssrc_group_text semantics [] = []
-ssrc_group_text semantics (ssrc ∷ ssrcs) = attribute_line (codes "ssrc-group:" ++ (semantics ++ (codes " " ++ join_by decimal (codes " ") (ssrc ∷ ssrcs))))
+ssrc_group_text semantics (ssrc ∷ ssrcs) = attribute_line (label.SSRC_GROUP.now ++ (semantics ++ (codes " " ++ join_by decimal (codes " ") (ssrc ∷ ssrcs))))

@@ -7,6 +7,7 @@ ghost use Rattle.str0m_sdp.specs.AttributeParts.{session_words, session_value_te
 use crate::attribute::{MediaAttribute, SessionAttribute};
 use crate::ext_map::ExtMapLine;
 use crate::fmtp::FmtpLine;
+use crate::label;
 use crate::printed::{Labelled, Pair, Printed};
 use crate::rid::RidLine;
 use crate::simulcast::SimulcastLine;
@@ -20,12 +21,12 @@ pub(crate) fn session_words(attribute: &SessionAttribute) -> (&'static str, &str
     ensures text { result.1.now ≡ (session_words attribute.now).1 }
 {
     match attribute {
-        SessionAttribute::AllowMixedExts => ("extmap-allow-mixed", ""),
-        SessionAttribute::IceLite => ("ice-lite", ""),
-        SessionAttribute::IceUfrag(text) => ("ice-ufrag:", text.as_str()),
-        SessionAttribute::IcePwd(text) => ("ice-pwd:", text.as_str()),
-        SessionAttribute::IceOptions(text) => ("ice-options:", text.as_str()),
-        SessionAttribute::EndOfCandidates => ("end-of-candidates", ""),
+        SessionAttribute::AllowMixedExts => (label::EXTMAP_ALLOW_MIXED, ""),
+        SessionAttribute::IceLite => (label::ICE_LITE, ""),
+        SessionAttribute::IceUfrag(text) => (label::ICE_UFRAG, text.as_str()),
+        SessionAttribute::IcePwd(text) => (label::ICE_PWD, text.as_str()),
+        SessionAttribute::IceOptions(text) => (label::ICE_OPTIONS, text.as_str()),
+        SessionAttribute::EndOfCandidates => (label::END_OF_CANDIDATES, ""),
         SessionAttribute::Unused(text) => ("", text.as_str()),
         _ => ("", ""),
     }
@@ -36,14 +37,14 @@ pub(crate) fn media_word(attribute: &MediaAttribute) -> &'static str
     ensures { result.now ≡ media_word attribute.now }
 {
     match attribute {
-        MediaAttribute::RecvOnly => "recvonly",
-        MediaAttribute::SendRecv => "sendrecv",
-        MediaAttribute::SendOnly => "sendonly",
-        MediaAttribute::Inactive => "inactive",
-        MediaAttribute::RtcpMux => "rtcp-mux",
-        MediaAttribute::RtcpMuxOnly => "rtcp-mux-only",
-        MediaAttribute::RtcpRsize => "rtcp-rsize",
-        MediaAttribute::EndOfCandidates => "end-of-candidates",
+        MediaAttribute::RecvOnly => label::RECV_ONLY,
+        MediaAttribute::SendRecv => label::SEND_RECV,
+        MediaAttribute::SendOnly => label::SEND_ONLY,
+        MediaAttribute::Inactive => label::INACTIVE,
+        MediaAttribute::RtcpMux => label::RTCP_MUX,
+        MediaAttribute::RtcpMuxOnly => label::RTCP_MUX_ONLY,
+        MediaAttribute::RtcpRsize => label::RTCP_RSIZE,
+        MediaAttribute::EndOfCandidates => label::END_OF_CANDIDATES,
         _ => "",
     }
 }
@@ -55,11 +56,11 @@ pub(crate) fn media_words(attribute: &MediaAttribute) -> (&'static str, &str)
     ensures text { result.1.now ≡ (media_words attribute.now).1 }
 {
     match attribute {
-        MediaAttribute::Rtcp(text) => ("rtcp:", text.as_str()),
-        MediaAttribute::IceUfrag(text) => ("ice-ufrag:", text.as_str()),
-        MediaAttribute::IcePwd(text) => ("ice-pwd:", text.as_str()),
-        MediaAttribute::IceOptions(text) => ("ice-options:", text.as_str()),
-        MediaAttribute::SctpInit(text) => ("sctp-init:", text.as_str()),
+        MediaAttribute::Rtcp(text) => (label::RTCP, text.as_str()),
+        MediaAttribute::IceUfrag(text) => (label::ICE_UFRAG, text.as_str()),
+        MediaAttribute::IcePwd(text) => (label::ICE_PWD, text.as_str()),
+        MediaAttribute::IceOptions(text) => (label::ICE_OPTIONS, text.as_str()),
+        MediaAttribute::SctpInit(text) => (label::SCTP_INIT, text.as_str()),
         MediaAttribute::Unused(text) => ("", text.as_str()),
         _ => ("", ""),
     }
@@ -75,8 +76,8 @@ impl<'a> fmt::Display for SessionValueLine<'a> {
 
     fn fmt<W: fmt::Write>(&self, f: &mut fmt::Formatter<W>) -> fmt::Result {
         match self.0 {
-            SessionAttribute::Fingerprint(hash) => Labelled("fingerprint:", hash).fmt(f),
-            SessionAttribute::Setup(setup) => Labelled("setup:", setup).fmt(f),
+            SessionAttribute::Fingerprint(hash) => Labelled(label::FINGERPRINT, hash).fmt(f),
+            SessionAttribute::Setup(setup) => Labelled(label::SETUP, setup).fmt(f),
             SessionAttribute::Candidate(candidate) => CandidateLine(candidate).fmt(f),
             _ => Ok(()),
         }
@@ -92,12 +93,12 @@ impl<'a> fmt::Display for ValueLine<'a> {
 
     fn fmt<W: fmt::Write>(&self, f: &mut fmt::Formatter<W>) -> fmt::Result {
         match self.0 {
-            MediaAttribute::Fingerprint(hash) => Labelled("fingerprint:", hash).fmt(f),
-            MediaAttribute::Setup(setup) => Labelled("setup:", setup).fmt(f),
-            MediaAttribute::Mid(mid) => Labelled("mid:", mid).fmt(f),
-            MediaAttribute::SctpPort(port) => Labelled("sctp-port:", port).fmt(f),
-            MediaAttribute::MaxMessageSize(size) => Labelled("max-message-size:", size).fmt(f),
-            MediaAttribute::Msid(msid) => Labelled("msid:", msid).fmt(f),
+            MediaAttribute::Fingerprint(hash) => Labelled(label::FINGERPRINT, hash).fmt(f),
+            MediaAttribute::Setup(setup) => Labelled(label::SETUP, setup).fmt(f),
+            MediaAttribute::Mid(mid) => Labelled(label::MID, mid).fmt(f),
+            MediaAttribute::SctpPort(port) => Labelled(label::SCTP_PORT, port).fmt(f),
+            MediaAttribute::MaxMessageSize(size) => Labelled(label::MAX_MESSAGE_SIZE, size).fmt(f),
+            MediaAttribute::Msid(msid) => Labelled(label::MSID, msid).fmt(f),
             MediaAttribute::Candidate(candidate) => CandidateLine(candidate).fmt(f),
             _ => Ok(()),
         }
@@ -129,16 +130,16 @@ impl<'a> fmt::Display for PairLine<'a> {
         match self.0 {
             MediaAttribute::RtpMap { pt, value } => {
                 let pair = Pair(pt, value);
-                Labelled("rtpmap:", &pair).fmt(f)
+                Labelled(label::RTPMAP, &pair).fmt(f)
             }
             MediaAttribute::RtcpFb { pt, value } => {
                 let pair = Pair(pt, value);
-                Labelled("rtcp-fb:", &pair).fmt(f)
+                Labelled(label::RTCP_FB, &pair).fmt(f)
             }
             MediaAttribute::Ssrc { ssrc, attr, value } => {
                 let said = Said { attr, value };
                 let pair = Pair(ssrc, &said);
-                Labelled("ssrc:", &pair).fmt(f)
+                Labelled(label::SSRC, &pair).fmt(f)
             }
             _ => Ok(()),
         }

@@ -2,6 +2,7 @@
 ghost use Rattle.std.specs.Prelude.{Some};
 ghost use Rattle.str0m_sdp.specs.ExtMap.{ext_map_text};
 
+use crate::label;
 use crate::printed::{Labelled, Pair};
 use std::fmt;
 use str0m_values::Extension;
@@ -21,6 +22,6 @@ impl<'a> fmt::Display for ExtMapLine<'a> {
             return Ok(());
         }
         let value = Pair(&self.id, &self.ext.uri);
-        Labelled("extmap:", &value).fmt(f)
+        Labelled(label::EXTMAP, &value).fmt(f)
     }
 }

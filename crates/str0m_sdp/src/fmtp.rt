@@ -4,6 +4,7 @@ ghost use Rattle.std.specs.List.{flat_map, join_by};
 ghost use Rattle.str0m_formats.specs.FormatParam.{param_text};
 ghost use Rattle.str0m_sdp.specs.Fmtp.{is_shown, fmtp_text};
 
+use crate::label;
 use crate::printed::{Labelled, Pair, Printed};
 use std::fmt;
 use str0m_formats::FormatParam;
@@ -48,7 +49,7 @@ impl<'a> fmt::Display for FmtpLine<'a> {
         };
         let shown = Shown { first, more };
         let value = Pair(&self.pt, &shown);
-        Labelled("fmtp:", &value).fmt(f)
+        Labelled(label::FMTP, &value).fmt(f)
     }
 }
 

@@ -2,6 +2,7 @@
 ghost use Rattle.std.specs.Prelude.{Some};
 ghost use Rattle.str0m_sdp.specs.Group.{group_text, msid_semantic_text};
 
+use crate::label;
 use crate::printed::{Labelled, Pair, behind_spaces, spaced};
 use std::fmt;
 use str0m_values::{Mid, Text};
@@ -18,7 +19,7 @@ impl<'a> fmt::Display for GroupLine<'a> {
 
     fn fmt<W: fmt::Write>(&self, f: &mut fmt::Formatter<W>) -> fmt::Result {
         let (typ, mids) = (self.typ, behind_spaces(self.mids));
-        write!(f, "a=group:{typ}{mids}\r\n")
+        write!(f, "a={}{typ}{mids}\r\n", label::GROUP)
     }
 }
 

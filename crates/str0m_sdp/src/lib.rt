@@ -19,6 +19,7 @@ mod fmtp;
 mod fmtp_lines;
 mod group;
 mod known_formats;
+pub mod label;
 mod made_section;
 mod mappings;
 mod media_line;

@@ -3,6 +3,7 @@ ghost use Rattle.std.specs.Prelude.{Some, codes};
 ghost use Rattle.std.specs.List.{join_by};
 ghost use Rattle.str0m_sdp.specs.Rid.{restriction_text, rid_text, pts_part, restrictions_part};
 
+use crate::label;
 use crate::printed::Joined;
 use crate::simulcast::RestrictionId;
 use crate::word::Word;
@@ -29,7 +30,11 @@ impl<'a> fmt::Display for RidLine<'a> {
             pts: self.pts,
             restrictions: self.restrictions,
         };
-        write!(f, "a=rid:{name} {direction}{pts}{restrictions}\r\n")
+        write!(
+            f,
+            "a={}{name} {direction}{pts}{restrictions}\r\n",
+            label::RID
+        )
     }
 }
 

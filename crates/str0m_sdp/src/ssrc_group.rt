@@ -2,6 +2,7 @@
 ghost use Rattle.std.specs.Prelude.{Some};
 ghost use Rattle.str0m_sdp.specs.SsrcGroup.{ssrc_group_text};
 
+use crate::label;
 use crate::printed::{Labelled, Pair, spaced};
 use std::fmt;
 use str0m_values::{Ssrc, Text};
@@ -22,6 +23,6 @@ impl<'a> fmt::Display for SsrcGroupLine<'a> {
         }
         let sources = spaced(self.ssrcs);
         let value = Pair(self.semantics, &sources);
-        Labelled("ssrc-group:", &value).fmt(f)
+        Labelled(label::SSRC_GROUP, &value).fmt(f)
     }
 }

@@ -51,6 +51,7 @@ use Rattle.str0m_signal.proofs.RidAgain.{IsPlainRid, rid_again, sides_words, sid
 use Rattle.str0m_signal.proofs.TableAgain.{PrintsAgain, quiet_again, made_again, labelled_again, words_again, texts_again, any_again}
 use Rattle.str0m_signal.proofs.TableLaws.{AllOf, ◌also◌}
 use Rattle.str0m_signal.proofs.WordsAgain.{kept_again, kept_lacks, hash_again, fingerprint_pair, pairs_are_joined}
+use Rattle.str0m_sdp.specs.declared.label.TheConstants as label
 
 -- ---- what sessions and sections share
 
@@ -62,21 +63,21 @@ pub printed_candidate : {Fits : Type 0} (text : List ℕ) (candidate : TheCandid
 printed_candidate text candidate quiet starts fits h = candidate_again text candidate quiet h
 
 abbrev hash_line : TheFingerprint → List ℕ
-hash_line hash = codes "fingerprint:" ++ fingerprint_text hash
+hash_line hash = label.FINGERPRINT.now ++ fingerprint_text hash
 
 pub printed_fingerprint : {Fits : Type 0} (text : List ℕ) (hash : TheFingerprint) → HoldsNoEnd text → StartsWithin 3 text → Fits
     → fingerprint.Is text hash → fingerprint.Is (hash_line hash) hash × HoldsNoEnd (hash_line hash)
 printed_fingerprint text hash quiet starts fits (p, h, e) =
     subst (λ (f : TheFingerprint). fingerprint.Is (hash_line f) f × HoldsNoEnd (hash_line f)) (sym e)
-    (subst (λ (t : List ℕ). fingerprint.Is (codes "fingerprint:" ++ (p.0 ++ (32 ∷ t))) made × HoldsNoEnd (codes "fingerprint:" ++ (p.0 ++ (32 ∷ t))))
+    (subst (λ (t : List ℕ). fingerprint.Is (label.FINGERPRINT.now ++ (p.0 ++ (32 ∷ t))) made × HoldsNoEnd (label.FINGERPRINT.now ++ (p.0 ++ (32 ∷ t))))
     (pairs_are_joined p.1)
     ((p, whole.form text p h, refl), quiet_again whole text p quiet h))
   where
     made : TheFingerprint
     made = record { hash_func = p.0; bytes = p.1 }
 
-    whole : Again (Behind (codes "fingerprint:") (Two 32 IsText (Parted 58 IsHexPair))) (λ p. codes "fingerprint:" ++ fingerprint_pair p)
-    whole = behind_again hash_again (codes "fingerprint:")
+    whole : Again (Behind label.FINGERPRINT.now (Two 32 IsText (Parted 58 IsHexPair))) (λ p. label.FINGERPRINT.now ++ fingerprint_pair p)
+    whole = behind_again hash_again label.FINGERPRINT.now
 
 -- ---- all forms but mappings and formats
 
@@ -93,77 +94,77 @@ abbrev PlainAgain : Form MediaAttribute → Type 0
 PlainAgain = PrintsAgain FitsAgain (λ attr text. media_attribute_text attr ≡ attribute_line text) IsPlain
 
 mid_comes_back : PlainAgain mid
-mid_comes_back = made_again (led_by (codes "mid:") name) Mid (λ mid. codes "mid:" ++ mid) (λ text mid quiet starts fits h. back text mid quiet starts h) (λ _ _. refl) (λ _. (refl, tt))
+mid_comes_back = made_again (led_by label.MID.now name) Mid (λ mid. label.MID.now ++ mid) (λ text mid quiet starts fits h. back text mid quiet starts h) (λ _ _. refl) (λ _. (refl, tt))
   where
-    lacks : (c : ℕ) (text mid name : List ℕ) → text ≡ codes "mid:" ++ name → IsLongestBeginning 16 name mid → Lacks c text → Lacks c (codes "mid:" ++ mid)
+    lacks : (c : ℕ) (text mid name : List ℕ) → text ≡ label.MID.now ++ name → IsLongestBeginning 16 name mid → Lacks c text → Lacks c (label.MID.now ++ mid)
     lacks c text mid name e kept none =
-        let whole : Lacks c (codes "mid:" ++ name) = subst (Lacks c) e none in
-        (whole.0, (whole.1.0, (whole.1.1.0, (whole.1.1.1.0, kept_lacks c 16 name mid kept (behind_lacks c (codes "mid:") name whole)))))
+        let whole : Lacks c (label.MID.now ++ name) = subst (Lacks c) e none in
+        (whole.0, (whole.1.0, (whole.1.1.0, (whole.1.1.1.0, kept_lacks c 16 name mid kept (behind_lacks c label.MID.now name whole)))))
 
-    back : (text mid : List ℕ) → HoldsNoEnd text → StartsWithin 3 text → Behind (codes "mid:") name.Is text mid
-        → Behind (codes "mid:") name.Is (codes "mid:" ++ mid) mid × HoldsNoEnd (codes "mid:" ++ mid)
+    back : (text mid : List ℕ) → HoldsNoEnd text → StartsWithin 3 text → Behind label.MID.now name.Is text mid
+        → Behind label.MID.now name.Is (label.MID.now ++ mid) mid × HoldsNoEnd (label.MID.now ++ mid)
     back text mid quiet starts (name, e, (filled, kept)) = (
-      (mid, refl, (kept_some name mid filled (behind_starts 3 (codes "mid:") name (lit≤ tt) (subst (StartsWithin 3) e starts)) kept, kept_again 16 name mid kept)),
+      (mid, refl, (kept_some name mid filled (behind_starts 3 label.MID.now name (lit≤ tt) (subst (StartsWithin 3) e starts)) kept, kept_again 16 name mid kept)),
       (lacks 10 text mid name e kept quiet.0, lacks 13 text mid name e kept quiet.1),
     )
 
 -- both sides of a simulcast line
 abbrev simulcast_line : TheSimulcast → List ℕ
-simulcast_line s = codes "simulcast:" ++ sides_words s.send.0 s.recv.0
+simulcast_line s = label.SIMULCAST.now ++ sides_words s.send.0 s.recv.0
 
 simulcast_comes_back : PlainAgain simulcast
-simulcast_comes_back = made_again (led_by (codes "simulcast:") (record { Is = IsSimulcast; read = simulcast_fields_read })) Simulcast simulcast_line (λ text s quiet starts fits h. back text s quiet h) shows (λ _. (refl, tt))
+simulcast_comes_back = made_again (led_by label.SIMULCAST.now (record { Is = IsSimulcast; read = simulcast_fields_read })) Simulcast simulcast_line (λ text s quiet starts fits h. back text s quiet h) shows (λ _. (refl, tt))
   where
-    back : (text : List ℕ) (s : TheSimulcast) → HoldsNoEnd text → Behind (codes "simulcast:") IsSimulcast text s
-        → Behind (codes "simulcast:") IsSimulcast (simulcast_line s) s × HoldsNoEnd (simulcast_line s)
+    back : (text : List ℕ) (s : TheSimulcast) → HoldsNoEnd text → Behind label.SIMULCAST.now IsSimulcast text s
+        → Behind label.SIMULCAST.now IsSimulcast (simulcast_line s) s × HoldsNoEnd (simulcast_line s)
     back text s quiet (body, e, (sides, whole)) =
-        let behind : (c : ℕ) → Lacks c text → Lacks c body = λ c none. behind_lacks c (codes "simulcast:") body (subst (Lacks c) e none) in (
+        let behind : (c : ℕ) → Lacks c text → Lacks c body = λ c none. behind_lacks c label.SIMULCAST.now body (subst (Lacks c) e none) in (
           (sides_words s.send.0 s.recv.0, refl, (sides_form body s.send.0 s.recv.0 sides, whole)),
-          no_ends (codes "simulcast:") (sides_words s.send.0 s.recv.0) (no_end (codes "simulcast:") refl refl) (
+          no_ends label.SIMULCAST.now (sides_words s.send.0 s.recv.0) (no_end label.SIMULCAST.now refl refl) (
             sides_lack 10 (lit≤ tt) (lacks_from 10 (codes "send ") refl, lacks_from 10 (codes " recv ") refl) body s.send.0 s.recv.0 sides (behind 10 quiet.0),
             sides_lack 13 (lit≤ tt) (lacks_from 13 (codes "send ") refl, lacks_from 13 (codes " recv ") refl) body s.send.0 s.recv.0 sides (behind 13 quiet.1),
           ),
         )
 
     sides_are : (body : List ℕ) (send recv : List SimulcastLayer) → AreSides body send recv
-        → sides_text send recv ≡ attribute_line (codes "simulcast:" ++ sides_words send recv)
+        → sides_text send recv ≡ attribute_line (label.SIMULCAST.now ++ sides_words send recv)
     sides_are body [] [] h = absurd h
     sides_are body (s ∷ send) [] h = refl
     sides_are body [] (r ∷ recv) h = refl
     sides_are body (s ∷ send) (r ∷ recv) h = refl
 
-    shows : (s : TheSimulcast) → Behind (codes "simulcast:") IsSimulcast (simulcast_line s) s
+    shows : (s : TheSimulcast) → Behind label.SIMULCAST.now IsSimulcast (simulcast_line s) s
         → media_attribute_text (Simulcast s) ≡ attribute_line (simulcast_line s)
     shows s (body, e, (sides, whole)) =
         ap (λ (b : Bool). unless_munged b (sides_text s.send.0 s.recv.0)) whole ∙ sides_are body s.send.0 s.recv.0 sides
 
 plain_rid : (text : List ℕ) (id : RestrictionId) (fields : List ℕ × (List ℕ × List (List ℕ × List ℕ)))
-    → Behind (codes "rid:") IsRid text (id, fields)
-    → NamesNoTypes fields.1.1 → Behind (codes "rid:") IsPlainRid text (id, fields)
+    → Behind label.RID.now IsRid text (id, fields)
+    → NamesNoTypes fields.1.1 → Behind label.RID.now IsPlainRid text (id, fields)
 plain_rid text id fields (body, e, (front, rest, f, lacks, name, directed)) named =
     (body, e, (front, rest, f, lacks, name, (directed, named)))
 
 rid_form : (text : List ℕ) (id : RestrictionId) (fields : List ℕ × (List ℕ × List (List ℕ × List ℕ)))
-    → Behind (codes "rid:") IsPlainRid text (id, fields)
-    → Behind (codes "rid:") IsRid text (id, fields)
+    → Behind label.RID.now IsPlainRid text (id, fields)
+    → Behind label.RID.now IsRid text (id, fields)
 rid_form text id fields (body, e, (front, rest, f, lacks, name, directed)) = (body, e, (front, rest, f, lacks, name, directed.0))
 
 rid_comes_back : PlainAgain rid
-rid_comes_back = made_again (led_by (codes "rid:") (record { Is = IsRid; read = rid_fields_read })) _ _ (λ text f quiet starts fits h.
-    let whole = behind_again rid_again (codes "rid:") in
+rid_comes_back = made_again (led_by label.RID.now (record { Is = IsRid; read = rid_fields_read })) _ _ (λ text f quiet starts fits h.
+    let whole = behind_again rid_again label.RID.now in
     let plain = plain_rid text f.0 f.1 h fits in
     (rid_form _ f.0 f.1 (whole.form text f plain), quiet_again whole text f quiet plain)) (λ _ _. refl) (λ _. (refl, tt))
 
 abbrev sources_line : List ℕ → List ℕ → List ℕ
-sources_line semantics ssrcs = codes "ssrc-group:" ++ (semantics ++ (32 ∷ join_by decimal (codes " ") ssrcs))
+sources_line semantics ssrcs = label.SSRC_GROUP.now ++ (semantics ++ (32 ∷ join_by decimal (codes " ") ssrcs))
 
 group_comes_back : PlainAgain ssrc_group
 group_comes_back =
-    let whole = behind_again (two_again 32 (lit≤ tt) text_again (parted_again (num_again 4294967295 (lit< tt)) 32)) (codes "ssrc-group:") in
-    made_again (led_by (codes "ssrc-group:") (two 32 a_text (parted 32 (number 4294967295)))) _ _ (λ text p quiet starts fits h. (whole.form text p h, quiet_again whole text p quiet h)) (λ p h. shows p.0 p.1 h) (λ _. (refl, tt))
+    let whole = behind_again (two_again 32 (lit≤ tt) text_again (parted_again (num_again 4294967295 (lit< tt)) 32)) label.SSRC_GROUP.now in
+    made_again (led_by label.SSRC_GROUP.now (two 32 a_text (parted 32 (number 4294967295)))) _ _ (λ text p quiet starts fits h. (whole.form text p h, quiet_again whole text p quiet h)) (λ p h. shows p.0 p.1 h) (λ _. (refl, tt))
   where
     shows : (semantics ssrcs : List ℕ)
-        → Behind (codes "ssrc-group:") (Two 32 IsText (Parted 32 (IsNum 4294967295))) (sources_line semantics ssrcs) (semantics, ssrcs)
+        → Behind label.SSRC_GROUP.now (Two 32 IsText (Parted 32 (IsNum 4294967295))) (sources_line semantics ssrcs) (semantics, ssrcs)
         → media_attribute_text (SsrcGroup semantics ssrcs) ≡ attribute_line (sources_line semantics ssrcs)
     shows semantics [] h = absurd h.2.5
     shows semantics (ssrc ∷ ssrcs) h = refl
@@ -187,7 +188,7 @@ laws =
     also labelled_again _ _ _ (num_again 18446744073709551615 (lit< tt)) (λ _. refl) (λ _. (refl, tt))
     also labelled_again _ _ _ text_again (λ _. refl) (λ _. (refl, tt))
     also words_again media_words
-        ((refl, (refl, tt)) also (refl, (refl, tt)) also (refl, (refl, tt)) also (refl, (refl, tt)) also (refl, (refl, tt)) also (refl, (refl, tt)) also (refl, (refl, tt)) also (refl, (refl, tt)) also tt)
+    ((refl, (refl, tt)) also (refl, (refl, tt)) also (refl, (refl, tt)) also (refl, (refl, tt)) also (refl, (refl, tt)) also (refl, (refl, tt)) also (refl, (refl, tt)) also (refl, (refl, tt)) also tt)
     also tt
 
 pub plain_again : PlainAgain (any plain_forms)

@@ -33,6 +33,7 @@ use Rattle.str0m_values.proofs.CandidateText.{printed_candidate}
 use Rattle.str0m_values.proofs.CutLaws.{Lacks-append}
 use Rattle.str0m_signal.proofs.Formats.{behind_lacks}
 use Rattle.str0m_signal.proofs.PrintedAttributes.{HoldsNoEnd, both_lack, no_end, no_ends, decimal_lacks, decimal_no_end}
+use Rattle.str0m_values.specs.declared.candidate_label.TheConstants as candidate_label
 
 -- ---- addresses keep to their ranges
 
@@ -151,20 +152,20 @@ socket_in_range ip_label port_label text a (ip, port, e, ip_is, port_is) =
 
 related_in_range : (o : Option SocketAddr) (text : List ℕ) → IsRelated text o → IfSome o IsSocketInRange
 related_in_range None text h = tt
-related_in_range (Some a) text h = socket_in_range (codes " raddr ") (codes " rport ") text a h
+related_in_range (Some a) text h = socket_in_range candidate_label.RELATED_ADDRESS.now candidate_label.RELATED_PORT.now text a h
 
 same_word : (label part x : List ℕ) → IsLabelled label IsSame part x → IsWord x
 same_word label part x (word, e, is, same) = subst IsWord (sym same) is
 
 name_word : (o : Option (List ℕ)) (text : List ℕ) → AreNames text o → IfSome o IsWord
 name_word None text h = tt
-name_word (Some x) text (inl (network, name, e, left_out, is)) = same_word (codes " ufrag ") name x is
+name_word (Some x) text (inl (network, name, e, left_out, is)) = same_word candidate_label.UFRAG.now name x is
 name_word (Some x) text (inr (name, network, word, fragment, e, is, network_is, same)) =
-    subst (λ (o : Option (List ℕ)). IfSome o IsWord) (sym same) (same_word (codes " ufrag ") name fragment is)
+    subst (λ (o : Option (List ℕ)). IfSome o IsWord) (sym same) (same_word candidate_label.UFRAG.now name fragment is)
 
 printable : (text : List ℕ) (c : Candidate) → IsCandidateText text c → IsPrintable c
 printable text c h = record {
-  foundation = same_word (codes "candidate:") h.foundation c.foundation h.foundation_is;
+  foundation = same_word candidate_label.CANDIDATE.now h.foundation c.foundation h.foundation_is;
   component_id = let fits = h.component_is.3.fits in omega arith;
   prio = let fits = h.priority_is.3.fits in omega arith;
   addr = socket_in_range (codes " ") (codes " ") h.address c.addr h.address_is;
@@ -186,7 +187,7 @@ kind_no_end PeerReflexive = no_end (codes "prflx") refl refl
 kind_no_end ServerReflexive = no_end (codes "srflx") refl refl
 kind_no_end Relayed = no_end (codes "relay") refl refl
 
-tcp_type_no_end : (o : Option TcpType) → HoldsNoEnd (optional_text (codes " tcptype ") tcp_type_text o)
+tcp_type_no_end : (o : Option TcpType) → HoldsNoEnd (optional_text candidate_label.TCP_TYPE.now tcp_type_text o)
 tcp_type_no_end None = (tt, tt)
 tcp_type_no_end (Some Active) = no_end (codes " tcptype active") refl refl
 tcp_type_no_end (Some Passive) = no_end (codes " tcptype passive") refl refl
@@ -202,31 +203,31 @@ socket_no_end ip_label port_label a h k range =
 related_no_end : (o : Option SocketAddr) → IfSome o IsSocketInRange → HoldsNoEnd (related_text o)
 related_no_end None h = (tt, tt)
 related_no_end (Some a) h =
-    socket_no_end (codes " raddr ") (codes " rport ") a (no_end (codes " raddr ") refl refl) (no_end (codes " rport ") refl refl) h
+    socket_no_end candidate_label.RELATED_ADDRESS.now candidate_label.RELATED_PORT.now a (no_end candidate_label.RELATED_ADDRESS.now refl refl) (no_end candidate_label.RELATED_PORT.now refl refl) h
 
 word_lacks : (c : ℕ) (label part x : List ℕ) → IsLabelled label IsSame part x → Lacks c part → Lacks c x
 word_lacks c label part x (word, e, is, same) none =
     subst (Lacks c) (sym same) (behind_lacks c label word (subst (Lacks c) e none))
 
-name_lacks : (c : ℕ) (o : Option (List ℕ)) (text : List ℕ) → AreNames text o → Lacks c text → Lacks c (codes " ufrag ")
-    → Lacks c (optional_text (codes " ufrag ") (λ t. t) o)
+name_lacks : (c : ℕ) (o : Option (List ℕ)) (text : List ℕ) → AreNames text o → Lacks c text → Lacks c candidate_label.UFRAG.now
+    → Lacks c (optional_text candidate_label.UFRAG.now (λ t. t) o)
 name_lacks c None text h none label = tt
 name_lacks c (Some x) text (inl (network, name, e, left_out, is)) none label =
-    both_lack c (codes " ufrag ") x label
-    (word_lacks c (codes " ufrag ") name x is (behind_lacks c network name (subst (Lacks c) e none)))
+    both_lack c candidate_label.UFRAG.now x label
+    (word_lacks c candidate_label.UFRAG.now name x is (behind_lacks c network name (subst (Lacks c) e none)))
 name_lacks c (Some x) text (inr (name, network, word, fragment, e, is, network_is, same)) none label =
     let own : x ≡ fragment = some_is x fragment same in
-    both_lack c (codes " ufrag ") x label
-    (subst (Lacks c) (sym own) (word_lacks c (codes " ufrag ") name fragment is (Lacks-append c name network (subst (Lacks c) e none))))
+    both_lack c candidate_label.UFRAG.now x label
+    (subst (Lacks c) (sym own) (word_lacks c candidate_label.UFRAG.now name fragment is (Lacks-append c name network (subst (Lacks c) e none))))
 
 -- the fragment and the foundation hold what the text holds
 module _ (c : ℕ) (text : List ℕ) (candidate : Candidate) (h : IsCandidateText text candidate) (none : Lacks c text) where
   foundation_lacks : Lacks c candidate.foundation
   foundation_lacks =
-      word_lacks c (codes "candidate:") h.foundation candidate.foundation h.foundation_is
+      word_lacks c candidate_label.CANDIDATE.now h.foundation candidate.foundation h.foundation_is
       (Lacks-append c h.foundation _ (subst (Lacks c) h.joined none))
 
-  names_lack : Lacks c (codes " ufrag ") → Lacks c (optional_text (codes " ufrag ") (λ t. t) candidate.ufrag)
+  names_lack : Lacks c candidate_label.UFRAG.now → Lacks c (optional_text candidate_label.UFRAG.now (λ t. t) candidate.ufrag)
   names_lack label =
       let component = behind_lacks c h.foundation _ (subst (Lacks c) h.joined none) in
       let protocol = behind_lacks c h.component _ component in
@@ -245,9 +246,9 @@ pub candidate_again : (text : List ℕ) (c : Candidate) → HoldsNoEnd text → 
 candidate_again text c quiet h =
     let is = printable text c h in
     let space = no_end (codes " ") refl refl in
-    let label = no_end (codes " ufrag ") refl refl in (
+    let label = no_end candidate_label.UFRAG.now refl refl in (
       printed_candidate c is,
-      no_ends (codes "candidate:") _ (no_end (codes "candidate:") refl refl)
+      no_ends candidate_label.CANDIDATE.now _ (no_end candidate_label.CANDIDATE.now refl refl)
           (no_ends c.foundation _ (foundation_lacks 10 text c h quiet.0, foundation_lacks 13 text c h quiet.1)
           (no_ends (codes " ") _ space
           (no_ends (decimal c.component_id) _ (decimal_no_end c.component_id (omega (arith, is.component_id)))
@@ -256,9 +257,9 @@ candidate_again text c quiet h =
           (no_ends (codes " ") _ space
           (no_ends (decimal c.prio) _ (decimal_no_end c.prio (omega (arith, is.prio)))
           (no_ends (socket_text (codes " ") (codes " ") c.addr) _ (socket_no_end (codes " ") (codes " ") c.addr space space is.addr)
-          (no_ends (codes " typ ") _ (no_end (codes " typ ") refl refl)
+          (no_ends candidate_label.TYPE.now _ (no_end candidate_label.TYPE.now refl refl)
           (no_ends (kind_text c.kind) (extras_text c) (kind_no_end c.kind)
           (no_ends (related_text c.raddr) _ (related_no_end c.raddr is.raddr)
-          (no_ends (optional_text (codes " tcptype ") tcp_type_text c.tcptype) _ (tcp_type_no_end c.tcptype)
+          (no_ends (optional_text candidate_label.TCP_TYPE.now tcp_type_text c.tcptype) _ (tcp_type_no_end c.tcptype)
           (names_lack 10 text c h quiet.0 label.0, names_lack 13 text c h quiet.1 label.1))))))))))))),
     )

@@ -25,6 +25,7 @@ use Rattle.str0m_values.proofs.NumLaws.{rest_true, number_lacks, num_found, num_
 use Rattle.str0m_values.proofs.CutLaws.{before_lacks, before_front}
 use Rattle.str0m_signal.proofs.BareLaws.{bare_both}
 use Rattle.str0m_signal.proofs.PairLaws.{value_given, EndsValue, IsBlank-skip}
+use Rattle.str0m_sdp.specs.declared.label.TheConstants as label
 
 abbrev pub with_pairs : List (List ℕ × List ℕ) → Option (List (List ℕ × List ℕ)) → Option (List (List ℕ × List ℕ))
 with_pairs done read = option_map (λ pairs. done ++ pairs) read
@@ -304,14 +305,14 @@ fmtp_fields_both = record { sound = found; complete = given }
   where
     found : (text : List ℕ) (fields : ℕ × List FormatParam) → fmtp_fields_read text ≡ Some fields → IsFmtp text fields.0 fields.1
     found text fields e =
-        let a = bind_some (strip (codes "fmtp:") text) (λ body. num 127 (before 32 body) >>= λ pt. strip (before 32 body) body >>= λ more. fmtp_values_read more >>= λ values. Some (pt, values)) fields e in
+        let a = bind_some (strip label.FMTP.now text) (λ body. num 127 (before 32 body) >>= λ pt. strip (before 32 body) body >>= λ more. fmtp_values_read more >>= λ values. Some (pt, values)) fields e in
         let n = bind_some (num 127 (before 32 a.0)) (λ pt. strip (before 32 a.0) a.0 >>= λ more. fmtp_values_read more >>= λ values. Some (pt, values)) fields a.2 in
         let m = bind_some (strip (before 32 a.0) a.0) (λ more. fmtp_values_read more >>= λ values. Some (n.0, values)) fields n.2 in
         let v = bind_some (fmtp_values_read m.0) (λ values. Some (n.0, values)) fields m.2 in
         let made : IsFmtp text n.0 v.0 = record {
           number = before 32 a.0;
           more = m.0;
-          joined = strip_found (codes "fmtp:") text a.0 a.1 ∙ ap (λ (t : List ℕ). codes "fmtp:" ++ t) (strip_found (before 32 a.0) a.0 m.0 m.1);
+          joined = strip_found label.FMTP.now text a.0 a.1 ∙ ap (λ (t : List ℕ). label.FMTP.now ++ t) (strip_found (before 32 a.0) a.0 m.0 m.1);
           number_is = num_found 127 (before 32 a.0) n.0 n.1;
           word_ends = behind 32 a.0 m.0 m.1;
           values_are = values_both.sound m.0 v.0 v.1;

@@ -30,6 +30,7 @@ use Rattle.str0m_signal.specs.MediaAttribute.{IsMediaLine}
 use Rattle.str0m_signal.specs.Writable.{IsPrintedAs}
 use Rattle.str0m_signal.proofs.PrintedAttributes.{HoldsNoEnd, both_lack, no_ends, no_end, num_is, decimal_lacks, decimal_no_end}
 use Rattle.str0m_signal.proofs.PrintedAttributes.{attribute_printed}
+use Rattle.str0m_sdp.specs.declared.label.TheConstants as label
 
 -- the first of the four forms that holds
 abbrev pub FmtpValues : List ℕ → List FormatParam → Type 0
@@ -38,14 +39,14 @@ FmtpValues = FirstFit IsPairsForm (FirstFit IsListForm (FirstFit IsRangeForm IsA
 -- the line of a type and a text whose form reads as these values
 pub fmtp_line_printed : (pt : ℕ) (body : List ℕ) (values : List FormatParam) → pt ≤ 127 → HoldsNoEnd body
     → FmtpValues (codes " " ++ body) values
-    → IsPrintedAs IsMediaLine (attribute_line (codes "fmtp:" ++ (decimal pt ++ (codes " " ++ body)))) (Fmtp pt values)
+    → IsPrintedAs IsMediaLine (attribute_line (label.FMTP.now ++ (decimal pt ++ (codes " " ++ body)))) (Fmtp pt values)
 fmtp_line_printed pt body values small quiet are =
-    attribute_printed (codes "fmtp:" ++ (decimal pt ++ (codes " " ++ body))) (Fmtp pt values)
-    (no_ends (codes "fmtp:") _ (no_end (codes "fmtp:") refl refl)
+    attribute_printed (label.FMTP.now ++ (decimal pt ++ (codes " " ++ body))) (Fmtp pt values)
+    (no_ends label.FMTP.now _ (no_end label.FMTP.now refl refl)
     (no_ends (decimal pt) _ (decimal_no_end pt (omega arith)) (no_ends (codes " ") body (no_end (codes " ") refl refl) quiet)))
     (inr (inl ((pt, values), is, refl)))
   where
-    is : IsFmtp (codes "fmtp:" ++ (decimal pt ++ (codes " " ++ body))) pt values
+    is : IsFmtp (label.FMTP.now ++ (decimal pt ++ (codes " " ++ body))) pt values
     is = record {
       number = decimal pt;
       more = codes " " ++ body;
@@ -219,7 +220,7 @@ pub values_printed : (pt : ℕ) (v : FormatParam) (vs : List FormatParam) (body 
 values_printed pt v vs body read small shown e quiet are =
     subst (λ (t : List ℕ). IsPrintedAs IsMediaLine t (Fmtp pt read))
     (sym (ap (shown_line pt) (all_shown (v ∷ vs) shown)
-    ∙ ap (λ (t : List ℕ). attribute_line (codes "fmtp:" ++ (decimal pt ++ (codes " " ++ t)))) (joined_both (v ∷ vs) ∙ e)))
+    ∙ ap (λ (t : List ℕ). attribute_line (label.FMTP.now ++ (decimal pt ++ (codes " " ++ t)))) (joined_both (v ∷ vs) ∙ e)))
     (fmtp_line_printed pt body read small quiet are)
 
 pub apt_printed : (pt n : ℕ) → pt ≤ 127 → n ≤ 255

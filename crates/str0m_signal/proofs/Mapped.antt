@@ -19,6 +19,7 @@ use Rattle.str0m_signal.specs.RtpMap.{IsChannels, IsRtpMap}
 use Rattle.str0m_signal.specs.MediaAttribute.{IsMediaLine}
 use Rattle.str0m_signal.specs.Writable.{IsPrintedAs}
 use Rattle.str0m_signal.proofs.PrintedAttributes.{HoldsNoEnd, no_ends, no_end, num_is, decimal_lacks, decimal_no_end, attribute_printed}
+use Rattle.str0m_sdp.specs.declared.label.TheConstants as label
 
 -- ---- the name of a codec
 
@@ -72,11 +73,11 @@ mapping_printed pt value small keeps = attribute_printed text (RtpMap pt (mappin
   name = name_is_plain value.codec
 
   text : List ℕ
-  text = codes "rtpmap:" ++ (decimal pt ++ (codes " " ++ rtp_map_text value))
+  text = label.RTPMAP.now ++ (decimal pt ++ (codes " " ++ rtp_map_text value))
 
   quiet : HoldsNoEnd text
   quiet =
-      no_ends (codes "rtpmap:") _ (no_end (codes "rtpmap:") refl refl)
+      no_ends label.RTPMAP.now _ (no_end label.RTPMAP.now refl refl)
       (no_ends (decimal pt) _ (decimal_no_end pt (omega arith))
       (no_ends (codes " ") _ (no_end (codes " ") refl refl)
       (no_ends (codec_text value.codec) _ name.quiet
@@ -107,12 +108,12 @@ mapping_printed pt value small keeps = attribute_printed text (RtpMap pt (mappin
 pub feedback_printed : (pt : ℕ) (value : List ℕ) → pt ≤ 127 → IsRest value → HoldsNoEnd value
     → IsPrintedAs IsMediaLine (media_attribute_text (RtcpFb pt value)) (RtcpFb pt value)
 feedback_printed pt value small filled quiet =
-    attribute_printed (codes "rtcp-fb:" ++ (decimal pt ++ (codes " " ++ value))) (RtcpFb pt value)
-    (no_ends (codes "rtcp-fb:") _ (no_end (codes "rtcp-fb:") refl refl)
+    attribute_printed (label.RTCP_FB.now ++ (decimal pt ++ (codes " " ++ value))) (RtcpFb pt value)
+    (no_ends label.RTCP_FB.now _ (no_end label.RTCP_FB.now refl refl)
     (no_ends (decimal pt) _ (decimal_no_end pt (omega arith)) (no_ends (codes " ") value (no_end (codes " ") refl refl) quiet)))
     (inr (inr (inl ((pt, value), is, refl))))
   where
-    is : Behind (codes "rtcp-fb:") (Two 32 IsPt IsText) (codes "rtcp-fb:" ++ (decimal pt ++ (codes " " ++ value))) (pt, value)
+    is : Behind label.RTCP_FB.now (Two 32 IsPt IsText) (label.RTCP_FB.now ++ (decimal pt ++ (codes " " ++ value))) (pt, value)
     is = (
       decimal pt ++ (codes " " ++ value),
       refl,

@@ -1,6 +1,5 @@
 -- A section's attribute is read exactly where its form holds.
 use Rattle.std.proofs.Common.{◌≡◌, ℕ, List, length, Some, refl, sym, ap, ◌∙◌}
-use Rattle.std.specs.Prelude.{codes}
 use Rattle.std.proofs.lemmas.Bool.{ltb-true}
 use Rattle.str0m_sdp.specs.declared.attribute.MediaAttribute.TheVariants.{Fingerprint, Setup, Candidate, Unused}
 use Rattle.str0m_sdp.specs.declared.setup.Setup.{Setup as Role}
@@ -28,6 +27,7 @@ use Rattle.str0m_signal.proofs.RtpMapLaws.{rtpmap_fields_both}
 use Rattle.str0m_signal.proofs.SimulcastLaws.{simulcast_fields_both}
 use Rattle.str0m_signal.proofs.TableLaws.{Readable, Lawful, AllOf, ◌also◌, words_lawful, texts_lawful, own_lawful, labelled_lawful, made_lawful, unused_reads, lettered}
 use Rattle.str0m_signal.proofs.WordsLaws.{hex_pairs_both, sources_both}
+use Rattle.str0m_values.specs.declared.candidate_label.TheConstants as candidate_label
 
 -- ---- what sessions and sections share
 
@@ -40,7 +40,7 @@ pub role_both : Readable role
 role_both = reads_words setup_text SETUPS role_own
 
 pub candidate_lawful : Lawful candidate
-candidate_lawful = own_lawful (codes "candidate:") candidate_both candidate_begins
+candidate_lawful = own_lawful candidate_label.CANDIDATE.now candidate_both candidate_begins
 
 pub fingerprint_lawful : Lawful fingerprint
 fingerprint_lawful = labelled_lawful _ _ (two_both 32 text_both hex_pairs_both)

@@ -1,6 +1,5 @@
 -- An rtpmap line is read exactly where its form holds.
 use Rattle.std.proofs.Common.{◌≡◌, ℕ, ◌<◌, ltb, List, [], ◌∷◌, ◌++◌, length, Option, Some, None, refl, sym, ap, subst, ◌∙◌, arith}
-use Rattle.std.specs.Prelude.{codes}
 use Rattle.std.proofs.lemmas.Bool.{ltb-true, lt-ltb}
 use Rattle.std.proofs.lemmas.List.{append-nil}
 use Rattle.std.proofs.lemmas.Option.{some_pair_parts}
@@ -15,6 +14,7 @@ use Rattle.str0m_formats.proofs.CodecNames.{read_as, read_only}
 use Rattle.str0m_sdp.specs.declared.rtp_map.RtpMap.{RtpMap as Mapping}
 use Rattle.str0m_signal.specs.RtpMap.{IsChannels, IsRtpMap}
 use Rattle.str0m_signal.specs.RtpMapReading.{frequency_read, clock_read, mapping_read, rtpmap_fields_read}
+use Rattle.str0m_sdp.specs.declared.label.TheConstants as label
 
 pub frequency_sound : (text : List ℕ) (hertz : ℕ) → frequency_read text ≡ Some hertz → IsNum 4294967295 text hertz × (0 < hertz)
 frequency_sound text hertz e =
@@ -65,7 +65,7 @@ made pt codec value = Some (pt, record { codec = codec; clock_rate = value.clock
 
 rtpmap_found : (text : List ℕ) (fields : ℕ × Mapping) → rtpmap_fields_read text ≡ Some fields → IsRtpMap text fields.0 fields.1
 rtpmap_found text fields e =
-    let a = bind_some (strip (codes "rtpmap:") text) (λ body. cut 32 body >>= λ fields. num 127 fields.0 >>= λ pt. mapping_read fields.1 >>= λ value. Some (pt, value)) fields e in
+    let a = bind_some (strip label.RTPMAP.now text) (λ body. cut 32 body >>= λ fields. num 127 fields.0 >>= λ pt. mapping_read fields.1 >>= λ value. Some (pt, value)) fields e in
     let b = bind_some (cut 32 a.0) (λ fields. num 127 fields.0 >>= λ pt. mapping_read fields.1 >>= λ value. Some (pt, value)) fields a.2 in
     let n = bind_some (num 127 b.0.0) (λ pt. mapping_read b.0.1 >>= λ value. Some (pt, value)) fields b.2 in
     let m = bind_some (mapping_read b.0.1) (λ value. Some (n.0, value)) fields n.2 in
@@ -74,7 +74,7 @@ rtpmap_found text fields e =
     let k = bind_some (clock_read c.0.1 (cut 47 c.0.1)) (λ clock. Some (record { codec = codec_of w.0; clock_rate = clock.0; channels = clock.1 })) m.0 w.2 in
     let name = when_some (is_rest c.0.0) c.0.0 w.0 w.1 in
     let clock = clock_sound c.0.1 k.0.0 k.0.1 (cut 47 c.0.1) refl k.1 in
-    let head = strip_found (codes "rtpmap:") text a.0 a.1 in
+    let head = strip_found label.RTPMAP.now text a.0 a.1 in
     let cut_at_space = cut_found 32 a.0 b.0.0 b.0.1 b.1 in
     let codec = cut_found 47 b.0.1 c.0.0 c.0.1 c.1 in
     let value : Mapping = record { codec = codec_of w.0; clock_rate = k.0.0; channels = k.0.1 } in
@@ -83,7 +83,7 @@ rtpmap_found text fields e =
       codec = c.0.0;
       clock = clock.number;
       channels = clock.more;
-      joined = head ∙ ap (λ (t : List ℕ). codes "rtpmap:" ++ t) (cut_at_space.0 ∙ ap (λ (t : List ℕ). b.0.0 ++ (32 ∷ t)) (codec.0 ∙ ap (λ (t : List ℕ). c.0.0 ++ (47 ∷ t)) clock.joined));
+      joined = head ∙ ap (λ (t : List ℕ). label.RTPMAP.now ++ t) (cut_at_space.0 ∙ ap (λ (t : List ℕ). b.0.0 ++ (32 ∷ t)) (codec.0 ∙ ap (λ (t : List ℕ). c.0.0 ++ (47 ∷ t)) clock.joined));
       number_is = num_found 127 b.0.0 n.0 n.1;
       codec_is = ((ltb-true 0 (length c.0.0) name.0, codec.1), subst (λ (t : List ℕ). IsReadAs c.0.0 (codec_of t)) name.1 (read_as c.0.0));
       clock_is = clock.number_is;

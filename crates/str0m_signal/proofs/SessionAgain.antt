@@ -1,6 +1,5 @@
 -- The attributes of a session are printed as they were read.
 use Rattle.std.proofs.Common.{◌≡◌, ℕ, List, ◌++◌, refl, sym, subst, lit≤, inl, inr}
-use Rattle.std.specs.Prelude.{codes}
 use Rattle.str0m_sdp.specs.Attribute.{session_attribute_text}
 use Rattle.str0m_sdp.specs.Lines.{attribute_line}
 use Rattle.str0m_sdp.specs.declared.attribute.SessionAttribute.{SessionAttribute}
@@ -19,6 +18,7 @@ use Rattle.str0m_signal.proofs.PrintedAttributes.{HoldsNoEnd, line_printed}
 use Rattle.str0m_signal.proofs.TableAgain.{PrintsAgain, quiet_again, made_again, labelled_again, words_again, texts_again, any_again}
 use Rattle.str0m_signal.proofs.TableLaws.{AllOf, ◌also◌}
 use Rattle.str0m_signal.proofs.WordsAgain.{IsFilledGroup, group_again, group_filled, meaning_again, names_text}
+use Rattle.str0m_sdp.specs.declared.label.TheConstants as label
 
 abbrev ComesBack : Form SessionAttribute → Type 0
 ComesBack = PrintsAgain (λ _. Unit {0}) (λ attr text. session_attribute_text attr ≡ attribute_line text) (λ _. Unit {0})
@@ -26,11 +26,11 @@ ComesBack = PrintsAgain (λ _. Unit {0}) (λ attr text. session_attribute_text a
 -- no name of a group that was read is empty
 group_comes_back : ComesBack group
 group_comes_back =
-    made_again (led_by (codes "group:") (record { Is = IsGroup; read = group_fields_read })) (λ g. Group g.0 g.1) (λ g. codes "group:" ++ names_text g.0 g.1) (λ text g quiet starts fits h.
-        let whole = behind_again group_again (codes "group:") in
-        let filled : Behind (codes "group:") IsFilledGroup text g = (h.0, h.1, (h.2, group_filled h.0 g (behind_starts 3 (codes "group:") h.0 (lit≤ tt) (subst (StartsWithin 3) h.1 starts)) h.2)) in
-        let is = whole.form text g filled in
-        ((is.0, is.1, is.2.0), quiet_again whole text g quiet filled)) (λ _ _. refl) (λ _. tt)
+    made_again (led_by label.GROUP.now (record { Is = IsGroup; read = group_fields_read })) (λ g. Group g.0 g.1) (λ g. label.GROUP.now ++ names_text g.0 g.1) (λ text g quiet starts fits h.
+    let whole = behind_again group_again label.GROUP.now in
+    let filled : Behind label.GROUP.now IsFilledGroup text g = (h.0, h.1, (h.2, group_filled h.0 g (behind_starts 3 label.GROUP.now h.0 (lit≤ tt) (subst (StartsWithin 3) h.1 starts)) h.2)) in
+    let is = whole.form text g filled in
+    ((is.0, is.1, is.2.0), quiet_again whole text g quiet filled)) (λ _ _. refl) (λ _. tt)
 
 laws : AllOf ComesBack session_forms
 laws =

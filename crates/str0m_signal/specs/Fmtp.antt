@@ -9,6 +9,7 @@ use Rattle.str0m_values.specs.Joined.{Parted}
 use Rattle.str0m_values.specs.Parts.{Lacks, IsRest, IsNum, IsPt}
 use Rattle.str0m_values.specs.Fits.{FirstFit}
 use Rattle.str0m_signal.specs.Forms.{Behind}
+use Rattle.str0m_sdp.specs.declared.label.TheConstants as label
 
 -- a space or a tab
 abbrev pub IsBlank : ℕ → Type 0
@@ -66,7 +67,7 @@ IsAnything more values = values ≡ Unknown ∷ []
 pub record IsFmtp (text : List ℕ) (pt : ℕ) (values : List FormatParam) : Type 0 where
   pub number : List ℕ
   pub more : List ℕ
-  pub joined : text ≡ codes "fmtp:" ++ (number ++ more)
+  pub joined : text ≡ label.FMTP.now ++ (number ++ more)
   pub number_is : IsPt number pt
   pub word_ends : (more ≡ []) ⊎ ((rest : List ℕ) × (more ≡ codes " " ++ rest))
   pub values_are : FirstFit IsPairsForm (FirstFit IsListForm (FirstFit IsRangeForm IsAnything)) more values

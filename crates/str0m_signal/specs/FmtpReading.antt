@@ -5,6 +5,7 @@ use Rattle.str0m_formats.specs.declared.format_param.FormatParam.TheVariants.{Ba
 use Rattle.str0m_formats.specs.PairsReading.{params_read}
 use Rattle.str0m_signal.specs.FormReading.{behind, two_read, parted_read}
 use Rattle.str0m_values.specs.Cuts.{◌>>=◌, ◌<|>◌, cut, strip, when, is_rest, num, before, lacks}
+use Rattle.str0m_sdp.specs.declared.label.TheConstants as label
 
 -- the value of an fmtp pair, which ends at `;`, space or tab, and what follows it
 abbrev pub value_read : List ℕ → Option (List ℕ × List ℕ)
@@ -95,7 +96,7 @@ fmtp_values_read more = pairs_form_read more <|> bare_read more
 
 abbrev pub fmtp_fields_read : List ℕ → Option (ℕ × List FormatParam)
 fmtp_fields_read text = do
-  body ← strip (codes "fmtp:") text
+  body ← strip label.FMTP.now text
   pt ← num 127 (before 32 body)
   more ← strip (before 32 body) body
   values ← fmtp_values_read more

@@ -17,16 +17,17 @@ use Rattle.str0m_signal.specs.RtpMapReading.{rtpmap_fields_read}
 use Rattle.str0m_signal.specs.Simulcast.{IsSimulcast}
 use Rattle.str0m_signal.specs.SimulcastReading.{simulcast_fields_read}
 use Rattle.str0m_signal.specs.TransportForms.{ice_texts, last_word, candidate, fingerprint, setup}
+use Rattle.str0m_sdp.specs.declared.label.TheConstants as label
 
 abbrev pub media_words : List (List ℕ × MediaAttribute)
 media_words =
-    (codes "recvonly", RecvOnly)
-    ∷ (codes "sendrecv", SendRecv)
-    ∷ (codes "sendonly", SendOnly)
-    ∷ (codes "inactive", Inactive)
-    ∷ (codes "rtcp-mux", RtcpMux)
-    ∷ (codes "rtcp-mux-only", RtcpMuxOnly)
-    ∷ (codes "rtcp-rsize", RtcpRsize)
+    (label.RECV_ONLY.now, RecvOnly)
+    ∷ (label.SEND_RECV.now, SendRecv)
+    ∷ (label.SEND_ONLY.now, SendOnly)
+    ∷ (label.INACTIVE.now, Inactive)
+    ∷ (label.RTCP_MUX.now, RtcpMux)
+    ∷ (label.RTCP_MUX_ONLY.now, RtcpMuxOnly)
+    ∷ (label.RTCP_RSIZE.now, RtcpRsize)
     ∷ last_word EndOfCandidates
     ∷ []
 
@@ -34,51 +35,51 @@ abbrev pub media_texts : List (List ℕ × (List ℕ → MediaAttribute))
 media_texts = ice_texts IceUfrag IcePwd IceOptions
 
 abbrev pub rtcp : Form MediaAttribute
-rtcp = labelled (codes "rtcp:") a_text Rtcp
+rtcp = labelled label.RTCP.now a_text Rtcp
 
 -- a name, as far as it is kept
 abbrev pub name : Piece (List ℕ)
 name = record { Is = λ text mid. IsRest text × IsLongestBeginning 16 text mid; read = λ text. when (is_rest text) (beginning_of 16 text) }
 
 abbrev pub mid : Form MediaAttribute
-mid = labelled (codes "mid:") name Mid
+mid = labelled label.MID.now name Mid
 
 abbrev pub sctp_port : Form MediaAttribute
-sctp_port = labelled (codes "sctp-port:") (number 65535) SctpPort
+sctp_port = labelled label.SCTP_PORT.now (number 65535) SctpPort
 
 abbrev pub max_message_size : Form MediaAttribute
-max_message_size = labelled (codes "max-message-size:") (number 18446744073709551615) MaxMessageSize
+max_message_size = labelled label.MAX_MESSAGE_SIZE.now (number 18446744073709551615) MaxMessageSize
 
 abbrev pub sctp_init : Form MediaAttribute
-sctp_init = labelled (codes "sctp-init:") a_text SctpInit
+sctp_init = labelled label.SCTP_INIT.now a_text SctpInit
 
 abbrev pub ext_map : Form MediaAttribute
 ext_map =
-    labelled (codes "extmap:") (two 32 (tailed 47 (number 255)) (tailed 32 a_text)) (λ p. ExtMap p.0 (record { uri = p.1; serialized = true }))
+    labelled label.EXTMAP.now (two 32 (tailed 47 (number 255)) (tailed 32 a_text)) (λ p. ExtMap p.0 (record { uri = p.1; serialized = true }))
 
 abbrev pub msid : Form MediaAttribute
-msid = labelled (codes "msid:") (two 32 a_text a_text) (λ p. Msid (record { stream_id = p.0; track_id = p.1 }))
+msid = labelled label.MSID.now (two 32 a_text a_text) (λ p. Msid (record { stream_id = p.0; track_id = p.1 }))
 
 abbrev pub rtpmap : Form MediaAttribute
-rtpmap = made (own (codes "rtpmap:") (λ text p. IsRtpMap text p.0 p.1) rtpmap_fields_read) (λ p. RtpMap p.0 p.1)
+rtpmap = made (own label.RTPMAP.now (λ text p. IsRtpMap text p.0 p.1) rtpmap_fields_read) (λ p. RtpMap p.0 p.1)
 
 abbrev pub rtcp_fb : Form MediaAttribute
-rtcp_fb = labelled (codes "rtcp-fb:") (two 32 (number 127) a_text) (λ p. RtcpFb p.0 p.1)
+rtcp_fb = labelled label.RTCP_FB.now (two 32 (number 127) a_text) (λ p. RtcpFb p.0 p.1)
 
 abbrev pub fmtp : Form MediaAttribute
-fmtp = made (own (codes "fmtp:") (λ text p. IsFmtp text p.0 p.1) fmtp_fields_read) (λ p. Fmtp p.0 p.1)
+fmtp = made (own label.FMTP.now (λ text p. IsFmtp text p.0 p.1) fmtp_fields_read) (λ p. Fmtp p.0 p.1)
 
 abbrev pub rid : Form MediaAttribute
-rid = labelled (codes "rid:") (record { Is = IsRid; read = rid_fields_read }) (λ f. Rid f.0 f.1.0 f.1.1.0 f.1.1.1)
+rid = labelled label.RID.now (record { Is = IsRid; read = rid_fields_read }) (λ f. Rid f.0 f.1.0 f.1.1.0 f.1.1.1)
 
 abbrev pub simulcast : Form MediaAttribute
-simulcast = labelled (codes "simulcast:") (record { Is = IsSimulcast; read = simulcast_fields_read }) Simulcast
+simulcast = labelled label.SIMULCAST.now (record { Is = IsSimulcast; read = simulcast_fields_read }) Simulcast
 
 abbrev pub ssrc_group : Form MediaAttribute
-ssrc_group = labelled (codes "ssrc-group:") (two 32 a_text (parted 32 (number 4294967295))) (λ p. SsrcGroup p.0 p.1)
+ssrc_group = labelled label.SSRC_GROUP.now (two 32 a_text (parted 32 (number 4294967295))) (λ p. SsrcGroup p.0 p.1)
 
 abbrev pub ssrc : Form MediaAttribute
-ssrc = labelled (codes "ssrc:") (two 32 (number 4294967295) (two 58 a_text a_text)) (λ p. Ssrc p.0 p.1.0 p.1.1)
+ssrc = labelled label.SSRC.now (two 32 (number 4294967295) (two 58 a_text a_text)) (λ p. Ssrc p.0 p.1.0 p.1.1)
 
 -- those that are neither a mapping nor a format
 abbrev pub plain_forms : List (Form MediaAttribute)

@@ -3,6 +3,7 @@ use Rattle.std.specs.Prelude.{◌≡◌, ◌<◌, ◌++◌, ℕ, List, [], Optio
 use Rattle.str0m_values.specs.Parts.{IsWithout, IsNum, IsPt}
 use Rattle.str0m_formats.specs.Codec.{IsReadAs}
 use Rattle.str0m_sdp.specs.declared.rtp_map.RtpMap.{RtpMap as Mapping}
+use Rattle.str0m_sdp.specs.declared.label.TheConstants as label
 
 -- the channels behind a clock rate: none, or `/` and a number
 abbrev pub IsChannels : List ℕ → Option ℕ → Type 0
@@ -15,7 +16,7 @@ pub record IsRtpMap (text : List ℕ) (pt : ℕ) (value : Mapping) : Type 0 wher
   pub codec : List ℕ
   pub clock : List ℕ
   pub channels : List ℕ
-  pub joined : text ≡ codes "rtpmap:" ++ (number ++ (codes " " ++ (codec ++ (codes "/" ++ (clock ++ channels)))))
+  pub joined : text ≡ label.RTPMAP.now ++ (number ++ (codes " " ++ (codec ++ (codes "/" ++ (clock ++ channels)))))
   pub number_is : IsPt number pt
   pub codec_is : IsWithout 47 codec × IsReadAs codec value.codec
   pub clock_is : IsWithout 47 clock × IsNum 4294967295 clock value.clock_rate × (0 < value.clock_rate)

@@ -1,8 +1,9 @@
 -- Reading of an rtpmap line as functions.
-use Rattle.std.specs.Prelude.{ℕ, List, Option, Some, None, codes, nat_lt}
+use Rattle.std.specs.Prelude.{ℕ, List, Option, Some, None, nat_lt}
 use Rattle.str0m_values.specs.Cuts.{◌>>=◌, cut, strip, when, is_rest, num}
 use Rattle.str0m_formats.specs.Codec.{codec_of}
 use Rattle.str0m_sdp.specs.declared.rtp_map.RtpMap.{RtpMap as Mapping}
+use Rattle.str0m_sdp.specs.declared.label.TheConstants as label
 
 abbrev pub frequency_read : List ℕ → Option ℕ
 frequency_read text = do
@@ -28,7 +29,7 @@ mapping_read text = do
 
 abbrev pub rtpmap_fields_read : List ℕ → Option (ℕ × Mapping)
 rtpmap_fields_read text = do
-  body ← strip (codes "rtpmap:") text
+  body ← strip label.RTPMAP.now text
   fields ← cut 32 body
   pt ← num 127 fields.0
   value ← mapping_read fields.1

@@ -1,5 +1,5 @@
 -- The attributes of a session, each with the text that stands for it after `a=`.
-use Rattle.std.specs.Prelude.{◌≡◌, ℕ, List, [], ◌∷◌, Option, Some, codes}
+use Rattle.std.specs.Prelude.{◌≡◌, ℕ, List, [], ◌∷◌, Option, Some}
 use Rattle.str0m_sdp.specs.declared.attribute.SessionAttribute.{SessionAttribute}
 use Rattle.str0m_sdp.specs.declared.attribute.SessionAttribute.TheVariants.{Group, MsidSemantic, AllowMixedExts, IceLite, IceUfrag, IcePwd, IceOptions, Fingerprint, Setup, Candidate, EndOfCandidates, Unused}
 use Rattle.str0m_values.specs.Cuts.{◌>>=◌, ◌<|>◌}
@@ -9,11 +9,12 @@ use Rattle.str0m_signal.specs.Lines.{IsAttributeLine}
 use Rattle.str0m_signal.specs.TransportForms.{ice_texts, last_word, candidate, fingerprint, setup}
 use Rattle.str0m_signal.specs.Words.{IsGroup, IsMsidSemantic}
 use Rattle.str0m_signal.specs.WordsReading.{names_read, group_fields_read, msid_semantic_fields_read}
+use Rattle.str0m_sdp.specs.declared.label.TheConstants as label
 
 abbrev pub session_words : List (List ℕ × SessionAttribute)
 session_words =
-    (codes "extmap-allow-mixed", AllowMixedExts)
-    ∷ (codes "ice-lite", IceLite)
+    (label.EXTMAP_ALLOW_MIXED.now, AllowMixedExts)
+    ∷ (label.ICE_LITE.now, IceLite)
     ∷ last_word EndOfCandidates
     ∷ []
 
@@ -21,14 +22,14 @@ abbrev pub session_texts : List (List ℕ × (List ℕ → SessionAttribute))
 session_texts = ice_texts IceUfrag IcePwd IceOptions
 
 abbrev pub group : Form SessionAttribute
-group = labelled (codes "group:") (record { Is = IsGroup; read = group_fields_read }) (λ g. Group g.0 g.1)
+group = labelled label.GROUP.now (record { Is = IsGroup; read = group_fields_read }) (λ g. Group g.0 g.1)
 
 -- a group of a word and names, without a space at their end
 abbrev pub names_form_read : List ℕ → Option SessionAttribute
 names_form_read text = names_read text >>= λ g. Some (Group g.0 g.1)
 
 abbrev pub msid_semantic : Form SessionAttribute
-msid_semantic = labelled (codes "msid-semantic:") (record { Is = IsMsidSemantic; read = msid_semantic_fields_read }) (λ m. MsidSemantic m.0 m.1)
+msid_semantic = labelled label.MSID_SEMANTIC.now (record { Is = IsMsidSemantic; read = msid_semantic_fields_read }) (λ m. MsidSemantic m.0 m.1)
 
 -- each attribute but `Unused`
 abbrev pub session_forms : List (Form SessionAttribute)

@@ -6,7 +6,7 @@ ghost use Rattle.str0m_signal.specs.MediaAttribute.{ext_map};
 
 use memchr::memchr;
 use std::alloc::{AllocError, Global};
-use str0m_sdp::MediaAttribute;
+use str0m_sdp::{MediaAttribute, label};
 use str0m_values::cuts::{cut, num_u8, strip};
 use str0m_values::{Extension, Separator};
 
@@ -52,7 +52,7 @@ fn uri(text: &str) -> Option<&str>
 pub(crate) fn ext_map(alloc: Global, text: &str) -> Result<Option<MediaAttribute>, AllocError>
     ensures { IfOk result (λ found. found ≡ ext_map.read text.now) }
 {
-    let Some(body) = strip(text, "extmap:") else {
+    let Some(body) = strip(text, label::EXTMAP) else {
         return Ok(None);
     };
     let Some((number, rest)) = cut(body, Separator::Space) else {

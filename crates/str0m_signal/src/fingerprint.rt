@@ -4,6 +4,7 @@ ghost use Rattle.str0m_signal.specs.TransportForms.{fingerprint};
 
 use crate::parts::parts;
 use std::alloc::{AllocError, Global};
+use str0m_sdp::label;
 use str0m_values::cuts::{cut, strip};
 use str0m_values::{Fingerprint, Separator, Text};
 
@@ -11,7 +12,7 @@ use str0m_values::{Fingerprint, Separator, Text};
 pub(crate) fn fingerprint(alloc: Global, text: &str) -> Result<Option<Fingerprint>, AllocError>
     ensures { IfOk result (λ found. found ≡ fingerprint.read text.now) }
 {
-    let Some(body) = strip(text, "fingerprint:") else {
+    let Some(body) = strip(text, label::FINGERPRINT) else {
         return Ok(None);
     };
     let Some((name, pairs)) = cut(body, Separator::Space) else {

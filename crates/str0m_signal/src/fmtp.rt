@@ -8,7 +8,7 @@ use crate::bare_values::bare;
 use crate::pairs::{pairs, skip_blanks};
 use std::alloc::{AllocError, Global};
 use str0m_formats::FormatParam;
-use str0m_sdp::MediaAttribute;
+use str0m_sdp::{MediaAttribute, label};
 use str0m_values::cuts::{before, num_u8, strip};
 use str0m_values::{Items, Pt, Separator};
 
@@ -44,7 +44,7 @@ fn values(alloc: Global, more: &str) -> Result<Items<FormatParam>, AllocError>
 pub(crate) fn fmtp(alloc: Global, text: &str) -> Result<Option<MediaAttribute>, AllocError>
     ensures { IfOk result (λ found. found ≡ fmtp.read text.now) }
 {
-    let Some(body) = strip(text, "fmtp:") else {
+    let Some(body) = strip(text, label::FMTP) else {
         return Ok(None);
     };
     let number = before(body, Separator::Space);

@@ -5,7 +5,7 @@ ghost use Rattle.str0m_signal.specs.SessionAttribute.{names_form_read, group, ms
 use crate::parts::parts;
 use crate::words::without_space;
 use std::alloc::{AllocError, Global};
-use str0m_sdp::SessionAttribute;
+use str0m_sdp::{SessionAttribute, label};
 use str0m_values::cuts::{cut, strip};
 use str0m_values::{Items, Separator, Text};
 
@@ -35,7 +35,7 @@ fn names(alloc: Global, text: &str) -> Result<Option<SessionAttribute>, AllocErr
 pub(crate) fn group(alloc: Global, text: &str) -> Result<Option<SessionAttribute>, AllocError>
     ensures { IfOk result (λ found. found ≡ group.read text.now) }
 {
-    match strip(text, "group:") {
+    match strip(text, label::GROUP) {
         Some(body) => names(alloc, without_space(body)),
         None => Ok(None),
     }
@@ -48,7 +48,7 @@ pub(crate) fn msid_semantic(
 ) -> Result<Option<SessionAttribute>, AllocError>
     ensures { IfOk result (λ found. found ≡ msid_semantic.read text.now) }
 {
-    let Some(body) = strip(text, "msid-semantic:") else {
+    let Some(body) = strip(text, label::MSID_SEMANTIC) else {
         return Ok(None);
     };
     let words = match strip(body, " ") {

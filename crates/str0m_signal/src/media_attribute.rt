@@ -19,7 +19,7 @@ use crate::rtp_map::rtp_map;
 use crate::simulcast::simulcast_line;
 use crate::sources::{msid, rtcp_fb, ssrc, ssrc_group};
 use std::alloc::{AllocError, Global};
-use str0m_sdp::MediaAttribute;
+use str0m_sdp::{MediaAttribute, label};
 use str0m_values::candidate_text::candidate;
 use str0m_values::cuts::{num_u16, strip};
 use str0m_values::{Items, Text};
@@ -29,14 +29,14 @@ fn word(text: &str) -> Option<MediaAttribute>
     ensures { result ≡ (words media_words).read text.now }
 {
     match text {
-        "recvonly" => Some(MediaAttribute::RecvOnly),
-        "sendrecv" => Some(MediaAttribute::SendRecv),
-        "sendonly" => Some(MediaAttribute::SendOnly),
-        "inactive" => Some(MediaAttribute::Inactive),
-        "rtcp-mux" => Some(MediaAttribute::RtcpMux),
-        "rtcp-mux-only" => Some(MediaAttribute::RtcpMuxOnly),
-        "rtcp-rsize" => Some(MediaAttribute::RtcpRsize),
-        "end-of-candidates" => Some(MediaAttribute::EndOfCandidates),
+        label::RECV_ONLY => Some(MediaAttribute::RecvOnly),
+        label::SEND_RECV => Some(MediaAttribute::SendRecv),
+        label::SEND_ONLY => Some(MediaAttribute::SendOnly),
+        label::INACTIVE => Some(MediaAttribute::Inactive),
+        label::RTCP_MUX => Some(MediaAttribute::RtcpMux),
+        label::RTCP_MUX_ONLY => Some(MediaAttribute::RtcpMuxOnly),
+        label::RTCP_RSIZE => Some(MediaAttribute::RtcpRsize),
+        label::END_OF_CANDIDATES => Some(MediaAttribute::EndOfCandidates),
         _ => None,
     }
 }
@@ -45,13 +45,13 @@ fn word(text: &str) -> Option<MediaAttribute>
 fn ice(alloc: Global, text: &str) -> Result<Option<MediaAttribute>, AllocError>
     ensures { IfOk result (λ found. found ≡ (texts media_texts).read text.now) }
 {
-    if let Some(value) = kept(alloc, text, "ice-ufrag:")? {
+    if let Some(value) = kept(alloc, text, label::ICE_UFRAG)? {
         return Ok(Some(MediaAttribute::IceUfrag(value)));
     }
-    if let Some(value) = kept(alloc, text, "ice-pwd:")? {
+    if let Some(value) = kept(alloc, text, label::ICE_PWD)? {
         return Ok(Some(MediaAttribute::IcePwd(value)));
     }
-    match kept(alloc, text, "ice-options:")? {
+    match kept(alloc, text, label::ICE_OPTIONS)? {
         Some(value) => Ok(Some(MediaAttribute::IceOptions(value))),
         None => Ok(None),
     }
@@ -60,7 +60,7 @@ fn ice(alloc: Global, text: &str) -> Result<Option<MediaAttribute>, AllocError>
 fn rtcp(alloc: Global, text: &str) -> Result<Option<MediaAttribute>, AllocError>
     ensures { IfOk result (λ found. found ≡ rtcp.read text.now) }
 {
-    match kept(alloc, text, "rtcp:")? {
+    match kept(alloc, text, label::RTCP)? {
         Some(value) => Ok(Some(MediaAttribute::Rtcp(value))),
         None => Ok(None),
     }
@@ -69,14 +69,14 @@ fn rtcp(alloc: Global, text: &str) -> Result<Option<MediaAttribute>, AllocError>
 fn sctp_port(text: &str) -> Option<MediaAttribute>
     ensures { result ≡ sctp_port.read text.now }
 {
-    let body = strip(text, "sctp-port:")?;
+    let body = strip(text, label::SCTP_PORT)?;
     Some(MediaAttribute::SctpPort(num_u16(body)?))
 }
 
 fn sctp_init(alloc: Global, text: &str) -> Result<Option<MediaAttribute>, AllocError>
     ensures { IfOk result (λ found. found ≡ sctp_init.read text.now) }
 {
-    match kept(alloc, text, "sctp-init:")? {
+    match kept(alloc, text, label::SCTP_INIT)? {
         Some(value) => Ok(Some(MediaAttribute::SctpInit(value))),
         None => Ok(None),
     }
@@ -85,7 +85,7 @@ fn sctp_init(alloc: Global, text: &str) -> Result<Option<MediaAttribute>, AllocE
 fn max_message_size(text: &str) -> Option<MediaAttribute>
     ensures { result ≡ max_message_size.read text.now }
 {
-    let body = strip(text, "max-message-size:")?;
+    let body = strip(text, label::MAX_MESSAGE_SIZE)?;
     Some(MediaAttribute::MaxMessageSize(num_u64(body)?))
 }
 
@@ -110,14 +110,14 @@ fn candidate_form(alloc: Global, text: &str) -> Result<Option<MediaAttribute>, A
 fn setup(text: &str) -> Option<MediaAttribute>
     ensures { result ≡ (setup Setup).read text.now }
 {
-    let word = strip(text, "setup:")?;
+    let word = strip(text, label::SETUP)?;
     Some(MediaAttribute::Setup(role(word)?))
 }
 
 fn mid(text: &str) -> Option<MediaAttribute>
     ensures { result ≡ mid.read text.now }
 {
-    let name = strip(text, "mid:")?;
+    let name = strip(text, label::MID)?;
     if name.is_empty() {
         return None;
     }

@@ -1,5 +1,5 @@
 //! Lines of streams that may be restricted.
-ghost use Rattle.std.specs.Prelude.{◌≡◌, ◌∷◌, ◌++◌, [], IfOk, codes, option_map, is_some, true};
+ghost use Rattle.std.specs.Prelude.{◌≡◌, ◌∷◌, ◌++◌, [], IfOk, option_map, is_some, true};
 ghost use Rattle.str0m_sdp.specs.declared.attribute.MediaAttribute.TheVariants.{Rid};
 ghost use Rattle.str0m_values.specs.Cuts.{num, parts, when};
 ghost use Rattle.str0m_signal.specs.FormReading.{behind, two_read};
@@ -7,12 +7,13 @@ ghost use Rattle.str0m_signal.specs.MediaAttribute.{rid};
 ghost use Rattle.str0m_signal.specs.RidLists.{lists_of};
 ghost use Rattle.str0m_signal.specs.StreamName.{is_stream_name};
 ghost use Rattle.str0m_signal.specs.RidReading.{next_read, restriction_read, restrictions_read, restricted_read, typed_read, lists_read, more_read, direction_read};
+ghost use Rattle.str0m_sdp.specs.declared.label.TheConstants as label;
 
 use crate::pairs::{key, skip_blanks, value};
 use crate::parts::{Part, parts};
 use crate::simulcast::is_stream_name;
 use std::alloc::{AllocError, Global};
-use str0m_sdp::{MediaAttribute, RestrictionId, Word};
+use str0m_sdp::{MediaAttribute, RestrictionId, Word, label};
 use str0m_values::cuts::{cut, num_u8, strip};
 use str0m_values::{Items, Pt, Separator, Text};
 
@@ -224,9 +225,9 @@ fn direction(text: &str) -> Option<(&'static str, &str)>
 
 /// The name of the stream, its direction, and what stands behind them.
 fn fields(text: &str) -> Option<(&str, &'static str, &str)>
-    ensures { option_map (λ x. (x.0.now, (x.1.now, x.2.now))) result ≡ behind (codes "rid:") (two_read 32 (λ name. when (is_stream_name name) name) direction_read) text.now }
+    ensures { option_map (λ x. (x.0.now, (x.1.now, x.2.now))) result ≡ behind label.RID.now (two_read 32 (λ name. when (is_stream_name name) name) direction_read) text.now }
 {
-    let body = strip(text, "rid:")?;
+    let body = strip(text, label::RID)?;
     let (name, directed) = cut(body, Separator::Space)?;
     if !is_stream_name(name) {
         return None;

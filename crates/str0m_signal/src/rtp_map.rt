@@ -7,7 +7,7 @@ ghost use Rattle.str0m_signal.specs.RtpMapReading.{frequency_read, clock_read, m
 ghost use Rattle.str0m_signal.specs.MediaAttribute.{rtpmap};
 
 use str0m_formats::Codec;
-use str0m_sdp::{MediaAttribute, RtpMap};
+use str0m_sdp::{MediaAttribute, RtpMap, label};
 use str0m_values::cuts::{cut, num_u8, num_u32, strip};
 use str0m_values::{Frequency, Pt, Separator};
 
@@ -52,7 +52,7 @@ fn mapping(text: &str) -> Option<RtpMap>
 pub(crate) fn rtp_map(text: &str) -> Option<MediaAttribute>
     ensures { result ≡ rtpmap.read text.now }
 {
-    let body = strip(text, "rtpmap:")?;
+    let body = strip(text, label::RTPMAP)?;
     let (number, mapped) = cut(body, Separator::Space)?;
     let pt = num_u8(number, 127)?;
     let value = mapping(mapped)?;

@@ -14,7 +14,7 @@ use crate::fields::{kept, role};
 use crate::fingerprint::fingerprint;
 use crate::groups::{group, msid_semantic};
 use std::alloc::{AllocError, Global};
-use str0m_sdp::SessionAttribute;
+use str0m_sdp::{SessionAttribute, label};
 use str0m_values::candidate_text::candidate;
 use str0m_values::cuts::strip;
 use str0m_values::{Items, Text};
@@ -24,9 +24,9 @@ fn word(text: &str) -> Option<SessionAttribute>
     ensures { result ≡ (words session_words).read text.now }
 {
     match text {
-        "extmap-allow-mixed" => Some(SessionAttribute::AllowMixedExts),
-        "ice-lite" => Some(SessionAttribute::IceLite),
-        "end-of-candidates" => Some(SessionAttribute::EndOfCandidates),
+        label::EXTMAP_ALLOW_MIXED => Some(SessionAttribute::AllowMixedExts),
+        label::ICE_LITE => Some(SessionAttribute::IceLite),
+        label::END_OF_CANDIDATES => Some(SessionAttribute::EndOfCandidates),
         _ => None,
     }
 }
@@ -34,7 +34,7 @@ fn word(text: &str) -> Option<SessionAttribute>
 fn setup(text: &str) -> Option<SessionAttribute>
     ensures { result ≡ (setup Setup).read text.now }
 {
-    let word = strip(text, "setup:")?;
+    let word = strip(text, label::SETUP)?;
     Some(SessionAttribute::Setup(role(word)?))
 }
 
@@ -42,13 +42,13 @@ fn setup(text: &str) -> Option<SessionAttribute>
 fn labelled_text(alloc: Global, text: &str) -> Result<Option<SessionAttribute>, AllocError>
     ensures { IfOk result (λ found. found ≡ (texts session_texts).read text.now) }
 {
-    if let Some(value) = kept(alloc, text, "ice-ufrag:")? {
+    if let Some(value) = kept(alloc, text, label::ICE_UFRAG)? {
         return Ok(Some(SessionAttribute::IceUfrag(value)));
     }
-    if let Some(value) = kept(alloc, text, "ice-pwd:")? {
+    if let Some(value) = kept(alloc, text, label::ICE_PWD)? {
         return Ok(Some(SessionAttribute::IcePwd(value)));
     }
-    if let Some(value) = kept(alloc, text, "ice-options:")? {
+    if let Some(value) = kept(alloc, text, label::ICE_OPTIONS)? {
         return Ok(Some(SessionAttribute::IceOptions(value)));
     }
     Ok(None)

@@ -9,7 +9,7 @@ ghost use Rattle.str0m_signal.specs.SimulcastReading.{alternative_read, first_re
 
 use crate::parts::{Part, are_parts, parts};
 use std::alloc::{AllocError, Global};
-use str0m_sdp::{MediaAttribute, RestrictionId, Simulcast, SimulcastGroups, SimulcastLayer};
+use str0m_sdp::{MediaAttribute, RestrictionId, Simulcast, SimulcastGroups, SimulcastLayer, label};
 use str0m_values::cuts::{cut, has, strip};
 use str0m_values::{Items, Separator, Text};
 use unicode::properties::{GeneralCategory, is_alphabetic};
@@ -197,7 +197,7 @@ pub(crate) fn simulcast_line(
 ) -> Result<Option<MediaAttribute>, AllocError>
     ensures { IfOk result (λ found. found ≡ simulcast.read text.now) }
 {
-    let Some(body) = strip(text, "simulcast:") else {
+    let Some(body) = strip(text, label::SIMULCAST) else {
         return Ok(None);
     };
     match layers(alloc, body)? {

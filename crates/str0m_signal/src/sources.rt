@@ -7,7 +7,7 @@ ghost use Rattle.str0m_signal.specs.MediaAttribute.{msid, rtcp_fb, ssrc, ssrc_gr
 
 use crate::parts::parts;
 use std::alloc::{AllocError, Global};
-use str0m_sdp::{MediaAttribute, Msid};
+use str0m_sdp::{MediaAttribute, Msid, label};
 use str0m_values::cuts::{cut, num_u8, num_u32, strip};
 use str0m_values::{Pt, Separator, Ssrc, Text};
 
@@ -29,7 +29,7 @@ fn two_texts(text: &str, at: Separator) -> Option<(&str, &str)>
 pub(crate) fn msid(alloc: Global, text: &str) -> Result<Option<MediaAttribute>, AllocError>
     ensures { IfOk result (λ found. found ≡ msid.read text.now) }
 {
-    let Some(body) = strip(text, "msid:") else {
+    let Some(body) = strip(text, label::MSID) else {
         return Ok(None);
     };
     let Some((stream, track)) = two_texts(body, Separator::Space) else {
@@ -47,7 +47,7 @@ pub(crate) fn msid(alloc: Global, text: &str) -> Result<Option<MediaAttribute>, 
 pub(crate) fn rtcp_fb(alloc: Global, text: &str) -> Result<Option<MediaAttribute>, AllocError>
     ensures { IfOk result (λ found. found ≡ rtcp_fb.read text.now) }
 {
-    let Some(body) = strip(text, "rtcp-fb:") else {
+    let Some(body) = strip(text, label::RTCP_FB) else {
         return Ok(None);
     };
     let Some((number, value)) = cut(body, Separator::Space) else {
@@ -70,7 +70,7 @@ pub(crate) fn rtcp_fb(alloc: Global, text: &str) -> Result<Option<MediaAttribute
 pub(crate) fn ssrc(alloc: Global, text: &str) -> Result<Option<MediaAttribute>, AllocError>
     ensures { IfOk result (λ found. found ≡ ssrc.read text.now) }
 {
-    let Some(body) = strip(text, "ssrc:") else {
+    let Some(body) = strip(text, label::SSRC) else {
         return Ok(None);
     };
     let Some((number, more)) = cut(body, Separator::Space) else {
@@ -95,7 +95,7 @@ pub(crate) fn ssrc(alloc: Global, text: &str) -> Result<Option<MediaAttribute>, 
 pub(crate) fn ssrc_group(alloc: Global, text: &str) -> Result<Option<MediaAttribute>, AllocError>
     ensures { IfOk result (λ found. found ≡ ssrc_group.read text.now) }
 {
-    let Some(body) = strip(text, "ssrc-group:") else {
+    let Some(body) = strip(text, label::SSRC_GROUP) else {
         return Ok(None);
     };
     let Some((word, sources)) = cut(body, Separator::Space) else {

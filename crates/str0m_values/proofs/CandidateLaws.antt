@@ -17,31 +17,32 @@ use Rattle.str0m_values.proofs.NumLaws.{rest_true}
 use Rattle.str0m_values.proofs.CandidateWords.{protocol_both, kind_both}
 use Rattle.str0m_values.proofs.LabelLaws.{bound, bind_is, Ends, EndsWithout, Starts, starts_all, starts_optional, Front, labelled_front, part_front, optional_front}
 use Rattle.str0m_values.proofs.CandidateParts.{num_both, socket_front, related_front, tcp_front, EndsNames, names_front}
+use Rattle.str0m_values.specs.declared.candidate_label.TheConstants as candidate_label
 
 -- ---- what may follow a part
 
 -- the labels of the parts behind the kind, from each of them on
 abbrev from_cost : List (List ℕ)
-from_cost = codes " network-cost " ∷ []
+from_cost = candidate_label.NETWORK_COST.now ∷ []
 
 abbrev from_names : List (List ℕ)
-from_names = codes " network-id " ∷ codes " ufrag " ∷ from_cost
+from_names = candidate_label.NETWORK_ID.now ∷ candidate_label.UFRAG.now ∷ from_cost
 
 abbrev from_generation : List (List ℕ)
-from_generation = codes " generation " ∷ from_names
+from_generation = candidate_label.GENERATION.now ∷ from_names
 
 abbrev from_tcp_type : List (List ℕ)
-from_tcp_type = codes " tcptype " ∷ from_generation
+from_tcp_type = candidate_label.TCP_TYPE.now ∷ from_generation
 
 abbrev from_related : List (List ℕ)
-from_related = codes " raddr " ∷ from_tcp_type
+from_related = candidate_label.RELATED_ADDRESS.now ∷ from_tcp_type
 
 starts_names : (part rest : List ℕ) (x : Option (List ℕ)) → AreNames part x → Starts from_cost rest → Starts from_names (part ++ rest)
 starts_names part rest x (inl h) s =
     let whole : part ++ rest ≡ h.0 ++ (h.1 ++ rest) = ap (λ (t : List ℕ). t ++ rest) h.2 ∙ append_assoc h.0 h.1 rest in
-    rw whole (starts_optional IsSame (codes " network-id ") (codes " ufrag " ∷ from_cost) h.0 (h.1 ++ rest) h.3.0 h.3.1 (starts_optional IsSame (codes " ufrag ") from_cost h.1 rest x h.4 s))
+    rw whole (starts_optional IsSame candidate_label.NETWORK_ID.now (candidate_label.UFRAG.now ∷ from_cost) h.0 (h.1 ++ rest) h.3.0 h.3.1 (starts_optional IsSame candidate_label.UFRAG.now from_cost h.1 rest x h.4 s))
 starts_names part rest x (inr h) s =
-    let begins : part ++ rest ≡ codes " ufrag " ++ (h.5.0 ++ (h.1 ++ rest)) = rw (h.4, h.5.1) (simp append_assoc) in
+    let begins : part ++ rest ≡ candidate_label.UFRAG.now ++ (h.5.0 ++ (h.1 ++ rest)) = rw (h.4, h.5.1) (simp append_assoc) in
     inr (inl (h.5.0 ++ (h.1 ++ rest), begins))
 
 starts_related : (part rest : List ℕ) (x : Option _) → IsRelated part x → Starts from_tcp_type rest → Starts from_related (part ++ rest)
@@ -62,18 +63,18 @@ record IsLead (text : List ℕ) (x : Lead) (rest : List ℕ) : Type 0 where
   protocol : List ℕ
   priority : List ℕ
   joined : text ≡ foundation ++ (component ++ (protocol ++ (priority ++ rest)))
-  foundation_is : IsLabelled (codes "candidate:") IsSame foundation x.foundation
+  foundation_is : IsLabelled candidate_label.CANDIDATE.now IsSame foundation x.foundation
   component_is : IsLabelled (codes " ") (IsNum 65535) component x.component_id
   protocol_is : IsLabelled (codes " ") IsProtocolText protocol x.proto
   priority_is : IsLabelled (codes " ") (IsNum 4294967295) priority x.prio
 
 lead_sound : (text : List ℕ) (x : Lead × List ℕ) → lead_read text ≡ Some x → IsLead text x.0 x.1
 lead_sound text x e =
-    bound (labelled_read (codes "candidate:") text) _ _ e λ foundation e₁ k₁.
+    bound (labelled_read candidate_label.CANDIDATE.now text) _ _ e λ foundation e₁ k₁.
     bound (part_read (codes " ") (num 65535) foundation.1) _ _ k₁ λ component e₂ k₂.
     bound (part_read (codes " ") protocol_read component.1) _ _ k₂ λ protocol e₃ k₃.
     bound (part_read (codes " ") (num 4294967295) protocol.1) _ _ k₃ λ priority e₄ same.
-    let p₁ = (labelled_front (codes "candidate:")).sound text foundation e₁ in
+    let p₁ = (labelled_front candidate_label.CANDIDATE.now).sound text foundation e₁ in
     let p₂ = (part_front (codes " ") (num_both 65535)).sound foundation.1 component e₂ in
     let p₃ = (part_front (codes " ") protocol_both).sound component.1 protocol e₃ in
     let p₄ = (part_front (codes " ") (num_both 4294967295)).sound protocol.1 priority e₄ in
@@ -96,7 +97,7 @@ lead_complete text x rest h ends =
     let r₃ : List ℕ = h.protocol ++ r₄ in
     let r₂ : List ℕ = h.component ++ r₃ in
     ap lead_read h.joined
-    ∙ bind_is _ _ _ _ ((labelled_front (codes "candidate:")).complete h.foundation x.foundation r₂ h.foundation_is
+    ∙ bind_is _ _ _ _ ((labelled_front candidate_label.CANDIDATE.now).complete h.foundation x.foundation r₂ h.foundation_is
     (ends_labelled (IsNum 65535) (codes " ") h.component r₃ x.component_id (λ m. refl) h.component_is))
     (bind_is _ _ _ _ ((part_front (codes " ") (num_both 65535)).complete h.component x.component_id r₃ h.component_is
     (ends_labelled IsProtocolText (codes " ") h.protocol r₄ x.proto (λ m. refl) h.protocol_is))
@@ -116,19 +117,19 @@ record IsLast (text : List ℕ) (x : Option (List ℕ)) : Type 0 where
   names : List ℕ
   cost : List ℕ
   joined : text ≡ generation ++ (names ++ cost)
-  generation_is : IsLeftOut (codes " generation ") generation
+  generation_is : IsLeftOut candidate_label.GENERATION.now generation
   names_are : AreNames names x
-  cost_is : IsLeftOut (codes " network-cost ") cost
+  cost_is : IsLeftOut candidate_label.NETWORK_COST.now cost
 
 last_sound : (text : List ℕ) (x : Option (List ℕ)) → last_read text ≡ Some x → IsLast text x
 last_sound text x e =
-    bound (optional_read (codes " generation ") text) _ _ e λ generation e₁ k₁.
+    bound (optional_read candidate_label.GENERATION.now text) _ _ e λ generation e₁ k₁.
     bound (names_read generation.1) _ _ k₁ λ names e₂ k₂.
-    bound (optional_read (codes " network-cost ") names.1) _ _ k₂ λ cost e₃ last.
+    bound (optional_read candidate_label.NETWORK_COST.now names.1) _ _ k₂ λ cost e₃ last.
     let done = nothing_left cost.1 names.0 x last in
-    let p₁ = (optional_front (codes " generation ")).sound text generation e₁ in
+    let p₁ = (optional_front candidate_label.GENERATION.now).sound text generation e₁ in
     let p₂ = names_front.sound generation.1 names e₂ in
-    let p₃ = (optional_front (codes " network-cost ")).sound names.1 cost e₃ in
+    let p₃ = (optional_front candidate_label.NETWORK_COST.now).sound names.1 cost e₃ in
     let end : names.1 ≡ p₃.0 = p₃.1 ∙ ap (λ (t : List ℕ). p₃.0 ++ t) done.0 ∙ append-nil p₃.0 in
     subst (IsLast text) done.1 (record {
       generation = p₁.0;
@@ -140,27 +141,27 @@ last_sound text x e =
       cost_is = (cost.0, p₃.2);
     })
 
-cost_starts : (cost : List ℕ) → IsLeftOut (codes " network-cost ") cost → Starts from_cost cost
-cost_starts cost h = subst (Starts from_cost) (append-nil cost) (starts_optional IsSame (codes " network-cost ") [] cost [] h.0 h.1 refl)
+cost_starts : (cost : List ℕ) → IsLeftOut candidate_label.NETWORK_COST.now cost → Starts from_cost cost
+cost_starts cost h = subst (Starts from_cost) (append-nil cost) (starts_optional IsSame candidate_label.NETWORK_COST.now [] cost [] h.0 h.1 refl)
 
-cost_complete : (cost : List ℕ) (h : IsLeftOut (codes " network-cost ") cost) → optional_read (codes " network-cost ") cost ≡ Some (h.0, [])
-cost_complete cost h = ap (optional_read (codes " network-cost ")) (sym (append-nil cost)) ∙ (optional_front (codes " network-cost ")).complete cost h.0 [] h.1 (refl, refl)
+cost_complete : (cost : List ℕ) (h : IsLeftOut candidate_label.NETWORK_COST.now cost) → optional_read candidate_label.NETWORK_COST.now cost ≡ Some (h.0, [])
+cost_complete cost h = ap (optional_read candidate_label.NETWORK_COST.now) (sym (append-nil cost)) ∙ (optional_front candidate_label.NETWORK_COST.now).complete cost h.0 [] h.1 (refl, refl)
 
 names_start : (text : List ℕ) (x : Option (List ℕ)) (h : IsLast text x) → Starts from_names (h.names ++ h.cost)
 names_start text x h = starts_names h.names h.cost x h.names_are (cost_starts h.cost h.cost_is)
 
 last_starts : (text : List ℕ) (x : Option (List ℕ)) → IsLast text x → Starts from_generation text
 last_starts text x h = subst (Starts from_generation) (sym h.joined)
-    (starts_optional IsSame (codes " generation ") from_names h.generation (h.names ++ h.cost) h.generation_is.0 h.generation_is.1 (names_start text x h))
+    (starts_optional IsSame candidate_label.GENERATION.now from_names h.generation (h.names ++ h.cost) h.generation_is.0 h.generation_is.1 (names_start text x h))
 
 last_complete : (text : List ℕ) (x : Option (List ℕ)) → IsLast text x → last_read text ≡ Some x
 last_complete text x h =
     let r₂ : List ℕ = h.names ++ h.cost in
-    let b₁ : EndsWithout (codes " generation ") r₂ = starts_all (EndsWithout (codes " generation ")) from_names (refl, refl)
+    let b₁ : EndsWithout candidate_label.GENERATION.now r₂ = starts_all (EndsWithout candidate_label.GENERATION.now) from_names (refl, refl)
     (λ m. (refl, refl), (λ m. (refl, refl), (λ m. (refl, refl), tt))) r₂ (names_start text x h) in
     let b₂ : EndsNames h.cost = starts_all EndsNames from_cost (refl, refl, refl) (λ m. (refl, refl, refl), tt) h.cost (cost_starts h.cost h.cost_is) in
     ap last_read h.joined
-    ∙ bind_is _ _ _ _ ((optional_front (codes " generation ")).complete h.generation h.generation_is.0 r₂ h.generation_is.1 b₁)
+    ∙ bind_is _ _ _ _ ((optional_front candidate_label.GENERATION.now).complete h.generation h.generation_is.0 r₂ h.generation_is.1 b₁)
     (bind_is _ _ _ _ (names_front.complete h.names x h.cost h.names_are b₂) (bind_is _ _ _ _ (cost_complete h.cost h.cost_is) refl))
 
 -- ---- the parts behind the kind
@@ -171,7 +172,7 @@ record IsExtras (text : List ℕ) (x : Extras) : Type 0 where
   last : List ℕ
   joined : text ≡ related ++ (tcp_type ++ last)
   related_is : IsRelated related x.raddr
-  tcp_type_is : IsOptional (codes " tcptype ") IsTcpTypeText tcp_type x.tcptype
+  tcp_type_is : IsOptional candidate_label.TCP_TYPE.now IsTcpTypeText tcp_type x.tcptype
   last_is : IsLast last x.ufrag
 
 extras_sound : (text : List ℕ) (x : Extras) → extras_read text ≡ Some x → IsExtras text x
@@ -193,7 +194,7 @@ extras_sound text x e =
     })
 
 tcp_type_starts : (text : List ℕ) (x : Extras) (h : IsExtras text x) → Starts from_tcp_type (h.tcp_type ++ h.last)
-tcp_type_starts text x h = starts_optional IsTcpTypeText (codes " tcptype ") from_generation h.tcp_type h.last x.tcptype h.tcp_type_is (last_starts h.last x.ufrag h.last_is)
+tcp_type_starts text x h = starts_optional IsTcpTypeText candidate_label.TCP_TYPE.now from_generation h.tcp_type h.last x.tcptype h.tcp_type_is (last_starts h.last x.ufrag h.last_is)
 
 extras_end : (text : List ℕ) (x : Extras) → IsExtras text x → Ends text
 extras_end text x h =
@@ -204,9 +205,9 @@ extras_end text x h =
 extras_complete : (text : List ℕ) (x : Extras) → IsExtras text x → extras_read text ≡ Some x
 extras_complete text x h =
     let r₂ : List ℕ = h.tcp_type ++ h.last in
-    let b₁ : EndsWithout (codes " raddr ") r₂ = starts_all (EndsWithout (codes " raddr ")) from_tcp_type (refl, refl)
+    let b₁ : EndsWithout candidate_label.RELATED_ADDRESS.now r₂ = starts_all (EndsWithout candidate_label.RELATED_ADDRESS.now) from_tcp_type (refl, refl)
     (λ m. (refl, refl), (λ m. (refl, refl), (λ m. (refl, refl), (λ m. (refl, refl), (λ m. (refl, refl), tt))))) r₂ (tcp_type_starts text x h) in
-    let b₂ : EndsWithout (codes " tcptype ") h.last = starts_all (EndsWithout (codes " tcptype ")) from_generation (refl, refl)
+    let b₂ : EndsWithout candidate_label.TCP_TYPE.now h.last = starts_all (EndsWithout candidate_label.TCP_TYPE.now) from_generation (refl, refl)
     (λ m. (refl, refl), (λ m. (refl, refl), (λ m. (refl, refl), (λ m. (refl, refl), tt)))) h.last (last_starts h.last x.ufrag h.last_is) in
     ap extras_read h.joined
     ∙ bind_is _ _ _ _ (related_front.complete h.related x.raddr r₂ h.related_is b₁)
@@ -222,7 +223,7 @@ candidate_sound : (text : List ℕ) (c : Candidate) → candidate_read text ≡ 
 candidate_sound text c e =
     bound (lead_read text) _ _ e λ lead e₁ k₁.
     bound (socket_read (codes " ") (codes " ") lead.1) _ _ k₁ λ address e₂ k₂.
-    bound (part_read (codes " typ ") kind_read address.1) _ _ k₂ λ kind e₃ k₃.
+    bound (part_read candidate_label.TYPE.now kind_read address.1) _ _ k₂ λ kind e₃ k₃.
     bound (extras_read kind.1) _ _ k₃ λ extras e₄ same.
     let made : Candidate = record {
       foundation = lead.0.foundation;
@@ -237,7 +238,7 @@ candidate_sound text c e =
     } in
     let l = lead_sound text lead e₁ in
     let a = spaced_socket.sound lead.1 address e₂ in
-    let k = (part_front (codes " typ ") kind_both).sound address.1 kind e₃ in
+    let k = (part_front candidate_label.TYPE.now kind_both).sound address.1 kind e₃ in
     let x = extras_sound kind.1 extras e₄ in
     subst (IsCandidateText text) (some_is made c same) (record {
       foundation = l.foundation;
@@ -304,8 +305,8 @@ candidate_complete text c h =
       last_is = last-is;
     } in
     bind_is _ _ _ _ (lead_complete text lead r₁ lead-is (ends_socket h.address r₂ c.addr h.address_is))
-    (bind_is _ _ _ _ (spaced_socket.complete h.address c.addr r₂ h.address_is (ends_labelled IsKindText (codes " typ ") h.kind r₃ c.kind (λ m. refl) h.kind_is))
-    (bind_is _ _ _ _ ((part_front (codes " typ ") kind_both).complete h.kind c.kind r₃ h.kind_is (extras_end r₃ extras extras-are))
+    (bind_is _ _ _ _ (spaced_socket.complete h.address c.addr r₂ h.address_is (ends_labelled IsKindText candidate_label.TYPE.now h.kind r₃ c.kind (λ m. refl) h.kind_is))
+    (bind_is _ _ _ _ ((part_front candidate_label.TYPE.now kind_both).complete h.kind c.kind r₃ h.kind_is (extras_end r₃ extras extras-are))
     (bind_is _ _ _ _ (extras_complete r₃ extras extras-are) refl)))
 
 pub candidate_both : Reads IsCandidateText candidate_read

@@ -1,6 +1,6 @@
 -- The parts of a candidate's text that have a form of their own are read both ways.
 use Rattle.std.proofs.Common.{◌≡◌, ℕ, true, cond, List, [], ◌++◌, Option, Some, None, refl, sym, ap, ◌∙◌, inl, inr, append_assoc}
-use Rattle.std.specs.Prelude.{codes, is_some, is_none, ◌||◌, if◌then◌else◌}
+use Rattle.std.specs.Prelude.{is_some, is_none, ◌||◌, if◌then◌else◌}
 use Rattle.str0m_values.specs.declared.address.SocketAddr.{SocketAddr}
 use Rattle.str0m_values.specs.declared.protocol.TcpType.{TcpType}
 use Rattle.str0m_values.specs.Cuts.{◌>>=◌, strip, num}
@@ -16,6 +16,7 @@ use Rattle.str0m_values.proofs.AddressBothWays.{ip_both}
 use Rattle.str0m_values.proofs.CandidateWords.{tcp_type_both}
 use Rattle.str0m_values.proofs.LabelLaws.{bound, bind_is, Ends, EndsWithout, Front, part_front, optional_front, value_sound}
 use Rattle.str0m_values.specs.Parts.{IsNum}
+use Rattle.str0m_values.specs.declared.candidate_label.TheConstants as candidate_label
 
 pub num_both : (limit : ℕ) → Reads (IsNum limit) (num limit)
 num_both limit = record { sound = num_found limit; complete = num_reads limit }
@@ -43,51 +44,51 @@ socket_complete ip_label port_label spaced part x rest h ends =
 pub socket_front : (ip_label port_label : List ℕ) → ((more : List ℕ) → Ends (port_label ++ more)) → Front (IsSocket ip_label port_label) Ends (socket_read ip_label port_label)
 socket_front ip_label port_label spaced = record { sound = socket_sound ip_label port_label; complete = socket_complete ip_label port_label spaced }
 
-related_socket : Front (IsSocket (codes " raddr ") (codes " rport ")) Ends (socket_read (codes " raddr ") (codes " rport "))
-related_socket = socket_front (codes " raddr ") (codes " rport ") (λ more. refl)
+related_socket : Front (IsSocket candidate_label.RELATED_ADDRESS.now candidate_label.RELATED_PORT.now) Ends (socket_read candidate_label.RELATED_ADDRESS.now candidate_label.RELATED_PORT.now)
+related_socket = socket_front candidate_label.RELATED_ADDRESS.now candidate_label.RELATED_PORT.now (λ more. refl)
 
-related_sound : (text : List ℕ) (x : Option SocketAddr × List ℕ) (o : Option (List ℕ)) → strip (codes " raddr ") text ≡ o
-    → cond (is_some o) (socket_read (codes " raddr ") (codes " rport ") text >>= λ addr. Some (Some addr.0, addr.1)) (Some (None, text)) ≡ Some x
+related_sound : (text : List ℕ) (x : Option SocketAddr × List ℕ) (o : Option (List ℕ)) → strip candidate_label.RELATED_ADDRESS.now text ≡ o
+    → cond (is_some o) (socket_read candidate_label.RELATED_ADDRESS.now candidate_label.RELATED_PORT.now text >>= λ addr. Some (Some addr.0, addr.1)) (Some (None, text)) ≡ Some x
     → (part : List ℕ) × (text ≡ part ++ x.1) × IsRelated part x.0
 related_sound text x None is e = rw (← some_is (None, text) x e) ([], refl, refl)
 related_sound text x (Some body) is e =
-    bound (socket_read (codes " raddr ") (codes " rport ") text) _ _ e λ addr e₁ same.
+    bound (socket_read candidate_label.RELATED_ADDRESS.now candidate_label.RELATED_PORT.now text) _ _ e λ addr e₁ same.
     rw (← some_is (Some addr.0, addr.1) x same) (related_socket.sound text addr e₁)
 
-related_complete : (part : List ℕ) (x : Option SocketAddr) (rest : List ℕ) → IsRelated part x → EndsWithout (codes " raddr ") rest → related_read (part ++ rest) ≡ Some (x, rest)
+related_complete : (part : List ℕ) (x : Option SocketAddr) (rest : List ℕ) → IsRelated part x → EndsWithout candidate_label.RELATED_ADDRESS.now rest → related_read (part ++ rest) ≡ Some (x, rest)
 related_complete part None rest h ends = rw (h, ends.1) refl
 related_complete part (Some addr) rest h ends =
-    let there : is_some (strip (codes " raddr ") (part ++ rest)) ≡ true = rw (h.2, h.3.1) refl in
+    let there : is_some (strip candidate_label.RELATED_ADDRESS.now (part ++ rest)) ≡ true = rw (h.2, h.3.1) refl in
     rw there (bind_is _ _ _ _ (related_socket.complete part addr rest h ends.0) refl)
 
-pub related_front : Front IsRelated (EndsWithout (codes " raddr ")) related_read
-related_front = record { sound = λ text x e. related_sound text x (strip (codes " raddr ") text) refl e; complete = related_complete }
+pub related_front : Front IsRelated (EndsWithout candidate_label.RELATED_ADDRESS.now) related_read
+related_front = record { sound = λ text x e. related_sound text x (strip candidate_label.RELATED_ADDRESS.now text) refl e; complete = related_complete }
 
 -- ---- the TCP type
 
-tcp_sound : (text : List ℕ) (x : Option TcpType × List ℕ) → tcp_part_read text ≡ Some x → (part : List ℕ) × (text ≡ part ++ x.1) × IsOptional (codes " tcptype ") IsTcpTypeText part x.0
+tcp_sound : (text : List ℕ) (x : Option TcpType × List ℕ) → tcp_part_read text ≡ Some x → (part : List ℕ) × (text ≡ part ++ x.1) × IsOptional candidate_label.TCP_TYPE.now IsTcpTypeText part x.0
 tcp_sound text x e =
-    bound (optional_read (codes " tcptype ") text) _ _ e λ word e₁ k.
+    bound (optional_read candidate_label.TCP_TYPE.now text) _ _ e λ word e₁ k.
     bound (value_read tcp_type_read word.0) _ _ k λ tcp_type e₂ same.
-    let found = (optional_front (codes " tcptype ")).sound text word e₁ in
-    rw (← some_is (tcp_type, word.1) x same) (found.0, found.1, value_sound tcp_type_both (codes " tcptype ") found.0 word.0 tcp_type found.2 e₂)
+    let found = (optional_front candidate_label.TCP_TYPE.now).sound text word e₁ in
+    rw (← some_is (tcp_type, word.1) x same) (found.0, found.1, value_sound tcp_type_both candidate_label.TCP_TYPE.now found.0 word.0 tcp_type found.2 e₂)
 
-tcp_complete : (part : List ℕ) (x : Option TcpType) (rest : List ℕ) → IsOptional (codes " tcptype ") IsTcpTypeText part x → EndsWithout (codes " tcptype ") rest → tcp_part_read (part ++ rest) ≡ Some (x, rest)
-tcp_complete part None rest h ends = bind_is _ _ _ _ ((optional_front (codes " tcptype ")).complete part None rest h ends) refl
+tcp_complete : (part : List ℕ) (x : Option TcpType) (rest : List ℕ) → IsOptional candidate_label.TCP_TYPE.now IsTcpTypeText part x → EndsWithout candidate_label.TCP_TYPE.now rest → tcp_part_read (part ++ rest) ≡ Some (x, rest)
+tcp_complete part None rest h ends = bind_is _ _ _ _ ((optional_front candidate_label.TCP_TYPE.now).complete part None rest h ends) refl
 tcp_complete part (Some t) rest h ends =
-    bind_is _ _ _ _ ((optional_front (codes " tcptype ")).complete part (Some h.0) rest (h.0, h.1, h.2, refl) ends)
+    bind_is _ _ _ _ ((optional_front candidate_label.TCP_TYPE.now).complete part (Some h.0) rest (h.0, h.1, h.2, refl) ends)
     (bind_is _ _ _ _ (bind_is _ _ _ _ (tcp_type_both.complete h.0 t h.3) refl) refl)
 
-pub tcp_front : Front (IsOptional (codes " tcptype ") IsTcpTypeText) (EndsWithout (codes " tcptype ")) tcp_part_read
+pub tcp_front : Front (IsOptional candidate_label.TCP_TYPE.now IsTcpTypeText) (EndsWithout candidate_label.TCP_TYPE.now) tcp_part_read
 tcp_front = record { sound = tcp_sound; complete = tcp_complete }
 
 -- ---- a network's id and a name fragment
 
 abbrev network : List ℕ
-network = codes " network-id "
+network = candidate_label.NETWORK_ID.now
 
 abbrev name : List ℕ
-name = codes " ufrag "
+name = candidate_label.UFRAG.now
 
 -- neither of them follows
 abbrev pub EndsNames : List ℕ → Type 0

@@ -22,6 +22,7 @@ use Rattle.str0m_values.specs.Candidate.{IsSocket, IsRelated, IsCandidateText, s
 use Rattle.str0m_values.proofs.AddressText.{printed}
 use Rattle.str0m_values.proofs.AddressWords.{decimal_word, ip_word}
 use Rattle.str0m_values.proofs.CutLaws.{lacks_from}
+use Rattle.str0m_values.specs.declared.candidate_label.TheConstants as candidate_label
 
 -- ---- numbers and words
 
@@ -69,28 +70,28 @@ socket_part ip_label port_label a h =
 
 related_part : (o : Option SocketAddr) → IfSome o IsSocketInRange → IsRelated (related_text o) o
 related_part None h = refl
-related_part (Some a) h = socket_part (codes " raddr ") (codes " rport ") a h
+related_part (Some a) h = socket_part candidate_label.RELATED_ADDRESS.now candidate_label.RELATED_PORT.now a h
 
-tcp_type_part : (o : Option TcpType) → IsOptional (codes " tcptype ") IsTcpTypeText (optional_text (codes " tcptype ") tcp_type_text o) o
+tcp_type_part : (o : Option TcpType) → IsOptional candidate_label.TCP_TYPE.now IsTcpTypeText (optional_text candidate_label.TCP_TYPE.now tcp_type_text o) o
 tcp_type_part None = refl
 tcp_type_part (Some t) = (tcp_type_text t, refl, (tcp_type_word t).0, (tcp_type_word t).1)
 
-ufrag_part : (o : Option (List ℕ)) → IfSome o IsWord → IsOptional (codes " ufrag ") IsSame (optional_text (codes " ufrag ") (λ t. t) o) o
+ufrag_part : (o : Option (List ℕ)) → IfSome o IsWord → IsOptional candidate_label.UFRAG.now IsSame (optional_text candidate_label.UFRAG.now (λ t. t) o) o
 ufrag_part None h = refl
 ufrag_part (Some word) h = (word, refl, h, refl)
 
 pub printed_candidate : (c : Candidate) → IsPrintable c → IsCandidateText (candidate_text c) c
 printed_candidate c h = record {
-  foundation = codes "candidate:" ++ c.foundation;
+  foundation = candidate_label.CANDIDATE.now ++ c.foundation;
   component = codes " " ++ decimal c.component_id;
   protocol = codes " " ++ protocol_text c.proto;
   priority = codes " " ++ decimal c.prio;
   address = socket_text (codes " ") (codes " ") c.addr;
-  kind = codes " typ " ++ kind_text c.kind;
+  kind = candidate_label.TYPE.now ++ kind_text c.kind;
   related = related_text c.raddr;
-  tcp_type = optional_text (codes " tcptype ") tcp_type_text c.tcptype;
+  tcp_type = optional_text candidate_label.TCP_TYPE.now tcp_type_text c.tcptype;
   generation = [];
-  names = optional_text (codes " ufrag ") (λ t. t) c.ufrag;
+  names = optional_text candidate_label.UFRAG.now (λ t. t) c.ufrag;
   cost = [];
   joined = simp (append_assoc, append-nil);
   foundation_is = (c.foundation, refl, h.foundation, refl);
@@ -102,6 +103,6 @@ printed_candidate c h = record {
   related_is = related_part c.raddr h.raddr;
   tcp_type_is = tcp_type_part c.tcptype;
   generation_is = (None, refl);
-  names_are = inl ([], optional_text (codes " ufrag ") (λ t. t) c.ufrag, refl, (None, refl), ufrag_part c.ufrag h.ufrag);
+  names_are = inl ([], optional_text candidate_label.UFRAG.now (λ t. t) c.ufrag, refl, (None, refl), ufrag_part c.ufrag h.ufrag);
   cost_is = (None, refl);
 }

@@ -8,6 +8,7 @@ use Rattle.str0m_values.specs.Labels.{IsSame, IsLabelled, IsOptional, IsLeftOut,
 use Rattle.str0m_values.specs.Address.{IsIpText, IsInRange, ip_text}
 use Rattle.str0m_values.specs.CandidateKind.{IsKindText, kind_text}
 use Rattle.str0m_values.specs.Protocol.{IsProtocolText, IsTcpTypeText, protocol_text, tcp_type_text}
+use Rattle.str0m_values.specs.declared.candidate_label.TheConstants as candidate_label
 
 -- ---- what a text stands for
 
@@ -19,14 +20,14 @@ IsSocket ip_label port_label text addr =
 -- nothing, or ` raddr ` address ` rport ` port
 abbrev pub IsRelated : List ℕ → Option SocketAddr → Type 0
 IsRelated text None = text ≡ []
-IsRelated text (Some addr) = IsSocket (codes " raddr ") (codes " rport ") text addr
+IsRelated text (Some addr) = IsSocket candidate_label.RELATED_ADDRESS.now candidate_label.RELATED_PORT.now text addr
 
 -- a network's id and a name fragment, each of them or not; where both stand, in any order
 abbrev pub AreNames : List ℕ → Option (List ℕ) → Type 0
 AreNames text ufrag =
-    ((network : List ℕ) × (name : List ℕ) × (text ≡ network ++ name) × IsLeftOut (codes " network-id ") network × IsOptional (codes " ufrag ") IsSame name ufrag)
+    ((network : List ℕ) × (name : List ℕ) × (text ≡ network ++ name) × IsLeftOut candidate_label.NETWORK_ID.now network × IsOptional candidate_label.UFRAG.now IsSame name ufrag)
     ⊎ ((name : List ℕ) × (network : List ℕ) × (word : List ℕ) × (fragment : List ℕ) × (text ≡ name ++ network)
-    × IsLabelled (codes " ufrag ") IsSame name fragment × IsLabelled (codes " network-id ") IsSame network word × (ufrag ≡ Some fragment))
+    × IsLabelled candidate_label.UFRAG.now IsSame name fragment × IsLabelled candidate_label.NETWORK_ID.now IsSame network word × (ufrag ≡ Some fragment))
 
 -- the text stands for the candidate: seven parts, and then each of the others or not, in this order
 pub record IsCandidateText (text : List ℕ) (c : Candidate) : Type 0 where
@@ -42,17 +43,17 @@ pub record IsCandidateText (text : List ℕ) (c : Candidate) : Type 0 where
   pub names : List ℕ
   pub cost : List ℕ
   pub joined : text ≡ foundation ++ (component ++ (protocol ++ (priority ++ (address ++ (kind ++ (related ++ (tcp_type ++ (generation ++ (names ++ cost)))))))))
-  pub foundation_is : IsLabelled (codes "candidate:") IsSame foundation c.foundation
+  pub foundation_is : IsLabelled candidate_label.CANDIDATE.now IsSame foundation c.foundation
   pub component_is : IsLabelled (codes " ") (IsNum 65535) component c.component_id
   pub protocol_is : IsLabelled (codes " ") IsProtocolText protocol c.proto
   pub priority_is : IsLabelled (codes " ") (IsNum 4294967295) priority c.prio
   pub address_is : IsSocket (codes " ") (codes " ") address c.addr
-  pub kind_is : IsLabelled (codes " typ ") IsKindText kind c.kind
+  pub kind_is : IsLabelled candidate_label.TYPE.now IsKindText kind c.kind
   pub related_is : IsRelated related c.raddr
-  pub tcp_type_is : IsOptional (codes " tcptype ") IsTcpTypeText tcp_type c.tcptype
-  pub generation_is : IsLeftOut (codes " generation ") generation
+  pub tcp_type_is : IsOptional candidate_label.TCP_TYPE.now IsTcpTypeText tcp_type c.tcptype
+  pub generation_is : IsLeftOut candidate_label.GENERATION.now generation
   pub names_are : AreNames names c.ufrag
-  pub cost_is : IsLeftOut (codes " network-cost ") cost
+  pub cost_is : IsLeftOut candidate_label.NETWORK_COST.now cost
 
 -- ---- what is printed
 
@@ -62,16 +63,16 @@ socket_text ip_label port_label addr = ip_label ++ (ip_text addr.ip ++ (port_lab
 
 abbrev pub related_text : Option SocketAddr → List ℕ
 related_text None = []
-related_text (Some addr) = socket_text (codes " raddr ") (codes " rport ") addr
+related_text (Some addr) = socket_text candidate_label.RELATED_ADDRESS.now candidate_label.RELATED_PORT.now addr
 
 -- the parts that stand behind the kind
 abbrev pub extras_text : Candidate → List ℕ
-extras_text c = related_text c.raddr ++ (optional_text (codes " tcptype ") tcp_type_text c.tcptype ++ optional_text (codes " ufrag ") (λ t. t) c.ufrag)
+extras_text c = related_text c.raddr ++ (optional_text candidate_label.TCP_TYPE.now tcp_type_text c.tcptype ++ optional_text candidate_label.UFRAG.now (λ t. t) c.ufrag)
 
 abbrev pub candidate_text : Candidate → List ℕ
 candidate_text c =
-    codes "candidate:" ++ (c.foundation ++ (codes " " ++ (decimal c.component_id ++ (codes " " ++ (protocol_text c.proto ++ (codes " " ++ (decimal c.prio
-    ++ (socket_text (codes " ") (codes " ") c.addr ++ (codes " typ " ++ (kind_text c.kind ++ extras_text c))))))))))
+    candidate_label.CANDIDATE.now ++ (c.foundation ++ (codes " " ++ (decimal c.component_id ++ (codes " " ++ (protocol_text c.proto ++ (codes " " ++ (decimal c.prio
+    ++ (socket_text (codes " ") (codes " ") c.addr ++ (candidate_label.TYPE.now ++ (kind_text c.kind ++ extras_text c))))))))))
 
 -- what its types keep
 abbrev pub IsSocketInRange : SocketAddr → Type 0

@@ -13,6 +13,7 @@ use Rattle.str0m_values.specs.AddressReading.{ip_read}
 use Rattle.str0m_values.specs.CandidateKind.{kind_text}
 use Rattle.str0m_values.specs.Protocol.{protocol_text, tcp_type_text}
 use Rattle.str0m_values.specs.Words.{case_alike, case_of}
+use Rattle.str0m_values.specs.declared.candidate_label.TheConstants as candidate_label
 
 abbrev pub protocol_read : List ℕ → Option Protocol
 protocol_read word = case_alike protocol_text PROTOCOLS word
@@ -32,23 +33,23 @@ socket_read ip_label port_label text = do
 
 abbrev pub related_read : List ℕ → Option (Option SocketAddr × List ℕ)
 related_read text =
-    if is_some (strip (codes " raddr ") text)
-    then (socket_read (codes " raddr ") (codes " rport ") text >>= λ addr. Some (Some addr.0, addr.1))
+    if is_some (strip candidate_label.RELATED_ADDRESS.now text)
+    then (socket_read candidate_label.RELATED_ADDRESS.now candidate_label.RELATED_PORT.now text >>= λ addr. Some (Some addr.0, addr.1))
     else Some (None, text)
 
 abbrev pub tcp_part_read : List ℕ → Option (Option TcpType × List ℕ)
 tcp_part_read text = do
-  word ← optional_read (codes " tcptype ") text
+  word ← optional_read candidate_label.TCP_TYPE.now text
   tcp_type ← value_read tcp_type_read word.0
   Some (tcp_type, word.1)
 
 -- a network's id is looked for behind the name fragment where none stood before it
 abbrev pub names_read : List ℕ → Option (Option (List ℕ) × List ℕ)
 names_read text = do
-  network ← optional_read (codes " network-id ") text
-  name ← optional_read (codes " ufrag ") network.1
+  network ← optional_read candidate_label.NETWORK_ID.now text
+  name ← optional_read candidate_label.UFRAG.now network.1
   if is_some network.0 || is_none name.0 then Some name
-      else (optional_read (codes " network-id ") name.1 >>= λ behind. Some (name.0, behind.1))
+      else (optional_read candidate_label.NETWORK_ID.now name.1 >>= λ behind. Some (name.0, behind.1))
 
 -- what stands in front of the address
 pub record Lead : Type 0 where
@@ -59,7 +60,7 @@ pub record Lead : Type 0 where
 
 abbrev pub lead_read : List ℕ → Option (Lead × List ℕ)
 lead_read text = do
-  foundation ← labelled_read (codes "candidate:") text
+  foundation ← labelled_read candidate_label.CANDIDATE.now text
   component ← part_read (codes " ") (num 65535) foundation.1
   protocol ← part_read (codes " ") protocol_read component.1
   priority ← part_read (codes " ") (num 4294967295) protocol.1
@@ -68,9 +69,9 @@ lead_read text = do
 -- the name fragment of the last parts, behind which nothing stands
 abbrev pub last_read : List ℕ → Option (Option (List ℕ))
 last_read text = do
-  generation ← optional_read (codes " generation ") text
+  generation ← optional_read candidate_label.GENERATION.now text
   names ← names_read generation.1
-  cost ← optional_read (codes " network-cost ") names.1
+  cost ← optional_read candidate_label.NETWORK_COST.now names.1
   if is_rest cost.1 then None else Some names.0
 
 -- what is kept of the parts behind the kind
@@ -90,7 +91,7 @@ abbrev pub candidate_read : List ℕ → Option Candidate
 candidate_read text = do
   lead ← lead_read text
   address ← socket_read (codes " ") (codes " ") lead.1
-  kind ← part_read (codes " typ ") kind_read address.1
+  kind ← part_read candidate_label.TYPE.now kind_read address.1
   extras ← extras_read kind.1
   Some (record {
     foundation = lead.0.foundation;

@@ -2,9 +2,11 @@
 ghost use Rattle.std.specs.Prelude.{◌≡◌, IfOk, Some, option_map};
 ghost use Rattle.std.specs.String.{string_bytes};
 ghost use Rattle.std.specs.Str.{IsUtf8};
+ghost use Rattle.str0m_values.specs.declared.candidate_label.TheConstants as candidate_label;
 
 use crate::address::SocketAddr;
 use crate::candidate_kind::CandidateKind;
+use crate::candidate_label;
 use crate::protocol::{Protocol, TcpType};
 use crate::text::Text;
 use std::alloc::{AllocError, Global};
@@ -176,10 +178,9 @@ impl fmt::Display for Related {
         let Some(addr) = self.0 else {
             return Ok(());
         };
-        let (ip_label, port_label) = (" raddr ", " rport ");
         LabelledSocket {
-            ip_label,
-            port_label,
+            ip_label: candidate_label::RELATED_ADDRESS,
+            port_label: candidate_label::RELATED_PORT,
             addr,
         }
         .fmt(f)
@@ -195,11 +196,11 @@ impl fmt::Display for OpenedBy {
     ghost use Rattle.str0m_values.specs.Labels.{optional_text};
     ghost use Rattle.str0m_values.specs.Protocol.{tcp_type_text};
 
-    ghost output = { λ it. Some (optional_text (codes " tcptype ") tcp_type_text it.0) };
+    ghost output = { λ it. Some (optional_text candidate_label.TCP_TYPE.now tcp_type_text it.0) };
 
     fn fmt<W: fmt::Write>(&self, f: &mut fmt::Formatter<W>) -> fmt::Result {
         match self.0 {
-            Some(tcptype) => write!(f, " tcptype {tcptype}"),
+            Some(tcptype) => write!(f, "{}{tcptype}", candidate_label::TCP_TYPE),
             None => Ok(()),
         }
     }
@@ -213,11 +214,11 @@ impl<'a> fmt::Display for Fragment<'a> {
     ghost use Rattle.std.specs.Prelude.{codes};
     ghost use Rattle.str0m_values.specs.Labels.{optional_text};
 
-    ghost output = { λ it. Some (optional_text (codes " ufrag ") (λ t. t) it.0.now) };
+    ghost output = { λ it. Some (optional_text candidate_label.UFRAG.now (λ t. t) it.0.now) };
 
     fn fmt<W: fmt::Write>(&self, f: &mut fmt::Formatter<W>) -> fmt::Result {
         match self.0 {
-            Some(ufrag) => write!(f, " ufrag {ufrag}"),
+            Some(ufrag) => write!(f, "{}{ufrag}", candidate_label::UFRAG),
             None => Ok(()),
         }
     }
@@ -234,8 +235,8 @@ impl<'a> fmt::Display for CandidateParts<'a> {
     ghost use Rattle.str0m_values.specs.CandidateKind.{kind_text};
     ghost use Rattle.str0m_values.specs.Protocol.{protocol_text};
 
-    ghost output = { λ parts. Some (codes "candidate:" ++ (parts.0.now.foundation ++ (codes " " ++ (decimal parts.0.now.component_id ++ (codes " " ++ (protocol_text parts.0.now.proto
-        ++ (codes " " ++ (decimal parts.0.now.prio ++ (socket_text (codes " ") (codes " ") parts.0.now.addr ++ (codes " typ " ++ kind_text parts.0.now.kind)))))))))) };
+    ghost output = { λ parts. Some (candidate_label.CANDIDATE.now ++ (parts.0.now.foundation ++ (codes " " ++ (decimal parts.0.now.component_id ++ (codes " " ++ (protocol_text parts.0.now.proto
+        ++ (codes " " ++ (decimal parts.0.now.prio ++ (socket_text (codes " ") (codes " ") parts.0.now.addr ++ (candidate_label.TYPE.now ++ kind_text parts.0.now.kind)))))))))) };
 
     fn fmt<W: fmt::Write>(&self, f: &mut fmt::Formatter<W>) -> fmt::Result {
         let candidate = self.0;
@@ -250,7 +251,7 @@ impl<'a> fmt::Display for CandidateParts<'a> {
             addr,
         }
         .fmt(f)?;
-        f.write_str(" typ ")?;
+        f.write_str(candidate_label::TYPE)?;
         candidate.kind.fmt(f)
     }
 }
@@ -263,11 +264,11 @@ impl<'a> fmt::Display for CandidateName<'a> {
     ghost use Rattle.std.specs.Prelude.{◌++◌, codes};
     ghost use Rattle.std.specs.Fmt.{decimal};
 
-    ghost output = { λ name. Some (codes "candidate:" ++ (name.0.now.foundation ++ (codes " " ++ decimal name.0.now.component_id))) };
+    ghost output = { λ name. Some (candidate_label.CANDIDATE.now ++ (name.0.now.foundation ++ (codes " " ++ decimal name.0.now.component_id))) };
 
     fn fmt<W: fmt::Write>(&self, f: &mut fmt::Formatter<W>) -> fmt::Result {
         let candidate = self.0;
-        f.write_str("candidate:")?;
+        f.write_str(candidate_label::CANDIDATE)?;
         f.write_str(candidate.foundation.as_str())?;
         f.write_str(" ")?;
         f.write(candidate.component_id)

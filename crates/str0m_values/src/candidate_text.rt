@@ -7,10 +7,12 @@ ghost use Rattle.str0m_values.specs.LabelReading.{part_read};
 ghost use Rattle.str0m_values.specs.Candidate.{IsCandidateText, IsPrintable, candidate_text};
 ghost use Rattle.str0m_values.specs.Found.{seen_lead, seen_extras, seen};
 ghost use Rattle.str0m_values.specs.CandidateReading.{protocol_read, kind_read, socket_read, related_read, tcp_part_read, names_read, lead_read, last_read, extras_read, candidate_read};
+ghost use Rattle.str0m_values.specs.declared.candidate_label.TheConstants as candidate_label;
 
 use crate::address::{IpAddr, SocketAddr};
 use crate::candidate::Candidate;
 use crate::candidate_kind::CandidateKind;
+use crate::candidate_label;
 use crate::cuts::{num_u16, num_u32, strip};
 use crate::labels::{labelled, optional};
 use crate::protocol::{Protocol, TcpType};
@@ -76,17 +78,21 @@ fn socket<'a>(text: &'a str, ip_label: &str, port_label: &str) -> Option<(Socket
 }
 
 fn kind(text: &str) -> Option<(CandidateKind, &str)>
-    ensures { option_map (λ x. (x.0, x.1.now)) result ≡ part_read (codes " typ ") kind_read text.now }
+    ensures { option_map (λ x. (x.0, x.1.now)) result ≡ part_read candidate_label.TYPE.now kind_read text.now }
 {
-    let (word, rest) = labelled(text, " typ ")?;
+    let (word, rest) = labelled(text, candidate_label::TYPE)?;
     Some((CandidateKind::from_word(word)?, rest))
 }
 
 fn related(text: &str) -> Option<(Option<SocketAddr>, &str)>
     ensures { option_map (λ x. (x.0, x.1.now)) result ≡ related_read text.now }
 {
-    if strip(text, " raddr ").is_some() {
-        let (addr, rest) = socket(text, " raddr ", " rport ")?;
+    if strip(text, candidate_label::RELATED_ADDRESS).is_some() {
+        let (addr, rest) = socket(
+            text,
+            candidate_label::RELATED_ADDRESS,
+            candidate_label::RELATED_PORT,
+        )?;
         Some((Some(addr), rest))
     } else {
         Some((None, text))
@@ -96,7 +102,7 @@ fn related(text: &str) -> Option<(Option<SocketAddr>, &str)>
 fn tcp_type(text: &str) -> Option<(Option<TcpType>, &str)>
     ensures { option_map (λ x. (x.0, x.1.now)) result ≡ tcp_part_read text.now }
 {
-    let (word, rest) = optional(text, " tcptype ")?;
+    let (word, rest) = optional(text, candidate_label::TCP_TYPE)?;
     match word {
         None => Some((None, rest)),
         Some(word) => Some((Some(TcpType::from_word(word)?), rest)),
@@ -107,19 +113,19 @@ fn tcp_type(text: &str) -> Option<(Option<TcpType>, &str)>
 fn names(text: &str) -> Option<(Option<&str>, &str)>
     ensures { option_map (λ x. (option_map (λ w. w.now) x.0, x.1.now)) result ≡ names_read text.now }
 {
-    let (network, rest) = optional(text, " network-id ")?;
-    let (ufrag, rest) = optional(rest, " ufrag ")?;
+    let (network, rest) = optional(text, candidate_label::NETWORK_ID)?;
+    let (ufrag, rest) = optional(rest, candidate_label::UFRAG)?;
     if network.is_some() || ufrag.is_none() {
         return Some((ufrag, rest));
     }
-    let (_, rest) = optional(rest, " network-id ")?;
+    let (_, rest) = optional(rest, candidate_label::NETWORK_ID)?;
     Some((ufrag, rest))
 }
 
 fn before_address(text: &str) -> Option<(Lead<'_>, &str)>
     ensures { option_map (λ x. (seen_lead x.0, x.1.now)) result ≡ lead_read text.now }
 {
-    let (foundation, rest) = labelled(text, "candidate:")?;
+    let (foundation, rest) = labelled(text, candidate_label::CANDIDATE)?;
     let (component_id, rest) = component(rest)?;
     let (proto, rest) = protocol(rest)?;
     let (prio, rest) = priority(rest)?;
@@ -138,9 +144,9 @@ fn before_address(text: &str) -> Option<(Lead<'_>, &str)>
 fn last(text: &str) -> Option<Option<&str>>
     ensures { option_map (λ x. option_map (λ w. w.now) x) result ≡ last_read text.now }
 {
-    let (_, rest) = optional(text, " generation ")?;
+    let (_, rest) = optional(text, candidate_label::GENERATION)?;
     let (ufrag, rest) = names(rest)?;
-    let (_, rest) = optional(rest, " network-cost ")?;
+    let (_, rest) = optional(rest, candidate_label::NETWORK_COST)?;
     if !rest.is_empty() {
         return None;
     }

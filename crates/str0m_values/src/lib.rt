@@ -4,6 +4,7 @@
 mod address;
 mod candidate;
 mod candidate_kind;
+pub mod candidate_label;
 pub mod candidate_text;
 pub mod cuts;
 mod direction;

@@ -1,0 +1,40 @@
+"""Whether each label, key and word stands once: its text is a row of one table, and everything else names that row.
+
+A text may stand in one file beside its table, for a definition that the language can't have name the row. Comments don't count, nor does
+a text within another, as in a message."""
+import re
+from collections import defaultdict
+
+from proved import PARTS, TOP
+
+LIBRARIES = ("str0m_values", "str0m_formats", "str0m_sdp", "str0m_signal")
+CONSTANT = r'^pub(?:\(crate\))? const \w+: &str = "([^"]+)";$'
+TABLES = {  # (of each table the rows' texts)
+    "str0m_values/src/candidate_label.rt": CONSTANT,
+    "str0m_formats/src/format_key.rt": r'FormatKey::\w+(?: =>|,) "([^"]+)"',
+    "str0m_sdp/src/label.rt": CONSTANT,
+}
+MOST = 2
+TEXT = re.compile(r'"((?:[^"\\]|\\.)*)"')
+
+
+def places():
+    """The files of code, definitions and proofs in which each text stands."""
+    found = defaultdict(set)
+    for file in (it for name in LIBRARIES for part in PARTS for it in (TOP / "crates" / name / part).rglob("*") if it.is_file()):
+        code = [it for it in file.read_text("utf-8").split("\n") if not it.lstrip().startswith(("//", "--"))]
+        for text in TEXT.findall("\n".join(code)):
+            found[text].add(str(file.relative_to(TOP / "crates")))
+    return found
+
+
+def faults():
+    """The tables without rows, and the texts that stand in too many files."""
+    found = places()
+    for table, row in TABLES.items():
+        texts = re.findall(row, (TOP / "crates" / table).read_text("utf-8"), re.M)
+        if not texts:
+            yield f"crates/{table} has no rows"
+        for text in texts:
+            if len(found[text]) > MOST:
+                yield f"{text!r} of crates/{table} stands in {len(found[text])} files: {', '.join(sorted(found[text]))}"
