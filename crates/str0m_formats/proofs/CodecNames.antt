@@ -1,11 +1,6 @@
 -- The codec of a name is the one that its text reads as.
-use Rattle.std.proofs.Common.{◌≡◌, ◌≢◌, ℕ, Bool, true, false, ◌⊎◌, inl, inr, List, map, Option, Some, None, IfSome, refl, sym, ap, ◌∙◌}
-use Rattle.std.specs.Prelude.{unwrap_or}
-use Rattle.std.specs.Char.{to_ascii_lowercase}
+use Rattle.str0m_formats.proofs.Common.{◌≡◌, ◌≢◌, ℕ, Bool, true, false, ◌⊎◌, inl, inr, List, map, Option, Some, None, IfSome, refl, sym, ap, ◌∙◌, unwrap_or, to_ascii_lowercase, bytes_eq, str_eq_ignore_ascii_case, bytes_eq-Decides, false≢true}
 use Rattle.std.specs.List.{find}
-use Rattle.std.specs.Str.{bytes_eq, str_eq_ignore_ascii_case}
-use Rattle.std.proofs.lemmas.Slice.Eq.{bytes_eq-Decides}
-use Rattle.std.proofs.lemmas.Bool.{false≢true}
 use Rattle.str0m_formats.specs.declared.codec.TheConstants.{NAMED}
 use Rattle.str0m_formats.specs.declared.codec.Codec.{Codec}
 use Rattle.str0m_formats.specs.declared.codec.Codec.TheVariants.{Null, Unknown}

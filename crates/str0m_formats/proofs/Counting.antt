@@ -1,11 +1,5 @@
 -- With few rows a free type is always left: counting the types that are held back.
-use Prim.Native.Nat.{zero, suc}
-use Rattle.std.proofs.Common.{◌≡◌, ◌==◌, ℕ, ◌+◌, ◌*◌, ◌<◌, ◌≤◌, ◌⊎◌, inl, inr, Bool, true, false, not, ◌||◌, ◌&&◌, cond, find, List, [], ◌∷◌, ◌++◌, length, Option, Some, None, Result, Ok, Err, filter, refl, sym, ap, ◌∙◌, subst, arith}
-use Rattle.std.specs.List.{slice_get}
-use Rattle.std.specs.Option.{option_to_list, ok_or}
-use Rattle.std.proofs.lemmas.Option.{slice_get_within, same_Some}
-use Rattle.std.proofs.lemmas.List.{length-append}
-use Rattle.std.proofs.lemmas.Bool.{true≢false, false≢true, and_parts, not-true, or_cases, or_left, or_right, cases_Bool, eqb-true, eq-eqb}
+use Rattle.str0m_formats.proofs.Common.{zero, suc, ◌≡◌, ◌==◌, ℕ, ◌+◌, ◌*◌, ◌<◌, ◌≤◌, ◌⊎◌, inl, inr, Bool, true, false, not, ◌||◌, ◌&&◌, cond, find, List, [], ◌∷◌, ◌++◌, length, Option, Some, None, Result, Ok, Err, filter, refl, sym, ap, ◌∙◌, subst, arith, slice_get, option_to_list, ok_or, slice_get_within, same_Some, length-append, true≢false, false≢true, and_parts, not-true, or_cases, or_left, or_right, cases_Bool, eqb-true, eq-eqb, fun_ext}
 use Rattle.str0m_formats.specs.declared.negotiation_error.NegotiationError.{NegotiationError}
 use Rattle.str0m_formats.specs.declared.negotiation_error.NegotiationError.TheVariants.{Exhausted, ClaimedTwice, TypeTooLarge}
 use Rattle.str0m_formats.specs.declared.payload_params.PayloadParams.{PayloadParams}
@@ -13,7 +7,6 @@ use Rattle.str0m_formats.specs.TypeSets.{TypeSet, has, with_type, with_option, e
 use Rattle.str0m_formats.specs.Rows.{types_of, types, locked_types, open_types}
 use Rattle.str0m_formats.specs.Narrowing.{narrowed}
 use Rattle.str0m_formats.specs.Rounds.{and_then, own_or_free, role_type, rtx_type, locked_to, placed, taken_by, taken_after, settled, kept_or_free, kept_red, kept_rtx, StopsFirst, StopsSecond, Refused}
-use mathlib.Core.Path.{fun_ext}
 use Rattle.str0m_formats.proofs.RowSets.{has-append}
 use Rattle.str0m_formats.proofs.SecondPass.{settled-locked}
 use Rattle.str0m_formats.proofs.OneOutcome.{Cases, cases_of}

@@ -1,10 +1,8 @@
 -- Default rows are distinct, and stay default while codecs are enabled and disabled.
-use Rattle.std.proofs.Common.{◌≡◌, ◌==◌, ℕ, ◌+◌, ◌≤◌, Bool, true, false, not, ◌&&◌, cond, Option, Some, None, option_map, unwrap_or, find, List, [], ◌∷◌, ◌++◌, map, All, Result, Ok, Err, OnOk, OnErr, is_ok, if◌then◌else◌, refl, sym, ap, ◌∙◌, subst, arith}
-use Rattle.std.specs.List.{AllByRecursion, Contains, list_all, flat_map}
+use Rattle.str0m_formats.proofs.Common.{◌≡◌, ◌==◌, ℕ, ◌+◌, ◌≤◌, Bool, true, false, not, ◌&&◌, cond, Option, Some, None, option_map, find, List, [], ◌∷◌, ◌++◌, map, All, Result, Ok, Err, OnOk, OnErr, if◌then◌else◌, refl, sym, ap, ◌∙◌, subst, arith, AllByRecursion, Contains, list_all, flat_map, and_parts, eqb-true, true≢false, map-append, All-append, All-filter, All-weaker, All-contains, All-nil}
+use Rattle.std.proofs.Common.{unwrap_or, is_ok}
 use Rattle.std.specs.declared.alloc.AllocError.{AllocError}
-use Rattle.std.proofs.lemmas.Bool.{and_parts, eqb-true, true≢false}
-use Rattle.std.proofs.lemmas.List.{map-append}
-use Rattle.std.proofs.lemmas.List.Elements.{All-append, All-filter, All-weaker, All-contains, All-contains_itself, All-from_recursion, recursion_from_All, All-nil}
+use Rattle.std.proofs.lemmas.List.Elements.{All-contains_itself, All-from_recursion, recursion_from_All}
 use Rattle.str0m_formats.specs.declared.codec.Codec.{Codec}
 use Rattle.str0m_formats.specs.declared.codec.Codec.TheVariants.{Unknown}
 use Rattle.str0m_formats.specs.declared.codec.TheConstants.{NAMED}

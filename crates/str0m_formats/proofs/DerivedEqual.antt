@@ -1,8 +1,5 @@
 -- When two values of an enum are equal by a derived `==`: each variant by what it holds, and two variants never.
-use Rattle.std.proofs.Common.{◌≡◌, inl, inr, Bool, true, false, List, [], ◌∷◌, refl, ap}
-use Rattle.std.specs.Bool.{Decides}
-use Rattle.std.proofs.lemmas.Bool.{false≢true}
-use Rattle.std.proofs.lemmas.Bool.Decides.{Decides-like}
+use Rattle.str0m_formats.proofs.Common.{◌≡◌, inl, inr, Bool, true, false, List, [], ◌∷◌, refl, ap, Decides, false≢true, Decides-like}
 use denote.Enum.Compared.{Each, by}
 use denote.Enum.Declared.{Choice, left_or, right_or}
 use denote.Struct.Field.{Field}

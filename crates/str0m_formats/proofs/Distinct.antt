@@ -1,8 +1,5 @@
 -- Distinct types stay distinct.
-use Prim.Native.Nat.{zero, suc}
-use Rattle.std.proofs.Common.{◌≡◌, ℕ, ◌+◌, ◌<◌, ◌≤◌, ◌⊎◌, inl, inr, Bool, true, false, not, cond, List, [], ◌++◌, length, take, drop, Option, Some, None, refl, ap, ◌∙◌, arith}
-use Rattle.std.specs.List.{slice_get}
-use Rattle.std.proofs.lemmas.Bool.{cases_Bool, or_parts, not-true}
+use Rattle.str0m_formats.proofs.Common.{zero, suc, ◌≡◌, ℕ, ◌+◌, ◌<◌, ◌≤◌, ◌⊎◌, inl, inr, Bool, true, false, not, cond, List, [], ◌++◌, length, take, drop, Option, Some, None, refl, ap, ◌∙◌, arith, slice_get, cases_Bool, or_parts, not-true}
 use Rattle.str0m_formats.specs.declared.payload_params.PayloadParams.{PayloadParams}
 use Rattle.str0m_formats.specs.TypeSets.{has, either, times, AllDistinct}
 use Rattle.str0m_formats.specs.Rows.{types_of, types, locked_types, open_types}

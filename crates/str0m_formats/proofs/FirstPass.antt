@@ -1,12 +1,5 @@
 -- The first pass of a round: what one row changes, and the state between two rows.
-use Prim.Native.Nat.{zero, suc}
-use Rattle.std.proofs.Common.{◌≡◌, ℕ, ◌+◌, ◌<◌, ◌⊎◌, inl, inr, Bool, true, false, not, ◌||◌, ◌&&◌, cond, if◌then◌else◌, find, nat_lt, List, [], ◌∷◌, ◌++◌, length, take, drop, set, get_or, Option, Some, None, Result, Ok, Err, IfSome, IfErr, refl, sym, ap, ◌∙◌, subst, arith}
-use Rattle.std.specs.List.{slice_get}
-use Rattle.std.specs.Option.{option_or}
-use Rattle.std.proofs.lemmas.Option.{same_Some}
-use Rattle.std.proofs.lemmas.List.{append_assoc, take_more_set, drop-set-lt, length-set, length-take-le, length_push}
-use Rattle.std.proofs.lemmas.Grind.{drop_more_same}
-use Rattle.std.proofs.lemmas.Bool.{false≢true}
+use Rattle.str0m_formats.proofs.Common.{zero, suc, ◌≡◌, ℕ, ◌+◌, ◌<◌, ◌⊎◌, inl, inr, Bool, true, false, not, ◌||◌, ◌&&◌, cond, if◌then◌else◌, find, nat_lt, List, [], ◌∷◌, ◌++◌, length, take, drop, set, get_or, Option, Some, None, Result, Ok, Err, IfSome, IfErr, refl, sym, ap, ◌∙◌, subst, arith, slice_get, option_or, same_Some, append_assoc, take_more_set, drop-set-lt, length-set, length-take-le, length_push, drop_more_same, false≢true}
 use Rattle.str0m_formats.specs.declared.negotiation_error.NegotiationError.{NegotiationError}
 use Rattle.str0m_formats.specs.declared.payload_params.PayloadParams.{PayloadParams}
 use Rattle.str0m_formats.specs.TypeSets.{TypeSet, has, with_type, either}

@@ -1,9 +1,7 @@
 -- When two formats are equal, and two specs: `==` of each field decides, and so does that of the record.
-use Rattle.std.proofs.Common.{◌≡◌, ◌&&◌, ℕ, Bool, true, false, Option, None, Some, nat_eq, refl, sym, ap, ◌∙◌}
-use Rattle.std.specs.Bool.{Decides, beq}
-use Rattle.std.specs.Cmp.{unsigned_Decides, booleans_Decides}
+use Rattle.str0m_formats.proofs.Common.{◌≡◌, ◌&&◌, ℕ, Bool, true, false, Option, None, Some, nat_eq, refl, sym, ap, ◌∙◌, Decides, beq, unsigned_Decides, booleans_Decides, Decides-like, ProfileTierLevel}
 use Rattle.std.specs.Option.{option_eq}
-use Rattle.std.proofs.lemmas.Bool.Decides.{Decides-and, Decides-like}
+use Rattle.std.proofs.lemmas.Bool.Decides.{Decides-and}
 use denote.Enum.Bare.{Bare, sameb, same_true, true_same}
 use denote.Enum.Declared.{Declared}
 use Rattle.str0m_values.specs.contracts.h265.H265Profile as h265_profile
@@ -12,7 +10,6 @@ use Rattle.str0m_values.specs.contracts.h265.H265Level as h265_level
 use Rattle.str0m_values.specs.contracts.h266.H266Profile as h266_profile
 use Rattle.str0m_values.specs.contracts.h266.H266Tier as h266_tier
 use Rattle.str0m_values.specs.contracts.h266.H266Level as h266_level
-use Rattle.str0m_values.specs.declared.profile_tier_level.ProfileTierLevel.{ProfileTierLevel}
 use Rattle.str0m_values.specs.H265.{H265ProfileTierLevel}
 use Rattle.str0m_values.specs.H266.{H266ProfileTierLevel}
 use Rattle.str0m_formats.specs.contracts.codec.Codec as codec

@@ -1,9 +1,5 @@
 -- What holds of the locked rows after every accepted round.
-use Prim.Native.Nat.{zero, suc}
-use Rattle.std.proofs.Common.{◌≡◌, ◌==◌, ℕ, ◌+◌, ◌<◌, ◌≤◌, ◌⊎◌, inl, inr, Bool, true, false, not, ◌||◌, cond, List, [], ◌∷◌, ◌++◌, length, take, Option, Some, None, Ok, Err, filter, refl, sym, ap, ◌∙◌, subst, arith}
-use Rattle.std.specs.List.{slice_get}
-use Rattle.std.specs.Option.{option_to_list, ok_or}
-use Rattle.std.proofs.lemmas.Bool.{true≢false, cases_Bool, or_parts, or_left, eqb-true}
+use Rattle.str0m_formats.proofs.Common.{zero, suc, ◌≡◌, ◌==◌, ℕ, ◌+◌, ◌<◌, ◌≤◌, ◌⊎◌, inl, inr, Bool, true, false, not, ◌||◌, cond, List, [], ◌∷◌, ◌++◌, length, take, Option, Some, None, Ok, Err, filter, refl, sym, ap, ◌∙◌, subst, arith, slice_get, option_to_list, ok_or, true≢false, cases_Bool, or_parts, or_left, eqb-true}
 use Rattle.str0m_formats.specs.declared.negotiation_error.NegotiationError.TheVariants.{Exhausted, ClaimedTwice}
 use Rattle.str0m_formats.specs.declared.payload_params.PayloadParams.{PayloadParams}
 use Rattle.str0m_formats.specs.TypeSets.{TypeSet, has, with_type, with_option, either, free, times, AllDistinct}

@@ -1,8 +1,6 @@
 -- Texts that are joined by a byte, and cut there.
-use Rattle.std.proofs.Common.{◌≡◌, ◌==◌, ℕ, false, List, [], ◌∷◌, All, refl, ap, ◌∙◌}
-use Rattle.std.specs.List.{slice_split, join_with_byte}
+use Rattle.str0m_formats.proofs.Common.{◌≡◌, ◌==◌, ℕ, false, List, [], ◌∷◌, All, refl, ap, ◌∙◌, slice_split, join_with_byte, eq-eqb}
 use Rattle.std.proofs.lemmas.List.Splits.{slice_split_none, slice_split_at}
-use Rattle.std.proofs.lemmas.Bool.{eq-eqb}
 
 -- no text holds the byte
 abbrev pub AreFreeOf : ℕ → List (List ℕ) → Type 0

@@ -1,10 +1,5 @@
 -- Parameters of the table of keys, as they print and are read again.
-use Rattle.std.proofs.Common.{◌≡◌, ◌⊎◌, ℕ, Bool, true, false, List, [], ◌∷◌, length, map, filter, nat_lt, Option, Some, None, MatchOption, refl, sym, ap, ◌∙◌, subst, arith, inl, inr}
-use Rattle.std.specs.List.{AllByRecursion, list_all}
-use Rattle.std.specs.Str.{str_to_ascii_lowercase}
-use Rattle.std.proofs.lemmas.Bool.{lt-ltb}
-use Rattle.std.proofs.lemmas.List.{append_assoc, length-append}
-use Rattle.str0m_values.specs.Parts.{IsRest}
+use Rattle.str0m_formats.proofs.Common.{◌≡◌, ◌⊎◌, ℕ, Bool, true, false, List, [], ◌∷◌, length, map, filter, nat_lt, Option, Some, None, MatchOption, refl, sym, ap, ◌∙◌, subst, arith, inl, inr, AllByRecursion, list_all, str_to_ascii_lowercase, lt-ltb, append_assoc, length-append, IsRest}
 use Rattle.str0m_formats.specs.declared.format_key.FormatKey.{FormatKey}
 use Rattle.str0m_formats.specs.declared.format_key.FormatKey.TheVariants as key
 use Rattle.str0m_formats.specs.declared.format_param.FormatParam.{FormatParam}

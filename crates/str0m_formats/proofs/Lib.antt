@@ -1,4 +1,5 @@
 pub mod CodecNames
+pub mod Common
 pub mod Joined
 pub mod KeyedParams
 pub mod LineLaws

@@ -1,8 +1,5 @@
 -- Parameters as they are printed, one field after another.
-use Rattle.std.proofs.Common.{◌≡◌, ◌<◌, ◌+◌, ℕ, Bool, true, false, List, [], ◌∷◌, ◌++◌, length, get_or, take, map, Some, None, refl, sym, ap, ◌∙◌}
-use Rattle.std.specs.List.{join_with_byte, filter_map, cons_option}
-use Rattle.std.proofs.lemmas.List.{append_assoc, append-nil, take_more}
-use Rattle.std.proofs.lemmas.List.Elements.{filter_map-append}
+use Rattle.str0m_formats.proofs.Common.{◌≡◌, ◌<◌, ◌+◌, ℕ, Bool, true, false, List, [], ◌∷◌, ◌++◌, length, get_or, take, map, Some, None, refl, sym, ap, ◌∙◌, join_with_byte, filter_map, cons_option, append_assoc, append-nil, take_more, filter_map-append}
 use Rattle.str0m_formats.specs.FormatParam.{param_text}
 use Rattle.str0m_formats.specs.FormatParams.{param_at, semicolon_if, params_text, params_of}
 use Rattle.str0m_formats.specs.declared.format_param.FormatParam.{FormatParam}

@@ -1,5 +1,5 @@
 -- A locked row stays locked, with its types each in its role.
-use Rattle.std.proofs.Common.{◌≡◌, Bool, true, List, Option, Some, None, Ok, refl, sym, ◌∙◌, subst}
+use Rattle.str0m_formats.proofs.Common.{◌≡◌, Bool, true, List, Option, Some, None, Ok, refl, sym, ◌∙◌, subst}
 use Rattle.str0m_formats.specs.declared.payload_params.PayloadParams.{PayloadParams}
 use Rattle.str0m_formats.specs.TypeSets.{TypeSet}
 use Rattle.str0m_formats.specs.Narrowing.{narrowed}

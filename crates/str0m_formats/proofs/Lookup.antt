@@ -1,9 +1,6 @@
 -- Rows of a table that are looked up by their texts, without regard to the case of ASCII letters.
-use Rattle.std.proofs.Common.{◌≡◌, ℕ, Bool, true, false, cond, List, [], ◌∷◌, map, Option, Some, None, IfSome, refl}
-use Rattle.std.specs.List.{find, list_all}
-use Rattle.std.specs.Char.{to_ascii_lowercase}
-use Rattle.std.specs.Str.{bytes_eq}
-use Rattle.std.proofs.lemmas.Bool.{and_parts}
+use Rattle.str0m_formats.proofs.Common.{◌≡◌, ℕ, Bool, true, false, cond, List, [], ◌∷◌, map, Option, Some, None, IfSome, refl, list_all, to_ascii_lowercase, bytes_eq, and_parts}
+use Rattle.std.specs.List.{find}
 
 -- what is found stands in the list and passes
 pub find_passes : {A : Type 0} (own test : A → Bool) (xs : List A) → list_all own xs ≡ true → IfSome (find test xs) (λ x. (own x ≡ true) × (test x ≡ true))

@@ -1,10 +1,7 @@
 -- Which rows a round locks, and at which types.
-use Prim.Native.Nat.{zero}
-use Rattle.std.proofs.Common.{◌≡◌, ◌≢◌, ℕ, Bool, true, false, not, ◌&&◌, cond, List, ◌∷◌, Option, Some, None, Ok, Err, refl, sym, ap, ◌∙◌, subst, arith}
+use Rattle.str0m_formats.proofs.Common.{zero, ◌≡◌, ◌≢◌, ℕ, Bool, true, false, not, ◌&&◌, cond, List, ◌∷◌, Option, Some, None, Ok, Err, refl, sym, ap, ◌∙◌, subst, arith, true≢false, false≢true, All-contains, fun_ext}
 use Rattle.std.specs.Prelude.{Contains}
-use Rattle.std.proofs.lemmas.Bool.{true≢false, false≢true}
-use Rattle.std.proofs.lemmas.List.Elements.{All-contains, Contains-append_right}
-use mathlib.Core.Path.{fun_ext}
+use Rattle.std.proofs.lemmas.List.Elements.{Contains-append_right}
 use Rattle.str0m_formats.specs.declared.codec.Codec.{Codec}
 use Rattle.str0m_formats.specs.declared.codec.Codec.TheVariants.{AmrWb}
 use Rattle.str0m_formats.specs.declared.negotiation_error.NegotiationError.TheVariants.{ClaimedTwice}

@@ -1,25 +1,16 @@
 -- The modes of a text are the bits of its mask.
-use Rattle.std.proofs.Common.{◌≡◌, ◌<◌, ◌^◌, ◌*◌, ◌%◌, ◌⊎◌, inl, inr, ℕ, List, [], ◌∷◌, ◌++◌, ◌==◌, length, get_or, Any, Some, None, Option, sym, ap, ◌∙◌, arith, subst}
+use Rattle.str0m_formats.proofs.Common.{◌≡◌, ◌<◌, ◌^◌, ◌*◌, ◌%◌, ◌⊎◌, inl, inr, ℕ, List, [], ◌∷◌, ◌++◌, ◌==◌, length, get_or, Some, None, Option, sym, ap, ◌∙◌, arith, subst, bit_at, cases_lt, eqb_tells, and_pow, bit_at-lt, bit_at_set_same, bit_at_set_other, same_from_bits, bit_at-zero, length-append, All-push, IsTheOnly, num_only, ◌>>=◌, num, trim, slice_split, append_assoc, append-nil}
+use Rattle.std.proofs.Common.{Any}
 use Rattle.std.specs.Int.Bits.{bit_or}
-use Rattle.std.specs.Int.{bit_at, IsBitSet, w16}
-use Rattle.std.proofs.lemmas.Bool.{cases_lt}
-use Rattle.std.proofs.lemmas.Bool.Decides.{eqb_tells}
-use Rattle.std.proofs.lemmas.Nat.Bits.{and_pow, bit_at-lt, bit_at_set_same, bit_at_set_other, same_from_bits, bit_at-zero}
-use Rattle.std.proofs.lemmas.List.{get_or_append_left, length-append}
-use Rattle.std.proofs.lemmas.List.Elements.{All-push}
+use Rattle.std.specs.Int.{IsBitSet, w16}
+use Rattle.std.proofs.lemmas.List.{get_or_append_left}
 use Rattle.std.proofs.lemmas.List.Quantifiers.{Any-push}
 use Rattle.std.proofs.lemmas.Nat.{pow_pos}
 use Rattle.std.proofs.Math.Seq.{get_or-append_seam}
-use Rattle.str0m_values.specs.Only.{IsTheOnly}
-use Rattle.str0m_values.proofs.NumLaws.{num_only}
-use Rattle.str0m_values.specs.Cuts.{◌>>=◌, num}
 use Rattle.str0m_formats.specs.FormatParam.{IsMode, IsMask, IsModeSet}
 use Rattle.str0m_formats.specs.ParamReading.{modes_from, modes_read}
 use Rattle.str0m_formats.proofs.Only.{only_same}
 use Rattle.str0m_formats.proofs.Printed.{shifted_one}
-use Rattle.std.specs.Str.{trim}
-use Rattle.std.specs.List.{slice_split}
-use Rattle.std.proofs.lemmas.List.{append_assoc, append-nil}
 
 pub Any-more : {X : Type 0} (P : X → Type 0) (xs : List X) (y : X) → Any P xs → Any P (xs ++ y ∷ [])
 Any-more P xs y (k, x, lt, is, p) = (k, x, omega (arith, length-append xs (y ∷ [])), get_or_append_left xs (y ∷ []) x k lt ∙ is, p)

@@ -1,9 +1,6 @@
 -- A round has one outcome: one list of rows, or one cause.
-use Rattle.std.proofs.Common.{◌≡◌, ◌==◌, ℕ, ◌<◌, ◌≤◌, ◌⊎◌, inl, inr, Bool, true, cond, find, nat_lt, List, [], ◌∷◌, ◌++◌, length, take, get_or, Option, Some, None, Result, Ok, Err, IfSome, All, refl, sym, ap, ◌∙◌, subst, arith}
-use Rattle.std.specs.List.{slice_get}
-use Rattle.std.proofs.lemmas.Option.{slice_get_within, same_Some}
+use Rattle.str0m_formats.proofs.Common.{◌≡◌, ◌==◌, ℕ, ◌<◌, ◌≤◌, ◌⊎◌, inl, inr, Bool, true, cond, find, nat_lt, List, [], ◌∷◌, ◌++◌, length, take, get_or, Option, Some, None, Result, Ok, Err, IfSome, All, refl, sym, ap, ◌∙◌, subst, arith, slice_get, slice_get_within, same_Some, cases_order, true≢false, or_cases, eq-eqb}
 use Rattle.std.proofs.lemmas.List.{get_or_at}
-use Rattle.std.proofs.lemmas.Bool.{cases_order, true≢false, or_cases, eq-eqb}
 use Rattle.str0m_formats.specs.declared.negotiation_error.NegotiationError.{NegotiationError}
 use Rattle.str0m_formats.specs.declared.negotiation_error.NegotiationError.TheVariants.{TypeTooLarge, ClaimedTwice}
 use Rattle.str0m_formats.specs.declared.payload_params.PayloadParams.{PayloadParams}

@@ -1,7 +1,6 @@
 -- Readings that answer an Option.
-use Rattle.std.proofs.Common.{◌≡◌, Option, Some, None, IfSome, refl, sym}
+use Rattle.str0m_formats.proofs.Common.{◌≡◌, Option, Some, None, IfSome, refl, sym, IsTheOnly}
 use Rattle.std.specs.Prelude.{option_map}
-use Rattle.str0m_values.specs.Only.{IsTheOnly}
 
 -- two answers to one question are the same
 pub only_same : {A : Type 0} {P : A → Type 0} (a b : Option A) → IsTheOnly P a → IsTheOnly P b → a ≡ b

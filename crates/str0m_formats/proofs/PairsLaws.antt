@@ -1,8 +1,5 @@
 -- What pairs read as, together.
-use Rattle.std.proofs.Common.{◌≡◌, ◌||◌, ℕ, Bool, true, false, cond, List, [], ◌∷◌, map, Option, refl, sym, ap, subst, ◌∙◌}
-use Rattle.std.specs.Bool.{MatchBool}
-use Rattle.std.specs.List.{cons_option, list_any}
-use Rattle.std.specs.Borrow.{Bor}
+use Rattle.str0m_formats.proofs.Common.{◌≡◌, ◌||◌, ℕ, Bool, true, false, cond, List, [], ◌∷◌, map, Option, refl, sym, ap, subst, ◌∙◌, MatchBool, cons_option, list_any, Bor}
 use Rattle.str0m_formats.specs.declared.format_param.FormatParam.{FormatParam}
 use Rattle.str0m_formats.specs.FormatParam.{AreParsed}
 use Rattle.str0m_formats.specs.ParamReading.{param_of}

@@ -1,8 +1,5 @@
 -- When two parameters are equal: each variant by what it holds, and two variants never.
-use Rattle.std.proofs.Common.{◌≡◌, ◌∙◌, ℕ, Bool, nat_eq, sym, ap}
-use Rattle.std.specs.Bool.{Decides, beq}
-use Rattle.std.specs.Cmp.{unsigned_Decides, booleans_Decides}
-use Rattle.std.proofs.lemmas.Bool.Decides.{Decides-like}
+use Rattle.str0m_formats.proofs.Common.{◌≡◌, ◌∙◌, ℕ, Bool, nat_eq, sym, ap, Decides, beq, unsigned_Decides, booleans_Decides, Decides-like}
 use Rattle.str0m_formats.specs.contracts.format_param.FormatParam as param_type
 use Rattle.str0m_formats.specs.contracts.format_param.FormatParamPartialEq.TheImpl as param
 use Rattle.str0m_formats.specs.declared.format_param.FormatParam.{FormatParam}

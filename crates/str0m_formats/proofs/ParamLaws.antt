@@ -1,17 +1,6 @@
 -- What a key and its value read as.
-use Rattle.std.proofs.Common.{◌≡◌, ℕ, Bool, true, false, List, [], ◌∷◌, map, Option, Some, None, refl, sym, ap, subst, ◌∙◌, inl, inr}
-use Rattle.std.specs.Prelude.{codes, IsTrue, ◌↔◌, IfSome, option_map, unwrap_or}
-use Rattle.std.specs.Char.{to_ascii_lowercase}
-use Rattle.std.specs.Str.{bytes_eq, str_eq_ignore_ascii_case}
-use Rattle.std.specs.Bool.{Decides}
-use Rattle.std.proofs.lemmas.Option.{none-some}
-use Rattle.std.proofs.lemmas.Slice.Eq.{bytes_eq-Decides}
-use Rattle.str0m_values.specs.Only.{IsTheOnly}
-use Rattle.str0m_values.specs.Parts.{IsNum}
-use Rattle.str0m_values.specs.Cuts.{◌>>=◌, num, when}
-use Rattle.str0m_values.proofs.NumLaws.{num_only, num_reads, when_some, when_true}
-use Rattle.str0m_values.proofs.BothWays.{some_is}
-use Rattle.str0m_values.proofs.OnlyLaws.{only_read}
+use Rattle.str0m_formats.proofs.Common.{◌≡◌, ℕ, Bool, true, false, List, [], ◌∷◌, map, Option, Some, None, refl, sym, ap, subst, ◌∙◌, inl, inr, codes, unwrap_or, to_ascii_lowercase, bytes_eq, str_eq_ignore_ascii_case, Decides, none-some, bytes_eq-Decides, IsTheOnly, IsNum, ◌>>=◌, num, when, num_only, num_reads, when_some, when_true, some_is, only_read}
+use Rattle.std.specs.Prelude.{IsTrue, ◌↔◌, IfSome, option_map}
 use Rattle.str0m_formats.specs.declared.format_key.TheConstants.{KEYS}
 use Rattle.str0m_formats.specs.declared.format_key.FormatKey.{FormatKey}
 use Rattle.str0m_formats.specs.declared.format_key.FormatKey.TheVariants as key

@@ -1,14 +1,10 @@
 -- Numbers behind keys are read both ways.
-use Rattle.std.proofs.Common.{◌≡◌, ◌≤◌, ℕ, true, ◌&&◌, leb, ltb, List, [], ◌∷◌, length, Option, Some, refl, ap, ◌∙◌}
-use Rattle.std.specs.Char.{digit_value}
-use Rattle.std.specs.Str.Parse.{AllDigits, digits_value, without_leading_plus}
-use Rattle.std.proofs.lemmas.Bool.{ltb-true, lt-ltb, le-leb, leb-true, and_parts, and_from}
-use Rattle.str0m_values.specs.Only.{IsTheOnly}
-use Rattle.str0m_values.specs.Parts.{IsNumber, IsNum}
-use Rattle.str0m_values.specs.Cuts.{is_rest, num}
-use Rattle.str0m_values.proofs.NumLaws.{when_some, when_true, num_found, num_reads}
-use Rattle.str0m_values.proofs.BothWays.{Reads, reads_first}
-use Rattle.str0m_values.proofs.OnlyLaws.{only_read}
+use Rattle.str0m_formats.proofs.Common.{◌≡◌, ◌≤◌, ℕ, true, ◌&&◌, leb, List, [], ◌∷◌, length, Option, Some, refl, ap, ◌∙◌, digit_value, AllDigits, digits_value, ltb-true, lt-ltb, le-leb, leb-true, and_parts, IsTheOnly, IsNumber, IsNum, num, when_some, when_true, num_found, num_reads, Reads, only_read}
+use Rattle.std.proofs.Common.{ltb}
+use Rattle.std.specs.Str.Parse.{without_leading_plus}
+use Rattle.std.proofs.lemmas.Bool.{and_from}
+use Rattle.str0m_values.specs.Cuts.{is_rest}
+use Rattle.str0m_values.proofs.BothWays.{reads_first}
 use Rattle.str0m_formats.specs.FormatParam.{IsHexElseDecimal}
 use Rattle.str0m_formats.specs.ParamReading.{all_digits, number_read, hex_read}
 use Rattle.str0m_formats.proofs.Only.{only_same}

@@ -1,10 +1,6 @@
 -- A pass over rows, one row a step.
-use Prim.Native.Nat.{zero, suc}
-use Rattle.std.proofs.Common.{◌≡◌, ℕ, ◌≤◌, ◌<◌, ◌⊎◌, inl, inr, List, [], ◌∷◌, ◌++◌, length, take, drop, get_or, Option, Some, None, refl, sym, ap, ◌∙◌, subst, arith}
-use Rattle.std.specs.List.{slice_get}
-use Rattle.std.proofs.lemmas.Option.{slice_get_within, same_Some}
-use Rattle.std.proofs.lemmas.List.{length_push, take-append-le}
-use Rattle.std.proofs.lemmas.Bool.{cases_order}
+use Rattle.str0m_formats.proofs.Common.{zero, suc, ◌≡◌, ℕ, ◌≤◌, ◌<◌, ◌⊎◌, inl, inr, List, [], ◌∷◌, ◌++◌, length, take, drop, get_or, Option, Some, None, refl, sym, ap, ◌∙◌, subst, arith, slice_get, slice_get_within, same_Some, length_push, cases_order}
+use Rattle.std.proofs.lemmas.List.{take-append-le}
 
 -- at each place, the done rows before it, the row there and the new row stand in a relation
 abbrev pub EachPlace : {A : Type 0} → (List A → A → A → Type 0) → List A → List A → Type 0

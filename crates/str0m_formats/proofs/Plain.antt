@@ -1,13 +1,10 @@
 -- Plain texts: graphic ASCII without `;` and `=`, so that cutting and trimming leave them whole.
-use Rattle.std.proofs.Common.{◌≡◌, ◌≢◌, ◌<◌, ◌≤◌, ◌==◌, ◌&&◌, ◌||◌, ℕ, zero, suc, Bool, true, false, not, List, [], ◌∷◌, ◌++◌, All, inl, inr, refl, sym, ap, ◌∙◌, arith, tests, lt-ltb, encode_utf8_all}
+use Rattle.str0m_formats.proofs.Common.{◌≡◌, ◌≢◌, ◌<◌, ◌≤◌, ◌==◌, ◌&&◌, ◌||◌, ℕ, Bool, true, false, not, List, [], ◌∷◌, ◌++◌, All, inl, inr, refl, sym, ap, ◌∙◌, arith, tests, AllByRecursion, list_all, digit_value, trim, AllDigits, and_parts, cases_lt, ne_eqb, leb-true, not-true, false≢true, Lacks}
+use Rattle.std.proofs.Common.{zero, suc, lt-ltb, encode_utf8_all}
 use Rattle.std.specs.Prelude.{nat_le, nat_lt, IsAscii}
-use Rattle.std.specs.List.{AllByRecursion, list_all}
-use Rattle.std.specs.Char.{digit_value, is_whitespace}
-use Rattle.std.specs.Str.{trim, trim_start, trim_end, skip_leading_whitespace, drop_trailing_whitespace}
-use Rattle.std.specs.Str.Parse.{AllDigits}
-use Rattle.std.proofs.lemmas.Bool.{and_parts, cases_lt, ne_eqb, leb-true, not-true, false≢true}
+use Rattle.std.specs.Char.{is_whitespace}
+use Rattle.std.specs.Str.{trim_start, trim_end, skip_leading_whitespace, drop_trailing_whitespace}
 use Rattle.std.proofs.lemmas.Str.{chars-IsAscii, encodes-IsAscii}
-use Rattle.str0m_values.specs.Parts.{Lacks}
 
 -- ---- what holds of all small numbers
 

@@ -1,5 +1,5 @@
 -- The format of a plain row reads back as it prints.
-use Rattle.std.proofs.Common.{◌≡◌, ◌≢◌, ◌⊎◌, inl, inr, Option, Some, None, IfSome, refl, sym, ◌∙◌}
+use Rattle.str0m_formats.proofs.Common.{◌≡◌, ◌≢◌, ◌⊎◌, inl, inr, Option, Some, None, IfSome, refl, sym, ◌∙◌}
 use Rattle.str0m_formats.specs.Bounds.{HoldsRowNumbers}
 use Rattle.str0m_formats.specs.PlainRow.{IsPlain}
 use Rattle.str0m_formats.specs.FormatParams.{get, IsWithin, CanBeReadBack}

@@ -1,14 +1,8 @@
 -- Plain rows stay plain through a round against rows whose numbers keep to their ranges.
-use Prim.Native.Nat.{zero, suc}
-use Rattle.std.proofs.Common.{◌≡◌, ◌≢◌, ℕ, Bool, true, false, List, [], ◌∷◌, ◌++◌, Option, Some, None, Ok, IfSome, All, take, refl, sym, ap, ◌∙◌, subst}
+use Rattle.str0m_formats.proofs.Common.{zero, suc, ◌≡◌, ◌≢◌, ℕ, Bool, true, false, List, [], ◌∷◌, ◌++◌, Option, Some, None, Ok, IfSome, All, take, refl, sym, ap, ◌∙◌, subst, slice_get, option_or, same_Some, All-nil, All-cons, All-head, All-tail, ProfileTierLevel}
 use Rattle.std.specs.Prelude.{min}
-use Rattle.std.specs.List.{slice_get}
-use Rattle.std.specs.Option.{option_or}
-use Rattle.std.proofs.lemmas.Option.{same_Some}
-use Rattle.std.proofs.lemmas.List.Elements.{All-nil, All-cons, All-head, All-tail}
 use Rattle.str0m_values.specs.H265 as h265
 use Rattle.str0m_values.specs.H266 as h266
-use Rattle.str0m_values.specs.declared.profile_tier_level.ProfileTierLevel.{ProfileTierLevel}
 use Rattle.str0m_formats.specs.declared.codec.Codec.{Codec}
 use Rattle.str0m_formats.specs.declared.codec.Codec.TheVariants.{G722, AmrWb, H264, H265, H266, Tele}
 use Rattle.str0m_formats.specs.declared.codec_spec.CodecSpec.{CodecSpec}

@@ -1,6 +1,6 @@
 -- A format that is printed as an fmtp line: its pairs, and what they read as.
-use Rattle.std.proofs.Common.{◌≡◌, ◌≢◌, ℕ, Bool, false, List, [], ◌∷◌, ◌++◌, length, map, filter_map, Option, Some, None, IfSome, option_map, ◌||◌, inl, inr, refl, sym, arith, ap, subst, ◌∙◌}
-use Rattle.std.specs.List.{AllByRecursion, cons_option, list_any}
+use Rattle.str0m_formats.proofs.Common.{◌≡◌, ◌≢◌, ℕ, Bool, false, List, [], ◌∷◌, ◌++◌, length, map, Option, Some, None, IfSome, option_map, ◌||◌, inl, inr, refl, sym, arith, ap, subst, ◌∙◌, AllByRecursion, cons_option, list_any, append-nil, length-append, map-append, IsRest}
+use Rattle.std.proofs.Common.{filter_map}
 use Rattle.str0m_formats.specs.declared.format_param.FormatParam.{FormatParam}
 use Rattle.str0m_formats.specs.declared.format_param.FormatParam.TheVariants.{TelephoneEvents, BareRange, BarePtList, AmrWbUnsupported, Apt, Red, Unknown}
 use Rattle.str0m_formats.specs.declared.codec.Codec.{Codec}
@@ -19,8 +19,6 @@ use Rattle.str0m_formats.proofs.PrintedLine.{all_pieces, all_pairs, joined, alik
 use Rattle.str0m_formats.proofs.SetAll.{param_is, set_each}
 use Rattle.str0m_formats.proofs.Shown.{joined_pair, rows_at, bares_at, IsPlainPair, pair_in, text_of, entry_at, shows}
 use Rattle.str0m_formats.proofs.Rows.{given}
-use Rattle.std.proofs.lemmas.List.{append-nil, length-append, map-append}
-use Rattle.str0m_values.specs.Parts.{IsRest}
 
 -- a parameter of a field: not one that only lines hold, and no range of events
 abbrev pub IsOwn : FormatParam → Type 0

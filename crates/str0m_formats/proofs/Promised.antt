@@ -1,5 +1,5 @@
 -- Every accepted round keeps its promises.
-use Rattle.std.proofs.Common.{Bool, List, ◌∙◌}
+use Rattle.str0m_formats.proofs.Common.{Bool, List, ◌∙◌}
 use Rattle.str0m_formats.specs.declared.payload_params.PayloadParams.{PayloadParams}
 use Rattle.str0m_formats.specs.Rounds.{Leaves}
 use Rattle.str0m_formats.specs.Promises.{Promises}

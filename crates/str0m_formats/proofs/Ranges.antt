@@ -1,10 +1,6 @@
 -- The first number of a range that passes a test.
-use Prim.Native.Nat.{zero, suc}
-use Rattle.std.proofs.Common.{◌≡◌, ℕ, ◌+◌, ◌-◌, ◌<◌, ◌≤◌, ◌++◌, [], ◌∷◌, Bool, true, false, cond, find, Option, Some, None, List, replicate, get_or, length, drop, refl, is_some, sym, ap, ◌∙◌, arith}
+use Rattle.str0m_formats.proofs.Common.{zero, suc, ◌≡◌, ℕ, ◌+◌, ◌-◌, ◌<◌, ◌≤◌, ◌++◌, [], ◌∷◌, Bool, true, false, cond, find, Option, Some, None, List, replicate, get_or, length, drop, refl, is_some, sym, ap, ◌∙◌, arith, true≢false, option_or, range_with_len, flat_map}
 use Rattle.std.proofs.lemmas.List.{at_drop_more}
-use Rattle.std.proofs.lemmas.Bool.{true≢false}
-use Rattle.std.specs.Option.{option_or}
-use Rattle.std.specs.List.{range_with_len, flat_map}
 
 -- where the next number fails, the search goes on after it
 pub find-range_more : (p : ℕ → Bool) (t n : ℕ) → t < n → p t ≡ false → find p (range_with_len t (n - t)) ≡ find p (range_with_len (t + 1) (n - (t + 1)))

@@ -1,14 +1,11 @@
 -- What prints reads back.
-use Rattle.std.proofs.Common.{◌≡◌, ◌≢◌, ◌≤◌, ◌<◌, ◌^◌, ◌-◌, inl, ℕ, zero, suc, Bool, true, false, List, [], ◌∷◌, ◌++◌, length, get_or, replicate, refl, sym, ap, ◌∙◌, subst, arith, lit<, lit≤}
-use Rattle.std.specs.Fmt.{decimal, digits}
-use Rattle.std.specs.Char.{digit_value, encode_utf8}
+use Rattle.str0m_formats.proofs.Common.{◌≡◌, ◌≢◌, ◌≤◌, ◌<◌, ◌^◌, ◌-◌, inl, ℕ, Bool, true, false, List, [], ◌∷◌, ◌++◌, length, get_or, replicate, refl, sym, ap, ◌∙◌, subst, arith, lit<, lit≤, decimal, digit_value, AllDigits, digits_value, decimal_is_IsNumeral, digits_is_IsNumeral, length-append, false≢true, IsNumber, IsNum, Option, Some, None, MatchOption, nat_le, inr, ◌==◌, ◌&&◌, and_parts, cases_lt, eqb-true, leb-true}
+use Rattle.std.proofs.Common.{zero, suc}
+use Rattle.std.specs.Fmt.{digits}
+use Rattle.std.specs.Char.{encode_utf8}
 use Rattle.std.specs.Str.{trim_end, chars, trim_start}
-use Rattle.std.specs.Str.Parse.{IsNumeral, AllDigits, digits_value}
-use Rattle.std.proofs.lemmas.Fmt.{decimal_is_IsNumeral, digits_is_IsNumeral}
+use Rattle.std.specs.Str.Parse.{IsNumeral}
 use Rattle.std.proofs.lemmas.Str.Parse.{without_leading_plus_none}
-use Rattle.std.proofs.lemmas.List.{length-append}
-use Rattle.std.proofs.lemmas.Bool.{false≢true}
-use Rattle.str0m_values.specs.Parts.{IsNumber, IsNum}
 use Rattle.str0m_formats.specs.FormatKey.{key_text}
 use Rattle.str0m_formats.specs.declared.format_key.FormatKey.{FormatKey}
 use Rattle.str0m_formats.specs.declared.format_key.FormatKey.TheVariants as key
@@ -18,8 +15,6 @@ use Rattle.str0m_formats.specs.FormatParam.{Kind, flag, number, hex, modes, exac
 use Rattle.str0m_formats.specs.ParamReading.{modes_read, param_of}
 use Rattle.str0m_formats.proofs.Modes.{modes_only}
 use Rattle.str0m_formats.proofs.ParamLaws.{spelled, parsed_only}
-use Rattle.std.proofs.Common.{Option, Some, None, MatchOption, nat_le, inr, ◌==◌, ◌&&◌}
-use Rattle.std.proofs.lemmas.Bool.{and_parts, cases_lt, eqb-true, leb-true}
 
 -- a numeral begins with no plus
 no_plus : (radix : ℕ) (ds : List ℕ) → radix ≤ 16 → AllDigits radix ds → get_or ds 0 0 ≢ 43

@@ -1,8 +1,7 @@
 -- When two rows are the same: `==` of each field but `locked` decides, and so does that of the row.
-use Rattle.std.proofs.Common.{◌≡◌, true, false, refl, sym, ◌∙◌}
-use Rattle.std.specs.Bool.{Decides, one_answer}
-use Rattle.std.specs.Cmp.{IsEquivalence, equiv, unsigned_Decides, booleans_Decides}
-use Rattle.std.proofs.lemmas.Bool.Decides.{Decides-like}
+use Rattle.str0m_formats.proofs.Common.{◌≡◌, true, false, refl, sym, ◌∙◌, Decides, IsEquivalence, unsigned_Decides, booleans_Decides, Decides-like}
+use Rattle.std.specs.Bool.{one_answer}
+use Rattle.std.specs.Cmp.{equiv}
 use Rattle.str0m_formats.specs.Rows.{SameRow}
 use Rattle.str0m_formats.specs.contracts.payload_params.PayloadParamsPartialEq.TheImpl as row
 use Rattle.str0m_formats.specs.declared.payload_params.PayloadParams.{PayloadParams}

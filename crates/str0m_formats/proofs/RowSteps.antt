@@ -1,7 +1,5 @@
 -- What a round does to the row at a place, step by step.
-use Rattle.std.proofs.Common.{◌≡◌, ℕ, Bool, true, false, List, take, Option, Some, None, Result, Ok, Err, ◌&&◌, refl, sym, ap, ◌∙◌}
-use Rattle.std.specs.List.{slice_get}
-use Rattle.std.specs.Option.{ok_or}
+use Rattle.str0m_formats.proofs.Common.{◌≡◌, ℕ, Bool, true, false, List, take, Option, Some, None, Result, Ok, Err, ◌&&◌, refl, sym, ap, ◌∙◌, slice_get, ok_or}
 use Rattle.str0m_formats.specs.declared.negotiation_error.NegotiationError.{NegotiationError}
 use Rattle.str0m_formats.specs.declared.negotiation_error.NegotiationError.TheVariants.{Exhausted}
 use Rattle.str0m_formats.specs.declared.payload_params.PayloadParams.{PayloadParams}

@@ -1,14 +1,5 @@
 -- Keys with values that may be absent: what is left of them, looked up, merged and taken apart.
-use Rattle.std.proofs.Common.{◌≡◌, ◌&&◌, ◌||◌, ℕ, Bool, true, false, not, cond, List, [], ◌∷◌, ◌++◌, map, filter, Option, Some, None, is_some, refl, sym, ap, ◌∙◌}
-use Rattle.std.specs.List.{AllByRecursion, list_all, list_any}
-use Rattle.std.specs.Map.{lookup}
-use Rattle.std.specs.Str.{bytes_eq, str_to_ascii_lowercase}
-use Rattle.std.proofs.lemmas.Bool.{and_parts, not-true}
-use Rattle.std.proofs.lemmas.List.{append_assoc, append-nil}
-use Rattle.std.proofs.lemmas.Slice.Eq.{bytes_eq-Decides}
-use Rattle.indexmap.specs.IndexMap.{insert_entry, insert_all}
-use Rattle.indexmap.proofs.MapLemmas.{insert_entry-absent}
-use Rattle.str0m_values.specs.Cuts.{◌<|>◌}
+use Rattle.str0m_formats.proofs.Common.{◌≡◌, ◌&&◌, ◌||◌, ℕ, Bool, true, false, not, cond, List, [], ◌∷◌, ◌++◌, map, filter, Option, Some, None, is_some, refl, sym, ap, ◌∙◌, AllByRecursion, list_all, list_any, lookup, bytes_eq, str_to_ascii_lowercase, and_parts, not-true, append_assoc, append-nil, bytes_eq-Decides, insert_entry, insert_all, insert_entry-absent, ◌<|>◌}
 use Rattle.str0m_formats.specs.Pairs.{is_mark, has_mark, merged, is_part, others}
 
 abbrev pub Rows : Type 0

@@ -1,12 +1,10 @@
 -- A run of rounds goes on by one round.
-use Rattle.std.proofs.Common.{◌≡◌, ◌≢◌, ℕ, ◌+◌, ◌<◌, Bool, Result, Ok, Err, OnOk, OnErr, IfErr, List, [], ◌∷◌, ◌++◌, length, take, set, get_or, refl, sym, ap, ◌∙◌, subst}
-use Rattle.std.proofs.lemmas.List.{take_more, take_more_set}
+use Rattle.str0m_formats.proofs.Common.{◌≡◌, ◌≢◌, ℕ, ◌+◌, ◌<◌, Bool, Result, Ok, Err, OnOk, OnErr, IfErr, List, [], ◌∷◌, ◌++◌, length, take, set, get_or, refl, sym, ap, ◌∙◌, subst, take_more, take_more_set, receives}
 use Rattle.str0m_formats.specs.declared.negotiation_error.NegotiationError.{NegotiationError}
 use Rattle.str0m_formats.specs.declared.negotiation_error.NegotiationError.TheVariants.{TypeTooLarge, ClaimedTwice, Exhausted, Memory}
 use Rattle.str0m_formats.specs.declared.payload_params.PayloadParams.{PayloadParams}
 use Rattle.str0m_formats.specs.declared.rounds.Round.{Round}
 use Rattle.str0m_formats.specs.Rounds.{Leaves, Refused}
-use Rattle.str0m_values.specs.Direction.{receives}
 use Rattle.str0m_formats.specs.Runs.{Ran, Reached}
 
 pub reached_push : (before : List PayloadParams) (rounds : List Round) (outcomes : List (Result (Unit {0}) NegotiationError)) (mid after : List PayloadParams) (round : Round) (outcome : Result (Unit {0}) NegotiationError)

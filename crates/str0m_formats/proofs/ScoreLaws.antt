@@ -1,13 +1,12 @@
 -- The score is the same both ways, and what a spec scores with itself.
-use Rattle.std.proofs.Common.{◌≡◌, ◌≢◌, ◌-◌, ◌==◌, ◌&&◌, inl, inr, ℕ, Bool, true, false, Option, Some, None, unwrap_or, option_map, refl, sym, ap, ◌∙◌, subst}
+use Rattle.str0m_formats.proofs.Common.{◌≡◌, ◌≢◌, ◌-◌, ◌==◌, ◌&&◌, inl, inr, ℕ, Bool, true, false, Option, Some, None, option_map, refl, sym, ap, ◌∙◌, subst, unsigned_Decides, when, H264ProfileLevel}
+use Rattle.std.proofs.Common.{unwrap_or}
 use Rattle.std.specs.Bool.{if◌then◌else◌}
-use Rattle.std.specs.Cmp.{nat_eq_equiv, bool_eq_equiv, unsigned_Decides}
+use Rattle.std.specs.Cmp.{nat_eq_equiv, bool_eq_equiv}
 use Rattle.std.specs.Cmp.Lexicographic.{options_equiv}
 use Rattle.std.proofs.Math.Nat.{add_comm}
 use Rattle.std.proofs.Math.Bool.{and_comm}
-use Rattle.str0m_values.specs.Cuts.{when}
 use Rattle.str0m_values.specs.H264 as h264
-use Rattle.str0m_values.specs.declared.h264.H264ProfileLevel.{H264ProfileLevel}
 use Rattle.str0m_formats.specs.declared.codec.Codec.{Codec}
 use Rattle.str0m_formats.specs.declared.codec.Codec.TheVariants.{Opus, AmrWb, H264, H265, H266, Vp9, Av1, Tele}
 use Rattle.str0m_formats.specs.declared.codec_spec.CodecSpec.{CodecSpec}

@@ -1,7 +1,6 @@
 -- The rules of the score, from the function.
-use Rattle.std.proofs.Common.{◌≡◌, ◌≢◌, ◌==◌, ◌&&◌, ◌⊎◌, inl, inr, not, ℕ, Bool, true, false, Option, Some, None, refl, sym, ap, ◌∙◌}
-use Rattle.std.specs.Bool.{Decides, if◌then◌else◌}
-use Rattle.std.specs.Cmp.{unsigned_Decides}
+use Rattle.str0m_formats.proofs.Common.{◌≡◌, ◌≢◌, ◌==◌, ◌&&◌, ◌⊎◌, inl, inr, not, ℕ, Bool, true, false, Option, Some, None, refl, sym, ap, ◌∙◌, Decides, unsigned_Decides}
+use Rattle.std.specs.Bool.{if◌then◌else◌}
 use mathlib.Core.Bool.{true≢false}
 use Rattle.str0m_formats.specs.declared.codec.Codec.{Codec}
 use Rattle.str0m_formats.specs.declared.codec.Codec.TheVariants.{AmrWb, Tele, Unknown}

@@ -1,10 +1,6 @@
 -- Sets of payload types: what is claimed, and what is free.
-use Rattle.std.proofs.Common.{◌≡◌, ◌==◌, ℕ, ◌≤◌, ◌<◌, Bool, true, false, cond, ◌||◌, ◌&&◌, not, nat_le, List, [], ◌∷◌, Option, Some, None, find, ◌++◌, length, get_or, refl, sym, ap, ◌∙◌, arith}
-use Rattle.std.specs.List.{list_all, slice_get}
+use Rattle.str0m_formats.proofs.Common.{◌≡◌, ◌==◌, ℕ, ◌≤◌, ◌<◌, Bool, true, false, cond, ◌||◌, ◌&&◌, not, nat_le, List, [], ◌∷◌, Option, Some, None, find, ◌++◌, length, get_or, refl, sym, ap, ◌∙◌, arith, list_all, slice_get, option_to_list, eqb-true, not-true, and_parts, leb-true, le-leb, fun_ext}
 use Rattle.std.proofs.lemmas.Option.{slice_get_read}
-use Rattle.std.specs.Option.{option_to_list}
-use Rattle.std.proofs.lemmas.Bool.{eqb-true, not-true, and_parts, leb-true, le-leb}
-use mathlib.Core.Path.{fun_ext}
 use Rattle.str0m_formats.specs.TypeSets.{TypeSet, has, with_type, with_option, either, free, preferred}
 
 claimed_at : (old_t old_pt answer same new_t : Bool) → answer ≡ not old_pt → (same ≡ true → old_pt ≡ old_t) → new_t ≡ (old_t || (answer && same)) → new_t ≡ (old_t || same)

@@ -1,14 +1,7 @@
 -- What each field of a format prints: keys with values, and the range of events.
-use Rattle.std.proofs.Common.{◌≡◌, ◌≤◌, ◌<◌, ◌-◌, ◌^◌, ℕ, zero, suc, replicate, length, Bool, true, false, List, [], ◌∷◌, ◌++◌, map, Option, Some, None, IfSome, option_map, refl, sym, ap, subst, ◌∙◌, arith, lit≤, lit<, ◌==◌, ◌||◌, nat_lt}
-use Rattle.std.specs.Prelude.{codes}
-use Rattle.std.specs.Fmt.{decimal, digits}
-use Rattle.std.specs.List.{AllByRecursion, cons_option, join_with_byte, list_all}
-use Rattle.std.proofs.lemmas.Bool.{false≢true, eqb-true, ltb-true}
-use Rattle.std.proofs.lemmas.List.{append_assoc, length-append}
-use Rattle.std.proofs.lemmas.Option.{none-some}
-use Rattle.str0m_values.specs.Parts.{IsRest}
-use Rattle.std.proofs.lemmas.Fmt.{decimal_is_IsNumeral, digits_is_IsNumeral}
-use Rattle.str0m_values.specs.declared.profile_tier_level.ProfileTierLevel.{ProfileTierLevel}
+use Rattle.str0m_formats.proofs.Common.{◌≡◌, ◌≤◌, ◌<◌, ◌-◌, ◌^◌, ℕ, replicate, length, Bool, true, false, List, [], ◌∷◌, ◌++◌, map, Option, Some, None, IfSome, option_map, refl, sym, ap, subst, ◌∙◌, arith, lit≤, lit<, ◌==◌, ◌||◌, nat_lt, codes, decimal, AllByRecursion, cons_option, join_with_byte, list_all, false≢true, eqb-true, ltb-true, append_assoc, length-append, none-some, IsRest, decimal_is_IsNumeral, digits_is_IsNumeral, ProfileTierLevel}
+use Rattle.std.proofs.Common.{zero, suc}
+use Rattle.std.specs.Fmt.{digits}
 use Rattle.str0m_formats.specs.declared.format_key.FormatKey.{FormatKey}
 use Rattle.str0m_formats.specs.declared.format_key.FormatKey.TheVariants as key
 use Rattle.str0m_formats.specs.declared.format_param.FormatParam.{FormatParam}

@@ -1,5 +1,5 @@
 -- The highest telephone event of a row never grows.
-use Rattle.std.proofs.Common.{◌≡◌, ◌≤◌, Bool, List, sym, ap, subst, arith}
+use Rattle.str0m_formats.proofs.Common.{◌≡◌, ◌≤◌, Bool, List, sym, ap, subst, arith}
 use Rattle.str0m_formats.specs.declared.codec.Codec.TheVariants.{Tele}
 use Rattle.str0m_formats.specs.declared.codec_spec.CodecSpec.{CodecSpec}
 use Rattle.str0m_formats.specs.declared.payload_params.PayloadParams.{PayloadParams}

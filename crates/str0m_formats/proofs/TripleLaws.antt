@@ -1,23 +1,15 @@
 -- The triple of three values is read both ways.
-use Rattle.std.proofs.Common.{◌≡◌, ◌≤◌, ℕ, List, Option, Some, None, IfSome, refl, sym, ap, subst, ◌∙◌, inl, inr, arith, rules}
+use Rattle.str0m_formats.proofs.Common.{◌≡◌, ◌≤◌, ℕ, List, Option, Some, None, IfSome, refl, sym, ap, subst, ◌∙◌, inl, inr, arith, rules, Bor, decimal, none-some, IsTheOnly, ◌>>=◌, ◌<|>◌, ProfileTierLevel, num_found, num_reads, only_read, Reads, bind_some, some_is, reads_none}
 use Rattle.std.specs.Prelude.{option_map}
-use Rattle.std.specs.Borrow.{Bor}
-use Rattle.std.specs.Fmt.{decimal}
-use Rattle.std.proofs.lemmas.Option.{none-some}
-use Rattle.str0m_values.specs.Only.{IsTheOnly}
 use Rattle.str0m_values.specs.Parts.{IsGiven, lay}
-use Rattle.str0m_values.specs.Cuts.{◌>>=◌, ◌<|>◌}
 use Rattle.str0m_values.specs.H265 as h265
 use Rattle.str0m_values.specs.H266 as h266
 use Rattle.str0m_values.specs.ProfileTierLevel.{HasGivenNumbers, HasNumbersOfTexts, Tables, value_in}
 use Rattle.str0m_values.specs.declared.h266.H266Level.{H266Level}
 use Rattle.str0m_values.specs.declared.h266.H266Level.TheVariants as level6
-use Rattle.str0m_values.specs.declared.profile_tier_level.ProfileTierLevel.{ProfileTierLevel}
 use Rattle.str0m_values.specs.H265.{H265ProfileTierLevel as h265_triple}
 use Rattle.str0m_values.specs.H266.{H266ProfileTierLevel as h266_triple}
-use Rattle.str0m_values.proofs.NumLaws.{num_found, num_reads}
-use Rattle.str0m_values.proofs.OnlyLaws.{only_read}
-use Rattle.str0m_values.proofs.BothWays.{Reads, bind_some, some_is, none_reads, reads_none}
+use Rattle.str0m_values.proofs.BothWays.{none_reads}
 use Rattle.str0m_formats.specs.declared.format_param.FormatParam.{FormatParam}
 use Rattle.str0m_formats.specs.declared.format_param.FormatParam.TheVariants.{H265ProfileTierLevel, H266ProfileTierLevel}
 use Rattle.str0m_formats.specs.Triple.{Texts, IsTripleParam}

@@ -1,9 +1,8 @@
 -- What is shown of values, one after the other, and when it is the same.
 use native.Mathlib.Omega.{arith}
-use Rattle.std.proofs.Common.{◌≡◌, ◌<◌, ◌+◌, ℕ, suc, Bool, true, false, not, cond, List, [], ◌∷◌, length, drop, get_or, Option, Some, None, is_some, refl, sym, ap, ◌∙◌, true≢false}
-use Rattle.std.specs.Prelude.{◌↔◌, IsTrue, MatchOption}
+use Rattle.str0m_sdp.proofs.Common.{◌≡◌, ◌<◌, ◌+◌, ℕ, suc, Bool, true, false, not, cond, List, [], ◌∷◌, length, drop, get_or, Option, Some, None, refl, sym, ap, ◌∙◌, true≢false, ◌↔◌, IsTrue, MatchOption, FormatParam}
+use Rattle.std.proofs.Common.{is_some}
 use Rattle.std.proofs.Math.Seq.{drop-cons}
-use Rattle.str0m_formats.specs.declared.format_param.FormatParam.{FormatParam}
 use Rattle.std.proofs.lemmas.List.{length-map}
 use Rattle.str0m_sdp.specs.Alike.{as_read, ids, shown}
 use Rattle.str0m_sdp.specs.Fmtp.{is_shown}

@@ -1,17 +1,13 @@
 -- When two attributes are equal: each variant by its fields, and two variants never.
-use Rattle.std.proofs.Common.{◌≡◌, ℕ, List, Bool, true, ◌&&◌, nat_eq, refl, ap, sym, subst, true≢false}
-use Rattle.std.specs.Bool.{Decides}
-use Rattle.std.specs.Cmp.{unsigned_Decides, booleans_Decides}
-use Rattle.std.specs.Cmp.Lexicographic.{pointwise, pointwise_decides, bytes_decides}
-use Rattle.std.proofs.lemmas.Bool.Decides.{Decides-like}
-use denote.Enum.Bare.{sameb}
+use Rattle.str0m_sdp.proofs.Common.{◌≡◌, ℕ, List, Bool, true, ◌&&◌, nat_eq, refl, ap, sym, subst, true≢false, Decides, unsigned_Decides, bytes_decides, Decides-like, sameb, ◌⊗◌, ◌and◌, param_Decides}
+use Rattle.std.specs.Cmp.{booleans_Decides}
+use Rattle.std.specs.Cmp.Lexicographic.{pointwise, pointwise_decides}
 use Rattle.str0m_values.specs.contracts.extension.ExtensionPartialEq.TheImpl as extension
 use Rattle.str0m_values.specs.contracts.fingerprint.FingerprintPartialEq.TheImpl as fingerprint
 use Rattle.str0m_values.specs.declared.extension.Extension.{Extension as TheExtension}
 use Rattle.str0m_values.specs.declared.fingerprint.Fingerprint.{Fingerprint as TheFingerprint}
 use Rattle.str0m_formats.specs.contracts.codec.Codec as codec
-use Rattle.str0m_formats.proofs.FormatEqual.{◌⊗◌, ◌and◌, option_Decides, bare_Decides, numbers}
-use Rattle.str0m_formats.proofs.ParamEqual.{param_Decides}
+use Rattle.str0m_formats.proofs.FormatEqual.{option_Decides, bare_Decides, numbers}
 use Rattle.str0m_sdp.specs.contracts.attribute.MediaAttributePartialEq.TheImpl as media
 use Rattle.str0m_sdp.specs.contracts.attribute.SessionAttributePartialEq.TheImpl as session
 use Rattle.str0m_sdp.specs.contracts.msid.MsidPartialEq.TheImpl as msid

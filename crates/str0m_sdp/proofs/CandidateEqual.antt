@@ -1,22 +1,12 @@
 -- When two candidates are equal: `==` of each part decides, and so does that of the whole.
-use Rattle.std.proofs.Common.{◌≡◌, Bool, true, Option, None, Some, refl, sym, ap, subst, true≢false}
-use Rattle.std.specs.Bool.{Decides}
-use Rattle.std.specs.Cmp.{unsigned_Decides}
-use Rattle.std.specs.Cmp.Lexicographic.{bytes_decides}
-use Rattle.std.specs.Option.{option_eq}
-use Rattle.std.proofs.lemmas.Bool.Decides.{Decides-like}
-use denote.Enum.Bare.{Bare, sameb, same_true, true_same}
+use Rattle.str0m_sdp.proofs.Common.{◌≡◌, Bool, true, Option, None, Some, refl, sym, ap, subst, true≢false, Decides, unsigned_Decides, bytes_decides, option_eq, Decides-like, sameb, same_true, IpAddr, V4, V6, SocketAddr, Candidate, ◌⊗◌, ◌and◌}
+use denote.Enum.Bare.{Bare, true_same}
 use denote.Enum.Declared.{Declared}
 use Rattle.str0m_values.specs.contracts.address.IpAddrPartialEq.TheImpl as ip
 use Rattle.str0m_values.specs.contracts.address.SocketAddrPartialEq.TheImpl as socket
 use Rattle.str0m_values.specs.contracts.candidate_kind.CandidateKind as kind
 use Rattle.str0m_values.specs.contracts.protocol.Protocol as protocol
 use Rattle.str0m_values.specs.contracts.protocol.TcpType as tcp_type
-use Rattle.str0m_values.specs.declared.address.IpAddr.{IpAddr}
-use Rattle.str0m_values.specs.declared.address.IpAddr.TheVariants.{V4, V6}
-use Rattle.str0m_values.specs.declared.address.SocketAddr.{SocketAddr}
-use Rattle.str0m_values.specs.declared.candidate.Candidate.{Candidate}
-use Rattle.str0m_formats.proofs.FormatEqual.{◌⊗◌, ◌and◌}
 use Rattle.str0m_sdp.specs.Candidates.{same_candidate}
 
 -- `==` on options decides equality where `==` on what they hold does

@@ -1,26 +1,12 @@
 -- Keys of candidates tell apart what `==` of candidates does.
-use Rattle.std.proofs.Common.{◌≡◌, ◌&&◌, ◌||◌, ◌++◌, ℕ, Bool, true, false, cond, nat_eq, List, [], ◌∷◌, map, Option, None, Some, refl, sym, ap, ◌∙◌}
-use Rattle.std.specs.Prelude.{option_map}
-use Rattle.std.specs.Borrow.{Bor}
-use Rattle.std.specs.BTreeSet.{BTreeSet, Updates, contains}
-use Rattle.std.specs.Cmp.{decided}
-use Rattle.std.specs.List.{list_any}
-use Rattle.std.specs.Option.{option_eq}
+use Rattle.str0m_sdp.proofs.Common.{◌≡◌, ◌&&◌, ◌||◌, ◌++◌, ℕ, Bool, true, false, cond, nat_eq, List, [], ◌∷◌, map, Option, None, Some, refl, sym, ap, ◌∙◌, option_map, Bor, BTreeSet, Updates, contains, decided, list_any, option_eq, bytes_eq, map-append, list_any-append, sameb, IpAddr, V4, V6, SocketAddr, Candidate}
 use Rattle.std.specs.Ordering.{is_eq}
-use Rattle.std.specs.Str.{bytes_eq}
-use Rattle.std.proofs.lemmas.List.{map-append}
-use Rattle.std.proofs.lemmas.List.Folds.{list_any-append}
-use denote.Enum.Bare.{sameb}
 use denote.Enum.Declared.{tag_of}
 use Rattle.str0m_values.specs.contracts.address.IpAddrPartialEq.TheImpl as ip
 use Rattle.str0m_values.specs.contracts.address.SocketAddrPartialEq.TheImpl as socket
 use Rattle.str0m_values.specs.contracts.candidate_kind.CandidateKind as kind
 use Rattle.str0m_values.specs.contracts.protocol.Protocol as protocol
 use Rattle.str0m_values.specs.contracts.protocol.TcpType as tcp_type
-use Rattle.str0m_values.specs.declared.address.IpAddr.{IpAddr}
-use Rattle.str0m_values.specs.declared.address.IpAddr.TheVariants.{V4, V6}
-use Rattle.str0m_values.specs.declared.address.SocketAddr.{SocketAddr}
-use Rattle.str0m_values.specs.declared.candidate.Candidate.{Candidate}
 use Rattle.str0m_values.specs.declared.candidate_kind.CandidateKind.{CandidateKind}
 use Rattle.str0m_values.specs.declared.candidate_kind.CandidateKind.TheVariants.{Host}
 use Rattle.str0m_values.specs.declared.protocol.Protocol.{Protocol}

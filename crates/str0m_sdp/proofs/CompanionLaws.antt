@@ -1,13 +1,5 @@
 -- The types that go with others, one attribute more.
-use Rattle.std.proofs.Common.{◌≡◌, ◌<◌, ◌+◌, ◌++◌, ◌&&◌, ℕ, Bool, true, false, cond, List, [], ◌∷◌, length, take, get_or, Option, Some, None, filter_map, refl, sym, ap, ◌∙◌}
-use Rattle.std.specs.Option.{option_or}
-use Rattle.std.specs.List.{list_any}
-use Rattle.std.proofs.lemmas.Grind.{take_at_read}
-use Rattle.std.proofs.lemmas.List.Elements.{filter_map-append}
-use Rattle.str0m_values.specs.Cuts.{when}
-use Rattle.str0m_formats.specs.declared.codec.Codec.{Codec}
-use Rattle.str0m_formats.specs.declared.codec_spec.CodecSpec.{CodecSpec}
-use Rattle.str0m_formats.specs.declared.format_param.FormatParam.{FormatParam}
+use Rattle.str0m_sdp.proofs.Common.{◌≡◌, ◌<◌, ◌+◌, ◌++◌, ◌&&◌, ℕ, Bool, true, false, cond, List, [], ◌∷◌, length, take, get_or, Option, Some, None, filter_map, refl, sym, ap, ◌∙◌, option_or, list_any, take_at_read, filter_map-append, when, Codec, CodecSpec, FormatParam}
 use Rattle.str0m_sdp.specs.Companions.{names, companion_in, companion}
 use Rattle.str0m_sdp.specs.Lists.{last}
 use Rattle.str0m_sdp.specs.Mappings.{is_mapped_to}

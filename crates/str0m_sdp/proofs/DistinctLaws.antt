@@ -1,15 +1,10 @@
 -- What `distinct` keeps of a list: each of its values, once, as a set in order of insertion does.
-use Rattle.std.proofs.Common.{◌≡◌, ◌≤◌, ◌||◌, ℕ, Bool, true, false, cond, not, List, [], ◌∷◌, ◌++◌, length, drop, refl, sym, ap, ◌∙◌, append_assoc, true≢false}
-use Rattle.std.specs.Bool.{Decides}
-use Rattle.std.specs.Cmp.{IsEquivalence, decided}
-use Rattle.std.specs.List.{filter, list_any, flat_map, AllByRecursion, IsDistinct, AllPairs, Contains}
-use Rattle.std.proofs.lemmas.List.{append-nil, drop_all}
-use Rattle.std.proofs.lemmas.List.Elements.{filter-append}
-use Rattle.std.proofs.lemmas.List.Folds.{list_any-append}
+use Rattle.str0m_sdp.proofs.Common.{◌≡◌, ◌≤◌, ◌||◌, ℕ, Bool, true, false, cond, not, List, [], ◌∷◌, ◌++◌, length, drop, refl, sym, ap, ◌∙◌, append_assoc, true≢false, Decides, decided, list_any, flat_map, AllByRecursion, append-nil, drop_all, filter-append, list_any-append, insert_key, insert_all}
+use Rattle.std.specs.Cmp.{IsEquivalence}
+use Rattle.std.specs.List.{filter, IsDistinct, AllPairs, Contains}
 use Rattle.std.proofs.lemmas.Map.Keys.{apart_from_distinct}
 use Rattle.std.proofs.lemmas.Map.Steps.{list_any_congr}
 use Rattle.std.proofs.lemmas.Map.Views.{list_any-from_Contains}
-use Rattle.indexmap.specs.IndexSet.{insert_key, insert_all}
 use Rattle.indexmap.proofs.CallerLemmas.{Contains-list_any}
 use Rattle.str0m_sdp.specs.Lists.{distinct}
 use Rattle.str0m_sdp.specs.DistinctCandidates.{IsEachOnce}

@@ -1,7 +1,7 @@
 -- What `find_map` answers over the list that an iterator gives.
-use Rattle.std.proofs.Common.{◌≡◌, ℕ, ◌<◌, ◌+◌, zero, suc, List, [], ◌∷◌, ◌++◌, map, filter_map, length, drop, Option, Some, None, refl, ap, sym, subst, ◌∙◌, arith, take-append-drop}
-use Rattle.std.specs.Prelude.{MatchOption, IfSome, IsSomeAnd, IsTrue, slice_get}
-use Rattle.std.specs.List.{cons_option}
+use Rattle.str0m_sdp.proofs.Common.{◌≡◌, ℕ, ◌<◌, ◌+◌, zero, suc, List, [], ◌∷◌, ◌++◌, map, filter_map, length, drop, Option, Some, None, refl, ap, sym, subst, ◌∙◌, arith, MatchOption, IsTrue, slice_get, cons_option}
+use Rattle.std.proofs.Common.{take-append-drop}
+use Rattle.std.specs.Prelude.{IfSome, IsSomeAnd}
 use Rattle.std.specs.Option.{option_map}
 use Rattle.std.specs.Fn.{Called}
 use Rattle.std.specs.Iterator.Runs.{Run, YieldsRun, SomeRun, AllItemsGive, IsFirstToGive}

@@ -1,12 +1,6 @@
 -- What the fmtp lines of one row answer: to questions on its own types exactly its own, to those on other types nothing.
-use Rattle.std.proofs.Common.{◌≡◌, ℕ, false, List, [], ◌∷◌, Some, None}
-use Rattle.std.proofs.Common.{refl, ap, ◌∙◌}
-use Rattle.std.specs.List.{AllByRecursion, filter_map}
-use Rattle.std.proofs.lemmas.List.{append-nil}
-use Rattle.str0m_formats.specs.TypeSets.{has}
-use Rattle.str0m_formats.specs.Rows.{types_of}
-use Rattle.str0m_formats.specs.declared.format_param.FormatParam.{FormatParam}
-use Rattle.str0m_formats.specs.declared.payload_params.PayloadParams.{PayloadParams}
+use Rattle.str0m_sdp.proofs.Common.{◌≡◌, ℕ, false, List, [], ◌∷◌, Some, None, refl, ap, ◌∙◌, AllByRecursion, append-nil, has, types_of, FormatParam, PayloadParams}
+use Rattle.std.specs.List.{filter_map}
 use Rattle.str0m_sdp.specs.declared.attribute.MediaAttribute.TheVariants.{Fmtp}
 use Rattle.str0m_sdp.specs.RowAttributes.{rtx_lines}
 use Rattle.str0m_sdp.specs.SectionRows.{values_in}

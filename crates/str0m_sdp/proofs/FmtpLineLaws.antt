@@ -1,11 +1,5 @@
 -- The fmtp lines of types, one attribute more.
-use Rattle.std.proofs.Common.{◌≡◌, ◌==◌, ◌<◌, ◌+◌, ◌++◌, ℕ, true, false, List, [], ◌∷◌, length, take, get_or, Option, Some, None, filter_map, option_to_list, refl, sym, ap, ◌∙◌, inl, inr}
-use Rattle.std.specs.Borrow.{Bor}
-use Rattle.std.proofs.lemmas.Bool.{cases_eq, eq-eqb, ne_eqb}
-use Rattle.std.proofs.lemmas.List.{append-nil, map-append}
-use Rattle.std.proofs.lemmas.List.Elements.{filter_map-append}
-use Rattle.str0m_formats.specs.FormatLine.{line_values}
-use Rattle.str0m_formats.specs.declared.format_param.FormatParam.{FormatParam}
+use Rattle.str0m_sdp.proofs.Common.{◌≡◌, ◌==◌, ◌<◌, ◌+◌, ◌++◌, ℕ, true, false, List, [], ◌∷◌, length, take, get_or, Option, Some, None, filter_map, option_to_list, refl, sym, ap, ◌∙◌, inl, inr, Bor, cases_eq, eq-eqb, ne_eqb, append-nil, map-append, filter_map-append, line_values, FormatParam}
 use Rattle.str0m_sdp.specs.FmtpLines.{line_with, lines_with}
 use Rattle.str0m_sdp.specs.SectionRows.{values_in, lines_of}
 use Rattle.str0m_sdp.specs.declared.attribute.MediaAttribute.{MediaAttribute}

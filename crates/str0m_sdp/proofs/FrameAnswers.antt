@@ -1,11 +1,6 @@
 -- Lines that describe no payload type answer nothing.
-use Rattle.std.proofs.Common.{◌≡◌, ℕ, false, List, None}
-use Rattle.std.proofs.Common.{refl}
-use Rattle.std.specs.List.{AllByRecursion}
+use Rattle.str0m_sdp.proofs.Common.{◌≡◌, ℕ, false, List, None, refl, AllByRecursion, Codec, CodecSpec, FormatParam}
 use Rattle.std.proofs.lemmas.Bool.{true≢false}
-use Rattle.str0m_formats.specs.declared.codec.Codec.{Codec}
-use Rattle.str0m_formats.specs.declared.codec_spec.CodecSpec.{CodecSpec}
-use Rattle.str0m_formats.specs.declared.format_param.FormatParam.{FormatParam}
 use Rattle.str0m_sdp.specs.declared.attribute.MediaAttribute.{MediaAttribute}
 use Rattle.str0m_sdp.specs.declared.attribute.MediaAttribute.TheVariants.{RtpMap, RtcpFb, Fmtp}
 use Rattle.str0m_sdp.specs.SectionOf.{is_of_type}

@@ -1,11 +1,6 @@
 -- What a section says of each type, one attribute more.
-use Rattle.std.proofs.Common.{◌≡◌, ◌==◌, ◌<◌, ◌+◌, ◌++◌, ◌&&◌, ℕ, Bool, false, cond, List, [], ◌∷◌, length, take, set, get_or, replicate, Option, Some, None, refl, sym, ap, ◌∙◌}
-use Rattle.std.specs.Borrow.{Bor}
-use Rattle.std.specs.List.{list_any}
-use Rattle.std.proofs.lemmas.List.{length-set, get_or-replicate}
+use Rattle.str0m_sdp.proofs.Common.{◌≡◌, ◌==◌, ◌<◌, ◌+◌, ◌++◌, ◌&&◌, ℕ, Bool, false, cond, List, [], ◌∷◌, length, take, set, get_or, replicate, Option, Some, None, refl, sym, ap, ◌∙◌, Bor, list_any, length-set, get_or-replicate, CodecSpec, FormatParam}
 use Rattle.str0m_formats.specs.declared.codec.Codec.TheVariants.{Rtx, Red}
-use Rattle.str0m_formats.specs.declared.codec_spec.CodecSpec.{CodecSpec}
-use Rattle.str0m_formats.specs.declared.format_param.FormatParam.{FormatParam}
 use Rattle.str0m_sdp.specs.Companions.{names}
 use Rattle.str0m_sdp.specs.Feedback.{none, named, either}
 use Rattle.str0m_sdp.specs.Mappings.{is_mapped_to, mapped}

@@ -3,6 +3,7 @@ pub mod Apart
 pub mod AttributeEqual
 pub mod CandidateEqual
 pub mod CandidateKeyLaws
+pub mod Common
 pub mod CompanionLaws
 pub mod Copies
 pub mod DistinctLaws

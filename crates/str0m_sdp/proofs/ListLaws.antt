@@ -1,10 +1,9 @@
 -- Laws on the first and the last of what items hold.
-use Rattle.std.proofs.Common.{◌≡◌, ℕ, suc, ◌<◌, ◌+◌, Bool, true, false, cond, not, ltb, List, [], ◌∷◌, ◌++◌, reverse, filter, filter_map, get_or, length, set, take, count_by, Option, Some, None, refl, sym, ap, ◌∙◌, arith, ◌↔◌}
-use Rattle.std.specs.List.{cons_option, position, position_or_len}
-use Rattle.std.specs.Option.{is_some, option_or}
-use Rattle.std.proofs.lemmas.Bool.{ltb-true, lt-ltb, true≢false}
-use Rattle.std.proofs.lemmas.List.{append-nil, reverse-append, take_more}
-use Rattle.std.proofs.lemmas.List.Elements.{filter_map-append}
+use Rattle.str0m_sdp.proofs.Common.{◌≡◌, ℕ, suc, ◌<◌, ◌+◌, Bool, true, false, cond, not, List, [], ◌∷◌, ◌++◌, filter, filter_map, get_or, length, set, take, count_by, Option, Some, None, refl, sym, ap, ◌∙◌, arith, cons_option, position_or_len, is_some, option_or, ltb-true, lt-ltb, append-nil, take_more, filter_map-append}
+use Rattle.std.proofs.Common.{ltb, reverse, ◌↔◌}
+use Rattle.std.specs.List.{position}
+use Rattle.std.proofs.lemmas.Bool.{true≢false}
+use Rattle.std.proofs.lemmas.List.{reverse-append}
 use Rattle.std.proofs.lemmas.List.Sums.{length-filter}
 use Rattle.str0m_sdp.specs.Lists.{first, last}
 

@@ -1,11 +1,5 @@
 -- The types of a section with their codecs, one type more.
-use Rattle.std.proofs.Common.{◌≡◌, ◌<◌, ◌+◌, ◌++◌, ◌==◌, ℕ, Bool, true, false, cond, ◌||◌, List, [], ◌∷◌, length, take, set, get_or, Option, None, nat_eq, filter_map, option_to_list, refl, sym, ap, ◌∙◌, inl, inr}
-use Rattle.std.specs.List.{list_any}
-use Rattle.std.proofs.lemmas.Bool.{cases_eq, eq-eqb, ne_eqb, or_right}
-use Rattle.std.proofs.lemmas.Grind.{take_at_read}
-use Rattle.std.proofs.lemmas.List.{append-nil}
-use Rattle.std.proofs.lemmas.List.Elements.{filter_map-append}
-use Rattle.str0m_formats.specs.declared.codec_spec.CodecSpec.{CodecSpec}
+use Rattle.str0m_sdp.proofs.Common.{◌≡◌, ◌<◌, ◌+◌, ◌++◌, ◌==◌, ℕ, Bool, true, false, cond, ◌||◌, List, [], ◌∷◌, length, take, set, get_or, Option, None, nat_eq, filter_map, option_to_list, refl, sym, ap, ◌∙◌, inl, inr, list_any, cases_eq, eq-eqb, ne_eqb, or_right, take_at_read, append-nil, filter_map-append, CodecSpec}
 use Rattle.str0m_sdp.specs.Consistency.{maps}
 use Rattle.str0m_sdp.specs.Lists.{distinct}
 use Rattle.str0m_sdp.specs.Mappings.{mapping, static_row, unmapped}

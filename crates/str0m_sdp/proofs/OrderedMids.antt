@@ -1,16 +1,8 @@
 -- Laws of mids in the order of their bytes.
-use Rattle.std.proofs.Common.{◌≡◌, ◌<◌, ◌+◌, ◌++◌, ◌||◌, not, cond, ℕ, Bool, true, false, List, [], ◌∷◌, length, take, get_or, Option, Some, None}
-use Rattle.std.proofs.Common.{append_assoc, filter, filter_map, refl, sym, ap, ◌∙◌}
-use Rattle.std.specs.Borrow.{Bor}
-use Rattle.std.specs.BTreeSet.{BTreeSet, Updates, contains}
+use Rattle.str0m_sdp.proofs.Common.{◌≡◌, ◌<◌, ◌+◌, ◌++◌, ◌||◌, not, cond, ℕ, Bool, true, false, List, [], ◌∷◌, length, take, get_or, Option, Some, None, append_assoc, filter, filter_map, refl, sym, ap, ◌∙◌, Bor, BTreeSet, Updates, contains, cons_option, nat_cmp, bytes_eq, false≢true, ◌<|>◌, when}
 use Rattle.std.specs.Cmp.Lexicographic.{slice_cmp}
-use Rattle.std.specs.List.{cons_option}
-use Rattle.std.specs.Ordering.{nat_cmp}
-use Rattle.std.specs.Str.{bytes_eq}
 use Rattle.std.proofs.Math.Bool.{or_comm}
-use Rattle.std.proofs.lemmas.Bool.{false≢true}
 use Rattle.std.proofs.lemmas.Map.Text.{is_eq-slice_cmp}
-use Rattle.str0m_values.specs.Cuts.{◌<|>◌, when}
 use Rattle.str0m_sdp.specs.OrderedMids.{Holds, is_held, is_part, part_mid}
 use Rattle.str0m_sdp.specs.SessionConsistency.{is_listed, parts, section_mid, takes_part}
 use Rattle.str0m_sdp.specs.SessionFault.{first_again}

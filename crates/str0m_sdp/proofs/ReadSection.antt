@@ -1,13 +1,6 @@
 -- A section that was read, whose types and lines are those of plain, distinct rows, describes these rows.
-use Rattle.std.proofs.Common.{◌≡◌, ◌≢◌, ◌≤◌, false, List, [], map, All, sym, subst}
+use Rattle.str0m_sdp.proofs.Common.{◌≡◌, ◌≢◌, ◌≤◌, false, List, [], map, All, sym, subst, AllByRecursion, AllZip, flat_map, recursion_from_All, IsPlain, types, SameRow, AllDistinct, FormatParam, PayloadParams}
 use Rattle.std.specs.Prelude.{count_by}
-use Rattle.std.specs.List.{AllByRecursion, AllZip, flat_map}
-use Rattle.std.proofs.lemmas.List.Elements.{recursion_from_All}
-use Rattle.str0m_formats.specs.PlainRow.{IsPlain}
-use Rattle.str0m_formats.specs.Rows.{types, SameRow}
-use Rattle.str0m_formats.specs.TypeSets.{AllDistinct}
-use Rattle.str0m_formats.specs.declared.format_param.FormatParam.{FormatParam}
-use Rattle.str0m_formats.specs.declared.payload_params.PayloadParams.{PayloadParams}
 use Rattle.str0m_sdp.specs.Consistency.{is_mid, is_setup, is_direction, Consistent}
 use Rattle.str0m_sdp.specs.Mappings.{mapped}
 use Rattle.str0m_sdp.specs.SectionOf.{is_of_type}

@@ -1,27 +1,17 @@
 -- What the fmtp lines of a plain row read as: its format, and no payload type.
-use Rattle.std.proofs.Common.{◌≡◌, ◌≢◌, ℕ, false, List, [], ◌∷◌, Some, refl, sym, ap, ◌∙◌}
-use Rattle.std.proofs.Common.{All, get_or}
-use Rattle.std.specs.List.{AllByRecursion}
-use Rattle.str0m_formats.specs.Rows.{types}
-use Rattle.str0m_formats.specs.TypeSets.{AllDistinct}
+use Rattle.str0m_sdp.proofs.Common.{◌≡◌, ◌≢◌, ℕ, false, List, [], ◌∷◌, Some, refl, sym, ap, ◌∙◌, All, get_or, AllByRecursion, types, AllDistinct, content, events, format_of_fmtp, empty, set_all, IsPlain, Codec, FormatParam, Apt, BarePtList, FormatParams, PayloadParams}
 use Rattle.str0m_sdp.specs.declared.attribute.MediaAttribute.{MediaAttribute}
 use Rattle.str0m_sdp.specs.declared.media_line.MediaLine.{MediaLine}
 use Rattle.str0m_sdp.proofs.RowQuestions.{attrs_of}
 use Rattle.str0m_sdp.proofs.ReadSection.{IsFrame, Describes, describes}
-use Rattle.str0m_formats.specs.Codec.{content, events}
-use Rattle.str0m_formats.specs.FormatLine.{format_of_fmtp, is_refused}
+use Rattle.str0m_formats.specs.FormatLine.{is_refused}
 use Rattle.str0m_formats.specs.Bounds.{HoldsRowNumbers}
-use Rattle.str0m_formats.specs.FormatParams.{empty, set_all, fields}
+use Rattle.str0m_formats.specs.FormatParams.{fields}
 use Rattle.str0m_formats.specs.Narrowing.{telephone_max}
 use Rattle.str0m_formats.specs.Pairs.{has_mark}
 use Rattle.str0m_formats.specs.PairsReading.{params_read}
-use Rattle.str0m_formats.specs.PlainRow.{IsPlain}
-use Rattle.str0m_formats.specs.declared.codec.Codec.{Codec}
 use Rattle.str0m_formats.specs.declared.codec.Codec.TheVariants as codec
-use Rattle.str0m_formats.specs.declared.format_param.FormatParam.{FormatParam}
-use Rattle.str0m_formats.specs.declared.format_param.FormatParam.TheVariants.{Apt, BareRange, BarePtList, Red}
-use Rattle.str0m_formats.specs.declared.format_params.FormatParams.{FormatParams}
-use Rattle.str0m_formats.specs.declared.payload_params.PayloadParams.{PayloadParams}
+use Rattle.str0m_formats.specs.declared.format_param.FormatParam.TheVariants.{BareRange, Red}
 use Rattle.str0m_formats.proofs.PrintedPairs.{IsOwn, IsLineOf, said, line_of_pairs}
 use Rattle.str0m_formats.proofs.PrintedLine.{all_pairs}
 use Rattle.str0m_formats.proofs.PlainFormats.{can_be_read_back}

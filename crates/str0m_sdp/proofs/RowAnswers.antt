@@ -1,20 +1,9 @@
 -- What the lines of one row answer: to questions on its own types exactly its own, to those on other types nothing.
-use Rattle.std.proofs.Common.{◌≡◌, ◌==◌, ◌&&◌, ◌||◌, ℕ, Bool, true, false, List, [], ◌∷◌, ◌++◌, Option, Some, None}
-use Rattle.std.proofs.Common.{option_to_list, refl, sym, ap, ◌∙◌}
+use Rattle.str0m_sdp.proofs.Common.{◌≡◌, ◌==◌, ◌&&◌, ◌||◌, ℕ, Bool, true, false, List, [], ◌∷◌, ◌++◌, Option, Some, None, option_to_list, refl, sym, ap, ◌∙◌, AllByRecursion, list_any, ne_eqb, append-nil, list_any-append, when, has, types_of, rtp_rate, empty, CodecSpec, FormatParam, PayloadParams}
 use Rattle.std.specs.Prelude.{bytes_eq}
-use Rattle.std.specs.List.{AllByRecursion, filter_map, list_any}
-use Rattle.std.proofs.lemmas.Bool.{ne_eqb, eqb-false}
-use Rattle.std.proofs.lemmas.List.{append-nil}
-use Rattle.std.proofs.lemmas.List.Folds.{list_any-append}
-use Rattle.str0m_values.specs.Cuts.{when}
-use Rattle.str0m_formats.specs.TypeSets.{has}
-use Rattle.str0m_formats.specs.Rows.{types_of}
-use Rattle.str0m_formats.specs.CodecSpec.{rtp_rate}
-use Rattle.str0m_formats.specs.FormatParams.{empty}
+use Rattle.std.specs.List.{filter_map}
+use Rattle.std.proofs.lemmas.Bool.{eqb-false}
 use Rattle.str0m_formats.specs.declared.codec.Codec.TheVariants as codec
-use Rattle.str0m_formats.specs.declared.codec_spec.CodecSpec.{CodecSpec}
-use Rattle.str0m_formats.specs.declared.format_param.FormatParam.{FormatParam}
-use Rattle.str0m_formats.specs.declared.payload_params.PayloadParams.{PayloadParams}
 use Rattle.str0m_sdp.specs.declared.feedback.TheConstants.{TRANSPORT_CC, REMB, FIR, NACK, PLI}
 use Rattle.str0m_sdp.specs.declared.attribute.MediaAttribute.{MediaAttribute}
 use Rattle.str0m_sdp.specs.declared.attribute.MediaAttribute.TheVariants.{RtpMap, Fmtp}

@@ -1,19 +1,12 @@
 -- Where lines keep to their ranges, rows do.
-use Rattle.std.proofs.Common.{◌≡◌, ◌≤◌, ◌++◌, ℕ, Bool, true, false, cond, not, List, [], ◌∷◌, Option, Some, None, All, IfSome, filter, find, nat_lt, nat_eq, option_map, option_to_list, filter_map, refl}
-use Rattle.std.specs.List.{list_any}
-use Rattle.std.proofs.lemmas.Bool.{le-ltb}
-use Rattle.std.proofs.lemmas.List.Elements.{All-nil, All-head, All-tail, All-append, All-filter}
-use Rattle.str0m_values.specs.Cuts.{when}
-use Rattle.str0m_formats.specs.Bounds.{AreModes, IsDistance, IsBounded}
-use Rattle.str0m_formats.specs.CodecSpec.{static_spec}
-use Rattle.str0m_formats.specs.FormatLine.{format_of_fmtp, events_end, is_events, is_refused, kept, values_of}
-use Rattle.str0m_formats.specs.FormatParams.{empty, set, set_all}
-use Rattle.str0m_formats.specs.declared.codec.Codec.{Codec}
+use Rattle.str0m_sdp.proofs.Common.{◌≡◌, ◌≤◌, ◌++◌, ℕ, Bool, true, false, cond, not, List, [], ◌∷◌, Option, Some, None, All, IfSome, filter, find, nat_eq, option_to_list, filter_map, refl, list_any, le-ltb, All-nil, All-head, All-tail, when, IsBounded, static_spec, format_of_fmtp, is_refused, empty, set_all, Codec, CodecSpec, FormatParam, FormatParams}
+use Rattle.std.proofs.Common.{nat_lt, option_map}
+use Rattle.std.proofs.lemmas.List.Elements.{All-append, All-filter}
+use Rattle.str0m_formats.specs.Bounds.{AreModes, IsDistance}
+use Rattle.str0m_formats.specs.FormatLine.{events_end, is_events, kept, values_of}
+use Rattle.str0m_formats.specs.FormatParams.{set}
 use Rattle.str0m_formats.specs.declared.codec.Codec.TheVariants.{Tele}
-use Rattle.str0m_formats.specs.declared.codec_spec.CodecSpec.{CodecSpec}
-use Rattle.str0m_formats.specs.declared.format_param.FormatParam.{FormatParam}
 use Rattle.str0m_formats.specs.declared.format_param.FormatParam.TheVariants.{ModeSet, SpropMaxDonDiff}
-use Rattle.str0m_formats.specs.declared.format_params.FormatParams.{FormatParams}
 use Rattle.str0m_formats.proofs.StaticTypes.{static_small}
 use Rattle.str0m_sdp.specs.Companions.{companion_in, companion, rtx_type, red_type}
 use Rattle.str0m_sdp.specs.Consistency.{maps}

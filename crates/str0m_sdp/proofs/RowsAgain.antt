@@ -1,28 +1,17 @@
 -- The rows of a section of plain, distinct rows: these rows again, unlocked and in order.
-use Rattle.std.proofs.Common.{◌≡◌, ◌≢◌, ◌&&◌, ◌||◌, ℕ, Bool, true, false, cond, List, [], ◌∷◌, ◌++◌, map, Option, Some, None}
-use Rattle.std.proofs.Common.{refl, sym, ap, ◌∙◌, subst}
-use Rattle.std.specs.Prelude.{◌==◌, option_map}
-use Rattle.std.proofs.lemmas.Bool.{or_left, or_right}
-use Rattle.std.specs.List.{AllByRecursion, AllZip, filter, filter_map, flat_map, cons_option}
-use Rattle.std.proofs.lemmas.List.Elements.{filter_map-append, filter-append}
+use Rattle.str0m_sdp.proofs.Common.{◌≡◌, ◌≢◌, ◌&&◌, ◌||◌, ℕ, Bool, true, false, cond, List, [], ◌∷◌, ◌++◌, map, Option, Some, None, refl, sym, ap, ◌∙◌, subst, option_map, or_left, or_right, AllByRecursion, AllZip, flat_map, cons_option, filter_map-append, filter-append, content, events, other, format_of_fmtp, empty, types_of, types, SameRow, same_codec, has, AllDistinct, Codec, FormatParam, PayloadParams, IsPlain}
+use Rattle.std.specs.Prelude.{◌==◌}
+use Rattle.std.specs.List.{filter, filter_map}
 use Rattle.str0m_formats.specs.Choices.{has_events}
-use Rattle.str0m_formats.specs.Codec.{Content, content, audio, video, events, other}
-use Rattle.str0m_formats.specs.FormatLine.{format_of_fmtp}
-use Rattle.str0m_formats.specs.FormatParams.{empty}
+use Rattle.str0m_formats.specs.Codec.{Content, audio, video}
 use Rattle.str0m_formats.specs.KindRows.{has_sound}
-use Rattle.str0m_formats.specs.Rows.{types_of, types, has_pictures, SameRow}
-use Rattle.str0m_formats.specs.Scores.{same_codec}
-use Rattle.str0m_formats.specs.TypeSets.{has, AllDistinct}
-use Rattle.str0m_formats.specs.declared.codec.Codec.{Codec}
+use Rattle.str0m_formats.specs.Rows.{has_pictures}
 use Rattle.str0m_formats.specs.declared.codec.Codec.TheVariants as codec
-use Rattle.str0m_formats.specs.declared.format_param.FormatParam.{FormatParam}
-use Rattle.str0m_formats.specs.declared.payload_params.PayloadParams.{PayloadParams}
 use Rattle.str0m_sdp.specs.Companions.{rtx_type, red_type}
 use Rattle.str0m_sdp.specs.Mappings.{mapped, is_mapped_to}
 use Rattle.str0m_sdp.specs.NamesOne.{primary_types}
 use Rattle.str0m_sdp.specs.SectionRows.{is_kept, row as row_at, row_with, rows as rows_of}
 use Rattle.str0m_sdp.specs.declared.media_line.MediaLine.{MediaLine}
-use Rattle.str0m_formats.specs.PlainRow.{IsPlain}
 use Rattle.str0m_sdp.proofs.Parts.{weaker, taken_apart, each_among}
 use Rattle.str0m_sdp.proofs.Apart.{Roles, roles, row_distinct, self, has_pt, has_rtx, has_red, has-append}
 use Rattle.str0m_sdp.proofs.FrameAnswers.{HasNoTypes, NameNoType}

@@ -1,28 +1,14 @@
 -- What the types of a section of plain, distinct rows are mapped to: each row's in order, and no type that needs no line.
-use Rattle.std.proofs.Common.{◌≡◌, ◌≢◌, ◌==◌, ◌&&◌, ◌||◌, ℕ, Bool, true, false, cond, not, List, [], ◌∷◌, ◌++◌}
-use Rattle.std.proofs.Common.{Option, Some, None, nat_eq, refl, sym, ap, ◌∙◌, arith}
-use Rattle.std.specs.List.{AllByRecursion, filter, filter_map, flat_map, list_any}
-use Rattle.std.proofs.lemmas.Bool.{eqb-true, or_left, or_right}
-use Rattle.std.proofs.lemmas.List.{append-nil}
-use Rattle.std.proofs.lemmas.List.Folds.{list_any-append}
-use Rattle.str0m_formats.specs.FormatLine.{format_of_fmtp}
-use Rattle.str0m_formats.specs.FormatParams.{empty}
-use Rattle.str0m_formats.specs.CodecSpec.{rtp_rate}
-use Rattle.str0m_formats.specs.Rows.{types_of, types}
-use Rattle.str0m_formats.specs.Scores.{same_codec}
-use Rattle.str0m_formats.specs.TypeSets.{has, AllDistinct}
-use Rattle.str0m_formats.specs.declared.codec.Codec.{Codec}
+use Rattle.str0m_sdp.proofs.Common.{◌≡◌, ◌≢◌, ◌==◌, ◌&&◌, ◌||◌, ℕ, Bool, true, false, cond, not, List, [], ◌∷◌, ◌++◌, Option, Some, None, nat_eq, refl, sym, ap, ◌∙◌, arith, AllByRecursion, flat_map, list_any, eqb-true, or_left, or_right, append-nil, list_any-append, format_of_fmtp, empty, rtp_rate, types_of, types, same_codec, has, AllDistinct, Codec, CodecSpec, FormatParam, PayloadParams, IsPlain}
+use Rattle.std.specs.List.{filter, filter_map}
 use Rattle.str0m_formats.specs.declared.codec.Codec.TheVariants as codec
-use Rattle.str0m_formats.specs.declared.codec_spec.CodecSpec.{CodecSpec}
-use Rattle.str0m_formats.specs.declared.format_param.FormatParam.{FormatParam}
-use Rattle.str0m_formats.specs.declared.payload_params.PayloadParams.{PayloadParams}
 use Rattle.str0m_sdp.specs.Consistency.{maps}
 use Rattle.str0m_sdp.specs.Lists.{distinct}
 use Rattle.str0m_sdp.specs.Mappings.{mapped, unmapped, is_of, is_mapped_to, static_row}
 use Rattle.str0m_sdp.specs.RtpMap.{sampling_rate, channels_of, unless_one}
 use Rattle.str0m_sdp.specs.declared.attribute.MediaAttribute.{MediaAttribute}
 use Rattle.str0m_sdp.specs.declared.media_line.MediaLine.{MediaLine}
-use Rattle.str0m_formats.specs.PlainRow.{IsPlain, IsPlainG722}
+use Rattle.str0m_formats.specs.PlainRow.{IsPlainG722}
 use Rattle.str0m_sdp.proofs.Parts.{both, weaker, each_among, none_passes, or_false, own_holds, AllFail, passes}
 use Rattle.str0m_sdp.proofs.Apart.{Apart, Roles, apart, self, pt_apart, rtx_apart}
 use Rattle.str0m_sdp.proofs.Apart.{red_apart, has-append, once_at_least}

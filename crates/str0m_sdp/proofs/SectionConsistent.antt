@@ -1,19 +1,8 @@
 -- A section of plain, distinct rows is consistent, and each of its RTX and RED lines names one primary type.
-use Rattle.std.proofs.Common.{◌≡◌, ◌≢◌, ◌≤◌, inl, ℕ, Bool, true, false, List, [], ◌∷◌, ◌++◌, Option, Some, None, IfSome, All}
-use Rattle.std.proofs.Common.{refl, sym, ap, ◌∙◌, subst, arith}
+use Rattle.str0m_sdp.proofs.Common.{◌≡◌, ◌≢◌, ◌≤◌, inl, ℕ, Bool, true, false, List, [], ◌∷◌, ◌++◌, Option, Some, None, IfSome, All, refl, sym, ap, ◌∙◌, subst, arith, AllByRecursion, flat_map, false≢true, All-from_recursion, content, other, types, same_codec, has, AllDistinct, Codec, FormatParam, Apt, BarePtList, PayloadParams, IsPlain}
 use Rattle.std.specs.Prelude.{count_by}
-use Rattle.std.specs.List.{AllByRecursion, flat_map}
-use Rattle.std.proofs.lemmas.Bool.{true≢false, false≢true}
-use Rattle.std.proofs.lemmas.List.Elements.{All-from_recursion}
-use Rattle.str0m_formats.specs.Codec.{content, other}
-use Rattle.str0m_formats.specs.Rows.{types}
-use Rattle.str0m_formats.specs.Scores.{same_codec}
-use Rattle.str0m_formats.specs.TypeSets.{has, AllDistinct}
-use Rattle.str0m_formats.specs.declared.codec.Codec.{Codec}
+use Rattle.std.proofs.lemmas.Bool.{true≢false}
 use Rattle.str0m_formats.specs.declared.codec.Codec.TheVariants as codec
-use Rattle.str0m_formats.specs.declared.format_param.FormatParam.{FormatParam}
-use Rattle.str0m_formats.specs.declared.format_param.FormatParam.TheVariants.{Apt, BarePtList}
-use Rattle.str0m_formats.specs.declared.payload_params.PayloadParams.{PayloadParams}
 use Rattle.str0m_sdp.specs.Consistency.{is_mid, is_setup, is_direction, maps, IsMapped, first_apt, NamesNoOther}
 use Rattle.str0m_sdp.specs.Consistency.{AgreesOnApt, Consistent}
 use Rattle.str0m_sdp.specs.Mappings.{mapped, is_mapped_to}
@@ -23,7 +12,6 @@ use Rattle.str0m_sdp.specs.declared.attribute.MediaAttribute.TheVariants.{Mid, S
 use Rattle.str0m_sdp.specs.declared.attribute.MediaAttribute.TheVariants.{Fmtp}
 use Rattle.str0m_sdp.specs.declared.media_line.MediaLine.{MediaLine}
 use Rattle.str0m_sdp.specs.declared.proto.Proto.TheVariants.{Srtp}
-use Rattle.str0m_formats.specs.PlainRow.{IsPlain}
 use Rattle.str0m_sdp.specs.NamesOne.{NamesOne, primary_types}
 use Rattle.str0m_sdp.proofs.Parts.{both, weaker, over_lines, each_among, taken_apart, count-append, none_counted}
 use Rattle.str0m_sdp.proofs.Apart.{once_at_least}

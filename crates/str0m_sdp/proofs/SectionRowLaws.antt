@@ -1,9 +1,6 @@
 -- The row of a type, as tables tell it.
-use Rattle.std.proofs.Common.{◌≡◌, ◌<◌, ◌++◌, ℕ, List, [], ◌∷◌, Option, Some, None, Result, Ok, Err, OnOk, is_ok, option_map, option_to_list, if◌then◌else◌, refl, sym, ap, ◌∙◌}
-use Rattle.str0m_formats.specs.FormatLine.{format_of_fmtp}
-use Rattle.str0m_formats.specs.declared.codec_spec.CodecSpec.{CodecSpec}
-use Rattle.str0m_formats.specs.declared.format_params.FormatParams.{FormatParams}
-use Rattle.str0m_formats.specs.declared.payload_params.PayloadParams.{PayloadParams}
+use Rattle.str0m_sdp.proofs.Common.{◌≡◌, ◌<◌, ◌++◌, ℕ, List, [], ◌∷◌, Option, Some, None, Result, Ok, Err, option_to_list, if◌then◌else◌, refl, sym, ap, ◌∙◌, format_of_fmtp, CodecSpec, FormatParams, PayloadParams}
+use Rattle.std.proofs.Common.{OnOk, is_ok, option_map}
 use Rattle.str0m_sdp.specs.SectionRows.{lines_of, row, row_with}
 use Rattle.str0m_sdp.specs.TypeWords.{row_of, SayOf}
 use Rattle.str0m_sdp.specs.declared.media_line.MediaLine.{MediaLine}

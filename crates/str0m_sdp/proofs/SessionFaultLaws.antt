@@ -1,9 +1,7 @@
 -- Laws of the first fault of a session: there is none where the session is consistent, and only there.
-use Rattle.std.proofs.Common.{◌≡◌, ℕ, Bool, true, false, inl, inr, List, [], ◌∷◌, Option, Some, None, MatchOption}
-use Rattle.std.proofs.Common.{All, arith, filter_map, length, refl, sym, ap, option_map}
-use Rattle.std.specs.Prelude.{◌↔◌}
-use Rattle.std.proofs.lemmas.Bool.{cases_eq, eq-eqb, ne_eqb}
-use Rattle.str0m_values.specs.Cuts.{◌<|>◌, when}
+use Rattle.str0m_sdp.proofs.Common.{◌≡◌, ℕ, Bool, true, false, inl, inr, List, [], ◌∷◌, Option, Some, None, All, arith, filter_map, length, refl, sym, ap, ◌↔◌, cases_eq, eq-eqb, ne_eqb, ◌<|>◌, when}
+use Rattle.std.proofs.Common.{MatchOption}
+use Rattle.std.proofs.Common.{option_map}
 use Rattle.str0m_sdp.specs.Consistency.{Consistent}
 use Rattle.str0m_sdp.specs.Fault.{fault_text, first_fault, section_message}
 use Rattle.str0m_sdp.specs.SessionConsistency.{AreDistinct, ConsistentSdp, IsGrouped, first_group, is_listed, parts, section_mids}

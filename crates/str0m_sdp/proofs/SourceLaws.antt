@@ -1,13 +1,10 @@
 -- Laws of sources and their places.
-use Rattle.std.proofs.Common.{◌≡◌, ◌<◌, ◌++◌, ℕ, zero, suc, Bool, true, false, cond, nat_eq, List, [], ◌∷◌, length, get_or, Option, None, Some, refl, sym, ap, ◌∙◌, arith, true≢false, eqb-true}
-use Rattle.std.specs.Prelude.{codes, option_map, slice_get, slice_set, unwrap_or, if◌then◌else◌}
-use Rattle.std.specs.BTreeMap.{BTreeMap, Updates, get}
-use Rattle.std.specs.Cmp.{nat_eq_equiv, unsigned_tied}
-use Rattle.std.specs.Map.{lookup, values_of}
-use Rattle.std.specs.Str.{str_eq_ignore_ascii_case}
-use Rattle.std.specs.Ordering.{nat_cmp}
+use Rattle.str0m_sdp.proofs.Common.{◌≡◌, ◌<◌, ◌++◌, ℕ, zero, suc, Bool, true, false, cond, nat_eq, List, [], ◌∷◌, length, get_or, Option, None, Some, refl, sym, ap, ◌∙◌, arith, true≢false, codes, option_map, slice_get, slice_set, get, nat_eq_equiv, lookup, values_of, str_eq_ignore_ascii_case, nat_cmp, insert_entry}
+use Rattle.std.proofs.Common.{eqb-true}
+use Rattle.std.specs.Prelude.{unwrap_or, if◌then◌else◌}
+use Rattle.std.specs.BTreeMap.{BTreeMap, Updates}
+use Rattle.std.specs.Cmp.{unsigned_tied}
 use Rattle.std.proofs.lemmas.Option.{get_or_from_slice_get}
-use Rattle.indexmap.specs.IndexMap.{insert_entry}
 use Rattle.str0m_sdp.specs.Sources.{entries_of, place_in}
 use Rattle.str0m_sdp.specs.SsrcInfo.{empty_info}
 use Rattle.str0m_sdp.specs.SsrcReading.{so_far, with_ids, with_value}

@@ -1,19 +1,13 @@
 -- What is gathered of sources, attribute by attribute, is what the attributes say.
-use Rattle.std.proofs.Common.{◌≡◌, ◌<◌, ◌+◌, ◌||◌, ◌&&◌, ℕ, suc, Bool, true, false, cond, nat_eq, List, [], ◌∷◌, ◌++◌, get_or, length, map, take, Option, None, Some, refl, sym, ap, subst, ◌∙◌, append_assoc, true≢false, eqb-true}
-use Rattle.std.specs.Prelude.{codes, slice_get}
-use Rattle.std.specs.Cmp.{nat_eq_equiv}
-use Rattle.std.specs.Cmp.Lexicographic.{bytes_decides}
-use Rattle.std.specs.List.{filter_map, cons_option, list_any, IsDistinct}
-use Rattle.std.specs.Map.{lookup, keys_of, values_of}
-use Rattle.std.specs.Option.{option_or, option_map, option_flatten, unwrap_or}
-use Rattle.std.specs.Str.{str_eq_ignore_ascii_case, str_to_ascii_lowercase}
-use Rattle.std.proofs.lemmas.List.{append-nil, take_more}
-use Rattle.std.proofs.lemmas.List.Elements.{filter_map-append}
+use Rattle.str0m_sdp.proofs.Common.{◌≡◌, ◌<◌, ◌+◌, ◌||◌, ◌&&◌, ℕ, suc, Bool, true, false, cond, nat_eq, List, [], ◌∷◌, ◌++◌, get_or, length, map, take, Option, None, Some, refl, sym, ap, subst, ◌∙◌, append_assoc, true≢false, codes, slice_get, nat_eq_equiv, bytes_decides, cons_option, list_any, IsDistinct, lookup, values_of, option_or, unwrap_or, str_eq_ignore_ascii_case, append-nil, take_more, filter_map-append, insert_entry, insert_key, insert_all, when}
+use Rattle.std.proofs.Common.{eqb-true}
+use Rattle.std.specs.List.{filter_map}
+use Rattle.std.specs.Map.{keys_of}
+use Rattle.std.specs.Option.{option_map, option_flatten}
+use Rattle.std.specs.Str.{str_to_ascii_lowercase}
 use Rattle.std.proofs.lemmas.List.Sums.{fold-append}
 use Rattle.std.proofs.lemmas.Map.Entries.{lookup_from_place}
-use Rattle.indexmap.specs.IndexMap.{insert_entry}
-use Rattle.indexmap.specs.IndexSet.{insert_key, insert_all}
-use Rattle.str0m_values.specs.Cuts.{◌>>=◌, when, cut, before}
+use Rattle.str0m_values.specs.Cuts.{◌>>=◌, cut, before}
 use Rattle.str0m_sdp.specs.Lists.{last, distinct}
 use Rattle.str0m_sdp.specs.SsrcInfo.{source_of, repair_pair, repair_source, value_of, repaired_by, cname_said, id_of, stream_said, track_said, latest, info, infos, empty_info}
 use Rattle.str0m_sdp.specs.SsrcReading.{track_after, with_ids, with_value, so_far, info_from, AreGathered}

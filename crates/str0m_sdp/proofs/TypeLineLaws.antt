@@ -1,13 +1,6 @@
 -- Laws of fmtp lines by their types.
-use Rattle.std.proofs.Common.{◌≡◌, ◌<◌, ◌+◌, ◌++◌, ℕ, true, false, inl, inr, List, [], ◌∷◌, All, length, take, get_or, refl, sym, ap, subst, ◌∙◌}
-use Rattle.std.specs.Prelude.{slice_set}
-use Rattle.std.specs.Borrow.{Bor}
-use Rattle.std.proofs.lemmas.Bool.{cases_eq, eq-eqb, ne_eqb}
+use Rattle.str0m_sdp.proofs.Common.{◌≡◌, ◌<◌, ◌+◌, ◌++◌, ℕ, true, false, inl, inr, List, [], ◌∷◌, All, length, take, get_or, refl, sym, ap, subst, ◌∙◌, slice_set, Bor, cases_eq, eq-eqb, ne_eqb, get_or-set_other, length-set, All-nil, All-push, All-same, line_values, FormatParam}
 use Rattle.std.proofs.lemmas.Grind.{get_or-set_at}
-use Rattle.std.proofs.lemmas.List.{get_or-set_other, length-set}
-use Rattle.std.proofs.lemmas.List.Elements.{All-nil, All-push, All-same}
-use Rattle.str0m_formats.specs.FormatLine.{line_values}
-use Rattle.str0m_formats.specs.declared.format_param.FormatParam.{FormatParam}
 use Rattle.str0m_sdp.specs.FmtpLines.{lines_with}
 use Rattle.str0m_sdp.specs.SectionRows.{lines_of}
 use Rattle.str0m_sdp.specs.TypeLines.{AreGrouped, AreKnown, IsGroup, IsKnown}

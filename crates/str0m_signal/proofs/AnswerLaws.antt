@@ -1,11 +1,7 @@
 -- The clauses of a reader.
-use Rattle.std.proofs.Common.{◌≡◌, ℕ, List, Option, Result, Ok, Err, sym, ap, subst, ◌∙◌}
-use Rattle.std.specs.Borrow.{Bor}
+use Rattle.str0m_signal.proofs.Common.{◌≡◌, ℕ, List, Option, Result, Ok, Err, sym, ap, subst, ◌∙◌, Bor, none-some, SdpError, Reads}
 use Rattle.std.specs.Prelude.{IsErrAnd}
-use Rattle.std.proofs.lemmas.Option.{none-some}
-use Rattle.str0m_sdp.specs.declared.error.SdpError.{SdpError}
 use Rattle.str0m_sdp.specs.declared.error.SdpError.TheVariants.{ParseError, Inconsistent, Memory}
-use Rattle.str0m_values.proofs.BothWays.{Reads}
 use Rattle.str0m_signal.specs.Answers.{Answers, AtMostOne, Gives, Refuses, IsRefusal, unread}
 use Rattle.str0m_signal.specs.Lines.{Line, joined, OneLine, OfText}
 use Rattle.str0m_signal.specs.LineReading.{lines_of, line_read, left}

@@ -1,33 +1,15 @@
 -- Attributes are printed as they were read.
-use Rattle.std.proofs.Common.{◌≡◌, ◌⊎◌, ◌≤◌, ℕ, List, [], ◌∷◌, ◌++◌, Option, Some, None, IfSome, refl, ap, ◌∙◌, subst}
-use Rattle.std.proofs.Common.{sym, lit<, lit≤, inl, inr}
-use Rattle.std.specs.Prelude.{Bool, codes, filter}
-use Rattle.str0m_formats.specs.Codec.{IsReadAs, printed_and_read}
-use Rattle.str0m_formats.specs.declared.codec.Codec.{Codec}
+use Rattle.str0m_signal.proofs.Common.{◌≡◌, ◌⊎◌, ◌≤◌, ℕ, List, [], ◌∷◌, ◌++◌, Option, Some, None, IfSome, refl, ap, ◌∙◌, subst, sym, lit<, lit≤, inl, inr, codes, IsReadAs, printed_and_read, Codec, media_attribute_text, is_shown, attribute_line, KeepsToLine, setup_text, MediaAttribute, RtpMap, Fmtp, Simulcast, RestrictionId, SimulcastLayer, candidate_text, IsCandidateText, Parted, IsLongestBeginning, decimal, join_by, Lacks, IsNum, lacks_from}
+use Rattle.std.specs.Prelude.{Bool, filter}
 use Rattle.str0m_formats.specs.declared.codec.Codec.TheVariants as codec
-use Rattle.str0m_sdp.specs.Attribute.{media_attribute_text}
-use Rattle.str0m_sdp.specs.Fmtp.{is_shown}
-use Rattle.str0m_sdp.specs.Lines.{attribute_line}
-use Rattle.str0m_sdp.specs.RowBounds.{KeepsToLine}
-use Rattle.str0m_sdp.specs.Setup.{setup_text}
 use Rattle.str0m_sdp.specs.Simulcast.{sides_text, unless_munged}
-use Rattle.str0m_sdp.specs.declared.attribute.MediaAttribute.{MediaAttribute}
-use Rattle.str0m_sdp.specs.declared.attribute.MediaAttribute.TheVariants.{Fingerprint, Setup, Mid, Candidate, RtpMap, Fmtp, Rid, Simulcast}
+use Rattle.str0m_sdp.specs.declared.attribute.MediaAttribute.TheVariants.{Fingerprint, Setup, Mid, Candidate, Rid}
 use Rattle.str0m_sdp.specs.declared.attribute.MediaAttribute.TheVariants.{SsrcGroup, Unused}
 use Rattle.str0m_sdp.specs.declared.rtp_map.RtpMap.{RtpMap as Mapping}
 use Rattle.str0m_sdp.specs.declared.simulcast.Simulcast.{Simulcast as TheSimulcast}
-use Rattle.str0m_sdp.specs.declared.simulcast.RestrictionId.{RestrictionId}
-use Rattle.str0m_sdp.specs.declared.simulcast.SimulcastLayer.{SimulcastLayer}
-use Rattle.str0m_values.specs.Candidate.{candidate_text, IsCandidateText}
 use Rattle.str0m_values.specs.declared.candidate.Candidate.{Candidate as TheCandidate}
-use Rattle.str0m_values.specs.Joined.{Parted}
-use Rattle.str0m_values.specs.ShortText.{IsLongestBeginning}
-use Rattle.std.specs.Fmt.{decimal}
-use Rattle.std.specs.List.{join_by}
 use Rattle.str0m_values.specs.Fingerprint.{fingerprint_text}
-use Rattle.str0m_values.specs.Parts.{Lacks, IsNum}
 use Rattle.str0m_values.specs.declared.fingerprint.Fingerprint.{Fingerprint as TheFingerprint}
-use Rattle.str0m_values.proofs.CutLaws.{lacks_from}
 use Rattle.str0m_signal.specs.FormTable.{Form, any, led_by, two, parted, a_text, number}
 use Rattle.str0m_signal.specs.Forms.{Behind, IsText, Two}
 use Rattle.str0m_signal.specs.MediaAttribute.{media_words, media_texts, name, mid, ssrc_group, rid, simulcast, plain_forms, IsMediaLine, MediaForm}

@@ -1,18 +1,7 @@
 -- The values without keys of an fmtp line are read exactly where they stand.
-use Rattle.std.proofs.Common.{◌≡◌, ◌≢◌, ◌≤◌, ℕ, List, [], ◌∷◌, Option, Some, None, refl, sym, ap, ◌∙◌, arith, inl, inr}
-use Rattle.std.specs.Prelude.{codes}
-use Rattle.std.proofs.lemmas.Bool.{eq-eqb, ne_eqb, cases_eq}
-use Rattle.std.specs.Str.Parse.{IsNumeral, digits_value}
+use Rattle.str0m_signal.proofs.Common.{◌≡◌, ◌≢◌, ◌≤◌, ℕ, List, [], ◌∷◌, Option, Some, None, refl, sym, ap, ◌∙◌, arith, inl, inr, codes, eq-eqb, ne_eqb, cases_eq, IsNumeral, digits_value, FormatParam, BareRange, BarePtList, ◌>>=◌, strip, num, FirstFit, Parted, Lacks, IsNum, Reads, bind_some, some_is, reads_first, cut_at, strip_found, number_lacks, digits_lack, num_found, num_reads}
 use Rattle.str0m_formats.specs.FormatParam.{IsEventRange}
-use Rattle.str0m_formats.specs.declared.format_param.FormatParam.{FormatParam}
-use Rattle.str0m_formats.specs.declared.format_param.FormatParam.TheVariants.{BareRange, BarePtList, Unknown}
-use Rattle.str0m_values.specs.Cuts.{◌>>=◌, strip, num}
-use Rattle.str0m_values.specs.Fits.{FirstFit}
-use Rattle.str0m_values.specs.Joined.{Parted}
-use Rattle.str0m_values.specs.Parts.{Lacks, IsNum}
-use Rattle.str0m_values.proofs.BothWays.{Reads, bind_some, some_is, reads_first}
-use Rattle.str0m_values.proofs.CutLaws.{cut_at, strip_found}
-use Rattle.str0m_values.proofs.NumLaws.{number_lacks, digits_lack, num_found, num_reads}
+use Rattle.str0m_formats.specs.declared.format_param.FormatParam.TheVariants.{Unknown}
 use Rattle.str0m_signal.specs.Forms.{Two}
 use Rattle.str0m_signal.specs.FormReading.{behind, two_read, parted_read}
 use Rattle.str0m_signal.specs.Fmtp.{IsListForm, IsRangeForm, IsAnything}

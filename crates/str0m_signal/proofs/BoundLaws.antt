@@ -1,22 +1,13 @@
 -- The numbers of what was read keep to their ranges.
-use Rattle.std.proofs.Common.{ℕ, Bool, true, false, List, [], ◌∷◌, get_or, Option, Result, Ok, Err, All, IfOk, inl, inr, subst, sym}
-use Rattle.std.specs.Bool.{MatchBool}
-use Rattle.std.specs.Borrow.{Bor}
-use Rattle.std.specs.List.{cons_option}
-use Rattle.std.proofs.lemmas.List.Elements.{All-nil, All-cons}
+use Rattle.str0m_signal.proofs.Common.{ℕ, Bool, true, false, List, [], ◌∷◌, get_or, Option, Result, Ok, Err, All, IfOk, inl, inr, subst, sym, MatchBool, Bor, cons_option, All-nil, All-cons, has_mark, FormatParam, KeepsToLine, HasBoundedRows, MediaAttribute, SdpError, MediaLine, Sdp, FirstFit}
 use Rattle.str0m_formats.proofs.ModeBounds.{modes_within}
 use Rattle.str0m_formats.specs.FormatParam.{Held, kind, made, Reads, IsParsed, AreParsed}
 use Rattle.str0m_formats.specs.declared.format_key.FormatKey.{FormatKey}
 use Rattle.str0m_formats.specs.declared.format_key.FormatKey.TheVariants as key
-use Rattle.str0m_formats.specs.Pairs.{AreJoined, merged, has_mark}
+use Rattle.str0m_formats.specs.Pairs.{AreJoined, merged}
 use Rattle.str0m_formats.specs.Triple.{Texts, IsTripleParam}
-use Rattle.str0m_formats.specs.declared.format_param.FormatParam.{FormatParam}
 use Rattle.str0m_sdp.proofs.RowBoundLaws.{rows_bounded}
-use Rattle.str0m_sdp.specs.RowBounds.{IsInRange, KeepsToLine, KeepsToLines, HasBoundedRows}
-use Rattle.str0m_sdp.specs.declared.attribute.MediaAttribute.{MediaAttribute}
-use Rattle.str0m_sdp.specs.declared.error.SdpError.{SdpError}
-use Rattle.str0m_sdp.specs.declared.media_line.MediaLine.{MediaLine}
-use Rattle.str0m_sdp.specs.declared.session.Sdp.{Sdp}
+use Rattle.str0m_sdp.specs.RowBounds.{IsInRange, KeepsToLines}
 use Rattle.str0m_signal.specs.Answers.{Answers, unread}
 use Rattle.str0m_signal.specs.Chains.{Chain}
 use Rattle.str0m_signal.specs.Fmtp.{IsPairsForm, IsListForm, IsRangeForm, IsAnything}
@@ -25,7 +16,6 @@ use Rattle.str0m_signal.specs.MediaAttribute.{media_forms, MediaForm, IsMediaLin
 use Rattle.str0m_signal.specs.Reading.{ConsistentSection, Reading}
 use Rattle.str0m_signal.specs.FormTable.{any}
 use Rattle.str0m_signal.proofs.AttributesAgain.{plain_again}
-use Rattle.str0m_values.specs.Fits.{FirstFit}
 
 -- ---- parameters
 

@@ -1,26 +1,19 @@
 -- A candidate is printed as it was read.
-use Rattle.std.proofs.Common.{◌≡◌, ◌≢◌, ◌≤◌, ◌<◌, ◌^◌, ℕ, zero, suc, List, [], ◌∷◌, ◌++◌, replicate, length, Option, Some}
-use Rattle.std.proofs.Common.{None, IfSome, refl, sym, subst, arith, lit<, lit≤, inl, inr}
-use Rattle.std.specs.Prelude.{codes}
-use Rattle.std.specs.Char.{digit_value}
-use Rattle.std.specs.Fmt.{decimal}
-use Rattle.std.specs.List.{AllByRecursion}
+use Rattle.str0m_signal.proofs.Common.{◌≡◌, ◌≢◌, ◌≤◌, ◌<◌, ◌^◌, ℕ, zero, suc, List, [], ◌∷◌, ◌++◌, length, Option, Some, None, IfSome, refl, sym, subst, arith, lit<, lit≤, inl, inr, codes, digit_value, decimal, AllByRecursion, IsCandidateText, candidate_text, Parted, Lacks, IsWord, Candidate, some_is, Lacks-append}
+use Rattle.std.proofs.Common.{replicate}
 use Rattle.std.specs.Str.Parse.{AllDigits}
 use Rattle.std.proofs.Math.Nat.{pow-le-pow_right}
 use Rattle.std.proofs.lemmas.Int.Digits.{digits_value-lt}
 use Rattle.str0m_values.specs.Address.{IsOctet, IsGroup, IsOneGroup, IsEnd, AreGroups, AreAnyGroups, IsIpText}
 use Rattle.str0m_values.specs.Address.{IsInRange, pairs, ip_text}
-use Rattle.str0m_values.specs.Candidate.{IsSocket, IsRelated, AreNames, IsCandidateText, IsSocketInRange, IsPrintable, socket_text}
-use Rattle.str0m_values.specs.Candidate.{related_text, extras_text, candidate_text}
+use Rattle.str0m_values.specs.Candidate.{IsSocket, IsRelated, AreNames, IsSocketInRange, IsPrintable, socket_text}
+use Rattle.str0m_values.specs.Candidate.{related_text, extras_text}
 use Rattle.str0m_values.specs.CandidateKind.{kind_text}
-use Rattle.str0m_values.specs.Joined.{Parted}
 use Rattle.str0m_values.specs.Labels.{IsSame, IsLabelled, optional_text}
-use Rattle.str0m_values.specs.Parts.{Lacks, IsWord}
 use Rattle.str0m_values.specs.Protocol.{protocol_text, tcp_type_text}
 use Rattle.str0m_values.specs.declared.address.IpAddr.{IpAddr}
 use Rattle.str0m_values.specs.declared.address.IpAddr.TheVariants.{V4, V6}
 use Rattle.str0m_values.specs.declared.address.SocketAddr.{SocketAddr}
-use Rattle.str0m_values.specs.declared.candidate.Candidate.{Candidate}
 use Rattle.str0m_values.specs.declared.candidate_kind.CandidateKind.{CandidateKind}
 use Rattle.str0m_values.specs.declared.candidate_kind.CandidateKind.TheVariants.{Host, PeerReflexive, ServerReflexive, Relayed}
 use Rattle.str0m_values.specs.declared.protocol.Protocol.{Protocol}
@@ -28,9 +21,7 @@ use Rattle.str0m_values.specs.declared.protocol.Protocol.TheVariants.{Udp, Tcp, 
 use Rattle.str0m_values.specs.declared.protocol.TcpType.{TcpType}
 use Rattle.str0m_values.specs.declared.protocol.TcpType.TheVariants.{Active, Passive, So}
 use Rattle.str0m_values.proofs.AddressText.{printed}
-use Rattle.str0m_values.proofs.BothWays.{some_is}
 use Rattle.str0m_values.proofs.CandidateText.{printed_candidate}
-use Rattle.str0m_values.proofs.CutLaws.{Lacks-append}
 use Rattle.str0m_signal.proofs.Formats.{behind_lacks}
 use Rattle.str0m_signal.proofs.PrintedAttributes.{HoldsNoEnd, both_lack, no_end, no_ends, decimal_lacks, decimal_no_end}
 use Rattle.str0m_values.specs.declared.candidate_label.TheConstants as candidate_label

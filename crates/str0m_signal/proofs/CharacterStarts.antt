@@ -1,11 +1,7 @@
 -- In a text of UTF-8 characters begin close to each other, so something is kept of each text that isn't empty.
-use Rattle.std.proofs.Common.{◌≡◌, ◌⊎◌, ◌≤◌, ◌<◌, ◌+◌, ◌-◌, ◌/◌, ◌%◌, ℕ, suc, Bool, true, false, cond, ltb, List, [], ◌∷◌, ◌++◌, length}
-use Rattle.std.proofs.Common.{refl, subst, arith, lit<, lit≤, inl, inr}
+use Rattle.str0m_signal.proofs.Common.{◌≡◌, ◌⊎◌, ◌≤◌, ◌<◌, ◌+◌, ◌-◌, ◌/◌, ◌%◌, ℕ, suc, Bool, true, false, cond, ltb, List, [], ◌∷◌, ◌++◌, length, refl, subst, arith, lit<, lit≤, inl, inr, IsCharBoundary, cases_lt, ltb-true, IsRest, IsLongestBeginning}
 use Rattle.std.specs.Char.{encode_utf8}
-use Rattle.std.specs.Str.{IsUtf8, IsCharBoundary, encode_utf8_all}
-use Rattle.std.proofs.lemmas.Bool.{cases_lt, ltb-true}
-use Rattle.str0m_values.specs.Parts.{IsRest}
-use Rattle.str0m_values.specs.ShortText.{IsLongestBeginning}
+use Rattle.std.specs.Str.{IsUtf8, encode_utf8_all}
 
 -- a byte inside a character
 abbrev IsInside : ℕ → Type 0

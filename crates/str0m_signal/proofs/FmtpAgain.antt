@@ -1,18 +1,6 @@
 -- An fmtp line is printed with the values that it was read as and that print something, and is read as these again.
-use Rattle.std.proofs.Common.{◌≡◌, ◌≢◌, ◌⊎◌, ◌≤◌, ℕ, List, [], ◌∷◌, map, filter, length, refl, sym, subst}
-use Rattle.std.proofs.Common.{arith, inl, inr}
-use Rattle.std.specs.List.{AllByRecursion, join_with_byte}
-use Rattle.std.proofs.lemmas.Bool.{cases_Bool, ltb-true}
-use Rattle.str0m_formats.specs.FormatParam.{param_text}
-use Rattle.str0m_formats.specs.PairsReading.{params_read}
-use Rattle.str0m_formats.specs.declared.format_param.FormatParam.{FormatParam}
-use Rattle.str0m_formats.specs.declared.format_param.FormatParam.TheVariants.{BarePtList, BareRange}
+use Rattle.str0m_signal.proofs.Common.{◌≡◌, ◌≢◌, ◌⊎◌, ◌≤◌, ℕ, List, [], ◌∷◌, map, filter, length, refl, sym, subst, arith, inl, inr, AllByRecursion, join_with_byte, cases_Bool, ltb-true, param_text, params_read, FormatParam, BarePtList, BareRange, IsPlainPair, joined_pair, media_attribute_text, is_shown, shown_line, Fmtp, IsRest}
 use Rattle.str0m_formats.proofs.PairsAgain.{IsPairsLine, pairs_again}
-use Rattle.str0m_formats.proofs.Shown.{IsPlainPair, joined_pair}
-use Rattle.str0m_sdp.specs.Attribute.{media_attribute_text}
-use Rattle.str0m_sdp.specs.Fmtp.{is_shown, shown_line}
-use Rattle.str0m_sdp.specs.declared.attribute.MediaAttribute.TheVariants.{Fmtp}
-use Rattle.str0m_values.specs.Parts.{IsRest}
 use Rattle.str0m_signal.specs.Fmtp.{IsFmtp}
 use Rattle.str0m_signal.specs.MediaAttribute.{IsMediaLine}
 use Rattle.str0m_signal.specs.Writable.{IsPrintedAs}

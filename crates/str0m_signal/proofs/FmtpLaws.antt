@@ -1,28 +1,14 @@
 -- The pairs of an fmtp line are read exactly where they stand.
-use Rattle.std.proofs.Common.{◌≡◌, ◌⊎◌, ℕ, zero, suc, ◌<◌, Bool, true, false, cond, List, [], ◌∷◌, ◌++◌, length, Option, Some, None, refl, sym, ap, subst, ◌∙◌, arith, inl, inr, append_assoc, length-append}
-use Rattle.std.specs.Prelude.{codes, option_map}
-use Rattle.std.proofs.lemmas.Bool.{ne_eqb, ltb-true, lt-ltb, cases_eq, both_ways}
-use Rattle.std.proofs.lemmas.List.{append-nil}
-use Rattle.std.proofs.lemmas.Option.{some_pair_parts}
-use Rattle.str0m_formats.specs.declared.format_param.FormatParam.{FormatParam}
-use Rattle.str0m_values.specs.Parts.{Lacks, IsRest}
+use Rattle.str0m_signal.proofs.Common.{◌≡◌, ◌⊎◌, ℕ, zero, suc, ◌<◌, Bool, true, false, cond, List, [], ◌∷◌, ◌++◌, length, Option, Some, None, refl, sym, ap, subst, ◌∙◌, arith, inl, inr, length-append, codes, ne_eqb, ltb-true, lt-ltb, cases_eq, both_ways, append-nil, some_pair_parts, FormatParam, Lacks, IsRest, Bor, pair_texts, pairs_read_is, params_read, FirstFit, lacks, ◌>>=◌, cut, strip, when, is_rest, num, before, cut_at, cut_found, strip_found, strip_at, when_some, lacks_true, lacks_from, Lacks-append, Reads, bind_some, some_is, if_some, reads_first, rest_true, number_lacks, num_found, num_reads, before_front}
+use Rattle.std.proofs.Common.{append_assoc}
+use Rattle.std.specs.Prelude.{option_map}
 use Rattle.str0m_signal.specs.Fmtp.{IsBlank, AreBlanks, IsKey, IsValue, IsEnd, StartsPlain, IsPair, ArePairs, IsPairsForm, IsListForm, IsRangeForm, IsAnything, IsFmtp}
-use Rattle.std.specs.Borrow.{Bor}
-use Rattle.str0m_formats.specs.FormatParam.{pair_texts}
 use Rattle.str0m_formats.specs.Pairs.{AreRead}
-use Rattle.str0m_formats.proofs.PairsLaws.{pairs_read_is, pairs_read_only}
-use Rattle.str0m_formats.specs.PairsReading.{params_read}
-use Rattle.str0m_values.specs.Fits.{FirstFit}
-use Rattle.str0m_values.specs.Cuts.{lacks}
-use Rattle.str0m_values.specs.Cuts.{◌>>=◌, cut, strip, when, is_rest, num, front, before}
+use Rattle.str0m_formats.proofs.PairsLaws.{pairs_read_only}
+use Rattle.str0m_values.specs.Cuts.{front}
 use Rattle.str0m_signal.specs.FmtpReading.{value_read, skip_blanks}
 use Rattle.str0m_signal.specs.FmtpReading.{next_read, key_read, pair_read, pairs_after, pairs_at, pairs_read, pairs_form_read, fmtp_values_read, fmtp_fields_read}
-use Rattle.str0m_values.proofs.CutLaws.{cut_at, cut_found, strip_found, strip_at}
-use Rattle.str0m_values.proofs.NumLaws.{when_some}
-use Rattle.str0m_values.proofs.CutLaws.{lacks_true, lacks_from, Lacks-append}
-use Rattle.str0m_values.proofs.BothWays.{Reads, bind_some, some_is, if_some, reads_first}
-use Rattle.str0m_values.proofs.NumLaws.{rest_true, number_lacks, num_found, num_reads}
-use Rattle.str0m_values.proofs.CutLaws.{before_lacks, before_front}
+use Rattle.str0m_values.proofs.CutLaws.{before_lacks}
 use Rattle.str0m_signal.proofs.BareLaws.{bare_both}
 use Rattle.str0m_signal.proofs.PairLaws.{value_given, EndsValue, IsBlank-skip}
 use Rattle.str0m_sdp.specs.declared.label.TheConstants as label

@@ -1,30 +1,12 @@
 -- Printed fmtp lines have their forms: pairs, `apt=N`, `N/N` and `0-N`.
-use Rattle.std.proofs.Common.{◌≡◌, ◌≤◌, ℕ, List, [], ◌∷◌, ◌++◌, map, filter, length, length-append, refl, sym, ap, ◌∙◌, subst}
-use Rattle.std.proofs.Common.{arith, lit<, lit≤, inl, inr}
-use Rattle.std.specs.Prelude.{codes}
-use Rattle.std.specs.List.{AllByRecursion, join_with_byte, join_by}
-use Rattle.std.specs.Fmt.{decimal}
-use Rattle.std.specs.Str.Parse.{IsNumeral, digits_value}
-use Rattle.std.proofs.lemmas.Bool.{lt-ltb}
-use Rattle.std.proofs.lemmas.Fmt.{decimal_is_IsNumeral, decimal_nonempty}
-use Rattle.std.proofs.lemmas.List.{append_assoc, append-nil}
-use Rattle.str0m_values.specs.Fits.{FirstFit}
-use Rattle.str0m_values.specs.Parts.{Lacks, IsRest, IsNum}
-use Rattle.str0m_formats.specs.FormatParam.{param_text}
+use Rattle.str0m_signal.proofs.Common.{◌≡◌, ◌≤◌, ℕ, List, [], ◌∷◌, ◌++◌, map, filter, length, length-append, refl, sym, ap, ◌∙◌, subst, arith, lit<, lit≤, inl, inr, codes, AllByRecursion, join_with_byte, join_by, decimal, IsNumeral, digits_value, lt-ltb, decimal_is_IsNumeral, decimal_nonempty, append_assoc, append-nil, FirstFit, Lacks, IsRest, IsNum, param_text, FormatParam, TelephoneEvents, BareRange, BarePtList, Apt, Red, pairs_read_is, IsPlainPair, joined_pair, media_attribute_text, is_shown, shown_line, attribute_line, Fmtp}
 use Rattle.str0m_formats.specs.Pairs.{has_mark}
 use Rattle.str0m_formats.specs.PairsReading.{params_read}
-use Rattle.str0m_formats.specs.declared.format_param.FormatParam.{FormatParam}
-use Rattle.str0m_formats.specs.declared.format_param.FormatParam.TheVariants.{TelephoneEvents, BareRange, BarePtList, Apt, Red}
 use Rattle.str0m_formats.specs.ParamReading.{param_of}
-use Rattle.str0m_formats.proofs.PairsLaws.{pairs_read_is}
 use Rattle.str0m_formats.proofs.ParamLaws.{parsed}
 use Rattle.str0m_formats.proofs.RoundTrip.{parsed_printed}
 use Rattle.str0m_formats.proofs.Plain.{IsPlain, plain_lacks}
-use Rattle.str0m_formats.proofs.Shown.{IsPlainPair, joined_pair, decimal_plain}
-use Rattle.str0m_sdp.specs.Attribute.{media_attribute_text}
-use Rattle.str0m_sdp.specs.Fmtp.{is_shown, shown_line}
-use Rattle.str0m_sdp.specs.Lines.{attribute_line}
-use Rattle.str0m_sdp.specs.declared.attribute.MediaAttribute.TheVariants.{Fmtp}
+use Rattle.str0m_formats.proofs.Shown.{decimal_plain}
 use Rattle.str0m_signal.specs.Fmtp.{IsKey, IsValue, StartsPlain, ArePairs, IsPairsForm, IsListForm, IsRangeForm, IsAnything, IsFmtp}
 use Rattle.str0m_signal.specs.MediaAttribute.{IsMediaLine}
 use Rattle.str0m_signal.specs.Writable.{IsPrintedAs}

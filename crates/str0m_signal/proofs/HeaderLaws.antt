@@ -1,31 +1,22 @@
 -- The lines of a header are read exactly where their forms hold.
-use Rattle.std.proofs.Common.{◌≡◌, ◌&&◌, ℕ, ◌≤◌, Bool, false, leb, List, [], ◌∷◌, ◌++◌, length, Some, None, Result, refl, sym, ap, subst, ◌∙◌, arith, inl, inr}
-use Rattle.std.specs.Prelude.{codes}
-use Rattle.std.specs.Bool.{MatchBool}
+use Rattle.str0m_signal.proofs.Common.{◌≡◌, ◌&&◌, ℕ, ◌≤◌, Bool, false, List, [], ◌∷◌, ◌++◌, length, Some, None, Result, refl, sym, ap, subst, ◌∙◌, arith, inl, inr, codes, MatchBool, bytes_eq, IsCharBoundary, digits_value, ltb-true, and_parts, and_from, both_ways, bytes_eq-Decides, some_pair_parts, Lacks, ◌>>=◌, cut, strip, when, is_rest, cut_at, cut_found, strip_found, when_some, when_true, parsed_whole, Reads, bind_some, some_is, AllByRecursion, drop, digits_lack, rest_true}
+use Rattle.std.proofs.Common.{leb}
 use Rattle.std.specs.Result.{result_ok}
-use Rattle.std.specs.Str.{bytes_eq, IsCharBoundary}
 use Rattle.std.specs.Str.Pattern.{FindsCharPrefix}
-use Rattle.std.specs.Str.Parse.{digits_value, without_leading_plus, ParsesUnsigned}
-use Rattle.std.proofs.lemmas.Bool.{ltb-true, le-leb, leb-true, and_parts, and_from, both_ways}
-use Rattle.std.proofs.lemmas.Slice.Eq.{bytes_eq-Decides}
-use Rattle.std.proofs.lemmas.Option.{some_pair_parts}
+use Rattle.std.specs.Str.Parse.{without_leading_plus, ParsesUnsigned}
+use Rattle.std.proofs.lemmas.Bool.{le-leb, leb-true}
 use Rattle.std.proofs.lemmas.Str.Parse.{without_leading_plus_none}
 use Rattle.std.proofs.lemmas.Str.Pattern.{starts_char}
-use Rattle.str0m_values.specs.Parts.{Lacks}
 use Rattle.str0m_signal.specs.Lines.{Line, OneLine}
 use Rattle.str0m_signal.specs.Header.{IsExactly, IsDigits, IsOrigin, IsOneField, IsInfo, IsOpening}
 use Rattle.str0m_signal.specs.Section.{IsField}
-use Rattle.str0m_values.specs.Cuts.{◌>>=◌, cut, strip, when, is_rest, is_numeral}
+use Rattle.str0m_values.specs.Cuts.{is_numeral}
 use Rattle.str0m_signal.specs.LineReading.{line_read}
 use Rattle.str0m_signal.specs.SectionReading.{field_read}
 use Rattle.str0m_signal.specs.HeaderReading.{exact_read, digits_read, origin_read, one_field_read, info_read, opening_read}
-use Rattle.str0m_values.proofs.CutLaws.{cut_at, cut_found, strip_found}
-use Rattle.str0m_values.proofs.NumLaws.{when_some, when_true, numeral_true, numeral_from, parsed_whole}
-use Rattle.str0m_values.proofs.BothWays.{Reads, bind_some, some_is, reads_either}
-use Rattle.std.specs.List.{AllByRecursion}
+use Rattle.str0m_values.proofs.NumLaws.{numeral_true, numeral_from}
+use Rattle.str0m_values.proofs.BothWays.{reads_either}
 use Rattle.std.proofs.Math.Seq.{drop-append_seam}
-use Rattle.std.proofs.Common.{drop}
-use Rattle.str0m_values.proofs.NumLaws.{digits_lack, rest_true}
 use Rattle.str0m_signal.proofs.LineLaws.{line_found, line_given}
 use Rattle.str0m_signal.proofs.SectionLaws.{field_both}
 

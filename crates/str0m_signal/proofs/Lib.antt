@@ -6,6 +6,7 @@ pub mod CandidateAgain
 pub mod CandidateLineLaws
 pub mod ChainLaws
 pub mod CharacterStarts
+pub mod Common
 pub mod FmtpAgain
 pub mod FmtpLaws
 pub mod FormLaws

@@ -1,10 +1,5 @@
 -- Where the first line ends.
-use Rattle.std.proofs.Common.{◌≡◌, ◌≢◌, ℕ, suc, true, false, not, eqb, List, [], ◌∷◌, ◌++◌, length, Some, None, refl, sym, ap, ◌∙◌, arith, inl, inr}
-use Rattle.std.proofs.lemmas.Bool.{eqb-true, ne_eqb, cases_eq, and_left, and_right}
-use Rattle.std.proofs.lemmas.List.{append-nil}
-use Rattle.str0m_values.specs.Parts.{Lacks, IsRest}
-use Rattle.str0m_values.specs.Cuts.{lacks, ◌>>=◌}
-use Rattle.str0m_values.proofs.CutLaws.{lacks_true}
+use Rattle.str0m_signal.proofs.Common.{◌≡◌, ◌≢◌, ℕ, suc, true, false, not, eqb, List, [], ◌∷◌, ◌++◌, length, Some, None, refl, sym, ap, ◌∙◌, arith, inl, inr, eqb-true, ne_eqb, cases_eq, and_left, and_right, append-nil, Lacks, IsRest, lacks, ◌>>=◌, lacks_true}
 use Rattle.str0m_signal.specs.Lines.{Line, EndsIn, IsLine}
 use Rattle.str0m_signal.specs.LineReading.{is_crlf, longer, lines_of, plain_line, behind_end, IsAtEnd}
 use Rattle.str0m_signal.proofs.LineLaws.{at_other, line_here}

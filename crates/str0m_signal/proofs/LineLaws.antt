@@ -1,22 +1,12 @@
 -- `lines_of` gives the lines of a text, and no others are.
-use Rattle.std.proofs.Common.{◌≡◌, ◌≢◌, ◌⊎◌, ℕ, ◌<◌, ◌+◌, true, false, cond, eqb, List, [], ◌∷◌, ◌++◌, length, Option, Some, None, refl, sym, ap, ◌∙◌, arith, inl, inr}
-use Rattle.std.proofs.lemmas.Bool.{eqb-true, ne_eqb, cases_eq, cases_Bool, both_ways, and_parts, and_left, and_right}
-use Rattle.std.proofs.Common.{take, ◌-◌}
+use Rattle.str0m_signal.proofs.Common.{◌≡◌, ◌≢◌, ◌⊎◌, ℕ, ◌<◌, ◌+◌, true, false, cond, eqb, List, [], ◌∷◌, ◌++◌, length, Option, Some, None, refl, sym, ap, ◌∙◌, arith, inl, inr, eqb-true, ne_eqb, cases_eq, cases_Bool, both_ways, and_parts, and_left, and_right, take, ◌-◌, Bor, some_pair_parts, lacks_true, lacks_from, codes, strip, ◌>>=◌, strip_found, Reads, bind_some, if_some, lacks}
 use Rattle.std.specs.Prelude.{MatchOption, unwrap_or}
-use Rattle.std.specs.Borrow.{Bor}
 use Rattle.std.specs.Str.Pattern.{FindsCharSuffix}
-use Rattle.std.proofs.lemmas.Option.{some_pair_parts}
 use Rattle.std.proofs.lemmas.Str.Pattern.{strip_suffix_char}
-use Rattle.str0m_values.proofs.CutLaws.{lacks_true, lacks_from}
-use Rattle.std.specs.Prelude.{codes}
-use Rattle.str0m_values.specs.Cuts.{strip, ◌>>=◌}
 use Rattle.str0m_signal.specs.Lines.{IsAttributeLine, OneLine}
 use Rattle.str0m_signal.specs.LineReading.{read_attribute, line_read}
-use Rattle.str0m_values.proofs.CutLaws.{strip_found}
-use Rattle.str0m_values.proofs.BothWays.{Reads, bind_some, if_some}
 use Rattle.str0m_signal.specs.Lines.{Line, joined, EndsIn, IsLine, AreLines, Lines}
 use Rattle.str0m_signal.specs.LineReading.{is_crlf, longer, behind_first, line_from, lines_of}
-use Rattle.str0m_values.specs.Cuts.{lacks}
 
 cons_parts : (x y : ℕ) (xs ys : List ℕ) → x ∷ xs ≡ y ∷ ys → (x ≡ y) × (xs ≡ ys)
 cons_parts x y xs ys e = (cc, cc)

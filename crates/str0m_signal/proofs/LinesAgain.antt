@@ -1,24 +1,7 @@
 -- The lines of what was read; m-lines and bandwidths are printed as they were.
-use Rattle.std.proofs.Common.{◌≡◌, ◌≢◌, ◌⊎◌, ℕ, List, [], ◌∷◌, ◌++◌, Option, Some, None}
-use Rattle.std.proofs.Common.{IfSome, refl, get_or, sym, subst, ap, ◌∙◌, arith, lit<, lit≤, inl, inr}
-use Rattle.std.specs.Prelude.{codes}
-use Rattle.std.specs.List.{AllByRecursion}
-use Rattle.std.proofs.lemmas.List.{append_assoc}
-use Rattle.str0m_values.specs.Fits.{FirstFit}
-use Rattle.str0m_values.specs.Joined.{Parted}
-use Rattle.str0m_values.specs.Parts.{Lacks, IsWord, IsNum}
+use Rattle.str0m_signal.proofs.Common.{◌≡◌, ◌≢◌, ◌⊎◌, ℕ, List, [], ◌∷◌, ◌++◌, Option, Some, None, IfSome, refl, get_or, sym, subst, ap, ◌∙◌, arith, lit<, lit≤, inl, inr, codes, AllByRecursion, append_assoc, FirstFit, Parted, Lacks, IsWord, IsNum, Lacks-append, bandwidth_text, line_end, pts_text, formats_text, media_type_text, Bandwidth, MediaLine, MediaType, Proto, Sctp}
 use Rattle.str0m_values.proofs.BothWays.{none_reads}
-use Rattle.str0m_values.proofs.CutLaws.{Lacks-append}
-use Rattle.str0m_sdp.specs.Bandwidth.{bandwidth_text}
-use Rattle.str0m_sdp.specs.Lines.{line_end}
-use Rattle.str0m_sdp.specs.MediaLine.{pts_text, formats_text}
-use Rattle.str0m_sdp.specs.MediaType.{media_type_text}
-use Rattle.str0m_sdp.specs.declared.bandwidth.Bandwidth.{Bandwidth}
-use Rattle.str0m_sdp.specs.declared.media_line.MediaLine.{MediaLine}
-use Rattle.str0m_sdp.specs.declared.media_type.MediaType.{MediaType}
 use Rattle.str0m_sdp.specs.declared.media_type.MediaType.TheVariants as typ
-use Rattle.str0m_sdp.specs.declared.proto.Proto.{Proto}
-use Rattle.str0m_sdp.specs.declared.proto.Proto.TheVariants.{Sctp}
 use Rattle.str0m_signal.specs.Chains.{Chain, Taken}
 use Rattle.str0m_signal.specs.Lines.{Line, joined, AreLines, OneLine}
 use Rattle.str0m_signal.specs.Section.{Head, IsKind, IsHead, IsBandwidth, NoTypes}

@@ -1,19 +1,9 @@
 -- Printed mappings and feedback have their forms.
-use Rattle.std.proofs.Common.{◌≡◌, ◌<◌, ◌≤◌, ℕ, true, List, ◌++◌, Option, Some, None, IfSome, refl, subst, arith, lit<, lit≤, inl, inr}
-use Rattle.std.specs.Prelude.{codes}
-use Rattle.std.specs.Fmt.{decimal}
-use Rattle.std.proofs.lemmas.Fmt.{decimal_nonempty}
-use Rattle.str0m_values.specs.Cuts.{lacks}
-use Rattle.str0m_values.specs.Parts.{Lacks, IsRest, IsPt}
-use Rattle.str0m_values.proofs.CutLaws.{lacks_from}
-use Rattle.str0m_formats.specs.Codec.{codec_text, codec_of, IsReadAs, printed_and_read}
-use Rattle.str0m_formats.specs.declared.codec.Codec.{Codec}
+use Rattle.str0m_signal.proofs.Common.{◌≡◌, ◌<◌, ◌≤◌, ℕ, true, List, ◌++◌, Option, Some, None, IfSome, refl, subst, arith, lit<, lit≤, inl, inr, codes, decimal, decimal_nonempty, lacks, Lacks, IsRest, IsPt, lacks_from, IsReadAs, printed_and_read, Codec, read_as, media_attribute_text, RtpMap, RtcpFb}
+use Rattle.str0m_formats.specs.Codec.{codec_text, codec_of}
 use Rattle.str0m_formats.specs.declared.codec.Codec.TheVariants as codec
-use Rattle.str0m_formats.proofs.CodecNames.{read_as}
-use Rattle.str0m_sdp.specs.Attribute.{media_attribute_text}
 use Rattle.str0m_sdp.specs.RtpMap.{channels_text, rtp_map_text}
 use Rattle.str0m_sdp.specs.declared.rtp_map.RtpMap.{RtpMap as Mapping}
-use Rattle.str0m_sdp.specs.declared.attribute.MediaAttribute.TheVariants.{RtpMap, RtcpFb}
 use Rattle.str0m_signal.specs.Forms.{Behind, IsText, Two}
 use Rattle.str0m_signal.specs.RtpMap.{IsChannels, IsRtpMap}
 use Rattle.str0m_signal.specs.MediaAttribute.{IsMediaLine}

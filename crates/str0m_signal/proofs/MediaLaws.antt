@@ -1,19 +1,11 @@
 -- A section's attribute is read exactly where its form holds.
-use Rattle.std.proofs.Common.{◌≡◌, ℕ, List, length, Some, refl, sym, ap, ◌∙◌}
-use Rattle.std.proofs.lemmas.Bool.{ltb-true}
+use Rattle.str0m_signal.proofs.Common.{◌≡◌, ℕ, List, length, Some, refl, sym, ap, ◌∙◌, ltb-true, setup_text, is_rest, beginning_of, beginning_is, beginning_only, Reads, reads_first, candidate_both, when_some, when_true, rest_true}
 use Rattle.str0m_sdp.specs.declared.attribute.MediaAttribute.TheVariants.{Fingerprint, Setup, Candidate, Unused}
 use Rattle.str0m_sdp.specs.declared.setup.Setup.{Setup as Role}
 use Rattle.str0m_sdp.specs.declared.setup.Setup.TheVariants.{ActPass}
 use Rattle.str0m_sdp.specs.declared.setup.TheConstants.{SETUPS}
 use Rattle.str0m_values.specs.Words.{case_of}
 use Rattle.str0m_values.proofs.WordsOfCases.{reads_words}
-use Rattle.str0m_sdp.specs.Setup.{setup_text}
-use Rattle.str0m_values.specs.Cuts.{is_rest}
-use Rattle.str0m_values.specs.ShortText.{beginning_of}
-use Rattle.str0m_values.proofs.Beginnings.{beginning_is, beginning_only}
-use Rattle.str0m_values.proofs.BothWays.{Reads, reads_first}
-use Rattle.str0m_values.proofs.CandidateLaws.{candidate_both}
-use Rattle.str0m_values.proofs.NumLaws.{when_some, when_true, rest_true}
 use Rattle.str0m_signal.specs.LineReading.{read_attribute}
 use Rattle.str0m_signal.specs.MediaAttribute.{media_words, media_texts, media_forms, name, letters, IsMediaLine, media_read}
 use Rattle.str0m_signal.specs.MediaAttributeReading.{role_read}

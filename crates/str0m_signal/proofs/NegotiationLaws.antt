@@ -1,16 +1,11 @@
 -- Rounds of sections, one after another.
-use Rattle.std.proofs.Common.{◌≡◌, ◌<◌, ◌+◌, ◌++◌, ℕ, Bool, true, false, cond, List, [], ◌∷◌, Option, Some, None, Result, Ok, Err, All, IfOk, IfSome, OnErr, length, take, get_or, map, filter_map, option_map, option_to_list, refl, sym, ap, subst, ◌∙◌}
+use Rattle.str0m_signal.proofs.Common.{◌≡◌, ◌<◌, ◌+◌, ◌++◌, ℕ, Bool, true, false, cond, List, [], ◌∷◌, Option, Some, None, Result, Ok, Err, All, IfOk, IfSome, length, take, get_or, map, filter_map, option_map, option_to_list, refl, sym, ap, subst, ◌∙◌, All-nil, All-cons, All-head, All-tail, PayloadParams, Round, is_media, HasBoundedRows, MediaLine}
+use Rattle.std.proofs.Common.{OnErr}
 use Rattle.std.proofs.lemmas.List.{map-append}
-use Rattle.std.proofs.lemmas.List.Elements.{All-nil, All-cons, All-head, All-tail}
 use Rattle.str0m_formats.specs.Bounds.{IsBounded}
-use Rattle.str0m_formats.specs.declared.payload_params.PayloadParams.{PayloadParams}
-use Rattle.str0m_formats.specs.declared.rounds.Round.{Round}
 use Rattle.str0m_sdp.proofs.FilterMapLaws.{all_mapped, map_more}
-use Rattle.str0m_sdp.specs.MediaType.{is_media}
-use Rattle.str0m_sdp.specs.RowBounds.{HasBoundedRows}
 use Rattle.str0m_sdp.specs.SectionDirection.{section_direction}
 use Rattle.str0m_sdp.specs.SectionRows.{rows}
-use Rattle.str0m_sdp.specs.declared.media_line.MediaLine.{MediaLine}
 use Rattle.str0m_signal.specs.Negotiation.{AreRoundsOf, brought, brought_by}
 use Rattle.str0m_values.specs.declared.direction.Direction.{Direction}
 

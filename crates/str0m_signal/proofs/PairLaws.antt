@@ -1,12 +1,8 @@
 -- The parts of an fmtp pair.
-use Rattle.std.proofs.Common.{◌≡◌, ◌⊎◌, ℕ, ◌<◌, ◌≤◌, zero, suc, Bool, true, false, not, ◌&&◌, ◌||◌, ◌==◌, if◌then◌else◌, List, [], ◌∷◌, ◌++◌, length, take, drop, None, Some, refl, sym, ap, ◌∙◌, arith, inl, inr}
-use Rattle.std.proofs.lemmas.Bool.{lt-ltb, cases_eq, ne_eqb, false≢true}
-use Rattle.std.proofs.lemmas.List.{append-nil, take-append-drop}
-use Rattle.std.specs.List.{AllByRecursion, list_any}
-use Rattle.str0m_values.specs.Parts.{Lacks, IsRest}
-use Rattle.str0m_values.specs.Cuts.{before, lacks, when, is_rest}
+use Rattle.str0m_signal.proofs.Common.{◌≡◌, ◌⊎◌, ℕ, ◌<◌, ◌≤◌, zero, suc, Bool, true, false, not, ◌&&◌, ◌||◌, ◌==◌, List, [], ◌∷◌, ◌++◌, length, take, drop, None, Some, refl, sym, ap, ◌∙◌, arith, inl, inr, lt-ltb, cases_eq, ne_eqb, false≢true, append-nil, AllByRecursion, list_any, Lacks, IsRest, before, lacks, when, is_rest, before_front, strip_at}
+use Rattle.std.proofs.Common.{if◌then◌else◌}
+use Rattle.std.proofs.lemmas.List.{take-append-drop}
 use Rattle.str0m_signal.specs.FmtpReading.{ends_value, NoneEnds, IsValueEnd, value_read, is_blank, skip_blanks, key_read}
-use Rattle.str0m_values.proofs.CutLaws.{before_front, strip_at}
 
 -- a text without spaces and tabs has neither
 blank_in : (text : List ℕ) → list_any is_blank text ≡ not (lacks 32 text && lacks 9 text)

@@ -1,13 +1,8 @@
 -- Parts with a character between them are read both ways, and one by one.
-use Rattle.std.proofs.Common.{◌≡◌, ◌⊎◌, ℕ, ◌<◌, true, false, eqb, List, [], ◌∷◌, ◌++◌, length, Option, Some, None, Result, Ok, IfOk, Bool, refl, sym, ap, subst, ◌∙◌, arith, inl, inr, append_assoc, length-append, Vec, Global}
-use Rattle.std.specs.Prelude.{option_map, is_some}
+use Rattle.str0m_signal.proofs.Common.{◌≡◌, ◌⊎◌, ℕ, ◌<◌, true, false, eqb, List, [], ◌∷◌, ◌++◌, length, Option, Some, None, Result, Ok, IfOk, Bool, refl, sym, ap, subst, ◌∙◌, arith, inl, inr, length-append, is_some, ne_eqb, eq-eqb, Lacks, ◌>>=◌, cut, Parted, Reads, bind_some, some_is, cut_found, cut_none_lacks}
+use Rattle.std.proofs.Common.{append_assoc, Vec, Global}
+use Rattle.std.specs.Prelude.{option_map}
 use Rattle.std.specs.List.{slice_split, onto_first}
-use Rattle.std.proofs.lemmas.Bool.{ne_eqb, eq-eqb}
-use Rattle.str0m_values.specs.Parts.{Lacks}
-use Rattle.str0m_values.specs.Cuts.{◌>>=◌, cut}
-use Rattle.str0m_values.specs.Joined.{Parted}
-use Rattle.str0m_values.proofs.BothWays.{Reads, bind_some, some_is}
-use Rattle.str0m_values.proofs.CutLaws.{cut_found, cut_none_lacks}
 use Rattle.str0m_signal.specs.FormReading.{all_read, parted_read}
 use Rattle.str0m_signal.specs.LineReading.{Takes}
 

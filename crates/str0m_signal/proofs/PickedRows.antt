@@ -1,11 +1,7 @@
 -- Some of the rows that may be printed may be printed, where there is one.
-use Rattle.std.proofs.Common.{◌≡◌, ◌≢◌, ◌≤◌, ℕ, Bool, true, false, cond, filter, List, [], ◌∷◌, sym, subst, ◌∙◌, arith}
-use Rattle.std.specs.List.{AllByRecursion}
-use Rattle.std.proofs.lemmas.List.Elements.{All-from_recursion, recursion_from_All}
-use Rattle.str0m_formats.specs.PlainRow.{IsPlain}
-use Rattle.str0m_formats.specs.Rows.{types, types_of}
+use Rattle.str0m_signal.proofs.Common.{◌≡◌, ◌≢◌, ◌≤◌, ℕ, Bool, true, false, cond, filter, List, [], ◌∷◌, sym, subst, ◌∙◌, arith, AllByRecursion, recursion_from_All, IsPlain, types, types_of, PayloadParams}
+use Rattle.std.proofs.lemmas.List.Elements.{All-from_recursion}
 use Rattle.str0m_formats.specs.TypeSets.{times}
-use Rattle.str0m_formats.specs.declared.payload_params.PayloadParams.{PayloadParams}
 use Rattle.str0m_formats.proofs.Times.{times-append}
 use Rattle.str0m_signal.specs.ReadBack.{MayBePrinted}
 

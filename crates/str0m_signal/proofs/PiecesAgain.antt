@@ -1,12 +1,5 @@
 -- Pieces of lines that are printed as they were read: each has its form again, and holds no character that it hadn't.
-use Rattle.std.proofs.Common.{◌≤◌, ◌<◌, ◌^◌, ℕ, List, [], ◌∷◌, ◌++◌, refl, sym, subst, arith, inl}
-use Rattle.std.specs.Char.{digit_value}
-use Rattle.std.specs.Fmt.{decimal}
-use Rattle.std.specs.List.{join_by}
-use Rattle.std.proofs.lemmas.List.{append-nil}
-use Rattle.str0m_values.specs.Joined.{Parted}
-use Rattle.str0m_values.specs.Parts.{Lacks, IsRest, IsNum}
-use Rattle.str0m_values.proofs.CutLaws.{Lacks-append}
+use Rattle.str0m_signal.proofs.Common.{◌≤◌, ◌<◌, ◌^◌, ℕ, List, [], ◌∷◌, ◌++◌, refl, sym, subst, arith, inl, digit_value, decimal, join_by, append-nil, Parted, Lacks, IsRest, IsNum, Lacks-append}
 use Rattle.str0m_signal.specs.Forms.{Behind, IsText, Two, Tailed}
 use Rattle.str0m_signal.proofs.Formats.{behind_lacks}
 use Rattle.str0m_signal.proofs.PrintedAttributes.{both_lack, num_is, decimal_lacks}

@@ -1,22 +1,13 @@
 -- The lines of plain rows, whose numbers keep to their types' ranges, read as values that say the rows' formats again.
-use Rattle.std.proofs.Common.{◌≡◌, ◌≢◌, ◌≤◌, inl, inr, ℕ, Bool, true, false, cond, List, [], ◌∷◌, ◌++◌, Option, Some, None}
-use Rattle.std.proofs.Common.{IfSome, refl, sym, ap, ◌∙◌, subst, arith}
+use Rattle.str0m_signal.proofs.Common.{◌≡◌, ◌≢◌, ◌≤◌, inl, inr, ℕ, Bool, true, false, cond, List, [], ◌∷◌, ◌++◌, Option, Some, None, IfSome, refl, sym, ap, ◌∙◌, subst, arith, AllByRecursion, lt-ltb, cases_lt, HoldsRowNumbers, telephone_max, IsPlain, types_of, types, Codec, PayloadParams, values_printed, reads, row_attrs}
 use Rattle.std.specs.Prelude.{nat_lt, find, option_to_list}
-use Rattle.std.specs.List.{AllByRecursion}
-use Rattle.std.proofs.lemmas.Bool.{lt-ltb, cases_lt}
-use Rattle.str0m_formats.specs.Bounds.{IsByte, HoldsRowNumbers}
+use Rattle.str0m_formats.specs.Bounds.{IsByte}
 use Rattle.str0m_formats.specs.Codec.{content, other}
 use Rattle.str0m_formats.specs.FormatParams.{fields}
-use Rattle.str0m_formats.specs.Narrowing.{telephone_max}
-use Rattle.str0m_formats.specs.PlainRow.{IsPlain}
-use Rattle.str0m_formats.specs.Rows.{AllSmall, types_of, types}
-use Rattle.str0m_formats.specs.declared.codec.Codec.{Codec}
+use Rattle.str0m_formats.specs.Rows.{AllSmall}
 use Rattle.str0m_formats.specs.declared.codec.Codec.TheVariants as codec
-use Rattle.str0m_formats.specs.declared.payload_params.PayloadParams.{PayloadParams}
 use Rattle.str0m_formats.proofs.PrintedLine.{all_pairs}
-use Rattle.str0m_sdp.proofs.ReadValues.{values_read, values_printed, printed_line}
-use Rattle.str0m_sdp.proofs.RowReads.{reads}
-use Rattle.str0m_sdp.specs.RowAttributes.{row_attrs}
+use Rattle.str0m_sdp.proofs.ReadValues.{values_read, printed_line}
 use Rattle.str0m_signal.proofs.RowLines.{ReadAs, IsRate, KeepsToRow, events_read, pairs_row_read}
 use Rattle.str0m_signal.proofs.SectionLines.{AreTypes}
 

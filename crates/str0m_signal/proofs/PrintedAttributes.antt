@@ -1,16 +1,6 @@
 -- Printed attribute lines and their parts.
-use Rattle.std.proofs.Common.{◌≡◌, ◌⊎◌, ◌≤◌, ◌<◌, ◌^◌, ℕ, true, List, [], ◌∷◌, ◌++◌, refl, sym, subst, arith, lit≤, inl, inr}
-use Rattle.std.specs.Prelude.{codes}
-use Rattle.std.specs.Char.{digit_value}
-use Rattle.std.specs.Fmt.{decimal}
-use Rattle.std.proofs.lemmas.Fmt.{decimal_is_IsNumeral}
-use Rattle.str0m_values.specs.Cuts.{lacks}
-use Rattle.str0m_values.specs.Parts.{Lacks, IsNum}
-use Rattle.str0m_values.proofs.CutLaws.{lacks_from}
-use Rattle.str0m_values.proofs.NumLaws.{digits_lack}
+use Rattle.str0m_signal.proofs.Common.{◌≡◌, ◌⊎◌, ◌≤◌, ◌<◌, ◌^◌, ℕ, true, List, [], ◌∷◌, ◌++◌, refl, sym, subst, arith, lit≤, inl, inr, codes, digit_value, decimal, decimal_is_IsNumeral, lacks, Lacks, IsNum, lacks_from, digits_lack, attribute_line, MediaAttribute}
 use Rattle.str0m_formats.proofs.RoundTrip.{decimal_reads}
-use Rattle.str0m_sdp.specs.Lines.{attribute_line}
-use Rattle.str0m_sdp.specs.declared.attribute.MediaAttribute.{MediaAttribute}
 use Rattle.str0m_signal.specs.Lines.{IsAttributeLine}
 use Rattle.str0m_signal.specs.FormTable.{any}
 use Rattle.str0m_signal.specs.MediaAttribute.{media_forms, MediaForm, IsMediaLine}

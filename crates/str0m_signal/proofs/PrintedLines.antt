@@ -1,10 +1,5 @@
 -- Printed texts are their lines, these are read one after another, and a run stops where another letter begins.
-use Rattle.std.proofs.Common.{◌≡◌, ◌≢◌, inl, inr, get_or, ℕ, List, [], ◌∷◌, ◌++◌, refl, sym, ap, ◌∙◌, subst}
-use Rattle.std.specs.Prelude.{codes}
-use Rattle.std.specs.List.{flat_map}
-use Rattle.std.proofs.lemmas.List.{append_assoc}
-use Rattle.str0m_values.specs.Parts.{Lacks}
-use Rattle.str0m_sdp.specs.Lines.{line_end}
+use Rattle.str0m_signal.proofs.Common.{◌≡◌, ◌≢◌, inl, inr, get_or, ℕ, List, [], ◌∷◌, ◌++◌, refl, sym, ap, ◌∙◌, subst, codes, flat_map, append_assoc, Lacks, line_end}
 use Rattle.str0m_signal.specs.Lines.{Line, joined, AreLines, Lines, OneLine, IsAttributeLine}
 use Rattle.str0m_signal.specs.Chains.{Chain, Stops}
 use Rattle.str0m_signal.specs.Section.{IsField, IsBandwidth}

@@ -1,15 +1,9 @@
 -- What is printed, read again line by line.
-use Rattle.std.proofs.Common.{◌≡◌, ◌<◌, ◌+◌, ◌++◌, ◌∷◌, [], ◌&&◌, eqb, arith, ℕ, suc, Bool, true, false, List, length, take, drop, get_or, Option, Some, None, IfSome, inl, inr, refl, sym, ap, subst, ◌∙◌, true≢false, take-append-drop, drop-cons}
-use Rattle.std.proofs.lemmas.Bool.{eqb-true}
+use Rattle.str0m_signal.proofs.Common.{◌≡◌, ◌<◌, ◌+◌, ◌++◌, ◌∷◌, [], ◌&&◌, eqb, arith, ℕ, suc, Bool, true, false, List, length, take, drop, get_or, Option, Some, None, IfSome, inl, inr, refl, sym, ap, subst, ◌∙◌, true≢false, eqb-true, none-some, same_Some, lacks, IsTheOnly, Lacks, lacks_true, lacks_from, line_end, Reads}
+use Rattle.std.proofs.Common.{take-append-drop, drop-cons}
 use Rattle.std.proofs.lemmas.Grind.{take_at_read}
 use Rattle.std.proofs.lemmas.List.{append_cancel_right}
-use Rattle.std.proofs.lemmas.Option.{IfSome_then, none-some, same_Some}
-use Rattle.str0m_values.specs.Cuts.{lacks}
-use Rattle.str0m_values.specs.Only.{IsTheOnly}
-use Rattle.str0m_values.specs.Parts.{Lacks}
-use Rattle.str0m_values.proofs.CutLaws.{lacks_true, lacks_from}
-use Rattle.str0m_sdp.specs.Lines.{line_end}
-use Rattle.str0m_values.proofs.BothWays.{Reads}
+use Rattle.std.proofs.lemmas.Option.{IfSome_then}
 use Rattle.str0m_signal.specs.LineReading.{read_attribute}
 use Rattle.str0m_signal.specs.Writable.{AreReadAs, IsPrintedAs, IsReadBy, PutsBack}
 

@@ -1,18 +1,5 @@
 -- A session that was read is writable where it may be printed again.
-use Rattle.std.proofs.Common.{◌≡◌, ℕ, zero, suc, not, List, [], ◌∷◌, filter, Some}
-use Rattle.std.proofs.Common.{IfSome, refl, subst, inl, inr}
-use Rattle.std.specs.Prelude.{codes}
-use Rattle.std.specs.List.{AllByRecursion, slice_get}
-use Rattle.std.proofs.lemmas.Bool.{cases_Bool}
-use Rattle.str0m_values.proofs.BothWays.{some_is}
-use Rattle.str0m_sdp.specs.Attribute.{session_attribute_text}
-use Rattle.str0m_sdp.specs.Consistency.{Consistent}
-use Rattle.str0m_sdp.specs.SectionOf.{is_of_type}
-use Rattle.str0m_sdp.specs.declared.attribute.MediaAttribute.{MediaAttribute}
-use Rattle.str0m_sdp.specs.declared.attribute.SessionAttribute.{SessionAttribute}
-use Rattle.str0m_sdp.specs.declared.media_line.MediaLine.{MediaLine}
-use Rattle.str0m_sdp.specs.declared.proto.Proto.TheVariants.{Srtp}
-use Rattle.str0m_sdp.specs.declared.session.Sdp.{Sdp}
+use Rattle.str0m_signal.proofs.Common.{◌≡◌, ℕ, zero, suc, not, List, [], ◌∷◌, filter, Some, IfSome, refl, subst, inl, inr, codes, AllByRecursion, slice_get, cases_Bool, some_is, session_attribute_text, Consistent, is_of_type, MediaAttribute, SessionAttribute, MediaLine, Srtp, Sdp}
 use Rattle.str0m_signal.specs.Chains.{Chain}
 use Rattle.str0m_signal.specs.Lines.{Line}
 use Rattle.str0m_signal.specs.MediaAttribute.{IsMediaLine}

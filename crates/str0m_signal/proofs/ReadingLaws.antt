@@ -1,20 +1,12 @@
 -- A text has at most one reading.
-use Rattle.std.proofs.Common.{◌≡◌, ℕ, ◌<◌, List, [], ◌∷◌, length, Option, Some, sym, ap, subst, ◌∙◌, arith}
-use Rattle.std.specs.Prelude.{codes}
-use Rattle.std.proofs.lemmas.Option.{some_pair_parts}
-use Rattle.str0m_sdp.specs.declared.bandwidth.Bandwidth.{Bandwidth}
-use Rattle.str0m_sdp.specs.declared.media_line.MediaLine.{MediaLine}
-use Rattle.str0m_sdp.specs.declared.attribute.MediaAttribute.{MediaAttribute}
+use Rattle.str0m_signal.proofs.Common.{◌≡◌, ℕ, ◌<◌, List, [], ◌∷◌, length, Option, Some, sym, ap, subst, ◌∙◌, arith, codes, some_pair_parts, Bandwidth, MediaLine, MediaAttribute, Consistent, Sdp, SessionAttribute}
 use Rattle.str0m_signal.specs.Lines.{Line, OneLine}
 use Rattle.str0m_signal.specs.Chains.{Chain, Stops, Run, Taken}
 use Rattle.str0m_signal.specs.Header.{Header, IsExactly, IsInfo, IsHeader}
 use Rattle.str0m_signal.specs.Section.{IsField, IsBandwidth, Head, IsHead, IsSection}
 use Rattle.str0m_signal.specs.MediaAttribute.{IsMediaLine}
-use Rattle.str0m_sdp.specs.Consistency.{Consistent}
 use Rattle.str0m_signal.specs.Reading.{ConsistentSection, Sections, IsSession, IsReading}
-use Rattle.str0m_sdp.specs.declared.session.Sdp.{Sdp}
 use Rattle.str0m_sdp.specs.declared.session.Session.{Session}
-use Rattle.str0m_sdp.specs.declared.attribute.SessionAttribute.{SessionAttribute}
 use Rattle.str0m_signal.specs.SessionAttribute.{IsSessionLine}
 use Rattle.str0m_signal.proofs.SessionLaws.{session_line_both}
 use Rattle.str0m_signal.specs.HeaderReading.{opening_read}

@@ -1,14 +1,5 @@
 -- A printed session with its sections has a reading with nothing left.
-use Rattle.std.proofs.Common.{◌≡◌, ◌≢◌, ◌<◌, ◌^◌, ℕ, List, [], ◌++◌, IfSome, refl, sym, ap, ◌∙◌, arith}
-use Rattle.std.specs.List.{flat_map}
-use Rattle.std.proofs.lemmas.List.{append-nil}
-use Rattle.str0m_sdp.specs.Attribute.{session_attribute_text}
-use Rattle.str0m_sdp.specs.Bandwidth.{bandwidth_text}
-use Rattle.str0m_sdp.specs.MediaLine.{media_line_text}
-use Rattle.str0m_sdp.specs.Session.{sdp_text}
-use Rattle.str0m_sdp.specs.declared.attribute.SessionAttribute.{SessionAttribute}
-use Rattle.str0m_sdp.specs.declared.media_line.MediaLine.{MediaLine}
-use Rattle.str0m_sdp.specs.declared.session.Sdp.{Sdp}
+use Rattle.str0m_signal.proofs.Common.{◌≡◌, ◌≢◌, ◌<◌, ◌^◌, ℕ, List, [], ◌++◌, IfSome, refl, sym, ap, ◌∙◌, arith, flat_map, append-nil, session_attribute_text, bandwidth_text, media_line_text, sdp_text, SessionAttribute, MediaLine, Sdp}
 use Rattle.str0m_signal.specs.Lines.{joined}
 use Rattle.str0m_signal.specs.Reading.{Reading}
 use Rattle.str0m_signal.specs.Section.{IsBandwidth}

@@ -1,18 +1,7 @@
 -- Rid and simulcast lines are printed as they were read.
-use Rattle.std.proofs.Common.{◌≡◌, ◌≢◌, ◌≤◌, get_or, ℕ, Bool, true, false, List, [], ◌∷◌, ◌++◌, refl, sym, subst, ap, ◌∙◌}
-use Rattle.std.proofs.Common.{arith, lit<, lit≤, inl, inr}
-use Rattle.std.specs.Prelude.{codes}
-use Rattle.std.specs.Char.{digit_value}
-use Rattle.std.specs.Fmt.{decimal}
-use Rattle.std.specs.List.{join_by}
-use Rattle.std.proofs.lemmas.List.{append_assoc, append-nil}
+use Rattle.str0m_signal.proofs.Common.{◌≡◌, ◌≢◌, ◌≤◌, get_or, ℕ, Bool, true, false, List, [], ◌∷◌, ◌++◌, refl, sym, subst, ap, ◌∙◌, arith, lit<, lit≤, inl, inr, codes, digit_value, decimal, join_by, append_assoc, append-nil, name_text, RestrictionId, SimulcastLayer, Parted, Lacks, IsRest, IsPt, Lacks-append}
 use Rattle.str0m_sdp.specs.Rid.{restriction_text, pts_part, restrictions_part}
-use Rattle.str0m_sdp.specs.Simulcast.{name_text, id_text, layer_text, layers_text}
-use Rattle.str0m_sdp.specs.declared.simulcast.RestrictionId.{RestrictionId}
-use Rattle.str0m_sdp.specs.declared.simulcast.SimulcastLayer.{SimulcastLayer}
-use Rattle.str0m_values.specs.Joined.{Parted}
-use Rattle.str0m_values.specs.Parts.{Lacks, IsRest, IsPt}
-use Rattle.str0m_values.proofs.CutLaws.{Lacks-append}
+use Rattle.str0m_sdp.specs.Simulcast.{id_text, layer_text, layers_text}
 use Rattle.str0m_signal.specs.Fmtp.{IsKey}
 use Rattle.str0m_signal.specs.Forms.{Two}
 use Rattle.str0m_signal.specs.Rid.{IsActive, IsRestriction, AreRestrictions, AreTyped, AreLists, IsMore, IsDirected}

@@ -1,15 +1,7 @@
 -- The line of a stream that may be restricted is read exactly where its form holds.
-use Rattle.std.proofs.Common.{◌≡◌, ◌≢◌, ℕ, zero, suc, ◌<◌, Bool, true, false, List, [], ◌∷◌, ◌++◌, length, Option, Some, None, refl, sym, ap, subst, ◌∙◌, arith, inl, inr, append_assoc, length-append}
-use Rattle.std.specs.Prelude.{codes, is_some}
-use Rattle.std.proofs.lemmas.Option.{some_pair_parts, none-some}
-use Rattle.std.proofs.lemmas.List.{append-nil}
-use Rattle.str0m_sdp.specs.declared.simulcast.RestrictionId.{RestrictionId}
-use Rattle.str0m_values.specs.Cuts.{◌>>=◌, cut, strip}
-use Rattle.str0m_values.specs.Joined.{Parted}
-use Rattle.str0m_values.specs.Parts.{Lacks, IsPt}
-use Rattle.str0m_values.proofs.BothWays.{Reads, bind_some, some_is, or_some}
-use Rattle.str0m_values.proofs.CutLaws.{cut_none, cut_at, cut_found, strip_at, strip_found, strip_none}
-use Rattle.str0m_values.proofs.NumLaws.{when_some, number_lacks, rest_true}
+use Rattle.str0m_signal.proofs.Common.{◌≡◌, ◌≢◌, ℕ, zero, suc, ◌<◌, Bool, true, false, List, [], ◌∷◌, ◌++◌, length, Option, Some, None, refl, sym, ap, subst, ◌∙◌, arith, inl, inr, length-append, codes, is_some, some_pair_parts, none-some, append-nil, RestrictionId, ◌>>=◌, cut, strip, Parted, Lacks, IsPt, Reads, bind_some, some_is, or_some, cut_none, cut_at, cut_found, strip_at, strip_found, when_some, number_lacks, rest_true}
+use Rattle.std.proofs.Common.{append_assoc}
+use Rattle.str0m_values.proofs.CutLaws.{strip_none}
 use Rattle.str0m_signal.specs.Fmtp.{AreBlanks, IsKey, IsValue}
 use Rattle.str0m_signal.specs.FmtpReading.{value_read, skip_blanks, key_read, pairs_after}
 use Rattle.str0m_signal.specs.Rid.{IsActive, IsRestriction, AreRestrictions, AreTyped, AreLists, IsMore, IsDirection, IsDirected, IsRid}

@@ -1,30 +1,15 @@
 -- The printed lines of a row have their forms, and read as the row's lines.
-use Rattle.std.proofs.Common.{◌≡◌, ◌≢◌, ◌<◌, ◌≤◌, ℕ, Bool, true, false, List, [], ◌∷◌, ◌++◌, map, filter_map, Option, Some, None}
-use Rattle.std.proofs.Common.{IfSome, option_map, refl, sym, ap, subst, arith, lit<, lit≤}
-use Rattle.std.specs.List.{AllByRecursion, cons_option, flat_map}
-use Rattle.str0m_values.specs.Parts.{IsRest}
-use Rattle.str0m_formats.specs.Codec.{printed_and_read}
+use Rattle.str0m_signal.proofs.Common.{◌≡◌, ◌≢◌, ◌<◌, ◌≤◌, ℕ, Bool, true, false, List, [], ◌∷◌, ◌++◌, map, filter_map, Option, Some, None, IfSome, option_map, refl, sym, ap, subst, arith, lit<, lit≤, AllByRecursion, cons_option, flat_map, IsRest, printed_and_read, param_text, telephone_max, params_read, Codec, FormatParam, TelephoneEvents, BareRange, BarePtList, Apt, Red, PayloadParams, IsPlainPair, joined_pair, media_attribute_text, row_attrs, MediaAttribute, RtpMap, RtcpFb, Fmtp, reads}
 use Rattle.str0m_formats.specs.CodecSpec.{rtp_rate}
-use Rattle.str0m_formats.specs.FormatParam.{param_text}
 use Rattle.str0m_formats.specs.FormatParams.{params_of}
-use Rattle.str0m_formats.specs.Narrowing.{telephone_max}
-use Rattle.str0m_formats.specs.PairsReading.{params_read}
-use Rattle.str0m_formats.specs.declared.codec.Codec.{Codec}
 use Rattle.str0m_formats.specs.declared.codec.Codec.TheVariants as codec
-use Rattle.str0m_formats.specs.declared.format_param.FormatParam.{FormatParam}
-use Rattle.str0m_formats.specs.declared.format_param.FormatParam.TheVariants.{TelephoneEvents, BareRange, BarePtList, Apt, Red}
 use Rattle.str0m_formats.specs.declared.format_params.FormatParams.{FormatParams}
-use Rattle.str0m_formats.specs.declared.payload_params.PayloadParams.{PayloadParams}
 use Rattle.str0m_formats.proofs.PrintedLine.{joined}
 use Rattle.str0m_formats.proofs.PrintedPairs.{IsLineOf, params_print}
-use Rattle.str0m_formats.proofs.Shown.{IsPlainPair, joined_pair}
-use Rattle.str0m_sdp.specs.Attribute.{media_attribute_text}
 use Rattle.str0m_sdp.specs.RowAttributes.{feedback_line, feedback_attrs, fmtp_line, format_values, format_attrs, rtx_lines}
-use Rattle.str0m_sdp.specs.RowAttributes.{rtx_attrs, red_lines, red_attrs, row_attrs}
+use Rattle.str0m_sdp.specs.RowAttributes.{rtx_attrs, red_lines, red_attrs}
 use Rattle.str0m_sdp.specs.RtpMap.{map_of_spec}
 use Rattle.str0m_sdp.specs.declared.feedback.TheConstants.{TRANSPORT_CC, REMB, FIR, NACK, PLI}
-use Rattle.str0m_sdp.specs.declared.attribute.MediaAttribute.{MediaAttribute}
-use Rattle.str0m_sdp.specs.declared.attribute.MediaAttribute.TheVariants.{RtpMap, RtcpFb, Fmtp}
 use Rattle.str0m_sdp.specs.declared.rtp_map.RtpMap.{RtpMap as Mapping}
 use Rattle.str0m_signal.specs.MediaAttribute.{IsMediaLine}
 use Rattle.str0m_signal.specs.Writable.{IsPrintedAs}
@@ -32,7 +17,7 @@ use Rattle.str0m_signal.proofs.PrintedAttributes.{AreReadAs, one_read, both_read
 use Rattle.str0m_signal.proofs.Mapped.{KeepsToMapping, mapping_printed, feedback_printed}
 use Rattle.str0m_signal.proofs.Formats.{AreShown, apt_printed, red_printed, events_printed, pairs_printed}
 use Rattle.str0m_sdp.proofs.ReadValues.{line_read}
-use Rattle.str0m_sdp.proofs.RowReads.{fmtp_lines, red_reads, reads}
+use Rattle.str0m_sdp.proofs.RowReads.{fmtp_lines, red_reads}
 
 -- the attributes print lines that read as these
 abbrev pub ReadAs : List MediaAttribute → List MediaAttribute → Type 0

@@ -1,18 +1,8 @@
 -- The last part of the headline: plain, distinct rows, printed in a writable session, are read back, in order.
-use Rattle.std.proofs.Common.{◌≡◌, ◌≢◌, ◌<◌, ◌^◌, ℕ, true, List, [], ◌∷◌, length, refl, sym, ◌∙◌, subst}
+use Rattle.str0m_signal.proofs.Common.{◌≡◌, ◌≢◌, ◌<◌, ◌^◌, ℕ, true, List, [], ◌∷◌, length, refl, sym, ◌∙◌, subst, recursion_from_All, same_Some, HoldsRowNumbers, IsPlain, types, AllDistinct, PayloadParams, is_media, MediaLine, Sdp, values_printed}
 use Rattle.std.specs.Prelude.{All}
-use Rattle.std.proofs.lemmas.List.Elements.{recursion_from_All}
-use Rattle.std.proofs.lemmas.Option.{same_Some}
-use Rattle.str0m_formats.specs.Bounds.{HoldsRowNumbers}
-use Rattle.str0m_formats.specs.PlainRow.{IsPlain}
-use Rattle.str0m_formats.specs.Rows.{types}
-use Rattle.str0m_formats.specs.TypeSets.{AllDistinct}
-use Rattle.str0m_formats.specs.declared.payload_params.PayloadParams.{PayloadParams}
-use Rattle.str0m_sdp.specs.MediaType.{is_media}
-use Rattle.str0m_sdp.specs.declared.media_line.MediaLine.{MediaLine}
-use Rattle.str0m_sdp.specs.declared.session.Sdp.{Sdp}
 use Rattle.str0m_sdp.proofs.ReadSection.{Describes}
-use Rattle.str0m_sdp.proofs.ReadValues.{values_printed, describes_read_back}
+use Rattle.str0m_sdp.proofs.ReadValues.{describes_read_back}
 use Rattle.str0m_signal.specs.ReadBack.{ReadBack, MayBePrinted, ReadsBack}
 use Rattle.str0m_signal.specs.Writable.{Writable}
 use Rattle.str0m_signal.specs.WrittenAgain.{IsOverSrtp, IsRead, MayBeWrittenAgain}

@@ -1,9 +1,7 @@
 -- What a search over the bytes of a text finds.
-use Rattle.std.proofs.Common.{◌≡◌, ℕ, List, ◌+◌, length, None, Some, arith}
+use Rattle.str0m_signal.proofs.Common.{◌≡◌, ℕ, List, ◌+◌, length, None, Some, arith, eqb-true, eq-eqb, cut}
 use Rattle.std.specs.Prelude.{slice_range, drop}
-use Rattle.std.proofs.lemmas.Bool.{eqb-true, eq-eqb}
 use Rattle.memchr.specs.Find.{NoneBefore, Nowhere, Passes, is_byte}
-use Rattle.str0m_values.specs.Cuts.{cut}
 use Rattle.str0m_values.specs.Near.{IsFirstAt, LacksAt}
 use Rattle.str0m_values.proofs.NearLaws.{cut_first, cut_nowhere}
 

@@ -1,25 +1,12 @@
 -- A section is printed as it was read: its lines are read as a section that is consistent where it was.
-use Rattle.std.proofs.Common.{◌≡◌, ◌⊎◌, ◌+◌, ◌==◌, map, ℕ, Bool, true, false, not, cond, List, [], ◌∷◌, filter, zero-add}
-use Rattle.std.proofs.Common.{length, Option, Some, None, IfSome, All, refl, sym, subst, ap, ◌∙◌, arith, inl, inr}
+use Rattle.str0m_signal.proofs.Common.{◌≡◌, ◌⊎◌, ◌+◌, ◌==◌, map, ℕ, Bool, true, false, not, cond, List, [], ◌∷◌, filter, zero-add, length, Option, Some, None, IfSome, All, refl, sym, subst, ap, ◌∙◌, arith, inl, inr, AllByRecursion, cases_Bool, lt-ltb, false≢true, All-nil, All-cons, All-head, All-tail, All-weaker, ◌<|>◌, param_text, FormatParam, Apt, media_attribute_text, Consistent, AgreesOnApt, is_shown, shown_line, is_of_type, MediaAttribute, Fmtp, Simulcast, RtpMap, RtcpFb, MediaLine, Srtp, Sctp}
 use Rattle.std.specs.Prelude.{count_by}
-use Rattle.std.specs.List.{AllByRecursion}
-use Rattle.std.proofs.lemmas.Bool.{cases_Bool, lt-ltb, false≢true, true≢false, not-true}
+use Rattle.std.proofs.lemmas.Bool.{true≢false, not-true}
 use Rattle.std.proofs.lemmas.List.Sums.{sum_by-cons}
-use Rattle.std.proofs.lemmas.List.Elements.{All-nil, All-cons, All-head, All-tail, All-weaker, All-filter, filter_passes}
-use Rattle.str0m_values.specs.Cuts.{◌<|>◌}
-use Rattle.str0m_formats.specs.FormatParam.{param_text}
-use Rattle.str0m_formats.specs.declared.format_param.FormatParam.{FormatParam}
-use Rattle.str0m_formats.specs.declared.format_param.FormatParam.TheVariants.{Apt}
+use Rattle.std.proofs.lemmas.List.Elements.{All-filter, filter_passes}
 use Rattle.str0m_sdp.specs.Alike.{Alike, as_read}
-use Rattle.str0m_sdp.specs.Attribute.{media_attribute_text}
-use Rattle.str0m_sdp.specs.Consistency.{Consistent, IsMapped, AgreesOnApt, NamesNoOther, apt_of, apt_among, apt_in, first_apt, maps}
+use Rattle.str0m_sdp.specs.Consistency.{IsMapped, NamesNoOther, apt_of, apt_among, apt_in, first_apt, maps}
 use Rattle.str0m_sdp.specs.Consistency.{is_mid, is_setup, is_direction}
-use Rattle.str0m_sdp.specs.Fmtp.{is_shown, shown_line}
-use Rattle.str0m_sdp.specs.SectionOf.{is_of_type}
-use Rattle.str0m_sdp.specs.declared.attribute.MediaAttribute.{MediaAttribute}
-use Rattle.str0m_sdp.specs.declared.attribute.MediaAttribute.TheVariants.{Fmtp, Simulcast, RtpMap, RtcpFb}
-use Rattle.str0m_sdp.specs.declared.media_line.MediaLine.{MediaLine}
-use Rattle.str0m_sdp.specs.declared.proto.Proto.TheVariants.{Srtp, Sctp}
 use Rattle.str0m_sdp.specs.declared.rtp_map.RtpMap.{RtpMap as Mapping}
 use Rattle.str0m_signal.specs.Writable.{MediaAreReadAs, IsFrame, frame_of}
 use Rattle.str0m_signal.proofs.AttributesAgain.{ComesBack, IsHidden, shown_only}

@@ -1,31 +1,15 @@
 -- The lines of a section are read exactly where their forms hold.
-use Rattle.std.proofs.Common.{◌≡◌, ℕ, Bool, true, false, cond, List, [], ◌∷◌, ◌++◌, length, Option, Some, None, refl, sym, ap, subst, ◌∙◌, arith, inl, inr}
-use Rattle.std.specs.Prelude.{codes, is_some}
-use Rattle.std.specs.Str.{bytes_eq}
-use Rattle.std.proofs.lemmas.Bool.{ltb-true, both_ways, false_from_ne_true}
-use Rattle.std.proofs.lemmas.List.{append-nil}
+use Rattle.str0m_signal.proofs.Common.{◌≡◌, ℕ, Bool, true, false, cond, List, [], ◌∷◌, ◌++◌, length, Option, Some, None, refl, sym, ap, subst, ◌∙◌, arith, inl, inr, codes, is_some, bytes_eq, ltb-true, both_ways, append-nil, Parted, bytes_eq-Decides, Bandwidth, AUDIO, VIDEO, SRTP, SCTP, MediaType, Proto, Srtp, Sctp, Lacks, IsRest, IsNum, FirstFit, ◌>>=◌, cut, strip, when, is_rest, cut_at, cut_found, strip_at, strip_found, when_some, Sound, Reads, bind_some, some_is, sound_or, reads_first, number_lacks, rest_true}
+use Rattle.std.proofs.lemmas.Bool.{false_from_ne_true}
 use Rattle.std.proofs.lemmas.Bool.Decides.{same_from_decides}
-use Rattle.str0m_values.specs.Joined.{Parted}
 use Rattle.str0m_signal.proofs.FormLaws.{num_both}
 use Rattle.str0m_signal.proofs.PartLaws.{parted_both}
-use Rattle.std.proofs.lemmas.Slice.Eq.{bytes_eq-Decides}
-use Rattle.str0m_sdp.specs.declared.bandwidth.Bandwidth.{Bandwidth}
-use Rattle.str0m_sdp.specs.declared.media_type.TheConstants.{AUDIO, VIDEO, APPLICATION}
-use Rattle.str0m_sdp.specs.declared.proto.TheConstants.{SRTP, SCTP, OLD_SCTP}
-use Rattle.str0m_sdp.specs.declared.media_type.MediaType.{MediaType}
+use Rattle.str0m_sdp.specs.declared.media_type.TheConstants.{APPLICATION}
+use Rattle.str0m_sdp.specs.declared.proto.TheConstants.{OLD_SCTP}
 use Rattle.str0m_sdp.specs.declared.media_type.MediaType.TheVariants.{Audio, Video, Application, Unknown}
-use Rattle.str0m_sdp.specs.declared.proto.Proto.{Proto}
-use Rattle.str0m_sdp.specs.declared.proto.Proto.TheVariants.{Srtp, Sctp}
-use Rattle.str0m_values.specs.Parts.{Lacks, IsRest, IsNum}
-use Rattle.str0m_values.specs.Fits.{FirstFit}
 use Rattle.str0m_signal.specs.Section.{IsField, IsBandwidth, Begins, IsKind, IsProto, NoTypes, Head, IsHead}
-use Rattle.str0m_values.specs.Cuts.{◌>>=◌, cut, strip, when, is_rest}
 use Rattle.str0m_signal.specs.SectionReading.{field_read, bandwidth_read, unknown_read, kind_read, proto_read, numbers_read, no_types_read, types_read, head_read}
-use Rattle.str0m_values.proofs.CutLaws.{cut_at, cut_found, strip_at, strip_found}
-use Rattle.str0m_values.proofs.NumLaws.{when_some}
-use Rattle.str0m_values.proofs.BothWays.{Sound, Reads, bind_some, some_is, sound_or, reads_first}
 use Rattle.str0m_values.proofs.WordLaws.{word_sound}
-use Rattle.str0m_values.proofs.NumLaws.{number_lacks, rest_true}
 
 pub field_both : (letter : List ℕ) → Reads (IsField letter) (field_read letter)
 field_both letter = record {

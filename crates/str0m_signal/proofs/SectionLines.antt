@@ -1,26 +1,8 @@
 -- Printed sections: their m-line, `c=` and `b=` lines, and the whole of them.
-use Rattle.std.proofs.Common.{◌≡◌, ◌≤◌, inl, inr, get_or, ℕ, Bool, true, false, List, [], ◌∷◌, ◌++◌, refl, sym, ap, ◌∙◌, subst}
-use Rattle.std.proofs.Common.{arith, lit<}
-use Rattle.std.specs.Prelude.{◌↔◌, IsTrue, codes}
-use Rattle.std.specs.List.{AllByRecursion, join_by}
-use Rattle.std.specs.Fmt.{decimal}
-use Rattle.std.proofs.lemmas.Bool.{false≢true}
-use Rattle.std.proofs.lemmas.List.{append_assoc, append-nil}
-use Rattle.str0m_values.specs.Fits.{FirstFit}
-use Rattle.str0m_values.specs.Joined.{Parted}
-use Rattle.str0m_values.specs.Parts.{IsWord, IsNum}
-use Rattle.str0m_values.proofs.CutLaws.{lacks_from}
-use Rattle.str0m_sdp.specs.Lines.{line_end}
-use Rattle.str0m_sdp.specs.MediaLine.{port_text, pts_text, formats_text, m_line}
-use Rattle.str0m_sdp.specs.MediaType.{media_type_text, is_media}
+use Rattle.str0m_signal.proofs.Common.{◌≡◌, ◌≤◌, inl, inr, get_or, ℕ, Bool, true, false, List, [], ◌∷◌, ◌++◌, refl, sym, ap, ◌∙◌, subst, arith, lit<, ◌↔◌, IsTrue, codes, AllByRecursion, join_by, decimal, false≢true, append_assoc, append-nil, FirstFit, Parted, IsWord, IsNum, lacks_from, line_end, pts_text, formats_text, m_line, media_type_text, is_media, MediaLine, AUDIO, VIDEO, SRTP, SCTP, MediaType, Proto, Srtp, Sctp}
+use Rattle.str0m_sdp.specs.MediaLine.{port_text}
 use Rattle.str0m_sdp.specs.Proto.{proto_text}
-use Rattle.str0m_sdp.specs.declared.media_line.MediaLine.{MediaLine}
-use Rattle.str0m_sdp.specs.declared.media_type.TheConstants.{AUDIO, VIDEO}
-use Rattle.str0m_sdp.specs.declared.proto.TheConstants.{SRTP, SCTP}
-use Rattle.str0m_sdp.specs.declared.media_type.MediaType.{MediaType}
 use Rattle.str0m_sdp.specs.declared.media_type.MediaType.TheVariants as typ
-use Rattle.str0m_sdp.specs.declared.proto.Proto.{Proto}
-use Rattle.str0m_sdp.specs.declared.proto.Proto.TheVariants.{Srtp, Sctp}
 use Rattle.str0m_signal.specs.Section.{IsKind, IsProto, IsHead, NoTypes}
 use Rattle.str0m_signal.specs.Writable.{IsPrintedAs}
 use Rattle.str0m_signal.proofs.PrintedAttributes.{HoldsNoEnd, no_ends, no_end, num_is, decimal_no_end}

@@ -1,16 +1,6 @@
 -- Printed sections are read as sections, one after another.
-use Rattle.std.proofs.Common.{◌≡◌, ◌≢◌, ℕ, List, [], ◌∷◌, ◌++◌, Option, Some, None, IfSome, refl, sym, ap, ◌∙◌, subst, arith, lit<}
-use Rattle.std.specs.Prelude.{codes}
-use Rattle.std.specs.List.{flat_map}
-use Rattle.std.proofs.lemmas.List.{append_assoc}
-use Rattle.str0m_values.proofs.CutLaws.{lacks_from}
-use Rattle.str0m_sdp.specs.Attribute.{media_attribute_text}
-use Rattle.str0m_sdp.specs.Bandwidth.{bandwidth_text, bandwidth_line}
-use Rattle.str0m_sdp.specs.Consistency.{Consistent}
-use Rattle.str0m_sdp.specs.Lines.{line_end}
-use Rattle.str0m_sdp.specs.MediaLine.{m_line, media_line_text}
-use Rattle.str0m_sdp.specs.declared.bandwidth.Bandwidth.{Bandwidth}
-use Rattle.str0m_sdp.specs.declared.media_line.MediaLine.{MediaLine}
+use Rattle.str0m_signal.proofs.Common.{◌≡◌, ◌≢◌, ℕ, List, [], ◌∷◌, ◌++◌, Option, Some, None, IfSome, refl, sym, ap, ◌∙◌, subst, arith, lit<, codes, flat_map, append_assoc, lacks_from, media_attribute_text, bandwidth_text, Consistent, line_end, m_line, media_line_text, Bandwidth, MediaLine}
+use Rattle.str0m_sdp.specs.Bandwidth.{bandwidth_line}
 use Rattle.str0m_signal.specs.Chains.{Chain, Stops, Taken}
 use Rattle.str0m_signal.specs.Lines.{Line, joined, OneLine}
 use Rattle.str0m_signal.specs.MediaAttribute.{MediaForm, IsMediaLine}

@@ -1,9 +1,6 @@
 -- The attributes of a session are printed as they were read.
-use Rattle.std.proofs.Common.{◌≡◌, ℕ, List, ◌++◌, refl, sym, subst, lit≤, inl, inr}
-use Rattle.str0m_sdp.specs.Attribute.{session_attribute_text}
-use Rattle.str0m_sdp.specs.Lines.{attribute_line}
-use Rattle.str0m_sdp.specs.declared.attribute.SessionAttribute.{SessionAttribute}
-use Rattle.str0m_sdp.specs.declared.attribute.SessionAttribute.TheVariants.{Group, Fingerprint, Setup, Candidate, Unused}
+use Rattle.str0m_signal.proofs.Common.{◌≡◌, ℕ, List, ◌++◌, refl, sym, subst, lit≤, inl, inr, session_attribute_text, attribute_line, SessionAttribute, Fingerprint, Setup, Unused}
+use Rattle.str0m_sdp.specs.declared.attribute.SessionAttribute.TheVariants.{Group, Candidate}
 use Rattle.str0m_signal.specs.FormTable.{Form, led_by}
 use Rattle.str0m_signal.specs.Forms.{Behind}
 use Rattle.str0m_signal.specs.SessionAttribute.{session_words, session_texts, group, session_forms, SessionForm, IsSessionLine}

@@ -1,19 +1,6 @@
 -- A printed header, with a bandwidth or without, and a printed session are read as what they say.
-use Rattle.std.proofs.Common.{◌≡◌, ◌≢◌, ◌<◌, ◌^◌, inl, inr, ℕ, List, [], ◌∷◌, ◌++◌, Option, IfSome, refl, sym, ap, ◌∙◌, subst}
-use Rattle.std.proofs.Common.{arith, lit<}
-use Rattle.std.specs.Prelude.{codes}
-use Rattle.std.specs.List.{flat_map}
-use Rattle.std.specs.Fmt.{decimal}
-use Rattle.std.proofs.lemmas.Fmt.{decimal_is_IsNumeral}
-use Rattle.std.proofs.lemmas.List.{append_assoc}
-use Rattle.str0m_values.specs.Parts.{Lacks}
-use Rattle.str0m_values.proofs.CutLaws.{lacks_from}
-use Rattle.str0m_sdp.specs.Attribute.{session_attribute_text}
-use Rattle.str0m_sdp.specs.Bandwidth.{bandwidth_text}
-use Rattle.str0m_sdp.specs.Lines.{line_end}
+use Rattle.str0m_signal.proofs.Common.{◌≡◌, ◌≢◌, ◌<◌, ◌^◌, inl, inr, ℕ, List, [], ◌∷◌, ◌++◌, Option, IfSome, refl, sym, ap, ◌∙◌, subst, arith, lit<, codes, flat_map, decimal, decimal_is_IsNumeral, append_assoc, Lacks, lacks_from, session_attribute_text, bandwidth_text, line_end, Bandwidth, SessionAttribute}
 use Rattle.str0m_sdp.specs.Session.{origin_line, session_text}
-use Rattle.str0m_sdp.specs.declared.bandwidth.Bandwidth.{Bandwidth}
-use Rattle.str0m_sdp.specs.declared.attribute.SessionAttribute.{SessionAttribute}
 use Rattle.str0m_sdp.specs.declared.session.Session.{Session as TheSession}
 use Rattle.str0m_signal.specs.Chains.{Stops}
 use Rattle.str0m_signal.specs.Header.{IsHeader, IsOrigin, IsInfo}

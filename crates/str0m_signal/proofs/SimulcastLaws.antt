@@ -1,19 +1,7 @@
 -- A simulcast line is read exactly where its form holds.
-use Rattle.std.proofs.Common.{◌≡◌, ◌≢◌, ℕ, Bool, true, false, List, [], ◌∷◌, ◌++◌, length, Option, Some, None, refl, sym, ap, subst, ◌∙◌, arith, inl, inr}
-use Rattle.std.specs.Prelude.{codes, is_some}
-use Rattle.std.specs.List.{list_all}
+use Rattle.str0m_signal.proofs.Common.{◌≡◌, ◌≢◌, ℕ, Bool, true, false, List, [], ◌∷◌, ◌++◌, length, Option, Some, None, refl, sym, ap, subst, ◌∙◌, arith, inl, inr, codes, is_some, list_all, ltb-true, ne_eqb, and_parts, and_from, RestrictionId, SimulcastLayer, name_text, ◌>>=◌, cut, strip, when, is_rest, lacks, Parted, Lacks, IsRest, Sound, Reads, bind_some, some_is, sound_or, cut_none, cut_at, cut_found, strip_found, lacks_true, lacks_from, when_some, when_true, rest_true}
 use Rattle.std.specs.Str.{chars}
-use Rattle.std.proofs.lemmas.Bool.{ltb-true, ne_eqb, and_parts, and_from}
-use Rattle.str0m_sdp.specs.declared.simulcast.RestrictionId.{RestrictionId}
-use Rattle.str0m_sdp.specs.declared.simulcast.SimulcastLayer.{SimulcastLayer}
 use Rattle.str0m_sdp.specs.declared.simulcast.Simulcast.{Simulcast}
-use Rattle.str0m_sdp.specs.Simulcast.{name_text}
-use Rattle.str0m_values.specs.Cuts.{◌>>=◌, cut, strip, when, is_rest, lacks}
-use Rattle.str0m_values.specs.Joined.{Parted}
-use Rattle.str0m_values.specs.Parts.{Lacks, IsRest}
-use Rattle.str0m_values.proofs.BothWays.{Sound, Reads, bind_some, some_is, sound_or}
-use Rattle.str0m_values.proofs.CutLaws.{cut_none, cut_at, cut_found, strip_found, lacks_true, lacks_from}
-use Rattle.str0m_values.proofs.NumLaws.{when_some, when_true, rest_true}
 use Rattle.str0m_signal.specs.Forms.{Behind, Two}
 use Rattle.str0m_signal.specs.FormReading.{behind, parted_read}
 use Rattle.str0m_signal.specs.StreamName.{is_name_character, IsStreamName, is_stream_name}

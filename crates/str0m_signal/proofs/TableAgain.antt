@@ -1,5 +1,5 @@
 -- The attributes of a table are printed as they were read: from a law of each form.
-use Rattle.std.proofs.Common.{◌≡◌, ℕ, List, [], ◌∷◌, ◌++◌, refl, sym, subst, lit≤, inl, inr}
+use Rattle.str0m_signal.proofs.Common.{◌≡◌, ℕ, List, [], ◌∷◌, ◌++◌, refl, sym, subst, lit≤, inl, inr}
 use Rattle.str0m_signal.specs.FormTable.{Piece, Form, word, words_of, words, made, labelled, texts_of, texts, any, a_text, led_by}
 use Rattle.str0m_signal.proofs.CharacterStarts.{StartsWithin}
 use Rattle.str0m_signal.proofs.PiecesAgain.{Again, text_again, behind_again}

@@ -1,19 +1,8 @@
 -- A writable session with rows in the place of a section: its text has a reading with nothing left, and that section is read as the
 -- frame with the lines of the rows.
-use Rattle.std.proofs.Common.{◌≡◌, ◌≢◌, ◌<◌, ◌^◌, inl, inr, ℕ, zero, suc, true, List, [], ◌∷◌, ◌++◌, Some, refl, arith}
+use Rattle.str0m_signal.proofs.Common.{◌≡◌, ◌≢◌, ◌<◌, ◌^◌, inl, inr, ℕ, zero, suc, true, List, [], ◌∷◌, ◌++◌, Some, refl, arith, AllByRecursion, flat_map, slice_get, types, FormatParam, PayloadParams, session_attribute_text, media_attribute_text, Consistent, is_media, row_attrs, is_of_type, sdp_text, MediaLine, Sdp, reads}
 use Rattle.std.specs.Prelude.{slice_set, not, filter}
-use Rattle.std.specs.List.{AllByRecursion, flat_map, slice_get}
-use Rattle.str0m_formats.specs.Rows.{types}
-use Rattle.str0m_formats.specs.declared.format_param.FormatParam.{FormatParam}
-use Rattle.str0m_formats.specs.declared.payload_params.PayloadParams.{PayloadParams}
-use Rattle.str0m_sdp.specs.Attribute.{session_attribute_text, media_attribute_text}
-use Rattle.str0m_sdp.specs.Consistency.{Consistent}
-use Rattle.str0m_sdp.specs.MediaType.{is_media}
-use Rattle.str0m_sdp.specs.RowAttributes.{row_attrs}
-use Rattle.str0m_sdp.specs.SectionOf.{is_of_type, made}
-use Rattle.str0m_sdp.specs.Session.{sdp_text}
-use Rattle.str0m_sdp.specs.declared.media_line.MediaLine.{MediaLine}
-use Rattle.str0m_sdp.specs.declared.session.Sdp.{Sdp}
+use Rattle.str0m_sdp.specs.SectionOf.{made}
 use Rattle.str0m_signal.specs.MediaAttribute.{IsMediaLine}
 use Rattle.str0m_signal.specs.SessionAttribute.{IsSessionLine}
 use Rattle.str0m_signal.specs.Reading.{Reading}
@@ -23,7 +12,6 @@ use Rattle.str0m_signal.specs.Writable.{Writable, frame_of}
 use Rattle.str0m_signal.proofs.PrintedAttributes.{AreReadAs}
 use Rattle.str0m_signal.proofs.Readings.{read_of, reading_printed}
 use Rattle.str0m_signal.proofs.RowLines.{ReadAs, joins, rows_read}
-use Rattle.str0m_sdp.proofs.RowReads.{reads}
 use Rattle.str0m_signal.proofs.SectionLines.{AreTypes, head_printed}
 use Rattle.str0m_signal.proofs.Sections.{SectionReadAs, AreSectionsRead}
 

@@ -1,19 +1,9 @@
 -- Words, names and bytes are printed as they were read.
-use Rattle.std.proofs.Common.{◌≡◌, ◌≤◌, ◌<◌, ◌/◌, ◌%◌, ◌^◌, ℕ, true, List, [], ◌∷◌, ◌++◌, refl, sym, subst, ap, ◌∙◌, arith}
-use Rattle.std.proofs.Common.{lit≤, inl, inr, zero-add}
-use Rattle.std.specs.Prelude.{codes}
-use Rattle.std.specs.Char.{digit_value}
+use Rattle.str0m_signal.proofs.Common.{◌≡◌, ◌≤◌, ◌<◌, ◌/◌, ◌%◌, ◌^◌, ℕ, true, List, [], ◌∷◌, ◌++◌, refl, sym, subst, ap, ◌∙◌, arith, lit≤, inl, inr, zero-add, codes, digit_value, AllByRecursion, flat_map, join_by, digits_value, append-nil, Parted, Lacks, IsRest, IsWord, IsLongestBeginning, Lacks-append}
 use Rattle.std.specs.Fmt.{digit_glyph}
-use Rattle.std.specs.List.{AllByRecursion, flat_map, join_by}
-use Rattle.std.specs.Str.Parse.{digits_value}
 use Rattle.std.proofs.lemmas.Fmt.{digits_is_IsNumeral, hex_one_digit}
-use Rattle.std.proofs.lemmas.List.{append-nil}
 use Rattle.std.proofs.lemmas.Str.{IsCharBoundary-end}
 use Rattle.str0m_values.specs.Fingerprint.{hex_pair, pairs_text}
-use Rattle.str0m_values.specs.Joined.{Parted}
-use Rattle.str0m_values.specs.Parts.{Lacks, IsRest, IsWord}
-use Rattle.str0m_values.specs.ShortText.{IsLongestBeginning}
-use Rattle.str0m_values.proofs.CutLaws.{Lacks-append}
 use Rattle.str0m_signal.specs.Forms.{IsText, Two}
 use Rattle.str0m_signal.proofs.CharacterStarts.{StartsWithin, front_starts, behind_starts, kept_some}
 use Rattle.str0m_signal.specs.Words.{IsWordText, IsName, IsHexPair, IsGroup, AreNames, IsMsidSemantic}

@@ -1,16 +1,6 @@
 -- Lists of words are read both ways.
-use Rattle.std.proofs.Common.{◌≡◌, ◌≢◌, ◌⊎◌, ◌<◌, ◌≤◌, ◌+◌, ◌*◌, ℕ, ltb, List, [], ◌∷◌, ◌++◌, Option, Some, None, refl, sym, ap, ◌∙◌, arith, inl, inr, append-nil}
-use Rattle.std.specs.Prelude.{codes}
-use Rattle.std.specs.Char.{digit_value}
-use Rattle.std.proofs.lemmas.Bool.{ltb-true, lt-ltb, eq-eqb, ne_eqb, cases_eq}
-use Rattle.str0m_values.specs.Cuts.{◌>>=◌, cut, strip, lacks, num}
-use Rattle.str0m_values.specs.Joined.{Parted}
-use Rattle.str0m_values.specs.Parts.{Lacks, IsRest, IsNum}
-use Rattle.str0m_values.specs.ShortText.{beginning_of}
-use Rattle.str0m_values.proofs.Beginnings.{beginning_is, beginning_only}
-use Rattle.str0m_values.proofs.BothWays.{Reads, bind_some, if_some, some_is}
-use Rattle.str0m_values.proofs.CutLaws.{cut_none, cut_none_lacks, cut_at, cut_found, strip_found, lacks_true, lacks_from}
-use Rattle.str0m_values.proofs.NumLaws.{when_some, number_lacks}
+use Rattle.str0m_signal.proofs.Common.{◌≡◌, ◌≢◌, ◌⊎◌, ◌<◌, ◌≤◌, ◌+◌, ℕ, ltb, List, [], ◌∷◌, ◌++◌, Option, Some, None, refl, sym, ap, ◌∙◌, arith, inl, inr, codes, digit_value, ltb-true, lt-ltb, eq-eqb, ne_eqb, cases_eq, ◌>>=◌, cut, strip, lacks, num, Parted, Lacks, IsRest, IsNum, beginning_of, beginning_is, beginning_only, Reads, bind_some, if_some, some_is, cut_none, cut_none_lacks, cut_at, cut_found, strip_found, lacks_true, lacks_from, when_some, number_lacks}
+use Rattle.std.proofs.Common.{◌*◌, append-nil}
 use Rattle.str0m_signal.specs.Lines.{EndsIn}
 use Rattle.str0m_signal.specs.Forms.{IsText, Two}
 use Rattle.str0m_signal.specs.FormReading.{text_read, two_read, parted_read}

@@ -1,23 +1,11 @@
 -- When a session is writable, by what its parts come back as.
 use native.Mathlib.Omega.{arith}
-use Rattle.std.proofs.Common.{◌≡◌, ◌≢◌, ◌<◌, ◌≤◌, ◌+◌, ℕ, Bool, true, false, not, List, [], length, get_or, Option, Some, None, is_some, IfSome, inl, inr, refl, sym, ap, subst, ◌∙◌, true≢false}
-use Rattle.std.specs.Prelude.{◌↔◌, IsTrue, All}
-use Rattle.std.specs.List.{list_any, slice_get}
-use Rattle.std.proofs.lemmas.Bool.{cases_Bool, cases_lt}
+use Rattle.str0m_signal.proofs.Common.{◌≡◌, ◌≢◌, ◌<◌, ◌≤◌, ◌+◌, ℕ, Bool, true, false, not, List, [], length, get_or, Option, Some, None, IfSome, inl, inr, refl, sym, ap, subst, ◌∙◌, true≢false, ◌↔◌, IsTrue, list_any, slice_get, cases_Bool, cases_lt, All-nil, All-weaker, none-some, same_Some, slice_get_read, IsTheOnly, session_attribute_text, bandwidth_text, AgreesOnApt, Consistent, is_of_type, MediaAttribute, SessionAttribute, Bandwidth, MediaLine, Sdp, Srtp}
+use Rattle.std.proofs.Common.{is_some}
+use Rattle.std.specs.Prelude.{All}
 use Rattle.std.proofs.lemmas.List.Folds.{list_any_at, list_any_none}
-use Rattle.std.proofs.lemmas.List.Elements.{All-nil, All-weaker}
-use Rattle.std.proofs.lemmas.Option.{none-some, same_Some, slice_get_read, slice_get_within}
-use Rattle.str0m_values.specs.Only.{IsTheOnly}
-use Rattle.str0m_sdp.specs.Attribute.{session_attribute_text}
-use Rattle.str0m_sdp.specs.Bandwidth.{bandwidth_text}
-use Rattle.str0m_sdp.specs.Consistency.{AgreesOnApt, Consistent, NoneIff}
-use Rattle.str0m_sdp.specs.SectionOf.{is_of_type}
-use Rattle.str0m_sdp.specs.declared.attribute.MediaAttribute.{MediaAttribute}
-use Rattle.str0m_sdp.specs.declared.attribute.SessionAttribute.{SessionAttribute}
-use Rattle.str0m_sdp.specs.declared.bandwidth.Bandwidth.{Bandwidth}
-use Rattle.str0m_sdp.specs.declared.media_line.MediaLine.{MediaLine}
-use Rattle.str0m_sdp.specs.declared.session.Sdp.{Sdp}
-use Rattle.str0m_sdp.specs.declared.proto.Proto.TheVariants.{Srtp}
+use Rattle.std.proofs.lemmas.Option.{slice_get_within}
+use Rattle.str0m_sdp.specs.Consistency.{NoneIff}
 use Rattle.str0m_sdp.proofs.TypeTableLaws.{agrees_other}
 use Rattle.str0m_signal.specs.Section.{Head, IsBandwidth}
 use Rattle.str0m_signal.specs.SessionAttribute.{IsSessionLine}

@@ -1,8 +1,8 @@
 -- A text is read as an address exactly where it stands for it.
-use Rattle.std.proofs.Common.{◌≡◌, ℕ, List, [], ◌∷◌, ◌++◌, length, Option, Some, None, refl, sym, ap, ◌∙◌, subst, arith, inl, inr, append-nil, lit≤, ne_eqb}
-use Rattle.std.specs.Prelude.{option_map}
+use Rattle.str0m_values.proofs.Common.{◌≡◌, ℕ, List, [], ◌∷◌, ◌++◌, length, Option, Some, None, refl, sym, ap, ◌∙◌, subst, arith, inl, inr, append-nil, lit≤, option_map, ipv6_segments}
+use Rattle.std.proofs.Common.{ne_eqb}
 use Rattle.std.specs.Net.Grammar as net
-use Rattle.std.specs.Net.Addr.{ipv4_octets, ipv6_segments}
+use Rattle.std.specs.Net.Addr.{ipv4_octets}
 use Rattle.std.specs.Net.Reader.{Read, whole_value, read_ipv4, read_ipv6}
 use Rattle.std.specs.declared.net.ip_addr.IpAddr.{IpAddr as NetIpAddr}
 use Rattle.std.specs.declared.net.ip_addr.IpAddr.TheVariants as NetIp

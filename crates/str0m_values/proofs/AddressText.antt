@@ -1,8 +1,7 @@
 -- What is printed of an address stands for it.
-use Rattle.std.proofs.Common.{◌≡◌, ℕ, zero, suc, ◌<◌, ◌≤◌, ◌+◌, ◌^◌, List, [], ◌∷◌, ◌++◌, length, get_or, refl, sym, ap, subst, arith, inl, inr, append-nil, append_assoc, take, drop, lit<}
-use Rattle.std.specs.List.{AllByRecursion}
+use Rattle.str0m_values.proofs.Common.{◌≡◌, ℕ, zero, suc, ◌<◌, ◌≤◌, ◌+◌, ◌^◌, List, [], ◌∷◌, ◌++◌, length, get_or, refl, sym, ap, subst, arith, inl, inr, append-nil, append_assoc, take, drop, lit<, AllByRecursion, cases_lt, eq-eqb, ne_eqb, le-leb}
 use Rattle.std.proofs.Math.Nat.{max-eq_left, max-eq_right}
-use Rattle.std.proofs.lemmas.Bool.{cases_lt, eq-eqb, ne_eqb, lt-leb, le-leb}
+use Rattle.std.proofs.lemmas.Bool.{lt-leb}
 use Rattle.std.specs.Net.Text as net
 use Rattle.std.specs.Net.Text.{hex, hex_groups_text}
 use Rattle.std.proofs.NetLemmas.Arrays.{four_items}

@@ -1,12 +1,10 @@
 -- The longest beginning of a text that fits: there is one, and only one.
-use Rattle.std.proofs.Common.{◌≡◌, ◌⊎◌, ℕ, zero, suc, ◌<◌, ◌≤◌, Bool, true, false, ◌||◌, ltb, leb, List, [], ◌++◌, length, take, drop, get_or, refl, sym, ap, subst, ◌∙◌, inl, inr, arith, take-append-drop, length-take-le}
-use Rattle.std.specs.Str.{IsCharBoundary}
+use Rattle.str0m_values.proofs.Common.{◌≡◌, ◌⊎◌, ℕ, zero, suc, ◌<◌, ◌≤◌, Bool, true, false, ◌||◌, leb, List, [], ◌++◌, length, take, drop, get_or, refl, sym, ap, subst, ◌∙◌, inl, inr, arith, take-append-drop, length-take-le, IsCharBoundary, ltb-true, lt-ltb, leb-true, le-leb, cases_Bool, cases_lt, both_ways, take-append_seam, ◌+◌, ◌∷◌, length-append}
+use Rattle.std.proofs.Common.{ltb}
 use Rattle.std.specs.Fmt.{is_char_start}
 use Rattle.std.specs.Fmt.Cut.{floor_char_boundary}
-use Rattle.std.proofs.lemmas.Bool.{ltb-true, lt-ltb, leb-true, leb-false, le-leb, cases_Bool, cases_lt, both_ways}
+use Rattle.std.proofs.lemmas.Bool.{leb-false}
 use Rattle.std.proofs.lemmas.List.{append-nil}
-use Rattle.std.proofs.Math.Seq.{take-append_seam}
-use Rattle.std.proofs.Common.{◌+◌, ◌∷◌, length-append}
 use Rattle.std.proofs.lemmas.Str.{IsCharBoundary-end}
 use Rattle.str0m_values.specs.ShortText.{IsLongestBeginning, beginning_of}
 

@@ -1,5 +1,5 @@
 -- A function that reads what a relation says, both ways.
-use Rattle.std.proofs.Common.{ap, ◌≡◌, ◌⊎◌, Bool, true, false, cond, Option, Some, None, refl, sym, ◌∙◌, inl, inr}
+use Rattle.str0m_values.proofs.Common.{ap, ◌≡◌, ◌⊎◌, Bool, true, false, cond, Option, Some, None, refl, sym, ◌∙◌, inl, inr}
 use Rattle.str0m_values.specs.Fits.{FirstFit}
 use Rattle.str0m_values.specs.Cuts.{◌>>=◌, ◌<|>◌}
 

@@ -1,6 +1,5 @@
 -- The words for protocols, TCP types and kinds of candidates, read both ways.
-use Rattle.std.proofs.Common.{◌≡◌, Some, refl}
-use Rattle.std.specs.Str.{str_to_ascii_lowercase}
+use Rattle.str0m_values.proofs.Common.{◌≡◌, Some, refl, str_to_ascii_lowercase}
 use Rattle.str0m_values.specs.declared.protocol.TheConstants.{PROTOCOLS, TCP_TYPES}
 use Rattle.str0m_values.specs.declared.protocol.Protocol.{Protocol}
 use Rattle.str0m_values.specs.declared.protocol.Protocol.TheVariants.{Udp, Tcp, SslTcp, Tls}

@@ -1,8 +1,6 @@
 -- Words behind labels are read both ways.
-use Rattle.std.proofs.Common.{◌≡◌, ◌⊎◌, ◌<◌, ℕ, zero, suc, List, [], ◌∷◌, ◌++◌, length, drop, false, Option, Some, None, refl, sym, ap, ◌∙◌, inl, inr, arith, append-nil, append_assoc}
+use Rattle.str0m_values.proofs.Common.{◌≡◌, ◌⊎◌, ◌<◌, ℕ, zero, suc, List, [], ◌∷◌, ◌++◌, length, drop, false, Option, Some, None, refl, sym, ap, ◌∙◌, inl, inr, arith, append-nil, append_assoc, AllByRecursion, ltb-true}
 use Rattle.std.specs.Prelude.{◌==◌}
-use Rattle.std.specs.List.{AllByRecursion}
-use Rattle.std.proofs.lemmas.Bool.{ltb-true}
 use Rattle.str0m_values.specs.Parts.{IsWord}
 use Rattle.str0m_values.specs.Cuts.{◌>>=◌, before, strip, when, is_rest}
 use Rattle.str0m_values.specs.Labels.{IsSame, IsLabelled, IsOptional}

@@ -9,6 +9,7 @@ pub mod CandidateParts
 pub mod CandidateText
 pub mod CandidateWords
 pub mod Cells
+pub mod Common
 pub mod CutLaws
 pub mod FingerprintLaws
 pub mod LabelLaws

@@ -1,5 +1,5 @@
 -- What a function reads is the only value of its relation.
-use Rattle.std.proofs.Common.{◌≡◌, Option, Some, None, sym, ◌∙◌}
+use Rattle.str0m_values.proofs.Common.{◌≡◌, Option, Some, None, sym, ◌∙◌}
 use Rattle.str0m_values.specs.Only.{IsTheOnly}
 use Rattle.str0m_values.proofs.BothWays.{Reads}
 

@@ -1,14 +1,11 @@
 -- The two hex digits that are printed for a byte, and bytes so printed with `:` between them.
-use Rattle.std.proofs.Common.{◌≡◌, ◌≢◌, ◌==◌, ◌<◌, ◌≤◌, ◌+◌, ◌*◌, ◌/◌, ◌%◌, ◌^◌, ℕ, true, false, List, [], ◌∷◌, ◌++◌, All, map, arith, lit<, lit≤, refl, sym, ap, ◌∙◌, append-nil, subst, zero-add}
-use Rattle.std.specs.Char.{digit_value}
+use Rattle.str0m_values.proofs.Common.{◌≡◌, ◌≢◌, ◌==◌, ◌<◌, ◌≤◌, ◌+◌, ◌*◌, ◌^◌, ℕ, true, false, List, [], ◌∷◌, ◌++◌, All, map, arith, lit<, lit≤, refl, sym, ap, ◌∙◌, append-nil, subst, digit_value, AllZip, flat_map, digits_value, without_leading_plus, ne_eqb, without_leading_plus_none}
+use Rattle.std.proofs.Common.{◌/◌, ◌%◌, zero-add}
 use Rattle.std.specs.Fmt.{digit_glyph}
-use Rattle.std.specs.List.{AllZip, flat_map, slice_split}
-use Rattle.std.specs.Str.Parse.{digits_value, without_leading_plus}
-use Rattle.std.proofs.lemmas.Bool.{ne_eqb}
+use Rattle.std.specs.List.{slice_split}
 use Rattle.std.proofs.lemmas.Fmt.{digits_is_IsNumeral, hex_one_digit}
 use Rattle.std.proofs.lemmas.List.Elements.{All-cons, All-nil, All-head, All-tail}
 use Rattle.std.proofs.lemmas.List.Splits.{slice_split_at, slice_split_none}
-use Rattle.std.proofs.lemmas.Str.Parse.{without_leading_plus_none}
 use Rattle.str0m_values.specs.Fingerprint.{hex_pair, pairs_text, pieces_of, IsByte}
 
 -- a printed digit is worth what it was printed for

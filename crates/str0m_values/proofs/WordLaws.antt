@@ -1,7 +1,5 @@
 -- A value that a whole text stands for.
-use Rattle.std.proofs.Common.{ℕ, List}
-use Rattle.std.specs.Str.{bytes_eq}
-use Rattle.std.proofs.lemmas.Slice.Eq.{bytes_eq-Decides}
+use Rattle.str0m_values.proofs.Common.{ℕ, List, bytes_eq, bytes_eq-Decides}
 use Rattle.str0m_values.specs.Cuts.{when}
 use Rattle.str0m_values.proofs.BothWays.{Sound}
 use Rattle.str0m_values.proofs.NumLaws.{when_some}

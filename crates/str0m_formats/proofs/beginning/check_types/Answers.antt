@@ -1,4 +1,4 @@
-use Rattle.std.proofs.Common.{nat_lt, sym, ◌∙◌, refl}
+use Rattle.str0m_formats.proofs.Common.{nat_lt, sym, ◌∙◌, refl}
 use Rattle.str0m_formats.specs.Rows.{types}
 use Rattle.str0m_formats.proofs.Ranges.{find-append}
 use Rattle.str0m_formats.proofs.beginning.check_types.Goals as goal

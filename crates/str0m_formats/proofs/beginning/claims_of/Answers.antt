@@ -1,5 +1,4 @@
-use Rattle.std.proofs.Common.{Ok, Err, sym, ap, rules, ◌+◌}
-use mathlib.Core.Path.{fun_ext}
+use Rattle.str0m_formats.proofs.Common.{Ok, Err, sym, ap, rules, ◌+◌, fun_ext}
 use Rattle.str0m_formats.specs.Claiming.{claim_each}
 use Rattle.str0m_formats.proofs.FirstPass.{IfErr_from, small_at}
 use Rattle.str0m_formats.proofs.Sets.{slice_get_item}

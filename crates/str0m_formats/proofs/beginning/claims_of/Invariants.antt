@@ -1,4 +1,4 @@
-use Rattle.std.proofs.Common.{◌≡◌, [], take, Ok}
+use Rattle.str0m_formats.proofs.Common.{◌≡◌, [], take, Ok}
 use Rattle.str0m_formats.specs.TypeSets.{has}
 use Rattle.str0m_formats.specs.Claiming.{claim_each}
 use Rattle.str0m_formats.specs.Rows.{locked_types, open_types}

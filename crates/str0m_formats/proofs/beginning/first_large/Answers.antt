@@ -1,4 +1,4 @@
-use Rattle.std.proofs.Common.{find, nat_lt, ap, ◌∙◌, rules}
+use Rattle.str0m_formats.proofs.Common.{find, nat_lt, ap, ◌∙◌, rules}
 use Rattle.str0m_formats.specs.Rows.{types_of}
 use Rattle.str0m_formats.proofs.Ranges.{find-flat_map_here, find-flat_map_more}
 use Rattle.str0m_formats.proofs.beginning.first_large.Goals as goal

@@ -1,4 +1,4 @@
-use Rattle.std.proofs.Common.{◌≡◌, find, nat_lt, drop}
+use Rattle.str0m_formats.proofs.Common.{◌≡◌, find, nat_lt, drop}
 use Rattle.str0m_formats.specs.Rows.{types}
 use Rattle.str0m_formats.proofs.beginning.first_large.Given as goal
 

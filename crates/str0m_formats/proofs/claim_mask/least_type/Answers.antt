@@ -1,4 +1,4 @@
-use Rattle.std.proofs.Common.{Some, sym, ap, ◌∙◌, arith}
+use Rattle.str0m_formats.proofs.Common.{Some, sym, ap, ◌∙◌, arith}
 use Rattle.str0m_formats.specs.ClaimMask.{least_bit}
 use Rattle.str0m_formats.proofs.MaskBits.{least-zero, least-trailing}
 use Rattle.str0m_formats.proofs.claim_mask.least_type.Goals as goal

@@ -1,4 +1,4 @@
-use Rattle.std.proofs.Common.{refl, ◌∙◌, rules}
+use Rattle.str0m_formats.proofs.Common.{refl, ◌∙◌, rules}
 use Rattle.str0m_formats.specs.TypeSets.{range_types, preferred}
 use Rattle.str0m_formats.proofs.Ranges.{find-flat_map_here, find-flat_map_more}
 use Rattle.str0m_formats.proofs.claimed.first_free.Goals as goal

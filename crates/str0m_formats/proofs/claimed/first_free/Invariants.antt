@@ -1,5 +1,4 @@
-use Rattle.std.proofs.Common.{◌≡◌, ◌||◌, false, not, find, slice_index_or, drop}
-use Rattle.std.specs.List.{flat_map}
+use Rattle.str0m_formats.proofs.Common.{◌≡◌, ◌||◌, false, not, find, slice_index_or, drop, flat_map}
 use Rattle.str0m_formats.specs.TypeSets.{range_types, preferred}
 use Rattle.str0m_formats.proofs.claimed.first_free.Given as goal
 

@@ -1,5 +1,4 @@
-use Rattle.std.proofs.Common.{sym, ◌∙◌, ◌+◌, arith}
-use Rattle.std.proofs.lemmas.Bool.Decides.{nat_tests}
+use Rattle.str0m_formats.proofs.Common.{sym, ◌∙◌, ◌+◌, arith, nat_tests}
 use Rattle.str0m_formats.proofs.Ranges.{find-range_more}
 use Rattle.str0m_formats.proofs.claimed.first_in.Goals as goal
 

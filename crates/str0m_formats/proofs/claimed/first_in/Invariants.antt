@@ -1,5 +1,4 @@
-use Rattle.std.proofs.Common.{◌≡◌, ◌+◌, ◌||◌, ◌-◌, false, not, find, slice_index_or}
-use Rattle.std.specs.List.{range_with_len}
+use Rattle.str0m_formats.proofs.Common.{◌≡◌, ◌+◌, ◌||◌, ◌-◌, false, not, find, slice_index_or, range_with_len}
 use Rattle.str0m_formats.specs.TypeSets.{range_types}
 use Rattle.str0m_formats.proofs.claimed.first_in.Given as goal
 

@@ -1,4 +1,4 @@
-use Rattle.std.proofs.Common.{sym}
+use Rattle.str0m_formats.proofs.Common.{sym}
 use Rattle.str0m_formats.proofs.CodecNames.{written_is}
 use Rattle.str0m_formats.proofs.codec.named.Goals as goal
 

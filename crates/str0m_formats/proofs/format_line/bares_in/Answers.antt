@@ -1,7 +1,4 @@
-use Rattle.std.proofs.Common.{◌≡◌, ◌∷◌, ◌++◌, [], length, take, lit<, sym, ap, ◌∙◌, arith}
-use Rattle.std.proofs.lemmas.Iterator.Splits.{YieldsList-from_str_split}
-use Rattle.std.proofs.lemmas.Iterator.Consumers.{YieldsList-turn, YieldsList-end}
-use Rattle.std.proofs.lemmas.List.{take_more, length_push, take_all}
+use Rattle.str0m_formats.proofs.Common.{◌≡◌, ◌∷◌, ◌++◌, [], length, take, lit<, sym, ap, ◌∙◌, arith, YieldsList-from_str_split, YieldsList-turn, YieldsList-end, take_more, length_push, take_all}
 use Rattle.str0m_formats.specs.FormatLine.{pieces}
 use Rattle.str0m_formats.proofs.LineLaws.{bares_none, bares_given, bares_absent}
 use Rattle.str0m_formats.proofs.format_line.bares_in.Goals as goal

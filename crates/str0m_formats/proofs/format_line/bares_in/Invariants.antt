@@ -1,4 +1,4 @@
-use Rattle.std.proofs.Common.{length, take}
+use Rattle.str0m_formats.proofs.Common.{length, take}
 use Rattle.str0m_formats.specs.FormatLine.{pieces, IsFormatOfBares}
 use Rattle.str0m_formats.proofs.format_line.bares_in.Given as goal
 

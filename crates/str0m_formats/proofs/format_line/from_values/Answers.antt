@@ -1,4 +1,4 @@
-use Rattle.std.proofs.Common.{ap, ◌∙◌}
+use Rattle.str0m_formats.proofs.Common.{ap, ◌∙◌}
 use Rattle.str0m_formats.specs.FormatParams.{set_all}
 use Rattle.str0m_formats.specs.FormatLine.{kept}
 use Rattle.str0m_formats.proofs.LineLaws.{values_more}

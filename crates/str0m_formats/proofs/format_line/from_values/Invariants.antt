@@ -1,4 +1,4 @@
-use Rattle.std.proofs.Common.{◌≡◌, take}
+use Rattle.str0m_formats.proofs.Common.{◌≡◌, take}
 use Rattle.str0m_formats.specs.FormatParams.{empty, set_all}
 use Rattle.str0m_formats.specs.FormatLine.{values_of, line_values}
 use Rattle.str0m_formats.proofs.format_line.from_values.Given as goal

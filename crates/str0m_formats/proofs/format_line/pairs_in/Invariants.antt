@@ -1,4 +1,4 @@
-use Rattle.std.proofs.Common.{◌≡◌, length, take}
+use Rattle.str0m_formats.proofs.Common.{◌≡◌, length, take}
 use Rattle.str0m_formats.specs.FormatParam.{pair_texts}
 use Rattle.str0m_formats.specs.FormatLine.{pieces, pairs_in}
 use Rattle.str0m_formats.proofs.format_line.pairs_in.Given as goal

@@ -1,6 +1,4 @@
-use Rattle.std.proofs.Common.{ap, ◌∙◌}
-use Rattle.std.specs.Str.{trim}
-use Rattle.str0m_values.specs.Cuts.{num}
+use Rattle.str0m_formats.proofs.Common.{ap, ◌∙◌, trim, num}
 use Rattle.str0m_formats.proofs.ParamReadingLaws.{num_is_only}
 use Rattle.str0m_formats.proofs.format_param.mode.Goals as goal
 

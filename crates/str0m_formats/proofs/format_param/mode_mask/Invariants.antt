@@ -1,8 +1,6 @@
-use Rattle.std.proofs.Common.{length, take}
-use Rattle.std.specs.List.{slice_split}
+use Rattle.str0m_formats.proofs.Common.{length, take, slice_split, ◌==◌}
 use Rattle.str0m_formats.specs.FormatParam.{IsMask}
 use Rattle.str0m_formats.proofs.format_param.mode_mask.Given as goal
-use Rattle.std.proofs.Common.{◌==◌}
 
 abbrev pub invariant-loop-piece : goal.invariant-loop-piece
 invariant-loop-piece l =

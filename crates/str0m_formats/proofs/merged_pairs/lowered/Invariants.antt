@@ -1,5 +1,4 @@
-use Rattle.std.proofs.Common.{◌≡◌, map, take}
-use Rattle.std.specs.Str.{str_to_ascii_lowercase}
+use Rattle.str0m_formats.proofs.Common.{◌≡◌, map, take, str_to_ascii_lowercase}
 use Rattle.str0m_formats.specs.FormatParam.{pair_texts}
 use Rattle.str0m_formats.specs.PairsReading.{entry_texts}
 use Rattle.str0m_formats.proofs.merged_pairs.lowered.Given as goal

@@ -1,6 +1,4 @@
-use Rattle.std.proofs.Common.{◌≡◌, [], take}
-use Rattle.std.specs.Str.{bytes_eq}
-use Rattle.indexmap.specs.IndexMap.{insert_all}
+use Rattle.str0m_formats.proofs.Common.{◌≡◌, [], take, bytes_eq, insert_all}
 use Rattle.str0m_formats.specs.FormatParam.{pair_texts}
 use Rattle.str0m_formats.specs.PairsReading.{entry_texts}
 use Rattle.str0m_formats.proofs.merged_pairs.merge_few.Given as goal

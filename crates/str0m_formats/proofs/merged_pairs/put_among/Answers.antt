@@ -1,5 +1,4 @@
-use Rattle.std.proofs.Common.{sym, ◌∙◌}
-use Rattle.std.specs.Str.{bytes_eq}
+use Rattle.str0m_formats.proofs.Common.{sym, ◌∙◌, bytes_eq}
 use Rattle.str0m_formats.specs.FormatParam.{pair_texts}
 use Rattle.str0m_formats.proofs.PlacesLaws.{entry_there, entry_new, placed, pushed}
 use Rattle.str0m_formats.proofs.merged_pairs.put_among.Goals as goal

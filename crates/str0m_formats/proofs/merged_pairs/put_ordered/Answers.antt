@@ -1,5 +1,4 @@
-use Rattle.std.proofs.Common.{refl, sym, ◌∙◌, arith}
-use Rattle.std.specs.Str.{bytes_eq}
+use Rattle.str0m_formats.proofs.Common.{refl, sym, ◌∙◌, arith, bytes_eq}
 use Rattle.str0m_formats.specs.FormatParam.{pair_texts}
 use Rattle.str0m_formats.proofs.PlacesLaws.{as_many, entry_there, entry_new, index_within, placed, places_grow, places_stay, pushed}
 use Rattle.str0m_formats.proofs.merged_pairs.put_ordered.Goals as goal

@@ -1,4 +1,4 @@
-use Rattle.std.proofs.Common.{sym, ◌∙◌}
+use Rattle.str0m_formats.proofs.Common.{sym, ◌∙◌}
 use Rattle.str0m_formats.proofs.PlacesLaws.{none_more, first_here}
 use Rattle.str0m_formats.proofs.merged_pairs.scan.Goals as goal
 

@@ -1,5 +1,4 @@
-use Rattle.std.proofs.Common.{None, take}
-use Rattle.std.specs.Str.{bytes_eq}
+use Rattle.str0m_formats.proofs.Common.{None, take, bytes_eq}
 use Rattle.str0m_formats.specs.FormatParam.{pair_texts}
 use Rattle.str0m_formats.specs.Places.{IsPlace}
 use Rattle.str0m_formats.proofs.merged_pairs.scan.Given as goal

@@ -1,4 +1,4 @@
-use Rattle.std.proofs.Common.{refl, sym}
+use Rattle.str0m_formats.proofs.Common.{refl, sym}
 use Rattle.str0m_formats.specs.FormatParam.{pair_texts}
 use Rattle.str0m_formats.proofs.PlacesLaws.{no_value, placed, value_there}
 use Rattle.str0m_formats.proofs.pairs.value_of.Goals as goal

@@ -1,4 +1,4 @@
-use Rattle.std.proofs.Common.{Bool, ◌∙◌, subst, rules, nat_lt}
+use Rattle.str0m_formats.proofs.Common.{Bool, ◌∙◌, subst, rules, nat_lt}
 use Rattle.str0m_formats.specs.Rows.{types}
 use Rattle.str0m_formats.specs.Rounds.{StopsFirst, in_first}
 use Rattle.str0m_formats.proofs.FirstPass.{IfErr_from, none-parts}

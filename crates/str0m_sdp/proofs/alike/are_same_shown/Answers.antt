@@ -1,5 +1,4 @@
-use Rattle.std.proofs.Common.{Bool, sym, ap, ◌∙◌, true≢false}
-use Rattle.std.proofs.lemmas.List.{drop_all}
+use Rattle.str0m_sdp.proofs.Common.{Bool, sym, ap, ◌∙◌, true≢false, drop_all}
 use Rattle.str0m_sdp.specs.Alike.{shown}
 use Rattle.str0m_sdp.proofs.AlikeLaws.{shown_from, one_ends, firsts_differ, firsts_agree, both_end, first_passed}
 use Rattle.str0m_sdp.proofs.alike.are_same_shown.Goals.{then-is_shown+in-Some+else-not-is_same, else-is_shown}

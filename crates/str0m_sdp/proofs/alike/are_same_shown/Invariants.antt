@@ -1,5 +1,4 @@
-use Rattle.std.proofs.Common.{◌≡◌, drop}
-use Rattle.std.specs.Prelude.{◌↔◌}
+use Rattle.str0m_sdp.proofs.Common.{◌≡◌, drop, ◌↔◌}
 use Rattle.str0m_sdp.specs.Alike.{shown}
 use Rattle.str0m_sdp.proofs.alike.are_same_shown.Given as goal
 

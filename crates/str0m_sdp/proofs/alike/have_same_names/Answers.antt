@@ -1,5 +1,4 @@
-use Rattle.std.proofs.Common.{sym, ap, refl, subst, ◌∙◌, ◌<◌, ◌≤◌, ℕ, true≢false}
-use Rattle.std.proofs.lemmas.List.{drop_all}
+use Rattle.str0m_sdp.proofs.Common.{sym, ap, refl, subst, ◌∙◌, ◌<◌, ◌≤◌, ℕ, true≢false, drop_all}
 use Rattle.str0m_sdp.specs.Alike.{ids}
 use Rattle.str0m_sdp.proofs.AlikeLaws.{ids_from, firsts_differ, firsts_agree, other_length}
 use Rattle.str0m_sdp.proofs.alike.have_same_names.Goals as goal

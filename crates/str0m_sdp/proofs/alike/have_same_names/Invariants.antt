@@ -1,5 +1,4 @@
-use Rattle.std.proofs.Common.{◌≡◌, drop}
-use Rattle.std.specs.Prelude.{◌↔◌}
+use Rattle.str0m_sdp.proofs.Common.{◌≡◌, drop, ◌↔◌}
 use Rattle.str0m_sdp.specs.Alike.{ids}
 use Rattle.str0m_sdp.proofs.alike.have_same_names.Given as goal
 

@@ -1,4 +1,4 @@
-use Rattle.str0m_formats.proofs.ParamEqual.{param_Decides}
+use Rattle.str0m_sdp.proofs.Common.{param_Decides}
 use Rattle.str0m_sdp.proofs.alike.is_same.Goals as goal
 
 pub returns : goal.returns

@@ -1,5 +1,4 @@
-use Rattle.std.proofs.Common.{◌≡◌, ◌<◌, ℕ, Some, None, get_or, length, take, if◌then◌else◌}
-use Rattle.std.specs.List.{list_any}
+use Rattle.str0m_sdp.proofs.Common.{◌≡◌, ◌<◌, ℕ, Some, None, get_or, length, take, if◌then◌else◌, list_any}
 use Rattle.str0m_sdp.specs.Companions.{names}
 use Rattle.str0m_sdp.proofs.companions.note.Given as goal
 

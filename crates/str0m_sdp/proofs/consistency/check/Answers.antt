@@ -1,4 +1,4 @@
-use Rattle.std.proofs.Common.{◌∙◌, filter_map, sym, ap}
+use Rattle.str0m_sdp.proofs.Common.{◌∙◌, filter_map, sym, ap}
 use Rattle.str0m_sdp.specs.Fault.{after_mid, err_if, fault_beside, setup_fault, proto_fault, map_fault}
 use Rattle.str0m_sdp.specs.Lists.{first}
 use Rattle.str0m_sdp.proofs.FaultLaws.{passed}

@@ -1,4 +1,4 @@
-use Rattle.std.proofs.Common.{◌≡◌, filter_map, length}
+use Rattle.str0m_sdp.proofs.Common.{◌≡◌, filter_map, length}
 use Rattle.str0m_sdp.specs.Fault.{apt_fault}
 use Rattle.str0m_sdp.specs.Lists.{first}
 use Rattle.str0m_sdp.proofs.consistency.check_apts.Given as goal

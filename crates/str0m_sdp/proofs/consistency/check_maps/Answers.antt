@@ -1,4 +1,4 @@
-use Rattle.std.proofs.Common.{rules}
+use Rattle.str0m_sdp.proofs.Common.{rules}
 use Rattle.str0m_sdp.proofs.consistency.check_maps.Goals as goal
 
 pub returns-in_err-check_map : goal.returns-in_err-check_map

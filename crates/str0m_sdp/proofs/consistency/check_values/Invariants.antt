@@ -1,4 +1,4 @@
-use Rattle.std.proofs.Common.{◌≡◌, Some, length}
+use Rattle.str0m_sdp.proofs.Common.{◌≡◌, Some, length}
 use Rattle.str0m_sdp.specs.Fault.{values_fault}
 use Rattle.str0m_sdp.proofs.consistency.check_values.Given as goal
 

@@ -1,4 +1,4 @@
-use Rattle.std.proofs.Common.{◌∙◌}
+use Rattle.str0m_sdp.proofs.Common.{◌∙◌}
 use Rattle.str0m_sdp.specs.Candidates.{same_candidate}
 use Rattle.str0m_sdp.proofs.DistinctLaws.{one_put}
 use Rattle.str0m_sdp.proofs.distinct_candidates.add_all.Goals as goal

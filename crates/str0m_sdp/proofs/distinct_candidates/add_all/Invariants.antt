@@ -1,5 +1,4 @@
-use Rattle.std.proofs.Common.{◌≡◌}
-use Rattle.indexmap.specs.IndexSet.{insert_all}
+use Rattle.str0m_sdp.proofs.Common.{◌≡◌, insert_all}
 use Rattle.str0m_sdp.specs.Candidates.{candidates_left, same_candidate}
 use Rattle.str0m_sdp.specs.SeenCandidates.{AreByKey, seen}
 use Rattle.str0m_sdp.proofs.distinct_candidates.add_all.Given as goal

@@ -1,4 +1,4 @@
-use Rattle.std.proofs.Common.{◌≡◌, filter, length}
+use Rattle.str0m_sdp.proofs.Common.{◌≡◌, filter, length}
 use Rattle.str0m_sdp.specs.Fmtp.{is_shown}
 use Rattle.str0m_sdp.proofs.fmtp.first_shown.Given as goal
 

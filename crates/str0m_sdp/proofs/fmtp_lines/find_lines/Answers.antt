@@ -1,4 +1,4 @@
-use Rattle.std.proofs.Common.{sym, ◌∙◌}
+use Rattle.str0m_sdp.proofs.Common.{sym, ◌∙◌}
 use Rattle.str0m_sdp.proofs.FmtpLineLaws.{found_own, found_other}
 use Rattle.str0m_sdp.proofs.fmtp_lines.find_lines.Goals.{then-is_of+in_ok-push, else-is_of}
 use Rattle.str0m_sdp.proofs.fmtp_lines.find_lines.Goals as goal

@@ -1,4 +1,4 @@
-use Rattle.std.proofs.Common.{◌≡◌, take}
+use Rattle.str0m_sdp.proofs.Common.{◌≡◌, take}
 use Rattle.str0m_sdp.specs.FmtpLines.{lines_with}
 use Rattle.str0m_sdp.proofs.fmtp_lines.find_lines.Given as goal
 

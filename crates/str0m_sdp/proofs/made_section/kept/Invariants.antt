@@ -1,4 +1,4 @@
-use Rattle.std.proofs.Common.{◌≡◌, filter, not, take}
+use Rattle.str0m_sdp.proofs.Common.{◌≡◌, filter, not, take}
 use Rattle.str0m_sdp.specs.SectionOf.{is_of_type}
 use Rattle.str0m_sdp.proofs.made_section.kept.Given as goal
 

@@ -1,5 +1,4 @@
-use Rattle.std.proofs.Common.{◌≡◌, take}
-use Rattle.str0m_formats.specs.Rows.{types}
+use Rattle.str0m_sdp.proofs.Common.{◌≡◌, take, types}
 use Rattle.str0m_sdp.proofs.made_section.row_types.Given as goal
 
 -- the types of the rows so far

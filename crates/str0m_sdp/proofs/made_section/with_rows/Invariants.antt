@@ -1,5 +1,4 @@
-use Rattle.std.proofs.Common.{◌≡◌, ◌++◌, take}
-use Rattle.std.specs.List.{flat_map}
+use Rattle.str0m_sdp.proofs.Common.{◌≡◌, ◌++◌, take, flat_map}
 use Rattle.str0m_sdp.specs.RowAttributes.{row_attrs}
 use Rattle.str0m_sdp.proofs.made_section.with_rows.Given as goal
 

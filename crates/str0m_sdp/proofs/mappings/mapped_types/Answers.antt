@@ -1,6 +1,4 @@
-use Rattle.std.proofs.Common.{◌==◌, take, sym, refl, ◌∙◌}
-use Rattle.std.specs.List.{list_any}
-use Rattle.std.proofs.lemmas.List.{get_or-replicate, length-set}
+use Rattle.str0m_sdp.proofs.Common.{◌==◌, take, sym, refl, ◌∙◌, list_any, get_or-replicate, length-set}
 use Rattle.str0m_sdp.proofs.TypeMarks.{any_more, marked}
 use Rattle.str0m_sdp.proofs.mappings.mapped_types.Goals as goal
 

@@ -1,5 +1,4 @@
-use Rattle.std.proofs.Common.{◌≡◌, ◌==◌, ◌<◌, ℕ, false, get_or, length, take}
-use Rattle.std.specs.List.{list_any}
+use Rattle.str0m_sdp.proofs.Common.{◌≡◌, ◌==◌, ◌<◌, ℕ, false, get_or, length, take, list_any}
 use Rattle.str0m_sdp.proofs.mappings.mapped_types.Given as goal
 
 -- each row says whether its type is mapped so far

@@ -1,5 +1,4 @@
-use Rattle.std.proofs.Common.{List, filter_map, ap, ◌∙◌}
-use Rattle.std.proofs.lemmas.List.{take_all}
+use Rattle.str0m_sdp.proofs.Common.{List, filter_map, ap, ◌∙◌, take_all}
 use Rattle.str0m_sdp.specs.Mappings.{mapping}
 use Rattle.str0m_sdp.specs.declared.attribute.MediaAttribute.{MediaAttribute}
 use Rattle.str0m_sdp.proofs.MappingLaws.{mapping_more, mapping_other}

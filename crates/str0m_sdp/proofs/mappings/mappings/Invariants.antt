@@ -1,4 +1,4 @@
-use Rattle.std.proofs.Common.{◌≡◌, take, filter_map}
+use Rattle.str0m_sdp.proofs.Common.{◌≡◌, take, filter_map}
 use Rattle.str0m_sdp.specs.Mappings.{mapping}
 use Rattle.str0m_sdp.proofs.mappings.mappings.Given as goal
 

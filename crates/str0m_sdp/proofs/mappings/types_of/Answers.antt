@@ -1,7 +1,5 @@
-use Rattle.std.proofs.Common.{◌||◌, Bool, take, ap, sym, refl, ◌∙◌}
-use Rattle.std.specs.List.{list_any}
+use Rattle.str0m_sdp.proofs.Common.{◌||◌, Bool, take, ap, sym, refl, ◌∙◌, list_any, get_or-replicate, length-set}
 use Rattle.std.proofs.lemmas.Bool.{and_right}
-use Rattle.std.proofs.lemmas.List.{get_or-replicate, length-set}
 use Rattle.str0m_sdp.proofs.TypeMarks.{any_more, any_same, marked, and_true}
 use Rattle.str0m_sdp.specs.Mappings.{is_of}
 use Rattle.str0m_sdp.proofs.mappings.types_of.Goals.{then-eq, else-eq}

@@ -1,4 +1,4 @@
-use Rattle.std.proofs.Common.{◌≡◌, ◌<◌, ℕ, false, get_or, length, take}
+use Rattle.str0m_sdp.proofs.Common.{◌≡◌, ◌<◌, ℕ, false, get_or, length, take}
 use Rattle.str0m_sdp.specs.Mappings.{is_mapped_to}
 use Rattle.str0m_sdp.proofs.mappings.types_of.Given as goal
 

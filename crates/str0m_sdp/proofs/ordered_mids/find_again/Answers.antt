@@ -1,4 +1,4 @@
-use Rattle.std.proofs.Common.{◌∷◌}
+use Rattle.str0m_sdp.proofs.Common.{◌∷◌}
 use Rattle.str0m_sdp.proofs.OrderedMids.{found_here, found_later, holds_before, whole_before}
 use Rattle.str0m_sdp.proofs.ordered_mids.find_again.Goals as goal
 

@@ -1,4 +1,4 @@
-use Rattle.std.proofs.Common.{◌≡◌, ◌++◌, ℕ, List, length}
+use Rattle.str0m_sdp.proofs.Common.{◌≡◌, ◌++◌, ℕ, List, length}
 use Rattle.str0m_sdp.specs.OrderedMids.{Holds}
 use Rattle.str0m_sdp.specs.SessionFault.{first_again}
 use Rattle.str0m_sdp.proofs.ordered_mids.find_again.Given as goal

@@ -1,4 +1,4 @@
-use Rattle.std.proofs.Common.{take}
+use Rattle.str0m_sdp.proofs.Common.{take}
 use Rattle.str0m_sdp.specs.OrderedMids.{Holds}
 use Rattle.str0m_sdp.proofs.ordered_mids.names_of.Given as goal
 

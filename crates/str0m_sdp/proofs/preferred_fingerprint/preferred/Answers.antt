@@ -1,5 +1,4 @@
-use Rattle.std.proofs.Common.{Some, ap, filter_map, sym, take, ◌∙◌}
-use Rattle.std.specs.Option.{option_copied}
+use Rattle.str0m_sdp.proofs.Common.{Some, ap, filter_map, sym, take, ◌∙◌, option_copied}
 use Rattle.str0m_sdp.specs.PreferredFingerprint.{better, preferred}
 use Rattle.str0m_sdp.proofs.ListLaws.{filter_map_more, filter_map_same}
 use Rattle.str0m_sdp.proofs.Preferred.{preferred_more}

@@ -1,5 +1,4 @@
-use Rattle.std.proofs.Common.{◌≡◌, filter_map, take}
-use Rattle.std.specs.Option.{option_copied}
+use Rattle.str0m_sdp.proofs.Common.{◌≡◌, filter_map, take, option_copied}
 use Rattle.str0m_sdp.specs.PreferredFingerprint.{preferred}
 use Rattle.str0m_sdp.proofs.preferred_fingerprint.preferred.Given as goal
 

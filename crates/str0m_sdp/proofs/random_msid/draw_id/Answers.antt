@@ -1,6 +1,4 @@
-use Rattle.std.proofs.Common.{arith, refl, ap, ◌≡◌, ◌++◌, ◌∷◌, []}
-use Rattle.std.proofs.lemmas.Grind.{common_steps}
-use Rattle.std.specs.String.{string_bytes}
+use Rattle.str0m_sdp.proofs.Common.{arith, refl, ap, ◌≡◌, ◌++◌, ◌∷◌, [], common_steps, string_bytes}
 use Rattle.str0m_sdp.proofs.RandomIdLaws.{no_letters, one_more_letter, one_more_word, after_words-none}
 use Rattle.str0m_sdp.proofs.random_msid.draw_id.Goals as goal
 

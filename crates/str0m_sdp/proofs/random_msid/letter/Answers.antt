@@ -1,4 +1,4 @@
-use Rattle.std.proofs.Common.{ℕ, ◌≡◌, ◌<◌, rules, subst, sym}
+use Rattle.str0m_sdp.proofs.Common.{ℕ, ◌≡◌, ◌<◌, rules, subst, sym}
 use Rattle.str0m_sdp.specs.RandomId.{letter_of}
 use Rattle.str0m_sdp.proofs.RandomIdLaws.{letter_of-ascii}
 use Rattle.str0m_sdp.proofs.random_msid.letter.Goals as goal

@@ -1,4 +1,4 @@
-use Rattle.std.proofs.Common.{append_assoc}
+use Rattle.str0m_sdp.proofs.Common.{append_assoc}
 use Rattle.str0m_sdp.proofs.row_attributes.append_feedback.Goals as goal
 
 pub returns-clause-ok : goal.returns-clause-ok

@@ -1,5 +1,4 @@
-use Rattle.std.proofs.Common.{rules, tests}
-use Rattle.std.proofs.lemmas.Iterator.{YieldsList-from_slice}
+use Rattle.str0m_sdp.proofs.Common.{rules, tests, YieldsList-from_slice}
 use Rattle.str0m_sdp.specs.Transport.{creds_at, media_creds}
 use Rattle.str0m_sdp.specs.declared.media_line.MediaLine.{MediaLine}
 use Rattle.str0m_sdp.proofs.Finding.{first_from_find_map}

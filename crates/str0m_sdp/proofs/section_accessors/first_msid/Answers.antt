@@ -1,5 +1,4 @@
-use Rattle.std.proofs.Common.{rules, tests}
-use Rattle.std.proofs.lemmas.Iterator.{YieldsList-from_slice}
+use Rattle.str0m_sdp.proofs.Common.{rules, tests, YieldsList-from_slice}
 use Rattle.str0m_sdp.specs.SectionAccessors.{msid_of}
 use Rattle.str0m_sdp.proofs.Finding.{first_from_find_map}
 use Rattle.str0m_sdp.proofs.section_accessors.first_msid.Goals as goal

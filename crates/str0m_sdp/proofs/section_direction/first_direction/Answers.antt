@@ -1,5 +1,4 @@
-use Rattle.std.proofs.Common.{rules, tests}
-use Rattle.std.proofs.lemmas.Iterator.{YieldsList-from_slice}
+use Rattle.str0m_sdp.proofs.Common.{rules, tests, YieldsList-from_slice}
 use Rattle.str0m_sdp.specs.SectionDirection.{direction_of}
 use Rattle.str0m_sdp.proofs.Finding.{first_by_find_map}
 use Rattle.str0m_sdp.proofs.section_direction.first_direction.Goals as goal

@@ -1,4 +1,4 @@
-use Rattle.std.proofs.Common.{◌≡◌, length}
+use Rattle.str0m_sdp.proofs.Common.{◌≡◌, length}
 use Rattle.str0m_sdp.specs.SessionConsistency.{first_group}
 use Rattle.str0m_sdp.proofs.session_consistency.first_group.Given as goal
 

@@ -1,4 +1,4 @@
-use Rattle.std.proofs.Common.{◌≡◌, filter_map, take}
+use Rattle.str0m_sdp.proofs.Common.{◌≡◌, filter_map, take}
 use Rattle.str0m_sdp.specs.OrderedMids.{part_mid}
 use Rattle.str0m_sdp.proofs.session_consistency.gather_among.Given as goal
 

@@ -1,4 +1,4 @@
-use Rattle.std.proofs.Common.{◌++◌, option_to_list, sym, ◌∙◌}
+use Rattle.str0m_sdp.proofs.Common.{◌++◌, option_to_list, sym, ◌∙◌}
 use Rattle.str0m_sdp.specs.SessionConsistency.{section_mid}
 use Rattle.str0m_sdp.proofs.FilterMapLaws.{map_more}
 use Rattle.str0m_sdp.proofs.session_consistency.gather_mids.Goals as goal

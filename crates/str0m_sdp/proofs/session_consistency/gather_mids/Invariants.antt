@@ -1,4 +1,4 @@
-use Rattle.std.proofs.Common.{◌≡◌, take}
+use Rattle.str0m_sdp.proofs.Common.{◌≡◌, take}
 use Rattle.str0m_sdp.specs.SessionConsistency.{section_mids}
 use Rattle.str0m_sdp.proofs.session_consistency.gather_mids.Given as goal
 

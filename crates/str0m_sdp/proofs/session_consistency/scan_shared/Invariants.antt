@@ -1,4 +1,4 @@
-use Rattle.std.proofs.Common.{◌≡◌, length}
+use Rattle.str0m_sdp.proofs.Common.{◌≡◌, length}
 use Rattle.str0m_sdp.specs.SessionConsistency.{section_mids}
 use Rattle.str0m_sdp.specs.SessionFault.{first_again}
 use Rattle.str0m_sdp.proofs.session_consistency.scan_shared.Given as goal

@@ -1,4 +1,4 @@
-use Rattle.std.proofs.Common.{◌≡◌, length}
+use Rattle.str0m_sdp.proofs.Common.{◌≡◌, length}
 use Rattle.str0m_sdp.specs.SessionFault.{sections_message}
 use Rattle.str0m_sdp.proofs.session_consistency.section_message.Given as goal
 

@@ -1,4 +1,4 @@
-use Rattle.std.proofs.Common.{rules, get_or, ap, ◌∙◌}
+use Rattle.str0m_sdp.proofs.Common.{rules, get_or, ap, ◌∙◌}
 use Rattle.str0m_sdp.proofs.TypeLineLaws.{line_more}
 use Rattle.str0m_sdp.proofs.type_lines.grouped.Goals as goal
 

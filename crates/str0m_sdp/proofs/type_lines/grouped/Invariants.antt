@@ -1,4 +1,4 @@
-use Rattle.std.proofs.Common.{take}
+use Rattle.str0m_sdp.proofs.Common.{take}
 use Rattle.str0m_sdp.specs.TypeLines.{AreGrouped}
 use Rattle.str0m_sdp.proofs.type_lines.grouped.Given as goal
 

@@ -1,6 +1,4 @@
-use Rattle.std.proofs.Common.{rules, ap, sym, ◌∙◌}
-use denote.Enum.Bare.{same_true}
-use Rattle.str0m_formats.specs.FormatLine.{format_of_fmtp}
+use Rattle.str0m_sdp.proofs.Common.{rules, ap, sym, ◌∙◌, same_true, format_of_fmtp}
 use Rattle.str0m_formats.specs.contracts.codec.Codec.{the_type}
 use Rattle.str0m_sdp.specs.TypeLines.{IsKnown}
 use Rattle.str0m_sdp.proofs.type_lines.known_format.Goals as goal

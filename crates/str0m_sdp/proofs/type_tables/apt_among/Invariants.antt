@@ -1,4 +1,4 @@
-use Rattle.std.proofs.Common.{◌≡◌, length}
+use Rattle.str0m_sdp.proofs.Common.{◌≡◌, length}
 use Rattle.str0m_sdp.specs.Consistency.{apt_among}
 use Rattle.str0m_sdp.proofs.type_tables.apt_among.Given as goal
 

@@ -1,5 +1,4 @@
-use Rattle.std.proofs.Common.{refl, ◌∙◌}
-use Rattle.std.proofs.lemmas.List.{get_or-replicate, length-set}
+use Rattle.str0m_sdp.proofs.Common.{refl, ◌∙◌, get_or-replicate, length-set}
 use Rattle.str0m_sdp.proofs.TypeTableLaws.{count_same, count_more}
 use Rattle.str0m_sdp.proofs.type_tables.count_maps.Goals.{in-RtpMap, in_default}
 use Rattle.str0m_sdp.proofs.type_tables.count_maps.Goals as goal

@@ -1,4 +1,4 @@
-use Rattle.std.proofs.Common.{◌≡◌, ◌<◌, ℕ, count_by, get_or, length, take}
+use Rattle.str0m_sdp.proofs.Common.{◌≡◌, ◌<◌, ℕ, count_by, get_or, length, take}
 use Rattle.str0m_sdp.specs.Consistency.{maps}
 use Rattle.str0m_sdp.proofs.type_tables.count_maps.Given as goal
 

@@ -1,5 +1,6 @@
-use Rattle.std.proofs.Common.{◌≡◌, ◌<◌, ℕ, List, Option, None, get_or, is_some, length, not, refl, sym, ap, ◌∙◌}
-use Rattle.std.proofs.lemmas.List.{get_or-replicate, get_or_read, length-set}
+use Rattle.str0m_sdp.proofs.Common.{◌≡◌, ◌<◌, ℕ, List, Option, None, get_or, length, not, refl, sym, ap, ◌∙◌, get_or-replicate, length-set}
+use Rattle.std.proofs.Common.{is_some}
+use Rattle.std.proofs.lemmas.List.{get_or_read}
 use Rattle.str0m_sdp.proofs.TypeTableLaws.{first_other, first_kept, first_named}
 use Rattle.str0m_sdp.proofs.type_tables.first_apts.Goals.{in-Fmtp+then-is_none, in-Fmtp+else-is_none, in_default}
 use Rattle.str0m_sdp.proofs.type_tables.first_apts.Goals as goal

@@ -1,4 +1,4 @@
-use Rattle.std.proofs.Common.{◌≡◌, ◌<◌, ℕ, None, get_or, length, take}
+use Rattle.str0m_sdp.proofs.Common.{◌≡◌, ◌<◌, ℕ, None, get_or, length, take}
 use Rattle.str0m_sdp.specs.Consistency.{first_apt}
 use Rattle.str0m_sdp.proofs.type_tables.first_apts.Given as goal
 

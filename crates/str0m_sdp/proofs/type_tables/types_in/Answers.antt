@@ -1,6 +1,4 @@
-use Rattle.std.proofs.Common.{◌==◌, ℕ, List, take, ap, sym, refl, ◌∙◌}
-use Rattle.std.specs.List.{list_any}
-use Rattle.std.proofs.lemmas.List.{get_or-replicate, length-set, take_all}
+use Rattle.str0m_sdp.proofs.Common.{◌==◌, ℕ, List, take, ap, sym, refl, ◌∙◌, list_any, get_or-replicate, length-set, take_all}
 use Rattle.str0m_sdp.proofs.TypeMarks.{any_more, marked}
 use Rattle.str0m_sdp.proofs.type_tables.types_in.Goals as goal
 

@@ -1,4 +1,4 @@
-use Rattle.std.proofs.Common.{rules}
+use Rattle.str0m_signal.proofs.Common.{rules}
 use Rattle.str0m_signal.specs.LineReading.{lines_of, read_attribute, IsRead}
 use Rattle.str0m_signal.proofs.ChainLaws.{chain_more, read_fewer}
 use Rattle.str0m_signal.proofs.attributes.attribute_run.Goals as goal

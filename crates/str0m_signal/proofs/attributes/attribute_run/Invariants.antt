@@ -1,6 +1,4 @@
-use Rattle.std.proofs.Common.{length}
-use denote.Text.{Utf8}
-use denote.Shadow.{shadow}
+use Rattle.str0m_signal.proofs.Common.{length, Utf8, shadow}
 use Rattle.str0m_signal.specs.Chains.{Chain}
 use Rattle.str0m_signal.specs.LineReading.{lines_of, read_attribute, IsRead}
 use Rattle.str0m_signal.proofs.attributes.attribute_run.Given as goal

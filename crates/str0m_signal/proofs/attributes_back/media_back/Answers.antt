@@ -1,5 +1,4 @@
-use Rattle.std.proofs.lemmas.Result.{IfOk-weaker}
-use Rattle.str0m_sdp.specs.Attribute.{media_attribute_text}
+use Rattle.str0m_signal.proofs.Common.{IfOk-weaker, media_attribute_text}
 use Rattle.str0m_signal.specs.MediaAttribute.{IsMediaLine, media_read}
 use Rattle.str0m_signal.specs.Writable.{MediaGoesWith}
 use Rattle.str0m_signal.proofs.MediaLaws.{media_line_both}

@@ -1,5 +1,4 @@
-use Rattle.std.proofs.lemmas.Result.{IfOk-weaker}
-use Rattle.str0m_sdp.specs.Attribute.{session_attribute_text}
+use Rattle.str0m_signal.proofs.Common.{IfOk-weaker, session_attribute_text}
 use Rattle.str0m_signal.specs.SessionAttribute.{IsSessionLine, session_read}
 use Rattle.str0m_signal.specs.Writable.{SessionGoesWith}
 use Rattle.str0m_signal.proofs.SessionLaws.{session_line_both}

@@ -1,5 +1,4 @@
-use Rattle.std.proofs.Common.{◌∙◌, refl}
-use Rattle.str0m_values.proofs.NumLaws.{parsed_whole}
+use Rattle.str0m_signal.proofs.Common.{◌∙◌, refl, parsed_whole}
 use Rattle.str0m_signal.proofs.fields.num_u64.Goals as goal
 
 pub returns : goal.returns

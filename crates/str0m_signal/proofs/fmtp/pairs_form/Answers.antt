@@ -1,4 +1,4 @@
-use Rattle.str0m_formats.specs.FormatParam.{pair_texts}
+use Rattle.str0m_signal.proofs.Common.{pair_texts}
 use Rattle.str0m_signal.proofs.FmtpLaws.{pairs_form_of}
 use Rattle.str0m_signal.proofs.fmtp.pairs_form.Goals as goal
 

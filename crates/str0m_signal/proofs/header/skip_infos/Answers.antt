@@ -1,4 +1,4 @@
-use Rattle.std.proofs.Common.{rules, sym, ◌++◌, ◌∷◌, [], refl}
+use Rattle.str0m_signal.proofs.Common.{rules, sym, ◌++◌, ◌∷◌, [], refl}
 use Rattle.str0m_signal.specs.Header.{IsInfo}
 use Rattle.str0m_signal.proofs.HeaderLaws.{info_both}
 use Rattle.str0m_signal.specs.Lines.{OneLine}

@@ -1,6 +1,4 @@
-use Rattle.std.proofs.Common.{List, ℕ, length}
-use denote.Text.{Utf8}
-use denote.Shadow.{shadow}
+use Rattle.str0m_signal.proofs.Common.{List, ℕ, length, Utf8, shadow}
 use Rattle.str0m_signal.specs.Chains.{Chain}
 use Rattle.str0m_signal.specs.Lines.{OneLine}
 use Rattle.str0m_signal.specs.LineReading.{lines_of}

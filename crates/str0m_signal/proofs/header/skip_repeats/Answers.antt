@@ -1,5 +1,4 @@
-use Rattle.std.proofs.Common.{rules, sym, ◌++◌, ◌∷◌, [], refl}
-use Rattle.std.specs.Prelude.{codes}
+use Rattle.str0m_signal.proofs.Common.{rules, sym, ◌++◌, ◌∷◌, [], refl, codes}
 use Rattle.str0m_signal.specs.Section.{IsField}
 use Rattle.str0m_signal.proofs.SectionLaws.{field_both}
 use Rattle.str0m_signal.specs.Lines.{OneLine}

@@ -1,10 +1,7 @@
-use Rattle.std.proofs.Common.{List, ℕ, length}
-use denote.Text.{Utf8}
-use denote.Shadow.{shadow}
+use Rattle.str0m_signal.proofs.Common.{List, ℕ, length, Utf8, shadow, codes}
 use Rattle.str0m_signal.specs.Chains.{Chain}
 use Rattle.str0m_signal.specs.Lines.{OneLine}
 use Rattle.str0m_signal.specs.LineReading.{lines_of}
-use Rattle.std.specs.Prelude.{codes}
 use Rattle.str0m_signal.specs.Section.{IsField}
 use Rattle.str0m_signal.proofs.header.skip_repeats.Given as goal
 

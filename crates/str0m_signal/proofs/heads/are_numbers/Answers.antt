@@ -1,7 +1,4 @@
-use Rattle.std.proofs.Common.{ℕ, Option, rules, ap, sym, ◌∙◌}
-use Rattle.std.specs.Prelude.{is_some}
-use Rattle.str0m_values.specs.Cuts.{num}
-use Rattle.str0m_values.specs.Separator.{code}
+use Rattle.str0m_signal.proofs.Common.{ℕ, Option, rules, ap, sym, ◌∙◌, is_some, num, code}
 use Rattle.str0m_signal.proofs.PartLaws.{cut_shorter, one_part, no_part, last_part}
 use Rattle.str0m_signal.proofs.heads.are_numbers.Goals as goal
 

@@ -1,9 +1,4 @@
-use Rattle.std.proofs.Common.{◌≡◌, length}
-use Rattle.std.specs.Prelude.{is_some}
-use denote.Text.{Utf8}
-use denote.Shadow.{shadow}
-use Rattle.str0m_values.specs.Cuts.{num}
-use Rattle.str0m_values.specs.Separator.{code}
+use Rattle.str0m_signal.proofs.Common.{◌≡◌, length, is_some, Utf8, shadow, num, code}
 use Rattle.str0m_signal.specs.FormReading.{parted_read}
 use Rattle.str0m_signal.proofs.heads.are_numbers.Given as goal
 

@@ -1,5 +1,4 @@
-use Rattle.std.proofs.Common.{ℕ, List, Option, Some, ap, sym, ◌∙◌}
-use Rattle.str0m_values.specs.Cuts.{◌>>=◌}
+use Rattle.str0m_signal.proofs.Common.{ℕ, List, Option, Some, ap, sym, ◌∙◌, ◌>>=◌}
 use Rattle.str0m_signal.specs.Lines.{Line}
 use Rattle.str0m_signal.specs.LineReading.{lines_of}
 use Rattle.str0m_signal.proofs.LineEndLaws.{none_of_none, rest_from, plain_cut}

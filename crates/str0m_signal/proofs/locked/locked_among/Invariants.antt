@@ -1,4 +1,4 @@
-use Rattle.std.proofs.Common.{◌≡◌, take}
+use Rattle.str0m_signal.proofs.Common.{◌≡◌, take}
 use Rattle.str0m_signal.specs.LockedRows.{locked_of_kind}
 use Rattle.str0m_signal.proofs.locked.locked_among.Given as goal
 

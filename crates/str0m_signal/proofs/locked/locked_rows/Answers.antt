@@ -1,5 +1,4 @@
-use Rattle.std.proofs.Common.{◌&&◌}
-use Rattle.std.proofs.lemmas.Result.{IfOk-weaker}
+use Rattle.str0m_signal.proofs.Common.{◌&&◌, IfOk-weaker}
 use Rattle.str0m_signal.specs.LockedRows.{is_carried}
 use Rattle.str0m_signal.proofs.PickedRows.{printable_as}
 use Rattle.str0m_signal.proofs.locked.locked_rows.Goals as goal

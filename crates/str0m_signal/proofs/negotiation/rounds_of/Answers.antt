@@ -1,6 +1,4 @@
-use Rattle.std.proofs.Common.{Option, ◌++◌, option_to_list, sym, ap, ◌∙◌}
-use Rattle.std.proofs.lemmas.List.{append-nil}
-use Rattle.str0m_formats.specs.declared.rounds.Round.{Round}
+use Rattle.str0m_signal.proofs.Common.{Option, ◌++◌, option_to_list, sym, ap, ◌∙◌, append-nil, Round}
 use Rattle.str0m_signal.specs.Negotiation.{brought, brought_by}
 use Rattle.str0m_signal.proofs.NegotiationLaws.{one_more}
 use Rattle.str0m_signal.proofs.negotiation.rounds_of.Goals.{in-Some+in_ok-push, in_default}

@@ -1,4 +1,4 @@
-use Rattle.std.proofs.Common.{◌≡◌, take, map, filter_map}
+use Rattle.str0m_signal.proofs.Common.{◌≡◌, take, map, filter_map}
 use Rattle.str0m_signal.specs.Negotiation.{brought, brought_by}
 use Rattle.str0m_signal.proofs.negotiation.rounds_of.Given as goal
 

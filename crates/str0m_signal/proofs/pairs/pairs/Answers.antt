@@ -1,5 +1,4 @@
-use Rattle.std.proofs.Common.{rules, sym}
-use Rattle.str0m_formats.specs.FormatParam.{pair_texts}
+use Rattle.str0m_signal.proofs.Common.{rules, sym, pair_texts}
 use Rattle.str0m_signal.specs.FmtpReading.{pairs_read}
 use Rattle.str0m_signal.proofs.FmtpLaws.{pairs_fail, pairs_end, pairs_more, pair_shorter, texts_push}
 use Rattle.str0m_signal.proofs.pairs.pairs.Goals as goal

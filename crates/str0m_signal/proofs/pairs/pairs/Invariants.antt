@@ -1,7 +1,4 @@
-use Rattle.std.proofs.Common.{◌≡◌, ℕ, ◌<◌, length}
-use denote.Text.{Utf8}
-use denote.Shadow.{shadow}
-use Rattle.str0m_formats.specs.FormatParam.{pair_texts}
+use Rattle.str0m_signal.proofs.Common.{◌≡◌, ℕ, ◌<◌, length, Utf8, shadow, pair_texts}
 use Rattle.str0m_signal.specs.FmtpReading.{pairs_at, pairs_read}
 use Rattle.str0m_signal.proofs.FmtpLaws.{with_pairs}
 use Rattle.str0m_signal.proofs.pairs.pairs.Given as goal

@@ -1,6 +1,4 @@
-use Rattle.std.proofs.Common.{◌≡◌, length}
-use denote.Text.{Utf8}
-use denote.Shadow.{shadow}
+use Rattle.str0m_signal.proofs.Common.{◌≡◌, length, Utf8, shadow}
 use Rattle.str0m_signal.specs.FmtpReading.{skip_blanks}
 use Rattle.str0m_signal.proofs.pairs.skip_blanks.Given as goal
 

@@ -1,4 +1,4 @@
-use Rattle.std.proofs.Common.{arith}
+use Rattle.str0m_signal.proofs.Common.{arith}
 use Rattle.str0m_signal.proofs.PairLaws.{value_to}
 use Rattle.str0m_signal.proofs.pairs.value.Goals as goal
 

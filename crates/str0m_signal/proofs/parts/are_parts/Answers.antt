@@ -1,5 +1,4 @@
-use Rattle.std.proofs.Common.{rules, sym, ◌∙◌}
-use Rattle.str0m_values.specs.Separator.{code}
+use Rattle.str0m_signal.proofs.Common.{rules, sym, ◌∙◌, code}
 use Rattle.str0m_signal.proofs.PartLaws.{cut_shorter, one_part, no_part, last_part}
 use Rattle.str0m_signal.proofs.parts.are_parts.Goals as goal
 

@@ -1,5 +1,4 @@
-use Rattle.std.proofs.Common.{true, false, rules, sym}
-use Rattle.str0m_values.specs.Separator.{code}
+use Rattle.str0m_signal.proofs.Common.{true, false, rules, sym, code}
 use Rattle.str0m_signal.proofs.PartLaws.{takes_read, part_more, part_fails, part_ends, part_ends_fail, cut_shorter}
 use Rattle.str0m_signal.proofs.parts.read_parts.Goals as goal
 

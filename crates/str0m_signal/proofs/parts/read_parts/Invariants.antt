@@ -1,7 +1,4 @@
-use Rattle.std.proofs.Common.{◌≡◌, length}
-use denote.Text.{Utf8}
-use denote.Shadow.{shadow}
-use Rattle.str0m_values.specs.Separator.{code}
+use Rattle.str0m_signal.proofs.Common.{◌≡◌, length, Utf8, shadow, code}
 use Rattle.str0m_signal.specs.FormReading.{parted_read}
 use Rattle.str0m_signal.proofs.PartLaws.{with_front}
 use Rattle.str0m_signal.proofs.parts.read_parts.Given as goal

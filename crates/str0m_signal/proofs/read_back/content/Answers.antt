@@ -1,5 +1,4 @@
-use Rattle.std.proofs.Common.{◌++◌, List, ℕ, sym, ap, ◌∙◌}
-use Rattle.str0m_sdp.specs.Lines.{line_end}
+use Rattle.str0m_signal.proofs.Common.{◌++◌, List, ℕ, sym, ap, ◌∙◌, line_end}
 use Rattle.str0m_signal.proofs.ReadBackLaws.{plain_content, other_content}
 use Rattle.str0m_signal.proofs.read_back.content.Goals as goal
 

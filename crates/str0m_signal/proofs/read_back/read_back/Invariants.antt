@@ -1,5 +1,4 @@
-use Rattle.std.proofs.Common.{Some, take}
-use Rattle.str0m_values.specs.Only.{IsTheOnly}
+use Rattle.str0m_signal.proofs.Common.{Some, take, IsTheOnly}
 use Rattle.str0m_signal.specs.Writable.{AreReadAs, IsReadBy}
 use Rattle.str0m_signal.proofs.read_back.read_back.Given as goal
 

@@ -1,5 +1,4 @@
-use Rattle.std.proofs.Common.{[], sym, ◌∙◌}
-use Rattle.std.proofs.lemmas.List.{append-nil}
+use Rattle.str0m_signal.proofs.Common.{[], sym, ◌∙◌, append-nil}
 use Rattle.str0m_signal.proofs.ReadBackLaws.{empty_back}
 use Rattle.str0m_signal.proofs.read_back.text_back.Goals as goal
 

@@ -3,7 +3,7 @@ use Rattle.str0m_signal.specs.LineReading.{lines_of}
 use Rattle.str0m_signal.specs.CandidateLine.{IsCandidateLine}
 use Rattle.str0m_signal.proofs.AnswerLaws.{text_answers, text_one, line_answers}
 use Rattle.str0m_signal.proofs.ChainLaws.{one_line_only}
-use Rattle.str0m_values.proofs.CandidateLaws.{candidate_both}
+use Rattle.str0m_signal.proofs.Common.{candidate_both}
 use Rattle.str0m_signal.proofs.LineLaws.{attribute_both}
 use Rattle.str0m_signal.proofs.reader.candidate_attribute.Goals as goal
 

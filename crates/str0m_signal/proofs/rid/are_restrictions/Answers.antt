@@ -1,5 +1,4 @@
-use Rattle.std.proofs.Common.{rules, sym}
-use Rattle.std.specs.Prelude.{is_some}
+use Rattle.str0m_signal.proofs.Common.{rules, sym, is_some}
 use Rattle.str0m_signal.specs.RidReading.{restrictions_read}
 use Rattle.str0m_signal.proofs.RidLaws.{are_none, are_ended, are_more, restriction_shorter}
 use Rattle.str0m_signal.proofs.rid.are_restrictions.Goals as goal

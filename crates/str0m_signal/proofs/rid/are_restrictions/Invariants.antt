@@ -1,7 +1,4 @@
-use Rattle.std.proofs.Common.{◌≡◌, ℕ, ◌<◌, length}
-use Rattle.std.specs.Prelude.{is_some}
-use denote.Text.{Utf8}
-use denote.Shadow.{shadow}
+use Rattle.str0m_signal.proofs.Common.{◌≡◌, ℕ, ◌<◌, length, is_some, Utf8, shadow}
 use Rattle.str0m_signal.specs.RidReading.{restrictions_at, restrictions_read}
 use Rattle.str0m_signal.proofs.rid.are_restrictions.Given as goal
 

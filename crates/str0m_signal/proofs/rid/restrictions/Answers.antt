@@ -1,4 +1,4 @@
-use Rattle.std.proofs.Common.{rules, sym}
+use Rattle.str0m_signal.proofs.Common.{rules, sym}
 use Rattle.str0m_signal.specs.RidReading.{restrictions_read}
 use Rattle.str0m_signal.proofs.RidLaws.{restrictions_fail, restrictions_end, restrictions_more, restriction_shorter}
 use Rattle.str0m_signal.proofs.rid.restrictions.Goals as goal

@@ -1,6 +1,4 @@
-use Rattle.std.proofs.Common.{◌≡◌, ℕ, ◌<◌, length}
-use denote.Text.{Utf8}
-use denote.Shadow.{shadow}
+use Rattle.str0m_signal.proofs.Common.{◌≡◌, ℕ, ◌<◌, length, Utf8, shadow}
 use Rattle.str0m_signal.specs.RidReading.{restrictions_at, restrictions_read}
 use Rattle.str0m_signal.proofs.FmtpLaws.{with_pairs}
 use Rattle.str0m_signal.proofs.rid.restrictions.Given as goal

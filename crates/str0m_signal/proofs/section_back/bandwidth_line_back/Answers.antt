@@ -1,4 +1,4 @@
-use Rattle.std.proofs.lemmas.Result.{IfOk-weaker}
+use Rattle.str0m_signal.proofs.Common.{IfOk-weaker}
 use Rattle.str0m_signal.proofs.ReadBackLaws.{printed_by}
 use Rattle.str0m_signal.proofs.SectionLaws.{bandwidth_both}
 use Rattle.str0m_signal.proofs.section_back.bandwidth_line_back.Goals as goal

@@ -1,5 +1,4 @@
-use Rattle.std.proofs.Common.{option_map}
-use Rattle.std.proofs.lemmas.Result.{IfOk-weaker}
+use Rattle.str0m_signal.proofs.Common.{option_map, IfOk-weaker}
 use Rattle.str0m_signal.specs.Heads.{media_head}
 use Rattle.str0m_signal.proofs.ReadBackLaws.{printed_by}
 use Rattle.str0m_signal.proofs.SectionLaws.{head_both}

@@ -1,4 +1,4 @@
-use Rattle.std.proofs.Common.{sym, ◌∙◌}
+use Rattle.str0m_signal.proofs.Common.{sym, ◌∙◌}
 use Rattle.str0m_signal.proofs.WritableLaws.{frame_alone, no_frame, told_by}
 use Rattle.str0m_signal.proofs.section_back.is_frame.Goals as goal
 

@@ -1,5 +1,4 @@
-use Rattle.std.proofs.Common.{sym, ◌∙◌, true≢false}
-use Rattle.str0m_sdp.specs.MediaLine.{m_line}
+use Rattle.str0m_signal.proofs.Common.{sym, ◌∙◌, true≢false, m_line}
 use Rattle.str0m_signal.specs.Heads.{media_head}
 use Rattle.str0m_signal.specs.Section.{IsHead}
 use Rattle.str0m_signal.specs.Writable.{IsPrintedAs}

@@ -1,4 +1,4 @@
-use Rattle.std.proofs.lemmas.Result.{IfOk-weaker}
+use Rattle.str0m_signal.proofs.Common.{IfOk-weaker}
 use Rattle.str0m_signal.specs.LineReading.{lines_of}
 use Rattle.str0m_signal.proofs.ChainLaws.{run_of}
 use Rattle.str0m_signal.proofs.SessionLaws.{session_line_both}

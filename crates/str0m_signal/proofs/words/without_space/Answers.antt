@@ -1,4 +1,4 @@
-use Rattle.std.proofs.Common.{arith}
+use Rattle.str0m_signal.proofs.Common.{arith}
 use Rattle.str0m_signal.proofs.LineLaws.{without_suffix}
 use Rattle.str0m_signal.proofs.WordsLaws.{space_gone}
 use Rattle.str0m_signal.proofs.words.without_space.Goals as goal

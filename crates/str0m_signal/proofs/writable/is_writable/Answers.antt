@@ -1,6 +1,4 @@
-use Rattle.std.proofs.Common.{Bool, refl}
-use Rattle.std.specs.Prelude.{◌↔◌, IsTrue}
-use Rattle.std.proofs.lemmas.Result.{IfOk-weaker}
+use Rattle.str0m_signal.proofs.Common.{Bool, refl, ◌↔◌, IsTrue, IfOk-weaker}
 use Rattle.str0m_signal.specs.Writable.{Writable}
 use Rattle.str0m_signal.specs.WrittenAgain.{IsOverSrtp, IsRead, MayBeWrittenAgain}
 use Rattle.str0m_signal.proofs.ReadingAgain.{read_is_writable}

@@ -1,4 +1,4 @@
-use Rattle.std.proofs.Common.{sym, ◌∙◌, true≢false}
+use Rattle.str0m_signal.proofs.Common.{sym, ◌∙◌, true≢false}
 use Rattle.str0m_signal.proofs.WritableLaws.{others_more, one_lost, all_back}
 use Rattle.str0m_signal.proofs.writable.others_come_back.Goals.{else-i-own-via-then-i-own+in_ok-comes_back+else-not-branch, else-i-own-via-else-i-own}
 use Rattle.str0m_signal.proofs.writable.others_come_back.Goals as goal

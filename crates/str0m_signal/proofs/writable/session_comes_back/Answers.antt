@@ -1,4 +1,4 @@
-use Rattle.std.proofs.lemmas.Result.{IfOk-weaker}
+use Rattle.str0m_signal.proofs.Common.{IfOk-weaker}
 use Rattle.str0m_signal.proofs.WritableLaws.{back_beside, lost_beside}
 use Rattle.str0m_signal.proofs.writable.session_comes_back.Goals.{in-Some, in-None}
 use Rattle.str0m_signal.proofs.writable.session_comes_back.Goals as goal

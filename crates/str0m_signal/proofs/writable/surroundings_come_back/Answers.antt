@@ -1,6 +1,4 @@
-use Rattle.std.proofs.Common.{length, refl}
-use Rattle.std.proofs.lemmas.Option.{slice_get_read}
-use Rattle.std.proofs.lemmas.Result.{IfOk-weaker}
+use Rattle.str0m_signal.proofs.Common.{length, refl, slice_get_read, IfOk-weaker}
 use Rattle.str0m_signal.proofs.WritableLaws.{writable_with}
 use Rattle.str0m_signal.proofs.writable.surroundings_come_back.Goals as goal
 

@@ -1,4 +1,4 @@
-use Rattle.std.proofs.Common.{◌∙◌}
+use Rattle.str0m_values.proofs.Common.{◌∙◌}
 use Rattle.str0m_values.proofs.CutLaws.{has_cut}
 use Rattle.str0m_values.specs.Separator.{code}
 use Rattle.str0m_values.proofs.cuts.has.Goals as goal

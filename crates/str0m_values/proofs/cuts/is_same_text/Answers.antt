@@ -1,5 +1,4 @@
-use Rattle.std.proofs.Common.{rules}
-use Rattle.std.proofs.lemmas.Slice.Eq.{bytes_eq-Decides}
+use Rattle.str0m_values.proofs.Common.{rules, bytes_eq-Decides}
 use Rattle.str0m_values.proofs.cuts.is_same_text.Goals as goal
 
 pub returns : goal.returns

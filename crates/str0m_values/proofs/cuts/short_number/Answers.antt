@@ -1,7 +1,6 @@
-use Rattle.std.proofs.Common.{arith, get_or}
+use Rattle.str0m_values.proofs.Common.{arith, get_or, digit_from_value}
 use Rattle.std.proofs.lemmas.Int.Digits.{digits_more, digits_value_more}
 use Rattle.std.proofs.lemmas.Str.{digit_value_digit}
-use Rattle.std.proofs.lemmas.Str.Parse.{digit_from_value}
 use Rattle.str0m_values.proofs.NearLaws.{eighteen_digits}
 use Rattle.str0m_values.proofs.cuts.short_number.Goals as goal
 

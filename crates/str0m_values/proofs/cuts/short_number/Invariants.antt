@@ -1,5 +1,4 @@
-use Rattle.std.proofs.Common.{◌≡◌, take}
-use Rattle.std.specs.Str.Parse.{AllDigits, digits_value}
+use Rattle.str0m_values.proofs.Common.{◌≡◌, take, AllDigits, digits_value}
 use Rattle.str0m_values.proofs.cuts.short_number.Given as goal
 
 abbrev pub invariant-loop-i : goal.invariant-loop-i

@@ -1,4 +1,4 @@
-use Rattle.std.proofs.Common.{sym}
+use Rattle.str0m_values.proofs.Common.{sym}
 use Rattle.str0m_values.specs.declared.fingerprint.FingerprintError.TheVariants.{Memory}
 use Rattle.str0m_values.proofs.CutLaws.{cut_none_lacks, cut_found}
 use Rattle.str0m_values.proofs.FingerprintLaws.{refused, was_err, named_space}

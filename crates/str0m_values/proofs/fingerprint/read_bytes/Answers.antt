@@ -1,5 +1,4 @@
-use Rattle.std.proofs.Common.{◌≡◌, ℕ, List, ◌∷◌, [], ◌++◌, length, take, lit<, sym, ap, ◌∙◌, arith, subst}
-use Rattle.std.specs.List.{AllZip}
+use Rattle.str0m_values.proofs.Common.{◌≡◌, ℕ, List, ◌∷◌, [], ◌++◌, length, take, lit<, sym, ap, ◌∙◌, arith, subst, AllZip}
 use Rattle.std.proofs.lemmas.Iterator.Splits.{YieldsList-from_str_split}
 use Rattle.std.proofs.lemmas.Iterator.Consumers.{YieldsList-turn, YieldsList-end}
 use Rattle.std.proofs.lemmas.List.{take_more, length_push, take_all}

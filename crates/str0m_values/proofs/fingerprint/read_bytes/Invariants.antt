@@ -1,5 +1,4 @@
-use Rattle.std.proofs.Common.{length, take}
-use Rattle.std.specs.List.{AllZip}
+use Rattle.str0m_values.proofs.Common.{length, take, AllZip}
 use Rattle.str0m_values.specs.Fingerprint.{IsByte, pieces_of}
 use Rattle.str0m_values.proofs.fingerprint.read_bytes.Given as goal
 

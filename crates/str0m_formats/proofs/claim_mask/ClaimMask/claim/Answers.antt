@@ -1,5 +1,4 @@
-use Rattle.std.proofs.Common.{◌*◌, ◌^◌, ◌%◌, bit_or, ap, ◌∙◌, arith}
-use Rattle.std.proofs.lemmas.Nat.{or_lt}
+use Rattle.str0m_formats.proofs.Common.{◌*◌, ◌^◌, ◌%◌, bit_or, ap, ◌∙◌, arith, or_lt}
 use Rattle.str0m_formats.specs.ClaimMask.{bit_set}
 use Rattle.str0m_formats.proofs.MaskBits.{set_bit}
 use Rattle.str0m_formats.proofs.claim_mask.ClaimMask.claim.Goals as goal

@@ -1,4 +1,4 @@
-use Rattle.std.proofs.Common.{◌≡◌, ◌||◌, refl, ap, ◌∙◌}
+use Rattle.str0m_formats.proofs.Common.{◌≡◌, ◌||◌, refl, ap, ◌∙◌}
 use Rattle.str0m_formats.specs.TypeSets.{free}
 use Rattle.str0m_formats.specs.ClaimMask.{bit_set}
 use Rattle.str0m_formats.proofs.MaskBits.{free-from_masks}

@@ -1,4 +1,4 @@
-use Rattle.std.proofs.Common.{false}
+use Rattle.str0m_formats.proofs.Common.{false}
 use Rattle.str0m_formats.proofs.Ranges.{get_or-replicate_same}
 use Rattle.str0m_formats.proofs.claimed.ArrayBool128Claimed.none_claimed.Goals as goal
 

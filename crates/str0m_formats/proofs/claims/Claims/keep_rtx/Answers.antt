@@ -1,4 +1,4 @@
-use Rattle.std.proofs.Common.{◌≡◌, ℕ, Option, Some, subst, rules}
+use Rattle.str0m_formats.proofs.Common.{◌≡◌, ℕ, Option, Some, subst, rules}
 use Rattle.str0m_formats.specs.TypeSets.{with_option}
 use Rattle.str0m_formats.specs.Claiming.{Serves}
 use Rattle.str0m_formats.proofs.claims.Claims.keep_rtx.Goals as goal

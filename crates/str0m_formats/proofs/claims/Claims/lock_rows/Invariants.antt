@@ -1,4 +1,4 @@
-use Rattle.std.proofs.Common.{◌≡◌}
+use Rattle.str0m_formats.proofs.Common.{◌≡◌}
 use Rattle.str0m_formats.proofs.FirstPass.{FirstState}
 use Rattle.str0m_formats.proofs.claims.Claims.lock_rows.Given as goal
 

@@ -1,4 +1,4 @@
-use Rattle.std.proofs.Common.{Result, Ok, sym, ap, ◌∙◌, rules, arith, get_or, take}
+use Rattle.str0m_formats.proofs.Common.{Result, Ok, sym, ap, ◌∙◌, rules, arith, get_or, take}
 use Rattle.str0m_formats.specs.TypeSets.{TypeSet, has}
 use Rattle.str0m_formats.specs.declared.negotiation_error.NegotiationError.{NegotiationError}
 use Rattle.str0m_formats.specs.Rows.{locked_types}

@@ -1,4 +1,4 @@
-use Rattle.std.proofs.Common.{sym, ◌∙◌}
+use Rattle.str0m_formats.proofs.Common.{sym, ◌∙◌}
 use Rattle.str0m_formats.proofs.Sets.{claimed_with, free-small}
 use Rattle.str0m_formats.proofs.claims.Claims.take_free.Goals as goal
 

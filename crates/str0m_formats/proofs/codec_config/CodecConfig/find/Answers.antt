@@ -1,4 +1,4 @@
-use Rattle.std.proofs.Common.{refl}
+use Rattle.str0m_formats.proofs.Common.{refl}
 use denote.Param.Always.{mut_next}
 use Rattle.str0m_formats.proofs.Asked.{RefusedAll-take, FirstAccepted-at}
 use Rattle.str0m_formats.proofs.codec_config.CodecConfig.find.Goals as goal

@@ -1,4 +1,4 @@
-use Rattle.std.proofs.Common.{take}
+use Rattle.str0m_formats.proofs.Common.{take}
 use Rattle.str0m_formats.specs.Choices.{RefusedAll}
 use Rattle.str0m_formats.proofs.codec_config.CodecConfig.find.Given as goal
 

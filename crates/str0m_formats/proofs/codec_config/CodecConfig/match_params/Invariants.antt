@@ -1,4 +1,4 @@
-use Rattle.std.proofs.Common.{take}
+use Rattle.str0m_formats.proofs.Common.{take}
 use Rattle.str0m_formats.specs.Choices.{points_with, seen}
 use Rattle.str0m_formats.proofs.ChoiceSteps.{IsChoiceSoFar}
 use Rattle.str0m_formats.proofs.codec_config.CodecConfig.match_params.Given as goal

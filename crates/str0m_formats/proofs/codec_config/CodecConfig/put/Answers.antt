@@ -1,4 +1,4 @@
-use Rattle.std.proofs.Common.{ap, ◌∙◌, rules}
+use Rattle.str0m_formats.proofs.Common.{ap, ◌∙◌, rules}
 use Rattle.std.proofs.lemmas.Fn.{filter_same}
 use Rattle.str0m_formats.specs.DefaultRows.{others}
 use Rattle.str0m_formats.proofs.DefaultRows.{put_ok}

@@ -1,7 +1,5 @@
-use Rattle.std.proofs.Common.{List, ap, ◌∙◌, subst, arith}
-use Rattle.std.proofs.lemmas.List.{length-set}
+use Rattle.str0m_formats.proofs.Common.{List, ap, ◌∙◌, subst, arith, length-set, receives}
 use Rattle.str0m_formats.specs.declared.payload_params.PayloadParams.{PayloadParams}
-use Rattle.str0m_values.specs.Direction.{receives}
 use Rattle.str0m_formats.specs.declared.codec_config.CodecConfig.{CodecConfig}
 use Rattle.str0m_formats.specs.Runs.{Ran}
 use Rattle.str0m_formats.proofs.RunSteps.{ran_from, reached_step, OnErr_map}

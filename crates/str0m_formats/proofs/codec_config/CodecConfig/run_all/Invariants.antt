@@ -1,4 +1,4 @@
-use Rattle.std.proofs.Common.{◌≡◌, length, take}
+use Rattle.str0m_formats.proofs.Common.{◌≡◌, length, take}
 use Rattle.str0m_formats.specs.Runs.{Reached}
 use Rattle.str0m_formats.proofs.codec_config.CodecConfig.run_all.Given as goal
 

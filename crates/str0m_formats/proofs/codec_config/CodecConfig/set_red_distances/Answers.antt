@@ -1,4 +1,4 @@
-use Rattle.std.proofs.Common.{List, ℕ, sym, subst}
+use Rattle.str0m_formats.proofs.Common.{List, ℕ, sym, subst}
 use Rattle.str0m_formats.specs.RedDistances.{AreKept}
 use Rattle.str0m_formats.proofs.RedDistances.{are_kept}
 use Rattle.str0m_formats.proofs.codec_config.CodecConfig.set_red_distances.Goals as goal

@@ -1,8 +1,7 @@
-use Rattle.std.proofs.Common.{◌≡◌, ◌++◌, Err, List, length, take, drop, Bool, sym, ap, ◌∙◌, subst, rules}
+use Rattle.str0m_formats.proofs.Common.{◌≡◌, ◌++◌, Err, List, length, take, drop, Bool, sym, ap, ◌∙◌, subst, rules, receives}
 use Rattle.std.proofs.lemmas.List.Elements.{same_from_all_zip}
 use Rattle.str0m_formats.specs.declared.payload_params.PayloadParams.{PayloadParams}
 use Rattle.str0m_formats.specs.Rounds.{Leaves}
-use Rattle.str0m_values.specs.Direction.{receives}
 use Rattle.str0m_formats.proofs.Passes.{take-length_append}
 use Rattle.str0m_formats.proofs.FirstPass.{IfErr_from}
 use Rattle.str0m_formats.proofs.WholeRound.{refused_as_copied}

@@ -1,5 +1,4 @@
-use Rattle.std.proofs.Common.{ap, map, sym}
-use Rattle.std.specs.Char.{to_ascii_lowercase}
+use Rattle.str0m_formats.proofs.Common.{ap, map, sym, to_ascii_lowercase}
 use Rattle.str0m_formats.proofs.ParamLaws.{key_only}
 use Rattle.str0m_formats.proofs.format_key.FormatKey.named.Goals as goal
 

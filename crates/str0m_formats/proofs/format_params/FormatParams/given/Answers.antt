@@ -1,4 +1,4 @@
-use Rattle.std.proofs.Common.{rules, ◌≡◌, sym, ap, ◌∙◌, arith, length}
+use Rattle.str0m_formats.proofs.Common.{rules, ◌≡◌, sym, ap, ◌∙◌, arith, length}
 use Rattle.str0m_formats.specs.declared.format_params.TheConstants.{FIELDS}
 use Rattle.str0m_formats.proofs.Listed.{params_to, params_push, params_pass, params_all}
 use Rattle.str0m_formats.proofs.format_params.FormatParams.given.Goals as goal

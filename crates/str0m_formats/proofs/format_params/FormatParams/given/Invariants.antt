@@ -1,4 +1,4 @@
-use Rattle.std.proofs.Common.{◌≡◌}
+use Rattle.str0m_formats.proofs.Common.{◌≡◌}
 use Rattle.str0m_formats.proofs.Listed.{params_to}
 use Rattle.str0m_formats.proofs.format_params.FormatParams.given.Given as goal
 

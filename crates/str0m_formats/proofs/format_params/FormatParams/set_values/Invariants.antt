@@ -1,4 +1,4 @@
-use Rattle.std.proofs.Common.{◌≡◌, take}
+use Rattle.str0m_formats.proofs.Common.{◌≡◌, take}
 use Rattle.str0m_formats.specs.FormatParams.{set_all}
 use Rattle.str0m_formats.specs.FormatLine.{kept}
 use Rattle.str0m_formats.proofs.format_params.FormatParams.set_values.Given as goal

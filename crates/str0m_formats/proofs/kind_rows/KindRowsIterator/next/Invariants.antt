@@ -1,4 +1,4 @@
-use Rattle.std.proofs.Common.{◌≡◌, length}
+use Rattle.str0m_formats.proofs.Common.{◌≡◌, length}
 use Rattle.str0m_formats.specs.KindRows.{rows_left}
 use Rattle.str0m_formats.proofs.kind_rows.KindRowsIterator.next.Given as goal
 

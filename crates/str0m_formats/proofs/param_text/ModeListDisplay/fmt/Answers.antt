@@ -1,6 +1,5 @@
-use Rattle.std.proofs.Common.{◌≡◌, ◌≢◌, ◌^◌, ◌++◌, refl, sym, ap, ◌∙◌, arith, bit_and}
-use Rattle.std.specs.Fmt.{decimal}
-use Rattle.std.proofs.Output.{has_written_append, has_written_of_eq}
+use Rattle.str0m_formats.proofs.Common.{◌≡◌, ◌≢◌, ◌^◌, ◌++◌, refl, sym, ap, ◌∙◌, arith, decimal, has_written_append, has_written_of_eq}
+use Rattle.std.proofs.Common.{bit_and}
 use Rattle.str0m_formats.specs.FormatParam.{comma_if}
 use Rattle.str0m_formats.proofs.Printed.{modes_below, listed, listed_push, has_some, has_some_push, modes_push, modes_pass, shifted_one}
 use Rattle.str0m_formats.proofs.param_text.ModeListDisplay.fmt.Goals as goal

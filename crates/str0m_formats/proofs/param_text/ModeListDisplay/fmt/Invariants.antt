@@ -1,5 +1,4 @@
-use Rattle.std.proofs.Common.{◌≡◌}
-use Rattle.std.specs.Fmt.{HasWritten, IsPlainFormatter}
+use Rattle.str0m_formats.proofs.Common.{◌≡◌, HasWritten, IsPlainFormatter}
 use Rattle.str0m_formats.proofs.Printed.{has_some, modes_below, listed}
 use Rattle.str0m_formats.proofs.param_text.ModeListDisplay.fmt.Given as goal
 

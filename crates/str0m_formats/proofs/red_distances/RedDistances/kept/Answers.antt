@@ -1,4 +1,4 @@
-use Rattle.std.proofs.Common.{◌≡◌, ◌+◌, ℕ, List, length, sym, ap, ◌∙◌, subst, rules, arith}
+use Rattle.str0m_formats.proofs.Common.{◌≡◌, ◌+◌, ℕ, List, length, sym, ap, ◌∙◌, subst, rules, arith}
 use Rattle.std.proofs.Math.ListN.{length-set}
 use Rattle.str0m_formats.specs.RedDistances.{AreDistances, kept_to}
 use Rattle.str0m_formats.proofs.RedDistances.{kept_none, kept_taken, kept_skipped, kept_distances}

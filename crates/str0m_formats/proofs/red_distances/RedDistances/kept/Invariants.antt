@@ -1,4 +1,4 @@
-use Rattle.std.proofs.Common.{◌≡◌, ◌≤◌, length, take}
+use Rattle.str0m_formats.proofs.Common.{◌≡◌, ◌≤◌, length, take}
 use Rattle.str0m_formats.specs.RedDistances.{kept_to}
 use Rattle.str0m_formats.proofs.red_distances.RedDistances.kept.Given as goal
 

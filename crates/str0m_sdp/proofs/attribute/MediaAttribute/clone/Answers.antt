@@ -1,4 +1,4 @@
-use Rattle.std.proofs.Common.{rules}
+use Rattle.str0m_sdp.proofs.Common.{rules}
 use Rattle.str0m_sdp.proofs.Copies.{attribute_copied}
 use Rattle.str0m_sdp.proofs.attribute.MediaAttribute.clone.Goals as goal
 

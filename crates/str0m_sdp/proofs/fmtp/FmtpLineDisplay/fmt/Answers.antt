@@ -1,5 +1,4 @@
-use Rattle.std.proofs.Common.{arith, append_assoc}
-use Rattle.std.proofs.lemmas.Grind.{common_steps}
+use Rattle.str0m_sdp.proofs.Common.{arith, append_assoc, common_steps}
 use Rattle.str0m_sdp.proofs.fmtp.FmtpLineDisplay.fmt.Goals as goal
 
 pub returns-clause-writes : goal.returns-clause-writes

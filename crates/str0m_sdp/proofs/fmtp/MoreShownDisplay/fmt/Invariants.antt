@@ -1,7 +1,4 @@
-use Rattle.std.proofs.Common.{◌++◌, take, filter}
-use Rattle.std.specs.Prelude.{codes}
-use Rattle.std.specs.List.{flat_map}
-use Rattle.std.specs.Fmt.{HasWritten, IsPlainFormatter}
+use Rattle.str0m_sdp.proofs.Common.{◌++◌, take, filter, codes, flat_map, HasWritten, IsPlainFormatter}
 use Rattle.str0m_formats.specs.FormatParam.{param_text}
 use Rattle.str0m_sdp.specs.Fmtp.{is_shown}
 use Rattle.str0m_sdp.proofs.fmtp.MoreShownDisplay.fmt.Given as goal

@@ -1,4 +1,4 @@
-use Rattle.std.proofs.Common.{rules}
+use Rattle.str0m_sdp.proofs.Common.{rules}
 use Rattle.str0m_sdp.proofs.Copies.{line_copied}
 use Rattle.str0m_sdp.proofs.media_line.MediaLine.clone.Goals as goal
 

@@ -1,5 +1,4 @@
-use Rattle.std.proofs.Common.{[], ap, sym, ◌++◌, ◌∙◌, ◌∷◌}
-use Rattle.std.proofs.lemmas.List.{map-append}
+use Rattle.str0m_sdp.proofs.Common.{[], ap, sym, ◌++◌, ◌∙◌, ◌∷◌, map-append}
 use Rattle.str0m_sdp.specs.SectionAccessors.{ext_map_at, ext_map_of}
 use Rattle.str0m_sdp.proofs.ListLaws.{filter_map_more, filter_map_same}
 use Rattle.str0m_sdp.proofs.media_line.MediaLine.extmaps.Goals.{in-Some+in_ok-push, in_default}

@@ -1,4 +1,4 @@
-use Rattle.std.proofs.Common.{◌≡◌, filter_map, map, take}
+use Rattle.str0m_sdp.proofs.Common.{◌≡◌, filter_map, map, take}
 use Rattle.str0m_sdp.specs.SectionAccessors.{ext_map_at, ext_map_of}
 use Rattle.str0m_sdp.proofs.media_line.MediaLine.extmaps.Given as goal
 

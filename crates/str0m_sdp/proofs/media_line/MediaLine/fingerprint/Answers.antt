@@ -1,4 +1,4 @@
-use Rattle.std.proofs.Common.{ap, filter_map, ◌∙◌}
+use Rattle.str0m_sdp.proofs.Common.{ap, filter_map, ◌∙◌}
 use Rattle.str0m_sdp.specs.PreferredFingerprint.{preferred}
 use Rattle.str0m_sdp.specs.Transport.{media_fingerprint}
 use Rattle.str0m_sdp.proofs.Preferred.{preferred_copied}

@@ -1,5 +1,4 @@
-use Rattle.std.proofs.Common.{nat_eq, ap, subst, sym, ◌∙◌}
-use Rattle.indexmap.specs.IndexMap.{insert_entry}
+use Rattle.str0m_sdp.proofs.Common.{nat_eq, ap, subst, sym, ◌∙◌, insert_entry}
 use Rattle.str0m_sdp.specs.Sources.{ArePlaced, entries}
 use Rattle.str0m_sdp.specs.SsrcReading.{with_value, so_far}
 use Rattle.str0m_sdp.proofs.SsrcLaws.{put_value, pass_value}

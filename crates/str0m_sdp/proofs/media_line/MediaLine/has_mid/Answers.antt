@@ -1,4 +1,4 @@
-use Rattle.std.proofs.Common.{rules}
+use Rattle.str0m_sdp.proofs.Common.{rules}
 use Rattle.str0m_sdp.proofs.Holders.{mid_counted}
 use Rattle.str0m_sdp.proofs.media_line.MediaLine.has_mid.Goals as goal
 

@@ -1,8 +1,5 @@
-use Rattle.std.proofs.Common.{◌≡◌, ◌==◌, ◌++◌, ℕ, List, take, filter_map, nat_eq, ap, sym, ◌∙◌, append_assoc}
-use Rattle.std.specs.List.{list_any}
+use Rattle.str0m_sdp.proofs.Common.{◌≡◌, ◌==◌, ◌++◌, ℕ, List, take, filter_map, nat_eq, ap, sym, ◌∙◌, append_assoc, list_any, append-nil, length-set, take_all, CodecSpec}
 use Rattle.std.specs.Option.{option_to_list}
-use Rattle.std.proofs.lemmas.List.{append-nil, length-set, take_all}
-use Rattle.str0m_formats.specs.declared.codec_spec.CodecSpec.{CodecSpec}
 use Rattle.str0m_sdp.specs.Consistency.{maps}
 use Rattle.str0m_sdp.specs.Lists.{distinct}
 use Rattle.str0m_sdp.specs.Mappings.{mapping, unmapped, mapped, static_row}

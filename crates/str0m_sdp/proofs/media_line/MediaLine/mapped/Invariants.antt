@@ -1,5 +1,4 @@
-use Rattle.std.proofs.Common.{◌≡◌, ◌<◌, ◌++◌, ◌==◌, ◌||◌, ℕ, false, nat_eq, get_or, length, take, filter_map}
-use Rattle.std.specs.List.{list_any}
+use Rattle.str0m_sdp.proofs.Common.{◌≡◌, ◌<◌, ◌++◌, ◌==◌, ◌||◌, ℕ, false, nat_eq, get_or, length, take, filter_map, list_any}
 use Rattle.str0m_sdp.specs.Consistency.{maps}
 use Rattle.str0m_sdp.specs.Lists.{distinct}
 use Rattle.str0m_sdp.specs.Mappings.{mapping, unmapped}

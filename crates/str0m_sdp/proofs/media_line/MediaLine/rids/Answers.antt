@@ -1,4 +1,4 @@
-use Rattle.std.proofs.Common.{filter_map, take}
+use Rattle.str0m_sdp.proofs.Common.{filter_map, take}
 use Rattle.str0m_values.proofs.ZipLaws.{AllZip-push}
 use Rattle.str0m_sdp.specs.SectionAccessors.{IsRidOf, rid_name_of}
 use Rattle.str0m_sdp.proofs.ListLaws.{filter_map_more, filter_map_same}

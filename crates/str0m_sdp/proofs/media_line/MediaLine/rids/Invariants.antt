@@ -1,5 +1,4 @@
-use Rattle.std.proofs.Common.{filter_map, take}
-use Rattle.std.specs.List.{AllZip}
+use Rattle.str0m_sdp.proofs.Common.{filter_map, take, AllZip}
 use Rattle.str0m_sdp.specs.SectionAccessors.{IsRidOf, rid_name_of}
 use Rattle.str0m_sdp.proofs.media_line.MediaLine.rids.Given as goal
 

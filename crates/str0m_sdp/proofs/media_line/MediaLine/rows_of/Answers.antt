@@ -1,13 +1,4 @@
-use Rattle.std.proofs.Common.{◌++◌, ◌==◌, ℕ, List, replicate, filter, filter_map, option_to_list, refl, rules, tests, sym, ap, ◌∙◌}
-use Rattle.std.specs.Borrow.{Bor}
-use Rattle.std.specs.List.{list_any}
-use Rattle.std.proofs.lemmas.List.{take_all}
-use Rattle.std.proofs.lemmas.List.Elements.{All-same}
-use Rattle.str0m_formats.specs.FormatLine.{line_values}
-use Rattle.str0m_formats.specs.declared.format_param.FormatParam.{FormatParam}
-use Rattle.str0m_formats.specs.declared.codec_spec.CodecSpec.{CodecSpec}
-use Rattle.str0m_formats.specs.declared.payload_params.PayloadParams.{PayloadParams}
-use Rattle.str0m_formats.specs.Bounds.{IsBounded}
+use Rattle.str0m_sdp.proofs.Common.{◌++◌, ◌==◌, ℕ, List, replicate, filter, filter_map, option_to_list, refl, rules, tests, sym, ap, ◌∙◌, Bor, list_any, take_all, All-same, line_values, FormatParam, CodecSpec, PayloadParams, IsBounded}
 use Rattle.str0m_sdp.specs.FmtpLines.{lines_with}
 use Rattle.str0m_sdp.specs.SectionRows.{is_kept, row, rows}
 use Rattle.str0m_sdp.specs.declared.feedback.Feedback.{Feedback}

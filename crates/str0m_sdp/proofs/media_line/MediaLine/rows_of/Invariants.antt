@@ -1,4 +1,4 @@
-use Rattle.std.proofs.Common.{◌≡◌, take, filter, filter_map}
+use Rattle.str0m_sdp.proofs.Common.{◌≡◌, take, filter, filter_map}
 use Rattle.str0m_sdp.specs.SectionRows.{is_kept, row}
 use Rattle.str0m_sdp.specs.TypeLines.{AreKnown}
 use Rattle.str0m_sdp.proofs.media_line.MediaLine.rows_of.Given as goal

@@ -1,5 +1,4 @@
-use Rattle.std.proofs.Common.{rules, tests}
-use Rattle.std.proofs.lemmas.Iterator.{YieldsList-from_slice}
+use Rattle.str0m_sdp.proofs.Common.{rules, tests, YieldsList-from_slice}
 use Rattle.str0m_sdp.specs.SectionAccessors.{sctp_init_of}
 use Rattle.str0m_sdp.proofs.Finding.{first_from_find_map}
 use Rattle.str0m_sdp.proofs.media_line.MediaLine.sctp_init.Goals as goal

@@ -1,5 +1,5 @@
-use Rattle.std.proofs.Common.{ap, slice_set, ◌∙◌}
-use Rattle.std.specs.List.{position_or_len}
+use Rattle.str0m_sdp.proofs.Common.{ap, ◌∙◌, position_or_len}
+use Rattle.std.proofs.Common.{slice_set}
 use Rattle.str0m_sdp.specs.Consistency.{is_direction}
 use Rattle.str0m_sdp.specs.SectionDirection.{section_direction}
 use Rattle.str0m_sdp.specs.declared.attribute.MediaAttribute.{MediaAttribute}

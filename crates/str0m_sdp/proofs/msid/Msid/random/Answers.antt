@@ -1,4 +1,4 @@
-use Rattle.std.proofs.Common.{ap, ◌∙◌}
+use Rattle.str0m_sdp.proofs.Common.{ap, ◌∙◌}
 use Rattle.str0m_sdp.specs.RandomId.{after_words}
 use Rattle.str0m_sdp.proofs.RandomIdLaws.{words_twice}
 use Rattle.str0m_sdp.proofs.msid.Msid.random.Goals as goal

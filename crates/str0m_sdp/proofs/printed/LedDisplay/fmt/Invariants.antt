@@ -1,6 +1,4 @@
-use Rattle.std.proofs.Common.{◌++◌, take}
-use Rattle.std.specs.List.{flat_map}
-use Rattle.std.specs.Fmt.{HasWritten, IsPlainFormatter}
+use Rattle.str0m_sdp.proofs.Common.{◌++◌, take, flat_map, HasWritten, IsPlainFormatter}
 use Rattle.str0m_sdp.proofs.printed.LedDisplay.fmt.Given as goal
 
 -- the items so far are written, each behind the lead

@@ -1,7 +1,4 @@
-use Rattle.std.proofs.Common.{◌++◌, take}
-use Rattle.std.specs.Prelude.{codes}
-use Rattle.std.specs.List.{flat_map}
-use Rattle.std.specs.Fmt.{HasWritten, IsPlainFormatter}
+use Rattle.str0m_sdp.proofs.Common.{◌++◌, take, codes, flat_map, HasWritten, IsPlainFormatter}
 use Rattle.str0m_sdp.specs.Rid.{restriction_text}
 use Rattle.str0m_sdp.proofs.rid.PairsDisplay.fmt.Given as goal
 

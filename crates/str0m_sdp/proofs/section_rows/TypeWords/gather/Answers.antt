@@ -1,5 +1,4 @@
-use Rattle.std.proofs.Common.{◌≡◌, [], rules, tests, refl}
-use Rattle.std.proofs.lemmas.List.{take_all}
+use Rattle.str0m_sdp.proofs.Common.{◌≡◌, [], rules, tests, refl, take_all}
 use Rattle.str0m_sdp.proofs.GatherLaws.{fmtp_gathered, feedback_gathered, other_gathered}
 use Rattle.str0m_sdp.proofs.section_rows.TypeWords.gather.Goals.{in-Fmtp+in_ok-push-in-Fmtp, in-RtcpFb, in_default}
 use Rattle.str0m_sdp.proofs.section_rows.TypeWords.gather.Goals as goal

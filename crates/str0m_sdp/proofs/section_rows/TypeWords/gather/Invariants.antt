@@ -1,4 +1,4 @@
-use Rattle.std.proofs.Common.{◌≡◌, take}
+use Rattle.str0m_sdp.proofs.Common.{◌≡◌, take}
 use Rattle.str0m_sdp.specs.TypeWords.{AreOf}
 use Rattle.str0m_sdp.proofs.section_rows.TypeWords.gather.Given as goal
 

@@ -1,7 +1,4 @@
-use Rattle.std.proofs.Common.{◌≡◌, ◌++◌, ◌∙◌, Option, Some, None, option_to_list, sym, ap}
-use Rattle.std.proofs.lemmas.List.{append-nil}
-use Rattle.str0m_formats.specs.declared.payload_params.PayloadParams.{PayloadParams}
-use Rattle.str0m_formats.specs.FormatLine.{format_of_fmtp}
+use Rattle.str0m_sdp.proofs.Common.{◌≡◌, ◌++◌, ◌∙◌, Option, Some, None, option_to_list, sym, ap, append-nil, PayloadParams, format_of_fmtp}
 use Rattle.str0m_sdp.specs.SectionRows.{lines_of}
 use Rattle.str0m_sdp.proofs.SectionRowLaws.{row_is, no_row, pushed}
 use Rattle.str0m_sdp.proofs.section_rows.TypeWords.push_row.Goals as goal

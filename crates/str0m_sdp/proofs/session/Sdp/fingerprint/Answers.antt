@@ -1,5 +1,4 @@
-use Rattle.std.proofs.Common.{ap, filter_map, map, ◌∙◌}
-use Rattle.std.specs.Option.{option_or}
+use Rattle.str0m_sdp.proofs.Common.{ap, filter_map, map, ◌∙◌, option_or}
 use Rattle.str0m_sdp.specs.PreferredFingerprint.{first_filled, media_fingerprints, preferred}
 use Rattle.str0m_sdp.specs.Transport.{session_fingerprint}
 use Rattle.str0m_sdp.proofs.Preferred.{preferred_among, preferred_copied, preferred_of_first}

@@ -1,5 +1,4 @@
-use Rattle.std.proofs.Common.{sym, subst}
-use Rattle.std.specs.Cmp.{decided}
+use Rattle.str0m_sdp.proofs.Common.{sym, subst, decided}
 use Rattle.str0m_sdp.specs.Candidates.{section_candidates, all_candidates, same_candidate}
 use Rattle.str0m_sdp.specs.DistinctCandidates.{IsEachOnce}
 use Rattle.str0m_sdp.specs.SeenCandidates.{seen}

@@ -1,6 +1,4 @@
-use Rattle.std.proofs.Common.{◌≡◌, [], drop}
-use Rattle.std.specs.List.{flat_map}
-use Rattle.indexmap.specs.IndexSet.{insert_all}
+use Rattle.str0m_sdp.proofs.Common.{◌≡◌, [], drop, flat_map, insert_all}
 use Rattle.str0m_sdp.specs.Candidates.{section_candidates, all_candidates, same_candidate}
 use Rattle.str0m_sdp.specs.SeenCandidates.{AreByKey, seen}
 use Rattle.str0m_sdp.proofs.session.Sdp.ice_candidates.Given as goal

@@ -1,5 +1,4 @@
-use Rattle.std.proofs.Common.{Some, nat_eq, refl, ap, ◌∙◌}
-use Rattle.indexmap.specs.IndexMap.{insert_entry}
+use Rattle.str0m_sdp.proofs.Common.{Some, nat_eq, refl, ap, ◌∙◌, insert_entry}
 use Rattle.str0m_sdp.specs.Sources.{entries}
 use Rattle.str0m_sdp.specs.declared.ssrc_info.SsrcInfo.{SsrcInfo}
 use Rattle.str0m_sdp.proofs.SourceLaws.{written}

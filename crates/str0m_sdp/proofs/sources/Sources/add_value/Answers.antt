@@ -1,5 +1,4 @@
-use Rattle.std.proofs.Common.{nat_eq, ap, ◌∙◌}
-use Rattle.indexmap.specs.IndexMap.{insert_entry}
+use Rattle.str0m_sdp.proofs.Common.{nat_eq, ap, ◌∙◌, insert_entry}
 use Rattle.str0m_sdp.specs.Sources.{entries}
 use Rattle.str0m_sdp.specs.SsrcReading.{with_value}
 use Rattle.str0m_sdp.proofs.SourceLaws.{value_keeps, written}

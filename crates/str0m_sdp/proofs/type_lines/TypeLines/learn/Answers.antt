@@ -1,8 +1,4 @@
-use Rattle.std.proofs.Common.{List, ap, ◌∙◌}
-use Rattle.std.specs.Borrow.{Bor}
-use Rattle.std.proofs.lemmas.List.Elements.{All-push, All-same}
-use Rattle.str0m_formats.specs.FormatLine.{format_of_fmtp, line_values}
-use Rattle.str0m_formats.specs.declared.format_param.FormatParam.{FormatParam}
+use Rattle.str0m_sdp.proofs.Common.{List, ap, ◌∙◌, Bor, All-push, All-same, format_of_fmtp, line_values, FormatParam}
 use Rattle.str0m_sdp.specs.TypeLines.{IsKnown}
 use Rattle.str0m_sdp.proofs.type_lines.TypeLines.learn.Goals as goal
 

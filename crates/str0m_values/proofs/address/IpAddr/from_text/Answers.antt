@@ -1,4 +1,4 @@
-use Rattle.std.proofs.Common.{◌∙◌, ap}
+use Rattle.str0m_values.proofs.Common.{◌∙◌, ap}
 use Rattle.str0m_values.specs.AddressReading.{ip_read}
 use Rattle.str0m_values.proofs.OnlyLaws.{only_read}
 use Rattle.str0m_values.proofs.AddressText.{printed}

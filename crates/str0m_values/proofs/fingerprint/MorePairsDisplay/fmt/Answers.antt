@@ -1,5 +1,4 @@
-use Rattle.std.proofs.Common.{ℕ, List, ◌∷◌, ◌++◌, rules, sym, ap, ◌∙◌, append_assoc}
-use Rattle.std.specs.List.{flat_map}
+use Rattle.str0m_values.proofs.Common.{ℕ, List, ◌∷◌, ◌++◌, rules, sym, ap, ◌∙◌, append_assoc, flat_map}
 use Rattle.std.proofs.Output.{has_written_append}
 use Rattle.std.proofs.lemmas.List.{take-append-drop}
 use Rattle.std.proofs.lemmas.List.Concat.{flat_map-append}

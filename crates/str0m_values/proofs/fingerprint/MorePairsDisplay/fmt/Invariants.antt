@@ -1,6 +1,4 @@
-use Rattle.std.proofs.Common.{◌≡◌, ℕ, List, ◌++◌, ◌∷◌, length}
-use Rattle.std.specs.List.{flat_map}
-use Rattle.std.specs.Fmt.{HasWritten, IsPlainFormatter}
+use Rattle.str0m_values.proofs.Common.{◌≡◌, ℕ, List, ◌++◌, ◌∷◌, length, flat_map, HasWritten, IsPlainFormatter}
 use Rattle.str0m_values.specs.Fingerprint.{hex_pair}
 use Rattle.str0m_values.proofs.fingerprint.MorePairsDisplay.fmt.Given as goal
 

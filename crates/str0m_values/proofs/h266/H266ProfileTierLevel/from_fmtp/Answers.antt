@@ -1,4 +1,4 @@
-use Rattle.std.proofs.Common.{refl}
+use Rattle.str0m_values.proofs.Common.{refl}
 use Rattle.str0m_values.proofs.h266.H266ProfileTierLevel.from_fmtp.Goals as goal
 
 pub returns-clause-absent : goal.returns-clause-absent
