@@ -1,10 +1,8 @@
 -- What pairs were read as prints as pairs that are read as the same, but for what prints nothing.
-use Rattle.str0m_formats.proofs.Common.{◌≡◌, ◌≢◌, ◌≤◌, ℕ, Bool, true, false, List, [], ◌∷◌, ◌++◌, length, map, filter, Option, Some, None, MatchOption, refl, sym, ap, ◌∙◌, subst, arith, lit<, inl, inr, codes, MatchBool, decimal, AllByRecursion, IsDistinct, cons_option, join_with_byte, keys_of, bytes_eq, lt-ltb, false≢true, false_from_ne_true, append_assoc, IsDistinct-cons, IsDistinct-head, IsDistinct-tail, bytes_eq-Decides, ProfileTierLevel}
+use Rattle.str0m_formats.proofs.Common.{◌≡◌, ◌≢◌, ◌≤◌, ℕ, Bool, true, false, List, [], ◌∷◌, ◌++◌, length, map, filter, Some, refl, sym, ap, ◌∙◌, subst, arith, lit<, inl, inr, codes, MatchBool, decimal, AllByRecursion, IsDistinct, cons_option, join_with_byte, keys_of, bytes_eq, lt-ltb, false≢true, false_from_ne_true, append_assoc, IsDistinct-cons, IsDistinct-head, IsDistinct-tail, bytes_eq-Decides, ProfileTierLevel}
 use Rattle.std.proofs.lemmas.Fmt.{decimal_nonempty}
-use Rattle.str0m_formats.specs.declared.format_key.FormatKey.{FormatKey}
 use Rattle.str0m_formats.specs.declared.format_param.FormatParam.{FormatParam}
-use Rattle.str0m_formats.specs.declared.format_param.FormatParam.TheVariants.{AmrWbUnsupported, H265ProfileTierLevel, H266ProfileTierLevel}
-use Rattle.str0m_formats.specs.FormatKey.{key_text}
+use Rattle.str0m_formats.specs.declared.format_param.FormatParam.TheVariants.{H265ProfileTierLevel, H266ProfileTierLevel}
 use Rattle.str0m_formats.specs.FormatParam.{IsParsed, AreParsed, triple_text, param_text}
 use Rattle.str0m_formats.specs.Pairs.{has_mark, merged, others, is_part, AreJoined, AreRead}
 use Rattle.str0m_formats.specs.PairsReading.{Tables, h265_tables, h266_tables, params_read, triple_read}
@@ -15,6 +13,7 @@ use Rattle.str0m_formats.proofs.PrintedLine.{unmarked, marked}
 use Rattle.str0m_formats.proofs.Plain.{plain_from}
 use Rattle.str0m_formats.proofs.Shown.{IsPlainPair, joined_pair, decimal_plain}
 use Rattle.str0m_formats.proofs.TripleLaws.{AreBytes, texts_shown, h265_small, h266_small, h265_again, h266_again}
+use Rattle.str0m_formats.specs.declared.format_key.TheConstants.{PROFILE_ID, TIER_FLAG, LEVEL_ID}
 
 -- the parameters print as pairs that are read as them
 pub record IsPairsLine (shown : List FormatParam) : Type 0 where
@@ -86,7 +85,7 @@ distinct_keys (pair ∷ pairs) (param ∷ params) low are all =
 -- ---- a profile, tier and level before them
 
 abbrev triple_pairs : List ℕ → List ℕ → List ℕ → List (List ℕ × List ℕ)
-triple_pairs a b c = (codes "profile-id", a) ∷ (codes "tier-flag", b) ∷ (codes "level-id", c) ∷ []
+triple_pairs a b c = (PROFILE_ID.now, a) ∷ (TIER_FLAG.now, b) ∷ (LEVEL_ID.now, c) ∷ []
 
 abbrev triple_joined : List ℕ → List ℕ → List ℕ → List ℕ
 triple_joined a b c = codes "profile-id=" ++ (a ++ (codes ";tier-flag=" ++ (b ++ (codes ";level-id=" ++ c))))
@@ -114,9 +113,9 @@ part_apart part params is h = no_part (λ k. bytes_eq part k ≡ false) (keys_of
 
 whole_apart : (a b c : List ℕ) (params : List FormatParam) → AreOthers params → AreApart (triple_pairs a b c ++ map pair_of params)
 whole_apart a b c params h =
-    IsDistinct-cons bytes_eq (codes "profile-id") _ (refl, (refl, part_apart (codes "profile-id") params refl h))
-    (IsDistinct-cons bytes_eq (codes "tier-flag") _ (refl, part_apart (codes "tier-flag") params refl h)
-    (IsDistinct-cons bytes_eq (codes "level-id") _ (part_apart (codes "level-id") params refl h) h.apart))
+    IsDistinct-cons bytes_eq PROFILE_ID.now _ (refl, (refl, part_apart PROFILE_ID.now params refl h))
+    (IsDistinct-cons bytes_eq TIER_FLAG.now _ (refl, part_apart TIER_FLAG.now params refl h)
+    (IsDistinct-cons bytes_eq LEVEL_ID.now _ (part_apart LEVEL_ID.now params refl h) h.apart))
 
 whole_marked : (a b c : List ℕ) (pairs : List (List ℕ × List ℕ)) → has_mark (triple_pairs a b c ++ pairs) ≡ true
 unfolding has_mark
@@ -149,10 +148,10 @@ triple_line q a b c params text plain read h = record {
 
 numbers_plain : (k m n : ℕ) → k ≤ 255 → m ≤ 255 → n ≤ 255 → AllByRecursion IsPlainPair (triple_pairs (decimal k) (decimal m) (decimal n))
 numbers_plain k m n p q r = (
-  (plain_from (codes "profile-id") refl, decimal_plain k (omega (arith, p)), lit< tt, decimal_nonempty k (omega (arith, p))),
+  (plain_from PROFILE_ID.now refl, decimal_plain k (omega (arith, p)), lit< tt, decimal_nonempty k (omega (arith, p))),
   (
-    (plain_from (codes "tier-flag") refl, decimal_plain m (omega (arith, q)), lit< tt, decimal_nonempty m (omega (arith, q))),
-    ((plain_from (codes "level-id") refl, decimal_plain n (omega (arith, r)), lit< tt, decimal_nonempty n (omega (arith, r))), tt),
+    (plain_from TIER_FLAG.now refl, decimal_plain m (omega (arith, q)), lit< tt, decimal_nonempty m (omega (arith, q))),
+    ((plain_from LEVEL_ID.now refl, decimal_plain n (omega (arith, r)), lit< tt, decimal_nonempty n (omega (arith, r))), tt),
   ),
 )
 

@@ -26,6 +26,7 @@ use Rattle.str0m_formats.proofs.Rows.{Rows, given, given-append, look_given, mar
 use Rattle.str0m_formats.proofs.SetAll.{filled, are_fresh, set_each}
 use Rattle.str0m_formats.proofs.Shown.{rows_at, bares_at, joined_pair, pieces_at, IsPlainPair, IsShown, shows, is_single, reads}
 use Rattle.str0m_formats.proofs.TripleLaws.{h265_again, h266_again}
+use Rattle.str0m_formats.specs.declared.format_key.TheConstants.{PROFILE_ID, TIER_FLAG, LEVEL_ID}
 
 -- ---- lists of fields
 
@@ -208,7 +209,7 @@ triple_first = field.H265ProfileTierLevel ∷ field.H266ProfileTierLevel ∷ fie
 
 -- the keys of a triple in the place of H265's, among those of the other fields
 abbrev rows_beside : List ℕ → List ℕ → List ℕ → FormatParams → Field → Rows
-rows_beside a b c p field.H265ProfileTierLevel = (codes "profile-id", Some a) ∷ (codes "tier-flag", Some b) ∷ (codes "level-id", Some c) ∷ []
+rows_beside a b c p field.H265ProfileTierLevel = (PROFILE_ID.now, Some a) ∷ (TIER_FLAG.now, Some b) ∷ (LEVEL_ID.now, Some c) ∷ []
 rows_beside a b c p f = cond (is_beside f) (rows_at f p) []
 
 abbrev rows_with : List ℕ → List ℕ → List ℕ → FormatParams → Rows
@@ -218,7 +219,7 @@ with_triple : (q : FormatParam) (a b c : List ℕ) (p : FormatParams) → AllWit
     → triple_read (Some a, Some b, Some c) ≡ Some q → params_read (all_pairs FIELDS p) ≡ q ∷ filter_map (λ f. param_at f p) rest
 with_triple q a b c p h own read =
     let rows = rows_with a b c p in
-    let texts : texts_of (given rows) ≡ (Some a, Some b, Some c) = λ i. (look_given (codes "profile-id") rows i, look_given (codes "tier-flag") rows i, look_given (codes "level-id") rows i) in
+    let texts : texts_of (given rows) ≡ (Some a, Some b, Some c) = λ i. (look_given PROFILE_ID.now rows i, look_given TIER_FLAG.now rows i, look_given LEVEL_ID.now rows i) in
     let others_are : map param_of (others (given rows)) ≡ filter_map (λ f. param_at f p) rest = ap (map param_of) (others_given rows ∙ sym (pairs_rows rest p)) ∙ reads_all rest p h refl in
     ap params_read own ∙ marked (given rows) (mark_given rows) (merged_given rows refl)
     ∙ ap (λ (o : Option FormatParam). cons_option o (map param_of (others (given rows)))) (ap triple_read texts ∙ read)

@@ -11,7 +11,7 @@ use Rattle.str0m_formats.specs.declared.format_params.Field.TheVariants as field
 use Rattle.str0m_formats.specs.declared.format_params.FormatParams.{FormatParams}
 use Rattle.str0m_formats.specs.FormatKey.{key_text}
 use Rattle.str0m_formats.specs.FormatParam.{Kind, flag, number, hex, modes, exactly, anything, Held, kind, made, entry, InRange, value_text, entry_text, six_digits, mode_list, triple_text, param_text}
-use Rattle.str0m_formats.specs.FormatParams.{Content, get, param_in, param_at, IsWithin}
+use Rattle.str0m_formats.specs.FormatParams.{get, param_in, param_at, IsWithin}
 use Rattle.str0m_formats.specs.PairsReading.{Tables, h265_tables, h266_tables}
 use Rattle.str0m_formats.specs.ParamReading.{param_of}
 use Rattle.str0m_formats.proofs.Plain.{IsPlain, is_plain, plain_from, plain_append, digits_plain, below, below_at}
@@ -19,6 +19,7 @@ use Rattle.str0m_formats.proofs.RoundTrip.{is_small, key_small, limit_small, key
 use Rattle.str0m_formats.proofs.SetAll.{param_is}
 use Rattle.str0m_formats.proofs.Rows.{Rows, given}
 use Rattle.str0m_formats.proofs.TripleLaws.{AreBytes, h265_small, h266_small}
+use Rattle.str0m_formats.specs.declared.format_key.TheConstants.{PROFILE_ID, TIER_FLAG, LEVEL_ID}
 
 -- ---- plain values
 
@@ -132,9 +133,9 @@ row k o = (key_text k, option_map (value_text (kind k)) o) ∷ []
 
 abbrev pub triple_rows : {P T L : Type 0} → Tables P T L → Option (ProfileTierLevel P T L) → Rows
 triple_rows tables o =
-    (codes "profile-id", option_map (λ t. decimal (tables.profile_id t.profile)) o)
-    ∷ (codes "tier-flag", option_map (λ t. decimal (tables.tier_flag t.tier)) o)
-    ∷ (codes "level-id", option_map (λ t. decimal (tables.level_id t.level)) o) ∷ []
+    (PROFILE_ID.now, option_map (λ t. decimal (tables.profile_id t.profile)) o)
+    ∷ (TIER_FLAG.now, option_map (λ t. decimal (tables.tier_flag t.tier)) o)
+    ∷ (LEVEL_ID.now, option_map (λ t. decimal (tables.level_id t.level)) o) ∷ []
 
 -- the keys of a field, with their values
 abbrev pub rows_at : Field → FormatParams → Rows
@@ -191,7 +192,7 @@ pairs_read : (k : FormatKey) (o : Option (Held (kind k))) → IfSome o (InRange 
 pairs_read k None h = refl
 pairs_read k (Some x) h = ap (λ (q : FormatParam). q ∷ []) (key_reads k x h)
 
-triple_parts : (a b c : List ℕ) → codes "profile-id=" ++ (a ++ (codes ";tier-flag=" ++ (b ++ (codes ";level-id=" ++ c)))) ≡ join_with_byte 59 (joined_pair (codes "profile-id", a) ∷ joined_pair (codes "tier-flag", b) ∷ joined_pair (codes "level-id", c) ∷ [])
+triple_parts : (a b c : List ℕ) → codes "profile-id=" ++ (a ++ (codes ";tier-flag=" ++ (b ++ (codes ";level-id=" ++ c)))) ≡ join_with_byte 59 (joined_pair (PROFILE_ID.now, a) ∷ joined_pair (TIER_FLAG.now, b) ∷ joined_pair (LEVEL_ID.now, c) ∷ [])
 triple_parts a b c = refl
 
 -- a field with a profile, tier and level
@@ -203,16 +204,16 @@ module _ {P T L : Type 0} (tables : Tables P T L) (make : ProfileTierLevel P T L
       let profile = decimal (tables.profile_id t.profile) in
       let tier = decimal (tables.tier_flag t.tier) in
       let level = decimal (tables.level_id t.level) in
-      (joined_pair (codes "profile-id", profile), joined_pair (codes "tier-flag", tier) ∷ joined_pair (codes "level-id", level) ∷ [], refl, text t ∙ triple_parts profile tier level)
+      (joined_pair (PROFILE_ID.now, profile), joined_pair (TIER_FLAG.now, tier) ∷ joined_pair (LEVEL_ID.now, level) ∷ [], refl, text t ∙ triple_parts profile tier level)
 
   triple_plain : (o : Option (ProfileTierLevel P T L)) → AllByRecursion IsPlainPair (given (triple_rows tables o))
   triple_plain None = tt
   triple_plain (Some t) =
       let k = small t in (
-        (plain_from (codes "profile-id") refl, decimal_plain (tables.profile_id t.profile) (omega (arith, k.0)), lit< tt, decimal_filled (tables.profile_id t.profile) (omega (arith, k.0))),
+        (plain_from PROFILE_ID.now refl, decimal_plain (tables.profile_id t.profile) (omega (arith, k.0)), lit< tt, decimal_filled (tables.profile_id t.profile) (omega (arith, k.0))),
         (
-          (plain_from (codes "tier-flag") refl, decimal_plain (tables.tier_flag t.tier) (omega (arith, k.1)), lit< tt, decimal_filled (tables.tier_flag t.tier) (omega (arith, k.1))),
-          ((plain_from (codes "level-id") refl, decimal_plain (tables.level_id t.level) (omega (arith, k.2)), lit< tt, decimal_filled (tables.level_id t.level) (omega (arith, k.2))), tt),
+          (plain_from TIER_FLAG.now refl, decimal_plain (tables.tier_flag t.tier) (omega (arith, k.1)), lit< tt, decimal_filled (tables.tier_flag t.tier) (omega (arith, k.1))),
+          ((plain_from LEVEL_ID.now refl, decimal_plain (tables.level_id t.level) (omega (arith, k.2)), lit< tt, decimal_filled (tables.level_id t.level) (omega (arith, k.2))), tt),
         ),
       )
 

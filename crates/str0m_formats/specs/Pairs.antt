@@ -1,5 +1,5 @@
 -- How the pairs of a format line are read together.
-use Rattle.std.specs.Prelude.{◌≡◌, ◌||◌, ℕ, Bool, not, List, [], map, filter, Option, codes}
+use Rattle.std.specs.Prelude.{◌≡◌, ◌||◌, ℕ, Bool, not, List, [], map, filter, Option}
 use Rattle.std.specs.Map.{lookup}
 use Rattle.std.specs.Bool.{MatchBool}
 use Rattle.std.specs.List.{list_any, cons_option}
@@ -8,10 +8,11 @@ use Rattle.indexmap.specs.IndexMap.{insert_all}
 use Rattle.str0m_formats.specs.FormatParam.{AreParsed}
 use Rattle.str0m_formats.specs.Triple.{Texts, IsTripleParam}
 use Rattle.str0m_formats.specs.declared.format_param.FormatParam.{FormatParam}
+use Rattle.str0m_formats.specs.declared.format_key.TheConstants.{PROFILE_ID, TIER_FLAG, LEVEL_ID}
 
 -- a key that only a profile, tier and level have
 abbrev pub is_mark : List ℕ → Bool
-is_mark key = str_eq_ignore_ascii_case key (codes "tier-flag") || str_eq_ignore_ascii_case key (codes "level-id")
+is_mark key = str_eq_ignore_ascii_case key TIER_FLAG.now || str_eq_ignore_ascii_case key LEVEL_ID.now
 
 unfoldable pub has_mark : List (List ℕ × List ℕ) → Bool
 has_mark pairs = list_any (λ pair. is_mark pair.0) pairs
@@ -25,11 +26,11 @@ abbrev pub value_of : List ℕ → List (List ℕ × List ℕ) → Option (List 
 value_of key pairs = lookup (bytes_eq key) pairs
 
 abbrev pub texts_of : List (List ℕ × List ℕ) → Texts
-texts_of pairs = (value_of (codes "profile-id") pairs, value_of (codes "tier-flag") pairs, value_of (codes "level-id") pairs)
+texts_of pairs = (value_of PROFILE_ID.now pairs, value_of TIER_FLAG.now pairs, value_of LEVEL_ID.now pairs)
 
 -- one of the three keys of a profile, tier and level
 abbrev pub is_part : List ℕ → Bool
-is_part key = bytes_eq key (codes "profile-id") || (bytes_eq key (codes "tier-flag") || bytes_eq key (codes "level-id"))
+is_part key = bytes_eq key PROFILE_ID.now || (bytes_eq key TIER_FLAG.now || bytes_eq key LEVEL_ID.now)
 
 abbrev pub others : List (List ℕ × List ℕ) → List (List ℕ × List ℕ)
 others pairs = filter (λ pair. not (is_part pair.0)) pairs

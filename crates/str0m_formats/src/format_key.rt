@@ -30,13 +30,22 @@ pub(crate) enum FormatKey {
     Interleaving,
 }
 
+/// The key of a profile, which stands for itself, and as one of the three of H265 and H266.
+pub(crate) const PROFILE_ID: &str = "profile-id";
+
+/// The key of a tier, of H265 and H266 alone.
+pub(crate) const TIER_FLAG: &str = "tier-flag";
+
+/// The key of a level, of H265 and H266 alone.
+pub(crate) const LEVEL_ID: &str = "level-id";
+
 /// The text of each key, in the order of `FormatKey`.
 const KEYS: [(FormatKey, &str); 20] = [
     (FormatKey::Apt, "apt"),
     (FormatKey::ProfileLevelId, "profile-level-id"),
     (FormatKey::PacketizationMode, "packetization-mode"),
     (FormatKey::LevelAsymmetryAllowed, "level-asymmetry-allowed"),
-    (FormatKey::ProfileId, "profile-id"),
+    (FormatKey::ProfileId, PROFILE_ID),
     (FormatKey::MinPTime, "minptime"),
     (FormatKey::UseInbandFec, "useinbandfec"),
     (FormatKey::Stereo, "stereo"),

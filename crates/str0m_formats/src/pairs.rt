@@ -6,6 +6,7 @@ ghost use Rattle.str0m_formats.specs.ParamReading.{param_of};
 ghost use Rattle.str0m_formats.specs.Pairs.{is_mark, has_mark, value_of, is_part};
 ghost use Rattle.str0m_formats.specs.PairsReading.{lay, triple_read, joined_read, params_read};
 
+use crate::format_key::{LEVEL_ID, PROFILE_ID, TIER_FLAG};
 use crate::format_param::{FormatParam, param};
 use crate::merged_pairs::{lowered, merge, scan};
 use std::alloc::{AllocError, Global};
@@ -16,7 +17,7 @@ use str0m_values::{H265ProfileTierLevel, H266ProfileTierLevel};
 fn is_mark(key: &str) -> bool
     ensures { result ≡ is_mark key.now }
 {
-    is_same_text(key, "tier-flag") || is_same_text(key, "level-id")
+    is_same_text(key, TIER_FLAG) || is_same_text(key, LEVEL_ID)
 }
 
 fn any_mark(pairs: &[(&str, &str)]) -> bool
@@ -60,7 +61,7 @@ fn triple(profile: Option<&str>, tier: Option<&str>, level: Option<&str>) -> Opt
 fn is_part(key: &str) -> bool
     ensures { result ≡ is_part key.now }
 {
-    key == "profile-id" || key == "tier-flag" || key == "level-id"
+    key == PROFILE_ID || key == TIER_FLAG || key == LEVEL_ID
 }
 
 /// The parameter of each pair, in order.
@@ -80,9 +81,9 @@ fn joined(alloc: Global, merged: &[(&str, &str)]) -> Result<Vec<FormatParam>, Al
 {
     let mut params = Vec::new(alloc);
     let triple = triple(
-        value_of(merged, "profile-id"),
-        value_of(merged, "tier-flag"),
-        value_of(merged, "level-id"),
+        value_of(merged, PROFILE_ID),
+        value_of(merged, TIER_FLAG),
+        value_of(merged, LEVEL_ID),
     );
     if let Some(triple) = triple {
         params.push(triple)?;
