@@ -5,7 +5,7 @@ use Rattle.str0m_formats.specs.declared.payload_params.PayloadParams.{PayloadPar
 use Rattle.str0m_sdp.specs.declared.attribute.MediaAttribute.{MediaAttribute}
 use Rattle.str0m_sdp.specs.declared.attribute.MediaAttribute.TheVariants.{RtcpFb}
 use Rattle.str0m_sdp.specs.declared.feedback.Feedback.{Feedback}
-use Rattle.str0m_sdp.specs.declared.feedback.TheConstants.{TRANSPORT_CC, REMB, FIR, NACK, PLI}
+use Rattle.str0m_sdp.specs.declared.label.TheConstants.{TRANSPORT_CC, REMB, FIR, NACK, PLI}
 
 -- an rtcp-fb line of the type with this value
 abbrev pub is_feedback : ℕ → List ℕ → MediaAttribute → Bool

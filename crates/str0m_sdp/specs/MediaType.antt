@@ -1,6 +1,6 @@
 -- Media types: their words, and which of them carry media.
 use Rattle.std.specs.Prelude.{ℕ, Bool, true, false, List}
-use Rattle.str0m_sdp.specs.declared.media_type.TheConstants.{AUDIO, VIDEO, APPLICATION}
+use Rattle.str0m_sdp.specs.declared.label.TheConstants.{AUDIO, VIDEO, APPLICATION}
 use Rattle.str0m_sdp.specs.declared.media_type.MediaType.{MediaType}
 use Rattle.str0m_sdp.specs.declared.media_type.MediaType.TheVariants.{Audio, Video, Application, Unknown}
 

@@ -1,6 +1,6 @@
 -- The protocols of m-lines, as they print.
 use Rattle.std.specs.Prelude.{ℕ, List}
-use Rattle.str0m_sdp.specs.declared.proto.TheConstants.{SRTP, SCTP}
+use Rattle.str0m_sdp.specs.declared.label.TheConstants.{SRTP, SCTP}
 use Rattle.str0m_sdp.specs.declared.proto.Proto.{Proto}
 use Rattle.str0m_sdp.specs.declared.proto.Proto.TheVariants.{Srtp, Sctp}
 

@@ -1,21 +1,10 @@
 //! The feedback that a section speaks of, by payload type.
 ghost use Rattle.std.specs.Prelude.{◌≡◌, ◌<◌, get_or, set};
 
+use crate::label::{FIR, NACK, PLI, REMB, TRANSPORT_CC};
 use crate::type_tables::{TYPES, place};
 use str0m_formats::PayloadParams;
 use str0m_values::Pt;
-
-// The words of feedback in rtcp-fb lines: draft-holmer-rmcat-transport-wide-cc-extensions,
-// draft-alvestrand-rmcat-remb, RFC 5104, section 7.1, and RFC 4585, section 4.2.
-pub const TRANSPORT_CC: &str = "transport-cc";
-
-pub const REMB: &str = "goog-remb";
-
-pub const FIR: &str = "ccm fir";
-
-pub const NACK: &str = "nack";
-
-pub const PLI: &str = "nack pli";
 
 /// The feedback that goes with a payload type.
 #[derive(Clone, Copy)]

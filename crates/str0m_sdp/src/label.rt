@@ -1,5 +1,5 @@
-//! The labels of attributes, as they stand behind `a=`, with the colon where a value follows (RFC 8866, section 6). An attribute
-//! without a value is its label alone.
+//! The words of descriptions: labels of attributes, as they stand behind `a=`, with the colon where a value follows (RFC 8866,
+//! section 6; an attribute without a value is its label alone), media types, protocols and feedback.
 
 /// The port and address of RTCP (RFC 3605).
 pub const RTCP: &str = "rtcp:";
@@ -63,3 +63,28 @@ pub const END_OF_CANDIDATES: &str = "end-of-candidates";
 pub const EXTMAP_ALLOW_MIXED: &str = "extmap-allow-mixed";
 /// This side is ICE lite (RFC 8839, section 5.3).
 pub const ICE_LITE: &str = "ice-lite";
+
+/// The media type of sound (RFC 8866, section 5.14).
+pub const AUDIO: &str = "audio";
+/// The media type of pictures (RFC 8866, section 5.14).
+pub const VIDEO: &str = "video";
+/// The media type of data channels (RFC 8841, section 4).
+pub const APPLICATION: &str = "application";
+
+/// RTP over DTLS and UDP, with feedback (RFC 5764, section 8).
+pub const SRTP: &str = "UDP/TLS/RTP/SAVPF";
+/// SCTP over DTLS and UDP (RFC 8841, section 4).
+pub const SCTP: &str = "UDP/DTLS/SCTP";
+/// What drafts called that. It is read, and never printed.
+pub const OLD_SCTP: &str = "DTLS/SCTP";
+
+/// Feedback for congestion control (draft-holmer-rmcat-transport-wide-cc-extensions).
+pub const TRANSPORT_CC: &str = "transport-cc";
+/// Feedback of the bandwidth that the receiver estimates (draft-alvestrand-rmcat-remb).
+pub const REMB: &str = "goog-remb";
+/// A request for a full picture (RFC 5104, section 7.1).
+pub const FIR: &str = "ccm fir";
+/// Packets that are missing (RFC 4585, section 4.2).
+pub const NACK: &str = "nack";
+/// Pictures that are missing (RFC 4585, section 4.2).
+pub const PLI: &str = "nack pli";

@@ -2,16 +2,10 @@
 ghost use Rattle.std.specs.Prelude.{◌≡◌, IfOk, Some};
 ghost use Rattle.str0m_sdp.specs.MediaType.{is_channel, is_media, media_type_text};
 
+use crate::label::{APPLICATION, AUDIO, VIDEO};
 use std::alloc::AllocError;
 use std::fmt;
 use str0m_values::Text;
-
-// The words of media types.
-pub const AUDIO: &str = "audio";
-
-pub const VIDEO: &str = "video";
-
-pub const APPLICATION: &str = "application";
 
 /// The media type of a section (RFC 8866, section 5.14).
 #[derive(Clone, Debug, Default, PartialEq, Eq, Drop)]

@@ -2,14 +2,8 @@
 ghost use Rattle.std.specs.Prelude.{◌≡◌, Some};
 ghost use Rattle.str0m_sdp.specs.Proto.{proto_text};
 
+use crate::label::{SCTP, SRTP};
 use std::fmt;
-
-// The words of protocols; SCTP has an older one, which is read and never printed.
-pub const SRTP: &str = "UDP/TLS/RTP/SAVPF";
-
-pub const SCTP: &str = "UDP/DTLS/SCTP";
-
-pub const OLD_SCTP: &str = "DTLS/SCTP";
 
 /// The transport of a section: RTP over DTLS-SRTP (RFC 5764) or SCTP over DTLS (RFC 8841).
 #[derive(Clone, Copy, Debug, Default, PartialEq, Eq)]

@@ -5,7 +5,7 @@ ghost use Rattle.str0m_sdp.specs.declared.attribute.MediaAttribute.{MediaAttribu
 ghost use Rattle.str0m_sdp.specs.RowAttributes.{Begins, feedback_line, feedback_attrs, fmtp_line, format_values, format_attrs, rtx_lines, rtx_attrs, red_lines, red_attrs, row_attrs};
 
 use crate::attribute::MediaAttribute;
-use crate::feedback::{FIR, NACK, PLI, REMB, TRANSPORT_CC};
+use crate::label::{FIR, NACK, PLI, REMB, TRANSPORT_CC};
 use crate::rtp_map::RtpMap;
 use std::alloc::{AllocError, Global};
 use str0m_formats::{Codec, CodecSpec, FormatParam, PayloadParams};

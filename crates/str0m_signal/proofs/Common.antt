@@ -57,10 +57,9 @@ pub use Rattle.str0m_sdp.specs.declared.bandwidth.Bandwidth.{Bandwidth}
 pub use Rattle.str0m_sdp.specs.declared.error.SdpError.{SdpError}
 pub use Rattle.str0m_sdp.specs.declared.media_line.MediaLine.{MediaLine}
 pub use Rattle.str0m_sdp.specs.declared.media_type.MediaType.{MediaType}
-pub use Rattle.str0m_sdp.specs.declared.media_type.TheConstants.{AUDIO, VIDEO}
+pub use Rattle.str0m_sdp.specs.declared.label.TheConstants.{AUDIO, SCTP, SRTP, VIDEO}
 pub use Rattle.str0m_sdp.specs.declared.proto.Proto.{Proto}
 pub use Rattle.str0m_sdp.specs.declared.proto.Proto.TheVariants.{Sctp, Srtp}
-pub use Rattle.str0m_sdp.specs.declared.proto.TheConstants.{SCTP, SRTP}
 pub use Rattle.str0m_sdp.specs.declared.session.Sdp.{Sdp}
 pub use Rattle.str0m_sdp.specs.declared.simulcast.RestrictionId.{RestrictionId}
 pub use Rattle.str0m_sdp.specs.declared.simulcast.SimulcastLayer.{SimulcastLayer}

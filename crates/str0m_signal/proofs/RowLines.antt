@@ -9,7 +9,7 @@ use Rattle.str0m_formats.proofs.PrintedPairs.{IsLineOf, params_print}
 use Rattle.str0m_sdp.specs.RowAttributes.{feedback_line, feedback_attrs, fmtp_line, format_values, format_attrs, rtx_lines}
 use Rattle.str0m_sdp.specs.RowAttributes.{rtx_attrs, red_lines, red_attrs}
 use Rattle.str0m_sdp.specs.RtpMap.{map_of_spec}
-use Rattle.str0m_sdp.specs.declared.feedback.TheConstants.{TRANSPORT_CC, REMB, FIR, NACK, PLI}
+use Rattle.str0m_sdp.specs.declared.label.TheConstants.{TRANSPORT_CC, REMB, FIR, NACK, PLI}
 use Rattle.str0m_sdp.specs.declared.rtp_map.RtpMap.{RtpMap as Mapping}
 use Rattle.str0m_signal.specs.MediaAttribute.{IsMediaLine}
 use Rattle.str0m_signal.specs.Writable.{IsPrintedAs}

@@ -4,8 +4,7 @@ use Rattle.std.proofs.lemmas.Bool.{false_from_ne_true}
 use Rattle.std.proofs.lemmas.Bool.Decides.{same_from_decides}
 use Rattle.str0m_signal.proofs.FormLaws.{num_both}
 use Rattle.str0m_signal.proofs.PartLaws.{parted_both}
-use Rattle.str0m_sdp.specs.declared.media_type.TheConstants.{APPLICATION}
-use Rattle.str0m_sdp.specs.declared.proto.TheConstants.{OLD_SCTP}
+use Rattle.str0m_sdp.specs.declared.label.TheConstants.{APPLICATION, OLD_SCTP}
 use Rattle.str0m_sdp.specs.declared.media_type.MediaType.TheVariants.{Audio, Video, Application, Unknown}
 use Rattle.str0m_signal.specs.Section.{IsField, IsBandwidth, Begins, IsKind, IsProto, NoTypes, Head, IsHead}
 use Rattle.str0m_signal.specs.SectionReading.{field_read, bandwidth_read, unknown_read, kind_read, proto_read, numbers_read, no_types_read, types_read, head_read}

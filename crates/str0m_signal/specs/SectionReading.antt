@@ -2,8 +2,7 @@
 use Rattle.std.specs.Prelude.{ℕ, List, [], Option, Some, None, codes, if◌then◌else◌, is_some}
 use Rattle.std.specs.Str.{bytes_eq}
 use Rattle.str0m_sdp.specs.declared.bandwidth.Bandwidth.{Bandwidth}
-use Rattle.str0m_sdp.specs.declared.media_type.TheConstants.{AUDIO, VIDEO, APPLICATION}
-use Rattle.str0m_sdp.specs.declared.proto.TheConstants.{SRTP, SCTP, OLD_SCTP}
+use Rattle.str0m_sdp.specs.declared.label.TheConstants.{AUDIO, VIDEO, APPLICATION, SRTP, SCTP, OLD_SCTP}
 use Rattle.str0m_sdp.specs.declared.media_type.MediaType.{MediaType}
 use Rattle.str0m_sdp.specs.declared.media_type.MediaType.TheVariants.{Audio, Video, Application, Unknown}
 use Rattle.str0m_sdp.specs.declared.proto.Proto.{Proto}

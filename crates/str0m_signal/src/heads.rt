@@ -9,7 +9,8 @@ ghost use Rattle.str0m_signal.specs.SectionReading.{unknown_read, kind_read, pro
 ghost use Rattle.str0m_signal.specs.Heads.{kind_is, media_head};
 
 use std::alloc::{AllocError, Global};
-use str0m_sdp::{APPLICATION, AUDIO, MediaType, OLD_SCTP, Proto, SCTP, SRTP, VIDEO};
+use str0m_sdp::label::{APPLICATION, AUDIO, OLD_SCTP, SCTP, SRTP, VIDEO};
+use str0m_sdp::{MediaType, Proto};
 use str0m_values::cuts::{cut, num_u8, strip};
 use str0m_values::{Items, Pt, Separator, Text};
 
