@@ -1,5 +1,5 @@
 -- The names that proofs cite from elsewhere, passed on from one place. Declares nothing.
-pub use Rattle.std.proofs.Common.{[], All, ap, arith, bit_or, Bool, cond, drop, Err, false, filter, find, get_or, IfErr, IfSome, if◌then◌else◌, inl, inr, is_some, leb, length, List, lit<, lit≤, map, MatchOption, nat_eq, nat_le, nat_lt, None, not, Ok, OnErr, OnOk, Option, option_map, refl, replicate, Result, rules, set, slice_index_or, Some, subst, sym, take, tests, true, ℕ, ◌%◌, ◌&&◌, ◌*◌, ◌++◌, ◌+◌, ◌-◌, ◌<◌, ◌==◌, ◌^◌, ◌||◌, ◌↔◌, ◌∙◌, ◌∷◌, ◌≡◌, ◌≢◌, ◌≤◌, ◌⊎◌}
+pub use Rattle.std.proofs.Common.{[], All, ap, arith, bit_or, Bool, cond, drop, Err, false, filter, find, get_or, IfErr, IfSome, if◌then◌else◌, inl, inr, is_some, leb, length, List, lit<, lit≤, map, MatchOption, nat_eq, nat_le, nat_lt, None, not, Ok, OnErr, OnOk, Option, option_map, refl, replicate, Result, rules, slice_index_or, Some, subst, sym, take, tests, true, ℕ, ◌%◌, ◌&&◌, ◌*◌, ◌++◌, ◌+◌, ◌-◌, ◌<◌, ◌==◌, ◌^◌, ◌||◌, ◌↔◌, ◌∙◌, ◌∷◌, ◌≡◌, ◌≢◌, ◌≤◌, ◌⊎◌}
 pub use Rattle.std.proofs.Output.{has_written_append, has_written_of_eq}
 pub use Rattle.std.proofs.lemmas.Bool.{and_parts, cases_Bool, cases_lt, cases_order, eq-eqb, eqb-true, false_from_ne_true, false≢true, le-leb, leb-true, lt-ltb, ltb-true, ne_eqb, not-true, or_cases, or_left, or_parts, or_right, true≢false}
 pub use Rattle.std.proofs.lemmas.Bool.Decides.{Decides-like, eqb_tells, nat_tests}
@@ -7,7 +7,7 @@ pub use Rattle.std.proofs.lemmas.Fmt.{decimal_is_IsNumeral, digits_is_IsNumeral}
 pub use Rattle.std.proofs.lemmas.Grind.{drop_more_same, flat_map-append}
 pub use Rattle.std.proofs.lemmas.Iterator.Consumers.{YieldsList-end, YieldsList-turn}
 pub use Rattle.std.proofs.lemmas.Iterator.Splits.{YieldsList-from_str_split}
-pub use Rattle.std.proofs.lemmas.List.{append-nil, append_assoc, drop-set-lt, length-append, length-set, length-take-le, length_push, map-append, take_all, take_more, take_more_set}
+pub use Rattle.std.proofs.lemmas.List.{append-nil, append_assoc, drop-set-lt, length-append, length-set, length-take-le, length_push, map-append, take_more, take_more_set}
 pub use Rattle.std.proofs.lemmas.List.Elements.{All-append, All-cons, All-contains, All-filter, All-head, All-nil, All-push, All-tail, All-weaker, filter-append, filter_map-append}
 pub use Rattle.std.proofs.lemmas.Map.Keys.{IsDistinct-cons, IsDistinct-head, IsDistinct-tail}
 pub use Rattle.std.proofs.lemmas.Nat.{or_lt}
@@ -31,7 +31,7 @@ pub use Prim.Native.Nat.{suc, zero}
 pub use Rattle.indexmap.proofs.MapLemmas.{insert_entry-absent}
 pub use Rattle.indexmap.specs.IndexMap.{insert_all, insert_entry}
 pub use mathlib.Core.Path.{fun_ext}
-pub use Rattle.str0m_values.proofs.BothWays.{bind_some, Reads, reads_none, some_is}
+pub use Rattle.str0m_values.proofs.BothWays.{bind_some, reads_none, some_is}
 pub use Rattle.str0m_values.proofs.NumLaws.{num_found, num_only, num_reads, when_some, when_true}
 pub use Rattle.str0m_values.proofs.OnlyLaws.{only_read}
 pub use Rattle.str0m_values.specs.Cuts.{num, when, ◌<|>◌, ◌>>=◌}

@@ -1,10 +1,10 @@
 -- Numbers behind keys are read both ways.
-use Rattle.str0m_formats.proofs.Common.{◌≡◌, ◌≤◌, ℕ, true, ◌&&◌, leb, List, [], ◌∷◌, length, Option, Some, refl, ap, ◌∙◌, digit_value, AllDigits, digits_value, ltb-true, lt-ltb, le-leb, leb-true, and_parts, IsTheOnly, IsNumber, IsNum, num, when_some, when_true, num_found, num_reads, Reads, only_read}
+use Rattle.str0m_formats.proofs.Common.{◌≡◌, ◌≤◌, ℕ, true, ◌&&◌, leb, List, [], ◌∷◌, length, Option, Some, refl, ap, ◌∙◌, digit_value, AllDigits, digits_value, ltb-true, lt-ltb, le-leb, leb-true, and_parts, IsTheOnly, IsNumber, IsNum, num, when_some, when_true, num_found, num_reads, only_read}
 use Rattle.std.proofs.Common.{ltb}
 use Rattle.std.specs.Str.Parse.{without_leading_plus}
 use Rattle.std.proofs.lemmas.Bool.{and_from}
 use Rattle.str0m_values.specs.Cuts.{is_rest}
-use Rattle.str0m_values.proofs.BothWays.{reads_first}
+use Rattle.str0m_values.proofs.BothWays.{reads_first, Reads}
 use Rattle.str0m_formats.specs.FormatParam.{IsHexElseDecimal}
 use Rattle.str0m_formats.specs.ParamReading.{all_digits, number_read, hex_read}
 use Rattle.str0m_formats.proofs.Only.{only_same}

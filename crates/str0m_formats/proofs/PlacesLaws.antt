@@ -1,6 +1,6 @@
 -- Laws of the places of keys among entries.
-use Rattle.str0m_formats.proofs.Common.{◌≡◌, ◌<◌, ◌+◌, ℕ, Bool, true, false, cond, List, [], ◌∷◌, ◌++◌, length, get_or, take, set, Option, Some, None, refl, sym, ap, ◌∙◌, subst, arith, Bor, lookup, bytes_eq, false≢true, false_from_ne_true, map-append, take_more, bytes_eq-Decides, insert_entry, insert_all}
-use Rattle.std.proofs.Common.{zero, suc}
+use Rattle.str0m_formats.proofs.Common.{◌≡◌, ◌<◌, ◌+◌, ℕ, Bool, true, false, cond, List, [], ◌∷◌, ◌++◌, length, get_or, take, Option, Some, None, refl, sym, ap, ◌∙◌, subst, arith, Bor, lookup, bytes_eq, false≢true, false_from_ne_true, map-append, take_more, bytes_eq-Decides, insert_entry, insert_all}
+use Rattle.std.proofs.Common.{zero, suc, set}
 use Rattle.std.specs.Prelude.{String}
 use Rattle.std.specs.BTreeMap.{BTreeMap, Updates, get_by}
 use Rattle.std.specs.Cmp.Lexicographic.{slice_cmp}

@@ -1,5 +1,6 @@
 -- What a payload type stands for without a mapping is found in the table of codecs.
-use Rattle.str0m_formats.proofs.Common.{◌≡◌, ◌≤◌, ◌↔◌, ◌&&◌, ℕ, leb, Bool, true, false, Option, Some, None, is_some, option_map, refl, sym, ap, subst, ◌∙◌, and_parts, eqb-true, leb-true, false≢true, IsTheOnly, Reads, bind_some, reads_none, some_is}
+use Rattle.str0m_formats.proofs.Common.{◌≡◌, ◌≤◌, ◌↔◌, ◌&&◌, ℕ, leb, Bool, true, false, Option, Some, None, is_some, option_map, refl, sym, ap, subst, ◌∙◌, and_parts, eqb-true, leb-true, false≢true, IsTheOnly, bind_some, reads_none, some_is}
+use Rattle.str0m_values.proofs.BothWays.{Reads}
 use Rattle.str0m_values.proofs.LabelLaws.{bind_is}
 use Rattle.str0m_values.proofs.WordsOfCases.{found_passes}
 use Rattle.str0m_formats.specs.Codec.{static_row}

@@ -1,5 +1,5 @@
 -- The names that proofs cite from elsewhere, passed on from one place. Declares nothing.
-pub use Rattle.std.proofs.Common.{[], All, ap, append_assoc, arith, Bool, cond, count_by, drop, Err, false, filter, filter_map, find, get_or, IfSome, if◌then◌else◌, inl, inr, length, List, map, nat_eq, None, not, Ok, Option, option_to_list, refl, replicate, Result, rules, set, Some, subst, suc, sym, take, tests, true, true≢false, zero, ℕ, ◌&&◌, ◌++◌, ◌+◌, ◌<◌, ◌==◌, ◌||◌, ◌∙◌, ◌∷◌, ◌≡◌, ◌≢◌, ◌≤◌}
+pub use Rattle.std.proofs.Common.{[], All, ap, append_assoc, arith, Bool, cond, count_by, drop, Err, false, filter, filter_map, find, get_or, IfSome, if◌then◌else◌, inl, inr, length, List, map, nat_eq, None, not, Ok, Option, option_to_list, refl, replicate, Result, rules, Some, subst, suc, sym, take, tests, true, true≢false, zero, ℕ, ◌&&◌, ◌++◌, ◌+◌, ◌<◌, ◌==◌, ◌||◌, ◌∙◌, ◌∷◌, ◌≡◌, ◌≢◌, ◌≤◌}
 pub use Rattle.std.proofs.lemmas.Bool.{cases_eq, eq-eqb, eqb-true, false≢true, le-ltb, lt-ltb, ltb-true, ne_eqb, or_left, or_parts, or_right}
 pub use Rattle.std.proofs.lemmas.Bool.Decides.{Decides-like}
 pub use Rattle.std.proofs.lemmas.Grind.{common_steps, take_at_read}
@@ -15,7 +15,7 @@ pub use Rattle.std.specs.Cmp.{decided, nat_eq_equiv, unsigned_Decides}
 pub use Rattle.std.specs.Cmp.Lexicographic.{bytes_decides}
 pub use Rattle.std.specs.Fmt.{HasWritten, IsPlainFormatter}
 pub use Rattle.std.specs.List.{AllByRecursion, AllZip, cons_option, flat_map, IsDistinct, list_any, position_or_len}
-pub use Rattle.std.specs.Map.{lookup, values_of}
+pub use Rattle.std.specs.Map.{lookup}
 pub use Rattle.std.specs.Option.{is_some, option_copied, option_eq, option_or, unwrap_or}
 pub use Rattle.std.specs.Ordering.{nat_cmp}
 pub use Rattle.std.specs.Prelude.{codes, IsTrue, MatchOption, nat_lt, option_map, slice_get, slice_set, ◌↔◌}

@@ -1,6 +1,6 @@
 -- Laws on the first and the last of what items hold.
-use Rattle.str0m_sdp.proofs.Common.{◌≡◌, ℕ, suc, ◌<◌, ◌+◌, Bool, true, false, cond, not, List, [], ◌∷◌, ◌++◌, filter, filter_map, get_or, length, set, take, count_by, Option, Some, None, refl, sym, ap, ◌∙◌, arith, cons_option, position_or_len, is_some, option_or, ltb-true, lt-ltb, append-nil, take_more, filter_map-append}
-use Rattle.std.proofs.Common.{ltb, reverse, ◌↔◌}
+use Rattle.str0m_sdp.proofs.Common.{◌≡◌, ℕ, suc, ◌<◌, ◌+◌, Bool, true, false, cond, not, List, [], ◌∷◌, ◌++◌, filter, filter_map, get_or, length, take, count_by, Option, Some, None, refl, sym, ap, ◌∙◌, arith, cons_option, position_or_len, is_some, option_or, ltb-true, lt-ltb, append-nil, take_more, filter_map-append}
+use Rattle.std.proofs.Common.{ltb, reverse, ◌↔◌, set}
 use Rattle.std.specs.List.{position}
 use Rattle.std.proofs.lemmas.Bool.{true≢false}
 use Rattle.std.proofs.lemmas.List.{reverse-append}

@@ -1,5 +1,6 @@
 -- The types of a section with their codecs, one type more.
-use Rattle.str0m_sdp.proofs.Common.{◌≡◌, ◌<◌, ◌+◌, ◌++◌, ◌==◌, ℕ, Bool, true, false, cond, ◌||◌, List, [], ◌∷◌, length, take, set, get_or, Option, None, nat_eq, filter_map, option_to_list, refl, sym, ap, ◌∙◌, inl, inr, list_any, cases_eq, eq-eqb, ne_eqb, or_right, take_at_read, append-nil, filter_map-append, CodecSpec}
+use Rattle.str0m_sdp.proofs.Common.{◌≡◌, ◌<◌, ◌+◌, ◌++◌, ◌==◌, ℕ, Bool, true, false, cond, ◌||◌, List, [], ◌∷◌, length, take, get_or, Option, None, nat_eq, filter_map, option_to_list, refl, sym, ap, ◌∙◌, inl, inr, list_any, cases_eq, eq-eqb, ne_eqb, or_right, take_at_read, append-nil, filter_map-append, CodecSpec}
+use Rattle.std.proofs.Common.{set}
 use Rattle.str0m_sdp.specs.Consistency.{maps}
 use Rattle.str0m_sdp.specs.Lists.{distinct}
 use Rattle.str0m_sdp.specs.Mappings.{mapping, static_row, unmapped}

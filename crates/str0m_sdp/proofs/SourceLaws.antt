@@ -1,5 +1,6 @@
 -- Laws of sources and their places.
-use Rattle.str0m_sdp.proofs.Common.{◌≡◌, ◌<◌, ◌++◌, ℕ, zero, suc, Bool, true, false, cond, nat_eq, List, [], ◌∷◌, length, get_or, Option, None, Some, refl, sym, ap, ◌∙◌, arith, true≢false, codes, option_map, slice_get, slice_set, get, nat_eq_equiv, lookup, values_of, str_eq_ignore_ascii_case, nat_cmp, insert_entry}
+use Rattle.str0m_sdp.proofs.Common.{◌≡◌, ◌<◌, ◌++◌, ℕ, zero, suc, Bool, true, false, cond, nat_eq, List, [], ◌∷◌, length, get_or, Option, None, Some, refl, sym, ap, ◌∙◌, arith, true≢false, codes, option_map, slice_get, slice_set, get, nat_eq_equiv, lookup, str_eq_ignore_ascii_case, nat_cmp, insert_entry}
+use Rattle.std.specs.Map.{values_of}
 use Rattle.std.proofs.Common.{eqb-true}
 use Rattle.std.specs.Prelude.{unwrap_or, if◌then◌else◌}
 use Rattle.std.specs.BTreeMap.{BTreeMap, Updates}

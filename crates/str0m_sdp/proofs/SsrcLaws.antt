@@ -1,8 +1,8 @@
 -- What is gathered of sources, attribute by attribute, is what the attributes say.
-use Rattle.str0m_sdp.proofs.Common.{◌≡◌, ◌<◌, ◌+◌, ◌||◌, ◌&&◌, ℕ, suc, Bool, true, false, cond, nat_eq, List, [], ◌∷◌, ◌++◌, get_or, length, map, take, Option, None, Some, refl, sym, ap, subst, ◌∙◌, append_assoc, true≢false, codes, slice_get, nat_eq_equiv, bytes_decides, cons_option, list_any, IsDistinct, lookup, values_of, option_or, unwrap_or, str_eq_ignore_ascii_case, append-nil, take_more, filter_map-append, insert_entry, insert_key, insert_all, when}
+use Rattle.str0m_sdp.proofs.Common.{◌≡◌, ◌<◌, ◌+◌, ◌||◌, ◌&&◌, ℕ, suc, Bool, true, false, cond, nat_eq, List, [], ◌∷◌, ◌++◌, get_or, length, map, take, Option, None, Some, refl, sym, ap, subst, ◌∙◌, append_assoc, true≢false, codes, slice_get, nat_eq_equiv, bytes_decides, cons_option, list_any, IsDistinct, lookup, option_or, unwrap_or, str_eq_ignore_ascii_case, append-nil, take_more, filter_map-append, insert_entry, insert_key, insert_all, when}
 use Rattle.std.proofs.Common.{eqb-true}
 use Rattle.std.specs.List.{filter_map}
-use Rattle.std.specs.Map.{keys_of}
+use Rattle.std.specs.Map.{keys_of, values_of}
 use Rattle.std.specs.Option.{option_map, option_flatten}
 use Rattle.std.specs.Str.{str_to_ascii_lowercase}
 use Rattle.std.proofs.lemmas.List.Sums.{fold-append}

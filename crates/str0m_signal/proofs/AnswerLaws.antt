@@ -1,5 +1,6 @@
 -- The clauses of a reader.
-use Rattle.str0m_signal.proofs.Common.{◌≡◌, ℕ, List, Option, Result, Ok, Err, sym, ap, subst, ◌∙◌, Bor, none-some, SdpError, Reads}
+use Rattle.str0m_signal.proofs.Common.{◌≡◌, ℕ, List, Option, Result, Ok, Err, sym, ap, subst, ◌∙◌, Bor, none-some, SdpError}
+use Rattle.str0m_values.proofs.BothWays.{Reads}
 use Rattle.std.specs.Prelude.{IsErrAnd}
 use Rattle.str0m_sdp.specs.declared.error.SdpError.TheVariants.{ParseError, Inconsistent, Memory}
 use Rattle.str0m_signal.specs.Answers.{Answers, AtMostOne, Gives, Refuses, IsRefusal, unread}

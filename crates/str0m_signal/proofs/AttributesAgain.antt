@@ -1,5 +1,7 @@
 -- Attributes are printed as they were read.
-use Rattle.str0m_signal.proofs.Common.{◌≡◌, ◌⊎◌, ◌≤◌, ℕ, List, [], ◌∷◌, ◌++◌, Option, Some, None, IfSome, refl, ap, ◌∙◌, subst, sym, lit<, lit≤, inl, inr, codes, IsReadAs, printed_and_read, Codec, media_attribute_text, is_shown, attribute_line, KeepsToLine, setup_text, MediaAttribute, RtpMap, Fmtp, Simulcast, RestrictionId, SimulcastLayer, candidate_text, IsCandidateText, Parted, IsLongestBeginning, decimal, join_by, Lacks, IsNum, lacks_from}
+use Rattle.str0m_signal.proofs.Common.{◌≡◌, ◌⊎◌, ◌≤◌, ℕ, List, [], ◌∷◌, ◌++◌, Option, Some, None, IfSome, refl, ap, ◌∙◌, subst, sym, lit<, lit≤, inl, inr, codes, printed_and_read, Codec, media_attribute_text, is_shown, attribute_line, KeepsToLine, setup_text, MediaAttribute, Fmtp, RestrictionId, SimulcastLayer, candidate_text, IsCandidateText, Parted, IsLongestBeginning, decimal, join_by, Lacks, IsNum, lacks_from}
+use Rattle.str0m_formats.specs.Codec.{IsReadAs}
+use Rattle.str0m_sdp.specs.declared.attribute.MediaAttribute.TheVariants.{RtpMap, Simulcast}
 use Rattle.std.specs.Prelude.{Bool, filter}
 use Rattle.str0m_formats.specs.declared.codec.Codec.TheVariants as codec
 use Rattle.str0m_sdp.specs.Simulcast.{sides_text, unless_munged}

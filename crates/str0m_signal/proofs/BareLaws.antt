@@ -1,5 +1,6 @@
 -- The values without keys of an fmtp line are read exactly where they stand.
-use Rattle.str0m_signal.proofs.Common.{◌≡◌, ◌≢◌, ◌≤◌, ℕ, List, [], ◌∷◌, Option, Some, None, refl, sym, ap, ◌∙◌, arith, inl, inr, codes, eq-eqb, ne_eqb, cases_eq, IsNumeral, digits_value, FormatParam, BareRange, BarePtList, ◌>>=◌, strip, num, FirstFit, Parted, Lacks, IsNum, Reads, bind_some, some_is, reads_first, cut_at, strip_found, number_lacks, digits_lack, num_found, num_reads}
+use Rattle.str0m_signal.proofs.Common.{◌≡◌, ◌≢◌, ◌≤◌, ℕ, List, [], ◌∷◌, Option, Some, None, refl, sym, ap, ◌∙◌, arith, inl, inr, codes, eq-eqb, ne_eqb, cases_eq, IsNumeral, digits_value, FormatParam, BareRange, BarePtList, ◌>>=◌, strip, num, FirstFit, Parted, Lacks, IsNum, bind_some, some_is, reads_first, cut_at, strip_found, number_lacks, digits_lack, num_found, num_reads}
+use Rattle.str0m_values.proofs.BothWays.{Reads}
 use Rattle.str0m_formats.specs.FormatParam.{IsEventRange}
 use Rattle.str0m_formats.specs.declared.format_param.FormatParam.TheVariants.{Unknown}
 use Rattle.str0m_signal.specs.Forms.{Two}

@@ -1,5 +1,6 @@
 -- How the text of a candidate begins.
-use Rattle.str0m_signal.proofs.Common.{◌≡◌, ℕ, List, ◌++◌, ap, ◌∙◌, Candidate, IsCandidateText}
+use Rattle.str0m_signal.proofs.Common.{◌≡◌, ℕ, List, ◌++◌, ap, ◌∙◌, IsCandidateText}
+use Rattle.str0m_values.specs.declared.candidate.Candidate.{Candidate}
 use Rattle.std.proofs.Common.{append_assoc}
 use Rattle.str0m_values.specs.declared.candidate_label.TheConstants as candidate_label
 

@@ -21,12 +21,11 @@ pub use Rattle.str0m_formats.proofs.CodecNames.{read_as}
 pub use Rattle.str0m_formats.proofs.PairsLaws.{pairs_read_is}
 pub use Rattle.str0m_formats.proofs.Shown.{IsPlainPair, joined_pair}
 pub use Rattle.str0m_formats.specs.Bounds.{HoldsRowNumbers}
-pub use Rattle.str0m_formats.specs.Codec.{codec_of, IsReadAs, printed_and_read}
+pub use Rattle.str0m_formats.specs.Codec.{codec_of, printed_and_read}
 pub use Rattle.str0m_formats.specs.FormatParam.{pair_texts, param_text}
 pub use Rattle.str0m_formats.specs.Narrowing.{telephone_max}
 pub use Rattle.str0m_formats.specs.Pairs.{has_mark}
 pub use Rattle.str0m_formats.specs.PairsReading.{params_read}
-pub use Rattle.str0m_formats.specs.PlainRow.{IsPlain}
 pub use Rattle.str0m_formats.specs.Rows.{types, types_of}
 pub use Rattle.str0m_formats.specs.TypeSets.{AllDistinct}
 pub use Rattle.str0m_formats.specs.declared.codec.Codec.{Codec}
@@ -50,9 +49,8 @@ pub use Rattle.str0m_sdp.specs.Session.{sdp_text}
 pub use Rattle.str0m_sdp.specs.Setup.{setup_text}
 pub use Rattle.str0m_sdp.specs.Simulcast.{name_text}
 pub use Rattle.str0m_sdp.specs.declared.attribute.MediaAttribute.{MediaAttribute}
-pub use Rattle.str0m_sdp.specs.declared.attribute.MediaAttribute.TheVariants.{Fmtp, RtcpFb, RtpMap, Simulcast}
+pub use Rattle.str0m_sdp.specs.declared.attribute.MediaAttribute.TheVariants.{Fmtp, RtcpFb}
 pub use Rattle.str0m_sdp.specs.declared.attribute.SessionAttribute.{SessionAttribute}
-pub use Rattle.str0m_sdp.specs.declared.attribute.SessionAttribute.TheVariants.{Fingerprint, Setup, Unused}
 pub use Rattle.str0m_sdp.specs.declared.bandwidth.Bandwidth.{Bandwidth}
 pub use Rattle.str0m_sdp.specs.declared.error.SdpError.{SdpError}
 pub use Rattle.str0m_sdp.specs.declared.media_line.MediaLine.{MediaLine}
@@ -64,7 +62,7 @@ pub use Rattle.str0m_sdp.specs.declared.session.Sdp.{Sdp}
 pub use Rattle.str0m_sdp.specs.declared.simulcast.RestrictionId.{RestrictionId}
 pub use Rattle.str0m_sdp.specs.declared.simulcast.SimulcastLayer.{SimulcastLayer}
 pub use Rattle.str0m_values.proofs.Beginnings.{beginning_is, beginning_only}
-pub use Rattle.str0m_values.proofs.BothWays.{bind_some, if_some, or_some, Reads, reads_first, some_is, Sound, sound_or}
+pub use Rattle.str0m_values.proofs.BothWays.{bind_some, if_some, or_some, reads_first, some_is, Sound, sound_or}
 pub use Rattle.str0m_values.proofs.CandidateLaws.{candidate_both}
 pub use Rattle.str0m_values.proofs.CutLaws.{before_front, cut_at, cut_found, cut_none, cut_none_lacks, Lacks-append, lacks_from, lacks_true, strip_at, strip_found}
 pub use Rattle.str0m_values.proofs.NumLaws.{digits_lack, num_found, num_reads, number_lacks, parsed_whole, rest_true, when_some, when_true}
@@ -76,4 +74,3 @@ pub use Rattle.str0m_values.specs.Only.{IsTheOnly}
 pub use Rattle.str0m_values.specs.Parts.{IsNum, IsPt, IsRest, IsWord, Lacks}
 pub use Rattle.str0m_values.specs.Separator.{code}
 pub use Rattle.str0m_values.specs.ShortText.{beginning_of, IsLongestBeginning}
-pub use Rattle.str0m_values.specs.declared.candidate.Candidate.{Candidate}

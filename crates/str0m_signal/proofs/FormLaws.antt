@@ -1,5 +1,6 @@
 -- The pieces that forms share are read both ways.
-use Rattle.str0m_signal.proofs.Common.{◌≡◌, ℕ, List, [], ◌∷◌, ◌++◌, length, Option, Some, None, refl, sym, ap, ◌∙◌, inl, inr, ltb-true, ◌>>=◌, cut, strip, when, is_rest, num, IsNum, Sound, Reads, bind_some, some_is, cut_none, cut_none_lacks, cut_at, cut_found, strip_at, strip_found, when_some, when_true, num_found, num_reads, rest_true}
+use Rattle.str0m_signal.proofs.Common.{◌≡◌, ℕ, List, [], ◌∷◌, ◌++◌, length, Option, Some, None, refl, sym, ap, ◌∙◌, inl, inr, ltb-true, ◌>>=◌, cut, strip, when, is_rest, num, IsNum, Sound, bind_some, some_is, cut_none, cut_none_lacks, cut_at, cut_found, strip_at, strip_found, when_some, when_true, num_found, num_reads, rest_true}
+use Rattle.str0m_values.proofs.BothWays.{Reads}
 use Rattle.std.proofs.Common.{append-nil}
 use Rattle.str0m_signal.specs.Forms.{Behind, IsText, Two, Tailed}
 use Rattle.str0m_signal.specs.FormReading.{behind, text_read, two_read, tail_after, tailed_read}

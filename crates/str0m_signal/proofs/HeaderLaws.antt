@@ -1,5 +1,5 @@
 -- The lines of a header are read exactly where their forms hold.
-use Rattle.str0m_signal.proofs.Common.{◌≡◌, ◌&&◌, ℕ, ◌≤◌, Bool, false, List, [], ◌∷◌, ◌++◌, length, Some, None, Result, refl, sym, ap, subst, ◌∙◌, arith, inl, inr, codes, MatchBool, bytes_eq, IsCharBoundary, digits_value, ltb-true, and_parts, and_from, both_ways, bytes_eq-Decides, some_pair_parts, Lacks, ◌>>=◌, cut, strip, when, is_rest, cut_at, cut_found, strip_found, when_some, when_true, parsed_whole, Reads, bind_some, some_is, AllByRecursion, drop, digits_lack, rest_true}
+use Rattle.str0m_signal.proofs.Common.{◌≡◌, ◌&&◌, ℕ, ◌≤◌, Bool, false, List, [], ◌∷◌, ◌++◌, length, Some, None, Result, refl, sym, ap, subst, ◌∙◌, arith, inl, inr, codes, MatchBool, bytes_eq, IsCharBoundary, digits_value, ltb-true, and_parts, and_from, both_ways, bytes_eq-Decides, some_pair_parts, Lacks, ◌>>=◌, cut, strip, when, is_rest, cut_at, cut_found, strip_found, when_some, when_true, parsed_whole, bind_some, some_is, AllByRecursion, drop, digits_lack, rest_true}
 use Rattle.std.proofs.Common.{leb}
 use Rattle.std.specs.Result.{result_ok}
 use Rattle.std.specs.Str.Pattern.{FindsCharPrefix}
@@ -15,7 +15,7 @@ use Rattle.str0m_signal.specs.LineReading.{line_read}
 use Rattle.str0m_signal.specs.SectionReading.{field_read}
 use Rattle.str0m_signal.specs.HeaderReading.{exact_read, digits_read, origin_read, one_field_read, info_read, opening_read}
 use Rattle.str0m_values.proofs.NumLaws.{numeral_true, numeral_from}
-use Rattle.str0m_values.proofs.BothWays.{reads_either}
+use Rattle.str0m_values.proofs.BothWays.{reads_either, Reads}
 use Rattle.std.proofs.Math.Seq.{drop-append_seam}
 use Rattle.str0m_signal.proofs.LineLaws.{line_found, line_given}
 use Rattle.str0m_signal.proofs.SectionLaws.{field_both}

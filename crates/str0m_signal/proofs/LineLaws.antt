@@ -1,5 +1,6 @@
 -- `lines_of` gives the lines of a text, and no others are.
-use Rattle.str0m_signal.proofs.Common.{◌≡◌, ◌≢◌, ◌⊎◌, ℕ, ◌<◌, ◌+◌, true, false, cond, eqb, List, [], ◌∷◌, ◌++◌, length, Option, Some, None, refl, sym, ap, ◌∙◌, arith, inl, inr, eqb-true, ne_eqb, cases_eq, cases_Bool, both_ways, and_parts, and_left, and_right, take, ◌-◌, Bor, some_pair_parts, lacks_true, lacks_from, codes, strip, ◌>>=◌, strip_found, Reads, bind_some, if_some, lacks}
+use Rattle.str0m_signal.proofs.Common.{◌≡◌, ◌≢◌, ◌⊎◌, ℕ, ◌<◌, ◌+◌, true, false, cond, eqb, List, [], ◌∷◌, ◌++◌, length, Option, Some, None, refl, sym, ap, ◌∙◌, arith, inl, inr, eqb-true, ne_eqb, cases_eq, cases_Bool, both_ways, and_parts, and_left, and_right, take, ◌-◌, Bor, some_pair_parts, lacks_true, lacks_from, codes, strip, ◌>>=◌, strip_found, bind_some, if_some, lacks}
+use Rattle.str0m_values.proofs.BothWays.{Reads}
 use Rattle.std.specs.Prelude.{MatchOption, unwrap_or}
 use Rattle.std.specs.Str.Pattern.{FindsCharSuffix}
 use Rattle.std.proofs.lemmas.Str.Pattern.{strip_suffix_char}

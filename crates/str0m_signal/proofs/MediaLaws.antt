@@ -1,5 +1,6 @@
 -- A section's attribute is read exactly where its form holds.
-use Rattle.str0m_signal.proofs.Common.{◌≡◌, ℕ, List, length, Some, refl, sym, ap, ◌∙◌, ltb-true, setup_text, is_rest, beginning_of, beginning_is, beginning_only, Reads, reads_first, candidate_both, when_some, when_true, rest_true}
+use Rattle.str0m_signal.proofs.Common.{◌≡◌, ℕ, List, length, Some, refl, sym, ap, ◌∙◌, ltb-true, setup_text, is_rest, beginning_of, beginning_is, beginning_only, reads_first, candidate_both, when_some, when_true, rest_true}
+use Rattle.str0m_values.proofs.BothWays.{Reads}
 use Rattle.str0m_sdp.specs.declared.attribute.MediaAttribute.TheVariants.{Fingerprint, Setup, Candidate, Unused}
 use Rattle.str0m_sdp.specs.declared.setup.Setup.{Setup as Role}
 use Rattle.str0m_sdp.specs.declared.setup.Setup.TheVariants.{ActPass}

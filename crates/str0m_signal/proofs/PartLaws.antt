@@ -1,5 +1,6 @@
 -- Parts with a character between them are read both ways, and one by one.
-use Rattle.str0m_signal.proofs.Common.{◌≡◌, ◌⊎◌, ℕ, ◌<◌, true, false, eqb, List, [], ◌∷◌, ◌++◌, length, Option, Some, None, Result, Ok, IfOk, Bool, refl, sym, ap, subst, ◌∙◌, arith, inl, inr, length-append, is_some, ne_eqb, eq-eqb, Lacks, ◌>>=◌, cut, Parted, Reads, bind_some, some_is, cut_found, cut_none_lacks}
+use Rattle.str0m_signal.proofs.Common.{◌≡◌, ◌⊎◌, ℕ, ◌<◌, true, false, eqb, List, [], ◌∷◌, ◌++◌, length, Option, Some, None, Result, Ok, IfOk, Bool, refl, sym, ap, subst, ◌∙◌, arith, inl, inr, length-append, is_some, ne_eqb, eq-eqb, Lacks, ◌>>=◌, cut, Parted, bind_some, some_is, cut_found, cut_none_lacks}
+use Rattle.str0m_values.proofs.BothWays.{Reads}
 use Rattle.std.proofs.Common.{append_assoc, Vec, Global}
 use Rattle.std.specs.Prelude.{option_map}
 use Rattle.std.specs.List.{slice_split, onto_first}

@@ -1,5 +1,6 @@
 -- The lines of plain rows, whose numbers keep to their types' ranges, read as values that say the rows' formats again.
-use Rattle.str0m_signal.proofs.Common.{◌≡◌, ◌≢◌, ◌≤◌, inl, inr, ℕ, Bool, true, false, cond, List, [], ◌∷◌, ◌++◌, Option, Some, None, IfSome, refl, sym, ap, ◌∙◌, subst, arith, AllByRecursion, lt-ltb, cases_lt, HoldsRowNumbers, telephone_max, IsPlain, types_of, types, Codec, PayloadParams, values_printed, reads, row_attrs}
+use Rattle.str0m_signal.proofs.Common.{◌≡◌, ◌≢◌, ◌≤◌, inl, inr, ℕ, Bool, true, false, cond, List, [], ◌∷◌, ◌++◌, Option, Some, None, IfSome, refl, sym, ap, ◌∙◌, subst, arith, AllByRecursion, lt-ltb, cases_lt, HoldsRowNumbers, telephone_max, types_of, types, Codec, PayloadParams, values_printed, reads, row_attrs}
+use Rattle.str0m_formats.specs.PlainRow.{IsPlain}
 use Rattle.std.specs.Prelude.{nat_lt, find, option_to_list}
 use Rattle.str0m_formats.specs.Bounds.{IsByte}
 use Rattle.str0m_formats.specs.Codec.{content, other}

@@ -1,5 +1,6 @@
 -- The line of a stream that may be restricted is read exactly where its form holds.
-use Rattle.str0m_signal.proofs.Common.{◌≡◌, ◌≢◌, ℕ, zero, suc, ◌<◌, Bool, true, false, List, [], ◌∷◌, ◌++◌, length, Option, Some, None, refl, sym, ap, subst, ◌∙◌, arith, inl, inr, length-append, codes, is_some, some_pair_parts, none-some, append-nil, RestrictionId, ◌>>=◌, cut, strip, Parted, Lacks, IsPt, Reads, bind_some, some_is, or_some, cut_none, cut_at, cut_found, strip_at, strip_found, when_some, number_lacks, rest_true}
+use Rattle.str0m_signal.proofs.Common.{◌≡◌, ◌≢◌, ℕ, zero, suc, ◌<◌, Bool, true, false, List, [], ◌∷◌, ◌++◌, length, Option, Some, None, refl, sym, ap, subst, ◌∙◌, arith, inl, inr, length-append, codes, is_some, some_pair_parts, none-some, append-nil, RestrictionId, ◌>>=◌, cut, strip, Parted, Lacks, IsPt, bind_some, some_is, or_some, cut_none, cut_at, cut_found, strip_at, strip_found, when_some, number_lacks, rest_true}
+use Rattle.str0m_values.proofs.BothWays.{Reads}
 use Rattle.std.proofs.Common.{append_assoc}
 use Rattle.str0m_values.proofs.CutLaws.{strip_none}
 use Rattle.str0m_signal.specs.Fmtp.{AreBlanks, IsKey, IsValue}

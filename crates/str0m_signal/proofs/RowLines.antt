@@ -1,5 +1,6 @@
 -- The printed lines of a row have their forms, and read as the row's lines.
-use Rattle.str0m_signal.proofs.Common.{◌≡◌, ◌≢◌, ◌<◌, ◌≤◌, ℕ, Bool, true, false, List, [], ◌∷◌, ◌++◌, map, filter_map, Option, Some, None, IfSome, option_map, refl, sym, ap, subst, arith, lit<, lit≤, AllByRecursion, cons_option, flat_map, IsRest, printed_and_read, param_text, telephone_max, params_read, Codec, FormatParam, TelephoneEvents, BareRange, BarePtList, Apt, Red, PayloadParams, IsPlainPair, joined_pair, media_attribute_text, row_attrs, MediaAttribute, RtpMap, RtcpFb, Fmtp, reads}
+use Rattle.str0m_signal.proofs.Common.{◌≡◌, ◌≢◌, ◌<◌, ◌≤◌, ℕ, Bool, true, false, List, [], ◌∷◌, ◌++◌, map, filter_map, Option, Some, None, IfSome, option_map, refl, sym, ap, subst, arith, lit<, lit≤, AllByRecursion, cons_option, flat_map, IsRest, printed_and_read, param_text, telephone_max, params_read, Codec, FormatParam, TelephoneEvents, BareRange, BarePtList, Apt, Red, PayloadParams, IsPlainPair, joined_pair, media_attribute_text, row_attrs, MediaAttribute, RtcpFb, Fmtp, reads}
+use Rattle.str0m_sdp.specs.declared.attribute.MediaAttribute.TheVariants.{RtpMap}
 use Rattle.str0m_formats.specs.CodecSpec.{rtp_rate}
 use Rattle.str0m_formats.specs.FormatParams.{params_of}
 use Rattle.str0m_formats.specs.declared.codec.Codec.TheVariants as codec

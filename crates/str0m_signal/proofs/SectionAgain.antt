@@ -1,5 +1,6 @@
 -- A section is printed as it was read: its lines are read as a section that is consistent where it was.
-use Rattle.str0m_signal.proofs.Common.{◌≡◌, ◌⊎◌, ◌+◌, ◌==◌, map, ℕ, Bool, true, false, not, cond, List, [], ◌∷◌, filter, zero-add, length, Option, Some, None, IfSome, All, refl, sym, subst, ap, ◌∙◌, arith, inl, inr, AllByRecursion, cases_Bool, lt-ltb, false≢true, All-nil, All-cons, All-head, All-tail, All-weaker, ◌<|>◌, param_text, FormatParam, Apt, media_attribute_text, Consistent, AgreesOnApt, is_shown, shown_line, is_of_type, MediaAttribute, Fmtp, Simulcast, RtpMap, RtcpFb, MediaLine, Srtp, Sctp}
+use Rattle.str0m_signal.proofs.Common.{◌≡◌, ◌⊎◌, ◌+◌, ◌==◌, map, ℕ, Bool, true, false, not, cond, List, [], ◌∷◌, filter, zero-add, length, Option, Some, None, IfSome, All, refl, sym, subst, ap, ◌∙◌, arith, inl, inr, AllByRecursion, cases_Bool, lt-ltb, false≢true, All-nil, All-cons, All-head, All-tail, All-weaker, ◌<|>◌, param_text, FormatParam, Apt, media_attribute_text, Consistent, AgreesOnApt, is_shown, shown_line, is_of_type, MediaAttribute, Fmtp, RtcpFb, MediaLine, Srtp, Sctp}
+use Rattle.str0m_sdp.specs.declared.attribute.MediaAttribute.TheVariants.{Simulcast, RtpMap}
 use Rattle.std.specs.Prelude.{count_by}
 use Rattle.std.proofs.lemmas.Bool.{true≢false, not-true}
 use Rattle.std.proofs.lemmas.List.Sums.{sum_by-cons}

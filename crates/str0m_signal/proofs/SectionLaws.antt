@@ -1,5 +1,6 @@
 -- The lines of a section are read exactly where their forms hold.
-use Rattle.str0m_signal.proofs.Common.{◌≡◌, ℕ, Bool, true, false, cond, List, [], ◌∷◌, ◌++◌, length, Option, Some, None, refl, sym, ap, subst, ◌∙◌, arith, inl, inr, codes, is_some, bytes_eq, ltb-true, both_ways, append-nil, Parted, bytes_eq-Decides, Bandwidth, AUDIO, VIDEO, SRTP, SCTP, MediaType, Proto, Srtp, Sctp, Lacks, IsRest, IsNum, FirstFit, ◌>>=◌, cut, strip, when, is_rest, cut_at, cut_found, strip_at, strip_found, when_some, Sound, Reads, bind_some, some_is, sound_or, reads_first, number_lacks, rest_true}
+use Rattle.str0m_signal.proofs.Common.{◌≡◌, ℕ, Bool, true, false, cond, List, [], ◌∷◌, ◌++◌, length, Option, Some, None, refl, sym, ap, subst, ◌∙◌, arith, inl, inr, codes, is_some, bytes_eq, ltb-true, both_ways, append-nil, Parted, bytes_eq-Decides, Bandwidth, AUDIO, VIDEO, SRTP, SCTP, MediaType, Proto, Srtp, Sctp, Lacks, IsRest, IsNum, FirstFit, ◌>>=◌, cut, strip, when, is_rest, cut_at, cut_found, strip_at, strip_found, when_some, Sound, bind_some, some_is, sound_or, reads_first, number_lacks, rest_true}
+use Rattle.str0m_values.proofs.BothWays.{Reads}
 use Rattle.std.proofs.lemmas.Bool.{false_from_ne_true}
 use Rattle.std.proofs.lemmas.Bool.Decides.{same_from_decides}
 use Rattle.str0m_signal.proofs.FormLaws.{num_both}

@@ -1,6 +1,6 @@
 -- The attributes of a session are printed as they were read.
-use Rattle.str0m_signal.proofs.Common.{◌≡◌, ℕ, List, ◌++◌, refl, sym, subst, lit≤, inl, inr, session_attribute_text, attribute_line, SessionAttribute, Fingerprint, Setup, Unused}
-use Rattle.str0m_sdp.specs.declared.attribute.SessionAttribute.TheVariants.{Group, Candidate}
+use Rattle.str0m_signal.proofs.Common.{◌≡◌, ℕ, List, ◌++◌, refl, sym, subst, lit≤, inl, inr, session_attribute_text, attribute_line, SessionAttribute}
+use Rattle.str0m_sdp.specs.declared.attribute.SessionAttribute.TheVariants.{Group, Candidate, Fingerprint, Setup, Unused}
 use Rattle.str0m_signal.specs.FormTable.{Form, led_by}
 use Rattle.str0m_signal.specs.Forms.{Behind}
 use Rattle.str0m_signal.specs.SessionAttribute.{session_words, session_texts, group, session_forms, SessionForm, IsSessionLine}

@@ -1,6 +1,7 @@
 -- A session's attribute is read exactly where its form holds.
-use Rattle.str0m_signal.proofs.Common.{refl, Reads, reads_first, Fingerprint, Setup, Unused}
-use Rattle.str0m_sdp.specs.declared.attribute.SessionAttribute.TheVariants.{Candidate}
+use Rattle.str0m_signal.proofs.Common.{refl, reads_first}
+use Rattle.str0m_values.proofs.BothWays.{Reads}
+use Rattle.str0m_sdp.specs.declared.attribute.SessionAttribute.TheVariants.{Candidate, Fingerprint, Setup, Unused}
 use Rattle.str0m_signal.specs.LineReading.{read_attribute}
 use Rattle.str0m_signal.specs.SessionAttribute.{session_words, session_texts, session_forms, IsSessionLine, session_read}
 use Rattle.str0m_signal.proofs.LineLaws.{attribute_both}

@@ -1,5 +1,6 @@
 -- A simulcast line is read exactly where its form holds.
-use Rattle.str0m_signal.proofs.Common.{◌≡◌, ◌≢◌, ℕ, Bool, true, false, List, [], ◌∷◌, ◌++◌, length, Option, Some, None, refl, sym, ap, subst, ◌∙◌, arith, inl, inr, codes, is_some, list_all, ltb-true, ne_eqb, and_parts, and_from, RestrictionId, SimulcastLayer, name_text, ◌>>=◌, cut, strip, when, is_rest, lacks, Parted, Lacks, IsRest, Sound, Reads, bind_some, some_is, sound_or, cut_none, cut_at, cut_found, strip_found, lacks_true, lacks_from, when_some, when_true, rest_true}
+use Rattle.str0m_signal.proofs.Common.{◌≡◌, ◌≢◌, ℕ, Bool, true, false, List, [], ◌∷◌, ◌++◌, length, Option, Some, None, refl, sym, ap, subst, ◌∙◌, arith, inl, inr, codes, is_some, list_all, ltb-true, ne_eqb, and_parts, and_from, RestrictionId, SimulcastLayer, name_text, ◌>>=◌, cut, strip, when, is_rest, lacks, Parted, Lacks, IsRest, Sound, bind_some, some_is, sound_or, cut_none, cut_at, cut_found, strip_found, lacks_true, lacks_from, when_some, when_true, rest_true}
+use Rattle.str0m_values.proofs.BothWays.{Reads}
 use Rattle.std.specs.Str.{chars}
 use Rattle.str0m_sdp.specs.declared.simulcast.Simulcast.{Simulcast}
 use Rattle.str0m_signal.specs.Forms.{Behind, Two}

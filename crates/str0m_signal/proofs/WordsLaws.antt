@@ -1,5 +1,6 @@
 -- Lists of words are read both ways.
-use Rattle.str0m_signal.proofs.Common.{◌≡◌, ◌≢◌, ◌⊎◌, ◌<◌, ◌≤◌, ◌+◌, ℕ, ltb, List, [], ◌∷◌, ◌++◌, Option, Some, None, refl, sym, ap, ◌∙◌, arith, inl, inr, codes, digit_value, ltb-true, lt-ltb, eq-eqb, ne_eqb, cases_eq, ◌>>=◌, cut, strip, lacks, num, Parted, Lacks, IsRest, IsNum, beginning_of, beginning_is, beginning_only, Reads, bind_some, if_some, some_is, cut_none, cut_none_lacks, cut_at, cut_found, strip_found, lacks_true, lacks_from, when_some, number_lacks}
+use Rattle.str0m_signal.proofs.Common.{◌≡◌, ◌≢◌, ◌⊎◌, ◌<◌, ◌≤◌, ◌+◌, ℕ, ltb, List, [], ◌∷◌, ◌++◌, Option, Some, None, refl, sym, ap, ◌∙◌, arith, inl, inr, codes, digit_value, ltb-true, lt-ltb, eq-eqb, ne_eqb, cases_eq, ◌>>=◌, cut, strip, lacks, num, Parted, Lacks, IsRest, IsNum, beginning_of, beginning_is, beginning_only, bind_some, if_some, some_is, cut_none, cut_none_lacks, cut_at, cut_found, strip_found, lacks_true, lacks_from, when_some, number_lacks}
+use Rattle.str0m_values.proofs.BothWays.{Reads}
 use Rattle.std.proofs.Common.{◌*◌, append-nil}
 use Rattle.str0m_signal.specs.Lines.{EndsIn}
 use Rattle.str0m_signal.specs.Forms.{IsText, Two}

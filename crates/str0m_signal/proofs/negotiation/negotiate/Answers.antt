@@ -1,4 +1,5 @@
-use Rattle.str0m_signal.proofs.Common.{All, IsPlain, types, AllDistinct}
+use Rattle.str0m_signal.proofs.Common.{All, types, AllDistinct}
+use Rattle.str0m_formats.specs.PlainRow.{IsPlain}
 use Rattle.str0m_formats.specs.declared.codec_config.CodecConfig.{CodecConfig}
 use Rattle.str0m_signal.specs.ReadBack.{MayBePrinted}
 use Rattle.str0m_signal.proofs.NegotiationLaws.{kept_or_same, rounds_bounded}
