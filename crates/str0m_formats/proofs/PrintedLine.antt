@@ -38,6 +38,10 @@ abbrev pub all_pairs : List Field → FormatParams → List (List ℕ × List �
 all_pairs [] p = []
 all_pairs (f ∷ fs) p = given (rows_at f p) ++ all_pairs fs p
 
+-- the pairs that a format prints
+abbrev pub printed_pairs : FormatParams → List (List ℕ × List ℕ)
+printed_pairs p = all_pairs FIELDS p
+
 abbrev pub all_rows : List Field → FormatParams → Rows
 all_rows [] p = []
 all_rows (f ∷ fs) p = rows_at f p ++ all_rows fs p

@@ -6,14 +6,13 @@ use Rattle.str0m_sdp.proofs.RowQuestions.{attrs_of}
 use Rattle.str0m_sdp.proofs.ReadSection.{IsFrame, Describes, describes}
 use Rattle.str0m_formats.specs.FormatLine.{is_refused}
 use Rattle.str0m_formats.specs.Bounds.{HoldsRowNumbers}
-use Rattle.str0m_formats.specs.FormatParams.{fields}
 use Rattle.str0m_formats.specs.Narrowing.{telephone_max}
 use Rattle.str0m_formats.specs.Pairs.{has_mark}
 use Rattle.str0m_formats.specs.PairsReading.{params_read}
 use Rattle.str0m_formats.specs.declared.codec.Codec.TheVariants as codec
 use Rattle.str0m_formats.specs.declared.format_param.FormatParam.TheVariants.{BareRange, Red}
 use Rattle.str0m_formats.proofs.PrintedPairs.{IsOwn, IsLineOf, said, line_of_pairs}
-use Rattle.str0m_formats.proofs.PrintedLine.{all_pairs}
+use Rattle.str0m_formats.proofs.PrintedLine.{printed_pairs}
 use Rattle.str0m_formats.proofs.PlainFormats.{can_be_read_back}
 use Rattle.str0m_sdp.proofs.FrameAnswers.{NamesNoType, NameNoType}
 use Rattle.str0m_sdp.proofs.RowsBack.{IsSaid}
@@ -104,13 +103,13 @@ not_events codec.Tele other = absurd (other refl)
 not_events _ other = λ e. cc
 
 pub printed_line : (row : PayloadParams) → IsPlain row → HoldsRowNumbers row → row.spec.codec ≢ codec.Tele
-    → IsLineOf row.spec.format (all_pairs fields row.spec.format)
+    → IsLineOf row.spec.format (printed_pairs row.spec.format)
 printed_line row p holds other =
     line_of_pairs row.spec.format (can_be_read_back row p holds) (p.no_maximum (not_events row.spec.codec other))
 
 -- what the fmtp lines of a row read as where they are printed
 abbrev pub values_printed : PayloadParams → List (List FormatParam)
-values_printed row = values_by (λ r. all_pairs fields r.spec.format) row
+values_printed row = values_by (λ r. printed_pairs r.spec.format) row
 
 -- plain rows whose numbers keep to their types' ranges, none of whose types stands twice, are described by a section whose
 -- types are theirs and whose lines are those of a frame and what theirs read as
@@ -118,5 +117,5 @@ pub describes_read_back : (m : MediaLine) (frame : List MediaAttribute) (rows : 
     → m.attrs ≡ attrs_of values_printed frame rows → m.pts ≡ types rows → All IsPlain rows → All HoldsRowNumbers rows
     → AllDistinct (types rows) → rows ≢ [] → Describes m rows
 describes_read_back m frame rows f attrs pts plain holds d some =
-    describes_printed (λ r. all_pairs fields r.spec.format) m frame rows f attrs pts plain d
+    describes_printed (λ r. printed_pairs r.spec.format) m frame rows f attrs pts plain d
     (λ k e lt. printed_line (get_or rows k e) (plain k e lt) (holds k e lt)) some

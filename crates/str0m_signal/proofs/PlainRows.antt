@@ -4,10 +4,9 @@ use Rattle.str0m_formats.specs.PlainRow.{IsPlain}
 use Rattle.std.specs.Prelude.{nat_lt, find, option_to_list}
 use Rattle.str0m_formats.specs.Bounds.{IsByte}
 use Rattle.str0m_formats.specs.Codec.{content, other}
-use Rattle.str0m_formats.specs.FormatParams.{fields}
 use Rattle.str0m_formats.specs.Rows.{AllSmall}
 use Rattle.str0m_formats.specs.declared.codec.Codec.TheVariants as codec
-use Rattle.str0m_formats.proofs.PrintedLine.{all_pairs}
+use Rattle.str0m_formats.proofs.PrintedLine.{printed_pairs}
 use Rattle.str0m_sdp.proofs.ReadValues.{values_read, printed_line}
 use Rattle.str0m_signal.proofs.RowLines.{ReadAs, IsRate, KeepsToRow, events_read, pairs_row_read}
 use Rattle.str0m_signal.proofs.SectionLines.{AreTypes}
@@ -81,10 +80,10 @@ maximum_fits row p holds tele =
     subst (λ (n : ℕ). n ≤ 255) (sym (ap telephone_max alone.1)) fits
 
 of_codec : (row : PayloadParams) → KeepsToRow row → IsPlain row → HoldsRowNumbers row → (c : Codec) → row.spec.codec ≡ c
-    → ReadAs (row_attrs row) (reads row (values_read c row.spec.format (all_pairs fields row.spec.format)))
+    → ReadAs (row_attrs row) (reads row (values_read c row.spec.format (printed_pairs row.spec.format)))
 of_codec row held p holds codec.Tele e = events_read row held e (maximum_fits row p holds e)
 of_codec row held p holds c e =
-    pairs_row_read row held other_codec (all_pairs fields row.spec.format) (printed_line row p holds other_codec) where
+    pairs_row_read row held other_codec (printed_pairs row.spec.format) (printed_line row p holds other_codec) where
       other_codec : row.spec.codec ≢ codec.Tele
       other_codec = λ tele. let t = sym e ∙ tele in cc
 
