@@ -1,9 +1,8 @@
 -- The numbers of what was read keep to their ranges.
-use Rattle.str0m_signal.proofs.Common.{ℕ, Bool, true, false, List, [], ◌∷◌, get_or, Option, Result, Ok, Err, All, IfOk, inl, inr, subst, sym, MatchBool, Bor, cons_option, All-nil, All-cons, has_mark, FormatParam, KeepsToLine, HasBoundedRows, MediaAttribute, SdpError, MediaLine, Sdp, FirstFit}
-use Rattle.str0m_formats.proofs.ModeBounds.{modes_within}
-use Rattle.str0m_formats.specs.FormatParam.{Held, kind, made, Reads, IsParsed, AreParsed}
-use Rattle.str0m_formats.specs.declared.format_key.FormatKey.{FormatKey}
-use Rattle.str0m_formats.specs.declared.format_key.FormatKey.TheVariants as key
+use Rattle.str0m_signal.proofs.Common.{◌≡◌, ◌⊎◌, ap, length, arith, param_text, ℕ, Bool, true, false, List, [], ◌∷◌, get_or, Option, Result, Ok, Err, All, IfOk, inl, inr, subst, sym, MatchBool, Bor, cons_option, All-nil, All-cons, has_mark, FormatParam, KeepsToLine, HasBoundedRows, MediaAttribute, SdpError, MediaLine, Sdp, FirstFit}
+use Rattle.str0m_formats.proofs.KeyedParams.{IsKeyed, keyed_or_hidden}
+use Rattle.str0m_formats.specs.FormatParam.{IsParsed, AreParsed}
+use Rattle.str0m_formats.specs.declared.format_param.FormatParam.TheVariants.{ModeSet, SpropMaxDonDiff}
 use Rattle.str0m_formats.specs.Pairs.{AreJoined, merged}
 use Rattle.str0m_formats.specs.Triple.{Texts, IsTripleParam}
 use Rattle.str0m_sdp.proofs.RowBoundLaws.{rows_bounded}
@@ -19,14 +18,16 @@ use Rattle.str0m_signal.proofs.AttributesAgain.{plain_again}
 
 -- ---- parameters
 
-value_within : (k : FormatKey) (text : List ℕ) (x : Held (kind k)) → Reads (kind k) text x → IsInRange (made k x)
-value_within key.ModeSet text mask reads = modes_within text mask reads
-value_within key.SpropMaxDonDiff text n reads = reads.fits
-value_within k text x reads = tt
+-- what has a key of its own keeps to its key's range, and any other parameter prints nothing
+within : (param : FormatParam) → IsKeyed param ⊎ (param_text param ≡ []) → IsInRange param
+within (ModeSet mask) (inl range) = range
+within (ModeSet mask) (inr none) = absurd (omega (arith, ap length none))
+within (SpropMaxDonDiff n) (inl range) = range
+within (SpropMaxDonDiff n) (inr none) = absurd (omega (arith, ap length none))
+within param h = tt
 
 parsed_within : (pair : List ℕ × List ℕ) (param : FormatParam) → IsParsed pair param → IsInRange param
-parsed_within pair param (inl (k, same, (x, made_is, reads))) = rw made_is (value_within k pair.1 x reads)
-parsed_within pair param (inr unknown) = rw unknown.1 tt
+parsed_within pair param is = within param (keyed_or_hidden pair param is)
 
 all_parsed : (pairs : List (List ℕ × List ℕ)) (params : List FormatParam) → AreParsed pairs params → All IsInRange params
 all_parsed [] [] are = All-nil IsInRange
