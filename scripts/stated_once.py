@@ -1,7 +1,7 @@
 """Whether each label, key and word stands once: its text is a row of one table, and everything else names that row.
 
 A text may stand in one file beside its table, for a definition that the language can't have name the row. Comments don't count, nor does
-a text within another, as in a message."""
+a text within another, as in a message. Where code and definition share a row no proof sees a misspelt text, so each stands in a case."""
 import re
 from collections import defaultdict
 
@@ -30,8 +30,8 @@ def places():
 
 
 def faults():
-    """The tables without rows, and the texts that stand in too many files."""
-    found = places()
+    """The tables without rows, and the texts that stand in too many files, or in no case."""
+    found, cases = places(), "".join(it.read_text("utf-8") for it in (TOP / "cases").glob("*.txt"))
     for table, row in TABLES.items():
         texts = re.findall(row, (TOP / "crates" / table).read_text("utf-8"), re.M)
         if not texts:
@@ -39,3 +39,5 @@ def faults():
         for text in texts:
             if len(found[text]) > MOST:
                 yield f"{text!r} of crates/{table} stands in {len(found[text])} files: {', '.join(sorted(found[text]))}"
+            if text not in cases:
+                yield f"{text!r} of crates/{table} stands in no case of cases/"
