@@ -72,6 +72,6 @@ read_only text codec h =
     ]
 
 -- what is printed reads as itself, but for Null
-pub read_printed : (text : List ℕ) (codec : Codec) → IsReadAs text codec → (c : Codec) → text ≡ codec_text c → codec ≡ printed_and_read c
+pub read_printed : (text : List ℕ) (codec : Codec) → codec ≡ codec_of text → (c : Codec) → text ≡ codec_text c → codec ≡ printed_and_read c
 unfolding codec_of
-read_printed text codec h c e = read_only text codec h ∙ ap (λ t. codec_at (map to_ascii_lowercase t)) e ∙ codec_at-text c
+read_printed text codec h c e = h ∙ ap (λ t. codec_at (map to_ascii_lowercase t)) e ∙ codec_at-text c

@@ -1,6 +1,7 @@
 -- Default rows are distinct, and stay default while codecs are enabled and disabled.
 use Rattle.str0m_formats.proofs.Common.{◌≡◌, ◌==◌, ℕ, ◌+◌, ◌≤◌, Bool, true, false, not, ◌&&◌, cond, Option, Some, None, option_map, find, List, [], ◌∷◌, ◌++◌, map, All, Result, Ok, Err, OnOk, OnErr, if◌then◌else◌, refl, sym, ap, ◌∙◌, subst, arith, AllByRecursion, Contains, list_all, flat_map, and_parts, eqb-true, true≢false, map-append, All-append, All-filter, All-weaker, All-contains, All-nil}
 use Rattle.std.proofs.Common.{unwrap_or, is_ok}
+use Rattle.std.specs.Prelude.{IsOk}
 use Rattle.std.specs.declared.alloc.AllocError.{AllocError}
 use Rattle.std.proofs.lemmas.List.Elements.{All-contains_itself, All-from_recursion, recursion_from_All}
 use Rattle.str0m_formats.specs.declared.codec.Codec.{Codec}
@@ -10,7 +11,7 @@ use Rattle.str0m_formats.specs.declared.codec_config.CodecConfig.{CodecConfig}
 use Rattle.str0m_formats.specs.declared.payload_params.PayloadParams.{PayloadParams}
 use Rattle.str0m_formats.specs.Rows.{types_of, types}
 use Rattle.str0m_formats.specs.TypeSets.{has, times, AllDistinct}
-use Rattle.str0m_formats.specs.DefaultRows.{default_rows, others, enabled_rows, IsDefault, AreDefault}
+use Rattle.str0m_formats.specs.DefaultRows.{default_rows, others, enabled_rows, IsDefault, AreDefault, Enables}
 use Rattle.str0m_formats.specs.Scores.{same_codec}
 use Rattle.str0m_formats.proofs.FormatEqual.{codec_Decides}
 use Rattle.str0m_formats.proofs.Times.{one_if, times-cons, times-append, all_apart, once_within}
@@ -74,7 +75,7 @@ owned [] k t = omega arith
 owned (row ∷ rows) k t =
     omega (arith, times-append (types_of row) (types rows) t, once_within (λ u. row.pt == owner u) (types_of row) k.0.1 k.0.2 t, times-cons row.pt (primaries rows) (owner t), owned rows k.1 t)
 
-pub default_distinct : (rows : List PayloadParams) → AreDefault rows → AllDistinct (types rows)
+default_distinct : (rows : List PayloadParams) → AreDefault rows → AllDistinct (types rows)
 default_distinct rows d t =
     let o = owned rows (all_known rows d.each) t in
     let w = d.once (owner t) in
@@ -135,10 +136,16 @@ enabled_stay codec true use_red rows d =
 enabled_stay codec false use_red rows d = put_last codec [] rows (All-nil IsDefault) (λ t. none_within (is_codec codec (codec_at t))) d
 
 -- whatever a call answers that enables or disables a codec
-pub default_stay : (r : Result (Unit {0}) AllocError) (codec : Codec) (enabled use_red : Bool) (old new : CodecConfig) → OnOk r (new.params.items ≡ enabled_rows codec enabled use_red old.params.items) → OnErr r (new ≡ old)
+default_stay : (r : Result (Unit {0}) AllocError) (codec : Codec) (enabled use_red : Bool) (old new : CodecConfig) → OnOk r (new.params.items ≡ enabled_rows codec enabled use_red old.params.items) → OnErr r (new ≡ old)
     → AreDefault old.params.items → AreDefault new.params.items
 default_stay (Ok x) codec enabled use_red old new ok err d = subst AreDefault (sym ok) (enabled_stay codec enabled use_red old.params.items d)
 default_stay (Err e) codec enabled use_red old new ok err d = subst (λ (config : CodecConfig). AreDefault config.params.items) (sym err) d
+
+pub enables : (codec : Codec) (enabled use_red : Bool) (old new : CodecConfig) (r : Result (Unit {0}) AllocError) → OnOk r (new.params.items ≡ enabled_rows codec enabled use_red old.params.items) → OnErr r (new ≡ old)
+    → (enabled ≡ false → IsOk r) → new.red_distances ≡ old.red_distances → Enables codec enabled use_red old new r
+enables codec enabled use_red old new r ok err without distances =
+    let stay = default_stay r codec enabled use_red old new ok err in
+    record { ok = ok; err = err; without = without; distances = distances; default = stay; distinct = λ d. default_distinct new.params.items (stay d) }
 
 -- what a call answers that takes the rows of a codec out and appends others
 pub put_ok : (r : Result (Unit {0}) AllocError) (codec : Codec) (old kept rows new : List PayloadParams) → kept ≡ others codec old → new ≡ (if is_ok r then kept ++ rows else kept) → OnOk r (new ≡ others codec old ++ rows)

@@ -1,5 +1,5 @@
 -- What a payload type stands for without a mapping is found in the table of codecs.
-use Rattle.str0m_formats.proofs.Common.{◌≡◌, ◌≤◌, ◌↔◌, ◌&&◌, ℕ, leb, Bool, true, false, Option, Some, None, is_some, option_map, refl, sym, ap, subst, ◌∙◌, and_parts, eqb-true, leb-true, false≢true, IsTheOnly, bind_some, reads_none, some_is}
+use Rattle.str0m_formats.proofs.Common.{◌≡◌, ◌≤◌, ◌↔◌, ◌&&◌, ℕ, leb, Bool, true, false, Option, Some, None, is_some, option_map, refl, sym, ap, subst, ◌∙◌, and_parts, eqb-true, leb-true, false≢true, IsTheOnly, bind_some, only_read, reads_none, some_is}
 use Rattle.str0m_values.proofs.BothWays.{Reads}
 use Rattle.str0m_values.proofs.LabelLaws.{bind_is}
 use Rattle.str0m_values.proofs.WordsOfCases.{found_passes}
@@ -49,6 +49,9 @@ static_both = record {
       bind_is (static_codec pt) spec.codec _ (Some spec) (it_is spec.codec (static_codec pt) (own pt spec is).0)
       (ap (option_map (λ row. plain spec.codec row.1)) is.0 ∙ ap (λ (s : CodecSpec). Some s) said);
 }
+
+pub static_only : (pt : ℕ) (result : Option CodecSpec) → result ≡ static_spec pt → IsTheOnly (IsStatic pt) result
+static_only pt result e = only_read static_both pt result e
 
 -- the only spec that a type stands for
 pub static_is : (pt : ℕ) (result : Option CodecSpec) → IsTheOnly (IsStatic pt) result → result ≡ static_spec pt

@@ -1,11 +1,10 @@
 -- Codecs with their clock rates.
-use Rattle.std.specs.Prelude.{◌≡◌, ◌==◌, ℕ, Bool, false, Option, Some, None, option_map, find}
+use Rattle.std.specs.Prelude.{◌≡◌, ◌==◌, ℕ, Bool, false, Option, Some, None, option_map, unwrap_or, find}
 use Rattle.str0m_values.specs.Cuts.{◌>>=◌}
-use Rattle.str0m_formats.specs.Codec.{static_row}
+use Rattle.str0m_formats.specs.Codec.{static_row, rtp_clock}
 use Rattle.str0m_formats.specs.FormatParams.{empty}
 use Rattle.str0m_formats.specs.declared.codec.TheConstants.{NAMED}
 use Rattle.str0m_formats.specs.declared.codec.Codec.{Codec}
-use Rattle.str0m_formats.specs.declared.codec.Codec.TheVariants.{G722}
 use Rattle.str0m_formats.specs.declared.codec_spec.CodecSpec.{CodecSpec}
 
 -- the payload type stands for the spec: its codec at that rate, and nothing else said
@@ -27,7 +26,6 @@ static_codec pt = find (λ codec. is_at pt (static_row codec)) NAMED
 unfoldable pub static_spec : ℕ → Option CodecSpec
 static_spec pt = static_codec pt >>= λ codec. option_map (λ row. plain codec row.1) (static_row codec)
 
--- the clock rate in RTP, which for G722 is 8000 for historical reasons (RFC 3551, section 4.5.2)
+-- the clock rate in RTP
 abbrev pub rtp_rate : Codec → ℕ → ℕ
-rtp_rate G722 rate = 8000
-rtp_rate _ rate = rate
+rtp_rate codec rate = unwrap_or (rtp_clock codec) rate

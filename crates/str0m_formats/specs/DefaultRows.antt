@@ -9,11 +9,12 @@ use Rattle.str0m_values.specs.declared.h266.H266Profile.TheVariants as h266_prof
 use Rattle.str0m_values.specs.declared.h266.H266Tier.TheVariants as h266_tier
 use Rattle.str0m_values.specs.declared.h266.H266Level.TheVariants as h266_level
 use Rattle.str0m_formats.specs.declared.codec.Codec.{Codec}
-use Rattle.str0m_formats.specs.declared.codec.Codec.TheVariants.{Opus, PCMU, PCMA, G722, CN, AmrWb, H264, H265, H266, Vp8, Vp9, Av1}
+use Rattle.str0m_formats.specs.declared.codec.Codec.TheVariants.{Opus, PCMU, PCMA, G722, CN, AmrWb, H264, H265, H266, Vp8, Vp9, Av1, Tele, Rtx, Red, Null, Unknown}
 use Rattle.str0m_formats.specs.declared.codec_config.CodecConfig.{CodecConfig}
 use Rattle.str0m_formats.specs.declared.format_params.FormatParams.{FormatParams}
 use Rattle.str0m_formats.specs.FormatParams.{empty}
 use Rattle.str0m_formats.specs.declared.payload_params.PayloadParams.{PayloadParams}
+use Rattle.str0m_formats.specs.Codec.{static_row}
 use Rattle.str0m_formats.specs.Rows.{new_row, types}
 use Rattle.str0m_formats.specs.Scores.{same_codec}
 use Rattle.str0m_formats.specs.TypeSets.{AllDistinct}
@@ -27,19 +28,26 @@ sound_row codec pt rate channels format = new_row pt None (record { codec = code
 abbrev pub picture_row : Codec → ℕ → ℕ → FormatParams → PayloadParams
 picture_row codec pt resend format = new_row pt (Some resend) (picture_spec codec format)
 
--- the row with that RED, where it is asked for
-abbrev pub red_if : Bool → ℕ → PayloadParams → PayloadParams
-red_if use_red pt row = record row { red = (if use_red then Some pt else None) }
+-- a RED, where it is asked for
+abbrev pub red_if : Bool → ℕ → Option ℕ
+red_if use_red pt = if use_red then Some pt else None
 
--- the default rows of each codec: payload type and RTX, rate in Hz, channels, format; and the RED that may be asked for.
--- Types and rates of PCMU, PCMA, G722 and CN are the static ones (RFC 3551, section 6) (profile-level-ids: RFC 6184,
--- section 8.1)
+-- the row of a codec under its static type, at the rate that goes with it
+abbrev pub static_rows_at : Codec → Option ℕ → Option (ℕ × ℕ) → List PayloadParams
+static_rows_at codec red None = []
+static_rows_at codec red (Some (pt, rate)) = record (sound_row codec pt rate None empty) { red = red } ∷ []
+
+abbrev pub static_rows : Codec → Option ℕ → List PayloadParams
+static_rows codec red = static_rows_at codec red (static_row codec)
+
+-- the default rows of each codec: payload type and RTX, rate in Hz, channels, format; and the RED that may be asked for
+-- (profile-level-ids: RFC 6184, section 8.1)
 abbrev pub default_rows : Codec → Bool → List PayloadParams
-default_rows Opus use_red = red_if use_red 63 (sound_row Opus 111 48000 (Some 2) (record empty { min_p_time = Some 10; use_inband_fec = Some true })) ∷ []
-default_rows PCMU use_red = red_if use_red 61 (sound_row PCMU 0 8000 None empty) ∷ []
-default_rows PCMA use_red = red_if use_red 60 (sound_row PCMA 8 8000 None empty) ∷ []
-default_rows G722 use_red = red_if use_red 62 (sound_row G722 9 16000 None empty) ∷ []
-default_rows CN _ = sound_row CN 13 8000 None empty ∷ []
+default_rows Opus use_red = record (sound_row Opus 111 48000 (Some 2) (record empty { min_p_time = Some 10; use_inband_fec = Some true })) { red = red_if use_red 63 } ∷ []
+default_rows PCMU use_red = static_rows PCMU (red_if use_red 61)
+default_rows PCMA use_red = static_rows PCMA (red_if use_red 60)
+default_rows G722 use_red = static_rows G722 (red_if use_red 62)
+default_rows CN _ = static_rows CN None
 default_rows AmrWb _ = sound_row AmrWb 122 16000 (Some 1) (record empty { octet_align = Some true }) ∷ []
 default_rows Vp8 _ = picture_row Vp8 96 97 empty ∷ []
 default_rows H264 _ =
@@ -51,7 +59,11 @@ default_rows H265 _ = h265_row 102 (Some 103) (record { profile = h265_profile.M
 default_rows H266 _ = h266_row 104 (Some 105) (record { profile = h266_profile.Main10; tier = h266_tier.Main; level = h266_level.L6 }) ∷ []
 default_rows Vp9 _ = picture_row Vp9 98 99 (record empty { profile_id = Some 0 }) ∷ picture_row Vp9 100 101 (record empty { profile_id = Some 2 }) ∷ []
 default_rows Av1 _ = picture_row Av1 45 46 empty ∷ []
-default_rows _ _ = []
+default_rows Tele _ = []
+default_rows Rtx _ = []
+default_rows Red _ = []
+default_rows Null _ = []
+default_rows Unknown _ = []
 
 -- the rows of all other codecs
 abbrev pub others : Codec → List PayloadParams → List PayloadParams

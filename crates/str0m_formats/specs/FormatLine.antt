@@ -7,6 +7,7 @@ use Rattle.str0m_values.specs.Cuts.{cut, before, lacks, when}
 use Rattle.str0m_formats.specs.Codec.{is_amr_wb}
 use Rattle.str0m_formats.specs.FormatParam.{IsBare}
 use Rattle.str0m_formats.specs.FormatParams.{empty, set_all}
+use Rattle.str0m_formats.specs.Narrowing.{telephone_max}
 use Rattle.str0m_formats.specs.Pairs.{AreRead}
 use Rattle.str0m_formats.specs.declared.codec.Codec.{Codec}
 use Rattle.str0m_formats.specs.declared.codec.Codec.TheVariants.{Tele}
@@ -62,9 +63,9 @@ range_end (TelephoneEvents n) = Some n
 range_end (BareRange n) = Some n
 range_end _ = None
 
--- the highest event: 16 without a line, else that of one line that is one range
+-- the highest event: that of a format which says none without a line, else that of one line that is one range
 abbrev pub events_end : List (List FormatParam) → Option ℕ
-events_end [] = Some 16
+events_end [] = Some (telephone_max empty)
 events_end ((param ∷ []) ∷ []) = range_end param
 events_end _ = None
 

@@ -6,7 +6,7 @@ use Rattle.str0m_values.specs.H265 as h265
 use Rattle.str0m_values.specs.H266 as h266
 use Rattle.str0m_values.specs.declared.profile_tier_level.ProfileTierLevel.{ProfileTierLevel}
 use Rattle.str0m_formats.specs.declared.codec.Codec.{Codec}
-use Rattle.str0m_formats.specs.declared.codec.Codec.TheVariants.{AmrWb, H264, H265, H266, Tele}
+use Rattle.str0m_formats.specs.Codec.{Rule, codec_rule, by_flags, by_level, by_h265, by_h266, by_modes, by_profile, by_av1, by_events, by_equality}
 use Rattle.str0m_formats.specs.declared.format_params.FormatParams.{FormatParams}
 use Rattle.str0m_formats.specs.declared.codec_spec.CodecSpec.{CodecSpec}
 
@@ -36,36 +36,42 @@ abbrev pub lower_h264 : FormatParams → FormatParams → Option ℕ
 lower_h264 own chosen =
     if levels_differ own chosen then own.profile_level_id else lower_level own.profile_level_id chosen.profile_level_id
 
--- the format of a row of each codec once it is matched
-abbrev pub narrowed_as : Codec → CodecSpec → CodecSpec → CodecSpec
-narrowed_as Tele own chosen = record own {
+-- a row's spec once it is matched, by the rule of its codec
+abbrev pub narrowed_by : Rule → CodecSpec → CodecSpec → CodecSpec
+narrowed_by by_events own chosen = record own {
   format = record own.format { telephone_event_max = Some (min (telephone_max own.format) (telephone_max chosen.format)) };
 }
-narrowed_as H264 own chosen = record own {
+narrowed_by by_level own chosen = record own {
   format = record own.format { profile_level_id = lower_h264 own.format chosen.format };
 }
-narrowed_as H265 own chosen = record own {
+narrowed_by by_h265 own chosen = record own {
   format = record own.format {
     h265_profile_tier_level = lower_triple h265.level_ordinal own.format.h265_profile_tier_level chosen.format.h265_profile_tier_level;
     profile_id = id_beside chosen.format.h265_profile_tier_level chosen.format.profile_id;
     sprop_max_don_diff = option_or chosen.format.sprop_max_don_diff own.format.sprop_max_don_diff;
   };
 }
-narrowed_as H266 own chosen = record own {
+narrowed_by by_h266 own chosen = record own {
   format = record own.format {
     h266_profile_tier_level = lower_triple h266.level_ordinal own.format.h266_profile_tier_level chosen.format.h266_profile_tier_level;
     profile_id = id_beside chosen.format.h266_profile_tier_level chosen.format.profile_id;
     sprop_max_don_diff = option_or chosen.format.sprop_max_don_diff own.format.sprop_max_don_diff;
   };
 }
-narrowed_as AmrWb own chosen = record own {
+narrowed_by by_modes own chosen = record own {
   channels = chosen.channels;
   format = record own.format {
     octet_align = chosen.format.octet_align;
     mode_set = option_or own.format.mode_set chosen.format.mode_set;
   };
 }
-narrowed_as _ own chosen = own
+narrowed_by by_flags own chosen = own
+narrowed_by by_profile own chosen = own
+narrowed_by by_av1 own chosen = own
+narrowed_by by_equality own chosen = own
+
+abbrev pub narrowed_as : Codec → CodecSpec → CodecSpec → CodecSpec
+narrowed_as codec own chosen = narrowed_by (codec_rule codec) own chosen
 
 unfoldable pub narrowed : CodecSpec → CodecSpec → CodecSpec
 narrowed own chosen = narrowed_as own.codec own chosen

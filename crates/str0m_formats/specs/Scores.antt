@@ -14,10 +14,11 @@ use Rattle.str0m_values.specs.declared.h264.H264ProfileLevel.{H264ProfileLevel}
 use Rattle.str0m_values.specs.declared.profile_tier_level.ProfileTierLevel.{ProfileTierLevel}
 use Rattle.str0m_values.specs.H265.{H265ProfileTierLevel}
 use Rattle.str0m_values.specs.H266.{H266ProfileTierLevel}
+use Rattle.str0m_formats.specs.Codec.{Rule, codec_rule, by_flags, by_level, by_h265, by_h266, by_modes, by_profile, by_av1, by_events, by_equality}
 use Rattle.str0m_formats.specs.contracts.codec.Codec as codec
 use Rattle.str0m_formats.specs.contracts.codec_spec.CodecSpecPartialEq.TheImpl as spec
 use Rattle.str0m_formats.specs.declared.codec.Codec.{Codec}
-use Rattle.str0m_formats.specs.declared.codec.Codec.TheVariants.{Opus, AmrWb, H264, H265, H266, Vp9, Av1, Tele, Unknown}
+use Rattle.str0m_formats.specs.declared.codec.Codec.TheVariants.{AmrWb, Tele, Unknown}
 use Rattle.str0m_formats.specs.declared.codec_spec.CodecSpec.{CodecSpec}
 use Rattle.str0m_formats.specs.declared.format_params.FormatParams.{FormatParams}
 use Rattle.str0m_formats.specs.declared.match_score.ProfileNumbers.{ProfileNumbers}
@@ -136,15 +137,21 @@ av1_score a b = when (same_or 0 a.profile b.profile && (same_or 5 a.level_idx b.
 
 -- ---- all codecs
 
--- two formats of one codec; those of a codec without a rule fit only where the specs are equal
+-- two formats of one codec, by its rule; telephone events and AMR-WB go by more than their formats, and what has no rule of its own
+-- fits only where the specs are equal
+abbrev pub rule_score : Rule → FormatParams → FormatParams → Option ℕ
+rule_score by_flags a b = Some (opus_score a b)
+rule_score by_level a b = h264_score a b
+rule_score by_h265 a b = tiered_score (λ format. option_map h265_triple format.h265_profile_tier_level) a b
+rule_score by_h266 a b = tiered_score (λ format. option_map h266_triple format.h266_profile_tier_level) a b
+rule_score by_profile a b = vp9_score a b
+rule_score by_av1 a b = av1_score a b
+rule_score by_modes a b = None
+rule_score by_events a b = None
+rule_score by_equality a b = None
+
 abbrev pub format_score : Codec → FormatParams → FormatParams → Option ℕ
-format_score Opus a b = Some (opus_score a b)
-format_score H264 a b = h264_score a b
-format_score H265 a b = tiered_score (λ format. option_map h265_triple format.h265_profile_tier_level) a b
-format_score H266 a b = tiered_score (λ format. option_map h266_triple format.h266_profile_tier_level) a b
-format_score Vp9 a b = vp9_score a b
-format_score Av1 a b = av1_score a b
-format_score _ a b = None
+format_score codec a b = rule_score (codec_rule codec) a b
 
 -- two specs of one codec at one clock rate; telephone events (RFC 4733) fit whatever their ranges are
 abbrev pub codec_score : Codec → CodecSpec → CodecSpec → Option ℕ

@@ -1,9 +1,10 @@
 //! Codecs.
 ghost use Rattle.std.specs.Prelude.{◌≡◌, ◌↔◌, IsTrue, Some};
-ghost use Rattle.str0m_formats.specs.Codec.{codec_text, content, audio, video, events, media_kind, codec_of, IsReadAs, printed_and_read};
+ghost use Rattle.str0m_formats.specs.Codec.{codec_text, content, static_row, audio, video, events, media_kind, codec_of, IsReadAs, printed_and_read};
+ghost use Rattle.str0m_formats.specs.CodecSpec.{is_at, static_codec};
 
 use std::fmt;
-use str0m_values::{MediaKind, Worded, case_alike, case_of};
+use str0m_values::{Frequency, MediaKind, Pt, Worded, case_alike, case_of};
 
 /// A codec, or what else an `a=rtpmap` line may name (RFC 8866, section 6.6).
 #[derive(Clone, Copy, Debug, PartialEq, Eq)]
@@ -104,6 +105,42 @@ impl Codec {
     }
 }
 
+/// What stands for a codec without a mapping (RFC 3551, section 6).
+impl Codec {
+    /// The payload type that stands for it, and the rate at which it samples then.
+    pub(crate) fn static_type(self) -> Option<(u8, Frequency)>
+        ensures { result ≡ static_row self }
+    {
+        match self {
+            Codec::PCMU => Some((0, Frequency::EIGHT_KHZ)),
+            Codec::PCMA => Some((8, Frequency::EIGHT_KHZ)),
+            Codec::G722 => Some((9, Frequency::SIXTEEN_KHZ)),
+            Codec::CN => Some((13, Frequency::EIGHT_KHZ)),
+            _ => None,
+        }
+    }
+
+    fn has_static_type(self, pt: u8) -> bool
+        ensures { result ≡ is_at pt (static_row self) }
+    {
+        match self.static_type() {
+            Some((own, _)) => own == pt,
+            None => false,
+        }
+    }
+
+    /// The codec that a payload type stands for.
+    pub(crate) fn at_static_type(pt: Pt) -> Option<Codec>
+        ensures { result ≡ static_codec pt }
+    {
+        let pt = pt.value();
+        NAMED
+            .iter()
+            .copied()
+            .find(|codec| codec.has_static_type(pt))
+    }
+}
+
 /// The names that rtpmap lines carry.
 impl Worded for Codec {
     ghost word_of = { codec_text };
@@ -148,26 +185,19 @@ fn named(name: &str) -> Codec
     }
 }
 
-#[tactic(auto, using(crate::proofs::CodecNames::read_as))]
-fn read(name: &str) -> Codec
-    ensures { IsReadAs name.now result }
-{
-    named(name)
-}
-
 /// Reads a name without regard to the case of ASCII letters. A name that isn't known is `Unknown`,
 /// and so is that of `Null`.
 impl From<&str> for Codec {
     ghost from_gives = { λ name codec. IsReadAs name.now codec };
 
-    #[tactic(auto, using(crate::proofs::CodecNames::read_printed))]
+    #[tactic(auto, using(crate::proofs::CodecNames::read_as))]
     fn from(name: &str) -> Codec
         ensures read { IsReadAs name.now result }
 
         // What a codec prints reads as that codec, and what `Null` prints as `Unknown`.
         ensures printed { (codec : Codec) → name.now ≡ codec_text codec → result ≡ printed_and_read codec }
     {
-        read(name)
+        named(name)
     }
 }
 

@@ -1,7 +1,7 @@
 //! Codecs with their clock rates, channels and formats.
 ghost use Rattle.std.specs.Prelude.{◌≡◌};
 ghost use Rattle.str0m_values.specs.Only.{IsTheOnly};
-ghost use Rattle.str0m_formats.specs.CodecSpec.{IsStatic, rtp_rate};
+ghost use Rattle.str0m_formats.specs.CodecSpec.{IsStatic, static_spec, rtp_rate};
 
 use crate::codec::Codec;
 use crate::format_params::FormatParams;
@@ -35,18 +35,20 @@ impl CodecSpec {
     pub fn from_static_pt(pt: Pt) -> Option<CodecSpec>
         ensures { IsTheOnly (IsStatic pt) result }
     {
-        let (codec, clock_rate) = match pt.value() {
-            0 => (Codec::PCMU, Frequency::EIGHT_KHZ),
-            8 => (Codec::PCMA, Frequency::EIGHT_KHZ),
-            9 => (Codec::G722, Frequency::SIXTEEN_KHZ),
-            13 => (Codec::CN, Frequency::EIGHT_KHZ),
-            _ => return None,
-        };
-        Some(CodecSpec {
-            codec,
-            clock_rate,
-            channels: None,
-            format: FormatParams::default(),
-        })
+        static_spec(pt)
     }
+}
+
+#[tactic(auto, unfolding(crate::specs::CodecSpec::static_spec))]
+fn static_spec(pt: Pt) -> Option<CodecSpec>
+    ensures { result ≡ static_spec pt }
+{
+    let codec = Codec::at_static_type(pt)?;
+    let (_, clock_rate) = codec.static_type()?;
+    Some(CodecSpec {
+        codec,
+        clock_rate,
+        channels: None,
+        format: FormatParams::default(),
+    })
 }

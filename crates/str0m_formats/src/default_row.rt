@@ -15,7 +15,7 @@ use str0m_values::{
     H266ProfileTierLevel, H266Tier, Pt,
 };
 
-fn sound_row(
+pub(crate) fn sound_row(
     codec: Codec,
     pt: u8,
     clock_rate: Frequency,
@@ -43,33 +43,15 @@ fn picture_row(codec: Codec, pt: u8, resend: u8, format: FormatParams) -> Payloa
     )
 }
 
-/// The row with this RED, where it is asked for (RFC 2198, section 5).
-fn red_if(use_red: bool, pt: u8, row: PayloadParams) -> PayloadParams
-    ensures { result ≡ red_if use_red pt row }
+/// This RED, where it is asked for (RFC 2198, section 5).
+pub(crate) fn red_if(use_red: bool, pt: u8) -> Option<Pt>
+    ensures { result ≡ red_if use_red pt }
 {
-    let red = if use_red {
+    if use_red {
         Some(Pt::new_with_value(pt))
     } else {
         None
-    };
-    row.with_red(red)
-}
-
-/// A row of G.711, at 8 kHz.
-pub(crate) fn g711_row(codec: Codec, pt: u8, red: u8, use_red: bool) -> PayloadParams
-    ensures { result ≡ red_if use_red red (sound_row codec pt 8000 None empty) }
-{
-    red_if(
-        use_red,
-        red,
-        sound_row(
-            codec,
-            pt,
-            Frequency::EIGHT_KHZ,
-            None,
-            FormatParams::default(),
-        ),
-    )
+    }
 }
 
 fn default_h264_row(
@@ -109,12 +91,6 @@ pub(crate) fn plain_row(codec: Codec, pt: u8, resend: u8) -> PayloadParams
     picture_row(codec, pt, resend, FormatParams::default())
 }
 
-pub(crate) fn av1_row() -> PayloadParams
-    ensures { result ∷ [] ≡ default_rows Codec.Av1 false }
-{
-    plain_row(Codec::Av1, 45, 46)
-}
-
 /// A row of VP9 with this profile (RFC 9628, section 6).
 pub(crate) fn vp9_row(pt: u8, resend: u8, profile: u32) -> PayloadParams
     ensures { result ≡ picture_row Codec.Vp9 pt resend (record empty { profile_id = Some profile }) }
@@ -134,42 +110,14 @@ pub(crate) fn opus_row(use_red: bool) -> PayloadParams
         use_inband_fec: Some(true),
         ..FormatParams::default()
     };
-    red_if(
-        use_red,
-        63,
-        sound_row(
-            Codec::Opus,
-            111,
-            Frequency::FORTY_EIGHT_KHZ,
-            Some(2),
-            format,
-        ),
-    )
-}
-
-pub(crate) fn g722_row(use_red: bool) -> PayloadParams
-    ensures { result ∷ [] ≡ default_rows Codec.G722 use_red }
-{
     let row = sound_row(
-        Codec::G722,
-        9,
-        Frequency::SIXTEEN_KHZ,
-        None,
-        FormatParams::default(),
+        Codec::Opus,
+        111,
+        Frequency::FORTY_EIGHT_KHZ,
+        Some(2),
+        format,
     );
-    red_if(use_red, 62, row)
-}
-
-pub(crate) fn comfort_noise_row() -> PayloadParams
-    ensures { result ∷ [] ≡ default_rows Codec.CN false }
-{
-    sound_row(
-        Codec::CN,
-        13,
-        Frequency::EIGHT_KHZ,
-        None,
-        FormatParams::default(),
-    )
+    row.with_red(red_if(use_red, 63))
 }
 
 pub(crate) fn amr_wb_row() -> PayloadParams

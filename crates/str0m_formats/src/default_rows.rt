@@ -3,23 +3,18 @@ ghost use Rattle.std.specs.Prelude.{◌≡◌, ◌++◌, ◌∷◌, [], false, I
 ghost use Rattle.str0m_formats.specs.declared.codec.Codec.{Codec};
 ghost use Rattle.str0m_formats.specs.Rows.{types};
 ghost use Rattle.str0m_formats.specs.TypeSets.{AllDistinct};
-ghost use Rattle.str0m_formats.specs.DefaultRows.{default_rows, others, enabled_rows, AreDefault, Enables, usual_rows};
-ghost use Rattle.str0m_formats.specs.Scores.{same_codec};
+ghost use Rattle.str0m_formats.specs.DefaultRows.{default_rows, static_rows, others, AreDefault, Enables, usual_rows};
 
 use crate::codec::Codec;
 use crate::codec_config::CodecConfig;
 use crate::default_row::{
-    amr_wb_row, av1_row, comfort_noise_row, default_h265_row, default_h266_row, g711_row, g722_row,
-    h264_rows, opus_row, plain_row, vp9_row,
+    amr_wb_row, default_h265_row, default_h266_row, h264_rows, opus_row, plain_row, red_if,
+    sound_row, vp9_row,
 };
+use crate::format_params::FormatParams;
 use crate::payload_params::PayloadParams;
 use std::alloc::{AllocError, Global};
-
-fn is_of(row: &PayloadParams, codec: Codec) -> bool
-    ensures { result ≡ same_codec row.now.spec.codec codec }
-{
-    row.spec().codec == codec
-}
+use str0m_values::Pt;
 
 impl CodecConfig {
     /// A configuration with the default rows of Opus without RED, VP8, H264, H265, VP9 and AV1, in
@@ -51,8 +46,23 @@ impl CodecConfig {
     {
         // The room comes first, so that want of it changes nothing.
         self.make_room(rows.len())?;
-        self.params.retain(|row| !is_of(row, codec));
+        self.params.retain(|row| row.spec().codec != codec);
         self.params.extend_from_slice(rows)
+    }
+
+    /// Takes out all rows of the codec, and puts its row under its static type last, with this RED.
+    fn put_static(&mut self, codec: Codec, red: Option<Pt>) -> Result<(), AllocError>
+        ensures ok { OnOk result (self.new.params.items ≡ others codec self.old.params.items ++ static_rows codec red) }
+        ensures err { OnErr result (self.new ≡ self.old) }
+        ensures distances { self.new.red_distances ≡ self.old.red_distances }
+    {
+        match codec.static_type() {
+            Some((pt, rate)) => {
+                let row = sound_row(codec, pt, rate, None, FormatParams::default());
+                self.put(codec, &[row.with_red(red)])
+            }
+            None => self.put(codec, &[]),
+        }
     }
 
     /// Takes out all rows of the codec, and puts its default rows last.
@@ -63,31 +73,18 @@ impl CodecConfig {
     {
         match codec {
             Codec::Opus => self.put(codec, &[opus_row(use_red)]),
-            Codec::PCMU => self.put(codec, &[g711_row(codec, 0, 61, use_red)]),
-            Codec::PCMA => self.put(codec, &[g711_row(codec, 8, 60, use_red)]),
-            Codec::G722 => self.put(codec, &[g722_row(use_red)]),
-            Codec::CN => self.put(codec, &[comfort_noise_row()]),
+            Codec::PCMU => self.put_static(codec, red_if(use_red, 61)),
+            Codec::PCMA => self.put_static(codec, red_if(use_red, 60)),
+            Codec::G722 => self.put_static(codec, red_if(use_red, 62)),
+            Codec::CN => self.put_static(codec, None),
             Codec::AmrWb => self.put(codec, &[amr_wb_row()]),
             Codec::Vp8 => self.put(codec, &[plain_row(codec, 96, 97)]),
             Codec::H264 => self.put(codec, &h264_rows()),
             Codec::H265 => self.put(codec, &[default_h265_row()]),
             Codec::H266 => self.put(codec, &[default_h266_row()]),
             Codec::Vp9 => self.put(codec, &[vp9_row(98, 99, 0), vp9_row(100, 101, 2)]),
-            Codec::Av1 => self.put(codec, &[av1_row()]),
+            Codec::Av1 => self.put(codec, &[plain_row(codec, 45, 46)]),
             _ => self.put(codec, &[]),
-        }
-    }
-
-    fn put_enabled(&mut self, codec: Codec, enabled: bool, use_red: bool) -> Result<(), AllocError>
-        ensures ok { OnOk result (self.new.params.items ≡ enabled_rows codec enabled use_red self.old.params.items) }
-        ensures err { OnErr result (self.new ≡ self.old) }
-        ensures without { enabled ≡ false → IsOk result }
-        ensures distances { self.new.red_distances ≡ self.old.red_distances }
-    {
-        if enabled {
-            self.put_defaults(codec, use_red)
-        } else {
-            self.put(codec, &[])
         }
     }
 
@@ -95,7 +92,11 @@ impl CodecConfig {
     fn enable(&mut self, codec: Codec, enabled: bool, use_red: bool) -> Result<(), AllocError>
         ensures { Enables codec enabled use_red self.old self.new result }
     {
-        self.put_enabled(codec, enabled, use_red)
+        if enabled {
+            self.put_defaults(codec, use_red)
+        } else {
+            self.put(codec, &[])
+        }
     }
 
     /// Enables or disables PCMU: payload type 0 at 8 kHz, with RED 61 where `use_red` asks for it.
