@@ -2,6 +2,7 @@
 use Rattle.str0m_formats.proofs.Common.{◌≡◌, ◌≢◌, ◌==◌, ◌&&◌, ◌⊎◌, inl, inr, not, ℕ, Bool, true, false, Option, Some, None, refl, sym, ap, ◌∙◌, Decides, unsigned_Decides}
 use Rattle.std.specs.Bool.{if◌then◌else◌}
 use mathlib.Core.Bool.{true≢false}
+use Rattle.std.proofs.Math.Bool.{and-false}
 use Rattle.str0m_formats.specs.declared.codec.Codec.{Codec}
 use Rattle.str0m_formats.specs.declared.codec.Codec.TheVariants.{AmrWb, Tele, Unknown}
 use Rattle.str0m_formats.specs.declared.codec_spec.CodecSpec.{CodecSpec}
@@ -13,32 +14,12 @@ pub either_way : {P : Type 0} (t : Bool) → Decides t P → P ⊎ (P → ⊥)
 either_way true d = inl (d.0 refl)
 either_way false d = inr (λ p. true≢false (sym (d.1 p)))
 
--- the score by its four tests and the codec's own score
-abbrev by_tests : Bool → Bool → Bool → Bool → Option ℕ → Option ℕ
-by_tests is_same is_amr_wb is_codec is_rate own = if is_same && not is_amr_wb then Some 100 else if is_codec && is_rate then own else None
-
-no_rate : (m c : Bool) (own : Option ℕ) → by_tests false m c false own ≡ None
-no_rate m true own = refl
-no_rate m false own = refl
-
-no_own : (m c r : Bool) → by_tests false m c r None ≡ None
-no_own m true true = refl
-no_own m true false = refl
-no_own m false r = refl
-
-kept_by_amr_wb : (t : Bool) (own : Option ℕ) → by_tests t true true true own ≡ own
-kept_by_amr_wb true own = refl
-kept_by_amr_wb false own = refl
+nothing_both : (t : Bool) → ◌≡◌ {A = Option ℕ} (if t then None else None) None
+nothing_both true = refl
+nothing_both false = refl
 
 of_unknown : (c : Codec) (a b : CodecSpec) → c ≡ Unknown → codec_score c a b ≡ None
-of_unknown c a b e = ap (λ d. codec_score d a b) e ∙ unlike (same_number a.channels b.channels)
-  where
-    nothing : Option ℕ
-    nothing = None
-
-    unlike : (t : Bool) → (if t then nothing else nothing) ≡ nothing
-    unlike true = refl
-    unlike false = refl
+of_unknown c a b e = ap (λ d. codec_score d a b) e ∙ nothing_both (same_number a.channels b.channels)
 
 of_channels : (c : Codec) (a b : CodecSpec) → same_number a.channels b.channels ≡ false → c ≢ Tele → c ≢ AmrWb → codec_score c a b ≡ None
 of_channels Tele a b e t m = absurd (t refl)
@@ -46,10 +27,6 @@ of_channels AmrWb a b e t m = absurd (m refl)
 of_channels c a b e t m = rw e refl
 
 module _ (a b : CodecSpec) where
-  tested : score a b ≡ by_tests (same_spec a b) (same_codec a.codec AmrWb) (same_codec a.codec b.codec) (a.clock_rate == b.clock_rate) (codec_score a.codec a b)
-  unfolding score
-  tested = refl
-
   differ : (a ≡ b → ⊥) → same_spec a b ≡ false
   differ n = fails (same_spec a b) (spec_Decides a b) n
 
@@ -61,31 +38,26 @@ module _ (a b : CodecSpec) where
 
   -- a codec's own score, where the specs aren't equal or the codec is AMR-WB
   alike : (a ≡ b → a.codec ≡ AmrWb) → a.codec ≡ b.codec → a.clock_rate ≡ b.clock_rate → score a b ≡ codec_score a.codec a b
+  unfolding score
   alike same e k =
       let c = (codec_Decides a.codec b.codec).1 e in
       let r = (unsigned_Decides a.clock_rate b.clock_rate).1 k in
-      tested ∙ elim (either_way (same_spec a b) (spec_Decides a b)) [
-        | inl p ↦ let m = (codec_Decides a.codec AmrWb).1 (same p) in
-            (λ i. by_tests (same_spec a b) (m i) (c i) (r i) (codec_score a.codec a b)) ∙ kept_by_amr_wb (same_spec a b) (codec_score a.codec a b)
-        | inr n ↦ let s = differ n in λ i. by_tests (s i) (same_codec a.codec AmrWb) (c i) (r i) (codec_score a.codec a b)
+      elim (either_way (same_spec a b) (spec_Decides a b)) [
+        | inl p ↦ let m = (codec_Decides a.codec AmrWb).1 (same p) in rw (m, and-false, c, r) refl
+        | inr n ↦ let s = differ n in rw (s, c, r) refl
       ]
 
   pub score_rules : IsScore a b (score a b)
+  unfolding score
   score_rules = record {
-    equal = λ e n. let s = (spec_Decides a b).1 e in let m = not_amr_wb n in
-        tested ∙ λ i. by_tests (s i) (m i) (same_codec a.codec b.codec) (a.clock_rate == b.clock_rate) (codec_score a.codec a b);
-    codecs_differ = λ n. let s = differ (λ e. n (ap (λ (x : CodecSpec). x.codec) e)) in let c = other_codec n in
-        tested ∙ λ i. by_tests (s i) (same_codec a.codec AmrWb) (c i) (a.clock_rate == b.clock_rate) (codec_score a.codec a b);
-    unknown = λ n u. let s = differ n in let own = of_unknown a.codec a b u in
-        tested ∙ (λ i. by_tests (s i) (same_codec a.codec AmrWb) (same_codec a.codec b.codec) (a.clock_rate == b.clock_rate) (own i))
-        ∙ no_own (same_codec a.codec AmrWb) (same_codec a.codec b.codec) (a.clock_rate == b.clock_rate);
+    equal = λ e n. let s = (spec_Decides a b).1 e in let m = not_amr_wb n in rw (s, m) refl;
+    codecs_differ = λ n. let s = differ (λ e. n (ap (λ (x : CodecSpec). x.codec) e)) in let c = other_codec n in rw (s, c) refl;
+    unknown = λ n u. let s = differ n in let own = of_unknown a.codec a b u in rw (s, own) (nothing_both _);
     clock_rates_differ = λ n. let s = differ (λ e. n (ap (λ (x : CodecSpec). x.clock_rate) e)) in
         let r = fails (a.clock_rate == b.clock_rate) (unsigned_Decides a.clock_rate b.clock_rate) n in
-        tested ∙ (λ i. by_tests (s i) (same_codec a.codec AmrWb) (same_codec a.codec b.codec) (r i) (codec_score a.codec a b))
-        ∙ no_rate (same_codec a.codec AmrWb) (same_codec a.codec b.codec) (codec_score a.codec a b);
+        rw (s, r, and-false) refl;
     channels_differ = λ n t m. let s = differ (λ e. n (ap (λ (x : CodecSpec). x.channels) e)) in
         let own = of_channels a.codec a b (fails (same_number a.channels b.channels) (numbers a.channels b.channels) n) t m in
-        tested ∙ (λ i. by_tests (s i) (same_codec a.codec AmrWb) (same_codec a.codec b.codec) (a.clock_rate == b.clock_rate) (own i))
-        ∙ no_own (same_codec a.codec AmrWb) (same_codec a.codec b.codec) (a.clock_rate == b.clock_rate);
+        rw (s, own) (nothing_both _);
     alike = alike;
   }

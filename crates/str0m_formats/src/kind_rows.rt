@@ -1,7 +1,7 @@
 //! The rows of a kind of media.
 ghost use Rattle.std.specs.Prelude.{◌≡◌};
 ghost use Rattle.std.specs.Iterator.{YieldsFirstRef, item_count};
-ghost use Rattle.str0m_formats.specs.KindRows.{is_sound, is_pictures, is_events, rate_of, shares_rate, some_share_rate, is_narrowed, is_listed};
+ghost use Rattle.str0m_formats.specs.KindRows.{is_sound, is_events, rate_of, shares_rate, some_share_rate, is_listed};
 
 use crate::codec_config::CodecConfig;
 use crate::payload_params::PayloadParams;
@@ -22,12 +22,6 @@ fn is_sound(row: &PayloadParams) -> bool
     ensures { result ≡ is_sound row.now }
 {
     row.spec().codec.is_audio()
-}
-
-fn is_pictures(row: &PayloadParams) -> bool
-    ensures { result ≡ is_pictures row.now }
-{
-    row.spec().codec.is_video()
 }
 
 fn is_events(row: &PayloadParams) -> bool
@@ -58,17 +52,11 @@ fn some_share_rate(rows: &[PayloadParams]) -> bool
         .any(|row| is_events(row) && shares_rate(rows, row))
 }
 
-fn is_narrowed(for_new_offer: bool, rows: &[PayloadParams]) -> bool
-    ensures { result ≡ is_narrowed for_new_offer rows.now }
-{
-    for_new_offer && some_share_rate(rows)
-}
-
 fn is_listed(kind: MediaKind, narrowed: bool, rows: &[PayloadParams], row: &PayloadParams) -> bool
     ensures { result ≡ is_listed kind narrowed rows.now row.now }
 {
     match kind {
-        MediaKind::Video => is_pictures(row),
+        MediaKind::Video => row.spec().codec.is_video(),
         MediaKind::Audio => {
             is_sound(row) || (is_events(row) && (!narrowed || shares_rate(rows, row)))
         }
@@ -92,7 +80,7 @@ impl CodecConfig {
             all: rows,
             rest: rows,
             kind,
-            narrowed: is_narrowed(for_new_offer, rows),
+            narrowed: for_new_offer && some_share_rate(rows),
         }
     }
 }

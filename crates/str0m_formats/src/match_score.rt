@@ -1,7 +1,6 @@
 //! How well two specs fit.
-ghost use Rattle.std.specs.Prelude.{◌≡◌, ◌≤◌, ◌==◌, ◌&&◌, IfSome, not, option_map};
-ghost use Rattle.str0m_formats.specs.Scores.{same_flag, unless, opus_score, is_mono, mode_score, amr_wb_score, level_score, h264_level_score, h264_score, profile_numbers, profile_of, triple_score, profile_score, vp9_score, av1_score, format_score, codec_score, same_spec, same_codec, score};
-ghost use Rattle.str0m_formats.specs.declared.codec.Codec.TheVariants.{AmrWb};
+ghost use Rattle.std.specs.Prelude.{◌≡◌, ◌≤◌, IfSome, option_map};
+ghost use Rattle.str0m_formats.specs.Scores.{same_flag, unless, opus_score, is_mono, mode_score, amr_wb_score, level_score, h264_level_score, h264_score, profile_numbers, profile_of, triple_score, profile_score, vp9_score, av1_score, format_score, codec_score, same_spec, score};
 
 use crate::codec::Codec;
 use crate::codec_spec::CodecSpec;
@@ -244,30 +243,16 @@ fn is_same(own: &CodecSpec, other: &CodecSpec) -> bool
         && *own == *other
 }
 
-/// Whether the first rule applies: equal specs fit in full, but for AMR-WB.
-fn is_full(own: &CodecSpec, other: &CodecSpec) -> bool
-    ensures { result ≡ same_spec own.now other.now && not (same_codec own.now.codec AmrWb) }
-{
-    is_same(own, other) && own.codec != Codec::AmrWb
-}
-
-/// Whether two specs are of one codec at the same clock rate.
-fn is_alike(own: &CodecSpec, other: &CodecSpec) -> bool
-    ensures { result ≡ same_codec own.now.codec other.now.codec && own.now.clock_rate == other.now.clock_rate }
-{
-    own.codec == other.codec && own.clock_rate == other.clock_rate
-}
-
-/// The score of two specs: the first rule that applies.
+/// The score of two specs: the first rule that applies. Equal ones fit in full, but for AMR-WB.
 #[tactic(auto, unfolding(crate::specs::Scores::score))]
 pub(crate) fn spec_score(own: &CodecSpec, other: &CodecSpec) -> Option<usize>
     ensures score { result ≡ score own.now other.now }
     ensures bound { IfSome result (λ n. n ≤ 100) }
 {
-    if is_full(own, other) {
+    if is_same(own, other) && own.codec != Codec::AmrWb {
         return Some(FULL);
     }
-    if is_alike(own, other) {
+    if own.codec == other.codec && own.clock_rate == other.clock_rate {
         codec_score(own, other)
     } else {
         None
