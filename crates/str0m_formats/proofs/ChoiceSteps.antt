@@ -2,6 +2,7 @@
 use Rattle.str0m_formats.proofs.Common.{◌≡◌, ℕ, ◌≤◌, ◌<◌, Bool, true, false, List, [], ◌∷◌, ◌++◌, Option, Some, None, IfSome, All, refl, sym, ap, ◌∙◌, subst, get_or, take, length, ◌+◌, arith, ltb-true, All-append, All-push, All-cons, All-nil, All-weaker, append_assoc, take_more}
 use Rattle.std.specs.Prelude.{nat_lt, if◌then◌else◌}
 use Rattle.std.proofs.lemmas.Bool.{ltb-false}
+use Rattle.std.proofs.lemmas.Option.{IfSome_then, MatchOption-from_none}
 use Rattle.str0m_formats.specs.declared.payload_params.PayloadParams.{PayloadParams}
 use Rattle.str0m_formats.specs.Choices.{IsBest, better}
 
@@ -9,17 +10,6 @@ use Rattle.str0m_formats.specs.Choices.{IsBest, better}
 abbrev pub IsChoiceSoFar : (PayloadParams → Option ℕ) → List PayloadParams → Option (PayloadParams × ℕ) → Type 0
 IsChoiceSoFar points rows None = All (λ row. points row ≡ None) rows
 IsChoiceSoFar points rows (Some (best, most)) = (it : IsBest points rows best) × (it.most ≡ most)
-
-at_most_weaker : (o : Option ℕ) (m n : ℕ) → m ≤ n → IfSome o (λ k. k ≤ m) → IfSome o (λ k. k ≤ n)
-at_most_weaker None m n h p = tt
-at_most_weaker (Some k) m n h p = omega arith
-
-below_weaker : (o : Option ℕ) (m n : ℕ) → m ≤ n → IfSome o (λ k. k < m) → IfSome o (λ k. k ≤ n)
-below_weaker None m n h p = tt
-below_weaker (Some k) m n h p = omega arith
-
-none_passes : (o : Option ℕ) (P : ℕ → Type 0) → o ≡ None → IfSome o P
-none_passes o P h = let Q : Option ℕ → Type 0 = λ v. IfSome v P in subst Q (sym h) tt
 
 some_passes : (o : Option ℕ) (P : ℕ → Type 0) (n : ℕ) → o ≡ Some n → P n → IfSome o P
 some_passes o P n h p = let Q : Option ℕ → Type 0 = λ v. IfSome v P in subst Q (sym h) p
@@ -58,7 +48,7 @@ goes_last points rows n row h at_most = (
 none_so_far : (points : PayloadParams → Option ℕ) (rows : List PayloadParams) (n : ℕ) → All (λ r. points r ≡ None) rows
     → All (λ r. IfSome (points r) (λ k. k ≤ n)) rows
 none_so_far points rows n c =
-    All-weaker (λ r. points r ≡ None) (λ r. IfSome (points r) (λ k. k ≤ n)) (λ r e. none_passes (points r) (λ k. k ≤ n) e) rows c
+    All-weaker (λ r. points r ≡ None) (λ r. IfSome (points r) (λ k. k ≤ n)) (λ r e. MatchOption-from_none (points r) (λ k. k ≤ n) e) rows c
 
 -- no row so far has a greater score
 at_most_so_far : (points : PayloadParams → Option ℕ) (rows : List PayloadParams) (best : PayloadParams) (n : ℕ) (it : IsBest points rows best)
@@ -67,9 +57,9 @@ at_most_so_far points rows best n it m =
     let P : List PayloadParams → Type 0 = λ xs. All (λ r. IfSome (points r) (λ k. k ≤ n)) xs in
     subst P (sym it.split)
     (All-append (λ r. IfSome (points r) (λ k. k ≤ n)) it.before (best ∷ it.after)
-    (All-weaker (λ r. IfSome (points r) (λ k. k ≤ it.most)) (λ r. IfSome (points r) (λ k. k ≤ n)) (λ r p. at_most_weaker (points r) it.most n m p) it.before it.before_at_most)
+    (All-weaker (λ r. IfSome (points r) (λ k. k ≤ it.most)) (λ r. IfSome (points r) (λ k. k ≤ n)) (λ r p. IfSome_then (points r) {P = λ k. k ≤ it.most} {Q = λ k. k ≤ n} p (λ k le. omega (arith, le, m))) it.before it.before_at_most)
     (All-cons (λ r. IfSome (points r) (λ k. k ≤ n)) best it.after (some_passes (points best) (λ k. k ≤ n) it.most it.has_most m)
-    (All-weaker (λ r. IfSome (points r) (λ k. k < it.most)) (λ r. IfSome (points r) (λ k. k ≤ n)) (λ r p. below_weaker (points r) it.most n m p) it.after it.after_below)))
+    (All-weaker (λ r. IfSome (points r) (λ k. k < it.most)) (λ r. IfSome (points r) (λ k. k ≤ n)) (λ r p. IfSome_then (points r) {P = λ k. k < it.most} {Q = λ k. k ≤ n} p (λ k lt. omega (arith, lt, m))) it.after it.after_below)))
 
 -- one row more
 choice_step : (points : PayloadParams → Option ℕ) (rows : List PayloadParams) (so_far : Option (PayloadParams × ℕ)) (row : PayloadParams) (o : Option ℕ) → points row ≡ o
@@ -77,7 +67,7 @@ choice_step : (points : PayloadParams → Option ℕ) (rows : List PayloadParams
 choice_step points rows None row None e c = All-push (λ r. points r ≡ None) rows row c e
 choice_step points rows None row (Some n) e c = goes_last points rows n row e (none_so_far points rows n c)
 choice_step points rows (Some (best, most)) row None e c =
-    let new = best_stays points rows best row c.0 (none_passes (points row) (λ n. n < c.0.most) e) in (new.0, new.1 ∙ c.1)
+    let new = best_stays points rows best row c.0 (MatchOption-from_none (points row) (λ n. n < c.0.most) e) in (new.0, new.1 ∙ c.1)
 choice_step points rows (Some (best, most)) row (Some n) e c = go (nat_lt n most) refl where
   go : (b : Bool) → nat_lt n most ≡ b → IsChoiceSoFar points (rows ++ row ∷ []) (if b then Some (best, most) else Some (row, n))
   go true l =

@@ -1,5 +1,5 @@
 -- Types that are claimed one by one: what is then claimed, and which is met a second time.
-use Rattle.str0m_formats.proofs.Common.{◌≡◌, ◌==◌, ℕ, ◌+◌, ◌<◌, ◌≤◌, Bool, true, false, ◌||◌, cond, List, [], ◌∷◌, ◌++◌, length, take, drop, get_or, Result, Ok, Err, refl, sym, ap, ◌∙◌, subst, arith, append_assoc, append-nil, take_more, filter-append, flat_map-append, eqb-true, fun_ext}
+use Rattle.str0m_formats.proofs.Common.{◌≡◌, ◌==◌, ℕ, ◌+◌, ◌<◌, ◌≤◌, Bool, true, false, cond, List, [], ◌∷◌, ◌++◌, length, take, drop, get_or, Result, Ok, Err, refl, sym, ap, ◌∙◌, subst, arith, append_assoc, append-nil, take_more, filter-append, flat_map-append, eqb-true}
 use Rattle.std.proofs.lemmas.List.{take-append-drop}
 use Rattle.str0m_formats.specs.declared.negotiation_error.NegotiationError.{NegotiationError}
 use Rattle.str0m_formats.specs.declared.negotiation_error.NegotiationError.TheVariants.{ClaimedTwice}
@@ -8,6 +8,7 @@ use Rattle.str0m_formats.specs.TypeSets.{TypeSet, has, with_type, either, times,
 use Rattle.str0m_formats.specs.Rows.{types_of, types, locked_types, open_types}
 use Rattle.str0m_formats.specs.Claiming.{claim_each}
 use Rattle.str0m_formats.specs.Rounds.{and_then, IsFirstRepeat}
+use Rattle.str0m_formats.proofs.Sets.{type-is}
 use Rattle.str0m_formats.proofs.RowSets.{has-append, locked_types-push, open_types-push}
 use Rattle.str0m_formats.proofs.Times.{times-cons, times-nil, times-append, times-none, one_if}
 
@@ -66,10 +67,7 @@ distinct_push xs y d h = λ t. go t (y == t) refl where
       omega (arith, times-append xs (y ∷ []) t, times-cons y [] t, times-nil t, d t, one_if (y == t) false e)
 
 with_type-push : (xs : List ℕ) (y : ℕ) → with_type (has xs) y ≡ has (xs ++ y ∷ [])
-with_type-push xs y = fun_ext (λ t. ap (λ b. has xs t || b) (sym (or_false (y == t)))) ∙ sym (has-append xs (y ∷ [])) where
-  or_false : (b : Bool) → (b || false) ≡ b
-  or_false true = refl
-  or_false false = refl
+with_type-push xs y = type-is (has xs) y ∙ sym (has-append xs (y ∷ []))
 
 pub claimed_all : (seen xs : List ℕ) (set : TypeSet) → AllDistinct seen → claim_each (has seen) xs ≡ Ok set → (set ≡ has (seen ++ xs)) × AllDistinct (seen ++ xs)
 unfolding claim_each

@@ -1,21 +1,21 @@
 -- With few rows a free type is always left: counting the types that are held back.
-use Rattle.str0m_formats.proofs.Common.{zero, suc, ◌≡◌, ◌==◌, ℕ, ◌+◌, ◌*◌, ◌<◌, ◌≤◌, ◌⊎◌, inl, inr, Bool, true, false, not, ◌||◌, ◌&&◌, cond, find, List, [], ◌∷◌, ◌++◌, length, Option, Some, None, Result, Ok, Err, filter, refl, sym, ap, ◌∙◌, subst, arith, slice_get, option_to_list, ok_or, slice_get_within, same_Some, length-append, true≢false, false≢true, and_parts, not-true, or_cases, or_left, or_right, cases_Bool, eqb-true, eq-eqb, fun_ext}
+use Rattle.str0m_formats.proofs.Common.{zero, suc, ◌≡◌, ◌==◌, ℕ, ◌+◌, ◌*◌, ◌<◌, ◌≤◌, ◌⊎◌, inl, inr, Bool, true, false, not, ◌||◌, cond, find, List, [], ◌∷◌, ◌++◌, length, Option, Some, None, Result, Ok, Err, IfErr, IfSome, filter, refl, sym, ap, ◌∙◌, subst, arith, slice_get, option_to_list, ok_or, slice_get_within, same_Some, none-some, length-append, true≢false, false≢true, and_parts, not-true, or_cases, or_left, or_right, or-false, cases_Bool, eqb-true, eq-eqb, IfErr-at_err, IfErr-weaker, fun_ext}
 use Rattle.str0m_formats.specs.declared.negotiation_error.NegotiationError.{NegotiationError}
 use Rattle.str0m_formats.specs.declared.negotiation_error.NegotiationError.TheVariants.{Exhausted, ClaimedTwice, TypeTooLarge}
 use Rattle.str0m_formats.specs.declared.payload_params.PayloadParams.{PayloadParams}
 use Rattle.str0m_formats.specs.TypeSets.{TypeSet, has, with_type, with_option, either, free, preferred}
 use Rattle.str0m_formats.specs.Rows.{types_of, types, locked_types, open_types}
 use Rattle.str0m_formats.specs.Narrowing.{narrowed}
-use Rattle.str0m_formats.specs.Rounds.{and_then, own_or_free, role_type, rtx_type, locked_to, placed, taken_by, taken_after, settled, kept_or_free, kept_red, kept_rtx, StopsFirst, StopsSecond, Refused}
+use Rattle.str0m_formats.specs.Rounds.{and_then, role_type, rtx_type, locked_to, placed, taken_by, taken_after, settled, kept_or_free, kept_red, kept_rtx, StopsFirst, StopsSecond, Refused}
+use Rattle.str0m_formats.proofs.Times.{all_apart}
+use Rattle.str0m_formats.proofs.Sets.{type-is, two-are}
 use Rattle.str0m_formats.proofs.RowSets.{has-append}
-use Rattle.str0m_formats.proofs.SecondPass.{settled-locked}
-use Rattle.str0m_formats.proofs.OneOutcome.{Cases, cases_of}
+use Rattle.str0m_formats.proofs.RowCounts.{length-split}
+use Rattle.str0m_formats.proofs.SecondPass.{settled-locked, settled_if_locked}
+use Rattle.str0m_formats.proofs.RowSteps.{free_cases, role_cases, then_err}
+use Rattle.str0m_formats.proofs.OneOutcome.{HasLarge, HasRepeat, Cases, cases_of}
 
 -- ---- a list without repeats that stands in another is no longer
-
-abbrev all_apart : List ℕ → Bool
-all_apart [] = true
-all_apart (x ∷ xs) = not (has xs x) && all_apart xs
 
 without : ℕ → List ℕ → List ℕ
 without x [] = []
@@ -55,11 +55,8 @@ pigeons (x ∷ xs) ys d h =
 all_used : (used : TypeSet) (xs : List ℕ) → find (λ t. not (used t)) xs ≡ None → (t : ℕ) → has xs t ≡ true → used t ≡ true
 all_used used [] h t k = absurd (false≢true k)
 all_used used (x ∷ xs) h t k = go (λ f c. all_used used xs f t c) (used x) refl h (or_cases (x == t) (has xs t) k) where
-  none_some : {n : ℕ} → ◌≡◌ {A = Option ℕ} (Some n) None → ⊥
-  none_some e = cc
-
   go : (find (λ y. not (used y)) xs ≡ None → has xs t ≡ true → used t ≡ true) → (b : Bool) → used x ≡ b → cond (not b) (Some x) (find (λ y. not (used y)) xs) ≡ None → ((x == t) ≡ true) ⊎ (has xs t ≡ true) → used t ≡ true
-  go rec false e f c = absurd (none_some f)
+  go rec false e f c = absurd (none-some x (sym f))
   go rec true e f (inl c) = ap used (sym (eqb-true x t c)) ∙ e
   go rec true e f (inr c) = rec f c
 
@@ -77,108 +74,89 @@ some_free used h e = omega (arith, h, preferred_long, pigeons preferred used pre
 
 -- ---- how many types rows have
 
+short : (o : Option ℕ) → length (option_to_list o) ≤ 1
+short None = omega arith
+short (Some t) = omega arith
+
 pub length-types_of : (row : PayloadParams) → length (types_of row) ≤ 3
-length-types_of row = omega (arith, length-append (option_to_list row.resend) (option_to_list row.red), one row.resend, one row.red) where
-  one : (o : Option ℕ) → length (option_to_list o) ≤ 1
-  one None = omega arith
-  one (Some t) = omega arith
+length-types_of row = omega (arith, length-append (option_to_list row.resend) (option_to_list row.red), short row.resend, short row.red)
 
 pub length-types : (rows : List PayloadParams) → length (types rows) ≤ 3 * length rows
 length-types [] = omega arith
 length-types (r ∷ rows) = omega (arith, length-append (types_of r) (types rows), length-types_of r, length-types rows)
 
-pub length-split : (rows : List PayloadParams) → length (locked_types rows) + length (open_types rows) ≡ length (types rows)
-length-split [] = refl
-length-split (r ∷ rows) = go r.locked (length-split rows) where
-  go : (b : Bool) → length (locked_types rows) + length (open_types rows) ≡ length (types rows)
-      → length (types (cond b (r ∷ filter (λ x. x.locked) rows) (filter (λ x. x.locked) rows))) + length (types (cond (not b) (r ∷ filter (λ x. not x.locked) rows) (filter (λ x. not x.locked) rows))) ≡ length (types (r ∷ rows))
-  go true rec = omega (arith, rec, length-append (types_of r) (locked_types rows), length-append (types_of r) (types rows))
-  go false rec = omega (arith, rec, length-append (types_of r) (open_types rows), length-append (types_of r) (types rows))
+-- ---- why a row can't be done
+
+-- no type is free, or the remote demands one that is taken
+abbrev pub Demands : Bool → NegotiationError → Type 0
+Demands receives cause = (t : ℕ) × (receives ≡ true) × (cause ≡ ClaimedTwice t)
+
+abbrev Fails : TypeSet → TypeSet → Bool → NegotiationError → Type 0
+Fails taken unlocked receives cause = (free (either taken unlocked) ≡ None) ⊎ Demands receives cause
+
+-- so it is beside what is taken and at most two types more
+abbrev RowFails : TypeSet → TypeSet → Bool → NegotiationError → Type 0
+RowFails taken unlocked receives cause = (more : List ℕ) × (length more ≤ 2) × Fails (either taken (has more)) unlocked receives cause
+
+none-fails : (taken unlocked : TypeSet) (receives : Bool) → IfErr (ok_or (free (either taken unlocked)) Exhausted) (Fails taken unlocked receives)
+none-fails taken unlocked receives = free_cases (λ r. IfErr r (Fails taken unlocked receives)) (either taken unlocked) (λ t e. tt) (λ e. inl e)
+
+beside : {A : Type 0} (r : Result A NegotiationError) (taken set unlocked : TypeSet) (receives : Bool) (more : List ℕ) → set ≡ either taken (has more) → length more ≤ 2
+    → IfErr r (Fails set unlocked receives) → IfErr r (RowFails taken unlocked receives)
+beside r taken set unlocked receives more is few =
+    IfErr-weaker r (Fails set unlocked receives) (RowFails taken unlocked receives) (λ cause fails. (more, few, subst (λ (s : TypeSet). Fails s unlocked receives cause) is fails))
+
+no_more : (taken : TypeSet) → taken ≡ either taken (has [])
+no_more taken = fun_ext (λ t. sym (or-false (taken t)))
 
 -- ---- the first pass
 
-err_parts : {A B : Type 0} (r : Result A NegotiationError) (f : A → Result B NegotiationError) (e : NegotiationError) → and_then r f ≡ Err e → (r ≡ Err e) ⊎ ((x : A) × (f x ≡ Err e))
-err_parts (Ok x) f e h = inr (x, h)
-err_parts {A} {B} (Err c) f e h = inl (ap (λ k. Err k) (same c e h)) where
-  same : (a b : NegotiationError) → ◌≡◌ {A = Result B NegotiationError} (Err a) (Err b) → a ≡ b
-  same a b k = cc
+role-fails : (taken unlocked : TypeSet) (receives : Bool) (asked : ℕ) (own : Option ℕ) → IfErr (role_type taken unlocked receives asked own) (Fails taken unlocked receives)
+role-fails taken unlocked receives asked own =
+    role_cases (λ r. IfErr r (Fails taken unlocked receives)) taken unlocked receives asked own (λ e. tt) (λ is. inr (asked, is, refl)) (kept own) (none-fails taken unlocked receives) where
+      kept : (o : Option ℕ) → IfSome o (λ t. taken t ≡ false → Unit {0})
+      kept None = tt
+      kept (Some t) = λ e. tt
 
-not_err : {A : Type 0} {x : A} {e : NegotiationError} → ◌≡◌ {A = Result A NegotiationError} (Ok x) (Err e) → ⊥
-not_err k = cc
-
-none_of : (o : Option ℕ) → ok_or o Exhausted ≡ Err Exhausted → o ≡ None
-none_of None h = refl
-none_of (Some x) h = absurd (not_err h)
-
-role-exhausted : (taken unlocked : TypeSet) (receives : Bool) (asked : ℕ) (own : Option ℕ) → role_type taken unlocked receives asked own ≡ Err Exhausted → free (either taken unlocked) ≡ None
-unfolding role_type
-role-exhausted taken unlocked receives asked own h = go (taken asked) receives h where
-  other : ◌≡◌ {A = Result ℕ NegotiationError} (Err (ClaimedTwice asked)) (Err Exhausted) → ⊥
-  other k = cc
-
-  own_case : (b : Bool) (x : ℕ) → cond b (ok_or (free (either taken unlocked)) Exhausted) (Ok x) ≡ Err Exhausted → free (either taken unlocked) ≡ None
-  own_case true x k = none_of (free (either taken unlocked)) k
-  own_case false x k = absurd (not_err k)
-
-  own_part : (o : Option ℕ) → own_or_free taken unlocked o ≡ Err Exhausted → free (either taken unlocked) ≡ None
-  own_part None k = none_of (free (either taken unlocked)) k
-  own_part (Some x) k = own_case (taken x) x k
-
-  go : (b c : Bool) → cond b (cond c (Err (ClaimedTwice asked)) (own_or_free taken unlocked own)) (Ok asked) ≡ Err Exhausted → free (either taken unlocked) ≡ None
-  go false c k = absurd (not_err k)
-  go true true k = absurd (other k)
-  go true false k = own_part own k
-
-rtx-exhausted : (taken unlocked : TypeSet) (receives : Bool) (asked own : Option ℕ) → rtx_type taken unlocked receives asked own ≡ Err Exhausted → free (either taken unlocked) ≡ None
+rtx-fails : (taken unlocked : TypeSet) (receives : Bool) (asked own : Option ℕ) → IfErr (rtx_type taken unlocked receives asked own) (Fails taken unlocked receives)
 unfolding rtx_type
-rtx-exhausted taken unlocked receives None own h = absurd (not_err h)
-rtx-exhausted taken unlocked receives (Some asked) own h = go (err_parts (role_type taken unlocked receives asked own) (λ t. Ok (Some t)) Exhausted h) where
-  go : (role_type taken unlocked receives asked own ≡ Err Exhausted) ⊎ ((x : ℕ) × (◌≡◌ {A = Result (Option ℕ) NegotiationError} (Ok (Some x)) (Err Exhausted))) → free (either taken unlocked) ≡ None
-  go (inl e) = role-exhausted taken unlocked receives asked own e
-  go (inr e) = absurd (not_err e.1)
+rtx-fails taken unlocked receives None own = tt
+rtx-fails taken unlocked receives (Some asked) own = then_err (role_type taken unlocked receives asked own) (λ t. Ok (Some t)) (Fails taken unlocked receives) (role-fails taken unlocked receives asked own) (λ t. tt)
 
-two_steps : {A B C : Type 0} (r : Result A NegotiationError) (g : A → Result B NegotiationError) (f : A → B → C) (e : NegotiationError) → and_then r (λ a. and_then (g a) (λ b. Ok (f a b))) ≡ Err e → (r ≡ Err e) ⊎ ((a : A) × (g a ≡ Err e))
-two_steps (Err c) g f e h = inl (cc)
-two_steps {A} {B} {C} (Ok a) g f e h = inr (a, of (g a) h) where
-  of : (r : Result B NegotiationError) → and_then r (λ b. Ok (f a b)) ≡ Err e → r ≡ Err e
-  of (Ok b) k = absurd (not_err k)
-  of (Err c) k = cc
+placed-fails : (taken unlocked : TypeSet) (receives : Bool) (row : PayloadParams) (choice : Option PayloadParams) → IfErr (placed taken unlocked receives row choice) (RowFails taken unlocked receives)
+unfolding placed locked_to
+placed-fails taken unlocked receives row None = tt
+placed-fails taken unlocked receives row (Some c) = go row.locked where
+  go : (b : Bool) → IfErr (cond b (Ok (record row { spec = narrowed row.spec c.spec })) (locked_to taken unlocked receives row c)) (RowFails taken unlocked receives)
+  go true = tt
+  go false =
+      then_err (role_type taken unlocked receives c.pt (Some row.pt)) _ (RowFails taken unlocked receives)
+      (beside (role_type taken unlocked receives c.pt (Some row.pt)) taken taken unlocked receives [] (no_more taken) (omega arith) (role-fails taken unlocked receives c.pt (Some row.pt)))
+      (λ pt. then_err (rtx_type (with_type taken pt) unlocked receives c.resend row.resend) _ (RowFails taken unlocked receives)
+      (beside (rtx_type (with_type taken pt) unlocked receives c.resend row.resend) taken (with_type taken pt) unlocked receives (pt ∷ []) (type-is taken pt) (omega arith) (rtx-fails (with_type taken pt) unlocked receives c.resend row.resend))
+      (λ resend. tt))
 
--- a row that can't be locked for want of a type: nothing is free beside what is taken, or beside that and one type more
-lock-exhausted : (taken unlocked : TypeSet) (receives : Bool) (row choice : PayloadParams) → locked_to taken unlocked receives row choice ≡ Err Exhausted → (free (either taken unlocked) ≡ None) ⊎ ((p : ℕ) × (free (either (with_type taken p) unlocked) ≡ None))
-unfolding locked_to
-lock-exhausted taken unlocked receives row choice h =
-    go (two_steps (role_type taken unlocked receives choice.pt (Some row.pt)) (λ p. rtx_type (with_type taken p) unlocked receives choice.resend row.resend) _ Exhausted h) where
-      go : (role_type taken unlocked receives choice.pt (Some row.pt) ≡ Err Exhausted) ⊎ ((p : ℕ) × (rtx_type (with_type taken p) unlocked receives choice.resend row.resend ≡ Err Exhausted)) → (free (either taken unlocked) ≡ None) ⊎ ((p : ℕ) × (free (either (with_type taken p) unlocked) ≡ None))
-      go (inl e) = inl (role-exhausted taken unlocked receives choice.pt (Some row.pt) e)
-      go (inr e) = inr (e.0, rtx-exhausted (with_type taken e.0) unlocked receives choice.resend row.resend e.1)
-
-placed-exhausted : (taken unlocked : TypeSet) (receives : Bool) (row : PayloadParams) (choice : Option PayloadParams) → placed taken unlocked receives row choice ≡ Err Exhausted → (free (either taken unlocked) ≡ None) ⊎ ((p : ℕ) × (free (either (with_type taken p) unlocked) ≡ None))
-unfolding placed
-placed-exhausted taken unlocked receives row None h = absurd (not_err h)
-placed-exhausted taken unlocked receives row (Some c) h = go row.locked h where
-  go : (b : Bool) → cond b (Ok (record row { spec = narrowed row.spec c.spec })) (locked_to taken unlocked receives row c) ≡ Err Exhausted → (free (either taken unlocked) ≡ None) ⊎ ((p : ℕ) × (free (either (with_type taken p) unlocked) ≡ None))
-  go true k = absurd (not_err k)
-  go false k = lock-exhausted taken unlocked receives row c k
+-- fewer than 87 types leave a free one
+free_beside : (held more others : List ℕ) → length held + length more + length others < 87 → free (either (either (has held) (has more)) (has others)) ≡ None → ⊥
+free_beside held more others room e =
+    some_free ((held ++ more) ++ others) (omega (arith, room, length-append (held ++ more) others, length-append held more))
+    (ap free (has-append (held ++ more) others ∙ ap (λ (s : TypeSet). either s (has others)) (has-append held more)) ∙ e)
 
 -- with at most fourteen rows no row lacks a type in the first pass
-pub first_never_exhausts : (before remote : List PayloadParams) (receives : Bool) → length before ≤ 14 → StopsFirst before remote receives Exhausted → ⊥
-first_never_exhausts before remote receives few s = go (placed-exhausted (taken_by before s.done) (has (open_types before)) receives s.row s.stops.choice s.stops.placed_so) where
-  one_more : (p a u b : Bool) → b ≡ (a || u) → (p || b) ≡ ((a || p) || u)
-  one_more true true u b h = refl
-  one_more true false u b h = refl
-  one_more false true u b h = h
-  one_more false false u b h = h
+first_demands : (before remote : List PayloadParams) (receives : Bool) (cause : NegotiationError) → length before ≤ 14 → StopsFirst before remote receives cause → Demands receives cause
+first_demands before remote receives cause few s = go (IfErr-at_err (RowFails taken unlocked receives) s.stops.placed_so (placed-fails taken unlocked receives s.row s.stops.choice)) where
+  taken : TypeSet
+  taken = taken_by before s.done
 
-  short : (n : ℕ) → n ≤ 1 → n + length ((locked_types before ++ locked_types s.done) ++ open_types before) < 87
-  short n h =
-      omega (arith, h, few, length-append (locked_types before ++ locked_types s.done) (open_types before), length-append (locked_types before) (locked_types s.done), length-split before, length-types before, length-split s.done, length-types s.done, slice_get_within before (length s.done) s.row s.next)
+  unlocked : TypeSet
+  unlocked = has (open_types before)
 
-  go : (free (either (taken_by before s.done) (has (open_types before))) ≡ None) ⊎ ((p : ℕ) × (free (either (with_type (taken_by before s.done) p) (has (open_types before))) ≡ None)) → ⊥
-  go (inl e) = some_free ((locked_types before ++ locked_types s.done) ++ open_types before) (omega (arith, short 0 (omega arith))) (ap free (has-append (locked_types before ++ locked_types s.done) (open_types before)) ∙ e)
-  go (inr e) =
-      some_free (e.0 ∷ ((locked_types before ++ locked_types s.done) ++ open_types before)) (omega (arith, short 1 (omega arith)))
-      (ap free (fun_ext (λ t. one_more (e.0 == t) (has (locked_types before ++ locked_types s.done) t) (has (open_types before) t) (has ((locked_types before ++ locked_types s.done) ++ open_types before) t) (ap (λ f. f t) (has-append (locked_types before ++ locked_types s.done) (open_types before))))) ∙ e.1)
+  go : RowFails taken unlocked receives cause → Demands receives cause
+  go (more, short, inr demands) = demands
+  go (more, short, inl full) =
+      absurd (free_beside (locked_types before ++ locked_types s.done) more (open_types before)
+      (omega (arith, short, few, length-append (locked_types before) (locked_types s.done), length-split before, length-types before, length-split s.done, length-types s.done, slice_get_within before (length s.done) s.row s.next))
+      full)
 
 -- ---- the second pass
 
@@ -188,9 +166,7 @@ length-locked rows = omega (arith, length-split rows, length-types rows)
 -- the locked rows and the open rows so far leave out the row that is next, where that is open
 second_room : (mid done : List PayloadParams) (row : PayloadParams) → ((i : ℕ) (old new : PayloadParams) → slice_get mid i ≡ Some old → slice_get done i ≡ Some new → new.locked ≡ old.locked)
     → slice_get mid (length done) ≡ Some row → row.locked ≡ false → length (locked_types mid) + length (open_types done) + 3 ≤ 3 * length mid
-second_room [] done row same next is_open = absurd (none_some next) where
-  none_some : ◌≡◌ {A = Option PayloadParams} None (Some row) → ⊥
-  none_some e = cc
+second_room [] done row same next is_open = absurd (none-some row next)
 second_room (m ∷ mid) [] row same next is_open =
     let first : m.locked ≡ false = ap (λ r. r.locked) (same_Some m row next) ∙ is_open in
     let none : length (locked_types (m ∷ mid)) ≡ length (locked_types mid) = ap (λ b. length (types (cond b (m ∷ filter (λ x. x.locked) mid) (filter (λ x. x.locked) mid)))) first in
@@ -208,98 +184,81 @@ second_room (m ∷ mid) (d ∷ done) row same next is_open =
           let o : length (open_types (d ∷ done)) ≡ length (types_of d ++ open_types done) = ap (λ b. length (types (cond (not b) (d ∷ filter (λ x. not x.locked) done) (filter (λ x. not x.locked) done)))) (f ∙ e) in
           omega (arith, rec, l, o, length-append (types_of d) (open_types done), length-types_of d)
 
--- nothing is free beside what is taken and at most two types more
-abbrev NoneFree : TypeSet → TypeSet → Type 0
-NoneFree taken unlocked = (extra : List ℕ) × (length extra ≤ 2) × (free (either (either taken (has extra)) unlocked) ≡ None)
+kept-fails : (locked taken unlocked : TypeSet) (receives : Bool) (t : ℕ) → IfErr (ok_or (kept_or_free locked taken unlocked t) Exhausted) (Fails taken unlocked receives)
+kept-fails locked taken unlocked receives t = go (locked t) where
+  go : (b : Bool) → IfErr (ok_or (cond b (free (either taken unlocked)) (Some t)) Exhausted) (Fails taken unlocked receives)
+  go true = none-fails taken unlocked receives
+  go false = tt
 
-kept-exhausted : (locked taken unlocked : TypeSet) (t : ℕ) → ok_or (kept_or_free locked taken unlocked t) Exhausted ≡ Err Exhausted → free (either taken unlocked) ≡ None
-kept-exhausted locked taken unlocked t h = go (locked t) h where
-  go : (b : Bool) → ok_or (cond b (free (either taken unlocked)) (Some t)) Exhausted ≡ Err Exhausted → free (either taken unlocked) ≡ None
-  go true k = none_of (free (either taken unlocked)) k
-  go false k = absurd (not_err k)
+kept_rtx-fails : (locked taken unlocked : TypeSet) (receives : Bool) (own : Option ℕ) → IfErr (kept_rtx locked taken unlocked own) (Fails taken unlocked receives)
+kept_rtx-fails locked taken unlocked receives None = tt
+kept_rtx-fails locked taken unlocked receives (Some t) = then_err (ok_or (kept_or_free locked taken unlocked t) Exhausted) (λ n. Ok (Some n)) (Fails taken unlocked receives) (kept-fails locked taken unlocked receives t) (λ n. tt)
 
-rtx_kept-exhausted : (locked taken unlocked : TypeSet) (resend : Option ℕ) → kept_rtx locked taken unlocked resend ≡ Err Exhausted → free (either taken unlocked) ≡ None
-rtx_kept-exhausted locked taken unlocked None h = absurd (not_err h)
-rtx_kept-exhausted locked taken unlocked (Some t) h = go (err_parts (ok_or (kept_or_free locked taken unlocked t) Exhausted) (λ n. Ok (Some n)) Exhausted h) where
-  go : (ok_or (kept_or_free locked taken unlocked t) Exhausted ≡ Err Exhausted) ⊎ ((x : ℕ) × (◌≡◌ {A = Result (Option ℕ) NegotiationError} (Ok (Some x)) (Err Exhausted))) → free (either taken unlocked) ≡ None
-  go (inl e) = kept-exhausted locked taken unlocked t e
-  go (inr e) = absurd (not_err e.1)
-
-with_two : (taken : TypeSet) (p : ℕ) (r : Option ℕ) → with_option (with_type taken p) r ≡ either taken (has (p ∷ option_to_list r))
-with_two taken p None = fun_ext (λ t. go (taken t) (p == t)) where
-  go : (a b : Bool) → (a || b) ≡ (a || (b || false))
-  go true b = refl
-  go false true = refl
-  go false false = refl
-with_two taken p (Some r) = fun_ext (λ t. go (taken t) (p == t) (r == t)) where
-  go : (a b c : Bool) → ((a || b) || c) ≡ (a || (b || (c || false)))
-  go true b c = refl
-  go false true c = refl
-  go false false true = refl
-  go false false false = refl
-
-settled-exhausted : (locked taken unlocked : TypeSet) (row : PayloadParams) → settled locked taken unlocked row ≡ Err Exhausted → (row.locked ≡ false) × NoneFree taken unlocked
+settled-fails : (locked taken unlocked : TypeSet) (receives : Bool) (row : PayloadParams) → IfErr (settled locked taken unlocked row) (RowFails taken unlocked receives)
 unfolding settled
-settled-exhausted locked taken unlocked row h = go row.locked refl h where
-  no_more : either taken (has []) ≡ taken
-  no_more = fun_ext (λ t. of (taken t)) where
-    of : (b : Bool) → (b || false) ≡ b
-    of true = refl
-    of false = refl
-
-  short : (o : Option ℕ) → length (option_to_list o) ≤ 1
-  short None = omega arith
-  short (Some t) = omega arith
-
-  red : ℕ → Option ℕ
-  red p = kept_red locked (with_type taken p) unlocked row.red
-
-  either_way : (ok_or (kept_or_free locked taken unlocked row.pt) Exhausted ≡ Err Exhausted) ⊎ ((p : ℕ) × (kept_rtx locked (with_option (with_type taken p) (kept_red locked (with_type taken p) unlocked row.red)) unlocked row.resend ≡ Err Exhausted)) → NoneFree taken unlocked
-  either_way (inl e) = ([], omega arith, ap (λ s. free (either s unlocked)) no_more ∙ kept-exhausted locked taken unlocked row.pt e)
-  either_way (inr e) =
-      let r = kept_red locked (with_type taken e.0) unlocked row.red in
-      (e.0 ∷ option_to_list r, omega (arith, short r), ap (λ s. free (either s unlocked)) (sym (with_two taken e.0 r)) ∙ rtx_kept-exhausted locked (with_option (with_type taken e.0) r) unlocked row.resend e.1)
-
-  go : (b : Bool) → row.locked ≡ b → cond b (Ok row) (and_then (ok_or (kept_or_free locked taken unlocked row.pt) Exhausted) (λ pt.
+settled-fails locked taken unlocked receives row = go row.locked where
+  go : (b : Bool) → IfErr (cond b (Ok row) (and_then (ok_or (kept_or_free locked taken unlocked row.pt) Exhausted) (λ pt.
       and_then (kept_rtx locked (with_option (with_type taken pt) (kept_red locked (with_type taken pt) unlocked row.red)) unlocked row.resend) (λ resend.
-      Ok (record row { pt = pt; resend = resend; red = kept_red locked (with_type taken pt) unlocked row.red })))) ≡ Err Exhausted → (row.locked ≡ false) × NoneFree taken unlocked
-  go true e k = absurd (not_err k)
-  go false e k = (e, either_way (two_steps (ok_or (kept_or_free locked taken unlocked row.pt) Exhausted) (λ p. kept_rtx locked (with_option (with_type taken p) (kept_red locked (with_type taken p) unlocked row.red)) unlocked row.resend) _ Exhausted k))
+      Ok (record row { pt = pt; resend = resend; red = kept_red locked (with_type taken pt) unlocked row.red }))))) (RowFails taken unlocked receives)
+  go true = tt
+  go false =
+      then_err (ok_or (kept_or_free locked taken unlocked row.pt) Exhausted) _ (RowFails taken unlocked receives)
+      (beside (ok_or (kept_or_free locked taken unlocked row.pt) Exhausted) taken taken unlocked receives [] (no_more taken) (omega arith) (kept-fails locked taken unlocked receives row.pt))
+      (λ pt.
+      let red = kept_red locked (with_type taken pt) unlocked row.red in
+      let two = with_option (with_type taken pt) red in
+      then_err (kept_rtx locked two unlocked row.resend) _ (RowFails taken unlocked receives)
+      (beside (kept_rtx locked two unlocked row.resend) taken two unlocked receives (pt ∷ option_to_list red) (two-are taken pt red) (omega (arith, short red)) (kept_rtx-fails locked two unlocked receives row.resend))
+      (λ resend. tt))
+
+stops-open : (locked taken unlocked : TypeSet) (row : PayloadParams) (cause : NegotiationError) → settled locked taken unlocked row ≡ Err cause → row.locked ≡ false
+stops-open locked taken unlocked row cause h = go row.locked refl where
+  go : (b : Bool) → row.locked ≡ b → row.locked ≡ false
+  go true e = let none : ◌≡◌ {A = Result PayloadParams NegotiationError} (Ok row) (Err cause) = settled_if_locked locked taken unlocked row e ∙ h in absurd (cc)
+  go false e = e
 
 -- with at most fourteen rows no row lacks a type in the second pass
-pub second_never_exhausts : (before remote : List PayloadParams) (receives : Bool) → length before ≤ 14 → StopsSecond before remote receives Exhausted → ⊥
-second_never_exhausts before remote receives few s =
-    let held = (locked_types s.mid ++ open_types s.second.done) ++ open_types before in
-    let stop = settled-exhausted (has (locked_types s.mid)) (taken_after s.mid s.second.done) (has (open_types before)) s.second.row s.second.stops in
-    let room = second_room s.mid s.second.done s.second.row (λ i old new e f. settled-locked _ _ _ old new (s.second.before_it.each i old new e f)) s.second.next stop.0 in
-    some_free (stop.1.0 ++ held)
-    (omega (arith, few, room, stop.1.1, s.first.whole, length-append stop.1.0 held, length-append (locked_types s.mid ++ open_types s.second.done) (open_types before), length-append (locked_types s.mid) (open_types s.second.done), length-split before, length-types before))
-    (ap free (has-append stop.1.0 held ∙ ap (either (has stop.1.0)) (has-append (locked_types s.mid ++ open_types s.second.done) (open_types before))
-    ∙ fun_ext (λ t. turn (has stop.1.0 t) (taken_after s.mid s.second.done t) (has (open_types before) t))) ∙ stop.1.2) where
-      turn : (a b c : Bool) → (a || (b || c)) ≡ ((b || a) || c)
-      turn true true c = refl
-      turn true false c = refl
-      turn false b c = or_nil_left b c where
-        or_nil_left : (x y : Bool) → (x || y) ≡ ((x || false) || y)
-        or_nil_left true y = refl
-        or_nil_left false y = refl
+second_demands : (before remote : List PayloadParams) (receives : Bool) (cause : NegotiationError) → length before ≤ 14 → StopsSecond before remote receives cause → Demands receives cause
+second_demands before remote receives cause few s = go (IfErr-at_err (RowFails taken unlocked receives) s.second.stops (settled-fails (has (locked_types s.mid)) taken unlocked receives s.second.row)) where
+  taken : TypeSet
+  taken = taken_after s.mid s.second.done
 
--- a round of at most fourteen rows is not refused for want of a type
+  unlocked : TypeSet
+  unlocked = has (open_types before)
+
+  go : RowFails taken unlocked receives cause → Demands receives cause
+  go (more, short, inr demands) = demands
+  go (more, short, inl full) =
+      let is_open = stops-open (has (locked_types s.mid)) taken unlocked s.second.row cause s.second.stops in
+      let room = second_room s.mid s.second.done s.second.row (λ i old new e f. settled-locked _ _ _ old new (s.second.before_it.each i old new e f)) s.second.next is_open in
+      absurd (free_beside (locked_types s.mid ++ open_types s.second.done) more (open_types before)
+      (omega (arith, few, room, short, s.first.whole, length-append (locked_types s.mid) (open_types s.second.done), length-split before, length-types before))
+      full)
+
+-- ---- a round of at most fourteen rows
+
+-- it is refused for a type that is too large, or is claimed twice before the round, or is taken and demanded
+abbrev pub FewRefused : List PayloadParams → List PayloadParams → Bool → NegotiationError → Type 0
+FewRefused before remote receives cause = HasLarge before remote cause ⊎ (HasRepeat before remote cause ⊎ Demands receives cause)
+
+pub few_refused : (before remote : List PayloadParams) (receives : Bool) (cause : NegotiationError) → length before ≤ 14 → Refused before remote receives cause → FewRefused before remote receives cause
+few_refused before remote receives cause few f = go (cases_of before remote receives cause f) where
+  go : Cases before remote receives cause → FewRefused before remote receives cause
+  go (inl h) = inl h
+  go (inr (inl h)) = inr (inl h)
+  go (inr (inr (inl h))) = inr (inr (first_demands before remote receives cause few h))
+  go (inr (inr (inr h))) = inr (inr (second_demands before remote receives cause few h))
+
+-- so not for want of a type
 pub never_exhausted : (before remote : List PayloadParams) (receives : Bool) → length before ≤ 14 → Refused before remote receives Exhausted → ⊥
-never_exhausted before remote receives few f = go (cases_of before remote receives Exhausted f) where
-  go : Cases before remote receives Exhausted → ⊥
-  go (inl h) = large h.2 where
-    large : {t : ℕ} → Exhausted ≡ TypeTooLarge t → ⊥
-    large e = cc
-  go (inr (inl h)) = twice h.3 where
-    twice : {t : ℕ} → Exhausted ≡ ClaimedTwice t → ⊥
-    twice e = cc
-  go (inr (inr (inl h))) = first_never_exhausts before remote receives few h
-  go (inr (inr (inr h))) = second_never_exhausts before remote receives few h
+never_exhausted before remote receives few f = go (few_refused before remote receives Exhausted few f) where
+  twice : {t : ℕ} → Exhausted ≡ ClaimedTwice t → ⊥
+  twice e = cc
 
-pub not_exhausted : (before remote : List PayloadParams) (receives : Bool) (cause : NegotiationError) (result : Result (Unit {0}) NegotiationError) → length before ≤ 14 → result ≡ Err cause → Refused before remote receives cause → result ≡ Err Exhausted → ⊥
-not_exhausted before remote receives cause result few is f e =
-    let P : NegotiationError → Type 0 = λ x. Refused before remote receives x in
-    never_exhausted before remote receives few (subst P (same cause Exhausted (sym is ∙ e)) f) where
-      same : (a b : NegotiationError) → ◌≡◌ {A = Result (Unit {0}) NegotiationError} (Err a) (Err b) → a ≡ b
-      same a b k = cc
+  large : {t : ℕ} → Exhausted ≡ TypeTooLarge t → ⊥
+  large e = cc
+
+  go : FewRefused before remote receives Exhausted → ⊥
+  go (inl h) = large h.2
+  go (inr (inl h)) = twice h.3
+  go (inr (inr h)) = twice h.2

@@ -1,18 +1,16 @@
 -- Distinct types stay distinct.
-use Rattle.str0m_formats.proofs.Common.{zero, suc, ◌≡◌, ℕ, ◌+◌, ◌<◌, ◌≤◌, ◌⊎◌, inl, inr, Bool, true, false, not, cond, List, [], ◌++◌, length, take, drop, Option, Some, None, refl, ap, ◌∙◌, arith, slice_get, cases_Bool, or_parts, not-true}
+use Rattle.str0m_formats.proofs.Common.{zero, suc, ◌≡◌, ℕ, ◌+◌, ◌<◌, ◌≤◌, ◌⊎◌, inl, inr, Bool, true, false, not, cond, List, [], ◌++◌, length, take, drop, Option, Some, None, refl, ap, ◌∙◌, arith, slice_get, cases_Bool, or_parts, not-true, take_all}
 use Rattle.str0m_formats.specs.declared.payload_params.PayloadParams.{PayloadParams}
 use Rattle.str0m_formats.specs.TypeSets.{has, either, times, AllDistinct}
 use Rattle.str0m_formats.specs.Rows.{types_of, types, locked_types, open_types}
 use Rattle.str0m_formats.specs.Rounds.{taken_after, AllBegun, Settled, Leaves}
 use Rattle.str0m_formats.proofs.Passes.{none_within}
 use Rattle.str0m_formats.proofs.Times.{times-append, times-nil, times-none}
-use Rattle.str0m_formats.proofs.SecondPass.{settled-locked}
+use Rattle.str0m_formats.proofs.SecondPass.{settled-locked, SettledParts, settled_parts, settled-same}
 use Rattle.str0m_formats.proofs.WholeRound.{row_before, begun_open}
-use Rattle.str0m_formats.proofs.OneOutcome.{take_all}
-use Rattle.str0m_formats.proofs.RowCounts.{drop_suc, times_where-cons, times_where-drop, times_where-fewer, Standing, standing_step}
-use Rattle.str0m_formats.proofs.RowSteps.{SettledParts, settled_parts, settled-same}
+use Rattle.str0m_formats.proofs.RowCounts.{drop_suc, times_where-cons, times_where-drop, times_where-fewer, times-split, Standing, standing_step}
 use Rattle.str0m_formats.proofs.OpenRows.{row-held, row-once}
-use Rattle.str0m_formats.proofs.Invariants.{roles_split, locked_alone}
+use Rattle.str0m_formats.proofs.Invariants.{locked_alone}
 
 abbrev is_open : PayloadParams → Bool
 is_open row = not row.locked
@@ -74,7 +72,7 @@ distinct_stay before remote receives after r d t = go (cases_Bool (has (locked_t
   go : (has (locked_types after) t ≡ true) ⊎ (has (locked_types after) t ≡ false) → times (types after) t ≤ 1
   go (inl h) = omega (arith, locked_alone before remote receives after r t h)
   go (inr h) =
-      let once : times (open_types before) t ≤ 1 = omega (arith, d t, roles_split before t) in
+      let once : times (open_types before) t ≤ 1 = omega (arith, d t, times-split before t) in
       let all = open_once before remote receives r.mid after r.first r.second t r.whole once (length after) (omega arith) in
-      let front = ap (λ xs. times (open_types xs) t) (take_all after) in
-      omega (arith, all, front, roles_split after t, times-none (locked_types after) t h)
+      let front = ap (λ xs. times (open_types xs) t) (take_all (length after) after (omega arith)) in
+      omega (arith, all, front, times-split after t, times-none (locked_types after) t h)

@@ -1,15 +1,15 @@
 -- The first pass of a round: what one row changes, and the state between two rows.
-use Rattle.str0m_formats.proofs.Common.{zero, suc, ◌≡◌, ℕ, ◌+◌, ◌<◌, ◌⊎◌, inl, inr, Bool, true, false, not, ◌||◌, ◌&&◌, cond, if◌then◌else◌, find, nat_lt, List, [], ◌∷◌, ◌++◌, length, take, drop, get_or, Option, Some, None, Result, Ok, Err, IfSome, IfErr, refl, sym, ap, ◌∙◌, subst, arith, slice_get, option_or, same_Some, append_assoc, take_more_set, drop-set-lt, length-set, length-take-le, length_push, drop_more_same, false≢true}
+use Rattle.str0m_formats.proofs.Common.{zero, suc, ◌≡◌, ℕ, ◌+◌, ◌<◌, ◌⊎◌, inl, inr, Bool, true, false, not, ◌||◌, ◌&&◌, cond, if◌then◌else◌, find, nat_lt, List, [], ◌∷◌, ◌++◌, length, take, drop, get_or, Option, Some, None, Result, Ok, Err, IfSome, IfErr, refl, sym, ap, ◌∙◌, subst, arith, slice_get, option_or, same_Some, find-append, append_assoc, take_more_set, drop-set-lt, length-set, length-take-le, length_push, drop_more_same, false≢true}
 use Rattle.std.proofs.Common.{set}
 use Rattle.str0m_formats.specs.declared.negotiation_error.NegotiationError.{NegotiationError}
 use Rattle.str0m_formats.specs.declared.payload_params.PayloadParams.{PayloadParams}
-use Rattle.str0m_formats.specs.TypeSets.{TypeSet, has, with_type, either}
+use Rattle.str0m_formats.specs.Codec.{content}
+use Rattle.str0m_formats.specs.TypeSets.{TypeSet, has, with_type, with_option, either}
 use Rattle.str0m_formats.specs.Rows.{AllSmall, types_of, types, locked_types, open_types}
 use Rattle.str0m_formats.specs.Narrowing.{narrowed}
 use Rattle.str0m_formats.specs.Choices.{IsChoice, points_for}
-use Rattle.str0m_formats.specs.Rounds.{taken_by, placed, locked_to, and_then, role_type, rtx_type, Becomes, Begun, MayBegin, StopsFirst}
-use Rattle.str0m_formats.proofs.Ranges.{find-append}
-use Rattle.str0m_formats.proofs.Passes.{EachPlace, each_push, get_from_rest}
+use Rattle.str0m_formats.specs.Rounds.{taken_by, placed, locked_to, and_then, role_type, rtx_type, red_type, only_audio, Becomes, Begun, MayBegin, StopsFirst}
+use Rattle.str0m_formats.proofs.Passes.{EachPlace, at_split, each_push, get_from_rest}
 use Rattle.str0m_formats.proofs.RowSets.{has-append, either-covered, locked_types-push, locked_types-at}
 
 -- ---- types of at most 127
@@ -26,10 +26,6 @@ small_at (r ∷ rows) zero row h e =
     let P : PayloadParams → Type 0 = λ x. AllSmall (types_of x) in subst P (same_Some r row e) (none-parts (nat_lt 127) (types_of r) (types rows) h).0
 small_at (r ∷ rows) (suc i) row h e = small_at rows i row (none-parts (nat_lt 127) (types_of r) (types rows) h).1 e
 
-at_split : {A : Type 0} (xs : List A) (y : A) (ys : List A) → slice_get (xs ++ y ∷ ys) (length xs) ≡ Some y
-at_split [] y ys = refl
-at_split (x ∷ xs) y ys = at_split xs y ys
-
 pub small_choice : (points : PayloadParams → Option ℕ) (remote : List PayloadParams) (choice : Option PayloadParams) → IsChoice points remote choice → AllSmall (types remote) → IfSome choice (λ c. AllSmall (types_of c))
 small_choice points remote None h s = tt
 small_choice points remote (Some c) h s = small_at remote (length h.before) c s (ap (λ xs. slice_get xs (length h.before)) h.split ∙ at_split h.before c h.after)
@@ -43,54 +39,80 @@ and_then-ok (Err e) f y h = absurd (cc)
 pub same_Ok : {A : Type 0} (x y : A) → ◌≡◌ {A = Result A NegotiationError} (Ok x) (Ok y) → x ≡ y
 same_Ok x y h = cc
 
-pub locked_to-locks : (taken unlocked : TypeSet) (receives : Bool) (row choice new : PayloadParams) → locked_to taken unlocked receives row choice ≡ Ok new → new.locked ≡ true
+pub same_Err : {A : Type 0} (x y : NegotiationError) → ◌≡◌ {A = Result A NegotiationError} (Err x) (Err y) → x ≡ y
+same_Err x y h = cc
+
+-- a locked row with a choice changes in its format alone; an open one is locked
+pub placed-locked_row : (taken unlocked : TypeSet) (receives : Bool) (row choice : PayloadParams) → row.locked ≡ true → placed taken unlocked receives row (Some choice) ≡ Ok (record row { spec = narrowed row.spec choice.spec })
+unfolding placed
+placed-locked_row taken unlocked receives row choice l = rw l refl
+
+pub placed-open_row : (taken unlocked : TypeSet) (receives : Bool) (row choice : PayloadParams) → row.locked ≡ false → placed taken unlocked receives row (Some choice) ≡ locked_to taken unlocked receives row choice
+unfolding placed
+placed-open_row taken unlocked receives row choice l = rw l refl
+
+pub placed-no_choice : (taken unlocked : TypeSet) (receives : Bool) (row new : PayloadParams) → placed taken unlocked receives row None ≡ Ok new → row ≡ new
+unfolding placed
+placed-no_choice taken unlocked receives row new h = same_Ok row new h
+
+-- the types of a row that is locked
+pub record LockedParts (taken unlocked : TypeSet) (receives : Bool) (row choice new : PayloadParams) : Type 0 where
+  pub pt : ℕ
+  pub pt_is : role_type taken unlocked receives choice.pt (Some row.pt) ≡ Ok pt
+  pub resend : Option ℕ
+  pub resend_is : rtx_type (with_type taken pt) unlocked receives choice.resend row.resend ≡ Ok resend
+  pub all : record row {
+    pt = pt;
+    resend = resend;
+    red = only_audio (content row.spec.codec) (red_type (with_option (with_type taken pt) resend) unlocked receives choice.red row.red);
+    spec = narrowed row.spec choice.spec;
+    fb_transport_cc = row.fb_transport_cc && choice.fb_transport_cc;
+    locked = true;
+  } ≡ new
+
+pub locked_parts : (taken unlocked : TypeSet) (receives : Bool) (row choice new : PayloadParams) → locked_to taken unlocked receives row choice ≡ Ok new → LockedParts taken unlocked receives row choice new
 unfolding locked_to
-locked_to-locks taken unlocked receives row choice new h =
+locked_parts taken unlocked receives row choice new h =
     let first = and_then-ok (role_type taken unlocked receives choice.pt (Some row.pt)) _ new h in
     let second = and_then-ok (rtx_type (with_type taken first.0) unlocked receives choice.resend row.resend) _ new first.2 in
-    ap (λ r. r.locked) (sym (same_Ok _ new second.2))
+    record { pt = first.0; pt_is = first.1; resend = second.0; resend_is = second.1; all = same_Ok _ new second.2 }
+
+pub locked_to-locks : (taken unlocked : TypeSet) (receives : Bool) (row choice new : PayloadParams) → locked_to taken unlocked receives row choice ≡ Ok new → new.locked ≡ true
+locked_to-locks taken unlocked receives row choice new h = ap (λ r. r.locked) (sym (locked_parts taken unlocked receives row choice new h).all)
 
 -- a locked row stays locked and keeps its types; an open row stays as it is, or is locked
 pub placed-locked : (taken unlocked : TypeSet) (receives : Bool) (row new : PayloadParams) (choice : Option PayloadParams) → placed taken unlocked receives row choice ≡ Ok new → row.locked ≡ true → (new.locked ≡ true) × (types_of new ≡ types_of row)
-unfolding placed
 placed-locked taken unlocked receives row new None h l =
-    let e = same_Ok row new h in (ap (λ r. r.locked) (sym e) ∙ l, ap types_of (sym e))
+    let e = placed-no_choice taken unlocked receives row new h in (ap (λ r. r.locked) (sym e) ∙ l, ap types_of (sym e))
 placed-locked taken unlocked receives row new (Some c) h l =
-    let e = same_Ok (record row { spec = narrowed row.spec c.spec }) new (sym (ap (λ b. cond b (Ok (record row { spec = narrowed row.spec c.spec })) (locked_to taken unlocked receives row c)) l) ∙ h) in
+    let e = same_Ok (record row { spec = narrowed row.spec c.spec }) new (sym (placed-locked_row taken unlocked receives row c l) ∙ h) in
     (ap (λ r. r.locked) (sym e) ∙ l, ap types_of (sym e))
 
 pub placed-open : (taken unlocked : TypeSet) (receives : Bool) (row new : PayloadParams) (choice : Option PayloadParams) → placed taken unlocked receives row choice ≡ Ok new → row.locked ≡ false → (new ≡ row) ⊎ (new.locked ≡ true)
-unfolding placed
-placed-open taken unlocked receives row new None h l = inl (sym (same_Ok row new h))
-placed-open taken unlocked receives row new (Some c) h l =
-    inr (locked_to-locks taken unlocked receives row c new (sym (ap (λ b. cond b (Ok (record row { spec = narrowed row.spec c.spec })) (locked_to taken unlocked receives row c)) l) ∙ h))
+placed-open taken unlocked receives row new None h l = inl (sym (placed-no_choice taken unlocked receives row new h))
+placed-open taken unlocked receives row new (Some c) h l = inr (locked_to-locks taken unlocked receives row c new (sym (placed-open_row taken unlocked receives row c l) ∙ h))
 
 -- what a row adds to the types that are taken
 pub taken-push : (taken unlocked : TypeSet) (receives : Bool) (before done : List PayloadParams) (i : ℕ) (row new : PayloadParams) (choice : Option PayloadParams) → slice_get before i ≡ Some row → placed taken unlocked receives row choice ≡ Ok new
     → (if new.locked && not row.locked then either (taken_by before done) (has (types_of new)) else taken_by before done) ≡ taken_by before (done ++ new ∷ [])
-taken-push taken unlocked receives before done i row new choice at_row h = go row.locked new.locked refl refl where
+taken-push taken unlocked receives before done i row new choice at_row h = go row.locked new.locked covered ∙ sym all where
   longer : locked_types before ++ locked_types (done ++ new ∷ []) ≡ (locked_types before ++ locked_types done) ++ cond new.locked (types_of new) []
   longer = ap (λ ts. locked_types before ++ ts) (locked_types-push done new) ∙ sym (append_assoc (locked_types before) (locked_types done) (cond new.locked (types_of new) []))
 
   all : taken_by before (done ++ new ∷ []) ≡ either (taken_by before done) (has (cond new.locked (types_of new) []))
   all = ap has longer ∙ has-append (locked_types before ++ locked_types done) (cond new.locked (types_of new) [])
 
-  none_more : new.locked ≡ false → either (taken_by before done) (has (cond new.locked (types_of new) [])) ≡ taken_by before done
-  none_more e = ap (λ b. either (taken_by before done) (has (cond b (types_of new) []))) e ∙ either-covered (taken_by before done) [] (λ t f. absurd (false≢true f))
-
-  go : (b n : Bool) → row.locked ≡ b → new.locked ≡ n → (if new.locked && not row.locked then either (taken_by before done) (has (types_of new)) else taken_by before done) ≡ taken_by before (done ++ new ∷ [])
-  go b false eb en = ap (λ x. cond (x && not row.locked) (either (taken_by before done) (has (types_of new))) (taken_by before done)) en ∙ sym (all ∙ none_more en)
-  go false true eb en =
-      ap (λ x. cond (x && not row.locked) (either (taken_by before done) (has (types_of new))) (taken_by before done)) en
-      ∙ ap (λ x. cond (not x) (either (taken_by before done) (has (types_of new))) (taken_by before done)) eb
-      ∙ sym (all ∙ ap (λ x. either (taken_by before done) (has (cond x (types_of new) []))) en)
-  go true true eb en =
-      ap (λ x. cond (x && not row.locked) (either (taken_by before done) (has (types_of new))) (taken_by before done)) en
-      ∙ ap (λ x. cond (not x) (either (taken_by before done) (has (types_of new))) (taken_by before done)) eb
-      ∙ sym (all ∙ ap (λ x. either (taken_by before done) (has (cond x (types_of new) []))) en
-      ∙ either-covered (taken_by before done) (types_of new)
+  covered : row.locked ≡ true → either (taken_by before done) (has (types_of new)) ≡ taken_by before done
+  covered l =
+      either-covered (taken_by before done) (types_of new)
       (λ t ht. ap (λ f. f t) (has-append (locked_types before) (locked_types done))
-      ∙ ap (λ x. x || has (locked_types done) t) (locked_types-at before i row t at_row eb (ap (λ ts. has ts t) (sym (placed-locked taken unlocked receives row new choice h eb).1) ∙ ht))))
+      ∙ ap (λ x. x || has (locked_types done) t) (locked_types-at before i row t at_row l (ap (λ ts. has ts t) (sym (placed-locked taken unlocked receives row new choice h l).1) ∙ ht)))
+
+  go : (b n : Bool) → (b ≡ true → either (taken_by before done) (has (types_of new)) ≡ taken_by before done)
+      → (if n && not b then either (taken_by before done) (has (types_of new)) else taken_by before done) ≡ either (taken_by before done) (has (cond n (types_of new) []))
+  go b false h = sym (either-covered (taken_by before done) [] (λ t f. absurd (false≢true f)))
+  go false true h = refl
+  go true true h = sym (h refl)
 
 -- ---- between two rows
 
@@ -154,6 +176,4 @@ first_stops before remote receives rows i claimed unlocked row choice cause may 
 -- a fact of the error, where a result is that error
 pub IfErr_from : {A : Type 0} (result : Result A NegotiationError) (cause : NegotiationError) (P : NegotiationError → Type 0) → result ≡ Err cause → P cause → IfErr result P
 IfErr_from (Ok x) cause P h p = tt
-IfErr_from (Err e) cause P h p = let same : cause ≡ e = sym (same_Err e cause h) in subst P same p where
-  same_Err : {B : Type 0} (a b : NegotiationError) → ◌≡◌ {A = Result B NegotiationError} (Err a) (Err b) → a ≡ b
-  same_Err a b e = cc
+IfErr_from (Err e) cause P h p = subst P (sym (same_Err e cause h)) p

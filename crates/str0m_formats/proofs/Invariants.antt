@@ -1,80 +1,42 @@
 -- What holds of the locked rows after every accepted round.
-use Rattle.str0m_formats.proofs.Common.{zero, suc, ◌≡◌, ◌==◌, ℕ, ◌+◌, ◌<◌, ◌≤◌, ◌⊎◌, inl, inr, Bool, true, false, not, ◌||◌, cond, List, [], ◌∷◌, ◌++◌, length, take, Option, Some, None, Ok, Err, filter, refl, sym, ap, ◌∙◌, subst, arith, slice_get, option_to_list, ok_or, true≢false, cases_Bool, or_parts, or_left, eqb-true}
-use Rattle.str0m_formats.specs.declared.negotiation_error.NegotiationError.TheVariants.{Exhausted, ClaimedTwice}
+use Rattle.str0m_formats.proofs.Common.{zero, suc, ◌≡◌, ◌==◌, ℕ, ◌+◌, ◌<◌, ◌≤◌, ◌⊎◌, inl, inr, Bool, true, false, not, cond, List, [], ◌∷◌, ◌++◌, length, take, Option, Some, None, Ok, IfSome, filter, refl, sym, ap, ◌∙◌, subst, arith, slice_get, option_to_list, true≢false, cases_Bool, or_parts, or_left, or-false, eqb-true, append-nil, take_all, IfOk-at_ok}
 use Rattle.str0m_formats.specs.declared.payload_params.PayloadParams.{PayloadParams}
 use Rattle.str0m_formats.specs.TypeSets.{TypeSet, has, with_type, with_option, either, free, times, AllDistinct}
 use Rattle.str0m_formats.specs.Codec.{Content, audio, content}
 use Rattle.str0m_formats.specs.Rows.{types_of, types, locked_types, open_types}
-use Rattle.str0m_formats.specs.Rounds.{own_or_free, role_type, rtx_type, red_type, only_audio, locked_to, placed, taken_by, taken_after, AllBegun, Leaves}
+use Rattle.str0m_formats.specs.Rounds.{red_type, only_audio, locked_to, placed, taken_by, taken_after, AllBegun, Leaves}
 use Rattle.str0m_formats.specs.Promises.{LockedStandAlone}
-use Rattle.str0m_formats.proofs.Sets.{free-small}
+use Rattle.str0m_formats.proofs.Sets.{free-small, type-is, two-are}
 use Rattle.str0m_formats.proofs.Passes.{none_within}
 use Rattle.str0m_formats.proofs.RowSets.{has-append}
-use Rattle.str0m_formats.proofs.FirstPass.{locked_to-locks, and_then-ok, same_Ok, placed-locked}
+use Rattle.str0m_formats.proofs.FirstPass.{locked_to-locks, placed-locked, placed-open_row, placed-no_choice, locked_parts}
 use Rattle.str0m_formats.proofs.ClaimSteps.{distinct_push}
-use Rattle.str0m_formats.proofs.Times.{times-append, times-cons, times-nil, times-none}
+use Rattle.str0m_formats.proofs.Times.{times-append, times-cons, times-nil, times-none, times-some}
 use Rattle.str0m_formats.proofs.WholeRound.{row_before}
-use Rattle.str0m_formats.proofs.OneOutcome.{times-some, take_all}
-use Rattle.str0m_formats.proofs.SecondPass.{settled-locked}
-use Rattle.str0m_formats.proofs.RowSteps.{found, not_ok, settled-same, placed-open_row, placed-no_choice, locked_parts, settled_parts}
+use Rattle.str0m_formats.proofs.SecondPass.{settled-locked, settled-same, settled_parts}
+use Rattle.str0m_formats.proofs.RowSteps.{role-given, rtx-given, red-given}
 use Rattle.str0m_formats.proofs.OpenRows.{row-apart}
-use Rattle.str0m_formats.proofs.RowCounts.{Standing, standing_step, times_where-drop}
+use Rattle.str0m_formats.proofs.RowCounts.{Standing, standing_step, times_where-drop, times-split}
 
 -- ---- the types of a row that is locked are new, and differ
 
-role-fresh : (taken unlocked : TypeSet) (receives : Bool) (asked : ℕ) (own : Option ℕ) (t : ℕ) → role_type taken unlocked receives asked own ≡ Ok t → taken t ≡ false
-unfolding role_type
-role-fresh taken unlocked receives asked own t h = go (taken asked) refl h where
-  free_fresh : ok_or (free (either taken unlocked)) Exhausted ≡ Ok t → taken t ≡ false
-  free_fresh k = (or_parts (taken t) (unlocked t) (free-small (either taken unlocked) t (found (free (either taken unlocked)) t k)).1).0
+abbrev IsNew : TypeSet → ℕ → Type 0
+IsNew taken t = taken t ≡ false
 
-  own_fresh : (o : Option ℕ) → own_or_free taken unlocked o ≡ Ok t → taken t ≡ false
-  own_fresh None k = free_fresh k
-  own_fresh (Some x) k = of (taken x) refl k where
-    of : (b : Bool) → taken x ≡ b → cond b (ok_or (free (either taken unlocked)) Exhausted) (Ok x) ≡ Ok t → taken t ≡ false
-    of true e q = free_fresh q
-    of false e q = ap taken (sym (same_Ok x t q)) ∙ e
+free-new : (taken unlocked : TypeSet) (t : ℕ) → free (either taken unlocked) ≡ Some t → IsNew taken t
+free-new taken unlocked t e = (or_parts (taken t) (unlocked t) (free-small (either taken unlocked) t e).1).0
 
-  asked_taken : (b : Bool) → cond b (Err (ClaimedTwice asked)) (own_or_free taken unlocked own) ≡ Ok t → taken t ≡ false
-  asked_taken true k = absurd (not_ok k)
-  asked_taken false k = own_fresh own k
-
-  go : (b : Bool) → taken asked ≡ b → cond b (cond receives (Err (ClaimedTwice asked)) (own_or_free taken unlocked own)) (Ok asked) ≡ Ok t → taken t ≡ false
-  go true e k = asked_taken receives k
-  go false e k = ap taken (sym (same_Ok asked t k)) ∙ e
-
-abbrev Fresh : TypeSet → Option ℕ → Type 0
-Fresh taken None = Unit {0}
-Fresh taken (Some t) = taken t ≡ false
-
-rtx-fresh : (taken unlocked : TypeSet) (receives : Bool) (asked own r : Option ℕ) → rtx_type taken unlocked receives asked own ≡ Ok r → Fresh taken r
-unfolding rtx_type
-rtx-fresh taken unlocked receives None own r h = subst (Fresh taken) (same_Ok None r h) tt
-rtx-fresh taken unlocked receives (Some asked) own r h =
-    let got = and_then-ok (role_type taken unlocked receives asked own) (λ t. Ok (Some t)) r h in
-    subst (Fresh taken) (same_Ok (Some got.0) r got.2) (role-fresh taken unlocked receives asked own got.0 got.1)
-
-red-fresh : (taken unlocked : TypeSet) (receives : Bool) (asked own : Option ℕ) → Fresh taken (red_type taken unlocked receives asked own)
-unfolding red_type
-red-fresh taken unlocked receives None own = tt
-red-fresh taken unlocked receives (Some asked) None = tt
-red-fresh taken unlocked receives (Some asked) (Some own) = go (taken asked) refl receives where
-  of : (o : Option ℕ) → free (either taken unlocked) ≡ o → Fresh taken o
-  of None e = tt
-  of (Some x) e = (or_parts (taken x) (unlocked x) (free-small (either taken unlocked) x e).1).0
-
-  go : (b : Bool) → taken asked ≡ b → (c : Bool) → Fresh taken (cond b (cond c None (free (either taken unlocked))) (Some asked))
-  go true e true = tt
-  go true e false = of (free (either taken unlocked)) refl
-  go false e c = e
+itself : (taken : TypeSet) (o : Option ℕ) → IfSome o (λ t. taken t ≡ false → IsNew taken t)
+itself taken None = tt
+itself taken (Some t) = λ new. new
 
 -- a primary, then an RTX and a RED that are new beside what came before: each stands once, and none is taken
 abbrev NewTypes : TypeSet → List ℕ → Type 0
 NewTypes taken new = AllDistinct new × ((t : ℕ) → taken t ≡ true → times new t ≡ 0)
 
-new_push : (taken set : TypeSet) (ls : List ℕ) (x : ℕ) → NewTypes taken ls → ((t : ℕ) → set t ≡ (taken t || has ls t)) → set x ≡ false → NewTypes taken (ls ++ x ∷ [])
-new_push taken set ls x n is fresh =
-    let parts = or_parts (taken x) (has ls x) (sym (is x) ∙ fresh) in
+new_push : (taken : TypeSet) (ls : List ℕ) (x : ℕ) → NewTypes taken ls → IsNew (either taken (has ls)) x → NewTypes taken (ls ++ x ∷ [])
+new_push taken ls x n fresh =
+    let parts = or_parts (taken x) (has ls x) fresh in
     (distinct_push ls x n.0 parts.1, λ t h. go t h (x == t) refl parts.0) where
       go : (t : ℕ) → taken t ≡ true → (b : Bool) → (x == t) ≡ b → taken x ≡ false → times (ls ++ x ∷ []) t ≡ 0
       go t h true e f = absurd (true≢false (sym h ∙ ap taken (sym (eqb-true x t e)) ∙ f))
@@ -82,42 +44,23 @@ new_push taken set ls x n is fresh =
           let none : cond {A = ℕ} (x == t) 1 0 ≡ 0 = ap (λ b. cond {A = ℕ} b 1 0) e in
           omega (arith, times-append ls (x ∷ []) t, times-cons x [] t, times-nil t, none, n.1 t h)
 
-or_nil : (a : Bool) → a ≡ (a || false)
-or_nil true = refl
-or_nil false = refl
-
-or_one : (a b : Bool) → (a || b) ≡ (a || (b || false))
-or_one true b = refl
-or_one false true = refl
-or_one false false = refl
-
-or_both : (a b c : Bool) → ((a || b) || c) ≡ (a || (b || (c || false)))
-or_both true b c = refl
-or_both false true c = refl
-or_both false false true = refl
-or_both false false false = refl
-
-new_primary : (taken : TypeSet) (p : ℕ) → taken p ≡ false → NewTypes taken (p ∷ [])
-new_primary taken p h = new_push taken taken [] p ((λ t. omega (arith, times-nil t)), (λ t k. refl)) (λ t. or_nil (taken t)) h
-
--- a primary, then an RTX and a RED, each new beside what came before
-new_types : (taken : TypeSet) (p : ℕ) (x r : Option ℕ) → taken p ≡ false → Fresh (with_type taken p) x → Fresh (with_option (with_type taken p) x) r → NewTypes taken (p ∷ (option_to_list x ++ option_to_list r))
-new_types taken p None None hp hx hr = new_primary taken p hp
-new_types taken p None (Some r) hp hx hr = new_push taken (with_type taken p) (p ∷ []) r (new_primary taken p hp) (λ t. or_one (taken t) (p == t)) hr
-new_types taken p (Some x) None hp hx hr = new_push taken (with_type taken p) (p ∷ []) x (new_primary taken p hp) (λ t. or_one (taken t) (p == t)) hx
-new_types taken p (Some x) (Some r) hp hx hr =
-    new_push taken (with_type (with_type taken p) x) (p ∷ x ∷ []) r (new_push taken (with_type taken p) (p ∷ []) x (new_primary taken p hp) (λ t. or_one (taken t) (p == t)) hx) (λ t. or_both (taken t) (p == t) (x == t)) hr
+new_option : (taken set : TypeSet) (ls : List ℕ) (o : Option ℕ) → NewTypes taken ls → set ≡ either taken (has ls) → IfSome o (IsNew set) → NewTypes taken (ls ++ option_to_list o)
+new_option taken set ls None n is h = subst (NewTypes taken) (sym (append-nil ls)) n
+new_option taken set ls (Some x) n is h = new_push taken ls x n (ap (λ s. s x) (sym is) ∙ h)
 
 pub locked_to-new : (taken unlocked : TypeSet) (receives : Bool) (row choice new : PayloadParams) → locked_to taken unlocked receives row choice ≡ Ok new → NewTypes taken (types_of new)
 locked_to-new taken unlocked receives row choice new h =
     let parts = locked_parts taken unlocked receives row choice new h in
-    let taken2 = with_option (with_type taken parts.pt) parts.resend in
-    let red = red_type taken2 unlocked receives choice.red row.red in
+    let one = with_type taken parts.pt in
+    let two = with_option one parts.resend in
+    let pt : IsNew taken parts.pt = IfOk-at_ok (IsNew taken) parts.pt_is (role-given (IsNew taken) taken unlocked (free-new taken unlocked) receives choice.pt (Some row.pt) (λ new. new) (λ new. new)) in
+    let resend : IfSome parts.resend (IsNew one) = IfOk-at_ok (λ o. IfSome o (IsNew one)) parts.resend_is (rtx-given (IsNew one) one unlocked (free-new one unlocked) receives choice.resend row.resend (itself one choice.resend) (itself one row.resend)) in
+    let red : IfSome (red_type two unlocked receives choice.red row.red) (IsNew two) = red-given (IsNew two) two unlocked (free-new two unlocked) receives choice.red row.red (itself two choice.red) in
     let New : PayloadParams → Type 0 = λ r. NewTypes taken (types_of r) in
-    subst New parts.all
-    (new_types taken parts.pt parts.resend (only_audio (content row.spec.codec) red) (role-fresh taken unlocked receives choice.pt (Some row.pt) parts.pt parts.pt_is)
-    (rtx-fresh (with_type taken parts.pt) unlocked receives choice.resend row.resend parts.resend parts.resend_is) (kept taken2 red (red-fresh taken2 unlocked receives choice.red row.red) (content row.spec.codec))) where
-      kept : (set : TypeSet) (o : Option ℕ) → Fresh set o → (c : Content) → Fresh set (only_audio c o)
+    let primary : NewTypes taken (parts.pt ∷ []) = new_push taken [] parts.pt ((λ t. omega (arith, times-nil t)), (λ t k. refl)) (or-false (taken parts.pt) ∙ pt) in
+    let pair : NewTypes taken (parts.pt ∷ option_to_list parts.resend) = new_option taken one (parts.pt ∷ []) parts.resend primary (type-is taken parts.pt) resend in
+    subst New parts.all (new_option taken two (parts.pt ∷ option_to_list parts.resend) _ pair (two-are taken parts.pt parts.resend) (kept two _ red (content row.spec.codec))) where
+      kept : (set : TypeSet) (o : Option ℕ) → IfSome o (IsNew set) → (c : Content) → IfSome (only_audio c o) (IsNew set)
       kept set o f audio = f
       kept set o f _ = tt
 
@@ -174,7 +117,7 @@ standing_once before remote receives mid m (suc i) h t = standing_next before re
 pub locked_distinct : (before remote : List PayloadParams) (receives : Bool) (mid : List PayloadParams) → AllBegun before remote receives mid → AllDistinct (locked_types mid)
 locked_distinct before remote receives mid m = λ t.
     let all = standing_once before remote receives mid m (length mid) (omega arith) t in
-    let front : times (locked_types (take (length mid) mid)) t ≡ times (locked_types mid) t = ap (λ xs. times (locked_types xs) t) (take_all mid) in
+    let front : times (locked_types (take (length mid) mid)) t ≡ times (locked_types mid) t = ap (λ xs. times (locked_types xs) t) (take_all (length mid) mid (omega arith)) in
     omega (arith, all, front)
 
 -- ---- after the second pass
@@ -202,15 +145,6 @@ locked_after before remote receives after r =
 pub locked_once : (before remote : List PayloadParams) (receives : Bool) (after : List PayloadParams) → Leaves before remote receives after → AllDistinct (locked_types after)
 locked_once before remote receives after r = subst AllDistinct (sym (locked_after before remote receives after r)) (locked_distinct before remote receives r.mid r.first)
 
--- how often a type stands among all roles
-pub roles_split : (rows : List PayloadParams) (t : ℕ) → times (types rows) t ≡ times (locked_types rows) t + times (open_types rows) t
-roles_split [] t = omega (arith, times-nil t)
-roles_split (r ∷ rows) t = go r.locked (roles_split rows t) (times-append (types_of r) (types rows) t) where
-  go : (b : Bool) → times (types rows) t ≡ times (locked_types rows) t + times (open_types rows) t → times (types (r ∷ rows)) t ≡ times (types_of r) t + times (types rows) t
-      → times (types (r ∷ rows)) t ≡ times (types (cond b (r ∷ filter (λ x. x.locked) rows) (filter (λ x. x.locked) rows))) t + times (types (cond (not b) (r ∷ filter (λ x. not x.locked) rows) (filter (λ x. not x.locked) rows))) t
-  go true rec s = omega (arith, rec, s, times-append (types_of r) (locked_types rows) t)
-  go false rec s = omega (arith, rec, s, times-append (types_of r) (open_types rows) t)
-
 open_none : (rows : List PayloadParams) (t : ℕ) → ((i : ℕ) (row : PayloadParams) → slice_get rows i ≡ Some row → row.locked ≡ false → times (types_of row) t ≡ 0) → times (open_types rows) t ≡ 0
 open_none [] t h = times-nil t
 open_none (r ∷ rows) t h = go (open_none rows t (λ i row e l. h (suc i) row e l)) r.locked refl where
@@ -231,4 +165,4 @@ locked_alone before remote receives after r t h =
     let s = r.second.each i between.0 row between.1 at_row in
     row-apart locked (taken_after r.mid (take i after)) (has (open_types before)) between.0 row (settled_parts _ _ _ between.0 row s (sym (settled-locked _ _ _ between.0 row s) ∙ is_open)) t l
     (ap (λ f. f t) (has-append (locked_types r.mid) (open_types (take i after))) ∙ or_left (locked t) (has (open_types (take i after)) t) l)) in
-    omega (arith, roles_split after t, open_row, locked_once before remote receives after r t, times-some (locked_types after) t h)
+    omega (arith, times-split after t, open_row, locked_once before remote receives after r t, times-some (locked_types after) t h)

@@ -5,8 +5,9 @@ use Rattle.str0m_formats.specs.TypeSets.{TypeSet}
 use Rattle.str0m_formats.specs.Narrowing.{narrowed}
 use Rattle.str0m_formats.specs.Rounds.{placed, Leaves}
 use Rattle.str0m_formats.specs.Promises.{StaysLocked, LockedStay}
-use Rattle.str0m_formats.proofs.FirstPass.{same_Ok}
-use Rattle.str0m_formats.proofs.RowSteps.{row_steps, placed-locked_row, placed-no_choice, settled-same}
+use Rattle.str0m_formats.proofs.FirstPass.{same_Ok, placed-locked_row, placed-no_choice}
+use Rattle.str0m_formats.proofs.RowSteps.{row_steps}
+use Rattle.str0m_formats.proofs.SecondPass.{settled-same}
 
 placed-stays : (taken unlocked : TypeSet) (receives : Bool) (row new : PayloadParams) (choice : Option PayloadParams) → placed taken unlocked receives row choice ≡ Ok new → row.locked ≡ true → StaysLocked row new
 placed-stays taken unlocked receives row new None h l = subst (StaysLocked row) (placed-no_choice taken unlocked receives row new h) (record { locked = l; primary = refl; resend = refl; red = refl })

@@ -1,5 +1,5 @@
 -- Sets of payload types as the bits of a number.
-use Rattle.str0m_formats.proofs.Common.{◌≡◌, ◌==◌, ℕ, ◌+◌, ◌-◌, ◌*◌, ◌%◌, ◌^◌, ◌<◌, ◌≤◌, ◌⊎◌, inl, inr, Bool, true, false, not, ◌||◌, bit_or, List, ◌++◌, [], Option, Some, None, find, refl, sym, ap, ◌∙◌, arith, lit<, range_with_len, option_or, bit_at, eq-eqb, ne_eqb, bit_at-lt, bit_at_set_same, bit_at_set_other, bit_at-zero, or_lt, nat_tests}
+use Rattle.str0m_formats.proofs.Common.{◌≡◌, ◌==◌, ℕ, ◌+◌, ◌-◌, ◌*◌, ◌%◌, ◌^◌, ◌<◌, ◌≤◌, ◌⊎◌, inl, inr, Bool, false, not, ◌||◌, bit_or, List, ◌++◌, [], Option, Some, None, find, refl, sym, ap, ◌∙◌, arith, lit<, range_with_len, option_or, bit_at, eq-eqb, ne_eqb, bit_at-lt, bit_at_set_same, bit_at_set_other, bit_at-zero, or_lt, or-false, or-true, find-append, nat_tests}
 use Rattle.std.proofs.Common.{bit_and, min, max}
 use Rattle.std.specs.Int.{bit_not, trailing_zeros, w128}
 use Rattle.std.proofs.lemmas.Bool.{cases_eq}
@@ -7,30 +7,22 @@ use Rattle.std.proofs.lemmas.Nat.Bits.{bit_at_and, bit_at_or, bit_at_not, bit_at
 use Rattle.std.proofs.lemmas.Nat.Bits.{bit_at-trailing_zeros, bit_at_cat_low, bit_at_mask_inside}
 use Rattle.str0m_formats.specs.ClaimMask.{bit_set, least_bit}
 use Rattle.str0m_formats.specs.TypeSets.{free, preferred}
-use Rattle.str0m_formats.proofs.Ranges.{find-range_skips, find-range_cut, find-range_here, find-append}
+use Rattle.str0m_formats.proofs.Ranges.{find-range_skips, find-range_cut, find-range_here}
 
 -- ---- one type
 
 -- a set with one bit more has that type, and else what it had
 pub set_bit : (n k t : ℕ) → k < 128 → bit_set (bit_or n (1 * 2 ^ k % 2 ^ 128)) t ≡ (bit_set n t || (k == t))
 set_bit n k t h = go (cases_eq t k) where
-  or_false : (b : Bool) → b ≡ (b || false)
-  or_false true = refl
-  or_false false = refl
-
-  or_true : (b : Bool) → true ≡ (b || true)
-  or_true true = refl
-  or_true false = refl
-
   go : (t ≡ k) ⊎ (t ≡ k → ⊥) → bit_set (bit_or n (1 * 2 ^ k % 2 ^ 128)) t ≡ (bit_set n t || (k == t))
   go (inl e) =
       ap (bit_set (bit_or n (1 * 2 ^ k % 2 ^ 128))) e
       ∙ eq-eqb _ 1 (bit_at_set_same w128 n k h)
-      ∙ or_true (bit_set n t)
+      ∙ sym (or-true (bit_set n t))
       ∙ ap (λ b. bit_set n t || b) (sym (eq-eqb k t (sym e)))
   go (inr ne) =
       ap (λ x. x == 1) (bit_at_set_other w128 n k h t ne)
-      ∙ or_false (bit_set n t)
+      ∙ sym (or-false (bit_set n t))
       ∙ ap (λ b. bit_set n t || b) (sym (ne_eqb k t (λ e. ne (sym e))))
 
 -- no type from 128 on

@@ -1,7 +1,6 @@
 -- Which rows a round locks, and at which types.
-use Rattle.str0m_formats.proofs.Common.{zero, ◌≡◌, ◌≢◌, ℕ, Bool, true, false, not, ◌&&◌, cond, List, ◌∷◌, Option, Some, None, Ok, Err, refl, sym, ap, ◌∙◌, subst, arith, true≢false, false≢true, All-contains, fun_ext}
+use Rattle.str0m_formats.proofs.Common.{◌≡◌, ◌≢◌, ℕ, Bool, true, false, not, ◌&&◌, cond, List, Option, Some, None, Ok, Err, refl, sym, ap, ◌∙◌, subst, true≢false, false≢true, All-contains, fun_ext}
 use Rattle.std.specs.Prelude.{Contains}
-use Rattle.std.proofs.lemmas.List.Elements.{Contains-append_right}
 use Rattle.str0m_formats.specs.declared.codec.Codec.{Codec}
 use Rattle.str0m_formats.specs.declared.codec.Codec.TheVariants.{AmrWb}
 use Rattle.str0m_formats.specs.declared.negotiation_error.NegotiationError.TheVariants.{ClaimedTwice}
@@ -12,10 +11,11 @@ use Rattle.str0m_formats.specs.Choices.{IsBest, IsChoice, points_for}
 use Rattle.str0m_formats.specs.Codec.{is_amr_wb}
 use Rattle.str0m_formats.specs.Rounds.{role_type, rtx_type, placed, Leaves}
 use Rattle.str0m_formats.specs.Promises.{IsMatched, MatchedAreLocked, HasTypesOf, LockedAtBest}
-use Rattle.str0m_formats.proofs.FirstPass.{and_then-ok, same_Ok, locked_to-locks}
-use Rattle.str0m_formats.proofs.SecondPass.{settled-locked}
+use Rattle.str0m_formats.proofs.Passes.{split_has}
+use Rattle.str0m_formats.proofs.FirstPass.{and_then-ok, same_Ok, locked_to-locks, placed-open_row, placed-no_choice, locked_parts}
+use Rattle.str0m_formats.proofs.SecondPass.{settled-locked, not_ok, settled-same}
 use Rattle.str0m_formats.proofs.LockedStays.{locked_stay}
-use Rattle.str0m_formats.proofs.RowSteps.{RowSteps, row_steps, placed-open_row, placed-no_choice, locked_parts, not_ok, settled-same}
+use Rattle.str0m_formats.proofs.RowSteps.{RowSteps, row_steps}
 
 -- ---- when a remote row's points are its score
 
@@ -96,12 +96,6 @@ AtBest remote old new =
     (best : PayloadParams) × HasTypesOf new best × Contains remote best × (score old.spec best.spec ≢ None)
     × (old.spec.codec ≢ AmrWb → IsBest (λ theirs. score old.spec theirs.spec) remote best)
 
-best_contained : (points : PayloadParams → Option ℕ) (rows : List PayloadParams) (best : PayloadParams) → IsBest points rows best → Contains rows best
-best_contained points rows best it =
-    let here : Contains (best ∷ it.after) best = (zero, omega arith, refl) in
-    let P : List PayloadParams → Type 0 = λ xs. Contains xs best in
-    subst P (sym it.split) (Contains-append_right it.before (best ∷ it.after) best here)
-
 placed-at_best : (taken unlocked : TypeSet) (remote : List PayloadParams) (row new : PayloadParams) (choice : Option PayloadParams) → IsChoice (points_for taken true row) remote choice → placed taken unlocked true row choice ≡ Ok new
     → row.locked ≡ false → new.locked ≡ true → AtBest remote row new
 placed-at_best taken unlocked remote row new None none h l k = absurd (true≢false (sym k ∙ ap (λ r. r.locked) (sym (placed-no_choice taken unlocked true row new h)) ∙ l))
@@ -112,7 +106,7 @@ placed-at_best taken unlocked remote row new (Some c) best h l k =
     let Best : (PayloadParams → Option ℕ) → Type 0 = λ points. IsBest points remote c in (
       c,
       (primary, resend),
-      best_contained (points_for taken true row) remote c best,
+      split_has remote best.before c best.after best.split,
       some_score taken true row c best.most best.has_most,
       λ not_amr. subst Best (fun_ext (λ theirs. points-score taken true row theirs (may_leave-false true row (λ _ amr. absurd (not_amr amr))))) best,
     )

@@ -1,6 +1,5 @@
 -- A round has one outcome: one list of rows, or one cause.
-use Rattle.str0m_formats.proofs.Common.{◌≡◌, ◌==◌, ℕ, ◌<◌, ◌≤◌, ◌⊎◌, inl, inr, Bool, true, cond, find, nat_lt, List, [], ◌∷◌, ◌++◌, length, take, get_or, Option, Some, None, Result, Ok, Err, IfSome, All, refl, sym, ap, ◌∙◌, subst, arith, slice_get, slice_get_within, same_Some, cases_order, true≢false, or_cases, eq-eqb}
-use Rattle.std.proofs.lemmas.List.{get_or_at}
+use Rattle.str0m_formats.proofs.Common.{◌≡◌, ◌==◌, ℕ, ◌<◌, ◌≤◌, ◌⊎◌, inl, inr, Bool, true, cond, find, nat_lt, List, [], ◌∷◌, ◌++◌, length, take, Option, Some, None, Result, Ok, Err, IfSome, All, refl, sym, ap, ◌∙◌, subst, arith, slice_get, slice_get_within, none-some, same_Some, All-contains, take_all, cases_order, eq-eqb}
 use Rattle.str0m_formats.specs.declared.negotiation_error.NegotiationError.{NegotiationError}
 use Rattle.str0m_formats.specs.declared.negotiation_error.NegotiationError.TheVariants.{TypeTooLarge, ClaimedTwice}
 use Rattle.str0m_formats.specs.declared.payload_params.PayloadParams.{PayloadParams}
@@ -8,8 +7,9 @@ use Rattle.str0m_formats.specs.TypeSets.{TypeSet, has, times, AllDistinct}
 use Rattle.str0m_formats.specs.Rows.{AllSmall, types, locked_types, open_types}
 use Rattle.str0m_formats.specs.Choices.{IsChoice, points_for}
 use Rattle.str0m_formats.specs.Rounds.{taken_by, taken_after, settled, placed, Becomes, MayBegin, AllBegun, Settled, StopsFirst, StopsSettling, StopsSecond, Leaves, IsFirstRepeat, LeavesOnly, RefusedOnly, Refused, too_large, twice_before, in_first, in_second}
-use Rattle.str0m_formats.proofs.Passes.{EachPlace, each_same, none_within}
-use Rattle.str0m_formats.proofs.Times.{times-append, times-cons}
+use Rattle.str0m_formats.proofs.Passes.{EachPlace, split_has, each_same, none_within}
+use Rattle.str0m_formats.proofs.FirstPass.{same_Ok, same_Err}
+use Rattle.str0m_formats.proofs.Times.{times-append, times-cons, times-some}
 
 -- ---- two splits of one list
 
@@ -35,13 +35,7 @@ split_order {A} (x ∷ xs) (z ∷ zs) a b ys us h =
       go f (inr (inr s)) = inr (inr (s.0, cc, s.2))
 
 all_at_split : {A : Type 0} (P : A → Type 0) (zs xs : List A) (y : A) (ys : List A) → zs ≡ xs ++ y ∷ ys → All P zs → P y
-all_at_split {A} P zs xs y ys e all =
-    let at : get_or zs (length xs) y ≡ y = ap (λ l. get_or l (length xs) y) e ∙ get_or_at xs y ys y (length xs) refl in
-    let long : length xs < length zs = slice_get_within zs (length xs) y (ap (λ l. slice_get l (length xs)) e ∙ there xs) in
-    subst P at (all (length xs) y long) where
-      there : (ps : List A) → slice_get (ps ++ y ∷ ys) (length ps) ≡ Some y
-      there [] = refl
-      there (p ∷ ps) = there ps
+all_at_split P zs xs y ys e all = All-contains P zs y all (split_has zs xs y ys e)
 
 score_of : (o : Option ℕ) (P : ℕ → Type 0) (n : ℕ) → o ≡ Some n → IfSome o P → P n
 score_of o P n e h = let Q : Option ℕ → Type 0 = λ v. IfSome v P in subst Q e h
@@ -51,13 +45,9 @@ score_of o P n e h = let Q : Option ℕ → Type 0 = λ v. IfSome v P in subst Q
 pub choice_unique : (points : PayloadParams → Option ℕ) (rows : List PayloadParams) (a b : Option PayloadParams) → IsChoice points rows a → IsChoice points rows b → a ≡ b
 choice_unique points rows None None ha hb = refl
 choice_unique points rows None (Some b) ha hb =
-    let none : points b ≡ None = all_at_split (λ r. points r ≡ None) rows hb.before b hb.after hb.split ha in absurd (no_score (sym none ∙ hb.has_most)) where
-      no_score : {n : ℕ} → ◌≡◌ {A = Option ℕ} None (Some n) → ⊥
-      no_score e = cc
+    let none : points b ≡ None = all_at_split (λ r. points r ≡ None) rows hb.before b hb.after hb.split ha in absurd (none-some hb.most (sym none ∙ hb.has_most))
 choice_unique points rows (Some a) None ha hb =
-    let none : points a ≡ None = all_at_split (λ r. points r ≡ None) rows ha.before a ha.after ha.split hb in absurd (no_score (sym none ∙ ha.has_most)) where
-      no_score : {n : ℕ} → ◌≡◌ {A = Option ℕ} None (Some n) → ⊥
-      no_score e = cc
+    let none : points a ≡ None = all_at_split (λ r. points r ≡ None) rows ha.before a ha.after ha.split hb in absurd (none-some ha.most (sym none ∙ ha.has_most))
 choice_unique points rows (Some a) (Some b) ha hb = go (split_order ha.before hb.before a b ha.after hb.after (sym ha.split ∙ hb.split)) where
   go : ((ha.before ≡ hb.before) × (a ≡ b)) ⊎ (((w : List PayloadParams) × (hb.before ≡ ha.before ++ a ∷ w) × (ha.after ≡ w ++ b ∷ hb.after)) ⊎ ((w : List PayloadParams) × (ha.before ≡ hb.before ++ b ∷ w) × (hb.after ≡ w ++ a ∷ ha.after))) → ◌≡◌ {A = Option PayloadParams} (Some a) (Some b)
   go (inl s) = ap (λ r. Some r) s.1
@@ -76,29 +66,16 @@ becomes_unique taken unlocked remote receives row x y hx hy =
 
 -- ---- one end of a pass
 
-same_ok : {A : Type 0} (x y : A) → ◌≡◌ {A = Result A NegotiationError} (Ok x) (Ok y) → x ≡ y
-same_ok x y h = cc
-
-same_err : {A : Type 0} (x y : NegotiationError) → ◌≡◌ {A = Result A NegotiationError} (Err x) (Err y) → x ≡ y
-same_err x y h = cc
-
-ok_err : {A : Type 0} (x : A) (e : NegotiationError) → ◌≡◌ {A = Result A NegotiationError} (Ok x) (Err e) → ⊥
-ok_err x e h = cc
-
-pub take_all : {A : Type 0} (xs : List A) → take (length xs) xs ≡ xs
-take_all [] = refl
-take_all (x ∷ xs) = ap (λ ys. x ∷ ys) (take_all xs)
-
 -- the rows so far, in a pass that goes at least as far
 so_far : {A : Type 0} (O : List A → A → Result A NegotiationError → Type 0) (one : (d : List A) (r : A) (x y : Result A NegotiationError) → O d r x → O d r y → x ≡ y) (rows xs ys : List A)
     → EachPlace (λ d r n. O d r (Ok n)) rows xs → EachPlace (λ d r n. O d r (Ok n)) rows ys → length xs ≤ length rows → length xs ≤ length ys → take (length xs) ys ≡ xs
 so_far O one rows xs ys ex ey l h =
-    sym (each_same (λ d r n. O d r (Ok n)) rows xs ys (λ d r a b ha hb. same_ok a b (one d r (Ok a) (Ok b) ha hb)) ex ey l (length xs) (omega arith) h) ∙ take_all xs
+    sym (each_same (λ d r n. O d r (Ok n)) rows xs ys (λ d r a b ha hb. same_Ok a b (one d r (Ok a) (Ok b) ha hb)) ex ey l (length xs) (omega arith) h) ∙ take_all (length xs) xs (omega arith)
 
 pub whole_unique : {A : Type 0} (O : List A → A → Result A NegotiationError → Type 0) (one : (d : List A) (r : A) (x y : Result A NegotiationError) → O d r x → O d r y → x ≡ y) (rows xs ys : List A)
     → EachPlace (λ d r n. O d r (Ok n)) rows xs → EachPlace (λ d r n. O d r (Ok n)) rows ys → length xs ≡ length rows → length ys ≡ length rows → xs ≡ ys
 whole_unique O one rows xs ys ex ey lx ly =
-    sym (so_far O one rows xs ys ex ey (omega arith) (omega arith)) ∙ ap (λ n. take n ys) (lx ∙ sym ly) ∙ take_all ys
+    sym (so_far O one rows xs ys ex ey (omega arith) (omega arith)) ∙ ap (λ n. take n ys) (lx ∙ sym ly) ∙ take_all (length ys) ys (omega arith)
 
 -- a pass that stops at a place goes no further
 pub stops_here : {A : Type 0} (O : List A → A → Result A NegotiationError → Type 0) (one : (d : List A) (r : A) (x y : Result A NegotiationError) → O d r x → O d r y → x ≡ y) (rows xs ys : List A) (row : A) (cause : NegotiationError)
@@ -109,7 +86,8 @@ stops_here {A} O one rows xs ys row cause ex l next stop ey h = go (slice_get ys
   go (Some y) e =
       let front : take (length xs) ys ≡ xs = so_far O one rows xs ys ex ey l (omega arith) in
       let P : List A → Type 0 = λ d. O d row (Ok y) in
-      ok_err y cause (one xs row (Ok y) (Err cause) (subst P front (ey (length xs) row y next e)) stop)
+      let none : ◌≡◌ {A = Result A NegotiationError} (Ok y) (Err cause) = one xs row (Ok y) (Err cause) (subst P front (ey (length xs) row y next e)) stop in
+      cc
 
 pub stops_unique : {A : Type 0} (O : List A → A → Result A NegotiationError → Type 0) (one : (d : List A) (r : A) (x y : Result A NegotiationError) → O d r x → O d r y → x ≡ y) (rows xs ys : List A) (r s : A) (c e : NegotiationError)
     → EachPlace (λ d r n. O d r (Ok n)) rows xs → length xs ≤ length rows → slice_get rows (length xs) ≡ Some r → O xs r (Err c)
@@ -117,11 +95,11 @@ pub stops_unique : {A : Type 0} (O : List A → A → Result A NegotiationError 
 stops_unique {A} O one rows xs ys r s c e ex lx nx sx ey ly ny sy = go (cases_order (length xs) (length ys)) where
   go : (length xs ≡ length ys) ⊎ ((length xs < length ys) ⊎ (length ys < length xs)) → c ≡ e
   go (inl h) =
-      let front : ys ≡ xs = sym (take_all ys) ∙ ap (λ n. take n ys) (sym h) ∙ so_far O one rows xs ys ex ey lx (omega arith) in
+      let front : ys ≡ xs = sym (take_all (length ys) ys (omega arith)) ∙ ap (λ n. take n ys) (sym h) ∙ so_far O one rows xs ys ex ey lx (omega arith) in
       let same : s ≡ r = same_Some s r (sym ny ∙ ap (slice_get rows) (sym h) ∙ nx) in
       let P : List A → Type 0 = λ d. O d s (Err e) in
       let Q : A → Type 0 = λ x. O xs x (Err e) in
-      same_err c e (one xs r (Err c) (Err e) sx (subst Q same (subst P front sy)))
+      same_Err c e (one xs r (Err c) (Err e) sx (subst Q same (subst P front sy)))
   go (inr (inl h)) = absurd (stops_here O one rows xs ys r c ex lx nx sx ey h)
   go (inr (inr h)) = absurd (stops_here O one rows ys xs s e ey ly ny sy ex h)
 
@@ -159,13 +137,6 @@ round_unique before remote receives x y hx hy =
     whole_unique (Second u hx.mid) (second_one u hx.mid) hx.mid x y hx.second.each second.each hx.whole (hy.whole ∙ ap length (sym same))
 
 -- a list without repeats has no first repeat, and a list has one at most
-pub times-some : (xs : List ℕ) (t : ℕ) → has xs t ≡ true → 1 ≤ times xs t
-times-some [] t h = absurd (true≢false (sym h))
-times-some (x ∷ xs) t h = go (or_cases (x == t) (has xs t) h) (times-some xs t) where
-  go : ((x == t) ≡ true) ⊎ (has xs t ≡ true) → (has xs t ≡ true → 1 ≤ times xs t) → 1 ≤ times (x ∷ xs) t
-  go (inl e) rec = let one : cond {A = ℕ} (x == t) 1 0 ≡ 1 = ap (λ b. cond {A = ℕ} b 1 0) e in omega (arith, times-cons x xs t, one)
-  go (inr e) rec = omega (arith, times-cons x xs t, rec e)
-
 twice_there : (seen rest : List ℕ) (t : ℕ) → has seen t ≡ true → 2 ≤ times (seen ++ t ∷ rest) t
 twice_there seen rest t h =
     let one : cond {A = ℕ} (t == t) 1 0 ≡ 1 = ap (λ b. cond {A = ℕ} b 1 0) (eq-eqb t t refl) in
@@ -200,9 +171,7 @@ cases_of before remote receives cause (in_first c h) = inr (inr (inl h))
 cases_of before remote receives cause (in_second c h) = inr (inr (inr h))
 
 pub large_or_small : (xs : List ℕ) (t : ℕ) → find (nat_lt 127) xs ≡ Some t → AllSmall xs → ⊥
-large_or_small xs t h s = none_some (sym s ∙ h) where
-  none_some : ◌≡◌ {A = Option ℕ} None (Some t) → ⊥
-  none_some e = cc
+large_or_small xs t h s = none-some t (sym s ∙ h)
 
 -- a pass that is whole did not stop
 first_whole : (before remote : List PayloadParams) (receives : Bool) (cause : NegotiationError) (mid : List PayloadParams) → StopsFirst before remote receives cause → AllBegun before remote receives mid → ⊥

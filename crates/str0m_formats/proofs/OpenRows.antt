@@ -7,7 +7,7 @@ use Rattle.str0m_formats.specs.Rows.{types_of}
 use Rattle.str0m_formats.specs.Rounds.{kept_red}
 use Rattle.str0m_formats.proofs.Sets.{free-small}
 use Rattle.str0m_formats.proofs.Times.{times-append, times-cons, times-nil, times-none}
-use Rattle.str0m_formats.proofs.RowSteps.{SettledParts, new_red, new_resend, with_red}
+use Rattle.str0m_formats.proofs.SecondPass.{SettledParts, new_red, new_resend, with_red}
 
 -- ---- one role
 

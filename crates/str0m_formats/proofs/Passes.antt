@@ -1,5 +1,5 @@
 -- A pass over rows, one row a step.
-use Rattle.str0m_formats.proofs.Common.{zero, suc, ◌≡◌, ℕ, ◌≤◌, ◌<◌, ◌⊎◌, inl, inr, List, [], ◌∷◌, ◌++◌, length, take, drop, get_or, Option, Some, None, refl, sym, ap, ◌∙◌, subst, arith, slice_get, slice_get_within, same_Some, length_push, cases_order}
+use Rattle.str0m_formats.proofs.Common.{zero, suc, ◌≡◌, ℕ, ◌≤◌, ◌<◌, ◌⊎◌, inl, inr, List, [], ◌∷◌, ◌++◌, length, take, drop, get_or, Option, Some, None, refl, sym, ap, ◌∙◌, subst, arith, All, Contains, slice_get, slice_get_within, get_or_from_slice_get, slice_get-get_or, same_Some, at_drop_more, length_push, take_at, Contains-append_right, cases_order}
 use Rattle.std.proofs.lemmas.List.{take-append-le}
 
 -- at each place, the done rows before it, the row there and the new row stand in a relation
@@ -11,13 +11,19 @@ slice_get-append_left [] ys i h = absurd (omega arith)
 slice_get-append_left (x ∷ xs) ys zero h = refl
 slice_get-append_left (x ∷ xs) ys (suc i) h = slice_get-append_left xs ys i (omega arith)
 
-slice_get-append_here : {A : Type 0} (xs : List A) (y : A) → slice_get (xs ++ y ∷ []) (length xs) ≡ Some y
-slice_get-append_here [] y = refl
-slice_get-append_here (x ∷ xs) y = slice_get-append_here xs y
+pub at_split : {A : Type 0} (xs : List A) (y : A) (ys : List A) → slice_get (xs ++ y ∷ ys) (length xs) ≡ Some y
+at_split [] y ys = refl
+at_split (x ∷ xs) y ys = at_split xs y ys
 
-pub take-length_append : {A : Type 0} (xs ys : List A) → take (length xs) (xs ++ ys) ≡ xs
-take-length_append [] ys = refl
-take-length_append (x ∷ xs) ys = ap (λ zs. x ∷ zs) (take-length_append xs ys)
+pub split_has : {A : Type 0} (zs xs : List A) (y : A) (ys : List A) → zs ≡ xs ++ y ∷ ys → Contains zs y
+split_has {A} zs xs y ys e = let Has : List A → Type 0 = λ l. Contains l y in subst Has (sym e) (Contains-append_right xs (y ∷ ys) y (zero, omega arith, refl))
+
+-- what holds of each element, by its place
+pub at_place : {A : Type 0} (P : A → Type 0) (xs : List A) (i : ℕ) (x : A) → All P xs → slice_get xs i ≡ Some x → P x
+at_place P xs i x all e = subst P (get_or_from_slice_get xs i x x e) (all i x (slice_get_within xs i x e))
+
+pub from_places : {A : Type 0} (P : A → Type 0) (xs : List A) → ((i : ℕ) (x : A) → slice_get xs i ≡ Some x → P x) → All P xs
+from_places P xs h i d lt = h i (get_or xs i d) (slice_get-get_or xs i d lt)
 
 -- a pass goes on by one row
 pub each_push : {A : Type 0} (R : List A → A → A → Type 0) (rows done : List A) (row new : A) → EachPlace R rows done → slice_get rows (length done) ≡ Some row → R done row new → EachPlace R rows (done ++ new ∷ [])
@@ -25,8 +31,8 @@ each_push {A} R rows done row new each next here = λ i a b at_a at_b. go i a b 
   go : (i : ℕ) (a b : A) → slice_get rows i ≡ Some a → slice_get (done ++ new ∷ []) i ≡ Some b → (i ≡ length done) ⊎ ((i < length done) ⊎ (length done < i)) → R (take i (done ++ new ∷ [])) a b
   go i a b at_a at_b (inl e) =
       let same_a : row ≡ a = same_Some row a (sym next ∙ ap (slice_get rows) (sym e) ∙ at_a) in
-      let same_b : new ≡ b = same_Some new b (sym (slice_get-append_here done new) ∙ ap (slice_get (done ++ new ∷ [])) (sym e) ∙ at_b) in
-      let front : done ≡ take i (done ++ new ∷ []) = sym (ap (λ n. take n (done ++ new ∷ [])) e ∙ take-length_append done (new ∷ [])) in
+      let same_b : new ≡ b = same_Some new b (sym (at_split done new []) ∙ ap (slice_get (done ++ new ∷ [])) (sym e) ∙ at_b) in
+      let front : done ≡ take i (done ++ new ∷ []) = sym (ap (λ n. take n (done ++ new ∷ [])) e ∙ take_at done (new ∷ []) (length done) refl) in
       let P : List A → Type 0 = λ d. R d a b in
       let Q : A → Type 0 = λ x. R done x b in
       let S : A → Type 0 = λ y. R done row y in
@@ -64,12 +70,11 @@ each_same {A} R rows xs ys one ex ey l (suc n) hx hy =
 
 -- what the rest of a list says of the element at a place
 pub get_from_rest : {A : Type 0} (xs ys : List A) (i : ℕ) (d : A) → i < length xs → drop i xs ≡ drop i ys → slice_get ys i ≡ Some (get_or xs i d)
-get_from_rest [] ys i d h e = absurd (omega arith)
-get_from_rest (x ∷ xs) [] zero d h e = absurd (cc)
-get_from_rest (x ∷ xs) (y ∷ ys) zero d h e = cc
-get_from_rest (x ∷ xs) [] (suc i) d h e = absurd (not_empty xs i (omega arith) e) where
-  not_empty : {B : Type 0} (zs : List B) (k : ℕ) → k < length zs → drop k zs ≡ [] → ⊥
-  not_empty [] k h e = omega arith
-  not_empty (z ∷ zs) zero h e = cc
-  not_empty (z ∷ zs) (suc k) h e = not_empty zs k (omega arith) e
-get_from_rest (x ∷ xs) (y ∷ ys) (suc i) d h e = get_from_rest xs ys i d (omega arith) e
+get_from_rest {A} xs ys i d h e = at_rest ys i ∙ ap first (sym e) ∙ at_drop_more first xs i d h where
+  first : List A → Option A
+  first zs = slice_get zs zero
+
+  at_rest : (zs : List A) (k : ℕ) → slice_get zs k ≡ first (drop k zs)
+  at_rest zs zero = refl
+  at_rest [] (suc k) = refl
+  at_rest (z ∷ zs) (suc k) = at_rest zs k

@@ -1,5 +1,5 @@
 -- Plain rows stay plain through a round against rows whose numbers keep to their ranges.
-use Rattle.str0m_formats.proofs.Common.{zero, suc, ◌≡◌, ◌≢◌, ℕ, Bool, true, false, List, [], ◌∷◌, ◌++◌, Option, Some, None, Ok, IfSome, All, take, refl, sym, ap, ◌∙◌, subst, slice_get, option_or, same_Some, All-nil, All-cons, All-head, All-tail, ProfileTierLevel}
+use Rattle.str0m_formats.proofs.Common.{◌≡◌, ◌≢◌, ℕ, Bool, true, false, List, Option, Some, None, Ok, IfSome, All, take, refl, sym, ap, ◌∙◌, subst, slice_get, option_or, All-contains, ProfileTierLevel}
 use Rattle.std.specs.Prelude.{min}
 use Rattle.str0m_values.specs.H265 as h265
 use Rattle.str0m_values.specs.H266 as h266
@@ -16,10 +16,12 @@ use Rattle.str0m_formats.specs.Rows.{AllSmall, types_of, locked_types, open_type
 use Rattle.str0m_formats.specs.Choices.{IsChoice, points_for}
 use Rattle.str0m_formats.specs.TypeSets.{TypeSet, has}
 use Rattle.str0m_formats.specs.Rounds.{taken_by, taken_after, placed, settled, kept_red, only_audio, Leaves}
-use Rattle.str0m_formats.proofs.FirstPass.{small_at, same_Ok}
+use Rattle.str0m_formats.proofs.FirstPass.{small_at, same_Ok, placed-locked_row, placed-open_row, placed-no_choice, locked_parts}
+use Rattle.str0m_formats.proofs.Passes.{at_place, split_has, from_places}
 use Rattle.str0m_formats.proofs.WholeRound.{row_before}
-use Rattle.str0m_formats.proofs.RowSteps.{row_steps, placed-locked_row, placed-open_row, placed-no_choice, locked_parts, settled_parts, settled-same}
+use Rattle.str0m_formats.proofs.RowSteps.{row_steps}
 use Rattle.str0m_formats.proofs.SmallTypes.{small_after}
+use Rattle.str0m_formats.proofs.SecondPass.{settled_parts, settled-same}
 
 -- ---- a plain row is one of small types, a plain spec, and feedback and RED that go with what the codec carries
 
@@ -212,24 +214,10 @@ settled-plain locked taken unlocked row new h p = go row.locked refl where
 
 -- ---- a round
 
-at_row : {A : Type 0} (P : A → Type 0) (rows : List A) (i : ℕ) (row : A) → All P rows → slice_get rows i ≡ Some row → P row
-at_row P [] i row h e = absurd (cc)
-at_row P (r ∷ rows) zero row h e = subst P (same_Some r row e) (All-head P r rows h)
-at_row P (r ∷ rows) (suc i) row h e = at_row P rows i row (All-tail P r rows h) e
-
-each_row : {A : Type 0} (P : A → Type 0) (rows : List A) → ((i : ℕ) (row : A) → slice_get rows i ≡ Some row → P row)
-    → All P rows
-each_row P [] h = All-nil P
-each_row P (r ∷ rows) h = All-cons P r rows (h zero r refl) (each_row P rows (λ i row e. h (suc i) row e))
-
-at_split : {A : Type 0} (P : A → Type 0) (xs : List A) (y : A) (ys : List A) → All P (xs ++ y ∷ ys) → P y
-at_split P [] y ys h = All-head P y ys h
-at_split P (x ∷ xs) y ys h = at_split P xs y ys (All-tail P x (xs ++ y ∷ ys) h)
-
 chosen : (points : PayloadParams → Option ℕ) (remote : List PayloadParams) (choice : Option PayloadParams)
     → IsChoice points remote choice → All IsBounded remote → IfSome choice IsBounded
 chosen points remote None h all = tt
-chosen points remote (Some c) h all = at_split IsBounded h.before c h.after (subst (All IsBounded) h.split all)
+chosen points remote (Some c) h all = All-contains IsBounded remote c all (split_has remote h.before c h.after h.split)
 
 at_each : (before remote : List PayloadParams) (receives : Bool) (after : List PayloadParams) → Leaves before remote receives after
     → All IsPlain before → All IsBounded remote
@@ -241,7 +229,7 @@ at_each before remote receives after r all bounded i new at_new =
     let unlocked = has (open_types before) in
     let choice = chosen (points_for taken receives old.0) remote steps.became.choice steps.became.is_choice bounded in
     let placed_so = steps.became.placed_so in
-    let was = beside old.0 (at_row IsPlain before i old.0 all old.1) in
+    let was = beside old.0 (at_place IsPlain before i old.0 all old.1) in
     let between = placed-plain taken unlocked receives old.0 steps.between steps.became.choice placed_so choice was in
     let given = taken_after r.mid (take i after) in
     let now = settled-plain (has (locked_types r.mid)) given unlocked steps.between new steps.then_settled between in
@@ -250,4 +238,4 @@ at_each before remote receives after r all bounded i new at_new =
 -- plain rows stay plain against rows that keep to their ranges
 pub plain_stay : (before remote : List PayloadParams) (receives : Bool) (after : List PayloadParams) → Leaves before remote receives after
     → All IsPlain before → All IsBounded remote → All IsPlain after
-plain_stay before remote receives after r all bounded = each_row IsPlain after (at_each before remote receives after r all bounded)
+plain_stay before remote receives after r all bounded = from_places IsPlain after (at_each before remote receives after r all bounded)

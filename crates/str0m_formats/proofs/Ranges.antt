@@ -1,5 +1,5 @@
 -- The first number of a range that passes a test.
-use Rattle.str0m_formats.proofs.Common.{zero, suc, ◌≡◌, ℕ, ◌+◌, ◌-◌, ◌<◌, ◌≤◌, ◌++◌, [], ◌∷◌, Bool, true, false, cond, find, Option, Some, None, List, replicate, get_or, length, drop, refl, is_some, sym, ap, ◌∙◌, arith, true≢false, option_or, range_with_len, flat_map}
+use Rattle.str0m_formats.proofs.Common.{zero, suc, ◌≡◌, ℕ, ◌+◌, ◌-◌, ◌<◌, ◌≤◌, Bool, true, false, cond, find, Option, Some, None, List, replicate, get_or, length, drop, refl, is_some, sym, ap, ◌∙◌, arith, true≢false, find-append, range_with_len, flat_map}
 use Rattle.std.proofs.lemmas.List.{at_drop_more}
 
 -- where the next number fails, the search goes on after it
@@ -44,12 +44,6 @@ pub get_or-replicate_same : {A : Type 0} (n : ℕ) (a : A) (i : ℕ) → get_or 
 get_or-replicate_same zero a i = refl
 get_or-replicate_same (suc n) a zero = refl
 get_or-replicate_same (suc n) a (suc i) = get_or-replicate_same n a i
-
--- what is found in two lists, one after the other
-pub find-append : (p : ℕ → Bool) (xs ys : List ℕ) → find p (xs ++ ys) ≡ option_or (find p xs) (find p ys)
-find-append p [] ys = refl
-find-append p (x ∷ xs) ys =
-    elim (p x) as (λ t. cond t (Some x) (find p (xs ++ ys)) ≡ option_or (cond t (Some x) (find p xs)) (find p ys)) [ true ↦ refl | false ↦ find-append p xs ys ]
 
 -- what is found in a list of lists, from a place on: in the list there, or after it
 pub find-flat_map_here : (p : ℕ → Bool) {A : Type 0} (f : A → List ℕ) (xs : List A) (i : ℕ) (d : A) (found : Option ℕ) → i < length xs → found ≡ find p (f (get_or xs i d)) → is_some found ≡ true → found ≡ find p (flat_map f (drop i xs))

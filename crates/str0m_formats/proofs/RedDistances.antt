@@ -1,7 +1,10 @@
 -- What is kept of the distances given.
-use Rattle.str0m_formats.proofs.Common.{zero, suc, ◌≡◌, ◌==◌, ◌↔◌, ◌⊎◌, inl, inr, ℕ, ◌+◌, ◌-◌, ◌<◌, ◌≤◌, Bool, true, false, ◌||◌, ◌&&◌, cond, List, [], ◌∷◌, ◌++◌, filter, All, length, take, refl, sym, ap, ◌∙◌, arith, IsEquivalence, Contains, list_any, range_with_len, or_cases, or_left, or_right, and_parts, eqb-true, eq-eqb, append-nil, take_more_set, All-filter, filter-append}
+use Rattle.str0m_formats.proofs.Common.{zero, suc, ◌≡◌, ◌==◌, ◌↔◌, ◌⊎◌, inl, inr, ℕ, ◌+◌, ◌-◌, ◌<◌, ◌≤◌, Bool, true, false, ◌||◌, ◌&&◌, cond, List, [], ◌∷◌, ◌++◌, filter, All, length, take, refl, sym, ap, ◌∙◌, arith, Contains, list_any, range_with_len, or_cases, or_left, or_right, and_parts, eqb-true, eq-eqb, append-nil, take_more_set, All-filter, filter-append}
 use Rattle.std.proofs.Common.{add-one, set}
+use Rattle.std.specs.Cmp.{nat_eq_equiv}
 use Rattle.std.specs.List.Sorted.{IsStrictlyIncreasing}
+use Rattle.std.proofs.Math.Bool.{and-false}
+use Rattle.std.proofs.lemmas.Bool.{and_from}
 use Rattle.std.proofs.lemmas.List.Elements.{All-from_get_or}
 use Rattle.std.proofs.lemmas.List.FromFn.{length-range_with_len, get_or-range_with_len}
 use Rattle.std.proofs.lemmas.List.Kept.{IsStrictlyIncreasing-filter}
@@ -50,24 +53,8 @@ kept_distances given = record {
 
 -- ---- which numbers stand there
 
-equality : IsEquivalence (λ (a b : ℕ). a == b)
-equality = record {
-  refl = λ x. eq-eqb x x refl;
-  symm = λ x y. go x y (x == y) (y == x) refl refl;
-  congr = λ x y z e. ap (λ k. k == z) (eqb-true x y e);
-}
-  where
-    go : (x y : ℕ) (b c : Bool) → (x == y) ≡ b → (y == x) ≡ c → b ≡ c
-    go x y true true h k = refl
-    go x y false false h k = refl
-    go x y true false h k = sym (eq-eqb y x (sym (eqb-true x y h))) ∙ k
-    go x y false true h k = sym h ∙ eq-eqb x y (sym (eqb-true y x k))
-
 any_filter : (p : ℕ → Bool) (d : ℕ) (xs : List ℕ) → list_any (λ x. d == x) (filter p xs) ≡ (p d && list_any (λ x. d == x) xs)
-any_filter p d [] = nothing (p d) where
-  nothing : (b : Bool) → false ≡ (b && false)
-  nothing true = refl
-  nothing false = refl
+any_filter p d [] = sym (and-false (p d))
 any_filter p d (x ∷ xs) = go (p x) (d == x) refl refl (any_filter p d xs) where
   go : (b h : Bool) → p x ≡ b → (d == x) ≡ h → list_any (λ y. d == y) (filter p xs) ≡ (p d && list_any (λ y. d == y) xs) → list_any (λ y. d == y) (cond b (x ∷ filter p xs) (filter p xs)) ≡ (p d && ((d == x) || list_any (λ y. d == y) xs))
   go true true e i rest =
@@ -81,14 +68,9 @@ any_filter p d (x ∷ xs) = go (p x) (d == x) refl refl (any_filter p d xs) wher
 
 contains_kept : (p : ℕ → Bool) (d : ℕ) (xs : List ℕ) → Contains (filter p xs) d ↔ ((p d ≡ true) × Contains xs d)
 contains_kept p d xs = (
-  λ c. let parts = and_parts (p d) (list_any (λ x. d == x) xs) (sym (any_filter p d xs) ∙ list_any-from_Contains equality d (filter p xs) c) in (parts.0, Contains-from_any (λ x y e. eqb-true x y e) d xs parts.1),
-  λ c. Contains-from_any (λ x y e. eqb-true x y e) d (filter p xs) (any_filter p d xs ∙ both (p d) (list_any (λ x. d == x) xs) c.0 (list_any-from_Contains equality d xs c.1)),
+  λ c. let parts = and_parts (p d) (list_any (λ x. d == x) xs) (sym (any_filter p d xs) ∙ list_any-from_Contains nat_eq_equiv d (filter p xs) c) in (parts.0, Contains-from_any (λ x y e. eqb-true x y e) d xs parts.1),
+  λ c. Contains-from_any (λ x y e. eqb-true x y e) d (filter p xs) (any_filter p d xs ∙ and_from (p d) (list_any (λ x. d == x) xs) c.0 (list_any-from_Contains nat_eq_equiv d xs c.1)),
 )
-  where
-    both : (a b : Bool) → a ≡ true → b ≡ true → (a && b) ≡ true
-    both true true h k = refl
-    both true false h k = k
-    both false b h k = h
 
 in_range : (d : ℕ) → 1 ≤ d → d ≤ 16 → Contains (range_with_len 1 16) d
 in_range d low high = (d - 1, omega (arith, length-range_with_len 1 16), get_or-range_with_len 1 16 (d - 1) d (omega arith) ∙ omega arith)
@@ -108,7 +90,7 @@ passed given d e r = go (or_cases (d == 1) (list_any (λ g. d == g) given) e) wh
 
 passes : (given : List ℕ) (d : ℕ) → IsKept given d → (keeps given d ≡ true) × (1 ≤ d) × (d ≤ 16)
 passes given d (inl h) = (or_left (d == 1) (list_any (λ g. d == g) given) (eq-eqb d 1 h), omega arith, omega arith)
-passes given d (inr h) = (or_right (d == 1) (list_any (λ g. d == g) given) (list_any-from_Contains equality d given h.0), h.1, h.2)
+passes given d (inr h) = (or_right (d == 1) (list_any (λ g. d == g) given) (list_any-from_Contains nat_eq_equiv d given h.0), h.1, h.2)
 
 pub are_kept : (given : List ℕ) → AreKept given (kept_to 16 given)
 unfolding kept_to

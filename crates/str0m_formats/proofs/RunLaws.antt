@@ -11,7 +11,7 @@ use Rattle.str0m_formats.specs.PlainRow.{IsPlain}
 use Rattle.str0m_formats.specs.Rows.{AllSmall, types, locked_types}
 use Rattle.str0m_formats.specs.Rounds.{Leaves}
 use Rattle.str0m_formats.specs.Runs.{Outcome, Ran, Reached, AtEachOk}
-use Rattle.str0m_formats.specs.Promises.{AtEachRow, LockedStay, StaysLocked, TelephoneNarrows, LevelsNarrow}
+use Rattle.str0m_formats.specs.Promises.{AtEachRow, StaysLocked}
 use Rattle.str0m_formats.specs.Promises.{Promises, OnlyForMemory, RunPromises}
 use Rattle.str0m_formats.proofs.WholeRound.{row_before}
 use Rattle.str0m_formats.proofs.Counting.{never_exhausted}
@@ -42,17 +42,22 @@ promised_each before (round ∷ rounds) (Err cause ∷ outcomes) after h =
     let From : List PayloadParams → Type 0 = λ rows. AtEachOk Promises rows rounds outcomes after in
     subst From (unchanged before round.remote.items (receives round.direction) cause h.0 h.1) (promised_each h.0 rounds outcomes after h.2)
 
--- what holds of no rounds and of each accepted one, and goes on from one to the next, holds over a list of them
-along : (Holds : List PayloadParams → List PayloadParams → Type 0) → ((rows : List PayloadParams) → Holds rows rows) → ((a b c : List PayloadParams) → Holds a b → Holds b c → Holds a c)
-    → ((a remote : List PayloadParams) (dir : Bool) (b : List PayloadParams) → Promises a remote dir b → Holds a b)
-    → (before : List PayloadParams) (rounds : List Round) (outcomes : List Outcome) (after : List PayloadParams) → Reached before rounds outcomes after → Holds before after
-along Holds same next one before rounds outcomes after reached = go before rounds outcomes after (promised_each before rounds outcomes after reached) where
-  go : (rows : List PayloadParams) (rounds : List Round) (outcomes : List Outcome) (end : List PayloadParams) → AtEachOk Promises rows rounds outcomes end → Holds rows end
-  go rows [] [] end h = subst (Holds rows) (sym h) (same rows)
-  go rows [] (o ∷ outcomes) end h = absurd h
-  go rows (round ∷ rounds) [] end h = absurd h
-  go rows (round ∷ rounds) (Ok done ∷ outcomes) end h = next rows h.0 end (one rows round.remote.items (receives round.direction) h.0 h.1) (go h.0 rounds outcomes end h.2)
-  go rows (round ∷ rounds) (Err cause ∷ outcomes) end h = go rows rounds outcomes end h
+-- what holds of no rounds and of each accepted one that brings what it may, and goes on from one to the next, holds over a list of them
+along : (Holds : List PayloadParams → List PayloadParams → Type 0) (May : Round → Type 0) → ((rows : List PayloadParams) → Holds rows rows) → ((a b c : List PayloadParams) → Holds a b → Holds b c → Holds a c)
+    → ((a : List PayloadParams) (round : Round) (b : List PayloadParams) → May round → Promises a round.remote.items (receives round.direction) b → Holds a b)
+    → (before : List PayloadParams) (rounds : List Round) (outcomes : List Outcome) (after : List PayloadParams) → Reached before rounds outcomes after → All May rounds → Holds before after
+along Holds May same next one before rounds outcomes after reached = go before rounds outcomes after (promised_each before rounds outcomes after reached) where
+  go : (rows : List PayloadParams) (rounds : List Round) (outcomes : List Outcome) (end : List PayloadParams) → AtEachOk Promises rows rounds outcomes end → All May rounds → Holds rows end
+  go rows [] [] end h may = subst (Holds rows) (sym h) (same rows)
+  go rows [] (o ∷ outcomes) end h may = absurd h
+  go rows (round ∷ rounds) [] end h may = absurd h
+  go rows (round ∷ rounds) (Ok done ∷ outcomes) end h may =
+      next rows h.0 end (one rows round h.0 (All-head May round rounds may) h.1) (go h.0 rounds outcomes end h.2 (All-tail May round rounds may))
+  go rows (round ∷ rounds) (Err cause ∷ outcomes) end h may = go rows rounds outcomes end h (All-tail May round rounds may)
+
+-- whatever a round brings
+abbrev Whatever : Round → Type 0
+Whatever round = Unit {0}
 
 -- ---- what holds at each place
 
@@ -60,65 +65,17 @@ along Holds same next one before rounds outcomes after reached = go before round
 abbrev InPlace : (PayloadParams → PayloadParams → Type 0) → List PayloadParams → List PayloadParams → Type 0
 InPlace holds before after = (length after ≡ length before) × AtEachRow holds before after
 
-module _ (holds : PayloadParams → PayloadParams → Type 0) (same : (row : PayloadParams) → holds row row) (next : (a b c : PayloadParams) → holds a b → holds b c → holds a c) where
-  in_place-same : (rows : List PayloadParams) → InPlace holds rows rows
-  in_place-same rows = (refl, λ i old new at_old at_new. subst (holds old) (same_Some old new (sym at_old ∙ at_new)) (same old))
+module _ (holds : PayloadParams → PayloadParams → Type 0) where
+  in_place-same : ((row : PayloadParams) → holds row row) → (rows : List PayloadParams) → InPlace holds rows rows
+  in_place-same same rows = (refl, λ i old new at_old at_new. subst (holds old) (same_Some old new (sym at_old ∙ at_new)) (same old))
 
-  in_place-next : (a b c : List PayloadParams) → InPlace holds a b → InPlace holds b c → InPlace holds a c
-  in_place-next a b c first second = (
+  in_place-next : ((a b c : PayloadParams) → holds a b → holds b c → holds a c) → (a b c : List PayloadParams) → InPlace holds a b → InPlace holds b c → InPlace holds a c
+  in_place-next next a b c first second = (
     second.0 ∙ first.0,
     λ i old new at_old at_new.
         let mid = row_before b c i new second.0 at_new in
         next old mid.0 new (first.1 i old mid.0 at_old mid.1) (second.1 i mid.0 new mid.1 at_new),
   )
-
-  along_places : ((a remote : List PayloadParams) (dir : Bool) (b : List PayloadParams) → Promises a remote dir b → AtEachRow holds a b)
-      → (before : List PayloadParams) (rounds : List Round) (outcomes : List Outcome) (after : List PayloadParams) → Reached before rounds outcomes after → InPlace holds before after
-  along_places one = along (InPlace holds) in_place-same in_place-next (λ a remote dir b p. (p.rows, one a remote dir b p))
-
--- ---- over every list of rounds
-
--- rows are neither lost nor added
-pub run_rows : (before : List PayloadParams) (rounds : List Round) (outcomes : List Outcome) (after : List PayloadParams) → Reached before rounds outcomes after → length after ≡ length before
-run_rows = along (λ a b. length b ≡ length a) (λ rows. refl) (λ a b c first second. second ∙ first) (λ a remote dir b p. p.rows)
-
--- a locked row stays locked, with its types each in its role
-pub run_locked_stay : (before : List PayloadParams) (rounds : List Round) (outcomes : List Outcome) (after : List PayloadParams) → Reached before rounds outcomes after → LockedStay before after
-run_locked_stay before rounds outcomes after h =
-    (along_places (λ old new. old.locked ≡ true → StaysLocked old new) stays-same stays-then (λ a remote dir b p. p.stay) before rounds outcomes after h).1
-
--- distinct types stay distinct
-pub run_distinct_stay : (before : List PayloadParams) (rounds : List Round) (outcomes : List Outcome) (after : List PayloadParams) → Reached before rounds outcomes after → AllDistinct (types before) → AllDistinct (types after)
-run_distinct_stay = along (λ a b. AllDistinct (types a) → AllDistinct (types b)) (λ rows d. d) (λ a b c first second d. second (first d)) (λ a remote dir b p. p.distinct)
-
--- the maximum of a telephone row never grows
-pub run_telephone_narrows : (before : List PayloadParams) (rounds : List Round) (outcomes : List Outcome) (after : List PayloadParams) → Reached before rounds outcomes after → TelephoneNarrows before after
-run_telephone_narrows before rounds outcomes after h =
-    (along_places (λ old new. Narrows old.spec new.spec) (λ row. narrows-same row.spec) (λ a b c. narrows-then a.spec b.spec c.spec) (λ a remote dir b p. p.telephone) before rounds outcomes after h).1
-
--- the level of an H264 row never grows, and its profile stays
-pub run_levels_narrow : (before : List PayloadParams) (rounds : List Round) (outcomes : List Outcome) (after : List PayloadParams)
-    → Reached before rounds outcomes after → LevelsNarrow before after
-run_levels_narrow before rounds outcomes after h =
-    (along_places (λ old new. Lowers old.spec new.spec) (λ row. lowers-same row.spec) (λ a b c. lowers-then a.spec b.spec c.spec)
-    (λ a remote dir b p. p.levels) before rounds outcomes after h).1
-
--- plain rows stay plain through rounds against rows that keep to their ranges
-pub run_plain_stay : (before : List PayloadParams) (rounds : List Round) (outcomes : List Outcome) (after : List PayloadParams)
-    → Reached before rounds outcomes after → All IsPlain before → All (λ round. All IsBounded round.remote.items) rounds
-    → All IsPlain after
-run_plain_stay before rounds outcomes after h = go before rounds outcomes after (promised_each before rounds outcomes after h) where
-  Keeps : Round → Type 0
-  Keeps round = All IsBounded round.remote.items
-
-  go : (rows : List PayloadParams) (rounds : List Round) (outcomes : List Outcome) (end : List PayloadParams)
-      → AtEachOk Promises rows rounds outcomes end → All IsPlain rows → All Keeps rounds → All IsPlain end
-  go rows [] [] end h p k = subst (All IsPlain) (sym h) p
-  go rows [] (o ∷ outcomes) end h p k = absurd h
-  go rows (round ∷ rounds) [] end h p k = absurd h
-  go rows (round ∷ rounds) (Ok done ∷ outcomes) end h p k =
-      go h.0 rounds outcomes end h.2 (h.1.plain p (All-head Keeps round rounds k)) (All-tail Keeps round rounds k)
-  go rows (round ∷ rounds) (Err cause ∷ outcomes) end h p k = go rows rounds outcomes end h p (All-tail Keeps round rounds k)
 
 -- ---- why rounds are refused
 
@@ -142,7 +99,7 @@ as_few before remote dir after r few = omega (arith, few, r.whole, r.first.whole
 -- with at most fourteen rows no round is refused for want of a type
 pub run_never_exhausted : (before : List PayloadParams) (rounds : List Round) (outcomes : List Outcome) (after : List PayloadParams) → Reached before rounds outcomes after → length before ≤ 14 → All (λ outcome. outcome ≢ Err Exhausted) outcomes
 run_never_exhausted before rounds outcomes after h few =
-    each_outcome (λ rows. length rows ≤ 14) (λ round. Unit {0}) (λ outcome. outcome ≢ Err Exhausted) not_exhausted
+    each_outcome (λ rows. length rows ≤ 14) Whatever (λ outcome. outcome ≢ Err Exhausted) not_exhausted
     (λ now round next r. as_few now round.remote.items (receives round.direction) next r) before rounds outcomes after h few (λ k d lt. tt) where
       not_exhausted : (now : List PayloadParams) (round : Round) (outcome : Outcome) (next : List PayloadParams) → length now ≤ 14 → Unit {0} → Ran now round.remote.items (receives round.direction) outcome next → outcome ≢ Err Exhausted
       not_exhausted now round outcome next few may ran e =
@@ -165,16 +122,27 @@ run_only_for_memory before rounds outcomes after h few small distinct remotes di
       May : Round → Type 0
       May round = AllSmall (types round.remote.items) × (receives round.direction ≡ false)
 
--- all of it
+-- ---- all of it
+
 pub run_promised : (before : List PayloadParams) (rounds : List Round) (outcomes : List Outcome) (after : List PayloadParams) → Reached before rounds outcomes after → RunPromises before rounds outcomes after
 run_promised before rounds outcomes after r = record {
   each = promised_each before rounds outcomes after r;
-  rows = run_rows before rounds outcomes after r;
-  stay = run_locked_stay before rounds outcomes after r;
-  distinct = run_distinct_stay before rounds outcomes after r;
-  telephone = run_telephone_narrows before rounds outcomes after r;
-  levels = run_levels_narrow before rounds outcomes after r;
-  plain = run_plain_stay before rounds outcomes after r;
+  rows = over (λ a b. length b ≡ length a) (λ rows. refl) (λ a b c first second. second ∙ first) (λ a round b p. p.rows);
+  stay = in_places (λ old new. old.locked ≡ true → StaysLocked old new) stays-same stays-then (λ a round b p. p.stay);
+  distinct = over (λ a b. AllDistinct (types a) → AllDistinct (types b)) (λ rows d. d) (λ a b c first second d. second (first d)) (λ a round b p. p.distinct);
+  telephone = in_places (λ old new. Narrows old.spec new.spec) (λ row. narrows-same row.spec) (λ a b c. narrows-then a.spec b.spec c.spec) (λ a round b p. p.telephone);
+  levels = in_places (λ old new. Lowers old.spec new.spec) (λ row. lowers-same row.spec) (λ a b c. lowers-then a.spec b.spec c.spec) (λ a round b p. p.levels);
+  plain = λ plain bounded.
+      along (λ a b. All IsPlain a → All IsPlain b) (λ round. All IsBounded round.remote.items) (λ rows p. p) (λ a b c first second p. second (first p)) (λ a round b may promises p. promises.plain p may)
+      before rounds outcomes after r bounded plain;
   room = run_never_exhausted before rounds outcomes after r;
   bounded = run_only_for_memory before rounds outcomes after r;
 }
+  where
+    over : (Holds : List PayloadParams → List PayloadParams → Type 0) → ((rows : List PayloadParams) → Holds rows rows) → ((a b c : List PayloadParams) → Holds a b → Holds b c → Holds a c)
+        → ((a : List PayloadParams) (round : Round) (b : List PayloadParams) → Promises a round.remote.items (receives round.direction) b → Holds a b) → Holds before after
+    over Holds same next one = along Holds Whatever same next (λ a round b _. one a round b) before rounds outcomes after r (λ k d lt. tt)
+
+    in_places : (holds : PayloadParams → PayloadParams → Type 0) → ((row : PayloadParams) → holds row row) → ((a b c : PayloadParams) → holds a b → holds b c → holds a c)
+        → ((a : List PayloadParams) (round : Round) (b : List PayloadParams) → Promises a round.remote.items (receives round.direction) b → AtEachRow holds a b) → AtEachRow holds before after
+    in_places holds same next one = (over (InPlace holds) (in_place-same holds same) (in_place-next holds next) (λ a round b p. (p.rows, one a round b p))).1

@@ -33,7 +33,3 @@ reached_step before now after rounds outcomes i round outcome h k e r s =
     let P : List Round → Type 0 = λ xs. Reached before xs (take i outcomes ++ outcome ∷ []) after in
     let Q : List (Result (Unit {0}) NegotiationError) → Type 0 = λ ys. Reached before (take (i + 1) rounds) ys after in
     subst Q back (subst P front (reached_push before (take i rounds) (take i outcomes) now after round outcome r s))
-
-pub OnErr_map : {P Q : Type 0} (result : Result (Unit {0}) NegotiationError) → (P → Q) → OnErr result P → OnErr result Q
-OnErr_map (Ok x) f h = tt
-OnErr_map (Err e) f h = f h

@@ -1,5 +1,5 @@
 -- The second pass of a round: what one row changes, and the state between two rows.
-use Rattle.str0m_formats.proofs.Common.{◌≡◌, ◌==◌, ℕ, ◌+◌, ◌<◌, Bool, true, false, ◌||◌, cond, if◌then◌else◌, List, [], ◌∷◌, ◌++◌, length, take, drop, get_or, Option, Some, None, Result, Ok, Err, refl, sym, ap, ◌∙◌, subst, arith, slice_get, ok_or, append_assoc, append-nil, take_more_set, drop-set-lt, length-set, length-take-le, length_push, drop_more_same, true≢false, eqb-true, or_parts, fun_ext}
+use Rattle.str0m_formats.proofs.Common.{◌≡◌, ◌==◌, ℕ, ◌+◌, ◌<◌, Bool, true, false, ◌||◌, cond, if◌then◌else◌, List, [], ◌∷◌, ◌++◌, length, take, drop, get_or, Option, Some, None, Result, Ok, Err, refl, sym, ap, ◌∙◌, subst, arith, slice_get, ok_or, append_assoc, append-nil, take_more_set, drop-set-lt, length-set, length-take-le, length_push, drop_more_same, true≢false, eqb-true, or_parts, or-false, fun_ext}
 use Rattle.std.proofs.Common.{set}
 use Rattle.str0m_formats.specs.declared.negotiation_error.NegotiationError.{NegotiationError}
 use Rattle.str0m_formats.specs.declared.negotiation_error.NegotiationError.TheVariants.{Exhausted}
@@ -8,23 +8,82 @@ use Rattle.str0m_formats.specs.TypeSets.{TypeSet, has, with_type, with_option, e
 use Rattle.str0m_formats.specs.Claiming.{Serves}
 use Rattle.str0m_formats.specs.Rows.{types_of, locked_types, open_types}
 use Rattle.str0m_formats.specs.Rounds.{settled, and_then, kept_or_free, kept_red, kept_rtx, taken_after, Settled, StopsSettling}
-use Rattle.str0m_formats.proofs.Sets.{free-small}
+use Rattle.str0m_formats.proofs.Sets.{free-small, or_turned}
 use Rattle.str0m_formats.proofs.Passes.{EachPlace, each_push, get_from_rest}
 use Rattle.str0m_formats.proofs.RowSets.{has-append, open_types-push}
 use Rattle.str0m_formats.proofs.FirstPass.{and_then-ok, same_Ok}
 
+-- ---- what a row becomes
+
+pub not_ok : {A : Type 0} {cause : NegotiationError} {x : A} → ◌≡◌ {A = Result A NegotiationError} (Err cause) (Ok x) → ⊥
+not_ok e = cc
+
+pub found : (o : Option ℕ) (x : ℕ) → ok_or o Exhausted ≡ Ok x → o ≡ Some x
+found None x e = absurd (not_ok e)
+found (Some y) x e = ap (λ z. Some z) (same_Ok y x e)
+
+-- the RED of a row that stays open, and then its RTX, once its primary type is settled
+abbrev pub new_red : TypeSet → TypeSet → TypeSet → PayloadParams → ℕ → Option ℕ
+new_red locked taken unlocked row pt = kept_red locked (with_type taken pt) unlocked row.red
+
+-- what is taken once its RED is settled, too
+abbrev pub with_red : TypeSet → TypeSet → TypeSet → PayloadParams → ℕ → TypeSet
+with_red locked taken unlocked row pt = with_option (with_type taken pt) (new_red locked taken unlocked row pt)
+
+abbrev pub new_resend : TypeSet → TypeSet → TypeSet → PayloadParams → ℕ → Option ℕ
+new_resend locked taken unlocked row pt = kept_red locked (with_red locked taken unlocked row pt) unlocked row.resend
+
+-- a locked row is left as it is; an open one is settled role by role
+pub settled_if_locked : (locked taken unlocked : TypeSet) (row : PayloadParams) → row.locked ≡ true → ◌≡◌ {A = Result PayloadParams NegotiationError} (Ok row) (settled locked taken unlocked row)
+unfolding settled
+settled_if_locked locked taken unlocked row l = rw l refl
+
+-- what is left to do once the primary type is found, and once the RED is
+abbrev from_red : TypeSet → TypeSet → TypeSet → PayloadParams → ℕ → Option ℕ → Result PayloadParams NegotiationError
+from_red locked taken unlocked row pt red = and_then (kept_rtx locked (with_option (with_type taken pt) red) unlocked row.resend) (λ resend. Ok (record row { pt = pt; resend = resend; red = red }))
+
+abbrev from_pt : TypeSet → TypeSet → TypeSet → PayloadParams → ℕ → Result PayloadParams NegotiationError
+from_pt locked taken unlocked row pt = from_red locked taken unlocked row pt (kept_red locked (with_type taken pt) unlocked row.red)
+
+settled_if_open : (locked taken unlocked : TypeSet) (row : PayloadParams) → row.locked ≡ false → settled locked taken unlocked row ≡ and_then (ok_or (kept_or_free locked taken unlocked row.pt) Exhausted) (from_pt locked taken unlocked row)
+unfolding settled
+settled_if_open locked taken unlocked row l = rw l refl
+
+pub settled-same : (locked taken unlocked : TypeSet) (row new : PayloadParams) → settled locked taken unlocked row ≡ Ok new → row.locked ≡ true → new ≡ row
+settled-same locked taken unlocked row new h l = sym (same_Ok row new (settled_if_locked locked taken unlocked row l ∙ h))
+
+-- what a row that stays open becomes
+pub record SettledParts (locked taken unlocked : TypeSet) (row new : PayloadParams) : Type 0 where
+  pub pt : ℕ
+  pub pt_is : kept_or_free locked taken unlocked row.pt ≡ Some pt
+  pub all : record row { pt = pt; resend = new_resend locked taken unlocked row pt; red = new_red locked taken unlocked row pt } ≡ new
+
+kept_rtx-is_kept_red : (locked taken unlocked : TypeSet) (own new : Option ℕ) → kept_rtx locked taken unlocked own ≡ Ok new → kept_red locked taken unlocked own ≡ new
+kept_rtx-is_kept_red locked taken unlocked None new h = same_Ok None new h
+kept_rtx-is_kept_red locked taken unlocked (Some t) new h =
+    let got = and_then-ok (ok_or (kept_or_free locked taken unlocked t) Exhausted) (λ n. Ok (Some n)) new h in
+    found (kept_or_free locked taken unlocked t) got.0 got.1 ∙ same_Ok (Some got.0) new got.2
+
+pub settled_parts : (locked taken unlocked : TypeSet) (row new : PayloadParams) → settled locked taken unlocked row ≡ Ok new → row.locked ≡ false → SettledParts locked taken unlocked row new
+settled_parts locked taken unlocked row new h l =
+    let red = new_red locked taken unlocked row in
+    let first = and_then-ok (ok_or (kept_or_free locked taken unlocked row.pt) Exhausted) _ new (sym (settled_if_open locked taken unlocked row l) ∙ h) in
+    let taken2 = with_red locked taken unlocked row first.0 in
+    let second = and_then-ok (kept_rtx locked taken2 unlocked row.resend) (λ resend. Ok (record row { pt = first.0; resend = resend; red = red first.0 })) new first.2 in
+    record {
+      pt = first.0;
+      pt_is = found (kept_or_free locked taken unlocked row.pt) first.0 first.1;
+      all =
+          ap (λ resend. record row { pt = first.0; resend = resend; red = red first.0 }) (kept_rtx-is_kept_red locked taken2 unlocked row.resend second.0 second.1)
+          ∙ same_Ok (record row { pt = first.0; resend = second.0; red = red first.0 }) new second.2;
+    }
+
 -- a row stays locked or open
 pub settled-locked : (locked taken unlocked : TypeSet) (row new : PayloadParams) → settled locked taken unlocked row ≡ Ok new → new.locked ≡ row.locked
-unfolding settled
-settled-locked locked taken unlocked row new h = go row.locked refl h where
-  go : (b : Bool) → row.locked ≡ b → cond b (Ok row) (and_then (ok_or (kept_or_free locked taken unlocked row.pt) Exhausted) (λ pt.
-      and_then (kept_rtx locked (with_option (with_type taken pt) (kept_red locked (with_type taken pt) unlocked row.red)) unlocked row.resend) (λ resend.
-      Ok (record row { pt = pt; resend = resend; red = kept_red locked (with_type taken pt) unlocked row.red })))) ≡ Ok new → new.locked ≡ row.locked
-  go true e k = ap (λ r. r.locked) (sym (same_Ok row new k))
-  go false e k =
-      let first = and_then-ok (ok_or (kept_or_free locked taken unlocked row.pt) Exhausted) _ new k in
-      let second = and_then-ok (kept_rtx locked (with_option (with_type taken first.0) (kept_red locked (with_type taken first.0) unlocked row.red)) unlocked row.resend) _ new first.2 in
-      ap (λ r. r.locked) (sym (same_Ok _ new second.2))
+settled-locked locked taken unlocked row new h = go row.locked refl where
+  go : (b : Bool) → row.locked ≡ b → new.locked ≡ row.locked
+  go true l = ap (λ r. r.locked) (settled-same locked taken unlocked row new h l)
+  go false l = ap (λ r. r.locked) (sym (settled_parts locked taken unlocked row new h l).all)
 
 -- what a row adds to the types that are taken
 pub taken_after-push : (mid done : List PayloadParams) (row new : PayloadParams) → new.locked ≡ row.locked → cond row.locked (taken_after mid done) (either (taken_after mid done) (has (types_of new))) ≡ taken_after mid (done ++ new ∷ [])
@@ -37,10 +96,6 @@ taken_after-push mid done row new e = go row.locked (sym e) where
   go false l = sym (ap has (longer ∙ ap (λ b. (locked_types mid ++ open_types done) ++ cond b [] (types_of new)) (sym l)) ∙ has-append (locked_types mid ++ open_types done) (types_of new))
 
 -- ---- what is claimed, where types that are kept aren't claimed
-
-or_false : (b : Bool) → (b || false) ≡ b
-or_false true = refl
-or_false false = refl
 
 -- a type that is kept changes nothing, since it was open before
 pub kept_serves : (claimed unlocked locked taken : TypeSet) (pt : ℕ) → Serves claimed unlocked locked taken → unlocked pt ≡ true → Serves claimed unlocked locked (with_type taken pt)
@@ -60,8 +115,8 @@ given_serves claimed unlocked locked taken new None s found e =
 given_serves claimed unlocked locked taken new (Some y) s found e =
     let P : TypeSet → Type 0 = λ set. Serves set unlocked locked (with_type taken y) in
     subst P (sym e) (record {
-      locked_is = λ t u. ap (λ b. claimed t || b) (other t u (y == t) refl) ∙ or_false (claimed t) ∙ s.locked_is t u;
-      in_use = fun_ext (λ t. regroup (claimed t) (unlocked t) (y == t) ∙ ap (λ set. set t || y == t) s.in_use ∙ sym (regroup (taken t) (unlocked t) (y == t)));
+      locked_is = λ t u. ap (λ b. claimed t || b) (other t u (y == t) refl) ∙ or-false (claimed t) ∙ s.locked_is t u;
+      in_use = fun_ext (λ t. or_turned (claimed t) (y == t) (unlocked t) ∙ ap (λ set. set t || y == t) s.in_use ∙ sym (or_turned (taken t) (y == t) (unlocked t)));
     }) where
       not_open : unlocked y ≡ false
       not_open = (or_parts (claimed y) (unlocked y) (free-small (either claimed unlocked) y (sym found)).1).1
@@ -69,12 +124,6 @@ given_serves claimed unlocked locked taken new (Some y) s found e =
       other : (t : ℕ) → unlocked t ≡ true → (b : Bool) → (y == t) ≡ b → (y == t) ≡ false
       other t u true h = absurd (true≢false (sym u ∙ ap unlocked (sym (eqb-true y t h)) ∙ not_open))
       other t u false h = h
-
-      regroup : (a u same : Bool) → ((a || same) || u) ≡ ((a || u) || same)
-      regroup true u same = refl
-      regroup false true true = refl
-      regroup false true false = refl
-      regroup false false same = or_false same
 
 -- a RED that is settled beside the same open types
 pub red_step : (claimed1 claimed2 unlocked unlocked1 unlocked2 locked taken : TypeSet) (red asked : Option ℕ) → unlocked1 ≡ unlocked → unlocked2 ≡ unlocked1 → Serves claimed1 unlocked locked taken
@@ -87,21 +136,6 @@ red_step claimed1 claimed2 unlocked unlocked1 unlocked2 locked taken red asked s
     (value locked taken s1 ∙ ap (λ u. kept_red locked taken u asked) same1, subst Out (sym same2) (claimed locked taken s1))
 
 -- ---- a row that is settled, step by step
-
-pub settled_if_locked : (locked taken unlocked : TypeSet) (row : PayloadParams) → row.locked ≡ true → ◌≡◌ {A = Result PayloadParams NegotiationError} (Ok row) (settled locked taken unlocked row)
-unfolding settled
-settled_if_locked locked taken unlocked row l = rw l refl
-
--- what is left to do once the primary type is found, and once the RED is
-abbrev from_red : TypeSet → TypeSet → TypeSet → PayloadParams → ℕ → Option ℕ → Result PayloadParams NegotiationError
-from_red locked taken unlocked row pt red = and_then (kept_rtx locked (with_option (with_type taken pt) red) unlocked row.resend) (λ resend. Ok (record row { pt = pt; resend = resend; red = red }))
-
-abbrev from_pt : TypeSet → TypeSet → TypeSet → PayloadParams → ℕ → Result PayloadParams NegotiationError
-from_pt locked taken unlocked row pt = from_red locked taken unlocked row pt (kept_red locked (with_type taken pt) unlocked row.red)
-
-settled_if_open : (locked taken unlocked : TypeSet) (row : PayloadParams) → row.locked ≡ false → settled locked taken unlocked row ≡ and_then (ok_or (kept_or_free locked taken unlocked row.pt) Exhausted) (from_pt locked taken unlocked row)
-unfolding settled
-settled_if_open locked taken unlocked row l = rw l refl
 
 pub settled_stops : (locked taken unlocked : TypeSet) (row : PayloadParams) (pt : Option ℕ) (cause : NegotiationError) → row.locked ≡ false → pt ≡ kept_or_free locked taken unlocked row.pt → ok_or pt Exhausted ≡ Err cause
     → ◌≡◌ {A = Result PayloadParams NegotiationError} (Err cause) (settled locked taken unlocked row)

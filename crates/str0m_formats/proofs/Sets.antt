@@ -1,7 +1,9 @@
 -- Sets of payload types: what is claimed, and what is free.
-use Rattle.str0m_formats.proofs.Common.{◌≡◌, ◌==◌, ℕ, ◌≤◌, ◌<◌, Bool, true, false, cond, ◌||◌, ◌&&◌, not, nat_le, List, [], ◌∷◌, Option, Some, None, find, ◌++◌, length, get_or, refl, sym, ap, ◌∙◌, arith, list_all, slice_get, option_to_list, eqb-true, not-true, and_parts, leb-true, le-leb, fun_ext}
+use Rattle.str0m_formats.proofs.Common.{◌≡◌, ◌==◌, ℕ, ◌≤◌, ◌<◌, Bool, true, false, ◌||◌, ◌&&◌, not, nat_le, List, [], ◌∷◌, Option, Some, None, IfSome, ◌++◌, length, get_or, refl, sym, ap, ◌∙◌, subst, arith, slice_get, option_to_list, eqb-true, not-true, leb-true, le-leb, or-false, or_assoc, list_any-append, fun_ext}
+use Rattle.std.proofs.Math.Bool.{or_comm}
 use Rattle.std.proofs.lemmas.Option.{slice_get_read}
 use Rattle.str0m_formats.specs.TypeSets.{TypeSet, has, with_type, with_option, either, free, preferred}
+use Rattle.str0m_formats.proofs.Lookup.{find_passes}
 
 claimed_at : (old_t old_pt answer same new_t : Bool) → answer ≡ not old_pt → (same ≡ true → old_pt ≡ old_t) → new_t ≡ (old_t || (answer && same)) → new_t ≡ (old_t || same)
 claimed_at true p a s n h e q = q
@@ -13,60 +15,46 @@ pub claimed_with : (old new : ℕ → Bool) (pt : ℕ) (answer : Bool) → pt �
 claimed_with old new pt answer small h step =
     fun_ext (λ t. claimed_at (old t) (old pt) answer (pt == t) (new t) (h ∙ ap (λ b. b && not (old pt)) (le-leb pt 127 small)) (λ s. ap old (eqb-true pt t s)) (step t))
 
--- what is found in a list passes the test that was sought, and each test that all of the list passes
-pub find-passes : (p q : ℕ → Bool) (xs : List ℕ) (y : ℕ) → list_all q xs ≡ true → find p xs ≡ Some y → (p y ≡ true) × (q y ≡ true)
-find-passes p q [] y all found = absurd (cc)
-find-passes p q (x ∷ xs) y all found =
-    let parts = and_parts (q x) (list_all q xs) all in
-    elim (p x) as (λ b. p x ≡ b → cond b (Some x) (find p xs) ≡ Some y → (p y ≡ true) × (q y ≡ true)) [
-      | true ↦ λ e f. (let s : x ≡ y = cc in (ap p (sym s) ∙ e, ap q (sym s) ∙ parts.0))
-      | false ↦ λ e f. find-passes p q xs y parts.1 f
-    ] refl found
-
 -- a free type is at most 127, and is not in use
 pub free-small : (used : TypeSet) (t : ℕ) → free used ≡ Some t → (t ≤ 127) × (used t ≡ false)
 unfolding preferred
 free-small used t h =
-    let found = find-passes (λ x. not (used x)) (λ x. nat_le x 127) preferred t refl h in
-    (leb-true t 127 found.1, not-true (used t) found.0)
+    let Passes : Option ℕ → Type 0 = λ o. IfSome o (λ x. (nat_le x 127 ≡ true) × (not (used x) ≡ true)) in
+    let found = subst Passes h (find_passes (λ x. nat_le x 127) (λ x. not (used x)) preferred refl) in
+    (leb-true t 127 found.0, not-true (used t) found.1)
 
 -- a type that is refused leaves the set as it is
 pub claimed_without : (old new : ℕ → Bool) (pt : ℕ) (answer : Bool) → answer ≡ false → ((t : ℕ) → new t ≡ (old t || (answer && pt == t))) → new ≡ old
-claimed_without old new pt answer refused step = fun_ext (λ t. step t ∙ ap (λ b. old t || (b && pt == t)) refused ∙ or_false (old t)) where
-  or_false : (b : Bool) → (b || false) ≡ b
-  or_false true = refl
-  or_false false = refl
+claimed_without old new pt answer refused step = fun_ext (λ t. step t ∙ ap (λ b. old t || (b && pt == t)) refused ∙ or-false (old t))
 
 pub answer_small : (old_pt answer : Bool) (pt : ℕ) → pt ≤ 127 → answer ≡ (nat_le pt 127 && not old_pt) → answer ≡ not old_pt
 answer_small o a pt h e = e ∙ ap (λ b. b && not o) (le-leb pt 127 h)
 
--- the types of a row added one by one, RED before RTX, or as a list
+-- types added one by one, or as a list
+pub type-is : (set : TypeSet) (t : ℕ) → with_type set t ≡ either set (has (t ∷ []))
+type-is set t = fun_ext (λ x. ap (λ b. set x || b) (sym (or-false (t == x))))
+
+pub option-is : (set : TypeSet) (o : Option ℕ) → with_option set o ≡ either set (has (option_to_list o))
+option-is set None = fun_ext (λ x. sym (or-false (set x)))
+option-is set (Some t) = type-is set t
+
+pub either-append : (set : TypeSet) (xs ys : List ℕ) → either (either set (has xs)) (has ys) ≡ either set (has (xs ++ ys))
+either-append set xs ys = fun_ext (λ t. or_assoc (set t) (has xs t) (has ys t) ∙ ap (λ b. set t || b) (sym (list_any-append (λ x. x == t) xs ys)))
+
+pub two-are : (set : TypeSet) (t : ℕ) (o : Option ℕ) → with_option (with_type set t) o ≡ either set (has (t ∷ option_to_list o))
+two-are set t o = option-is (with_type set t) o ∙ ap (λ s. either s (has (option_to_list o))) (type-is set t) ∙ either-append set (t ∷ []) (option_to_list o)
+
+pub or_turned : (a b c : Bool) → ((a || b) || c) ≡ ((a || c) || b)
+or_turned a b c = or_assoc a b c ∙ ap (λ d. a || d) (or_comm b c) ∙ sym (or_assoc a c b)
+
+-- the types of a row, RED before RTX
 pub with_row_types : (set : TypeSet) (pt : ℕ) (resend red : Option ℕ) → with_option (with_option (with_type set pt) red) resend ≡ either set (has (pt ∷ (option_to_list resend ++ option_to_list red)))
-with_row_types set pt None None = fun_ext (λ t. or_end (set t) (pt == t)) where
-  or_end : (a b : Bool) → (a || b) ≡ (a || (b || false))
-  or_end true b = refl
-  or_end false true = refl
-  or_end false false = refl
-with_row_types set pt None (Some y) = fun_ext (λ t. or_two (set t) (pt == t) (y == t)) where
-  or_two : (a b c : Bool) → ((a || b) || c) ≡ (a || (b || (c || false)))
-  or_two true b c = refl
-  or_two false true c = refl
-  or_two false false true = refl
-  or_two false false false = refl
-with_row_types set pt (Some x) None = fun_ext (λ t. or_two (set t) (pt == t) (x == t)) where
-  or_two : (a b c : Bool) → ((a || b) || c) ≡ (a || (b || (c || false)))
-  or_two true b c = refl
-  or_two false true c = refl
-  or_two false false true = refl
-  or_two false false false = refl
-with_row_types set pt (Some x) (Some y) = fun_ext (λ t. or_three (set t) (pt == t) (x == t) (y == t)) where
-  or_three : (a b c d : Bool) → (((a || b) || d) || c) ≡ (a || (b || (c || (d || false))))
-  or_three true b c d = refl
-  or_three false true c d = refl
-  or_three false false true true = refl
-  or_three false false false true = refl
-  or_three false false true false = refl
-  or_three false false false false = refl
+with_row_types set pt resend red =
+    option-is (with_option (with_type set pt) red) resend
+    ∙ ap (λ s. either s (has (option_to_list resend))) (option-is (with_type set pt) red)
+    ∙ fun_ext (λ t. or_turned (with_type set pt t) (has (option_to_list red) t) (has (option_to_list resend) t))
+    ∙ ap (λ s. either s (has (option_to_list red))) (sym (option-is (with_type set pt) resend) ∙ two-are set pt resend)
+    ∙ either-append set (pt ∷ option_to_list resend) (option_to_list red)
 
 -- the item that a loop reads
 pub slice_get_item : {A : Type 0} (xs : List A) (i : ℕ) (x : A) → i < length xs → x ≡ get_or xs i x → slice_get xs i ≡ Some x

@@ -1,18 +1,17 @@
 -- Types stay at most 127.
-use Rattle.str0m_formats.proofs.Common.{zero, suc, ◌≡◌, ℕ, ◌≤◌, Bool, true, false, cond, find, nat_lt, List, [], ◌∷◌, ◌++◌, Option, Some, None, Ok, Err, IfSome, refl, sym, ap, ◌∙◌, subst, arith, slice_get, option_to_list, option_or, ok_or, ltb-true}
-use Rattle.str0m_formats.specs.declared.negotiation_error.NegotiationError.TheVariants.{Exhausted, ClaimedTwice}
+use Rattle.str0m_formats.proofs.Common.{zero, suc, ◌≡◌, ℕ, Bool, true, false, cond, find, nat_lt, List, [], ◌∷◌, ◌++◌, Option, Some, None, Ok, IfSome, refl, sym, ap, ◌∙◌, subst, slice_get, option_to_list, option_or, find-append, le-ltb, IfOk-at_ok}
 use Rattle.str0m_formats.specs.declared.payload_params.PayloadParams.{PayloadParams}
 use Rattle.str0m_formats.specs.Codec.{Content, audio, content}
 use Rattle.str0m_formats.specs.TypeSets.{TypeSet, with_type, with_option, either, free, AllDistinct}
 use Rattle.str0m_formats.specs.Rows.{AllSmall, types_of, types, locked_types}
 use Rattle.str0m_formats.specs.Choices.{points_for}
-use Rattle.str0m_formats.specs.Rounds.{own_or_free, role_type, rtx_type, red_type, only_audio, placed, settled, kept_red, Leaves}
+use Rattle.str0m_formats.specs.Rounds.{red_type, only_audio, placed, settled, Leaves}
 use Rattle.str0m_formats.proofs.Sets.{free-small}
-use Rattle.str0m_formats.proofs.Ranges.{find-append}
-use Rattle.str0m_formats.proofs.FirstPass.{none-parts, small_at, small_choice, and_then-ok, same_Ok, placed-locked}
+use Rattle.str0m_formats.proofs.FirstPass.{none-parts, small_at, small_choice, placed-locked, placed-open_row, placed-no_choice, locked_parts}
 use Rattle.str0m_formats.proofs.WholeRound.{row_before}
-use Rattle.str0m_formats.proofs.RowSteps.{row_steps, placed-open_row, placed-no_choice, locked_parts, settled_parts, new_red, new_resend, with_red, found, not_ok, settled-same}
+use Rattle.str0m_formats.proofs.RowSteps.{row_steps, role-given, rtx-given, red-given, kept-given}
 use Rattle.str0m_formats.proofs.Invariants.{locked_once}
+use Rattle.str0m_formats.proofs.SecondPass.{settled_parts, new_red, new_resend, with_red, settled-same}
 
 pub small-append : (xs ys : List ℕ) → AllSmall xs → AllSmall ys → AllSmall (xs ++ ys)
 small-append xs ys hx hy = find-append (nat_lt 127) xs ys ∙ ap (λ o. option_or o (find (nat_lt 127) ys)) hx ∙ hy
@@ -23,73 +22,42 @@ small_rows [] h = refl
 small_rows (r ∷ rows) h = small-append (types_of r) (types rows) (h zero r refl) (small_rows rows (λ i row e. h (suc i) row e))
 
 -- the types of a row, role by role
+abbrev Small : ℕ → Type 0
+Small t = AllSmall (t ∷ [])
+
 abbrev SmallRoles : PayloadParams → Type 0
-SmallRoles row = AllSmall (row.pt ∷ []) × AllSmall (option_to_list row.resend) × AllSmall (option_to_list row.red)
+SmallRoles row = Small row.pt × IfSome row.resend Small × IfSome row.red Small
+
+single : (o : Option ℕ) → AllSmall (option_to_list o) → IfSome o Small
+single None h = tt
+single (Some t) h = h
+
+listed : (o : Option ℕ) → IfSome o Small → AllSmall (option_to_list o)
+listed None h = refl
+listed (Some t) h = h
 
 roles_of : (row : PayloadParams) → AllSmall (types_of row) → SmallRoles row
 roles_of row h =
     let first = none-parts (nat_lt 127) (row.pt ∷ []) (option_to_list row.resend ++ option_to_list row.red) h in
     let rest = none-parts (nat_lt 127) (option_to_list row.resend) (option_to_list row.red) first.1 in
-    (first.0, rest.0, rest.1)
+    (first.0, single row.resend rest.0, single row.red rest.1)
 
-of_roles : (p : ℕ) (x r : Option ℕ) → AllSmall (p ∷ []) → AllSmall (option_to_list x) → AllSmall (option_to_list r) → AllSmall (p ∷ (option_to_list x ++ option_to_list r))
-of_roles p x r hp hx hr = small-append (p ∷ []) (option_to_list x ++ option_to_list r) hp (small-append (option_to_list x) (option_to_list r) hx hr)
+of_roles : (p : ℕ) (x r : Option ℕ) → Small p → IfSome x Small → IfSome r Small → AllSmall (p ∷ (option_to_list x ++ option_to_list r))
+of_roles p x r hp hx hr = small-append (p ∷ []) (option_to_list x ++ option_to_list r) hp (small-append (option_to_list x) (option_to_list r) (listed x hx) (listed r hr))
 
-free-fits : (used : TypeSet) → AllSmall (option_to_list (free used))
-free-fits used = go (free used) refl where
-  fits : (t : ℕ) → t ≤ 127 → (b : Bool) → nat_lt 127 t ≡ b → cond b (Some t) None ≡ None
-  fits t h true e = absurd (omega (arith, h, ltb-true 127 t e))
-  fits t h false e = refl
+free-fits : (taken unlocked : TypeSet) (t : ℕ) → free (either taken unlocked) ≡ Some t → Small t
+free-fits taken unlocked t e = ap (λ b. cond {A = Option ℕ} b (Some t) None) (le-ltb 127 t (free-small (either taken unlocked) t e).0)
 
-  go : (o : Option ℕ) → free used ≡ o → AllSmall (option_to_list o)
-  go None e = refl
-  go (Some t) e = fits t (free-small used t e).0 (nat_lt 127 t) refl
+-- whether it is in a set or not
+anyway : (set : TypeSet) (o : Option ℕ) → IfSome o Small → IfSome o (λ t. set t ≡ false → Small t)
+anyway set None h = tt
+anyway set (Some t) h = λ _. h
 
 -- ---- the first pass
 
-free_ok : (used : TypeSet) (t : ℕ) → ok_or (free used) Exhausted ≡ Ok t → AllSmall (t ∷ [])
-free_ok used t h = ap (λ o. find (nat_lt 127) (option_to_list o)) (sym (found (free used) t h)) ∙ free-fits used
-
-role-small : (taken unlocked : TypeSet) (receives : Bool) (asked : ℕ) (own : Option ℕ) (t : ℕ) → role_type taken unlocked receives asked own ≡ Ok t → AllSmall (asked ∷ []) → AllSmall (option_to_list own) → AllSmall (t ∷ [])
-unfolding role_type
-role-small taken unlocked receives asked own t h ha ho = go (taken asked) receives h where
-  Fits : ℕ → Type 0
-  Fits x = AllSmall (x ∷ [])
-
-  own_case : (x : ℕ) → AllSmall (x ∷ []) → (b : Bool) → cond b (ok_or (free (either taken unlocked)) Exhausted) (Ok x) ≡ Ok t → AllSmall (t ∷ [])
-  own_case x s true e = free_ok (either taken unlocked) t e
-  own_case x s false e = subst Fits (same_Ok x t e) s
-
-  own_part : (o : Option ℕ) → AllSmall (option_to_list o) → own_or_free taken unlocked o ≡ Ok t → AllSmall (t ∷ [])
-  own_part None s e = free_ok (either taken unlocked) t e
-  own_part (Some x) s e = own_case x s (taken x) e
-
-  go : (b c : Bool) → cond b (cond c (Err (ClaimedTwice asked)) (own_or_free taken unlocked own)) (Ok asked) ≡ Ok t → AllSmall (t ∷ [])
-  go false c e = subst Fits (same_Ok asked t e) ha
-  go true true e = absurd (not_ok e)
-  go true false e = own_part own ho e
-
-rtx-small : (taken unlocked : TypeSet) (receives : Bool) (asked own new : Option ℕ) → rtx_type taken unlocked receives asked own ≡ Ok new → AllSmall (option_to_list asked) → AllSmall (option_to_list own) → AllSmall (option_to_list new)
-unfolding rtx_type
-rtx-small taken unlocked receives None own new h ha ho = let Fits : Option ℕ → Type 0 = λ o. AllSmall (option_to_list o) in subst Fits (same_Ok None new h) ha
-rtx-small taken unlocked receives (Some asked) own new h ha ho =
-    let got = and_then-ok (role_type taken unlocked receives asked own) (λ t. Ok (Some t)) new h in
-    let Fits : Option ℕ → Type 0 = λ o. AllSmall (option_to_list o) in
-    subst Fits (same_Ok (Some got.0) new got.2) (role-small taken unlocked receives asked own got.0 got.1 ha ho)
-
-red-small : (taken unlocked : TypeSet) (receives : Bool) (asked own : Option ℕ) → AllSmall (option_to_list asked) → AllSmall (option_to_list (red_type taken unlocked receives asked own))
-unfolding red_type
-red-small taken unlocked receives None own h = refl
-red-small taken unlocked receives (Some asked) None h = refl
-red-small taken unlocked receives (Some asked) (Some own) h = go (taken asked) receives where
-  go : (b c : Bool) → AllSmall (option_to_list (cond b (cond c None (free (either taken unlocked))) (Some asked)))
-  go false c = h
-  go true true = refl
-  go true false = free-fits (either taken unlocked)
-
-audio-small : (c : Content) (o : Option ℕ) → AllSmall (option_to_list o) → AllSmall (option_to_list (only_audio c o))
+audio-small : (c : Content) (o : Option ℕ) → IfSome o Small → IfSome (only_audio c o) Small
 audio-small audio o h = h
-audio-small _ o h = refl
+audio-small _ o h = tt
 
 placed-small : (taken unlocked : TypeSet) (receives : Bool) (row new : PayloadParams) (choice : Option PayloadParams) → placed taken unlocked receives row choice ≡ Ok new → AllSmall (types_of row) → IfSome choice (λ c. AllSmall (types_of c)) → AllSmall (types_of new)
 placed-small taken unlocked receives row new None h s k = ap (λ r. find (nat_lt 127) (types_of r)) (sym (placed-no_choice taken unlocked receives row new h)) ∙ s
@@ -100,20 +68,16 @@ placed-small taken unlocked receives row new (Some c) h s k = go row.locked refl
       let parts = locked_parts taken unlocked receives row c new (sym (placed-open_row taken unlocked receives row c l) ∙ h) in
       let own = roles_of row s in
       let asked = roles_of c k in
-      let red = red_type (with_option (with_type taken parts.pt) parts.resend) unlocked receives c.red row.red in
+      let one = with_type taken parts.pt in
+      let two = with_option one parts.resend in
+      let red = red_type two unlocked receives c.red row.red in
       ap (λ r. find (nat_lt 127) (types_of r)) (sym parts.all)
-      ∙ of_roles parts.pt parts.resend (only_audio (content row.spec.codec) red) (role-small taken unlocked receives c.pt (Some row.pt) parts.pt parts.pt_is asked.0 own.0)
-      (rtx-small (with_type taken parts.pt) unlocked receives c.resend row.resend parts.resend parts.resend_is asked.1 own.1)
-      (audio-small (content row.spec.codec) red (red-small (with_option (with_type taken parts.pt) parts.resend) unlocked receives c.red row.red asked.2))
+      ∙ of_roles parts.pt parts.resend (only_audio (content row.spec.codec) red)
+      (IfOk-at_ok Small parts.pt_is (role-given Small taken unlocked (free-fits taken unlocked) receives c.pt (Some row.pt) (λ _. asked.0) (λ _. own.0)))
+      (IfOk-at_ok (λ o. IfSome o Small) parts.resend_is (rtx-given Small one unlocked (free-fits one unlocked) receives c.resend row.resend (anyway one c.resend asked.1) (anyway one row.resend own.1)))
+      (audio-small (content row.spec.codec) red (red-given Small two unlocked (free-fits two unlocked) receives c.red row.red (anyway two c.red asked.2)))
 
 -- ---- the second pass
-
-kept-small : (locked taken unlocked : TypeSet) (own : Option ℕ) → AllSmall (option_to_list own) → AllSmall (option_to_list (kept_red locked taken unlocked own))
-kept-small locked taken unlocked None h = refl
-kept-small locked taken unlocked (Some t) h = go (locked t) where
-  go : (b : Bool) → AllSmall (option_to_list (cond b (free (either taken unlocked)) (Some t)))
-  go true = free-fits (either taken unlocked)
-  go false = h
 
 settled-small : (locked taken unlocked : TypeSet) (row new : PayloadParams) → settled locked taken unlocked row ≡ Ok new → AllSmall (types_of row) → AllSmall (types_of new)
 settled-small locked taken unlocked row new h s = go row.locked refl where
@@ -122,10 +86,14 @@ settled-small locked taken unlocked row new h s = go row.locked refl where
   go false l =
       let parts = settled_parts locked taken unlocked row new h l in
       let own = roles_of row s in
-      let red = new_red locked taken unlocked row parts.pt in
-      let primary = ap (λ o. find (nat_lt 127) (option_to_list o)) (sym parts.pt_is) ∙ kept-small locked taken unlocked (Some row.pt) own.0 in
+      let one = with_type taken parts.pt in
+      let two = with_red locked taken unlocked row parts.pt in
+      let Fits : Option ℕ → Type 0 = λ o. IfSome o Small in
       ap (λ r. find (nat_lt 127) (types_of r)) (sym parts.all)
-      ∙ of_roles parts.pt (new_resend locked taken unlocked row parts.pt) red primary (kept-small locked (with_red locked taken unlocked row parts.pt) unlocked row.resend own.1) (kept-small locked (with_type taken parts.pt) unlocked row.red own.2)
+      ∙ of_roles parts.pt (new_resend locked taken unlocked row parts.pt) (new_red locked taken unlocked row parts.pt)
+      (subst Fits parts.pt_is (kept-given Small taken unlocked (free-fits taken unlocked) locked (Some row.pt) (λ _. own.0)))
+      (kept-given Small two unlocked (free-fits two unlocked) locked row.resend (anyway locked row.resend own.1))
+      (kept-given Small one unlocked (free-fits one unlocked) locked row.red (anyway locked row.red own.2))
 
 -- ---- a round
 

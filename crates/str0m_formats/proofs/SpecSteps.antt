@@ -8,10 +8,10 @@ use Rattle.str0m_formats.specs.Narrowing.{narrowed}
 use Rattle.str0m_formats.specs.Rounds.{placed, settled, Leaves}
 use Rattle.str0m_formats.specs.Promises.{AtEachRow}
 use Rattle.str0m_formats.specs.Scores.{score}
-use Rattle.str0m_formats.proofs.FirstPass.{same_Ok}
+use Rattle.str0m_formats.proofs.FirstPass.{same_Ok, placed-locked_row, placed-open_row, placed-no_choice, locked_parts}
 use Rattle.str0m_formats.proofs.Matched.{some_score}
-use Rattle.str0m_formats.proofs.RowSteps.{row_steps, placed-locked_row, placed-open_row, placed-no_choice}
-use Rattle.str0m_formats.proofs.RowSteps.{locked_parts, settled_parts, settled-same}
+use Rattle.str0m_formats.proofs.RowSteps.{row_steps}
+use Rattle.str0m_formats.proofs.SecondPass.{settled_parts, settled-same}
 
 settled-spec : (locked taken unlocked : TypeSet) (row new : PayloadParams) → settled locked taken unlocked row ≡ Ok new
     → row.spec ≡ new.spec

@@ -1,5 +1,5 @@
 -- How often a number stands in a list.
-use Rattle.str0m_formats.proofs.Common.{◌≡◌, ◌==◌, ℕ, ◌+◌, ◌≤◌, Bool, true, false, not, ◌&&◌, cond, List, [], ◌∷◌, ◌++◌, refl, sym, ap, ◌∙◌, arith, list_all, and_parts, or_parts, not-true, eqb-true}
+use Rattle.str0m_formats.proofs.Common.{◌≡◌, ◌==◌, ℕ, ◌+◌, ◌≤◌, Bool, true, false, not, ◌&&◌, ◌||◌, cond, List, [], ◌∷◌, ◌++◌, refl, sym, ap, ◌∙◌, arith, list_all, false≢true, and_parts, or_parts, not-true, eqb-true}
 use Rattle.std.proofs.Common.{zero-add}
 use Rattle.std.proofs.lemmas.List.Sums.{sum_by-append}
 use Rattle.str0m_formats.specs.TypeSets.{has, times}
@@ -21,6 +21,13 @@ times-none [] t h = refl
 times-none (x ∷ xs) t h =
     let parts = or_parts (x == t) (has xs t) h in
     omega (arith, times-cons x xs t, one_if (x == t) false parts.0, times-none xs t parts.1)
+
+pub times-some : (xs : List ℕ) (t : ℕ) → has xs t ≡ true → 1 ≤ times xs t
+times-some [] t h = absurd (false≢true h)
+times-some (x ∷ xs) t h = go (x == t) refl h (times-some xs t) where
+  go : (b : Bool) → (x == t) ≡ b → (b || has xs t) ≡ true → (has xs t ≡ true → 1 ≤ times xs t) → 1 ≤ times (x ∷ xs) t
+  go true e k rest = omega (arith, times-cons x xs t, one_if (x == t) true e)
+  go false e k rest = let one = rest k in omega (arith, times-cons x xs t, one)
 
 -- the test that no number stands in the list twice
 abbrev pub all_apart : List ℕ → Bool

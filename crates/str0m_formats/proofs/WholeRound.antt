@@ -1,12 +1,12 @@
 -- What a whole first pass leaves, and a whole round.
-use Rattle.str0m_formats.proofs.Common.{zero, suc, ◌≡◌, ℕ, ◌⊎◌, inl, inr, Bool, true, false, ◌||◌, cond, find, nat_lt, List, [], ◌∷◌, ◌++◌, length, take, Option, Some, None, Result, Ok, Err, OnOk, IfErr, filter, refl, sym, ap, ◌∙◌, subst, arith, slice_get, slice_get_within, true≢false, false≢true, or_cases, fun_ext}
+use Rattle.str0m_formats.proofs.Common.{zero, suc, ◌≡◌, ℕ, ◌⊎◌, inl, inr, Bool, true, false, ◌||◌, cond, find, nat_lt, List, [], ◌∷◌, ◌++◌, length, Option, Some, None, Result, Ok, Err, OnOk, IfErr, filter, refl, sym, ap, ◌∙◌, subst, arith, slice_get, slice_get_within, true≢false, false≢true, cases_Bool, or_cases, fun_ext}
 use Rattle.str0m_formats.specs.declared.negotiation_error.NegotiationError.{NegotiationError}
 use Rattle.str0m_formats.specs.declared.negotiation_error.NegotiationError.TheVariants.{TypeTooLarge}
 use Rattle.str0m_formats.specs.declared.payload_params.PayloadParams.{PayloadParams}
 use Rattle.str0m_formats.specs.TypeSets.{TypeSet, has, AllDistinct}
 use Rattle.str0m_formats.specs.Rows.{AllSmall, types_of, types, locked_types, open_types}
 use Rattle.str0m_formats.specs.Claiming.{claim_each}
-use Rattle.str0m_formats.specs.Rounds.{taken_by, Becomes, Begun, MayBegin, AllBegun, Settled, StopsSettling, Leaves, Refused, too_large, twice_before, in_second}
+use Rattle.str0m_formats.specs.Rounds.{taken_by, Begun, MayBegin, AllBegun, Settled, StopsSettling, Leaves, Refused, too_large, twice_before, in_second}
 use Rattle.str0m_formats.proofs.Passes.{none_within}
 use Rattle.str0m_formats.proofs.RowSets.{has-append, locked_types-at, open_types-at}
 use Rattle.str0m_formats.proofs.FirstPass.{placed-locked, placed-open}
@@ -29,13 +29,13 @@ pub begun_open : (before remote : List PayloadParams) (receives : Bool) (mid : L
 begun_open before remote receives mid i row begun whole at_row open_row =
     let old = row_before before mid i row whole at_row in
     let now = begun.each i old.0 row old.1 at_row in
-    go old.0 old.1 now old.0.locked refl where
-      go : (b : PayloadParams) → slice_get before i ≡ Some b → Becomes (taken_by before (take i mid)) (has (open_types before)) remote receives b (Ok row) → (l : Bool) → b.locked ≡ l → slice_get before i ≡ Some row
-      go b at_b now true e = absurd (true≢false (sym (placed-locked _ _ receives b row now.choice now.placed_so e).0 ∙ open_row))
-      go b at_b now false e = either_way (placed-open _ _ receives b row now.choice now.placed_so e) where
-        either_way : (row ≡ b) ⊎ (row.locked ≡ true) → slice_get before i ≡ Some row
-        either_way (inl same) = at_b ∙ ap (λ r. Some r) (sym same)
-        either_way (inr l) = absurd (true≢false (sym l ∙ open_row))
+    elim (cases_Bool old.0.locked) [
+      | inl l ↦ absurd (true≢false (sym (placed-locked _ _ receives old.0 row now.choice now.placed_so l).0 ∙ open_row))
+      | inr o ↦ elim (placed-open _ _ receives old.0 row now.choice now.placed_so o) [
+        | inl same ↦ old.1 ∙ ap (λ r. Some r) (sym same)
+        | inr l ↦ absurd (true≢false (sym l ∙ open_row))
+      ]
+    ]
 
 -- a row that was locked before keeps its types
 pub begun_locked : (before remote : List PayloadParams) (receives : Bool) (mid : List PayloadParams) (i : ℕ) (old row : PayloadParams) → Begun before remote receives mid → slice_get before i ≡ Some old → slice_get mid i ≡ Some row → old.locked ≡ true → (row.locked ≡ true) × (types_of row ≡ types_of old)
@@ -96,21 +96,16 @@ all_begun before remote receives claims_receive mid set small h r begun whole =
     let P : Bool → Type 0 = λ b. Begun before remote b mid in
     record { may = may_begin before remote set small h; begun = subst P r begun; whole = whole }
 
-pub round_ok : (before remote : List PayloadParams) (receives claims_receive : Bool) (mid after : List PayloadParams) (set unlocked : TypeSet) (result : Result (Unit {0}) NegotiationError)
-    → AllSmall (types before ++ types remote) → claim_each (has []) (locked_types before) ≡ Ok set → claims_receive ≡ receives → Begun before remote claims_receive mid → length mid ≡ length before
-    → unlocked ≡ has (open_types before) → OnOk result (Settled unlocked mid after) → length after ≡ length mid → OnOk result (Leaves before remote receives after)
-round_ok before remote receives claims_receive mid after set unlocked (Err e) small h r begun whole u s l = tt
-round_ok before remote receives claims_receive mid after set unlocked (Ok x) small h r begun whole u s l =
-    let P : TypeSet → Type 0 = λ un. Settled un mid after in
-    record { mid = mid; first = all_begun before remote receives claims_receive mid set small h r begun whole; second = subst P u s; whole = l }
+pub round_done : (before remote : List PayloadParams) (receives claims_receive : Bool) (mid after : List PayloadParams) (set unlocked : TypeSet) (result : Result (Unit {0}) NegotiationError)
+    → AllSmall (types before ++ types remote) → claim_each (has []) (locked_types before) ≡ Ok set → claims_receive ≡ receives → Begun before remote claims_receive mid → length mid ≡ length before → unlocked ≡ has (open_types before)
+    → OnOk result (Settled unlocked mid after) → length after ≡ length mid → IfErr result (StopsSettling unlocked mid) → OnOk result (Leaves before remote receives after) × IfErr result (Refused before remote receives)
+round_done before remote receives claims_receive mid after set unlocked result small h r begun whole u = go result where
+  first : AllBegun before remote receives mid
+  first = all_begun before remote receives claims_receive mid set small h r begun whole
 
-pub round_err : (before remote : List PayloadParams) (receives claims_receive : Bool) (mid : List PayloadParams) (set unlocked : TypeSet) (result : Result (Unit {0}) NegotiationError)
-    → AllSmall (types before ++ types remote) → claim_each (has []) (locked_types before) ≡ Ok set → claims_receive ≡ receives → Begun before remote claims_receive mid → length mid ≡ length before
-    → unlocked ≡ has (open_types before) → IfErr result (StopsSettling unlocked mid) → IfErr result (Refused before remote receives)
-round_err before remote receives claims_receive mid set unlocked (Ok x) small h r begun whole u s = tt
-round_err before remote receives claims_receive mid set unlocked (Err e) small h r begun whole u s =
-    let P : TypeSet → Type 0 = λ un. StopsSettling un mid e in
-    in_second e (record { mid = mid; first = all_begun before remote receives claims_receive mid set small h r begun whole; second = subst P u s })
+  go : (result : Result (Unit {0}) NegotiationError) → OnOk result (Settled unlocked mid after) → length after ≡ length mid → IfErr result (StopsSettling unlocked mid) → OnOk result (Leaves before remote receives after) × IfErr result (Refused before remote receives)
+  go (Ok x) s l e = (record { mid = mid; first = first; second = subst (λ (un : TypeSet). Settled un mid after) u s; whole = l }, tt)
+  go (Err c) s l e = (tt, in_second c (record { mid = mid; first = first; second = subst (λ (un : TypeSet). StopsSettling un mid c) u e }))
 
 -- what refuses a copy of the rows refuses the rows
 pub refused_as_copied : (before copied now remote : List PayloadParams) (receives now_receives : Bool) (cause : NegotiationError)

@@ -1,10 +1,11 @@
 -- What every accepted round promises, read off the rows before it, the remote rows and the rows after it alone.
-use Rattle.std.specs.Prelude.{◌≡◌, ◌≢◌, ◌≤◌, ℕ, Bool, true, false, Option, Some, None, Ok, Err, List, ◌++◌, length, slice_get}
+use Rattle.std.specs.Prelude.{◌≡◌, ◌≢◌, ◌≤◌, ℕ, Bool, true, false, Option, Some, None, Ok, Err, OnOk, OnErr, IfErr, List, ◌++◌, length, slice_get}
 use Rattle.std.specs.Prelude.{Contains, All}
 use Rattle.str0m_values.specs.Direction.{receives}
 use Rattle.str0m_values.specs.H264.{named, level_ordinal}
 use Rattle.str0m_values.specs.declared.h264.H264ProfileLevel.{H264ProfileLevel}
 use Rattle.str0m_formats.specs.declared.codec.Codec.TheVariants.{AmrWb, H264, Tele}
+use Rattle.str0m_formats.specs.declared.codec_config.CodecConfig.{CodecConfig}
 use Rattle.str0m_formats.specs.declared.payload_params.PayloadParams.{PayloadParams}
 use Rattle.str0m_formats.specs.Bounds.{IsBounded}
 use Rattle.str0m_formats.specs.PlainRow.{IsPlain}
@@ -15,7 +16,7 @@ use Rattle.str0m_formats.specs.declared.rounds.Round.{Round}
 use Rattle.str0m_formats.specs.declared.negotiation_error.NegotiationError.TheVariants.{Exhausted, Memory}
 use Rattle.str0m_formats.specs.Choices.{IsBest}
 use Rattle.str0m_formats.specs.Narrowing.{telephone_max}
-use Rattle.str0m_formats.specs.Rounds.{Leaves}
+use Rattle.str0m_formats.specs.Rounds.{Leaves, Refused, LeavesOnly, RefusedOnly}
 use Rattle.str0m_formats.specs.Runs.{Outcome, Reached, AtEachOk}
 
 -- each row has its place in both lists: what holds of the row before and the row after, at each place
@@ -97,6 +98,21 @@ KeepsBounds rows remote = AllSmall (types rows ++ types remote) × AllDistinct (
 abbrev pub OnlyForMemory : Outcome → Type 0
 OnlyForMemory (Ok done) = Unit {0}
 OnlyForMemory (Err cause) = cause ≡ Memory
+
+-- what a call does that runs one round
+pub record Negotiates (remote : List PayloadParams) (receives : Bool) (old new : CodecConfig) (result : Outcome) : Type 0 where
+  pub ok : OnOk result (Leaves old.params.items remote receives new.params.items)
+  pub cause : IfErr result (λ cause. cause ≢ Memory → Refused old.params.items remote receives cause)
+  -- there is one outcome: these rows alone and no cause, or this cause alone and no rows
+  pub alone : OnOk result (LeavesOnly old.params.items remote receives new.params.items)
+  pub one_cause : IfErr result (λ cause. cause ≢ Memory → RefusedOnly old.params.items remote receives cause)
+  pub room : length old.params.items ≤ 14 → result ≢ Err Exhausted
+  -- where few rows with types of seven bits meet a side that demands nothing, only memory can be wanting
+  pub bounded : length old.params.items ≤ 14 → KeepsBounds old.params.items remote → receives ≡ false → OnlyForMemory result
+  -- what holds of the rows before, the remote rows and the rows after alone
+  pub promises : OnOk result (Promises old.params.items remote receives new.params.items)
+  pub else_same : new ≡ record old { params = new.params }
+  pub err : OnErr result (new ≡ old)
 
 -- what a run of rounds promises: at each accepted round, and from its first rows to its last
 pub record RunPromises (before : List PayloadParams) (rounds : List Round) (outcomes : List Outcome) (after : List PayloadParams) : Type 0 where

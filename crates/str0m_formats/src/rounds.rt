@@ -1,9 +1,8 @@
 //! Rounds of negotiation, one and many.
-ghost use Rattle.std.specs.Prelude.{◌≡◌, ◌≢◌, ◌≤◌, length, false, Err, OnOk, OnErr, IfErr, IfOk};
+ghost use Rattle.std.specs.Prelude.{◌≡◌, OnOk, OnErr, IfErr, IfOk};
 ghost use Rattle.str0m_values.specs.Direction.{receives};
-ghost use Rattle.str0m_formats.specs.declared.negotiation_error.NegotiationError.TheVariants.{Memory};
-ghost use Rattle.str0m_formats.specs.Rounds.{Leaves, Refused, LeavesOnly, RefusedOnly};
-ghost use Rattle.str0m_formats.specs.Promises.{Promises, RunPromises, EveryRunPromises, KeepsBounds, OnlyForMemory};
+ghost use Rattle.str0m_formats.specs.Rounds.{Leaves, Refused};
+ghost use Rattle.str0m_formats.specs.Promises.{Negotiates, RunPromises, EveryRunPromises};
 ghost use Rattle.str0m_formats.specs.Runs.{Reached};
 
 use crate::beginning::{check_types, claims_of};
@@ -65,18 +64,7 @@ impl CodecConfig {
         remote: &[PayloadParams],
         dir: Direction,
     ) -> Result<(), NegotiationError>
-        ensures ok { OnOk result (Leaves self.old.params.items remote.now (receives dir) self.new.params.items) }
-        ensures cause { IfErr result (λ cause. cause ≢ Memory → Refused self.old.params.items remote.now (receives dir) cause) }
-        // There is one outcome: these rows alone and no cause, or this cause alone and no rows.
-        ensures alone { OnOk result (LeavesOnly self.old.params.items remote.now (receives dir) self.new.params.items) }
-        ensures one_cause { IfErr result (λ cause. cause ≢ Memory → RefusedOnly self.old.params.items remote.now (receives dir) cause) }
-        ensures room { length self.old.params.items ≤ 14 → result ≢ Err NegotiationError.Exhausted }
-        // Where few rows with types of seven bits meet a side that demands nothing, only memory can be wanting.
-        ensures bounded { length self.old.params.items ≤ 14 → KeepsBounds self.old.params.items remote.now → receives dir ≡ false → OnlyForMemory result }
-        // What holds of the rows before, the remote rows and the rows after alone.
-        ensures promises { OnOk result (Promises self.old.params.items remote.now (receives dir) self.new.params.items) }
-        ensures else_same { self.new ≡ record self.old { params = self.new.params } }
-        ensures err { OnErr result (self.new ≡ self.old) }
+        ensures { Negotiates remote.now (receives dir) self.old self.new result }
     {
         self.update_params_in::<ClaimMask>(remote, dir)
     }
@@ -88,15 +76,7 @@ impl CodecConfig {
         remote: &[PayloadParams],
         dir: Direction,
     ) -> Result<(), NegotiationError>
-        ensures ok { OnOk result (Leaves self.old.params.items remote.now (receives dir) self.new.params.items) }
-        ensures cause { IfErr result (λ cause. cause ≢ Memory → Refused self.old.params.items remote.now (receives dir) cause) }
-        ensures alone { OnOk result (LeavesOnly self.old.params.items remote.now (receives dir) self.new.params.items) }
-        ensures one_cause { IfErr result (λ cause. cause ≢ Memory → RefusedOnly self.old.params.items remote.now (receives dir) cause) }
-        ensures room { length self.old.params.items ≤ 14 → result ≢ Err NegotiationError.Exhausted }
-        ensures bounded { length self.old.params.items ≤ 14 → KeepsBounds self.old.params.items remote.now → receives dir ≡ false → OnlyForMemory result }
-        ensures promises { OnOk result (Promises self.old.params.items remote.now (receives dir) self.new.params.items) }
-        ensures else_same { self.new ≡ record self.old { params = self.new.params } }
-        ensures err { OnErr result (self.new ≡ self.old) }
+        ensures { Negotiates remote.now (receives dir) self.old self.new result }
     {
         // The room comes first, and then the causes: a round works on a copy, so that the rows are
         // as they were where it is refused.
@@ -104,21 +84,6 @@ impl CodecConfig {
         run_round::<C>(&mut rows, remote, dir.sdp_is_receiving())?;
         self.params = rows;
         Ok(())
-    }
-
-    /// `update_all`, as the run of its rounds.
-    fn run_all(&mut self, rounds: &[Round]) -> Result<Vec<Result<(), NegotiationError>>, AllocError>
-        ensures ok { IfOk result (λ outcomes. Reached self.old.params.items rounds.now outcomes.items self.new.params.items) }
-        ensures else_same { self.new ≡ record self.old { params = self.new.params } }
-        ensures err { OnErr result (self.new ≡ self.old) }
-    {
-        let alloc = *self.params.allocator();
-        let mut outcomes: Vec<Result<(), NegotiationError>> = vec![in alloc; Ok(()); rounds.len()]?;
-        for (i, round) in rounds.iter().enumerate() {
-            let outcome = self.update_params(&round.remote, round.direction);
-            outcomes[i] = outcome;
-        }
-        Ok(outcomes)
     }
 
     /// Runs each round in turn, whatever the others answered, and gives the outcome of each in order.
@@ -137,6 +102,12 @@ impl CodecConfig {
         ensures else_same { self.new ≡ record self.old { params = self.new.params } }
         ensures err { OnErr result (self.new ≡ self.old) }
     {
-        self.run_all(rounds)
+        let alloc = *self.params.allocator();
+        let mut outcomes: Vec<Result<(), NegotiationError>> = vec![in alloc; Ok(()); rounds.len()]?;
+        for (i, round) in rounds.iter().enumerate() {
+            let outcome = self.update_params(&round.remote, round.direction);
+            outcomes[i] = outcome;
+        }
+        Ok(outcomes)
     }
 }

@@ -1,6 +1,5 @@
-use Rattle.str0m_formats.proofs.Common.{nat_lt, sym, ◌∙◌, refl}
+use Rattle.str0m_formats.proofs.Common.{nat_lt, sym, ◌∙◌, refl, find-append}
 use Rattle.str0m_formats.specs.Rows.{types}
-use Rattle.str0m_formats.proofs.Ranges.{find-append}
 use Rattle.str0m_formats.proofs.beginning.check_types.Goals as goal
 
 pub returns-in-None-clause-ok : goal.returns-in-None-clause-ok

@@ -2,7 +2,7 @@ use Rattle.str0m_formats.proofs.Common.{Bool, ◌∙◌, subst, rules, nat_lt}
 use Rattle.str0m_formats.specs.Rows.{types}
 use Rattle.str0m_formats.specs.Rounds.{StopsFirst, in_first}
 use Rattle.str0m_formats.proofs.FirstPass.{IfErr_from, none-parts}
-use Rattle.str0m_formats.proofs.WholeRound.{taken_whole, open_before, may_begin, claimed_is_locked, refused_before, round_ok, round_err, refused_large}
+use Rattle.str0m_formats.proofs.WholeRound.{taken_whole, open_before, may_begin, claimed_is_locked, refused_before, round_done, refused_large}
 use Rattle.str0m_formats.proofs.rounds.run_round.Goals as goal
 
 pub returns-in_err-check_types-clause-err : goal.returns-in_err-check_types-clause-err
@@ -37,12 +37,9 @@ pub settle_rows-requires-clause-claimed : goal.settle_rows-requires-clause-claim
 settle_rows-requires-clause-claimed g c =
     c.in_ok-lock_rows.ensures.claimed ∙ taken_whole c.args.rows.now c.args.remote.now c.in_ok-claims.claims.receives c.lock_rows.new.rows c.in_ok-lock_rows.ensures.ok c.lock_rows.auto.rows
 
-pub returns-clause-ok : goal.returns-clause-ok
-returns-clause-ok g c =
-    round_ok c.args.rows.now c.args.remote.now c.args.receives c.in_ok-claims.claims.receives c.lock_rows.new.rows c.settle_rows.new.rows (g.C.Claimed.holds c.in_ok-claims.claims.claimed) (g.C.Claimed.holds c.lock_rows.new.self.unlocked) c.settle_rows.result
-    c.in_ok-check_types.ensures.ok c.in_ok-claims.ensures.claimed c.in_ok-claims.ensures.receives c.in_ok-lock_rows.ensures.ok c.lock_rows.auto.rows c.in_ok-lock_rows.ensures.unlocked c.settle_rows.ensures.ok c.settle_rows.auto.rows
-
-pub returns-clause-err : goal.returns-clause-err
-returns-clause-err g c =
-    round_err c.args.rows.now c.args.remote.now c.args.receives c.in_ok-claims.claims.receives c.lock_rows.new.rows (g.C.Claimed.holds c.in_ok-claims.claims.claimed) (g.C.Claimed.holds c.lock_rows.new.self.unlocked) c.settle_rows.result
-    c.in_ok-check_types.ensures.ok c.in_ok-claims.ensures.claimed c.in_ok-claims.ensures.receives c.in_ok-lock_rows.ensures.ok c.lock_rows.auto.rows c.in_ok-lock_rows.ensures.unlocked c.settle_rows.ensures.err
+pub returns : goal.returns
+returns g c =
+    let done =
+    round_done c.args.rows.now c.args.remote.now c.args.receives c.in_ok-claims.claims.receives c.lock_rows.new.rows c.settle_rows.new.rows (g.C.Claimed.holds c.in_ok-claims.claims.claimed) (g.C.Claimed.holds c.lock_rows.new.self.unlocked) c.settle_rows.result
+    c.in_ok-check_types.ensures.ok c.in_ok-claims.ensures.claimed c.in_ok-claims.ensures.receives c.in_ok-lock_rows.ensures.ok c.lock_rows.auto.rows c.in_ok-lock_rows.ensures.unlocked c.settle_rows.ensures.ok c.settle_rows.auto.rows c.settle_rows.ensures.err in
+    record { ok = done.0; err = done.1 }
