@@ -1,5 +1,5 @@
 -- The rules of the score, from the function.
-use Rattle.str0m_formats.proofs.Common.{◌≡◌, ◌≢◌, ◌==◌, ◌&&◌, ◌⊎◌, inl, inr, not, ℕ, Bool, true, false, Option, Some, None, refl, sym, ap, ◌∙◌, Decides, unsigned_Decides}
+use Rattle.str0m_formats.proofs.Common.{◌≡◌, ◌≢◌, ◌==◌, ◌⊎◌, inl, inr, ℕ, Bool, true, false, Option, None, refl, sym, ap, ◌∙◌, Decides, unsigned_Decides}
 use Rattle.std.specs.Bool.{if◌then◌else◌}
 use mathlib.Core.Bool.{true≢false}
 use Rattle.std.proofs.Math.Bool.{and-false}

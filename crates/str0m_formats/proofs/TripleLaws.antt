@@ -1,5 +1,5 @@
 -- The triple of three values is read both ways.
-use Rattle.str0m_formats.proofs.Common.{◌≡◌, ◌≤◌, ℕ, List, Option, Some, None, IfSome, refl, sym, ap, subst, ◌∙◌, inl, inr, arith, rules, Bor, decimal, none-some, IsTheOnly, ◌>>=◌, ◌<|>◌, ProfileTierLevel, num_found, num_reads, only_read, bind_some, some_is, reads_none}
+use Rattle.str0m_formats.proofs.Common.{◌≡◌, ◌≤◌, ℕ, List, Option, Some, None, IfSome, refl, sym, ap, subst, ◌∙◌, inl, inr, arith, rules, Bor, decimal, none-some, IsTheOnly, ◌<|>◌, ProfileTierLevel, num_found, num_reads, only_read, bind_some, some_is, reads_none}
 use Rattle.std.specs.Prelude.{option_map}
 use Rattle.str0m_values.specs.Parts.{IsGiven, lay}
 use Rattle.str0m_values.specs.H265 as h265
