@@ -85,10 +85,7 @@ default_distinct rows d t =
 
 -- no row of the codec is left among the others
 others_once : (codec : Codec) (rows : List PayloadParams) → AllByRecursion Known rows → (t : ℕ) → times (primaries (others codec rows)) t ≤ cond {A = ℕ} (is_codec codec (codec_at t)) 0 (times (primaries rows) t)
-others_once codec [] k t = go (is_codec codec (codec_at t)) where
-  go : (b : Bool) → 0 ≤ cond {A = ℕ} b 0 0
-  go true = omega arith
-  go false = omega arith
+others_once codec [] k t = omega arith
 others_once codec (row ∷ rows) k t =
     step (same_codec row.spec.codec codec) (row.pt == t) (is_codec codec (codec_at t)) (λ e. of_row (eqb-true row.pt t e)) refl (others_once codec rows k.1 t)
   where
@@ -125,15 +122,11 @@ put_last codec new rows all once d = record {
       omega arith;
 }
 
-none_within : (b : Bool) → 0 ≤ cond {A = ℕ} b 1 0
-none_within true = omega arith
-none_within false = omega arith
-
 enabled_stay : (codec : Codec) (enabled use_red : Bool) (rows : List PayloadParams) → AreDefault rows → AreDefault (enabled_rows codec enabled use_red rows)
 enabled_stay codec true use_red rows d =
     put_last codec (default_rows codec use_red) rows (new_default codec use_red)
     (once_within (λ t. is_codec codec (codec_at t)) (primaries (default_rows codec use_red)) (once_new codec use_red).0 (once_new codec use_red).1) d
-enabled_stay codec false use_red rows d = put_last codec [] rows (All-nil IsDefault) (λ t. none_within (is_codec codec (codec_at t))) d
+enabled_stay codec false use_red rows d = put_last codec [] rows (All-nil IsDefault) (λ t. omega arith) d
 
 -- whatever a call answers that enables or disables a codec
 default_stay : (r : Result (Unit {0}) AllocError) (codec : Codec) (enabled use_red : Bool) (old new : CodecConfig) → OnOk r (new.params.items ≡ enabled_rows codec enabled use_red old.params.items) → OnErr r (new ≡ old)

@@ -120,11 +120,7 @@ second_one unlocked mid d r x y hx hy = sym hx ∙ hy
 mid_unique : (before remote : List PayloadParams) (receives : Bool) (a b : List PayloadParams) → AllBegun before remote receives a → AllBegun before remote receives b → a ≡ b
 mid_unique before remote receives a b ha hb = whole_unique (First before remote receives) (first_one before remote receives) before a b ha.begun.each hb.begun.each ha.whole hb.whole
 
--- the same second pass, over the rows that the first pass leaves
-settled_over : (before remote : List PayloadParams) (receives : Bool) (a b after : List PayloadParams) → AllBegun before remote receives a → AllBegun before remote receives b → Settled (has (open_types before)) b after → Settled (has (open_types before)) a after
-settled_over before remote receives a b after ha hb s =
-    let P : List PayloadParams → Type 0 = λ m. Settled (has (open_types before)) m after in subst P (mid_unique before remote receives b a hb ha) s
-
+-- the same second pass stops, over the rows that the first pass leaves
 stops_over : (before remote : List PayloadParams) (receives : Bool) (a b : List PayloadParams) (cause : NegotiationError) → AllBegun before remote receives a → AllBegun before remote receives b → StopsSettling (has (open_types before)) b cause → StopsSettling (has (open_types before)) a cause
 stops_over before remote receives a b cause ha hb s =
     let P : List PayloadParams → Type 0 = λ m. StopsSettling (has (open_types before)) m cause in subst P (mid_unique before remote receives b a hb ha) s
@@ -133,7 +129,7 @@ pub round_unique : (before remote : List PayloadParams) (receives : Bool) (x y :
 round_unique before remote receives x y hx hy =
     let u = has (open_types before) in
     let same = mid_unique before remote receives hx.mid hy.mid hx.first hy.first in
-    let second = settled_over before remote receives hx.mid hy.mid y hx.first hy.first hy.second in
+    let second = subst (λ (m : List PayloadParams). Settled u m y) (sym same) hy.second in
     whole_unique (Second u hx.mid) (second_one u hx.mid) hx.mid x y hx.second.each second.each hx.whole (hy.whole ∙ ap length (sym same))
 
 -- a list without repeats has no first repeat, and a list has one at most
