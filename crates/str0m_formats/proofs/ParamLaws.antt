@@ -1,7 +1,7 @@
 -- What a key and its value read as.
-use Rattle.str0m_formats.proofs.Common.{◌≡◌, ℕ, Bool, true, false, List, [], ◌∷◌, map, Option, Some, None, refl, sym, ap, subst, ◌∙◌, inl, inr, codes, unwrap_or, to_ascii_lowercase, bytes_eq, str_eq_ignore_ascii_case, Decides, none-some, bytes_eq-Decides, IsTheOnly, IsNum, ◌>>=◌, num, when, num_only, num_reads, when_some, when_true, some_is, only_read}
-use Rattle.std.specs.Prelude.{IsTrue, ◌↔◌, IfSome, option_map}
-use Rattle.str0m_formats.specs.declared.format_key.TheConstants.{KEYS}
+use Rattle.str0m_formats.proofs.Common.{◌≡◌, ℕ, Bool, true, false, List, [], ◌∷◌, map, Option, Some, None, refl, sym, ap, ◌∙◌, inl, inr, codes, unwrap_or, to_ascii_lowercase, bytes_eq, str_eq_ignore_ascii_case, none-some, bytes_eq-Decides, IsTheOnly, ◌>>=◌, when, num_only, num_reads, when_true, some_is, only_read}
+use Rattle.std.specs.Bool.{one_answer}
+use Rattle.std.specs.Prelude.{IfSome, option_map}
 use Rattle.str0m_formats.specs.declared.format_key.FormatKey.{FormatKey}
 use Rattle.str0m_formats.specs.declared.format_key.FormatKey.TheVariants as key
 use Rattle.str0m_formats.specs.declared.format_param.FormatParam.{FormatParam}
@@ -32,14 +32,9 @@ key_only text = record {
 
 -- ---- values
 
-one_flag : (a b : Bool) (P : Type 0) → (IsTrue a ↔ P) → Decides b P → b ≡ a
-one_flag true b P h k = k.1 (h.0 refl)
-one_flag false true P h k = sym (h.1 (k.0 refl))
-one_flag false false P h k = refl
-
 -- a kind reads exactly what it is
 kind_complete : (k : Kind) (text : List ℕ) (x : Held k) → Reads k text x → kind_read k text ≡ Some x
-kind_complete flag text b h = ap (λ b. Some b) (one_flag b (is_one text) (text ≡ codes "1") h (bytes_eq-Decides text (codes "1")))
+kind_complete flag text b h = ap (λ b. Some b) (one_answer (is_one text) b (bytes_eq-Decides text (codes "1")) h)
 kind_complete (number limit) text n h = num_reads limit text n h
 kind_complete hex text n h = hex_both.complete text n h
 kind_complete modes text mask h = (modes_only text).only mask h

@@ -1,10 +1,11 @@
 -- Numbers behind keys are read both ways.
-use Rattle.str0m_formats.proofs.Common.{◌≡◌, ◌≤◌, ℕ, true, ◌&&◌, leb, List, [], ◌∷◌, length, Option, Some, refl, ap, ◌∙◌, digit_value, AllDigits, digits_value, ltb-true, lt-ltb, le-leb, leb-true, and_parts, IsTheOnly, IsNumber, IsNum, num, when_some, when_true, num_found, num_reads, only_read}
+use Rattle.str0m_formats.proofs.Common.{◌≡◌, ◌≤◌, ℕ, true, ◌&&◌, leb, List, [], ◌∷◌, length, Option, Some, refl, ap, ◌∙◌, digit_value, AllDigits, digits_value, ltb-true, lt-ltb, le-leb, leb-true, and_parts, IsTheOnly, IsNumber, IsNum, num, when_some, when_true, only_read}
 use Rattle.std.proofs.Common.{ltb}
 use Rattle.std.specs.Str.Parse.{without_leading_plus}
 use Rattle.std.proofs.lemmas.Bool.{and_from}
 use Rattle.str0m_values.specs.Cuts.{is_rest}
 use Rattle.str0m_values.proofs.BothWays.{reads_first, Reads}
+use Rattle.str0m_values.proofs.CandidateParts.{num_both}
 use Rattle.str0m_formats.specs.FormatParam.{IsHexElseDecimal}
 use Rattle.str0m_formats.specs.ParamReading.{all_digits, number_read, hex_read}
 use Rattle.str0m_formats.proofs.Only.{only_same}
@@ -35,9 +36,6 @@ number_both radix limit = record {
       let test : ((is_rest ds && all_digits radix ds) && leb (digits_value radix ds) limit) ≡ true = and_from _ _ (and_from _ _ (lt-ltb 0 (length ds) h.numeral.0) (digits_true radix ds h.numeral.1)) (le-leb _ _ le) in
       when_true ((is_rest ds && all_digits radix ds) && leb (digits_value radix ds) limit) (digits_value radix ds) test ∙ ap (λ (k : ℕ). Some k) h.value;
 }
-
-pub num_both : (limit : ℕ) → Reads (IsNum limit) (num limit)
-num_both limit = record { sound = num_found limit; complete = num_reads limit }
 
 pub hex_both : Reads IsHexElseDecimal hex_read
 unfolding hex_read

@@ -1,9 +1,10 @@
 -- A format that is printed, and read by its line, is itself.
-use Rattle.str0m_formats.proofs.Common.{◌≡◌, ◌<◌, ◌≤◌, ◌⊎◌, inl, inr, ℕ, Bool, true, false, cond, List, [], ◌∷◌, ◌++◌, length, drop, map, filter, Option, Some, None, IfSome, Result, Ok, Err, option_map, refl, sym, ap, subst, ◌∙◌, arith, codes, decimal, AllByRecursion, AllZip, cons_option, flat_map, join_with_byte, list_all, digits_value, and_parts, false_from_ne_true, decimal_is_IsNumeral, append_assoc, append-nil, map-append, filter_map-append, none-some, Lacks}
+use Rattle.str0m_formats.proofs.Common.{◌≡◌, ◌<◌, ◌≤◌, ◌⊎◌, inl, inr, ℕ, Bool, true, false, cond, List, [], ◌∷◌, ◌++◌, length, drop, map, filter, Option, Some, None, IfSome, Result, Ok, Err, option_map, refl, sym, ap, subst, ◌∙◌, arith, codes, decimal, AllByRecursion, AllZip, cons_option, flat_map, join_with_byte, list_all, digits_value, and_parts, false_from_ne_true, decimal_is_IsNumeral, append_assoc, append-nil, map-append, filter_map-append, none-some}
 use Rattle.std.proofs.Common.{filter_map, IfOk}
 use Rattle.str0m_values.specs.Cuts.{before, front, lacks}
 use Rattle.str0m_values.specs.H265.{H265ProfileTierLevel as h265_triple}
 use Rattle.str0m_values.specs.H266.{H266ProfileTierLevel as h266_triple}
+use Rattle.str0m_values.proofs.AddressWords.{lacks_both}
 use Rattle.str0m_values.proofs.CutLaws.{cut_at, cut_none, lacks_true, lacks_from}
 use Rattle.str0m_formats.specs.declared.format_param.FormatParam.{FormatParam}
 use Rattle.str0m_formats.specs.declared.format_param.FormatParam.TheVariants.{H265ProfileTierLevel, H266ProfileTierLevel, TelephoneEvents, Unknown}
@@ -92,10 +93,6 @@ alike [] p h = inl (refl, refl)
 alike (f ∷ fs) p h = alike_step (param_at f p) (filter_map (λ f. param_at f p) fs) (pieces_at f p) (all_pieces fs p) (shows f p (h f)).shown (alike fs p h)
 
 -- ---- and is cut into them
-
-lacks_both : (c : ℕ) (xs ys : List ℕ) → Lacks c xs → Lacks c ys → Lacks c (xs ++ ys)
-lacks_both c [] ys h k = k
-lacks_both c (x ∷ xs) ys h k = (h.0, lacks_both c xs ys h.1 k)
 
 free_append : (xs ys : List (List ℕ)) → AreFreeOf 59 xs → AreFreeOf 59 ys → AreFreeOf 59 (xs ++ ys)
 free_append [] ys h k = k

@@ -1,5 +1,5 @@
 -- What prints reads back.
-use Rattle.str0m_formats.proofs.Common.{◌≡◌, ◌≢◌, ◌≤◌, ◌<◌, ◌^◌, ◌-◌, inl, ℕ, Bool, true, false, List, [], ◌∷◌, ◌++◌, length, get_or, replicate, refl, sym, ap, ◌∙◌, subst, arith, lit<, lit≤, decimal, digit_value, AllDigits, digits_value, decimal_is_IsNumeral, digits_is_IsNumeral, length-append, false≢true, IsNumber, IsNum, Option, Some, None, MatchOption, nat_le, inr, ◌==◌, ◌&&◌, and_parts, cases_lt, eqb-true, leb-true}
+use Rattle.str0m_formats.proofs.Common.{◌≡◌, ◌≢◌, ◌≤◌, ◌<◌, ◌^◌, ◌-◌, inl, ℕ, Bool, true, false, List, [], ◌∷◌, ◌++◌, length, get_or, replicate, refl, sym, ap, ◌∙◌, subst, arith, lit<, lit≤, decimal, digit_value, AllDigits, digits_value, decimal_is_IsNumeral, digits_is_IsNumeral, length-append, false≢true, IsNumber, IsNum, IsRest, Option, Some, None, MatchOption, nat_le, inr, ◌==◌, ◌&&◌, and_parts, cases_lt, eqb-true, leb-true}
 use Rattle.std.proofs.Common.{zero, suc}
 use Rattle.std.specs.Fmt.{digits}
 use Rattle.std.specs.Char.{encode_utf8}
@@ -93,6 +93,15 @@ mask_reads (suc most) mask e some le =
 
 mode_set_reads : (mask : ℕ) → (0 < mask) × (mask ≤ 511) → IsModeSet (mode_list mask) mask
 mode_set_reads mask h = rw (mask_reads 511 mask all_masks h.0 h.1) at (modes_only (mode_list mask)).found
+
+-- no text is no set of modes
+text_of_modes : (text : List ℕ) (mask : ℕ) → modes_read text ≡ Some mask → IsRest text
+unfolding modes_read trim_end chars trim_start encode_utf8
+text_of_modes [] mask e = absurd cc
+text_of_modes (c ∷ cs) mask e = omega arith
+
+pub modes_filled : (mask : ℕ) → (0 < mask) × (mask ≤ 511) → IsRest (mode_list mask)
+modes_filled mask h = text_of_modes (mode_list mask) mask (mask_reads 511 mask all_masks h.0 h.1)
 
 -- the limits of the table have 32 bits
 abbrev pub is_small : Kind → Bool

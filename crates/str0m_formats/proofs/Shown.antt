@@ -1,5 +1,5 @@
 -- What each field of a format prints: keys with values, and the range of events.
-use Rattle.str0m_formats.proofs.Common.{◌≡◌, ◌≤◌, ◌<◌, ◌-◌, ◌^◌, ℕ, replicate, length, Bool, true, false, List, [], ◌∷◌, ◌++◌, map, Option, Some, None, IfSome, option_map, refl, sym, ap, subst, ◌∙◌, arith, lit≤, lit<, ◌==◌, ◌||◌, nat_lt, codes, decimal, AllByRecursion, cons_option, join_with_byte, list_all, false≢true, eqb-true, ltb-true, append_assoc, length-append, none-some, IsRest, decimal_is_IsNumeral, digits_is_IsNumeral, ProfileTierLevel}
+use Rattle.str0m_formats.proofs.Common.{◌≡◌, ◌≤◌, ◌<◌, ◌-◌, ◌^◌, ℕ, replicate, length, Bool, true, false, List, [], ◌∷◌, ◌++◌, map, Option, Some, None, IfSome, option_map, refl, sym, ap, subst, ◌∙◌, arith, lit≤, lit<, codes, decimal, AllByRecursion, cons_option, join_with_byte, list_all, false≢true, append_assoc, length-append, none-some, IsRest, decimal_is_IsNumeral, digits_is_IsNumeral, ProfileTierLevel}
 use Rattle.std.proofs.Common.{zero, suc}
 use Rattle.std.specs.Fmt.{digits}
 use Rattle.str0m_formats.specs.declared.format_key.FormatKey.{FormatKey}
@@ -15,7 +15,7 @@ use Rattle.str0m_formats.specs.FormatParams.{get, param_in, param_at, IsWithin}
 use Rattle.str0m_formats.specs.PairsReading.{Tables, h265_tables, h266_tables}
 use Rattle.str0m_formats.specs.ParamReading.{param_of}
 use Rattle.str0m_formats.proofs.Plain.{IsPlain, is_plain, plain_from, plain_append, digits_plain, below, below_at}
-use Rattle.str0m_formats.proofs.RoundTrip.{is_small, key_small, limit_small, key_reads}
+use Rattle.str0m_formats.proofs.RoundTrip.{is_small, key_small, limit_small, modes_filled, key_reads}
 use Rattle.str0m_formats.proofs.SetAll.{param_is}
 use Rattle.str0m_formats.proofs.Rows.{Rows, given}
 use Rattle.str0m_formats.proofs.TripleLaws.{AreBytes, h265_small, h266_small}
@@ -61,19 +61,6 @@ key_filled k = lit< tt
 decimal_filled : (n : ℕ) → n ≤ 4294967295 → IsRest (decimal n)
 decimal_filled n small = (decimal_is_IsNumeral n (omega arith)).0.0
 
-all_modes_filled : below (λ mask. (mask == 0) || nat_lt 0 (length (mode_list mask))) 512 ≡ true
-unfolding below digits
-all_modes_filled = refl
-
-modes_filled : (mask : ℕ) → 0 < mask → mask ≤ 511 → IsRest (mode_list mask)
-modes_filled mask some le = go (mask == 0) refl (below_at Filled 512 mask all_modes_filled (omega arith)) where
-  Filled : ℕ → Bool
-  Filled mask = (mask == 0) || nat_lt 0 (length (mode_list mask))
-
-  go : (b : Bool) → (mask == 0) ≡ b → (b || nat_lt 0 (length (mode_list mask))) ≡ true → IsRest (mode_list mask)
-  go true e h = absurd (omega (arith, eqb-true mask 0 e))
-  go false e h = ltb-true 0 (length (mode_list mask)) h
-
 value_filled : (k : Kind) (x : Held k) → is_small k ≡ true → InRange k x → IsRest (value_text k x)
 value_filled flag true small h = lit< tt
 value_filled flag false small h = lit< tt
@@ -83,7 +70,7 @@ value_filled hex n small h =
     let zeros : List ℕ = replicate (6 - length (digits 16 false n)) 48 in
     let some = (digits_is_IsNumeral 16 false (lit≤ tt) (lit≤ tt) n below).0.0 in
     omega (arith, length-append zeros (digits 16 false n), some)
-value_filled modes mask small h = modes_filled mask h.0 h.1
+value_filled modes mask small h = modes_filled mask h
 value_filled (exactly own) x small h = absurd h
 value_filled anything x small h = absurd h
 
@@ -167,11 +154,12 @@ pub record Shows (f : Field) (p : FormatParams) : Type 0 where
 abbrev pub Reads : Field → FormatParams → Type 0
 Reads f p = map param_of (given (rows_at f p)) ≡ cons_option (param_at f p) []
 
--- what a key's field holds is of the table
-each_some : {A : Type 0} (P : A → Type 0) (o : Option A) → ((x : A) → P x) → IfSome o P
+-- what holds of each value holds of one that may be there
+pub each_some : {A : Type 0} (P : A → Type 0) (o : Option A) → ((x : A) → P x) → IfSome o P
 each_some P None each = tt
 each_some P (Some x) each = each x
 
+-- what a key's field holds is of the table
 pub entry_at : (k : FormatKey) (p : FormatParams) → IfSome (get (field.Key k) p) (λ x. entry (made k x) ≡ Some (k, x))
 entry_at key.Apt p = tt
 entry_at key.Crc p = tt
