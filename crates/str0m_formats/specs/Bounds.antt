@@ -1,6 +1,10 @@
 -- Rows whose numbers keep to their ranges, and those whose numbers fit the types of their fields.
-use Rattle.std.specs.Prelude.{◌<◌, ◌≤◌, ℕ, IfSome}
+use Rattle.std.specs.Prelude.{◌<◌, ◌≤◌, ℕ, IfSome, if◌then◌else◌, nat_le}
+use Rattle.str0m_formats.specs.FormatParam.{Kind, number, hex, modes, Held, kind}
+use Rattle.str0m_formats.specs.FormatParams.{get}
 use Rattle.str0m_formats.specs.Rows.{AllSmall, types_of}
+use Rattle.str0m_formats.specs.declared.format_key.FormatKey.{FormatKey}
+use Rattle.str0m_formats.specs.declared.format_params.Field.TheVariants as field
 use Rattle.str0m_formats.specs.declared.format_params.FormatParams.{FormatParams}
 use Rattle.str0m_formats.specs.declared.payload_params.PayloadParams.{PayloadParams}
 
@@ -25,16 +29,20 @@ IsByte n = n ≤ 255
 abbrev pub IsWord32 : ℕ → Type 0
 IsWord32 n = n ≤ 4294967295
 
--- the numbers of a format fit the types of its fields, as they do in every format that a program holds; those of modes and
--- distances, for which lines have narrower ranges, are bounded above
+-- the greatest number of the type that holds a number up to the limit: of `u8`, `u16` and `u32` the first that reaches it
+abbrev pub most : ℕ → ℕ
+most limit = if nat_le limit 255 then 255 else if nat_le limit 65535 then 65535 else 4294967295
+
+-- the value of a kind fits the type in which it is held
+abbrev pub FitsType : (kind : Kind) → Held kind → Type 0
+FitsType (number limit) n = n ≤ most limit
+FitsType hex n = n ≤ most 4294967295
+FitsType modes mask = mask ≤ most 511
+FitsType kind x = Unit {0}
+
+-- the numbers of a format fit the types of its fields, as they do in every format that a program holds
 pub record HoldsNumbers (p : FormatParams) : Type 0 where
-  pub min_p_time : IfSome p.min_p_time IsByte
-  pub packetization_mode : IfSome p.packetization_mode IsByte
-  pub profile_level_id : IfSome p.profile_level_id IsWord32
-  pub profile_id : IfSome p.profile_id IsWord32
-  pub profile : IfSome p.profile IsByte
-  pub level_idx : IfSome p.level_idx IsByte
-  pub tier : IfSome p.tier IsByte
+  pub keys : (key : FormatKey) → IfSome (get (field.Key key) p) (FitsType (kind key))
   pub telephone_event_max : IfSome p.telephone_event_max IsByte
 
 -- so do the numbers of a row: a clock rate of 32 bits that isn't zero, and channels of eight
