@@ -161,9 +161,10 @@ flag_text false = codes "0"
 abbrev pub six_digits : ℕ → List ℕ
 six_digits n = replicate (6 - length (digits 16 false n)) 48 ++ digits 16 false n
 
-abbrev pub comma_if : Bool → List ℕ
-comma_if true = codes ","
-comma_if false = []
+-- the character that parts a text from one before it, where there is one
+abbrev pub part_if : ℕ → Bool → List ℕ
+part_if c true = c ∷ []
+part_if c false = []
 
 -- the modes of a mask, ascending, parted by commas
 abbrev pub mode_list : ℕ → List ℕ

@@ -1,5 +1,5 @@
 -- Formats: what each field holds, which parameter sets it, and how a format prints.
-use Rattle.std.specs.Prelude.{◌≡◌, ◌⊎◌, ◌≤◌, ℕ, Bool, true, false, codes, List, [], ◌∷◌, map, Option, Some, None, IfSome, option_map, filter_map}
+use Rattle.std.specs.Prelude.{◌≡◌, ◌⊎◌, ◌≤◌, ℕ, List, map, Option, Some, None, IfSome, option_map, filter_map}
 use Rattle.std.specs.List.{join_with_byte, fold}
 use Rattle.str0m_values.specs.H265.{H265ProfileTierLevel as h265_triple}
 use Rattle.str0m_values.specs.H266.{H266ProfileTierLevel as h266_triple}
@@ -101,10 +101,6 @@ param_at f p = param_given f p
 -- the parameters of the fields that are given, in the order in which the fields stand
 unfoldable pub params_of : FormatParams → List FormatParam
 params_of p = filter_map (λ field. param_at field p) FIELDS
-
-abbrev pub semicolon_if : Bool → List ℕ
-semicolon_if true = codes ";"
-semicolon_if false = []
 
 -- what a format prints: the texts of its parameters, parted by `;`
 unfoldable pub params_text : FormatParams → List ℕ

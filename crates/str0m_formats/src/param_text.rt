@@ -2,7 +2,7 @@
 ghost use Rattle.std.specs.Prelude.{◌≡◌, ◌++◌, Some, codes};
 ghost use Rattle.std.specs.Fmt.{decimal};
 ghost use Rattle.str0m_formats.specs.FormatParam.{flag_text, six_digits, mode_list, triple_text, param_text};
-ghost use Rattle.str0m_formats.specs.FormatParam.{comma_if, entry, entry_text};
+ghost use Rattle.str0m_formats.specs.FormatParam.{entry, entry_text, part_if};
 ghost use Rattle.str0m_formats.specs.ParamText.{shown, keyed_text};
 
 use crate::format_key::FormatKey;
@@ -83,7 +83,7 @@ struct ListedMode {
 }
 
 impl fmt::Display for ListedMode {
-    ghost output = { λ item. Some (comma_if item.started ++ decimal item.mode) };
+    ghost output = { λ item. Some (part_if 44 item.started ++ decimal item.mode) };
 
     fn fmt<W: fmt::Write>(&self, f: &mut fmt::Formatter<W>) -> fmt::Result {
         let mode = self.mode;
