@@ -4,14 +4,16 @@ ghost use Rattle.std.specs.Str.{bytes_eq};
 ghost use Rattle.str0m_values.specs.Cuts.{num, when};
 ghost use Rattle.str0m_values.specs.Parts.{IsNum};
 ghost use Rattle.str0m_values.specs.Only.{IsTheOnly};
-ghost use Rattle.str0m_formats.specs.FormatParam.{IsMode, IsModeSet, IsParsed, IsEventRange, IsBare, IsPrinted, pair_texts};
+ghost use Rattle.str0m_formats.specs.FormatParam.{IsMode, IsModeSet, IsParsed, IsEventRange, IsBare, IsPrinted, pair_texts, entry, entry_text};
 ghost use Rattle.str0m_formats.specs.Pairs.{AreRead};
 ghost use Rattle.str0m_formats.specs.declared.format_param.FormatParam.{FormatParam};
 ghost use Rattle.str0m_formats.specs.declared.format_param.FormatParam.TheVariants.{AmrWbUnsupported};
+ghost use Rattle.str0m_formats.specs.ParamText.{keyed_text};
 ghost use Rattle.str0m_formats.specs.ParamReading.{number_read, hex_read, modes_read, value_read, param_of, bare_param};
 
 use crate::format_key::FormatKey;
 use crate::pairs::params;
+use crate::param_text::Value;
 use std::alloc::{AllocError, Global};
 use str0m_values::cuts::{hex_u32, num_u8, num_u32};
 use str0m_values::{H265ProfileTierLevel, H266ProfileTierLevel, Pt};
@@ -173,6 +175,41 @@ impl FormatKey {
             FormatKey::ModeChangePeriod => unsupported(is_text(value, "2")),
             FormatKey::Interleaving => Some(FormatParam::AmrWbUnsupported),
         }
+    }
+}
+
+impl FormatParam {
+    /// The key and the value of a parameter; none where it has no key.
+    pub(crate) fn entry(self) -> Option<(FormatKey, Value)>
+        ensures { keyed_text result ≡ entry_text (entry self) }
+    {
+        let (key, value) = match self {
+            FormatParam::MinPTime(n) => (FormatKey::MinPTime, Value::Number(u32::from(n))),
+            FormatParam::Stereo(b) => (FormatKey::Stereo, Value::Flag(b)),
+            FormatParam::SpropStereo(b) => (FormatKey::SpropStereo, Value::Flag(b)),
+            FormatParam::UseInbandFec(b) => (FormatKey::UseInbandFec, Value::Flag(b)),
+            FormatParam::UseDtx(b) => (FormatKey::UseDtx, Value::Flag(b)),
+            FormatParam::LevelAsymmetryAllowed(b) => (
+                FormatKey::LevelAsymmetryAllowed,
+                Value::Flag(b),
+            ),
+            FormatParam::PacketizationMode(n) => {
+                (FormatKey::PacketizationMode, Value::Number(u32::from(n)))
+            }
+            FormatParam::ProfileLevelId(n) => (FormatKey::ProfileLevelId, Value::SixDigits(n)),
+            FormatParam::ProfileId(n) => (FormatKey::ProfileId, Value::Number(n)),
+            FormatParam::Profile(n) => (FormatKey::Profile, Value::Number(u32::from(n))),
+            FormatParam::LevelIdx(n) => (FormatKey::LevelIdx, Value::Number(u32::from(n))),
+            FormatParam::Tier(n) => (FormatKey::Tier, Value::Number(u32::from(n))),
+            FormatParam::SpropMaxDonDiff(n) => {
+                (FormatKey::SpropMaxDonDiff, Value::Number(u32::from(n)))
+            }
+            FormatParam::OctetAlign(b) => (FormatKey::OctetAlign, Value::Flag(b)),
+            FormatParam::ModeSet(mask) => (FormatKey::ModeSet, Value::Modes(mask)),
+            FormatParam::Apt(pt) => (FormatKey::Apt, Value::Number(u32::from(pt.value()))),
+            _ => return None,
+        };
+        Some((key, value))
     }
 }
 

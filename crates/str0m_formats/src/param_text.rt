@@ -3,9 +3,8 @@ ghost use Rattle.std.specs.Prelude.{◌≡◌, ◌++◌, Some, codes};
 ghost use Rattle.std.specs.Fmt.{decimal};
 ghost use Rattle.str0m_formats.specs.FormatParam.{flag_text, six_digits, mode_list, triple_text, param_text};
 ghost use Rattle.str0m_formats.specs.FormatParam.{entry, entry_text, part_if};
-ghost use Rattle.str0m_formats.specs.ParamText.{shown, keyed_text};
+ghost use Rattle.str0m_formats.specs.ParamText.{shown};
 
-use crate::format_key::FormatKey;
 use crate::format_param::FormatParam;
 use std::fmt;
 use str0m_values::{Numbered, ProfileTierLevel, Pt};
@@ -118,7 +117,7 @@ impl fmt::Display for ModeList {
 
 /// What stands behind a key, as it prints.
 #[derive(Clone, Copy)]
-enum Value {
+pub(crate) enum Value {
     Flag(bool),
     Number(u32),
     SixDigits(u32),
@@ -138,36 +137,6 @@ impl fmt::Display for Value {
     }
 }
 
-/// The key and the value of a parameter; none where it has no key.
-fn entry(param: FormatParam) -> Option<(FormatKey, Value)>
-    ensures { keyed_text result ≡ entry_text (entry param) }
-{
-    let (key, value) = match param {
-        FormatParam::MinPTime(n) => (FormatKey::MinPTime, Value::Number(u32::from(n))),
-        FormatParam::Stereo(b) => (FormatKey::Stereo, Value::Flag(b)),
-        FormatParam::SpropStereo(b) => (FormatKey::SpropStereo, Value::Flag(b)),
-        FormatParam::UseInbandFec(b) => (FormatKey::UseInbandFec, Value::Flag(b)),
-        FormatParam::UseDtx(b) => (FormatKey::UseDtx, Value::Flag(b)),
-        FormatParam::LevelAsymmetryAllowed(b) => (FormatKey::LevelAsymmetryAllowed, Value::Flag(b)),
-        FormatParam::PacketizationMode(n) => {
-            (FormatKey::PacketizationMode, Value::Number(u32::from(n)))
-        }
-        FormatParam::ProfileLevelId(n) => (FormatKey::ProfileLevelId, Value::SixDigits(n)),
-        FormatParam::ProfileId(n) => (FormatKey::ProfileId, Value::Number(n)),
-        FormatParam::Profile(n) => (FormatKey::Profile, Value::Number(u32::from(n))),
-        FormatParam::LevelIdx(n) => (FormatKey::LevelIdx, Value::Number(u32::from(n))),
-        FormatParam::Tier(n) => (FormatKey::Tier, Value::Number(u32::from(n))),
-        FormatParam::SpropMaxDonDiff(n) => {
-            (FormatKey::SpropMaxDonDiff, Value::Number(u32::from(n)))
-        }
-        FormatParam::OctetAlign(b) => (FormatKey::OctetAlign, Value::Flag(b)),
-        FormatParam::ModeSet(mask) => (FormatKey::ModeSet, Value::Modes(mask)),
-        FormatParam::Apt(pt) => (FormatKey::Apt, Value::Number(u32::from(pt.value()))),
-        _ => return None,
-    };
-    Some((key, value))
-}
-
 /// What a parameter with a key prints: its key and its value; nothing of any other.
 #[derive(Clone, Copy)]
 struct Keyed(FormatParam);
@@ -176,7 +145,7 @@ impl fmt::Display for Keyed {
     ghost output = { λ param. Some (entry_text (entry param.0)) };
 
     fn fmt<W: fmt::Write>(&self, f: &mut fmt::Formatter<W>) -> fmt::Result {
-        match entry(self.0) {
+        match self.0.entry() {
             Some((key, value)) => write!(f, "{}={value}", key.text()),
             None => Ok(()),
         }
