@@ -1,14 +1,12 @@
 -- When two values are equal by a derived `==`. `hlevel equality` finds the test of a type from its parts, with the proof that it decides
 -- equality: so a field or a variant more needs no line.
-use Rattle.str0m_formats.proofs.Common.{◌≡◌, ◌&&◌, ◌⊎◌, inl, inr, ℕ, Bool, true, false, List, [], ◌∷◌, Option, Some, None, nat_eq, beq, refl, sym, ap, ◌∙◌, Decides, unsigned_Decides, booleans_Decides, false≢true, Decides-like}
+use Rattle.str0m_formats.proofs.Common.{◌≡◌, ◌&&◌, ◌⊎◌, inl, inr, ℕ, Bool, true, false, List, Option, Some, None, nat_eq, beq, refl, sym, ap, ◌∙◌, Decides, unsigned_Decides, booleans_Decides, false≢true, Decides-like}
+use Rattle.std.specs.Cmp.Lexicographic.{pointwise, pointwise_decides}
 use Rattle.std.specs.Option.{option_eq}
 use Rattle.std.proofs.lemmas.Bool.Decides.{Decides-and}
 use mathlib.Core.Logic.{⊎_elim}
 use denote.Enum.Bare.{Bare, sameb, same_true, true_same}
-use denote.Enum.Compared.{Each, by}
-use denote.Enum.Declared.{Choice, Declared, left_or, right_or}
-use denote.Struct.Field.{Field}
-use denote.Struct.Values.{Values}
+use denote.Enum.Declared.{Declared, left_or, right_or}
 
 -- a test of equality, which decides
 pub record Equality (V : Type 0) : Type 0 where
@@ -31,7 +29,11 @@ option_Decides E each (Some x) (Some y) = Decides-like (E x y) (λ e. ap Some e)
 abbrev pub option : {T : Type 0} → Equality T → Equality (Option T)
 option own = record { test = option_eq own.test; decides = option_Decides own.test own.decides }
 
--- and so does that of an enum without fields
+-- so does `==` on lists, texts among them
+abbrev pub list : {T : Type 0} → Equality T → Equality (List T)
+list own = record { test = pointwise own.test; decides = pointwise_decides own.decides }
+
+-- and that of an enum without fields
 pub bare_Decides : (D : Declared) → Bare D.parts → (a b : D.D) → Decides (sameb D a b) (a ≡ b)
 bare_Decides D bare a b = (same_true D bare a b, true_same D a b)
 
@@ -78,32 +80,4 @@ along to from back parts = record {
   decides = λ x y. Decides-like (parts.test (to x) (to y)) (λ e. sym (back x) ∙ ap from e ∙ back y) (λ e. ap to e) (parts.decides (to x) (to y));
 }
 
-pub ruleset equality = (number, truth, option, last, both, nothing, either, none, along)
-
--- ---- the variants of an enum, each with its own test
-
--- a test of what a variant holds, which decides
-abbrev pub Tested : Type 0 → Type 0
-Tested V = (test : V → V → Bool) × ((x y : V) → Decides (test x y) (x ≡ y))
-
-abbrev pub AllTested : List (List Field) → Type 0
-AllTested [] = Unit {0}
-AllTested (Fs ∷ Fss) = Tested (Values Fs) × AllTested Fss
-
-abbrev pub tests : (Fss : List (List Field)) → AllTested Fss → Each Bool Fss
-tests [] all = tt
-tests (Fs ∷ Fss) all = (all.0.0, tests Fss all.1)
-
-pub choice_Decides : (Fss : List (List Field)) (all : AllTested Fss) (c d : Choice Fss) → Decides (by false false Fss (tests Fss all) c d) (c ≡ d)
-choice_Decides [] all c d = absurd c
-choice_Decides (Fs ∷ Fss) all (inl x) (inl y) = Decides-like (all.0.0 x y) (ap inl) (ap (left_or x)) (all.0.1 x y)
-choice_Decides (Fs ∷ Fss) all (inr c) (inr d) = Decides-like (by false false Fss (tests Fss all.1) c d) (ap inr) (ap (right_or c)) (choice_Decides Fss all.1 c d)
-choice_Decides (Fs ∷ Fss) all (inl x) (inr d) = (λ h. absurd (false≢true h), λ e. cc)
-choice_Decides (Fs ∷ Fss) all (inr c) (inl y) = (λ h. absurd (false≢true h), λ e. cc)
-
--- a variant with one field, and one without
-abbrev pub one : {A : Type 0} (E : A → A → Bool) → ((x y : A) → Decides (E x y) (x ≡ y)) → Tested (A × Unit {0})
-one E each = (λ x y. E x.0 y.0, λ x y. Decides-like (E x.0 y.0) (λ e i. (e i, tt)) (λ e i. (e i).0) (each x.0 y.0))
-
-abbrev pub bare : Tested (Unit {0})
-bare = (λ x y. true, λ x y. (λ h. refl, λ e. refl))
+pub ruleset equality = (number, truth, option, list, last, both, nothing, either, none, along)

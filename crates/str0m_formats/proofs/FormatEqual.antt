@@ -1,7 +1,6 @@
 -- When two formats are equal, two specs and two parameters: `==` of each part decides, and so does that of the whole.
-use Rattle.str0m_formats.proofs.Common.{◌≡◌, ◌&&◌, ℕ, Bool, true, false, Option, nat_eq, refl, sym, ◌∙◌, Decides, unsigned_Decides}
+use Rattle.str0m_formats.proofs.Common.{◌≡◌, ℕ, Bool, true, false, Option, nat_eq, refl, sym, ◌∙◌, Decides, unsigned_Decides}
 use Rattle.std.specs.Option.{option_eq}
-use Rattle.std.proofs.lemmas.Bool.Decides.{Decides-and}
 use Rattle.str0m_values.specs.contracts.h265.H265Profile as h265_profile
 use Rattle.str0m_values.specs.contracts.h265.H265Tier as h265_tier
 use Rattle.str0m_values.specs.contracts.h265.H265Level as h265_level
@@ -18,15 +17,6 @@ use Rattle.str0m_formats.specs.declared.format_params.FormatParams.{FormatParams
 use Rattle.str0m_formats.specs.Scores.{same_codec, same_number, same_spec}
 use Rattle.str0m_formats.proofs.DerivedEqual.{Equality, equality, word}
 pub use Rattle.str0m_formats.proofs.DerivedEqual.{option_Decides, bare_Decides}
-
--- pairs of proofs, and of tests that decide, to the right
-infixr 20 ◌⊗◌
-abbrev pub ◌⊗◌ : {P Q : Type 0} → P → Q → P × Q
-p ⊗ q = (p, q)
-
-infixr 20 ◌and◌
-pub ◌and◌ : {s t : Bool} {P Q : Type 0} → Decides s P → Decides t Q → Decides (s && t) (P × Q)
-p and q = Decides-and _ _ p q
 
 pub numbers : (a b : Option ℕ) → Decides (option_eq nat_eq a b) (a ≡ b)
 numbers = option_Decides nat_eq unsigned_Decides

@@ -15,19 +15,19 @@ use Rattle.str0m_sdp.specs.declared.attribute.MediaAttribute.{MediaAttribute}
 use Rattle.str0m_sdp.specs.declared.attribute.SessionAttribute.{SessionAttribute}
 use Rattle.str0m_sdp.specs.declared.simulcast.RestrictionId.{RestrictionId}
 use Rattle.str0m_sdp.specs.declared.simulcast.Simulcast.{Simulcast}
-use Rattle.str0m_sdp.proofs.CandidateEqual.{candidate, list}
+use Rattle.str0m_sdp.proofs.CandidateEqual.{candidate}
 
 abbrev param : Equality FormatParam
 param = record { test = param_eq.eq-value.it; decides = param_Decides }
 
 abbrev id : Equality RestrictionId
-id = hlevel (list, equality)
+id = hlevel equality
 
 pub id_Decides : (a b : RestrictionId) → Decides (id_eq.eq-value.it a b) (a ≡ b)
 id_Decides a b = id.decides a b
 
 abbrev simulcast : Equality Simulcast
-simulcast = hlevel (id, list, equality)
+simulcast = hlevel (id, equality)
 
 pub simulcast_Decides : (a b : Simulcast) → Decides (simulcast_eq.eq-value.it a b) (a ≡ b)
 simulcast_Decides a b = simulcast.decides a b
@@ -35,13 +35,13 @@ simulcast_Decides a b = simulcast.decides a b
 abbrev media : Equality MediaAttribute
 media =
     along media_type.as_values media_type.the_make media_type.the_eta
-    (hlevel (candidate, param, id, simulcast, list, word codec.the_type tt, word setup.the_type tt, equality))
+    (hlevel (candidate, param, id, simulcast, word codec.the_type tt, word setup.the_type tt, equality))
 
 pub media_Decides : (a b : MediaAttribute) → Decides (media_eq.eq-value.it a b) (a ≡ b)
 media_Decides a b = media.decides a b
 
 abbrev session : Equality SessionAttribute
-session = along session_type.as_values session_type.the_make session_type.the_eta (hlevel (candidate, list, word setup.the_type tt, equality))
+session = along session_type.as_values session_type.the_make session_type.the_eta (hlevel (candidate, word setup.the_type tt, equality))
 
 pub session_Decides : (a b : SessionAttribute) → Decides (session_eq.eq-value.it a b) (a ≡ b)
 session_Decides a b = session.decides a b

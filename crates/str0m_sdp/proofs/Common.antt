@@ -1,7 +1,6 @@
 -- The names that proofs cite from elsewhere, passed on from one place. Declares nothing.
 pub use Rattle.std.proofs.Common.{[], All, ap, append_assoc, arith, Bool, cond, count_by, drop, Err, false, filter, filter_map, find, get_or, IfSome, if◌then◌else◌, inl, inr, length, List, map, nat_eq, None, not, Ok, Option, option_to_list, refl, replicate, Result, rules, Some, subst, suc, sym, take, tests, true, true≢false, zero, ℕ, ◌&&◌, ◌++◌, ◌+◌, ◌<◌, ◌==◌, ◌||◌, ◌∙◌, ◌∷◌, ◌≡◌, ◌≢◌, ◌≤◌}
 pub use Rattle.std.proofs.lemmas.Bool.{cases_eq, eq-eqb, eqb-true, false≢true, le-ltb, lt-ltb, ltb-true, ne_eqb, or_left, or_parts, or_right}
-pub use Rattle.std.proofs.lemmas.Bool.Decides.{Decides-like}
 pub use Rattle.std.proofs.lemmas.Grind.{common_steps, take_at_read}
 pub use Rattle.std.proofs.lemmas.Iterator.{YieldsList-from_slice}
 pub use Rattle.std.proofs.lemmas.List.{append-nil, drop_all, get_or-replicate, get_or-set_other, get_or-set_same, length-set, map-append, take_all, take_more}
@@ -11,7 +10,7 @@ pub use Rattle.std.specs.BTreeMap.{get}
 pub use Rattle.std.specs.BTreeSet.{BTreeSet, contains, Updates}
 pub use Rattle.std.specs.Bool.{Decides}
 pub use Rattle.std.specs.Borrow.{Bor}
-pub use Rattle.std.specs.Cmp.{decided, nat_eq_equiv, unsigned_Decides}
+pub use Rattle.std.specs.Cmp.{decided, nat_eq_equiv}
 pub use Rattle.std.specs.Cmp.Lexicographic.{bytes_decides}
 pub use Rattle.std.specs.Fmt.{HasWritten, IsPlainFormatter}
 pub use Rattle.std.specs.List.{AllByRecursion, AllZip, cons_option, flat_map, IsDistinct, list_any, position_or_len}
@@ -24,7 +23,6 @@ pub use Rattle.std.specs.String.{string_bytes}
 pub use Rattle.indexmap.specs.IndexMap.{insert_entry}
 pub use Rattle.indexmap.specs.IndexSet.{insert_all, insert_key}
 pub use denote.Enum.Bare.{same_true, sameb}
-pub use Rattle.str0m_formats.proofs.FormatEqual.{◌and◌, ◌⊗◌}
 pub use Rattle.str0m_formats.proofs.ParamEqual.{param_Decides}
 pub use Rattle.str0m_formats.proofs.Times.{times-append, times-cons}
 pub use Rattle.str0m_formats.specs.Bounds.{IsBounded}
