@@ -5,7 +5,8 @@ use Rattle.std.specs.Str.{IsUtf8}
 use Rattle.str0m_values.specs.Candidate.{IsSocketInRange}
 use Rattle.str0m_values.specs.declared.candidate.Candidate.{Candidate}
 use Rattle.str0m_values.specs.declared.fingerprint.Fingerprint.{Fingerprint}
-use Rattle.str0m_formats.specs.Bounds.{IsByte, IsWord32}
+use Rattle.str0m_formats.specs.Bounds.{IsByte, FitsType}
+use Rattle.str0m_formats.specs.FormatParam.{kind, entry}
 use Rattle.str0m_formats.specs.declared.format_param.FormatParam.{FormatParam}
 use Rattle.str0m_formats.specs.declared.format_param.FormatParam.TheVariants as param
 use Rattle.str0m_sdp.specs.declared.attribute.MediaAttribute.{MediaAttribute}
@@ -66,22 +67,13 @@ pub record FitsCandidate (c : Candidate) : Type 0 where
 abbrev pub FitsRtpMap : RtpMap → Type 0
 FitsRtpMap map = IsRateNumber map.clock_rate × IfSome map.channels IsByte
 
+-- a value behind a key by the key's kind
 abbrev pub FitsParam : FormatParam → Type 0
-FitsParam (param.MinPTime n) = IsByte n
-FitsParam (param.PacketizationMode n) = IsByte n
-FitsParam (param.ProfileLevelId n) = IsWord32 n
-FitsParam (param.ProfileId n) = IsWord32 n
-FitsParam (param.Profile n) = IsByte n
-FitsParam (param.LevelIdx n) = IsByte n
-FitsParam (param.Tier n) = IsByte n
-FitsParam (param.SpropMaxDonDiff n) = n < 2 ^ 16
 FitsParam (param.TelephoneEvents n) = IsByte n
 FitsParam (param.BareRange n) = IsByte n
 FitsParam (param.BarePtList pt) = IsByte pt
-FitsParam (param.ModeSet n) = n < 2 ^ 16
-FitsParam (param.Apt pt) = IsByte pt
 FitsParam (param.Red pt) = IsByte pt
-FitsParam _ = Unit {0}
+FitsParam param = IfSome (entry param) (λ e. FitsType (kind e.0) e.1)
 
 abbrev pub FitsLayer : SimulcastLayer → Type 0
 FitsLayer layer = IsUtf8 layer.restriction_id.0 × IfSome layer.attributes (All AreTexts)
