@@ -1,6 +1,6 @@
 pub mod Alike
 pub mod Attribute
-pub mod AttributeParts
+pub mod AttributeLine
 pub mod Bandwidth
 pub mod CandidateKey
 pub mod Candidates

@@ -1,13 +1,12 @@
 //! The attributes of sessions and of sections.
 ghost use Rattle.std.specs.Prelude.{◌≡◌, IfOk, Some, refl};
 ghost use Rattle.str0m_sdp.specs.Attribute.{session_attribute_text, media_attribute_text, direction_attribute};
+ghost use Rattle.str0m_sdp.specs.AttributeLine.{line_text};
 
-use crate::attribute_parts::{
-    LongLine, PairLine, SessionValueLine, ValueLine, media_word, media_words, session_words,
-};
-use crate::group::{GroupLine, MsidSemanticLine};
+use crate::attribute_line::Line;
+use crate::label;
 use crate::msid::Msid;
-use crate::printed::{Labelled, Printed};
+use crate::printed::Printed;
 use crate::rtp_map::RtpMap;
 use crate::setup::Setup;
 use crate::simulcast::{RestrictionId, Simulcast};
@@ -168,6 +167,28 @@ impl SessionAttribute {
     {
         <SessionAttribute as Clone>::clone(self)
     }
+
+    fn line(&self) -> Line<'_>
+        ensures { line_text result ≡ session_attribute_text self.now }
+    {
+        match self {
+            SessionAttribute::Group { typ, mids } => Line::Group(typ, mids),
+            SessionAttribute::MsidSemantic {
+                semantic,
+                stream_ids,
+            } => Line::MsidSemantic(semantic, stream_ids),
+            SessionAttribute::AllowMixedExts => Line::Word(label::EXTMAP_ALLOW_MIXED),
+            SessionAttribute::IceLite => Line::Word(label::ICE_LITE),
+            SessionAttribute::IceUfrag(text) => Line::Text(label::ICE_UFRAG, text),
+            SessionAttribute::IcePwd(text) => Line::Text(label::ICE_PWD, text),
+            SessionAttribute::IceOptions(text) => Line::Text(label::ICE_OPTIONS, text),
+            SessionAttribute::Fingerprint(hash) => Line::Fingerprint(hash),
+            SessionAttribute::Setup(setup) => Line::Setup(*setup),
+            SessionAttribute::Candidate(candidate) => Line::Candidate(candidate),
+            SessionAttribute::EndOfCandidates => Line::Word(label::END_OF_CANDIDATES),
+            SessionAttribute::Unused(text) => Line::Text("", text),
+        }
+    }
 }
 
 impl MediaAttribute {
@@ -176,6 +197,47 @@ impl MediaAttribute {
         ensures { IfOk result (λ attribute. attribute ≡ self.now) }
     {
         <MediaAttribute as Clone>::clone(self)
+    }
+
+    fn line(&self) -> Line<'_>
+        ensures { line_text result ≡ media_attribute_text self.now }
+    {
+        match self {
+            MediaAttribute::Rtcp(text) => Line::Text(label::RTCP, text),
+            MediaAttribute::IceUfrag(text) => Line::Text(label::ICE_UFRAG, text),
+            MediaAttribute::IcePwd(text) => Line::Text(label::ICE_PWD, text),
+            MediaAttribute::IceOptions(text) => Line::Text(label::ICE_OPTIONS, text),
+            MediaAttribute::Fingerprint(hash) => Line::Fingerprint(hash),
+            MediaAttribute::Setup(setup) => Line::Setup(*setup),
+            MediaAttribute::Mid(mid) => Line::Mid(mid),
+            MediaAttribute::SctpPort(port) => Line::Number(label::SCTP_PORT, u64::from(*port)),
+            MediaAttribute::MaxMessageSize(size) => Line::Number(label::MAX_MESSAGE_SIZE, *size),
+            MediaAttribute::SctpInit(text) => Line::Text(label::SCTP_INIT, text),
+            MediaAttribute::ExtMap { id, ext } => Line::ExtMap(*id, ext),
+            MediaAttribute::RecvOnly => Line::Word(label::RECV_ONLY),
+            MediaAttribute::SendRecv => Line::Word(label::SEND_RECV),
+            MediaAttribute::SendOnly => Line::Word(label::SEND_ONLY),
+            MediaAttribute::Inactive => Line::Word(label::INACTIVE),
+            MediaAttribute::Msid(msid) => Line::Msid(msid),
+            MediaAttribute::RtcpMux => Line::Word(label::RTCP_MUX),
+            MediaAttribute::RtcpMuxOnly => Line::Word(label::RTCP_MUX_ONLY),
+            MediaAttribute::RtcpRsize => Line::Word(label::RTCP_RSIZE),
+            MediaAttribute::Candidate(candidate) => Line::Candidate(candidate),
+            MediaAttribute::EndOfCandidates => Line::Word(label::END_OF_CANDIDATES),
+            MediaAttribute::RtpMap { pt, value } => Line::RtpMap(*pt, value),
+            MediaAttribute::RtcpFb { pt, value } => Line::RtcpFb(*pt, value),
+            MediaAttribute::Fmtp { pt, values } => Line::Fmtp(*pt, values),
+            MediaAttribute::Rid {
+                id,
+                direction,
+                pt,
+                restriction,
+            } => Line::Rid(id, direction, pt, restriction),
+            MediaAttribute::Simulcast(simulcast) => Line::Simulcast(simulcast),
+            MediaAttribute::SsrcGroup { semantics, ssrcs } => Line::SsrcGroup(semantics, ssrcs),
+            MediaAttribute::Ssrc { ssrc, attr, value } => Line::Ssrc(*ssrc, attr, value),
+            MediaAttribute::Unused(text) => Line::Text("", text),
+        }
     }
 }
 
@@ -198,30 +260,7 @@ impl fmt::Display for SessionAttribute {
     ghost output = { λ attribute. Some (session_attribute_text attribute) };
 
     fn fmt<W: fmt::Write>(&self, f: &mut fmt::Formatter<W>) -> fmt::Result {
-        match self {
-            SessionAttribute::Group { typ, mids } => {
-                let mids = mids.as_slice();
-                GroupLine { typ, mids }.fmt(f)
-            }
-            SessionAttribute::MsidSemantic {
-                semantic,
-                stream_ids,
-            } => {
-                let stream_ids = stream_ids.as_slice();
-                let line = MsidSemanticLine {
-                    semantic,
-                    stream_ids,
-                };
-                line.fmt(f)
-            }
-            SessionAttribute::Fingerprint(_)
-            | SessionAttribute::Setup(_)
-            | SessionAttribute::Candidate(_) => SessionValueLine(self).fmt(f),
-            other => {
-                let (label, text) = session_words(other);
-                Labelled(label, &text).fmt(f)
-            }
-        }
+        self.line().fmt(f)
     }
 }
 
@@ -237,36 +276,7 @@ impl fmt::Display for MediaAttribute {
     ghost output = { λ attribute. Some (media_attribute_text attribute) };
 
     fn fmt<W: fmt::Write>(&self, f: &mut fmt::Formatter<W>) -> fmt::Result {
-        match self {
-            MediaAttribute::Fingerprint(_)
-            | MediaAttribute::Setup(_)
-            | MediaAttribute::Mid(_)
-            | MediaAttribute::SctpPort(_)
-            | MediaAttribute::MaxMessageSize(_)
-            | MediaAttribute::Msid(_)
-            | MediaAttribute::Candidate(_) => ValueLine(self).fmt(f),
-            MediaAttribute::RtpMap { .. }
-            | MediaAttribute::RtcpFb { .. }
-            | MediaAttribute::Ssrc { .. } => PairLine(self).fmt(f),
-            MediaAttribute::ExtMap { .. }
-            | MediaAttribute::Fmtp { .. }
-            | MediaAttribute::Rid { .. }
-            | MediaAttribute::Simulcast(_)
-            | MediaAttribute::SsrcGroup { .. } => LongLine(self).fmt(f),
-            MediaAttribute::Rtcp(_)
-            | MediaAttribute::IceUfrag(_)
-            | MediaAttribute::IcePwd(_)
-            | MediaAttribute::IceOptions(_)
-            | MediaAttribute::SctpInit(_)
-            | MediaAttribute::Unused(_) => {
-                let (label, text) = media_words(self);
-                Labelled(label, &text).fmt(f)
-            }
-            other => {
-                let word = media_word(other);
-                Labelled("", &word).fmt(f)
-            }
-        }
+        self.line().fmt(f)
     }
 }
 

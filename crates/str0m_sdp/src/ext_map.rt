@@ -3,7 +3,7 @@ ghost use Rattle.std.specs.Prelude.{Some};
 ghost use Rattle.str0m_sdp.specs.ExtMap.{ext_map_text};
 
 use crate::label;
-use crate::printed::{Labelled, Pair};
+use crate::printed::Paired;
 use std::fmt;
 use str0m_values::Extension;
 
@@ -21,7 +21,6 @@ impl<'a> fmt::Display for ExtMapLine<'a> {
         if !self.ext.serialized {
             return Ok(());
         }
-        let value = Pair(&self.id, &self.ext.uri);
-        Labelled(label::EXTMAP, &value).fmt(f)
+        Paired(label::EXTMAP, &self.id, &self.ext.uri).fmt(f)
     }
 }

@@ -3,22 +3,22 @@ ghost use Rattle.std.specs.Prelude.{Some};
 ghost use Rattle.str0m_sdp.specs.Group.{group_text, msid_semantic_text};
 
 use crate::label;
-use crate::printed::{Labelled, Pair, behind_spaces, spaced};
+use crate::printed::{Paired, behind_spaces, spaced};
 use std::fmt;
-use str0m_values::{Mid, Text};
+use str0m_values::{Items, Mid, Text};
 
 /// The `a=group` line, with its end (RFC 5888, section 5).
 #[derive(Drop)]
 pub(crate) struct GroupLine<'a> {
     pub(crate) typ: &'a Text,
-    pub(crate) mids: &'a [Mid],
+    pub(crate) mids: &'a Items<Mid>,
 }
 
 impl<'a> fmt::Display for GroupLine<'a> {
     ghost output = { λ line. Some (group_text line.typ.now line.mids.now) };
 
     fn fmt<W: fmt::Write>(&self, f: &mut fmt::Formatter<W>) -> fmt::Result {
-        let (typ, mids) = (self.typ, behind_spaces(self.mids));
+        let (typ, mids) = (self.typ, behind_spaces(self.mids.as_slice()));
         write!(f, "a={}{typ}{mids}\r\n", label::GROUP)
     }
 }
@@ -27,15 +27,14 @@ impl<'a> fmt::Display for GroupLine<'a> {
 #[derive(Drop)]
 pub(crate) struct MsidSemanticLine<'a> {
     pub(crate) semantic: &'a Text,
-    pub(crate) stream_ids: &'a [Text],
+    pub(crate) ids: &'a Items<Text>,
 }
 
 impl<'a> fmt::Display for MsidSemanticLine<'a> {
-    ghost output = { λ line. Some (msid_semantic_text line.semantic.now line.stream_ids.now) };
+    ghost output = { λ line. Some (msid_semantic_text line.semantic.now line.ids.now) };
 
     fn fmt<W: fmt::Write>(&self, f: &mut fmt::Formatter<W>) -> fmt::Result {
-        let ids = spaced(self.stream_ids);
-        let value = Pair(self.semantic, &ids);
-        Labelled("msid-semantic: ", &value).fmt(f)
+        let ids = spaced(self.ids.as_slice());
+        Paired("msid-semantic: ", self.semantic, &ids).fmt(f)
     }
 }

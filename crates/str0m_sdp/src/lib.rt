@@ -4,7 +4,7 @@
 
 mod alike;
 mod attribute;
-mod attribute_parts;
+mod attribute_line;
 mod bandwidth;
 mod candidate_key;
 mod candidates;

@@ -33,12 +33,6 @@ impl Printed for u8 {
     ghost prints = { λ _. refl };
 }
 
-impl Printed for u16 {
-    ghost text = { decimal };
-
-    ghost prints = { λ _. refl };
-}
-
 impl Printed for u64 {
     ghost text = { decimal };
 
@@ -181,5 +175,18 @@ impl<'a, T: Printed> fmt::Display for Labelled<'a, T> {
         f.write_str(self.0)?;
         self.1.fmt(f)?;
         f.write_str("\r\n")
+    }
+}
+
+/// The `a=` line of a label, a value right behind it and another behind a space, with its end.
+#[derive(Drop)]
+pub(crate) struct Paired<'a, A, B>(pub(crate) &'a str, pub(crate) &'a A, pub(crate) &'a B);
+
+impl<'a, A: Printed, B: Printed> fmt::Display for Paired<'a, A, B> {
+    ghost output = { λ line. Some (labelled_line line.0.now (A.text line.1.now ++ (codes " " ++ B.text line.2.now))) };
+
+    fn fmt<W: fmt::Write>(&self, f: &mut fmt::Formatter<W>) -> fmt::Result {
+        let pair = Pair(self.1, self.2);
+        Labelled(self.0, &pair).fmt(f)
     }
 }

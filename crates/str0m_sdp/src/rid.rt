@@ -8,15 +8,15 @@ use crate::printed::Joined;
 use crate::simulcast::RestrictionId;
 use crate::word::Word;
 use std::fmt;
-use str0m_values::{Pt, Text};
+use str0m_values::{Items, Pt, Text};
 
 /// The `a=rid` line, with its end (RFC 8851, section 10).
 #[derive(Drop)]
 pub(crate) struct RidLine<'a> {
     pub(crate) id: &'a RestrictionId,
     pub(crate) direction: &'a Word,
-    pub(crate) pts: &'a [Pt],
-    pub(crate) restrictions: &'a [(Text, Text)],
+    pub(crate) pts: &'a Items<Pt>,
+    pub(crate) restrictions: &'a Items<(Text, Text)>,
 }
 
 impl<'a> fmt::Display for RidLine<'a> {
@@ -25,10 +25,10 @@ impl<'a> fmt::Display for RidLine<'a> {
     fn fmt<W: fmt::Write>(&self, f: &mut fmt::Formatter<W>) -> fmt::Result {
         let name = self.id.0.as_str();
         let direction = self.direction;
-        let pts = PtsPart(self.pts);
+        let pts = PtsPart(self.pts.as_slice());
         let restrictions = RestrictionsPart {
-            pts: self.pts,
-            restrictions: self.restrictions,
+            pts: self.pts.as_slice(),
+            restrictions: self.restrictions.as_slice(),
         };
         write!(
             f,

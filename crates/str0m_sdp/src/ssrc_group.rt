@@ -3,7 +3,7 @@ ghost use Rattle.std.specs.Prelude.{Some};
 ghost use Rattle.str0m_sdp.specs.SsrcGroup.{ssrc_group_text};
 
 use crate::label;
-use crate::printed::{Labelled, Pair, spaced};
+use crate::printed::{Paired, spaced};
 use std::fmt;
 use str0m_values::{Ssrc, Text};
 
@@ -22,7 +22,6 @@ impl<'a> fmt::Display for SsrcGroupLine<'a> {
             return Ok(());
         }
         let sources = spaced(self.ssrcs);
-        let value = Pair(self.semantics, &sources);
-        Labelled(label::SSRC_GROUP, &value).fmt(f)
+        Paired(label::SSRC_GROUP, self.semantics, &sources).fmt(f)
     }
 }

@@ -1,0 +1,38 @@
+-- What the line of an attribute prints, by the kind of what it is made of.
+use Rattle.std.specs.Prelude.{ℕ, List, ◌++◌, codes}
+use Rattle.std.specs.Fmt.{decimal}
+use Rattle.str0m_values.specs.Candidate.{candidate_text}
+use Rattle.str0m_values.specs.Fingerprint.{fingerprint_text}
+use Rattle.str0m_sdp.specs.declared.attribute_line.Line.{Line}
+use Rattle.str0m_sdp.specs.declared.attribute_line.Line.TheVariants as line
+use Rattle.str0m_sdp.specs.ExtMap.{ext_map_text}
+use Rattle.str0m_sdp.specs.Fmtp.{fmtp_text}
+use Rattle.str0m_sdp.specs.Group.{group_text, msid_semantic_text}
+use Rattle.str0m_sdp.specs.Lines.{attribute_line, labelled_line}
+use Rattle.str0m_sdp.specs.Msid.{msid_text}
+use Rattle.str0m_sdp.specs.Rid.{rid_text}
+use Rattle.str0m_sdp.specs.RtpMap.{rtp_map_text}
+use Rattle.str0m_sdp.specs.Setup.{setup_text}
+use Rattle.str0m_sdp.specs.Simulcast.{simulcast_text}
+use Rattle.str0m_sdp.specs.SsrcGroup.{ssrc_group_text}
+use Rattle.str0m_sdp.specs.declared.label.TheConstants as label
+
+abbrev pub line_text : Line → List ℕ
+line_text (line.Word word) = attribute_line word.now
+line_text (line.Text name text) = labelled_line name.now text.now
+line_text (line.Number name number) = labelled_line name.now (decimal number)
+line_text (line.Fingerprint hash) = labelled_line label.FINGERPRINT.now (fingerprint_text hash.now)
+line_text (line.Setup setup) = labelled_line label.SETUP.now (setup_text setup)
+line_text (line.Mid mid) = labelled_line label.MID.now mid.now
+line_text (line.Msid msid) = labelled_line label.MSID.now (msid_text msid.now)
+line_text (line.Candidate candidate) = attribute_line (candidate_text candidate.now)
+line_text (line.ExtMap id ext) = ext_map_text id ext.now
+line_text (line.RtpMap pt map) = labelled_line label.RTPMAP.now (decimal pt ++ (codes " " ++ rtp_map_text map.now))
+line_text (line.RtcpFb pt value) = labelled_line label.RTCP_FB.now (decimal pt ++ (codes " " ++ value.now))
+line_text (line.Fmtp pt values) = fmtp_text pt values.now
+line_text (line.Rid id direction pts restrictions) = rid_text id.now direction.now pts.now restrictions.now
+line_text (line.Simulcast simulcast) = simulcast_text simulcast.now
+line_text (line.SsrcGroup semantics ssrcs) = ssrc_group_text semantics.now ssrcs.now
+line_text (line.Ssrc ssrc attr value) = labelled_line label.SSRC.now (decimal ssrc ++ (codes " " ++ (attr.now ++ (codes ":" ++ value.now))))
+line_text (line.Group typ mids) = group_text typ.now mids.now
+line_text (line.MsidSemantic semantic ids) = msid_semantic_text semantic.now ids.now
