@@ -9,6 +9,7 @@ pub mod Copies
 pub mod DistinctLaws
 pub mod FaultLaws
 pub mod FeedbackLaws
+pub mod FieldsEqual
 pub mod FilterMapLaws
 pub mod Finding
 pub mod FmtpAnswers
