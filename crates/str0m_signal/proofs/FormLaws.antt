@@ -1,5 +1,5 @@
 -- The pieces that forms share are read both ways.
-use Rattle.str0m_signal.proofs.Common.{◌≡◌, ℕ, List, [], ◌∷◌, ◌++◌, length, Option, Some, None, refl, sym, ap, ◌∙◌, inl, inr, ltb-true, ◌>>=◌, cut, strip, when, is_rest, num, IsNum, Sound, bind_some, some_is, cut_none, cut_none_lacks, cut_at, cut_found, strip_at, strip_found, when_some, when_true, num_found, num_reads, rest_true}
+use Rattle.str0m_signal.proofs.Common.{◌≡◌, ℕ, List, [], ◌∷◌, ◌++◌, length, Option, Some, None, refl, sym, ap, ◌∙◌, inl, inr, ltb-true, ◌>>=◌, cut, strip, when, is_rest, num, IsNum, bind_some, some_is, cut_none, cut_none_lacks, cut_at, cut_found, strip_at, strip_found, when_some, when_true, num_found, num_reads, rest_true}
 use Rattle.str0m_values.proofs.BothWays.{Reads}
 use Rattle.std.proofs.Common.{append-nil}
 use Rattle.str0m_signal.specs.Forms.{Behind, IsText, Two, Tailed}
@@ -18,14 +18,6 @@ pub behind_both : {A : Type 0} {F : List ℕ → A → Type 0} {f : List ℕ →
 behind_both {f} label reads = record {
   sound = λ text x e. let a = bind_some (strip label text) f x e in (a.0, strip_found label text a.0 a.1, reads.sound a.0 x a.2);
   complete = λ text x h. ap (behind label f) h.1 ∙ ap (λ (o : Option (List ℕ)). o >>= f) (strip_at label h.0) ∙ reads.complete h.0 x h.2;
-}
-
--- what is read of a text makes a value that the text stands for
-pub form_sound : {A B : Type 0} {F : List ℕ → A → Type 0} {f : List ℕ → Option A} {G : List ℕ → B → Type 0} (make : A → B) → Reads F f → ((text : List ℕ) (x : A) → F text x → G text (make x)) → Sound G (λ text. f text >>= λ x. Some (make x))
-form_sound {A} {B} {F} {f} {G} make reads stands = record {
-  law = λ text y e.
-      let a = bind_some (f text) (λ x. Some (make x)) y e in
-      rw (← some_is (make a.0) y a.2) (stands text a.0 (reads.sound text a.0 a.1));
 }
 
 pub two_both : {A B : Type 0} {F : List ℕ → A → Type 0} {G : List ℕ → B → Type 0} {f : List ℕ → Option A} {g : List ℕ → Option B} (c : ℕ) → Reads F f → Reads G g → Reads (Two c F G) (two_read c f g)

@@ -22,14 +22,6 @@ module _ {A : Type 0} {P : A → Type 0} where
   pub lost_same : (asked : A) → IsTheOnly P None → IsTrue false ↔ P asked
   lost_same asked none = (λ h. absurd (true≢false (sym h)), λ p. absurd (none-some asked (none.only asked p)))
 
-  -- has a property, or there is none that has it
-  pub back_with : (read : A) {Q : A → Type 0} {T : Type 0} → IsTheOnly P (Some read) → T ↔ Q read → T ↔ ((x : A) × P x × Q x)
-  back_with read {Q} only is =
-      (λ t. (read, only.found, is.0 t), λ h. is.1 (subst Q (sym (same_Some read h.0 (only.only h.0 h.1))) h.2))
-
-  pub lost_with : {Q : A → Type 0} → IsTheOnly P None → IsTrue false ↔ ((x : A) × P x × Q x)
-  lost_with none = (λ h. absurd (true≢false (sym h)), λ h. absurd (none-some h.0 (none.only h.0 h.1)))
-
   -- stands beside another promise
   pub back_beside : (read : A) {Q T : Type 0} → IsTheOnly P (Some read) → T ↔ Q → T ↔ (((x : A) × P x) × Q)
   back_beside read only is = (λ t. ((read, only.found), is.0 t), λ h. is.1 h.1)
@@ -76,9 +68,6 @@ module _ (m : MediaLine) where
 
   pub no_types : IsTheOnly (HasTypes m) None → IsTheOnly (IsReadAs m) None
   no_types none = record { found = tt; only = λ read is. absurd (none-some read.pts (none.only read.pts is.head)) }
-
-  pub no_attributes : IsTheOnly (MediaAreReadAs m.attrs) None → IsTheOnly (IsReadAs m) None
-  no_attributes none = record { found = tt; only = λ read is. absurd (none-some read.attrs (none.only read.attrs is.attributes)) }
 
   pub whole_section : (pts : List ℕ) (attrs : List MediaAttribute) → BandwidthComesBack m.bw → IsTheOnly (HasTypes m) (Some pts)
       → IsTheOnly (MediaAreReadAs m.attrs) (Some attrs) → IsTheOnly (IsReadAs m) (Some (record m { pts = pts; attrs = attrs }))
