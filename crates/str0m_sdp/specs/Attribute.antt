@@ -1,7 +1,9 @@
--- What attributes print: a line for each form (RFC 8866, sections 5.13 and 6).
-use Rattle.std.specs.Prelude.{ℕ, List, ◌++◌, codes}
+-- What attributes print: a line for each form (RFC 8866, sections 5.13 and 6). And which of them are a word alone.
+use Rattle.std.specs.Prelude.{ℕ, List, [], ◌∷◌, ◌++◌, Option, None, codes}
 use Rattle.std.specs.Fmt.{decimal}
+use Rattle.std.specs.Str.{bytes_eq}
 use Rattle.str0m_values.specs.Candidate.{candidate_text}
+use Rattle.str0m_values.specs.Cuts.{◌<|>◌, when}
 use Rattle.str0m_values.specs.Fingerprint.{fingerprint_text}
 use Rattle.str0m_values.specs.declared.direction.Direction.{Direction}
 use Rattle.str0m_values.specs.declared.direction.Direction.TheVariants as way
@@ -72,3 +74,30 @@ direction_attribute way.SendRecv = media.SendRecv
 direction_attribute way.SendOnly = media.SendOnly
 direction_attribute way.RecvOnly = media.RecvOnly
 direction_attribute way.Inactive = media.Inactive
+
+-- ---- attributes that are a word alone
+
+abbrev pub session_words : List (List ℕ × SessionAttribute)
+session_words =
+    (label.EXTMAP_ALLOW_MIXED.now, session.AllowMixedExts)
+    ∷ (label.ICE_LITE.now, session.IceLite)
+    ∷ (label.END_OF_CANDIDATES.now, session.EndOfCandidates)
+    ∷ []
+
+abbrev pub media_words : List (List ℕ × MediaAttribute)
+media_words =
+    (label.RECV_ONLY.now, media.RecvOnly)
+    ∷ (label.SEND_RECV.now, media.SendRecv)
+    ∷ (label.SEND_ONLY.now, media.SendOnly)
+    ∷ (label.INACTIVE.now, media.Inactive)
+    ∷ (label.RTCP_MUX.now, media.RtcpMux)
+    ∷ (label.RTCP_MUX_ONLY.now, media.RtcpMuxOnly)
+    ∷ (label.RTCP_RSIZE.now, media.RtcpRsize)
+    ∷ (label.END_OF_CANDIDATES.now, media.EndOfCandidates)
+    ∷ []
+
+-- what a text stands for that is one of these words
+abbrev pub word_read : {A : Type 0} → List (List ℕ × A) → List ℕ → Option A
+word_read [] text = None
+word_read (row ∷ []) text = when (bytes_eq text row.0) row.1
+word_read (row ∷ other ∷ rows) text = when (bytes_eq text row.0) row.1 <|> word_read (other ∷ rows) text

@@ -1,6 +1,7 @@
 //! The attributes of sessions and of sections.
 ghost use Rattle.std.specs.Prelude.{◌≡◌, IfOk, Some, refl};
 ghost use Rattle.str0m_sdp.specs.Attribute.{session_attribute_text, media_attribute_text, direction_attribute};
+ghost use Rattle.str0m_sdp.specs.Attribute.{session_words, media_words, word_read};
 ghost use Rattle.str0m_sdp.specs.AttributeLine.{line_text};
 
 use crate::attribute_line::Line;
@@ -161,6 +162,18 @@ pub enum MediaAttribute {
 }
 
 impl SessionAttribute {
+    /// The attribute that is this word alone, as `ice-lite`; none where no attribute is.
+    pub fn from_word(text: &str) -> Option<SessionAttribute>
+        ensures { result ≡ word_read session_words text.now }
+    {
+        match text {
+            label::EXTMAP_ALLOW_MIXED => Some(SessionAttribute::AllowMixedExts),
+            label::ICE_LITE => Some(SessionAttribute::IceLite),
+            label::END_OF_CANDIDATES => Some(SessionAttribute::EndOfCandidates),
+            _ => None,
+        }
+    }
+
     /// A copy that equals its source; the only error is that memory was refused.
     pub fn clone(&self) -> Result<SessionAttribute, AllocError>
         ensures { IfOk result (λ attribute. attribute ≡ self.now) }
@@ -192,6 +205,23 @@ impl SessionAttribute {
 }
 
 impl MediaAttribute {
+    /// The attribute that is this word alone, as `rtcp-mux`; none where no attribute is.
+    pub fn from_word(text: &str) -> Option<MediaAttribute>
+        ensures { result ≡ word_read media_words text.now }
+    {
+        match text {
+            label::RECV_ONLY => Some(MediaAttribute::RecvOnly),
+            label::SEND_RECV => Some(MediaAttribute::SendRecv),
+            label::SEND_ONLY => Some(MediaAttribute::SendOnly),
+            label::INACTIVE => Some(MediaAttribute::Inactive),
+            label::RTCP_MUX => Some(MediaAttribute::RtcpMux),
+            label::RTCP_MUX_ONLY => Some(MediaAttribute::RtcpMuxOnly),
+            label::RTCP_RSIZE => Some(MediaAttribute::RtcpRsize),
+            label::END_OF_CANDIDATES => Some(MediaAttribute::EndOfCandidates),
+            _ => None,
+        }
+    }
+
     /// A copy that equals its source; the only error is that memory was refused.
     pub fn clone(&self) -> Result<MediaAttribute, AllocError>
         ensures { IfOk result (λ attribute. attribute ≡ self.now) }

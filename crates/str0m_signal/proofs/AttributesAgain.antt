@@ -1,46 +1,73 @@
--- Attributes are printed as they were read.
-use Rattle.str0m_signal.proofs.Common.{◌≡◌, ◌⊎◌, ◌≤◌, ℕ, List, [], ◌∷◌, ◌++◌, Option, Some, None, IfSome, refl, ap, ◌∙◌, subst, sym, lit<, lit≤, inl, inr, codes, printed_and_read, Codec, media_attribute_text, is_shown, attribute_line, KeepsToLine, setup_text, MediaAttribute, Fmtp, RestrictionId, SimulcastLayer, candidate_text, IsCandidateText, Parted, IsLongestBeginning, decimal, join_by, Lacks, IsNum, lacks_from}
+-- Attributes are read exactly where their forms hold, and printed as they were read.
+use Rattle.str0m_signal.proofs.Common.{◌≡◌, ◌⊎◌, ◌≤◌, ℕ, Bool, true, false, false≢true, List, [], ◌∷◌, ◌++◌, Option, Some, None, IfSome, refl, ap, ◌∙◌, subst, sym, lit<, lit≤, inl, inr, codes, printed_and_read, Codec, media_attribute_text, is_shown, attribute_line, KeepsToLine, setup_text, MediaAttribute, Fmtp, RestrictionId, SimulcastLayer, candidate_text, candidate_both, IsCandidateText, Parted, IsLongestBeginning, decimal, join_by, length, ltb-true, Lacks, IsNum, is_rest, beginning_of, beginning_is, beginning_only, lacks_from, rest_true, when_some, when_true}
 use Rattle.str0m_formats.specs.Codec.{IsReadAs}
 use Rattle.str0m_sdp.specs.declared.attribute.MediaAttribute.TheVariants.{RtpMap, Simulcast}
-use Rattle.std.specs.Prelude.{Bool, filter}
+use Rattle.std.specs.Prelude.{filter}
 use Rattle.str0m_formats.specs.declared.codec.Codec.TheVariants as codec
 use Rattle.str0m_sdp.specs.Simulcast.{sides_text, unless_munged}
 use Rattle.str0m_sdp.specs.declared.attribute.MediaAttribute.TheVariants.{Fingerprint, Setup, Mid, Candidate, Rid}
 use Rattle.str0m_sdp.specs.declared.attribute.MediaAttribute.TheVariants.{SsrcGroup, Unused}
 use Rattle.str0m_sdp.specs.declared.rtp_map.RtpMap.{RtpMap as Mapping}
 use Rattle.str0m_sdp.specs.declared.simulcast.Simulcast.{Simulcast as TheSimulcast}
+use Rattle.str0m_sdp.specs.declared.setup.Setup.{Setup as Role}
+use Rattle.str0m_sdp.specs.declared.setup.Setup.TheVariants.{ActPass}
+use Rattle.str0m_sdp.specs.declared.setup.TheConstants.{SETUPS}
+use Rattle.str0m_values.specs.Words.{case_of}
+use Rattle.str0m_values.proofs.WordsOfCases.{reads_words}
 use Rattle.str0m_values.specs.declared.candidate.Candidate.{Candidate as TheCandidate}
 use Rattle.str0m_values.specs.Fingerprint.{fingerprint_text}
 use Rattle.str0m_values.specs.declared.fingerprint.Fingerprint.{Fingerprint as TheFingerprint}
 use Rattle.str0m_signal.specs.FormTable.{Form, any, led_by, two, parted, a_text, number}
 use Rattle.str0m_signal.specs.Forms.{Behind, IsText, Two}
-use Rattle.str0m_signal.specs.MediaAttribute.{media_words, media_texts, name, mid, ssrc_group, rid, simulcast, plain_forms, IsMediaLine, MediaForm}
+use Rattle.str0m_sdp.specs.Attribute.{media_words}
+use Rattle.str0m_signal.specs.MediaAttribute.{media_texts, name, mid, ssrc_group, rid, simulcast, plain_forms, IsMediaLine, MediaForm}
 use Rattle.str0m_signal.specs.Rid.{IsRid}
 use Rattle.str0m_signal.specs.RtpMap.{IsChannels, IsRtpMap}
 use Rattle.str0m_signal.specs.Simulcast.{AreSides, IsSimulcast}
 use Rattle.str0m_signal.specs.Words.{IsHexPair}
 use Rattle.str0m_signal.specs.TransportForms.{candidate, fingerprint, role}
+use Rattle.str0m_signal.specs.MediaAttributeReading.{role_read}
 use Rattle.str0m_signal.specs.RidReading.{rid_fields_read}
 use Rattle.str0m_signal.specs.SimulcastReading.{simulcast_fields_read}
 use Rattle.str0m_signal.specs.Writable.{IsPrintedAs}
 use Rattle.str0m_signal.specs.WrittenAgain.{FitsAgain, NamesNoTypes}
 use Rattle.str0m_signal.proofs.CandidateAgain.{candidate_again}
+use Rattle.str0m_signal.proofs.CandidateLineLaws.{candidate_begins}
 use Rattle.str0m_signal.proofs.CharacterStarts.{StartsWithin, behind_starts, kept_some}
 use Rattle.str0m_signal.proofs.FmtpAgain.{fmtp_again}
+use Rattle.str0m_signal.proofs.FormLaws.{text_both, two_both}
 use Rattle.str0m_signal.proofs.Formats.{behind_lacks}
 use Rattle.str0m_signal.proofs.Mapped.{mapping_printed}
-use Rattle.str0m_signal.proofs.PiecesAgain.{Again, text_again, num_again, two_again, tailed_again, behind_again, parted_again}
+use Rattle.str0m_signal.proofs.PiecesAgain.{Again, text_again, num_again, two_again, behind_again, parted_again}
 use Rattle.str0m_signal.proofs.PrintedAttributes.{HoldsNoEnd, no_end, no_ends, line_printed, attribute_printed}
 use Rattle.str0m_signal.proofs.RidAgain.{IsPlainRid, rid_again, sides_words, sides_form, sides_lack}
-use Rattle.str0m_signal.proofs.TableAgain.{PrintsAgain, quiet_again, made_again, labelled_again, words_again, texts_again, any_again}
-use Rattle.str0m_signal.proofs.TableLaws.{AllOf, ◌also◌}
+use Rattle.str0m_signal.proofs.RidLaws.{rid_fields_both}
+use Rattle.str0m_signal.proofs.SimulcastLaws.{simulcast_fields_both}
+use Rattle.str0m_signal.proofs.TableAgain.{Kept, PrintsAgain, Whole, laws_of, quiet_again, made_again, both, text_kept, number_kept, two_kept, tailed_kept, labelled_whole, words_whole, texts_whole, any_again}
+use Rattle.str0m_signal.proofs.TableLaws.{Readable, Lawful, AllOf, ◌also◌, own_lawful, labelled_lawful, made_lawful}
 use Rattle.str0m_signal.proofs.WordsAgain.{kept_again, kept_lacks, hash_again, fingerprint_pair, pairs_are_joined}
+use Rattle.str0m_signal.proofs.WordsLaws.{hex_pairs_both, sources_both}
+use Rattle.str0m_values.specs.declared.candidate_label.TheConstants as candidate_label
 use Rattle.str0m_sdp.specs.declared.label.TheConstants as label
 
 -- ---- what sessions and sections share
 
-pub role_again : Again role.Is setup_text
-role_again = record { form = λ text setup h. refl; lacks = λ c far text setup h lacks. subst (Lacks c) h lacks }
+role_own : (role : Role) → role_read (setup_text role) ≡ Some role
+unfolding case_of
+role_own ActPass = refl
+role_own _ = refl
+
+pub role_kept : Kept role setup_text
+role_kept = record {
+  reads = reads_words setup_text SETUPS role_own;
+  again = record { form = λ text setup h. refl; lacks = λ c far text setup h lacks. subst (Lacks c) h lacks };
+}
+
+pub candidate_lawful : Lawful candidate
+candidate_lawful = own_lawful candidate_label.CANDIDATE.now candidate_both candidate_begins
+
+pub fingerprint_lawful : Lawful fingerprint
+fingerprint_lawful = labelled_lawful _ _ (two_both 32 text_both hex_pairs_both)
 
 pub printed_candidate : {Fits : Type 0} (text : List ℕ) (candidate : TheCandidate) → HoldsNoEnd text → StartsWithin 3 text → Fits
     → IsCandidateText text candidate → IsCandidateText (candidate_text candidate) candidate × HoldsNoEnd (candidate_text candidate)
@@ -70,15 +97,33 @@ abbrev pub shown_only : MediaAttribute → MediaAttribute
 shown_only (Fmtp pt values) = Fmtp pt (filter is_shown values)
 shown_only attr = attr
 
--- what is printed whole, and has no number that an mapping or a format would have
-abbrev IsPlain : MediaAttribute → Type 0
-IsPlain attr = (shown_only attr ≡ attr) × KeepsToLine attr
+-- neither a mapping nor a format
+abbrev is_plain : MediaAttribute → Bool
+is_plain (RtpMap pt value) = false
+is_plain (Fmtp pt values) = false
+is_plain _ = true
+
+-- so it is printed whole, and has no number that one of these would have
+pub plain : (attr : MediaAttribute) → is_plain attr ≡ true → (shown_only attr ≡ attr) × KeepsToLine attr
+plain (RtpMap pt value) e = absurd (false≢true e)
+plain (Fmtp pt values) e = absurd (false≢true e)
+plain _ e = (refl, tt)
 
 abbrev PlainAgain : Form MediaAttribute → Type 0
-PlainAgain = PrintsAgain FitsAgain (λ attr text. media_attribute_text attr ≡ attribute_line text) IsPlain
+PlainAgain = PrintsAgain FitsAgain media_attribute_text is_plain
+
+abbrev pub PlainForm : Form MediaAttribute → Type 0
+PlainForm = Whole FitsAgain media_attribute_text is_plain
+
+name_both : Readable name
+name_both = record {
+  sound = λ text mid e. let w = when_some (is_rest text) (beginning_of 16 text) mid e in rw (← w.1) (ltb-true 0 (length text) w.0, beginning_is 16 text);
+  complete = λ text mid h.
+      when_true (is_rest text) (beginning_of 16 text) (rest_true text h.0) ∙ ap (λ (t : List ℕ). Some t) (sym (beginning_only 16 text mid h.1));
+}
 
 mid_comes_back : PlainAgain mid
-mid_comes_back = made_again (led_by label.MID.now name) Mid (λ mid. label.MID.now ++ mid) (λ text mid quiet starts fits h. back text mid quiet starts h) (λ _ _. refl) (λ _. (refl, tt))
+mid_comes_back = made_again (led_by label.MID.now name) Mid (λ mid. label.MID.now ++ mid) (λ text mid quiet starts fits h. back text mid quiet starts h) (λ _ _. refl) (λ _. refl)
   where
     lacks : (c : ℕ) (text mid name : List ℕ) → text ≡ label.MID.now ++ name → IsLongestBeginning 16 name mid → Lacks c text → Lacks c (label.MID.now ++ mid)
     lacks c text mid name e kept none =
@@ -97,7 +142,7 @@ abbrev simulcast_line : TheSimulcast → List ℕ
 simulcast_line s = label.SIMULCAST.now ++ sides_words s.send.0 s.recv.0
 
 simulcast_comes_back : PlainAgain simulcast
-simulcast_comes_back = made_again (led_by label.SIMULCAST.now (record { Is = IsSimulcast; read = simulcast_fields_read })) Simulcast simulcast_line (λ text s quiet starts fits h. back text s quiet h) shows (λ _. (refl, tt))
+simulcast_comes_back = made_again (led_by label.SIMULCAST.now (record { Is = IsSimulcast; read = simulcast_fields_read })) Simulcast simulcast_line (λ text s quiet starts fits h. back text s quiet h) shows (λ _. refl)
   where
     back : (text : List ℕ) (s : TheSimulcast) → HoldsNoEnd text → Behind label.SIMULCAST.now IsSimulcast text s
         → Behind label.SIMULCAST.now IsSimulcast (simulcast_line s) s × HoldsNoEnd (simulcast_line s)
@@ -137,7 +182,7 @@ rid_comes_back : PlainAgain rid
 rid_comes_back = made_again (led_by label.RID.now (record { Is = IsRid; read = rid_fields_read })) _ _ (λ text f quiet starts fits h.
     let whole = behind_again rid_again label.RID.now in
     let plain = plain_rid text f.0 f.1 h fits in
-    (rid_form _ f.0 f.1 (whole.form text f plain), quiet_again whole text f quiet plain)) (λ _ _. refl) (λ _. (refl, tt))
+    (rid_form _ f.0 f.1 (whole.form text f plain), quiet_again whole text f quiet plain)) (λ _ _. refl) (λ _. refl)
 
 abbrev sources_line : List ℕ → List ℕ → List ℕ
 sources_line semantics ssrcs = label.SSRC_GROUP.now ++ (semantics ++ (32 ∷ join_by decimal (codes " ") ssrcs))
@@ -145,7 +190,7 @@ sources_line semantics ssrcs = label.SSRC_GROUP.now ++ (semantics ++ (32 ∷ joi
 group_comes_back : PlainAgain ssrc_group
 group_comes_back =
     let whole = behind_again (two_again 32 (lit≤ tt) text_again (parted_again (num_again 4294967295 (lit< tt)) 32)) label.SSRC_GROUP.now in
-    made_again (led_by label.SSRC_GROUP.now (two 32 a_text (parted 32 (number 4294967295)))) _ _ (λ text p quiet starts fits h. (whole.form text p h, quiet_again whole text p quiet h)) (λ p h. shows p.0 p.1 h) (λ _. (refl, tt))
+    made_again (led_by label.SSRC_GROUP.now (two 32 a_text (parted 32 (number 4294967295)))) _ _ (λ text p quiet starts fits h. (whole.form text p h, quiet_again whole text p quiet h)) (λ p h. shows p.0 p.1 h) (λ _. refl)
   where
     shows : (semantics ssrcs : List ℕ)
         → Behind label.SSRC_GROUP.now (Two 32 IsText (Parted 32 (IsNum 4294967295))) (sources_line semantics ssrcs) (semantics, ssrcs)
@@ -153,30 +198,29 @@ group_comes_back =
     shows semantics [] h = absurd h.2.5
     shows semantics (ssrc ∷ ssrcs) h = refl
 
-laws : AllOf PlainAgain plain_forms
-laws =
-    labelled_again _ _ _ (two_again 32 (lit≤ tt) (num_again 127 (lit< tt)) text_again) (λ _. refl) (λ _. (refl, tt))
-    also labelled_again _ _ _ (two_again 32 (lit≤ tt) (tailed_again (num_again 255 (lit< tt)) 47 (lit≤ tt)) (tailed_again text_again 32 (lit≤ tt))) (λ _. refl) (λ _. (refl, tt))
-    also made_again candidate Candidate _ printed_candidate (λ _ _. refl) (λ _. (refl, tt))
-    also labelled_again _ _ _ (two_again 32 (lit≤ tt) (num_again 4294967295 (lit< tt)) (two_again 58 (lit≤ tt) text_again text_again)) (λ _. refl) (λ _. (refl, tt))
-    also labelled_again _ _ Setup role_again (λ _. refl) (λ _. (refl, tt))
-    also group_comes_back
-    also texts_again media_texts ((λ _. (refl, (refl, tt))) also (λ _. (refl, (refl, tt))) also (λ _. (refl, (refl, tt))) also tt)
-    also made_again fingerprint Fingerprint _ printed_fingerprint (λ _ _. refl) (λ _. (refl, tt))
-    also mid_comes_back
-    also labelled_again _ _ _ (two_again 32 (lit≤ tt) text_again text_again) (λ _. refl) (λ _. (refl, tt))
-    also rid_comes_back
-    also labelled_again _ _ _ text_again (λ _. refl) (λ _. (refl, tt))
-    also simulcast_comes_back
-    also labelled_again _ _ _ (num_again 65535 (lit< tt)) (λ _. refl) (λ _. (refl, tt))
-    also labelled_again _ _ _ (num_again 18446744073709551615 (lit< tt)) (λ _. refl) (λ _. (refl, tt))
-    also labelled_again _ _ _ text_again (λ _. refl) (λ _. (refl, tt))
-    also words_again media_words
-    ((refl, (refl, tt)) also (refl, (refl, tt)) also (refl, (refl, tt)) also (refl, (refl, tt)) also (refl, (refl, tt)) also (refl, (refl, tt)) also (refl, (refl, tt)) also (refl, (refl, tt)) also tt)
+pub plain_laws : AllOf PlainForm plain_forms
+plain_laws =
+    labelled_whole _ _ (two_kept 32 (lit≤ tt) (number_kept 127 (lit< tt)) text_kept) (λ _. refl) (λ _. refl)
+    also labelled_whole _ _ (two_kept 32 (lit≤ tt) (tailed_kept 47 (lit≤ tt) (number_kept 255 (lit< tt))) (tailed_kept 32 (lit≤ tt) text_kept)) (λ _. refl) (λ _. refl)
+    also both (made_lawful Candidate candidate_lawful) (made_again candidate Candidate _ printed_candidate (λ _ _. refl) (λ _. refl))
+    also labelled_whole _ _ (two_kept 32 (lit≤ tt) (number_kept 4294967295 (lit< tt)) (two_kept 58 (lit≤ tt) text_kept text_kept)) (λ _. refl) (λ _. refl)
+    also labelled_whole _ Setup role_kept (λ _. refl) (λ _. refl)
+    also both (labelled_lawful _ _ (two_both 32 text_both sources_both)) group_comes_back
+    also texts_whole media_texts refl (λ _. refl)
+    also both (made_lawful Fingerprint fingerprint_lawful) (made_again fingerprint Fingerprint _ printed_fingerprint (λ _ _. refl) (λ _. refl))
+    also both (labelled_lawful _ _ name_both) mid_comes_back
+    also labelled_whole _ _ (two_kept 32 (lit≤ tt) text_kept text_kept) (λ _. refl) (λ _. refl)
+    also both (labelled_lawful _ _ rid_fields_both) rid_comes_back
+    also labelled_whole _ _ text_kept (λ _. refl) (λ _. refl)
+    also both (labelled_lawful _ _ simulcast_fields_both) simulcast_comes_back
+    also labelled_whole _ _ (number_kept 65535 (lit< tt)) (λ _. refl) (λ _. refl)
+    also labelled_whole _ _ (number_kept 18446744073709551615 (lit< tt)) (λ _. refl) (λ _. refl)
+    also labelled_whole _ _ text_kept (λ _. refl) (λ _. refl)
+    also words_whole media_words refl refl
     also tt
 
 pub plain_again : PlainAgain (any plain_forms)
-plain_again = any_again plain_forms laws
+plain_again = any_again plain_forms (laws_of PlainForm PlainAgain (λ form law. law.prints) plain_forms plain_laws)
 
 -- ---- mappings, formats, and all
 
@@ -212,7 +256,7 @@ media_again text attr quiet starts (inl (inl (p, h, e))) may = subst ComesBack (
 media_again text attr quiet starts (inl (inr (inl (p, h, e)))) may = subst ComesBack (sym e) (fmtp_again text p.0 p.1 h)
 media_again text attr quiet starts (inl (inr (inr h))) may =
     let new = plain_again.again text attr quiet starts may h in
-    let shown = (plain_again.always text attr h).0 in
+    let shown = (plain attr (plain_again.passes text attr h)).0 in
     inl (rw (new.1, shown) (attribute_printed new.0 attr new.2 (inr (inr new.3))))
 media_again text attr quiet starts (inr (none, (filled, e))) may =
     rw e (inl (line_printed MediaForm text (Unused text) quiet (inr (none, (filled, refl)))))

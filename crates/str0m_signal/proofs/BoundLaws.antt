@@ -14,7 +14,7 @@ use Rattle.str0m_signal.specs.Lines.{Line, OneLine}
 use Rattle.str0m_signal.specs.MediaAttribute.{media_forms, MediaForm, IsMediaLine}
 use Rattle.str0m_signal.specs.Reading.{ConsistentSection, Reading}
 use Rattle.str0m_signal.specs.FormTable.{any}
-use Rattle.str0m_signal.proofs.AttributesAgain.{plain_again}
+use Rattle.str0m_signal.proofs.AttributesAgain.{plain, plain_again}
 
 -- ---- parameters
 
@@ -56,7 +56,7 @@ values_within more values (inr (no_pairs, inr (no_list, inr (no_range, is)))) = 
 named_keeps : (text : List ℕ) (attr : MediaAttribute) → (any media_forms).Is text attr → KeepsToLine attr
 named_keeps text attr (inl (p, is, e)) = subst KeepsToLine (sym e) is.number_is.fits
 named_keeps text attr (inr (inl (p, is, e))) = subst KeepsToLine (sym e) (is.number_is.fits, values_within is.more p.1 is.values_are)
-named_keeps text attr (inr (inr is)) = (plain_again.always text attr is).1
+named_keeps text attr (inr (inr is)) = (plain attr (plain_again.passes text attr is)).1
 
 form_keeps : (text : List ℕ) (attr : MediaAttribute) → MediaForm text attr → KeepsToLine attr
 form_keeps text attr (inl named) = named_keeps text attr named

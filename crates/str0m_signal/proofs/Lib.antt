@@ -40,7 +40,6 @@ pub mod SectionLaws
 pub mod SectionLines
 pub mod Sections
 pub mod SessionAgain
-pub mod SessionLaws
 pub mod SessionLines
 pub mod SimulcastLaws
 pub mod TableAgain

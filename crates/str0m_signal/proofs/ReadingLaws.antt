@@ -8,7 +8,7 @@ use Rattle.str0m_signal.specs.MediaAttribute.{IsMediaLine}
 use Rattle.str0m_signal.specs.Reading.{ConsistentSection, Sections, IsSession, IsReading}
 use Rattle.str0m_sdp.specs.declared.session.Session.{Session}
 use Rattle.str0m_signal.specs.SessionAttribute.{IsSessionLine}
-use Rattle.str0m_signal.proofs.SessionLaws.{session_line_both}
+use Rattle.str0m_signal.proofs.SessionAgain.{session_line_both}
 use Rattle.str0m_signal.specs.HeaderReading.{opening_read}
 use Rattle.str0m_signal.proofs.ChainLaws.{OnlyOne, one_line_only, chain_ends, taken_only, one_fewer, chain_fewer, taken_fewer}
 use Rattle.str0m_signal.proofs.MediaLaws.{media_line_both}

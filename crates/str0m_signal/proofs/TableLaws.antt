@@ -3,7 +3,7 @@ use Rattle.str0m_signal.proofs.Common.{◌≡◌, ◌⊎◌, ℕ, Bool, true, fa
 use Rattle.std.proofs.Common.{append_assoc, append-nil}
 use Rattle.std.specs.Prelude.{if◌then◌else◌}
 use Rattle.str0m_values.proofs.BothWays.{reads_none, Reads}
-use Rattle.str0m_signal.specs.FormTable.{Piece, Form, a_text, own, led_by, made, labelled, word, AnyOf, labels_of, first_read, any, words_of, words}
+use Rattle.str0m_signal.specs.FormTable.{Piece, Form, own, made, labelled, word, AnyOf, labels_of, first_read, any, words_of, words}
 use Rattle.str0m_signal.specs.FormTable.{texts_of, texts, IsUnused, unused_read, first_byte, begins_with, beginning, letter_read, by_letter}
 use Rattle.str0m_signal.proofs.FormLaws.{text_both, behind_both}
 
@@ -77,10 +77,10 @@ are_apart [] b = false
 are_apart (x ∷ a) [] = false
 are_apart (x ∷ a) (y ∷ b) = if x == y then are_apart a b else true
 
-tail_is : (x y : ℕ) (xs ys : List ℕ) → x ∷ xs ≡ y ∷ ys → xs ≡ ys
+pub tail_is : {B : Type 0} (x y : B) (xs ys : List B) → x ∷ xs ≡ y ∷ ys → xs ≡ ys
 tail_is x y xs ys e = cc
 
-head_is : (x y : ℕ) (xs ys : List ℕ) → x ∷ xs ≡ y ∷ ys → x ≡ y
+pub head_is : {B : Type 0} (x y : B) (xs ys : List B) → x ∷ xs ≡ y ∷ ys → x ≡ y
 head_is x y xs ys e = cc
 
 apart_texts : (a b r s : List ℕ) → are_apart a b ≡ true → a ++ r ≡ b ++ s → ⊥

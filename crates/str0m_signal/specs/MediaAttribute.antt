@@ -1,7 +1,8 @@
 -- The attributes of a section, each with the text that stands for it after `a=`.
 use Rattle.std.specs.Prelude.{◌≡◌, ℕ, true, List, [], ◌∷◌, Option, codes}
 use Rattle.str0m_sdp.specs.declared.attribute.MediaAttribute.{MediaAttribute}
-use Rattle.str0m_sdp.specs.declared.attribute.MediaAttribute.TheVariants.{Rtcp, IceUfrag, IcePwd, IceOptions, Fingerprint, Setup, Mid, SctpPort, MaxMessageSize, SctpInit, ExtMap, RecvOnly, SendRecv, SendOnly, Inactive, Msid, RtcpMux, RtcpMuxOnly, RtcpRsize, Candidate, EndOfCandidates, RtpMap, RtcpFb, Fmtp, Rid, Simulcast, SsrcGroup, Ssrc, Unused}
+use Rattle.str0m_sdp.specs.declared.attribute.MediaAttribute.TheVariants.{Rtcp, IceUfrag, IcePwd, IceOptions, Fingerprint, Setup, Mid, SctpPort, MaxMessageSize, SctpInit, ExtMap, Msid, Candidate, RtpMap, RtcpFb, Fmtp, Rid, Simulcast, SsrcGroup, Ssrc, Unused}
+use Rattle.str0m_sdp.specs.Attribute.{media_words}
 use Rattle.str0m_values.specs.Cuts.{◌<|>◌, when, is_rest}
 use Rattle.str0m_values.specs.Fits.{FirstFit}
 use Rattle.str0m_values.specs.Parts.{IsRest}
@@ -16,20 +17,8 @@ use Rattle.str0m_signal.specs.RtpMap.{IsRtpMap}
 use Rattle.str0m_signal.specs.RtpMapReading.{rtpmap_fields_read}
 use Rattle.str0m_signal.specs.Simulcast.{IsSimulcast}
 use Rattle.str0m_signal.specs.SimulcastReading.{simulcast_fields_read}
-use Rattle.str0m_signal.specs.TransportForms.{ice_texts, last_word, candidate, fingerprint, setup}
+use Rattle.str0m_signal.specs.TransportForms.{ice_texts, candidate, fingerprint, setup}
 use Rattle.str0m_sdp.specs.declared.label.TheConstants as label
-
-abbrev pub media_words : List (List ℕ × MediaAttribute)
-media_words =
-    (label.RECV_ONLY.now, RecvOnly)
-    ∷ (label.SEND_RECV.now, SendRecv)
-    ∷ (label.SEND_ONLY.now, SendOnly)
-    ∷ (label.INACTIVE.now, Inactive)
-    ∷ (label.RTCP_MUX.now, RtcpMux)
-    ∷ (label.RTCP_MUX_ONLY.now, RtcpMuxOnly)
-    ∷ (label.RTCP_RSIZE.now, RtcpRsize)
-    ∷ last_word EndOfCandidates
-    ∷ []
 
 abbrev pub media_texts : List (List ℕ × (List ℕ → MediaAttribute))
 media_texts = ice_texts IceUfrag IcePwd IceOptions

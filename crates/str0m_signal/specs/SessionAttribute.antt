@@ -1,22 +1,16 @@
 -- The attributes of a session, each with the text that stands for it after `a=`.
 use Rattle.std.specs.Prelude.{◌≡◌, ℕ, List, [], ◌∷◌, Option, Some}
 use Rattle.str0m_sdp.specs.declared.attribute.SessionAttribute.{SessionAttribute}
-use Rattle.str0m_sdp.specs.declared.attribute.SessionAttribute.TheVariants.{Group, MsidSemantic, AllowMixedExts, IceLite, IceUfrag, IcePwd, IceOptions, Fingerprint, Setup, Candidate, EndOfCandidates, Unused}
+use Rattle.str0m_sdp.specs.declared.attribute.SessionAttribute.TheVariants.{Group, MsidSemantic, IceUfrag, IcePwd, IceOptions, Fingerprint, Setup, Candidate, Unused}
+use Rattle.str0m_sdp.specs.Attribute.{session_words}
 use Rattle.str0m_values.specs.Cuts.{◌>>=◌, ◌<|>◌}
 use Rattle.str0m_values.specs.Fits.{FirstFit}
 use Rattle.str0m_signal.specs.FormTable.{Form, labelled, made, any, words, texts, IsUnused, unused_read}
 use Rattle.str0m_signal.specs.Lines.{IsAttributeLine}
-use Rattle.str0m_signal.specs.TransportForms.{ice_texts, last_word, candidate, fingerprint, setup}
+use Rattle.str0m_signal.specs.TransportForms.{ice_texts, candidate, fingerprint, setup}
 use Rattle.str0m_signal.specs.Words.{IsGroup, IsMsidSemantic}
 use Rattle.str0m_signal.specs.WordsReading.{names_read, group_fields_read, msid_semantic_fields_read}
 use Rattle.str0m_sdp.specs.declared.label.TheConstants as label
-
-abbrev pub session_words : List (List ℕ × SessionAttribute)
-session_words =
-    (label.EXTMAP_ALLOW_MIXED.now, AllowMixedExts)
-    ∷ (label.ICE_LITE.now, IceLite)
-    ∷ last_word EndOfCandidates
-    ∷ []
 
 abbrev pub session_texts : List (List ℕ × (List ℕ → SessionAttribute))
 session_texts = ice_texts IceUfrag IcePwd IceOptions

@@ -21,10 +21,6 @@ ice_texts ufrag pwd options =
     ∷ (label.ICE_OPTIONS.now, options)
     ∷ []
 
--- the word behind the last candidate (RFC 8840, section 8.1)
-abbrev pub last_word : {A : Type 0} → A → List ℕ × A
-last_word x = (label.END_OF_CANDIDATES.now, x)
-
 -- a candidate's text has its own label (RFC 8839, section 5.1)
 abbrev pub candidate : Form Candidate
 candidate = own candidate_label.CANDIDATE.now IsCandidateText candidate_read

@@ -2,8 +2,8 @@
 
 ghost use Rattle.std.specs.Prelude.{◌≡◌, IfOk};
 ghost use Rattle.str0m_sdp.specs.declared.attribute.MediaAttribute.TheVariants.{Fingerprint, Setup, Candidate, Unused};
-ghost use Rattle.str0m_signal.specs.FormTable.{made, words, texts, unused_read, first_byte, letter_read};
-ghost use Rattle.str0m_signal.specs.MediaAttribute.{media_words, media_texts, rtcp, mid, sctp_port, sctp_init, max_message_size, media_forms, named_read, media_read, IsMediaLine};
+ghost use Rattle.str0m_signal.specs.FormTable.{made, texts, unused_read, first_byte, letter_read};
+ghost use Rattle.str0m_signal.specs.MediaAttribute.{media_texts, rtcp, mid, sctp_port, sctp_init, max_message_size, media_forms, named_read, media_read, IsMediaLine};
 ghost use Rattle.str0m_signal.specs.TransportForms.{candidate, fingerprint, setup};
 ghost use Rattle.str0m_signal.specs.Chains.{Run};
 ghost use Rattle.str0m_signal.specs.Lines.{OneLine};
@@ -23,23 +23,6 @@ use str0m_sdp::{MediaAttribute, label};
 use str0m_values::candidate_text::candidate;
 use str0m_values::cuts::{num_u16, strip};
 use str0m_values::{Items, Text};
-
-/// The attributes that are a word alone.
-fn word(text: &str) -> Option<MediaAttribute>
-    ensures { result ≡ (words media_words).read text.now }
-{
-    match text {
-        label::RECV_ONLY => Some(MediaAttribute::RecvOnly),
-        label::SEND_RECV => Some(MediaAttribute::SendRecv),
-        label::SEND_ONLY => Some(MediaAttribute::SendOnly),
-        label::INACTIVE => Some(MediaAttribute::Inactive),
-        label::RTCP_MUX => Some(MediaAttribute::RtcpMux),
-        label::RTCP_MUX_ONLY => Some(MediaAttribute::RtcpMuxOnly),
-        label::RTCP_RSIZE => Some(MediaAttribute::RtcpRsize),
-        label::END_OF_CANDIDATES => Some(MediaAttribute::EndOfCandidates),
-        _ => None,
-    }
-}
 
 /// The credentials of ICE and its options.
 fn ice(alloc: Global, text: &str) -> Result<Option<MediaAttribute>, AllocError>
@@ -135,7 +118,7 @@ fn with_e<P: Place<MediaAttribute>>(
     if taken_result(ext_map(alloc, text), place)? {
         return Ok(true);
     }
-    taken(word(text), place)
+    taken(MediaAttribute::from_word(text), place)
 }
 
 /// The forms whose names begin with `f`.
@@ -163,7 +146,7 @@ fn with_i<P: Place<MediaAttribute>>(
     if taken_result(ice(alloc, text), place)? {
         return Ok(true);
     }
-    taken(word(text), place)
+    taken(MediaAttribute::from_word(text), place)
 }
 
 /// The forms whose names begin with `m`.
@@ -203,7 +186,7 @@ fn with_r<P: Place<MediaAttribute>>(
     if taken_result(rtcp(alloc, text), place)? {
         return Ok(true);
     }
-    taken(word(text), place)
+    taken(MediaAttribute::from_word(text), place)
 }
 
 /// The forms whose names begin with `s`.
@@ -232,7 +215,7 @@ fn with_s<P: Place<MediaAttribute>>(
     if taken_result(sctp_init(alloc, text), place)? {
         return Ok(true);
     }
-    taken(word(text), place)
+    taken(MediaAttribute::from_word(text), place)
 }
 
 fn first_byte(text: &str) -> u8

@@ -2,8 +2,8 @@
 
 ghost use Rattle.std.specs.Prelude.{◌≡◌, IfOk};
 ghost use Rattle.str0m_sdp.specs.declared.attribute.SessionAttribute.TheVariants.{Setup, Fingerprint, Candidate, Unused};
-ghost use Rattle.str0m_signal.specs.SessionAttribute.{session_words, session_texts, session_forms, session_read, IsSessionLine};
-ghost use Rattle.str0m_signal.specs.FormTable.{made, any, words, texts, unused_read};
+ghost use Rattle.str0m_signal.specs.SessionAttribute.{session_texts, session_forms, session_read, IsSessionLine};
+ghost use Rattle.str0m_signal.specs.FormTable.{made, any, texts, unused_read};
 ghost use Rattle.str0m_signal.specs.TransportForms.{candidate, fingerprint, setup};
 ghost use Rattle.str0m_signal.specs.Chains.{Run};
 ghost use Rattle.str0m_signal.specs.Lines.{OneLine};
@@ -18,18 +18,6 @@ use str0m_sdp::{SessionAttribute, label};
 use str0m_values::candidate_text::candidate;
 use str0m_values::cuts::strip;
 use str0m_values::{Items, Text};
-
-/// The attributes that are a word alone.
-fn word(text: &str) -> Option<SessionAttribute>
-    ensures { result ≡ (words session_words).read text.now }
-{
-    match text {
-        label::EXTMAP_ALLOW_MIXED => Some(SessionAttribute::AllowMixedExts),
-        label::ICE_LITE => Some(SessionAttribute::IceLite),
-        label::END_OF_CANDIDATES => Some(SessionAttribute::EndOfCandidates),
-        _ => None,
-    }
-}
 
 fn setup(text: &str) -> Option<SessionAttribute>
     ensures { result ≡ (setup Setup).read text.now }
@@ -75,7 +63,7 @@ fn candidate_form(alloc: Global, text: &str) -> Result<Option<SessionAttribute>,
 fn named(alloc: Global, text: &str) -> Result<Option<SessionAttribute>, AllocError>
     ensures { IfOk result (λ found. found ≡ (any session_forms).read text.now) }
 {
-    if let Some(found) = word(text) {
+    if let Some(found) = SessionAttribute::from_word(text) {
         return Ok(Some(found));
     }
     if let Some(found) = setup(text) {

@@ -1,7 +1,7 @@
 use Rattle.str0m_signal.proofs.Common.{IfOk-weaker, session_attribute_text}
 use Rattle.str0m_signal.specs.SessionAttribute.{IsSessionLine, session_read}
 use Rattle.str0m_signal.specs.Writable.{SessionGoesWith}
-use Rattle.str0m_signal.proofs.SessionLaws.{session_line_both}
+use Rattle.str0m_signal.proofs.SessionAgain.{session_line_both}
 use Rattle.str0m_signal.proofs.ReadBackLaws.{back_by_form}
 use Rattle.str0m_signal.proofs.attributes_back.session_back.Goals as goal
 

@@ -3,7 +3,7 @@ use Rattle.str0m_signal.specs.LineReading.{lines_of}
 use Rattle.str0m_signal.specs.SessionAttribute.{IsSessionLine}
 use Rattle.str0m_signal.proofs.AnswerLaws.{text_answers, text_one, line_answers}
 use Rattle.str0m_signal.proofs.ChainLaws.{one_line_only}
-use Rattle.str0m_signal.proofs.SessionLaws.{session_line_both}
+use Rattle.str0m_signal.proofs.SessionAgain.{session_line_both}
 use Rattle.str0m_signal.proofs.reader.session_attribute_line.Goals as goal
 
 pub returns-clause-read : goal.returns-clause-read

@@ -1,7 +1,7 @@
 use Rattle.str0m_signal.proofs.Common.{IfOk-weaker}
 use Rattle.str0m_signal.specs.LineReading.{lines_of}
 use Rattle.str0m_signal.proofs.ChainLaws.{run_of}
-use Rattle.str0m_signal.proofs.SessionLaws.{session_line_both}
+use Rattle.str0m_signal.proofs.SessionAgain.{session_line_both}
 use Rattle.str0m_signal.proofs.session_attribute.session_attributes.Goals as goal
 
 pub returns : goal.returns
