@@ -2,7 +2,6 @@
 //! names that no line is read as.
 #![tactic(auto)]
 
-mod attribute_names;
 mod attribute_parts;
 mod copied_parts;
 mod cuts;

@@ -1,10 +1,9 @@
 //! Lines of attributes: what each is read as, what it prints, and what is left behind it.
 
-use crate::attribute_names::{media_name, session_name};
 use crate::attribute_parts::push_part;
 use case_texts::{push_escaped, push_refused};
 use plain_cases::Answer;
-use std::fmt::Display;
+use std::fmt::{Debug, Display};
 use str0m_signal::{
     Candidate, MediaAttribute, SdpError, SessionAttribute, candidate_attribute,
     media_attribute_line, session_attribute_line,
@@ -38,7 +37,7 @@ fn media_of(answer: &mut Answer, word: &str, read: &Result<(MediaAttribute, &str
 /// What the word asks of the line that was read: one part of it, or the whole.
 fn media_read(answer: &mut Answer, word: &str, attribute: &MediaAttribute, rest: &str) {
     if word == "media" {
-        show_media(answer, attribute);
+        show(answer, attribute);
         push_rest(answer, rest);
     } else {
         push_part(answer, word, attribute);
@@ -53,7 +52,7 @@ fn session(answer: &mut Answer, text: &str) {
 fn session_of(answer: &mut Answer, read: &Result<(SessionAttribute, &str), SdpError>) {
     match read {
         Ok((attribute, rest)) => {
-            show_session(answer, attribute);
+            show(answer, attribute);
             push_rest(answer, rest);
         }
         Err(error) => push_refused(answer, error),
@@ -83,17 +82,8 @@ fn show_candidate(answer: &mut Answer, candidate: &Candidate) {
 }
 
 /// The name of the attribute, and the line that it prints.
-pub(crate) fn show_media(answer: &mut Answer, attribute: &MediaAttribute) {
-    show(answer, media_name(attribute), attribute);
-}
-
-/// The name of the attribute, and the line that it prints.
-pub(crate) fn show_session(answer: &mut Answer, attribute: &SessionAttribute) {
-    show(answer, session_name(attribute), attribute);
-}
-
-fn show<T: Display>(answer: &mut Answer, name: &str, attribute: &T) {
-    answer.push(name);
+pub(crate) fn show<T: Debug + Display>(answer: &mut Answer, attribute: &T) {
+    push_name(answer, attribute);
     let printed = attribute.to_string(answer.alloc());
     if let Some(line) = answer.made(&printed) {
         answer.push(if line.is_empty() {
@@ -102,6 +92,19 @@ fn show<T: Display>(answer: &mut Answer, name: &str, attribute: &T) {
             " "
         });
         push_escaped(answer, line.as_str());
+    }
+}
+
+/// The name of the attribute: what its `Debug` shows before the values that it holds.
+fn push_name<T: Debug>(answer: &mut Answer, attribute: &T) {
+    let shown = format!(in answer.alloc(); "{attribute:?}");
+    if let Some(shown) = answer.made(&shown) {
+        for character in shown.as_str().chars() {
+            if character == '(' || character == ' ' {
+                break;
+            }
+            answer.show(&character);
+        }
     }
 }
 

@@ -1,6 +1,6 @@
 //! What sessions and sections hold, a line for each part.
 
-use crate::lines::{push_printed, show_media, show_session};
+use crate::lines::{push_printed, show};
 use plain_cases::Answer;
 use str0m_signal::{Bandwidth, MediaLine, Proto, Pt, Session};
 
@@ -14,7 +14,7 @@ pub(crate) fn append_session(answer: &mut Answer, session: &Session) {
     append_bandwidth(answer, &session.bw);
     for attribute in session.attrs.as_slice() {
         answer.push(PART);
-        show_session(answer, attribute);
+        show(answer, attribute);
     }
 }
 
@@ -24,7 +24,7 @@ pub(crate) fn append_section(answer: &mut Answer, section: &MediaLine) {
     append_bandwidth(answer, &section.bw);
     for attribute in section.attrs.as_slice() {
         answer.push(PART);
-        show_media(answer, attribute);
+        show(answer, attribute);
     }
 }
 
