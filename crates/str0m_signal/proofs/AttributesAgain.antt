@@ -5,7 +5,7 @@ use Rattle.str0m_sdp.specs.declared.attribute.MediaAttribute.TheVariants.{RtpMap
 use Rattle.std.specs.Prelude.{filter}
 use Rattle.str0m_formats.specs.declared.codec.Codec.TheVariants as codec
 use Rattle.str0m_sdp.specs.Simulcast.{sides_text, unless_munged}
-use Rattle.str0m_sdp.specs.declared.attribute.MediaAttribute.TheVariants.{Fingerprint, Setup, Mid, Candidate, Rid}
+use Rattle.str0m_sdp.specs.declared.attribute.MediaAttribute.TheVariants.{Fingerprint, Setup, Mid, Candidate}
 use Rattle.str0m_sdp.specs.declared.attribute.MediaAttribute.TheVariants.{SsrcGroup, Unused}
 use Rattle.str0m_sdp.specs.declared.rtp_map.RtpMap.{RtpMap as Mapping}
 use Rattle.str0m_sdp.specs.declared.simulcast.Simulcast.{Simulcast as TheSimulcast}

@@ -1,5 +1,5 @@
 -- A table of forms is read exactly where one of its forms holds: from a law of each form, and from its labels.
-use Rattle.str0m_signal.proofs.Common.{◌≡◌, ◌⊎◌, ℕ, Bool, true, false, ◌&&◌, ◌||◌, ◌==◌, List, [], ◌∷◌, ◌++◌, length, Option, Some, None, refl, sym, ap, subst, ◌∙◌, inl, inr, list_all, list_any, bytes_eq, cases_eq, cases_Bool, eq-eqb, ne_eqb, and_parts, ltb-true, false≢true, bytes_eq-Decides, ◌>>=◌, ◌<|>◌, when, is_rest, or_some, bind_some, some_is, rest_true, when_some, when_true}
+use Rattle.str0m_signal.proofs.Common.{◌≡◌, ◌⊎◌, ℕ, Bool, true, false, ◌&&◌, ◌||◌, ◌==◌, List, [], ◌∷◌, ◌++◌, length, Option, Some, None, refl, sym, ap, subst, ◌∙◌, inl, inr, list_all, list_any, bytes_eq, cases_eq, cases_Bool, eq-eqb, ne_eqb, and_parts, ltb-true, false≢true, bytes_eq-Decides, ◌>>=◌, ◌<|>◌, is_rest, or_some, bind_some, some_is, rest_true, when_some, when_true}
 use Rattle.std.proofs.Common.{append_assoc, append-nil}
 use Rattle.std.specs.Prelude.{if◌then◌else◌}
 use Rattle.str0m_values.proofs.BothWays.{reads_none, Reads}
