@@ -7,8 +7,6 @@ use Rattle.str0m_formats.specs.declared.codec_spec.CodecSpec.{CodecSpec}
 use Rattle.str0m_formats.specs.declared.format_param.FormatParam.{FormatParam}
 use Rattle.str0m_formats.specs.declared.format_param.FormatParam.TheVariants.{Apt}
 use Rattle.str0m_values.specs.Cuts.{◌<|>◌}
-use Rattle.str0m_sdp.specs.declared.consistency.Counted.{Counted}
-use Rattle.str0m_sdp.specs.declared.consistency.Counted.TheVariants as counted
 use Rattle.str0m_sdp.specs.declared.media_line.MediaLine.{MediaLine}
 use Rattle.str0m_sdp.specs.declared.proto.Proto.TheVariants.{Srtp}
 
@@ -32,12 +30,6 @@ is_direction SendRecv = true
 is_direction SendOnly = true
 is_direction Inactive = true
 is_direction _ = false
-
--- the attributes that are counted in a section
-abbrev pub is_counted : Counted → MediaAttribute → Bool
-is_counted counted.Mids attr = is_mid attr
-is_counted counted.Setups attr = is_setup attr
-is_counted counted.Directions attr = is_direction attr
 
 -- a mapping of this payload type (RFC 8866, section 6.6)
 abbrev pub maps : ℕ → MediaAttribute → Bool

@@ -32,6 +32,7 @@ fn next_shown(values: &[FormatParam]) -> Option<(FormatParam, &[FormatParam])>
     }
 }
 
+#[tactic(auto, using(str0m_formats::proofs::ParamEqual::param_Decides))]
 fn is_same(param: FormatParam, other: FormatParam) -> bool
     ensures { IsTrue result ↔ (param ≡ other) }
 {
@@ -57,6 +58,7 @@ fn are_same_shown(values: &[FormatParam], others: &[FormatParam]) -> bool
     next_shown(left).is_none()
 }
 
+#[tactic(auto, using(crate::proofs::AttributeEqual::id_Decides))]
 fn has_same_name(layer: &SimulcastLayer, other: &SimulcastLayer) -> bool
     ensures { IsTrue result ↔ (layer.now.restriction_id ≡ other.now.restriction_id) }
 {
@@ -88,12 +90,14 @@ fn are_alike_layers(simulcast: &Simulcast, other: &Simulcast) -> bool
         && have_same_names(simulcast.recv.0.as_slice(), other.recv.0.as_slice())
 }
 
+#[tactic(auto, using(crate::proofs::AttributeEqual::simulcast_Decides))]
 fn is_same_simulcast(simulcast: &Simulcast, other: &Simulcast) -> bool
     ensures { IsTrue result ↔ (simulcast.now ≡ other.now) }
 {
     simulcast == other
 }
 
+#[tactic(auto, using(crate::proofs::AttributeEqual::media_Decides))]
 fn is_same_attribute(attribute: &MediaAttribute, other: &MediaAttribute) -> bool
     ensures { IsTrue result ↔ (attribute.now ≡ other.now) }
 {

@@ -1,9 +1,8 @@
 //! Which sections are consistent.
 ghost use Rattle.std.specs.Prelude.{◌≡◌, ◌<◌, ◌↔◌, IfOk, IsSome, Ok, None, Some, count_by, filter_map, option_map};
 ghost use Rattle.std.specs.String.{string_bytes};
-ghost use Rattle.str0m_sdp.specs.Consistency.{is_mid, mid_of, is_setup, is_direction, is_counted, Consistent, NoneIff};
-ghost use Rattle.str0m_sdp.specs.Fault.{err_if, only_mid, setup_fault, proto_fault, mapping_fault, map_fault};
-ghost use Rattle.str0m_sdp.specs.Fault.{value_fault, values_fault, apt_fault, first_fault, section_message};
+ghost use Rattle.str0m_sdp.specs.Consistency.{is_mid, mid_of, is_setup, is_direction, Consistent, NoneIff};
+ghost use Rattle.str0m_sdp.specs.Fault.{err_if, only_mid, setup_fault, proto_fault, mapping_fault, map_fault, value_fault, values_fault, apt_fault, first_fault, section_message};
 ghost use Rattle.str0m_sdp.specs.Lists.{first};
 
 use crate::attribute::MediaAttribute;
@@ -52,48 +51,22 @@ impl MediaAttribute {
     }
 }
 
-/// The attributes that are counted in a section.
-#[derive(Clone, Copy)]
-enum Counted {
-    Mids,
-    Setups,
-    Directions,
-}
-
-impl Counted {
-    fn holds(self, attr: &MediaAttribute) -> bool
-        ensures { result ≡ is_counted self attr.now }
-    {
-        match self {
-            Counted::Mids => attr.is_mid(),
-            Counted::Setups => attr.is_setup(),
-            Counted::Directions => attr.is_direction(),
-        }
-    }
-}
-
-fn count(attrs: &[MediaAttribute], counted: Counted) -> usize
-    ensures { result ≡ count_by (is_counted counted) attrs.now }
-{
-    attrs.iter().filter(|a| counted.holds(a)).count()
-}
-
 fn count_mids(attrs: &[MediaAttribute]) -> usize
     ensures { result ≡ count_by is_mid attrs.now }
 {
-    count(attrs, Counted::Mids)
+    attrs.iter().filter(|a| a.is_mid()).count()
 }
 
 fn count_setups(attrs: &[MediaAttribute]) -> usize
     ensures { result ≡ count_by is_setup attrs.now }
 {
-    count(attrs, Counted::Setups)
+    attrs.iter().filter(|a| a.is_setup()).count()
 }
 
 fn count_directions(attrs: &[MediaAttribute]) -> usize
     ensures { result ≡ count_by is_direction attrs.now }
 {
-    count(attrs, Counted::Directions)
+    attrs.iter().filter(|a| a.is_direction()).count()
 }
 
 /// The first mid, where there is one.

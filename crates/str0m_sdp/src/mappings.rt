@@ -30,6 +30,7 @@ fn mappings(
 }
 
 /// The codec that a type stands for without an rtpmap line.
+#[tactic(auto, using(str0m_formats::proofs::StaticTypes::static_is))]
 pub(crate) fn static_spec(pt: Pt) -> Option<CodecSpec>
     ensures { result ≡ static_spec pt }
 {

@@ -49,6 +49,7 @@ impl MediaLine {
     }
 
     /// A copy that equals its source; the only error is that memory was refused.
+    #[tactic(auto, using(crate::proofs::Copies::line_copied))]
     pub fn clone(&self) -> Result<MediaLine, AllocError>
         ensures { IfOk result (λ line. line ≡ self.now) }
     {

@@ -77,6 +77,7 @@ impl MediaAttribute {
 
 impl MediaLine {
     /// Whether an attribute names the section (RFC 5888, section 4).
+    #[tactic(auto, using(crate::proofs::Holders::mid_counted))]
     pub fn has_mid(&self) -> bool
         ensures { IsTrue result ↔ (0 < count_by is_mid self.now.attrs) }
     {

@@ -25,6 +25,7 @@ impl MediaAttribute {
 
 impl MediaLine {
     /// Whether an attribute says a direction (RFC 8866, section 6.7).
+    #[tactic(auto, using(crate::proofs::Holders::direction_counted))]
     pub fn has_direction(&self) -> bool
         ensures { IsTrue result ↔ (0 < count_by is_direction self.now.attrs) }
     {

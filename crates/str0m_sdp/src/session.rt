@@ -32,6 +32,7 @@ pub struct Session {
 
 impl Sdp {
     /// A copy that equals its source; the only error is that memory was refused.
+    #[tactic(auto, using(crate::proofs::Copies::sdp_copied))]
     pub fn clone(&self) -> Result<Sdp, AllocError>
         ensures { IfOk result (λ sdp. sdp ≡ self.now) }
     {
@@ -41,6 +42,7 @@ impl Sdp {
 
 impl Session {
     /// A copy that equals its source; the only error is that memory was refused.
+    #[tactic(auto, using(crate::proofs::Copies::session_copied))]
     pub fn clone(&self) -> Result<Session, AllocError>
         ensures { IfOk result (λ session. session ≡ self.now) }
     {

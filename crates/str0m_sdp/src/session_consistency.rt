@@ -4,10 +4,8 @@ ghost use Rattle.std.specs.Str.{bytes_eq};
 ghost use Rattle.std.specs.String.{string_bytes};
 ghost use Rattle.str0m_values.specs.Cuts.{◌<|>◌, when};
 ghost use Rattle.str0m_sdp.specs.OrderedMids.{is_part, part_mid};
-ghost use Rattle.str0m_sdp.specs.SessionConsistency.{AreFew, ConsistentSdp, IsContradiction, SaysWhether, first_group, is_listed};
-ghost use Rattle.str0m_sdp.specs.SessionConsistency.{parts, section_mid, section_mids, takes_part};
-ghost use Rattle.str0m_sdp.specs.SessionFault.{Tells, first_again, first_difference, first_session_fault, listing_fault};
-ghost use Rattle.str0m_sdp.specs.SessionFault.{sections_message, session_message};
+ghost use Rattle.str0m_sdp.specs.SessionConsistency.{AreFew, ConsistentSdp, IsContradiction, SaysWhether, first_group, is_listed, parts, section_mid, section_mids, takes_part};
+ghost use Rattle.str0m_sdp.specs.SessionFault.{Tells, first_again, first_difference, first_session_fault, listing_fault, sections_message, session_message};
 ghost use Rattle.str0m_sdp.specs.declared.fault.SessionFault.TheVariants.{Count, Order};
 
 use crate::attribute::SessionAttribute;

@@ -1,5 +1,5 @@
 //! Streams that are sent and received in several layers.
-ghost use Rattle.std.specs.Prelude.{◌≡◌, ◌++◌, IfOk, Some, [], true, codes, refl};
+ghost use Rattle.std.specs.Prelude.{◌≡◌, IfOk, Some, [], true, refl};
 ghost use Rattle.std.specs.String.{string_bytes};
 ghost use Rattle.str0m_sdp.specs.Simulcast.{id_text, inverted, layer_text, layers_text, sides_text, simulcast_text};
 
@@ -171,6 +171,7 @@ impl Simulcast {
     }
 
     /// A copy that equals its source. The only error is that memory was refused.
+    #[tactic(auto, using(crate::proofs::Copies::simulcast_copied))]
     pub fn clone(&self) -> Result<Simulcast, AllocError>
         ensures { IfOk result (λ simulcast. simulcast ≡ self.now) }
     {
@@ -211,32 +212,7 @@ impl<'a> fmt::Display for Sides<'a> {
             (true, true) => Ok(()),
             (true, false) => Labelled("simulcast:recv ", recv).fmt(f),
             (false, true) => Labelled("simulcast:send ", send).fmt(f),
-            (false, false) => {
-                let both = BothSides { send, recv };
-                Labelled("simulcast:send ", &both).fmt(f)
-            }
+            (false, false) => write!(f, "a=simulcast:send {send} recv {recv}\r\n"),
         }
     }
-}
-
-/// The layers that are sent, and behind a word those that are received.
-#[derive(Drop)]
-struct BothSides<'a> {
-    send: &'a SimulcastGroups,
-    recv: &'a SimulcastGroups,
-}
-
-impl<'a> fmt::Display for BothSides<'a> {
-    ghost output = { λ sides. Some (layers_text sides.send.now.0 ++ (codes " recv " ++ layers_text sides.recv.now.0)) };
-
-    fn fmt<W: fmt::Write>(&self, f: &mut fmt::Formatter<W>) -> fmt::Result {
-        let (send, recv) = (self.send, self.recv);
-        write!(f, "{send} recv {recv}")
-    }
-}
-
-impl<'a> Printed for BothSides<'a> {
-    ghost text = { λ sides. layers_text sides.send.now.0 ++ (codes " recv " ++ layers_text sides.recv.now.0) };
-
-    ghost prints = { λ _. refl };
 }

@@ -77,6 +77,7 @@ impl Sources {
     }
 
     /// What is said of each, in order of first appearance. Takes no memory.
+    #[tactic(auto, using(crate::proofs::SourceLaws::values_stand))]
     pub(crate) fn into_infos(self) -> Vec<SsrcInfo>
         ensures { result.items ≡ values_of (entries self) }
     {
