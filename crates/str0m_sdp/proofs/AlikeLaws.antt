@@ -1,9 +1,6 @@
 -- What is shown of values, one after the other, and when it is the same.
-use native.Mathlib.Omega.{arith}
-use Rattle.str0m_sdp.proofs.Common.{◌≡◌, ◌<◌, ◌+◌, ℕ, suc, Bool, true, false, not, cond, List, [], ◌∷◌, length, drop, get_or, Option, Some, None, refl, sym, ap, ◌∙◌, true≢false, ◌↔◌, IsTrue, MatchOption, FormatParam}
-use Rattle.std.proofs.Common.{is_some}
+use Rattle.str0m_sdp.proofs.Common.{◌≡◌, ◌<◌, ◌+◌, ℕ, suc, Bool, true, false, not, cond, List, [], ◌∷◌, length, drop, get_or, Option, Some, None, refl, sym, ap, ◌∙◌, true≢false, ◌↔◌, IsTrue, MatchOption, FormatParam, arith, is_some, length-map}
 use Rattle.std.proofs.Math.Seq.{drop-cons}
-use Rattle.std.proofs.lemmas.List.{length-map}
 use Rattle.str0m_sdp.specs.Alike.{as_read, ids, shown}
 use Rattle.str0m_sdp.specs.Fmtp.{is_shown}
 use Rattle.str0m_sdp.specs.declared.simulcast.SimulcastLayer.{SimulcastLayer}

@@ -1,6 +1,5 @@
 -- Keys of candidates tell apart what `==` of candidates does.
-use Rattle.str0m_sdp.proofs.Common.{◌≡◌, ◌&&◌, ◌||◌, ◌++◌, ℕ, Bool, true, false, cond, nat_eq, List, [], ◌∷◌, map, Option, None, Some, refl, sym, ap, ◌∙◌, option_map, Bor, BTreeSet, Updates, contains, decided, list_any, option_eq, bytes_eq, map-append, list_any-append, sameb, IpAddr, V4, V6, SocketAddr, Candidate}
-use Rattle.std.specs.Ordering.{is_eq}
+use Rattle.str0m_sdp.proofs.Common.{◌≡◌, ◌&&◌, ◌||◌, ◌++◌, ℕ, Bool, true, false, cond, nat_eq, List, [], ◌∷◌, map, Option, None, Some, refl, sym, ap, ◌∙◌, option_map, Bor, BTreeSet, Updates, contains, decided, list_any, option_eq, bytes_eq, map-append, list_any-append, sameb, IpAddr, V4, V6, SocketAddr, Candidate, is_eq}
 use denote.Enum.Declared.{tag_of}
 use Rattle.str0m_values.specs.contracts.address.IpAddrPartialEq.TheImpl as ip
 use Rattle.str0m_values.specs.contracts.address.SocketAddrPartialEq.TheImpl as socket

@@ -1,7 +1,5 @@
 -- A copy that the derived `clone` makes equals its source.
-use Rattle.str0m_sdp.proofs.Common.{arith, ◌≡◌}
-use Rattle.std.proofs.lemmas.Grind.{elements}
-use Rattle.std.proofs.lemmas.List.Elements.{same_from_all_zip}
+use Rattle.str0m_sdp.proofs.Common.{arith, ◌≡◌, elements, same_from_all_zip}
 use Rattle.str0m_sdp.specs.declared.attribute.MediaAttribute.{MediaAttribute}
 use Rattle.str0m_sdp.specs.declared.media_line.MediaLine.{MediaLine}
 use Rattle.str0m_sdp.specs.declared.session.Session.{Session}

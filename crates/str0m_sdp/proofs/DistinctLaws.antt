@@ -1,6 +1,5 @@
 -- What `distinct` keeps of a list: each of its values, once, as a set in order of insertion does.
-use Rattle.str0m_sdp.proofs.Common.{◌≡◌, ◌≤◌, ◌||◌, ℕ, Bool, true, false, cond, not, List, [], ◌∷◌, ◌++◌, length, drop, refl, sym, ap, ◌∙◌, append_assoc, true≢false, Decides, decided, list_any, flat_map, AllByRecursion, append-nil, drop_all, filter-append, list_any-append, insert_key, insert_all}
-use Rattle.std.specs.Cmp.{IsEquivalence}
+use Rattle.str0m_sdp.proofs.Common.{◌≡◌, ◌≤◌, ◌||◌, ℕ, Bool, true, false, cond, not, List, [], ◌∷◌, ◌++◌, length, drop, refl, sym, ap, ◌∙◌, append_assoc, true≢false, Decides, decided, list_any, flat_map, AllByRecursion, append-nil, drop_all, filter-append, list_any-append, insert_key, insert_all, IsEquivalence}
 use Rattle.std.specs.List.{filter, IsDistinct, AllPairs, Contains}
 use Rattle.std.proofs.lemmas.Map.Keys.{apart_from_distinct}
 use Rattle.std.proofs.lemmas.Map.Steps.{list_any_congr}
@@ -8,6 +7,7 @@ use Rattle.std.proofs.lemmas.Map.Views.{list_any-from_Contains}
 use Rattle.indexmap.proofs.CallerLemmas.{Contains-list_any}
 use Rattle.str0m_sdp.specs.Lists.{distinct}
 use Rattle.str0m_sdp.specs.DistinctCandidates.{IsEachOnce}
+use Rattle.str0m_sdp.proofs.Parts.{all-filter}
 
 module _ {X : Type 0} (same : X → X → Bool) (laws : IsEquivalence same) where
   -- those that aren't among others
@@ -78,14 +78,6 @@ module _ {X : Type 0} (same : X → X → Bool) (laws : IsEquivalence same) wher
       by : (b : Bool) → same k x ≡ b → list_any (same k) (distinct same xs) ≡ list_any (same k) xs → (b || list_any (same k) (others x (distinct same xs))) ≡ (b || list_any (same k) xs)
       by true e rest = refl
       by false e rest = any-others k x e (distinct same xs) ∙ rest
-
-  all-filter : (P : X → Type 0) (test : X → Bool) (xs : List X) → AllByRecursion P xs → AllByRecursion P (filter test xs)
-  all-filter P test [] all = tt
-  all-filter P test (x ∷ xs) all = by (test x) (all-filter P test xs all.1)
-    where
-      by : (b : Bool) → AllByRecursion P (filter test xs) → AllByRecursion P (cond b (x ∷ filter test xs) (filter test xs))
-      by true rest = (all.0, rest)
-      by false rest = rest
 
   distinct-filter : (test : X → Bool) (xs : List X) → IsDistinct same xs → IsDistinct same (filter test xs)
   unfolding IsDistinct

@@ -1,11 +1,7 @@
 -- Laws of the first fault of a section: there is none where the section is consistent, and only there.
-use Rattle.str0m_sdp.proofs.Common.{◌≡◌, ℕ, ◌<◌, ◌≤◌, Bool, true, false, not, inl, inr, List, [], ◌∷◌, Option, Some, None, length, filter_map, count_by, All, refl, sym, arith, ◌↔◌, nat_lt, AllByRecursion, cons_option, cases_eq, eq-eqb, ne_eqb, lt-ltb, le-ltb, All-from_recursion, recursion_from_All, FormatParam, ◌<|>◌, when, static_spec}
-use Rattle.std.specs.Prelude.{◌⊎◌, ◌==◌, ◌&&◌, ◌≢◌, is_some, Ok, Err, IfSome}
-use Rattle.std.proofs.lemmas.Bool.{cases_lt}
-use Rattle.str0m_sdp.specs.Consistency.{Consistent, NeedsNoMapping, NamesNoOther, AgreesOnApt, IsMapped, FitsProto}
-use Rattle.str0m_sdp.specs.Consistency.{apt_of, first_apt, is_direction, is_mid, is_setup, maps as maps_to, mid_of}
-use Rattle.str0m_sdp.specs.Fault.{after_mid, apt_fault, clash, err_if, fault_beside, first_fault, map_fault, mapping_fault}
-use Rattle.str0m_sdp.specs.Fault.{one_mid, proto_fault, setup_fault, value_fault, values_fault}
+use Rattle.str0m_sdp.proofs.Common.{◌≡◌, ℕ, ◌<◌, ◌≤◌, Bool, true, false, not, inl, inr, List, [], ◌∷◌, Option, Some, None, length, filter_map, count_by, All, refl, sym, arith, ◌↔◌, nat_lt, AllByRecursion, cons_option, cases_eq, eq-eqb, ne_eqb, lt-ltb, le-ltb, All-from_recursion, recursion_from_All, FormatParam, ◌<|>◌, when, static_spec, ◌⊎◌, ◌==◌, ◌&&◌, ◌≢◌, is_some, Ok, Err, IfSome, cases_lt}
+use Rattle.str0m_sdp.specs.Consistency.{Consistent, NeedsNoMapping, NamesNoOther, AgreesOnApt, IsMapped, FitsProto, apt_of, first_apt, is_direction, is_mid, is_setup, maps as maps_to, mid_of}
+use Rattle.str0m_sdp.specs.Fault.{after_mid, apt_fault, clash, err_if, fault_beside, first_fault, map_fault, mapping_fault, one_mid, proto_fault, setup_fault, value_fault, values_fault}
 use Rattle.str0m_sdp.specs.Lists.{first}
 use Rattle.str0m_sdp.specs.declared.attribute.MediaAttribute.{MediaAttribute}
 use Rattle.str0m_sdp.specs.declared.attribute.MediaAttribute.TheVariants.{Fmtp}

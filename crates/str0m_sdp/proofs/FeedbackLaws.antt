@@ -1,6 +1,5 @@
 -- The feedback of types, one attribute more.
-use Rattle.str0m_sdp.proofs.Common.{◌≡◌, ◌<◌, ◌+◌, ◌||◌, ℕ, Bool, false, List, [], length, take, get_or, refl, sym, ap, ◌∙◌, inl, inr, cases_eq, eq-eqb, ne_eqb, get_or-set_same, get_or-set_other}
-use Rattle.std.proofs.Common.{bytes_eq, set}
+use Rattle.str0m_sdp.proofs.Common.{◌≡◌, ◌<◌, ◌+◌, ◌||◌, ℕ, Bool, false, List, [], length, take, get_or, refl, sym, ap, ◌∙◌, inl, inr, cases_eq, eq-eqb, ne_eqb, get_or-set_same, get_or-set_other, bytes_eq, set}
 use Rattle.str0m_sdp.specs.Feedback.{is_feedback, has_feedback, feedback_by, feedback_of, none, named, either}
 use Rattle.str0m_sdp.specs.declared.attribute.MediaAttribute.{MediaAttribute}
 use Rattle.str0m_sdp.specs.declared.attribute.MediaAttribute.TheVariants.{RtcpFb}

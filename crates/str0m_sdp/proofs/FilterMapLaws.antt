@@ -1,6 +1,5 @@
 -- Lists that are kept in part and mapped, one item more.
-use Rattle.str0m_sdp.proofs.Common.{◌≡◌, ◌<◌, ◌+◌, ◌++◌, ℕ, Bool, true, false, cond, List, [], ◌∷◌, length, take, get_or, Option, Some, None, All, IfSome, filter, filter_map, option_to_list, refl, sym, ap, ◌∙◌, cons_option, option_or, take_at_read, append-nil, filter_map-append, filter-append, All-nil, All-head, All-tail}
-use Rattle.std.proofs.lemmas.List.Elements.{All-cons}
+use Rattle.str0m_sdp.proofs.Common.{◌≡◌, ◌<◌, ◌+◌, ◌++◌, ℕ, Bool, true, false, cond, List, [], ◌∷◌, length, take, get_or, Option, Some, None, All, IfSome, filter, filter_map, option_to_list, refl, sym, ap, ◌∙◌, cons_option, option_or, take_at_read, append-nil, filter_map-append, filter-append, All-nil, All-head, All-tail, All-cons}
 use Rattle.str0m_sdp.specs.Lists.{last}
 
 -- one item that is mapped

@@ -1,13 +1,7 @@
 -- What `find_map` answers over the list that an iterator gives.
-use Rattle.str0m_sdp.proofs.Common.{◌≡◌, ℕ, ◌<◌, ◌+◌, zero, suc, List, [], ◌∷◌, ◌++◌, map, filter_map, length, drop, Option, Some, None, refl, ap, sym, subst, ◌∙◌, arith, MatchOption, IsTrue, slice_get, cons_option}
-use Rattle.std.proofs.Common.{take-append-drop}
-use Rattle.std.specs.Prelude.{IfSome, IsSomeAnd}
-use Rattle.std.specs.Option.{option_map}
+use Rattle.str0m_sdp.proofs.Common.{◌≡◌, ℕ, ◌<◌, ◌+◌, zero, suc, List, [], ◌∷◌, ◌++◌, map, filter_map, length, drop, Option, Some, None, refl, ap, sym, subst, ◌∙◌, arith, MatchOption, IsTrue, slice_get, cons_option, take-append-drop, IfSome, IsSomeAnd, option_map, YieldsList, option_map_id, YieldsList-so_far, YieldsList-end}
 use Rattle.std.specs.Fn.{Called}
 use Rattle.std.specs.Iterator.Runs.{Run, YieldsRun, SomeRun, AllItemsGive, IsFirstToGive}
-use Rattle.std.proofs.lemmas.Iterator.{YieldsList}
-use Rattle.std.proofs.lemmas.Iterator.Adapters.{option_map_id}
-use Rattle.std.proofs.lemmas.Iterator.Consumers.{YieldsList-so_far, YieldsList-end}
 use Rattle.str0m_sdp.specs.Lists.{first}
 use Rattle.std.specs.Iterator.{Yields}
 use denote.Param.Members.{Mut}

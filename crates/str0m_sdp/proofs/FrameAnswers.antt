@@ -1,6 +1,5 @@
 -- Lines that describe no payload type answer nothing.
-use Rattle.str0m_sdp.proofs.Common.{◌≡◌, ℕ, false, List, None, refl, AllByRecursion, Codec, CodecSpec, FormatParam}
-use Rattle.std.proofs.lemmas.Bool.{true≢false}
+use Rattle.str0m_sdp.proofs.Common.{◌≡◌, ℕ, false, List, None, refl, AllByRecursion, Codec, CodecSpec, FormatParam, true≢false}
 use Rattle.str0m_sdp.specs.declared.attribute.MediaAttribute.{MediaAttribute}
 use Rattle.str0m_sdp.specs.declared.attribute.MediaAttribute.TheVariants.{RtpMap, RtcpFb, Fmtp}
 use Rattle.str0m_sdp.specs.SectionOf.{is_of_type}

@@ -1,6 +1,5 @@
 -- What a section says of each type, one attribute more.
-use Rattle.str0m_sdp.proofs.Common.{◌≡◌, ◌==◌, ◌<◌, ◌+◌, ◌++◌, ◌&&◌, ℕ, Bool, false, cond, List, [], ◌∷◌, length, take, get_or, replicate, Option, Some, None, refl, sym, ap, ◌∙◌, Bor, list_any, length-set, get_or-replicate, CodecSpec, FormatParam}
-use Rattle.std.proofs.Common.{set}
+use Rattle.str0m_sdp.proofs.Common.{◌≡◌, ◌==◌, ◌<◌, ◌+◌, ◌++◌, ◌&&◌, ℕ, Bool, false, cond, List, [], ◌∷◌, length, take, get_or, replicate, Option, Some, None, refl, sym, ap, ◌∙◌, Bor, list_any, length-set, get_or-replicate, CodecSpec, FormatParam, set}
 use Rattle.str0m_formats.specs.declared.codec.Codec.TheVariants.{Rtx, Red}
 use Rattle.str0m_sdp.specs.Companions.{names}
 use Rattle.str0m_sdp.specs.Feedback.{none, named, either}

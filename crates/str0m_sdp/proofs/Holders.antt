@@ -1,6 +1,5 @@
 -- Where a section has a mid and a direction.
-use Rattle.str0m_sdp.proofs.Common.{◌≡◌, ◌<◌, true, List, filter_map, count_by, Some, refl, ap, ◌∙◌, is_some, unwrap_or}
-use Rattle.std.proofs.Common.{◌↔◌}
+use Rattle.str0m_sdp.proofs.Common.{◌≡◌, ◌<◌, true, List, filter_map, count_by, Some, refl, ap, ◌∙◌, is_some, unwrap_or, ◌↔◌}
 use Rattle.str0m_values.specs.declared.direction.Direction.{Direction}
 use Rattle.str0m_values.specs.declared.direction.Direction.TheVariants as way
 use Rattle.str0m_sdp.specs.Attribute.{direction_attribute}

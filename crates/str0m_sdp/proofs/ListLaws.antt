@@ -1,10 +1,5 @@
 -- Laws on the first and the last of what items hold.
-use Rattle.str0m_sdp.proofs.Common.{◌≡◌, ℕ, suc, ◌<◌, ◌+◌, Bool, true, false, cond, not, List, [], ◌∷◌, ◌++◌, filter, filter_map, get_or, length, take, count_by, Option, Some, None, refl, sym, ap, ◌∙◌, arith, cons_option, position_or_len, is_some, option_or, ltb-true, lt-ltb, append-nil, take_more, filter_map-append}
-use Rattle.std.proofs.Common.{ltb, reverse, ◌↔◌, set}
-use Rattle.std.specs.List.{position}
-use Rattle.std.proofs.lemmas.Bool.{true≢false}
-use Rattle.std.proofs.lemmas.List.{reverse-append}
-use Rattle.std.proofs.lemmas.List.Sums.{length-filter}
+use Rattle.str0m_sdp.proofs.Common.{◌≡◌, ℕ, suc, ◌<◌, ◌+◌, Bool, true, false, cond, not, List, [], ◌∷◌, ◌++◌, filter, filter_map, get_or, length, take, count_by, Option, Some, None, refl, sym, ap, ◌∙◌, arith, cons_option, position_or_len, is_some, option_or, ltb-true, lt-ltb, append-nil, take_more, filter_map-append, ltb, reverse, ◌↔◌, set, position, true≢false, reverse-append, length-filter}
 use Rattle.str0m_sdp.specs.Lists.{first, last}
 
 -- ---- from the end
@@ -57,9 +52,6 @@ filter_map_same h xs i x lt is holds = more h xs i x None lt is holds ∙ append
 
 -- ---- counted by a test
 
-add-one-left : (n : ℕ) → 1 + n ≡ suc n
-add-one-left n = omega arith
-
 module _ {X Y : Type 0} (h : X → Option Y) (p : X → Bool) (same : (x : X) → is_some (h x) ≡ p x) where
   held : (x : X) (o : Option Y) (b : Bool) (ys : List Y) (zs : List X) → is_some o ≡ b → is_some (first ys) ≡ ltb 0 (length zs)
       → is_some (first (cons_option o ys)) ≡ ltb 0 (length (cond b (x ∷ zs) zs))
@@ -89,7 +81,7 @@ module _ {X Y : Type 0} (h : X → Option Y) (p : X → Bool) (same : (x : X) �
       at_first None some = absurd (true≢false (sym some))
       at_first (Some d) some = refl
   replaced x y false (Some d) n xs e is some lt rest = absurd (true≢false e)
-  replaced x y false None n xs e is some lt rest = ap (λ k. first (filter_map h (set (x ∷ xs) k y))) (add-one-left n) ∙ ap (λ o. first (cons_option o (filter_map h (set xs n y)))) is ∙ rest (omega arith)
+  replaced x y false None n xs e is some lt rest = ap (λ k. first (filter_map h (set (x ∷ xs) k y))) (let e : 1 + n ≡ suc n = omega arith in e) ∙ ap (λ o. first (cons_option o (filter_map h (set xs n y)))) is ∙ rest (omega arith)
 
   -- what is put where the first item passes is the first
   pub first_set : (xs : List X) (y : X) → is_some (h y) ≡ true → position_or_len p xs < length xs

@@ -1,6 +1,5 @@
 -- The types of a section with their codecs, one type more.
-use Rattle.str0m_sdp.proofs.Common.{◌≡◌, ◌<◌, ◌+◌, ◌++◌, ◌==◌, ℕ, Bool, true, false, cond, ◌||◌, List, [], ◌∷◌, length, take, get_or, Option, None, nat_eq, filter_map, option_to_list, refl, sym, ap, ◌∙◌, inl, inr, list_any, cases_eq, eq-eqb, ne_eqb, or_right, take_at_read, append-nil, filter_map-append, CodecSpec}
-use Rattle.std.proofs.Common.{set}
+use Rattle.str0m_sdp.proofs.Common.{◌≡◌, ◌<◌, ◌+◌, ◌++◌, ◌==◌, ℕ, Bool, true, false, cond, ◌||◌, List, [], ◌∷◌, length, take, get_or, Option, None, nat_eq, filter_map, option_to_list, refl, sym, ap, ◌∙◌, inl, inr, list_any, cases_eq, eq-eqb, ne_eqb, or_right, take_at_read, append-nil, filter_map-append, CodecSpec, set}
 use Rattle.str0m_sdp.specs.Consistency.{maps}
 use Rattle.str0m_sdp.specs.Lists.{distinct}
 use Rattle.str0m_sdp.specs.Mappings.{mapping, static_row, unmapped}
@@ -10,7 +9,8 @@ use Rattle.str0m_sdp.specs.declared.attribute.MediaAttribute.TheVariants.{RtpMap
 use Rattle.str0m_sdp.specs.declared.rtp_map.RtpMap.{RtpMap as Mapping}
 use Rattle.str0m_sdp.proofs.FilterMapLaws.{map_one, map_more}
 use Rattle.str0m_sdp.proofs.DistinctLaws.{distinct_push}
-use Rattle.str0m_sdp.proofs.TypeMarks.{any_more, marked, or_false}
+use Rattle.str0m_sdp.proofs.TypeMarks.{any_more, marked}
+use Rattle.str0m_sdp.proofs.Parts.{or_false}
 
 -- a type that was seen adds no row; else it adds what it stands for
 one_more : {X Y : Type 0} (f : X → Option Y) (x : X) (o : Option Y) (a b : Bool) → f x ≡ cond a None o

@@ -1,6 +1,5 @@
 -- Laws of mids in the order of their bytes.
-use Rattle.str0m_sdp.proofs.Common.{◌≡◌, ◌<◌, ◌+◌, ◌++◌, ◌||◌, not, cond, ℕ, Bool, true, false, List, [], ◌∷◌, length, take, get_or, Option, Some, None, append_assoc, filter, filter_map, refl, sym, ap, ◌∙◌, Bor, BTreeSet, Updates, contains, cons_option, nat_cmp, bytes_eq, false≢true, ◌<|>◌, when}
-use Rattle.std.specs.Cmp.Lexicographic.{slice_cmp}
+use Rattle.str0m_sdp.proofs.Common.{◌≡◌, ◌<◌, ◌+◌, ◌++◌, ◌||◌, not, cond, ℕ, Bool, true, false, List, [], ◌∷◌, length, take, get_or, Option, Some, None, append_assoc, filter, filter_map, refl, sym, ap, ◌∙◌, Bor, BTreeSet, Updates, contains, cons_option, nat_cmp, bytes_eq, false≢true, ◌<|>◌, when, slice_cmp}
 use Rattle.std.proofs.Math.Bool.{or_comm}
 use Rattle.std.proofs.lemmas.Map.Text.{is_eq-slice_cmp}
 use Rattle.str0m_sdp.specs.OrderedMids.{Holds, is_held, is_part, part_mid}

@@ -1,8 +1,5 @@
 -- The preferred of several fingerprints.
-use Rattle.str0m_sdp.proofs.Common.{◌≡◌, List, [], ◌∷◌, ◌++◌, filter_map, map, Option, Some, None, Result, Ok, Err, refl, ap, sym, subst, ◌∙◌, cons_option, option_or}
-use Rattle.std.proofs.Common.{IfOk}
-use Rattle.std.specs.List.{best_of}
-use Rattle.std.proofs.lemmas.List.{get_or_default}
+use Rattle.str0m_sdp.proofs.Common.{◌≡◌, List, [], ◌∷◌, ◌++◌, filter_map, map, Option, Some, None, Result, Ok, Err, refl, ap, sym, subst, ◌∙◌, cons_option, option_or, IfOk, best_of, get_or_default}
 use Rattle.std.proofs.lemmas.List.MinMax.{IsFirstBest-from_best_of, IsStrictWeakOrder-by_number}
 use Rattle.str0m_values.specs.Fingerprint.{preference_of}
 use Rattle.str0m_values.specs.declared.fingerprint.Fingerprint.{Fingerprint}

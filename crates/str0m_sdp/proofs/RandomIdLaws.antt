@@ -1,8 +1,5 @@
 -- One more word at the end of those drawn, and that each letter is ASCII.
-use Rattle.str0m_sdp.proofs.Common.{◌≡◌, ℕ, zero, suc, ◌+◌, ◌<◌, ◌++◌, [], ◌∷◌, List, refl, ap, arith, map, ◌∙◌, codes, nat_lt, ltb-true, map-append}
-use Rattle.std.proofs.Common.{◌%◌, add-one, add-zero, add-suc}
-use Rattle.std.specs.List.{AllPass}
-use Rattle.std.proofs.lemmas.List.Sums.{AllPass-from_list_all}
+use Rattle.str0m_sdp.proofs.Common.{◌≡◌, ℕ, zero, suc, ◌+◌, ◌<◌, ◌++◌, [], ◌∷◌, List, refl, ap, arith, map, ◌∙◌, codes, nat_lt, ltb-true, map-append, ◌%◌, add-one, add-zero, add-suc, AllPass, AllPass-from_list_all}
 use Rattle.rand_core.specs.Stream.{Stream, next_u32}
 use Rattle.str0m_sdp.specs.RandomId.{words, after_words, letter_of}
 

@@ -1,6 +1,5 @@
 -- A section that was read, whose types and lines are those of plain, distinct rows, describes these rows.
-use Rattle.str0m_sdp.proofs.Common.{◌≡◌, ◌≢◌, ◌≤◌, false, List, [], map, All, sym, subst, AllByRecursion, AllZip, flat_map, recursion_from_All, IsPlain, types, SameRow, AllDistinct, FormatParam, PayloadParams}
-use Rattle.std.specs.Prelude.{count_by}
+use Rattle.str0m_sdp.proofs.Common.{◌≡◌, ◌≢◌, ◌≤◌, false, List, [], map, All, sym, subst, AllByRecursion, AllZip, flat_map, recursion_from_All, IsPlain, types, SameRow, AllDistinct, FormatParam, PayloadParams, count_by}
 use Rattle.str0m_sdp.specs.Consistency.{is_mid, is_setup, is_direction, Consistent}
 use Rattle.str0m_sdp.specs.Mappings.{mapped}
 use Rattle.str0m_sdp.specs.SectionOf.{is_of_type}

@@ -1,11 +1,10 @@
 -- What the fmtp lines of a plain row read as: its format, and no payload type.
-use Rattle.str0m_sdp.proofs.Common.{◌≡◌, ◌≢◌, ℕ, false, List, [], ◌∷◌, Some, refl, sym, ap, ◌∙◌, All, get_or, AllByRecursion, types, AllDistinct, content, events, format_of_fmtp, empty, set_all, IsPlain, Codec, FormatParam, Apt, BarePtList, FormatParams, PayloadParams}
+use Rattle.str0m_sdp.proofs.Common.{◌≡◌, ◌≢◌, ℕ, false, List, [], ◌∷◌, Some, refl, sym, ap, ◌∙◌, All, get_or, AllByRecursion, types, AllDistinct, content, events, format_of_fmtp, empty, set_all, IsPlain, Codec, FormatParam, Apt, BarePtList, FormatParams, PayloadParams, HoldsRowNumbers}
 use Rattle.str0m_sdp.specs.declared.attribute.MediaAttribute.{MediaAttribute}
 use Rattle.str0m_sdp.specs.declared.media_line.MediaLine.{MediaLine}
 use Rattle.str0m_sdp.proofs.RowQuestions.{attrs_of}
 use Rattle.str0m_sdp.proofs.ReadSection.{IsFrame, Describes, describes}
 use Rattle.str0m_formats.specs.FormatLine.{is_refused}
-use Rattle.str0m_formats.specs.Bounds.{HoldsRowNumbers}
 use Rattle.str0m_formats.specs.Narrowing.{telephone_max}
 use Rattle.str0m_formats.specs.Pairs.{has_mark}
 use Rattle.str0m_formats.specs.PairsReading.{params_read}

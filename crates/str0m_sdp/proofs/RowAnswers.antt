@@ -1,8 +1,5 @@
 -- What the lines of one row answer: to questions on its own types exactly its own, to those on other types nothing.
-use Rattle.str0m_sdp.proofs.Common.{◌≡◌, ◌==◌, ◌&&◌, ◌||◌, ℕ, Bool, true, false, List, [], ◌∷◌, ◌++◌, Option, Some, None, option_to_list, refl, sym, ap, ◌∙◌, AllByRecursion, list_any, ne_eqb, append-nil, list_any-append, when, has, types_of, rtp_rate, empty, CodecSpec, FormatParam, PayloadParams}
-use Rattle.std.specs.Prelude.{bytes_eq}
-use Rattle.std.specs.List.{filter_map}
-use Rattle.std.proofs.lemmas.Bool.{eqb-false}
+use Rattle.str0m_sdp.proofs.Common.{◌≡◌, ◌==◌, ◌&&◌, ◌||◌, ℕ, Bool, true, false, List, [], ◌∷◌, ◌++◌, Option, Some, None, option_to_list, refl, sym, ap, ◌∙◌, AllByRecursion, list_any, ne_eqb, append-nil, list_any-append, when, has, types_of, rtp_rate, empty, Codec, CodecSpec, Apt, BarePtList, FormatParam, PayloadParams, bytes_eq, filter_map, eqb-false}
 use Rattle.str0m_formats.specs.declared.codec.Codec.TheVariants as codec
 use Rattle.str0m_sdp.specs.declared.label.TheConstants.{TRANSPORT_CC, REMB, FIR, NACK, PLI}
 use Rattle.str0m_sdp.specs.declared.attribute.MediaAttribute.{MediaAttribute}
@@ -12,10 +9,9 @@ use Rattle.str0m_sdp.specs.RowAttributes.{feedback_line, feedback_attrs, rtx_lin
 use Rattle.str0m_sdp.specs.Companions.{companion_in, names}
 use Rattle.str0m_sdp.specs.Feedback.{is_feedback}
 use Rattle.str0m_sdp.specs.Mappings.{mapping, is_mapped_to}
-use Rattle.str0m_sdp.proofs.Parts.{both, none_passes, or_false}
+use Rattle.str0m_sdp.proofs.Parts.{always, both, none_passes, or_false, weaker}
 use Rattle.str0m_sdp.proofs.Apart.{self, pt_apart}
-use Rattle.str0m_sdp.proofs.RowReads.{fmtp_lines, red_reads, reads, each, all_feedback, all_fmtp, all_rtx, all_red, quiet}
-use Rattle.str0m_sdp.proofs.RowReads.{append_said, parts_said}
+use Rattle.str0m_sdp.proofs.RowReads.{fmtp_lines, red_reads, reads, each, all_feedback, all_fmtp, all_rtx, all_red, quiet, append_said, parts_said}
 use Rattle.str0m_sdp.proofs.FrameAnswers.{NameNoType, NamesNoType}
 
 pub flipped : (m n : ℕ) → (m == n) ≡ false → (n == m) ≡ false
@@ -23,13 +19,13 @@ flipped m n h = ne_eqb n m (λ e. eqb-false m n h (sym e))
 
 -- ---- the types that go with a type
 
-no_rtx : (t : ℕ) (v : List FormatParam) → AllByRecursion NamesNoType v → list_any (names codec.Rtx t) v ≡ false
-no_rtx t [] h = refl
-no_rtx t (x ∷ v) h = rw (h.0.0) (no_rtx t v h.1)
+named_none : (c : Codec) (t : ℕ) (value : FormatParam) → NamesNoType value → names c t value ≡ false
+named_none codec.Rtx t value h = rw h.0 refl
+named_none codec.Red t value h = rw h.1 refl
+named_none _ t value h = refl
 
-no_red : (t : ℕ) (v : List FormatParam) → AllByRecursion NamesNoType v → list_any (names codec.Red t) v ≡ false
-no_red t [] h = refl
-no_red t (x ∷ v) h = rw (h.0.1) (no_red t v h.1)
+none_named : (c : Codec) (t : ℕ) (v : List FormatParam) → AllByRecursion NamesNoType v → list_any (names c t) v ≡ false
+none_named c t v h = none_passes (names c t) v (weaker NamesNoType (λ x. names c t x ≡ false) (named_none c t) v h)
 
 pub and_false : (a : Bool) → (a && false) ≡ false
 and_false true = refl
@@ -39,39 +35,40 @@ unless_both : (a b : Bool) (n : ℕ) → b ≡ false → when (a && b) n ≡ Non
 unless_both a b n h = rw h (rw (and_false a) refl)
 
 module _ (mapped : List (ℕ × CodecSpec)) (row : PayloadParams) where
-  quiet_rtx : (t : ℕ) (vs : List (List FormatParam)) → NameNoType vs
-      → AllByRecursion (λ v. companion_in codec.Rtx mapped t (Fmtp row.pt v) ≡ None) vs
-  quiet_rtx t [] h = tt
-  quiet_rtx t (v ∷ vs) h = (unless_both (is_mapped_to codec.Rtx mapped row.pt) _ row.pt (no_rtx t v h.0), quiet_rtx t vs h.1)
+  quiet_lines : (c : Codec) (t : ℕ) (vs : List (List FormatParam)) → NameNoType vs
+      → AllByRecursion (λ v. companion_in c mapped t (Fmtp row.pt v) ≡ None) vs
+  quiet_lines c t vs h =
+      weaker _ (λ v. companion_in c mapped t (Fmtp row.pt v) ≡ None)
+      (λ v k. unless_both (is_mapped_to c mapped row.pt) _ row.pt (none_named c t v k)) vs h
 
-  quiet_red : (t : ℕ) (vs : List (List FormatParam)) → NameNoType vs
-      → AllByRecursion (λ v. companion_in codec.Red mapped t (Fmtp row.pt v) ≡ None) vs
-  quiet_red t [] h = tt
-  quiet_red t (v ∷ vs) h = (unless_both (is_mapped_to codec.Red mapped row.pt) _ row.pt (no_red t v h.0), quiet_red t vs h.1)
+  -- its lines of RTX and of RED name its primary type alone
+  other_named : (c : Codec) (t : ℕ) (value : FormatParam) (n : ℕ) → names c t value ≡ false
+      → companion_in c mapped t (Fmtp n (value ∷ [])) ≡ None
+  other_named c t value n h = unless_both (is_mapped_to c mapped n) _ n (rw h refl)
 
   -- with a type that isn't the row's primary one
-  pub rtx_none : (vs : List (List FormatParam)) (t : ℕ) → NameNoType vs → (row.pt == t) ≡ false
-      → filter_map (companion_in codec.Rtx mapped t) (reads row vs) ≡ []
-  rtx_none vs t none h =
-      quiet (companion_in codec.Rtx mapped t) (reads row vs)
-      (each (λ a. companion_in codec.Rtx mapped t a ≡ None) row vs (λ m. refl) (λ w. refl) (quiet_rtx t vs none)
-      (λ n e. (λ m. refl, unless_both (is_mapped_to codec.Rtx mapped n) _ n (rw h refl)))
-      (λ n e. (λ m. refl, unless_both (is_mapped_to codec.Rtx mapped n) _ n refl)))
+  pub none_with : (c : Codec) (vs : List (List FormatParam)) (t : ℕ) → NameNoType vs → (row.pt == t) ≡ false
+      → filter_map (companion_in c mapped t) (reads row vs) ≡ []
+  none_with c vs t none h =
+      quiet (companion_in c mapped t) (reads row vs)
+      (each (λ a. companion_in c mapped t a ≡ None) row vs (λ m. refl) (λ w. refl) (quiet_lines c t vs none)
+      (λ n e. (λ m. refl, other_named c t (Apt row.pt) n (apt c)))
+      (λ n e. (λ m. refl, other_named c t (BarePtList row.pt) n (list c))))
+    where
+      apt : (c : Codec) → names c t (Apt row.pt) ≡ false
+      apt codec.Rtx = h
+      apt _ = refl
 
-  pub red_none : (vs : List (List FormatParam)) (t : ℕ) → NameNoType vs → (row.pt == t) ≡ false
-      → filter_map (companion_in codec.Red mapped t) (reads row vs) ≡ []
-  red_none vs t none h =
-      quiet (companion_in codec.Red mapped t) (reads row vs)
-      (each (λ a. companion_in codec.Red mapped t a ≡ None) row vs (λ m. refl) (λ w. refl) (quiet_red t vs none)
-      (λ n e. (λ m. refl, unless_both (is_mapped_to codec.Red mapped n) _ n refl))
-      (λ n e. (λ m. refl, unless_both (is_mapped_to codec.Red mapped n) _ n (rw h refl))))
+      list : (c : Codec) → names c t (BarePtList row.pt) ≡ false
+      list codec.Red = h
+      list _ = refl
 
   -- with its own primary type, where its RTX and its RED type are mapped to these
   pub rtx_own : (vs : List (List FormatParam)) → NameNoType vs → ((n : ℕ) → row.resend ≡ Some n → is_mapped_to codec.Rtx mapped n ≡ true)
       → filter_map (companion_in codec.Rtx mapped row.pt) (reads row vs) ≡ option_to_list row.resend
   rtx_own vs none is =
       parts_said (companion_in codec.Rtx mapped row.pt) row vs [] (option_to_list row.resend) [] refl (λ w. refl)
-      (quiet _ (fmtp_lines row.pt vs) (all_fmtp (λ a. companion_in codec.Rtx mapped row.pt a ≡ None) row vs (quiet_rtx row.pt vs none)))
+      (quiet _ (fmtp_lines row.pt vs) (all_fmtp (λ a. companion_in codec.Rtx mapped row.pt a ≡ None) row vs (quiet_lines codec.Rtx row.pt vs none)))
       (go row.resend is)
       (quiet _ (red_reads row row.red)
       (all_red (λ a. companion_in codec.Rtx mapped row.pt a ≡ None) row row.red
@@ -87,7 +84,7 @@ module _ (mapped : List (ℕ × CodecSpec)) (row : PayloadParams) where
       → filter_map (companion_in codec.Red mapped row.pt) (reads row vs) ≡ option_to_list row.red
   red_own vs none is =
       parts_said (companion_in codec.Red mapped row.pt) row vs [] [] (option_to_list row.red) refl (λ w. refl)
-      (quiet _ (fmtp_lines row.pt vs) (all_fmtp (λ a. companion_in codec.Red mapped row.pt a ≡ None) row vs (quiet_red row.pt vs none)))
+      (quiet _ (fmtp_lines row.pt vs) (all_fmtp (λ a. companion_in codec.Red mapped row.pt a ≡ None) row vs (quiet_lines codec.Red row.pt vs none)))
       (quiet _ (rtx_lines row row.resend)
       (all_rtx (λ a. companion_in codec.Red mapped row.pt a ≡ None) row row.resend
       (λ n e. (λ m. refl, unless_both (is_mapped_to codec.Red mapped n) _ n refl))))
@@ -104,12 +101,8 @@ pub feedback_apart : (row : PayloadParams) (vs : List (List FormatParam)) (t : �
     → list_any (is_feedback t words) (reads row vs) ≡ false
 feedback_apart row vs t words h =
     none_passes (is_feedback t words) (reads row vs)
-    (each (λ a. is_feedback t words a ≡ false) row vs (λ m. refl) (λ w. rw (pt_apart row t h) refl) (other vs)
+    (each (λ a. is_feedback t words a ≡ false) row vs (λ m. refl) (λ w. rw (pt_apart row t h) refl) (always _ (λ v. refl) vs)
     (λ n e. (λ m. refl, refl)) (λ n e. (λ m. refl, refl)))
-  where
-    other : (vs : List (List FormatParam)) → AllByRecursion (λ v. is_feedback t words (Fmtp row.pt v) ≡ false) vs
-    other [] = tt
-    other (v ∷ vs) = (refl, other vs)
 
 one_flag : (t : ℕ) (w words : List ℕ) (b : Bool) → list_any (is_feedback t words) (feedback_line t w b) ≡ (b && bytes_eq w words)
 one_flag t w words true = rw (self t) (or_false (bytes_eq w words))
@@ -137,14 +130,10 @@ feedback_own row vs words =
     rest : List MediaAttribute
     rest = fmtp_lines row.pt vs ++ (rtx_lines row row.resend ++ red_reads row row.red)
 
-    other : (vs : List (List FormatParam)) → AllByRecursion (λ v. is_feedback row.pt words (Fmtp row.pt v) ≡ false) vs
-    other [] = tt
-    other (v ∷ vs) = (refl, other vs)
-
     quiet_rest : list_any (is_feedback row.pt words) rest ≡ false
     quiet_rest =
         none_passes (is_feedback row.pt words) rest
-        (both (λ a. is_feedback row.pt words a ≡ false) _ _ (all_fmtp (λ a. is_feedback row.pt words a ≡ false) row vs (other vs))
+        (both (λ a. is_feedback row.pt words a ≡ false) _ _ (all_fmtp (λ a. is_feedback row.pt words a ≡ false) row vs (always _ (λ v. refl) vs))
         (both (λ a. is_feedback row.pt words a ≡ false) _ _
         (all_rtx (λ a. is_feedback row.pt words a ≡ false) row row.resend (λ n e. (λ m. refl, refl)))
         (all_red (λ a. is_feedback row.pt words a ≡ false) row row.red (λ n e. (λ m. refl, refl)))))
@@ -176,10 +165,6 @@ entries row = (row.pt, record row.spec { format = empty }) ∷ (rtx_entry row ro
 abbrev pub NamesItself : CodecSpec → Type 0
 NamesItself spec = spec_of_map (map_of_spec spec) ≡ record spec { format = empty }
 
-fmtp_unmapped : (t : ℕ) (vs : List (List FormatParam)) → AllByRecursion (λ v. mapping (Fmtp t v) ≡ None) vs
-fmtp_unmapped t [] = tt
-fmtp_unmapped t (v ∷ vs) = (refl, fmtp_unmapped t vs)
-
 pub mapping_own : (row : PayloadParams) (vs : List (List FormatParam)) → NamesItself row.spec
     → filter_map mapping (reads row vs) ≡ entries row
 mapping_own row vs same =
@@ -189,7 +174,7 @@ mapping_own row vs same =
     (append_said mapping (feedback_attrs row) after_feedback [] _
     (quiet mapping (feedback_attrs row) (all_feedback (λ a. mapping a ≡ None) row (λ w. refl)))
     (append_said mapping (fmtp_lines row.pt vs) (rtx_lines row row.resend ++ red_reads row row.red) [] _
-    (quiet mapping (fmtp_lines row.pt vs) (all_fmtp (λ a. mapping a ≡ None) row vs (fmtp_unmapped row.pt vs)))
+    (quiet mapping (fmtp_lines row.pt vs) (all_fmtp (λ a. mapping a ≡ None) row vs (always _ (λ v. refl) vs)))
     (append_said mapping (rtx_lines row row.resend) (red_reads row row.red) _ _ (rtx row.resend) (red row.red))))
   where
     after_feedback : List MediaAttribute

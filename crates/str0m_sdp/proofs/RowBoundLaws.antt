@@ -1,8 +1,5 @@
 -- Where lines keep to their ranges, rows do.
-use Rattle.str0m_sdp.proofs.Common.{◌≡◌, ◌≤◌, ◌++◌, ℕ, Bool, true, false, cond, not, List, [], ◌∷◌, Option, Some, None, All, IfSome, filter, find, nat_eq, option_to_list, filter_map, refl, list_any, le-ltb, All-nil, All-head, All-tail, when, IsBounded, static_spec, format_of_fmtp, is_refused, empty, set_all, Codec, CodecSpec, FormatParam, FormatParams}
-use Rattle.std.proofs.Common.{nat_lt, option_map}
-use Rattle.std.proofs.lemmas.List.Elements.{All-append, All-filter}
-use Rattle.str0m_formats.specs.Bounds.{AreModes, IsDistance}
+use Rattle.str0m_sdp.proofs.Common.{◌≡◌, ◌≤◌, ◌++◌, ℕ, Bool, true, false, cond, not, List, [], ◌∷◌, Option, Some, None, All, IfSome, filter, find, nat_eq, option_to_list, filter_map, refl, list_any, le-ltb, All-nil, All-head, All-tail, when, IsBounded, static_spec, format_of_fmtp, is_refused, empty, set_all, Codec, CodecSpec, FormatParam, FormatParams, nat_lt, option_map, All-append, All-filter, AreModes, IsDistance}
 use Rattle.str0m_formats.specs.FormatLine.{events_end, is_events, kept, values_of}
 use Rattle.str0m_formats.specs.FormatParams.{set}
 use Rattle.str0m_formats.specs.declared.codec.Codec.TheVariants.{Tele}

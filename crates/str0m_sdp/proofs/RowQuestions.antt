@@ -1,11 +1,9 @@
 -- Asked of a frame without lines of types and the lines of all rows, each question on a row's type has that row's answer.
-use Rattle.str0m_sdp.proofs.Common.{◌≡◌, ◌==◌, ◌&&◌, ℕ, Bool, true, false, cond, List, [], ◌∷◌, ◌++◌, Option, Some, None, option_to_list, refl, ap, ◌∙◌, arith, AllByRecursion, flat_map, list_any, filter_map-append, times, AllDistinct, types_of, types, CodecSpec, FormatParam, PayloadParams, times-append, times-cons}
-use Rattle.std.specs.Prelude.{count_by}
-use Rattle.std.specs.List.{filter_map}
+use Rattle.str0m_sdp.proofs.Common.{◌≡◌, ◌==◌, ◌&&◌, ℕ, Bool, true, false, cond, List, [], ◌∷◌, ◌++◌, Option, Some, None, option_to_list, refl, ap, ◌∙◌, arith, AllByRecursion, flat_map, list_any, filter_map-append, times, AllDistinct, types_of, types, CodecSpec, FormatParam, PayloadParams, times-append, times-cons, Codec, count_by, filter_map}
 use Rattle.str0m_formats.specs.declared.codec.Codec.TheVariants as codec
 use Rattle.str0m_sdp.specs.declared.label.TheConstants.{TRANSPORT_CC, REMB, FIR, NACK, PLI}
 use Rattle.str0m_sdp.specs.declared.attribute.MediaAttribute.{MediaAttribute}
-use Rattle.str0m_sdp.specs.declared.attribute.MediaAttribute.TheVariants.{RtpMap, Fmtp}
+use Rattle.str0m_sdp.specs.declared.attribute.MediaAttribute.TheVariants.{RtpMap}
 use Rattle.str0m_sdp.specs.RtpMap.{map_of_spec}
 use Rattle.str0m_sdp.specs.RowAttributes.{feedback_attrs, rtx_lines}
 use Rattle.str0m_sdp.specs.SectionRows.{values_in, lines_of}
@@ -15,15 +13,12 @@ use Rattle.str0m_sdp.specs.Feedback.{is_feedback, has_feedback}
 use Rattle.str0m_sdp.specs.Lists.{first, last}
 use Rattle.str0m_sdp.specs.Mappings.{mapping, is_mapped_to}
 use Rattle.str0m_sdp.proofs.Own.{AreOpen, own_said}
-use Rattle.str0m_sdp.proofs.Parts.{or_false, weaker, together, taken_apart, none_passes, none_counted, count-append, own_holds, AllFail}
-use Rattle.str0m_sdp.proofs.Apart.{Apart, Roles, apart, roles, row_distinct, has_pt, has_rtx}
+use Rattle.str0m_sdp.proofs.Parts.{always, or_false, weaker, together, taken_apart, none_passes, none_counted, count-append, own_holds, AllFail}
+use Rattle.str0m_sdp.proofs.Apart.{Apart, Roles, apart, roles, row_distinct, has_pt, has_rtx, pt_apart}
 use Rattle.str0m_sdp.proofs.RowReads.{reads, fmtp_lines, red_reads, quiet, all_feedback, all_fmtp}
-use Rattle.str0m_sdp.proofs.FrameAnswers.{HasNoTypes, NameNoType, frame_mapping, frame_maps, frame_feedback}
-use Rattle.str0m_sdp.proofs.RowAnswers.{NamesItself, entries}
-use Rattle.str0m_sdp.proofs.FrameAnswers.{frame_values, frame_apt, frame_companion}
+use Rattle.str0m_sdp.proofs.FrameAnswers.{HasNoTypes, NameNoType, frame_mapping, frame_maps, frame_feedback, frame_values, frame_apt, frame_companion}
+use Rattle.str0m_sdp.proofs.RowAnswers.{NamesItself, entries, and_false, none_with, rtx_own, red_own, feedback_apart, feedback_own, mapping_own}
 use Rattle.str0m_sdp.proofs.FmtpAnswers.{values_apart, values_own, apt_apart, apt_own}
-use Rattle.str0m_sdp.proofs.RowAnswers.{and_false, rtx_none, rtx_own, red_none, red_own, feedback_apart, feedback_own, mapping_own}
-use Rattle.str0m_sdp.proofs.Apart.{pt_apart}
 
 first_apt-is : (t : ℕ) (attrs : List MediaAttribute) → first_apt t attrs ≡ first (filter_map (apt_in t) attrs)
 first_apt-is t [] = refl
@@ -120,41 +115,34 @@ module _ (values : PayloadParams → List (List FormatParam)) where
 
     -- its RTX type and its RED type, where these are mapped to RTX and RED, and no value of a row's format names a type
     module _ (mapped : List (ℕ × CodecSpec)) (silent : AllByRecursion (λ r. NameNoType (values r)) (before ++ row ∷ after)) where
-      pub rtx_is : ((n : ℕ) → row.resend ≡ Some n → is_mapped_to codec.Rtx mapped n ≡ true)
-          → companion codec.Rtx mapped (attrs_of frame (before ++ row ∷ after)) row.pt ≡ row.resend
+      companion_is : (c : Codec) (own : Option ℕ) → filter_map (companion_in c mapped row.pt) (lines row) ≡ option_to_list own
+          → companion c mapped (attrs_of frame (before ++ row ∷ after)) row.pt ≡ own
       unfolding companion
-      rtx_is is =
-          ap last (own_said (companion_in codec.Rtx mapped row.pt) lines frame before row after
-          (quiet (companion_in codec.Rtx mapped row.pt) frame
-          (weaker _ (λ a. companion_in codec.Rtx mapped row.pt a ≡ None) (frame_companion codec.Rtx mapped row.pt) frame bare))
+      companion_is c own is =
+          ap last (own_said (companion_in c mapped row.pt) lines frame before row after
+          (quiet (companion_in c mapped row.pt) frame
+          (weaker _ (λ a. companion_in c mapped row.pt a ≡ None) (frame_companion c mapped row.pt) frame bare))
           (others before (taken_apart _ before row after silent).0 (apart before row after row.pt d (has_pt row)).0)
           (others after (taken_apart _ before row after silent).2 (apart before row after row.pt d (has_pt row)).1)
-          ∙ rtx_own mapped row (values row) (taken_apart (λ r. NameNoType (values r)) before row after silent).1 is)
-          ∙ last_option row.resend
+          ∙ is)
+          ∙ last_option own
         where
           others : (rows : List PayloadParams) → AllByRecursion (λ r. NameNoType (values r)) rows → Apart row.pt rows
-              → AreOpen (companion_in codec.Rtx mapped row.pt) lines rows
+              → AreOpen (companion_in c mapped row.pt) lines rows
           others rows s h =
-              together _ _ (λ r. filter_map (companion_in codec.Rtx mapped row.pt) (lines r) ≡ [])
-              (λ r k l. rtx_none mapped r (values r) row.pt k (pt_apart r row.pt l)) rows s h
+              together _ _ (λ r. filter_map (companion_in c mapped row.pt) (lines r) ≡ [])
+              (λ r k l. none_with mapped r c (values r) row.pt k (pt_apart r row.pt l)) rows s h
+
+      own_silent : NameNoType (values row)
+      own_silent = (taken_apart (λ r. NameNoType (values r)) before row after silent).1
+
+      pub rtx_is : ((n : ℕ) → row.resend ≡ Some n → is_mapped_to codec.Rtx mapped n ≡ true)
+          → companion codec.Rtx mapped (attrs_of frame (before ++ row ∷ after)) row.pt ≡ row.resend
+      rtx_is is = companion_is codec.Rtx row.resend (rtx_own mapped row (values row) own_silent is)
 
       pub red_is : ((n : ℕ) → row.red ≡ Some n → is_mapped_to codec.Red mapped n ≡ true)
           → companion codec.Red mapped (attrs_of frame (before ++ row ∷ after)) row.pt ≡ row.red
-      unfolding companion
-      red_is is =
-          ap last (own_said (companion_in codec.Red mapped row.pt) lines frame before row after
-          (quiet (companion_in codec.Red mapped row.pt) frame
-          (weaker _ (λ a. companion_in codec.Red mapped row.pt a ≡ None) (frame_companion codec.Red mapped row.pt) frame bare))
-          (others before (taken_apart _ before row after silent).0 (apart before row after row.pt d (has_pt row)).0)
-          (others after (taken_apart _ before row after silent).2 (apart before row after row.pt d (has_pt row)).1)
-          ∙ red_own mapped row (values row) (taken_apart (λ r. NameNoType (values r)) before row after silent).1 is)
-          ∙ last_option row.red
-        where
-          others : (rows : List PayloadParams) → AllByRecursion (λ r. NameNoType (values r)) rows → Apart row.pt rows
-              → AreOpen (companion_in codec.Red mapped row.pt) lines rows
-          others rows s h =
-              together _ _ (λ r. filter_map (companion_in codec.Red mapped row.pt) (lines r) ≡ [])
-              (λ r k l. red_none mapped r (values r) row.pt k (pt_apart r row.pt l)) rows s h
+      red_is is = companion_is codec.Red row.red (red_own mapped row (values row) own_silent is)
 
   -- the codecs of the types: in order, each row's own
   pub mappings_are : (frame : List MediaAttribute) (rows : List PayloadParams) → HasNoTypes frame
@@ -176,7 +164,7 @@ module _ (values : PayloadParams → List (List FormatParam)) where
       let e = count-append (maps t) (rtx_lines row row.resend) (red_reads row row.red) in
       let none = none_counted (maps t) (feedback_attrs row) (all_feedback (λ x. maps t x ≡ false) row (λ w. refl)) in
       let none' = none_counted (maps t) (fmtp_lines row.pt (values row))
-      (all_fmtp (λ x. maps t x ≡ false) row (values row) (no_map (values row))) in
+      (all_fmtp (λ x. maps t x ≡ false) row (values row) (always _ (λ v. refl) (values row))) in
       let whole = times-cons row.pt (option_to_list row.resend ++ option_to_list row.red) t in
       let parts = times-append (option_to_list row.resend) (option_to_list row.red) t in
       let r = rtx row.resend in
@@ -189,10 +177,6 @@ module _ (values : PayloadParams → List (List FormatParam)) where
 
       first_one : count_by (maps t) (RtpMap row.pt (map_of_spec row.spec) ∷ []) ≡ cond {A = ℕ} (row.pt == t) 1 0
       first_one = omega arith
-
-      no_map : (vs : List (List FormatParam)) → AllByRecursion (λ v. maps t (Fmtp row.pt v) ≡ false) vs
-      no_map [] = tt
-      no_map (v ∷ vs) = (refl, no_map vs)
 
       rtx : (o : Option ℕ) → count_by (maps t) (rtx_lines row o) ≡ times (option_to_list o) t
       rtx None = refl

@@ -1,11 +1,7 @@
 -- The rows of a section of plain, distinct rows: these rows again, unlocked and in order.
-use Rattle.str0m_sdp.proofs.Common.{◌≡◌, ◌≢◌, ◌&&◌, ◌||◌, ℕ, Bool, true, false, cond, List, [], ◌∷◌, ◌++◌, map, Option, Some, None, refl, sym, ap, ◌∙◌, subst, option_map, or_left, or_right, AllByRecursion, AllZip, flat_map, cons_option, filter_map-append, filter-append, content, events, other, format_of_fmtp, empty, types_of, types, SameRow, same_codec, has, AllDistinct, Codec, FormatParam, PayloadParams, IsPlain}
-use Rattle.std.specs.Prelude.{◌==◌}
-use Rattle.std.specs.List.{filter, filter_map}
+use Rattle.str0m_sdp.proofs.Common.{◌≡◌, ◌≢◌, ◌&&◌, ◌||◌, ℕ, Bool, true, false, cond, List, [], ◌∷◌, ◌++◌, map, Option, Some, None, refl, sym, ap, ◌∙◌, subst, option_map, or_left, or_right, AllByRecursion, AllZip, flat_map, cons_option, filter_map-append, filter-append, content, events, other, format_of_fmtp, empty, types_of, types, SameRow, same_codec, has, AllDistinct, Codec, FormatParam, PayloadParams, IsPlain, ◌==◌, filter, filter_map, Content, audio, video, has_pictures}
 use Rattle.str0m_formats.specs.Choices.{has_events}
-use Rattle.str0m_formats.specs.Codec.{Content, audio, video}
 use Rattle.str0m_formats.specs.KindRows.{has_sound}
-use Rattle.str0m_formats.specs.Rows.{has_pictures}
 use Rattle.str0m_formats.specs.declared.codec.Codec.TheVariants as codec
 use Rattle.str0m_sdp.specs.Companions.{rtx_type, red_type}
 use Rattle.str0m_sdp.specs.Mappings.{mapped, is_mapped_to}
@@ -47,20 +43,15 @@ kept_content events there h k = k
 kept_content other there h k = absurd (h refl)
 
 -- sound alone has RED
+no_red : (c : Content) → (c ≡ audio → ⊥) → (red : Option ℕ) → (red ≢ None → c ≡ audio) → None ≡ red
+no_red c apart None h = refl
+no_red c apart (Some n) h = absurd (apart (h (λ e. cc)))
+
 only_sound : (c : Content) (red found : Option ℕ) → (red ≢ None → c ≡ audio) → found ≡ red → cond (has_sound c) found None ≡ red
 only_sound audio red found h e = e
-only_sound video red found h e = none red h where
-  none : (red : Option ℕ) → (red ≢ None → video ≡ audio) → None ≡ red
-  none None k = refl
-  none (Some n) k = let same = k (λ e. cc) in absurd cc
-only_sound events red found h e = none red h where
-  none : (red : Option ℕ) → (red ≢ None → events ≡ audio) → None ≡ red
-  none None k = refl
-  none (Some n) k = let same = k (λ e. cc) in absurd cc
-only_sound other red found h e = none red h where
-  none : (red : Option ℕ) → (red ≢ None → other ≡ audio) → None ≡ red
-  none None k = refl
-  none (Some n) k = let same = k (λ e. cc) in absurd cc
+only_sound video red found h e = no_red video (λ same. cc) red h
+only_sound events red found h e = no_red events (λ same. cc) red h
+only_sound other red found h e = no_red other (λ same. cc) red h
 
 kept_rows : {R X Y : Type 0} (p : X → Bool) (f : X → Option Y) (entries : R → List X) (g : R → Y) (rows : List R)
     → AllByRecursion (λ r. filter_map f (filter p (entries r)) ≡ g r ∷ []) rows

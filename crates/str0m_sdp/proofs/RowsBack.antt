@@ -1,6 +1,5 @@
 -- What the types of a section of plain, distinct rows are mapped to: each row's in order, and no type that needs no line.
-use Rattle.str0m_sdp.proofs.Common.{◌≡◌, ◌≢◌, ◌==◌, ◌&&◌, ◌||◌, ℕ, Bool, true, false, cond, not, List, [], ◌∷◌, ◌++◌, Option, Some, None, nat_eq, refl, sym, ap, ◌∙◌, arith, AllByRecursion, flat_map, list_any, eqb-true, or_left, or_right, append-nil, list_any-append, format_of_fmtp, empty, rtp_rate, types_of, types, same_codec, has, AllDistinct, Codec, CodecSpec, FormatParam, PayloadParams, IsPlain}
-use Rattle.std.specs.List.{filter, filter_map}
+use Rattle.str0m_sdp.proofs.Common.{◌≡◌, ◌≢◌, ◌==◌, ◌&&◌, ◌||◌, ℕ, Bool, true, false, cond, not, List, [], ◌∷◌, ◌++◌, Option, Some, None, nat_eq, refl, sym, ap, ◌∙◌, arith, AllByRecursion, flat_map, list_any, eqb-true, or_left, or_right, append-nil, list_any-append, format_of_fmtp, empty, rtp_rate, types_of, types, same_codec, has, AllDistinct, Codec, CodecSpec, FormatParam, PayloadParams, IsPlain, filter_map, IsPlainG722}
 use Rattle.str0m_formats.specs.declared.codec.Codec.TheVariants as codec
 use Rattle.str0m_sdp.specs.Consistency.{maps}
 use Rattle.str0m_sdp.specs.Lists.{distinct}
@@ -8,14 +7,13 @@ use Rattle.str0m_sdp.specs.Mappings.{mapped, unmapped, is_of, is_mapped_to, stat
 use Rattle.str0m_sdp.specs.RtpMap.{sampling_rate, channels_of, unless_one}
 use Rattle.str0m_sdp.specs.declared.attribute.MediaAttribute.{MediaAttribute}
 use Rattle.str0m_sdp.specs.declared.media_line.MediaLine.{MediaLine}
-use Rattle.str0m_formats.specs.PlainRow.{IsPlainG722}
-use Rattle.str0m_sdp.proofs.Parts.{both, weaker, each_among, none_passes, or_false, own_holds, AllFail, passes}
-use Rattle.str0m_sdp.proofs.Apart.{Apart, Roles, apart, self, pt_apart, rtx_apart}
-use Rattle.str0m_sdp.proofs.Apart.{red_apart, has-append, once_at_least}
+use Rattle.str0m_sdp.proofs.Parts.{all-filter, both, weaker, each_among, none_passes, or_false, own_holds, AllFail, passes}
+use Rattle.str0m_sdp.proofs.Apart.{Apart, Roles, apart, self, pt_apart, rtx_apart, red_apart, has-append}
 use Rattle.str0m_sdp.proofs.RowReads.{quiet}
 use Rattle.str0m_sdp.proofs.FrameAnswers.{HasNoTypes, NameNoType}
 use Rattle.str0m_sdp.proofs.RowAnswers.{NamesItself, entries, rtx_entry, red_entry, flipped}
 use Rattle.str0m_sdp.proofs.RowQuestions.{attrs_of, mappings_are, maps_are}
+use Rattle.str0m_formats.proofs.OneOutcome.{times-some}
 
 -- ---- the codec that the mapping of a plain row names
 
@@ -110,13 +108,7 @@ unlocked row = record row { locked = false }
 
 of_distinct : (P : ℕ → Type 0) (xs : List ℕ) → AllByRecursion P xs → AllByRecursion P (distinct nat_eq xs)
 of_distinct P [] h = tt
-of_distinct P (x ∷ xs) h = (h.0, kept (λ y. not (nat_eq x y)) (distinct nat_eq xs) (of_distinct P xs h.1)) where
-  kept : (p : ℕ → Bool) (ys : List ℕ) → AllByRecursion P ys → AllByRecursion P (filter p ys)
-  kept p [] k = tt
-  kept p (y ∷ ys) k = go (p y) (k.0) (kept p ys k.1) where
-    go : (b : Bool) → P y → AllByRecursion P (filter p ys) → AllByRecursion P (cond b (y ∷ filter p ys) (filter p ys))
-    go true u v = (u, v)
-    go false u v = v
+of_distinct P (x ∷ xs) h = (h.0, all-filter P (λ y. not (nat_eq x y)) (distinct nat_eq xs) (of_distinct P xs h.1))
 
 module _ (values : PayloadParams → List (List FormatParam)) where
   -- a frame's section with the types of the rows, and the frame's attributes before what their lines read as
@@ -130,7 +122,7 @@ module _ (values : PayloadParams → List (List FormatParam)) where
   pub is_said_mapped : (frame : List MediaAttribute) (rows : List PayloadParams) → HasNoTypes frame → (t : ℕ)
       → has (types rows) t ≡ true → list_any (maps t) (attrs_of values frame rows) ≡ true
   is_said_mapped frame rows bare t h =
-      let one = once_at_least (types rows) t h in
+      let one = times-some (types rows) t h in
       let same = maps_are values frame rows bare t in
       passes (maps t) (attrs_of values frame rows) (omega (arith, one, same))
 

@@ -1,25 +1,21 @@
 -- A section of plain, distinct rows is consistent, and each of its RTX and RED lines names one primary type.
-use Rattle.str0m_sdp.proofs.Common.{◌≡◌, ◌≢◌, ◌≤◌, inl, ℕ, Bool, true, false, List, [], ◌∷◌, ◌++◌, Option, Some, None, IfSome, All, refl, sym, ap, ◌∙◌, subst, arith, AllByRecursion, flat_map, false≢true, All-from_recursion, content, other, types, same_codec, has, AllDistinct, Codec, FormatParam, Apt, BarePtList, PayloadParams, IsPlain}
-use Rattle.std.specs.Prelude.{count_by}
-use Rattle.std.proofs.lemmas.Bool.{true≢false}
+use Rattle.str0m_sdp.proofs.Common.{◌≡◌, ◌≢◌, ◌≤◌, inl, ℕ, Bool, true, false, List, [], ◌∷◌, ◌++◌, Option, Some, None, IfSome, All, refl, sym, ap, ◌∙◌, subst, arith, AllByRecursion, flat_map, false≢true, All-from_recursion, content, other, types, same_codec, has, AllDistinct, Codec, FormatParam, Apt, BarePtList, PayloadParams, IsPlain, count_by, true≢false}
 use Rattle.str0m_formats.specs.declared.codec.Codec.TheVariants as codec
-use Rattle.str0m_sdp.specs.Consistency.{is_mid, is_setup, is_direction, maps, IsMapped, first_apt, NamesNoOther}
-use Rattle.str0m_sdp.specs.Consistency.{AgreesOnApt, Consistent}
+use Rattle.str0m_sdp.specs.Consistency.{is_mid, is_setup, is_direction, maps, IsMapped, first_apt, NamesNoOther, AgreesOnApt, Consistent}
 use Rattle.str0m_sdp.specs.Mappings.{mapped, is_mapped_to}
 use Rattle.str0m_sdp.specs.SectionOf.{is_of_type}
 use Rattle.str0m_sdp.specs.declared.attribute.MediaAttribute.{MediaAttribute}
-use Rattle.str0m_sdp.specs.declared.attribute.MediaAttribute.TheVariants.{Mid, Setup, RecvOnly, SendRecv, SendOnly, Inactive}
-use Rattle.str0m_sdp.specs.declared.attribute.MediaAttribute.TheVariants.{Fmtp}
+use Rattle.str0m_sdp.specs.declared.attribute.MediaAttribute.TheVariants.{Mid, Setup, RecvOnly, SendRecv, SendOnly, Inactive, Fmtp}
 use Rattle.str0m_sdp.specs.declared.media_line.MediaLine.{MediaLine}
 use Rattle.str0m_sdp.specs.declared.proto.Proto.TheVariants.{Srtp}
 use Rattle.str0m_sdp.specs.NamesOne.{NamesOne, primary_types}
-use Rattle.str0m_sdp.proofs.Parts.{both, weaker, over_lines, each_among, taken_apart, count-append, none_counted}
-use Rattle.str0m_sdp.proofs.Apart.{once_at_least}
+use Rattle.str0m_sdp.proofs.Parts.{always, both, weaker, over_lines, each_among, taken_apart, count-append, none_counted}
 use Rattle.str0m_sdp.proofs.RowReads.{each}
 use Rattle.str0m_sdp.proofs.FrameAnswers.{HasNoTypes, NameNoType, NamesNoType}
 use Rattle.str0m_sdp.proofs.RowQuestions.{lines, attrs_of, apt_is, maps_are}
 use Rattle.str0m_sdp.proofs.RowsBack.{IsSaid, section, each_type}
 use Rattle.str0m_sdp.proofs.RowsAgain.{pt_mapped, rtx_mapped, red_mapped, primary_among}
+use Rattle.str0m_formats.proofs.OneOutcome.{times-some}
 
 -- ---- what is counted stands in the frame alone
 
@@ -52,7 +48,7 @@ no_companion codec.Rtx h = absurd (h refl)
 no_companion codec.Red h = absurd (h refl)
 no_companion _ h = (refl, refl)
 
-frame_agrees : (attrs : List MediaAttribute) (attr : MediaAttribute) → is_of_type attr ≡ false → AgreesOnApt attrs attr
+pub frame_agrees : (attrs : List MediaAttribute) (attr : MediaAttribute) → is_of_type attr ≡ false → AgreesOnApt attrs attr
 frame_agrees attrs (Fmtp n v) h = absurd (true≢false h)
 frame_agrees attrs _ h = tt
 
@@ -63,12 +59,8 @@ frame_names m _ h = tt
 module _ (values : PayloadParams → List (List FormatParam)) where
   of_types : (rows : List PayloadParams) → AllByRecursion (λ attr. is_of_type attr ≡ true) (flat_map (lines values) rows)
   of_types rows = over_lines (λ attr. is_of_type attr ≡ true) (lines values) rows (each_among _ rows (λ before row after e.
-      each (λ attr. is_of_type attr ≡ true) row (values row) (λ m. refl) (λ w. refl) (formats row (values row))
+      each (λ attr. is_of_type attr ≡ true) row (values row) (λ m. refl) (λ w. refl) (always _ (λ v. refl) (values row))
       (λ n k. (λ m. refl, refl)) (λ n k. (λ m. refl, refl))))
-    where
-      formats : (row : PayloadParams) (vs : List (List FormatParam)) → AllByRecursion (λ v. is_of_type (Fmtp row.pt v) ≡ true) vs
-      formats row [] = tt
-      formats row (v ∷ vs) = (refl, formats row vs)
 
   -- what no line of a type passes is counted in the frame alone
   pub frame_alone : (p : MediaAttribute → Bool) → ((attr : MediaAttribute) → is_of_type attr ≡ true → p attr ≡ false)
@@ -89,7 +81,7 @@ module _ (values : PayloadParams → List (List FormatParam)) where
           once : (t : ℕ) → has (types rows) t ≡ true → count_by (maps t) (attrs_of values frame.attrs rows) ≡ 1
           once t h =
               let same = maps_are values frame.attrs rows bare t in
-              let one = once_at_least (types rows) t h in
+              let one = times-some (types rows) t h in
               let at_most = d t in
               omega (arith, same, one, at_most)
 
@@ -159,7 +151,7 @@ module _ (values : PayloadParams → List (List FormatParam)) where
         one : (before : List PayloadParams) (row : PayloadParams) (after : List PayloadParams) → rows ≡ before ++ row ∷ after
             → AllByRecursion (NamesOne m) (lines values row)
         one before row after e =
-            each (NamesOne m) row (values row) (λ m. tt) (λ w. tt) (format (values row))
+            each (NamesOne m) row (values row) (λ m. tt) (λ w. tt) (always _ format (values row))
             (λ n is. (λ m. tt, (λ named. (row.pt, primary, refl), λ named. absurd (true≢false (sym named ∙ of_rtx n is)))))
             (λ n is. (λ m. tt, (λ named. absurd (true≢false (sym named ∙ of_red n is)), λ named. (row.pt, primary, refl))))
           where
@@ -193,12 +185,8 @@ module _ (values : PayloadParams → List (List FormatParam)) where
                 ap (λ xs. is_mapped_to c (mapped (section values frame xs)) row.pt) e
                 ∙ pt_mapped values frame bare before row after plain' d' c ∙ fails
 
-            format : (vs : List (List FormatParam)) → AllByRecursion (λ v. NamesOne m (Fmtp row.pt v)) vs
-            format [] = tt
-            format (v ∷ vs) = (
-              (
-                λ named. absurd (true≢false (sym named ∙ of_pt codec.Rtx (no_companion row.spec.codec carried).0)),
-                λ named. absurd (true≢false (sym named ∙ of_pt codec.Red (no_companion row.spec.codec carried).1)),
-              ),
-              format vs,
+            format : (v : List FormatParam) → NamesOne m (Fmtp row.pt v)
+            format v = (
+              λ named. absurd (true≢false (sym named ∙ of_pt codec.Rtx (no_companion row.spec.codec carried).0)),
+              λ named. absurd (true≢false (sym named ∙ of_pt codec.Red (no_companion row.spec.codec carried).1)),
             )

@@ -1,6 +1,5 @@
 -- The row of a type, as tables tell it.
-use Rattle.str0m_sdp.proofs.Common.{◌≡◌, ◌<◌, ◌++◌, ℕ, List, [], ◌∷◌, Option, Some, None, Result, Ok, Err, option_to_list, if◌then◌else◌, refl, sym, ap, ◌∙◌, format_of_fmtp, CodecSpec, FormatParams, PayloadParams}
-use Rattle.std.proofs.Common.{OnOk, is_ok, option_map}
+use Rattle.str0m_sdp.proofs.Common.{◌≡◌, ◌<◌, ◌++◌, ℕ, List, [], ◌∷◌, Option, Some, None, Result, Ok, Err, option_to_list, if◌then◌else◌, refl, sym, ap, ◌∙◌, format_of_fmtp, CodecSpec, FormatParams, PayloadParams, OnOk, is_ok, option_map}
 use Rattle.str0m_sdp.specs.SectionRows.{lines_of, row, row_with}
 use Rattle.str0m_sdp.specs.TypeWords.{row_of, SayOf}
 use Rattle.str0m_sdp.specs.declared.media_line.MediaLine.{MediaLine}

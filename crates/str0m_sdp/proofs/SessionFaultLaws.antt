@@ -1,12 +1,9 @@
 -- Laws of the first fault of a session: there is none where the session is consistent, and only there.
-use Rattle.str0m_sdp.proofs.Common.{◌≡◌, ℕ, Bool, true, false, inl, inr, List, [], ◌∷◌, Option, Some, None, All, arith, filter_map, length, refl, sym, ap, ◌↔◌, cases_eq, eq-eqb, ne_eqb, ◌<|>◌, when}
-use Rattle.std.proofs.Common.{MatchOption}
-use Rattle.std.proofs.Common.{option_map}
+use Rattle.str0m_sdp.proofs.Common.{◌≡◌, ℕ, Bool, true, false, inl, inr, List, [], ◌∷◌, Option, Some, None, All, arith, filter_map, length, refl, sym, ap, ◌↔◌, cases_eq, eq-eqb, ne_eqb, ◌<|>◌, when, MatchOption, option_map}
 use Rattle.str0m_sdp.specs.Consistency.{Consistent}
 use Rattle.str0m_sdp.specs.Fault.{fault_text, first_fault, section_message}
 use Rattle.str0m_sdp.specs.SessionConsistency.{AreDistinct, ConsistentSdp, IsGrouped, first_group, is_listed, parts, section_mids}
-use Rattle.str0m_sdp.specs.SessionFault.{first_again, first_difference, first_session_fault, group_fault, listing_fault}
-use Rattle.str0m_sdp.specs.SessionFault.{sections_message}
+use Rattle.str0m_sdp.specs.SessionFault.{first_again, first_difference, first_session_fault, group_fault, listing_fault, sections_message}
 use Rattle.str0m_sdp.specs.declared.fault.SessionFault.{SessionFault}
 use Rattle.str0m_sdp.specs.declared.fault.SessionFault.TheVariants.{SharedMid, Order}
 use Rattle.str0m_sdp.specs.declared.media_line.MediaLine.{MediaLine}

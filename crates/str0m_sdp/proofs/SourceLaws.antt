@@ -1,11 +1,7 @@
 -- Laws of sources and their places.
-use Rattle.str0m_sdp.proofs.Common.{◌≡◌, ◌<◌, ◌++◌, ℕ, zero, suc, Bool, true, false, cond, nat_eq, List, [], ◌∷◌, length, get_or, Option, None, Some, refl, sym, ap, ◌∙◌, arith, true≢false, codes, option_map, slice_get, slice_set, get, nat_eq_equiv, lookup, str_eq_ignore_ascii_case, nat_cmp, insert_entry}
+use Rattle.str0m_sdp.proofs.Common.{◌≡◌, ◌<◌, ◌++◌, ℕ, zero, suc, Bool, true, false, cond, nat_eq, List, [], ◌∷◌, length, get_or, Option, None, Some, refl, sym, ap, ◌∙◌, arith, true≢false, codes, option_map, slice_get, slice_set, get, nat_eq_equiv, lookup, str_eq_ignore_ascii_case, nat_cmp, insert_entry, eqb-true, unwrap_or, if◌then◌else◌, unsigned_tied, get_or_from_slice_get}
 use Rattle.std.specs.Map.{values_of}
-use Rattle.std.proofs.Common.{eqb-true}
-use Rattle.std.specs.Prelude.{unwrap_or, if◌then◌else◌}
 use Rattle.std.specs.BTreeMap.{BTreeMap, Updates}
-use Rattle.std.specs.Cmp.{unsigned_tied}
-use Rattle.std.proofs.lemmas.Option.{get_or_from_slice_get}
 use Rattle.str0m_sdp.specs.Sources.{entries_of, place_in}
 use Rattle.str0m_sdp.specs.SsrcInfo.{empty_info}
 use Rattle.str0m_sdp.specs.SsrcReading.{so_far, with_ids, with_value}

@@ -1,13 +1,7 @@
 -- What is gathered of sources, attribute by attribute, is what the attributes say.
-use Rattle.str0m_sdp.proofs.Common.{◌≡◌, ◌<◌, ◌+◌, ◌||◌, ◌&&◌, ℕ, suc, Bool, true, false, cond, nat_eq, List, [], ◌∷◌, ◌++◌, get_or, length, map, take, Option, None, Some, refl, sym, ap, subst, ◌∙◌, append_assoc, true≢false, codes, slice_get, nat_eq_equiv, bytes_decides, cons_option, list_any, IsDistinct, lookup, option_or, unwrap_or, str_eq_ignore_ascii_case, append-nil, take_more, filter_map-append, insert_entry, insert_key, insert_all, when}
-use Rattle.std.proofs.Common.{eqb-true}
-use Rattle.std.specs.List.{filter_map}
+use Rattle.str0m_sdp.proofs.Common.{◌≡◌, ◌<◌, ◌+◌, ◌||◌, ◌&&◌, ℕ, suc, Bool, true, false, cond, nat_eq, List, [], ◌∷◌, ◌++◌, get_or, length, map, take, Option, None, Some, refl, sym, ap, subst, ◌∙◌, append_assoc, true≢false, codes, slice_get, nat_eq_equiv, bytes_decides, cons_option, list_any, IsDistinct, lookup, option_or, unwrap_or, str_eq_ignore_ascii_case, append-nil, take_more, filter_map-append, insert_entry, insert_key, insert_all, when, eqb-true, filter_map, option_map, option_flatten, str_to_ascii_lowercase, fold-append, ◌>>=◌, cut, before}
 use Rattle.std.specs.Map.{keys_of, values_of}
-use Rattle.std.specs.Option.{option_map, option_flatten}
-use Rattle.std.specs.Str.{str_to_ascii_lowercase}
-use Rattle.std.proofs.lemmas.List.Sums.{fold-append}
 use Rattle.std.proofs.lemmas.Map.Entries.{lookup_from_place}
-use Rattle.str0m_values.specs.Cuts.{◌>>=◌, cut, before}
 use Rattle.str0m_sdp.specs.Lists.{last, distinct}
 use Rattle.str0m_sdp.specs.SsrcInfo.{source_of, repair_pair, repair_source, value_of, repaired_by, cname_said, id_of, stream_said, track_said, latest, info, infos, empty_info}
 use Rattle.str0m_sdp.specs.SsrcReading.{track_after, with_ids, with_value, so_far, info_from, AreGathered}

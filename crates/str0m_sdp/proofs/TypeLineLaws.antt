@@ -1,7 +1,9 @@
 -- Laws of fmtp lines by their types.
-use Rattle.str0m_sdp.proofs.Common.{◌≡◌, ◌<◌, ◌+◌, ◌++◌, ℕ, inl, inr, List, [], ◌∷◌, All, length, take, get_or, sym, ap, subst, ◌∙◌, slice_set, Bor, cases_eq, eq-eqb, ne_eqb, get_or-set_other, length-set, FormatParam}
-use Rattle.std.proofs.lemmas.Grind.{get_or-set_at}
-use Rattle.str0m_sdp.specs.TypeLines.{AreGrouped}
+use Rattle.str0m_sdp.proofs.Common.{◌≡◌, ◌<◌, ◌+◌, ◌++◌, ℕ, true, false, inl, inr, List, [], ◌∷◌, All, length, take, get_or, refl, sym, ap, subst, ◌∙◌, slice_set, Bor, cases_eq, eq-eqb, ne_eqb, get_or-set_other, length-set, All-nil, All-push, All-same, line_values, FormatParam, get_or-set_at}
+use Rattle.str0m_sdp.specs.FmtpLines.{lines_with}
+use Rattle.str0m_sdp.specs.SectionRows.{lines_of}
+use Rattle.str0m_sdp.specs.TypeLines.{AreGrouped, AreKnown, IsGroup, IsKnown}
+use Rattle.str0m_sdp.specs.declared.attribute.MediaAttribute.{MediaAttribute}
 use Rattle.str0m_sdp.specs.declared.type_lines.TypeLines.{TypeLines}
 use Rattle.str0m_sdp.proofs.FmtpLineLaws.{found_own, found_other}
 

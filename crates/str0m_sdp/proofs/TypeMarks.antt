@@ -1,11 +1,6 @@
 -- Tables that mark types, one item more.
-use Rattle.str0m_sdp.proofs.Common.{◌≡◌, ◌<◌, ◌+◌, ◌==◌, ℕ, Bool, true, false, ◌&&◌, ◌||◌, List, length, take, get_or, refl, sym, ap, ◌∙◌, inl, inr, list_any, cases_eq, eq-eqb, ne_eqb, or_right, get_or-set_same, get_or-set_other}
-use Rattle.std.proofs.Common.{set}
-use Rattle.std.proofs.lemmas.List.Folds.{list_any_more}
-
-pub or_false : (b : Bool) → (b || false) ≡ b
-or_false true = refl
-or_false false = refl
+use Rattle.str0m_sdp.proofs.Common.{◌≡◌, ◌<◌, ◌+◌, ◌==◌, ℕ, Bool, true, false, ◌&&◌, ◌||◌, List, length, take, get_or, refl, sym, ap, ◌∙◌, inl, inr, list_any, cases_eq, eq-eqb, ne_eqb, or_right, get_or-set_same, get_or-set_other, set, list_any_more}
+use Rattle.str0m_sdp.proofs.Parts.{or_false}
 
 pub and_true : (a b : Bool) → b ≡ true → (a && b) ≡ a
 and_true true b is = is

@@ -1,7 +1,5 @@
 -- Tables by payload type, one attribute more.
-use Rattle.str0m_sdp.proofs.Common.{◌≡◌, ◌<◌, ◌+◌, ◌++◌, ℕ, true, false, List, [], ◌∷◌, length, take, get_or, Option, Some, None, count_by, refl, sym, ap, ◌∙◌, inl, inr, cases_eq, eq-eqb, ne_eqb, take_at_read, get_or-set_same, get_or-set_other, FormatParam, ◌<|>◌}
-use Rattle.std.proofs.Common.{is_some, set}
-use Rattle.std.proofs.lemmas.List.Sums.{count_by_more_no, count_by_more_yes}
+use Rattle.str0m_sdp.proofs.Common.{◌≡◌, ◌<◌, ◌+◌, ◌++◌, ℕ, true, false, List, [], ◌∷◌, length, take, get_or, Option, Some, None, count_by, refl, sym, ap, ◌∙◌, inl, inr, cases_eq, eq-eqb, ne_eqb, take_at_read, get_or-set_same, get_or-set_other, FormatParam, ◌<|>◌, is_some, set, count_by_more_no, count_by_more_yes}
 use Rattle.str0m_sdp.specs.Consistency.{maps, apt_among, apt_in, first_apt, AgreesOnApt}
 use Rattle.str0m_sdp.specs.declared.attribute.MediaAttribute.{MediaAttribute}
 use Rattle.str0m_sdp.specs.declared.attribute.MediaAttribute.TheVariants.{RtpMap, Fmtp}

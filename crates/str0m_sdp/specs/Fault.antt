@@ -1,6 +1,5 @@
 -- Which fault of a section is told, where it isn't consistent, and what the message says.
-use Rattle.std.specs.Prelude.{ℕ, not, ◌==◌, ◌&&◌, nat_lt, is_some, List, ◌++◌, codes, length, filter_map, count_by, if◌then◌else◌}
-use Rattle.std.specs.Prelude.{Option, Some, None, option_map, Result, Ok, Err}
+use Rattle.std.specs.Prelude.{ℕ, not, ◌==◌, ◌&&◌, nat_lt, is_some, List, ◌++◌, codes, length, filter_map, count_by, if◌then◌else◌, Option, Some, None, option_map, Result, Ok, Err}
 use Rattle.std.specs.Fmt.{decimal}
 use Rattle.str0m_formats.specs.declared.format_param.FormatParam.{FormatParam}
 use Rattle.str0m_values.specs.Cuts.{◌<|>◌, when}
@@ -13,8 +12,7 @@ use Rattle.str0m_sdp.specs.declared.attribute.MediaAttribute.{MediaAttribute}
 use Rattle.str0m_sdp.specs.declared.attribute.MediaAttribute.TheVariants.{Fmtp}
 use Rattle.str0m_sdp.specs.declared.fault.Clash.{Clash}
 use Rattle.str0m_sdp.specs.declared.fault.Fault.{Fault}
-use Rattle.str0m_sdp.specs.declared.fault.Fault.TheVariants.{MissingMid, SecondMid, SecondSetup, Directions}
-use Rattle.str0m_sdp.specs.declared.fault.Fault.TheVariants.{MissingType, MissingMap, SecondMap, Apts}
+use Rattle.str0m_sdp.specs.declared.fault.Fault.TheVariants.{MissingMid, SecondMid, SecondSetup, Directions, MissingType, MissingMap, SecondMap, Apts}
 use Rattle.str0m_sdp.specs.declared.media_line.MediaLine.{MediaLine}
 use Rattle.str0m_sdp.specs.declared.proto.Proto.{Proto}
 use Rattle.str0m_sdp.specs.declared.proto.Proto.TheVariants.{Srtp, Sctp}

@@ -1,7 +1,6 @@
 use Rattle.str0m_sdp.proofs.Common.{Bool, sym, ap, ◌∙◌, true≢false, drop_all}
 use Rattle.str0m_sdp.specs.Alike.{shown}
 use Rattle.str0m_sdp.proofs.AlikeLaws.{shown_from, one_ends, firsts_differ, firsts_agree, both_end, first_passed}
-use Rattle.str0m_sdp.proofs.alike.are_same_shown.Goals.{then-is_shown+in-Some+else-not-is_same, else-is_shown}
 use Rattle.str0m_sdp.proofs.alike.are_same_shown.Goals as goal
 
 pub returns-in_default : goal.returns-in_default
@@ -19,10 +18,10 @@ pub loop-value-preserved : goal.loop-value-preserved
 loop-value-preserved c =
     let at = λ (b : Bool). shown_from c.args.values.now c.loop-value.value-index c.value-item.result b c.loop-value-test.true c.value-item.is in
     elim c.if-is_shown.branch [
-      | then-is_shown+in-Some+else-not-is_same w ↦
+      | goal.then-is_shown+in-Some+else-not-is_same w ↦
           let same = w.is_same.ensures.0 w.if-not-is_same.false ∙ w.as_read.ensures in
           rw w.left-is (firsts_agree _ _ _ _ _ _ c.loop-value.invariant (at _ (sym w.if-is_shown.ensures)) w.in-Some.ensures same)
-      | else-is_shown w ↦ rw w.left-is (first_passed _ _ _ c.loop-value.invariant (at _ (sym w.if-is_shown.ensures)))
+      | goal.else-is_shown w ↦ rw w.left-is (first_passed _ _ _ c.loop-value.invariant (at _ (sym w.if-is_shown.ensures)))
     ]
 
 pub returns : goal.returns

@@ -1,5 +1,4 @@
-use Rattle.str0m_sdp.proofs.Common.{◌≡◌, length}
-use Rattle.std.specs.List.{filter_map}
+use Rattle.str0m_sdp.proofs.Common.{◌≡◌, length, filter_map}
 use Rattle.str0m_sdp.proofs.candidates.first_candidate.Given as goal
 
 -- no candidate has been passed over

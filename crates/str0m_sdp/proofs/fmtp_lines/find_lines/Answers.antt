@@ -1,6 +1,5 @@
 use Rattle.str0m_sdp.proofs.Common.{sym, ◌∙◌}
 use Rattle.str0m_sdp.proofs.FmtpLineLaws.{found_own, found_other}
-use Rattle.str0m_sdp.proofs.fmtp_lines.find_lines.Goals.{then-is_of+in_ok-push, else-is_of}
 use Rattle.str0m_sdp.proofs.fmtp_lines.find_lines.Goals as goal
 
 pub loop-number-preserved : goal.loop-number-preserved
@@ -12,8 +11,8 @@ loop-number-preserved c =
     let lt = c.loop-number-test.true in
     let is = c.loop-number-item.is in
     elim c.if-is_of.branch [
-      | then-is_of+in_ok-push w ↦
+      | goal.then-is_of+in_ok-push w ↦
           rw (w.found-is, w.in_ok-push.ensures.items) (found_own lines found i c.args.pt item lt is (sym c.is_of.ensures ∙ w.if-is_of.true) c.loop-number.invariant)
-      | else-is_of w ↦
+      | goal.else-is_of w ↦
           rw w.found-is (found_other lines found i c.args.pt item lt is (sym c.is_of.ensures ∙ w.if-is_of.false) c.loop-number.invariant)
     ]

@@ -2,7 +2,6 @@ use Rattle.str0m_sdp.proofs.Common.{List, filter_map, ap, ◌∙◌, take_all}
 use Rattle.str0m_sdp.specs.Mappings.{mapping}
 use Rattle.str0m_sdp.specs.declared.attribute.MediaAttribute.{MediaAttribute}
 use Rattle.str0m_sdp.proofs.MappingLaws.{mapping_more, mapping_other}
-use Rattle.str0m_sdp.proofs.mappings.mappings.Goals.{in-RtpMap+in_ok-extend_from_slice, in_default}
 use Rattle.str0m_sdp.proofs.mappings.mappings.Goals as goal
 
 pub loop-attr-preserved : goal.loop-attr-preserved
@@ -12,10 +11,10 @@ loop-attr-preserved c =
     let attr = c.attr-item.result in
     let lt = c.loop-attr-test.true in
     elim c.match-attr.branch [
-      | in-RtpMap+in_ok-extend_from_slice w ↦
+      | goal.in-RtpMap+in_ok-extend_from_slice w ↦
           rw (w.rows-is, w.in_ok-extend_from_slice.ensures.items, w.from.ensures)
           (mapping_more attrs c.loop-attr.rows.items i _ _ attr lt c.attr-item.is w.in-RtpMap.is c.loop-attr.invariant)
-      | in_default w ↦
+      | goal.in_default w ↦
           rw w.rows-is (mapping_other attrs c.loop-attr.rows.items i attr lt c.attr-item.is w.in_default.not-RtpMap c.loop-attr.invariant)
     ]
 

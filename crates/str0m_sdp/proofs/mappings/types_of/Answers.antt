@@ -1,8 +1,6 @@
-use Rattle.str0m_sdp.proofs.Common.{◌||◌, Bool, take, ap, sym, refl, ◌∙◌, list_any, get_or-replicate, length-set}
-use Rattle.std.proofs.lemmas.Bool.{and_right}
+use Rattle.str0m_sdp.proofs.Common.{◌||◌, Bool, take, ap, sym, refl, ◌∙◌, list_any, get_or-replicate, length-set, and_right}
 use Rattle.str0m_sdp.proofs.TypeMarks.{any_more, any_same, marked, and_true}
 use Rattle.str0m_sdp.specs.Mappings.{is_of}
-use Rattle.str0m_sdp.proofs.mappings.types_of.Goals.{then-eq, else-eq}
 use Rattle.str0m_sdp.proofs.mappings.types_of.Goals as goal
 
 pub loop-pt-init : goal.loop-pt-init
@@ -15,7 +13,7 @@ loop-pt-preserved c =
     let item = c.loop-pt-item.result in
     let passes = is_of c.args.codec in
     elim c.if-eq.branch [
-      | then-eq w ↦
+      | goal.then-eq w ↦
           let row = rw (← c.loop-pt.invariant.0, w.place.ensures.is) at w.place.ensures.within in
           rw (w.types-is, w.place.ensures.is) (
             length-set c.loop-pt.types item.0 _ ∙ c.loop-pt.invariant.0,
@@ -23,7 +21,7 @@ loop-pt-preserved c =
                 ∙ sym (any_more (passes pt) rows i item c.loop-pt-test.true c.loop-pt-item.is
                 ∙ ap (λ (b : Bool). list_any (passes pt) (take i rows) || b) (and_true _ _ (sym c.eq.ensures ∙ w.if-eq.true))),
           )
-      | else-eq w ↦
+      | goal.else-eq w ↦
           rw w.types-is (
             c.loop-pt.invariant.0,
             λ pt lt. c.loop-pt.invariant.1 pt lt

@@ -2,7 +2,6 @@ use Rattle.str0m_sdp.proofs.Common.{Some, ap, filter_map, sym, take, ◌∙◌, 
 use Rattle.str0m_sdp.specs.PreferredFingerprint.{better, preferred}
 use Rattle.str0m_sdp.proofs.ListLaws.{filter_map_more, filter_map_same}
 use Rattle.str0m_sdp.proofs.Preferred.{preferred_more}
-use Rattle.str0m_sdp.proofs.preferred_fingerprint.preferred.Goals.{in-Some, in_default}
 use Rattle.str0m_sdp.proofs.preferred_fingerprint.preferred.Goals as goal
 
 pub loop-attr-preserved : goal.loop-attr-preserved
@@ -11,14 +10,14 @@ loop-attr-preserved g c =
     let attrs = c.args.attrs.now in
     let i = c.loop-attr.attr-index in
     elim c.match-as_fingerprint.branch [
-      | in-Some w ↦
+      | goal.in-Some w ↦
           let print = w.in-Some.print.now in
           ap option_copied w.best-is
           ∙ ap Some w.better.ensures
           ∙ ap (λ best. Some (better best print)) c.loop-attr.invariant
           ∙ sym (preferred_more (filter_map held (take i attrs)) print)
           ∙ ap preferred (sym (filter_map_more held attrs i c.attr-item.result print c.loop-attr-test.true c.attr-item.is w.in-Some.ensures))
-      | in_default w ↦
+      | goal.in_default w ↦
           ap option_copied w.best-is
           ∙ c.loop-attr.invariant
           ∙ ap preferred (sym (filter_map_same held attrs i c.attr-item.result c.loop-attr-test.true c.attr-item.is w.in_default.ensures))

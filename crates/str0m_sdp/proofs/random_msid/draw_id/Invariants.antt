@@ -1,5 +1,4 @@
-use Rattle.str0m_sdp.proofs.Common.{◌≡◌, ◌≤◌, map, string_bytes}
-use Rattle.std.specs.String.{string_len, string_capacity}
+use Rattle.str0m_sdp.proofs.Common.{◌≡◌, ◌≤◌, map, string_bytes, string_len, string_capacity}
 use Rattle.str0m_sdp.specs.RandomId.{words, after_words, letter_of}
 use Rattle.str0m_sdp.proofs.random_msid.draw_id.Given as goal
 

@@ -1,5 +1,4 @@
-use Rattle.str0m_sdp.proofs.Common.{rules, tests, YieldsList-from_slice}
-use Rattle.std.specs.Prelude.{filter_map}
+use Rattle.str0m_sdp.proofs.Common.{rules, tests, YieldsList-from_slice, filter_map}
 use Rattle.str0m_sdp.specs.Lists.{first}
 use Rattle.str0m_sdp.specs.Transport.{media_setup}
 use Rattle.str0m_sdp.specs.declared.media_line.MediaLine.{MediaLine}

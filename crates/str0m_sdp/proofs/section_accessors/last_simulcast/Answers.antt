@@ -1,5 +1,4 @@
-use Rattle.str0m_sdp.proofs.Common.{rules, tests, ◌∙◌}
-use Rattle.std.proofs.lemmas.Iterator.Adapters.{YieldsList-from_rev_slice}
+use Rattle.str0m_sdp.proofs.Common.{rules, tests, ◌∙◌, YieldsList-from_rev_slice}
 use Rattle.str0m_sdp.specs.SectionAccessors.{simulcast_of}
 use Rattle.str0m_sdp.proofs.Finding.{first_from_find_map}
 use Rattle.str0m_sdp.proofs.ListLaws.{first_reversed}

@@ -1,5 +1,4 @@
-use Rattle.str0m_sdp.proofs.Common.{ap, arith, sym, ◌∙◌, is_some}
-use Rattle.std.proofs.lemmas.Option.{same_Some}
+use Rattle.str0m_sdp.proofs.Common.{ap, arith, sym, ◌∙◌, is_some, same_Some}
 use Rattle.str0m_sdp.specs.Consistency.{is_direction}
 use Rattle.str0m_sdp.proofs.ListLaws.{first_within, position_within}
 use Rattle.str0m_sdp.proofs.section_direction.direction_place.Goals as goal

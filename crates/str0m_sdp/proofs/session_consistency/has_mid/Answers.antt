@@ -1,7 +1,5 @@
-use Rattle.str0m_sdp.proofs.Common.{rules, bytes_eq, YieldsList-from_slice}
-use Rattle.std.proofs.lemmas.Iterator.Consumers.{YieldsList-from_filter_map}
+use Rattle.str0m_sdp.proofs.Common.{rules, bytes_eq, YieldsList-from_slice, YieldsList-from_filter_map, tests}
 use Rattle.std.proofs.lemmas.Iterator.Search.{any_from_yields_List}
-use borrow.Author.Tests.{tests}
 use Rattle.str0m_sdp.specs.SessionConsistency.{section_mid}
 use Rattle.str0m_sdp.proofs.session_consistency.has_mid.Goals as goal
 

@@ -1,5 +1,4 @@
-use Rattle.str0m_sdp.proofs.Common.{◌≤◌, length}
-use Rattle.std.proofs.Common.{◌-◌}
+use Rattle.str0m_sdp.proofs.Common.{◌≤◌, length, ◌-◌}
 use Rattle.str0m_sdp.proofs.TypeLineLaws.{AreEmpty}
 use Rattle.str0m_sdp.proofs.type_lines.no_lines.Given as goal
 

@@ -1,6 +1,5 @@
 use Rattle.str0m_sdp.proofs.Common.{refl, ◌∙◌, get_or-replicate, length-set}
 use Rattle.str0m_sdp.proofs.TypeTableLaws.{count_same, count_more}
-use Rattle.str0m_sdp.proofs.type_tables.count_maps.Goals.{in-RtpMap, in_default}
 use Rattle.str0m_sdp.proofs.type_tables.count_maps.Goals as goal
 
 pub loop-attr-init : goal.loop-attr-init
@@ -11,7 +10,7 @@ loop-attr-preserved c =
     let attrs = c.args.attrs.now in
     let i = c.loop-attr.attr-index in
     elim c.match-attr.branch [
-      | in-RtpMap w ↦
+      | goal.in-RtpMap w ↦
           let n = w.place.result in
           let row = rw (← c.loop-attr.invariant.0) at w.place.ensures.within in
           let variant = rw (← w.place.ensures.is) at w.in-RtpMap.is in
@@ -19,7 +18,7 @@ loop-attr-preserved c =
             length-set c.loop-attr.counts n _ ∙ c.loop-attr.invariant.0,
             λ pt lt. count_more attrs c.loop-attr.counts i n w.in-RtpMap.value c.attr-item.result c.loop-attr-test.true row c.attr-item.is variant pt (c.loop-attr.invariant.1 pt lt),
           )
-      | in_default w ↦
+      | goal.in_default w ↦
           rw w.counts-is (
             c.loop-attr.invariant.0,
             λ pt lt. count_same attrs c.loop-attr.counts i c.attr-item.result c.loop-attr-test.true c.attr-item.is w.in_default.not-RtpMap pt (c.loop-attr.invariant.1 pt lt),

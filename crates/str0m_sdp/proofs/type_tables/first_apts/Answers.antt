@@ -1,8 +1,5 @@
-use Rattle.str0m_sdp.proofs.Common.{◌≡◌, ◌<◌, ℕ, List, Option, None, get_or, length, not, refl, sym, ap, ◌∙◌, get_or-replicate, length-set}
-use Rattle.std.proofs.Common.{is_some}
-use Rattle.std.proofs.lemmas.List.{get_or_read}
+use Rattle.str0m_sdp.proofs.Common.{◌≡◌, ◌<◌, ℕ, List, Option, None, get_or, length, not, refl, sym, ap, ◌∙◌, get_or-replicate, length-set, is_some, get_or_read}
 use Rattle.str0m_sdp.proofs.TypeTableLaws.{first_other, first_kept, first_named}
-use Rattle.str0m_sdp.proofs.type_tables.first_apts.Goals.{in-Fmtp+then-is_none, in-Fmtp+else-is_none, in_default}
 use Rattle.str0m_sdp.proofs.type_tables.first_apts.Goals as goal
 
 -- the place that is read, by any default
@@ -18,7 +15,7 @@ loop-attr-preserved c =
     let firsts = c.loop-attr.firsts in
     let i = c.loop-attr.attr-index in
     elim c.match-attr.branch [
-      | in-Fmtp+then-is_none w ↦
+      | goal.in-Fmtp+then-is_none w ↦
           let n = w.place-place.result in
           let row = rw (← c.loop-attr.invariant.0) at w.place-place.ensures.within in
           let variant = rw (← w.place-place.ensures.is, ← w.as_slice.ensures) at w.in-Fmtp.is in
@@ -27,7 +24,7 @@ loop-attr-preserved c =
             length-set firsts n _ ∙ c.loop-attr.invariant.0,
             λ pt lt. first_named attrs firsts i n w.as_slice.result.now c.attr-item.result c.loop-attr-test.true row c.attr-item.is variant empty pt (c.loop-attr.invariant.1 pt lt),
           )
-      | in-Fmtp+else-is_none w ↦
+      | goal.in-Fmtp+else-is_none w ↦
           let n = w.place-place.result in
           let row = rw (← c.loop-attr.invariant.0) at w.place-place.ensures.within in
           let variant = rw (← w.place-place.ensures.is) at w.in-Fmtp.is in
@@ -36,7 +33,7 @@ loop-attr-preserved c =
             c.loop-attr.invariant.0,
             λ pt lt. first_kept attrs firsts i n w.in-Fmtp.values c.attr-item.result c.loop-attr-test.true c.attr-item.is variant full pt (c.loop-attr.invariant.1 pt lt),
           )
-      | in_default w ↦
+      | goal.in_default w ↦
           rw w.firsts-is (
             c.loop-attr.invariant.0,
             λ pt lt. first_other attrs firsts i c.attr-item.result c.loop-attr-test.true c.attr-item.is w.in_default.not-Fmtp pt (c.loop-attr.invariant.1 pt lt),

@@ -1,22 +1,20 @@
-use Rattle.str0m_sdp.proofs.Common.{ap, subst, sym, ◌∙◌}
-use Rattle.std.specs.List.{filter_map}
+use Rattle.str0m_sdp.proofs.Common.{ap, subst, sym, ◌∙◌, filter_map}
 use Rattle.str0m_sdp.specs.Sources.{ArePlaced, entries}
 use Rattle.str0m_sdp.specs.SsrcInfo.{source_of}
 use Rattle.str0m_sdp.proofs.SsrcLaws.{put_repair, pass_repair}
 use Rattle.str0m_sdp.proofs.media_line.MediaLine.add_repairs.Goals as goal
-use Rattle.str0m_sdp.proofs.media_line.MediaLine.add_repairs.Goals.{in-Some+in_ok-add_repair, in_default}
 
 pub loop-line-preserved : goal.loop-line-preserved
 loop-line-preserved c =
     let lines = c.as_slice-line-items.result.now in
     let es = entries c.loop-line.sources in
     elim c.match-repair_pair.branch [
-      | in-Some+in_ok-add_repair w ↦ (
+      | goal.in-Some+in_ok-add_repair w ↦ (
         put_repair (filter_map source_of lines) lines c.loop-line.line-index c.line-item.result es (entries c.match-repair_pair.sources) c.loop-line-test.true c.line-item.is c.loop-line.invariant.0
             _ (sym w.in-Some.ensures) (ap entries w.sources-is ∙ w.in_ok-add_repair.ensures.entries),
         subst ArePlaced (sym w.sources-is) w.in_ok-add_repair.ensures.placed,
       )
-      | in_default w ↦ (
+      | goal.in_default w ↦ (
         pass_repair (filter_map source_of lines) lines c.loop-line.line-index c.line-item.result es (entries c.match-repair_pair.sources) c.loop-line-test.true c.line-item.is c.loop-line.invariant.0
             (sym w.in_default.ensures) (ap entries w.sources-is),
         subst ArePlaced (sym w.sources-is) c.loop-line.invariant.1,

@@ -1,5 +1,4 @@
-use Rattle.str0m_sdp.proofs.Common.{[], take}
-use Rattle.std.specs.List.{filter_map}
+use Rattle.str0m_sdp.proofs.Common.{[], take, filter_map}
 use Rattle.str0m_sdp.specs.Sources.{ArePlaced, entries}
 use Rattle.str0m_sdp.specs.SsrcInfo.{source_of}
 use Rattle.str0m_sdp.specs.SsrcReading.{AreGathered}

@@ -1,12 +1,10 @@
-use Rattle.str0m_sdp.proofs.Common.{◌≡◌, ◌==◌, ◌++◌, ℕ, List, take, filter_map, nat_eq, ap, sym, ◌∙◌, append_assoc, list_any, append-nil, length-set, take_all, CodecSpec}
-use Rattle.std.specs.Option.{option_to_list}
+use Rattle.str0m_sdp.proofs.Common.{◌≡◌, ◌==◌, ◌++◌, ℕ, List, take, filter_map, nat_eq, ap, sym, ◌∙◌, append_assoc, list_any, append-nil, length-set, take_all, CodecSpec, option_to_list}
 use Rattle.str0m_sdp.specs.Consistency.{maps}
 use Rattle.str0m_sdp.specs.Lists.{distinct}
 use Rattle.str0m_sdp.specs.Mappings.{mapping, unmapped, mapped, static_row}
 use Rattle.str0m_sdp.specs.declared.attribute.MediaAttribute.{MediaAttribute}
-use Rattle.str0m_sdp.proofs.TypeMarks.{or_false}
+use Rattle.str0m_sdp.proofs.Parts.{or_false}
 use Rattle.str0m_sdp.proofs.MappingLaws.{any_mapped, statics_new, statics_seen, mark_new, mark_seen}
-use Rattle.str0m_sdp.proofs.media_line.MediaLine.mapped.Goals.{then-not-seen-place+in_ok-push_static, else-not-seen-place}
 use Rattle.str0m_sdp.proofs.media_line.MediaLine.mapped.Goals as goal
 
 pub loop-pt-init : goal.loop-pt-init
@@ -36,7 +34,7 @@ loop-pt-preserved c =
     let row = rw (c.place-place.ensures.is, ← c.loop-pt.invariant.whole) at c.place-place.ensures.within in
     let so_far = c.loop-pt.invariant.seen pt (rw c.place-place.ensures.is at c.place-place.ensures.within) in
     elim c.if-not-seen-place.branch [
-      | then-not-seen-place+in_ok-push_static w ↦
+      | goal.then-not-seen-place+in_ok-push_static w ↦
           let new = rw c.place-place.ensures.is at w.if-not-seen-place.true in
           rw (w.mapped-is, w.seen-is, c.place-place.ensures.is) (record {
             rows = w.in_ok-push_static.ensures
@@ -46,7 +44,7 @@ loop-pt-preserved c =
             whole = length-set seen pt _ ∙ c.loop-pt.invariant.whole;
             seen = λ n small. mark_new seen pts i pt n (list_any (maps n) attrs) lt is row (c.loop-pt.invariant.seen n small);
           })
-      | else-not-seen-place w ↦
+      | goal.else-not-seen-place w ↦
           let old = rw c.place-place.ensures.is at w.if-not-seen-place.false in
           rw (w.mapped-is, w.seen-is) (record {
             rows = c.loop-pt.invariant.rows

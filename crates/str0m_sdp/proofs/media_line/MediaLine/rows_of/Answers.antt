@@ -5,7 +5,6 @@ use Rattle.str0m_sdp.specs.declared.feedback.Feedback.{Feedback}
 use Rattle.str0m_sdp.proofs.FilterMapLaws.{kept_more, left_out}
 use Rattle.str0m_sdp.proofs.GatherLaws.{Marks, nothing_gathered, all_gathered}
 use Rattle.str0m_sdp.proofs.RowBoundLaws.{rows_bounded}
-use Rattle.str0m_sdp.proofs.media_line.MediaLine.rows_of.Goals.{then-is_kept+in_ok-format+in_ok-push_row, else-is_kept}
 use Rattle.str0m_sdp.proofs.media_line.MediaLine.rows_of.Goals as goal
 
 pub gather-requires : goal.gather-requires
@@ -31,7 +30,7 @@ loop-pt-preserved c =
     let all = rw (c.as_slice-2.ensures, c.requires) at c.in_ok-lines.ensures.words in
     let say = all_gathered m c.gather.new.self c.in_ok-lines.lines.items in_m_line all in
     elim c.if-is_kept.branch [
-      | then-is_kept+in_ok-format+in_ok-push_row w ↦
+      | goal.then-is_kept+in_ok-format+in_ok-push_row w ↦
           let pt = item.0 in
           let own =
           ap (λ (ls : List (ℕ × Bor (List FormatParam))). line_values (lines_with pt ls)) w.as_slice-lines.ensures.value
@@ -43,7 +42,7 @@ loop-pt-preserved c =
                 ∙ sym (kept_more (is_kept m) (row m) types i item c.loop-pt-test.true c.loop-pt-item.is (sym (c.is_kept.ensures m say) ∙ w.if-is_kept.true))
                 ),
           )
-      | else-is_kept w ↦ (
+      | goal.else-is_kept w ↦ (
         rw w.groups-is known,
         rw w.rows-is (
             c.loop-pt.invariant.1

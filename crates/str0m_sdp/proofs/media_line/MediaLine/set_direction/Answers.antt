@@ -1,5 +1,4 @@
-use Rattle.str0m_sdp.proofs.Common.{ap, ◌∙◌, position_or_len}
-use Rattle.std.proofs.Common.{slice_set}
+use Rattle.str0m_sdp.proofs.Common.{ap, ◌∙◌, position_or_len, slice_set}
 use Rattle.str0m_sdp.specs.Consistency.{is_direction}
 use Rattle.str0m_sdp.specs.SectionDirection.{section_direction}
 use Rattle.str0m_sdp.specs.declared.attribute.MediaAttribute.{MediaAttribute}

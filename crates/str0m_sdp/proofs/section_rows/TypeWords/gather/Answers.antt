@@ -1,6 +1,5 @@
 use Rattle.str0m_sdp.proofs.Common.{◌≡◌, [], rules, tests, refl, take_all}
 use Rattle.str0m_sdp.proofs.GatherLaws.{fmtp_gathered, feedback_gathered, other_gathered}
-use Rattle.str0m_sdp.proofs.section_rows.TypeWords.gather.Goals.{in-Fmtp+in_ok-push-in-Fmtp, in-RtcpFb, in_default}
 use Rattle.str0m_sdp.proofs.section_rows.TypeWords.gather.Goals as goal
 
 pub loop-attr-init : goal.loop-attr-init
@@ -23,7 +22,7 @@ loop-attr-preserved c =
     let is = c.attr-item.is in
     let so_far = c.loop-attr.invariant.0 in
     elim c.match-attr.branch [
-      | in-Fmtp+in_ok-push-in-Fmtp w ↦
+      | goal.in-Fmtp+in_ok-push-in-Fmtp w ↦
           let variant = rw (← w.as_slice-values.ensures) at w.in-Fmtp.is in
           rw (w.self-is, w.lines-is, w.in_ok-push-in-Fmtp.ensures.items, w.value.ensures.value) (
             fmtp_gathered types attrs words lines c.types_of-rtx_types.result c.types_of-red_types.result _ _ i w.in-Fmtp.pt w.as_slice-values.result attr
@@ -32,12 +31,12 @@ loop-attr-preserved c =
                 so_far,
             c.loop-attr.invariant.1,
           )
-      | in-RtcpFb w ↦
+      | goal.in-RtcpFb w ↦
           rw (w.self-is, w.lines-is, w.note_feedback.ensures.noted, w.as_str.ensures.value) (
             feedback_gathered types attrs words lines i w.in-RtcpFb.pt w.in-RtcpFb.value attr lt is w.in-RtcpFb.is w.note_feedback.ensures.within so_far,
             c.loop-attr.invariant.1,
           )
-      | in_default w ↦
+      | goal.in_default w ↦
           rw (w.self-is, w.lines-is) (
             other_gathered types attrs words lines i attr lt is w.in_default.not-Fmtp w.in_default.not-RtcpFb so_far,
             c.loop-attr.invariant.1,

@@ -1,5 +1,4 @@
-use Rattle.str0m_sdp.proofs.Common.{sym, ap, ◌∙◌, get}
-use Rattle.std.proofs.Common.{nat_cmp}
+use Rattle.str0m_sdp.proofs.Common.{sym, ap, ◌∙◌, get, nat_cmp}
 use Rattle.str0m_sdp.proofs.SourceLaws.{found_within, found_said, found_put, found_stays, new_said, new_put, new_place}
 use Rattle.str0m_sdp.proofs.sources.Sources.place_of.Goals as goal
 
