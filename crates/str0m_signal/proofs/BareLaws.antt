@@ -1,13 +1,11 @@
 -- The values without keys of an fmtp line are read exactly where they stand.
-use Rattle.str0m_signal.proofs.Common.{◌≡◌, ◌≢◌, ◌≤◌, ℕ, List, [], ◌∷◌, Option, Some, None, refl, sym, ap, ◌∙◌, arith, inl, inr, codes, eq-eqb, ne_eqb, cases_eq, IsNumeral, digits_value, FormatParam, BareRange, BarePtList, ◌>>=◌, strip, num, FirstFit, Parted, Lacks, IsNum, bind_some, some_is, reads_first, cut_at, strip_found, number_lacks, digits_lack, num_found, num_reads}
-use Rattle.str0m_values.proofs.BothWays.{Reads}
-use Rattle.str0m_formats.specs.FormatParam.{IsEventRange}
+use Rattle.str0m_signal.proofs.Common.{ℕ, List, [], ◌∷◌, Option, Some, refl, sym, ap, ◌∙◌, arith, codes, FormatParam, BareRange, BarePtList, ◌>>=◌, strip, num, FirstFit, Parted, Lacks, IsNum, bind_some, some_is, reads_first, cut_at, strip_found, number_lacks, num_reads, num_both, Reads, IsEventRange}
 use Rattle.str0m_formats.specs.declared.format_param.FormatParam.TheVariants.{Unknown}
 use Rattle.str0m_signal.specs.Forms.{Two}
-use Rattle.str0m_signal.specs.FormReading.{behind, two_read, parted_read}
+use Rattle.str0m_signal.specs.FormReading.{behind, digits_read, two_read, parted_read}
 use Rattle.str0m_signal.specs.Fmtp.{IsListForm, IsRangeForm, IsAnything}
-use Rattle.str0m_signal.specs.FmtpReading.{first_read, digits_read, range_read, list_form_read, range_form_read, bare_read}
-use Rattle.str0m_signal.proofs.FormLaws.{num_both, two_both, behind_both}
+use Rattle.str0m_signal.specs.FmtpReading.{first_read, range_read, list_form_read, range_form_read, bare_read}
+use Rattle.str0m_signal.proofs.FormLaws.{digits_both, two_both, behind_both}
 use Rattle.str0m_signal.proofs.PartLaws.{parted_both}
 
 -- ---- lists
@@ -37,40 +35,13 @@ first_both = record {
 
 -- ---- ranges
 
--- digits alone, which are at most 255
-abbrev IsDigits : List ℕ → ℕ → Type 0
-IsDigits text n = IsNumeral 10 text × (digits_value 10 text ≡ n) × (n ≤ 255)
-
-digits_both : Reads IsDigits digits_read
-digits_both = record { sound = found; complete = given }
-  where
-    found : (text : List ℕ) (n : ℕ) → digits_read text ≡ Some n → IsDigits text n
-    found [] n e = absurd cc
-    found (x ∷ xs) n e =
-        elim (cases_eq x 43) [
-          | inl plus ↦ let none : None ≡ Some n = rw (eq-eqb 43 x (sym plus)) at e in absurd cc
-          | inr other ↦
-              let read : num 255 (x ∷ xs) ≡ Some n = rw (ne_eqb 43 x (λ same. other (sym same))) at e in
-              let is = num_found 255 (x ∷ xs) n read in
-              let numeral : IsNumeral 10 (x ∷ xs) = rw (ne_eqb x 43 other) at is.numeral in
-              let value : digits_value 10 (x ∷ xs) ≡ n = rw (ne_eqb x 43 other) at is.value in
-              (numeral, value, is.fits)
-        ]
-
-    given : (text : List ℕ) (n : ℕ) → IsDigits text n → digits_read text ≡ Some n
-    given [] n h = absurd (omega (arith, h.0.0))
-    given (x ∷ xs) n h =
-        let other : x ≢ 43 = (digits_lack 43 (x ∷ xs) (omega arith) h.0.1).0 in
-        let is : IsNum 255 (x ∷ xs) n = record { numeral = rw (ne_eqb x 43 other) h.0; value = rw (ne_eqb x 43 other) h.1; fits = h.2 } in
-        rw (ne_eqb 43 x (λ same. other (sym same))) (num_reads 255 (x ∷ xs) n is)
-
 range_both : Reads IsEventRange range_read
 range_both = record {
   sound = λ text n e.
-      let a = bind_some (strip (codes "0-") text) digits_read n e in
-      let is = digits_both.sound a.0 n a.2 in
+      let a = bind_some (strip (codes "0-") text) (digits_read 255) n e in
+      let is = (digits_both 255).sound a.0 n a.2 in
       record { range = (a.0, strip_found (codes "0-") text a.0 a.1, is.0, is.1); fits = is.2 };
-  complete = λ text n h. ap range_read h.range.1 ∙ digits_both.complete h.range.0 n (h.range.2, h.range.3, h.fits);
+  complete = λ text n h. ap range_read h.range.1 ∙ (digits_both 255).complete h.range.0 n (h.range.2, h.range.3, h.fits);
 }
 
 -- ---- the forms

@@ -1,9 +1,7 @@
 -- The numbers of what was read keep to their ranges.
-use Rattle.str0m_signal.proofs.Common.{◌≡◌, ◌⊎◌, ap, length, arith, param_text, ℕ, Bool, true, false, List, [], ◌∷◌, get_or, Option, Result, Ok, Err, All, IfOk, inl, inr, subst, sym, MatchBool, Bor, cons_option, All-nil, All-cons, has_mark, FormatParam, KeepsToLine, HasBoundedRows, MediaAttribute, SdpError, MediaLine, Sdp, FirstFit}
+use Rattle.str0m_signal.proofs.Common.{◌≡◌, ◌⊎◌, ap, length, arith, param_text, ℕ, Bool, true, false, List, [], ◌∷◌, get_or, Option, Result, Ok, Err, All, IfOk, inl, inr, subst, sym, MatchBool, Bor, cons_option, All-nil, All-cons, has_mark, FormatParam, KeepsToLine, HasBoundedRows, MediaAttribute, SdpError, MediaLine, Sdp, FirstFit, IsParsed, AreParsed, AreJoined, merged}
 use Rattle.str0m_formats.proofs.KeyedParams.{IsKeyed, keyed_or_hidden}
-use Rattle.str0m_formats.specs.FormatParam.{IsParsed, AreParsed}
 use Rattle.str0m_formats.specs.declared.format_param.FormatParam.TheVariants.{ModeSet, SpropMaxDonDiff}
-use Rattle.str0m_formats.specs.Pairs.{AreJoined, merged}
 use Rattle.str0m_formats.specs.Triple.{Texts, IsTripleParam}
 use Rattle.str0m_sdp.proofs.RowBoundLaws.{rows_bounded}
 use Rattle.str0m_sdp.specs.RowBounds.{IsInRange, KeepsToLines}

@@ -1,14 +1,9 @@
 -- A candidate is printed as it was read.
-use Rattle.str0m_signal.proofs.Common.{◌≡◌, ◌≢◌, ◌≤◌, ◌<◌, ◌^◌, ℕ, zero, suc, List, [], ◌∷◌, ◌++◌, length, Option, Some, None, IfSome, refl, sym, subst, arith, lit<, lit≤, inl, inr, codes, digit_value, decimal, AllByRecursion, IsCandidateText, candidate_text, Parted, Lacks, IsWord, some_is, Lacks-append}
+use Rattle.str0m_signal.proofs.Common.{◌≡◌, ◌≢◌, ◌≤◌, ◌<◌, ◌^◌, ℕ, zero, suc, List, [], ◌∷◌, ◌++◌, length, Option, Some, None, IfSome, refl, sym, subst, arith, lit<, lit≤, inl, inr, codes, digit_value, decimal, AllByRecursion, IsCandidateText, candidate_text, Parted, Lacks, IsWord, some_is, Lacks-append, lacks_both, replicate, AllDigits, IsOctet, IsGroup, IsOneGroup, IsEnd, AreGroups, AreAnyGroups, IsIpText, IsSocket, IsRelated, AreNames, IsSocketInRange, IsPrintable, socket_text, related_text, extras_text}
 use Rattle.str0m_values.specs.declared.candidate.Candidate.{Candidate}
-use Rattle.std.proofs.Common.{replicate}
-use Rattle.std.specs.Str.Parse.{AllDigits}
 use Rattle.std.proofs.Math.Nat.{pow-le-pow_right}
 use Rattle.std.proofs.lemmas.Int.Digits.{digits_value-lt}
-use Rattle.str0m_values.specs.Address.{IsOctet, IsGroup, IsOneGroup, IsEnd, AreGroups, AreAnyGroups, IsIpText}
 use Rattle.str0m_values.specs.Address.{IsInRange, pairs, ip_text}
-use Rattle.str0m_values.specs.Candidate.{IsSocket, IsRelated, AreNames, IsSocketInRange, IsPrintable, socket_text}
-use Rattle.str0m_values.specs.Candidate.{related_text, extras_text}
 use Rattle.str0m_values.specs.CandidateKind.{kind_text}
 use Rattle.str0m_values.specs.Labels.{IsSame, IsLabelled, optional_text}
 use Rattle.str0m_values.specs.Protocol.{protocol_text, tcp_type_text}
@@ -24,7 +19,7 @@ use Rattle.str0m_values.specs.declared.protocol.TcpType.TheVariants.{Active, Pas
 use Rattle.str0m_values.proofs.AddressText.{printed}
 use Rattle.str0m_values.proofs.CandidateText.{printed_candidate}
 use Rattle.str0m_signal.proofs.Formats.{behind_lacks}
-use Rattle.str0m_signal.proofs.PrintedAttributes.{HoldsNoEnd, both_lack, no_end, no_ends, decimal_lacks, decimal_no_end}
+use Rattle.str0m_signal.proofs.PrintedAttributes.{HoldsNoEnd, no_end, no_ends, decimal_lacks, decimal_no_end}
 use Rattle.str0m_values.specs.declared.candidate_label.TheConstants as candidate_label
 
 -- ---- addresses keep to their ranges
@@ -100,7 +95,7 @@ module _ (c : ℕ) (far : 16 ≤ digit_value c) (no_dot : 46 ≢ c) (no_colon : 
   octets_lack text (n ∷ []) h = subst (Lacks c) (sym h.0) (decimal_lacks c n (omega arith) (omega (arith, h.1)))
   octets_lack text (n ∷ (m ∷ ms)) h =
       subst (Lacks c) (sym h.2)
-      (both_lack c h.0 (46 ∷ h.1) (subst (Lacks c) (sym h.3.0) (decimal_lacks c n (omega arith) (omega (arith, h.3.1))))
+      (lacks_both c h.0 (46 ∷ h.1) (subst (Lacks c) (sym h.3.0) (decimal_lacks c n (omega arith) (omega (arith, h.3.1))))
       (no_dot, octets_lack h.1 (m ∷ ms) h.4))
 
   one_lacks : (text groups : List ℕ) → IsOneGroup text groups → Lacks c text
@@ -115,7 +110,7 @@ module _ (c : ℕ) (far : 16 ≤ digit_value c) (no_dot : 46 ≢ c) (no_colon : 
     groups_lack text [] h = absurd h
     groups_lack text (n ∷ groups) (inl h) = last_lacks text (n ∷ groups) h
     groups_lack text (n ∷ groups) (inr h) =
-        subst (Lacks c) (sym h.2) (both_lack c h.0 (58 ∷ h.1) (digits_lack h.0 h.3.numeral.1) (no_colon, groups_lack h.1 groups h.4))
+        subst (Lacks c) (sym h.2) (lacks_both c h.0 (58 ∷ h.1) (digits_lack h.0 h.3.numeral.1) (no_colon, groups_lack h.1 groups h.4))
 
     any_lack : (text groups : List ℕ) → AreAnyGroups Last text groups → Lacks c text
     any_lack text groups (inl none) = subst (Lacks c) (sym none.0) tt
@@ -126,7 +121,7 @@ module _ (c : ℕ) (far : 16 ≤ digit_value c) (no_dot : 46 ≢ c) (no_colon : 
   ip_lacks text (V6 groups) (inl all, eight) = groups_lack IsEnd end_lacks text groups all
   ip_lacks text (V6 groups) (inr short, eight) =
       subst (Lacks c) (sym short.joined)
-      (both_lack c short.front_text _ (any_lack IsOneGroup one_lacks short.front_text short.front short.front_is)
+      (lacks_both c short.front_text _ (any_lack IsOneGroup one_lacks short.front_text short.front short.front_is)
       (no_colon, (no_colon, any_lack IsEnd end_lacks short.back_text short.back short.back_is)))
 
 ip_no_end : (a : IpAddr) → IsInRange a → HoldsNoEnd (ip_text a)
@@ -205,11 +200,11 @@ name_lacks : (c : ℕ) (o : Option (List ℕ)) (text : List ℕ) → AreNames te
     → Lacks c (optional_text candidate_label.UFRAG.now (λ t. t) o)
 name_lacks c None text h none label = tt
 name_lacks c (Some x) text (inl (network, name, e, left_out, is)) none label =
-    both_lack c candidate_label.UFRAG.now x label
+    lacks_both c candidate_label.UFRAG.now x label
     (word_lacks c candidate_label.UFRAG.now name x is (behind_lacks c network name (subst (Lacks c) e none)))
 name_lacks c (Some x) text (inr (name, network, word, fragment, e, is, network_is, same)) none label =
     let own : x ≡ fragment = some_is x fragment same in
-    both_lack c candidate_label.UFRAG.now x label
+    lacks_both c candidate_label.UFRAG.now x label
     (subst (Lacks c) (sym own) (word_lacks c candidate_label.UFRAG.now name fragment is (Lacks-append c name network (subst (Lacks c) e none))))
 
 -- the fragment and the foundation hold what the text holds

@@ -1,9 +1,8 @@
 -- Parts of a list of lines that stand one after another.
-use Rattle.str0m_signal.proofs.Common.{◌≡◌, ℕ, ◌<◌, ◌≤◌, List, [], ◌∷◌, ◌++◌, length, cond, Option, Some, None, refl, sym, ap, subst, ◌∙◌, arith, none-some, some_pair_parts, ◌>>=◌, lacks, bind_some, if_some}
+use Rattle.str0m_signal.proofs.Common.{◌≡◌, ℕ, ◌<◌, ◌≤◌, List, [], ◌∷◌, ◌++◌, length, cond, Option, Some, None, refl, sym, ap, subst, ◌∙◌, arith, none-some, some_pair_parts, ◌>>=◌, lacks, bind_some, if_some, one_value, Reads}
 use Rattle.str0m_signal.specs.Lines.{Line, OneLine}
 use Rattle.str0m_signal.specs.Chains.{Chain, Run, Taken}
 use Rattle.str0m_signal.specs.LineReading.{lines_of, line_read, IsRead}
-use Rattle.str0m_values.proofs.BothWays.{one_value, Reads}
 use Rattle.str0m_signal.proofs.LineLaws.{line_found, line_given}
 
 -- one more part at the end

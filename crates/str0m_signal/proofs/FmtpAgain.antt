@@ -46,9 +46,9 @@ values_again : (pt : ℕ) (more : List ℕ) (values : List FormatParam) → pt �
 values_again pt more values small (inl (blanks, text, pairs, joined, are_blanks, are_pairs, read)) =
     of_line pt (filter is_shown values) small (shown_are values) (pairs_again pairs values read)
 values_again pt more values small (inr (no_pairs, inl (first, second, others, (body, e, parts), is))) =
-    rw is (inl (one_shown pt (BarePtList first) (list_shown first parts.3.fits) (list_printed pt first small parts.3.fits)))
+    rw is (inl (one_shown pt (BarePtList first) (list_shown first parts.3.fits) (list_printed pt first (BarePtList first) refl small parts.3.fits)))
 values_again pt more values small (inr (no_pairs, inr (no_list, inl (last, (body, e, range), is)))) =
-    rw is (inl (one_shown pt (BareRange last) (omega arith) (range_printed pt last small range.fits)))
+    rw is (inl (one_shown pt (BareRange last) (omega arith) (range_printed pt last (BareRange last) refl small range.fits)))
 values_again pt more values small (inr (no_pairs, inr (no_list, inr (no_range, is)))) = rw is (inr refl)
 
 pub fmtp_again : (text : List ℕ) (pt : ℕ) (values : List FormatParam) → IsFmtp text pt values

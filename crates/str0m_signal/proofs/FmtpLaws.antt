@@ -1,25 +1,11 @@
 -- The pairs of an fmtp line are read exactly where they stand.
-use Rattle.str0m_signal.proofs.Common.{◌≡◌, ◌⊎◌, ℕ, zero, suc, ◌<◌, Bool, true, false, cond, List, [], ◌∷◌, ◌++◌, length, Option, Some, None, refl, sym, ap, subst, ◌∙◌, arith, inl, inr, length-append, codes, ne_eqb, ltb-true, lt-ltb, cases_eq, both_ways, append-nil, some_pair_parts, FormatParam, Lacks, IsRest, Bor, pair_texts, pairs_read_is, params_read, FirstFit, lacks, ◌>>=◌, cut, strip, when, is_rest, num, before, cut_at, cut_found, strip_found, strip_at, when_some, lacks_true, lacks_from, Lacks-append, bind_some, some_is, if_some, reads_first, rest_true, number_lacks, num_found, num_reads, before_front}
-use Rattle.str0m_values.proofs.BothWays.{Reads}
-use Rattle.std.proofs.Common.{append_assoc}
-use Rattle.std.specs.Prelude.{option_map}
+use Rattle.str0m_signal.proofs.Common.{◌≡◌, ◌⊎◌, ℕ, suc, ◌<◌, Bool, true, false, cond, List, [], ◌∷◌, ◌++◌, length, Option, Some, None, refl, sym, ap, subst, ◌∙◌, arith, inl, inr, length-append, codes, ne_eqb, ltb-true, lt-ltb, cases_eq, both_ways, append-nil, some_pair_parts, FormatParam, Lacks, IsRest, Bor, pair_texts, pairs_read_is, params_read, FirstFit, lacks, ◌>>=◌, cut, strip, when, is_rest, num, before, cut_at, cut_found, strip_found, strip_at, when_some, lacks_true, lacks_from, Lacks-append, bind_some, some_is, if_some, reads_first, rest_true, number_lacks, num_found, num_reads, before_front, Reads, AreRead, pairs_read_only, front, before_lacks}
 use Rattle.str0m_signal.specs.Fmtp.{IsBlank, AreBlanks, IsKey, IsValue, IsEnd, StartsPlain, IsPair, ArePairs, IsPairsForm, IsListForm, IsRangeForm, IsAnything, IsFmtp}
-use Rattle.str0m_formats.specs.Pairs.{AreRead}
-use Rattle.str0m_formats.proofs.PairsLaws.{pairs_read_only}
-use Rattle.str0m_values.specs.Cuts.{front}
-use Rattle.str0m_signal.specs.FmtpReading.{value_read, skip_blanks}
-use Rattle.str0m_signal.specs.FmtpReading.{next_read, key_read, pair_read, pairs_after, pairs_at, pairs_read, pairs_form_read, fmtp_values_read, fmtp_fields_read}
-use Rattle.str0m_values.proofs.CutLaws.{before_lacks}
+use Rattle.str0m_signal.specs.FmtpReading.{value_read, skip_blanks, next_read, key_read, pair_read, pairs_read, pairs_form_read, fmtp_values_read, fmtp_fields_read}
 use Rattle.str0m_signal.proofs.BareLaws.{bare_both}
+use Rattle.str0m_signal.proofs.PairByPair.{all_found, all_given}
 use Rattle.str0m_signal.proofs.PairLaws.{value_given, EndsValue, IsBlank-skip}
 use Rattle.str0m_sdp.specs.declared.label.TheConstants as label
-
-abbrev pub with_pairs : List (List ℕ × List ℕ) → Option (List (List ℕ × List ℕ)) → Option (List (List ℕ × List ℕ))
-with_pairs done read = option_map (λ pairs. done ++ pairs) read
-
-regroup : (done : List (List ℕ × List ℕ)) (pair : List ℕ × List ℕ) (o : Option (List (List ℕ × List ℕ))) → with_pairs (done ++ pair ∷ []) o ≡ with_pairs done (o >>= λ pairs. Some (pair ∷ pairs))
-regroup done pair None = refl
-regroup done pair (Some pairs) = ap (λ (t : List (List ℕ × List ℕ)). Some t) (append_assoc done (pair ∷ []) pairs)
 
 -- ---- the parts of a pair
 
@@ -151,30 +137,6 @@ pair_shorter text pair more e =
     let d = length-append h.1 more in
     omega (arith, a, b, c, d, ap length h.2)
 
--- ---- the loop
-
-module _ (done : List (List ℕ × List ℕ)) (total : Option (List (List ℕ × List ℕ))) (rest : List ℕ) where
-  pub pairs_fail : (k : ℕ) → length rest < k → pair_read rest ≡ None → with_pairs done (pairs_at k rest) ≡ total → None ≡ total
-  unfolding pairs_at
-  pairs_fail zero lt e so_far = absurd (omega arith)
-  pairs_fail (suc k) lt e so_far =
-      let one : pairs_at (suc k) rest ≡ None = rw e refl in
-      sym (ap (with_pairs done) one) ∙ so_far
-
-  pub pairs_end : (k : ℕ) (pair : List ℕ × List ℕ) → length rest < k → pair_read rest ≡ Some (pair, None) → with_pairs done (pairs_at k rest) ≡ total → Some (done ++ pair ∷ []) ≡ total
-  unfolding pairs_at
-  pairs_end zero pair lt e so_far = absurd (omega arith)
-  pairs_end (suc k) pair lt e so_far =
-      let one : pairs_at (suc k) rest ≡ Some (pair ∷ []) = rw e refl in
-      sym (ap (with_pairs done) one) ∙ so_far
-
-  pub pairs_more : (k : ℕ) (pair : List ℕ × List ℕ) (more : List ℕ) → length rest < k → pair_read rest ≡ Some (pair, Some more) → with_pairs done (pairs_at k rest) ≡ total → (n : ℕ) × (length more < n) × (with_pairs (done ++ pair ∷ []) (pairs_at n more) ≡ total)
-  unfolding pairs_at
-  pairs_more zero pair more lt e so_far = absurd (omega arith)
-  pairs_more (suc k) pair more lt e so_far =
-      let one : pairs_at (suc k) rest ≡ (pairs_at k more >>= λ pairs. Some (pair ∷ pairs)) = rw e refl in
-      (k, omega (arith, pair_shorter rest pair more e), regroup done pair (pairs_at k more) ∙ sym (ap (with_pairs done) one) ∙ so_far)
-
 pub texts_push : (pairs : List (Bor (List ℕ) × Bor (List ℕ))) (key value : Bor (List ℕ)) → pair_texts (pairs ++ (key, value) ∷ []) ≡ pair_texts pairs ++ (key.now, value.now) ∷ []
 texts_push [] key value = refl
 texts_push (pair ∷ pairs) key value = ap (λ (t : List (List ℕ × List ℕ)). (pair.0.now, pair.1.now) ∷ t) (texts_push pairs key value)
@@ -211,35 +173,11 @@ pair_given text pair (Some more) h =
     let value = h.4 in
     ap pair_read h.2 ∙ rw (cut_at 61 pair.0 (pair.1 ++ tail) key.1, key_given pair.0 key, value_given pair.1 tail value.0 value.1 value.2 value.3 (blanks_end h.0 behind h.5 (inl refl)), IsBlank-skip h.0 behind h.5, more_read h.1 more h.6 h.7) refl
 
-longer_pairs : (text : List ℕ) (p : List ℕ × List ℕ) (more : List ℕ) (qs : List (List ℕ × List ℕ)) → IsPair text p (Some more) → ArePairs more qs → ArePairs text (p ∷ qs)
-longer_pairs text p more [] h k = absurd k
-longer_pairs text p more (q ∷ qs) h k = (more, h, k)
+pub pairs_found : (text : List ℕ) (pairs : List (List ℕ × List ℕ)) → pairs_read text ≡ Some pairs → ArePairs text pairs
+pairs_found text pairs e = all_found pair_read pair_shorter IsPair pair_found pair_given (suc (length text)) text pairs e
 
-pub pairs_found : (n : ℕ) (text : List ℕ) (pairs : List (List ℕ × List ℕ)) → pairs_at n text ≡ Some pairs → ArePairs text pairs
-unfolding pairs_at
-pairs_found zero text pairs e = absurd cc
-pairs_found (suc n) text pairs e =
-    let a = bind_some (pair_read text) (λ p. pairs_after (pairs_at n) p.0 p.1) pairs e in
-    go a.0.0 a.0.1 (pair_found text a.0.0 a.0.1 a.1) a.2 (pairs_found n)
-  where
-    go : (p : List ℕ × List ℕ) (next : Option (List ℕ)) → IsPair text p next → pairs_after (pairs_at n) p next ≡ Some pairs
-        → ((more : List ℕ) (ps : List (List ℕ × List ℕ)) → pairs_at n more ≡ Some ps → ArePairs more ps)
-        → ArePairs text pairs
-    go p None h e again = subst (ArePairs text) (some_is (p ∷ []) pairs e) h
-    go p (Some more) h e again =
-        let b = bind_some (pairs_at n more) (λ ps. Some (p ∷ ps)) pairs e in
-        subst (ArePairs text) (some_is (p ∷ b.0) pairs b.2) (longer_pairs text p more b.0 h (again more b.0 b.1))
-
-pub pairs_given : (pairs : List (List ℕ × List ℕ)) (n : ℕ) (text : List ℕ) → ArePairs text pairs → length text < n → pairs_at n text ≡ Some pairs
-unfolding pairs_at
-pairs_given [] n text h lt = absurd h
-pairs_given (p ∷ []) zero text h lt = absurd (omega arith)
-pairs_given (p ∷ []) (suc n) text h lt = rw (pair_given text p None h) refl
-pairs_given (p ∷ (q ∷ qs)) zero text h lt = absurd (omega arith)
-pairs_given (p ∷ (q ∷ qs)) (suc n) text h lt =
-    let read = pair_given text p (Some h.0) h.1 in
-    let again = pairs_given (q ∷ qs) n h.0 h.2 (omega (arith, pair_shorter text p h.0 read)) in
-    rw (read, again) refl
+pub pairs_given : (text : List ℕ) (pairs : List (List ℕ × List ℕ)) → ArePairs text pairs → pairs_read text ≡ Some pairs
+pairs_given text pairs h = all_given pair_read pair_shorter IsPair pair_found pair_given pairs (suc (length text)) text h (omega arith)
 
 -- ---- the forms of an fmtp line
 
@@ -258,12 +196,12 @@ pairs_both = record {
       let a = bind_some (strip (codes " ") more) (λ t. pairs_read (skip_blanks t) >>= λ pairs. Some (params_read pairs)) values e in
       let p = bind_some (pairs_read (skip_blanks a.0)) (λ pairs. Some (params_read pairs)) values a.2 in
       let s = skips a.0 in
-      let r = pairs_found (suc (length (skip_blanks a.0))) (skip_blanks a.0) p.0 p.1 in
+      let r = pairs_found (skip_blanks a.0) p.0 p.1 in
       let values_are : AreRead p.0 values = subst (AreRead p.0) (some_is (params_read p.0) values p.2) (pairs_read_is p.0) in
       (s.blanks, skip_blanks a.0, p.0, strip_found (codes " ") more a.0 a.1 ∙ ap (λ (t : List ℕ). codes " " ++ t) s.joined, s.are, r, values_are);
   complete = λ more values h.
       let kept : skip_blanks (h.0 ++ h.1) ≡ h.1 = IsBlank-skip h.0 h.1 h.4 ∙ starts_kept h.1 (pairs_start h.2 h.1 h.5) in
-      let read : pairs_read (skip_blanks (h.0 ++ h.1)) ≡ Some h.2 = ap pairs_read kept ∙ pairs_given h.2 (suc (length h.1)) h.1 h.5 (omega arith) in
+      let read : pairs_read (skip_blanks (h.0 ++ h.1)) ≡ Some h.2 = ap pairs_read kept ∙ pairs_given h.1 h.2 h.5 in
       ap pairs_form_read h.3 ∙ ap (λ (o : Option (List (List ℕ × List ℕ))). o >>= λ pairs. Some (params_read pairs)) read ∙ ap (λ (t : List FormatParam). Some t) (sym (pairs_read_only h.2 values h.6));
 }
 

@@ -1,9 +1,7 @@
 -- The pieces that forms share are read both ways.
-use Rattle.str0m_signal.proofs.Common.{◌≡◌, ℕ, List, [], ◌∷◌, ◌++◌, length, Option, Some, None, refl, sym, ap, ◌∙◌, inl, inr, ltb-true, ◌>>=◌, cut, strip, when, is_rest, num, IsNum, bind_some, some_is, cut_none, cut_none_lacks, cut_at, cut_found, strip_at, strip_found, when_some, when_true, num_found, num_reads, rest_true}
-use Rattle.str0m_values.proofs.BothWays.{Reads}
-use Rattle.std.proofs.Common.{append-nil}
+use Rattle.str0m_signal.proofs.Common.{◌≢◌, ◌≤◌, arith, cases_eq, eq-eqb, ne_eqb, digits_lack, digits_value, IsNumeral, ◌≡◌, ℕ, List, [], ◌∷◌, ◌++◌, length, Option, Some, None, refl, sym, ap, ◌∙◌, inl, inr, ltb-true, ◌>>=◌, cut, strip, when, is_rest, num, IsNum, Sound, bind_some, some_is, cut_none, cut_none_lacks, cut_at, cut_found, strip_at, strip_found, when_some, when_true, num_found, num_reads, rest_true, Reads, append-nil}
 use Rattle.str0m_signal.specs.Forms.{Behind, IsText, Two, Tailed}
-use Rattle.str0m_signal.specs.FormReading.{behind, text_read, two_read, tail_after, tailed_read}
+use Rattle.str0m_signal.specs.FormReading.{behind, digits_read, text_read, two_read, tail_after, tailed_read}
 
 pub text_both : Reads IsText text_read
 text_both = record {
@@ -11,8 +9,32 @@ text_both = record {
   complete = λ text x h. when_true (is_rest text) text (rest_true text h.0) ∙ ap (λ (t : List ℕ). Some t) (sym h.1);
 }
 
-pub num_both : (limit : ℕ) → Reads (IsNum limit) (num limit)
-num_both limit = record { sound = num_found limit; complete = num_reads limit }
+-- digits alone, at most the limit
+abbrev pub AreDigits : ℕ → List ℕ → ℕ → Type 0
+AreDigits limit text n = IsNumeral 10 text × (digits_value 10 text ≡ n) × (n ≤ limit)
+
+pub digits_both : (limit : ℕ) → Reads (AreDigits limit) (digits_read limit)
+digits_both limit = record { sound = found; complete = given }
+  where
+    found : (text : List ℕ) (n : ℕ) → digits_read limit text ≡ Some n → AreDigits limit text n
+    found [] n e = absurd cc
+    found (x ∷ xs) n e =
+        elim (cases_eq x 43) [
+          | inl plus ↦ let none : None ≡ Some n = rw (eq-eqb 43 x (sym plus)) at e in absurd cc
+          | inr other ↦
+              let read : num limit (x ∷ xs) ≡ Some n = rw (ne_eqb 43 x (λ same. other (sym same))) at e in
+              let is = num_found limit (x ∷ xs) n read in
+              let numeral : IsNumeral 10 (x ∷ xs) = rw (ne_eqb x 43 other) at is.numeral in
+              let value : digits_value 10 (x ∷ xs) ≡ n = rw (ne_eqb x 43 other) at is.value in
+              (numeral, value, is.fits)
+        ]
+
+    given : (text : List ℕ) (n : ℕ) → AreDigits limit text n → digits_read limit text ≡ Some n
+    given [] n h = absurd (omega (arith, h.0.0))
+    given (x ∷ xs) n h =
+        let other : x ≢ 43 = (digits_lack 43 (x ∷ xs) (omega arith) h.0.1).0 in
+        let is : IsNum limit (x ∷ xs) n = record { numeral = rw (ne_eqb x 43 other) h.0; value = rw (ne_eqb x 43 other) h.1; fits = h.2 } in
+        rw (ne_eqb 43 x (λ same. other (sym same))) (num_reads limit (x ∷ xs) n is)
 
 pub behind_both : {A : Type 0} {F : List ℕ → A → Type 0} {f : List ℕ → Option A} (label : List ℕ) → Reads F f → Reads (Behind label F) (behind label f)
 behind_both {f} label reads = record {

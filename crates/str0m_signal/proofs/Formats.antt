@@ -1,18 +1,17 @@
 -- Printed fmtp lines have their forms: pairs, `apt=N`, `N/N` and `0-N`.
-use Rattle.str0m_signal.proofs.Common.{◌≡◌, ◌≤◌, ℕ, List, [], ◌∷◌, ◌++◌, map, filter, length, length-append, refl, sym, ap, ◌∙◌, subst, arith, lit<, lit≤, inl, inr, codes, AllByRecursion, join_with_byte, join_by, decimal, IsNumeral, digits_value, lt-ltb, decimal_is_IsNumeral, decimal_nonempty, append_assoc, append-nil, FirstFit, Lacks, IsRest, IsNum, param_text, FormatParam, TelephoneEvents, BareRange, BarePtList, Apt, Red, pairs_read_is, IsPlainPair, joined_pair, media_attribute_text, is_shown, shown_line, attribute_line, Fmtp}
+use Rattle.str0m_signal.proofs.Common.{◌≡◌, ◌≤◌, ℕ, List, [], ◌∷◌, ◌++◌, map, filter, length, length-append, refl, sym, ap, ◌∙◌, subst, arith, lit<, lit≤, inl, inr, codes, AllByRecursion, join_with_byte, join_by, decimal, IsNumeral, digits_value, lt-ltb, decimal_is_IsNumeral, decimal_nonempty, append_assoc, append-nil, FirstFit, Lacks, IsRest, IsNum, param_text, FormatParam, BareRange, BarePtList, Apt, pairs_read_is, IsPlainPair, joined_pair, media_attribute_text, is_shown, shown_line, attribute_line, Fmtp, lacks_both, decimal_plain}
 use Rattle.str0m_formats.specs.Pairs.{has_mark}
 use Rattle.str0m_formats.specs.PairsReading.{params_read}
 use Rattle.str0m_formats.specs.ParamReading.{param_of}
 use Rattle.str0m_formats.proofs.ParamLaws.{parsed}
 use Rattle.str0m_formats.proofs.RoundTrip.{parsed_printed}
 use Rattle.str0m_formats.proofs.Plain.{IsPlain, plain_lacks}
-use Rattle.str0m_formats.proofs.Shown.{decimal_plain}
 use Rattle.str0m_signal.specs.Fmtp.{IsKey, IsValue, StartsPlain, ArePairs, IsPairsForm, IsListForm, IsRangeForm, IsAnything, IsFmtp}
 use Rattle.str0m_signal.specs.MediaAttribute.{IsMediaLine}
 use Rattle.str0m_signal.specs.Writable.{IsPrintedAs}
-use Rattle.str0m_signal.proofs.PrintedAttributes.{HoldsNoEnd, both_lack, no_ends, no_end, num_is, decimal_lacks, decimal_no_end}
-use Rattle.str0m_signal.proofs.PrintedAttributes.{attribute_printed}
+use Rattle.str0m_signal.proofs.PrintedAttributes.{HoldsNoEnd, no_ends, no_end, num_is, decimal_lacks, decimal_no_end, attribute_printed}
 use Rattle.str0m_sdp.specs.declared.label.TheConstants as label
+use Rattle.str0m_signal.proofs.FmtpLaws.{key_starts}
 
 -- the first of the four forms that holds
 abbrev pub FmtpValues : List ℕ → List FormatParam → Type 0
@@ -80,7 +79,7 @@ list_is n small = inr (no_pairs body no_equals, inl (n, n, [], (body, refl, (dec
 
   no_equals : Lacks 61 body
   no_equals =
-      both_lack 61 (decimal n) (codes "/" ++ decimal n) (decimal_lacks 61 n (lit≤ tt) (omega arith))
+      lacks_both 61 (decimal n) (codes "/" ++ decimal n) (decimal_lacks 61 n (lit≤ tt) (omega arith))
       ((λ e. absurd (omega (arith, e))), decimal_lacks 61 n (lit≤ tt) (omega arith))
 
 -- ---- a range of events
@@ -112,16 +111,12 @@ key_is pair h = (h.2, plain_lacks 61 pair.0 refl h.0, plain_lacks 32 pair.0 refl
 value_is : (pair : List ℕ × List ℕ) → IsPlainPair pair → IsValue pair.1
 value_is pair h = (h.3, plain_lacks 59 pair.1 refl h.1, plain_lacks 32 pair.1 refl h.1, plain_lacks 9 pair.1 refl h.1)
 
-starts : (key rest : List ℕ) → IsKey key → StartsPlain (key ++ rest)
-starts [] rest h = absurd (omega (arith, h.0))
-starts (x ∷ xs) rest h = λ blank. elim blank [ inl space ↦ h.2.0 space | inr tab ↦ h.3.0 tab ]
-
 starts_joined : (q : List ℕ × List ℕ) (qs : List (List ℕ × List ℕ)) → IsPlainPair q
     → StartsPlain (join_with_byte 59 (map joined_pair (q ∷ qs)))
-starts_joined q [] h = starts q.0 (61 ∷ q.1) (key_is q h)
+starts_joined q [] h = key_starts q.0 (61 ∷ q.1) (key_is q h)
 starts_joined q (r ∷ qs) h =
     rw (append_assoc q.0 (61 ∷ q.1) (59 ∷ join_with_byte 59 (map joined_pair (r ∷ qs))))
-    (starts q.0 ((61 ∷ q.1) ++ (59 ∷ join_with_byte 59 (map joined_pair (r ∷ qs)))) (key_is q h))
+    (key_starts q.0 ((61 ∷ q.1) ++ (59 ∷ join_with_byte 59 (map joined_pair (r ∷ qs)))) (key_is q h))
 
 -- plain pairs, joined, are read as these pairs
 pub are_pairs : (p : List ℕ × List ℕ) (ps : List (List ℕ × List ℕ)) → AllByRecursion IsPlainPair (p ∷ ps)
@@ -220,32 +215,21 @@ list_no_end n small =
     (no_ends (codes "/") (decimal n) (no_end (codes "/") refl refl) (decimal_no_end n (omega arith)))
 
 -- `N/N`, however it came about, is read as a list
-pub red_printed : (pt n : ℕ) → pt ≤ 127 → n ≤ 255
-    → IsPrintedAs IsMediaLine (media_attribute_text (Fmtp pt (Red n ∷ []))) (Fmtp pt (BarePtList n ∷ []))
-red_printed pt n small fits =
-    values_printed pt (Red n) [] (decimal n ++ (codes "/" ++ decimal n)) (BarePtList n ∷ []) small (list_shown n fits, tt)
-    (append_assoc (decimal n) (codes "/") (decimal n)) (list_no_end n fits) (list_is n fits)
-
-pub list_printed : (pt n : ℕ) → pt ≤ 127 → n ≤ 255
-    → IsPrintedAs IsMediaLine (media_attribute_text (Fmtp pt (BarePtList n ∷ []))) (Fmtp pt (BarePtList n ∷ []))
-list_printed pt n small fits =
-    values_printed pt (BarePtList n) [] (decimal n ++ (codes "/" ++ decimal n)) (BarePtList n ∷ []) small (list_shown n fits, tt)
-    (append_assoc (decimal n) (codes "/") (decimal n)) (list_no_end n fits) (list_is n fits)
+pub list_printed : (pt n : ℕ) (v : FormatParam) → param_text v ≡ (decimal n ++ codes "/") ++ decimal n → pt ≤ 127 → n ≤ 255
+    → IsPrintedAs IsMediaLine (media_attribute_text (Fmtp pt (v ∷ []))) (Fmtp pt (BarePtList n ∷ []))
+list_printed pt n v text small fits =
+    values_printed pt v [] (decimal n ++ (codes "/" ++ decimal n)) (BarePtList n ∷ []) small (subst IsRest (sym text) (list_shown n fits), tt)
+    (text ∙ append_assoc (decimal n) (codes "/") (decimal n)) (list_no_end n fits) (list_is n fits)
 
 range_no_end : (n : ℕ) → n ≤ 255 → HoldsNoEnd (codes "0-" ++ decimal n)
 range_no_end n small = no_ends (codes "0-") (decimal n) (no_end (codes "0-") refl refl) (decimal_no_end n (omega arith))
 
 -- `0-N`, however it came about, is read as a range
-pub events_printed : (pt n : ℕ) → pt ≤ 127 → n ≤ 255
-    → IsPrintedAs IsMediaLine (media_attribute_text (Fmtp pt (TelephoneEvents n ∷ []))) (Fmtp pt (BareRange n ∷ []))
-events_printed pt n small fits =
-    values_printed pt (TelephoneEvents n) [] (codes "0-" ++ decimal n) (BareRange n ∷ []) small (omega arith, tt) refl
-    (range_no_end n fits) (range_is n fits)
-
-pub range_printed : (pt n : ℕ) → pt ≤ 127 → n ≤ 255
-    → IsPrintedAs IsMediaLine (media_attribute_text (Fmtp pt (BareRange n ∷ []))) (Fmtp pt (BareRange n ∷ []))
-range_printed pt n small fits =
-    values_printed pt (BareRange n) [] (codes "0-" ++ decimal n) (BareRange n ∷ []) small (omega arith, tt) refl
+pub range_printed : (pt n : ℕ) (v : FormatParam) → param_text v ≡ codes "0-" ++ decimal n → pt ≤ 127 → n ≤ 255
+    → IsPrintedAs IsMediaLine (media_attribute_text (Fmtp pt (v ∷ []))) (Fmtp pt (BareRange n ∷ []))
+range_printed pt n v text small fits =
+    let shown : IsRest (codes "0-" ++ decimal n) = omega arith in
+    values_printed pt v [] (codes "0-" ++ decimal n) (BareRange n ∷ []) small (subst IsRest (sym text) shown, tt) text
     (range_no_end n fits) (range_is n fits)
 
 -- a line whose text is that of plain pairs reads as what these read as together

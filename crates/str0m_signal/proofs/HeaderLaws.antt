@@ -1,23 +1,15 @@
 -- The lines of a header are read exactly where their forms hold.
-use Rattle.str0m_signal.proofs.Common.{◌≡◌, ◌&&◌, ℕ, ◌≤◌, Bool, false, List, [], ◌∷◌, ◌++◌, length, Some, None, Result, refl, sym, ap, subst, ◌∙◌, arith, inl, inr, codes, MatchBool, bytes_eq, IsCharBoundary, digits_value, ltb-true, and_parts, and_from, both_ways, bytes_eq-Decides, some_pair_parts, Lacks, ◌>>=◌, cut, strip, when, is_rest, cut_at, cut_found, strip_found, when_some, when_true, parsed_whole, bind_some, some_is, AllByRecursion, drop, digits_lack, rest_true}
-use Rattle.std.proofs.Common.{leb}
-use Rattle.std.specs.Result.{result_ok}
-use Rattle.std.specs.Str.Pattern.{FindsCharPrefix}
-use Rattle.std.specs.Str.Parse.{without_leading_plus, ParsesUnsigned}
-use Rattle.std.proofs.lemmas.Bool.{le-leb, leb-true}
-use Rattle.std.proofs.lemmas.Str.Parse.{without_leading_plus_none}
-use Rattle.std.proofs.lemmas.Str.Pattern.{starts_char}
+use Rattle.str0m_signal.proofs.Common.{◌≡◌, ℕ, List, [], ◌∷◌, ◌++◌, length, Some, refl, sym, ap, subst, ◌∙◌, arith, inl, inr, codes, bytes_eq, ltb-true, bytes_eq-Decides, some_pair_parts, Lacks, ◌>>=◌, cut, strip, when, is_rest, cut_at, cut_found, strip_found, when_some, when_true, bind_some, some_is, AllByRecursion, drop, digits_lack, rest_true, reads_either, Reads}
 use Rattle.str0m_signal.specs.Lines.{Line, OneLine}
 use Rattle.str0m_signal.specs.Header.{IsExactly, IsDigits, IsOrigin, IsOneField, IsInfo, IsOpening}
 use Rattle.str0m_signal.specs.Section.{IsField}
-use Rattle.str0m_values.specs.Cuts.{is_numeral}
 use Rattle.str0m_signal.specs.LineReading.{line_read}
 use Rattle.str0m_signal.specs.SectionReading.{field_read}
-use Rattle.str0m_signal.specs.HeaderReading.{exact_read, digits_read, origin_read, one_field_read, info_read, opening_read}
-use Rattle.str0m_values.proofs.NumLaws.{numeral_true, numeral_from}
-use Rattle.str0m_values.proofs.BothWays.{reads_either, Reads}
+use Rattle.str0m_signal.specs.FormReading.{digits_read}
+use Rattle.str0m_signal.specs.HeaderReading.{exact_read, origin_read, one_field_read, info_read, opening_read}
 use Rattle.std.proofs.Math.Seq.{drop-append_seam}
 use Rattle.str0m_signal.proofs.LineLaws.{line_found, line_given}
+use Rattle.str0m_signal.proofs.FormLaws.{digits_both}
 use Rattle.str0m_signal.proofs.SectionLaws.{field_both}
 
 pub exact_both : (word : List ℕ) → Reads (IsExactly word) (exact_read word)
@@ -26,34 +18,23 @@ exact_both word = record {
   complete = λ content text h. when_true (bytes_eq content word) word ((bytes_eq-Decides content word).1 h.0) ∙ ap (λ (t : List ℕ). Some t) (sym h.1);
 }
 
-digits_both : Reads IsDigits digits_read
-digits_both = record {
-  sound = λ text n e.
-      let w = when_some (is_numeral text && leb (digits_value 10 text) 18446744073709551615) (digits_value 10 text) n e in
-      let p = and_parts (is_numeral text) (leb (digits_value 10 text) 18446744073709551615) w.0 in
-      let le : digits_value 10 text ≤ 18446744073709551615 = leb-true _ _ p.1 in
-      record { numeral = numeral_from text p.0; value = w.1; fits = rw (← w.1) le };
-  complete = λ text n h.
-      let le : digits_value 10 text ≤ 18446744073709551615 = rw h.value h.fits in
-      when_true (is_numeral text && leb (digits_value 10 text) 18446744073709551615) (digits_value 10 text) (and_from _ _ (numeral_true text h.numeral) (le-leb _ _ le)) ∙ ap (λ (k : ℕ). Some k) h.value;
+-- at most 64 bits
+origin_digits : Reads IsDigits (digits_read 18446744073709551615)
+origin_digits = record {
+  sound = λ text n e. let is = (digits_both 18446744073709551615).sound text n e in record { numeral = is.0; value = is.1; fits = is.2 };
+  complete = λ text n h. (digits_both 18446744073709551615).complete text n (h.numeral, h.value, h.fits);
 }
-
--- std's reading of a text that doesn't begin with a plus
-pub digits_parsed : {E : Type 0} (text : List ℕ) (b : Bool) (r : Result ℕ E) → MatchBool b ((n : ℕ) × FindsCharPrefix 43 text (Some n) × IsCharBoundary text n) (FindsCharPrefix 43 text None) → b ≡ false → ParsesUnsigned 64 10 text r → result_ok r ≡ digits_read text
-digits_parsed text b r starts e h =
-    let plain : without_leading_plus text ≡ text = without_leading_plus_none text (λ plus. both_ways b e ((starts_char 43 text b starts (omega arith) (omega arith)).1 plus)) in
-    parsed_whole 64 18446744073709551615 text r h refl ∙ ap (λ ds. when (is_numeral ds && leb (digits_value 10 ds) 18446744073709551615) (digits_value 10 ds)) plain
 
 origin_both : Reads IsOrigin origin_read
 origin_both = record { sound = found; complete = given }
   where
     found : (content : List ℕ) (id : ℕ) → origin_read content ≡ Some id → IsOrigin content id
     found content id e =
-        let a = bind_some (strip (codes "o=") content) (λ body. cut 32 body >>= λ name. when (is_rest name.0) name.0 >>= λ word. cut 32 name.1 >>= λ number. digits_read number.0 >>= λ id. when (is_rest number.1) number.1 >>= λ more. Some id) id e in
-        let n = bind_some (cut 32 a.0) (λ name. when (is_rest name.0) name.0 >>= λ word. cut 32 name.1 >>= λ number. digits_read number.0 >>= λ id. when (is_rest number.1) number.1 >>= λ more. Some id) id a.2 in
-        let w = bind_some (when (is_rest n.0.0) n.0.0) (λ word. cut 32 n.0.1 >>= λ number. digits_read number.0 >>= λ id. when (is_rest number.1) number.1 >>= λ more. Some id) id n.2 in
-        let d = bind_some (cut 32 n.0.1) (λ number. digits_read number.0 >>= λ id. when (is_rest number.1) number.1 >>= λ more. Some id) id w.2 in
-        let v = bind_some (digits_read d.0.0) (λ id. when (is_rest d.0.1) d.0.1 >>= λ more. Some id) id d.2 in
+        let a = bind_some (strip (codes "o=") content) (λ body. cut 32 body >>= λ name. when (is_rest name.0) name.0 >>= λ word. cut 32 name.1 >>= λ number. digits_read 18446744073709551615 number.0 >>= λ id. when (is_rest number.1) number.1 >>= λ more. Some id) id e in
+        let n = bind_some (cut 32 a.0) (λ name. when (is_rest name.0) name.0 >>= λ word. cut 32 name.1 >>= λ number. digits_read 18446744073709551615 number.0 >>= λ id. when (is_rest number.1) number.1 >>= λ more. Some id) id a.2 in
+        let w = bind_some (when (is_rest n.0.0) n.0.0) (λ word. cut 32 n.0.1 >>= λ number. digits_read 18446744073709551615 number.0 >>= λ id. when (is_rest number.1) number.1 >>= λ more. Some id) id n.2 in
+        let d = bind_some (cut 32 n.0.1) (λ number. digits_read 18446744073709551615 number.0 >>= λ id. when (is_rest number.1) number.1 >>= λ more. Some id) id w.2 in
+        let v = bind_some (digits_read 18446744073709551615 d.0.0) (λ id. when (is_rest d.0.1) d.0.1 >>= λ more. Some id) id d.2 in
         let m = bind_some (when (is_rest d.0.1) d.0.1) (λ more. Some v.0) id v.2 in
         let word = when_some (is_rest n.0.0) n.0.0 w.0 w.1 in
         let more = when_some (is_rest d.0.1) d.0.1 m.0 m.1 in
@@ -65,7 +46,7 @@ origin_both = record { sound = found; complete = given }
           more = d.0.1;
           joined = strip_found (codes "o=") content a.0 a.1 ∙ ap (λ (x : List ℕ). codes "o=" ++ x) (name.0 ∙ ap (λ (x : List ℕ). n.0.0 ++ (32 ∷ x)) number.0);
           name_is = (ltb-true 0 (length n.0.0) word.0, name.1);
-          number_is = subst (IsDigits d.0.0) (some_is v.0 id m.2) (digits_both.sound d.0.0 v.0 v.1);
+          number_is = subst (IsDigits d.0.0) (some_is v.0 id m.2) (origin_digits.sound d.0.0 v.0 v.1);
           more_is = ltb-true 0 (length d.0.1) more.0;
         }
 
@@ -73,7 +54,7 @@ origin_both = record { sound = found; complete = given }
     given content id h =
         let behind = h.number ++ (32 ∷ h.more) in
         let lacks : Lacks 32 h.number = digits_lack 32 h.number (omega arith) h.number_is.numeral.1 in
-        ap origin_read h.joined ∙ rw (cut_at 32 h.name behind h.name_is.1, rest_true h.name h.name_is.0, cut_at 32 h.number h.more lacks, digits_both.complete h.number id h.number_is, rest_true h.more h.more_is) refl
+        ap origin_read h.joined ∙ rw (cut_at 32 h.name behind h.name_is.1, rest_true h.name h.name_is.0, cut_at 32 h.number h.more lacks, origin_digits.complete h.number id h.number_is, rest_true h.more h.more_is) refl
 
 one_behind : (letter : List ℕ) → length letter ≡ 2 → (content text : List ℕ) → IsField letter content text → text ≡ drop 2 content
 one_behind letter two content text h = sym (rw (h.0, ← two) (drop-append_seam letter text))

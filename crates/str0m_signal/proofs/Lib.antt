@@ -18,6 +18,7 @@ pub mod LinesAgain
 pub mod Mapped
 pub mod MediaLaws
 pub mod NegotiationLaws
+pub mod PairByPair
 pub mod PairLaws
 pub mod PartLaws
 pub mod PickedRows

@@ -1,16 +1,10 @@
 -- `lines_of` gives the lines of a text, and no others are.
-use Rattle.str0m_signal.proofs.Common.{◌≡◌, ◌≢◌, ◌⊎◌, ℕ, ◌<◌, ◌+◌, true, false, cond, eqb, List, [], ◌∷◌, ◌++◌, length, Option, Some, None, refl, sym, ap, ◌∙◌, arith, inl, inr, eqb-true, ne_eqb, cases_eq, cases_Bool, both_ways, and_parts, and_left, and_right, take, ◌-◌, Bor, some_pair_parts, lacks_true, lacks_from, codes, strip, ◌>>=◌, strip_found, bind_some, if_some, lacks}
-use Rattle.str0m_values.proofs.BothWays.{Reads}
-use Rattle.std.specs.Prelude.{MatchOption, unwrap_or}
+use Rattle.str0m_signal.proofs.Common.{◌≡◌, ◌≢◌, ◌⊎◌, ℕ, ◌<◌, ◌+◌, true, false, cond, eqb, List, [], ◌∷◌, ◌++◌, length, Option, Some, None, refl, sym, ap, ◌∙◌, arith, inl, inr, eqb-true, ne_eqb, cases_eq, cases_Bool, both_ways, and_parts, and_left, and_right, take, ◌-◌, Bor, some_pair_parts, lacks_true, lacks_from, codes, strip, ◌>>=◌, strip_found, bind_some, if_some, lacks, Reads, MatchOption, unwrap_or}
 use Rattle.std.specs.Str.Pattern.{FindsCharSuffix}
 use Rattle.std.proofs.lemmas.Str.Pattern.{strip_suffix_char}
-use Rattle.str0m_signal.specs.Lines.{IsAttributeLine, OneLine}
-use Rattle.str0m_signal.specs.LineReading.{read_attribute, line_read}
-use Rattle.str0m_signal.specs.Lines.{Line, joined, EndsIn, IsLine, AreLines, Lines}
-use Rattle.str0m_signal.specs.LineReading.{is_crlf, longer, behind_first, line_from, lines_of}
-
-cons_parts : (x y : ℕ) (xs ys : List ℕ) → x ∷ xs ≡ y ∷ ys → (x ≡ y) × (xs ≡ ys)
-cons_parts x y xs ys e = (cc, cc)
+use Rattle.str0m_signal.specs.Lines.{IsAttributeLine, OneLine, Line, joined, EndsIn, IsLine, AreLines, Lines}
+use Rattle.str0m_signal.specs.LineReading.{read_attribute, line_read, is_crlf, longer, behind_first, line_from, lines_of}
+use Rattle.str0m_signal.proofs.PartLaws.{cons_parts}
 
 nil_cons : (y : ℕ) (ys : List ℕ) → [] ≡ y ∷ ys → ⊥
 nil_cons y ys e = absurd cc

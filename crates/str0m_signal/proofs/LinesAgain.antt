@@ -1,6 +1,5 @@
 -- The lines of what was read; m-lines and bandwidths are printed as they were.
-use Rattle.str0m_signal.proofs.Common.{◌≡◌, ◌≢◌, ◌⊎◌, ℕ, List, [], ◌∷◌, ◌++◌, Option, Some, None, IfSome, refl, get_or, sym, subst, ap, ◌∙◌, arith, lit<, lit≤, inl, inr, codes, AllByRecursion, append_assoc, FirstFit, Parted, Lacks, IsWord, IsNum, Lacks-append, bandwidth_text, line_end, pts_text, formats_text, media_type_text, Bandwidth, MediaLine, MediaType, Proto, Sctp}
-use Rattle.str0m_values.proofs.BothWays.{none_reads}
+use Rattle.str0m_signal.proofs.Common.{◌≡◌, ◌≢◌, ◌⊎◌, ℕ, List, [], ◌∷◌, ◌++◌, Option, Some, None, IfSome, refl, get_or, sym, subst, ap, ◌∙◌, arith, lit<, lit≤, inl, inr, codes, AllByRecursion, append_assoc, FirstFit, Parted, Lacks, IsWord, IsNum, Lacks-append, bandwidth_text, line_end, pts_text, formats_text, media_type_text, Bandwidth, MediaLine, MediaType, Proto, Sctp, none_reads}
 use Rattle.str0m_sdp.specs.declared.media_type.MediaType.TheVariants as typ
 use Rattle.str0m_signal.specs.Chains.{Chain, Taken}
 use Rattle.str0m_signal.specs.Lines.{Line, joined, AreLines, OneLine}

@@ -1,8 +1,5 @@
 -- Rounds of sections, one after another.
-use Rattle.str0m_signal.proofs.Common.{◌≡◌, ◌<◌, ◌+◌, ◌++◌, ℕ, Bool, true, false, cond, List, [], ◌∷◌, Option, Some, None, Result, Ok, Err, All, IfOk, IfSome, length, take, get_or, map, filter_map, option_map, option_to_list, refl, sym, ap, subst, ◌∙◌, All-nil, All-cons, All-head, All-tail, PayloadParams, Round, is_media, HasBoundedRows, MediaLine}
-use Rattle.std.proofs.Common.{OnErr}
-use Rattle.std.proofs.lemmas.List.{map-append}
-use Rattle.str0m_formats.specs.Bounds.{IsBounded}
+use Rattle.str0m_signal.proofs.Common.{◌≡◌, ◌<◌, ◌+◌, ◌++◌, ℕ, Bool, true, false, cond, List, [], ◌∷◌, Option, Some, None, Result, Ok, Err, All, IfOk, IfSome, length, take, get_or, map, filter_map, option_map, option_to_list, refl, sym, ap, subst, ◌∙◌, All-nil, All-cons, All-head, All-tail, PayloadParams, Round, is_media, HasBoundedRows, MediaLine, OnErr, map-append, IsBounded}
 use Rattle.str0m_sdp.proofs.FilterMapLaws.{all_mapped, map_more}
 use Rattle.str0m_sdp.specs.SectionDirection.{section_direction}
 use Rattle.str0m_sdp.specs.SectionRows.{rows}

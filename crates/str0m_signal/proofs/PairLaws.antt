@@ -1,7 +1,5 @@
 -- The parts of an fmtp pair.
-use Rattle.str0m_signal.proofs.Common.{◌≡◌, ◌⊎◌, ℕ, ◌<◌, ◌≤◌, zero, suc, Bool, true, false, not, ◌&&◌, ◌||◌, ◌==◌, List, [], ◌∷◌, ◌++◌, length, take, drop, None, Some, refl, sym, ap, ◌∙◌, arith, inl, inr, lt-ltb, cases_eq, ne_eqb, false≢true, append-nil, AllByRecursion, list_any, Lacks, IsRest, before, lacks, when, is_rest, before_front, strip_at}
-use Rattle.std.proofs.Common.{if◌then◌else◌}
-use Rattle.std.proofs.lemmas.List.{take-append-drop}
+use Rattle.str0m_signal.proofs.Common.{◌≡◌, ◌⊎◌, ℕ, ◌<◌, ◌≤◌, zero, suc, Bool, true, false, not, ◌&&◌, ◌||◌, ◌==◌, List, [], ◌∷◌, ◌++◌, length, take, drop, None, Some, refl, sym, ap, ◌∙◌, arith, inl, inr, lt-ltb, cases_eq, ne_eqb, false≢true, append-nil, AllByRecursion, list_any, Lacks, IsRest, before, lacks, when, is_rest, before_front, strip_at, if◌then◌else◌, take-append-drop}
 use Rattle.str0m_signal.specs.FmtpReading.{ends_value, NoneEnds, IsValueEnd, value_read, is_blank, skip_blanks, key_read}
 
 -- a text without spaces and tabs has neither

@@ -1,9 +1,5 @@
 -- Parts with a character between them are read both ways, and one by one.
-use Rattle.str0m_signal.proofs.Common.{◌≡◌, ◌⊎◌, ℕ, ◌<◌, true, false, eqb, List, [], ◌∷◌, ◌++◌, length, Option, Some, None, Result, Ok, IfOk, Bool, refl, sym, ap, subst, ◌∙◌, arith, inl, inr, length-append, is_some, ne_eqb, eq-eqb, Lacks, ◌>>=◌, cut, Parted, bind_some, some_is, cut_found, cut_none_lacks}
-use Rattle.str0m_values.proofs.BothWays.{Reads}
-use Rattle.std.proofs.Common.{append_assoc, Vec, Global}
-use Rattle.std.specs.Prelude.{option_map}
-use Rattle.std.specs.List.{slice_split, onto_first}
+use Rattle.str0m_signal.proofs.Common.{◌≡◌, ◌⊎◌, ℕ, ◌<◌, true, false, eqb, List, [], ◌∷◌, ◌++◌, length, Option, Some, None, Result, Ok, IfOk, Bool, refl, sym, ap, subst, ◌∙◌, arith, inl, inr, length-append, is_some, ne_eqb, eq-eqb, Lacks, ◌>>=◌, cut, Parted, bind_some, some_is, cut_found, cut_none_lacks, Reads, append_assoc, Vec, Global, option_map, slice_split, onto_first}
 use Rattle.str0m_signal.specs.FormReading.{all_read, parted_read}
 use Rattle.str0m_signal.specs.LineReading.{Takes}
 
@@ -18,9 +14,16 @@ split_whole : (c : ℕ) (a : List ℕ) → Lacks c a → slice_split (λ x. eqb 
 split_whole c [] h = refl
 split_whole c (x ∷ xs) h = rw (ne_eqb x c h.0) (ap (onto_first x) (split_whole c xs h.1))
 
-regroup : {A : Type 0} (front : List A) (x : A) (o : Option (List A)) → with_front (front ++ x ∷ []) o ≡ with_front front (o >>= λ xs. Some (x ∷ xs))
+pub regroup : {A : Type 0} (front : List A) (x : A) (o : Option (List A)) → with_front (front ++ x ∷ []) o ≡ with_front front (o >>= λ xs. Some (x ∷ xs))
 regroup front x None = refl
 regroup front x (Some xs) = ap (λ t. Some t) (append_assoc front (x ∷ []) xs)
+
+pub cons_parts : {A : Type 0} (x y : A) (xs ys : List A) → x ∷ xs ≡ y ∷ ys → (x ≡ y) × (xs ≡ ys)
+cons_parts x y xs ys e = (cc, cc)
+
+pub some_bound : {A : Type 0} (o : Option (List A)) (x : A) → is_some (o >>= λ xs. Some (x ∷ xs)) ≡ is_some o
+some_bound None x = refl
+some_bound (Some xs) x = refl
 
 pub cut_shorter : (c : ℕ) (text a b : List ℕ) → cut c text ≡ Some (a, b) → length b < length text
 cut_shorter c text a b e = let found = cut_found c text a b e in omega (arith, ap length found.0, length-append a (c ∷ b))
@@ -71,10 +74,6 @@ module _ {A : Type 0} (c : ℕ) (f : List ℕ → Option A) where
       sym (ap (with_front front) one) ∙ so_far
 
   -- ---- whether all are parts
-
-  some_bound : (o : Option (List A)) (x : A) → is_some (o >>= λ xs. Some (x ∷ xs)) ≡ is_some o
-  some_bound None x = refl
-  some_bound (Some xs) x = refl
 
   decides : (o : Option A) (p : Option (List A)) → is_some o ≡ true → is_some (o >>= λ x. p >>= λ xs. Some (x ∷ xs)) ≡ is_some p
   decides None p e = absurd cc
@@ -127,9 +126,6 @@ module _ {A : Type 0} {F : List ℕ → A → Type 0} {f : List ℕ → Option A
       let b = bind_some (parted_read c f p.1) (λ ys. Some (a.0 ∷ ys)) xs a.2 in
       inr (record { x = a.0; ys = b.0; part = p.0; behind = p.1; joined = found.0; part_is = reads.sound p.0 a.0 a.1; more_are = b.1; same = some_is (a.0 ∷ b.0) xs b.2 })
 
-  tail_is : (x y : A) (xs ys : List A) → x ∷ xs ≡ y ∷ ys → (x ≡ y) × (xs ≡ ys)
-  tail_is x y xs ys e = (cc, cc)
-
   not_nil : (x : A) (xs : List A) → x ∷ xs ≡ [] → ⊥
   not_nil x xs e = absurd cc
 
@@ -141,14 +137,14 @@ module _ {A : Type 0} {F : List ℕ → A → Type 0} {f : List ℕ → Option A
       ]
   found (x ∷ []) text e =
       elim (step text (x ∷ []) (cut c text) refl e) [
-        | inl last ↦ subst (F text) (tail_is last.x x [] [] last.same).0 last.part_is
-        | inr more ↦ absurd (found [] more.behind (more.more_are ∙ ap (λ (t : List A). Some t) (tail_is more.x x more.ys [] more.same).1))
+        | inl last ↦ subst (F text) (cons_parts last.x x [] [] last.same).0 last.part_is
+        | inr more ↦ absurd (found [] more.behind (more.more_are ∙ ap (λ (t : List A). Some t) (cons_parts more.x x more.ys [] more.same).1))
       ]
   found (x ∷ (y ∷ ys)) text e =
       elim (step text (x ∷ (y ∷ ys)) (cut c text) refl e) [
-        | inl last ↦ absurd (not_nil y ys (sym (tail_is last.x x [] (y ∷ ys) last.same).1))
+        | inl last ↦ absurd (not_nil y ys (sym (cons_parts last.x x [] (y ∷ ys) last.same).1))
         | inr more ↦
-            let same = tail_is more.x x more.ys (y ∷ ys) more.same in
+            let same = cons_parts more.x x more.ys (y ∷ ys) more.same in
             (more.part, more.behind, more.joined, subst (F more.part) same.0 more.part_is, found (y ∷ ys) more.behind (more.more_are ∙ ap (λ (t : List A). Some t) same.1))
       ]
 

@@ -1,8 +1,5 @@
 -- Some of the rows that may be printed may be printed, where there is one.
-use Rattle.str0m_signal.proofs.Common.{◌≡◌, ◌≢◌, ◌≤◌, ℕ, Bool, true, false, cond, filter, List, [], ◌∷◌, sym, subst, ◌∙◌, arith, AllByRecursion, recursion_from_All, types, types_of, PayloadParams}
-use Rattle.str0m_formats.specs.PlainRow.{IsPlain}
-use Rattle.std.proofs.lemmas.List.Elements.{All-from_recursion}
-use Rattle.str0m_formats.specs.TypeSets.{times}
+use Rattle.str0m_signal.proofs.Common.{◌≡◌, ◌≢◌, ◌≤◌, ℕ, Bool, true, false, cond, filter, List, [], ◌∷◌, sym, subst, ◌∙◌, arith, AllByRecursion, recursion_from_All, types, types_of, PayloadParams, IsPlain, All-from_recursion, times}
 use Rattle.str0m_formats.proofs.Times.{times-append}
 use Rattle.str0m_signal.specs.ReadBack.{MayBePrinted}
 

@@ -1,13 +1,7 @@
 -- The lines of plain rows, whose numbers keep to their types' ranges, read as values that say the rows' formats again.
-use Rattle.str0m_signal.proofs.Common.{◌≡◌, ◌≢◌, ◌≤◌, inl, inr, ℕ, Bool, true, false, cond, List, [], ◌∷◌, ◌++◌, Option, Some, None, IfSome, refl, sym, ap, ◌∙◌, subst, arith, AllByRecursion, lt-ltb, cases_lt, HoldsRowNumbers, telephone_max, types_of, types, Codec, PayloadParams, values_printed, reads, row_attrs}
-use Rattle.str0m_formats.specs.PlainRow.{IsPlain}
-use Rattle.std.specs.Prelude.{nat_lt, find, option_to_list}
-use Rattle.str0m_formats.specs.Bounds.{IsByte}
-use Rattle.str0m_formats.specs.Codec.{content, other}
-use Rattle.str0m_formats.specs.Rows.{AllSmall}
+use Rattle.str0m_signal.proofs.Common.{◌≡◌, ◌≢◌, ◌≤◌, inl, inr, ℕ, Bool, true, false, cond, List, [], ◌∷◌, ◌++◌, Option, Some, None, IfSome, refl, sym, ap, ◌∙◌, subst, arith, AllByRecursion, lt-ltb, cases_lt, HoldsRowNumbers, telephone_max, types_of, types, Codec, PayloadParams, values_printed, reads, row_attrs, IsPlain, nat_lt, find, option_to_list, IsByte, content, other, AllSmall, values_read, printed_line}
 use Rattle.str0m_formats.specs.declared.codec.Codec.TheVariants as codec
 use Rattle.str0m_formats.proofs.PrintedLine.{printed_pairs}
-use Rattle.str0m_sdp.proofs.ReadValues.{values_read, printed_line}
 use Rattle.str0m_signal.proofs.RowLines.{ReadAs, IsRate, KeepsToRow, events_read, pairs_row_read}
 use Rattle.str0m_signal.proofs.SectionLines.{AreTypes}
 

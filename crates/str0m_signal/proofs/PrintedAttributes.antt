@@ -1,5 +1,5 @@
 -- Printed attribute lines and their parts.
-use Rattle.str0m_signal.proofs.Common.{◌≡◌, ◌⊎◌, ◌≤◌, ◌<◌, ◌^◌, ℕ, true, List, [], ◌∷◌, ◌++◌, refl, sym, subst, arith, lit≤, inl, inr, codes, digit_value, decimal, decimal_is_IsNumeral, lacks, Lacks, IsNum, lacks_from, digits_lack, attribute_line, MediaAttribute}
+use Rattle.str0m_signal.proofs.Common.{◌≡◌, ◌⊎◌, ◌≤◌, ◌<◌, ◌^◌, ℕ, true, List, [], ◌∷◌, ◌++◌, refl, sym, subst, arith, lit≤, inl, inr, codes, digit_value, decimal, decimal_is_IsNumeral, lacks, Lacks, IsNum, lacks_from, digits_lack, attribute_line, MediaAttribute, lacks_both}
 use Rattle.str0m_formats.proofs.RoundTrip.{decimal_reads}
 use Rattle.str0m_signal.specs.Lines.{IsAttributeLine}
 use Rattle.str0m_signal.specs.FormTable.{any}
@@ -31,12 +31,8 @@ both_read {A} text F (x ∷ xs) ys reads more (inr (a, rest, e, line, later)) k 
 abbrev pub HoldsNoEnd : List ℕ → Type 0
 HoldsNoEnd text = Lacks 10 text × Lacks 13 text
 
-pub both_lack : (c : ℕ) (xs ys : List ℕ) → Lacks c xs → Lacks c ys → Lacks c (xs ++ ys)
-both_lack c [] ys h k = k
-both_lack c (x ∷ xs) ys h k = (h.0, both_lack c xs ys h.1 k)
-
 pub no_ends : (xs ys : List ℕ) → HoldsNoEnd xs → HoldsNoEnd ys → HoldsNoEnd (xs ++ ys)
-no_ends xs ys h k = (both_lack 10 xs ys h.0 k.0, both_lack 13 xs ys h.1 k.1)
+no_ends xs ys h k = (lacks_both 10 xs ys h.0 k.0, lacks_both 13 xs ys h.1 k.1)
 
 pub no_end : (text : List ℕ) → lacks 10 text ≡ true → lacks 13 text ≡ true → HoldsNoEnd text
 no_end text e f = (lacks_from 10 text e, lacks_from 13 text f)

@@ -1,10 +1,6 @@
 -- What is printed, read again line by line.
-use Rattle.str0m_signal.proofs.Common.{◌≡◌, ◌<◌, ◌+◌, ◌++◌, ◌∷◌, [], ◌&&◌, eqb, arith, ℕ, suc, Bool, true, false, List, length, take, drop, get_or, Option, Some, None, IfSome, inl, inr, refl, sym, ap, subst, ◌∙◌, true≢false, eqb-true, none-some, same_Some, lacks, IsTheOnly, Lacks, lacks_true, lacks_from, line_end}
-use Rattle.str0m_values.proofs.BothWays.{Reads}
-use Rattle.std.proofs.Common.{take-append-drop, drop-cons}
+use Rattle.str0m_signal.proofs.Common.{◌≡◌, ◌<◌, ◌+◌, ◌++◌, ◌∷◌, [], ◌&&◌, eqb, arith, ℕ, suc, Bool, true, false, List, length, take, drop, get_or, Option, Some, None, IfSome, inl, inr, refl, sym, ap, subst, ◌∙◌, true≢false, eqb-true, none-some, same_Some, lacks, IsTheOnly, Lacks, lacks_true, lacks_from, line_end, Reads, take-append-drop, drop-cons, append_cancel_right, IfSome_then}
 use Rattle.std.proofs.lemmas.Grind.{take_at_read}
-use Rattle.std.proofs.lemmas.List.{append_cancel_right}
-use Rattle.std.proofs.lemmas.Option.{IfSome_then}
 use Rattle.str0m_signal.specs.LineReading.{read_attribute}
 use Rattle.str0m_signal.specs.Writable.{AreReadAs, IsPrintedAs, IsReadBy, PutsBack}
 

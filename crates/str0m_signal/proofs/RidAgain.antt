@@ -1,7 +1,6 @@
 -- Rid and simulcast lines are printed as they were read.
-use Rattle.str0m_signal.proofs.Common.{◌≡◌, ◌≢◌, ◌≤◌, get_or, ℕ, Bool, true, false, List, [], ◌∷◌, ◌++◌, refl, sym, subst, ap, ◌∙◌, arith, lit<, lit≤, inl, inr, codes, digit_value, decimal, join_by, append_assoc, append-nil, name_text, RestrictionId, SimulcastLayer, Parted, Lacks, IsRest, IsPt, Lacks-append}
+use Rattle.str0m_signal.proofs.Common.{◌≡◌, ◌≢◌, ◌≤◌, get_or, ℕ, Bool, true, false, List, [], ◌∷◌, ◌++◌, refl, sym, subst, ap, ◌∙◌, arith, lit<, lit≤, inl, inr, codes, digit_value, decimal, join_by, append_assoc, append-nil, name_text, RestrictionId, SimulcastLayer, Parted, Lacks, IsRest, IsPt, Lacks-append, lacks_both, id_text, layer_text, layers_text}
 use Rattle.str0m_sdp.specs.Rid.{restriction_text, pts_part, restrictions_part}
-use Rattle.str0m_sdp.specs.Simulcast.{id_text, layer_text, layers_text}
 use Rattle.str0m_signal.specs.Fmtp.{IsKey}
 use Rattle.str0m_signal.specs.Forms.{Two}
 use Rattle.str0m_signal.specs.Rid.{IsActive, IsRestriction, AreRestrictions, AreTyped, AreLists, IsMore, IsDirected}
@@ -9,7 +8,7 @@ use Rattle.str0m_signal.specs.Simulcast.{IsAlternative, IsLayer, IsSide, AreBoth
 use Rattle.str0m_signal.specs.WrittenAgain.{NamesNoTypes}
 use Rattle.str0m_signal.proofs.Formats.{behind_lacks}
 use Rattle.str0m_signal.proofs.PiecesAgain.{Again, num_again, two_again, behind_again, parted_again}
-use Rattle.str0m_signal.proofs.PrintedAttributes.{both_lack}
+use Rattle.str0m_signal.proofs.PartLaws.{cons_parts}
 
 -- ---- restrictions
 
@@ -38,17 +37,14 @@ restrictions_lack c far text (pair ∷ pairs) h lacks = restrictions_again.lacks
 
 -- ---- which text begins with the label of types
 
-same_head : (x y : ℕ) (xs ys : List ℕ) → x ∷ xs ≡ y ∷ ys → (x ≡ y) × (xs ≡ ys)
-same_head x y xs ys e = (cc, cc)
-
 -- a key and `=` begin with the label only where the key is the label's name
 key_is : (key value rest : List ℕ) → IsRest key → Lacks 61 key → key ++ (codes "=" ++ value) ≡ codes "pt=" ++ rest → key ≡ codes "pt"
 key_is [] value rest filled lacks e = absurd (omega (arith, filled))
 key_is (a ∷ []) value rest filled lacks e =
     absurd (let d : 61 ≡ 116 = ap (λ l. get_or l 1 0) e in omega arith)
 key_is (a ∷ (b ∷ [])) value rest filled lacks e =
-    let first = same_head a 112 (b ∷ (61 ∷ value)) (116 ∷ (61 ∷ rest)) e in
-    let second = same_head b 116 (61 ∷ value) (61 ∷ rest) first.1 in
+    let first = cons_parts a 112 (b ∷ (61 ∷ value)) (116 ∷ (61 ∷ rest)) e in
+    let second = cons_parts b 116 (61 ∷ value) (61 ∷ rest) first.1 in
     ap (λ (x : ℕ). x ∷ (b ∷ [])) first.0 ∙ ap (λ (x : ℕ). 112 ∷ (x ∷ [])) second.0
 key_is (a ∷ (b ∷ (c ∷ cs))) value rest filled lacks e =
     absurd (lacks.1.1.0 (ap (λ l. get_or l 2 0) e))
@@ -116,7 +112,7 @@ typed_lacks c far text n ns (pair ∷ pairs) (inl h) lacks = absurd (let e = h.1
 typed_lacks c far text n ns (pair ∷ pairs) (inr h) lacks =
     let whole : Lacks c (h.0 ++ (59 ∷ h.1)) = subst (Lacks c) h.2 lacks in
     let behind = behind_lacks c h.0 (59 ∷ h.1) whole in
-    both_lack c (join_by decimal (codes ",") (n ∷ ns)) (59 ∷ restrictions_text (pair ∷ pairs))
+    lacks_both c (join_by decimal (codes ",") (n ∷ ns)) (59 ∷ restrictions_text (pair ∷ pairs))
     (types_again.lacks c far h.0 (n ∷ ns) h.4 (Lacks-append c h.0 (59 ∷ h.1) whole))
     (behind.0, restrictions_lack c far h.1 (pair ∷ pairs) h.5 behind.1)
 
@@ -172,7 +168,7 @@ directed_again = record {
   form = λ text fields h. ((more_text fields.1, refl, h.0.2, more_form h.0.0 fields.1 h.0.3 h.1), h.1);
   lacks = λ c far text fields h lacks.
       let whole : Lacks c (fields.0 ++ h.0.0) = subst (Lacks c) h.0.1 lacks in
-      both_lack c fields.0 (more_text fields.1) (Lacks-append c fields.0 h.0.0 whole)
+      lacks_both c fields.0 (more_text fields.1) (Lacks-append c fields.0 h.0.0 whole)
       (more_lacks c far h.0.0 fields.1 h.0.3 (behind_lacks c fields.0 h.0.0 whole));
 }
 
@@ -235,7 +231,7 @@ side_lacks text [] h = absurd h
 side_lacks text (layer ∷ []) h =
     subst (Lacks 32) (sym (append-nil (layer_text layer))) (name_lacks text layer.restriction_id h.0 h.1)
 side_lacks text (layer ∷ (next ∷ layers)) h =
-    both_lack 32 (layer_text layer) (59 ∷ layers_text (next ∷ layers)) (name_lacks h.0 layer.restriction_id h.3.0 h.3.1)
+    lacks_both 32 (layer_text layer) (59 ∷ layers_text (next ∷ layers)) (name_lacks h.0 layer.restriction_id h.3.0 h.3.1)
     ((λ e. absurd (omega (arith, e))), side_lacks h.1 (next ∷ layers) h.4)
 
 -- what stands behind the label
@@ -281,7 +277,7 @@ sides_lack c far other text (s ∷ send) (r ∷ recv) (inr (body, e, (first, sec
     let parts : Lacks c (first ++ (32 ∷ second)) = subst (Lacks c) f (behind_lacks c (codes "recv ") body whole) in
     let behind = behind_lacks c first (32 ∷ second) parts in
     let sent_lacks = behind_lacks c (codes "send ") sent_text (subst (Lacks c) g behind.1) in
-    both_lack c (codes "send ") _ other.0
-    (both_lack c (layers_text (s ∷ send)) _ (side_again.lacks c far sent_text (s ∷ send) sent sent_lacks)
-    (both_lack c (codes " recv ") _ other.1
+    lacks_both c (codes "send ") _ other.0
+    (lacks_both c (layers_text (s ∷ send)) _ (side_again.lacks c far sent_text (s ∷ send) sent sent_lacks)
+    (lacks_both c (codes " recv ") _ other.1
     (side_again.lacks c far first (r ∷ recv) received (Lacks-append c first (32 ∷ second) parts))))

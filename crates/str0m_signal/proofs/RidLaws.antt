@@ -1,21 +1,16 @@
 -- The line of a stream that may be restricted is read exactly where its form holds.
-use Rattle.str0m_signal.proofs.Common.{◌≡◌, ◌≢◌, ℕ, zero, suc, ◌<◌, Bool, true, false, List, [], ◌∷◌, ◌++◌, length, Option, Some, None, refl, sym, ap, subst, ◌∙◌, arith, inl, inr, length-append, codes, is_some, some_pair_parts, none-some, append-nil, RestrictionId, ◌>>=◌, cut, strip, Parted, Lacks, IsPt, bind_some, some_is, or_some, cut_none, cut_at, cut_found, strip_at, strip_found, when_some, number_lacks, rest_true}
-use Rattle.str0m_values.proofs.BothWays.{Reads}
-use Rattle.std.proofs.Common.{append_assoc}
-use Rattle.str0m_values.proofs.CutLaws.{strip_none}
-use Rattle.str0m_signal.specs.Fmtp.{AreBlanks, IsKey, IsValue}
-use Rattle.str0m_signal.specs.FmtpReading.{value_read, skip_blanks, key_read, pairs_after}
+use Rattle.str0m_signal.proofs.Common.{◌≡◌, ◌≢◌, ℕ, suc, ◌<◌, Bool, true, List, [], ◌∷◌, ◌++◌, length, Option, Some, None, refl, sym, ap, subst, ◌∙◌, arith, inl, inr, length-append, codes, some_pair_parts, none-some, append-nil, RestrictionId, ◌>>=◌, cut, strip, Parted, Lacks, IsPt, bind_some, some_is, or_some, cut_none, cut_at, cut_found, strip_at, strip_found, when_some, number_lacks, rest_true, num_both, Reads, append_assoc, strip_none}
+use Rattle.str0m_signal.specs.Fmtp.{AreBlanks, IsKey, IsValue, OneByOne}
+use Rattle.str0m_signal.specs.FmtpReading.{value_read, skip_blanks, key_read, pairs_at}
 use Rattle.str0m_signal.specs.Rid.{IsActive, IsRestriction, AreRestrictions, AreTyped, AreLists, IsMore, IsDirection, IsDirected, IsRid}
-use Rattle.str0m_signal.specs.RidReading.{active_read, next_read, restriction_read, restrictions_at, restrictions_read, restricted_read, types_read, typed_after, typed_read, lists_after, lists_read, more_read, word_read, direction_read, directed_read, rid_fields_read}
+use Rattle.str0m_signal.specs.RidReading.{active_read, next_read, restriction_read, restrictions_read, restricted_read, types_read, typed_after, typed_read, lists_after, lists_read, more_read, word_read, direction_read, directed_read, rid_fields_read}
 use Rattle.str0m_signal.specs.StreamName.{is_stream_name}
-use Rattle.str0m_signal.proofs.FmtpLaws.{with_pairs, value_found, key_found, key_given, skips, starts_kept, key_starts}
-use Rattle.str0m_signal.proofs.FormLaws.{num_both, two_both}
+use Rattle.str0m_signal.proofs.FmtpLaws.{value_found, key_found, key_given, skips, starts_kept, key_starts}
+use Rattle.str0m_signal.proofs.FormLaws.{two_both}
+use Rattle.str0m_signal.proofs.PairByPair.{Pairs, all_found, all_given}
 use Rattle.str0m_signal.proofs.PairLaws.{EndsValue, value_given, IsBlank-skip}
 use Rattle.str0m_signal.proofs.PartLaws.{parted_both}
 use Rattle.str0m_signal.proofs.SimulcastLaws.{name_from, name_true, parted_lacks}
-
-abbrev Pairs : Type 0
-Pairs = List (List ℕ × List ℕ)
 
 -- ---- one restriction
 
@@ -88,94 +83,28 @@ restriction_shorter text pair more e =
     let h = restriction_found text pair (Some more) e in
     omega (arith, ap length h.1, length-append h.0 (59 ∷ more))
 
--- ---- the loops
-
-regroup_pairs : (done : Pairs) (pair : List ℕ × List ℕ) (o : Option Pairs) → with_pairs (done ++ pair ∷ []) o ≡ with_pairs done (o >>= λ pairs. Some (pair ∷ pairs))
-regroup_pairs done pair None = refl
-regroup_pairs done pair (Some pairs) = ap (λ (t : Pairs). Some t) (append_assoc done (pair ∷ []) pairs)
-
-module _ (done : Pairs) (total : Option Pairs) (rest : List ℕ) where
-  pub restrictions_fail : (k : ℕ) → length rest < k → restriction_read rest ≡ None → with_pairs done (restrictions_at k rest) ≡ total → None ≡ total
-  unfolding restrictions_at
-  restrictions_fail zero lt e so_far = absurd (omega arith)
-  restrictions_fail (suc k) lt e so_far =
-      let one : restrictions_at (suc k) rest ≡ None = rw e refl in
-      sym (ap (with_pairs done) one) ∙ so_far
-
-  pub restrictions_end : (k : ℕ) (pair : List ℕ × List ℕ) → length rest < k → restriction_read rest ≡ Some (pair, None) → with_pairs done (restrictions_at k rest) ≡ total → Some (done ++ pair ∷ []) ≡ total
-  unfolding restrictions_at
-  restrictions_end zero pair lt e so_far = absurd (omega arith)
-  restrictions_end (suc k) pair lt e so_far =
-      let one : restrictions_at (suc k) rest ≡ Some (pair ∷ []) = rw e refl in
-      sym (ap (with_pairs done) one) ∙ so_far
-
-  pub restrictions_more : (k : ℕ) (pair : List ℕ × List ℕ) (more : List ℕ) → length rest < k → restriction_read rest ≡ Some (pair, Some more) → with_pairs done (restrictions_at k rest) ≡ total → (n : ℕ) × (length more < n) × (with_pairs (done ++ pair ∷ []) (restrictions_at n more) ≡ total)
-  unfolding restrictions_at
-  restrictions_more zero pair more lt e so_far = absurd (omega arith)
-  restrictions_more (suc k) pair more lt e so_far =
-      let one : restrictions_at (suc k) rest ≡ (restrictions_at k more >>= λ pairs. Some (pair ∷ pairs)) = rw e refl in
-      (k, omega (arith, restriction_shorter rest pair more e), regroup_pairs done pair (restrictions_at k more) ∙ sym (ap (with_pairs done) one) ∙ so_far)
-
-some_more : (pair : List ℕ × List ℕ) (o : Option Pairs) → is_some (o >>= λ pairs. Some (pair ∷ pairs)) ≡ is_some o
-some_more pair None = refl
-some_more pair (Some pairs) = refl
-
-module _ (total : Bool) (rest : List ℕ) where
-  pub are_none : (k : ℕ) → length rest < k → restriction_read rest ≡ None → is_some (restrictions_at k rest) ≡ total → false ≡ total
-  unfolding restrictions_at
-  are_none zero lt e so_far = absurd (omega arith)
-  are_none (suc k) lt e so_far =
-      let one : restrictions_at (suc k) rest ≡ None = rw e refl in
-      sym (ap (λ (o : Option Pairs). is_some o) one) ∙ so_far
-
-  pub are_ended : (k : ℕ) (pair : List ℕ × List ℕ) → length rest < k → restriction_read rest ≡ Some (pair, None) → is_some (restrictions_at k rest) ≡ total → true ≡ total
-  unfolding restrictions_at
-  are_ended zero pair lt e so_far = absurd (omega arith)
-  are_ended (suc k) pair lt e so_far =
-      let one : restrictions_at (suc k) rest ≡ Some (pair ∷ []) = rw e refl in
-      sym (ap (λ (o : Option Pairs). is_some o) one) ∙ so_far
-
-  pub are_more : (k : ℕ) (pair : List ℕ × List ℕ) (more : List ℕ) → length rest < k → restriction_read rest ≡ Some (pair, Some more) → is_some (restrictions_at k rest) ≡ total → (n : ℕ) × (length more < n) × (is_some (restrictions_at n more) ≡ total)
-  unfolding restrictions_at
-  are_more zero pair more lt e so_far = absurd (omega arith)
-  are_more (suc k) pair more lt e so_far =
-      let one : restrictions_at (suc k) rest ≡ (restrictions_at k more >>= λ pairs. Some (pair ∷ pairs)) = rw e refl in
-      (k, omega (arith, restriction_shorter rest pair more e), sym (some_more pair (restrictions_at k more)) ∙ sym (ap (λ (o : Option Pairs). is_some o) one) ∙ so_far)
-
 -- ---- restrictions
 
-longer : (text : List ℕ) (pair : List ℕ × List ℕ) (more : List ℕ) (pairs : Pairs) → Stands text pair (Some more) → Parted 59 IsRestriction more pairs → Parted 59 IsRestriction text (pair ∷ pairs)
-longer text pair more [] h ps = absurd ps
-longer text pair more (q ∷ qs) h ps = (h.0, more, h.1, h.2, ps)
+found_parted : (pairs : Pairs) (text : List ℕ) → OneByOne Stands text pairs → Parted 59 IsRestriction text pairs
+found_parted [] text h = h
+found_parted (p ∷ []) text h = h
+found_parted (p ∷ (q ∷ qs)) text h = (h.1.0, h.0, h.1.1, h.1.2, found_parted (q ∷ qs) h.0 h.2)
 
-restrictions_found : (n : ℕ) (text : List ℕ) (pairs : Pairs) → restrictions_at n text ≡ Some pairs → Parted 59 IsRestriction text pairs
-unfolding restrictions_at
-restrictions_found zero text pairs e = absurd cc
-restrictions_found (suc n) text pairs e =
-    let a = bind_some (restriction_read text) (λ p. pairs_after (restrictions_at n) p.0 p.1) pairs e in
-    go a.0.0 a.0.1 (restriction_found text a.0.0 a.0.1 a.1) a.2 (restrictions_found n)
-  where
-    go : (p : List ℕ × List ℕ) (next : Option (List ℕ)) → Stands text p next → pairs_after (restrictions_at n) p next ≡ Some pairs
-        → ((more : List ℕ) (ps : Pairs) → restrictions_at n more ≡ Some ps → Parted 59 IsRestriction more ps)
-        → Parted 59 IsRestriction text pairs
-    go p None h e again = subst (Parted 59 IsRestriction text) (some_is (p ∷ []) pairs e) h
-    go p (Some more) h e again =
-        let b = bind_some (restrictions_at n more) (λ ps. Some (p ∷ ps)) pairs e in
-        subst (Parted 59 IsRestriction text) (some_is (p ∷ b.0) pairs b.2) (longer text p more b.0 h (again more b.0 b.1))
+parted_stands : (pairs : Pairs) (text : List ℕ) → Parted 59 IsRestriction text pairs → OneByOne Stands text pairs
+parted_stands [] text h = h
+parted_stands (p ∷ []) text h = h
+parted_stands (p ∷ (q ∷ qs)) text h = (h.1, (h.0, h.2, h.3), parted_stands (q ∷ qs) h.1 h.4)
 
-restrictions_given : (pairs : Pairs) (n : ℕ) (text : List ℕ) → Parted 59 IsRestriction text pairs → length text < n → restrictions_at n text ≡ Some pairs
-unfolding restrictions_at
-restrictions_given [] n text h lt = absurd h
-restrictions_given (p ∷ []) zero text h lt = absurd (omega arith)
-restrictions_given (p ∷ []) (suc n) text h lt = rw (restriction_given text p None h) refl
-restrictions_given (p ∷ (q ∷ qs)) zero text h lt = absurd (omega arith)
-restrictions_given (p ∷ (q ∷ qs)) (suc n) text h lt =
-    let read = restriction_given text p (Some h.1) (h.0, h.2, h.3) in
-    let again = restrictions_given (q ∷ qs) n h.1 h.4 (omega (arith, restriction_shorter text p h.1 read)) in
-    rw (read, again) refl
+restrictions_found : (text : List ℕ) (pairs : Pairs) → restrictions_read text ≡ Some pairs → Parted 59 IsRestriction text pairs
+restrictions_found text pairs e =
+    found_parted pairs text (all_found restriction_read restriction_shorter Stands restriction_found restriction_given (suc (length text)) text pairs e)
+
+restrictions_given : (text : List ℕ) (pairs : Pairs) → Parted 59 IsRestriction text pairs → restrictions_read text ≡ Some pairs
+restrictions_given text pairs h =
+    all_given restriction_read restriction_shorter Stands restriction_found restriction_given pairs (suc (length text)) text (parted_stands pairs text h) (omega arith)
 
 none_restrict : restrictions_read [] ≡ None
-unfolding restrictions_at
+unfolding pairs_at
 none_restrict = refl
 
 restricted_both : Reads AreRestrictions restricted_read
@@ -189,12 +118,12 @@ restricted_both = record { sound = found; complete = given }
     found [] pairs e = subst (AreRestrictions []) (some_is [] pairs e) refl
     found (x ∷ xs) pairs e =
         let e' : restrictions_read (x ∷ xs) ≡ Some pairs = rw (rest_true (x ∷ xs) (omega arith)) at e in
-        some_of (x ∷ xs) pairs (restrictions_found (suc (length (x ∷ xs))) (x ∷ xs) pairs e')
+        some_of (x ∷ xs) pairs (restrictions_found (x ∷ xs) pairs e')
 
     given : (text : List ℕ) (pairs : Pairs) → AreRestrictions text pairs → restricted_read text ≡ Some pairs
     given text [] h = rw h refl
-    given [] (p ∷ ps) h = absurd (none-some (p ∷ ps) (sym none_restrict ∙ restrictions_given (p ∷ ps) 1 [] h (omega arith)))
-    given (x ∷ xs) (p ∷ ps) h = rw (rest_true (x ∷ xs) (omega arith)) (restrictions_given (p ∷ ps) (suc (length (x ∷ xs))) (x ∷ xs) h (omega arith))
+    given [] (p ∷ ps) h = absurd (none-some (p ∷ ps) (sym none_restrict ∙ restrictions_given [] (p ∷ ps) h))
+    given (x ∷ xs) (p ∷ ps) h = rw (rest_true (x ∷ xs) (omega arith)) (restrictions_given (x ∷ xs) (p ∷ ps) h)
 
 -- ---- payload types
 

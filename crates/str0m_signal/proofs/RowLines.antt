@@ -1,5 +1,5 @@
 -- The printed lines of a row have their forms, and read as the row's lines.
-use Rattle.str0m_signal.proofs.Common.{◌≡◌, ◌≢◌, ◌<◌, ◌≤◌, ℕ, Bool, true, false, List, [], ◌∷◌, ◌++◌, map, filter_map, Option, Some, None, IfSome, option_map, refl, sym, ap, subst, arith, lit<, lit≤, AllByRecursion, cons_option, flat_map, IsRest, printed_and_read, param_text, telephone_max, params_read, Codec, FormatParam, TelephoneEvents, BareRange, BarePtList, Apt, Red, PayloadParams, IsPlainPair, joined_pair, media_attribute_text, row_attrs, MediaAttribute, RtcpFb, Fmtp, reads}
+use Rattle.str0m_signal.proofs.Common.{◌≡◌, ◌≢◌, ◌<◌, ◌≤◌, ℕ, Bool, true, false, List, [], ◌∷◌, ◌++◌, map, filter_map, Option, Some, None, IfSome, option_map, refl, sym, ap, subst, arith, lit<, lit≤, AllByRecursion, cons_option, flat_map, IsRest, printed_and_read, param_text, telephone_max, params_read, Codec, FormatParam, TelephoneEvents, BareRange, BarePtList, Apt, Red, PayloadParams, IsPlainPair, joined_pair, media_attribute_text, row_attrs, MediaAttribute, RtcpFb, Fmtp, reads, feedback_line, feedback_attrs, fmtp_line, format_values, format_attrs, rtx_lines, rtx_attrs, red_lines, red_attrs, map_of_spec, line_read, fmtp_lines, red_reads}
 use Rattle.str0m_sdp.specs.declared.attribute.MediaAttribute.TheVariants.{RtpMap}
 use Rattle.str0m_formats.specs.CodecSpec.{rtp_rate}
 use Rattle.str0m_formats.specs.FormatParams.{params_of}
@@ -7,18 +7,13 @@ use Rattle.str0m_formats.specs.declared.codec.Codec.TheVariants as codec
 use Rattle.str0m_formats.specs.declared.format_params.FormatParams.{FormatParams}
 use Rattle.str0m_formats.proofs.PrintedLine.{joined}
 use Rattle.str0m_formats.proofs.PrintedPairs.{IsLineOf, params_print}
-use Rattle.str0m_sdp.specs.RowAttributes.{feedback_line, feedback_attrs, fmtp_line, format_values, format_attrs, rtx_lines}
-use Rattle.str0m_sdp.specs.RowAttributes.{rtx_attrs, red_lines, red_attrs}
-use Rattle.str0m_sdp.specs.RtpMap.{map_of_spec}
 use Rattle.str0m_sdp.specs.declared.label.TheConstants.{TRANSPORT_CC, REMB, FIR, NACK, PLI}
 use Rattle.str0m_sdp.specs.declared.rtp_map.RtpMap.{RtpMap as Mapping}
 use Rattle.str0m_signal.specs.MediaAttribute.{IsMediaLine}
 use Rattle.str0m_signal.specs.Writable.{IsPrintedAs}
 use Rattle.str0m_signal.proofs.PrintedAttributes.{AreReadAs, one_read, both_read, HoldsNoEnd, no_end}
 use Rattle.str0m_signal.proofs.Mapped.{KeepsToMapping, mapping_printed, feedback_printed}
-use Rattle.str0m_signal.proofs.Formats.{AreShown, apt_printed, red_printed, events_printed, pairs_printed}
-use Rattle.str0m_sdp.proofs.ReadValues.{line_read}
-use Rattle.str0m_sdp.proofs.RowReads.{fmtp_lines, red_reads}
+use Rattle.str0m_signal.proofs.Formats.{AreShown, apt_printed, list_printed, range_printed, pairs_printed}
 
 -- the attributes print lines that read as these
 abbrev pub ReadAs : List MediaAttribute → List MediaAttribute → Type 0
@@ -97,7 +92,7 @@ module _ (row : PayloadParams) (keeps : KeepsToRow row) where
       let list = Fmtp n (BarePtList row.pt ∷ []) in
       joins (RtpMap n map ∷ []) (twice ∷ []) (RtpMap n map ∷ []) (list ∷ [])
       (one (RtpMap n map) (RtpMap n map) (named_printed n map h (record { clock = rate; channels = keeps.channels }) (λ e. cc)))
-      (one twice list (red_printed n row.pt h (omega (arith, small))))
+      (one twice list (list_printed n row.pt (Red row.pt) refl h (omega (arith, small))))
 
   -- the lines of a row, where its format's lines read as these values
   pub row_read : (values : List (List FormatParam)) → ReadAs (format_attrs row) (fmtp_lines row.pt values)
@@ -135,7 +130,7 @@ events_read row keeps tele fits =
     (subst (λ (params : List FormatParam). ReadAs (fmtp_line row.pt params) (fmtp_lines row.pt values))
     (sym (ap (λ (c : Codec). format_values c row.spec.format) tele))
     (one (Fmtp row.pt range) (Fmtp row.pt (BareRange (telephone_max row.spec.format) ∷ []))
-    (events_printed row.pt (telephone_max row.spec.format) keeps.pt fits)))
+    (range_printed row.pt (telephone_max row.spec.format) (TelephoneEvents (telephone_max row.spec.format)) refl keeps.pt fits)))
 
 format_of : (c : Codec) (p : FormatParams) → c ≢ codec.Tele → format_values c p ≡ params_of p
 format_of codec.Tele p other = absurd (other refl)

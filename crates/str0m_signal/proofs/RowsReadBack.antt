@@ -1,9 +1,6 @@
 -- The last part of the headline: plain, distinct rows, printed in a writable session, are read back, in order.
-use Rattle.str0m_signal.proofs.Common.{◌≡◌, ◌≢◌, ◌<◌, ◌^◌, ℕ, true, List, [], ◌∷◌, length, refl, sym, ◌∙◌, subst, recursion_from_All, same_Some, HoldsRowNumbers, types, AllDistinct, PayloadParams, is_media, MediaLine, Sdp, values_printed}
-use Rattle.str0m_formats.specs.PlainRow.{IsPlain}
-use Rattle.std.specs.Prelude.{All}
+use Rattle.str0m_signal.proofs.Common.{◌≡◌, ◌≢◌, ◌<◌, ◌^◌, ℕ, true, List, [], ◌∷◌, length, refl, sym, ◌∙◌, subst, recursion_from_All, same_Some, HoldsRowNumbers, types, AllDistinct, PayloadParams, is_media, MediaLine, Sdp, values_printed, IsPlain, All, describes_read_back}
 use Rattle.str0m_sdp.proofs.ReadSection.{Describes}
-use Rattle.str0m_sdp.proofs.ReadValues.{describes_read_back}
 use Rattle.str0m_signal.specs.ReadBack.{ReadBack, MayBePrinted, ReadsBack}
 use Rattle.str0m_signal.specs.Writable.{Writable}
 use Rattle.str0m_signal.specs.WrittenAgain.{IsOverSrtp, IsRead, MayBeWrittenAgain}

@@ -1,9 +1,5 @@
 -- An rtpmap line is read exactly where its form holds.
-use Rattle.str0m_signal.proofs.Common.{◌≡◌, ℕ, ◌<◌, ltb, List, [], ◌∷◌, ◌++◌, length, Option, Some, None, refl, sym, ap, subst, ◌∙◌, arith, ltb-true, lt-ltb, append-nil, some_pair_parts, Lacks, IsNum, ◌>>=◌, cut, strip, when, is_rest, num, cut_none, cut_none_lacks, cut_at, cut_found, strip_found, when_some, num_found, num_reads, number_lacks, rest_true, bind_some, some_is, Codec, codec_of, read_as}
-use Rattle.str0m_values.proofs.BothWays.{Reads}
-use Rattle.str0m_formats.specs.Codec.{IsReadAs}
-use Rattle.str0m_values.specs.Parts.{IsWithout}
-use Rattle.str0m_formats.proofs.CodecNames.{read_only}
+use Rattle.str0m_signal.proofs.Common.{◌≡◌, ℕ, ◌<◌, ltb, List, [], ◌∷◌, ◌++◌, length, Option, Some, None, refl, sym, ap, subst, ◌∙◌, arith, ltb-true, lt-ltb, append-nil, some_pair_parts, Lacks, IsNum, ◌>>=◌, cut, strip, when, is_rest, num, cut_none, cut_none_lacks, cut_at, cut_found, strip_found, when_some, num_found, num_reads, number_lacks, rest_true, bind_some, some_is, Codec, codec_of, read_as, Reads, IsReadAs, IsWithout, read_only}
 use Rattle.str0m_sdp.specs.declared.rtp_map.RtpMap.{RtpMap as Mapping}
 use Rattle.str0m_signal.specs.RtpMap.{IsChannels, IsRtpMap}
 use Rattle.str0m_signal.specs.RtpMapReading.{frequency_read, clock_read, mapping_read, rtpmap_fields_read}

@@ -1,6 +1,5 @@
 -- What a search over the bytes of a text finds.
-use Rattle.str0m_signal.proofs.Common.{◌≡◌, ℕ, List, ◌+◌, length, None, Some, arith, eqb-true, eq-eqb, cut}
-use Rattle.std.specs.Prelude.{slice_range, drop}
+use Rattle.str0m_signal.proofs.Common.{◌≡◌, ℕ, List, ◌+◌, length, None, Some, arith, eqb-true, eq-eqb, cut, slice_range, drop}
 use Rattle.memchr.specs.Find.{NoneBefore, Nowhere, Passes, is_byte}
 use Rattle.str0m_values.specs.Near.{IsFirstAt, LacksAt}
 use Rattle.str0m_values.proofs.NearLaws.{cut_first, cut_nowhere}

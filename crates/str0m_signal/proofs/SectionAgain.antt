@@ -1,13 +1,8 @@
 -- A section is printed as it was read: its lines are read as a section that is consistent where it was.
-use Rattle.str0m_signal.proofs.Common.{◌≡◌, ◌⊎◌, ◌+◌, ◌==◌, map, ℕ, Bool, true, false, not, cond, List, [], ◌∷◌, filter, zero-add, length, Option, Some, None, IfSome, All, refl, sym, subst, ap, ◌∙◌, arith, inl, inr, AllByRecursion, cases_Bool, lt-ltb, false≢true, All-nil, All-cons, All-head, All-tail, All-weaker, ◌<|>◌, param_text, FormatParam, Apt, media_attribute_text, Consistent, AgreesOnApt, is_shown, shown_line, is_of_type, MediaAttribute, Fmtp, RtcpFb, MediaLine, Srtp, Sctp}
+use Rattle.str0m_signal.proofs.Common.{◌≡◌, ◌⊎◌, ◌+◌, ◌==◌, map, ℕ, Bool, true, false, not, cond, List, [], ◌∷◌, filter, zero-add, length, Option, Some, None, IfSome, All, refl, sym, subst, ap, ◌∙◌, arith, inl, inr, AllByRecursion, cases_Bool, lt-ltb, false≢true, All-nil, All-cons, All-head, All-tail, All-weaker, ◌<|>◌, param_text, FormatParam, Apt, media_attribute_text, Consistent, AgreesOnApt, is_shown, shown_line, is_of_type, MediaAttribute, Fmtp, RtcpFb, MediaLine, Srtp, Sctp, count_by, true≢false, not-true, All-filter, filter_passes, IsMapped, NamesNoOther, apt_of, apt_among, apt_in, first_apt, maps, is_mid, is_setup, is_direction}
 use Rattle.str0m_sdp.specs.declared.attribute.MediaAttribute.TheVariants.{Simulcast, RtpMap}
-use Rattle.std.specs.Prelude.{count_by}
-use Rattle.std.proofs.lemmas.Bool.{true≢false, not-true}
 use Rattle.std.proofs.lemmas.List.Sums.{sum_by-cons}
-use Rattle.std.proofs.lemmas.List.Elements.{All-filter, filter_passes}
 use Rattle.str0m_sdp.specs.Alike.{Alike, as_read}
-use Rattle.str0m_sdp.specs.Consistency.{IsMapped, NamesNoOther, apt_of, apt_among, apt_in, first_apt, maps}
-use Rattle.str0m_sdp.specs.Consistency.{is_mid, is_setup, is_direction}
 use Rattle.str0m_sdp.specs.declared.rtp_map.RtpMap.{RtpMap as Mapping}
 use Rattle.str0m_signal.specs.Writable.{MediaAreReadAs, IsFrame, frame_of}
 use Rattle.str0m_signal.proofs.AttributesAgain.{ComesBack, IsHidden, shown_only}

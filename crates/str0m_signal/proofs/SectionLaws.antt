@@ -1,15 +1,13 @@
 -- The lines of a section are read exactly where their forms hold.
-use Rattle.str0m_signal.proofs.Common.{◌≡◌, ℕ, Bool, true, false, cond, List, [], ◌∷◌, ◌++◌, length, Option, Some, None, refl, sym, ap, subst, ◌∙◌, arith, inl, inr, codes, is_some, bytes_eq, ltb-true, both_ways, append-nil, Parted, bytes_eq-Decides, Bandwidth, AUDIO, VIDEO, SRTP, SCTP, MediaType, Proto, Srtp, Sctp, Lacks, IsRest, IsNum, FirstFit, ◌>>=◌, cut, strip, when, is_rest, cut_at, cut_found, strip_at, strip_found, when_some, Sound, bind_some, some_is, sound_or, reads_first, number_lacks, rest_true}
-use Rattle.str0m_values.proofs.BothWays.{Reads}
-use Rattle.std.proofs.lemmas.Bool.{false_from_ne_true}
+use Rattle.str0m_signal.proofs.Common.{◌≡◌, ℕ, Bool, true, false, cond, List, [], ◌∷◌, ◌++◌, length, Option, Some, None, refl, sym, ap, subst, ◌∙◌, arith, inl, inr, codes, is_some, bytes_eq, ltb-true, both_ways, append-nil, Parted, bytes_eq-Decides, Bandwidth, AUDIO, VIDEO, SRTP, SCTP, MediaType, Proto, Srtp, Sctp, IsRest, IsNum, FirstFit, ◌>>=◌, cut, strip, when, is_rest, cut_at, cut_found, strip_at, strip_found, when_some, Sound, bind_some, some_is, sound_or, reads_first, number_lacks, rest_true, num_both, Reads, false_from_ne_true}
 use Rattle.std.proofs.lemmas.Bool.Decides.{same_from_decides}
-use Rattle.str0m_signal.proofs.FormLaws.{num_both}
 use Rattle.str0m_signal.proofs.PartLaws.{parted_both}
 use Rattle.str0m_sdp.specs.declared.label.TheConstants.{APPLICATION, OLD_SCTP}
 use Rattle.str0m_sdp.specs.declared.media_type.MediaType.TheVariants.{Audio, Video, Application, Unknown}
 use Rattle.str0m_signal.specs.Section.{IsField, IsBandwidth, Begins, IsKind, IsProto, NoTypes, Head, IsHead}
 use Rattle.str0m_signal.specs.SectionReading.{field_read, bandwidth_read, unknown_read, kind_read, proto_read, numbers_read, no_types_read, types_read, head_read}
 use Rattle.str0m_values.proofs.WordLaws.{word_sound}
+use Rattle.std.proofs.NetLemmas.Options.{cond_none}
 
 pub field_both : (letter : List ℕ) → Reads (IsField letter) (field_read letter)
 field_both letter = record {
@@ -42,10 +40,6 @@ bandwidth_both = record { sound = found; complete = given }
 
 -- ---- kinds and protocols
 
-unless : {A : Type 0} (test : Bool) (o : Option A) (x : A) → cond test None o ≡ Some x → (test ≡ false) × (o ≡ Some x)
-unless true o x e = absurd cc
-unless false o x e = (refl, e)
-
 not_begun : (front text : List ℕ) → is_some (strip front text) ≡ false → Begins front text → ⊥
 not_begun front text e h =
     let begun : is_some (strip front text) ≡ true = ap (λ (t : List ℕ). is_some (strip front t)) h.1 ∙ ap (λ (o : Option (List ℕ)). is_some o) (strip_at front h.0) in
@@ -64,9 +58,9 @@ word_not front text h = false_from_ne_true (bytes_eq text front) (λ e. h ([], (
 unknown_sound : Sound IsKind unknown_read
 unknown_sound = record {
   law = λ text kind e.
-      let a = unless (is_some (strip AUDIO.now text)) (cond (is_some (strip VIDEO.now text)) None (cond (is_some (strip APPLICATION.now text)) None (when (is_rest text) (Unknown text)))) kind e in
-      let v = unless (is_some (strip VIDEO.now text)) (cond (is_some (strip APPLICATION.now text)) None (when (is_rest text) (Unknown text))) kind a.1 in
-      let p = unless (is_some (strip APPLICATION.now text)) (when (is_rest text) (Unknown text)) kind v.1 in
+      let a = cond_none (is_some (strip AUDIO.now text)) (cond (is_some (strip VIDEO.now text)) None (cond (is_some (strip APPLICATION.now text)) None (when (is_rest text) (Unknown text)))) kind e in
+      let v = cond_none (is_some (strip VIDEO.now text)) (cond (is_some (strip APPLICATION.now text)) None (when (is_rest text) (Unknown text))) kind a.1 in
+      let p = cond_none (is_some (strip APPLICATION.now text)) (when (is_rest text) (Unknown text)) kind v.1 in
       let w = when_some (is_rest text) (Unknown text) kind p.1 in
       subst (IsKind text) w.1 (refl, ltb-true 0 (length text) w.0, not_begun AUDIO.now text a.0, not_begun VIDEO.now text v.0, not_begun APPLICATION.now text p.0);
 }
@@ -101,15 +95,12 @@ proto_filled text Sctp h = elim h [ inl e ↦ rw e (omega arith) | inr e ↦ rw 
 
 -- ---- types
 
-num_lacks : (limit : ℕ) (text : List ℕ) (n : ℕ) → IsNum limit text n → Lacks 32 text
-num_lacks limit text n h = number_lacks 32 text (omega arith) (λ e. absurd (omega arith)) h.numeral
-
 pub numbers_both : Reads (Parted 32 (IsNum 255)) numbers_read
-numbers_both = parted_both 32 (num_both 255) (num_lacks 255)
+numbers_both = parted_both 32 (num_both 255) (λ text n h. number_lacks 32 text (omega arith) (λ e. absurd (omega arith)) h.numeral)
 
 no_types_both : Reads NoTypes no_types_read
 no_types_both = record {
-  sound = λ text ns e. let u = unless (is_some (strip (codes " ") text)) (Some []) ns e in (sym (some_is [] ns u.1), not_begun (codes " ") text u.0);
+  sound = λ text ns e. let u = cond_none (is_some (strip (codes " ") text)) (Some []) ns e in (sym (some_is [] ns u.1), not_begun (codes " ") text u.0);
   complete = λ text ns h. rw (begun_not (codes " ") text h.1) (ap (λ (t : List ℕ). Some t) (sym h.0));
 }
 

@@ -1,6 +1,5 @@
 -- Printed sections: their m-line, `c=` and `b=` lines, and the whole of them.
-use Rattle.str0m_signal.proofs.Common.{◌≡◌, ◌≤◌, inl, inr, get_or, ℕ, Bool, true, false, List, [], ◌∷◌, ◌++◌, refl, sym, ap, ◌∙◌, subst, arith, lit<, ◌↔◌, IsTrue, codes, AllByRecursion, join_by, decimal, false≢true, append_assoc, append-nil, FirstFit, Parted, IsWord, IsNum, lacks_from, line_end, pts_text, formats_text, m_line, media_type_text, is_media, MediaLine, AUDIO, VIDEO, SRTP, SCTP, MediaType, Proto, Srtp, Sctp}
-use Rattle.str0m_sdp.specs.MediaLine.{port_text}
+use Rattle.str0m_signal.proofs.Common.{◌≡◌, ◌≤◌, inl, inr, get_or, ℕ, Bool, true, false, List, [], ◌∷◌, ◌++◌, refl, sym, ap, ◌∙◌, subst, arith, lit<, ◌↔◌, IsTrue, codes, AllByRecursion, join_by, decimal, false≢true, append_assoc, append-nil, FirstFit, Parted, IsWord, IsNum, lacks_from, line_end, pts_text, formats_text, m_line, media_type_text, is_media, MediaLine, AUDIO, VIDEO, SRTP, SCTP, MediaType, Proto, Srtp, Sctp, port_text}
 use Rattle.str0m_sdp.specs.Proto.{proto_text}
 use Rattle.str0m_sdp.specs.declared.media_type.MediaType.TheVariants as typ
 use Rattle.str0m_signal.specs.Section.{IsKind, IsProto, IsHead, NoTypes}

@@ -1,6 +1,5 @@
 -- Printed sections are read as sections, one after another.
-use Rattle.str0m_signal.proofs.Common.{◌≡◌, ◌≢◌, ℕ, List, [], ◌∷◌, ◌++◌, Option, Some, None, IfSome, refl, sym, ap, ◌∙◌, subst, arith, lit<, codes, flat_map, append_assoc, lacks_from, media_attribute_text, bandwidth_text, Consistent, line_end, m_line, media_line_text, Bandwidth, MediaLine}
-use Rattle.str0m_sdp.specs.Bandwidth.{bandwidth_line}
+use Rattle.str0m_signal.proofs.Common.{◌≡◌, ◌≢◌, ℕ, List, [], ◌∷◌, ◌++◌, Option, Some, None, IfSome, refl, sym, ap, ◌∙◌, subst, arith, lit<, codes, flat_map, append_assoc, lacks_from, media_attribute_text, bandwidth_text, Consistent, line_end, m_line, media_line_text, Bandwidth, MediaLine, bandwidth_line}
 use Rattle.str0m_signal.specs.Chains.{Chain, Stops, Taken}
 use Rattle.str0m_signal.specs.Lines.{Line, joined, OneLine}
 use Rattle.str0m_signal.specs.MediaAttribute.{MediaForm, IsMediaLine}
@@ -8,8 +7,7 @@ use Rattle.str0m_signal.specs.Reading.{ConsistentSection, Sections}
 use Rattle.str0m_signal.specs.Section.{IsBandwidth, IsHead, IsSection}
 use Rattle.str0m_signal.specs.Writable.{IsPrintedAs}
 use Rattle.str0m_signal.proofs.PrintedAttributes.{AreReadAs}
-use Rattle.str0m_signal.proofs.PrintedLines.{printed_line, ArePrinted, joined-append, printed-append, Apart, apart-append, apart}
-use Rattle.str0m_signal.proofs.PrintedLines.{no_bandwidth, no_attribute, SaidLines, said}
+use Rattle.str0m_signal.proofs.PrintedLines.{printed_line, ArePrinted, joined-append, printed-append, Apart, apart-append, apart, no_bandwidth, no_attribute, SaidLines, said}
 
 -- ---- a bandwidth
 

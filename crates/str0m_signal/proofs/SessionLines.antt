@@ -1,6 +1,5 @@
 -- A printed header, with a bandwidth or without, and a printed session are read as what they say.
-use Rattle.str0m_signal.proofs.Common.{◌≡◌, ◌≢◌, ◌<◌, ◌^◌, inl, inr, ℕ, List, [], ◌∷◌, ◌++◌, Option, IfSome, refl, sym, ap, ◌∙◌, subst, arith, lit<, codes, flat_map, decimal, decimal_is_IsNumeral, append_assoc, Lacks, lacks_from, session_attribute_text, bandwidth_text, line_end, Bandwidth, SessionAttribute}
-use Rattle.str0m_sdp.specs.Session.{origin_line, session_text}
+use Rattle.str0m_signal.proofs.Common.{◌≡◌, ◌≢◌, ◌<◌, ◌^◌, inl, inr, ℕ, List, [], ◌∷◌, ◌++◌, Option, IfSome, refl, sym, ap, ◌∙◌, subst, arith, lit<, codes, flat_map, decimal, decimal_is_IsNumeral, append_assoc, Lacks, lacks_from, session_attribute_text, bandwidth_text, line_end, Bandwidth, SessionAttribute, origin_line, session_text}
 use Rattle.str0m_sdp.specs.declared.session.Session.{Session as TheSession}
 use Rattle.str0m_signal.specs.Chains.{Stops}
 use Rattle.str0m_signal.specs.Header.{IsHeader, IsOrigin, IsInfo}
@@ -10,8 +9,7 @@ use Rattle.str0m_signal.specs.Section.{IsBandwidth}
 use Rattle.str0m_signal.specs.SessionAttribute.{SessionForm, IsSessionLine}
 use Rattle.str0m_signal.specs.Writable.{IsPrintedAs}
 use Rattle.str0m_signal.proofs.PrintedAttributes.{AreReadAs, HoldsNoEnd, no_ends, no_end, decimal_no_end}
-use Rattle.str0m_signal.proofs.PrintedLines.{printed_line, ArePrinted, joined-append, printed-append, Apart, apart-append, apart}
-use Rattle.str0m_signal.proofs.PrintedLines.{first_of, no_field, no_attribute, SaidLines, said}
+use Rattle.str0m_signal.proofs.PrintedLines.{printed_line, ArePrinted, joined-append, printed-append, Apart, apart-append, apart, first_of, no_field, no_attribute, SaidLines, said}
 use Rattle.str0m_signal.proofs.Sections.{SaidBandwidth, said_bandwidth}
 
 abbrev pub origin : ℕ → List ℕ

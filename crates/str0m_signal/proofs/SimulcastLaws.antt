@@ -1,7 +1,5 @@
 -- A simulcast line is read exactly where its form holds.
-use Rattle.str0m_signal.proofs.Common.{◌≡◌, ◌≢◌, ℕ, Bool, true, false, List, [], ◌∷◌, ◌++◌, length, Option, Some, None, refl, sym, ap, subst, ◌∙◌, arith, inl, inr, codes, is_some, list_all, ltb-true, ne_eqb, and_parts, and_from, RestrictionId, SimulcastLayer, name_text, ◌>>=◌, cut, strip, when, is_rest, lacks, Parted, Lacks, IsRest, Sound, bind_some, some_is, sound_or, cut_none, cut_at, cut_found, strip_found, lacks_true, lacks_from, when_some, when_true, rest_true}
-use Rattle.str0m_values.proofs.BothWays.{Reads}
-use Rattle.std.specs.Str.{chars}
+use Rattle.str0m_signal.proofs.Common.{◌≡◌, ◌≢◌, ℕ, Bool, true, false, List, [], ◌∷◌, ◌++◌, length, Option, Some, None, refl, sym, ap, subst, ◌∙◌, arith, inl, inr, codes, is_some, list_all, ltb-true, ne_eqb, and_parts, and_from, RestrictionId, SimulcastLayer, name_text, ◌>>=◌, cut, strip, when, is_rest, lacks, Parted, Lacks, IsRest, Sound, bind_some, some_is, sound_or, cut_none, cut_at, cut_found, strip_found, lacks_true, lacks_from, when_some, when_true, rest_true, Reads, chars}
 use Rattle.str0m_sdp.specs.declared.simulcast.Simulcast.{Simulcast}
 use Rattle.str0m_signal.specs.Forms.{Behind, Two}
 use Rattle.str0m_signal.specs.FormReading.{behind, parted_read}
@@ -166,29 +164,26 @@ received_first text [] (x ∷ xs) h = absurd h.2.4
 received_first text (r ∷ recv) [] h = h
 received_first text (r ∷ recv) (x ∷ xs) h = inr h
 
-abbrev sent_read : List ℕ → Option Simulcast
-sent_read text = behind (codes "send ") (sides_read (codes "recv ")) text >>= λ sides. Some (layers_of sides.0 sides.1)
+-- what is read behind a word, as layers
+abbrev way_read : List ℕ → List ℕ → (List SimulcastLayer → List SimulcastLayer → Simulcast) → List ℕ → Option Simulcast
+way_read own other make text = behind own (sides_read other) text >>= λ sides. Some (make sides.0 sides.1)
 
-abbrev received_read : List ℕ → Option Simulcast
-received_read text = behind (codes "recv ") (sides_read (codes "send ")) text >>= λ sides. Some (layers_of sides.1 sides.0)
-
-sent_sound : Sound IsSimulcast sent_read
-sent_sound = record {
+way_sound : (own other : List ℕ) (make : List SimulcastLayer → List SimulcastLayer → Simulcast)
+    → ((text : List ℕ) (first second : List SimulcastLayer) → Behind own (λ body layers. AreOrdered other body first second) text first → IsSimulcast text (make first second))
+    → Sound IsSimulcast (way_read own other make)
+way_sound own other make form = record {
   law = λ text x e.
-      let a = bind_some (behind (codes "send ") (sides_read (codes "recv ")) text) (λ sides. Some (layers_of sides.0 sides.1)) x e in
-      let b = bind_some (strip (codes "send ") text) (sides_read (codes "recv ")) a.0 a.1 in
-      let found = sides_found (codes "recv ") b.0 a.0 (cut 32 b.0) refl b.2 in
-      subst (IsSimulcast text) (some_is (layers_of a.0.0 a.0.1) x a.2) (sent_first text a.0.0 a.0.1 (b.0, strip_found (codes "send ") text b.0 b.1, found), refl);
+      let a = bind_some (behind own (sides_read other) text) (λ sides. Some (make sides.0 sides.1)) x e in
+      let b = bind_some (strip own text) (sides_read other) a.0 a.1 in
+      let found = sides_found other b.0 a.0 (cut 32 b.0) refl b.2 in
+      subst (IsSimulcast text) (some_is (make a.0.0 a.0.1) x a.2) (form text a.0.0 a.0.1 (b.0, strip_found own text b.0 b.1, found));
 }
 
-received_sound : Sound IsSimulcast received_read
-received_sound = record {
-  law = λ text x e.
-      let a = bind_some (behind (codes "recv ") (sides_read (codes "send ")) text) (λ sides. Some (layers_of sides.1 sides.0)) x e in
-      let b = bind_some (strip (codes "recv ") text) (sides_read (codes "send ")) a.0 a.1 in
-      let found = sides_found (codes "send ") b.0 a.0 (cut 32 b.0) refl b.2 in
-      subst (IsSimulcast text) (some_is (layers_of a.0.1 a.0.0) x a.2) (received_first text a.0.0 a.0.1 (b.0, strip_found (codes "recv ") text b.0 b.1, found), refl);
-}
+sent_sound : Sound IsSimulcast (way_read (codes "send ") (codes "recv ") layers_of)
+sent_sound = way_sound (codes "send ") (codes "recv ") layers_of (λ text first second h. (sent_first text first second h, refl))
+
+received_sound : Sound IsSimulcast (way_read (codes "recv ") (codes "send ") (λ first second. layers_of second first))
+received_sound = way_sound (codes "recv ") (codes "send ") (λ first second. layers_of second first) (λ text first second h. (received_first text first second h, refl))
 
 sides_complete : (text : List ℕ) (send recv : List SimulcastLayer) → AreSides text send recv → simulcast_fields_read text ≡ Some (layers_of send recv)
 sides_complete text [] [] h = absurd h

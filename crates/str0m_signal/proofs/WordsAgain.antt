@@ -1,9 +1,5 @@
 -- Words, names and bytes are printed as they were read.
-use Rattle.str0m_signal.proofs.Common.{◌≡◌, ◌≤◌, ◌<◌, ◌/◌, ◌%◌, ◌^◌, ℕ, true, List, [], ◌∷◌, ◌++◌, refl, sym, subst, ap, ◌∙◌, arith, lit≤, inl, inr, zero-add, codes, digit_value, AllByRecursion, flat_map, join_by, digits_value, append-nil, Parted, Lacks, IsRest, IsWord, IsLongestBeginning, Lacks-append}
-use Rattle.std.specs.Fmt.{digit_glyph}
-use Rattle.std.proofs.lemmas.Fmt.{digits_is_IsNumeral, hex_one_digit}
-use Rattle.std.proofs.lemmas.Str.{IsCharBoundary-end}
-use Rattle.str0m_values.specs.Fingerprint.{hex_pair, pairs_text}
+use Rattle.str0m_signal.proofs.Common.{◌≡◌, ◌≤◌, ◌<◌, ◌/◌, ◌%◌, ◌^◌, ℕ, true, List, [], ◌∷◌, ◌++◌, refl, sym, subst, ap, ◌∙◌, arith, lit≤, inl, inr, zero-add, codes, digit_value, AllByRecursion, flat_map, join_by, digits_value, append-nil, Parted, Lacks, IsRest, IsWord, IsLongestBeginning, Lacks-append, digit_glyph, digits_is_IsNumeral, hex_one_digit, IsCharBoundary-end, hex_pair, pairs_text}
 use Rattle.str0m_signal.specs.Forms.{IsText, Two}
 use Rattle.str0m_signal.proofs.CharacterStarts.{StartsWithin, front_starts, behind_starts, kept_some}
 use Rattle.str0m_signal.specs.Words.{IsWordText, IsName, IsHexPair, IsGroup, AreNames, IsMsidSemantic}

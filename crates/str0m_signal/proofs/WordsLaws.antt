@@ -1,13 +1,11 @@
 -- Lists of words are read both ways.
-use Rattle.str0m_signal.proofs.Common.{◌≡◌, ◌≢◌, ◌⊎◌, ◌<◌, ◌≤◌, ◌+◌, ℕ, ltb, List, [], ◌∷◌, ◌++◌, Option, Some, None, refl, sym, ap, ◌∙◌, arith, inl, inr, codes, digit_value, ltb-true, lt-ltb, eq-eqb, ne_eqb, cases_eq, ◌>>=◌, cut, strip, lacks, num, Parted, Lacks, IsRest, IsNum, beginning_of, beginning_is, beginning_only, bind_some, if_some, some_is, cut_none, cut_none_lacks, cut_at, cut_found, strip_found, lacks_true, lacks_from, when_some, number_lacks}
-use Rattle.str0m_values.proofs.BothWays.{Reads}
-use Rattle.std.proofs.Common.{◌*◌, append-nil}
+use Rattle.str0m_signal.proofs.Common.{◌≡◌, ◌≢◌, ◌⊎◌, ◌<◌, ◌≤◌, ◌+◌, ℕ, ltb, List, [], ◌∷◌, ◌++◌, Option, Some, None, refl, sym, ap, ◌∙◌, arith, inl, inr, codes, digit_value, ltb-true, lt-ltb, eq-eqb, ne_eqb, cases_eq, ◌>>=◌, cut, strip, lacks, num, Parted, Lacks, IsRest, IsNum, beginning_of, beginning_is, beginning_only, bind_some, if_some, some_is, cut_none, cut_none_lacks, cut_at, cut_found, strip_found, lacks_true, lacks_from, when_some, number_lacks, num_both, Reads, ◌*◌, append-nil}
 use Rattle.str0m_signal.specs.Lines.{EndsIn}
 use Rattle.str0m_signal.specs.Forms.{IsText, Two}
 use Rattle.str0m_signal.specs.FormReading.{text_read, two_read, parted_read}
 use Rattle.str0m_signal.specs.Words.{IsWordText, IsName, IsHexPair, IsSpace, AreNames, IsGroup, IsMsidSemantic}
 use Rattle.str0m_signal.specs.WordsReading.{word_read, name_read, digit_read, hex_pair_read, without_space, names_after, names_read, group_fields_read, behind_space, msid_semantic_fields_read}
-use Rattle.str0m_signal.proofs.FormLaws.{text_both, two_both, num_both}
+use Rattle.str0m_signal.proofs.FormLaws.{text_both, two_both}
 use Rattle.str0m_signal.proofs.PartLaws.{parted_both}
 
 -- ---- items
@@ -62,9 +60,6 @@ digit_other x c far lt = λ e. let lt' : digit_value c < 16 = rw (← e) lt in a
 hex_pair_lacks : (text : List ℕ) (byte : ℕ) → IsHexPair text byte → Lacks 58 text
 hex_pair_lacks text byte h = rw h.2 (digit_other h.0 58 (omega arith) h.3, (digit_other h.1 58 (omega arith) h.4, tt))
 
-num_lacks : (limit : ℕ) (text : List ℕ) (n : ℕ) → IsNum limit text n → Lacks 32 text
-num_lacks limit text n h = number_lacks 32 text (omega arith) (λ e. absurd (omega arith)) h.numeral
-
 -- ---- lists
 
 pub words_both : Reads (Parted 32 IsWordText) (parted_read 32 word_read)
@@ -77,7 +72,7 @@ pub hex_pairs_both : Reads (Parted 58 IsHexPair) (parted_read 58 hex_pair_read)
 hex_pairs_both = parted_both 58 hex_pair_both hex_pair_lacks
 
 pub sources_both : Reads (Parted 32 (IsNum 4294967295)) (parted_read 32 (num 4294967295))
-sources_both = parted_both 32 (num_both 4294967295) (num_lacks 4294967295)
+sources_both = parted_both 32 (num_both 4294967295) (λ text n h. number_lacks 32 text (omega arith) (λ e. absurd (omega arith)) h.numeral)
 
 -- ---- a space at the end
 

@@ -1,15 +1,10 @@
 -- When a session is writable, by what its parts come back as.
-use native.Mathlib.Omega.{arith}
-use Rattle.str0m_signal.proofs.Common.{◌≡◌, ◌≢◌, ◌<◌, ◌≤◌, ◌+◌, ℕ, Bool, true, false, not, List, [], length, get_or, Option, Some, None, IfSome, inl, inr, refl, sym, ap, subst, ◌∙◌, true≢false, ◌↔◌, IsTrue, list_any, slice_get, cases_Bool, cases_lt, All-nil, All-weaker, none-some, same_Some, slice_get_read, IsTheOnly, session_attribute_text, bandwidth_text, AgreesOnApt, Consistent, is_of_type, MediaAttribute, SessionAttribute, Bandwidth, MediaLine, Sdp, Srtp}
-use Rattle.std.proofs.Common.{is_some}
-use Rattle.std.specs.Prelude.{All}
+use Rattle.str0m_signal.proofs.Common.{◌≡◌, ◌≢◌, ◌<◌, ◌≤◌, ◌+◌, ℕ, Bool, true, false, not, List, [], length, get_or, Option, Some, None, IfSome, inl, inr, refl, sym, ap, subst, ◌∙◌, true≢false, ◌↔◌, IsTrue, list_any, slice_get, cases_Bool, cases_lt, All-nil, All-weaker, none-some, same_Some, slice_get_read, IsTheOnly, session_attribute_text, bandwidth_text, AgreesOnApt, Consistent, is_of_type, MediaAttribute, SessionAttribute, Bandwidth, MediaLine, Sdp, Srtp, arith, is_some, All, slice_get_within, NoneIff}
 use Rattle.std.proofs.lemmas.List.Folds.{list_any_at, list_any_none}
-use Rattle.std.proofs.lemmas.Option.{slice_get_within}
-use Rattle.str0m_sdp.specs.Consistency.{NoneIff}
-use Rattle.str0m_sdp.proofs.TypeTableLaws.{agrees_other}
 use Rattle.str0m_signal.specs.Section.{Head, IsBandwidth}
 use Rattle.str0m_signal.specs.SessionAttribute.{IsSessionLine}
 use Rattle.str0m_signal.specs.Writable.{AreReadAs, HasTypes, IsFrame, IsPrintedAs, IsReadAs, MediaAreReadAs, SessionGoesWith, Writable, frame_of}
+use Rattle.str0m_sdp.proofs.TypeTableLaws.{agrees_other}
 
 -- ---- the only value that comes back
 

@@ -41,11 +41,14 @@ IsPair text pair None = (blanks : List ℕ) × (end : List ℕ) × (text ≡ pai
 IsPair text pair (Some more) = (before : List ℕ) × (after : List ℕ) × (text ≡ pair.0 ++ (codes "=" ++ (pair.1 ++ (before ++ (codes ";" ++ (after ++ more))))))
     × IsKey pair.0 × IsValue pair.1 × AreBlanks before × AreBlanks after × StartsPlain more
 
--- one or more pairs
+-- one or more pairs, where F says how each stands before what follows it
+abbrev pub OneByOne : (List ℕ → List ℕ × List ℕ → Option (List ℕ) → Type 0) → List ℕ → List (List ℕ × List ℕ) → Type 0
+OneByOne F text [] = ⊥
+OneByOne F text (p ∷ []) = F text p None
+OneByOne F text (p ∷ q ∷ qs) = (more : List ℕ) × F text p (Some more) × OneByOne F more (q ∷ qs)
+
 abbrev pub ArePairs : List ℕ → List (List ℕ × List ℕ) → Type 0
-ArePairs text [] = ⊥
-ArePairs text (p ∷ []) = IsPair text p None
-ArePairs text (p ∷ q ∷ qs) = (more : List ℕ) × IsPair text p (Some more) × ArePairs more (q ∷ qs)
+ArePairs = OneByOne IsPair
 
 -- SP and pairs, blanks before them
 abbrev pub IsPairsForm : List ℕ → List FormatParam → Type 0

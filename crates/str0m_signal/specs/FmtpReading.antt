@@ -1,9 +1,9 @@
 -- Reading of an fmtp line as functions.
-use Rattle.std.specs.Prelude.{◌≡◌, ◌<◌, ◌≤◌, ◌||◌, ℕ, zero, suc, Bool, true, false, get_or, List, [], ◌∷◌, Option, Some, None, codes, is_some, length, if◌then◌else◌, ◌==◌}
+use Rattle.std.specs.Prelude.{◌≡◌, ◌<◌, ◌≤◌, ◌||◌, ℕ, zero, suc, Bool, true, false, get_or, List, [], ◌∷◌, Option, Some, None, codes, length, if◌then◌else◌, ◌==◌}
 use Rattle.str0m_formats.specs.declared.format_param.FormatParam.{FormatParam}
 use Rattle.str0m_formats.specs.declared.format_param.FormatParam.TheVariants.{BareRange, BarePtList, Unknown}
 use Rattle.str0m_formats.specs.PairsReading.{params_read}
-use Rattle.str0m_signal.specs.FormReading.{behind, two_read, parted_read}
+use Rattle.str0m_signal.specs.FormReading.{behind, digits_read, two_read, parted_read}
 use Rattle.str0m_values.specs.Cuts.{◌>>=◌, ◌<|>◌, cut, strip, when, is_rest, num, before, lacks}
 use Rattle.str0m_sdp.specs.declared.label.TheConstants as label
 
@@ -56,13 +56,16 @@ abbrev pub pairs_after : (List ℕ → Option (List (List ℕ × List ℕ))) →
 pairs_after read pair None = Some (pair ∷ [])
 pairs_after read pair (Some more) = read more >>= λ pairs. Some (pair ∷ pairs)
 
--- the pairs of a text of fewer than n characters
-unfoldable pub pairs_at : ℕ → List ℕ → Option (List (List ℕ × List ℕ))
-pairs_at zero text = None
-pairs_at (suc n) text = pair_read text >>= λ p. pairs_after (pairs_at n) p.0 p.1
+-- the pairs of a text of fewer than n characters, where f reads the first and what follows it
+unfoldable pub pairs_at : (List ℕ → Option ((List ℕ × List ℕ) × Option (List ℕ))) → ℕ → List ℕ → Option (List (List ℕ × List ℕ))
+pairs_at f zero text = None
+pairs_at f (suc n) text = f text >>= λ p. pairs_after (pairs_at f n) p.0 p.1
+
+abbrev pub one_by_one : (List ℕ → Option ((List ℕ × List ℕ) × Option (List ℕ))) → List ℕ → Option (List (List ℕ × List ℕ))
+one_by_one f text = pairs_at f (suc (length text)) text
 
 abbrev pub pairs_read : List ℕ → Option (List (List ℕ × List ℕ))
-pairs_read text = pairs_at (suc (length text)) text
+pairs_read = one_by_one pair_read
 
 abbrev pub pairs_form_read : List ℕ → Option (List FormatParam)
 pairs_form_read more = do
@@ -74,12 +77,9 @@ pairs_form_read more = do
 abbrev pub first_read : List ℕ → Option ℕ
 first_read text = two_read 47 (num 255) (parted_read 47 (num 255)) text >>= λ numbers. Some numbers.0
 
-abbrev pub digits_read : List ℕ → Option ℕ
-digits_read text = if is_some (strip (codes "+") text) then None else num 255 text
-
 -- where a range from 0 on ends
 abbrev pub range_read : List ℕ → Option ℕ
-range_read text = strip (codes "0-") text >>= digits_read
+range_read text = strip (codes "0-") text >>= digits_read 255
 
 abbrev pub list_form_read : List ℕ → Option (List FormatParam)
 list_form_read more = behind (codes " ") first_read more >>= λ first. Some (BarePtList first ∷ [])

@@ -1,8 +1,8 @@
 -- Reading of the pieces that forms share, as functions.
-use Rattle.std.specs.Prelude.{ℕ, List, [], ◌∷◌, ◌==◌, Option, Some, None}
+use Rattle.std.specs.Prelude.{ℕ, List, [], ◌∷◌, ◌==◌, Option, Some, None, codes, is_some, if◌then◌else◌}
 use Rattle.std.specs.List.{slice_split}
 use Rattle.std.specs.Str.{bytes_eq}
-use Rattle.str0m_values.specs.Cuts.{◌>>=◌, cut, strip, when, is_rest}
+use Rattle.str0m_values.specs.Cuts.{◌>>=◌, cut, strip, when, is_rest, num}
 
 -- a value where the text is this word
 abbrev pub alone : {A : Type 0} → List ℕ → A → List ℕ → Option A
@@ -14,6 +14,10 @@ behind label f text = strip label text >>= f
 
 abbrev pub text_read : List ℕ → Option (List ℕ)
 text_read text = when (is_rest text) text
+
+-- a number in digits alone
+abbrev pub digits_read : ℕ → List ℕ → Option ℕ
+digits_read limit text = if is_some (strip (codes "+") text) then None else num limit text
 
 -- what f reads before the first c, and g behind it
 abbrev pub two_read : {A B : Type 0} → ℕ → (List ℕ → Option A) → (List ℕ → Option B) → List ℕ → Option (A × B)

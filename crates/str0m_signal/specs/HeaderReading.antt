@@ -1,17 +1,14 @@
 -- Reading of a header's lines as functions.
-use Rattle.std.specs.Prelude.{ℕ, List, [], ◌∷◌, Option, Some, None, codes, ◌&&◌, nat_le}
+use Rattle.std.specs.Prelude.{ℕ, List, [], ◌∷◌, Option, Some, None, codes}
 use Rattle.std.specs.Str.{bytes_eq}
-use Rattle.std.specs.Str.Parse.{digits_value}
 use Rattle.str0m_signal.specs.Lines.{Line}
 use Rattle.str0m_signal.specs.LineReading.{line_read}
+use Rattle.str0m_signal.specs.FormReading.{digits_read}
 use Rattle.str0m_signal.specs.SectionReading.{field_read}
-use Rattle.str0m_values.specs.Cuts.{◌>>=◌, ◌<|>◌, cut, strip, when, is_rest, is_numeral}
+use Rattle.str0m_values.specs.Cuts.{◌>>=◌, ◌<|>◌, cut, strip, when, is_rest}
 
 abbrev pub exact_read : List ℕ → List ℕ → Option (List ℕ)
 exact_read word content = when (bytes_eq content word) word
-
-abbrev pub digits_read : List ℕ → Option ℕ
-digits_read text = when (is_numeral text && nat_le (digits_value 10 text) 18446744073709551615) (digits_value 10 text)
 
 abbrev pub origin_read : List ℕ → Option ℕ
 origin_read content = do
@@ -19,7 +16,7 @@ origin_read content = do
   name ← cut 32 body
   word ← when (is_rest name.0) name.0
   number ← cut 32 name.1
-  id ← digits_read number.0
+  id ← digits_read 18446744073709551615 number.0
   more ← when (is_rest number.1) number.1
   Some id
 

@@ -1,8 +1,8 @@
 -- Reading of the line of a stream that may be restricted, as functions.
-use Rattle.std.specs.Prelude.{ℕ, zero, suc, true, List, [], Option, Some, None, codes, length, if◌then◌else◌}
+use Rattle.std.specs.Prelude.{ℕ, true, List, [], Option, Some, None, codes, if◌then◌else◌}
 use Rattle.str0m_sdp.specs.declared.simulcast.RestrictionId.{RestrictionId}
 use Rattle.str0m_values.specs.Cuts.{◌>>=◌, ◌<|>◌, cut, strip, when, is_rest, num}
-use Rattle.str0m_signal.specs.FmtpReading.{value_read, skip_blanks, key_read, pairs_after}
+use Rattle.str0m_signal.specs.FmtpReading.{value_read, skip_blanks, key_read, one_by_one}
 use Rattle.str0m_signal.specs.FormReading.{two_read, parted_read}
 use Rattle.str0m_signal.specs.StreamName.{is_stream_name}
 
@@ -21,13 +21,8 @@ restriction_read text = do
   next ← next_read value.1
   Some ((key, value.0), next)
 
--- the restrictions of a text of fewer than n characters
-unfoldable pub restrictions_at : ℕ → List ℕ → Option (List (List ℕ × List ℕ))
-restrictions_at zero text = None
-restrictions_at (suc n) text = restriction_read text >>= λ p. pairs_after (restrictions_at n) p.0 p.1
-
 abbrev pub restrictions_read : List ℕ → Option (List (List ℕ × List ℕ))
-restrictions_read text = restrictions_at (suc (length text)) text
+restrictions_read = one_by_one restriction_read
 
 abbrev pub restricted_read : List ℕ → Option (List (List ℕ × List ℕ))
 restricted_read text = if is_rest text then restrictions_read text else Some []

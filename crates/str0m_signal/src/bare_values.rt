@@ -1,8 +1,10 @@
 //! The values of fmtp lines that have no keys.
 ghost use Rattle.std.specs.Prelude.{◌≡◌, ◌∷◌, [], Some};
-ghost use Rattle.str0m_signal.specs.FmtpReading.{first_read, digits_read, range_read, bare_read};
+ghost use Rattle.str0m_signal.specs.FmtpReading.{first_read, range_read, bare_read};
+ghost use Rattle.str0m_signal.specs.FormReading.{digits_read};
 
-use crate::heads::are_numbers;
+use crate::parts::are_parts;
+use crate::words::Number;
 use str0m_formats::FormatParam;
 use str0m_values::cuts::{cut, num_u8, strip};
 use str0m_values::{Pt, Separator};
@@ -13,7 +15,7 @@ fn first(text: &str) -> Option<u8>
 {
     let (front, others) = cut(text, Separator::Slash)?;
     let first = num_u8(front, 255)?;
-    if are_numbers(others, Separator::Slash) {
+    if are_parts::<Number<255>>(others, Separator::Slash) {
         Some(first)
     } else {
         None
@@ -22,7 +24,7 @@ fn first(text: &str) -> Option<u8>
 
 /// The number in digits alone.
 fn digits(text: &str) -> Option<u8>
-    ensures { result ≡ digits_read text.now }
+    ensures { result ≡ digits_read 255 text.now }
 {
     if strip(text, "+").is_some() {
         return None;

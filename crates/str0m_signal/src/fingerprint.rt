@@ -21,7 +21,7 @@ pub(crate) fn fingerprint(alloc: Global, text: &str) -> Result<Option<Fingerprin
     if name.is_empty() {
         return Ok(None);
     }
-    let Some(bytes) = parts(alloc, pairs, Separator::Colon)? else {
+    let Some(bytes) = parts::<u8>(alloc, pairs, Separator::Colon)? else {
         return Ok(None);
     };
     let hash_func = Text::from_str(alloc, name)?;

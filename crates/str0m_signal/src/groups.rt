@@ -7,7 +7,7 @@ use crate::words::without_space;
 use std::alloc::{AllocError, Global};
 use str0m_sdp::{SessionAttribute, label};
 use str0m_values::cuts::{cut, strip};
-use str0m_values::{Items, Separator, Text};
+use str0m_values::{Items, Mid, Separator, Text};
 
 /// The group of a word and of names behind it.
 fn names(alloc: Global, text: &str) -> Result<Option<SessionAttribute>, AllocError>
@@ -24,7 +24,7 @@ fn names(alloc: Global, text: &str) -> Result<Option<SessionAttribute>, AllocErr
     if word.is_empty() {
         return Ok(None);
     }
-    let Some(mids) = parts(alloc, list, Separator::Space)? else {
+    let Some(mids) = parts::<Mid>(alloc, list, Separator::Space)? else {
         return Ok(None);
     };
     let typ = Text::from_str(alloc, word)?;
@@ -61,7 +61,7 @@ pub(crate) fn msid_semantic(
     if word.is_empty() {
         return Ok(None);
     }
-    let Some(stream_ids) = parts(alloc, list, Separator::Space)? else {
+    let Some(stream_ids) = parts::<Text>(alloc, list, Separator::Space)? else {
         return Ok(None);
     };
     let semantic = Text::from_str(alloc, word)?;

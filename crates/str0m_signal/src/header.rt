@@ -2,15 +2,16 @@
 
 ghost use Rattle.std.specs.Prelude.{◌≡◌, IfOk, List, ℕ, codes, option_map};
 ghost use Rattle.str0m_signal.specs.Chains.{Run};
+ghost use Rattle.str0m_signal.specs.FormReading.{digits_read};
 ghost use Rattle.str0m_signal.specs.Lines.{OneLine};
 ghost use Rattle.str0m_signal.specs.LineReading.{lines_of, line_read, left, both_left, Next};
 ghost use Rattle.str0m_signal.specs.Section.{IsField};
 ghost use Rattle.str0m_signal.specs.Header.{IsInfo, IsHeader};
 ghost use Rattle.str0m_signal.specs.Heads.{session_head};
-ghost use Rattle.str0m_signal.specs.HeaderReading.{exact_read, digits_read, origin_read, info_read, opening_read};
+ghost use Rattle.str0m_signal.specs.HeaderReading.{exact_read, origin_read, info_read, opening_read};
 
 use crate::bandwidth::take_bandwidth;
-use crate::fields::{field, read_field};
+use crate::fields::{field, num_u64, read_field};
 use crate::lines::plain_line;
 use std::alloc::{AllocError, Global};
 use str0m_sdp::Bandwidth;
@@ -33,12 +34,12 @@ fn exact<'a>(text: &'a str, word: &str) -> Option<&'a str>
 }
 
 fn digits(text: &str) -> Option<u64>
-    ensures { result ≡ digits_read text.now }
+    ensures { result ≡ digits_read 18446744073709551615 text.now }
 {
-    if text.starts_with('+') {
+    if strip(text, "+").is_some() {
         None
     } else {
-        text.parse::<u64>().ok()
+        num_u64(text)
     }
 }
 

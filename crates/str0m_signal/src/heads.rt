@@ -2,16 +2,15 @@
 
 ghost use Rattle.std.specs.Prelude.{◌≡◌, IfOk, codes, is_some, option_map};
 ghost use Rattle.std.specs.Str.{bytes_eq};
-ghost use Rattle.str0m_values.specs.Cuts.{num};
-ghost use Rattle.str0m_values.specs.Separator.{code};
-ghost use Rattle.str0m_signal.specs.FormReading.{parted_read};
-ghost use Rattle.str0m_signal.specs.SectionReading.{unknown_read, kind_read, proto_read, numbers_read, types_read, head_read};
+ghost use Rattle.str0m_signal.specs.SectionReading.{unknown_read, kind_read, proto_read, types_read, head_read};
 ghost use Rattle.str0m_signal.specs.Heads.{kind_is, media_head};
 
+use crate::parts::parts;
+use crate::words::Number;
 use std::alloc::{AllocError, Global};
 use str0m_sdp::label::{APPLICATION, AUDIO, OLD_SCTP, SCTP, SRTP, VIDEO};
 use str0m_sdp::{MediaType, Proto};
-use str0m_values::cuts::{cut, num_u8, strip};
+use str0m_values::cuts::{cut, strip};
 use str0m_values::{Items, Pt, Separator, Text};
 
 /// What an m-line says.
@@ -48,16 +47,11 @@ impl<'a> Kind<'a> {
 fn unknown(text: &str) -> Option<Kind<'_>>
     ensures { option_map kind_is result ≡ unknown_read text.now }
 {
-    if strip(text, AUDIO).is_some() {
-        return None;
-    }
-    if strip(text, VIDEO).is_some() {
-        return None;
-    }
-    if strip(text, APPLICATION).is_some() {
-        return None;
-    }
-    if text.is_empty() {
+    if strip(text, AUDIO).is_some()
+        || strip(text, VIDEO).is_some()
+        || strip(text, APPLICATION).is_some()
+        || text.is_empty()
+    {
         return None;
     }
     Some(Kind::Unknown(text))
@@ -79,8 +73,7 @@ fn proto(text: &str) -> Option<Proto>
 {
     match text {
         SRTP => Some(Proto::Srtp),
-        OLD_SCTP => Some(Proto::Sctp),
-        SCTP => Some(Proto::Sctp),
+        OLD_SCTP | SCTP => Some(Proto::Sctp),
         _ => None,
     }
 }
@@ -92,45 +85,12 @@ fn is_disabled(port: &str) -> bool
     port == "0"
 }
 
-/// Whether the text is numbers with `at` between each two.
-pub(crate) fn are_numbers(text: &str, at: Separator) -> bool
-    ensures { result ≡ is_some (parted_read (code at) (num 255) text.now) }
-{
-    let mut rest = text;
-    while let Some((number, more)) = cut(rest, at) {
-        let Some(_) = num_u8(number, 255) else {
-            return false;
-        };
-        rest = more;
-    }
-    num_u8(rest, 255).is_some()
-}
-
-fn numbers(alloc: Global, text: &str) -> Result<Option<Items<Pt>>, AllocError>
-    ensures { IfOk result (λ found. found ≡ numbers_read text.now) }
-{
-    let mut numbers = Vec::new(alloc);
-    let mut rest = text;
-    while let Some((number, more)) = cut(rest, Separator::Space) {
-        let Some(value) = num_u8(number, 255) else {
-            return Ok(None);
-        };
-        numbers.push(Pt::new_with_value(value))?;
-        rest = more;
-    }
-    let Some(value) = num_u8(rest, 255) else {
-        return Ok(None);
-    };
-    numbers.push(Pt::new_with_value(value))?;
-    Ok(Some(Items::from(numbers)))
-}
-
 /// The types of an m-line. Memory is asked for only where they are numbers.
 fn types(alloc: Global, text: &str) -> Result<Option<Items<Pt>>, AllocError>
     ensures { IfOk result (λ found. found ≡ types_read text.now) }
 {
-    if are_numbers(text, Separator::Space) {
-        return numbers(alloc, text);
+    if let Some(numbers) = parts::<Number<255>>(alloc, text, Separator::Space)? {
+        return Ok(Some(numbers));
     }
     if strip(text, " ").is_some() {
         return Ok(None);

@@ -8,19 +8,20 @@ use std::alloc::{AllocError, Global};
 use str0m_values::cuts::cut;
 use str0m_values::{Items, Separator};
 
-/// What one item of a list stands for.
-pub(crate) trait Part: Drop {
+/// An item of a list.
+pub(crate) trait Part {
+    /// What it stands for.
+    type Value: Drop;
+
     /// Which item a text is.
-    ghost reading: { List ℕ → Option Self };
+    ghost reading: { List ℕ → Option Self.Value };
 
     /// Whether the text is an item. Takes no memory.
     fn is_part(text: &str) -> bool
         ensures { result ≡ is_some (reading text.now) };
 
     /// The item of the text.
-    fn read(alloc: Global, text: &str) -> Result<Option<Self>, AllocError>
-    where
-        Self: Sized,
+    fn read(alloc: Global, text: &str) -> Result<Option<Self::Value>, AllocError>
         ensures { IfOk result (λ found. found ≡ reading text.now) };
 }
 
@@ -43,7 +44,7 @@ fn read_parts<T: Part>(
     alloc: Global,
     text: &str,
     at: Separator,
-) -> Result<Option<Items<T>>, AllocError>
+) -> Result<Option<Items<T::Value>>, AllocError>
     ensures { IfOk result (λ found. found ≡ parted_read (code at) T.reading text.now) }
 {
     let mut parts = Vec::new(alloc);
@@ -66,11 +67,11 @@ pub(crate) fn parts<T: Part>(
     alloc: Global,
     text: &str,
     at: Separator,
-) -> Result<Option<Items<T>>, AllocError>
+) -> Result<Option<Items<T::Value>>, AllocError>
     ensures { IfOk result (λ found. found ≡ parted_read (code at) T.reading text.now) }
 {
     if are_parts::<T>(text, at) {
-        read_parts(alloc, text, at)
+        read_parts::<T>(alloc, text, at)
     } else {
         Ok(None)
     }

@@ -1,7 +1,7 @@
 //! Lines of streams that may be restricted.
 ghost use Rattle.std.specs.Prelude.{◌≡◌, ◌∷◌, ◌++◌, [], IfOk, option_map, is_some, true};
 ghost use Rattle.str0m_sdp.specs.declared.attribute.MediaAttribute.TheVariants.{Rid};
-ghost use Rattle.str0m_values.specs.Cuts.{num, parts, when};
+ghost use Rattle.str0m_values.specs.Cuts.{parts, when};
 ghost use Rattle.str0m_signal.specs.FormReading.{behind, two_read};
 ghost use Rattle.str0m_signal.specs.MediaAttribute.{rid};
 ghost use Rattle.str0m_signal.specs.RidLists.{lists_of};
@@ -10,28 +10,13 @@ ghost use Rattle.str0m_signal.specs.RidReading.{next_read, restriction_read, res
 ghost use Rattle.str0m_sdp.specs.declared.label.TheConstants as label;
 
 use crate::pairs::{key, skip_blanks, value};
-use crate::parts::{Part, parts};
+use crate::parts::parts;
 use crate::simulcast::is_stream_name;
+use crate::words::Number;
 use std::alloc::{AllocError, Global};
 use str0m_sdp::{MediaAttribute, RestrictionId, Word, label};
-use str0m_values::cuts::{cut, num_u8, strip};
+use str0m_values::cuts::{cut, strip};
 use str0m_values::{Items, Pt, Separator, Text};
-
-/// A payload type.
-impl Part for Pt {
-    ghost reading = { num 127 };
-
-    fn is_part(text: &str) -> bool {
-        num_u8(text, 127).is_some()
-    }
-
-    fn read(_alloc: Global, text: &str) -> Result<Option<Pt>, AllocError> {
-        match num_u8(text, 127) {
-            Some(number) => Ok(Some(Pt::new_with_value(number))),
-            None => Ok(None),
-        }
-    }
-}
 
 /// What stands behind a value: the end, or `;` and more.
 fn next(text: &str) -> Option<Option<&str>>
@@ -149,7 +134,7 @@ fn typed(alloc: Global, text: &str) -> Result<Option<Lists>, AllocError>
     ensures { IfOk result (λ found. option_map lists_of found ≡ typed_read text.now) }
 {
     let Some((front, behind)) = cut(text, Separator::Semicolon) else {
-        return match parts(alloc, text, Separator::Comma)? {
+        return match parts::<Number<127>>(alloc, text, Separator::Comma)? {
             Some(types) => {
                 let restrictions = Items::empty(alloc);
                 Ok(Some(Lists {
@@ -163,7 +148,7 @@ fn typed(alloc: Global, text: &str) -> Result<Option<Lists>, AllocError>
     if !is_restricted(behind) {
         return Ok(None);
     }
-    let Some(types) = parts(alloc, front, Separator::Comma)? else {
+    let Some(types) = parts::<Number<127>>(alloc, front, Separator::Comma)? else {
         return Ok(None);
     };
     let Some(restrictions) = read_restricted(alloc, behind)? else {

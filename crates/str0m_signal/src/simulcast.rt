@@ -39,26 +39,18 @@ fn are_name_characters(text: &str) -> bool
 pub(crate) fn is_stream_name(text: &str) -> bool
     ensures { result ≡ is_stream_name text.now }
 {
-    if text.is_empty() {
-        return false;
-    }
-    if !are_name_characters(text) {
-        return false;
-    }
-    if has(text, Separator::Space) {
-        return false;
-    }
-    if has(text, Separator::Comma) {
-        return false;
-    }
-    if has(text, Separator::Semicolon) {
-        return false;
-    }
-    !has(text, Separator::Tilde)
+    !text.is_empty()
+        && are_name_characters(text)
+        && !has(text, Separator::Space)
+        && !has(text, Separator::Comma)
+        && !has(text, Separator::Semicolon)
+        && !has(text, Separator::Tilde)
 }
 
 /// A name, behind `~` where it isn't active.
 impl Part for RestrictionId {
+    type Value = RestrictionId;
+
     ghost reading = { alternative_read };
 
     fn is_part(text: &str) -> bool {
@@ -100,17 +92,16 @@ fn first_name(alloc: Global, text: &str) -> Result<Option<RestrictionId>, AllocE
 
 /// The names of a layer.
 impl Part for SimulcastLayer {
+    type Value = SimulcastLayer;
+
     ghost reading = { layer_read };
 
     fn is_part(text: &str) -> bool {
         match cut(text, Separator::Comma) {
             None => RestrictionId::is_part(text),
             Some((first, others)) => {
-                if RestrictionId::is_part(first) {
-                    are_parts::<RestrictionId>(others, Separator::Comma)
-                } else {
-                    false
-                }
+                RestrictionId::is_part(first)
+                    && are_parts::<RestrictionId>(others, Separator::Comma)
             }
         }
     }
@@ -138,7 +129,7 @@ fn both_sides(alloc: Global, text: &str, other: &str) -> Result<Option<Sides>, A
     ensures { IfOk result (λ found. option_map sides_of found ≡ sides_read other.now text.now) }
 {
     let Some((front, behind)) = cut(text, Separator::Space) else {
-        return match parts(alloc, text, Separator::Semicolon)? {
+        return match parts::<SimulcastLayer>(alloc, text, Separator::Semicolon)? {
             Some(first) => {
                 let second = Items::empty(alloc);
                 Ok(Some(Sides { first, second }))
@@ -152,10 +143,10 @@ fn both_sides(alloc: Global, text: &str, other: &str) -> Result<Option<Sides>, A
     if !are_parts::<SimulcastLayer>(rest, Separator::Semicolon) {
         return Ok(None);
     }
-    let Some(first) = parts(alloc, front, Separator::Semicolon)? else {
+    let Some(first) = parts::<SimulcastLayer>(alloc, front, Separator::Semicolon)? else {
         return Ok(None);
     };
-    let Some(second) = parts(alloc, rest, Separator::Semicolon)? else {
+    let Some(second) = parts::<SimulcastLayer>(alloc, rest, Separator::Semicolon)? else {
         return Ok(None);
     };
     Ok(Some(Sides { first, second }))

@@ -104,7 +104,7 @@ pub(crate) fn ssrc_group(alloc: Global, text: &str) -> Result<Option<MediaAttrib
     if word.is_empty() {
         return Ok(None);
     }
-    let Some(ssrcs) = parts(alloc, sources, Separator::Space)? else {
+    let Some(ssrcs) = parts::<Ssrc>(alloc, sources, Separator::Space)? else {
         return Ok(None);
     };
     let semantics = Text::from_str(alloc, word)?;

@@ -6,8 +6,8 @@ ghost use Rattle.str0m_signal.specs.WordsReading.{word_read, name_read, digit_re
 use crate::fields::short;
 use crate::parts::Part;
 use std::alloc::{AllocError, Global};
-use str0m_values::cuts::{has, num_u32};
-use str0m_values::{Mid, Separator, Ssrc, Text};
+use str0m_values::cuts::{has, num_u8, num_u32};
+use str0m_values::{Mid, Pt, Separator, Ssrc, Text};
 
 fn is_word(text: &str) -> bool
     ensures { result ≡ lacks 32 text.now && is_rest text.now }
@@ -17,6 +17,8 @@ fn is_word(text: &str) -> bool
 
 /// A word.
 impl Part for Text {
+    type Value = Text;
+
     ghost reading = { word_read };
 
     fn is_part(text: &str) -> bool {
@@ -34,6 +36,8 @@ impl Part for Text {
 
 /// A word, as far as it is kept.
 impl Part for Mid {
+    type Value = Mid;
+
     ghost reading = { name_read };
 
     fn is_part(text: &str) -> bool {
@@ -49,8 +53,30 @@ impl Part for Mid {
     }
 }
 
+/// A payload type, at most `LIMIT`.
+pub(crate) struct Number<const LIMIT: u8>;
+
+impl<const LIMIT: u8> Part for Number<LIMIT> {
+    type Value = Pt;
+
+    ghost reading = { num LIMIT };
+
+    fn is_part(text: &str) -> bool {
+        num_u8(text, LIMIT).is_some()
+    }
+
+    fn read(_alloc: Global, text: &str) -> Result<Option<Pt>, AllocError> {
+        match num_u8(text, LIMIT) {
+            Some(number) => Ok(Some(Pt::new_with_value(number))),
+            None => Ok(None),
+        }
+    }
+}
+
 /// A number of 32 bits.
 impl Part for Ssrc {
+    type Value = Ssrc;
+
     ghost reading = { num 4294967295 };
 
     fn is_part(text: &str) -> bool {
@@ -84,6 +110,8 @@ fn hex_pair(text: &str) -> Option<u8>
 
 /// A byte as two hexadecimal digits.
 impl Part for u8 {
+    type Value = u8;
+
     ghost reading = { hex_pair_read };
 
     fn is_part(text: &str) -> bool {

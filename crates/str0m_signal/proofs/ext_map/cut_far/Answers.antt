@@ -1,5 +1,4 @@
-use Rattle.str0m_signal.proofs.Common.{arith}
-use Rattle.std.proofs.lemmas.Str.{IsCharBoundary-after_ascii}
+use Rattle.str0m_signal.proofs.Common.{arith, IsCharBoundary-after_ascii}
 use Rattle.str0m_signal.proofs.SearchLaws.{first_place, search_cut, search_fails}
 use Rattle.str0m_signal.proofs.ext_map.cut_far.Goals as goal
 

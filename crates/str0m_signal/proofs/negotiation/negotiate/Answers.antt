@@ -1,5 +1,4 @@
-use Rattle.str0m_signal.proofs.Common.{All, types, AllDistinct}
-use Rattle.str0m_formats.specs.PlainRow.{IsPlain}
+use Rattle.str0m_signal.proofs.Common.{All, types, AllDistinct, IsPlain}
 use Rattle.str0m_formats.specs.declared.codec_config.CodecConfig.{CodecConfig}
 use Rattle.str0m_signal.specs.ReadBack.{MayBePrinted}
 use Rattle.str0m_signal.proofs.NegotiationLaws.{kept_or_same, rounds_bounded}

@@ -1,14 +1,10 @@
-use Rattle.str0m_signal.specs.Lines.{OneLine}
-use Rattle.str0m_signal.specs.LineReading.{lines_of}
-use Rattle.str0m_signal.specs.CandidateLine.{IsCandidateLine}
-use Rattle.str0m_signal.proofs.AnswerLaws.{text_answers, text_one, line_answers}
-use Rattle.str0m_signal.proofs.ChainLaws.{one_line_only}
+use Rattle.str0m_signal.proofs.AnswerLaws.{first_line, first_line_one}
 use Rattle.str0m_signal.proofs.Common.{candidate_both}
 use Rattle.str0m_signal.proofs.LineLaws.{attribute_both}
 use Rattle.str0m_signal.proofs.reader.candidate_attribute.Goals as goal
 
 pub returns-clause-read : goal.returns-clause-read
-returns-clause-read c = text_answers (OneLine IsCandidateLine) c.args.text.now c.first_attribute.result (line_answers (attribute_both candidate_both) (lines_of c.args.text.now) c.first_attribute.result c.first_attribute.ensures)
+returns-clause-read c = first_line (attribute_both candidate_both) c.args.text.now c.first_attribute.result c.first_attribute.ensures
 
 pub returns-clause-one : goal.returns-clause-one
-returns-clause-one c = text_one (OneLine IsCandidateLine) (one_line_only (attribute_both candidate_both)) c.args.text.now
+returns-clause-one c = first_line_one (attribute_both candidate_both) c.args.text.now

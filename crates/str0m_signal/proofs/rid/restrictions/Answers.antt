@@ -1,27 +1,24 @@
-use Rattle.str0m_signal.proofs.Common.{rules, sym}
-use Rattle.str0m_signal.specs.RidReading.{restrictions_read}
-use Rattle.str0m_signal.proofs.RidLaws.{restrictions_fail, restrictions_end, restrictions_more, restriction_shorter}
+use Rattle.str0m_signal.proofs.Common.{◌≡◌, ◌∙◌, rules, sym}
+use Rattle.str0m_signal.specs.RidReading.{restriction_read, restrictions_read}
+use Rattle.str0m_signal.proofs.PairByPair.{next_of}
+use Rattle.str0m_signal.proofs.PartLaws.{regroup, with_front}
+use Rattle.str0m_signal.proofs.RidLaws.{restriction_shorter}
 use Rattle.str0m_signal.proofs.rid.restrictions.Goals as goal
 
 pub returns-in_default : goal.returns-in_default
-returns-in_default c =
-    let i = c.loop-key.invariant.1 in
-    restrictions_fail c.loop-key.pairs.items (restrictions_read c.args.text.now) c.loop-key.rest.now i.0 i.1 (sym c.in_default.ensures) i.2
+returns-in_default c = next_of restriction_read restriction_shorter (λ o. with_front c.loop-key.pairs.items o ≡ restrictions_read c.args.text.now) c.loop-key.rest.now _ (sym c.in_default.ensures) c.loop-key.invariant.1
 
 pub loop-key-smaller : goal.loop-key-smaller
 loop-key-smaller c =
-    let read = rw c.in-Some-next.is at c.in-Some.ensures in
-    restriction_shorter c.loop-key.rest.now (c.in-Some.key.now, c.in-Some.value.now) c.in-Some-next.more.now (sym read)
+    restriction_shorter c.loop-key.rest.now (c.in-Some.key.now, c.in-Some.value.now) c.in-Some-next.more.now (sym (rw c.in-Some-next.is at c.in-Some.ensures))
 
 pub returns-in_default-next : goal.returns-in_default-next
 returns-in_default-next c =
-    let i = c.loop-key.invariant.1 in
     let read = rw c.in_default-next.is at c.in-Some.ensures in
-    rw (c.from.ensures, c.in_ok-keep_pair.ensures) (restrictions_end c.loop-key.pairs.items (restrictions_read c.args.text.now) c.loop-key.rest.now i.0 (c.in-Some.key.now, c.in-Some.value.now) i.1 (sym read) i.2)
+    rw (c.from.ensures, c.in_ok-keep_pair.ensures) (next_of restriction_read restriction_shorter (λ o. with_front c.loop-key.pairs.items o ≡ restrictions_read c.args.text.now) c.loop-key.rest.now _ (sym read) c.loop-key.invariant.1)
 
 pub loop-key-preserved : goal.loop-key-preserved
 loop-key-preserved c =
-    let i = c.loop-key.invariant.1 in
     let read = rw c.in-Some-next.is at c.in-Some.ensures in
-    let m = restrictions_more c.loop-key.pairs.items (restrictions_read c.args.text.now) c.loop-key.rest.now i.0 (c.in-Some.key.now, c.in-Some.value.now) c.in-Some-next.more.now i.1 (sym read) i.2 in
-    (search rules, (m.0, m.1, rw c.in_ok-keep_pair.ensures m.2))
+    let m = next_of restriction_read restriction_shorter (λ o. with_front c.loop-key.pairs.items o ≡ restrictions_read c.args.text.now) c.loop-key.rest.now _ (sym read) c.loop-key.invariant.1 in
+    (search rules, (m.0, m.1, rw c.in_ok-keep_pair.ensures (regroup _ _ _ ∙ m.2)))

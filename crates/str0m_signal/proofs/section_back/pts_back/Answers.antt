@@ -3,7 +3,6 @@ use Rattle.str0m_signal.specs.Heads.{media_head}
 use Rattle.str0m_signal.specs.Section.{IsHead}
 use Rattle.str0m_signal.specs.Writable.{IsPrintedAs}
 use Rattle.str0m_signal.proofs.WritableLaws.{no_head, same_head, other_head}
-use Rattle.str0m_signal.proofs.section_back.pts_back.Goals.{in_default-via-in-Some+else-says_same, in_default-via-in_default}
 use Rattle.str0m_signal.proofs.section_back.pts_back.Goals as goal
 
 pub returns-in-Some : goal.returns-in-Some
@@ -16,10 +15,10 @@ pub returns : goal.returns
 returns c =
     let m = c.args.section.now in
     elim c.in_default.branch [
-      | in_default-via-in-Some+else-says_same w ↦
+      | goal.in_default-via-in-Some+else-says_same w ↦
           let only = rw (c.as_str.ensures.value, c.in_ok-text.ensures, w.in-Some.is) at c.in_ok-head.ensures in
           other_head m (IsPrintedAs IsHead (m_line m)) (media_head w.in-Some.head) only (λ same. true≢false (sym (w.says_same.ensures.1 same) ∙ w.if-says_same.false))
-      | in_default-via-in_default w ↦
+      | goal.in_default-via-in_default w ↦
           let none = rw (c.as_str.ensures.value, c.in_ok-text.ensures, w.in_default.is) at c.in_ok-head.ensures in
           no_head m (IsPrintedAs IsHead (m_line m)) none
     ]
