@@ -1,5 +1,5 @@
 -- A text is read as an address exactly where it stands for it.
-use Rattle.str0m_values.proofs.Common.{◌≡◌, ℕ, List, [], ◌∷◌, ◌++◌, length, Option, Some, None, refl, sym, ap, ◌∙◌, subst, arith, inl, inr, append-nil, lit≤, option_map, ipv6_segments}
+use Rattle.str0m_values.proofs.Common.{rules, ◌≡◌, ℕ, List, [], ◌∷◌, ◌++◌, length, Option, Some, None, refl, sym, ap, arith, append-nil, option_map, ipv6_segments}
 use Rattle.std.proofs.Common.{ne_eqb}
 use Rattle.std.specs.Net.Grammar as net
 use Rattle.std.specs.Net.Addr.{ipv4_octets}
@@ -26,13 +26,10 @@ whole_both : {A : Type 0} (F : List ℕ → A → Type 0) (read : List ℕ → R
     → ((text : List ℕ) (x : A) (rest : List ℕ) → read text ≡ Some (x, rest) → (front : List ℕ) × (text ≡ front ++ rest) × F front x)
     → ((text : List ℕ) (x : A) → F text x → read (text ++ []) ≡ Some (x, []))
     → Reads F (λ text. whole_value (read text))
-whole_both F read sound complete = record {
-  sound = λ text x e. let front = sound text x [] (whole_some (read text) x e) in subst (λ t. F t x) (sym (front.1 ∙ append-nil front.0)) front.2;
-  complete = λ text x h. ap whole_value (ap read (sym (append-nil text)) ∙ complete text x h);
-}
+whole_both F read sound complete = grind (arith, whole_some, append-nil)
 
 v4_both : Reads net.IsDotted (λ text. whole_value (read_ipv4 text))
-v4_both = whole_both net.IsDotted read_ipv4 (λ text octets rest. read_ipv4_sound text octets rest) (λ text octets h. read_ipv4_complete text octets [] h (lit≤ tt))
+v4_both = search (rules, whole_both, read_ipv4_sound, read_ipv4_complete)
 
 v6_both : Reads net.IsColonHex (λ text. whole_value (read_ipv6 text))
 v6_both = whole_both net.IsColonHex read_ipv6 (λ text groups rest. read_ipv6_sound text groups rest) (λ text groups h. read_ipv6_complete text groups [] h EndsGroups-nil)
@@ -40,20 +37,11 @@ v6_both = whole_both net.IsColonHex read_ipv6 (λ text groups rest. read_ipv6_so
 -- ---- both kinds
 
 map_some : {A B : Type 0} (f : A → B) (o : Option A) (y : B) → option_map f o ≡ Some y → (x : A) × (o ≡ Some x) × (f x ≡ y)
-map_some f None y e = absurd cc
-map_some f (Some x) y e = (x, refl, cc)
+map_some f o y e = grind arith
 
 ip_sound : (text : List ℕ) (a : IpAddr) → ip_read text ≡ Some a → IsIpText text a
 unfolding ip_read
-ip_sound text a e =
-    elim (or_some (option_map V4 (whole_value (read_ipv4 text))) (option_map V6 (whole_value (read_ipv6 text))) a e) [
-      | inl h ↦
-          let found = map_some V4 (whole_value (read_ipv4 text)) a h in
-          rw (← found.2) (v4_from text found.0 (v4_both.sound text found.0 found.1))
-      | inr h ↦
-          let found = map_some V6 (whole_value (read_ipv6 text)) a h.1 in
-          rw (← found.2) (v6_from text found.0 (v6_both.sound text found.0 found.1))
-    ]
+ip_sound text a e = grind (arith, or_some, map_some, v4_from, v4_both, v6_from, v6_both)
 
 ip_complete : (text : List ℕ) (a : IpAddr) → IsIpText text a → ip_read text ≡ Some a
 unfolding ip_read
@@ -68,16 +56,14 @@ ip_both = record { sound = ip_sound; complete = ip_complete }
 -- ---- what std's parse gives
 
 own_from : (text : List ℕ) (a : NetIpAddr) → net.IsIpText text a → IsIpText text (own_address a)
-own_from text (NetIp.V4 a) h = v4_from text (ipv4_octets a) h
-own_from text (NetIp.V6 a) h = v6_from text (ipv6_segments a) h
+own_from text a h = grind (arith, v4_from, ipv4_octets, v6_from, ipv6_segments)
 
 abbrev net_of : IpAddr → NetIpAddr
 net_of (V4 octets) = NetIp.V4 (record { octets = octets })
 net_of (V6 groups) = NetIp.V6 (record { segments = groups })
 
 net_to : (text : List ℕ) (a : IpAddr) → IsIpText text a → net.IsIpText text (net_of a)
-net_to text (V4 octets) h = v4_to text octets h
-net_to text (V6 groups) h = v6_to text groups h
+net_to text a h = grind (arith, v4_to, v6_to)
 
 pub parsed_ok : (text : List ℕ) (a : NetIpAddr) → net.IsIpText text a → Some (own_address a) ≡ ip_read text
 parsed_ok text a h = sym (ip_complete text (own_address a) (own_from text a h))

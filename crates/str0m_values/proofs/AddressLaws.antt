@@ -1,6 +1,5 @@
 -- The grammar of addresses here and that of std say the same.
-use Rattle.str0m_values.proofs.Common.{◌≡◌, ◌⊎◌, ℕ, ◌+◌, ◌-◌, ◌*◌, Bool, true, false, List, [], ◌∷◌, ◌++◌, length, replicate, refl, sym, ap, ◌∙◌, subst, arith, inl, inr, append-nil, append_assoc, length-append, codes, decimal, length-replicate}
-use Rattle.std.proofs.Common.{true≢false}
+use Rattle.str0m_values.proofs.Common.{◌≡◌, ◌⊎◌, ℕ, ◌+◌, ◌-◌, ◌*◌, Bool, true, false, List, [], ◌∷◌, ◌++◌, length, replicate, refl, sym, ap, ◌∙◌, subst, arith, inl, inr, append-nil, append_assoc, length-append, codes, length-replicate}
 use Rattle.std.specs.Prelude.{IsTrue}
 use Rattle.std.specs.Net.Addr.{segments_of}
 use Rattle.std.specs.Net.Grammar as net
@@ -10,20 +9,10 @@ use Rattle.str0m_values.specs.Address.{IsOctet, IsV4Text, IsGroup, IsOneGroup, p
 -- ---- V4
 
 pub v4_from : (text octets : List ℕ) → net.IsDotted text octets → IsV4Text text octets
-v4_from text octets h =
-    let spelled : text ≡ decimal h.a ++ (46 ∷ (decimal h.b ++ (46 ∷ (decimal h.c ++ (46 ∷ decimal h.d))))) = h.spelled ∙ simp append_assoc in
-    subst (IsV4Text text) (sym h.value) ((_, _, spelled, (refl, h.fit.0), (_, _, refl, (refl, h.fit.1), (_, _, refl, (refl, h.fit.2), (refl, h.fit.3)))), refl)
+v4_from text octets h = grind (arith, append_assoc)
 
 four : (text : List ℕ) (a b c d : ℕ) → Parted 46 IsOctet text (a ∷ b ∷ c ∷ d ∷ []) → net.IsDotted text (a ∷ b ∷ c ∷ d ∷ [])
-four text a b c d h = record {
-  a = a;
-  b = b;
-  c = c;
-  d = d;
-  fit = (h.3.1, h.4.3.1, h.4.4.3.1, h.4.4.4.1);
-  value = refl;
-  spelled = h.2 ∙ rw (h.3.0, h.4.2, h.4.3.0, h.4.4.2, h.4.4.3.0, h.4.4.4.0) (simp append_assoc);
-}
+four text a b c d h = grind (arith, append_assoc)
 
 pub v4_to : (text octets : List ℕ) → IsV4Text text octets → net.IsDotted text octets
 v4_to text (a ∷ b ∷ c ∷ d ∷ []) h = four text a b c d h.0
@@ -53,26 +42,19 @@ record Ends (v4 : Bool) (Last : List ℕ → List ℕ → Type 0) : Type 0 where
   only : (text groups : List ℕ) → Last text groups → IsOneGroup text groups ⊎ (IsTrue v4 × IsV4Tail text groups)
 
 plain_ends : Ends false IsOneGroup
-plain_ends = record { one = λ text groups h. h; tail = λ never text groups h. absurd (true≢false (sym never)); only = λ text groups h. inl h }
+plain_ends = grind arith
 
 all_ends : Ends true IsEnd
-all_ends = record {
-  one = λ text groups h. inl h;
-  tail = λ always text groups h. inr h;
-  only = λ text groups h. elim h [ inl k ↦ inl k | inr k ↦ inr (refl, k) ];
-}
+all_ends = grind arith
 
 module _ {v4 : Bool} {Last : List ℕ → List ℕ → Type 0} (ends : Ends v4 Last) where
   groups_from : (lead text : List ℕ) (n : ℕ) (groups : List ℕ) → net.IsGroupsAfter v4 lead text (n ∷ groups) → (body : List ℕ) × (text ≡ lead ++ body) × AreGroups Last body (n ∷ groups)
   groups_from lead text n groups (inr h) = (h.0, h.3, inl (ends.tail h.2 h.0 (n ∷ groups) (h.1, v4_from h.0 h.1 h.4, h.5 ∙ pairs_from h.1)))
-  groups_from lead text n [] (inl h) =
-      (h.0, h.2 ∙ ap (λ (rest : List ℕ). lead ++ h.0 ++ rest) h.4 ∙ append-nil (lead ++ h.0), inl (ends.one h.0 (n ∷ []) (n, group_from h.0 n h.3, refl)))
-  groups_from lead text n (m ∷ groups) (inl h) =
-      let more = groups_from (codes ":") h.1 m groups h.4 in
-      (h.0 ++ (codes ":" ++ more.0), h.2 ∙ ap (λ (rest : List ℕ). lead ++ h.0 ++ rest) more.1 ∙ append_assoc lead h.0 (codes ":" ++ more.0), inr (h.0, more.0, refl, group_from h.0 n h.3, more.2))
+  groups_from lead text n [] (inl h) = grind (arith, append-nil, group_from)
+  groups_from lead text n (m ∷ groups) (inl h) = grind (arith, groups_from (codes ":") h.1 m groups h.4, append_assoc, group_from)
 
   one_to : (lead text : List ℕ) (groups : List ℕ) → IsOneGroup text groups → net.IsGroupsAfter v4 lead (lead ++ text) groups
-  one_to lead text groups h = subst (net.IsGroupsAfter v4 lead (lead ++ text)) (sym h.2) (inl (text, [], sym (append-nil (lead ++ text)), group_to text h.0 h.1, refl))
+  one_to lead text groups h = grind (arith, append-nil, group_to)
 
   tail_to : (lead text : List ℕ) (n : ℕ) (groups : List ℕ) → IsTrue v4 → IsV4Tail text (n ∷ groups) → net.IsGroupsAfter v4 lead (lead ++ text) (n ∷ groups)
   tail_to lead text n groups allowed h = inr (text, h.0, allowed, refl, v4_to text h.0 h.1, h.2 ∙ sym (pairs_from h.0))
@@ -81,13 +63,11 @@ module _ {v4 : Bool} {Last : List ℕ → List ℕ → Type 0} (ends : Ends v4 L
   groups_to lead text [] h = absurd h
   groups_to lead text (n ∷ groups) (inl h) =
       elim (ends.only text (n ∷ groups) h) [ inl k ↦ one_to lead text (n ∷ groups) k | inr k ↦ tail_to lead text n groups k.0 k.1 ]
-  groups_to lead text (n ∷ groups) (inr h) =
-      let more = groups_to (codes ":") h.1 groups h.4 in
-      inl (h.0, codes ":" ++ h.1, ap (λ (t : List ℕ). lead ++ t) h.2 ∙ sym (append_assoc lead h.0 (codes ":" ++ h.1)), group_to h.0 n h.3, more)
+  groups_to lead text (n ∷ groups) (inr h) = grind (arith, groups_to (codes ":") h.1 groups h.4, append_assoc, group_to)
 
   any_from : (text groups : List ℕ) → net.IsGroups v4 text groups → AreAnyGroups Last text groups
   any_from text [] h = inl (h, refl)
-  any_from text (n ∷ groups) h = let all = groups_from [] text n groups h in inr (subst (λ (t : List ℕ). AreGroups Last t (n ∷ groups)) (sym all.1) all.2)
+  any_from text (n ∷ groups) h = grind (arith, groups_from [] text n groups h)
 
   any_to : (text groups : List ℕ) → AreAnyGroups Last text groups → net.IsGroups v4 text groups
   any_to text groups (inl h) = subst (net.IsGroups v4 text) (sym h.1) h.0

@@ -1,13 +1,11 @@
 -- What is printed of an address stands for it.
-use Rattle.str0m_values.proofs.Common.{◌≡◌, ℕ, zero, suc, ◌<◌, ◌≤◌, ◌+◌, ◌^◌, List, [], ◌∷◌, ◌++◌, length, get_or, refl, sym, ap, subst, arith, inl, inr, append-nil, append_assoc, take, drop, lit<, AllByRecursion, cases_lt, eq-eqb, ne_eqb, le-leb}
-use Rattle.std.proofs.Math.Nat.{max-eq_left, max-eq_right}
+use Rattle.str0m_values.proofs.Common.{◌≡◌, ℕ, zero, suc, ◌<◌, ◌≤◌, ◌+◌, ◌^◌, List, [], ◌∷◌, ◌++◌, length, get_or, refl, ap, subst, arith, append-nil, append_assoc, lit<, AllByRecursion, cases_lt, le-leb}
 use Rattle.std.proofs.lemmas.Bool.{lt-leb}
 use Rattle.std.specs.Net.Text as net
 use Rattle.std.specs.Net.Text.{hex, hex_groups_text}
 use Rattle.std.proofs.NetLemmas.Arrays.{four_items}
 use Rattle.std.proofs.NetLemmas.Texts.{IsDotted-ipv4_text, IsColonHex-hex_groups_text}
 use Rattle.str0m_values.specs.declared.address.IpAddr.{IpAddr}
-use Rattle.str0m_values.specs.declared.address.IpAddr.TheVariants.{V4, V6}
 use Rattle.str0m_values.specs.Address.{IsV4Text, IsV6Text, IsIpText, v4_text, groups_text, zeros_at_front, longest_run, first_run, v6_text, ip_text, IsInRange}
 use Rattle.str0m_values.proofs.AddressLaws.{v4_from, v6_from}
 
@@ -18,38 +16,22 @@ more_groups n [] = append-nil (hex n)
 more_groups n (m ∷ groups) = ap (λ (t : List ℕ). hex n ++ (58 ∷ t)) (more_groups m groups)
 
 same_groups : (groups : List ℕ) → net.groups_text groups ≡ groups_text groups
-same_groups [] = refl
-same_groups (n ∷ groups) = more_groups n groups
+same_groups groups = grind (arith, more_groups)
 
 -- a later run is the first of the longest, or the one at the front is
 later_run : (n : ℕ) (groups : List ℕ) → zeros_at_front (n ∷ groups) < longest_run groups → ◌≡◌ {A = ℕ × ℕ} (first_run (longest_run groups) groups + 1, longest_run groups) (first_run (longest_run (n ∷ groups)) (n ∷ groups), longest_run (n ∷ groups))
-later_run n groups shorter =
-    let len = longest_run groups in
-    let most = max-eq_right {n = zeros_at_front (n ∷ groups)} {m = len} (omega arith) in
-    let there : ◌≡◌ {A = ℕ × ℕ} (first_run len groups + 1, len) (first_run len (n ∷ groups), len) = rw (ne_eqb (zeros_at_front (n ∷ groups)) len (omega arith)) refl in
-    subst (λ (k : ℕ). ◌≡◌ {A = ℕ × ℕ} (first_run len groups + 1, len) (first_run k (n ∷ groups), k)) (sym most) there
+later_run n groups shorter = grind arith
 
 front_run : (n : ℕ) (groups : List ℕ) → longest_run groups ≤ zeros_at_front (n ∷ groups) → ◌≡◌ {A = ℕ × ℕ} (0, zeros_at_front (n ∷ groups)) (first_run (longest_run (n ∷ groups)) (n ∷ groups), longest_run (n ∷ groups))
-front_run n groups longer =
-    let len = zeros_at_front (n ∷ groups) in
-    let most = max-eq_left {n = len} {m = longest_run groups} longer in
-    let here : ◌≡◌ {A = ℕ × ℕ} (0, len) (first_run len (n ∷ groups), len) = rw (eq-eqb len len refl) refl in
-    subst (λ (k : ℕ). ◌≡◌ {A = ℕ × ℕ} (0, len) (first_run k (n ∷ groups), k)) (sym most) here
+front_run n groups longer = grind arith
 
 same_run : (groups : List ℕ) → net.longest_zero_run groups ≡ (first_run (longest_run groups) groups, longest_run groups)
 same_run [] = refl
-same_run (n ∷ groups) =
-    rw (same_run groups) (elim (cases_lt (zeros_at_front (n ∷ groups)) (longest_run groups)) [
-      | inl shorter ↦ rw (lt-leb _ _ shorter) (later_run n groups shorter)
-      | inr longer ↦ rw (le-leb _ _ longer) (front_run n groups longer)
-    ])
+same_run (n ∷ groups) = grind (arith, same_run groups, cases_lt, lt-leb, later_run, le-leb, front_run)
 
 pub same_v6 : (groups : List ℕ) → hex_groups_text groups ≡ v6_text groups
 unfolding hex_groups_text v6_text
-same_v6 groups =
-    let len = longest_run groups in
-    let start = first_run len groups in
-    rw (same_run groups, same_groups groups, same_groups (take start groups), same_groups (drop (start + len) groups)) (simp append_assoc)
+same_v6 groups = grind (arith, same_run, same_groups, append_assoc)
 
 -- ---- what is printed is in the grammar
 
@@ -68,5 +50,4 @@ pub printed_v6 : (groups : List ℕ) → length groups ≡ 8 → AllByRecursion 
 printed_v6 groups eight small = subst (λ t. IsV6Text t groups) (same_v6 groups) (v6_from (hex_groups_text groups) groups (IsColonHex-hex_groups_text groups eight (each (2 ^ 16) groups (lit< tt) small)))
 
 pub printed : (a : IpAddr) → IsInRange a → IsIpText (ip_text a) a
-printed (V4 octets) h = printed_v4 octets h.0 h.1
-printed (V6 groups) h = printed_v6 groups h.0 h.1
+printed a h = grind (arith, printed_v4, printed_v6)

@@ -18,7 +18,7 @@ word_then (x ∷ word) c rest h other lacks = (omega arith, lacks_both 32 (x ∷
 -- digits of a radix lack a character that is none of them
 digits_lack_other : (c radix : ℕ) (digits : List ℕ) → radix ≤ digit_value c → AllDigits radix digits → Lacks c digits
 digits_lack_other c radix [] far h = tt
-digits_lack_other c radix (x ∷ digits) far h = ((λ (e : x ≡ c). let lt : digit_value c < radix = rw (← e) h.0 in absurd (omega arith)), digits_lack_other c radix digits far h.1)
+digits_lack_other c radix (x ∷ digits) far h = grind (arith, digits_lack_other c radix digits far h.1)
 
 pub numeral_word : (radix : ℕ) (text : List ℕ) → radix ≤ 16 → IsNumeral radix text → IsWord text
 numeral_word radix text low h = (h.0, digits_lack_other 32 radix text (omega arith) h.1)
@@ -29,7 +29,8 @@ decimal_word n small = numeral_word 10 (decimal n) (lit≤ tt) (decimal_is_IsNum
 parted_word : (c : ℕ) (F : List ℕ → ℕ → Type 0) → c ≢ 32 → ((text : List ℕ) (x : ℕ) → F text x → IsWord text) → (text : List ℕ) (xs : List ℕ) → Parted c F text xs → IsWord text
 parted_word c F other word text [] h = absurd h
 parted_word c F other word text (x ∷ []) h = word text x h
-parted_word c F other word text (x ∷ y ∷ ys) h = rw h.2 (word_then h.0 c h.1 (word h.0 x h.3) other (parted_word c F other word h.1 (y ∷ ys) h.4).1)
+parted_word c F other word text (x ∷ y ∷ ys) h =
+    grind (arith, word_then h.0 c h.1 (word h.0 x h.3) other, parted_word c F other word h.1 (y ∷ ys) h.4)
 
 v4_word : (text octets : List ℕ) → IsV4Text text octets → IsWord text
 v4_word text octets h = parted_word 46 IsOctet (λ e. absurd (omega arith)) (λ t n o. rw o.0 (decimal_word n (omega (arith, o.1)))) text octets h.0

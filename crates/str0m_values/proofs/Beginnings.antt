@@ -1,11 +1,9 @@
 -- The longest beginning of a text that fits: there is one, and only one.
-use Rattle.str0m_values.proofs.Common.{◌≡◌, ◌⊎◌, ℕ, zero, suc, ◌<◌, ◌≤◌, Bool, true, false, ◌||◌, leb, List, [], ◌++◌, length, take, drop, get_or, refl, sym, ap, subst, ◌∙◌, inl, inr, arith, take-append-drop, length-take-le, IsCharBoundary, ltb-true, lt-ltb, leb-true, le-leb, cases_Bool, cases_lt, both_ways, take-append_seam, ◌+◌, ◌∷◌, length-append}
-use Rattle.std.proofs.Common.{ltb}
+use Rattle.str0m_values.proofs.Common.{◌≡◌, ◌⊎◌, ℕ, zero, suc, ◌<◌, ◌≤◌, true, false, leb, List, [], ◌++◌, length, take, drop, refl, sym, ap, ◌∙◌, inl, inr, arith, take-append-drop, length-take-le, IsCharBoundary, ltb-true, leb-true, cases_Bool, cases_lt, take-append_seam, ◌+◌, ◌∷◌, length-append}
 use Rattle.std.specs.Fmt.{is_char_start}
 use Rattle.std.specs.Fmt.Cut.{floor_char_boundary}
 use Rattle.std.proofs.lemmas.Bool.{leb-false}
 use Rattle.std.proofs.lemmas.List.{append-nil}
-use Rattle.std.proofs.lemmas.Str.{IsCharBoundary-end}
 use Rattle.str0m_values.specs.ShortText.{IsLongestBeginning, beginning_of}
 
 -- where a character ends at i or before it, the last such place
@@ -18,39 +16,12 @@ starts : (b : ℕ) → is_char_start b ≡ true → 128 ≤ b → 192 ≤ b
 starts b e high = grind (arith, ltb-true, leb-true)
 
 inside : (b : ℕ) → is_char_start b ≡ false → (128 ≤ b → 192 ≤ b) → ⊥
-inside b e h =
-    elim (cases_lt b 128) [
-      | inl low ↦ both_ways (is_char_start b) e (rw (lt-ltb b 128 low) refl)
-      | inr high ↦ both_ways (is_char_start b) e (rw (le-leb 192 b (h high)) (or_true (ltb b 128)))
-    ]
-  where
-    or_true : (b : Bool) → (b || true) ≡ true
-    or_true true = refl
-    or_true false = refl
+inside b e h = grind arith
 
 floor_is : (text : List ℕ) (i : ℕ) → i < length text → IsLastSeam text i (floor_char_boundary text i)
 unfolding floor_char_boundary
 floor_is text zero within = record { bound = omega arith; seam = inl refl; last = λ j above below is. absurd (omega arith) }
-floor_is text (suc i) within =
-    elim (cases_Bool (is_char_start (get_or text (suc i) 0))) [
-      | inl yes' ↦ rw yes' (record {
-        bound = omega arith;
-        seam = inr (omega arith, λ _ high. starts (get_or text (suc i) 0) yes' high);
-        last = λ j above below is. absurd (omega arith);
-      })
-      | inr no' ↦
-          let before = floor_is text i (omega arith) in
-          rw no' (record {
-            bound = omega (arith, before.bound);
-            seam = before.seam;
-            last = λ j above below is. elim (cases_lt j (suc i)) [
-              | inl lower ↦ before.last j above (omega arith) is
-              | inr at ↦
-                  let same : j ≡ suc i = omega arith in
-                  inside (get_or text (suc i) 0) no' (λ high. (subst (IsCharBoundary text) same is).1 within high)
-            ];
-          })
-    ]
+floor_is text (suc i) within = grind (arith, cases_Bool, starts, floor_is text i, cases_lt, inside)
 
 -- the function gives a longest beginning
 pub beginning_is : (room : ℕ) (text : List ℕ) → IsLongestBeginning room text (beginning_of room text)
@@ -78,10 +49,7 @@ beginning_is room text =
     ]
 
 no_longer : (room : ℕ) (text a b : List ℕ) → IsLongestBeginning room text a → IsLongestBeginning room text b → length a < length b → ⊥
-no_longer room text a b h k below = elim k.whole [
-  | inl nothing ↦ omega arith
-  | inr seam ↦ h.longest (length b) below k.fits seam
-]
+no_longer room text a b h k below = grind arith
 
 one_beginning : (room : ℕ) (text a b : List ℕ) → IsLongestBeginning room text a → IsLongestBeginning room text b → a ≡ b
 one_beginning room text a b h k =
@@ -106,10 +74,7 @@ beginning_only room text kept h = one_beginning room text kept (beginning_of roo
 -- a beginning that isn't the whole of a text is shorter
 shorter : (text kept rest : List ℕ) → text ≡ kept ++ rest → (length kept < length text → ⊥) → kept ≡ text
 shorter text kept [] e whole = sym (e ∙ append-nil kept)
-shorter text kept (x ∷ xs) e whole =
-    let len : length text ≡ length kept + length (x ∷ xs) = ap length e ∙ length-append kept (x ∷ xs) in
-    absurd (whole (omega arith))
+shorter text kept (x ∷ xs) e whole = grind (arith, length-append)
 
 pub whole_where_room : (room : ℕ) (text kept : List ℕ) → IsLongestBeginning room text kept → length text ≤ room → kept ≡ text
-whole_where_room room text kept h fits =
-    shorter text kept h.begins.0 h.begins.1 (λ lt. h.longest (length text) lt fits (IsCharBoundary-end text))
+whole_where_room room text kept h fits = grind (arith, shorter)

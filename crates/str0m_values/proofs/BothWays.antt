@@ -1,5 +1,5 @@
 -- A function that reads what a relation says, both ways.
-use Rattle.str0m_values.proofs.Common.{ap, ◌≡◌, ◌⊎◌, Bool, true, false, cond, Option, Some, None, refl, sym, ◌∙◌, inl, inr}
+use Rattle.str0m_values.proofs.Common.{arith, ap, ◌≡◌, ◌⊎◌, Bool, true, cond, Option, Some, None, refl, sym, ◌∙◌, inl, inr}
 use Rattle.str0m_values.specs.Fits.{FirstFit}
 use Rattle.str0m_values.specs.Cuts.{◌>>=◌, ◌<|>◌}
 
@@ -13,16 +13,13 @@ pub record Reads {A B : Type 0} (F : A → B → Type 0) (f : A → Option B) : 
   pub complete : (a : A) (b : B) → F a b → f a ≡ Some b
 
 pub or_some : {A : Type 0} (o p : Option A) (x : A) → (o <|> p) ≡ Some x → (o ≡ Some x) ⊎ ((o ≡ None) × (p ≡ Some x))
-or_some None p x e = inr (refl, e)
-or_some (Some y) p x e = inl e
+or_some o p x e = grind arith
 
 pub bind_some : {A B : Type 0} (o : Option A) (f : A → Option B) (y : B) → (o >>= f) ≡ Some y → (x : A) × (o ≡ Some x) × (f x ≡ Some y)
-bind_some None f y e = absurd cc
-bind_some (Some x) f y e = (x, refl, e)
+bind_some o f y e = grind arith
 
 pub if_some : {A : Type 0} (test : Bool) (o : Option A) (x : A) → cond test o None ≡ Some x → (test ≡ true) × (o ≡ Some x)
-if_some true o x e = (refl, e)
-if_some false o x e = absurd cc
+if_some test o x e = grind arith
 
 pub some_is : {A : Type 0} (x y : A) → Some x ≡ Some y → x ≡ y
 some_is x y e = cc

@@ -1,12 +1,11 @@
 -- A text is read as a candidate exactly where it stands for it.
-use Rattle.str0m_values.proofs.Common.{◌≡◌, ℕ, cond, List, [], ◌∷◌, ◌++◌, Option, Some, None, refl, sym, ap, ◌∙◌, inl, inr, append_assoc, append-nil, subst, arith, codes}
+use Rattle.str0m_values.proofs.Common.{rules, ◌≡◌, ℕ, cond, List, [], ◌∷◌, ◌++◌, Option, Some, None, refl, ap, ◌∙◌, inl, inr, append_assoc, append-nil, subst, arith, codes}
 use Rattle.str0m_values.specs.declared.address.SocketAddr.{SocketAddr}
 use Rattle.str0m_values.specs.declared.candidate.Candidate.{Candidate}
 use Rattle.str0m_values.specs.Cuts.{num, is_rest}
 use Rattle.str0m_values.specs.Labels.{IsSame, IsLabelled, IsOptional, IsLeftOut}
 use Rattle.str0m_values.specs.LabelReading.{labelled_read, part_read, optional_read}
 use Rattle.str0m_values.specs.Parts.{IsNum}
-use Rattle.str0m_values.specs.Address.{IsIpText}
 use Rattle.str0m_values.specs.CandidateKind.{IsKindText}
 use Rattle.str0m_values.specs.Protocol.{IsProtocolText, IsTcpTypeText}
 use Rattle.str0m_values.specs.Candidate.{IsSocket, IsRelated, AreNames, IsCandidateText}
@@ -33,26 +32,16 @@ from_generation = candidate_label.GENERATION.now ∷ from_names
 abbrev from_tcp_type : List (List ℕ)
 from_tcp_type = candidate_label.TCP_TYPE.now ∷ from_generation
 
-abbrev from_related : List (List ℕ)
-from_related = candidate_label.RELATED_ADDRESS.now ∷ from_tcp_type
-
 starts_names : (part rest : List ℕ) (x : Option (List ℕ)) → AreNames part x → Starts from_cost rest → Starts from_names (part ++ rest)
 starts_names part rest x (inl h) s =
-    let whole : part ++ rest ≡ h.0 ++ (h.1 ++ rest) = ap (λ (t : List ℕ). t ++ rest) h.2 ∙ append_assoc h.0 h.1 rest in
-    rw whole (starts_optional IsSame candidate_label.NETWORK_ID.now (candidate_label.UFRAG.now ∷ from_cost) h.0 (h.1 ++ rest) h.3.0 h.3.1 (starts_optional IsSame candidate_label.UFRAG.now from_cost h.1 rest x h.4 s))
-starts_names part rest x (inr h) s =
-    let begins : part ++ rest ≡ candidate_label.UFRAG.now ++ (h.5.0 ++ (h.1 ++ rest)) = rw (h.4, h.5.1) (simp append_assoc) in
-    inr (inl (h.5.0 ++ (h.1 ++ rest), begins))
-
-starts_related : (part rest : List ℕ) (x : Option _) → IsRelated part x → Starts from_tcp_type rest → Starts from_related (part ++ rest)
-starts_related part rest None h s = inr (rw h s)
-starts_related part rest (Some addr) h s = inl (h.3.0 ++ (h.1 ++ rest), rw (h.2, h.3.1) (simp append_assoc))
+    grind (arith, append_assoc h.0 h.1 rest, starts_optional IsSame candidate_label.UFRAG.now from_cost h.1 rest x h.4 s, starts_optional IsSame candidate_label.NETWORK_ID.now (candidate_label.UFRAG.now ∷ from_cost) h.0 (h.1 ++ rest) h.3.0 h.3.1 (starts_optional IsSame candidate_label.UFRAG.now from_cost h.1 rest x h.4 s))
+starts_names part rest x (inr h) s = grind arith
 
 ends_labelled : {B : Type 0} (F : List ℕ → B → Type 0) (label part rest : List ℕ) (x : B) → ((more : List ℕ) → Ends (label ++ more)) → IsLabelled label F part x → Ends (part ++ rest)
 ends_labelled F label part rest x spaced h = rw (h.1, append_assoc label h.0 rest) (spaced (h.0 ++ rest))
 
 ends_socket : (part rest : List ℕ) (x : SocketAddr) → IsSocket (codes " ") (codes " ") part x → Ends (part ++ rest)
-ends_socket part rest x h = rw (h.2, append_assoc h.0 h.1 rest) (ends_labelled IsIpText (codes " ") h.0 (h.1 ++ rest) x.ip (λ more. refl) h.3)
+ends_socket part rest x h = grind arith
 
 -- ---- the parts in front of the address
 
@@ -141,17 +130,17 @@ last_sound text x e =
     })
 
 cost_starts : (cost : List ℕ) → IsLeftOut candidate_label.NETWORK_COST.now cost → Starts from_cost cost
-cost_starts cost h = subst (Starts from_cost) (append-nil cost) (starts_optional IsSame candidate_label.NETWORK_COST.now [] cost [] h.0 h.1 refl)
+cost_starts cost h = grind arith
 
 cost_complete : (cost : List ℕ) (h : IsLeftOut candidate_label.NETWORK_COST.now cost) → optional_read candidate_label.NETWORK_COST.now cost ≡ Some (h.0, [])
-cost_complete cost h = ap (optional_read candidate_label.NETWORK_COST.now) (sym (append-nil cost)) ∙ (optional_front candidate_label.NETWORK_COST.now).complete cost h.0 [] h.1 (refl, refl)
+cost_complete cost h = grind (arith, append-nil cost, optional_front candidate_label.NETWORK_COST.now)
 
 names_start : (text : List ℕ) (x : Option (List ℕ)) (h : IsLast text x) → Starts from_names (h.names ++ h.cost)
 names_start text x h = starts_names h.names h.cost x h.names_are (cost_starts h.cost h.cost_is)
 
 last_starts : (text : List ℕ) (x : Option (List ℕ)) → IsLast text x → Starts from_generation text
-last_starts text x h = subst (Starts from_generation) (sym h.joined)
-    (starts_optional IsSame candidate_label.GENERATION.now from_names h.generation (h.names ++ h.cost) h.generation_is.0 h.generation_is.1 (names_start text x h))
+last_starts text x h =
+    search (rules, starts_optional IsSame candidate_label.GENERATION.now from_names h.generation (h.names ++ h.cost) h.generation_is.0 h.generation_is.1, names_start text x h)
 
 last_complete : (text : List ℕ) (x : Option (List ℕ)) → IsLast text x → last_read text ≡ Some x
 last_complete text x h =
@@ -193,24 +182,15 @@ extras_sound text x e =
     })
 
 tcp_type_starts : (text : List ℕ) (x : Extras) (h : IsExtras text x) → Starts from_tcp_type (h.tcp_type ++ h.last)
-tcp_type_starts text x h = starts_optional IsTcpTypeText candidate_label.TCP_TYPE.now from_generation h.tcp_type h.last x.tcptype h.tcp_type_is (last_starts h.last x.ufrag h.last_is)
+tcp_type_starts text x h =
+    search (rules, starts_optional IsTcpTypeText candidate_label.TCP_TYPE.now from_generation h.tcp_type h.last x.tcptype h.tcp_type_is, last_starts h.last x.ufrag h.last_is)
 
 extras_end : (text : List ℕ) (x : Extras) → IsExtras text x → Ends text
-extras_end text x h =
-    let starts : Starts from_related (h.related ++ (h.tcp_type ++ h.last)) = starts_related h.related (h.tcp_type ++ h.last) x.raddr h.related_is (tcp_type_starts text x h) in
-    starts_all Ends from_related refl (λ m. refl, (λ m. refl, (λ m. refl, (λ m. refl, (λ m. refl, (λ m. refl, tt)))))) text
-    (subst (Starts from_related) (sym h.joined) starts)
+extras_end text x h = grind arith
 
 extras_complete : (text : List ℕ) (x : Extras) → IsExtras text x → extras_read text ≡ Some x
 extras_complete text x h =
-    let r₂ : List ℕ = h.tcp_type ++ h.last in
-    let b₁ : EndsWithout candidate_label.RELATED_ADDRESS.now r₂ = starts_all (EndsWithout candidate_label.RELATED_ADDRESS.now) from_tcp_type (refl, refl)
-    (λ m. (refl, refl), (λ m. (refl, refl), (λ m. (refl, refl), (λ m. (refl, refl), (λ m. (refl, refl), tt))))) r₂ (tcp_type_starts text x h) in
-    let b₂ : EndsWithout candidate_label.TCP_TYPE.now h.last = starts_all (EndsWithout candidate_label.TCP_TYPE.now) from_generation (refl, refl)
-    (λ m. (refl, refl), (λ m. (refl, refl), (λ m. (refl, refl), (λ m. (refl, refl), tt)))) h.last (last_starts h.last x.ufrag h.last_is) in
-    ap extras_read h.joined
-    ∙ bind_is _ _ _ _ (related_front.complete h.related x.raddr r₂ h.related_is b₁)
-    (bind_is _ _ _ _ (tcp_front.complete h.tcp_type x.tcptype h.last h.tcp_type_is b₂) (bind_is _ _ _ _ (last_complete h.last x.ufrag h.last_is) refl))
+    grind (arith, starts_all (EndsWithout candidate_label.TCP_TYPE.now) from_generation, starts_all (EndsWithout candidate_label.RELATED_ADDRESS.now) from_tcp_type, tcp_type_starts text x h, last_starts h.last x.ufrag h.last_is, bind_is, related_front, tcp_front, last_complete h.last x.ufrag h.last_is)
 
 -- ---- the whole text
 

@@ -1,5 +1,5 @@
 -- The parts of a candidate's text that have a form of their own are read both ways.
-use Rattle.str0m_values.proofs.Common.{◌≡◌, ℕ, true, cond, List, [], ◌++◌, Option, Some, None, refl, sym, ap, ◌∙◌, inl, inr, append_assoc, is_some}
+use Rattle.str0m_values.proofs.Common.{rules, arith, ◌≡◌, ℕ, true, cond, List, [], ◌++◌, Option, Some, None, refl, sym, ap, ◌∙◌, inl, inr, append_assoc, is_some}
 use Rattle.std.specs.Prelude.{is_none, ◌||◌, if◌then◌else◌}
 use Rattle.str0m_values.specs.declared.address.SocketAddr.{SocketAddr}
 use Rattle.str0m_values.specs.declared.protocol.TcpType.{TcpType}
@@ -42,7 +42,7 @@ socket_complete ip_label port_label spaced part x rest h ends =
     (bind_is _ _ _ _ ((part_front port_label (num_both 65535)).complete h.1 x.port rest h.4 ends) refl)
 
 pub socket_front : (ip_label port_label : List ℕ) → ((more : List ℕ) → Ends (port_label ++ more)) → Front (IsSocket ip_label port_label) Ends (socket_read ip_label port_label)
-socket_front ip_label port_label spaced = record { sound = socket_sound ip_label port_label; complete = socket_complete ip_label port_label spaced }
+socket_front ip_label port_label spaced = search (rules, socket_sound, socket_complete)
 
 related_socket : Front (IsSocket candidate_label.RELATED_ADDRESS.now candidate_label.RELATED_PORT.now) Ends (socket_read candidate_label.RELATED_ADDRESS.now candidate_label.RELATED_PORT.now)
 related_socket = socket_front candidate_label.RELATED_ADDRESS.now candidate_label.RELATED_PORT.now (λ more. refl)
@@ -50,10 +50,7 @@ related_socket = socket_front candidate_label.RELATED_ADDRESS.now candidate_labe
 related_sound : (text : List ℕ) (x : Option SocketAddr × List ℕ) (o : Option (List ℕ)) → strip candidate_label.RELATED_ADDRESS.now text ≡ o
     → cond (is_some o) (socket_read candidate_label.RELATED_ADDRESS.now candidate_label.RELATED_PORT.now text >>= λ addr. Some (Some addr.0, addr.1)) (Some (None, text)) ≡ Some x
     → (part : List ℕ) × (text ≡ part ++ x.1) × IsRelated part x.0
-related_sound text x None is e = rw (← some_is (None, text) x e) ([], refl, refl)
-related_sound text x (Some body) is e =
-    bound (socket_read candidate_label.RELATED_ADDRESS.now candidate_label.RELATED_PORT.now text) _ _ e λ addr e₁ same.
-    rw (← some_is (Some addr.0, addr.1) x same) (related_socket.sound text addr e₁)
+related_sound text x o is e = search (rules, some_is, bound, related_socket)
 
 related_complete : (part : List ℕ) (x : Option SocketAddr) (rest : List ℕ) → IsRelated part x → EndsWithout candidate_label.RELATED_ADDRESS.now rest → related_read (part ++ rest) ≡ Some (x, rest)
 related_complete part None rest h ends = rw (h, ends.1) refl
@@ -62,7 +59,7 @@ related_complete part (Some addr) rest h ends =
     rw there (bind_is _ _ _ _ (related_socket.complete part addr rest h ends.0) refl)
 
 pub related_front : Front IsRelated (EndsWithout candidate_label.RELATED_ADDRESS.now) related_read
-related_front = record { sound = λ text x e. related_sound text x (strip candidate_label.RELATED_ADDRESS.now text) refl e; complete = related_complete }
+related_front = search (rules, related_sound, related_complete)
 
 -- ---- the TCP type
 
@@ -105,8 +102,7 @@ names_found : (text : List ℕ) (x : Option (List ℕ) × List ℕ) (first : Opt
     → (part : List ℕ) × (text ≡ part ++ x.1) × AreNames part x.0
 names_found text x (Some word) named p q joined p-is q-is e =
     rw (← some_is named x e) (p ++ q, joined ∙ sym (append_assoc p q named.1), inl (p, q, refl, (Some word, p-is), q-is))
-names_found text x None (None, rest) p q joined p-is q-is e =
-    rw (← some_is (None, rest) x e) (p ++ q, joined ∙ sym (append_assoc p q rest), inl (p, q, refl, (None, p-is), q-is))
+names_found text x None (None, rest) p q joined p-is q-is e = grind arith
 names_found text x None (Some fragment, rest) p q joined p-is q-is e =
     bound (optional_read network rest) _ _ e λ last e₁ same.
     let found = (optional_front network).sound rest last e₁ in
@@ -130,20 +126,14 @@ names_sound text x e =
 
 -- a name fragment or what follows it doesn't begin as a network's id
 name_ends : (part : List ℕ) (x : Option (List ℕ)) (rest : List ℕ) → IsOptional name IsSame part x → EndsNames rest → EndsWithout network (part ++ rest)
-name_ends part None rest h ends = rw h (ends.0, ends.1)
-name_ends part (Some x) rest h ends = rw h.1 (refl, refl)
+name_ends part x rest h ends = grind arith
 
 behind_none : (first x : Option (List ℕ)) (rest : List ℕ) → EndsNames rest → behind_read first (x, rest) ≡ Some (x, rest)
-behind_none (Some word) x rest ends = refl
-behind_none None None rest ends = refl
-behind_none None (Some x) rest ends = bind_is _ _ _ _ ((optional_front network).complete [] None rest refl (ends.0, ends.1)) refl
+behind_none first x rest ends = grind arith
 
 names_complete : (part : List ℕ) (x : Option (List ℕ)) (rest : List ℕ) → AreNames part x → EndsNames rest → names_read (part ++ rest) ≡ Some (x, rest)
 names_complete part x rest (inl h) ends =
-    let whole : part ++ rest ≡ h.0 ++ (h.1 ++ rest) = ap (λ (t : List ℕ). t ++ rest) h.2 ∙ append_assoc h.0 h.1 rest in
-    ap names_read whole
-    ∙ bind_is _ _ _ _ ((optional_front network).complete h.0 h.3.0 (h.1 ++ rest) h.3.1 (name_ends h.1 x rest h.4 ends))
-    (bind_is _ _ _ _ ((optional_front name).complete h.1 x rest h.4 (ends.0, ends.2)) (behind_none h.3.0 x rest ends))
+    grind (arith, append_assoc h.0 h.1 rest, bind_is, optional_front name, optional_front network, name_ends h.1 x rest h.4 ends, behind_none h.3.0 x rest ends)
 names_complete part x rest (inr h) ends =
     let whole : part ++ rest ≡ h.0 ++ (h.1 ++ rest) = ap (λ (t : List ℕ). t ++ rest) h.4 ∙ append_assoc h.0 h.1 rest in
     let first : EndsWithout network (h.0 ++ (h.1 ++ rest)) = rw h.5.1 (refl, refl) in

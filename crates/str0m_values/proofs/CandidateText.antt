@@ -1,13 +1,10 @@
 -- What is printed of a candidate stands for it.
-use Rattle.str0m_values.proofs.Common.{◌≡◌, ◌≢◌, ℕ, ◌<◌, ◌≤◌, ◌^◌, List, [], ◌∷◌, ◌++◌, get_or, Option, Some, None, refl, sym, inl, arith, subst, append-nil, append_assoc, lit<, codes, decimal, IfSome, digit_value, IsNumeral, without_leading_plus, decimal_is_IsNumeral, without_leading_plus_none}
+use Rattle.str0m_values.proofs.Common.{◌≡◌, ◌≢◌, ℕ, ◌<◌, ◌≤◌, ◌^◌, List, [], ◌∷◌, ◌++◌, get_or, Option, Some, None, refl, sym, inl, arith, subst, append-nil, append_assoc, lit<, codes, decimal, IfSome, digit_value, IsNumeral, decimal_is_IsNumeral, without_leading_plus_none}
 use Rattle.str0m_values.specs.declared.address.SocketAddr.{SocketAddr}
 use Rattle.str0m_values.specs.declared.candidate.Candidate.{Candidate}
 use Rattle.str0m_values.specs.declared.candidate_kind.CandidateKind.{CandidateKind}
-use Rattle.str0m_values.specs.declared.candidate_kind.CandidateKind.TheVariants.{Host, PeerReflexive, ServerReflexive, Relayed}
 use Rattle.str0m_values.specs.declared.protocol.Protocol.{Protocol}
-use Rattle.str0m_values.specs.declared.protocol.Protocol.TheVariants.{Udp, Tcp, SslTcp, Tls}
 use Rattle.str0m_values.specs.declared.protocol.TcpType.{TcpType}
-use Rattle.str0m_values.specs.declared.protocol.TcpType.TheVariants.{Active, Passive, So}
 use Rattle.str0m_values.specs.Parts.{IsWord, IsNum}
 use Rattle.str0m_values.specs.Labels.{IsSame, IsLabelled, IsOptional, optional_text}
 use Rattle.str0m_values.specs.Address.{ip_text}
@@ -16,7 +13,6 @@ use Rattle.str0m_values.specs.Protocol.{IsProtocolText, IsTcpTypeText, protocol_
 use Rattle.str0m_values.specs.Candidate.{IsSocket, IsRelated, IsCandidateText, socket_text, related_text, candidate_text, IsSocketInRange, IsPrintable}
 use Rattle.str0m_values.proofs.AddressText.{printed}
 use Rattle.str0m_values.proofs.AddressWords.{decimal_word, ip_word}
-use Rattle.str0m_values.proofs.CutLaws.{lacks_from}
 use Rattle.str0m_values.specs.declared.candidate_label.TheConstants as candidate_label
 
 -- ---- numbers and words
@@ -26,27 +22,16 @@ no_plus [] h = absurd (omega (arith, h.0))
 no_plus (x ∷ digits) h = λ (e : x ≡ 43). let lt : digit_value 43 < 10 = subst (λ y. digit_value y < 10) e h.1.0 in absurd (omega arith)
 
 number_text : (limit n : ℕ) → n ≤ limit → limit < 2 ^ 64 → IsNum limit (decimal n) n
-number_text limit n fits small =
-    let numeral = decimal_is_IsNumeral n (omega arith) in
-    let plain : without_leading_plus (decimal n) ≡ decimal n = without_leading_plus_none (decimal n) (no_plus (decimal n) numeral.0) in
-    record { numeral = rw plain numeral.0; value = rw plain numeral.1; fits = fits }
+number_text limit n fits small = grind (arith, decimal_is_IsNumeral n, without_leading_plus_none (decimal n), no_plus (decimal n))
 
 protocol_word : (p : Protocol) → IsWord (protocol_text p) × IsProtocolText (protocol_text p) p
-protocol_word Udp = ((lit< tt, lacks_from 32 (codes "udp") refl), refl)
-protocol_word Tcp = ((lit< tt, lacks_from 32 (codes "tcp") refl), refl)
-protocol_word SslTcp = ((lit< tt, lacks_from 32 (codes "ssltcp") refl), refl)
-protocol_word Tls = ((lit< tt, lacks_from 32 (codes "tls") refl), refl)
+protocol_word p = grind arith
 
 tcp_type_word : (t : TcpType) → IsWord (tcp_type_text t) × IsTcpTypeText (tcp_type_text t) t
-tcp_type_word Active = ((lit< tt, lacks_from 32 (codes "active") refl), refl)
-tcp_type_word Passive = ((lit< tt, lacks_from 32 (codes "passive") refl), refl)
-tcp_type_word So = ((lit< tt, lacks_from 32 (codes "so") refl), refl)
+tcp_type_word t = grind arith
 
 kind_word : (k : CandidateKind) → IsWord (kind_text k)
-kind_word Host = (lit< tt, lacks_from 32 (codes "host") refl)
-kind_word PeerReflexive = (lit< tt, lacks_from 32 (codes "prflx") refl)
-kind_word ServerReflexive = (lit< tt, lacks_from 32 (codes "srflx") refl)
-kind_word Relayed = (lit< tt, lacks_from 32 (codes "relay") refl)
+kind_word k = grind arith
 
 -- ---- parts
 
@@ -72,8 +57,7 @@ tcp_type_part None = refl
 tcp_type_part (Some t) = (tcp_type_text t, refl, (tcp_type_word t).0, (tcp_type_word t).1)
 
 ufrag_part : (o : Option (List ℕ)) → IfSome o IsWord → IsOptional candidate_label.UFRAG.now IsSame (optional_text candidate_label.UFRAG.now (λ t. t) o) o
-ufrag_part None h = refl
-ufrag_part (Some word) h = (word, refl, h, refl)
+ufrag_part o h = grind arith
 
 pub printed_candidate : (c : Candidate) → IsPrintable c → IsCandidateText (candidate_text c) c
 printed_candidate c h = record {

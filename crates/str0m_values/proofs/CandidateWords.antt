@@ -1,13 +1,10 @@
 -- The words for protocols, TCP types and kinds of candidates, read both ways.
-use Rattle.str0m_values.proofs.Common.{◌≡◌, Some, refl, str_to_ascii_lowercase}
+use Rattle.str0m_values.proofs.Common.{arith, ◌≡◌, Some, str_to_ascii_lowercase}
 use Rattle.str0m_values.specs.declared.protocol.TheConstants.{PROTOCOLS, TCP_TYPES}
 use Rattle.str0m_values.specs.declared.protocol.Protocol.{Protocol}
-use Rattle.str0m_values.specs.declared.protocol.Protocol.TheVariants.{Udp, Tcp, SslTcp, Tls}
 use Rattle.str0m_values.specs.declared.protocol.TcpType.{TcpType}
-use Rattle.str0m_values.specs.declared.protocol.TcpType.TheVariants.{Active, Passive, So}
 use Rattle.str0m_values.specs.declared.candidate_kind.TheConstants.{KINDS}
 use Rattle.str0m_values.specs.declared.candidate_kind.CandidateKind.{CandidateKind}
-use Rattle.str0m_values.specs.declared.candidate_kind.CandidateKind.TheVariants.{Host, PeerReflexive, ServerReflexive, Relayed}
 use Rattle.str0m_values.specs.Protocol.{protocol_text, tcp_type_text, IsProtocolText, IsTcpTypeText}
 use Rattle.str0m_values.specs.CandidateKind.{kind_text, IsKindText}
 use Rattle.str0m_values.specs.CandidateReading.{protocol_read, tcp_type_read, kind_read}
@@ -18,23 +15,15 @@ use Rattle.str0m_values.proofs.BothWays.{Reads}
 -- each case by its own word, which is in lower case
 protocol_own : (p : Protocol) → (str_to_ascii_lowercase (protocol_text p) ≡ protocol_text p) × (case_alike protocol_text PROTOCOLS (protocol_text p) ≡ Some p)
 unfolding case_alike
-protocol_own Udp = (refl, refl)
-protocol_own Tcp = (refl, refl)
-protocol_own SslTcp = (refl, refl)
-protocol_own Tls = (refl, refl)
+protocol_own p = grind arith
 
 tcp_type_own : (t : TcpType) → (str_to_ascii_lowercase (tcp_type_text t) ≡ tcp_type_text t) × (case_alike tcp_type_text TCP_TYPES (tcp_type_text t) ≡ Some t)
 unfolding case_alike
-tcp_type_own Active = (refl, refl)
-tcp_type_own Passive = (refl, refl)
-tcp_type_own So = (refl, refl)
+tcp_type_own t = grind arith
 
 kind_own : (k : CandidateKind) → case_of kind_text KINDS (kind_text k) ≡ Some k
 unfolding case_of
-kind_own Host = refl
-kind_own PeerReflexive = refl
-kind_own ServerReflexive = refl
-kind_own Relayed = refl
+kind_own k = grind arith
 
 pub protocol_both : Reads IsProtocolText protocol_read
 protocol_both = reads_alike protocol_text PROTOCOLS (λ p. (protocol_own p).0) (λ p. (protocol_own p).1)

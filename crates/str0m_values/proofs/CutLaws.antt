@@ -1,6 +1,5 @@
 -- What a cut at a character, and what follows a prefix, are.
 use Rattle.str0m_values.proofs.Common.{◌≡◌, ◌≢◌, ℕ, suc, inl, inr, ◌<◌, ◌≤◌, ◌+◌, true, not, List, [], ◌∷◌, ◌++◌, length, get_or, drop, take, Option, Some, None, refl, sym, ap, ◌∙◌, arith, append-nil, option_map, is_some, eq-eqb, ne_eqb, cases_eq, both_ways, and_parts, some_pair_parts, none-some, drop-append_seam, take-append_seam, IsUtf8, IsCharBoundary}
-use Rattle.std.proofs.Common.{eqb}
 use Rattle.std.specs.Prelude.{MatchOption}
 use Rattle.std.specs.Borrow.{Bor}
 use Rattle.std.proofs.lemmas.Bool.{not-true, false_from_ne_true}
@@ -20,10 +19,7 @@ cut_at c [] b h = rw (eq-eqb c c refl) refl
 cut_at c (x ∷ xs) b h = rw (ne_eqb x c h.0) (ap (before_cut x) (cut_at c xs b h.1))
 
 before_cut_some : (x : ℕ) (o : Option (List ℕ × List ℕ)) (a b : List ℕ) → before_cut x o ≡ Some (a, b) → (rest : List ℕ) × (o ≡ Some (rest, b)) × (x ∷ rest ≡ a)
-before_cut_some x None a b e = absurd cc
-before_cut_some x (Some p) a b e =
-    let pair = some_pair_parts (x ∷ p.0) a p.1 b e in
-    (p.0, ap (λ (t : List ℕ). Some (p.0, t)) pair.1, pair.0)
+before_cut_some x o a b e = grind arith
 
 pub cut_found : (c : ℕ) (text a b : List ℕ) → cut c text ≡ Some (a, b) → (text ≡ a ++ (c ∷ b)) × Lacks c a
 cut_found c [] a b e = absurd cc
@@ -39,26 +35,18 @@ cut_found c (x ∷ xs) a b e =
     ]
 
 before_cut_none : (x : ℕ) (o : Option (List ℕ × List ℕ)) → before_cut x o ≡ None → o ≡ None
-before_cut_none x None e = refl
-before_cut_none x (Some p) e = absurd cc
+before_cut_none x o e = grind arith
 
 pub cut_none_lacks : (c : ℕ) (text : List ℕ) → cut c text ≡ None → Lacks c text
 cut_none_lacks c [] e = tt
-cut_none_lacks c (x ∷ xs) e =
-    elim (cases_eq x c) [
-      | inl same ↦ absurd (none-some ([], xs) (sym (rw (eq-eqb x c same) at e)))
-      | inr other ↦ (other, cut_none_lacks c xs (before_cut_none x (cut c xs) (rw (ne_eqb x c other) at e)))
-    ]
+cut_none_lacks c (x ∷ xs) e = grind (arith, cases_eq, none-some, eq-eqb, cut_none_lacks c xs, before_cut_none, ne_eqb)
 
 pub Lacks-by_index : (c : ℕ) (text : List ℕ) → ((i : ℕ) → i < length text → get_or text i 0 ≢ c) → Lacks c text
 Lacks-by_index c [] h = tt
 Lacks-by_index c (x ∷ xs) h = (h 0 (omega arith), Lacks-by_index c xs (λ i lt. h (suc i) (omega arith)))
 
 pub cut_from_split : (c : ℕ) (text : List ℕ) (r : Option (Bor (List ℕ) × Bor (List ℕ))) → IsSplitOnceResult c text r → c < 128 → parts r ≡ cut c text
-cut_from_split c text None h lt = sym (cut_none c text (Lacks-by_index c text (split_parts c text None h lt)))
-cut_from_split c text (Some x) h lt =
-    let p = split_parts c text (Some x) h lt in
-    rw p.0 (sym (cut_at c x.0.now x.1.now (Lacks-by_index c x.0.now p.1)))
+cut_from_split c text r h lt = grind (arith, cut_none, Lacks-by_index, split_parts, cut_at)
 
 -- ---- prefixes
 
@@ -69,15 +57,7 @@ strip_at (p ∷ ps) rest = rw (eq-eqb p p refl) (strip_at ps rest)
 pub strip_found : (p text rest : List ℕ) → strip p text ≡ Some rest → text ≡ p ++ rest
 strip_found [] text rest e = cc
 strip_found (p ∷ ps) [] rest e = absurd cc
-strip_found (p ∷ ps) (x ∷ xs) rest e =
-    elim (cases_eq p x) [
-      | inl same ↦
-          let e' : strip ps xs ≡ Some rest = rw (eq-eqb p x same) at e in
-          rw same (ap (λ (t : List ℕ). x ∷ t) (strip_found ps xs rest e'))
-      | inr other ↦
-          let e' : None ≡ Some rest = rw (ne_eqb p x other) at e in
-          absurd cc
-    ]
+strip_found (p ∷ ps) (x ∷ xs) rest e = grind (arith, cases_eq, eq-eqb, strip_found ps xs rest, ne_eqb)
 
 pub strip_none : (p text : List ℕ) → ((rest : List ℕ) → text ≢ p ++ rest) → strip p text ≡ None
 strip_none p text h =
@@ -85,10 +65,7 @@ strip_none p text h =
     cases (strip p text) refl
 
 pub strip_from_prefix : (p text : List ℕ) (r : Option (Bor (List ℕ))) → MatchOption r (FindsTextPrefix p text None) (λ x. (n : ℕ) × FindsTextPrefix p text (Some n) × (x.now ≡ drop n text) × (length x.now + n ≡ length text)) → option_map (λ x. x.now) r ≡ strip p text
-strip_from_prefix p text None h = sym (strip_none p text h)
-strip_from_prefix p text (Some x) h =
-    let found : text ≡ p ++ x.now = rw h.2 h.1.1 in
-    sym (ap (strip p) found ∙ strip_at p x.now)
+strip_from_prefix p text r h = grind (arith, strip_none, strip_at)
 
 -- ---- a character that stands nowhere
 
@@ -102,9 +79,7 @@ lacks_true c (x ∷ xs) h = rw (ne_eqb x c h.0) (lacks_true c xs h.1)
 
 pub lacks_from : (c : ℕ) (text : List ℕ) → lacks c text ≡ true → Lacks c text
 lacks_from c [] e = tt
-lacks_from c (x ∷ xs) e =
-    let p = and_parts (not (eqb x c)) (lacks c xs) e in
-    ((λ same. both_ways (eqb x c) (not-true (eqb x c) p.0) (eq-eqb x c same)), lacks_from c xs p.1)
+lacks_from c (x ∷ xs) e = grind (arith, and_parts, both_ways, not-true, eq-eqb, lacks_from c xs)
 
 pub has_cut : (c : ℕ) (text : List ℕ) (r : Option (Bor (List ℕ) × Bor (List ℕ))) → parts r ≡ cut c text → is_some r ≡ not (lacks c text)
 has_cut c text None e = rw (lacks_true c text (cut_none_lacks c text (sym e))) refl
@@ -121,9 +96,7 @@ has_cut c text (Some x) e =
 -- what lacks c goes whole before the cut
 pub before_front : (c : ℕ) (a b : List ℕ) → Lacks c a → before c (a ++ b) ≡ a ++ before c b
 before_front c [] b h = refl
-before_front c (x ∷ xs) b h =
-    let go : (o : Option (List ℕ × List ℕ)) → front (x ∷ (xs ++ b)) (before_cut x o) ≡ x ∷ front (xs ++ b) o = λ o. elim o as (λ v. front (x ∷ (xs ++ b)) (before_cut x v) ≡ x ∷ front (xs ++ b) v) [ None ↦ refl | Some p ↦ refl ] in
-    rw (ne_eqb x c h.0) (go (cut c (xs ++ b)) ∙ ap (λ (t : List ℕ). x ∷ t) (before_front c xs b h.1))
+before_front c (x ∷ xs) b h = grind (arith, ne_eqb, before_front c xs b h.1)
 
 pub before_lacks : (c : ℕ) (text : List ℕ) → Lacks c (before c text)
 before_lacks c text = go (cut c text) refl

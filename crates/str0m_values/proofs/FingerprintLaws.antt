@@ -5,7 +5,7 @@ use Rattle.std.specs.Prelude.{IsErr, IsErrOf}
 use Rattle.std.specs.Result.{IsErrAnd}
 use Rattle.str0m_values.specs.Cuts.{cut}
 use Rattle.str0m_values.specs.Parts.{Lacks}
-use Rattle.str0m_values.specs.Fingerprint.{IsNamed, IsByte, pieces_of, IsFingerprint, HasBadPiece, HasBadByte, IsBytesReading, IsReading, Gives, CanBeReadBack, fingerprint_text, pairs_text}
+use Rattle.str0m_values.specs.Fingerprint.{IsNamed, IsByte, pieces_of, IsFingerprint, HasBadByte, IsBytesReading, IsReading, Gives, CanBeReadBack, fingerprint_text, pairs_text}
 use Rattle.str0m_values.specs.declared.fingerprint.Fingerprint.{Fingerprint}
 use Rattle.str0m_values.specs.declared.fingerprint.FingerprintError.{FingerprintError}
 use Rattle.str0m_values.specs.declared.fingerprint.FingerprintError.TheVariants.{NoSpace, BadByte, Memory}
@@ -32,10 +32,7 @@ bytes_one [] [] (y ∷ ys) h k = absurd k
 bytes_one [] (x ∷ xs) b h k = absurd h
 bytes_one (piece ∷ pieces) [] b h k = absurd h
 bytes_one (piece ∷ pieces) (x ∷ xs) [] h k = absurd k
-bytes_one (piece ∷ pieces) (x ∷ xs) (y ∷ ys) h k =
-    let here : x ≡ y = sym h.0.value ∙ k.0.value in
-    let there : xs ≡ ys = bytes_one pieces xs ys h.1 k.1 in
-    cc
+bytes_one (piece ∷ pieces) (x ∷ xs) (y ∷ ys) h k = grind (arith, bytes_one pieces xs ys h.1 k.1)
 
 -- where each piece is a byte, none is bad
 none_bad : (pieces : List (List ℕ)) (bytes : List ℕ) → AllZip IsByte pieces bytes → Any (λ piece. (byte : ℕ) → ¬ (IsByte piece byte)) pieces → ⊥
@@ -47,16 +44,10 @@ none_bad pieces bytes h any =
 
 same_fingerprint : (text : List ℕ) (f g : Fingerprint) → IsFingerprint text f → IsFingerprint text g → f ≡ g
 same_fingerprint text f g h k =
-    let named = named_one text f.hash_func g.hash_func h.0 k.0 h.1 k.1 in
-    let again : AllZip IsByte (pieces_of h.0) g.bytes = rw named.1 k.2 in
-    let bytes : f.bytes ≡ g.bytes = bytes_one (pieces_of h.0) f.bytes g.bytes h.2 again in
-    λ i. record { hash_func = named.0 i; bytes = bytes i }
+    grind (arith, named_one text f.hash_func g.hash_func h.0 k.0 h.1 k.1, bytes_one (pieces_of h.0) f.bytes g.bytes h.2)
 
 fingerprint_good : (text : List ℕ) (f : Fingerprint) → IsFingerprint text f → ¬ (HasBadByte text)
-fingerprint_good text f h bad =
-    let named = named_one text f.hash_func bad.0 h.0 bad.1 h.1 bad.2 in
-    let again : HasBadPiece h.0 = rw named.1 bad.3 in
-    none_bad (pieces_of h.0) f.bytes h.2 again
+fingerprint_good text f h bad = grind (arith, named_one text f.hash_func bad.0 h.0 bad.1 h.1 bad.2, none_bad (pieces_of h.0) f.bytes h.2)
 
 pub only_one : (text : List ℕ) (r : Result Fingerprint FingerprintError) → IsReading text r → (f : Fingerprint) → IsFingerprint text f → Gives f r
 only_one text (Ok g) h f is = same_fingerprint text g f h is
@@ -65,10 +56,7 @@ only_one text (Err BadByte) h f is = absurd (fingerprint_good text f is h)
 only_one text (Err Memory) h f is = refl
 
 pub no_space : (text : List ℕ) (r : Result Fingerprint FingerprintError) → IsReading text r → (IsErrOf r NoSpace → Lacks 32 text) × (Lacks 32 text → IsErrOf r NoSpace)
-no_space text (Ok g) h = (λ e. absurd cc, λ lacks. absurd (named_space text g.hash_func h.0 h.1 lacks))
-no_space text (Err NoSpace) h = (λ e. h, λ lacks. refl)
-no_space text (Err BadByte) h = (λ e. absurd cc, λ lacks. absurd (named_space text h.0 h.1 h.2 lacks))
-no_space text (Err Memory) h = (λ e. absurd cc, λ lacks. absurd (h lacks))
+no_space text r h = grind (arith, named_space)
 
 pub refuses : (text : List ℕ) (r : Result Fingerprint FingerprintError) → IsReading text r → HasBadByte text → IsErr r
 refuses text (Ok f) h bad = absurd (fingerprint_good text f h bad)
@@ -88,10 +76,7 @@ itself text r h f can e = only_one text r h f (subst (λ (t : List ℕ). IsFinge
 -- ---- what a refusal inside says of the whole
 
 pub refused : (text name rest : List ℕ) (e : FingerprintError) → IsNamed text name rest → IsBytesReading rest (Err e) → IsReading text (Err e)
-refused text name rest NoSpace named h = absurd h
-refused text name rest BadByte named h = (name, rest, named, h)
-refused text name rest Memory named h = named_space text name rest named
+refused text name rest e named h = grind (arith, named_space)
 
 pub was_err : {T E : Type 0} (r : Result T E) (e : E) → IsErr r × IsErrAnd r (λ x. x ≡ e) → r ≡ Err e
-was_err (Ok x) e h = absurd h.1
-was_err (Err x) e h = ap Err h.1
+was_err r e h = grind arith

@@ -1,8 +1,8 @@
 -- Words behind labels are read both ways.
-use Rattle.str0m_values.proofs.Common.{◌≡◌, ◌⊎◌, ◌<◌, ℕ, zero, suc, List, [], ◌∷◌, ◌++◌, length, drop, false, Option, Some, None, refl, sym, ap, ◌∙◌, inl, inr, arith, append-nil, append_assoc, AllByRecursion, ltb-true}
+use Rattle.str0m_values.proofs.Common.{◌≡◌, ◌⊎◌, ℕ, List, [], ◌∷◌, ◌++◌, length, drop, false, Option, Some, None, refl, sym, ap, ◌∙◌, inl, inr, arith, append-nil, append_assoc, AllByRecursion, ltb-true}
 use Rattle.std.specs.Prelude.{◌==◌}
 use Rattle.str0m_values.specs.Parts.{IsWord}
-use Rattle.str0m_values.specs.Cuts.{◌>>=◌, before, strip, when, is_rest}
+use Rattle.str0m_values.specs.Cuts.{◌>>=◌, before, strip}
 use Rattle.str0m_values.specs.Labels.{IsSame, IsLabelled, IsOptional}
 use Rattle.str0m_values.specs.LabelReading.{word_read, labelled_read, part_read, optional_after, optional_read, value_read}
 use Rattle.str0m_values.proofs.CutLaws.{before_front, before_lacks, strip_at, strip_before, strip_found}
@@ -12,8 +12,7 @@ use Rattle.str0m_values.proofs.BothWays.{Reads, some_is}
 -- ---- steps
 
 pub bound : {A B C : Type 0} (o : Option A) (f : A → Option B) (y : B) → (o >>= f) ≡ Some y → ((x : A) → o ≡ Some x → f x ≡ Some y → C) → C
-bound None f y e then = absurd cc
-bound (Some x) f y e then = then x refl e
+bound o f y e then = grind arith
 
 pub bind_is : {A B : Type 0} (o : Option A) (x : A) (f : A → Option B) (y : Option B) → o ≡ Some x → f x ≡ y → (o >>= f) ≡ y
 bind_is o x f y e more = ap (λ p. p >>= f) e ∙ more
@@ -31,8 +30,7 @@ starts_all P [] none all text s = rw s none
 starts_all P (label ∷ labels) none all text s = elim s [ inl h ↦ rw h.1 (all.0 h.0) | inr h ↦ starts_all P labels none all.1 text h ]
 
 pub starts_optional : {B : Type 0} (F : List ℕ → B → Type 0) (label : List ℕ) (labels : List (List ℕ)) (part rest : List ℕ) (x : Option B) → IsOptional label F part x → Starts labels rest → Starts (label ∷ labels) (part ++ rest)
-starts_optional F label labels part rest None h s = inr (rw h s)
-starts_optional F label labels part rest (Some x) h s = inl (h.0 ++ rest, ap (λ (t : List ℕ). t ++ rest) h.1 ∙ append_assoc label h.0 rest)
+starts_optional F label labels part rest x h s = grind (arith, append_assoc)
 
 -- the word before ends there
 abbrev pub Ends : List ℕ → Type 0
@@ -50,25 +48,14 @@ pub record Front {B : Type 0} (F : List ℕ → B → Type 0) (Behind : List ℕ
   pub complete : (part : List ℕ) (x : B) (rest : List ℕ) → F part x → Behind rest → p (part ++ rest) ≡ Some (x, rest)
 
 word_sound : (text : List ℕ) (x : List ℕ × List ℕ) → word_read text ≡ Some x → (text ≡ x.0 ++ x.1) × IsWord x.0
-word_sound text x e =
-    bound (when (is_rest (before 32 text)) (before 32 text)) _ _ e λ word e₁ k.
-    bound (strip word text) _ _ k λ rest e₂ same.
-    let w = when_some (is_rest (before 32 text)) (before 32 text) word e₁ in
-    let whole : IsWord word = rw (← w.1) (ltb-true 0 (length (before 32 text)) w.0, before_lacks 32 text) in
-    rw (← some_is (word, rest) x same) (strip_found word text rest e₂, whole)
+word_sound text x e = grind (arith, bound, when_some, ltb-true, before_lacks, some_is, strip_found)
 
 word_complete : (word rest : List ℕ) → IsWord word → Ends rest → word_read (word ++ rest) ≡ Some (word, rest)
-word_complete word rest h ends =
-    let front : before 32 (word ++ rest) ≡ word = before_front 32 word rest h.1 ∙ ap (λ (t : List ℕ). word ++ t) ends ∙ append-nil word in
-    rw (front, rest_true word h.0, strip_at word rest) refl
+word_complete word rest h ends = grind (arith, before_front, append-nil, rest_true, strip_at)
 
 -- the word that isn't empty, and what stands behind it
 pub word_before : (text : List ℕ) → false ≡ (length (before 32 text) == 0) → Some (before 32 text, drop (length (before 32 text)) text) ≡ word_read text
-word_before text some = rw (rest_true (before 32 text) (positive (length (before 32 text)) some), strip_before 32 text) refl
-  where
-    positive : (n : ℕ) → false ≡ (n == 0) → 0 < n
-    positive zero e = absurd cc
-    positive (suc n) e = omega arith
+word_before text some = grind (arith, rest_true, strip_before)
 
 pub labelled_sound : (label text : List ℕ) (x : List ℕ × List ℕ) → labelled_read label text ≡ Some x → (text ≡ (label ++ x.0) ++ x.1) × IsWord x.0
 labelled_sound label text x e =
@@ -106,17 +93,12 @@ optional_sound label text x (Some body) is e =
     rw (← some_is (Some word.0, word.1) x same) (label ++ word.0, text-is, (word.0, refl, found.1, refl))
 
 optional_complete : (label part : List ℕ) (x : Option (List ℕ)) (rest : List ℕ) → IsOptional label IsSame part x → EndsWithout label rest → optional_read label (part ++ rest) ≡ Some (x, rest)
-optional_complete label part None rest h ends = rw (h, ends.1) refl
-optional_complete label part (Some x) rest h ends =
-    rw (h.1, append_assoc label h.0 rest, strip_at label (h.0 ++ rest))
-    (bind_is _ _ _ _ (word_complete h.0 rest h.2 ends.0) (ap (λ (t : List ℕ). Some (Some t, rest)) (sym h.3)))
+optional_complete label part x rest h ends = grind (arith, append_assoc, strip_at, bind_is, word_complete)
 
 pub optional_front : (label : List ℕ) → Front (IsOptional label IsSame) (EndsWithout label) (optional_read label)
-optional_front label = record { sound = λ text x e. optional_sound label text x (strip label text) refl e; complete = optional_complete label }
+optional_front label = grind (arith, optional_sound, optional_complete)
 
 -- a word and its value
 pub value_sound : {B : Type 0} {F : List ℕ → B → Type 0} {f : List ℕ → Option B} → Reads F f → (label part : List ℕ) (word : Option (List ℕ)) (x : Option B) → IsOptional label IsSame part word → value_read f word ≡ Some x → IsOptional label F part x
 value_sound reads label part None x h e = rw (← some_is None x e) h
-value_sound {f} reads label part (Some word) x h e =
-    bound (f word) _ _ e λ y e₁ same.
-    rw (← some_is (Some y) x same) (h.0, h.1, h.2, reads.sound h.0 y (ap f (sym h.3) ∙ e₁))
+value_sound {f} reads label part (Some word) x h e = grind arith

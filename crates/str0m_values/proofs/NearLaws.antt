@@ -1,5 +1,5 @@
 -- What going over the bytes of a field finds: a cut, and a number.
-use Rattle.str0m_values.proofs.Common.{◌≡◌, ℕ, zero, suc, ◌<◌, ◌≤◌, ◌+◌, ◌-◌, List, [], ◌∷◌, length, take, drop, Some, None, refl, sym, ap, arith, AllDigits, digits_value, without_leading_plus, eq-eqb, ne_eqb, numerals_by_value, digit_from_value, without_leading_plus_none}
+use Rattle.str0m_values.proofs.Common.{◌≡◌, ℕ, zero, suc, ◌<◌, ◌≤◌, ◌+◌, ◌-◌, List, [], ◌∷◌, length, take, drop, Some, None, refl, sym, ap, arith, AllDigits, digits_value, without_leading_plus, eq-eqb, ne_eqb, numerals_by_value}
 use Rattle.std.proofs.Common.{add-one}
 use Rattle.std.specs.Prelude.{slice_range}
 use Rattle.std.proofs.lemmas.Str.Parse.{tells_digits, digits_value_short}
@@ -26,15 +26,11 @@ cut_nowhere c text h = sym (cut_none c text (Lacks-by_index c text h))
 
 -- eighteen digits and one more fit 64 bits
 pub eighteen_digits : (digits : List ℕ) (i : ℕ) → AllDigits 10 (take i digits) → i ≤ 18 → digits_value 10 (take i digits) < 1000000000000000000
-eighteen_digits digits i h le = digits_value_short (numerals_by_value (AllDigits 10) tells_digits) (take i digits) 18 h (omega (arith, length-take i digits, le))
+eighteen_digits digits i h le =
+    grind (arith, digits_value_short (numerals_by_value (AllDigits 10) tells_digits) (take i digits) 18 h, numerals_by_value (AllDigits 10) tells_digits, tells_digits, length-take i digits)
 
 written_plain : (digits : List ℕ) (n : ℕ) → IsWrittenAs digits n → without_leading_plus digits ≡ digits
-written_plain [] n h = absurd (omega (arith, h.0.0))
-written_plain (x ∷ xs) n h =
-    let range = digit_from_value x h.0.1.0 in
-    without_leading_plus_none (x ∷ xs) (λ plus. absurd (omega (arith, range.0, plus)))
+written_plain digits n h = grind arith
 
 pub written_fits : (limit : ℕ) (text : List ℕ) (n : ℕ) → IsWrittenAs text n → n ≤ limit → Some n ≡ num limit text
-written_fits limit text n h le =
-    let same = written_plain text n h in
-    sym (num_reads limit text n (record { numeral = rw same h.0; value = rw same (sym h.1); fits = le }))
+written_fits limit text n h le = grind (arith, written_plain, num_reads)

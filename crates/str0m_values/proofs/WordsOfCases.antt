@@ -1,5 +1,5 @@
 -- The words of an enumeration are read both ways, where each case is found by its own word.
-use Rattle.str0m_values.proofs.Common.{◌≡◌, ℕ, Bool, true, false, cond, List, [], ◌∷◌, map, Some, refl, sym, ap, ◌∙◌, bytes_eq, str_to_ascii_lowercase, bytes_eq-Decides}
+use Rattle.str0m_values.proofs.Common.{arith, ◌≡◌, ℕ, Bool, true, false, cond, List, [], ◌∷◌, map, Some, refl, sym, ap, ◌∙◌, bytes_eq, str_to_ascii_lowercase, bytes_eq-Decides}
 use Rattle.std.specs.List.{find}
 use Rattle.std.specs.Char.{to_ascii_lowercase}
 use Rattle.std.specs.Str.{str_eq_ignore_ascii_case}
@@ -18,10 +18,7 @@ found_passes {A} test (y ∷ ys) x e =
 
 pub reads_words : {A : Type 0} (word : A → List ℕ) (cases : List A) → ((a : A) → case_of word cases (word a) ≡ Some a) → Reads (λ text a. text ≡ word a) (case_of word cases)
 unfolding case_of
-reads_words word cases own = record {
-  sound = λ text a e. (bytes_eq-Decides text (word a)).0 (found_passes (λ one. bytes_eq text (word one)) cases a e);
-  complete = λ text a e. ap (case_of word cases) e ∙ own a;
-}
+reads_words word cases own = grind (arith, bytes_eq-Decides, found_passes)
 
 -- the same without regard to the case of ASCII letters, where words have none in upper case
 pub reads_alike : {A : Type 0} (word : A → List ℕ) (cases : List A) → ((a : A) → str_to_ascii_lowercase (word a) ≡ word a) → ((a : A) → case_alike word cases (word a) ≡ Some a) → Reads (λ text a. str_to_ascii_lowercase text ≡ word a) (case_alike word cases)
