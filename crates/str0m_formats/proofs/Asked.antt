@@ -1,5 +1,5 @@
 -- One more item that the closure refused.
-use Rattle.str0m_formats.proofs.Common.{◌≡◌, ◌<◌, ◌+◌, ℕ, Bool, true, false, List, [], ◌∷◌, ◌++◌, Some, refl, subst, sym, ap, ◌∙◌, take, drop, length, get_or, take_more, Bor}
+use Rattle.str0m_formats.proofs.Common.{arith, ◌≡◌, ◌<◌, ◌+◌, ℕ, Bool, true, false, List, [], ◌∷◌, ◌++◌, Some, refl, subst, sym, ap, ◌∙◌, take, drop, length, get_or, take_more, Bor}
 use Rattle.std.proofs.Common.{suc, take-append-drop, drop-cons}
 use Rattle.str0m_formats.specs.Choices.{RefusedAll, FirstAccepted}
 
@@ -9,9 +9,7 @@ RefusedAll-more step f g h (x ∷ xs) b r s = (r.0, r.1, RefusedAll-more step r.
 
 -- the closure refused the items before i and the one at i
 pub RefusedAll-take : {F X : Type 0} (step : F → Bor X → Bool → F → Type 0) (f g h : F) (shown : List X) (i : ℕ) (b : Bor X) → i < length shown → b.now ≡ get_or shown i b.now → RefusedAll step f (take i shown) g → step g b false h → RefusedAll step f (take (i + 1) shown) h
-RefusedAll-take step f g h shown i b inside at before now =
-    let more : take (i + 1) shown ≡ take i shown ++ b.now ∷ [] = take_more shown i b.now inside ∙ ap (λ x. take i shown ++ x ∷ []) (sym at) in
-    rw more (RefusedAll-more step f g h (take i shown) b before now)
+RefusedAll-take step f g h shown i b inside at before now = grind (arith, take_more, RefusedAll-more)
 
 -- the closure refused the items before i and accepted the one at i
 pub FirstAccepted-at : {F X : Type 0} (step : F → Bor X → Bool → F → Type 0) (f g h : F) (rows shown : List X) (i : ℕ) (b : Bor X) → shown ≡ rows → i < length shown → b.now ≡ get_or shown i b.now → RefusedAll step f (take i shown) g → step g b true h → FirstAccepted step f rows (Some b.now)

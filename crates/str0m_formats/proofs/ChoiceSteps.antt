@@ -47,8 +47,7 @@ goes_last points rows n row h at_most = (
 
 none_so_far : (points : PayloadParams → Option ℕ) (rows : List PayloadParams) (n : ℕ) → All (λ r. points r ≡ None) rows
     → All (λ r. IfSome (points r) (λ k. k ≤ n)) rows
-none_so_far points rows n c =
-    All-weaker (λ r. points r ≡ None) (λ r. IfSome (points r) (λ k. k ≤ n)) (λ r e. MatchOption-from_none (points r) (λ k. k ≤ n) e) rows c
+none_so_far points rows n c = grind arith
 
 -- no row so far has a greater score
 at_most_so_far : (points : PayloadParams → Option ℕ) (rows : List PayloadParams) (best : PayloadParams) (n : ℕ) (it : IsBest points rows best)
@@ -82,8 +81,4 @@ choice_step points rows (Some (best, most)) row (Some n) e c = go (nat_lt n most
 pub choice_next : (points : PayloadParams → Option ℕ) (rows : List PayloadParams) (i : ℕ) (row : PayloadParams) (o : Option ℕ) (so_far new : Option (PayloadParams × ℕ))
     → i < length rows → row ≡ get_or rows i row → points row ≡ o → new ≡ better so_far row o
     → IsChoiceSoFar points (take i rows) so_far → IsChoiceSoFar points (take (i + 1) rows) new
-choice_next points rows i row o so_far new h e is n c =
-    let s : take i rows ++ row ∷ [] ≡ take (i + 1) rows = sym (take_more rows i row h ∙ ap (λ r. take i rows ++ r ∷ []) (sym e)) in
-    let P : List PayloadParams → Type 0 = λ rows. IsChoiceSoFar points rows new in
-    let Q : Option (PayloadParams × ℕ) → Type 0 = λ best. IsChoiceSoFar points (take i rows ++ row ∷ []) best in
-    subst P s (subst Q (sym n) (choice_step points (take i rows) so_far row o is c))
+choice_next points rows i row o so_far new h e is n c = grind (arith, take_more, choice_step)

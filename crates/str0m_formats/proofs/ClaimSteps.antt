@@ -15,9 +15,7 @@ use Rattle.str0m_formats.proofs.Times.{times-cons, times-nil, times-append, time
 pub claim_each-append : (set : TypeSet) (xs ys : List ℕ) → claim_each set (xs ++ ys) ≡ and_then (claim_each set xs) (λ s. claim_each s ys)
 unfolding claim_each
 claim_each-append set [] ys = refl
-claim_each-append set (x ∷ xs) ys =
-    elim (set x) as (λ b. cond b (Err (ClaimedTwice x)) (claim_each (with_type set x) (xs ++ ys)) ≡ and_then (cond b (Err (ClaimedTwice x)) (claim_each (with_type set x) xs)) (λ s. claim_each s ys))
-    [ true ↦ refl | false ↦ claim_each-append (with_type set x) xs ys ]
+claim_each-append set (x ∷ xs) ys = grind (arith, claim_each-append (with_type set x) xs ys)
 
 claim_next : (set : TypeSet) (xs ys : List ℕ) (mid : TypeSet) (r : Result TypeSet NegotiationError) → claim_each set xs ≡ Ok mid → claim_each mid ys ≡ r → claim_each set (xs ++ ys) ≡ r
 claim_next set xs ys mid r h k = claim_each-append set xs ys ∙ ap (λ s. and_then s (λ s'. claim_each s' ys)) h ∙ k
@@ -27,23 +25,24 @@ rows_more : (rows : List PayloadParams) (i : ℕ) (row : PayloadParams) → i < 
 rows_more rows i row h e = take_more rows i row h ∙ ap (λ r. take i rows ++ r ∷ []) (sym e)
 
 pub locked_more : (rows : List PayloadParams) (i : ℕ) (row : PayloadParams) (b : Bool) → i < length rows → row ≡ get_or rows i row → row.locked ≡ b → locked_types (take (i + 1) rows) ≡ locked_types (take i rows) ++ cond b (types_of row) []
-locked_more rows i row b h e l = ap locked_types (rows_more rows i row h e) ∙ locked_types-push (take i rows) row ∙ ap (λ x. locked_types (take i rows) ++ cond x (types_of row) []) l
+locked_more rows i row b h e l = grind (arith, rows_more rows i row h e, locked_types-push (take i rows) row)
 
 pub open_more : (rows : List PayloadParams) (i : ℕ) (row : PayloadParams) (b : Bool) → i < length rows → row ≡ get_or rows i row → row.locked ≡ b → open_types (take (i + 1) rows) ≡ open_types (take i rows) ++ cond b [] (types_of row)
-open_more rows i row b h e l = ap open_types (rows_more rows i row h e) ∙ open_types-push (take i rows) row ∙ ap (λ x. open_types (take i rows) ++ cond x [] (types_of row)) l
+open_more rows i row b h e l = grind (arith, rows_more rows i row h e, open_types-push (take i rows) row)
 
 pub claims_locked : (rows : List PayloadParams) (i : ℕ) (row : PayloadParams) (set : TypeSet) (r : Result TypeSet NegotiationError) → i < length rows → row ≡ get_or rows i row → row.locked ≡ true → claim_each (has []) (locked_types (take i rows)) ≡ Ok set → claim_each set (types_of row) ≡ r → claim_each (has []) (locked_types (take (i + 1) rows)) ≡ r
-claims_locked rows i row set r h e l k n = ap (claim_each (has [])) (locked_more rows i row true h e l) ∙ claim_next (has []) (locked_types (take i rows)) (types_of row) set r k n
+claims_locked rows i row set r h e l k n =
+    grind (arith, locked_more rows i row true h e l, claim_next (has []) (locked_types (take i rows)) (types_of row) set r k n)
 
 pub claims_open : (rows : List PayloadParams) (i : ℕ) (row : PayloadParams) (set : TypeSet) → i < length rows → row ≡ get_or rows i row → row.locked ≡ false → claim_each (has []) (locked_types (take i rows)) ≡ Ok set → claim_each (has []) (locked_types (take (i + 1) rows)) ≡ Ok set
-claims_open rows i row set h e l k = ap (claim_each (has [])) (locked_more rows i row false h e l ∙ append-nil (locked_types (take i rows))) ∙ k
+claims_open rows i row set h e l k = grind (arith, locked_more rows i row false h e l, append-nil (locked_types (take i rows)))
 
 pub unlocked_locked : (rows : List PayloadParams) (i : ℕ) (row : PayloadParams) (set : TypeSet) → i < length rows → row ≡ get_or rows i row → row.locked ≡ true → set ≡ has (open_types (take i rows)) → set ≡ has (open_types (take (i + 1) rows))
 unlocked_locked rows i row set h e l k = k ∙ ap has (sym (open_more rows i row true h e l ∙ append-nil (open_types (take i rows))))
 
 pub unlocked_open : (rows : List PayloadParams) (i : ℕ) (row : PayloadParams) (set new : TypeSet) → i < length rows → row ≡ get_or rows i row → row.locked ≡ false → set ≡ has (open_types (take i rows)) → new ≡ either set (has (types_of row)) → new ≡ has (open_types (take (i + 1) rows))
 unlocked_open rows i row set new h e l k n =
-    n ∙ ap (λ s. either s (has (types_of row))) k ∙ sym (ap has (open_more rows i row false h e l) ∙ has-append (open_types (take i rows)) (types_of row))
+    grind (arith, open_more rows i row false h e l, has-append (open_types (take i rows)) (types_of row))
 
 -- what is refused among some rows is refused among all of them
 pub claims_refused : (rows : List PayloadParams) (i : ℕ) (cause : NegotiationError) → claim_each (has []) (locked_types (take i rows)) ≡ Err cause → claim_each (has []) (locked_types rows) ≡ Err cause

@@ -1,7 +1,7 @@
 -- With few rows a free type is always left: counting the types that are held back.
-use Rattle.str0m_formats.proofs.Common.{zero, suc, ◌≡◌, ◌==◌, ℕ, ◌+◌, ◌*◌, ◌<◌, ◌≤◌, ◌⊎◌, inl, inr, Bool, true, false, not, ◌||◌, cond, find, List, [], ◌∷◌, ◌++◌, length, Option, Some, None, Result, Ok, Err, IfErr, IfSome, filter, refl, sym, ap, ◌∙◌, subst, arith, slice_get, option_to_list, ok_or, slice_get_within, same_Some, none-some, length-append, true≢false, false≢true, and_parts, not-true, or_cases, or_left, or_right, or-false, cases_Bool, eqb-true, eq-eqb, IfErr-at_err, IfErr-weaker, fun_ext}
+use Rattle.str0m_formats.proofs.Common.{zero, suc, ◌≡◌, ◌==◌, ℕ, ◌+◌, ◌*◌, ◌<◌, ◌≤◌, ◌⊎◌, inl, inr, Bool, true, false, not, cond, find, List, [], ◌∷◌, ◌++◌, length, Option, Some, None, Result, Ok, Err, IfErr, IfSome, filter, refl, sym, ap, ◌∙◌, arith, slice_get, option_to_list, ok_or, slice_get_within, same_Some, none-some, length-append, false≢true, and_parts, not-true, or_cases, or_left, or_right, or-false, cases_Bool, eqb-true, eq-eqb, IfErr-at_err, fun_ext}
 use Rattle.str0m_formats.specs.declared.negotiation_error.NegotiationError.{NegotiationError}
-use Rattle.str0m_formats.specs.declared.negotiation_error.NegotiationError.TheVariants.{Exhausted, ClaimedTwice, TypeTooLarge}
+use Rattle.str0m_formats.specs.declared.negotiation_error.NegotiationError.TheVariants.{Exhausted, ClaimedTwice}
 use Rattle.str0m_formats.specs.declared.payload_params.PayloadParams.{PayloadParams}
 use Rattle.str0m_formats.specs.TypeSets.{TypeSet, has, with_type, with_option, either, free, preferred}
 use Rattle.str0m_formats.specs.Rows.{types_of, types, locked_types, open_types}
@@ -12,7 +12,7 @@ use Rattle.str0m_formats.proofs.Sets.{type-is, two-are}
 use Rattle.str0m_formats.proofs.RowSets.{has-append}
 use Rattle.str0m_formats.proofs.RowCounts.{length-split}
 use Rattle.str0m_formats.proofs.SecondPass.{settled-locked, settled_if_locked}
-use Rattle.str0m_formats.proofs.RowSteps.{free_cases, role_cases, then_err}
+use Rattle.str0m_formats.proofs.RowSteps.{role_cases, then_err}
 use Rattle.str0m_formats.proofs.OneOutcome.{HasLarge, HasRepeat, Cases, cases_of}
 
 -- ---- a list without repeats that stands in another is no longer
@@ -24,41 +24,22 @@ without x (y ∷ ys) = cond (y == x) ys (y ∷ without x ys)
 length-without : (x : ℕ) (ys : List ℕ) → has ys x ≡ true → suc (length (without x ys)) ≡ length ys
 unfolding without
 length-without x [] h = absurd (false≢true h)
-length-without x (y ∷ ys) h = go (length-without x ys) (y == x) refl h where
-  go : (has ys x ≡ true → suc (length (without x ys)) ≡ length ys) → (b : Bool) → (y == x) ≡ b → (b || has ys x) ≡ true → suc (length (cond b ys (y ∷ without x ys))) ≡ suc (length ys)
-  go rec true e k = refl
-  go rec false e k = ap suc (rec k)
+length-without x (y ∷ ys) h = grind (arith, length-without x ys)
 
 has-without : (x t : ℕ) (ys : List ℕ) → (x == t) ≡ false → has ys t ≡ true → has (without x ys) t ≡ true
 unfolding without
 has-without x t [] ne h = h
-has-without x t (y ∷ ys) ne h = go (has-without x t ys ne) (y == x) refl (or_cases (y == t) (has ys t) h) where
-  go : (has ys t ≡ true → has (without x ys) t ≡ true) → (b : Bool) → (y == x) ≡ b → ((y == t) ≡ true) ⊎ (has ys t ≡ true) → has (cond b ys (y ∷ without x ys)) t ≡ true
-  go rec true e (inl k) = absurd (true≢false (sym k ∙ ap (λ z. z == t) (eqb-true y x e) ∙ ne))
-  go rec true e (inr k) = k
-  go rec false e (inl k) = or_left (y == t) (has (without x ys) t) k
-  go rec false e (inr k) = or_right (y == t) (has (without x ys) t) (rec k)
+has-without x t (y ∷ ys) ne h = grind (arith, has-without x t ys ne, or_cases, eqb-true, or_left, or_right)
 
 pub pigeons : (xs ys : List ℕ) → all_apart xs ≡ true → ((t : ℕ) → has xs t ≡ true → has ys t ≡ true) → length xs ≤ length ys
 pigeons [] ys d h = omega arith
 pigeons (x ∷ xs) ys d h =
-    let parts = and_parts (not (has xs x)) (all_apart xs) d in
-    let there : has ys x ≡ true = h x (or_left (x == x) (has xs x) (eq-eqb x x refl)) in
-    omega (arith, length-without x ys there, pigeons xs (without x ys) parts.1 (λ t k. has-without x t ys (apart t k (not-true (has xs x) parts.0)) (h t (or_right (x == t) (has xs t) k)))) where
-      apart : (t : ℕ) → has xs t ≡ true → has xs x ≡ false → (x == t) ≡ false
-      apart t k no_x = go (cases_Bool (x == t)) where
-        go : ((x == t) ≡ true) ⊎ ((x == t) ≡ false) → (x == t) ≡ false
-        go (inl e) = absurd (true≢false (sym k ∙ ap (has xs) (sym (eqb-true x t e)) ∙ no_x))
-        go (inr e) = e
+    grind (arith, and_parts, or_left, eq-eqb, length-without, pigeons xs (without x ys), has-without, not-true, or_right, cases_Bool, eqb-true)
 
 -- where nothing is free, each preferred type is in use
 all_used : (used : TypeSet) (xs : List ℕ) → find (λ t. not (used t)) xs ≡ None → (t : ℕ) → has xs t ≡ true → used t ≡ true
 all_used used [] h t k = absurd (false≢true k)
-all_used used (x ∷ xs) h t k = go (λ f c. all_used used xs f t c) (used x) refl h (or_cases (x == t) (has xs t) k) where
-  go : (find (λ y. not (used y)) xs ≡ None → has xs t ≡ true → used t ≡ true) → (b : Bool) → used x ≡ b → cond (not b) (Some x) (find (λ y. not (used y)) xs) ≡ None → ((x == t) ≡ true) ⊎ (has xs t ≡ true) → used t ≡ true
-  go rec false e f c = absurd (none-some x (sym f))
-  go rec true e f (inl c) = ap used (sym (eqb-true x t c)) ∙ e
-  go rec true e f (inr c) = rec f c
+all_used used (x ∷ xs) h t k = grind (arith, all_used used xs, or_cases, none-some, eqb-true)
 
 preferred_apart : all_apart preferred ≡ true
 unfolding preferred
@@ -75,8 +56,7 @@ some_free used h e = omega (arith, h, preferred_long, pigeons preferred used pre
 -- ---- how many types rows have
 
 short : (o : Option ℕ) → length (option_to_list o) ≤ 1
-short None = omega arith
-short (Some t) = omega arith
+short o = grind arith
 
 pub length-types_of : (row : PayloadParams) → length (types_of row) ≤ 3
 length-types_of row = omega (arith, length-append (option_to_list row.resend) (option_to_list row.red), short row.resend, short row.red)
@@ -99,12 +79,11 @@ abbrev RowFails : TypeSet → TypeSet → Bool → NegotiationError → Type 0
 RowFails taken unlocked receives cause = (more : List ℕ) × (length more ≤ 2) × Fails (either taken (has more)) unlocked receives cause
 
 none-fails : (taken unlocked : TypeSet) (receives : Bool) → IfErr (ok_or (free (either taken unlocked)) Exhausted) (Fails taken unlocked receives)
-none-fails taken unlocked receives = free_cases (λ r. IfErr r (Fails taken unlocked receives)) (either taken unlocked) (λ t e. tt) (λ e. inl e)
+none-fails taken unlocked receives = grind arith
 
 beside : {A : Type 0} (r : Result A NegotiationError) (taken set unlocked : TypeSet) (receives : Bool) (more : List ℕ) → set ≡ either taken (has more) → length more ≤ 2
     → IfErr r (Fails set unlocked receives) → IfErr r (RowFails taken unlocked receives)
-beside r taken set unlocked receives more is few =
-    IfErr-weaker r (Fails set unlocked receives) (RowFails taken unlocked receives) (λ cause fails. (more, few, subst (λ (s : TypeSet). Fails s unlocked receives cause) is fails))
+beside r taken set unlocked receives more is few = grind arith
 
 no_more : (taken : TypeSet) → taken ≡ either taken (has [])
 no_more taken = fun_ext (λ t. sym (or-false (taken t)))
@@ -120,8 +99,7 @@ role-fails taken unlocked receives asked own =
 
 rtx-fails : (taken unlocked : TypeSet) (receives : Bool) (asked own : Option ℕ) → IfErr (rtx_type taken unlocked receives asked own) (Fails taken unlocked receives)
 unfolding rtx_type
-rtx-fails taken unlocked receives None own = tt
-rtx-fails taken unlocked receives (Some asked) own = then_err (role_type taken unlocked receives asked own) (λ t. Ok (Some t)) (Fails taken unlocked receives) (role-fails taken unlocked receives asked own) (λ t. tt)
+rtx-fails taken unlocked receives asked own = grind (arith, then_err, role-fails)
 
 placed-fails : (taken unlocked : TypeSet) (receives : Bool) (row : PayloadParams) (choice : Option PayloadParams) → IfErr (placed taken unlocked receives row choice) (RowFails taken unlocked receives)
 unfolding placed locked_to
@@ -167,11 +145,7 @@ length-locked rows = omega (arith, length-split rows, length-types rows)
 second_room : (mid done : List PayloadParams) (row : PayloadParams) → ((i : ℕ) (old new : PayloadParams) → slice_get mid i ≡ Some old → slice_get done i ≡ Some new → new.locked ≡ old.locked)
     → slice_get mid (length done) ≡ Some row → row.locked ≡ false → length (locked_types mid) + length (open_types done) + 3 ≤ 3 * length mid
 second_room [] done row same next is_open = absurd (none-some row next)
-second_room (m ∷ mid) [] row same next is_open =
-    let first : m.locked ≡ false = ap (λ r. r.locked) (same_Some m row next) ∙ is_open in
-    let none : length (locked_types (m ∷ mid)) ≡ length (locked_types mid) = ap (λ b. length (types (cond b (m ∷ filter (λ x. x.locked) mid) (filter (λ x. x.locked) mid)))) first in
-    let empty : length (open_types []) ≡ 0 = refl in
-    omega (arith, none, empty, length-locked mid)
+second_room (m ∷ mid) [] row same next is_open = grind (arith, same_Some, length-locked)
 second_room (m ∷ mid) (d ∷ done) row same next is_open =
     go m.locked refl (same zero m d refl refl) (second_room mid done row (λ i old new e f. same (suc i) old new e f) next is_open) where
       go : (b : Bool) → m.locked ≡ b → d.locked ≡ m.locked → length (locked_types mid) + length (open_types done) + 3 ≤ 3 * length mid → length (locked_types (m ∷ mid)) + length (open_types (d ∷ done)) + 3 ≤ 3 * suc (length mid)
@@ -185,14 +159,10 @@ second_room (m ∷ mid) (d ∷ done) row same next is_open =
           omega (arith, rec, l, o, length-append (types_of d) (open_types done), length-types_of d)
 
 kept-fails : (locked taken unlocked : TypeSet) (receives : Bool) (t : ℕ) → IfErr (ok_or (kept_or_free locked taken unlocked t) Exhausted) (Fails taken unlocked receives)
-kept-fails locked taken unlocked receives t = go (locked t) where
-  go : (b : Bool) → IfErr (ok_or (cond b (free (either taken unlocked)) (Some t)) Exhausted) (Fails taken unlocked receives)
-  go true = none-fails taken unlocked receives
-  go false = tt
+kept-fails locked taken unlocked receives t = grind arith
 
 kept_rtx-fails : (locked taken unlocked : TypeSet) (receives : Bool) (own : Option ℕ) → IfErr (kept_rtx locked taken unlocked own) (Fails taken unlocked receives)
-kept_rtx-fails locked taken unlocked receives None = tt
-kept_rtx-fails locked taken unlocked receives (Some t) = then_err (ok_or (kept_or_free locked taken unlocked t) Exhausted) (λ n. Ok (Some n)) (Fails taken unlocked receives) (kept-fails locked taken unlocked receives t) (λ n. tt)
+kept_rtx-fails locked taken unlocked receives own = grind arith
 
 settled-fails : (locked taken unlocked : TypeSet) (receives : Bool) (row : PayloadParams) → IfErr (settled locked taken unlocked row) (RowFails taken unlocked receives)
 unfolding settled
@@ -212,10 +182,7 @@ settled-fails locked taken unlocked receives row = go row.locked where
       (λ resend. tt))
 
 stops-open : (locked taken unlocked : TypeSet) (row : PayloadParams) (cause : NegotiationError) → settled locked taken unlocked row ≡ Err cause → row.locked ≡ false
-stops-open locked taken unlocked row cause h = go row.locked refl where
-  go : (b : Bool) → row.locked ≡ b → row.locked ≡ false
-  go true e = let none : ◌≡◌ {A = Result PayloadParams NegotiationError} (Ok row) (Err cause) = settled_if_locked locked taken unlocked row e ∙ h in absurd (cc)
-  go false e = e
+stops-open locked taken unlocked row cause h = grind (arith, settled_if_locked)
 
 -- with at most fourteen rows no row lacks a type in the second pass
 second_demands : (before remote : List PayloadParams) (receives : Bool) (cause : NegotiationError) → length before ≤ 14 → StopsSecond before remote receives cause → Demands receives cause
@@ -251,14 +218,4 @@ few_refused before remote receives cause few f = go (cases_of before remote rece
 
 -- so not for want of a type
 pub never_exhausted : (before remote : List PayloadParams) (receives : Bool) → length before ≤ 14 → Refused before remote receives Exhausted → ⊥
-never_exhausted before remote receives few f = go (few_refused before remote receives Exhausted few f) where
-  twice : {t : ℕ} → Exhausted ≡ ClaimedTwice t → ⊥
-  twice e = cc
-
-  large : {t : ℕ} → Exhausted ≡ TypeTooLarge t → ⊥
-  large e = cc
-
-  go : FewRefused before remote receives Exhausted → ⊥
-  go (inl h) = large h.2
-  go (inr (inl h)) = twice h.3
-  go (inr (inr h)) = twice h.2
+never_exhausted before remote receives few f = grind (arith, few_refused)

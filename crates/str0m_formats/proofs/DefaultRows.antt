@@ -1,11 +1,10 @@
 -- Default rows are distinct, and stay default while codecs are enabled and disabled.
-use Rattle.str0m_formats.proofs.Common.{◌≡◌, ◌==◌, ℕ, ◌+◌, ◌≤◌, Bool, true, false, not, ◌&&◌, cond, Option, Some, None, option_map, find, List, [], ◌∷◌, ◌++◌, map, All, Result, Ok, Err, OnOk, OnErr, if◌then◌else◌, refl, sym, ap, ◌∙◌, subst, arith, AllByRecursion, Contains, list_all, flat_map, and_parts, eqb-true, true≢false, map-append, All-append, All-filter, All-weaker, All-contains, All-nil}
+use Rattle.str0m_formats.proofs.Common.{rules, ◌≡◌, ◌==◌, ℕ, ◌+◌, ◌≤◌, Bool, true, false, not, ◌&&◌, cond, Option, Some, None, option_map, find, List, [], ◌∷◌, ◌++◌, map, All, Result, Ok, Err, OnOk, OnErr, if◌then◌else◌, refl, sym, ap, ◌∙◌, subst, arith, AllByRecursion, Contains, list_all, flat_map, and_parts, eqb-true, true≢false, map-append, All-append, All-filter, All-weaker, All-contains, All-nil}
 use Rattle.std.proofs.Common.{unwrap_or, is_ok}
 use Rattle.std.specs.Prelude.{IsOk}
 use Rattle.std.specs.declared.alloc.AllocError.{AllocError}
 use Rattle.std.proofs.lemmas.List.Elements.{All-contains_itself, All-from_recursion, recursion_from_All}
 use Rattle.str0m_formats.specs.declared.codec.Codec.{Codec}
-use Rattle.str0m_formats.specs.declared.codec.Codec.TheVariants.{Unknown}
 use Rattle.str0m_formats.specs.declared.codec.TheConstants.{NAMED}
 use Rattle.str0m_formats.specs.declared.codec_config.CodecConfig.{CodecConfig}
 use Rattle.str0m_formats.specs.declared.payload_params.PayloadParams.{PayloadParams}
@@ -40,26 +39,18 @@ abbrev is_known : PayloadParams → Bool
 is_known row = is_codec row.spec.codec (codec_at row.pt) && (list_all (λ t. row.pt == owner t) (types_of row) && all_apart (types_of row))
 
 known : (codec : Codec) (use_red : Bool) → list_all is_known (default_rows codec use_red) ≡ true
-known Unknown _ = refl
-known _ true = refl
-known _ false = refl
+known codec use_red = grind arith
 
 abbrev primaries : List PayloadParams → List ℕ
 primaries rows = map (λ row. row.pt) rows
 
 -- the payload types of the rows of a codec are those of the codec, and differ
 once_new : (codec : Codec) (use_red : Bool) → (list_all (λ t. is_codec codec (codec_at t)) (primaries (default_rows codec use_red)) ≡ true) × (all_apart (primaries (default_rows codec use_red)) ≡ true)
-once_new Unknown _ = (refl, refl)
-once_new _ true = (refl, refl)
-once_new _ false = (refl, refl)
+once_new codec use_red = grind arith
 
 rows_known : (rows : List PayloadParams) → list_all is_known rows ≡ true → AllByRecursion Known rows
 rows_known [] all = tt
-rows_known (row ∷ rows) all =
-    let both = and_parts (is_known row) (list_all is_known rows) all in
-    let own = and_parts (is_codec row.spec.codec (codec_at row.pt)) _ both.0 in
-    let types = and_parts (list_all (λ t. row.pt == owner t) (types_of row)) _ own.1 in
-    ((own.0, types.0, types.1), rows_known rows both.1)
+rows_known (row ∷ rows) all = grind (arith, and_parts, rows_known rows)
 
 known_default : (row : PayloadParams) → IsDefault row → Known row
 known_default row d = let rows = default_rows d.0 d.1 in All-contains Known rows row (All-from_recursion Known rows (rows_known rows (known d.0 d.1))) d.2
@@ -108,8 +99,7 @@ new_default codec use_red =
     All-weaker (Contains (default_rows codec use_red)) IsDefault (λ row c. (codec, use_red, c)) (default_rows codec use_red) (All-contains_itself (default_rows codec use_red))
 
 once_both : (i : Bool) (a b n : ℕ) → a ≤ cond {A = ℕ} i 0 n → b ≤ cond {A = ℕ} i 1 0 → n ≤ 1 → a + b ≤ 1
-once_both true a b n h k l = omega arith
-once_both false a b n h k l = omega arith
+once_both i a b n h k l = grind arith
 
 -- rows of the codec come last
 put_last : (codec : Codec) (new rows : List PayloadParams) → All IsDefault new → ((t : ℕ) → times (primaries new) t ≤ cond {A = ℕ} (is_codec codec (codec_at t)) 1 0) → AreDefault rows → AreDefault (others codec rows ++ new)
@@ -124,23 +114,20 @@ put_last codec new rows all once d = record {
 
 enabled_stay : (codec : Codec) (enabled use_red : Bool) (rows : List PayloadParams) → AreDefault rows → AreDefault (enabled_rows codec enabled use_red rows)
 enabled_stay codec true use_red rows d =
-    put_last codec (default_rows codec use_red) rows (new_default codec use_red)
-    (once_within (λ t. is_codec codec (codec_at t)) (primaries (default_rows codec use_red)) (once_new codec use_red).0 (once_new codec use_red).1) d
+    search (rules, put_last codec (default_rows codec use_red) rows, new_default codec use_red, once_within, once_new codec use_red)
 enabled_stay codec false use_red rows d = put_last codec [] rows (All-nil IsDefault) (λ t. omega arith) d
 
 -- whatever a call answers that enables or disables a codec
 default_stay : (r : Result (Unit {0}) AllocError) (codec : Codec) (enabled use_red : Bool) (old new : CodecConfig) → OnOk r (new.params.items ≡ enabled_rows codec enabled use_red old.params.items) → OnErr r (new ≡ old)
     → AreDefault old.params.items → AreDefault new.params.items
-default_stay (Ok x) codec enabled use_red old new ok err d = subst AreDefault (sym ok) (enabled_stay codec enabled use_red old.params.items d)
+default_stay (Ok x) codec enabled use_red old new ok err d = grind (arith, enabled_stay codec enabled use_red old.params.items d)
 default_stay (Err e) codec enabled use_red old new ok err d = subst (λ (config : CodecConfig). AreDefault config.params.items) (sym err) d
 
 pub enables : (codec : Codec) (enabled use_red : Bool) (old new : CodecConfig) (r : Result (Unit {0}) AllocError) → OnOk r (new.params.items ≡ enabled_rows codec enabled use_red old.params.items) → OnErr r (new ≡ old)
     → (enabled ≡ false → IsOk r) → new.red_distances ≡ old.red_distances → Enables codec enabled use_red old new r
 enables codec enabled use_red old new r ok err without distances =
-    let stay = default_stay r codec enabled use_red old new ok err in
-    record { ok = ok; err = err; without = without; distances = distances; default = stay; distinct = λ d. default_distinct new.params.items (stay d) }
+    search (rules, default_stay r codec enabled use_red old new ok err, default_distinct new.params.items)
 
 -- what a call answers that takes the rows of a codec out and appends others
 pub put_ok : (r : Result (Unit {0}) AllocError) (codec : Codec) (old kept rows new : List PayloadParams) → kept ≡ others codec old → new ≡ (if is_ok r then kept ++ rows else kept) → OnOk r (new ≡ others codec old ++ rows)
-put_ok (Ok x) codec old kept rows new k e = e ∙ ap (λ xs. xs ++ rows) k
-put_ok (Err x) codec old kept rows new k e = tt
+put_ok r codec old kept rows new k e = grind arith

@@ -1,5 +1,5 @@
 -- Distinct types stay distinct.
-use Rattle.str0m_formats.proofs.Common.{zero, suc, ◌≡◌, ℕ, ◌+◌, ◌<◌, ◌≤◌, ◌⊎◌, inl, inr, Bool, true, false, not, cond, List, [], ◌++◌, length, take, drop, Option, Some, None, refl, ap, ◌∙◌, arith, slice_get, cases_Bool, or_parts, not-true, take_all}
+use Rattle.str0m_formats.proofs.Common.{rules, zero, suc, ◌≡◌, ℕ, ◌+◌, ◌<◌, ◌≤◌, ◌⊎◌, inl, inr, Bool, true, false, not, cond, List, [], ◌++◌, length, take, drop, Option, Some, None, refl, ap, ◌∙◌, arith, slice_get, cases_Bool, or_parts, not-true, take_all}
 use Rattle.str0m_formats.specs.declared.payload_params.PayloadParams.{PayloadParams}
 use Rattle.str0m_formats.specs.TypeSets.{has, either, times, AllDistinct}
 use Rattle.str0m_formats.specs.Rows.{types_of, types, locked_types, open_types}
@@ -17,14 +17,12 @@ is_open row = not row.locked
 
 -- after the first pass a type stands among the open rows no more often than before it
 open_mid : (before remote : List PayloadParams) (receives : Bool) (mid : List PayloadParams) → AllBegun before remote receives mid → (t : ℕ) → times (open_types mid) t ≤ times (open_types before) t
-open_mid before remote receives mid m t = times_where-fewer is_open before mid t (λ i row at_row p. begun_open before remote receives mid i row m.begun m.whole at_row (not-true row.locked p))
+open_mid before remote receives mid m t = search (rules, times_where-fewer, begun_open, not-true)
 
 -- a row at a place, and the rows after it
 at_place : (rows : List PayloadParams) (i t : ℕ) (row : PayloadParams) → slice_get rows i ≡ Some row → row.locked ≡ false → times (types_of row) t + times (open_types (drop (suc i) rows)) t ≤ times (open_types rows) t
 at_place rows i t row at_row l =
-    let here = ap (λ b. times (cond (not b) (types_of row) []) t) l in
-    let split = ap (λ xs. times (open_types xs) t) (drop_suc rows i row at_row) in
-    omega (arith, here, split, times_where-cons is_open row (drop (suc i) rows) t, times_where-drop is_open rows i t)
+    grind (arith, drop_suc rows i row at_row, times_where-cons is_open row (drop (suc i) rows) t, times_where-drop is_open rows i t)
 
 module _ (before remote : List PayloadParams) (receives : Bool) (mid after : List PayloadParams) (m : AllBegun before remote receives mid) (second : Settled (has (open_types before)) mid after) (t : ℕ) where
   -- where an open row is settled

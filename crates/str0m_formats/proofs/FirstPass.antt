@@ -1,5 +1,5 @@
 -- The first pass of a round: what one row changes, and the state between two rows.
-use Rattle.str0m_formats.proofs.Common.{zero, suc, ◌≡◌, ℕ, ◌+◌, ◌<◌, ◌⊎◌, inl, inr, Bool, true, false, not, ◌||◌, ◌&&◌, cond, if◌then◌else◌, find, nat_lt, List, [], ◌∷◌, ◌++◌, length, take, drop, get_or, Option, Some, None, Result, Ok, Err, IfSome, IfErr, refl, sym, ap, ◌∙◌, subst, arith, slice_get, option_or, same_Some, find-append, append_assoc, take_more_set, drop-set-lt, length-set, length-take-le, length_push, drop_more_same, false≢true}
+use Rattle.str0m_formats.proofs.Common.{zero, suc, ◌≡◌, ℕ, ◌+◌, ◌<◌, ◌⊎◌, inl, Bool, true, false, not, ◌||◌, ◌&&◌, cond, if◌then◌else◌, find, nat_lt, List, [], ◌∷◌, ◌++◌, length, take, drop, get_or, Option, Some, None, Result, Ok, Err, IfSome, IfErr, refl, sym, ap, ◌∙◌, subst, arith, slice_get, find-append, append_assoc, take_more_set, drop-set-lt, length-set, length-take-le, length_push, drop_more_same, false≢true}
 use Rattle.std.proofs.Common.{set}
 use Rattle.str0m_formats.specs.declared.negotiation_error.NegotiationError.{NegotiationError}
 use Rattle.str0m_formats.specs.declared.payload_params.PayloadParams.{PayloadParams}
@@ -15,26 +15,21 @@ use Rattle.str0m_formats.proofs.RowSets.{has-append, either-covered, locked_type
 -- ---- types of at most 127
 
 pub none-parts : (p : ℕ → Bool) (xs ys : List ℕ) → find p (xs ++ ys) ≡ None → (find p xs ≡ None) × (find p ys ≡ None)
-none-parts p xs ys h = go (find p xs) (find p ys) (sym (find-append p xs ys) ∙ h) where
-  go : (a b : Option ℕ) → option_or a b ≡ None → (a ≡ None) × (b ≡ None)
-  go None b e = (refl, e)
-  go (Some a) b e = absurd (cc)
+none-parts p xs ys h = grind (arith, find-append)
 
 pub small_at : (rows : List PayloadParams) (i : ℕ) (row : PayloadParams) → AllSmall (types rows) → slice_get rows i ≡ Some row → AllSmall (types_of row)
 small_at [] i row h e = absurd (cc)
-small_at (r ∷ rows) zero row h e =
-    let P : PayloadParams → Type 0 = λ x. AllSmall (types_of x) in subst P (same_Some r row e) (none-parts (nat_lt 127) (types_of r) (types rows) h).0
+small_at (r ∷ rows) zero row h e = grind arith
 small_at (r ∷ rows) (suc i) row h e = small_at rows i row (none-parts (nat_lt 127) (types_of r) (types rows) h).1 e
 
 pub small_choice : (points : PayloadParams → Option ℕ) (remote : List PayloadParams) (choice : Option PayloadParams) → IsChoice points remote choice → AllSmall (types remote) → IfSome choice (λ c. AllSmall (types_of c))
 small_choice points remote None h s = tt
-small_choice points remote (Some c) h s = small_at remote (length h.before) c s (ap (λ xs. slice_get xs (length h.before)) h.split ∙ at_split h.before c h.after)
+small_choice points remote (Some c) h s = grind (arith, small_at remote (length h.before) c s, at_split h.before c h.after)
 
 -- ---- what becomes of one row
 
 pub and_then-ok : {A B : Type 0} (r : Result A NegotiationError) (f : A → Result B NegotiationError) (y : B) → and_then r f ≡ Ok y → (x : A) × (r ≡ Ok x) × (f x ≡ Ok y)
-and_then-ok (Ok x) f y h = (x, refl, h)
-and_then-ok (Err e) f y h = absurd (cc)
+and_then-ok r f y h = grind arith
 
 pub same_Ok : {A : Type 0} (x y : A) → ◌≡◌ {A = Result A NegotiationError} (Ok x) (Ok y) → x ≡ y
 same_Ok x y h = cc
@@ -78,19 +73,16 @@ locked_parts taken unlocked receives row choice new h =
     record { pt = first.0; pt_is = first.1; resend = second.0; resend_is = second.1; all = same_Ok _ new second.2 }
 
 pub locked_to-locks : (taken unlocked : TypeSet) (receives : Bool) (row choice new : PayloadParams) → locked_to taken unlocked receives row choice ≡ Ok new → new.locked ≡ true
-locked_to-locks taken unlocked receives row choice new h = ap (λ r. r.locked) (sym (locked_parts taken unlocked receives row choice new h).all)
+locked_to-locks taken unlocked receives row choice new h = grind (arith, locked_parts taken unlocked receives row choice new h)
 
 -- a locked row stays locked and keeps its types; an open row stays as it is, or is locked
 pub placed-locked : (taken unlocked : TypeSet) (receives : Bool) (row new : PayloadParams) (choice : Option PayloadParams) → placed taken unlocked receives row choice ≡ Ok new → row.locked ≡ true → (new.locked ≡ true) × (types_of new ≡ types_of row)
-placed-locked taken unlocked receives row new None h l =
-    let e = placed-no_choice taken unlocked receives row new h in (ap (λ r. r.locked) (sym e) ∙ l, ap types_of (sym e))
-placed-locked taken unlocked receives row new (Some c) h l =
-    let e = same_Ok (record row { spec = narrowed row.spec c.spec }) new (sym (placed-locked_row taken unlocked receives row c l) ∙ h) in
-    (ap (λ r. r.locked) (sym e) ∙ l, ap types_of (sym e))
+placed-locked taken unlocked receives row new None h l = grind (arith, placed-no_choice)
+placed-locked taken unlocked receives row new (Some c) h l = grind (arith, same_Ok, placed-locked_row)
 
 pub placed-open : (taken unlocked : TypeSet) (receives : Bool) (row new : PayloadParams) (choice : Option PayloadParams) → placed taken unlocked receives row choice ≡ Ok new → row.locked ≡ false → (new ≡ row) ⊎ (new.locked ≡ true)
 placed-open taken unlocked receives row new None h l = inl (sym (placed-no_choice taken unlocked receives row new h))
-placed-open taken unlocked receives row new (Some c) h l = inr (locked_to-locks taken unlocked receives row c new (sym (placed-open_row taken unlocked receives row c l) ∙ h))
+placed-open taken unlocked receives row new (Some c) h l = grind (arith, locked_to-locks, placed-open_row)
 
 -- what a row adds to the types that are taken
 pub taken-push : (taken unlocked : TypeSet) (receives : Bool) (before done : List PayloadParams) (i : ℕ) (row new : PayloadParams) (choice : Option PayloadParams) → slice_get before i ≡ Some row → placed taken unlocked receives row choice ≡ Ok new
@@ -129,11 +121,7 @@ next_row before remote receives rows i claimed unlocked row s h e = get_from_res
 
 becomes_now : (before remote : List PayloadParams) (receives : Bool) (rows : List PayloadParams) (i : ℕ) (claimed unlocked : TypeSet) (row : PayloadParams) (choice : Option PayloadParams) (outcome : Result PayloadParams NegotiationError) → FirstState before remote receives rows i claimed unlocked → IsChoice (points_for claimed receives row) remote choice → placed claimed unlocked receives row choice ≡ outcome
     → Becomes (taken_by before (take i rows)) (has (open_types before)) remote receives row outcome
-becomes_now before remote receives rows i claimed unlocked row choice outcome s c p =
-    let P : TypeSet → Type 0 = λ t. IsChoice (points_for t receives row) remote choice in
-    let Q : TypeSet → Type 0 = λ t. placed t unlocked receives row choice ≡ outcome in
-    let R : TypeSet → Type 0 = λ u. placed (taken_by before (take i rows)) u receives row choice ≡ outcome in
-    record { choice = choice; is_choice = subst P s.claimed_is c; placed_so = subst R s.unlocked_is (subst Q s.claimed_is p) }
+becomes_now before remote receives rows i claimed unlocked row choice outcome s c p = grind arith
 
 pub first_step : (before remote : List PayloadParams) (receives : Bool) (rows : List PayloadParams) (i : ℕ) (claimed unlocked claimed' unlocked' : TypeSet) (row new : PayloadParams) (choice : Option PayloadParams)
     → FirstState before remote receives rows i claimed unlocked → i < length rows → row ≡ get_or rows i row → IsChoice (points_for claimed receives row) remote choice → placed claimed unlocked receives row choice ≡ Ok new
@@ -175,5 +163,4 @@ first_stops before remote receives rows i claimed unlocked row choice cause may 
 
 -- a fact of the error, where a result is that error
 pub IfErr_from : {A : Type 0} (result : Result A NegotiationError) (cause : NegotiationError) (P : NegotiationError → Type 0) → result ≡ Err cause → P cause → IfErr result P
-IfErr_from (Ok x) cause P h p = tt
-IfErr_from (Err e) cause P h p = subst P (sym (same_Err e cause h)) p
+IfErr_from result cause P h p = grind arith

@@ -27,8 +27,7 @@ free-new : (taken unlocked : TypeSet) (t : ℕ) → free (either taken unlocked)
 free-new taken unlocked t e = (or_parts (taken t) (unlocked t) (free-small (either taken unlocked) t e).1).0
 
 itself : (taken : TypeSet) (o : Option ℕ) → IfSome o (λ t. taken t ≡ false → IsNew taken t)
-itself taken None = tt
-itself taken (Some t) = λ new. new
+itself taken o = grind arith
 
 -- a primary, then an RTX and a RED that are new beside what came before: each stands once, and none is taken
 abbrev NewTypes : TypeSet → List ℕ → Type 0

@@ -1,5 +1,5 @@
 -- Parameters of the table of keys, as they print and are read again.
-use Rattle.str0m_formats.proofs.Common.{◌≡◌, ◌⊎◌, ℕ, Bool, true, false, List, [], ◌∷◌, length, map, filter, nat_lt, Option, Some, None, MatchOption, refl, sym, ap, ◌∙◌, subst, arith, inl, inr, AllByRecursion, list_all, str_to_ascii_lowercase, lt-ltb, append_assoc, length-append, IsRest}
+use Rattle.str0m_formats.proofs.Common.{◌≡◌, ◌⊎◌, ℕ, Bool, false, List, [], ◌∷◌, length, map, filter, nat_lt, Option, Some, None, MatchOption, refl, arith, inl, inr, AllByRecursion, str_to_ascii_lowercase, lt-ltb, IsRest}
 use Rattle.str0m_formats.specs.declared.format_key.FormatKey.{FormatKey}
 use Rattle.str0m_formats.specs.declared.format_key.FormatKey.TheVariants as key
 use Rattle.str0m_formats.specs.declared.format_param.FormatParam.{FormatParam}
@@ -9,7 +9,7 @@ use Rattle.str0m_formats.specs.Pairs.{is_mark, has_mark}
 use Rattle.str0m_formats.specs.ParamReading.{param_of}
 use Rattle.str0m_formats.proofs.ModeBounds.{modes_within}
 use Rattle.str0m_formats.proofs.RoundTrip.{key_reads, entry_made}
-use Rattle.str0m_formats.proofs.Shown.{joined_pair, IsPlainPair, Entry, HasRange, pair_in, pair_plain, text_of}
+use Rattle.str0m_formats.proofs.Shown.{joined_pair, IsPlainPair, Entry, HasRange, pair_in, pair_plain}
 
 -- the key and the value that a parameter of the table prints
 abbrev pub entry_pair : Option Entry → List ℕ × List ℕ
@@ -25,8 +25,7 @@ IsKeyed param = MatchOption (entry param) ⊥ HasRange
 
 -- no key marks a profile, tier and level, and each is in lower case
 pub key_unmarked : (k : FormatKey) → (is_mark (key_text k) ≡ false) × (str_to_ascii_lowercase (key_text k) ≡ key_text k)
-key_unmarked key.Apt = (refl, refl)
-key_unmarked k = (refl, refl)
+key_unmarked k = grind arith
 
 -- ---- what is read of a pair
 
@@ -53,10 +52,7 @@ spelled key.Interleaving text x h = inr refl
 spelled k text x h = inl (value_ranged (kind k) text x h)
 
 pub keyed_or_hidden : (pair : List ℕ × List ℕ) (param : FormatParam) → IsParsed pair param → IsKeyed param ⊎ (param_text param ≡ [])
-keyed_or_hidden pair param (inl spells) =
-    let holds = spells.2 in
-    subst (λ p. IsKeyed p ⊎ (param_text p ≡ [])) (sym holds.1) (spelled spells.0 pair.1 holds.0 holds.2)
-keyed_or_hidden pair param (inr unknown) = inr (ap param_text unknown.1)
+keyed_or_hidden pair param o = grind (arith, spelled)
 
 pub own_key : (k : FormatKey) (x : Held (kind k)) → IsKeyed (made k x) → (pair_of (made k x)).0 ≡ key_text k
 own_key key.Crc x h = absurd h
@@ -70,29 +66,25 @@ own_key k x h = refl
 -- it is read again
 read_of : (param : FormatParam) (o : Option Entry) → MatchOption o (Unit {0}) (λ e. param ≡ made e.0 e.1) → MatchOption o ⊥ HasRange
     → param_of (entry_pair o) ≡ param
-read_of param None is h = absurd h
-read_of param (Some e) is h = key_reads e.0 e.1 h ∙ sym is
+read_of param o is h = grind (arith, key_reads)
 
 keyed_read : (param : FormatParam) → IsKeyed param → param_of (pair_of param) ≡ param
 keyed_read param h = read_of param (entry param) (entry_made param) h
 
 plain_of : (o : Option Entry) → MatchOption o ⊥ HasRange → IsPlainPair (entry_pair o)
-plain_of None h = absurd h
-plain_of (Some e) h = pair_plain e h
+plain_of o h = grind (arith, pair_plain)
 
 keyed_plain : (param : FormatParam) → IsKeyed param → IsPlainPair (pair_of param)
 keyed_plain param h = plain_of (entry param) h
 
 text_at : (param : FormatParam) (o : Option Entry) → entry param ≡ o → MatchOption o ⊥ HasRange → param_text param ≡ joined_pair (entry_pair o)
-text_at param None is h = absurd h
-text_at param (Some e) is h = text_of param e is
+text_at param o is h = grind arith
 
 keyed_text : (param : FormatParam) → IsKeyed param → param_text param ≡ joined_pair (pair_of param)
 keyed_text param h = text_at param (entry param) refl h
 
 mark_of : (o : Option Entry) → MatchOption o ⊥ HasRange → is_mark (entry_pair o).0 ≡ false
-mark_of None h = absurd h
-mark_of (Some e) h = (key_unmarked e.0).0
+mark_of o h = grind arith
 
 -- ---- lists of them
 
@@ -104,10 +96,7 @@ abbrev pub prints : FormatParam → Bool
 prints param = nat_lt 0 (length (param_text param))
 
 pub keyed_shown : (param : FormatParam) → IsKeyed param → IsRest (param_text param)
-keyed_shown param h =
-    let pair = pair_of param in
-    let plain = keyed_plain param h in
-    omega (arith, ap length (keyed_text param h), length-append pair.0 (61 ∷ pair.1))
+keyed_shown param h = grind arith
 
 -- those that print something are of the table
 pub shown_keyed : (pairs : List (List ℕ × List ℕ)) (params : List FormatParam) → AreParsed pairs params → AreKeyed (filter prints params)
@@ -115,10 +104,7 @@ shown_keyed [] [] are = tt
 shown_keyed [] (param ∷ params) are = absurd are
 shown_keyed (pair ∷ pairs) [] are = absurd are
 shown_keyed (pair ∷ pairs) (param ∷ params) are =
-    elim (keyed_or_hidden pair param are.0) [
-      | inl keyed ↦ rw (lt-ltb 0 (length (param_text param)) (keyed_shown param keyed)) (keyed, shown_keyed pairs params are.1)
-      | inr hidden ↦ rw hidden (shown_keyed pairs params are.1)
-    ]
+    grind (arith, keyed_or_hidden pair param are.0, lt-ltb 0 (length (param_text param)), keyed_shown param, shown_keyed pairs params are.1)
 
 pub keyed_params : (params : List FormatParam) → AreKeyed params → map param_of (map pair_of params) ≡ params
 keyed_params [] h = refl

@@ -2,16 +2,15 @@
 use Rattle.str0m_formats.proofs.Common.{◌≡◌, ◌≢◌, ◌⊎◌, inl, inr, ℕ, Bool, true, false, List, Option, Some, None, refl, sym, ap, ◌∙◌, subst, arith, unsigned_Decides, ltb-true, same_Some, H264ProfileLevel}
 use Rattle.std.specs.Prelude.{nat_lt, if◌then◌else◌}
 use Rattle.str0m_values.specs.H264.{named, level_ordinal, lower_of, lower_level}
-use Rattle.str0m_values.specs.contracts.h264.H264Profile as h264_profile
 use Rattle.str0m_formats.specs.declared.codec.Codec.TheVariants.{H264}
 use Rattle.str0m_formats.specs.declared.codec_spec.CodecSpec.{CodecSpec}
 use Rattle.str0m_formats.specs.declared.payload_params.PayloadParams.{PayloadParams}
-use Rattle.str0m_formats.specs.Narrowing.{narrowed, narrowed_as, levels_differ}
+use Rattle.str0m_formats.specs.Narrowing.{narrowed, levels_differ}
 use Rattle.str0m_formats.specs.Rounds.{Leaves}
-use Rattle.str0m_formats.specs.Scores.{same_spec, same_codec, same_number, same_or, same_profile}
-use Rattle.str0m_formats.specs.Scores.{level_score, h264_level_score, codec_score, score}
+use Rattle.str0m_formats.specs.Scores.{same_spec, same_codec, same_number, same_or}
+use Rattle.str0m_formats.specs.Scores.{h264_level_score, codec_score, score}
 use Rattle.str0m_formats.specs.Promises.{NamesNoHigher, LevelsNarrow}
-use Rattle.str0m_formats.proofs.FormatEqual.{bare_Decides, codec_Decides, spec_Decides}
+use Rattle.str0m_formats.proofs.FormatEqual.{codec_Decides, spec_Decides}
 use Rattle.str0m_formats.proofs.ScoreRules.{either_way, score_rules}
 use Rattle.str0m_formats.proofs.SpecSteps.{round_holds}
 
@@ -19,15 +18,10 @@ use Rattle.str0m_formats.proofs.SpecSteps.{round_holds}
 
 -- what holds only under a test
 if_some : {A : Type 0} (t : Bool) (o : Option A) → (if t then o else None) ≢ None → o ≢ None
-if_some true o h = h
-if_some false o h = absurd (h refl)
+if_some t o h = grind arith
 
 levels-profile : (x y : H264ProfileLevel) → h264_level_score (Some x) (Some y) ≢ None → x.profile ≡ y.profile
-levels-profile x y = go (same_profile x.profile y.profile) refl where
-  go : (t : Bool) → same_profile x.profile y.profile ≡ t
-      → level_score t (level_ordinal x.level) (level_ordinal y.level) ≢ None → x.profile ≡ y.profile
-  go true e h = (bare_Decides h264_profile.the_type tt x.profile y.profile).0 e
-  go false e h = absurd (h refl)
+levels-profile x y = grind arith
 
 -- specs that fit are the same, or fit by the rule of their codec
 fits : (a b : CodecSpec) → score a b ≢ None → (a ≡ b) ⊎ (codec_score a.codec a b ≢ None)
@@ -101,18 +95,7 @@ lowers-then a b c first second is had e =
 narrowed-lowers : (own chosen : CodecSpec) → score own chosen ≢ None → Lowers own (narrowed own chosen)
 unfolding narrowed
 narrowed-lowers own chosen some is had e =
-    let narrows : narrowed own chosen ≡ narrowed_as H264 own chosen = ap (λ codec. narrowed_as codec own chosen) is in
-    let Holds : CodecSpec → Type 0 = λ spec. (spec.codec ≡ H264) × NamesNoHigher had spec.format.profile_level_id in
-    subst Holds (sym narrows) (is, go (levels_differ own.format chosen.format)) where
-      ours : Option ℕ
-      ours = own.format.profile_level_id
-
-      theirs : Option ℕ
-      theirs = chosen.format.profile_level_id
-
-      go : (b : Bool) → NamesNoHigher had (if b then ours else lower_level ours theirs)
-      go true = stays_named had ours e
-      go false = lower_named had ours theirs e (λ level k. same_profiles own chosen is some had level e k)
+    grind (arith, levels_differ own.format chosen.format, stays_named had, lower_named had, same_profiles own chosen is some had)
 
 -- a round doesn't raise the level of an H264 row
 pub levels_narrow : (before remote : List PayloadParams) (receives : Bool) (after : List PayloadParams) → Leaves before remote receives after

@@ -1,5 +1,5 @@
 -- What the loops over lines keep.
-use Rattle.str0m_formats.proofs.Common.{◌≡◌, ◌<◌, ◌+◌, ◌||◌, ℕ, Bool, List, [], ◌∷◌, ◌++◌, length, get_or, take, Option, Some, None, refl, sym, ap, subst, ◌∙◌, AllZip, cons_option, list_any, Bor, take_more, append_assoc, append-nil, map-append, filter_map-append}
+use Rattle.str0m_formats.proofs.Common.{arith, ◌≡◌, ◌<◌, ◌+◌, ◌||◌, ℕ, Bool, List, [], ◌∷◌, ◌++◌, length, get_or, take, Option, Some, None, refl, sym, ap, subst, ◌∙◌, AllZip, cons_option, list_any, Bor, take_more, append_assoc, append-nil, map-append, filter_map-append}
 use Rattle.str0m_formats.specs.declared.codec.Codec.TheVariants.{AmrWb}
 use Rattle.str0m_formats.specs.declared.format_param.FormatParam.{FormatParam}
 use Rattle.str0m_formats.specs.declared.format_params.FormatParams.{FormatParams}
@@ -31,7 +31,7 @@ bares_more pieces piece = filter_map-append bare_in pieces (piece ∷ [])
 
 values-push : (lines : List (List FormatParam)) (line : List FormatParam) → values_of (lines ++ line ∷ []) ≡ values_of lines ++ kept line
 values-push [] line = append-nil (kept line)
-values-push (l ∷ lines) line = ap (λ (t : List FormatParam). kept l ++ t) (values-push lines line) ∙ sym (append_assoc (kept l) (values_of lines) (kept line))
+values-push (l ∷ lines) line = grind (arith, values-push lines line, append_assoc)
 
 -- one more line
 pub values_more : (lines : List (Bor (List FormatParam))) (i : ℕ) (d : Bor (List FormatParam)) → i < length lines → set_all (set_all empty (values_of (line_values (take i lines)))) (kept (get_or lines i d).now) ≡ set_all empty (values_of (line_values (take (i + 1) lines)))
@@ -44,13 +44,11 @@ values_more lines i d lt =
 
 -- a piece with a key
 pub pairs_given : (items : List (Bor (List ℕ) × Bor (List ℕ))) (pair : Bor (List ℕ) × Bor (List ℕ)) (pieces : List (List ℕ)) (piece : List ℕ) → pair_texts items ≡ pairs_in pieces → Some (pair.0.now, pair.1.now) ≡ pair_in piece → pair_texts (items ++ pair ∷ []) ≡ pairs_in (pieces ++ piece ∷ [])
-pairs_given items pair pieces piece h e =
-    map-append (λ p. (p.0.now, p.1.now)) items (pair ∷ []) ∙ ap (λ (t : List (List ℕ × List ℕ)). t ++ (pair.0.now, pair.1.now) ∷ []) h
-    ∙ ap (λ (o : Option (List ℕ × List ℕ)). pairs_in pieces ++ cons_option o []) e ∙ sym (pairs_more pieces piece)
+pairs_given items pair pieces piece h e = grind (arith, map-append, pairs_more)
 
 -- a piece without one
 pub pairs_absent : (items : List (Bor (List ℕ) × Bor (List ℕ))) (pieces : List (List ℕ)) (piece : List ℕ) → pair_texts items ≡ pairs_in pieces → None ≡ pair_in piece → pair_texts items ≡ pairs_in (pieces ++ piece ∷ [])
-pairs_absent items pieces piece h e = h ∙ sym (append-nil (pairs_in pieces)) ∙ ap (λ (o : Option (List ℕ × List ℕ)). pairs_in pieces ++ cons_option o []) e ∙ sym (pairs_more pieces piece)
+pairs_absent items pieces piece h e = grind (arith, append-nil, pairs_more)
 
 pub bares_none : IsFormatOfBares [] empty
 unfolding bares_in
@@ -64,17 +62,7 @@ bares_given pieces piece text p param h e is = record {
 }
 
 pub bares_absent : (pieces : List (List ℕ)) (piece : List ℕ) (p : FormatParams) → IsFormatOfBares pieces p → None ≡ bare_in piece → IsFormatOfBares (pieces ++ piece ∷ []) p
-bares_absent pieces piece p h e = record {
-  bares = h.bares;
-  bares_are = subst (λ (ts : List (List ℕ)). AllZip IsBare ts h.bares) (sym (append-nil (bares_in pieces)) ∙ ap (λ (o : Option (List ℕ)). bares_in pieces ++ cons_option o []) e ∙ sym (bares_more pieces piece)) h.bares_are;
-  format = h.format;
-}
+bares_absent pieces piece p h e = grind (arith, append-nil, bares_more)
 
 pub line_of : (line : List ℕ) (params : List FormatParam) (p q : FormatParams) → IsFormatOfBares (pieces line) p → AreRead (pairs_in (pieces line)) params → q ≡ set_all p params → IsFormatOfLine line q
-line_of line params p q h are e = record {
-  bares = h.bares;
-  params = params;
-  bares_are = h.bares_are;
-  params_are = are;
-  format = e ∙ ap (λ p. set_all p params) h.format ∙ sym (set_all-append h.bares params empty);
-}
+line_of line params p q h are e = grind (arith, set_all-append)

@@ -1,5 +1,5 @@
 -- Texts that are printed one after another, parted by a character; and the parameters of a format, one field after another.
-use Rattle.str0m_formats.proofs.Common.{◌≡◌, ◌<◌, ◌+◌, ℕ, Bool, true, false, List, [], ◌∷◌, ◌++◌, length, get_or, take, map, Some, None, refl, sym, ap, ◌∙◌, join_with_byte, filter_map, cons_option, append_assoc, append-nil, take_more, filter_map-append}
+use Rattle.str0m_formats.proofs.Common.{arith, ◌≡◌, ◌<◌, ◌+◌, ℕ, Bool, true, false, List, [], ◌∷◌, ◌++◌, length, get_or, take, map, Some, None, refl, ap, ◌∙◌, join_with_byte, filter_map, cons_option, append_assoc, append-nil, take_more, filter_map-append}
 use Rattle.str0m_formats.specs.FormatParam.{param_text, part_if}
 use Rattle.str0m_formats.specs.FormatParams.{param_at, params_text, params_of}
 use Rattle.str0m_formats.specs.declared.format_param.FormatParam.{FormatParam}
@@ -18,7 +18,7 @@ pub listed_push : {A : Type 0} (c : ℕ) (text : A → List ℕ) (xs : List A) (
 unfolding listed has_some
 listed_push c text [] x = refl
 listed_push c text (y ∷ []) x = refl
-listed_push c text (y ∷ z ∷ xs) x = ap (λ t. text y ++ c ∷ t) (listed_push c text (z ∷ xs) x) ∙ sym (append_assoc (text y) (c ∷ listed c text (z ∷ xs)) (c ∷ text x))
+listed_push c text (y ∷ z ∷ xs) x = grind (arith, listed_push c text (z ∷ xs) x, append_assoc)
 
 pub has_some_push : {A : Type 0} (xs : List A) (x : A) → has_some (xs ++ x ∷ []) ≡ true
 unfolding has_some
@@ -32,7 +32,7 @@ params_to p n = filter_map (λ field. param_at field p) (take n FIELDS)
 
 params_next : (p : FormatParams) (n : ℕ) (f : Field) → n < length FIELDS → params_to p (n + 1) ≡ params_to p n ++ filter_map (λ field. param_at field p) (get_or FIELDS n f ∷ [])
 unfolding params_to
-params_next p n f lt = ap (filter_map (λ field. param_at field p)) (take_more FIELDS n f lt) ∙ filter_map-append (λ field. param_at field p) (take n FIELDS) _
+params_next p n f lt = grind (arith, take_more FIELDS n f lt, filter_map-append)
 
 -- a field that is given
 pub params_push : (p : FormatParams) (n : ℕ) (f : Field) (param : FormatParam) → n < length FIELDS → param_at (get_or FIELDS n f) p ≡ Some param → params_to p (n + 1) ≡ params_to p n ++ param ∷ []

@@ -1,18 +1,14 @@
 -- Rows of a table that are looked up by their texts, without regard to the case of ASCII letters.
-use Rattle.str0m_formats.proofs.Common.{◌≡◌, ℕ, Bool, true, false, cond, List, [], ◌∷◌, map, Option, Some, None, IfSome, refl, list_all, to_ascii_lowercase, bytes_eq, and_parts}
+use Rattle.str0m_formats.proofs.Common.{arith, ◌≡◌, ℕ, Bool, true, List, [], ◌∷◌, map, Option, IfSome, list_all, to_ascii_lowercase, bytes_eq, and_parts}
 use Rattle.std.specs.List.{find}
 
 -- what is found stands in the list and passes
 pub find_passes : {A : Type 0} (own test : A → Bool) (xs : List A) → list_all own xs ≡ true → IfSome (find test xs) (λ x. (own x ≡ true) × (test x ≡ true))
 find_passes own test [] all = tt
-find_passes {A} own test (x ∷ xs) all =
-    let k = and_parts (own x) (list_all own xs) all in
-    let passes : (b : Bool) → test x ≡ b → IfSome (cond b (Some x) (find test xs)) (λ x. (own x ≡ true) × (test x ≡ true)) = λ b e. elim b as (λ v. test x ≡ v → IfSome (cond v (Some x) (find test xs)) (λ (x : A). (own x ≡ true) × (test x ≡ true))) [ true ↦ λ e. (k.0, e) | false ↦ λ e. find_passes own test xs k.1 ] e in
-    passes (test x) refl
+find_passes {A} own test (x ∷ xs) all = grind (arith, and_parts, find_passes own test xs)
 
 pub if_some_map : {A : Type 0} {P Q : A → Type 0} (o : Option A) → IfSome o P → ((x : A) → P x → Q x) → IfSome o Q
-if_some_map None h then = tt
-if_some_map (Some x) h then = then x h
+if_some_map o h then = grind arith
 
 -- the row of which this is the text in lower case
 abbrev pub row_at : {A : Type 0} → (A → List ℕ) → List A → List ℕ → Option A

@@ -1,6 +1,6 @@
 -- Sets of payload types as the bits of a number.
-use Rattle.str0m_formats.proofs.Common.{◌≡◌, ◌==◌, ℕ, ◌+◌, ◌-◌, ◌*◌, ◌%◌, ◌^◌, ◌<◌, ◌≤◌, ◌⊎◌, inl, inr, Bool, false, not, ◌||◌, bit_or, List, ◌++◌, [], Option, Some, None, find, refl, sym, ap, ◌∙◌, arith, lit<, range_with_len, option_or, bit_at, eq-eqb, ne_eqb, bit_at-lt, bit_at_set_same, bit_at_set_other, bit_at-zero, or_lt, or-false, or-true, find-append, nat_tests}
-use Rattle.std.proofs.Common.{bit_and, min, max}
+use Rattle.str0m_formats.proofs.Common.{◌≡◌, ◌==◌, ℕ, ◌+◌, ◌-◌, ◌*◌, ◌%◌, ◌^◌, ◌<◌, ◌≤◌, ◌⊎◌, inl, inr, Bool, false, not, ◌||◌, bit_or, List, ◌++◌, [], Some, None, find, refl, sym, ap, ◌∙◌, arith, lit<, range_with_len, option_or, bit_at, eq-eqb, ne_eqb, bit_at-lt, bit_at_set_same, bit_at_set_other, bit_at-zero, or_lt, or-false, or-true, find-append, nat_tests}
+use Rattle.std.proofs.Common.{bit_and, min}
 use Rattle.std.specs.Int.{bit_not, trailing_zeros, w128}
 use Rattle.std.proofs.lemmas.Bool.{cases_eq}
 use Rattle.std.proofs.lemmas.Nat.Bits.{bit_at_and, bit_at_or, bit_at_not, bit_at_above}
@@ -31,11 +31,7 @@ no_bit n t h l = ap (λ x. x == 1) (bit_at_above n 128 t h l)
 
 -- the types in neither of two sets
 free_bit : (a b i : ℕ) → bit_or a b < 2 ^ 128 → i < 128 → bit_set (bit_not w128 (bit_or a b)) i ≡ not (bit_set a i || bit_set b i)
-free_bit a b i h l =
-    ap (λ x. x == 1) (bit_at_not w128 (bit_or a b) i h l ∙ ap (λ x. 1 - x) (bit_at_or a b i))
-    ∙ go (bit_at a i) (bit_at b i) (bit_at-lt a i) (bit_at-lt b i) where
-      go : (x y : ℕ) → x < 2 → y < 2 → (1 - max x y == 1) ≡ not ((x == 1) || (y == 1))
-      go x y hx hy = grind (arith, nat_tests)
+free_bit a b i h l = grind (arith, bit_at_not w128 (bit_or a b) i h l, bit_at_or a b i, bit_at-lt b i, bit_at-lt a i, nat_tests)
 
 -- ---- the least type
 
@@ -91,21 +87,7 @@ least_masked bits mask q lo d run agree =
 
 find_four : (p : ℕ → Bool) (a b c d : List ℕ)
     → option_or (option_or (option_or (find p a) (find p b)) (find p c)) (find p d) ≡ find p (a ++ (b ++ (c ++ (d ++ []))))
-find_four p a b c d =
-    regroup (find p a) (find p b) (find p c) (find p d)
-    ∙ sym (rw (
-      find-append p a (b ++ (c ++ (d ++ []))),
-      find-append p b (c ++ (d ++ [])),
-      find-append p c (d ++ []),
-      find-append p d [],
-    ) refl) where
-      regroup : (w x y z : Option ℕ)
-          → option_or (option_or (option_or w x) y) z ≡ option_or w (option_or x (option_or y (option_or z None)))
-      regroup (Some n) x y z = refl
-      regroup None (Some n) y z = refl
-      regroup None None (Some n) z = refl
-      regroup None None None (Some n) = refl
-      regroup None None None None = refl
+find_four p a b c d = grind (arith, find-append)
 
 -- it is the least type in neither set under the mask of the first range that has one
 pub free-from_masks : (a b bits : ℕ) → bits ≡ bit_not w128 (bit_or a b) → a < 2 ^ 128 → b < 2 ^ 128

@@ -1,9 +1,7 @@
 -- Which rows a round locks, and at which types.
-use Rattle.str0m_formats.proofs.Common.{◌≡◌, ◌≢◌, ℕ, Bool, true, false, not, ◌&&◌, cond, List, Option, Some, None, Ok, Err, refl, sym, ap, ◌∙◌, subst, true≢false, false≢true, All-contains, fun_ext}
+use Rattle.str0m_formats.proofs.Common.{arith, ◌≡◌, ◌≢◌, ℕ, Bool, true, false, not, ◌&&◌, List, Option, Some, None, Ok, refl, sym, ap, ◌∙◌, subst, fun_ext}
 use Rattle.std.specs.Prelude.{Contains}
-use Rattle.str0m_formats.specs.declared.codec.Codec.{Codec}
 use Rattle.str0m_formats.specs.declared.codec.Codec.TheVariants.{AmrWb}
-use Rattle.str0m_formats.specs.declared.negotiation_error.NegotiationError.TheVariants.{ClaimedTwice}
 use Rattle.str0m_formats.specs.declared.payload_params.PayloadParams.{PayloadParams}
 use Rattle.str0m_formats.specs.TypeSets.{TypeSet}
 use Rattle.str0m_formats.specs.Scores.{score}
@@ -13,54 +11,32 @@ use Rattle.str0m_formats.specs.Rounds.{role_type, rtx_type, placed, Leaves}
 use Rattle.str0m_formats.specs.Promises.{IsMatched, MatchedAreLocked, HasTypesOf, LockedAtBest}
 use Rattle.str0m_formats.proofs.Passes.{split_has}
 use Rattle.str0m_formats.proofs.FirstPass.{and_then-ok, same_Ok, locked_to-locks, placed-open_row, placed-no_choice, locked_parts}
-use Rattle.str0m_formats.proofs.SecondPass.{settled-locked, not_ok, settled-same}
+use Rattle.str0m_formats.proofs.SecondPass.{settled-locked, settled-same}
 use Rattle.str0m_formats.proofs.LockedStays.{locked_stay}
 use Rattle.str0m_formats.proofs.RowSteps.{RowSteps, row_steps}
 
 -- ---- when a remote row's points are its score
-
-amr_wb_from : (codec : Codec) → is_amr_wb codec ≡ true → codec ≡ AmrWb
-amr_wb_from AmrWb h = refl
-amr_wb_from _ h = absurd (false≢true h)
 
 -- whether some remote row may be left aside
 abbrev may_leave : Bool → PayloadParams → Bool
 may_leave receives row = is_amr_wb row.spec.codec && (not row.locked && receives)
 
 may_leave-false : (receives : Bool) (row : PayloadParams) → (receives ≡ true → row.spec.codec ≡ AmrWb → row.locked ≡ true) → may_leave receives row ≡ false
-may_leave-false receives row h = go (is_amr_wb row.spec.codec) refl row.locked refl receives refl where
-  go : (a : Bool) → is_amr_wb row.spec.codec ≡ a → (l : Bool) → row.locked ≡ l → (r : Bool) → receives ≡ r → (a && (not l && r)) ≡ false
-  go false ea l el r er = refl
-  go true ea true el r er = refl
-  go true ea false el false er = refl
-  go true ea false el true er = absurd (true≢false (sym (h er (amr_wb_from row.spec.codec ea)) ∙ el))
+may_leave-false receives row h = grind arith
 
 points-score : (taken : TypeSet) (receives : Bool) (row theirs : PayloadParams) → may_leave receives row ≡ false → points_for taken receives row theirs ≡ score row.spec theirs.spec
 unfolding points_for
-points-score taken receives row theirs h = ap (λ b. cond b None (score row.spec theirs.spec)) (and_more (is_amr_wb row.spec.codec) (not row.locked) receives (taken theirs.pt) h) where
-  and_more : (a b c d : Bool) → (a && (b && c)) ≡ false → (a && (b && (c && d))) ≡ false
-  and_more false b c d e = refl
-  and_more true false c d e = refl
-  and_more true true false d e = refl
-  and_more true true true d e = absurd (true≢false e)
+points-score taken receives row theirs h = grind arith
 
 pub some_score : (taken : TypeSet) (receives : Bool) (row theirs : PayloadParams) (n : ℕ) → points_for taken receives row theirs ≡ Some n → score row.spec theirs.spec ≢ None
 unfolding points_for
-some_score taken receives row theirs n h = go (is_amr_wb row.spec.codec && (not row.locked && (receives && taken theirs.pt))) h where
-  none_some : ◌≡◌ {A = Option ℕ} None (Some n) → ⊥
-  none_some e = cc
-
-  go : (b : Bool) → cond b None (score row.spec theirs.spec) ≡ Some n → score row.spec theirs.spec ≢ None
-  go true e = absurd (none_some e)
-  go false e = λ none. none_some (sym none ∙ e)
+some_score taken receives row theirs n h = grind arith
 
 -- ---- each matched row is locked
 
 chosen_locks : (taken unlocked : TypeSet) (remote : List PayloadParams) (receives : Bool) (row new : PayloadParams) (choice : Option PayloadParams) → IsChoice (points_for taken receives row) remote choice → placed taken unlocked receives row choice ≡ Ok new
     → row.locked ≡ false → IsMatched remote row → may_leave receives row ≡ false → new.locked ≡ true
-chosen_locks taken unlocked remote receives row new None none h l m a =
-    absurd (m.2 (sym (points-score taken receives row m.0 a) ∙ All-contains (λ theirs. points_for taken receives row theirs ≡ None) remote m.0 none m.1))
-chosen_locks taken unlocked remote receives row new (Some c) best h l m a = locked_to-locks taken unlocked receives row c new (sym (placed-open_row taken unlocked receives row c l) ∙ h)
+chosen_locks taken unlocked remote receives row new choice none h l m a = grind (arith, points-score, locked_to-locks, placed-open_row)
 
 -- after a round each row that a remote row matches is locked
 pub matched_are_locked : (before remote : List PayloadParams) (receives : Bool) (after : List PayloadParams) → Leaves before remote receives after → MatchedAreLocked remote receives before after
@@ -78,17 +54,11 @@ matched_are_locked before remote receives after r i old new at_old at_new m amr 
 
 role-received : (taken unlocked : TypeSet) (asked : ℕ) (own : Option ℕ) (t : ℕ) → role_type taken unlocked true asked own ≡ Ok t → asked ≡ t
 unfolding role_type
-role-received taken unlocked asked own t h = go (taken asked) h where
-  go : (b : Bool) → cond b (Err (ClaimedTwice asked)) (Ok asked) ≡ Ok t → asked ≡ t
-  go true k = absurd (not_ok k)
-  go false k = same_Ok asked t k
+role-received taken unlocked asked own t h = grind arith
 
 rtx-received : (taken unlocked : TypeSet) (asked own new : Option ℕ) → rtx_type taken unlocked true asked own ≡ Ok new → asked ≡ new
 unfolding rtx_type
-rtx-received taken unlocked None own new h = same_Ok None new h
-rtx-received taken unlocked (Some asked) own new h =
-    let got = and_then-ok (role_type taken unlocked true asked own) (λ t. Ok (Some t)) new h in
-    ap (λ t. Some t) (role-received taken unlocked asked own got.0 got.1) ∙ same_Ok (Some got.0) new got.2
+rtx-received taken unlocked asked own new h = grind (arith, same_Ok, and_then-ok, role-received)
 
 -- what is said of a newly locked row
 abbrev AtBest : List PayloadParams → PayloadParams → PayloadParams → Type 0
@@ -98,7 +68,7 @@ AtBest remote old new =
 
 placed-at_best : (taken unlocked : TypeSet) (remote : List PayloadParams) (row new : PayloadParams) (choice : Option PayloadParams) → IsChoice (points_for taken true row) remote choice → placed taken unlocked true row choice ≡ Ok new
     → row.locked ≡ false → new.locked ≡ true → AtBest remote row new
-placed-at_best taken unlocked remote row new None none h l k = absurd (true≢false (sym k ∙ ap (λ r. r.locked) (sym (placed-no_choice taken unlocked true row new h)) ∙ l))
+placed-at_best taken unlocked remote row new None none h l k = grind (arith, placed-no_choice)
 placed-at_best taken unlocked remote row new (Some c) best h l k =
     let parts = locked_parts taken unlocked true row c new (sym (placed-open_row taken unlocked true row c l) ∙ h) in
     let primary : new.pt ≡ c.pt = ap (λ r. r.pt) (sym parts.all) ∙ sym (role-received taken unlocked c.pt (Some row.pt) parts.pt parts.pt_is) in

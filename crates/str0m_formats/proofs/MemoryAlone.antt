@@ -1,7 +1,6 @@
 -- When a round is refused for want of memory alone.
-use Rattle.str0m_formats.proofs.Common.{◌≡◌, ◌≤◌, inl, inr, Bool, false, List, ◌++◌, length, Ok, Err, refl, sym, ◌∙◌, true≢false}
+use Rattle.str0m_formats.proofs.Common.{arith, ◌≡◌, ◌≤◌, inl, inr, Bool, false, List, ◌++◌, length, sym, ◌∙◌, true≢false}
 use Rattle.str0m_formats.specs.declared.negotiation_error.NegotiationError.{NegotiationError}
-use Rattle.str0m_formats.specs.declared.negotiation_error.NegotiationError.TheVariants.{TypeTooLarge, ClaimedTwice, Exhausted, Memory}
 use Rattle.str0m_formats.specs.declared.payload_params.PayloadParams.{PayloadParams}
 use Rattle.str0m_formats.specs.Rows.{types, locked_types}
 use Rattle.str0m_formats.specs.Rounds.{Refused}
@@ -20,8 +19,4 @@ never_refused before remote receives few bounds is_false cause f = go (few_refus
 
 -- so it is refused for memory alone
 pub only_for_memory : (before remote : List PayloadParams) (receives : Bool) (outcome : Outcome) (after : List PayloadParams) → length before ≤ 14 → KeepsBounds before remote → receives ≡ false → Ran before remote receives outcome after → OnlyForMemory outcome
-only_for_memory before remote receives (Ok done) after few bounds is_false ran = tt
-only_for_memory before remote receives (Err Memory) after few bounds is_false ran = refl
-only_for_memory before remote receives (Err (TypeTooLarge t)) after few bounds is_false ran = absurd (never_refused before remote receives few bounds is_false (TypeTooLarge t) ran.0)
-only_for_memory before remote receives (Err (ClaimedTwice t)) after few bounds is_false ran = absurd (never_refused before remote receives few bounds is_false (ClaimedTwice t) ran.0)
-only_for_memory before remote receives (Err Exhausted) after few bounds is_false ran = absurd (never_refused before remote receives few bounds is_false Exhausted ran.0)
+only_for_memory before remote receives outcome after few bounds is_false ran = grind (arith, never_refused)

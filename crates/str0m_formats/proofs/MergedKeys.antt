@@ -1,5 +1,5 @@
 -- Merged pairs have keys in lower case, each once; and pairs that have are merged already.
-use Rattle.str0m_formats.proofs.Common.{◌≡◌, ℕ, false, not, List, [], ◌∷◌, ◌++◌, map, refl, sym, ap, ◌∙◌, subst, inl, inr, AllByRecursion, keys_of, bytes_eq, str_to_ascii_lowercase, cases_Bool, false≢true, false_from_ne_true, append_assoc, append-nil, IsDistinct-cons, IsDistinct-head, IsDistinct-tail, bytes_eq-Decides, insert_entry, insert_all, insert_entry-absent}
+use Rattle.str0m_formats.proofs.Common.{rules, arith, ◌≡◌, ℕ, false, not, List, [], ◌∷◌, ◌++◌, map, refl, sym, ap, ◌∙◌, inl, inr, AllByRecursion, keys_of, bytes_eq, str_to_ascii_lowercase, cases_Bool, false_from_ne_true, append_assoc, append-nil, IsDistinct-cons, IsDistinct-head, IsDistinct-tail, bytes_eq-Decides, insert_entry, insert_all, insert_entry-absent}
 use Rattle.std.specs.List.{IsDistinct}
 use Rattle.std.proofs.lemmas.Map.Made.{IsDistinct-keys_filter}
 use Rattle.std.proofs.lemmas.Str.Ascii.{lowercase-lowercase}
@@ -22,19 +22,14 @@ AreApart pairs = IsDistinct bytes_eq (keys_of pairs)
 -- ---- keys that differ
 
 turned : (a b : List ℕ) → bytes_eq a b ≡ false → bytes_eq b a ≡ false
-turned a b other = false_from_ne_true (bytes_eq b a) (λ same.
-    false≢true (sym other ∙ (bytes_eq-Decides a b).1 (sym ((bytes_eq-Decides b a).0 same))))
+turned a b other = grind (arith, false_from_ne_true, bytes_eq-Decides)
 
 -- ---- what merging leaves
 
 inserted_all : (P : List ℕ → Type 0) (es : Pairs) (k v : List ℕ) → AllByRecursion P (keys_of es) → P k
     → AllByRecursion P (keys_of (insert_entry bytes_eq es k v))
 inserted_all P [] k v all own = (own, tt)
-inserted_all P (e ∷ es) k v all own =
-    elim (cases_Bool (bytes_eq k e.0)) [
-      | inl same ↦ rw same all
-      | inr other ↦ rw other (all.0, inserted_all P es k v all.1 own)
-    ]
+inserted_all P (e ∷ es) k v all own = grind (arith, cases_Bool, inserted_all P es k v all.1 own)
 
 inserted_apart : (es : Pairs) (k v : List ℕ) → AreApart es → AreApart (insert_entry bytes_eq es k v)
 inserted_apart [] k v apart = IsDistinct-cons bytes_eq k [] tt apart
@@ -50,8 +45,7 @@ inserted_apart (e ∷ es) k v apart =
 all_inserted : (es xs : Pairs) → AreApart es → AreLow es → AreLow xs
     → AreApart (insert_all bytes_eq es xs) × AreLow (insert_all bytes_eq es xs)
 all_inserted es [] apart low lows = (apart, low)
-all_inserted es (x ∷ xs) apart low lows =
-    all_inserted (insert_entry bytes_eq es x.0 x.1) xs (inserted_apart es x.0 x.1 apart) (inserted_all IsLow es x.0 x.1 low lows.0) lows.1
+all_inserted es (x ∷ xs) apart low lows = search (rules, all_inserted (insert_entry bytes_eq es x.0 x.1) xs, inserted_apart, inserted_all)
 
 abbrev lowered : List (List ℕ × List ℕ) → List (List ℕ × List ℕ)
 lowered pairs = map (λ pair. (str_to_ascii_lowercase pair.0, pair.1)) pairs
@@ -72,22 +66,14 @@ merged_apart pairs = all_inserted [] (lowered pairs) tt tt (lowered_low pairs)
 
 pub others_all : (P : List ℕ → Type 0) (pairs : List (List ℕ × List ℕ)) → AllByRecursion P (keys_of pairs) → AllByRecursion P (keys_of (others pairs))
 others_all P [] all = tt
-others_all P (pair ∷ pairs) all =
-    elim (cases_Bool (is_part pair.0)) [
-      | inl part ↦ rw part (others_all P pairs all.1)
-      | inr other ↦ rw other (all.0, others_all P pairs all.1)
-    ]
+others_all P (pair ∷ pairs) all = grind (arith, cases_Bool, others_all P pairs all.1)
 
 pub others_apart : (pairs : List (List ℕ × List ℕ)) → AreApart pairs → AreApart (others pairs)
 others_apart pairs apart = IsDistinct-keys_filter bytes_eq (λ pair. not (is_part pair.0)) pairs apart
 
 pub others_other : (pairs : List (List ℕ × List ℕ)) → AllByRecursion (λ k. is_part k ≡ false) (keys_of (others pairs))
 others_other [] = tt
-others_other (pair ∷ pairs) =
-    elim (cases_Bool (is_part pair.0)) [
-      | inl part ↦ rw part (others_other pairs)
-      | inr other ↦ rw other (other, others_other pairs)
-    ]
+others_other (pair ∷ pairs) = grind (arith, cases_Bool, others_other pairs)
 
 -- pairs none of which is a part stay
 pub others_same : (pairs : List (List ℕ × List ℕ)) → AllByRecursion (λ k. is_part k ≡ false) (keys_of pairs) → others pairs ≡ pairs
@@ -110,10 +96,7 @@ absent (x ∷ xs) ys y apart = (
 
 all_kept : (done xs : Pairs) → AreApart (done ++ xs) → insert_all bytes_eq done xs ≡ done ++ xs
 all_kept done [] apart = sym (append-nil done)
-all_kept done (x ∷ xs) apart =
-    ap (λ (es : List (List ℕ × List ℕ)). insert_all bytes_eq es xs) (insert_entry-absent bytes_eq x.0 x.1 done (absent done xs x apart))
-    ∙ all_kept (done ++ (x ∷ [])) xs (subst AreApart (sym (append_assoc done (x ∷ []) xs)) apart)
-    ∙ append_assoc done (x ∷ []) xs
+all_kept done (x ∷ xs) apart = grind (arith, insert_entry-absent, absent, all_kept (done ++ (x ∷ [])) xs, append_assoc)
 
 lowered_same : (pairs : Pairs) → AreLow pairs → lowered pairs ≡ pairs
 lowered_same [] low = refl

@@ -1,5 +1,5 @@
 -- The modes of a text are the bits of its mask.
-use Rattle.str0m_formats.proofs.Common.{◌≡◌, ◌<◌, ◌^◌, ◌*◌, ◌%◌, ◌⊎◌, inl, inr, ℕ, List, [], ◌∷◌, ◌++◌, ◌==◌, length, get_or, Some, None, Option, sym, ap, ◌∙◌, arith, subst, bit_at, cases_lt, eqb_tells, and_pow, bit_at-lt, bit_at_set_same, bit_at_set_other, same_from_bits, bit_at-zero, length-append, All-push, IsTheOnly, num_only, ◌>>=◌, num, trim, slice_split, append_assoc, append-nil}
+use Rattle.str0m_formats.proofs.Common.{◌≡◌, ◌<◌, ◌^◌, ◌*◌, ◌%◌, ◌⊎◌, inl, inr, ℕ, List, [], ◌∷◌, ◌++◌, ◌==◌, length, get_or, Some, None, Option, sym, ap, ◌∙◌, arith, subst, bit_at, cases_lt, eqb_tells, and_pow, bit_at-lt, bit_at_set_same, bit_at_set_other, same_from_bits, length-append, All-push, IsTheOnly, num_only, ◌>>=◌, num, trim, slice_split, append_assoc, append-nil}
 use Rattle.std.proofs.Common.{Any}
 use Rattle.std.specs.Int.Bits.{bit_or}
 use Rattle.std.specs.Int.{IsBitSet, w16}
@@ -26,28 +26,17 @@ Any-cases P xs y (k, x, lt, is, p) =
     ]
 
 pub bit_set_at : (n k : ℕ) → IsBitSet n k → bit_at n k ≡ 1
-bit_set_at n k h =
-    elim (cases_lt (bit_at n k) 1) [
-      | inl below ↦
-          (let zero : bit_at n k ≡ 0 = omega arith in
-          absurd (h (and_pow n k ∙ ap (λ b. b * 2 ^ k) zero ∙ omega arith)))
-      | inr above ↦ omega (arith, bit_at-lt n k)
-    ]
+bit_set_at n k h = grind (arith, cases_lt, and_pow, bit_at-lt)
 
 pub bit_at_set : (n k : ℕ) → bit_at n k ≡ 1 → IsBitSet n k
-bit_at_set n k h = λ clear.
-    let zero : 1 * 2 ^ k ≡ 0 = sym (ap (λ b. b * 2 ^ k) h) ∙ sym (and_pow n k) ∙ clear in
-    omega (arith, pow_pos k)
+bit_at_set n k h = grind (arith, and_pow, pow_pos)
 
 -- a piece names one mode
 pub mode_same : (piece : List ℕ) (m n : ℕ) → IsMode piece m → IsMode piece n → m ≡ n
 mode_same piece m n a b = sym a.value ∙ b.value
 
 pub mask_none : IsMask [] 0
-mask_none = record {
-  modes = λ k d lt. absurd (omega arith);
-  bits = λ mode. (λ set. absurd (set (and_pow 0 mode ∙ ap (λ b. b * 2 ^ mode) (bit_at-zero mode) ∙ omega arith)), λ any. absurd (omega (arith, any.2)));
-}
+mask_none = grind arith
 
 pub mask_push : (pieces : List (List ℕ)) (piece : List ℕ) (mask mode : ℕ) → IsMask pieces mask → IsMode piece mode → IsMask (pieces ++ piece ∷ []) (bit_or mask (1 * 2 ^ mode % 2 ^ 16))
 mask_push pieces piece mask mode h is_mode = record {

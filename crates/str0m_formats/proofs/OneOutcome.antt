@@ -1,12 +1,12 @@
 -- A round has one outcome: one list of rows, or one cause.
-use Rattle.str0m_formats.proofs.Common.{◌≡◌, ◌==◌, ℕ, ◌<◌, ◌≤◌, ◌⊎◌, inl, inr, Bool, true, cond, find, nat_lt, List, [], ◌∷◌, ◌++◌, length, take, Option, Some, None, Result, Ok, Err, IfSome, All, refl, sym, ap, ◌∙◌, subst, arith, slice_get, slice_get_within, none-some, same_Some, All-contains, take_all, cases_order, eq-eqb}
+use Rattle.str0m_formats.proofs.Common.{rules, ◌≡◌, ℕ, ◌<◌, ◌≤◌, ◌⊎◌, inl, inr, Bool, true, find, nat_lt, List, [], ◌∷◌, ◌++◌, length, take, Option, Some, None, Result, Ok, Err, IfSome, All, refl, sym, ap, ◌∙◌, subst, arith, slice_get, slice_get_within, none-some, same_Some, All-contains, take_all, cases_order, eq-eqb}
 use Rattle.str0m_formats.specs.declared.negotiation_error.NegotiationError.{NegotiationError}
 use Rattle.str0m_formats.specs.declared.negotiation_error.NegotiationError.TheVariants.{TypeTooLarge, ClaimedTwice}
 use Rattle.str0m_formats.specs.declared.payload_params.PayloadParams.{PayloadParams}
 use Rattle.str0m_formats.specs.TypeSets.{TypeSet, has, times, AllDistinct}
 use Rattle.str0m_formats.specs.Rows.{AllSmall, types, locked_types, open_types}
-use Rattle.str0m_formats.specs.Choices.{IsChoice, points_for}
-use Rattle.str0m_formats.specs.Rounds.{taken_by, taken_after, settled, placed, Becomes, MayBegin, AllBegun, Settled, StopsFirst, StopsSettling, StopsSecond, Leaves, IsFirstRepeat, LeavesOnly, RefusedOnly, Refused, too_large, twice_before, in_first, in_second}
+use Rattle.str0m_formats.specs.Choices.{IsChoice}
+use Rattle.str0m_formats.specs.Rounds.{taken_by, taken_after, settled, Becomes, MayBegin, AllBegun, Settled, StopsFirst, StopsSettling, StopsSecond, Leaves, IsFirstRepeat, LeavesOnly, RefusedOnly, Refused}
 use Rattle.str0m_formats.proofs.Passes.{EachPlace, split_has, each_same, none_within}
 use Rattle.str0m_formats.proofs.FirstPass.{same_Ok, same_Err}
 use Rattle.str0m_formats.proofs.Times.{times-append, times-cons, times-some}
@@ -16,23 +16,9 @@ use Rattle.str0m_formats.proofs.Times.{times-append, times-cons, times-some}
 pub split_order : {A : Type 0} (xs zs : List A) (a b : A) (ys us : List A) → xs ++ a ∷ ys ≡ zs ++ b ∷ us
     → ((xs ≡ zs) × (a ≡ b)) ⊎ (((w : List A) × (zs ≡ xs ++ a ∷ w) × (ys ≡ w ++ b ∷ us)) ⊎ ((w : List A) × (xs ≡ zs ++ b ∷ w) × (us ≡ w ++ a ∷ ys)))
 split_order [] [] a b ys us h = inl (refl, cc)
-split_order {A} [] (z ∷ zs) a b ys us h =
-    let first : a ≡ z = cc in
-    let rest : ys ≡ zs ++ b ∷ us = cc in
-    inr (inl (zs, ap (λ x. x ∷ zs) (sym first), rest))
-split_order {A} (x ∷ xs) [] a b ys us h =
-    let first : x ≡ b = cc in
-    let rest : xs ++ a ∷ ys ≡ us = cc in
-    inr (inr (xs, ap (λ z. z ∷ xs) first, sym rest))
-split_order {A} (x ∷ xs) (z ∷ zs) a b ys us h =
-    let first : x ≡ z = cc in
-    let rest : xs ++ a ∷ ys ≡ zs ++ b ∷ us = cc in
-    go first (split_order xs zs a b ys us rest) where
-      go : x ≡ z → ((xs ≡ zs) × (a ≡ b)) ⊎ (((w : List A) × (zs ≡ xs ++ a ∷ w) × (ys ≡ w ++ b ∷ us)) ⊎ ((w : List A) × (xs ≡ zs ++ b ∷ w) × (us ≡ w ++ a ∷ ys)))
-          → ((x ∷ xs ≡ z ∷ zs) × (a ≡ b)) ⊎ (((w : List A) × (z ∷ zs ≡ x ∷ xs ++ a ∷ w) × (ys ≡ w ++ b ∷ us)) ⊎ ((w : List A) × (x ∷ xs ≡ z ∷ zs ++ b ∷ w) × (us ≡ w ++ a ∷ ys)))
-      go f (inl s) = inl (cc, s.1)
-      go f (inr (inl s)) = inr (inl (s.0, cc, s.2))
-      go f (inr (inr s)) = inr (inr (s.0, cc, s.2))
+split_order {A} [] (z ∷ zs) a b ys us h = grind arith
+split_order {A} (x ∷ xs) [] a b ys us h = grind arith
+split_order {A} (x ∷ xs) (z ∷ zs) a b ys us h = grind (arith, split_order xs zs a b ys us)
 
 all_at_split : {A : Type 0} (P : A → Type 0) (zs xs : List A) (y : A) (ys : List A) → zs ≡ xs ++ y ∷ ys → All P zs → P y
 all_at_split P zs xs y ys e all = All-contains P zs y all (split_has zs xs y ys e)
@@ -61,8 +47,7 @@ choice_unique points rows (Some a) (Some b) ha hb = go (split_order ha.before hb
       absurd (omega (arith, less, most))
 
 becomes_unique : (taken unlocked : TypeSet) (remote : List PayloadParams) (receives : Bool) (row : PayloadParams) (x y : Result PayloadParams NegotiationError) → Becomes taken unlocked remote receives row x → Becomes taken unlocked remote receives row y → x ≡ y
-becomes_unique taken unlocked remote receives row x y hx hy =
-    sym hx.placed_so ∙ ap (placed taken unlocked receives row) (choice_unique (points_for taken receives row) remote hx.choice hy.choice hx.is_choice hy.is_choice) ∙ hy.placed_so
+becomes_unique taken unlocked remote receives row x y hx hy = grind (arith, choice_unique)
 
 -- ---- one end of a pass
 
@@ -118,12 +103,11 @@ second_one : (unlocked : TypeSet) (mid : List PayloadParams) (d : List PayloadPa
 second_one unlocked mid d r x y hx hy = sym hx ∙ hy
 
 mid_unique : (before remote : List PayloadParams) (receives : Bool) (a b : List PayloadParams) → AllBegun before remote receives a → AllBegun before remote receives b → a ≡ b
-mid_unique before remote receives a b ha hb = whole_unique (First before remote receives) (first_one before remote receives) before a b ha.begun.each hb.begun.each ha.whole hb.whole
+mid_unique before remote receives a b ha hb = search (rules, whole_unique (First before remote receives), first_one before remote receives)
 
 -- the same second pass stops, over the rows that the first pass leaves
 stops_over : (before remote : List PayloadParams) (receives : Bool) (a b : List PayloadParams) (cause : NegotiationError) → AllBegun before remote receives a → AllBegun before remote receives b → StopsSettling (has (open_types before)) b cause → StopsSettling (has (open_types before)) a cause
-stops_over before remote receives a b cause ha hb s =
-    let P : List PayloadParams → Type 0 = λ m. StopsSettling (has (open_types before)) m cause in subst P (mid_unique before remote receives b a hb ha) s
+stops_over before remote receives a b cause ha hb s = grind (arith, mid_unique before remote receives b a hb ha)
 
 pub round_unique : (before remote : List PayloadParams) (receives : Bool) (x y : List PayloadParams) → Leaves before remote receives x → Leaves before remote receives y → x ≡ y
 round_unique before remote receives x y hx hy =
@@ -134,9 +118,7 @@ round_unique before remote receives x y hx hy =
 
 -- a list without repeats has no first repeat, and a list has one at most
 twice_there : (seen rest : List ℕ) (t : ℕ) → has seen t ≡ true → 2 ≤ times (seen ++ t ∷ rest) t
-twice_there seen rest t h =
-    let one : cond {A = ℕ} (t == t) 1 0 ≡ 1 = ap (λ b. cond {A = ℕ} b 1 0) (eq-eqb t t refl) in
-    omega (arith, times-append seen (t ∷ rest) t, times-cons t rest t, one, times-some seen t h)
+twice_there seen rest t h = grind (arith, eq-eqb t t, times-append seen (t ∷ rest) t, times-cons t rest t, times-some seen t h)
 
 pub repeat_not_once : (xs : List ℕ) (t : ℕ) → AllDistinct xs → IsFirstRepeat xs t → ⊥
 repeat_not_once xs t d r =
@@ -144,11 +126,8 @@ repeat_not_once xs t d r =
     let again : 2 ≤ times xs t = subst At (sym r.split) (twice_there r.seen r.rest t r.again) in omega (arith, d t, again)
 
 repeat_unique : (xs : List ℕ) (s t : ℕ) → IsFirstRepeat xs s → IsFirstRepeat xs t → s ≡ t
-repeat_unique xs s t hs ht = go (split_order hs.seen ht.seen s t hs.rest ht.rest (sym hs.split ∙ ht.split)) where
-  go : ((hs.seen ≡ ht.seen) × (s ≡ t)) ⊎ (((w : List ℕ) × (ht.seen ≡ hs.seen ++ s ∷ w) × (hs.rest ≡ w ++ t ∷ ht.rest)) ⊎ ((w : List ℕ) × (hs.seen ≡ ht.seen ++ t ∷ w) × (ht.rest ≡ w ++ s ∷ hs.rest))) → s ≡ t
-  go (inl e) = e.1
-  go (inr (inl e)) = absurd (repeat_not_once ht.seen s ht.distinct (record { seen = hs.seen; rest = e.0; split = e.1; distinct = hs.distinct; again = hs.again }))
-  go (inr (inr e)) = absurd (repeat_not_once hs.seen t hs.distinct (record { seen = ht.seen; rest = e.0; split = e.1; distinct = ht.distinct; again = ht.again }))
+repeat_unique xs s t hs ht =
+    grind (arith, split_order hs.seen ht.seen s t hs.rest ht.rest, repeat_not_once ht.seen s ht.distinct, repeat_not_once hs.seen t hs.distinct)
 
 -- the four kinds of causes keep apart
 abbrev pub HasLarge : List PayloadParams → List PayloadParams → NegotiationError → Type 0
@@ -161,10 +140,7 @@ abbrev pub Cases : List PayloadParams → List PayloadParams → Bool → Negoti
 Cases before remote receives cause = HasLarge before remote cause ⊎ (HasRepeat before remote cause ⊎ (StopsFirst before remote receives cause ⊎ StopsSecond before remote receives cause))
 
 pub cases_of : (before remote : List PayloadParams) (receives : Bool) (cause : NegotiationError) → Refused before remote receives cause → Cases before remote receives cause
-cases_of before remote receives cause (too_large t h) = inl (t, h, refl)
-cases_of before remote receives cause (twice_before t s h) = inr (inl (t, s, h, refl))
-cases_of before remote receives cause (in_first c h) = inr (inr (inl h))
-cases_of before remote receives cause (in_second c h) = inr (inr (inr h))
+cases_of before remote receives cause o = grind arith
 
 pub large_or_small : (xs : List ℕ) (t : ℕ) → find (nat_lt 127) xs ≡ Some t → AllSmall xs → ⊥
 large_or_small xs t h s = none-some t (sym s ∙ h)
@@ -213,7 +189,7 @@ refused_unique before remote receives x y fx fy = go (cases_of before remote rec
       stops_unique (Second u a.mid) (second_one u a.mid) a.mid a.second.done s.done a.second.row s.row x y a.second.before_it.each a.second.before_it.within a.second.next a.second.stops s.before_it.each s.before_it.within s.next s.stops
 
 pub leaves_only : (before remote : List PayloadParams) (receives : Bool) (after : List PayloadParams) → Leaves before remote receives after → LeavesOnly before remote receives after
-leaves_only before remote receives after r = (λ other h. round_unique before remote receives other after h r, λ cause h. round_not_refused before remote receives after cause r h)
+leaves_only before remote receives after r = search (rules, round_unique, round_not_refused)
 
 pub refused_only : (before remote : List PayloadParams) (receives : Bool) (cause : NegotiationError) → Refused before remote receives cause → RefusedOnly before remote receives cause
-refused_only before remote receives cause f = (λ other h. refused_unique before remote receives other cause h f, λ after h. round_not_refused before remote receives after cause h f)
+refused_only before remote receives cause f = search (rules, refused_unique, round_not_refused)

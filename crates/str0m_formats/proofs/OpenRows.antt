@@ -1,34 +1,27 @@
 -- How often a type stands in a row that stays open.
-use Rattle.str0m_formats.proofs.Common.{◌≡◌, ◌==◌, ℕ, ◌+◌, ◌≤◌, ◌⊎◌, inl, inr, Bool, true, false, ◌||◌, cond, [], ◌∷◌, ◌++◌, Option, Some, None, refl, sym, ap, ◌∙◌, subst, arith, option_to_list, true≢false, cases_Bool, or_parts, or_left, eqb-true, false_from_ne_true}
-use Rattle.std.proofs.lemmas.Bool.{or_from}
+use Rattle.str0m_formats.proofs.Common.{◌≡◌, ℕ, ◌+◌, ◌≤◌, ◌⊎◌, inl, inr, Bool, true, false, cond, [], ◌∷◌, ◌++◌, Option, Some, None, refl, sym, ap, ◌∙◌, subst, arith, option_to_list, cases_Bool, or_parts, or_left}
 use Rattle.str0m_formats.specs.declared.payload_params.PayloadParams.{PayloadParams}
 use Rattle.str0m_formats.specs.TypeSets.{TypeSet, with_type, with_option, either, free, times}
 use Rattle.str0m_formats.specs.Rows.{types_of}
 use Rattle.str0m_formats.specs.Rounds.{kept_red}
 use Rattle.str0m_formats.proofs.Sets.{free-small}
-use Rattle.str0m_formats.proofs.Times.{times-append, times-cons, times-nil, times-none}
+use Rattle.str0m_formats.proofs.Times.{times-nil}
 use Rattle.str0m_formats.proofs.SecondPass.{SettledParts, new_red, new_resend, with_red}
 
 -- ---- one role
 
 -- a type that a set has isn't one that it hasn't
 none-other : (set : TypeSet) (x t : ℕ) → set x ≡ false → set t ≡ true → times (x ∷ []) t ≡ 0
-none-other set x t hx ht = times-none (x ∷ []) t (or_from (x == t) false (false_from_ne_true (x == t) (λ e. true≢false (sym ht ∙ ap set (sym (eqb-true x t e)) ∙ hx))) refl)
+none-other set x t hx ht = grind arith
 
 -- a type in use is given to none
 given-none : (used : TypeSet) (t : ℕ) → used t ≡ true → times (option_to_list (free used)) t ≡ 0
-given-none used t h = go (free used) refl where
-  go : (o : Option ℕ) → free used ≡ o → times (option_to_list o) t ≡ 0
-  go None e = times-nil t
-  go (Some x) e = none-other used x t (free-small used x e).1 h
+given-none used t h = grind (arith, times-nil, none-other, free-small)
 
 -- a type in use is there after a role is settled only where it was there before
 kept-held : (locked taken unlocked : TypeSet) (own : Option ℕ) (t : ℕ) → either taken unlocked t ≡ true → times (option_to_list (kept_red locked taken unlocked own)) t ≤ times (option_to_list own) t
 kept-held locked taken unlocked None t h = omega arith
-kept-held locked taken unlocked (Some x) t h = go (locked x) where
-  go : (b : Bool) → times (option_to_list (cond b (free (either taken unlocked)) (Some x))) t ≤ times (x ∷ []) t
-  go true = omega (arith, given-none (either taken unlocked) t h)
-  go false = omega arith
+kept-held locked taken unlocked (Some x) t h = grind (arith, given-none (either taken unlocked) t h)
 
 -- a type of a locked row isn't there
 kept-apart : (locked taken unlocked : TypeSet) (own : Option ℕ) (t : ℕ) → locked t ≡ true → either taken unlocked t ≡ true → times (option_to_list (kept_red locked taken unlocked own)) t ≡ 0
@@ -40,33 +33,23 @@ kept-apart locked taken unlocked (Some x) t l h = go (locked x) refl where
 
 -- a role has a type at most once
 one_role : (o : Option ℕ) (t : ℕ) → times (option_to_list o) t ≤ 1
-one_role None t = omega (arith, times-nil t)
-one_role (Some x) t = go (x == t) (times-cons x [] t) where
-  go : (b : Bool) → times (x ∷ []) t ≡ cond {A = ℕ} b 1 0 + times [] t → times (x ∷ []) t ≤ 1
-  go true e = omega (arith, e, times-nil t)
-  go false e = omega (arith, e, times-nil t)
+one_role o t = grind arith
 
 -- a type that a set doesn't have once a role's type is in it isn't that type
 role-apart : (set : TypeSet) (o : Option ℕ) (t : ℕ) → with_option set o t ≡ false → times (option_to_list o) t ≡ 0
-role-apart set None t h = times-nil t
-role-apart set (Some x) t h = times-none (x ∷ []) t (or_from (x == t) false (or_parts (set t) (x == t) h).1 refl)
+role-apart set o t h = grind arith
 
 times-roles : (p : ℕ) (x r : Option ℕ) (t : ℕ) → times (p ∷ (option_to_list x ++ option_to_list r)) t ≡ times (p ∷ []) t + times (option_to_list x) t + times (option_to_list r) t
-times-roles p x r t = omega (arith, times-append (p ∷ []) (option_to_list x ++ option_to_list r) t, times-append (option_to_list x) (option_to_list r) t)
+times-roles p x r t = grind arith
 
 wider : (taken unlocked : TypeSet) (o : Option ℕ) (t : ℕ) → either taken unlocked t ≡ true → either (with_option taken o) unlocked t ≡ true
-wider taken unlocked None t h = h
-wider taken unlocked (Some x) t h = go (taken t) (x == t) (unlocked t) h where
-  go : (a b c : Bool) → (a || c) ≡ true → ((a || b) || c) ≡ true
-  go true b c e = refl
-  go false true c e = refl
-  go false false c e = e
+wider taken unlocked o t h = grind arith
 
 -- ---- a row, role by role
 
 times-settled : (locked taken unlocked : TypeSet) (row new : PayloadParams) (parts : SettledParts locked taken unlocked row new) (t : ℕ)
     → times (types_of new) t ≡ times (parts.pt ∷ []) t + times (option_to_list (new_resend locked taken unlocked row parts.pt)) t + times (option_to_list (new_red locked taken unlocked row parts.pt)) t
-times-settled locked taken unlocked row new parts t = ap (λ r. times (types_of r) t) (sym parts.all) ∙ times-roles parts.pt (new_resend locked taken unlocked row parts.pt) (new_red locked taken unlocked row parts.pt) t
+times-settled locked taken unlocked row new parts t = grind arith
 
 -- a type in use stands in it no more often than before
 pub row-held : (locked taken unlocked : TypeSet) (row new : PayloadParams) → SettledParts locked taken unlocked row new → (t : ℕ) → either taken unlocked t ≡ true → times (types_of new) t ≤ times (types_of row) t

@@ -1,5 +1,5 @@
 -- What pairs were read as prints as pairs that are read as the same, but for what prints nothing.
-use Rattle.str0m_formats.proofs.Common.{◌≡◌, ◌≢◌, ◌≤◌, ℕ, Bool, true, false, List, [], ◌∷◌, ◌++◌, length, map, filter, Some, refl, sym, ap, ◌∙◌, subst, arith, lit<, inl, inr, codes, MatchBool, decimal, AllByRecursion, IsDistinct, cons_option, join_with_byte, keys_of, bytes_eq, lt-ltb, false≢true, false_from_ne_true, append_assoc, IsDistinct-cons, IsDistinct-head, IsDistinct-tail, bytes_eq-Decides, ProfileTierLevel}
+use Rattle.str0m_formats.proofs.Common.{◌≡◌, ◌≢◌, ◌≤◌, ℕ, Bool, true, false, List, [], ◌∷◌, ◌++◌, length, map, filter, Some, refl, sym, ap, ◌∙◌, subst, arith, inl, inr, codes, MatchBool, decimal, AllByRecursion, IsDistinct, cons_option, join_with_byte, keys_of, bytes_eq, lt-ltb, false_from_ne_true, append_assoc, IsDistinct-cons, IsDistinct-head, IsDistinct-tail, bytes_eq-Decides, ProfileTierLevel}
 use Rattle.std.proofs.lemmas.Fmt.{decimal_nonempty}
 use Rattle.str0m_formats.specs.declared.format_param.FormatParam.{FormatParam}
 use Rattle.str0m_formats.specs.declared.format_param.FormatParam.TheVariants.{H265ProfileTierLevel, H266ProfileTierLevel}
@@ -26,17 +26,7 @@ pub record IsPairsLine (shown : List FormatParam) : Type 0 where
 -- ---- parameters of the table alone
 
 keyed_line : (params : List FormatParam) → AreKeyed params → IsPairsLine params
-keyed_line params keyed = record {
-  pairs = map pair_of params;
-  plain = keyed_pairs params keyed;
-  text = ap (join_with_byte 59) (keyed_texts params keyed);
-  read = unmarked (map pair_of params) (keyed_unmarked params keyed) ∙ keyed_params params keyed;
-  some = pairs_too params;
-}
-  where
-    pairs_too : (params : List FormatParam) → params ≢ [] → map pair_of params ≢ []
-    pairs_too [] some e = some refl
-    pairs_too (param ∷ params) some e = absurd cc
+keyed_line params keyed = grind (arith, keyed_pairs, keyed_texts, unmarked, keyed_unmarked, keyed_params)
 
 read_alone : (pairs : List (List ℕ × List ℕ)) (params : List FormatParam) → AreParsed pairs params → IsPairsLine (filter prints params)
 read_alone pairs params are = keyed_line (filter prints params) (shown_keyed pairs params are)
@@ -45,10 +35,7 @@ read_alone pairs params are = keyed_line (filter prints params) (shown_keyed pai
 
 -- what is read of a pair in lower case prints the pair's key
 same_key : (pair : List ℕ × List ℕ) (param : FormatParam) → IsLow pair.0 → IsParsed pair param → IsKeyed param → (pair_of param).0 ≡ pair.0
-same_key pair param low (inl spells) keyed =
-    let made_is = spells.2.1 in
-    ap (λ p. (pair_of p).0) made_is ∙ own_key spells.0 spells.2.0 (subst IsKeyed made_is keyed) ∙ sym (key_unmarked spells.0).1 ∙ sym spells.1 ∙ low
-same_key pair param low (inr unknown) keyed = absurd (subst IsKeyed unknown.1 keyed)
+same_key pair param low o keyed = grind (arith, own_key, key_unmarked)
 
 -- what all keys of pairs have, all keys of what is printed have
 all_keys : (P : List ℕ → Type 0) (pairs : List (List ℕ × List ℕ)) (params : List FormatParam) → AreLow pairs → AreParsed pairs params
@@ -104,12 +91,11 @@ no_part P [] each none = tt
 no_part P (k ∷ ks) each none = (each k none.0, no_part P ks each none.1)
 
 differs : (part k : List ℕ) → is_part part ≡ true → is_part k ≡ false → bytes_eq part k ≡ false
-differs part k is other =
-    false_from_ne_true (bytes_eq part k) (λ same. false≢true (sym other ∙ ap is_part (sym ((bytes_eq-Decides part k).0 same)) ∙ is))
+differs part k is other = grind (arith, false_from_ne_true, bytes_eq-Decides)
 
 part_apart : (part : List ℕ) (params : List FormatParam) → is_part part ≡ true → AreOthers params
     → AllByRecursion (λ k. bytes_eq part k ≡ false) (keys_of (map pair_of params))
-part_apart part params is h = no_part (λ k. bytes_eq part k ≡ false) (keys_of (map pair_of params)) (λ k other. differs part k is other) h.other
+part_apart part params is h = grind (arith, no_part, differs)
 
 whole_apart : (a b c : List ℕ) (params : List FormatParam) → AreOthers params → AreApart (triple_pairs a b c ++ map pair_of params)
 whole_apart a b c params h =
@@ -147,20 +133,12 @@ triple_line q a b c params text plain read h = record {
     pairs = triple_pairs a b c ++ map pair_of params
 
 numbers_plain : (k m n : ℕ) → k ≤ 255 → m ≤ 255 → n ≤ 255 → AllByRecursion IsPlainPair (triple_pairs (decimal k) (decimal m) (decimal n))
-numbers_plain k m n p q r = (
-  (plain_from PROFILE_ID.now refl, decimal_plain k (omega (arith, p)), lit< tt, decimal_nonempty k (omega (arith, p))),
-  (
-    (plain_from TIER_FLAG.now refl, decimal_plain m (omega (arith, q)), lit< tt, decimal_nonempty m (omega (arith, q))),
-    ((plain_from LEVEL_ID.now refl, decimal_plain n (omega (arith, r)), lit< tt, decimal_nonempty n (omega (arith, r))), tt),
-  ),
-)
+numbers_plain k m n p q r = grind (arith, plain_from, decimal_plain, decimal_nonempty)
 
 shown_line : {P T L : Type 0} (tables : Tables P T L) (q : FormatParam) (t : ProfileTierLevel P T L) (params : List FormatParam)
     → param_text q ≡ triple_text (tables.profile_id t.profile) (tables.tier_flag t.tier) (tables.level_id t.level)
     → AreBytes tables t → triple_read (texts_shown tables t) ≡ Some q → AreOthers params → IsPairsLine (q ∷ params)
-shown_line tables q t params text small read h =
-    triple_line q (decimal (tables.profile_id t.profile)) (decimal (tables.tier_flag t.tier)) (decimal (tables.level_id t.level)) params text
-    (numbers_plain _ _ _ small.0 small.1 small.2) read h
+shown_line tables q t params text small read h = grind (arith, triple_line, numbers_plain)
 
 -- ---- all pairs
 
@@ -184,8 +162,7 @@ joined_line pairs params (triple, rest, inl (t, h265, is), are, joined) =
 joined_line pairs params (triple, rest, inr (no_h265, inl (t, h266, is)), are, joined) =
     rw (joined, is, lt-ltb 0 (length (param_text (H266ProfileTierLevel t))) (omega arith))
     (shown_line h266_tables (H266ProfileTierLevel t) t (filter prints rest) refl (h266_small t) (h266_again t) (others_of pairs rest are))
-joined_line pairs params (triple, rest, inr (no_h265, inr (no_h266, is)), are, joined) =
-    rw (joined, is) (read_alone (others (merged pairs)) rest are)
+joined_line pairs params (triple, rest, inr (no_h265, inr (no_h266, is)), are, joined) = grind (arith, read_alone)
 
 pub pairs_again : (pairs : List (List ℕ × List ℕ)) (params : List FormatParam) → AreRead pairs params → IsPairsLine (filter prints params)
 pairs_again pairs params read = go (has_mark pairs) read

@@ -1,5 +1,5 @@
 -- What pairs read as, together.
-use Rattle.str0m_formats.proofs.Common.{◌≡◌, ◌||◌, ℕ, Bool, true, false, cond, List, [], ◌∷◌, map, Option, refl, sym, ap, subst, ◌∙◌, MatchBool, cons_option, list_any, Bor}
+use Rattle.str0m_formats.proofs.Common.{arith, ◌≡◌, ◌||◌, ℕ, Bool, true, false, cond, List, [], ◌∷◌, map, refl, sym, ap, subst, ◌∙◌, MatchBool, list_any, Bor}
 use Rattle.str0m_formats.specs.declared.format_param.FormatParam.{FormatParam}
 use Rattle.str0m_formats.specs.FormatParam.{AreParsed}
 use Rattle.str0m_formats.specs.ParamReading.{param_of}
@@ -14,9 +14,7 @@ joined : (pairs : List (List ℕ × List ℕ)) → AreJoined pairs (joined_read 
 joined pairs = (triple_read (texts_of pairs), map param_of (others pairs), triple_is (texts_of pairs), all_parsed (others pairs), refl)
 
 joined_only : (pairs : List (List ℕ × List ℕ)) (params : List FormatParam) → AreJoined pairs params → params ≡ joined_read pairs
-joined_only pairs params h =
-    h.4 ∙ ap (λ (t : Option FormatParam). cons_option t h.1) (triple_only (texts_of pairs) h.0 h.2)
-    ∙ ap (λ (ps : List FormatParam). cons_option (triple_read (texts_of pairs)) ps) (all_parsed_only (others pairs) h.1 h.3)
+joined_only pairs params h = grind (arith, triple_only (texts_of pairs) h.0 h.2, all_parsed_only (others pairs) h.1 h.3)
 
 -- what is read of pairs is what they stand for
 pub pairs_read_is : (pairs : List (List ℕ × List ℕ)) → AreRead pairs (params_read pairs)

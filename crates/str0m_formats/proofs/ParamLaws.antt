@@ -1,5 +1,5 @@
 -- What a key and its value read as.
-use Rattle.str0m_formats.proofs.Common.{◌≡◌, ℕ, Bool, true, false, List, [], ◌∷◌, map, Option, Some, None, refl, sym, ap, ◌∙◌, inl, inr, codes, unwrap_or, to_ascii_lowercase, bytes_eq, str_eq_ignore_ascii_case, none-some, bytes_eq-Decides, IsTheOnly, ◌>>=◌, when, num_only, num_reads, when_true, some_is, only_read}
+use Rattle.str0m_formats.proofs.Common.{rules, arith, ◌≡◌, ℕ, List, [], ◌∷◌, map, Option, Some, None, refl, sym, ap, ◌∙◌, inl, inr, codes, unwrap_or, to_ascii_lowercase, bytes_eq, none-some, bytes_eq-Decides, IsTheOnly, ◌>>=◌, num_only, num_reads, when_true, some_is, only_read}
 use Rattle.std.specs.Bool.{one_answer}
 use Rattle.std.specs.Prelude.{IfSome, option_map}
 use Rattle.str0m_formats.specs.declared.format_key.FormatKey.{FormatKey}
@@ -13,22 +13,17 @@ use Rattle.str0m_formats.specs.ParamReading.{hex_read, keys, key_read, is_one, k
 use Rattle.str0m_formats.proofs.CodecNames.{same_text}
 use Rattle.str0m_formats.proofs.Lookup.{find_passes, if_some_map, row_at}
 use Rattle.str0m_formats.proofs.Modes.{modes_only}
-use Rattle.str0m_formats.proofs.Only.{mapped}
 use Rattle.str0m_formats.proofs.ParamReadingLaws.{hex_both}
 
 -- ---- keys
 
 -- no two keys have the same text
 key_at-text : (k : FormatKey) → row_at key_text keys (map to_ascii_lowercase (key_text k)) ≡ Some k
-key_at-text key.Apt = refl
-key_at-text k = refl
+key_at-text k = grind arith
 
 pub key_only : (text : List ℕ) → IsTheOnly (λ key. IsSameText text (key_text key)) (key_read text)
 unfolding key_read
-key_only text = record {
-  found = if_some_map {P = λ k. (true ≡ true) × (str_eq_ignore_ascii_case text (key_text k) ≡ true)} {Q = λ k. IsSameText text (key_text k)} _ (find_passes (λ k. true) (λ k. str_eq_ignore_ascii_case text (key_text k)) keys refl) (λ k h. same_text text (key_text k) h.1);
-  only = λ k e. ap (row_at key_text keys) e ∙ key_at-text k;
-}
+key_only text = search (rules, if_some_map, find_passes, same_text, key_at-text)
 
 -- ---- values
 
@@ -46,11 +41,7 @@ kind_sound flag text = bytes_eq-Decides text (codes "1")
 kind_sound (number limit) text = (num_only limit text).found
 kind_sound hex text = (only_read hex_both text (hex_read text) refl).found
 kind_sound modes text = (modes_only text).found
-kind_sound (exactly own) text = asked (bytes_eq text own) refl
-  where
-    asked : (b : Bool) → bytes_eq text own ≡ b → IfSome (when b (tt {0})) (λ x. text ≡ own)
-    asked true e = (bytes_eq-Decides text own).0 e
-    asked false e = tt
+kind_sound (exactly own) text = grind (arith, bytes_eq-Decides)
 kind_sound anything text = tt
 
 -- so does a key
@@ -62,7 +53,7 @@ given : (k : FormatKey) (text : List ℕ) (param : FormatParam) → Holds k text
 given k text param h = by_kind k text ∙ ap (option_map (made k)) (kind_complete (kind k) text h.0 h.2) ∙ ap (λ p. Some p) (sym h.1)
 
 found : (k : FormatKey) (text : List ℕ) (param : FormatParam) → value_read k text ≡ Some param → Holds k text param
-found k text param e = mapped (kind_read (kind k) text) (made k) (Holds k text) param (kind_sound (kind k) text) (sym (by_kind k text) ∙ e) (λ x is. (x, refl, is))
+found k text param e = grind (arith, kind_sound (kind k) text, by_kind k text)
 
 -- ---- pairs
 
@@ -99,7 +90,7 @@ all_parsed (pair ∷ pairs) = (parsed pair.0 pair.1, all_parsed pairs)
 
 pub all_parsed_only : (pairs : List (List ℕ × List ℕ)) (params : List FormatParam) → AreParsed pairs params → params ≡ map param_of pairs
 all_parsed_only [] [] h = refl
-all_parsed_only (pair ∷ pairs) (param ∷ params) h = ap (λ (p : FormatParam). p ∷ params) (parsed_only pair.0 pair.1 param h.0) ∙ ap (λ (ps : List FormatParam). param_of pair ∷ ps) (all_parsed_only pairs params h.1)
+all_parsed_only (pair ∷ pairs) (param ∷ params) h = grind (arith, parsed_only pair.0 pair.1 param h.0, all_parsed_only pairs params h.1)
 all_parsed_only [] (param ∷ params) h = absurd h
 all_parsed_only (pair ∷ pairs) [] h = absurd h
 

@@ -1,5 +1,5 @@
 -- A pass over rows, one row a step.
-use Rattle.str0m_formats.proofs.Common.{zero, suc, ◌≡◌, ℕ, ◌≤◌, ◌<◌, ◌⊎◌, inl, inr, List, [], ◌∷◌, ◌++◌, length, take, drop, get_or, Option, Some, None, refl, sym, ap, ◌∙◌, subst, arith, All, Contains, slice_get, slice_get_within, get_or_from_slice_get, slice_get-get_or, same_Some, at_drop_more, length_push, take_at, Contains-append_right, cases_order}
+use Rattle.str0m_formats.proofs.Common.{zero, suc, ◌≡◌, ℕ, ◌≤◌, ◌<◌, List, [], ◌∷◌, ◌++◌, length, take, drop, get_or, Option, Some, None, refl, sym, ap, ◌∙◌, subst, arith, All, Contains, slice_get, slice_get_within, get_or_from_slice_get, slice_get-get_or, same_Some, at_drop_more, length_push, take_at, Contains-append_right, cases_order}
 use Rattle.std.proofs.lemmas.List.{take-append-le}
 
 -- at each place, the done rows before it, the row there and the new row stand in a relation
@@ -27,21 +27,8 @@ from_places P xs h i d lt = h i (get_or xs i d) (slice_get-get_or xs i d lt)
 
 -- a pass goes on by one row
 pub each_push : {A : Type 0} (R : List A → A → A → Type 0) (rows done : List A) (row new : A) → EachPlace R rows done → slice_get rows (length done) ≡ Some row → R done row new → EachPlace R rows (done ++ new ∷ [])
-each_push {A} R rows done row new each next here = λ i a b at_a at_b. go i a b at_a at_b (cases_order i (length done)) where
-  go : (i : ℕ) (a b : A) → slice_get rows i ≡ Some a → slice_get (done ++ new ∷ []) i ≡ Some b → (i ≡ length done) ⊎ ((i < length done) ⊎ (length done < i)) → R (take i (done ++ new ∷ [])) a b
-  go i a b at_a at_b (inl e) =
-      let same_a : row ≡ a = same_Some row a (sym next ∙ ap (slice_get rows) (sym e) ∙ at_a) in
-      let same_b : new ≡ b = same_Some new b (sym (at_split done new []) ∙ ap (slice_get (done ++ new ∷ [])) (sym e) ∙ at_b) in
-      let front : done ≡ take i (done ++ new ∷ []) = sym (ap (λ n. take n (done ++ new ∷ [])) e ∙ take_at done (new ∷ []) (length done) refl) in
-      let P : List A → Type 0 = λ d. R d a b in
-      let Q : A → Type 0 = λ x. R done x b in
-      let S : A → Type 0 = λ y. R done row y in
-      subst P front (subst Q same_a (subst S same_b here))
-  go i a b at_a at_b (inr (inl l)) =
-      let front : take i done ≡ take i (done ++ new ∷ []) = sym (take-append-le i done (new ∷ []) (omega arith)) in
-      let P : List A → Type 0 = λ d. R d a b in
-      subst P front (each i a b at_a (sym (slice_get-append_left done (new ∷ []) i l) ∙ at_b))
-  go i a b at_a at_b (inr (inr l)) = absurd (omega (arith, slice_get_within (done ++ new ∷ []) i b at_b, length_push done new))
+each_push {A} R rows done row new each next here =
+    grind (arith, cases_order, same_Some, at_split, take_at, take-append-le, slice_get-append_left, slice_get_within, length_push)
 
 pub none_within : {A : Type 0} (xs : List A) (i : ℕ) → i < length xs → slice_get xs i ≡ None → ⊥
 none_within [] i h e = omega arith

@@ -1,16 +1,12 @@
 -- Laws of the places of keys among entries.
-use Rattle.str0m_formats.proofs.Common.{◌≡◌, ◌<◌, ◌+◌, ℕ, Bool, true, false, cond, List, [], ◌∷◌, ◌++◌, length, get_or, take, Option, Some, None, refl, sym, ap, ◌∙◌, subst, arith, Bor, lookup, bytes_eq, false≢true, false_from_ne_true, map-append, take_more, bytes_eq-Decides, insert_entry, insert_all}
+use Rattle.str0m_formats.proofs.Common.{◌≡◌, ◌<◌, ◌+◌, ℕ, Bool, true, false, cond, List, [], ◌∷◌, ◌++◌, length, get_or, take, Option, Some, None, refl, sym, ap, ◌∙◌, subst, arith, Bor, lookup, bytes_eq, false≢true, false_from_ne_true, map-append, take_more, bytes_eq-Decides, insert_entry}
 use Rattle.std.proofs.Common.{zero, suc, set}
-use Rattle.std.specs.Prelude.{String}
 use Rattle.std.specs.BTreeMap.{BTreeMap, Updates, get_by}
 use Rattle.std.specs.Cmp.Lexicographic.{slice_cmp}
 use Rattle.std.specs.Ordering.{nat_cmp}
-use Rattle.std.specs.String.{string_bytes}
 use Rattle.std.proofs.lemmas.Map.Text.{is_eq-slice_cmp}
 use Rattle.indexmap.specs.IndexMap.{set_value_at}
-use Rattle.indexmap.proofs.MapLemmas.{insert_all_push}
 use Rattle.str0m_formats.specs.FormatParam.{pair_texts}
-use Rattle.str0m_formats.specs.PairsReading.{entry_texts}
 use Rattle.str0m_formats.specs.Places.{IsPlace, HasPlaces}
 
 -- ---- one entry
@@ -20,16 +16,12 @@ module _ {K X : Type 0} (eq : K → K → Bool) (k : K) (v : X) where
   pub entry_there : (es : List (K × X)) (i : ℕ) → IsPlace (eq k) es (Some i) → insert_entry eq es k v ≡ set_value_at es i v
   entry_there [] i h = absurd h
   entry_there (e ∷ es) zero h = ap (λ (b : Bool). cond b ((e.0, v) ∷ es) (e ∷ insert_entry eq es k v)) h
-  entry_there (e ∷ es) (suc i) h =
-      ap (λ (b : Bool). cond b ((e.0, v) ∷ es) (e ∷ insert_entry eq es k v)) h.0
-      ∙ ap (λ (es : List (K × X)). e ∷ es) (entry_there es i h.1)
+  entry_there (e ∷ es) (suc i) h = grind (arith, entry_there es i h.1)
 
   -- one that doesn't comes last
   pub entry_new : (es : List (K × X)) → IsPlace (eq k) es None → insert_entry eq es k v ≡ es ++ (k, v) ∷ []
   entry_new [] h = refl
-  entry_new (e ∷ es) h =
-      ap (λ (b : Bool). cond b ((e.0, v) ∷ es) (e ∷ insert_entry eq es k v)) h.0
-      ∙ ap (λ (es : List (K × X)). e ∷ es) (entry_new es h.1)
+  entry_new (e ∷ es) h = grind (arith, entry_new es h.1)
 
 module _ {K X : Type 0} (t : K → Bool) where
   -- another value moves no key
@@ -134,8 +126,7 @@ pub value_there : (key : List ℕ) (entries : List (Bor (List ℕ) × Bor (List 
     → lookup (bytes_eq key) (pair_texts entries) ≡ Some (get_or entries i d).1.now
 value_there key [] i d h = absurd h
 value_there key (e ∷ es) zero d h = ap (λ (b : Bool). cond b (Some e.1.now) (lookup (bytes_eq key) (pair_texts es))) h
-value_there key (e ∷ es) (suc i) d h =
-    ap (λ (b : Bool). cond b (Some e.1.now) (lookup (bytes_eq key) (pair_texts es))) h.0 ∙ value_there key es i d h.1
+value_there key (e ∷ es) (suc i) d h = grind (arith, value_there key es i d h.1)
 
 pub no_value : (key : List ℕ) (es : List (List ℕ × List ℕ)) → IsPlace (bytes_eq key) es None → lookup (bytes_eq key) es ≡ None
 no_value key [] h = refl
@@ -144,9 +135,7 @@ no_value key (e ∷ es) h = ap (λ (b : Bool). cond b (Some e.1) (lookup (bytes_
 -- the place in a list is that in one like it
 pub placed : (key : List ℕ) (slice entries : List (Bor (List ℕ) × Bor (List ℕ))) (answer place : Option ℕ) → slice ≡ entries → answer ≡ place
     → IsPlace (bytes_eq key) (pair_texts slice) answer → IsPlace (bytes_eq key) (pair_texts entries) place
-placed key slice entries answer place same is h =
-    subst (λ (p : Option ℕ). IsPlace (bytes_eq key) (pair_texts entries) p) is
-    (subst (λ (es : List (Bor (List ℕ) × Bor (List ℕ))). IsPlace (bytes_eq key) (pair_texts es) answer) same h)
+placed key slice entries answer place same is h = grind arith
 
 pub pushed : (entries after : List (Bor (List ℕ) × Bor (List ℕ))) (e : Bor (List ℕ) × Bor (List ℕ)) → after ≡ entries ++ e ∷ []
     → pair_texts after ≡ pair_texts entries ++ (e.0.now, e.1.now) ∷ []
@@ -162,18 +151,6 @@ pub value_set : (entries : List (Bor (List ℕ) × Bor (List ℕ))) (i : ℕ) (v
     → pair_texts (set entries i ((get_or entries i d).0, v)) ≡ set_value_at (pair_texts entries) i v.now
 value_set [] i v d lt = absurd (omega (arith, lt))
 value_set (e ∷ es) zero v d lt = refl
-value_set (e ∷ es) (suc i) v d lt = ap (λ (rest : List (List ℕ × List ℕ)). (e.0.now, e.1.now) ∷ rest) (value_set es i v d (omega (arith, lt)))
+value_set (e ∷ es) (suc i) v d lt = grind (arith, value_set es i v d)
 
 -- ---- one pair more
-
-pub entries_more : {S : Type 0} (pairs : List (String S × Bor (List ℕ))) (i : ℕ) (d : String S × Bor (List ℕ)) (before after : List (List ℕ × List ℕ)) → i < length pairs
-    → before ≡ insert_all bytes_eq [] (entry_texts (take i pairs))
-    → after ≡ insert_entry bytes_eq before (string_bytes (get_or pairs i d).0) (get_or pairs i d).1.now
-    → after ≡ insert_all bytes_eq [] (entry_texts (take (i + 1) pairs))
-entries_more pairs i d before after lt so_far put =
-    let pair = get_or pairs i d in
-    put
-    ∙ ap (λ (es : List (List ℕ × List ℕ)). insert_entry bytes_eq es (string_bytes pair.0) pair.1.now) so_far
-    ∙ sym (insert_all_push bytes_eq [] (entry_texts (take i pairs)) (string_bytes pair.0, pair.1.now))
-    ∙ ap (insert_all bytes_eq []) (sym (map-append (λ e. (string_bytes e.0, e.1.now)) (take i pairs) (pair ∷ [])))
-    ∙ ap (λ ps. insert_all bytes_eq [] (entry_texts ps)) (sym (take_more pairs i d lt))

@@ -1,7 +1,7 @@
 -- Plain texts: graphic ASCII without `;` and `=`, so that cutting and trimming leave them whole.
-use Rattle.str0m_formats.proofs.Common.{◌≡◌, ◌≢◌, ◌<◌, ◌≤◌, ◌==◌, ◌&&◌, ◌||◌, ℕ, Bool, true, false, not, List, [], ◌∷◌, ◌++◌, All, inl, inr, refl, sym, ap, ◌∙◌, arith, tests, AllByRecursion, list_all, digit_value, trim, AllDigits, and_parts, cases_lt, ne_eqb, leb-true, not-true, false≢true, Lacks}
-use Rattle.std.proofs.Common.{zero, suc, lt-ltb, encode_utf8_all}
-use Rattle.std.specs.Prelude.{nat_le, nat_lt, IsAscii}
+use Rattle.str0m_formats.proofs.Common.{◌≡◌, ◌≢◌, ◌<◌, ◌≤◌, ◌==◌, ◌&&◌, ◌||◌, ℕ, Bool, true, false, not, List, [], ◌∷◌, ◌++◌, All, refl, sym, ap, ◌∙◌, arith, tests, AllByRecursion, list_all, digit_value, trim, AllDigits, and_parts, cases_lt, not-true, false≢true, Lacks}
+use Rattle.std.proofs.Common.{zero, suc}
+use Rattle.std.specs.Prelude.{nat_le, IsAscii}
 use Rattle.std.specs.Char.{is_whitespace}
 use Rattle.std.specs.Str.{trim_start, trim_end, skip_leading_whitespace, drop_trailing_whitespace}
 use Rattle.std.proofs.lemmas.Str.{chars-IsAscii, encodes-IsAscii}
@@ -15,14 +15,7 @@ below test (suc n) = test n && below test n
 pub below_at : (test : ℕ → Bool) (n k : ℕ) → below test n ≡ true → k < n → test k ≡ true
 unfolding below
 below_at test zero k e lt = absurd (omega arith)
-below_at test (suc n) k e lt =
-    let p = and_parts (test n) (below test n) e in
-    elim (cases_lt k n) [
-      | inl less ↦ below_at test n k p.1 less
-      | inr last ↦
-          let same : k ≡ n = omega arith in
-          ap test same ∙ p.0
-    ]
+below_at test (suc n) k e lt = grind (arith, and_parts, cases_lt, below_at test n k)
 
 -- ---- plain bytes
 
@@ -34,42 +27,25 @@ IsPlain text = AllByRecursion (λ b. is_plain b ≡ true) text
 
 pub plain_from : (text : List ℕ) → list_all is_plain text ≡ true → IsPlain text
 plain_from [] e = tt
-plain_from (b ∷ bs) e =
-    let p = and_parts (is_plain b) (list_all is_plain bs) e in
-    (p.0, plain_from bs p.1)
+plain_from (b ∷ bs) e = grind (arith, and_parts, plain_from bs)
 
 pub plain_append : (xs ys : List ℕ) → IsPlain xs → IsPlain ys → IsPlain (xs ++ ys)
 plain_append [] ys h k = k
 plain_append (x ∷ xs) ys h k = (h.0, plain_append xs ys h.1 k)
 
 low : (b : ℕ) → is_plain b ≡ true → b < 127
-low b e =
-    let p = and_parts (nat_le 33 b && nat_le b 126) (not (b == 59) && not (b == 61)) e in
-    let q = and_parts (nat_le 33 b) (nat_le b 126) p.0 in
-    let le : b ≤ 126 = leb-true b 126 q.1 in
-    omega arith
+low b e = grind arith
 
 -- ---- digits
 
-digits_dark : below (λ c. not (nat_lt (digit_value c) 16) || is_plain c) 123 ≡ true
-unfolding below
-digits_dark = refl
-
 or_right : (a b : Bool) → (not a || b) ≡ true → a ≡ true → b ≡ true
-or_right true b e h = e
-or_right false b e h = absurd (false≢true h)
+or_right a b e h = grind arith
 
 high : (c : ℕ) → 123 ≤ c → digit_value c ≡ 36
 high c le = grind (arith, tests)
 
 digit_plain : (c : ℕ) → digit_value c < 16 → is_plain c ≡ true
-digit_plain c h =
-    elim (cases_lt c 123) [
-      | inl less ↦ or_right (nat_lt (digit_value c) 16) (is_plain c) (below_at (λ c. not (nat_lt (digit_value c) 16) || is_plain c) 123 c digits_dark less) (lt-ltb (digit_value c) 16 h)
-      | inr more ↦
-          let e = high c (omega arith) in
-          absurd (omega (arith, e))
-    ]
+digit_plain c h = grind arith
 
 pub digits_plain : (radix : ℕ) (ds : List ℕ) → radix ≤ 16 → AllDigits radix ds → IsPlain ds
 digits_plain radix [] small h = tt
@@ -82,8 +58,7 @@ plain_lacks c [] other h = tt
 plain_lacks c (b ∷ bs) other h = ((λ e. false≢true (sym other ∙ ap is_plain (sym e) ∙ h.0)), plain_lacks c bs other h.1)
 
 free_more : (c b : ℕ) (bs : List ℕ) → b ≢ c → All (λ b. (b == c) ≡ false) bs → All (λ b. (b == c) ≡ false) (b ∷ bs)
-free_more c b bs other rest zero d lt = ne_eqb b c other
-free_more c b bs other rest (suc k) d lt = rest k d (omega arith)
+free_more c b bs other rest o d lt = grind arith
 
 pub lacks_free : (c : ℕ) (text : List ℕ) → Lacks c text → All (λ b. (b == c) ≡ false) text
 lacks_free c [] h = λ k d lt. absurd (omega arith)
@@ -96,7 +71,7 @@ unfolding below
 dark = refl
 
 dark_at : (b : ℕ) → is_plain b ≡ true → is_whitespace b ≡ false
-dark_at b h = not-true (is_whitespace b) (or_right (is_plain b) (not (is_whitespace b)) (below_at (λ b. not (is_plain b) || not (is_whitespace b)) 127 b dark (low b h)) h)
+dark_at b h = grind (arith, not-true, or_right, below_at, dark, low)
 
 plain_ascii : (text : List ℕ) → IsPlain text → IsAscii text
 plain_ascii [] h i = omega arith
@@ -113,15 +88,11 @@ dropped (b ∷ bs) h = rw (dark_at b h.0) (ap (λ (t : List ℕ). b ∷ t) (drop
 
 start_plain : (text : List ℕ) → IsPlain text → trim_start text ≡ text
 unfolding trim_start
-start_plain text h =
-    let ascii = plain_ascii text h in
-    ap (λ (t : List ℕ). encode_utf8_all (skip_leading_whitespace t)) (chars-IsAscii text ascii) ∙ ap encode_utf8_all (skipped text h) ∙ encodes-IsAscii text ascii
+start_plain text h = grind (arith, plain_ascii, chars-IsAscii, skipped, encodes-IsAscii)
 
 end_plain : (text : List ℕ) → IsPlain text → trim_end text ≡ text
 unfolding trim_end
-end_plain text h =
-    let ascii = plain_ascii text h in
-    ap (λ (t : List ℕ). encode_utf8_all (drop_trailing_whitespace t)) (chars-IsAscii text ascii) ∙ ap encode_utf8_all (dropped text h) ∙ encodes-IsAscii text ascii
+end_plain text h = grind (arith, plain_ascii, chars-IsAscii, dropped, encodes-IsAscii)
 
 pub trim_plain : (text : List ℕ) → IsPlain text → trim text ≡ text
 trim_plain text h = ap trim_end (start_plain text h) ∙ end_plain text h

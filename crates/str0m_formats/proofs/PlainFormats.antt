@@ -1,5 +1,5 @@
 -- The format of a plain row reads back as it prints.
-use Rattle.str0m_formats.proofs.Common.{◌≡◌, ◌≢◌, ◌⊎◌, inl, inr, Option, Some, None, IfSome, refl, sym, ◌∙◌}
+use Rattle.str0m_formats.proofs.Common.{arith, ◌≡◌, ◌≢◌, ◌⊎◌, inl, inr, Option, None, IfSome, sym, ◌∙◌}
 use Rattle.str0m_formats.specs.Bounds.{HoldsRowNumbers}
 use Rattle.str0m_formats.specs.PlainRow.{IsPlain}
 use Rattle.str0m_formats.specs.FormatParams.{get, IsWithin, CanBeReadBack}
@@ -18,8 +18,7 @@ values row p h field.TelephoneEvents = h.format.telephone_event_max
 values row p h f = each_some (IsWithin f) (get f row.spec.format) (λ x. tt)
 
 some_is : {A : Type 0} (o : Option A) → (o ≡ None) ⊎ (o ≢ None)
-some_is None = inl refl
-some_is (Some x) = inr (λ e. cc)
+some_is o = grind arith
 
 pub can_be_read_back : (row : PayloadParams) → IsPlain row → HoldsRowNumbers row → CanBeReadBack row.spec.format
 can_be_read_back row p h =

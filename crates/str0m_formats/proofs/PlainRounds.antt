@@ -1,16 +1,12 @@
 -- Plain rows stay plain through a round against rows whose numbers keep to their ranges.
-use Rattle.str0m_formats.proofs.Common.{◌≡◌, ◌≢◌, ℕ, Bool, true, false, List, Option, Some, None, Ok, IfSome, All, take, refl, sym, ap, ◌∙◌, subst, slice_get, option_or, All-contains, ProfileTierLevel}
-use Rattle.std.specs.Prelude.{min}
-use Rattle.str0m_values.specs.H265 as h265
-use Rattle.str0m_values.specs.H266 as h266
+use Rattle.str0m_formats.proofs.Common.{arith, ◌≡◌, ◌≢◌, ℕ, Bool, true, false, List, Option, Some, None, Ok, IfSome, All, take, refl, sym, ap, ◌∙◌, subst, slice_get, All-contains}
 use Rattle.str0m_formats.specs.declared.codec.Codec.{Codec}
 use Rattle.str0m_formats.specs.declared.codec.Codec.TheVariants.{G722, AmrWb, H264, H265, H266, Tele}
 use Rattle.str0m_formats.specs.declared.codec_spec.CodecSpec.{CodecSpec}
 use Rattle.str0m_formats.specs.declared.payload_params.PayloadParams.{PayloadParams}
 use Rattle.str0m_formats.specs.Bounds.{AreModes, IsDistance, IsBounded}
 use Rattle.str0m_formats.specs.Codec.{Content, content, audio, video, events, other}
-use Rattle.str0m_formats.specs.declared.format_params.FormatParams.{FormatParams}
-use Rattle.str0m_formats.specs.Narrowing.{narrowed, narrowed_as, lower_triple, id_beside, telephone_max}
+use Rattle.str0m_formats.specs.Narrowing.{narrowed, narrowed_as}
 use Rattle.str0m_formats.specs.PlainRow.{IsPlain, IsPlainG722, HasPictureFeedback, HasPlainTriples, SaysEventsAlone}
 use Rattle.str0m_formats.specs.Rows.{AllSmall, types_of, locked_types, open_types}
 use Rattle.str0m_formats.specs.Choices.{IsChoice, points_for}
@@ -41,106 +37,30 @@ record PlainBeside (row : PayloadParams) : Type 0 where
   redundant : row.red ≢ None → content row.spec.codec ≡ audio
 
 beside : (row : PayloadParams) → IsPlain row → PlainBeside row
-beside row p = record {
-  spec = record {
-    carried = p.carried;
-    modes = p.bounded.modes;
-    distance = p.bounded.distance;
-    triples = p.triples;
-    g722 = p.g722;
-    telephone = p.telephone;
-    no_maximum = p.no_maximum;
-  };
-  pictures = p.pictures;
-  redundant = p.redundant;
-}
+beside row p = grind arith
 
 plain : (row : PayloadParams) → AllSmall (types_of row) → PlainBeside row → IsPlain row
-plain row small p = record {
-  carried = p.spec.carried;
-  bounded = record { types = small; modes = p.spec.modes; distance = p.spec.distance };
-  triples = p.spec.triples;
-  g722 = p.spec.g722;
-  pictures = p.pictures;
-  redundant = p.redundant;
-  telephone = p.spec.telephone;
-  no_maximum = p.spec.no_maximum;
-}
+plain row small p = grind arith
 
 -- ---- narrowing
 
-or-holds : {A : Type 0} (P : A → Type 0) (a b : Option A) → IfSome a P → IfSome b P → IfSome (option_or a b) P
-or-holds P None b h k = k
-or-holds P (Some x) b h k = h
-
--- where a triple is left, the choice has one, and so no id stands beside it
-no_id_beside : {P T L : Type 0} (place : L → ℕ) (own chosen : Option (ProfileTierLevel P T L)) (id : Option ℕ)
-    → lower_triple place own chosen ≢ None → id_beside chosen id ≡ None
-no_id_beside place own (Some t) id h = refl
-no_id_beside place None None id h = absurd (h refl)
-no_id_beside place (Some s) None id h = absurd (h refl)
-
 events-narrowed : (own chosen : CodecSpec) → own.codec ≡ Tele → PlainSpec own → PlainSpec (narrowed_as Tele own chosen)
-events-narrowed own chosen is p = record {
-  carried = p.carried;
-  modes = p.modes;
-  distance = p.distance;
-  triples = record { h265 = p.triples.h265; h266 = p.triples.h266 };
-  g722 = λ e. absurd (cc);
-  telephone = λ e.
-      let smaller = min (telephone_max own.format) (telephone_max chosen.format) in
-      (smaller, ap {A = FormatParams} (λ f. record f { telephone_event_max = Some smaller }) (p.telephone e).1);
-  no_maximum = λ other_than. absurd (other_than (ap content is));
-}
-
--- a spec of pictures with another format, which keeps to the ranges and has the same maximum of events
-pictures-narrowed : (own : CodecSpec) (format : FormatParams) → content own.codec ≡ video → PlainSpec own
-    → IfSome format.mode_set AreModes → IfSome format.sprop_max_don_diff IsDistance
-    → format.telephone_event_max ≡ own.format.telephone_event_max → HasPlainTriples (record own { format = format })
-    → PlainSpec (record own { format = format })
-pictures-narrowed own format shows p modes distance same triples = record {
-  carried = p.carried;
-  modes = modes;
-  distance = distance;
-  triples = triples;
-  g722 = λ e. let v = sym shows ∙ ap content e in absurd (cc);
-  telephone = λ e. let v = sym shows ∙ e in absurd (cc);
-  no_maximum = λ other_than. same ∙ p.no_maximum other_than;
-}
+events-narrowed own chosen is p = grind arith
 
 h264-narrowed : (own chosen : CodecSpec) → own.codec ≡ H264 → PlainSpec own → PlainSpec (narrowed_as H264 own chosen)
-h264-narrowed own chosen is p =
-    pictures-narrowed own _ (ap content is) p p.modes p.distance refl (record { h265 = p.triples.h265; h266 = p.triples.h266 })
+h264-narrowed own chosen is p = grind arith
 
 h265-narrowed : (own chosen : CodecSpec) → own.codec ≡ H265 → PlainSpec own → IfSome chosen.format.sprop_max_don_diff IsDistance
     → PlainSpec (narrowed_as H265 own chosen)
-h265-narrowed own chosen is p d =
-    let distance = or-holds IsDistance chosen.format.sprop_max_don_diff own.format.sprop_max_don_diff d p.distance in
-    pictures-narrowed own _ (ap content is) p p.modes distance refl (record {
-      h265 = λ some. (is, no_id_beside h265.level_ordinal own.format.h265_profile_tier_level _ chosen.format.profile_id some);
-      h266 = λ some. let e = (p.triples.h266 some).0 in absurd (cc);
-    })
+h265-narrowed own chosen is p d = grind arith
 
 h266-narrowed : (own chosen : CodecSpec) → own.codec ≡ H266 → PlainSpec own → IfSome chosen.format.sprop_max_don_diff IsDistance
     → PlainSpec (narrowed_as H266 own chosen)
-h266-narrowed own chosen is p d =
-    let distance = or-holds IsDistance chosen.format.sprop_max_don_diff own.format.sprop_max_don_diff d p.distance in
-    pictures-narrowed own _ (ap content is) p p.modes distance refl (record {
-      h265 = λ some. let e = (p.triples.h265 some).0 in absurd (cc);
-      h266 = λ some. (is, no_id_beside h266.level_ordinal own.format.h266_profile_tier_level _ chosen.format.profile_id some);
-    })
+h266-narrowed own chosen is p d = grind arith
 
 amr_wb-narrowed : (own chosen : CodecSpec) → own.codec ≡ AmrWb → PlainSpec own → IfSome chosen.format.mode_set AreModes
     → PlainSpec (narrowed_as AmrWb own chosen)
-amr_wb-narrowed own chosen is p m = record {
-  carried = p.carried;
-  modes = or-holds AreModes own.format.mode_set chosen.format.mode_set p.modes m;
-  distance = p.distance;
-  triples = record { h265 = p.triples.h265; h266 = p.triples.h266 };
-  g722 = λ e. absurd (cc);
-  telephone = λ e. let v = sym (ap content is) ∙ e in absurd (cc);
-  no_maximum = p.no_maximum;
-}
+amr_wb-narrowed own chosen is p m = grind arith
 
 spec-narrowed : (own chosen : CodecSpec) → PlainSpec own
     → IfSome chosen.format.mode_set AreModes → IfSome chosen.format.sprop_max_don_diff IsDistance
@@ -157,18 +77,12 @@ spec-narrowed own chosen p m d = go own.codec refl where
 
 codec-narrowed : (own chosen : CodecSpec) → (narrowed own chosen).codec ≡ own.codec
 unfolding narrowed
-codec-narrowed own chosen = go own.codec where
-  go : (codec : Codec) → (narrowed_as codec own chosen).codec ≡ own.codec
-  go Tele = refl
-  go _ = refl
+codec-narrowed own chosen = grind arith
 
 -- ---- a row through both passes
 
 audio_alone : (c : Content) (red : Option ℕ) → only_audio c red ≢ None → c ≡ audio
-audio_alone audio red h = refl
-audio_alone video red h = absurd (h refl)
-audio_alone events red h = absurd (h refl)
-audio_alone other red h = absurd (h refl)
+audio_alone c red h = grind arith
 
 placed-plain : (taken unlocked : TypeSet) (receives : Bool) (row new : PayloadParams) (choice : Option PayloadParams)
     → placed taken unlocked receives row choice ≡ Ok new → IfSome choice IsBounded → PlainBeside row → PlainBeside new
@@ -198,8 +112,7 @@ placed-plain taken unlocked receives row new (Some c) h b p = go row.locked refl
 
 -- a RED is kept or given where there was one
 had_red : (locked taken unlocked : TypeSet) (own : Option ℕ) → kept_red locked taken unlocked own ≢ None → own ≢ None
-had_red locked taken unlocked None h = h
-had_red locked taken unlocked (Some t) h = λ e. cc
+had_red locked taken unlocked own h = grind arith
 
 settled-plain : (locked taken unlocked : TypeSet) (row new : PayloadParams) → settled locked taken unlocked row ≡ Ok new
     → PlainBeside row → PlainBeside new

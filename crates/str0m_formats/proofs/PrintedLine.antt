@@ -1,20 +1,20 @@
 -- A format that is printed, and read by its line, is itself.
-use Rattle.str0m_formats.proofs.Common.{◌≡◌, ◌<◌, ◌≤◌, ◌⊎◌, inl, inr, ℕ, Bool, true, false, cond, List, [], ◌∷◌, ◌++◌, length, drop, map, filter, Option, Some, None, IfSome, Result, Ok, Err, option_map, refl, sym, ap, subst, ◌∙◌, arith, codes, decimal, AllByRecursion, AllZip, cons_option, flat_map, join_with_byte, list_all, digits_value, and_parts, false_from_ne_true, decimal_is_IsNumeral, append_assoc, append-nil, map-append, filter_map-append, none-some}
+use Rattle.str0m_formats.proofs.Common.{rules, ◌≡◌, ◌<◌, ◌≤◌, ◌⊎◌, inl, inr, ℕ, Bool, true, false, cond, List, [], ◌∷◌, ◌++◌, length, drop, map, filter, Option, Some, None, IfSome, Result, option_map, refl, sym, ap, subst, ◌∙◌, arith, codes, decimal, AllByRecursion, AllZip, cons_option, flat_map, join_with_byte, list_all, digits_value, and_parts, false_from_ne_true, decimal_is_IsNumeral, append_assoc, append-nil, map-append, filter_map-append, none-some}
 use Rattle.std.proofs.Common.{filter_map, IfOk}
-use Rattle.str0m_values.specs.Cuts.{before, front, lacks}
+use Rattle.str0m_values.specs.Cuts.{lacks}
 use Rattle.str0m_values.specs.H265.{H265ProfileTierLevel as h265_triple}
 use Rattle.str0m_values.specs.H266.{H266ProfileTierLevel as h266_triple}
 use Rattle.str0m_values.proofs.AddressWords.{lacks_both}
 use Rattle.str0m_values.proofs.CutLaws.{cut_at, cut_none, lacks_true, lacks_from}
 use Rattle.str0m_formats.specs.declared.format_param.FormatParam.{FormatParam}
-use Rattle.str0m_formats.specs.declared.format_param.FormatParam.TheVariants.{H265ProfileTierLevel, H266ProfileTierLevel, TelephoneEvents, Unknown}
+use Rattle.str0m_formats.specs.declared.format_param.FormatParam.TheVariants.{H265ProfileTierLevel, H266ProfileTierLevel, TelephoneEvents}
 use Rattle.str0m_formats.specs.declared.format_params.Field.{Field}
 use Rattle.str0m_formats.specs.declared.format_params.Field.TheVariants as field
 use Rattle.str0m_formats.specs.declared.format_params.TheConstants.{FIELDS}
 use Rattle.str0m_formats.specs.declared.format_key.FormatKey.TheVariants as key
 use Rattle.str0m_formats.specs.declared.format_params.FormatParams.{FormatParams}
 use Rattle.str0m_formats.specs.FormatParam.{IsBare, param_text}
-use Rattle.str0m_formats.specs.FormatParams.{empty, get, set, set_all, param_at, params_of, params_text, IsWithin, CanBeReadBack}
+use Rattle.str0m_formats.specs.FormatParams.{empty, get, set_all, param_at, params_of, params_text, IsWithin, CanBeReadBack}
 use Rattle.str0m_formats.specs.FormatLine.{pieces, pair_in, bare_in, pairs_in, bares_in, IsFormatOfLine}
 use Rattle.str0m_formats.specs.ParamReading.{param_of}
 use Rattle.str0m_formats.specs.Pairs.{has_mark, merged, others, texts_of}
@@ -53,7 +53,7 @@ all_bares (f ∷ fs) p = bares_at f p ++ all_bares fs p
 
 pairs_rows : (fs : List Field) (p : FormatParams) → all_pairs fs p ≡ given (all_rows fs p)
 pairs_rows [] p = refl
-pairs_rows (f ∷ fs) p = ap (λ (t : List (List ℕ × List ℕ)). given (rows_at f p) ++ t) (pairs_rows fs p) ∙ sym (given-append (rows_at f p) (all_rows fs p))
+pairs_rows (f ∷ fs) p = grind (arith, pairs_rows fs p, given-append)
 
 -- the values of all fields read back
 abbrev pub AllWithin : FormatParams → Type 0
@@ -65,32 +65,21 @@ abbrev pub joined : List (List ℕ) → List ℕ
 joined texts = join_with_byte 59 texts
 
 join_cons : (text : List ℕ) (texts : List (List ℕ)) → 0 < length texts → joined (text ∷ texts) ≡ text ++ (59 ∷ joined texts)
-join_cons text [] some = absurd (omega arith)
-join_cons text (next ∷ texts) some = refl
+join_cons text texts some = grind arith
 
 join_append : (first : List ℕ) (more ys : List (List ℕ)) → 0 < length ys → joined ((first ∷ more) ++ ys) ≡ joined (first ∷ more) ++ (59 ∷ joined ys)
 join_append first [] ys some = join_cons first ys some
-join_append first (next ∷ more) ys some = ap (λ (t : List ℕ). first ++ (59 ∷ t)) (join_append next more ys some) ∙ sym (append_assoc first (59 ∷ joined (next ∷ more)) (59 ∷ joined ys))
+join_append first (next ∷ more) ys some = grind (arith, join_append next more ys some, append_assoc)
 
 abbrev pub AreAlike : List (List ℕ) → List (List ℕ) → Type 0
 AreAlike texts pieces = ((texts ≡ []) × (pieces ≡ [])) ⊎ ((0 < length texts) × (0 < length pieces) × (joined texts ≡ joined pieces))
 
 alike_step : (o : Option FormatParam) (qs : List FormatParam) (own rest : List (List ℕ)) → IsShown o own → AreAlike (map param_text qs) rest → AreAlike (map param_text (cons_option o qs)) (own ++ rest)
-alike_step None qs own rest shown alike = rw shown alike
-alike_step (Some q) qs own rest shown alike =
-    rw shown.2 (elim alike [
-      | inl none ↦ inr (omega arith, omega arith, rw none.0 (shown.3 ∙ ap joined (sym (append-nil (shown.0 ∷ shown.1)) ∙ ap (λ (t : List (List ℕ)). (shown.0 ∷ shown.1) ++ t) (sym none.1))))
-      | inr some ↦ inr (
-        omega arith,
-        omega arith,
-        join_cons (param_text q) (map param_text qs) some.0 ∙ ap (λ (t : List ℕ). t ++ (59 ∷ joined (map param_text qs))) shown.3
-            ∙ ap (λ (t : List ℕ). joined (shown.0 ∷ shown.1) ++ (59 ∷ t)) some.2 ∙ sym (join_append shown.0 shown.1 rest some.1),
-      )
-    ])
+alike_step o qs own rest shown alike = grind (arith, append-nil, join_cons, join_append)
 
 pub alike : (fs : List Field) (p : FormatParams) → AllWithin p → AreAlike (map param_text (filter_map (λ f. param_at f p) fs)) (all_pieces fs p)
 alike [] p h = inl (refl, refl)
-alike (f ∷ fs) p h = alike_step (param_at f p) (filter_map (λ f. param_at f p) fs) (pieces_at f p) (all_pieces fs p) (shows f p (h f)).shown (alike fs p h)
+alike (f ∷ fs) p h = grind (arith, alike_step, shows, alike fs p h)
 
 -- ---- and is cut into them
 
@@ -100,7 +89,8 @@ free_append (x ∷ xs) ys h k = (h.0, free_append xs ys h.1 k)
 
 free_pairs : (pairs : List (List ℕ × List ℕ)) → AllByRecursion IsPlainPair pairs → AreFreeOf 59 (map joined_pair pairs)
 free_pairs [] h = tt
-free_pairs (pair ∷ pairs) h = (lacks_free 59 (joined_pair pair) (lacks_both 59 pair.0 (61 ∷ pair.1) (plain_lacks 59 pair.0 refl h.0.0) ((λ e. absurd (omega (arith, e))), plain_lacks 59 pair.1 refl h.0.1)), free_pairs pairs h.1)
+free_pairs (pair ∷ pairs) h =
+    grind (arith, lacks_free 59 (joined_pair pair), lacks_both 59 pair.0 (61 ∷ pair.1), plain_lacks 59 pair.1, plain_lacks 59 pair.0, free_pairs pairs h.1)
 
 free_bares : (texts : List (List ℕ)) → AllByRecursion IsPlain texts → AreFreeOf 59 texts
 free_bares [] h = tt
@@ -119,9 +109,7 @@ cut_pieces texts (first ∷ more) alike free = elim alike [ inl none ↦ absurd 
 -- ---- keys and values of pieces
 
 pair_found : (pair : List ℕ × List ℕ) → IsPlainPair pair → pair_in (joined_pair pair) ≡ Some pair
-pair_found pair h =
-    let whole : before 61 pair.1 ≡ pair.1 = ap (front pair.1) (cut_none 61 pair.1 (plain_lacks 61 pair.1 refl h.1)) in
-    rw (cut_at 61 pair.0 pair.1 (plain_lacks 61 pair.0 refl h.0), whole, trim_plain pair.0 h.0, trim_plain pair.1 h.1) refl
+pair_found pair h = grind (arith, cut_none, plain_lacks, cut_at, trim_plain)
 
 no_bare : (pair : List ℕ × List ℕ) → IsPlainPair pair → bare_in (joined_pair pair) ≡ None
 no_bare pair h =
@@ -136,15 +124,11 @@ bare_found text h = rw (lacks_true 61 text (plain_lacks 61 text refl h), trim_pl
 
 pairs_found : (pairs : List (List ℕ × List ℕ)) → AllByRecursion IsPlainPair pairs → (filter_map pair_in (map joined_pair pairs) ≡ pairs) × (filter_map bare_in (map joined_pair pairs) ≡ [])
 pairs_found [] h = (refl, refl)
-pairs_found (pair ∷ pairs) h =
-    let rest = pairs_found pairs h.1 in
-    (rw (pair_found pair h.0) (ap (λ (t : List (List ℕ × List ℕ)). pair ∷ t) rest.0), rw (no_bare pair h.0) rest.1)
+pairs_found (pair ∷ pairs) h = grind (arith, pairs_found pairs h.1, pair_found, no_bare)
 
 bares_found : (texts : List (List ℕ)) → AllByRecursion IsPlain texts → (filter_map pair_in texts ≡ []) × (filter_map bare_in texts ≡ texts)
 bares_found [] h = (refl, refl)
-bares_found (text ∷ texts) h =
-    let rest = bares_found texts h.1 in
-    (rw (no_pair text h.0) rest.0, rw (bare_found text h.0) (ap (λ (t : List (List ℕ)). text ∷ t) rest.1))
+bares_found (text ∷ texts) h = grind (arith, bares_found texts h.1, no_pair, bare_found)
 
 found : (fs : List Field) (p : FormatParams) → AllWithin p → (pairs_in (all_pieces fs p) ≡ all_pairs fs p) × (bares_in (all_pieces fs p) ≡ all_bares fs p)
 unfolding pairs_in bares_in
@@ -177,8 +161,7 @@ abbrev rest : List Field
 rest = filter is_beside FIELDS
 
 cons_append : {A : Type 0} (o : Option A) (xs : List A) → cons_option o [] ++ xs ≡ cons_option o xs
-cons_append None xs = refl
-cons_append (Some x) xs = refl
+cons_append o xs = grind arith
 
 reads_all : (fs : List Field) (p : FormatParams) → AllWithin p → list_all is_single fs ≡ true → map param_of (all_pairs fs p) ≡ filter_map (λ f. param_at f p) fs
 reads_all [] p h single = refl
@@ -199,9 +182,7 @@ marked pairs e same = rw (e, same) refl
 
 without_triple : (p : FormatParams) → AllWithin p → p.h265_profile_tier_level ≡ None → p.h266_profile_tier_level ≡ None → params_read (all_pairs FIELDS p) ≡ filter_map (λ f. param_at f p) (field.H265ProfileTierLevel ∷ field.H266ProfileTierLevel ∷ singles)
 without_triple p h e5 e6 =
-    let own : all_pairs FIELDS p ≡ all_pairs singles p = rw (e5, e6) refl in
-    let mark : has_mark (all_pairs singles p) ≡ false = ap has_mark (pairs_rows singles p) ∙ mark_given (all_rows singles p) in
-    ap params_read own ∙ unmarked (all_pairs singles p) mark ∙ reads_all singles p h refl ∙ rw (e5, e6) refl
+    grind (arith, pairs_rows singles p, mark_given (all_rows singles p), unmarked (all_pairs singles p), reads_all singles p h)
 
 abbrev triple_first : List Field
 triple_first = field.H265ProfileTierLevel ∷ field.H266ProfileTierLevel ∷ field.Key key.ProfileId ∷ rest
@@ -227,10 +208,10 @@ with_triple q a b c p h own read =
     ∙ ap (λ (qs : List FormatParam). q ∷ qs) others_are
 
 with_h265 : (p : FormatParams) (t : h265_triple) → AllWithin p → p.h265_profile_tier_level ≡ Some t → p.h266_profile_tier_level ≡ None → p.profile_id ≡ None → params_read (all_pairs FIELDS p) ≡ filter_map (λ f. param_at f p) triple_first
-with_h265 p t h e5 e6 ei = with_triple (H265ProfileTierLevel t) _ _ _ p h (pairs_rows FIELDS p ∙ rw (e5, e6, ei) refl) (h265_again t) ∙ rw (e5, e6, ei) refl
+with_h265 p t h e5 e6 ei = grind (arith, with_triple (H265ProfileTierLevel t), pairs_rows FIELDS p, h265_again t)
 
 with_h266 : (p : FormatParams) (t : h266_triple) → AllWithin p → p.h266_profile_tier_level ≡ Some t → p.h265_profile_tier_level ≡ None → p.profile_id ≡ None → params_read (all_pairs FIELDS p) ≡ filter_map (λ f. param_at f p) triple_first
-with_h266 p t h e6 e5 ei = with_triple (H266ProfileTierLevel t) _ _ _ p h (pairs_rows FIELDS p ∙ rw (e5, e6, ei) refl) (h266_again t) ∙ rw (e5, e6, ei) refl
+with_h266 p t h e6 e5 ei = grind (arith, with_triple (H266ProfileTierLevel t), pairs_rows FIELDS p, h266_again t)
 
 -- ---- values without a key
 
@@ -252,17 +233,11 @@ bares_set (Some n) [] h are = absurd are
 bares_set (Some n) (b ∷ []) h are = ap (λ (q : FormatParam). q ∷ []) (bare_is n b h are.0)
 bares_set (Some n) (b ∷ (c ∷ bares)) h are = absurd are.1
 
-nothing_is : (param : FormatParam) → IsBare [] param → param ≡ Unknown
-nothing_is param h = elim h [ inl events ↦ absurd (let e = events.2.range.1 in cc) | inr none ↦ none.1 ]
-
 nothing_set : (bares : List FormatParam) → AllZip IsBare ([] ∷ []) bares → set_all empty bares ≡ empty
-nothing_set [] are = absurd are
-nothing_set (b ∷ []) are = ap (λ (q : FormatParam). set q empty) (nothing_is b are.0)
-nothing_set (b ∷ (c ∷ bares)) are = absurd are.1
+nothing_set bares are = grind arith
 
 no_events : (o : Option ℕ) → cons_option (option_map (λ n. codes "0-" ++ decimal n) o) [] ≡ [] → o ≡ None
-no_events None e = refl
-no_events (Some n) e = absurd cc
+no_events o e = grind arith
 
 -- ---- the whole
 
@@ -270,12 +245,7 @@ clash : {A C : Type 0} (o : Option A) (x : A) → o ≡ Some x → o ≡ None �
 clash o x e f = absurd (none-some x (sym f ∙ e))
 
 conclude : (order : List Field) (p r : FormatParams) (bares params : List FormatParam) → are_fresh (field.TelephoneEvents ∷ order) p empty ≡ true → filled (field.TelephoneEvents ∷ order) p empty ≡ p → set_all empty bares ≡ set_all empty (cons_option (param_at field.TelephoneEvents p) []) → params ≡ filter_map (λ f. param_at f p) order → r ≡ set_all empty (bares ++ params) → r ≡ p
-conclude order p r bares params fresh whole first second e =
-    let events = cons_option (param_at field.TelephoneEvents p) [] in
-    e ∙ set_all-append bares params empty ∙ ap (λ q. set_all q params) first ∙ ap (set_all (set_all empty events)) second
-    ∙ sym (set_all-append events (filter_map (λ f. param_at f p) order) empty)
-    ∙ ap (set_all empty) (cons_append (param_at field.TelephoneEvents p) (filter_map (λ f. param_at f p) order))
-    ∙ set_each (field.TelephoneEvents ∷ order) p empty fresh ∙ whole
+conclude order p r bares params fresh whole first second e = grind (arith, set_all-append, cons_append, set_each)
 
 -- the order in which the parameters of a printed line are set
 pub record Order (p : FormatParams) : Type 0 where
@@ -285,10 +255,10 @@ pub record Order (p : FormatParams) : Type 0 where
   pub read : params_read (all_pairs FIELDS p) ≡ filter_map (λ f. param_at f p) order
 
 pub order_of : (p : FormatParams) → CanBeReadBack p → (o5 : Option h265_triple) (o6 : Option h266_triple) → p.h265_profile_tier_level ≡ o5 → p.h266_profile_tier_level ≡ o6 → Order p
-order_of p h None None e5 e6 = record { order = field.H265ProfileTierLevel ∷ field.H266ProfileTierLevel ∷ singles; fresh = refl; whole = refl; read = without_triple p h.values e5 e6 }
+order_of p h None None e5 e6 = search (rules, without_triple p h.values e5 e6)
 order_of p h (Some t) None e5 e6 = record { order = triple_first; fresh = refl; whole = refl; read = with_h265 p t h.values e5 e6 (elim h.profile [ inl e ↦ e | inr both ↦ clash p.h265_profile_tier_level t e5 both.0 ]) }
 order_of p h None (Some u) e5 e6 = record { order = triple_first; fresh = refl; whole = refl; read = with_h266 p u h.values e6 e5 (elim h.profile [ inl e ↦ e | inr both ↦ clash p.h266_profile_tier_level u e6 both.1 ]) }
-order_of p h (Some t) (Some u) e5 e6 = elim h.triples [ inl e ↦ clash p.h265_profile_tier_level t e5 e | inr e ↦ clash p.h266_profile_tier_level u e6 e ]
+order_of p h (Some t) (Some u) e5 e6 = grind arith
 
 -- the values without a key that are printed
 bares_printed : (p : FormatParams) → all_bares FIELDS p ≡ bares_at field.TelephoneEvents p
@@ -327,5 +297,4 @@ itself line p r h printed reading =
     ]
 
 pub line_itself : {E : Type 0} (line : List ℕ) (answer : Result FormatParams E) → IfOk answer (IsFormatOfLine line) → (p : FormatParams) → CanBeReadBack p → line ≡ params_text p → IfOk answer (λ r. r ≡ p)
-line_itself line (Ok r) h p can printed = itself line p r can printed h
-line_itself line (Err e) h p can printed = tt
+line_itself line answer h p can printed = grind (arith, itself)

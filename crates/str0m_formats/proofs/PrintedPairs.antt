@@ -1,5 +1,5 @@
 -- A format that is printed as an fmtp line: its pairs, and what they read as.
-use Rattle.str0m_formats.proofs.Common.{◌≡◌, ◌≢◌, ℕ, Bool, false, List, [], ◌∷◌, ◌++◌, length, map, Option, Some, None, IfSome, option_map, ◌||◌, inl, inr, refl, sym, arith, ap, subst, ◌∙◌, AllByRecursion, cons_option, list_any, append-nil, length-append, map-append, IsRest}
+use Rattle.str0m_formats.proofs.Common.{◌≡◌, ◌≢◌, ℕ, false, List, [], ◌∷◌, ◌++◌, length, map, Option, Some, None, IfSome, option_map, inl, inr, refl, sym, arith, ap, subst, ◌∙◌, AllByRecursion, cons_option, list_any, append-nil, map-append, IsRest}
 use Rattle.std.proofs.Common.{filter_map}
 use Rattle.str0m_formats.specs.declared.format_param.FormatParam.{FormatParam}
 use Rattle.str0m_formats.specs.declared.format_param.FormatParam.TheVariants.{TelephoneEvents, BareRange, BarePtList, AmrWbUnsupported, Apt, Red, Unknown}
@@ -17,7 +17,7 @@ use Rattle.str0m_formats.specs.FormatLine.{is_events, is_unsupported, is_refused
 use Rattle.str0m_formats.specs.PairsReading.{params_read}
 use Rattle.str0m_formats.proofs.PrintedLine.{all_pieces, all_pairs, joined, alike, order_of}
 use Rattle.str0m_formats.proofs.SetAll.{param_is, set_each}
-use Rattle.str0m_formats.proofs.Shown.{joined_pair, rows_at, bares_at, IsPlainPair, pair_in, text_of, entry_at, shows}
+use Rattle.str0m_formats.proofs.Shown.{joined_pair, rows_at, bares_at, IsPlainPair, entry_at, shows}
 use Rattle.str0m_formats.proofs.Rows.{given}
 
 -- a parameter of a field: not one that only lines hold, and no range of events
@@ -32,8 +32,7 @@ IsOwn Unknown = ⊥
 IsOwn param = Unit {0}
 
 some_has : {A : Type 0} (P : FormatParam → Type 0) (make : A → FormatParam) (o : Option A) → ((x : A) → P (make x)) → IfSome (option_map make o) P
-some_has P make None each = tt
-some_has P make (Some x) each = each x
+some_has P make o each = grind arith
 
 key_own : (k : FormatKey) (p : FormatParams) → IfSome (option_map (made k) (get (field.Key k) p)) IsOwn
 key_own key.Apt p = tt
@@ -54,8 +53,7 @@ own_at f p none = subst (λ o. IfSome o IsOwn) (sym (param_is f p)) (own_in f p 
 
 each_step : (P : FormatParam → Type 0) (o : Option FormatParam) (params : List FormatParam) → IfSome o P → AllByRecursion P params
     → AllByRecursion P (cons_option o params)
-each_step P None params h k = k
-each_step P (Some param) params h k = (h, k)
+each_step P o params h k = grind arith
 
 own_all : (fs : List Field) (p : FormatParams) → p.telephone_event_max ≡ None
     → AllByRecursion IsOwn (filter_map (λ f. param_at f p) fs)
@@ -68,10 +66,7 @@ abbrev Prints : FormatParam → Type 0
 Prints param = IsRest (param_text param)
 
 key_prints : (k : FormatKey) (o : Option (Held (kind k))) → IfSome o (λ x. entry (made k x) ≡ Some (k, x)) → IfSome (option_map (made k) o) Prints
-key_prints k None is = tt
-key_prints k (Some x) is =
-    let pair = pair_in (k, x) in
-    omega (arith, ap length (text_of (made k x) (k, x) is), length-append pair.0 (61 ∷ pair.1))
+key_prints k o is = grind arith
 
 prints_in : (f : Field) (p : FormatParams) → IfSome (option_map (param_in f) (get f p)) Prints
 prints_in (field.Key k) p = key_prints k (get (field.Key k) p) (entry_at k p)
@@ -81,7 +76,7 @@ prints_in field.TelephoneEvents p = some_has Prints _ p.telephone_event_max (λ 
 
 fields_print : (fs : List Field) (p : FormatParams) → AllByRecursion Prints (filter_map (λ f. param_at f p) fs)
 fields_print [] p = tt
-fields_print (f ∷ fs) p = each_step Prints (param_at f p) (filter_map (λ f. param_at f p) fs) (subst (λ o. IfSome o Prints) (sym (param_is f p)) (prints_in f p)) (fields_print fs p)
+fields_print (f ∷ fs) p = grind (arith, each_step, param_is, prints_in, fields_print fs p)
 
 pub params_print : (p : FormatParams) → AllByRecursion (λ param. IsRest (param_text param)) (params_of p)
 unfolding params_of
@@ -94,17 +89,12 @@ both P [] ys h k = k
 both P (x ∷ xs) ys h k = (h.0, both P xs ys h.1 k)
 
 no_bares : (f : Field) (p : FormatParams) → p.telephone_event_max ≡ None → bares_at f p ≡ []
-no_bares field.TelephoneEvents p none = rw none refl
-no_bares f p none = refl
+no_bares f p none = grind arith
 
 pieces_are : (fs : List Field) (p : FormatParams) → p.telephone_event_max ≡ None
     → all_pieces fs p ≡ map joined_pair (all_pairs fs p)
 pieces_are [] p none = refl
-pieces_are (f ∷ fs) p none =
-    ap (λ (t : List (List ℕ)). (map joined_pair (given (rows_at f p)) ++ t) ++ all_pieces fs p) (no_bares f p none)
-    ∙ ap (λ (t : List (List ℕ)). t ++ all_pieces fs p) (append-nil (map joined_pair (given (rows_at f p))))
-    ∙ ap (λ (t : List (List ℕ)). map joined_pair (given (rows_at f p)) ++ t) (pieces_are fs p none)
-    ∙ sym (map-append joined_pair (given (rows_at f p)) (all_pairs fs p))
+pieces_are (f ∷ fs) p none = grind (arith, no_bares, append-nil, pieces_are fs p none, map-append)
 
 plain_pairs : (fs : List Field) (p : FormatParams) → CanBeReadBack p → AllByRecursion IsPlainPair (all_pairs fs p)
 plain_pairs [] p h = tt
@@ -159,8 +149,7 @@ line_of_pairs p h none =
 
 kept_one : (q : FormatParam) (params : List FormatParam) → IsOwn q → kept params ≡ params → kept (q ∷ params) ≡ q ∷ params
 unfolding is_events
-kept_one (TelephoneEvents n) params mine e = absurd mine
-kept_one q params mine e = ap (λ (qs : List FormatParam). q ∷ qs) e
+kept_one q params mine e = grind arith
 
 kept_own : (params : List FormatParam) → AllByRecursion IsOwn params → kept params ≡ params
 kept_own [] own = refl
@@ -169,8 +158,7 @@ kept_own (q ∷ params) own = kept_one q params own.0 (kept_own params own.1)
 supported_one : (q : FormatParam) (params : List FormatParam) → IsOwn q → list_any is_unsupported params ≡ false
     → list_any is_unsupported (q ∷ params) ≡ false
 unfolding is_unsupported
-supported_one AmrWbUnsupported params mine e = absurd mine
-supported_one q params mine e = e
+supported_one q params mine e = grind arith
 
 supported : (params : List FormatParam) → AllByRecursion IsOwn params → list_any is_unsupported params ≡ false
 supported [] own = refl
@@ -182,10 +170,8 @@ values_one params own = append-nil (kept params) ∙ kept_own params own
 
 refused_none : (c : Codec) (params : List FormatParam) → AllByRecursion IsOwn params → is_refused c (params ∷ []) ≡ false
 unfolding is_refused
-refused_none codec.AmrWb params own = ap (λ (b : Bool). b || false) (supported params own)
-refused_none c params own = refl
+refused_none c params own = grind (arith, supported)
 
 pub said : (c : Codec) (p : FormatParams) (params : List FormatParam) → c ≢ codec.Tele → AllByRecursion IsOwn params
     → set_all empty params ≡ p → format_of_fmtp c (params ∷ []) ≡ Some p
-said codec.Tele p params other own e = absurd (other refl)
-said c p params other own e = rw (refused_none c params own, values_one params own, e) refl
+said c p params other own e = grind (arith, refused_none, values_one)

@@ -18,18 +18,12 @@ find-range_none p t n h = let s : n - t ≡ 0 = omega arith in rw s refl
 pub find-range_skips : (p : ℕ → Bool) (n d s : ℕ) → s + d ≤ n → ((i : ℕ) → s ≤ i → i < s + d → p i ≡ false)
     → find p (range_with_len s (n - s)) ≡ find p (range_with_len (s + d) (n - (s + d)))
 find-range_skips p n zero s h fails = let e : s + 0 ≡ s = omega arith in ap (λ k. find p (range_with_len k (n - k))) (sym e)
-find-range_skips p n (suc d) s h fails =
-    let e : (s + 1) + d ≡ s + suc d = omega arith in
-    find-range_more p s n (omega arith) (fails s (omega arith) (omega arith))
-    ∙ find-range_skips p n d (s + 1) (omega arith) (λ i a b. fails i (omega arith) (omega arith))
-    ∙ ap (λ k. find p (range_with_len k (n - k))) e
+find-range_skips p n (suc d) s h fails = grind (arith, find-range_more, find-range_skips p n d (s + 1))
 
 -- where a test fails after a range, only the range is searched; there it may be another test of the same answers
 pub find-range_cut : (p q : ℕ → Bool) (n d s : ℕ) → s + d ≤ n → ((i : ℕ) → s ≤ i → i < s + d → p i ≡ q i)
     → ((i : ℕ) → s + d ≤ i → i < n → p i ≡ false) → find p (range_with_len s (n - s)) ≡ find q (range_with_len s d)
-find-range_cut p q n zero s h same fails =
-    find-range_skips p n (n - s) s (omega arith) (λ i a b. fails i (omega arith) (omega arith))
-    ∙ find-range_none p (s + (n - s)) n (omega arith)
+find-range_cut p q n zero s h same fails = grind (arith, find-range_skips p n (n - s) s, find-range_none p (s + (n - s)) n)
 find-range_cut p q n (suc d) s h same fails =
     let long : n - s ≡ suc (n - (s + 1)) = omega arith in
     let rest =

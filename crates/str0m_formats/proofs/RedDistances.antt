@@ -1,11 +1,10 @@
 -- What is kept of the distances given.
-use Rattle.str0m_formats.proofs.Common.{zero, suc, ◌≡◌, ◌==◌, ◌↔◌, ◌⊎◌, inl, inr, ℕ, ◌+◌, ◌-◌, ◌<◌, ◌≤◌, Bool, true, false, ◌||◌, ◌&&◌, cond, List, [], ◌∷◌, ◌++◌, filter, All, length, take, refl, sym, ap, ◌∙◌, arith, Contains, list_any, range_with_len, or_cases, or_left, or_right, and_parts, eqb-true, eq-eqb, append-nil, take_more_set, All-filter, filter-append}
+use Rattle.str0m_formats.proofs.Common.{rules, zero, suc, ◌≡◌, ◌==◌, ◌↔◌, ◌⊎◌, inl, inr, ℕ, ◌+◌, ◌-◌, ◌<◌, ◌≤◌, Bool, true, false, ◌&&◌, cond, List, [], ◌∷◌, ◌++◌, filter, All, length, take, refl, sym, ap, ◌∙◌, arith, Contains, list_any, range_with_len, or_cases, or_left, or_right, and_parts, eqb-true, eq-eqb, append-nil, take_more_set, All-filter, filter-append}
 use Rattle.std.proofs.Common.{add-one, set}
 use Rattle.std.specs.Cmp.{nat_eq_equiv}
 use Rattle.std.specs.List.Sorted.{IsStrictlyIncreasing}
 use Rattle.std.proofs.Math.Bool.{and-false}
 use Rattle.std.proofs.lemmas.Bool.{and_from}
-use Rattle.std.proofs.lemmas.List.Elements.{All-from_get_or}
 use Rattle.std.proofs.lemmas.List.FromFn.{length-range_with_len, get_or-range_with_len}
 use Rattle.std.proofs.lemmas.List.Kept.{IsStrictlyIncreasing-filter}
 use Rattle.std.proofs.lemmas.Map.Views.{list_any-from_Contains, Contains-from_any}
@@ -18,30 +17,23 @@ range_push a (suc n) = ap (λ ks. a ∷ ks) (range_push (a + 1) n ∙ ap (λ k. 
 -- one number more
 pub kept_more : (given : List ℕ) (n : ℕ) → kept_to (n + 1) given ≡ kept_to n given ++ cond (keeps given (n + 1)) ((n + 1) ∷ []) []
 unfolding kept_to
-kept_more given n =
-    let longer : range_with_len 1 (n + 1) ≡ range_with_len 1 n ++ (1 + n) ∷ [] = rw add-one (range_push 1 n) in
-    ap (filter (keeps given)) longer ∙ (filter-append (keeps given) (range_with_len 1 n) ((1 + n) ∷ [])
-    ∙ ap (λ k. filter (keeps given) (range_with_len 1 n) ++ filter (keeps given) (k ∷ [])) (omega arith))
+kept_more given n = grind (arith, add-one, range_push 1 n, filter-append (keeps given) (range_with_len 1 n) ((1 + n) ∷ []))
 
 pub kept_taken : (given levels : List ℕ) (n count : ℕ) → keeps given (n + 1) ≡ true → count < length levels → take count levels ≡ kept_to n given → take (count + 1) (set levels count (n + 1)) ≡ kept_to (n + 1) given
-kept_taken given levels n count e l h =
-    take_more_set levels count (n + 1) l ∙ (ap (λ ks. ks ++ (n + 1) ∷ []) h ∙ sym (kept_more given n ∙ ap (λ b. kept_to n given ++ cond b ((n + 1) ∷ []) []) e))
+kept_taken given levels n count e l h = grind (arith, take_more_set, kept_more)
 
 pub kept_skipped : (given levels : List ℕ) (n count : ℕ) → keeps given (n + 1) ≡ false → take count levels ≡ kept_to n given → take count levels ≡ kept_to (n + 1) given
-kept_skipped given levels n count e h =
-    h ∙ sym (kept_more given n ∙ ap (λ b. kept_to n given ++ cond b ((n + 1) ∷ []) []) e ∙ append-nil (kept_to n given))
+kept_skipped given levels n count e h = grind (arith, kept_more, append-nil)
 
 pub kept_none : (given : List ℕ) → kept_to 0 given ≡ []
 unfolding kept_to
 kept_none given = refl
 
 increasing : (n : ℕ) → IsStrictlyIncreasing (range_with_len 1 n)
-increasing n k l =
-    let len = length-range_with_len 1 n in
-    omega (arith, get_or-range_with_len 1 n k 0 (omega arith), get_or-range_with_len 1 n (k + 1) 0 (omega arith))
+increasing n k l = grind (arith, length-range_with_len, get_or-range_with_len)
 
 bounded : All (λ d. d ≤ 16) (range_with_len 1 16)
-bounded = All-from_get_or (λ d. d ≤ 16) (range_with_len 1 16) 0 (λ i l. omega (arith, length-range_with_len 1 16, get_or-range_with_len 1 16 i 0 (omega (arith, length-range_with_len 1 16))))
+bounded = search (rules, length-range_with_len, get_or-range_with_len)
 
 pub kept_distances : (given : List ℕ) → AreDistances (kept_to 16 given)
 unfolding kept_to
@@ -55,16 +47,7 @@ kept_distances given = record {
 
 any_filter : (p : ℕ → Bool) (d : ℕ) (xs : List ℕ) → list_any (λ x. d == x) (filter p xs) ≡ (p d && list_any (λ x. d == x) xs)
 any_filter p d [] = sym (and-false (p d))
-any_filter p d (x ∷ xs) = go (p x) (d == x) refl refl (any_filter p d xs) where
-  go : (b h : Bool) → p x ≡ b → (d == x) ≡ h → list_any (λ y. d == y) (filter p xs) ≡ (p d && list_any (λ y. d == y) xs) → list_any (λ y. d == y) (cond b (x ∷ filter p xs) (filter p xs)) ≡ (p d && ((d == x) || list_any (λ y. d == y) xs))
-  go true true e i rest =
-      let mine : p d ≡ true = ap p (eqb-true d x i) ∙ e in
-      rw (i, mine) refl
-  go true false e i rest = rw i rest
-  go false true e i rest =
-      let mine : p d ≡ false = ap p (eqb-true d x i) ∙ e in
-      rest ∙ rw mine refl
-  go false false e i rest = rw i rest
+any_filter p d (x ∷ xs) = grind (arith, any_filter p d xs, eqb-true)
 
 contains_kept : (p : ℕ → Bool) (d : ℕ) (xs : List ℕ) → Contains (filter p xs) d ↔ ((p d ≡ true) × Contains xs d)
 contains_kept p d xs = (
@@ -76,10 +59,7 @@ in_range : (d : ℕ) → 1 ≤ d → d ≤ 16 → Contains (range_with_len 1 16)
 in_range d low high = (d - 1, omega (arith, length-range_with_len 1 16), get_or-range_with_len 1 16 (d - 1) d (omega arith) ∙ omega arith)
 
 of_range : (d : ℕ) → Contains (range_with_len 1 16) d → (1 ≤ d) × (d ≤ 16)
-of_range d c =
-    let inside : c.0 < 16 = omega (arith, length-range_with_len 1 16, c.1) in
-    let same : 1 + c.0 ≡ d = sym (get_or-range_with_len 1 16 c.0 d inside) ∙ c.2 in
-    (omega arith, omega arith)
+of_range d c = search (rules, length-range_with_len, get_or-range_with_len)
 
 -- a number that passes was given, or is 1
 passed : (given : List ℕ) (d : ℕ) → keeps given d ≡ true → (1 ≤ d) × (d ≤ 16) → IsKept given d

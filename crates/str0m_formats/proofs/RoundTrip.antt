@@ -1,16 +1,13 @@
 -- What prints reads back.
-use Rattle.str0m_formats.proofs.Common.{◌≡◌, ◌≢◌, ◌≤◌, ◌<◌, ◌^◌, ◌-◌, inl, ℕ, Bool, true, false, List, [], ◌∷◌, ◌++◌, length, get_or, replicate, refl, sym, ap, ◌∙◌, subst, arith, lit<, lit≤, decimal, digit_value, AllDigits, digits_value, decimal_is_IsNumeral, digits_is_IsNumeral, length-append, false≢true, IsNumber, IsNum, IsRest, Option, Some, None, MatchOption, nat_le, inr, ◌==◌, ◌&&◌, and_parts, cases_lt, eqb-true, leb-true}
+use Rattle.str0m_formats.proofs.Common.{◌≡◌, ◌≢◌, ◌≤◌, ◌<◌, ◌^◌, ◌-◌, inl, ℕ, Bool, true, false, List, [], ◌∷◌, ◌++◌, get_or, replicate, refl, sym, ap, ◌∙◌, arith, lit<, decimal, AllDigits, digits_value, decimal_is_IsNumeral, digits_is_IsNumeral, length-append, false≢true, IsNumber, IsNum, IsRest, Option, Some, None, MatchOption, nat_le, inr, ◌==◌, ◌&&◌, and_parts, cases_lt, eqb-true, leb-true}
 use Rattle.std.proofs.Common.{zero, suc}
 use Rattle.std.specs.Fmt.{digits}
 use Rattle.std.specs.Char.{encode_utf8}
 use Rattle.std.specs.Str.{trim_end, chars, trim_start}
 use Rattle.std.specs.Str.Parse.{IsNumeral}
-use Rattle.std.proofs.lemmas.Str.Parse.{without_leading_plus_none}
 use Rattle.str0m_formats.specs.FormatKey.{key_text}
 use Rattle.str0m_formats.specs.declared.format_key.FormatKey.{FormatKey}
-use Rattle.str0m_formats.specs.declared.format_key.FormatKey.TheVariants as key
 use Rattle.str0m_formats.specs.declared.format_param.FormatParam.{FormatParam}
-use Rattle.str0m_formats.specs.declared.format_param.FormatParam.TheVariants.{H265ProfileTierLevel, H266ProfileTierLevel, TelephoneEvents, BareRange, BarePtList, AmrWbUnsupported, Red, Unknown}
 use Rattle.str0m_formats.specs.FormatParam.{Kind, flag, number, hex, modes, exactly, anything, Held, Reads, kind, made, entry, IsParsed, IsPrinted, InRange, IsModeSet, flag_text, six_digits, mode_list, value_text}
 use Rattle.str0m_formats.specs.ParamReading.{modes_read, param_of}
 use Rattle.str0m_formats.proofs.Modes.{modes_only}
@@ -19,25 +16,15 @@ use Rattle.str0m_formats.proofs.ParamLaws.{spelled, parsed_only}
 -- a numeral begins with no plus
 no_plus : (radix : ℕ) (ds : List ℕ) → radix ≤ 16 → AllDigits radix ds → get_or ds 0 0 ≢ 43
 no_plus radix [] small h e = omega arith
-no_plus radix (c ∷ cs) small h e =
-    let digit : digit_value 43 < radix = subst (λ (d : ℕ). digit_value d < radix) e h.0 in
-    omega arith
+no_plus radix (c ∷ cs) small h e = grind arith
 
 -- digits read as their value
 as_number : (limit radix : ℕ) (text : List ℕ) (n : ℕ) → radix ≤ 16 → IsNumeral radix text → digits_value radix text ≡ n → n ≤ limit → IsNumber radix limit text n
-as_number limit radix text n small numeral value fits =
-    let same = without_leading_plus_none text (no_plus radix text small numeral.1) in
-    record {
-      numeral = subst (λ (t : List ℕ). IsNumeral radix t) (sym same) numeral;
-      value = ap (digits_value radix) same ∙ value;
-      fits = fits;
-    }
+as_number limit radix text n small numeral value fits = grind arith
 
 -- a printed number reads as itself
 pub decimal_reads : (limit n : ℕ) → n ≤ limit → n < 2 ^ 64 → IsNum limit (decimal n) n
-decimal_reads limit n fits small =
-    let k = decimal_is_IsNumeral n small in
-    as_number limit 10 (decimal n) n (lit≤ tt) k.0 k.1 fits
+decimal_reads limit n fits small = grind (arith, decimal_is_IsNumeral n small, as_number limit 10 (decimal n) n)
 
 -- zeros in front change no value
 zeros_digits : (k : ℕ) (ds : List ℕ) → AllDigits 16 ds → AllDigits 16 (replicate k 48 ++ ds)
@@ -49,18 +36,10 @@ zeros_value zero ds = refl
 zeros_value (suc k) ds = zeros_value k ds
 
 pub six_digits_reads : (n : ℕ) → n ≤ 4294967295 → IsNumber 16 4294967295 (six_digits n) n
-six_digits_reads n fits =
-    let below : n < 16 ^ 64 = omega arith in
-    let k = digits_is_IsNumeral 16 false (lit≤ tt) (lit≤ tt) n below in
-    let ds = digits 16 false n in
-    let zeros = 6 - length ds in
-    as_number 4294967295 16 (six_digits n) n (lit≤ tt)
-    (omega (arith, k.0.0, length-append (replicate zeros 48) ds), zeros_digits zeros ds k.0.1)
-    (zeros_value zeros ds ∙ k.1) fits
+six_digits_reads n fits = grind (arith, digits_is_IsNumeral, as_number, length-append, zeros_digits, zeros_value)
 
 flag_reads : (b : Bool) → Reads flag (flag_text b) b
-flag_reads true = (λ t. refl, λ e. refl)
-flag_reads false = (λ t. absurd (false≢true t), λ e. absurd (let d : 48 ≡ 49 = ap (λ l. get_or l 0 0) e in omega arith))
+flag_reads b = grind arith
 
 reads_back : ℕ → Option ℕ → Bool
 reads_back mask None = false
@@ -109,8 +88,7 @@ is_small (number limit) = nat_le limit 4294967295
 is_small k = true
 
 pub key_small : (k : FormatKey) → is_small (kind k) ≡ true
-key_small key.Apt = refl
-key_small k = refl
+key_small k = grind arith
 
 pub limit_small : (limit n : ℕ) → is_small (number limit) ≡ true → n ≤ limit → n ≤ 4294967295
 limit_small limit n small h = let le : limit ≤ 4294967295 = leb-true limit 4294967295 small in omega arith
@@ -130,15 +108,7 @@ key_reads k x h = sym (spelled (key_text k) (value_text (kind k) x) (made k x) (
 
 -- the table and the keys of parameters agree
 pub entry_made : (param : FormatParam) → MatchOption (entry param) (Unit {0}) (λ e. param ≡ made e.0 e.1)
-entry_made (H265ProfileTierLevel t) = tt
-entry_made (H266ProfileTierLevel t) = tt
-entry_made (TelephoneEvents n) = tt
-entry_made (BareRange n) = tt
-entry_made (BarePtList pt) = tt
-entry_made AmrWbUnsupported = tt
-entry_made (Red pt) = tt
-entry_made Unknown = tt
-entry_made param = refl
+entry_made param = grind arith
 
 -- what a parameter of the table prints is read as that parameter
 pub parsed_printed : (key_as value : List ℕ) (r : FormatParam) → IsParsed (key_as, value) r → (p : FormatParam) → IsPrinted p (key_as, value) → r ≡ p

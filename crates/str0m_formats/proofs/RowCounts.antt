@@ -1,5 +1,5 @@
 -- How often a type stands among the rows that pass a test, as the rows are gone over one by one.
-use Rattle.str0m_formats.proofs.Common.{zero, suc, ◌≡◌, ℕ, ◌+◌, ◌≤◌, Bool, true, false, not, cond, List, [], ◌∷◌, ◌++◌, length, take, drop, Some, filter, refl, ap, ◌∙◌, arith, slice_get, same_Some, none-some, length-append}
+use Rattle.str0m_formats.proofs.Common.{rules, zero, suc, ◌≡◌, ℕ, ◌+◌, ◌≤◌, Bool, true, false, not, cond, List, [], ◌∷◌, ◌++◌, length, take, drop, Some, filter, refl, ap, ◌∙◌, arith, slice_get, same_Some, none-some, length-append}
 use Rattle.str0m_formats.specs.declared.payload_params.PayloadParams.{PayloadParams}
 use Rattle.str0m_formats.specs.TypeSets.{times}
 use Rattle.str0m_formats.specs.Rows.{types_of, types, locked_types, open_types}
@@ -14,13 +14,10 @@ drop_suc (y ∷ xs) (suc i) x e = drop_suc xs i x e
 
 -- with one row more, first or last
 pub times_where-cons : (test : PayloadParams → Bool) (row : PayloadParams) (rows : List PayloadParams) (t : ℕ) → times (types (filter test (row ∷ rows))) t ≡ times (cond (test row) (types_of row) []) t + times (types (filter test rows)) t
-times_where-cons test row rows t = go (test row) where
-  go : (b : Bool) → times (types (cond b (row ∷ filter test rows) (filter test rows))) t ≡ times (cond b (types_of row) []) t + times (types (filter test rows)) t
-  go true = times-append (types_of row) (types (filter test rows)) t
-  go false = omega (arith, times-nil t)
+times_where-cons test row rows t = grind (arith, times-append (types_of row) (types (filter test rows)) t, times-nil t)
 
 pub times_where-push : (test : PayloadParams → Bool) (rows : List PayloadParams) (row : PayloadParams) (t : ℕ) → times (types (filter test (rows ++ row ∷ []))) t ≡ times (types (filter test rows)) t + times (cond (test row) (types_of row) []) t
-times_where-push test rows row t = ap (λ ts. times ts t) (types_where-push test rows row) ∙ times-append (types (filter test rows)) (cond (test row) (types_of row) []) t
+times_where-push test rows row t = search (rules, types_where-push, times-append)
 
 -- the rows from a place on have no more
 pub times_where-drop : (test : PayloadParams → Bool) (rows : List PayloadParams) (i t : ℕ) → times (types (filter test (drop i rows))) t ≤ times (types (filter test rows)) t

@@ -1,54 +1,36 @@
 -- What a round does to the row at a place, step by step.
-use Rattle.str0m_formats.proofs.Common.{◌≡◌, ℕ, Bool, true, false, cond, List, take, Option, Some, None, Result, Ok, Err, IfOk, IfErr, IfSome, refl, slice_get, ok_or}
+use Rattle.str0m_formats.proofs.Common.{arith, ◌≡◌, ℕ, Bool, true, false, List, take, Option, Some, None, Result, Ok, Err, IfOk, IfErr, IfSome, slice_get, ok_or}
 use Rattle.str0m_formats.specs.declared.negotiation_error.NegotiationError.{NegotiationError}
 use Rattle.str0m_formats.specs.declared.negotiation_error.NegotiationError.TheVariants.{Exhausted, ClaimedTwice}
 use Rattle.str0m_formats.specs.declared.payload_params.PayloadParams.{PayloadParams}
 use Rattle.str0m_formats.specs.TypeSets.{TypeSet, has, either, free}
 use Rattle.str0m_formats.specs.Rows.{locked_types, open_types}
-use Rattle.str0m_formats.specs.Rounds.{and_then, own_or_free, role_type, rtx_type, red_type, taken_by, taken_after, settled, kept_red, Becomes, Leaves}
+use Rattle.str0m_formats.specs.Rounds.{and_then, role_type, rtx_type, red_type, taken_by, taken_after, settled, kept_red, Becomes, Leaves}
 use Rattle.str0m_formats.proofs.WholeRound.{row_before}
 
 -- ---- what a step gives, by its parts
 
 pub then_ok : {A B : Type 0} (r : Result A NegotiationError) (f : A → Result B NegotiationError) (P : A → Type 0) (Q : B → Type 0) → IfOk r P → ((x : A) → P x → IfOk (f x) Q) → IfOk (and_then r f) Q
-then_ok (Ok x) f P Q first next = next x first
-then_ok (Err e) f P Q first next = tt
+then_ok r f P Q first next = grind arith
 
 pub then_err : {A B : Type 0} (r : Result A NegotiationError) (f : A → Result B NegotiationError) (Q : NegotiationError → Type 0) → IfErr r Q → ((x : A) → IfErr (f x) Q) → IfErr (and_then r f) Q
-then_err (Ok x) f Q first next = next x
-then_err (Err e) f Q first next = first
+then_err r f Q first next = grind arith
 
 -- what holds of a free type, and of there being none, holds of the choice of one
 pub free_cases : (P : Result ℕ NegotiationError → Type 0) (used : TypeSet) → ((t : ℕ) → free used ≡ Some t → P (Ok t)) → (free used ≡ None → P (Err Exhausted)) → P (ok_or (free used) Exhausted)
-free_cases P used some none = go (free used) refl where
-  go : (o : Option ℕ) → free used ≡ o → P (ok_or o Exhausted)
-  go None e = none e
-  go (Some t) e = some t e
+free_cases P used some none = grind arith
 
 -- a role has the type that is asked for, its own or a free one, or is refused what is demanded
 pub role_cases : (P : Result ℕ NegotiationError → Type 0) (taken unlocked : TypeSet) (receives : Bool) (asked : ℕ) (own : Option ℕ)
     → (taken asked ≡ false → P (Ok asked)) → (receives ≡ true → P (Err (ClaimedTwice asked))) → IfSome own (λ t. taken t ≡ false → P (Ok t)) → P (ok_or (free (either taken unlocked)) Exhausted)
     → P (role_type taken unlocked receives asked own)
 unfolding role_type
-role_cases P taken unlocked receives asked own is_asked demanded is_own is_free = go (taken asked) refl receives refl where
-  of : (x : ℕ) → (taken x ≡ false → P (Ok x)) → (b : Bool) → taken x ≡ b → P (cond b (ok_or (free (either taken unlocked)) Exhausted) (Ok x))
-  of x h true e = is_free
-  of x h false e = h e
-
-  own_part : (o : Option ℕ) → IfSome o (λ t. taken t ≡ false → P (Ok t)) → P (own_or_free taken unlocked o)
-  own_part None h = is_free
-  own_part (Some x) h = of x h (taken x) refl
-
-  go : (b : Bool) → taken asked ≡ b → (c : Bool) → receives ≡ c → P (cond b (cond c (Err (ClaimedTwice asked)) (own_or_free taken unlocked own)) (Ok asked))
-  go false e c k = is_asked e
-  go true e true k = demanded k
-  go true e false k = own_part own is_own
+role_cases P taken unlocked receives asked own is_asked demanded is_own is_free = grind arith
 
 -- what holds of a free type, and of each that may be kept, holds of the types that roles are given
 module _ (Q : ℕ → Type 0) (taken unlocked : TypeSet) (given : (t : ℕ) → free (either taken unlocked) ≡ Some t → Q t) where
   free_given : (o : Option ℕ) → free (either taken unlocked) ≡ o → IfSome o Q
-  free_given None e = tt
-  free_given (Some t) e = given t e
+  free_given o e = grind arith
 
   pub role-given : (receives : Bool) (asked : ℕ) (own : Option ℕ) → (taken asked ≡ false → Q asked) → IfSome own (λ t. taken t ≡ false → Q t) → IfOk (role_type taken unlocked receives asked own) Q
   role-given receives asked own is_asked is_own =
@@ -62,20 +44,10 @@ module _ (Q : ℕ → Type 0) (taken unlocked : TypeSet) (given : (t : ℕ) → 
 
   pub red-given : (receives : Bool) (asked own : Option ℕ) → IfSome asked (λ t. taken t ≡ false → Q t) → IfSome (red_type taken unlocked receives asked own) Q
   unfolding red_type
-  red-given receives None own is_asked = tt
-  red-given receives (Some asked) None is_asked = tt
-  red-given receives (Some asked) (Some own) is_asked = go (taken asked) refl receives where
-    go : (b : Bool) → taken asked ≡ b → (c : Bool) → IfSome (cond b (cond c None (free (either taken unlocked))) (Some asked)) Q
-    go false e c = is_asked e
-    go true e true = tt
-    go true e false = free_given (free (either taken unlocked)) refl
+  red-given receives asked own is_asked = grind arith
 
   pub kept-given : (locked : TypeSet) (own : Option ℕ) → IfSome own (λ t. locked t ≡ false → Q t) → IfSome (kept_red locked taken unlocked own) Q
-  kept-given locked None is_own = tt
-  kept-given locked (Some t) is_own = go (locked t) refl where
-    go : (b : Bool) → locked t ≡ b → IfSome (cond b (free (either taken unlocked)) (Some t)) Q
-    go true e = free_given (free (either taken unlocked)) refl
-    go false e = is_own e
+  kept-given locked own is_own = grind arith
 
 -- the row between the passes, and what each pass does
 pub record RowSteps (before remote : List PayloadParams) (receives : Bool) (mid after : List PayloadParams) (i : ℕ) (old new : PayloadParams) : Type 0 where

@@ -1,5 +1,5 @@
 -- Keys with values that may be absent: what is left of them, looked up, merged and taken apart.
-use Rattle.str0m_formats.proofs.Common.{◌≡◌, ◌&&◌, ℕ, Bool, true, false, not, cond, List, [], ◌∷◌, ◌++◌, filter, Option, Some, None, is_some, inl, inr, refl, ap, AllByRecursion, keys_of, list_all, list_any, lookup, bytes_eq, str_to_ascii_lowercase, cases_Bool, and_parts, not-true, bytes_eq-Decides, ◌<|>◌}
+use Rattle.str0m_formats.proofs.Common.{arith, ◌≡◌, ◌&&◌, ℕ, Bool, true, false, not, cond, List, [], ◌∷◌, ◌++◌, filter, Option, Some, None, is_some, inl, inr, refl, ap, AllByRecursion, keys_of, list_all, list_any, lookup, bytes_eq, str_to_ascii_lowercase, cases_Bool, and_parts, not-true, bytes_eq-Decides, ◌<|>◌}
 use Rattle.std.specs.List.{IsDistinct}
 use Rattle.str0m_formats.specs.Pairs.{is_mark, has_mark, merged, is_part, others}
 use Rattle.str0m_formats.proofs.MergedKeys.{AreLow, AreApart, merged_same}
@@ -29,31 +29,23 @@ look key (row ∷ rows) = cond (bytes_eq key row.0) (row.1 <|> look key rows) (l
 
 pub look_given : (key : List ℕ) (rows : Rows) → lookup (bytes_eq key) (given rows) ≡ look key rows
 look_given key [] = refl
-look_given key ((own, None) ∷ rows) =
-    elim (cases_Bool (bytes_eq key own)) [ inl e ↦ rw e (look_given key rows) | inr e ↦ rw e (look_given key rows) ]
-look_given key ((own, Some value) ∷ rows) =
-    elim (cases_Bool (bytes_eq key own)) [ inl e ↦ rw e refl | inr e ↦ rw e (look_given key rows) ]
+look_given key ((own, None) ∷ rows) = grind (arith, cases_Bool, look_given key rows)
+look_given key ((own, Some value) ∷ rows) = grind (arith, cases_Bool, look_given key rows)
 
 -- ---- marks
 
 pub mark_given : (rows : Rows) → has_mark (given rows) ≡ list_any (λ row. is_mark row.0 && is_some row.1) rows
 unfolding has_mark
 mark_given [] = refl
-mark_given ((own, None) ∷ rows) =
-    elim (cases_Bool (is_mark own)) [ inl e ↦ rw e (mark_given rows) | inr e ↦ rw e (mark_given rows) ]
+mark_given ((own, None) ∷ rows) = grind (arith, cases_Bool, mark_given rows)
 mark_given ((own, Some value) ∷ rows) = elim (cases_Bool (is_mark own)) [ inl e ↦ rw e refl | inr e ↦ rw e (mark_given rows) ]
 
 -- ---- what is no part of a triple
 
 pub others_given : (rows : Rows) → others (given rows) ≡ given (filter (λ row. not (is_part row.0)) rows)
 others_given [] = refl
-others_given ((own, None) ∷ rows) =
-    elim (cases_Bool (is_part own)) [ inl e ↦ rw e (others_given rows) | inr e ↦ rw e (others_given rows) ]
-others_given ((own, Some value) ∷ rows) =
-    elim (cases_Bool (is_part own)) [
-      | inl e ↦ rw e (others_given rows)
-      | inr e ↦ rw e (ap (λ (t : List (List ℕ × List ℕ)). (own, value) ∷ t) (others_given rows))
-    ]
+others_given ((own, None) ∷ rows) = grind (arith, cases_Bool, others_given rows)
+others_given ((own, Some value) ∷ rows) = grind (arith, cases_Bool, others_given rows)
 
 -- ---- merging
 
@@ -65,9 +57,7 @@ are_apart (row ∷ rows) = (bytes_eq (str_to_ascii_lowercase row.0) row.0 && lis
 absent : (key : List ℕ) (rows : Rows) → list_all (λ d. not (bytes_eq key d.0)) rows ≡ true → AllByRecursion (λ k. bytes_eq key k ≡ false) (keys_of (given rows))
 absent key [] e = tt
 absent key ((own, None) ∷ rows) e = absent key rows (and_parts (not (bytes_eq key own)) (list_all (λ d. not (bytes_eq key d.0)) rows) e).1
-absent key ((own, Some value) ∷ rows) e =
-    let p = and_parts (not (bytes_eq key own)) (list_all (λ d. not (bytes_eq key d.0)) rows) e in
-    (not-true (bytes_eq key own) p.0, absent key rows p.1)
+absent key ((own, Some value) ∷ rows) e = grind (arith, and_parts, not-true, absent key rows)
 
 apart : (rows : Rows) → are_apart rows ≡ true → AreLow (given rows) × AreApart (given rows)
 unfolding IsDistinct

@@ -1,8 +1,8 @@
 -- What holds over every list of rounds.
-use Rattle.str0m_formats.proofs.Common.{◌≡◌, ◌≢◌, ◌≤◌, Bool, true, false, List, [], ◌∷◌, length, Ok, Err, refl, sym, ◌∙◌, subst, arith, same_Some, All-nil, All-cons, All-head, All-tail, receives}
+use Rattle.str0m_formats.proofs.Common.{rules, ◌≡◌, ◌≢◌, ◌≤◌, Bool, true, false, List, [], ◌∷◌, length, Ok, Err, refl, sym, ◌∙◌, subst, arith, same_Some, All-nil, All-cons, All-head, All-tail, receives}
 use Rattle.std.specs.Prelude.{All}
 use Rattle.str0m_formats.specs.declared.negotiation_error.NegotiationError.{NegotiationError}
-use Rattle.str0m_formats.specs.declared.negotiation_error.NegotiationError.TheVariants.{TypeTooLarge, ClaimedTwice, Exhausted, Memory}
+use Rattle.str0m_formats.specs.declared.negotiation_error.NegotiationError.TheVariants.{Exhausted}
 use Rattle.str0m_formats.specs.declared.payload_params.PayloadParams.{PayloadParams}
 use Rattle.str0m_formats.specs.declared.rounds.Round.{Round}
 use Rattle.str0m_formats.specs.TypeSets.{AllDistinct}
@@ -26,21 +26,15 @@ use Rattle.str0m_formats.proofs.Promised.{promised}
 
 -- a refused round changes no row
 unchanged : (before remote : List PayloadParams) (dir : Bool) (cause : NegotiationError) (after : List PayloadParams) → Ran before remote dir (Err cause) after → after ≡ before
-unchanged before remote dir Memory after ran = ran
-unchanged before remote dir (TypeTooLarge t) after ran = ran.1
-unchanged before remote dir (ClaimedTwice t) after ran = ran.1
-unchanged before remote dir Exhausted after ran = ran.1
+unchanged before remote dir cause after ran = grind arith
 
 -- each accepted round of a list keeps its promises
 pub promised_each : (before : List PayloadParams) (rounds : List Round) (outcomes : List Outcome) (after : List PayloadParams) → Reached before rounds outcomes after → AtEachOk Promises before rounds outcomes after
 promised_each before [] [] after h = h
 promised_each before [] (o ∷ outcomes) after h = h
 promised_each before (round ∷ rounds) [] after h = h
-promised_each before (round ∷ rounds) (Ok done ∷ outcomes) after h =
-    (h.0, promised before round.remote.items (receives round.direction) h.0 h.1, promised_each h.0 rounds outcomes after h.2)
-promised_each before (round ∷ rounds) (Err cause ∷ outcomes) after h =
-    let From : List PayloadParams → Type 0 = λ rows. AtEachOk Promises rows rounds outcomes after in
-    subst From (unchanged before round.remote.items (receives round.direction) cause h.0 h.1) (promised_each h.0 rounds outcomes after h.2)
+promised_each before (round ∷ rounds) (Ok done ∷ outcomes) after h = search (rules, promised, promised_each h.0 rounds outcomes after h.2)
+promised_each before (round ∷ rounds) (Err cause ∷ outcomes) after h = grind (arith, unchanged, promised_each h.0 rounds outcomes after h.2)
 
 -- what holds of no rounds and of each accepted one that brings what it may, and goes on from one to the next, holds over a list of them
 along : (Holds : List PayloadParams → List PayloadParams → Type 0) (May : Round → Type 0) → ((rows : List PayloadParams) → Holds rows rows) → ((a b c : List PayloadParams) → Holds a b → Holds b c → Holds a c)

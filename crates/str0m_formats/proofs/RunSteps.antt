@@ -1,8 +1,8 @@
 -- A run of rounds goes on by one round.
-use Rattle.str0m_formats.proofs.Common.{◌≡◌, ◌≢◌, ℕ, ◌+◌, ◌<◌, Bool, Result, Ok, Err, OnOk, OnErr, IfErr, List, [], ◌∷◌, ◌++◌, length, take, get_or, refl, sym, ap, ◌∙◌, subst, take_more, take_more_set, receives}
+use Rattle.str0m_formats.proofs.Common.{arith, ◌≡◌, ◌≢◌, ℕ, ◌+◌, ◌<◌, Bool, Result, OnOk, OnErr, IfErr, List, [], ◌∷◌, ◌++◌, length, take, get_or, sym, ap, ◌∙◌, subst, take_more, take_more_set, receives}
 use Rattle.std.proofs.Common.{set}
 use Rattle.str0m_formats.specs.declared.negotiation_error.NegotiationError.{NegotiationError}
-use Rattle.str0m_formats.specs.declared.negotiation_error.NegotiationError.TheVariants.{TypeTooLarge, ClaimedTwice, Exhausted, Memory}
+use Rattle.str0m_formats.specs.declared.negotiation_error.NegotiationError.TheVariants.{Memory}
 use Rattle.str0m_formats.specs.declared.payload_params.PayloadParams.{PayloadParams}
 use Rattle.str0m_formats.specs.declared.rounds.Round.{Round}
 use Rattle.str0m_formats.specs.Rounds.{Leaves, Refused}
@@ -10,19 +10,15 @@ use Rattle.str0m_formats.specs.Runs.{Ran, Reached}
 
 pub reached_push : (before : List PayloadParams) (rounds : List Round) (outcomes : List (Result (Unit {0}) NegotiationError)) (mid after : List PayloadParams) (round : Round) (outcome : Result (Unit {0}) NegotiationError)
     → Reached before rounds outcomes mid → Ran mid round.remote.items (receives round.direction) outcome after → Reached before (rounds ++ round ∷ []) (outcomes ++ outcome ∷ []) after
-reached_push before [] [] mid after round outcome h r =
-    let P : List PayloadParams → Type 0 = λ m. Ran m round.remote.items (receives round.direction) outcome after in (after, subst P h r, refl)
+reached_push before [] [] mid after round outcome h r = grind arith
 reached_push before [] (o ∷ outcomes) mid after round outcome h r = absurd h
 reached_push before (x ∷ rounds) [] mid after round outcome h r = absurd h
-reached_push before (x ∷ rounds) (o ∷ outcomes) mid after round outcome h r = (h.0, h.1, reached_push h.0 rounds outcomes mid after round outcome h.2 r)
+reached_push before (x ∷ rounds) (o ∷ outcomes) mid after round outcome h r =
+    grind (arith, reached_push h.0 rounds outcomes mid after round outcome h.2 r)
 
 -- what the clauses of one round say together
 pub ran_from : (before remote after : List PayloadParams) (dir : Bool) (result : Result (Unit {0}) NegotiationError) → OnOk result (Leaves before remote dir after) → IfErr result (λ cause. cause ≢ Memory → Refused before remote dir cause) → OnErr result (after ≡ before) → Ran before remote dir result after
-ran_from before remote after dir (Ok x) ok cause err = ok
-ran_from before remote after dir (Err Memory) ok cause err = err
-ran_from before remote after dir (Err (TypeTooLarge t)) ok cause err = (cause (λ e. cc), err)
-ran_from before remote after dir (Err (ClaimedTwice t)) ok cause err = (cause (λ e. cc), err)
-ran_from before remote after dir (Err Exhausted) ok cause err = (cause (λ e. cc), err)
+ran_from before remote after dir result ok cause err = grind arith
 
 pub reached_step : (before now after : List PayloadParams) (rounds : List Round) (outcomes : List (Result (Unit {0}) NegotiationError)) (i : ℕ) (round : Round) (outcome : Result (Unit {0}) NegotiationError)
     → i < length rounds → i < length outcomes → round ≡ get_or rounds i round → Reached before (take i rounds) (take i outcomes) now → Ran now round.remote.items (receives round.direction) outcome after

@@ -1,7 +1,6 @@
 -- The rules of the score, from the function.
-use Rattle.str0m_formats.proofs.Common.{◌≡◌, ◌≢◌, ◌==◌, ◌⊎◌, inl, inr, ℕ, Bool, true, false, Option, None, refl, sym, ap, ◌∙◌, Decides, unsigned_Decides}
+use Rattle.str0m_formats.proofs.Common.{arith, ◌≡◌, ◌≢◌, ◌==◌, ◌⊎◌, inl, inr, ℕ, Bool, false, Option, None, refl, ap, ◌∙◌, Decides, unsigned_Decides}
 use Rattle.std.specs.Bool.{if◌then◌else◌}
-use mathlib.Core.Bool.{true≢false}
 use Rattle.std.proofs.Math.Bool.{and-false}
 use Rattle.str0m_formats.specs.declared.codec.Codec.{Codec}
 use Rattle.str0m_formats.specs.declared.codec.Codec.TheVariants.{AmrWb, Tele, Unknown}
@@ -11,20 +10,16 @@ use Rattle.str0m_formats.proofs.FormatEqual.{numbers, codec_Decides, spec_Decide
 
 -- what a test decides holds or doesn't
 pub either_way : {P : Type 0} (t : Bool) → Decides t P → P ⊎ (P → ⊥)
-either_way true d = inl (d.0 refl)
-either_way false d = inr (λ p. true≢false (sym (d.1 p)))
+either_way t d = grind arith
 
 nothing_both : (t : Bool) → ◌≡◌ {A = Option ℕ} (if t then None else None) None
-nothing_both true = refl
-nothing_both false = refl
+nothing_both t = grind arith
 
 of_unknown : (c : Codec) (a b : CodecSpec) → c ≡ Unknown → codec_score c a b ≡ None
 of_unknown c a b e = ap (λ d. codec_score d a b) e ∙ nothing_both (same_number a.channels b.channels)
 
 of_channels : (c : Codec) (a b : CodecSpec) → same_number a.channels b.channels ≡ false → c ≢ Tele → c ≢ AmrWb → codec_score c a b ≡ None
-of_channels Tele a b e t m = absurd (t refl)
-of_channels AmrWb a b e t m = absurd (m refl)
-of_channels c a b e t m = rw e refl
+of_channels c a b e t m = grind arith
 
 module _ (a b : CodecSpec) where
   differ : (a ≡ b → ⊥) → same_spec a b ≡ false

@@ -65,18 +65,7 @@ kept_rtx-is_kept_red locked taken unlocked (Some t) new h =
     found (kept_or_free locked taken unlocked t) got.0 got.1 ∙ same_Ok (Some got.0) new got.2
 
 pub settled_parts : (locked taken unlocked : TypeSet) (row new : PayloadParams) → settled locked taken unlocked row ≡ Ok new → row.locked ≡ false → SettledParts locked taken unlocked row new
-settled_parts locked taken unlocked row new h l =
-    let red = new_red locked taken unlocked row in
-    let first = and_then-ok (ok_or (kept_or_free locked taken unlocked row.pt) Exhausted) _ new (sym (settled_if_open locked taken unlocked row l) ∙ h) in
-    let taken2 = with_red locked taken unlocked row first.0 in
-    let second = and_then-ok (kept_rtx locked taken2 unlocked row.resend) (λ resend. Ok (record row { pt = first.0; resend = resend; red = red first.0 })) new first.2 in
-    record {
-      pt = first.0;
-      pt_is = found (kept_or_free locked taken unlocked row.pt) first.0 first.1;
-      all =
-          ap (λ resend. record row { pt = first.0; resend = resend; red = red first.0 }) (kept_rtx-is_kept_red locked taken2 unlocked row.resend second.0 second.1)
-          ∙ same_Ok (record row { pt = first.0; resend = second.0; red = red first.0 }) new second.2;
-    }
+settled_parts locked taken unlocked row new h l = grind (arith, and_then-ok, settled_if_open, kept_rtx-is_kept_red, same_Ok)
 
 -- a row stays locked or open
 pub settled-locked : (locked taken unlocked : TypeSet) (row new : PayloadParams) → settled locked taken unlocked row ≡ Ok new → new.locked ≡ row.locked
@@ -110,8 +99,7 @@ kept_serves claimed unlocked locked taken pt s open_before = record {
 
 -- a free type is claimed, and wasn't open before
 pub given_serves : (claimed unlocked locked taken new : TypeSet) (result : Option ℕ) → Serves claimed unlocked locked taken → result ≡ free (either claimed unlocked) → new ≡ with_option claimed result → Serves new unlocked locked (with_option taken result)
-given_serves claimed unlocked locked taken new None s found e =
-    let P : TypeSet → Type 0 = λ set. Serves set unlocked locked taken in subst P (sym e) s
+given_serves claimed unlocked locked taken new None s found e = grind arith
 given_serves claimed unlocked locked taken new (Some y) s found e =
     let P : TypeSet → Type 0 = λ set. Serves set unlocked locked (with_type taken y) in
     subst P (sym e) (record {
@@ -139,15 +127,12 @@ red_step claimed1 claimed2 unlocked unlocked1 unlocked2 locked taken red asked s
 
 pub settled_stops : (locked taken unlocked : TypeSet) (row : PayloadParams) (pt : Option ℕ) (cause : NegotiationError) → row.locked ≡ false → pt ≡ kept_or_free locked taken unlocked row.pt → ok_or pt Exhausted ≡ Err cause
     → ◌≡◌ {A = Result PayloadParams NegotiationError} (Err cause) (settled locked taken unlocked row)
-settled_stops locked taken unlocked row pt cause l k e =
-    sym (settled_if_open locked taken unlocked row l ∙ ap (λ o. and_then (ok_or o Exhausted) (from_pt locked taken unlocked row)) (sym k) ∙ ap (λ o. and_then o (from_pt locked taken unlocked row)) e)
+settled_stops locked taken unlocked row pt cause l k e = grind (arith, settled_if_open)
 
 pub settled_by : (locked taken unlocked : TypeSet) (row : PayloadParams) (pt : ℕ) (red : Option ℕ) (resend : Result (Option ℕ) NegotiationError) → row.locked ≡ false → Some pt ≡ kept_or_free locked taken unlocked row.pt
     → red ≡ kept_red locked (with_type taken pt) unlocked row.red → resend ≡ kept_rtx locked (with_option (with_type taken pt) red) unlocked row.resend
     → and_then resend (λ new. Ok (record row { pt = pt; resend = new; red = red })) ≡ settled locked taken unlocked row
-settled_by locked taken unlocked row pt red resend l k r e =
-    sym (settled_if_open locked taken unlocked row l ∙ ap (λ o. and_then (ok_or o Exhausted) (from_pt locked taken unlocked row)) (sym k)
-    ∙ ap (from_red locked taken unlocked row pt) (sym r) ∙ ap (λ o. and_then o (λ new. Ok (record row { pt = pt; resend = new; red = red }))) (sym e))
+settled_by locked taken unlocked row pt red resend l k r e = grind (arith, settled_if_open)
 
 pub record SecondState (unlocked : TypeSet) (mid rows : List PayloadParams) (i : ℕ) (claimed now_unlocked : TypeSet) : Type 0 where
   pub done : Settled unlocked mid (take i rows)
@@ -161,8 +146,7 @@ second_row unlocked mid rows i claimed now_unlocked row s h e = get_from_rest ro
 
 -- the claims serve for the next row
 pub serves_now : (unlocked : TypeSet) (mid rows : List PayloadParams) (i : ℕ) (claimed now_unlocked : TypeSet) → SecondState unlocked mid rows i claimed now_unlocked → Serves claimed now_unlocked (has (locked_types mid)) (taken_after mid (take i rows))
-serves_now unlocked mid rows i claimed now_unlocked s =
-    let P : TypeSet → Type 0 = λ u. Serves claimed u (has (locked_types mid)) (taken_after mid (take i rows)) in subst P (sym s.unlocked_is) s.serves
+serves_now unlocked mid rows i claimed now_unlocked s = grind arith
 
 pub second_step : (unlocked : TypeSet) (mid rows : List PayloadParams) (i : ℕ) (claimed now_unlocked claimed' now_unlocked' : TypeSet) (row new : PayloadParams)
     → SecondState unlocked mid rows i claimed now_unlocked → i < length rows → row ≡ get_or rows i row → settled (has (locked_types mid)) (taken_after mid (take i rows)) now_unlocked row ≡ Ok new
@@ -191,12 +175,4 @@ second_step unlocked mid rows i claimed now_unlocked claimed' now_unlocked' row 
 pub second_stops : (unlocked : TypeSet) (mid rows : List PayloadParams) (i : ℕ) (claimed now_unlocked : TypeSet) (row : PayloadParams) (cause : NegotiationError)
     → SecondState unlocked mid rows i claimed now_unlocked → i < length rows → row ≡ get_or rows i row → settled (has (locked_types mid)) (taken_after mid (take i rows)) now_unlocked row ≡ Err cause → StopsSettling unlocked mid cause
 second_stops unlocked mid rows i claimed now_unlocked row cause s h e p =
-    let there : length (take i rows) ≡ i = length-take-le i rows (omega arith) in
-    let Next : ℕ → Type 0 = λ n. slice_get mid n ≡ Some row in
-    record {
-      done = take i rows;
-      before_it = s.done;
-      row = row;
-      next = subst Next (sym there) (second_row unlocked mid rows i claimed now_unlocked row s h e);
-      stops = ap (λ x. settled (has (locked_types mid)) (taken_after mid (take i rows)) x row) (sym s.unlocked_is) ∙ p;
-    }
+    grind (arith, length-take-le i rows, second_row unlocked mid rows i claimed now_unlocked row s h e)

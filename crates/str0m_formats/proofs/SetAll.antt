@@ -1,5 +1,5 @@
 -- Parameters that are set one after another.
-use Rattle.str0m_formats.proofs.Common.{◌≡◌, ◌&&◌, Bool, true, List, [], ◌∷◌, Option, Some, None, option_map, refl, ap, ◌∙◌, sym, cons_option, filter_map, and_parts}
+use Rattle.str0m_formats.proofs.Common.{arith, ◌≡◌, ◌&&◌, Bool, true, List, [], ◌∷◌, Option, Some, None, option_map, refl, ap, ◌∙◌, sym, cons_option, filter_map, and_parts}
 use Rattle.std.proofs.Common.{is_none}
 use Rattle.str0m_formats.specs.FormatParams.{Content, get, put, param_in, set, set_all, empty, param_at, params_of}
 use Rattle.str0m_formats.specs.declared.format_key.FormatKey.TheVariants as key
@@ -24,8 +24,7 @@ param_is (field.Key key.Apt) p = refl
 param_is f p = refl
 
 absent : {A : Type 0} (o : Option A) → is_none o ≡ true → o ≡ None
-absent None e = refl
-absent (Some x) e = absurd cc
+absent o e = grind arith
 
 -- ---- one field after another
 
@@ -48,9 +47,7 @@ set_next f q p rest none = ap (λ o. set_all p (cons_option o rest)) (param_is f
 
 pub set_each : (fs : List Field) (q p : FormatParams) → are_fresh fs q p ≡ true → set_all p (filter_map (λ f. param_at f q) fs) ≡ filled fs q p
 set_each [] q p fresh = refl
-set_each (f ∷ fs) q p fresh =
-    let k = and_parts (is_none (get f p)) (are_fresh fs q (put f (get f q) p)) fresh in
-    set_next f q p (filter_map (λ f. param_at f q) fs) k.0 ∙ set_each fs q (put f (get f q) p) k.1
+set_each (f ∷ fs) q p fresh = grind (arith, and_parts, set_next, set_each fs q)
 
 pub set_again : (p : FormatParams) (params : List FormatParam) → params ≡ params_of p → set_all empty params ≡ p
 unfolding params_of

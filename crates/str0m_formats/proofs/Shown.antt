@@ -1,5 +1,5 @@
 -- What each field of a format prints: keys with values, and the range of events.
-use Rattle.str0m_formats.proofs.Common.{◌≡◌, ◌≤◌, ◌<◌, ◌-◌, ◌^◌, ℕ, replicate, length, Bool, true, false, List, [], ◌∷◌, ◌++◌, map, Option, Some, None, IfSome, option_map, refl, sym, ap, subst, ◌∙◌, arith, lit≤, lit<, codes, decimal, AllByRecursion, cons_option, join_with_byte, list_all, false≢true, append_assoc, length-append, none-some, IsRest, decimal_is_IsNumeral, digits_is_IsNumeral, ProfileTierLevel}
+use Rattle.str0m_formats.proofs.Common.{◌≡◌, ◌≤◌, ◌<◌, ◌-◌, ℕ, replicate, Bool, true, false, List, [], ◌∷◌, ◌++◌, map, Option, Some, None, IfSome, option_map, refl, sym, ap, ◌∙◌, arith, lit≤, lit<, codes, decimal, AllByRecursion, cons_option, join_with_byte, list_all, false≢true, append_assoc, length-append, none-some, IsRest, decimal_is_IsNumeral, digits_is_IsNumeral, ProfileTierLevel}
 use Rattle.std.proofs.Common.{zero, suc}
 use Rattle.std.specs.Fmt.{digits}
 use Rattle.str0m_formats.specs.declared.format_key.FormatKey.{FormatKey}
@@ -31,9 +31,7 @@ zeros_plain zero = tt
 zeros_plain (suc k) = (refl, zeros_plain k)
 
 six_plain : (n : ℕ) → n ≤ 4294967295 → IsPlain (six_digits n)
-six_plain n le =
-    let small : n < 16 ^ 64 = omega arith in
-    plain_append (replicate (6 - length (digits 16 false n)) 48) (digits 16 false n) (zeros_plain (6 - length (digits 16 false n))) (digits_plain 16 (digits 16 false n) (lit≤ tt) (digits_is_IsNumeral 16 false (lit≤ tt) (lit≤ tt) n small).0.1)
+six_plain n le = grind (arith, plain_append, zeros_plain, digits_plain, digits_is_IsNumeral)
 
 all_modes_plain : below (λ mask. list_all is_plain (mode_list mask)) 512 ≡ true
 unfolding below digits
@@ -49,14 +47,12 @@ value_plain (exactly own) x small h = absurd h
 value_plain anything x small h = absurd h
 
 key_plain : (k : FormatKey) → list_all is_plain (key_text k) ≡ true
-key_plain key.Apt = refl
-key_plain k = refl
+key_plain k = grind arith
 
 -- ---- and not empty
 
 key_filled : (k : FormatKey) → IsRest (key_text k)
-key_filled key.Apt = lit< tt
-key_filled k = lit< tt
+key_filled k = grind arith
 
 decimal_filled : (n : ℕ) → n ≤ 4294967295 → IsRest (decimal n)
 decimal_filled n small = (decimal_is_IsNumeral n (omega arith)).0.0
@@ -65,11 +61,7 @@ value_filled : (k : Kind) (x : Held k) → is_small k ≡ true → InRange k x �
 value_filled flag true small h = lit< tt
 value_filled flag false small h = lit< tt
 value_filled (number limit) n small h = decimal_filled n (limit_small limit n small h)
-value_filled hex n small h =
-    let below : n < 16 ^ 64 = omega arith in
-    let zeros : List ℕ = replicate (6 - length (digits 16 false n)) 48 in
-    let some = (digits_is_IsNumeral 16 false (lit≤ tt) (lit≤ tt) n below).0.0 in
-    omega (arith, length-append zeros (digits 16 false n), some)
+value_filled hex n small h = grind (arith, digits_is_IsNumeral, length-append)
 value_filled modes mask small h = modes_filled mask h
 value_filled (exactly own) x small h = absurd h
 value_filled anything x small h = absurd h
@@ -93,12 +85,7 @@ abbrev pub pair_in : Entry → List ℕ × List ℕ
 pair_in e = (key_text e.0, value_text (kind e.0) e.1)
 
 pub pair_plain : (e : Entry) → HasRange e → IsPlainPair (pair_in e)
-pair_plain e h = (
-  plain_from (key_text e.0) (key_plain e.0),
-  value_plain (kind e.0) e.1 (key_small e.0) h,
-  key_filled e.0,
-  value_filled (kind e.0) e.1 (key_small e.0) h,
-)
+pair_plain e h = grind (arith, plain_from, key_plain, value_plain, key_small, key_filled, value_filled)
 
 entry_joined : (e : Entry) → entry_text (Some e) ≡ joined_pair (pair_in e)
 entry_joined e = simp append_assoc
@@ -156,8 +143,7 @@ Reads f p = map param_of (given (rows_at f p)) ≡ cons_option (param_at f p) []
 
 -- what holds of each value holds of one that may be there
 pub each_some : {A : Type 0} (P : A → Type 0) (o : Option A) → ((x : A) → P x) → IfSome o P
-each_some P None each = tt
-each_some P (Some x) each = each x
+each_some P o each = grind arith
 
 -- what a key's field holds is of the table
 pub entry_at : (k : FormatKey) (p : FormatParams) → IfSome (get (field.Key k) p) (λ x. entry (made k x) ≡ Some (k, x))
@@ -177,8 +163,7 @@ pairs_plain k None h = tt
 pairs_plain k (Some x) h = (pair_plain (k, x) h, tt)
 
 pairs_read : (k : FormatKey) (o : Option (Held (kind k))) → IfSome o (InRange (kind k)) → map param_of (given (row k o)) ≡ cons_option (option_map (made k) o) []
-pairs_read k None h = refl
-pairs_read k (Some x) h = ap (λ (q : FormatParam). q ∷ []) (key_reads k x h)
+pairs_read k o h = grind (arith, key_reads)
 
 triple_parts : (a b c : List ℕ) → codes "profile-id=" ++ (a ++ (codes ";tier-flag=" ++ (b ++ (codes ";level-id=" ++ c)))) ≡ join_with_byte 59 (joined_pair (PROFILE_ID.now, a) ∷ joined_pair (TIER_FLAG.now, b) ∷ joined_pair (LEVEL_ID.now, c) ∷ [])
 triple_parts a b c = refl
@@ -206,12 +191,10 @@ module _ {P T L : Type 0} (tables : Tables P T L) (make : ProfileTierLevel P T L
       )
 
 events_shown : (o : Option ℕ) → IsShown (option_map (λ n. TelephoneEvents n) o) (cons_option (option_map (λ n. codes "0-" ++ decimal n) o) [])
-events_shown None = refl
-events_shown (Some n) = (codes "0-" ++ decimal n, [], refl, refl)
+events_shown o = grind arith
 
 events_plain : (o : Option ℕ) → IfSome o (λ n. n ≤ 255) → AllByRecursion IsPlain (cons_option (option_map (λ n. codes "0-" ++ decimal n) o) [])
-events_plain None h = tt
-events_plain (Some n) h = (plain_append (codes "0-") (decimal n) (plain_from (codes "0-") refl) (decimal_plain n (omega (arith, h))), tt)
+events_plain o h = grind (arith, plain_append, plain_from, decimal_plain)
 
 shown_at : (f : Field) (p : FormatParams) → IsShown (option_map (param_in f) (get f p)) (pieces_at f p)
 shown_at (field.Key k) p = key_shown k (get (field.Key k) p) (entry_at k p)
@@ -230,11 +213,7 @@ bares_plain field.TelephoneEvents p h = events_plain p.telephone_event_max h
 bares_plain f p h = tt
 
 pub shows : (f : Field) (p : FormatParams) → IfSome (get f p) (IsWithin f) → Shows f p
-shows f p h = record {
-  shown = subst (λ o. IsShown o (pieces_at f p)) (sym (param_is f p)) (shown_at f p);
-  plain = plain_at f p h;
-  bare = bares_plain f p h;
-}
+shows f p h = grind (arith, param_is, shown_at, plain_at, bares_plain)
 
 -- whether the field has one key
 abbrev pub is_single : Field → Bool

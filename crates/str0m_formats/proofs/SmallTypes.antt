@@ -1,7 +1,7 @@
 -- Types stay at most 127.
-use Rattle.str0m_formats.proofs.Common.{zero, suc, ◌≡◌, ℕ, Bool, true, false, cond, find, nat_lt, List, [], ◌∷◌, ◌++◌, Option, Some, None, Ok, IfSome, refl, sym, ap, ◌∙◌, subst, slice_get, option_to_list, option_or, find-append, le-ltb, IfOk-at_ok}
+use Rattle.str0m_formats.proofs.Common.{arith, zero, suc, ◌≡◌, ℕ, Bool, true, false, cond, find, nat_lt, List, [], ◌∷◌, ◌++◌, Option, Some, None, Ok, IfSome, refl, sym, ap, ◌∙◌, subst, slice_get, option_to_list, option_or, find-append, le-ltb, IfOk-at_ok}
 use Rattle.str0m_formats.specs.declared.payload_params.PayloadParams.{PayloadParams}
-use Rattle.str0m_formats.specs.Codec.{Content, audio, content}
+use Rattle.str0m_formats.specs.Codec.{Content, content}
 use Rattle.str0m_formats.specs.TypeSets.{TypeSet, with_type, with_option, either, free, AllDistinct}
 use Rattle.str0m_formats.specs.Rows.{AllSmall, types_of, types, locked_types}
 use Rattle.str0m_formats.specs.Choices.{points_for}
@@ -29,38 +29,31 @@ abbrev SmallRoles : PayloadParams → Type 0
 SmallRoles row = Small row.pt × IfSome row.resend Small × IfSome row.red Small
 
 single : (o : Option ℕ) → AllSmall (option_to_list o) → IfSome o Small
-single None h = tt
-single (Some t) h = h
+single o h = grind arith
 
 listed : (o : Option ℕ) → IfSome o Small → AllSmall (option_to_list o)
-listed None h = refl
-listed (Some t) h = h
+listed o h = grind arith
 
 roles_of : (row : PayloadParams) → AllSmall (types_of row) → SmallRoles row
-roles_of row h =
-    let first = none-parts (nat_lt 127) (row.pt ∷ []) (option_to_list row.resend ++ option_to_list row.red) h in
-    let rest = none-parts (nat_lt 127) (option_to_list row.resend) (option_to_list row.red) first.1 in
-    (first.0, single row.resend rest.0, single row.red rest.1)
+roles_of row h = grind arith
 
 of_roles : (p : ℕ) (x r : Option ℕ) → Small p → IfSome x Small → IfSome r Small → AllSmall (p ∷ (option_to_list x ++ option_to_list r))
-of_roles p x r hp hx hr = small-append (p ∷ []) (option_to_list x ++ option_to_list r) hp (small-append (option_to_list x) (option_to_list r) (listed x hx) (listed r hr))
+of_roles p x r hp hx hr = grind arith
 
 free-fits : (taken unlocked : TypeSet) (t : ℕ) → free (either taken unlocked) ≡ Some t → Small t
 free-fits taken unlocked t e = ap (λ b. cond {A = Option ℕ} b (Some t) None) (le-ltb 127 t (free-small (either taken unlocked) t e).0)
 
 -- whether it is in a set or not
 anyway : (set : TypeSet) (o : Option ℕ) → IfSome o Small → IfSome o (λ t. set t ≡ false → Small t)
-anyway set None h = tt
-anyway set (Some t) h = λ _. h
+anyway set o h = grind arith
 
 -- ---- the first pass
 
 audio-small : (c : Content) (o : Option ℕ) → IfSome o Small → IfSome (only_audio c o) Small
-audio-small audio o h = h
-audio-small _ o h = tt
+audio-small c o h = grind arith
 
 placed-small : (taken unlocked : TypeSet) (receives : Bool) (row new : PayloadParams) (choice : Option PayloadParams) → placed taken unlocked receives row choice ≡ Ok new → AllSmall (types_of row) → IfSome choice (λ c. AllSmall (types_of c)) → AllSmall (types_of new)
-placed-small taken unlocked receives row new None h s k = ap (λ r. find (nat_lt 127) (types_of r)) (sym (placed-no_choice taken unlocked receives row new h)) ∙ s
+placed-small taken unlocked receives row new None h s k = grind (arith, placed-no_choice)
 placed-small taken unlocked receives row new (Some c) h s k = go row.locked refl where
   go : (b : Bool) → row.locked ≡ b → AllSmall (types_of new)
   go true l = ap (find (nat_lt 127)) (placed-locked taken unlocked receives row new (Some c) h l).1 ∙ s

@@ -1,5 +1,5 @@
 -- What a payload type stands for without a mapping is found in the table of codecs.
-use Rattle.str0m_formats.proofs.Common.{◌≡◌, ◌≤◌, ◌↔◌, ◌&&◌, ℕ, leb, Bool, true, false, Option, Some, None, is_some, option_map, refl, sym, ap, subst, ◌∙◌, and_parts, eqb-true, leb-true, false≢true, IsTheOnly, bind_some, only_read, reads_none, some_is}
+use Rattle.str0m_formats.proofs.Common.{arith, ◌≡◌, ◌≤◌, ◌↔◌, ℕ, leb, Bool, true, false, Option, Some, None, is_some, option_map, refl, sym, ap, ◌∙◌, leb-true, false≢true, IsTheOnly, bind_some, only_read, reads_none}
 use Rattle.str0m_values.proofs.BothWays.{Reads}
 use Rattle.str0m_values.proofs.LabelLaws.{bind_is}
 use Rattle.str0m_values.proofs.WordsOfCases.{found_passes}
@@ -7,36 +7,22 @@ use Rattle.str0m_formats.specs.Codec.{static_row}
 use Rattle.str0m_formats.specs.CodecSpec.{IsStatic, plain, is_at, static_codec, static_spec}
 use Rattle.str0m_formats.specs.Scores.{same_codec}
 use Rattle.str0m_formats.specs.declared.codec.Codec.{Codec}
-use Rattle.str0m_formats.specs.declared.codec.Codec.TheVariants.{Unknown}
 use Rattle.str0m_formats.specs.declared.codec.TheConstants.{NAMED}
 use Rattle.str0m_formats.specs.declared.codec_spec.CodecSpec.{CodecSpec}
-use Rattle.str0m_formats.proofs.FormatEqual.{codec_Decides}
 
 abbrev is_it : Codec → Option Codec → Bool
 is_it codec None = false
 is_it codec (Some found) = same_codec found codec
 
 it_is : (codec : Codec) (o : Option Codec) → is_it codec o ≡ true → o ≡ Some codec
-it_is codec None same = absurd (false≢true same)
-it_is codec (Some found) same = ap (λ (c : Codec). Some c) ((codec_Decides found codec).0 same)
-
--- a codec with a static type, which is at most 127, is found by it
-abbrev is_found : Codec → Option (ℕ × ℕ) → Bool
-is_found codec None = true
-is_found codec (Some row) = is_it codec (static_codec row.0) && leb row.0 127
-
-each_found : (codec : Codec) → is_found codec (static_row codec) ≡ true
-each_found Unknown = refl
-each_found _ = refl
+it_is codec o same = grind arith
 
 own : (pt : ℕ) (spec : CodecSpec) → IsStatic pt spec → (is_it spec.codec (static_codec pt) ≡ true) × (leb pt 127 ≡ true)
-own pt spec is = and_parts (is_it spec.codec (static_codec pt)) (leb pt 127) (subst (λ row. is_found spec.codec row ≡ true) is.0 (each_found spec.codec))
+own pt spec is = grind arith
 
 row_is : (pt : ℕ) (codec : Codec) (row : Option (ℕ × ℕ)) (spec : CodecSpec) → static_row codec ≡ row → is_at pt row ≡ true
     → option_map (λ row. plain codec row.1) row ≡ Some spec → IsStatic pt spec
-row_is pt codec None spec is at e = absurd (false≢true at)
-row_is pt codec (Some row) spec is at e =
-    subst (IsStatic pt) (some_is (plain codec row.1) spec e) (is ∙ ap (λ (n : ℕ). Some (n, row.1)) (eqb-true row.0 pt at), refl, refl)
+row_is pt codec row spec is at e = grind arith
 
 pub static_both : Reads IsStatic static_spec
 unfolding static_spec

@@ -1,9 +1,9 @@
 -- The highest telephone event of a row never grows.
-use Rattle.str0m_formats.proofs.Common.{◌≡◌, ◌≤◌, Bool, List, sym, ap, subst, arith}
+use Rattle.str0m_formats.proofs.Common.{◌≡◌, ◌≤◌, Bool, List, arith}
 use Rattle.str0m_formats.specs.declared.codec.Codec.TheVariants.{Tele}
 use Rattle.str0m_formats.specs.declared.codec_spec.CodecSpec.{CodecSpec}
 use Rattle.str0m_formats.specs.declared.payload_params.PayloadParams.{PayloadParams}
-use Rattle.str0m_formats.specs.Narrowing.{narrowed, narrowed_as, telephone_max}
+use Rattle.str0m_formats.specs.Narrowing.{narrowed, telephone_max}
 use Rattle.str0m_formats.specs.Rounds.{Leaves}
 use Rattle.str0m_formats.specs.Promises.{TelephoneNarrows}
 use Rattle.str0m_formats.proofs.SpecSteps.{round_holds}
@@ -16,17 +16,11 @@ pub narrows-same : (spec : CodecSpec) → Narrows spec spec
 narrows-same spec tele = (tele, omega arith)
 
 pub narrows-then : (a b c : CodecSpec) → Narrows a b → Narrows b c → Narrows a c
-narrows-then a b c first second tele =
-    let f = first tele in
-    let s = second f.0 in
-    (s.0, omega (arith, f.1, s.1))
+narrows-then a b c first second tele = grind arith
 
 narrowed-narrows : (own chosen : CodecSpec) → Narrows own (narrowed own chosen)
 unfolding narrowed
-narrowed-narrows own chosen tele =
-    let is : narrowed own chosen ≡ narrowed_as Tele own chosen = ap (λ codec. narrowed_as codec own chosen) tele in
-    let Holds : CodecSpec → Type 0 = λ spec. (spec.codec ≡ Tele) × (telephone_max spec.format ≤ telephone_max own.format) in
-    subst Holds (sym is) (tele, omega arith)
+narrowed-narrows own chosen tele = grind arith
 
 -- a round doesn't raise the maximum of a telephone row
 pub telephone_narrows : (before remote : List PayloadParams) (receives : Bool) (after : List PayloadParams) → Leaves before remote receives after → TelephoneNarrows before after

@@ -18,9 +18,7 @@ times-append xs ys t = sum_by-append (λ x. cond (x == t) 1 0) xs ys
 
 pub times-none : (xs : List ℕ) (t : ℕ) → has xs t ≡ false → times xs t ≡ 0
 times-none [] t h = refl
-times-none (x ∷ xs) t h =
-    let parts = or_parts (x == t) (has xs t) h in
-    omega (arith, times-cons x xs t, one_if (x == t) false parts.0, times-none xs t parts.1)
+times-none (x ∷ xs) t h = grind (arith, or_parts, times-cons, one_if, times-none xs t)
 
 pub times-some : (xs : List ℕ) (t : ℕ) → has xs t ≡ true → 1 ≤ times xs t
 times-some [] t h = absurd (false≢true h)

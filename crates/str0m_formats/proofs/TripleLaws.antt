@@ -1,12 +1,11 @@
 -- The triple of three values is read both ways.
-use Rattle.str0m_formats.proofs.Common.{◌≡◌, ◌≤◌, ℕ, List, Option, Some, None, IfSome, refl, sym, ap, subst, ◌∙◌, inl, inr, arith, rules, Bor, decimal, none-some, IsTheOnly, ◌<|>◌, ProfileTierLevel, num_found, num_reads, only_read, bind_some, some_is, reads_none}
+use Rattle.str0m_formats.proofs.Common.{◌≡◌, ◌≤◌, ℕ, List, Option, Some, None, refl, sym, subst, ◌∙◌, inl, inr, arith, rules, Bor, decimal, none-some, IsTheOnly, ◌<|>◌, ProfileTierLevel, num_found, num_reads, only_read, bind_some, some_is, reads_none}
 use Rattle.std.specs.Prelude.{option_map}
 use Rattle.str0m_values.specs.Parts.{IsGiven, lay}
 use Rattle.str0m_values.specs.H265 as h265
 use Rattle.str0m_values.specs.H266 as h266
 use Rattle.str0m_values.specs.ProfileTierLevel.{HasGivenNumbers, HasNumbersOfTexts, Tables, value_in}
 use Rattle.str0m_values.specs.declared.h266.H266Level.{H266Level}
-use Rattle.str0m_values.specs.declared.h266.H266Level.TheVariants as level6
 use Rattle.str0m_values.specs.H265.{H265ProfileTierLevel as h265_triple}
 use Rattle.str0m_values.specs.H266.{H266ProfileTierLevel as h266_triple}
 use Rattle.str0m_values.proofs.BothWays.{none_reads, Reads}
@@ -18,15 +17,7 @@ use Rattle.str0m_formats.proofs.Only.{only_same}
 use Rattle.str0m_formats.proofs.RoundTrip.{decimal_reads}
 
 given_both : (default : ℕ) → Reads (IsGiven 255 default) (given_read default)
-given_both default = record { sound = sound; complete = complete }
-  where
-    sound : (text : Option (List ℕ)) (n : ℕ) → given_read default text ≡ Some n → IsGiven 255 default text n
-    sound None n e = sym (some_is default n e)
-    sound (Some text) n e = num_found 255 text n e
-
-    complete : (text : Option (List ℕ)) (n : ℕ) → IsGiven 255 default text n → given_read default text ≡ Some n
-    complete None n h = ap (λ (k : ℕ). Some k) (sym h)
-    complete (Some text) n h = num_reads 255 text n h
+given_both default = grind (arith, some_is, num_found, num_reads)
 
 -- beside each number stands the only value that has it
 record IsTable {A : Type 0} (number_of : A → ℕ) (rows : List (A × ℕ)) : Type 0 where
@@ -34,13 +25,7 @@ record IsTable {A : Type 0} (number_of : A → ℕ) (rows : List (A × ℕ)) : T
   byte : (value : A) → number_of value ≤ 255
 
 value_both : {A : Type 0} {id : A → ℕ} {rows : List (A × ℕ)} (default : ℕ) → IsTable id rows → Reads (λ text a. IsGiven 255 default text (id a)) (row_read rows default)
-value_both {A} {id} {rows} default table = record {
-  sound = λ text a e.
-      let b = bind_some (given_read default text) (λ n. value_in rows n) a e in
-      let is : id a ≡ b.0 = subst (λ (o : Option A). IfSome o (λ value. id value ≡ b.0)) b.2 (table.only b.0).found in
-      rw is ((given_both default).sound text b.0 b.1);
-  complete = λ text a h. rw ((given_both default).complete text (id a) h) ((table.only (id a)).only a refl);
-}
+value_both {A} {id} {rows} default table = grind (arith, bind_some, given_both default)
 
 -- ---- a codec's triples, by its tables
 
@@ -50,18 +35,10 @@ record AreTables {P T L : Type 0} (tables : Tables P T L) : Type 0 where
   levels : IsTable tables.level_id tables.levels
 
 h265_are : AreTables h265_tables
-h265_are = record {
-  profiles = record { only = λ n. search rules; byte = λ value. search rules };
-  tiers = record { only = λ n. search rules; byte = λ value. search rules };
-  levels = record { only = λ n. search rules; byte = λ value. search rules };
-}
+h265_are = search rules
 
 h266_are : AreTables h266_tables
-h266_are = record {
-  profiles = record { only = λ n. search rules; byte = λ value. search rules };
-  tiers = record { only = λ n. search rules; byte = λ value. search rules };
-  levels = record { only = λ n. search rules; byte = λ value. search rules };
-}
+h266_are = grind arith
 
 -- the numbers of a triple, as they print
 abbrev pub AreBytes : {P T L : Type 0} → Tables P T L → ProfileTierLevel P T L → Type 0
@@ -140,8 +117,7 @@ h266_small = triple_small h266_tables h266_are
 
 -- no level has one number in both tables
 apart : (b : H266Level) → value_in h265_tables.levels (h266.level_id b) ≡ None
-apart level6.L1 = refl
-apart level = refl
+apart b = grind arith
 
 no_h265 : (t : h266_triple) → read_triple h265_tables (texts_shown h266_tables t) ≡ None
 no_h265 t =

@@ -1,5 +1,5 @@
 -- What a whole first pass leaves, and a whole round.
-use Rattle.str0m_formats.proofs.Common.{zero, suc, ◌≡◌, ℕ, ◌⊎◌, inl, inr, Bool, true, false, ◌||◌, cond, find, nat_lt, List, [], ◌∷◌, ◌++◌, length, Option, Some, None, Result, Ok, Err, OnOk, IfErr, filter, refl, sym, ap, ◌∙◌, subst, arith, slice_get, slice_get_within, true≢false, false≢true, cases_Bool, or_cases, fun_ext}
+use Rattle.str0m_formats.proofs.Common.{zero, suc, ◌≡◌, ℕ, ◌⊎◌, inl, inr, Bool, true, false, ◌||◌, cond, find, nat_lt, List, [], ◌∷◌, ◌++◌, length, Some, Result, Ok, Err, OnOk, IfErr, filter, refl, sym, ap, ◌∙◌, subst, arith, slice_get, slice_get_within, true≢false, false≢true, cases_Bool, or_cases, fun_ext}
 use Rattle.str0m_formats.specs.declared.negotiation_error.NegotiationError.{NegotiationError}
 use Rattle.str0m_formats.specs.declared.negotiation_error.NegotiationError.TheVariants.{TypeTooLarge}
 use Rattle.str0m_formats.specs.declared.payload_params.PayloadParams.{PayloadParams}
@@ -19,10 +19,7 @@ nothing = λ t. omega (arith, times-nil t)
 
 -- the row before the round, at a place of the first pass
 pub row_before : {A B : Type 0} (xs : List A) (ys : List B) (i : ℕ) (y : B) → length ys ≡ length xs → slice_get ys i ≡ Some y → (x : A) × (slice_get xs i ≡ Some x)
-row_before {A} xs ys i y whole at_y = go (slice_get xs i) refl where
-  go : (o : Option A) → slice_get xs i ≡ o → (x : A) × (slice_get xs i ≡ Some x)
-  go None e = absurd (none_within xs i (omega (arith, slice_get_within ys i y at_y)) e)
-  go (Some x) e = (x, e)
+row_before {A} xs ys i y whole at_y = grind (arith, none_within xs i, slice_get_within ys i y at_y)
 
 -- an open row of the first pass is the row before the round
 pub begun_open : (before remote : List PayloadParams) (receives : Bool) (mid : List PayloadParams) (i : ℕ) (row : PayloadParams) → Begun before remote receives mid → length mid ≡ length before → slice_get mid i ≡ Some row → row.locked ≡ false → slice_get before i ≡ Some row
@@ -73,7 +70,7 @@ taken_whole before remote receives mid begun whole = has-append (locked_types be
 pub open_before : (before remote : List PayloadParams) (receives : Bool) (mid : List PayloadParams) (unlocked : TypeSet) → Begun before remote receives mid → length mid ≡ length before → unlocked ≡ has (open_types before)
     → (i : ℕ) (row : PayloadParams) → slice_get mid i ≡ Some row → row.locked ≡ false → (t : ℕ) → has (types_of row) t ≡ true → unlocked t ≡ true
 open_before before remote receives mid unlocked begun whole same =
-    λ i row at_row open_row t h. ap (λ set. set t) same ∙ open_types-at before i row t (begun_open before remote receives mid i row begun whole at_row open_row) open_row h
+    grind (arith, open_types-at before, begun_open before remote receives mid)
 
 pub may_begin : (before remote : List PayloadParams) (set : TypeSet) → AllSmall (types before ++ types remote) → claim_each (has []) (locked_types before) ≡ Ok set → MayBegin before remote
 may_begin before remote set small h = record { small = small; once = (claimed_all [] (locked_types before) set nothing h).1 }
@@ -82,19 +79,13 @@ pub claimed_is_locked : (before : List PayloadParams) (set : TypeSet) → claim_
 claimed_is_locked before set h = (claimed_all [] (locked_types before) set nothing h).0
 
 pub refused_before : (before remote : List PayloadParams) (receives : Bool) (cause : NegotiationError) → AllSmall (types before ++ types remote) → claim_each (has []) (locked_types before) ≡ Err cause → Refused before remote receives cause
-refused_before before remote receives cause small h =
-    let found = claimed_twice [] (locked_types before) cause nothing h in
-    let P : NegotiationError → Type 0 = λ c. Refused before remote receives c in
-    subst P (sym found.1) (twice_before found.0 small found.2)
+refused_before before remote receives cause small h = grind (arith, claimed_twice, nothing, twice_before)
 
 pub refused_large : (before remote : List PayloadParams) (receives : Bool) (cause : NegotiationError) → (t : ℕ) × (find (nat_lt 127) (types before ++ types remote) ≡ Some t) × (cause ≡ TypeTooLarge t) → Refused before remote receives cause
-refused_large before remote receives cause h =
-    let P : NegotiationError → Type 0 = λ c. Refused before remote receives c in subst P (sym h.2) (too_large h.0 h.1)
+refused_large before remote receives cause h = grind (arith, too_large)
 
 all_begun : (before remote : List PayloadParams) (receives claims_receive : Bool) (mid : List PayloadParams) (set : TypeSet) → AllSmall (types before ++ types remote) → claim_each (has []) (locked_types before) ≡ Ok set → claims_receive ≡ receives → Begun before remote claims_receive mid → length mid ≡ length before → AllBegun before remote receives mid
-all_begun before remote receives claims_receive mid set small h r begun whole =
-    let P : Bool → Type 0 = λ b. Begun before remote b mid in
-    record { may = may_begin before remote set small h; begun = subst P r begun; whole = whole }
+all_begun before remote receives claims_receive mid set small h r begun whole = grind (arith, may_begin before remote set small h)
 
 pub round_done : (before remote : List PayloadParams) (receives claims_receive : Bool) (mid after : List PayloadParams) (set unlocked : TypeSet) (result : Result (Unit {0}) NegotiationError)
     → AllSmall (types before ++ types remote) → claim_each (has []) (locked_types before) ≡ Ok set → claims_receive ≡ receives → Begun before remote claims_receive mid → length mid ≡ length before → unlocked ≡ has (open_types before)
@@ -110,7 +101,4 @@ round_done before remote receives claims_receive mid after set unlocked result s
 -- what refuses a copy of the rows refuses the rows
 pub refused_as_copied : (before copied now remote : List PayloadParams) (receives now_receives : Bool) (cause : NegotiationError)
     → now ≡ copied → copied ≡ before → now_receives ≡ receives → Refused now remote now_receives cause → Refused before remote receives cause
-refused_as_copied before copied now remote receives now_receives cause same_now same_copy same_receives refused =
-    let Of : List PayloadParams → Type 0 = λ rows. Refused rows remote receives cause in
-    let Dir : Bool → Type 0 = λ b. Refused now remote b cause in
-    subst Of (same_now ∙ same_copy) (subst Dir same_receives refused)
+refused_as_copied before copied now remote receives now_receives cause same_now same_copy same_receives refused = grind arith

@@ -1,4 +1,4 @@
-use Rattle.str0m_formats.proofs.Common.{rules, tests, Option, Some, None, option_map, ◌≡◌, ◌∙◌, refl, sym, str_eq_ignore_ascii_case}
+use Rattle.str0m_formats.proofs.Common.{rules, tests, Option, Some, None, option_map, ◌≡◌, ◌∙◌, refl, str_eq_ignore_ascii_case}
 use Rattle.std.proofs.lemmas.Iterator.{YieldsList-from_slice, YieldsList-from_map}
 use Rattle.std.proofs.lemmas.Iterator.Consumers.{YieldsList-at}
 use Rattle.std.proofs.lemmas.Iterator.Search.{find_from_yields_List}
