@@ -1,5 +1,5 @@
 -- Keys of candidates tell apart what `==` of candidates does.
-use Rattle.str0m_sdp.proofs.Common.{◌≡◌, ◌&&◌, ◌||◌, ◌++◌, ℕ, Bool, true, false, cond, nat_eq, List, [], ◌∷◌, map, Option, None, Some, refl, sym, ap, ◌∙◌, option_map, Bor, BTreeSet, Updates, contains, decided, list_any, option_eq, bytes_eq, map-append, list_any-append, sameb, IpAddr, V4, V6, SocketAddr, Candidate, is_eq}
+use Rattle.str0m_sdp.proofs.Common.{arith, ◌≡◌, ◌&&◌, ◌||◌, ◌++◌, ℕ, Bool, true, false, cond, nat_eq, List, [], ◌∷◌, map, Option, sym, ap, ◌∙◌, option_map, Bor, BTreeSet, Updates, contains, decided, list_any, option_eq, map-append, list_any-append, sameb, IpAddr, SocketAddr, Candidate, is_eq}
 use denote.Enum.Declared.{tag_of}
 use Rattle.str0m_values.specs.contracts.address.IpAddrPartialEq.TheImpl as ip
 use Rattle.str0m_values.specs.contracts.address.SocketAddrPartialEq.TheImpl as socket
@@ -7,11 +7,8 @@ use Rattle.str0m_values.specs.contracts.candidate_kind.CandidateKind as kind
 use Rattle.str0m_values.specs.contracts.protocol.Protocol as protocol
 use Rattle.str0m_values.specs.contracts.protocol.TcpType as tcp_type
 use Rattle.str0m_values.specs.declared.candidate_kind.CandidateKind.{CandidateKind}
-use Rattle.str0m_values.specs.declared.candidate_kind.CandidateKind.TheVariants.{Host}
 use Rattle.str0m_values.specs.declared.protocol.Protocol.{Protocol}
-use Rattle.str0m_values.specs.declared.protocol.Protocol.TheVariants.{Udp}
 use Rattle.str0m_values.specs.declared.protocol.TcpType.{TcpType}
-use Rattle.str0m_values.specs.declared.protocol.TcpType.TheVariants.{Active}
 use Rattle.str0m_sdp.specs.CandidateKey.{IsKeyOf, address_part, ip_part, kind_part, protocol_part, type_part}
 use Rattle.str0m_sdp.specs.Candidates.{same_candidate}
 use Rattle.str0m_sdp.specs.contracts.candidate_key.CandidateKeyOrd.TheImpl as order
@@ -25,10 +22,7 @@ use Rattle.str0m_sdp.proofs.CandidateEqual.{candidate_Decides}
 -- ---- the parts
 
 ip_alike : (a b : IpAddr) → part.eq-value.it (ip_part a) (ip_part b) ≡ ip.eq-value.it a b
-ip_alike (V4 a) (V4 b) = refl
-ip_alike (V4 a) (V6 b) = refl
-ip_alike (V6 a) (V4 b) = refl
-ip_alike (V6 a) (V6 b) = refl
+ip_alike a b = grind arith
 
 abbrev same_address : IpPart × ℕ → IpPart × ℕ → Bool
 same_address a b = part.eq-value.it a.0 b.0 && nat_eq a.1 b.1
@@ -38,22 +32,16 @@ address_alike a b = ap (λ (same : Bool). same && nat_eq a.port b.port) (ip_alik
 
 option_alike : {X Y : Type 0} (f : X → Y) (E : X → X → Bool) (F : Y → Y → Bool) → ((a b : X) → F (f a) (f b) ≡ E a b)
     → (a b : Option X) → option_eq F (option_map f a) (option_map f b) ≡ option_eq E a b
-option_alike f E F alike None None = refl
-option_alike f E F alike None (Some b) = refl
-option_alike f E F alike (Some a) None = refl
-option_alike f E F alike (Some a) (Some b) = alike a b
+option_alike f E F alike o p = grind arith
 
 protocol_tag : (a : Protocol) → protocol_part a ≡ tag_of protocol.the_type a
-protocol_tag Udp = refl
-protocol_tag _ = refl
+protocol_tag a = grind arith
 
 kind_tag : (a : CandidateKind) → kind_part a ≡ tag_of kind.the_type a
-kind_tag Host = refl
-kind_tag _ = refl
+kind_tag a = grind arith
 
 type_tag : (a : TcpType) → type_part a ≡ tag_of tcp_type.the_type a
-type_tag Active = refl
-type_tag _ = refl
+type_tag a = grind arith
 
 type_alike : (a b : TcpType) → nat_eq (type_part a) (type_part b) ≡ sameb tcp_type.the_type a b
 type_alike a b = λ i. nat_eq (type_tag a i) (type_tag b i)
@@ -62,19 +50,7 @@ type_alike a b = λ i. nat_eq (type_tag a i) (type_tag b i)
 
 -- they are equal where the candidates are
 equal_alike : (a b : Candidate) (x y : CandidateKey) → IsKeyOf a x → IsKeyOf b y → key.eq-value.it x y ≡ same_candidate a b
-equal_alike a b x y p q =
-    let proto : nat_eq x.proto y.proto ≡ sameb protocol.the_type a.proto b.proto =
-    (λ i. nat_eq (p.proto i) (q.proto i)) ∙ (λ i. nat_eq (protocol_tag a.proto i) (protocol_tag b.proto i)) in
-    let addr = (λ i. same_address (p.addr i) (q.addr i)) ∙ address_alike a.addr b.addr in
-    let kinds : nat_eq x.kind y.kind ≡ sameb kind.the_type a.kind b.kind =
-    (λ i. nat_eq (p.kind i) (q.kind i)) ∙ (λ i. nat_eq (kind_tag a.kind i) (kind_tag b.kind i)) in
-    let raddr = (λ i. option_eq same_address (p.raddr i) (q.raddr i)) ∙ option_alike address_part socket.eq-value.it same_address address_alike a.raddr b.raddr in
-    let tcptype = (λ i. option_eq nat_eq (p.tcptype i) (q.tcptype i)) ∙ option_alike type_part (sameb tcp_type.the_type) nat_eq type_alike a.tcptype b.tcptype in
-    let ufrag =
-    sym (option_alike (λ (t : Bor (List ℕ)). t.now) (λ s t. bytes_eq s.now t.now) bytes_eq (λ s t. refl) x.ufrag y.ufrag)
-    ∙ (λ i. option_eq bytes_eq (p.ufrag i) (q.ufrag i)) in
-    λ i. bytes_eq (p.foundation i) (q.foundation i) && (nat_eq (p.component_id i) (q.component_id i) && (proto i
-    && (nat_eq (p.prio i) (q.prio i) && (addr i && (kinds i && (raddr i && (tcptype i && ufrag i)))))))
+equal_alike a b x y p q = grind (arith, protocol_tag, address_alike, kind_tag, option_alike, type_alike)
 
 -- and stand at one place of the order there
 pub key_alike : (a b : Candidate) (x y : CandidateKey) → IsKeyOf a x → IsKeyOf b y → is_eq (order.cmp-value.it x y) ≡ same_candidate a b
@@ -83,10 +59,7 @@ key_alike a b x y p q = sym (laws.matches_eq-law x y) ∙ equal_alike a b x y p 
 -- ---- one more of them
 
 either_last : (s t : Bool) → cond s true t ≡ (t || (s || false))
-either_last true true = refl
-either_last true false = refl
-either_last false true = refl
-either_last false false = refl
+either_last s t = grind arith
 
 -- a candidate behind those that were seen, and its key among theirs
 pub seen_more : (old new : BTreeSet CandidateKey) (once pushed : List (Bor Candidate)) (c : Bor Candidate) (k : CandidateKey)

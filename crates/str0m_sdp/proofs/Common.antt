@@ -28,7 +28,6 @@ pub use Rattle.std.specs.String.{string_bytes, string_len, string_capacity}
 pub use Rattle.indexmap.specs.IndexMap.{insert_entry}
 pub use Rattle.indexmap.specs.IndexSet.{insert_all, insert_key}
 pub use denote.Enum.Bare.{same_true, sameb}
-pub use Rattle.str0m_formats.proofs.FormatEqual.{◌and◌, ◌⊗◌, option_Decides, bare_Decides}
 pub use Rattle.str0m_formats.proofs.ParamEqual.{param_Decides}
 pub use Rattle.str0m_formats.proofs.Times.{times-append, times-cons, one_if}
 pub use Rattle.str0m_formats.specs.Bounds.{IsBounded, AreModes, IsDistance, HoldsRowNumbers}

@@ -1,5 +1,5 @@
 -- What `distinct` keeps of a list: each of its values, once, as a set in order of insertion does.
-use Rattle.str0m_sdp.proofs.Common.{◌≡◌, ◌≤◌, ◌||◌, ℕ, Bool, true, false, cond, not, List, [], ◌∷◌, ◌++◌, length, drop, refl, sym, ap, ◌∙◌, append_assoc, true≢false, Decides, decided, list_any, flat_map, AllByRecursion, append-nil, drop_all, filter-append, list_any-append, insert_key, insert_all, IsEquivalence}
+use Rattle.str0m_sdp.proofs.Common.{arith, ◌≡◌, ◌≤◌, ◌||◌, ℕ, Bool, true, false, cond, not, List, [], ◌∷◌, ◌++◌, length, drop, refl, sym, ap, ◌∙◌, append_assoc, true≢false, Decides, decided, list_any, flat_map, AllByRecursion, append-nil, drop_all, filter-append, list_any-append, insert_key, insert_all, IsEquivalence}
 use Rattle.std.specs.List.{filter, IsDistinct, AllPairs, Contains}
 use Rattle.std.proofs.lemmas.Map.Keys.{apart_from_distinct}
 use Rattle.std.proofs.lemmas.Map.Steps.{list_any_congr}
@@ -25,38 +25,17 @@ module _ {X : Type 0} (same : X → X → Bool) (laws : IsEquivalence same) wher
   -- what is the same as one that was seen was seen
   seen_others : (seen : List X) (x : X) → list_any (same x) seen ≡ true → (xs : List X) → unseen seen (others x xs) ≡ unseen seen xs
   seen_others seen x was [] = refl
-  seen_others seen x was (y ∷ ys) = by (same x y) refl (seen_others seen x was ys)
-    where
-      by : (b : Bool) → same x y ≡ b → unseen seen (others x ys) ≡ unseen seen ys → unseen seen (cond (not b) (y ∷ others x ys) (others x ys)) ≡ unseen seen (y ∷ ys)
-      by true e rest = rest ∙ sym (ap (λ b. cond (not b) (y ∷ unseen seen ys) (unseen seen ys)) (sym (list_any_congr laws x y seen e) ∙ was))
-      by false e rest = ap (λ l. cond (not (list_any (same y) seen)) (y ∷ l) l) rest
+  seen_others seen x was (y ∷ ys) = grind (arith, seen_others seen x was ys, list_any_congr)
 
   -- one more that was seen
   seen_more : (seen : List X) (x : X) (xs : List X) → unseen (seen ++ x ∷ []) xs ≡ unseen seen (others x xs)
   seen_more seen x [] = refl
-  seen_more seen x (y ∷ ys) =
-      ap (λ b. cond (not b) (y ∷ unseen (seen ++ x ∷ []) ys) (unseen (seen ++ x ∷ []) ys)) (list_any-append (same y) seen (x ∷ []) ∙ ap (λ b. list_any (same y) seen || (b || false)) (laws.symm y x))
-      ∙ ap (λ l. cond (not (list_any (same y) seen || (same x y || false))) (y ∷ l) l) (seen_more seen x ys)
-      ∙ by (same x y) (list_any (same y) seen) refl
-    where
-      by : (b c : Bool) → list_any (same y) seen ≡ c → cond (not (c || (b || false))) (y ∷ unseen seen (others x ys)) (unseen seen (others x ys)) ≡ unseen seen (cond (not b) (y ∷ others x ys) (others x ys))
-      by true true e = refl
-      by true false e = refl
-      by false true e = sym (ap (λ b. cond (not b) (y ∷ unseen seen (others x ys)) (unseen seen (others x ys))) e)
-      by false false e = sym (ap (λ b. cond (not b) (y ∷ unseen seen (others x ys)) (unseen seen (others x ys))) e)
+  seen_more seen x (y ∷ ys) = grind (arith, list_any-append, seen_more seen x ys)
 
   -- a set keeps what it had, and then each value that it hadn't
   inserted : (seen xs : List X) → insert_all same seen xs ≡ seen ++ unseen seen (distinct same xs)
   inserted seen [] = sym (append-nil seen)
-  inserted seen (x ∷ xs) = by (list_any (same x) seen) refl (inserted seen xs) (inserted (seen ++ x ∷ []) xs)
-    where
-      rest : List X
-      rest = others x (distinct same xs)
-
-      by : (b : Bool) → list_any (same x) seen ≡ b → insert_all same seen xs ≡ seen ++ unseen seen (distinct same xs) → insert_all same (seen ++ x ∷ []) xs ≡ (seen ++ x ∷ []) ++ unseen (seen ++ x ∷ []) (distinct same xs)
-          → insert_all same (cond b seen (seen ++ x ∷ [])) xs ≡ seen ++ cond (not b) (x ∷ unseen seen rest) (unseen seen rest)
-      by true e kept more = kept ∙ ap (λ l. seen ++ l) (sym (seen_others seen x e (distinct same xs)))
-      by false e kept more = more ∙ append_assoc seen (x ∷ []) _ ∙ ap (λ l. seen ++ x ∷ l) (seen_more seen x (distinct same xs))
+  inserted seen (x ∷ xs) = grind (arith, inserted seen xs, inserted (seen ++ x ∷ []) xs, seen_others, append_assoc, seen_more)
 
   -- a set into which a list is put has its values, each once
   pub inserted-distinct : (xs : List X) → insert_all same [] xs ≡ distinct same xs
@@ -65,36 +44,20 @@ module _ {X : Type 0} (same : X → X → Bool) (laws : IsEquivalence same) wher
   -- leaving out what differs from k loses no k
   any-others : (k x : X) → same k x ≡ false → (xs : List X) → list_any (same k) (others x xs) ≡ list_any (same k) xs
   any-others k x apart [] = refl
-  any-others k x apart (y ∷ ys) = by (same x y) refl (any-others k x apart ys)
-    where
-      by : (b : Bool) → same x y ≡ b → list_any (same k) (others x ys) ≡ list_any (same k) ys → list_any (same k) (cond (not b) (y ∷ others x ys) (others x ys)) ≡ list_any (same k) (y ∷ ys)
-      by true e rest = rest ∙ ap (λ b. b || list_any (same k) ys) (sym (laws.symm k y ∙ sym (laws.congr x y k e) ∙ laws.symm x k ∙ apart))
-      by false e rest = ap (λ b. same k y || b) rest
+  any-others k x apart (y ∷ ys) = grind (arith, any-others k x apart ys)
 
   any-distinct : (k : X) (xs : List X) → list_any (same k) (distinct same xs) ≡ list_any (same k) xs
   any-distinct k [] = refl
-  any-distinct k (x ∷ xs) = by (same k x) refl (any-distinct k xs)
-    where
-      by : (b : Bool) → same k x ≡ b → list_any (same k) (distinct same xs) ≡ list_any (same k) xs → (b || list_any (same k) (others x (distinct same xs))) ≡ (b || list_any (same k) xs)
-      by true e rest = refl
-      by false e rest = any-others k x e (distinct same xs) ∙ rest
+  any-distinct k (x ∷ xs) = grind (arith, any-distinct k xs, any-others)
 
   distinct-filter : (test : X → Bool) (xs : List X) → IsDistinct same xs → IsDistinct same (filter test xs)
   unfolding IsDistinct
   distinct-filter test [] apart = tt
-  distinct-filter test (x ∷ xs) apart = by (test x) (distinct-filter test xs apart.1)
-    where
-      by : (b : Bool) → IsDistinct same (filter test xs) → IsDistinct same (cond b (x ∷ filter test xs) (filter test xs))
-      by true rest = (all-filter (λ y. same x y ≡ false) test xs apart.0, rest)
-      by false rest = rest
+  distinct-filter test (x ∷ xs) apart = grind (arith, distinct-filter test xs apart.1, all-filter)
 
   others-apart : (x : X) (xs : List X) → AllByRecursion (λ y. same x y ≡ false) (others x xs)
   others-apart x [] = tt
-  others-apart x (y ∷ ys) = by (same x y) refl (others-apart x ys)
-    where
-      by : (b : Bool) → same x y ≡ b → AllByRecursion (λ y. same x y ≡ false) (others x ys) → AllByRecursion (λ y. same x y ≡ false) (cond (not b) (y ∷ others x ys) (others x ys))
-      by true e rest = rest
-      by false e rest = (e, rest)
+  others-apart x (y ∷ ys) = grind (arith, others-apart x ys)
 
   pub distinct-apart : (xs : List X) → IsDistinct same (distinct same xs)
   unfolding IsDistinct
@@ -134,17 +97,10 @@ module _ {X : Type 0} (same : X → X → Bool) where
 
 -- one item under a test that is known of it
 one_kept : {X : Type 0} (test : X → Bool) (x : X) (s b : Bool) → test x ≡ not s → filter test (cond b [] (x ∷ [])) ≡ cond (s || b) [] (x ∷ [])
-one_kept test x true true is = refl
-one_kept test x true false is = rw is refl
-one_kept test x false true is = refl
-one_kept test x false false is = rw is refl
+one_kept test x s b is = grind arith
 
 -- one item more stands behind the others, unless it is the same as one of them
 pub distinct_push : {X : Type 0} (same : X → X → Bool) (xs : List X) (x : X)
     → distinct same (xs ++ x ∷ []) ≡ distinct same xs ++ cond (list_any (λ y. same y x) xs) [] (x ∷ [])
 distinct_push same [] x = refl
-distinct_push {X} same (y ∷ xs) x =
-    let test = λ (z : X). not (same y z) in
-    ap (λ (zs : List X). y ∷ filter test zs) (distinct_push same xs x)
-    ∙ ap (λ (zs : List X). y ∷ zs) (filter-append test (distinct same xs) (cond (list_any (λ z. same z x) xs) [] (x ∷ [])))
-    ∙ ap (λ (zs : List X). y ∷ (filter test (distinct same xs) ++ zs)) (one_kept test x (same y x) (list_any (λ z. same z x) xs) refl)
+distinct_push {X} same (y ∷ xs) x = grind (arith, distinct_push same xs x, filter-append, one_kept)

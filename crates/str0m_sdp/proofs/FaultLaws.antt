@@ -1,12 +1,11 @@
 -- Laws of the first fault of a section: there is none where the section is consistent, and only there.
-use Rattle.str0m_sdp.proofs.Common.{◌≡◌, ℕ, ◌<◌, ◌≤◌, Bool, true, false, not, inl, inr, List, [], ◌∷◌, Option, Some, None, length, filter_map, count_by, All, refl, sym, arith, ◌↔◌, nat_lt, AllByRecursion, cons_option, cases_eq, eq-eqb, ne_eqb, lt-ltb, le-ltb, All-from_recursion, recursion_from_All, FormatParam, ◌<|>◌, when, static_spec, ◌⊎◌, ◌==◌, ◌&&◌, ◌≢◌, is_some, Ok, Err, IfSome, cases_lt}
-use Rattle.str0m_sdp.specs.Consistency.{Consistent, NeedsNoMapping, NamesNoOther, AgreesOnApt, IsMapped, FitsProto, apt_of, first_apt, is_direction, is_mid, is_setup, maps as maps_to, mid_of}
+use Rattle.str0m_sdp.proofs.Common.{◌≡◌, ℕ, ◌<◌, ◌≤◌, Bool, true, false, not, List, [], ◌∷◌, Option, Some, None, length, filter_map, count_by, All, refl, arith, ◌↔◌, nat_lt, AllByRecursion, cons_option, ne_eqb, lt-ltb, All-from_recursion, recursion_from_All, FormatParam, ◌<|>◌, when, ◌⊎◌, ◌==◌, ◌&&◌, ◌≢◌, is_some, Ok, Err, IfSome, cases_lt}
+use Rattle.str0m_sdp.specs.Consistency.{Consistent, NeedsNoMapping, NamesNoOther, AgreesOnApt, IsMapped, FitsProto, apt_of, is_direction, is_mid, is_setup, maps as maps_to, mid_of}
 use Rattle.str0m_sdp.specs.Fault.{after_mid, apt_fault, clash, err_if, fault_beside, first_fault, map_fault, mapping_fault, one_mid, proto_fault, setup_fault, value_fault, values_fault}
 use Rattle.str0m_sdp.specs.Lists.{first}
 use Rattle.str0m_sdp.specs.declared.attribute.MediaAttribute.{MediaAttribute}
-use Rattle.str0m_sdp.specs.declared.attribute.MediaAttribute.TheVariants.{Fmtp}
 use Rattle.str0m_sdp.specs.declared.fault.Fault.{Fault}
-use Rattle.str0m_sdp.specs.declared.fault.Fault.TheVariants.{SecondSetup, Directions, MissingType, MissingMap}
+use Rattle.str0m_sdp.specs.declared.fault.Fault.TheVariants.{SecondSetup}
 use Rattle.str0m_sdp.specs.declared.media_line.MediaLine.{MediaLine}
 use Rattle.str0m_sdp.specs.declared.proto.Proto.{Proto}
 use Rattle.str0m_sdp.specs.declared.proto.Proto.TheVariants.{Srtp, Sctp}
@@ -17,35 +16,25 @@ use Rattle.str0m_formats.proofs.StaticTypes.{needs_none}
 
 -- what was asked first found nothing
 pub passed : {E : Type 0} (o p : Option E) → Ok tt ≡ err_if o → o <|> p ≡ p
-passed None p is = refl
-passed (Some fault) p is = absurd cc
+passed o p is = grind arith
 
 pub none_if_ok : {E : Type 0} (o : Option E) → Ok tt ≡ err_if o → o ≡ None
-none_if_ok None ok = refl
-none_if_ok (Some fault) ok = absurd cc
+none_if_ok o ok = grind arith
 
 pub or_none : {E : Type 0} (o p : Option E) → (o <|> p ≡ None) ↔ ((o ≡ None) × (p ≡ None))
-or_none None p = ((λ is. (refl, is)), λ both. both.1)
-or_none (Some x) p = ((λ is. absurd cc), λ both. absurd (let no = both.0 in cc))
+or_none o p = grind arith
 
 pub when_none : {E : Type 0} (test : Bool) (x : E) → (when test x ≡ None) ↔ (test ≡ false)
-when_none true x = ((λ is. absurd cc), λ is. absurd cc)
-when_none false x = ((λ is. refl), λ is. refl)
+when_none test x = grind arith
 
 -- no item has a fault
 pub none_first : {E : Type 0} (o : Option E) (os : List E) → (first (cons_option o os) ≡ None) ↔ ((o ≡ None) × (first os ≡ None))
-none_first None os = ((λ is. (refl, is)), λ both. both.1)
-none_first (Some x) os = ((λ is. absurd cc), λ both. absurd (let no = both.0 in cc))
+none_first o os = grind arith
 
 module _ {X E : Type 0} (f : X → Option E) (P : X → Type 0) (each : (x : X) → (f x ≡ None) ↔ P x) where
   by_items : (xs : List X) → (first (filter_map f xs) ≡ None) ↔ AllByRecursion P xs
   by_items [] = ((λ is. tt), λ all. refl)
-  by_items (x ∷ xs) =
-      let here = none_first (f x) (filter_map f xs) in
-      let rest = by_items xs in (
-        (λ is. let both = here.0 is in ((each x).0 both.0, rest.0 both.1)),
-        λ all. here.1 ((each x).1 all.0, rest.1 all.1),
-      )
+  by_items (x ∷ xs) = grind (arith, none_first, by_items xs)
 
   pub none_among : (xs : List X) → (first (filter_map f xs) ≡ None) ↔ All P xs
   none_among xs =
@@ -56,60 +45,19 @@ module _ {X E : Type 0} (f : X → Option E) (P : X → Type 0) (each : (x : X) 
 
 mids : (count : ℕ) (o : Option (List ℕ)) → ((is_some o ≡ true) ↔ (0 < count)) → (beside : List ℕ → Option Fault) (P : Type 0)
     → ((mid : List ℕ) → (beside mid ≡ None) ↔ P) → (after_mid (one_mid count o) beside ≡ None) ↔ ((count ≡ 1) × P)
-mids count None held beside P none = ((λ is. absurd cc), λ one. absurd (let no = held.1 (omega (arith, one.0)) in cc))
-mids count (Some mid) held beside P none =
-    elim (cases_lt 1 count) [
-      | inl more ↦
-          rw (lt-ltb 1 count more) ((λ is. absurd cc), λ one. absurd (omega (arith, more, one.0)))
-      | inr few ↦
-          let some = held.0 refl in
-          rw (le-ltb 1 count few) ((λ is. (omega (arith, few, some), (none mid).0 is)), λ one. (none mid).1 one.1)
-    ]
+mids count o held beside p none = grind arith
 
 at_most_one : {E : Type 0} (count : ℕ) (fault : E) → (when (nat_lt 1 count) fault ≡ None) ↔ (count ≤ 1)
-at_most_one count fault =
-    elim (cases_lt 1 count) [
-      | inl more ↦ rw (lt-ltb 1 count more) ((λ is. absurd cc), λ few. absurd (omega (arith, more, few)))
-      | inr few ↦ rw (le-ltb 1 count few) ((λ is. few), λ few. refl)
-    ]
+at_most_one count fault = grind arith
 
 unmapped : {E : Type 0} (known : Bool) (fault : E) (P : Type 0) → ((known ≡ true) ↔ P) → (when (not known) fault <|> None ≡ None) ↔ P
-unmapped true fault P is = ((λ none. is.0 refl), λ holds. refl)
-unmapped false fault P is = ((λ none. absurd cc), λ holds. absurd (let no = is.1 holds in cc))
+unmapped known fault P is = grind arith
 
 mapped : (mid : List ℕ) (pt count : ℕ) → (mapping_fault count mid pt ≡ None) ↔ ((count ≡ 1) ⊎ ((count ≡ 0) × NeedsNoMapping pt))
-mapped mid pt count =
-    elim (cases_lt 1 count) [
-      | inl more ↦
-          rw (lt-ltb 1 count more, ne_eqb count 0 (λ none. omega (arith, more, none))) (
-            (λ is. absurd cc),
-            λ either. absurd (elim either [
-              | inl one ↦ omega (arith, more, one)
-              | inr none ↦ omega (arith, more, none.0)
-            ]),
-          )
-      | inr few ↦
-          elim (cases_lt 0 count) [
-            | inl some ↦ let one : count ≡ 1 = omega (arith, few, some) in rw one ((λ is. inl refl), λ either. refl)
-            | inr none ↦
-                let is_none : count ≡ 0 = omega (arith, none) in
-                let needs = unmapped (is_some (static_spec pt)) (MissingMap mid pt) (NeedsNoMapping pt) (needs_none pt) in
-                rw is_none (
-                  (λ is. inr (refl, needs.0 is)),
-                  λ either. elim either [
-                    | inl one ↦ absurd cc
-                    | inr both ↦ needs.1 both.1
-                  ],
-                )
-          ]
-    ]
+mapped mid pt count = grind (arith, cases_lt, lt-ltb, ne_eqb, needs_none)
 
 one_direction : (count : ℕ) → (not (count == 1) ≡ false) ↔ (count ≡ 1)
-one_direction count =
-    elim (cases_eq count 1) [
-      | inl one ↦ rw (eq-eqb count 1 one) ((λ is. one), λ one. refl)
-      | inr apart ↦ rw (ne_eqb count 1 apart) ((λ is. absurd cc), λ one. absurd (apart one))
-    ]
+one_direction count = grind arith
 
 some_type : (disabled : Bool) (pts : List ℕ) → ((not disabled && length pts == 0) ≡ false) ↔ (disabled ≡ false → pts ≢ [])
 some_type true pts = ((λ is enabled. absurd cc), λ some. refl)
@@ -119,25 +67,10 @@ some_type false (pt ∷ pts) = rw (ne_eqb (length (pt ∷ pts)) 0 (λ same. omeg
 fits : (m : MediaLine) (mid : List ℕ) (proto : Proto)
     → (proto_fault m mid proto ≡ None) ↔ (proto ≡ Srtp → (count_by is_direction m.attrs ≡ 1) × (m.disabled ≡ false → m.pts ≢ []))
 fits m mid Sctp = ((λ is same. absurd cc), λ fits. refl)
-fits m mid Srtp =
-    let count = count_by is_direction m.attrs in
-    let lacks = not m.disabled && length m.pts == 0 in
-    let other = when_none (not (count == 1)) (Directions mid) in
-    let typeless = when_none lacks (MissingType mid) in
-    let both = or_none (when (not (count == 1)) (Directions mid)) (when lacks (MissingType mid)) in
-    let one = one_direction count in
-    let some = some_type m.disabled m.pts in (
-      (λ is same. let parts = both.0 is in (one.0 (other.0 parts.0), some.0 (typeless.0 parts.1))),
-      λ fits. let parts = fits refl in both.1 (other.1 (one.1 parts.0), typeless.1 (some.1 parts.1)),
-    )
+fits m mid Srtp = grind (arith, when_none, or_none, one_direction, some_type)
 
 clashes : (mid : List ℕ) (pt named : ℕ) (other : Option ℕ) → (clash mid pt named other ≡ None) ↔ IfSome other (λ other. named ≡ other)
-clashes mid pt named None = ((λ is. tt), λ is. refl)
-clashes mid pt named (Some other) =
-    elim (cases_eq other named) [
-      | inl same ↦ rw (eq-eqb other named same) ((λ is. sym same), λ is. refl)
-      | inr apart ↦ rw (ne_eqb other named apart) ((λ is. absurd cc), λ is. absurd (apart (sym is)))
-    ]
+clashes mid pt named other = grind arith
 
 values_agree : (mid : List ℕ) (pt : ℕ) (values : List FormatParam) (o : Option ℕ)
     → (values_fault mid pt values o ≡ None) ↔ IfSome o (λ named. All (NamesNoOther named) values)
@@ -146,8 +79,7 @@ values_agree mid pt values (Some named) =
     none_among (value_fault mid pt named) (NamesNoOther named) (λ value. clashes mid pt named (apt_of value)) values
 
 agrees : (attrs : List MediaAttribute) (mid : List ℕ) (attr : MediaAttribute) → (apt_fault attrs mid attr ≡ None) ↔ AgreesOnApt attrs attr
-agrees attrs mid (Fmtp pt values) = values_agree mid pt values (first_apt pt attrs)
-agrees attrs mid _ = ((λ is. tt), λ is. refl)
+agrees attrs mid attr = grind (arith, values_agree)
 
 -- ---- all of them
 

@@ -1,5 +1,5 @@
 -- The feedback of types, one attribute more.
-use Rattle.str0m_sdp.proofs.Common.{◌≡◌, ◌<◌, ◌+◌, ◌||◌, ℕ, Bool, false, List, [], length, take, get_or, refl, sym, ap, ◌∙◌, inl, inr, cases_eq, eq-eqb, ne_eqb, get_or-set_same, get_or-set_other, bytes_eq, set}
+use Rattle.str0m_sdp.proofs.Common.{arith, ◌≡◌, ◌<◌, ◌+◌, ◌||◌, ℕ, Bool, false, List, [], length, take, get_or, refl, sym, ap, ◌∙◌, inl, inr, cases_eq, eq-eqb, ne_eqb, get_or-set_same, get_or-set_other, bytes_eq, set}
 use Rattle.str0m_sdp.specs.Feedback.{is_feedback, has_feedback, feedback_by, feedback_of, none, named, either}
 use Rattle.str0m_sdp.specs.declared.attribute.MediaAttribute.{MediaAttribute}
 use Rattle.str0m_sdp.specs.declared.attribute.MediaAttribute.TheVariants.{RtcpFb}
@@ -26,14 +26,12 @@ joined : (xs ys : List MediaAttribute) (pt : ℕ) (value : List ℕ) → ((words
 joined xs ys pt value more = λ i. feedback_by (λ words. more words i)
 
 silent : (pt : ℕ) (words : List ℕ) (attr : MediaAttribute) → ((n : ℕ) (value : List ℕ) → attr ≡ RtcpFb n value → ⊥) → is_feedback pt words attr ≡ false
-silent pt words (RtcpFb n value) other = absurd (other n value refl)
-silent pt words _ other = refl
+silent pt words attr other = grind arith
 
 -- what is no rtcp-fb line changes nothing
 pub feedback_other : (attrs : List MediaAttribute) (i : ℕ) (attr : MediaAttribute) (pt : ℕ) → i < length attrs → attr ≡ get_or attrs i attr
     → ((n : ℕ) (value : List ℕ) → attr ≡ RtcpFb n value → ⊥) → feedback_of (take (i + 1) attrs) pt ≡ feedback_of (take i attrs) pt
-feedback_other attrs i attr pt lt is other =
-    alike (take (i + 1) attrs) (take i attrs) pt (λ words. has_same attrs i attr pt words lt is (silent pt words attr other))
+feedback_other attrs i attr pt lt is other = grind (arith, alike, has_same, silent)
 
 own : (n : ℕ) (value words : List ℕ) → is_feedback n words (RtcpFb n value) ≡ bytes_eq value words
 own n value words = rw (eq-eqb n n refl) refl

@@ -1,5 +1,5 @@
 -- The fmtp lines of types, one attribute more.
-use Rattle.str0m_sdp.proofs.Common.{◌≡◌, ◌==◌, ◌<◌, ◌+◌, ◌++◌, ℕ, true, false, List, [], ◌∷◌, length, take, get_or, Option, Some, None, filter_map, option_to_list, refl, sym, ap, ◌∙◌, inl, inr, Bor, cases_eq, eq-eqb, ne_eqb, append-nil, map-append, filter_map-append, line_values, FormatParam}
+use Rattle.str0m_sdp.proofs.Common.{arith, ◌≡◌, ◌==◌, ◌<◌, ◌+◌, ◌++◌, ℕ, true, false, List, [], ◌∷◌, length, take, get_or, Option, Some, None, option_to_list, refl, sym, ap, ◌∙◌, inl, inr, Bor, cases_eq, eq-eqb, ne_eqb, append-nil, map-append, filter_map-append, line_values, FormatParam}
 use Rattle.str0m_sdp.specs.FmtpLines.{line_with, lines_with}
 use Rattle.str0m_sdp.specs.SectionRows.{values_in, lines_of}
 use Rattle.str0m_sdp.specs.declared.attribute.MediaAttribute.{MediaAttribute}
@@ -15,26 +15,19 @@ no_lines lines pt empty = ap (λ (ls : List (ℕ × Bor (List FormatParam))). li
 with_more : (pt : ℕ) (lines : List (ℕ × Bor (List FormatParam))) (item : ℕ × Bor (List FormatParam)) (o : Option (Bor (List FormatParam)))
     → line_with pt item ≡ o
     → line_values (lines_with pt (lines ++ item ∷ [])) ≡ line_values (lines_with pt lines) ++ line_values (option_to_list o)
-with_more pt lines item o is =
-    ap (λ (ls : List (Bor (List FormatParam))). line_values ls)
-    (filter_map-append (line_with pt) lines (item ∷ [])
-    ∙ ap (λ (ls : List (Bor (List FormatParam))). lines_with pt lines ++ ls) (map_one (line_with pt) item o is))
-    ∙ map-append (λ (l : Bor (List FormatParam)). l.now) (lines_with pt lines) (option_to_list o)
+with_more pt lines item o is = grind (arith, filter_map-append, map_one, map-append)
 
 lines_more : (attrs : List MediaAttribute) (i : ℕ) (attr : MediaAttribute) (pt : ℕ) (o : Option (List FormatParam)) → i < length attrs → attr ≡ get_or attrs i attr
     → values_in pt attr ≡ o → lines_of (take (i + 1) attrs) pt ≡ lines_of (take i attrs) pt ++ option_to_list o
 unfolding lines_of
-lines_more attrs i attr pt o lt is says =
-    map_more (values_in pt) attrs i attr lt is
-    ∙ ap (λ (v : Option (List FormatParam)). filter_map (values_in pt) (take i attrs) ++ option_to_list v) says
+lines_more attrs i attr pt o lt is says = grind (arith, map_more (values_in pt) attrs i attr lt is)
 
 lines_same : (attrs : List MediaAttribute) (i : ℕ) (attr : MediaAttribute) (pt : ℕ) → i < length attrs → attr ≡ get_or attrs i attr
     → values_in pt attr ≡ None → lines_of (take (i + 1) attrs) pt ≡ lines_of (take i attrs) pt
 lines_same attrs i attr pt lt is silent = lines_more attrs i attr pt None lt is silent ∙ append-nil (lines_of (take i attrs) pt)
 
 silent : (pt : ℕ) (attr : MediaAttribute) → ((n : ℕ) (values : List FormatParam) → attr ≡ Fmtp n values → ⊥) → values_in pt attr ≡ None
-silent pt (Fmtp n values) other = absurd (other n values refl)
-silent pt _ other = refl
+silent pt attr other = grind arith
 
 own : (n pt : ℕ) (values : List FormatParam) → n ≡ pt → values_in pt (Fmtp n values) ≡ Some values
 own n pt values same = rw (eq-eqb n pt same) refl
@@ -80,16 +73,11 @@ no pt item is = rw is refl
 pub found_own : (lines : List (ℕ × Bor (List FormatParam))) (found : List (Bor (List FormatParam))) (i pt : ℕ) (item : ℕ × Bor (List FormatParam))
     → i < length lines → item ≡ get_or lines i item → (item.0 == pt) ≡ true → found ≡ lines_with pt (take i lines)
     → found ++ item.1 ∷ [] ≡ lines_with pt (take (i + 1) lines)
-found_own lines found i pt item lt is same so_far =
-    ap (λ (ls : List (Bor (List FormatParam))). ls ++ item.1 ∷ []) so_far
-    ∙ sym (map_more (line_with pt) lines i item lt is
-    ∙ ap (λ (o : Option (Bor (List FormatParam))). lines_with pt (take i lines) ++ option_to_list o) (yes pt item same))
+found_own lines found i pt item lt is same so_far = grind (arith, map_more (line_with pt) lines i item lt is, yes pt item same)
 
 -- one of another type isn't
 pub found_other : (lines : List (ℕ × Bor (List FormatParam))) (found : List (Bor (List FormatParam))) (i pt : ℕ) (item : ℕ × Bor (List FormatParam))
     → i < length lines → item ≡ get_or lines i item → (item.0 == pt) ≡ false → found ≡ lines_with pt (take i lines)
     → found ≡ lines_with pt (take (i + 1) lines)
 found_other lines found i pt item lt is apart so_far =
-    so_far ∙ sym (map_more (line_with pt) lines i item lt is
-    ∙ ap (λ (o : Option (Bor (List FormatParam))). lines_with pt (take i lines) ++ option_to_list o) (no pt item apart)
-    ∙ append-nil (lines_with pt (take i lines)))
+    grind (arith, map_more (line_with pt) lines i item lt is, no pt item apart, append-nil (lines_with pt (take i lines)))

@@ -1,7 +1,6 @@
 -- Lines that describe no payload type answer nothing.
-use Rattle.str0m_sdp.proofs.Common.{◌≡◌, ℕ, false, List, None, refl, AllByRecursion, Codec, CodecSpec, FormatParam, true≢false}
+use Rattle.str0m_sdp.proofs.Common.{arith, ◌≡◌, ℕ, false, List, None, AllByRecursion, Codec, CodecSpec, FormatParam}
 use Rattle.str0m_sdp.specs.declared.attribute.MediaAttribute.{MediaAttribute}
-use Rattle.str0m_sdp.specs.declared.attribute.MediaAttribute.TheVariants.{RtpMap, RtcpFb, Fmtp}
 use Rattle.str0m_sdp.specs.SectionOf.{is_of_type}
 use Rattle.str0m_sdp.specs.SectionRows.{values_in}
 use Rattle.str0m_sdp.specs.Companions.{companion_in, listed}
@@ -21,26 +20,20 @@ abbrev pub HasNoTypes : List MediaAttribute → Type 0
 HasNoTypes frame = AllByRecursion (λ attr. is_of_type attr ≡ false) frame
 
 pub frame_mapping : (attr : MediaAttribute) → is_of_type attr ≡ false → mapping attr ≡ None
-frame_mapping (RtpMap n m) h = absurd (true≢false h)
-frame_mapping _ h = refl
+frame_mapping attr h = grind arith
 
 pub frame_maps : (t : ℕ) (attr : MediaAttribute) → is_of_type attr ≡ false → maps t attr ≡ false
-frame_maps t (RtpMap n m) h = absurd (true≢false h)
-frame_maps t _ h = refl
+frame_maps t attr h = grind arith
 
 pub frame_feedback : (t : ℕ) (words : List ℕ) (attr : MediaAttribute) → is_of_type attr ≡ false → is_feedback t words attr ≡ false
-frame_feedback t words (RtcpFb n w) h = absurd (true≢false h)
-frame_feedback t words _ h = refl
+frame_feedback t words attr h = grind arith
 
 pub frame_values : (t : ℕ) (attr : MediaAttribute) → is_of_type attr ≡ false → values_in t attr ≡ None
-frame_values t (Fmtp n v) h = absurd (true≢false h)
-frame_values t _ h = refl
+frame_values t attr h = grind arith
 
 pub frame_apt : (t : ℕ) (attr : MediaAttribute) → is_of_type attr ≡ false → apt_in t attr ≡ None
-frame_apt t (Fmtp n v) h = absurd (true≢false h)
-frame_apt t _ h = refl
+frame_apt t attr h = grind arith
 
 pub frame_companion : (c : Codec) (mapped : List (ℕ × CodecSpec)) (t : ℕ) (attr : MediaAttribute) → is_of_type attr ≡ false
     → companion_in c mapped t attr ≡ None
-frame_companion c mapped t (Fmtp n v) h = absurd (true≢false h)
-frame_companion c mapped t _ h = refl
+frame_companion c mapped t attr h = grind arith

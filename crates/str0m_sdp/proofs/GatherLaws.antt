@@ -1,5 +1,5 @@
 -- What a section says of each type, one attribute more.
-use Rattle.str0m_sdp.proofs.Common.{◌≡◌, ◌==◌, ◌<◌, ◌+◌, ◌++◌, ◌&&◌, ℕ, Bool, false, cond, List, [], ◌∷◌, length, take, get_or, replicate, Option, Some, None, refl, sym, ap, ◌∙◌, Bor, list_any, length-set, get_or-replicate, CodecSpec, FormatParam, set}
+use Rattle.str0m_sdp.proofs.Common.{arith, ◌≡◌, ◌==◌, ◌<◌, ◌+◌, ◌++◌, ◌&&◌, ℕ, Bool, false, cond, List, [], ◌∷◌, length, take, get_or, replicate, Option, Some, None, refl, sym, ap, ◌∙◌, Bor, list_any, length-set, get_or-replicate, CodecSpec, FormatParam, set}
 use Rattle.str0m_formats.specs.declared.codec.Codec.TheVariants.{Rtx, Red}
 use Rattle.str0m_sdp.specs.Companions.{names}
 use Rattle.str0m_sdp.specs.Feedback.{none, named, either}
@@ -46,35 +46,14 @@ pub feedback_gathered : (types : List (ℕ × CodecSpec)) (attrs : List MediaAtt
     → AreOf types (take i attrs) words lines
     → AreOf types (take (i + 1) attrs) (record words { feedback = set words.feedback n (either (get_or words.feedback n none) (named value)) }) lines
 feedback_gathered types attrs words lines i n value attr lt is variant small so_far =
-    let other : (m : ℕ) (values : List FormatParam) → attr ≡ Fmtp m values → ⊥ =
-    λ m values fmtp. let it : RtcpFb n value ≡ Fmtp m values = sym variant ∙ fmtp in cc in
-    let row : n < length words.feedback = rw so_far.feedback_rows small in
-    record {
-      rtx_rows = so_far.rtx_rows;
-      red_rows = so_far.red_rows;
-      feedback_rows = length-set words.feedback n (either (get_or words.feedback n none) (named value)) ∙ so_far.feedback_rows;
-      rtx = λ pt le. so_far.rtx pt le ∙ sym (companion_other Rtx types attrs i attr pt lt is other);
-      red = λ pt le. so_far.red pt le ∙ sym (companion_other Red types attrs i attr pt lt is other);
-      feedback = λ pt le. feedback_named attrs words.feedback i n value attr pt (get_or words.feedback n none) lt row is variant
-          (so_far.feedback n small) (so_far.feedback pt le);
-      gathered = λ pt. so_far.gathered pt ∙ sym (lines_other attrs i attr pt lt is other);
-    }
+    grind (arith, length-set, companion_other, feedback_named, lines_other)
 
 -- any other attribute says nothing of types
 pub other_gathered : (types : List (ℕ × CodecSpec)) (attrs : List MediaAttribute) (words : TypeWords) (lines : List (ℕ × Bor (List FormatParam)))
     (i : ℕ) (attr : MediaAttribute) → i < length attrs → attr ≡ get_or attrs i attr
     → ((n : ℕ) (values : List FormatParam) → attr ≡ Fmtp n values → ⊥) → ((n : ℕ) (value : List ℕ) → attr ≡ RtcpFb n value → ⊥)
     → AreOf types (take i attrs) words lines → AreOf types (take (i + 1) attrs) words lines
-other_gathered types attrs words lines i attr lt is no_fmtp no_feedback so_far =
-    record {
-      rtx_rows = so_far.rtx_rows;
-      red_rows = so_far.red_rows;
-      feedback_rows = so_far.feedback_rows;
-      rtx = λ pt le. so_far.rtx pt le ∙ sym (companion_other Rtx types attrs i attr pt lt is no_fmtp);
-      red = λ pt le. so_far.red pt le ∙ sym (companion_other Red types attrs i attr pt lt is no_fmtp);
-      feedback = λ pt le. so_far.feedback pt le ∙ sym (feedback_other attrs i attr pt lt is no_feedback);
-      gathered = λ pt. so_far.gathered pt ∙ sym (lines_other attrs i attr pt lt is no_fmtp);
-    }
+other_gathered types attrs words lines i attr lt is no_fmtp no_feedback so_far = grind (arith, companion_other, feedback_other, lines_other)
 
 -- before any attribute nothing is said
 pub nothing_gathered : (types : List (ℕ × CodecSpec)) (words : TypeWords)
@@ -93,5 +72,4 @@ nothing_gathered types words rtx red feedback =
 -- what is gathered of all attributes is what the section says
 pub all_gathered : (m : MediaLine) (words : TypeWords) (lines : List (ℕ × Bor (List FormatParam)))
     → Marks words.in_m_line (λ pt. list_any (λ n. n == pt) m.pts) → AreOf (mapped m) m.attrs words lines → SayOf m words
-all_gathered m words lines in_m_line all =
-    record { in_m_line = in_m_line; rtx = all.rtx; red = all.red; feedback = all.feedback }
+all_gathered m words lines in_m_line all = grind arith

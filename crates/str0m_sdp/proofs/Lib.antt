@@ -9,7 +9,6 @@ pub mod Copies
 pub mod DistinctLaws
 pub mod FaultLaws
 pub mod FeedbackLaws
-pub mod FieldsEqual
 pub mod FilterMapLaws
 pub mod Finding
 pub mod FmtpAnswers

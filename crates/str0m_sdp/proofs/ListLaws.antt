@@ -5,20 +5,13 @@ use Rattle.str0m_sdp.specs.Lists.{first, last}
 -- ---- from the end
 
 first_append : {X : Type 0} (xs ys : List X) → first (xs ++ ys) ≡ option_or (first xs) (first ys)
-first_append [] ys = refl
-first_append (x ∷ xs) ys = refl
+first_append xs ys = grind arith
 
 first_held : {X : Type 0} (o : Option X) → first (cons_option o []) ≡ o
-first_held None = refl
-first_held (Some x) = refl
+first_held o = grind arith
 
 last_more : {X : Type 0} (o : Option X) (xs : List X) → last (cons_option o xs) ≡ option_or (last xs) o
-last_more None xs = at_none (last xs)
-  where
-    at_none : {X : Type 0} (o : Option X) → o ≡ option_or o None
-    at_none None = refl
-    at_none (Some x) = refl
-last_more (Some x) xs = refl
+last_more o xs = grind arith
 
 -- the first from the end is the last
 pub first_reversed : {X Y : Type 0} (h : X → Option Y) (xs : List X) → first (filter_map h (reverse xs)) ≡ last (filter_map h xs)
@@ -35,11 +28,7 @@ first_reversed h (x ∷ xs) =
 
 more : {X Y : Type 0} (h : X → Option Y) (xs : List X) (i : ℕ) (x : X) (o : Option Y) → i < length xs → x ≡ get_or xs i x → o ≡ h x
     → filter_map h (take (i + 1) xs) ≡ filter_map h (take i xs) ++ cons_option o []
-more h xs i x o lt is holds =
-    ap (filter_map h) (take_more xs i x lt)
-    ∙ filter_map-append h (take i xs) (get_or xs i x ∷ [])
-    ∙ ap (λ y. filter_map h (take i xs) ++ cons_option (h y) []) (sym is)
-    ∙ ap (λ o. filter_map h (take i xs) ++ cons_option o []) (sym holds)
+more h xs i x o lt is holds = grind (arith, take_more xs i x lt, filter_map-append h (take i xs) (get_or xs i x ∷ []))
 
 -- an item that holds something is passed, and one that holds nothing
 pub filter_map_more : {X Y : Type 0} (h : X → Option Y) (xs : List X) (i : ℕ) (x : X) (y : Y) → i < length xs → x ≡ get_or xs i x → Some y ≡ h x
@@ -55,10 +44,7 @@ filter_map_same h xs i x lt is holds = more h xs i x None lt is holds ∙ append
 module _ {X Y : Type 0} (h : X → Option Y) (p : X → Bool) (same : (x : X) → is_some (h x) ≡ p x) where
   held : (x : X) (o : Option Y) (b : Bool) (ys : List Y) (zs : List X) → is_some o ≡ b → is_some (first ys) ≡ ltb 0 (length zs)
       → is_some (first (cons_option o ys)) ≡ ltb 0 (length (cond b (x ∷ zs) zs))
-  held x None false ys zs e rest = rest
-  held x None true ys zs e rest = absurd (true≢false (sym e))
-  held x (Some y) true ys zs e rest = sym (lt-ltb 0 (length (x ∷ zs)) (omega arith))
-  held x (Some y) false ys zs e rest = absurd (true≢false e)
+  held x o b ys zs e rest = grind arith
 
   counted : (xs : List X) → is_some (first (filter_map h xs)) ≡ ltb 0 (length (filter p xs))
   counted [] = refl
@@ -66,20 +52,13 @@ module _ {X Y : Type 0} (h : X → Option Y) (p : X → Bool) (same : (x : X) �
 
   -- there is a first where some item passes
   pub first_counted : (xs : List X) → (is_some (first (filter_map h xs)) ≡ true) ↔ (0 < count_by p xs)
-  first_counted xs = (
-    λ some. omega (arith, length-filter p xs, ltb-true 0 (length (filter p xs)) (sym (counted xs) ∙ some)),
-    λ lt. counted xs ∙ lt-ltb 0 (length (filter p xs)) (omega (arith, length-filter p xs)),
-  )
+  first_counted xs = grind (arith, length-filter, ltb-true, counted, lt-ltb)
 
   replaced : (x y : X) (b : Bool) (o : Option Y) (n : ℕ) (xs : List X) → is_some o ≡ b → h x ≡ o → is_some (h y) ≡ true
       → cond (not b) (1 + n) 0 < length (x ∷ xs)
       → (n < length xs → first (filter_map h (set xs n y)) ≡ h y)
       → first (filter_map h (set (x ∷ xs) (cond (not b) (1 + n) 0) y)) ≡ h y
-  replaced x y true o n xs e is some lt rest = at_first (h y) some
-    where
-      at_first : (o : Option Y) → is_some o ≡ true → first (cons_option o (filter_map h xs)) ≡ o
-      at_first None some = absurd (true≢false (sym some))
-      at_first (Some d) some = refl
+  replaced x y true o n xs e is some lt rest = grind arith
   replaced x y false (Some d) n xs e is some lt rest = absurd (true≢false e)
   replaced x y false None n xs e is some lt rest = ap (λ k. first (filter_map h (set (x ∷ xs) k y))) (let e : 1 + n ≡ suc n = omega arith in e) ∙ ap (λ o. first (cons_option o (filter_map h (set xs n y)))) is ∙ rest (omega arith)
 
@@ -103,4 +82,4 @@ first_within p xs lt = within p xs (omega (arith, length-filter p xs))
 
 -- and `position` finds it
 pub position_within : {X : Type 0} (p : X → Bool) (xs : List X) → 0 < count_by p xs → position p xs ≡ Some (position_or_len p xs)
-position_within p xs lt = ap (λ b. cond b (Some (position_or_len p xs)) None) (lt-ltb (position_or_len p xs) (length xs) (first_within p xs lt))
+position_within p xs lt = grind (arith, lt-ltb, first_within)

@@ -1,8 +1,8 @@
 -- Laws of mids in the order of their bytes.
-use Rattle.str0m_sdp.proofs.Common.{◌≡◌, ◌<◌, ◌+◌, ◌++◌, ◌||◌, not, cond, ℕ, Bool, true, false, List, [], ◌∷◌, length, take, get_or, Option, Some, None, append_assoc, filter, filter_map, refl, sym, ap, ◌∙◌, Bor, BTreeSet, Updates, contains, cons_option, nat_cmp, bytes_eq, false≢true, ◌<|>◌, when, slice_cmp}
+use Rattle.str0m_sdp.proofs.Common.{arith, ◌≡◌, ◌<◌, ◌+◌, ◌++◌, ◌||◌, not, cond, ℕ, Bool, true, false, List, [], ◌∷◌, length, take, get_or, Option, Some, None, append_assoc, filter_map, refl, sym, ap, ◌∙◌, Bor, BTreeSet, Updates, contains, cons_option, nat_cmp, bytes_eq, ◌<|>◌, when, slice_cmp}
 use Rattle.std.proofs.Math.Bool.{or_comm}
 use Rattle.std.proofs.lemmas.Map.Text.{is_eq-slice_cmp}
-use Rattle.str0m_sdp.specs.OrderedMids.{Holds, is_held, is_part, part_mid}
+use Rattle.str0m_sdp.specs.OrderedMids.{Holds, is_held, part_mid}
 use Rattle.str0m_sdp.specs.SessionConsistency.{is_listed, parts, section_mid, takes_part}
 use Rattle.str0m_sdp.specs.SessionFault.{first_again}
 use Rattle.str0m_sdp.specs.declared.media_line.MediaLine.{MediaLine}
@@ -11,8 +11,7 @@ use Rattle.str0m_sdp.proofs.TypeMarks.{any_more}
 -- ---- what is held
 
 either : (b other : Bool) → cond b true other ≡ (b || other)
-either true other = refl
-either false other = refl
+either b other = grind arith
 
 -- one name more
 held_more : (old new : BTreeSet (Bor (List ℕ))) (name : Bor (List ℕ)) (mid : List ℕ) → name.now ≡ mid
@@ -44,16 +43,13 @@ holds_behind old new name mid mids i lt is same more holds (Some q) =
 -- ---- the first that stands again
 
 pub whole_before : (whole left before passed : List (List ℕ)) (mid : List ℕ) → whole ≡ left ++ passed → left ≡ before ++ mid ∷ [] → whole ≡ before ++ (mid ∷ passed)
-whole_before whole left before passed mid all last =
-    all ∙ ap (λ (mids : List (List ℕ)). mids ++ passed) last ∙ append_assoc before (mid ∷ []) passed
+whole_before whole left before passed mid all last = grind (arith, append_assoc)
 
 was_there : (added there : Bool) → added ≡ not there → added ≡ false → there ≡ true
-was_there added true is test = refl
-was_there added false is test = absurd (false≢true (sym test ∙ is))
+was_there added there is test = grind arith
 
 was_new : (added there : Bool) → added ≡ not there → added ≡ true → there ≡ false
-was_new added true is test = absurd (false≢true (sym is ∙ test))
-was_new added false is test = refl
+was_new added there is test = grind arith
 
 -- a mid that was held stands again, and before all others
 pub found_here : (names : BTreeSet (Bor (List ℕ))) (name : Bor (List ℕ)) (mid : List ℕ) (mids : List (List ℕ)) (added : Bool)
@@ -78,13 +74,9 @@ found_later names name mid mids added found same holds told test so_far =
 -- one section more, which takes part or not
 one_part : (m : MediaLine) (rest : List MediaLine) (b : Bool)
     → cons_option (cond b (section_mid m) None) (filter_map section_mid rest) ≡ filter_map section_mid (cond b (m ∷ rest) rest)
-one_part m rest true = refl
-one_part m rest false = refl
+one_part m rest b = grind arith
 
 pub parts_same : (names : BTreeSet (Bor (List ℕ))) (group : List (List ℕ)) (sections : List MediaLine) → Holds names group
     → filter_map (part_mid names) sections ≡ parts group sections
 parts_same names group [] holds = refl
-parts_same names group (m ∷ ms) holds =
-    ap (λ (b : Bool). cons_option (cond (not m.disabled || b) (section_mid m) None) (filter_map (part_mid names) ms)) (holds (section_mid m))
-    ∙ ap (λ (mids : List (List ℕ)). cons_option (cond (takes_part group m) (section_mid m) None) mids) (parts_same names group ms holds)
-    ∙ one_part m (filter (takes_part group) ms) (takes_part group m)
+parts_same names group (m ∷ ms) holds = grind (arith, takes_part, parts_same names group ms holds, one_part)

@@ -1,5 +1,5 @@
 -- The preferred of several fingerprints.
-use Rattle.str0m_sdp.proofs.Common.{◌≡◌, List, [], ◌∷◌, ◌++◌, filter_map, map, Option, Some, None, Result, Ok, Err, refl, ap, sym, subst, ◌∙◌, cons_option, option_or, IfOk, best_of, get_or_default}
+use Rattle.str0m_sdp.proofs.Common.{arith, ◌≡◌, List, [], ◌∷◌, ◌++◌, filter_map, map, Option, Some, Result, refl, ap, ◌∙◌, cons_option, option_or, IfOk, best_of, get_or_default}
 use Rattle.std.proofs.lemmas.List.MinMax.{IsFirstBest-from_best_of, IsStrictWeakOrder-by_number}
 use Rattle.str0m_values.specs.Fingerprint.{preference_of}
 use Rattle.str0m_values.specs.declared.fingerprint.Fingerprint.{Fingerprint}
@@ -24,24 +24,18 @@ preferred_is (print ∷ prints) =
 
 -- where one list holds none, the preferred is that of the others
 pub preferred_of_first : (prints : List Fingerprint) (lists : List (List Fingerprint)) → option_or (preferred prints) (preferred (first_filled lists)) ≡ preferred (first_filled (prints ∷ lists))
-preferred_of_first [] lists = refl
-preferred_of_first (print ∷ prints) lists = refl
+preferred_of_first prints lists = grind arith
 
 first_or : {Y : Type 0} (o : Option Y) (ys : List Y) → first (cons_option o ys) ≡ option_or o (first ys)
-first_or None ys = refl
-first_or (Some y) ys = refl
+first_or o ys = grind arith
 
 -- the first list that holds anything is the first that has a preferred one
 pub preferred_among : {X : Type 0} (prints : X → List Fingerprint) (xs : List X)
     → first (filter_map (λ x. preferred (prints x)) xs) ≡ preferred (first_filled (map prints xs))
 preferred_among prints [] = refl
-preferred_among prints (x ∷ xs) =
-    first_or (preferred (prints x)) (filter_map (λ x. preferred (prints x)) xs)
-    ∙ ap (option_or (preferred (prints x))) (preferred_among prints xs)
-    ∙ preferred_of_first (prints x) (map prints xs)
+preferred_among prints (x ∷ xs) = grind (arith, first_or, preferred_among prints xs, preferred_of_first)
 
 -- a copy of the preferred one
 pub preferred_copied : {E : Type 0} (r : Result (Option Fingerprint) E) (found : Option Fingerprint) (prints : List Fingerprint)
     → IfOk r (λ copy. copy ≡ found) → found ≡ preferred prints → IfOk r (IsPreferred prints)
-preferred_copied (Ok copy) found prints same is = subst (IsPreferred prints) (sym (same ∙ is)) (preferred_is prints)
-preferred_copied (Err e) found prints same is = tt
+preferred_copied r found prints same is = grind (arith, preferred_is)

@@ -28,7 +28,7 @@ after_words-more (suc n) stream = after_words-more n (next_u32 stream).1
 -- one more letter, of one more word
 pub one_more_letter : (old new : List ℕ) (n word letter : ℕ) (first now : Stream) → old ≡ map letter_of (words n first) → now ≡ after_words n first → word ≡ (next_u32 now).0 → letter ≡ letter_of word → new ≡ old ++ letter ∷ [] → new ≡ map letter_of (words (n + 1) first)
 one_more_letter old new n word letter first now so_far at drawn is pushed =
-    rw (add-one, words-more n first, map-append letter_of (words n first) ((next_u32 (after_words n first)).0 ∷ []), pushed, is, drawn, at, so_far) refl
+    grind (arith, add-one, words-more n first, map-append letter_of (words n first) ((next_u32 (after_words n first)).0 ∷ []))
 
 pub one_more_word : (n : ℕ) (first now next : Stream) → now ≡ after_words n first → next ≡ (next_u32 now).1 → next ≡ after_words (n + 1) first
 one_more_word n first now next at drawn = rw (add-one, after_words-more n first, drawn, at) refl

@@ -1,5 +1,5 @@
 -- A section that was read, whose types and lines are those of plain, distinct rows, describes these rows.
-use Rattle.str0m_sdp.proofs.Common.{◌≡◌, ◌≢◌, ◌≤◌, false, List, [], map, All, sym, subst, AllByRecursion, AllZip, flat_map, recursion_from_All, IsPlain, types, SameRow, AllDistinct, FormatParam, PayloadParams, count_by}
+use Rattle.str0m_sdp.proofs.Common.{arith, ◌≡◌, ◌≢◌, ◌≤◌, false, List, [], map, All, AllZip, flat_map, recursion_from_All, IsPlain, types, SameRow, AllDistinct, FormatParam, PayloadParams, count_by}
 use Rattle.str0m_sdp.specs.Consistency.{is_mid, is_setup, is_direction, Consistent}
 use Rattle.str0m_sdp.specs.Mappings.{mapped}
 use Rattle.str0m_sdp.specs.SectionOf.{is_of_type}
@@ -9,7 +9,6 @@ use Rattle.str0m_sdp.specs.declared.media_line.MediaLine.{MediaLine}
 use Rattle.str0m_sdp.specs.declared.proto.Proto.TheVariants.{Srtp}
 use Rattle.str0m_sdp.specs.NamesOne.{NamesOne}
 use Rattle.str0m_sdp.proofs.RowAnswers.{entries}
-use Rattle.str0m_sdp.proofs.FrameAnswers.{HasNoTypes}
 use Rattle.str0m_sdp.proofs.RowQuestions.{attrs_of}
 use Rattle.str0m_sdp.proofs.RowsBack.{IsSaid, unlocked, section, mapped_is}
 use Rattle.str0m_sdp.proofs.RowsAgain.{rows_are, rows_same}
@@ -34,29 +33,9 @@ pub record Describes (m : MediaLine) (rows : List PayloadParams) : Type 0 where
 module _ (values : PayloadParams → List (List FormatParam)) where
   of_section : (frame : MediaLine) (rows : List PayloadParams) → IsFrame frame frame.attrs → All IsPlain rows → AllDistinct (types rows)
       → All (λ row. IsSaid row (values row)) rows → rows ≢ [] → Describes (section values frame rows) rows
-  of_section frame rows f plain d said some = record {
-    consistent = consistent values frame bare rows d said' f.mid f.setup f.direction some;
-    names_one = names_one values frame bare rows d said' plain';
-    types_are = mapped_is values frame rows bare plain';
-    rows_are = rows_are values frame bare rows plain' d said';
-    same = rows_same values frame bare rows plain' d said';
-  } where
-    bare : HasNoTypes frame.attrs
-    bare = recursion_from_All (λ attr. is_of_type attr ≡ false) frame.attrs f.bare
-
-    plain' : AllByRecursion IsPlain rows
-    plain' = recursion_from_All IsPlain rows plain
-
-    said' : AllByRecursion (λ row. IsSaid row (values row)) rows
-    said' = recursion_from_All (λ row. IsSaid row (values row)) rows said
+  of_section frame rows f plain d said some = grind (arith, consistent, names_one, mapped_is, rows_are, rows_same, recursion_from_All)
 
   pub describes : (m : MediaLine) (frame : List MediaAttribute) (rows : List PayloadParams) → IsFrame m frame
       → m.attrs ≡ attrs_of values frame rows → m.pts ≡ types rows → All IsPlain rows → AllDistinct (types rows)
       → All (λ row. IsSaid row (values row)) rows → rows ≢ [] → Describes m rows
-  describes m frame rows f attrs pts plain d said some =
-      subst (λ n. Describes n rows) (sym same)
-      (of_section (record m { attrs = frame }) rows
-      (record { bare = f.bare; mid = f.mid; setup = f.setup; direction = f.direction }) plain d said some)
-    where
-      same : m ≡ section values (record m { attrs = frame }) rows
-      same = λ i. record m { pts = pts i; attrs = attrs i }
+  describes m frame rows f attrs pts plain d said some = grind (arith, of_section (record m { attrs = frame }) rows)

@@ -1,5 +1,5 @@
 -- What the fmtp lines of a plain row read as: its format, and no payload type.
-use Rattle.str0m_sdp.proofs.Common.{◌≡◌, ◌≢◌, ℕ, false, List, [], ◌∷◌, Some, refl, sym, ap, ◌∙◌, All, get_or, AllByRecursion, types, AllDistinct, content, events, format_of_fmtp, empty, set_all, IsPlain, Codec, FormatParam, Apt, BarePtList, FormatParams, PayloadParams, HoldsRowNumbers}
+use Rattle.str0m_sdp.proofs.Common.{rules, arith, ◌≡◌, ◌≢◌, ℕ, false, List, [], ◌∷◌, Some, refl, All, get_or, AllByRecursion, types, AllDistinct, content, events, format_of_fmtp, empty, IsPlain, Codec, FormatParam, FormatParams, PayloadParams, HoldsRowNumbers}
 use Rattle.str0m_sdp.specs.declared.attribute.MediaAttribute.{MediaAttribute}
 use Rattle.str0m_sdp.specs.declared.media_line.MediaLine.{MediaLine}
 use Rattle.str0m_sdp.proofs.RowQuestions.{attrs_of}
@@ -9,7 +9,7 @@ use Rattle.str0m_formats.specs.Narrowing.{telephone_max}
 use Rattle.str0m_formats.specs.Pairs.{has_mark}
 use Rattle.str0m_formats.specs.PairsReading.{params_read}
 use Rattle.str0m_formats.specs.declared.codec.Codec.TheVariants as codec
-use Rattle.str0m_formats.specs.declared.format_param.FormatParam.TheVariants.{BareRange, Red}
+use Rattle.str0m_formats.specs.declared.format_param.FormatParam.TheVariants.{BareRange}
 use Rattle.str0m_formats.proofs.PrintedPairs.{IsOwn, IsLineOf, said, line_of_pairs}
 use Rattle.str0m_formats.proofs.PrintedLine.{printed_pairs}
 use Rattle.str0m_formats.proofs.PlainFormats.{can_be_read_back}
@@ -27,27 +27,21 @@ values_read codec.Tele format pairs = (BareRange (telephone_max format) ∷ []) 
 values_read _ format pairs = line_read pairs
 
 names_none : (param : FormatParam) → IsOwn param → NamesNoType param
-names_none (Apt pt) own = absurd own
-names_none (BarePtList pt) own = absurd own
-names_none (Red pt) own = absurd own
-names_none _ own = (refl, refl)
+names_none param own = grind arith
 
 all_name_none : (params : List FormatParam) → AllByRecursion IsOwn params → AllByRecursion NamesNoType params
 all_name_none [] own = tt
 all_name_none (param ∷ params) own = (names_none param own.0, all_name_none params own.1)
 
 line_names_none : (pairs : List (List ℕ × List ℕ)) → AllByRecursion IsOwn (params_read pairs) → NameNoType (line_read pairs)
-line_names_none [] own = tt
-line_names_none (pair ∷ pairs) own = (all_name_none (params_read (pair ∷ pairs)) own, tt)
+line_names_none pairs own = grind (arith, all_name_none)
 
 none_refused : (c : Codec) → is_refused c [] ≡ false
 unfolding is_refused
-none_refused codec.AmrWb = refl
-none_refused c = refl
+none_refused c = grind arith
 
 nothing_said : (c : Codec) → c ≢ codec.Tele → format_of_fmtp c [] ≡ Some empty
-nothing_said codec.Tele other = absurd (other refl)
-nothing_said c other = rw (none_refused c) refl
+nothing_said c other = grind (arith, none_refused)
 
 no_params : params_read [] ≡ []
 unfolding params_read has_mark
@@ -55,22 +49,13 @@ no_params = refl
 
 line_says : (c : Codec) (format : FormatParams) (pairs : List (List ℕ × List ℕ)) → c ≢ codec.Tele → IsLineOf format pairs
     → format_of_fmtp c (line_read pairs) ≡ Some format
-line_says c format [] other line =
-    nothing_said c other ∙ ap (λ f. Some f) (ap (λ params. set_all empty params) (sym no_params) ∙ line.format)
+line_says c format [] other line = grind (arith, nothing_said, no_params)
 line_says c format (pair ∷ pairs) other line = said c format (params_read (pair ∷ pairs)) other line.own line.format
 
 of_codec : (row : PayloadParams) (pairs : List (List ℕ × List ℕ)) → IsPlain row → (c : Codec) → row.spec.codec ≡ c
     → (c ≢ codec.Tele → IsLineOf row.spec.format pairs)
     → (format_of_fmtp c (values_read c row.spec.format pairs) ≡ Some row.spec.format) × NameNoType (values_read c row.spec.format pairs)
-of_codec row pairs p codec.Tele e line =
-    let alone = p.telephone (ap content e) in (
-      ap (λ f. Some (record empty { telephone_event_max = Some (telephone_max f) })) alone.1
-          ∙ ap (λ f. Some f) (sym alone.1),
-      (((refl, refl), tt), tt),
-    )
-of_codec row pairs p c e line = (line_says c row.spec.format pairs other (line other), line_names_none pairs (line other).own) where
-  other : c ≢ codec.Tele
-  other = λ s. cc
+of_codec row pairs p c e line = grind (arith, line_says, line_names_none)
 
 -- so the premises of the section's laws hold of what the lines of plain rows read as
 pub is_said : (row : PayloadParams) (pairs : List (List ℕ × List ℕ)) → IsPlain row
@@ -92,19 +77,16 @@ pub describes_printed : (pairs : PayloadParams → List (List ℕ × List ℕ)) 
     (rows : List PayloadParams) → IsFrame m frame
     → m.attrs ≡ attrs_of (values_by pairs) frame rows → m.pts ≡ types rows → All IsPlain rows → AllDistinct (types rows)
     → All (λ row. row.spec.codec ≢ codec.Tele → IsLineOf row.spec.format (pairs row)) rows → rows ≢ [] → Describes m rows
-describes_printed pairs m frame rows f attrs pts plain d line some =
-    describes (values_by pairs) m frame rows f attrs pts plain d (each_said pairs rows plain line) some
+describes_printed pairs m frame rows f attrs pts plain d line some = search (rules, describes, each_said)
 
 -- ---- the pairs that a format prints
 
 not_events : (c : Codec) → c ≢ codec.Tele → content c ≢ events
-not_events codec.Tele other = absurd (other refl)
-not_events _ other = λ e. cc
+not_events c other = grind arith
 
 pub printed_line : (row : PayloadParams) → IsPlain row → HoldsRowNumbers row → row.spec.codec ≢ codec.Tele
     → IsLineOf row.spec.format (printed_pairs row.spec.format)
-printed_line row p holds other =
-    line_of_pairs row.spec.format (can_be_read_back row p holds) (p.no_maximum (not_events row.spec.codec other))
+printed_line row p holds other = grind (arith, line_of_pairs, can_be_read_back, not_events)
 
 -- what the fmtp lines of a row read as where they are printed
 abbrev pub values_printed : PayloadParams → List (List FormatParam)

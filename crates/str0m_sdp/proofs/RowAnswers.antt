@@ -1,5 +1,5 @@
 -- What the lines of one row answer: to questions on its own types exactly its own, to those on other types nothing.
-use Rattle.str0m_sdp.proofs.Common.{◌≡◌, ◌==◌, ◌&&◌, ◌||◌, ℕ, Bool, true, false, List, [], ◌∷◌, ◌++◌, Option, Some, None, option_to_list, refl, sym, ap, ◌∙◌, AllByRecursion, list_any, ne_eqb, append-nil, list_any-append, when, has, types_of, rtp_rate, empty, Codec, CodecSpec, Apt, BarePtList, FormatParam, PayloadParams, bytes_eq, filter_map, eqb-false}
+use Rattle.str0m_sdp.proofs.Common.{arith, ◌≡◌, ◌==◌, ◌&&◌, ◌||◌, ℕ, Bool, true, false, List, [], ◌∷◌, ◌++◌, Option, Some, None, option_to_list, refl, sym, ap, ◌∙◌, AllByRecursion, list_any, ne_eqb, append-nil, list_any-append, when, has, types_of, rtp_rate, empty, Codec, CodecSpec, Apt, BarePtList, FormatParam, PayloadParams, bytes_eq, filter_map, eqb-false}
 use Rattle.str0m_formats.specs.declared.codec.Codec.TheVariants as codec
 use Rattle.str0m_sdp.specs.declared.label.TheConstants.{TRANSPORT_CC, REMB, FIR, NACK, PLI}
 use Rattle.str0m_sdp.specs.declared.attribute.MediaAttribute.{MediaAttribute}
@@ -28,8 +28,7 @@ none_named : (c : Codec) (t : ℕ) (v : List FormatParam) → AllByRecursion Nam
 none_named c t v h = none_passes (names c t) v (weaker NamesNoType (λ x. names c t x ≡ false) (named_none c t) v h)
 
 pub and_false : (a : Bool) → (a && false) ≡ false
-and_false true = refl
-and_false false = refl
+and_false a = grind arith
 
 unless_both : (a b : Bool) (n : ℕ) → b ≡ false → when (a && b) n ≡ None
 unless_both a b n h = rw h (rw (and_false a) refl)
@@ -105,14 +104,11 @@ feedback_apart row vs t words h =
     (λ n e. (λ m. refl, refl)) (λ n e. (λ m. refl, refl)))
 
 one_flag : (t : ℕ) (w words : List ℕ) (b : Bool) → list_any (is_feedback t words) (feedback_line t w b) ≡ (b && bytes_eq w words)
-one_flag t w words true = rw (self t) (or_false (bytes_eq w words))
-one_flag t w words false = refl
+one_flag t w words b = grind arith
 
 flag_line : (t : ℕ) (w words : List ℕ) (b c : Bool) (xs : List MediaAttribute) → list_any (is_feedback t words) xs ≡ c
     → list_any (is_feedback t words) (feedback_line t w b ++ xs) ≡ ((b && bytes_eq w words) || c)
-flag_line t w words b c xs e =
-    list_any-append (is_feedback t words) (feedback_line t w b) xs
-    ∙ ap (λ x. x || list_any (is_feedback t words) xs) (one_flag t w words b) ∙ ap (λ x. (b && bytes_eq w words) || x) e
+flag_line t w words b c xs e = grind arith
 
 pub feedback_own : (row : PayloadParams) (vs : List (List FormatParam)) (words : List ℕ)
     → list_any (is_feedback row.pt words) (reads row vs)

@@ -1,18 +1,14 @@
 -- Where lines keep to their ranges, rows do.
-use Rattle.str0m_sdp.proofs.Common.{◌≡◌, ◌≤◌, ◌++◌, ℕ, Bool, true, false, cond, not, List, [], ◌∷◌, Option, Some, None, All, IfSome, filter, find, nat_eq, option_to_list, filter_map, refl, list_any, le-ltb, All-nil, All-head, All-tail, when, IsBounded, static_spec, format_of_fmtp, is_refused, empty, set_all, Codec, CodecSpec, FormatParam, FormatParams, nat_lt, option_map, All-append, All-filter, AreModes, IsDistance}
+use Rattle.str0m_sdp.proofs.Common.{rules, arith, ◌≡◌, ◌≤◌, ◌++◌, ℕ, Bool, cond, not, List, [], ◌∷◌, Option, Some, None, All, IfSome, filter, find, nat_eq, option_to_list, filter_map, All-nil, All-head, All-tail, IsBounded, static_spec, format_of_fmtp, empty, set_all, Codec, CodecSpec, FormatParam, FormatParams, nat_lt, option_map, All-append, All-filter, AreModes, IsDistance}
 use Rattle.str0m_formats.specs.FormatLine.{events_end, is_events, kept, values_of}
 use Rattle.str0m_formats.specs.FormatParams.{set}
-use Rattle.str0m_formats.specs.declared.codec.Codec.TheVariants.{Tele}
-use Rattle.str0m_formats.specs.declared.format_param.FormatParam.TheVariants.{ModeSet, SpropMaxDonDiff}
 use Rattle.str0m_formats.proofs.StaticTypes.{static_small}
 use Rattle.str0m_sdp.specs.Companions.{companion_in, companion, rtx_type, red_type}
-use Rattle.str0m_sdp.specs.Consistency.{maps}
 use Rattle.str0m_sdp.specs.Lists.{distinct}
-use Rattle.str0m_sdp.specs.Mappings.{mapping, static_row, unmapped, mapped}
+use Rattle.str0m_sdp.specs.Mappings.{mapping, unmapped, mapped}
 use Rattle.str0m_sdp.specs.RowBounds.{IsInRange, KeepsToLine, KeepsToLines}
 use Rattle.str0m_sdp.specs.SectionRows.{values_in, lines_of, is_kept, row_with, row, rows}
 use Rattle.str0m_sdp.specs.declared.attribute.MediaAttribute.{MediaAttribute}
-use Rattle.str0m_sdp.specs.declared.attribute.MediaAttribute.TheVariants.{RtpMap, Fmtp}
 use Rattle.str0m_sdp.specs.declared.media_line.MediaLine.{MediaLine}
 use Rattle.str0m_sdp.proofs.FilterMapLaws.{all_mapped, last_of_all}
 
@@ -26,9 +22,7 @@ abbrev Within : FormatParams → Type 0
 Within p = IfSome p.mode_set AreModes × IfSome p.sprop_max_don_diff IsDistance
 
 set_within : (param : FormatParam) (p : FormatParams) → IsInRange param → Within p → Within (set param p)
-set_within (ModeSet mask) p range within = (range, within.1)
-set_within (SpropMaxDonDiff n) p range within = (within.0, range)
-set_within _ p range within = within
+set_within param p range within = grind arith
 
 all_within : (params : List FormatParam) (p : FormatParams) → All IsInRange params → Within p → Within (set_all p params)
 all_within [] p ranges within = within
@@ -43,25 +37,16 @@ values_within (line ∷ lines) ranges =
     (values_within lines (All-tail (All IsInRange) line lines ranges))
 
 events_within : (max : Option ℕ) → IfSome (option_map (λ n. record empty { telephone_event_max = Some n }) max) Within
-events_within None = tt
-events_within (Some n) = (tt, tt)
+events_within max = grind arith
 
 unless_refused : (b : Bool) (p : FormatParams) → Within p → IfSome (cond b None (Some p)) Within
-unless_refused true p within = tt
-unless_refused false p within = within
+unless_refused b p within = grind arith
 
 format_within : (codec : Codec) (lines : List (List FormatParam)) → All (All IsInRange) lines → IfSome (format_of_fmtp codec lines) Within
-format_within Tele lines ranges = events_within (events_end lines)
-format_within codec lines ranges =
-    unless_refused (is_refused codec lines) (set_all empty (values_of lines)) (all_within (values_of lines) empty (values_within lines ranges) (tt, tt))
-
-when_line : (b : Bool) (values : List FormatParam) → All IsInRange values → IfSome (cond b (Some values) None) (All IsInRange)
-when_line true values ranges = ranges
-when_line false values ranges = tt
+format_within codec lines ranges = grind (arith, events_within, events_end, unless_refused, all_within, values_within)
 
 line_within : (pt : ℕ) (attr : MediaAttribute) → KeepsToLine attr → IfSome (values_in pt attr) (All IsInRange)
-line_within pt (Fmtp n values) keeps = when_line (nat_eq n pt) values keeps.1
-line_within pt _ keeps = tt
+line_within pt attr keeps = grind arith
 
 lines_within : (attrs : List MediaAttribute) (pt : ℕ) → All KeepsToLine attrs → All (All IsInRange) (lines_of attrs pt)
 unfolding lines_of
@@ -69,38 +54,27 @@ lines_within attrs pt keeps = all_mapped KeepsToLine (All IsInRange) (values_in 
 
 -- ---- types
 
-small_when : (b : Bool) (n : ℕ) → n ≤ 127 → IfSome (when b n) Small
-small_when true n small = small
-small_when false n small = tt
-
 companion_small_in : (codec : Codec) (types : List (ℕ × CodecSpec)) (pt : ℕ) (attr : MediaAttribute) → KeepsToLine attr → IfSome (companion_in codec types pt attr) Small
-companion_small_in codec types pt (Fmtp n values) keeps = small_when _ n keeps.0
-companion_small_in codec types pt _ keeps = tt
+companion_small_in codec types pt attr keeps = grind arith
 
 companion_small : (codec : Codec) (types : List (ℕ × CodecSpec)) (attrs : List MediaAttribute) (pt : ℕ) → All KeepsToLine attrs → IfSome (companion codec types attrs pt) Small
 unfolding companion
-companion_small codec types attrs pt keeps =
-    last_of_all Small (filter_map (companion_in codec types pt) attrs)
-    (all_mapped KeepsToLine Small (companion_in codec types pt) (companion_small_in codec types pt) attrs keeps)
+companion_small codec types attrs pt keeps = search (rules, last_of_all, all_mapped, companion_small_in)
 
 small_if : (b : Bool) (o : Option ℕ) → IfSome o Small → IfSome (cond b o None) Small
-small_if true o small = small
-small_if false o small = tt
+small_if b o small = grind arith
 
 mapping_small : (attr : MediaAttribute) → KeepsToLine attr → IfSome (mapping attr) (λ type. Small type.0)
-mapping_small (RtpMap pt value) keeps = keeps
-mapping_small _ keeps = tt
+mapping_small attr keeps = grind arith
 
 small_static : (pt : ℕ) (o : Option CodecSpec) → static_spec pt ≡ o → IfSome {T = ℕ × CodecSpec} (option_map (λ spec. (pt, spec)) o) (λ type. Small type.0)
-small_static pt None is = tt
-small_static pt (Some spec) is = static_small pt spec is
+small_static pt o is = grind (arith, static_small)
 
 unless_mapped : {X : Type 0} (P : X → Type 0) (b : Bool) (o : Option X) → IfSome o P → IfSome (cond b None o) P
-unless_mapped P true o holds = tt
-unless_mapped P false o holds = holds
+unless_mapped P b o holds = grind arith
 
 unmapped_small : (attrs : List MediaAttribute) (pt : ℕ) → Unit {0} → IfSome (unmapped attrs pt) (λ type. Small type.0)
-unmapped_small attrs pt _ = unless_mapped (λ type. Small type.0) (list_any (maps pt) attrs) (static_row pt) (small_static pt (static_spec pt) refl)
+unmapped_small attrs pt _ = grind (arith, unless_mapped, small_static)
 
 mapped_small : (m : MediaLine) → KeepsToLines m → All (λ type. Small type.0) (mapped m)
 unfolding mapped
@@ -113,14 +87,10 @@ mapped_small m keeps =
 
 small_types : (pt : ℕ) (resend red : Option ℕ) → Small pt → IfSome resend Small → IfSome red Small
     → find (nat_lt 127) (pt ∷ (option_to_list resend ++ option_to_list red)) ≡ None
-small_types pt None None first second third = rw (le-ltb 127 pt first) refl
-small_types pt None (Some c) first second third = rw (le-ltb 127 pt first, le-ltb 127 c third) refl
-small_types pt (Some b) None first second third = rw (le-ltb 127 pt first, le-ltb 127 b second) refl
-small_types pt (Some b) (Some c) first second third = rw (le-ltb 127 pt first, le-ltb 127 b second, le-ltb 127 c third) refl
+small_types pt resend red first second third = grind arith
 
 if_format : {X Y : Type 0} (P : X → Type 0) (Q : Y → Type 0) (f : X → Y) (o : Option X) → ((x : X) → P x → Q (f x)) → IfSome o P → IfSome (option_map f o) Q
-if_format P Q f None each holds = tt
-if_format P Q f (Some x) each holds = each x holds
+if_format P Q f o each holds = grind arith
 
 row_bounded : (m : MediaLine) → KeepsToLines m → (type : ℕ × CodecSpec) → Small type.0 → IfSome (row m type) IsBounded
 unfolding row

@@ -22,15 +22,10 @@ use Rattle.str0m_sdp.proofs.FmtpAnswers.{values_apart, values_own, apt_apart, ap
 
 first_apt-is : (t : ℕ) (attrs : List MediaAttribute) → first_apt t attrs ≡ first (filter_map (apt_in t) attrs)
 first_apt-is t [] = refl
-first_apt-is t (attr ∷ attrs) = go (apt_in t attr) refl (first_apt-is t attrs) where
-  go : (o : Option ℕ) → apt_in t attr ≡ o → first_apt t attrs ≡ first (filter_map (apt_in t) attrs)
-      → first_apt t (attr ∷ attrs) ≡ first (filter_map (apt_in t) (attr ∷ attrs))
-  go None e rest = rw e rest
-  go (Some n) e rest = rw e refl
+first_apt-is t (attr ∷ attrs) = grind (arith, first_apt-is t attrs)
 
 last_option : (o : Option ℕ) → last (option_to_list o) ≡ o
-last_option None = refl
-last_option (Some n) = refl
+last_option o = grind arith
 
 -- the lines say exactly the row's feedback of its primary type
 pub record SayFeedback (attrs : List MediaAttribute) (row : PayloadParams) : Type 0 where
@@ -41,16 +36,13 @@ pub record SayFeedback (attrs : List MediaAttribute) (row : PayloadParams) : Typ
   pub remb : has_feedback attrs row.pt REMB.now ≡ row.fb_remb
 
 and_true : (a : Bool) → (a && true) ≡ a
-and_true true = refl
-and_true false = refl
+and_true a = grind arith
 
 -- a question asked of the lines of all rows, where each row's lines answer by a list
 pub over_rows : {R X Y : Type 0} (q : X → Option Y) (lines : R → List X) (f : R → List Y) (rows : List R)
     → AllByRecursion (λ row. filter_map q (lines row) ≡ f row) rows → filter_map q (flat_map lines rows) ≡ flat_map f rows
 over_rows q lines f [] h = refl
-over_rows q lines f (row ∷ rows) h =
-    filter_map-append q (lines row) (flat_map lines rows)
-    ∙ ap (λ ys. ys ++ filter_map q (flat_map lines rows)) h.0 ∙ ap (λ ys. f row ++ ys) (over_rows q lines f rows h.1)
+over_rows q lines f (row ∷ rows) h = grind (arith, filter_map-append, over_rows q lines f rows h.1)
 
 module _ (values : PayloadParams → List (List FormatParam)) where
   -- what the lines of a row read as, and a frame's attributes with those of all rows
@@ -148,12 +140,7 @@ module _ (values : PayloadParams → List (List FormatParam)) where
   pub mappings_are : (frame : List MediaAttribute) (rows : List PayloadParams) → HasNoTypes frame
       → AllByRecursion (λ row. NamesItself row.spec) rows
       → filter_map mapping (attrs_of frame rows) ≡ flat_map entries rows
-  mappings_are frame rows bare same =
-      filter_map-append mapping frame (flat_map lines rows)
-      ∙ ap (λ xs. xs ++ filter_map mapping (flat_map lines rows))
-      (quiet mapping frame (weaker _ (λ a. mapping a ≡ None) frame_mapping frame bare))
-      ∙ over_rows mapping lines entries rows
-      (weaker _ (λ r. filter_map mapping (lines r) ≡ entries r) (λ r e. mapping_own r (values r) e) rows same)
+  mappings_are frame rows bare same = grind (arith, filter_map-append, quiet, weaker, frame_mapping, over_rows, mapping_own)
 
   -- a type is mapped as often as it stands among the types of the rows
   maps_in : (t : ℕ) (row : PayloadParams) → count_by (maps t) (lines row) ≡ times (types_of row) t

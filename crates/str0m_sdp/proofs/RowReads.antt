@@ -1,5 +1,5 @@
 -- What the lines of a row read as, and what holds of each of them.
-use Rattle.str0m_sdp.proofs.Common.{◌≡◌, ℕ, Bool, true, false, List, [], ◌∷◌, ◌++◌, Option, Some, None, refl, ap, ◌∙◌, AllByRecursion, filter_map-append, rtp_rate, FormatParam, Apt, BarePtList, PayloadParams, filter_map}
+use Rattle.str0m_sdp.proofs.Common.{arith, ◌≡◌, ℕ, Bool, List, [], ◌∷◌, ◌++◌, Option, Some, None, refl, ap, ◌∙◌, AllByRecursion, filter_map-append, rtp_rate, FormatParam, Apt, BarePtList, PayloadParams, filter_map}
 use Rattle.str0m_formats.specs.declared.codec.Codec.TheVariants as codec
 use Rattle.str0m_sdp.specs.declared.attribute.MediaAttribute.{MediaAttribute}
 use Rattle.str0m_sdp.specs.declared.attribute.MediaAttribute.TheVariants.{RtpMap, RtcpFb, Fmtp}
@@ -28,13 +28,10 @@ reads row values =
 
 module _ (P : MediaAttribute → Type 0) (row : PayloadParams) where
   one_feedback : (w : List ℕ) (b : Bool) → P (RtcpFb row.pt w) → AllByRecursion P (feedback_line row.pt w b)
-  one_feedback w true h = (h, tt)
-  one_feedback w false h = tt
+  one_feedback w b h = grind arith
 
   pub all_feedback : ((w : List ℕ) → P (RtcpFb row.pt w)) → AllByRecursion P (feedback_attrs row)
-  all_feedback h =
-      both P _ _ (one_feedback _ row.fb_transport_cc (h _)) (both P _ _ (one_feedback _ row.fb_remb (h _))
-      (both P _ _ (one_feedback _ row.fb_fir (h _)) (both P _ _ (one_feedback _ row.fb_nack (h _)) (one_feedback _ row.fb_pli (h _)))))
+  all_feedback h = grind arith
 
   pub all_fmtp : (vs : List (List FormatParam)) → AllByRecursion (λ v. P (Fmtp row.pt v)) vs → AllByRecursion P (fmtp_lines row.pt vs)
   all_fmtp [] h = tt
@@ -42,24 +39,18 @@ module _ (P : MediaAttribute → Type 0) (row : PayloadParams) where
 
   pub all_rtx : (o : Option ℕ) → ((n : ℕ) → o ≡ Some n → ((m : Mapping) → P (RtpMap n m)) × P (Fmtp n (Apt row.pt ∷ [])))
       → AllByRecursion P (rtx_lines row o)
-  all_rtx None h = tt
-  all_rtx (Some n) h = ((h n refl).0 _, ((h n refl).1, tt))
+  all_rtx o h = grind arith
 
   pub all_red : (o : Option ℕ) → ((n : ℕ) → o ≡ Some n → ((m : Mapping) → P (RtpMap n m)) × P (Fmtp n (BarePtList row.pt ∷ [])))
       → AllByRecursion P (red_reads row o)
-  all_red None h = tt
-  all_red (Some n) h = ((h n refl).0 _, ((h n refl).1, tt))
+  all_red o h = grind arith
 
   pub each : (vs : List (List FormatParam)) → ((m : Mapping) → P (RtpMap row.pt m)) → ((w : List ℕ) → P (RtcpFb row.pt w))
       → AllByRecursion (λ v. P (Fmtp row.pt v)) vs
       → ((n : ℕ) → row.resend ≡ Some n → ((m : Mapping) → P (RtpMap n m)) × P (Fmtp n (Apt row.pt ∷ [])))
       → ((n : ℕ) → row.red ≡ Some n → ((m : Mapping) → P (RtpMap n m)) × P (Fmtp n (BarePtList row.pt ∷ [])))
       → AllByRecursion P (reads row vs)
-  each vs map feedback format rtx red = (
-    map _,
-    both P _ _ (all_feedback feedback)
-        (both P _ _ (all_fmtp vs format) (both P _ _ (all_rtx row.resend rtx) (all_red row.red red))),
-  )
+  each vs map feedback format rtx red = grind (arith, both, all_feedback, all_fmtp, all_rtx, all_red)
 
 -- ---- questions
 
@@ -77,8 +68,4 @@ pub parts_said : {Y : Type 0} (q : MediaAttribute → Option Y) (row : PayloadPa
     → filter_map q (fmtp_lines row.pt vs) ≡ fmtp → filter_map q (rtx_lines row row.resend) ≡ rtx
     → filter_map q (red_reads row row.red) ≡ red
     → filter_map q (reads row vs) ≡ fmtp ++ (rtx ++ red)
-parts_said q row vs fmtp rtx red map feedback a b c =
-    rw map (append_said q (feedback_attrs row) _ [] (fmtp ++ (rtx ++ red))
-    (quiet q (feedback_attrs row) (all_feedback (λ x. q x ≡ None) row feedback))
-    (append_said q (fmtp_lines row.pt vs) _ fmtp (rtx ++ red) a
-    (append_said q (rtx_lines row row.resend) (red_reads row row.red) rtx red b c)))
+parts_said q row vs fmtp rtx red map feedback a b c = grind (arith, append_said, quiet)

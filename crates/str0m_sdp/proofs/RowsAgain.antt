@@ -1,5 +1,5 @@
 -- The rows of a section of plain, distinct rows: these rows again, unlocked and in order.
-use Rattle.str0m_sdp.proofs.Common.{◌≡◌, ◌≢◌, ◌&&◌, ◌||◌, ℕ, Bool, true, false, cond, List, [], ◌∷◌, ◌++◌, map, Option, Some, None, refl, sym, ap, ◌∙◌, subst, option_map, or_left, or_right, AllByRecursion, AllZip, flat_map, cons_option, filter_map-append, filter-append, content, events, other, format_of_fmtp, empty, types_of, types, SameRow, same_codec, has, AllDistinct, Codec, FormatParam, PayloadParams, IsPlain, ◌==◌, filter, filter_map, Content, audio, video, has_pictures}
+use Rattle.str0m_sdp.proofs.Common.{arith, ◌≡◌, ◌≢◌, ◌&&◌, ◌||◌, ℕ, Bool, true, false, cond, List, [], ◌∷◌, ◌++◌, map, Option, Some, None, refl, sym, ap, ◌∙◌, subst, option_map, or_left, or_right, AllByRecursion, AllZip, flat_map, cons_option, filter_map-append, filter-append, content, events, other, format_of_fmtp, empty, types_of, types, SameRow, same_codec, has, AllDistinct, Codec, FormatParam, PayloadParams, IsPlain, ◌==◌, filter, filter_map, Content, audio, video, has_pictures}
 use Rattle.str0m_formats.specs.Choices.{has_events}
 use Rattle.str0m_formats.specs.KindRows.{has_sound}
 use Rattle.str0m_formats.specs.declared.codec.Codec.TheVariants as codec
@@ -18,8 +18,7 @@ use Rattle.str0m_sdp.proofs.RowsBack.{IsSaid, unlocked, section, mapped_is, mapp
 has_types : (before : List PayloadParams) (row : PayloadParams) (after : List PayloadParams) (t : ℕ) → has (types_of row) t ≡ true
     → has (types (before ++ row ∷ after)) t ≡ true
 has_types [] row after t h = has-append (types_of row) (types after) t ∙ or_left (has (types_of row) t) _ h
-has_types (r ∷ before) row after t h =
-    has-append (types_of r) (types (before ++ row ∷ after)) t ∙ or_right (has (types_of r) t) _ (has_types before row after t h)
+has_types (r ∷ before) row after t h = grind (arith, has-append, or_right, has_types before row after t h)
 
 has_primary : (before : List PayloadParams) (row : PayloadParams) (after : List PayloadParams)
     → has (map (λ r. r.pt) (map unlocked (before ++ row ∷ after))) row.pt ≡ true
@@ -27,20 +26,14 @@ has_primary [] row after = or_left (row.pt == row.pt) _ (self row.pt)
 has_primary (r ∷ before) row after = or_right (r.pt == row.pt) _ (has_primary before row after)
 
 pictures_or : (c : Content) (b : Bool) → (c ≡ video → b ≡ true) → (has_pictures c || b) ≡ b
-pictures_or video b h = sym (h refl)
-pictures_or audio b h = refl
-pictures_or events b h = refl
-pictures_or other b h = refl
+pictures_or c b h = grind arith
 
 picked : (c : Content) (found mine : Bool) → found ≡ mine → (c ≡ video → mine ≡ true) → (has_pictures c || found) ≡ mine
 picked c found mine e h = ap (λ b. has_pictures c || b) e ∙ pictures_or c mine h
 
 kept_content : (c : Content) (there : Bool) → c ≢ other → there ≡ true
     → (has_sound c || (has_pictures c || (has_events c && there))) ≡ true
-kept_content audio there h k = refl
-kept_content video there h k = refl
-kept_content events there h k = k
-kept_content other there h k = absurd (h refl)
+kept_content c there h k = grind arith
 
 -- sound alone has RED
 no_red : (c : Content) → (c ≡ audio → ⊥) → (red : Option ℕ) → (red ≢ None → c ≡ audio) → None ≡ red
@@ -57,16 +50,10 @@ kept_rows : {R X Y : Type 0} (p : X → Bool) (f : X → Option Y) (entries : R 
     → AllByRecursion (λ r. filter_map f (filter p (entries r)) ≡ g r ∷ []) rows
     → filter_map f (filter p (flat_map entries rows)) ≡ map g rows
 kept_rows p f entries g [] h = refl
-kept_rows p f entries g (r ∷ rows) h =
-    ap (λ xs. filter_map f xs) (filter-append p (entries r) (flat_map entries rows))
-    ∙ filter_map-append f (filter p (entries r)) (filter p (flat_map entries rows))
-    ∙ ap (λ ys. ys ++ filter_map f (filter p (flat_map entries rows))) h.0 ∙ ap (λ ys. g r ∷ ys) (kept_rows p f entries g rows h.1)
+kept_rows p f entries g (r ∷ rows) h = grind (arith, filter-append, filter_map-append, kept_rows p f entries g rows h.1)
 
 no_others : (m : MediaLine) (row : PayloadParams) (a b : Option ℕ) → filter (is_kept m) (rtx_entry row a ++ red_entry row b) ≡ []
-no_others m row None None = refl
-no_others m row None (Some n) = refl
-no_others m row (Some n) None = refl
-no_others m row (Some n) (Some k) = refl
+no_others m row a b = grind arith
 
 module _ (values : PayloadParams → List (List FormatParam)) (frame : MediaLine) (bare : HasNoTypes frame.attrs) where
   module _ (before : List PayloadParams) (row : PayloadParams) (after : List PayloadParams)
@@ -186,6 +173,4 @@ module _ (values : PayloadParams → List (List FormatParam)) (frame : MediaLine
       → AllByRecursion IsPlain (before ++ row ∷ after) → AllDistinct (types (before ++ row ∷ after))
       → AllByRecursion (λ r. IsSaid r (values r)) (before ++ row ∷ after)
       → has (primary_types (section values frame (before ++ row ∷ after))) row.pt ≡ true
-  primary_among before row after plain d said =
-      ap (λ found. has (map (λ r. r.pt) found) row.pt) (rows_are (before ++ row ∷ after) plain d said)
-      ∙ has_primary before row after
+  primary_among before row after plain d said = grind (arith, rows_are, has_primary)

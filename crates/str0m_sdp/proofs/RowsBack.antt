@@ -1,90 +1,44 @@
 -- What the types of a section of plain, distinct rows are mapped to: each row's in order, and no type that needs no line.
-use Rattle.str0m_sdp.proofs.Common.{◌≡◌, ◌≢◌, ◌==◌, ◌&&◌, ◌||◌, ℕ, Bool, true, false, cond, not, List, [], ◌∷◌, ◌++◌, Option, Some, None, nat_eq, refl, sym, ap, ◌∙◌, arith, AllByRecursion, flat_map, list_any, eqb-true, or_left, or_right, append-nil, list_any-append, format_of_fmtp, empty, rtp_rate, types_of, types, same_codec, has, AllDistinct, Codec, CodecSpec, FormatParam, PayloadParams, IsPlain, filter_map, IsPlainG722}
+use Rattle.str0m_sdp.proofs.Common.{◌≡◌, ◌==◌, ℕ, true, false, not, List, [], ◌∷◌, ◌++◌, Option, Some, nat_eq, refl, arith, AllByRecursion, flat_map, list_any, or_left, or_right, append-nil, list_any-append, format_of_fmtp, types_of, types, same_codec, has, AllDistinct, Codec, CodecSpec, FormatParam, PayloadParams, IsPlain, IsPlainG722}
 use Rattle.str0m_formats.specs.declared.codec.Codec.TheVariants as codec
 use Rattle.str0m_sdp.specs.Consistency.{maps}
 use Rattle.str0m_sdp.specs.Lists.{distinct}
-use Rattle.str0m_sdp.specs.Mappings.{mapped, unmapped, is_of, is_mapped_to, static_row}
-use Rattle.str0m_sdp.specs.RtpMap.{sampling_rate, channels_of, unless_one}
+use Rattle.str0m_sdp.specs.Mappings.{mapped, is_of, is_mapped_to}
 use Rattle.str0m_sdp.specs.declared.attribute.MediaAttribute.{MediaAttribute}
 use Rattle.str0m_sdp.specs.declared.media_line.MediaLine.{MediaLine}
 use Rattle.str0m_sdp.proofs.Parts.{all-filter, both, weaker, each_among, none_passes, or_false, own_holds, AllFail, passes}
-use Rattle.str0m_sdp.proofs.Apart.{Apart, Roles, apart, self, pt_apart, rtx_apart, red_apart, has-append}
+use Rattle.str0m_sdp.proofs.Apart.{Apart, Roles, apart, self, has-append}
 use Rattle.str0m_sdp.proofs.RowReads.{quiet}
 use Rattle.str0m_sdp.proofs.FrameAnswers.{HasNoTypes, NameNoType}
 use Rattle.str0m_sdp.proofs.RowAnswers.{NamesItself, entries, rtx_entry, red_entry, flipped}
 use Rattle.str0m_sdp.proofs.RowQuestions.{attrs_of, mappings_are, maps_are}
-use Rattle.str0m_formats.proofs.OneOutcome.{times-some}
+use Rattle.str0m_formats.proofs.Times.{times-some}
 
 -- ---- the codec that the mapping of a plain row names
 
-unless_one-is : (o : Option ℕ) → o ≢ Some 1 → unless_one o ≡ o
-unless_one-is None h = refl
-unless_one-is (Some n) h = go (n == 1) refl where
-  go : (b : Bool) → (n == 1) ≡ b → unless_one (Some n) ≡ Some n
-  go true e = absurd (h (ap (λ k. Some k) (eqb-true n 1 e)))
-  go false e = rw e refl
-
 pub names_itself : (spec : CodecSpec) → (spec.codec ≡ codec.G722 → IsPlainG722 spec) → NamesItself spec
-names_itself spec g722 =
-    λ i. record { codec = spec.codec; clock_rate = (go spec.codec refl).0 i; channels = (go spec.codec refl).1 i; format = empty } where
-      go : (c : Codec) → spec.codec ≡ c
-          → (sampling_rate c (rtp_rate c spec.clock_rate) ≡ spec.clock_rate) × (channels_of c spec.channels ≡ spec.channels)
-      go codec.G722 e = (sym (g722 e).0, unless_one-is spec.channels (g722 e).1)
-      go _ e = (refl, refl)
+names_itself spec g722 = grind arith
 
 -- ---- the codec of each type
 
 module _ (c : Codec) (t : ℕ) (row : PayloadParams) where
   rtx_fails : (o : Option ℕ) → ((n : ℕ) → o ≡ Some n → (n == t) ≡ false) → AllByRecursion (λ e. is_of c t e ≡ false) (rtx_entry row o)
-  rtx_fails None h = tt
-  rtx_fails (Some n) h = (rw (h n refl) refl, tt)
+  rtx_fails o h = grind arith
 
   red_fails : (o : Option ℕ) → ((n : ℕ) → o ≡ Some n → (n == t) ≡ false) → AllByRecursion (λ e. is_of c t e ≡ false) (red_entry row o)
-  red_fails None h = tt
-  red_fails (Some n) h = (rw (h n refl) refl, tt)
+  red_fails o h = grind arith
 
   pub entries_apart : has (types_of row) t ≡ false → list_any (is_of c t) (entries row) ≡ false
-  entries_apart h =
-      none_passes (is_of c t) (entries row) (
-        rw (pt_apart row t h) refl,
-        both (λ e. is_of c t e ≡ false) _ _ (rtx_fails row.resend (λ n. rtx_apart row t n h))
-            (red_fails row.red (λ n. red_apart row t n h)),
-      )
+  entries_apart h = grind arith
 
   pub entry_pt : Roles row → t ≡ row.pt → list_any (is_of c t) (entries row) ≡ same_codec row.spec.codec c
-  entry_pt r same =
-      let none : list_any (is_of c t) (rtx_entry row row.resend ++ red_entry row row.red) ≡ false =
-      none_passes (is_of c t) _ (both (λ e. is_of c t e ≡ false) _ _
-      (rtx_fails row.resend (λ n e. ap (λ k. n == k) same ∙ r.rtx n e))
-      (red_fails row.red (λ n e. ap (λ k. n == k) same ∙ r.red n e))) in
-      ap (λ b. (b && same_codec row.spec.codec c) || list_any (is_of c t) (rtx_entry row row.resend ++ red_entry row row.red))
-      (ap (λ k. row.pt == k) same ∙ self row.pt)
-      ∙ ap (λ b. same_codec row.spec.codec c || b) none ∙ or_false (same_codec row.spec.codec c)
+  entry_pt r same = grind (arith, none_passes, both, rtx_fails, red_fails, self, or_false)
 
   pub entry_rtx : Roles row → row.resend ≡ Some t → list_any (is_of c t) (entries row) ≡ same_codec codec.Rtx c
-  entry_rtx r is =
-      ap (λ b. (b && same_codec row.spec.codec c) || list_any (is_of c t) (rtx_entry row row.resend ++ red_entry row row.red))
-      (flipped t row.pt (r.rtx t is))
-      ∙ list_any-append (is_of c t) (rtx_entry row row.resend) (red_entry row row.red)
-      ∙ ap (λ b. b || list_any (is_of c t) (red_entry row row.red)) (ap (λ o. list_any (is_of c t) (rtx_entry row o)) is ∙ here)
-      ∙ ap (λ b. same_codec codec.Rtx c || b)
-      (none_passes (is_of c t) (red_entry row row.red) (red_fails row.red (λ n e. flipped t n (r.rtx_red t n is e))))
-      ∙ or_false (same_codec codec.Rtx c)
-    where
-      here : list_any (is_of c t) (rtx_entry row (Some t)) ≡ same_codec codec.Rtx c
-      here = rw (self t) (or_false (same_codec codec.Rtx c))
+  entry_rtx r is = grind (arith, flipped, list_any-append, none_passes, red_fails, or_false, self)
 
   pub entry_red : Roles row → row.red ≡ Some t → list_any (is_of c t) (entries row) ≡ same_codec codec.Red c
-  entry_red r is =
-      ap (λ b. (b && same_codec row.spec.codec c) || list_any (is_of c t) (rtx_entry row row.resend ++ red_entry row row.red))
-      (flipped t row.pt (r.red t is))
-      ∙ list_any-append (is_of c t) (rtx_entry row row.resend) (red_entry row row.red)
-      ∙ ap (λ b. b || list_any (is_of c t) (red_entry row row.red))
-      (none_passes (is_of c t) (rtx_entry row row.resend) (rtx_fails row.resend (λ n e. r.rtx_red n t e is)))
-      ∙ ap (λ o. list_any (is_of c t) (red_entry row o)) is ∙ here
-    where
-      here : list_any (is_of c t) (red_entry row (Some t)) ≡ same_codec codec.Red c
-      here = rw (self t) (or_false (same_codec codec.Red c))
+  entry_red r is = grind (arith, flipped, list_any-append, none_passes, rtx_fails, self, or_false)
 
 -- among the types of all rows a type stands for what its own row says
 pub mapped_among : (c : Codec) (t : ℕ) (before : List PayloadParams) (row : PayloadParams) (after : List PayloadParams)
@@ -116,8 +70,7 @@ module _ (values : PayloadParams → List (List FormatParam)) where
   section frame rows = record frame { pts = types rows; attrs = attrs_of values frame.attrs rows }
 
   pub each_type : (rows : List PayloadParams) → AllByRecursion (λ t. has (types rows) t ≡ true) (types rows)
-  each_type rows = each_among (λ t. has (types rows) t ≡ true) (types rows) (λ before t after e.
-      ap (λ xs. has xs t) e ∙ has-append before (t ∷ after) t ∙ or_right (has before t) _ (or_left (t == t) _ (self t)))
+  each_type rows = grind (arith, each_among, has-append, or_right, or_left, self)
 
   pub is_said_mapped : (frame : List MediaAttribute) (rows : List PayloadParams) → HasNoTypes frame → (t : ℕ)
       → has (types rows) t ≡ true → list_any (maps t) (attrs_of values frame rows) ≡ true
@@ -131,12 +84,4 @@ module _ (values : PayloadParams → List (List FormatParam)) where
       → mapped (section frame rows) ≡ flat_map entries rows
   unfolding mapped
   mapped_is frame rows bare plain =
-      ap (λ xs. xs ++ filter_map (unmapped (attrs_of values frame.attrs rows)) (distinct nat_eq (types rows)))
-      (mappings_are values frame.attrs rows bare (weaker _ (λ r. NamesItself r.spec) (λ r p. names_itself r.spec p.g722) rows plain))
-      ∙ ap (λ xs. flat_map entries rows ++ xs) (quiet (unmapped (attrs_of values frame.attrs rows)) (distinct nat_eq (types rows))
-      (of_distinct (λ t. unmapped (attrs_of values frame.attrs rows) t ≡ None) (types rows)
-      (weaker _ (λ t. unmapped (attrs_of values frame.attrs rows) t ≡ None) named (types rows) (each_type rows))))
-      ∙ append-nil (flat_map entries rows)
-    where
-      named : (t : ℕ) → has (types rows) t ≡ true → unmapped (attrs_of values frame.attrs rows) t ≡ None
-      named t h = ap (λ b. cond b None (static_row t)) (is_said_mapped frame.attrs rows bare t h)
+      grind (arith, mappings_are, weaker, names_itself, quiet, of_distinct, each_type, append-nil, is_said_mapped)

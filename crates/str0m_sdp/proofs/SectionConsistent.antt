@@ -1,11 +1,11 @@
 -- A section of plain, distinct rows is consistent, and each of its RTX and RED lines names one primary type.
-use Rattle.str0m_sdp.proofs.Common.{◌≡◌, ◌≢◌, ◌≤◌, inl, ℕ, Bool, true, false, List, [], ◌∷◌, ◌++◌, Option, Some, None, IfSome, All, refl, sym, ap, ◌∙◌, subst, arith, AllByRecursion, flat_map, false≢true, All-from_recursion, content, other, types, same_codec, has, AllDistinct, Codec, FormatParam, Apt, BarePtList, PayloadParams, IsPlain, count_by, true≢false}
+use Rattle.str0m_sdp.proofs.Common.{◌≡◌, ◌≢◌, ◌≤◌, inl, ℕ, Bool, true, false, List, [], ◌∷◌, ◌++◌, Option, Some, IfSome, All, refl, sym, ap, ◌∙◌, subst, arith, AllByRecursion, flat_map, All-from_recursion, content, other, types, same_codec, has, AllDistinct, Codec, FormatParam, Apt, BarePtList, PayloadParams, IsPlain, count_by, true≢false}
 use Rattle.str0m_formats.specs.declared.codec.Codec.TheVariants as codec
 use Rattle.str0m_sdp.specs.Consistency.{is_mid, is_setup, is_direction, maps, IsMapped, first_apt, NamesNoOther, AgreesOnApt, Consistent}
 use Rattle.str0m_sdp.specs.Mappings.{mapped, is_mapped_to}
 use Rattle.str0m_sdp.specs.SectionOf.{is_of_type}
 use Rattle.str0m_sdp.specs.declared.attribute.MediaAttribute.{MediaAttribute}
-use Rattle.str0m_sdp.specs.declared.attribute.MediaAttribute.TheVariants.{Mid, Setup, RecvOnly, SendRecv, SendOnly, Inactive, Fmtp}
+use Rattle.str0m_sdp.specs.declared.attribute.MediaAttribute.TheVariants.{Fmtp}
 use Rattle.str0m_sdp.specs.declared.media_line.MediaLine.{MediaLine}
 use Rattle.str0m_sdp.specs.declared.proto.Proto.TheVariants.{Srtp}
 use Rattle.str0m_sdp.specs.NamesOne.{NamesOne, primary_types}
@@ -15,28 +15,21 @@ use Rattle.str0m_sdp.proofs.FrameAnswers.{HasNoTypes, NameNoType, NamesNoType}
 use Rattle.str0m_sdp.proofs.RowQuestions.{lines, attrs_of, apt_is, maps_are}
 use Rattle.str0m_sdp.proofs.RowsBack.{IsSaid, section, each_type}
 use Rattle.str0m_sdp.proofs.RowsAgain.{pt_mapped, rtx_mapped, red_mapped, primary_among}
-use Rattle.str0m_formats.proofs.OneOutcome.{times-some}
+use Rattle.str0m_formats.proofs.Times.{times-some}
 
 -- ---- what is counted stands in the frame alone
 
 no_mid : (attr : MediaAttribute) → is_of_type attr ≡ true → is_mid attr ≡ false
-no_mid (Mid m) h = absurd (false≢true h)
-no_mid _ h = refl
+no_mid attr h = grind arith
 
 no_setup : (attr : MediaAttribute) → is_of_type attr ≡ true → is_setup attr ≡ false
-no_setup (Setup s) h = absurd (false≢true h)
-no_setup _ h = refl
+no_setup attr h = grind arith
 
 no_direction : (attr : MediaAttribute) → is_of_type attr ≡ true → is_direction attr ≡ false
-no_direction RecvOnly h = absurd (false≢true h)
-no_direction SendRecv h = absurd (false≢true h)
-no_direction SendOnly h = absurd (false≢true h)
-no_direction Inactive h = absurd (false≢true h)
-no_direction _ h = refl
+no_direction attr h = grind arith
 
 if_some : {A : Type 0} (o : Option A) (P : A → Type 0) → ((x : A) → P x) → IfSome o P
-if_some None P f = tt
-if_some (Some x) P f = f x
+if_some o P f = grind arith
 
 no_other : (first : ℕ) (v : List FormatParam) → AllByRecursion NamesNoType v → All (NamesNoOther first) v
 no_other first v h =
@@ -44,17 +37,13 @@ no_other first v h =
     (weaker NamesNoType (NamesNoOther first) (λ x k. subst (λ o. IfSome o (λ other. first ≡ other)) (sym k.0) tt) v h)
 
 no_companion : (c : Codec) → content c ≢ other → (same_codec c codec.Rtx ≡ false) × (same_codec c codec.Red ≡ false)
-no_companion codec.Rtx h = absurd (h refl)
-no_companion codec.Red h = absurd (h refl)
-no_companion _ h = (refl, refl)
+no_companion c h = grind arith
 
 pub frame_agrees : (attrs : List MediaAttribute) (attr : MediaAttribute) → is_of_type attr ≡ false → AgreesOnApt attrs attr
-frame_agrees attrs (Fmtp n v) h = absurd (true≢false h)
-frame_agrees attrs _ h = tt
+frame_agrees attrs attr h = grind arith
 
 frame_names : (m : MediaLine) (attr : MediaAttribute) → is_of_type attr ≡ false → NamesOne m attr
-frame_names m (Fmtp n v) h = absurd (true≢false h)
-frame_names m _ h = tt
+frame_names m attr h = grind arith
 
 module _ (values : PayloadParams → List (List FormatParam)) where
   of_types : (rows : List PayloadParams) → AllByRecursion (λ attr. is_of_type attr ≡ true) (flat_map (lines values) rows)
@@ -65,11 +54,7 @@ module _ (values : PayloadParams → List (List FormatParam)) where
   -- what no line of a type passes is counted in the frame alone
   pub frame_alone : (p : MediaAttribute → Bool) → ((attr : MediaAttribute) → is_of_type attr ≡ true → p attr ≡ false)
       → (frame : List MediaAttribute) (rows : List PayloadParams) → count_by p (attrs_of values frame rows) ≡ count_by p frame
-  frame_alone p fails frame rows =
-      let a = count-append p frame (flat_map (lines values) rows) in
-      let b = none_counted p (flat_map (lines values) rows)
-      (weaker _ (λ attr. p attr ≡ false) fails (flat_map (lines values) rows) (of_types rows)) in
-      omega (arith, a, b)
+  frame_alone p fails frame rows = grind (arith, count-append, none_counted, weaker, of_types)
 
   module _ (frame : MediaLine) (bare : HasNoTypes frame.attrs) (rows : List PayloadParams) (d : AllDistinct (types rows))
       (said : AllByRecursion (λ r. IsSaid r (values r)) rows) where

@@ -1,5 +1,5 @@
 -- The row of a type, as tables tell it.
-use Rattle.str0m_sdp.proofs.Common.{◌≡◌, ◌<◌, ◌++◌, ℕ, List, [], ◌∷◌, Option, Some, None, Result, Ok, Err, option_to_list, if◌then◌else◌, refl, sym, ap, ◌∙◌, format_of_fmtp, CodecSpec, FormatParams, PayloadParams, OnOk, is_ok, option_map}
+use Rattle.str0m_sdp.proofs.Common.{arith, ◌≡◌, ◌<◌, ◌++◌, ℕ, List, [], ◌∷◌, Option, Some, None, Result, Ok, Err, option_to_list, if◌then◌else◌, refl, sym, ap, ◌∙◌, format_of_fmtp, CodecSpec, FormatParams, OnOk, is_ok, option_map}
 use Rattle.str0m_sdp.specs.SectionRows.{lines_of, row, row_with}
 use Rattle.str0m_sdp.specs.TypeWords.{row_of, SayOf}
 use Rattle.str0m_sdp.specs.declared.media_line.MediaLine.{MediaLine}
@@ -14,9 +14,7 @@ pub row_is : (m : MediaLine) (words : TypeWords) (pt : ℕ) (spec : CodecSpec) (
     → Some format ≡ format_of_fmtp spec.codec (lines_of m.attrs pt)
     → row m (pt, spec) ≡ Some (row_of words pt (record spec { format = format }))
 unfolding row
-row_is m words pt spec format say small is =
-    ap (λ (o : Option FormatParams). option_map (row_with m pt spec) o) (sym is)
-    ∙ ap (λ (r : PayloadParams). Some r) (sym (said m words pt spec format say small))
+row_is m words pt spec format say small is = grind arith
 
 -- none where they are
 pub no_row : (m : MediaLine) (pt : ℕ) (spec : CodecSpec) → None ≡ format_of_fmtp spec.codec (lines_of m.attrs pt) → row m (pt, spec) ≡ None

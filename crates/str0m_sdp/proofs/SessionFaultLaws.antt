@@ -1,19 +1,18 @@
 -- Laws of the first fault of a session: there is none where the session is consistent, and only there.
-use Rattle.str0m_sdp.proofs.Common.{◌≡◌, ℕ, Bool, true, false, inl, inr, List, [], ◌∷◌, Option, Some, None, All, arith, filter_map, length, refl, sym, ap, ◌↔◌, cases_eq, eq-eqb, ne_eqb, ◌<|>◌, when, MatchOption, option_map}
+use Rattle.str0m_sdp.proofs.Common.{◌≡◌, ℕ, Bool, true, false, List, [], ◌∷◌, Option, Some, None, All, arith, refl, ◌↔◌, cases_eq, eq-eqb, ne_eqb, ◌<|>◌, when, MatchOption, option_map}
 use Rattle.str0m_sdp.specs.Consistency.{Consistent}
 use Rattle.str0m_sdp.specs.Fault.{fault_text, first_fault, section_message}
 use Rattle.str0m_sdp.specs.SessionConsistency.{AreDistinct, ConsistentSdp, IsGrouped, first_group, is_listed, parts, section_mids}
 use Rattle.str0m_sdp.specs.SessionFault.{first_again, first_difference, first_session_fault, group_fault, listing_fault, sections_message}
 use Rattle.str0m_sdp.specs.declared.fault.SessionFault.{SessionFault}
-use Rattle.str0m_sdp.specs.declared.fault.SessionFault.TheVariants.{SharedMid, Order}
+use Rattle.str0m_sdp.specs.declared.fault.SessionFault.TheVariants.{SharedMid}
 use Rattle.str0m_sdp.specs.declared.media_line.MediaLine.{MediaLine}
 use Rattle.str0m_sdp.specs.declared.session.Sdp.{Sdp}
 use Rattle.str0m_sdp.proofs.FaultLaws.{no_fault, none_among, none_first, or_none}
 use Rattle.str0m_sdp.proofs.SessionLaws.{again, apart, same_from_none, none_from_same}
 
 mapped_none : {A B : Type 0} (f : A → B) (o : Option A) → (option_map f o ≡ None) ↔ (o ≡ None)
-mapped_none f None = ((λ is. refl), λ is. refl)
-mapped_none f (Some x) = ((λ is. absurd cc), λ is. absurd cc)
+mapped_none f o = grind arith
 
 both : {A B C D : Type 0} → (A ↔ C) → (B ↔ D) → (A × B) ↔ (C × D)
 both a b = ((λ p. (a.0 p.0, b.0 p.1)), λ q. (a.1 q.0, b.1 q.1))
@@ -33,16 +32,7 @@ distinct (mid ∷ mids) = go (is_listed mids (Some mid)) refl (distinct mids)
     go false unlisted rest = then rest (apart mid mids unlisted)
 
 listed : (mids group : List (List ℕ)) → (listing_fault mids group ≡ None) ↔ (mids ≡ group)
-listed mids group =
-    let order = mapped_none (λ pair. Order pair.0 pair.1) (first_difference mids group) in
-    elim (cases_eq (length mids) (length group)) [
-      | inl long ↦
-          rw (eq-eqb (length mids) (length group) long)
-          ((λ is. same_from_none mids group long (order.0 is)), λ same. order.1 (none_from_same mids group same))
-      | inr other ↦
-          rw (ne_eqb (length mids) (length group) other)
-          ((λ is. absurd cc), λ same. absurd (other (ap (λ (xs : List (List ℕ)). length xs) same)))
-    ]
+listed mids group = grind (arith, mapped_none, first_difference, cases_eq, eq-eqb, same_from_none, none_from_same, ne_eqb)
 
 grouped : (sections : List MediaLine) (group : Option (List (List ℕ)))
     → (group_fault sections group ≡ None) ↔ MatchOption group ⊥ (λ group. parts group sections ≡ group)
@@ -69,18 +59,13 @@ no_messages sections = none_among section_message Consistent no_message sections
 -- where no section has a message, the first has none
 pub first_quiet : (sections : List MediaLine) (m : MediaLine) (more : List MediaLine)
     → sections ≡ m ∷ more → sections_message sections ≡ None → Consistent m
-first_quiet sections m more whole none =
-    let told : sections_message (m ∷ more) ≡ None = rw whole at none in
-    (no_message m).0 ((none_first (section_message m) (filter_map section_message more)).0 told).0
+first_quiet sections m more whole none = grind (arith, no_message, none_first)
 
 pub unless_some : {A : Type 0} (o : Option A) → ((x : A) → o ≡ Some x → ⊥) → o ≡ None
-unless_some None never = refl
-unless_some (Some x) never = absurd (never x refl)
+unless_some o never = grind arith
 
 pub sdp_if_ok : (sdp : Sdp) → None ≡ sections_message sdp.media_lines → None ≡ first_session_fault sdp → ConsistentSdp sdp
-sdp_if_ok sdp sections session =
-    let rest = (no_session_fault sdp).0 (sym session) in
-    record { sections = (no_messages sdp.media_lines).0 (sym sections); mids = rest.0; group = rest.1 }
+sdp_if_ok sdp sections session = grind (arith, no_session_fault, no_messages)
 
 -- a consistent session has no message of a section, and no fault of its own
 pub sections_quiet : (sdp : Sdp) → ConsistentSdp sdp → sections_message sdp.media_lines ≡ None
@@ -90,8 +75,6 @@ pub sdp_not_some : (sdp : Sdp) (text : List ℕ) → Some text ≡ sections_mess
 sdp_not_some sdp text told is = absurd (let none = sections_quiet sdp is in cc)
 
 pub sdp_not_fault : (sdp : Sdp) (fault : SessionFault) → Some fault ≡ first_session_fault sdp → ConsistentSdp sdp → ⊥
-sdp_not_fault sdp fault told is =
-    let none = (no_session_fault sdp).1 (is.mids, is.group) in
-    absurd cc
+sdp_not_fault sdp fault told is = grind (arith, no_session_fault)
 
 pub ruleset contradictions = (sections_quiet, sdp_not_some, sdp_not_fault)

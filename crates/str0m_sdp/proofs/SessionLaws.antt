@@ -1,5 +1,5 @@
 -- Laws of mids that differ, and of lists that don't.
-use Rattle.str0m_sdp.proofs.Common.{◌≡◌, ◌≢◌, ℕ, suc, Bool, true, false, not, cond, List, [], ◌∷◌, length, get_or, find, Some, None, refl, sym, ◌∙◌, arith, ◌↔◌, bytes_eq, false≢true, zip, Any-from_list_any, list_any_at}
+use Rattle.str0m_sdp.proofs.Common.{◌≡◌, ◌≢◌, ℕ, suc, true, false, not, List, [], ◌∷◌, length, get_or, find, Some, None, refl, sym, ◌∙◌, arith, ◌↔◌, bytes_eq, false≢true, zip, Any-from_list_any, list_any_at}
 use Rattle.std.proofs.lemmas.List.Kept.{AllPairs-cons}
 use Rattle.std.proofs.lemmas.Slice.Eq.{bytes_eq-Decides}
 use Rattle.str0m_sdp.specs.SessionConsistency.{AreDistinct, is_listed}
@@ -26,12 +26,7 @@ pub same_from_none : (xs ys : List (List ℕ)) → length xs ≡ length ys → f
 same_from_none [] [] long none = refl
 same_from_none [] (y ∷ ys) long none = absurd (omega arith)
 same_from_none (x ∷ xs) [] long none = absurd (omega arith)
-same_from_none (x ∷ xs) (y ∷ ys) long none = go (bytes_eq x y) refl (same_from_none xs ys (omega arith)) none
-  where
-    go : (b : Bool) → bytes_eq x y ≡ b → (find (λ pair. not (bytes_eq pair.0 pair.1)) (zip xs ys) ≡ None → xs ≡ ys)
-        → cond (not b) (Some (x, y)) (find (λ pair. not (bytes_eq pair.0 pair.1)) (zip xs ys)) ≡ None → x ∷ xs ≡ y ∷ ys
-    go true same tails rest = let h : x ≡ y = (bytes_eq-Decides x y).0 same in let t : xs ≡ ys = tails rest in cc
-    go false other tails rest = absurd (let no : Some (x, y) ≡ None = rest in cc)
+same_from_none (x ∷ xs) (y ∷ ys) long none = grind (arith, same_from_none xs ys, bytes_eq-Decides)
 
 itself : (xs : List (List ℕ)) → find (λ pair. not (bytes_eq pair.0 pair.1)) (zip xs xs) ≡ None
 itself [] = refl

@@ -1,10 +1,10 @@
 -- Laws of sources and their places.
-use Rattle.str0m_sdp.proofs.Common.{◌≡◌, ◌<◌, ◌++◌, ℕ, zero, suc, Bool, true, false, cond, nat_eq, List, [], ◌∷◌, length, get_or, Option, None, Some, refl, sym, ap, ◌∙◌, arith, true≢false, codes, option_map, slice_get, slice_set, get, nat_eq_equiv, lookup, str_eq_ignore_ascii_case, nat_cmp, insert_entry, eqb-true, unwrap_or, if◌then◌else◌, unsigned_tied, get_or_from_slice_get}
+use Rattle.str0m_sdp.proofs.Common.{◌≡◌, ◌<◌, ◌++◌, ℕ, zero, suc, Bool, true, false, cond, nat_eq, List, [], ◌∷◌, length, get_or, Option, None, Some, refl, ap, ◌∙◌, arith, option_map, slice_get, slice_set, get, nat_eq_equiv, nat_cmp, insert_entry, eqb-true, unsigned_tied, get_or_from_slice_get}
 use Rattle.std.specs.Map.{values_of}
 use Rattle.std.specs.BTreeMap.{BTreeMap, Updates}
 use Rattle.str0m_sdp.specs.Sources.{entries_of, place_in}
 use Rattle.str0m_sdp.specs.SsrcInfo.{empty_info}
-use Rattle.str0m_sdp.specs.SsrcReading.{so_far, with_ids, with_value}
+use Rattle.str0m_sdp.specs.SsrcReading.{so_far, with_value}
 use Rattle.str0m_sdp.specs.declared.ssrc_info.SsrcInfo.{SsrcInfo}
 
 -- ---- where a source stands, and where it doesn't
@@ -19,16 +19,11 @@ IsAbsent s [] = Unit {0}
 IsAbsent s (e ∷ es) = (nat_eq s e.ssrc ≡ false) × IsAbsent s es
 
 none_before : (o : Option ℕ) → option_map suc o ≡ None → o ≡ None
-none_before None is = refl
-none_before (Some n) is = absurd cc
+none_before o is = grind arith
 
 absent : (s : ℕ) (es : List SsrcInfo) → place_in s es ≡ None → IsAbsent s es
 absent s [] is = tt
-absent s (e ∷ es) is = by (nat_eq s e.ssrc) refl (absent s es)
-  where
-    by : (b : Bool) → nat_eq s e.ssrc ≡ b → (place_in s es ≡ None → IsAbsent s es) → (nat_eq s e.ssrc ≡ false) × IsAbsent s es
-    by true here rest = absurd (let no = rw here at is in cc)
-    by false other rest = (other, rest (none_before (place_in s es) (rw other at is)))
+absent s (e ∷ es) is = grind (arith, absent s es, none_before)
 
 first : (s : ℕ) (es : List SsrcInfo) (place : ℕ) → place_in s es ≡ Some place → IsFirst s es place
 first s [] place is = absurd cc
@@ -68,47 +63,32 @@ last_said s (e ∷ es) = last_said s es
 
 said_of : (s : ℕ) (es : List SsrcInfo) → (so_far (entries_of es) s).ssrc ≡ s
 said_of s [] = refl
-said_of s (e ∷ es) = by (nat_eq s e.ssrc) refl (said_of s es)
-  where
-    by : (b : Bool) → nat_eq s e.ssrc ≡ b → (so_far (entries_of es) s).ssrc ≡ s → (unwrap_or (cond b (Some e) (lookup (nat_eq s) (entries_of es))) (empty_info s)).ssrc ≡ s
-    by true here rest = sym (eqb-true s e.ssrc here)
-    by false other rest = rest
+said_of s (e ∷ es) = grind (arith, said_of s es, eqb-true)
 
 -- ---- what is written there
 
 put_first : (s : ℕ) (es : List SsrcInfo) (place : ℕ) (x : SsrcInfo) → x.ssrc ≡ s → IsFirst s es place
     → entries_of (slice_set es place x) ≡ insert_entry nat_eq (entries_of es) s x
 put_first s [] place x same is = absurd is
-put_first s (e ∷ es) zero x same is =
-    rw is (ap (λ (n : ℕ). (n, x) ∷ entries_of es) (same ∙ eqb-true s e.ssrc is))
-put_first s (e ∷ es) (suc place) x same is =
-    rw is.0 (ap (λ (rest : List (ℕ × SsrcInfo)). (e.ssrc, e) ∷ rest) (put_first s es place x same is.1))
+put_first s (e ∷ es) zero x same is = grind arith
+put_first s (e ∷ es) (suc place) x same is = grind (arith, put_first s es place x same is.1)
 
 put_last : (s : ℕ) (es : List SsrcInfo) (new x : SsrcInfo) → x.ssrc ≡ s → IsAbsent s es
     → entries_of (slice_set (es ++ new ∷ []) (length es) x) ≡ insert_entry nat_eq (entries_of es) s x
 put_last s [] new x same is = ap (λ (n : ℕ). (n, x) ∷ []) same
-put_last s (e ∷ es) new x same is =
-    rw is.0 (ap (λ (rest : List (ℕ × SsrcInfo)). (e.ssrc, e) ∷ rest) (put_last s es new x same is.1))
+put_last s (e ∷ es) new x same is = grind (arith, put_last s es new x same is.1)
 
 -- ---- where the sources stand then
 
 stays : (s : ℕ) (es : List SsrcInfo) (place : ℕ) (x : SsrcInfo) → x.ssrc ≡ s → IsFirst s es place → (q : ℕ) → place_in q (slice_set es place x) ≡ place_in q es
 stays s [] place x same is q = absurd is
-stays s (e ∷ es) zero x same is q = ap (λ (n : ℕ). cond (nat_eq q n) (Some 0) (option_map suc (place_in q es))) (same ∙ eqb-true s e.ssrc is)
-stays s (e ∷ es) (suc place) x same is q = ap (λ (o : Option ℕ). cond (nat_eq q e.ssrc) (Some 0) (option_map suc o)) (stays s es place x same is.1 q)
+stays s (e ∷ es) zero x same is q = grind arith
+stays s (e ∷ es) (suc place) x same is q = grind (arith, stays s es place x same is.1 q)
 
 comes_last : (s : ℕ) (es : List SsrcInfo) (new x : SsrcInfo) → x.ssrc ≡ s → IsAbsent s es → (q : ℕ)
     → place_in q (slice_set (es ++ new ∷ []) (length es) x) ≡ cond (nat_eq s q) (Some (length es)) (place_in q es)
-comes_last s [] new x same is q = ap (λ (n : ℕ). cond (nat_eq q n) (Some 0) None) same ∙ ap (λ (b : Bool). cond b (Some 0) None) (nat_eq_equiv.symm q s)
-comes_last s (e ∷ es) new x same is q =
-    ap (λ (o : Option ℕ). cond (nat_eq q e.ssrc) (Some 0) (option_map suc o)) (comes_last s es new x same is.1 q)
-    ∙ by (nat_eq s q) refl (nat_eq q e.ssrc) refl
-  where
-    by : (b : Bool) → nat_eq s q ≡ b → (c : Bool) → nat_eq q e.ssrc ≡ c
-        → cond c (Some 0) (option_map suc (cond b (Some (length es)) (place_in q es))) ≡ cond b (Some (suc (length es))) (cond c (Some 0) (option_map suc (place_in q es)))
-    by true at true here = absurd (true≢false (sym here ∙ sym (nat_eq_equiv.congr s q e.ssrc at) ∙ is.0))
-    by true at false here = refl
-    by false at c here = refl
+comes_last s [] new x same is q = grind arith
+comes_last s (e ∷ es) new x same is q = grind (arith, comes_last s es new x same is.1 q, nat_eq_equiv)
 
 -- ---- as answers
 
@@ -129,38 +109,24 @@ module _ (s place : ℕ) (es : List SsrcInfo) (is : place_in s es ≡ Some place
 -- one that joins the others
 module _ (s place : ℕ) (es more : List SsrcInfo) (new : SsrcInfo) (is : place_in s es ≡ None) (at : place ≡ length es) (last : more ≡ es ++ new ∷ []) where
   pub new_said : new ≡ empty_info s → slice_get more place ≡ Some (so_far (entries_of es) s)
-  new_said empty =
-      (λ i. slice_get (last i) (at i))
-      ∙ ap (λ (e : SsrcInfo). slice_get (es ++ e ∷ []) (length es)) empty
-      ∙ last_said s es
-      ∙ ap Some (sym (nothing s es (absent s es is)))
+  new_said empty = grind (arith, last_said, nothing, absent)
 
   pub new_put : (x : SsrcInfo) → x.ssrc ≡ s → entries_of (slice_set more place x) ≡ insert_entry nat_eq (entries_of es) s x
   new_put x same = (λ i. entries_of (slice_set (last i) (at i) x)) ∙ put_last s es new x same (absent s es is)
 
   pub new_place : (old placed : BTreeMap ℕ ℕ) (k : ℕ) → k ≡ s → Updates nat_cmp old placed k (Some place) → ((q : ℕ) → get nat_cmp old q ≡ place_in q es)
       → (x : SsrcInfo) → x.ssrc ≡ s → (q : ℕ) → get nat_cmp placed q ≡ place_in q (slice_set more place x)
-  new_place old placed k key update places x same q =
-      update.0 q
-      ∙ (λ i. cond (unsigned_tied (key i) q i) (Some (at i)) (places q i))
-      ∙ sym ((λ i. place_in q (slice_set (last i) (at i) x)) ∙ comes_last s es new x same (absent s es is) q)
+  new_place old placed k key update places x same q = grind (arith, unsigned_tied, comes_last, absent)
 
 -- what is written at the place of a source follows from what was said of it
 pub written : (s place : ℕ) (es infos : List SsrcInfo) (x old : SsrcInfo) (f : SsrcInfo → SsrcInfo) → ((info : SsrcInfo) → (f info).ssrc ≡ info.ssrc)
     → slice_get infos place ≡ Some (so_far (entries_of es) s) → old ≡ get_or infos place old → x ≡ f old
     → (x ≡ f (so_far (entries_of es) s)) × (x.ssrc ≡ s)
-written s place es infos x old f keeps said here is =
-    let same : x ≡ f (so_far (entries_of es) s) = is ∙ ap f (here ∙ get_or_from_slice_get infos place (so_far (entries_of es) s) old said) in
-    (same, ap (λ (info : SsrcInfo). info.ssrc) same ∙ keeps (so_far (entries_of es) s) ∙ said_of s es)
+written s place es infos x old f keeps said here is = grind (arith, get_or_from_slice_get, said_of)
 
 -- the value of an attribute says nothing of the number
 pub value_keeps : (name value : List ℕ) (info : SsrcInfo) → (with_value name value info).ssrc ≡ info.ssrc
-value_keeps name value info = by (str_eq_ignore_ascii_case name (codes "cname")) (str_eq_ignore_ascii_case name (codes "msid"))
-  where
-    by : (a b : Bool) → (if a then record info { cname = Some value } else (if b then with_ids value info else info)).ssrc ≡ info.ssrc
-    by true b = refl
-    by false true = refl
-    by false false = refl
+value_keeps name value info = grind arith
 
 -- each source is said of by itself
 pub values_stand : (es : List SsrcInfo) → es ≡ values_of (entries_of es)

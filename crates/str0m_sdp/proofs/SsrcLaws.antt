@@ -1,5 +1,5 @@
 -- What is gathered of sources, attribute by attribute, is what the attributes say.
-use Rattle.str0m_sdp.proofs.Common.{◌≡◌, ◌<◌, ◌+◌, ◌||◌, ◌&&◌, ℕ, suc, Bool, true, false, cond, nat_eq, List, [], ◌∷◌, ◌++◌, get_or, length, map, take, Option, None, Some, refl, sym, ap, subst, ◌∙◌, append_assoc, true≢false, codes, slice_get, nat_eq_equiv, bytes_decides, cons_option, list_any, IsDistinct, lookup, option_or, unwrap_or, str_eq_ignore_ascii_case, append-nil, take_more, filter_map-append, insert_entry, insert_key, insert_all, when, eqb-true, filter_map, option_map, option_flatten, str_to_ascii_lowercase, fold-append, ◌>>=◌, cut, before}
+use Rattle.str0m_sdp.proofs.Common.{arith, ◌≡◌, ◌<◌, ◌+◌, ◌&&◌, ℕ, suc, Bool, true, false, cond, nat_eq, List, [], ◌∷◌, ◌++◌, get_or, length, map, take, Option, None, Some, refl, sym, ap, subst, ◌∙◌, append_assoc, true≢false, codes, slice_get, nat_eq_equiv, bytes_decides, cons_option, IsDistinct, lookup, option_or, unwrap_or, str_eq_ignore_ascii_case, append-nil, take_more, filter_map-append, insert_entry, insert_key, insert_all, when, eqb-true, filter_map, option_map, option_flatten, str_to_ascii_lowercase, fold-append, ◌>>=◌, cut, before}
 use Rattle.std.specs.Map.{keys_of, values_of}
 use Rattle.std.proofs.lemmas.Map.Entries.{lookup_from_place}
 use Rattle.str0m_sdp.specs.Lists.{last, distinct}
@@ -15,30 +15,11 @@ use Rattle.str0m_sdp.proofs.DistinctLaws.{inserted-distinct, distinct-apart}
 module _ {V : Type 0} where
   keys_put : (es : List (ℕ × V)) (k : ℕ) (v : V) → keys_of (insert_entry nat_eq es k v) ≡ insert_key nat_eq (keys_of es) k
   keys_put [] k v = refl
-  keys_put (e ∷ es) k v = by (nat_eq k e.0) (list_any (nat_eq k) (keys_of es)) (keys_put es k v)
-    where
-      by : (b c : Bool) → keys_of (insert_entry nat_eq es k v) ≡ cond c (keys_of es) (keys_of es ++ k ∷ []) → keys_of (cond b ((e.0, v) ∷ es) (e ∷ insert_entry nat_eq es k v)) ≡ cond (b || c) (e.0 ∷ keys_of es) (e.0 ∷ keys_of es ++ k ∷ [])
-      by true c rest = refl
-      by false true rest = ap (λ l. e.0 ∷ l) rest
-      by false false rest = ap (λ l. e.0 ∷ l) rest
+  keys_put (e ∷ es) k v = grind (arith, keys_put es k v)
 
   looked_up : (es : List (ℕ × V)) (k s : ℕ) (v : V) → lookup (nat_eq s) (insert_entry nat_eq es k v) ≡ cond (nat_eq k s) (Some v) (lookup (nat_eq s) es)
   looked_up [] k s v = ap (λ b. cond b (Some v) None) (nat_eq_equiv.symm s k)
-  looked_up (e ∷ es) k s v = by (nat_eq k e.0) refl (nat_eq s e.0) refl (looked_up es k s v)
-    where
-      by : (b : Bool) → nat_eq k e.0 ≡ b → (c : Bool) → nat_eq s e.0 ≡ c → lookup (nat_eq s) (insert_entry nat_eq es k v) ≡ cond (nat_eq k s) (Some v) (lookup (nat_eq s) es)
-          → lookup (nat_eq s) (cond b ((e.0, v) ∷ es) (e ∷ insert_entry nat_eq es k v)) ≡ cond (nat_eq k s) (Some v) (cond c (Some e.1) (lookup (nat_eq s) es))
-      by true p c q rest =
-          let same : nat_eq k s ≡ c = nat_eq_equiv.congr k e.0 s p ∙ nat_eq_equiv.symm e.0 s ∙ q in
-          ap (λ b. cond b (Some v) (lookup (nat_eq s) es)) q ∙ both c ∙ sym (ap (λ b. cond b (Some v) (cond c (Some e.1) (lookup (nat_eq s) es))) same)
-        where
-          both : (c : Bool) → cond c (Some v) (lookup (nat_eq s) es) ≡ cond c (Some v) (cond c (Some e.1) (lookup (nat_eq s) es))
-          both true = refl
-          both false = refl
-      by false p true q rest =
-          let apart : nat_eq k s ≡ false = nat_eq_equiv.symm k s ∙ nat_eq_equiv.congr s e.0 k q ∙ nat_eq_equiv.symm e.0 k ∙ p in
-          ap (λ b. cond b (Some e.1) (lookup (nat_eq s) (insert_entry nat_eq es k v))) q ∙ sym (ap (λ b. cond b (Some v) (Some e.1)) apart)
-      by false p false q rest = ap (λ b. cond b (Some e.1) (lookup (nat_eq s) (insert_entry nat_eq es k v))) q ∙ rest
+  looked_up (e ∷ es) k s v = grind (arith, looked_up es k s v, nat_eq_equiv)
 
   -- values that follow from their keys
   keyed : (f : ℕ → V) (es : List (ℕ × V)) → ((i : ℕ) (e : ℕ × V) → slice_get es i ≡ Some e → e.1 ≡ f e.0) → values_of es ≡ map f (keys_of es)
@@ -52,19 +33,14 @@ last_pushed [] x = refl
 last_pushed (y ∷ ys) x = ap (λ o. option_or o (Some y)) (last_pushed ys x)
 
 latest_more : {X : Type 0} (said : MediaAttribute → Option X) (attrs : List MediaAttribute) (attr : MediaAttribute) → latest said (attrs ++ attr ∷ []) ≡ option_or (said attr) (latest said attrs)
-latest_more {X} said attrs attr = ap last (filter_map-append said attrs (attr ∷ [])) ∙ by (said attr)
-  where
-    by : (o : Option X) → last (filter_map said attrs ++ cons_option o []) ≡ option_or o (latest said attrs)
-    by None = ap last (append-nil (filter_map said attrs))
-    by (Some x) = last_pushed (filter_map said attrs) x
+latest_more {X} said attrs attr = grind (arith, filter_map-append, append-nil, last_pushed)
 
 -- the track that a value names
 abbrev track_named : List ℕ → Option (Option (List ℕ))
 track_named value = option_map (λ parts. id_of (before 32 parts.1)) (cut 32 value)
 
 track_set : (parts : Option (List ℕ × List ℕ)) (old : Option (Option (List ℕ))) → option_flatten (option_or (option_map (λ p. id_of (before 32 p.1)) parts) old) ≡ track_after parts (option_flatten old)
-track_set None old = refl
-track_set (Some p) old = refl
+track_set parts old = grind arith
 
 module _ (groups values : List MediaAttribute) where
   -- with the name and the ids that one more attribute gives
@@ -78,24 +54,14 @@ module _ (groups values : List MediaAttribute) where
   }
 
   value_more : (attr : MediaAttribute) (s : ℕ) (cname ids : Option (List ℕ)) → value_of (codes "cname") s attr ≡ cname → value_of (codes "msid") s attr ≡ ids → info_from groups (values ++ attr ∷ []) s ≡ more_said s cname ids
-  value_more attr s cname ids named has =
-      let names = latest_more (cname_said s) values attr ∙ ap (λ o. option_or o (latest (cname_said s) values)) named in
-      let streams = ap option_flatten (latest_more (stream_said s) values attr ∙ ap (λ o. option_or (option_map (λ value. id_of (before 32 value)) o) (latest (stream_said s) values)) has) in
-      let tracks = ap option_flatten (latest_more (track_said s) values attr ∙ ap (λ o. option_or (o >>= track_named) (latest (track_said s) values)) has) in
-      λ i. record { ssrc = s; repairs = latest (repaired_by s) groups; cname = names i; stream_id = streams i; track_id = tracks i }
+  value_more attr s cname ids named has = grind (arith, latest_more, cname_said, stream_said, track_said)
 
   group_more : (attr : MediaAttribute) (s : ℕ) (repaired : Option ℕ) → repaired_by s attr ≡ repaired → info_from (groups ++ attr ∷ []) values s ≡ record (info_from groups values s) { repairs = option_or repaired (latest (repaired_by s) groups) }
-  group_more attr s repaired is =
-      let repairs = latest_more (repaired_by s) groups attr ∙ ap (λ o. option_or o (latest (repaired_by s) groups)) is in
-      λ i. record (info_from groups values s) { repairs = repairs i }
+  group_more attr s repaired is = grind (arith, latest_more)
 
   -- an attribute that isn't of a source says nothing
   other_value : (attr : MediaAttribute) → ((k : ℕ) (name value : List ℕ) → attr ≡ Ssrc k name value → ⊥) → (s : ℕ) → info_from groups (values ++ attr ∷ []) s ≡ info_from groups values s
-  other_value attr other s = value_more attr s None None (says_nothing (codes "cname") s attr other) (says_nothing (codes "msid") s attr other)
-    where
-      says_nothing : (wanted : List ℕ) (s : ℕ) (attr : MediaAttribute) → ((k : ℕ) (name value : List ℕ) → attr ≡ Ssrc k name value → ⊥) → value_of wanted s attr ≡ None
-      says_nothing wanted s (Ssrc k name value) other = absurd (other k name value refl)
-      says_nothing wanted s _ other = refl
+  other_value attr other s = grind (arith, value_more attr s None None)
 
   -- one that is of a source sets what it says of that one
   one_value : (k : ℕ) (name value : List ℕ) (s : ℕ) → cond (nat_eq k s) (with_value name value (info_from groups values k)) (info_from groups values s) ≡ info_from groups (values ++ Ssrc k name value ∷ []) s
@@ -135,14 +101,7 @@ module _ (groups values : List MediaAttribute) where
 
   -- such a group says it of its second source
   one_group : (attr : MediaAttribute) (first second : ℕ) → repair_pair attr ≡ Some (first, second) → (s : ℕ) → cond (nat_eq second s) (record (info_from groups values second) { repairs = Some first }) (info_from groups values s) ≡ info_from (groups ++ attr ∷ []) values s
-  one_group attr first second is s = by (nat_eq second s) refl
-    where
-      said : (b : Bool) → nat_eq second s ≡ b → repaired_by s attr ≡ when b first
-      said b p = ap (λ o. o >>= (λ pair. when (nat_eq pair.1 s) pair.0)) is ∙ ap (λ b. when b first) p
-
-      by : (b : Bool) → nat_eq second s ≡ b → cond b (record (info_from groups values second) { repairs = Some first }) (info_from groups values s) ≡ info_from (groups ++ attr ∷ []) values s
-      by true p = ap (λ n. record (info_from groups values n) { repairs = Some first }) (eqb-true second s p) ∙ sym (group_more attr s (Some first) (said true p))
-      by false p = sym (group_more attr s None (said false p))
+  one_group attr first second is s = grind (arith, eqb-true, group_more)
 
 -- ---- what is gathered
 

@@ -1,5 +1,5 @@
 -- Tables by payload type, one attribute more.
-use Rattle.str0m_sdp.proofs.Common.{◌≡◌, ◌<◌, ◌+◌, ◌++◌, ℕ, true, false, List, [], ◌∷◌, length, take, get_or, Option, Some, None, count_by, refl, sym, ap, ◌∙◌, inl, inr, cases_eq, eq-eqb, ne_eqb, take_at_read, get_or-set_same, get_or-set_other, FormatParam, ◌<|>◌, is_some, set, count_by_more_no, count_by_more_yes}
+use Rattle.str0m_sdp.proofs.Common.{arith, ◌≡◌, ◌<◌, ◌+◌, ◌++◌, ℕ, true, false, List, [], ◌∷◌, length, take, get_or, Option, None, count_by, refl, sym, ap, ◌∙◌, inl, inr, cases_eq, eq-eqb, ne_eqb, take_at_read, get_or-set_same, get_or-set_other, FormatParam, ◌<|>◌, is_some, set, count_by_more_no, count_by_more_yes}
 use Rattle.str0m_sdp.specs.Consistency.{maps, apt_among, apt_in, first_apt, AgreesOnApt}
 use Rattle.str0m_sdp.specs.declared.attribute.MediaAttribute.{MediaAttribute}
 use Rattle.str0m_sdp.specs.declared.attribute.MediaAttribute.TheVariants.{RtpMap, Fmtp}
@@ -8,16 +8,14 @@ use Rattle.str0m_sdp.specs.declared.rtp_map.RtpMap.{RtpMap as Mapping}
 -- ---- mappings
 
 pub maps_none : (pt : ℕ) (attr : MediaAttribute) → ((n : ℕ) (value : Mapping) → attr ≡ RtpMap n value → ⊥) → maps pt attr ≡ false
-maps_none pt (RtpMap n value) other = absurd (other n value refl)
-maps_none pt _ other = refl
+maps_none pt attr other = grind arith
 
 -- an attribute that maps no type changes no count
 pub count_same : (attrs : List MediaAttribute) (counts : List ℕ) (i : ℕ) (attr : MediaAttribute)
     → i < length attrs → attr ≡ get_or attrs i attr → ((n : ℕ) (value : Mapping) → attr ≡ RtpMap n value → ⊥)
     → (pt : ℕ) → get_or counts pt 0 ≡ count_by (maps pt) (take i attrs)
     → get_or counts pt 0 ≡ count_by (maps pt) (take (i + 1) attrs)
-count_same attrs counts i attr lt is other pt so_far =
-    so_far ∙ sym (count_by_more_no (maps pt) attrs i attr lt (ap (maps pt) (sym is) ∙ maps_none pt attr other))
+count_same attrs counts i attr lt is other pt so_far = grind (arith, count_by_more_no, maps_none)
 
 -- a mapping counts for its own type alone
 pub count_more : (attrs : List MediaAttribute) (counts : List ℕ) (i n : ℕ) (value : Mapping) (attr : MediaAttribute)
@@ -25,45 +23,29 @@ pub count_more : (attrs : List MediaAttribute) (counts : List ℕ) (i n : ℕ) (
     → (pt : ℕ) → get_or counts pt 0 ≡ count_by (maps pt) (take i attrs)
     → get_or (set counts n (get_or counts n 0 + 1)) pt 0 ≡ count_by (maps pt) (take (i + 1) attrs)
 count_more attrs counts i n value attr lt row is variant pt so_far =
-    let read : get_or attrs i attr ≡ RtpMap n value = sym is ∙ variant in
-    elim (cases_eq n pt) [
-      | inl same ↦
-          let at_row = rw (← same) at so_far in
-          rw (← same) (get_or-set_same counts n (get_or counts n 0 + 1) 0 row ∙ ap (λ (k : ℕ). k + 1) at_row
-          ∙ sym (count_by_more_yes (maps n) attrs i attr lt (ap (maps n) read ∙ eq-eqb n n refl)))
-      | inr apart ↦
-          get_or-set_other counts n pt (get_or counts n 0 + 1) 0 (λ same. apart (sym same)) ∙ so_far
-          ∙ sym (count_by_more_no (maps pt) attrs i attr lt (ap (maps pt) read ∙ ne_eqb n pt apart))
-    ]
+    grind (arith, cases_eq, get_or-set_same, count_by_more_yes, eq-eqb, get_or-set_other, count_by_more_no, ne_eqb)
 
 -- ---- primary types
 
 or_none : (o : Option ℕ) → (o <|> None) ≡ o
-or_none None = refl
-or_none (Some x) = refl
+or_none o = grind arith
 
 or_assoc : (a b c : Option ℕ) → ((a <|> b) <|> c) ≡ (a <|> (b <|> c))
-or_assoc None b c = refl
-or_assoc (Some x) b c = refl
+or_assoc a b c = grind arith
 
 none_is : (o : Option ℕ) → is_some o ≡ false → o ≡ None
-none_is None empty = refl
-none_is (Some x) empty = absurd cc
+none_is o empty = grind arith
 
 some_or : (a b : Option ℕ) → is_some a ≡ true → a ≡ (a <|> b)
-some_or None b full = absurd cc
-some_or (Some x) b full = refl
+some_or a b full = grind arith
 
 first_append : (pt : ℕ) (xs ys : List MediaAttribute) → first_apt pt (xs ++ ys) ≡ (first_apt pt xs <|> first_apt pt ys)
 first_append pt [] ys = refl
-first_append pt (x ∷ xs) ys =
-    ap (λ (o : Option ℕ). apt_in pt x <|> o) (first_append pt xs ys) ∙ sym (or_assoc (apt_in pt x) (first_apt pt xs) (first_apt pt ys))
+first_append pt (x ∷ xs) ys = grind (arith, first_append pt xs ys, or_assoc)
 
 first_more : (pt : ℕ) (attrs : List MediaAttribute) (i : ℕ) (attr : MediaAttribute) → i < length attrs → attr ≡ get_or attrs i attr
     → first_apt pt (take (i + 1) attrs) ≡ (first_apt pt (take i attrs) <|> apt_in pt attr)
-first_more pt attrs i attr lt is =
-    ap (first_apt pt) (take_at_read attrs i attr lt).1 ∙ first_append pt (take i attrs) (get_or attrs i attr ∷ [])
-    ∙ ap (λ (o : Option ℕ). first_apt pt (take i attrs) <|> o) (or_none (apt_in pt (get_or attrs i attr)) ∙ ap (apt_in pt) (sym is))
+first_more pt attrs i attr lt is = grind (arith, take_at_read, first_append, or_none)
 
 apt_own : (n : ℕ) (values : List FormatParam) → apt_in n (Fmtp n values) ≡ apt_among values
 apt_own n values = rw (eq-eqb n n refl) refl
@@ -72,8 +54,7 @@ apt_apart : (n pt : ℕ) (values : List FormatParam) → (n ≡ pt → ⊥) → 
 apt_apart n pt values apart = rw (ne_eqb n pt apart) refl
 
 apt_none : (pt : ℕ) (attr : MediaAttribute) → ((n : ℕ) (values : List FormatParam) → attr ≡ Fmtp n values → ⊥) → apt_in pt attr ≡ None
-apt_none pt (Fmtp n values) other = absurd (other n values refl)
-apt_none pt _ other = refl
+apt_none pt attr other = grind arith
 
 -- an attribute that names no type for this one changes nothing
 pub first_same : (attrs : List MediaAttribute) (firsts : List (Option ℕ)) (i : ℕ) (attr : MediaAttribute)
@@ -82,7 +63,7 @@ pub first_same : (attrs : List MediaAttribute) (firsts : List (Option ℕ)) (i :
     → get_or firsts pt None ≡ first_apt pt (take i attrs)
     → get_or firsts pt None ≡ first_apt pt (take (i + 1) attrs)
 first_same attrs firsts i attr lt is pt silent so_far =
-    so_far ∙ sym (first_more pt attrs i attr lt is ∙ ap (λ (o : Option ℕ). first_apt pt (take i attrs) <|> o) silent ∙ or_none (first_apt pt (take i attrs)))
+    grind (arith, first_more pt attrs i attr lt is, or_none (first_apt pt (take i attrs)))
 
 -- what is no fmtp line names none
 pub first_other : (attrs : List MediaAttribute) (firsts : List (Option ℕ)) (i : ℕ) (attr : MediaAttribute)
@@ -123,5 +104,4 @@ first_named attrs firsts i n values attr lt row is variant none pt so_far =
 
 -- what is no fmtp line agrees
 pub agrees_other : (attrs : List MediaAttribute) (attr : MediaAttribute) → ((n : ℕ) (values : List FormatParam) → attr ≡ Fmtp n values → ⊥) → AgreesOnApt attrs attr
-agrees_other attrs (Fmtp n values) other = absurd (other n values refl)
-agrees_other attrs _ other = tt
+agrees_other attrs attr other = grind arith
