@@ -1,8 +1,8 @@
 -- The clauses of a reader.
-use Rattle.str0m_signal.proofs.Common.{◌≡◌, ℕ, List, Option, Result, Ok, Err, sym, ap, subst, ◌∙◌, Bor, none-some, SdpError, Reads, IsErrAnd}
+use Rattle.str0m_signal.proofs.Common.{arith, ◌≡◌, ℕ, List, Option, Result, Ok, Err, sym, ap, subst, ◌∙◌, Bor, none-some, SdpError, Reads, IsErrAnd}
 use Rattle.str0m_sdp.specs.declared.error.SdpError.TheVariants.{ParseError, Inconsistent, Memory}
 use Rattle.str0m_signal.specs.Answers.{Answers, AtMostOne, Gives, Refuses, IsRefusal, unread}
-use Rattle.str0m_signal.specs.Lines.{Line, joined, OneLine, OfText, FirstLine}
+use Rattle.str0m_signal.specs.Lines.{Line, OneLine, OfText, FirstLine}
 use Rattle.str0m_signal.specs.LineReading.{lines_of, line_read, left}
 use Rattle.str0m_signal.proofs.LineLaws.{joined_lines, lines_both, lines_only, line_found, line_given, pair_is}
 use Rattle.str0m_signal.proofs.ChainLaws.{OnlyOne, one_line_only}
@@ -15,10 +15,7 @@ text_answers S text (Err (Inconsistent message)) h = absurd h
 text_answers S text (Err Memory) h = tt
 
 pub text_one : {A : Type 0} (S : List Line → A → List Line → Type 0) → OnlyOne S → (text : List ℕ) → AtMostOne (OfText S text)
-text_one S one text v w h k =
-    let lines : h.0 ≡ k.0 = sym (lines_only text h.0 h.2) ∙ lines_only text k.0 k.2 in
-    let same = one k.0 v.0 w.0 h.1 k.1 (subst (λ (ls : List Line). S ls v.0 h.1) lines h.3) k.3 in
-    pair_is v w same.0 (h.4 ∙ ap joined same.1 ∙ sym k.4)
+text_one S one text v w h k = grind (arith, lines_only text k.0 k.2, lines_only text h.0 h.2, pair_is v w)
 
 -- what was read of the first line, by a function that reads its form
 line_answers : {A : Type 0} {F : List ℕ → A → Type 0} {f : List ℕ → Option A} → Reads F f → (lines : List Line) (r : Result (A × Bor (List ℕ)) SdpError) → Gives left r (line_read f lines) → Answers left r (λ v. OneLine F lines v.0 v.1)
@@ -37,20 +34,15 @@ module _ {A : Type 0} {F : List ℕ → A → Type 0} {f : List ℕ → Option A
 -- ---- errors
 
 pub refused : {V : Type 0} (e : SdpError) (P : V → Type 0) → IsRefusal e → ((v : V) → P v → ⊥) → Refuses e P
-refused (ParseError message) P h none = none
-refused (Inconsistent message) P h none = absurd h
-refused Memory P h none = tt
+refused e P h none = grind arith
 
 -- what a part was refused for refuses the whole
 pub passed_on : {V W : Type 0} (e : SdpError) (P : V → Type 0) (Q : W → Type 0) → Refuses e P → ((w : W) → Q w → (v : V) × P v) → Refuses e Q
-passed_on (ParseError message) P Q h of = λ w q. let p = of w q in h p.0 p.1
-passed_on (Inconsistent message) P Q h of = absurd h
-passed_on Memory P Q h of = tt
+passed_on e P Q h of = grind arith
 
 -- an error that `?` hands on
 pub handed_on : {X V : Type 0} (view : X → V) (r : Result X SdpError) (e : SdpError) (P : V → Type 0) → IsErrAnd r (λ x. x ≡ e) → Refuses e P → Answers view r P
-handed_on view (Ok x) e P is h = absurd is
-handed_on view (Err x) e P is h = subst (λ (y : SdpError). Refuses y P) (sym is) h
+handed_on view r e P is h = grind arith
 
 -- the value alone, whatever is left
 pub one_described : {A : Type 0} (P : A × List ℕ → Type 0) → AtMostOne P → AtMostOne (λ a. (rest : List ℕ) × P (a, rest))

@@ -1,5 +1,5 @@
 -- Attributes are read exactly where their forms hold, and printed as they were read.
-use Rattle.str0m_signal.proofs.Common.{◌≡◌, ◌⊎◌, ◌≤◌, ℕ, Bool, true, false, false≢true, List, [], ◌∷◌, ◌++◌, Option, Some, None, IfSome, refl, ap, ◌∙◌, subst, sym, lit<, lit≤, inl, inr, codes, printed_and_read, Codec, media_attribute_text, is_shown, attribute_line, KeepsToLine, setup_text, MediaAttribute, Fmtp, RestrictionId, SimulcastLayer, candidate_text, candidate_both, IsCandidateText, Parted, IsLongestBeginning, decimal, join_by, length, ltb-true, Lacks, IsNum, is_rest, beginning_of, beginning_is, beginning_only, lacks_from, rest_true, when_some, when_true}
+use Rattle.str0m_signal.proofs.Common.{arith, ◌≡◌, ◌⊎◌, ◌≤◌, ℕ, Bool, true, false, false≢true, List, [], ◌∷◌, ◌++◌, Option, Some, IfSome, refl, ap, ◌∙◌, subst, sym, lit<, lit≤, inl, inr, codes, printed_and_read, Codec, media_attribute_text, is_shown, attribute_line, KeepsToLine, setup_text, MediaAttribute, Fmtp, RestrictionId, SimulcastLayer, candidate_text, candidate_both, IsCandidateText, Parted, IsLongestBeginning, decimal, join_by, length, ltb-true, Lacks, IsNum, is_rest, beginning_of, beginning_is, beginning_only, lacks_from, rest_true, when_some, when_true}
 use Rattle.str0m_formats.specs.Codec.{IsReadAs}
 use Rattle.str0m_sdp.specs.declared.attribute.MediaAttribute.TheVariants.{RtpMap, Simulcast}
 use Rattle.std.specs.Prelude.{filter}
@@ -170,8 +170,7 @@ simulcast_comes_back = made_again (led_by label.SIMULCAST.now (record { Is = IsS
 plain_rid : (text : List ℕ) (id : RestrictionId) (fields : List ℕ × (List ℕ × List (List ℕ × List ℕ)))
     → Behind label.RID.now IsRid text (id, fields)
     → NamesNoTypes fields.1.1 → Behind label.RID.now IsPlainRid text (id, fields)
-plain_rid text id fields (body, e, (front, rest, f, lacks, name, directed)) named =
-    (body, e, (front, rest, f, lacks, name, (directed, named)))
+plain_rid text id fields (body, e, (front, rest, f, lacks, name, directed)) named = grind arith
 
 rid_form : (text : List ℕ) (id : RestrictionId) (fields : List ℕ × (List ℕ × List (List ℕ × List ℕ)))
     → Behind label.RID.now IsPlainRid text (id, fields)
@@ -226,12 +225,10 @@ plain_again = any_again plain_forms (laws_of PlainForm PlainAgain (λ form law. 
 
 -- what a codec's text was read as is read of its own text again
 read_codec : (text : List ℕ) (c : Codec) → IsReadAs text c → printed_and_read c ≡ c
-read_codec text codec.Null h = absurd ((h.only (λ e. absurd cc)).0 refl)
-read_codec text c h = refl
+read_codec text c h = grind arith
 
 channels_fit : (channels : Option ℕ) (text : List ℕ) → IsChannels text channels → IfSome channels (λ n. n ≤ 255)
-channels_fit None text h = tt
-channels_fit (Some n) text h = h.2.fits
+channels_fit channels text h = grind arith
 
 mapping_again : (text : List ℕ) (pt : ℕ) (value : Mapping) → IsRtpMap text pt value
     → IsPrintedAs IsMediaLine (media_attribute_text (RtpMap pt value)) (RtpMap pt value)

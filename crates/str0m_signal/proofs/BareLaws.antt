@@ -68,10 +68,7 @@ range_form_both = record {
 }
 
 anything_both : Reads IsAnything (λ more. Some (Unknown ∷ []))
-anything_both = record {
-  sound = λ more values e. sym (some_is (Unknown ∷ []) values e);
-  complete = λ more values h. ap (λ (t : List FormatParam). Some t) (sym h);
-}
+anything_both = grind arith
 
 pub bare_both : Reads (FirstFit IsListForm (FirstFit IsRangeForm IsAnything)) bare_read
 bare_both = reads_first list_form_both (reads_first range_form_both anything_both)

@@ -1,5 +1,5 @@
 -- A candidate is printed as it was read.
-use Rattle.str0m_signal.proofs.Common.{◌≡◌, ◌≢◌, ◌≤◌, ◌<◌, ◌^◌, ℕ, zero, suc, List, [], ◌∷◌, ◌++◌, length, Option, Some, None, IfSome, refl, sym, subst, arith, lit<, lit≤, inl, inr, codes, digit_value, decimal, AllByRecursion, IsCandidateText, candidate_text, Parted, Lacks, IsWord, some_is, Lacks-append, lacks_both, replicate, AllDigits, IsOctet, IsGroup, IsOneGroup, IsEnd, AreGroups, AreAnyGroups, IsIpText, IsSocket, IsRelated, AreNames, IsSocketInRange, IsPrintable, socket_text, related_text, extras_text}
+use Rattle.str0m_signal.proofs.Common.{rules, ◌≡◌, ◌≢◌, ◌≤◌, ◌<◌, ◌^◌, ℕ, zero, suc, List, [], ◌∷◌, ◌++◌, Option, Some, None, IfSome, refl, sym, subst, arith, lit<, lit≤, inl, inr, codes, digit_value, decimal, AllByRecursion, IsCandidateText, candidate_text, Parted, Lacks, IsWord, some_is, Lacks-append, lacks_both, replicate, AllDigits, IsOctet, IsGroup, IsOneGroup, IsEnd, AreGroups, AreAnyGroups, IsIpText, IsSocket, IsRelated, AreNames, IsSocketInRange, IsPrintable, socket_text, related_text, extras_text}
 use Rattle.str0m_values.specs.declared.candidate.Candidate.{Candidate}
 use Rattle.std.proofs.Math.Nat.{pow-le-pow_right}
 use Rattle.std.proofs.lemmas.Int.Digits.{digits_value-lt}
@@ -11,11 +11,8 @@ use Rattle.str0m_values.specs.declared.address.IpAddr.{IpAddr}
 use Rattle.str0m_values.specs.declared.address.IpAddr.TheVariants.{V4, V6}
 use Rattle.str0m_values.specs.declared.address.SocketAddr.{SocketAddr}
 use Rattle.str0m_values.specs.declared.candidate_kind.CandidateKind.{CandidateKind}
-use Rattle.str0m_values.specs.declared.candidate_kind.CandidateKind.TheVariants.{Host, PeerReflexive, ServerReflexive, Relayed}
 use Rattle.str0m_values.specs.declared.protocol.Protocol.{Protocol}
-use Rattle.str0m_values.specs.declared.protocol.Protocol.TheVariants.{Udp, Tcp, SslTcp, Tls}
 use Rattle.str0m_values.specs.declared.protocol.TcpType.{TcpType}
-use Rattle.str0m_values.specs.declared.protocol.TcpType.TheVariants.{Active, Passive, So}
 use Rattle.str0m_values.proofs.AddressText.{printed}
 use Rattle.str0m_values.proofs.CandidateText.{printed_candidate}
 use Rattle.str0m_signal.proofs.Formats.{behind_lacks}
@@ -25,11 +22,7 @@ use Rattle.str0m_values.specs.declared.candidate_label.TheConstants as candidate
 -- ---- addresses keep to their ranges
 
 small_group : (text : List ℕ) (n : ℕ) → IsGroup text n → n < 2 ^ 16
-small_group text n h =
-    let below = digits_value-lt 16 text h.numeral.1 in
-    let value = h.value in
-    let most : 16 ^ length text ≤ 16 ^ 4 = pow-le-pow_right (lit< tt) h.short in
-    omega arith
+small_group text n h = grind (arith, digits_value-lt, pow-le-pow_right)
 
 abbrev AreSmall : ℕ → List ℕ → Type 0
 AreSmall limit ns = AllByRecursion (λ n. n < limit) ns
@@ -66,8 +59,7 @@ module _ (Last : List ℕ → List ℕ → Type 0) (last_small : (text groups : 
   groups_small text (n ∷ groups) (inr h) = (small_group h.0 n h.3, groups_small h.1 groups h.4)
 
   any_small : (text groups : List ℕ) → AreAnyGroups Last text groups → AreSmall (2 ^ 16) groups
-  any_small text groups (inl none) = subst (AreSmall (2 ^ 16)) (sym none.1) tt
-  any_small text groups (inr some) = groups_small text groups some
+  any_small text groups o = grind (arith, groups_small)
 
 in_range : (text : List ℕ) (a : IpAddr) → IsIpText text a → IsInRange a
 in_range text (V4 octets) h = (h.1, octets_small text octets h.0)
@@ -85,10 +77,7 @@ in_range text (V6 groups) (inr short, eight) = (
 module _ (c : ℕ) (far : 16 ≤ digit_value c) (no_dot : 46 ≢ c) (no_colon : 58 ≢ c) where
   digits_lack : (digits : List ℕ) → AllDigits 16 digits → Lacks c digits
   digits_lack [] h = tt
-  digits_lack (x ∷ xs) h = (
-    (λ (e : x ≡ c). let lt : digit_value c < 16 = subst (λ (y : ℕ). digit_value y < 16) e h.0 in absurd (omega arith)),
-    digits_lack xs h.1,
-  )
+  digits_lack (x ∷ xs) h = grind (arith, digits_lack xs h.1)
 
   octets_lack : (text octets : List ℕ) → Parted 46 IsOctet text octets → Lacks c text
   octets_lack text [] h = absurd h
@@ -134,8 +123,7 @@ ip_no_end a h =
 -- ---- candidates
 
 socket_in_range : (ip_label port_label text : List ℕ) (a : SocketAddr) → IsSocket ip_label port_label text a → IsSocketInRange a
-socket_in_range ip_label port_label text a (ip, port, e, ip_is, port_is) =
-    (in_range ip_is.0 a.ip ip_is.3, let fits = port_is.3.fits in omega arith)
+socket_in_range ip_label port_label text a (ip, port, e, ip_is, port_is) = grind (arith, in_range)
 
 related_in_range : (o : Option SocketAddr) (text : List ℕ) → IsRelated text o → IfSome o IsSocketInRange
 related_in_range None text h = tt
@@ -145,56 +133,32 @@ same_word : (label part x : List ℕ) → IsLabelled label IsSame part x → IsW
 same_word label part x (word, e, is, same) = subst IsWord (sym same) is
 
 name_word : (o : Option (List ℕ)) (text : List ℕ) → AreNames text o → IfSome o IsWord
-name_word None text h = tt
-name_word (Some x) text (inl (network, name, e, left_out, is)) = same_word candidate_label.UFRAG.now name x is
-name_word (Some x) text (inr (name, network, word, fragment, e, is, network_is, same)) =
-    subst (λ (o : Option (List ℕ)). IfSome o IsWord) (sym same) (same_word candidate_label.UFRAG.now name fragment is)
+name_word o text h = grind arith
 
 printable : (text : List ℕ) (c : Candidate) → IsCandidateText text c → IsPrintable c
-printable text c h = record {
-  foundation = same_word candidate_label.CANDIDATE.now h.foundation c.foundation h.foundation_is;
-  component_id = let fits = h.component_is.3.fits in omega arith;
-  prio = let fits = h.priority_is.3.fits in omega arith;
-  addr = socket_in_range (codes " ") (codes " ") h.address c.addr h.address_is;
-  raddr = related_in_range c.raddr h.related h.related_is;
-  ufrag = name_word c.ufrag h.names h.names_are;
-}
+printable text c h = search (rules, same_word, socket_in_range, related_in_range, name_word)
 
 -- ---- line ends
 
 protocol_no_end : (p : Protocol) → HoldsNoEnd (protocol_text p)
-protocol_no_end Udp = no_end (codes "udp") refl refl
-protocol_no_end Tcp = no_end (codes "tcp") refl refl
-protocol_no_end SslTcp = no_end (codes "ssltcp") refl refl
-protocol_no_end Tls = no_end (codes "tls") refl refl
+protocol_no_end p = grind arith
 
 kind_no_end : (k : CandidateKind) → HoldsNoEnd (kind_text k)
-kind_no_end Host = no_end (codes "host") refl refl
-kind_no_end PeerReflexive = no_end (codes "prflx") refl refl
-kind_no_end ServerReflexive = no_end (codes "srflx") refl refl
-kind_no_end Relayed = no_end (codes "relay") refl refl
+kind_no_end k = grind arith
 
 tcp_type_no_end : (o : Option TcpType) → HoldsNoEnd (optional_text candidate_label.TCP_TYPE.now tcp_type_text o)
-tcp_type_no_end None = (tt, tt)
-tcp_type_no_end (Some Active) = no_end (codes " tcptype active") refl refl
-tcp_type_no_end (Some Passive) = no_end (codes " tcptype passive") refl refl
-tcp_type_no_end (Some So) = no_end (codes " tcptype so") refl refl
+tcp_type_no_end o = grind arith
 
 socket_no_end : (ip_label port_label : List ℕ) (a : SocketAddr) → HoldsNoEnd ip_label → HoldsNoEnd port_label → IsSocketInRange a
     → HoldsNoEnd (socket_text ip_label port_label a)
-socket_no_end ip_label port_label a h k range =
-    no_ends ip_label _ h
-    (no_ends (ip_text a.ip) _ (ip_no_end a.ip range.0)
-    (no_ends port_label (decimal a.port) k (decimal_no_end a.port (omega (arith, range.1)))))
+socket_no_end ip_label port_label a h k range = grind (arith, no_ends, ip_no_end, decimal_no_end)
 
 related_no_end : (o : Option SocketAddr) → IfSome o IsSocketInRange → HoldsNoEnd (related_text o)
 related_no_end None h = (tt, tt)
-related_no_end (Some a) h =
-    socket_no_end candidate_label.RELATED_ADDRESS.now candidate_label.RELATED_PORT.now a (no_end candidate_label.RELATED_ADDRESS.now refl refl) (no_end candidate_label.RELATED_PORT.now refl refl) h
+related_no_end (Some a) h = search (rules, socket_no_end, no_end)
 
 word_lacks : (c : ℕ) (label part x : List ℕ) → IsLabelled label IsSame part x → Lacks c part → Lacks c x
-word_lacks c label part x (word, e, is, same) none =
-    subst (Lacks c) (sym same) (behind_lacks c label word (subst (Lacks c) e none))
+word_lacks c label part x (word, e, is, same) none = grind (arith, behind_lacks)
 
 name_lacks : (c : ℕ) (o : Option (List ℕ)) (text : List ℕ) → AreNames text o → Lacks c text → Lacks c candidate_label.UFRAG.now
     → Lacks c (optional_text candidate_label.UFRAG.now (λ t. t) o)

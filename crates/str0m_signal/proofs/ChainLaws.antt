@@ -1,5 +1,5 @@
 -- Parts of a list of lines that stand one after another.
-use Rattle.str0m_signal.proofs.Common.{◌≡◌, ℕ, ◌<◌, ◌≤◌, List, [], ◌∷◌, ◌++◌, length, cond, Option, Some, None, refl, sym, ap, subst, ◌∙◌, arith, none-some, some_pair_parts, ◌>>=◌, lacks, bind_some, if_some, one_value, Reads}
+use Rattle.str0m_signal.proofs.Common.{◌≡◌, ℕ, ◌<◌, ◌≤◌, List, [], ◌∷◌, ◌++◌, length, Option, None, refl, sym, ap, subst, ◌∙◌, arith, none-some, Reads}
 use Rattle.str0m_signal.specs.Lines.{Line, OneLine}
 use Rattle.str0m_signal.specs.Chains.{Chain, Run, Taken}
 use Rattle.str0m_signal.specs.LineReading.{lines_of, line_read, IsRead}
@@ -19,36 +19,24 @@ chain_fewer F lines [] rest h = omega (arith, ap length h)
 chain_fewer F lines (a ∷ as') rest h = omega (arith, one_fewer F lines a h.0 h.1, chain_fewer F h.0 as' rest h.2)
 
 pub taken_fewer : {A : Type 0} (F : List ℕ → A → Type 0) (lines : List Line) (o : Option A) (rest : List Line) → Taken (OneLine F) lines o rest → length rest ≤ length lines
-taken_fewer F lines None rest h = omega (arith, ap length h.0)
-taken_fewer F lines (Some a) rest h = omega (arith, one_fewer F lines a rest h)
+taken_fewer F lines o rest h = grind arith
 
 -- ---- at most one
 
 abbrev pub OnlyOne : {A : Type 0} → (List Line → A → List Line → Type 0) → Type 0
 OnlyOne S = (lines : List Line) (a b : _) (after after' : List Line) → S lines a after → S lines b after' → (a ≡ b) × (after ≡ after')
 
-cons_is : (x y : Line) (xs ys : List Line) → x ∷ xs ≡ y ∷ ys → (x ≡ y) × (xs ≡ ys)
-cons_is x y xs ys e = (cc, cc)
-
 pub one_line_only : {A : Type 0} {F : List ℕ → A → Type 0} {f : List ℕ → Option A} → Reads F f → OnlyOne (OneLine F)
-one_line_only {F} reads lines a b after after' h k =
-    let same = cons_is h.0 k.0 after after' (sym h.1 ∙ k.1) in
-    (one_value reads k.0.content a b (subst (λ (line : Line). F line.content a) same.0 h.3) k.3, same.1)
+one_line_only {F} reads lines a b after after' h k = grind arith
 
 pub chain_ends : {A : Type 0} (S : List Line → A → List Line → Type 0) → OnlyOne S → (lines : List Line) (as' bs : List A) (rest rest' : List Line) → Run S lines as' rest → Run S lines bs rest' → (as' ≡ bs) × (rest ≡ rest')
 chain_ends S one lines [] [] rest rest' h k = (refl, sym h.0 ∙ k.0)
 chain_ends S one lines [] (b ∷ bs) rest rest' h k = absurd (h.1 b k.0.0 (subst (λ (ls : List Line). S ls b k.0.0) h.0 k.0.1))
 chain_ends S one lines (a ∷ as') [] rest rest' h k = absurd (k.1 a h.0.0 (subst (λ (ls : List Line). S ls a h.0.0) k.0 h.0.1))
-chain_ends {A} S one lines (a ∷ as') (b ∷ bs) rest rest' h k =
-    let first = one lines a b h.0.0 k.0.0 h.0.1 k.0.1 in
-    let more = chain_ends S one h.0.0 as' bs rest rest' (h.0.2, h.1) (subst (λ (ls : List Line). Chain S ls bs rest') (sym first.1) k.0.2, k.1) in
-    (ap (λ (x : A). x ∷ as') first.0 ∙ ap (λ (xs : List A). b ∷ xs) more.0, more.1)
+chain_ends {A} S one lines (a ∷ as') (b ∷ bs) rest rest' h k = grind (arith, chain_ends S one h.0.0 as' bs rest rest' (h.0.2, h.1))
 
 pub taken_only : {A : Type 0} (S : List Line → A → List Line → Type 0) → OnlyOne S → (lines : List Line) (o p : Option A) (rest rest' : List Line) → Taken S lines o rest → Taken S lines p rest' → (o ≡ p) × (rest ≡ rest')
-taken_only S one lines None None rest rest' h k = (refl, sym h.0 ∙ k.0)
-taken_only S one lines None (Some b) rest rest' h k = absurd (h.1 b rest' k)
-taken_only S one lines (Some a) None rest rest' h k = absurd (k.1 a rest h)
-taken_only S one lines (Some a) (Some b) rest rest' h k = let p = one lines a b rest rest' h k in (ap (λ x. Some x) p.0, p.1)
+taken_only S one lines o p rest rest' h k = grind arith
 
 pub taken_none : {A : Type 0} {F : List ℕ → A → Type 0} {f : List ℕ → Option A} → Reads F f → (text : List ℕ) → None ≡ line_read f (lines_of text) → Taken (OneLine F) (lines_of text) None (lines_of text)
 taken_none reads text e = (refl, λ a after h. none-some (a, after) (e ∙ line_given reads (lines_of text) a after h))
@@ -57,13 +45,7 @@ taken_none reads text e = (refl, λ a after h. none-some (a, after) (e ∙ line_
 
 pub read_fewer : {A : Type 0} (f : List ℕ → Option A) (lines : List Line) (a : A) (after : List Line) → IsRead f lines a after → length after < length lines
 read_fewer f [] a after e = absurd (none-some (a, after) e)
-read_fewer {A} f (line ∷ lines) a after e =
-    let p = bind_some (cond (lacks 13 line.content) (Some (line.content, lines)) None) (λ found. f found.0 >>= λ value. Some (value, found.1)) (a, after) e in
-    let b = if_some (lacks 13 line.content) (Some (line.content, lines)) p.0 p.1 in
-    let c = bind_some (f p.0.0) (λ value. Some (value, p.0.1)) (a, after) p.2 in
-    let rest = some_pair_parts line.content p.0.0 lines p.0.1 b.1 in
-    let got = some_pair_parts c.0 a p.0.1 after c.2 in
-    omega (arith, ap length (rest.1 ∙ got.1))
+read_fewer {A} f (line ∷ lines) a after e = grind arith
 
 module _ {A : Type 0} {F : List ℕ → A → Type 0} {f : List ℕ → Option A} (reads : Reads F f) where
   chain_of : (lines : List Line) (as' : List A) (rest : List Line) → Chain (IsRead f) lines as' rest → Chain (OneLine F) lines as' rest

@@ -1,5 +1,5 @@
 -- In a text of UTF-8 characters begin close to each other, so something is kept of each text that isn't empty.
-use Rattle.str0m_signal.proofs.Common.{◌≡◌, ◌⊎◌, ◌≤◌, ◌<◌, ◌+◌, ◌-◌, ◌/◌, ◌%◌, ℕ, suc, Bool, true, false, cond, ltb, List, [], ◌∷◌, ◌++◌, length, refl, subst, arith, lit<, lit≤, inl, inr, IsCharBoundary, cases_lt, ltb-true, IsRest, IsLongestBeginning, IsUtf8, encode_utf8_all}
+use Rattle.str0m_signal.proofs.Common.{◌⊎◌, ◌≤◌, ◌<◌, ◌+◌, ◌-◌, ◌%◌, ℕ, suc, List, [], ◌∷◌, ◌++◌, length, subst, arith, lit≤, inl, inr, IsCharBoundary, cases_lt, IsRest, IsLongestBeginning, IsUtf8, encode_utf8_all}
 use Rattle.std.specs.Char.{encode_utf8}
 
 -- a byte inside a character
@@ -21,28 +21,7 @@ lead b n high = λ h. absurd (omega (arith, high, h.1))
 
 one_character : (c k : ℕ) (rest : List ℕ) → ((j : ℕ) → StartsWithin j rest) → StartsWithin k (encode_utf8 c ++ rest)
 unfolding encode_utf8
-one_character c k rest all = go (ltb c 128) (ltb c 2048) (ltb c 65536) refl where
-  second : List ℕ
-  second = (128 + c % 64) ∷ []
-
-  third : List ℕ
-  third = (128 + (c / 64) % 64) ∷ second
-
-  fourth : List ℕ
-  fourth = (128 + (c / 4096) % 64) ∷ third
-
-  go : (a b d : Bool) → ltb c 128 ≡ a
-      → StartsWithin k
-      (cond a (c ∷ []) (cond b ((192 + c / 64) ∷ second) (cond d ((224 + c / 4096) ∷ third) ((240 + c / 262144) ∷ fourth))) ++ rest)
-  go true b d e = inr (λ h. let low = ltb-true c 128 e in absurd (omega (arith, low, h.0)), all 3)
-  go false true d e = inr (lead 192 (c / 64) (lit≤ tt), inl (inside c, lit< tt, all 2))
-  go false false true e =
-      inr (lead 224 (c / 4096) (lit≤ tt), inl (inside (c / 64), lit< tt, inl (inside c, lit< tt, all 1)))
-  go false false false e =
-      inr (
-        lead 240 (c / 262144) (lit≤ tt),
-        inl (inside (c / 4096), lit< tt, inl (inside (c / 64), lit< tt, inl (inside c, lit< tt, all 0))),
-      )
+one_character c k rest all = grind arith
 
 all_characters : (cs : List ℕ) (k : ℕ) → StartsWithin k (encode_utf8_all cs)
 all_characters [] k = tt

@@ -1,5 +1,5 @@
 -- An fmtp line is printed with the values that it was read as and that print something, and is read as these again.
-use Rattle.str0m_signal.proofs.Common.{◌≡◌, ◌≢◌, ◌⊎◌, ◌≤◌, ℕ, List, [], ◌∷◌, map, filter, length, refl, sym, subst, arith, inl, inr, AllByRecursion, join_with_byte, cases_Bool, ltb-true, param_text, params_read, FormatParam, BarePtList, BareRange, IsPlainPair, joined_pair, media_attribute_text, is_shown, shown_line, Fmtp, IsRest}
+use Rattle.str0m_signal.proofs.Common.{rules, ◌≡◌, ◌≢◌, ◌⊎◌, ◌≤◌, ℕ, List, [], ◌∷◌, map, filter, refl, subst, arith, inl, inr, AllByRecursion, join_with_byte, cases_Bool, ltb-true, param_text, params_read, FormatParam, BarePtList, BareRange, IsPlainPair, joined_pair, media_attribute_text, is_shown, shown_line, Fmtp, IsRest}
 use Rattle.str0m_formats.proofs.PairsAgain.{IsPairsLine, pairs_again}
 use Rattle.str0m_signal.specs.Fmtp.{IsFmtp}
 use Rattle.str0m_signal.specs.MediaAttribute.{IsMediaLine}
@@ -9,11 +9,7 @@ use Rattle.str0m_signal.proofs.Formats.{AreShown, FmtpValues, all_shown, list_sh
 -- the values that print something do
 shown_are : (values : List FormatParam) → AreShown (filter is_shown values)
 shown_are [] = tt
-shown_are (v ∷ vs) =
-    elim (cases_Bool (is_shown v)) [
-      | inl shown ↦ rw shown (ltb-true 0 (length (param_text v)) shown, shown_are vs)
-      | inr hidden ↦ rw hidden (shown_are vs)
-    ]
+shown_are (v ∷ vs) = grind (arith, cases_Bool, ltb-true, shown_are vs)
 
 -- the line of values that are all shown is read as these
 abbrev IsLineOf : ℕ → List FormatParam → Type 0
@@ -31,20 +27,17 @@ of_pairs pt v vs (p ∷ ps) small shows plain text read some =
 
 of_line : (pt : ℕ) (shown : List FormatParam) → pt ≤ 127 → AreShown shown → IsPairsLine shown → IsLineOf pt shown ⊎ (shown ≡ [])
 of_line pt [] small shows line = inr refl
-of_line pt (v ∷ vs) small shows line =
-    inl (of_pairs pt v vs line.pairs small shows line.plain line.text line.read (line.some (λ e. absurd cc)))
+of_line pt (v ∷ vs) small shows line = grind (arith, of_pairs pt v vs line.pairs small shows line.plain line.text line.read)
 
 -- one value that prints something
 one_shown : (pt : ℕ) (v : FormatParam) → IsRest (param_text v)
     → IsPrintedAs IsMediaLine (media_attribute_text (Fmtp pt (v ∷ []))) (Fmtp pt (v ∷ [])) → IsLineOf pt (filter is_shown (v ∷ []))
-one_shown pt v shown line =
-    subst (λ (vs : List FormatParam). IsPrintedAs IsMediaLine (shown_line pt (filter is_shown (v ∷ []))) (Fmtp pt vs))
-    (sym (all_shown (v ∷ []) (shown, tt))) line
+one_shown pt v shown line = grind arith
 
 values_again : (pt : ℕ) (more : List ℕ) (values : List FormatParam) → pt ≤ 127 → FmtpValues more values
     → IsLineOf pt (filter is_shown values) ⊎ (filter is_shown values ≡ [])
 values_again pt more values small (inl (blanks, text, pairs, joined, are_blanks, are_pairs, read)) =
-    of_line pt (filter is_shown values) small (shown_are values) (pairs_again pairs values read)
+    search (rules, of_line, shown_are, pairs_again)
 values_again pt more values small (inr (no_pairs, inl (first, second, others, (body, e, parts), is))) =
     rw is (inl (one_shown pt (BarePtList first) (list_shown first parts.3.fits) (list_printed pt first (BarePtList first) refl small parts.3.fits)))
 values_again pt more values small (inr (no_pairs, inr (no_list, inl (last, (body, e, range), is)))) =

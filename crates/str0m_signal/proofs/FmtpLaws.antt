@@ -1,5 +1,5 @@
 -- The pairs of an fmtp line are read exactly where they stand.
-use Rattle.str0m_signal.proofs.Common.{◌≡◌, ◌⊎◌, ℕ, suc, ◌<◌, Bool, true, false, cond, List, [], ◌∷◌, ◌++◌, length, Option, Some, None, refl, sym, ap, subst, ◌∙◌, arith, inl, inr, length-append, codes, ne_eqb, ltb-true, lt-ltb, cases_eq, both_ways, append-nil, some_pair_parts, FormatParam, Lacks, IsRest, Bor, pair_texts, pairs_read_is, params_read, FirstFit, lacks, ◌>>=◌, cut, strip, when, is_rest, num, before, cut_at, cut_found, strip_found, strip_at, when_some, lacks_true, lacks_from, Lacks-append, bind_some, some_is, if_some, reads_first, rest_true, number_lacks, num_found, num_reads, before_front, Reads, AreRead, pairs_read_only, front, before_lacks}
+use Rattle.str0m_signal.proofs.Common.{◌≡◌, ◌⊎◌, ℕ, suc, ◌<◌, Bool, true, false, List, [], ◌∷◌, ◌++◌, length, Option, Some, None, refl, sym, ap, subst, ◌∙◌, arith, inl, inr, length-append, codes, ne_eqb, ltb-true, lt-ltb, cases_eq, both_ways, append-nil, some_pair_parts, FormatParam, Lacks, IsRest, Bor, pair_texts, pairs_read_is, params_read, FirstFit, lacks, ◌>>=◌, cut, strip, when, is_rest, num, before, cut_at, cut_found, strip_found, strip_at, when_some, lacks_true, lacks_from, Lacks-append, bind_some, some_is, if_some, reads_first, rest_true, number_lacks, num_found, num_reads, before_front, Reads, AreRead, pairs_read_only, front, before_lacks}
 use Rattle.str0m_signal.specs.Fmtp.{IsBlank, AreBlanks, IsKey, IsValue, IsEnd, StartsPlain, IsPair, ArePairs, IsPairsForm, IsListForm, IsRangeForm, IsAnything, IsFmtp}
 use Rattle.str0m_signal.specs.FmtpReading.{value_read, skip_blanks, next_read, key_read, pair_read, pairs_read, pairs_form_read, fmtp_values_read, fmtp_fields_read}
 use Rattle.str0m_signal.proofs.BareLaws.{bare_both}
@@ -17,27 +17,10 @@ before_keeps c d text h = go (cut c text) refl
     go (Some p) e = Lacks-append d p.0 (c ∷ p.1) (rw (cut_found c text p.0 p.1 e).0 at h)
 
 pub value_found : (text value rest : List ℕ) → value_read text ≡ Some (value, rest) → (text ≡ value ++ rest) × IsValue value
-value_found text value rest e =
-    let v = before 9 (before 32 (before 59 text)) in
-    let a = bind_some (when (is_rest v) v) (λ filled. strip filled text >>= λ rest. Some (filled, rest)) (value, rest) e in
-    let b = bind_some (strip a.0 text) (λ rest. Some (a.0, rest)) (value, rest) a.2 in
-    let w = when_some (is_rest v) v a.0 a.1 in
-    let pair = some_pair_parts a.0 value b.0 rest b.2 in
-    let same : v ≡ value = w.1 ∙ pair.0 in
-    let semicolon : Lacks 59 v = before_keeps 9 59 (before 32 (before 59 text)) (before_keeps 32 59 (before 59 text) (before_lacks 59 text)) in
-    let space : Lacks 32 v = before_keeps 9 32 (before 32 (before 59 text)) (before_lacks 32 (before 59 text)) in
-    let filled : IsRest v = ltb-true 0 (length v) w.0 in (
-      strip_found a.0 text b.0 b.1 ∙ ap (λ (t : List ℕ). t ++ b.0) pair.0 ∙ ap (λ (t : List ℕ). value ++ t) pair.1,
-      subst IsValue same (filled, semicolon, space, before_lacks 9 (before 32 (before 59 text))),
-    )
+value_found text value rest e = grind (arith, bind_some, when_some, some_pair_parts, before_keeps, before_lacks, ltb-true, strip_found)
 
 pub key_found : (text key : List ℕ) → Lacks 61 text → key_read text ≡ Some key → (text ≡ key) × IsKey key
-key_found text key equals e =
-    let a = if_some (lacks 32 text) (cond (lacks 9 text) (when (is_rest text) text) None) key e in
-    let b = if_some (lacks 9 text) (when (is_rest text) text) key a.1 in
-    let w = when_some (is_rest text) text key b.1 in
-    let filled : IsRest text = ltb-true 0 (length text) w.0 in
-    (w.1, subst IsKey w.1 (filled, equals, lacks_from 32 text a.0, lacks_from 9 text b.0))
+key_found text key equals e = grind (arith, if_some, when_some, ltb-true, lacks_from)
 
 pub key_given : (key : List ℕ) → IsKey key → key_read key ≡ Some key
 key_given key h = rw (lacks_true 32 key h.2, lacks_true 9 key h.3, rest_true key h.0) refl
@@ -59,24 +42,13 @@ skips_more b xs is e more = record {
 
 pub skips : (text : List ℕ) → Skips text
 skips [] = record { blanks = []; joined = refl; are = tt; plain = λ h. absurd (omega (arith, h)) }
-skips (x ∷ xs) =
-    elim (cases_eq x 32) [
-      | inl space ↦ rw space (skips_more 32 xs (inl refl) refl (skips xs))
-      | inr other ↦ elim (cases_eq x 9) [
-        | inl tab ↦ rw tab (skips_more 9 xs (inr refl) refl (skips xs))
-        | inr plain ↦
-            let here : skip_blanks (x ∷ xs) ≡ x ∷ xs = rw (ne_eqb x 32 other, ne_eqb x 9 plain) refl in
-            record { blanks = []; joined = sym here; are = tt; plain = λ h. subst StartsPlain (sym here) (λ (b : IsBlank x). elim b [ inl e ↦ other e | inr e ↦ plain e ]) }
-      ]
-    ]
+skips (x ∷ xs) = grind (arith, cases_eq, skips_more, skips xs, ne_eqb)
 
 pub starts_kept : (text : List ℕ) → StartsPlain text → skip_blanks text ≡ text
-starts_kept [] h = refl
-starts_kept (x ∷ xs) h = rw (ne_eqb x 32 (λ e. h (inl e)), ne_eqb x 9 (λ e. h (inr e))) refl
+starts_kept text h = grind arith
 
 starts_filled : (text : List ℕ) → StartsPlain text → IsRest text
-starts_filled [] h = absurd h
-starts_filled (x ∷ xs) h = omega arith
+starts_filled text h = grind arith
 
 blanks_gone : (blanks : List ℕ) → AreBlanks blanks → skip_blanks blanks ≡ []
 blanks_gone blanks h = ap skip_blanks (sym (append-nil blanks)) ∙ IsBlank-skip blanks [] h
@@ -107,12 +79,8 @@ next_found (x ∷ xs) next e =
     go text t behind s false e = inr (s.blanks, behind ∙ ap (λ (u : List ℕ). codes ";" ++ u) (s.joined ∙ ap (λ (u : List ℕ). s.blanks ++ u) (empty (skip_blanks t) e) ∙ append-nil s.blanks), s.are)
 
 pair_of : (text : List ℕ) (pair : List ℕ × List ℕ) (next : Option (List ℕ)) (tail : List ℕ) → text ≡ pair.0 ++ (codes "=" ++ (pair.1 ++ tail)) → IsKey pair.0 → IsValue pair.1 → Follows (skip_blanks tail) next → IsPair text pair next
-pair_of text pair None tail e key value h =
-    let s = skips tail in
-    (s.blanks, skip_blanks tail, e ∙ ap (λ (t : List ℕ). pair.0 ++ (codes "=" ++ (pair.1 ++ t))) s.joined, key, value, s.are, h)
-pair_of text pair (Some more) tail e key value h =
-    let s = skips tail in
-    (s.blanks, h.0, e ∙ ap (λ (t : List ℕ). pair.0 ++ (codes "=" ++ (pair.1 ++ t))) (s.joined ∙ ap (λ (t : List ℕ). s.blanks ++ t) h.1), key, value, s.are, h.2, h.3)
+pair_of text pair None tail e key value h = grind (arith, skips tail)
+pair_of text pair (Some more) tail e key value h = grind (arith, skips tail)
 
 pub pair_found : (text : List ℕ) (pair : List ℕ × List ℕ) (next : Option (List ℕ)) → pair_read text ≡ Some (pair, next) → IsPair text pair next
 pair_found text pair next e =
@@ -129,13 +97,7 @@ pair_found text pair next e =
     subst (λ (p : List ℕ × List ℕ). IsPair text p next) same.0 (subst (IsPair text (k.0, v.0.0)) same.1 made)
 
 pub pair_shorter : (text : List ℕ) (pair : List ℕ × List ℕ) (more : List ℕ) → pair_read text ≡ Some (pair, Some more) → length more < length text
-pair_shorter text pair more e =
-    let h = pair_found text pair (Some more) e in
-    let a = length-append pair.0 (codes "=" ++ (pair.1 ++ (h.0 ++ (codes ";" ++ (h.1 ++ more))))) in
-    let b = length-append pair.1 (h.0 ++ (codes ";" ++ (h.1 ++ more))) in
-    let c = length-append h.0 (codes ";" ++ (h.1 ++ more)) in
-    let d = length-append h.1 more in
-    omega (arith, a, b, c, d, ap length h.2)
+pair_shorter text pair more e = grind (arith, pair_found text pair (Some more) e, length-append, length-append pair.1, length-append pair.0)
 
 pub texts_push : (pairs : List (Bor (List ℕ) × Bor (List ℕ))) (key value : Bor (List ℕ)) → pair_texts (pairs ++ (key, value) ∷ []) ≡ pair_texts pairs ++ (key.now, value.now) ∷ []
 texts_push [] key value = refl
@@ -151,10 +113,7 @@ end_ends : (end : List ℕ) → IsEnd end → EndsValue end
 end_ends end h = elim h [ inl e ↦ subst EndsValue (sym e) tt | inr k ↦ subst EndsValue (sym k.1) (inl refl) ]
 
 end_read : (end : List ℕ) → IsEnd end → next_read (skip_blanks end) ≡ Some None
-end_read end h = elim h [
-  | inl e ↦ rw e refl
-  | inr k ↦ ap (λ (t : List ℕ). next_read (skip_blanks t)) k.1 ∙ rw (rest_true (59 ∷ k.0) (omega arith), blanks_gone k.0 k.2) refl
-]
+end_read end h = grind (arith, rest_true, blanks_gone)
 
 more_read : (after more : List ℕ) → AreBlanks after → StartsPlain more → next_read (59 ∷ (after ++ more)) ≡ Some (Some more)
 more_read after more h starts =
@@ -206,7 +165,7 @@ pairs_both = record {
 }
 
 pub pairs_form_of : (more text : List ℕ) (pairs : List (List ℕ × List ℕ)) (values : List FormatParam) → Some text ≡ strip (codes " ") more → Some pairs ≡ pairs_read (skip_blanks text) → AreRead pairs values → Some values ≡ pairs_form_read more
-pairs_form_of more text pairs values at read are = rw (← at, ← read) (ap (λ (t : List FormatParam). Some t) (pairs_read_only pairs values are))
+pairs_form_of more text pairs values at read are = grind (arith, pairs_read_only)
 
 values_both : Reads (FirstFit IsPairsForm (FirstFit IsListForm (FirstFit IsRangeForm IsAnything))) fmtp_values_read
 values_both = reads_first pairs_both bare_both
@@ -221,9 +180,7 @@ behind c text more e = go (cut c text) refl e
         inr (p.1, some_is more (c ∷ p.1) (sym e ∙ ap (strip p.0) found.0 ∙ strip_at p.0 (c ∷ p.1)))
 
 before_word : (number more : List ℕ) → Lacks 32 number → (more ≡ []) ⊎ ((rest : List ℕ) × (more ≡ codes " " ++ rest)) → before 32 (number ++ more) ≡ number
-before_word number more h ends =
-    let none : before 32 more ≡ [] = elim ends [ inl e ↦ rw e refl | inr k ↦ ap (before 32) k.1 ] in
-    before_front 32 number more h ∙ ap (λ (t : List ℕ). number ++ t) none ∙ append-nil number
+before_word number more h ends = grind (arith, before_front, append-nil)
 
 pub fmtp_fields_both : Reads (λ text fields. IsFmtp text fields.0 fields.1) fmtp_fields_read
 fmtp_fields_both = record { sound = found; complete = given }

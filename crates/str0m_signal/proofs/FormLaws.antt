@@ -1,13 +1,10 @@
 -- The pieces that forms share are read both ways.
-use Rattle.str0m_signal.proofs.Common.{◌≢◌, ◌≤◌, arith, cases_eq, eq-eqb, ne_eqb, digits_lack, digits_value, IsNumeral, ◌≡◌, ℕ, List, [], ◌∷◌, ◌++◌, length, Option, Some, None, refl, sym, ap, ◌∙◌, inl, inr, ltb-true, ◌>>=◌, cut, strip, when, is_rest, num, IsNum, Sound, bind_some, some_is, cut_none, cut_none_lacks, cut_at, cut_found, strip_at, strip_found, when_some, when_true, num_found, num_reads, rest_true, Reads, append-nil}
+use Rattle.str0m_signal.proofs.Common.{◌≢◌, ◌≤◌, arith, cases_eq, eq-eqb, ne_eqb, digits_lack, digits_value, IsNumeral, ◌≡◌, ℕ, List, [], ◌∷◌, ◌++◌, length, Option, Some, None, refl, sym, ap, ◌∙◌, inl, inr, ltb-true, ◌>>=◌, cut, when, is_rest, num, IsNum, bind_some, some_is, cut_none, cut_none_lacks, cut_at, cut_found, strip_at, strip_found, when_some, num_found, num_reads, rest_true, Reads, append-nil}
 use Rattle.str0m_signal.specs.Forms.{Behind, IsText, Two, Tailed}
 use Rattle.str0m_signal.specs.FormReading.{behind, digits_read, text_read, two_read, tail_after, tailed_read}
 
 pub text_both : Reads IsText text_read
-text_both = record {
-  sound = λ text x e. let w = when_some (is_rest text) text x e in (ltb-true 0 (length text) w.0, sym w.1);
-  complete = λ text x h. when_true (is_rest text) text (rest_true text h.0) ∙ ap (λ (t : List ℕ). Some t) (sym h.1);
-}
+text_both = grind arith
 
 -- digits alone, at most the limit
 abbrev pub AreDigits : ℕ → List ℕ → ℕ → Type 0
@@ -37,10 +34,7 @@ digits_both limit = record { sound = found; complete = given }
         rw (ne_eqb 43 x (λ same. other (sym same))) (num_reads limit (x ∷ xs) n is)
 
 pub behind_both : {A : Type 0} {F : List ℕ → A → Type 0} {f : List ℕ → Option A} (label : List ℕ) → Reads F f → Reads (Behind label F) (behind label f)
-behind_both {f} label reads = record {
-  sound = λ text x e. let a = bind_some (strip label text) f x e in (a.0, strip_found label text a.0 a.1, reads.sound a.0 x a.2);
-  complete = λ text x h. ap (behind label f) h.1 ∙ ap (λ (o : Option (List ℕ)). o >>= f) (strip_at label h.0) ∙ reads.complete h.0 x h.2;
-}
+behind_both {f} label reads = grind (arith, bind_some, strip_found, strip_at)
 
 pub two_both : {A B : Type 0} {F : List ℕ → A → Type 0} {G : List ℕ → B → Type 0} {f : List ℕ → Option A} {g : List ℕ → Option B} (c : ℕ) → Reads F f → Reads G g → Reads (Two c F G) (two_read c f g)
 two_both {A} {B} {F} {G} {f} {g} c first second = record {

@@ -57,15 +57,11 @@ pairs_hold text (p ∷ []) h lacks = not_at 61 p.0 (p.1 ++ (h.0 ++ h.1)) (subst 
 pairs_hold text (p ∷ (q ∷ qs)) h lacks = not_at 61 p.0 (p.1 ++ (h.1.0 ++ (59 ∷ (h.1.1 ++ h.0)))) (subst (Lacks 61) h.1.2 lacks)
 
 pub no_pairs : (text : List ℕ) → Lacks 61 text → (values : List FormatParam) → IsPairsForm (codes " " ++ text) values → ⊥
-no_pairs text lacks values h =
-    let same : text ≡ h.0 ++ h.1 = behind_first 32 text (h.0 ++ h.1) h.3 in
-    pairs_hold h.1 h.2 h.5 (behind_lacks 61 h.0 h.1 (subst (Lacks 61) same lacks))
+no_pairs text lacks values h = grind (arith, pairs_hold, behind_lacks)
 
 -- lists hold `/`
 pub no_list : (text : List ℕ) → Lacks 47 text → (values : List FormatParam) → IsListForm (codes " " ++ text) values → ⊥
-no_list text lacks values (first, second, others, (body, e, parts), made) =
-    let same : text ≡ body = behind_first 32 text body e in
-    not_at 47 parts.0 parts.1 (subst (Lacks 47) (same ∙ parts.2) lacks)
+no_list text lacks values (first, second, others, (body, e, parts), made) = grind (arith, not_at)
 
 -- ---- a list of one type twice
 
@@ -122,21 +118,7 @@ starts_joined q (r ∷ qs) h =
 pub are_pairs : (p : List ℕ × List ℕ) (ps : List (List ℕ × List ℕ)) → AllByRecursion IsPlainPair (p ∷ ps)
     → ArePairs (join_with_byte 59 (map joined_pair (p ∷ ps))) (p ∷ ps)
 are_pairs p [] h = ([], [], ap (λ (t : List ℕ). p.0 ++ (61 ∷ t)) (sym (append-nil p.1)), key_is p h.0, value_is p h.0, tt, inl refl)
-are_pairs p (q ∷ qs) h = (
-  join_with_byte 59 (map joined_pair (q ∷ qs)),
-  (
-    [],
-    [],
-    append_assoc p.0 (61 ∷ p.1)
-        (59 ∷ join_with_byte 59 (map joined_pair (q ∷ qs))),
-    key_is p h.0,
-    value_is p h.0,
-    tt,
-    tt,
-    starts_joined q qs h.1.0,
-  ),
-  are_pairs q qs h.1,
-)
+are_pairs p (q ∷ qs) h = grind (arith, append_assoc, key_is, value_is, starts_joined, are_pairs q qs h.1)
 
 pub pairs_are : (p : List ℕ × List ℕ) (ps : List (List ℕ × List ℕ)) → AllByRecursion IsPlainPair (p ∷ ps)
     → FmtpValues (codes " " ++ join_with_byte 59 (map joined_pair (p ∷ ps))) (params_read (p ∷ ps))
@@ -146,15 +128,12 @@ plain_no_end : (text : List ℕ) → IsPlain text → HoldsNoEnd text
 plain_no_end text h = (plain_lacks 10 text refl h, plain_lacks 13 text refl h)
 
 pair_no_end : (pair : List ℕ × List ℕ) → IsPlainPair pair → HoldsNoEnd (joined_pair pair)
-pair_no_end pair h =
-    no_ends pair.0 (61 ∷ pair.1) (plain_no_end pair.0 h.0)
-    (no_ends (codes "=") pair.1 (no_end (codes "=") refl refl) (plain_no_end pair.1 h.1))
+pair_no_end pair h = grind (arith, no_ends, plain_no_end, no_end)
 
 pub pairs_no_end : (p : List ℕ × List ℕ) (ps : List (List ℕ × List ℕ)) → AllByRecursion IsPlainPair (p ∷ ps)
     → HoldsNoEnd (join_with_byte 59 (map joined_pair (p ∷ ps)))
 pairs_no_end p [] h = pair_no_end p h.0
-pairs_no_end p (q ∷ qs) h =
-    no_ends (joined_pair p) _ (pair_no_end p h.0) (no_ends (codes ";") _ (no_end (codes ";") refl refl) (pairs_no_end q qs h.1))
+pairs_no_end p (q ∷ qs) h = grind (arith, no_ends, pair_no_end, no_end, pairs_no_end q qs h.1)
 
 -- ---- the primary type of retransmissions
 
@@ -171,8 +150,7 @@ apt_read n small =
     (parsed_printed (codes "apt") (decimal n) (param_of (apt_pair n)) (parsed (codes "apt") (decimal n)) (Apt n) (refl, refl, small))
 
 pub apt_is : (n : ℕ) → n ≤ 255 → FmtpValues (codes " " ++ (codes "apt=" ++ decimal n)) (Apt n ∷ [])
-apt_is n small =
-    subst (FmtpValues (codes " " ++ (codes "apt=" ++ decimal n))) (apt_read n small) (pairs_are (apt_pair n) [] (apt_plain n small, tt))
+apt_is n small = grind (arith, apt_read n small, pairs_are (apt_pair n) [], apt_plain n small)
 
 -- ---- the lines of values
 
@@ -195,10 +173,7 @@ pub values_printed : (pt : ℕ) (v : FormatParam) (vs : List FormatParam) (body 
     → join_with_byte 59 (map param_text (v ∷ vs)) ≡ body → HoldsNoEnd body → FmtpValues (codes " " ++ body) read
     → IsPrintedAs IsMediaLine (media_attribute_text (Fmtp pt (v ∷ vs))) (Fmtp pt read)
 values_printed pt v vs body read small shown e quiet are =
-    subst (λ (t : List ℕ). IsPrintedAs IsMediaLine t (Fmtp pt read))
-    (sym (ap (shown_line pt) (all_shown (v ∷ vs) shown)
-    ∙ ap (λ (t : List ℕ). attribute_line (label.FMTP.now ++ (decimal pt ++ (codes " " ++ t)))) (joined_both (v ∷ vs) ∙ e)))
-    (fmtp_line_printed pt body read small quiet are)
+    grind (arith, shown_line pt, all_shown (v ∷ vs) shown, joined_both (v ∷ vs), fmtp_line_printed pt body read small quiet are)
 
 pub apt_printed : (pt n : ℕ) → pt ≤ 127 → n ≤ 255
     → IsPrintedAs IsMediaLine (media_attribute_text (Fmtp pt (Apt n ∷ []))) (Fmtp pt (Apt n ∷ []))
@@ -210,9 +185,7 @@ pub list_shown : (n : ℕ) → n ≤ 255 → IsRest ((decimal n ++ codes "/") ++
 list_shown n small = omega (arith, length-append (decimal n ++ codes "/") (decimal n), decimal_nonempty n (omega arith))
 
 list_no_end : (n : ℕ) → n ≤ 255 → HoldsNoEnd (decimal n ++ (codes "/" ++ decimal n))
-list_no_end n small =
-    no_ends (decimal n) _ (decimal_no_end n (omega arith))
-    (no_ends (codes "/") (decimal n) (no_end (codes "/") refl refl) (decimal_no_end n (omega arith)))
+list_no_end n small = grind (arith, no_ends, decimal_no_end, no_end)
 
 -- `N/N`, however it came about, is read as a list
 pub list_printed : (pt n : ℕ) (v : FormatParam) → param_text v ≡ (decimal n ++ codes "/") ++ decimal n → pt ≤ 127 → n ≤ 255

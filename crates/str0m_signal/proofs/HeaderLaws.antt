@@ -1,10 +1,8 @@
 -- The lines of a header are read exactly where their forms hold.
-use Rattle.str0m_signal.proofs.Common.{◌≡◌, ℕ, List, [], ◌∷◌, ◌++◌, length, Some, refl, sym, ap, subst, ◌∙◌, arith, inl, inr, codes, bytes_eq, ltb-true, bytes_eq-Decides, some_pair_parts, Lacks, ◌>>=◌, cut, strip, when, is_rest, cut_at, cut_found, strip_found, when_some, when_true, bind_some, some_is, AllByRecursion, drop, digits_lack, rest_true, reads_either, Reads}
-use Rattle.str0m_signal.specs.Lines.{Line, OneLine}
+use Rattle.str0m_signal.proofs.Common.{rules, ◌≡◌, ℕ, List, [], ◌∷◌, ◌++◌, length, Some, refl, sym, ap, subst, ◌∙◌, arith, inl, inr, codes, ltb-true, bytes_eq-Decides, some_pair_parts, Lacks, ◌>>=◌, cut, strip, when, is_rest, cut_at, cut_found, strip_found, when_some, when_true, bind_some, some_is, AllByRecursion, drop, digits_lack, rest_true, reads_either, Reads}
+use Rattle.str0m_signal.specs.Lines.{Line}
 use Rattle.str0m_signal.specs.Header.{IsExactly, IsDigits, IsOrigin, IsOneField, IsInfo, IsOpening}
 use Rattle.str0m_signal.specs.Section.{IsField}
-use Rattle.str0m_signal.specs.LineReading.{line_read}
-use Rattle.str0m_signal.specs.SectionReading.{field_read}
 use Rattle.str0m_signal.specs.FormReading.{digits_read}
 use Rattle.str0m_signal.specs.HeaderReading.{exact_read, origin_read, one_field_read, info_read, opening_read}
 use Rattle.std.proofs.Math.Seq.{drop-append_seam}
@@ -13,10 +11,7 @@ use Rattle.str0m_signal.proofs.FormLaws.{digits_both}
 use Rattle.str0m_signal.proofs.SectionLaws.{field_both}
 
 pub exact_both : (word : List ℕ) → Reads (IsExactly word) (exact_read word)
-exact_both word = record {
-  sound = λ content text e. let w = when_some (bytes_eq content word) word text e in ((bytes_eq-Decides content word).0 w.0, sym w.1);
-  complete = λ content text h. when_true (bytes_eq content word) word ((bytes_eq-Decides content word).1 h.0) ∙ ap (λ (t : List ℕ). Some t) (sym h.1);
-}
+exact_both word = grind (arith, when_some, bytes_eq-Decides, when_true)
 
 -- at most 64 bits
 origin_digits : Reads IsDigits (digits_read 18446744073709551615)
@@ -70,23 +65,11 @@ fields_both (letter ∷ letters) two =
     reads_either (field_both letter) (fields_both letters two.1) (λ content text other h k. one_behind letter two.0 content text h ∙ sym (field_behind letters two.1 content other k))
 
 pub info_both : Reads IsInfo info_read
-info_both = fields_both (codes "i=" ∷ codes "u=" ∷ codes "e=" ∷ codes "p=" ∷ codes "c=" ∷ codes "z=" ∷ codes "k=" ∷ []) (refl, (refl, (refl, (refl, (refl, (refl, (refl, tt)))))))
+info_both = search (rules, fields_both)
 
 pub opening_found : (lines : List Line) (id : ℕ) (rest : List Line) → opening_read lines ≡ Some (id, rest) → IsOpening lines id rest
 opening_found lines id rest e =
-    let v = bind_some (line_read (exact_read (codes "v=0")) lines) (λ version. line_read origin_read version.1 >>= λ origin. line_read (field_read (codes "s=")) origin.1 >>= λ name. Some (origin.0, name.1)) (id, rest) e in
-    let o = bind_some (line_read origin_read v.0.1) (λ origin. line_read (field_read (codes "s=")) origin.1 >>= λ name. Some (origin.0, name.1)) (id, rest) v.2 in
-    let n = bind_some (line_read (field_read (codes "s=")) o.0.1) (λ name. Some (o.0.0, name.1)) (id, rest) o.2 in
-    let pair = some_pair_parts o.0.0 id n.0.1 rest n.2 in
-    let version = line_found (exact_both (codes "v=0")) lines v.0.0 v.0.1 v.1 in
-    record {
-      after_version = v.0.1;
-      after_origin = o.0.1;
-      name = n.0.0;
-      version_is = (version.0, version.1, version.2, (version.3.0, refl));
-      origin_is = subst (λ (i : ℕ). OneLine IsOrigin v.0.1 i o.0.1) pair.0 (line_found origin_both v.0.1 o.0.0 o.0.1 o.1);
-      name_is = subst (λ (ls : List Line). OneLine (IsField (codes "s=")) o.0.1 n.0.0 ls) pair.1 (line_found (field_both (codes "s=")) o.0.1 n.0.0 n.0.1 n.1);
-    }
+    search (rules, bind_some, some_pair_parts, line_found, line_found (field_both (codes "s=")), exact_both, origin_both, field_both (codes "s="))
 
 pub opening_given : (lines : List Line) (id : ℕ) (rest : List Line) → IsOpening lines id rest → opening_read lines ≡ Some (id, rest)
 opening_given lines id rest h =

@@ -1,5 +1,5 @@
 -- Where the first line ends.
-use Rattle.str0m_signal.proofs.Common.{◌≡◌, ◌≢◌, ℕ, suc, true, false, not, eqb, List, [], ◌∷◌, ◌++◌, length, Some, None, refl, sym, ap, ◌∙◌, arith, inl, inr, eqb-true, ne_eqb, cases_eq, and_left, and_right, append-nil, Lacks, IsRest, lacks, ◌>>=◌, lacks_true}
+use Rattle.str0m_signal.proofs.Common.{◌≡◌, ◌≢◌, ℕ, suc, true, false, not, eqb, List, [], ◌∷◌, ◌++◌, length, Some, None, refl, sym, ap, ◌∙◌, arith, inl, inr, eqb-true, ne_eqb, cases_eq, and_right, append-nil, Lacks, IsRest, lacks, ◌>>=◌, lacks_true}
 use Rattle.str0m_signal.specs.Lines.{Line, EndsIn, IsLine}
 use Rattle.str0m_signal.specs.LineReading.{is_crlf, longer, lines_of, plain_line, behind_end, IsAtEnd}
 use Rattle.str0m_signal.proofs.LineLaws.{at_other, line_here}
@@ -21,8 +21,7 @@ abbrev HoldsReturn : List Line → Type 0
 HoldsReturn lines = (line : Line) × (behind : List Line) × (lines ≡ line ∷ behind) × (lacks 13 line.content ≡ false)
 
 not_crlf_of : (x : ℕ) (xs : List ℕ) → x ≢ 13 → is_crlf x xs ≡ false
-not_crlf_of x [] other = refl
-not_crlf_of x (y ∷ ys) other = and_left (eqb x 13) (eqb y 10) (ne_eqb x 13 other)
+not_crlf_of x xs other = grind arith
 
 longer_returned : (lines : List Line) → HoldsReturn (longer 13 lines)
 longer_returned [] = (record { content = 13 ∷ []; ending = [] }, [], refl, refl)
@@ -39,19 +38,14 @@ returned (x ∷ xs) rest feed return lone =
     rw (at_other x more (lines_of more) feed.0 (not_crlf_of x more return.0)) (longer_holds x (lines_of more) (returned xs rest feed.1 return.1 lone))
 
 refused : (text a rest : List ℕ) → text ≡ a ++ (13 ∷ rest) → Lacks 10 a → Lacks 13 a → is_crlf 13 rest ≡ false → None ≡ plain_line (lines_of text)
-refused text a rest e feed return lone =
-    let h = returned a rest feed return lone in
-    sym (ap (λ (t : List ℕ). plain_line (lines_of t)) e ∙ ap plain_line h.2 ∙ rw h.3 refl)
+refused text a rest e feed return lone = grind (arith, returned)
 
 -- the line is the text up to its end, and what follows is behind that
 pub plain_cut : (text a b : List ℕ) → text ≡ a ++ b → Lacks 10 a → Lacks 13 a → IsAtEnd b → IsRest text → (behind_end b >>= λ rest. Some (a, lines_of rest)) ≡ plain_line (lines_of text)
-plain_cut text a [] e feed return stops rest =
-    let whole : text ≡ a = e ∙ append-nil a in
-    plain_here text (record { content = a; ending = [] }) [] e (record { inside = feed; ends = inr (inr (refl, refl, rw (← whole) rest)) }) return
+plain_cut text a [] e feed return stops rest = grind (arith, append-nil a, plain_here text (record { content = a; ending = [] }) [] e)
 plain_cut text a (x ∷ xs) e feed return (inl lf) rest =
-    rw lf (plain_here text (record { content = a; ending = 10 ∷ [] }) xs (e ∙ ap (λ (z : ℕ). a ++ (z ∷ xs)) lf) (record { inside = feed; ends = inl (refl, no_return_ends a return) }) return)
-plain_cut text a (x ∷ []) e feed return (inr cr) rest =
-    rw cr (refused text a [] (e ∙ ap (λ (z : ℕ). a ++ (z ∷ [])) cr) feed return refl)
+    grind (arith, plain_here text (record { content = a; ending = 10 ∷ [] }) xs, no_return_ends a return)
+plain_cut text a (x ∷ []) e feed return (inr cr) rest = grind (arith, refused)
 plain_cut text a (x ∷ (y ∷ ys)) e feed return (inr cr) rest =
     let here : text ≡ a ++ (13 ∷ y ∷ ys) = e ∙ ap (λ (z : ℕ). a ++ (z ∷ y ∷ ys)) cr in
     elim (cases_eq y 10) [
@@ -67,5 +61,4 @@ none_of_none [] e = refl
 none_of_none (x ∷ xs) e = absurd (omega (arith, eqb-true (length (x ∷ xs)) 0 e))
 
 pub rest_from : (text : List ℕ) → eqb (length text) 0 ≡ false → IsRest text
-rest_from [] e = absurd cc
-rest_from (x ∷ xs) e = omega arith
+rest_from text e = grind arith

@@ -1,5 +1,5 @@
 -- `lines_of` gives the lines of a text, and no others are.
-use Rattle.str0m_signal.proofs.Common.{◌≡◌, ◌≢◌, ◌⊎◌, ℕ, ◌<◌, ◌+◌, true, false, cond, eqb, List, [], ◌∷◌, ◌++◌, length, Option, Some, None, refl, sym, ap, ◌∙◌, arith, inl, inr, eqb-true, ne_eqb, cases_eq, cases_Bool, both_ways, and_parts, and_left, and_right, take, ◌-◌, Bor, some_pair_parts, lacks_true, lacks_from, codes, strip, ◌>>=◌, strip_found, bind_some, if_some, lacks, Reads, MatchOption, unwrap_or}
+use Rattle.str0m_signal.proofs.Common.{rules, ◌≡◌, ◌≢◌, ◌⊎◌, ℕ, ◌<◌, ◌+◌, true, false, eqb, List, [], ◌∷◌, ◌++◌, length, Option, Some, None, refl, sym, ap, ◌∙◌, arith, inl, inr, ne_eqb, cases_eq, cases_Bool, both_ways, and_right, take, ◌-◌, Bor, some_pair_parts, lacks_true, lacks_from, bind_some, if_some, Reads, MatchOption, unwrap_or}
 use Rattle.std.specs.Str.Pattern.{FindsCharSuffix}
 use Rattle.std.proofs.lemmas.Str.Pattern.{strip_suffix_char}
 use Rattle.str0m_signal.specs.Lines.{IsAttributeLine, OneLine, Line, joined, EndsIn, IsLine, AreLines, Lines}
@@ -25,8 +25,7 @@ cons_ends c x xs h = go h.0 h.1
     go (f ∷ fs) e = inr (fs, (cons_parts x f xs (fs ++ (c ∷ [])) e).1)
 
 crlf_parts : (x : ℕ) (xs : List ℕ) → is_crlf x xs ≡ true → (x ≡ 13) × ((ys : List ℕ) × (xs ≡ 10 ∷ ys))
-crlf_parts x [] e = absurd cc
-crlf_parts x (y ∷ ys) e = let p = and_parts (eqb x 13) (eqb y 10) e in (eqb-true x 13 p.0, (ys, ap (λ (z : ℕ). z ∷ ys) (eqb-true y 10 p.1)))
+crlf_parts x xs e = grind arith
 
 at_crlf : (x : ℕ) (xs : List ℕ) (lines : List Line) → x ≢ 10 → is_crlf x xs ≡ true → line_from x xs lines ≡ record { content = []; ending = 13 ∷ 10 ∷ [] } ∷ behind_first lines
 at_crlf x xs lines other e = rw (ne_eqb x 10 other, e) refl
@@ -35,53 +34,24 @@ pub at_other : (x : ℕ) (xs : List ℕ) (lines : List Line) → x ≢ 10 → is
 at_other x xs lines other e = rw (ne_eqb x 10 other, e) refl
 
 joined_longer : (x : ℕ) (lines : List Line) → joined (longer x lines) ≡ x ∷ joined lines
-joined_longer x [] = refl
-joined_longer x (line ∷ lines) = refl
+joined_longer x lines = grind arith
 
 pub joined_lines : (text : List ℕ) → joined (lines_of text) ≡ text
 unfolding lines_of
 joined_lines [] = refl
-joined_lines (x ∷ xs) =
-    elim (cases_eq x 10) [
-      | inl lf ↦ rw lf (ap (λ (t : List ℕ). 10 ∷ t) (joined_lines xs))
-      | inr other ↦ elim (cases_Bool (is_crlf x xs)) [
-        | inl crlf ↦
-            let p = crlf_parts x xs crlf in
-            let behind : 10 ∷ joined (behind_first (lines_of xs)) ≡ xs = sym (ap (λ (t : List ℕ). 10 ∷ joined (behind_first (lines_of t))) (sym p.1.1)) ∙ ap (λ (t : List ℕ). joined (lines_of t)) (sym p.1.1) ∙ joined_lines xs in
-            ap joined (at_crlf x xs (lines_of xs) other crlf) ∙ ap (λ (t : List ℕ). 13 ∷ t) behind ∙ ap (λ (z : ℕ). z ∷ xs) (sym p.0)
-        | inr plain ↦ ap joined (at_other x xs (lines_of xs) other plain) ∙ joined_longer x (lines_of xs) ∙ ap (λ (t : List ℕ). x ∷ t) (joined_lines xs)
-      ]
-    ]
+joined_lines (x ∷ xs) = search (rules, cases_eq, joined_lines xs, cases_Bool, crlf_parts, at_crlf, at_other, joined_longer)
 
 -- ---- they are lines
 
 AreLines-behind : (lines : List Line) → AreLines lines → AreLines (behind_first lines)
-AreLines-behind [] h = tt
-AreLines-behind (line ∷ lines) h = h.1
+AreLines-behind lines h = grind arith
 
 longer_line : (x : ℕ) (line : Line) (rest : List ℕ) → x ≢ 10 → is_crlf x (line.content ++ (line.ending ++ rest)) ≡ false → IsLine line rest → IsLine (record { content = x ∷ line.content; ending = line.ending }) rest
-longer_line x line rest other plain h = record {
-  inside = (other, h.inside);
-  ends = elim h.ends [
-    | inl lf ↦ inl (
-      lf.0,
-      λ e. elim (cons_ends 13 x line.content e) [
-        | inl alone ↦
-            let crlf : is_crlf x (line.content ++ (line.ending ++ rest)) ≡ true = rw (alone.1, lf.0, alone.0) refl in
-            absurd (both_ways (is_crlf x (line.content ++ (line.ending ++ rest))) plain crlf)
-        | inr behind ↦ lf.1 behind
-      ],
-    )
-    | inr more ↦ elim more [
-      | inl crlf ↦ inr (inl crlf)
-      | inr last ↦ inr (inr (last.0, last.1, omega arith))
-    ]
-  ];
-}
+longer_line x line rest other plain h =
+    grind (arith, cons_ends 13 x line.content, both_ways (is_crlf x (line.content ++ (line.ending ++ rest))) plain)
 
 AreLines-longer : (x : ℕ) (lines : List Line) → x ≢ 10 → is_crlf x (joined lines) ≡ false → AreLines lines → AreLines (longer x lines)
-AreLines-longer x [] other plain h = (record { inside = (other, tt); ends = inr (inr (refl, refl, omega arith)) }, tt)
-AreLines-longer x (line ∷ lines) other plain h = (longer_line x line (joined lines) other plain h.0, h.1)
+AreLines-longer x lines other plain h = grind (arith, longer_line)
 
 pub lines_are : (text : List ℕ) → AreLines (lines_of text)
 unfolding lines_of
@@ -101,14 +71,7 @@ lines_both text = (sym (joined_lines text), lines_are text)
 -- ---- no others are
 
 not_crlf : (x : ℕ) (content ending rest : List ℕ) → x ≢ 10 → IsLine (record { content = x ∷ content; ending = ending }) rest → is_crlf x (content ++ (ending ++ rest)) ≡ false
-not_crlf x [] ending rest other h =
-    elim h.ends [
-      | inl lf ↦ rw lf.0 (and_left (eqb x 13) true (ne_eqb x 13 (λ e. lf.1 ([], ap (λ (z : ℕ). z ∷ []) e))))
-      | inr more ↦ elim more [
-        | inl crlf ↦ rw crlf (and_right (eqb x 13) false refl)
-        | inr last ↦ rw (last.0, last.1) refl
-      ]
-    ]
+not_crlf x [] ending rest other h = grind arith
 not_crlf x (y ∷ ys) ending rest other h = and_right (eqb x 13) (eqb y 10) (ne_eqb y 10 h.inside.1.0)
 
 -- the line without its first character
@@ -126,24 +89,8 @@ shorter_ends x y content ending rest h = record {
 
 at_content : (content ending rest : List ℕ) → IsLine (record { content = content; ending = ending }) rest → lines_of (content ++ (ending ++ rest)) ≡ record { content = content; ending = ending } ∷ lines_of rest
 unfolding lines_of
-at_content [] ending rest h =
-    elim h.ends [
-      | inl lf ↦ rw lf.0 refl
-      | inr more ↦ elim more [
-        | inl crlf ↦ rw crlf refl
-        | inr last ↦ absurd (omega (arith, last.2))
-      ]
-    ]
-at_content (x ∷ []) ending rest h =
-    let other = h.inside.0 in
-    let step : lines_of (x ∷ (ending ++ rest)) ≡ longer x (lines_of (ending ++ rest)) = at_other x (ending ++ rest) (lines_of (ending ++ rest)) other (not_crlf x [] ending rest other h) in
-    step ∙ elim h.ends as (λ _. longer x (lines_of (ending ++ rest)) ≡ record { content = x ∷ []; ending = ending } ∷ lines_of rest) [
-      | inl lf ↦ rw lf.0 refl
-      | inr more ↦ elim more as (λ _. longer x (lines_of (ending ++ rest)) ≡ record { content = x ∷ []; ending = ending } ∷ lines_of rest) [
-        | inl crlf ↦ rw crlf refl
-        | inr last ↦ rw (last.0, last.1) refl
-      ]
-    ]
+at_content [] ending rest h = grind arith
+at_content (x ∷ []) ending rest h = grind arith
 at_content (x ∷ (y ∷ ys)) ending rest h =
     let other = h.inside.0 in
     at_other x (y ∷ ys ++ (ending ++ rest)) (lines_of (y ∷ ys ++ (ending ++ rest))) other (not_crlf x (y ∷ ys) ending rest other h)
@@ -152,7 +99,7 @@ at_content (x ∷ (y ∷ ys)) ending rest h =
 pub lines_of_joined : (lines : List Line) → AreLines lines → lines_of (joined lines) ≡ lines
 unfolding lines_of
 lines_of_joined [] h = refl
-lines_of_joined (line ∷ lines) h = at_content line.content line.ending (joined lines) h.0 ∙ ap (λ (ls : List Line). line ∷ ls) (lines_of_joined lines h.1)
+lines_of_joined (line ∷ lines) h = grind (arith, at_content, lines_of_joined lines h.1)
 
 pub lines_only : (text : List ℕ) (lines : List Line) → Lines text lines → lines_of text ≡ lines
 lines_only text lines h = ap lines_of h.0 ∙ lines_of_joined lines h.1
@@ -170,32 +117,15 @@ without_suffix c low line (Some x) h = inl (strip_suffix_char c line.now (Some x
 -- ---- the first line, as a relation
 
 pub attribute_both : {A : Type 0} {F : List ℕ → A → Type 0} {f : List ℕ → Option A} → Reads F f → Reads (IsAttributeLine F) (read_attribute f)
-attribute_both {A} {F} {f} reads = record { sound = found; complete = given }
-  where
-    found : (content : List ℕ) (x : A) → read_attribute f content ≡ Some x → IsAttributeLine F content x
-    found content x e =
-        let a = bind_some (strip (codes "a=") content) f x e in
-        (a.0, strip_found (codes "a=") content a.0 a.1, reads.sound a.0 x a.2)
-
-    given : (content : List ℕ) (x : A) → IsAttributeLine F content x → read_attribute f content ≡ Some x
-    given content x h = ap (read_attribute f) h.1 ∙ reads.complete h.0 x h.2
+attribute_both {A} {F} {f} reads = grind arith
 
 -- what is read of the first line, both ways
 pub line_found : {A : Type 0} {F : List ℕ → A → Type 0} {f : List ℕ → Option A} → Reads F f → (lines : List Line) (x : A) (behind : List Line) → line_read f lines ≡ Some (x, behind) → OneLine F lines x behind
 line_found {A} {F} {f} reads [] x behind e = absurd cc
-line_found {A} {F} {f} reads (line ∷ lines) x behind e =
-    let a = bind_some (cond (lacks 13 line.content) (Some (line.content, lines)) None) (λ found. f found.0 >>= λ value. Some (value, found.1)) (x, behind) e in
-    let b = if_some (lacks 13 line.content) (Some (line.content, lines)) a.0 a.1 in
-    let pair = some_pair_parts line.content a.0.0 lines a.0.1 b.1 in
-    let c = bind_some (f a.0.0) (λ value. Some (value, a.0.1)) (x, behind) a.2 in
-    let got = some_pair_parts c.0 x a.0.1 behind c.2 in
-    (line, ap (λ (ls : List Line). line ∷ ls) (pair.1 ∙ got.1), lacks_from 13 line.content b.0, reads.sound line.content x (ap f pair.0 ∙ c.1 ∙ ap (λ (v : A). Some v) got.0))
+line_found {A} {F} {f} reads (line ∷ lines) x behind e = grind (arith, bind_some, if_some, some_pair_parts, lacks_from)
 
 pub line_given : {A : Type 0} {F : List ℕ → A → Type 0} {f : List ℕ → Option A} → Reads F f → (lines : List Line) (x : A) (behind : List Line) → OneLine F lines x behind → line_read f lines ≡ Some (x, behind)
-line_given {A} {F} {f} reads lines x behind h = ap (line_read f) h.1 ∙ rw (lacks_true 13 h.0.content h.2, reads.complete h.0.content x h.3) refl
+line_given {A} {F} {f} reads lines x behind h = grind (arith, lacks_true)
 
 pub pair_is : {A B : Type 0} (x y : A × B) → x.0 ≡ y.0 → x.1 ≡ y.1 → x ≡ y
-pair_is {A} {B} x y e f =
-    let first : ◌≡◌ {A = A × B} (x.0, x.1) (y.0, x.1) = ap (λ (a : A). (a, x.1)) e in
-    let second : ◌≡◌ {A = A × B} (y.0, x.1) (y.0, y.1) = ap (λ (b : B). (y.0, b)) f in
-    first ∙ second
+pair_is {A} {B} x y e f = grind arith

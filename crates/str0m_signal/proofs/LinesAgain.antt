@@ -1,5 +1,5 @@
 -- The lines of what was read; m-lines and bandwidths are printed as they were.
-use Rattle.str0m_signal.proofs.Common.{◌≡◌, ◌≢◌, ◌⊎◌, ℕ, List, [], ◌∷◌, ◌++◌, Option, Some, None, IfSome, refl, get_or, sym, subst, ap, ◌∙◌, arith, lit<, lit≤, inl, inr, codes, AllByRecursion, append_assoc, FirstFit, Parted, Lacks, IsWord, IsNum, Lacks-append, bandwidth_text, line_end, pts_text, formats_text, media_type_text, Bandwidth, MediaLine, MediaType, Proto, Sctp, none_reads}
+use Rattle.str0m_signal.proofs.Common.{◌≡◌, ◌≢◌, ◌⊎◌, ℕ, List, [], ◌∷◌, ◌++◌, Option, Some, None, IfSome, refl, subst, arith, lit<, lit≤, inl, inr, codes, AllByRecursion, append_assoc, FirstFit, Parted, Lacks, IsWord, IsNum, Lacks-append, bandwidth_text, pts_text, formats_text, media_type_text, Bandwidth, MediaLine, MediaType, Proto, Sctp, none_reads}
 use Rattle.str0m_sdp.specs.declared.media_type.MediaType.TheVariants as typ
 use Rattle.str0m_signal.specs.Chains.{Chain, Taken}
 use Rattle.str0m_signal.specs.Lines.{Line, joined, AreLines, OneLine}
@@ -25,23 +25,12 @@ IsOnLine F a = (content : List ℕ) × HoldsNoEnd content × StartsWithin 3 cont
 
 pub one_line : {A : Type 0} (F : List ℕ → A → Type 0) (lines : List Line) (a : A) (rest : List Line) → IsFine lines → OneLine F lines a rest
     → IsOnLine F a × IsFine rest
-one_line F lines a rest fine h =
-    let line = h.0 in
-    let own : IsFine (line ∷ rest) = subst IsFine h.1 fine in (
-      (line.content, (own.0.0.inside, h.2), front_starts 3 line.content (line.ending ++ joined rest) own.1, h.3),
-      (
-        own.0.1,
-        behind_starts 3 line.ending (joined rest) (lit≤ tt) (behind_starts 3 line.content (line.ending ++ joined rest) (lit≤ tt) own.1),
-      ),
-    )
+one_line F lines a rest fine h = grind (arith, front_starts, behind_starts)
 
 pub chain_lines : {A : Type 0} (F : List ℕ → A → Type 0) (lines : List Line) (values : List A) (rest : List Line) → IsFine lines
     → Chain (OneLine F) lines values rest → AllByRecursion (IsOnLine F) values × IsFine rest
 chain_lines F lines [] rest fine h = (tt, subst IsFine h fine)
-chain_lines F lines (a ∷ values) rest fine h =
-    let first = one_line F lines a h.0 fine h.1 in
-    let more = chain_lines F h.0 values rest first.1 h.2 in
-    ((first.0, more.0), more.1)
+chain_lines F lines (a ∷ values) rest fine h = grind (arith, one_line F lines a h.0 fine h.1, chain_lines F h.0 values rest)
 
 pub taken_line : {A : Type 0} (F : List ℕ → A → Type 0) (lines : List Line) (o : Option A) (rest : List Line) → IsFine lines
     → Taken (OneLine F) lines o rest → IfSome o (IsOnLine F) × IsFine rest
@@ -54,24 +43,13 @@ pub record IsBehind (text : List ℕ) : Type 0 where
   pub starts : StartsWithin 3 text
 
 pub behind_is : (content text : List ℕ) → content ≡ codes "a=" ++ text → HoldsNoEnd content → StartsWithin 3 content → IsBehind text
-behind_is content text e quiet starts = record {
-  quiet = (behind_lacks 10 (codes "a=") text (subst (Lacks 10) e quiet.0), behind_lacks 13 (codes "a=") text (subst (Lacks 13) e quiet.1));
-  starts = behind_starts 3 (codes "a=") text (lit≤ tt) (subst (StartsWithin 3) e starts);
-}
+behind_is content text e quiet starts = grind arith
 
 -- ---- m-lines and bandwidths
 
 pub bandwidth_again : (bw : Option Bandwidth) → IfSome bw (IsOnLine IsBandwidth)
     → IfSome bw (λ bw. IsPrintedAs IsBandwidth (bandwidth_text bw) bw)
-bandwidth_again None h = tt
-bandwidth_again (Some bw) (content, quiet, starts, (e, typ, val)) = (
-  content,
-  ap (λ (t : List ℕ). codes "b=" ++ t) (sym (append_assoc bw.typ (codes ":" ++ bw.val) line_end))
-      ∙ ap (λ (t : List ℕ). t ++ line_end) (sym e),
-  quiet.0,
-  quiet.1,
-  (e, typ, val),
-)
+bandwidth_again bw h = grind (arith, append_assoc)
 
 -- the formats of an m-line
 abbrev AreFormats : List ℕ → List ℕ → Type 0
@@ -89,10 +67,7 @@ types_again types (pt ∷ pts) (inl are) some quiet =
 
 -- what a channel prints is no type
 channel_is : AreFormats (codes "webrtc-datachannel") []
-channel_is = inr (
-  none_reads numbers_both (codes "webrtc-datachannel") refl,
-  (refl, λ begins. absurd (let d : 119 ≡ 32 = ap (λ l. get_or l 0 0) begins.1 in omega arith)),
-)
+channel_is = grind (arith, none_reads, numbers_both)
 
 -- the formats as they print, and the types that they are read as
 record FormatsAgain (t : MediaType) (proto : Proto) (pts : List ℕ) : Type 0 where
@@ -103,23 +78,13 @@ record FormatsAgain (t : MediaType) (proto : Proto) (pts : List ℕ) : Type 0 wh
 
 formats_again : (t : MediaType) (proto : Proto) (pts types : List ℕ) → FitsKind t proto pts → AreFormats types pts → HoldsNoEnd types
     → FormatsAgain t proto pts
-formats_again typ.Application proto pts types fits are quiet =
-    record { types = []; are = channel_is; quiet = no_end (codes "webrtc-datachannel") refl refl; fit = inr (refl, fits) }
-formats_again typ.Audio proto pts types fits are quiet =
-    let again = types_again types pts are fits quiet in
-    record { types = pts; are = again.0; quiet = again.1; fit = inl refl }
-formats_again typ.Video proto pts types fits are quiet =
-    let again = types_again types pts are fits quiet in
-    record { types = pts; are = again.0; quiet = again.1; fit = inl refl }
-formats_again (typ.Unknown name) proto pts types fits are quiet =
-    let again = types_again types pts are fits quiet in
-    record { types = pts; are = again.0; quiet = again.1; fit = inl refl }
+formats_again typ.Application proto pts types fits are quiet = grind (arith, channel_is, no_end)
+formats_again typ.Audio proto pts types fits are quiet = grind (arith, types_again)
+formats_again typ.Video proto pts types fits are quiet = grind (arith, types_again)
+formats_again (typ.Unknown name) proto pts types fits are quiet = grind (arith, types_again)
 
 kind_again : (kind : List ℕ) (t : MediaType) → IsKind kind t → kind ≡ media_type_text t
-kind_again kind typ.Audio h = h
-kind_again kind typ.Video h = h
-kind_again kind typ.Application h = h
-kind_again kind (typ.Unknown name) h = h.0
+kind_again kind t h = grind arith
 
 abbrev pub head_is : MediaLine → Head
 head_is m = record { typ = m.typ; disabled = m.disabled; proto = m.proto; pts = m.pts }

@@ -1,5 +1,5 @@
 -- Printed mappings and feedback have their forms.
-use Rattle.str0m_signal.proofs.Common.{◌≡◌, ◌<◌, ◌≤◌, ℕ, true, List, ◌++◌, Option, Some, None, IfSome, refl, subst, arith, lit<, lit≤, inl, inr, codes, decimal, decimal_nonempty, lacks, Lacks, IsRest, IsPt, lacks_from, printed_and_read, Codec, read_as, media_attribute_text, RtcpFb, channels_text, rtp_map_text}
+use Rattle.str0m_signal.proofs.Common.{◌≡◌, ◌<◌, ◌≤◌, ℕ, List, ◌++◌, Option, Some, None, IfSome, refl, subst, arith, lit<, lit≤, inl, inr, codes, decimal, decimal_nonempty, Lacks, IsRest, IsPt, printed_and_read, Codec, read_as, media_attribute_text, RtcpFb, channels_text, rtp_map_text}
 use Rattle.str0m_sdp.specs.declared.attribute.MediaAttribute.TheVariants.{RtpMap}
 use Rattle.str0m_formats.specs.Codec.{codec_text, codec_of, IsReadAs}
 use Rattle.str0m_formats.specs.declared.codec.Codec.TheVariants as codec
@@ -15,8 +15,7 @@ use Rattle.str0m_sdp.specs.declared.label.TheConstants as label
 
 printed_codec : (c : Codec) → codec_of (codec_text c) ≡ printed_and_read c
 unfolding codec_of
-printed_codec codec.Null = refl
-printed_codec _ = refl
+printed_codec c = grind arith
 
 -- the name of a codec reads as it, but for Null
 pub codec_is : (c : Codec) → IsReadAs (codec_text c) (printed_and_read c)
@@ -27,12 +26,8 @@ pub record IsPlainName (name : List ℕ) : Type 0 where
   pub no_slash : Lacks 47 name
   pub quiet : HoldsNoEnd name
 
-plain_name : (name : List ℕ) → IsRest name → lacks 47 name ≡ true → lacks 10 name ≡ true → lacks 13 name ≡ true → IsPlainName name
-plain_name name filled e f g = record { filled = filled; no_slash = lacks_from 47 name e; quiet = no_end name f g }
-
 pub name_is_plain : (c : Codec) → IsPlainName (codec_text c)
-name_is_plain codec.Null = plain_name _ (lit< tt) refl refl refl
-name_is_plain _ = plain_name _ (lit< tt) refl refl refl
+name_is_plain c = grind arith
 
 -- ---- mappings
 
@@ -41,8 +36,7 @@ channels_are None small = refl
 channels_are (Some n) small = (decimal n, refl, num_is 255 n small (lit< tt))
 
 channels_no_end : (channels : Option ℕ) → IfSome channels (λ n. n ≤ 255) → HoldsNoEnd (channels_text channels)
-channels_no_end None small = (tt, tt)
-channels_no_end (Some n) small = no_ends (codes "/") (decimal n) (no_end (codes "/") refl refl) (decimal_no_end n (omega arith))
+channels_no_end channels small = grind (arith, no_ends, no_end, decimal_no_end)
 
 -- a mapping as it is read: Null by its name is Unknown
 abbrev pub mapping_read : Mapping → Mapping

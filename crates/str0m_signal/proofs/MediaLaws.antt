@@ -1,12 +1,11 @@
 -- A section's attribute is read exactly where its form holds.
-use Rattle.str0m_signal.proofs.Common.{◌≡◌, ℕ, List, length, Some, refl, sym, ap, ◌∙◌, ltb-true, setup_text, is_rest, beginning_of, beginning_is, beginning_only, reads_first, candidate_both, when_some, when_true, rest_true, num_both}
+use Rattle.str0m_signal.proofs.Common.{refl, reads_first}
 use Rattle.str0m_values.proofs.BothWays.{Reads}
 use Rattle.str0m_sdp.specs.declared.attribute.MediaAttribute.TheVariants.{Unused}
 use Rattle.str0m_signal.specs.LineReading.{read_attribute}
 use Rattle.str0m_signal.specs.MediaAttribute.{plain_forms, media_forms, letters, IsMediaLine, media_read}
 use Rattle.str0m_signal.proofs.AttributesAgain.{PlainForm, plain_laws}
 use Rattle.str0m_signal.proofs.FmtpLaws.{fmtp_fields_both}
-use Rattle.str0m_signal.proofs.FormLaws.{text_both, two_both, tailed_both}
 use Rattle.str0m_signal.proofs.LineLaws.{attribute_both}
 use Rattle.str0m_signal.proofs.RtpMapLaws.{rtpmap_fields_both}
 use Rattle.str0m_signal.proofs.TableAgain.{laws_of}

@@ -1,5 +1,5 @@
 -- Rounds of sections, one after another.
-use Rattle.str0m_signal.proofs.Common.{◌≡◌, ◌<◌, ◌+◌, ◌++◌, ℕ, Bool, true, false, cond, List, [], ◌∷◌, Option, Some, None, Result, Ok, Err, All, IfOk, IfSome, length, take, get_or, map, filter_map, option_map, option_to_list, refl, sym, ap, subst, ◌∙◌, All-nil, All-cons, All-head, All-tail, PayloadParams, Round, is_media, HasBoundedRows, MediaLine, OnErr, map-append, IsBounded}
+use Rattle.str0m_signal.proofs.Common.{arith, ◌≡◌, ◌<◌, ◌+◌, ◌++◌, ℕ, Bool, cond, List, [], ◌∷◌, Option, Some, None, Result, All, IfOk, IfSome, length, take, get_or, map, filter_map, option_map, option_to_list, sym, subst, All-nil, All-cons, All-head, All-tail, PayloadParams, Round, is_media, HasBoundedRows, MediaLine, OnErr, map-append, IsBounded}
 use Rattle.str0m_sdp.proofs.FilterMapLaws.{all_mapped, map_more}
 use Rattle.str0m_sdp.specs.SectionDirection.{section_direction}
 use Rattle.str0m_sdp.specs.SectionRows.{rows}
@@ -7,25 +7,18 @@ use Rattle.str0m_signal.specs.Negotiation.{AreRoundsOf, brought, brought_by}
 use Rattle.str0m_values.specs.declared.direction.Direction.{Direction}
 
 map_found : {Y Z : Type 0} (g : Y → Z) (found : Option Y) → map g (option_to_list found) ≡ option_to_list (option_map g found)
-map_found g None = refl
-map_found g (Some y) = refl
+map_found g found = grind arith
 
 -- what is found of one item more is appended
 pub one_more : {X Y Z : Type 0} (f : X → Option Z) (g : Y → Z) (xs : List X) (i : ℕ) (x : X) (ys more : List Y) (found : Option Y)
     → i < length xs → x ≡ get_or xs i x → option_map g found ≡ f x → more ≡ ys ++ option_to_list found
     → map g ys ≡ filter_map f (take i xs) → map g more ≡ filter_map f (take (i + 1) xs)
-one_more {X} {Y} {Z} f g xs i x ys more found lt is reads appended before =
-    ap (λ (ys : List Y). map g ys) appended
-    ∙ map-append g ys (option_to_list found)
-    ∙ ap (λ (zs : List Z). zs ++ map g (option_to_list found)) before
-    ∙ ap (λ (zs : List Z). filter_map f (take i xs) ++ zs) (map_found g found ∙ ap (λ (o : Option Z). option_to_list o) reads)
-    ∙ sym (map_more f xs i x lt is)
+one_more {X} {Y} {Z} f g xs i x ys more found lt is reads appended before = grind (arith, map-append, map_found, map_more)
 
 -- what a call keeps where it succeeds stands where it fails and changes nothing
 pub kept_or_same : {A E S : Type 0} (P : S → Type 0) (Q : A → Type 0) (result : Result A E) (old new : S)
     → ((answer : A) → Q answer → P old → P new) → IfOk result Q → OnErr result (new ≡ old) → P old → P new
-kept_or_same P Q (Ok answer) old new keeps ok err before = keeps answer ok before
-kept_or_same P Q (Err error) old new keeps ok err before = subst P (sym err) before
+kept_or_same P Q result old new keeps ok err before = grind arith
 
 -- ---- what the rounds of sections bring
 
@@ -34,8 +27,7 @@ abbrev BringsBounded : List PayloadParams × Direction → Type 0
 BringsBounded (remote, direction) = All IsBounded remote
 
 when_media : (b : Bool) (m : MediaLine) → HasBoundedRows m → IfSome (cond b (Some (rows m, section_direction m.attrs)) None) BringsBounded
-when_media true m bounded = bounded
-when_media false m bounded = tt
+when_media b m bounded = grind arith
 
 -- what holds of all images holds of the image of each
 of_images : {X Y : Type 0} (P : Y → Type 0) (f : X → Y) (xs : List X) → All P (map f xs) → All (λ x. P (f x)) xs

@@ -15,8 +15,7 @@ split_whole c [] h = refl
 split_whole c (x ∷ xs) h = rw (ne_eqb x c h.0) (ap (onto_first x) (split_whole c xs h.1))
 
 pub regroup : {A : Type 0} (front : List A) (x : A) (o : Option (List A)) → with_front (front ++ x ∷ []) o ≡ with_front front (o >>= λ xs. Some (x ∷ xs))
-regroup front x None = refl
-regroup front x (Some xs) = ap (λ t. Some t) (append_assoc front (x ∷ []) xs)
+regroup front x o = grind (arith, append_assoc)
 
 pub cons_parts : {A : Type 0} (x y : A) (xs ys : List A) → x ∷ xs ≡ y ∷ ys → (x ≡ y) × (xs ≡ ys)
 cons_parts x y xs ys e = (cc, cc)
@@ -35,9 +34,7 @@ PutsLast old item new = new.items ≡ old.items ++ item ∷ []
 -- what was read is taken, where memory wasn't refused
 pub takes_read : {A E : Type 0} (answer : Result (Option A) E) (read : Option A) (old new : Vec A Global) (taken : Bool) → IfOk answer (λ found. found ≡ read)
     → (found : Option A) × (answer ≡ Ok found) × Takes PutsLast found old new taken → Takes PutsLast read old new taken
-takes_read {A} {E} answer read old new taken ensures given =
-    let same : given.0 ≡ read = subst (λ (a : Result (Option A) E). IfOk a (λ found. found ≡ read)) given.1 ensures in
-    subst (λ (o : Option A). Takes PutsLast o old new taken) same given.2
+takes_read {A} {E} answer read old new taken ensures given = grind arith
 
 module _ {A : Type 0} (c : ℕ) (f : List ℕ → Option A) where
   pub parted_at : (a b : List ℕ) → Lacks c a → parted_read c f (a ++ (c ∷ b)) ≡ (f a >>= λ x. parted_read c f b >>= λ xs. Some (x ∷ xs))
@@ -54,38 +51,27 @@ module _ {A : Type 0} (c : ℕ) (f : List ℕ → Option A) where
 
   -- one more part, or none
   pub part_more : (text : List ℕ) (front : List A) (rest a b : List ℕ) (x : A) → cut c rest ≡ Some (a, b) → f a ≡ Some x → with_front front (parted_read c f rest) ≡ parted_read c f text → with_front (front ++ x ∷ []) (parted_read c f b) ≡ parted_read c f text
-  part_more text front rest a b x cut-is is so_far =
-      let one : parted_read c f rest ≡ (parted_read c f b >>= λ xs. Some (x ∷ xs)) = parted_cut rest a b cut-is ∙ rw is refl in
-      regroup front x (parted_read c f b) ∙ ap (with_front front) (sym one) ∙ so_far
+  part_more text front rest a b x cut-is is so_far = grind (arith, parted_cut rest a b cut-is, regroup front x (parted_read c f b))
 
   pub part_fails : (text : List ℕ) (front : List A) (rest a b : List ℕ) → cut c rest ≡ Some (a, b) → f a ≡ None → with_front front (parted_read c f rest) ≡ parted_read c f text → None ≡ parted_read c f text
-  part_fails text front rest a b cut-is is so_far =
-      let one : parted_read c f rest ≡ None = parted_cut rest a b cut-is ∙ rw is refl in
-      sym (ap (with_front front) one) ∙ so_far
+  part_fails text front rest a b cut-is is so_far = grind (arith, parted_cut rest a b cut-is)
 
   pub part_ends : (text : List ℕ) (front : List A) (rest : List ℕ) (x : A) → cut c rest ≡ None → f rest ≡ Some x → with_front front (parted_read c f rest) ≡ parted_read c f text → Some (front ++ x ∷ []) ≡ parted_read c f text
-  part_ends text front rest x cut-is is so_far =
-      let one : parted_read c f rest ≡ Some (x ∷ []) = parted_end rest cut-is ∙ rw is refl in
-      sym (ap (with_front front) one) ∙ so_far
+  part_ends text front rest x cut-is is so_far = grind (arith, parted_end)
 
   pub part_ends_fail : (text : List ℕ) (front : List A) (rest : List ℕ) → cut c rest ≡ None → f rest ≡ None → with_front front (parted_read c f rest) ≡ parted_read c f text → None ≡ parted_read c f text
-  part_ends_fail text front rest cut-is is so_far =
-      let one : parted_read c f rest ≡ None = parted_end rest cut-is ∙ rw is refl in
-      sym (ap (with_front front) one) ∙ so_far
+  part_ends_fail text front rest cut-is is so_far = grind (arith, parted_end)
 
   -- ---- whether all are parts
 
   decides : (o : Option A) (p : Option (List A)) → is_some o ≡ true → is_some (o >>= λ x. p >>= λ xs. Some (x ∷ xs)) ≡ is_some p
-  decides None p e = absurd cc
-  decides (Some x) p e = some_bound p x
+  decides o p e = grind arith
 
   ends : (o : Option A) (p : Option (List A)) → is_some o ≡ false → is_some (o >>= λ x. p >>= λ xs. Some (x ∷ xs)) ≡ false
-  ends None p e = refl
-  ends (Some x) p e = absurd cc
+  ends o p e = grind arith
 
   alone_some : (o : Option A) → is_some (o >>= λ x. Some (x ∷ [])) ≡ is_some o
-  alone_some None = refl
-  alone_some (Some x) = refl
+  alone_some o = grind arith
 
   -- behind a part, the rest decides
   pub one_part : (rest a b : List ℕ) → cut c rest ≡ Some (a, b) → is_some (f a) ≡ true → is_some (parted_read c f rest) ≡ is_some (parted_read c f b)

@@ -1,5 +1,5 @@
 -- Some of the rows that may be printed may be printed, where there is one.
-use Rattle.str0m_signal.proofs.Common.{◌≡◌, ◌≢◌, ◌≤◌, ℕ, Bool, true, false, cond, filter, List, [], ◌∷◌, sym, subst, ◌∙◌, arith, AllByRecursion, recursion_from_All, types, types_of, PayloadParams, IsPlain, All-from_recursion, times}
+use Rattle.str0m_signal.proofs.Common.{◌≡◌, ◌≢◌, ◌≤◌, ℕ, Bool, true, false, cond, filter, List, [], ◌∷◌, arith, AllByRecursion, recursion_from_All, types, types_of, PayloadParams, IsPlain, All-from_recursion, times}
 use Rattle.str0m_formats.proofs.Times.{times-append}
 use Rattle.str0m_signal.specs.ReadBack.{MayBePrinted}
 
@@ -33,5 +33,4 @@ module _ (pick : PayloadParams → Bool) where
   }
 
   pub printable_as : (rows picked : List PayloadParams) → MayBePrinted rows → picked ≡ filter pick rows → picked ≢ [] → MayBePrinted picked
-  printable_as rows picked may e some =
-      subst MayBePrinted (sym e) (picked_printable rows may (λ none. some (e ∙ none)))
+  printable_as rows picked may e some = grind (arith, picked_printable)

@@ -1,5 +1,5 @@
 -- Pieces of lines that are printed as they were read: each has its form again, and holds no character that it hadn't.
-use Rattle.str0m_signal.proofs.Common.{◌≤◌, ◌<◌, ◌^◌, ℕ, List, [], ◌∷◌, ◌++◌, refl, sym, subst, arith, inl, digit_value, decimal, join_by, append-nil, Parted, Lacks, IsRest, IsNum, Lacks-append, lacks_both}
+use Rattle.str0m_signal.proofs.Common.{◌≤◌, ◌<◌, ◌^◌, ℕ, List, [], ◌∷◌, ◌++◌, refl, sym, subst, arith, inl, digit_value, decimal, join_by, append-nil, Parted, Lacks, IsNum, Lacks-append, lacks_both}
 use Rattle.str0m_signal.specs.Forms.{Behind, IsText, Two, Tailed}
 use Rattle.str0m_signal.proofs.Formats.{behind_lacks}
 use Rattle.str0m_signal.proofs.PrintedAttributes.{num_is, decimal_lacks}
@@ -10,10 +10,7 @@ pub record Again {A : Type 0} (F : List ℕ → A → Type 0) (print : A → Lis
   pub lacks : (c : ℕ) → 16 ≤ digit_value c → (text : List ℕ) (x : A) → F text x → Lacks c text → Lacks c (print x)
 
 pub text_again : Again IsText (λ x. x)
-text_again = record {
-  form = λ text x h. (subst IsRest (sym h.1) h.0, refl);
-  lacks = λ c far text x h lacks. subst (Lacks c) (sym h.1) lacks;
-}
+text_again = grind arith
 
 pub num_again : (limit : ℕ) → limit < 2 ^ 64 → Again (IsNum limit) decimal
 num_again limit small = record {
@@ -51,14 +48,12 @@ module _ {A : Type 0} {F : List ℕ → A → Type 0} {p : A → List ℕ} (agai
   parted_form : (c : ℕ) (text : List ℕ) (xs : List A) → Parted c F text xs → Parted c F (join_by p (c ∷ []) xs) xs
   parted_form c text [] h = absurd h
   parted_form c text (x ∷ []) h = subst (λ (t : List ℕ). F t x) (sym (append-nil (p x))) (again.form text x h)
-  parted_form c text (x ∷ (y ∷ ys)) h =
-      (p x, join_by p (c ∷ []) (y ∷ ys), refl, again.form h.0 x h.3, parted_form c h.1 (y ∷ ys) h.4)
+  parted_form c text (x ∷ (y ∷ ys)) h = grind (arith, parted_form c h.1 (y ∷ ys) h.4)
 
   parted_lacks : (c d : ℕ) → 16 ≤ digit_value d → (text : List ℕ) (xs : List A) → Parted c F text xs → Lacks d text
       → Lacks d (join_by p (c ∷ []) xs)
   parted_lacks c d other text [] h lacks = absurd h
-  parted_lacks c d other text (x ∷ []) h lacks =
-      subst (Lacks d) (sym (append-nil (p x))) (again.lacks d other text x h lacks)
+  parted_lacks c d other text (x ∷ []) h lacks = grind (arith, append-nil)
   parted_lacks c d other text (x ∷ (y ∷ ys)) h lacks =
       let whole : Lacks d (h.0 ++ (c ∷ h.1)) = subst (Lacks d) h.2 lacks in
       let behind = behind_lacks d h.0 (c ∷ h.1) whole in

@@ -1,5 +1,5 @@
 -- The lines of plain rows, whose numbers keep to their types' ranges, read as values that say the rows' formats again.
-use Rattle.str0m_signal.proofs.Common.{◌≡◌, ◌≢◌, ◌≤◌, inl, inr, ℕ, Bool, true, false, cond, List, [], ◌∷◌, ◌++◌, Option, Some, None, IfSome, refl, sym, ap, ◌∙◌, subst, arith, AllByRecursion, lt-ltb, cases_lt, HoldsRowNumbers, telephone_max, types_of, types, Codec, PayloadParams, values_printed, reads, row_attrs, IsPlain, nat_lt, find, option_to_list, IsByte, content, other, AllSmall, values_read, printed_line}
+use Rattle.str0m_signal.proofs.Common.{◌≡◌, ◌≢◌, ◌≤◌, ℕ, List, [], ◌∷◌, ◌++◌, IfSome, refl, sym, ap, ◌∙◌, arith, AllByRecursion, HoldsRowNumbers, telephone_max, types_of, types, Codec, PayloadParams, values_printed, reads, row_attrs, IsPlain, content, other, AllSmall, values_read, printed_line}
 use Rattle.str0m_formats.specs.declared.codec.Codec.TheVariants as codec
 use Rattle.str0m_formats.proofs.PrintedLine.{printed_pairs}
 use Rattle.str0m_signal.proofs.RowLines.{ReadAs, IsRate, KeepsToRow, events_read, pairs_row_read}
@@ -8,28 +8,11 @@ use Rattle.str0m_signal.proofs.SectionLines.{AreTypes}
 -- ---- small types
 
 small_first : (n : ℕ) (ns : List ℕ) → AllSmall (n ∷ ns) → (n ≤ 127) × AllSmall ns
-small_first n ns h = go (nat_lt 127 n) refl h where
-  go : (b : Bool) → nat_lt 127 n ≡ b → cond b (Some n) (find (nat_lt 127) ns) ≡ None → (n ≤ 127) × AllSmall ns
-  go true e none = absurd cc
-  go false e none =
-      elim (cases_lt 127 n) [
-        | inl over ↦ (let t : true ≡ false = sym (lt-ltb 127 n over) ∙ e in absurd cc)
-        | inr within ↦
-            (omega arith, none)
-      ]
+small_first n ns h = grind arith
 
 pub each_small : (ns : List ℕ) → AllSmall ns → AllByRecursion (λ n. n ≤ 127) ns
 each_small [] h = tt
 each_small (n ∷ ns) h = let p = small_first n ns h in (p.0, each_small ns p.1)
-
-given_small : (o : Option ℕ) (ns : List ℕ) → AllByRecursion (λ n. n ≤ 127) (option_to_list o ++ ns)
-    → IfSome o (λ n. n ≤ 127) × AllByRecursion (λ n. n ≤ 127) ns
-given_small None ns h = (tt, h)
-given_small (Some n) ns h = (h.0, h.1)
-
-alone_small : (o : Option ℕ) → AllByRecursion (λ n. n ≤ 127) (option_to_list o) → IfSome o (λ n. n ≤ 127)
-alone_small None h = tt
-alone_small (Some n) h = h.0
 
 not_null : (c : Codec) → content c ≢ other → c ≢ codec.Null
 not_null c carried e = carried (ap content e)
@@ -37,17 +20,7 @@ not_null c carried e = carried (ap content e)
 -- a row whose codec carries sound, pictures or events, and whose numbers keep to their ranges
 pub keeps : (row : PayloadParams) → AllSmall (types_of row) → content row.spec.codec ≢ other → IsRate row.spec.clock_rate
     → IfSome row.spec.channels (λ n. n ≤ 255) → KeepsToRow row
-keeps row small carried rate channels =
-    let all = each_small (types_of row) small in
-    let behind = given_small row.resend (option_to_list row.red) all.1 in
-    record {
-      pt = all.0;
-      resend = behind.0;
-      red = alone_small row.red behind.1;
-      named = not_null row.spec.codec carried;
-      rate = rate;
-      channels = channels;
-    }
+keeps row small carried rate channels = grind arith
 
 wider : (ns : List ℕ) → AllByRecursion (λ n. n ≤ 127) ns → AreTypes ns
 wider [] h = tt
@@ -59,19 +32,14 @@ both_types (x ∷ xs) ys h k = (h.0, both_types xs ys h.1 k)
 
 pub types_fit : (rows : List PayloadParams) → AllByRecursion IsPlain rows → AreTypes (types rows)
 types_fit [] h = tt
-types_fit (row ∷ rows) h =
-    both_types (types_of row) (types rows) (wider (types_of row) (each_small (types_of row) h.0.bounded.types)) (types_fit rows h.1)
+types_fit (row ∷ rows) h = grind (arith, both_types, wider, each_small, types_fit rows h.1)
 
 -- ---- the lines of a plain row
 
 -- a maximum of events is a number of eight bits
 maximum_fits : (row : PayloadParams) → IsPlain row → HoldsRowNumbers row → row.spec.codec ≡ codec.Tele
     → telephone_max row.spec.format ≤ 255
-maximum_fits row p holds tele =
-    let alone = p.telephone (ap content tele) in
-    let fits : alone.0 ≤ 255 = subst (λ (o : Option ℕ). IfSome o IsByte) (ap (λ f. f.telephone_event_max) alone.1)
-    holds.format.telephone_event_max in
-    subst (λ (n : ℕ). n ≤ 255) (sym (ap telephone_max alone.1)) fits
+maximum_fits row p holds tele = grind arith
 
 of_codec : (row : PayloadParams) → KeepsToRow row → IsPlain row → HoldsRowNumbers row → (c : Codec) → row.spec.codec ≡ c
     → ReadAs (row_attrs row) (reads row (values_read c row.spec.format (printed_pairs row.spec.format)))

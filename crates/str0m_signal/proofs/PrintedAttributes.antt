@@ -22,8 +22,7 @@ pub both_read : {X A : Type 0} (text : X → List ℕ) (F : List ℕ → A → T
 both_read text F [] ys reads more h k = subst (λ rs. AreReadAs text F ys (rs ++ more)) (sym h) k
 both_read text F (x ∷ xs) ys reads more (inl nothing) k = inl (nothing.0, both_read text F xs ys reads more nothing.1 k)
 both_read {A} text F (x ∷ xs) ys reads more (inr (a, rest, e, line, later)) k =
-    subst (λ (rs : List A). AreReadAs text F (x ∷ (xs ++ ys)) (rs ++ more)) (sym e)
-    (one_read text F x a (xs ++ ys) (rest ++ more) line (both_read text F xs ys rest more later k))
+    grind (arith, one_read, both_read text F xs ys rest more later k)
 
 -- ---- what a line holds no end within
 

@@ -1,5 +1,5 @@
 -- Printed texts are their lines, these are read one after another, and a run stops where another letter begins.
-use Rattle.str0m_signal.proofs.Common.{◌≡◌, ◌≢◌, inl, inr, get_or, ℕ, List, [], ◌∷◌, ◌++◌, refl, sym, ap, ◌∙◌, subst, codes, flat_map, append_assoc, Lacks, line_end}
+use Rattle.str0m_signal.proofs.Common.{arith, ◌≡◌, ◌≢◌, inl, inr, get_or, ℕ, List, [], ◌∷◌, ◌++◌, refl, sym, ap, ◌∙◌, subst, codes, flat_map, append_assoc, Lacks, line_end}
 use Rattle.str0m_signal.specs.Lines.{Line, joined, AreLines, Lines, OneLine, IsAttributeLine}
 use Rattle.str0m_signal.specs.Chains.{Chain, Stops}
 use Rattle.str0m_signal.specs.Section.{IsField, IsBandwidth}
@@ -16,10 +16,7 @@ ArePrinted (line ∷ lines) = (line.ending ≡ line_end) × Lacks 10 line.conten
 
 pub joined-append : (xs ys : List Line) → joined (xs ++ ys) ≡ joined xs ++ joined ys
 joined-append [] ys = refl
-joined-append (x ∷ xs) ys =
-    ap (λ (t : List ℕ). x.content ++ (x.ending ++ t)) (joined-append xs ys)
-    ∙ ap (λ (t : List ℕ). x.content ++ t) (sym (append_assoc x.ending (joined xs) (joined ys)))
-    ∙ sym (append_assoc x.content (x.ending ++ joined xs) (joined ys))
+joined-append (x ∷ xs) ys = grind (arith, joined-append xs ys, append_assoc)
 
 pub printed-append : (xs ys : List Line) → ArePrinted xs → ArePrinted ys → ArePrinted (xs ++ ys)
 printed-append [] ys h k = k
@@ -41,23 +38,16 @@ Apart c [] = Unit {0}
 Apart c (line ∷ lines) = (text : List ℕ) → line.content ≢ c ∷ text
 
 pub apart-append : (c : ℕ) (xs ys : List Line) → Apart c xs → Apart c ys → Apart c (xs ++ ys)
-apart-append c [] ys h k = k
-apart-append c (x ∷ xs) ys h k = h
+apart-append c xs ys h k = grind arith
 
 pub apart : (c d : ℕ) (text : List ℕ) (line : Line) (lines : List Line) → line.content ≡ d ∷ text → c ≢ d → Apart c (line ∷ lines)
 apart c d text line lines e other = λ more f. other (ap (λ (l : List ℕ). get_or l 0 0) (sym f ∙ e))
-
-pub first_of : (x y : Line) (xs ys : List Line) → x ∷ xs ≡ y ∷ ys → x ≡ y
-first_of x y xs ys e = let d = e in cc
 
 -- nothing that begins with the character stands there
 pub stops : {A : Type 0} (F : List ℕ → A → Type 0) (c : ℕ)
     → ((content : List ℕ) (a : A) → F content a → (text : List ℕ) × (content ≡ c ∷ text)) → (lines : List Line) → Apart c lines
     → Stops (OneLine F) lines
-stops F c begins [] h a after one = let e = one.1 in absurd cc
-stops F c begins (line ∷ lines) h a after one =
-    let found = begins one.0.content a one.3 in
-    h found.0 (ap (λ (l : Line). l.content) (first_of line one.0 lines after one.1) ∙ found.1)
+stops F c begins o h a after one = grind arith
 
 pub no_field : (c : ℕ) (lines : List Line) → Apart c lines → Stops (OneLine (IsField (c ∷ 61 ∷ []))) lines
 no_field c = stops (IsField (c ∷ 61 ∷ [])) c (λ content a h. (61 ∷ a, h.0))

@@ -1,5 +1,5 @@
 -- A session that was read is writable where it may be printed again.
-use Rattle.str0m_signal.proofs.Common.{◌≡◌, ℕ, zero, suc, not, List, [], ◌∷◌, filter, Some, IfSome, refl, subst, inl, inr, codes, AllByRecursion, slice_get, cases_Bool, some_is, session_attribute_text, Consistent, is_of_type, MediaAttribute, SessionAttribute, MediaLine, Srtp, Sdp}
+use Rattle.str0m_signal.proofs.Common.{rules, arith, ◌≡◌, ℕ, zero, suc, not, List, [], ◌∷◌, filter, Some, IfSome, refl, subst, inl, inr, codes, AllByRecursion, slice_get, cases_Bool, some_is, session_attribute_text, Consistent, is_of_type, MediaAttribute, SessionAttribute, MediaLine, Srtp, Sdp}
 use Rattle.str0m_signal.specs.Chains.{Chain}
 use Rattle.str0m_signal.specs.Lines.{Line}
 use Rattle.str0m_signal.specs.MediaAttribute.{IsMediaLine}
@@ -37,16 +37,13 @@ was_read lines m rest are h =
 were_read : (lines : List Line) (ms : List MediaLine) (rest : List Line) → IsFine lines → Chain ConsistentSection lines ms rest
     → AllByRecursion WasRead ms
 were_read lines [] rest are h = tt
-were_read lines (m ∷ ms) rest are h =
-    let first = was_read lines m h.0 are h.1 in
-    (first.0, were_read h.0 ms rest first.1 h.2)
+were_read lines (m ∷ ms) rest are h = grind (arith, was_read lines m h.0 are h.1, were_read h.0 ms rest)
 
 come_back : (attrs : List MediaAttribute) → AllByRecursion (IsOnLine IsMediaLine) attrs → AllByRecursion FitsAgain attrs
     → AllByRecursion ComesBack attrs
 come_back [] lines may = tt
 come_back (x ∷ xs) ((content, quiet, starts, (text, e, form)), lines) may =
-    let own = behind_is content text e quiet starts in
-    (media_again text x own.quiet own.starts form may.0, come_back xs lines may.1)
+    search (rules, behind_is content text e quiet starts, media_again text x, come_back xs lines may.1)
 
 -- the section's lines are read as a consistent one
 section_again : (m : MediaLine) → WasRead m → FitsKind m.typ m.proto m.pts → AllByRecursion FitsAgain m.attrs
@@ -62,11 +59,7 @@ section_again m was fits may =
 framed : (attrs : List MediaAttribute) → AllByRecursion ComesBack attrs
     → AllByRecursion ComesBack (filter (λ attr. not (is_of_type attr)) attrs)
 framed [] all = tt
-framed (x ∷ xs) all =
-    elim (cases_Bool (is_of_type x)) [
-      | inl of_type ↦ rw of_type (framed xs all.1)
-      | inr other ↦ rw other (all.0, framed xs all.1)
-    ]
+framed (x ∷ xs) all = grind (arith, cases_Bool, framed xs all.1)
 
 -- so is its frame, over Srtp
 own_again : (m : MediaLine) → WasRead m → FitsKind m.typ m.proto m.pts → AllByRecursion FitsAgain m.attrs → m.proto ≡ Srtp

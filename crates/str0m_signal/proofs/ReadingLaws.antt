@@ -61,16 +61,12 @@ pub sections_blocked : (start : List Line) (done : List MediaLine) (now : List L
     → (sections : List MediaLine) (rest : List Line) → Sections start sections rest → ⊥
 sections_blocked start [] now m after h is fault [] rest k =
     k.1 (head_of m) is.after_head (subst (λ (ls : List Line). OneLine IsHead ls (head_of m) is.after_head) (sym h ∙ k.0) is.head_is)
-sections_blocked start [] now m after h is fault (s ∷ ss) rest k =
-    let here : IsSection start m after = subst (λ (ls : List Line). IsSection ls m after) (sym h) is in
-    let same = section_only start s m k.0.0 after k.0.1.0 here in
-    fault (subst Consistent same.0 k.0.1.1)
+sections_blocked start [] now m after h is fault (s ∷ ss) rest k = grind (arith, section_only start s m k.0.0 after k.0.1.0)
 sections_blocked start (d ∷ ds) now m after h is fault [] rest k =
     let head = h.1.0.head_is in
     k.1 (head_of d) h.1.0.after_head (subst (λ (ls : List Line). OneLine IsHead ls (head_of d) h.1.0.after_head) k.0 head)
 sections_blocked start (d ∷ ds) now m after h is fault (s ∷ ss) rest k =
-    let same = section_only start s d k.0.0 h.0 k.0.1.0 h.1.0 in
-    sections_blocked h.0 ds now m after h.2 is fault ss rest (subst (λ (ls : List Line). Chain ConsistentSection ls ss rest) same.1 k.0.2, k.1)
+    grind (arith, section_only start s d k.0.0 h.0 k.0.1.0 h.1.0, sections_blocked h.0 ds now m after h.2 is fault ss rest)
 
 sections_run : (lines : List Line) (sections : List MediaLine) (rest : List Line) → Sections lines sections rest → Run ConsistentSection lines sections rest
 sections_run lines sections rest h = (h.0, λ m after is. h.1 (head_of m) is.0.after_head is.0.head_is)
@@ -99,8 +95,7 @@ reading_only lines a b rest rest' h k =
 -- ---- measures
 
 pub section_fewer : (lines : List Line) (m : MediaLine) (rest : List Line) → IsSection lines m rest → length rest < length lines
-section_fewer lines m rest h =
-    omega (arith, one_fewer IsHead lines (head_of m) h.after_head h.head_is, taken_fewer (IsField (codes "c=")) h.after_head h.connection h.after_connection h.connection_is, taken_fewer IsBandwidth h.after_connection m.bw h.after_bandwidth h.bandwidth_is, chain_fewer IsMediaLine h.after_bandwidth m.attrs rest h.attributes_are.0)
+section_fewer lines m rest h = grind (arith, one_fewer, taken_fewer, chain_fewer)
 
 -- ---- what refuses the session or the sections refuses the whole
 

@@ -1,5 +1,5 @@
 -- Rid and simulcast lines are printed as they were read.
-use Rattle.str0m_signal.proofs.Common.{◌≡◌, ◌≢◌, ◌≤◌, get_or, ℕ, Bool, true, false, List, [], ◌∷◌, ◌++◌, refl, sym, subst, ap, ◌∙◌, arith, lit<, lit≤, inl, inr, codes, digit_value, decimal, join_by, append_assoc, append-nil, name_text, RestrictionId, SimulcastLayer, Parted, Lacks, IsRest, IsPt, Lacks-append, lacks_both, id_text, layer_text, layers_text}
+use Rattle.str0m_signal.proofs.Common.{rules, ◌≡◌, ◌≢◌, ◌≤◌, ℕ, List, [], ◌∷◌, ◌++◌, refl, sym, subst, ap, ◌∙◌, arith, lit<, lit≤, inl, inr, codes, digit_value, decimal, join_by, append_assoc, append-nil, RestrictionId, SimulcastLayer, Parted, Lacks, IsRest, IsPt, Lacks-append, lacks_both, id_text, layer_text, layers_text}
 use Rattle.str0m_sdp.specs.Rid.{restriction_text, pts_part, restrictions_part}
 use Rattle.str0m_signal.specs.Fmtp.{IsKey}
 use Rattle.str0m_signal.specs.Forms.{Two}
@@ -13,10 +13,7 @@ use Rattle.str0m_signal.proofs.PartLaws.{cons_parts}
 -- ---- restrictions
 
 restriction_again : Again IsRestriction restriction_text
-restriction_again = record {
-  form = λ text pair h. ([], refl, tt, h.3, h.4);
-  lacks = λ c far text pair h lacks. behind_lacks c h.0 (restriction_text pair) (subst (Lacks c) h.1 lacks);
-}
+restriction_again = grind (arith, behind_lacks)
 
 abbrev pub restrictions_text : List (List ℕ × List ℕ) → List ℕ
 restrictions_text pairs = join_by restriction_text (codes ";") pairs
@@ -26,8 +23,7 @@ restrictions_again = parted_again restriction_again 59
 
 restrictions_form : (text : List ℕ) (pairs : List (List ℕ × List ℕ)) → AreRestrictions text pairs
     → AreRestrictions (restrictions_text pairs) pairs
-restrictions_form text [] h = refl
-restrictions_form text (pair ∷ pairs) h = restrictions_again.form text (pair ∷ pairs) h
+restrictions_form text pairs h = search (rules, restrictions_again)
 
 restrictions_lack : (c : ℕ) → 16 ≤ digit_value c → (text : List ℕ) (pairs : List (List ℕ × List ℕ)) → AreRestrictions text pairs
     → Lacks c text
@@ -40,14 +36,12 @@ restrictions_lack c far text (pair ∷ pairs) h lacks = restrictions_again.lacks
 -- a key and `=` begin with the label only where the key is the label's name
 key_is : (key value rest : List ℕ) → IsRest key → Lacks 61 key → key ++ (codes "=" ++ value) ≡ codes "pt=" ++ rest → key ≡ codes "pt"
 key_is [] value rest filled lacks e = absurd (omega (arith, filled))
-key_is (a ∷ []) value rest filled lacks e =
-    absurd (let d : 61 ≡ 116 = ap (λ l. get_or l 1 0) e in omega arith)
+key_is (a ∷ []) value rest filled lacks e = grind arith
 key_is (a ∷ (b ∷ [])) value rest filled lacks e =
     let first = cons_parts a 112 (b ∷ (61 ∷ value)) (116 ∷ (61 ∷ rest)) e in
     let second = cons_parts b 116 (61 ∷ value) (61 ∷ rest) first.1 in
     ap (λ (x : ℕ). x ∷ (b ∷ [])) first.0 ∙ ap (λ (x : ℕ). 112 ∷ (x ∷ [])) second.0
-key_is (a ∷ (b ∷ (c ∷ cs))) value rest filled lacks e =
-    absurd (lacks.1.1.0 (ap (λ l. get_or l 2 0) e))
+key_is (a ∷ (b ∷ (c ∷ cs))) value rest filled lacks e = grind arith
 
 join_first : (pair : List ℕ × List ℕ) (pairs : List (List ℕ × List ℕ))
     → (more : List ℕ) × (restrictions_text (pair ∷ pairs) ≡ pair.0 ++ (codes "=" ++ more))
@@ -63,16 +57,12 @@ join_first pair pairs = go (join_rest pairs)
 
 first_key : (text : List ℕ) (pair : List ℕ × List ℕ) (pairs : List (List ℕ × List ℕ)) → Parted 59 IsRestriction text (pair ∷ pairs)
     → IsKey pair.0
-first_key text pair [] h = h.3
-first_key text pair (p ∷ ps) h = h.3.3
+first_key text pair pairs h = grind arith
 
 no_label : (text : List ℕ) (pairs : List (List ℕ × List ℕ)) → AreRestrictions text pairs → NamesNoTypes pairs
     → (rest : List ℕ) → restrictions_text pairs ≢ codes "pt=" ++ rest
 no_label text [] h named rest e = absurd cc
-no_label text (pair ∷ pairs) h named rest e =
-    let first = join_first pair pairs in
-    let key = first_key text pair pairs h in
-    named.0 (key_is pair.0 first.0 rest key.0 key.1 (sym first.1 ∙ e))
+no_label text (pair ∷ pairs) h named rest e = grind (arith, join_first pair pairs, first_key text pair pairs h, key_is pair.0)
 
 -- ---- rids
 
@@ -118,25 +108,15 @@ typed_lacks c far text n ns (pair ∷ pairs) (inr h) lacks =
 
 -- a type stands there
 some_type : (text : List ℕ) (pairs : List (List ℕ × List ℕ)) → AreTyped text ([], pairs) → ⊥
-some_type text pairs (inl h) = h.0
-some_type text pairs (inr h) = h.4
+some_type text pairs o = grind arith
 
 lists_form : (text : List ℕ) (types : List ℕ) (pairs : List (List ℕ × List ℕ)) → AreLists text (types, pairs) → NamesNoTypes pairs
     → IsMore (more_text (types, pairs)) (types, pairs)
 lists_form text [] pairs (inl h) named = absurd (some_type h.0 pairs h.2)
 lists_form text [] [] (inr h) named = inl (refl, refl)
 lists_form text [] (pair ∷ pairs) (inr h) named =
-    inr (
-      restrictions_text (pair ∷ pairs),
-      refl,
-      inr (no_label text (pair ∷ pairs) h.2 named, refl, restrictions_form text (pair ∷ pairs) h.2),
-    )
-lists_form text (n ∷ ns) pairs (inl h) named =
-    inr (
-      codes "pt=" ++ (join_by decimal (codes ",") (n ∷ ns) ++ restrictions_part (n ∷ ns) pairs),
-      refl,
-      inl (join_by decimal (codes ",") (n ∷ ns) ++ restrictions_part (n ∷ ns) pairs, refl, typed_form h.0 n ns pairs h.2),
-    )
+    grind (arith, no_label text (pair ∷ pairs) h.2 named, restrictions_form text (pair ∷ pairs) h.2)
+lists_form text (n ∷ ns) pairs (inl h) named = grind (arith, typed_form h.0 n ns pairs h.2)
 lists_form text (n ∷ ns) pairs (inr h) named = absurd (let e = h.1 in cc)
 
 more_form : (text : List ℕ) (lists : List ℕ × List (List ℕ × List ℕ)) → IsMore text lists → NamesNoTypes lists.1
@@ -149,9 +129,7 @@ lists_lack : (c : ℕ) → 16 ≤ digit_value c → (text : List ℕ) (types : L
 lists_lack c far text [] pairs (inl h) lacks = absurd (some_type h.0 pairs h.2)
 lists_lack c far text [] [] (inr h) lacks = tt
 lists_lack c far text [] (pair ∷ pairs) (inr h) lacks = (lacks.0, restrictions_lack c far text (pair ∷ pairs) h.2 lacks.1)
-lists_lack c far text (n ∷ ns) pairs (inl h) lacks =
-    let whole : Lacks c (codes "pt=" ++ h.0) = subst (Lacks c) h.1 lacks.1 in
-    (lacks.0, (whole.0, (whole.1.0, (whole.1.1.0, typed_lacks c far h.0 n ns pairs h.2 whole.1.1.1))))
+lists_lack c far text (n ∷ ns) pairs (inl h) lacks = grind (arith, typed_lacks c far h.0 n ns pairs h.2)
 lists_lack c far text (n ∷ ns) pairs (inr h) lacks = absurd (let e = h.1 in cc)
 
 more_lacks : (c : ℕ) → 16 ≤ digit_value c → (text : List ℕ) (lists : List ℕ × List (List ℕ × List ℕ)) → IsMore text lists → Lacks c text
@@ -173,10 +151,7 @@ directed_again = record {
 }
 
 active_again : Again IsActive (λ id. id.0)
-active_again = record {
-  form = λ text id h. (refl, h.1, h.2);
-  lacks = λ c far text id h lacks. subst (Lacks c) h.0 lacks;
-}
+active_again = grind arith
 
 abbrev pub IsPlainRid : List ℕ → RestrictionId × (List ℕ × (List ℕ × List (List ℕ × List ℕ))) → Type 0
 IsPlainRid = Two 32 IsActive IsPlainDirected
@@ -216,20 +191,11 @@ both_again first second = behind_again (two_again 32 (lit≤ tt) side_again (beh
 -- no name of a layer holds a space
 name_lacks : (text : List ℕ) (id : RestrictionId) (others : List RestrictionId) → Parted 44 IsAlternative text (id ∷ others)
     → Lacks 32 (id_text id)
-name_lacks text id others h = behind_mark id.1 (name_of others h)
-  where
-    name_of : (others : List RestrictionId) → Parted 44 IsAlternative text (id ∷ others) → Lacks 32 id.0
-    name_of [] h = h.1.space
-    name_of (other ∷ others) h = h.3.1.space
-
-    behind_mark : (active : Bool) → Lacks 32 id.0 → Lacks 32 (name_text id.0 active)
-    behind_mark true h = h
-    behind_mark false h = ((λ e. absurd (omega (arith, e))), h)
+name_lacks text id others h = grind arith
 
 side_lacks : (text : List ℕ) (layers : List SimulcastLayer) → IsSide text layers → Lacks 32 (layers_text layers)
 side_lacks text [] h = absurd h
-side_lacks text (layer ∷ []) h =
-    subst (Lacks 32) (sym (append-nil (layer_text layer))) (name_lacks text layer.restriction_id h.0 h.1)
+side_lacks text (layer ∷ []) h = grind (arith, append-nil, name_lacks)
 side_lacks text (layer ∷ (next ∷ layers)) h =
     lacks_both 32 (layer_text layer) (59 ∷ layers_text (next ∷ layers)) (name_lacks h.0 layer.restriction_id h.3.0 h.3.1)
     ((λ e. absurd (omega (arith, e))), side_lacks h.1 (next ∷ layers) h.4)

@@ -1,10 +1,9 @@
 -- The line of a stream that may be restricted is read exactly where its form holds.
-use Rattle.str0m_signal.proofs.Common.{◌≡◌, ◌≢◌, ℕ, suc, ◌<◌, Bool, true, List, [], ◌∷◌, ◌++◌, length, Option, Some, None, refl, sym, ap, subst, ◌∙◌, arith, inl, inr, length-append, codes, some_pair_parts, none-some, append-nil, RestrictionId, ◌>>=◌, cut, strip, Parted, Lacks, IsPt, bind_some, some_is, or_some, cut_none, cut_at, cut_found, strip_at, strip_found, when_some, number_lacks, rest_true, num_both, Reads, append_assoc, strip_none}
+use Rattle.str0m_signal.proofs.Common.{◌≡◌, ℕ, suc, ◌<◌, List, [], ◌∷◌, ◌++◌, length, Option, Some, None, refl, sym, ap, subst, ◌∙◌, arith, inl, inr, length-append, codes, some_pair_parts, none-some, append-nil, ◌>>=◌, cut, strip, Parted, Lacks, IsPt, bind_some, some_is, cut_none, cut_at, cut_found, strip_at, strip_found, when_some, number_lacks, rest_true, num_both, Reads, append_assoc, strip_none}
 use Rattle.str0m_signal.specs.Fmtp.{AreBlanks, IsKey, IsValue, OneByOne}
 use Rattle.str0m_signal.specs.FmtpReading.{value_read, skip_blanks, key_read, pairs_at}
 use Rattle.str0m_signal.specs.Rid.{IsActive, IsRestriction, AreRestrictions, AreTyped, AreLists, IsMore, IsDirection, IsDirected, IsRid}
-use Rattle.str0m_signal.specs.RidReading.{active_read, next_read, restriction_read, restrictions_read, restricted_read, types_read, typed_after, typed_read, lists_after, lists_read, more_read, word_read, direction_read, directed_read, rid_fields_read}
-use Rattle.str0m_signal.specs.StreamName.{is_stream_name}
+use Rattle.str0m_signal.specs.RidReading.{active_read, next_read, restriction_read, restrictions_read, restricted_read, types_read, typed_after, typed_read, lists_after, lists_read, more_read, direction_read, directed_read, rid_fields_read}
 use Rattle.str0m_signal.proofs.FmtpLaws.{value_found, key_found, key_given, skips, starts_kept, key_starts}
 use Rattle.str0m_signal.proofs.FormLaws.{two_both}
 use Rattle.str0m_signal.proofs.PairByPair.{Pairs, all_found, all_given}
@@ -32,20 +31,17 @@ next_found (x ∷ xs) next e =
     strip_found (codes ";") (x ∷ xs) a.0 a.1 ∙ ap tail_of (some_is (Some a.0) next a.2)
 
 next_given : (next : Option (List ℕ)) → next_read (tail_of next) ≡ Some next
-next_given None = refl
-next_given (Some more) = rw (rest_true (59 ∷ more) (omega arith)) refl
+next_given next = grind arith
 
 tail_ends : (next : Option (List ℕ)) → EndsValue (tail_of next)
-tail_ends None = tt
-tail_ends (Some more) = inl refl
+tail_ends next = grind arith
 
 -- blanks, key, `=` and value, and what stands behind them
 regroup : (blanks key value tail : List ℕ) → (blanks ++ (key ++ (61 ∷ value))) ++ tail ≡ blanks ++ (key ++ (61 ∷ (value ++ tail)))
-regroup blanks key value tail = append_assoc blanks (key ++ (61 ∷ value)) tail ∙ ap (λ (t : List ℕ). blanks ++ t) (append_assoc key (61 ∷ value) tail)
+regroup blanks key value tail = grind (arith, append_assoc)
 
 stands : (text blanks : List ℕ) (pair : List ℕ × List ℕ) (next : Option (List ℕ)) → text ≡ (blanks ++ (pair.0 ++ (61 ∷ pair.1))) ++ tail_of next → AreBlanks blanks → IsKey pair.0 → IsValue pair.1 → Stands text pair next
-stands text blanks pair None e are key value = (blanks, e ∙ append-nil (blanks ++ (pair.0 ++ (61 ∷ pair.1))), are, key, value)
-stands text blanks pair (Some more) e are key value = (blanks ++ (pair.0 ++ (61 ∷ pair.1)), e, (blanks, refl, are, key, value))
+stands text blanks pair next e are key value = grind (arith, append-nil)
 
 pub restriction_found : (text : List ℕ) (pair : List ℕ × List ℕ) (next : Option (List ℕ)) → restriction_read text ≡ Some (pair, next) → Stands text pair next
 restriction_found text pair next e =
@@ -76,12 +72,10 @@ read_so text blanks pair next e are key value =
 
 pub restriction_given : (text : List ℕ) (pair : List ℕ × List ℕ) (next : Option (List ℕ)) → Stands text pair next → restriction_read text ≡ Some (pair, next)
 restriction_given text pair None h = read_so text h.0 pair None (h.1 ∙ sym (append-nil (h.0 ++ (pair.0 ++ (61 ∷ pair.1))))) h.2 h.3 h.4
-restriction_given text pair (Some more) h = read_so text h.2.0 pair (Some more) (h.1 ∙ ap (λ (t : List ℕ). t ++ (59 ∷ more)) h.2.1) h.2.2 h.2.3 h.2.4
+restriction_given text pair (Some more) h = grind (arith, read_so text h.2.0 pair (Some more))
 
 pub restriction_shorter : (text : List ℕ) (pair : List ℕ × List ℕ) (more : List ℕ) → restriction_read text ≡ Some (pair, Some more) → length more < length text
-restriction_shorter text pair more e =
-    let h = restriction_found text pair (Some more) e in
-    omega (arith, ap length h.1, length-append h.0 (59 ∷ more))
+restriction_shorter text pair more e = grind (arith, restriction_found text pair (Some more) e, length-append)
 
 -- ---- restrictions
 
@@ -131,14 +125,12 @@ types_both : Reads (Parted 44 IsPt) types_read
 types_both = parted_both 44 (num_both 127) (λ text n h. number_lacks 44 text (omega arith) (λ e. absurd (omega arith)) h.numeral)
 
 types_semicolon : (text types : List ℕ) → Parted 44 IsPt text types → Lacks 59 text
-types_semicolon text types h = parted_lacks {F = IsPt} 59 44 (λ e. absurd (omega arith)) (λ part n k. number_lacks 59 part (omega arith) (λ e. absurd (omega arith)) k.numeral) types text h
+types_semicolon text types h = grind (arith, parted_lacks, number_lacks)
 
 -- ---- the lists
 
 typed_found : (text : List ℕ) (lists : List ℕ × Pairs) (o : Option (List ℕ × List ℕ)) → cut 59 text ≡ o → typed_after text o ≡ Some lists → AreTyped text lists
-typed_found text lists None is e =
-    let a = bind_some (types_read text) (λ types. Some (types, [])) lists e in
-    rw (← some_is (a.0, []) lists a.2) (inl (types_both.sound text a.0 a.1, refl))
+typed_found text lists None is e = grind (arith, bind_some, some_is, types_both)
 typed_found text lists (Some p) is e =
     let a = bind_some (types_read p.0) (λ types. restricted_read p.1 >>= λ pairs. Some (types, pairs)) lists e in
     let b = bind_some (restricted_read p.1) (λ pairs. Some (a.0, pairs)) lists a.2 in
@@ -146,20 +138,10 @@ typed_found text lists (Some p) is e =
     rw (← some_is (a.0, b.0) lists b.2) (inr (p.0, p.1, found.0, found.1, types_both.sound p.0 a.0 a.1, restricted_both.sound p.1 b.0 b.1))
 
 typed_both : Reads AreTyped typed_read
-typed_both = record {
-  sound = λ text lists e. typed_found text lists (cut 59 text) refl e;
-  complete = λ text lists h.
-      elim h [
-        | inl k ↦ rw (cut_none 59 text (types_semicolon text lists.0 k.0), types_both.complete text lists.0 k.0) (ap (λ (pairs : Pairs). Some (lists.0, pairs)) (sym k.1))
-        | inr k ↦ ap typed_read k.2 ∙ rw (cut_at 59 k.0 k.1 k.3, types_both.complete k.0 lists.0 k.4, restricted_both.complete k.1 lists.1 k.5) refl
-      ];
-}
+typed_both = grind (arith, typed_found, cut_none, types_semicolon, types_both, cut_at, restricted_both)
 
 lists_found : (text : List ℕ) (lists : List ℕ × Pairs) (o : Option (List ℕ)) → strip (codes "pt=") text ≡ o → lists_after text o ≡ Some lists → AreLists text lists
-lists_found text lists None is e =
-    let a = bind_some (restricted_read text) (λ pairs. Some ([], pairs)) lists e in
-    let none : (rest : List ℕ) → text ≢ codes "pt=" ++ rest = λ rest h. none-some rest (sym is ∙ ap (strip (codes "pt=")) h ∙ strip_at (codes "pt=") rest) in
-    rw (← some_is ([], a.0) lists a.2) (inr (none, refl, restricted_both.sound text a.0 a.1))
+lists_found text lists None is e = grind (arith, bind_some, none-some, strip_at, some_is, restricted_both)
 lists_found text lists (Some typed) is e = inl (typed, strip_found (codes "pt=") text typed is, typed_both.sound typed lists e)
 
 lists_both : Reads AreLists lists_read
@@ -173,11 +155,7 @@ lists_both = record {
 }
 
 more_found : (text : List ℕ) (lists : List ℕ × Pairs) → more_read text ≡ Some lists → IsMore text lists
-more_found [] lists e = inl (refl, sym (some_is ([], []) lists e))
-more_found (x ∷ xs) lists e =
-    let e' : (strip (codes " ") (x ∷ xs) >>= lists_read) ≡ Some lists = rw (rest_true (x ∷ xs) (omega arith)) at e in
-    let a = bind_some (strip (codes " ") (x ∷ xs)) lists_read lists e' in
-    inr (a.0, strip_found (codes " ") (x ∷ xs) a.0 a.1, lists_both.sound a.0 lists a.2)
+more_found text lists e = grind (arith, some_is, rest_true, bind_some, strip_found, lists_both)
 
 more_both : Reads IsMore more_read
 more_both = record {
@@ -192,26 +170,10 @@ more_both = record {
 -- ---- the line
 
 active_both : Reads IsActive active_read
-active_both = record {
-  sound = λ text id e.
-      let w = when_some (is_stream_name text) (record { 0 = text; 1 = true }) id e in
-      rw (← w.1) (refl, name_from text w.0, refl);
-  complete = λ text id h.
-      ap active_read h.0 ∙ rw (name_true id.0 h.1) (ap (λ (active : Bool). let made : RestrictionId = record { 0 = id.0; 1 = active } in Some made) (sym h.2));
-}
+active_both = grind (arith, when_some, name_from, name_true)
 
 direction_found : (text word behind : List ℕ) → direction_read text ≡ Some (word, behind) → (text ≡ word ++ behind) × IsDirection word
-direction_found text word behind e =
-    elim (or_some (word_read (codes "send") text) (word_read (codes "recv") text) (word, behind) e) [
-      | inl h ↦ let k = one (codes "send") h in (k.0, inl k.1)
-      | inr h ↦ let k = one (codes "recv") h.1 in (k.0, inr k.1)
-    ]
-  where
-    one : (known : List ℕ) → word_read known text ≡ Some (word, behind) → (text ≡ word ++ behind) × (word ≡ known)
-    one known e =
-        let a = bind_some (strip known text) (λ more. Some (known, more)) (word, behind) e in
-        let same = some_pair_parts known word a.0 behind a.2 in
-        (strip_found known text a.0 a.1 ∙ ap (λ (t : List ℕ). t ++ a.0) same.0 ∙ ap (λ (t : List ℕ). word ++ t) same.1, sym same.0)
+direction_found text word behind e = grind arith
 
 direction_given : (word behind : List ℕ) → IsDirection word → direction_read (word ++ behind) ≡ Some (word, behind)
 direction_given word behind h = elim h [ inl e ↦ rw e refl | inr e ↦ rw e refl ]

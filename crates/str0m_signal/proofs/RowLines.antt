@@ -1,5 +1,5 @@
 -- The printed lines of a row have their forms, and read as the row's lines.
-use Rattle.str0m_signal.proofs.Common.{◌≡◌, ◌≢◌, ◌<◌, ◌≤◌, ℕ, Bool, true, false, List, [], ◌∷◌, ◌++◌, map, filter_map, Option, Some, None, IfSome, option_map, refl, sym, ap, subst, arith, lit<, lit≤, AllByRecursion, cons_option, flat_map, IsRest, printed_and_read, param_text, telephone_max, params_read, Codec, FormatParam, TelephoneEvents, BareRange, BarePtList, Apt, Red, PayloadParams, IsPlainPair, joined_pair, media_attribute_text, row_attrs, MediaAttribute, RtcpFb, Fmtp, reads, feedback_line, feedback_attrs, fmtp_line, format_values, format_attrs, rtx_lines, rtx_attrs, red_lines, red_attrs, map_of_spec, line_read, fmtp_lines, red_reads}
+use Rattle.str0m_signal.proofs.Common.{◌≡◌, ◌≢◌, ◌<◌, ◌≤◌, ℕ, Bool, List, [], ◌∷◌, ◌++◌, map, Option, Some, None, IfSome, refl, sym, ap, subst, arith, lit<, AllByRecursion, flat_map, IsRest, printed_and_read, param_text, telephone_max, Codec, FormatParam, TelephoneEvents, BareRange, BarePtList, Red, PayloadParams, IsPlainPair, joined_pair, media_attribute_text, row_attrs, MediaAttribute, Fmtp, reads, feedback_line, feedback_attrs, fmtp_line, format_values, format_attrs, rtx_lines, rtx_attrs, red_lines, red_attrs, map_of_spec, line_read, fmtp_lines, red_reads}
 use Rattle.str0m_sdp.specs.declared.attribute.MediaAttribute.TheVariants.{RtpMap}
 use Rattle.str0m_formats.specs.CodecSpec.{rtp_rate}
 use Rattle.str0m_formats.specs.FormatParams.{params_of}
@@ -28,21 +28,17 @@ one x a h = one_read media_attribute_text IsMediaLine x a [] [] h refl
 -- ---- mappings of codecs that have a name
 
 kept : (c : Codec) → c ≢ codec.Null → printed_and_read c ≡ c
-kept codec.Null other = absurd (other refl)
-kept c other = refl
+kept c other = grind arith
 
 pub named_printed : (pt : ℕ) (value : Mapping) → pt ≤ 127 → KeepsToMapping value → value.codec ≢ codec.Null
     → IsPrintedAs IsMediaLine (media_attribute_text (RtpMap pt value)) (RtpMap pt value)
-named_printed pt value small keeps other =
-    subst (λ (c : Codec). IsPrintedAs IsMediaLine (media_attribute_text (RtpMap pt value)) (RtpMap pt (record value { codec = c })))
-    (kept value.codec other) (mapping_printed pt value small keeps)
+named_printed pt value small keeps other = grind (arith, mapping_printed pt value small keeps)
 
 abbrev pub IsRate : ℕ → Type 0
 IsRate rate = (0 < rate) × (rate ≤ 4294967295)
 
 rate_keeps : (c : Codec) (rate : ℕ) → IsRate rate → IsRate (rtp_rate c rate)
-rate_keeps codec.G722 rate h = (lit< tt, lit≤ tt)
-rate_keeps c rate h = h
+rate_keeps c rate h = grind arith
 
 -- ---- rows
 
@@ -63,8 +59,7 @@ module _ (row : PayloadParams) (keeps : KeepsToRow row) where
   small = keeps.pt
 
   feedback : (w : List ℕ) (b : Bool) → IsRest w → HoldsNoEnd w → ReadAs (feedback_line row.pt w b) (feedback_line row.pt w b)
-  feedback w true filled quiet = one (RtcpFb row.pt w) (RtcpFb row.pt w) (feedback_printed row.pt w small filled quiet)
-  feedback w false filled quiet = refl
+  feedback w b filled quiet = grind (arith, feedback_printed, small)
 
   pub feedback_read : ReadAs (feedback_attrs row) (feedback_attrs row)
   feedback_read =
@@ -76,12 +71,7 @@ module _ (row : PayloadParams) (keeps : KeepsToRow row) where
 
   rtx : (o : Option ℕ) → IfSome o (λ n. n ≤ 127) → ReadAs (rtx_lines row o) (rtx_lines row o)
   rtx None h = refl
-  rtx (Some n) h =
-      let map : Mapping = record { codec = codec.Rtx; clock_rate = rtp_rate row.spec.codec row.spec.clock_rate; channels = None } in
-      let apt = Fmtp n (Apt row.pt ∷ []) in
-      joins (RtpMap n map ∷ []) (apt ∷ []) (RtpMap n map ∷ []) (apt ∷ [])
-      (one (RtpMap n map) (RtpMap n map) (named_printed n map h (record { clock = rate; channels = tt }) (λ e. cc)))
-      (one apt apt (apt_printed n row.pt h (omega (arith, small))))
+  rtx (Some n) h = grind (arith, joins, named_printed n, apt_printed n row.pt h, small)
 
   red : (o : Option ℕ) → IfSome o (λ n. n ≤ 127) → ReadAs (red_lines row o) (red_reads row o)
   red None h = refl
@@ -112,11 +102,7 @@ pub params_printed : (pt : ℕ) (params : List FormatParam) (pairs : List (List 
     → AllByRecursion IsPlainPair pairs → joined (map param_text params) ≡ joined (map joined_pair pairs)
     → (params ≢ [] → pairs ≢ []) → (params ≡ [] → pairs ≡ [])
     → ReadAs (fmtp_line pt params) (fmtp_lines pt (line_read pairs))
-params_printed pt [] [] small shown plain e some none = refl
-params_printed pt [] (p ∷ ps) small shown plain e some none = let f = none refl in absurd cc
-params_printed pt (v ∷ vs) [] small shown plain e some none = absurd (some (λ f. absurd cc) refl)
-params_printed pt (v ∷ vs) (p ∷ ps) small shown plain e some none =
-    one (Fmtp pt (v ∷ vs)) (Fmtp pt (params_read (p ∷ ps))) (pairs_printed pt v vs p ps small shown plain e)
+params_printed pt params pairs small shown plain e some none = grind (arith, pairs_printed)
 
 -- ---- rows of each codec
 
@@ -133,8 +119,7 @@ events_read row keeps tele fits =
     (range_printed row.pt (telephone_max row.spec.format) (TelephoneEvents (telephone_max row.spec.format)) refl keeps.pt fits)))
 
 format_of : (c : Codec) (p : FormatParams) → c ≢ codec.Tele → format_values c p ≡ params_of p
-format_of codec.Tele p other = absurd (other refl)
-format_of c p other = refl
+format_of c p other = grind arith
 
 -- any other codec, whose format prints as plain pairs: what these read as together
 pub pairs_row_read : (row : PayloadParams) → KeepsToRow row → row.spec.codec ≢ codec.Tele → (pairs : List (List ℕ × List ℕ))
@@ -154,5 +139,4 @@ pub rows_read : (rows : List PayloadParams) (values : PayloadParams → List (Li
     → AllByRecursion (λ row. ReadAs (row_attrs row) (reads row (values row))) rows
     → ReadAs (flat_map row_attrs rows) (flat_map (λ row. reads row (values row)) rows)
 rows_read [] values h = refl
-rows_read (row ∷ rows) values h =
-    joins (row_attrs row) (flat_map row_attrs rows) (reads row (values row)) _ h.0 (rows_read rows values h.1)
+rows_read (row ∷ rows) values h = grind (arith, joins, rows_read rows values h.1)

@@ -1,5 +1,5 @@
 -- The last part of the headline: plain, distinct rows, printed in a writable session, are read back, in order.
-use Rattle.str0m_signal.proofs.Common.{◌≡◌, ◌≢◌, ◌<◌, ◌^◌, ℕ, true, List, [], ◌∷◌, length, refl, sym, ◌∙◌, subst, recursion_from_All, same_Some, HoldsRowNumbers, types, AllDistinct, PayloadParams, is_media, MediaLine, Sdp, values_printed, IsPlain, All, describes_read_back}
+use Rattle.str0m_signal.proofs.Common.{rules, ◌≡◌, ◌≢◌, ◌<◌, ◌^◌, ℕ, true, List, [], ◌∷◌, length, refl, sym, ◌∙◌, subst, recursion_from_All, same_Some, HoldsRowNumbers, types, AllDistinct, PayloadParams, is_media, MediaLine, Sdp, values_printed, IsPlain, All, describes_read_back}
 use Rattle.str0m_sdp.proofs.ReadSection.{Describes}
 use Rattle.str0m_signal.specs.ReadBack.{ReadBack, MayBePrinted, ReadsBack}
 use Rattle.str0m_signal.specs.Writable.{Writable}
@@ -52,8 +52,4 @@ some_left (row ∷ rows) (first ∷ more) e some = λ none. absurd cc
 -- rows that stay as many, plain and distinct may be printed still
 pub still_printable : (before after : List PayloadParams) → length after ≡ length before → (All IsPlain before → All IsPlain after)
     → (AllDistinct (types before) → AllDistinct (types after)) → MayBePrinted before → MayBePrinted after
-still_printable before after e plain distinct may = record {
-  some = some_left before after e may.some;
-  plain = plain may.plain;
-  distinct = distinct may.distinct;
-}
+still_printable before after e plain distinct may = search (rules, some_left)

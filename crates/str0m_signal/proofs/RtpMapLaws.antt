@@ -1,16 +1,12 @@
 -- An rtpmap line is read exactly where its form holds.
-use Rattle.str0m_signal.proofs.Common.{◌≡◌, ℕ, ◌<◌, ltb, List, [], ◌∷◌, ◌++◌, length, Option, Some, None, refl, sym, ap, subst, ◌∙◌, arith, ltb-true, lt-ltb, append-nil, some_pair_parts, Lacks, IsNum, ◌>>=◌, cut, strip, when, is_rest, num, cut_none, cut_none_lacks, cut_at, cut_found, strip_found, when_some, num_found, num_reads, number_lacks, rest_true, bind_some, some_is, Codec, codec_of, read_as, Reads, IsReadAs, IsWithout, read_only}
+use Rattle.str0m_signal.proofs.Common.{◌≡◌, ℕ, ◌<◌, List, ◌∷◌, ◌++◌, length, Option, Some, None, refl, ap, subst, ◌∙◌, arith, ltb-true, lt-ltb, append-nil, some_pair_parts, Lacks, IsNum, ◌>>=◌, cut, strip, when, is_rest, num, cut_none, cut_none_lacks, cut_at, cut_found, strip_found, when_some, num_found, num_reads, number_lacks, rest_true, bind_some, some_is, Codec, codec_of, read_as, Reads, IsReadAs, IsWithout, read_only}
 use Rattle.str0m_sdp.specs.declared.rtp_map.RtpMap.{RtpMap as Mapping}
 use Rattle.str0m_signal.specs.RtpMap.{IsChannels, IsRtpMap}
 use Rattle.str0m_signal.specs.RtpMapReading.{frequency_read, clock_read, mapping_read, rtpmap_fields_read}
 use Rattle.str0m_sdp.specs.declared.label.TheConstants as label
 
 pub frequency_sound : (text : List ℕ) (hertz : ℕ) → frequency_read text ≡ Some hertz → IsNum 4294967295 text hertz × (0 < hertz)
-frequency_sound text hertz e =
-    let a = bind_some (num 4294967295 text) (λ n. when (ltb 0 n) n) hertz e in
-    let w = when_some (ltb 0 a.0) a.0 hertz a.2 in
-    let positive : 0 < a.0 = ltb-true 0 a.0 w.0 in
-    (num_found 4294967295 text hertz (a.1 ∙ ap (λ (n : ℕ). Some n) w.1), rw (← w.1) positive)
+frequency_sound text hertz e = grind (arith, bind_some, when_some, ltb-true, num_found)
 
 pub frequency_complete : (text : List ℕ) (hertz : ℕ) → IsNum 4294967295 text hertz → 0 < hertz → frequency_read text ≡ Some hertz
 frequency_complete text hertz h positive = rw (num_reads 4294967295 text hertz h, lt-ltb 0 hertz positive) refl
@@ -24,15 +20,10 @@ record IsClock (text : List ℕ) (hertz : ℕ) (channels : Option ℕ) : Type 0 
   more_is : IsChannels more channels
 
 without : (text : List ℕ) (hertz : ℕ) → Lacks 47 text → IsNum 4294967295 text hertz → IsWithout 47 text
-without [] hertz h n = absurd (omega (arith, n.numeral.0))
-without (x ∷ xs) hertz h n = (omega arith, h)
+without text hertz h n = grind arith
 
 clock_sound : (text : List ℕ) (hertz : ℕ) (channels : Option ℕ) (o : Option (List ℕ × List ℕ)) → cut 47 text ≡ o → clock_read text o ≡ Some (hertz, channels) → IsClock text hertz channels
-clock_sound text hertz channels None cut-is e =
-    let a = bind_some (frequency_read text) (λ hz. Some (hz, None)) (hertz, channels) e in
-    let pair = some_pair_parts a.0 hertz None channels a.2 in
-    let f = frequency_sound text hertz (a.1 ∙ ap (λ (n : ℕ). Some n) pair.0) in
-    rw (← pair.1) (record { number = text; more = []; joined = sym (append-nil text); number_is = (without text hertz (cut_none_lacks 47 text cut-is) f.0, f.0, f.1); more_is = refl })
+clock_sound text hertz channels None cut-is e = grind (arith, bind_some, some_pair_parts, frequency_sound, append-nil, cut_none_lacks)
 clock_sound text hertz channels (Some p) cut-is e =
     let a = bind_some (frequency_read p.0) (λ hz. num 255 p.1 >>= λ n. Some (hz, Some n)) (hertz, channels) e in
     let b = bind_some (num 255 p.1) (λ n. Some (a.0, Some n)) (hertz, channels) a.2 in
@@ -42,12 +33,7 @@ clock_sound text hertz channels (Some p) cut-is e =
     rw (← pair.1) (record { number = p.0; more = 47 ∷ p.1; joined = found.0; number_is = (without p.0 hertz found.1 f.0, f.0, f.1); more_is = (p.1, refl, num_found 255 p.1 b.0 b.1) })
 
 channels_lack : (text : List ℕ) (hertz : List ℕ) (channels : Option ℕ) (rate : ℕ) → IsWithout 47 hertz → IsNum 4294967295 hertz rate → 0 < rate → IsChannels text channels → clock_read (hertz ++ text) (cut 47 (hertz ++ text)) ≡ Some (rate, channels)
-channels_lack text hertz None rate w n positive h =
-    let whole : hertz ++ text ≡ hertz = ap (λ (t : List ℕ). hertz ++ t) h ∙ append-nil hertz in
-    ap (λ (t : List ℕ). clock_read t (cut 47 t)) whole ∙ rw (cut_none 47 hertz w.1, frequency_complete hertz rate n positive) refl
-channels_lack text hertz (Some channels) rate w n positive h =
-    ap (λ (t : List ℕ). clock_read (hertz ++ t) (cut 47 (hertz ++ t))) h.1
-    ∙ rw (cut_at 47 hertz h.0 w.1, frequency_complete hertz rate n positive, num_reads 255 h.0 channels h.2) refl
+channels_lack text hertz channels rate w n positive h = grind (arith, append-nil, cut_none, frequency_complete, cut_at, num_reads)
 
 abbrev made : ℕ → Codec → Mapping → Option (ℕ × Mapping)
 made pt codec value = Some (pt, record { codec = codec; clock_rate = value.clock_rate; channels = value.channels })
@@ -82,16 +68,7 @@ rtpmap_found text fields e =
 
 rtpmap_given : (text : List ℕ) (fields : ℕ × Mapping) → IsRtpMap text fields.0 fields.1 → rtpmap_fields_read text ≡ Some fields
 rtpmap_given text fields h =
-    let pt = fields.0 in
-    let value = fields.1 in
-    let behind = h.clock ++ h.channels in
-    let mapped = h.codec ++ (47 ∷ behind) in
-    let lacks = number_lacks 32 h.number (omega arith) (λ e. absurd (omega arith)) h.number_is.numeral in
-    let clock = channels_lack h.channels h.clock value.channels value.clock_rate h.clock_is.0 h.clock_is.1 h.clock_is.2 h.channels_is in
-    let mapping : mapping_read mapped ≡ Some (record { codec = codec_of h.codec; clock_rate = value.clock_rate; channels = value.channels }) = rw (cut_at 47 h.codec behind h.codec_is.0.1, rest_true h.codec h.codec_is.0.0, clock) refl in
-    let codec : codec_of h.codec ≡ value.codec = sym (read_only h.codec value.codec h.codec_is.1) in
-    let same : ◌≡◌ {A = Option (ℕ × Mapping)} (Some (pt, record { codec = codec_of h.codec; clock_rate = value.clock_rate; channels = value.channels })) (Some (pt, value)) = ap (λ (c : Codec). made pt c value) codec in
-    ap rtpmap_fields_read h.joined ∙ rw (cut_at 32 h.number mapped lacks, num_reads 127 h.number pt h.number_is, mapping) same
+    grind (arith, number_lacks 32 h.number, channels_lack h.channels h.clock, cut_at 47 h.codec, cut_at 32 h.number, rest_true h.codec h.codec_is.0.0, read_only h.codec, num_reads 127 h.number)
 
 pub rtpmap_fields_both : Reads (λ text fields. IsRtpMap text fields.0 fields.1) rtpmap_fields_read
 rtpmap_fields_both = record { sound = rtpmap_found; complete = rtpmap_given }

@@ -1,8 +1,8 @@
 -- A section is printed as it was read: its lines are read as a section that is consistent where it was.
-use Rattle.str0m_signal.proofs.Common.{◌≡◌, ◌⊎◌, ◌+◌, ◌==◌, map, ℕ, Bool, true, false, not, cond, List, [], ◌∷◌, filter, zero-add, length, Option, Some, None, IfSome, All, refl, sym, subst, ap, ◌∙◌, arith, inl, inr, AllByRecursion, cases_Bool, lt-ltb, false≢true, All-nil, All-cons, All-head, All-tail, All-weaker, ◌<|>◌, param_text, FormatParam, Apt, media_attribute_text, Consistent, AgreesOnApt, is_shown, shown_line, is_of_type, MediaAttribute, Fmtp, RtcpFb, MediaLine, Srtp, Sctp, count_by, true≢false, not-true, All-filter, filter_passes, IsMapped, NamesNoOther, apt_of, apt_among, apt_in, first_apt, maps, is_mid, is_setup, is_direction}
-use Rattle.str0m_sdp.specs.declared.attribute.MediaAttribute.TheVariants.{Simulcast, RtpMap}
+use Rattle.str0m_signal.proofs.Common.{◌≡◌, ◌⊎◌, ◌+◌, ℕ, Bool, true, false, not, cond, List, [], ◌∷◌, filter, zero-add, Option, Some, None, IfSome, All, refl, sym, subst, ap, ◌∙◌, arith, inl, inr, AllByRecursion, cases_Bool, All-nil, All-cons, All-head, All-tail, All-weaker, ◌<|>◌, FormatParam, media_attribute_text, Consistent, AgreesOnApt, is_shown, is_of_type, MediaAttribute, Fmtp, RtcpFb, MediaLine, Srtp, Sctp, count_by, All-filter, filter_passes, IsMapped, NamesNoOther, apt_of, apt_among, apt_in, first_apt, maps, is_mid, is_setup, is_direction}
+use Rattle.str0m_sdp.specs.declared.attribute.MediaAttribute.TheVariants.{RtpMap}
 use Rattle.std.proofs.lemmas.List.Sums.{sum_by-cons}
-use Rattle.str0m_sdp.specs.Alike.{Alike, as_read}
+use Rattle.str0m_sdp.specs.Alike.{Alike}
 use Rattle.str0m_sdp.specs.declared.rtp_map.RtpMap.{RtpMap as Mapping}
 use Rattle.str0m_signal.specs.Writable.{MediaAreReadAs, IsFrame, frame_of}
 use Rattle.str0m_signal.proofs.AttributesAgain.{ComesBack, IsHidden, shown_only}
@@ -17,20 +17,13 @@ AreShownAs (x ∷ xs) reads =
 
 shown_twice : (values : List FormatParam) → filter is_shown (filter is_shown values) ≡ filter is_shown values
 shown_twice [] = refl
-shown_twice (v ∷ vs) =
-    elim (cases_Bool (is_shown v)) [
-      | inl yes' ↦ rw (yes', yes') (ap (λ (ws : List FormatParam). v ∷ ws) (shown_twice vs))
-      | inr no' ↦ rw no' (shown_twice vs)
-    ]
+shown_twice (v ∷ vs) = grind (arith, cases_Bool, shown_twice vs)
 
 goes_with : (x : MediaAttribute) → Alike x (shown_only x)
-goes_with (Fmtp pt values) = (refl, ap (λ (vs : List FormatParam). map as_read vs) (sym (shown_twice values)))
-goes_with (Simulcast simulcast) = inl refl
-goes_with x = refl
+goes_with x = grind (arith, shown_twice)
 
 prints_nothing : (x : MediaAttribute) → IsHidden x → media_attribute_text x ≡ []
-prints_nothing (Fmtp pt values) hidden = ap (shown_line pt) hidden
-prints_nothing x hidden = absurd hidden
+prints_nothing x hidden = grind arith
 
 -- attributes each of which comes back are read as what they show
 pub are_again : (attrs : List MediaAttribute) → AllByRecursion ComesBack attrs
@@ -62,49 +55,34 @@ counted p x xs = sum_by-cons (λ x. cond (p x) 1 0) x xs
 
 module _ (p : MediaAttribute → Bool) (no_fmtp : (pt : ℕ) (values : List FormatParam) → p (Fmtp pt values) ≡ false) where
   same_test : (x : MediaAttribute) → p (shown_only x) ≡ p x
-  same_test (Fmtp pt values) = no_fmtp pt (filter is_shown values) ∙ sym (no_fmtp pt values)
-  same_test x = refl
+  same_test x = grind arith
 
   hidden_test : (x : MediaAttribute) → IsHidden x → p x ≡ false
-  hidden_test (Fmtp pt values) hidden = no_fmtp pt values
-  hidden_test x hidden = absurd hidden
+  hidden_test x hidden = grind arith
 
   -- an attribute that isn't an fmtp line is counted alike
   pub count_again : (attrs reads : List MediaAttribute) → AreShownAs attrs reads → count_by p reads ≡ count_by p attrs
   count_again [] reads are = ap (count_by p) are
-  count_again (x ∷ xs) reads (inl are) =
-      count_again xs reads are.1 ∙ sym (zero-add (count_by p xs))
-      ∙ sym (counted p x xs ∙ ap (λ (b : Bool). cond b 1 0 + count_by p xs) (hidden_test x are.0))
-  count_again (x ∷ xs) reads (inr are) =
-      ap (count_by p) are.1 ∙ counted p (shown_only x) are.0
-      ∙ (λ i. cond (same_test x i) 1 0 + count_again xs are.0 are.2 i) ∙ sym (counted p x xs)
+  count_again (x ∷ xs) reads (inl are) = grind (arith, count_again xs reads are.1, zero-add, counted, hidden_test)
+  count_again (x ∷ xs) reads (inr are) = grind (arith, counted, same_test, count_again xs are.0 are.2)
 
 -- ---- the types that fmtp lines name
 
 hidden_names_none : (v : FormatParam) → is_shown v ≡ false → apt_of v ≡ None
-hidden_names_none (Apt pt) hidden =
-    absurd (true≢false (sym (lt-ltb 0 (length (param_text (Apt pt))) (omega arith)) ∙ hidden))
-hidden_names_none v hidden = refl
+hidden_names_none v hidden = grind arith
 
 shown_apt : (values : List FormatParam) → apt_among (filter is_shown values) ≡ apt_among values
 shown_apt [] = refl
-shown_apt (v ∷ vs) =
-    elim (cases_Bool (is_shown v)) [
-      | inl yes' ↦ rw yes' (ap (λ (o : Option ℕ). apt_of v <|> o) (shown_apt vs))
-      | inr no' ↦ rw (no', hidden_names_none v no') (shown_apt vs)
-    ]
+shown_apt (v ∷ vs) = grind (arith, cases_Bool, shown_apt vs, hidden_names_none)
 
 apt_again : (n : ℕ) (x : MediaAttribute) → apt_in n (shown_only x) ≡ apt_in n x
-apt_again n (Fmtp pt values) = ap (λ (o : Option ℕ). cond (pt == n) o None) (shown_apt values)
-apt_again n x = refl
+apt_again n x = grind (arith, shown_apt)
 
 either_none : (b : Bool) (o : Option ℕ) → o ≡ None → cond b o None ≡ None
-either_none true o e = e
-either_none false o e = refl
+either_none b o e = grind arith
 
 hidden_apt : (n : ℕ) (x : MediaAttribute) → IsHidden x → apt_in n x ≡ None
-hidden_apt n (Fmtp pt values) hidden = either_none (pt == n) (apt_among values) (sym (shown_apt values) ∙ ap apt_among hidden)
-hidden_apt n x hidden = absurd hidden
+hidden_apt n x hidden = grind (arith, either_none, shown_apt)
 
 first_again : (n : ℕ) (attrs reads : List MediaAttribute) → AreShownAs attrs reads → first_apt n reads ≡ first_apt n attrs
 first_again n [] reads are = ap (first_apt n) are
@@ -156,27 +134,15 @@ consistent_again m pts reads are types h = record {
 count_frame : (p : MediaAttribute → Bool) → ((x : MediaAttribute) → is_of_type x ≡ true → p x ≡ false) → (attrs : List MediaAttribute)
     → count_by p (filter (λ attr. not (is_of_type attr)) attrs) ≡ count_by p attrs
 count_frame p none [] = refl
-count_frame p none (x ∷ xs) =
-    elim (cases_Bool (is_of_type x)) [
-      | inl of_type ↦
-          rw of_type (count_frame p none xs ∙ sym (zero-add (count_by p xs))
-          ∙ sym (counted p x xs ∙ ap (λ (b : Bool). cond b 1 0 + count_by p xs) (none x of_type)))
-      | inr other ↦
-          rw other (counted p x (filter (λ attr. not (is_of_type attr)) xs)
-          ∙ ap (λ (n : ℕ). cond (p x) 1 0 + n) (count_frame p none xs) ∙ sym (counted p x xs))
-    ]
+count_frame p none (x ∷ xs) = grind (arith, cases_Bool, count_frame p none xs, zero-add, counted)
 
 not_of_type : (p : MediaAttribute → Bool) → ((pt : ℕ) → (value : Mapping) → p (RtpMap pt value) ≡ false)
     → ((pt : ℕ) (value : List ℕ) → p (RtcpFb pt value) ≡ false)
     → ((pt : ℕ) (values : List FormatParam) → p (Fmtp pt values) ≡ false) → (x : MediaAttribute) → is_of_type x ≡ true → p x ≡ false
-not_of_type p maps feedback fmtp (RtpMap pt value) h = maps pt value
-not_of_type p maps feedback fmtp (RtcpFb pt value) h = feedback pt value
-not_of_type p maps feedback fmtp (Fmtp pt values) h = fmtp pt values
-not_of_type p maps feedback fmtp x h = absurd (false≢true h)
+not_of_type p maps feedback fmtp x h = grind arith
 
 type_again : (x : MediaAttribute) → not (is_of_type x) ≡ true → is_of_type (shown_only x) ≡ false
-type_again (Fmtp pt values) h = absurd (false≢true h)
-type_again x h = not-true (is_of_type x) h
+type_again x h = grind arith
 
 -- the frame of a consistent section over Srtp, as it is read
 pub frame_again : (m : MediaLine) (pts : List ℕ) (reads : List MediaAttribute) → AreShownAs (frame_of m).attrs reads → m.proto ≡ Srtp

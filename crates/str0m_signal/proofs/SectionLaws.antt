@@ -1,8 +1,8 @@
 -- The lines of a section are read exactly where their forms hold.
-use Rattle.str0m_signal.proofs.Common.{◌≡◌, ℕ, Bool, true, false, cond, List, [], ◌∷◌, ◌++◌, length, Option, Some, None, refl, sym, ap, subst, ◌∙◌, arith, inl, inr, codes, is_some, bytes_eq, ltb-true, both_ways, append-nil, Parted, bytes_eq-Decides, Bandwidth, AUDIO, VIDEO, SRTP, SCTP, MediaType, Proto, Srtp, Sctp, IsRest, IsNum, FirstFit, ◌>>=◌, cut, strip, when, is_rest, cut_at, cut_found, strip_at, strip_found, when_some, Sound, bind_some, some_is, sound_or, reads_first, number_lacks, rest_true, num_both, Reads, false_from_ne_true}
+use Rattle.str0m_signal.proofs.Common.{rules, ◌≡◌, ℕ, Bool, false, cond, List, [], ◌∷◌, ◌++◌, length, Option, Some, None, refl, sym, ap, subst, ◌∙◌, arith, codes, is_some, bytes_eq, ltb-true, both_ways, append-nil, Parted, bytes_eq-Decides, Bandwidth, AUDIO, VIDEO, MediaType, Proto, IsRest, IsNum, FirstFit, ◌>>=◌, cut, strip, when, is_rest, cut_at, cut_found, strip_at, strip_found, when_some, Sound, bind_some, some_is, sound_or, reads_first, number_lacks, rest_true, num_both, Reads, false_from_ne_true}
 use Rattle.std.proofs.lemmas.Bool.Decides.{same_from_decides}
 use Rattle.str0m_signal.proofs.PartLaws.{parted_both}
-use Rattle.str0m_sdp.specs.declared.label.TheConstants.{APPLICATION, OLD_SCTP}
+use Rattle.str0m_sdp.specs.declared.label.TheConstants.{APPLICATION}
 use Rattle.str0m_sdp.specs.declared.media_type.MediaType.TheVariants.{Audio, Video, Application, Unknown}
 use Rattle.str0m_signal.specs.Section.{IsField, IsBandwidth, Begins, IsKind, IsProto, NoTypes, Head, IsHead}
 use Rattle.str0m_signal.specs.SectionReading.{field_read, bandwidth_read, unknown_read, kind_read, proto_read, numbers_read, no_types_read, types_read, head_read}
@@ -10,14 +10,7 @@ use Rattle.str0m_values.proofs.WordLaws.{word_sound}
 use Rattle.std.proofs.NetLemmas.Options.{cond_none}
 
 pub field_both : (letter : List ℕ) → Reads (IsField letter) (field_read letter)
-field_both letter = record {
-  sound = λ content text e.
-      let a = bind_some (strip letter content) (λ t. when (is_rest t) t) text e in
-      let w = when_some (is_rest a.0) a.0 text a.2 in
-      let filled : IsRest a.0 = ltb-true 0 (length a.0) w.0 in
-      (strip_found letter content a.0 a.1 ∙ ap (λ (t : List ℕ). letter ++ t) w.1, subst IsRest w.1 filled);
-  complete = λ content text h. ap (field_read letter) h.0 ∙ rw (strip_at letter text, rest_true text h.1) refl;
-}
+field_both letter = grind (arith, bind_some, when_some, ltb-true, strip_found, strip_at, rest_true)
 
 pub bandwidth_both : Reads IsBandwidth bandwidth_read
 bandwidth_both = record { sound = found; complete = given }
@@ -41,9 +34,7 @@ bandwidth_both = record { sound = found; complete = given }
 -- ---- kinds and protocols
 
 not_begun : (front text : List ℕ) → is_some (strip front text) ≡ false → Begins front text → ⊥
-not_begun front text e h =
-    let begun : is_some (strip front text) ≡ true = ap (λ (t : List ℕ). is_some (strip front t)) h.1 ∙ ap (λ (o : Option (List ℕ)). is_some o) (strip_at front h.0) in
-    absurd (both_ways (is_some (strip front text)) e begun)
+not_begun front text e h = grind (arith, strip_at, both_ways)
 
 begun_not : (front text : List ℕ) → (Begins front text → ⊥) → is_some (strip front text) ≡ false
 begun_not front text h = go (strip front text) refl
@@ -66,32 +57,25 @@ unknown_sound = record {
 }
 
 kind_sound : Sound IsKind kind_read
-kind_sound = sound_or (word_sound AUDIO.now Audio refl) (sound_or (word_sound VIDEO.now Video refl) (sound_or (word_sound APPLICATION.now Application refl) unknown_sound))
+kind_sound = search (rules, sound_or, word_sound, unknown_sound)
 
 kind_complete : (text : List ℕ) (kind : MediaType) → IsKind text kind → kind_read text ≡ Some kind
 kind_complete text Audio h = rw h refl
 kind_complete text Video h = rw h refl
 kind_complete text Application h = rw h refl
-kind_complete text (Unknown name) h =
-    rw (word_not AUDIO.now text h.2, word_not VIDEO.now text h.3, word_not APPLICATION.now text h.4, begun_not AUDIO.now text h.2, begun_not VIDEO.now text h.3, begun_not APPLICATION.now text h.4, rest_true text h.1)
-    (ap (λ (t : List ℕ). Some (Unknown t)) h.0)
+kind_complete text (Unknown name) h = search (rules, word_not, begun_not, rest_true)
 
 kind_filled : (text : List ℕ) (kind : MediaType) → IsKind text kind → IsRest text
-kind_filled text Audio h = rw h (omega arith)
-kind_filled text Video h = rw h (omega arith)
-kind_filled text Application h = rw h (omega arith)
-kind_filled text (Unknown name) h = h.1
+kind_filled text kind h = grind arith
 
 proto_sound : Sound IsProto proto_read
-proto_sound = sound_or (word_sound SRTP.now Srtp refl) (sound_or (word_sound OLD_SCTP.now Sctp (inl refl)) (word_sound SCTP.now Sctp (inr refl)))
+proto_sound = search (rules, sound_or, word_sound)
 
 proto_complete : (text : List ℕ) (proto : Proto) → IsProto text proto → proto_read text ≡ Some proto
-proto_complete text Srtp h = rw h refl
-proto_complete text Sctp h = elim h [ inl e ↦ rw e refl | inr e ↦ rw e refl ]
+proto_complete text proto h = grind arith
 
 proto_filled : (text : List ℕ) (proto : Proto) → IsProto text proto → IsRest text
-proto_filled text Srtp h = rw h (omega arith)
-proto_filled text Sctp h = elim h [ inl e ↦ rw e (omega arith) | inr e ↦ rw e (omega arith) ]
+proto_filled text proto h = grind arith
 
 -- ---- types
 

@@ -1,5 +1,5 @@
 -- The attributes of a session are read exactly where their forms hold, and are printed as they were read.
-use Rattle.str0m_signal.proofs.Common.{ℕ, true, List, ◌++◌, refl, sym, subst, lit≤, inl, inr, session_attribute_text, SessionAttribute, reads_first}
+use Rattle.str0m_signal.proofs.Common.{arith, ℕ, true, List, ◌++◌, refl, sym, subst, lit≤, inl, inr, session_attribute_text, SessionAttribute, reads_first}
 use Rattle.str0m_values.proofs.BothWays.{Reads}
 use Rattle.str0m_sdp.specs.declared.attribute.SessionAttribute.TheVariants.{Group, Candidate, Fingerprint, Setup, Unused}
 use Rattle.str0m_signal.specs.FormTable.{Form, led_by}
@@ -61,5 +61,4 @@ pub session_again : (text : List ℕ) (attr : SessionAttribute) → HoldsNoEnd t
 session_again text attr quiet starts (inl h) =
     let new = (any_again session_forms (laws_of KeptForm ComesBack (λ form law. law.prints) session_forms laws)).again text attr quiet starts tt h in
     subst (λ (t : List ℕ). IsPrintedAs IsSessionLine t attr) (sym new.1) (line_printed SessionForm new.0 attr new.2 (inl new.3))
-session_again text attr quiet starts (inr (none, (filled, e))) =
-    rw e (line_printed SessionForm text (Unused text) quiet (inr (none, (filled, refl))))
+session_again text attr quiet starts (inr (none, (filled, e))) = grind (arith, line_printed SessionForm text (Unused text) quiet)

@@ -1,5 +1,5 @@
 -- A printed header, with a bandwidth or without, and a printed session are read as what they say.
-use Rattle.str0m_signal.proofs.Common.{◌≡◌, ◌≢◌, ◌<◌, ◌^◌, inl, inr, ℕ, List, [], ◌∷◌, ◌++◌, Option, IfSome, refl, sym, ap, ◌∙◌, subst, arith, lit<, codes, flat_map, decimal, decimal_is_IsNumeral, append_assoc, Lacks, lacks_from, session_attribute_text, bandwidth_text, line_end, Bandwidth, SessionAttribute, origin_line, session_text}
+use Rattle.str0m_signal.proofs.Common.{◌≡◌, ◌≢◌, ◌<◌, ◌^◌, ℕ, List, [], ◌∷◌, ◌++◌, Option, IfSome, refl, sym, ap, ◌∙◌, subst, arith, lit<, codes, flat_map, decimal, decimal_is_IsNumeral, append_assoc, Lacks, lacks_from, session_attribute_text, bandwidth_text, line_end, Bandwidth, SessionAttribute, origin_line, session_text}
 use Rattle.str0m_sdp.specs.declared.session.Session.{Session as TheSession}
 use Rattle.str0m_signal.specs.Chains.{Stops}
 use Rattle.str0m_signal.specs.Header.{IsHeader, IsOrigin, IsInfo}
@@ -9,7 +9,7 @@ use Rattle.str0m_signal.specs.Section.{IsBandwidth}
 use Rattle.str0m_signal.specs.SessionAttribute.{SessionForm, IsSessionLine}
 use Rattle.str0m_signal.specs.Writable.{IsPrintedAs}
 use Rattle.str0m_signal.proofs.PrintedAttributes.{AreReadAs, HoldsNoEnd, no_ends, no_end, decimal_no_end}
-use Rattle.str0m_signal.proofs.PrintedLines.{printed_line, ArePrinted, joined-append, printed-append, Apart, apart-append, apart, first_of, no_field, no_attribute, SaidLines, said}
+use Rattle.str0m_signal.proofs.PrintedLines.{printed_line, ArePrinted, joined-append, printed-append, Apart, apart-append, apart, no_field, no_attribute, SaidLines, said}
 use Rattle.str0m_signal.proofs.Sections.{SaidBandwidth, said_bandwidth}
 
 abbrev pub origin : ℕ → List ℕ
@@ -32,30 +32,13 @@ origin_is id small =
     word = lacks_from 32 (codes "str0m-0.25.0") refl
 
 origin_no_end : (id : ℕ) → id < 2 ^ 64 → HoldsNoEnd (origin id)
-origin_no_end id small =
-    no_ends (codes "o=str0m-0.25.0 ") _ (no_end (codes "o=str0m-0.25.0 ") refl refl)
-    (no_ends (decimal id) (codes " 2 IN IP4 0.0.0.0") (decimal_no_end id small) (no_end (codes " 2 IN IP4 0.0.0.0") refl refl))
+origin_no_end id small = grind (arith, no_ends, no_end, decimal_no_end)
 
 -- ---- the header
 
 infos_stop : (lines : List Line) → ((c : ℕ) → c ≢ 98 → c ≢ 116 → Apart c lines) → Stops (OneLine IsInfo) lines
 infos_stop [] letter k after one = let e = one.1 in absurd cc
-infos_stop (line ∷ lines) letter k after one = go one.3 where
-  same : line.content ≡ one.0.content
-  same = ap (λ (l : Line). l.content) (first_of line one.0 lines after one.1)
-
-  not : (c : ℕ) (text : List ℕ) → c ≢ 98 → c ≢ 116 → one.0.content ≡ c ∷ text → ⊥
-  not c text b t e = letter c b t text (same ∙ e)
-
-  go : IsInfo one.0.content k → ⊥
-  go (inl f) = not 105 (61 ∷ k) (λ e. omega (arith, e)) (λ e. omega (arith, e)) f.0
-  go (inr (inl f)) = not 117 (61 ∷ k) (λ e. omega (arith, e)) (λ e. omega (arith, e)) f.0
-  go (inr (inr (inl f))) = not 101 (61 ∷ k) (λ e. omega (arith, e)) (λ e. omega (arith, e)) f.0
-  go (inr (inr (inr (inl f)))) = not 112 (61 ∷ k) (λ e. omega (arith, e)) (λ e. omega (arith, e)) f.0
-  go (inr (inr (inr (inr (inl f))))) = not 99 (61 ∷ k) (λ e. omega (arith, e)) (λ e. omega (arith, e)) f.0
-  go (inr (inr (inr (inr (inr (inl f)))))) = not 122 (61 ∷ k) (λ e. omega (arith, e)) (λ e. omega (arith, e)) f.0
-  go (inr (inr (inr (inr (inr (inr (inl f))))))) = not 107 (61 ∷ k) (λ e. omega (arith, e)) (λ e. omega (arith, e)) f.0
-  go (inr (inr (inr (inr (inr (inr (inr never))))))) = elim never [ ]
+infos_stop (line ∷ lines) letter k after one = grind arith
 
 abbrev pub timing : Line
 timing = printed_line (codes "t=0 0")

@@ -1,5 +1,5 @@
 -- A simulcast line is read exactly where its form holds.
-use Rattle.str0m_signal.proofs.Common.{◌≡◌, ◌≢◌, ℕ, Bool, true, false, List, [], ◌∷◌, ◌++◌, length, Option, Some, None, refl, sym, ap, subst, ◌∙◌, arith, inl, inr, codes, is_some, list_all, ltb-true, ne_eqb, and_parts, and_from, RestrictionId, SimulcastLayer, name_text, ◌>>=◌, cut, strip, when, is_rest, lacks, Parted, Lacks, IsRest, Sound, bind_some, some_is, sound_or, cut_none, cut_at, cut_found, strip_found, lacks_true, lacks_from, when_some, when_true, rest_true, Reads, chars}
+use Rattle.str0m_signal.proofs.Common.{rules, ◌≡◌, ◌≢◌, ℕ, Bool, true, List, [], ◌∷◌, ◌++◌, Option, Some, None, refl, sym, ap, subst, ◌∙◌, arith, inl, inr, codes, is_some, ltb-true, and_parts, and_from, RestrictionId, SimulcastLayer, name_text, ◌>>=◌, cut, strip, when, lacks, Parted, Lacks, IsRest, Sound, bind_some, some_is, sound_or, cut_none, cut_at, cut_found, strip_found, lacks_true, lacks_from, when_some, when_true, rest_true, Reads, chars}
 use Rattle.str0m_sdp.specs.declared.simulcast.Simulcast.{Simulcast}
 use Rattle.str0m_signal.specs.Forms.{Behind, Two}
 use Rattle.str0m_signal.specs.FormReading.{behind, parted_read}
@@ -12,39 +12,22 @@ use Rattle.str0m_signal.proofs.PartLaws.{parted_both}
 -- ---- names
 
 pub name_from : (text : List ℕ) → is_stream_name text ≡ true → IsStreamName text
-name_from text e =
-    let a = and_parts (is_rest text) _ e in
-    let b = and_parts (list_all is_name_character (chars text)) _ a.1 in
-    let c = and_parts (lacks 32 text) _ b.1 in
-    let d = and_parts (lacks 44 text) _ c.1 in
-    let f = and_parts (lacks 59 text) (lacks 126 text) d.1 in
-    record { filled = ltb-true 0 (length text) a.0; characters = b.0; space = lacks_from 32 text c.0; comma = lacks_from 44 text d.0; semicolon = lacks_from 59 text f.0; tilde = lacks_from 126 text f.1 }
+name_from text e = grind (arith, and_parts, is_name_character, chars, ltb-true, lacks_from)
 
 pub name_true : (text : List ℕ) → IsStreamName text → is_stream_name text ≡ true
-name_true text h =
-    and_from (is_rest text) _ (rest_true text h.filled)
-    (and_from (list_all is_name_character (chars text)) _ h.characters
-    (and_from (lacks 32 text) _ (lacks_true 32 text h.space)
-    (and_from (lacks 44 text) _ (lacks_true 44 text h.comma)
-    (and_from (lacks 59 text) (lacks 126 text) (lacks_true 59 text h.semicolon) (lacks_true 126 text h.tilde)))))
+name_true text h = grind (arith, and_from, rest_true, is_name_character, chars, lacks_true)
 
 -- ---- alternatives
 
 alternative_found : (text : List ℕ) (id : RestrictionId) (o : Option (List ℕ)) → strip (codes "~") text ≡ o → alternative_after text o ≡ Some id → IsAlternative text id
-alternative_found text id None is e =
-    let w = when_some (is_stream_name text) (record { 0 = text; 1 = true }) id e in
-    rw (← w.1) (refl, name_from text w.0)
-alternative_found text id (Some name) is e =
-    let w = when_some (is_stream_name name) (record { 0 = name; 1 = false }) id e in
-    rw (← w.1) (strip_found (codes "~") text name is, name_from name w.0)
+alternative_found text id None is e = grind (arith, when_some (is_stream_name text) (record { 0 = text; 1 = true }) id e, name_from text)
+alternative_found text id (Some name) is e = grind (arith, when_some, strip_found, name_from)
 
 no_tilde : (text : List ℕ) → IsRest text → Lacks 126 text → strip (codes "~") text ≡ None
-no_tilde [] filled h = absurd (omega (arith, filled))
-no_tilde (x ∷ xs) filled h = rw (ne_eqb 126 x (λ e. h.0 (sym e))) refl
+no_tilde text filled h = grind arith
 
 alternative_given : (text name : List ℕ) (active : Bool) → text ≡ name_text name active → IsStreamName name → alternative_read text ≡ Some (record { 0 = name; 1 = active })
-alternative_given text name true is h = ap alternative_read is ∙ rw (no_tilde name h.filled h.tilde, name_true name h) refl
-alternative_given text name false is h = ap alternative_read is ∙ rw (name_true name h) refl
+alternative_given text name active is h = grind (arith, no_tilde, name_true)
 
 alternative_both : Reads IsAlternative alternative_read
 alternative_both = record {
@@ -53,8 +36,7 @@ alternative_both = record {
 }
 
 alternative_lacks : (c : ℕ) → 126 ≢ c → ((name : List ℕ) → IsStreamName name → Lacks c name) → (text name : List ℕ) (active : Bool) → text ≡ name_text name active → IsStreamName name → Lacks c text
-alternative_lacks c other lacks text name true is h = rw is (lacks name h)
-alternative_lacks c other lacks text name false is h = rw is (other, lacks name h)
+alternative_lacks c other lacks text name o is h = grind arith
 
 alternative_comma : (text : List ℕ) (id : RestrictionId) → IsAlternative text id → Lacks 44 text
 alternative_comma text id h = alternative_lacks 44 (λ e. absurd (omega arith)) (λ name k. k.comma) text id.0 id.1 h.0 h.1
@@ -93,12 +75,7 @@ first_found text id (Some p) is e =
     others_of (Some others) e some front joined first = listed front joined first others (alternatives_both.sound p.1 others e)
 
 first_given : (text : List ℕ) (id : RestrictionId) (others : List RestrictionId) → Parted 44 IsAlternative text (id ∷ others) → first_after text (cut 44 text) ≡ Some id
-first_given text id [] h = rw (cut_none 44 text (alternative_comma text id h)) (alternative_both.complete text id h)
-first_given text id (x ∷ xs) h =
-    ap (λ (t : List ℕ). first_after t (cut 44 t)) h.2
-    ∙ ap (λ (o : Option (List ℕ × List ℕ)). first_after (h.0 ++ (44 ∷ h.1)) o) (cut_at 44 h.0 h.1 (alternative_comma h.0 id h.3))
-    ∙ ap (λ (o : Option RestrictionId). o >>= λ y. when (is_some (parted_read 44 alternative_read h.1)) y) (alternative_both.complete h.0 id h.3)
-    ∙ when_true (is_some (parted_read 44 alternative_read h.1)) id (ap (λ (o : Option (List RestrictionId)). is_some o) (alternatives_both.complete h.1 (x ∷ xs) h.4))
+first_given text id others h = grind (arith, cut_none, alternative_comma, alternative_both, cut_at, when_true, alternatives_both)
 
 layer_both : Reads IsLayer layer_read
 layer_both = record {
@@ -133,9 +110,7 @@ AreOrdered other text first [] = IsSide text first
 AreOrdered other text first (x ∷ second) = Two 32 IsSide (Behind other IsSide) text (first, x ∷ second)
 
 sides_found : (other text : List ℕ) (sides : List SimulcastLayer × List SimulcastLayer) (o : Option (List ℕ × List ℕ)) → cut 32 text ≡ o → sides_after other text o ≡ Some sides → AreOrdered other text sides.0 sides.1
-sides_found other text sides None is e =
-    let a = bind_some (side_read text) (λ first. Some (first, [])) sides e in
-    rw (← some_is (a.0, []) sides a.2) (side_both.sound text a.0 a.1)
+sides_found other text sides None is e = grind (arith, bind_some, some_is, side_both)
 sides_found other text sides (Some p) is e =
     let a = bind_some (side_read p.0) (λ first. behind other side_read p.1 >>= λ second. Some (first, second)) sides e in
     let b = bind_some (behind other side_read p.1) (λ second. Some (a.0, second)) sides a.2 in
@@ -153,16 +128,10 @@ sides_given other text first (x ∷ second) h =
     ap (sides_read other) h.2 ∙ rw (cut_at 32 h.0 h.1 h.3, side_both.complete h.0 first h.4, (behind_both other side_both).complete h.1 (x ∷ second) h.5) refl
 
 sent_first : (text : List ℕ) (first second : List SimulcastLayer) → Behind (codes "send ") (λ body layers. AreOrdered (codes "recv ") body first second) text first → AreSides text first second
-sent_first text [] [] h = absurd h.2
-sent_first text [] (x ∷ xs) h = absurd h.2.4
-sent_first text (s ∷ send) [] h = h
-sent_first text (s ∷ send) (x ∷ xs) h = inl h
+sent_first text first second h = grind arith
 
 received_first : (text : List ℕ) (first second : List SimulcastLayer) → Behind (codes "recv ") (λ body layers. AreOrdered (codes "send ") body first second) text first → AreSides text second first
-received_first text [] [] h = absurd h.2
-received_first text [] (x ∷ xs) h = absurd h.2.4
-received_first text (r ∷ recv) [] h = h
-received_first text (r ∷ recv) (x ∷ xs) h = inr h
+received_first text first second h = grind arith
 
 -- what is read behind a word, as layers
 abbrev way_read : List ℕ → List ℕ → (List SimulcastLayer → List SimulcastLayer → Simulcast) → List ℕ → Option Simulcast
@@ -189,13 +158,8 @@ sides_complete : (text : List ℕ) (send recv : List SimulcastLayer) → AreSide
 sides_complete text [] [] h = absurd h
 sides_complete text (s ∷ send) [] h = ap simulcast_fields_read h.1 ∙ rw (sides_given (codes "recv ") h.0 (s ∷ send) [] h.2) refl
 sides_complete text [] (r ∷ recv) h = ap simulcast_fields_read h.1 ∙ rw (sides_given (codes "send ") h.0 (r ∷ recv) [] h.2) refl
-sides_complete text (s ∷ send) (r ∷ recv) (inl h) = ap simulcast_fields_read h.1 ∙ rw (sides_given (codes "recv ") h.0 (s ∷ send) (r ∷ recv) h.2) refl
-sides_complete text (s ∷ send) (r ∷ recv) (inr h) = ap simulcast_fields_read h.1 ∙ rw (sides_given (codes "send ") h.0 (r ∷ recv) (s ∷ send) h.2) refl
+sides_complete text (s ∷ send) (r ∷ recv) (inl h) = grind (arith, sides_given (codes "recv ") h.0 (s ∷ send) (r ∷ recv) h.2)
+sides_complete text (s ∷ send) (r ∷ recv) (inr h) = grind (arith, sides_given (codes "send ") h.0 (r ∷ recv) (s ∷ send) h.2)
 
 pub simulcast_fields_both : Reads IsSimulcast simulcast_fields_read
-simulcast_fields_both = record {
-  sound = (sound_or sent_sound received_sound).law;
-  complete = λ text x h.
-      sides_complete text x.send.0 x.recv.0 h.0
-      ∙ ap (λ (munged : Bool). let made : Simulcast = record { send = x.send; recv = x.recv; is_munged = munged } in Some made) (sym h.1);
-}
+simulcast_fields_both = search (rules, sound_or, sent_sound, received_sound, sides_complete)

@@ -1,8 +1,8 @@
 -- The attributes of a table are printed as they were read: from the laws of each form.
-use Rattle.str0m_signal.proofs.Common.{◌≡◌, ◌≤◌, ◌<◌, ◌^◌, ℕ, Bool, true, List, [], ◌∷◌, ◌++◌, map, refl, sym, subst, lit≤, inl, inr, digit_value, decimal, attribute_line}
+use Rattle.str0m_signal.proofs.Common.{num_both, ◌≡◌, ◌≤◌, ◌<◌, ◌^◌, ℕ, Bool, true, List, [], ◌∷◌, ◌++◌, map, refl, sym, subst, lit≤, inl, inr, digit_value, decimal, attribute_line}
 use Rattle.str0m_signal.specs.FormTable.{Piece, Form, word, words_of, words, made, labelled, texts_of, texts, any, a_text, number, two, tailed, led_by}
 use Rattle.str0m_signal.proofs.CharacterStarts.{StartsWithin}
-use Rattle.str0m_signal.proofs.FormLaws.{text_both, num_both, two_both, tailed_both}
+use Rattle.str0m_signal.proofs.FormLaws.{text_both, two_both, tailed_both}
 use Rattle.str0m_signal.proofs.PiecesAgain.{Again, text_again, num_again, two_again, tailed_again, behind_again}
 use Rattle.str0m_signal.proofs.PrintedAttributes.{HoldsNoEnd}
 use Rattle.str0m_signal.proofs.TableLaws.{Readable, Lawful, AllOf, labelled_lawful, words_lawful, texts_lawful, forms_apart, head_is, tail_is}

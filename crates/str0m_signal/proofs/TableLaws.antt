@@ -1,5 +1,5 @@
 -- A table of forms is read exactly where one of its forms holds: from a law of each form, and from its labels.
-use Rattle.str0m_signal.proofs.Common.{◌≡◌, ◌⊎◌, ℕ, Bool, true, false, ◌&&◌, ◌||◌, ◌==◌, List, [], ◌∷◌, ◌++◌, length, Option, Some, None, refl, sym, ap, subst, ◌∙◌, inl, inr, list_all, list_any, bytes_eq, cases_eq, cases_Bool, eq-eqb, ne_eqb, and_parts, ltb-true, false≢true, bytes_eq-Decides, ◌>>=◌, ◌<|>◌, is_rest, or_some, bind_some, some_is, rest_true, when_some, when_true}
+use Rattle.str0m_signal.proofs.Common.{arith, ◌≡◌, ◌⊎◌, ℕ, Bool, true, false, ◌&&◌, ◌||◌, ◌==◌, List, [], ◌∷◌, ◌++◌, Option, Some, None, refl, sym, ap, ◌∙◌, inl, inr, list_all, list_any, cases_eq, cases_Bool, eq-eqb, ne_eqb, and_parts, false≢true, bytes_eq-Decides, ◌<|>◌, or_some, when_some, when_true}
 use Rattle.std.proofs.Common.{append_assoc, append-nil}
 use Rattle.std.specs.Prelude.{if◌then◌else◌}
 use Rattle.str0m_values.proofs.BothWays.{reads_none, Reads}
@@ -40,34 +40,16 @@ own_lawful label reads begins = record {
 }
 
 pub made_lawful : {A B : Type 0} {form : Form A} (make : A → B) → Lawful form → Lawful (made form make)
-made_lawful {A} {B} {form} make law = record {
-  reads = record {
-    sound = λ text y e.
-        let a = bind_some (form.read text) (λ x. Some (make x)) y e in
-        (a.0, law.reads.sound text a.0 a.1, sym (some_is (make a.0) y a.2));
-    complete = λ text y h.
-        ap (λ (o : Option A). o >>= λ x. Some (make x)) (law.reads.complete text h.0 h.1) ∙ ap (λ (z : B). Some z) (sym h.2);
-  };
-  begins = λ text y h. law.begins text h.0 h.1;
-}
+made_lawful {A} {B} {form} make law = grind arith
 
 pub labelled_lawful : {A B : Type 0} {piece : Piece A} (label : List ℕ) (make : A → B) → Readable piece → Lawful (labelled label piece make)
 labelled_lawful label make reads = made_lawful make (own_lawful label (behind_both label reads) (λ text x h. (h.0, h.1)))
 
 word_lawful : {A : Type 0} (name : List ℕ) (x : A) → Lawful (word name x)
-word_lawful name x = record {
-  reads = record {
-    sound = λ text y e. let w = when_some (bytes_eq text name) x y e in ((bytes_eq-Decides text name).0 w.0, sym w.1);
-    complete = λ text y h. rw h.1 (when_true (bytes_eq text name) x ((bytes_eq-Decides text name).1 h.0));
-  };
-  begins = λ text y h. inl ([], rw h.0 (sym (append-nil (name ++ (10 ∷ [])))));
-}
+word_lawful name x = grind (arith, when_some, bytes_eq-Decides, when_true, append-nil)
 
 pub unused_reads : {A : Type 0} (make : List ℕ → A) → Reads (IsUnused make) (unused_read make)
-unused_reads {A} make = record {
-  sound = λ text x e. let w = when_some (is_rest text) (make text) x e in (ltb-true 0 (length text) w.0, sym w.1);
-  complete = λ text x h. when_true (is_rest text) (make text) (rest_true text h.0) ∙ ap (λ (a : A). Some a) (sym h.1);
-}
+unused_reads {A} make = grind arith
 
 -- ---- several forms
 
@@ -86,10 +68,7 @@ head_is x y xs ys e = cc
 apart_texts : (a b r s : List ℕ) → are_apart a b ≡ true → a ++ r ≡ b ++ s → ⊥
 apart_texts [] b r s far e = false≢true far
 apart_texts (x ∷ a) [] r s far e = false≢true far
-apart_texts (x ∷ a) (y ∷ b) r s far e = elim (cases_eq x y) [
-  | inl same ↦ apart_texts a b r s (rw (eq-eqb x y same) at far) (tail_is x y (a ++ r) (b ++ s) e)
-  | inr other ↦ other (head_is x y (a ++ r) (b ++ s) e)
-]
+apart_texts (x ∷ a) (y ∷ b) r s far e = grind (arith, cases_eq, apart_texts a b r s, eq-eqb, tail_is)
 
 -- no label of the one form is the beginning of one of the other
 abbrev labels_apart : List (List ℕ) → List (List ℕ) → Bool
@@ -97,7 +76,7 @@ labels_apart ls ms = list_all (λ a. list_all (are_apart a) ms) ls
 
 apart_from : (a : List ℕ) (ms : List (List ℕ)) (text r : List ℕ) → list_all (are_apart a) ms ≡ true → text ++ (10 ∷ []) ≡ a ++ r → Begins text ms → ⊥
 apart_from a [] text r far e h = absurd h
-apart_from a (b ∷ ms) text r far e (inl h) = apart_texts a b r h.0 (and_parts (are_apart a b) (list_all (are_apart a) ms) far).0 (sym e ∙ h.1)
+apart_from a (b ∷ ms) text r far e (inl h) = grind (arith, apart_texts, and_parts)
 apart_from a (b ∷ ms) text r far e (inr h) = apart_from a ms text r (and_parts (are_apart a b) (list_all (are_apart a) ms) far).1 e h
 
 no_both : (ls ms : List (List ℕ)) (text : List ℕ) → labels_apart ls ms ≡ true → Begins text ls → Begins text ms → ⊥
@@ -112,12 +91,7 @@ forms_apart (form ∷ forms) = labels_apart form.labels (labels_of forms) && for
 
 -- the first form, and then the others
 next_read : {A : Type 0} (form : Form A) (forms : List (Form A)) (text : List ℕ) → first_read (form ∷ forms) text ≡ (form.read text <|> first_read forms text)
-next_read form [] text = ending (form.read text)
-  where
-    ending : {A : Type 0} (o : Option A) → o ≡ (o <|> None)
-    ending None = refl
-    ending (Some x) = refl
-next_read form (other ∷ forms) text = refl
+next_read form forms text = grind arith
 
 begins_either : (ls ms : List (List ℕ)) (text : List ℕ) → Begins text ls ⊎ Begins text ms → Begins text (ls ++ ms)
 begins_either [] ms text (inl h) = absurd h
@@ -148,7 +122,7 @@ module _ {A : Type 0} where
       next_read form forms text ∙ rw none (any_complete forms laws.1 parts.1 text x h)
 
   pub any_lawful : (forms : List (Form A)) → AllOf Lawful forms → forms_apart forms ≡ true → Lawful (any forms)
-  any_lawful forms laws far = record { reads = record { sound = any_sound forms laws; complete = any_complete forms laws far }; begins = any_begins forms laws }
+  any_lawful forms laws far = grind (arith, any_sound, any_complete, any_begins)
 
   words_lawful_each : (rows : List (List ℕ × A)) → AllOf Lawful (words_of rows)
   words_lawful_each [] = tt
@@ -175,23 +149,13 @@ starts_in letters [] = false
 starts_in letters (x ∷ label) = is_in x letters
 
 first_is : (text : List ℕ) (x : ℕ) (rest : List ℕ) → text ++ (10 ∷ []) ≡ x ∷ rest → first_byte text ≡ x
-first_is [] x rest e = head_is 10 x [] rest e
-first_is (y ∷ ys) x rest e = head_is y x (ys ++ (10 ∷ [])) rest e
-
-one_letter : (letters : List ℕ) (label text rest : List ℕ) → starts_in letters label ≡ true → text ++ (10 ∷ []) ≡ label ++ rest
-    → (is_in (first_byte text) letters ≡ true) × (first_byte label ≡ first_byte text)
-one_letter letters [] text rest within e = absurd (false≢true within)
-one_letter letters (x ∷ label) text rest within e =
-    let same = first_is text x (label ++ rest) e in
-    (subst (λ (c : ℕ). is_in c letters ≡ true) (sym same) within, sym same)
+first_is text x rest e = grind arith
 
 -- a text that begins with one of the labels begins with a letter of both
 letter_of : (letters : List ℕ) (labels : List (List ℕ)) (text : List ℕ) → list_all (starts_in letters) labels ≡ true → Begins text labels
     → (is_in (first_byte text) letters ≡ true) × (begins_with (first_byte text) labels ≡ true)
 letter_of letters [] text within h = absurd h
-letter_of letters (label ∷ labels) text within (inl h) =
-    let one = one_letter letters label text h.0 (and_parts (starts_in letters label) (list_all (starts_in letters) labels) within).0 h.1 in
-    (one.0, rw (eq-eqb (first_byte label) (first_byte text) one.1) refl)
+letter_of letters (label ∷ labels) text within (inl h) = grind arith
 letter_of letters (label ∷ labels) text within (inr h) =
     let more = letter_of letters labels text (and_parts (starts_in letters label) (list_all (starts_in letters) labels) within).1 h in
     (more.0, either (first_byte label == first_byte text) (begins_with (first_byte text) labels) more.1)
@@ -224,9 +188,7 @@ module _ {A : Type 0} (letters text : List ℕ) where
 
   none_asked : (forms : List (Form A)) → AllOf Lawful forms → start_in letters forms ≡ true → is_in (first_byte text) letters ≡ false → first_read forms text ≡ None
   none_asked [] laws within e = refl
-  none_asked (form ∷ forms) laws within e =
-      let parts = and_parts (list_all (starts_in letters) form.labels) (start_in letters forms) within in
-      next_read form forms text ∙ rw (not_asked form laws.0 parts.0 (inl e)) (none_asked forms laws.1 parts.1 e)
+  none_asked (form ∷ forms) laws within e = grind (arith, and_parts, not_asked, none_asked forms laws.1)
 
   chosen : (ls : List ℕ) (forms : List (Form A)) (c : ℕ) → is_in c ls ≡ true → by_letter ls forms c text ≡ letter_read forms c text
   chosen [] forms c e = absurd (false≢true e)
@@ -237,10 +199,7 @@ module _ {A : Type 0} (letters text : List ℕ) where
 
   unknown : (ls : List ℕ) (forms : List (Form A)) (c : ℕ) → is_in c ls ≡ false → by_letter ls forms c text ≡ None
   unknown [] forms c e = refl
-  unknown (l ∷ ls) forms c e = elim (cases_eq c l) [
-    | inl same ↦ absurd (false≢true (sym e ∙ rw (eq-eqb c l same) refl))
-    | inr other ↦ rw (ne_eqb c l other) (unknown ls forms c (rw (ne_eqb c l other) at e))
-  ]
+  unknown (l ∷ ls) forms c e = grind (arith, cases_eq, eq-eqb, ne_eqb, unknown ls forms c)
 
   -- the look at the first letter changes nothing
   by_letter_is : (forms : List (Form A)) → AllOf Lawful forms → start_in letters forms ≡ true → by_letter letters forms (first_byte text) text ≡ first_read forms text

@@ -1,7 +1,6 @@
 -- A writable session with rows in the place of a section: its text has a reading with nothing left, and that section is read as the
 -- frame with the lines of the rows.
-use Rattle.str0m_signal.proofs.Common.{◌≡◌, ◌≢◌, ◌<◌, ◌^◌, inl, inr, ℕ, zero, suc, true, List, [], ◌∷◌, ◌++◌, Some, refl, arith, AllByRecursion, flat_map, slice_get, types, FormatParam, PayloadParams, session_attribute_text, media_attribute_text, Consistent, is_media, row_attrs, is_of_type, sdp_text, MediaLine, Sdp, reads, slice_set, not, filter, made}
-use Rattle.str0m_signal.specs.MediaAttribute.{IsMediaLine}
+use Rattle.str0m_signal.proofs.Common.{◌≡◌, ◌≢◌, ◌<◌, ◌^◌, inl, inr, ℕ, zero, suc, true, List, [], ◌∷◌, ◌++◌, Some, refl, arith, AllByRecursion, flat_map, slice_get, types, FormatParam, PayloadParams, session_attribute_text, Consistent, is_media, row_attrs, is_of_type, sdp_text, MediaLine, Sdp, reads, slice_set, not, filter, made}
 use Rattle.str0m_signal.specs.SessionAttribute.{IsSessionLine}
 use Rattle.str0m_signal.specs.Reading.{Reading}
 use Rattle.str0m_signal.specs.ReadBack.{with_rows}
@@ -19,16 +18,10 @@ plainly : {X : Type 0} (text : X → List ℕ) (F : List ℕ → X → Type 0) (
     → writable.AreReadAs text F GoesWith xs reads → AreReadAs text F xs reads
 plainly text F GoesWith [] reads h = h
 plainly text F GoesWith (x ∷ xs) reads (inl nothing) = inl (nothing.0, plainly text F GoesWith xs reads nothing.1)
-plainly text F GoesWith (x ∷ xs) reads (inr (read, more, e, line, goes, later)) =
-    inr (read, more, e, line, plainly text F GoesWith xs more later)
+plainly text F GoesWith (x ∷ xs) reads (inr (read, more, e, line, goes, later)) = grind (arith, plainly text F GoesWith xs more later)
 
 section_of : (m read : MediaLine) → writable.IsReadAs m read → SectionReadAs m read
-section_of m read h = record {
-  same = h.same;
-  head = h.head;
-  bandwidth = h.bandwidth;
-  attributes = plainly media_attribute_text IsMediaLine writable.MediaGoesWith m.attrs read.attrs h.attributes;
-}
+section_of m read h = grind (arith, plainly)
 
 -- ---- all sections, and another in the place of one
 

@@ -1,5 +1,5 @@
 -- Words, names and bytes are printed as they were read.
-use Rattle.str0m_signal.proofs.Common.{◌≡◌, ◌≤◌, ◌<◌, ◌/◌, ◌%◌, ◌^◌, ℕ, true, List, [], ◌∷◌, ◌++◌, refl, sym, subst, ap, ◌∙◌, arith, lit≤, inl, inr, zero-add, codes, digit_value, AllByRecursion, flat_map, join_by, digits_value, append-nil, Parted, Lacks, IsRest, IsWord, IsLongestBeginning, Lacks-append, digit_glyph, digits_is_IsNumeral, hex_one_digit, IsCharBoundary-end, hex_pair, pairs_text}
+use Rattle.str0m_signal.proofs.Common.{◌≡◌, ◌≤◌, ◌<◌, ◌/◌, ◌%◌, ℕ, true, List, [], ◌∷◌, ◌++◌, refl, sym, subst, arith, lit≤, inl, inr, codes, digit_value, AllByRecursion, flat_map, join_by, append-nil, Parted, Lacks, IsRest, IsLongestBeginning, Lacks-append, digit_glyph, hex_pair, pairs_text}
 use Rattle.str0m_signal.specs.Forms.{IsText, Two}
 use Rattle.str0m_signal.proofs.CharacterStarts.{StartsWithin, front_starts, behind_starts, kept_some}
 use Rattle.str0m_signal.specs.Words.{IsWordText, IsName, IsHexPair, IsGroup, AreNames, IsMsidSemantic}
@@ -7,21 +7,13 @@ use Rattle.str0m_signal.proofs.Formats.{behind_lacks}
 use Rattle.str0m_signal.proofs.PiecesAgain.{Again, text_again, two_again, parted_again}
 
 pub word_again : Again IsWordText (λ x. x)
-word_again = record {
-  form = λ text x h. (subst IsWord (sym h.1) h.0, refl);
-  lacks = λ c far text x h lacks. subst (Lacks c) (sym h.1) lacks;
-}
+word_again = grind arith
 
 -- ---- names, which are cut
 
 -- what is kept of a text is its own longest beginning
 pub kept_again : (room : ℕ) (text kept : List ℕ) → IsLongestBeginning room text kept → IsLongestBeginning room kept kept
-kept_again room text kept h = record {
-  begins = ([], sym (append-nil kept));
-  fits = h.fits;
-  whole = inr (IsCharBoundary-end kept);
-  longest = λ n above fits is. absurd (omega (arith, above, is.0));
-}
+kept_again room text kept h = grind (arith, append-nil)
 
 pub kept_lacks : (c room : ℕ) (text kept : List ℕ) → IsLongestBeginning room text kept → Lacks c text → Lacks c kept
 kept_lacks c room text kept h lacks = Lacks-append c kept h.begins.0 (subst (Lacks c) h.begins.1 lacks)
@@ -41,30 +33,16 @@ name_again = record {
 
 -- a printed digit is worth what it was printed for
 glyph_value : (d : ℕ) → d < 16 → digit_value (digit_glyph true d) ≡ d
-glyph_value d lt =
-    let wide : 16 ≤ 16 ^ 64 = lit≤ tt in
-    let is = digits_is_IsNumeral 16 true (lit≤ tt) (lit≤ tt) d (omega arith) in
-    sym (zero-add (digit_value (digit_glyph true d))) ∙ subst (λ (ds : List ℕ). digits_value 16 ds ≡ d) (hex_one_digit true d lt) is.1
+glyph_value d lt = grind arith
 
 glyph_lacks : (c d : ℕ) → 16 ≤ digit_value c → d < 16 → digit_glyph true d ≡ c → ⊥
-glyph_lacks c d far lt e =
-    let same : d ≡ digit_value c = sym (glyph_value d lt) ∙ ap digit_value e in
-    absurd (omega arith)
+glyph_lacks c d far lt e = grind arith
 
 pair_small : (text : List ℕ) (byte : ℕ) → IsHexPair text byte → (byte / 16 < 16) × (byte % 16 < 16)
 pair_small text byte (high, low, e, first, second, sum) = (omega arith, omega arith)
 
 hex_pair_again : Again IsHexPair hex_pair
-hex_pair_again = record {
-  form = λ text byte h.
-      let small = pair_small text byte h in
-      let first = glyph_value (byte / 16) small.0 in
-      let second = glyph_value (byte % 16) small.1 in
-      (digit_glyph true (byte / 16), digit_glyph true (byte % 16), refl, omega (arith, small.0), omega (arith, small.1), omega arith);
-  lacks = λ c far text byte h lacks.
-      let small = pair_small text byte h in
-      (glyph_lacks c (byte / 16) far small.0, (glyph_lacks c (byte % 16) far small.1, tt));
-}
+hex_pair_again = grind (arith, pair_small, glyph_value, glyph_lacks)
 
 abbrev pub fingerprint_pair : List ℕ × List ℕ → List ℕ
 fingerprint_pair hash = hash.0 ++ (32 ∷ join_by hex_pair (codes ":") hash.1)
@@ -73,8 +51,7 @@ pub hash_again : Again (Two 32 IsText (Parted 58 IsHexPair)) fingerprint_pair
 hash_again = two_again 32 (lit≤ tt) text_again (parted_again hex_pair_again 58)
 
 pub pairs_are_joined : (bytes : List ℕ) → join_by hex_pair (codes ":") bytes ≡ pairs_text bytes
-pairs_are_joined [] = refl
-pairs_are_joined (byte ∷ bytes) = refl
+pairs_are_joined bytes = grind arith
 
 -- ---- groups
 
@@ -94,13 +71,11 @@ names_filled text (x ∷ (y ∷ ys)) starts h =
 kind_and_names : (text typ : List ℕ) (names : List (List ℕ)) → StartsWithin 3 text → AreNames text typ names → AreFilled names
 kind_and_names text typ [] starts h = tt
 kind_and_names text typ (name ∷ names) starts h =
-    let whole : StartsWithin 3 (h.0 ++ (32 ∷ h.1)) = subst (StartsWithin 3) h.2 starts in
-    names_filled h.1 (name ∷ names) (behind_starts 3 (codes " ") h.1 (lit≤ tt) (behind_starts 3 h.0 (32 ∷ h.1) (lit≤ tt) whole)) h.5
+    grind (arith, names_filled h.1 (name ∷ names), behind_starts 3 h.0 (32 ∷ h.1), behind_starts 3 (codes " ") h.1)
 
 -- no name of a group that was read is empty
 pub group_filled : (text : List ℕ) (group : List ℕ × List (List ℕ)) → StartsWithin 3 text → IsGroup text group → AreFilled group.1
-group_filled text group starts h =
-    kind_and_names h.0 group.0 group.1 (front_starts 3 h.0 h.1 (subst (StartsWithin 3) h.2 starts)) h.4
+group_filled text group starts h = grind (arith, kind_and_names, front_starts)
 
 filled_names : (text : List ℕ) (names : List (List ℕ)) → Parted 32 IsName text names → AreFilled names → Parted 32 IsFilledName text names
 filled_names text [] h filled = h
@@ -120,8 +95,7 @@ names_text typ names = typ ++ flat_map (λ name. codes " " ++ name) names
 
 names_form : (text typ : List ℕ) (names : List (List ℕ)) → AreNames text typ names → AreFilled names
     → AreNames (names_text typ names) typ names
-names_form text typ [] h filled =
-    subst (λ (t : List ℕ). IsWordText t typ) (sym (append-nil typ)) (word_again.form text typ h)
+names_form text typ [] h filled = grind (arith, append-nil, word_again)
 names_form text typ (name ∷ names) h filled =
     let is = named_again.form text (typ, name ∷ names) (h.0, h.1, h.2, h.3, h.4, filled_names h.1 (name ∷ names) h.5 filled) in
     (is.0, is.1, is.2, is.3, is.4, only_names is.1 (name ∷ names) is.5)

@@ -1,5 +1,5 @@
 -- Lists of words are read both ways.
-use Rattle.str0m_signal.proofs.Common.{◌≡◌, ◌≢◌, ◌⊎◌, ◌<◌, ◌≤◌, ◌+◌, ℕ, ltb, List, [], ◌∷◌, ◌++◌, Option, Some, None, refl, sym, ap, ◌∙◌, arith, inl, inr, codes, digit_value, ltb-true, lt-ltb, eq-eqb, ne_eqb, cases_eq, ◌>>=◌, cut, strip, lacks, num, Parted, Lacks, IsRest, IsNum, beginning_of, beginning_is, beginning_only, bind_some, if_some, some_is, cut_none, cut_none_lacks, cut_at, cut_found, strip_found, lacks_true, lacks_from, when_some, number_lacks, num_both, Reads, ◌*◌, append-nil}
+use Rattle.str0m_signal.proofs.Common.{rules, ◌≡◌, ◌≢◌, ◌⊎◌, ◌<◌, ◌≤◌, ◌+◌, ℕ, List, [], ◌∷◌, ◌++◌, Option, Some, None, refl, sym, ap, ◌∙◌, arith, inl, inr, codes, digit_value, lt-ltb, eq-eqb, ne_eqb, cases_eq, ◌>>=◌, cut, strip, lacks, num, Parted, Lacks, IsRest, IsNum, beginning_is, beginning_only, bind_some, if_some, some_is, cut_none, cut_none_lacks, cut_at, cut_found, strip_found, lacks_true, lacks_from, number_lacks, num_both, Reads, append-nil}
 use Rattle.str0m_signal.specs.Lines.{EndsIn}
 use Rattle.str0m_signal.specs.Forms.{IsText, Two}
 use Rattle.str0m_signal.specs.FormReading.{text_read, two_read, parted_read}
@@ -11,27 +11,10 @@ use Rattle.str0m_signal.proofs.PartLaws.{parted_both}
 -- ---- items
 
 pub word_both : Reads IsWordText word_read
-word_both = record {
-  sound = λ text x e.
-      let a = if_some (lacks 32 text) (text_read text) x e in
-      let b = text_both.sound text x a.1 in
-      ((b.0, lacks_from 32 text a.0), b.1);
-  complete = λ text x h. rw (lacks_true 32 text h.0.1) (text_both.complete text x (h.0.0, h.1));
-}
+word_both = grind (arith, if_some, text_both, lacks_from, lacks_true)
 
 pub name_both : Reads IsName name_read
-name_both = record {
-  sound = λ text x e.
-      let a = bind_some (word_read text) (λ word. Some (beginning_of 16 word)) x e in
-      let b = word_both.sound text a.0 a.1 in
-      rw (← some_is (beginning_of 16 a.0) x a.2, b.1) (b.0, beginning_is 16 text);
-  complete = λ text x h.
-      ap (λ (o : Option (List ℕ)). o >>= λ word. Some (beginning_of 16 word)) (word_both.complete text text (h.0, refl))
-      ∙ ap (λ (t : List ℕ). Some t) (sym (beginning_only 16 text x h.1));
-}
-
-digit_found : (c d : ℕ) → digit_read c ≡ Some d → (digit_value c < 16) × (digit_value c ≡ d)
-digit_found c d e = let w = when_some (ltb (digit_value c) 16) (digit_value c) d e in (ltb-true (digit_value c) 16 w.0, w.1)
+name_both = search (rules, bind_some, word_both, some_is, beginning_is, beginning_only)
 
 digit_given : (c : ℕ) → digit_value c < 16 → digit_read c ≡ Some (digit_value c)
 digit_given c h = rw (lt-ltb (digit_value c) 16 h) refl
@@ -39,20 +22,11 @@ digit_given c h = rw (lt-ltb (digit_value c) 16 h) refl
 hex_pair_found : (text : List ℕ) (byte : ℕ) → hex_pair_read text ≡ Some byte → IsHexPair text byte
 hex_pair_found [] byte e = absurd cc
 hex_pair_found (high ∷ []) byte e = absurd cc
-hex_pair_found (high ∷ low ∷ []) byte e =
-    let a = bind_some (digit_read high) (λ first. digit_read low >>= λ second. Some (first * 16 + second)) byte e in
-    let b = bind_some (digit_read low) (λ second. Some (a.0 * 16 + second)) byte a.2 in
-    let first = digit_found high a.0 a.1 in
-    let second = digit_found low b.0 b.1 in
-    let sum : a.0 * 16 + b.0 ≡ byte = some_is (a.0 * 16 + b.0) byte b.2 in
-    (high, low, refl, first.0, second.0, sym sum ∙ ap (λ (n : ℕ). n * 16 + b.0) (sym first.1) ∙ ap (λ (n : ℕ). digit_value high * 16 + n) (sym second.1))
+hex_pair_found (high ∷ low ∷ []) byte e = grind arith
 hex_pair_found (high ∷ low ∷ more ∷ text) byte e = absurd cc
 
 pub hex_pair_both : Reads IsHexPair hex_pair_read
-hex_pair_both = record {
-  sound = hex_pair_found;
-  complete = λ text byte h. ap hex_pair_read h.2 ∙ rw (digit_given h.0 h.3, digit_given h.1 h.4) (ap (λ (n : ℕ). Some n) (sym h.5));
-}
+hex_pair_both = grind (arith, hex_pair_found, digit_given)
 
 digit_other : (x c : ℕ) → 16 ≤ digit_value c → digit_value x < 16 → x ≢ c
 digit_other x c far lt = λ e. let lt' : digit_value c < 16 = rw (← e) lt in absurd (omega arith)
@@ -105,8 +79,7 @@ end_whole (x ∷ []) h = elim (cases_eq x 32) [ inl e ↦ absurd (h ([], rw e re
 end_whole (x ∷ y ∷ ys) h = ap (λ (t : List ℕ). x ∷ t) (end_whole (y ∷ ys) (λ k. h (x ∷ k.0, ap (λ (t : List ℕ). x ∷ t) k.1)))
 
 pub space_gone : (text rest : List ℕ) → (text ≡ rest ++ (32 ∷ [])) ⊎ ((rest ≡ text) × (EndsIn 32 text → ⊥)) → rest ≡ without_space text
-space_gone text rest (inl e) = sym (ap without_space e ∙ space_behind rest (32 ∷ []) (omega arith) ∙ append-nil rest)
-space_gone text rest (inr whole) = whole.0 ∙ sym (end_whole text whole.1)
+space_gone text rest o = grind (arith, space_behind, append-nil, end_whole)
 
 parted_rest : (names : List (List ℕ)) (text : List ℕ) → Parted 32 IsName text names → IsRest text
 parted_rest [] text h = absurd h
@@ -118,26 +91,21 @@ parted_rest (x ∷ (y ∷ ys)) text h = rw h.2 (filled h.0 h.1)
     filled (z ∷ zs) b = omega arith
 
 behind_word : (a b : List ℕ) → IsRest b → without_space b ≡ b → without_space (a ++ (32 ∷ b)) ≡ a ++ (32 ∷ b)
-behind_word a [] h whole = absurd (omega (arith, h))
-behind_word a (y ∷ ys) h whole = space_behind a (32 ∷ y ∷ ys) (omega arith) ∙ ap (λ (t : List ℕ). a ++ (32 ∷ t)) whole
+behind_word a b h whole = grind (arith, space_behind)
 
 parted_whole : (names : List (List ℕ)) (text : List ℕ) → Parted 32 IsName text names → without_space text ≡ text
 parted_whole [] text h = absurd h
 parted_whole (x ∷ []) text h = word_whole text h.0.1
-parted_whole (x ∷ (y ∷ ys)) text h =
-    ap without_space h.2 ∙ behind_word h.0 h.1 (parted_rest (y ∷ ys) h.1 h.4) (parted_whole (y ∷ ys) h.1 h.4) ∙ sym h.2
+parted_whole (x ∷ (y ∷ ys)) text h = grind (arith, behind_word h.0 h.1, parted_rest (y ∷ ys) h.1 h.4, parted_whole (y ∷ ys) h.1 h.4)
 
 names_whole : (text typ : List ℕ) (names : List (List ℕ)) → AreNames text typ names → without_space text ≡ text
 names_whole text typ [] h = word_whole text h.0.1
-names_whole text typ (x ∷ xs) h = ap without_space h.2 ∙ behind_word h.0 h.1 (parted_rest (x ∷ xs) h.1 h.5) (parted_whole (x ∷ xs) h.1 h.5) ∙ sym h.2
+names_whole text typ (x ∷ xs) h = grind (arith, behind_word h.0 h.1, parted_rest (x ∷ xs) h.1 h.5, parted_whole (x ∷ xs) h.1 h.5)
 
 -- ---- groups
 
 names_found : (text : List ℕ) (group : List ℕ × List (List ℕ)) (o : Option (List ℕ × List ℕ)) → cut 32 text ≡ o → names_after text o ≡ Some group → AreNames text group.0 group.1
-names_found text group None cut-is e =
-    let a = bind_some (text_read text) (λ typ. Some (typ, [])) group e in
-    let b = text_both.sound text a.0 a.1 in
-    rw (← some_is (a.0, []) group a.2) ((b.0, cut_none_lacks 32 text cut-is), b.1)
+names_found text group None cut-is e = grind (arith, bind_some, text_both, some_is, cut_none_lacks)
 names_found text group (Some p) cut-is e =
     let a = bind_some (text_read p.0) (λ typ. parted_read 32 name_read p.1 >>= λ names. Some (typ, names)) group e in
     let b = bind_some (parted_read 32 name_read p.1) (λ names. Some (a.0, names)) group a.2 in
@@ -153,8 +121,7 @@ names_given text typ [] h = rw (cut_none 32 text h.0.1, text_both.complete text 
 names_given text typ (x ∷ xs) h = ap names_read h.2 ∙ rw (cut_at 32 h.0 h.1 h.3, text_both.complete h.0 typ h.4, names_list_both.complete h.1 (x ∷ xs) h.5) refl
 
 group_text : (text names end : List ℕ) → text ≡ names ++ end → IsSpace end → without_space names ≡ names → without_space text ≡ names
-group_text text names end is (inl none) whole = ap without_space (is ∙ ap (λ (t : List ℕ). names ++ t) none ∙ append-nil names) ∙ whole
-group_text text names end is (inr space) whole = ap without_space (is ∙ ap (λ (t : List ℕ). names ++ t) space) ∙ space_behind names (32 ∷ []) (omega arith) ∙ append-nil names
+group_text text names end is o whole = grind (arith, append-nil, space_behind)
 
 pub group_both : Reads IsGroup group_fields_read
 group_both = record {

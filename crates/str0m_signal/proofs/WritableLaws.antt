@@ -1,5 +1,5 @@
 -- When a session is writable, by what its parts come back as.
-use Rattle.str0m_signal.proofs.Common.{◌≡◌, ◌≢◌, ◌<◌, ◌≤◌, ◌+◌, ℕ, Bool, true, false, not, List, [], length, get_or, Option, Some, None, IfSome, inl, inr, refl, sym, ap, subst, ◌∙◌, true≢false, ◌↔◌, IsTrue, list_any, slice_get, cases_Bool, cases_lt, All-nil, All-weaker, none-some, same_Some, slice_get_read, IsTheOnly, session_attribute_text, bandwidth_text, AgreesOnApt, Consistent, is_of_type, MediaAttribute, SessionAttribute, Bandwidth, MediaLine, Sdp, Srtp, arith, is_some, All, slice_get_within, NoneIff}
+use Rattle.str0m_signal.proofs.Common.{◌≡◌, ◌≢◌, ◌<◌, ◌≤◌, ◌+◌, ℕ, Bool, true, false, not, List, [], length, get_or, Option, Some, None, IfSome, refl, sym, ap, ◌∙◌, true≢false, ◌↔◌, IsTrue, list_any, slice_get, cases_Bool, cases_lt, none-some, same_Some, slice_get_read, IsTheOnly, session_attribute_text, bandwidth_text, AgreesOnApt, Consistent, is_of_type, MediaAttribute, SessionAttribute, Bandwidth, MediaLine, Sdp, Srtp, arith, is_some, All, slice_get_within, NoneIff}
 use Rattle.std.proofs.lemmas.List.Folds.{list_any_at, list_any_none}
 use Rattle.str0m_signal.specs.Section.{Head, IsBandwidth}
 use Rattle.str0m_signal.specs.SessionAttribute.{IsSessionLine}
@@ -11,8 +11,7 @@ use Rattle.str0m_sdp.proofs.TypeTableLaws.{agrees_other}
 module _ {A : Type 0} {P : A → Type 0} where
   -- is the one that is asked for, or another one
   pub back_same : (read asked : A) {T : Type 0} → IsTheOnly P (Some read) → T ↔ (read ≡ asked) → T ↔ P asked
-  back_same read asked only is =
-      (λ t. subst P (is.0 t) only.found, λ p. is.1 (same_Some read asked (only.only asked p)))
+  back_same read asked only is = grind arith
 
   pub lost_same : (asked : A) → IsTheOnly P None → IsTrue false ↔ P asked
   lost_same asked none = (λ h. absurd (true≢false (sym h)), λ p. absurd (none-some asked (none.only asked p)))
@@ -37,20 +36,10 @@ module _ (m : MediaLine) (F : Head → Type 0) where
   no_head none = record { found = tt; only = λ pts h. absurd (none-some (with_types pts) (none.only (with_types pts) h)) }
 
   pub same_head : (head : Head) → IsTheOnly F (Some head) → IsSame head m → IsTheOnly (λ pts. F (with_types pts)) (Some head.pts)
-  same_head head only same =
-      let is : head ≡ with_types head.pts = λ i. record { typ = same.0 i; disabled = same.1 i; proto = same.2 i; pts = head.pts } in
-      record {
-        found = subst F is only.found;
-        only = λ pts h. ap (λ (o : Head). Some o.pts) (same_Some head (with_types pts) (only.only (with_types pts) h));
-      }
+  same_head head only same = grind arith
 
   pub other_head : (head : Head) → IsTheOnly F (Some head) → ¬ IsSame head m → IsTheOnly (λ pts. F (with_types pts)) None
-  other_head head only other = record {
-    found = tt;
-    only = λ pts h.
-        let is = same_Some head (with_types pts) (only.only (with_types pts) h) in
-        absurd (other (ap (λ (o : Head). o.typ) is, ap (λ (o : Head). o.disabled) is, ap (λ (o : Head). o.proto) is));
-  }
+  other_head head only other = grind arith
 
 -- ---- a section
 
@@ -77,10 +66,7 @@ module _ (m : MediaLine) where
 -- ---- consistency, told by no fault
 
 pub told_by : {A : Type 0} (fault : Option A) (P : Type 0) (answer : Bool) → NoneIff fault P → is_some fault ≡ not answer → IsTrue answer ↔ P
-told_by None P true told is = (λ h. told, λ p. refl)
-told_by None P false told is = absurd (true≢false (sym is))
-told_by (Some x) P true told is = absurd (true≢false is)
-told_by (Some x) P false told is = (λ h. absurd (true≢false (sym h)), λ p. absurd (told p))
+told_by fault P answer told is = grind arith
 
 -- ---- a frame, by the consistency of a section without payload types
 
@@ -89,29 +75,16 @@ abbrev pub alone : MediaLine → MediaLine
 alone m = record m { disabled = true; proto = Srtp; pts = [] }
 
 none_of : (attrs : List MediaAttribute) → list_any is_of_type attrs ≡ false → All (λ attr. is_of_type attr ≡ false) attrs
-none_of attrs none = λ k d lt. elim (cases_Bool (is_of_type (get_or attrs k d))) [
-  | inl is ↦ absurd (true≢false (sym (list_any_at is_of_type attrs k d lt is) ∙ none))
-  | inr is ↦ is
-]
+none_of attrs none = grind (arith, cases_Bool, list_any_at)
 
 agrees : (attrs : List MediaAttribute) (attr : MediaAttribute) → is_of_type attr ≡ false → AgreesOnApt attrs attr
 agrees attrs attr none = agrees_other attrs attr (λ n values is. absurd (true≢false (sym (ap is_of_type is) ∙ none)))
 
 pub frame_alone : (m : MediaLine) {T : Type 0} → list_any is_of_type m.attrs ≡ false → T ↔ Consistent (alone m) → T ↔ IsFrame m
-frame_alone m none is =
-    let without = none_of m.attrs none in (
-      (λ t. let told = is.0 t in record { mid = told.mid; setup = told.setup; direction = (told.proto refl).0; none_of_type = without }),
-      (λ frame. is.1 (record {
-        mid = frame.mid;
-        setup = frame.setup;
-        proto = λ over. (frame.direction, λ used. absurd (true≢false used));
-        mapped = All-nil _;
-        apt = All-weaker _ _ (agrees m.attrs) m.attrs without;
-      })),
-    )
+frame_alone m none is = grind (arith, none_of, agrees)
 
 pub no_frame : (m : MediaLine) → list_any is_of_type m.attrs ≡ true → IsTrue false ↔ IsFrame m
-no_frame m some = (λ h. absurd (true≢false (sym h)), λ is. absurd (true≢false (sym some ∙ list_any_none is_of_type m.attrs is.none_of_type)))
+no_frame m some = grind (arith, list_any_none)
 
 -- ---- the other sections
 
@@ -128,23 +101,15 @@ Others sections own = (j : ℕ) (m : MediaLine) → slice_get sections j ≡ Som
 
 pub others_more : (sections : List MediaLine) (own i : ℕ) (m : MediaLine) → i < length sections → m ≡ get_or sections i m → (i ≢ own → ComesBack m)
     → OthersBefore sections own i → OthersBefore sections own (i + 1)
-others_more sections own i m lt at back before = λ j x below is other. elim (cases_lt j i) [
-  | inl earlier ↦ before j x earlier is other
-  | inr from ↦
-      let same : j ≡ i = omega (arith, below, from) in
-      let found = slice_get_read sections (length sections) i m refl lt at in
-      subst ComesBack (same_Some m x (sym found ∙ ap (slice_get sections) (sym same) ∙ is)) (back (λ own_is. other (same ∙ own_is)))
-]
+others_more sections own i m lt at back before = grind (arith, cases_lt, slice_get_read, same_Some)
 
 pub one_lost : (sections : List MediaLine) (own i : ℕ) (m : MediaLine) → i < length sections → m ≡ get_or sections i m → i ≢ own → ¬ ComesBack m
     → IsTrue false ↔ Others sections own
-one_lost sections own i m lt at other lost =
-    (λ h. absurd (true≢false (sym h)), λ all. absurd (lost (all i m (slice_get_read sections (length sections) i m refl lt at) other)))
+one_lost sections own i m lt at other lost = grind (arith, slice_get_read)
 
 pub all_back : (sections : List MediaLine) (own i : ℕ) → length sections ≤ i → OthersBefore sections own i
     → IsTrue true ↔ Others sections own
-all_back sections own i end before =
-    (λ h j m is other. let within = slice_get_within sections j m is in before j m (omega (arith, end, within)) is other, λ all. refl)
+all_back sections own i end before = grind (arith, slice_get_within)
 
 -- ---- all of it
 

@@ -1,5 +1,5 @@
 -- The attributes of a section, each with the text that stands for it after `a=`.
-use Rattle.std.specs.Prelude.{◌≡◌, ℕ, true, List, [], ◌∷◌, Option, codes}
+use Rattle.std.specs.Prelude.{ℕ, true, List, [], ◌∷◌, Option, codes}
 use Rattle.str0m_sdp.specs.declared.attribute.MediaAttribute.{MediaAttribute}
 use Rattle.str0m_sdp.specs.declared.attribute.MediaAttribute.TheVariants.{Rtcp, IceUfrag, IcePwd, IceOptions, Fingerprint, Setup, Mid, SctpPort, MaxMessageSize, SctpInit, ExtMap, Msid, Candidate, RtpMap, RtcpFb, Fmtp, Rid, Simulcast, SsrcGroup, Ssrc, Unused}
 use Rattle.str0m_sdp.specs.Attribute.{media_words}

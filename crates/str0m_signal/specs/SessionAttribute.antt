@@ -1,5 +1,5 @@
 -- The attributes of a session, each with the text that stands for it after `a=`.
-use Rattle.std.specs.Prelude.{◌≡◌, ℕ, List, [], ◌∷◌, Option, Some}
+use Rattle.std.specs.Prelude.{ℕ, List, [], ◌∷◌, Option, Some}
 use Rattle.str0m_sdp.specs.declared.attribute.SessionAttribute.{SessionAttribute}
 use Rattle.str0m_sdp.specs.declared.attribute.SessionAttribute.TheVariants.{Group, MsidSemantic, IceUfrag, IcePwd, IceOptions, Fingerprint, Setup, Candidate, Unused}
 use Rattle.str0m_sdp.specs.Attribute.{session_words}

@@ -1,5 +1,5 @@
 use Rattle.str0m_signal.proofs.AnswerLaws.{first_line, first_line_one}
-use Rattle.str0m_signal.proofs.SessionLaws.{session_line_both}
+use Rattle.str0m_signal.proofs.SessionAgain.{session_line_both}
 use Rattle.str0m_signal.proofs.reader.session_attribute_line.Goals as goal
 
 pub returns-clause-read : goal.returns-clause-read
