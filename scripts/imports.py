@@ -80,8 +80,7 @@ def fault_of_declared(crate, words, names, is_foreign):
         return f"no file of code {'.'.join(words)}"
     text, module = text_of(file), words[0]
     if rest[0] == "TheConstants":
-        found = {name: is_public for is_public, name in re.findall(r"^ *(pub )?(?:\(\w+\) )?const (\w+):", text, re.M)}
-        missing = [name for name, _ in names if name not in found and f"const {name}:" not in text]
+        missing = [name for name, _ in names if f"const {name}:" not in text]
         hidden = [name for name, _ in names if is_foreign and module not in public_modules(crate) and name not in passed_on(crate)]
         return f"no constant {', '.join(missing)}" if missing else f"{', '.join(hidden)} isn't public" if hidden else None
     kind = re.search(rf"^(pub )?(?:pub\(\w+\) )?(?:struct|enum|trait|type|union) {rest[0]}\b", text, re.M)
@@ -121,26 +120,35 @@ def is_used(name, text):
     return all(re.search(rf"(?<![\w-]){re.escape(it)}(?![\w-])" if it[0].isalnum() else re.escape(it), text) for it in parts)
 
 
-def faults_of(file):
-    """What is wrong with the imports of a file."""
-    crate, text = file.relative_to(crates()).parts[0], without_comments(text_of(file))
+def faults_of_uses(file, crate, text):
+    """What is wrong with the `use` lines of a file."""
     body = USE.sub("", text)
     for use in USE.finditer(text):
         _, is_public, of, part, path, names, alias = use.groups()
         pairs, words = listed(names or ""), path.split(".")
-        if (crates() / of).is_dir():
-            fault = fault_of(crate, of, part, words, pairs)
-            if fault:
-                yield f"{file.relative_to(crates())}: {of}.{part}.{path}: {fault}"
+        fault = fault_of(crate, of, part, words, pairs) if (crates() / of).is_dir() else None
+        if fault:
+            yield f"{of}.{part}.{path}: {fault}"
         own = [it for _, it in pairs] if names is not None else [alias or words[-1]]
         idle = [] if is_public or file.suffix == ".rt" else [it for it in own if not is_used(it, body)]
         if idle:
-            yield f"{file.relative_to(crates())}: imports {', '.join(idle)} of {of}.{part}.{path}, and doesn't use it"
-    for part, path in IN_CODE.findall(text) if file.suffix == ".rt" else ():
-        words = path.split("::")
-        fault = fault_of(crate, crate, part, words[:-1], [(words[-1], words[-1])])
+            yield f"imports {', '.join(idle)} of {of}.{part}.{path}, and doesn't use it"
+
+
+def faults_of_paths(crate, text):
+    """What is wrong with the definitions and lemmas that code names by their paths."""
+    for part, path in IN_CODE.findall(text):
+        *module, name = path.split("::")
+        fault = fault_of(crate, crate, part, module, [(name, name)])
         if fault:
-            yield f"{file.relative_to(crates())}: crate::{part}::{path}: {fault}"
+            yield f"crate::{part}::{path}: {fault}"
+
+
+def faults_of(file):
+    """What is wrong with what a file names of others."""
+    crate, text = file.relative_to(crates()).parts[0], without_comments(text_of(file))
+    found = [*faults_of_uses(file, crate, text), *(faults_of_paths(crate, text) if file.suffix == ".rt" else ())]
+    return [f"{file.relative_to(crates())}: {it}" for it in found]
 
 
 def unlisted(lib):
@@ -156,4 +164,3 @@ def faults():
         yield from unlisted(lib)
     for file in sorted(it for part in ("src", "specs", "proofs") for it in crates().glob(f"*/{part}/**/*") if it.suffix in (".rt", ".antt")):
         yield from faults_of(file)
-
