@@ -7,6 +7,7 @@ import proved
 CRATES = proved.TOP / "crates"
 FUNCTION = re.compile(r"(?P<indent>\s*)(?:pub(?:\([^)]*\))? )?(?:const )?fn (?P<name>\w+)")
 TABLE = re.compile(r"^ *(?:pub(?:\([^)]*\))? )?const (?P<name>\w+):.*?;$", re.M | re.S)
+NAMED = re.compile(r"\bRattle\.(\w+)\.(?:specs|proofs)\.[\w.]+|\bcrate(?:::\w+)+")
 BLOCK = re.compile(r"(?:impl(?:<(?P<own>.*?)>)? (?:(?P<trait>.+?) for )?(?P<type>.+?)|.*\btrait (?P<decl>\w+).*?)(?: where .*)?\{")
 
 
@@ -74,11 +75,48 @@ def readers_of(path, table, texts, homes):
     return None if None in found or early & {it.rpartition("::")[2] for it in found} else found
 
 
+def file_named(word, texts):
+    """The file of the crate that a path of code, of a definition or of a proof leads into; None where it leads into none."""
+    parts = re.split(r"::|\.", word)
+    parts = parts[1:] if parts[0] == "crate" else parts[2:]
+    modules = parts[1:] if parts[0] in ("specs", "proofs") else parts
+    modules = modules[1:] if modules[0] in ("declared", "contracts") else modules
+    tried = ["/".join(parts[:count]) + ".antt" for count in range(len(parts), 1, -1)]
+    # (what is declared in a source, and the goals of its functions, have no file of their own)
+    tried += ["/".join(["src", *modules[:count]]) + ".rt" for count in range(len(modules), 0, -1)]
+    return next((it for it in tried if it in texts), None)
+
+
+def cone_of(path, texts, crate):
+    """The files that name the file, by whatever other files: no function of another can fall by what it changes.
+
+    A source also rests on what proofs/ holds of its functions."""
+    names = {}
+    for file, text in texts.items():
+        words = [it[0] for it in NAMED.finditer(text) if it[1] in (None, crate)]
+        names[file] = {file_named(it, texts) for it in words}
+        if file.startswith("src/"):
+            own = f"proofs/{file[4:-3]}/"
+            names[file] |= {it for it in texts if it.startswith(own)}
+    cone, more = set(), {path}
+    while more:
+        cone |= more
+        # (a name that leads to no file may be any that the root passes on)
+        more = {file for file, named in names.items() if None in named or named & cone} - cone
+    return cone
+
+
+def functions_of(path, text, homes):
+    """The functions whose bodies stand in a source."""
+    starts = re.finditer(r"^\s*(?:\).*)?\{$|\bfn .*\{$", text, re.M) if path.startswith("src/") else []
+    return {function_at(path, text, it.end() - 1, homes) for it in starts} - {None}
+
+
 class Edit:
     """What it changes (file, old text, new text), the functions that it turns or names, and whether it turns more than bodies.
 
-    The functions that can fall by it are its reach: no others than these where it turns bodies, and those that read a table
-    where it turns that. It is None where nothing bounds it."""
+    The functions that can fall by it are its reach: no others than these where it turns bodies; those that read a table, where
+    it turns one that stands in bodies alone; else those of all files that name its own, by whatever other files."""
 
     def __init__(self, path, texts, homes):
         self.name, self.changes, self.functions = str(path.relative_to(CRATES)), [], set()
@@ -101,6 +139,11 @@ class Edit:
         self.reach = self.functions
         if self.is_wide:
             is_table = turned == {None} and None not in readers and self.functions <= set().union(*readers)
-            self.reach = set().union(*readers) if is_table else None
+            self.reach = set().union(*readers) if is_table else self.reached(path, texts, homes)
         if not self.functions:
             raise ValueError("it turns no body: name the function that must fall by a line 'falls: MODULE::FUNCTION'")
+
+    def reached(self, path, texts, homes):
+        """The functions of the files that name those which it changes."""
+        cones = [cone_of(file, texts, path.relative_to(CRATES).parts[0]) for file, _, _ in self.changes]
+        return self.functions.union(*[functions_of(it, texts[it], homes) for it in set().union(*cones)])

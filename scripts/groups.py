@@ -14,9 +14,7 @@ class Group:
 
     def takes(self, edit):
         """Takes an edit in, if it can."""
-        own = edit.reach or set()
-        if self.edits and None in (edit.reach, self.edits[0].reach):
-            return False
+        own = edit.reach
         if not self.functions & own and not self.reach & edit.functions:
             with contextlib.suppress(ValueError):  # (an earlier one takes its text away)
                 self.edited = changed(self.edited, edit.changes)
@@ -30,9 +28,9 @@ class Group:
 
 
 def groups_of(edits, texts, count):
-    """The edits in so many groups, each in the smallest that takes it, and in a further one where none does."""
+    """The edits in so many groups, each in the smallest that takes it, and in a further one where none does; wide ones last."""
     groups = [Group(texts) for _ in range(count)]
-    for edit in edits:
+    for edit in sorted(edits, key=lambda it: it.is_wide):
         if not any(it.takes(edit) for it in sorted(groups, key=lambda it: len(it.edits))):
             groups.append(Group(texts))
             groups[-1].takes(edit)
