@@ -24,11 +24,11 @@ use str0m_values::Pt;
 /// What a section says of each payload type.
 #[derive(Drop)]
 struct TypeWords {
-    /// Whether the type stands in the m-line.
-    in_m_line: [bool; TYPES],
     /// The types of retransmissions and of redundant audio.
     rtx: [Option<Pt>; TYPES],
     red: [Option<Pt>; TYPES],
+    /// Whether the type stands in the m-line.
+    in_m_line: [bool; TYPES],
     feedback: [Feedback; TYPES],
 }
 
@@ -143,9 +143,9 @@ impl MediaLine {
     {
         let alloc = *self.attrs.allocator();
         let mut words = TypeWords {
-            in_m_line: types_in(self.pts.as_slice()),
             rtx: [None; TYPES],
             red: [None; TYPES],
+            in_m_line: types_in(self.pts.as_slice()),
             feedback: [Feedback::none(); TYPES],
         };
         let lines = words.gather(alloc, self.attrs.as_slice(), types)?;
