@@ -181,6 +181,7 @@ impl SessionAttribute {
         <SessionAttribute as Clone>::clone(self)
     }
 
+    #[inline(always)]
     fn line(&self) -> Line<'_>
         ensures { line_text result ≡ session_attribute_text self.now }
     {
@@ -199,7 +200,7 @@ impl SessionAttribute {
             SessionAttribute::Setup(setup) => Line::Setup(*setup),
             SessionAttribute::Candidate(candidate) => Line::Candidate(candidate),
             SessionAttribute::EndOfCandidates => Line::Word(label::END_OF_CANDIDATES),
-            SessionAttribute::Unused(text) => Line::Text("", text),
+            SessionAttribute::Unused(text) => Line::Word(text.as_str()),
         }
     }
 }
@@ -229,6 +230,7 @@ impl MediaAttribute {
         <MediaAttribute as Clone>::clone(self)
     }
 
+    #[inline(always)]
     fn line(&self) -> Line<'_>
         ensures { line_text result ≡ media_attribute_text self.now }
     {
@@ -266,7 +268,7 @@ impl MediaAttribute {
             MediaAttribute::Simulcast(simulcast) => Line::Simulcast(simulcast),
             MediaAttribute::SsrcGroup { semantics, ssrcs } => Line::SsrcGroup(semantics, ssrcs),
             MediaAttribute::Ssrc { ssrc, attr, value } => Line::Ssrc(*ssrc, attr, value),
-            MediaAttribute::Unused(text) => Line::Text("", text),
+            MediaAttribute::Unused(text) => Line::Word(text.as_str()),
         }
     }
 }

@@ -3,7 +3,7 @@ ghost use Rattle.std.specs.Prelude.{◌≡◌, ◌++◌, List, ℕ, Some, codes,
 ghost use Rattle.std.specs.Fmt.{decimal};
 ghost use Rattle.std.specs.List.{flat_map, join_by};
 ghost use Rattle.str0m_values.specs.Fingerprint.{fingerprint_text};
-ghost use Rattle.str0m_sdp.specs.Lines.{labelled_line};
+ghost use Rattle.str0m_sdp.specs.Lines.{attribute_line, labelled_line};
 
 use std::fmt;
 use str0m_values::{Fingerprint, Mid, Pt, Ssrc, Text};
@@ -35,12 +35,6 @@ impl Printed for u8 {
 
 impl Printed for u64 {
     ghost text = { decimal };
-
-    ghost prints = { λ _. refl };
-}
-
-impl<'a> Printed for &'a str {
-    ghost text = { λ text. text.now };
 
     ghost prints = { λ _. refl };
 }
@@ -161,6 +155,20 @@ impl<'a, A: Printed, B: Printed> Printed for Pair<'a, A, B> {
     ghost text = { λ pair. A.text pair.0.now ++ (codes " " ++ B.text pair.1.now) };
 
     ghost prints = { λ _. refl };
+}
+
+/// The `a=` line of a text alone, with its end.
+#[derive(Drop)]
+pub(crate) struct Alone<'a>(pub(crate) &'a str);
+
+impl<'a> fmt::Display for Alone<'a> {
+    ghost output = { λ line. Some (attribute_line line.0.now) };
+
+    fn fmt<W: fmt::Write>(&self, f: &mut fmt::Formatter<W>) -> fmt::Result {
+        f.write_str("a=")?;
+        f.write_str(self.0)?;
+        f.write_str("\r\n")
+    }
 }
 
 /// The `a=` line of a label and a value right behind it, with its end.
