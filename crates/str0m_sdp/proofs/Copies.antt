@@ -26,4 +26,7 @@ pub session_copied : (a b : Session) → session.is_clone-value.it a b → b ≡
 session_copied a b h = grind (arith, elements)
 
 pub sdp_copied : (a b : Sdp) → sdp.is_clone-value.it a b → b ≡ a
-sdp_copied a b h = grind (arith, session_copied a.session b.session h.0, same_from_all_zip, line_copied)
+sdp_copied a b h =
+    let session : b.session ≡ a.session = session_copied a.session b.session h.0 in
+    let lines : b.media_lines ≡ a.media_lines = same_from_all_zip _ a.media_lines b.media_lines h.1.0 line_copied in
+    λ i. record { session = session i; media_lines = lines i }
