@@ -1,0 +1,237 @@
+//! The rows that answer a section.
+ghost use Rattle.std.specs.Prelude.{◌≡◌, ◌==◌, ◌++◌, ◌∷◌, [], All, Contains, IfOk, OnOk, filter, filter_map, find, if◌then◌else◌, option_to_list};
+ghost use Rattle.std.specs.Option.{option_copied};
+ghost use Rattle.str0m_formats.specs.PlainRow.{IsPlain};
+ghost use Rattle.str0m_formats.specs.Rows.{locked_types, types};
+ghost use Rattle.str0m_formats.specs.TypeSets.{AllDistinct, has};
+ghost use Rattle.str0m_formats.specs.declared.payload_params.PayloadParams.{PayloadParams};
+ghost use Rattle.str0m_sdp.specs.Lists.{distinct};
+ghost use Rattle.exchange.specs.Rows.{IsAgreed, Belongs, KeepsPlain, SaysWhatIsOffered, offers, is_offered, agreed_type, as_answered, is_answered, is_carried_in, matches, answer_to, answer_under, answered_rows, own_types};
+
+use std::alloc::{AllocError, Global};
+use str0m_sdp::label::{FIR, NACK, PLI, REMB, TRANSPORT_CC};
+use str0m_signal::{CodecConfig, MediaAttribute, MediaLine, MediaType, PayloadParams, Pt};
+use str0m_values::cuts::strip;
+
+/// Whether a line offers feedback for a payload type, by its own line or by one of all types.
+fn offers(attr: &MediaAttribute, pt: Pt, words: &str) -> bool
+    ensures { result ≡ offers pt words.now attr.now }
+{
+    match attr {
+        MediaAttribute::RtcpFb { pt: of, value } => *of == pt && value.as_str() == words,
+        MediaAttribute::Unused(text) => match strip(text.as_str(), "rtcp-fb:* ") {
+            Some(others) => others == words,
+            None => false,
+        },
+        _ => false,
+    }
+}
+
+#[tactic(auto, unfolding(crate::specs::Rows::is_offered))]
+fn is_offered(attrs: &[MediaAttribute], pt: Pt, words: &str) -> bool
+    ensures { result ≡ is_offered attrs.now pt words.now }
+{
+    attrs.iter().any(|attr| offers(attr, pt, words))
+}
+
+fn is_listed(listed: &[Pt], pt: Pt) -> bool
+    ensures { result ≡ has listed.now pt }
+{
+    listed.iter().any(|other| *other == pt)
+}
+
+/// The type that both sides have in a role, where the m-line lists it.
+fn agreed_type(listed: &[Pt], ours: Option<Pt>, theirs: Option<Pt>) -> Option<Pt>
+    ensures { result ≡ agreed_type listed.now ours theirs }
+{
+    match (ours, theirs) {
+        (Some(ours), Some(theirs)) => {
+            if ours == theirs && is_listed(listed, ours) {
+                Some(ours)
+            } else {
+                None
+            }
+        }
+        _ => None,
+    }
+}
+
+/// What an answer says of our row beside the one that is offered.
+#[tactic(auto, unfolding(crate::specs::Rows::as_answered))]
+fn as_answered(section: &MediaLine, theirs: &PayloadParams, ours: &PayloadParams) -> PayloadParams
+    ensures { result ≡ as_answered section.now theirs.now ours.now }
+{
+    let (attrs, listed) = (section.attrs.as_slice(), section.pts.as_slice());
+    let pt = ours.pt();
+    let resend = agreed_type(listed, ours.resend(), theirs.resend());
+    let red = agreed_type(listed, ours.red(), theirs.red());
+    let mut row = PayloadParams::new(pt, resend, ours.spec()).with_red(red);
+    row.set_fb_transport_cc(ours.fb_transport_cc() && is_offered(attrs, pt, TRANSPORT_CC));
+    row.set_fb_fir(ours.fb_fir() && is_offered(attrs, pt, FIR));
+    row.set_fb_nack(ours.fb_nack() && is_offered(attrs, pt, NACK));
+    row.set_fb_pli(ours.fb_pli() && is_offered(attrs, pt, PLI));
+    row.set_fb_remb(ours.fb_remb() && is_offered(attrs, pt, REMB));
+    row
+}
+
+/// Whether sections of this type carry what the row is of.
+fn is_carried(typ: &MediaType, row: &PayloadParams) -> bool
+    ensures { result ≡ is_carried_in typ.now row.now }
+{
+    let codec = row.spec().codec;
+    match typ {
+        MediaType::Audio => codec.is_audio() || codec.is_tele(),
+        MediaType::Video => codec.is_video(),
+        _ => false,
+    }
+}
+
+/// Whether our row answers an offered one.
+fn matches(typ: &MediaType, theirs: &PayloadParams, ours: &PayloadParams) -> bool
+    ensures { result ≡ matches typ.now theirs.now ours.now }
+{
+    ours.locked()
+        && ours.pt() == theirs.pt()
+        && is_carried(typ, ours)
+        && ours.match_score(theirs).is_some()
+}
+
+/// The offered row of a payload type.
+fn offered_under(offered: &[PayloadParams], pt: Pt) -> Option<&PayloadParams>
+    ensures { option_copied result ≡ find (λ row. row.pt == pt) offered.now }
+{
+    offered.iter().find(|row| row.pt() == pt)
+}
+
+/// Our row that answers an offered one.
+fn our_match<'a>(
+    own: &'a [PayloadParams],
+    typ: &MediaType,
+    theirs: &PayloadParams,
+) -> Option<&'a PayloadParams>
+    ensures { option_copied result ≡ find (matches typ.now theirs.now) own.now }
+{
+    own.iter().find(|ours| matches(typ, theirs, ours))
+}
+
+/// What the answer says of an offered row.
+fn answer_to(
+    own: &[PayloadParams],
+    section: &MediaLine,
+    theirs: &PayloadParams,
+) -> Option<PayloadParams>
+    ensures { result ≡ answer_to own.now section.now theirs.now }
+{
+    match our_match(own, &section.typ, theirs) {
+        Some(ours) => Some(as_answered(section, theirs, ours)),
+        None => None,
+    }
+}
+
+/// What the answer says of a payload type.
+#[tactic(auto, unfolding(crate::specs::Rows::answer_under))]
+fn answer_under(
+    own: &[PayloadParams],
+    section: &MediaLine,
+    offered: &[PayloadParams],
+    pt: Pt,
+) -> Option<PayloadParams>
+    ensures { result ≡ answer_under own.now section.now offered.now pt }
+{
+    match offered_under(offered, pt) {
+        Some(theirs) => answer_to(own, section, theirs),
+        None => None,
+    }
+}
+
+/// A payload type behind the others, unless it stands among them.
+fn push_new(once: &mut Vec<Pt>, pt: Pt) -> Result<(), AllocError>
+    ensures { OnOk result (once.new.items ≡ once.old.items ++ (if has once.old.items pt then [] else pt ∷ [])) }
+{
+    if !is_listed(once.as_slice(), pt) {
+        once.push(pt)?;
+    }
+    Ok(())
+}
+
+/// The payload types of an m-line, each where it stands first.
+fn each_once(alloc: Global, listed: &[Pt]) -> Result<Vec<Pt>, AllocError>
+    ensures { IfOk result (λ once. once.items ≡ distinct ◌==◌ listed.now) }
+{
+    let mut once = Vec::new(alloc);
+    for pt in listed {
+        push_new(&mut once, *pt)?;
+    }
+    Ok(once)
+}
+
+fn push_answer(
+    rows: &mut Vec<PayloadParams>,
+    answer: Option<PayloadParams>,
+) -> Result<(), AllocError>
+    ensures { OnOk result (rows.new.items ≡ rows.old.items ++ option_to_list answer) }
+{
+    match answer {
+        Some(row) => rows.extend_from_slice(&[row]),
+        None => Ok(()),
+    }
+}
+
+/// What the answer says of each of these types.
+fn answers_under(
+    own: &[PayloadParams],
+    section: &MediaLine,
+    offered: &[PayloadParams],
+    listed: &[Pt],
+) -> Result<Vec<PayloadParams>, AllocError>
+    ensures { IfOk result (λ rows. rows.items ≡ filter_map (answer_under own.now section.now offered.now) listed.now) }
+{
+    let mut rows = Vec::new(*section.attrs.allocator());
+    for pt in listed {
+        let answer = answer_under(own, section, offered, *pt);
+        push_answer(&mut rows, answer)?;
+    }
+    Ok(rows)
+}
+
+/// What the answer says of each type of the m-line.
+#[tactic(auto, unfolding(crate::specs::Rows::answered_rows))]
+fn answered_rows(
+    own: &[PayloadParams],
+    section: &MediaLine,
+) -> Result<Vec<PayloadParams>, AllocError>
+    ensures { IfOk result (λ rows. rows.items ≡ answered_rows own.now section.now) }
+{
+    let offered = section.rtp_params()?;
+    let listed = each_once(*section.attrs.allocator(), section.pts.as_slice())?;
+    let rows = answers_under(own, section, offered.as_slice(), listed.as_slice())?;
+    Ok(rows)
+}
+
+/// The rows by which this side answers an offered section: those of the configuration that are locked, of the section's kind
+/// (audio and telephone events in audio, video in video, none in others), and under a payload type that the section's m-line
+/// lists for a format that they match (`match_score`). They stand in the order of the m-line, each once (RFC 3264, section 6.1;
+/// RFC 8829, section 5.3.1). A row under a type that this m-line doesn't list, or lists for another codec, is left out.
+///
+/// What is said of a row beside its type and its format is no more than what this very section offers for that type: the RTX
+/// type (RFC 4588, section 8.1) and the RED type (RFC 2198, section 5) where they are the offered ones and stand in the
+/// m-line, feedback where an `a=rtcp-fb` line of the type or of all types (`*`) names it (RFC 4585, section 4.2). As in what
+/// `rtp_params` answers, no row is locked.
+///
+/// The only error is that memory was refused. Configuration and section stay as they are.
+#[tactic(auto, using(crate::proofs::RowLaws::all_agreed, crate::proofs::RowLaws::in_order))]
+pub fn rows_for(config: &CodecConfig, section: &MediaLine) -> Result<Vec<PayloadParams>, AllocError>
+    ensures exact { IfOk result (λ rows. rows.items ≡ answered_rows config.now.params.items section.now) }
+    ensures agreed { IfOk result (λ rows. All (IsAgreed config.now.params.items section.now) rows.items) }
+    ensures offered { IfOk result (λ rows. All (SaysWhatIsOffered section.now) rows.items) }
+    ensures ordered { IfOk result (λ rows. own_types rows.items ≡ filter (is_answered config.now.params.items section.now) (distinct ◌==◌ section.now.pts)) }
+    ensures distinct { IfOk result (λ rows. AllDistinct (own_types rows.items)) }
+    // So no type of any role stands twice, where rounds have locked the rows.
+    ensures apart { AllDistinct (locked_types config.now.params.items) → IfOk result (λ rows. AllDistinct (types rows.items)) }
+    // Rows of video need all their feedback for that, and not each section offers it.
+    ensures plain { All IsPlain config.now.params.items → IfOk result (λ rows. All KeepsPlain rows.items) }
+    ensures complete { IfOk result (λ rows. (ours : PayloadParams) → Belongs config.now.params.items section.now ours → Contains (own_types rows.items) ours.pt) }
+{
+    let rows = answered_rows(config.params(), section)?;
+    Ok(rows)
+}
