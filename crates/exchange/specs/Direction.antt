@@ -1,0 +1,24 @@
+-- Directions as the two sides say them (RFC 3264, section 6.1).
+use Rattle.std.specs.Prelude.{◌≡◌, ◌&&◌, Bool, true, false}
+use Rattle.str0m_values.specs.Direction.{receives}
+use Rattle.str0m_values.specs.declared.direction.Direction.{Direction}
+use Rattle.str0m_values.specs.declared.direction.Direction.TheVariants.{SendRecv, SendOnly, RecvOnly, Inactive}
+
+-- whether the side that says so sends
+abbrev pub sends : Direction → Bool
+sends SendRecv = true
+sends SendOnly = true
+sends RecvOnly = false
+sends Inactive = false
+
+-- the same flow as the other side says it
+abbrev pub inverted : Direction → Direction
+inverted SendRecv = SendRecv
+inverted SendOnly = RecvOnly
+inverted RecvOnly = SendOnly
+inverted Inactive = Inactive
+
+-- an answer sends where the offer receives and its own side sends, and there alone; it receives likewise (RFC 3264, section 6.1)
+pub record AnswersDirection (offered own answered : Direction) : Type 0 where
+  pub sending : sends answered ≡ (receives offered && sends own)
+  pub receiving : receives answered ≡ (sends offered && receives own)
