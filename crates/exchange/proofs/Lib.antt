@@ -1,0 +1,16 @@
+pub mod Equal
+pub mod InForceLaws
+pub mod LayerLaws
+pub mod ListLaws
+pub mod NameLaws
+pub mod OfferedLaws
+pub mod PlainAnswers
+pub mod ReadBackLaws
+pub mod RejectedLaws
+pub mod RestartLaws
+pub mod RoundLaws
+pub mod RowLaws
+pub mod RowTypes
+pub mod RuleLaws
+pub mod TrickledLaws
+pub mod TypeLaws

@@ -1,0 +1,38 @@
+-- The rounds of sections, one after another.
+use Rattle.std.proofs.Common.{◌≡◌, ◌<◌, ◌+◌, ◌++◌, ℕ, List, [], ◌∷◌, length, take, get_or, inl, inr, refl, subst, sym, ap, ◌∙◌}
+use Rattle.std.proofs.lemmas.Grind.{take_at_read}
+use Rattle.str0m_formats.specs.declared.rounds.Round.{Round}
+use Rattle.str0m_sdp.specs.declared.media_line.MediaLine.{MediaLine}
+use Rattle.str0m_sdp.specs.declared.session.Sdp.{Sdp}
+use Rattle.exchange.specs.Offered.{AreRoundsOf, BringsRound, IsRoundOf}
+
+-- a section behind the others that brings none
+behind_none : (offer : Sdp) (ms : List MediaLine) (m : MediaLine) (rounds : List Round) → (BringsRound offer m → ⊥)
+    → AreRoundsOf offer ms rounds → AreRoundsOf offer (ms ++ m ∷ []) rounds
+behind_none offer [] m rounds none are = inl (none, are)
+behind_none offer (x ∷ xs) m rounds none are = elim are [
+  | inl p ↦ inl (p.0, behind_none offer xs m rounds none p.1)
+  | inr q ↦ inr (q.0, q.1, q.2, q.3, q.4, behind_none offer xs m q.2 none q.5)
+]
+
+-- a section behind the others that brings one
+behind_one : (offer : Sdp) (ms : List MediaLine) (m : MediaLine) (rounds : List Round) (round : Round) → BringsRound offer m → IsRoundOf m round
+    → AreRoundsOf offer ms rounds → AreRoundsOf offer (ms ++ m ∷ []) (rounds ++ round ∷ [])
+behind_one offer [] m rounds round brings is are = inr (brings, round, [], ap (λ (rs : List Round). rs ++ round ∷ []) are, is, refl)
+behind_one offer (x ∷ xs) m rounds round brings is are = elim are [
+  | inl p ↦ inl (p.0, behind_one offer xs m rounds round brings is p.1)
+  | inr q ↦ inr (q.0, q.1, q.2 ++ round ∷ [], ap (λ (rs : List Round). rs ++ round ∷ []) q.3, q.4, behind_one offer xs m q.2 round brings is q.5)
+]
+
+taken : (ms : List MediaLine) (i : ℕ) (m : MediaLine) → i < length ms → m ≡ get_or ms i m → take (i + 1) ms ≡ take i ms ++ m ∷ []
+taken ms i m lt at = (take_at_read ms i m lt).1 ∙ ap (λ (y : MediaLine). take i ms ++ y ∷ []) (sym at)
+
+pub none_more : (offer : Sdp) (ms : List MediaLine) (i : ℕ) (m : MediaLine) (rounds : List Round) → i < length ms → m ≡ get_or ms i m → (BringsRound offer m → ⊥)
+    → AreRoundsOf offer (take i ms) rounds → AreRoundsOf offer (take (i + 1) ms) rounds
+none_more offer ms i m rounds lt at none are =
+    subst (λ (some : List MediaLine). AreRoundsOf offer some rounds) (sym (taken ms i m lt at)) (behind_none offer (take i ms) m rounds none are)
+
+pub one_more : (offer : Sdp) (ms : List MediaLine) (i : ℕ) (m : MediaLine) (rounds : List Round) (round : Round) → i < length ms → m ≡ get_or ms i m
+    → BringsRound offer m → IsRoundOf m round → AreRoundsOf offer (take i ms) rounds → AreRoundsOf offer (take (i + 1) ms) (rounds ++ round ∷ [])
+one_more offer ms i m rounds round lt at brings is are =
+    subst (λ (some : List MediaLine). AreRoundsOf offer some (rounds ++ round ∷ [])) (sym (taken ms i m lt at)) (behind_one offer (take i ms) m rounds round brings is are)

@@ -1,0 +1,43 @@
+-- What an exchange of offers and answers comes to.
+use Rattle.std.specs.Prelude.{◌≡◌, ◌≢◌, ℕ, List, Option, IsSomeAnd}
+use Rattle.std.specs.List.{AllZip}
+use Rattle.str0m_formats.specs.declared.payload_params.PayloadParams.{PayloadParams}
+use Rattle.str0m_sdp.specs.declared.media_line.MediaLine.{MediaLine}
+use Rattle.str0m_sdp.specs.declared.session.Sdp.{Sdp}
+use Rattle.exchange.specs.Answer.{answer_text}
+use Rattle.exchange.specs.AnsweredSection.{AnswersSection}
+use Rattle.exchange.specs.AnsweredSession.{answered_session}
+use Rattle.exchange.specs.Offered.{IsOffer, Negotiates, RefusesText}
+use Rattle.exchange.specs.ReadBack.{IsReadBack}
+use Rattle.exchange.specs.declared.exchange.Exchange.{Exchange}
+use Rattle.exchange.specs.declared.exchange_error.ExchangeError.{ExchangeError}
+use Rattle.exchange.specs.declared.exchange_error.ExchangeError.TheVariants.{NotRead, Unread, WrongState, NotPrintable, Memory}
+use Rattle.exchange.specs.declared.own_side.OwnSide.{OwnSide}
+use Rattle.exchange.specs.declared.signaling_state.SignalingState.TheVariants.{Stable}
+
+-- the description answers an offer, where this side has these rows: section by section, and as a whole
+pub record AnswersOffer (own : OwnSide) (ours : List PayloadParams) (offer answer : Sdp) : Type 0 where
+  pub sections : AllZip (AnswersSection own ours offer) offer.media_lines answer.media_lines
+  pub session : answer.session ≡ answered_session own offer answer.media_lines
+
+-- as many sections as the offer that was read last, each beside the one in its place as R says (RFC 3264, section 6)
+abbrev pub EachSection : (Sdp → MediaLine → MediaLine → Type 0) → Option Sdp → Sdp → Type 0
+EachSection R remote answer = IsSomeAnd remote (λ offer. AllZip (R offer) offer.media_lines answer.media_lines)
+
+-- some answer to the text isn't read back
+pub record IsUnprintable (old : Exchange) (text : List ℕ) : Type 0 where
+  pub offer : Sdp
+  pub is_offer : IsOffer text offer
+  pub ours : List PayloadParams
+  pub negotiated : Negotiates offer old.config.params.items ours
+  pub answer : Sdp
+  pub answers : AnswersOffer old.own ours offer answer
+  pub lost : IsReadBack answer (answer_text answer old.version) → ⊥
+
+-- why an offer isn't answered
+abbrev pub RefusesOffer : Exchange → List ℕ → ExchangeError → Type 0
+RefusesOffer old text (NotRead cause) = RefusesText text (NotRead cause)
+RefusesOffer old text (Unread line content) = RefusesText text (Unread line content)
+RefusesOffer old text (WrongState state) = (state ≡ old.state) × (state ≢ Stable)
+RefusesOffer old text NotPrintable = IsUnprintable old text
+RefusesOffer old text Memory = Unit {0}

@@ -1,0 +1,10 @@
+-- Why an offer isn't answered.
+use Rattle.str0m_sdp.specs.declared.error.SdpError.{SdpError}
+use Rattle.str0m_sdp.specs.declared.error.SdpError.TheVariants as sdp
+use Rattle.exchange.specs.declared.exchange_error.ExchangeError.{ExchangeError}
+use Rattle.exchange.specs.declared.exchange_error.ExchangeError.TheVariants.{NotRead, Memory}
+
+-- what a reader refuses, but for want of memory
+abbrev pub not_read : SdpError → ExchangeError
+not_read sdp.Memory = Memory
+not_read cause = NotRead cause

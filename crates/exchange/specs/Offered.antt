@@ -1,0 +1,58 @@
+-- Offers that are read whole, and their rounds.
+use Rattle.std.specs.Prelude.{◌≡◌, ◌≢◌, ◌⊎◌, ℕ, true, List, [], ◌∷◌}
+use Rattle.str0m_formats.specs.Promises.{RunPromises}
+use Rattle.str0m_formats.specs.Runs.{Outcome, Reached}
+use Rattle.str0m_formats.specs.declared.payload_params.PayloadParams.{PayloadParams}
+use Rattle.str0m_formats.specs.declared.rounds.Round.{Round}
+use Rattle.str0m_sdp.specs.MediaType.{is_media}
+use Rattle.str0m_sdp.specs.SectionDirection.{section_direction}
+use Rattle.str0m_sdp.specs.SectionRows.{rows}
+use Rattle.str0m_sdp.specs.declared.media_line.MediaLine.{MediaLine}
+use Rattle.str0m_sdp.specs.declared.proto.Proto.TheVariants.{Srtp}
+use Rattle.str0m_sdp.specs.declared.session.Sdp.{Sdp}
+use Rattle.str0m_signal.specs.Answers.{Refuses}
+use Rattle.str0m_signal.specs.Reading.{Reading}
+use Rattle.exchange.specs.Stopped.{IsStopped}
+use Rattle.exchange.specs.declared.exchange_error.ExchangeError.{ExchangeError}
+use Rattle.exchange.specs.declared.exchange_error.ExchangeError.TheVariants.{NotRead, Unread, WrongState, NotPrintable, Memory}
+
+-- the text is this description, and nothing follows it
+abbrev pub IsOffer : List ℕ → Sdp → Type 0
+IsOffer text offer = Reading text (offer, [])
+
+-- something follows the description that the text begins with
+abbrev pub IsCutShort : List ℕ → Type 0
+IsCutShort text = (offer : Sdp) × (rest : List ℕ) × Reading text (offer, rest) × (rest ≢ [])
+
+-- why a text is no offer: it describes no session, or more follows
+abbrev pub RefusesText : List ℕ → ExchangeError → Type 0
+RefusesText text (NotRead cause) = Refuses cause (Reading text)
+RefusesText text (Unread line content) = IsCutShort text
+RefusesText text (WrongState state) = ⊥
+RefusesText text NotPrintable = ⊥
+RefusesText text Memory = Unit {0}
+
+-- a section of media over RTP that isn't stopped brings a round (RFC 3264, sections 6.1 and 8.2)
+pub record BringsRound (offer : Sdp) (m : MediaLine) : Type 0 where
+  pub runs : IsStopped offer m → ⊥
+  pub media : is_media m.typ ≡ true
+  pub over : m.proto ≡ Srtp
+
+-- with the rows and the direction that the section describes
+abbrev pub IsRoundOf : MediaLine → Round → Type 0
+IsRoundOf m round = (round.remote.items ≡ rows m) × (round.direction ≡ section_direction m.attrs)
+
+-- one round for each section that brings one, in order
+abbrev pub AreRoundsOf : Sdp → List MediaLine → List Round → Type 0
+AreRoundsOf offer [] rounds = rounds ≡ []
+AreRoundsOf offer (m ∷ ms) rounds =
+    ((BringsRound offer m → ⊥) × AreRoundsOf offer ms rounds)
+    ⊎ (BringsRound offer m × (round : Round) × (more : List Round) × (rounds ≡ round ∷ more) × IsRoundOf m round × AreRoundsOf offer ms more)
+
+-- the rounds of an offer lead from the rows before them to the rows after them
+pub record Negotiates (offer : Sdp) (before after : List PayloadParams) : Type 0 where
+  pub rounds : List Round
+  pub rounds_are : AreRoundsOf offer offer.media_lines rounds
+  pub outcomes : List Outcome
+  pub reached : Reached before rounds outcomes after
+  pub promises : RunPromises before rounds outcomes after

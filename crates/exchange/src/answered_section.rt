@@ -1,0 +1,81 @@
+//! The sections of an answer.
+ghost use Rattle.std.specs.Prelude.{IfOk};
+ghost use Rattle.std.specs.List.{AllZip};
+ghost use Rattle.exchange.specs.AnsweredSection.{AnswersSection, SaysChoice};
+ghost use Rattle.exchange.specs.Rules.{HasShapeOf, IsAcceptedExactly, KeepsRules};
+
+use crate::accepted::{accepted_channels, accepted_media};
+use crate::choice::{Choice, choice_of};
+use crate::own_side::OwnSide;
+use crate::rejected_section::rejected;
+use std::alloc::{AllocError, Global};
+use str0m_signal::{CodecConfig, Items, MediaLine, Sdp};
+
+/// The section that says this choice.
+fn section_of_choice(
+    alloc: Global,
+    own: &OwnSide,
+    offer: &Sdp,
+    offered: &MediaLine,
+    choice: &Choice,
+) -> Result<MediaLine, AllocError>
+    ensures { IfOk result (SaysChoice own.now offer.now offered.now choice.now) }
+{
+    match choice {
+        Choice::Rejected => rejected(alloc, offered),
+        Choice::Media(mid, rows) => {
+            accepted_media(alloc, own, offer, offered, *mid, rows.as_slice())
+        }
+        Choice::Channels(mid, channels) => {
+            accepted_channels(alloc, own, offer, offered, *mid, *channels)
+        }
+    }
+}
+
+/// The section that answers one (RFC 3264, section 6; RFC 8829, section 5.3.1).
+fn answered_section(
+    alloc: Global,
+    own: &OwnSide,
+    config: &CodecConfig,
+    offer: &Sdp,
+    offered: &MediaLine,
+) -> Result<MediaLine, AllocError>
+    ensures { IfOk result (AnswersSection own.now config.now.params.items offer.now offered.now) }
+{
+    let choice = choice_of(own, config, offer, offered)?;
+    section_of_choice(alloc, own, offer, offered, &choice)
+}
+
+/// The sections that answer those of an offer, in its order.
+#[tactic(auto, using(std::proofs::lemmas::List::Elements::all_zip_more))]
+fn each_answered(
+    alloc: Global,
+    own: &OwnSide,
+    config: &CodecConfig,
+    offer: &Sdp,
+) -> Result<Items<MediaLine>, AllocError>
+    ensures { IfOk result (AllZip (AnswersSection own.now config.now.params.items offer.now) offer.now.media_lines) }
+{
+    let offered = offer.media_lines.as_slice();
+    let mut sections = Vec::new(alloc);
+    for theirs in offered {
+        sections.push(answered_section(alloc, own, config, offer, theirs)?)?;
+    }
+    Ok(Items::from(sections))
+}
+
+/// The sections that answer those of an offer, which keep the rules.
+#[tactic(auto, using(crate::proofs::RuleLaws::sections_keep, crate::proofs::RuleLaws::sections_shape, crate::proofs::RuleLaws::sections_exact))]
+pub(crate) fn answered_sections(
+    alloc: Global,
+    own: &OwnSide,
+    config: &CodecConfig,
+    offer: &Sdp,
+) -> Result<Items<MediaLine>, AllocError>
+    ensures answers { IfOk result (AllZip (AnswersSection own.now config.now.params.items offer.now) offer.now.media_lines) }
+    ensures shape { IfOk result (AllZip HasShapeOf offer.now.media_lines) }
+    ensures exactly { IfOk result (AllZip (IsAcceptedExactly own.now config.now.params.items offer.now) offer.now.media_lines) }
+    ensures rules { IfOk result (AllZip (KeepsRules own.now config.now.params.items offer.now) offer.now.media_lines) }
+{
+    each_answered(alloc, own, config, offer)
+}

@@ -1,0 +1,74 @@
+//! What a section is answered with.
+ghost use Rattle.std.specs.Prelude.{◌≡◌, IfOk};
+ghost use Rattle.exchange.specs.Choice.{IsChoice, channels_or_none, open_choice, rows_or_none};
+ghost use Rattle.exchange.specs.Rows.{answered_rows};
+
+use crate::own_side::{DataChannels, OwnSide};
+use crate::rows::rows_for;
+use crate::stopped::{is_section_stopped, name_of};
+use std::alloc::AllocError;
+use str0m_signal::{CodecConfig, Items, MediaLine, MediaType, Mid, PayloadParams, Proto, Sdp};
+
+/// What a section is answered with.
+#[derive(Drop)]
+pub(crate) enum Choice {
+    /// It is rejected.
+    Rejected,
+    /// It is accepted, under its name, with these rows, of which there is one at least.
+    Media(Mid, Items<PayloadParams>),
+    /// It is accepted, under its name, with these data channels.
+    Channels(Mid, DataChannels),
+}
+
+fn channels_or_none(mid: Mid, channels: Option<DataChannels>) -> Choice
+    ensures { result ≡ channels_or_none mid channels }
+{
+    match channels {
+        Some(channels) => Choice::Channels(mid, channels),
+        None => Choice::Rejected,
+    }
+}
+
+fn rows_or_none(config: &CodecConfig, section: &MediaLine, mid: Mid) -> Result<Choice, AllocError>
+    ensures { IfOk result (λ choice. choice ≡ rows_or_none mid (answered_rows config.now.params.items section.now)) }
+{
+    let rows = rows_for(config, section)?;
+    if rows.is_empty() {
+        return Ok(Choice::Rejected);
+    }
+    Ok(Choice::Media(mid, Items::from(rows)))
+}
+
+/// What a section that isn't stopped is answered with.
+fn open_choice(
+    own: &OwnSide,
+    config: &CodecConfig,
+    section: &MediaLine,
+) -> Result<Choice, AllocError>
+    ensures { IfOk result (λ choice. choice ≡ open_choice own.now config.now.params.items section.now) }
+{
+    let Some(mid) = name_of(section) else {
+        return Ok(Choice::Rejected);
+    };
+    match (&section.typ, section.proto) {
+        (MediaType::Audio | MediaType::Video, Proto::Srtp) => rows_or_none(config, section, mid),
+        (MediaType::Application, Proto::Sctp) => Ok(channels_or_none(mid, own.channels)),
+        _ => Ok(Choice::Rejected),
+    }
+}
+
+/// What an offered section is answered with (RFC 3264, section 6): it is rejected where it is stopped, where it is
+/// neither media over Srtp nor data channels over Sctp, and where this side has nothing for it.
+pub(crate) fn choice_of(
+    own: &OwnSide,
+    config: &CodecConfig,
+    offer: &Sdp,
+    section: &MediaLine,
+) -> Result<Choice, AllocError>
+    ensures { IfOk result (IsChoice own.now config.now.params.items offer.now section.now) }
+{
+    if is_section_stopped(offer, section) {
+        return Ok(Choice::Rejected);
+    }
+    open_choice(own, config, section)
+}

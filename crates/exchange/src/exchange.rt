@@ -1,0 +1,185 @@
+//! Exchanges of offers and answers.
+ghost use Rattle.std.specs.Prelude.{◌≡◌, ◌+◌, ◌-◌, ◌^◌, IfErr, IfOk, IfSome, IsSomeAnd, OnErr, None, Some, min};
+ghost use Rattle.std.specs.Option.{option_copied};
+ghost use Rattle.std.specs.List.{AllZip};
+ghost use Rattle.str0m_formats.specs.Promises.{LockedStay};
+ghost use Rattle.exchange.specs.Answer.{answer_text};
+ghost use Rattle.exchange.specs.Exchange.{AnswersOffer, EachSection, RefusesOffer};
+ghost use Rattle.exchange.specs.Offered.{IsOffer, Negotiates};
+ghost use Rattle.exchange.specs.ReadBack.{IsReadBack};
+ghost use Rattle.exchange.specs.Rules.{HasShapeOf, IsAcceptedExactly, KeepsRules};
+ghost use Rattle.exchange.specs.declared.signaling_state.SignalingState.TheVariants.{Stable};
+
+use crate::answer::Answer;
+use crate::answered_section::answered_sections;
+use crate::answered_session::answered_session;
+use crate::exchange_error::ExchangeError;
+use crate::offered::{negotiate, whole_description};
+use crate::own_side::OwnSide;
+use crate::read_back::is_read_back;
+use crate::signaling_state::SignalingState;
+use std::alloc::{AllocError, Global};
+use str0m_signal::{CodecConfig, IceCreds, Sdp};
+
+/// One side of an exchange of offers and answers (RFC 3264; RFC 8829).
+#[derive(Drop)]
+pub struct Exchange {
+    pub(crate) own: OwnSide,
+    pub(crate) config: CodecConfig,
+    pub(crate) local: Option<Sdp>,
+    pub(crate) remote: Option<Sdp>,
+    pub(crate) version: u64,
+    pub(crate) state: SignalingState,
+}
+
+/// The description that answers an offer.
+fn answer_to(
+    alloc: Global,
+    own: &OwnSide,
+    config: &CodecConfig,
+    offer: &Sdp,
+) -> Result<Sdp, AllocError>
+    ensures answers { IfOk result (AnswersOffer own.now config.now.params.items offer.now) }
+    ensures shape { IfOk result (λ answer. AllZip HasShapeOf offer.now.media_lines answer.media_lines) }
+    ensures exactly { IfOk result (λ answer. AllZip (IsAcceptedExactly own.now config.now.params.items offer.now) offer.now.media_lines answer.media_lines) }
+    ensures rules { IfOk result (λ answer. AllZip (KeepsRules own.now config.now.params.items offer.now) offer.now.media_lines answer.media_lines) }
+{
+    let media_lines = answered_sections(alloc, own, config, offer)?;
+    let session = answered_session(alloc, own, offer, media_lines.as_slice())?;
+    Ok(Sdp {
+        session,
+        media_lines,
+    })
+}
+
+/// The answer with a version, where the other side reads it as what it says.
+fn printable(alloc: Global, sdp: Sdp, version: u64) -> Result<Option<Answer>, AllocError>
+    ensures some { IfOk result (λ found. IfSome found (λ answer. (answer ≡ record { sdp = sdp; version = version })
+        × IsReadBack sdp (answer_text sdp version))) }
+    ensures none { IfOk result (λ found. found ≡ None → IsReadBack sdp (answer_text sdp version) → ⊥) }
+{
+    let answer = Answer::new(sdp, version);
+    let text = answer.to_string(alloc)?;
+    if is_read_back(alloc, &answer.sdp, text.as_str())? {
+        return Ok(Some(answer));
+    }
+    Ok(None)
+}
+
+/// A copy of the configuration behind the rounds of an offer.
+fn negotiated(config: &CodecConfig, offer: &Sdp) -> Result<CodecConfig, AllocError>
+    ensures rounds { IfOk result (λ after. Negotiates offer.now config.now.params.items after.params.items) }
+    ensures stay { IfOk result (λ after. LockedStay config.now.params.items after.params.items) }
+    ensures distances { IfOk result (λ after. after.red_distances ≡ config.now.red_distances) }
+{
+    let mut config = config.clone()?;
+    negotiate(&mut config, offer)?;
+    Ok(config)
+}
+
+impl Exchange {
+    /// An exchange in which nothing was said yet.
+    pub fn new(own: OwnSide, config: CodecConfig) -> Exchange
+        ensures { result ≡ record { own = own; config = config; local = None; remote = None; version = 1; state = Stable } }
+    {
+        Exchange {
+            own,
+            config,
+            local: None,
+            remote: None,
+            version: 1,
+            state: SignalingState::Stable,
+        }
+    }
+
+    /// What the codecs of this side are, as far as they are agreed on.
+    pub fn config(&self) -> &CodecConfig
+        ensures { result.now ≡ self.now.config }
+    {
+        &self.config
+    }
+
+    /// The last description that this side has given; `None` before the first.
+    pub fn local(&self) -> Option<&Sdp>
+        ensures { option_copied result ≡ self.now.local }
+    {
+        self.local.as_ref()
+    }
+
+    /// The last description of the other side; `None` before the first.
+    pub fn remote(&self) -> Option<&Sdp>
+        ensures { option_copied result ≡ self.now.remote }
+    {
+        self.remote.as_ref()
+    }
+
+    /// Where the exchange stands (RFC 8829, section 3.2).
+    pub fn state(&self) -> SignalingState
+        ensures { result ≡ self.now.state }
+    {
+        self.state
+    }
+
+    /// Has the next description say these credentials of ICE. Who answers a restart (`is_ice_restart`) calls it first, since
+    /// both sides say other credentials then (RFC 8839, section 4.4.3.1). Nothing else changes.
+    pub fn restart_ice(&mut self, creds: IceCreds)
+        ensures { self.new ≡ record self.old { own = record self.old.own { creds = creds } } }
+    {
+        self.own.creds = creds;
+    }
+
+    /// Answers an offer (RFC 3264, section 6; RFC 8829, section 5.3): with as many sections, in its order, of the same
+    /// types, protocols and names. One is rejected exactly where it is stopped, where it is neither media over RTP nor
+    /// data channels over SCTP, or where this side has nothing for it. Media flows where both sides are ready for it, with
+    /// the rows that this section offers and that are agreed on, in the order of its m-line.
+    ///
+    /// The rounds of the offer's sections are run first: rows that were locked stay locked under their types. A round that
+    /// is refused changes nothing, and the others count. The answer has a version of its own, and the other side reads it
+    /// to its end as what it says. It is the description of this side from then on, `local`, and the offer is `remote`.
+    ///
+    /// # Errors
+    ///
+    /// Nothing is changed by an error. `WrongState` where the state isn't `Stable`; `NotRead` where the text
+    /// describes no session; `Unread` where a line of it is left; `NotPrintable` where the answer would be read as
+    /// another one; `Memory` where memory was refused.
+    pub fn accept_offer(&mut self, offer: &str) -> Result<Answer, ExchangeError>
+        ensures stable { IfOk result (λ answer. self.old.state ≡ Stable) }
+        ensures read { IfOk result (λ answer. IsSomeAnd self.new.remote (IsOffer offer.now)) }
+        // Section by section: the shape, which are accepted, and the rules of the table.
+        ensures shape { IfOk result (λ answer. EachSection (λ remote. HasShapeOf) self.new.remote answer.sdp) }
+        ensures exactly { IfOk result (λ answer. EachSection (IsAcceptedExactly self.old.own self.new.config.params.items) self.new.remote answer.sdp) }
+        ensures rules { IfOk result (λ answer. EachSection (KeepsRules self.old.own self.new.config.params.items) self.new.remote answer.sdp) }
+        // Line by line, and as a whole with its bundle.
+        ensures answers { IfOk result (λ answer. IsSomeAnd self.new.remote (λ remote.
+            AnswersOffer self.old.own self.new.config.params.items remote answer.sdp)) }
+        ensures read_back { IfOk result (λ answer. IsReadBack answer.sdp (answer_text answer.sdp answer.version)) }
+        ensures negotiated { IfOk result (λ answer. IsSomeAnd self.new.remote (λ remote.
+            Negotiates remote self.old.config.params.items self.new.config.params.items)) }
+        ensures stay { IfOk result (λ answer. LockedStay self.old.config.params.items self.new.config.params.items) }
+        ensures local { IfOk result (λ answer. self.new.local ≡ Some answer.sdp) }
+        ensures version { IfOk result (λ answer. answer.version ≡ self.old.version) }
+        ensures next { IfOk result (λ answer. self.new.version ≡ min (self.old.version + 1) (2 ^ 64 - 1)) }
+        ensures distances { self.new.config.red_distances ≡ self.old.config.red_distances }
+        ensures own_same { self.new.own ≡ self.old.own }
+        ensures state_same { self.new.state ≡ self.old.state }
+        ensures refused { IfErr result (RefusesOffer self.old offer.now) }
+        ensures unchanged { OnErr result (self.new ≡ self.old) }
+    {
+        if !matches!(self.state, SignalingState::Stable) {
+            return Err(ExchangeError::WrongState(self.state));
+        }
+        let alloc = *self.config.allocator();
+        let remote = whole_description(alloc, offer)?;
+        let config = negotiated(&self.config, &remote)?;
+        let sdp = answer_to(alloc, &self.own, &config, &remote)?;
+        let Some(answer) = printable(alloc, sdp, self.version)? else {
+            return Err(ExchangeError::NotPrintable);
+        };
+        let local = answer.sdp.clone()?;
+        self.local = Some(local);
+        self.remote = Some(remote);
+        self.config = config;
+        self.version = self.version.saturating_add(1);
+        Ok(answer)
+    }
+}

@@ -1,0 +1,54 @@
+//! Why an offer isn't answered.
+ghost use Rattle.std.specs.Prelude.{◌≡◌};
+ghost use Rattle.exchange.specs.ExchangeError.{not_read};
+ghost use Rattle.exchange.specs.declared.exchange_error.ExchangeError.TheVariants.{Memory};
+
+use crate::signaling_state::SignalingState;
+use std::alloc::AllocError;
+use str0m_signal::{SdpError, Text};
+use thiserror::Error;
+
+/// Why an offer isn't answered. Nothing has changed then.
+#[derive(Debug, Drop, Error)]
+pub enum ExchangeError {
+    /// The text describes no session, or one of its sections contradicts itself.
+    #[error("the text is no session description: {0}")]
+    NotRead(SdpError),
+    /// A line fits nowhere, so that what follows it isn't known.
+    #[error("line {line} of the text fits nowhere: {text}")]
+    Unread {
+        /// The line's number, from 1.
+        line: usize,
+        /// The line, without its end.
+        text: Text,
+    },
+    /// An offer is open that has to be answered first (RFC 8829, section 3.2).
+    #[error("no offer is taken in the state {0}")]
+    WrongState(SignalingState),
+    /// Something that this side says of itself would be read as something else, as a line end in an id.
+    #[error("the answer would be read as another one: a text of this side or of the offer fits no line")]
+    NotPrintable,
+    /// Memory was refused.
+    #[error("out of memory")]
+    Memory,
+}
+
+impl From<AllocError> for ExchangeError {
+    ghost from_gives = { λ _ error. error ≡ Memory };
+
+    fn from(_refused: AllocError) -> ExchangeError {
+        ExchangeError::Memory
+    }
+}
+
+/// What a reader refuses; want of memory is want of memory here, too.
+impl From<SdpError> for ExchangeError {
+    ghost from_gives = { λ cause error. error ≡ not_read cause };
+
+    fn from(cause: SdpError) -> ExchangeError {
+        match cause {
+            SdpError::Memory => ExchangeError::Memory,
+            _ => ExchangeError::NotRead(cause),
+        }
+    }
+}

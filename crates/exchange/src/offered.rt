@@ -1,0 +1,87 @@
+//! Offers that are read whole, and their rounds.
+ghost use Rattle.std.specs.Prelude.{◌≡◌, ◌↔◌, IfErr, IfOk, IsTrue, OnOk, All};
+ghost use Rattle.str0m_formats.specs.Promises.{LockedStay};
+ghost use Rattle.str0m_sdp.specs.RowBounds.{HasBoundedRows};
+ghost use Rattle.exchange.specs.Offered.{AreRoundsOf, BringsRound, IsOffer, IsRoundOf, Negotiates, RefusesText};
+
+use crate::exchange_error::ExchangeError;
+use crate::stopped::is_section_stopped;
+use std::alloc::{AllocError, Global};
+use str0m_signal::{CodecConfig, MediaLine, NegotiationError, Proto, Round, Sdp, Text, sdp_parser};
+
+fn line_ends(text: &str) -> usize {
+    text.bytes().filter(|byte| *byte == b'\n').count()
+}
+
+/// The number, from 1, and the text of the line at which the rest begins.
+fn unread(alloc: Global, text: &str, rest: &str) -> Result<(usize, Text), AllocError> {
+    let before = line_ends(text).saturating_sub(line_ends(rest));
+    let line = rest.lines().next().unwrap_or("");
+    Ok((before.saturating_add(1), Text::from_str(alloc, line)?))
+}
+
+/// The description that the whole text is.
+pub(crate) fn whole_description(alloc: Global, text: &str) -> Result<Sdp, ExchangeError>
+    ensures read { IfOk result (IsOffer text.now) }
+    ensures refused { IfErr result (RefusesText text.now) }
+    ensures bounded { IfOk result (λ offer. All HasBoundedRows offer.media_lines) }
+{
+    let (offer, rest) = sdp_parser(alloc, text)?;
+    if rest.is_empty() {
+        return Ok(offer);
+    }
+    let (line, text) = unread(alloc, text, rest)?;
+    Err(ExchangeError::Unread { line, text })
+}
+
+/// Whether a section brings a round.
+fn is_negotiated(offer: &Sdp, section: &MediaLine) -> bool
+    ensures { IsTrue result ↔ BringsRound offer.now section.now }
+{
+    !is_section_stopped(offer, section)
+        && section.typ.is_media()
+        && matches!(section.proto, Proto::Srtp)
+}
+
+fn round_of(section: &MediaLine) -> Result<Round, AllocError>
+    ensures { IfOk result (IsRoundOf section.now) }
+{
+    let remote = section.rtp_params()?;
+    let direction = section.direction();
+    Ok(Round { remote, direction })
+}
+
+/// The rounds of the sections of media that aren't stopped, in order.
+#[tactic(auto, using(crate::proofs::RoundLaws::none_more, crate::proofs::RoundLaws::one_more))]
+fn rounds_of(alloc: Global, offer: &Sdp) -> Result<Vec<Round>, AllocError>
+    ensures { IfOk result (λ rounds. AreRoundsOf offer.now offer.now.media_lines rounds.items) }
+{
+    let sections = offer.media_lines.as_slice();
+    let mut rounds = Vec::new(alloc);
+    for section in sections {
+        if is_negotiated(offer, section) {
+            rounds.push(round_of(section)?)?;
+        }
+    }
+    Ok(rounds)
+}
+
+fn lacked_memory(outcomes: &[Result<(), NegotiationError>]) -> bool {
+    outcomes
+        .iter()
+        .any(|outcome| matches!(outcome, Err(NegotiationError::Memory)))
+}
+
+/// Runs the rounds of an offer.
+pub(crate) fn negotiate(config: &mut CodecConfig, offer: &Sdp) -> Result<(), AllocError>
+    ensures ok { OnOk result (Negotiates offer.now config.old.params.items config.new.params.items) }
+    ensures stay { OnOk result (LockedStay config.old.params.items config.new.params.items) }
+    ensures else_same { config.new ≡ record config.old { params = config.new.params } }
+{
+    let rounds = rounds_of(*config.allocator(), offer)?;
+    let outcomes = config.update_all(rounds.as_slice())?;
+    if lacked_memory(outcomes.as_slice()) {
+        return Err(AllocError);
+    }
+    Ok(())
+}
