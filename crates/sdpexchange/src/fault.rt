@@ -1,0 +1,91 @@
+//! Why no answer is written.
+
+use exchange::ExchangeError;
+use std::alloc::{AllocError, Global};
+use std::io;
+use str0m_signal::Text;
+use thiserror::Error;
+
+/// Why no answer is written.
+#[derive(Debug, Drop, Error)]
+pub enum Fault {
+    /// The value of an option isn't well formed.
+    #[error("--{option}: {why}")]
+    Option {
+        option: &'static str,
+        why: &'static str,
+    },
+    /// A file isn't there, can't be read or is no UTF-8.
+    #[error("{file}: cannot be read: {error}")]
+    Unreadable {
+        file: Text,
+        error: io::Error,
+    },
+    /// A line of an offer fits nowhere.
+    #[error("{file}:{line}: this line fits nowhere, so what follows it isn't known; mend it or take it out: {text}")]
+    Unread {
+        file: Text,
+        line: usize,
+        text: Text,
+    },
+    /// An offer isn't answered.
+    #[error("{file}: {error}")]
+    Refused {
+        file: Text,
+        error: ExchangeError,
+    },
+    /// The words or the answer can't be handed over.
+    #[error("{0}")]
+    Stream(io::Error),
+    /// Memory was refused.
+    #[error("out of memory")]
+    Memory,
+}
+
+impl Fault {
+    /// Why a file wasn't read.
+    pub fn of_reading(alloc: Global, file: &str, error: io::Error) -> Fault {
+        if let io::ErrorKind::OutOfMemory = error.kind() {
+            return Fault::Memory;
+        }
+        match Text::from_str(alloc, file) {
+            Ok(file) => Fault::Unreadable { file, error },
+            Err(_) => Fault::Memory,
+        }
+    }
+
+    /// Why an offer wasn't answered.
+    pub fn of_offer(alloc: Global, file: &str, error: ExchangeError) -> Fault {
+        let Ok(file) = Text::from_str(alloc, file) else {
+            return Fault::Memory;
+        };
+        match error {
+            ExchangeError::Memory => Fault::Memory,
+            ExchangeError::Unread { line, text } => Fault::Unread { file, line, text },
+            _ => Fault::Refused { file, error },
+        }
+    }
+
+    /// The exit status: 2 where the program is called wrongly, else 1.
+    pub fn status(&self) -> u8 {
+        match self {
+            Fault::Option { .. } => 2,
+            _ => 1,
+        }
+    }
+}
+
+impl From<AllocError> for Fault {
+    fn from(_refused: AllocError) -> Fault {
+        Fault::Memory
+    }
+}
+
+impl From<io::Error> for Fault {
+    fn from(error: io::Error) -> Fault {
+        match error.kind() {
+            io::ErrorKind::OutOfMemory => Fault::Memory,
+            _ => Fault::Stream(error),
+        }
+    }
+}

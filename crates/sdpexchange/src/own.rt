@@ -1,0 +1,109 @@
+//! What the options say of this side.
+
+use crate::command::value;
+use crate::fault::Fault;
+use clap::ArgMatches;
+use exchange::{DataChannels, OwnSide, trickled_candidate};
+use std::alloc::{AllocError, Global};
+use str0m_signal::{
+    Candidate, Direction, Fingerprint, FingerprintError, IceCreds, Items, SdpError, SessionId, Text,
+};
+
+fn direction(matches: &ArgMatches<'_>, name: &str) -> Direction {
+    match value(matches, name) {
+        "sendonly" => Direction::SendOnly,
+        "recvonly" => Direction::RecvOnly,
+        "inactive" => Direction::Inactive,
+        _ => Direction::SendRecv,
+    }
+}
+
+fn fingerprint(alloc: Global, matches: &ArgMatches<'_>) -> Result<Fingerprint, Fault> {
+    Fingerprint::from_str(alloc, value(matches, "fingerprint")).map_err(|error| match error {
+        FingerprintError::Memory => Fault::Memory,
+        _ => Fault::Option {
+            option: "fingerprint",
+            why: "write the name of the hash, a space and its bytes in hex, parted by colons",
+        },
+    })
+}
+
+fn texts(alloc: Global, matches: &ArgMatches<'_>, name: &str) -> Result<Items<Text>, AllocError> {
+    let mut texts = Items::empty(alloc);
+    if let Some(values) = matches.get_strs(name) {
+        for text in values {
+            texts.push(Text::from_str(alloc, text)?)?;
+        }
+    }
+    Ok(texts)
+}
+
+/// The candidate of a line, as `candidate:1 1 udp 2130706431 192.0.2.1 9999 typ host`.
+fn candidate(alloc: Global, line: &str) -> Result<Candidate, Fault> {
+    match trickled_candidate(alloc, line) {
+        Ok(candidate) => Ok(candidate),
+        Err(SdpError::Memory) => Err(Fault::Memory),
+        Err(_) => Err(Fault::Option {
+            option: "candidate",
+            why: "write the line of a candidate that has an IP address, with or without 'a='",
+        }),
+    }
+}
+
+fn candidates(alloc: Global, matches: &ArgMatches<'_>) -> Result<Items<Candidate>, Fault> {
+    let mut candidates = Items::empty(alloc);
+    if let Some(lines) = matches.get_strs("candidate") {
+        for line in lines {
+            candidates.push(candidate(alloc, line)?)?;
+        }
+    }
+    Ok(candidates)
+}
+
+fn channels(matches: &ArgMatches<'_>) -> Option<DataChannels> {
+    if matches.get_flag("no-channels") {
+        return None;
+    }
+    Some(DataChannels {
+        port: matches.get_one::<u16>("sctp-port").unwrap_or(5000),
+        max_message_size: matches
+            .get_one::<u64>("max-message-size")
+            .unwrap_or(262_144),
+    })
+}
+
+fn creds(alloc: Global, matches: &ArgMatches<'_>) -> Result<IceCreds, AllocError> {
+    Ok(IceCreds {
+        ufrag: Text::from_str(alloc, value(matches, "ufrag"))?,
+        pass: Text::from_str(alloc, value(matches, "pwd"))?,
+    })
+}
+
+/// The credentials behind a restart of ICE: those of the options with the number of the offer behind them.
+pub fn restarted(
+    alloc: Global,
+    matches: &ArgMatches<'_>,
+    number: usize,
+) -> Result<IceCreds, AllocError> {
+    let (ufrag, pass) = (value(matches, "ufrag"), value(matches, "pwd"));
+    Ok(IceCreds {
+        ufrag: Text::from(format!(in alloc; "{ufrag}{number}")?),
+        pass: Text::from(format!(in alloc; "{pass}{number}")?),
+    })
+}
+
+/// What the options say of this side.
+pub fn own_side(alloc: Global, matches: &ArgMatches<'_>) -> Result<OwnSide, Fault> {
+    Ok(OwnSide {
+        session_id: SessionId::from(matches.get_one::<u64>("session-id").unwrap_or(1)),
+        creds: creds(alloc, matches)?,
+        fingerprint: fingerprint(alloc, matches)?,
+        audio: direction(matches, "audio"),
+        video: direction(matches, "video"),
+        stream_id: Text::from_str(alloc, value(matches, "stream"))?,
+        extensions: texts(alloc, matches, "extension")?,
+        candidates: candidates(alloc, matches)?,
+        channels: channels(matches),
+        receives_simulcast: !matches.get_flag("no-simulcast"),
+    })
+}
