@@ -1,0 +1,88 @@
+//! Directions and roles that answer others, what is in force at a section, and candidates.
+
+use exchange::{
+    answered_direction, answered_role, creds_at, fingerprint_at, inverted, sends, setup_at,
+    trickled_candidate,
+};
+use std::alloc::Global;
+use std::test::Fail;
+use str0m_signal::{Direction, Sdp, SdpError, Setup, sdp_parser};
+
+/// Four sections: one with a transport of its own, one bundled alone, one stopped, and one that says
+/// bundle-only outside the group.
+const OFFER: &str =
+    "v=0\r\no=- 7 2 IN IP4 0.0.0.0\r\ns=-\r\nt=0 0\r\na=group:LS 2\r\na=group:BUNDLE 1 0\r\na=setup:actpass\r\na=ice-ufrag:sess\r\na=ice-pwd:session-password-of-22\r\na=fingerprint:sha-256 AB:CD\r\nm=audio 9 UDP/TLS/RTP/SAVPF 109\r\nc=IN IP4 0.0.0.0\r\na=mid:0\r\na=sendrecv\r\na=setup:passive\r\na=ice-ufrag:own1\r\na=rtpmap:109 opus/48000/2\r\nm=video 0 UDP/TLS/RTP/SAVPF 120\r\nc=IN IP4 0.0.0.0\r\na=mid:1\r\na=bundle-only\r\na=sendrecv\r\na=rtpmap:120 VP8/90000\r\nm=video 0 UDP/TLS/RTP/SAVPF 120\r\nc=IN IP4 0.0.0.0\r\na=mid:2\r\na=sendrecv\r\na=rtpmap:120 VP8/90000\r\nm=video 0 UDP/TLS/RTP/SAVPF 120\r\nc=IN IP4 0.0.0.0\r\na=mid:3\r\na=bundle-only\r\na=sendrecv\r\na=fingerprint:sha-1 01:02\r\na=rtpmap:120 VP8/90000\r\n";
+
+fn offer(alloc: Global) -> Result<Sdp, SdpError> {
+    let (offer, _) = sdp_parser(alloc, OFFER)?;
+    Ok(offer)
+}
+
+#[test]
+fn a_direction_answers_the_offered_one(rt: HostRuntime) {
+    let (both, sends_alone, receives_alone) = (
+        Direction::SendRecv,
+        Direction::SendOnly,
+        Direction::RecvOnly,
+    );
+    assert_eq!(rt; answered_direction(both, both), both);
+    assert_eq!(rt; answered_direction(sends_alone, both), receives_alone);
+    assert_eq!(rt; answered_direction(receives_alone, both), sends_alone);
+    assert_eq!(rt;
+        answered_direction(sends_alone, sends_alone),
+        Direction::Inactive
+    );
+    assert_eq!(rt; answered_direction(both, receives_alone), receives_alone);
+    assert_eq!(rt; inverted(sends_alone), receives_alone);
+    assert!(rt; sends(sends_alone));
+}
+
+#[test]
+fn a_role_answers_the_offered_one(rt: HostRuntime) {
+    assert_eq!(rt; answered_role(None), Setup::Active);
+    assert_eq!(rt; answered_role(Some(Setup::ActPass)), Setup::Active);
+    assert_eq!(rt; answered_role(Some(Setup::Active)), Setup::Passive);
+    assert_eq!(rt; answered_role(Some(Setup::Passive)), Setup::Active);
+}
+
+#[test]
+fn the_section_comes_before_the_session(rt: HostRuntime) -> Result<(), Fail> {
+    let offer = offer(rt.alloc())?;
+    assert_eq!(rt; setup_at(&offer, 0), Some(Setup::Passive));
+    assert_eq!(rt; setup_at(&offer, 1), Some(Setup::ActPass));
+    assert_eq!(rt; setup_at(&offer, 4), None);
+    let own = creds_at(&offer, 0)?.ok_or("credentials")?;
+    assert_eq!(rt; own.ufrag.as_str(), "own1");
+    assert_eq!(rt; own.pass.as_str(), "session-password-of-22");
+    let theirs = creds_at(&offer, 1)?.ok_or("credentials")?;
+    assert_eq!(rt; theirs.ufrag.as_str(), "sess");
+    assert!(rt; creds_at(&offer, 4)?.is_none());
+    let print = fingerprint_at(&offer, 2)?.ok_or("fingerprint")?;
+    assert_eq!(rt; print.hash_func.as_str(), "sha-256");
+    let print = fingerprint_at(&offer, 3)?.ok_or("fingerprint")?;
+    assert_eq!(rt; print.hash_func.as_str(), "sha-1");
+    Ok(())
+}
+
+#[test]
+fn candidates_are_read_as_browsers_trickle_them(rt: HostRuntime) -> Result<(), Fail> {
+    for text in [
+        "candidate:1 1 udp 2122260223 192.0.2.1 5000 typ host",
+        "a=candidate:1 1 udp 2122260223 192.0.2.1 5000 typ host",
+        "candidate:1 1 udp 2122260223 192.0.2.1 5000 typ host\r\n",
+        "a=candidate:1 1 udp 2122260223 192.0.2.1 5000 typ host\n",
+    ] {
+        let candidate = trickled_candidate(rt.alloc(), text)?;
+        assert_eq!(rt; candidate.component_id(), 1);
+    }
+    for text in [
+        "",
+        "a=",
+        "candidate:1",
+        "candidate:1 1 udp 1 192.0.2.1 5000 typ host\r\nx",
+        "a=a=candidate:1 1 udp 1 192.0.2.1 5000 typ host",
+    ] {
+        assert!(rt; trickled_candidate(rt.alloc(), text).is_err());
+    }
+    Ok(())
+}
