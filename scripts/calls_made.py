@@ -1,7 +1,7 @@
 """Whether each public call that may want memory is made by a case or a test: a body that always wants it is proved, too.
 
 Such a call is a public function of the libraries whose result may be an error that stands for refused memory. It is made where a
-word that stands in cases/*.txt, or a test, comes to code that names it: `NAME(` of a function, `TYPE::NAME` of one that takes no
+word that stands in cases/*.txt, a test, or `sdpexchange`, whose answers are compared, comes to code that names it, by way of `exchange` too: `NAME(` of a function, `TYPE::NAME` of one that takes no
 value, `.NAME(` of a method; of a method whose name others have, too, the value is a parameter of its type, as `value: &TYPE`.
 Comments and texts are no code. A word comes to the functions `answers` of the files that have it, without the arms that
 other words go in `match word`, and from there to each function whose name is called."""
@@ -141,7 +141,8 @@ def reached(begun, all_of, word):
 
 def runs():
     """What each word of the cases, and the tests, come to."""
-    of_cases, of_tests = functions(*CASES), functions(*TESTS)
+    of_cases, of_tests, of_program = functions(*CASES), functions(*TESTS), functions("sdpexchange", "exchange")
+    yield reached([it for it in of_program if it.name == "main" and not it.owner], of_program, None)
     yield reached([it for it in of_tests if it.is_test], of_tests, None)
     for word in sorted({it.line.partition(" ")[0] for it in read_cases()[0]}):
         files = {it.file for it in of_cases if f'"{word}"' in it.body}
@@ -150,8 +151,8 @@ def runs():
 
 def faults():
     """The public calls that may want memory and that nothing makes."""
-    own = [it for it in functions("str0m_*") if it.is_public]
-    wants = {"AllocError", *(it for file in TOP.glob("crates/str0m_*/src/*.rt") for it in WANT.findall(file.read_text()))}
+    own = [it for it in functions("str0m_*", "exchange") if it.is_public]
+    wants = {"AllocError", *(it for crate in ("str0m_*", "exchange") for file in TOP.glob(f"crates/{crate}/src/*.rt") for it in WANT.findall(file.read_text()))}
     names, made_by = [it.name for it in own], list(runs())
     for call in own:
         if call.result.startswith("Result<") and wants & set(re.findall(r"\w+", call.result)):

@@ -1,5 +1,6 @@
-"""What the pages say of the code: whether the code that README.md and CALLING.md show is that of `crates/uses` or its tests, whether
-CALLING.md names each public call and type of the libraries, and whether README.md is short.
+"""What the pages say of the code: whether the code that README.md and CALLING.md show is that of `crates/uses` or its tests, and that
+of docs/EXCHANGE.md of `crates/sdpexchange`; whether CALLING.md names each public call and type of the libraries, and
+docs/EXCHANGE.md those of `exchange`; and whether README.md is short.
 
 A block of code stands in one of those files word for word, but for contracts and comments. One that has `use` lines is to compile as it
 stands: so its items stand in one file, each of them, and what they use of what that file imports or has is imported or stands in the
@@ -14,7 +15,8 @@ PUBLIC = re.compile(r"^ *pub (?:const )?(?:fn|struct|enum|trait|const) (\w+)", r
 EXPORTED = re.compile(r"^pub use (?:\w+::)+(\w+|\{.*?\});", re.MULTILINE | re.DOTALL)
 ITEM = re.compile(r"(?:pub(?:\(crate\))? )?(?:const )?(?:fn|struct|enum|const|trait) (\w+)")
 LOWER, TOPMOST = ("str0m_values", "str0m_formats", "str0m_sdp"), "str0m_signal"
-PAGES = ("README.md", "CALLING.md")
+CODE = {"README.md": "uses*", "CALLING.md": "uses*", "docs/EXCHANGE.md": "sdpexchange"}  # of each page, where its code stands
+PAGES = tuple(CODE)
 MOST_WORDS = 900  # of README.md
 
 
@@ -74,10 +76,10 @@ def block_faults(block, files):
     first = block.strip().splitlines()[0]
     if not re.search(r"^use ", block, re.MULTILINE):
         if not any(plain(block) in plain(it) for it in files):
-            yield f"not the code of crates/uses or its tests: {first}"
+            yield f"not code that is tested: {first}"
     else:
         least = min((sorted(missing(block, it)) for it in files), key=len)
-        yield from (f"this block doesn't stand in one file of crates/uses or its tests, or needs more of it: {it[:80]}" for it in least)
+        yield from (f"this block doesn't stand in one file that is tested, or needs more of it: {it[:80]}" for it in least)
 
 
 def exported(crate):
@@ -86,20 +88,26 @@ def exported(crate):
     return {name for names in EXPORTED.findall(code) for name in re.findall(r"\w+", names)}
 
 
-def calling_faults(text):
-    """What CALLING.md should name and doesn't, and what it says that str0m_signal passes on, which doesn't."""
-    named, last = set(re.findall(r"\w+", text)), set(re.findall(r"\w+", text.splitlines()[-1]))
-    for file, code in code_of("str0m_*").items():
-        for name in PUBLIC.findall(code):
+def unnamed(text, crates):
+    """What is public in the crates, and not named in the text."""
+    named = set(re.findall(r"\w+", text))
+    for file, code in code_of(crates).items():
+        for name in PUBLIC.findall(code) if file.name != "label.rt" else []:  # (labels are named together)
             if name not in named:
                 yield f"doesn't name {name} of {file.relative_to(TOP)}"
+
+
+def calling_faults(text):
+    """What CALLING.md should name and doesn't, and what it says that str0m_signal passes on, which doesn't."""
+    last = set(re.findall(r"\w+", text.splitlines()[-1]))
+    yield from unnamed(text, "str0m_*")
     for name in sorted(set().union(*map(exported, LOWER)) - exported(TOPMOST) - last):
         yield f"{TOPMOST} doesn't pass on {name}"
 
 
 def faults(page):
     """What is wrong with a page."""
-    text, files = (TOP / page).read_text(), list(code_of("uses*").values())
+    text, files = (TOP / page).read_text(), list(code_of(CODE[page]).values())
     for block in BLOCK.findall(text):
         yield from block_faults(block, files)
     words = len(text.split())
@@ -107,3 +115,5 @@ def faults(page):
         yield f"{words} words, {MOST_WORDS} at most"
     if page == "CALLING.md":
         yield from calling_faults(text)
+    if page == "docs/EXCHANGE.md":
+        yield from unnamed(text, "exchange")
