@@ -1,7 +1,10 @@
 -- The rounds of sections, one after another.
-use Rattle.std.proofs.Common.{◌≡◌, ◌<◌, ◌+◌, ◌++◌, ℕ, List, [], ◌∷◌, length, take, get_or, inl, inr, refl, subst, sym, ap, ◌∙◌}
+use Rattle.std.proofs.Common.{◌≡◌, ◌<◌, ◌+◌, ◌++◌, ℕ, List, [], ◌∷◌, length, take, get_or, inl, inr, refl, subst, sym, ap, ◌∙◌, All}
 use Rattle.std.proofs.lemmas.Grind.{take_at_read}
+use Rattle.std.proofs.lemmas.List.Elements.{All-cons, All-head, All-nil, All-tail}
+use Rattle.str0m_formats.specs.Bounds.{IsBounded}
 use Rattle.str0m_formats.specs.declared.rounds.Round.{Round}
+use Rattle.str0m_sdp.specs.RowBounds.{HasBoundedRows}
 use Rattle.str0m_sdp.specs.declared.media_line.MediaLine.{MediaLine}
 use Rattle.str0m_sdp.specs.declared.session.Sdp.{Sdp}
 use Rattle.exchange.specs.Offered.{AreRoundsOf, BringsRound, IsRoundOf}
@@ -36,3 +39,17 @@ pub one_more : (offer : Sdp) (ms : List MediaLine) (i : ℕ) (m : MediaLine) (ro
     → BringsRound offer m → IsRoundOf m round → AreRoundsOf offer (take i ms) rounds → AreRoundsOf offer (take (i + 1) ms) (rounds ++ round ∷ [])
 one_more offer ms i m rounds round lt at brings is are =
     subst (λ (some : List MediaLine). AreRoundsOf offer some (rounds ++ round ∷ [])) (sym (taken ms i m lt at)) (behind_one offer (take i ms) m rounds round brings is are)
+
+-- rounds of sections whose rows keep to their ranges
+abbrev pub IsBoundedRound : Round → Type 0
+IsBoundedRound round = All IsBounded round.remote.items
+
+pub rounds_bounded : (offer : Sdp) (ms : List MediaLine) (rounds : List Round) → AreRoundsOf offer ms rounds → All HasBoundedRows ms
+    → All (λ round. All IsBounded round.remote.items) rounds
+rounds_bounded offer [] rounds is all = subst (All IsBoundedRound) (sym is) (All-nil IsBoundedRound)
+rounds_bounded offer (m ∷ ms) rounds are all = elim are [
+  | inl p ↦ rounds_bounded offer ms rounds p.1 (All-tail HasBoundedRows m ms all)
+  | inr q ↦ subst (All IsBoundedRound) (sym q.3) (All-cons IsBoundedRound q.1 q.2
+      (subst (All IsBounded) (sym q.4.0) (All-head HasBoundedRows m ms all))
+      (rounds_bounded offer ms q.2 q.5 (All-tail HasBoundedRows m ms all)))
+]

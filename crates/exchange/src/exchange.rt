@@ -1,8 +1,12 @@
 //! Exchanges of offers and answers.
-ghost use Rattle.std.specs.Prelude.{◌≡◌, ◌+◌, ◌-◌, ◌^◌, IfErr, IfOk, IfSome, IsSomeAnd, OnErr, None, Some, min};
+ghost use Rattle.std.specs.Prelude.{All, ◌≡◌, ◌+◌, ◌-◌, ◌^◌, IfErr, IfOk, IfSome, IsSomeAnd, OnErr, None, Some, min};
 ghost use Rattle.std.specs.Option.{option_copied};
 ghost use Rattle.std.specs.List.{AllZip};
 ghost use Rattle.str0m_formats.specs.Promises.{LockedStay};
+ghost use Rattle.str0m_formats.specs.PlainRow.{IsPlain};
+ghost use Rattle.str0m_formats.specs.Rows.{types};
+ghost use Rattle.str0m_formats.specs.TypeSets.{AllDistinct};
+ghost use Rattle.str0m_sdp.specs.RowBounds.{HasBoundedRows};
 ghost use Rattle.exchange.specs.Answer.{answer_text};
 ghost use Rattle.exchange.specs.Exchange.{AnswersOffer, EachSection, RefusesOffer};
 ghost use Rattle.exchange.specs.Offered.{IsOffer, Negotiates};
@@ -70,6 +74,8 @@ fn printable(alloc: Global, sdp: Sdp, version: u64) -> Result<Option<Answer>, Al
 fn negotiated(config: &CodecConfig, offer: &Sdp) -> Result<CodecConfig, AllocError>
     ensures rounds { IfOk result (λ after. Negotiates offer.now config.now.params.items after.params.items) }
     ensures stay { IfOk result (λ after. LockedStay config.now.params.items after.params.items) }
+    ensures distinct { AllDistinct (types config.now.params.items) → IfOk result (λ after. AllDistinct (types after.params.items)) }
+    ensures plain { All HasBoundedRows offer.now.media_lines → All IsPlain config.now.params.items → IfOk result (λ after. All IsPlain after.params.items) }
     ensures distances { IfOk result (λ after. after.red_distances ≡ config.now.red_distances) }
 {
     let mut config = config.clone()?;
@@ -156,6 +162,8 @@ impl Exchange {
         ensures negotiated { IfOk result (λ answer. IsSomeAnd self.new.remote (λ remote.
             Negotiates remote self.old.config.params.items self.new.config.params.items)) }
         ensures stay { IfOk result (λ answer. LockedStay self.old.config.params.items self.new.config.params.items) }
+        ensures distinct { AllDistinct (types self.old.config.params.items) → IfOk result (λ answer. AllDistinct (types self.new.config.params.items)) }
+        ensures plain { All IsPlain self.old.config.params.items → IfOk result (λ answer. All IsPlain self.new.config.params.items) }
         ensures local { IfOk result (λ answer. self.new.local ≡ Some answer.sdp) }
         ensures version { IfOk result (λ answer. answer.version ≡ self.old.version) }
         ensures next { IfOk result (λ answer. self.new.version ≡ min (self.old.version + 1) (2 ^ 64 - 1)) }

@@ -1,5 +1,8 @@
 //! Offers that are read whole, and their rounds.
 ghost use Rattle.std.specs.Prelude.{◌≡◌, ◌↔◌, IfErr, IfOk, IsTrue, OnOk, All};
+ghost use Rattle.str0m_formats.specs.PlainRow.{IsPlain};
+ghost use Rattle.str0m_formats.specs.Rows.{types};
+ghost use Rattle.str0m_formats.specs.TypeSets.{AllDistinct};
 ghost use Rattle.str0m_formats.specs.Promises.{LockedStay};
 ghost use Rattle.str0m_sdp.specs.RowBounds.{HasBoundedRows};
 ghost use Rattle.exchange.specs.Offered.{AreRoundsOf, BringsRound, IsOffer, IsRoundOf, Negotiates, RefusesText};
@@ -76,6 +79,8 @@ fn lacked_memory(outcomes: &[Result<(), NegotiationError>]) -> bool {
 pub(crate) fn negotiate(config: &mut CodecConfig, offer: &Sdp) -> Result<(), AllocError>
     ensures ok { OnOk result (Negotiates offer.now config.old.params.items config.new.params.items) }
     ensures stay { OnOk result (LockedStay config.old.params.items config.new.params.items) }
+    ensures distinct { AllDistinct (types config.old.params.items) → OnOk result (AllDistinct (types config.new.params.items)) }
+    ensures plain { All HasBoundedRows offer.now.media_lines → All IsPlain config.old.params.items → OnOk result (All IsPlain config.new.params.items) }
     ensures else_same { config.new ≡ record config.old { params = config.new.params } }
 {
     let rounds = rounds_of(*config.allocator(), offer)?;
