@@ -56,8 +56,9 @@ class Section:
         return dict(pair.strip().partition("=")[::2] for it in said for pair in it.split(";"))
 
     def feedback(self, pt):
+        """What rtcp-fb lines say of the format, or of all."""
         lines = [it.partition(" ")[::2] for it in self.values("rtcp-fb")]
-        return {value for own, _, value in [(a, 0, b) for a, b in lines] if own in (pt, "*")}
+        return {value for own, value in lines if own in (pt, "*")}
 
     def extensions(self):
         """Each header extension, its number with its URI, without a direction and what follows the URI."""

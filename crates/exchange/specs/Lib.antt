@@ -18,5 +18,6 @@ pub mod Restart
 pub mod Role
 pub mod Rows
 pub mod Rules
+pub mod SignalingState
 pub mod Stopped
 pub mod Trickled

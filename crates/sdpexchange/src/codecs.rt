@@ -24,7 +24,10 @@ fn enable(config: &mut CodecConfig, name: &str) -> Result<(), AllocError> {
 }
 
 /// The configuration of the codecs that are named, in order; the default one where none is.
-pub fn configured(alloc: Global, matches: &ArgMatches<'_>) -> Result<CodecConfig, AllocError> {
+pub(crate) fn configured(
+    alloc: Global,
+    matches: &ArgMatches<'_>,
+) -> Result<CodecConfig, AllocError> {
     let Some(names) = matches.get_strs("codec") else {
         return CodecConfig::new_with_defaults(alloc);
     };

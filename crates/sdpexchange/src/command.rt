@@ -6,7 +6,7 @@ use std::alloc::{AllocError, Global};
 static DIRECTIONS: [&str; 4] = ["sendrecv", "sendonly", "recvonly", "inactive"];
 
 /// The codecs that can be named, in the order in which `--help` shows them.
-pub static CODECS: [&str; 12] = [
+pub(crate) static CODECS: [&str; 12] = [
     "opus", "pcmu", "pcma", "g722", "cn", "amr-wb", "vp8", "vp9", "av1", "h264", "h265", "h266",
 ];
 
@@ -117,7 +117,7 @@ fn with_channels<'a>(alloc: Global, command: Command<'a>) -> Result<Command<'a>,
 }
 
 /// The program's words.
-pub fn command<'a>(alloc: Global) -> Result<Command<'a>, AllocError> {
+pub(crate) fn command<'a>(alloc: Global) -> Result<Command<'a>, AllocError> {
     let offers = Arg::new(alloc, "offer")
         .value_name("OFFER")
         .action(ArgAction::Append)
@@ -135,6 +135,6 @@ pub fn command<'a>(alloc: Global) -> Result<Command<'a>, AllocError> {
 }
 
 /// The value of an option; empty where it isn't given.
-pub fn value<'a>(matches: &ArgMatches<'a>, name: &str) -> &'a str {
+pub(crate) fn value<'a>(matches: &ArgMatches<'a>, name: &str) -> &'a str {
     matches.get_str(name).unwrap_or("")
 }

@@ -8,7 +8,7 @@ use thiserror::Error;
 
 /// Why no answer is written.
 #[derive(Debug, Drop, Error)]
-pub enum Fault {
+pub(crate) enum Fault {
     /// The value of an option isn't well formed.
     #[error("--{option}: {why}")]
     Option {
@@ -44,7 +44,7 @@ pub enum Fault {
 
 impl Fault {
     /// Why a file wasn't read.
-    pub fn of_reading(alloc: Global, file: &str, error: io::Error) -> Fault {
+    pub(crate) fn of_reading(alloc: Global, file: &str, error: io::Error) -> Fault {
         if let io::ErrorKind::OutOfMemory = error.kind() {
             return Fault::Memory;
         }
@@ -55,7 +55,7 @@ impl Fault {
     }
 
     /// Why an offer wasn't answered.
-    pub fn of_offer(alloc: Global, file: &str, error: ExchangeError) -> Fault {
+    pub(crate) fn of_offer(alloc: Global, file: &str, error: ExchangeError) -> Fault {
         let Ok(file) = Text::from_str(alloc, file) else {
             return Fault::Memory;
         };
@@ -67,7 +67,7 @@ impl Fault {
     }
 
     /// The exit status: 2 where the program is called wrongly, else 1.
-    pub fn status(&self) -> u8 {
+    pub(crate) fn status(&self) -> u8 {
         match self {
             Fault::Option { .. } => 2,
             _ => 1,

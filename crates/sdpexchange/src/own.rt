@@ -80,7 +80,7 @@ fn creds(alloc: Global, matches: &ArgMatches<'_>) -> Result<IceCreds, AllocError
 }
 
 /// The credentials behind a restart of ICE: those of the options with the number of the offer behind them.
-pub fn restarted(
+pub(crate) fn restarted(
     alloc: Global,
     matches: &ArgMatches<'_>,
     number: usize,
@@ -93,7 +93,7 @@ pub fn restarted(
 }
 
 /// What the options say of this side.
-pub fn own_side(alloc: Global, matches: &ArgMatches<'_>) -> Result<OwnSide, Fault> {
+pub(crate) fn own_side(alloc: Global, matches: &ArgMatches<'_>) -> Result<OwnSide, Fault> {
     Ok(OwnSide {
         session_id: SessionId::from(matches.get_one::<u64>("session-id").unwrap_or(1)),
         creds: creds(alloc, matches)?,
