@@ -212,7 +212,7 @@ media_keeps own ours offer offered answered mid rows is accepts =
       );
       accepted = λ on. record {
         reachable = subst (IsReachable own offer offered) (sym accepts.says) reachable;
-        flows = λ typ. subst (λ (d : Direction). AnswersDirection (section_direction offered.attrs) (own_direction own offered.typ) d)
+        flows = λ typ. subst (λ (d : Direction). AnswersDirection (section_direction offered.attrs) (own_direction own offered) d)
             (sym (ap (λ (m : MediaLine). section_direction m.attrs) accepts.says ∙ way_said)) accepts.answers_direction;
         types_are = λ typ. (ap (λ (m : MediaLine). m.pts) accepts.says ∙ ap types chosen.same, chosen.some);
         offered_so = subst (SaysOnlyOffered offered) (sym accepts.says) (accepted_media_offered own offered mid accepts.role accepts.direction rows);

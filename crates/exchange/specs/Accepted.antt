@@ -72,7 +72,7 @@ pub record AcceptsMedia (own : OwnSide) (offer : Sdp) (offered : MediaLine) (mid
   pub role : Setup
   pub answers_role : AnswersRole (setup_in_force offer offered) role
   pub direction : Direction
-  pub answers_direction : AnswersDirection (section_direction offered.attrs) (own_direction own offered.typ) direction
+  pub answers_direction : AnswersDirection (section_direction offered.attrs) (own_direction own offered) direction
   pub says : answered ≡ made (framed offered (first_lines own mid role ++ media_lines own offered mid direction rows)) rows
 
 -- data channels are accepted under a name, in a role that answers the one that is offered

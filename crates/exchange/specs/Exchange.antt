@@ -4,14 +4,15 @@ use Rattle.std.specs.List.{AllZip}
 use Rattle.str0m_formats.specs.declared.payload_params.PayloadParams.{PayloadParams}
 use Rattle.str0m_sdp.specs.declared.media_line.MediaLine.{MediaLine}
 use Rattle.str0m_sdp.specs.declared.session.Sdp.{Sdp}
-use Rattle.exchange.specs.Answer.{answer_text}
 use Rattle.exchange.specs.AnsweredSection.{AnswersSection}
 use Rattle.exchange.specs.AnsweredSession.{answered_session}
 use Rattle.exchange.specs.Offered.{IsOffer, Negotiates, RefusesText}
 use Rattle.exchange.specs.ReadBack.{IsReadBack}
+use Rattle.exchange.specs.State.{state_of}
+use Rattle.exchange.specs.Versioned.{versioned_text}
 use Rattle.exchange.specs.declared.exchange.Exchange.{Exchange}
 use Rattle.exchange.specs.declared.exchange_error.ExchangeError.{ExchangeError}
-use Rattle.exchange.specs.declared.exchange_error.ExchangeError.TheVariants.{NotRead, Unread, WrongState, NotPrintable, Memory}
+use Rattle.exchange.specs.declared.exchange_error.ExchangeError.TheVariants.{NotRead, Unread, WrongState, DoesNotFit, NoChannels, NoName, NotPrintable, Memory}
 use Rattle.exchange.specs.declared.own_side.OwnSide.{OwnSide}
 use Rattle.exchange.specs.declared.signaling_state.SignalingState.TheVariants.{Stable}
 
@@ -32,12 +33,15 @@ pub record IsUnprintable (old : Exchange) (text : List ℕ) : Type 0 where
   pub negotiated : Negotiates offer old.config.params.items ours
   pub answer : Sdp
   pub answers : AnswersOffer old.own ours offer answer
-  pub lost : IsReadBack answer (answer_text answer old.version) → ⊥
+  pub lost : IsReadBack answer (versioned_text answer old.version) → ⊥
 
 -- why an offer isn't answered
 abbrev pub RefusesOffer : Exchange → List ℕ → ExchangeError → Type 0
 RefusesOffer old text (NotRead cause) = RefusesText text (NotRead cause)
 RefusesOffer old text (Unread line content) = RefusesText text (Unread line content)
-RefusesOffer old text (WrongState state) = (state ≡ old.state) × (state ≢ Stable)
+RefusesOffer old text (WrongState state) = (state ≡ state_of old) × (state ≢ Stable)
+RefusesOffer old text (DoesNotFit section rule) = ⊥
+RefusesOffer old text NoChannels = ⊥
+RefusesOffer old text NoName = ⊥
 RefusesOffer old text NotPrintable = IsUnprintable old text
 RefusesOffer old text Memory = Unit {0}

@@ -1,5 +1,4 @@
 pub mod Accepted
-pub mod Answer
 pub mod AnsweredSection
 pub mod AnsweredSession
 pub mod Bundle
@@ -19,5 +18,7 @@ pub mod Role
 pub mod Rows
 pub mod Rules
 pub mod SignalingState
+pub mod State
 pub mod Stopped
 pub mod Trickled
+pub mod Versioned

@@ -14,7 +14,7 @@ use Rattle.str0m_signal.specs.Answers.{Refuses}
 use Rattle.str0m_signal.specs.Reading.{Reading}
 use Rattle.exchange.specs.Stopped.{IsStopped}
 use Rattle.exchange.specs.declared.exchange_error.ExchangeError.{ExchangeError}
-use Rattle.exchange.specs.declared.exchange_error.ExchangeError.TheVariants.{NotRead, Unread, WrongState, NotPrintable, Memory}
+use Rattle.exchange.specs.declared.exchange_error.ExchangeError.TheVariants.{NotRead, Unread, WrongState, DoesNotFit, NoChannels, NoName, NotPrintable, Memory}
 
 -- the text is this description, and nothing follows it
 abbrev pub IsOffer : List ℕ → Sdp → Type 0
@@ -29,6 +29,9 @@ abbrev pub RefusesText : List ℕ → ExchangeError → Type 0
 RefusesText text (NotRead cause) = Refuses cause (Reading text)
 RefusesText text (Unread line content) = IsCutShort text
 RefusesText text (WrongState state) = ⊥
+RefusesText text (DoesNotFit section rule) = ⊥
+RefusesText text NoChannels = ⊥
+RefusesText text NoName = ⊥
 RefusesText text NotPrintable = ⊥
 RefusesText text Memory = Unit {0}
 

@@ -58,7 +58,7 @@ pub record IsReachable (own : OwnSide) (offer : Sdp) (offered answered : MediaLi
 -- media flows where both sides are ready for it (RFC 3264, section 6.1)
 abbrev pub FlowsSo : OwnSide → MediaLine → MediaLine → Type 0
 FlowsSo own offered answered =
-    AnswersDirection (section_direction offered.attrs) (own_direction own offered.typ) (section_direction answered.attrs)
+    AnswersDirection (section_direction offered.attrs) (own_direction own offered) (section_direction answered.attrs)
 
 -- one port for RTP and RTCP (RFC 5761, section 5.1.1), RTCP of reduced size (RFC 5506, section 5), and header extensions (RFC
 -- 8285, section 6) are said by an answer where the offer says them, with the same number and URI

@@ -160,7 +160,7 @@ pub(crate) fn accepted_media(
     ensures { IfOk result (AcceptsMedia own.now offer.now offered.now mid rows.now) }
 {
     let role = answered_role(setup_in_force(offer, offered));
-    let direction = answered_direction(offered.direction(), own.direction_for(&offered.typ));
+    let direction = answered_direction(offered.direction(), own.direction_for(offered));
     let mut lines = first_lines(alloc, own, mid, role)?;
     lines.append(&mut media_lines(alloc, own, offered, mid, direction, rows)?)?;
     let frame = framed(alloc, offered, lines)?;

@@ -1,5 +1,5 @@
 //! Exchanges of offers and answers.
-ghost use Rattle.std.specs.Prelude.{All, ◌≡◌, ◌+◌, ◌-◌, ◌^◌, IfErr, IfOk, IfSome, IsSomeAnd, OnErr, None, Some, min};
+ghost use Rattle.std.specs.Prelude.{All, ◌≡◌, ◌+◌, ◌-◌, ◌^◌, [], IfErr, IfOk, IfSome, IsSomeAnd, OnErr, OnOk, None, Some, min};
 ghost use Rattle.std.specs.Option.{option_copied};
 ghost use Rattle.std.specs.List.{AllZip};
 ghost use Rattle.str0m_formats.specs.Promises.{LockedStay};
@@ -7,23 +7,28 @@ ghost use Rattle.str0m_formats.specs.PlainRow.{IsPlain};
 ghost use Rattle.str0m_formats.specs.Rows.{types};
 ghost use Rattle.str0m_formats.specs.TypeSets.{AllDistinct};
 ghost use Rattle.str0m_sdp.specs.RowBounds.{HasBoundedRows};
-ghost use Rattle.exchange.specs.Answer.{answer_text};
 ghost use Rattle.exchange.specs.Exchange.{AnswersOffer, EachSection, RefusesOffer};
 ghost use Rattle.exchange.specs.Offered.{IsOffer, Negotiates};
+ghost use Rattle.exchange.specs.OwnSide.{with_direction};
 ghost use Rattle.exchange.specs.ReadBack.{IsReadBack};
 ghost use Rattle.exchange.specs.Rules.{HasShapeOf, IsAcceptedExactly, KeepsRules};
+ghost use Rattle.exchange.specs.State.{pending_sdp, state_of};
+ghost use Rattle.exchange.specs.Versioned.{versioned_text};
+ghost use Rattle.exchange.specs.declared.exchange_error.ExchangeError.TheVariants.{Memory};
 ghost use Rattle.exchange.specs.declared.signaling_state.SignalingState.TheVariants.{Stable};
 
+use crate::added::Added;
 use crate::answer::Answer;
 use crate::answered_section::answered_sections;
 use crate::answered_session::answered_session;
 use crate::exchange_error::ExchangeError;
 use crate::offered::{negotiate, whole_description};
-use crate::own_side::OwnSide;
+use crate::own_side::{OwnSide, with_direction};
+use crate::pending::Pending;
 use crate::read_back::is_read_back;
 use crate::signaling_state::SignalingState;
 use std::alloc::{AllocError, Global};
-use str0m_signal::{CodecConfig, IceCreds, Sdp};
+use str0m_signal::{CodecConfig, Direction, IceCreds, Items, Mid, Sdp};
 
 /// One side of an exchange of offers and answers (RFC 3264; RFC 8829).
 #[derive(Drop)]
@@ -32,8 +37,13 @@ pub struct Exchange {
     pub(crate) config: CodecConfig,
     pub(crate) local: Option<Sdp>,
     pub(crate) remote: Option<Sdp>,
+    /// This side's offer that waits for its answer.
+    pub(crate) pending: Option<Pending>,
     pub(crate) version: u64,
-    pub(crate) state: SignalingState,
+    /// What no exchange has placed yet, in the order in which it was added.
+    pub(crate) added: Items<Added>,
+    /// The names that sections have had, in exchanges that are done.
+    pub(crate) names: Items<Mid>,
 }
 
 /// The description that answers an offer.
@@ -59,8 +69,8 @@ fn answer_to(
 /// The answer with a version, where the other side reads it as what it says.
 fn printable(alloc: Global, sdp: Sdp, version: u64) -> Result<Option<Answer>, AllocError>
     ensures some { IfOk result (λ found. IfSome found (λ answer. (answer ≡ record { sdp = sdp; version = version })
-        × IsReadBack sdp (answer_text sdp version))) }
-    ensures none { IfOk result (λ found. found ≡ None → IsReadBack sdp (answer_text sdp version) → ⊥) }
+        × IsReadBack sdp (versioned_text sdp version))) }
+    ensures none { IfOk result (λ found. found ≡ None → IsReadBack sdp (versioned_text sdp version) → ⊥) }
 {
     let answer = Answer::new(sdp, version);
     let text = answer.to_string(alloc)?;
@@ -86,16 +96,26 @@ fn negotiated(config: &CodecConfig, offer: &Sdp) -> Result<CodecConfig, AllocErr
 impl Exchange {
     /// An exchange in which nothing was said yet.
     pub fn new(own: OwnSide, config: CodecConfig) -> Exchange
-        ensures { result ≡ record { own = own; config = config; local = None; remote = None; version = 1; state = Stable } }
+        ensures { result ≡ record { own = own; config = config; local = None; remote = None; pending = None; version = 1; added = []; names = [] } }
     {
+        let alloc = *config.allocator();
         Exchange {
             own,
             config,
             local: None,
             remote: None,
+            pending: None,
             version: 1,
-            state: SignalingState::Stable,
+            added: Items::empty(alloc),
+            names: Items::empty(alloc),
         }
+    }
+
+    /// What this side says of itself.
+    pub fn own(&self) -> &OwnSide
+        ensures { result.now ≡ self.now.own }
+    {
+        &self.own
     }
 
     /// What the codecs of this side are, as far as they are agreed on.
@@ -105,25 +125,36 @@ impl Exchange {
         &self.config
     }
 
-    /// The last description that this side has given; `None` before the first.
+    /// The description of this side in the last exchange that is done; `None` before the first.
     pub fn local(&self) -> Option<&Sdp>
         ensures { option_copied result ≡ self.now.local }
     {
         self.local.as_ref()
     }
 
-    /// The last description of the other side; `None` before the first.
+    /// The description of the other side in the last exchange that is done; `None` before the first.
     pub fn remote(&self) -> Option<&Sdp>
         ensures { option_copied result ≡ self.now.remote }
     {
         self.remote.as_ref()
     }
 
-    /// Where the exchange stands (RFC 8829, section 3.2).
-    pub fn state(&self) -> SignalingState
-        ensures { result ≡ self.now.state }
+    /// The offer of this side that waits for its answer; `None` where none does.
+    pub fn pending(&self) -> Option<&Sdp>
+        ensures { option_copied result ≡ pending_sdp self.now }
     {
-        self.state
+        let pending = self.pending.as_ref()?;
+        Some(&pending.sdp)
+    }
+
+    /// Where the exchange stands (RFC 8829, section 3.2): `HaveLocalOffer` where an offer of this side waits for its answer.
+    pub fn state(&self) -> SignalingState
+        ensures { result ≡ state_of self.now }
+    {
+        match &self.pending {
+            Some(_) => SignalingState::HaveLocalOffer,
+            None => SignalingState::Stable,
+        }
     }
 
     /// Has the next description say these credentials of ICE. Who answers a restart (`is_ice_restart`) calls it first, since
@@ -132,6 +163,25 @@ impl Exchange {
         ensures { self.new ≡ record self.old { own = record self.old.own { creds = creds } } }
     {
         self.own.creds = creds;
+    }
+
+    /// Has the next description say that this side is ready for this direction in the section of a name: to hold media, and to
+    /// resume it (RFC 3264, section 8.4). It stands in place of what `directions` of `OwnSide` said of that name. The only error
+    /// is that memory was refused; nothing has changed then.
+    pub fn set_direction(&mut self, mid: Mid, direction: Direction) -> Result<(), ExchangeError>
+        ensures ok { OnOk result (self.new ≡ record self.old {
+          own = record self.old.own {
+            directions = with_direction mid direction self.old.own.directions;
+          };
+        }) }
+        ensures refused { IfErr result (λ error. error ≡ Memory) }
+        ensures unchanged { OnErr result (self.new ≡ self.old) }
+    {
+        let alloc = *self.config.allocator();
+        let entries = self.own.directions.as_slice();
+        let directions = with_direction(alloc, entries, mid, direction)?;
+        self.own.directions = directions;
+        Ok(())
     }
 
     /// Answers an offer (RFC 3264, section 6; RFC 8829, section 5.3): with as many sections, in its order, of the same
@@ -149,7 +199,7 @@ impl Exchange {
     /// describes no session; `Unread` where a line of it is left; `NotPrintable` where the answer would be read as
     /// another one; `Memory` where memory was refused.
     pub fn accept_offer(&mut self, offer: &str) -> Result<Answer, ExchangeError>
-        ensures stable { IfOk result (λ answer. self.old.state ≡ Stable) }
+        ensures stable { IfOk result (λ answer. state_of self.old ≡ Stable) }
         ensures read { IfOk result (λ answer. IsSomeAnd self.new.remote (IsOffer offer.now)) }
         // Section by section: the shape, which are accepted, and the rules of the table.
         ensures shape { IfOk result (λ answer. EachSection (λ remote. HasShapeOf) self.new.remote answer.sdp) }
@@ -158,7 +208,7 @@ impl Exchange {
         // Line by line, and as a whole with its bundle.
         ensures answers { IfOk result (λ answer. IsSomeAnd self.new.remote (λ remote.
             AnswersOffer self.old.own self.new.config.params.items remote answer.sdp)) }
-        ensures read_back { IfOk result (λ answer. IsReadBack answer.sdp (answer_text answer.sdp answer.version)) }
+        ensures read_back { IfOk result (λ answer. IsReadBack answer.sdp (versioned_text answer.sdp answer.version)) }
         ensures negotiated { IfOk result (λ answer. IsSomeAnd self.new.remote (λ remote.
             Negotiates remote self.old.config.params.items self.new.config.params.items)) }
         ensures stay { IfOk result (λ answer. LockedStay self.old.config.params.items self.new.config.params.items) }
@@ -169,12 +219,12 @@ impl Exchange {
         ensures next { IfOk result (λ answer. self.new.version ≡ min (self.old.version + 1) (2 ^ 64 - 1)) }
         ensures distances { self.new.config.red_distances ≡ self.old.config.red_distances }
         ensures own_same { self.new.own ≡ self.old.own }
-        ensures state_same { self.new.state ≡ self.old.state }
+        ensures else_same { IfOk result (λ answer. (self.new.pending ≡ self.old.pending) × (self.new.added ≡ self.old.added) × (self.new.names ≡ self.old.names)) }
         ensures refused { IfErr result (RefusesOffer self.old offer.now) }
         ensures unchanged { OnErr result (self.new ≡ self.old) }
     {
-        if !matches!(self.state, SignalingState::Stable) {
-            return Err(ExchangeError::WrongState(self.state));
+        if !matches!(self.state(), SignalingState::Stable) {
+            return Err(ExchangeError::WrongState(self.state()));
         }
         let alloc = *self.config.allocator();
         let remote = whole_description(alloc, offer)?;

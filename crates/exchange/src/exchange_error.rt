@@ -1,14 +1,15 @@
-//! Why an offer isn't answered.
+//! Why a call of an exchange is refused.
 ghost use Rattle.std.specs.Prelude.{◌≡◌};
 ghost use Rattle.exchange.specs.ExchangeError.{not_read};
 ghost use Rattle.exchange.specs.declared.exchange_error.ExchangeError.TheVariants.{Memory};
 
+use crate::rule::Rule;
 use crate::signaling_state::SignalingState;
 use std::alloc::AllocError;
 use str0m_signal::{SdpError, Text};
 use thiserror::Error;
 
-/// Why an offer isn't answered. Nothing has changed then.
+/// Why a call of an exchange is refused. Nothing has changed then.
 #[derive(Debug, Drop, Error)]
 pub enum ExchangeError {
     /// The text describes no session, or one of its sections contradicts itself.
@@ -22,11 +23,26 @@ pub enum ExchangeError {
         /// The line, without its end.
         text: Text,
     },
-    /// An offer is open that has to be answered first (RFC 8829, section 3.2).
-    #[error("no offer is taken in the state {0}")]
+    /// The call isn't one of this state (RFC 8829, section 3.2): offers are made and taken where none is open, answers where
+    /// one is.
+    #[error("the call is out of turn in the state {0}")]
     WrongState(SignalingState),
+    /// A section breaks a rule of answers, or of later offers.
+    #[error("section {section} breaks a rule: {rule}")]
+    DoesNotFit {
+        /// The section's place, from 0.
+        section: usize,
+        /// The rule that it breaks.
+        rule: Rule,
+    },
+    /// This side takes no data channels (`OwnSide`).
+    #[error("this side takes no data channels")]
+    NoChannels,
+    /// No name is left for a section: sections of the session have had each number of 32 bits.
+    #[error("no name is left for a section that was added")]
+    NoName,
     /// Something that this side says of itself would be read as something else, as a line end in an id.
-    #[error("the answer would be read as another one: a text of this side or of the offer fits no line")]
+    #[error("the description would be read as another one: a text of this side or of the offer fits no line")]
     NotPrintable,
     /// Memory was refused.
     #[error("out of memory")]

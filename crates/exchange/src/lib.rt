@@ -2,6 +2,7 @@
 #![tactic(auto)]
 
 mod accepted;
+mod added;
 mod answer;
 mod answered_section;
 mod answered_session;
@@ -14,6 +15,7 @@ mod in_force;
 mod layers;
 mod offered;
 mod own_side;
+mod pending;
 mod printed;
 mod read_back;
 mod rejected_section;
@@ -21,9 +23,11 @@ mod repeated_lines;
 mod restart;
 mod role;
 mod rows;
+mod rule;
 mod signaling_state;
 mod stopped;
 mod trickled;
+mod versioned;
 
 pub use answer::Answer;
 pub use bundle::answered_bundle;
@@ -32,13 +36,14 @@ pub use exchange::Exchange;
 pub use exchange_error::ExchangeError;
 pub use in_force::{creds_at, fingerprint_at, setup_at};
 pub use layers::answered_layers;
-pub use own_side::{DataChannels, OwnSide};
+pub use own_side::{DataChannels, OwnSide, SectionDirection};
 pub use read_back::is_read_back;
 pub use rejected_section::rejected;
 pub use repeated_lines::repeated;
 pub use restart::is_ice_restart;
 pub use role::answered_role;
 pub use rows::rows_for;
+pub use rule::Rule;
 pub use signaling_state::SignalingState;
 pub use stopped::{is_bundle_only, is_stopped, name_of};
 pub use trickled::trickled_candidate;

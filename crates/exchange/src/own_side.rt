@@ -1,9 +1,12 @@
 //! What this side says of itself.
-ghost use Rattle.std.specs.Prelude.{◌≡◌};
-ghost use Rattle.exchange.specs.OwnSide.{own_direction};
+ghost use Rattle.std.specs.Prelude.{◌≡◌, IfOk, find};
+ghost use Rattle.std.specs.Option.{option_copied};
+ghost use Rattle.exchange.specs.OwnSide.{is_of, kind_direction, own_direction, said_of, with_direction};
 
+use crate::stopped::name_of;
+use std::alloc::{AllocError, Global};
 use str0m_signal::{
-    Candidate, Direction, Fingerprint, IceCreds, Items, MediaType, SessionId, Text,
+    Candidate, Direction, Fingerprint, IceCreds, Items, MediaLine, MediaType, Mid, SessionId, Text,
 };
 
 /// Where data channels are reached (RFC 8841, sections 5 and 6).
@@ -15,6 +18,15 @@ pub struct DataChannels {
     pub max_message_size: u64,
 }
 
+/// What this side is ready for in one section.
+#[derive(Clone, Copy, Debug, PartialEq, Eq)]
+pub struct SectionDirection {
+    /// The section's name (RFC 5888, section 4).
+    pub mid: Mid,
+    /// What this side is ready for there.
+    pub direction: Direction,
+}
+
 /// What this side says of itself, the same in each of its descriptions.
 #[derive(Debug, Drop)]
 pub struct OwnSide {
@@ -24,10 +36,12 @@ pub struct OwnSide {
     pub creds: IceCreds,
     /// The hash of its certificate (RFC 8122, section 5).
     pub fingerprint: Fingerprint,
-    /// What it is ready for in sections of audio.
+    /// What it is ready for in sections of audio that `directions` doesn't name; so with `video`.
     pub audio: Direction,
     /// What it is ready for in sections of video.
     pub video: Direction,
+    /// What it is ready for in sections by name, whatever their type. Of several entries of a name the first counts.
+    pub directions: Items<SectionDirection>,
     /// The id of the stream that it sends (RFC 8830, section 2).
     pub stream_id: Text,
     /// The header extensions that it knows, by their URIs (RFC 8285, section 5).
@@ -40,15 +54,66 @@ pub struct OwnSide {
     pub receives_simulcast: bool,
 }
 
+fn is_of(entry: &SectionDirection, mid: Mid) -> bool
+    ensures { result ≡ is_of mid entry.now }
+{
+    entry.mid == mid
+}
+
+/// The first entry of a name.
+fn entry_of(entries: &[SectionDirection], mid: Mid) -> Option<&SectionDirection>
+    ensures { option_copied result ≡ find (is_of mid) entries.now }
+{
+    entries.iter().find(|entry| is_of(entry, mid))
+}
+
+/// The entries with this direction for a name, in place of others of that name.
+pub(crate) fn with_direction(
+    alloc: Global,
+    entries: &[SectionDirection],
+    mid: Mid,
+    direction: Direction,
+) -> Result<Items<SectionDirection>, AllocError>
+    ensures { IfOk result (λ after. after ≡ with_direction mid direction entries.now) }
+{
+    let mut after = Vec::new(alloc);
+    for entry in entries {
+        if !is_of(entry, mid) {
+            after.push(*entry)?;
+        }
+    }
+    after.push(SectionDirection { mid, direction })?;
+    Ok(Items::from(after))
+}
+
 impl OwnSide {
-    /// What this side is ready for in sections of this type: `Inactive` where it is neither audio nor video.
-    pub fn direction_for(&self, typ: &MediaType) -> Direction
-        ensures { result ≡ own_direction self.now typ.now }
+    /// What `directions` says of a name, if anything.
+    pub(crate) fn said_of(&self, mid: Option<Mid>) -> Option<Direction>
+        ensures { result ≡ said_of self.now.directions mid }
+    {
+        let entry = entry_of(self.directions.as_slice(), mid?)?;
+        Some(entry.direction)
+    }
+
+    /// What this side is ready for in sections of this type that `directions` doesn't name.
+    fn kind_direction(&self, typ: &MediaType) -> Direction
+        ensures { result ≡ kind_direction self.now typ.now }
     {
         match typ {
             MediaType::Audio => self.audio,
             MediaType::Video => self.video,
             _ => Direction::Inactive,
+        }
+    }
+
+    /// What this side is ready for in a section (RFC 3264, section 6.1): what `directions` says of its name (`name_of`), else
+    /// `audio` or `video` by its type, and `Inactive` where it is neither.
+    pub fn direction_for(&self, section: &MediaLine) -> Direction
+        ensures { result ≡ own_direction self.now section.now }
+    {
+        match self.said_of(name_of(section)) {
+            Some(direction) => direction,
+            None => self.kind_direction(&section.typ),
         }
     }
 }

@@ -104,6 +104,7 @@ pub(crate) fn own_side(alloc: Global, matches: &ArgMatches<'_>) -> Result<OwnSid
         extensions: texts(alloc, matches, "extension")?,
         candidates: candidates(alloc, matches)?,
         channels: channels(matches),
+        directions: Items::empty(alloc),
         receives_simulcast: !matches.get_flag("no-simulcast"),
     })
 }

@@ -1,4 +1,4 @@
--- What an answer prints (RFC 8866, section 5).
+-- What a description with a version prints (RFC 8866, section 5).
 use Rattle.std.specs.Prelude.{ℕ, List, ◌++◌, codes}
 use Rattle.std.specs.List.{flat_map}
 use Rattle.std.specs.Fmt.{decimal}
@@ -22,5 +22,5 @@ session_lines session version =
     ++ flat_map session_attribute_text session.attrs)))))))
 
 -- the session, then its sections in order
-abbrev pub answer_text : Sdp → ℕ → List ℕ
-answer_text sdp version = session_lines sdp.session version ++ flat_map media_line_text sdp.media_lines
+abbrev pub versioned_text : Sdp → ℕ → List ℕ
+versioned_text sdp version = session_lines sdp.session version ++ flat_map media_line_text sdp.media_lines
