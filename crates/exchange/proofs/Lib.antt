@@ -1,4 +1,6 @@
 pub mod Equal
+pub mod FitsLaws
+pub mod FollowLaws
 pub mod InForceLaws
 pub mod LayerLaws
 pub mod ListLaws

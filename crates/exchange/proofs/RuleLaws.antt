@@ -154,7 +154,7 @@ no_mid_behind Srtp lines none = none
 no_mid_behind Sctp lines none = none
 
 -- it has the name of the offered one
-rejected_name : (offered : MediaLine) → name_of (rejecting offered) ≡ name_of offered
+pub rejected_name : (offered : MediaLine) → name_of (rejecting offered) ≡ name_of offered
 rejected_name offered =
     let mapped : List MediaAttribute = line_that (maps (first_type offered.pts)) offered.attrs in
     let behind : filter_map mid_of (direction_over offered.proto ++ mapped) ≡ [] = no_mid_behind offered.proto mapped (no_mid_mapped (first_type offered.pts) offered.attrs) in

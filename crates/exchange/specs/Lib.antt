@@ -2,14 +2,21 @@ pub mod Accepted
 pub mod AnsweredSection
 pub mod AnsweredSession
 pub mod Bundle
+pub mod Bundled
 pub mod Choice
 pub mod Direction
 pub mod Exchange
 pub mod ExchangeError
+pub mod Fits
+pub mod Follows
+pub mod InBundle
 pub mod InForce
 pub mod Layers
+pub mod Names
 pub mod Offered
 pub mod OwnSide
+pub mod Places
+pub mod Reached
 pub mod ReadBack
 pub mod RejectedSection
 pub mod RepeatedLines
@@ -21,4 +28,5 @@ pub mod SignalingState
 pub mod State
 pub mod Stopped
 pub mod Trickled
+pub mod TurnedLayers
 pub mod Versioned

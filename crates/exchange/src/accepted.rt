@@ -14,7 +14,7 @@ use str0m_signal::{
 };
 
 /// The role that is said for a section: by its own lines, else by the session.
-fn setup_in_force(offer: &Sdp, section: &MediaLine) -> Option<Setup>
+pub(crate) fn setup_in_force(offer: &Sdp, section: &MediaLine) -> Option<Setup>
     ensures { result ≡ setup_in_force offer.now section.now }
 {
     match section.setup() {

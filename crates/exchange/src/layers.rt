@@ -11,7 +11,10 @@ use str0m_signal::{
 };
 
 /// The layers that the offer sends.
-fn sent_layers(alloc: Global, offered: &MediaLine) -> Result<Items<SimulcastLayer>, AllocError>
+pub(crate) fn sent_layers(
+    alloc: Global,
+    offered: &MediaLine,
+) -> Result<Items<SimulcastLayer>, AllocError>
     ensures { IfOk result (λ layers. layers ≡ sent_layers offered.now) }
 {
     match offered.simulcast()? {
@@ -29,7 +32,7 @@ fn is_named(layer: &SimulcastLayer, name: &str) -> bool
     layer.restriction_id.0.as_str() == name
 }
 
-fn is_sent(layers: &[SimulcastLayer], name: &str) -> bool
+pub(crate) fn is_sent(layers: &[SimulcastLayer], name: &str) -> bool
     ensures { result ≡ list_any (is_named name.now) layers.now }
 {
     layers.iter().any(|layer| is_named(layer, name))

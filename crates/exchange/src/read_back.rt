@@ -28,7 +28,7 @@ fn are_alike(said: &[MediaAttribute], read: &[MediaAttribute]) -> bool
 }
 
 #[tactic(auto, using(crate::proofs::Equal::type_Decides))]
-fn is_same_type(typ: &MediaType, other: &MediaType) -> bool
+pub(crate) fn is_same_type(typ: &MediaType, other: &MediaType) -> bool
     ensures { IsTrue result ↔ (typ.now ≡ other.now) }
 {
     typ == other
@@ -48,7 +48,7 @@ fn is_same_session(session: &Session, other: &Session) -> bool
     session == other
 }
 
-fn is_same_proto(proto: Proto, other: Proto) -> bool
+pub(crate) fn is_same_proto(proto: Proto, other: Proto) -> bool
     ensures { IsTrue result ↔ (proto ≡ other) }
 {
     proto == other

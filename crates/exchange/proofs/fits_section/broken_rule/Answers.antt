@@ -1,0 +1,18 @@
+use Rattle.std.proofs.Common.{arith, ◌≤◌, length, take}
+use Rattle.std.proofs.lemmas.List.{take_all}
+use Rattle.std.proofs.lemmas.List.Elements.{All-more}
+use Rattle.exchange.proofs.FitsLaws.{asked, rules_kept}
+use Rattle.exchange.proofs.fits_section.broken_rule.Goals as goal
+use Rattle.exchange.specs.Fits.{Keeps}
+use Rattle.exchange.specs.declared.rule.Rule.TheVariants.{Sections}
+
+pub loop-rule-preserved : goal.loop-rule-preserved
+loop-rule-preserved c =
+    All-more (Keeps c.args.ours.now.params.items c.args.answer.now c.args.offered.now c.args.answered.now) asked c.loop-rule.rule-index Sections
+    c.loop-rule-test.true c.loop-rule.invariant (c.in_ok-keeps.ensures.0 c.if-not-branch.false)
+
+pub returns : goal.returns
+returns c =
+    let past : length asked ≤ c.loop-rule.rule-index = omega arith in
+    rules_kept c.args.ours.now.params.items c.args.answer.now c.args.offered.now c.args.answered.now (take c.loop-rule.rule-index asked)
+    (take_all c.loop-rule.rule-index asked past) c.loop-rule.invariant

@@ -1,0 +1,57 @@
+-- The places of sections over several exchanges (RFC 3264, section 8; RFC 8829, section 5.2.2).
+use Rattle.std.specs.Prelude.{◌≡◌, ◌<◌, ◌≤◌, ◌⊎◌, ℕ, true, false, List, [], Option, Some, None, IfSome, IsSomeAnd, length}
+use Rattle.std.specs.List.{slice_get}
+use Rattle.str0m_sdp.specs.SessionConsistency.{is_listed}
+use Rattle.str0m_sdp.specs.declared.media_line.MediaLine.{MediaLine}
+use Rattle.str0m_sdp.specs.declared.session.Sdp.{Sdp}
+use Rattle.exchange.specs.Stopped.{IsStoppedAt, name_of}
+
+-- the sections of a description; none before the first
+abbrev pub sections_of : Option Sdp → List MediaLine
+sections_of None = []
+sections_of (Some sdp) = sdp.media_lines
+
+-- ---- which places may have a new name
+
+-- the place of a section of this side is over: it has port 0, or the other side has stopped its own
+abbrev pub IsOver : Option Sdp → ℕ → MediaLine → Type 0
+IsOver remote at mine = (mine.disabled ≡ true) ⊎ IsSomeAnd remote (λ sdp. IsStoppedAt sdp at)
+
+-- it is over, where it isn't behind the last
+abbrev pub IsFree : List MediaLine → Option Sdp → ℕ → Type 0
+IsFree local remote at = IfSome (slice_get local at) (IsOver remote at)
+
+-- ---- which names stand there
+
+-- the section at a place has the name of this one
+abbrev pub HasNameAt : List MediaLine → ℕ → MediaLine → Type 0
+HasNameAt sections at m = IsSomeAnd (slice_get sections at) (λ earlier. name_of m ≡ name_of earlier)
+
+-- no section has had the name
+abbrev pub IsNew : List (List ℕ) → MediaLine → Type 0
+IsNew names m = is_listed names (name_of m) ≡ false
+
+-- a section has the name of its place, or a new one where the place is free
+abbrev pub KeepsPlace : List (List ℕ) → List MediaLine → Option Sdp → ℕ → MediaLine → Type 0
+KeepsPlace names local remote at m = HasNameAt local at m ⊎ (IsFree local remote at × IsNew names m)
+
+-- so at a place, where there is a section
+abbrev pub KeepsPlaceAt : List (List ℕ) → List MediaLine → Option Sdp → Sdp → ℕ → Type 0
+KeepsPlaceAt names local remote offer at = (m : MediaLine) → slice_get offer.media_lines at ≡ Some m → KeepsPlace names local remote at m
+
+-- an offer behind earlier exchanges, where `local` are this side's sections in the last one: at least as many, each in its place
+pub record KeepsPlaces (names : List (List ℕ)) (local : List MediaLine) (remote : Option Sdp) (offer : Sdp) : Type 0 where
+  pub as_many : length local ≤ length offer.media_lines
+  pub each : (at : ℕ) → KeepsPlaceAt names local remote offer at
+
+-- the first place that isn't kept: behind the last section of an offer that has too few, or at a section
+abbrev pub MovesAt : List (List ℕ) → List MediaLine → Option Sdp → Sdp → ℕ → Type 0
+MovesAt names local remote offer at =
+    ((at ≡ length offer.media_lines) × (at < length local)) ⊎ (KeepsPlaceAt names local remote offer at → ⊥)
+
+-- ---- what comes after what
+
+-- sections after others, where `names` are those that sections had before: none moves, and a new name is new
+pub record FollowsPlaces (names : List (List ℕ)) (before after : List MediaLine) : Type 0 where
+  pub as_many : length before ≤ length after
+  pub each : (at : ℕ) (m : MediaLine) → slice_get after at ≡ Some m → HasNameAt before at m ⊎ IsNew names m
