@@ -1,5 +1,5 @@
 -- States of an exchange one after another.
-use Rattle.std.proofs.Common.{arith, ◌≡◌, ◌≢◌, ◌||◌, ◌++◌, ◌⊎◌, ℕ, Bool, true, false, cond, List, [], ◌∷◌, length, Option, Some, None, All, IsSomeAnd, MatchOption, bytes_eq, filter_map, inl, inr, refl, subst, sym, ap, ◌∙◌}
+use Rattle.std.proofs.Common.{arith, ◌≡◌, ◌≢◌, ◌||◌, ◌++◌, ◌⊎◌, ℕ, Bool, true, false, cond, List, [], ◌∷◌, length, Option, Some, None, All, IfSome, IsSomeAnd, MatchOption, bytes_eq, filter_map, inl, inr, refl, subst, sym, ap, ◌∙◌}
 use Rattle.std.proofs.lemmas.Bool.{true≢false}
 use Rattle.std.proofs.lemmas.List.Elements.{All-cons, All-nil, All-weaker}
 use Rattle.std.proofs.lemmas.List.Folds.{list_any-append}
@@ -15,12 +15,13 @@ use Rattle.str0m_formats.proofs.WholeRound.{row_before}
 use Rattle.str0m_sdp.specs.SessionConsistency.{is_listed}
 use Rattle.str0m_sdp.specs.declared.media_line.MediaLine.{MediaLine}
 use Rattle.str0m_sdp.specs.declared.session.Sdp.{Sdp}
-use Rattle.exchange.specs.Follows.{Follows, Grows, IsKnown}
+use Rattle.exchange.specs.Follows.{Follows, Grows, IsKnown, IsPlacedSo, IsSound}
 use Rattle.exchange.specs.Names.{grown, new_name}
 use Rattle.exchange.specs.Places.{FollowsPlaces, HasNameAt, IsNew, KeepsPlace, KeepsPlaces, sections_of}
 use Rattle.exchange.specs.Rules.{HasShapeOf}
 use Rattle.exchange.specs.Stopped.{name_of}
 use Rattle.exchange.specs.declared.exchange.Exchange.{Exchange}
+use Rattle.exchange.specs.declared.pending.Pending.{Pending}
 
 -- ---- names
 
@@ -177,3 +178,38 @@ pub known_all : (names : List (List ℕ)) (sections : List MediaLine) → All (I
 known_all names sections =
     All-weaker (IsAmong names (filter_map (new_name names) sections)) (IsKnown (grown names sections))
     (λ m among some. listed_more names (filter_map (new_name names) sections) (name_of m) ∙ among some) sections (all_among names sections)
+
+-- ---- exchanges that are done
+
+-- where the answer to the open offer is taken
+pub follows_done : (before after : Exchange) (pending : Pending) → IsSound before → before.pending ≡ Some pending → after.local ≡ Some pending.sdp
+    → after.names ≡ grown before.names pending.sdp.media_lines → length after.config.params.items ≡ length before.config.params.items
+    → LockedStay before.config.params.items after.config.params.items → Follows before after
+follows_done before after pending sound is local names rows stay = record {
+  names = subst (Grows before.names) (sym names) (grows_so before.names pending.sdp.media_lines);
+  places = subst (λ (sdp : Option Sdp). FollowsPlaces before.names (sections_of before.local) (sections_of sdp)) (sym local)
+      (subst (λ (offer : Option Pending). IfSome offer (IsPlacedSo before)) is sound.placed);
+  rows = rows;
+  stay = stay;
+}
+
+-- where an offer of the other side is answered
+pub follows_answer : (before after : Exchange) (offer answer : Sdp) → KeepsPlaces before.names (sections_of before.local) before.remote offer
+    → AllZip HasShapeOf offer.media_lines answer.media_lines → after.local ≡ Some answer → after.names ≡ grown before.names answer.media_lines
+    → length after.config.params.items ≡ length before.config.params.items → LockedStay before.config.params.items after.config.params.items → Follows before after
+follows_answer before after offer answer kept shape local names rows stay = record {
+  names = subst (Grows before.names) (sym names) (grows_so before.names answer.media_lines);
+  places = subst (λ (sdp : Option Sdp). FollowsPlaces before.names (sections_of before.local) (sections_of sdp)) (sym local)
+      (answer_follows before.names (sections_of before.local) before.remote offer answer kept shape);
+  rows = rows;
+  stay = stay;
+}
+
+-- an exchange that is done leaves no open offer, and knows its names
+pub sound_done : (after : Exchange) (names : List (List ℕ)) (sdp : Sdp) → after.local ≡ Some sdp → after.names ≡ grown names sdp.media_lines
+    → after.pending ≡ None → IsSound after
+sound_done after names sdp local named none = record {
+  known = subst (λ (o : Option Sdp). All (IsKnown after.names) (sections_of o)) (sym local)
+      (subst (λ (ns : List (List ℕ)). All (IsKnown ns) sdp.media_lines) (sym named) (known_all names sdp.media_lines));
+  placed = subst (λ (o : Option Pending). IfSome o (IsPlacedSo after)) (sym none) tt;
+}

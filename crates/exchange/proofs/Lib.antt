@@ -1,3 +1,4 @@
+pub mod AnswerLaws
 pub mod Equal
 pub mod FitsLaws
 pub mod FollowLaws

@@ -1,4 +1,6 @@
 pub mod Accepted
+pub mod AcceptedAnswer
+pub mod Added
 pub mod AnsweredSection
 pub mod AnsweredSession
 pub mod Bundle

@@ -81,7 +81,7 @@ fn printable(alloc: Global, sdp: Sdp, version: u64) -> Result<Option<Answer>, Al
 }
 
 /// A copy of the configuration behind the rounds of an offer.
-fn negotiated(config: &CodecConfig, offer: &Sdp) -> Result<CodecConfig, AllocError>
+pub(crate) fn negotiated(config: &CodecConfig, offer: &Sdp) -> Result<CodecConfig, AllocError>
     ensures rounds { IfOk result (λ after. Negotiates offer.now config.now.params.items after.params.items) }
     ensures stay { IfOk result (λ after. LockedStay config.now.params.items after.params.items) }
     ensures distinct { AllDistinct (types config.now.params.items) → IfOk result (λ after. AllDistinct (types after.params.items)) }

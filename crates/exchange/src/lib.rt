@@ -2,6 +2,7 @@
 #![tactic(auto)]
 
 mod accepted;
+mod accepted_answer;
 mod added;
 mod answer;
 mod answered_section;

@@ -1,0 +1,18 @@
+-- Why an answer isn't taken.
+use Rattle.std.proofs.Common.{◌≡◌, List, ℕ, Some}
+use Rattle.str0m_formats.specs.declared.payload_params.PayloadParams.{PayloadParams}
+use Rattle.str0m_sdp.specs.declared.session.Sdp.{Sdp}
+use Rattle.exchange.specs.AcceptedAnswer.{IsAnswer, RefusesAnswer, RefusesFit}
+use Rattle.exchange.specs.Offered.{Negotiates}
+use Rattle.exchange.specs.State.{pending_sdp}
+use Rattle.exchange.specs.declared.exchange.Exchange.{Exchange}
+use Rattle.exchange.specs.declared.exchange_error.ExchangeError.{ExchangeError}
+use Rattle.exchange.specs.declared.exchange_error.ExchangeError.TheVariants.{DoesNotFit, Memory}
+
+-- what doesn't fit the open offer
+pub misfit : (old : Exchange) (text : List ℕ) (offer answer : Sdp) (ours : List PayloadParams) (error : ExchangeError) → RefusesFit ours offer answer error
+    → pending_sdp old ≡ Some offer → IsAnswer text answer → Negotiates answer old.config.params.items ours → RefusesAnswer old text error
+misfit old text offer answer ours (DoesNotFit section broken) breaks open_so is_answer negotiated =
+    record { offer = offer; open_so = open_so; answer = answer; is_answer = is_answer; ours = ours; negotiated = negotiated; breaks = breaks }
+misfit old text offer answer ours Memory breaks open_so is_answer negotiated = tt
+misfit old text offer answer ours _ breaks open_so is_answer negotiated = absurd breaks
