@@ -1,9 +1,13 @@
 pub mod Equal
+pub mod FreshLaws
 pub mod InForceLaws
 pub mod LayerLaws
 pub mod ListLaws
 pub mod NameLaws
+pub mod OfferNameLaws
+pub mod OfferRuleLaws
 pub mod OfferedLaws
+pub mod PlaceLaws
 pub mod PlainAnswers
 pub mod ReadBackLaws
 pub mod RejectedLaws

@@ -1,4 +1,5 @@
 pub mod Accepted
+pub mod Added
 pub mod AnsweredSection
 pub mod AnsweredSession
 pub mod Bundle
@@ -6,8 +7,14 @@ pub mod Choice
 pub mod Direction
 pub mod Exchange
 pub mod ExchangeError
+pub mod FreshNames
 pub mod InForce
 pub mod Layers
+pub mod MadeOffer
+pub mod OfferExtensions
+pub mod OfferPlaces
+pub mod OfferRules
+pub mod OfferSection
 pub mod Offered
 pub mod OwnSide
 pub mod ReadBack
