@@ -2,11 +2,15 @@ pub mod AnswerLaws
 pub mod Equal
 pub mod FitsLaws
 pub mod FollowLaws
+pub mod FreshLaws
 pub mod InForceLaws
 pub mod LayerLaws
 pub mod ListLaws
 pub mod NameLaws
+pub mod OfferNameLaws
+pub mod OfferRuleLaws
 pub mod OfferedLaws
+pub mod PlaceLaws
 pub mod PlainAnswers
 pub mod ReadBackLaws
 pub mod RejectedLaws

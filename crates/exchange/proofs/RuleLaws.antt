@@ -163,10 +163,13 @@ rejected_name offered =
     ∙ append-nil (filter_map mid_of (line_that is_mid offered.attrs)))
     ∙ mid_found offered.attrs
 
+pub rejecting_shape : (offered : MediaLine) → HasShapeOf offered (rejecting offered)
+rejecting_shape offered = record { typ = refl; proto = refl; name = rejected_name offered }
+
 -- ---- sections that accept
 
 -- the direction that stands behind the first lines is the section's
-direction_said : (own : OwnSide) (mid : List ℕ) (role : Setup) (direction : Direction) (behind rows : List MediaAttribute)
+pub direction_said : (own : OwnSide) (mid : List ℕ) (role : Setup) (direction : Direction) (behind rows : List MediaAttribute)
     → section_direction (filter (λ attr. not (is_of_type attr)) (first_lines own mid role ++ (direction_attribute direction ∷ behind)) ++ rows) ≡ direction
 direction_said own mid role way.SendRecv behind rows = refl
 direction_said own mid role way.SendOnly behind rows = refl
@@ -182,9 +185,8 @@ rejected_keeps : (own : OwnSide) (ours : List PayloadParams) (offer : Sdp) (offe
     → answered ≡ rejecting offered → KeepsRules own ours offer offered answered
 rejected_keeps own ours offer offered answered is says =
     let off : answered.disabled ≡ true = ap (λ (m : MediaLine). m.disabled) says in
-    let shape : HasShapeOf offered (rejecting offered) = record { typ = refl; proto = refl; name = rejected_name offered } in
     record {
-      shape = subst (HasShapeOf offered) (sym says) shape;
+      shape = subst (HasShapeOf offered) (sym says) (rejecting_shape offered);
       exactly = (
         λ on. absurd (true_false answered.disabled off on),
         λ fits. absurd (not_rejected own (answered_rows ours offered) (name_of offered) offered.typ offered.proto (is.open_so fits.runs) fits.named_so fits.answerable),

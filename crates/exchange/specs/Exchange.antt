@@ -1,18 +1,22 @@
 -- What an exchange of offers and answers comes to.
-use Rattle.std.specs.Prelude.{◌≡◌, ◌≢◌, ℕ, List, Option, IsSomeAnd}
+use Rattle.std.specs.Prelude.{◌≡◌, ◌≢◌, ℕ, true, List, [], Option, None, IsSomeAnd, length}
 use Rattle.std.specs.List.{AllZip}
+use Rattle.str0m_values.specs.declared.media_kind.MediaKind.{MediaKind}
+use Rattle.str0m_formats.specs.KindRows.{kind_rows}
 use Rattle.str0m_formats.specs.declared.payload_params.PayloadParams.{PayloadParams}
 use Rattle.str0m_sdp.specs.declared.media_line.MediaLine.{MediaLine}
 use Rattle.str0m_sdp.specs.declared.session.Sdp.{Sdp}
 use Rattle.exchange.specs.AnsweredSection.{AnswersSection}
 use Rattle.exchange.specs.AnsweredSession.{answered_session}
+use Rattle.exchange.specs.FreshNames.{AreFresh, AreTooFew}
+use Rattle.exchange.specs.MadeOffer.{MakesOffer}
 use Rattle.exchange.specs.Offered.{IsOffer, Negotiates, RefusesText}
 use Rattle.exchange.specs.ReadBack.{IsReadBack}
-use Rattle.exchange.specs.State.{state_of}
+use Rattle.exchange.specs.State.{state_of, taken_names}
 use Rattle.exchange.specs.Versioned.{versioned_text}
 use Rattle.exchange.specs.declared.exchange.Exchange.{Exchange}
 use Rattle.exchange.specs.declared.exchange_error.ExchangeError.{ExchangeError}
-use Rattle.exchange.specs.declared.exchange_error.ExchangeError.TheVariants.{NotRead, Unread, WrongState, DoesNotFit, NoChannels, NoName, NotPrintable, Memory}
+use Rattle.exchange.specs.declared.exchange_error.ExchangeError.TheVariants.{NotRead, Unread, WrongState, DoesNotFit, NoRows, NoChannels, NoName, NotPrintable, Memory}
 use Rattle.exchange.specs.declared.own_side.OwnSide.{OwnSide}
 use Rattle.exchange.specs.declared.signaling_state.SignalingState.TheVariants.{Stable}
 
@@ -41,7 +45,38 @@ RefusesOffer old text (NotRead cause) = RefusesText text (NotRead cause)
 RefusesOffer old text (Unread line content) = RefusesText text (Unread line content)
 RefusesOffer old text (WrongState state) = (state ≡ state_of old) × (state ≢ Stable)
 RefusesOffer old text (DoesNotFit section rule) = ⊥
+RefusesOffer old text NoRows = ⊥
 RefusesOffer old text NoChannels = ⊥
 RefusesOffer old text NoName = ⊥
 RefusesOffer old text NotPrintable = IsUnprintable old text
 RefusesOffer old text Memory = Unit {0}
+
+-- why media isn't added
+abbrev pub RefusesMedia : Exchange → MediaKind → ExchangeError → Type 0
+RefusesMedia old kind NoRows = kind_rows kind true old.config.params.items ≡ []
+RefusesMedia old kind Memory = Unit {0}
+RefusesMedia old kind _ = ⊥
+
+-- why data channels aren't
+abbrev pub RefusesChannels : Exchange → ExchangeError → Type 0
+RefusesChannels old NoChannels = old.own.channels ≡ None
+RefusesChannels old Memory = Unit {0}
+RefusesChannels old _ = ⊥
+
+-- some offer that this side could make isn't read back
+pub record IsLostOffer (old : Exchange) : Type 0 where
+  pub names : List (List ℕ)
+  pub to : ℕ
+  pub are_fresh : AreFresh (taken_names old) 0 names to
+  pub as_many : length names ≡ length old.added
+  pub offer : Sdp
+  pub makes : MakesOffer old names offer
+  pub lost : IsReadBack offer (versioned_text offer old.version) → ⊥
+
+-- why no offer is made
+abbrev pub RefusesToOffer : Exchange → ExchangeError → Type 0
+RefusesToOffer old (WrongState state) = (state ≡ state_of old) × (state ≢ Stable)
+RefusesToOffer old NoName = AreTooFew (taken_names old) (length old.added)
+RefusesToOffer old NotPrintable = IsLostOffer old
+RefusesToOffer old Memory = Unit {0}
+RefusesToOffer old _ = ⊥

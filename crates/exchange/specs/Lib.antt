@@ -11,10 +11,16 @@ pub mod Exchange
 pub mod ExchangeError
 pub mod Fits
 pub mod Follows
+pub mod FreshNames
 pub mod InBundle
 pub mod InForce
 pub mod Layers
+pub mod MadeOffer
 pub mod Names
+pub mod OfferExtensions
+pub mod OfferPlaces
+pub mod OfferRules
+pub mod OfferSection
 pub mod Offered
 pub mod OwnSide
 pub mod Places

@@ -14,7 +14,7 @@ use Rattle.str0m_signal.specs.Answers.{Refuses}
 use Rattle.str0m_signal.specs.Reading.{Reading}
 use Rattle.exchange.specs.Stopped.{IsStopped}
 use Rattle.exchange.specs.declared.exchange_error.ExchangeError.{ExchangeError}
-use Rattle.exchange.specs.declared.exchange_error.ExchangeError.TheVariants.{NotRead, Unread, WrongState, DoesNotFit, NoChannels, NoName, NotPrintable, Memory}
+use Rattle.exchange.specs.declared.exchange_error.ExchangeError.TheVariants.{NotRead, Unread, WrongState, DoesNotFit, NoRows, NoChannels, NoName, NotPrintable, Memory}
 
 -- the text is this description, and nothing follows it
 abbrev pub IsOffer : List ℕ → Sdp → Type 0
@@ -30,6 +30,7 @@ RefusesText text (NotRead cause) = Refuses cause (Reading text)
 RefusesText text (Unread line content) = IsCutShort text
 RefusesText text (WrongState state) = ⊥
 RefusesText text (DoesNotFit section rule) = ⊥
+RefusesText text NoRows = ⊥
 RefusesText text NoChannels = ⊥
 RefusesText text NoName = ⊥
 RefusesText text NotPrintable = ⊥

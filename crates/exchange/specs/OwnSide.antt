@@ -33,6 +33,9 @@ abbrev pub said_or : Option Direction → Direction → Direction
 said_or None other = other
 said_or (Some direction) other = direction
 
--- what it is ready for in a section: by its name, else by its type (RFC 3264, section 6.1)
+-- what it is ready for in a section, where these entries say so by name: by its name, else by its type (RFC 3264, section 6.1)
+abbrev pub direction_among : OwnSide → List SectionDirection → Option (List ℕ) → MediaType → Direction
+direction_among own entries mid typ = said_or (said_of entries mid) (kind_direction own typ)
+
 abbrev pub own_direction : OwnSide → MediaLine → Direction
-own_direction own m = said_or (said_of own.directions (name_of m)) (kind_direction own m.typ)
+own_direction own m = direction_among own own.directions (name_of m) m.typ

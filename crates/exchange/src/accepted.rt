@@ -25,7 +25,7 @@ pub(crate) fn setup_in_force(offer: &Sdp, section: &MediaLine) -> Option<Setup>
 
 /// The lines that each accepted section begins with: its name, and how its transport is reached. Each has all of
 /// them, since Firefox 153 ends where a section of a bundle has no fingerprint.
-fn first_lines(
+pub(crate) fn first_lines(
     alloc: Global,
     own: &OwnSide,
     mid: Mid,
@@ -48,7 +48,10 @@ fn first_lines(
 }
 
 /// Where this side is reached.
-fn candidate_lines(alloc: Global, own: &OwnSide) -> Result<Vec<MediaAttribute>, AllocError>
+pub(crate) fn candidate_lines(
+    alloc: Global,
+    own: &OwnSide,
+) -> Result<Vec<MediaAttribute>, AllocError>
     ensures { IfOk result (λ lines. lines.items ≡ map candidate_line own.now.candidates) }
 {
     let mut lines = Vec::new(alloc);
@@ -66,7 +69,7 @@ fn track_id(alloc: Global, mid: Mid) -> Result<Text, AllocError>
 }
 
 /// The stream and the track, where this side sends.
-fn msid_lines(
+pub(crate) fn msid_lines(
     alloc: Global,
     own: &OwnSide,
     direction: Direction,
@@ -104,7 +107,10 @@ fn layer_lines(
     Ok(Vec::new(alloc))
 }
 
-fn channel_lines(alloc: Global, channels: DataChannels) -> Result<Vec<MediaAttribute>, AllocError>
+pub(crate) fn channel_lines(
+    alloc: Global,
+    channels: DataChannels,
+) -> Result<Vec<MediaAttribute>, AllocError>
     ensures { IfOk result (λ lines. lines.items ≡ channel_lines channels) }
 {
     let lines = vec![in alloc;

@@ -9,7 +9,7 @@ use std::alloc::{AllocError, Global};
 use str0m_signal::{Items, MediaLine, Mid, Sdp, Session, SessionAttribute, Text};
 
 /// Whether each section is accepted.
-fn are_accepted(alloc: Global, sections: &[MediaLine]) -> Result<Vec<bool>, AllocError>
+pub(crate) fn are_accepted(alloc: Global, sections: &[MediaLine]) -> Result<Vec<bool>, AllocError>
     ensures { IfOk result (λ accepted. accepted.items ≡ map is_accepted sections.now) }
 {
     let mut accepted = Vec::new(alloc);
@@ -20,7 +20,10 @@ fn are_accepted(alloc: Global, sections: &[MediaLine]) -> Result<Vec<bool>, Allo
 }
 
 /// The group of the sections that share a transport; no group where none does.
-fn group_lines(alloc: Global, mids: Items<Mid>) -> Result<Vec<SessionAttribute>, AllocError>
+pub(crate) fn group_lines(
+    alloc: Global,
+    mids: Items<Mid>,
+) -> Result<Vec<SessionAttribute>, AllocError>
     ensures { IfOk result (λ lines. lines.items ≡ group_lines mids) }
 {
     if mids.is_empty() {
@@ -44,7 +47,7 @@ fn has_mixed(attrs: &[SessionAttribute]) -> bool
     attrs.iter().any(|attr| allows_mixed(attr))
 }
 
-fn mixed_lines(
+pub(crate) fn mixed_lines(
     alloc: Global,
     offered: &[SessionAttribute],
 ) -> Result<Vec<SessionAttribute>, AllocError>

@@ -16,7 +16,7 @@ fn name_if_accepted(section: &MediaLine, is_accepted: bool) -> Option<Mid>
 }
 
 /// The names of the accepted sections, in order.
-fn accepted_names(
+pub(crate) fn accepted_names(
     alloc: Global,
     sections: &[MediaLine],
     accepted: &[bool],

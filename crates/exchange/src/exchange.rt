@@ -1,19 +1,25 @@
 //! Exchanges of offers and answers.
-ghost use Rattle.std.specs.Prelude.{All, ◌≡◌, ◌+◌, ◌-◌, ◌^◌, [], IfErr, IfOk, IfSome, IsSomeAnd, OnErr, OnOk, None, Some, min};
+ghost use Rattle.std.specs.Prelude.{All, ◌≡◌, ◌≢◌, ◌↔◌, ◌+◌, ◌-◌, ◌^◌, ◌∷◌, ◌++◌, [], ℕ, true, IfErr, IfOk, IsSomeAnd, IsTrue, OnErr, OnOk, None, Some, length, min};
 ghost use Rattle.std.specs.Option.{option_copied};
 ghost use Rattle.std.specs.List.{AllZip};
+ghost use Rattle.str0m_formats.specs.KindRows.{kind_rows};
 ghost use Rattle.str0m_formats.specs.Promises.{LockedStay};
 ghost use Rattle.str0m_formats.specs.PlainRow.{IsPlain};
 ghost use Rattle.str0m_formats.specs.Rows.{types};
 ghost use Rattle.str0m_formats.specs.TypeSets.{AllDistinct};
 ghost use Rattle.str0m_sdp.specs.RowBounds.{HasBoundedRows};
-ghost use Rattle.exchange.specs.Exchange.{AnswersOffer, EachSection, RefusesOffer};
+ghost use Rattle.str0m_sdp.specs.SessionConsistency.{AreDistinct, section_mids};
+ghost use Rattle.exchange.specs.Exchange.{AnswersOffer, EachSection, RefusesChannels, RefusesMedia, RefusesOffer, RefusesToOffer};
+ghost use Rattle.exchange.specs.FreshNames.{AreFresh};
+ghost use Rattle.exchange.specs.MadeOffer.{MakesOffer, placed_as, ready_with};
+ghost use Rattle.exchange.specs.OfferRules.{IsNewName, IsOffered, KeepsPlaces};
 ghost use Rattle.exchange.specs.Offered.{IsOffer, Negotiates};
 ghost use Rattle.exchange.specs.OwnSide.{with_direction};
 ghost use Rattle.exchange.specs.ReadBack.{IsReadBack};
 ghost use Rattle.exchange.specs.Rules.{HasShapeOf, IsAcceptedExactly, KeepsRules};
-ghost use Rattle.exchange.specs.State.{pending_sdp, state_of};
+ghost use Rattle.exchange.specs.State.{pending_sdp, sections_of, state_of, taken_names};
 ghost use Rattle.exchange.specs.Versioned.{versioned_text};
+ghost use Rattle.exchange.specs.declared.added.Added.TheVariants.{Media, Channels};
 ghost use Rattle.exchange.specs.declared.exchange_error.ExchangeError.TheVariants.{Memory};
 ghost use Rattle.exchange.specs.declared.signaling_state.SignalingState.TheVariants.{Stable};
 
@@ -22,13 +28,18 @@ use crate::answer::Answer;
 use crate::answered_section::answered_sections;
 use crate::answered_session::answered_session;
 use crate::exchange_error::ExchangeError;
+use crate::fresh_names::fresh_names;
+use crate::made_offer::{made_offer, placed_as, taken_names};
+use crate::offer::Offer;
+use crate::offer_section::has_rows;
 use crate::offered::{negotiate, whole_description};
 use crate::own_side::{OwnSide, with_direction};
 use crate::pending::Pending;
 use crate::read_back::is_read_back;
 use crate::signaling_state::SignalingState;
+use crate::versioned::Versioned;
 use std::alloc::{AllocError, Global};
-use str0m_signal::{CodecConfig, Direction, IceCreds, Items, Mid, Sdp};
+use str0m_signal::{CodecConfig, Direction, IceCreds, Items, MediaKind, Mid, Sdp};
 
 /// One side of an exchange of offers and answers (RFC 3264; RFC 8829).
 #[derive(Drop)]
@@ -66,18 +77,12 @@ fn answer_to(
     })
 }
 
-/// The answer with a version, where the other side reads it as what it says.
-fn printable(alloc: Global, sdp: Sdp, version: u64) -> Result<Option<Answer>, AllocError>
-    ensures some { IfOk result (λ found. IfSome found (λ answer. (answer ≡ record { sdp = sdp; version = version })
-        × IsReadBack sdp (versioned_text sdp version))) }
-    ensures none { IfOk result (λ found. found ≡ None → IsReadBack sdp (versioned_text sdp version) → ⊥) }
+/// Whether the other side reads a description with this version as what it says.
+fn is_printable(alloc: Global, sdp: &Sdp, version: u64) -> Result<bool, AllocError>
+    ensures { IfOk result (λ answer. IsTrue answer ↔ IsReadBack sdp.now (versioned_text sdp.now version)) }
 {
-    let answer = Answer::new(sdp, version);
-    let text = answer.to_string(alloc)?;
-    if is_read_back(alloc, &answer.sdp, text.as_str())? {
-        return Ok(Some(answer));
-    }
-    Ok(None)
+    let text = Versioned { sdp, version }.to_string(alloc)?;
+    is_read_back(alloc, sdp, text.as_str())
 }
 
 /// A copy of the configuration behind the rounds of an offer.
@@ -184,6 +189,108 @@ impl Exchange {
         Ok(())
     }
 
+    /// Has the next offer, and those behind it until an exchange has placed it, offer media of a kind in a section of its own,
+    /// for which this side is ready in this direction (JSEP: a transceiver is added). The offer names the section.
+    ///
+    /// # Errors
+    ///
+    /// Nothing is changed by an error. `NoRows` where no row of the configuration stands in sections of the kind; `Memory` where
+    /// memory was refused.
+    pub fn add_media(&mut self, kind: MediaKind, direction: Direction) -> Result<(), ExchangeError>
+        ensures ok { OnOk result (self.new ≡ record self.old { added = self.old.added ++ Media kind direction ∷ [] }) }
+        ensures has_rows { OnOk result (kind_rows kind true self.old.config.params.items ≢ []) }
+        ensures refused { IfErr result (RefusesMedia self.old kind) }
+        ensures unchanged { OnErr result (self.new ≡ self.old) }
+    {
+        if !has_rows(&self.config, kind) {
+            return Err(ExchangeError::NoRows);
+        }
+        self.added.push(Added::Media(kind, direction))?;
+        Ok(())
+    }
+
+    /// Has the next offer, and those behind it until an exchange has placed them, offer data channels in a section of their own.
+    ///
+    /// # Errors
+    ///
+    /// Nothing is changed by an error. `NoChannels` where this side takes none (`OwnSide`); `Memory` where memory was refused.
+    pub fn add_channels(&mut self) -> Result<(), ExchangeError>
+        ensures ok { OnOk result (self.new ≡ record self.old { added = self.old.added ++ Channels ∷ [] }) }
+        ensures has_channels { OnOk result (self.old.own.channels ≢ None) }
+        ensures refused { IfErr result (RefusesChannels self.old) }
+        ensures unchanged { OnErr result (self.new ≡ self.old) }
+    {
+        if self.own.channels.is_none() {
+            return Err(ExchangeError::NoChannels);
+        }
+        self.added.push(Added::Channels)?;
+        Ok(())
+    }
+
+    /// Drops the offer of this side that waits for its answer (RFC 8829, section 4.1.10.2); where none does, nothing changes.
+    /// What was added stays added, and the next offer has a version of its own.
+    pub fn rollback(&mut self)
+        ensures { self.new ≡ record self.old { pending = None } }
+    {
+        self.pending = None;
+    }
+
+    /// Offers what was added, and what goes on of the last exchange (RFC 3264, section 8; RFC 8829, section 5.2).
+    ///
+    /// Each section of the last exchange has its place again, with its name, type and protocol. Where it goes on, media flows as
+    /// this side is ready for it, with the rows of its kind of the configuration, so that rows that are agreed on stand under
+    /// their types; of `a=rtcp-mux`, `a=rtcp-rsize` and `a=extmap` lines it says those that both sides said last. A place is over
+    /// where this side's section is disabled, or the other side has stopped its own: what is added next takes it, and where
+    /// nothing is left it stays rejected. What is left of what was added stands behind. It has names that no section of the
+    /// session has had, `Offer::added`.
+    ///
+    /// All sections with a port share a bundle. The offer has a version of its own, and the other side reads it to its end as what
+    /// it says. It waits for its answer from then on, `pending`; the configuration stays.
+    ///
+    /// # Errors
+    ///
+    /// Nothing is changed by an error. `WrongState` where the state isn't `Stable`; `NoName` where no name is left; `NotPrintable`
+    /// where the offer would be read as another one; `Memory` where memory was refused.
+    pub fn create_offer(&mut self) -> Result<Offer, ExchangeError>
+        ensures stable { IfOk result (λ offer. state_of self.old ≡ Stable) }
+        ensures names { IfOk result (λ offer. (to : ℕ) × AreFresh (taken_names self.old) 0 offer.added to) }
+        ensures as_many { IfOk result (λ offer. length offer.added ≡ length self.old.added) }
+        ensures new { IfOk result (λ offer. All (IsNewName self.old) offer.added) }
+        // Section by section, and as a whole with its bundle.
+        ensures says { IfOk result (λ offer. MakesOffer self.old offer.added offer.sdp) }
+        ensures places { IfOk result (λ offer. KeepsPlaces self.old 0 (sections_of self.old.local) offer.sdp.media_lines) }
+        ensures rules { IfOk result (λ offer. All (IsOffered self.old (ready_with self.old offer.added)) offer.sdp.media_lines) }
+        ensures different { AreDistinct (section_mids (sections_of self.old.local)) → IfOk result (λ offer. AreDistinct (section_mids offer.sdp.media_lines)) }
+        ensures read_back { IfOk result (λ offer. IsReadBack offer.sdp (versioned_text offer.sdp offer.version)) }
+        ensures version { IfOk result (λ offer. offer.version ≡ self.old.version) }
+        ensures waits { IfOk result (λ offer. self.new ≡ record self.old {
+          pending = Some (record { sdp = offer.sdp; placed = placed_as self.old offer.added });
+          version = min (self.old.version + 1) (2 ^ 64 - 1);
+        }) }
+        ensures refused { IfErr result (RefusesToOffer self.old) }
+        ensures unchanged { OnErr result (self.new ≡ self.old) }
+    {
+        if !matches!(self.state(), SignalingState::Stable) {
+            return Err(ExchangeError::WrongState(self.state()));
+        }
+        let alloc = *self.config.allocator();
+        let taken = taken_names(self)?;
+        let added = fresh_names(alloc, taken.as_slice(), self.added.len())?;
+        let sdp = made_offer(self, added.as_slice())?;
+        if !is_printable(alloc, &sdp, self.version)? {
+            return Err(ExchangeError::NotPrintable);
+        }
+        let placed = placed_as(self, added.as_slice())?;
+        let pending = Pending {
+            sdp: sdp.clone()?,
+            placed,
+        };
+        let offer = Offer::new(sdp, self.version, added);
+        self.pending = Some(pending);
+        self.version = self.version.saturating_add(1);
+        Ok(offer)
+    }
+
     /// Answers an offer (RFC 3264, section 6; RFC 8829, section 5.3): with as many sections, in its order, of the same
     /// types, protocols and names. One is rejected exactly where it is stopped, where it is neither media over RTP nor
     /// data channels over SCTP, or where this side has nothing for it. Media flows where both sides are ready for it, with
@@ -230,10 +337,11 @@ impl Exchange {
         let remote = whole_description(alloc, offer)?;
         let config = negotiated(&self.config, &remote)?;
         let sdp = answer_to(alloc, &self.own, &config, &remote)?;
-        let Some(answer) = printable(alloc, sdp, self.version)? else {
+        if !is_printable(alloc, &sdp, self.version)? {
             return Err(ExchangeError::NotPrintable);
-        };
-        let local = answer.sdp.clone()?;
+        }
+        let local = sdp.clone()?;
+        let answer = Answer::new(sdp, self.version);
         self.local = Some(local);
         self.remote = Some(remote);
         self.config = config;

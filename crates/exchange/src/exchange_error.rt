@@ -35,6 +35,9 @@ pub enum ExchangeError {
         /// The rule that it breaks.
         rule: Rule,
     },
+    /// No row of the configuration stands in sections of that kind.
+    #[error("this side has no codec for media of that kind")]
+    NoRows,
     /// This side takes no data channels (`OwnSide`).
     #[error("this side takes no data channels")]
     NoChannels,

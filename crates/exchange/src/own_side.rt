@@ -1,7 +1,7 @@
 //! What this side says of itself.
 ghost use Rattle.std.specs.Prelude.{◌≡◌, IfOk, find};
 ghost use Rattle.std.specs.Option.{option_copied};
-ghost use Rattle.exchange.specs.OwnSide.{is_of, kind_direction, own_direction, said_of, with_direction};
+ghost use Rattle.exchange.specs.OwnSide.{direction_among, is_of, kind_direction, own_direction, said_of, with_direction};
 
 use crate::stopped::name_of;
 use std::alloc::{AllocError, Global};
@@ -86,16 +86,16 @@ pub(crate) fn with_direction(
     Ok(Items::from(after))
 }
 
-impl OwnSide {
-    /// What `directions` says of a name, if anything.
-    pub(crate) fn said_of(&self, mid: Option<Mid>) -> Option<Direction>
-        ensures { result ≡ said_of self.now.directions mid }
-    {
-        let entry = entry_of(self.directions.as_slice(), mid?)?;
-        Some(entry.direction)
-    }
+/// What the entries say of a name, if anything.
+fn said_of(entries: &[SectionDirection], mid: Option<Mid>) -> Option<Direction>
+    ensures { result ≡ said_of entries.now mid }
+{
+    let entry = entry_of(entries, mid?)?;
+    Some(entry.direction)
+}
 
-    /// What this side is ready for in sections of this type that `directions` doesn't name.
+impl OwnSide {
+    /// What this side is ready for in sections of this type that no entry names.
     fn kind_direction(&self, typ: &MediaType) -> Direction
         ensures { result ≡ kind_direction self.now typ.now }
     {
@@ -106,14 +106,27 @@ impl OwnSide {
         }
     }
 
+    /// What this side is ready for in a section of a name and a type, where these entries say so by name.
+    pub(crate) fn direction_among(
+        &self,
+        entries: &[SectionDirection],
+        mid: Option<Mid>,
+        typ: &MediaType,
+    ) -> Direction
+        ensures { result ≡ direction_among self.now entries.now mid typ.now }
+    {
+        match said_of(entries, mid) {
+            Some(direction) => direction,
+            None => self.kind_direction(typ),
+        }
+    }
+
     /// What this side is ready for in a section (RFC 3264, section 6.1): what `directions` says of its name (`name_of`), else
     /// `audio` or `video` by its type, and `Inactive` where it is neither.
     pub fn direction_for(&self, section: &MediaLine) -> Direction
         ensures { result ≡ own_direction self.now section.now }
     {
-        match self.said_of(name_of(section)) {
-            Some(direction) => direction,
-            None => self.kind_direction(&section.typ),
-        }
+        let entries = self.directions.as_slice();
+        self.direction_among(entries, name_of(section), &section.typ)
     }
 }

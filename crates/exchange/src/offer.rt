@@ -1,0 +1,64 @@
+//! Offers with their versions.
+ghost use Rattle.std.specs.Prelude.{◌≡◌, Some};
+ghost use Rattle.exchange.specs.Versioned.{versioned_text};
+
+use crate::versioned::Versioned;
+use std::fmt;
+use std::ops::Deref;
+use str0m_signal::{Items, Mid, Sdp};
+
+/// A description that this side offers, with its version: of two descriptions of one session the later has the greater
+/// (RFC 3264, section 8). It derefs to its description.
+#[derive(Debug, Drop)]
+pub struct Offer {
+    pub(crate) sdp: Sdp,
+    pub(crate) version: u64,
+    pub(crate) added: Items<Mid>,
+}
+
+impl Offer {
+    pub(crate) fn new(sdp: Sdp, version: u64, added: Items<Mid>) -> Offer
+        ensures { result ≡ record { sdp = sdp; version = version; added = added } }
+    {
+        Offer {
+            sdp,
+            version,
+            added,
+        }
+    }
+
+    /// The version in the `o=` line (RFC 8866, section 5.2).
+    pub fn version(&self) -> u64
+        ensures { result ≡ self.now.version }
+    {
+        self.version
+    }
+
+    /// The names of the sections of what was added and isn't placed by an earlier exchange, in the order of the calls.
+    pub fn added(&self) -> &[Mid]
+        ensures { result.now ≡ self.now.added }
+    {
+        self.added.as_slice()
+    }
+}
+
+impl Deref for Offer {
+    type Target = Sdp;
+
+    ghost deref_gives = { λ offer sdp. sdp ≡ offer.sdp };
+
+    fn deref(&self) -> &Sdp {
+        &self.sdp
+    }
+}
+
+/// The text of the offer, each line ended by CR LF.
+impl fmt::Display for Offer {
+    ghost output = { λ offer. Some (versioned_text offer.sdp offer.version) };
+
+    fn fmt<W: fmt::Write>(&self, f: &mut fmt::Formatter<W>) -> fmt::Result {
+        let sdp = &self.sdp;
+        let version = self.version;
+        Versioned { sdp, version }.fmt(f)
+    }
+}
