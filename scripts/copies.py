@@ -1,4 +1,4 @@
-"""Copies of functions: where several edits turn one function, each further one is made in a copy of it, and one check tries all.
+"""Copies of functions: an edit of one function is made in a copy of it, so that one check tries all, and callers aren't touched.
 
 A copy has the function's contract and a name of its own, and is called by nothing. It stands behind the last line of its file, a
 method in a block with the head and the `ghost use` lines of its own; what proofs/ holds of the function is copied for it. So what is

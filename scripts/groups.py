@@ -1,4 +1,4 @@
-"""Which edits one check tries: those by which no function falls but their own."""
+"""Which edits one check tries: those by which no function falls but their own, each in a copy of its function where that has one."""
 import contextlib
 
 from copies import copy_of
@@ -10,21 +10,26 @@ class Group:
 
     def __init__(self, texts):
         self.texts = self.edited = texts
-        self.edits, self.functions, self.reach, self.of_tables = [], set(), set(), set()
+        self.edits, self.functions, self.reach, self.of_tables, self.copied = [], set(), set(), set(), set()
 
     def takes(self, edit):
-        """Takes an edit in, if it can."""
-        own = edit.reach
-        if not self.functions & own and not self.reach & edit.functions:
-            with contextlib.suppress(ValueError):  # (an earlier one takes its text away)
-                self.edited = changed(self.edited, edit.changes)
-                self.functions, self.reach = self.functions | edit.functions, self.reach | own
-                self.of_tables |= own if edit.is_wide else set()
-                self.edits.append(edit)
-                return True
+        """Takes an edit in, if it can: in a copy of its function where that has one, else in place."""
         made = None if self.of_tables & edit.functions else copy_of(edit, self.texts, len(self.edits))
-        self.edits += [made] * bool(made)
-        return bool(made)
+        if made:
+            self.copied |= edit.functions
+            self.edits.append(made)
+            return True
+        own = edit.reach
+        # (a copy reads the tables that its function reads)
+        if self.functions & own or self.reach & edit.functions or (edit.is_wide and self.copied & own):
+            return False
+        with contextlib.suppress(ValueError):  # (an earlier one takes its text away)
+            self.edited = changed(self.edited, edit.changes)
+            self.functions, self.reach = self.functions | edit.functions, self.reach | own
+            self.of_tables |= own if edit.is_wide else set()
+            self.edits.append(edit)
+            return True
+        return False
 
 
 def groups_of(edits, texts, count):
