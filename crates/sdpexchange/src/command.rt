@@ -5,6 +5,11 @@ use std::alloc::{AllocError, Global};
 
 static DIRECTIONS: [&str; 4] = ["sendrecv", "sendonly", "recvonly", "inactive"];
 
+static STEPS: &str =
+    "what happens, in order: FILE, an offer of the other side, which is answered ('-' is standard input); add=audio, add=video or add=channels, \
+also with a direction as add=audio,recvonly; direction=MID,DIRECTION; restart; offer, an offer of this side; answer=FILE, the other side's \
+answer to it; rollback. Without any, an offer is read from standard input";
+
 /// The codecs that can be named, in the order in which `--help` shows them.
 pub(crate) static CODECS: [&str; 12] = [
     "opus", "pcmu", "pcma", "g722", "cn", "amr-wb", "vp8", "vp9", "av1", "h264", "h265", "h266",
@@ -116,19 +121,23 @@ fn with_channels<'a>(alloc: Global, command: Command<'a>) -> Result<Command<'a>,
         .arg(flag(alloc, "no-channels", "take no data channels"))
 }
 
+/// The steps of the session, and whether it ends with an offer of this side.
+fn with_steps<'a>(alloc: Global, command: Command<'a>) -> Result<Command<'a>, AllocError> {
+    let steps = Arg::new(alloc, "step")
+        .value_name("STEP")
+        .action(ArgAction::Append)
+        .help(STEPS);
+    command
+        .arg(steps)?
+        .arg(flag(alloc, "offer", "end with an offer of this side"))
+}
+
 /// The program's words.
 pub(crate) fn command<'a>(alloc: Global) -> Result<Command<'a>, AllocError> {
-    let offers = Arg::new(alloc, "offer")
-        .value_name("OFFER")
-        .action(ArgAction::Append)
-        .default_value("-")
-        .help(
-            "files of the session's offers, in the order in which they came; '-' is standard input",
-        );
-    let command = Command::new(alloc, "sdpexchange")
-        .version("0.25.0")
-        .about("Answers the offers of a session, and writes the answer to the last")
-        .arg(offers)?;
+    let command = Command::new(alloc, "sdpexchange").version("0.25.0").about(
+        "Takes the steps of a session, and writes the last answer or offer of this side",
+    );
+    let command = with_steps(alloc, command)?;
     let command = with_transport(alloc, command)?;
     let command = with_media(alloc, command)?;
     with_channels(alloc, command)

@@ -1,4 +1,4 @@
-//! Why no answer is written.
+//! Why nothing is written.
 
 use exchange::ExchangeError;
 use std::alloc::{AllocError, Global};
@@ -6,7 +6,7 @@ use std::io;
 use str0m_signal::Text;
 use thiserror::Error;
 
-/// Why no answer is written.
+/// Why nothing is written.
 #[derive(Debug, Drop, Error)]
 pub(crate) enum Fault {
     /// The value of an option isn't well formed.
@@ -15,20 +15,23 @@ pub(crate) enum Fault {
         option: &'static str,
         why: &'static str,
     },
+    /// A step isn't well formed.
+    #[error("{0}: write a file, offer, answer=FILE, add=KIND,DIRECTION, direction=MID,DIRECTION, restart or rollback")]
+    Step(Text),
     /// A file isn't there, can't be read or is no UTF-8.
     #[error("{file}: cannot be read: {error}")]
     Unreadable {
         file: Text,
         error: io::Error,
     },
-    /// A line of an offer fits nowhere.
+    /// A line of a text fits nowhere.
     #[error("{file}:{line}: this line fits nowhere, so what follows it isn't known; mend it or take it out: {text}")]
     Unread {
         file: Text,
         line: usize,
         text: Text,
     },
-    /// An offer isn't answered.
+    /// A text isn't taken, or an offer isn't made.
     #[error("{file}: {error}")]
     Refused {
         file: Text,
@@ -54,8 +57,16 @@ impl Fault {
         }
     }
 
-    /// Why an offer wasn't answered.
-    pub(crate) fn of_offer(alloc: Global, file: &str, error: ExchangeError) -> Fault {
+    /// A step of which it isn't known what it means.
+    pub(crate) fn of_step(alloc: Global, step: &str) -> Fault {
+        match Text::from_str(alloc, step) {
+            Ok(step) => Fault::Step(step),
+            Err(_) => Fault::Memory,
+        }
+    }
+
+    /// Why the text of a file wasn't taken, or a step not made.
+    pub(crate) fn of_text(alloc: Global, file: &str, error: ExchangeError) -> Fault {
         let Ok(file) = Text::from_str(alloc, file) else {
             return Fault::Memory;
         };
@@ -69,7 +80,7 @@ impl Fault {
     /// The exit status: 2 where the program is called wrongly, else 1.
     pub(crate) fn status(&self) -> u8 {
         match self {
-            Fault::Option { .. } => 2,
+            Fault::Option { .. } | Fault::Step(_) => 2,
             _ => 1,
         }
     }

@@ -1,83 +1,55 @@
-//! Answers the offers of a session, in the order in which they came, and writes the answer to the last.
+//! Takes the steps of a session, and writes the last answer or offer of this side.
 #![tactic(auto)]
 
 mod codecs;
 mod command;
 mod fault;
 mod own;
+mod session;
 
 use crate::codecs::configured;
 use crate::command::command;
 use crate::fault::Fault;
-use crate::own::{own_side, restarted};
+use crate::own::own_side;
+use crate::session::{offer, take};
 use clap::ArgMatches;
 use clap::error::ErrorKind;
-use exchange::{Exchange, is_ice_restart};
-use std::alloc::Global;
-use std::io::{Read, Write};
+use exchange::Exchange;
+use std::io::Write;
 use std::process::ExitCode;
-use std::{env, fs, io};
-use str0m_signal::{SdpError, SdpOffer};
+use std::{env, io};
 
-const STANDARD_INPUT: &str = "-";
-
-/// The text of a file, or of standard input.
-fn text_of(rt: &HostRuntime, file: &str) -> io::Result<String> {
-    if file != STANDARD_INPUT {
-        return fs::read_to_string(rt, file);
-    }
-    let mut text = String::new(rt.alloc());
-    rt.stdin().read_to_string(&mut text)?;
-    Ok(text)
-}
-
-/// Whether the offer restarts ICE. A text that is no offer restarts nothing: it is refused later.
-fn is_restart(alloc: Global, exchange: &Exchange, offer: &str) -> Result<bool, Fault> {
-    let Some(before) = exchange.remote() else {
-        return Ok(false);
-    };
-    match SdpOffer::from_sdp_string(alloc, offer) {
-        Ok(now) => Ok(is_ice_restart(before, &now)?),
-        Err(SdpError::Memory) => Err(Fault::Memory),
-        Err(_) => Ok(false),
-    }
-}
-
-/// The answer to an offer, as text.
-fn answer_to(
+/// Takes the steps, in order; what this side has said last, as text.
+fn said_by(
     rt: &HostRuntime,
     matches: &ArgMatches<'_>,
     exchange: &mut Exchange,
-    number: usize,
-    file: &str,
+    steps: &[&str],
 ) -> Result<String, Fault> {
-    let alloc = rt.alloc();
-    let text = match text_of(rt, file) {
-        Ok(text) => text,
-        Err(error) => return Err(Fault::of_reading(alloc, file, error)),
-    };
-    // An answer to a restart says credentials of its own (RFC 8839, section 4.4.3.1).
-    if is_restart(alloc, exchange, text.as_str())? {
-        exchange.restart_ice(restarted(alloc, matches, number)?);
+    let mut said = String::new(rt.alloc());
+    for (number, step) in steps.iter().enumerate() {
+        if let Some(text) = take(rt, matches, exchange, number, step)? {
+            said = text;
+        }
     }
-    match exchange.accept_offer(text.as_str()) {
-        Ok(answer) => Ok(answer.to_string(alloc)?),
-        Err(error) => Err(Fault::of_offer(alloc, file, error)),
-    }
+    Ok(said)
 }
 
-/// The answer to the last offer, as text.
-fn last_answer(rt: &HostRuntime, matches: &ArgMatches<'_>) -> Result<String, Fault> {
+/// What this side says in the end, as text. Where no step is named, an offer is read from standard input.
+fn last_said(rt: &HostRuntime, matches: &ArgMatches<'_>) -> Result<String, Fault> {
     let alloc = rt.alloc();
     let own = own_side(alloc, matches)?;
     let mut exchange = Exchange::new(own, configured(alloc, matches)?);
-    let mut answer = String::new(alloc);
-    if let Some(files) = matches.get_strs("offer") {
-        for (number, file) in files.iter().enumerate() {
-            answer = answer_to(rt, matches, &mut exchange, number, file)?;
-        }
+    let ends_with_offer = matches.get_flag("offer");
+    let said = match matches.get_strs("step") {
+        Some(steps) => said_by(rt, matches, &mut exchange, steps)?,
+        None if ends_with_offer => String::new(alloc),
+        None => said_by(rt, matches, &mut exchange, &["-"])?,
+    };
+    if ends_with_offer {
+        return offer(alloc, &mut exchange);
     }
-    Ok(answer)
+    Ok(said)
 }
 
 fn words(rt: &HostRuntime) -> io::Result<Vec<String>> {
@@ -103,9 +75,9 @@ fn run(rt: &HostRuntime) -> Result<u8, Fault> {
             return Ok(if error.use_stderr() { 2 } else { 0 });
         }
     };
-    let answer = last_answer(rt, &matches)?;
+    let said = last_said(rt, &matches)?;
     let mut output = rt.stdout();
-    output.write_all(answer.as_bytes())?;
+    output.write_all(said.as_bytes())?;
     output.flush()?;
     Ok(0)
 }

@@ -9,13 +9,19 @@ use str0m_signal::{
     Candidate, Direction, Fingerprint, FingerprintError, IceCreds, Items, SdpError, SessionId, Text,
 };
 
-fn direction(matches: &ArgMatches<'_>, name: &str) -> Direction {
-    match value(matches, name) {
-        "sendonly" => Direction::SendOnly,
-        "recvonly" => Direction::RecvOnly,
-        "inactive" => Direction::Inactive,
-        _ => Direction::SendRecv,
+/// The direction of a word.
+pub(crate) fn direction_named(word: &str) -> Option<Direction> {
+    match word {
+        "sendrecv" => Some(Direction::SendRecv),
+        "sendonly" => Some(Direction::SendOnly),
+        "recvonly" => Some(Direction::RecvOnly),
+        "inactive" => Some(Direction::Inactive),
+        _ => None,
     }
+}
+
+fn direction(matches: &ArgMatches<'_>, name: &str) -> Direction {
+    direction_named(value(matches, name)).unwrap_or(Direction::SendRecv)
 }
 
 fn fingerprint(alloc: Global, matches: &ArgMatches<'_>) -> Result<Fingerprint, Fault> {
