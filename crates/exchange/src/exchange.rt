@@ -315,14 +315,14 @@ impl Exchange {
         ensures refused { IfErr result (RefusesToOffer self.old) }
         ensures unchanged { OnErr result (self.new ≡ self.old) }
     {
-        if !matches!(self.state(), SignalingState::Stable) {
+        if let SignalingState::HaveLocalOffer = self.state() {
             return Err(ExchangeError::WrongState(self.state()));
         }
-        let alloc = *self.config.allocator();
+        let (alloc, version) = (*self.config.allocator(), self.version);
         let taken = taken_names(self)?;
         let added = fresh_names(alloc, taken.as_slice(), self.added.len())?;
         let sdp = made_offer(self, added.as_slice())?;
-        if !is_printable(alloc, &sdp, self.version)? {
+        if !is_printable(alloc, &sdp, version)? {
             return Err(ExchangeError::NotPrintable);
         }
         let placed = placed_as(self, added.as_slice())?;
@@ -330,9 +330,9 @@ impl Exchange {
             sdp: sdp.clone()?,
             placed,
         };
-        let offer = Offer::new(sdp, self.version, added);
+        let offer = Offer::new(sdp, version, added);
         self.pending = Some(pending);
-        self.version = self.version.saturating_add(1);
+        self.version = version.saturating_add(1);
         Ok(offer)
     }
 
