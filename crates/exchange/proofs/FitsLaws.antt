@@ -6,7 +6,7 @@ use Rattle.str0m_formats.specs.declared.payload_params.PayloadParams.{PayloadPar
 use Rattle.str0m_sdp.specs.declared.media_line.MediaLine.{MediaLine}
 use Rattle.str0m_sdp.specs.declared.session.Sdp.{Sdp}
 use Rattle.exchange.specs.Fits.{FitsAt, FitsSection, Keeps}
-use Rattle.exchange.specs.Places.{KeepsPlaceAt}
+use Rattle.exchange.specs.Places.{StaysInPlaceAt}
 use Rattle.exchange.specs.declared.rule.Rule.{Rule}
 use Rattle.exchange.specs.declared.rule.Rule.TheVariants as rule
 
@@ -22,7 +22,7 @@ all_fit ours offer answer n past fits at = elim (cases_lt at n) [
 ]
 
 pub all_kept : (names : List (List ℕ)) (local : List MediaLine) (remote : Option Sdp) (offer : Sdp) (n : ℕ) → length offer.media_lines ≤ n
-    → ((k : ℕ) → k < n → KeepsPlaceAt names local remote offer k) → (at : ℕ) → KeepsPlaceAt names local remote offer at
+    → ((k : ℕ) → k < n → StaysInPlaceAt names local remote offer k) → (at : ℕ) → StaysInPlaceAt names local remote offer at
 all_kept names local remote offer n past kept at = elim (cases_lt at n) [
   | inl lt ↦ kept at lt
   | inr ge ↦ λ m there.

@@ -17,11 +17,13 @@ use Rattle.str0m_sdp.specs.declared.media_line.MediaLine.{MediaLine}
 use Rattle.str0m_sdp.specs.declared.session.Sdp.{Sdp}
 use Rattle.exchange.specs.Follows.{Follows, Grows, IsKnown, IsPlacedSo, IsSound}
 use Rattle.exchange.specs.Names.{grown, new_name}
-use Rattle.exchange.specs.Places.{FollowsPlaces, HasNameAt, IsNew, KeepsPlace, KeepsPlaces, sections_of}
+use Rattle.exchange.specs.Places.{FollowsPlaces, HasNameAt, IsNew, StaysInPlace, StaysInPlaces}
 use Rattle.exchange.specs.Rules.{HasShapeOf}
+use Rattle.exchange.specs.State.{sections_of, state_by}
 use Rattle.exchange.specs.Stopped.{name_of}
 use Rattle.exchange.specs.declared.exchange.Exchange.{Exchange}
 use Rattle.exchange.specs.declared.pending.Pending.{Pending}
+use Rattle.exchange.specs.declared.signaling_state.SignalingState.TheVariants.{Stable}
 
 -- ---- names
 
@@ -114,7 +116,7 @@ follows_same before after names local config =
 -- ---- what an exchange leaves
 
 shaped : (names : List (List ℕ)) (local : List MediaLine) (remote : Option Sdp) (at : ℕ) (m : MediaLine) (o : Option MediaLine)
-    → ((e : MediaLine) → o ≡ Some e → KeepsPlace names local remote at e) → IsSomeAnd o (λ e. HasShapeOf e m)
+    → ((e : MediaLine) → o ≡ Some e → StaysInPlace names local remote at e) → IsSomeAnd o (λ e. HasShapeOf e m)
     → HasNameAt local at m ⊎ IsNew names m
 shaped names local remote at m None each shape = absurd shape
 shaped names local remote at m (Some e) each shape = renamed names local at m e shape.name (elim (each e refl) [
@@ -126,7 +128,7 @@ found : (o : Option MediaLine) (m : MediaLine) (P : MediaLine → Type 0) → o 
 found o m P is h = subst (λ (x : Option MediaLine). MatchOption x (Unit {0}) P) is h
 
 -- an answer of the shape of an offer that keeps its places
-pub answer_follows : (names : List (List ℕ)) (local : List MediaLine) (remote : Option Sdp) (offer answer : Sdp) → KeepsPlaces names local remote offer
+pub answer_follows : (names : List (List ℕ)) (local : List MediaLine) (remote : Option Sdp) (offer answer : Sdp) → StaysInPlaces names local remote offer
     → AllZip HasShapeOf offer.media_lines answer.media_lines → FollowsPlaces names local answer.media_lines
 answer_follows names local remote offer answer kept shape = record {
   as_many = omega (arith, kept.as_many, AllZip-long HasShapeOf offer.media_lines answer.media_lines shape);
@@ -194,7 +196,7 @@ follows_done before after pending sound is local names rows stay = record {
 }
 
 -- where an offer of the other side is answered
-pub follows_answer : (before after : Exchange) (offer answer : Sdp) → KeepsPlaces before.names (sections_of before.local) before.remote offer
+pub follows_answer : (before after : Exchange) (offer answer : Sdp) → StaysInPlaces before.names (sections_of before.local) before.remote offer
     → AllZip HasShapeOf offer.media_lines answer.media_lines → after.local ≡ Some answer → after.names ≡ grown before.names answer.media_lines
     → length after.config.params.items ≡ length before.config.params.items → LockedStay before.config.params.items after.config.params.items → Follows before after
 follows_answer before after offer answer kept shape local names rows stay = record {
@@ -204,6 +206,11 @@ follows_answer before after offer answer kept shape local names rows stay = reco
   rows = rows;
   stay = stay;
 }
+
+-- in the stable state no offer is open
+pub none_open : (open_so : Option Pending) → state_by open_so ≡ Stable → open_so ≡ None
+none_open None stable = refl
+none_open (Some pending) stable = cc
 
 -- an exchange that is done leaves no open offer, and knows its names
 pub sound_done : (after : Exchange) (names : List (List ℕ)) (sdp : Sdp) → after.local ≡ Some sdp → after.names ≡ grown names sdp.media_lines

@@ -7,6 +7,7 @@ pub mod InForceLaws
 pub mod LayerLaws
 pub mod ListLaws
 pub mod NameLaws
+pub mod OfferFollows
 pub mod OfferNameLaws
 pub mod OfferRuleLaws
 pub mod OfferedLaws

@@ -9,7 +9,7 @@ use Rattle.exchange.specs.State.{pending_sdp}
 use Rattle.exchange.specs.declared.added.Placed.{Placed}
 use Rattle.exchange.specs.declared.exchange.Exchange.{Exchange}
 use Rattle.exchange.specs.declared.exchange_error.ExchangeError.{ExchangeError}
-use Rattle.exchange.specs.declared.exchange_error.ExchangeError.TheVariants.{NotRead, Unread, WrongState, DoesNotFit, NoChannels, NoName, NotPrintable, Memory}
+use Rattle.exchange.specs.declared.exchange_error.ExchangeError.TheVariants.{NotRead, Unread, WrongState, DoesNotFit, NoRows, NoChannels, NoName, NotPrintable, Memory}
 use Rattle.exchange.specs.declared.pending.Pending.{Pending}
 use Rattle.exchange.specs.declared.rule.Rule.{Rule}
 use Rattle.exchange.specs.declared.signaling_state.SignalingState.TheVariants.{Stable}
@@ -48,6 +48,7 @@ RefusesAnswer old text (NotRead cause) = RefusesText text (NotRead cause)
 RefusesAnswer old text (Unread line content) = RefusesText text (Unread line content)
 RefusesAnswer old text (WrongState state) = (old.pending ≡ None) × (state ≡ Stable)
 RefusesAnswer old text (DoesNotFit section broken) = IsMisfit old text section broken
+RefusesAnswer old text NoRows = ⊥
 RefusesAnswer old text NoChannels = ⊥
 RefusesAnswer old text NoName = ⊥
 RefusesAnswer old text NotPrintable = ⊥

@@ -3,7 +3,8 @@ use Rattle.std.specs.Prelude.{◌≡◌, ◌≢◌, ℕ, true, List, Option, Non
 use Rattle.str0m_formats.specs.Promises.{LockedStay}
 use Rattle.str0m_sdp.specs.SessionConsistency.{is_listed}
 use Rattle.str0m_sdp.specs.declared.media_line.MediaLine.{MediaLine}
-use Rattle.exchange.specs.Places.{FollowsPlaces, sections_of}
+use Rattle.exchange.specs.Places.{FollowsPlaces}
+use Rattle.exchange.specs.State.{sections_of}
 use Rattle.exchange.specs.Stopped.{name_of}
 use Rattle.exchange.specs.declared.exchange.Exchange.{Exchange}
 use Rattle.exchange.specs.declared.pending.Pending.{Pending}

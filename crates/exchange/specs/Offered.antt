@@ -29,7 +29,7 @@ abbrev pub RefusesText : List ℕ → ExchangeError → Type 0
 RefusesText text (NotRead cause) = Refuses cause (Reading text)
 RefusesText text (Unread line content) = IsCutShort text
 RefusesText text (WrongState state) = ⊥
-RefusesText text (DoesNotFit section rule) = ⊥
+RefusesText text (DoesNotFit section broken) = ⊥
 RefusesText text NoRows = ⊥
 RefusesText text NoChannels = ⊥
 RefusesText text NoName = ⊥

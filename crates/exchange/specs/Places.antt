@@ -6,11 +6,6 @@ use Rattle.str0m_sdp.specs.declared.media_line.MediaLine.{MediaLine}
 use Rattle.str0m_sdp.specs.declared.session.Sdp.{Sdp}
 use Rattle.exchange.specs.Stopped.{IsStoppedAt, name_of}
 
--- the sections of a description; none before the first
-abbrev pub sections_of : Option Sdp → List MediaLine
-sections_of None = []
-sections_of (Some sdp) = sdp.media_lines
-
 -- ---- which places may have a new name
 
 -- the place of a section of this side is over: it has port 0, or the other side has stopped its own
@@ -32,22 +27,22 @@ abbrev pub IsNew : List (List ℕ) → MediaLine → Type 0
 IsNew names m = is_listed names (name_of m) ≡ false
 
 -- a section has the name of its place, or a new one where the place is free
-abbrev pub KeepsPlace : List (List ℕ) → List MediaLine → Option Sdp → ℕ → MediaLine → Type 0
-KeepsPlace names local remote at m = HasNameAt local at m ⊎ (IsFree local remote at × IsNew names m)
+abbrev pub StaysInPlace : List (List ℕ) → List MediaLine → Option Sdp → ℕ → MediaLine → Type 0
+StaysInPlace names local remote at m = HasNameAt local at m ⊎ (IsFree local remote at × IsNew names m)
 
 -- so at a place, where there is a section
-abbrev pub KeepsPlaceAt : List (List ℕ) → List MediaLine → Option Sdp → Sdp → ℕ → Type 0
-KeepsPlaceAt names local remote offer at = (m : MediaLine) → slice_get offer.media_lines at ≡ Some m → KeepsPlace names local remote at m
+abbrev pub StaysInPlaceAt : List (List ℕ) → List MediaLine → Option Sdp → Sdp → ℕ → Type 0
+StaysInPlaceAt names local remote offer at = (m : MediaLine) → slice_get offer.media_lines at ≡ Some m → StaysInPlace names local remote at m
 
 -- an offer behind earlier exchanges, where `local` are this side's sections in the last one: at least as many, each in its place
-pub record KeepsPlaces (names : List (List ℕ)) (local : List MediaLine) (remote : Option Sdp) (offer : Sdp) : Type 0 where
+pub record StaysInPlaces (names : List (List ℕ)) (local : List MediaLine) (remote : Option Sdp) (offer : Sdp) : Type 0 where
   pub as_many : length local ≤ length offer.media_lines
-  pub each : (at : ℕ) → KeepsPlaceAt names local remote offer at
+  pub each : (at : ℕ) → StaysInPlaceAt names local remote offer at
 
 -- the first place that isn't kept: behind the last section of an offer that has too few, or at a section
 abbrev pub MovesAt : List (List ℕ) → List MediaLine → Option Sdp → Sdp → ℕ → Type 0
 MovesAt names local remote offer at =
-    ((at ≡ length offer.media_lines) × (at < length local)) ⊎ (KeepsPlaceAt names local remote offer at → ⊥)
+    ((at ≡ length offer.media_lines) × (at < length local)) ⊎ (StaysInPlaceAt names local remote offer at → ⊥)
 
 -- ---- what comes after what
 

@@ -10,8 +10,7 @@ ghost use Rattle.exchange.specs.Fits.{FitsOffer};
 ghost use Rattle.exchange.specs.Follows.{Follows, IsSound};
 ghost use Rattle.exchange.specs.Names.{grown};
 ghost use Rattle.exchange.specs.Offered.{Negotiates};
-ghost use Rattle.exchange.specs.Places.{sections_of};
-ghost use Rattle.exchange.specs.State.{pending_sdp, state_of};
+ghost use Rattle.exchange.specs.State.{pending_sdp, sections_of, state_of};
 ghost use Rattle.exchange.specs.declared.signaling_state.SignalingState.TheVariants.{HaveLocalOffer, Stable};
 
 use crate::added::{Added, with_placed};

@@ -9,12 +9,15 @@ ghost use Rattle.str0m_formats.specs.Rows.{types};
 ghost use Rattle.str0m_formats.specs.TypeSets.{AllDistinct};
 ghost use Rattle.str0m_sdp.specs.RowBounds.{HasBoundedRows};
 ghost use Rattle.str0m_sdp.specs.SessionConsistency.{AreDistinct, section_mids};
-ghost use Rattle.exchange.specs.Exchange.{AnswersOffer, EachSection, RefusesChannels, RefusesMedia, RefusesOffer, RefusesToOffer};
+ghost use Rattle.exchange.specs.Exchange.{AnswersOffer, EachSection, RefusesChannels, RefusesMedia, RefusesOffer, RefusesPlaces, RefusesToOffer};
+ghost use Rattle.exchange.specs.Follows.{Follows, IsSound};
 ghost use Rattle.exchange.specs.FreshNames.{AreFresh};
 ghost use Rattle.exchange.specs.MadeOffer.{MakesOffer, placed_as, ready_with};
+ghost use Rattle.exchange.specs.Names.{grown};
 ghost use Rattle.exchange.specs.OfferRules.{IsNewName, IsOffered, KeepsPlaces};
 ghost use Rattle.exchange.specs.Offered.{IsOffer, Negotiates};
 ghost use Rattle.exchange.specs.OwnSide.{with_direction};
+ghost use Rattle.exchange.specs.Places.{StaysInPlaces};
 ghost use Rattle.exchange.specs.ReadBack.{IsReadBack};
 ghost use Rattle.exchange.specs.Rules.{HasShapeOf, IsAcceptedExactly, KeepsRules};
 ghost use Rattle.exchange.specs.State.{pending_sdp, sections_of, state_of, taken_names};
@@ -30,12 +33,15 @@ use crate::answered_session::answered_session;
 use crate::exchange_error::ExchangeError;
 use crate::fresh_names::fresh_names;
 use crate::made_offer::{made_offer, placed_as, taken_names};
+use crate::names::grown;
 use crate::offer::Offer;
 use crate::offer_section::has_rows;
 use crate::offered::{negotiate, whole_description};
 use crate::own_side::{OwnSide, with_direction};
 use crate::pending::Pending;
+use crate::places::{first_moved, sections_of};
 use crate::read_back::is_read_back;
+use crate::rule::Rule;
 use crate::signaling_state::SignalingState;
 use crate::versioned::Versioned;
 use std::alloc::{AllocError, Global};
@@ -85,6 +91,26 @@ fn is_printable(alloc: Global, sdp: &Sdp, version: u64) -> Result<bool, AllocErr
     is_read_back(alloc, sdp, text.as_str())
 }
 
+/// An error where a section of an offer isn't in its place behind the last exchange.
+fn check_places(
+    alloc: Global,
+    names: &Items<Mid>,
+    local: &Option<Sdp>,
+    remote: &Option<Sdp>,
+    offer: &Sdp,
+) -> Result<(), ExchangeError>
+    ensures placed { OnOk result (StaysInPlaces names.now (sections_of local.now) remote.now offer.now) }
+    ensures refused { IfErr result (RefusesPlaces names.now (sections_of local.now) remote.now offer.now) }
+{
+    match first_moved(alloc, names.as_slice(), sections_of(local), remote, offer)? {
+        None => Ok(()),
+        Some(section) => Err(ExchangeError::DoesNotFit {
+            section,
+            rule: Rule::Place,
+        }),
+    }
+}
+
 /// A copy of the configuration behind the rounds of an offer.
 pub(crate) fn negotiated(config: &CodecConfig, offer: &Sdp) -> Result<CodecConfig, AllocError>
     ensures rounds { IfOk result (λ after. Negotiates offer.now config.now.params.items after.params.items) }
@@ -101,7 +127,8 @@ pub(crate) fn negotiated(config: &CodecConfig, offer: &Sdp) -> Result<CodecConfi
 impl Exchange {
     /// An exchange in which nothing was said yet.
     pub fn new(own: OwnSide, config: CodecConfig) -> Exchange
-        ensures { result ≡ record { own = own; config = config; local = None; remote = None; pending = None; version = 1; added = []; names = [] } }
+        ensures is { result ≡ record { own = own; config = config; local = None; remote = None; pending = None; version = 1; added = []; names = [] } }
+        ensures sound { IsSound result }
     {
         let alloc = *config.allocator();
         Exchange {
@@ -164,8 +191,11 @@ impl Exchange {
 
     /// Has the next description say these credentials of ICE. Who answers a restart (`is_ice_restart`) calls it first, since
     /// both sides say other credentials then (RFC 8839, section 4.4.3.1). Nothing else changes.
+    #[tactic(auto, using(crate::proofs::FollowLaws::follows_same))]
     pub fn restart_ice(&mut self, creds: IceCreds)
-        ensures { self.new ≡ record self.old { own = record self.old.own { creds = creds } } }
+        ensures is { self.new ≡ record self.old { own = record self.old.own { creds = creds } } }
+        ensures sound { IsSound self.old → IsSound self.new }
+        ensures follows { Follows self.old self.new }
     {
         self.own.creds = creds;
     }
@@ -173,12 +203,15 @@ impl Exchange {
     /// Has the next description say that this side is ready for this direction in the section of a name: to hold media, and to
     /// resume it (RFC 3264, section 8.4). It stands in place of what `directions` of `OwnSide` said of that name. The only error
     /// is that memory was refused; nothing has changed then.
+    #[tactic(auto, using(crate::proofs::FollowLaws::follows_same, crate::proofs::FollowLaws::follows_self))]
     pub fn set_direction(&mut self, mid: Mid, direction: Direction) -> Result<(), ExchangeError>
         ensures ok { OnOk result (self.new ≡ record self.old {
           own = record self.old.own {
             directions = with_direction mid direction self.old.own.directions;
           };
         }) }
+        ensures sound { IsSound self.old → IsSound self.new }
+        ensures follows { Follows self.old self.new }
         ensures refused { IfErr result (λ error. error ≡ Memory) }
         ensures unchanged { OnErr result (self.new ≡ self.old) }
     {
@@ -196,9 +229,12 @@ impl Exchange {
     ///
     /// Nothing is changed by an error. `NoRows` where no row of the configuration stands in sections of the kind; `Memory` where
     /// memory was refused.
+    #[tactic(auto, using(crate::proofs::FollowLaws::follows_same, crate::proofs::FollowLaws::follows_self))]
     pub fn add_media(&mut self, kind: MediaKind, direction: Direction) -> Result<(), ExchangeError>
         ensures ok { OnOk result (self.new ≡ record self.old { added = self.old.added ++ Media kind direction ∷ [] }) }
         ensures has_rows { OnOk result (kind_rows kind true self.old.config.params.items ≢ []) }
+        ensures sound { IsSound self.old → IsSound self.new }
+        ensures follows { Follows self.old self.new }
         ensures refused { IfErr result (RefusesMedia self.old kind) }
         ensures unchanged { OnErr result (self.new ≡ self.old) }
     {
@@ -214,9 +250,12 @@ impl Exchange {
     /// # Errors
     ///
     /// Nothing is changed by an error. `NoChannels` where this side takes none (`OwnSide`); `Memory` where memory was refused.
+    #[tactic(auto, using(crate::proofs::FollowLaws::follows_same, crate::proofs::FollowLaws::follows_self))]
     pub fn add_channels(&mut self) -> Result<(), ExchangeError>
         ensures ok { OnOk result (self.new ≡ record self.old { added = self.old.added ++ Channels ∷ [] }) }
         ensures has_channels { OnOk result (self.old.own.channels ≢ None) }
+        ensures sound { IsSound self.old → IsSound self.new }
+        ensures follows { Follows self.old self.new }
         ensures refused { IfErr result (RefusesChannels self.old) }
         ensures unchanged { OnErr result (self.new ≡ self.old) }
     {
@@ -229,8 +268,11 @@ impl Exchange {
 
     /// Drops the offer of this side that waits for its answer (RFC 8829, section 4.1.10.2); where none does, nothing changes.
     /// What was added stays added, and the next offer has a version of its own.
+    #[tactic(auto, using(crate::proofs::FollowLaws::follows_same, crate::proofs::FollowLaws::follows_self))]
     pub fn rollback(&mut self)
-        ensures { self.new ≡ record self.old { pending = None } }
+        ensures is { self.new ≡ record self.old { pending = None } }
+        ensures sound { IsSound self.old → IsSound self.new }
+        ensures follows { Follows self.old self.new }
     {
         self.pending = None;
     }
@@ -251,6 +293,7 @@ impl Exchange {
     ///
     /// Nothing is changed by an error. `WrongState` where the state isn't `Stable`; `NoName` where no name is left; `NotPrintable`
     /// where the offer would be read as another one; `Memory` where memory was refused.
+    #[tactic(auto, using(crate::proofs::FollowLaws::follows_same, crate::proofs::FollowLaws::follows_self))]
     pub fn create_offer(&mut self) -> Result<Offer, ExchangeError>
         ensures stable { IfOk result (λ offer. state_of self.old ≡ Stable) }
         ensures names { IfOk result (λ offer. (to : ℕ) × AreFresh (taken_names self.old) 0 offer.added to) }
@@ -267,17 +310,19 @@ impl Exchange {
           pending = Some (record { sdp = offer.sdp; placed = placed_as self.old offer.added });
           version = min (self.old.version + 1) (2 ^ 64 - 1);
         }) }
+        ensures sound { IsSound self.old → IsSound self.new }
+        ensures follows { Follows self.old self.new }
         ensures refused { IfErr result (RefusesToOffer self.old) }
         ensures unchanged { OnErr result (self.new ≡ self.old) }
     {
-        if !matches!(self.state(), SignalingState::Stable) {
+        if let SignalingState::HaveLocalOffer = self.state() {
             return Err(ExchangeError::WrongState(self.state()));
         }
-        let alloc = *self.config.allocator();
+        let (alloc, version) = (*self.config.allocator(), self.version);
         let taken = taken_names(self)?;
         let added = fresh_names(alloc, taken.as_slice(), self.added.len())?;
         let sdp = made_offer(self, added.as_slice())?;
-        if !is_printable(alloc, &sdp, self.version)? {
+        if !is_printable(alloc, &sdp, version)? {
             return Err(ExchangeError::NotPrintable);
         }
         let placed = placed_as(self, added.as_slice())?;
@@ -285,9 +330,9 @@ impl Exchange {
             sdp: sdp.clone()?,
             placed,
         };
-        let offer = Offer::new(sdp, self.version, added);
+        let offer = Offer::new(sdp, version, added);
         self.pending = Some(pending);
-        self.version = self.version.saturating_add(1);
+        self.version = version.saturating_add(1);
         Ok(offer)
     }
 
@@ -303,11 +348,15 @@ impl Exchange {
     /// # Errors
     ///
     /// Nothing is changed by an error. `WrongState` where the state isn't `Stable`; `NotRead` where the text
-    /// describes no session; `Unread` where a line of it is left; `NotPrintable` where the answer would be read as
-    /// another one; `Memory` where memory was refused.
+    /// describes no session; `Unread` where a line of it is left; `DoesNotFit` exactly where a section isn't in its place
+    /// behind the last exchange, with the first such one and `Rule::Place`; `NotPrintable` where the answer would be read
+    /// as another one; `Memory` where memory was refused.
+    #[tactic(auto, using(crate::proofs::FollowLaws::follows_self))]
     pub fn accept_offer(&mut self, offer: &str) -> Result<Answer, ExchangeError>
         ensures stable { IfOk result (λ answer. state_of self.old ≡ Stable) }
         ensures read { IfOk result (λ answer. IsSomeAnd self.new.remote (IsOffer offer.now)) }
+        ensures placed { IfOk result (λ answer. IsSomeAnd self.new.remote
+            (StaysInPlaces self.old.names (sections_of self.old.local) self.old.remote)) }
         // Section by section: the shape, which are accepted, and the rules of the table.
         ensures shape { IfOk result (λ answer. EachSection (λ remote. HasShapeOf) self.new.remote answer.sdp) }
         ensures exactly { IfOk result (λ answer. EachSection (IsAcceptedExactly self.old.own self.new.config.params.items) self.new.remote answer.sdp) }
@@ -326,7 +375,10 @@ impl Exchange {
         ensures next { IfOk result (λ answer. self.new.version ≡ min (self.old.version + 1) (2 ^ 64 - 1)) }
         ensures distances { self.new.config.red_distances ≡ self.old.config.red_distances }
         ensures own_same { self.new.own ≡ self.old.own }
-        ensures else_same { IfOk result (λ answer. (self.new.pending ≡ self.old.pending) × (self.new.added ≡ self.old.added) × (self.new.names ≡ self.old.names)) }
+        ensures else_same { IfOk result (λ answer. (self.new.pending ≡ self.old.pending) × (self.new.added ≡ self.old.added)) }
+        ensures names { IfOk result (λ answer. self.new.names ≡ grown self.old.names answer.sdp.media_lines) }
+        ensures sound { IsSound self.old → IsSound self.new }
+        ensures follows { Follows self.old self.new }
         ensures refused { IfErr result (RefusesOffer self.old offer.now) }
         ensures unchanged { OnErr result (self.new ≡ self.old) }
     {
@@ -335,16 +387,19 @@ impl Exchange {
         }
         let alloc = *self.config.allocator();
         let remote = whole_description(alloc, offer)?;
+        check_places(alloc, &self.names, &self.local, &self.remote, &remote)?;
         let config = negotiated(&self.config, &remote)?;
         let sdp = answer_to(alloc, &self.own, &config, &remote)?;
         if !is_printable(alloc, &sdp, self.version)? {
             return Err(ExchangeError::NotPrintable);
         }
         let local = sdp.clone()?;
+        let names = grown(alloc, &self.names, local.media_lines.as_slice())?;
         let answer = Answer::new(sdp, self.version);
         self.local = Some(local);
         self.remote = Some(remote);
         self.config = config;
+        self.names = names;
         self.version = self.version.saturating_add(1);
         Ok(answer)
     }

@@ -5,6 +5,7 @@ ghost use Rattle.exchange.specs.MadeOffer.{MakesOffer, bundled_names, offer_sess
 ghost use Rattle.exchange.specs.OfferExtensions.{extension_lines};
 ghost use Rattle.exchange.specs.OfferRules.{IsNewName, IsOffered, KeepsPlaces};
 ghost use Rattle.exchange.specs.OfferSection.{new_section};
+ghost use Rattle.exchange.specs.Places.{FollowsPlaces};
 ghost use Rattle.exchange.specs.State.{sections_of, session_of, taken_names};
 
 use crate::added::{Placed, placed_under, with_placed};
@@ -127,12 +128,13 @@ fn offer_under(exchange: &Exchange, names: &[Mid]) -> Result<Sdp, AllocError>
 }
 
 /// The offer in which what was added has these names, which are new and different: it keeps the rules.
-#[tactic(auto, using(crate::proofs::OfferRuleLaws::offer_places, crate::proofs::OfferNameLaws::offer_names))]
+#[tactic(auto, using(crate::proofs::OfferRuleLaws::offer_places, crate::proofs::OfferNameLaws::offer_names, crate::proofs::OfferFollows::offer_follows))]
 pub(crate) fn made_offer(exchange: &Exchange, names: &[Mid]) -> Result<Sdp, AllocError>
     requires new { All (IsNewName exchange.now) names.now }
     requires different { AreDistinct names.now }
     ensures makes { IfOk result (MakesOffer exchange.now names.now) }
     ensures places { IfOk result (λ offer. KeepsPlaces exchange.now 0 (sections_of exchange.now.local) offer.media_lines) }
+    ensures follows { IfOk result (λ offer. FollowsPlaces exchange.now.names (sections_of exchange.now.local) offer.media_lines) }
     ensures rules { IfOk result (λ offer. All (IsOffered exchange.now (ready_with exchange.now names.now)) offer.media_lines) }
     ensures different { AreDistinct (section_mids (sections_of exchange.now.local)) → IfOk result (λ offer. AreDistinct (section_mids offer.media_lines)) }
 {

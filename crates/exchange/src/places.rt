@@ -1,7 +1,8 @@
 //! The places of sections over several exchanges.
 ghost use Rattle.std.specs.Prelude.{◌≡◌, ◌↔◌, IfOk, IsSomeAnd, IsTrue, MatchOption};
 ghost use Rattle.str0m_sdp.specs.OrderedMids.{Holds};
-ghost use Rattle.exchange.specs.Places.{HasNameAt, IsFree, IsOver, KeepsPlace, KeepsPlaceAt, KeepsPlaces, MovesAt, sections_of};
+ghost use Rattle.exchange.specs.Places.{HasNameAt, IsFree, IsOver, StaysInPlace, StaysInPlaceAt, StaysInPlaces, MovesAt};
+ghost use Rattle.exchange.specs.State.{sections_of};
 ghost use Rattle.exchange.specs.Stopped.{IsStoppedAt};
 
 use crate::names::{is_held, ordered};
@@ -74,7 +75,7 @@ fn keeps_place(
     section: &MediaLine,
 ) -> bool
     requires { Holds names.now had.now }
-    ensures { IsTrue result ↔ KeepsPlace had.now local.now remote.now at section.now }
+    ensures { IsTrue result ↔ StaysInPlace had.now local.now remote.now at section.now }
 {
     has_name_at(local, at, section)
         || (is_free(local, remote, at) && !is_held(names, name_of(section)))
@@ -89,7 +90,7 @@ fn keeps_place_at(
     at: usize,
 ) -> bool
     requires { Holds names.now had.now }
-    ensures { IsTrue result ↔ KeepsPlaceAt had.now local.now remote.now offer.now at }
+    ensures { IsTrue result ↔ StaysInPlaceAt had.now local.now remote.now offer.now at }
 {
     match offer.media_lines.get(at) {
         Some(section) => keeps_place(had, names, local, remote, at, section),
@@ -106,7 +107,7 @@ pub(crate) fn first_moved(
     remote: &Option<Sdp>,
     offer: &Sdp,
 ) -> Result<Option<usize>, AllocError>
-    ensures { IfOk result (λ found. MatchOption found (KeepsPlaces had.now local.now remote.now offer.now) (MovesAt had.now local.now remote.now offer.now)) }
+    ensures { IfOk result (λ found. MatchOption found (StaysInPlaces had.now local.now remote.now offer.now) (MovesAt had.now local.now remote.now offer.now)) }
 {
     let names = ordered(alloc, had)?;
     let many = offer.media_lines.len();

@@ -1,5 +1,9 @@
-use Rattle.std.proofs.Common.{subst, sym}
+use Rattle.std.proofs.Common.{refl, subst, sym}
+use Rattle.str0m_sdp.specs.declared.session.Sdp.{Sdp}
+use Rattle.exchange.proofs.FollowLaws.{follows_same}
+use Rattle.exchange.specs.Places.{FollowsPlaces}
 use Rattle.exchange.specs.ReadBack.{IsReadBack}
+use Rattle.exchange.specs.State.{sections_of}
 use Rattle.exchange.specs.Versioned.{versioned_text}
 use Rattle.exchange.specs.declared.offer.Offer.{Offer}
 use Rattle.exchange.proofs.exchange.Exchange.create_offer.Goals as goal
@@ -7,3 +11,12 @@ use Rattle.exchange.proofs.exchange.Exchange.create_offer.Goals as goal
 pub returns-clause-read_back : goal.returns-clause-read_back
 returns-clause-read_back c =
     subst (λ (offer : Offer). IsReadBack offer.sdp (versioned_text offer.sdp offer.version)) (sym c.new-offer.ensures) (c.in_ok-is_printable.ensures.0 c.if-not-branch.false)
+
+pub returns-clause-sound : goal.returns-clause-sound
+returns-clause-sound c = λ sound. record {
+  known = sound.known;
+  placed = subst (λ (sdp : Sdp). FollowsPlaces c.args.self.now.names (sections_of c.args.self.now.local) sdp.media_lines) (sym c.in_ok-clone.ensures) c.in_ok-sdp.ensures.follows;
+}
+
+pub returns-clause-follows : goal.returns-clause-follows
+returns-clause-follows c = follows_same c.args.self.now _ refl refl refl
