@@ -11,6 +11,7 @@ LIBRARIES = ("str0m_values", "str0m_formats", "str0m_sdp", "str0m_signal")
 CONSTANT = r'^pub(?:\(crate\))? const \w+: &str = "([^"]+)";$'
 TABLES = {  # (of each table the rows' texts)
     "str0m_values/src/candidate_label.rt": CONSTANT,
+    "str0m_values/src/direction_label.rt": CONSTANT,
     "str0m_formats/src/codec.rt": r'Codec::\w+ => "([^"]+)"',
     "str0m_formats/src/format_key.rt": r'(?:^pub\(crate\) const \w+: &str = |FormatKey::\w+, )"([^"]+)"',
     "str0m_sdp/src/label.rt": CONSTANT,

@@ -7,14 +7,18 @@ use case_texts::{behind_header, push_escaped, push_refused};
 use plain_cases::Answer;
 use std::alloc::AllocError;
 use str0m_signal::{
-    MediaLine, Sdp, SdpAnswer, SdpError, SdpOffer, Session, sdp_parser, session_parser,
+    MediaLine, Sdp, SdpAnswer, SdpError, SdpOffer, Session, VersionedSdp, sdp_parser,
+    session_parser,
 };
+
+/// The version with which `versioned` prints.
+const VERSION: u64 = 1234567890123;
 
 /// Answers what the word asks of the text; whether it is one of these words.
 pub(crate) fn answers(answer: &mut Answer, word: &str, text: &str) -> bool {
     match word {
         "header" => header(answer, text),
-        "description" | "copied" => description(answer, word, text),
+        "description" | "copied" | "versioned" => description(answer, word, text),
         "offer-text" => offer(answer, text),
         "answer-text" => answer_printed(answer, text),
         "cut" => cuts::cut(answer, text),
@@ -70,6 +74,13 @@ fn description_of(answer: &mut Answer, word: &str, read: &Result<(Sdp, &str), Sd
 fn show_description(answer: &mut Answer, word: &str, sdp: &Sdp, rest: &str) {
     match word {
         "copied" => show_copy(answer, &sdp.clone()),
+        "versioned" => push_printed(
+            answer,
+            &VersionedSdp {
+                sdp,
+                version: VERSION,
+            },
+        ),
         "consistent" => answer.push("consistent"),
         "section-printed" => show_first(answer, sdp.media_lines.as_slice()),
         "m-line" => show_m_line(answer, sdp.media_lines.as_slice()),

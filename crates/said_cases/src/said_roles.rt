@@ -8,6 +8,7 @@ use str0m_signal::{MediaLine, Setup};
 pub(crate) fn answers(answer: &mut Answer, word: &str, text: &str) -> bool {
     match word {
         "roles" => roles(answer, text),
+        "role-answered" => answered(answer, text),
         "carries" => carries(answer, text),
         _ => return false,
     }
@@ -21,6 +22,12 @@ fn roles(answer: &mut Answer, text: &str) {
         (Some(own), Some(remote)) => settled(answer, own, remote),
         _ => answer.no_such("role"),
     }
+}
+
+/// The role that answers this one, or one that isn't said.
+fn answered(answer: &mut Answer, word: &str) {
+    let offered = role(answer, word);
+    answer.push(Setup::answer(offered).setup_line());
 }
 
 fn role(answer: &mut Answer, word: &str) -> Option<Setup> {

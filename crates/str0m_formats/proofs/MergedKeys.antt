@@ -21,7 +21,7 @@ AreApart pairs = IsDistinct bytes_eq (keys_of pairs)
 
 -- ---- keys that differ
 
-turned : (a b : List ℕ) → bytes_eq a b ≡ false → bytes_eq b a ≡ false
+pub turned : (a b : List ℕ) → bytes_eq a b ≡ false → bytes_eq b a ≡ false
 turned a b other = grind (arith, false_from_ne_true, bytes_eq-Decides)
 
 -- ---- what merging leaves

@@ -1,5 +1,5 @@
 -- Laws of the places of keys among entries.
-use Rattle.str0m_formats.proofs.Common.{◌≡◌, ◌<◌, ◌+◌, ℕ, Bool, true, false, cond, List, [], ◌∷◌, ◌++◌, length, get_or, take, Option, Some, None, refl, sym, ap, ◌∙◌, subst, arith, Bor, lookup, bytes_eq, false≢true, false_from_ne_true, map-append, take_more, bytes_eq-Decides, insert_entry}
+use Rattle.str0m_formats.proofs.Common.{◌≡◌, ◌<◌, ◌+◌, ℕ, Bool, true, false, cond, List, [], ◌∷◌, ◌++◌, length, get_or, take, Option, Some, None, refl, sym, ap, ◌∙◌, subst, arith, Bor, lookup, bytes_eq, map-append, take_more, bytes_eq-Decides, insert_entry}
 use Rattle.std.proofs.Common.{zero, suc, set}
 use Rattle.std.specs.BTreeMap.{BTreeMap, Updates, get_by}
 use Rattle.std.specs.Cmp.Lexicographic.{slice_cmp}
@@ -7,6 +7,7 @@ use Rattle.std.specs.Ordering.{nat_cmp}
 use Rattle.std.proofs.lemmas.Map.Text.{is_eq-slice_cmp}
 use Rattle.indexmap.specs.IndexMap.{set_value_at}
 use Rattle.str0m_formats.specs.FormatParam.{pair_texts}
+use Rattle.str0m_formats.proofs.MergedKeys.{turned}
 use Rattle.str0m_formats.specs.Places.{IsPlace, HasPlaces}
 
 -- ---- one entry
@@ -55,9 +56,6 @@ same_text a b is = (bytes_eq-Decides a b).0 is
 itself : (a : List ℕ) → bytes_eq a a ≡ true
 itself a = (bytes_eq-Decides a a).1 refl
 
-other_way : (a b : List ℕ) → bytes_eq a b ≡ false → bytes_eq b a ≡ false
-other_way a b other = false_from_ne_true (bytes_eq b a) (λ is. false≢true (sym other ∙ (bytes_eq-Decides a b).1 (sym (same_text b a is))))
-
 -- places stay known where a value changes
 pub places_stay : (places : BTreeMap (Bor (List ℕ)) ℕ) (es after : List (List ℕ × List ℕ)) (i : ℕ) (v : List ℕ)
     → HasPlaces places es → after ≡ set_value_at es i v → HasPlaces places after
@@ -91,7 +89,7 @@ places_grow old new es after k v n known more last none is key =
 
     by : (b : Bool) → bytes_eq k.now key ≡ b → IsPlace (bytes_eq key) grown (cond b (Some n) before)
     by true same = own same
-    by false other = place_push (bytes_eq key) es (k.now, v) before (known key) (other_way k.now key other)
+    by false other = place_push (bytes_eq key) es (k.now, v) before (known key) (turned k.now key other)
 
 -- ---- by a look at each
 

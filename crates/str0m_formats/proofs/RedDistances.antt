@@ -1,5 +1,5 @@
 -- What is kept of the distances given.
-use Rattle.str0m_formats.proofs.Common.{rules, zero, suc, ◌≡◌, ◌==◌, ◌↔◌, ◌⊎◌, inl, inr, ℕ, ◌+◌, ◌-◌, ◌<◌, ◌≤◌, Bool, true, false, ◌&&◌, cond, List, [], ◌∷◌, ◌++◌, filter, All, length, take, refl, sym, ap, ◌∙◌, arith, Contains, list_any, range_with_len, or_cases, or_left, or_right, and_parts, eqb-true, eq-eqb, append-nil, take_more_set, All-filter, filter-append}
+use Rattle.str0m_formats.proofs.Common.{rules, ◌≡◌, ◌==◌, ◌↔◌, ◌⊎◌, inl, inr, ℕ, ◌+◌, ◌-◌, ◌<◌, ◌≤◌, Bool, true, false, ◌&&◌, cond, List, [], ◌∷◌, ◌++◌, filter, All, length, take, refl, sym, ◌∙◌, arith, Contains, list_any, range_with_len, or_cases, or_left, or_right, and_parts, eqb-true, eq-eqb, append-nil, take_more_set, All-filter, filter-append}
 use Rattle.std.proofs.Common.{add-one, set}
 use Rattle.std.specs.Cmp.{nat_eq_equiv}
 use Rattle.std.specs.List.Sorted.{IsStrictlyIncreasing}
@@ -8,11 +8,8 @@ use Rattle.std.proofs.lemmas.Bool.{and_from}
 use Rattle.std.proofs.lemmas.List.FromFn.{length-range_with_len, get_or-range_with_len}
 use Rattle.std.proofs.lemmas.List.Kept.{IsStrictlyIncreasing-filter}
 use Rattle.std.proofs.lemmas.Map.Views.{list_any-from_Contains, Contains-from_any}
+use Rattle.str0m_formats.proofs.Printed.{range_push}
 use Rattle.str0m_formats.specs.RedDistances.{IsKept, AreKept, AreDistances, keeps, kept_to}
-
-range_push : (a n : ℕ) → range_with_len a (suc n) ≡ range_with_len a n ++ (a + n) ∷ []
-range_push a zero = ap (λ k. k ∷ []) (omega arith)
-range_push a (suc n) = ap (λ ks. a ∷ ks) (range_push (a + 1) n ∙ ap (λ k. range_with_len (a + 1) n ++ k ∷ []) (omega arith))
 
 -- one number more
 pub kept_more : (given : List ℕ) (n : ℕ) → kept_to (n + 1) given ≡ kept_to n given ++ cond (keeps given (n + 1)) ((n + 1) ∷ []) []

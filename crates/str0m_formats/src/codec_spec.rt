@@ -30,8 +30,8 @@ impl CodecSpec {
         }
     }
 
-    /// What a payload type stands for without a mapping (RFC 3551, section 6): 0 PCMU, 8 PCMA and 13
-    /// CN at 8000 Hz, 9 G722 at 16000 Hz. `None` for any other type.
+    /// What a payload type stands for without a mapping, which is static (RFC 3551, section 6): the codec
+    /// of this type in docs/FORMATS.md, at the rate there. `None` for any other type.
     pub fn from_static_pt(pt: Pt) -> Option<CodecSpec>
         ensures { IsTheOnly (IsStatic pt) result }
     {

@@ -40,3 +40,4 @@ pub mod SsrcLaws
 pub mod TypeLineLaws
 pub mod TypeMarks
 pub mod TypeTableLaws
+pub mod VersionLaws

@@ -7,6 +7,7 @@ use Rattle.str0m_values.specs.Cuts.{◌<|>◌, when}
 use Rattle.str0m_values.specs.Fingerprint.{fingerprint_text}
 use Rattle.str0m_values.specs.declared.direction.Direction.{Direction}
 use Rattle.str0m_values.specs.declared.direction.Direction.TheVariants as way
+use Rattle.str0m_values.specs.declared.direction_label.TheConstants as way_label
 use Rattle.str0m_sdp.specs.declared.attribute.SessionAttribute.{SessionAttribute}
 use Rattle.str0m_sdp.specs.declared.attribute.SessionAttribute.TheVariants as session
 use Rattle.str0m_sdp.specs.declared.attribute.MediaAttribute.{MediaAttribute}
@@ -49,10 +50,10 @@ media_attribute_text (media.SctpPort port) = attribute_line (label.SCTP_PORT.now
 media_attribute_text (media.MaxMessageSize size) = attribute_line (label.MAX_MESSAGE_SIZE.now ++ decimal size)
 media_attribute_text (media.SctpInit text) = attribute_line (label.SCTP_INIT.now ++ text)
 media_attribute_text (media.ExtMap id ext) = ext_map_text id ext
-media_attribute_text media.RecvOnly = attribute_line label.RECV_ONLY.now
-media_attribute_text media.SendRecv = attribute_line label.SEND_RECV.now
-media_attribute_text media.SendOnly = attribute_line label.SEND_ONLY.now
-media_attribute_text media.Inactive = attribute_line label.INACTIVE.now
+media_attribute_text media.RecvOnly = attribute_line way_label.RECV_ONLY.now
+media_attribute_text media.SendRecv = attribute_line way_label.SEND_RECV.now
+media_attribute_text media.SendOnly = attribute_line way_label.SEND_ONLY.now
+media_attribute_text media.Inactive = attribute_line way_label.INACTIVE.now
 media_attribute_text (media.Msid msid) = attribute_line (label.MSID.now ++ msid_text msid)
 media_attribute_text media.RtcpMux = attribute_line label.RTCP_MUX.now
 media_attribute_text media.RtcpMuxOnly = attribute_line label.RTCP_MUX_ONLY.now
@@ -86,10 +87,10 @@ session_words =
 
 abbrev pub media_words : List (List ℕ × MediaAttribute)
 media_words =
-    (label.RECV_ONLY.now, media.RecvOnly)
-    ∷ (label.SEND_RECV.now, media.SendRecv)
-    ∷ (label.SEND_ONLY.now, media.SendOnly)
-    ∷ (label.INACTIVE.now, media.Inactive)
+    (way_label.RECV_ONLY.now, media.RecvOnly)
+    ∷ (way_label.SEND_RECV.now, media.SendRecv)
+    ∷ (way_label.SEND_ONLY.now, media.SendOnly)
+    ∷ (way_label.INACTIVE.now, media.Inactive)
     ∷ (label.RTCP_MUX.now, media.RtcpMux)
     ∷ (label.RTCP_MUX_ONLY.now, media.RtcpMuxOnly)
     ∷ (label.RTCP_RSIZE.now, media.RtcpRsize)

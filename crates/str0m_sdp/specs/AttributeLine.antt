@@ -9,7 +9,6 @@ use Rattle.str0m_sdp.specs.ExtMap.{ext_map_text}
 use Rattle.str0m_sdp.specs.Fmtp.{fmtp_text}
 use Rattle.str0m_sdp.specs.Group.{group_text, msid_semantic_text}
 use Rattle.str0m_sdp.specs.Lines.{attribute_line, labelled_line}
-use Rattle.str0m_sdp.specs.Msid.{msid_text}
 use Rattle.str0m_sdp.specs.Rid.{rid_text}
 use Rattle.str0m_sdp.specs.RtpMap.{rtp_map_text}
 use Rattle.str0m_sdp.specs.Setup.{setup_text}
@@ -20,11 +19,11 @@ use Rattle.str0m_sdp.specs.declared.label.TheConstants as label
 abbrev pub line_text : Line → List ℕ
 line_text (line.Word word) = attribute_line word.now
 line_text (line.Text name text) = labelled_line name.now text.now
+line_text (line.Texts name first second) = labelled_line name.now (first.now ++ (codes " " ++ second.now))
 line_text (line.Number name number) = labelled_line name.now (decimal number)
 line_text (line.Fingerprint hash) = labelled_line label.FINGERPRINT.now (fingerprint_text hash.now)
 line_text (line.Setup setup) = labelled_line label.SETUP.now (setup_text setup)
 line_text (line.Mid mid) = labelled_line label.MID.now mid.now
-line_text (line.Msid msid) = labelled_line label.MSID.now (msid_text msid.now)
 line_text (line.Candidate candidate) = attribute_line (candidate_text candidate.now)
 line_text (line.ExtMap id ext) = ext_map_text id ext.now
 line_text (line.RtpMap pt map) = labelled_line label.RTPMAP.now (decimal pt ++ (codes " " ++ rtp_map_text map.now))

@@ -11,7 +11,6 @@ pub mod Error
 pub mod ExtMap
 pub mod Fault
 pub mod Feedback
-pub mod FittingValues
 pub mod Fmtp
 pub mod FmtpLines
 pub mod Group

@@ -250,7 +250,9 @@ impl MediaAttribute {
             MediaAttribute::SendRecv => Line::Word(label::SEND_RECV),
             MediaAttribute::SendOnly => Line::Word(label::SEND_ONLY),
             MediaAttribute::Inactive => Line::Word(label::INACTIVE),
-            MediaAttribute::Msid(msid) => Line::Msid(msid),
+            MediaAttribute::Msid(msid) => {
+                Line::Texts(label::MSID, &msid.stream_id, &msid.track_id)
+            }
             MediaAttribute::RtcpMux => Line::Word(label::RTCP_MUX),
             MediaAttribute::RtcpMuxOnly => Line::Word(label::RTCP_MUX_ONLY),
             MediaAttribute::RtcpRsize => Line::Word(label::RTCP_RSIZE),

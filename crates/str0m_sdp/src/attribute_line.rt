@@ -6,7 +6,6 @@ use crate::ext_map::ExtMapLine;
 use crate::fmtp::FmtpLine;
 use crate::group::{GroupLine, MsidSemanticLine};
 use crate::label;
-use crate::msid::Msid;
 use crate::printed::{Alone, Labelled, Paired, Printed};
 use crate::rid::RidLine;
 use crate::rtp_map::RtpMap;
@@ -23,11 +22,11 @@ use str0m_values::{Candidate, Extension, Fingerprint, Items, Mid, Pt, Ssrc, Text
 pub(crate) enum Line<'a> {
     Word(&'a str),
     Text(&'static str, &'a Text),
+    Texts(&'static str, &'a Text, &'a Text),
     Number(&'static str, u64),
     Fingerprint(&'a Fingerprint),
     Setup(Setup),
     Mid(&'a Mid),
-    Msid(&'a Msid),
     Candidate(&'a Candidate),
     ExtMap(u8, &'a Extension),
     RtpMap(Pt, &'a RtpMap),
@@ -51,11 +50,11 @@ impl<'a> fmt::Display for Line<'a> {
         match *self {
             Line::Word(text) => Alone(text).fmt(f),
             Line::Text(name, text) => Labelled(name, text).fmt(f),
+            Line::Texts(name, first, second) => Paired(name, first, second).fmt(f),
             Line::Number(name, number) => Labelled(name, &number).fmt(f),
             Line::Fingerprint(hash) => Labelled(label::FINGERPRINT, hash).fmt(f),
             Line::Setup(setup) => Labelled(label::SETUP, &setup).fmt(f),
             Line::Mid(mid) => Labelled(label::MID, mid).fmt(f),
-            Line::Msid(msid) => Labelled(label::MSID, msid).fmt(f),
             Line::Candidate(candidate) => write!(f, "a={candidate}\r\n"),
             Line::ExtMap(id, ext) => ExtMapLine { id, ext }.fmt(f),
             Line::RtpMap(pt, map) => Paired(label::RTPMAP, &pt, map).fmt(f),

@@ -216,8 +216,8 @@ impl MediaLine {
     ///
     /// A section has exactly one `a=mid` line and at most one `a=setup` line (RFC 8829, section
     /// 5.2.1). Over Srtp it has exactly one direction, and a payload type unless it is disabled.
-    /// Each payload type of its m-line has exactly one `a=rtpmap` line (RFC 8866, section 6.6); the
-    /// static types of PCMU, PCMA, G722 and CN (RFC 3551, section 6) may have none. The `apt` values of
+    /// Each payload type of its m-line has exactly one `a=rtpmap` line (RFC 8866, section 6.6); a
+    /// static type (RFC 3551, section 6; `CodecSpec::from_static_pt`) may have none. The `apt` values of
     /// one payload type's fmtp lines name one primary type (RFC 4588, section 8.1). Faults are looked
     /// for in this order.
     ///

@@ -1,6 +1,8 @@
 //! The words of descriptions: labels of attributes, as they stand behind `a=`, with the colon where a value follows (RFC 8866,
 //! section 6; an attribute without a value is its label alone), media types, protocols and feedback.
 
+pub use str0m_values::direction_label::{INACTIVE, RECV_ONLY, SEND_ONLY, SEND_RECV};
+
 /// The port and address of RTCP (RFC 3605).
 pub const RTCP: &str = "rtcp:";
 /// The user fragment of ICE (RFC 8839, section 5.4).
@@ -43,14 +45,6 @@ pub const SSRC: &str = "ssrc:";
 pub const GROUP: &str = "group:";
 /// What stream names stand for (draft-ietf-mmusic-msid-05).
 pub const MSID_SEMANTIC: &str = "msid-semantic:";
-/// This side receives alone (RFC 8866, section 6.7).
-pub const RECV_ONLY: &str = "recvonly";
-/// This side sends and receives (RFC 8866, section 6.7).
-pub const SEND_RECV: &str = "sendrecv";
-/// This side sends alone (RFC 8866, section 6.7).
-pub const SEND_ONLY: &str = "sendonly";
-/// This side neither sends nor receives (RFC 8866, section 6.7).
-pub const INACTIVE: &str = "inactive";
 /// RTP and RTCP share a port (RFC 5761, section 5.1.1).
 pub const RTCP_MUX: &str = "rtcp-mux";
 /// RTP and RTCP share a port, or nothing is sent (RFC 8858, section 3).

@@ -63,7 +63,7 @@ pub use msid::{Msid, is_no_stream};
 pub use proto::Proto;
 pub use row_attributes::AsMediaAttrs;
 pub use rtp_map::RtpMap;
-pub use session::{Sdp, Session};
+pub use session::{Sdp, Session, VersionedSdp};
 pub use setup::{SETUPS, Setup};
 pub use simulcast::{RestrictionId, Simulcast, SimulcastGroups, SimulcastLayer};
 pub use ssrc_info::SsrcInfo;

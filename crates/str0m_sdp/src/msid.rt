@@ -1,9 +1,8 @@
 //! The streams that a section's media belongs to.
-ghost use Rattle.std.specs.Prelude.{◌≡◌, ◌↔◌, IfOk, IsTrue, Some, codes, refl};
+ghost use Rattle.std.specs.Prelude.{◌≡◌, ◌↔◌, IfOk, IsTrue, Some, codes};
 ghost use Rattle.std.specs.Str.{trim};
 ghost use Rattle.str0m_sdp.specs.Msid.{msid_text};
 
-use crate::printed::Printed;
 use std::alloc::AllocError;
 use std::fmt;
 use str0m_values::Text;
@@ -37,12 +36,6 @@ impl fmt::Display for Msid {
         } = self;
         write!(f, "{stream_id} {track_id}")
     }
-}
-
-impl Printed for Msid {
-    ghost text = { msid_text };
-
-    ghost prints = { λ _. refl };
 }
 
 /// Whether an id says that there is no stream: without white space at its ends it is `-`

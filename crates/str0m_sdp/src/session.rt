@@ -1,11 +1,12 @@
 //! Session descriptions.
-ghost use Rattle.std.specs.Prelude.{◌≡◌, IfOk, Some};
-ghost use Rattle.str0m_sdp.specs.Session.{origin_line, session_text, sdp_text};
+ghost use Rattle.std.specs.Prelude.{◌≡◌, IfOk, Some, refl};
+ghost use Rattle.std.specs.Fmt.{decimal};
+ghost use Rattle.str0m_sdp.specs.Session.{origin_line, session_lines, session_text, sdp_text, versioned_origin, versioned_text};
 
 use crate::attribute::SessionAttribute;
 use crate::bandwidth::{Bandwidth, BandwidthLine};
 use crate::media_line::MediaLine;
-use crate::printed::Each;
+use crate::printed::{Each, Printed};
 use std::alloc::AllocError;
 use std::fmt;
 use str0m_values::{Items, SessionId};
@@ -63,15 +64,64 @@ impl fmt::Display for Origin {
     }
 }
 
+impl Printed for Origin {
+    ghost text = { λ origin. origin_line origin.0 };
+
+    ghost prints = { λ _. refl };
+}
+
+/// The `o=` line of a session with a version, with its end.
+#[derive(Drop)]
+struct VersionedOrigin {
+    id: SessionId,
+    version: u64,
+}
+
+impl fmt::Display for VersionedOrigin {
+    ghost output = { λ origin. Some (versioned_origin (decimal origin.version) origin.id) };
+
+    fn fmt<W: fmt::Write>(&self, f: &mut fmt::Formatter<W>) -> fmt::Result {
+        let id = self.id;
+        let version = self.version;
+        write!(f, "o=str0m-0.25.0 {id} {version} IN IP4 0.0.0.0\r\n")
+    }
+}
+
+impl Printed for VersionedOrigin {
+    ghost text = { λ origin. versioned_origin (decimal origin.version) origin.id };
+
+    ghost prints = { λ _. refl };
+}
+
+/// The lines of a session with this `o=` line.
+#[derive(Drop)]
+struct SessionLines<'a, O> {
+    session: &'a Session,
+    origin: &'a O,
+}
+
+impl<'a, O: Printed> fmt::Display for SessionLines<'a, O> {
+    ghost output = { λ lines. Some (session_lines (O.text lines.origin.now) lines.session.now) };
+
+    #[inline(always)]
+    fn fmt<W: fmt::Write>(&self, f: &mut fmt::Formatter<W>) -> fmt::Result {
+        let bw = BandwidthLine(&self.session.bw);
+        let attrs = Each(self.session.attrs.as_slice());
+        f.write_str("v=0\r\n")?;
+        self.origin.fmt(f)?;
+        write!(f, "s=-\r\n{bw}t=0 0\r\n{attrs}")
+    }
+}
+
 /// The lines of the session: `v=`, `o=`, `s=`, its bandwidth, `t=` and its attributes.
 impl fmt::Display for Session {
     ghost output = { λ session. Some (session_text session) };
 
     fn fmt<W: fmt::Write>(&self, f: &mut fmt::Formatter<W>) -> fmt::Result {
+        let session = self;
         let origin = Origin(self.id);
-        let bw = BandwidthLine(&self.bw);
-        let attrs = Each(self.attrs.as_slice());
-        write!(f, "v=0\r\n{origin}s=-\r\n{bw}t=0 0\r\n{attrs}")
+        let origin = &origin;
+        SessionLines { session, origin }.fmt(f)
     }
 }
 
@@ -83,5 +133,31 @@ impl fmt::Display for Sdp {
         let session = &self.session;
         let media_lines = Each(self.media_lines.as_slice());
         write!(f, "{session}{media_lines}")
+    }
+}
+
+/// A description that prints with a version of its own in the `o=` line, where an `Sdp` alone has 2: each later description of a
+/// session that has changed has a greater one (RFC 3264, section 8; RFC 8866, section 5.2).
+#[derive(Drop)]
+pub struct VersionedSdp<'a> {
+    /// The description.
+    pub sdp: &'a Sdp,
+    /// The version.
+    pub version: u64,
+}
+
+/// The whole description: the session and its sections in order.
+impl<'a> fmt::Display for VersionedSdp<'a> {
+    ghost output = { λ it. Some (versioned_text it.version it.sdp.now) };
+
+    fn fmt<W: fmt::Write>(&self, f: &mut fmt::Formatter<W>) -> fmt::Result {
+        let session = &self.sdp.session;
+        let id = session.id;
+        let version = self.version;
+        let origin = VersionedOrigin { id, version };
+        let origin = &origin;
+        let lines = SessionLines { session, origin };
+        let media_lines = Each(self.sdp.media_lines.as_slice());
+        write!(f, "{lines}{media_lines}")
     }
 }

@@ -1,6 +1,6 @@
 //! Who begins the DTLS handshake.
 ghost use Rattle.std.specs.Prelude.{◌≡◌, ◌≢◌, Some, None, MatchOption, refl};
-ghost use Rattle.str0m_sdp.specs.Setup.{setup_text, inverse, settled};
+ghost use Rattle.str0m_sdp.specs.Setup.{AnswersRole, setup_text, inverse, settled};
 ghost use Rattle.str0m_sdp.specs.declared.setup.Setup.TheVariants.{ActPass};
 
 use crate::printed::Printed;
@@ -40,6 +40,18 @@ impl Setup {
         ensures { result.now ≡ setup_text self.now }
     {
         self.word()
+    }
+
+    /// The role that answers what is offered for a section (RFC 8842, section 5.3; RFC 4145, section
+    /// 4.1): it is active or passive, and both sides settle on it. Where the offer leaves the choice, by
+    /// `actpass` or by saying nothing, the answer is active (RFC 8829, section 5.3.1).
+    pub fn answer(offered: Option<Setup>) -> Setup
+        ensures { AnswersRole offered result }
+    {
+        match offered {
+            None | Some(Setup::ActPass | Setup::Passive) => Setup::Active,
+            Some(Setup::Active) => Setup::Passive,
+        }
     }
 
     /// The role of the other side: who begins on one side waits on the other. A side that offers

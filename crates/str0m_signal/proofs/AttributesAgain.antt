@@ -20,7 +20,7 @@ use Rattle.str0m_values.specs.declared.fingerprint.Fingerprint.{Fingerprint as T
 use Rattle.str0m_signal.specs.FormTable.{Form, any, led_by, two, parted, a_text, number}
 use Rattle.str0m_signal.specs.Forms.{Behind, IsText, Two}
 use Rattle.str0m_sdp.specs.Attribute.{media_words}
-use Rattle.str0m_signal.specs.MediaAttribute.{media_texts, name, mid, ssrc_group, rid, simulcast, plain_forms, IsMediaLine, MediaForm}
+use Rattle.str0m_signal.specs.MediaAttribute.{media_texts, media_pairs, name, mid, ssrc_group, rid, simulcast, plain_forms, IsMediaLine, MediaForm}
 use Rattle.str0m_signal.specs.Rid.{IsRid}
 use Rattle.str0m_signal.specs.RtpMap.{IsChannels, IsRtpMap}
 use Rattle.str0m_signal.specs.Simulcast.{AreSides, IsSimulcast}
@@ -43,7 +43,7 @@ use Rattle.str0m_signal.proofs.PrintedAttributes.{HoldsNoEnd, no_end, no_ends, l
 use Rattle.str0m_signal.proofs.RidAgain.{IsPlainRid, rid_again, sides_words, sides_form, sides_lack}
 use Rattle.str0m_signal.proofs.RidLaws.{rid_fields_both}
 use Rattle.str0m_signal.proofs.SimulcastLaws.{simulcast_fields_both}
-use Rattle.str0m_signal.proofs.TableAgain.{Kept, PrintsAgain, Whole, laws_of, quiet_again, made_again, both, text_kept, number_kept, two_kept, tailed_kept, labelled_whole, words_whole, texts_whole, any_again}
+use Rattle.str0m_signal.proofs.TableAgain.{Kept, PrintsAgain, Whole, laws_of, quiet_again, made_again, both, text_kept, number_kept, two_kept, pair_kept, tailed_kept, labelled_whole, words_whole, all_labelled_whole, any_again}
 use Rattle.str0m_signal.proofs.TableLaws.{Readable, Lawful, AllOf, ◌also◌, own_lawful, labelled_lawful, made_lawful}
 use Rattle.str0m_signal.proofs.WordsAgain.{kept_again, kept_lacks, hash_again, fingerprint_pair, pairs_are_joined}
 use Rattle.str0m_signal.proofs.WordsLaws.{hex_pairs_both, sources_both}
@@ -205,10 +205,10 @@ plain_laws =
     also labelled_whole _ _ (two_kept 32 (lit≤ tt) (number_kept 4294967295 (lit< tt)) (two_kept 58 (lit≤ tt) text_kept text_kept)) (λ _. refl) (λ _. refl)
     also labelled_whole _ Setup role_kept (λ _. refl) (λ _. refl)
     also both (labelled_lawful _ _ (two_both 32 text_both sources_both)) group_comes_back
-    also texts_whole media_texts refl (λ _. refl)
+    also all_labelled_whole text_kept media_texts refl (λ _. refl)
     also both (made_lawful Fingerprint fingerprint_lawful) (made_again fingerprint Fingerprint _ printed_fingerprint (λ _ _. refl) (λ _. refl))
     also both (labelled_lawful _ _ name_both) mid_comes_back
-    also labelled_whole _ _ (two_kept 32 (lit≤ tt) text_kept text_kept) (λ _. refl) (λ _. refl)
+    also all_labelled_whole pair_kept media_pairs refl (λ _. refl)
     also both (labelled_lawful _ _ rid_fields_both) rid_comes_back
     also labelled_whole _ _ text_kept (λ _. refl) (λ _. refl)
     also both (labelled_lawful _ _ simulcast_fields_both) simulcast_comes_back

@@ -14,6 +14,7 @@ pub mod Formats
 pub mod HeaderLaws
 pub mod LineEndLaws
 pub mod LineLaws
+pub mod LineNumbers
 pub mod LinesAgain
 pub mod Mapped
 pub mod MediaLaws
@@ -30,6 +31,7 @@ pub mod ReadBackLaws
 pub mod ReadingAgain
 pub mod ReadingLaws
 pub mod Readings
+pub mod RestLaws
 pub mod RidAgain
 pub mod RidLaws
 pub mod RowLines

@@ -16,7 +16,7 @@ use Rattle.str0m_signal.proofs.CharacterStarts.{StartsWithin, behind_starts}
 use Rattle.str0m_signal.proofs.LineLaws.{attribute_both}
 use Rattle.str0m_signal.proofs.PiecesAgain.{behind_again}
 use Rattle.str0m_signal.proofs.PrintedAttributes.{HoldsNoEnd, line_printed}
-use Rattle.str0m_signal.proofs.TableAgain.{Kept, PrintsAgain, Whole, laws_of, quiet_again, made_again, both, labelled_whole, words_whole, texts_whole, any_again}
+use Rattle.str0m_signal.proofs.TableAgain.{Kept, PrintsAgain, Whole, laws_of, quiet_again, made_again, both, text_kept, labelled_whole, words_whole, all_labelled_whole, any_again}
 use Rattle.str0m_signal.proofs.TableLaws.{Lawful, AllOf, ◌also◌, any_lawful, labelled_lawful, made_lawful, unused_reads}
 use Rattle.str0m_signal.proofs.WordsAgain.{IsFilledGroup, group_again, group_filled, meaning_again, meaning_text, names_text}
 use Rattle.str0m_signal.proofs.WordsLaws.{group_both, msid_semantic_both}
@@ -46,7 +46,7 @@ laws =
     also labelled_whole _ Setup role_kept (λ _. refl) (λ _. refl)
     also both (labelled_lawful _ _ group_both) group_comes_back
     also labelled_whole _ _ meaning_kept (λ _. refl) (λ _. refl)
-    also texts_whole session_texts refl (λ _. refl)
+    also all_labelled_whole text_kept session_texts refl (λ _. refl)
     also both (made_lawful Fingerprint fingerprint_lawful) (made_again fingerprint Fingerprint _ printed_fingerprint (λ _ _. refl) (λ _. refl))
     also both (made_lawful Candidate candidate_lawful) (made_again candidate Candidate _ printed_candidate (λ _ _. refl) (λ _. refl))
     also tt

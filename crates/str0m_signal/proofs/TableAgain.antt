@@ -1,11 +1,11 @@
 -- The attributes of a table are printed as they were read: from the laws of each form.
 use Rattle.str0m_signal.proofs.Common.{num_both, ◌≡◌, ◌≤◌, ◌<◌, ◌^◌, ℕ, Bool, true, List, [], ◌∷◌, ◌++◌, map, refl, sym, subst, lit≤, inl, inr, digit_value, decimal, attribute_line}
-use Rattle.str0m_signal.specs.FormTable.{Piece, Form, word, words_of, words, made, labelled, texts_of, texts, any, a_text, number, two, tailed, led_by}
+use Rattle.str0m_signal.specs.FormTable.{Piece, Form, word, words_of, words, made, labelled, labelled_by, any, a_text, number, two, two_texts, tailed, led_by}
 use Rattle.str0m_signal.proofs.CharacterStarts.{StartsWithin}
 use Rattle.str0m_signal.proofs.FormLaws.{text_both, two_both, tailed_both}
 use Rattle.str0m_signal.proofs.PiecesAgain.{Again, text_again, num_again, two_again, tailed_again, behind_again}
 use Rattle.str0m_signal.proofs.PrintedAttributes.{HoldsNoEnd}
-use Rattle.str0m_signal.proofs.TableLaws.{Readable, Lawful, AllOf, labelled_lawful, words_lawful, texts_lawful, forms_apart, head_is, tail_is}
+use Rattle.str0m_signal.proofs.TableLaws.{Readable, Lawful, AllOf, labelled_lawful, words_lawful, all_labelled_lawful, forms_apart, head_is, tail_is}
 
 -- ---- pieces
 
@@ -23,6 +23,9 @@ number_kept limit small = record { reads = num_both limit; again = num_again lim
 pub two_kept : {A B : Type 0} {first : Piece A} {second : Piece B} {p : A → List ℕ} {q : B → List ℕ} (c : ℕ) → 16 ≤ digit_value c
     → Kept first p → Kept second q → Kept (two c first second) (λ pair. p pair.0 ++ (c ∷ q pair.1))
 two_kept c far a b = record { reads = two_both c a.reads b.reads; again = two_again c far a.again b.again }
+
+pub pair_kept : Kept two_texts (λ pair. pair.0 ++ (32 ∷ pair.1))
+pair_kept = two_kept 32 (lit≤ tt) text_kept text_kept
 
 pub tailed_kept : {A : Type 0} {piece : Piece A} {p : A → List ℕ} (c : ℕ) → 16 ≤ digit_value c → Kept piece p → Kept (tailed c piece) p
 tailed_kept c far kept = record { reads = tailed_both c kept.reads; again = tailed_again kept.again c far }
@@ -96,10 +99,10 @@ module _ {A : Type 0} {Fits : A → Type 0} {line : A → List ℕ} {test : A �
 abbrev AreWords : {A : Type 0} → (A → List ℕ) → (A → Bool) → List (List ℕ × A) → Type 0
 AreWords line test rows = map {B = List ℕ × Bool} (λ row. (line row.1, test row.1)) rows ≡ map {B = List ℕ × Bool} (λ row. (attribute_line row.0, true)) rows
 
--- and likewise each label with a text behind it
-abbrev AreTexts : {A : Type 0} → (A → List ℕ) → (A → Bool) → List (List ℕ × (List ℕ → A)) → Type 0
-AreTexts line test rows =
-    (x : List ℕ) → map {B = List ℕ × Bool} (λ row. (line (row.1 x), test (row.1 x))) rows ≡ map {B = List ℕ × Bool} (λ row. (attribute_line (row.0 ++ x), true)) rows
+-- and likewise each label with a value behind it
+abbrev AreLabelled : {A V : Type 0} → (V → List ℕ) → (A → List ℕ) → (A → Bool) → List (List ℕ × (V → A)) → Type 0
+AreLabelled {V} print line test rows =
+    (x : V) → map {B = List ℕ × Bool} (λ row. (line (row.1 x), test (row.1 x))) rows ≡ map {B = List ℕ × Bool} (λ row. (attribute_line (row.0 ++ print x), true)) rows
 
 module _ {A : Type 0} (Fits : A → Type 0) (line : A → List ℕ) (test : A → Bool) where
   words_all : (rows : List (List ℕ × A)) → AreWords line test rows → AllOf (PrintsAgain Fits line test) (words_of rows)
@@ -108,15 +111,18 @@ module _ {A : Type 0} (Fits : A → Type 0) (line : A → List ℕ) (test : A �
       let here : (line row.1, test row.1) ≡ (attribute_line row.0, true) = head_is _ _ _ _ e in
       (word_again row.0 row.1 (λ i. (here i).0) (λ i. (here i).1), words_all rows (tail_is _ _ _ _ e))
 
-  texts_all : (rows : List (List ℕ × (List ℕ → A))) → AreTexts line test rows → AllOf (PrintsAgain Fits line test) (texts_of rows)
-  texts_all [] e = tt
-  texts_all (row ∷ rows) e =
-      let here : (x : List ℕ) → (line (row.1 x), test (row.1 x)) ≡ (attribute_line (row.0 ++ x), true) = λ x. head_is _ _ _ _ (e x) in
-      ((labelled_whole row.0 row.1 text_kept (λ x i. (here x i).0) (λ x i. (here x i).1)).prints, texts_all rows (λ x. tail_is _ _ _ _ (e x)))
+  labelled_all : {V : Type 0} {piece : Piece V} {print : V → List ℕ} → Kept piece print → (rows : List (List ℕ × (V → A)))
+      → AreLabelled print line test rows → AllOf (PrintsAgain Fits line test) (labelled_by piece rows)
+  labelled_all kept [] e = tt
+  labelled_all {V} {piece} {print} kept (row ∷ rows) e =
+      let here : (x : V) → (line (row.1 x), test (row.1 x)) ≡ (attribute_line (row.0 ++ print x), true) = λ x. head_is _ _ _ _ (e x) in
+      ((labelled_whole row.0 row.1 kept (λ x i. (here x i).0) (λ x i. (here x i).1)).prints, labelled_all kept rows (λ x. tail_is _ _ _ _ (e x)))
 
 module _ {A : Type 0} {Fits : A → Type 0} {line : A → List ℕ} {test : A → Bool} where
   pub words_whole : (rows : List (List ℕ × A)) → forms_apart (words_of rows) ≡ true → AreWords line test rows → Whole Fits line test (words rows)
   words_whole rows far e = both (words_lawful rows far) (any_again (words_of rows) (words_all Fits line test rows e))
 
-  pub texts_whole : (rows : List (List ℕ × (List ℕ → A))) → forms_apart (texts_of rows) ≡ true → AreTexts line test rows → Whole Fits line test (texts rows)
-  texts_whole rows far e = both (texts_lawful rows far) (any_again (texts_of rows) (texts_all Fits line test rows e))
+  pub all_labelled_whole : {V : Type 0} {piece : Piece V} {print : V → List ℕ} → Kept piece print → (rows : List (List ℕ × (V → A)))
+      → forms_apart (labelled_by piece rows) ≡ true → AreLabelled print line test rows → Whole Fits line test (any (labelled_by piece rows))
+  all_labelled_whole {V} {piece} {print} kept rows far e =
+      both (all_labelled_lawful piece kept.reads rows far) (any_again (labelled_by piece rows) (labelled_all Fits line test kept rows e))

@@ -4,8 +4,8 @@ use Rattle.std.proofs.Common.{append_assoc, append-nil}
 use Rattle.std.specs.Prelude.{if◌then◌else◌}
 use Rattle.str0m_values.proofs.BothWays.{reads_none, Reads}
 use Rattle.str0m_signal.specs.FormTable.{Piece, Form, own, made, labelled, word, AnyOf, labels_of, first_read, any, words_of, words}
-use Rattle.str0m_signal.specs.FormTable.{texts_of, texts, IsUnused, unused_read, first_byte, begins_with, beginning, letter_read, by_letter}
-use Rattle.str0m_signal.proofs.FormLaws.{text_both, behind_both}
+use Rattle.str0m_signal.specs.FormTable.{labelled_by, IsUnused, unused_read, first_byte, begins_with, beginning, letter_read, by_letter}
+use Rattle.str0m_signal.proofs.FormLaws.{behind_both}
 
 abbrev pub Readable : {A : Type 0} → Piece A → Type 0
 Readable piece = Reads piece.Is piece.read
@@ -131,12 +131,13 @@ module _ {A : Type 0} where
   pub words_lawful : (rows : List (List ℕ × A)) → forms_apart (words_of rows) ≡ true → Lawful (words rows)
   words_lawful rows far = any_lawful (words_of rows) (words_lawful_each rows) far
 
-  texts_lawful_each : (rows : List (List ℕ × (List ℕ → A))) → AllOf Lawful (texts_of rows)
-  texts_lawful_each [] = tt
-  texts_lawful_each (row ∷ rows) = (labelled_lawful row.0 row.1 text_both, texts_lawful_each rows)
+  labelled_each : {B : Type 0} (piece : Piece B) → Readable piece → (rows : List (List ℕ × (B → A))) → AllOf Lawful (labelled_by piece rows)
+  labelled_each piece reads [] = tt
+  labelled_each piece reads (row ∷ rows) = (labelled_lawful row.0 row.1 reads, labelled_each piece reads rows)
 
-  pub texts_lawful : (rows : List (List ℕ × (List ℕ → A))) → forms_apart (texts_of rows) ≡ true → Lawful (texts rows)
-  texts_lawful rows far = any_lawful (texts_of rows) (texts_lawful_each rows) far
+  pub all_labelled_lawful : {B : Type 0} (piece : Piece B) → Readable piece → (rows : List (List ℕ × (B → A))) → forms_apart (labelled_by piece rows) ≡ true
+      → Lawful (any (labelled_by piece rows))
+  all_labelled_lawful piece reads rows far = any_lawful (labelled_by piece rows) (labelled_each piece reads rows) far
 
 -- ---- the look at the first letter
 

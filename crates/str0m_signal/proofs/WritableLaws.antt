@@ -1,10 +1,10 @@
 -- When a session is writable, by what its parts come back as.
-use Rattle.str0m_signal.proofs.Common.{◌≡◌, ◌≢◌, ◌<◌, ◌≤◌, ◌+◌, ℕ, Bool, true, false, not, List, [], length, get_or, Option, Some, None, IfSome, refl, sym, ap, ◌∙◌, true≢false, ◌↔◌, IsTrue, list_any, slice_get, cases_Bool, cases_lt, none-some, same_Some, slice_get_read, IsTheOnly, session_attribute_text, bandwidth_text, AgreesOnApt, Consistent, is_of_type, MediaAttribute, SessionAttribute, Bandwidth, MediaLine, Sdp, Srtp, arith, is_some, All, slice_get_within, NoneIff}
+use Rattle.str0m_signal.proofs.Common.{◌≡◌, ◌≢◌, ◌<◌, ◌≤◌, ◌+◌, ℕ, Bool, true, false, not, List, [], length, get_or, Option, Some, None, IfSome, refl, sym, ap, ◌∙◌, true≢false, ◌↔◌, IsTrue, list_any, slice_get, cases_Bool, cases_lt, none-some, same_Some, slice_get_read, IsTheOnly, session_attribute_text, bandwidth_text, Consistent, is_of_type, MediaAttribute, SessionAttribute, Bandwidth, MediaLine, Sdp, Srtp, arith, is_some, All, slice_get_within, NoneIff}
 use Rattle.std.proofs.lemmas.List.Folds.{list_any_at, list_any_none}
 use Rattle.str0m_signal.specs.Section.{Head, IsBandwidth}
 use Rattle.str0m_signal.specs.SessionAttribute.{IsSessionLine}
 use Rattle.str0m_signal.specs.Writable.{AreReadAs, HasTypes, IsFrame, IsPrintedAs, IsReadAs, MediaAreReadAs, SessionGoesWith, Writable, frame_of}
-use Rattle.str0m_sdp.proofs.TypeTableLaws.{agrees_other}
+use Rattle.str0m_sdp.proofs.SectionConsistent.{frame_agrees}
 
 -- ---- the only value that comes back
 
@@ -77,11 +77,8 @@ alone m = record m { disabled = true; proto = Srtp; pts = [] }
 none_of : (attrs : List MediaAttribute) → list_any is_of_type attrs ≡ false → All (λ attr. is_of_type attr ≡ false) attrs
 none_of attrs none = grind (arith, cases_Bool, list_any_at)
 
-agrees : (attrs : List MediaAttribute) (attr : MediaAttribute) → is_of_type attr ≡ false → AgreesOnApt attrs attr
-agrees attrs attr none = agrees_other attrs attr (λ n values is. absurd (true≢false (sym (ap is_of_type is) ∙ none)))
-
 pub frame_alone : (m : MediaLine) {T : Type 0} → list_any is_of_type m.attrs ≡ false → T ↔ Consistent (alone m) → T ↔ IsFrame m
-frame_alone m none is = grind (arith, none_of, agrees)
+frame_alone m none is = grind (arith, none_of, frame_agrees)
 
 pub no_frame : (m : MediaLine) → list_any is_of_type m.attrs ≡ true → IsTrue false ↔ IsFrame m
 no_frame m some = grind (arith, list_any_none)

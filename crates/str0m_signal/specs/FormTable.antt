@@ -24,6 +24,10 @@ two c first second = record { Is = Two c first.Is second.Is; read = two_read c f
 abbrev pub tailed : {A : Type 0} → ℕ → Piece A → Piece A
 tailed c piece = record { Is = Tailed c piece.Is; read = tailed_read c piece.read }
 
+-- two texts, with a space between them
+abbrev pub two_texts : Piece (List ℕ × List ℕ)
+two_texts = two 32 a_text a_text
+
 abbrev pub parted : {A : Type 0} → ℕ → Piece A → Piece (List A)
 parted c piece = record { Is = Parted c piece.Is; read = parted_read c piece.read }
 
@@ -85,13 +89,18 @@ words_of (row ∷ rows) = word row.0 row.1 ∷ words_of rows
 abbrev pub words : {A : Type 0} → List (List ℕ × A) → Form A
 words rows = any (words_of rows)
 
-abbrev pub texts_of : {A : Type 0} → List (List ℕ × (List ℕ → A)) → List (Form A)
-texts_of [] = []
-texts_of (row ∷ rows) = labelled row.0 a_text row.1 ∷ texts_of rows
+-- each label with this piece behind it
+abbrev pub labelled_by : {A B : Type 0} → Piece B → List (List ℕ × (B → A)) → List (Form A)
+labelled_by piece [] = []
+labelled_by piece (row ∷ rows) = labelled row.0 piece row.1 ∷ labelled_by piece rows
 
 -- a table of labels with a text behind
 abbrev pub texts : {A : Type 0} → List (List ℕ × (List ℕ → A)) → Form A
-texts rows = any (texts_of rows)
+texts rows = any (labelled_by a_text rows)
+
+-- a table of labels with two texts behind
+abbrev pub pairs : {A : Type 0} → List (List ℕ × (List ℕ × List ℕ → A)) → Form A
+pairs rows = any (labelled_by two_texts rows)
 
 -- any text, as it stands
 abbrev pub IsUnused : {A : Type 0} → (List ℕ → A) → List ℕ → A → Type 0

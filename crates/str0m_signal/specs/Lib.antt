@@ -6,6 +6,7 @@ pub mod FmtpReading
 pub mod FormReading
 pub mod FormTable
 pub mod Forms
+pub mod FromLine
 pub mod Header
 pub mod HeaderReading
 pub mod Heads

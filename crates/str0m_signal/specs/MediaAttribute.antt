@@ -9,7 +9,7 @@ use Rattle.str0m_values.specs.Parts.{IsRest}
 use Rattle.str0m_values.specs.ShortText.{IsLongestBeginning, beginning_of}
 use Rattle.str0m_signal.specs.Fmtp.{IsFmtp}
 use Rattle.str0m_signal.specs.FmtpReading.{fmtp_fields_read}
-use Rattle.str0m_signal.specs.FormTable.{Piece, Form, own, a_text, number, two, tailed, parted, labelled, made, any, words, texts, IsUnused, unused_read, first_byte, by_letter}
+use Rattle.str0m_signal.specs.FormTable.{Piece, Form, own, a_text, number, two, tailed, parted, labelled, made, any, words, texts, pairs, IsUnused, unused_read, first_byte, by_letter}
 use Rattle.str0m_signal.specs.Lines.{IsAttributeLine}
 use Rattle.str0m_signal.specs.Rid.{IsRid}
 use Rattle.str0m_signal.specs.RidReading.{rid_fields_read}
@@ -22,6 +22,9 @@ use Rattle.str0m_sdp.specs.declared.label.TheConstants as label
 
 abbrev pub media_texts : List (List ℕ × (List ℕ → MediaAttribute))
 media_texts = ice_texts IceUfrag IcePwd IceOptions
+
+abbrev pub media_pairs : List (List ℕ × (List ℕ × List ℕ → MediaAttribute))
+media_pairs = (label.MSID.now, λ p. Msid (record { stream_id = p.0; track_id = p.1 })) ∷ []
 
 abbrev pub rtcp : Form MediaAttribute
 rtcp = labelled label.RTCP.now a_text Rtcp
@@ -45,9 +48,6 @@ sctp_init = labelled label.SCTP_INIT.now a_text SctpInit
 abbrev pub ext_map : Form MediaAttribute
 ext_map =
     labelled label.EXTMAP.now (two 32 (tailed 47 (number 255)) (tailed 32 a_text)) (λ p. ExtMap p.0 (record { uri = p.1; serialized = true }))
-
-abbrev pub msid : Form MediaAttribute
-msid = labelled label.MSID.now (two 32 a_text a_text) (λ p. Msid (record { stream_id = p.0; track_id = p.1 }))
 
 abbrev pub rtpmap : Form MediaAttribute
 rtpmap = made (own label.RTPMAP.now (λ text p. IsRtpMap text p.0 p.1) rtpmap_fields_read) (λ p. RtpMap p.0 p.1)
@@ -82,7 +82,7 @@ plain_forms =
     ∷ texts media_texts
     ∷ made fingerprint Fingerprint
     ∷ mid
-    ∷ msid
+    ∷ pairs media_pairs
     ∷ rid
     ∷ rtcp
     ∷ simulcast

@@ -7,12 +7,11 @@ use Rattle.str0m_formats.specs.Rows.{SameRow, types}
 use Rattle.str0m_formats.specs.TypeSets.{AllDistinct}
 use Rattle.str0m_formats.specs.declared.payload_params.PayloadParams.{PayloadParams}
 use Rattle.str0m_sdp.specs.Consistency.{Consistent}
-use Rattle.str0m_sdp.specs.FittingValues.{IsSessionNumber}
 use Rattle.str0m_sdp.specs.MediaType.{is_media}
 use Rattle.str0m_sdp.specs.NamesOne.{NamesOne}
 use Rattle.str0m_sdp.specs.SectionOf.{made}
 use Rattle.str0m_sdp.specs.SectionRows.{rows}
-use Rattle.str0m_sdp.specs.Session.{sdp_text}
+use Rattle.str0m_sdp.specs.Session.{IsSessionNumber, sdp_text}
 use Rattle.str0m_sdp.specs.declared.media_line.MediaLine.{MediaLine}
 use Rattle.str0m_sdp.specs.declared.session.Sdp.{Sdp}
 use Rattle.str0m_signal.specs.Reading.{Reading}

@@ -1,9 +1,11 @@
 //! What fields of several lines share.
 
 ghost use Rattle.std.specs.Prelude.{◌≡◌, IfOk, option_map};
-ghost use Rattle.str0m_values.specs.Cuts.{num};
+ghost use Rattle.str0m_values.specs.Cuts.{num, parts};
+ghost use Rattle.str0m_values.specs.Separator.{code};
 ghost use Rattle.str0m_values.specs.ShortText.{beginning_of};
-ghost use Rattle.str0m_signal.specs.FormReading.{behind, text_read};
+ghost use Rattle.str0m_signal.specs.FormReading.{behind, text_read, two_read};
+ghost use Rattle.str0m_signal.specs.FormTable.{two_texts};
 ghost use Rattle.str0m_signal.specs.MediaAttributeReading.{role_read};
 ghost use Rattle.str0m_signal.specs.SectionReading.{field_read};
 ghost use Rattle.str0m_signal.specs.LineReading.{lines_of, line_read, both_left};
@@ -11,8 +13,8 @@ ghost use Rattle.str0m_signal.specs.LineReading.{lines_of, line_read, both_left}
 use crate::lines::plain_line;
 use std::alloc::{AllocError, Global};
 use str0m_sdp::{SETUPS, Setup};
-use str0m_values::cuts::strip;
-use str0m_values::{Mid, Text, case_of};
+use str0m_values::cuts::{cut, strip};
+use str0m_values::{Mid, Separator, Text, case_of};
 
 /// What follows `label`, where that is not nothing.
 pub(crate) fn field<'a>(line: &'a str, label: &str) -> Option<&'a str>
@@ -38,6 +40,40 @@ pub(crate) fn kept(alloc: Global, text: &str, label: &str) -> Result<Option<Text
         Some(body) => Ok(Some(Text::from_str(alloc, body)?)),
         None => Ok(None),
     }
+}
+
+/// The texts before and behind the first `at`, where neither is nothing.
+pub(crate) fn two_texts(text: &str, at: Separator) -> Option<(&str, &str)>
+    ensures { parts result ≡ two_read (code at) text_read text_read text.now }
+{
+    let (first, second) = cut(text, at)?;
+    if first.is_empty() {
+        return None;
+    }
+    if second.is_empty() {
+        return None;
+    }
+    Some((first, second))
+}
+
+/// Copies of the two texts that follow `label` with a space between them, where neither is nothing.
+#[inline(always)]
+pub(crate) fn both_kept(
+    alloc: Global,
+    text: &str,
+    label: &str,
+) -> Result<Option<(Text, Text)>, AllocError>
+    ensures { IfOk result (λ found. found ≡ behind label.now two_texts.read text.now) }
+{
+    let Some(body) = strip(text, label) else {
+        return Ok(None);
+    };
+    let Some((first, second)) = two_texts(body, Separator::Space) else {
+        return Ok(None);
+    };
+    let first = Text::from_str(alloc, first)?;
+    let second = Text::from_str(alloc, second)?;
+    Ok(Some((first, second)))
 }
 
 /// The number of 64 bits that std reads in decimal.

@@ -45,7 +45,8 @@ pub use str0m_formats::{
 pub use str0m_sdp::{
     AsMediaAttrs, Bandwidth, Candidates, DistinctCandidates, MediaAttribute, MediaLine, MediaType,
     Msid, Proto, RestrictionId, RtpMap, SETUPS, Sdp, SdpError, Session, SessionAttribute, Setup,
-    Simulcast, SimulcastGroups, SimulcastLayer, SsrcInfo, Word, is_no_stream, section_of,
+    Simulcast, SimulcastGroups, SimulcastLayer, SsrcInfo, VersionedSdp, Word, is_no_stream,
+    section_of,
 };
 pub use str0m_values::{
     Candidate, CandidateKind, Direction, Extension, Fingerprint, FingerprintError, FingerprintFmt,

@@ -2,8 +2,8 @@
 
 ghost use Rattle.std.specs.Prelude.{◌≡◌, IfOk};
 ghost use Rattle.str0m_sdp.specs.declared.attribute.MediaAttribute.TheVariants.{Fingerprint, Setup, Candidate, Unused};
-ghost use Rattle.str0m_signal.specs.FormTable.{made, texts, unused_read, first_byte, letter_read};
-ghost use Rattle.str0m_signal.specs.MediaAttribute.{media_texts, rtcp, mid, sctp_port, sctp_init, max_message_size, media_forms, named_read, media_read, IsMediaLine};
+ghost use Rattle.str0m_signal.specs.FormTable.{made, pairs, texts, unused_read, first_byte, letter_read};
+ghost use Rattle.str0m_signal.specs.MediaAttribute.{media_texts, media_pairs, rtcp, mid, sctp_port, sctp_init, max_message_size, media_forms, named_read, media_read, IsMediaLine};
 ghost use Rattle.str0m_signal.specs.TransportForms.{candidate, fingerprint, setup};
 ghost use Rattle.str0m_signal.specs.Chains.{Run};
 ghost use Rattle.str0m_signal.specs.Lines.{OneLine};
@@ -11,21 +11,21 @@ ghost use Rattle.str0m_signal.specs.LineReading.{lines_of, Takes};
 
 use crate::attributes::{Attribute, Place, attribute_run, taken, taken_result};
 use crate::ext_map::ext_map;
-use crate::fields::{kept, num_u64, role, short};
+use crate::fields::{both_kept, kept, num_u64, role, short};
 use crate::fingerprint::fingerprint;
 use crate::fmtp::fmtp;
 use crate::rid::rid;
 use crate::rtp_map::rtp_map;
 use crate::simulcast::simulcast_line;
-use crate::sources::{msid, rtcp_fb, ssrc, ssrc_group};
+use crate::sources::{rtcp_fb, ssrc, ssrc_group};
 use std::alloc::{AllocError, Global};
-use str0m_sdp::{MediaAttribute, label};
+use str0m_sdp::{MediaAttribute, Msid, label};
 use str0m_values::candidate_text::candidate;
 use str0m_values::cuts::{num_u16, strip};
 use str0m_values::{Items, Text};
 
-/// The credentials of ICE and its options.
-fn ice(alloc: Global, text: &str) -> Result<Option<MediaAttribute>, AllocError>
+/// The attributes that are a label and a text.
+fn labelled_text(alloc: Global, text: &str) -> Result<Option<MediaAttribute>, AllocError>
     ensures { IfOk result (λ found. found ≡ (texts media_texts).read text.now) }
 {
     if let Some(value) = kept(alloc, text, label::ICE_UFRAG)? {
@@ -36,6 +36,19 @@ fn ice(alloc: Global, text: &str) -> Result<Option<MediaAttribute>, AllocError>
     }
     match kept(alloc, text, label::ICE_OPTIONS)? {
         Some(value) => Ok(Some(MediaAttribute::IceOptions(value))),
+        None => Ok(None),
+    }
+}
+
+/// The attributes that are a label and two texts.
+fn labelled_pair(alloc: Global, text: &str) -> Result<Option<MediaAttribute>, AllocError>
+    ensures { IfOk result (λ found. found ≡ (pairs media_pairs).read text.now) }
+{
+    match both_kept(alloc, text, label::MSID)? {
+        Some((stream_id, track_id)) => Ok(Some(MediaAttribute::Msid(Msid {
+            stream_id,
+            track_id,
+        }))),
         None => Ok(None),
     }
 }
@@ -143,7 +156,7 @@ fn with_i<P: Place<MediaAttribute>>(
 ) -> Result<bool, AllocError>
     ensures { IfOk result (Takes P.Puts (letter_read media_forms 105 text.now) place.old place.new) }
 {
-    if taken_result(ice(alloc, text), place)? {
+    if taken_result(labelled_text(alloc, text), place)? {
         return Ok(true);
     }
     taken(MediaAttribute::from_word(text), place)
@@ -160,7 +173,7 @@ fn with_m<P: Place<MediaAttribute>>(
     if taken(mid(text), place)? {
         return Ok(true);
     }
-    if taken_result(msid(alloc, text), place)? {
+    if taken_result(labelled_pair(alloc, text), place)? {
         return Ok(true);
     }
     taken(max_message_size(text), place)

@@ -3,6 +3,7 @@
 ghost use Rattle.std.specs.Prelude.{All, IfOk};
 ghost use Rattle.str0m_sdp.specs.RowBounds.{HasBoundedRows};
 ghost use Rattle.str0m_signal.specs.Answers.{Answers, AtMostOne, IsRefusal, unread};
+ghost use Rattle.str0m_signal.specs.FromLine.{IsFromLine};
 ghost use Rattle.str0m_signal.specs.Lines.{FirstLine};
 ghost use Rattle.str0m_signal.specs.LineReading.{lines_of, left};
 ghost use Rattle.str0m_signal.specs.CandidateLine.{IsCandidateLine};
@@ -78,6 +79,9 @@ fn read_sdp(alloc: Global, text: &str) -> Result<(Sdp, &str), SdpError>
 pub fn session_parser(alloc: Global, text: &str) -> Result<(Session, &str), SdpError>
     ensures read { Answers unread result (SessionReading text.now) }
     ensures one { AtMostOne (SessionReading text.now) }
+
+    // The rest begins a line, or is nothing.
+    ensures rest { IfOk result (λ found. IsFromLine text.now found.1.now) }
 {
     read_session(alloc, text)
 }
@@ -93,6 +97,9 @@ pub fn session_parser(alloc: Global, text: &str) -> Result<(Session, &str), SdpE
 pub fn sdp_parser(alloc: Global, text: &str) -> Result<(Sdp, &str), SdpError>
     ensures read { Answers unread result (Reading text.now) }
     ensures one { AtMostOne (Reading text.now) }
+
+    // The rest begins a line, or is nothing.
+    ensures rest { IfOk result (λ found. IsFromLine text.now found.1.now) }
 
     // The rows of its sections have types of seven bits, and modes and distances in their ranges.
     ensures bounded { IfOk result (λ read. All HasBoundedRows read.0.media_lines) }
@@ -113,6 +120,9 @@ pub fn session_attribute_line(
 ) -> Result<(SessionAttribute, &str), SdpError>
     ensures read { Answers unread result (FirstLine IsSessionLine text.now) }
     ensures one { AtMostOne (FirstLine IsSessionLine text.now) }
+
+    // The rest begins a line, or is nothing.
+    ensures rest { IfOk result (λ found. IsFromLine text.now found.1.now) }
 {
     first_attribute(alloc, text)
 }
@@ -127,6 +137,9 @@ pub fn session_attribute_line(
 pub fn media_attribute_line(alloc: Global, text: &str) -> Result<(MediaAttribute, &str), SdpError>
     ensures read { Answers unread result (FirstLine IsMediaLine text.now) }
     ensures one { AtMostOne (FirstLine IsMediaLine text.now) }
+
+    // The rest begins a line, or is nothing.
+    ensures rest { IfOk result (λ found. IsFromLine text.now found.1.now) }
 {
     first_attribute(alloc, text)
 }
@@ -140,6 +153,9 @@ pub fn media_attribute_line(alloc: Global, text: &str) -> Result<(MediaAttribute
 pub fn candidate_attribute(alloc: Global, text: &str) -> Result<(Candidate, &str), SdpError>
     ensures read { Answers unread result (FirstLine IsCandidateLine text.now) }
     ensures one { AtMostOne (FirstLine IsCandidateLine text.now) }
+
+    // The rest begins a line, or is nothing.
+    ensures rest { IfOk result (λ found. IsFromLine text.now found.1.now) }
 {
     first_attribute(alloc, text)
 }

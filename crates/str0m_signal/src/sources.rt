@@ -1,47 +1,13 @@
-//! Lines of streams, of sources and of feedback.
+//! Lines of sources and of feedback.
 ghost use Rattle.std.specs.Prelude.{◌≡◌, IfOk};
-ghost use Rattle.str0m_values.specs.Cuts.{parts};
-ghost use Rattle.str0m_values.specs.Separator.{code};
-ghost use Rattle.str0m_signal.specs.FormReading.{text_read, two_read};
-ghost use Rattle.str0m_signal.specs.MediaAttribute.{msid, rtcp_fb, ssrc, ssrc_group};
+ghost use Rattle.str0m_signal.specs.MediaAttribute.{rtcp_fb, ssrc, ssrc_group};
 
+use crate::fields::two_texts;
 use crate::parts::parts;
 use std::alloc::{AllocError, Global};
-use str0m_sdp::{MediaAttribute, Msid, label};
+use str0m_sdp::{MediaAttribute, label};
 use str0m_values::cuts::{cut, num_u8, num_u32, strip};
 use str0m_values::{Pt, Separator, Ssrc, Text};
-
-/// The texts before and behind the first `at`, where neither is nothing.
-fn two_texts(text: &str, at: Separator) -> Option<(&str, &str)>
-    ensures { parts result ≡ two_read (code at) text_read text_read text.now }
-{
-    let (first, second) = cut(text, at)?;
-    if first.is_empty() {
-        return None;
-    }
-    if second.is_empty() {
-        return None;
-    }
-    Some((first, second))
-}
-
-/// The msid line of the text behind `a=`.
-pub(crate) fn msid(alloc: Global, text: &str) -> Result<Option<MediaAttribute>, AllocError>
-    ensures { IfOk result (λ found. found ≡ msid.read text.now) }
-{
-    let Some(body) = strip(text, label::MSID) else {
-        return Ok(None);
-    };
-    let Some((stream, track)) = two_texts(body, Separator::Space) else {
-        return Ok(None);
-    };
-    let stream_id = Text::from_str(alloc, stream)?;
-    let track_id = Text::from_str(alloc, track)?;
-    Ok(Some(MediaAttribute::Msid(Msid {
-        stream_id,
-        track_id,
-    })))
-}
 
 /// The rtcp-fb line of the text behind `a=`.
 pub(crate) fn rtcp_fb(alloc: Global, text: &str) -> Result<Option<MediaAttribute>, AllocError>

@@ -6,6 +6,7 @@ use Rattle.std.specs.Net.Text.{hex}
 use Rattle.std.specs.Str.Parse.{IsNumeral, digits_value}
 use Rattle.str0m_values.specs.declared.address.IpAddr.{IpAddr}
 use Rattle.str0m_values.specs.declared.address.IpAddr.TheVariants.{V4, V6}
+use Rattle.str0m_values.specs.declared.address.SocketAddr.{SocketAddr}
 use Rattle.str0m_values.specs.Joined.{Parted, joined}
 
 -- ---- what a text stands for
@@ -111,6 +112,14 @@ v6_text groups =
 abbrev pub ip_text : IpAddr → List ℕ
 ip_text (V4 octets) = v4_text octets
 ip_text (V6 groups) = v6_text groups
+
+-- an address in front of a port: in brackets where it has colons of its own (RFC 3986, section 3.2.2)
+abbrev pub host_text : IpAddr → List ℕ → List ℕ
+host_text (V4 octets) port = v4_text octets ++ (codes ":" ++ port)
+host_text (V6 groups) port = codes "[" ++ (v6_text groups ++ (codes "]:" ++ port))
+
+abbrev pub address_text : SocketAddr → List ℕ
+address_text addr = host_text addr.ip (decimal addr.port)
 
 -- what the types keep: four octets, or eight groups of 16 bits
 abbrev pub IsInRange : IpAddr → Type 0

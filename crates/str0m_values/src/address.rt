@@ -84,3 +84,18 @@ pub struct SocketAddr {
     pub ip: IpAddr,
     pub port: u16,
 }
+
+/// The address, a colon and the port, as URIs have them: a V6 address stands in brackets (RFC 3986, section 3.2.2).
+impl fmt::Display for SocketAddr {
+    ghost use Rattle.str0m_values.specs.Address.{address_text};
+
+    ghost output = { λ addr. Some (address_text addr) };
+
+    fn fmt<W: fmt::Write>(&self, f: &mut fmt::Formatter<W>) -> fmt::Result {
+        let SocketAddr { ip, port } = *self;
+        match ip {
+            IpAddr::V4(_) => write!(f, "{ip}:{port}"),
+            IpAddr::V6(_) => write!(f, "[{ip}]:{port}"),
+        }
+    }
+}

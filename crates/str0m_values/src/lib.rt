@@ -8,6 +8,7 @@ pub mod candidate_label;
 pub mod candidate_text;
 pub mod cuts;
 mod direction;
+pub mod direction_label;
 mod extension;
 mod fingerprint;
 mod frequency;

@@ -14,6 +14,8 @@ pub(crate) fn answers(answer: &mut Answer, word: &str, text: &str) -> bool {
         "rid-printed" => answer.show(&Rid::from(text)),
         "same-text" => answer.push(same_text(text)),
         "receiving" => answer.push(receiving(text)),
+        "direction" => ways(answer, direction(text)),
+        "direction-answered" => answered(answer, text),
         _ => return of_held_texts(answer, word, text),
     }
     true
@@ -53,6 +55,26 @@ fn receiving(text: &str) -> &'static str {
         Some(direction) if direction.sdp_is_receiving() => "yes",
         Some(_) => "no",
         None => "no direction",
+    }
+}
+
+/// The direction, what its side is ready for, and how the other side says the same.
+fn ways(answer: &mut Answer, direction: Option<Direction>) {
+    answer.show_or(&direction, "no direction");
+    if let Some(direction) = direction {
+        answer.push_if(direction.sends(), " sends");
+        answer.push_if(direction.receives(), " receives");
+        answer.push(", the other side says ");
+        answer.show(&direction.invert());
+    }
+}
+
+/// The direction that answers the first, where this side is ready for the second.
+fn answered(answer: &mut Answer, text: &str) {
+    let (offered, own) = text.split_once(' ').unwrap_or((text, ""));
+    match (direction(offered), direction(own)) {
+        (Some(offered), Some(own)) => answer.show(&offered.answer(own)),
+        _ => answer.push("no direction"),
     }
 }
 

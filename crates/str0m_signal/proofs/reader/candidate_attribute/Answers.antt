@@ -1,6 +1,9 @@
+use Rattle.str0m_signal.specs.CandidateLine.{IsCandidateLine}
+use Rattle.str0m_signal.specs.Lines.{OneLine}
 use Rattle.str0m_signal.proofs.AnswerLaws.{first_line, first_line_one}
 use Rattle.str0m_signal.proofs.Common.{candidate_both}
 use Rattle.str0m_signal.proofs.LineLaws.{attribute_both}
+use Rattle.str0m_signal.proofs.RestLaws.{one_leaves, left_from_line}
 use Rattle.str0m_signal.proofs.reader.candidate_attribute.Goals as goal
 
 pub returns-clause-read : goal.returns-clause-read
@@ -8,3 +11,6 @@ returns-clause-read c = first_line (attribute_both candidate_both) c.args.text.n
 
 pub returns-clause-one : goal.returns-clause-one
 returns-clause-one c = first_line_one (attribute_both candidate_both) c.args.text.now
+
+pub returns-clause-rest : goal.returns-clause-rest
+returns-clause-rest c = left_from_line (OneLine IsCandidateLine) (one_leaves IsCandidateLine) c.args.text.now c.first_attribute.result (returns-clause-read c)

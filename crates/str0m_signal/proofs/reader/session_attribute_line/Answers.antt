@@ -1,5 +1,8 @@
+use Rattle.str0m_signal.specs.SessionAttribute.{IsSessionLine}
+use Rattle.str0m_signal.specs.Lines.{OneLine}
 use Rattle.str0m_signal.proofs.AnswerLaws.{first_line, first_line_one}
 use Rattle.str0m_signal.proofs.SessionAgain.{session_line_both}
+use Rattle.str0m_signal.proofs.RestLaws.{one_leaves, left_from_line}
 use Rattle.str0m_signal.proofs.reader.session_attribute_line.Goals as goal
 
 pub returns-clause-read : goal.returns-clause-read
@@ -7,3 +10,6 @@ returns-clause-read c = first_line session_line_both c.args.text.now c.first_att
 
 pub returns-clause-one : goal.returns-clause-one
 returns-clause-one c = first_line_one session_line_both c.args.text.now
+
+pub returns-clause-rest : goal.returns-clause-rest
+returns-clause-rest c = left_from_line (OneLine IsSessionLine) (one_leaves IsSessionLine) c.args.text.now c.first_attribute.result (returns-clause-read c)

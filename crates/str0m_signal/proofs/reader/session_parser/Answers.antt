@@ -1,6 +1,7 @@
 use Rattle.str0m_signal.specs.Reading.{IsSession}
 use Rattle.str0m_signal.proofs.AnswerLaws.{text_answers, text_one}
 use Rattle.str0m_signal.proofs.ReadingLaws.{session_only}
+use Rattle.str0m_signal.proofs.RestLaws.{left_from_line, session_leaves}
 use Rattle.str0m_signal.proofs.reader.session_parser.Goals as goal
 
 pub returns-clause-read : goal.returns-clause-read
@@ -8,3 +9,6 @@ returns-clause-read c = text_answers IsSession c.args.text.now c.read_session.re
 
 pub returns-clause-one : goal.returns-clause-one
 returns-clause-one c = text_one IsSession session_only c.args.text.now
+
+pub returns-clause-rest : goal.returns-clause-rest
+returns-clause-rest c = left_from_line IsSession session_leaves c.args.text.now c.read_session.result (returns-clause-read c)
