@@ -165,7 +165,7 @@ const FORMS: [Form; 32] = [
         [LAST_SIZE, MORE, MORE, MORE, MORE, MORE],
     ),
     Form(label::MSID, Level::Section, WORDS),
-    Form(label::MSID_SEMANTIC, Level::Session, ONE_TEXT),
+    Form(label::MSID_SEMANTIC, Level::Session, WORDS),
     Form(label::GROUP, Level::Session, ONE_TEXT),
     Form(label::ICE_UFRAG, Level::Both, ONE_TEXT),
     Form(label::ICE_PWD, Level::Both, ONE_TEXT),

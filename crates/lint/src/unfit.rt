@@ -10,7 +10,7 @@ use crate::part::{Part, Place};
 use std::alloc::{AllocError, Global};
 use str0m_sdp::label::{APPLICATION, AUDIO, OLD_SCTP, SCTP, SRTP, VIDEO};
 use str0m_values::Separator;
-use str0m_values::cuts::{cut, has, strip};
+use str0m_values::cuts::{cut, strip};
 
 /// The parts of an m-line, as they stand there.
 #[derive(Clone, Copy)]
@@ -46,10 +46,17 @@ fn is_kind(text: &str) -> bool {
     }
 }
 
+/// The first carriage return of a line, of which nothing can be shown.
+fn lone_return(line: &str) -> Option<Part<'_>> {
+    let (front, _) = cut(line, Separator::CarriageReturn)?;
+    let behind = line.get(front.len()..).unwrap_or("");
+    Some(Part { shown: "", behind })
+}
+
 /// The parts of an m-line; or why the line is none, and the part at fault.
 pub(crate) fn media_line(line: &str) -> Result<Parts<'_>, (Unfit, Part<'_>)> {
-    if has(line, Separator::CarriageReturn) {
-        return Err((Unfit::LoneReturn, Part::to_end("")));
+    if let Some(part) = lone_return(line) {
+        return Err((Unfit::LoneReturn, part));
     }
     let Some((parts, behind)) = media_parts(line) else {
         return Err((Unfit::MediaParts, Part::to_end(line)));
@@ -83,8 +90,8 @@ fn fault(line: &str) -> (Unfit, Part<'_>) {
     if line.is_empty() {
         return (Unfit::Blank, whole);
     }
-    if has(line, Separator::CarriageReturn) {
-        return (Unfit::LoneReturn, Part::to_end(""));
+    if let Some(part) = lone_return(line) {
+        return (Unfit::LoneReturn, part);
     }
     match line.get(..2) {
         Some("m=") => match media_line(line) {
