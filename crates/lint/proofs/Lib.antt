@@ -1,0 +1,4 @@
+pub mod AttributeLaws
+pub mod FindingsLaws
+pub mod LineLaws
+pub mod NoteLaws

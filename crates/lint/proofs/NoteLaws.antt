@@ -1,0 +1,95 @@
+-- What one more finding changes.
+use Rattle.std.proofs.Common.{◌≡◌, ◌||◌, ℕ, Bool, true, false, cond, List, [], ◌∷◌, ◌++◌, Some, None, min, max, refl, ap, ◌∙◌, arith}
+use Rattle.std.specs.List.{cons_option}
+use Rattle.std.proofs.lemmas.List.{append-nil}
+use Rattle.std.proofs.lemmas.List.Elements.{filter_map-append}
+use Rattle.std.proofs.lemmas.List.Folds.{list_any-append}
+use Rattle.lint.specs.Code.{is_refusal, is_end, is_kept}
+use Rattle.lint.specs.Findings.{AddsOne, Ends, Keeps, ends, is_refused, kept, line_if, lines_of_kind}
+use Rattle.lint.specs.Lines.{IsNumbered}
+use Rattle.lint.specs.declared.code.Code.{Code}
+use Rattle.lint.specs.declared.code.Code.TheVariants.{Refused, Unread, Malformed, Unknown, Unseen}
+use Rattle.lint.specs.declared.code.Refusal.{Refusal}
+use Rattle.lint.specs.declared.code.Unfit.{Unfit}
+use Rattle.lint.specs.declared.code.Unseen.{Unseen as What}
+use Rattle.lint.specs.declared.finding.Finding.{Finding}
+use Rattle.lint.specs.declared.notes.Notes.{Notes}
+
+-- one item, or none
+abbrev one_if : Bool → ℕ → List ℕ
+one_if b n = cond b (n ∷ []) []
+
+alone : (b : Bool) (n : ℕ) → cons_option (cond b (Some n) None) [] ≡ one_if b n
+alone true n = refl
+alone false n = refl
+
+one_more : (is : Code → Bool) (old : List Finding) (f : Finding) → lines_of_kind is (old ++ f ∷ []) ≡ lines_of_kind is old ++ one_if (is f.code) f.line
+one_more is old f =
+    filter_map-append (line_if is) old (f ∷ []) ∙ ap (λ (t : List ℕ). lines_of_kind is old ++ t) (alone (is f.code) f.line)
+
+or_false : (b : Bool) → (b || false) ≡ b
+or_false true = refl
+or_false false = refl
+
+or_true : (b : Bool) → (b || true) ≡ true
+or_true true = refl
+or_true false = refl
+
+-- the lines of a kind with one more finding of a code
+added_lines : (is : Code → Bool) (line : ℕ) (code : Code) (old new : Notes) → AddsOne line code old new
+    → lines_of_kind is new.findings ≡ lines_of_kind is old.findings ++ one_if (is code) (min (max line 1) old.last)
+added_lines is line code old new (f, e, c, l) =
+    ap (lines_of_kind is) e ∙ one_more is old.findings f
+    ∙ ap (λ (k : Code). lines_of_kind is old.findings ++ one_if (is k) f.line) c
+    ∙ ap (λ (n : ℕ). lines_of_kind is old.findings ++ one_if (is code) n) l
+
+added_refusal : (line : ℕ) (code : Code) (old new : Notes) → AddsOne line code old new → is_refused new.findings ≡ (is_refused old.findings || is_refusal code)
+added_refusal line code old new (f, e, c, l) =
+    ap is_refused e ∙ list_any-append (λ finding. is_refusal finding.code) old.findings (f ∷ [])
+    ∙ ap (λ (b : Bool). is_refused old.findings || b) (or_false (is_refusal f.code))
+    ∙ ap (λ (k : Code). is_refused old.findings || is_refusal k) c
+
+-- a finding of a kind of which no clause counts the lines
+pub keeps_none : (line : ℕ) (what : What) (old new : Notes) → AddsOne line (Unseen what) old new → new.last ≡ old.last → Keeps [] old new
+keeps_none line what old new a last = record {
+  kept_are = added_lines is_kept line (Unseen what) old new a;
+  ends_stay = added_lines is_end line (Unseen what) old new a ∙ append-nil (ends old.findings);
+  refused_stays = added_refusal line (Unseen what) old new a ∙ or_false (is_refused old.findings);
+  last_stays = last;
+}
+
+numbered : (last line : ℕ) → IsNumbered last line → min (max line 1) last ≡ line
+numbered last line h = omega arith
+
+-- a line that is kept unread
+pub keeps_one : (line : ℕ) (code : Code) (old new : Notes) → is_kept code ≡ true → IsNumbered old.last line → AddsOne line code old new → new.last ≡ old.last
+    → Keeps (line ∷ []) old new
+keeps_one line (Malformed misfit) old new is here a last = record {
+  kept_are = added_lines is_kept line (Malformed misfit) old new a ∙ ap (λ (n : ℕ). kept old.findings ++ n ∷ []) (numbered old.last line here);
+  ends_stay = added_lines is_end line (Malformed misfit) old new a ∙ append-nil (ends old.findings);
+  refused_stays = added_refusal line (Malformed misfit) old new a ∙ or_false (is_refused old.findings);
+  last_stays = last;
+}
+keeps_one line (Unknown unknown) old new is here a last = record {
+  kept_are = added_lines is_kept line (Unknown unknown) old new a ∙ ap (λ (n : ℕ). kept old.findings ++ n ∷ []) (numbered old.last line here);
+  ends_stay = added_lines is_end line (Unknown unknown) old new a ∙ append-nil (ends old.findings);
+  refused_stays = added_refusal line (Unknown unknown) old new a ∙ or_false (is_refused old.findings);
+  last_stays = last;
+}
+keeps_one line (Refused refusal) old new is here a last = absurd cc
+keeps_one line (Unread unfit) old new is here a last = absurd cc
+keeps_one line (Unseen what) old new is here a last = absurd cc
+
+-- the line at which reading ends
+pub ends_one : (line : ℕ) (unfit : Unfit) (old new : Notes) → IsNumbered old.last line → AddsOne line (Unread unfit) old new → new.last ≡ old.last
+    → Ends line old new
+ends_one line unfit old new here a last = record {
+  ends_are = added_lines is_end line (Unread unfit) old new a ∙ ap (λ (n : ℕ). ends old.findings ++ n ∷ []) (numbered old.last line here);
+  kept_stay = added_lines is_kept line (Unread unfit) old new a ∙ append-nil (kept old.findings);
+  refused_stays = added_refusal line (Unread unfit) old new a ∙ or_false (is_refused old.findings);
+  last_stays = last;
+}
+
+-- the text is refused
+pub refuses : (line : ℕ) (refusal : Refusal) (old new : Notes) → AddsOne line (Refused refusal) old new → is_refused new.findings ≡ true
+refuses line refusal old new a = added_refusal line (Refused refusal) old new a ∙ or_true (is_refused old.findings)

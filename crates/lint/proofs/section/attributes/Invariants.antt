@@ -1,0 +1,10 @@
+use Rattle.std.proofs.Common.{◌≤◌, length}
+use Rattle.str0m_signal.proofs.Common.{Utf8, shadow}
+use Rattle.lint.proofs.section.attributes.Given as goal
+
+-- the rest is no longer than the text
+abbrev pub invariant-loop-line : goal.invariant-loop-line
+invariant-loop-line l = shadow (Utf8 l.rest) × (length l.rest ≤ length l.fn.text)
+
+abbrev pub decreases-loop-line : goal.decreases-loop-line
+decreases-loop-line l = length l.rest

@@ -1,0 +1,92 @@
+-- What findings say of a text.
+use Rattle.std.specs.Prelude.{◌≡◌, ◌↔◌, ◌+◌, ℕ, Bool, true, List, [], ◌∷◌, ◌++◌, Option, Some, None, filter_map, map, max, min, if◌then◌else◌}
+use Rattle.std.specs.Borrow.{Bor}
+use Rattle.std.specs.List.{list_any}
+use Rattle.str0m_sdp.specs.declared.error.SdpError.{SdpError}
+use Rattle.str0m_sdp.specs.declared.error.SdpError.TheVariants.{ParseError, Inconsistent, Memory}
+use Rattle.str0m_sdp.specs.declared.session.Sdp.{Sdp}
+use Rattle.str0m_signal.specs.Lines.{Line}
+use Rattle.str0m_signal.specs.LineReading.{lines_of}
+use Rattle.str0m_signal.specs.Reading.{Reading}
+use Rattle.lint.specs.declared.code.Code.{Code}
+use Rattle.lint.specs.declared.finding.Finding.{Finding}
+use Rattle.lint.specs.declared.notes.Notes.{Notes}
+use Rattle.lint.specs.declared.mark.Mark.{Mark}
+use Rattle.lint.specs.Code.{is_refusal, is_end, is_kept}
+use Rattle.lint.specs.Kept.{is_unread, kept_at, kept_flags}
+use Rattle.lint.specs.Lines.{attribute_numbers, unread_lines}
+
+-- the line of a finding whose code is such a one
+abbrev pub line_if : (Code → Bool) → Finding → Option ℕ
+line_if is finding = if is finding.code then Some finding.line else None
+
+-- the lines of such findings, in order
+abbrev pub lines_of_kind : (Code → Bool) → List Finding → List ℕ
+lines_of_kind is findings = filter_map (line_if is) findings
+
+-- the lines at which reading is said to end
+abbrev pub ends : List Finding → List ℕ
+ends findings = lines_of_kind is_end findings
+
+-- those that are said to be kept unread
+abbrev pub kept : List Finding → List ℕ
+kept findings = lines_of_kind is_kept findings
+
+-- the text is said to be refused
+abbrev pub is_refused : List Finding → Bool
+is_refused findings = list_any (λ finding. is_refusal finding.code) findings
+
+-- one finding is added, at this line where the text has it
+abbrev pub AddsOne : ℕ → Code → Notes → Notes → Type 0
+AddsOne line code old new =
+    (finding : Finding) × (new.findings ≡ old.findings ++ finding ∷ []) × (finding.code ≡ code) × (finding.line ≡ min (max line 1) old.last)
+
+-- such findings are added, in order: of lines that are kept unread, of these alone, and none that refuses the text or ends the reading
+pub record Keeps (lines : List ℕ) (old new : Notes) : Type 0 where
+  pub kept_are : kept new.findings ≡ kept old.findings ++ lines
+  pub ends_stay : ends new.findings ≡ ends old.findings
+  pub refused_stays : is_refused new.findings ≡ is_refused old.findings
+  pub last_stays : new.last ≡ old.last
+
+-- one finding is added: reading ends at this line
+pub record Ends (line : ℕ) (old new : Notes) : Type 0 where
+  pub ends_are : ends new.findings ≡ ends old.findings ++ line ∷ []
+  pub kept_stay : kept new.findings ≡ kept old.findings
+  pub refused_stays : is_refused new.findings ≡ is_refused old.findings
+  pub last_stays : new.last ≡ old.last
+
+-- the numbers of the attribute lines of a text that its description keeps unread
+abbrev pub kept_numbers : List ℕ → Sdp → List ℕ
+kept_numbers text sdp = kept_at (kept_flags sdp) (attribute_numbers 1 (lines_of text))
+
+-- of a text that is read so, with this rest, findings are added of the lines that are kept unread, and of the end where there is a rest
+pub record Tells (text : List ℕ) (sdp : Sdp) (rest : List ℕ) (old new : Notes) : Type 0 where
+  pub kept_are : kept new.findings ≡ kept old.findings ++ kept_numbers text sdp
+  pub ends_are : ends new.findings ≡ ends old.findings ++ unread_lines text rest
+  pub refused_stays : is_refused new.findings ≡ is_refused old.findings
+  pub last_stays : new.last ≡ old.last
+
+-- what is said of a line, by the attributes that were left before it and those that are left behind it: the numbers of lines that are kept
+-- unread begin with the line's own, if it is one
+pub record NotesLine (number : ℕ) (content : List ℕ) (left more : List Mark) (old new : Notes) : Type 0 where
+  pub own : List ℕ
+  pub keeps : Keeps own old new
+  pub rest_are : (ending : List ℕ) (lines : List Line)
+      → kept_at (map is_unread left) (attribute_numbers number (record { content = content; ending = ending } ∷ lines))
+      ≡ own ++ kept_at (map is_unread more) (attribute_numbers (number + 1) lines)
+
+-- the text is refused; or it is read so, with this rest
+abbrev pub ReadsAs : List ℕ → Option (Sdp × Bor (List ℕ)) → Type 0
+ReadsAs text None = (v : Sdp × List ℕ) → Reading text v → ⊥
+ReadsAs text (Some x) = Reading text (x.0, x.1.now)
+
+abbrev pub IsNoWant : SdpError → Type 0
+IsNoWant (ParseError message) = Unit {0}
+IsNoWant (Inconsistent message) = Unit {0}
+IsNoWant Memory = ⊥
+
+-- the findings are those of the text, whatever it is read as: whether it is refused, where reading ends, and which lines are kept unread
+pub record AreFindingsOf (text : List ℕ) (findings : List Finding) : Type 0 where
+  pub refused : (is_refused findings ≡ true) ↔ ((v : Sdp × List ℕ) → Reading text v → ⊥)
+  pub unread : (sdp : Sdp) (rest : List ℕ) → Reading text (sdp, rest) → ends findings ≡ unread_lines text rest
+  pub kept_are : (sdp : Sdp) (rest : List ℕ) → Reading text (sdp, rest) → kept findings ≡ kept_numbers text sdp

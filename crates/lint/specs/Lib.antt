@@ -1,0 +1,5 @@
+pub mod Code
+pub mod Findings
+pub mod Kept
+pub mod Lines
+pub mod Within

@@ -1,0 +1,51 @@
+//! Findings that are added to the others.
+ghost use Rattle.std.specs.Prelude.{◌≡◌, OnOk};
+ghost use Rattle.lint.specs.Findings.{AddsOne};
+
+use crate::code::Code;
+use crate::finding::Finding;
+use crate::lines::column_of;
+use crate::notes::Notes;
+use crate::part::{Part, Place};
+use std::alloc::AllocError;
+use str0m_values::Text;
+
+impl Notes {
+    /// Adds a finding: what is wrong by its code, what stands there, where there is something, and what to do. What is missing behind
+    /// the last line is said of that line.
+    pub(crate) fn add(&mut self, place: Place, code: Code, detail: &str) -> Result<(), AllocError>
+        ensures one { OnOk result (AddsOne place.line code self.old self.new) }
+        ensures last { self.new.last ≡ self.old.last }
+    {
+        let row = code.row();
+        let (title, remedy) = (row.title, row.remedy);
+        let colon = if detail.is_empty() { "" } else { ": " };
+        let sentence = format!(in self.alloc; "{title}{colon}{detail}; {remedy}")?;
+        let finding = Finding {
+            line: place.line.max(1).min(self.last),
+            column: place.column,
+            code,
+            sentence: Text::from(sentence),
+        };
+        self.findings.push(finding)
+    }
+
+    /// Adds a finding of a part of a line.
+    pub(crate) fn add_part(
+        &mut self,
+        number: usize,
+        line: &str,
+        code: Code,
+        part: Part<'_>,
+    ) -> Result<(), AllocError>
+        ensures one { OnOk result (AddsOne number code self.old self.new) }
+        ensures last { self.new.last ≡ self.old.last }
+    {
+        let detail = part.quoted(self.alloc)?;
+        let place = Place {
+            line: number,
+            column: column_of(line, part.behind),
+        };
+        self.add(place, code, detail.as_str())
+    }
+}

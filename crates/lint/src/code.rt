@@ -1,0 +1,180 @@
+//! The codes of findings: what is wrong, by kind.
+ghost use Rattle.std.specs.Prelude.{◌≡◌};
+ghost use Rattle.lint.specs.Code.{severity_of};
+
+use crate::rows;
+use crate::rows::Row;
+
+/// How much a finding matters.
+#[derive(Clone, Copy, Debug, PartialEq, Eq)]
+pub enum Severity {
+    /// The text is refused, or a part of it isn't read.
+    Error,
+    /// A line says nothing though it was meant to.
+    Warning,
+    /// Something is kept or left out that this layer doesn't know.
+    Note,
+}
+
+impl Severity {
+    /// The severity as reports write it: `error`, `warning` or `note`.
+    pub fn word(self) -> &'static str {
+        match self {
+            Severity::Error => "error",
+            Severity::Warning => "warning",
+            Severity::Note => "note",
+        }
+    }
+}
+
+/// Why a text is refused.
+#[derive(Clone, Copy, Debug)]
+pub enum Refusal {
+    /// It has no characters.
+    EmptyText,
+    /// It begins with U+FEFF.
+    ByteOrderMark,
+    /// It begins as an object, a list or a string of JSON does.
+    Json,
+    /// The first line isn't `v=0`.
+    Version,
+    /// The second line is no `o=` line.
+    Origin,
+    /// The third line is no `s=` line.
+    Name,
+    /// No line `t=0 0` ends the header.
+    Timing,
+    /// A section has no `a=mid`.
+    MissingMid,
+    /// A section has two of them.
+    SecondMid,
+    /// A section has two `a=setup`.
+    SecondSetup,
+    /// A section over RTP has no direction.
+    MissingDirection,
+    /// A section over RTP has two.
+    SecondDirection,
+    /// A section over RTP lists no payload type.
+    MissingType,
+    /// A payload type of the m-line has no `a=rtpmap`.
+    MissingMapping,
+    /// A payload type of the m-line has two.
+    SecondMapping,
+    /// Format lines of one payload type name two primary types.
+    Clash,
+}
+
+/// Why a line fits nowhere.
+#[derive(Clone, Copy, Debug)]
+pub enum Unfit {
+    /// It has no characters.
+    Blank,
+    /// It holds a carriage return without a line feed.
+    LoneReturn,
+    /// An m-line has fewer than four parts.
+    MediaParts,
+    /// The type of an m-line is none that is read.
+    MediaType,
+    /// The protocol of an m-line is none that is read.
+    Protocol,
+    /// The formats of an m-line begin with a space.
+    Formats,
+    /// A `c=` line stands behind others, or is empty.
+    Connection,
+    /// A `b=` line stands behind others, or has no type and value.
+    Bandwidth,
+    /// Nothing stands behind `a=`.
+    EmptyAttribute,
+    /// It is neither an attribute line nor an m-line.
+    NoAttribute,
+}
+
+/// Which part of a known attribute's line doesn't fit its form.
+#[derive(Clone, Copy, Debug)]
+pub enum Misfit {
+    /// A payload type isn't a number from 0 to 127.
+    PayloadType,
+    /// Feedback is said of all payload types.
+    AllTypes,
+    /// A number isn't one, or is too large.
+    Number,
+    /// A clock rate isn't a number of Hz above 0.
+    ClockRate,
+    /// The address of a candidate is no IP address.
+    HostName,
+    /// A role isn't one of three words.
+    Role,
+    /// The name of a stream holds other characters than letters and digits.
+    StreamName,
+    /// The direction of a stream is neither `send` nor `recv`.
+    StreamDirection,
+    /// Bytes of a fingerprint aren't pairs of hexadecimal digits.
+    Hash,
+    /// No value stands behind the colon.
+    Empty,
+    /// A part is missing at the end.
+    Missing,
+    /// Something stands behind an attribute that is a word alone.
+    Behind,
+    /// The line doesn't fit in another way.
+    Form,
+}
+
+/// Why a line is kept unread whose form isn't at fault.
+#[derive(Clone, Copy, Debug)]
+pub enum Unknown {
+    /// No attribute has this name.
+    Attribute,
+    /// The attribute is read on the other level alone.
+    Level,
+}
+
+/// What a line that is read leaves unknown.
+#[derive(Clone, Copy, Debug)]
+pub enum Unseen {
+    /// A codec isn't known.
+    Codec,
+    /// A format key or its value isn't known.
+    FormatKey,
+    /// Feedback isn't looked at.
+    Feedback,
+}
+
+/// What a finding says, by its kind.
+#[derive(Clone, Copy, Debug)]
+pub enum Code {
+    /// The text describes no session.
+    Refused(Refusal),
+    /// Reading ended at this line.
+    Unread(Unfit),
+    /// The line is kept unread, though its name is known.
+    Malformed(Misfit),
+    /// The line is kept unread, since its name isn't known there.
+    Unknown(Unknown),
+    /// The line is read, and says something that isn't known.
+    Unseen(Unseen),
+}
+
+impl Code {
+    /// How much findings of this code matter: errors are lost text, warnings lines that say nothing, notes the rest.
+    pub fn severity(self) -> Severity
+        ensures { result ≡ severity_of self }
+    {
+        match self {
+            Code::Refused(_) | Code::Unread(_) => Severity::Error,
+            Code::Malformed(_) => Severity::Warning,
+            Code::Unknown(_) | Code::Unseen(_) => Severity::Note,
+        }
+    }
+
+    /// The row of the table of codes: name, title, remedy, explanation, source and example.
+    pub fn row(self) -> &'static Row {
+        match self {
+            Code::Refused(refusal) => &rows::REFUSALS[refusal as usize],
+            Code::Unread(unfit) => &rows::UNFITS[unfit as usize],
+            Code::Malformed(misfit) => &rows::MISFITS[misfit as usize],
+            Code::Unknown(unknown) => &rows::UNKNOWNS[unknown as usize],
+            Code::Unseen(unseen) => &rows::UNSEENS[unseen as usize],
+        }
+    }
+}

@@ -1,0 +1,282 @@
+//! The forms of attributes as a person reads them, a part behind the other, to say which part of a line doesn't fit.
+
+use crate::code::Misfit;
+use crate::part::Part;
+use str0m_sdp::{SETUPS, label};
+use str0m_values::cuts::{before, cut, hex_u8, num_u8, num_u16, num_u32};
+use str0m_values::{IpAddr, Separator, candidate_label, case_of};
+
+/// Where an attribute is read.
+#[derive(Clone, Copy, PartialEq, Eq)]
+pub(crate) enum Level {
+    Session,
+    Section,
+    Both,
+}
+
+/// What a part of an attribute is.
+#[derive(Clone, Copy)]
+enum Kind {
+    Text,
+    PayloadType,
+    Extension,
+    Port,
+    Number,
+    Size,
+    Rate,
+    Channels,
+    Address,
+    Role,
+    Name,
+    Direction,
+    HexPair,
+    Any,
+}
+
+/// A part, what ends it, and whether the line may end behind it.
+#[derive(Clone, Copy)]
+struct Step(Kind, Separator, bool);
+
+// (a line holds no line feed: what one ends goes to the line's end)
+const TYPE: Step = Step(Kind::PayloadType, Separator::Space, false);
+
+const TYPE_OR_END: Step = Step(Kind::PayloadType, Separator::Space, true);
+
+const WORD: Step = Step(Kind::Text, Separator::Space, false);
+
+const NAME_OF_CODEC: Step = Step(Kind::Text, Separator::Slash, false);
+
+const RATE: Step = Step(Kind::Rate, Separator::Slash, true);
+
+const CHANNELS: Step = Step(Kind::Channels, Separator::LineFeed, true);
+
+const EXTENSION: Step = Step(Kind::Extension, Separator::Space, false);
+
+const NUMBER: Step = Step(Kind::Number, Separator::Space, false);
+
+const NUMBER_OR_END: Step = Step(Kind::Number, Separator::Space, true);
+
+const PORT: Step = Step(Kind::Port, Separator::Space, false);
+
+const LAST_PORT: Step = Step(Kind::Port, Separator::LineFeed, true);
+
+const LAST_SIZE: Step = Step(Kind::Size, Separator::LineFeed, true);
+
+const ADDRESS: Step = Step(Kind::Address, Separator::Space, false);
+
+const LAST_ROLE: Step = Step(Kind::Role, Separator::LineFeed, true);
+
+const NAME: Step = Step(Kind::Name, Separator::Space, false);
+
+const DIRECTION: Step = Step(Kind::Direction, Separator::Space, true);
+
+const HEX_PAIR: Step = Step(Kind::HexPair, Separator::Colon, true);
+
+const KEY: Step = Step(Kind::Text, Separator::Colon, false);
+
+const LAST: Step = Step(Kind::Text, Separator::LineFeed, true);
+
+const MORE: Step = Step(Kind::Any, Separator::LineFeed, true);
+
+/// How many parts of a form are told apart.
+const PARTS: usize = 6;
+
+/// An attribute: its label, where it is read, and its parts behind the label. A word alone has none.
+#[derive(Clone, Copy)]
+pub(crate) struct Form(&'static str, Level, [Step; PARTS]);
+
+const WORD_ALONE: [Step; PARTS] = [MORE; PARTS];
+
+const ONE_TEXT: [Step; PARTS] = [LAST, MORE, MORE, MORE, MORE, MORE];
+
+const WORDS: [Step; PARTS] = [WORD, LAST, MORE, MORE, MORE, MORE];
+
+const FORMS: [Form; 32] = [
+    Form(
+        label::RTPMAP,
+        Level::Section,
+        [TYPE, NAME_OF_CODEC, RATE, CHANNELS, MORE, MORE],
+    ),
+    Form(
+        label::FMTP,
+        Level::Section,
+        [TYPE_OR_END, MORE, MORE, MORE, MORE, MORE],
+    ),
+    Form(
+        label::RTCP_FB,
+        Level::Section,
+        [TYPE, LAST, MORE, MORE, MORE, MORE],
+    ),
+    Form(
+        label::EXTMAP,
+        Level::Section,
+        [EXTENSION, LAST, MORE, MORE, MORE, MORE],
+    ),
+    Form(
+        candidate_label::CANDIDATE,
+        Level::Both,
+        [WORD, PORT, WORD, NUMBER, ADDRESS, PORT],
+    ),
+    Form(
+        label::SSRC,
+        Level::Section,
+        [NUMBER, KEY, LAST, MORE, MORE, MORE],
+    ),
+    Form(
+        label::SSRC_GROUP,
+        Level::Section,
+        [
+            WORD,
+            NUMBER_OR_END,
+            NUMBER_OR_END,
+            NUMBER_OR_END,
+            NUMBER_OR_END,
+            MORE,
+        ],
+    ),
+    Form(
+        label::SETUP,
+        Level::Both,
+        [LAST_ROLE, MORE, MORE, MORE, MORE, MORE],
+    ),
+    Form(
+        label::FINGERPRINT,
+        Level::Both,
+        [WORD, HEX_PAIR, HEX_PAIR, HEX_PAIR, HEX_PAIR, HEX_PAIR],
+    ),
+    Form(
+        label::RID,
+        Level::Section,
+        [NAME, DIRECTION, MORE, MORE, MORE, MORE],
+    ),
+    Form(
+        label::SIMULCAST,
+        Level::Section,
+        [DIRECTION, MORE, MORE, MORE, MORE, MORE],
+    ),
+    Form(
+        label::SCTP_PORT,
+        Level::Section,
+        [LAST_PORT, MORE, MORE, MORE, MORE, MORE],
+    ),
+    Form(
+        label::MAX_MESSAGE_SIZE,
+        Level::Section,
+        [LAST_SIZE, MORE, MORE, MORE, MORE, MORE],
+    ),
+    Form(label::MSID, Level::Section, WORDS),
+    Form(label::MSID_SEMANTIC, Level::Session, WORDS),
+    Form(label::GROUP, Level::Session, ONE_TEXT),
+    Form(label::ICE_UFRAG, Level::Both, ONE_TEXT),
+    Form(label::ICE_PWD, Level::Both, ONE_TEXT),
+    Form(label::ICE_OPTIONS, Level::Both, ONE_TEXT),
+    Form(label::MID, Level::Section, ONE_TEXT),
+    Form(label::RTCP, Level::Section, ONE_TEXT),
+    Form(label::SCTP_INIT, Level::Section, ONE_TEXT),
+    Form(label::EXTMAP_ALLOW_MIXED, Level::Session, WORD_ALONE),
+    Form(label::ICE_LITE, Level::Session, WORD_ALONE),
+    Form(label::END_OF_CANDIDATES, Level::Both, WORD_ALONE),
+    Form(label::RECV_ONLY, Level::Section, WORD_ALONE),
+    Form(label::SEND_RECV, Level::Section, WORD_ALONE),
+    Form(label::SEND_ONLY, Level::Section, WORD_ALONE),
+    Form(label::INACTIVE, Level::Section, WORD_ALONE),
+    Form(label::RTCP_MUX, Level::Section, WORD_ALONE),
+    Form(label::RTCP_MUX_ONLY, Level::Section, WORD_ALONE),
+    Form(label::RTCP_RSIZE, Level::Section, WORD_ALONE),
+];
+
+/// Whether the text is one or more ASCII letters and digits, and letters of other scripts.
+fn is_name(text: &str) -> bool {
+    !text.is_empty()
+        && text
+            .bytes()
+            .all(|byte| byte.is_ascii_alphanumeric() || !byte.is_ascii())
+}
+
+/// What is said where the part isn't of this kind.
+fn fault(is: bool, misfit: Misfit) -> Option<Misfit> {
+    if is { None } else { Some(misfit) }
+}
+
+impl Kind {
+    /// Why the text isn't of this kind.
+    fn misfit(self, text: &str) -> Option<Misfit> {
+        if let Kind::Any = self {
+            return None;
+        }
+        if text.is_empty() {
+            return Some(Misfit::Missing);
+        }
+        match self {
+            Kind::Text | Kind::Any => None,
+            Kind::PayloadType => match text {
+                "*" => Some(Misfit::AllTypes),
+                _ => fault(num_u8(text, 127).is_some(), Misfit::PayloadType),
+            },
+            Kind::Extension => fault(
+                num_u8(before(text, Separator::Slash), 255).is_some(),
+                Misfit::Number,
+            ),
+            Kind::Channels => fault(num_u8(text, 255).is_some(), Misfit::Number),
+            Kind::Port => fault(num_u16(text).is_some(), Misfit::Number),
+            Kind::Number => fault(num_u32(text).is_some(), Misfit::Number),
+            Kind::Size => fault(text.parse::<u64>().is_ok(), Misfit::Number),
+            Kind::Rate => match num_u32(text) {
+                Some(rate) => fault(rate > 0, Misfit::ClockRate),
+                None => Some(Misfit::ClockRate),
+            },
+            Kind::Address => fault(IpAddr::from_text(text).is_some(), Misfit::HostName),
+            Kind::Role => fault(case_of(&SETUPS, text).is_some(), Misfit::Role),
+            Kind::Name => fault(is_name(text), Misfit::StreamName),
+            Kind::Direction => fault(text == "send" || text == "recv", Misfit::StreamDirection),
+            Kind::HexPair => fault(text.len() == 2 && hex_u8(text).is_some(), Misfit::Hash),
+        }
+    }
+}
+
+/// The name of an attribute: the text behind `a=` up to a colon or a space.
+pub(crate) fn name_of(text: &str) -> &str {
+    before(before(text, Separator::Colon), Separator::Space)
+}
+
+impl Form {
+    /// The form of the attribute of this name.
+    pub(crate) fn named(name: &str) -> Option<Form> {
+        FORMS
+            .iter()
+            .copied()
+            .find(|form| before(form.0, Separator::Colon) == name)
+    }
+
+    /// The label, with its colon where a value follows.
+    pub(crate) fn label(self) -> &'static str {
+        self.0
+    }
+
+    /// Where the attribute is read.
+    pub(crate) fn level(self) -> Level {
+        self.1
+    }
+
+    /// The first part of the value that doesn't fit; none where each that is told apart does.
+    pub(crate) fn misfit<'a>(self, value: &'a str) -> Option<(Misfit, Part<'a>)> {
+        let mut rest = value;
+        for step in self.2 {
+            let Step(kind, end, may_be_last) = step;
+            let (shown, more) = match cut(rest, end) {
+                Some((front, more)) => (front, Some(more)),
+                None => (rest, None),
+            };
+            if let Some(misfit) = kind.misfit(shown) {
+                let behind = rest;
+                return Some((misfit, Part { shown, behind }));
+            }
+            match more {
+                Some(more) => rest = more,
+                None if may_be_last => return None,
+                None => return Some((Misfit::Missing, Part::to_end(""))),
+            }
+        }
+        None
+    }
+}

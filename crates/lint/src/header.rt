@@ -1,0 +1,105 @@
+//! Which line of a header is at fault.
+ghost use Rattle.std.specs.Prelude.{◌≡◌, true, OnOk};
+ghost use Rattle.lint.specs.Findings.{is_refused};
+
+use crate::code::{Code, Refusal};
+use crate::fields::{is_bandwidth, is_field, is_info, is_origin};
+use crate::lines::next_line;
+use crate::notes::Notes;
+use crate::part::{Part, Place};
+use std::alloc::{AllocError, Global};
+
+/// Why a text is refused by its first characters.
+fn first_characters(text: &str) -> Option<Refusal> {
+    if text.is_empty() {
+        return Some(Refusal::EmptyText);
+    }
+    if text.starts_with('\u{feff}') {
+        return Some(Refusal::ByteOrderMark);
+    }
+    match text.trim_start().bytes().next() {
+        Some(b'{' | b'[' | b'"') => Some(Refusal::Json),
+        _ => None,
+    }
+}
+
+/// Which line of a header stands at a place.
+#[derive(Clone, Copy)]
+enum Step {
+    Version,
+    Origin,
+    Name,
+    Fields,
+    Timing,
+}
+
+impl Step {
+    /// The place behind the line, where it is one that may stand at this place.
+    fn behind(self, line: &str) -> Option<Step> {
+        match self {
+            Step::Version if line == "v=0" => Some(Step::Origin),
+            Step::Origin if is_origin(line) => Some(Step::Name),
+            Step::Name if is_field(line, "s=") => Some(Step::Fields),
+            Step::Fields if is_info(line) => Some(Step::Fields),
+            Step::Fields if is_bandwidth(line) => Some(Step::Timing),
+            _ => None,
+        }
+    }
+
+    /// What is said where another line stands there.
+    fn refusal(self) -> Refusal {
+        match self {
+            Step::Version => Refusal::Version,
+            Step::Origin => Refusal::Origin,
+            Step::Name => Refusal::Name,
+            Step::Fields | Step::Timing => Refusal::Timing,
+        }
+    }
+}
+
+/// The first line that may not stand where it does: what is said of it, how many lines stand before it, and the line, if the text has
+/// it.
+fn fault(text: &str) -> (Refusal, usize, Option<&str>) {
+    let mut step = Step::Version;
+    let mut before = 0usize;
+    let mut rest = text;
+    while let Some((line, after)) = next_line(rest) {
+        match step.behind(line) {
+            Some(next) => step = next,
+            None => return (step.refusal(), before, Some(line)),
+        }
+        before = before.saturating_add(1);
+        rest = after;
+    }
+    (step.refusal(), before, None)
+}
+
+/// What stands in a place.
+fn standing(alloc: Global, line: Option<&str>) -> Result<String, AllocError> {
+    let Some(line) = line else {
+        return String::from_str(alloc, "the text ends before it");
+    };
+    if line.is_empty() {
+        return String::from_str(alloc, "a blank line stands here");
+    }
+    let shown = Part::to_end(line).quoted(alloc)?;
+    format!(in alloc; "{shown} stands here")
+}
+
+/// Says why the first lines of a text refuse it.
+pub(crate) fn note_header(notes: &mut Notes, text: &str) -> Result<(), AllocError>
+    ensures refused { OnOk result (is_refused notes.new.findings ≡ true) }
+    ensures last { notes.new.last ≡ notes.old.last }
+{
+    if let Some(refusal) = first_characters(text) {
+        let place = Place { line: 1, column: 1 };
+        return notes.add(place, Code::Refused(refusal), "");
+    }
+    let (refusal, before, line) = fault(text);
+    let detail = standing(notes.alloc(), line)?;
+    let place = Place {
+        line: before.saturating_add(1),
+        column: 1,
+    };
+    notes.add(place, Code::Refused(refusal), detail.as_str())
+}

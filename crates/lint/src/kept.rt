@@ -1,0 +1,59 @@
+//! Why attribute lines are kept unread.
+ghost use Rattle.std.specs.Prelude.{◌≡◌, true};
+ghost use Rattle.lint.specs.Code.{is_kept};
+
+use crate::code::{Code, Misfit, Unknown};
+use crate::forms::{Form, Level, name_of};
+use crate::part::Part;
+use str0m_values::cuts::strip;
+
+/// Why a line is kept unread, and the part at fault.
+#[derive(Clone, Copy)]
+pub(crate) struct Reason<'a> {
+    pub(crate) code: Code,
+    pub(crate) part: Part<'a>,
+}
+
+/// Why the text behind `a=` isn't read on a level where its attribute is.
+fn misfit<'a>(form: Form, text: &'a str) -> (Misfit, Part<'a>) {
+    let whole = Part::to_end(text);
+    let Some(value) = strip(text, form.label()) else {
+        return (Misfit::Form, whole);
+    };
+    if !form.label().ends_with(':') {
+        return (Misfit::Behind, Part::to_end(value));
+    }
+    if value.is_empty() {
+        return (Misfit::Empty, whole);
+    }
+    form.misfit(value)
+        .unwrap_or((Misfit::Form, Part::to_end(value)))
+}
+
+/// Why the text behind `a=` is kept unread on this level.
+pub(crate) fn why_kept<'a>(level: Level, text: &'a str) -> Reason<'a>
+    ensures { is_kept result.code ≡ true }
+{
+    let name = name_of(text);
+    let named = Part {
+        shown: name,
+        behind: text,
+    };
+    let Some(form) = Form::named(name) else {
+        return Reason {
+            code: Code::Unknown(Unknown::Attribute),
+            part: named,
+        };
+    };
+    if form.level() != level && form.level() != Level::Both {
+        return Reason {
+            code: Code::Unknown(Unknown::Level),
+            part: named,
+        };
+    }
+    let (misfit, part) = misfit(form, text);
+    Reason {
+        code: Code::Malformed(misfit),
+        part,
+    }
+}

@@ -1,0 +1,27 @@
+//! What a session description loses where this layer reads it, and why one is refused, line by line.
+#![tactic(auto)]
+
+mod added;
+mod attribute_lines;
+mod code;
+mod contradiction;
+mod fields;
+mod finding;
+mod forms;
+mod found;
+mod header;
+mod kept;
+mod lines;
+mod mark;
+mod notes;
+mod part;
+mod refused;
+mod rows;
+mod section;
+mod unfit;
+mod unseen;
+
+pub use code::{Code, Misfit, Refusal, Severity, Unfit, Unknown, Unseen};
+pub use finding::{Finding, Report};
+pub use found::findings;
+pub use rows::{MISFITS, REFUSALS, Row, UNFITS, UNKNOWNS, UNSEENS};

@@ -1,0 +1,49 @@
+//! The lines of a text, and how many there are.
+ghost use Rattle.std.specs.Prelude.{◌≡◌, ◌<◌, IfSome, length};
+ghost use Rattle.str0m_signal.specs.LineReading.{lines_of};
+ghost use Rattle.lint.specs.Lines.{IsWithoutReturn, NextLine};
+
+use str0m_values::Separator;
+use str0m_values::cuts::cut;
+
+/// The text without the carriage return that ends it.
+
+fn without_return(line: &str) -> &str
+    ensures { IsWithoutReturn line.now result.now }
+{
+    line.strip_suffix('\r').unwrap_or(line)
+}
+
+/// The first line without its end, and the text behind it.
+#[tactic(auto, using(crate::proofs::LineLaws::line_at_end, crate::proofs::LineLaws::no_line))]
+pub(crate) fn next_line(text: &str) -> Option<(&str, &str)>
+    ensures line { NextLine text.now result }
+    ensures shorter { IfSome result (λ found. length found.1.now < length text.now) }
+{
+    if text.is_empty() {
+        return None;
+    }
+    match cut(text, Separator::LineFeed) {
+        Some((line, rest)) => Some((without_return(line), rest)),
+        None => Some((text, "")),
+    }
+}
+
+/// How many lines a text has.
+pub(crate) fn line_count(text: &str) -> usize
+    ensures { result ≡ length (lines_of text.now) }
+{
+    let mut count = 0;
+    let mut rest = text;
+    while let Some((_, after)) = next_line(rest) {
+        count += 1;
+        rest = after;
+    }
+    count
+}
+
+/// How many characters stand before a text that ends the line, counted from 1: the column at which that text begins.
+pub(crate) fn column_of(line: &str, behind: &str) -> usize {
+    let before = line.chars().count().saturating_sub(behind.chars().count());
+    before.saturating_add(1)
+}

@@ -1,0 +1,78 @@
+//! What is to be said of the attributes of a description, in the order of their lines.
+ghost use Rattle.std.specs.Prelude.{◌≡◌, ◌++◌, IfOk, OnOk, map};
+ghost use Rattle.lint.specs.Kept.{is_unread, is_unread_of_section, is_unread_of_session, kept_of_section, kept_of_session, kept_flags};
+
+use crate::code::Unseen;
+use crate::forms::Level;
+use crate::unseen::unseen;
+use std::alloc::{AllocError, Global};
+use str0m_sdp::{MediaAttribute, MediaLine, Sdp, SessionAttribute};
+
+/// What is to be said of an attribute.
+#[derive(Clone, Copy)]
+pub(crate) enum Mark {
+    /// It is kept unread, on this level.
+    Kept(Level),
+    /// It is read, and leaves this unknown.
+    Unseen(Unseen),
+    /// Nothing.
+    Known,
+}
+
+impl Mark {
+    fn of_session(attribute: &SessionAttribute) -> Mark
+        ensures { is_unread result ≡ is_unread_of_session attribute.now }
+    {
+        match attribute {
+            SessionAttribute::Unused(_) => Mark::Kept(Level::Session),
+            _ => Mark::Known,
+        }
+    }
+
+    fn of_section(attribute: &MediaAttribute) -> Mark
+        ensures { is_unread result ≡ is_unread_of_section attribute.now }
+    {
+        if let MediaAttribute::Unused(_) = attribute {
+            return Mark::Kept(Level::Section);
+        }
+        match unseen(attribute) {
+            Some(unseen) => Mark::Unseen(unseen),
+            None => Mark::Known,
+        }
+    }
+}
+
+/// The marks of a session's attributes, in order.
+pub(crate) fn session_marks(
+    alloc: Global,
+    attributes: &[SessionAttribute],
+) -> Result<Vec<Mark>, AllocError>
+    ensures { IfOk result (λ marks. map is_unread marks.items ≡ kept_of_session attributes.now) }
+{
+    let mut marks = Vec::new(alloc);
+    for attribute in attributes {
+        marks.push(Mark::of_session(attribute))?;
+    }
+    Ok(marks)
+}
+
+/// Adds the marks of a section's attributes, in order.
+pub(crate) fn add_section(marks: &mut Vec<Mark>, section: &MediaLine) -> Result<(), AllocError>
+    ensures { OnOk result (map is_unread marks.new.items ≡ map is_unread marks.old.items ++ kept_of_section section.now) }
+{
+    for attribute in section.attrs.as_slice() {
+        marks.push(Mark::of_section(attribute))?;
+    }
+    Ok(())
+}
+
+/// The marks of a description's attributes, in the order of their lines.
+pub(crate) fn all_marks(alloc: Global, sdp: &Sdp) -> Result<Vec<Mark>, AllocError>
+    ensures { IfOk result (λ marks. map is_unread marks.items ≡ kept_flags sdp.now) }
+{
+    let mut marks = session_marks(alloc, sdp.session.attrs.as_slice())?;
+    for section in sdp.media_lines.as_slice() {
+        add_section(&mut marks, section)?;
+    }
+    Ok(marks)
+}

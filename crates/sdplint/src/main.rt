@@ -1,0 +1,104 @@
+//! Says what session descriptions lose where this layer reads them, and why they are refused, line by line.
+#![tactic(auto)]
+
+mod command;
+mod explain;
+mod fault;
+mod output;
+mod records;
+
+use crate::command::{command, value};
+use crate::explain::explanation;
+use crate::fault::Fault;
+use crate::output::{Format, Output};
+use clap::ArgMatches;
+use clap::error::ErrorKind;
+use lint::findings;
+use std::io::{Read, Write};
+use std::process::ExitCode;
+use std::{env, fs, io};
+
+const STANDARD_INPUT: &str = "-";
+
+/// The text of a file, or of standard input.
+fn text_of(rt: &HostRuntime, file: &str) -> io::Result<String> {
+    if file != STANDARD_INPUT {
+        return fs::read_to_string(rt, file);
+    }
+    let mut text = String::new(rt.alloc());
+    rt.stdin().read_to_string(&mut text)?;
+    Ok(text)
+}
+
+/// Adds the findings of a file.
+fn add_file(rt: &HostRuntime, output: &mut Output, file: &str) -> Result<(), Fault> {
+    let text = match text_of(rt, file) {
+        Ok(text) => text,
+        Err(error) => return Err(Fault::of_reading(rt.alloc(), file, error)),
+    };
+    let report = findings(rt.alloc(), text.as_str())?;
+    output.add_report(file, report)?;
+    Ok(())
+}
+
+fn write(rt: &HostRuntime, text: &str) -> io::Result<()> {
+    let mut output = rt.stdout();
+    output.write_all(text.as_bytes())?;
+    output.flush()
+}
+
+/// Says what is found in all files; answers the exit status.
+fn lint(rt: &HostRuntime, matches: &ArgMatches<'_>) -> Result<u8, Fault> {
+    let format = Format::named(value(matches, "format"));
+    let mut output = Output::new(rt.alloc(), format, value(matches, "level"));
+    if let Some(files) = matches.get_strs("file") {
+        for file in files {
+            add_file(rt, &mut output, file)?;
+        }
+    }
+    let status = if output.is_silent() { 0 } else { 1 };
+    write(rt, output.into_text()?.as_str())?;
+    Ok(status)
+}
+
+fn words(rt: &HostRuntime) -> io::Result<Vec<String>> {
+    let mut words = Vec::new(rt.alloc());
+    for word in env::args(rt)? {
+        words.push(word)?;
+    }
+    Ok(words)
+}
+
+/// Runs the program; answers its exit status.
+fn run(rt: &HostRuntime) -> Result<u8, Fault> {
+    let words = words(rt)?;
+    let command = command(rt.alloc())?;
+    let matches = match command.try_get_matches_from(words.as_slice()) {
+        Ok(matches) => matches,
+        Err(error) => {
+            if let ErrorKind::OutOfMemory = error.kind() {
+                return Err(Fault::Memory);
+            }
+            error.print(rt)?;
+            // (--help and --version end with 0)
+            return Ok(if error.use_stderr() { 2 } else { 0 });
+        }
+    };
+    if matches.contains_id("explain") {
+        let text = explanation(rt.alloc(), value(&matches, "explain"))?;
+        write(rt, text.as_str())?;
+        return Ok(0);
+    }
+    lint(rt, &matches)
+}
+
+fn main(rt: HostRuntime) -> ExitCode {
+    match run(&rt) {
+        Ok(status) => ExitCode::from(status),
+        Err(fault) => {
+            // (nothing is left to be said where this can't be written)
+            let _ = eprintln!(rt; "sdplint: {fault}");
+            ExitCode::from(2)
+        }
+    }
+}

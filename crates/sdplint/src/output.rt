@@ -1,0 +1,152 @@
+//! What is written of all files.
+
+use crate::records::{log, record, sarif_result};
+use lint::{Finding, Report, Severity};
+use serde_json::Value;
+use std::alloc::{AllocError, Global};
+
+/// How findings are written.
+#[derive(Clone, Copy)]
+pub(crate) enum Format {
+    Text,
+    Json,
+    Sarif,
+}
+
+impl Format {
+    /// The format of a word of `--format`.
+    pub(crate) fn named(word: &str) -> Format {
+        match word {
+            "json" => Format::Json,
+            "sarif" => Format::Sarif,
+            _ => Format::Text,
+        }
+    }
+}
+
+/// How many findings of each severity are shown.
+#[derive(Clone, Copy)]
+struct Counts {
+    errors: usize,
+    warnings: usize,
+    notes: usize,
+}
+
+/// What is written of all files.
+#[derive(Drop)]
+pub(crate) struct Output {
+    alloc: Global,
+    format: Format,
+    level: Severity,
+    counts: Counts,
+    text: String,
+    values: Vec<Value>,
+}
+
+/// The severity of a word of `--level`.
+fn severity(word: &str) -> Severity {
+    match word {
+        "error" => Severity::Error,
+        "warning" => Severity::Warning,
+        _ => Severity::Note,
+    }
+}
+
+/// Whether a finding of this severity is shown at a level.
+fn is_shown(severity: Severity, level: Severity) -> bool {
+    match level {
+        Severity::Error => matches!(severity, Severity::Error),
+        Severity::Warning => !matches!(severity, Severity::Note),
+        Severity::Note => true,
+    }
+}
+
+impl Output {
+    pub(crate) fn new(alloc: Global, format: Format, level: &str) -> Output {
+        let counts = Counts {
+            errors: 0,
+            warnings: 0,
+            notes: 0,
+        };
+        Output {
+            alloc,
+            format,
+            level: severity(level),
+            counts,
+            text: String::new(alloc),
+            values: Vec::new(alloc),
+        }
+    }
+
+    fn count(&mut self, severity: Severity) {
+        match severity {
+            Severity::Error => self.counts.errors = self.counts.errors.saturating_add(1),
+            Severity::Warning => self.counts.warnings = self.counts.warnings.saturating_add(1),
+            Severity::Note => self.counts.notes = self.counts.notes.saturating_add(1),
+        }
+    }
+
+    fn add_line(&mut self, file: &str, finding: &Finding) -> Result<(), AllocError> {
+        let (line, column) = (finding.line, finding.column);
+        let (severity, code) = (finding.code.severity().word(), finding.code.row().name);
+        writeln!(
+            self.text,
+            "{file}:{line}:{column}: {severity}: {finding} [{code}]"
+        )
+    }
+
+    fn add(&mut self, file: &str, finding: &Finding) -> Result<(), AllocError> {
+        let value = match self.format {
+            Format::Text => return self.add_line(file, finding),
+            Format::Json => record(self.alloc, file, finding)?,
+            Format::Sarif => sarif_result(self.alloc, file, finding)?,
+        };
+        self.values.push(value)?;
+        Ok(())
+    }
+
+    /// Adds the findings of a file, by their lines.
+    pub(crate) fn add_report(&mut self, file: &str, report: Report) -> Result<(), AllocError> {
+        let mut findings = report.findings.into_vec();
+        findings.sort_by_key(|finding| (finding.line, finding.column))?;
+        for finding in &findings {
+            let severity = finding.code.severity();
+            if is_shown(severity, self.level) {
+                self.count(severity);
+                self.add(file, finding)?;
+            }
+        }
+        Ok(())
+    }
+
+    /// Whether nothing is shown.
+    pub(crate) fn is_silent(&self) -> bool {
+        let counts = self.counts;
+        counts.errors == 0 && counts.warnings == 0 && counts.notes == 0
+    }
+
+    /// What is written.
+    pub(crate) fn into_text(self) -> Result<String, AllocError> {
+        let Output {
+            alloc,
+            format,
+            level: _,
+            counts,
+            mut text,
+            values,
+        } = self;
+        let (errors, warnings, notes) = (counts.errors, counts.warnings, counts.notes);
+        match format {
+            Format::Text => writeln!(text, "{errors} errors, {warnings} warnings, {notes} notes")?,
+            Format::Json => {
+                let list = Value::Array(values).to_string(alloc)?;
+                writeln!(text, "{list}")?;
+            }
+            Format::Sarif => {
+                let log = log(alloc, values)?.to_string(alloc)?;
+                writeln!(text, "{log}")?;
+            }
+        }
+        Ok(text)
+    }
+}

@@ -1,0 +1,112 @@
+//! Findings as JSON and as SARIF 2.1.0.
+
+use lint::{Finding, MISFITS, REFUSALS, Row, UNFITS, UNKNOWNS, UNSEENS};
+use percent_encoding::{AsciiSet, NON_ALPHANUMERIC, utf8_percent_encode};
+use serde_json::{Value, json};
+use std::alloc::{AllocError, Global};
+
+/// All rows of the table of codes.
+pub(crate) fn tables() -> [&'static [Row]; 5] {
+    [
+        REFUSALS.as_slice(),
+        UNFITS.as_slice(),
+        MISFITS.as_slice(),
+        UNKNOWNS.as_slice(),
+        UNSEENS.as_slice(),
+    ]
+}
+
+/// A finding as an object.
+pub(crate) fn record(alloc: Global, file: &str, finding: &Finding) -> Result<Value, AllocError> {
+    let (line, column) = (finding.line as u64, finding.column as u64);
+    let severity = finding.code.severity().word();
+    let (code, message) = (finding.code.row().name, finding.sentence.as_str());
+    json!(in alloc; {
+        "file": file,
+        "line": line,
+        "column": column,
+        "severity": severity,
+        "code": code,
+        "message": message
+    })
+}
+
+/// The characters that a path keeps in a URI (RFC 3986, section 3.3).
+fn escaped() -> AsciiSet {
+    NON_ALPHANUMERIC
+        .remove(b'/')
+        .remove(b'.')
+        .remove(b'-')
+        .remove(b'_')
+        .remove(b'~')
+}
+
+/// The file as a URI, relative to where the program runs.
+fn uri(alloc: Global, file: &str) -> Result<String, AllocError> {
+    let mut uri = String::new(alloc);
+    utf8_percent_encode(file, escaped()).append_to(&mut uri)?;
+    Ok(uri)
+}
+
+/// A finding as a result of SARIF (section 3.27).
+pub(crate) fn sarif_result(
+    alloc: Global,
+    file: &str,
+    finding: &Finding,
+) -> Result<Value, AllocError> {
+    let (line, column) = (finding.line as u64, finding.column as u64);
+    let level = finding.code.severity().word();
+    let (code, message) = (finding.code.row().name, finding.sentence.as_str());
+    let uri = uri(alloc, file)?;
+    json!(in alloc; {
+        "ruleId": code,
+        "level": level,
+        "message": {"text": message},
+        "locations": [{
+            "physicalLocation": {
+                "artifactLocation": {"uri": uri},
+                "region": {"startLine": line, "startColumn": column}
+            }
+        }]
+    })
+}
+
+/// A code as a rule of SARIF (section 3.49).
+fn rule(alloc: Global, row: &Row) -> Result<Value, AllocError> {
+    let (id, title, explanation, remedy) = (row.name, row.title, row.explanation, row.remedy);
+    json!(in alloc; {
+        "id": id,
+        "shortDescription": {"text": title},
+        "fullDescription": {"text": explanation},
+        "help": {"text": remedy}
+    })
+}
+
+fn add_rules(alloc: Global, rules: &mut Vec<Value>, table: &[Row]) -> Result<(), AllocError> {
+    for row in table {
+        rules.push(rule(alloc, row)?)?;
+    }
+    Ok(())
+}
+
+fn rules(alloc: Global) -> Result<Value, AllocError> {
+    let mut rules = Vec::new(alloc);
+    for table in tables() {
+        add_rules(alloc, &mut rules, table)?;
+    }
+    Ok(Value::Array(rules))
+}
+
+/// A log of SARIF with one run (section 3.13).
+pub(crate) fn log(alloc: Global, results: Vec<Value>) -> Result<Value, AllocError> {
+    let (rules, results) = (rules(alloc)?, Value::Array(results));
+    json!(in alloc; {
+        "$schema": "https://json.schemastore.org/sarif-2.1.0.json",
+        "version": "2.1.0",
+        "runs": [{
+            "tool": {"driver": {"name": "sdplint", "version": "0.25.0", "rules": rules}},
+            "columnKind": "unicodeCodePoints",
+            "results": results
+        }]
+    })
+}

@@ -1,0 +1,85 @@
+#!/usr/bin/env python3
+"""Whether docs/LINT.md says of each code what the table of crates/lint says (src/rows.rt), which `sdplint --explain` prints, too.
+
+    scripts/lint_page.py --write   writes the page's tables from it
+
+The page's head is written by hand, down to the line `<!-- codes -->`; what follows is generated. Each row of the table stands in
+cases/lint/ with its code, as well."""
+import re
+import sys
+
+from proved import TOP
+
+TABLE = TOP / "crates" / "lint" / "src" / "rows.rt"
+CODES = TOP / "crates" / "lint" / "src" / "code.rt"
+PAGE = TOP / "docs" / "LINT.md"
+MARK = "<!-- codes -->\n"
+HEADS = {  # (of each table the kind, its severity and its head)
+    "REFUSALS": ("Refused", "Why a text is refused"),
+    "UNFITS": ("Unread", "Why a line fits nowhere"),
+    "MISFITS": ("Malformed", "Which part of a known attribute doesn't fit"),
+    "UNKNOWNS": ("Unknown", "Why a line is kept unread"),
+    "UNSEENS": ("Unseen", "What a line that is read leaves unknown"),
+}
+FIELDS = ("name", "title", "remedy", "explanation", "source", "example")
+ESCAPE = re.compile(r"\\(.)")
+
+
+def severities():
+    """The severity of each kind, as code.rt has it."""
+    for kinds, severity in re.findall(r"((?:Code::\w+\(_\)(?: \| )?)+) => Severity::(\w+)", CODES.read_text("utf-8")):
+        for kind in re.findall(r"Code::(\w+)", kinds):
+            yield kind, severity.lower()
+
+
+def tables():
+    """The rows of each table, as texts by their fields."""
+    for name, body in re.findall(r"^pub static (\w+): \[Row; \d+\] = \[\n(.*?)^\];", TABLE.read_text("utf-8"), re.M | re.S):
+        row = r"Row \{\s*" + r"\s*".join(rf'{it}: "((?:[^"\\]|\\.)*)",' for it in FIELDS)
+        yield name, [dict(zip(FIELDS, (ESCAPE.sub(r"\1", text) for text in found))) for found in re.findall(row, body)]
+
+
+def cell(text):
+    return text.replace("|", "\\|")
+
+
+def generated():
+    """What follows the page's head."""
+    severity = dict(severities())
+    for name, rows in tables():
+        kind, head = HEADS[name]
+        yield f"## {head}: {severity[kind]}s\n"
+        yield "| Code | What is wrong | What to do | Why | Example |\n|---|---|---|---|---|"
+        for row in rows:
+            example = f"`{row['example']}`" if row["example"] else "an empty file"
+            yield cell(f"`{row['name']}`") + " | ".join(["", *(cell(it) for it in (row["title"], row["remedy"], f"{row['explanation']} ({row['source']})", example))])
+        yield ""
+
+
+def page():
+    lines = [f"| {it} |" if it.startswith("`") else it for it in generated()]
+    return "\n".join(lines)
+
+
+def faults():
+    """What differs, and the codes that no case shows."""
+    if not PAGE.is_file() or MARK not in PAGE.read_text("utf-8"):
+        yield f"docs/LINT.md has no line {MARK.strip()}"
+    elif PAGE.read_text("utf-8").split(MARK, 1)[1] != page():
+        yield "docs/LINT.md: call scripts/lint_page.py --write"
+    cases = "".join(it.read_text("utf-8") for it in (TOP / "cases" / "lint").glob("*.txt"))
+    for name, rows in tables():
+        yield from (f"no case of cases/lint/ finds {row['name']}" for row in rows if not re.search(rf"^=> \d+:\d+ {row['name']}$", cases, re.M))
+
+
+def main():
+    if sys.argv[1:] == ["--write"]:
+        head = PAGE.read_text("utf-8").split(MARK, 1)[0]
+        PAGE.write_text(head + MARK + page(), "utf-8")
+    found = list(faults())
+    print("\n".join(found) or "docs/LINT.md says what the table says")
+    return 1 if found else 0
+
+
+if __name__ == "__main__":
+    sys.exit(main())
