@@ -1,7 +1,7 @@
 -- What attributes print: a line for each form (RFC 8866, sections 5.13 and 6). And which of them are a word alone.
-use Rattle.std.specs.Prelude.{ℕ, List, [], ◌∷◌, ◌++◌, Option, None, codes}
+use Rattle.std.specs.Prelude.{◌<◌, ◌^◌, ℕ, List, [], ◌∷◌, ◌++◌, Option, None, All, codes}
 use Rattle.std.specs.Fmt.{decimal}
-use Rattle.std.specs.Str.{bytes_eq}
+use Rattle.std.specs.Str.{bytes_eq, IsUtf8}
 use Rattle.str0m_values.specs.Candidate.{candidate_text}
 use Rattle.str0m_values.specs.Cuts.{◌<|>◌, when}
 use Rattle.str0m_values.specs.Fingerprint.{fingerprint_text}
@@ -12,7 +12,9 @@ use Rattle.str0m_sdp.specs.declared.attribute.SessionAttribute.{SessionAttribute
 use Rattle.str0m_sdp.specs.declared.attribute.SessionAttribute.TheVariants as session
 use Rattle.str0m_sdp.specs.declared.attribute.MediaAttribute.{MediaAttribute}
 use Rattle.str0m_sdp.specs.declared.attribute.MediaAttribute.TheVariants as media
+use Rattle.str0m_formats.specs.Bounds.{IsByte}
 use Rattle.str0m_sdp.specs.ExtMap.{ext_map_text}
+use Rattle.str0m_sdp.specs.FittingValues.{AreTexts, FitsCandidate, FitsFingerprint, FitsLayer, FitsParam, FitsRtpMap, IsMidText, IsPortNumber, IsSourceNumber}
 use Rattle.str0m_sdp.specs.Fmtp.{fmtp_text}
 use Rattle.str0m_sdp.specs.Group.{group_text, msid_semantic_text}
 use Rattle.str0m_sdp.specs.Lines.{attribute_line}
@@ -102,3 +104,40 @@ abbrev pub word_read : {A : Type 0} → List (List ℕ × A) → List ℕ → Op
 word_read [] text = None
 word_read (row ∷ []) text = when (bytes_eq text row.0) row.1
 word_read (row ∷ other ∷ rows) text = when (bytes_eq text row.0) row.1 <|> word_read (other ∷ rows) text
+
+-- ---- which values fit their types
+
+abbrev pub FitsSessionAttribute : SessionAttribute → Type 0
+FitsSessionAttribute (session.Group typ mids) = IsUtf8 typ × All IsMidText mids
+FitsSessionAttribute (session.MsidSemantic semantic ids) = IsUtf8 semantic × All IsUtf8 ids
+FitsSessionAttribute (session.IceUfrag text) = IsUtf8 text
+FitsSessionAttribute (session.IcePwd text) = IsUtf8 text
+FitsSessionAttribute (session.IceOptions text) = IsUtf8 text
+FitsSessionAttribute (session.Fingerprint hash) = FitsFingerprint hash
+FitsSessionAttribute (session.Candidate candidate) = FitsCandidate candidate
+FitsSessionAttribute (session.Unused text) = IsUtf8 text
+FitsSessionAttribute _ = Unit {0}
+
+abbrev pub FitsMediaAttribute : MediaAttribute → Type 0
+FitsMediaAttribute (media.Rtcp text) = IsUtf8 text
+FitsMediaAttribute (media.IceUfrag text) = IsUtf8 text
+FitsMediaAttribute (media.IcePwd text) = IsUtf8 text
+FitsMediaAttribute (media.IceOptions text) = IsUtf8 text
+FitsMediaAttribute (media.Fingerprint hash) = FitsFingerprint hash
+FitsMediaAttribute (media.Mid mid) = IsMidText mid
+FitsMediaAttribute (media.SctpPort port) = IsPortNumber port
+FitsMediaAttribute (media.MaxMessageSize size) = size < 2 ^ 64
+FitsMediaAttribute (media.SctpInit text) = IsUtf8 text
+FitsMediaAttribute (media.ExtMap id ext) = IsByte id × IsUtf8 ext.uri
+FitsMediaAttribute (media.Msid msid) = IsUtf8 msid.stream_id × IsUtf8 msid.track_id
+FitsMediaAttribute (media.Candidate candidate) = FitsCandidate candidate
+FitsMediaAttribute (media.RtpMap pt value) = IsByte pt × FitsRtpMap value
+FitsMediaAttribute (media.RtcpFb pt value) = IsByte pt × IsUtf8 value
+FitsMediaAttribute (media.Fmtp pt values) = IsByte pt × All FitsParam values
+FitsMediaAttribute (media.Rid id direction pts restrictions) =
+    IsUtf8 id.0 × IsUtf8 direction × All IsByte pts × All AreTexts restrictions
+FitsMediaAttribute (media.Simulcast simulcast) = All FitsLayer simulcast.send.0 × All FitsLayer simulcast.recv.0
+FitsMediaAttribute (media.SsrcGroup semantics ssrcs) = IsUtf8 semantics × All IsSourceNumber ssrcs
+FitsMediaAttribute (media.Ssrc ssrc attr value) = IsSourceNumber ssrc × IsUtf8 attr × IsUtf8 value
+FitsMediaAttribute (media.Unused text) = IsUtf8 text
+FitsMediaAttribute _ = Unit {0}

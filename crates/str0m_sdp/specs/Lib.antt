@@ -11,6 +11,7 @@ pub mod Error
 pub mod ExtMap
 pub mod Fault
 pub mod Feedback
+pub mod FittingValues
 pub mod Fmtp
 pub mod FmtpLines
 pub mod Group

@@ -1,11 +1,17 @@
 -- What a session description prints (RFC 8866, section 5).
-use Rattle.std.specs.Prelude.{◌<◌, ◌^◌, ℕ, List, ◌++◌, codes}
+use Rattle.std.specs.Prelude.{◌<◌, ◌^◌, ℕ, List, ◌++◌, All, IfSome, codes}
 use Rattle.std.specs.List.{flat_map}
 use Rattle.std.specs.Fmt.{decimal}
+use Rattle.std.specs.Str.{IsUtf8}
+use Rattle.str0m_formats.specs.Bounds.{IsByte}
+use Rattle.str0m_sdp.specs.declared.media_line.MediaLine.{MediaLine}
+use Rattle.str0m_sdp.specs.declared.media_type.MediaType.{MediaType}
+use Rattle.str0m_sdp.specs.declared.media_type.MediaType.TheVariants.{Unknown}
 use Rattle.str0m_sdp.specs.declared.session.Sdp.{Sdp}
 use Rattle.str0m_sdp.specs.declared.session.Session.{Session}
-use Rattle.str0m_sdp.specs.Attribute.{session_attribute_text}
+use Rattle.str0m_sdp.specs.Attribute.{FitsMediaAttribute, FitsSessionAttribute, session_attribute_text}
 use Rattle.str0m_sdp.specs.Bandwidth.{bandwidth_line}
+use Rattle.str0m_sdp.specs.FittingValues.{FitsBandwidth}
 use Rattle.str0m_sdp.specs.Lines.{line_end}
 use Rattle.str0m_sdp.specs.MediaLine.{media_line_text}
 
@@ -40,3 +46,24 @@ sdp_text sdp = session_text sdp.session ++ flat_map media_line_text sdp.media_li
 abbrev pub versioned_text : ℕ → Sdp → List ℕ
 versioned_text version sdp =
     session_lines (versioned_origin (decimal version) sdp.session.id) sdp.session ++ flat_map media_line_text sdp.media_lines
+
+-- ---- which values fit their types
+
+pub record FitsSession (s : Session) : Type 0 where
+  pub id : IsSessionNumber s.id
+  pub bandwidth : IfSome s.bw FitsBandwidth
+  pub attributes : All FitsSessionAttribute s.attrs
+
+abbrev pub FitsMediaType : MediaType → Type 0
+FitsMediaType (Unknown text) = IsUtf8 text
+FitsMediaType _ = Unit {0}
+
+pub record FitsSection (m : MediaLine) : Type 0 where
+  pub typ : FitsMediaType m.typ
+  pub pts : All IsByte m.pts
+  pub bandwidth : IfSome m.bw FitsBandwidth
+  pub attributes : All FitsMediaAttribute m.attrs
+
+pub record FitsSdp (sdp : Sdp) : Type 0 where
+  pub session : FitsSession sdp.session
+  pub sections : All FitsSection sdp.media_lines
