@@ -4,14 +4,11 @@ use Rattle.std.specs.List.{slice_get}
 use Rattle.str0m_sdp.specs.declared.media_line.MediaLine.{MediaLine}
 use Rattle.str0m_sdp.specs.declared.session.Sdp.{Sdp}
 use Rattle.exchange.specs.OfferSection.{next_section}
+use Rattle.exchange.specs.Places.{IsOver}
 use Rattle.exchange.specs.RejectedSection.{rejecting}
 use Rattle.exchange.specs.Stopped.{IsStoppedAt}
 use Rattle.exchange.specs.declared.exchange.Exchange.{Exchange}
 use Rattle.exchange.specs.declared.own_side.SectionDirection.{SectionDirection}
-
--- a place is over: this side's section there is disabled, or the other side has stopped its own
-abbrev pub IsOver : Exchange → ℕ → MediaLine → Type 0
-IsOver old at mine = (mine.disabled ≡ true) ⊎ IsSomeAnd old.remote (λ remote. IsStoppedAt remote at)
 
 -- the other side's section there
 abbrev pub theirs_at : Option Sdp → ℕ → Option MediaLine
@@ -30,8 +27,8 @@ but_first (added ∷ more) = more
 -- what is said at a place, and what is left of what is added
 abbrev pub FillsPlace : Exchange → List SectionDirection → ℕ → MediaLine → List MediaLine → MediaLine → List MediaLine → Type 0
 FillsPlace old ready at mine added said left =
-    ((IsOver old at mine → ⊥) × (said ≡ next_section old ready (theirs_at old.remote at) mine) × (left ≡ added))
-    ⊎ (IsOver old at mine × (said ≡ over_section added mine) × (left ≡ but_first added))
+    ((IsOver old.remote at mine → ⊥) × (said ≡ next_section old ready (theirs_at old.remote at) mine) × (left ≡ added))
+    ⊎ (IsOver old.remote at mine × (said ≡ over_section added mine) × (left ≡ but_first added))
 
 -- place by place from one on
 abbrev pub FillsPlaces : Exchange → List SectionDirection → ℕ → List MediaLine → List MediaLine → List MediaLine → List MediaLine → Type 0

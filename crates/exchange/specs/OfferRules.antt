@@ -13,8 +13,8 @@ use Rattle.str0m_sdp.specs.declared.media_line.MediaLine.{MediaLine}
 use Rattle.str0m_sdp.specs.declared.media_type.MediaType.{MediaType}
 use Rattle.str0m_sdp.specs.declared.media_type.MediaType.TheVariants.{Audio, Video}
 use Rattle.str0m_sdp.specs.declared.setup.Setup.TheVariants.{ActPass}
-use Rattle.exchange.specs.OfferPlaces.{IsOver}
 use Rattle.exchange.specs.OwnSide.{direction_among}
+use Rattle.exchange.specs.Places.{IsOver}
 use Rattle.exchange.specs.Rules.{HasShapeOf}
 use Rattle.exchange.specs.State.{taken_names}
 use Rattle.exchange.specs.Stopped.{name_of}
@@ -33,7 +33,7 @@ HasNewName old m = MatchOption (name_of m) ⊥ (IsNewName old)
 -- an earlier section has its place, with its type, protocol and name; or the place is over, and has a new one (RFC 3264, section 8;
 -- RFC 8829, section 5.2.2)
 abbrev pub KeepsPlace : Exchange → ℕ → MediaLine → MediaLine → Type 0
-KeepsPlace old at mine said = HasShapeOf mine said ⊎ (IsOver old at mine × HasNewName old said)
+KeepsPlace old at mine said = HasShapeOf mine said ⊎ (IsOver old.remote at mine × HasNewName old said)
 
 -- each place from one on, and there may be more behind them
 abbrev pub KeepsPlaces : Exchange → ℕ → List MediaLine → List MediaLine → Type 0

@@ -6,23 +6,13 @@ ghost use Rattle.exchange.specs.FreshNames.{AreAllTaken, AreFresh, AreTooFew, Is
 ghost use Rattle.exchange.specs.declared.exchange_error.ExchangeError.TheVariants.{Memory, NoName};
 
 use crate::exchange_error::ExchangeError;
+use crate::names::ordered;
 use std::alloc::{AllocError, Global};
 use std::collections::BTreeSet;
 use str0m_signal::{Items, Mid};
 
 /// Sections are named by numbers below this one.
 const NUMBERS: u64 = 0x1_0000_0000;
-
-/// The names in the order of their bytes, so that one is found among many without a look at each, whoever chose them.
-fn in_order(alloc: Global, names: &[Mid]) -> Result<BTreeSet<&str>, AllocError>
-    ensures { IfOk result (λ held. Holds held names.now) }
-{
-    let mut held = BTreeSet::new(alloc);
-    for name in names {
-        held.insert(name.as_str())?;
-    }
-    Ok(held)
-}
 
 fn is_taken(alloc: Global, held: &BTreeSet<&str>, number: u64) -> Result<bool, AllocError>
     ensures { IfOk result (λ answer. answer ≡ is_held held.now (Some (decimal number))) }
@@ -71,7 +61,7 @@ pub(crate) fn fresh_names(
     ensures different { IfOk result AreDistinct }
     ensures refused { IfErr result (λ error. (error ≡ Memory) ⊎ ((error ≡ NoName) × AreTooFew taken.now count)) }
 {
-    let held = in_order(alloc, taken)?;
+    let held = ordered(alloc, taken)?;
     let mut names = Items::empty(alloc);
     let mut from = 0;
     while names.len() < count {

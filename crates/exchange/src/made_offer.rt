@@ -15,19 +15,10 @@ use crate::exchange::Exchange;
 use crate::offer_extensions::extension_lines;
 use crate::offer_places::{filled_places, new_sections};
 use crate::own_side::SectionDirection;
+use crate::places::sections_of;
 use crate::stopped::name_of;
 use std::alloc::{AllocError, Global};
 use str0m_signal::{Items, MediaLine, Mid, Sdp, Session, SessionAttribute};
-
-/// The sections of this side in the last exchange; none before the first.
-fn sections_of(local: &Option<Sdp>) -> &[MediaLine]
-    ensures { result.now ≡ sections_of local.now }
-{
-    match local {
-        Some(sdp) => sdp.media_lines.as_slice(),
-        None => &[],
-    }
-}
 
 /// The lines of this side's session there.
 fn session_of(local: &Option<Sdp>) -> &[SessionAttribute]

@@ -1,34 +1,17 @@
 //! The places of an offer.
 ghost use Rattle.std.specs.Prelude.{◌≡◌, ◌++◌, ◌↔◌, IfOk, IsSomeAnd, IsTrue, if◌then◌else◌, map};
 ghost use Rattle.std.specs.Option.{option_copied};
-ghost use Rattle.exchange.specs.OfferPlaces.{FillsAll, IsOver, but_first, over_section, theirs_at};
+ghost use Rattle.exchange.specs.OfferPlaces.{FillsAll, but_first, over_section, theirs_at};
 ghost use Rattle.exchange.specs.OfferSection.{new_section, next_section};
-ghost use Rattle.exchange.specs.Stopped.{IsStoppedAt};
 
 use crate::added::Placed;
 use crate::exchange::Exchange;
 use crate::offer_section::{new_section, next_section};
 use crate::own_side::SectionDirection;
+use crate::places::is_over;
 use crate::rejected_section::rejected;
-use crate::stopped::is_stopped;
 use std::alloc::{AllocError, Global};
 use str0m_signal::{MediaAttribute, MediaLine, Sdp};
-
-/// Whether the other side has stopped its section at a place.
-fn is_theirs_stopped(remote: &Option<Sdp>, at: usize) -> bool
-    ensures { IsTrue result ↔ IsSomeAnd remote.now (λ remote. IsStoppedAt remote at) }
-{
-    match remote {
-        Some(remote) => is_stopped(remote, at),
-        None => false,
-    }
-}
-
-fn is_over(exchange: &Exchange, at: usize, mine: &MediaLine) -> bool
-    ensures { IsTrue result ↔ IsOver exchange.now at mine.now }
-{
-    mine.disabled || is_theirs_stopped(&exchange.remote, at)
-}
 
 fn theirs_at(remote: &Option<Sdp>, at: usize) -> Option<&MediaLine>
     ensures { option_copied result ≡ theirs_at remote.now at }
@@ -112,7 +95,7 @@ pub(crate) fn filled_places(
     let mut sections = Vec::new(*exchange.config.allocator());
     let mut left = added;
     for (at, mine) in places.iter().enumerate() {
-        let is_over = is_over(exchange, at, mine);
+        let is_over = is_over(&exchange.remote, at, mine);
         sections.push(place_section(exchange, ready, at, mine, is_over, left)?)?;
         left = left_of(is_over, left);
     }
