@@ -72,6 +72,12 @@ fn with_media<'a>(alloc: Global, command: Command<'a>) -> Result<Command<'a>, Al
     command
         .arg(direction(alloc, "audio", "what this side is ready for in audio"))?
         .arg(direction(alloc, "video", "what this side is ready for in video"))?
+        .arg(repeated(
+            alloc,
+            "direction",
+            "MID:DIRECTION",
+            "what this side is ready for in the section of a mid, as '0:recvonly'",
+        ))?
         .arg(option(
             alloc,
             "stream",
@@ -116,19 +122,43 @@ fn with_channels<'a>(alloc: Global, command: Command<'a>) -> Result<Command<'a>,
         .arg(flag(alloc, "no-channels", "take no data channels"))
 }
 
+/// The options of an offer of this side.
+fn with_offer<'a>(alloc: Global, command: Command<'a>) -> Result<Command<'a>, AllocError> {
+    command
+        .arg(flag(
+            alloc,
+            "offer",
+            "write an offer of this side, behind the offers that are answered",
+        ))?
+        .arg(repeated(
+            alloc,
+            "add",
+            "KIND[:DIRECTION]",
+            "what the offer adds, in order: audio, video or channels, as 'video:recvonly'",
+        ))?
+        .arg(repeated(
+            alloc,
+            "answer",
+            "FILE",
+            "answers to the offers of this side, in order, each followed by the next offer, of which the last is written",
+        ))
+}
+
 /// The program's words.
 pub(crate) fn command<'a>(alloc: Global) -> Result<Command<'a>, AllocError> {
-    let offers = Arg::new(alloc, "offer")
+    let offers = Arg::new(alloc, "offers")
         .value_name("OFFER")
         .action(ArgAction::Append)
-        .default_value("-")
         .help(
-            "files of the session's offers, in the order in which they came; '-' is standard input",
+            "files of the other side's offers, in the order in which they came; '-' is standard input, which is read where neither a file nor --offer is given",
         );
     let command = Command::new(alloc, "sdpexchange")
         .version("0.25.0")
-        .about("Answers the offers of a session, and writes the answer to the last")
+        .about(
+            "Answers the offers of a session, and writes the answer to the last; or makes an offer behind them",
+        )
         .arg(offers)?;
+    let command = with_offer(alloc, command)?;
     let command = with_transport(alloc, command)?;
     let command = with_media(alloc, command)?;
     with_channels(alloc, command)

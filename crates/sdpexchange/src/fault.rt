@@ -1,4 +1,4 @@
-//! Why no answer is written.
+//! Why nothing is written.
 
 use exchange::ExchangeError;
 use std::alloc::{AllocError, Global};
@@ -6,7 +6,7 @@ use std::io;
 use str0m_signal::Text;
 use thiserror::Error;
 
-/// Why no answer is written.
+/// Why nothing is written.
 #[derive(Debug, Drop, Error)]
 pub(crate) enum Fault {
     /// The value of an option isn't well formed.
@@ -21,19 +21,22 @@ pub(crate) enum Fault {
         file: Text,
         error: io::Error,
     },
-    /// A line of an offer fits nowhere.
+    /// A line of a text fits nowhere.
     #[error("{file}:{line}: this line fits nowhere, so what follows it isn't known; mend it or take it out: {text}")]
     Unread {
         file: Text,
         line: usize,
         text: Text,
     },
-    /// An offer isn't answered.
+    /// An offer isn't answered, or an answer isn't taken.
     #[error("{file}: {error}")]
     Refused {
         file: Text,
         error: ExchangeError,
     },
+    /// No offer of this side is made.
+    #[error("no offer: {0}")]
+    NoOffer(ExchangeError),
     /// The words or the answer can't be handed over.
     #[error("{0}")]
     Stream(io::Error),
@@ -54,8 +57,8 @@ impl Fault {
         }
     }
 
-    /// Why an offer wasn't answered.
-    pub(crate) fn of_offer(alloc: Global, file: &str, error: ExchangeError) -> Fault {
+    /// Why an offer wasn't answered, or an answer wasn't taken.
+    pub(crate) fn of_text(alloc: Global, file: &str, error: ExchangeError) -> Fault {
         let Ok(file) = Text::from_str(alloc, file) else {
             return Fault::Memory;
         };
@@ -63,6 +66,14 @@ impl Fault {
             ExchangeError::Memory => Fault::Memory,
             ExchangeError::Unread { line, text } => Fault::Unread { file, line, text },
             _ => Fault::Refused { file, error },
+        }
+    }
+
+    /// Why no offer of this side is made.
+    pub(crate) fn of_own(error: ExchangeError) -> Fault {
+        match error {
+            ExchangeError::Memory => Fault::Memory,
+            _ => Fault::NoOffer(error),
         }
     }
 

@@ -1,35 +1,27 @@
-//! Answers the offers of a session, in the order in which they came, and writes the answer to the last.
+//! Answers the offers of a session, in the order in which they came, and writes the answer to the last, or an offer of this side.
 #![tactic(auto)]
 
 mod codecs;
 mod command;
 mod fault;
+mod input;
+mod offering;
 mod own;
 
 use crate::codecs::configured;
 use crate::command::command;
 use crate::fault::Fault;
-use crate::own::{own_side, restarted};
+use crate::input::{STANDARD_INPUT, text_of};
+use crate::offering::own_offer;
+use crate::own::{own_side, restarted, set_directions};
 use clap::ArgMatches;
 use clap::error::ErrorKind;
 use exchange::{Exchange, is_ice_restart};
 use std::alloc::Global;
-use std::io::{Read, Write};
+use std::io::Write;
 use std::process::ExitCode;
-use std::{env, fs, io};
+use std::{env, io};
 use str0m_signal::{SdpError, SdpOffer};
-
-const STANDARD_INPUT: &str = "-";
-
-/// The text of a file, or of standard input.
-fn text_of(rt: &HostRuntime, file: &str) -> io::Result<String> {
-    if file != STANDARD_INPUT {
-        return fs::read_to_string(rt, file);
-    }
-    let mut text = String::new(rt.alloc());
-    rt.stdin().read_to_string(&mut text)?;
-    Ok(text)
-}
 
 /// Whether the offer restarts ICE. A text that is no offer restarts nothing: it is refused later.
 fn is_restart(alloc: Global, exchange: &Exchange, offer: &str) -> Result<bool, Fault> {
@@ -52,30 +44,36 @@ fn answer_to(
     file: &str,
 ) -> Result<String, Fault> {
     let alloc = rt.alloc();
-    let text = match text_of(rt, file) {
-        Ok(text) => text,
-        Err(error) => return Err(Fault::of_reading(alloc, file, error)),
-    };
+    let text = text_of(rt, file)?;
     // An answer to a restart says credentials of its own (RFC 8839, section 4.4.3.1).
     if is_restart(alloc, exchange, text.as_str())? {
         exchange.restart_ice(restarted(alloc, matches, number)?);
     }
     match exchange.accept_offer(text.as_str()) {
         Ok(answer) => Ok(answer.to_string(alloc)?),
-        Err(error) => Err(Fault::of_offer(alloc, file, error)),
+        Err(error) => Err(Fault::of_text(alloc, file, error)),
     }
 }
 
-/// The answer to the last offer, as text.
-fn last_answer(rt: &HostRuntime, matches: &ArgMatches<'_>) -> Result<String, Fault> {
+/// The answer to the last offer of the other side, or an offer of this side behind it, as text.
+fn last_text(rt: &HostRuntime, matches: &ArgMatches<'_>) -> Result<String, Fault> {
     let alloc = rt.alloc();
     let own = own_side(alloc, matches)?;
     let mut exchange = Exchange::new(own, configured(alloc, matches)?);
-    let mut answer = String::new(alloc);
-    if let Some(files) = matches.get_strs("offer") {
-        for (number, file) in files.iter().enumerate() {
-            answer = answer_to(rt, matches, &mut exchange, number, file)?;
+    set_directions(matches, &mut exchange)?;
+    let offers = matches.get_flag("offer");
+    let Some(files) = matches.get_strs("offers") else {
+        if offers {
+            return own_offer(rt, matches, &mut exchange);
         }
+        return answer_to(rt, matches, &mut exchange, 0, STANDARD_INPUT);
+    };
+    let mut answer = String::new(alloc);
+    for (number, file) in files.iter().enumerate() {
+        answer = answer_to(rt, matches, &mut exchange, number, file)?;
+    }
+    if offers {
+        return own_offer(rt, matches, &mut exchange);
     }
     Ok(answer)
 }
@@ -103,9 +101,9 @@ fn run(rt: &HostRuntime) -> Result<u8, Fault> {
             return Ok(if error.use_stderr() { 2 } else { 0 });
         }
     };
-    let answer = last_answer(rt, &matches)?;
+    let text = last_text(rt, &matches)?;
     let mut output = rt.stdout();
-    output.write_all(answer.as_bytes())?;
+    output.write_all(text.as_bytes())?;
     output.flush()?;
     Ok(0)
 }

@@ -3,19 +3,52 @@
 use crate::command::value;
 use crate::fault::Fault;
 use clap::ArgMatches;
-use exchange::{DataChannels, OwnSide, trickled_candidate};
+use exchange::{DataChannels, Exchange, OwnSide, trickled_candidate};
 use std::alloc::{AllocError, Global};
 use str0m_signal::{
-    Candidate, Direction, Fingerprint, FingerprintError, IceCreds, Items, SdpError, SessionId, Text,
+    Candidate, Direction, Fingerprint, FingerprintError, IceCreds, Items, Mid, SdpError, SessionId,
+    Text,
 };
 
-fn direction(matches: &ArgMatches<'_>, name: &str) -> Direction {
-    match value(matches, name) {
-        "sendonly" => Direction::SendOnly,
-        "recvonly" => Direction::RecvOnly,
-        "inactive" => Direction::Inactive,
-        _ => Direction::SendRecv,
+pub(crate) fn named_direction(word: &str) -> Option<Direction> {
+    match word {
+        "sendrecv" => Some(Direction::SendRecv),
+        "sendonly" => Some(Direction::SendOnly),
+        "recvonly" => Some(Direction::RecvOnly),
+        "inactive" => Some(Direction::Inactive),
+        _ => None,
     }
+}
+
+fn direction(matches: &ArgMatches<'_>, name: &str) -> Direction {
+    named_direction(value(matches, name)).unwrap_or(Direction::SendRecv)
+}
+
+fn section_direction(value: &str) -> Option<(Mid, Direction)> {
+    let (mid, word) = value.split_once(':')?;
+    Some((Mid::from(mid), named_direction(word)?))
+}
+
+/// Sets what this side is ready for in the sections that the options name.
+pub(crate) fn set_directions(
+    matches: &ArgMatches<'_>,
+    exchange: &mut Exchange,
+) -> Result<(), Fault> {
+    let Some(values) = matches.get_strs("direction") else {
+        return Ok(());
+    };
+    for value in values {
+        let Some((mid, direction)) = section_direction(value) else {
+            return Err(Fault::Option {
+                option: "direction",
+                why: "write the mid of a section, a colon and a direction, as 0:recvonly",
+            });
+        };
+        if let Err(error) = exchange.set_direction(mid, direction) {
+            return Err(Fault::of_own(error));
+        }
+    }
+    Ok(())
 }
 
 fn fingerprint(alloc: Global, matches: &ArgMatches<'_>) -> Result<Fingerprint, Fault> {
