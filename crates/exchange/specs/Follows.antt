@@ -1,5 +1,5 @@
 -- What holds over any list of calls of an exchange (RFC 3264, section 8; RFC 8829, section 5.2.2).
-use Rattle.std.specs.Prelude.{◌≡◌, ◌≢◌, ℕ, true, List, Option, None, Some, All, IfSome, length}
+use Rattle.std.specs.Prelude.{◌≡◌, ◌≢◌, ℕ, true, List, Option, None, All, IfSome, length}
 use Rattle.str0m_formats.specs.Promises.{LockedStay}
 use Rattle.str0m_sdp.specs.SessionConsistency.{is_listed}
 use Rattle.str0m_sdp.specs.declared.media_line.MediaLine.{MediaLine}

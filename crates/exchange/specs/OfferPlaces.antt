@@ -1,12 +1,11 @@
 -- The places of an offer: those of the last exchange, and what is added (RFC 3264, section 8; RFC 8829, section 5.2.2).
-use Rattle.std.specs.Prelude.{◌≡◌, ◌⊎◌, ◌+◌, ℕ, true, List, [], ◌∷◌, ◌++◌, Option, Some, None, IsSomeAnd}
+use Rattle.std.specs.Prelude.{◌≡◌, ◌⊎◌, ◌+◌, ℕ, List, [], ◌∷◌, ◌++◌, Option, Some, None}
 use Rattle.std.specs.List.{slice_get}
 use Rattle.str0m_sdp.specs.declared.media_line.MediaLine.{MediaLine}
 use Rattle.str0m_sdp.specs.declared.session.Sdp.{Sdp}
 use Rattle.exchange.specs.OfferSection.{next_section}
 use Rattle.exchange.specs.Places.{IsOver}
 use Rattle.exchange.specs.RejectedSection.{rejecting}
-use Rattle.exchange.specs.Stopped.{IsStoppedAt}
 use Rattle.exchange.specs.declared.exchange.Exchange.{Exchange}
 use Rattle.exchange.specs.declared.own_side.SectionDirection.{SectionDirection}
 
