@@ -225,8 +225,15 @@ def layers(offer, answer):
 def transports(offer, answer):
     for i, _, b in accepted(offer, answer):
         for name in ("ice-ufrag", "ice-pwd", "fingerprint", "setup"):
-            if b.value(name) is None:
+            if b.value(name) is None and answer.session.value(name) is None:
                 yield f"section {i}: no {name} (RFC 8829, section 5.3.1)"
+
+
+def own_transports(_, answer):
+    """Of an answer of this side: in each section. Firefox ends its process where a section of a bundle has no fingerprint."""
+    for i, b in enumerate(answer.sections):
+        if b.port != "0" and b.value("fingerprint") is None:
+            yield f"section {i}: no fingerprint of its own"
 
 
 def names(offer, answer):
@@ -241,10 +248,10 @@ def names(offer, answer):
 RULES = (same_sections, rejected_sections, directions, roles, rows, bundles, only_as_offered, layers, transports, names)
 
 
-def broken(offer, answer):
-    """The rules that the answer breaks, a line each."""
-    both = described(offer), described(answer)
-    return [f"{rule.__name__}: {fault}" for rule in RULES for fault in rule(*both)]
+def broken(offer, answer, is_own=True):
+    """The rules that the answer breaks, a line each; of an answer of this side further ones."""
+    both, rules = (described(offer), described(answer)), (*RULES, own_transports) if is_own else RULES
+    return [f"{rule.__name__}: {fault}" for rule in rules for fault in rule(*both)]
 
 
 def main(words):
