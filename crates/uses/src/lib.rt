@@ -1,5 +1,5 @@
 //! What callers do with the layer, in small functions. Each has a contract that follows from the public
-//! clauses of the libraries alone: there is no file of proofs here.
+//! clauses of the libraries alone: there is no file of proofs here but the invariant of the loop over the calls of a session.
 #![tactic(auto)]
 
 mod answer;
@@ -8,6 +8,7 @@ mod call_error;
 mod later_round;
 mod offered;
 mod own_section;
+mod session;
 mod stored;
 
 pub use answer::answer_section;
@@ -16,4 +17,5 @@ pub use call_error::CallError;
 pub use later_round::negotiate_again;
 pub use offered::offered_rows;
 pub use own_section::{own_frame, own_offer, own_sdp};
+pub use session::{Step, run};
 pub use stored::{ReadText, checked};
