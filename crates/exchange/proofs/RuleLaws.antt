@@ -26,7 +26,7 @@ use Rattle.exchange.proofs.OfferedLaws.{accepted_channels_offered, accepted_medi
 use Rattle.exchange.specs.Accepted.{AcceptsChannels, AcceptsMedia, candidate_line, first_lines, framed, layer_lines, media_lines, msid_lines}
 use Rattle.exchange.specs.AnsweredSection.{AnswersSection, SaysChoice}
 use Rattle.exchange.specs.Choice.{IsChoice, by_kind, by_name, channels_or_none, rows_or_none}
-use Rattle.exchange.specs.Direction.{AnswersDirection}
+use Rattle.str0m_values.specs.Direction.{AnswersDirection}
 use Rattle.exchange.specs.OwnSide.{own_direction}
 use Rattle.exchange.specs.RejectedSection.{direction_over, first_type, line_that, rejecting}
 use Rattle.exchange.specs.RepeatedLines.{repeated_lines}

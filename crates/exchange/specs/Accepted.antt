@@ -1,7 +1,7 @@
 -- What an accepted section says, line by line.
 use Rattle.std.specs.Prelude.{◌≡◌, ◌&&◌, ℕ, false, List, [], ◌∷◌, ◌++◌, Option, None, codes, filter_map, map, if◌then◌else◌}
 use Rattle.std.specs.Option.{option_or}
-use Rattle.str0m_values.specs.Direction.{receives}
+use Rattle.str0m_values.specs.Direction.{AnswersDirection, receives, sends}
 use Rattle.str0m_values.specs.declared.candidate.Candidate.{Candidate}
 use Rattle.str0m_values.specs.declared.direction.Direction.{Direction}
 use Rattle.str0m_formats.specs.declared.payload_params.PayloadParams.{PayloadParams}
@@ -15,11 +15,10 @@ use Rattle.str0m_sdp.specs.declared.attribute.MediaAttribute.TheVariants as medi
 use Rattle.str0m_sdp.specs.declared.media_line.MediaLine.{MediaLine}
 use Rattle.str0m_sdp.specs.declared.session.Sdp.{Sdp}
 use Rattle.str0m_sdp.specs.declared.setup.Setup.{Setup}
-use Rattle.exchange.specs.Direction.{AnswersDirection, sends}
 use Rattle.exchange.specs.Layers.{answered_layers}
 use Rattle.exchange.specs.OwnSide.{own_direction}
 use Rattle.exchange.specs.RepeatedLines.{repeated_lines}
-use Rattle.exchange.specs.Role.{AnswersRole}
+use Rattle.str0m_sdp.specs.Setup.{AnswersRole}
 use Rattle.exchange.specs.declared.own_side.DataChannels.{DataChannels}
 use Rattle.exchange.specs.declared.own_side.OwnSide.{OwnSide}
 

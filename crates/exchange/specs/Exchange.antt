@@ -14,7 +14,7 @@ use Rattle.exchange.specs.Offered.{IsOffer, Negotiates, RefusesText}
 use Rattle.exchange.specs.Places.{MovesAt}
 use Rattle.exchange.specs.ReadBack.{IsReadBack}
 use Rattle.exchange.specs.State.{sections_of, state_of, taken_names}
-use Rattle.exchange.specs.Versioned.{versioned_text}
+use Rattle.str0m_sdp.specs.Session.{versioned_text}
 use Rattle.exchange.specs.declared.exchange.Exchange.{Exchange}
 use Rattle.exchange.specs.declared.exchange_error.ExchangeError.{ExchangeError}
 use Rattle.exchange.specs.declared.exchange_error.ExchangeError.TheVariants.{NotRead, Unread, WrongState, DoesNotFit, NoRows, NoChannels, NoName, NotPrintable, Memory}
@@ -40,7 +40,7 @@ pub record IsUnprintable (old : Exchange) (text : List ℕ) : Type 0 where
   pub negotiated : Negotiates offer old.config.params.items ours
   pub answer : Sdp
   pub answers : AnswersOffer old.own ours offer answer
-  pub lost : IsReadBack answer (versioned_text answer old.version) → ⊥
+  pub lost : IsReadBack answer (versioned_text old.version answer) → ⊥
 
 -- why an offer isn't in the places of the last exchange
 abbrev pub RefusesPlaces : List (List ℕ) → List MediaLine → Option Sdp → Sdp → ExchangeError → Type 0
@@ -86,7 +86,7 @@ pub record IsLostOffer (old : Exchange) : Type 0 where
   pub as_many : length names ≡ length old.added
   pub offer : Sdp
   pub makes : MakesOffer old names offer
-  pub lost : IsReadBack offer (versioned_text offer old.version) → ⊥
+  pub lost : IsReadBack offer (versioned_text old.version offer) → ⊥
 
 -- why no offer is made
 abbrev pub RefusesToOffer : Exchange → ExchangeError → Type 0

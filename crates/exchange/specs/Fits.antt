@@ -1,7 +1,7 @@
 -- The rules that an answer to an offer of this side keeps.
 use Rattle.std.specs.Prelude.{◌≡◌, ◌≢◌, ◌⊎◌, ℕ, true, false, cond, List, [], Option, Some, None, All, filter_map, length}
 use Rattle.std.specs.List.{slice_get}
-use Rattle.str0m_values.specs.Direction.{receives}
+use Rattle.str0m_values.specs.Direction.{receives, sends}
 use Rattle.str0m_values.specs.declared.direction.Direction.{Direction}
 use Rattle.str0m_formats.specs.declared.payload_params.PayloadParams.{PayloadParams}
 use Rattle.str0m_sdp.specs.MediaType.{is_media}
@@ -11,7 +11,6 @@ use Rattle.str0m_sdp.specs.declared.media_line.MediaLine.{MediaLine}
 use Rattle.str0m_sdp.specs.declared.session.Sdp.{Sdp}
 use Rattle.str0m_sdp.specs.declared.setup.Setup.TheVariants.{ActPass}
 use Rattle.exchange.specs.Accepted.{setup_in_force}
-use Rattle.exchange.specs.Direction.{sends}
 use Rattle.exchange.specs.InBundle.{bundle_names, is_so_for}
 use Rattle.exchange.specs.Reached.{has_creds, has_fingerprint}
 use Rattle.exchange.specs.Rows.{answered_rows}

@@ -6,7 +6,6 @@ pub mod AnsweredSession
 pub mod Bundle
 pub mod Bundled
 pub mod Choice
-pub mod Direction
 pub mod Exchange
 pub mod ExchangeError
 pub mod Fits
@@ -29,7 +28,6 @@ pub mod ReadBack
 pub mod RejectedSection
 pub mod RepeatedLines
 pub mod Restart
-pub mod Role
 pub mod Rows
 pub mod Rules
 pub mod SignalingState
@@ -37,4 +35,3 @@ pub mod State
 pub mod Stopped
 pub mod Trickled
 pub mod TurnedLayers
-pub mod Versioned

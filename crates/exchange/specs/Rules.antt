@@ -16,9 +16,9 @@ use Rattle.str0m_sdp.specs.declared.proto.Proto.TheVariants.{Srtp, Sctp}
 use Rattle.str0m_sdp.specs.declared.session.Sdp.{Sdp}
 use Rattle.str0m_sdp.specs.declared.setup.Setup.{Setup}
 use Rattle.exchange.specs.Accepted.{setup_in_force}
-use Rattle.exchange.specs.Direction.{AnswersDirection}
+use Rattle.str0m_values.specs.Direction.{AnswersDirection}
 use Rattle.exchange.specs.OwnSide.{own_direction}
-use Rattle.exchange.specs.Role.{AnswersRole}
+use Rattle.str0m_sdp.specs.Setup.{AnswersRole}
 use Rattle.exchange.specs.Rows.{answered_rows}
 use Rattle.exchange.specs.Stopped.{IsStopped, name_of}
 use Rattle.exchange.specs.declared.own_side.OwnSide.{OwnSide}

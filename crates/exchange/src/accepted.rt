@@ -2,11 +2,9 @@
 ghost use Rattle.std.specs.Prelude.{◌≡◌, IfOk, map};
 ghost use Rattle.exchange.specs.Accepted.{AcceptsChannels, AcceptsMedia, candidate_line, channel_lines, first_lines, framed, layer_lines, media_lines, msid_lines, setup_in_force, track_id};
 
-use crate::direction::{answered_direction, sends};
 use crate::layers::answered_layers;
 use crate::own_side::{DataChannels, OwnSide};
 use crate::repeated_lines::repeated;
-use crate::role::answered_role;
 use std::alloc::{AllocError, Global};
 use str0m_signal::{
     Direction, Items, MediaAttribute, MediaLine, Mid, Msid, PayloadParams, Sdp, Setup, Text,
@@ -77,7 +75,7 @@ pub(crate) fn msid_lines(
 ) -> Result<Vec<MediaAttribute>, AllocError>
     ensures { IfOk result (λ lines. lines.items ≡ msid_lines own.now direction mid) }
 {
-    if !sends(direction) {
+    if !direction.sends() {
         return Ok(Vec::new(alloc));
     }
     let stream_id = own.stream_id.clone()?;
@@ -101,7 +99,7 @@ fn layer_lines(
 ) -> Result<Vec<MediaAttribute>, AllocError>
     ensures { IfOk result (λ lines. lines.items ≡ layer_lines own.now direction offered.now rows.now) }
 {
-    if own.receives_simulcast && direction.sdp_is_receiving() {
+    if own.receives_simulcast && direction.receives() {
         return answered_layers(alloc, offered, rows);
     }
     Ok(Vec::new(alloc))
@@ -165,8 +163,8 @@ pub(crate) fn accepted_media(
 ) -> Result<MediaLine, AllocError>
     ensures { IfOk result (AcceptsMedia own.now offer.now offered.now mid rows.now) }
 {
-    let role = answered_role(setup_in_force(offer, offered));
-    let direction = answered_direction(offered.direction(), own.direction_for(offered));
+    let role = Setup::answer(setup_in_force(offer, offered));
+    let direction = offered.direction().answer(own.direction_for(offered));
     let mut lines = first_lines(alloc, own, mid, role)?;
     lines.append(&mut media_lines(alloc, own, offered, mid, direction, rows)?)?;
     let frame = framed(alloc, offered, lines)?;
@@ -184,7 +182,7 @@ pub(crate) fn accepted_channels(
 ) -> Result<MediaLine, AllocError>
     ensures { IfOk result (AcceptsChannels own.now offer.now offered.now mid channels) }
 {
-    let role = answered_role(setup_in_force(offer, offered));
+    let role = Setup::answer(setup_in_force(offer, offered));
     let mut lines = first_lines(alloc, own, mid, role)?;
     lines.append(&mut channel_lines(alloc, channels)?)?;
     lines.append(&mut candidate_lines(alloc, own)?)?;

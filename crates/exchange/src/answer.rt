@@ -1,11 +1,10 @@
 //! Answers with their versions.
 ghost use Rattle.std.specs.Prelude.{◌≡◌, Some};
-ghost use Rattle.exchange.specs.Versioned.{versioned_text};
+ghost use Rattle.str0m_sdp.specs.Session.{versioned_text};
 
-use crate::versioned::Versioned;
 use std::fmt;
 use std::ops::Deref;
-use str0m_signal::Sdp;
+use str0m_signal::{Sdp, VersionedSdp};
 
 /// A description that answers an offer, with its version: of two answers of one session the later has the greater
 /// (RFC 3264, section 8). It derefs to its description.
@@ -42,11 +41,11 @@ impl Deref for Answer {
 
 /// The text of the answer, each line ended by CR LF.
 impl fmt::Display for Answer {
-    ghost output = { λ answer. Some (versioned_text answer.sdp answer.version) };
+    ghost output = { λ answer. Some (versioned_text answer.version answer.sdp) };
 
     fn fmt<W: fmt::Write>(&self, f: &mut fmt::Formatter<W>) -> fmt::Result {
         let sdp = &self.sdp;
         let version = self.version;
-        Versioned { sdp, version }.fmt(f)
+        VersionedSdp { sdp, version }.fmt(f)
     }
 }

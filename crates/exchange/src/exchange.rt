@@ -21,7 +21,7 @@ ghost use Rattle.exchange.specs.Places.{StaysInPlaces};
 ghost use Rattle.exchange.specs.ReadBack.{IsReadBack};
 ghost use Rattle.exchange.specs.Rules.{HasShapeOf, IsAcceptedExactly, KeepsRules};
 ghost use Rattle.exchange.specs.State.{pending_sdp, sections_of, state_of, taken_names};
-ghost use Rattle.exchange.specs.Versioned.{versioned_text};
+ghost use Rattle.str0m_sdp.specs.Session.{versioned_text};
 ghost use Rattle.exchange.specs.declared.added.Added.TheVariants.{Media, Channels};
 ghost use Rattle.exchange.specs.declared.exchange_error.ExchangeError.TheVariants.{Memory};
 ghost use Rattle.exchange.specs.declared.signaling_state.SignalingState.TheVariants.{Stable};
@@ -43,9 +43,8 @@ use crate::places::{first_moved, sections_of};
 use crate::read_back::is_read_back;
 use crate::rule::Rule;
 use crate::signaling_state::SignalingState;
-use crate::versioned::Versioned;
 use std::alloc::{AllocError, Global};
-use str0m_signal::{CodecConfig, Direction, IceCreds, Items, MediaKind, Mid, Sdp};
+use str0m_signal::{CodecConfig, Direction, IceCreds, Items, MediaKind, Mid, Sdp, VersionedSdp};
 
 /// One side of an exchange of offers and answers (RFC 3264; RFC 8829).
 #[derive(Drop)]
@@ -85,9 +84,9 @@ fn answer_to(
 
 /// Whether the other side reads a description with this version as what it says.
 fn is_printable(alloc: Global, sdp: &Sdp, version: u64) -> Result<bool, AllocError>
-    ensures { IfOk result (λ answer. IsTrue answer ↔ IsReadBack sdp.now (versioned_text sdp.now version)) }
+    ensures { IfOk result (λ answer. IsTrue answer ↔ IsReadBack sdp.now (versioned_text version sdp.now)) }
 {
-    let text = Versioned { sdp, version }.to_string(alloc)?;
+    let text = VersionedSdp { sdp, version }.to_string(alloc)?;
     is_read_back(alloc, sdp, text.as_str())
 }
 
@@ -304,7 +303,7 @@ impl Exchange {
         ensures places { IfOk result (λ offer. KeepsPlaces self.old 0 (sections_of self.old.local) offer.sdp.media_lines) }
         ensures rules { IfOk result (λ offer. All (IsOffered self.old (ready_with self.old offer.added)) offer.sdp.media_lines) }
         ensures different { AreDistinct (section_mids (sections_of self.old.local)) → IfOk result (λ offer. AreDistinct (section_mids offer.sdp.media_lines)) }
-        ensures read_back { IfOk result (λ offer. IsReadBack offer.sdp (versioned_text offer.sdp offer.version)) }
+        ensures read_back { IfOk result (λ offer. IsReadBack offer.sdp (versioned_text offer.version offer.sdp)) }
         ensures version { IfOk result (λ offer. offer.version ≡ self.old.version) }
         ensures waits { IfOk result (λ offer. self.new ≡ record self.old {
           pending = Some (record { sdp = offer.sdp; placed = placed_as self.old offer.added });
@@ -364,7 +363,7 @@ impl Exchange {
         // Line by line, and as a whole with its bundle.
         ensures answers { IfOk result (λ answer. IsSomeAnd self.new.remote (λ remote.
             AnswersOffer self.old.own self.new.config.params.items remote answer.sdp)) }
-        ensures read_back { IfOk result (λ answer. IsReadBack answer.sdp (versioned_text answer.sdp answer.version)) }
+        ensures read_back { IfOk result (λ answer. IsReadBack answer.sdp (versioned_text answer.version answer.sdp)) }
         ensures negotiated { IfOk result (λ answer. IsSomeAnd self.new.remote (λ remote.
             Negotiates remote self.old.config.params.items self.new.config.params.items)) }
         ensures stay { IfOk result (λ answer. LockedStay self.old.config.params.items self.new.config.params.items) }

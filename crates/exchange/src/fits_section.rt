@@ -14,7 +14,6 @@ ghost use Rattle.exchange.specs.TurnedLayers.{TurnsLayers};
 
 use crate::accepted::setup_in_force;
 use crate::bundled::Bundled;
-use crate::direction::sends;
 use crate::offered_lines::says_only_offered;
 use crate::places::is_same_name;
 use crate::read_back::{is_same_proto, is_same_type};
@@ -44,8 +43,7 @@ const RULES: [Rule; 11] = [
 fn flows_within(offered: Direction, answered: Direction) -> bool
     ensures { IsTrue result ↔ FlowsWithin offered answered }
 {
-    (!sends(answered) || offered.sdp_is_receiving())
-        && (!answered.sdp_is_receiving() || sends(offered))
+    (!answered.sends() || offered.receives()) && (!answered.receives() || offered.sends())
 }
 
 /// Whether an accepted section of media flows so.

@@ -1,11 +1,10 @@
 //! Offers with their versions.
 ghost use Rattle.std.specs.Prelude.{◌≡◌, Some};
-ghost use Rattle.exchange.specs.Versioned.{versioned_text};
+ghost use Rattle.str0m_sdp.specs.Session.{versioned_text};
 
-use crate::versioned::Versioned;
 use std::fmt;
 use std::ops::Deref;
-use str0m_signal::{Items, Mid, Sdp};
+use str0m_signal::{Items, Mid, Sdp, VersionedSdp};
 
 /// A description that this side offers, with its version: of two descriptions of one session the later has the greater
 /// (RFC 3264, section 8). It derefs to its description.
@@ -54,11 +53,11 @@ impl Deref for Offer {
 
 /// The text of the offer, each line ended by CR LF.
 impl fmt::Display for Offer {
-    ghost output = { λ offer. Some (versioned_text offer.sdp offer.version) };
+    ghost output = { λ offer. Some (versioned_text offer.version offer.sdp) };
 
     fn fmt<W: fmt::Write>(&self, f: &mut fmt::Formatter<W>) -> fmt::Result {
         let sdp = &self.sdp;
         let version = self.version;
-        Versioned { sdp, version }.fmt(f)
+        VersionedSdp { sdp, version }.fmt(f)
     }
 }

@@ -1,12 +1,9 @@
-//! Directions and roles that answer others, what is in force at a section, and candidates.
+//! What is in force at a section, and candidates.
 
-use exchange::{
-    answered_direction, answered_role, creds_at, fingerprint_at, inverted, sends, setup_at,
-    trickled_candidate,
-};
+use exchange::{creds_at, fingerprint_at, setup_at, trickled_candidate};
 use std::alloc::Global;
 use std::test::Fail;
-use str0m_signal::{Direction, Sdp, SdpError, Setup, sdp_parser};
+use str0m_signal::{Sdp, SdpError, Setup, sdp_parser};
 
 /// Four sections: one with a transport of its own, one bundled alone, one stopped, and one that says
 /// bundle-only outside the group.
@@ -16,33 +13,6 @@ const OFFER: &str =
 fn offer(alloc: Global) -> Result<Sdp, SdpError> {
     let (offer, _) = sdp_parser(alloc, OFFER)?;
     Ok(offer)
-}
-
-#[test]
-fn a_direction_answers_the_offered_one(rt: HostRuntime) {
-    let (both, sends_alone, receives_alone) = (
-        Direction::SendRecv,
-        Direction::SendOnly,
-        Direction::RecvOnly,
-    );
-    assert_eq!(rt; answered_direction(both, both), both);
-    assert_eq!(rt; answered_direction(sends_alone, both), receives_alone);
-    assert_eq!(rt; answered_direction(receives_alone, both), sends_alone);
-    assert_eq!(rt;
-        answered_direction(sends_alone, sends_alone),
-        Direction::Inactive
-    );
-    assert_eq!(rt; answered_direction(both, receives_alone), receives_alone);
-    assert_eq!(rt; inverted(sends_alone), receives_alone);
-    assert!(rt; sends(sends_alone));
-}
-
-#[test]
-fn a_role_answers_the_offered_one(rt: HostRuntime) {
-    assert_eq!(rt; answered_role(None), Setup::Active);
-    assert_eq!(rt; answered_role(Some(Setup::ActPass)), Setup::Active);
-    assert_eq!(rt; answered_role(Some(Setup::Active)), Setup::Passive);
-    assert_eq!(rt; answered_role(Some(Setup::Passive)), Setup::Active);
 }
 
 #[test]

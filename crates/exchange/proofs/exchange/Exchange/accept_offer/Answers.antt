@@ -4,14 +4,14 @@ use Rattle.exchange.proofs.FollowLaws.{follows_answer, none_open, sound_done}
 use Rattle.exchange.specs.Names.{grown}
 use Rattle.exchange.specs.ReadBack.{IsReadBack}
 use Rattle.exchange.specs.State.{state_of}
-use Rattle.exchange.specs.Versioned.{versioned_text}
+use Rattle.str0m_sdp.specs.Session.{versioned_text}
 use Rattle.exchange.specs.declared.answer.Answer.{Answer}
 use Rattle.exchange.specs.declared.signaling_state.SignalingState.TheVariants.{Stable}
 use Rattle.exchange.proofs.exchange.Exchange.accept_offer.Goals as goal
 
 pub returns-clause-read_back : goal.returns-clause-read_back
 returns-clause-read_back c =
-    subst (λ (answer : Answer). IsReadBack answer.sdp (versioned_text answer.sdp answer.version)) (sym c.new-answer.ensures) (c.in_ok-is_printable.ensures.0 c.if-not-branch.false)
+    subst (λ (answer : Answer). IsReadBack answer.sdp (versioned_text answer.version answer.sdp)) (sym c.new-answer.ensures) (c.in_ok-is_printable.ensures.0 c.if-not-branch.false)
 
 pub returns-clause-sound : goal.returns-clause-sound
 returns-clause-sound c = λ sound.

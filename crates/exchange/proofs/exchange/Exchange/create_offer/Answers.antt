@@ -4,13 +4,13 @@ use Rattle.exchange.proofs.FollowLaws.{follows_same}
 use Rattle.exchange.specs.Places.{FollowsPlaces}
 use Rattle.exchange.specs.ReadBack.{IsReadBack}
 use Rattle.exchange.specs.State.{sections_of}
-use Rattle.exchange.specs.Versioned.{versioned_text}
+use Rattle.str0m_sdp.specs.Session.{versioned_text}
 use Rattle.exchange.specs.declared.offer.Offer.{Offer}
 use Rattle.exchange.proofs.exchange.Exchange.create_offer.Goals as goal
 
 pub returns-clause-read_back : goal.returns-clause-read_back
 returns-clause-read_back c =
-    subst (λ (offer : Offer). IsReadBack offer.sdp (versioned_text offer.sdp offer.version)) (sym c.new-offer.ensures) (c.in_ok-is_printable.ensures.0 c.if-not-branch.false)
+    subst (λ (offer : Offer). IsReadBack offer.sdp (versioned_text offer.version offer.sdp)) (sym c.new-offer.ensures) (c.in_ok-is_printable.ensures.0 c.if-not-branch.false)
 
 pub returns-clause-sound : goal.returns-clause-sound
 returns-clause-sound c = λ sound. record {
