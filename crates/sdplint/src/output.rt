@@ -61,6 +61,12 @@ fn is_shown(severity: Severity, level: Severity) -> bool {
     }
 }
 
+/// A count with its noun, which takes an `s` where it isn't one.
+fn counted(alloc: Global, count: usize, noun: &str) -> Result<String, AllocError> {
+    let ending = if count == 1 { "" } else { "s" };
+    format!(in alloc; "{count} {noun}{ending}")
+}
+
 impl Output {
     pub(crate) fn new(alloc: Global, format: Format, level: &str) -> Output {
         let counts = Counts {
@@ -135,9 +141,13 @@ impl Output {
             mut text,
             values,
         } = self;
-        let (errors, warnings, notes) = (counts.errors, counts.warnings, counts.notes);
         match format {
-            Format::Text => writeln!(text, "{errors} errors, {warnings} warnings, {notes} notes")?,
+            Format::Text => {
+                let errors = counted(alloc, counts.errors, "error")?;
+                let warnings = counted(alloc, counts.warnings, "warning")?;
+                let notes = counted(alloc, counts.notes, "note")?;
+                writeln!(text, "{errors}, {warnings}, {notes}")?;
+            }
             Format::Json => {
                 let list = Value::Array(values).to_string(alloc)?;
                 writeln!(text, "{list}")?;
