@@ -1,5 +1,5 @@
 -- What codes say.
-use Rattle.std.specs.Prelude.{Bool, true, false}
+use Rattle.std.specs.Prelude.{ℕ, Bool, true, false, List, codes}
 use Rattle.lint.specs.declared.code.Code.{Code}
 use Rattle.lint.specs.declared.code.Code.TheVariants.{Refused, Unread, Malformed, Unknown, Unseen}
 use Rattle.lint.specs.declared.code.Severity.{Severity}
@@ -11,6 +11,12 @@ severity_of (Unread unfit) = Error
 severity_of (Malformed misfit) = Warning
 severity_of (Unknown unknown) = Note
 severity_of (Unseen unseen) = Note
+
+-- as reports write it
+abbrev pub severity_word : Severity → List ℕ
+severity_word Error = codes "error"
+severity_word Warning = codes "warning"
+severity_word Note = codes "note"
 
 -- the text is refused
 abbrev pub is_refusal : Code → Bool

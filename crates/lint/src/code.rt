@@ -1,6 +1,6 @@
 //! The codes of findings: what is wrong, by kind.
 ghost use Rattle.std.specs.Prelude.{◌≡◌};
-ghost use Rattle.lint.specs.Code.{severity_of};
+ghost use Rattle.lint.specs.Code.{severity_of, severity_word};
 
 use crate::rows;
 use crate::rows::Row;
@@ -18,7 +18,9 @@ pub enum Severity {
 
 impl Severity {
     /// The severity as reports write it: `error`, `warning` or `note`.
-    pub fn word(self) -> &'static str {
+    pub fn word(self) -> &'static str
+        ensures { result.now ≡ severity_word self }
+    {
         match self {
             Severity::Error => "error",
             Severity::Warning => "warning",
