@@ -15,132 +15,155 @@ pub(crate) static CODECS: [&str; 12] = [
     "opus", "pcmu", "pcma", "g722", "cn", "amr-wb", "vp8", "vp9", "av1", "h264", "h265", "h266",
 ];
 
-/// An option that takes one value.
-fn option<'a>(alloc: Global, name: &'a str, value: &'a str, help: &'a str) -> Arg<'a> {
-    Arg::new(alloc, name)
-        .long(name)
-        .value_name(value)
-        .action(ArgAction::Set)
-        .help(help)
+/// What an option takes.
+#[derive(Clone, Copy)]
+enum Takes {
+    /// A text, and the option has to be given.
+    Required,
+    /// A text, which is this one where the option isn't given.
+    Text(&'static str),
+    /// A direction, `sendrecv` where the option isn't given.
+    Direction,
+    /// A number of 16 bits, which is this one where the option isn't given.
+    Short(&'static str),
+    /// A number of 64 bits, which is this one where the option isn't given.
+    Long(&'static str),
+    /// A text each time that it is given.
+    Texts,
+    /// The name of a codec each time that it is given.
+    Codecs,
+    /// Nothing.
+    Nothing,
 }
 
-/// An option that may be given several times.
-fn repeated<'a>(alloc: Global, name: &'a str, value: &'a str, help: &'a str) -> Arg<'a> {
-    option(alloc, name, value, help).action(ArgAction::Append)
-}
+/// The options in the order of `--help`: the name, how its value is called, what it takes, and what it says.
+static OPTIONS: [(&str, &str, Takes, &str); 15] = [
+    (
+        "offer",
+        "",
+        Takes::Nothing,
+        "end with an offer of this side",
+    ),
+    (
+        "ufrag",
+        "TEXT",
+        Takes::Required,
+        "ICE user fragment of this side",
+    ),
+    ("pwd", "TEXT", Takes::Required, "ICE password of this side"),
+    (
+        "fingerprint",
+        "HASH",
+        Takes::Required,
+        "hash of this side's certificate, as 'sha-256 AB:CD:..'",
+    ),
+    (
+        "candidate",
+        "LINE",
+        Takes::Texts,
+        "where this side is reached, a candidate with or without 'a='",
+    ),
+    (
+        "session-id",
+        "NUMBER",
+        Takes::Long("1"),
+        "number of the session in the 'o=' line",
+    ),
+    (
+        "audio",
+        "DIRECTION",
+        Takes::Direction,
+        "what this side is ready for in audio",
+    ),
+    (
+        "video",
+        "DIRECTION",
+        Takes::Direction,
+        "what this side is ready for in video",
+    ),
+    (
+        "stream",
+        "ID",
+        Takes::Text("-"),
+        "id of the stream that this side sends",
+    ),
+    (
+        "codec",
+        "NAME",
+        Takes::Codecs,
+        "a codec of this side, in order of preference; the default rows where none is named",
+    ),
+    (
+        "extension",
+        "URI",
+        Takes::Texts,
+        "a header extension that this side knows",
+    ),
+    (
+        "no-simulcast",
+        "",
+        Takes::Nothing,
+        "receive no layers of simulcast",
+    ),
+    (
+        "sctp-port",
+        "PORT",
+        Takes::Short("5000"),
+        "port of SCTP for data channels",
+    ),
+    (
+        "max-message-size",
+        "BYTES",
+        Takes::Long("262144"),
+        "longest message of a data channel; 0 for any",
+    ),
+    ("no-channels", "", Takes::Nothing, "take no data channels"),
+];
 
-fn flag<'a>(alloc: Global, name: &'a str, help: &'a str) -> Arg<'a> {
-    Arg::new(alloc, name)
-        .long(name)
-        .action(ArgAction::SetTrue)
-        .help(help)
-}
-
-fn direction<'a>(alloc: Global, name: &'a str, help: &'a str) -> Arg<'a> {
-    option(alloc, name, "DIRECTION", help)
-        .default_value("sendrecv")
-        .value_parser(DIRECTIONS.as_slice())
-}
-
-/// The options that say how this side's transport is reached.
-fn with_transport<'a>(alloc: Global, command: Command<'a>) -> Result<Command<'a>, AllocError> {
-    command
-        .arg(option(alloc, "ufrag", "TEXT", "ICE user fragment of this side").required(true))?
-        .arg(option(alloc, "pwd", "TEXT", "ICE password of this side").required(true))?
-        .arg(option(
-            alloc,
-            "fingerprint",
-            "HASH",
-            "hash of this side's certificate, as 'sha-256 AB:CD:..'",
-        )
-        .required(true))?
-        .arg(repeated(
-            alloc,
-            "candidate",
-            "LINE",
-            "where this side is reached, a candidate with or without 'a='",
-        ))?
-        .arg(
-            option(
-                alloc,
-                "session-id",
-                "NUMBER",
-                "number of the session in the 'o=' line",
-            )
-            .default_value("1")
+/// The option as `clap` has it, where it takes a value.
+fn valued<'a>(arg: Arg<'a>, value: &'a str, takes: Takes) -> Arg<'a> {
+    let arg = arg.value_name(value);
+    match takes {
+        Takes::Required => arg.action(ArgAction::Set).required(true),
+        Takes::Text(default) => arg.action(ArgAction::Set).default_value(default),
+        Takes::Direction => arg
+            .action(ArgAction::Set)
+            .default_value("sendrecv")
+            .value_parser(DIRECTIONS.as_slice()),
+        Takes::Short(default) => arg
+            .action(ArgAction::Set)
+            .default_value(default)
+            .value_parser(value_parser!(u16)),
+        Takes::Long(default) => arg
+            .action(ArgAction::Set)
+            .default_value(default)
             .value_parser(value_parser!(u64)),
-        )
-}
-
-/// The options that say what this side sends and receives.
-fn with_media<'a>(alloc: Global, command: Command<'a>) -> Result<Command<'a>, AllocError> {
-    command
-        .arg(direction(alloc, "audio", "what this side is ready for in audio"))?
-        .arg(direction(alloc, "video", "what this side is ready for in video"))?
-        .arg(option(
-            alloc,
-            "stream",
-            "ID",
-            "id of the stream that this side sends",
-        )
-        .default_value("-"))?
-        .arg(repeated(
-            alloc,
-            "codec",
-            "NAME",
-            "a codec of this side, in order of preference; the default rows where none is named",
-        )
-        .value_parser(CODECS.as_slice()))?
-        .arg(repeated(
-            alloc,
-            "extension",
-            "URI",
-            "a header extension that this side knows",
-        ))?
-        .arg(flag(alloc, "no-simulcast", "receive no layers of simulcast"))
-}
-
-/// The options of data channels.
-fn with_channels<'a>(alloc: Global, command: Command<'a>) -> Result<Command<'a>, AllocError> {
-    command
-        .arg(
-            option(alloc, "sctp-port", "PORT", "port of SCTP for data channels")
-                .default_value("5000")
-                .value_parser(value_parser!(u16)),
-        )?
-        .arg(
-            option(
-                alloc,
-                "max-message-size",
-                "BYTES",
-                "longest message of a data channel; 0 for any",
-            )
-            .default_value("262144")
-            .value_parser(value_parser!(u64)),
-        )?
-        .arg(flag(alloc, "no-channels", "take no data channels"))
-}
-
-/// The steps of the session, and whether it ends with an offer of this side.
-fn with_steps<'a>(alloc: Global, command: Command<'a>) -> Result<Command<'a>, AllocError> {
-    let steps = Arg::new(alloc, "step")
-        .value_name("STEP")
-        .action(ArgAction::Append)
-        .help(STEPS);
-    command
-        .arg(steps)?
-        .arg(flag(alloc, "offer", "end with an offer of this side"))
+        Takes::Codecs => arg
+            .action(ArgAction::Append)
+            .value_parser(CODECS.as_slice()),
+        Takes::Texts | Takes::Nothing => arg.action(ArgAction::Append),
+    }
 }
 
 /// The program's words.
 pub(crate) fn command<'a>(alloc: Global) -> Result<Command<'a>, AllocError> {
-    let command = Command::new(alloc, "sdpexchange").version("0.25.0").about(
-        "Takes the steps of a session, and writes the last answer or offer of this side",
-    );
-    let command = with_steps(alloc, command)?;
-    let command = with_transport(alloc, command)?;
-    let command = with_media(alloc, command)?;
-    with_channels(alloc, command)
+    let steps = Arg::new(alloc, "step")
+        .value_name("STEP")
+        .action(ArgAction::Append)
+        .help(STEPS);
+    let mut command = Command::new(alloc, "sdpexchange")
+        .version("0.25.0")
+        .about("Takes the steps of a session, and writes the last answer or offer of this side")
+        .arg(steps)?;
+    for (name, value, takes, help) in OPTIONS {
+        let arg = Arg::new(alloc, name).long(name).help(help);
+        let arg = match takes {
+            Takes::Nothing => arg.action(ArgAction::SetTrue),
+            _ => valued(arg, value, takes),
+        };
+        command = command.arg(arg)?;
+    }
+    Ok(command)
 }
 
 /// The value of an option; empty where it isn't given.
