@@ -1,8 +1,6 @@
 -- A text is read as an address exactly where it stands for it.
-use Rattle.str0m_values.proofs.Common.{rules, ◌≡◌, ℕ, List, [], ◌∷◌, ◌++◌, length, Option, Some, None, refl, sym, ap, arith, append-nil, option_map, ipv6_segments}
-use Rattle.std.proofs.Common.{ne_eqb}
+use Rattle.str0m_values.proofs.Common.{rules, ◌≡◌, ℕ, List, [], ◌∷◌, ◌++◌, length, Option, Some, None, refl, sym, ap, arith, append-nil, option_map, ipv6_segments, ne_eqb, ipv4_octets}
 use Rattle.std.specs.Net.Grammar as net
-use Rattle.std.specs.Net.Addr.{ipv4_octets}
 use Rattle.std.specs.Net.Reader.{Read, whole_value, read_ipv4, read_ipv6}
 use Rattle.std.specs.declared.net.ip_addr.IpAddr.{IpAddr as NetIpAddr}
 use Rattle.std.specs.declared.net.ip_addr.IpAddr.TheVariants as NetIp

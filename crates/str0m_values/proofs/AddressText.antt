@@ -1,8 +1,7 @@
 -- What is printed of an address stands for it.
-use Rattle.str0m_values.proofs.Common.{◌≡◌, ℕ, zero, suc, ◌<◌, ◌≤◌, ◌+◌, ◌^◌, List, [], ◌∷◌, ◌++◌, length, get_or, refl, ap, subst, arith, append-nil, append_assoc, lit<, AllByRecursion, cases_lt, le-leb}
-use Rattle.std.proofs.lemmas.Bool.{lt-leb}
+use Rattle.str0m_values.proofs.Common.{◌≡◌, ℕ, zero, suc, ◌<◌, ◌≤◌, ◌+◌, ◌^◌, List, [], ◌∷◌, ◌++◌, length, get_or, refl, ap, subst, arith, append-nil, append_assoc, lit<, AllByRecursion, cases_lt, le-leb, lt-leb, hex}
 use Rattle.std.specs.Net.Text as net
-use Rattle.std.specs.Net.Text.{hex, hex_groups_text}
+use Rattle.std.specs.Net.Text.{hex_groups_text}
 use Rattle.std.proofs.NetLemmas.Arrays.{four_items}
 use Rattle.std.proofs.NetLemmas.Texts.{IsDotted-ipv4_text, IsColonHex-hex_groups_text}
 use Rattle.str0m_values.specs.declared.address.IpAddr.{IpAddr}

@@ -1,6 +1,5 @@
 -- The parts of a candidate's text that have a form of their own are read both ways.
-use Rattle.str0m_values.proofs.Common.{rules, arith, ◌≡◌, ℕ, true, cond, List, [], ◌++◌, Option, Some, None, refl, sym, ap, ◌∙◌, inl, inr, append_assoc, is_some}
-use Rattle.std.specs.Prelude.{is_none, ◌||◌, if◌then◌else◌}
+use Rattle.str0m_values.proofs.Common.{rules, arith, ◌≡◌, ℕ, true, cond, List, [], ◌++◌, Option, Some, None, refl, sym, ap, ◌∙◌, inl, inr, append_assoc, is_some, is_none, ◌||◌, if◌then◌else◌}
 use Rattle.str0m_values.specs.declared.address.SocketAddr.{SocketAddr}
 use Rattle.str0m_values.specs.declared.protocol.TcpType.{TcpType}
 use Rattle.str0m_values.specs.Cuts.{◌>>=◌, strip, num}

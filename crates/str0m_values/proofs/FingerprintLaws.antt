@@ -1,8 +1,5 @@
 -- A text is read as one fingerprint at most, and what is printed is read as itself.
-use Rattle.str0m_values.proofs.Common.{◌≡◌, ◌<◌, ℕ, List, [], ◌∷◌, All, length, Some, Result, Ok, Err, arith, refl, sym, ap, ◌∙◌, subst, AllZip, some_pair_parts, none-some}
-use Rattle.std.proofs.Common.{Any}
-use Rattle.std.specs.Prelude.{IsErr, IsErrOf}
-use Rattle.std.specs.Result.{IsErrAnd}
+use Rattle.str0m_values.proofs.Common.{◌≡◌, ◌<◌, ℕ, List, [], ◌∷◌, All, length, Some, Result, Ok, Err, arith, refl, sym, ap, ◌∙◌, subst, AllZip, some_pair_parts, none-some, Any, IsErr, IsErrOf, IsErrAnd}
 use Rattle.str0m_values.specs.Cuts.{cut}
 use Rattle.str0m_values.specs.Parts.{Lacks}
 use Rattle.str0m_values.specs.Fingerprint.{IsNamed, IsByte, pieces_of, IsFingerprint, HasBadByte, IsBytesReading, IsReading, Gives, CanBeReadBack, fingerprint_text, pairs_text}

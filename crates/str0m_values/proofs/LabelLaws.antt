@@ -1,6 +1,5 @@
 -- Words behind labels are read both ways.
-use Rattle.str0m_values.proofs.Common.{◌≡◌, ◌⊎◌, ℕ, List, [], ◌∷◌, ◌++◌, length, drop, false, Option, Some, None, refl, sym, ap, ◌∙◌, inl, inr, arith, append-nil, append_assoc, AllByRecursion, ltb-true}
-use Rattle.std.specs.Prelude.{◌==◌}
+use Rattle.str0m_values.proofs.Common.{◌≡◌, ◌⊎◌, ℕ, List, [], ◌∷◌, ◌++◌, length, drop, false, Option, Some, None, refl, sym, ap, ◌∙◌, inl, inr, arith, append-nil, append_assoc, AllByRecursion, ltb-true, ◌==◌}
 use Rattle.str0m_values.specs.Parts.{IsWord}
 use Rattle.str0m_values.specs.Cuts.{◌>>=◌, before, strip}
 use Rattle.str0m_values.specs.Labels.{IsSame, IsLabelled, IsOptional}

@@ -1,9 +1,5 @@
 -- What going over the bytes of a field finds: a cut, and a number.
-use Rattle.str0m_values.proofs.Common.{◌≡◌, ℕ, zero, suc, ◌<◌, ◌≤◌, ◌+◌, ◌-◌, List, [], ◌∷◌, length, take, drop, Some, None, refl, sym, ap, arith, AllDigits, digits_value, without_leading_plus, eq-eqb, ne_eqb, numerals_by_value}
-use Rattle.std.proofs.Common.{add-one}
-use Rattle.std.specs.Prelude.{slice_range}
-use Rattle.std.proofs.lemmas.Str.Parse.{tells_digits, digits_value_short}
-use Rattle.std.proofs.lemmas.List.{length-take}
+use Rattle.str0m_values.proofs.Common.{◌≡◌, ℕ, zero, suc, ◌<◌, ◌≤◌, ◌+◌, ◌-◌, List, [], ◌∷◌, length, take, drop, Some, None, refl, sym, ap, arith, AllDigits, digits_value, without_leading_plus, eq-eqb, ne_eqb, numerals_by_value, add-one, slice_range, tells_digits, digits_value_short, length-take}
 use Rattle.str0m_values.specs.Near.{LacksAt, IsFirstAt, IsWrittenAs}
 use Rattle.str0m_values.specs.Cuts.{cut, before_cut, num}
 use Rattle.str0m_values.proofs.CutLaws.{cut_none, Lacks-by_index}

@@ -1,10 +1,5 @@
 -- What the reading of a number gives.
-use Rattle.str0m_values.proofs.Common.{◌≡◌, ℕ, ◌<◌, ◌≤◌, ◌+◌, ◌^◌, Bool, true, List, [], ◌∷◌, length, Some, None, Result, Ok, Err, refl, sym, arith, IsNumeral, AllDigits, digits_value, without_leading_plus, ltb-true, lt-ltb, le-leb, leb-true, and_parts, numerals_by_value, ◌≢◌, digit_value, eq-eqb, ne_eqb, cases_eq}
-use Rattle.std.specs.Result.{result_ok}
-use Rattle.std.specs.Str.{all_ascii_digits}
-use Rattle.std.specs.Str.Parse.{ParsesUnsigned}
-use Rattle.std.proofs.lemmas.Bool.{and_from}
-use Rattle.std.proofs.lemmas.Str.Parse.{IsNumeralModel, tells_all_ascii_digits}
+use Rattle.str0m_values.proofs.Common.{◌≡◌, ℕ, ◌<◌, ◌≤◌, ◌+◌, ◌^◌, Bool, true, List, [], ◌∷◌, length, Some, None, Result, Ok, Err, refl, sym, arith, IsNumeral, AllDigits, digits_value, without_leading_plus, ltb-true, lt-ltb, le-leb, leb-true, and_parts, numerals_by_value, ◌≢◌, digit_value, eq-eqb, ne_eqb, cases_eq, result_ok, all_ascii_digits, ParsesUnsigned, and_from, IsNumeralModel, tells_all_ascii_digits}
 use Rattle.str0m_values.specs.Only.{IsTheOnly}
 use Rattle.str0m_values.specs.Parts.{IsNum, Lacks, IsRest}
 use Rattle.str0m_values.specs.Cuts.{is_rest, is_numeral, num, when}

@@ -1,8 +1,5 @@
 -- The words of an enumeration are read both ways, where each case is found by its own word.
-use Rattle.str0m_values.proofs.Common.{arith, ◌≡◌, ℕ, Bool, true, false, cond, List, [], ◌∷◌, map, Some, refl, sym, ap, ◌∙◌, bytes_eq, str_to_ascii_lowercase, bytes_eq-Decides}
-use Rattle.std.specs.List.{find}
-use Rattle.std.specs.Char.{to_ascii_lowercase}
-use Rattle.std.specs.Str.{str_eq_ignore_ascii_case}
+use Rattle.str0m_values.proofs.Common.{arith, ◌≡◌, ℕ, Bool, true, false, cond, List, [], ◌∷◌, map, Some, refl, sym, ap, ◌∙◌, bytes_eq, str_to_ascii_lowercase, bytes_eq-Decides, find, to_ascii_lowercase, str_eq_ignore_ascii_case}
 use Rattle.str0m_values.specs.Words.{case_of, case_alike}
 use Rattle.str0m_values.proofs.BothWays.{Reads, some_is}
 

@@ -1,5 +1,4 @@
-use Rattle.str0m_values.proofs.Common.{◌≡◌, Result, Ok, Err, Option, Some, List, ℕ, ◌∙◌, ap}
-use Rattle.std.specs.Prelude.{IfOk}
+use Rattle.str0m_values.proofs.Common.{◌≡◌, Result, Ok, Err, Option, Some, List, ℕ, ◌∙◌, ap, IfOk}
 use Rattle.str0m_values.specs.declared.candidate.Candidate.{Candidate}
 use Rattle.str0m_values.specs.Only.{IsTheOnly}
 use Rattle.str0m_values.specs.Candidate.{IsCandidateText, IsPrintable, candidate_text}

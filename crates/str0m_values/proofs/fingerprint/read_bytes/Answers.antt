@@ -1,7 +1,6 @@
-use Rattle.str0m_values.proofs.Common.{◌≡◌, ℕ, List, ◌∷◌, [], ◌++◌, length, take, lit<, sym, ap, ◌∙◌, arith, subst, AllZip}
+use Rattle.str0m_values.proofs.Common.{◌≡◌, ℕ, List, ◌∷◌, [], ◌++◌, length, take, lit<, sym, ap, ◌∙◌, arith, subst, AllZip, take_more, length_push, take_all}
 use Rattle.std.proofs.lemmas.Iterator.Splits.{YieldsList-from_str_split}
 use Rattle.std.proofs.lemmas.Iterator.Consumers.{YieldsList-turn, YieldsList-end}
-use Rattle.std.proofs.lemmas.List.{take_more, length_push, take_all}
 use Rattle.str0m_values.specs.Fingerprint.{IsByte, pieces_of}
 use Rattle.str0m_values.proofs.ZipLaws.{AllZip-push}
 use Rattle.str0m_values.proofs.fingerprint.read_bytes.Goals as goal

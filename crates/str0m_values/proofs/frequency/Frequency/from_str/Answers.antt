@@ -1,6 +1,4 @@
-use Rattle.str0m_values.proofs.Common.{◌≡◌, ◌<◌, ℕ, List, Option, Some, None, refl, sym, ◌∙◌, ap, arith, IfSome}
-use Rattle.std.proofs.Common.{◌↔◌}
-use Rattle.std.specs.Prelude.{IsSome}
+use Rattle.str0m_values.proofs.Common.{◌≡◌, ◌<◌, ℕ, List, Option, Some, None, refl, sym, ◌∙◌, ap, arith, IfSome, ◌↔◌, IsSome}
 use Rattle.str0m_values.specs.Cuts.{num}
 use Rattle.str0m_values.specs.Only.{IsTheOnly}
 use Rattle.str0m_values.specs.Frequency.{IsRate}
