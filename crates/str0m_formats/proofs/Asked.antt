@@ -1,6 +1,5 @@
 -- One more item that the closure refused.
-use Rattle.str0m_formats.proofs.Common.{arith, ◌≡◌, ◌<◌, ◌+◌, ℕ, Bool, true, false, List, [], ◌∷◌, ◌++◌, Some, refl, subst, sym, ap, ◌∙◌, take, drop, length, get_or, take_more, Bor}
-use Rattle.std.proofs.Common.{suc, take-append-drop, drop-cons}
+use Rattle.str0m_formats.proofs.Common.{arith, ◌≡◌, ◌<◌, ◌+◌, ℕ, Bool, true, false, List, [], ◌∷◌, ◌++◌, Some, refl, subst, sym, ap, ◌∙◌, take, drop, length, get_or, take_more, Bor, suc, take-append-drop, drop-cons}
 use Rattle.str0m_formats.specs.Choices.{RefusedAll, FirstAccepted}
 
 pub RefusedAll-more : {F X : Type 0} (step : F → Bor X → Bool → F → Type 0) (f g h : F) (xs : List X) (b : Bor X) → RefusedAll step f xs g → step g b false h → RefusedAll step f (xs ++ b.now ∷ []) h

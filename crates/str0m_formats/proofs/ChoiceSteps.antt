@@ -1,8 +1,5 @@
 -- How the last of greatest score goes on by one row.
-use Rattle.str0m_formats.proofs.Common.{◌≡◌, ℕ, ◌≤◌, ◌<◌, Bool, true, false, List, [], ◌∷◌, ◌++◌, Option, Some, None, IfSome, All, refl, sym, ap, ◌∙◌, subst, get_or, take, length, ◌+◌, arith, ltb-true, All-append, All-push, All-cons, All-nil, All-weaker, append_assoc, take_more}
-use Rattle.std.specs.Prelude.{nat_lt, if◌then◌else◌}
-use Rattle.std.proofs.lemmas.Bool.{ltb-false}
-use Rattle.std.proofs.lemmas.Option.{IfSome_then, MatchOption-from_none}
+use Rattle.str0m_formats.proofs.Common.{◌≡◌, ℕ, ◌≤◌, ◌<◌, Bool, true, false, List, [], ◌∷◌, ◌++◌, Option, Some, None, IfSome, All, refl, sym, ap, ◌∙◌, subst, get_or, take, length, ◌+◌, arith, ltb-true, All-append, All-push, All-cons, All-nil, All-weaker, append_assoc, take_more, nat_lt, if◌then◌else◌, ltb-false, IfSome_then, MatchOption-from_none}
 use Rattle.str0m_formats.specs.declared.payload_params.PayloadParams.{PayloadParams}
 use Rattle.str0m_formats.specs.Choices.{IsBest, better}
 

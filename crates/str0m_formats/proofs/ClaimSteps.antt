@@ -1,6 +1,5 @@
 -- Types that are claimed one by one: what is then claimed, and which is met a second time.
-use Rattle.str0m_formats.proofs.Common.{◌≡◌, ◌==◌, ℕ, ◌+◌, ◌<◌, ◌≤◌, Bool, true, false, cond, List, [], ◌∷◌, ◌++◌, length, take, drop, get_or, Result, Ok, Err, refl, sym, ap, ◌∙◌, subst, arith, append_assoc, append-nil, take_more, filter-append, flat_map-append, eqb-true}
-use Rattle.std.proofs.lemmas.List.{take-append-drop}
+use Rattle.str0m_formats.proofs.Common.{◌≡◌, ◌==◌, ℕ, ◌+◌, ◌<◌, ◌≤◌, Bool, true, false, cond, List, [], ◌∷◌, ◌++◌, length, take, drop, get_or, Result, Ok, Err, refl, sym, ap, ◌∙◌, subst, arith, append_assoc, append-nil, take_more, filter-append, flat_map-append, eqb-true, take-append-drop}
 use Rattle.str0m_formats.specs.declared.negotiation_error.NegotiationError.{NegotiationError}
 use Rattle.str0m_formats.specs.declared.negotiation_error.NegotiationError.TheVariants.{ClaimedTwice}
 use Rattle.str0m_formats.specs.declared.payload_params.PayloadParams.{PayloadParams}

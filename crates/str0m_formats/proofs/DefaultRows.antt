@@ -1,9 +1,6 @@
 -- Default rows are distinct, and stay default while codecs are enabled and disabled.
-use Rattle.str0m_formats.proofs.Common.{rules, ◌≡◌, ◌==◌, ℕ, ◌+◌, ◌≤◌, Bool, true, false, not, ◌&&◌, cond, Option, Some, None, option_map, find, List, [], ◌∷◌, ◌++◌, map, All, Result, Ok, Err, OnOk, OnErr, if◌then◌else◌, refl, sym, ap, ◌∙◌, subst, arith, AllByRecursion, Contains, list_all, flat_map, and_parts, eqb-true, true≢false, map-append, All-append, All-filter, All-weaker, All-contains, All-nil}
-use Rattle.std.proofs.Common.{unwrap_or, is_ok}
-use Rattle.std.specs.Prelude.{IsOk}
+use Rattle.str0m_formats.proofs.Common.{rules, ◌≡◌, ◌==◌, ℕ, ◌+◌, ◌≤◌, Bool, true, false, not, ◌&&◌, cond, Option, Some, None, option_map, find, List, [], ◌∷◌, ◌++◌, map, All, Result, Ok, Err, OnOk, OnErr, if◌then◌else◌, refl, sym, ap, ◌∙◌, subst, arith, AllByRecursion, Contains, list_all, flat_map, and_parts, eqb-true, true≢false, map-append, All-append, All-filter, All-weaker, All-contains, All-nil, unwrap_or, is_ok, IsOk, All-contains_itself, All-from_recursion, recursion_from_All}
 use Rattle.std.specs.declared.alloc.AllocError.{AllocError}
-use Rattle.std.proofs.lemmas.List.Elements.{All-contains_itself, All-from_recursion, recursion_from_All}
 use Rattle.str0m_formats.specs.declared.codec.Codec.{Codec}
 use Rattle.str0m_formats.specs.declared.codec.TheConstants.{NAMED}
 use Rattle.str0m_formats.specs.declared.codec_config.CodecConfig.{CodecConfig}

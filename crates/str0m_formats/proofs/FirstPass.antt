@@ -1,6 +1,5 @@
 -- The first pass of a round: what one row changes, and the state between two rows.
-use Rattle.str0m_formats.proofs.Common.{zero, suc, ◌≡◌, ℕ, ◌+◌, ◌<◌, ◌⊎◌, inl, Bool, true, false, not, ◌||◌, ◌&&◌, cond, if◌then◌else◌, find, nat_lt, List, [], ◌∷◌, ◌++◌, length, take, drop, get_or, Option, Some, None, Result, Ok, Err, IfSome, IfErr, refl, sym, ap, ◌∙◌, subst, arith, slice_get, find-append, append_assoc, take_more_set, drop-set-lt, length-set, length-take-le, length_push, drop_more_same, false≢true}
-use Rattle.std.proofs.Common.{set}
+use Rattle.str0m_formats.proofs.Common.{zero, suc, ◌≡◌, ℕ, ◌+◌, ◌<◌, ◌⊎◌, inl, Bool, true, false, not, ◌||◌, ◌&&◌, cond, if◌then◌else◌, find, nat_lt, List, [], ◌∷◌, ◌++◌, length, take, drop, get_or, Option, Some, None, Result, Ok, Err, IfSome, IfErr, refl, sym, ap, ◌∙◌, subst, arith, slice_get, find-append, append_assoc, take_more_set, drop-set-lt, length-set, length-take-le, length_push, drop_more_same, false≢true, set}
 use Rattle.str0m_formats.specs.declared.negotiation_error.NegotiationError.{NegotiationError}
 use Rattle.str0m_formats.specs.declared.payload_params.PayloadParams.{PayloadParams}
 use Rattle.str0m_formats.specs.Codec.{content}

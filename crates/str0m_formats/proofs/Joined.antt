@@ -1,6 +1,5 @@
 -- Texts that are joined by a byte, and cut there.
-use Rattle.str0m_formats.proofs.Common.{arith, ◌≡◌, ◌==◌, ℕ, false, List, [], ◌∷◌, All, slice_split, join_with_byte, eq-eqb}
-use Rattle.std.proofs.lemmas.List.Splits.{slice_split_none, slice_split_at}
+use Rattle.str0m_formats.proofs.Common.{arith, ◌≡◌, ◌==◌, ℕ, false, List, [], ◌∷◌, All, slice_split, join_with_byte, eq-eqb, slice_split_none, slice_split_at}
 
 -- no text holds the byte
 abbrev pub AreFreeOf : ℕ → List (List ℕ) → Type 0

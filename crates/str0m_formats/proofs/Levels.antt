@@ -1,6 +1,5 @@
 -- An H264 row keeps its profile, and its level never grows.
-use Rattle.str0m_formats.proofs.Common.{◌≡◌, ◌≢◌, ◌⊎◌, inl, inr, ℕ, Bool, true, false, List, Option, Some, None, refl, sym, ap, ◌∙◌, subst, arith, unsigned_Decides, ltb-true, same_Some, H264ProfileLevel}
-use Rattle.std.specs.Prelude.{nat_lt, if◌then◌else◌}
+use Rattle.str0m_formats.proofs.Common.{◌≡◌, ◌≢◌, ◌⊎◌, inl, inr, ℕ, Bool, true, false, List, Option, Some, None, refl, sym, ap, ◌∙◌, subst, arith, unsigned_Decides, ltb-true, same_Some, H264ProfileLevel, nat_lt, if◌then◌else◌}
 use Rattle.str0m_values.specs.H264.{named, level_ordinal, lower_of, lower_level}
 use Rattle.str0m_formats.specs.declared.codec.Codec.TheVariants.{H264}
 use Rattle.str0m_formats.specs.declared.codec_spec.CodecSpec.{CodecSpec}

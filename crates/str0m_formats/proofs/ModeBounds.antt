@@ -1,10 +1,5 @@
 -- A set of modes that a text names has one at least, and none above 8.
-use Rattle.str0m_formats.proofs.Common.{◌≡◌, ◌<◌, ◌≤◌, ◌+◌, ◌-◌, ◌*◌, ◌%◌, ◌^◌, ℕ, List, [], length, get_or, sym, ap, ◌∙◌, inl, inr, arith, bit_at, bit_and, slice_split, cases_lt, and_pow, bit_at-lt, bit_at-zero, same_from_bits}
-use Rattle.std.proofs.Common.{◌/◌}
-use Rattle.std.specs.Prelude.{◌==◌}
-use Rattle.std.proofs.lemmas.List.{get_or_default}
-use Rattle.std.proofs.lemmas.List.Splits.{length-slice_split}
-use Rattle.std.proofs.lemmas.Nat.Bits.{bit_at_cat_high}
+use Rattle.str0m_formats.proofs.Common.{◌≡◌, ◌<◌, ◌≤◌, ◌+◌, ◌-◌, ◌*◌, ◌%◌, ◌^◌, ℕ, List, [], length, get_or, sym, ap, ◌∙◌, inl, inr, arith, bit_at, bit_and, slice_split, cases_lt, and_pow, bit_at-lt, bit_at-zero, same_from_bits, ◌/◌, ◌==◌, get_or_default, length-slice_split, bit_at_cat_high}
 use Rattle.str0m_formats.specs.Bounds.{AreModes}
 use Rattle.str0m_formats.specs.FormatParam.{IsMask, IsModeSet}
 use Rattle.str0m_formats.proofs.Modes.{bit_at_set}

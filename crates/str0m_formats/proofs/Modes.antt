@@ -1,11 +1,7 @@
 -- The modes of a text are the bits of its mask.
-use Rattle.str0m_formats.proofs.Common.{◌≡◌, ◌<◌, ◌^◌, ◌*◌, ◌%◌, ◌⊎◌, inl, inr, ℕ, List, [], ◌∷◌, ◌++◌, ◌==◌, length, get_or, Some, None, Option, sym, ap, ◌∙◌, arith, subst, bit_at, cases_lt, eqb_tells, and_pow, bit_at-lt, bit_at_set_same, bit_at_set_other, same_from_bits, length-append, All-push, IsTheOnly, num_only, ◌>>=◌, num, trim, slice_split, append_assoc, append-nil}
-use Rattle.std.proofs.Common.{Any}
+use Rattle.str0m_formats.proofs.Common.{◌≡◌, ◌<◌, ◌^◌, ◌*◌, ◌%◌, ◌⊎◌, inl, inr, ℕ, List, [], ◌∷◌, ◌++◌, ◌==◌, length, get_or, Some, None, Option, sym, ap, ◌∙◌, arith, subst, bit_at, cases_lt, eqb_tells, and_pow, bit_at-lt, bit_at_set_same, bit_at_set_other, same_from_bits, length-append, All-push, IsTheOnly, num_only, ◌>>=◌, num, trim, slice_split, append_assoc, append-nil, Any, IsBitSet, w16, get_or_append_left, pow_pos}
 use Rattle.std.specs.Int.Bits.{bit_or}
-use Rattle.std.specs.Int.{IsBitSet, w16}
-use Rattle.std.proofs.lemmas.List.{get_or_append_left}
 use Rattle.std.proofs.lemmas.List.Quantifiers.{Any-push}
-use Rattle.std.proofs.lemmas.Nat.{pow_pos}
 use Rattle.std.proofs.Math.Seq.{get_or-append_seam}
 use Rattle.str0m_formats.specs.FormatParam.{IsMode, IsMask, IsModeSet}
 use Rattle.str0m_formats.specs.ParamReading.{modes_from, modes_read}

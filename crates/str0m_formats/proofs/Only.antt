@@ -1,6 +1,5 @@
 -- Readings that answer an Option.
-use Rattle.str0m_formats.proofs.Common.{arith, ◌≡◌, Option, Some, IfSome, IsTheOnly}
-use Rattle.std.specs.Prelude.{option_map}
+use Rattle.str0m_formats.proofs.Common.{arith, ◌≡◌, Option, Some, IfSome, IsTheOnly, option_map}
 
 -- two answers to one question are the same
 pub only_same : {A : Type 0} {P : A → Type 0} (a b : Option A) → IsTheOnly P a → IsTheOnly P b → a ≡ b

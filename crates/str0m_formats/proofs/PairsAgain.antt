@@ -1,6 +1,5 @@
 -- What pairs were read as prints as pairs that are read as the same, but for what prints nothing.
-use Rattle.str0m_formats.proofs.Common.{◌≡◌, ◌≢◌, ◌≤◌, ℕ, Bool, true, false, List, [], ◌∷◌, ◌++◌, length, map, filter, Some, refl, sym, ap, ◌∙◌, subst, arith, inl, inr, codes, MatchBool, decimal, AllByRecursion, IsDistinct, cons_option, join_with_byte, keys_of, bytes_eq, lt-ltb, false_from_ne_true, append_assoc, IsDistinct-cons, IsDistinct-head, IsDistinct-tail, bytes_eq-Decides, ProfileTierLevel}
-use Rattle.std.proofs.lemmas.Fmt.{decimal_nonempty}
+use Rattle.str0m_formats.proofs.Common.{◌≡◌, ◌≢◌, ◌≤◌, ℕ, Bool, true, false, List, [], ◌∷◌, ◌++◌, length, map, filter, Some, refl, sym, ap, ◌∙◌, subst, arith, inl, inr, codes, MatchBool, decimal, AllByRecursion, IsDistinct, cons_option, join_with_byte, keys_of, bytes_eq, lt-ltb, false_from_ne_true, append_assoc, IsDistinct-cons, IsDistinct-head, IsDistinct-tail, bytes_eq-Decides, ProfileTierLevel, decimal_nonempty}
 use Rattle.str0m_formats.specs.declared.format_param.FormatParam.{FormatParam}
 use Rattle.str0m_formats.specs.declared.format_param.FormatParam.TheVariants.{H265ProfileTierLevel, H266ProfileTierLevel}
 use Rattle.str0m_formats.specs.FormatParam.{IsParsed, AreParsed, triple_text, param_text}

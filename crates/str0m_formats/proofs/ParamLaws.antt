@@ -1,7 +1,5 @@
 -- What a key and its value read as.
-use Rattle.str0m_formats.proofs.Common.{rules, arith, ◌≡◌, ℕ, List, [], ◌∷◌, map, Option, Some, None, refl, sym, ap, ◌∙◌, inl, inr, codes, unwrap_or, to_ascii_lowercase, bytes_eq, none-some, bytes_eq-Decides, IsTheOnly, ◌>>=◌, num_only, num_reads, when_true, some_is, only_read}
-use Rattle.std.specs.Bool.{one_answer}
-use Rattle.std.specs.Prelude.{IfSome, option_map}
+use Rattle.str0m_formats.proofs.Common.{rules, arith, ◌≡◌, ℕ, List, [], ◌∷◌, map, Option, Some, None, refl, sym, ap, ◌∙◌, inl, inr, codes, unwrap_or, to_ascii_lowercase, bytes_eq, none-some, bytes_eq-Decides, IsTheOnly, ◌>>=◌, num_only, num_reads, when_true, some_is, only_read, one_answer, IfSome, option_map}
 use Rattle.str0m_formats.specs.declared.format_key.FormatKey.{FormatKey}
 use Rattle.str0m_formats.specs.declared.format_key.FormatKey.TheVariants as key
 use Rattle.str0m_formats.specs.declared.format_param.FormatParam.{FormatParam}

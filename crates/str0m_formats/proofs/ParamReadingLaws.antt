@@ -1,7 +1,5 @@
 -- Numbers behind keys are read both ways.
-use Rattle.str0m_formats.proofs.Common.{arith, ◌≡◌, ℕ, true, List, [], ◌∷◌, Option, refl, AllDigits, ltb-true, lt-ltb, le-leb, leb-true, and_parts, IsTheOnly, IsNumber, IsNum, num, when_some, when_true, only_read}
-use Rattle.std.proofs.lemmas.Bool.{and_from}
-use Rattle.str0m_values.proofs.BothWays.{reads_first, Reads}
+use Rattle.str0m_formats.proofs.Common.{arith, ◌≡◌, ℕ, true, List, [], ◌∷◌, Option, refl, AllDigits, ltb-true, lt-ltb, le-leb, leb-true, and_parts, IsTheOnly, IsNumber, IsNum, num, when_some, when_true, only_read, and_from, reads_first, Reads}
 use Rattle.str0m_values.proofs.CandidateParts.{num_both}
 use Rattle.str0m_formats.specs.FormatParam.{IsHexElseDecimal}
 use Rattle.str0m_formats.specs.ParamReading.{all_digits, number_read, hex_read}

@@ -1,6 +1,5 @@
 -- A pass over rows, one row a step.
-use Rattle.str0m_formats.proofs.Common.{zero, suc, ◌≡◌, ℕ, ◌≤◌, ◌<◌, List, [], ◌∷◌, ◌++◌, length, take, drop, get_or, Option, Some, None, refl, sym, ap, ◌∙◌, subst, arith, All, Contains, slice_get, slice_get_within, get_or_from_slice_get, slice_get-get_or, same_Some, at_drop_more, length_push, take_at, Contains-append_right, cases_order}
-use Rattle.std.proofs.lemmas.List.{take-append-le}
+use Rattle.str0m_formats.proofs.Common.{zero, suc, ◌≡◌, ℕ, ◌≤◌, ◌<◌, List, [], ◌∷◌, ◌++◌, length, take, drop, get_or, Option, Some, None, refl, sym, ap, ◌∙◌, subst, arith, All, Contains, slice_get, slice_get_within, get_or_from_slice_get, slice_get-get_or, same_Some, at_drop_more, length_push, take_at, Contains-append_right, cases_order, take-append-le}
 
 -- at each place, the done rows before it, the row there and the new row stand in a relation
 abbrev pub EachPlace : {A : Type 0} → (List A → A → A → Type 0) → List A → List A → Type 0

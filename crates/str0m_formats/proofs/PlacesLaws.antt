@@ -1,11 +1,8 @@
 -- Laws of the places of keys among entries.
-use Rattle.str0m_formats.proofs.Common.{◌≡◌, ◌<◌, ◌+◌, ℕ, Bool, true, false, cond, List, [], ◌∷◌, ◌++◌, length, get_or, take, Option, Some, None, refl, sym, ap, ◌∙◌, subst, arith, Bor, lookup, bytes_eq, map-append, take_more, bytes_eq-Decides, insert_entry}
-use Rattle.std.proofs.Common.{zero, suc, set}
+use Rattle.str0m_formats.proofs.Common.{◌≡◌, ◌<◌, ◌+◌, ℕ, Bool, true, false, cond, List, [], ◌∷◌, ◌++◌, length, get_or, take, Option, Some, None, refl, sym, ap, ◌∙◌, subst, arith, Bor, lookup, bytes_eq, map-append, take_more, bytes_eq-Decides, insert_entry, zero, suc, set, slice_cmp, set_value_at}
 use Rattle.std.specs.BTreeMap.{BTreeMap, Updates, get_by}
-use Rattle.std.specs.Cmp.Lexicographic.{slice_cmp}
 use Rattle.std.specs.Ordering.{nat_cmp}
 use Rattle.std.proofs.lemmas.Map.Text.{is_eq-slice_cmp}
-use Rattle.indexmap.specs.IndexMap.{set_value_at}
 use Rattle.str0m_formats.specs.FormatParam.{pair_texts}
 use Rattle.str0m_formats.proofs.MergedKeys.{turned}
 use Rattle.str0m_formats.specs.Places.{IsPlace, HasPlaces}

@@ -1,9 +1,6 @@
 -- Plain texts: graphic ASCII without `;` and `=`, so that cutting and trimming leave them whole.
-use Rattle.str0m_formats.proofs.Common.{◌≡◌, ◌≢◌, ◌<◌, ◌≤◌, ◌==◌, ◌&&◌, ◌||◌, ℕ, Bool, true, false, not, List, [], ◌∷◌, ◌++◌, All, refl, sym, ap, ◌∙◌, arith, tests, AllByRecursion, list_all, digit_value, trim, AllDigits, and_parts, cases_lt, not-true, false≢true, Lacks}
-use Rattle.std.proofs.Common.{zero, suc}
-use Rattle.std.specs.Prelude.{nat_le, IsAscii}
-use Rattle.std.specs.Char.{is_whitespace}
-use Rattle.std.specs.Str.{trim_start, trim_end, skip_leading_whitespace, drop_trailing_whitespace}
+use Rattle.str0m_formats.proofs.Common.{◌≡◌, ◌≢◌, ◌<◌, ◌≤◌, ◌==◌, ◌&&◌, ◌||◌, ℕ, Bool, true, false, not, List, [], ◌∷◌, ◌++◌, All, refl, sym, ap, ◌∙◌, arith, tests, AllByRecursion, list_all, digit_value, trim, AllDigits, and_parts, cases_lt, not-true, false≢true, Lacks, zero, suc, nat_le, IsAscii, is_whitespace, skip_leading_whitespace, drop_trailing_whitespace}
+use Rattle.std.specs.Str.{trim_start, trim_end}
 use Rattle.std.proofs.lemmas.Str.{chars-IsAscii, encodes-IsAscii}
 
 -- ---- what holds of all small numbers

@@ -1,7 +1,6 @@
 -- A format that is printed, and read by its line, is itself.
-use Rattle.str0m_formats.proofs.Common.{rules, ◌≡◌, ◌<◌, ◌≤◌, ◌⊎◌, inl, inr, ℕ, Bool, true, false, cond, List, [], ◌∷◌, ◌++◌, length, drop, map, filter, Option, Some, None, IfSome, Result, option_map, refl, sym, ap, subst, ◌∙◌, arith, codes, decimal, AllByRecursion, AllZip, cons_option, flat_map, join_with_byte, list_all, digits_value, and_parts, false_from_ne_true, decimal_is_IsNumeral, append_assoc, append-nil, map-append, filter_map-append, none-some}
-use Rattle.std.proofs.Common.{filter_map, IfOk}
-use Rattle.str0m_values.specs.Cuts.{lacks}
+use Rattle.str0m_formats.proofs.Common.{rules, ◌≡◌, ◌<◌, ◌≤◌, ◌⊎◌, inl, inr, ℕ, Bool, true, false, cond, List, [], ◌∷◌, ◌++◌, length, drop, map, filter, Option, Some, None, IfSome, Result, option_map, refl, sym, ap, subst, ◌∙◌, arith, codes, decimal, AllByRecursion, AllZip, cons_option, flat_map, join_with_byte, list_all, digits_value, and_parts, false_from_ne_true, decimal_is_IsNumeral, append_assoc, append-nil, map-append, filter_map-append, none-some, IfOk, lacks}
+use Rattle.std.proofs.Common.{filter_map}
 use Rattle.str0m_values.specs.H265.{H265ProfileTierLevel as h265_triple}
 use Rattle.str0m_values.specs.H266.{H266ProfileTierLevel as h266_triple}
 use Rattle.str0m_values.proofs.AddressWords.{lacks_both}

@@ -1,6 +1,5 @@
 -- The first number of a range that passes a test.
-use Rattle.str0m_formats.proofs.Common.{zero, suc, ◌≡◌, ℕ, ◌+◌, ◌-◌, ◌<◌, ◌≤◌, Bool, true, false, cond, find, Option, Some, None, List, replicate, get_or, length, drop, refl, is_some, sym, ap, ◌∙◌, arith, true≢false, find-append, range_with_len, flat_map}
-use Rattle.std.proofs.lemmas.List.{at_drop_more}
+use Rattle.str0m_formats.proofs.Common.{zero, suc, ◌≡◌, ℕ, ◌+◌, ◌-◌, ◌<◌, ◌≤◌, Bool, true, false, cond, find, Option, Some, None, List, replicate, get_or, length, drop, refl, is_some, sym, ap, ◌∙◌, arith, true≢false, find-append, range_with_len, flat_map, at_drop_more}
 
 -- where the next number fails, the search goes on after it
 pub find-range_more : (p : ℕ → Bool) (t n : ℕ) → t < n → p t ≡ false → find p (range_with_len t (n - t)) ≡ find p (range_with_len (t + 1) (n - (t + 1)))

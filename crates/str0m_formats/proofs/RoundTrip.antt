@@ -1,10 +1,8 @@
 -- What prints reads back.
-use Rattle.str0m_formats.proofs.Common.{◌≡◌, ◌≢◌, ◌≤◌, ◌<◌, ◌^◌, ◌-◌, inl, ℕ, Bool, true, false, List, [], ◌∷◌, ◌++◌, get_or, replicate, refl, sym, ap, ◌∙◌, arith, lit<, decimal, AllDigits, digits_value, decimal_is_IsNumeral, digits_is_IsNumeral, length-append, false≢true, IsNumber, IsNum, IsRest, Option, Some, None, MatchOption, nat_le, inr, ◌==◌, ◌&&◌, and_parts, cases_lt, eqb-true, leb-true}
-use Rattle.std.proofs.Common.{zero, suc}
+use Rattle.str0m_formats.proofs.Common.{◌≡◌, ◌≢◌, ◌≤◌, ◌<◌, ◌^◌, ◌-◌, inl, ℕ, Bool, true, false, List, [], ◌∷◌, ◌++◌, get_or, replicate, refl, sym, ap, ◌∙◌, arith, lit<, decimal, AllDigits, digits_value, decimal_is_IsNumeral, digits_is_IsNumeral, length-append, false≢true, IsNumber, IsNum, IsRest, Option, Some, None, MatchOption, nat_le, inr, ◌==◌, ◌&&◌, and_parts, cases_lt, eqb-true, leb-true, zero, suc, IsNumeral}
 use Rattle.std.specs.Fmt.{digits}
 use Rattle.std.specs.Char.{encode_utf8}
 use Rattle.std.specs.Str.{trim_end, chars, trim_start}
-use Rattle.std.specs.Str.Parse.{IsNumeral}
 use Rattle.str0m_formats.specs.FormatKey.{key_text}
 use Rattle.str0m_formats.specs.declared.format_key.FormatKey.{FormatKey}
 use Rattle.str0m_formats.specs.declared.format_param.FormatParam.{FormatParam}

@@ -1,7 +1,5 @@
 -- When two rows are the same: `==` of each field but `locked` decides, and so does that of the row.
-use Rattle.str0m_formats.proofs.Common.{◌≡◌, ℕ, Bool, true, false, Option, refl, sym, ap, ◌∙◌, Decides, IsEquivalence, Decides-like}
-use Rattle.std.specs.Bool.{one_answer}
-use Rattle.std.specs.Cmp.{equiv}
+use Rattle.str0m_formats.proofs.Common.{◌≡◌, ℕ, Bool, true, false, Option, refl, sym, ap, ◌∙◌, Decides, IsEquivalence, Decides-like, one_answer, equiv}
 use Rattle.str0m_formats.specs.Rows.{SameRow}
 use Rattle.str0m_formats.specs.contracts.payload_params.PayloadParamsPartialEq.TheImpl as row
 use Rattle.str0m_formats.specs.declared.codec_spec.CodecSpec.{CodecSpec}

@@ -1,6 +1,5 @@
 -- What holds over every list of rounds.
-use Rattle.str0m_formats.proofs.Common.{rules, ◌≡◌, ◌≢◌, ◌≤◌, Bool, true, false, List, [], ◌∷◌, length, Ok, Err, refl, sym, ◌∙◌, subst, arith, same_Some, All-nil, All-cons, All-head, All-tail, receives}
-use Rattle.std.specs.Prelude.{All}
+use Rattle.str0m_formats.proofs.Common.{rules, ◌≡◌, ◌≢◌, ◌≤◌, Bool, true, false, List, [], ◌∷◌, length, Ok, Err, refl, sym, ◌∙◌, subst, arith, same_Some, All-nil, All-cons, All-head, All-tail, receives, All}
 use Rattle.str0m_formats.specs.declared.negotiation_error.NegotiationError.{NegotiationError}
 use Rattle.str0m_formats.specs.declared.negotiation_error.NegotiationError.TheVariants.{Exhausted}
 use Rattle.str0m_formats.specs.declared.payload_params.PayloadParams.{PayloadParams}

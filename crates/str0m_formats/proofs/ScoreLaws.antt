@@ -1,10 +1,6 @@
 -- The score is the same both ways, and what a spec scores with itself.
-use Rattle.str0m_formats.proofs.Common.{arith, ◌≡◌, ◌≢◌, ◌==◌, inl, inr, ℕ, Bool, true, false, Option, Some, None, refl, sym, ap, ◌∙◌, subst, unsigned_Decides, when, H264ProfileLevel}
-use Rattle.std.proofs.Common.{unwrap_or}
+use Rattle.str0m_formats.proofs.Common.{arith, ◌≡◌, ◌≢◌, ◌==◌, inl, inr, ℕ, Bool, true, false, Option, Some, None, refl, sym, ap, ◌∙◌, subst, unsigned_Decides, when, H264ProfileLevel, unwrap_or, nat_eq_equiv, bool_eq_equiv, options_equiv, and_comm}
 use Rattle.std.specs.Bool.{if◌then◌else◌}
-use Rattle.std.specs.Cmp.{nat_eq_equiv, bool_eq_equiv}
-use Rattle.std.specs.Cmp.Lexicographic.{options_equiv}
-use Rattle.std.proofs.Math.Bool.{and_comm}
 use Rattle.str0m_values.specs.H264 as h264
 use Rattle.str0m_formats.specs.declared.codec.Codec.{Codec}
 use Rattle.str0m_formats.specs.declared.codec.Codec.TheVariants.{AmrWb, Tele}

@@ -1,7 +1,6 @@
 -- The rules of the score, from the function.
-use Rattle.str0m_formats.proofs.Common.{arith, ◌≡◌, ◌≢◌, ◌==◌, ◌⊎◌, inl, inr, ℕ, Bool, false, Option, None, refl, ap, ◌∙◌, Decides, unsigned_Decides}
+use Rattle.str0m_formats.proofs.Common.{arith, ◌≡◌, ◌≢◌, ◌==◌, ◌⊎◌, inl, inr, ℕ, Bool, false, Option, None, refl, ap, ◌∙◌, Decides, unsigned_Decides, and-false}
 use Rattle.std.specs.Bool.{if◌then◌else◌}
-use Rattle.std.proofs.Math.Bool.{and-false}
 use Rattle.str0m_formats.specs.declared.codec.Codec.{Codec}
 use Rattle.str0m_formats.specs.declared.codec.Codec.TheVariants.{AmrWb, Tele, Unknown}
 use Rattle.str0m_formats.specs.declared.codec_spec.CodecSpec.{CodecSpec}

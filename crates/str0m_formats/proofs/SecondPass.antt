@@ -1,6 +1,5 @@
 -- The second pass of a round: what one row changes, and the state between two rows.
-use Rattle.str0m_formats.proofs.Common.{◌≡◌, ◌==◌, ℕ, ◌+◌, ◌<◌, Bool, true, false, ◌||◌, cond, if◌then◌else◌, List, [], ◌∷◌, ◌++◌, length, take, drop, get_or, Option, Some, None, Result, Ok, Err, refl, sym, ap, ◌∙◌, subst, arith, slice_get, ok_or, append_assoc, append-nil, take_more_set, drop-set-lt, length-set, length-take-le, length_push, drop_more_same, true≢false, eqb-true, or_parts, or-false, fun_ext}
-use Rattle.std.proofs.Common.{set}
+use Rattle.str0m_formats.proofs.Common.{◌≡◌, ◌==◌, ℕ, ◌+◌, ◌<◌, Bool, true, false, ◌||◌, cond, if◌then◌else◌, List, [], ◌∷◌, ◌++◌, length, take, drop, get_or, Option, Some, None, Result, Ok, Err, refl, sym, ap, ◌∙◌, subst, arith, slice_get, ok_or, append_assoc, append-nil, take_more_set, drop-set-lt, length-set, length-take-le, length_push, drop_more_same, true≢false, eqb-true, or_parts, or-false, fun_ext, set}
 use Rattle.str0m_formats.specs.declared.negotiation_error.NegotiationError.{NegotiationError}
 use Rattle.str0m_formats.specs.declared.negotiation_error.NegotiationError.TheVariants.{Exhausted}
 use Rattle.str0m_formats.specs.declared.payload_params.PayloadParams.{PayloadParams}

@@ -1,6 +1,5 @@
 -- Parameters that are set one after another.
-use Rattle.str0m_formats.proofs.Common.{arith, ◌≡◌, ◌&&◌, Bool, true, List, [], ◌∷◌, Option, Some, None, option_map, refl, ap, ◌∙◌, sym, cons_option, filter_map, and_parts}
-use Rattle.std.proofs.Common.{is_none}
+use Rattle.str0m_formats.proofs.Common.{arith, ◌≡◌, ◌&&◌, Bool, true, List, [], ◌∷◌, Option, Some, None, option_map, refl, ap, ◌∙◌, sym, cons_option, filter_map, and_parts, is_none}
 use Rattle.str0m_formats.specs.FormatParams.{Content, get, put, param_in, set, set_all, empty, param_at, params_of}
 use Rattle.str0m_formats.specs.declared.format_key.FormatKey.TheVariants as key
 use Rattle.str0m_formats.specs.declared.format_param.FormatParam.{FormatParam}

@@ -1,7 +1,5 @@
 -- Sets of payload types: what is claimed, and what is free.
-use Rattle.str0m_formats.proofs.Common.{◌≡◌, ◌==◌, ℕ, ◌≤◌, ◌<◌, Bool, true, false, ◌||◌, ◌&&◌, not, nat_le, List, [], ◌∷◌, Option, Some, IfSome, ◌++◌, length, get_or, refl, sym, ap, ◌∙◌, subst, arith, slice_get, option_to_list, not-true, leb-true, le-leb, or-false, or_assoc, fun_ext}
-use Rattle.std.proofs.Math.Bool.{or_comm}
-use Rattle.std.proofs.lemmas.Option.{slice_get_read}
+use Rattle.str0m_formats.proofs.Common.{◌≡◌, ◌==◌, ℕ, ◌≤◌, ◌<◌, Bool, true, false, ◌||◌, ◌&&◌, not, nat_le, List, [], ◌∷◌, Option, Some, IfSome, ◌++◌, length, get_or, refl, sym, ap, ◌∙◌, subst, arith, slice_get, option_to_list, not-true, leb-true, le-leb, or-false, or_assoc, fun_ext, or_comm, slice_get_read}
 use Rattle.str0m_formats.specs.TypeSets.{TypeSet, has, with_type, with_option, either, free, preferred}
 use Rattle.str0m_formats.proofs.Lookup.{find_passes}
 

@@ -1,6 +1,5 @@
 -- What each field of a format prints: keys with values, and the range of events.
-use Rattle.str0m_formats.proofs.Common.{◌≡◌, ◌≤◌, ◌<◌, ◌-◌, ℕ, replicate, Bool, true, false, List, [], ◌∷◌, ◌++◌, map, Option, Some, None, IfSome, option_map, refl, sym, ap, ◌∙◌, arith, lit≤, lit<, codes, decimal, AllByRecursion, cons_option, join_with_byte, list_all, false≢true, append_assoc, length-append, none-some, IsRest, decimal_is_IsNumeral, digits_is_IsNumeral, ProfileTierLevel}
-use Rattle.std.proofs.Common.{zero, suc}
+use Rattle.str0m_formats.proofs.Common.{◌≡◌, ◌≤◌, ◌<◌, ◌-◌, ℕ, replicate, Bool, true, false, List, [], ◌∷◌, ◌++◌, map, Option, Some, None, IfSome, option_map, refl, sym, ap, ◌∙◌, arith, lit≤, lit<, codes, decimal, AllByRecursion, cons_option, join_with_byte, list_all, false≢true, append_assoc, length-append, none-some, IsRest, decimal_is_IsNumeral, digits_is_IsNumeral, ProfileTierLevel, zero, suc}
 use Rattle.std.specs.Fmt.{digits}
 use Rattle.str0m_formats.specs.declared.format_key.FormatKey.{FormatKey}
 use Rattle.str0m_formats.specs.declared.format_key.FormatKey.TheVariants as key

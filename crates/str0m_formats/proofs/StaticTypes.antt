@@ -1,6 +1,5 @@
 -- What a payload type stands for without a mapping is found in the table of codecs.
-use Rattle.str0m_formats.proofs.Common.{arith, ◌≡◌, ◌≤◌, ◌↔◌, ℕ, leb, Bool, true, false, Option, Some, None, is_some, option_map, refl, sym, ap, ◌∙◌, leb-true, false≢true, IsTheOnly, bind_some, only_read, reads_none}
-use Rattle.str0m_values.proofs.BothWays.{Reads}
+use Rattle.str0m_formats.proofs.Common.{arith, ◌≡◌, ◌≤◌, ◌↔◌, ℕ, leb, Bool, true, false, Option, Some, None, is_some, option_map, refl, sym, ap, ◌∙◌, leb-true, false≢true, IsTheOnly, bind_some, only_read, reads_none, Reads}
 use Rattle.str0m_values.proofs.LabelLaws.{bind_is}
 use Rattle.str0m_values.proofs.WordsOfCases.{found_passes}
 use Rattle.str0m_formats.specs.Codec.{static_row}

@@ -1,6 +1,5 @@
 -- How often a number stands in a list.
-use Rattle.str0m_formats.proofs.Common.{◌≡◌, ◌==◌, ℕ, ◌+◌, ◌≤◌, Bool, true, false, not, ◌&&◌, ◌||◌, cond, List, [], ◌∷◌, ◌++◌, refl, sym, ap, ◌∙◌, arith, list_all, false≢true, and_parts, or_parts, not-true, eqb-true}
-use Rattle.std.proofs.Common.{zero-add}
+use Rattle.str0m_formats.proofs.Common.{◌≡◌, ◌==◌, ℕ, ◌+◌, ◌≤◌, Bool, true, false, not, ◌&&◌, ◌||◌, cond, List, [], ◌∷◌, ◌++◌, refl, sym, ap, ◌∙◌, arith, list_all, false≢true, and_parts, or_parts, not-true, eqb-true, zero-add}
 use Rattle.std.proofs.lemmas.List.Sums.{sum_by-append}
 use Rattle.str0m_formats.specs.TypeSets.{has, times}
 

@@ -1,14 +1,11 @@
 -- The triple of three values is read both ways.
-use Rattle.str0m_formats.proofs.Common.{◌≡◌, ◌≤◌, ℕ, List, Option, Some, None, refl, sym, subst, ◌∙◌, inl, inr, arith, rules, Bor, decimal, none-some, IsTheOnly, ◌<|>◌, ProfileTierLevel, num_found, num_reads, only_read, bind_some, some_is, reads_none}
-use Rattle.std.specs.Prelude.{option_map}
-use Rattle.str0m_values.specs.Parts.{IsGiven, lay}
+use Rattle.str0m_formats.proofs.Common.{◌≡◌, ◌≤◌, ℕ, List, Option, Some, None, refl, sym, subst, ◌∙◌, inl, inr, arith, rules, Bor, decimal, none-some, IsTheOnly, ◌<|>◌, ProfileTierLevel, num_found, num_reads, only_read, bind_some, some_is, reads_none, option_map, IsGiven, lay, none_reads, Reads}
 use Rattle.str0m_values.specs.H265 as h265
 use Rattle.str0m_values.specs.H266 as h266
 use Rattle.str0m_values.specs.ProfileTierLevel.{HasGivenNumbers, HasNumbersOfTexts, Tables, value_in}
 use Rattle.str0m_values.specs.declared.h266.H266Level.{H266Level}
 use Rattle.str0m_values.specs.H265.{H265ProfileTierLevel as h265_triple}
 use Rattle.str0m_values.specs.H266.{H266ProfileTierLevel as h266_triple}
-use Rattle.str0m_values.proofs.BothWays.{none_reads, Reads}
 use Rattle.str0m_formats.specs.declared.format_param.FormatParam.{FormatParam}
 use Rattle.str0m_formats.specs.declared.format_param.FormatParam.TheVariants.{H265ProfileTierLevel, H266ProfileTierLevel}
 use Rattle.str0m_formats.specs.Triple.{Texts, IsTripleParam}

@@ -1,5 +1,4 @@
-use Rattle.str0m_formats.proofs.Common.{◌≡◌, ◌∷◌, ◌++◌, [], length, take, lit<, sym, ap, ◌∙◌, arith, YieldsList-from_str_split, YieldsList-turn, YieldsList-end, take_more, length_push}
-use Rattle.std.proofs.lemmas.List.{take_all}
+use Rattle.str0m_formats.proofs.Common.{◌≡◌, ◌∷◌, ◌++◌, [], length, take, lit<, sym, ap, ◌∙◌, arith, YieldsList-from_str_split, YieldsList-turn, YieldsList-end, take_more, length_push, take_all}
 use Rattle.str0m_formats.specs.FormatLine.{pieces, pairs_in}
 use Rattle.str0m_formats.specs.FormatParam.{pair_texts}
 use Rattle.str0m_formats.proofs.LineLaws.{pairs_given, pairs_absent}

@@ -1,5 +1,4 @@
-use Rattle.str0m_values.proofs.NumLaws.{parsed_ok, parsed_err}
-use Rattle.str0m_formats.proofs.Common.{arith}
+use Rattle.str0m_formats.proofs.Common.{arith, parsed_ok, parsed_err}
 use Rattle.str0m_formats.proofs.format_param.distance.Goals as goal
 
 pub returns-in-Ok : goal.returns-in-Ok

@@ -1,5 +1,4 @@
-use Rattle.str0m_formats.proofs.Common.{Some, ◌≡◌, ◌==◌, ◌^◌, ◌*◌, ◌%◌, ℕ, List, [], ◌∷◌, ◌++◌, length, take, lit<, sym, ap, ◌∙◌, subst, arith, bit_or, slice_split, YieldsList-from_str_split, YieldsList-turn, YieldsList-end, take_more, length_push}
-use Rattle.std.proofs.lemmas.List.{take_all}
+use Rattle.str0m_formats.proofs.Common.{Some, ◌≡◌, ◌==◌, ◌^◌, ◌*◌, ◌%◌, ℕ, List, [], ◌∷◌, ◌++◌, length, take, lit<, sym, ap, ◌∙◌, subst, arith, bit_or, slice_split, YieldsList-from_str_split, YieldsList-turn, YieldsList-end, take_more, length_push, take_all}
 use Rattle.str0m_formats.specs.FormatParam.{IsModeSet, IsMask}
 use Rattle.str0m_formats.proofs.Modes.{mask_push, mask_same, mask_fails}
 use Rattle.str0m_formats.proofs.format_param.mode_mask.Goals as goal

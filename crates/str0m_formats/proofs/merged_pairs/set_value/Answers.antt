@@ -1,5 +1,5 @@
-use Rattle.str0m_formats.proofs.Common.{List, ℕ, ap, ◌∙◌, arith}
-use Rattle.std.proofs.Common.{Bor, slice_set}
+use Rattle.str0m_formats.proofs.Common.{List, ℕ, ap, ◌∙◌, arith, slice_set}
+use Rattle.std.proofs.Common.{Bor}
 use Rattle.str0m_formats.specs.FormatParam.{pair_texts}
 use Rattle.str0m_formats.proofs.PlacesLaws.{value_set}
 use Rattle.str0m_formats.proofs.merged_pairs.set_value.Goals as goal

@@ -1,5 +1,4 @@
-use Rattle.str0m_formats.proofs.Common.{sym, ap, ◌∙◌, arith}
-use Rattle.std.proofs.lemmas.Bool.{le-ltb}
+use Rattle.str0m_formats.proofs.Common.{sym, ap, ◌∙◌, arith, le-ltb}
 use Rattle.str0m_formats.specs.ClaimMask.{bit_set}
 use Rattle.str0m_formats.proofs.MaskBits.{no_bit}
 use Rattle.str0m_formats.proofs.claim_mask.ClaimMask.has.Goals as goal

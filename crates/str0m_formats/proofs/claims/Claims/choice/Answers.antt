@@ -1,5 +1,4 @@
-use Rattle.str0m_formats.proofs.Common.{ℕ, List, Option, sym, subst}
-use Rattle.std.proofs.lemmas.List.{take_all}
+use Rattle.str0m_formats.proofs.Common.{ℕ, List, Option, sym, subst, take_all}
 use Rattle.std.proofs.Common.{Bor}
 use Rattle.str0m_formats.specs.declared.payload_params.PayloadParams.{PayloadParams}
 use Rattle.str0m_formats.specs.Choices.{points_for, seen}

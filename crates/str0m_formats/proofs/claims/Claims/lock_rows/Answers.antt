@@ -1,5 +1,4 @@
-use Rattle.str0m_formats.proofs.Common.{◌≡◌, Bool, Result, Ok, Err, sym, ap, ◌∙◌, subst, rules, arith, get_or, nat_lt}
-use Rattle.std.specs.Option.{option_copied}
+use Rattle.str0m_formats.proofs.Common.{◌≡◌, Bool, Result, Ok, Err, sym, ap, ◌∙◌, subst, rules, arith, get_or, nat_lt, option_copied}
 use Rattle.str0m_formats.specs.declared.negotiation_error.NegotiationError.{NegotiationError}
 use Rattle.str0m_formats.specs.Rows.{types}
 use Rattle.str0m_formats.specs.Choices.{IsChoice, points_for}

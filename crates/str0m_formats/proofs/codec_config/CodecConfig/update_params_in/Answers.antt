@@ -1,5 +1,4 @@
-use Rattle.str0m_formats.proofs.Common.{◌≡◌, ◌++◌, Err, List, length, take, drop, Bool, refl, sym, ap, ◌∙◌, subst, rules, take_at, receives}
-use Rattle.std.proofs.lemmas.List.Elements.{same_from_all_zip}
+use Rattle.str0m_formats.proofs.Common.{◌≡◌, ◌++◌, Err, List, length, take, drop, Bool, refl, sym, ap, ◌∙◌, subst, rules, take_at, receives, same_from_all_zip}
 use Rattle.str0m_formats.specs.declared.negotiation_error.NegotiationError.TheVariants.{Memory}
 use Rattle.str0m_formats.specs.declared.payload_params.PayloadParams.{PayloadParams}
 use Rattle.str0m_formats.specs.Rounds.{Leaves}

@@ -1,6 +1,5 @@
-use Rattle.str0m_formats.proofs.Common.{rules, tests, Option, Some, None, option_map, ◌≡◌, ◌∙◌, refl, str_eq_ignore_ascii_case}
+use Rattle.str0m_formats.proofs.Common.{rules, tests, Option, Some, None, option_map, ◌≡◌, ◌∙◌, refl, str_eq_ignore_ascii_case, YieldsList-at}
 use Rattle.std.proofs.lemmas.Iterator.{YieldsList-from_slice, YieldsList-from_map}
-use Rattle.std.proofs.lemmas.Iterator.Consumers.{YieldsList-at}
 use Rattle.std.proofs.lemmas.Iterator.Search.{find_from_yields_List}
 use Rattle.str0m_formats.specs.FormatKey.{key_text}
 use Rattle.str0m_formats.specs.ParamReading.{key_read}
