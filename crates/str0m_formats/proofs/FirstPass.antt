@@ -66,10 +66,7 @@ pub record LockedParts (taken unlocked : TypeSet) (receives : Bool) (row choice 
 
 pub locked_parts : (taken unlocked : TypeSet) (receives : Bool) (row choice new : PayloadParams) → locked_to taken unlocked receives row choice ≡ Ok new → LockedParts taken unlocked receives row choice new
 unfolding locked_to
-locked_parts taken unlocked receives row choice new h =
-    let first = and_then-ok (role_type taken unlocked receives choice.pt (Some row.pt)) _ new h in
-    let second = and_then-ok (rtx_type (with_type taken first.0) unlocked receives choice.resend row.resend) _ new first.2 in
-    record { pt = first.0; pt_is = first.1; resend = second.0; resend_is = second.1; all = same_Ok _ new second.2 }
+locked_parts taken unlocked receives row choice new h = grind (arith, and_then-ok, same_Ok)
 
 pub locked_to-locks : (taken unlocked : TypeSet) (receives : Bool) (row choice new : PayloadParams) → locked_to taken unlocked receives row choice ≡ Ok new → new.locked ≡ true
 locked_to-locks taken unlocked receives row choice new h = grind (arith, locked_parts taken unlocked receives row choice new h)

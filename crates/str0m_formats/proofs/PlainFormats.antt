@@ -1,9 +1,8 @@
 -- The format of a plain row reads back as it prints.
-use Rattle.str0m_formats.proofs.Common.{arith, ◌≡◌, ◌≢◌, ◌⊎◌, inl, inr, Option, None, IfSome, sym, ◌∙◌}
+use Rattle.str0m_formats.proofs.Common.{arith, ◌≡◌, ◌≢◌, ◌⊎◌, Option, None, IfSome}
 use Rattle.str0m_formats.specs.Bounds.{HoldsRowNumbers}
 use Rattle.str0m_formats.specs.PlainRow.{IsPlain}
 use Rattle.str0m_formats.specs.FormatParams.{get, IsWithin, CanBeReadBack}
-use Rattle.str0m_formats.specs.declared.codec.Codec.TheVariants.{H265, H266}
 use Rattle.str0m_formats.specs.declared.format_key.FormatKey.TheVariants as key
 use Rattle.str0m_formats.specs.declared.format_params.Field.{Field}
 use Rattle.str0m_formats.specs.declared.format_params.Field.TheVariants as field
@@ -21,20 +20,4 @@ some_is : {A : Type 0} (o : Option A) → (o ≡ None) ⊎ (o ≢ None)
 some_is o = grind arith
 
 pub can_be_read_back : (row : PayloadParams) → IsPlain row → HoldsRowNumbers row → CanBeReadBack row.spec.format
-can_be_read_back row p h =
-    let h265 = some_is row.spec.format.h265_profile_tier_level in
-    let h266 = some_is row.spec.format.h266_profile_tier_level in
-    record {
-      values = values row p h;
-      triples = elim h265 [
-        | inl none ↦ inl none
-        | inr some ↦ elim h266 [
-          | inl none ↦ inr none
-          | inr both ↦ let e : H265 ≡ H266 = sym (p.triples.h265 some).0 ∙ (p.triples.h266 both).0 in absurd cc
-        ]
-      ];
-      profile = elim h265 [
-        | inl none ↦ elim h266 [ inl other ↦ inr (none, other) | inr some ↦ inl (p.triples.h266 some).1 ]
-        | inr some ↦ inl (p.triples.h265 some).1
-      ];
-    }
+can_be_read_back row p h = grind (arith, some_is, values)

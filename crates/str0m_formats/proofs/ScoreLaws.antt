@@ -1,7 +1,5 @@
 -- The score is the same both ways, and what a spec scores with itself.
 use Rattle.str0m_formats.proofs.Common.{arith, ◌≡◌, ◌≢◌, ◌==◌, inl, inr, ℕ, Bool, true, false, Option, Some, None, refl, sym, ap, ◌∙◌, subst, unsigned_Decides, when, H264ProfileLevel, unwrap_or, nat_eq_equiv, bool_eq_equiv, options_equiv, and_comm}
-use Rattle.std.specs.Bool.{if◌then◌else◌}
-use Rattle.str0m_values.specs.H264 as h264
 use Rattle.str0m_formats.specs.declared.codec.Codec.{Codec}
 use Rattle.str0m_formats.specs.declared.codec.Codec.TheVariants.{AmrWb, Tele}
 use Rattle.str0m_formats.specs.declared.codec_spec.CodecSpec.{CodecSpec}
@@ -43,10 +41,7 @@ h264_levels_flip : (x y : Option H264ProfileLevel) → h264_level_score x y ≡ 
 h264_levels_flip x y = grind arith
 
 h264_flips : (a b : FormatParams) → h264_score a b ≡ h264_score b a
-h264_flips a b =
-    let modes = numbers_or 0 a.packetization_mode b.packetization_mode in
-    let levels = h264_levels_flip (h264.named a.profile_level_id) (h264.named b.profile_level_id) in
-    λ i. if modes i then levels i else None
+h264_flips a b = grind (arith, numbers_or, h264_levels_flip)
 
 profiles_flip : (x y : Option ProfileNumbers) (m n : Option ℕ) → profile_score x y m n ≡ profile_score y x n m
 profiles_flip x y m n = grind arith

@@ -59,9 +59,7 @@ pub record SettledParts (locked taken unlocked : TypeSet) (row new : PayloadPara
 
 kept_rtx-is_kept_red : (locked taken unlocked : TypeSet) (own new : Option ℕ) → kept_rtx locked taken unlocked own ≡ Ok new → kept_red locked taken unlocked own ≡ new
 kept_rtx-is_kept_red locked taken unlocked None new h = same_Ok None new h
-kept_rtx-is_kept_red locked taken unlocked (Some t) new h =
-    let got = and_then-ok (ok_or (kept_or_free locked taken unlocked t) Exhausted) (λ n. Ok (Some n)) new h in
-    found (kept_or_free locked taken unlocked t) got.0 got.1 ∙ same_Ok (Some got.0) new got.2
+kept_rtx-is_kept_red locked taken unlocked (Some t) new h = grind (arith, and_then-ok, found, same_Ok)
 
 pub settled_parts : (locked taken unlocked : TypeSet) (row new : PayloadParams) → settled locked taken unlocked row ≡ Ok new → row.locked ≡ false → SettledParts locked taken unlocked row new
 settled_parts locked taken unlocked row new h l = grind (arith, and_then-ok, settled_if_open, kept_rtx-is_kept_red, same_Ok)

@@ -1,4 +1,4 @@
-use Rattle.str0m_formats.proofs.Common.{◌≡◌, Bool, Result, Ok, Err, sym, ap, ◌∙◌, subst, rules, arith, get_or, nat_lt, option_copied}
+use Rattle.str0m_formats.proofs.Common.{◌≡◌, Bool, Result, Ok, sym, ap, ◌∙◌, subst, arith, get_or, nat_lt, option_copied}
 use Rattle.str0m_formats.specs.declared.negotiation_error.NegotiationError.{NegotiationError}
 use Rattle.str0m_formats.specs.Rows.{types}
 use Rattle.str0m_formats.specs.Choices.{IsChoice, points_for}
@@ -16,19 +16,7 @@ place-requires-clause-choice g c =
     small_choice (points_for (g.C.Claimed.holds c.loop-row.self.claimed) c.loop-row.self.receives (get_or c.loop-row.rows c.loop-row.row-index c.row-item.result)) c.args.remote.now (option_copied c.choice-choice.result) c.choice-choice.ensures (none-parts (nat_lt 127) (types c.args.rows.now) (types c.args.remote.now) c.requires.may.small).1
 
 pub returns-in_err-place-clause-err : goal.returns-in_err-place-clause-err
-returns-in_err-place-clause-err g c =
-    let rows = c.loop-row.rows in
-    let i = c.loop-row.row-index in
-    let row = get_or rows i c.row-item.result in
-    let claimed = g.C.Claimed.holds c.loop-row.self.claimed in
-    let unlocked = g.C.Claimed.holds c.loop-row.self.unlocked in
-    let Choice : Bool → Type 0 = λ b. IsChoice (points_for claimed b row) c.args.remote.now (option_copied c.choice-choice.result) in
-    let Placed : Bool → Type 0 = λ b. placed claimed unlocked b row (option_copied c.choice-choice.result) ≡ Err c.in_err-place.field-0.0 in
-    IfErr_from c.from_residual.result c.in_err-place.field-0.0 _ (search rules)
-    (first_stops c.args.rows.now c.args.remote.now c.args.self.now.receives rows i claimed unlocked row (option_copied c.choice-choice.result) c.in_err-place.field-0.0
-    c.requires.may c.loop-row.invariant.0 (omega arith) (ap (get_or rows i) c.row-item.is)
-    (subst Choice c.loop-row.invariant.1 c.choice-choice.ensures)
-    (subst Placed c.loop-row.invariant.1 (sym c.place.ensures.value ∙ ap (λ (r : Result (Unit {0}) NegotiationError). and_then r (λ u. Ok c.place.new.row)) c.in_err-place.was)))
+returns-in_err-place-clause-err g c = grind (arith, IfErr_from, first_stops)
 
 pub loop-row-preserved : goal.loop-row-preserved
 loop-row-preserved g c =

@@ -1,4 +1,4 @@
-use Rattle.str0m_formats.proofs.Common.{◌≡◌, ◌+◌, ℕ, List, length, sym, ap, ◌∙◌, subst, rules, arith}
+use Rattle.str0m_formats.proofs.Common.{◌≡◌, ℕ, List, sym, ap, ◌∙◌, subst, rules, arith}
 use Rattle.std.proofs.Math.ListN.{length-set}
 use Rattle.str0m_formats.specs.RedDistances.{AreDistances, kept_to}
 use Rattle.str0m_formats.proofs.RedDistances.{kept_none, kept_taken, kept_skipped, kept_distances}
@@ -9,20 +9,7 @@ pub loop-seen-init : goal.loop-seen-init
 loop-seen-init c = record { room = search rules; fits = omega arith; kept = sym (kept_none c.args.given.now) }
 
 pub loop-seen-preserved : goal.loop-seen-preserved
-loop-seen-preserved c =
-    let now = c.loop-seen in
-    elim c.if-is_kept.branch [
-      | then-is_kept w ↦ record {
-        room = ap length w.levels-is ∙ (length-set now.levels now.count (now.seen + 1) ∙ now.invariant.room);
-        fits = omega arith;
-        kept = rw (w.levels-is, w.count-is) (kept_taken c.args.given.now now.levels now.seen now.count (sym c.is_kept.ensures ∙ w.if-is_kept.true) (omega arith) now.invariant.kept);
-      }
-      | else-is_kept w ↦ record {
-        room = ap length w.levels-is ∙ now.invariant.room;
-        fits = omega arith;
-        kept = rw (w.levels-is, w.count-is) (kept_skipped c.args.given.now now.levels now.seen now.count (sym c.is_kept.ensures ∙ w.if-is_kept.false) now.invariant.kept);
-      }
-    ]
+loop-seen-preserved c = grind (arith, then-is_kept, length-set, kept_taken, else-is_kept, kept_skipped)
 
 pub invariant_of-result : goal.invariant_of-result
 invariant_of-result c =
