@@ -1,9 +1,7 @@
 -- When two attributes are equal: each variant by its fields, and two variants never.
-use Rattle.str0m_sdp.proofs.Common.{◌≡◌, Decides, param_Decides}
+use Rattle.str0m_sdp.proofs.Common.{◌≡◌, Decides, param_Decides, FormatParam, Equality, along, equality, word}
 use Rattle.str0m_formats.specs.contracts.codec.Codec as codec
 use Rattle.str0m_formats.specs.contracts.format_param.FormatParamPartialEq.TheImpl as param_eq
-use Rattle.str0m_formats.specs.declared.format_param.FormatParam.{FormatParam}
-use Rattle.str0m_formats.proofs.DerivedEqual.{Equality, along, equality, word}
 use Rattle.str0m_sdp.specs.contracts.attribute.MediaAttribute as media_type
 use Rattle.str0m_sdp.specs.contracts.attribute.MediaAttributePartialEq.TheImpl as media_eq
 use Rattle.str0m_sdp.specs.contracts.attribute.SessionAttribute as session_type

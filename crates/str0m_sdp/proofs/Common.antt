@@ -11,15 +11,15 @@ pub use Rattle.std.proofs.lemmas.List.Elements.{All-from_recursion, All-head, Al
 pub use Rattle.std.proofs.lemmas.List.Folds.{list_any-append, Any-from_list_any, list_any_at, list_any_more}
 pub use Rattle.std.proofs.lemmas.List.Sums.{sum_by-append, count_by_more_no, count_by_more_yes, AllPass-from_list_all, fold-append, length-filter}
 pub use Rattle.std.proofs.lemmas.Option.{get_or_from_slice_get, same_Some}
-pub use Rattle.std.specs.BTreeMap.{get}
+pub use Rattle.std.specs.BTreeMap.{get, BTreeMap}
 pub use Rattle.std.specs.BTreeSet.{BTreeSet, contains, Updates}
 pub use Rattle.std.specs.Bool.{Decides}
 pub use Rattle.std.specs.Borrow.{Bor}
 pub use Rattle.std.specs.Cmp.{decided, nat_eq_equiv, unsigned_Decides, IsEquivalence, unsigned_tied}
 pub use Rattle.std.specs.Cmp.Lexicographic.{bytes_decides, slice_cmp}
 pub use Rattle.std.specs.Fmt.{HasWritten, IsPlainFormatter}
-pub use Rattle.std.specs.List.{AllByRecursion, AllZip, cons_option, flat_map, IsDistinct, list_any, position_or_len, best_of, zip, AllPass, position}
-pub use Rattle.std.specs.Map.{lookup}
+pub use Rattle.std.specs.List.{AllByRecursion, AllZip, cons_option, flat_map, IsDistinct, list_any, position_or_len, best_of, zip, AllPass, position, AllPairs, Contains}
+pub use Rattle.std.specs.Map.{lookup, keys_of}
 pub use Rattle.std.specs.Option.{is_some, option_copied, option_eq, option_or, unwrap_or, option_flatten}
 pub use Rattle.std.specs.Ordering.{nat_cmp, is_eq}
 pub use Rattle.std.specs.Prelude.{codes, IsTrue, MatchOption, nat_lt, option_map, slice_get, slice_set, ◌↔◌, IsSomeAnd}
@@ -28,12 +28,14 @@ pub use Rattle.std.specs.String.{string_bytes, string_len, string_capacity}
 pub use Rattle.indexmap.specs.IndexMap.{insert_entry}
 pub use Rattle.indexmap.specs.IndexSet.{insert_all, insert_key}
 pub use denote.Enum.Bare.{same_true, sameb}
+pub use Rattle.str0m_formats.proofs.DerivedEqual.{Equality, along, equality, word}
 pub use Rattle.str0m_formats.proofs.ParamEqual.{param_Decides}
-pub use Rattle.str0m_formats.proofs.Times.{times-append, times-cons, one_if}
+pub use Rattle.str0m_formats.proofs.StaticTypes.{needs_none, static_small}
+pub use Rattle.str0m_formats.proofs.Times.{times-append, times-cons, one_if, times-some}
 pub use Rattle.str0m_formats.specs.Bounds.{IsBounded, AreModes, IsDistance, HoldsRowNumbers}
 pub use Rattle.str0m_formats.specs.Codec.{content, events, other, Content, audio, video}
 pub use Rattle.str0m_formats.specs.CodecSpec.{rtp_rate, static_spec}
-pub use Rattle.str0m_formats.specs.FormatLine.{format_of_fmtp, is_refused, line_values}
+pub use Rattle.str0m_formats.specs.FormatLine.{format_of_fmtp, is_refused, line_values, events_end, is_events, kept, values_of}
 pub use Rattle.str0m_formats.specs.FormatParams.{empty, set_all}
 pub use Rattle.str0m_formats.specs.PlainRow.{IsPlain, IsPlainG722}
 pub use Rattle.str0m_formats.specs.Rows.{SameRow, types, types_of, has_pictures}
@@ -42,7 +44,7 @@ pub use Rattle.str0m_formats.specs.TypeSets.{AllDistinct, has, times}
 pub use Rattle.str0m_formats.specs.declared.codec.Codec.{Codec}
 pub use Rattle.str0m_formats.specs.declared.codec_spec.CodecSpec.{CodecSpec}
 pub use Rattle.str0m_formats.specs.declared.format_param.FormatParam.{FormatParam}
-pub use Rattle.str0m_formats.specs.declared.format_param.FormatParam.TheVariants.{Apt, BarePtList}
+pub use Rattle.str0m_formats.specs.declared.format_param.FormatParam.TheVariants.{Apt, BarePtList, BareRange}
 pub use Rattle.str0m_formats.specs.declared.format_params.FormatParams.{FormatParams}
 pub use Rattle.str0m_formats.specs.declared.payload_params.PayloadParams.{PayloadParams}
 pub use Rattle.str0m_values.specs.Cuts.{when, ◌<|>◌, ◌>>=◌, cut, before}

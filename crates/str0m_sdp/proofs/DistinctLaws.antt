@@ -1,6 +1,6 @@
 -- What `distinct` keeps of a list: each of its values, once, as a set in order of insertion does.
-use Rattle.str0m_sdp.proofs.Common.{arith, ◌≡◌, ◌≤◌, ◌||◌, ℕ, Bool, true, false, cond, not, List, [], ◌∷◌, ◌++◌, length, drop, refl, sym, ap, ◌∙◌, append_assoc, true≢false, Decides, decided, list_any, flat_map, AllByRecursion, append-nil, drop_all, filter-append, list_any-append, insert_key, insert_all, IsEquivalence}
-use Rattle.std.specs.List.{filter, IsDistinct, AllPairs, Contains}
+use Rattle.str0m_sdp.proofs.Common.{arith, ◌≡◌, ◌≤◌, ◌||◌, ℕ, Bool, true, false, cond, not, List, [], ◌∷◌, ◌++◌, length, drop, refl, sym, ap, ◌∙◌, append_assoc, true≢false, Decides, decided, list_any, flat_map, AllByRecursion, append-nil, drop_all, filter-append, list_any-append, insert_key, insert_all, IsEquivalence, AllPairs, Contains}
+use Rattle.std.specs.List.{filter, IsDistinct}
 use Rattle.std.proofs.lemmas.Map.Keys.{apart_from_distinct}
 use Rattle.std.proofs.lemmas.Map.Steps.{list_any_congr}
 use Rattle.std.proofs.lemmas.Map.Views.{list_any-from_Contains}

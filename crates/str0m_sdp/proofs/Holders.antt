@@ -1,8 +1,6 @@
 -- Where a section has a mid and a direction.
-use Rattle.str0m_sdp.proofs.Common.{arith, ◌≡◌, ◌<◌, true, List, filter_map, count_by, Some, refl, ap, ◌∙◌, is_some, unwrap_or, ◌↔◌}
+use Rattle.str0m_sdp.proofs.Common.{arith, ◌≡◌, ◌<◌, true, List, filter_map, count_by, is_some, ◌↔◌}
 use Rattle.str0m_values.specs.declared.direction.Direction.{Direction}
-use Rattle.str0m_values.specs.declared.direction.Direction.TheVariants as way
-use Rattle.str0m_sdp.specs.Attribute.{direction_attribute}
 use Rattle.str0m_sdp.specs.Consistency.{is_mid, is_direction, mid_of}
 use Rattle.str0m_sdp.specs.Lists.{first}
 use Rattle.str0m_sdp.specs.SectionDirection.{direction_of, section_direction, with_direction}
@@ -24,10 +22,4 @@ direction_counted attrs = first_counted direction_of is_direction direction_is a
 -- what is set is read back
 pub direction_read_back : (attrs : List MediaAttribute) (direction : Direction) → 0 < count_by is_direction attrs
     → section_direction (with_direction direction attrs) ≡ direction
-direction_read_back attrs direction some =
-    let at = first_set direction_of is_direction direction_is attrs (direction_attribute direction) (ap is_some (said direction)) (first_within is_direction attrs some) in
-    ap (λ o. unwrap_or o way.Inactive) (at ∙ said direction)
-  where
-    said : (direction : Direction) → direction_of (direction_attribute direction) ≡ Some direction
-    said way.SendRecv = refl
-    said _ = refl
+direction_read_back attrs direction some = grind (arith, first_set, direction_is, first_within)

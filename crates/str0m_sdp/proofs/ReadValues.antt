@@ -1,5 +1,5 @@
 -- What the fmtp lines of a plain row read as: its format, and no payload type.
-use Rattle.str0m_sdp.proofs.Common.{rules, arith, ◌≡◌, ◌≢◌, ℕ, false, List, [], ◌∷◌, Some, refl, All, get_or, AllByRecursion, types, AllDistinct, content, events, format_of_fmtp, empty, IsPlain, Codec, FormatParam, FormatParams, PayloadParams, HoldsRowNumbers}
+use Rattle.str0m_sdp.proofs.Common.{rules, arith, ◌≡◌, ◌≢◌, ℕ, false, List, [], ◌∷◌, Some, refl, All, get_or, AllByRecursion, types, AllDistinct, content, events, format_of_fmtp, empty, IsPlain, Codec, FormatParam, FormatParams, PayloadParams, HoldsRowNumbers, BareRange}
 use Rattle.str0m_sdp.specs.declared.attribute.MediaAttribute.{MediaAttribute}
 use Rattle.str0m_sdp.specs.declared.media_line.MediaLine.{MediaLine}
 use Rattle.str0m_sdp.proofs.RowQuestions.{attrs_of}
@@ -9,7 +9,6 @@ use Rattle.str0m_formats.specs.Narrowing.{telephone_max}
 use Rattle.str0m_formats.specs.Pairs.{has_mark}
 use Rattle.str0m_formats.specs.PairsReading.{params_read}
 use Rattle.str0m_formats.specs.declared.codec.Codec.TheVariants as codec
-use Rattle.str0m_formats.specs.declared.format_param.FormatParam.TheVariants.{BareRange}
 use Rattle.str0m_formats.proofs.PrintedPairs.{IsOwn, IsLineOf, said, line_of_pairs}
 use Rattle.str0m_formats.proofs.PrintedLine.{printed_pairs}
 use Rattle.str0m_formats.proofs.PlainFormats.{can_be_read_back}

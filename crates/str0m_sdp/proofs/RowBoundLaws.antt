@@ -1,8 +1,6 @@
 -- Where lines keep to their ranges, rows do.
-use Rattle.str0m_sdp.proofs.Common.{rules, arith, ◌≡◌, ◌≤◌, ◌++◌, ℕ, Bool, cond, not, List, [], ◌∷◌, Option, Some, None, All, IfSome, filter, find, nat_eq, option_to_list, filter_map, All-nil, All-head, All-tail, IsBounded, static_spec, format_of_fmtp, empty, set_all, Codec, CodecSpec, FormatParam, FormatParams, nat_lt, option_map, All-append, All-filter, AreModes, IsDistance}
-use Rattle.str0m_formats.specs.FormatLine.{events_end, is_events, kept, values_of}
+use Rattle.str0m_sdp.proofs.Common.{rules, arith, ◌≡◌, ◌≤◌, ◌++◌, ℕ, Bool, cond, not, List, [], ◌∷◌, Option, Some, None, All, IfSome, filter, find, nat_eq, option_to_list, filter_map, All-nil, All-head, All-tail, IsBounded, static_spec, format_of_fmtp, empty, set_all, Codec, CodecSpec, FormatParam, FormatParams, nat_lt, option_map, All-append, All-filter, AreModes, IsDistance, events_end, is_events, kept, values_of, static_small}
 use Rattle.str0m_formats.specs.FormatParams.{set}
-use Rattle.str0m_formats.proofs.StaticTypes.{static_small}
 use Rattle.str0m_sdp.specs.Companions.{companion_in, companion, rtx_type, red_type}
 use Rattle.str0m_sdp.specs.Lists.{distinct}
 use Rattle.str0m_sdp.specs.Mappings.{mapping, unmapped, mapped}

@@ -1,5 +1,5 @@
 -- What the types of a section of plain, distinct rows are mapped to: each row's in order, and no type that needs no line.
-use Rattle.str0m_sdp.proofs.Common.{◌≡◌, ◌==◌, ℕ, true, false, not, List, [], ◌∷◌, ◌++◌, Option, Some, nat_eq, refl, arith, AllByRecursion, flat_map, list_any, or_left, or_right, append-nil, list_any-append, format_of_fmtp, types_of, types, same_codec, has, AllDistinct, Codec, CodecSpec, FormatParam, PayloadParams, IsPlain, IsPlainG722}
+use Rattle.str0m_sdp.proofs.Common.{◌≡◌, ◌==◌, ℕ, true, false, not, List, [], ◌∷◌, ◌++◌, Option, Some, nat_eq, refl, arith, AllByRecursion, flat_map, list_any, or_left, or_right, append-nil, list_any-append, format_of_fmtp, types_of, types, same_codec, has, AllDistinct, Codec, CodecSpec, FormatParam, PayloadParams, IsPlain, IsPlainG722, times-some}
 use Rattle.str0m_formats.specs.declared.codec.Codec.TheVariants as codec
 use Rattle.str0m_sdp.specs.Consistency.{maps}
 use Rattle.str0m_sdp.specs.Lists.{distinct}
@@ -12,7 +12,6 @@ use Rattle.str0m_sdp.proofs.RowReads.{quiet}
 use Rattle.str0m_sdp.proofs.FrameAnswers.{HasNoTypes, NameNoType}
 use Rattle.str0m_sdp.proofs.RowAnswers.{NamesItself, entries, rtx_entry, red_entry, flipped}
 use Rattle.str0m_sdp.proofs.RowQuestions.{attrs_of, mappings_are, maps_are}
-use Rattle.str0m_formats.proofs.Times.{times-some}
 
 -- ---- the codec that the mapping of a plain row names
 

@@ -1,5 +1,5 @@
 -- A section of plain, distinct rows is consistent, and each of its RTX and RED lines names one primary type.
-use Rattle.str0m_sdp.proofs.Common.{◌≡◌, ◌≢◌, ◌≤◌, inl, ℕ, Bool, true, false, List, [], ◌∷◌, ◌++◌, Option, Some, IfSome, All, refl, sym, ap, ◌∙◌, subst, arith, AllByRecursion, flat_map, All-from_recursion, content, other, types, same_codec, has, AllDistinct, Codec, FormatParam, Apt, BarePtList, PayloadParams, IsPlain, count_by, true≢false}
+use Rattle.str0m_sdp.proofs.Common.{◌≡◌, ◌≢◌, ◌≤◌, inl, ℕ, Bool, true, false, List, [], ◌∷◌, ◌++◌, Option, Some, IfSome, All, refl, sym, ap, ◌∙◌, subst, arith, AllByRecursion, flat_map, All-from_recursion, content, other, types, same_codec, has, AllDistinct, Codec, FormatParam, Apt, BarePtList, PayloadParams, IsPlain, count_by, true≢false, times-some}
 use Rattle.str0m_formats.specs.declared.codec.Codec.TheVariants as codec
 use Rattle.str0m_sdp.specs.Consistency.{is_mid, is_setup, is_direction, maps, IsMapped, first_apt, NamesNoOther, AgreesOnApt, Consistent}
 use Rattle.str0m_sdp.specs.Mappings.{mapped, is_mapped_to}
@@ -15,7 +15,6 @@ use Rattle.str0m_sdp.proofs.FrameAnswers.{HasNoTypes, NameNoType, NamesNoType}
 use Rattle.str0m_sdp.proofs.RowQuestions.{lines, attrs_of, apt_is, maps_are}
 use Rattle.str0m_sdp.proofs.RowsBack.{IsSaid, section, each_type}
 use Rattle.str0m_sdp.proofs.RowsAgain.{pt_mapped, rtx_mapped, red_mapped, primary_among}
-use Rattle.str0m_formats.proofs.Times.{times-some}
 
 -- ---- what is counted stands in the frame alone
 
@@ -32,9 +31,7 @@ if_some : {A : Type 0} (o : Option A) (P : A → Type 0) → ((x : A) → P x) �
 if_some o P f = grind arith
 
 no_other : (first : ℕ) (v : List FormatParam) → AllByRecursion NamesNoType v → All (NamesNoOther first) v
-no_other first v h =
-    All-from_recursion (NamesNoOther first) v
-    (weaker NamesNoType (NamesNoOther first) (λ x k. subst (λ o. IfSome o (λ other. first ≡ other)) (sym k.0) tt) v h)
+no_other first v h = grind (arith, All-from_recursion, weaker, NamesNoType)
 
 no_companion : (c : Codec) → content c ≢ other → (same_codec c codec.Rtx ≡ false) × (same_codec c codec.Red ≡ false)
 no_companion c h = grind arith

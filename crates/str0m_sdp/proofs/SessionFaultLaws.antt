@@ -1,11 +1,10 @@
 -- Laws of the first fault of a session: there is none where the session is consistent, and only there.
-use Rattle.str0m_sdp.proofs.Common.{◌≡◌, ℕ, Bool, true, false, List, [], ◌∷◌, Option, Some, None, All, arith, refl, ◌↔◌, cases_eq, eq-eqb, ne_eqb, ◌<|>◌, when, MatchOption, option_map}
+use Rattle.str0m_sdp.proofs.Common.{◌≡◌, ℕ, List, [], ◌∷◌, Option, Some, None, All, arith, refl, ◌↔◌, cases_eq, eq-eqb, ne_eqb, MatchOption, option_map}
 use Rattle.str0m_sdp.specs.Consistency.{Consistent}
 use Rattle.str0m_sdp.specs.Fault.{fault_text, first_fault, section_message}
-use Rattle.str0m_sdp.specs.SessionConsistency.{AreDistinct, ConsistentSdp, IsGrouped, first_group, is_listed, parts, section_mids}
+use Rattle.str0m_sdp.specs.SessionConsistency.{AreDistinct, ConsistentSdp, IsGrouped, parts, section_mids}
 use Rattle.str0m_sdp.specs.SessionFault.{first_again, first_difference, first_session_fault, group_fault, listing_fault, sections_message}
 use Rattle.str0m_sdp.specs.declared.fault.SessionFault.{SessionFault}
-use Rattle.str0m_sdp.specs.declared.fault.SessionFault.TheVariants.{SharedMid}
 use Rattle.str0m_sdp.specs.declared.media_line.MediaLine.{MediaLine}
 use Rattle.str0m_sdp.specs.declared.session.Sdp.{Sdp}
 use Rattle.str0m_sdp.proofs.FaultLaws.{no_fault, none_among, none_first, or_none}
@@ -24,12 +23,7 @@ then a b = ((λ x. b.0 (a.0 x)), λ z. a.1 (b.1 z))
 
 distinct : (mids : List (List ℕ)) → (first_again mids ≡ None) ↔ AreDistinct mids
 distinct [] = ((λ is i j d lt within. omega (arith, lt, within)), λ apart. refl)
-distinct (mid ∷ mids) = go (is_listed mids (Some mid)) refl (distinct mids)
-  where
-    go : (b : Bool) → is_listed mids (Some mid) ≡ b → (first_again mids ≡ None) ↔ AreDistinct mids
-        → (when b mid <|> first_again mids ≡ None) ↔ AreDistinct (mid ∷ mids)
-    go true listed rest = ((λ is. absurd cc), λ all. absurd (again mid mids listed all))
-    go false unlisted rest = then rest (apart mid mids unlisted)
+distinct (mid ∷ mids) = grind (arith, again, apart, distinct mids)
 
 listed : (mids group : List (List ℕ)) → (listing_fault mids group ≡ None) ↔ (mids ≡ group)
 listed mids group = grind (arith, mapped_none, first_difference, cases_eq, eq-eqb, same_from_none, none_from_same, ne_eqb)
@@ -42,11 +36,7 @@ grouped sections (Some group) = listed (parts group sections) group
 -- ---- all of them
 
 no_session_fault : (sdp : Sdp) → (first_session_fault sdp ≡ None) ↔ (AreDistinct (section_mids sdp.media_lines) × IsGrouped sdp)
-no_session_fault sdp =
-    let shared = first_again (section_mids sdp.media_lines) in
-    then (or_none (option_map SharedMid shared) (group_fault sdp.media_lines (first_group sdp.session.attrs)))
-    (both (then (mapped_none SharedMid shared) (distinct (section_mids sdp.media_lines)))
-    (grouped sdp.media_lines (first_group sdp.session.attrs)))
+no_session_fault sdp = grind (arith, or_none, both, mapped_none, distinct, grouped)
 
 pub no_message : (m : MediaLine) → (section_message m ≡ None) ↔ Consistent m
 no_message m = then (mapped_none (fault_text m) (first_fault m)) (no_fault m)

@@ -1,6 +1,5 @@
 -- Laws of fmtp lines by their types.
-use Rattle.str0m_sdp.proofs.Common.{arith, ◌≡◌, ◌<◌, ◌+◌, ◌++◌, ℕ, List, [], ◌∷◌, All, length, take, get_or, slice_set, Bor, cases_eq, eq-eqb, ne_eqb, get_or-set_other, length-set, FormatParam}
-use Rattle.std.proofs.lemmas.Grind.{get_or-set_at}
+use Rattle.str0m_sdp.proofs.Common.{arith, ◌≡◌, ◌<◌, ◌+◌, ◌++◌, ℕ, List, [], ◌∷◌, All, length, take, get_or, slice_set, Bor, cases_eq, eq-eqb, ne_eqb, get_or-set_other, length-set, FormatParam, get_or-set_at}
 use Rattle.str0m_sdp.specs.TypeLines.{AreGrouped}
 use Rattle.str0m_sdp.specs.declared.type_lines.TypeLines.{TypeLines}
 use Rattle.str0m_sdp.proofs.FmtpLineLaws.{found_own, found_other}

@@ -1,4 +1,4 @@
-use Rattle.str0m_sdp.proofs.Common.{ap, arith, sym, ◌∙◌, is_some, same_Some}
+use Rattle.str0m_sdp.proofs.Common.{ap, arith, ◌∙◌, is_some, same_Some}
 use Rattle.str0m_sdp.specs.Consistency.{is_direction}
 use Rattle.str0m_sdp.proofs.ListLaws.{first_within, position_within}
 use Rattle.str0m_sdp.proofs.section_direction.direction_place.Goals as goal
@@ -7,6 +7,4 @@ pub unwrap-requires : goal.unwrap-requires
 unwrap-requires c = ap is_some (c.find_direction.ensures ∙ position_within is_direction c.args.attrs.now c.requires)
 
 pub returns : goal.returns
-returns c =
-    let at = same_Some _ _ (sym c.unwrap.ensures ∙ c.find_direction.ensures ∙ position_within is_direction c.args.attrs.now c.requires) in
-    record { first = at; within = omega (arith, at, first_within is_direction c.args.attrs.now c.requires) }
+returns c = grind (arith, same_Some, position_within, first_within)
