@@ -5,6 +5,10 @@ use Rattle.str0m_values.specs.Candidate.{candidate_text}
 use Rattle.str0m_values.specs.Fingerprint.{fingerprint_text}
 use Rattle.str0m_sdp.specs.declared.attribute_line.Line.{Line}
 use Rattle.str0m_sdp.specs.declared.attribute_line.Line.TheVariants as line
+use Rattle.str0m_sdp.specs.declared.numbered_line.NumberedLine.{NumberedLine}
+use Rattle.str0m_sdp.specs.declared.numbered_line.NumberedLine.TheVariants as numbered
+use Rattle.str0m_sdp.specs.declared.structured_line.StructuredLine.{StructuredLine}
+use Rattle.str0m_sdp.specs.declared.structured_line.StructuredLine.TheVariants as structured
 use Rattle.str0m_sdp.specs.ExtMap.{ext_map_text}
 use Rattle.str0m_sdp.specs.Fmtp.{fmtp_text}
 use Rattle.str0m_sdp.specs.Group.{group_text, msid_semantic_text}
@@ -16,6 +20,22 @@ use Rattle.str0m_sdp.specs.Simulcast.{simulcast_text}
 use Rattle.str0m_sdp.specs.SsrcGroup.{ssrc_group_text}
 use Rattle.str0m_sdp.specs.declared.label.TheConstants as label
 
+-- of a payload type, or of a source
+abbrev pub numbered_text : NumberedLine → List ℕ
+numbered_text (numbered.RtpMap pt map) = labelled_line label.RTPMAP.now (decimal pt ++ (codes " " ++ rtp_map_text map.now))
+numbered_text (numbered.RtcpFb pt value) = labelled_line label.RTCP_FB.now (decimal pt ++ (codes " " ++ value.now))
+numbered_text (numbered.Ssrc ssrc attr value) = labelled_line label.SSRC.now (decimal ssrc ++ (codes " " ++ (attr.now ++ (codes ":" ++ value.now))))
+
+-- of several parts
+abbrev pub structured_text : StructuredLine → List ℕ
+structured_text (structured.ExtMap id ext) = ext_map_text id ext.now
+structured_text (structured.Fmtp pt values) = fmtp_text pt values.now
+structured_text (structured.Rid id direction pts restrictions) = rid_text id.now direction.now pts.now restrictions.now
+structured_text (structured.Simulcast simulcast) = simulcast_text simulcast.now
+structured_text (structured.SsrcGroup semantics ssrcs) = ssrc_group_text semantics.now ssrcs.now
+structured_text (structured.Group typ mids) = group_text typ.now mids.now
+structured_text (structured.MsidSemantic semantic ids) = msid_semantic_text semantic.now ids.now
+
 abbrev pub line_text : Line → List ℕ
 line_text (line.Word word) = attribute_line word.now
 line_text (line.Text name text) = labelled_line name.now text.now
@@ -25,13 +45,5 @@ line_text (line.Fingerprint hash) = labelled_line label.FINGERPRINT.now (fingerp
 line_text (line.Setup setup) = labelled_line label.SETUP.now (setup_text setup)
 line_text (line.Mid mid) = labelled_line label.MID.now mid.now
 line_text (line.Candidate candidate) = attribute_line (candidate_text candidate.now)
-line_text (line.ExtMap id ext) = ext_map_text id ext.now
-line_text (line.RtpMap pt map) = labelled_line label.RTPMAP.now (decimal pt ++ (codes " " ++ rtp_map_text map.now))
-line_text (line.RtcpFb pt value) = labelled_line label.RTCP_FB.now (decimal pt ++ (codes " " ++ value.now))
-line_text (line.Fmtp pt values) = fmtp_text pt values.now
-line_text (line.Rid id direction pts restrictions) = rid_text id.now direction.now pts.now restrictions.now
-line_text (line.Simulcast simulcast) = simulcast_text simulcast.now
-line_text (line.SsrcGroup semantics ssrcs) = ssrc_group_text semantics.now ssrcs.now
-line_text (line.Ssrc ssrc attr value) = labelled_line label.SSRC.now (decimal ssrc ++ (codes " " ++ (attr.now ++ (codes ":" ++ value.now))))
-line_text (line.Group typ mids) = group_text typ.now mids.now
-line_text (line.MsidSemantic semantic ids) = msid_semantic_text semantic.now ids.now
+line_text (line.Numbered line) = numbered_text line
+line_text (line.Structured line) = structured_text line

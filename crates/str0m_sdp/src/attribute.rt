@@ -7,10 +7,12 @@ ghost use Rattle.str0m_sdp.specs.AttributeLine.{line_text};
 use crate::attribute_line::Line;
 use crate::label;
 use crate::msid::Msid;
+use crate::numbered_line::NumberedLine;
 use crate::printed::Printed;
 use crate::rtp_map::RtpMap;
 use crate::setup::Setup;
 use crate::simulcast::{RestrictionId, Simulcast};
+use crate::structured_line::StructuredLine;
 use crate::word::Word;
 use std::alloc::AllocError;
 use std::fmt;
@@ -186,11 +188,13 @@ impl SessionAttribute {
         ensures { line_text result ≡ session_attribute_text self.now }
     {
         match self {
-            SessionAttribute::Group { typ, mids } => Line::Group(typ, mids),
+            SessionAttribute::Group { typ, mids } => Line::Structured(StructuredLine::Group(
+                typ, mids,
+            )),
             SessionAttribute::MsidSemantic {
                 semantic,
                 stream_ids,
-            } => Line::MsidSemantic(semantic, stream_ids),
+            } => Line::Structured(StructuredLine::MsidSemantic(semantic, stream_ids)),
             SessionAttribute::AllowMixedExts => Line::Word(label::EXTMAP_ALLOW_MIXED),
             SessionAttribute::IceLite => Line::Word(label::ICE_LITE),
             SessionAttribute::IceUfrag(text) => Line::Text(label::ICE_UFRAG, text),
@@ -245,7 +249,9 @@ impl MediaAttribute {
             MediaAttribute::SctpPort(port) => Line::Number(label::SCTP_PORT, u64::from(*port)),
             MediaAttribute::MaxMessageSize(size) => Line::Number(label::MAX_MESSAGE_SIZE, *size),
             MediaAttribute::SctpInit(text) => Line::Text(label::SCTP_INIT, text),
-            MediaAttribute::ExtMap { id, ext } => Line::ExtMap(*id, ext),
+            MediaAttribute::ExtMap { id, ext } => Line::Structured(StructuredLine::ExtMap(
+                *id, ext,
+            )),
             MediaAttribute::RecvOnly => Line::Word(label::RECV_ONLY),
             MediaAttribute::SendRecv => Line::Word(label::SEND_RECV),
             MediaAttribute::SendOnly => Line::Word(label::SEND_ONLY),
@@ -258,18 +264,30 @@ impl MediaAttribute {
             MediaAttribute::RtcpRsize => Line::Word(label::RTCP_RSIZE),
             MediaAttribute::Candidate(candidate) => Line::Candidate(candidate),
             MediaAttribute::EndOfCandidates => Line::Word(label::END_OF_CANDIDATES),
-            MediaAttribute::RtpMap { pt, value } => Line::RtpMap(*pt, value),
-            MediaAttribute::RtcpFb { pt, value } => Line::RtcpFb(*pt, value),
-            MediaAttribute::Fmtp { pt, values } => Line::Fmtp(*pt, values),
+            MediaAttribute::RtpMap { pt, value } => Line::Numbered(NumberedLine::RtpMap(
+                *pt, value,
+            )),
+            MediaAttribute::RtcpFb { pt, value } => Line::Numbered(NumberedLine::RtcpFb(
+                *pt, value,
+            )),
+            MediaAttribute::Fmtp { pt, values } => Line::Structured(StructuredLine::Fmtp(
+                *pt, values,
+            )),
             MediaAttribute::Rid {
                 id,
                 direction,
                 pt,
                 restriction,
-            } => Line::Rid(id, direction, pt, restriction),
-            MediaAttribute::Simulcast(simulcast) => Line::Simulcast(simulcast),
-            MediaAttribute::SsrcGroup { semantics, ssrcs } => Line::SsrcGroup(semantics, ssrcs),
-            MediaAttribute::Ssrc { ssrc, attr, value } => Line::Ssrc(*ssrc, attr, value),
+            } => Line::Structured(StructuredLine::Rid(id, direction, pt, restriction)),
+            MediaAttribute::Simulcast(simulcast) => Line::Structured(StructuredLine::Simulcast(
+                simulcast,
+            )),
+            MediaAttribute::SsrcGroup { semantics, ssrcs } => Line::Structured(
+                StructuredLine::SsrcGroup(semantics, ssrcs),
+            ),
+            MediaAttribute::Ssrc { ssrc, attr, value } => Line::Numbered(NumberedLine::Ssrc(
+                *ssrc, attr, value,
+            )),
             MediaAttribute::Unused(text) => Line::Word(text.as_str()),
         }
     }
