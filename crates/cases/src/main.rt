@@ -3,7 +3,35 @@
 //! a carriage return, a line feed, a tab and a backslash; answers write them the same way.
 #![tactic(auto)]
 
-use case_texts::{push_indented, push_unescaped};
+mod attribute_parts;
+mod back_words;
+mod copied_parts;
+mod cuts;
+mod descriptions;
+mod escapes;
+mod fmtp_lines;
+mod held_texts;
+mod layers;
+mod line_words;
+mod lines;
+mod made_sections;
+mod negotiated;
+mod random_names;
+mod read_back;
+mod row_lines;
+mod said_by_both;
+mod said_by_sections;
+mod said_by_sessions;
+mod said_roles;
+mod said_rows;
+mod said_sources;
+mod said_words;
+mod section_shown;
+mod spoken;
+mod without_memory;
+mod writable;
+
+use crate::escapes::{push_indented, push_unescaped};
 use plain_cases::Answer;
 use std::alloc::{AllocError, Global};
 use std::io;
@@ -11,9 +39,9 @@ use std::io;
 /// Answers what the word asks of the text.
 fn answer_to(answer: &mut Answer, word: &str, text: &str) {
     let is_known = plain_cases::answers(answer, word, text)
-        || line_cases::answers(answer, word, text)
-        || said_cases::answers(answer, word, text)
-        || back_cases::answers(answer, word, text);
+        || line_words::answers(answer, word, text)
+        || said_words::answers(answer, word, text)
+        || back_words::answers(answer, word, text);
     answer.push_if(!is_known, "no such word");
 }
 

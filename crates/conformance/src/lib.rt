@@ -13,6 +13,8 @@ mod negotiation;
 #[cfg(test)]
 mod offers;
 #[cfg(test)]
+mod programs;
+#[cfg(test)]
 mod texts;
 #[cfg(test)]
 mod unwritten;

@@ -1,11 +1,11 @@
 //! Tables of claimed payload types. A set of types is written by its ranges, as `96-127 80-94 35`; `none` is the empty
 //! one. What is asked is asked of every table, and answered where all answer the same.
 
+use crate::answer::Answer;
 use crate::row_texts::type_of;
 use crate::row_words::sides;
 use str0m_formats::{ClaimMask, Claimed};
 use str0m_values::Pt;
-use value_cases::Answer;
 
 /// Claims the types of a range, as `96-127`, or the one type.
 fn claim_range<C: Claimed>(answer: &mut Answer, set: &mut C, range: &str) {

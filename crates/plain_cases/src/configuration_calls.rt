@@ -1,9 +1,10 @@
 //! Configurations by the calls that make them, parted by `, `, as `defaults, disable opus`.
 
+use crate::answer::Answer;
+use crate::lists::word;
 use crate::row_texts::{byte_of, codec_of, row_of, rows_of, type_of, type_or_dash};
 use std::alloc::AllocError;
 use str0m_formats::{Codec, CodecConfig};
-use value_cases::{Answer, word};
 
 /// Enables or disables sound that can have RED; none of what can have none.
 fn enable_sound(

@@ -1,12 +1,13 @@
 //! Codecs, parameters and formats: what is read and what is printed. `-` stands for what prints nothing.
 
+use crate::answer::Answer;
+use crate::lists::word;
 use crate::row_answers::{push_or_dash, show_codec};
 use crate::row_texts::{format_of, type_of};
 use std::alloc::AllocError;
 use std::fmt::Display;
 use str0m_formats::{Codec, CodecSpec, FormatParam, FormatParams};
 use str0m_values::MediaKind;
-use value_cases::{Answer, word};
 
 /// What the value prints, and `-` for nothing.
 fn show_or_dash<T: Display>(answer: &mut Answer, value: &T) {

@@ -1,7 +1,7 @@
 //! Codecs, formats, rows and rounds: the words of their cases.
 
+use crate::answer::Answer;
 use crate::{claim_words, format_words, plain_rows, round_words, row_words};
-use value_cases::Answer;
 
 /// Answers what the word asks of the text; whether it is a word of formats, rows or rounds.
 pub(crate) fn answers(answer: &mut Answer, word: &str, text: &str) -> bool {

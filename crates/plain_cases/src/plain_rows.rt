@@ -1,10 +1,11 @@
 //! Whether rows are plain. A row may have what no line says, behind a bar: `| modes 512, h266`.
 
+use crate::answer::Answer;
 use crate::configuration_calls::config_of;
+use crate::lists::word;
 use crate::row_texts::{row_of, type_of};
 use str0m_formats::{FormatParams, PayloadParams};
 use str0m_values::{H265ProfileTierLevel, H266ProfileTierLevel};
-use value_cases::{Answer, word};
 
 /// Sets one field of a format: `modes MASK`, `distance N`, `profile-id N`, or the fallback of `h265` or `h266`.
 fn set_one(answer: &mut Answer, format: &mut FormatParams, text: &str) {

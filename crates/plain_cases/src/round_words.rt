@@ -1,13 +1,14 @@
 //! Rounds of negotiation, and the distances of RED. A round is a direction and the remote rows, as
 //! `recvonly 96 - - opus/48000/2 -`; rounds stand behind this side's rows, each behind ` | `.
 
+use crate::answer::Answer;
 use crate::claim_words::DIFFERS;
 use crate::configuration_calls::{config_of, copy_of, is_same};
+use crate::lists::word;
 use crate::row_answers::show_rows;
 use crate::row_texts::rows_of;
 use crate::row_words::{direction_of, sides};
 use str0m_formats::{ClaimMask, Claimed, CodecConfig, NegotiationError, Round};
-use value_cases::{Answer, word};
 
 type Outcome = Result<(), NegotiationError>;
 

@@ -1,7 +1,7 @@
 //! Rows and lists as answers show them.
 
+use crate::answer::Answer;
 use str0m_formats::{CodecSpec, PayloadParams};
-use value_cases::Answer;
 
 /// The text, and `-` for an empty one.
 pub(crate) fn push_or_dash(answer: &mut Answer, text: &str) {

@@ -3,9 +3,10 @@
 //! absent. Behind it may stand what feedback is off, as `no-transport-cc`. Rows are parted by ` + `; `none` is no row.
 //! Of a text that names no such thing the answer says so, and anything stands for it.
 
+use crate::answer::Answer;
+use crate::lists::word;
 use str0m_formats::{Codec, CodecSpec, FormatParams, PayloadParams};
 use str0m_values::{Frequency, Pt};
-use value_cases::{Answer, word};
 
 /// A number of 8 bits.
 pub(crate) fn byte_of(answer: &mut Answer, text: &str, what: &str) -> u8 {

@@ -1,11 +1,13 @@
 //! What is asked of rows and of configurations.
 
+use crate::answer::Answer;
 use crate::configuration_calls::{config_of, made};
+use crate::identifiers::direction;
+use crate::lists::word;
 use crate::row_answers::{show_row, show_rows};
 use crate::row_texts::{row_of, rows_of, spec_of, type_of};
 use str0m_formats::{CodecConfig, PayloadParams};
 use str0m_values::{Direction, MediaKind, Pt};
-use value_cases::{Answer, direction, word};
 
 /// What stands on both sides of the first bar.
 pub(crate) fn sides<'a>(answer: &mut Answer, text: &'a str) -> (&'a str, &'a str) {

@@ -3,4 +3,6 @@
 #![tactic(auto)]
 
 #[cfg(test)]
+mod offers;
+#[cfg(test)]
 mod tests;

@@ -1,0 +1,150 @@
+//! What sections say (RFC 8866, section 5.14), and their direction when it is set.
+
+use crate::escapes::push_escaped;
+use crate::said_by_both::{add_credentials, add_fingerprint, add_flag, add_foundations, add_setup};
+use crate::spoken::section;
+use plain_cases::Answer;
+use str0m_signal::{Direction, MediaLine, Simulcast};
+
+/// Answers what the word asks of the text; whether it is one of these words.
+pub(crate) fn answers(answer: &mut Answer, word: &str, text: &str) -> bool {
+    match word {
+        "section-says" => section_says(answer, text),
+        "set-direction" => with_direction(answer, text),
+        _ => return false,
+    }
+    true
+}
+
+/// All that a section says, a line each.
+fn section_says(answer: &mut Answer, text: &str) {
+    let section = section(answer, text);
+    add_role(answer, &section);
+    add_transport(answer, &section);
+    add_data(answer, &section);
+    add_streams(answer, &section);
+    add_layers(answer, &section);
+}
+
+fn add_role(answer: &mut Answer, section: &MediaLine) {
+    if section.has_mid() {
+        answer.line("mid");
+        answer.show(&section.mid());
+    }
+    answer.line("direction");
+    answer.push(direction_word(section.direction()));
+    answer.push_if(!section.has_direction(), ", as none is said");
+    add_setup(answer, section.setup());
+}
+
+fn direction_word(direction: Direction) -> &'static str {
+    match direction {
+        Direction::SendRecv => "sendrecv",
+        Direction::SendOnly => "sendonly",
+        Direction::RecvOnly => "recvonly",
+        Direction::Inactive => "inactive",
+    }
+}
+
+fn add_transport(answer: &mut Answer, section: &MediaLine) {
+    add_credentials(answer, &section.ice_creds());
+    add_fingerprint(answer, &section.fingerprint());
+    add_foundations(answer, section.ice_candidates());
+    add_flag(answer, "end of candidates", section.end_of_candidates());
+}
+
+fn add_data(answer: &mut Answer, section: &MediaLine) {
+    if let Some(init) = section.sctp_init() {
+        answer.line("sctp-init");
+        answer.push(init);
+    }
+    if let Some(size) = section.max_message_size() {
+        answer.line("max-message-size");
+        answer.show(&size);
+    }
+}
+
+fn add_streams(answer: &mut Answer, section: &MediaLine) {
+    let msid = section.msid();
+    if let Some(msid) = answer.found(&msid) {
+        answer.line("msid");
+        answer.show(msid);
+    }
+    add_extensions(answer, section);
+    add_rids(answer, section);
+}
+
+fn add_extensions(answer: &mut Answer, section: &MediaLine) {
+    let all = section.extmaps();
+    if let Some(all) = answer.made(&all) {
+        for (index, (id, extension)) in all.iter().enumerate() {
+            answer.item_of_line("extensions", index);
+            answer.show(id);
+            answer.push(" ");
+            answer.push(extension.as_uri());
+        }
+    }
+}
+
+fn add_rids(answer: &mut Answer, section: &MediaLine) {
+    let all = section.rids();
+    if let Some(all) = answer.made(&all) {
+        for (index, rid) in all.iter().enumerate() {
+            answer.item_of_line("rids", index);
+            answer.show(rid);
+        }
+    }
+}
+
+/// The layers of both ways, and what the other side calls them.
+fn add_layers(answer: &mut Answer, section: &MediaLine) {
+    match section.simulcast() {
+        Ok(Some(simulcast)) => {
+            add_ways(answer, "simulcast", &simulcast);
+            add_ways(answer, "inverted", &simulcast.invert());
+        }
+        Ok(None) => {}
+        Err(_) => answer.refuse(),
+    }
+}
+
+fn add_ways(answer: &mut Answer, label: &str, simulcast: &Simulcast) {
+    answer.line(label);
+    answer.push("send `");
+    answer.show(&simulcast.send);
+    answer.push("` recv `");
+    answer.show(&simulcast.recv);
+    answer.push("`");
+    answer.push_if(simulcast.is_munged, ", munged");
+}
+
+/// The word's direction is set in a section of the lines behind it: the direction then, and the section.
+fn with_direction(answer: &mut Answer, text: &str) {
+    let (word, lines) = text.split_once(' ').unwrap_or((text, ""));
+    let mut section = section(answer, lines);
+    if section.has_direction() {
+        section.set_direction(direction_of(word));
+        show_turned(answer, &section);
+    } else {
+        answer.push("no direction to set");
+    }
+}
+
+/// The section's direction, and the section.
+fn show_turned(answer: &mut Answer, section: &MediaLine) {
+    answer.push(direction_word(section.direction()));
+    answer.push("\n");
+    let printed = section.to_string(answer.alloc());
+    if let Some(printed) = answer.made(&printed) {
+        push_escaped(answer, printed.as_str());
+    }
+}
+
+fn direction_of(word: &str) -> Direction {
+    match word {
+        "sendrecv" => Direction::SendRecv,
+        "sendonly" => Direction::SendOnly,
+        "recvonly" => Direction::RecvOnly,
+        _ => Direction::Inactive,
+    }
+}
