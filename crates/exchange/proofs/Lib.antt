@@ -19,6 +19,7 @@ pub mod RestartLaws
 pub mod RoundLaws
 pub mod RowLaws
 pub mod RowTypes
+pub mod RoundNameLaws
 pub mod RuleLaws
 pub mod TrickledLaws
 pub mod TypeLaws

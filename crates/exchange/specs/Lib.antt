@@ -29,6 +29,7 @@ pub mod RejectedSection
 pub mod RepeatedLines
 pub mod Restart
 pub mod Rows
+pub mod RoundNames
 pub mod Rules
 pub mod SignalingState
 pub mod State

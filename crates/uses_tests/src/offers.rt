@@ -1,9 +1,9 @@
 //! What is in force at a section, and candidates.
 
-use exchange::{creds_at, fingerprint_at, setup_at, trickled_candidate};
+use exchange::{creds_at, fingerprint_at, negotiated_names, setup_at, trickled_candidate};
 use std::alloc::Global;
 use std::test::Fail;
-use str0m_signal::{Sdp, SdpError, Setup, sdp_parser};
+use str0m_signal::{CodecConfig, Sdp, SdpError, Setup, negotiate_text, sdp_parser};
 
 /// Four sections: one with a transport of its own, one bundled alone, one stopped, and one that says
 /// bundle-only outside the group.
@@ -54,5 +54,23 @@ fn candidates_are_read_as_browsers_trickle_them(rt: HostRuntime) -> Result<(), F
     ] {
         assert!(rt; trickled_candidate(rt.alloc(), text).is_err());
     }
+    Ok(())
+}
+
+/// Sound, data channels between, and a disabled picture.
+const CALL: &str =
+    "v=0\r\no=- 7 2 IN IP4 0.0.0.0\r\ns=-\r\nt=0 0\r\nm=audio 9 UDP/TLS/RTP/SAVPF 109\r\nc=IN IP4 0.0.0.0\r\na=mid:sound\r\na=sendrecv\r\na=rtpmap:109 opus/48000/2\r\nm=application 9 UDP/DTLS/SCTP webrtc-datachannel\r\nc=IN IP4 0.0.0.0\r\na=mid:data\r\na=sctp-port:5000\r\nm=video 0 UDP/TLS/RTP/SAVPF 120\r\nc=IN IP4 0.0.0.0\r\na=mid:picture\r\na=sendrecv\r\na=rtpmap:120 VP8/90000\r\n";
+
+#[test]
+fn each_outcome_has_the_name_of_its_section(rt: HostRuntime) -> Result<(), Fail> {
+    let (call, _) = sdp_parser(rt.alloc(), CALL)?;
+    let names = negotiated_names(rt.alloc(), &call)?;
+    let mut config = CodecConfig::new_with_defaults(rt.alloc())?;
+    let outcomes = negotiate_text(&mut config, CALL)?;
+    assert_eq!(rt; names.len(), outcomes.len());
+    let sound = names.get(0).ok_or("sound")?.ok_or("name")?;
+    assert_eq!(rt; sound.as_str(), "sound");
+    let picture = names.get(1).ok_or("picture")?.ok_or("name")?;
+    assert_eq!(rt; picture.as_str(), "picture");
     Ok(())
 }
