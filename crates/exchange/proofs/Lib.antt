@@ -23,3 +23,4 @@ pub mod RoundNameLaws
 pub mod RuleLaws
 pub mod TrickledLaws
 pub mod TypeLaws
+pub mod UnreadLaws

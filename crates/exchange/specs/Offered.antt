@@ -1,5 +1,5 @@
 -- Offers that are read whole, and their rounds.
-use Rattle.std.specs.Prelude.{◌≡◌, ◌≢◌, ◌⊎◌, ℕ, true, List, [], ◌∷◌}
+use Rattle.std.specs.Prelude.{◌≡◌, ◌≢◌, ◌⊎◌, ◌+◌, ◌++◌, ℕ, true, List, [], ◌∷◌, length}
 use Rattle.str0m_formats.specs.Promises.{RunPromises}
 use Rattle.str0m_formats.specs.Runs.{Outcome, Reached}
 use Rattle.str0m_formats.specs.declared.payload_params.PayloadParams.{PayloadParams}
@@ -11,7 +11,8 @@ use Rattle.str0m_sdp.specs.declared.media_line.MediaLine.{MediaLine}
 use Rattle.str0m_sdp.specs.declared.proto.Proto.TheVariants.{Srtp}
 use Rattle.str0m_sdp.specs.declared.session.Sdp.{Sdp}
 use Rattle.str0m_signal.specs.Answers.{Refuses}
-use Rattle.str0m_signal.specs.Reading.{Reading}
+use Rattle.str0m_signal.specs.Lines.{Line, Lines}
+use Rattle.str0m_signal.specs.Reading.{IsReading, Reading}
 use Rattle.exchange.specs.Stopped.{IsStopped}
 use Rattle.exchange.specs.declared.exchange_error.ExchangeError.{ExchangeError}
 use Rattle.exchange.specs.declared.exchange_error.ExchangeError.TheVariants.{NotRead, Unread, WrongState, DoesNotFit, NoRows, NoChannels, NoName, NotPrintable, Memory}
@@ -20,14 +21,20 @@ use Rattle.exchange.specs.declared.exchange_error.ExchangeError.TheVariants.{Not
 abbrev pub IsOffer : List ℕ → Sdp → Type 0
 IsOffer text offer = Reading text (offer, [])
 
--- something follows the description that the text begins with
-abbrev pub IsCutShort : List ℕ → Type 0
-IsCutShort text = (offer : Sdp) × (rest : List ℕ) × Reading text (offer, rest) × (rest ≢ [])
+-- some lines follow those of the description that the text begins with, and the first of them has this number, counted from 1
+pub record IsCutShort (text : List ℕ) (line : ℕ) : Type 0 where
+  pub offer : Sdp
+  pub read : List Line
+  pub unread : List Line
+  pub lines_are : Lines text (read ++ unread)
+  pub reading : IsReading (read ++ unread) offer unread
+  pub some : unread ≢ []
+  pub number : line ≡ length read + 1
 
 -- why a text is no offer: it describes no session, or more follows
 abbrev pub RefusesText : List ℕ → ExchangeError → Type 0
 RefusesText text (NotRead cause) = Refuses cause (Reading text)
-RefusesText text (Unread line content) = IsCutShort text
+RefusesText text (Unread line content) = IsCutShort text line
 RefusesText text (WrongState state) = ⊥
 RefusesText text (DoesNotFit section broken) = ⊥
 RefusesText text NoRows = ⊥

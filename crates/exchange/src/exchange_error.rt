@@ -18,7 +18,7 @@ pub enum ExchangeError {
     /// A line fits nowhere, so that what follows it isn't known.
     #[error("line {line} of the text fits nowhere: {text}")]
     Unread {
-        /// The line's number, from 1.
+        /// The number of the first line that isn't read, from 1.
         line: usize,
         /// The line, without its end.
         text: Text,

@@ -1,10 +1,11 @@
 //! Offers that are read whole, and their rounds.
-ghost use Rattle.std.specs.Prelude.{◌≡◌, ◌↔◌, IfErr, IfOk, IsTrue, OnOk, All};
+ghost use Rattle.std.specs.Prelude.{◌≡◌, ◌≢◌, ◌==◌, ◌+◌, ◌↔◌, [], IfErr, IfOk, IsTrue, OnOk, All, count_by, length};
 ghost use Rattle.str0m_formats.specs.PlainRow.{IsPlain};
 ghost use Rattle.str0m_formats.specs.Rows.{types};
 ghost use Rattle.str0m_formats.specs.TypeSets.{AllDistinct};
 ghost use Rattle.str0m_formats.specs.Promises.{LockedStay};
 ghost use Rattle.str0m_sdp.specs.RowBounds.{HasBoundedRows};
+ghost use Rattle.str0m_signal.specs.FromLine.{IsFromLine};
 ghost use Rattle.exchange.specs.Offered.{AreRoundsOf, BringsRound, IsOffer, IsRoundOf, Negotiates, RefusesText};
 
 use crate::exchange_error::ExchangeError;
@@ -12,15 +13,24 @@ use crate::stopped::is_section_stopped;
 use std::alloc::{AllocError, Global};
 use str0m_signal::{CodecConfig, MediaLine, NegotiationError, Proto, Round, Sdp, Text, sdp_parser};
 
-fn line_ends(text: &str) -> usize {
-    text.bytes().filter(|byte| *byte == b'\n').count()
+fn line_feeds(bytes: &[u8]) -> usize
+    ensures { result ≡ count_by (λ byte. byte == 10) bytes.now }
+{
+    bytes.iter().filter(|byte| **byte == b'\n').count()
 }
 
-/// The number, from 1, and the text of the line at which the rest begins.
-fn unread(alloc: Global, text: &str, rest: &str) -> Result<(usize, Text), AllocError> {
-    let before = line_ends(text).saturating_sub(line_ends(rest));
-    let line = rest.lines().next().unwrap_or("");
-    Ok((before.saturating_add(1), Text::from_str(alloc, line)?))
+/// The number, counted from 1, of the line at which the rest of a text begins.
+fn line_of(text: &str, rest: &str) -> usize
+    ensures { (from : IsFromLine text.now rest.now) → rest.now ≢ [] → result ≡ length from.before + 1 }
+{
+    let read = text.len().saturating_sub(rest.len());
+    let (before, _rest) = text.as_bytes().split_at(read);
+    line_feeds(before).saturating_add(1)
+}
+
+/// Its first line, without the end.
+fn first_line(alloc: Global, rest: &str) -> Result<Text, AllocError> {
+    Text::from_str(alloc, rest.lines().next().unwrap_or(""))
 }
 
 /// The description that the whole text is.
@@ -33,8 +43,10 @@ pub(crate) fn whole_description(alloc: Global, text: &str) -> Result<Sdp, Exchan
     if rest.is_empty() {
         return Ok(offer);
     }
-    let (line, text) = unread(alloc, text, rest)?;
-    Err(ExchangeError::Unread { line, text })
+    Err(ExchangeError::Unread {
+        line: line_of(text, rest),
+        text: first_line(alloc, rest)?,
+    })
 }
 
 /// Whether a section brings a round.
