@@ -1,4 +1,5 @@
 pub mod AnswerLaws
+pub mod BundleLaws
 pub mod Equal
 pub mod FitsLaws
 pub mod FollowLaws
@@ -22,5 +23,6 @@ pub mod RowTypes
 pub mod RoundNameLaws
 pub mod RuleLaws
 pub mod TrickledLaws
+pub mod TrackLaws
 pub mod TypeLaws
 pub mod UnreadLaws

@@ -27,10 +27,10 @@ use Rattle.exchange.specs.declared.own_side.SectionDirection.{SectionDirection}
 -- ---- sections whose names differ
 
 -- the section has another name than this one
-abbrev Other : Option (List ℕ) → MediaLine → Type 0
+abbrev pub Other : Option (List ℕ) → MediaLine → Type 0
 Other name m = IfSome name (λ n. IfSome (name_of m) (λ k. k ≢ n))
 
-abbrev Differ : List MediaLine → Type 0
+abbrev pub Differ : List MediaLine → Type 0
 Differ [] = Unit {0}
 Differ (m ∷ ms) = All (Other (name_of m)) ms × Differ ms
 
@@ -67,7 +67,7 @@ head_apart n names distinct = λ i d lt e. distinct 0 (suc i) d (omega arith) (o
 tail_distinct : (n : List ℕ) (names : List (List ℕ)) → AreDistinct (n ∷ names) → AreDistinct names
 tail_distinct n names distinct = λ i j d lt within. distinct (suc i) (suc j) d (omega (arith, lt)) (omega (arith, within))
 
-differ_from : (ms : List MediaLine) → AreDistinct (section_mids ms) → Differ ms
+pub differ_from : (ms : List MediaLine) → AreDistinct (section_mids ms) → Differ ms
 differ_from [] distinct = tt
 differ_from (m ∷ ms) distinct = (apart (name_of m) distinct, differ_from ms (rest (name_of m) distinct)) where
   apart : (name : Option (List ℕ)) → AreDistinct (cons_option name (section_mids ms)) → All (Other name) ms

@@ -1,5 +1,5 @@
 -- What an answer says of the session as a whole.
-use Rattle.std.specs.Prelude.{ℕ, Bool, true, false, not, List, [], ◌∷◌, ◌++◌, None, codes, map, if◌then◌else◌}
+use Rattle.std.specs.Prelude.{◌≡◌, ℕ, Bool, true, false, not, List, [], ◌∷◌, ◌++◌, None, codes, map, if◌then◌else◌}
 use Rattle.std.specs.List.{list_any}
 use Rattle.str0m_sdp.specs.declared.attribute.SessionAttribute.{SessionAttribute}
 use Rattle.str0m_sdp.specs.declared.attribute.SessionAttribute.TheVariants.{AllowMixedExts, Group}
@@ -7,6 +7,8 @@ use Rattle.str0m_sdp.specs.declared.media_line.MediaLine.{MediaLine}
 use Rattle.str0m_sdp.specs.declared.session.Sdp.{Sdp}
 use Rattle.str0m_sdp.specs.declared.session.Session.{Session}
 use Rattle.exchange.specs.Bundle.{answered_bundle}
+use Rattle.exchange.specs.InBundle.{bundle_names}
+use Rattle.exchange.specs.Stopped.{bundle_group}
 use Rattle.exchange.specs.declared.own_side.OwnSide.{OwnSide}
 
 -- the section has a port (RFC 3264, section 6)
@@ -34,3 +36,9 @@ answered_session own offer answered = record {
   bw = None;
   attrs = group_lines (answered_bundle offer (map is_accepted answered)) ++ mixed_lines offer.session.attrs;
 }
+
+-- the answer's first `BUNDLE` group lists the accepted sections of the offer's first such group, in its order; there is no such
+-- group where none is (RFC 9143, section 7.3)
+pub record BundlesAccepted (offer answer : Sdp) : Type 0 where
+  pub names : bundle_names answer ≡ answered_bundle offer (map is_accepted answer.media_lines)
+  pub absent : bundle_names answer ≡ [] → bundle_group answer ≡ None

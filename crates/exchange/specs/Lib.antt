@@ -35,4 +35,5 @@ pub mod SignalingState
 pub mod State
 pub mod Stopped
 pub mod Trickled
+pub mod Tracks
 pub mod TurnedLayers
