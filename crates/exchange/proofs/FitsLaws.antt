@@ -56,4 +56,5 @@ rules_kept ours answer offered answered rules is all = kept (subst (All (Keeps o
   kept all rule.Fingerprint = all 10 rule.Fingerprint (omega arith)
   kept all rule.Sections = tt
   kept all rule.Bundle = tt
+  kept all rule.OwnName = tt
   kept all rule.Place = tt

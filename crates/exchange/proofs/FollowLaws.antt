@@ -12,7 +12,7 @@ use Rattle.str0m_formats.specs.declared.codec_config.CodecConfig.{CodecConfig}
 use Rattle.str0m_formats.specs.declared.payload_params.PayloadParams.{PayloadParams}
 use Rattle.str0m_formats.proofs.LockedStays.{stays-same, stays-then}
 use Rattle.str0m_formats.proofs.WholeRound.{row_before}
-use Rattle.str0m_sdp.specs.SessionConsistency.{is_listed}
+use Rattle.str0m_sdp.specs.SessionConsistency.{AreDistinct, is_listed, section_mids}
 use Rattle.str0m_sdp.specs.declared.media_line.MediaLine.{MediaLine}
 use Rattle.str0m_sdp.specs.declared.session.Sdp.{Sdp}
 use Rattle.exchange.specs.Follows.{Follows, Grows, IsKnown, IsPlacedSo, IsSound}
@@ -190,7 +190,7 @@ pub follows_done : (before after : Exchange) (pending : Pending) → IsSound bef
 follows_done before after pending sound is local names rows stay = record {
   names = subst (Grows before.names) (sym names) (grows_so before.names pending.sdp.media_lines);
   places = subst (λ (sdp : Option Sdp). FollowsPlaces before.names (sections_of before.local) (sections_of sdp)) (sym local)
-      (subst (λ (offer : Option Pending). IfSome offer (IsPlacedSo before)) is sound.placed);
+      (subst (λ (offer : Option Pending). IfSome offer (IsPlacedSo before)) is sound.placed).0;
   rows = rows;
   stay = stay;
 }
@@ -212,10 +212,23 @@ pub none_open : (open_so : Option Pending) → state_by open_so ≡ Stable → o
 none_open None stable = refl
 none_open (Some pending) stable = cc
 
+-- nothing was said yet
+pub sound_new : (exchange : Exchange) → exchange.local ≡ None → exchange.pending ≡ None → IsSound exchange
+sound_new exchange local none = record {
+  own_names = subst (λ (o : Option Sdp). AreDistinct (section_mids (sections_of o))) (sym local) (λ i j d lt within. absurd (omega arith));
+  known = subst (λ (o : Option Sdp). All (IsKnown exchange.names) (sections_of o)) (sym local) (All-nil (IsKnown exchange.names));
+  placed = subst (λ (o : Option Pending). IfSome o (IsPlacedSo exchange)) (sym none) tt;
+}
+
+-- no two sections of an open offer have one name
+pub open_names : (exchange : Exchange) (pending : Pending) → IsSound exchange → exchange.pending ≡ Some pending → AreDistinct (section_mids pending.sdp.media_lines)
+open_names exchange pending sound is = (subst (λ (offer : Option Pending). IfSome offer (IsPlacedSo exchange)) is sound.placed).1
+
 -- an exchange that is done leaves no open offer, and knows its names
-pub sound_done : (after : Exchange) (names : List (List ℕ)) (sdp : Sdp) → after.local ≡ Some sdp → after.names ≡ grown names sdp.media_lines
-    → after.pending ≡ None → IsSound after
-sound_done after names sdp local named none = record {
+pub sound_done : (after : Exchange) (names : List (List ℕ)) (sdp : Sdp) → AreDistinct (section_mids sdp.media_lines) → after.local ≡ Some sdp
+    → after.names ≡ grown names sdp.media_lines → after.pending ≡ None → IsSound after
+sound_done after names sdp differ local named none = record {
+  own_names = subst (λ (o : Option Sdp). AreDistinct (section_mids (sections_of o))) (sym local) differ;
   known = subst (λ (o : Option Sdp). All (IsKnown after.names) (sections_of o)) (sym local)
       (subst (λ (ns : List (List ℕ)). All (IsKnown ns) sdp.media_lines) (sym named) (known_all names sdp.media_lines));
   placed = subst (λ (o : Option Pending). IfSome o (IsPlacedSo after)) (sym none) tt;

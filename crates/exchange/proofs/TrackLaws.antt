@@ -34,7 +34,7 @@ use Rattle.exchange.specs.RejectedSection.{direction_over, first_type, line_that
 use Rattle.exchange.specs.RepeatedLines.{is_repeated, repeated_lines}
 use Rattle.exchange.specs.Rules.{HasShapeOf}
 use Rattle.exchange.specs.Stopped.{name_of}
-use Rattle.exchange.specs.Tracks.{section_tracks, track_of, tracks}
+use Rattle.exchange.specs.Tracks.{section_tracks, track_of}
 use Rattle.exchange.specs.declared.choice.Choice.{Choice}
 use Rattle.exchange.specs.declared.choice.Choice.TheVariants.{Rejected, Media, Channels}
 use Rattle.exchange.specs.declared.own_side.DataChannels.{DataChannels}
@@ -256,12 +256,12 @@ distinct_tracks (m ∷ ms) differ so = go (All-head TracksSo m ms so) (distinct_
       (track_apart said.0 ms (subst (λ (name : Option (List ℕ)). All (Other name) ms) said.1 differ.0) (All-tail TracksSo m ms so)) rec)
 
 -- an answer has the names of its offer
-pub same_names : (own : OwnSide) (ours : List PayloadParams) (offer answer : Sdp) → AllZip (AnswersSection own ours offer) offer.media_lines answer.media_lines
-    → section_mids answer.media_lines ≡ section_mids offer.media_lines
-same_names own ours offer answer answers = same_mids offer.media_lines answer.media_lines (sections_shape own ours offer answer.media_lines answers)
+pub same_names : (own : OwnSide) (ours : List PayloadParams) (offer : Sdp) (answered : List MediaLine) → AllZip (AnswersSection own ours offer) offer.media_lines answered
+    → section_mids answered ≡ section_mids offer.media_lines
+same_names own ours offer answered answers = same_mids offer.media_lines answered (sections_shape own ours offer answered answers)
 
-pub tracks_differ : (own : OwnSide) (ours : List PayloadParams) (offer answer : Sdp) → AllZip (AnswersSection own ours offer) offer.media_lines answer.media_lines
-    → AreDistinct (section_mids offer.media_lines) → AreDistinct (tracks answer)
-tracks_differ own ours offer answer answers distinct =
-    distinct_tracks answer.media_lines (differ_from answer.media_lines (subst AreDistinct (sym (same_names own ours offer answer answers)) distinct))
-    (all_so own ours offer offer.media_lines answer.media_lines answers)
+pub tracks_differ : (own : OwnSide) (ours : List PayloadParams) (offer : Sdp) (answered : List MediaLine) → AllZip (AnswersSection own ours offer) offer.media_lines answered
+    → AreDistinct (section_mids offer.media_lines) → AreDistinct (flat_map section_tracks answered)
+tracks_differ own ours offer answered answers distinct =
+    distinct_tracks answered (differ_from answered (subst AreDistinct (sym (same_names own ours offer answered answers)) distinct))
+    (all_so own ours offer offer.media_lines answered answers)

@@ -4,6 +4,7 @@ use Rattle.std.specs.List.{AllZip}
 use Rattle.str0m_values.specs.declared.media_kind.MediaKind.{MediaKind}
 use Rattle.str0m_formats.specs.KindRows.{kind_rows}
 use Rattle.str0m_formats.specs.declared.payload_params.PayloadParams.{PayloadParams}
+use Rattle.str0m_sdp.specs.SessionConsistency.{AreDistinct, section_mids}
 use Rattle.str0m_sdp.specs.declared.media_line.MediaLine.{MediaLine}
 use Rattle.str0m_sdp.specs.declared.session.Sdp.{Sdp}
 use Rattle.exchange.specs.AnsweredSection.{AnswersSection}
@@ -11,6 +12,7 @@ use Rattle.exchange.specs.AnsweredSession.{answered_session}
 use Rattle.exchange.specs.FreshNames.{AreFresh, AreTooFew}
 use Rattle.exchange.specs.MadeOffer.{MakesOffer}
 use Rattle.exchange.specs.Offered.{IsOffer, Negotiates, RefusesText}
+use Rattle.exchange.specs.OwnNames.{IsNamedAgain}
 use Rattle.exchange.specs.Places.{MovesAt}
 use Rattle.exchange.specs.ReadBack.{IsReadBack}
 use Rattle.exchange.specs.State.{sections_of, state_of, taken_names}
@@ -20,7 +22,7 @@ use Rattle.exchange.specs.declared.exchange_error.ExchangeError.{ExchangeError}
 use Rattle.exchange.specs.declared.exchange_error.ExchangeError.TheVariants.{NotRead, Unread, WrongState, DoesNotFit, NoRows, NoChannels, NoName, NotPrintable, Memory}
 use Rattle.exchange.specs.declared.own_side.OwnSide.{OwnSide}
 use Rattle.exchange.specs.declared.rule.Rule.{Rule}
-use Rattle.exchange.specs.declared.rule.Rule.TheVariants.{Place}
+use Rattle.exchange.specs.declared.rule.Rule.TheVariants.{OwnName, Place}
 use Rattle.exchange.specs.declared.signaling_state.SignalingState.TheVariants.{Stable}
 
 -- the description answers an offer, where this side has these rows: section by section, and as a whole
@@ -42,24 +44,31 @@ pub record IsUnprintable (old : Exchange) (text : List ℕ) : Type 0 where
   pub answers : AnswersOffer old.own ours offer answer
   pub lost : IsReadBack answer (versioned_text old.version answer) → ⊥
 
--- why an offer isn't in the places of the last exchange
-abbrev pub RefusesPlaces : List (List ℕ) → List MediaLine → Option Sdp → Sdp → ExchangeError → Type 0
-RefusesPlaces names local remote offer (DoesNotFit section broken) = (broken ≡ Place) × MovesAt names local remote offer section
-RefusesPlaces names local remote offer Memory = Unit {0}
-RefusesPlaces names local remote offer _ = ⊥
+-- which section of an offer isn't taken, and the rule that it breaks: it has the name of an earlier one, or no two have one name
+-- and it isn't in its place behind the last exchange
+abbrev pub BreaksAt : List (List ℕ) → List MediaLine → Option Sdp → Sdp → ℕ → Rule → Type 0
+BreaksAt names local remote offer section OwnName = IsNamedAgain offer.media_lines section
+BreaksAt names local remote offer section Place = AreDistinct (section_mids offer.media_lines) × MovesAt names local remote offer section
+BreaksAt names local remote offer section _ = ⊥
 
--- the offer that the text is has a section that isn't in its place
-pub record IsMisplaced (old : Exchange) (text : List ℕ) (section : ℕ) (broken : Rule) : Type 0 where
+-- why the sections of an offer aren't taken
+abbrev pub RefusesSections : List (List ℕ) → List MediaLine → Option Sdp → Sdp → ExchangeError → Type 0
+RefusesSections names local remote offer (DoesNotFit section broken) = BreaksAt names local remote offer section broken
+RefusesSections names local remote offer Memory = Unit {0}
+RefusesSections names local remote offer _ = ⊥
+
+-- the offer that the text is has a section that isn't taken
+pub record IsRefusedAt (old : Exchange) (text : List ℕ) (section : ℕ) (broken : Rule) : Type 0 where
   pub offer : Sdp
   pub is_offer : IsOffer text offer
-  pub misplaced : RefusesPlaces old.names (sections_of old.local) old.remote offer (DoesNotFit section broken)
+  pub breaks : BreaksAt old.names (sections_of old.local) old.remote offer section broken
 
 -- why an offer isn't answered
 abbrev pub RefusesOffer : Exchange → List ℕ → ExchangeError → Type 0
 RefusesOffer old text (NotRead cause) = RefusesText text (NotRead cause)
 RefusesOffer old text (Unread line content) = RefusesText text (Unread line content)
 RefusesOffer old text (WrongState state) = (state ≡ state_of old) × (state ≢ Stable)
-RefusesOffer old text (DoesNotFit section broken) = IsMisplaced old text section broken
+RefusesOffer old text (DoesNotFit section broken) = IsRefusedAt old text section broken
 RefusesOffer old text NoRows = ⊥
 RefusesOffer old text NoChannels = ⊥
 RefusesOffer old text NoName = ⊥

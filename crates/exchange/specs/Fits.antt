@@ -49,6 +49,7 @@ Keeps ours answer offered answered rule.Fingerprint = IfAccepted answered (is_so
 -- those of the whole answer and of later offers ask nothing of a section by itself
 Keeps ours answer offered answered rule.Sections = Unit {0}
 Keeps ours answer offered answered rule.Bundle = Unit {0}
+Keeps ours answer offered answered rule.OwnName = Unit {0}
 Keeps ours answer offered answered rule.Place = Unit {0}
 
 -- a section keeps every rule

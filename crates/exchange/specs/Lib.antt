@@ -21,6 +21,7 @@ pub mod OfferPlaces
 pub mod OfferRules
 pub mod OfferSection
 pub mod Offered
+pub mod OwnNames
 pub mod OwnSide
 pub mod Places
 pub mod Reached
@@ -28,12 +29,12 @@ pub mod ReadBack
 pub mod RejectedSection
 pub mod RepeatedLines
 pub mod Restart
-pub mod Rows
 pub mod RoundNames
+pub mod Rows
 pub mod Rules
 pub mod SignalingState
 pub mod State
 pub mod Stopped
-pub mod Trickled
 pub mod Tracks
+pub mod Trickled
 pub mod TurnedLayers

@@ -42,7 +42,8 @@ pub record StaysInPlaces (names : List (List ℕ)) (local : List MediaLine) (rem
 -- the first place that isn't kept: behind the last section of an offer that has too few, or at a section
 abbrev pub MovesAt : List (List ℕ) → List MediaLine → Option Sdp → Sdp → ℕ → Type 0
 MovesAt names local remote offer at =
-    ((at ≡ length offer.media_lines) × (at < length local)) ⊎ (StaysInPlaceAt names local remote offer at → ⊥)
+    ((before : ℕ) → before < at → StaysInPlaceAt names local remote offer before)
+    × (((at ≡ length offer.media_lines) × (at < length local)) ⊎ (StaysInPlaceAt names local remote offer at → ⊥))
 
 -- ---- what comes after what
 

@@ -9,7 +9,8 @@ ghost use Rattle.str0m_formats.specs.Rows.{types};
 ghost use Rattle.str0m_formats.specs.TypeSets.{AllDistinct};
 ghost use Rattle.str0m_sdp.specs.RowBounds.{HasBoundedRows};
 ghost use Rattle.str0m_sdp.specs.SessionConsistency.{AreDistinct, section_mids};
-ghost use Rattle.exchange.specs.Exchange.{AnswersOffer, EachSection, RefusesChannels, RefusesMedia, RefusesOffer, RefusesPlaces, RefusesToOffer};
+ghost use Rattle.exchange.specs.AnsweredSession.{BundlesAccepted};
+ghost use Rattle.exchange.specs.Exchange.{AnswersOffer, EachSection, RefusesChannels, RefusesMedia, RefusesOffer, RefusesSections, RefusesToOffer};
 ghost use Rattle.exchange.specs.Follows.{Follows, IsSound};
 ghost use Rattle.exchange.specs.FreshNames.{AreFresh};
 ghost use Rattle.exchange.specs.MadeOffer.{MakesOffer, placed_as, ready_with};
@@ -22,6 +23,7 @@ ghost use Rattle.exchange.specs.ReadBack.{IsReadBack};
 ghost use Rattle.exchange.specs.Rules.{HasShapeOf, IsAcceptedExactly, KeepsRules};
 ghost use Rattle.exchange.specs.State.{pending_sdp, sections_of, state_of, taken_names};
 ghost use Rattle.str0m_sdp.specs.Session.{versioned_text};
+ghost use Rattle.exchange.specs.Tracks.{tracks};
 ghost use Rattle.exchange.specs.declared.added.Added.TheVariants.{Media, Channels};
 ghost use Rattle.exchange.specs.declared.exchange_error.ExchangeError.TheVariants.{Memory};
 ghost use Rattle.exchange.specs.declared.signaling_state.SignalingState.TheVariants.{Stable};
@@ -37,6 +39,7 @@ use crate::names::grown;
 use crate::offer::Offer;
 use crate::offer_section::has_rows;
 use crate::offered::{negotiate, whole_description};
+use crate::own_names::first_named_again;
 use crate::own_side::{OwnSide, with_direction};
 use crate::pending::Pending;
 use crate::places::{first_moved, sections_of};
@@ -63,6 +66,7 @@ pub struct Exchange {
 }
 
 /// The description that answers an offer.
+#[tactic(auto, using(crate::proofs::BundleLaws::bundles))]
 fn answer_to(
     alloc: Global,
     own: &OwnSide,
@@ -73,6 +77,9 @@ fn answer_to(
     ensures shape { IfOk result (λ answer. AllZip HasShapeOf offer.now.media_lines answer.media_lines) }
     ensures exactly { IfOk result (λ answer. AllZip (IsAcceptedExactly own.now config.now.params.items offer.now) offer.now.media_lines answer.media_lines) }
     ensures rules { IfOk result (λ answer. AllZip (KeepsRules own.now config.now.params.items offer.now) offer.now.media_lines answer.media_lines) }
+    ensures bundle { IfOk result (BundlesAccepted offer.now) }
+    ensures names { IfOk result (λ answer. section_mids answer.media_lines ≡ section_mids offer.now.media_lines) }
+    ensures tracks { AreDistinct (section_mids offer.now.media_lines) → IfOk result (λ answer. AreDistinct (tracks answer)) }
 {
     let media_lines = answered_sections(alloc, own, config, offer)?;
     let session = answered_session(alloc, own, offer, media_lines.as_slice())?;
@@ -90,17 +97,24 @@ fn is_printable(alloc: Global, sdp: &Sdp, version: u64) -> Result<bool, AllocErr
     is_read_back(alloc, sdp, text.as_str())
 }
 
-/// An error where a section of an offer isn't in its place behind the last exchange.
-fn check_places(
+/// An error where two sections of an offer have one name, or one isn't in its place behind the last exchange.
+fn check_sections(
     alloc: Global,
     names: &Items<Mid>,
     local: &Option<Sdp>,
     remote: &Option<Sdp>,
     offer: &Sdp,
 ) -> Result<(), ExchangeError>
+    ensures different { OnOk result (AreDistinct (section_mids offer.now.media_lines)) }
     ensures placed { OnOk result (StaysInPlaces names.now (sections_of local.now) remote.now offer.now) }
-    ensures refused { IfErr result (RefusesPlaces names.now (sections_of local.now) remote.now offer.now) }
+    ensures refused { IfErr result (RefusesSections names.now (sections_of local.now) remote.now offer.now) }
 {
+    if let Some(section) = first_named_again(alloc, offer.media_lines.as_slice())? {
+        return Err(ExchangeError::DoesNotFit {
+            section,
+            rule: Rule::OwnName,
+        });
+    }
     match first_moved(alloc, names.as_slice(), sections_of(local), remote, offer)? {
         None => Ok(()),
         Some(section) => Err(ExchangeError::DoesNotFit {
@@ -125,6 +139,7 @@ pub(crate) fn negotiated(config: &CodecConfig, offer: &Sdp) -> Result<CodecConfi
 
 impl Exchange {
     /// An exchange in which nothing was said yet.
+    #[tactic(auto, using(crate::proofs::FollowLaws::sound_new))]
     pub fn new(own: OwnSide, config: CodecConfig) -> Exchange
         ensures is { result ≡ record { own = own; config = config; local = None; remote = None; pending = None; version = 1; added = []; names = [] } }
         ensures sound { IsSound result }
@@ -347,13 +362,15 @@ impl Exchange {
     /// # Errors
     ///
     /// Nothing is changed by an error. `WrongState` where the state isn't `Stable`; `NotRead` where the text
-    /// describes no session; `Unread` where a line of it is left; `DoesNotFit` exactly where a section isn't in its place
-    /// behind the last exchange, with the first such one and `Rule::Place`; `NotPrintable` where the answer would be read
-    /// as another one; `Memory` where memory was refused.
+    /// describes no session; `Unread` where a line of it is left; `DoesNotFit` exactly where a section has the mid of an earlier
+    /// one, with the first such one and `Rule::OwnName`, or else where one isn't in its place behind the last exchange, with the
+    /// first such one and `Rule::Place`; `NotPrintable` where the answer would be read as another one; `Memory` where memory was
+    /// refused.
     #[tactic(auto, using(crate::proofs::FollowLaws::follows_self))]
     pub fn accept_offer(&mut self, offer: &str) -> Result<Answer, ExchangeError>
         ensures stable { IfOk result (λ answer. state_of self.old ≡ Stable) }
         ensures read { IfOk result (λ answer. IsSomeAnd self.new.remote (IsOffer offer.now)) }
+        ensures different { IfOk result (λ answer. IsSomeAnd self.new.remote (λ remote. AreDistinct (section_mids remote.media_lines))) }
         ensures placed { IfOk result (λ answer. IsSomeAnd self.new.remote
             (StaysInPlaces self.old.names (sections_of self.old.local) self.old.remote)) }
         // Section by section: the shape, which are accepted, and the rules of the table.
@@ -363,6 +380,8 @@ impl Exchange {
         // Line by line, and as a whole with its bundle.
         ensures answers { IfOk result (λ answer. IsSomeAnd self.new.remote (λ remote.
             AnswersOffer self.old.own self.new.config.params.items remote answer.sdp)) }
+        ensures bundle { IfOk result (λ answer. IsSomeAnd self.new.remote (λ remote. BundlesAccepted remote answer.sdp)) }
+        ensures tracks { IfOk result (λ answer. AreDistinct (tracks answer.sdp)) }
         ensures read_back { IfOk result (λ answer. IsReadBack answer.sdp (versioned_text answer.version answer.sdp)) }
         ensures negotiated { IfOk result (λ answer. IsSomeAnd self.new.remote (λ remote.
             Negotiates remote self.old.config.params.items self.new.config.params.items)) }
@@ -386,7 +405,7 @@ impl Exchange {
         }
         let alloc = *self.config.allocator();
         let remote = whole_description(alloc, offer)?;
-        check_places(alloc, &self.names, &self.local, &self.remote, &remote)?;
+        check_sections(alloc, &self.names, &self.local, &self.remote, &remote)?;
         let config = negotiated(&self.config, &remote)?;
         let sdp = answer_to(alloc, &self.own, &config, &remote)?;
         if !is_printable(alloc, &sdp, self.version)? {

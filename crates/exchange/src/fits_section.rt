@@ -132,7 +132,7 @@ fn keeps(
         Rule::Layers => Ok(keeps_layers(offered, answered)?),
         Rule::Credentials => Ok(keeps_creds(answer, bundled, answered)),
         Rule::Fingerprint => Ok(keeps_fingerprint(answer, bundled, answered)),
-        Rule::Sections | Rule::Bundle | Rule::Place => Ok(true),
+        Rule::Sections | Rule::Bundle | Rule::OwnName | Rule::Place => Ok(true),
     }
 }
 

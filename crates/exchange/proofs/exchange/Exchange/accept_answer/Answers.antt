@@ -1,7 +1,7 @@
 use Rattle.std.proofs.Common.{arith, ◌≡◌, ◌∙◌, Some, ap, option_map}
 use Rattle.std.proofs.lemmas.Grind.{common_steps}
 use Rattle.exchange.proofs.AnswerLaws.{misfit}
-use Rattle.exchange.proofs.FollowLaws.{follows_done, sound_done}
+use Rattle.exchange.proofs.FollowLaws.{follows_done, open_names, sound_done}
 use Rattle.exchange.proofs.exchange.Exchange.accept_answer.Goals as goal
 use Rattle.exchange.specs.AcceptedAnswer.{RefusesAnswer}
 use Rattle.exchange.specs.Names.{grown}
@@ -23,7 +23,7 @@ pub returns-clause-sound : goal.returns-clause-sound
 returns-clause-sound c = λ sound.
     let local : c.taken.result ≡ Some c.in-Some.pending.sdp = c.taken.ensures.was ∙ ap (option_map (λ (offer : Pending). offer.sdp)) c.in-Some.is in
     let named : c.in_ok-names.names ≡ grown c.args.self.now.names c.in-Some.pending.sdp.media_lines = cc (c.in_ok-names.ensures, c.as_slice.ensures) in
-    sound_done _ c.args.self.now.names c.in-Some.pending.sdp local named c.taken.ensures.none
+    sound_done _ c.args.self.now.names c.in-Some.pending.sdp (open_names c.args.self.now c.in-Some.pending sound c.in-Some.is) local named c.taken.ensures.none
 
 pub returns-clause-follows : goal.returns-clause-follows
 returns-clause-follows c = λ sound.

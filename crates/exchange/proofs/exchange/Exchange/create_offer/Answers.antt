@@ -1,4 +1,5 @@
 use Rattle.std.proofs.Common.{refl, subst, sym}
+use Rattle.str0m_sdp.specs.SessionConsistency.{AreDistinct, section_mids}
 use Rattle.str0m_sdp.specs.declared.session.Sdp.{Sdp}
 use Rattle.exchange.proofs.FollowLaws.{follows_same}
 use Rattle.exchange.specs.Places.{FollowsPlaces}
@@ -14,8 +15,10 @@ returns-clause-read_back c =
 
 pub returns-clause-sound : goal.returns-clause-sound
 returns-clause-sound c = λ sound. record {
+  own_names = sound.own_names;
   known = sound.known;
-  placed = subst (λ (sdp : Sdp). FollowsPlaces c.args.self.now.names (sections_of c.args.self.now.local) sdp.media_lines) (sym c.in_ok-clone.ensures) c.in_ok-sdp.ensures.follows;
+  placed = subst (λ (sdp : Sdp). FollowsPlaces c.args.self.now.names (sections_of c.args.self.now.local) sdp.media_lines × AreDistinct (section_mids sdp.media_lines))
+      (sym c.in_ok-clone.ensures) (c.in_ok-sdp.ensures.follows, c.in_ok-sdp.ensures.different sound.own_names);
 }
 
 pub returns-clause-follows : goal.returns-clause-follows
