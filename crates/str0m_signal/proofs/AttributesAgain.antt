@@ -1,12 +1,6 @@
 -- Attributes are read exactly where their forms hold, and printed as they were read.
-use Rattle.str0m_signal.proofs.Common.{arith, ◌≡◌, ◌⊎◌, ◌≤◌, ℕ, Bool, true, false, false≢true, List, [], ◌∷◌, ◌++◌, Option, Some, IfSome, refl, ap, ◌∙◌, subst, sym, lit<, lit≤, inl, inr, codes, printed_and_read, Codec, media_attribute_text, is_shown, attribute_line, KeepsToLine, setup_text, MediaAttribute, Fmtp, RestrictionId, SimulcastLayer, candidate_text, candidate_both, IsCandidateText, Parted, IsLongestBeginning, decimal, join_by, length, ltb-true, Lacks, IsNum, is_rest, beginning_of, beginning_is, beginning_only, lacks_from, rest_true, when_some, when_true}
-use Rattle.str0m_formats.specs.Codec.{IsReadAs}
-use Rattle.str0m_sdp.specs.declared.attribute.MediaAttribute.TheVariants.{RtpMap, Simulcast}
-use Rattle.std.specs.Prelude.{filter}
+use Rattle.str0m_signal.proofs.Common.{arith, ◌≡◌, ◌⊎◌, ◌≤◌, ℕ, Bool, true, false, false≢true, List, [], ◌∷◌, ◌++◌, Option, Some, IfSome, refl, ap, ◌∙◌, subst, sym, lit<, lit≤, inl, inr, codes, printed_and_read, Codec, media_attribute_text, is_shown, attribute_line, KeepsToLine, setup_text, MediaAttribute, Fmtp, RestrictionId, SimulcastLayer, candidate_text, candidate_both, IsCandidateText, Parted, IsLongestBeginning, decimal, join_by, length, ltb-true, Lacks, IsNum, is_rest, beginning_of, beginning_is, beginning_only, lacks_from, rest_true, when_some, when_true, IsReadAs, RtpMap, Simulcast, filter, sides_text, unless_munged, Fingerprint, Setup, Mid, Candidate, SsrcGroup, Unused, fingerprint_text, media_words}
 use Rattle.str0m_formats.specs.declared.codec.Codec.TheVariants as codec
-use Rattle.str0m_sdp.specs.Simulcast.{sides_text, unless_munged}
-use Rattle.str0m_sdp.specs.declared.attribute.MediaAttribute.TheVariants.{Fingerprint, Setup, Mid, Candidate}
-use Rattle.str0m_sdp.specs.declared.attribute.MediaAttribute.TheVariants.{SsrcGroup, Unused}
 use Rattle.str0m_sdp.specs.declared.rtp_map.RtpMap.{RtpMap as Mapping}
 use Rattle.str0m_sdp.specs.declared.simulcast.Simulcast.{Simulcast as TheSimulcast}
 use Rattle.str0m_sdp.specs.declared.setup.Setup.{Setup as Role}
@@ -15,11 +9,9 @@ use Rattle.str0m_sdp.specs.declared.setup.TheConstants.{SETUPS}
 use Rattle.str0m_values.specs.Words.{case_of}
 use Rattle.str0m_values.proofs.WordsOfCases.{reads_words}
 use Rattle.str0m_values.specs.declared.candidate.Candidate.{Candidate as TheCandidate}
-use Rattle.str0m_values.specs.Fingerprint.{fingerprint_text}
 use Rattle.str0m_values.specs.declared.fingerprint.Fingerprint.{Fingerprint as TheFingerprint}
 use Rattle.str0m_signal.specs.FormTable.{Form, any, led_by, two, parted, a_text, number}
 use Rattle.str0m_signal.specs.Forms.{Behind, IsText, Two}
-use Rattle.str0m_sdp.specs.Attribute.{media_words}
 use Rattle.str0m_signal.specs.MediaAttribute.{media_texts, media_pairs, name, mid, ssrc_group, rid, simulcast, plain_forms, IsMediaLine, MediaForm}
 use Rattle.str0m_signal.specs.Rid.{IsRid}
 use Rattle.str0m_signal.specs.RtpMap.{IsChannels, IsRtpMap}

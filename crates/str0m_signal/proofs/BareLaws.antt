@@ -1,6 +1,5 @@
 -- The values without keys of an fmtp line are read exactly where they stand.
-use Rattle.str0m_signal.proofs.Common.{ℕ, List, [], ◌∷◌, Option, Some, refl, sym, ap, ◌∙◌, arith, codes, FormatParam, BareRange, BarePtList, ◌>>=◌, strip, num, FirstFit, Parted, Lacks, IsNum, bind_some, some_is, reads_first, cut_at, strip_found, number_lacks, num_reads, num_both, Reads, IsEventRange}
-use Rattle.str0m_formats.specs.declared.format_param.FormatParam.TheVariants.{Unknown}
+use Rattle.str0m_signal.proofs.Common.{ℕ, List, [], ◌∷◌, Option, Some, refl, sym, ap, ◌∙◌, arith, codes, FormatParam, BareRange, BarePtList, ◌>>=◌, strip, num, FirstFit, Parted, Lacks, IsNum, bind_some, some_is, reads_first, cut_at, strip_found, number_lacks, num_reads, num_both, Reads, IsEventRange, Unknown}
 use Rattle.str0m_signal.specs.Forms.{Two}
 use Rattle.str0m_signal.specs.FormReading.{behind, digits_read, two_read, parted_read}
 use Rattle.str0m_signal.specs.Fmtp.{IsListForm, IsRangeForm, IsAnything}

@@ -1,9 +1,8 @@
 -- The numbers of what was read keep to their ranges.
-use Rattle.str0m_signal.proofs.Common.{rules, ◌≡◌, ◌⊎◌, arith, param_text, ℕ, Bool, List, [], ◌∷◌, get_or, Option, Result, Ok, Err, All, IfOk, inl, inr, subst, sym, MatchBool, Bor, cons_option, All-nil, FormatParam, KeepsToLine, HasBoundedRows, MediaAttribute, SdpError, MediaLine, Sdp, FirstFit, IsParsed, AreParsed, AreJoined, merged}
+use Rattle.str0m_signal.proofs.Common.{rules, ◌≡◌, ◌⊎◌, arith, param_text, ℕ, Bool, List, [], ◌∷◌, get_or, Option, Result, Ok, Err, All, IfOk, inl, inr, subst, sym, MatchBool, Bor, cons_option, All-nil, FormatParam, KeepsToLine, HasBoundedRows, MediaAttribute, SdpError, MediaLine, Sdp, FirstFit, IsParsed, AreParsed, AreJoined, merged, IsInRange, KeepsToLines}
 use Rattle.str0m_formats.proofs.KeyedParams.{IsKeyed, keyed_or_hidden}
 use Rattle.str0m_formats.specs.Triple.{Texts, IsTripleParam}
 use Rattle.str0m_sdp.proofs.RowBoundLaws.{rows_bounded}
-use Rattle.str0m_sdp.specs.RowBounds.{IsInRange, KeepsToLines}
 use Rattle.str0m_signal.specs.Answers.{Answers, unread}
 use Rattle.str0m_signal.specs.Chains.{Chain}
 use Rattle.str0m_signal.specs.Fmtp.{IsPairsForm, IsListForm, IsRangeForm, IsAnything}

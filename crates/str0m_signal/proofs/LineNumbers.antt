@@ -1,6 +1,5 @@
 -- The number of the line at which a rest begins: as many lines stand before it as line feeds.
-use Rattle.str0m_signal.proofs.Common.{◌≡◌, ◌≢◌, ◌==◌, ◌+◌, ℕ, List, [], ◌∷◌, ◌++◌, cond, count_by, length, refl, sym, ap, ◌∙◌, arith, inl, inr, ne_eqb, Lacks}
-use Rattle.std.proofs.lemmas.List.Sums.{sum_by-append, sum_by-cons}
+use Rattle.str0m_signal.proofs.Common.{◌≡◌, ◌≢◌, ◌==◌, ◌+◌, ℕ, List, [], ◌∷◌, ◌++◌, cond, count_by, length, refl, sym, ap, ◌∙◌, arith, inl, inr, ne_eqb, Lacks, sum_by-append, sum_by-cons}
 use Rattle.str0m_signal.specs.FromLine.{IsFromLine}
 use Rattle.str0m_signal.specs.Lines.{Line, joined, IsLine, AreLines}
 

@@ -1,7 +1,6 @@
 -- Printed mappings and feedback have their forms.
-use Rattle.str0m_signal.proofs.Common.{◌≡◌, ◌<◌, ◌≤◌, ℕ, List, ◌++◌, Option, Some, None, IfSome, refl, subst, arith, lit<, lit≤, inl, inr, codes, decimal, decimal_nonempty, Lacks, IsRest, IsPt, printed_and_read, Codec, read_as, media_attribute_text, RtcpFb, channels_text, rtp_map_text}
-use Rattle.str0m_sdp.specs.declared.attribute.MediaAttribute.TheVariants.{RtpMap}
-use Rattle.str0m_formats.specs.Codec.{codec_text, codec_of, IsReadAs}
+use Rattle.str0m_signal.proofs.Common.{◌≡◌, ◌<◌, ◌≤◌, ℕ, List, ◌++◌, Option, Some, None, IfSome, refl, subst, arith, lit<, lit≤, inl, inr, codes, decimal, decimal_nonempty, Lacks, IsRest, IsPt, printed_and_read, Codec, read_as, media_attribute_text, RtcpFb, channels_text, rtp_map_text, RtpMap, codec_text, IsReadAs}
+use Rattle.str0m_formats.specs.Codec.{codec_of}
 use Rattle.str0m_formats.specs.declared.codec.Codec.TheVariants as codec
 use Rattle.str0m_sdp.specs.declared.rtp_map.RtpMap.{RtpMap as Mapping}
 use Rattle.str0m_signal.specs.Forms.{Behind, IsText, Two}

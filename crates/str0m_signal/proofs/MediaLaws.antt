@@ -1,7 +1,5 @@
 -- A section's attribute is read exactly where its form holds.
-use Rattle.str0m_signal.proofs.Common.{refl, reads_first}
-use Rattle.str0m_values.proofs.BothWays.{Reads}
-use Rattle.str0m_sdp.specs.declared.attribute.MediaAttribute.TheVariants.{Unused}
+use Rattle.str0m_signal.proofs.Common.{refl, reads_first, Reads, Unused}
 use Rattle.str0m_signal.specs.LineReading.{read_attribute}
 use Rattle.str0m_signal.specs.MediaAttribute.{plain_forms, media_forms, letters, IsMediaLine, media_read}
 use Rattle.str0m_signal.proofs.AttributesAgain.{PlainForm, plain_laws}

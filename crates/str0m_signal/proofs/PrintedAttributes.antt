@@ -1,6 +1,5 @@
 -- Printed attribute lines and their parts.
-use Rattle.str0m_signal.proofs.Common.{◌≡◌, ◌⊎◌, ◌≤◌, ◌<◌, ◌^◌, ℕ, true, List, [], ◌∷◌, ◌++◌, refl, sym, subst, arith, lit≤, inl, inr, codes, digit_value, decimal, decimal_is_IsNumeral, lacks, Lacks, IsNum, lacks_from, digits_lack, attribute_line, MediaAttribute, lacks_both}
-use Rattle.str0m_formats.proofs.RoundTrip.{decimal_reads}
+use Rattle.str0m_signal.proofs.Common.{◌≡◌, ◌⊎◌, ◌≤◌, ◌<◌, ◌^◌, ℕ, true, List, [], ◌∷◌, ◌++◌, refl, sym, subst, arith, lit≤, inl, inr, codes, digit_value, decimal, decimal_is_IsNumeral, lacks, Lacks, IsNum, lacks_from, digits_lack, attribute_line, MediaAttribute, lacks_both, decimal_reads}
 use Rattle.str0m_signal.specs.Lines.{IsAttributeLine}
 use Rattle.str0m_signal.specs.FormTable.{any}
 use Rattle.str0m_signal.specs.MediaAttribute.{media_forms, MediaForm, IsMediaLine}

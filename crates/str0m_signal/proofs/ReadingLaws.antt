@@ -1,12 +1,11 @@
 -- A text has at most one reading.
-use Rattle.str0m_signal.proofs.Common.{◌≡◌, ℕ, ◌<◌, List, [], ◌∷◌, length, Option, Some, sym, ap, subst, ◌∙◌, arith, codes, some_pair_parts, Bandwidth, MediaLine, MediaAttribute, Consistent, Sdp, SessionAttribute}
+use Rattle.str0m_signal.proofs.Common.{◌≡◌, ℕ, ◌<◌, List, [], ◌∷◌, length, Option, Some, sym, ap, subst, ◌∙◌, arith, codes, some_pair_parts, Bandwidth, MediaLine, MediaAttribute, Consistent, Sdp, SessionAttribute, Session}
 use Rattle.str0m_signal.specs.Lines.{Line, OneLine}
 use Rattle.str0m_signal.specs.Chains.{Chain, Stops, Run, Taken}
 use Rattle.str0m_signal.specs.Header.{Header, IsExactly, IsInfo, IsHeader}
 use Rattle.str0m_signal.specs.Section.{IsField, IsBandwidth, Head, IsHead, IsSection}
 use Rattle.str0m_signal.specs.MediaAttribute.{IsMediaLine}
 use Rattle.str0m_signal.specs.Reading.{ConsistentSection, Sections, IsSession, IsReading}
-use Rattle.str0m_sdp.specs.declared.session.Session.{Session}
 use Rattle.str0m_signal.specs.SessionAttribute.{IsSessionLine}
 use Rattle.str0m_signal.proofs.SessionAgain.{session_line_both}
 use Rattle.str0m_signal.specs.HeaderReading.{opening_read}

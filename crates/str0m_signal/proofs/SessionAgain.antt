@@ -1,10 +1,8 @@
 -- The attributes of a session are read exactly where their forms hold, and are printed as they were read.
-use Rattle.str0m_signal.proofs.Common.{arith, ℕ, true, List, ◌++◌, refl, sym, subst, lit≤, inl, inr, session_attribute_text, SessionAttribute, reads_first}
-use Rattle.str0m_values.proofs.BothWays.{Reads}
+use Rattle.str0m_signal.proofs.Common.{arith, ℕ, true, List, ◌++◌, refl, sym, subst, lit≤, inl, inr, session_attribute_text, SessionAttribute, reads_first, Reads, session_words}
 use Rattle.str0m_sdp.specs.declared.attribute.SessionAttribute.TheVariants.{Group, Candidate, Fingerprint, Setup, Unused}
 use Rattle.str0m_signal.specs.FormTable.{Form, led_by}
 use Rattle.str0m_signal.specs.Forms.{Behind}
-use Rattle.str0m_sdp.specs.Attribute.{session_words}
 use Rattle.str0m_signal.specs.LineReading.{read_attribute}
 use Rattle.str0m_signal.specs.SessionAttribute.{session_texts, group, session_forms, session_read, SessionForm, IsSessionLine}
 use Rattle.str0m_signal.specs.TransportForms.{candidate, fingerprint}
