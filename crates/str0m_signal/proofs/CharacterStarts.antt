@@ -16,9 +16,6 @@ StartsWithin k (x ∷ xs) = (IsInside x × (0 < k) × StartsWithin (k - 1) xs) �
 inside : (n : ℕ) → IsInside (128 + n % 64)
 inside n = (omega arith, omega arith)
 
-lead : (b n : ℕ) → 192 ≤ b → ¬ (IsInside (b + n))
-lead b n high = λ h. absurd (omega (arith, high, h.1))
-
 one_character : (c k : ℕ) (rest : List ℕ) → ((j : ℕ) → StartsWithin j rest) → StartsWithin k (encode_utf8 c ++ rest)
 unfolding encode_utf8
 one_character c k rest all = grind arith

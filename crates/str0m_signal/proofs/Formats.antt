@@ -46,9 +46,6 @@ pub behind_lacks : (c : ℕ) (a b : List ℕ) → Lacks c (a ++ b) → Lacks c b
 behind_lacks c [] b h = h
 behind_lacks c (x ∷ xs) b h = behind_lacks c xs b h.1
 
-behind_first : (x : ℕ) (xs ys : List ℕ) → x ∷ xs ≡ x ∷ ys → xs ≡ ys
-behind_first x xs ys e = cc
-
 -- pairs hold `=`
 pairs_hold : (text : List ℕ) (pairs : List (List ℕ × List ℕ)) → ArePairs text pairs → Lacks 61 text → ⊥
 pairs_hold text [] h lacks = h

@@ -32,16 +32,7 @@ some_joined (line ∷ before) after some =
 feeds_before : (before after : List Line) → AreLines (before ++ after) → joined after ≢ []
     → line_feeds (joined (before ++ after)) ≡ length before + line_feeds (joined after)
 feeds_before [] after are some = omega arith
-feeds_before (line ∷ before) after are some =
-    let more = joined (before ++ after) in
-    omega (
-      arith,
-      feeds_of_both line.content (line.ending ++ more),
-      feeds_of_both line.ending more,
-      no_feeds line.content are.0.inside,
-      one_feed line more are.0 (some_joined before after some),
-      feeds_before before after are.1 some,
-    )
+feeds_before (line ∷ before) after are some = grind (arith, feeds_of_both, no_feeds, one_feed, some_joined, feeds_before before after are.1 some)
 
 -- where something is left, the line feeds before it are as many as the lines
 pub line_number : (text rest : List ℕ) (h : IsFromLine text rest) → rest ≢ [] → line_feeds text ≡ length h.before + line_feeds rest

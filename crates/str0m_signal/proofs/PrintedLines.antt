@@ -77,15 +77,7 @@ said text F [] reads h = record {
   chain = λ rest. subst (λ rs. Chain (OneLine (IsAttributeLine F)) rest rs rest) (sym h) refl;
   letter = λ c other. tt;
 }
-said text F (x ∷ xs) reads (inl nothing) =
-    let more = said text F xs reads nothing.1 in
-    record {
-      lines = more.lines;
-      printed = more.printed;
-      are = ap (λ (t : List ℕ). t ++ flat_map text xs) nothing.0 ∙ more.are;
-      chain = more.chain;
-      letter = more.letter;
-    }
+said text F (x ∷ xs) reads (inl nothing) = grind (arith, said text F xs reads nothing.1)
 said text F (x ∷ xs) reads (inr (a, reads', e, (content, whole, no_lf, no_cr, form), later)) =
     let more = said text F xs reads' later in
     record {

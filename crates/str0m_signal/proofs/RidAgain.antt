@@ -162,22 +162,7 @@ rid_again = two_again 32 (lit≤ tt) active_again directed_again
 -- ---- layers
 
 layer_again : Again IsLayer layer_text
-layer_again = record {
-  form = λ text layer h. ([], alternative text layer.restriction_id h.0 h.1, h.2);
-  lacks = λ c far text layer h lacks. alternative_lacks c text layer.restriction_id h.0 h.1 lacks;
-}
-  where
-    alternative : (text : List ℕ) (id : RestrictionId) (others : List RestrictionId) → Parted 44 IsAlternative text (id ∷ others)
-        → Parted 44 IsAlternative (id_text id) (id ∷ [])
-    alternative text id [] h = (refl, h.1)
-    alternative text id (other ∷ others) h = (refl, h.3.1)
-
-    alternative_lacks : (c : ℕ) (text : List ℕ) (id : RestrictionId) (others : List RestrictionId)
-        → Parted 44 IsAlternative text (id ∷ others)
-        → Lacks c text → Lacks c (id_text id)
-    alternative_lacks c text id [] h lacks = subst (Lacks c) h.0 lacks
-    alternative_lacks c text id (other ∷ others) h lacks =
-        subst (Lacks c) h.3.0 (Lacks-append c h.0 (44 ∷ h.1) (subst (Lacks c) h.2 lacks))
+layer_again = grind (arith, Lacks-append)
 
 side_again : Again IsSide layers_text
 side_again = parted_again layer_again 59

@@ -24,9 +24,6 @@ one x a h = one_read media_attribute_text IsMediaLine x a [] [] h refl
 
 -- ---- mappings of codecs that have a name
 
-kept : (c : Codec) → c ≢ codec.Null → printed_and_read c ≡ c
-kept c other = grind arith
-
 pub named_printed : (pt : ℕ) (value : Mapping) → pt ≤ 127 → KeepsToMapping value → value.codec ≢ codec.Null
     → IsPrintedAs IsMediaLine (media_attribute_text (RtpMap pt value)) (RtpMap pt value)
 named_printed pt value small keeps other = grind (arith, mapping_printed pt value small keeps)

@@ -146,9 +146,6 @@ abbrev starts_in : List ℕ → List ℕ → Bool
 starts_in letters [] = false
 starts_in letters (x ∷ label) = is_in x letters
 
-first_is : (text : List ℕ) (x : ℕ) (rest : List ℕ) → text ++ (10 ∷ []) ≡ x ∷ rest → first_byte text ≡ x
-first_is text x rest e = grind arith
-
 -- a text that begins with one of the labels begins with a letter of both
 letter_of : (letters : List ℕ) (labels : List (List ℕ)) (text : List ℕ) → list_all (starts_in letters) labels ≡ true → Begins text labels
     → (is_in (first_byte text) letters ≡ true) × (begins_with (first_byte text) labels ≡ true)
