@@ -20,16 +20,22 @@ HEADS = {  # (of each table the kind, its severity and its head)
     "MISFITS": ("Malformed", "Which part of a known attribute doesn't fit"),
     "UNKNOWNS": ("Unknown", "Why a line is kept unread"),
     "UNSEENS": ("Unseen", "What a line that is read leaves unknown"),
+    "CHANGES": ("Changed", "What is lost where a line is printed otherwise"),
 }
 FIELDS = ("name", "title", "remedy", "explanation", "source", "example")
 ESCAPE = re.compile(r"\\(.)")
 
 
 def severities():
-    """The severity of each kind, as code.rt has it."""
-    for kinds, severity in re.findall(r"((?:Code::\w+\(_\)(?: \| )?)+) => Severity::(\w+)", CODES.read_text("utf-8")):
-        for kind in re.findall(r"Code::(\w+)", kinds):
+    """The severity of each kind, and of each change, as code.rt has it."""
+    for kinds, severity in re.findall(r"((?:(?:Code|Change)::\w+(?:\(_\))?(?:\s*\| )?)+)\s*=>\s*(?:\{\s*)?Severity::(\w+)", CODES.read_text("utf-8")):
+        for kind in re.findall(r"::(\w+)", kinds):
             yield kind, severity.lower()
+
+
+def changes():
+    """The changes, in the order of their rows."""
+    return re.findall(r"^    (\w+),$", re.search(r"^pub enum Change \{\n(.*?)^\}", CODES.read_text("utf-8"), re.M | re.S)[1], re.M)
 
 
 def tables():
@@ -48,11 +54,12 @@ def generated():
     severity = dict(severities())
     for name, rows in tables():
         kind, head = HEADS[name]
-        yield f"## {head}: {severity[kind]}s\n"
+        each = [severity[it] for it in changes()] if kind == "Changed" else [severity[kind]] * len(rows)
+        yield f"## {head}: {' and '.join(f'{it}s' for it in dict.fromkeys(each))}\n"
         yield "| Code | What is wrong | What to do | Why | Example |\n|---|---|---|---|---|"
-        for row in rows:
+        for row, own in zip(rows, each, strict=True):
             example = f"`{row['example']}`" if row["example"] else "an empty file"
-            yield cell(f"`{row['name']}`") + " | ".join(["", *(cell(it) for it in (row["title"], row["remedy"], f"{row['explanation']} ({row['source']})", example))])
+            yield cell(f"`{row['name']}`" + f", {own}" * (len(set(each)) > 1)) + " | ".join(["", *(cell(it) for it in (row["title"], row["remedy"], f"{row['explanation']} ({row['source']})", example))])
         yield ""
 
 

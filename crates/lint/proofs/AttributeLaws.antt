@@ -4,7 +4,7 @@ use Rattle.std.proofs.lemmas.List.{append_assoc, append-nil}
 use Rattle.str0m_signal.specs.Lines.{Line}
 use Rattle.str0m_signal.specs.LineReading.{lines_of}
 use Rattle.lint.proofs.LineLaws.{Begins}
-use Rattle.lint.specs.Findings.{Keeps, NotesLine, ends, kept, is_refused}
+use Rattle.lint.specs.Findings.{Keeps, NotesLine, ends, kept, is_changed, is_refused}
 use Rattle.lint.specs.Kept.{is_unread, kept_at}
 use Rattle.lint.specs.Lines.{IsNumbered, attribute_numbers, begins_attribute}
 use Rattle.lint.specs.declared.notes.Notes.{Notes}
@@ -20,11 +20,12 @@ pub record SoFar (old : Notes) (before : ℕ) (text : List ℕ) (said : List Mar
   pub kept_are : kept now.findings ++ numbers passed rest left ≡ kept old.findings ++ numbers before text said
   pub ends_stay : ends now.findings ≡ ends old.findings
   pub refused_stays : is_refused now.findings ≡ is_refused old.findings
+  pub changed_stays : is_changed now.findings ≡ is_changed old.findings
   pub last_stays : now.last ≡ old.last
 
 -- the notes are those of the beginning
 pub from_start : (old : Notes) (before : ℕ) (text : List ℕ) (said : List Mark) → SoFar old before text said old before text said
-from_start old before text said = record { lines = refl; kept_are = refl; ends_stay = refl; refused_stays = refl; last_stays = refl }
+from_start old before text said = record { lines = refl; kept_are = refl; ends_stay = refl; refused_stays = refl; changed_stays = refl; last_stays = refl }
 
 kept_of_none : (flags : List Bool) → kept_at flags [] ≡ []
 kept_of_none [] = refl
@@ -48,7 +49,7 @@ kept_take false flags n ns = refl
 pub notes_other : (number : ℕ) (content : List ℕ) (left : List Mark) (old : Notes) → begins_attribute content ≡ false → NotesLine number content left left old old
 notes_other number content left old not_one = record {
   own = [];
-  keeps = record { kept_are = sym (append-nil (kept old.findings)); ends_stay = refl; refused_stays = refl; last_stays = refl };
+  keeps = record { kept_are = sym (append-nil (kept old.findings)); ends_stay = refl; refused_stays = refl; changed_stays = refl; last_stays = refl };
   rest_are = λ ending lines. ap (kept_at (map is_unread left)) (numbers_skip number content ending lines not_one);
 }
 
@@ -56,7 +57,7 @@ notes_other number content left old not_one = record {
 pub notes_none : (number : ℕ) (content : List ℕ) (left : List Mark) (old : Notes) → left ≡ [] → NotesLine number content left left old old
 notes_none number content left old none = record {
   own = [];
-  keeps = record { kept_are = sym (append-nil (kept old.findings)); ends_stay = refl; refused_stays = refl; last_stays = refl };
+  keeps = record { kept_are = sym (append-nil (kept old.findings)); ends_stay = refl; refused_stays = refl; changed_stays = refl; last_stays = refl };
   rest_are = λ ending lines. rw none refl;
 }
 
@@ -85,6 +86,7 @@ one_further old before text said now next passed rest left more content after h 
           ∙ ap (λ (ns : List ℕ). kept now.findings ++ ns) (sym here) ∙ h.kept_are;
       ends_stay = n.keeps.ends_stay ∙ h.ends_stay;
       refused_stays = n.keeps.refused_stays ∙ h.refused_stays;
+      changed_stays = n.keeps.changed_stays ∙ h.changed_stays;
       last_stays = n.keeps.last_stays ∙ h.last_stays;
     }
 
@@ -103,5 +105,6 @@ without_lines old before text said now passed rest left h none =
       kept_are = sym (append-nil (kept now.findings)) ∙ ap (λ (ns : List ℕ). kept now.findings ++ ns) (sym nothing) ∙ h.kept_are;
       ends_stay = h.ends_stay;
       refused_stays = h.refused_stays;
+      changed_stays = h.changed_stays;
       last_stays = h.last_stays;
     }

@@ -2,3 +2,4 @@ pub mod AttributeLaws
 pub mod FindingsLaws
 pub mod LineLaws
 pub mod NoteLaws
+pub mod ToldLaws

@@ -1,14 +1,15 @@
 -- What one more finding changes.
 use Rattle.std.proofs.Common.{◌≡◌, ◌||◌, ℕ, Bool, true, false, cond, List, [], ◌∷◌, ◌++◌, Some, None, min, max, refl, ap, ◌∙◌, arith}
-use Rattle.std.specs.List.{cons_option}
+use Rattle.std.specs.List.{cons_option, list_any}
 use Rattle.std.proofs.lemmas.List.{append-nil}
 use Rattle.std.proofs.lemmas.List.Elements.{filter_map-append}
 use Rattle.std.proofs.lemmas.List.Folds.{list_any-append}
-use Rattle.lint.specs.Code.{is_refusal, is_end, is_kept}
-use Rattle.lint.specs.Findings.{AddsOne, Ends, Keeps, ends, is_refused, kept, line_if, lines_of_kind}
+use Rattle.lint.specs.Code.{is_refusal, is_end, is_kept, is_change}
+use Rattle.lint.specs.Findings.{AddsOne, Ends, Keeps, OnlyChanges, ends, is_changed, is_refused, kept, line_if, lines_of_kind}
 use Rattle.lint.specs.Lines.{IsNumbered}
 use Rattle.lint.specs.declared.code.Code.{Code}
-use Rattle.lint.specs.declared.code.Code.TheVariants.{Refused, Unread, Malformed, Unknown, Unseen}
+use Rattle.lint.specs.declared.code.Code.TheVariants.{Refused, Unread, Malformed, Unknown, Unseen, Changed}
+use Rattle.lint.specs.declared.code.Change.{Change}
 use Rattle.lint.specs.declared.code.Refusal.{Refusal}
 use Rattle.lint.specs.declared.code.Unfit.{Unfit}
 use Rattle.lint.specs.declared.code.Unseen.{Unseen as What}
@@ -43,11 +44,19 @@ added_lines is line code old new (f, e, c, l) =
     ∙ ap (λ (k : Code). lines_of_kind is old.findings ++ one_if (is k) f.line) c
     ∙ ap (λ (n : ℕ). lines_of_kind is old.findings ++ one_if (is code) n) l
 
+-- whether some finding is of a kind, with one more of a code
+added_any : (is : Code → Bool) (line : ℕ) (code : Code) (old new : Notes) → AddsOne line code old new
+    → list_any (λ finding. is finding.code) new.findings ≡ (list_any (λ finding. is finding.code) old.findings || is code)
+added_any is line code old new (f, e, c, l) =
+    ap (list_any (λ finding. is finding.code)) e ∙ list_any-append (λ finding. is finding.code) old.findings (f ∷ [])
+    ∙ ap (λ (b : Bool). list_any (λ finding. is finding.code) old.findings || b) (or_false (is f.code))
+    ∙ ap (λ (k : Code). list_any (λ finding. is finding.code) old.findings || is k) c
+
 added_refusal : (line : ℕ) (code : Code) (old new : Notes) → AddsOne line code old new → is_refused new.findings ≡ (is_refused old.findings || is_refusal code)
-added_refusal line code old new (f, e, c, l) =
-    ap is_refused e ∙ list_any-append (λ finding. is_refusal finding.code) old.findings (f ∷ [])
-    ∙ ap (λ (b : Bool). is_refused old.findings || b) (or_false (is_refusal f.code))
-    ∙ ap (λ (k : Code). is_refused old.findings || is_refusal k) c
+added_refusal = added_any is_refusal
+
+added_change : (line : ℕ) (code : Code) (old new : Notes) → AddsOne line code old new → is_changed new.findings ≡ (is_changed old.findings || is_change code)
+added_change = added_any is_change
 
 -- a finding of a kind of which no clause counts the lines
 pub keeps_none : (line : ℕ) (what : What) (old new : Notes) → AddsOne line (Unseen what) old new → new.last ≡ old.last → Keeps [] old new
@@ -55,6 +64,7 @@ keeps_none line what old new a last = record {
   kept_are = added_lines is_kept line (Unseen what) old new a;
   ends_stay = added_lines is_end line (Unseen what) old new a ∙ append-nil (ends old.findings);
   refused_stays = added_refusal line (Unseen what) old new a ∙ or_false (is_refused old.findings);
+  changed_stays = added_change line (Unseen what) old new a ∙ or_false (is_changed old.findings);
   last_stays = last;
 }
 
@@ -68,17 +78,20 @@ keeps_one line (Malformed misfit) old new is here a last = record {
   kept_are = added_lines is_kept line (Malformed misfit) old new a ∙ ap (λ (n : ℕ). kept old.findings ++ n ∷ []) (numbered old.last line here);
   ends_stay = added_lines is_end line (Malformed misfit) old new a ∙ append-nil (ends old.findings);
   refused_stays = added_refusal line (Malformed misfit) old new a ∙ or_false (is_refused old.findings);
+  changed_stays = added_change line (Malformed misfit) old new a ∙ or_false (is_changed old.findings);
   last_stays = last;
 }
 keeps_one line (Unknown unknown) old new is here a last = record {
   kept_are = added_lines is_kept line (Unknown unknown) old new a ∙ ap (λ (n : ℕ). kept old.findings ++ n ∷ []) (numbered old.last line here);
   ends_stay = added_lines is_end line (Unknown unknown) old new a ∙ append-nil (ends old.findings);
   refused_stays = added_refusal line (Unknown unknown) old new a ∙ or_false (is_refused old.findings);
+  changed_stays = added_change line (Unknown unknown) old new a ∙ or_false (is_changed old.findings);
   last_stays = last;
 }
 keeps_one line (Refused refusal) old new is here a last = absurd cc
 keeps_one line (Unread unfit) old new is here a last = absurd cc
 keeps_one line (Unseen what) old new is here a last = absurd cc
+keeps_one line (Changed change) old new is here a last = absurd cc
 
 -- the line at which reading ends
 pub ends_one : (line : ℕ) (unfit : Unfit) (old new : Notes) → IsNumbered old.last line → AddsOne line (Unread unfit) old new → new.last ≡ old.last
@@ -93,3 +106,24 @@ ends_one line unfit old new here a last = record {
 -- the text is refused
 pub refuses : (line : ℕ) (refusal : Refusal) (old new : Notes) → AddsOne line (Refused refusal) old new → is_refused new.findings ≡ true
 refuses line refusal old new a = added_refusal line (Refused refusal) old new a ∙ or_true (is_refused old.findings)
+
+-- a line that is printed otherwise
+pub changes_one : (line : ℕ) (change : Change) (old new : Notes) → AddsOne line (Changed change) old new → OnlyChanges old new
+changes_one line change old new a = record {
+  kept_stay = added_lines is_kept line (Changed change) old new a ∙ append-nil (kept old.findings);
+  ends_stay = added_lines is_end line (Changed change) old new a ∙ append-nil (ends old.findings);
+  refused_stays = added_refusal line (Changed change) old new a ∙ or_false (is_refused old.findings);
+}
+
+pub says_change : (line : ℕ) (change : Change) (old new : Notes) → AddsOne line (Changed change) old new → is_changed new.findings ≡ true
+says_change line change old new a = added_change line (Changed change) old new a ∙ or_true (is_changed old.findings)
+
+pub changes_none : (old : Notes) → OnlyChanges old old
+changes_none old = record { kept_stay = refl; ends_stay = refl; refused_stays = refl }
+
+pub changes_more : (old mid new : Notes) → OnlyChanges old mid → OnlyChanges mid new → OnlyChanges old new
+changes_more old mid new c d = record {
+  kept_stay = d.kept_stay ∙ c.kept_stay;
+  ends_stay = d.ends_stay ∙ c.ends_stay;
+  refused_stays = d.refused_stays ∙ c.refused_stays;
+}

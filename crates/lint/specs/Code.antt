@@ -1,9 +1,19 @@
 -- What codes say.
 use Rattle.std.specs.Prelude.{ℕ, Bool, true, false, List, codes}
 use Rattle.lint.specs.declared.code.Code.{Code}
-use Rattle.lint.specs.declared.code.Code.TheVariants.{Refused, Unread, Malformed, Unknown, Unseen}
+use Rattle.lint.specs.declared.code.Code.TheVariants.{Refused, Unread, Malformed, Unknown, Unseen, Changed}
+use Rattle.lint.specs.declared.code.Change.{Change}
+use Rattle.lint.specs.declared.code.Change.TheVariants.{HeaderLine, Protocol, Candidate, Spelling}
 use Rattle.lint.specs.declared.code.Severity.{Severity}
 use Rattle.lint.specs.declared.code.Severity.TheVariants.{Error, Warning, Note}
+
+-- of a change, a note where the other side can't tell, else a warning
+abbrev pub severity_of_change : Change → Severity
+severity_of_change HeaderLine = Note
+severity_of_change Protocol = Note
+severity_of_change Candidate = Note
+severity_of_change Spelling = Note
+severity_of_change _ = Warning
 
 abbrev pub severity_of : Code → Severity
 severity_of (Refused refusal) = Error
@@ -11,6 +21,7 @@ severity_of (Unread unfit) = Error
 severity_of (Malformed misfit) = Warning
 severity_of (Unknown unknown) = Note
 severity_of (Unseen unseen) = Note
+severity_of (Changed change) = severity_of_change change
 
 -- as reports write it
 abbrev pub severity_word : Severity → List ℕ
@@ -33,3 +44,8 @@ abbrev pub is_kept : Code → Bool
 is_kept (Malformed misfit) = true
 is_kept (Unknown unknown) = true
 is_kept _ = false
+
+-- a line is printed otherwise than it stands
+abbrev pub is_change : Code → Bool
+is_change (Changed change) = true
+is_change _ = false

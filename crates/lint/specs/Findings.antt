@@ -1,10 +1,11 @@
 -- What findings say of a text.
-use Rattle.std.specs.Prelude.{◌≡◌, ◌↔◌, ◌+◌, ℕ, Bool, true, List, [], ◌∷◌, ◌++◌, Option, Some, None, filter_map, map, max, min, if◌then◌else◌}
+use Rattle.std.specs.Prelude.{◌≡◌, ◌↔◌, ◌+◌, ℕ, Bool, true, false, List, [], ◌∷◌, ◌++◌, Option, Some, None, filter_map, map, max, min, if◌then◌else◌}
 use Rattle.std.specs.Borrow.{Bor}
 use Rattle.std.specs.List.{list_any}
 use Rattle.str0m_sdp.specs.declared.error.SdpError.{SdpError}
 use Rattle.str0m_sdp.specs.declared.error.SdpError.TheVariants.{ParseError, Inconsistent, Memory}
 use Rattle.str0m_sdp.specs.declared.session.Sdp.{Sdp}
+use Rattle.str0m_sdp.specs.Session.{sdp_text}
 use Rattle.str0m_signal.specs.Lines.{Line}
 use Rattle.str0m_signal.specs.LineReading.{lines_of}
 use Rattle.str0m_signal.specs.Reading.{Reading}
@@ -12,9 +13,10 @@ use Rattle.lint.specs.declared.code.Code.{Code}
 use Rattle.lint.specs.declared.finding.Finding.{Finding}
 use Rattle.lint.specs.declared.notes.Notes.{Notes}
 use Rattle.lint.specs.declared.mark.Mark.{Mark}
-use Rattle.lint.specs.Code.{is_refusal, is_end, is_kept}
+use Rattle.lint.specs.Code.{is_refusal, is_end, is_kept, is_change}
 use Rattle.lint.specs.Kept.{is_unread, kept_at, kept_flags}
 use Rattle.lint.specs.Lines.{attribute_numbers, unread_lines}
+use Rattle.lint.specs.Told.{NothingLost, told}
 
 -- the line of a finding whose code is such a one
 abbrev pub line_if : (Code → Bool) → Finding → Option ℕ
@@ -36,17 +38,35 @@ kept findings = lines_of_kind is_kept findings
 abbrev pub is_refused : List Finding → Bool
 is_refused findings = list_any (λ finding. is_refusal finding.code) findings
 
+-- a line is said to be printed otherwise than it stands
+abbrev pub is_changed : List Finding → Bool
+is_changed findings = list_any (λ finding. is_change finding.code) findings
+
+-- nothing is said to be lost: no refusal, no end of reading, no line that is printed otherwise
+pub record AreSilent (findings : List Finding) : Type 0 where
+  pub not_refused : is_refused findings ≡ false
+  pub no_end : ends findings ≡ []
+  pub not_changed : is_changed findings ≡ false
+
 -- one finding is added, at this line where the text has it
 abbrev pub AddsOne : ℕ → Code → Notes → Notes → Type 0
 AddsOne line code old new =
     (finding : Finding) × (new.findings ≡ old.findings ++ finding ∷ []) × (finding.code ≡ code) × (finding.line ≡ min (max line 1) old.last)
 
--- such findings are added, in order: of lines that are kept unread, of these alone, and none that refuses the text or ends the reading
+-- such findings are added, in order: of lines that are kept unread, of these alone, and none that refuses the text, ends the reading or says
+-- that a line is printed otherwise
 pub record Keeps (lines : List ℕ) (old new : Notes) : Type 0 where
   pub kept_are : kept new.findings ≡ kept old.findings ++ lines
   pub ends_stay : ends new.findings ≡ ends old.findings
   pub refused_stays : is_refused new.findings ≡ is_refused old.findings
+  pub changed_stays : is_changed new.findings ≡ is_changed old.findings
   pub last_stays : new.last ≡ old.last
+
+-- findings are added of lines that are printed otherwise, and no others
+pub record OnlyChanges (old new : Notes) : Type 0 where
+  pub kept_stay : kept new.findings ≡ kept old.findings
+  pub ends_stay : ends new.findings ≡ ends old.findings
+  pub refused_stays : is_refused new.findings ≡ is_refused old.findings
 
 -- one finding is added: reading ends at this line
 pub record Ends (line : ℕ) (old new : Notes) : Type 0 where
@@ -59,11 +79,13 @@ pub record Ends (line : ℕ) (old new : Notes) : Type 0 where
 abbrev pub kept_numbers : List ℕ → Sdp → List ℕ
 kept_numbers text sdp = kept_at (kept_flags sdp) (attribute_numbers 1 (lines_of text))
 
--- of a text that is read so, with this rest, findings are added of the lines that are kept unread, and of the end where there is a rest
+-- of a text that is read so, with this rest, findings are added of the lines that are kept unread, and of the end where there is a rest; where
+-- there is none, some line is said to be printed otherwise exactly where the lines don't say what is printed
 pub record Tells (text : List ℕ) (sdp : Sdp) (rest : List ℕ) (old new : Notes) : Type 0 where
   pub kept_are : kept new.findings ≡ kept old.findings ++ kept_numbers text sdp
   pub ends_are : ends new.findings ≡ ends old.findings ++ unread_lines text rest
   pub refused_stays : is_refused new.findings ≡ is_refused old.findings
+  pub changed : rest ≡ [] → is_changed old.findings ≡ false → (is_changed new.findings ≡ false) ↔ (told text ≡ told (sdp_text sdp))
   pub last_stays : new.last ≡ old.last
 
 -- what is said of a line, by the attributes that were left before it and those that are left behind it: the numbers of lines that are kept
@@ -85,8 +107,10 @@ IsNoWant (ParseError message) = Unit {0}
 IsNoWant (Inconsistent message) = Unit {0}
 IsNoWant Memory = ⊥
 
--- the findings are those of the text, whatever it is read as: whether it is refused, where reading ends, and which lines are kept unread
+-- the findings are those of the text, whatever it is read as: whether it is refused, where reading ends, which lines are kept unread, and
+-- whether anything is lost
 pub record AreFindingsOf (text : List ℕ) (findings : List Finding) : Type 0 where
   pub refused : (is_refused findings ≡ true) ↔ ((v : Sdp × List ℕ) → Reading text v → ⊥)
   pub unread : (sdp : Sdp) (rest : List ℕ) → Reading text (sdp, rest) → ends findings ≡ unread_lines text rest
   pub kept_are : (sdp : Sdp) (rest : List ℕ) → Reading text (sdp, rest) → kept findings ≡ kept_numbers text sdp
+  pub silent : AreSilent findings ↔ NothingLost text

@@ -2,4 +2,5 @@ pub mod Code
 pub mod Findings
 pub mod Kept
 pub mod Lines
+pub mod Told
 pub mod Within

@@ -1,6 +1,6 @@
-//! Findings that are added to the others.
+//! Findings that are added to the others, and whether there is one of a kind.
 ghost use Rattle.std.specs.Prelude.{◌≡◌, OnOk};
-ghost use Rattle.lint.specs.Findings.{AddsOne};
+ghost use Rattle.lint.specs.Findings.{AddsOne, is_changed};
 
 use crate::code::Code;
 use crate::finding::Finding;
@@ -47,5 +47,15 @@ impl Notes {
             column: column_of(line, part.behind),
         };
         self.add(place, code, detail.as_str())
+    }
+
+    /// Whether it is said of a line that it is printed otherwise than it stands.
+    pub(crate) fn say_change(&self) -> bool
+        ensures { result ≡ is_changed self.now.findings }
+    {
+        self.findings
+            .as_slice()
+            .iter()
+            .any(|finding| finding.code.is_change())
     }
 }

@@ -7,21 +7,12 @@ ghost use Rattle.lint.specs.Lines.{IsNumbered, attribute_numbers};
 
 use crate::code::Code;
 use crate::kept::why_kept;
-use crate::lines::next_line;
+use crate::lines::{behind_space, next_line};
 use crate::mark::Mark;
 use crate::notes::Notes;
 use crate::part::Part;
 use std::alloc::AllocError;
-use str0m_values::Separator;
-use str0m_values::cuts::{cut, strip};
-
-/// What stands behind the first space of a line, or the line.
-fn behind_space(line: &str) -> &str {
-    match cut(line, Separator::Space) {
-        Some((_, value)) => value,
-        None => line,
-    }
-}
+use str0m_values::cuts::strip;
 
 /// Says what there is to be said of an attribute by its mark, whose text behind `a=` is handed over with its line.
 fn note_attribute(
@@ -44,7 +35,7 @@ fn note_attribute(
             let part = Part::to_end(behind_space(line));
             notes.add_part(number, line, Code::Unseen(unseen), part)
         }
-        Mark::Known => Ok(()),
+        Mark::Read(_) | Mark::Unprinted => Ok(()),
     }
 }
 

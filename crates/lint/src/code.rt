@@ -1,6 +1,6 @@
 //! The codes of findings: what is wrong, by kind.
 ghost use Rattle.std.specs.Prelude.{◌≡◌};
-ghost use Rattle.lint.specs.Code.{severity_of, severity_word};
+ghost use Rattle.lint.specs.Code.{is_change, severity_of, severity_of_change, severity_word};
 
 use crate::rows;
 use crate::rows::Row;
@@ -131,15 +131,57 @@ pub enum Unknown {
     Level,
 }
 
-/// What a line that is read leaves unknown.
+/// What a line that is read and printed as it stands leaves unknown.
 #[derive(Clone, Copy, Debug)]
 pub enum Unseen {
+    /// Feedback isn't looked at.
+    Feedback,
+}
+
+/// What is lost of a line that is printed otherwise than it stands.
+#[derive(Clone, Copy, Debug)]
+pub enum Change {
     /// A codec isn't known.
     Codec,
     /// A format key or its value isn't known.
     FormatKey,
-    /// Feedback isn't looked at.
-    Feedback,
+    /// The value of a format key is another.
+    FormatValue,
+    /// The direction of a header extension, or what stands behind its URI.
+    Extension,
+    /// The alternatives of a simulcast layer.
+    Layers,
+    /// The formats of an m-line, which are no payload types.
+    Formats,
+    /// What stands behind the first 16 bytes of a mid.
+    Mid,
+    /// A header line that isn't kept.
+    HeaderLine,
+    /// An old name of a protocol.
+    Protocol,
+    /// What stands behind the address of a candidate and isn't kept.
+    Candidate,
+    /// Blanks, case, or another way to write a number.
+    Spelling,
+}
+
+impl Change {
+    /// How much it matters: a warning where the other side can tell the printed line from this one by what it does.
+    pub fn severity(self) -> Severity
+        ensures { result ≡ severity_of_change self }
+    {
+        match self {
+            Change::Codec
+            | Change::FormatKey
+            | Change::FormatValue
+            | Change::Extension
+            | Change::Layers
+            | Change::Formats
+            | Change::Mid => Severity::Warning,
+            Change::HeaderLine | Change::Protocol | Change::Candidate | Change::Spelling =>
+                Severity::Note,
+        }
+    }
 }
 
 /// What a finding says, by its kind.
@@ -155,10 +197,13 @@ pub enum Code {
     Unknown(Unknown),
     /// The line is read, and says something that isn't known.
     Unseen(Unseen),
+    /// The line is read, and printed otherwise than it stands.
+    Changed(Change),
 }
 
 impl Code {
-    /// How much findings of this code matter: errors are lost text, warnings lines that say nothing, notes the rest.
+    /// How much findings of this code matter: errors are lost text, warnings lines that say nothing and changes that the other side
+    /// can tell, notes the rest.
     pub fn severity(self) -> Severity
         ensures { result ≡ severity_of self }
     {
@@ -166,7 +211,15 @@ impl Code {
             Code::Refused(_) | Code::Unread(_) => Severity::Error,
             Code::Malformed(_) => Severity::Warning,
             Code::Unknown(_) | Code::Unseen(_) => Severity::Note,
+            Code::Changed(change) => change.severity(),
         }
+    }
+
+    /// Whether a line is printed otherwise than it stands.
+    pub(crate) fn is_change(self) -> bool
+        ensures { result ≡ is_change self }
+    {
+        matches!(self, Code::Changed(_))
     }
 
     /// The row of the table of codes: name, title, remedy, explanation, source and example.
@@ -177,6 +230,7 @@ impl Code {
             Code::Malformed(misfit) => &rows::MISFITS[misfit as usize],
             Code::Unknown(unknown) => &rows::UNKNOWNS[unknown as usize],
             Code::Unseen(unseen) => &rows::UNSEENS[unseen as usize],
+            Code::Changed(change) => &rows::CHANGES[change as usize],
         }
     }
 }

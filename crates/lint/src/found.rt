@@ -4,14 +4,16 @@ ghost use Rattle.str0m_sdp.specs.declared.session.Sdp.{Sdp};
 ghost use Rattle.str0m_signal.specs.Answers.{AtMostOne};
 ghost use Rattle.str0m_signal.specs.LineReading.{lines_of};
 ghost use Rattle.str0m_signal.specs.Reading.{Reading};
-ghost use Rattle.lint.specs.Findings.{AreFindingsOf, IsNoWant, ReadsAs, Tells, ends, kept, is_refused};
+ghost use Rattle.lint.specs.Findings.{AreFindingsOf, AreSilent, IsNoWant, ReadsAs, Tells, ends, kept, is_refused};
 ghost use Rattle.lint.specs.Within.{IsWithin};
 ghost use Rattle.lint.specs.Kept.{kept_at, kept_flags};
 ghost use Rattle.lint.specs.Lines.{attribute_numbers, last_line, unread_lines};
+ghost use Rattle.lint.specs.Told.{NothingLost};
 
 use crate::attribute_lines::note_attributes;
+use crate::changes::note_changes;
 use crate::finding::Report;
-use crate::lines::line_count;
+use crate::lines::{line_count, text_before};
 use crate::mark::all_marks;
 use crate::notes::Notes;
 use crate::refused::note_refused;
@@ -27,6 +29,13 @@ fn note_read(notes: &mut Notes, text: &str, sdp: &Sdp, rest: &str) -> Result<(),
 {
     let marks = all_marks(notes.alloc(), sdp)?;
     note_attributes(notes, 0, text, marks.as_slice())?;
+    let printed = sdp.to_string(notes.alloc())?;
+    note_changes(
+        notes,
+        text_before(text, rest),
+        printed.as_str(),
+        marks.as_slice(),
+    )?;
     if rest.is_empty() {
         return Ok(());
     }
@@ -71,13 +80,17 @@ fn note_found(notes: &mut Notes, text: &str, found: Option<(Sdp, &str)>) -> Resu
     }
 }
 
-/// What there is to be said of a text: why it is refused, where its reading ends, which lines are kept unread, and what of the lines
-/// that are read isn't known.
+/// What there is to be said of a text: why it is refused, where its reading ends, which lines are kept unread, what of the lines
+/// that are read isn't known, and which of them are printed otherwise than they stand.
 ///
 /// Lines are numbered from 1, and each finding names a line of the text, of an empty text line 1. A finding of the kind `Refused`
 /// stands there exactly where `sdp_parser` refuses the text. Where the text is read, a finding of the kind `Unread` stands there
 /// exactly where a rest isn't read, at the line at which it begins; and those of the kinds `Malformed` and `Unknown` are, in order,
 /// the attribute lines that are read as `Unused` (RFC 8866, section 5.13).
+///
+/// No finding is of the kind `Refused`, `Unread` or `Changed` exactly where nothing is lost: the text is read to its end, and its lines
+/// are those that are printed of it, but for `o=`, `s=` and `c=` lines and ports other than 0, which printing fixes. Line ends aren't
+/// compared.
 ///
 /// The only error is that memory was refused.
 pub fn findings(alloc: Global, text: &str) -> Result<Report, AllocError>
@@ -86,6 +99,7 @@ pub fn findings(alloc: Global, text: &str) -> Result<Report, AllocError>
     ensures unread { IfOk result (λ report. (sdp : Sdp) (rest : List ℕ) → Reading text.now (sdp, rest) → ends report.findings ≡ unread_lines text.now rest) }
     ensures kept { IfOk result (λ report. (sdp : Sdp) (rest : List ℕ) → Reading text.now (sdp, rest)
         → kept report.findings ≡ kept_at (kept_flags sdp) (attribute_numbers 1 (lines_of text.now))) }
+    ensures silent { IfOk result (λ report. AreSilent report.findings ↔ NothingLost text.now) }
 {
     let mut notes = Notes::new(alloc, line_count(text));
     let found = read(alloc, text)?;

@@ -3,10 +3,12 @@
 
 mod added;
 mod attribute_lines;
+mod changes;
 mod code;
 mod contradiction;
 mod fields;
 mod finding;
+mod fork;
 mod forms;
 mod found;
 mod header;
@@ -18,10 +20,11 @@ mod part;
 mod refused;
 mod rows;
 mod section;
+mod told;
 mod unfit;
 mod unseen;
 
-pub use code::{Code, Misfit, Refusal, Severity, Unfit, Unknown, Unseen};
+pub use code::{Change, Code, Misfit, Refusal, Severity, Unfit, Unknown, Unseen};
 pub use finding::{Finding, Report};
 pub use found::findings;
-pub use rows::{MISFITS, REFUSALS, Row, UNFITS, UNKNOWNS, UNSEENS};
+pub use rows::{CHANGES, MISFITS, REFUSALS, Row, UNFITS, UNKNOWNS, UNSEENS};

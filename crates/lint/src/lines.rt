@@ -1,5 +1,5 @@
 //! The lines of a text, and how many there are.
-ghost use Rattle.std.specs.Prelude.{◌≡◌, ◌<◌, IfSome, length};
+ghost use Rattle.std.specs.Prelude.{◌≡◌, ◌<◌, IfSome, [], length};
 ghost use Rattle.str0m_signal.specs.LineReading.{lines_of};
 ghost use Rattle.lint.specs.Lines.{IsWithoutReturn, NextLine};
 
@@ -7,7 +7,6 @@ use str0m_values::Separator;
 use str0m_values::cuts::cut;
 
 /// The text without the carriage return that ends it.
-
 fn without_return(line: &str) -> &str
     ensures { IsWithoutReturn line.now result.now }
 {
@@ -46,4 +45,23 @@ pub(crate) fn line_count(text: &str) -> usize
 pub(crate) fn column_of(line: &str, behind: &str) -> usize {
     let before = line.chars().count().saturating_sub(behind.chars().count());
     before.saturating_add(1)
+}
+
+/// What stands behind the first space of a line, or the line.
+pub(crate) fn behind_space(line: &str) -> &str {
+    match cut(line, Separator::Space) {
+        Some((_, value)) => value,
+        None => line,
+    }
+}
+
+/// The text before the rest of it; all of it where there is no rest.
+pub(crate) fn text_before<'a>(text: &'a str, rest: &str) -> &'a str
+    ensures { rest.now ≡ [] → result.now ≡ text.now }
+{
+    if rest.is_empty() {
+        return text;
+    }
+    let end = text.len().saturating_sub(rest.len());
+    text.get(..end).unwrap_or(text)
 }

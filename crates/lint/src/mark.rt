@@ -2,9 +2,9 @@
 ghost use Rattle.std.specs.Prelude.{◌≡◌, ◌++◌, IfOk, OnOk, map};
 ghost use Rattle.lint.specs.Kept.{is_unread, is_unread_of_section, is_unread_of_session, kept_of_section, kept_of_session, kept_flags};
 
-use crate::code::Unseen;
+use crate::code::{Change, Unseen};
 use crate::forms::Level;
-use crate::unseen::unseen;
+use crate::unseen::{change, is_unprinted, unseen};
 use std::alloc::{AllocError, Global};
 use str0m_sdp::{MediaAttribute, MediaLine, Sdp, SessionAttribute};
 
@@ -15,8 +15,10 @@ pub(crate) enum Mark {
     Kept(Level),
     /// It is read, and leaves this unknown.
     Unseen(Unseen),
-    /// Nothing.
-    Known,
+    /// It is read, and this is lost where its line is printed otherwise than it stands.
+    Read(Change),
+    /// It is read, and no line is printed of it.
+    Unprinted,
 }
 
 impl Mark {
@@ -25,19 +27,33 @@ impl Mark {
     {
         match attribute {
             SessionAttribute::Unused(_) => Mark::Kept(Level::Session),
-            _ => Mark::Known,
+            SessionAttribute::Group { .. } => Mark::Read(Change::Mid),
+            SessionAttribute::Candidate(_) => Mark::Read(Change::Candidate),
+            _ => Mark::Read(Change::Spelling),
         }
     }
 
-    fn of_section(attribute: &MediaAttribute) -> Mark
-        ensures { is_unread result ≡ is_unread_of_section attribute.now }
+    fn of_section(alloc: Global, attribute: &MediaAttribute) -> Result<Mark, AllocError>
+        ensures { IfOk result (λ mark. is_unread mark ≡ is_unread_of_section attribute.now) }
     {
         if let MediaAttribute::Unused(_) = attribute {
-            return Mark::Kept(Level::Section);
+            return Ok(Mark::Kept(Level::Section));
+        }
+        if is_unprinted(alloc, attribute)? {
+            return Ok(Mark::Unprinted);
         }
         match unseen(attribute) {
-            Some(unseen) => Mark::Unseen(unseen),
-            None => Mark::Known,
+            Some(unseen) => Ok(Mark::Unseen(unseen)),
+            None => Ok(Mark::Read(change(attribute))),
+        }
+    }
+
+    /// What is lost where the line is printed otherwise than it stands.
+    pub(crate) fn change(self) -> Change {
+        match self {
+            Mark::Read(change) => change,
+            Mark::Unprinted => Change::FormatKey,
+            Mark::Kept(_) | Mark::Unseen(_) => Change::Spelling,
         }
     }
 }
@@ -60,8 +76,9 @@ pub(crate) fn session_marks(
 pub(crate) fn add_section(marks: &mut Vec<Mark>, section: &MediaLine) -> Result<(), AllocError>
     ensures { OnOk result (map is_unread marks.new.items ≡ map is_unread marks.old.items ++ kept_of_section section.now) }
 {
+    let alloc = *section.attrs.allocator();
     for attribute in section.attrs.as_slice() {
-        marks.push(Mark::of_section(attribute))?;
+        marks.push(Mark::of_section(alloc, attribute)?)?;
     }
     Ok(())
 }

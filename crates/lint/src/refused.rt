@@ -3,10 +3,11 @@ ghost use Rattle.std.specs.Prelude.{◌≡◌, true, OnOk};
 ghost use Rattle.lint.specs.Findings.{is_refused};
 
 use crate::attribute_lines::note_attributes;
+use crate::changes::note_printed;
 use crate::code::{Code, Refusal};
 use crate::contradiction::contradiction;
 use crate::header::note_header;
-use crate::lines::{line_count, next_line};
+use crate::lines::{line_count, next_line, text_before};
 use crate::mark::{add_section, session_marks};
 use crate::notes::Notes;
 use crate::part::Place;
@@ -55,6 +56,23 @@ fn note_section(notes: &mut Notes, before: usize, section: &Section<'_>) -> Resu
     notes.add(place, Code::Refused(fault.refusal), detail.as_str())
 }
 
+/// Says what stands on the lines of a section behind so many lines.
+fn note_lines(
+    notes: &mut Notes,
+    before: usize,
+    text: &str,
+    section: &Section<'_>,
+) -> Result<(), AllocError>
+    ensures { notes.new.last ≡ notes.old.last }
+{
+    let mut marks = Vec::new(notes.alloc());
+    add_section(&mut marks, &section.line)?;
+    let lead = before.saturating_add(section.lead);
+    note_attributes(notes, lead, section.attributes, marks.as_slice())?;
+    let printed = section.line.to_string(notes.alloc())?;
+    note_printed(notes, before, text, printed.as_str(), marks.as_slice())
+}
+
 /// Says which section of those that the text begins with contradicts itself, and what stands in it and those before it.
 fn note_sections(notes: &mut Notes, before: usize, text: &str) -> Result<(), AllocError>
     ensures refused { OnOk result (is_refused notes.new.findings ≡ true) }
@@ -65,9 +83,7 @@ fn note_sections(notes: &mut Notes, before: usize, text: &str) -> Result<(), All
     let mut rest = text;
     while let Some(found) = next_section(alloc, rest)? {
         let lead = before.saturating_add(found.lead);
-        let mut marks = Vec::new(alloc);
-        add_section(&mut marks, &found.line)?;
-        note_attributes(notes, lead, found.attributes, marks.as_slice())?;
+        note_lines(notes, before, text_before(rest, found.rest), &found)?;
         if found.line.check_consistent()?.is_some() {
             return note_section(notes, before, &found);
         }
@@ -82,12 +98,14 @@ fn note_sections(notes: &mut Notes, before: usize, text: &str) -> Result<(), All
     notes.add(place, Code::Refused(Refusal::MissingMid), "")
 }
 
-/// Says what stands on the attribute lines of a session.
+/// Says what stands on the lines of a session.
 fn note_session(notes: &mut Notes, text: &str, session: &Session) -> Result<(), AllocError>
     ensures { notes.new.last ≡ notes.old.last }
 {
     let marks = session_marks(notes.alloc(), session.attrs.as_slice())?;
-    note_attributes(notes, 0, text, marks.as_slice())
+    note_attributes(notes, 0, text, marks.as_slice())?;
+    let printed = session.to_string(notes.alloc())?;
+    note_printed(notes, 0, text, printed.as_str(), marks.as_slice())
 }
 
 /// Says why a text is refused: which line of its header is at fault, or which section contradicts itself.
@@ -97,7 +115,7 @@ pub(crate) fn note_refused(notes: &mut Notes, text: &str) -> Result<(), AllocErr
 {
     match session_parser(notes.alloc(), text) {
         Ok((session, rest)) => {
-            note_session(notes, text, &session)?;
+            note_session(notes, text_before(text, rest), &session)?;
             let before = line_count(text).saturating_sub(line_count(rest));
             note_sections(notes, before, rest)
         }

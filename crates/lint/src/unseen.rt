@@ -1,6 +1,7 @@
-//! What lines that are read leave unknown.
+//! What lines that are read leave unknown, and what is lost of them where they are printed.
 
-use crate::code::Unseen;
+use crate::code::{Change, Unseen};
+use std::alloc::{AllocError, Global};
 use str0m_formats::{Codec, FormatParam};
 use str0m_sdp::MediaAttribute;
 use str0m_sdp::label::{FIR, NACK, PLI, REMB, TRANSPORT_CC};
@@ -12,29 +13,44 @@ fn is_known_feedback(value: &str) -> bool {
     FEEDBACK.iter().any(|known| *known == value)
 }
 
-fn holds_unknown(values: &[FormatParam]) -> bool {
-    values
-        .iter()
-        .any(|value| matches!(value, FormatParam::Unknown))
-}
-
-/// What the line of an attribute leaves unknown, if anything: a codec, something of a format, or feedback.
+/// What the line of an attribute leaves unknown and is printed all the same, if anything.
 pub(crate) fn unseen(attribute: &MediaAttribute) -> Option<Unseen> {
     match attribute {
-        MediaAttribute::RtpMap { value, .. } => match value.codec {
-            Codec::Unknown => Some(Unseen::Codec),
-            _ => None,
-        },
-        MediaAttribute::Fmtp { values, .. } => if holds_unknown(values.as_slice()) {
-            Some(Unseen::FormatKey)
-        } else {
-            None
-        },
-        MediaAttribute::RtcpFb { value, .. } => if is_known_feedback(value.as_str()) {
-            None
-        } else {
-            Some(Unseen::Feedback)
-        },
+        MediaAttribute::RtcpFb { value, .. } if !is_known_feedback(value.as_str()) => Some(
+            Unseen::Feedback,
+        ),
         _ => None,
+    }
+}
+
+fn holds_unknown(values: &[FormatParam]) -> bool {
+    values.iter().any(|value| matches!(value, FormatParam::Unknown | FormatParam::AmrWbUnsupported))
+}
+
+/// What is lost where the line of an attribute is printed otherwise than it stands, and not only in another spelling.
+pub(crate) fn change(attribute: &MediaAttribute) -> Change {
+    match attribute {
+        MediaAttribute::RtpMap { value, .. } if matches!(value.codec, Codec::Unknown) =>
+            Change::Codec,
+        MediaAttribute::Fmtp { values, .. } => if holds_unknown(values.as_slice()) {
+            Change::FormatKey
+        } else {
+            Change::FormatValue
+        },
+        MediaAttribute::ExtMap { .. } => Change::Extension,
+        MediaAttribute::Simulcast(_) => Change::Layers,
+        MediaAttribute::Mid(_) => Change::Mid,
+        MediaAttribute::Candidate(_) => Change::Candidate,
+        _ => Change::Spelling,
+    }
+}
+
+/// Whether no line is printed of an attribute: of a format of which nothing is known.
+pub(crate) fn is_unprinted(alloc: Global, attribute: &MediaAttribute) -> Result<bool, AllocError> {
+    match attribute {
+        MediaAttribute::Fmtp { values, .. } if holds_unknown(values.as_slice()) => {
+            Ok(attribute.to_string(alloc)?.is_empty())
+        }
+        _ => Ok(false),
     }
 }

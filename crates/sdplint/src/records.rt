@@ -1,18 +1,19 @@
 //! Findings as JSON and as SARIF 2.1.0.
 
-use lint::{Finding, MISFITS, REFUSALS, Row, UNFITS, UNKNOWNS, UNSEENS};
+use lint::{CHANGES, Finding, MISFITS, REFUSALS, Row, UNFITS, UNKNOWNS, UNSEENS};
 use percent_encoding::{AsciiSet, NON_ALPHANUMERIC, utf8_percent_encode};
 use serde_json::{Value, json};
 use std::alloc::{AllocError, Global};
 
 /// All rows of the table of codes.
-pub(crate) fn tables() -> [&'static [Row]; 5] {
+pub(crate) fn tables() -> [&'static [Row]; 6] {
     [
         REFUSALS.as_slice(),
         UNFITS.as_slice(),
         MISFITS.as_slice(),
         UNKNOWNS.as_slice(),
         UNSEENS.as_slice(),
+        CHANGES.as_slice(),
     ]
 }
 

@@ -1,0 +1,12 @@
+use Rattle.std.proofs.Common.{◌≡◌, ◌↔◌, length}
+use Rattle.str0m_signal.proofs.Common.{Utf8, shadow}
+use Rattle.lint.specs.Told.{told}
+use Rattle.lint.proofs.told.first_change.Given as goal
+
+-- what is left of both says the same exactly where both do
+abbrev pub invariant-loop-next : goal.invariant-loop-next
+invariant-loop-next l =
+    shadow (Utf8 l.left) × shadow (Utf8 l.right) × ((told l.left ≡ told l.right) ↔ (told l.fn.text ≡ told l.fn.printed))
+
+abbrev pub decreases-loop-next : goal.decreases-loop-next
+decreases-loop-next l = length l.left

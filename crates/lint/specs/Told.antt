@@ -1,0 +1,59 @@
+-- What the lines of a text say, but for what printing fixes.
+use Rattle.std.specs.Prelude.{◌≡◌, ℕ, Bool, false, List, [], ◌∷◌, Option, Some, None, codes, is_some, if◌then◌else◌}
+use Rattle.std.specs.Str.{bytes_eq}
+use Rattle.str0m_values.specs.Cuts.{cut, strip, ◌>>=◌}
+use Rattle.str0m_sdp.specs.declared.session.Sdp.{Sdp}
+use Rattle.str0m_sdp.specs.Session.{sdp_text}
+use Rattle.str0m_signal.specs.Lines.{Line}
+use Rattle.str0m_signal.specs.LineReading.{lines_of}
+use Rattle.str0m_signal.specs.Reading.{Reading}
+use Rattle.lint.specs.declared.told.Next.{Next}
+use Rattle.lint.specs.declared.told.Told.{Told as Shown}
+
+-- of an m-line its type with `m=`, whether its port is 0, and what stands behind the port; of another line the whole of it
+pub record Told : Type 0 where
+  pub kind : List ℕ
+  pub stopped : Bool
+  pub rest : List ℕ
+
+abbrev pub whole : List ℕ → Told
+whole line = record { kind = []; stopped = false; rest = line }
+
+-- an m-line without a port is told as it stands
+abbrev pub media_told : List ℕ → Option Told → Told
+media_told line None = whole line
+media_told line (Some told) = told
+
+abbrev pub ported : List ℕ → Option Told
+ported line = cut 32 line >>= λ kind. cut 32 kind.1 >>= λ port. Some (record { kind = kind.0; stopped = bytes_eq port.0 (codes "0"); rest = port.1 })
+
+-- printing fixes the origin and the name of a session, and each port but 0 (RFC 8866, sections 5.2, 5.3 and 5.14)
+abbrev pub line_told : List ℕ → Told
+line_told line =
+    if is_some (strip (codes "o=") line) then whole (codes "o=")
+    else if is_some (strip (codes "s=") line) then whole (codes "s=")
+    else if is_some (strip (codes "m=") line) then media_told line (ported line)
+    else whole line
+
+-- printing fixes `c=` lines, too (RFC 8866, section 5.7): they aren't told
+abbrev pub lines_told : List Line → List Told
+lines_told [] = []
+lines_told (line ∷ lines) =
+    if is_some (strip (codes "c=") line.content) then lines_told lines else line_told line.content ∷ lines_told lines
+
+-- what the lines of a text say, in order
+abbrev pub told : List ℕ → List Told
+told text = lines_told (lines_of text)
+
+-- nothing is lost of a text: it is read to its end, and its lines say what is printed of it
+abbrev pub NothingLost : List ℕ → Type 0
+NothingLost text = (sdp : Sdp) × Reading text (sdp, []) × (told text ≡ told (sdp_text sdp))
+
+-- what the private record of the code says
+abbrev pub shown : Shown → Told
+shown line = record { kind = line.kind.now; stopped = line.stopped; rest = line.rest.now }
+
+-- no line of the text is told; or this one is the first, and the text behind it is left
+abbrev pub NextTold : List ℕ → Option Next → Type 0
+NextTold text None = told text ≡ []
+NextTold text (Some next) = told text ≡ shown next.line ∷ told next.rest.now
