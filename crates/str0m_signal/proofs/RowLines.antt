@@ -1,5 +1,5 @@
 -- The printed lines of a row have their forms, and read as the row's lines.
-use Rattle.str0m_signal.proofs.Common.{◌≡◌, ◌≢◌, ◌<◌, ◌≤◌, ℕ, Bool, List, [], ◌∷◌, ◌++◌, map, Option, Some, None, IfSome, refl, sym, ap, subst, arith, lit<, AllByRecursion, flat_map, IsRest, printed_and_read, param_text, telephone_max, Codec, FormatParam, TelephoneEvents, BareRange, BarePtList, Red, PayloadParams, IsPlainPair, joined_pair, media_attribute_text, row_attrs, MediaAttribute, Fmtp, reads, feedback_line, feedback_attrs, fmtp_line, format_values, format_attrs, rtx_lines, rtx_attrs, red_lines, red_attrs, map_of_spec, line_read, fmtp_lines, red_reads, RtpMap, joined, TRANSPORT_CC, REMB, FIR, NACK, PLI}
+use Rattle.str0m_signal.proofs.Common.{◌≡◌, ◌≢◌, ◌<◌, ◌≤◌, ℕ, Bool, List, [], ◌∷◌, ◌++◌, map, Option, Some, None, IfSome, refl, sym, ap, subst, arith, lit<, AllByRecursion, flat_map, IsRest, param_text, telephone_max, Codec, FormatParam, TelephoneEvents, BareRange, BarePtList, Red, PayloadParams, IsPlainPair, joined_pair, media_attribute_text, row_attrs, MediaAttribute, Fmtp, reads, feedback_line, feedback_attrs, fmtp_line, format_values, format_attrs, rtx_lines, rtx_attrs, red_lines, red_attrs, map_of_spec, line_read, fmtp_lines, red_reads, RtpMap, joined, TRANSPORT_CC, REMB, FIR, NACK, PLI}
 use Rattle.str0m_formats.specs.CodecSpec.{rtp_rate}
 use Rattle.str0m_formats.specs.FormatParams.{params_of}
 use Rattle.str0m_formats.specs.declared.codec.Codec.TheVariants as codec

@@ -1,4 +1,4 @@
-use Rattle.std.proofs.Common.{◌≡◌, List, Option, ℕ, map, subst, sym, ◌+◌, ◌∙◌}
+use Rattle.std.proofs.Common.{◌≡◌, List, ℕ, map, subst, sym, ◌+◌, ◌∙◌}
 use Rattle.std.specs.BTreeSet.{BTreeSet}
 use Rattle.std.specs.Borrow.{Bor}
 use Rattle.exchange.proofs.OwnNameLaws.{AreOwn, all_own, named_again, own_more, own_same}
