@@ -34,15 +34,25 @@ pub record AnswersOffer (own : OwnSide) (ours : List PayloadParams) (offer answe
 abbrev pub EachSection : (Sdp → MediaLine → MediaLine → Type 0) → Option Sdp → Sdp → Type 0
 EachSection R remote answer = IsSomeAnd remote (λ offer. AllZip (R offer) offer.media_lines answer.media_lines)
 
+-- some answer to an offer isn't read back
+pub record LosesAnswer (exchange : Exchange) (ours : List PayloadParams) (offer : Sdp) : Type 0 where
+  pub answer : Sdp
+  pub answers : AnswersOffer exchange.own ours offer answer
+  pub lost : IsReadBack answer (versioned_text exchange.version answer) → ⊥
+
+-- why an offer isn't answered with these rows
+abbrev pub RefusesToAnswer : Exchange → List PayloadParams → Sdp → ExchangeError → Type 0
+RefusesToAnswer exchange ours offer NotPrintable = LosesAnswer exchange ours offer
+RefusesToAnswer exchange ours offer Memory = Unit {0}
+RefusesToAnswer exchange ours offer _ = ⊥
+
 -- some answer to the text isn't read back
 pub record IsUnprintable (old : Exchange) (text : List ℕ) : Type 0 where
   pub offer : Sdp
   pub is_offer : IsOffer text offer
   pub ours : List PayloadParams
   pub negotiated : Negotiates offer old.config.params.items ours
-  pub answer : Sdp
-  pub answers : AnswersOffer old.own ours offer answer
-  pub lost : IsReadBack answer (versioned_text old.version answer) → ⊥
+  pub loses : LosesAnswer old ours offer
 
 -- which section of an offer isn't taken, and the rule that it breaks: it has the name of an earlier one, or no two have one name
 -- and it isn't in its place behind the last exchange

@@ -113,10 +113,8 @@ impl Exchange {
         let placed = pending.placed.as_slice();
         let directions = with_placed(alloc, self.own.directions.as_slice(), placed)?;
         let added = behind(alloc, self.added.as_slice(), placed.len())?;
-        self.local = taken(&mut self.pending);
-        self.remote = Some(remote);
-        self.config = config;
-        self.names = names;
+        let local = taken(&mut self.pending);
+        self.settle(local, remote, config, names);
         self.own.directions = directions;
         self.added = added;
         Ok(())

@@ -3,6 +3,7 @@
 
 mod accepted;
 mod accepted_answer;
+mod accepted_offer;
 mod added;
 mod answer;
 mod answered_section;

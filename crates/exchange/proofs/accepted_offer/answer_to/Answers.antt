@@ -1,5 +1,5 @@
 use Rattle.exchange.proofs.TrackLaws.{same_names, tracks_differ}
-use Rattle.exchange.proofs.exchange.answer_to.Goals as goal
+use Rattle.exchange.proofs.accepted_offer.answer_to.Goals as goal
 
 pub returns-clause-names : goal.returns-clause-names
 returns-clause-names c =
