@@ -62,17 +62,25 @@ fn format_said(answer: &mut Answer, line: &str) -> FormatParams {
 /// A codec with its rates and its format, as `opus/48000/2 minptime=10`.
 pub(crate) fn spec_of(answer: &mut Answer, map: &str, format: &str) -> CodecSpec {
     let (name, rates) = split_at_slash(answer, map);
-    let codec = codec_of(answer, name);
-    let (rate, channels) = match rates.split_once('/') {
-        None => (rates, None),
-        Some((rate, channels)) => (rate, Some(byte_of(answer, channels, "row"))),
-    };
+    let (rate, channels) = rate_and_channels(rates);
     CodecSpec {
-        codec,
+        codec: codec_of(answer, name),
         clock_rate: rate_of(answer, rate),
-        channels,
+        channels: channels_of(answer, channels),
         format: format_of(answer, format),
     }
+}
+
+/// A rate, and the channels behind it where there are some.
+fn rate_and_channels(rates: &str) -> (&str, Option<&str>) {
+    match rates.split_once('/') {
+        None => (rates, None),
+        Some((rate, channels)) => (rate, Some(channels)),
+    }
+}
+
+fn channels_of(answer: &mut Answer, text: Option<&str>) -> Option<u8> {
+    Some(byte_of(answer, text?, "row"))
 }
 
 fn split_at_slash<'a>(answer: &mut Answer, map: &'a str) -> (&'a str, &'a str) {
@@ -107,15 +115,23 @@ fn turn_off(answer: &mut Answer, row: &mut PayloadParams, word: &str) {
     }
 }
 
-pub(crate) fn row_of(answer: &mut Answer, text: &str) -> PayloadParams {
+/// The primary type and those of RTX and RED, and the text behind them.
+fn types_of<'a>(answer: &mut Answer, text: &'a str) -> (Pt, Option<Pt>, Option<Pt>, &'a str) {
     let (pt, rest) = word(text);
     let (resend, rest) = word(rest);
     let (red, rest) = word(rest);
+    let pt = type_of(answer, pt);
+    let resend = type_or_dash(answer, resend);
+    (pt, resend, type_or_dash(answer, red), rest)
+}
+
+/// The row, and the feedback that is turned off in it, a word each.
+pub(crate) fn row_of(answer: &mut Answer, text: &str) -> PayloadParams {
+    let (pt, resend, red, rest) = types_of(answer, text);
     let (map, rest) = word(rest);
     let (format, feedback) = word(rest);
     let spec = spec_of(answer, map, format);
-    let (pt, resend) = (type_of(answer, pt), type_or_dash(answer, resend));
-    let mut row = PayloadParams::new(pt, resend, spec).with_red(type_or_dash(answer, red));
+    let mut row = PayloadParams::new(pt, resend, spec).with_red(red);
     for word in feedback.split_whitespace() {
         turn_off(answer, &mut row, word);
     }

@@ -78,6 +78,19 @@ fn part<A: Debug + Copy>(answer: &mut Answer, found: A, id: u8) {
     answer.show(&id);
 }
 
+/// The part that the word asks for, with its number.
+fn asked<P: Numbered + Debug, T: Numbered + Debug, L: Leveled + Debug>(
+    answer: &mut Answer,
+    word: &str,
+    found: ProfileTierLevel<P, T, L>,
+) {
+    match word {
+        "-profiles" => part(answer, found.profile(), found.profile_id()),
+        "-tiers" => part(answer, found.tier(), found.tier_flag()),
+        _ => part(answer, found.level(), found.level_id()),
+    }
+}
+
 /// Each profile, tier or level that a number names, as the word asks, with its number.
 fn listed<P: Numbered + Debug, T: Numbered + Debug, L: Leveled + Debug>(
     answer: &mut Answer,
@@ -88,11 +101,7 @@ fn listed<P: Numbered + Debug, T: Numbered + Debug, L: Leveled + Debug>(
     for number in 0..=255 {
         if let Some(found) = numbered(word, number, fallback) {
             answer.push(separator);
-            match word {
-                "-profiles" => part(answer, found.profile(), found.profile_id()),
-                "-tiers" => part(answer, found.tier(), found.tier_flag()),
-                _ => part(answer, found.level(), found.level_id()),
-            }
+            asked(answer, word, found);
             separator = ", ";
         }
     }
