@@ -35,21 +35,37 @@ fn said_by(
     Ok(said)
 }
 
-/// What this side says in the end, as text. Where no step is named, an offer is read from standard input.
-fn last_said(rt: &HostRuntime, matches: &ArgMatches<'_>) -> Result<String, Fault> {
-    let alloc = rt.alloc();
-    let own = own_side(alloc, matches)?;
-    let mut exchange = Exchange::new(own, configured(alloc, matches)?);
-    let ends_with_offer = matches.get_flag("offer");
-    let said = match matches.get_strs("step") {
-        Some(steps) => said_by(rt, matches, &mut exchange, steps)?,
-        None if ends_with_offer => String::new(alloc),
-        None => said_by(rt, matches, &mut exchange, &["-"])?,
-    };
-    if ends_with_offer {
-        return offer(alloc, &mut exchange);
+/// Takes the steps that are named; an offer is read from standard input where none is, and no offer of this side is asked for.
+fn steps_taken(
+    rt: &HostRuntime,
+    matches: &ArgMatches<'_>,
+    exchange: &mut Exchange,
+) -> Result<String, Fault> {
+    match matches.get_strs("step") {
+        Some(steps) => said_by(rt, matches, exchange, steps),
+        None if matches.get_flag("offer") => Ok(String::new(rt.alloc())),
+        None => said_by(rt, matches, exchange, &["-"]),
+    }
+}
+
+/// What this side says in the end, as text.
+fn said_last(
+    rt: &HostRuntime,
+    matches: &ArgMatches<'_>,
+    exchange: &mut Exchange,
+) -> Result<String, Fault> {
+    let said = steps_taken(rt, matches, exchange)?;
+    if matches.get_flag("offer") {
+        return offer(rt.alloc(), exchange);
     }
     Ok(said)
+}
+
+/// What a session of this side comes to, as text.
+fn text_of_session(rt: &HostRuntime, matches: &ArgMatches<'_>) -> Result<String, Fault> {
+    let own = own_side(rt.alloc(), matches)?;
+    let mut exchange = Exchange::new(own, configured(rt.alloc(), matches)?);
+    said_last(rt, matches, &mut exchange)
 }
 
 fn words(rt: &HostRuntime) -> io::Result<Vec<String>> {
@@ -75,7 +91,7 @@ fn run(rt: &HostRuntime) -> Result<u8, Fault> {
             return Ok(if error.use_stderr() { 2 } else { 0 });
         }
     };
-    let said = last_said(rt, &matches)?;
+    let said = text_of_session(rt, &matches)?;
     let mut output = rt.stdout();
     output.write_all(said.as_bytes())?;
     output.flush()?;
