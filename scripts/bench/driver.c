@@ -45,6 +45,7 @@ static const struct call CALLS[] = {
     {"defaults", bench_defaults, 1},
     {"rounds", bench_rounds, 1},
     {"negotiate", bench_negotiate, 0},
+    {"answer", bench_answer, 0},
     {"print", bench_print, 1},
     {"sources", bench_sources, 1},
     {"candidates", bench_candidates, 1},

@@ -7,6 +7,7 @@ use Rattle.str0m_sdp.specs.Session.{sdp_text}
 use Rattle.str0m_sdp.specs.declared.session.Sdp.{Sdp}
 use Rattle.str0m_signal.specs.Negotiation.{NegotiatedText}
 use Rattle.str0m_signal.specs.Reading.{Described}
+use Rattle.exchange.specs.Offered.{IsOffer}
 
 abbrev pub sections : Sdp → ℕ
 sections sdp = length sdp.media_lines
@@ -22,6 +23,10 @@ HasAnswer text answer told = (sdp : Sdp) × Described text sdp × (told ≡ answ
 abbrev pub HasRounds : List ℕ → ℕ → Type 0
 HasRounds text told = (outcomes : List Outcome) × (after : List PayloadParams)
     × NegotiatedText text usual_rows outcomes after × (told ≡ length outcomes)
+
+-- the text is an offer, which has so many sections
+abbrev pub HasAnswered : List ℕ → ℕ → Type 0
+HasAnswered text told = (offer : Sdp) × IsOffer text offer × (told ≡ sections offer)
 
 -- a call tells what is said of its number, or else the greatest of 64 bits: that there is no description, or no memory
 abbrev pub Tells : (ℕ → Type 0) → ℕ → Type 0

@@ -3,8 +3,9 @@
 //! pointer and its length.
 
 ghost use Rattle.std.specs.Prelude.{◌≡◌, ◌-◌, ◌^◌, MatchOption};
-ghost use Rattle.bench_calls.specs.Answers.{HasAnswer, HasRounds, Tells, sections, text_length};
+ghost use Rattle.bench_calls.specs.Answers.{HasAnswer, HasAnswered, HasRounds, Tells, sections, text_length};
 
+use crate::answers::answered;
 use crate::task::{done, negotiated};
 use crate::tasks::{Candidates, Consistency, Defaults, Mark, Print, Rounds, Rows, Sources};
 use std::alloc::Global;
@@ -58,6 +59,14 @@ pub extern "C" fn bench_negotiate(alloc: Global, text: &[u8], more: u32) -> u64
     ensures { Tells (HasRounds text.now) result }
 {
     told(negotiated(alloc, text, more))
+}
+
+/// Answers the text as an offer, in an exchange of its own each time, and answers how many sections the answer has.
+#[unsafe(no_mangle)]
+pub extern "C" fn bench_answer(alloc: Global, text: &[u8], more: u32) -> u64
+    ensures { Tells (HasAnswered text.now) result }
+{
+    told(answered(alloc, text, more))
 }
 
 /// Reads the text, prints the description, and answers how many bytes were printed.

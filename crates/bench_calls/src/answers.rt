@@ -1,0 +1,74 @@
+//! Answers to offers, each in an exchange of its own.
+
+ghost use Rattle.std.specs.Prelude.{IfOk, IfSome};
+ghost use Rattle.bench_calls.specs.Answers.{HasAnswered};
+
+use exchange::{DataChannels, Exchange, ExchangeError, OwnSide};
+use std::alloc::{AllocError, Global};
+use std::str;
+use str0m_signal::{CodecConfig, Direction, Fingerprint, IceCreds, Items, SessionId, Text};
+
+/// The hash of a certificate.
+fn fingerprint(alloc: Global) -> Result<Fingerprint, AllocError> {
+    Ok(Fingerprint {
+        hash_func: Text::from_str(alloc, "sha-256")?,
+        bytes: Items::from(Vec::from_slice(alloc, &[0xab; 32])?),
+    })
+}
+
+/// A side that sends and receives all that it knows.
+fn own_side(alloc: Global) -> Result<OwnSide, AllocError> {
+    Ok(OwnSide {
+        session_id: SessionId::from(1_u64),
+        creds: IceCreds {
+            ufrag: Text::from_str(alloc, "ufrag")?,
+            pass: Text::from_str(alloc, "0123456789abcdef01234567")?,
+        },
+        fingerprint: fingerprint(alloc)?,
+        audio: Direction::SendRecv,
+        video: Direction::SendRecv,
+        directions: Items::empty(alloc),
+        stream_id: Text::from_str(alloc, "stream")?,
+        extensions: Items::empty(alloc),
+        candidates: Items::empty(alloc),
+        channels: Some(DataChannels {
+            port: 5000,
+            max_message_size: 262_144,
+        }),
+        receives_simulcast: true,
+    })
+}
+
+/// Answers an offer with the default configuration; how many sections the answer has.
+fn sections_answered(alloc: Global, offer: &str) -> Result<usize, ExchangeError>
+    ensures { IfOk result (HasAnswered offer.now) }
+{
+    let config = CodecConfig::new_with_defaults(alloc)?;
+    let mut exchange = Exchange::new(own_side(alloc)?, config);
+    let answer = exchange.accept_offer(offer)?;
+    Ok(answer.media_lines.len())
+}
+
+fn answered_once(alloc: Global, offer: &str) -> Option<usize>
+    ensures { IfSome result (HasAnswered offer.now) }
+{
+    match sections_answered(alloc, offer) {
+        Ok(count) => Some(count),
+        Err(_) => None,
+    }
+}
+
+/// Answers an offer once, and then as often again as `more` says; how many sections the answer has.
+pub(crate) fn answered(alloc: Global, text: &[u8], more: u32) -> Option<usize>
+    ensures { IfSome result (HasAnswered text.now) }
+{
+    match str::from_utf8(text) {
+        Ok(text) => {
+            for _ in 0..more {
+                let _ = answered_once(alloc, text);
+            }
+            answered_once(alloc, text)
+        }
+        Err(_) => None,
+    }
+}
