@@ -14,7 +14,8 @@ use crate::output::{Format, Output};
 use clap::ArgMatches;
 use clap::error::ErrorKind;
 use lint::findings;
-use std::io::{Read, Write};
+use std::env::VarError;
+use std::io::{IsTerminal, Read, Write};
 use std::process::ExitCode;
 use std::{env, fs, io};
 
@@ -47,9 +48,22 @@ fn write(rt: &HostRuntime, text: &str) -> io::Result<()> {
     output.flush()
 }
 
+/// Whether severities are coloured: the output is a terminal, and the environment doesn't ask for none (https://no-color.org: by
+/// `NO_COLOR`, where it isn't empty).
+fn are_coloured(rt: &HostRuntime) -> bool {
+    if !rt.stdout().is_terminal() {
+        return false;
+    }
+    match env::var(rt, "NO_COLOR") {
+        Ok(value) => value.is_empty(),
+        Err(VarError::NotPresent) => true,
+        Err(_) => false,
+    }
+}
+
 /// Says what is found in all files; answers the exit status.
 fn lint(rt: &HostRuntime, matches: &ArgMatches<'_>) -> Result<u8, Fault> {
-    let format = Format::named(value(matches, "format"));
+    let format = Format::named(value(matches, "format"), are_coloured(rt));
     let mut output = Output::new(rt.alloc(), format, value(matches, "level"));
     if let Some(files) = matches.get_strs("file") {
         for file in files {

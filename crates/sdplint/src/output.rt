@@ -9,17 +9,22 @@ use std::alloc::{AllocError, Global};
 #[derive(Clone, Copy)]
 pub(crate) enum Format {
     Text,
+    Coloured,
     Json,
     Sarif,
 }
 
 impl Format {
-    /// The format of a word of `--format`.
-    pub(crate) fn named(word: &str) -> Format {
+    /// The format of a word of `--format`; that of text with colours or without.
+    pub(crate) fn named(word: &str, is_coloured: bool) -> Format {
         match word {
             "json" => Format::Json,
             "sarif" => Format::Sarif,
-            _ => Format::Text,
+            _ => if is_coloured {
+                Format::Coloured
+            } else {
+                Format::Text
+            },
         }
     }
 }
@@ -49,6 +54,18 @@ fn severity(word: &str) -> Severity {
         "error" => Severity::Error,
         "warning" => Severity::Warning,
         _ => Severity::Note,
+    }
+}
+
+/// The colour of a severity on a terminal, and what ends it (ECMA-48, section 8.3.117): red, magenta and cyan.
+fn colour(format: Format, severity: Severity) -> (&'static str, &'static str) {
+    match format {
+        Format::Coloured => match severity {
+            Severity::Error => ("\x1b[31m", "\x1b[0m"),
+            Severity::Warning => ("\x1b[35m", "\x1b[0m"),
+            Severity::Note => ("\x1b[36m", "\x1b[0m"),
+        },
+        _ => ("", ""),
     }
 }
 
@@ -94,16 +111,18 @@ impl Output {
 
     fn add_line(&mut self, file: &str, finding: &Finding) -> Result<(), AllocError> {
         let (line, column) = (finding.line, finding.column);
-        let (severity, code) = (finding.code.severity().word(), finding.code.row().name);
+        let severity = finding.code.severity();
+        let (begin, end) = colour(self.format, severity);
+        let (severity, code) = (severity.word(), finding.code.row().name);
         writeln!(
             self.text,
-            "{file}:{line}:{column}: {severity}: {finding} [{code}]"
+            "{file}:{line}:{column}: {begin}{severity}{end}: {finding} [{code}]"
         )
     }
 
     fn add(&mut self, file: &str, finding: &Finding) -> Result<(), AllocError> {
         let value = match self.format {
-            Format::Text => return self.add_line(file, finding),
+            Format::Text | Format::Coloured => return self.add_line(file, finding),
             Format::Json => record(self.alloc, file, finding)?,
             Format::Sarif => sarif_result(self.alloc, file, finding)?,
         };
@@ -142,7 +161,7 @@ impl Output {
             values,
         } = self;
         match format {
-            Format::Text => {
+            Format::Text | Format::Coloured => {
                 let errors = counted(alloc, counts.errors, "error")?;
                 let warnings = counted(alloc, counts.warnings, "warning")?;
                 let notes = counted(alloc, counts.notes, "note")?;
