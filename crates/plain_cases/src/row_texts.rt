@@ -115,23 +115,21 @@ fn turn_off(answer: &mut Answer, row: &mut PayloadParams, word: &str) {
     }
 }
 
-/// The primary type and those of RTX and RED, and the text behind them.
-fn types_of<'a>(answer: &mut Answer, text: &'a str) -> (Pt, Option<Pt>, Option<Pt>, &'a str) {
+/// A codec with its rates and its format, and the text behind them.
+fn spec_and_rest<'a>(answer: &mut Answer, text: &'a str) -> (CodecSpec, &'a str) {
+    let (map, rest) = word(text);
+    let (format, rest) = word(rest);
+    (spec_of(answer, map, format), rest)
+}
+
+/// The row, without the feedback that is turned off in it, a word each.
+pub(crate) fn row_of(answer: &mut Answer, text: &str) -> PayloadParams {
     let (pt, rest) = word(text);
     let (resend, rest) = word(rest);
     let (red, rest) = word(rest);
-    let pt = type_of(answer, pt);
-    let resend = type_or_dash(answer, resend);
-    (pt, resend, type_or_dash(answer, red), rest)
-}
-
-/// The row, and the feedback that is turned off in it, a word each.
-pub(crate) fn row_of(answer: &mut Answer, text: &str) -> PayloadParams {
-    let (pt, resend, red, rest) = types_of(answer, text);
-    let (map, rest) = word(rest);
-    let (format, feedback) = word(rest);
-    let spec = spec_of(answer, map, format);
-    let mut row = PayloadParams::new(pt, resend, spec).with_red(red);
+    let (spec, feedback) = spec_and_rest(answer, rest);
+    let (pt, resend) = (type_of(answer, pt), type_or_dash(answer, resend));
+    let mut row = PayloadParams::new(pt, resend, spec).with_red(type_or_dash(answer, red));
     for word in feedback.split_whitespace() {
         turn_off(answer, &mut row, word);
     }
