@@ -1,6 +1,7 @@
 pub mod AnswerLaws
 pub mod BundleLaws
 pub mod Equal
+pub mod FeedbackLaws
 pub mod FitsLaws
 pub mod FollowLaws
 pub mod FreshLaws

@@ -21,6 +21,7 @@ pub mod OfferPlaces
 pub mod OfferRules
 pub mod OfferSection
 pub mod Offered
+pub mod OfferedFeedback
 pub mod OwnNames
 pub mod OwnSide
 pub mod Places

@@ -26,6 +26,7 @@ mod offer_extensions;
 mod offer_places;
 mod offer_section;
 mod offered;
+mod offered_feedback;
 mod offered_lines;
 mod own_names;
 mod own_side;

@@ -6,33 +6,11 @@ ghost use Rattle.str0m_formats.specs.Rows.{locked_types, types};
 ghost use Rattle.str0m_formats.specs.TypeSets.{AllDistinct, has};
 ghost use Rattle.str0m_formats.specs.declared.payload_params.PayloadParams.{PayloadParams};
 ghost use Rattle.str0m_sdp.specs.Lists.{distinct};
-ghost use Rattle.exchange.specs.Rows.{IsAgreed, Belongs, KeepsPlain, SaysWhatIsOffered, offers, is_offered, agreed_type, as_answered, is_answered, is_carried_in, matches, answer_to, answer_under, answered_rows, own_types};
+ghost use Rattle.exchange.specs.Rows.{IsAgreed, Belongs, KeepsPlain, SaysWhatIsOffered, agreed_type, as_answered, is_answered, is_carried_in, matches, answer_to, answer_under, answered_rows, own_types};
 
+use crate::offered_feedback::offered_feedback;
 use std::alloc::{AllocError, Global};
-use str0m_sdp::label::{FIR, NACK, PLI, REMB, TRANSPORT_CC};
-use str0m_signal::{CodecConfig, MediaAttribute, MediaLine, MediaType, PayloadParams, Pt};
-use str0m_values::cuts::strip;
-
-/// Whether a line offers feedback for a payload type, by its own line or by one of all types.
-fn offers(attr: &MediaAttribute, pt: Pt, words: &str) -> bool
-    ensures { result ≡ offers pt words.now attr.now }
-{
-    match attr {
-        MediaAttribute::RtcpFb { pt: of, value } => *of == pt && value.as_str() == words,
-        MediaAttribute::Unused(text) => match strip(text.as_str(), "rtcp-fb:* ") {
-            Some(others) => others == words,
-            None => false,
-        },
-        _ => false,
-    }
-}
-
-#[tactic(auto, unfolding(crate::specs::Rows::is_offered))]
-fn is_offered(attrs: &[MediaAttribute], pt: Pt, words: &str) -> bool
-    ensures { result ≡ is_offered attrs.now pt words.now }
-{
-    attrs.iter().any(|attr| offers(attr, pt, words))
-}
+use str0m_signal::{CodecConfig, MediaLine, MediaType, PayloadParams, Pt};
 
 fn is_listed(listed: &[Pt], pt: Pt) -> bool
     ensures { result ≡ has listed.now pt }
@@ -61,16 +39,16 @@ fn agreed_type(listed: &[Pt], ours: Option<Pt>, theirs: Option<Pt>) -> Option<Pt
 fn as_answered(section: &MediaLine, theirs: &PayloadParams, ours: &PayloadParams) -> PayloadParams
     ensures { result ≡ as_answered section.now theirs.now ours.now }
 {
-    let (attrs, listed) = (section.attrs.as_slice(), section.pts.as_slice());
-    let pt = ours.pt();
+    let (pt, listed) = (ours.pt(), section.pts.as_slice());
+    let offered = offered_feedback(section.attrs.as_slice(), pt);
     let resend = agreed_type(listed, ours.resend(), theirs.resend());
     let red = agreed_type(listed, ours.red(), theirs.red());
     let mut row = PayloadParams::new(pt, resend, ours.spec()).with_red(red);
-    row.set_fb_transport_cc(ours.fb_transport_cc() && is_offered(attrs, pt, TRANSPORT_CC));
-    row.set_fb_fir(ours.fb_fir() && is_offered(attrs, pt, FIR));
-    row.set_fb_nack(ours.fb_nack() && is_offered(attrs, pt, NACK));
-    row.set_fb_pli(ours.fb_pli() && is_offered(attrs, pt, PLI));
-    row.set_fb_remb(ours.fb_remb() && is_offered(attrs, pt, REMB));
+    row.set_fb_transport_cc(ours.fb_transport_cc() && offered.transport_cc);
+    row.set_fb_fir(ours.fb_fir() && offered.fir);
+    row.set_fb_nack(ours.fb_nack() && offered.nack);
+    row.set_fb_pli(ours.fb_pli() && offered.pli);
+    row.set_fb_remb(ours.fb_remb() && offered.remb);
     row
 }
 
