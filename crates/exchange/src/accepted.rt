@@ -1,5 +1,9 @@
 //! Sections that accept.
-ghost use Rattle.std.specs.Prelude.{◌≡◌, IfOk, map};
+ghost use Rattle.std.specs.Prelude.{◌≡◌, ◌++◌, IfOk, OnOk, filter, map, not};
+ghost use Rattle.std.specs.List.{flat_map};
+ghost use Rattle.str0m_formats.specs.Rows.{types, types_of};
+ghost use Rattle.str0m_sdp.specs.RowAttributes.{row_attrs};
+ghost use Rattle.str0m_sdp.specs.SectionOf.{is_of_type, made};
 ghost use Rattle.exchange.specs.Accepted.{AcceptsChannels, AcceptsMedia, candidate_line, channel_lines, first_lines, framed, layer_lines, media_lines, msid_lines, setup_in_force, track_id};
 
 use crate::layers::answered_layers;
@@ -7,8 +11,8 @@ use crate::own_side::{DataChannels, OwnSide};
 use crate::repeated_lines::repeated;
 use std::alloc::{AllocError, Global};
 use str0m_signal::{
-    Direction, Items, MediaAttribute, MediaLine, Mid, Msid, PayloadParams, Sdp, Setup, Text,
-    section_of,
+    AsMediaAttrs, Direction, Items, MediaAttribute, MediaLine, Mid, Msid, PayloadParams, Pt, Sdp,
+    Setup, Text,
 };
 
 /// The role that is said for a section: by its own lines, else by the session.
@@ -152,6 +156,70 @@ fn media_lines(
     Ok(lines)
 }
 
+/// How many lines a section may have, as a guess that most don't pass: no answer depends on it.
+fn likely_lines(own: &OwnSide, offered: &MediaLine) -> usize {
+    let extra = own.candidates.as_slice().len().saturating_add(8);
+    offered.attrs.as_slice().len().saturating_add(extra)
+}
+
+/// The payload types of rows, of each row its own, then that of RTX, then that of RED.
+fn types_of_rows(alloc: Global, rows: &[PayloadParams]) -> Result<Vec<Pt>, AllocError>
+    ensures { IfOk result (λ pts. pts.items ≡ types rows.now) }
+{
+    let likely = rows.len().saturating_mul(2);
+    let mut pts = Vec::with_capacity(alloc, likely)?;
+    for row in rows {
+        push_types(&mut pts, row)?;
+    }
+    Ok(pts)
+}
+
+fn push_types(pts: &mut Vec<Pt>, row: &PayloadParams) -> Result<(), AllocError>
+    ensures { OnOk result (pts.new.items ≡ pts.old.items ++ types_of row.now) }
+{
+    pts.push(row.pt())?;
+    if let Some(resend) = row.resend() {
+        pts.push(resend)?;
+    }
+    if let Some(red) = row.red() {
+        pts.push(red)?;
+    }
+    Ok(())
+}
+
+/// Leaves those lines that describe no payload type: the rows have lines of their own.
+fn keep_frame(lines: &mut Vec<MediaAttribute>)
+    ensures { lines.new.items ≡ filter (λ attr. not (is_of_type attr)) lines.old.items }
+{
+    lines.retain(|attr| !attr.is_of_type());
+}
+
+/// Puts the lines of rows behind others.
+fn push_rows(lines: &mut Vec<MediaAttribute>, rows: &[PayloadParams]) -> Result<(), AllocError>
+    ensures { OnOk result (lines.new.items ≡ lines.old.items ++ flat_map row_attrs rows.now) }
+{
+    for row in rows {
+        row.as_media_attrs(lines)?;
+    }
+    Ok(())
+}
+
+/// The section that these rows make of a frame with these lines: `section_of` would copy them.
+fn made(
+    alloc: Global,
+    offered: &MediaLine,
+    mut lines: Vec<MediaAttribute>,
+    rows: &[PayloadParams],
+) -> Result<MediaLine, AllocError>
+    ensures { IfOk result (λ section. section ≡ made (framed offered.now lines.items) rows.now) }
+{
+    keep_frame(&mut lines);
+    push_rows(&mut lines, rows)?;
+    let mut section = framed(alloc, offered, lines)?;
+    section.pts = Items::from(types_of_rows(alloc, rows)?);
+    Ok(section)
+}
+
 /// The section that accepts one of media with these rows.
 pub(crate) fn accepted_media(
     alloc: Global,
@@ -165,10 +233,10 @@ pub(crate) fn accepted_media(
 {
     let role = Setup::answer(setup_in_force(offer, offered));
     let direction = offered.direction().answer(own.direction_for(offered));
-    let mut lines = first_lines(alloc, own, mid, role)?;
+    let mut lines = Vec::with_capacity(alloc, likely_lines(own, offered))?;
+    lines.append(&mut first_lines(alloc, own, mid, role)?)?;
     lines.append(&mut media_lines(alloc, own, offered, mid, direction, rows)?)?;
-    let frame = framed(alloc, offered, lines)?;
-    section_of(&frame, rows)
+    made(alloc, offered, lines, rows)
 }
 
 /// The section that accepts one of data channels.
