@@ -14,6 +14,7 @@ DIRECTIONS = ("sendrecv", "sendonly", "recvonly", "inactive")
 SRTP = ("UDP/TLS/RTP/SAVPF", "UDP/TLS/RTP/SAVP", "RTP/SAVPF", "RTP/SAVP", "TCP/TLS/RTP/SAVPF")
 SCTP = ("UDP/DTLS/SCTP", "DTLS/SCTP", "TCP/DTLS/SCTP")
 TURNED = {"actpass": ("active", "passive"), "active": ("passive",), "passive": ("active",), None: ("active",)}
+RTP_STREAM_ID = "urn:ietf:params:rtp-hdrext:sdes:rtp-stream-id"
 
 
 @dataclass
@@ -236,6 +237,13 @@ def own_transports(_, answer):
             yield f"section {i}: no fingerprint of its own"
 
 
+def own_layers(_, answer):
+    """Of an answer of this side: Chromium refuses layers where no header extension tells of a packet which layer it is of."""
+    for i, b in enumerate(answer.sections):
+        if b.layers("recv") and RTP_STREAM_ID not in {uri for _, uri in b.extensions()}:
+            yield f"section {i}: layers without the extension that tells them (RFC 8852, section 3.3)"
+
+
 def names(offer, answer):
     """Pairwise different mids and track ids."""
     tracks = [it.partition(" ")[2] for b in answer.sections for it in b.values("msid")]
@@ -250,7 +258,7 @@ RULES = (same_sections, rejected_sections, directions, roles, rows, bundles, onl
 
 def broken(offer, answer, is_own=True):
     """The rules that the answer breaks, a line each; of an answer of this side further ones."""
-    both, rules = (described(offer), described(answer)), (*RULES, own_transports) if is_own else RULES
+    both, rules = (described(offer), described(answer)), (*RULES, own_transports, own_layers) if is_own else RULES
     return [f"{rule.__name__}: {fault}" for rule in rules for fault in rule(*both)]
 
 

@@ -20,7 +20,7 @@ use Rattle.str0m_sdp.specs.declared.label.TheConstants.{FIR, NACK, PLI, REMB, TR
 use Rattle.str0m_sdp.specs.declared.media_line.MediaLine.{MediaLine}
 use Rattle.str0m_sdp.specs.declared.setup.Setup.{Setup}
 use Rattle.str0m_sdp.specs.declared.simulcast.SimulcastLayer.{SimulcastLayer}
-use Rattle.exchange.specs.Accepted.{candidate_line, channel_lines, first_lines, framed, layer_lines, media_lines, msid_lines}
+use Rattle.exchange.specs.Accepted.{are_layers_told, candidate_line, channel_lines, first_lines, framed, layer_lines, media_lines, msid_lines}
 use Rattle.exchange.specs.Layers.{answered_layers, answered_rid, answered_rids, is_left, is_named, layers_line, received_layers, sent_layers, types_left}
 use Rattle.exchange.specs.RepeatedLines.{is_repeated, repeated_lines}
 use Rattle.exchange.specs.Rules.{SaysOnlyOffered, needs_offer}
@@ -115,7 +115,7 @@ layers_none [] = refl
 layers_none (layer ∷ layers) = refl
 
 layer_lines_none : (own : OwnSide) (direction : Direction) (offered : MediaLine) (rows : List PayloadParams) → list_any needs_offer (layer_lines own direction offered rows) ≡ false
-layer_lines_none own direction offered rows = go (own.receives_simulcast && receives direction) where
+layer_lines_none own direction offered rows = go (own.receives_simulcast && (receives direction && are_layers_told own.extensions offered)) where
   go : (b : Bool) → list_any needs_offer (cond b (answered_layers rows offered) []) ≡ false
   go true = both (answered_rids rows offered) (layers_line (received_layers (answered_rids rows offered) offered))
       (rids_none (sent_layers offered) rows offered.attrs) (layers_none (received_layers (answered_rids rows offered) offered))

@@ -1,5 +1,6 @@
 -- What an accepted section says, line by line.
-use Rattle.std.specs.Prelude.{◌≡◌, ◌&&◌, ℕ, false, List, [], ◌∷◌, ◌++◌, Option, None, codes, filter_map, map, if◌then◌else◌}
+use Rattle.std.specs.Prelude.{◌≡◌, ◌&&◌, ℕ, Bool, false, List, [], ◌∷◌, ◌++◌, Option, None, bytes_eq, codes, filter_map, map, if◌then◌else◌}
+use Rattle.std.specs.List.{list_any}
 use Rattle.std.specs.Option.{option_or}
 use Rattle.str0m_values.specs.Direction.{AnswersDirection, receives, sends}
 use Rattle.str0m_values.specs.declared.candidate.Candidate.{Candidate}
@@ -17,8 +18,9 @@ use Rattle.str0m_sdp.specs.declared.session.Sdp.{Sdp}
 use Rattle.str0m_sdp.specs.declared.setup.Setup.{Setup}
 use Rattle.exchange.specs.Layers.{answered_layers}
 use Rattle.exchange.specs.OwnSide.{own_direction}
-use Rattle.exchange.specs.RepeatedLines.{repeated_lines}
+use Rattle.exchange.specs.RepeatedLines.{is_repeated, repeated_lines}
 use Rattle.str0m_sdp.specs.Setup.{AnswersRole}
+use Rattle.exchange.specs.declared.accepted.TheConstants.{RTP_STREAM_ID}
 use Rattle.exchange.specs.declared.own_side.DataChannels.{DataChannels}
 use Rattle.exchange.specs.declared.own_side.OwnSide.{OwnSide}
 
@@ -46,10 +48,18 @@ abbrev pub msid_lines : OwnSide → Direction → List ℕ → List MediaAttribu
 msid_lines own direction mid =
     if sends direction then media.Msid (record { stream_id = own.stream_id; track_id = track_id mid }) ∷ [] else []
 
--- the layers that are offered, where this side receives and takes layers (RFC 8853, section 5.3.2)
+-- an extension of the answer tells of each packet which layer it is of (RFC 8852, section 3.3)
+abbrev pub tells_layer : MediaAttribute → Bool
+tells_layer (media.ExtMap id ext) = bytes_eq ext.uri RTP_STREAM_ID.now
+tells_layer _ = false
+
+abbrev pub are_layers_told : List (List ℕ) → MediaLine → Bool
+are_layers_told known offered = list_any (λ line. tells_layer line && is_repeated known line) offered.attrs
+
+-- the layers that are offered, where this side receives, takes layers and is told them (RFC 8853, section 5.3.2)
 abbrev pub layer_lines : OwnSide → Direction → MediaLine → List PayloadParams → List MediaAttribute
 layer_lines own direction offered rows =
-    if own.receives_simulcast && receives direction then answered_layers rows offered else []
+    if own.receives_simulcast && (receives direction && are_layers_told own.extensions offered) then answered_layers rows offered else []
 
 -- where data channels are reached (RFC 8841, sections 5 and 6)
 abbrev pub channel_lines : DataChannels → List MediaAttribute

@@ -4,16 +4,19 @@ ghost use Rattle.std.specs.List.{flat_map};
 ghost use Rattle.str0m_formats.specs.Rows.{types, types_of};
 ghost use Rattle.str0m_sdp.specs.RowAttributes.{row_attrs};
 ghost use Rattle.str0m_sdp.specs.SectionOf.{is_of_type, made};
-ghost use Rattle.exchange.specs.Accepted.{AcceptsChannels, AcceptsMedia, candidate_line, channel_lines, first_lines, framed, layer_lines, media_lines, msid_lines, setup_in_force, track_id};
+ghost use Rattle.exchange.specs.Accepted.{AcceptsChannels, AcceptsMedia, are_layers_told, candidate_line, channel_lines, first_lines, framed, layer_lines, media_lines, msid_lines, setup_in_force, tells_layer, track_id};
 
 use crate::layers::answered_layers;
 use crate::own_side::{DataChannels, OwnSide};
-use crate::repeated_lines::repeated;
+use crate::repeated_lines::{is_repeated, repeated};
 use std::alloc::{AllocError, Global};
 use str0m_signal::{
     AsMediaAttrs, Direction, Items, MediaAttribute, MediaLine, Mid, Msid, PayloadParams, Pt, Sdp,
     Setup, Text,
 };
+
+/// The header extension that tells of each packet which layer it is of (RFC 8852, section 3.3).
+const RTP_STREAM_ID: &str = "urn:ietf:params:rtp-hdrext:sdes:rtp-stream-id";
 
 /// The role that is said for a section: by its own lines, else by the session.
 pub(crate) fn setup_in_force(offer: &Sdp, section: &MediaLine) -> Option<Setup>
@@ -93,7 +96,27 @@ pub(crate) fn msid_lines(
     Ok(lines)
 }
 
-/// The layers that this side receives; none where it takes none.
+fn tells_layer(line: &MediaAttribute) -> bool
+    ensures { result ≡ tells_layer line.now }
+{
+    match line {
+        MediaAttribute::ExtMap { ext, .. } => ext.as_uri() == RTP_STREAM_ID,
+        _ => false,
+    }
+}
+
+/// Whether packets tell their layers: without that Chromium 156 refuses an answer that has layers.
+fn are_layers_told(own: &OwnSide, offered: &MediaLine) -> bool
+    ensures { result ≡ are_layers_told own.now.extensions offered.now }
+{
+    let known = own.extensions.as_slice();
+    let lines = offered.attrs.as_slice();
+    lines
+        .iter()
+        .any(|line| tells_layer(line) && is_repeated(known, line))
+}
+
+/// The layers that this side receives; none where it takes none, or can't tell them apart.
 fn layer_lines(
     alloc: Global,
     own: &OwnSide,
@@ -103,7 +126,7 @@ fn layer_lines(
 ) -> Result<Vec<MediaAttribute>, AllocError>
     ensures { IfOk result (λ lines. lines.items ≡ layer_lines own.now direction offered.now rows.now) }
 {
-    if own.receives_simulcast && direction.receives() {
+    if own.receives_simulcast && direction.receives() && are_layers_told(own, offered) {
         return answered_layers(alloc, offered, rows);
     }
     Ok(Vec::new(alloc))

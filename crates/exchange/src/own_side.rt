@@ -50,7 +50,7 @@ pub struct OwnSide {
     pub candidates: Items<Candidate>,
     /// Its data channels; `None` where it takes none.
     pub channels: Option<DataChannels>,
-    /// Whether it takes several layers of one source (RFC 8853).
+    /// Whether it takes several layers of one source (RFC 8853): where a header extension tells of a packet which layer it is of, too.
     pub receives_simulcast: bool,
 }
 

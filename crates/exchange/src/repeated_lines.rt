@@ -13,7 +13,7 @@ fn is_known(known: &[Text], uri: &str) -> bool
     known.iter().any(|other| other.as_str() == uri)
 }
 
-fn is_repeated(known: &[Text], line: &MediaAttribute) -> bool
+pub(crate) fn is_repeated(known: &[Text], line: &MediaAttribute) -> bool
     ensures { result ≡ is_repeated known.now line.now }
 {
     match line {
