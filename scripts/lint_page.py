@@ -21,6 +21,7 @@ HEADS = {  # (of each table the kind, its severity and its head)
     "UNKNOWNS": ("Unknown", "Why a line is kept unread"),
     "UNSEENS": ("Unseen", "What a line that is read leaves unknown"),
     "CHANGES": ("Changed", "What is lost where a line is printed otherwise"),
+    "CONFLICTS": ("Contradiction", "What a line says against others"),
 }
 FIELDS = ("name", "title", "remedy", "explanation", "source", "example")
 ESCAPE = re.compile(r"\\(.)")

@@ -10,7 +10,7 @@ use Rattle.str0m_signal.specs.Answers.{AtMostOne, Refuses}
 use Rattle.str0m_signal.specs.Lines.{Line}
 use Rattle.str0m_signal.specs.LineReading.{behind_first, is_crlf, lines_of, longer}
 use Rattle.str0m_signal.specs.Reading.{Reading}
-use Rattle.lint.specs.Findings.{AreFindingsOf, AreSilent, Ends, IsNoWant, Keeps, OnlyChanges, Tells, ends, is_changed, is_refused, kept, kept_numbers}
+use Rattle.lint.specs.Findings.{AreFindingsOf, AreSilent, Ends, IsNoWant, Keeps, OnlyChanges, SaysElse, Tells, ends, is_changed, is_refused, kept, kept_numbers}
 use Rattle.lint.specs.Lines.{IsNumbered, last_line, unread_lines}
 use Rattle.lint.specs.Told.{NothingLost, told}
 use Rattle.lint.specs.declared.finding.Finding.{Finding}
@@ -79,6 +79,18 @@ tells_rest text sdp (x ∷ rest) number old mid late new some is k c last e = re
   refused_stays = e.refused_stays ∙ c.refused_stays ∙ k.refused_stays;
   changed = λ none unchanged. absurd (some_rest x rest none);
   last_stays = e.last_stays ∙ last ∙ k.last_stays;
+}
+
+-- what is said behind it is about something else
+pub tells_else : (text : List ℕ) (sdp : Sdp) (rest : List ℕ) (old mid new : Notes) → Tells text sdp rest old mid → SaysElse mid new → new.last ≡ mid.last
+    → Tells text sdp rest old new
+tells_else text sdp rest old mid new t s last = record {
+  kept_are = s.only.kept_stay ∙ t.kept_are;
+  ends_are = s.only.ends_stay ∙ t.ends_are;
+  refused_stays = s.only.refused_stays ∙ t.refused_stays;
+  changed = λ none unchanged. let now = t.changed none unchanged in
+      (λ u. now.0 (sym s.changed_stays ∙ u), λ e. s.changed_stays ∙ now.1 e);
+  last_stays = last ∙ t.last_stays;
 }
 
 -- what is refused, and not for want of memory, has no reading

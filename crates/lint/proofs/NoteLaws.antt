@@ -5,11 +5,12 @@ use Rattle.std.proofs.lemmas.List.{append-nil}
 use Rattle.std.proofs.lemmas.List.Elements.{filter_map-append}
 use Rattle.std.proofs.lemmas.List.Folds.{list_any-append}
 use Rattle.lint.specs.Code.{is_refusal, is_end, is_kept, is_change}
-use Rattle.lint.specs.Findings.{AddsOne, Ends, Keeps, OnlyChanges, ends, is_changed, is_refused, kept, line_if, lines_of_kind}
+use Rattle.lint.specs.Findings.{AddsOne, Ends, Keeps, OnlyChanges, SaysElse, ends, is_changed, is_refused, kept, line_if, lines_of_kind}
 use Rattle.lint.specs.Lines.{IsNumbered}
 use Rattle.lint.specs.declared.code.Code.{Code}
-use Rattle.lint.specs.declared.code.Code.TheVariants.{Refused, Unread, Malformed, Unknown, Unseen, Changed}
+use Rattle.lint.specs.declared.code.Code.TheVariants.{Refused, Unread, Malformed, Unknown, Unseen, Changed, Contradiction}
 use Rattle.lint.specs.declared.code.Change.{Change}
+use Rattle.lint.specs.declared.code.Conflict.{Conflict}
 use Rattle.lint.specs.declared.code.Refusal.{Refusal}
 use Rattle.lint.specs.declared.code.Unfit.{Unfit}
 use Rattle.lint.specs.declared.code.Unseen.{Unseen as What}
@@ -92,6 +93,7 @@ keeps_one line (Refused refusal) old new is here a last = absurd cc
 keeps_one line (Unread unfit) old new is here a last = absurd cc
 keeps_one line (Unseen what) old new is here a last = absurd cc
 keeps_one line (Changed change) old new is here a last = absurd cc
+keeps_one line (Contradiction conflict) old new is here a last = absurd cc
 
 -- the line at which reading ends
 pub ends_one : (line : ℕ) (unfit : Unfit) (old new : Notes) → IsNumbered old.last line → AddsOne line (Unread unfit) old new → new.last ≡ old.last
@@ -127,3 +129,20 @@ changes_more old mid new c d = record {
   ends_stay = d.ends_stay ∙ c.ends_stay;
   refused_stays = d.refused_stays ∙ c.refused_stays;
 }
+
+-- a line that contradicts others
+pub else_one : (line : ℕ) (conflict : Conflict) (old new : Notes) → AddsOne line (Contradiction conflict) old new → SaysElse old new
+else_one line conflict old new a = record {
+  only = record {
+    kept_stay = added_lines is_kept line (Contradiction conflict) old new a ∙ append-nil (kept old.findings);
+    ends_stay = added_lines is_end line (Contradiction conflict) old new a ∙ append-nil (ends old.findings);
+    refused_stays = added_refusal line (Contradiction conflict) old new a ∙ or_false (is_refused old.findings);
+  };
+  changed_stays = added_change line (Contradiction conflict) old new a ∙ or_false (is_changed old.findings);
+}
+
+pub else_none : (old : Notes) → SaysElse old old
+else_none old = record { only = changes_none old; changed_stays = refl }
+
+pub else_more : (old mid new : Notes) → SaysElse old mid → SaysElse mid new → SaysElse old new
+else_more old mid new c d = record { only = changes_more old mid new c.only d.only; changed_stays = d.changed_stays ∙ c.changed_stays }

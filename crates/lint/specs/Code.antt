@@ -1,7 +1,7 @@
 -- What codes say.
 use Rattle.std.specs.Prelude.{ℕ, Bool, true, false, List, codes}
 use Rattle.lint.specs.declared.code.Code.{Code}
-use Rattle.lint.specs.declared.code.Code.TheVariants.{Refused, Unread, Malformed, Unknown, Unseen, Changed}
+use Rattle.lint.specs.declared.code.Code.TheVariants.{Refused, Unread, Malformed, Unknown, Unseen, Changed, Contradiction}
 use Rattle.lint.specs.declared.code.Change.{Change}
 use Rattle.lint.specs.declared.code.Change.TheVariants.{HeaderLine, Protocol, Candidate, Spelling}
 use Rattle.lint.specs.declared.code.Severity.{Severity}
@@ -22,6 +22,7 @@ severity_of (Malformed misfit) = Warning
 severity_of (Unknown unknown) = Note
 severity_of (Unseen unseen) = Note
 severity_of (Changed change) = severity_of_change change
+severity_of (Contradiction conflict) = Warning
 
 -- as reports write it
 abbrev pub severity_word : Severity → List ℕ

@@ -68,6 +68,11 @@ pub record OnlyChanges (old new : Notes) : Type 0 where
   pub ends_stay : ends new.findings ≡ ends old.findings
   pub refused_stays : is_refused new.findings ≡ is_refused old.findings
 
+-- findings are added, none of which any of these is about
+pub record SaysElse (old new : Notes) : Type 0 where
+  pub only : OnlyChanges old new
+  pub changed_stays : is_changed new.findings ≡ is_changed old.findings
+
 -- one finding is added: reading ends at this line
 pub record Ends (line : ℕ) (old new : Notes) : Type 0 where
   pub ends_are : ends new.findings ≡ ends old.findings ++ line ∷ []

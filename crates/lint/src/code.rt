@@ -184,6 +184,21 @@ impl Change {
     }
 }
 
+/// What a line says against others.
+#[derive(Clone, Copy, Debug)]
+pub enum Conflict {
+    /// An earlier section has this mid.
+    RepeatedMid,
+    /// A group names a mid that no section has.
+    GroupOfNothing,
+    /// A type of the m-line is mapped to a codec of another kind of media.
+    OtherKind,
+    /// A format or feedback is said of a type that isn't mapped.
+    Unmapped,
+    /// Retransmissions or redundant audio are of a type that isn't mapped.
+    NoPrimary,
+}
+
 /// What a finding says, by its kind.
 #[derive(Clone, Copy, Debug)]
 pub enum Code {
@@ -199,6 +214,8 @@ pub enum Code {
     Unseen(Unseen),
     /// The line is read, and printed otherwise than it stands.
     Changed(Change),
+    /// The line is read, and says something against others.
+    Contradiction(Conflict),
 }
 
 impl Code {
@@ -209,7 +226,7 @@ impl Code {
     {
         match self {
             Code::Refused(_) | Code::Unread(_) => Severity::Error,
-            Code::Malformed(_) => Severity::Warning,
+            Code::Malformed(_) | Code::Contradiction(_) => Severity::Warning,
             Code::Unknown(_) | Code::Unseen(_) => Severity::Note,
             Code::Changed(change) => change.severity(),
         }
@@ -231,6 +248,7 @@ impl Code {
             Code::Unknown(unknown) => &rows::UNKNOWNS[unknown as usize],
             Code::Unseen(unseen) => &rows::UNSEENS[unseen as usize],
             Code::Changed(change) => &rows::CHANGES[change as usize],
+            Code::Contradiction(conflict) => &rows::CONFLICTS[conflict as usize],
         }
     }
 }

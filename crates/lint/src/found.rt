@@ -12,6 +12,7 @@ ghost use Rattle.lint.specs.Told.{NothingLost};
 
 use crate::attribute_lines::note_attributes;
 use crate::changes::note_changes;
+use crate::conflicts::note_conflicts;
 use crate::finding::Report;
 use crate::lines::{line_count, text_before};
 use crate::mark::all_marks;
@@ -41,6 +42,15 @@ fn note_read(notes: &mut Notes, text: &str, sdp: &Sdp, rest: &str) -> Result<(),
     }
     let before = line_count(text).saturating_sub(line_count(rest));
     note_end(notes, before.saturating_add(1), rest)
+}
+
+/// Says what there is to be said of a text that is read so, with this rest.
+fn note_described(notes: &mut Notes, text: &str, sdp: &Sdp, rest: &str) -> Result<(), AllocError>
+    ensures tells { notes.old.last ≡ last_line text.now → OnOk result (Tells text.now sdp.now rest.now notes.old notes.new) }
+    ensures last { notes.new.last ≡ notes.old.last }
+{
+    note_read(notes, text, sdp, rest)?;
+    note_conflicts(notes, text_before(text, rest), sdp)
 }
 
 /// Of an error that isn't want of memory, nothing.
@@ -75,7 +85,7 @@ fn note_found(notes: &mut Notes, text: &str, found: Option<(Sdp, &str)>) -> Resu
     ensures last { notes.new.last ≡ notes.old.last }
 {
     match found {
-        Some((sdp, rest)) => note_read(notes, text, &sdp, rest),
+        Some((sdp, rest)) => note_described(notes, text, &sdp, rest),
         None => note_refused(notes, text),
     }
 }

@@ -462,3 +462,47 @@ pub static CHANGES: [Row; 11] = [
         example: "a=rtpmap:111 OPUS/48000/2",
     },
 ];
+
+/// What a line says against others, in the order of `Conflict`.
+pub static CONFLICTS: [Row; 5] = [
+    Row {
+        name: "repeated-mid",
+        title: "an earlier m-section has this mid",
+        remedy: "give each section a name of its own",
+        explanation: "Groups and candidates speak of a section by its mid, so that no two sections may have the same.",
+        source: "RFC 5888, section 4; RFC 8829, section 5.2.1",
+        example: "a=mid:0 in two sections",
+    },
+    Row {
+        name: "group-of-nothing",
+        title: "this group names a mid that no m-section has",
+        remedy: "take the name out of the group, or write `a=mid` with it into the section that is meant",
+        explanation: "A group lists the mids of sections. Where reading ended early, the section may stand behind.",
+        source: "RFC 5888, section 5",
+        example: "a=group:BUNDLE 0 1 with one section",
+    },
+    Row {
+        name: "other-kind",
+        title: "a payload type of this m-section is mapped to a codec of another kind of media",
+        remedy: "map the type to a codec of the kind that the m-line says, or move it to another section",
+        explanation: "A section of audio carries sound, one of video pictures. The row of the type is of no use there.",
+        source: "RFC 8866, sections 5.14 and 6.6",
+        example: "a=rtpmap:96 VP8/90000 in a section of audio",
+    },
+    Row {
+        name: "unmapped-type",
+        title: "this line speaks of a payload type that isn't mapped",
+        remedy: "write `a=rtpmap` for the type into the section, or take this line out",
+        explanation: "Formats and feedback belong to the codec of a type. Without its `a=rtpmap` the line is printed, and no row has it.",
+        source: "RFC 8866, sections 6.6 and 6.15",
+        example: "a=fmtp:97 apt=96 without a=rtpmap:97",
+    },
+    Row {
+        name: "no-primary-type",
+        title: "the primary type of this format isn't mapped",
+        remedy: "name a type of the section that is mapped, or take the type of this line out",
+        explanation: "Retransmissions and redundant audio are of another type of the section. Where that isn't mapped, no row has them.",
+        source: "RFC 4588, section 8.1; RFC 2198, section 5",
+        example: "a=fmtp:97 apt=96 without a=rtpmap:96",
+    },
+];

@@ -5,9 +5,9 @@ use Rattle.lint.proofs.found.note_found.Goals as goal
 pub returns-in-Some-clause-said : goal.returns-in-Some-clause-said
 returns-in-Some-clause-said c = λ none last one reads.
     let reading = rw c.in-Some.is at reads in
-    on_ok_weaker c.note_read.result
-    (λ t. said_read c.args.text.now c.in-Some.sdp c.in-Some.rest.now c.args.notes.now c.note_read.new.notes reading one none t)
-    (c.note_read.ensures.tells last)
+    on_ok_weaker c.note_described.result
+    (λ t. said_read c.args.text.now c.in-Some.sdp c.in-Some.rest.now c.args.notes.now c.note_described.new.notes reading one none t)
+    (c.note_described.ensures.tells last)
 
 pub returns-in-None-clause-said : goal.returns-in-None-clause-said
 returns-in-None-clause-said c = λ none last one reads.
