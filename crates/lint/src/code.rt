@@ -189,14 +189,20 @@ impl Change {
 pub enum Conflict {
     /// An earlier section has this mid.
     RepeatedMid,
+    /// The session has no group.
+    NoGroup,
     /// A group names a mid that no section has.
     GroupOfNothing,
-    /// A type of the m-line is mapped to a codec of another kind of media.
+    /// The first group doesn't list the sections as they stand.
+    OtherGroup,
+    /// A type of the m-line stands for a codec of another kind of media.
     OtherKind,
-    /// A format or feedback is said of a type that isn't mapped.
+    /// A format, feedback or a stream is said of a type that isn't mapped.
     Unmapped,
-    /// Retransmissions or redundant audio are of a type that isn't mapped.
+    /// Retransmissions or redundant audio are of no type that is mapped.
     NoPrimary,
+    /// What is printed of the line is read otherwise, so that no rows can be written back.
+    NotWritable,
 }
 
 /// What a finding says, by its kind.

@@ -3,38 +3,45 @@ ghost use Rattle.std.specs.Prelude.{◌≡◌, OnOk};
 ghost use Rattle.lint.specs.Findings.{SaysElse};
 
 use crate::code::{Code, Conflict};
+use crate::groups::{note_grouping, note_groups};
 use crate::lines::next_line;
 use crate::notes::Notes;
-use crate::part::Place;
+use crate::part::{Part, Place};
 use crate::types::Types;
+use crate::written::{gains_types, head_fault, takes_rows};
 use std::alloc::{AllocError, Global};
 use std::collections::BTreeSet;
-use str0m_sdp::{MediaAttribute, MediaLine, Sdp, SessionAttribute};
-use str0m_values::Mid;
+use str0m_sdp::{MediaAttribute, MediaLine, Sdp};
+use str0m_values::{Mid, Pt};
 use str0m_values::cuts::strip;
 
 /// The numbers of the lines of attributes and of m-lines, in order: of the session, and of each section its m-line first.
-fn spots(alloc: Global, text: &str) -> Result<Vec<usize>, AllocError> {
-    let mut spots = Vec::new(alloc);
+fn lines_of(alloc: Global, text: &str) -> Result<Vec<usize>, AllocError> {
+    let mut lines = Vec::new(alloc);
     let mut rest = text;
     let mut passed = 0usize;
     while let Some((line, after)) = next_line(rest) {
         passed = passed.saturating_add(1);
         if strip(line, "a=").is_some() || strip(line, "m=").is_some() {
-            spots.push(passed)?;
+            lines.push(passed)?;
         }
         rest = after;
     }
-    Ok(spots)
+    Ok(lines)
 }
 
-/// The number of the line that stands there.
-fn number_at(spots: &[usize], at: usize) -> usize {
-    spots.get(at).copied().unwrap_or(1)
+/// The number of the line that stands there; a number behind all lines where there is none.
+pub(crate) fn number_at(lines: &[usize], at: usize) -> usize {
+    lines.get(at).copied().unwrap_or(usize::MAX)
+}
+
+/// The lines behind so many.
+fn behind(lines: &[usize], count: usize) -> &[usize] {
+    lines.get(count..).unwrap_or(&[])
 }
 
 /// Says that a line contradicts others.
-fn note_conflict(
+pub(crate) fn note_conflict(
     notes: &mut Notes,
     number: usize,
     conflict: Conflict,
@@ -50,59 +57,99 @@ fn note_conflict(
     notes.add(place, Code::Contradiction(conflict), detail)
 }
 
-/// Says which mids of a group no section has.
-fn note_group(
+/// Says that a line contradicts others by the name of a section.
+pub(crate) fn note_mid(
     notes: &mut Notes,
     number: usize,
-    mids: &[Mid],
-    names: &BTreeSet<&str>,
+    conflict: Conflict,
+    mid: Mid,
 ) -> Result<(), AllocError>
     ensures others { OnOk result (SaysElse notes.old notes.new) }
     ensures last { notes.new.last ≡ notes.old.last }
 {
-    for mid in mids {
-        if !names.contains(mid.as_str()) {
-            note_conflict(notes, number, Conflict::GroupOfNothing, mid.as_str())?;
-        }
+    let name = Part::to_end(mid.as_str()).quoted(notes.alloc())?;
+    note_conflict(notes, number, conflict, name.as_str())
+}
+
+/// Says that a line contradicts others by what it says of a payload type.
+fn note_type(
+    notes: &mut Notes,
+    number: usize,
+    conflict: Conflict,
+    pt: Pt,
+) -> Result<(), AllocError>
+    ensures others { OnOk result (SaysElse notes.old notes.new) }
+    ensures last { notes.new.last ≡ notes.old.last }
+{
+    let detail = format!(in notes.alloc(); "type {pt}")?;
+    note_conflict(notes, number, conflict, detail.as_str())
+}
+
+/// What the lines of a section are looked at with: the numbers of its m-line and of the lines of its attributes, and whether rows may be
+/// written into it and into another one.
+#[derive(Clone, Copy)]
+struct Section<'a> {
+    line: &'a MediaLine,
+    numbers: &'a [usize],
+    some_take_rows: bool,
+    others_take_rows: bool,
+}
+
+/// Says what an m-line says against the lines of its section.
+fn note_head(notes: &mut Notes, section: Section<'_>, types: &Types<'_>) -> Result<(), AllocError>
+    ensures others { OnOk result (SaysElse notes.old notes.new) }
+    ensures last { notes.new.last ≡ notes.old.last }
+{
+    let number = number_at(section.numbers, 0);
+    if let Some(pt) = types.static_of_other_kind() {
+        note_type(notes, number, Conflict::OtherKind, pt)?;
+    }
+    match head_fault(section.line) {
+        Some(fault) if section.others_take_rows => note_conflict(notes, number, Conflict::NotWritable, fault),
+        _ => Ok(()),
+    }
+}
+
+/// Says what a line of a section says against the others.
+fn note_attribute(
+    notes: &mut Notes,
+    number: usize,
+    types: &Types<'_>,
+    attribute: &MediaAttribute,
+) -> Result<(), AllocError>
+    ensures others { OnOk result (SaysElse notes.old notes.new) }
+    ensures last { notes.new.last ≡ notes.old.last }
+{
+    match types.conflict(attribute) {
+        Some((conflict, pt)) => note_type(notes, number, conflict, pt),
+        None => Ok(()),
+    }
+}
+
+/// Says that the line of a stream is printed with payload types, where it is.
+fn note_stream(notes: &mut Notes, number: usize, attribute: &MediaAttribute) -> Result<(), AllocError>
+    ensures others { OnOk result (SaysElse notes.old notes.new) }
+    ensures last { notes.new.last ≡ notes.old.last }
+{
+    if gains_types(notes.alloc(), attribute)? {
+        return note_conflict(notes, number, Conflict::NotWritable, "`pt` is printed as payload types");
     }
     Ok(())
 }
 
-/// Says which groups of the session name sections that aren't there.
-fn note_groups(
-    notes: &mut Notes,
-    spots: &[usize],
-    attributes: &[SessionAttribute],
-    names: &BTreeSet<&str>,
-) -> Result<(), AllocError>
+/// Says what the lines of a section say against each other.
+fn note_section(notes: &mut Notes, section: Section<'_>) -> Result<(), AllocError>
     ensures others { OnOk result (SaysElse notes.old notes.new) }
     ensures last { notes.new.last ≡ notes.old.last }
 {
-    for (i, attribute) in attributes.iter().enumerate() {
-        if let SessionAttribute::Group { mids, .. } = attribute {
-            note_group(notes, number_at(spots, i), mids.as_slice(), names)?;
-        }
-    }
-    Ok(())
-}
-
-/// Says which lines of a section speak of payload types that aren't there or carry something else; its attributes begin at this spot.
-fn note_types(
-    notes: &mut Notes,
-    spots: &[usize],
-    begin: usize,
-    section: &MediaLine,
-) -> Result<(), AllocError>
-    ensures others { OnOk result (SaysElse notes.old notes.new) }
-    ensures last { notes.new.last ≡ notes.old.last }
-{
-    let alloc = notes.alloc();
-    let types = Types::of(section);
-    for (i, attribute) in section.attrs.as_slice().iter().enumerate() {
-        if let Some((conflict, pt)) = types.conflict(attribute) {
-            let number = number_at(spots, begin.saturating_add(i));
-            let detail = format!(in alloc; "type {pt}")?;
-            note_conflict(notes, number, conflict, detail.as_str())?;
+    let types = Types::of(section.line);
+    note_head(notes, section, &types)?;
+    let numbers = behind(section.numbers, 1);
+    for (i, attribute) in section.line.attrs.as_slice().iter().enumerate() {
+        let number = number_at(numbers, i);
+        note_attribute(notes, number, &types, attribute)?;
+        if section.some_take_rows {
+            note_stream(notes, number, attribute)?;
         }
     }
     Ok(())
@@ -118,27 +165,37 @@ fn before_mid(section: &MediaLine) -> usize {
         .unwrap_or(0)
 }
 
-/// Says what the lines of sections say against each other; the first m-line is at this spot.
+/// How many sections rows may be written into.
+fn count_taking(sections: &[MediaLine]) -> usize {
+    sections.iter().filter(|section| takes_rows(section)).count()
+}
+
+/// Says what the lines of sections say against each other, which have these mids and stand on these lines.
 fn note_sections(
     notes: &mut Notes,
-    spots: &[usize],
-    begin: usize,
+    lines: &[usize],
     sections: &[MediaLine],
     mids: &[Mid],
 ) -> Result<(), AllocError>
     ensures others { OnOk result (SaysElse notes.old notes.new) }
     ensures last { notes.new.last ≡ notes.old.last }
 {
+    let taking = count_taking(sections);
     let mut seen = BTreeSet::new(notes.alloc());
-    let mut begin = begin;
-    for (section, mid) in sections.iter().zip(mids) {
-        begin = begin.saturating_add(1);
+    let mut numbers = lines;
+    for (line, mid) in sections.iter().zip(mids) {
         if !seen.insert(mid.as_str())? {
-            let number = number_at(spots, begin.saturating_add(before_mid(section)));
-            note_conflict(notes, number, Conflict::RepeatedMid, mid.as_str())?;
+            let number = number_at(numbers, before_mid(line).saturating_add(1));
+            note_mid(notes, number, Conflict::RepeatedMid, *mid)?;
         }
-        note_types(notes, spots, begin, section)?;
-        begin = begin.saturating_add(section.attrs.len());
+        let section = Section {
+            line,
+            numbers,
+            some_take_rows: taking > 0,
+            others_take_rows: taking > usize::from(takes_rows(line)),
+        };
+        note_section(notes, section)?;
+        numbers = behind(numbers, line.attrs.len().saturating_add(1));
     }
     Ok(())
 }
@@ -159,23 +216,27 @@ fn names_of(alloc: Global, mids: &[Mid]) -> Result<BTreeSet<&str>, AllocError> {
     Ok(names)
 }
 
-/// Says what the lines of a description that is read of a text say against each other.
-pub(crate) fn note_conflicts(notes: &mut Notes, text: &str, sdp: &Sdp) -> Result<(), AllocError>
+/// Says what the lines of a text say against each other, and whether its sections are grouped as they stand. A group may stand behind a
+/// text of which no section is read and the reading ended.
+pub(crate) fn note_conflicts(
+    notes: &mut Notes,
+    text: &str,
+    sdp: &Sdp,
+    is_whole: bool,
+) -> Result<(), AllocError>
     ensures others { OnOk result (SaysElse notes.old notes.new) }
     ensures last { notes.new.last ≡ notes.old.last }
 {
     let alloc = notes.alloc();
-    let spots = spots(alloc, text)?;
+    let lines = lines_of(alloc, text)?;
+    let lines = lines.as_slice();
     let sections = sdp.media_lines.as_slice();
     let mids = mids_of(alloc, sections)?;
     let names = names_of(alloc, mids.as_slice())?;
     let attributes = sdp.session.attrs.as_slice();
-    note_groups(notes, spots.as_slice(), attributes, &names)?;
-    note_sections(
-        notes,
-        spots.as_slice(),
-        attributes.len(),
-        sections,
-        mids.as_slice(),
-    )
+    note_groups(notes, lines, attributes, &names)?;
+    if is_whole || !sections.is_empty() {
+        note_grouping(notes, lines, sdp, &names)?;
+    }
+    note_sections(notes, behind(lines, attributes.len()), sections, mids.as_slice())
 }

@@ -50,7 +50,7 @@ fn note_described(notes: &mut Notes, text: &str, sdp: &Sdp, rest: &str) -> Resul
     ensures last { notes.new.last ≡ notes.old.last }
 {
     note_read(notes, text, sdp, rest)?;
-    note_conflicts(notes, text_before(text, rest), sdp)
+    note_conflicts(notes, text_before(text, rest), sdp, rest.is_empty())
 }
 
 /// Of an error that isn't want of memory, nothing.

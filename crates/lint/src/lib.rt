@@ -12,6 +12,7 @@ mod finding;
 mod fork;
 mod forms;
 mod found;
+mod groups;
 mod header;
 mod kept;
 mod lines;
@@ -25,6 +26,7 @@ mod told;
 mod types;
 mod unfit;
 mod unseen;
+mod written;
 
 pub use code::{Change, Code, Conflict, Misfit, Refusal, Severity, Unfit, Unknown, Unseen};
 pub use finding::{Finding, Report};

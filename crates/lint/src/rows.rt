@@ -464,7 +464,7 @@ pub static CHANGES: [Row; 11] = [
 ];
 
 /// What a line says against others, in the order of `Conflict`.
-pub static CONFLICTS: [Row; 5] = [
+pub static CONFLICTS: [Row; 8] = [
     Row {
         name: "repeated-mid",
         title: "an earlier m-section has this mid",
@@ -472,6 +472,14 @@ pub static CONFLICTS: [Row; 5] = [
         explanation: "Groups and candidates speak of a section by its mid, so that no two sections may have the same.",
         source: "RFC 5888, section 4; RFC 8829, section 5.2.1",
         example: "a=mid:0 in two sections",
+    },
+    Row {
+        name: "no-group",
+        title: "this session has no `a=group`",
+        remedy: "write `a=group:BUNDLE` with the mids of the sections before the first m-line",
+        explanation: "Offers and answers of WebRTC list the sections of one transport in a group, be it one section alone. A description without a group is read, but its consistency (`assert_consistency`) asks for one.",
+        source: "RFC 8829, section 5.2.1; RFC 9143, section 7.2",
+        example: "v=0, o=, s=, t=0 0 and m-sections",
     },
     Row {
         name: "group-of-nothing",
@@ -482,27 +490,43 @@ pub static CONFLICTS: [Row; 5] = [
         example: "a=group:BUNDLE 0 1 with one section",
     },
     Row {
+        name: "other-group",
+        title: "this group doesn't list the m-sections as they stand",
+        remedy: "list the mid of each section that isn't disabled in it, in the order of the sections",
+        explanation: "The first group lists the sections that take part in it, each once: those that aren't disabled, and disabled ones that it names. The standards leave their order free; the consistency of a description (`assert_consistency`) asks for that of the sections.",
+        source: "RFC 8829, section 5.2.1; RFC 9143, sections 6 and 7.2",
+        example: "a=group:BUNDLE 1 0 with the sections 0 and 1",
+    },
+    Row {
         name: "other-kind",
-        title: "a payload type of this m-section is mapped to a codec of another kind of media",
+        title: "a payload type of this m-section stands for a codec of another kind of media",
         remedy: "map the type to a codec of the kind that the m-line says, or move it to another section",
-        explanation: "A section of audio carries sound, one of video pictures. The row of the type is of no use there.",
-        source: "RFC 8866, sections 5.14 and 6.6",
+        explanation: "A section of audio carries sound, one of video pictures. The row of the type is of no use there. PCMU, PCMA, G722 and CN (0, 8, 9 and 13) are sound without a mapping.",
+        source: "RFC 8866, sections 5.14 and 6.6; RFC 3551, section 6",
         example: "a=rtpmap:96 VP8/90000 in a section of audio",
     },
     Row {
         name: "unmapped-type",
         title: "this line speaks of a payload type that isn't mapped",
-        remedy: "write `a=rtpmap` for the type into the section, or take this line out",
-        explanation: "Formats and feedback belong to the codec of a type. Without its `a=rtpmap` the line is printed, and no row has it.",
-        source: "RFC 8866, sections 6.6 and 6.15",
+        remedy: "write `a=rtpmap` for the type into the section, or take the type out of this line",
+        explanation: "Formats, feedback and the types of a stream belong to the codec of a type. Without its `a=rtpmap` the line is printed, and no row has what it says.",
+        source: "RFC 8866, sections 6.6 and 6.15; RFC 4585, section 4.2; RFC 8851, section 5",
         example: "a=fmtp:97 apt=96 without a=rtpmap:97",
     },
     Row {
         name: "no-primary-type",
-        title: "the primary type of this format isn't mapped",
-        remedy: "name a type of the section that is mapped, or take the type of this line out",
-        explanation: "Retransmissions and redundant audio are of another type of the section. Where that isn't mapped, no row has them.",
+        title: "this payload type repeats no other that is mapped",
+        remedy: "name a type that is mapped, by `a=fmtp:TYPE apt=OTHER` for retransmissions, by `a=fmtp:TYPE OTHER/OTHER` for redundant audio, or take the type out",
+        explanation: "Retransmissions (`rtx`) and redundant audio (`red`) repeat another type of the section. Where that isn't mapped, or a format of retransmissions doesn't name it, no row has them.",
         source: "RFC 4588, section 8.1; RFC 2198, section 5",
         example: "a=fmtp:97 apt=96 without a=rtpmap:96",
+    },
+    Row {
+        name: "not-writable",
+        title: "rows can't be written back into this description because of this line",
+        remedy: "write `UDP/DTLS/SCTP` for data channels, payload types for media, and one space before `pt=`",
+        explanation: "What is printed of this line is read as something else: a restriction `pt` behind two spaces as payload types, data channels over RTP as a section without types, and media without types as type 0. So rows that are put into an audio or video section over RTP aren't read back (`is_writable`).",
+        source: "RFC 8851, section 10; RFC 8841, section 4; RFC 8866, section 5.14",
+        example: "a=rid:lo send  pt=5",
     },
 ];

@@ -5,27 +5,30 @@ use str0m_formats::{Codec, CodecSpec, FormatParam};
 use str0m_sdp::{MediaAttribute, MediaLine, MediaType};
 use str0m_values::Pt;
 
-/// Which payload types a section lists, and which of them are mapped, by their numbers.
+/// Which payload types a section lists, the codecs that they are mapped to, and which of them repeat another, by their numbers.
 #[derive(Clone, Copy)]
 pub(crate) struct Types<'a> {
     section: &'a MediaLine,
     listed: [bool; 256],
-    mapped: [bool; 256],
+    codecs: [Option<Codec>; 256],
+    repeating: [bool; 256],
 }
 
-/// The primary type that a format names: of retransmissions, or of redundant audio.
-fn primary(values: &[FormatParam]) -> Option<Pt> {
-    values.iter().find_map(|value| match value {
-        FormatParam::Apt(pt) | FormatParam::Red(pt) => Some(*pt),
+/// The type that a value names in the format of a codec: what retransmissions (RFC 4588, section 8.1) or redundant audio (RFC 2198,
+/// section 5) repeat.
+fn repeated(codec: Option<Codec>, value: FormatParam) -> Option<Pt> {
+    match (codec, value) {
+        (Some(Codec::Rtx), FormatParam::Apt(pt)) => Some(pt),
+        (Some(Codec::Red), FormatParam::BarePtList(pt) | FormatParam::Red(pt)) => Some(pt),
         _ => None,
-    })
+    }
 }
 
-/// Whether a codec carries another kind of media than the section.
+/// Whether a codec carries another kind of media than sections of this type.
 fn is_of_other_kind(typ: &MediaType, codec: Codec) -> bool {
     match typ {
         MediaType::Audio => codec.is_video(),
-        MediaType::Video => codec.is_audio(),
+        MediaType::Video => codec.is_audio() || codec.is_tele(),
         _ => false,
     }
 }
@@ -36,7 +39,8 @@ impl<'a> Types<'a> {
         let mut types = Types {
             section,
             listed: [false; 256],
-            mapped: [false; 256],
+            codecs: [None; 256],
+            repeating: [false; 256],
         };
         types.list();
         types.map();
@@ -45,40 +49,109 @@ impl<'a> Types<'a> {
 
     fn list(&mut self) {
         for pt in self.section.pts.as_slice() {
-            let place = usize::from(pt.value());
-            self.listed[place] = true;
-            self.mapped[place] = CodecSpec::from_static_pt(*pt).is_some();
+            self.listed[usize::from(pt.value())] = true;
         }
     }
 
     fn map(&mut self) {
         for attribute in self.section.attrs.as_slice() {
-            if let MediaAttribute::RtpMap { pt, .. } = attribute {
-                self.mapped[usize::from(pt.value())] = true;
+            match attribute {
+                MediaAttribute::RtpMap { pt, value } => {
+                    self.codecs[usize::from(pt.value())] = Some(value.codec);
+                }
+                MediaAttribute::Fmtp { pt, values } if names_primary(values.as_slice()) => {
+                    self.repeating[usize::from(pt.value())] = true;
+                }
+                _ => {}
             }
         }
     }
 
+    /// The codec that a type of the m-line stands for without a mapping, where it has none.
+    fn static_codec(&self, pt: Pt) -> Option<Codec> {
+        let place = usize::from(pt.value());
+        if !self.listed[place] || self.codecs[place].is_some() {
+            return None;
+        }
+        match CodecSpec::from_static_pt(pt) {
+            Some(spec) => Some(spec.codec),
+            None => None,
+        }
+    }
+
     fn is_mapped(&self, pt: Pt) -> bool {
-        self.mapped[usize::from(pt.value())]
+        self.codecs[usize::from(pt.value())].is_some() || self.static_codec(pt).is_some()
+    }
+
+    /// The first type of the m-line that stands for a codec of another kind without a mapping. A disabled section may list any type,
+    /// which says nothing (RFC 3264, section 6).
+    pub(crate) fn static_of_other_kind(&self) -> Option<Pt> {
+        if self.section.disabled {
+            return None;
+        }
+        let typ = &self.section.typ;
+        self.section
+            .pts
+            .as_slice()
+            .iter()
+            .copied()
+            .find(|pt| match self.static_codec(*pt) {
+                Some(codec) => is_of_other_kind(typ, codec),
+                None => false,
+            })
+    }
+
+    /// What a mapping says against the others.
+    fn map_conflict(&self, pt: Pt, codec: Codec) -> Option<Conflict> {
+        let place = usize::from(pt.value());
+        if !self.listed[place] {
+            return None;
+        }
+        if is_of_other_kind(&self.section.typ, codec) {
+            return Some(Conflict::OtherKind);
+        }
+        match codec {
+            Codec::Rtx if !self.repeating[place] => Some(Conflict::NoPrimary),
+            _ => None,
+        }
+    }
+
+    /// What a format says against the others.
+    fn format_conflict(&self, pt: Pt, values: &[FormatParam]) -> Option<Conflict> {
+        if !self.is_mapped(pt) {
+            return Some(Conflict::Unmapped);
+        }
+        let codec = self.codecs[usize::from(pt.value())];
+        let is_of_none = values.iter().any(|value| match repeated(codec, *value) {
+            Some(primary) => !self.is_mapped(primary),
+            None => false,
+        });
+        if is_of_none {
+            Some(Conflict::NoPrimary)
+        } else {
+            None
+        }
     }
 
     /// What a line of the section says against the others, and of which type.
     pub(crate) fn conflict(&self, attribute: &MediaAttribute) -> Option<(Conflict, Pt)> {
         match attribute {
-            MediaAttribute::RtpMap { pt, value }
-                if self.listed[usize::from(pt.value())]
-                    && is_of_other_kind(&self.section.typ, value.codec) => Some((
-                Conflict::OtherKind,
+            MediaAttribute::RtpMap { pt, value } => Some((self.map_conflict(*pt, value.codec)?, *pt)),
+            MediaAttribute::Fmtp { pt, values } => Some((
+                self.format_conflict(*pt, values.as_slice())?,
                 *pt,
             )),
-            MediaAttribute::RtcpFb { pt, .. } | MediaAttribute::Fmtp { pt, .. }
-                if !self.is_mapped(*pt) => { Some((Conflict::Unmapped, *pt)) }
-            MediaAttribute::Fmtp { values, .. } => match primary(values.as_slice()) {
-                Some(primary) if !self.is_mapped(primary) => Some((Conflict::NoPrimary, primary)),
-                _ => None,
-            },
+            MediaAttribute::RtcpFb { pt, .. } if !self.is_mapped(*pt) => Some((Conflict::Unmapped, *pt)),
+            MediaAttribute::Rid { pt, .. } => {
+                let missing = pt.as_slice().iter().copied().find(|pt| !self.is_mapped(*pt))?;
+                Some((Conflict::Unmapped, missing))
+            }
             _ => None,
         }
     }
+}
+
+/// Whether a format names a primary type of retransmissions.
+fn names_primary(values: &[FormatParam]) -> bool {
+    values.iter().any(|value| matches!(value, FormatParam::Apt(_)))
 }
