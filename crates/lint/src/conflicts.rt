@@ -12,8 +12,8 @@ use crate::written::{gains_types, head_fault, takes_rows};
 use std::alloc::{AllocError, Global};
 use std::collections::BTreeSet;
 use str0m_sdp::{MediaAttribute, MediaLine, Sdp};
-use str0m_values::{Mid, Pt};
 use str0m_values::cuts::strip;
+use str0m_values::{Mid, Pt};
 
 /// The numbers of the lines of attributes and of m-lines, in order: of the session, and of each section its m-line first.
 fn lines_of(alloc: Global, text: &str) -> Result<Vec<usize>, AllocError> {
@@ -72,12 +72,7 @@ pub(crate) fn note_mid(
 }
 
 /// Says that a line contradicts others by what it says of a payload type.
-fn note_type(
-    notes: &mut Notes,
-    number: usize,
-    conflict: Conflict,
-    pt: Pt,
-) -> Result<(), AllocError>
+fn note_type(notes: &mut Notes, number: usize, conflict: Conflict, pt: Pt) -> Result<(), AllocError>
     ensures others { OnOk result (SaysElse notes.old notes.new) }
     ensures last { notes.new.last ≡ notes.old.last }
 {
@@ -105,7 +100,12 @@ fn note_head(notes: &mut Notes, section: Section<'_>, types: &Types<'_>) -> Resu
         note_type(notes, number, Conflict::OtherKind, pt)?;
     }
     match head_fault(section.line) {
-        Some(fault) if section.others_take_rows => note_conflict(notes, number, Conflict::NotWritable, fault),
+        Some(fault) if section.others_take_rows => note_conflict(
+            notes,
+            number,
+            Conflict::NotWritable,
+            fault,
+        ),
         _ => Ok(()),
     }
 }
@@ -127,12 +127,21 @@ fn note_attribute(
 }
 
 /// Says that the line of a stream is printed with payload types, where it is.
-fn note_stream(notes: &mut Notes, number: usize, attribute: &MediaAttribute) -> Result<(), AllocError>
+fn note_stream(
+    notes: &mut Notes,
+    number: usize,
+    attribute: &MediaAttribute,
+) -> Result<(), AllocError>
     ensures others { OnOk result (SaysElse notes.old notes.new) }
     ensures last { notes.new.last ≡ notes.old.last }
 {
     if gains_types(notes.alloc(), attribute)? {
-        return note_conflict(notes, number, Conflict::NotWritable, "`pt` is printed as payload types");
+        return note_conflict(
+            notes,
+            number,
+            Conflict::NotWritable,
+            "`pt` is printed as payload types",
+        );
     }
     Ok(())
 }
@@ -155,27 +164,29 @@ fn note_section(notes: &mut Notes, section: Section<'_>) -> Result<(), AllocErro
     Ok(())
 }
 
-/// How many attributes stand before the mid of a section.
-fn before_mid(section: &MediaLine) -> usize {
-    section
-        .attrs
-        .as_slice()
-        .iter()
-        .position(|attribute| matches!(attribute, MediaAttribute::Mid(_)))
-        .unwrap_or(0)
+/// The mid of a section, and how many attributes stand before it.
+fn mid_of(section: &MediaLine) -> Option<(usize, &Mid)> {
+    for (i, attribute) in section.attrs.as_slice().iter().enumerate() {
+        if let MediaAttribute::Mid(mid) = attribute {
+            return Some((i, mid));
+        }
+    }
+    None
 }
 
 /// How many sections rows may be written into.
 fn count_taking(sections: &[MediaLine]) -> usize {
-    sections.iter().filter(|section| takes_rows(section)).count()
+    sections
+        .iter()
+        .filter(|section| takes_rows(section))
+        .count()
 }
 
-/// Says what the lines of sections say against each other, which have these mids and stand on these lines.
+/// Says what the lines of sections say against each other, which stand on these lines.
 fn note_sections(
     notes: &mut Notes,
     lines: &[usize],
     sections: &[MediaLine],
-    mids: &[Mid],
 ) -> Result<(), AllocError>
     ensures others { OnOk result (SaysElse notes.old notes.new) }
     ensures last { notes.new.last ≡ notes.old.last }
@@ -183,10 +194,12 @@ fn note_sections(
     let taking = count_taking(sections);
     let mut seen = BTreeSet::new(notes.alloc());
     let mut numbers = lines;
-    for (line, mid) in sections.iter().zip(mids) {
-        if !seen.insert(mid.as_str())? {
-            let number = number_at(numbers, before_mid(line).saturating_add(1));
-            note_mid(notes, number, Conflict::RepeatedMid, *mid)?;
+    for line in sections {
+        if let Some((i, mid)) = mid_of(line) {
+            if !seen.insert(mid.as_str())? {
+                let number = number_at(numbers, i.saturating_add(1));
+                note_mid(notes, number, Conflict::RepeatedMid, *mid)?;
+            }
         }
         let section = Section {
             line,
@@ -200,18 +213,13 @@ fn note_sections(
     Ok(())
 }
 
-fn mids_of(alloc: Global, sections: &[MediaLine]) -> Result<Vec<Mid>, AllocError> {
-    let mut mids = Vec::new(alloc);
-    for section in sections {
-        mids.push(section.mid())?;
-    }
-    Ok(mids)
-}
-
-fn names_of(alloc: Global, mids: &[Mid]) -> Result<BTreeSet<&str>, AllocError> {
+/// The mids of sections.
+fn names_of(alloc: Global, sections: &[MediaLine]) -> Result<BTreeSet<&str>, AllocError> {
     let mut names = BTreeSet::new(alloc);
-    for mid in mids {
-        names.insert(mid.as_str())?;
+    for section in sections {
+        if let Some((_, mid)) = mid_of(section) {
+            names.insert(mid.as_str())?;
+        }
     }
     Ok(names)
 }
@@ -231,12 +239,11 @@ pub(crate) fn note_conflicts(
     let lines = lines_of(alloc, text)?;
     let lines = lines.as_slice();
     let sections = sdp.media_lines.as_slice();
-    let mids = mids_of(alloc, sections)?;
-    let names = names_of(alloc, mids.as_slice())?;
+    let names = names_of(alloc, sections)?;
     let attributes = sdp.session.attrs.as_slice();
     note_groups(notes, lines, attributes, &names)?;
     if is_whole || !sections.is_empty() {
         note_grouping(notes, lines, sdp, &names)?;
     }
-    note_sections(notes, behind(lines, attributes.len()), sections, mids.as_slice())
+    note_sections(notes, behind(lines, attributes.len()), sections)
 }

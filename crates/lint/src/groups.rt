@@ -12,7 +12,9 @@ use str0m_values::Mid;
 
 /// The first mid of a group that no section has.
 fn stray(mids: &[Mid], names: &BTreeSet<&str>) -> Option<Mid> {
-    mids.iter().copied().find(|mid| !names.contains(mid.as_str()))
+    mids.iter()
+        .copied()
+        .find(|mid| !names.contains(mid.as_str()))
 }
 
 /// Says that a group names a mid that no section has, where it does.
@@ -93,7 +95,12 @@ pub(crate) fn note_grouping(
 {
     let attributes = sdp.session.attrs.as_slice();
     let Some((i, mids)) = first_group(attributes) else {
-        return note_conflict(notes, number_at(lines, attributes.len()), Conflict::NoGroup, "");
+        return note_conflict(
+            notes,
+            number_at(lines, attributes.len()),
+            Conflict::NoGroup,
+            "",
+        );
     };
     if names.len() < sdp.media_lines.len() || stray(mids, names).is_some() {
         return Ok(());

@@ -70,17 +70,17 @@ impl<'a> Types<'a> {
     /// The codec that a type of the m-line stands for without a mapping, where it has none.
     fn static_codec(&self, pt: Pt) -> Option<Codec> {
         let place = usize::from(pt.value());
-        if !self.listed[place] || self.codecs[place].is_some() {
-            return None;
-        }
-        match CodecSpec::from_static_pt(pt) {
-            Some(spec) => Some(spec.codec),
-            None => None,
+        match self.codecs[place] {
+            None if self.listed[place] => Some(CodecSpec::from_static_pt(pt)?.codec),
+            _ => None,
         }
     }
 
     fn is_mapped(&self, pt: Pt) -> bool {
-        self.codecs[usize::from(pt.value())].is_some() || self.static_codec(pt).is_some()
+        match self.codecs[usize::from(pt.value())] {
+            Some(_) => true,
+            None => self.static_codec(pt).is_some(),
+        }
     }
 
     /// The first type of the m-line that stands for a codec of another kind without a mapping. A disabled section may list any type,
@@ -136,14 +136,24 @@ impl<'a> Types<'a> {
     /// What a line of the section says against the others, and of which type.
     pub(crate) fn conflict(&self, attribute: &MediaAttribute) -> Option<(Conflict, Pt)> {
         match attribute {
-            MediaAttribute::RtpMap { pt, value } => Some((self.map_conflict(*pt, value.codec)?, *pt)),
+            MediaAttribute::RtpMap { pt, value } => Some((
+                self.map_conflict(*pt, value.codec)?,
+                *pt,
+            )),
             MediaAttribute::Fmtp { pt, values } => Some((
                 self.format_conflict(*pt, values.as_slice())?,
                 *pt,
             )),
-            MediaAttribute::RtcpFb { pt, .. } if !self.is_mapped(*pt) => Some((Conflict::Unmapped, *pt)),
+            MediaAttribute::RtcpFb { pt, .. } if !self.is_mapped(*pt) => Some((
+                Conflict::Unmapped,
+                *pt,
+            )),
             MediaAttribute::Rid { pt, .. } => {
-                let missing = pt.as_slice().iter().copied().find(|pt| !self.is_mapped(*pt))?;
+                let missing = pt
+                    .as_slice()
+                    .iter()
+                    .copied()
+                    .find(|pt| !self.is_mapped(*pt))?;
                 Some((Conflict::Unmapped, missing))
             }
             _ => None,
@@ -153,5 +163,7 @@ impl<'a> Types<'a> {
 
 /// Whether a format names a primary type of retransmissions.
 fn names_primary(values: &[FormatParam]) -> bool {
-    values.iter().any(|value| matches!(value, FormatParam::Apt(_)))
+    values
+        .iter()
+        .any(|value| matches!(value, FormatParam::Apt(_)))
 }

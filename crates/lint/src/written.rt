@@ -19,7 +19,9 @@ fn restricts_types(restrictions: &[(Text, Text)]) -> bool {
 fn is_read_otherwise(alloc: Global, attribute: &MediaAttribute) -> Result<bool, AllocError> {
     let printed = attribute.to_string(alloc)?;
     match media_attribute_line(alloc, printed.as_str()) {
-        Ok((read, _)) => Ok(!attribute.is_alike(&read) && !matches!(read, MediaAttribute::Unused(_))),
+        Ok((read, _)) => Ok(
+            !attribute.is_alike(&read) && !matches!(read, MediaAttribute::Unused(_)),
+        ),
         Err(SdpError::Memory) => Err(AllocError),
         Err(_) => Ok(true),
     }
@@ -49,7 +51,9 @@ fn mappings_of_0(attributes: &[MediaAttribute]) -> usize {
 pub(crate) fn head_fault(section: &MediaLine) -> Option<&'static str> {
     if section.typ.is_channel() {
         return match section.proto {
-            Proto::Srtp if !section.disabled => Some("data channels over RTP are printed without payload types"),
+            Proto::Srtp if !section.disabled => Some(
+                "data channels over RTP are printed without payload types",
+            ),
             _ => None,
         };
     }
