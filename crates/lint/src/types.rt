@@ -14,14 +14,34 @@ pub(crate) struct Types<'a> {
     repeating: [bool; 256],
 }
 
-/// The type that a value names in the format of a codec: what retransmissions (RFC 4588, section 8.1) or redundant audio (RFC 2198,
-/// section 5) repeat.
-fn repeated(codec: Option<Codec>, value: FormatParam) -> Option<Pt> {
-    match (codec, value) {
-        (Some(Codec::Rtx), FormatParam::Apt(pt)) => Some(pt),
-        (Some(Codec::Red), FormatParam::BarePtList(pt) | FormatParam::Red(pt)) => Some(pt),
+/// The primary type of retransmissions that a value names (RFC 4588, section 8.1).
+fn primary(value: FormatParam) -> Option<Pt> {
+    match value {
+        FormatParam::Apt(pt) => Some(pt),
         _ => None,
     }
+}
+
+/// The first type of redundant audio that a value names (RFC 2198, section 5).
+fn redundant(value: FormatParam) -> Option<Pt> {
+    match value {
+        FormatParam::BarePtList(pt) | FormatParam::Red(pt) => Some(pt),
+        _ => None,
+    }
+}
+
+/// The type that a value names in the format of a codec that repeats others.
+fn repeated(codec: Codec, value: FormatParam) -> Option<Pt> {
+    match codec {
+        Codec::Rtx => primary(value),
+        Codec::Red => redundant(value),
+        _ => None,
+    }
+}
+
+/// Whether a format names a primary type of retransmissions.
+fn names_primary(values: &[FormatParam]) -> bool {
+    values.iter().any(|value| primary(*value).is_some())
 }
 
 /// Whether a codec carries another kind of media than sections of this type.
@@ -67,20 +87,22 @@ impl<'a> Types<'a> {
         }
     }
 
+    /// The codec that a type is mapped to.
+    fn codec(&self, pt: Pt) -> Option<Codec> {
+        self.codecs[usize::from(pt.value())]
+    }
+
     /// The codec that a type of the m-line stands for without a mapping, where it has none.
     fn static_codec(&self, pt: Pt) -> Option<Codec> {
-        let place = usize::from(pt.value());
-        match self.codecs[place] {
-            None if self.listed[place] => Some(CodecSpec::from_static_pt(pt)?.codec),
-            _ => None,
+        if !self.listed[usize::from(pt.value())] || self.codec(pt).is_some() {
+            return None;
         }
+        let spec = CodecSpec::from_static_pt(pt)?;
+        Some(spec.codec)
     }
 
     fn is_mapped(&self, pt: Pt) -> bool {
-        match self.codecs[usize::from(pt.value())] {
-            Some(_) => true,
-            None => self.static_codec(pt).is_some(),
-        }
+        self.codec(pt).is_some() || self.static_codec(pt).is_some()
     }
 
     /// The first type of the m-line that stands for a codec of another kind without a mapping. A disabled section may list any type,
@@ -116,21 +138,31 @@ impl<'a> Types<'a> {
         }
     }
 
+    /// Whether a value names a type that isn't mapped, in the format of a codec that repeats others.
+    fn repeats_none(&self, codec: Codec, value: FormatParam) -> bool {
+        match repeated(codec, value) {
+            Some(pt) => !self.is_mapped(pt),
+            None => false,
+        }
+    }
+
     /// What a format says against the others.
     fn format_conflict(&self, pt: Pt, values: &[FormatParam]) -> Option<Conflict> {
-        if !self.is_mapped(pt) {
-            return Some(Conflict::Unmapped);
+        let Some(codec) = self.codec(pt) else {
+            return match self.static_codec(pt) {
+                Some(_) => None,
+                None => Some(Conflict::Unmapped),
+            };
+        };
+        if values.iter().any(|value| self.repeats_none(codec, *value)) {
+            return Some(Conflict::NoPrimary);
         }
-        let codec = self.codecs[usize::from(pt.value())];
-        let is_of_none = values.iter().any(|value| match repeated(codec, *value) {
-            Some(primary) => !self.is_mapped(primary),
-            None => false,
-        });
-        if is_of_none {
-            Some(Conflict::NoPrimary)
-        } else {
-            None
-        }
+        None
+    }
+
+    /// The first type of a stream that isn't mapped.
+    fn unmapped(&self, types: &[Pt]) -> Option<Pt> {
+        types.iter().copied().find(|pt| !self.is_mapped(*pt))
     }
 
     /// What a line of the section says against the others, and of which type.
@@ -148,22 +180,11 @@ impl<'a> Types<'a> {
                 Conflict::Unmapped,
                 *pt,
             )),
-            MediaAttribute::Rid { pt, .. } => {
-                let missing = pt
-                    .as_slice()
-                    .iter()
-                    .copied()
-                    .find(|pt| !self.is_mapped(*pt))?;
-                Some((Conflict::Unmapped, missing))
-            }
+            MediaAttribute::Rid { pt, .. } => Some((
+                Conflict::Unmapped,
+                self.unmapped(pt.as_slice())?,
+            )),
             _ => None,
         }
     }
-}
-
-/// Whether a format names a primary type of retransmissions.
-fn names_primary(values: &[FormatParam]) -> bool {
-    values
-        .iter()
-        .any(|value| matches!(value, FormatParam::Apt(_)))
 }
