@@ -1,10 +1,12 @@
 -- The rounds of sections, one after another.
-use Rattle.std.proofs.Common.{◌≡◌, ◌<◌, ◌+◌, ◌++◌, ℕ, List, [], ◌∷◌, length, take, get_or, inl, inr, refl, subst, sym, ap, ◌∙◌, All}
+use Rattle.std.proofs.Common.{arith, ◌≡◌, ◌<◌, ◌+◌, ◌++◌, ℕ, List, [], ◌∷◌, length, drop, take, get_or, inl, inr, refl, subst, sym, ap, ◌∙◌, All}
+use Rattle.std.proofs.Math.Seq.{drop-cons}
 use Rattle.std.proofs.lemmas.Grind.{take_at_read}
 use Rattle.std.proofs.lemmas.List.Elements.{All-cons, All-head, All-nil, All-tail}
 use Rattle.str0m_formats.specs.Bounds.{IsBounded}
 use Rattle.str0m_formats.specs.declared.rounds.Round.{Round}
 use Rattle.str0m_sdp.specs.RowBounds.{HasBoundedRows}
+use Rattle.str0m_sdp.specs.SectionRows.{rows}
 use Rattle.str0m_sdp.specs.declared.media_line.MediaLine.{MediaLine}
 use Rattle.str0m_sdp.specs.declared.session.Sdp.{Sdp}
 use Rattle.exchange.specs.Offered.{AreRoundsOf, BringsRound, IsRoundOf}
@@ -39,6 +41,42 @@ pub one_more : (offer : Sdp) (ms : List MediaLine) (i : ℕ) (m : MediaLine) (ro
     → BringsRound offer m → IsRoundOf m round → AreRoundsOf offer (take i ms) rounds → AreRoundsOf offer (take (i + 1) ms) (rounds ++ round ∷ [])
 one_more offer ms i m rounds round lt at brings is are =
     subst (λ (some : List MediaLine). AreRoundsOf offer some (rounds ++ round ∷ [])) (sym (taken ms i m lt at)) (behind_one offer (take i ms) m rounds round brings is are)
+
+-- ---- the round that stands first
+
+-- the sections from one on
+pub next_section : (ms : List MediaLine) (i : ℕ) (m : MediaLine) → i < length ms → m ≡ get_or ms i m → drop i ms ≡ m ∷ drop (i + 1) ms
+next_section ms i m lt at = grind (arith, drop-cons)
+
+pub next_rows : (offer : Sdp) (m : MediaLine) (ms : List MediaLine) (rounds later : List Round) (round : Round) → rounds ≡ round ∷ later
+    → AreRoundsOf offer (m ∷ ms) rounds → BringsRound offer m → round.remote.items ≡ rows m
+next_rows offer m ms rounds later round at are brings = elim are [
+  | inl p ↦ absurd (p.0 brings)
+  | inr q ↦ let same : q.1 ≡ round = cc (q.3, at) in subst (λ (r : Round). r.remote.items ≡ rows m) same q.4.0
+]
+
+pub rounds_behind : (offer : Sdp) (m : MediaLine) (ms : List MediaLine) (rounds later : List Round) (round : Round) → rounds ≡ round ∷ later
+    → BringsRound offer m → AreRoundsOf offer (m ∷ ms) rounds → AreRoundsOf offer ms later
+rounds_behind offer m ms rounds later round at brings are = elim are [
+  | inl p ↦ absurd (p.0 brings)
+  | inr q ↦ let same : q.2 ≡ later = cc (q.3, at) in subst (AreRoundsOf offer ms) same q.5
+]
+
+-- a section that brings none leaves the rounds as they are
+pub same_rounds : (offer : Sdp) (m : MediaLine) (ms : List MediaLine) (rounds : List Round) → (BringsRound offer m → ⊥)
+    → AreRoundsOf offer (m ∷ ms) rounds → AreRoundsOf offer ms rounds
+same_rounds offer m ms rounds none are = elim are [
+  | inl p ↦ p.1
+  | inr q ↦ absurd (none q.0)
+]
+
+-- where a section brings one, there is one
+pub none_left : (offer : Sdp) (m : MediaLine) (ms : List MediaLine) (rounds : List Round) → rounds ≡ [] → BringsRound offer m
+    → AreRoundsOf offer (m ∷ ms) rounds → ⊥
+none_left offer m ms rounds at brings are = elim are [
+  | inl p ↦ p.0 brings
+  | inr q ↦ let e : q.1 ∷ q.2 ≡ [] = sym q.3 ∙ at in cc
+]
 
 -- rounds of sections whose rows keep to their ranges
 abbrev pub IsBoundedRound : Round → Type 0

@@ -12,7 +12,7 @@ ghost use Rattle.exchange.specs.AnsweredSession.{BundlesAccepted};
 ghost use Rattle.exchange.specs.Exchange.{AnswersOffer, EachSection, RefusesOffer, RefusesSections, RefusesToAnswer};
 ghost use Rattle.exchange.specs.Follows.{Follows, IsSound};
 ghost use Rattle.exchange.specs.Names.{grown};
-ghost use Rattle.exchange.specs.Offered.{IsOffer, Negotiates};
+ghost use Rattle.exchange.specs.Offered.{AreRoundsOf, IsOffer, Negotiates};
 ghost use Rattle.exchange.specs.Places.{StaysInPlaces};
 ghost use Rattle.exchange.specs.ReadBack.{IsReadBack};
 ghost use Rattle.exchange.specs.Rules.{HasShapeOf, IsAcceptedExactly, KeepsRules};
@@ -23,17 +23,17 @@ ghost use Rattle.exchange.specs.declared.signaling_state.SignalingState.TheVaria
 use crate::answer::Answer;
 use crate::answered_section::answered_sections;
 use crate::answered_session::answered_session;
-use crate::exchange::{Exchange, is_printable, negotiated};
+use crate::exchange::{Exchange, is_printable, negotiated_by};
 use crate::exchange_error::ExchangeError;
 use crate::names::grown;
-use crate::offered::whole_description;
+use crate::offered::{rounds_of, whole_description};
 use crate::own_names::first_named_again;
 use crate::own_side::OwnSide;
 use crate::places::{first_moved, sections_of};
 use crate::rule::Rule;
 use crate::signaling_state::SignalingState;
 use std::alloc::{AllocError, Global};
-use str0m_signal::{CodecConfig, Items, Mid, Sdp};
+use str0m_signal::{CodecConfig, Items, Mid, Round, Sdp};
 
 /// The description that answers an offer.
 #[tactic(auto, using(crate::proofs::BundleLaws::bundles))]
@@ -42,7 +42,9 @@ fn answer_to(
     own: &OwnSide,
     config: &CodecConfig,
     offer: &Sdp,
+    rounds: &[Round],
 ) -> Result<Sdp, AllocError>
+    requires { AreRoundsOf offer.now offer.now.media_lines rounds.now }
     ensures answers { IfOk result (AnswersOffer own.now config.now.params.items offer.now) }
     ensures shape { IfOk result (λ answer. AllZip HasShapeOf offer.now.media_lines answer.media_lines) }
     ensures exactly { IfOk result (λ answer. AllZip (IsAcceptedExactly own.now config.now.params.items offer.now) offer.now.media_lines answer.media_lines) }
@@ -51,7 +53,7 @@ fn answer_to(
     ensures names { IfOk result (λ answer. section_mids answer.media_lines ≡ section_mids offer.now.media_lines) }
     ensures tracks { AreDistinct (section_mids offer.now.media_lines) → IfOk result (λ answer. AreDistinct (tracks answer)) }
 {
-    let media_lines = answered_sections(alloc, own, config, offer)?;
+    let media_lines = answered_sections(alloc, own, config, offer, rounds)?;
     let session = answered_session(alloc, own, offer, media_lines.as_slice())?;
     Ok(Sdp {
         session,
@@ -102,7 +104,13 @@ impl Exchange {
     }
 
     /// What answers an offer with these rows, where the other side reads it as what it says.
-    fn printable_answer(&self, config: &CodecConfig, offer: &Sdp) -> Result<Sdp, ExchangeError>
+    fn printable_answer(
+        &self,
+        config: &CodecConfig,
+        offer: &Sdp,
+        rounds: &[Round],
+    ) -> Result<Sdp, ExchangeError>
+        requires { AreRoundsOf offer.now offer.now.media_lines rounds.now }
         ensures answers { IfOk result (AnswersOffer self.now.own config.now.params.items offer.now) }
         ensures shape { IfOk result (λ answer. AllZip HasShapeOf offer.now.media_lines answer.media_lines) }
         ensures exactly { IfOk result (λ answer. AllZip (IsAcceptedExactly self.now.own config.now.params.items offer.now) offer.now.media_lines answer.media_lines) }
@@ -114,7 +122,7 @@ impl Exchange {
         ensures refused { IfErr result (RefusesToAnswer self.now config.now.params.items offer.now) }
     {
         let alloc = *self.config.allocator();
-        let answer = answer_to(alloc, &self.own, config, offer)?;
+        let answer = answer_to(alloc, &self.own, config, offer, rounds)?;
         if !is_printable(alloc, &answer, self.version)? {
             return Err(ExchangeError::NotPrintable);
         }
@@ -175,10 +183,11 @@ impl Exchange {
             return Err(ExchangeError::WrongState(self.state()));
         }
         let remote = self.placed_offer(offer)?;
-        let config = negotiated(&self.config, &remote)?;
-        let sdp = self.printable_answer(&config, &remote)?;
-        let local = sdp.clone()?;
         let alloc = *self.config.allocator();
+        let rounds = rounds_of(alloc, &remote)?;
+        let config = negotiated_by(&self.config, &remote, rounds.as_slice())?;
+        let sdp = self.printable_answer(&config, &remote, rounds.as_slice())?;
+        let local = sdp.clone()?;
         let names = grown(alloc, &self.names, local.media_lines.as_slice())?;
         let answer = Answer::new(sdp, self.version);
         self.settle(Some(local), remote, config, names);

@@ -1,15 +1,18 @@
 //! The sections of an answer.
-ghost use Rattle.std.specs.Prelude.{IfOk};
+ghost use Rattle.std.specs.Prelude.{◌≡◌, IfOk};
 ghost use Rattle.std.specs.List.{AllZip};
+ghost use Rattle.str0m_sdp.specs.SectionRows.{rows};
 ghost use Rattle.exchange.specs.AnsweredSection.{AnswersSection, SaysChoice};
+ghost use Rattle.exchange.specs.Offered.{AreRoundsOf, BringsRound};
 ghost use Rattle.exchange.specs.Rules.{HasShapeOf, IsAcceptedExactly, KeepsRules};
 
 use crate::accepted::{accepted_channels, accepted_media};
 use crate::choice::{Choice, choice_of};
+use crate::offered::rows_of_next;
 use crate::own_side::OwnSide;
 use crate::rejected_section::rejected;
 use std::alloc::{AllocError, Global};
-use str0m_signal::{CodecConfig, Items, MediaLine, Sdp};
+use str0m_signal::{CodecConfig, Items, MediaLine, PayloadParams, Round, Sdp};
 
 /// The section that says this choice.
 fn section_of_choice(
@@ -32,34 +35,41 @@ fn section_of_choice(
     }
 }
 
-/// The section that answers one (RFC 3264, section 6; RFC 8829, section 5.3.1).
+/// The section that answers one, with `theirs` for its rows where it brings a round (RFC 3264, section 6; RFC 8829, section 5.3.1).
 fn answered_section(
     alloc: Global,
     own: &OwnSide,
     config: &CodecConfig,
     offer: &Sdp,
     offered: &MediaLine,
+    theirs: &[PayloadParams],
 ) -> Result<MediaLine, AllocError>
+    requires { BringsRound offer.now offered.now → theirs.now ≡ rows offered.now }
     ensures { IfOk result (AnswersSection own.now config.now.params.items offer.now offered.now) }
 {
-    let choice = choice_of(own, config, offer, offered)?;
+    let choice = choice_of(own, config, offer, offered, theirs)?;
     section_of_choice(alloc, own, offer, offered, &choice)
 }
 
-/// The sections that answer those of an offer, in its order.
+/// The sections that answer those of an offer with these rounds, in its order.
 #[tactic(auto, using(std::proofs::lemmas::List::Elements::all_zip_more))]
 fn each_answered(
     alloc: Global,
     own: &OwnSide,
     config: &CodecConfig,
     offer: &Sdp,
+    rounds: &[Round],
 ) -> Result<Items<MediaLine>, AllocError>
+    requires { AreRoundsOf offer.now offer.now.media_lines rounds.now }
     ensures { IfOk result (AllZip (AnswersSection own.now config.now.params.items offer.now) offer.now.media_lines) }
 {
     let offered = offer.media_lines.as_slice();
-    let mut sections = Vec::new(alloc);
-    for theirs in offered {
-        sections.push(answered_section(alloc, own, config, offer, theirs)?)?;
+    let mut sections = Vec::with_capacity(alloc, offered.len())?;
+    let mut left = rounds;
+    for section in offered {
+        let (theirs, later) = rows_of_next(offer, section, left);
+        sections.push(answered_section(alloc, own, config, offer, section, theirs)?)?;
+        left = later;
     }
     Ok(Items::from(sections))
 }
@@ -71,11 +81,13 @@ pub(crate) fn answered_sections(
     own: &OwnSide,
     config: &CodecConfig,
     offer: &Sdp,
+    rounds: &[Round],
 ) -> Result<Items<MediaLine>, AllocError>
+    requires { AreRoundsOf offer.now offer.now.media_lines rounds.now }
     ensures answers { IfOk result (AllZip (AnswersSection own.now config.now.params.items offer.now) offer.now.media_lines) }
     ensures shape { IfOk result (AllZip HasShapeOf offer.now.media_lines) }
     ensures exactly { IfOk result (AllZip (IsAcceptedExactly own.now config.now.params.items offer.now) offer.now.media_lines) }
     ensures rules { IfOk result (AllZip (KeepsRules own.now config.now.params.items offer.now) offer.now.media_lines) }
 {
-    each_answered(alloc, own, config, offer)
+    each_answered(alloc, own, config, offer, rounds)
 }

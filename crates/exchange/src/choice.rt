@@ -1,10 +1,14 @@
 //! What a section is answered with.
-ghost use Rattle.std.specs.Prelude.{◌≡◌, IfOk};
+ghost use Rattle.std.specs.Prelude.{◌≡◌, IfOk, true};
+ghost use Rattle.str0m_sdp.specs.MediaType.{is_media};
+ghost use Rattle.str0m_sdp.specs.SectionRows.{rows};
+ghost use Rattle.str0m_sdp.specs.declared.proto.Proto.TheVariants.{Srtp};
 ghost use Rattle.exchange.specs.Choice.{IsChoice, channels_or_none, open_choice, rows_or_none};
+ghost use Rattle.exchange.specs.Offered.{BringsRound};
 ghost use Rattle.exchange.specs.Rows.{answered_rows};
 
 use crate::own_side::{DataChannels, OwnSide};
-use crate::rows::rows_for;
+use crate::rows::answered_rows;
 use crate::stopped::{is_section_stopped, name_of};
 use std::alloc::AllocError;
 use str0m_signal::{CodecConfig, Items, MediaLine, MediaType, Mid, PayloadParams, Proto, Sdp};
@@ -29,10 +33,16 @@ fn channels_or_none(mid: Mid, channels: Option<DataChannels>) -> Choice
     }
 }
 
-fn rows_or_none(config: &CodecConfig, section: &MediaLine, mid: Mid) -> Result<Choice, AllocError>
+fn rows_or_none(
+    config: &CodecConfig,
+    section: &MediaLine,
+    mid: Mid,
+    theirs: &[PayloadParams],
+) -> Result<Choice, AllocError>
+    requires { theirs.now ≡ rows section.now }
     ensures { IfOk result (λ choice. choice ≡ rows_or_none mid (answered_rows config.now.params.items section.now)) }
 {
-    let rows = rows_for(config, section)?;
+    let rows = answered_rows(config.params(), section, theirs)?;
     if rows.is_empty() {
         return Ok(Choice::Rejected);
     }
@@ -44,31 +54,38 @@ fn open_choice(
     own: &OwnSide,
     config: &CodecConfig,
     section: &MediaLine,
+    theirs: &[PayloadParams],
 ) -> Result<Choice, AllocError>
+    requires { is_media section.now.typ ≡ true → section.now.proto ≡ Srtp → theirs.now ≡ rows section.now }
     ensures { IfOk result (λ choice. choice ≡ open_choice own.now config.now.params.items section.now) }
 {
     let Some(mid) = name_of(section) else {
         return Ok(Choice::Rejected);
     };
     match (&section.typ, section.proto) {
-        (MediaType::Audio | MediaType::Video, Proto::Srtp) => rows_or_none(config, section, mid),
+        (MediaType::Audio | MediaType::Video, Proto::Srtp) => {
+            rows_or_none(config, section, mid, theirs)
+        }
         (MediaType::Application, Proto::Sctp) => Ok(channels_or_none(mid, own.channels)),
         _ => Ok(Choice::Rejected),
     }
 }
 
 /// What an offered section is answered with (RFC 3264, section 6): it is rejected where it is stopped, where it is
-/// neither media over Srtp nor data channels over Sctp, and where this side has nothing for it.
+/// neither media over Srtp nor data channels over Sctp, and where this side has nothing for it. `theirs` are its rows,
+/// where it brings a round.
 pub(crate) fn choice_of(
     own: &OwnSide,
     config: &CodecConfig,
     offer: &Sdp,
     section: &MediaLine,
+    theirs: &[PayloadParams],
 ) -> Result<Choice, AllocError>
+    requires { BringsRound offer.now section.now → theirs.now ≡ rows section.now }
     ensures { IfOk result (IsChoice own.now config.now.params.items offer.now section.now) }
 {
     if is_section_stopped(offer, section) {
         return Ok(Choice::Rejected);
     }
-    open_choice(own, config, section)
+    open_choice(own, config, section, theirs)
 }

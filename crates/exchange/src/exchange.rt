@@ -16,7 +16,7 @@ ghost use Rattle.exchange.specs.FreshNames.{AreFresh};
 ghost use Rattle.exchange.specs.MadeOffer.{MakesOffer, placed_as, ready_with};
 ghost use Rattle.exchange.specs.Names.{grown};
 ghost use Rattle.exchange.specs.OfferRules.{IsNewName, IsOffered, KeepsPlaces};
-ghost use Rattle.exchange.specs.Offered.{IsOffer, Negotiates};
+ghost use Rattle.exchange.specs.Offered.{AreRoundsOf, IsOffer, Negotiates};
 ghost use Rattle.exchange.specs.OwnSide.{with_direction};
 ghost use Rattle.exchange.specs.Places.{StaysInPlaces};
 ghost use Rattle.exchange.specs.ReadBack.{IsReadBack};
@@ -38,7 +38,7 @@ use crate::made_offer::{made_offer, placed_as, taken_names};
 use crate::names::grown;
 use crate::offer::Offer;
 use crate::offer_section::has_rows;
-use crate::offered::{negotiate, whole_description};
+use crate::offered::{negotiate, rounds_of, whole_description};
 use crate::own_names::first_named_again;
 use crate::own_side::{OwnSide, with_direction};
 use crate::pending::Pending;
@@ -47,7 +47,9 @@ use crate::read_back::is_read_back;
 use crate::rule::Rule;
 use crate::signaling_state::SignalingState;
 use std::alloc::{AllocError, Global};
-use str0m_signal::{CodecConfig, Direction, IceCreds, Items, MediaKind, Mid, Sdp, VersionedSdp};
+use str0m_signal::{
+    CodecConfig, Direction, IceCreds, Items, MediaKind, Mid, Round, Sdp, VersionedSdp,
+};
 
 /// One side of an exchange of offers and answers (RFC 3264; RFC 8829).
 #[derive(Drop)]
@@ -73,6 +75,24 @@ pub(crate) fn is_printable(alloc: Global, sdp: &Sdp, version: u64) -> Result<boo
     is_read_back(alloc, sdp, text.as_str())
 }
 
+/// A copy of the configuration behind these rounds of an offer.
+pub(crate) fn negotiated_by(
+    config: &CodecConfig,
+    offer: &Sdp,
+    rounds: &[Round],
+) -> Result<CodecConfig, AllocError>
+    requires { AreRoundsOf offer.now offer.now.media_lines rounds.now }
+    ensures rounds { IfOk result (λ after. Negotiates offer.now config.now.params.items after.params.items) }
+    ensures stay { IfOk result (λ after. LockedStay config.now.params.items after.params.items) }
+    ensures distinct { AllDistinct (types config.now.params.items) → IfOk result (λ after. AllDistinct (types after.params.items)) }
+    ensures plain { All HasBoundedRows offer.now.media_lines → All IsPlain config.now.params.items → IfOk result (λ after. All IsPlain after.params.items) }
+    ensures distances { IfOk result (λ after. after.red_distances ≡ config.now.red_distances) }
+{
+    let mut config = config.clone()?;
+    negotiate(&mut config, offer, rounds)?;
+    Ok(config)
+}
+
 /// A copy of the configuration behind the rounds of an offer.
 pub(crate) fn negotiated(config: &CodecConfig, offer: &Sdp) -> Result<CodecConfig, AllocError>
     ensures rounds { IfOk result (λ after. Negotiates offer.now config.now.params.items after.params.items) }
@@ -81,9 +101,8 @@ pub(crate) fn negotiated(config: &CodecConfig, offer: &Sdp) -> Result<CodecConfi
     ensures plain { All HasBoundedRows offer.now.media_lines → All IsPlain config.now.params.items → IfOk result (λ after. All IsPlain after.params.items) }
     ensures distances { IfOk result (λ after. after.red_distances ≡ config.now.red_distances) }
 {
-    let mut config = config.clone()?;
-    negotiate(&mut config, offer)?;
-    Ok(config)
+    let rounds = rounds_of(*config.allocator(), offer)?;
+    negotiated_by(config, offer, rounds.as_slice())
 }
 
 impl Exchange {

@@ -1,17 +1,21 @@
 //! Offers that are read whole, and their rounds.
-ghost use Rattle.std.specs.Prelude.{◌≡◌, ◌≢◌, ◌==◌, ◌+◌, ◌↔◌, [], IfErr, IfOk, IsTrue, OnOk, All, count_by, length};
+ghost use Rattle.std.specs.Prelude.{◌≡◌, ◌≢◌, ◌==◌, ◌+◌, ◌∷◌, ◌↔◌, [], IfErr, IfOk, IsTrue, List, OnOk, All, count_by, length};
 ghost use Rattle.str0m_formats.specs.PlainRow.{IsPlain};
 ghost use Rattle.str0m_formats.specs.Rows.{types};
 ghost use Rattle.str0m_formats.specs.TypeSets.{AllDistinct};
 ghost use Rattle.str0m_formats.specs.Promises.{LockedStay};
 ghost use Rattle.str0m_sdp.specs.RowBounds.{HasBoundedRows};
+ghost use Rattle.str0m_sdp.specs.SectionRows.{rows};
+ghost use Rattle.str0m_sdp.specs.declared.media_line.MediaLine.{MediaLine};
 ghost use Rattle.str0m_signal.specs.FromLine.{IsFromLine};
 ghost use Rattle.exchange.specs.Offered.{AreRoundsOf, BringsRound, IsOffer, IsRoundOf, Negotiates, RefusesText};
 
 use crate::exchange_error::ExchangeError;
 use crate::stopped::is_section_stopped;
 use std::alloc::{AllocError, Global};
-use str0m_signal::{CodecConfig, MediaLine, NegotiationError, Proto, Round, Sdp, Text, sdp_parser};
+use str0m_signal::{
+    CodecConfig, MediaLine, NegotiationError, PayloadParams, Proto, Round, Sdp, Text, sdp_parser,
+};
 
 fn line_feeds(bytes: &[u8]) -> usize
     ensures { result ≡ count_by (λ byte. byte == 10) bytes.now }
@@ -50,7 +54,7 @@ pub(crate) fn whole_description(alloc: Global, text: &str) -> Result<Sdp, Exchan
 }
 
 /// Whether a section brings a round.
-fn is_negotiated(offer: &Sdp, section: &MediaLine) -> bool
+pub(crate) fn is_negotiated(offer: &Sdp, section: &MediaLine) -> bool
     ensures { IsTrue result ↔ BringsRound offer.now section.now }
 {
     !is_section_stopped(offer, section)
@@ -68,7 +72,7 @@ fn round_of(section: &MediaLine) -> Result<Round, AllocError>
 
 /// The rounds of the sections of media that aren't stopped, in order.
 #[tactic(auto, using(crate::proofs::RoundLaws::none_more, crate::proofs::RoundLaws::one_more))]
-fn rounds_of(alloc: Global, offer: &Sdp) -> Result<Vec<Round>, AllocError>
+pub(crate) fn rounds_of(alloc: Global, offer: &Sdp) -> Result<Vec<Round>, AllocError>
     ensures { IfOk result (λ rounds. AreRoundsOf offer.now offer.now.media_lines rounds.items) }
 {
     let sections = offer.media_lines.as_slice();
@@ -87,16 +91,39 @@ fn lacked_memory(outcomes: &[Result<(), NegotiationError>]) -> bool {
         .any(|outcome| matches!(outcome, Err(NegotiationError::Memory)))
 }
 
+/// The rows of a section that stands next, where it brings the round that does, and the rounds behind it.
+pub(crate) fn rows_of_next<'a>(
+    offer: &Sdp,
+    section: &MediaLine,
+    rounds: &'a [Round],
+) -> (&'a [PayloadParams], &'a [Round])
+    ensures rows { (later : List MediaLine) → AreRoundsOf offer.now (section.now ∷ later) rounds.now → BringsRound offer.now section.now
+        → result.0.now ≡ rows section.now }
+    ensures later { (later : List MediaLine) → AreRoundsOf offer.now (section.now ∷ later) rounds.now → AreRoundsOf offer.now later result.1.now }
+{
+    if !is_negotiated(offer, section) {
+        return (&[], rounds);
+    }
+    match rounds.split_first() {
+        Some((round, later)) => (round.remote.as_slice(), later),
+        None => (&[], rounds),
+    }
+}
+
 /// Runs the rounds of an offer.
-pub(crate) fn negotiate(config: &mut CodecConfig, offer: &Sdp) -> Result<(), AllocError>
+pub(crate) fn negotiate(
+    config: &mut CodecConfig,
+    offer: &Sdp,
+    rounds: &[Round],
+) -> Result<(), AllocError>
+    requires { AreRoundsOf offer.now offer.now.media_lines rounds.now }
     ensures ok { OnOk result (Negotiates offer.now config.old.params.items config.new.params.items) }
     ensures stay { OnOk result (LockedStay config.old.params.items config.new.params.items) }
     ensures distinct { AllDistinct (types config.old.params.items) → OnOk result (AllDistinct (types config.new.params.items)) }
     ensures plain { All HasBoundedRows offer.now.media_lines → All IsPlain config.old.params.items → OnOk result (All IsPlain config.new.params.items) }
     ensures else_same { config.new ≡ record config.old { params = config.new.params } }
 {
-    let rounds = rounds_of(*config.allocator(), offer)?;
-    let outcomes = config.update_all(rounds.as_slice())?;
+    let outcomes = config.update_all(rounds)?;
     if lacked_memory(outcomes.as_slice()) {
         return Err(AllocError);
     }

@@ -6,6 +6,7 @@ ghost use Rattle.str0m_formats.specs.Rows.{locked_types, types};
 ghost use Rattle.str0m_formats.specs.TypeSets.{AllDistinct, has};
 ghost use Rattle.str0m_formats.specs.declared.payload_params.PayloadParams.{PayloadParams};
 ghost use Rattle.str0m_sdp.specs.Lists.{distinct};
+ghost use Rattle.str0m_sdp.specs.SectionRows.{rows};
 ghost use Rattle.exchange.specs.Rows.{IsAgreed, Belongs, KeepsPlain, SaysWhatIsOffered, agreed_type, as_answered, is_answered, is_carried_in, matches, answer_to, answer_under, answered_rows, own_types};
 
 use crate::offered_feedback::offered_feedback;
@@ -136,7 +137,7 @@ fn push_new(once: &mut Vec<Pt>, pt: Pt) -> Result<(), AllocError>
 fn each_once(alloc: Global, listed: &[Pt]) -> Result<Vec<Pt>, AllocError>
     ensures { IfOk result (λ once. once.items ≡ distinct ◌==◌ listed.now) }
 {
-    let mut once = Vec::new(alloc);
+    let mut once = Vec::with_capacity(alloc, listed.len())?;
     for pt in listed {
         push_new(&mut once, *pt)?;
     }
@@ -164,7 +165,7 @@ fn answers_under(
 ) -> Result<Vec<PayloadParams>, AllocError>
     ensures { IfOk result (λ rows. rows.items ≡ filter_map (answer_under own.now section.now offered.now) listed.now) }
 {
-    let mut rows = Vec::new(*section.attrs.allocator());
+    let mut rows = Vec::with_capacity(*section.attrs.allocator(), offered.len())?;
     for pt in listed {
         let answer = answer_under(own, section, offered, *pt);
         push_answer(&mut rows, answer)?;
@@ -172,18 +173,19 @@ fn answers_under(
     Ok(rows)
 }
 
-/// What the answer says of each type of the m-line.
+/// What the answer says of each type of the m-line of a section that offers these rows.
 #[tactic(auto, unfolding(crate::specs::Rows::answered_rows))]
-fn answered_rows(
+pub(crate) fn answered_rows(
     own: &[PayloadParams],
     section: &MediaLine,
+    offered: &[PayloadParams],
 ) -> Result<Vec<PayloadParams>, AllocError>
-    ensures { IfOk result (λ rows. rows.items ≡ answered_rows own.now section.now) }
+    requires { offered.now ≡ rows section.now }
+    ensures { IfOk result (λ answer. answer.items ≡ answered_rows own.now section.now) }
 {
-    let offered = section.rtp_params()?;
     let listed = each_once(*section.attrs.allocator(), section.pts.as_slice())?;
-    let rows = answers_under(own, section, offered.as_slice(), listed.as_slice())?;
-    Ok(rows)
+    let answer = answers_under(own, section, offered, listed.as_slice())?;
+    Ok(answer)
 }
 
 /// The rows by which this side answers an offered section: those of the configuration that are locked, of the section's kind
@@ -210,6 +212,7 @@ pub fn rows_for(config: &CodecConfig, section: &MediaLine) -> Result<Vec<Payload
     ensures plain { All IsPlain config.now.params.items → IfOk result (λ rows. All KeepsPlain rows.items) }
     ensures complete { IfOk result (λ rows. (ours : PayloadParams) → Belongs config.now.params.items section.now ours → Contains (own_types rows.items) ours.pt) }
 {
-    let rows = answered_rows(config.params(), section)?;
+    let offered = section.rtp_params()?;
+    let rows = answered_rows(config.params(), section, offered.as_slice())?;
     Ok(rows)
 }

@@ -35,7 +35,7 @@ returns-clause-distinct c = λ distinct.
 pub returns-clause-sound : goal.returns-clause-sound
 returns-clause-sound c = λ sound.
     let stable : state_of c.args.self.now ≡ Stable = search rules in
-    let named : c.in_ok-names.names ≡ grown c.args.self.now.names c.in_ok-local.local.media_lines = cc (c.in_ok-names.ensures, c.as_slice.ensures) in
+    let named : c.in_ok-names.names ≡ grown c.args.self.now.names c.in_ok-local.local.media_lines = cc (c.in_ok-names.ensures, c.as_slice-3.ensures) in
     let same : section_mids c.in_ok-local.local.media_lines ≡ section_mids c.in_ok-remote.remote.media_lines =
     ap (λ (sdp : Sdp). section_mids sdp.media_lines) c.in_ok-local.ensures ∙ c.in_ok-sdp.ensures.names in
     sound_done _ c.args.self.now.names c.in_ok-local.local (subst AreDistinct (sym same) c.in_ok-remote.ensures.different)
@@ -44,7 +44,7 @@ returns-clause-sound c = λ sound.
 
 pub returns-clause-follows : goal.returns-clause-follows
 returns-clause-follows c =
-    let named : c.in_ok-names.names ≡ grown c.args.self.now.names c.in_ok-sdp.sdp.media_lines = cc (c.in_ok-names.ensures, c.as_slice.ensures, c.in_ok-local.ensures) in
+    let named : c.in_ok-names.names ≡ grown c.args.self.now.names c.in_ok-sdp.sdp.media_lines = cc (c.in_ok-names.ensures, c.as_slice-3.ensures, c.in_ok-local.ensures) in
     follows_answer c.args.self.now _ c.in_ok-remote.remote c.in_ok-sdp.sdp c.in_ok-remote.ensures.placed c.in_ok-sdp.ensures.shape
     (ap (λ (after : Exchange). after.local) c.settle.ensures ∙ ap (λ (sdp : Sdp). Some sdp) c.in_ok-local.ensures)
     (ap (λ (after : Exchange). after.names) c.settle.ensures ∙ named)

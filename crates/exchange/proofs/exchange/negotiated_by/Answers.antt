@@ -3,7 +3,7 @@ use Rattle.str0m_formats.specs.PlainRow.{IsPlain}
 use Rattle.str0m_formats.specs.Rows.{types}
 use Rattle.str0m_formats.specs.TypeSets.{AllDistinct}
 use Rattle.str0m_formats.specs.declared.payload_params.PayloadParams.{PayloadParams}
-use Rattle.exchange.proofs.exchange.negotiated.Goals as goal
+use Rattle.exchange.proofs.exchange.negotiated_by.Goals as goal
 
 pub returns-clause-distinct : goal.returns-clause-distinct
 returns-clause-distinct c = λ distinct.
