@@ -179,10 +179,11 @@ fn media_lines(
     Ok(lines)
 }
 
-/// How many lines a section may have, as a guess that most don't pass: no answer depends on it.
+/// How many lines a section may have, as a guess that most don't pass: no answer depends on it. A stranger's long section doesn't
+/// ask for room that its answer won't take.
 fn likely_lines(own: &OwnSide, offered: &MediaLine) -> usize {
     let extra = own.candidates.as_slice().len().saturating_add(8);
-    offered.attrs.as_slice().len().saturating_add(extra)
+    offered.attrs.as_slice().len().min(256).saturating_add(extra)
 }
 
 /// The payload types of rows, of each row its own, then that of RTX, then that of RED.
