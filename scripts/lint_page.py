@@ -57,9 +57,9 @@ def generated():
         kind, head = HEADS[name]
         each = [severity[it] for it in changes()] if kind == "Changed" else [severity[kind]] * len(rows)
         yield f"## {head}: {' and '.join(f'{it}s' for it in dict.fromkeys(each))}\n"
-        yield "| Code | What is wrong | What to do | Why | Example |\n|---|---|---|---|---|"
+        yield "| Code | What is wrong | What to do | Why | What gives it |\n|---|---|---|---|---|"
         for row, own in zip(rows, each, strict=True):
-            example = f"`{row['example']}`" if row["example"] else "an empty file"
+            example = f"`{row['example']}`"
             yield cell(f"`{row['name']}`" + f", {own}" * (len(set(each)) > 1)) + " | ".join(["", *(cell(it) for it in (row["title"], row["remedy"], f"{row['explanation']} ({row['source']})", example))])
         yield ""
 

@@ -13,7 +13,7 @@ pub struct Row {
     pub explanation: &'static str,
     /// The standard and its section.
     pub source: &'static str,
-    /// What gives the finding: a line, or a few words; empty for the empty text.
+    /// What gives the finding: a line, or a few words.
     pub example: &'static str,
 }
 
@@ -25,7 +25,7 @@ pub static REFUSALS: [Row; 16] = [
         remedy: "hand over the session description, which begins with `v=0`",
         explanation: "Nothing was handed over: an empty file, a variable without a value, or an answer that was never made.",
         source: "RFC 8866, section 5",
-        example: "",
+        example: "an empty file",
     },
     Row {
         name: "byte-order-mark",
@@ -46,7 +46,7 @@ pub static REFUSALS: [Row; 16] = [
     Row {
         name: "version-line",
         title: "the first line has to be `v=0`",
-        remedy: "let the text begin with the line `v=0`, without blanks or blank lines before it",
+        remedy: "let `v=0` be the first line, with no blank and no blank line before it: in place of a line of another version",
         explanation: "A description begins with the version of the protocol, which is 0.",
         source: "RFC 8866, section 5.1",
         example: "v=1",
@@ -54,7 +54,7 @@ pub static REFUSALS: [Row; 16] = [
     Row {
         name: "origin-line",
         title: "the second line has to be `o=`, a name, a number and more, with one space between each two",
-        remedy: "write `o=- 1 1 IN IP4 0.0.0.0` here",
+        remedy: "let the second line be as `o=- 1 1 IN IP4 0.0.0.0`: the third part is a number of at most 64 bits",
         explanation: "The origin names the session: a user name without spaces, the number of the session in at most 64 bits, and its version and address, which aren't kept.",
         source: "RFC 8866, section 5.2",
         example: "o=- session 1 IN IP4 0.0.0.0",
@@ -62,7 +62,7 @@ pub static REFUSALS: [Row; 16] = [
     Row {
         name: "name-line",
         title: "the third line has to be `s=` and a name",
-        remedy: "write `s=-` here, which stands for no name",
+        remedy: "let the third line be `s=` and the name, or `s=-` for no name, with a small `s`",
         explanation: "Each session has a name of one or more characters; `-` or a space stands for none.",
         source: "RFC 8866, section 5.3",
         example: "s=",
@@ -70,7 +70,7 @@ pub static REFUSALS: [Row; 16] = [
     Row {
         name: "time-line",
         title: "the header has to end with the line `t=0 0`",
-        remedy: "write `t=0 0` before this line, behind `s=` and a `b=` line",
+        remedy: "let `t=0 0` be the line after `s=` (after a `b=` line, if there is one), in place of any other `t=` line: other times aren't kept",
         explanation: "Behind `v=`, `o=` and `s=` stand any `i=`, `u=`, `e=`, `p=`, `c=`, `z=` and `k=` lines, then at most one `b=` line, then `t=0 0`: a session without bounds, as browsers write it.",
         source: "RFC 8866, section 5.9",
         example: "t=3034423619 3042462419",
@@ -78,15 +78,15 @@ pub static REFUSALS: [Row; 16] = [
     Row {
         name: "missing-mid",
         title: "this m-section has no `a=mid`",
-        remedy: "write `a=mid:NAME` into the section, with a name that no other section has",
-        explanation: "Each section has a name, by which groups and candidates speak of it. A line that fits nowhere ends the section, so that a mid behind it isn't read.",
+        remedy: "write `a=mid:NAME` into the section, with a name that no other section has; but where its reading ended, mend that line first, since the mid may stand after it",
+        explanation: "Each section has a name, by which groups and candidates speak of it. A line that fits nowhere ends the section, so that a mid after it isn't read.",
         source: "RFC 8829, section 5.2.1; RFC 5888, section 4",
         example: "m=audio 9 UDP/TLS/RTP/SAVPF 0",
     },
     Row {
         name: "second-mid",
         title: "this m-section has a second `a=mid`",
-        remedy: "take one of the lines out",
+        remedy: "leave the name that groups and candidates use, and take the other line out",
         explanation: "A section has one name.",
         source: "RFC 5888, section 4",
         example: "a=mid:0 twice in a section",
@@ -94,15 +94,15 @@ pub static REFUSALS: [Row; 16] = [
     Row {
         name: "second-setup",
         title: "this m-section has a second `a=setup`",
-        remedy: "take one of the lines out",
+        remedy: "leave the role that is meant, and take the other line out",
         explanation: "A section has one role in the handshake of DTLS.",
         source: "RFC 8842, section 5.2",
-        example: "a=setup:active behind a=setup:actpass",
+        example: "a=setup:active after a=setup:actpass",
     },
     Row {
         name: "missing-direction",
         title: "this m-section has no direction",
-        remedy: "write `a=sendrecv`, `a=sendonly`, `a=recvonly` or `a=inactive` into the section",
+        remedy: "write `a=sendrecv`, `a=sendonly`, `a=recvonly` or `a=inactive` into the section; but where its reading ended, mend that line first, since the direction may stand after it",
         explanation: "RFC 8866 takes a section without a direction for one that sends and receives. This layer asks for the line, which every browser writes.",
         source: "RFC 8866, section 6.7; RFC 8829, section 5.2.1",
         example: "m=audio 9 UDP/TLS/RTP/SAVPF 0",
@@ -110,15 +110,15 @@ pub static REFUSALS: [Row; 16] = [
     Row {
         name: "second-direction",
         title: "this m-section has two directions",
-        remedy: "take one of the lines out",
+        remedy: "leave the direction that is meant, and take the other line out",
         explanation: "A section has one of `sendrecv`, `sendonly`, `recvonly` and `inactive`.",
         source: "RFC 8866, section 6.7",
-        example: "a=sendonly behind a=sendrecv",
+        example: "a=sendonly after a=sendrecv",
     },
     Row {
         name: "missing-type",
         title: "this m-section lists no payload type",
-        remedy: "list the payload types of the section behind its protocol",
+        remedy: "list the payload types of the section after its protocol",
         explanation: "A section over RTP that isn't disabled lists the numbers of its codecs, 0 to 127.",
         source: "RFC 8866, section 5.14",
         example: "m=audio 9 UDP/TLS/RTP/SAVPF opus",
@@ -126,7 +126,7 @@ pub static REFUSALS: [Row; 16] = [
     Row {
         name: "missing-rtpmap",
         title: "a payload type of this m-line has no `a=rtpmap`",
-        remedy: "write `a=rtpmap:TYPE CODEC/RATE` into the section, or take the type out of the m-line",
+        remedy: "mend the `a=rtpmap` line of the type where a warning says that it isn't read; else write `a=rtpmap:TYPE CODEC/RATE` into the section, or take the type out of the m-line",
         explanation: "Each payload type of an m-line is bound to a codec by one `a=rtpmap` line; PCMU, PCMA, G722 and CN (0, 8, 9 and 13) may go without. A line that is malformed says nothing.",
         source: "RFC 8866, section 6.6; RFC 3551, section 6",
         example: "m=audio 9 UDP/TLS/RTP/SAVPF 111",
@@ -134,18 +134,18 @@ pub static REFUSALS: [Row; 16] = [
     Row {
         name: "second-rtpmap",
         title: "a payload type of this m-line has two `a=rtpmap` lines",
-        remedy: "take one of the lines out, or give it a type of its own",
+        remedy: "take one of the lines out, or give it another type, and list that in the m-line, too",
         explanation: "A payload type stands for one codec.",
         source: "RFC 8866, section 6.6",
-        example: "a=rtpmap:96 VP9/90000 behind a=rtpmap:96 VP8/90000",
+        example: "a=rtpmap:96 VP9/90000 after a=rtpmap:96 VP8/90000",
     },
     Row {
         name: "apt-clash",
         title: "the `a=fmtp` lines of a payload type name two primary types by `apt`",
-        remedy: "leave one `apt` for each payload type",
+        remedy: "leave the `apt` whose type stands in the m-line, and take the other line out",
         explanation: "Retransmissions of a payload type belong to one primary type.",
         source: "RFC 4588, section 8.1",
-        example: "a=fmtp:97 apt=98 behind a=fmtp:97 apt=96",
+        example: "a=fmtp:97 apt=98 after a=fmtp:97 apt=96",
     },
 ];
 
@@ -162,7 +162,7 @@ pub static UNFITS: [Row; 10] = [
     Row {
         name: "lone-return",
         title: "a carriage return without a line feed stands in this line",
-        remedy: "end lines with CR LF, or with LF alone",
+        remedy: "put a line end (CR LF, or LF) in place of this carriage return: two lines have run together",
         explanation: "A line ends with CR LF, or with LF. A carriage return alone ends none, so that two lines have run together here.",
         source: "RFC 8866, section 5 and section 9",
         example: "a=mid:0\\ra=sendrecv\\n",
@@ -186,7 +186,7 @@ pub static UNFITS: [Row; 10] = [
     Row {
         name: "m-line-protocol",
         title: "the protocol of this m-line isn't read",
-        remedy: "write `UDP/TLS/RTP/SAVPF` for media, `UDP/DTLS/SCTP` for data channels",
+        remedy: "have the media sent over `UDP/TLS/RTP/SAVPF`, data channels over `UDP/DTLS/SCTP`, as WebRTC does: no other protocol is read",
         explanation: "WebRTC carries media by RTP over DTLS and UDP, with feedback, and data channels by SCTP over DTLS. Sections of other protocols, as of SIP phones and gateways, end the reading.",
         source: "RFC 8829, section 5.1.2; RFC 5764, section 8; RFC 8841, section 4",
         example: "m=audio 49170 RTP/AVP 0",
@@ -194,7 +194,7 @@ pub static UNFITS: [Row; 10] = [
     Row {
         name: "m-line-formats",
         title: "the formats of this m-line begin with a space",
-        remedy: "write one space behind the protocol",
+        remedy: "write one space after the protocol",
         explanation: "One space stands between each two parts of an m-line.",
         source: "RFC 8866, section 5.14",
         example: "m=audio 9 UDP/TLS/RTP/SAVPF  0",
@@ -202,22 +202,22 @@ pub static UNFITS: [Row; 10] = [
     Row {
         name: "connection-place",
         title: "a `c=` line doesn't stand here",
-        remedy: "put it right behind the m-line, and leave one for a section",
-        explanation: "A `c=` line stands in the header, or right behind an m-line, once.",
+        remedy: "leave one `c=` line for a section, right after its m-line, and take others out: no address of it is kept",
+        explanation: "A `c=` line stands in the header, or right after an m-line, once.",
         source: "RFC 8866, section 5.7",
-        example: "c=IN IP4 0.0.0.0 behind a=mid:0",
+        example: "c=IN IP4 0.0.0.0 after a=mid:0",
     },
     Row {
         name: "bandwidth-place",
         title: "a `b=` line doesn't stand here",
-        remedy: "put one `b=TYPE:VALUE` line behind the m-line and its `c=` line",
-        explanation: "One `b=` line stands in the header before `t=`, or behind an m-line and its `c=` line. This layer reads the first of several alone.",
+        remedy: "put one `b=TYPE:VALUE` line after the m-line, after its `c=` line where it has one",
+        explanation: "One `b=` line stands in the header before `t=`, or after an m-line and its `c=` line. This layer reads the first of several alone.",
         source: "RFC 8866, section 5.8",
-        example: "b=AS:64 behind b=TIAS:64000",
+        example: "b=AS:64 after b=TIAS:64000",
     },
     Row {
         name: "empty-attribute",
-        title: "nothing stands behind `a=`",
+        title: "nothing stands after `a=`",
         remedy: "write the attribute, or take the line out",
         explanation: "An attribute has a name.",
         source: "RFC 8866, section 5.13",
@@ -226,10 +226,10 @@ pub static UNFITS: [Row; 10] = [
     Row {
         name: "no-line-form",
         title: "this is neither an attribute line nor an m-line",
-        remedy: "take the line out, or begin it with `a=`",
-        explanation: "In a session's attributes and in sections stand lines that begin with `a=`, and m-lines begin sections. Names of lines are lower case, with no blank before and behind the name.",
+        remedy: "take out what stands before `a=` where this is an attribute, be it a blank; else take the line out",
+        explanation: "In a session's attributes and in sections stand lines that begin with `a=`, and m-lines begin sections. Names of lines are lower case, with no blank before and after the name.",
         source: "RFC 8866, section 5",
-        example: " a=mid:0",
+        example: "a blank before a=mid:0",
     },
 ];
 
@@ -238,7 +238,7 @@ pub static MISFITS: [Row; 13] = [
     Row {
         name: "payload-type",
         title: "this is no payload type",
-        remedy: "write a number from 0 to 127",
+        remedy: "choose a number from 0 to 127 that the section doesn't use, and write it into each of its lines and into the m-line",
         explanation: "Payload types have seven bits.",
         source: "RFC 8866, section 6.6; RFC 3550, section 5.1",
         example: "a=rtpmap:128 opus/48000/2",
@@ -270,7 +270,7 @@ pub static MISFITS: [Row; 13] = [
     Row {
         name: "host-name",
         title: "the address of this candidate is no IP address",
-        remedy: "gather candidates with IP addresses, or resolve the name before the text is read",
+        remedy: "resolve the name before the text is read, or leave the line: it is kept as it stands, and only this candidate isn't used",
         explanation: "Browsers hide local addresses behind names that end in `.local` and are resolved by multicast DNS. This layer resolves no names: such a candidate isn't among its candidates.",
         source: "RFC 8839, section 5.1",
         example: "a=candidate:1 1 udp 2122260223 a1b2.local 54321 typ host",
@@ -309,8 +309,8 @@ pub static MISFITS: [Row; 13] = [
     },
     Row {
         name: "empty-value",
-        title: "nothing stands behind the name",
-        remedy: "write the value behind the colon, or take the line out",
+        title: "nothing stands after the name",
+        remedy: "write the value after the colon, or take the line out",
         explanation: "This attribute has a value.",
         source: "RFC 8866, section 5.13",
         example: "a=mid:",
@@ -325,9 +325,9 @@ pub static MISFITS: [Row; 13] = [
     },
     Row {
         name: "word-alone",
-        title: "something stands behind this attribute, which is a word alone",
-        remedy: "end the line behind the word",
-        explanation: "This attribute has no value; a blank behind it is something, too.",
+        title: "something stands after this attribute, which is a word alone",
+        remedy: "end the line after the word",
+        explanation: "This attribute has no value; a blank after it is something, too.",
         source: "RFC 8866, section 5.13",
         example: "a=rtcp-mux:1",
     },
@@ -485,7 +485,7 @@ pub static CONFLICTS: [Row; 8] = [
         name: "group-of-nothing",
         title: "this group names a mid that no m-section has",
         remedy: "take the name out of the group, or write `a=mid` with it into the section that is meant",
-        explanation: "A group lists the mids of sections. Where reading ended early, the section may stand behind.",
+        explanation: "A group lists the mids of sections. Where reading ended early, the section may stand after that.",
         source: "RFC 5888, section 5",
         example: "a=group:BUNDLE 0 1 with one section",
     },
@@ -525,7 +525,7 @@ pub static CONFLICTS: [Row; 8] = [
         name: "not-writable",
         title: "rows can't be written back into this description because of this line",
         remedy: "write `UDP/DTLS/SCTP` for data channels, payload types for media, and one space before `pt=`",
-        explanation: "What is printed of this line is read as something else: a restriction `pt` behind two spaces as payload types, data channels over RTP as a section without types, and media without types as type 0. So rows that are put into an audio or video section over RTP aren't read back (`is_writable`).",
+        explanation: "What is printed of this line is read as something else: a restriction `pt` after two spaces as payload types, data channels over RTP as a section without types, and media without types as type 0. So rows that are put into an audio or video section over RTP aren't read back (`is_writable`).",
         source: "RFC 8851, section 10; RFC 8841, section 4; RFC 8866, section 5.14",
         example: "a=rid:lo send  pt=5",
     },

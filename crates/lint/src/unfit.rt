@@ -142,10 +142,10 @@ fn hidden(alloc: Global, part: Part<'_>, rest: &str) -> Result<String, AllocErro
     };
     let lines = counted(alloc, lines, "line")?;
     if sections == 0 {
-        return format!(in alloc; "{subject} hides {lines} behind it");
+        return format!(in alloc; "{subject} hides {lines} after it");
     }
     let sections = counted(alloc, sections, "m-line")?;
-    format!(in alloc; "{subject} hides {lines} behind it, {sections} among them")
+    format!(in alloc; "{subject} hides {lines} after it, {sections} among them")
 }
 
 /// Says that reading ended at the first line of the rest, which has this number, why, and what stands behind it.

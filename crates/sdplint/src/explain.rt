@@ -26,7 +26,7 @@ pub(crate) fn explanation(alloc: Global, name: &str) -> Result<String, Fault> {
     let (title, explanation, remedy) = (row.title, row.explanation, row.remedy);
     let (source, example) = (row.source, row.example);
     let text = format!(in alloc;
-        "{name}: {title}\n\n{explanation}\n\nWhat to do: {remedy}.\nSource: {source}.\nExample: {example}\n"
+        "{name}: {title}\n\n{explanation}\n\nWhat to do: {remedy}.\nSource: {source}.\nWhat gives it: {example}\n"
     )?;
     Ok(text)
 }
