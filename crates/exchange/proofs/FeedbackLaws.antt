@@ -1,5 +1,5 @@
 -- The feedback that the lines of a section offer, one line more.
-use Rattle.std.proofs.Common.{◌≡◌, ◌<◌, ◌+◌, ◌==◌, ◌||◌, ◌&&◌, ℕ, Bool, true, false, List, [], length, take, get_or, Option, Some, None, refl, ap, ◌∙◌, bytes_eq, if◌then◌else◌}
+use Rattle.std.proofs.Common.{◌≡◌, ◌<◌, ◌+◌, ◌==◌, ◌||◌, ◌&&◌, ℕ, Bool, true, false, List, [], length, take, get_or, Some, None, refl, ap, ◌∙◌, bytes_eq, if◌then◌else◌}
 use Rattle.str0m_sdp.proofs.TypeMarks.{any_more, any_same}
 use Rattle.str0m_sdp.specs.declared.attribute.MediaAttribute.{MediaAttribute}
 use Rattle.str0m_sdp.specs.declared.attribute.MediaAttribute.TheVariants.{RtcpFb, Unused}

@@ -183,7 +183,12 @@ fn media_lines(
 /// ask for room that its answer won't take.
 fn likely_lines(own: &OwnSide, offered: &MediaLine) -> usize {
     let extra = own.candidates.as_slice().len().saturating_add(8);
-    offered.attrs.as_slice().len().min(256).saturating_add(extra)
+    offered
+        .attrs
+        .as_slice()
+        .len()
+        .min(256)
+        .saturating_add(extra)
 }
 
 /// The payload types of rows, of each row its own, then that of RTX, then that of RED.
