@@ -22,21 +22,23 @@ HEADS = {  # (of each table the kind, its severity and its head)
     "UNSEENS": ("Unseen", "What a line that is read leaves unknown"),
     "CHANGES": ("Changed", "What is lost where a line is printed otherwise"),
     "CONFLICTS": ("Contradiction", "What a line says against others"),
+    "FATES": ("Round", "What would come of rounds"),
 }
+OWN = {"Changed": "Change", "Round": "Fate"}  # (kinds whose severity is that of a case of this enum)
 FIELDS = ("name", "title", "remedy", "explanation", "source", "example")
 ESCAPE = re.compile(r"\\(.)")
 
 
 def severities():
-    """The severity of each kind, and of each change, as code.rt has it."""
-    for kinds, severity in re.findall(r"((?:(?:Code|Change)::\w+(?:\(_\))?(?:\s*\| )?)+)\s*=>\s*(?:\{\s*)?Severity::(\w+)", CODES.read_text("utf-8")):
+    """The severity of each kind, of each change and of what comes of rounds, as code.rt has it."""
+    for kinds, severity in re.findall(r"((?:(?:Code|Change|Fate)::\w+(?:\(_\))?(?:\s*\| )?)+)\s*=>\s*(?:\{\s*)?Severity::(\w+)", CODES.read_text("utf-8")):
         for kind in re.findall(r"::(\w+)", kinds):
             yield kind, severity.lower()
 
 
-def changes():
-    """The changes, in the order of their rows."""
-    return re.findall(r"^    (\w+),$", re.search(r"^pub enum Change \{\n(.*?)^\}", CODES.read_text("utf-8"), re.M | re.S)[1], re.M)
+def cases_of(enum):
+    """The cases of an enum, in the order of their rows."""
+    return re.findall(r"^    (\w+),$", re.search(rf"^pub enum {enum} \{{\n(.*?)^\}}", CODES.read_text("utf-8"), re.M | re.S)[1], re.M)
 
 
 def tables():
@@ -55,7 +57,7 @@ def generated():
     severity = dict(severities())
     for name, rows in tables():
         kind, head = HEADS[name]
-        each = [severity[it] for it in changes()] if kind == "Changed" else [severity[kind]] * len(rows)
+        each = [severity[it] for it in cases_of(OWN[kind])] if kind in OWN else [severity[kind]] * len(rows)
         yield f"## {head}: {' and '.join(f'{it}s' for it in dict.fromkeys(each))}\n"
         yield "| Code | What is wrong | What to do | Why | What gives it |\n|---|---|---|---|---|"
         for row, own in zip(rows, each, strict=True):
@@ -77,7 +79,7 @@ def faults():
         yield "docs/LINT.md: call scripts/lint_page.py --write"
     cases = "".join(it.read_text("utf-8") for it in (TOP / "cases" / "lint").glob("*.txt"))
     for name, rows in tables():
-        yield from (f"no case of cases/lint/ finds {row['name']}" for row in rows if not re.search(rf"^=> \d+:\d+ {row['name']}$", cases, re.M))
+        yield from (f"no case of cases/lint/ finds {row['name']}" for row in rows if not re.search(rf"^=> \d+:\d+ {row['name']}(?:: .*)?$", cases, re.M))
 
 
 def main():

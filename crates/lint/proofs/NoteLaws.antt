@@ -8,7 +8,7 @@ use Rattle.lint.specs.Code.{is_refusal, is_end, is_kept, is_change}
 use Rattle.lint.specs.Findings.{AddsOne, Ends, Keeps, OnlyChanges, SaysElse, ends, is_changed, is_refused, kept, line_if, lines_of_kind}
 use Rattle.lint.specs.Lines.{IsNumbered}
 use Rattle.lint.specs.declared.code.Code.{Code}
-use Rattle.lint.specs.declared.code.Code.TheVariants.{Refused, Unread, Malformed, Unknown, Unseen, Changed, Contradiction}
+use Rattle.lint.specs.declared.code.Code.TheVariants.{Refused, Unread, Malformed, Unknown, Unseen, Changed, Contradiction, Round}
 use Rattle.lint.specs.declared.code.Change.{Change}
 use Rattle.lint.specs.declared.code.Conflict.{Conflict}
 use Rattle.lint.specs.declared.code.Refusal.{Refusal}
@@ -94,6 +94,7 @@ keeps_one line (Unread unfit) old new is here a last = absurd cc
 keeps_one line (Unseen what) old new is here a last = absurd cc
 keeps_one line (Changed change) old new is here a last = absurd cc
 keeps_one line (Contradiction conflict) old new is here a last = absurd cc
+keeps_one line (Round fate) old new is here a last = absurd cc
 
 -- the line at which reading ends
 pub ends_one : (line : ℕ) (unfit : Unfit) (old new : Notes) → IsNumbered old.last line → AddsOne line (Unread unfit) old new → new.last ≡ old.last

@@ -1,9 +1,11 @@
 -- What codes say.
 use Rattle.std.specs.Prelude.{ℕ, Bool, true, false, List, codes}
 use Rattle.lint.specs.declared.code.Code.{Code}
-use Rattle.lint.specs.declared.code.Code.TheVariants.{Refused, Unread, Malformed, Unknown, Unseen, Changed, Contradiction}
+use Rattle.lint.specs.declared.code.Code.TheVariants.{Refused, Unread, Malformed, Unknown, Unseen, Changed, Contradiction, Round}
 use Rattle.lint.specs.declared.code.Change.{Change}
 use Rattle.lint.specs.declared.code.Change.TheVariants.{HeaderLine, Protocol, Candidate, Spelling}
+use Rattle.lint.specs.declared.code.Fate.{Fate}
+use Rattle.lint.specs.declared.code.Fate.TheVariants.{RefusedRound}
 use Rattle.lint.specs.declared.code.Severity.{Severity}
 use Rattle.lint.specs.declared.code.Severity.TheVariants.{Error, Warning, Note}
 
@@ -15,6 +17,11 @@ severity_of_change Candidate = Note
 severity_of_change Spelling = Note
 severity_of_change _ = Warning
 
+-- what comes of a row is a note, a round that is refused a warning
+abbrev pub severity_of_fate : Fate → Severity
+severity_of_fate RefusedRound = Warning
+severity_of_fate _ = Note
+
 abbrev pub severity_of : Code → Severity
 severity_of (Refused refusal) = Error
 severity_of (Unread unfit) = Error
@@ -23,6 +30,7 @@ severity_of (Unknown unknown) = Note
 severity_of (Unseen unseen) = Note
 severity_of (Changed change) = severity_of_change change
 severity_of (Contradiction conflict) = Warning
+severity_of (Round fate) = severity_of_fate fate
 
 -- as reports write it
 abbrev pub severity_word : Severity → List ℕ

@@ -1,4 +1,5 @@
 pub mod Code
+pub mod Fates
 pub mod Findings
 pub mod Kept
 pub mod Lines

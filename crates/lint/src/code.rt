@@ -1,6 +1,6 @@
 //! The codes of findings: what is wrong, by kind.
 ghost use Rattle.std.specs.Prelude.{◌≡◌};
-ghost use Rattle.lint.specs.Code.{is_change, severity_of, severity_of_change, severity_word};
+ghost use Rattle.lint.specs.Code.{is_change, severity_of, severity_of_change, severity_of_fate, severity_word};
 
 use crate::rows;
 use crate::rows::Row;
@@ -205,6 +205,36 @@ pub enum Conflict {
     NotWritable,
 }
 
+/// What comes of a row of the other side in a round of negotiation, or of the round.
+#[derive(Clone, Copy, Debug)]
+pub enum Fate {
+    /// A row of this side is locked to it.
+    Locked,
+    /// This side has no row of its codec.
+    NoCodec,
+    /// This side has rows of its codec, and none fits it.
+    OtherFormat,
+    /// The rows that fit it go with others.
+    OtherRow,
+    /// Its payload type is taken.
+    TakenType,
+    /// The round is refused.
+    RefusedRound,
+}
+
+impl Fate {
+    /// How much it matters: a warning where the round of a section is refused.
+    pub fn severity(self) -> Severity
+        ensures { result ≡ severity_of_fate self }
+    {
+        match self {
+            Fate::RefusedRound => Severity::Warning,
+            Fate::Locked | Fate::NoCodec | Fate::OtherFormat | Fate::OtherRow | Fate::TakenType =>
+                Severity::Note,
+        }
+    }
+}
+
 /// What a finding says, by its kind.
 #[derive(Clone, Copy, Debug)]
 pub enum Code {
@@ -222,11 +252,13 @@ pub enum Code {
     Changed(Change),
     /// The line is read, and says something against others.
     Contradiction(Conflict),
+    /// What would come of the line in a round of negotiation.
+    Round(Fate),
 }
 
 impl Code {
-    /// How much findings of this code matter: errors are lost text, warnings lines that say nothing and changes that the other side
-    /// can tell, notes the rest.
+    /// How much findings of this code matter: errors are lost text, warnings lines that say nothing, changes that the other
+    /// side can tell and rounds that are refused, notes the rest.
     pub fn severity(self) -> Severity
         ensures { result ≡ severity_of self }
     {
@@ -235,6 +267,7 @@ impl Code {
             Code::Malformed(_) | Code::Contradiction(_) => Severity::Warning,
             Code::Unknown(_) | Code::Unseen(_) => Severity::Note,
             Code::Changed(change) => change.severity(),
+            Code::Round(fate) => fate.severity(),
         }
     }
 
@@ -255,6 +288,7 @@ impl Code {
             Code::Unseen(unseen) => &rows::UNSEENS[unseen as usize],
             Code::Changed(change) => &rows::CHANGES[change as usize],
             Code::Contradiction(conflict) => &rows::CONFLICTS[conflict as usize],
+            Code::Round(fate) => &rows::FATES[fate as usize],
         }
     }
 }

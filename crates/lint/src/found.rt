@@ -65,7 +65,7 @@ fn unless_memory(error: SdpError) -> Result<(), AllocError>
 }
 
 /// The description that a text begins with, and the rest; none where the text is refused.
-fn read(alloc: Global, text: &str) -> Result<Option<(Sdp, &str)>, AllocError>
+pub(crate) fn read(alloc: Global, text: &str) -> Result<Option<(Sdp, &str)>, AllocError>
     ensures read { IfOk result (ReadsAs text.now) }
     ensures one { AtMostOne (Reading text.now) }
 {

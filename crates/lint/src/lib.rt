@@ -2,11 +2,14 @@
 #![tactic(auto)]
 
 mod added;
+mod against;
 mod attribute_lines;
 mod changes;
 mod code;
 mod conflicts;
 mod contradiction;
+mod difference;
+mod fate;
 mod fields;
 mod finding;
 mod fork;
@@ -20,6 +23,8 @@ mod mark;
 mod notes;
 mod part;
 mod refused;
+mod round_notes;
+mod row_places;
 mod rows;
 mod section;
 mod told;
@@ -28,7 +33,8 @@ mod unfit;
 mod unseen;
 mod written;
 
-pub use code::{Change, Code, Conflict, Misfit, Refusal, Severity, Unfit, Unknown, Unseen};
+pub use against::rounds;
+pub use code::{Change, Code, Conflict, Fate, Misfit, Refusal, Severity, Unfit, Unknown, Unseen};
 pub use finding::{Finding, Report};
 pub use found::findings;
-pub use rows::{CHANGES, CONFLICTS, MISFITS, REFUSALS, Row, UNFITS, UNKNOWNS, UNSEENS};
+pub use rows::{CHANGES, CONFLICTS, FATES, MISFITS, REFUSALS, Row, UNFITS, UNKNOWNS, UNSEENS};

@@ -28,6 +28,18 @@ pub(crate) fn command<'a>(alloc: Global) -> Result<Command<'a>, AllocError> {
         .value_name("CODE")
         .action(ArgAction::Set)
         .help("say what a code means, where it comes from and what to do, with an example");
+    let against = Arg::new(alloc, "against")
+        .long("against")
+        .value_name("FILE")
+        .action(ArgAction::Set)
+        .help(
+            "say what would come of rounds with each file as the other side, against the rows of this description",
+        );
+    let against_default = Arg::new(alloc, "against-default")
+        .long("against-default")
+        .action(ArgAction::SetTrue)
+        .help("the same against the default rows")
+        .conflicts_with("against")?;
     Command::new(alloc, "sdplint")
         .version("0.25.0")
         .about("Says what session descriptions lose, and why they are refused, line by line")
@@ -42,6 +54,8 @@ pub(crate) fn command<'a>(alloc: Global) -> Result<Command<'a>, AllocError> {
             "the least severity that is shown, and counts for the status",
         )
         .value_parser(LEVELS.as_slice()))?
+        .arg(against)?
+        .arg(against_default)?
         .arg(explain)
 }
 

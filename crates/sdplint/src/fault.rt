@@ -11,6 +11,12 @@ pub(crate) enum Fault {
     /// A file isn't there, can't be read or is no UTF-8.
     #[error("{file}: cannot be read: {error}")]
     Unreadable { file: Text, error: io::Error },
+    /// The file of this side's rows isn't there, can't be read or is no UTF-8.
+    #[error("--against: {file}: cannot be read: {error}; name a session description of this side, or take its default rows by --against-default")]
+    NoSide { file: Text, error: io::Error },
+    /// It describes no session.
+    #[error("--against: {file}: is no session description; call sdplint with this file alone to see why")]
+    NoDescription { file: Text },
     /// No code has this name.
     #[error("--explain: no code is called {name}: docs/LINT.md has them all")]
     NoCode { name: Text },
@@ -31,6 +37,16 @@ impl Fault {
         match Text::from_str(alloc, file) {
             Ok(file) => Fault::Unreadable { file, error },
             Err(_) => Fault::Memory,
+        }
+    }
+}
+
+impl Fault {
+    /// Why the file of this side's rows wasn't read.
+    pub(crate) fn of_side(alloc: Global, file: &str, error: io::Error) -> Fault {
+        match Fault::of_reading(alloc, file, error) {
+            Fault::Unreadable { file, error } => Fault::NoSide { file, error },
+            fault => fault,
         }
     }
 }

@@ -1,23 +1,27 @@
 //! Says what session descriptions lose where this layer reads them, and why they are refused, line by line.
 #![tactic(auto)]
 
+mod against;
 mod command;
 mod explain;
 mod fault;
 mod output;
 mod records;
 
+use crate::against::side_of;
 use crate::command::{command, value};
 use crate::explain::explanation;
 use crate::fault::Fault;
 use crate::output::{Format, Output};
 use clap::ArgMatches;
 use clap::error::ErrorKind;
-use lint::findings;
+use lint::{Report, findings, rounds};
+use std::alloc::AllocError;
 use std::env::VarError;
 use std::io::{IsTerminal, Read, Write};
 use std::process::ExitCode;
 use std::{env, fs, io};
+use str0m_signal::CodecConfig;
 
 const STANDARD_INPUT: &str = "-";
 
@@ -31,13 +35,48 @@ fn text_of(rt: &HostRuntime, file: &str) -> io::Result<String> {
     Ok(text)
 }
 
+/// The rows of this side, where rounds are asked for.
+fn side(rt: &HostRuntime, matches: &ArgMatches<'_>) -> Result<Option<CodecConfig>, Fault> {
+    if matches.get_flag("against-default") {
+        return Ok(Some(CodecConfig::new_with_defaults(rt.alloc())?));
+    }
+    let Some(file) = matches.get_str("against") else {
+        return Ok(None);
+    };
+    match fs::read_to_string(rt, file) {
+        Ok(text) => Ok(Some(side_of(rt.alloc(), file, text.as_str())?)),
+        Err(error) => Err(Fault::of_side(rt.alloc(), file, error)),
+    }
+}
+
+/// What is found in a text, and then what would come of rounds with it.
+fn report_of(
+    rt: &HostRuntime,
+    text: &str,
+    side: &Option<CodecConfig>,
+) -> Result<Report, AllocError> {
+    let mut report = findings(rt.alloc(), text)?;
+    if let Some(side) = side {
+        let more = rounds(rt.alloc(), text, side)?;
+        for finding in more.findings.into_vec() {
+            report.findings.push(finding)?;
+        }
+    }
+    Ok(report)
+}
+
 /// Adds the findings of a file.
-fn add_file(rt: &HostRuntime, output: &mut Output, file: &str) -> Result<(), Fault> {
+fn add_file(
+    rt: &HostRuntime,
+    output: &mut Output,
+    file: &str,
+    side: &Option<CodecConfig>,
+) -> Result<(), Fault> {
     let text = match text_of(rt, file) {
         Ok(text) => text,
         Err(error) => return Err(Fault::of_reading(rt.alloc(), file, error)),
     };
-    let report = findings(rt.alloc(), text.as_str())?;
+    let report = report_of(rt, text.as_str(), side)?;
     output.add_report(file, report)?;
     Ok(())
 }
@@ -65,9 +104,10 @@ fn are_coloured(rt: &HostRuntime) -> bool {
 fn lint(rt: &HostRuntime, matches: &ArgMatches<'_>) -> Result<u8, Fault> {
     let format = Format::named(value(matches, "format"), are_coloured(rt));
     let mut output = Output::new(rt.alloc(), format, value(matches, "level"));
+    let side = side(rt, matches)?;
     if let Some(files) = matches.get_strs("file") {
         for file in files {
-            add_file(rt, &mut output, file)?;
+            add_file(rt, &mut output, file, &side)?;
         }
     }
     let status = if output.is_silent() { 0 } else { 1 };

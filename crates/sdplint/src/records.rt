@@ -1,12 +1,12 @@
 //! Findings as JSON and as SARIF 2.1.0.
 
-use lint::{CHANGES, CONFLICTS, Finding, MISFITS, REFUSALS, Row, UNFITS, UNKNOWNS, UNSEENS};
+use lint::{CHANGES, CONFLICTS, FATES, Finding, MISFITS, REFUSALS, Row, UNFITS, UNKNOWNS, UNSEENS};
 use percent_encoding::{AsciiSet, NON_ALPHANUMERIC, utf8_percent_encode};
 use serde_json::{Value, json};
 use std::alloc::{AllocError, Global};
 
 /// All rows of the table of codes.
-pub(crate) fn tables() -> [&'static [Row]; 7] {
+pub(crate) fn tables() -> [&'static [Row]; 8] {
     [
         REFUSALS.as_slice(),
         UNFITS.as_slice(),
@@ -15,6 +15,7 @@ pub(crate) fn tables() -> [&'static [Row]; 7] {
         UNSEENS.as_slice(),
         CHANGES.as_slice(),
         CONFLICTS.as_slice(),
+        FATES.as_slice(),
     ]
 }
 

@@ -1,0 +1,8 @@
+use Rattle.std.proofs.lemmas.Result.{on_ok_weaker}
+use Rattle.lint.proofs.FateLaws.{adds_one}
+use Rattle.lint.specs.declared.code.Fate.TheVariants.{RefusedRound}
+use Rattle.lint.proofs.round_notes.note_cause.Goals as goal
+
+pub returns-clause-said : goal.returns-clause-said
+returns-clause-said c =
+    on_ok_weaker c.add.result (λ a. adds_one c.args.line RefusedRound c.args.notes.now c.add.new.self a) c.add.ensures.one

@@ -1,0 +1,67 @@
+//! On which lines the rows of sections stand.
+
+use crate::lines::next_line;
+use str0m_sdp::{MediaAttribute, MediaLine};
+use str0m_values::Pt;
+use str0m_values::cuts::strip;
+
+/// The lines of a section: of its m-line, and of the mapping of each payload type, that of the m-line where there is none.
+#[derive(Clone, Copy)]
+pub(crate) struct RowPlaces {
+    pub(crate) head: usize,
+    mapped: [usize; 256],
+}
+
+impl RowPlaces {
+    /// The line of a row under this type.
+    pub(crate) fn of(&self, pt: Pt) -> usize {
+        self.mapped[usize::from(pt.value())]
+    }
+}
+
+/// The text that is left, and how many lines stand before it.
+#[derive(Clone, Copy)]
+pub(crate) struct Cursor<'a> {
+    rest: &'a str,
+    passed: usize,
+}
+
+impl<'a> Cursor<'a> {
+    pub(crate) fn of(text: &'a str) -> Cursor<'a> {
+        Cursor {
+            rest: text,
+            passed: 0,
+        }
+    }
+}
+
+/// Behind the next line that begins so; where none does, behind the last line.
+fn next<'a>(from: Cursor<'a>, letter: &str) -> Cursor<'a> {
+    let mut rest = from.rest;
+    let mut passed = from.passed;
+    while let Some((line, after)) = next_line(rest) {
+        passed = passed.saturating_add(1);
+        if strip(line, letter).is_some() {
+            return Cursor {
+                rest: after,
+                passed,
+            };
+        }
+        rest = after;
+    }
+    Cursor { rest, passed }
+}
+
+/// The lines of the section that stands next, and the place behind it.
+pub(crate) fn next_places<'a>(from: Cursor<'a>, section: &MediaLine) -> (RowPlaces, Cursor<'a>) {
+    let mut at = next(from, "m=");
+    let head = at.passed;
+    let mut mapped = [head; 256];
+    for attribute in section.attrs.as_slice() {
+        at = next(at, "a=");
+        if let MediaAttribute::RtpMap { pt, .. } = attribute {
+            mapped[usize::from(pt.value())] = at.passed;
+        }
+    }
+    (RowPlaces { head, mapped }, at)
+}
