@@ -1,5 +1,5 @@
 -- What comes of rounds with the sections of a text.
-use Rattle.std.specs.Prelude.{◌≡◌, ◌==◌, ℕ, Bool, true, false, ◌&&◌, ◌||◌, not, Option, Some, None, Result, Ok, Err, List, [], ◌∷◌, ◌++◌, if◌then◌else◌, filter_map, map, option_map, is_some}
+use Rattle.std.specs.Prelude.{◌≡◌, ◌==◌, ℕ, Bool, true, false, ◌&&◌, ◌||◌, not, Option, Some, None, Ok, Err, List, [], ◌∷◌, ◌++◌, if◌then◌else◌, filter_map, map, option_map, is_some}
 use Rattle.std.specs.List.{list_any}
 use Rattle.str0m_values.specs.Direction.{receives}
 use Rattle.str0m_formats.specs.Choices.{IsChoice, points_with}
