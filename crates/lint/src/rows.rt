@@ -571,7 +571,7 @@ pub static FATES: [Row; 6] = [
         remedy: "give the row a payload type that stands for nothing else in the session",
         explanation: "A type that is locked stands for one thing as long as the session lasts. The other side receives here, and demands the type for something else.",
         source: "RFC 3264, section 8.3.2; RFC 8829, section 5.2.2",
-        example: "a=rtpmap:109 VP8/90000 behind a section with a=rtpmap:109 opus/48000/2",
+        example: "a=rtpmap:109 VP8/90000 after a section with a=rtpmap:109 opus/48000/2",
     },
     Row {
         name: "refused-round",
@@ -579,6 +579,6 @@ pub static FATES: [Row; 6] = [
         remedy: "change the payload type that is named: nothing of the section is agreed",
         explanation: "A round is accepted whole or not at all. A type that is above 127, or that would stand for two things, refuses it (docs/ROUNDS.md, Refusals); the rounds of other sections go on.",
         source: "RFC 3264, section 8.3.2; RFC 3550, section 5.1",
-        example: "a=rtpmap:109 VP8/90000 behind a section with a=rtpmap:109 opus/48000/2",
+        example: "a=rtpmap:109 VP8/90000 after a section with a=rtpmap:109 opus/48000/2",
     },
 ];
