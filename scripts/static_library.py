@@ -1,9 +1,12 @@
-"""Static libraries of the repository, over what ./test has proved of these very sources, in two or three minutes. Where it hasn't, `rt lib`
-proves all of one over what the checks of this place have kept."""
+"""Static libraries of the repository, over what ./test has proved of these very sources: the gate proves them and builds none. That takes one or
+two minutes, since what it has checked of the crate itself counts, too (bases.py); three where it has kept none of that. Where ./test has not
+proved these sources, `rt lib` proves all of a library over what the checks of this place have kept."""
 import subprocess
 import sys
+import tempfile
 from pathlib import Path
 
+import bases
 import proved
 from proved import TOP
 
@@ -35,7 +38,12 @@ def over_proved(name, room):
             words += ["--extern", f"{it}={rlibs.get(it, at / 'rlibs')}/{it}.rlib"]
         words += [word for it in (at / "rlibs", *rlibs.values()) for word in ("-L", f"dependency={it}")]
         words += ["--antt-project", at / "rattle" / "logic" / "antt-project.json", "--logic-built", at / "logic_built"]
-        run([*words, "--toolchain", at / "toolchain", "-o", made], TOP / "crates" / name)
+        words += ["--toolchain", at / "toolchain", "-o", made]
+        with tempfile.TemporaryDirectory(prefix="static-") as kept:
+            base = bases.of(name)
+            if base:
+                bases.lay(base, kept)
+            run([*words, "--incremental", kept], TOP / "crates" / name)
     return made
 
 
