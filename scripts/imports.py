@@ -2,7 +2,7 @@
 and proofs use what they import; and whether each root of them lists its modules.
 
 `rattle` says so too, but of a proof only when all below it is proved, and of a name that nothing uses not at all. Modules that rattle
-writes itself are judged by the source that they are written from: those of types and constants (`declared`), of functions (`Given`,
+writes itself are judged by the source that they are written from: those of types and constants (`declared`, `TheLaws`, ..), of functions (`Given`,
 `Goals`, ..) and of contracts."""
 import re
 from functools import lru_cache
@@ -13,7 +13,8 @@ from proved import TOP
 USE = re.compile(r"^( *)(pub )?(?:ghost )?use Rattle\.(\w+)\.(specs|proofs)\.([\w.-]+?)(?:\.\{([^}]*)\}| as (\S+?))?;?$", re.M)
 IN_CODE = re.compile(r"\bcrate::(specs|proofs)::([\w:-]+)")
 CONSTRUCTOR = re.compile(r"^  ([^\s:(]+) :", re.M)
-WRITTEN = {"Given", "Goals", "Answers", "Invariants", "Ends", "Entry"}  # (of a function, by rattle)
+WRITTEN = {"Given", "Goals", "Answers", "Invariants", "Ends", "Entry", "Statement", "Code"}  # (of a function, by rattle)
+OF_TYPES = {"TheLaws", "TheSendSync"}  # (of a type, by rattle)
 
 
 def crates():
@@ -104,6 +105,8 @@ def fault_of(own, crate, part, words, names):
     file = (crates() / crate / part).joinpath(*words).with_suffix(".antt")
     if text_of(file) is None and words[-1] in WRITTEN:
         return None if functions(crate).intersection(words[1:-1]) else f"no function {'.'.join(words[:-1])}"
+    if text_of(file) is None and words[-1] in OF_TYPES:
+        return fault_of_declared(crate, words[:-1], [], own != crate)
     if text_of(file) is None and not names and len(words) > 1:  # (a name alone, without braces)
         file, names = file.parent.with_suffix(".antt"), [(words[-1], words[-1])]
     if text_of(file) is None:
