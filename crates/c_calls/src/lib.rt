@@ -1,0 +1,9 @@
+//! What C calls, behind the tests of capi/zaxmonth.c. Each takes handles that own something where it asks for that, and answers a
+//! status (`zax_status`).
+#![tactic(auto)]
+
+mod config_calls;
+mod round_calls;
+mod row_calls;
+mod said;
+mod session_calls;

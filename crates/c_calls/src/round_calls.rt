@@ -1,0 +1,183 @@
+//! Calls that negotiate, and that answer with what is agreed.
+
+ghost use Rattle.std.specs.Prelude.{◌≡◌, ◌≢◌, [], IfErr, IfOk, IfSome, OnErr, OnOk, List, Some, ℕ, length, map};
+ghost use Rattle.std.specs.List.{slice_get};
+ghost use Rattle.c_parts.specs.Full.{IsFull};
+ghost use Rattle.c_parts.specs.Refused.{RefusesText};
+ghost use Rattle.c_parts.specs.Row.{c_outcome};
+ghost use Rattle.c_calls.specs.Answered.{Answered, Lists, of_type};
+ghost use Rattle.c_calls.specs.Ran.{Ran, RanHeld, front};
+ghost use Rattle.c_calls.specs.Status.{done, no_session};
+ghost use Rattle.str0m_sdp.specs.SectionOf.{made};
+ghost use Rattle.str0m_sdp.specs.declared.media_line.MediaLine.{MediaLine};
+ghost use Rattle.str0m_sdp.specs.declared.session.Sdp.{Sdp};
+ghost use Rattle.str0m_signal.specs.Answers.{Refuses};
+ghost use Rattle.str0m_signal.specs.Reading.{Described};
+ghost use Rattle.str0m_signal.specs.Writable.{Writable};
+
+use crate::said::{DONE, NO_MEMORY, NO_SECTION, NOTHING, refuse};
+use c_parts::config_handle::ConfigHandle;
+use c_parts::reading::Refusal;
+use c_parts::row::{Outcome, outcome_of};
+use c_parts::session_handle::SessionHandle;
+use std::alloc::{AllocError, Global};
+use std::str;
+use str0m_signal::{
+    CodecConfig, MediaKind, MediaLine, MediaType, NegotiationError, PayloadParams, Sdp, SdpError,
+    is_writable, locked_rows, negotiate_text, section_of,
+};
+
+/// Fills room for as many outcomes as there are.
+fn fill(room: &mut [Outcome], outcomes: &[Result<(), NegotiationError>])
+    requires { length room.old ≡ length outcomes.now }
+    ensures { room.new ≡ map c_outcome outcomes.now }
+{
+    for i in 0..outcomes.len() {
+        room[i] = outcome_of(&outcomes[i]);
+    }
+}
+
+/// Writes as many of the first outcomes as there is room for.
+fn put_outcomes(outcomes: &[Result<(), NegotiationError>], room: &mut [Outcome], needed: &mut usize)
+    ensures needed { needed.new ≡ length outcomes.now }
+    ensures written { room.new ≡ front (map c_outcome outcomes.now) room.old }
+{
+    *needed = outcomes.len();
+    if outcomes.len() <= room.len() {
+        let (place, _) = room.split_at_mut(outcomes.len());
+        fill(place, outcomes);
+    } else {
+        let (first, _) = outcomes.split_at(room.len());
+        fill(room, first);
+    }
+}
+
+fn negotiated_text(
+    config: &mut CodecConfig,
+    text: &str,
+    room: &mut [Outcome],
+    needed: &mut usize,
+) -> Result<(), SdpError>
+    ensures ran { OnOk result (Ran text.now config.old config.new room.old room.new needed.new) }
+    ensures same { OnErr result (config.new ≡ config.old) }
+    ensures kept { OnErr result (room.new ≡ room.old) }
+    ensures refused { IfErr result (λ error. Refuses error (Described text.now)) }
+{
+    let outcomes = negotiate_text(config, text)?;
+    put_outcomes(outcomes.as_slice(), room, needed);
+    Ok(())
+}
+
+fn negotiated(
+    config: &mut CodecConfig,
+    bytes: &[u8],
+    room: &mut [Outcome],
+    needed: &mut usize,
+) -> Result<(), Refusal>
+    ensures ran { OnOk result (Ran bytes.now config.old config.new room.old room.new needed.new) }
+    ensures same { OnErr result (config.new ≡ config.old) }
+    ensures kept { OnErr result (room.new ≡ room.old) }
+    ensures refused { IfErr result (λ refusal. RefusesText refusal bytes.now) }
+{
+    match str::from_utf8(bytes) {
+        Ok(text) => match negotiated_text(config, text, room, needed) {
+            Ok(()) => Ok(()),
+            Err(error) => Err(Refusal::Refused(error)),
+        },
+        Err(_) => Err(Refusal::NotUtf8),
+    }
+}
+
+/// Runs a round for each audio and video section of a text. As many of the first outcomes as there is room for are written.
+#[unsafe(no_mangle)]
+pub extern "C" fn zaxp_config_negotiate(
+    alloc: Global,
+    handle: &mut ConfigHandle,
+    text: &[u8],
+    room: &mut [Outcome],
+    needed: &mut usize,
+    message: &mut [u8],
+    message_length: &mut usize,
+) -> u32
+    requires { IsFull handle.old.inner }
+    ensures ran { result ≡ done → RanHeld text.now handle.old.inner handle.new.inner room.old room.new needed.new }
+    ensures same { result ≢ done → handle.new.inner ≡ handle.old.inner }
+    ensures kept { result ≢ done → room.new ≡ room.old }
+    ensures no_session { result ≡ no_session → (sdp : Sdp) → Described text.now sdp → ⊥ }
+{
+    *message_length = 0;
+    let mut config = handle.take(alloc);
+    let ran = negotiated(&mut config, text, room, needed);
+    handle.put(config);
+    match ran {
+        Ok(()) => DONE,
+        Err(refusal) => refuse(alloc, &refusal, message, message_length),
+    }
+}
+
+fn agreed(config: &CodecConfig, typ: &MediaType) -> Result<Vec<PayloadParams>, AllocError>
+    ensures { IfOk result (λ rows. rows.items ≡ of_type typ.now config.now.params.items) }
+{
+    match typ {
+        MediaType::Audio => locked_rows(config, MediaKind::Audio),
+        MediaType::Video => locked_rows(config, MediaKind::Video),
+        _ => Ok(Vec::new(*config.allocator())),
+    }
+}
+
+/// The section there with the locked rows of its kind; `None` where there is no such row, or where it can't be written.
+fn answered(
+    config: &CodecConfig,
+    own: &Sdp,
+    at: usize,
+    frame: &MediaLine,
+) -> Result<Option<MediaLine>, AllocError>
+    ensures { IfOk result (λ found. IfSome found (λ section. Writable own.now at × (of_type frame.now.typ config.now.params.items ≢ [])
+        × (section ≡ made frame.now (of_type frame.now.typ config.now.params.items)))) }
+{
+    let rows = agreed(config, &frame.typ)?;
+    if rows.is_empty() || !is_writable(own, at)? {
+        return Ok(None);
+    }
+    Ok(Some(section_of(frame, rows.as_slice())?))
+}
+
+fn answer(config: &CodecConfig, own: &mut Sdp, at: usize) -> u32
+    ensures lists { result ≡ done → Lists config.now.params.items own.old at own.new }
+    ensures same { result ≢ done → own.new ≡ own.old }
+{
+    let made = match own.media_lines.get(at) {
+        Some(frame) => answered(config, own, at, frame),
+        None => return NO_SECTION,
+    };
+    match made {
+        Ok(Some(section)) => {
+            own.media_lines.0[at] = section;
+            DONE
+        }
+        Ok(None) => NOTHING,
+        Err(_) => NO_MEMORY,
+    }
+}
+
+/// Puts the locked rows of its kind into a section of one's own description.
+#[unsafe(no_mangle)]
+pub extern "C" fn zaxp_config_answer(
+    alloc: Global,
+    handle: &mut ConfigHandle,
+    own: &mut SessionHandle,
+    at: usize,
+) -> u32
+    requires handle { IsFull handle.old.inner }
+    requires own { IsFull own.old.inner }
+    ensures same { handle.new.inner ≡ handle.old.inner }
+    ensures answered { result ≡ done → Answered handle.old.inner own.old.inner at own.new.inner }
+    ensures kept { result ≢ done → own.new.inner ≡ own.old.inner }
+{
+    let config = handle.take(alloc);
+    let mut sdp = own.take(alloc);
+    let code = answer(&config, &mut sdp, at);
+    handle.put(config);
+    own.put(sdp);
+    code
+}

@@ -1,0 +1,181 @@
+//! Calls of descriptions.
+
+ghost use Rattle.std.specs.Prelude.{◌≡◌, ◌≢◌, None, Some, List, ℕ, length};
+ghost use Rattle.std.specs.List.{slice_get};
+ghost use Rattle.c_parts.specs.Full.{IsFull};
+ghost use Rattle.c_parts.specs.Room.{Holds};
+ghost use Rattle.c_calls.specs.Held.{Of, OfSection};
+ghost use Rattle.c_calls.specs.Mid.{mid_named, mid_text};
+ghost use Rattle.c_calls.specs.Status.{done, no_memory, no_section, no_session};
+ghost use Rattle.str0m_sdp.specs.Session.{sdp_text};
+ghost use Rattle.str0m_sdp.specs.declared.session.Sdp.{Sdp};
+ghost use Rattle.str0m_signal.specs.Reading.{Described, Reading};
+
+use crate::said::{DONE, NO_MEMORY, NO_SECTION, put, refuse};
+use c_parts::json::rows_json;
+use c_parts::reading::read;
+use c_parts::session_handle::SessionHandle;
+use std::alloc::Global;
+use str0m_signal::{MediaLine, Mid, Sdp};
+
+/// Reads the description that a text begins with into an empty handle.
+#[unsafe(no_mangle)]
+pub extern "C" fn zaxp_session_read(
+    alloc: Global,
+    text: &[u8],
+    handle: &mut SessionHandle,
+    unread: &mut usize,
+    message: &mut [u8],
+    message_length: &mut usize,
+) -> u32
+    requires { handle.old.inner ≡ None }
+    ensures read { result ≡ done → (sdp : Sdp) × (rest : List ℕ) × (handle.new.inner ≡ Some sdp) × Reading text.now (sdp, rest) × (unread.new ≡ length rest) }
+    ensures no_session { result ≡ no_session → (sdp : Sdp) → Described text.now sdp → ⊥ }
+    ensures empty { result ≢ done → handle.new.inner ≡ None }
+{
+    *message_length = 0;
+    match read(alloc, text) {
+        Ok((sdp, left)) => match Box::new(alloc, sdp) {
+            Ok(owned) => {
+                *unread = left;
+                handle.put(owned);
+                DONE
+            }
+            Err(_) => NO_MEMORY,
+        },
+        Err(refusal) => refuse(alloc, &refusal, message, message_length),
+    }
+}
+
+/// How many sections the description has.
+#[unsafe(no_mangle)]
+pub extern "C" fn zaxp_session_sections(alloc: Global, handle: &mut SessionHandle) -> usize
+    requires { IsFull handle.old.inner }
+    ensures same { handle.new.inner ≡ handle.old.inner }
+    ensures count { Of handle.old.inner (λ sdp. result ≡ length sdp.media_lines) }
+{
+    let sdp = handle.take(alloc);
+    let count = sdp.media_lines.len();
+    handle.put(sdp);
+    count
+}
+
+fn put_text(alloc: Global, sdp: &Sdp, room: &mut [u8], needed: &mut usize) -> u32
+    ensures written { result ≡ done → Holds room.new (sdp_text sdp.now) room.old }
+    ensures kept { result ≢ done → room.new ≡ room.old }
+    ensures needed { result ≢ no_memory → needed.new ≡ length (sdp_text sdp.now) }
+{
+    match sdp.to_string(alloc) {
+        Ok(text) => put(text.as_bytes(), room, needed),
+        Err(_) => NO_MEMORY,
+    }
+}
+
+/// Prints the description into the caller's room.
+#[unsafe(no_mangle)]
+pub extern "C" fn zaxp_session_print(
+    alloc: Global,
+    handle: &mut SessionHandle,
+    room: &mut [u8],
+    needed: &mut usize,
+) -> u32
+    requires { IsFull handle.old.inner }
+    ensures same { handle.new.inner ≡ handle.old.inner }
+    ensures written { result ≡ done → Of handle.old.inner (λ sdp. Holds room.new (sdp_text sdp) room.old) }
+    ensures kept { result ≢ done → room.new ≡ room.old }
+    ensures needed { result ≢ no_memory → Of handle.old.inner (λ sdp. needed.new ≡ length (sdp_text sdp)) }
+{
+    let sdp = handle.take(alloc);
+    let code = put_text(alloc, &sdp, room, needed);
+    handle.put(sdp);
+    code
+}
+
+fn put_rows_json(alloc: Global, sdp: &Sdp, room: &mut [u8], needed: &mut usize) -> u32
+    ensures kept { result ≢ done → room.new ≡ room.old }
+{
+    match rows_json(alloc, sdp) {
+        Ok(text) => put(text.as_bytes(), room, needed),
+        Err(_) => NO_MEMORY,
+    }
+}
+
+/// Writes the sections with their rows into the caller's room, as JSON.
+#[unsafe(no_mangle)]
+pub extern "C" fn zaxp_session_rows_json(
+    alloc: Global,
+    handle: &mut SessionHandle,
+    room: &mut [u8],
+    needed: &mut usize,
+) -> u32
+    requires { IsFull handle.old.inner }
+    ensures same { handle.new.inner ≡ handle.old.inner }
+    ensures kept { result ≢ done → room.new ≡ room.old }
+{
+    let sdp = handle.take(alloc);
+    let code = put_rows_json(alloc, &sdp, room, needed);
+    handle.put(sdp);
+    code
+}
+
+fn mid_named(section: &MediaLine) -> Option<Mid>
+    ensures { result ≡ mid_named section.now }
+{
+    if section.has_mid() {
+        Some(section.mid())
+    } else {
+        None
+    }
+}
+
+fn put_mid(section: &MediaLine, room: &mut [u8], needed: &mut usize) -> u32
+    ensures written { result ≡ done → Holds room.new (mid_text section.now) room.old }
+    ensures kept { result ≢ done → room.new ≡ room.old }
+    ensures there { result ≢ no_section }
+{
+    match mid_named(section) {
+        Some(mid) => put(mid.as_str().as_bytes(), room, needed),
+        None => put(&[], room, needed),
+    }
+}
+
+fn put_mid_at(sdp: &Sdp, at: usize, room: &mut [u8], needed: &mut usize) -> u32
+    ensures written { result ≡ done → Of (slice_get sdp.now.media_lines at) (λ section. Holds room.new (mid_text section) room.old) }
+    ensures kept { result ≢ done → room.new ≡ room.old }
+    ensures missing { result ≡ no_section → slice_get sdp.now.media_lines at ≡ None }
+{
+    match sdp.media_lines.get(at) {
+        Some(section) => put_mid(section, room, needed),
+        None => NO_SECTION,
+    }
+}
+
+/// The mid of a section; nothing where it has none.
+#[unsafe(no_mangle)]
+pub extern "C" fn zaxp_session_mid(
+    alloc: Global,
+    handle: &mut SessionHandle,
+    at: usize,
+    room: &mut [u8],
+    needed: &mut usize,
+) -> u32
+    requires { IsFull handle.old.inner }
+    ensures same { handle.new.inner ≡ handle.old.inner }
+    ensures written { result ≡ done → OfSection handle.old.inner at (λ section. Holds room.new (mid_text section) room.old) }
+    ensures kept { result ≢ done → room.new ≡ room.old }
+    ensures missing { result ≡ no_section → Of handle.old.inner (λ sdp. slice_get sdp.media_lines at ≡ None) }
+{
+    let sdp = handle.take(alloc);
+    let code = put_mid_at(&sdp, at, room, needed);
+    handle.put(sdp);
+    code
+}
+
+/// Frees the description; the handle is empty then.
+#[unsafe(no_mangle)]
+pub extern "C" fn zaxp_session_free(alloc: Global, handle: &mut SessionHandle)
+    requires { IsFull handle.old.inner }
+    ensures { handle.new.inner ≡ None }
+{
+    drop(handle.take(alloc));
+}

@@ -1,0 +1,7 @@
+pub mod ConfigOwned
+pub mod Full
+pub mod Owned
+pub mod Refused
+pub mod Room
+pub mod Row
+pub mod SessionOwned

@@ -1,0 +1,65 @@
+-- Rows and outcomes as C holds them.
+use Rattle.std.specs.Prelude.{ℕ, ◌+◌, Bool, true, false, Option, Some, None, Ok, Err}
+use Rattle.str0m_formats.specs.Runs.{Outcome as RoundOutcome}
+use Rattle.str0m_formats.specs.declared.codec.Codec.{Codec}
+use Rattle.str0m_formats.specs.declared.codec.Codec.TheVariants.{Opus, PCMU, PCMA, G722, CN, AmrWb, H264, H265, H266, Vp8, Vp9, Av1, Tele, Rtx, Red, Null, Unknown}
+use Rattle.str0m_formats.specs.declared.negotiation_error.NegotiationError.TheVariants.{TypeTooLarge, ClaimedTwice, Exhausted, Memory}
+use Rattle.str0m_formats.specs.declared.payload_params.PayloadParams.{PayloadParams}
+use Rattle.c_parts.specs.declared.row.Outcome.{Outcome}
+use Rattle.c_parts.specs.declared.row.Row.{Row}
+
+-- the number of a codec (`zax_codec`)
+abbrev pub codec_number : Codec → ℕ
+codec_number Unknown = 0
+codec_number Opus = 1
+codec_number PCMU = 2
+codec_number PCMA = 3
+codec_number G722 = 4
+codec_number CN = 5
+codec_number AmrWb = 6
+codec_number H264 = 7
+codec_number H265 = 8
+codec_number H266 = 9
+codec_number Vp8 = 10
+codec_number Vp9 = 11
+codec_number Av1 = 12
+codec_number Tele = 13
+codec_number Rtx = 14
+codec_number Red = 15
+codec_number Null = 16
+
+-- a number that may not be there, and what stands in its place then
+abbrev pub number_or : ℕ → Option ℕ → ℕ
+number_or other (Some n) = n
+number_or other None = other
+
+-- the bit of what is on
+abbrev pub bit : ℕ → Bool → ℕ
+bit n true = n
+bit n false = 0
+
+-- feedback as bits (`ZAX_TRANSPORT_CC` and those behind it)
+abbrev pub feedback_bits : PayloadParams → ℕ
+feedback_bits row = bit 1 row.fb_transport_cc + (bit 2 row.fb_nack + (bit 4 row.fb_pli + (bit 8 row.fb_fir + bit 16 row.fb_remb)))
+
+-- a row (`zax_row`): 255 where it has no type for retransmissions or for RED, and no channels where they aren't said
+abbrev pub c_row : PayloadParams → Row
+c_row row = record {
+  clock_rate = row.spec.clock_rate;
+  pt = row.pt;
+  rtx = number_or 255 row.resend;
+  red = number_or 255 row.red;
+  channels = number_or 0 row.spec.channels;
+  codec = codec_number row.spec.codec;
+  feedback = feedback_bits row;
+  locked = bit 1 row.locked;
+  reserved = 0;
+}
+
+-- an outcome (`zax_outcome`): its cause, and the type at fault, or 255
+abbrev pub c_outcome : RoundOutcome → Outcome
+c_outcome (Ok done) = record { cause = 0; pt = 255 }
+c_outcome (Err (TypeTooLarge pt)) = record { cause = 1; pt = pt }
+c_outcome (Err (ClaimedTwice pt)) = record { cause = 2; pt = pt }
+c_outcome (Err Exhausted) = record { cause = 3; pt = 255 }
+c_outcome (Err Memory) = record { cause = 4; pt = 255 }

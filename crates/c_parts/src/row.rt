@@ -1,0 +1,127 @@
+//! Rows and outcomes as C holds them.
+
+ghost use Rattle.std.specs.Prelude.{◌≡◌, ◌≤◌, IfOk, length, map};
+ghost use Rattle.c_parts.specs.Row.{bit, c_outcome, c_row, codec_number, feedback_bits, number_or};
+
+use std::alloc::{AllocError, Global};
+use str0m_signal::{Codec, NegotiationError, PayloadParams, Pt};
+
+/// A row.
+#[repr(C)]
+#[derive(Clone, Copy)]
+pub struct Row {
+    pub clock_rate: u32,
+    pub pt: u8,
+    pub rtx: u8,
+    pub red: u8,
+    pub channels: u8,
+    pub codec: u8,
+    pub feedback: u8,
+    pub locked: u8,
+    pub reserved: u8,
+}
+
+/// The outcome of a round: 0 where it was accepted, else why not, and the payload type at fault, or 255.
+#[repr(C)]
+#[derive(Clone, Copy)]
+pub struct Outcome {
+    pub cause: u8,
+    pub pt: u8,
+}
+
+fn or_none(pt: Option<Pt>) -> u8
+    ensures { result ≡ number_or 255 pt }
+{
+    match pt {
+        Some(pt) => pt.value(),
+        None => 255,
+    }
+}
+
+fn or_zero(channels: Option<u8>) -> u8
+    ensures { result ≡ number_or 0 channels }
+{
+    match channels {
+        Some(channels) => channels,
+        None => 0,
+    }
+}
+
+fn code_of(codec: Codec) -> u8
+    ensures { result ≡ codec_number codec }
+{
+    match codec {
+        Codec::Unknown => 0,
+        Codec::Opus => 1,
+        Codec::PCMU => 2,
+        Codec::PCMA => 3,
+        Codec::G722 => 4,
+        Codec::CN => 5,
+        Codec::AmrWb => 6,
+        Codec::H264 => 7,
+        Codec::H265 => 8,
+        Codec::H266 => 9,
+        Codec::Vp8 => 10,
+        Codec::Vp9 => 11,
+        Codec::Av1 => 12,
+        Codec::Tele => 13,
+        Codec::Rtx => 14,
+        Codec::Red => 15,
+        Codec::Null => 16,
+    }
+}
+
+fn flag(value: u8, is_on: bool) -> u8
+    ensures value { result ≡ bit value is_on }
+    ensures low { result ≤ value }
+{
+    if is_on { value } else { 0 }
+}
+
+fn feedback(row: &PayloadParams) -> u8
+    ensures { result ≡ feedback_bits row.now }
+{
+    let lost = flag(2, row.fb_nack())
+        + (flag(4, row.fb_pli()) + (flag(8, row.fb_fir()) + flag(16, row.fb_remb())));
+    flag(1, row.fb_transport_cc()) + lost
+}
+
+pub fn row_of(row: &PayloadParams) -> Row
+    ensures { result ≡ c_row row.now }
+{
+    let spec = row.spec();
+    Row {
+        clock_rate: spec.clock_rate.get(),
+        pt: row.pt().value(),
+        rtx: or_none(row.resend()),
+        red: or_none(row.red()),
+        channels: or_zero(spec.channels),
+        codec: code_of(spec.codec),
+        feedback: feedback(row),
+        locked: flag(1, row.locked()),
+        reserved: 0,
+    }
+}
+
+pub fn rows_of(alloc: Global, rows: &[PayloadParams]) -> Result<Vec<Row>, AllocError>
+    ensures { IfOk result (λ made. made.items ≡ map c_row rows.now) }
+{
+    let mut made = Vec::new(alloc);
+    for row in rows {
+        made.push(row_of(row))?;
+    }
+    Ok(made)
+}
+
+pub fn outcome_of(outcome: &Result<(), NegotiationError>) -> Outcome
+    ensures { result ≡ c_outcome outcome.now }
+{
+    let (cause, pt) = match *outcome {
+        Ok(()) => (0, 255),
+        Err(NegotiationError::TypeTooLarge(pt)) => (1, pt.value()),
+        Err(NegotiationError::ClaimedTwice(pt)) => (2, pt.value()),
+        Err(NegotiationError::Exhausted) => (3, 255),
+        Err(NegotiationError::Memory) => (4, 255),
+    };
+    Outcome { cause, pt }
+}
