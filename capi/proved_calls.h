@@ -1,0 +1,29 @@
+/* The proved calls, as crates/c_calls exports them. A slice is a pointer that isn't NULL, and a count; a handle is a pointer of the
+ * library's own, NULL where it is empty. scripts/c_interface.py compares this with the exports. */
+#ifndef ZAXMONTH_PROVED_CALLS_H
+#define ZAXMONTH_PROVED_CALLS_H
+
+#include "zaxmonth.h"
+
+struct handle {
+    void *ptr;
+};
+
+uint32_t zaxp_session_read(const uint8_t *text, size_t text_length, struct handle *handle, size_t *unread, uint8_t *message,
+                           size_t message_cap, size_t *message_length);
+size_t zaxp_session_sections(struct handle *handle);
+uint32_t zaxp_session_print(struct handle *handle, uint8_t *room, size_t room_cap, size_t *needed);
+uint32_t zaxp_session_mid(struct handle *handle, size_t at, uint8_t *room, size_t room_cap, size_t *needed);
+uint32_t zaxp_session_rows(struct handle *handle, size_t at, zax_row *room, size_t room_cap, size_t *needed);
+uint32_t zaxp_session_format(struct handle *handle, size_t at, size_t row, uint8_t *room, size_t room_cap, size_t *needed);
+uint32_t zaxp_session_rows_json(struct handle *handle, uint8_t *room, size_t room_cap, size_t *needed);
+void zaxp_session_free(struct handle *handle);
+uint32_t zaxp_config_defaults(struct handle *handle);
+uint32_t zaxp_config_negotiate(struct handle *handle, const uint8_t *text, size_t text_length, zax_outcome *room, size_t room_cap,
+                               size_t *needed, uint8_t *message, size_t message_cap, size_t *message_length);
+uint32_t zaxp_config_rows(struct handle *handle, zax_row *room, size_t room_cap, size_t *needed);
+uint32_t zaxp_config_format(struct handle *handle, size_t row, uint8_t *room, size_t room_cap, size_t *needed);
+uint32_t zaxp_config_answer(struct handle *handle, struct handle *own, size_t at);
+void zaxp_config_free(struct handle *handle);
+
+#endif

@@ -1,0 +1,109 @@
+/* zaxmonth.h: session descriptions (SDP) and their payload types, read, negotiated and printed.
+ *
+ * Text is UTF-8, given by a pointer and a length in bytes; no zero ends it. A text or a list that a call answers is written into the
+ * caller's room: `cap` counts the items that the room has space for, `*needed` becomes the count of those that there are. Where they
+ * don't fit the answer is ZAX_E_ROOM, and the room is as it was. `needed` may be NULL, and so may a room whose `cap` is 0.
+ *
+ * A handle is made by zax_read or zax_config_defaults, and freed by the call of its kind. One call at a time uses it, on any thread.
+ * No call aborts, prints, starts a thread or calls back, and none keeps state outside of handles. A call that isn't answered by
+ * ZAX_OK leaves each handle as it was. docs/C.md says what is proved of all this, and what is trusted. */
+#ifndef ZAXMONTH_H
+#define ZAXMONTH_H
+
+#include <stddef.h>
+#include <stdint.h>
+
+#ifdef __cplusplus
+extern "C" {
+#endif
+
+#define ZAX_VERSION "0.1.0"
+/* While it is 0 anything here may change; from 1 on, while the number stays, what stands here changes by addition alone. */
+#define ZAX_ABI 0
+#define ZAX_API __attribute__((visibility("default")))
+
+typedef struct zax_session zax_session; /* a description */
+typedef struct zax_config zax_config;   /* a configuration: the rows of one side, of which some are locked */
+
+typedef enum zax_status {
+    ZAX_OK = 0,
+    ZAX_E_PARSE = 1,    /* the text describes no session */
+    ZAX_E_UTF8 = 2,     /* the text isn't UTF-8 */
+    ZAX_E_MEMORY = 3,   /* malloc or realloc answered NULL */
+    ZAX_E_ROOM = 4,     /* the room is too small */
+    ZAX_E_SECTION = 5,  /* there is no such section, or no such row */
+    ZAX_E_NOTHING = 6,  /* no row of the section's kind is locked, or rows printed there might not be read again */
+    ZAX_E_ARGUMENT = 7  /* a pointer is NULL that may not be, or a length is above half of what can be addressed */
+} zax_status;
+
+typedef enum zax_codec {
+    ZAX_UNKNOWN = 0, ZAX_OPUS, ZAX_PCMU, ZAX_PCMA, ZAX_G722, ZAX_CN, ZAX_AMR_WB, ZAX_H264, ZAX_H265, ZAX_H266,
+    ZAX_VP8, ZAX_VP9, ZAX_AV1, ZAX_TELEPHONE_EVENT, ZAX_RTX, ZAX_RED, ZAX_NULL_CODEC
+} zax_codec;
+
+enum { ZAX_TRANSPORT_CC = 1, ZAX_NACK = 2, ZAX_PLI = 4, ZAX_FIR = 8, ZAX_REMB = 16 }; /* zax_row.feedback */
+enum { ZAX_NO_TYPE = 255 }; /* zax_row.rtx, zax_row.red, zax_outcome.pt: there is none */
+
+/* A row: a codec under a payload type. */
+typedef struct zax_row {
+    uint32_t clock_rate; /* at which the codec samples, in Hz */
+    uint8_t pt;          /* payload types: its own, that of retransmissions, that of RED */
+    uint8_t rtx;
+    uint8_t red;
+    uint8_t channels; /* 0: not said */
+    uint8_t codec;    /* zax_codec */
+    uint8_t feedback;
+    uint8_t locked; /* 0 or 1: whether the other side has agreed to its types */
+    uint8_t reserved;
+} zax_row;
+
+enum { ZAX_ACCEPTED = 0, ZAX_TYPE_TOO_LARGE, ZAX_CLAIMED_TWICE, ZAX_EXHAUSTED, ZAX_ROUND_MEMORY }; /* zax_outcome.cause */
+
+/* What a round came to. */
+typedef struct zax_outcome {
+    uint8_t cause;
+    uint8_t pt; /* the payload type at fault */
+} zax_outcome;
+
+/* Where a call takes one, it may be NULL. */
+typedef struct zax_error {
+    uint32_t status;   /* zax_status */
+    uint32_t line;     /* zax_read, with ZAX_OK: the line, from 1, at which reading ended; 0 where all was read */
+    size_t offset;     /* the same in bytes, from 0 */
+    char message[240]; /* a line of English, cut where it is longer, and ended by a zero */
+} zax_error;
+
+ZAX_API const char *zax_version(void);
+ZAX_API uint32_t zax_abi(void);
+
+/* Reads the description that a text begins with. `*session` is NULL where there is none. */
+ZAX_API zax_status zax_read(const char *text, size_t length, zax_session **session, zax_error *error);
+ZAX_API void zax_session_free(zax_session *session); /* NULL is fine */
+/* Prints the description, with CR and LF at the end of each line. */
+ZAX_API zax_status zax_print(zax_session *session, char *room, size_t cap, size_t *needed);
+/* How many sections there are; `section` counts them from 0. */
+ZAX_API size_t zax_sections(zax_session *session);
+/* The mid of a section; nothing where it has none. */
+ZAX_API zax_status zax_section_mid(zax_session *session, size_t section, char *room, size_t cap, size_t *needed);
+ZAX_API zax_status zax_rows(zax_session *session, size_t section, zax_row *room, size_t cap, size_t *needed);
+/* What the format of a row says, as an fmtp line has it; `row` counts those of zax_rows from 0. */
+ZAX_API zax_status zax_row_fmtp(zax_session *session, size_t section, size_t row, char *room, size_t cap, size_t *needed);
+/* The sections with their rows, as JSON. */
+ZAX_API zax_status zax_rows_json(zax_session *session, char *room, size_t cap, size_t *needed);
+
+/* A configuration with the default rows. `*config` is NULL where memory is refused. */
+ZAX_API zax_status zax_config_defaults(zax_config **config);
+ZAX_API void zax_config_free(zax_config *config); /* NULL is fine */
+/* Reads a text, and runs a round for each of its audio and video sections. As many outcomes are written as there is room for, with no
+ * error where there are more. */
+ZAX_API zax_status zax_negotiate(zax_config *config, const char *text, size_t length, zax_outcome *room, size_t cap, size_t *needed,
+                                 zax_error *error);
+ZAX_API zax_status zax_config_rows(zax_config *config, zax_row *room, size_t cap, size_t *needed);
+ZAX_API zax_status zax_config_row_fmtp(zax_config *config, size_t row, char *room, size_t cap, size_t *needed);
+/* Puts the locked rows of its kind into a section of one's own description. */
+ZAX_API zax_status zax_answer(zax_config *config, zax_session *own, size_t section);
+
+#ifdef __cplusplus
+}
+#endif
+#endif
