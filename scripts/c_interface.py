@@ -1,0 +1,152 @@
+"""Whether the header of the C library, its shim and the exports of crates/c_calls are of one mind.
+
+Of the exports it makes declarations and structs in C, which the C compiler compares with capi/proved_calls.h and capi/zaxmonth.h: the
+number, order and types of parameters and results, the fields of structs with their offsets and sizes, and what each status and codec is
+as a number. Names of calls and parameters are compared as text; and of the compiled shim, that it defines each call of the header and
+calls each export. Where there is no C compiler, names alone are compared, and that is said."""
+import re
+import shutil
+import subprocess
+import tempfile
+from dataclasses import dataclass
+from pathlib import Path
+
+from proved import TOP
+
+CAPI = TOP / "capi"
+CALLS = TOP / "crates" / "c_calls"
+PARTS = TOP / "crates" / "c_parts"
+ITEMS = {"u8": "uint8_t", "Row": "zax_row", "Outcome": "zax_outcome"}
+PLAIN = {"usize": "size_t", "u32": "uint32_t", "u8": "uint8_t", "bool": "bool"}
+HANDLES = {"SessionHandle": "session_handle", "ConfigHandle": "config_handle"}
+STRUCTS = {"Row": "zax_row", "Outcome": "zax_outcome"}
+# What each status of specs/Status.antt is in the header, each cause of a refused round, and the codecs whose name there isn't their own
+STATUSES = {
+    "done": "OK",
+    "no_session": "E_PARSE",
+    "no_utf8": "E_UTF8",
+    "no_memory": "E_MEMORY",
+    "no_room": "E_ROOM",
+    "no_section": "E_SECTION",
+    "nothing_agreed": "E_NOTHING",
+}
+CAUSES = {"TypeTooLarge": "TYPE_TOO_LARGE", "ClaimedTwice": "CLAIMED_TWICE", "Exhausted": "EXHAUSTED", "Memory": "ROUND_MEMORY"}
+CODECS = {"Tele": "TELEPHONE_EVENT", "Null": "NULL_CODEC", "AmrWb": "AMR_WB"}
+
+
+@dataclass
+class Export:
+    name: str
+    parameters: list[tuple[str, str]]  # C's types, and names
+    result: str
+
+    def declared(self):
+        inside = ", ".join(f"{kind}{'' if kind.endswith('*') else ' '}{name}" for kind, name in self.parameters)
+        return f"{self.result} {self.name}({inside or 'void'});"
+
+
+def crossed(name, kind):
+    """The parameters in C of a parameter of an export."""
+    if kind == "Global":
+        return []
+    if slice_ := re.fullmatch(r"&(mut )?\[(\w+)\]", kind):
+        const, more = ("", "cap") if slice_[1] else ("const ", "length")
+        return [(f"{const}{ITEMS[slice_[2]]} *", name), ("size_t", f"{name}_{more}")]
+    if place := re.fullmatch(r"&mut (\w+)", kind):
+        return [("struct handle *" if place[1] in HANDLES else f"{PLAIN[place[1]]} *", name)]
+    return [(PLAIN[kind], name)]
+
+
+def exports():
+    for path in sorted((CALLS / "src").glob("*.rt")):
+        for name, inside, result in re.findall(r'^pub extern "C" fn (\w+)\(([^)]*)\)(?: -> (\w+))?', path.read_text("utf-8"), re.M):
+            pairs = [it.strip().split(": ", 1) for it in inside.split(",") if it.strip()]
+            parameters = [made for it, kind in pairs for made in crossed(it, kind)]
+            yield Export(name, parameters, PLAIN[result] if result else "void")
+
+
+def fields(path, struct):
+    """The fields of a struct of C's layout that are in memory, by name, with their types in C."""
+    text = path.read_text("utf-8")
+    inside = re.search(rf"#\[repr\(C\)\]\n(?:#\[.*\]\n)*pub struct {struct} \{{\n(.*?)\n\}}", text, re.S)[1]
+    found = re.findall(r"^    (?:pub )?(\w+): ([^,]+),$", inside, re.M)
+    return [(name, "void *" if kind.startswith("*mut") else PLAIN[kind]) for name, kind in found if kind != "Global"]
+
+
+def declarations(file):
+    """The functions that a header declares: of each its name, with the names of its parameters."""
+    text = re.sub(r"/\*[\s\S]*?\*/|^#.*$", "", file.read_text(), flags=re.M)
+    for name, inside in re.findall(r"\b(zaxp?_\w+)\(([^)]*)\);", text):
+        yield name, [re.search(r"\w+$", it.strip())[0] for it in inside.split(",") if it.strip() != "void"]
+
+
+def asserted(claim):
+    return f'_Static_assert({claim}, "{claim}");'
+
+
+def same_struct(ours, theirs, own):
+    """Claims that a struct of the header is this one: it has these fields, at the same places, and nothing besides."""
+    members = " ".join(f"{kind}{'' if kind.endswith('*') else ' '}{name};" for name, kind in own)
+    yield f"struct {ours} {{ {members} }};"
+    yield asserted(f"sizeof({theirs}) == sizeof(struct {ours}) && _Alignof({theirs}) == _Alignof(struct {ours})")
+    for name, kind in own:
+        yield asserted(f"offsetof({theirs}, {name}) == offsetof(struct {ours}, {name})")
+        yield asserted(f"_Generic((({theirs} *)0)->{name}, {kind}: 1, default: 0)")
+
+
+def numbers():
+    """The names of the header with the numbers that the definitions give them."""
+    statuses = dict(re.findall(r"^(\w+) = (\d+)$", (CALLS / "specs" / "Status.antt").read_text("utf-8"), re.M))
+    yield from ((f"ZAX_{STATUSES[name]}", number) for name, number in statuses.items())
+    row = (PARTS / "specs" / "Row.antt").read_text("utf-8")
+    for name, number in re.findall(r"^codec_number (\w+) = (\d+)$", row, re.M):
+        yield f"ZAX_{CODECS.get(name, name.upper())}", number
+    for number, name in re.findall(r"bit (\d+) row\.fb_(\w+)", row):
+        yield f"ZAX_{name.upper()}", number
+    for name, number in re.findall(r"^c_outcome \(?Err \(?(\w+).*cause = (\d+)", row, re.M):
+        yield f"ZAX_{CAUSES[name]}", number
+
+
+def compared(found):
+    """A text in C that compiles where header and exports agree."""
+    yield from ("#include <stdbool.h>", "#include <stddef.h>", '#include "proved_calls.h"')
+    yield from (it.declared() for it in found)
+    for struct, name in STRUCTS.items():
+        yield from same_struct(f"rt_{name}", name, fields(PARTS / "src" / "row.rt", struct))
+    for struct, file in HANDLES.items():
+        yield from same_struct(f"rt_{file}", "struct handle", fields(PARTS / "src" / f"{file}.rt", struct))
+    yield from (asserted(f"{name} == {number}") for name, number in numbers())
+
+
+def compiles(words, room):
+    done = subprocess.run(["cc", "-std=c17", f"-I{CAPI}", *words], cwd=room, capture_output=True, text=True)
+    return [] if done.returncode == 0 else [it for it in done.stderr.splitlines() if "error:" in it]
+
+
+def by_compiler(found):
+    with tempfile.TemporaryDirectory() as room:
+        Path(room, "compared.c").write_text("\n".join(compared(found)) + "\n")
+        yield from compiles(["-c", "compared.c"], room)
+        wrong = compiles(["-c", CAPI / "zaxmonth.c", "-fPIC", "-o", "shim.o"], room)
+        yield from wrong
+        if wrong:
+            return
+        named = subprocess.run(["nm", "shim.o"], cwd=room, capture_output=True, text=True, check=True).stdout
+        defined, called = set(re.findall(r" T (\w+)$", named, re.M)), set(re.findall(r" U (zaxp_\w+)$", named, re.M))
+        header = {name for name, _ in declarations(CAPI / "zaxmonth.h")}
+        yield from (f"zaxmonth.h declares {it}, and zaxmonth.c doesn't define it" for it in sorted(header - defined))
+        yield from (f"zaxmonth.c defines {it}, and zaxmonth.h doesn't declare it" for it in sorted(defined - header))
+        yield from (f"zaxmonth.c doesn't call {it.name}" for it in found if it.name not in called)
+
+
+def faults():
+    found = list(exports())
+    ours = {it.name: [name for _, name in it.parameters] for it in found}
+    theirs = dict(declarations(CAPI / "proved_calls.h"))
+    for name in sorted(ours.keys() | theirs.keys()):
+        if ours.get(name) != theirs.get(name):
+            yield f"{name} has {ours.get(name)} as an export, and {theirs.get(name)} in proved_calls.h"
+    if shutil.which("cc"):
+        yield from by_compiler(found)
+    else:
+        print("capi: there is no C compiler, so names alone are compared")

@@ -1,0 +1,224 @@
+/* Hostile arguments: each call answers a status, writes nothing beyond its room and reads nothing beyond its text.   hostile FILE */
+#include <zaxmonth.h>
+
+#include <stdio.h>
+#include <stdlib.h>
+#include <string.h>
+#include <sys/mman.h>
+
+static long passed, failed;
+
+#define IS(found, wanted)                                                                                                \
+    do {                                                                                                                 \
+        long is_ = (long)(found), be_ = (long)(wanted);                                                                  \
+        passed += is_ == be_;                                                                                            \
+        if (is_ != be_)                                                                                                  \
+            failed++, printf("hostile.c:%d: %s is %ld, not %ld\n", __LINE__, #found, is_, be_);                          \
+    } while (0)
+
+enum { PAGE = 4096, CANARY = 0xA5, GUARD = 64 };
+
+static char *text;
+static size_t length;
+
+/* A copy of the bytes that ends where a page begins that can't be read. */
+static char *at_the_end_of_memory(const char *from, size_t size)
+{
+    size_t pages = size / PAGE + 1;
+    char *mapped = mmap(NULL, (pages + 1) * PAGE, PROT_READ | PROT_WRITE, MAP_PRIVATE | MAP_ANONYMOUS, -1, 0);
+    if (mapped == MAP_FAILED || mprotect(mapped + pages * PAGE, PAGE, PROT_NONE))
+        exit(3);
+    char *at = mapped + pages * PAGE - size;
+    memcpy(at, from, size);
+    return at;
+}
+
+static void let_go(char *at, size_t size)
+{
+    size_t pages = size / PAGE + 1;
+    munmap(at + size - pages * PAGE, (pages + 1) * PAGE);
+}
+
+typedef zax_status call_t(void *owner, void *room, size_t cap, size_t *needed);
+
+static zax_status print(void *s, void *room, size_t cap, size_t *needed) { return zax_print(s, room, cap, needed); }
+static zax_status mid(void *s, void *room, size_t cap, size_t *needed) { return zax_section_mid(s, 0, room, cap, needed); }
+static zax_status rows(void *s, void *room, size_t cap, size_t *needed) { return zax_rows(s, 0, room, cap, needed); }
+static zax_status fmtp(void *s, void *room, size_t cap, size_t *needed) { return zax_row_fmtp(s, 0, 0, room, cap, needed); }
+static zax_status json(void *s, void *room, size_t cap, size_t *needed) { return zax_rows_json(s, room, cap, needed); }
+static zax_status held(void *c, void *room, size_t cap, size_t *needed) { return zax_config_rows(c, room, cap, needed); }
+static zax_status held_fmtp(void *c, void *room, size_t cap, size_t *needed) { return zax_config_row_fmtp(c, 0, room, cap, needed); }
+
+/* How many of the bytes aren't the canary any more. */
+static size_t changed(const uint8_t *from, size_t count)
+{
+    size_t found = 0;
+    for (size_t i = 0; i < count; i++)
+        found += from[i] != CANARY;
+    return found;
+}
+
+/* Each room from none to one more than is needed: what fits is written, and no byte before the room or behind it. */
+static void rooms(call_t *call, void *owner, size_t size)
+{
+    size_t needed = 99, got, step;
+    zax_status asked = call(owner, NULL, 0, &needed);
+    IS(asked, needed ? ZAX_E_ROOM : ZAX_OK);
+    uint8_t *all = malloc((needed + 1) * size + 2 * GUARD), *whole = malloc(needed * size + 1);
+    IS(call(owner, whole, needed, &got), ZAX_OK);
+    IS(got, needed);
+    for (size_t cap = 0; cap <= needed + 1; cap += step) {
+        step = needed > 600 && cap > 40 && cap + 40 < needed ? 37 : 1;
+        memset(all, CANARY, (needed + 1) * size + 2 * GUARD);
+        zax_status status = call(owner, all + GUARD, cap, &got);
+        int fits = cap >= needed;
+        IS(status, fits ? ZAX_OK : ZAX_E_ROOM);
+        IS(got, needed);
+        size_t wrote = fits ? needed * size : 0;
+        IS(memcmp(all + GUARD, whole, wrote), 0);
+        IS(changed(all, GUARD), 0);
+        IS(changed(all + GUARD + wrote, (needed + 1) * size + GUARD - wrote), 0);
+    }
+    IS(call(owner, all + GUARD, needed, NULL), ZAX_OK);
+    IS(call(owner, NULL, 5, &got), ZAX_E_ARGUMENT);
+    IS(call(owner, all, (size_t)-1, &got), ZAX_E_ARGUMENT);
+    IS(call(NULL, all, needed, &got), ZAX_E_ARGUMENT);
+    IS(got, 0);
+    free(all);
+    free(whole);
+}
+
+/* Each beginning of the text, and the text with each byte wrong, up against memory that can't be read. */
+static void wrong_texts(void)
+{
+    zax_session *session;
+    zax_error error;
+    for (size_t cut = 0; cut <= length; cut++) {
+        char *part = at_the_end_of_memory(text, cut);
+        if (zax_read(part, cut, &session, &error) == ZAX_OK)
+            zax_session_free(session);
+        else
+            IS(session == NULL && error.message[0], 1);
+        let_go(part, cut);
+    }
+    char *whole = at_the_end_of_memory(text, length);
+    for (size_t at = 0; at < length; at++) {
+        char was = whole[at];
+        whole[at] = (char)(at * 37 + 128);
+        zax_status status = zax_read(whole, length, &session, &error);
+        if (status == ZAX_OK)
+            zax_session_free(session);
+        IS(status == ZAX_OK || status == ZAX_E_PARSE || status == ZAX_E_UTF8, 1);
+        whole[at] = was;
+    }
+    let_go(whole, length);
+}
+
+static void reading(void)
+{
+    zax_session *session = (void *)1;
+    zax_error error;
+    IS(zax_read(NULL, 0, &session, &error), ZAX_E_PARSE);
+    IS(session, 0);
+    IS(error.status, ZAX_E_PARSE);
+    IS(zax_read("", 0, &session, NULL), ZAX_E_PARSE);
+    session = (void *)1;
+    IS(zax_read(NULL, 3, &session, &error), ZAX_E_ARGUMENT);
+    IS(session, 0);
+    IS(zax_read("v=0", 3, NULL, &error), ZAX_E_ARGUMENT);
+    IS(zax_read(text, (size_t)-1, &session, &error), ZAX_E_ARGUMENT);
+    IS(zax_read("v=0\xff\xfe", 5, &session, &error), ZAX_E_UTF8);
+    IS(strcmp(error.message, "text is not UTF-8"), 0);
+    IS(zax_read("v=0\r\n\0x", 7, &session, &error), ZAX_E_PARSE);
+    static char more[1 << 16];
+    memcpy(more, text, length);
+    memcpy(more + length, "what isn't read\r\n", 17);
+    IS(zax_read(more, length + 17, &session, &error), ZAX_OK);
+    IS(error.offset, length);
+    IS(error.line > 1, 1);
+    zax_session_free(session);
+    zax_session_free(NULL);
+    zax_config_free(NULL);
+    /* a message that is longer than its room is cut before a letter, and ends with a zero */
+    char *line = more;
+    line += sprintf(line, "v=0\r\no=- 1 1 IN IP4 0.0.0.0\r\ns=-\r\nt=0 0\r\nm=audio 9 UDP/TLS/RTP/SAVPF 0\r\nc=IN IP4 0.0.0.0\r\na=mid:");
+    for (int i = 0; i < 400; i++)
+        line += sprintf(line, "\xc3\xa9");
+    line += sprintf(line, "\r\n");
+    zax_status status = zax_read(more, (size_t)(line - more), &session, &error);
+    IS(status != ZAX_E_UTF8, 1);
+    IS(memchr(error.message, 0, sizeof error.message) != NULL, 1);
+    if (status == ZAX_OK)
+        zax_session_free(session);
+}
+
+static void rounds(zax_session *own)
+{
+    zax_config *config;
+    zax_error error;
+    size_t got;
+    IS(zax_config_defaults(NULL), ZAX_E_ARGUMENT);
+    IS(zax_config_defaults(&config), ZAX_OK);
+    IS(zax_answer(config, own, 0), ZAX_E_NOTHING);
+    uint8_t guarded[8 * sizeof(zax_outcome) + 2 * GUARD];
+    zax_outcome *outcomes = (zax_outcome *)(guarded + GUARD);
+    IS(zax_negotiate(config, "x", 1, outcomes, 8, &got, &error), ZAX_E_PARSE);
+    IS(zax_negotiate(config, "\xff", 1, NULL, 0, NULL, &error), ZAX_E_UTF8);
+    IS(zax_negotiate(NULL, text, length, outcomes, 8, &got, &error), ZAX_E_ARGUMENT);
+    IS(zax_negotiate(config, text, length, NULL, 8, &got, NULL), ZAX_E_ARGUMENT);
+    IS(zax_negotiate(config, NULL, 1, outcomes, 8, &got, NULL), ZAX_E_ARGUMENT);
+    for (size_t cap = 0; cap <= 4; cap++) {
+        memset(guarded, CANARY, sizeof guarded);
+        IS(zax_negotiate(config, text, length, cap ? outcomes : NULL, cap, &got, &error), ZAX_OK);
+        IS(got > 0 && got < 4, 1);
+        size_t wrote = (cap < got ? cap : got) * sizeof(zax_outcome);
+        for (size_t i = 0; i < wrote / sizeof(zax_outcome); i++)
+            IS(outcomes[i].cause, ZAX_ACCEPTED);
+        IS(changed(guarded, GUARD), 0);
+        IS(changed(guarded + GUARD + wrote, sizeof guarded - GUARD - wrote), 0);
+    }
+    rooms(held, config, sizeof(zax_row));
+    rooms(held_fmtp, config, 1);
+    IS(zax_config_row_fmtp(config, (size_t)-1, NULL, 0, &got), ZAX_E_SECTION);
+    IS(zax_answer(config, own, 0), ZAX_OK);
+    IS(zax_answer(config, own, 77), ZAX_E_SECTION);
+    IS(zax_answer(config, NULL, 0), ZAX_E_ARGUMENT);
+    IS(zax_answer(NULL, own, 0), ZAX_E_ARGUMENT);
+    rooms(print, own, 1);
+    zax_config_free(config);
+}
+
+int main(int count, char **words)
+{
+    FILE *file = count == 2 ? fopen(words[1], "rb") : NULL;
+    if (!file)
+        return 2;
+    text = malloc(1 << 16);
+    length = fread(text, 1, 1 << 15, file);
+    fclose(file);
+    reading();
+    wrong_texts();
+    zax_session *session;
+    size_t got;
+    IS(zax_read(text, length, &session, NULL), ZAX_OK);
+    IS(zax_sections(session) > 0, 1);
+    IS(zax_sections(NULL), 0);
+    rooms(print, session, 1);
+    rooms(mid, session, 1);
+    rooms(rows, session, sizeof(zax_row));
+    rooms(fmtp, session, 1);
+    rooms(json, session, 1);
+    zax_row one;
+    IS(zax_rows(session, 99, &one, 1, &got), ZAX_E_SECTION);
+    IS(zax_rows(session, (size_t)-1, &one, 1, &got), ZAX_E_SECTION);
+    IS(zax_row_fmtp(session, 0, 1000, NULL, 0, &got), ZAX_E_SECTION);
+    IS(zax_row_fmtp(session, 99, 0, NULL, 0, &got), ZAX_E_SECTION);
+    IS(zax_section_mid(session, 99, NULL, 0, &got), ZAX_E_SECTION);
+    rounds(session);
+    zax_session_free(session);
+    free(text);
+    IS(strcmp(zax_version(), ZAX_VERSION), 0);
+    IS(zax_abi(), ZAX_ABI);
+    printf("%ld passed, %ld failed\n", passed, failed);
+    return failed != 0;
+}

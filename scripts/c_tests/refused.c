@@ -1,0 +1,160 @@
+/* Each allocation refused in turn: the answer is ZAX_E_MEMORY, or a round that tells of it; nothing leaks, and what a refused call was
+ * given is as it was.   refused FILE      It is linked with --wrap of malloc, calloc, realloc and free. */
+#include <zaxmonth.h>
+
+#include <malloc.h>
+#include <stdio.h>
+#include <stdlib.h>
+#include <string.h>
+
+static long left = -1, live; /* allocations until one is refused, and blocks that are held */
+
+void *__real_malloc(size_t);
+void *__real_calloc(size_t, size_t);
+void *__real_realloc(void *, size_t);
+void __real_free(void *);
+
+static int is_refused(void) { return left >= 0 && left-- == 0; }
+
+void *__wrap_malloc(size_t size)
+{
+    void *at = is_refused() ? NULL : __real_malloc(size);
+    live += at != NULL;
+    return at;
+}
+
+void *__wrap_calloc(size_t count, size_t size)
+{
+    void *at = is_refused() ? NULL : __real_calloc(count, size);
+    live += at != NULL;
+    return at;
+}
+
+/* A block that is to be no larger than what malloc has given for it stays where it is: a call goes on with it, where that is refused. */
+void *__wrap_realloc(void *from, size_t size)
+{
+    if (from && size <= malloc_usable_size(from))
+        return from;
+    void *at = is_refused() ? NULL : __real_realloc(from, size);
+    live += at && !from;
+    return at;
+}
+
+void __wrap_free(void *at)
+{
+    live -= at != NULL;
+    __real_free(at);
+}
+
+static char text[1 << 20], room[1 << 20], before[1 << 20], after[1 << 20];
+static zax_row rows[128], rows_before[128], rows_after[128];
+static size_t length;
+static long wrong;
+
+/* What a handle holds, with no allocation refused. */
+static size_t printed(zax_session *session, char *to)
+{
+    long was = left;
+    size_t size = 0;
+    left = -1;
+    wrong += zax_print(session, to, sizeof before, &size) != ZAX_OK;
+    left = was;
+    return size;
+}
+
+static size_t listed(zax_config *config, zax_row *to)
+{
+    long was = left;
+    size_t count = 0;
+    left = -1;
+    wrong += zax_config_rows(config, to, 128, &count) != ZAX_OK;
+    left = was;
+    return count;
+}
+
+/* A call that only asks leaves the description as it was, whatever is refused. */
+#define ASKS(session, call)                                                                                              \
+    do {                                                                                                                 \
+        size_t was_ = printed(session, before);                                                                          \
+        status = call;                                                                                                   \
+        wrong += printed(session, after) != was_ || memcmp(before, after, was_);                                         \
+        if (status)                                                                                                      \
+            goto end;                                                                                                    \
+    } while (0)
+
+static int run(void)
+{
+    zax_session *session = NULL, *own = NULL;
+    zax_config *config = NULL;
+    zax_error error;
+    zax_outcome outcomes[16];
+    size_t count;
+    int status = zax_read(text, length, &session, &error);
+    if (status) {
+        wrong += session != NULL || error.status != (uint32_t)status;
+        goto end;
+    }
+    ASKS(session, zax_print(session, room, sizeof room, &count));
+    status = zax_read(room, count, &own, &error);
+    if (status)
+        goto end;
+    ASKS(session, zax_rows(session, 0, rows, 128, &count));
+    ASKS(session, zax_row_fmtp(session, 0, 0, room, sizeof room, &count));
+    ASKS(session, zax_section_mid(session, 0, room, sizeof room, &count));
+    ASKS(session, zax_rows_json(session, room, sizeof room, &count));
+    status = zax_config_defaults(&config);
+    if (status) {
+        wrong += config != NULL;
+        goto end;
+    }
+    size_t was = listed(config, rows_before);
+    status = zax_negotiate(config, text, length, outcomes, 16, &count, &error);
+    if (status) {
+        wrong += listed(config, rows_after) != was || memcmp(rows_before, rows_after, was * sizeof *rows);
+        goto end;
+    }
+    for (size_t i = 0; i < count; i++)
+        if (outcomes[i].cause == ZAX_ROUND_MEMORY)
+            status = ZAX_E_MEMORY;
+    if (status)
+        goto end;
+    status = zax_config_rows(config, rows, 128, &count);
+    if (!status)
+        status = zax_config_row_fmtp(config, 0, room, sizeof room, &count);
+    if (status)
+        goto end;
+    size_t own_was = printed(own, before);
+    status = zax_answer(config, own, 0);
+    if (status)
+        wrong += printed(own, after) != own_was || memcmp(before, after, own_was);
+end:
+    zax_session_free(session);
+    zax_session_free(own);
+    zax_config_free(config);
+    return status;
+}
+
+int main(int count, char **words)
+{
+    FILE *file = count == 2 ? fopen(words[1], "rb") : NULL;
+    if (!file)
+        return 2;
+    length = fread(text, 1, sizeof text, file);
+    fclose(file);
+    long begin = live, passed = 0, failed = 0;
+    for (long n = 0;; n++) {
+        left = n;
+        wrong = 0;
+        int status = run(), was_refused = left < 0;
+        left = -1;
+        int is_right = status == (was_refused ? ZAX_E_MEMORY : ZAX_OK) && live == begin && !wrong;
+        passed += is_right;
+        failed += !is_right;
+        if (!is_right)
+            printf("allocation %ld: status %d, %ld blocks are left, %ld changes\n", n, status, live - begin, wrong);
+        if (!was_refused)
+            break;
+    }
+    printf("%ld passed, %ld failed\n", passed, failed);
+    return failed != 0;
+}

@@ -1,0 +1,118 @@
+/* Does what sdpshow does, by the calls of zaxmonth.h:   texts text|rows|negotiate < TEXT */
+#include <zaxmonth.h>
+
+#include <stdio.h>
+#include <stdlib.h>
+#include <string.h>
+
+static char text[1 << 20], room[1 << 20];
+static zax_row rows[4096];
+
+static const char *const codecs[] = {"unknown", "opus", "PCMU", "PCMA", "G722", "CN",  "AMR-WB",          "H264", "H265",
+                                     "H266",    "VP8",  "VP9",  "AV1",  "telephone-event", "rtx", "red", "null"};
+
+static void must(zax_status status)
+{
+    if (status != ZAX_OK) {
+        fprintf(stderr, "a call answers %d\n", status);
+        exit(3);
+    }
+}
+
+static void show_type(uint8_t pt)
+{
+    if (pt == ZAX_NO_TYPE)
+        printf(" -");
+    else
+        printf(" %d", pt);
+}
+
+static void show_row(const zax_row *row, const char *fmtp, size_t length)
+{
+    printf(" %d", row->pt);
+    show_type(row->rtx);
+    show_type(row->red);
+    printf(" %s/%u", codecs[row->codec], row->clock_rate);
+    if (row->channels)
+        printf("/%d", row->channels);
+    printf(" %.*s\n", length ? (int)length : 1, length ? fmtp : "-");
+}
+
+static void show_rows(zax_session *session)
+{
+    for (size_t at = 0; at < zax_sections(session); at++) {
+        size_t count, length;
+        char mid[64];
+        must(zax_section_mid(session, at, mid, sizeof mid, &length));
+        must(zax_rows(session, at, rows, 4096, &count));
+        for (size_t i = 0; i < count; i++) {
+            size_t said;
+            must(zax_row_fmtp(session, at, i, room, sizeof room, &said));
+            printf("%.*s", length ? (int)length : 1, length ? mid : "-");
+            show_row(&rows[i], room, said);
+        }
+    }
+}
+
+static const char *cause_of(const zax_outcome *outcome)
+{
+    static char said[64];
+    switch (outcome->cause) {
+    case ZAX_TYPE_TOO_LARGE:
+        snprintf(said, sizeof said, "payload type %d is above 127", outcome->pt);
+        return said;
+    case ZAX_CLAIMED_TWICE:
+        snprintf(said, sizeof said, "payload type %d is claimed twice", outcome->pt);
+        return said;
+    case ZAX_EXHAUSTED:
+        return "payload type ranges exhausted";
+    default:
+        return "out of memory";
+    }
+}
+
+static int negotiate(size_t length)
+{
+    static zax_outcome outcomes[4096];
+    zax_config *config;
+    zax_error error;
+    size_t count;
+    must(zax_config_defaults(&config));
+    if (zax_negotiate(config, text, length, outcomes, 4096, &count, &error) != ZAX_OK)
+        return fprintf(stderr, "%s\n", error.message), 1;
+    for (size_t i = 0; i < count; i++)
+        if (outcomes[i].cause == ZAX_ACCEPTED)
+            printf("round %zu ok\n", i + 1);
+        else
+            printf("round %zu refused: %s\n", i + 1, cause_of(&outcomes[i]));
+    must(zax_config_rows(config, rows, 4096, &count));
+    for (size_t i = 0; i < count; i++) {
+        size_t said;
+        must(zax_config_row_fmtp(config, i, room, sizeof room, &said));
+        printf("%s", rows[i].locked ? "locked" : "open");
+        show_row(&rows[i], room, said);
+    }
+    zax_config_free(config);
+    return 0;
+}
+
+int main(int count, char **words)
+{
+    if (count != 2)
+        return 2;
+    size_t length = fread(text, 1, sizeof text, stdin), size;
+    if (!strcmp(words[1], "negotiate"))
+        return negotiate(length);
+    zax_session *session;
+    zax_error error;
+    if (zax_read(text, length, &session, &error) != ZAX_OK)
+        return fprintf(stderr, "%s\n", error.message), 1;
+    if (!strcmp(words[1], "rows")) {
+        show_rows(session);
+    } else {
+        must(zax_print(session, room, sizeof room, &size));
+        fwrite(room, 1, size, stdout);
+    }
+    zax_session_free(session);
+    return 0;
+}
