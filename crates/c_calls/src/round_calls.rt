@@ -2,12 +2,13 @@
 
 ghost use Rattle.std.specs.Prelude.{◌≡◌, ◌≢◌, [], IfErr, IfOk, IfSome, OnErr, OnOk, List, Some, ℕ, length, map};
 ghost use Rattle.std.specs.List.{slice_get};
+ghost use Rattle.std.specs.Str.{IsUtf8};
 ghost use Rattle.c_parts.specs.Full.{IsFull};
 ghost use Rattle.c_parts.specs.Refused.{RefusesText};
 ghost use Rattle.c_parts.specs.Row.{c_outcome};
 ghost use Rattle.c_calls.specs.Answered.{Answered, Lists, of_type};
 ghost use Rattle.c_calls.specs.Ran.{Ran, RanHeld, front};
-ghost use Rattle.c_calls.specs.Status.{done, no_session};
+ghost use Rattle.c_calls.specs.Status.{done, no_session, no_utf8};
 ghost use Rattle.str0m_sdp.specs.SectionOf.{made};
 ghost use Rattle.str0m_sdp.specs.declared.media_line.MediaLine.{MediaLine};
 ghost use Rattle.str0m_sdp.specs.declared.session.Sdp.{Sdp};
@@ -104,6 +105,7 @@ pub extern "C" fn zaxp_config_negotiate(
     ensures same { result ≢ done → handle.new.inner ≡ handle.old.inner }
     ensures kept { result ≢ done → room.new ≡ room.old }
     ensures no_session { result ≡ no_session → (sdp : Sdp) → Described text.now sdp → ⊥ }
+    ensures no_text { result ≡ no_utf8 → IsUtf8 text.now → ⊥ }
 {
     *message_length = 0;
     let mut config = handle.take(alloc);

@@ -1,9 +1,10 @@
 //! What a call answers.
 
 ghost use Rattle.std.specs.Prelude.{◌≡◌, ◌≢◌, ◌<◌, length, List, ℕ};
+ghost use Rattle.std.specs.Str.{IsUtf8};
 ghost use Rattle.c_parts.specs.Room.{Holds};
 ghost use Rattle.c_parts.specs.Refused.{RefusesText};
-ghost use Rattle.c_calls.specs.Status.{done, no_memory, no_room, no_session};
+ghost use Rattle.c_calls.specs.Status.{done, no_room, no_session, no_utf8};
 ghost use Rattle.str0m_sdp.specs.declared.session.Sdp.{Sdp};
 ghost use Rattle.str0m_signal.specs.Reading.{Described};
 
@@ -44,6 +45,7 @@ pub(crate) fn refuse(
 ) -> u32
     ensures refused { result ≢ done }
     ensures no_session { (text : List ℕ) → RefusesText refusal.now text → result ≡ no_session → (sdp : Sdp) → Described text sdp → ⊥ }
+    ensures no_text { (text : List ℕ) → RefusesText refusal.now text → result ≡ no_utf8 → IsUtf8 text → ⊥ }
 {
     if let Ok(text) = refusal.message(alloc) {
         let _ = copied(text.as_bytes(), message, message_length);

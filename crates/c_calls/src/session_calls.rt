@@ -2,11 +2,12 @@
 
 ghost use Rattle.std.specs.Prelude.{◌≡◌, ◌≢◌, None, Some, List, ℕ, length};
 ghost use Rattle.std.specs.List.{slice_get};
+ghost use Rattle.std.specs.Str.{IsUtf8};
 ghost use Rattle.c_parts.specs.Full.{IsFull};
 ghost use Rattle.c_parts.specs.Room.{Holds};
 ghost use Rattle.c_calls.specs.Held.{Of, OfSection};
 ghost use Rattle.c_calls.specs.Mid.{mid_named, mid_text};
-ghost use Rattle.c_calls.specs.Status.{done, no_memory, no_section, no_session};
+ghost use Rattle.c_calls.specs.Status.{done, no_memory, no_section, no_session, no_utf8};
 ghost use Rattle.str0m_sdp.specs.Session.{sdp_text};
 ghost use Rattle.str0m_sdp.specs.declared.session.Sdp.{Sdp};
 ghost use Rattle.str0m_signal.specs.Reading.{Described, Reading};
@@ -31,6 +32,7 @@ pub extern "C" fn zaxp_session_read(
     requires { handle.old.inner ≡ None }
     ensures read { result ≡ done → (sdp : Sdp) × (rest : List ℕ) × (handle.new.inner ≡ Some sdp) × Reading text.now (sdp, rest) × (unread.new ≡ length rest) }
     ensures no_session { result ≡ no_session → (sdp : Sdp) → Described text.now sdp → ⊥ }
+    ensures no_text { result ≡ no_utf8 → IsUtf8 text.now → ⊥ }
     ensures empty { result ≢ done → handle.new.inner ≡ None }
 {
     *message_length = 0;

@@ -1,6 +1,7 @@
 //! A text that C gives, read.
 
 ghost use Rattle.std.specs.Prelude.{◌≡◌, ◌≢◌, IfErr, IfOk, List, length, ℕ};
+ghost use Rattle.std.specs.Str.{IsUtf8};
 ghost use Rattle.str0m_sdp.specs.declared.session.Sdp.{Sdp};
 ghost use Rattle.str0m_signal.specs.Answers.{Refuses};
 ghost use Rattle.str0m_signal.specs.Reading.{Described, Reading};
@@ -46,6 +47,7 @@ impl Refusal {
     pub fn code(&self) -> u32
         ensures refused { result ≢ 0 }
         ensures no_session { (text : List ℕ) → RefusesText self.now text → result ≡ 1 → (sdp : Sdp) → Described text sdp → ⊥ }
+        ensures no_text { (text : List ℕ) → RefusesText self.now text → result ≡ 2 → IsUtf8 text → ⊥ }
     {
         match self {
             Refusal::NotUtf8 => 2,
