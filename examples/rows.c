@@ -3,7 +3,6 @@
 #include <zaxmonth.h>
 
 #include <stdio.h>
-#include <stdlib.h>
 
 static char text[1 << 20];
 
