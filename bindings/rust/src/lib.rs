@@ -48,14 +48,20 @@ pub enum SdpError {
     NothingAgreed,
 }
 
-impl fmt::Display for SdpError {
-    fn fmt(&self, f: &mut fmt::Formatter<'_>) -> fmt::Result {
+impl SdpError {
+    fn message(&self) -> &str {
         match self {
-            SdpError::Parse(message) => f.write_str(message),
-            SdpError::Memory => f.write_str("out of memory"),
-            SdpError::NoSection => f.write_str("there is no such section or row"),
-            SdpError::NothingAgreed => f.write_str("nothing is agreed that could be printed there"),
+            SdpError::Parse(message) => message,
+            SdpError::Memory => "out of memory",
+            SdpError::NoSection => "there is no such section or row",
+            SdpError::NothingAgreed => "nothing is agreed that could be printed there",
         }
+    }
+}
+
+impl fmt::Display for SdpError {
+    fn fmt(&self, out: &mut fmt::Formatter<'_>) -> fmt::Result {
+        out.write_str(self.message())
     }
 }
 
