@@ -6,13 +6,14 @@ use Rattle.std_heap.specs.contracts.Global as Heap
 use Rattle.std_heap.specs.contracts.GlobalAllocator.TheImpl.{ghosts, dict}
 use Rattle.std_heap.proofs.Global.TheLaws as heap
 use denote.Signature.{Slot, plain}
+use Rattle.c_parts.proofs.Steps.{boxed}
 use Rattle.c_parts.specs.contracts.parts.Parts as Parts
 use Rattle.c_parts.specs.contracts.session_handle.SessionHandle as Handle
 use Rattle.str0m_sdp.specs.contracts.session.Sdp as Inner
 use Rattle.str0m_sdp.proofs.session.Sdp.TheLaws as inner
 
 abbrev pub E : Bx
-E = record { row = Inner.the_row; laws = inner.the_row_laws; al = record { row = Heap.the_row; laws = heap.the_row_laws; g = ghosts; d = dict; drops = impl [] tnil dnil } }
+E = boxed Inner.the_row inner.the_row_laws Heap.the_row heap.the_row_laws ghosts dict (impl [] tnil dnil)
 
 abbrev pub FromParts : Slot 0
 FromParts = plain (λ _. Parts.the_row Inner.the_row Heap.the_row ghosts)
