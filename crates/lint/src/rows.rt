@@ -38,7 +38,7 @@ pub static REFUSALS: [Row; 16] = [
     Row {
         name: "json",
         title: "the text looks like JSON",
-        remedy: "hand over the string of its member `sdp`, with line ends in place of `\\r\\n`",
+        remedy: "hand over the string of its member `sdp` as a JSON decoder gives it (`JSON.parse(text).sdp`): each `\\r\\n` in it is a line end",
         explanation: "A browser's `JSON.stringify(description)` gives an object with the members `type` and `sdp`. The description is the string in `sdp`, with its escapes undone.",
         source: "RFC 8866, section 5; RFC 8829, section 5",
         example: "{\"type\":\"offer\",\"sdp\":\"v=0\\r\\n\"}",
@@ -46,7 +46,7 @@ pub static REFUSALS: [Row; 16] = [
     Row {
         name: "version-line",
         title: "the first line has to be `v=0`",
-        remedy: "let `v=0` be the first line, with no blank and no blank line before it: in place of a line of another version",
+        remedy: "let `v=0` be the first line: mend a line of another version, take a blank line out, and put line ends where `\\r\\n` is written",
         explanation: "A description begins with the version of the protocol, which is 0.",
         source: "RFC 8866, section 5.1",
         example: "v=1",
@@ -54,7 +54,7 @@ pub static REFUSALS: [Row; 16] = [
     Row {
         name: "origin-line",
         title: "the second line has to be `o=`, a name, a number and more, with one space between each two",
-        remedy: "let the second line be as `o=- 1 1 IN IP4 0.0.0.0`: the third part is a number of at most 64 bits",
+        remedy: "let the second line be as `o=- 1 1 IN IP4 0.0.0.0`: a number of at most 64 bits stands after the name",
         explanation: "The origin names the session: a user name without spaces, the number of the session in at most 64 bits, and its version and address, which aren't kept.",
         source: "RFC 8866, section 5.2",
         example: "o=- session 1 IN IP4 0.0.0.0",
@@ -78,7 +78,7 @@ pub static REFUSALS: [Row; 16] = [
     Row {
         name: "missing-mid",
         title: "this m-section has no `a=mid`",
-        remedy: "write `a=mid:NAME` into the section, with a name that no other section has; but where its reading ended, mend that line first, since the mid may stand after it",
+        remedy: "write `a=mid:NAME` into the section, with a name that no other section has; if its reading ended at a line, mend that line first: the mid may stand after it",
         explanation: "Each section has a name, by which groups and candidates speak of it. A line that fits nowhere ends the section, so that a mid after it isn't read.",
         source: "RFC 8829, section 5.2.1; RFC 5888, section 4",
         example: "m=audio 9 UDP/TLS/RTP/SAVPF 0",
@@ -86,7 +86,7 @@ pub static REFUSALS: [Row; 16] = [
     Row {
         name: "second-mid",
         title: "this m-section has a second `a=mid`",
-        remedy: "leave the name that groups and candidates use, and take the other line out",
+        remedy: "leave the name that groups and candidates use (either, where none does), and take the other line out",
         explanation: "A section has one name.",
         source: "RFC 5888, section 4",
         example: "a=mid:0 twice in a section",
@@ -102,7 +102,7 @@ pub static REFUSALS: [Row; 16] = [
     Row {
         name: "missing-direction",
         title: "this m-section has no direction",
-        remedy: "write `a=sendrecv`, `a=sendonly`, `a=recvonly` or `a=inactive` into the section; but where its reading ended, mend that line first, since the direction may stand after it",
+        remedy: "write `a=sendrecv`, `a=sendonly`, `a=recvonly` or `a=inactive` into the section; if its reading ended at a line, mend that line first: the direction may stand after it",
         explanation: "RFC 8866 takes a section without a direction for one that sends and receives. This layer asks for the line, which every browser writes.",
         source: "RFC 8866, section 6.7; RFC 8829, section 5.2.1",
         example: "m=audio 9 UDP/TLS/RTP/SAVPF 0",
@@ -270,7 +270,7 @@ pub static MISFITS: [Row; 13] = [
     Row {
         name: "host-name",
         title: "the address of this candidate is no IP address",
-        remedy: "resolve the name before the text is read, or leave the line: it is kept as it stands, and only this candidate isn't used",
+        remedy: "write the IP address that the name resolves to, or leave the line: it is kept as it stands, only this candidate isn't used, and this warning stays",
         explanation: "Browsers hide local addresses behind names that end in `.local` and are resolved by multicast DNS. This layer resolves no names: such a candidate isn't among its candidates.",
         source: "RFC 8839, section 5.1",
         example: "a=candidate:1 1 udp 2122260223 a1b2.local 54321 typ host",
