@@ -23,7 +23,7 @@ ghost use Rattle.exchange.specs.declared.signaling_state.SignalingState.TheVaria
 use crate::answer::Answer;
 use crate::answered_section::answered_sections;
 use crate::answered_session::answered_session;
-use crate::exchange::{Exchange, is_printable, negotiated_by};
+use crate::exchange::{Exchange, negotiated_by, printable_copy};
 use crate::exchange_error::ExchangeError;
 use crate::names::grown;
 use crate::offered::{rounds_of, whole_description};
@@ -103,30 +103,23 @@ impl Exchange {
         Ok(offer)
     }
 
-    /// What answers an offer with these rows, where the other side reads it as what it says.
+    /// A copy of the answer, where the other side reads it as what it says.
     fn printable_answer(
         &self,
         config: &CodecConfig,
         offer: &Sdp,
-        rounds: &[Round],
+        answer: &Sdp,
     ) -> Result<Sdp, ExchangeError>
-        requires { AreRoundsOf offer.now offer.now.media_lines rounds.now }
-        ensures answers { IfOk result (AnswersOffer self.now.own config.now.params.items offer.now) }
-        ensures shape { IfOk result (λ answer. AllZip HasShapeOf offer.now.media_lines answer.media_lines) }
-        ensures exactly { IfOk result (λ answer. AllZip (IsAcceptedExactly self.now.own config.now.params.items offer.now) offer.now.media_lines answer.media_lines) }
-        ensures rules { IfOk result (λ answer. AllZip (KeepsRules self.now.own config.now.params.items offer.now) offer.now.media_lines answer.media_lines) }
-        ensures bundle { IfOk result (BundlesAccepted offer.now) }
-        ensures names { IfOk result (λ answer. section_mids answer.media_lines ≡ section_mids offer.now.media_lines) }
-        ensures tracks { AreDistinct (section_mids offer.now.media_lines) → IfOk result (λ answer. AreDistinct (tracks answer)) }
-        ensures read_back { IfOk result (λ answer. IsReadBack answer (versioned_text self.now.version answer)) }
+        requires { AnswersOffer self.now.own config.now.params.items offer.now answer.now }
+        ensures same { IfOk result (λ copy. copy ≡ answer.now) }
+        ensures read_back { OnOk result (IsReadBack answer.now (versioned_text self.now.version answer.now)) }
         ensures refused { IfErr result (RefusesToAnswer self.now config.now.params.items offer.now) }
     {
         let alloc = *self.config.allocator();
-        let answer = answer_to(alloc, &self.own, config, offer, rounds)?;
-        if !is_printable(alloc, &answer, self.version)? {
-            return Err(ExchangeError::NotPrintable);
+        match printable_copy(alloc, answer, self.version)? {
+            Some(copy) => Ok(copy),
+            None => Err(ExchangeError::NotPrintable),
         }
-        Ok(answer)
     }
 
     /// Answers an offer (RFC 3264, section 6; RFC 8829, section 5.3): with as many sections, in its order, of the same
@@ -186,8 +179,8 @@ impl Exchange {
         let alloc = *self.config.allocator();
         let rounds = rounds_of(alloc, &remote)?;
         let config = negotiated_by(&self.config, &remote, rounds.as_slice())?;
-        let sdp = self.printable_answer(&config, &remote, rounds.as_slice())?;
-        let local = sdp.clone()?;
+        let sdp = answer_to(alloc, &self.own, &config, &remote, rounds.as_slice())?;
+        let local = self.printable_answer(&config, &remote, &sdp)?;
         let names = grown(alloc, &self.names, local.media_lines.as_slice())?;
         let answer = Answer::new(sdp, self.version);
         self.settle(Some(local), remote, config, names);

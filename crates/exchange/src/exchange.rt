@@ -1,5 +1,5 @@
 //! Exchanges of offers and answers.
-ghost use Rattle.std.specs.Prelude.{All, ◌≡◌, ◌≢◌, ◌↔◌, ◌+◌, ◌-◌, ◌^◌, ◌∷◌, ◌++◌, [], ℕ, true, IfErr, IfOk, IsSomeAnd, IsTrue, OnErr, OnOk, None, Some, length, min};
+ghost use Rattle.std.specs.Prelude.{All, ◌≡◌, ◌≢◌, ◌↔◌, ◌+◌, ◌-◌, ◌^◌, ◌∷◌, ◌++◌, [], ℕ, true, IfErr, IfOk, IsSomeAnd, IsTrue, MatchOption, OnErr, OnOk, None, Some, length, min};
 ghost use Rattle.std.specs.Option.{option_copied};
 ghost use Rattle.std.specs.List.{AllZip};
 ghost use Rattle.str0m_formats.specs.KindRows.{kind_rows};
@@ -32,6 +32,7 @@ use crate::added::Added;
 use crate::answer::Answer;
 use crate::answered_section::answered_sections;
 use crate::answered_session::answered_session;
+use crate::copied_over::copy_over;
 use crate::exchange_error::ExchangeError;
 use crate::fresh_names::fresh_names;
 use crate::made_offer::{made_offer, placed_as, taken_names};
@@ -43,7 +44,7 @@ use crate::own_names::first_named_again;
 use crate::own_side::{OwnSide, with_direction};
 use crate::pending::Pending;
 use crate::places::{first_moved, sections_of};
-use crate::read_back::is_read_back;
+use crate::read_back::read_back;
 use crate::rule::Rule;
 use crate::signaling_state::SignalingState;
 use std::alloc::{AllocError, Global};
@@ -67,12 +68,27 @@ pub struct Exchange {
     pub(crate) names: Items<Mid>,
 }
 
-/// Whether the other side reads a description with this version as what it says.
-pub(crate) fn is_printable(alloc: Global, sdp: &Sdp, version: u64) -> Result<bool, AllocError>
-    ensures { IfOk result (λ answer. IsTrue answer ↔ IsReadBack sdp.now (versioned_text version sdp.now)) }
+/// The room that most printed descriptions fit in, in bytes: no answer depends on it.
+const USUAL_ROOM: usize = 4096;
+
+/// A copy of a description, where the other side reads the text that it prints with this version as what it says.
+pub(crate) fn printable_copy(
+    alloc: Global,
+    sdp: &Sdp,
+    version: u64,
+) -> Result<Option<Sdp>, AllocError>
+    ensures { IfOk result (λ found. MatchOption found
+        (IsReadBack sdp.now (versioned_text version sdp.now) → ⊥)
+        (λ copy. (copy ≡ sdp.now) × IsReadBack sdp.now (versioned_text version sdp.now))) }
 {
-    let text = VersionedSdp { sdp, version }.to_string(alloc)?;
-    is_read_back(alloc, sdp, text.as_str())
+    let printed = VersionedSdp { sdp, version };
+    let mut text = String::with_capacity(alloc, USUAL_ROOM)?;
+    write!(text, "{printed}")?;
+    let Some(mut copy) = read_back(alloc, sdp, text.as_str())? else {
+        return Ok(None);
+    };
+    copy_over(sdp, &mut copy)?;
+    Ok(Some(copy))
 }
 
 /// A copy of the configuration behind these rounds of an offer.
@@ -304,14 +320,11 @@ impl Exchange {
         let taken = taken_names(self)?;
         let added = fresh_names(alloc, taken.as_slice(), self.added.len())?;
         let sdp = made_offer(self, added.as_slice())?;
-        if !is_printable(alloc, &sdp, version)? {
+        let Some(copy) = printable_copy(alloc, &sdp, version)? else {
             return Err(ExchangeError::NotPrintable);
-        }
-        let placed = placed_as(self, added.as_slice())?;
-        let pending = Pending {
-            sdp: sdp.clone()?,
-            placed,
         };
+        let placed = placed_as(self, added.as_slice())?;
+        let pending = Pending { sdp: copy, placed };
         let offer = Offer::new(sdp, version, added);
         self.pending = Some(pending);
         self.version = version.saturating_add(1);

@@ -11,6 +11,7 @@ mod answered_session;
 mod bundle;
 mod bundled;
 mod choice;
+mod copied_over;
 mod exchange;
 mod exchange_error;
 mod fits;

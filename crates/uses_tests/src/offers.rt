@@ -1,6 +1,8 @@
 //! What is in force at a section, and candidates.
 
-use exchange::{creds_at, fingerprint_at, negotiated_names, setup_at, trickled_candidate};
+use exchange::{
+    creds_at, fingerprint_at, is_read_back, negotiated_names, setup_at, trickled_candidate,
+};
 use std::alloc::Global;
 use std::test::Fail;
 use str0m_signal::{CodecConfig, Sdp, SdpError, Setup, negotiate_text, sdp_parser};
@@ -72,5 +74,17 @@ fn each_outcome_has_the_name_of_its_section(rt: HostRuntime) -> Result<(), Fail>
     assert_eq!(rt; sound.as_str(), "sound");
     let picture = names.get(1).ok_or("picture")?.ok_or("name")?;
     assert_eq!(rt; picture.as_str(), "picture");
+    Ok(())
+}
+
+#[test]
+fn what_is_printed_is_read_back(rt: HostRuntime) -> Result<(), Fail> {
+    let (call, _) = sdp_parser(rt.alloc(), CALL)?;
+    let text = call.to_string(rt.alloc())?;
+    assert!(rt; is_read_back(rt.alloc(), &call, text.as_str())?);
+    let longer = format!(in rt.alloc(); "{text}x")?;
+    for other in ["", OFFER, longer.as_str()] {
+        assert!(rt; !is_read_back(rt.alloc(), &call, other)?);
+    }
     Ok(())
 }

@@ -11,14 +11,14 @@ use Rattle.exchange.proofs.exchange.Exchange.create_offer.Goals as goal
 
 pub returns-clause-read_back : goal.returns-clause-read_back
 returns-clause-read_back c =
-    subst (λ (offer : Offer). IsReadBack offer.sdp (versioned_text offer.version offer.sdp)) (sym c.new-offer.ensures) (c.in_ok-is_printable.ensures.0 c.if-not-branch.false)
+    subst (λ (offer : Offer). IsReadBack offer.sdp (versioned_text offer.version offer.sdp)) (sym c.new-offer.ensures) c.in-Some.ensures.1
 
 pub returns-clause-sound : goal.returns-clause-sound
 returns-clause-sound c = λ sound. record {
   own_names = sound.own_names;
   known = sound.known;
   placed = subst (λ (sdp : Sdp). FollowsPlaces c.args.self.now.names (sections_of c.args.self.now.local) sdp.media_lines × AreDistinct (section_mids sdp.media_lines))
-      (sym c.in_ok-clone.ensures) (c.in_ok-sdp.ensures.follows, c.in_ok-sdp.ensures.different sound.own_names);
+      (sym c.in-Some.ensures.0) (c.in_ok-sdp.ensures.follows, c.in_ok-sdp.ensures.different sound.own_names);
 }
 
 pub returns-clause-follows : goal.returns-clause-follows
