@@ -25,7 +25,7 @@ STRICT = ["-Wall", "-Wextra", "-Werror"]
 def missing(*tools):
     """Says which tools aren't installed, where one isn't."""
     absent = [it for it in tools if not shutil.which(it)]
-    return f"not run, since {' and '.join(absent)} isn't installed" if absent else ""
+    return f"not run, since {' and '.join(absent)} {'is' if len(absent) == 1 else 'are'}n't installed" if absent else ""
 
 
 @dataclass
