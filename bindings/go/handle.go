@@ -9,8 +9,8 @@ import (
 	"unsafe"
 )
 
-// A handle is one of the library's, over which one call at a time runs. A Session and a Config point to theirs, so that a copy of either has
-// the same one.
+// A handle is one of the library's, over which one call at a time runs. A Session and a Config point to theirs, so that a copy of either
+// has the same one.
 type handle[P comparable] struct {
 	mutex   sync.Mutex
 	pointer P // nil once it is freed

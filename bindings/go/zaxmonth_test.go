@@ -12,8 +12,8 @@ import (
 	"testing"
 )
 
-// What is expected is worked out by hand from the texts of examples/, by docs/SECTIONS.md, docs/ROUNDS.md and docs/PRINTING.md, or stands in
-// data/.
+// What is expected is worked out by hand from the texts of examples/, by docs/SECTIONS.md, docs/ROUNDS.md and docs/PRINTING.md, or stands
+// in data/.
 const top = "../.."
 
 const opus = "a=rtpmap:111 opus/48000/2\r\na=rtcp-fb:111 transport-cc\r\na=fmtp:111 minptime=10;useinbandfec=1\r\n"
