@@ -1,0 +1,3 @@
+module zaxmonth
+
+go 1.19

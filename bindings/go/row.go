@@ -1,0 +1,170 @@
+package zaxmonth
+
+// #include <zaxmonth.h>
+import "C"
+
+import "fmt"
+
+// A Codec is a codec, by its number in zaxmonth.h.
+type Codec uint8
+
+// The codecs.
+const (
+	CodecUnknown        Codec = C.ZAX_UNKNOWN
+	CodecOpus           Codec = C.ZAX_OPUS
+	CodecPCMU           Codec = C.ZAX_PCMU
+	CodecPCMA           Codec = C.ZAX_PCMA
+	CodecG722           Codec = C.ZAX_G722
+	CodecCN             Codec = C.ZAX_CN
+	CodecAMRWB          Codec = C.ZAX_AMR_WB
+	CodecH264           Codec = C.ZAX_H264
+	CodecH265           Codec = C.ZAX_H265
+	CodecH266           Codec = C.ZAX_H266
+	CodecVP8            Codec = C.ZAX_VP8
+	CodecVP9            Codec = C.ZAX_VP9
+	CodecAV1            Codec = C.ZAX_AV1
+	CodecTelephoneEvent Codec = C.ZAX_TELEPHONE_EVENT
+	CodecRTX            Codec = C.ZAX_RTX
+	CodecRED            Codec = C.ZAX_RED
+	CodecNull           Codec = C.ZAX_NULL_CODEC
+)
+
+var codecNames = [...]string{
+	CodecUnknown:        "unknown",
+	CodecOpus:           "opus",
+	CodecPCMU:           "PCMU",
+	CodecPCMA:           "PCMA",
+	CodecG722:           "G722",
+	CodecCN:             "CN",
+	CodecAMRWB:          "AMR-WB",
+	CodecH264:           "H264",
+	CodecH265:           "H265",
+	CodecH266:           "H266",
+	CodecVP8:            "VP8",
+	CodecVP9:            "VP9",
+	CodecAV1:            "AV1",
+	CodecTelephoneEvent: "telephone-event",
+	CodecRTX:            "rtx",
+	CodecRED:            "red",
+	CodecNull:           "null",
+}
+
+// String is the name of the codec in an rtpmap line.
+func (c Codec) String() string {
+	if int(c) < len(codecNames) {
+		return codecNames[c]
+	}
+	return fmt.Sprintf("codec %d", uint8(c))
+}
+
+// Feedback is the kinds of feedback (rtcp-fb) of a row, a bit each.
+type Feedback uint8
+
+// The kinds of feedback.
+const (
+	TransportCC Feedback = C.ZAX_TRANSPORT_CC
+	NACK        Feedback = C.ZAX_NACK
+	PLI         Feedback = C.ZAX_PLI
+	FIR         Feedback = C.ZAX_FIR
+	REMB        Feedback = C.ZAX_REMB
+)
+
+// Has says whether all of these kinds are on.
+func (f Feedback) Has(kinds Feedback) bool {
+	return f&kinds == kinds
+}
+
+// NoType stands where there is no payload type.
+const NoType = C.ZAX_NO_TYPE
+
+// A Row is a codec under a payload type.
+type Row struct {
+	PT        uint8
+	RTX       uint8 // the payload type of retransmissions, or NoType
+	RED       uint8 // the payload type of RED, or NoType
+	Codec     Codec
+	ClockRate uint32 // at which the codec samples, in Hz
+	Channels  uint8  // 0: not said
+	Feedback  Feedback
+	Locked    bool   // whether the other side has agreed to its types
+	Fmtp      string // what its format says, as an fmtp line has it; empty where it says nothing
+}
+
+// A Cause is why a round was refused.
+type Cause uint8
+
+// The causes; Accepted where the round wasn't refused.
+const (
+	Accepted     Cause = C.ZAX_ACCEPTED
+	TypeTooLarge Cause = C.ZAX_TYPE_TOO_LARGE
+	ClaimedTwice Cause = C.ZAX_CLAIMED_TWICE
+	Exhausted    Cause = C.ZAX_EXHAUSTED
+	RoundMemory  Cause = C.ZAX_ROUND_MEMORY
+)
+
+// An Outcome is what a round came to.
+type Outcome struct {
+	Cause Cause
+	PT    uint8 // the payload type at fault, or NoType
+}
+
+// String is "ok", or why the round was refused.
+func (o Outcome) String() string {
+	switch o.Cause {
+	case Accepted:
+		return "ok"
+	case TypeTooLarge:
+		return fmt.Sprintf("payload type %d is above 127", o.PT)
+	case ClaimedTwice:
+		return fmt.Sprintf("payload type %d is claimed twice", o.PT)
+	case Exhausted:
+		return "payload type ranges exhausted"
+	case RoundMemory:
+		return "out of memory"
+	}
+	return fmt.Sprintf("refused for the unknown cause %d", o.Cause)
+}
+
+func outcomesOf(raw []C.zax_outcome) []Outcome {
+	outcomes := make([]Outcome, len(raw))
+	for i, it := range raw {
+		outcomes[i] = Outcome{Cause(it.cause), uint8(it.pt)}
+	}
+	return outcomes
+}
+
+func rowOf(raw *C.zax_row, fmtp string) Row {
+	return Row{
+		PT:        uint8(raw.pt),
+		RTX:       uint8(raw.rtx),
+		RED:       uint8(raw.red),
+		Codec:     Codec(raw.codec),
+		ClockRate: uint32(raw.clock_rate),
+		Channels:  uint8(raw.channels),
+		Feedback:  Feedback(raw.feedback),
+		Locked:    raw.locked != 0,
+		Fmtp:      fmtp,
+	}
+}
+
+// rowsOf is the rows that a call writes, with the fmtp that another says of each.
+func rowsOf(
+	call func(*C.zax_row, C.size_t, *C.size_t) C.zax_status,
+	fmtp func(C.size_t, *C.char, C.size_t, *C.size_t) C.zax_status,
+) ([]Row, error) {
+	raw, err := filled(128, call)
+	if err != nil {
+		return nil, err
+	}
+	rows := make([]Row, len(raw))
+	for i := range raw {
+		said, err := textOf(func(room *C.char, size C.size_t, needed *C.size_t) C.zax_status {
+			return fmtp(C.size_t(i), room, size, needed)
+		})
+		if err != nil {
+			return nil, err
+		}
+		rows[i] = rowOf(&raw[i], string(said))
+	}
+	return rows, nil
+}

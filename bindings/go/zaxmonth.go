@@ -1,0 +1,186 @@
+// Package zaxmonth reads, negotiates and prints session descriptions (SDP) by libzaxmonth, whose calls are proved.
+//
+//	config, err := zaxmonth.NewConfig()
+//	outcomes, err := config.Negotiate(offer)
+//	own, err := zaxmonth.Read(text)
+//	err = config.Answer(own, 0)
+//	_, err = own.WriteTo(os.Stdout)
+//
+// A Session and a Config own memory of the library's. Close frees it at once; where nobody calls Close, the garbage collector does.
+// Any goroutine may call them: one call waits for another over the same value.
+//
+// cgo finds the library by pkg-config: PKG_CONFIG_PATH names the folder of zaxmonth.pc, and LD_LIBRARY_PATH that of the shared library when
+// the program runs.
+package zaxmonth
+
+/*
+#cgo pkg-config: zaxmonth
+#include <zaxmonth.h>
+*/
+import "C"
+
+import (
+	"bytes"
+	"io"
+	"unsafe"
+)
+
+// Version is the version of the library.
+func Version() string {
+	return C.GoString(C.zax_version())
+}
+
+func chars(text []byte) *C.char {
+	if len(text) == 0 {
+		return nil
+	}
+	return (*C.char)(unsafe.Pointer(&text[0]))
+}
+
+// A Session is a description that was read of a text. The zero value is closed.
+type Session struct {
+	handle               *handle[*C.zax_session]
+	restLine, restOffset int
+}
+
+// Read reads the description that a text begins with: UTF-8, which nobody changes during the call. Errors: ErrParse, ErrUTF8, ErrMemory.
+func Read(text []byte) (*Session, error) {
+	var made *C.zax_session
+	var told C.zax_error
+	status := C.zax_read(chars(text), C.size_t(len(text)), &made, &told)
+	if err := errorOf(status, &told); err != nil {
+		return nil, err
+	}
+	owned := newHandle(made, func(it *C.zax_session) { C.zax_session_free(it) })
+	return &Session{owned, int(told.line), int(told.offset)}, nil
+}
+
+// Close frees the session, where it isn't freed yet; other calls answer ErrClosed from then on. It answers nil.
+func (s *Session) Close() error {
+	s.handle.close()
+	return nil
+}
+
+// Rest is where reading ended: the line, from 1, and the byte, from 0. The line is 0 where all was read.
+func (s *Session) Rest() (line, offset int) {
+	return s.restLine, s.restOffset
+}
+
+// MarshalText is the description as SDP, with CR and LF at the end of each line.
+func (s *Session) MarshalText() ([]byte, error) {
+	return s.handle.text(func(it *C.zax_session, room *C.char, size C.size_t, needed *C.size_t) C.zax_status {
+		return C.zax_print(it, room, size, needed)
+	})
+}
+
+// WriteTo prints the description to a writer.
+func (s *Session) WriteTo(writer io.Writer) (int64, error) {
+	text, err := s.MarshalText()
+	if err != nil {
+		return 0, err
+	}
+	wrote, err := writer.Write(text)
+	return int64(wrote), err
+}
+
+// JSON is the description as the library's JSON has it.
+func (s *Session) JSON() ([]byte, error) {
+	return s.handle.text(func(it *C.zax_session, room *C.char, size C.size_t, needed *C.size_t) C.zax_status {
+		return C.zax_rows_json(it, room, size, needed)
+	})
+}
+
+// Sections is how many sections there are; a section is named by its number, from 0. It is 0 for a session that is closed.
+func (s *Session) Sections() int {
+	count := 0
+	_ = s.handle.use(func(it *C.zax_session) error {
+		count = int(C.zax_sections(it))
+		return nil
+	})
+	return count
+}
+
+// Mid is the mid of a section; empty where it has none. Errors: ErrSection.
+func (s *Session) Mid(section int) (string, error) {
+	mid, err := s.handle.text(func(it *C.zax_session, room *C.char, size C.size_t, needed *C.size_t) C.zax_status {
+		return C.zax_section_mid(it, C.size_t(section), room, size, needed)
+	})
+	return string(mid), err
+}
+
+// Rows are the rows of a section. Errors: ErrSection.
+func (s *Session) Rows(section int) (rows []Row, err error) {
+	at := C.size_t(section)
+	err = s.handle.use(func(it *C.zax_session) error {
+		rows, err = rowsOf(
+			func(room *C.zax_row, size C.size_t, needed *C.size_t) C.zax_status {
+				return C.zax_rows(it, at, room, size, needed)
+			},
+			func(row C.size_t, room *C.char, size C.size_t, needed *C.size_t) C.zax_status {
+				return C.zax_row_fmtp(it, at, row, room, size, needed)
+			})
+		return err
+	})
+	return rows, err
+}
+
+// A Config is the rows of one side, of which some are locked. The zero value is closed.
+type Config struct {
+	handle *handle[*C.zax_config]
+}
+
+// NewConfig makes a configuration with the default rows. Errors: ErrMemory.
+func NewConfig() (*Config, error) {
+	var made *C.zax_config
+	if err := errorOf(C.zax_config_defaults(&made), nil); err != nil {
+		return nil, err
+	}
+	return &Config{newHandle(made, func(it *C.zax_config) { C.zax_config_free(it) })}, nil
+}
+
+// Close frees the configuration, where it isn't freed yet; other calls answer ErrClosed from then on. It answers nil.
+func (c *Config) Close() error {
+	c.handle.close()
+	return nil
+}
+
+// Negotiate reads a text, and runs a round for each of its audio and video sections; it answers the outcome of each. A round that is
+// refused changes nothing, and the next one runs. Where there is an error, ErrParse, ErrUTF8 or ErrMemory, no round has run.
+func (c *Config) Negotiate(text []byte) ([]Outcome, error) {
+	room := make([]C.zax_outcome, bytes.Count(text, []byte("m="))+1) // (each section begins so)
+	var needed C.size_t
+	err := c.handle.use(func(it *C.zax_config) error {
+		var told C.zax_error
+		status := C.zax_negotiate(it, chars(text), C.size_t(len(text)), &room[0], C.size_t(len(room)), &needed, &told)
+		return errorOf(status, &told)
+	})
+	if err != nil {
+		return nil, err
+	}
+	return outcomesOf(room[:needed]), nil
+}
+
+// Rows are all rows.
+func (c *Config) Rows() (rows []Row, err error) {
+	err = c.handle.use(func(it *C.zax_config) error {
+		rows, err = rowsOf(
+			func(room *C.zax_row, size C.size_t, needed *C.size_t) C.zax_status {
+				return C.zax_config_rows(it, room, size, needed)
+			},
+			func(row C.size_t, room *C.char, size C.size_t, needed *C.size_t) C.zax_status {
+				return C.zax_config_row_fmtp(it, row, room, size, needed)
+			})
+		return err
+	})
+	return rows, err
+}
+
+// Answer puts the locked rows of its kind into a section of one's own description. Errors: ErrNothing, ErrSection, ErrMemory.
+func (c *Config) Answer(own *Session, section int) error {
+	// The configuration's lock is the first, always: so no two answers wait for each other.
+	return c.handle.use(func(config *C.zax_config) error {
+		return own.handle.use(func(session *C.zax_session) error {
+			return errorOf(C.zax_answer(config, session, C.size_t(section)), nil)
+		})
+	})
+}

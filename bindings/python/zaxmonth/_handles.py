@@ -1,0 +1,207 @@
+"""Descriptions and configurations: each owns a handle of the library."""
+from __future__ import annotations
+
+import ctypes
+import functools
+import json
+import operator
+import sys
+import threading
+from ctypes import byref, c_char, c_size_t, c_void_p
+from typing import Any, Callable, Dict, List, NoReturn, Optional, SupportsIndex, Tuple, TypeVar, Union
+
+from ._errors import ClosedError, SectionError, Status, Utf8Error, check
+from ._library import JSON, RawError, RawOutcome, RawRow, library
+from ._rows import Outcome, Row
+
+Text = Union[str, bytes, bytearray, memoryview]
+_Self = TypeVar("_Self", bound="_Handle")
+_ROWS, _LETTERS = 128, 1024  # room that suffices as a rule
+
+
+def _bytes_of(text: Text) -> bytes:
+    if isinstance(text, str):
+        try:
+            return str.encode(text)
+        except UnicodeEncodeError as error:
+            raise Utf8Error() from error
+    if isinstance(text, (bytes, bytearray, memoryview)):
+        return bytes(text)
+    raise TypeError(f"a text is str or bytes, not {type(text).__name__}")
+
+
+def _index(number: SupportsIndex) -> int:
+    """The number of a section; ctypes would cut one that doesn't fit."""
+    found = operator.index(number)
+    if not 0 <= found <= sys.maxsize:
+        raise SectionError()
+    return found
+
+
+@functools.lru_cache(maxsize=None)
+def _room_type(kind: type, size: int) -> Any:
+    """An array type of ctypes, made once: sizes are powers of two, so there are few."""
+    return kind * size
+
+
+def _size_above(count: int) -> int:
+    return 1 << count.bit_length()
+
+
+class _Handle:
+    """A handle of the library, freed once.
+
+    One call at a time may use a handle, and ctypes lets go of the interpreter's lock during a call, so each method holds the lock of its
+    handle. Its holder may take it again: a method asks others, and Python may run a signal handler between two calls."""
+
+    _free: Callable[[int], None]
+    _lock: threading.RLock
+    _pointer: Optional[int] = None
+
+    def __new__(cls, *_given: object, **_named: object) -> Any:
+        made = super().__new__(cls)
+        made._lock = threading.RLock()
+        return made
+
+    def close(self) -> None:
+        """Frees the handle, where it isn't freed yet. Behind it every other call raises ClosedError."""
+        with self._lock:
+            pointer, self._pointer = self._pointer, None
+            if pointer:
+                self._free(pointer)
+
+    def __del__(self) -> None:
+        self.close()
+
+    @property
+    def closed(self) -> bool:
+        return self._pointer is None
+
+    def __enter__(self: _Self) -> _Self:
+        return self
+
+    def __exit__(self, *_raised: object) -> None:
+        self.close()
+
+    def __repr__(self) -> str:
+        return f"<{type(self).__name__}{', closed' if self.closed else ''}>"
+
+    def __reduce__(self) -> NoReturn:
+        raise TypeError(f"a {type(self).__name__} is neither copied nor pickled: it owns a handle")
+
+    def _open(self) -> int:
+        if self._pointer is None:
+            raise ClosedError()
+        return self._pointer
+
+    def _filled(self, call: Callable[..., int], kind: type, size: int, *places: int) -> Tuple[Any, int]:
+        """What a call writes, in room for so many items or as many as it asks for, and their count. The lock is held."""
+        needed = c_size_t()
+        while True:
+            room = _room_type(kind, size)()
+            status = call(self._open(), *places, room, size, byref(needed))
+            if status != Status.ROOM.value:
+                check(status)
+                return room, needed.value
+            size = _size_above(needed.value)
+
+    def _text(self, call: Callable[..., int], *places: int) -> str:
+        with self._lock:
+            room, length = self._filled(call, c_char, _LETTERS, *places)
+        return ctypes.string_at(room, length).decode()
+
+    def _rows(self, call: Callable[..., int], fmtp: Callable[..., int], *places: int) -> List[Row]:
+        with self._lock:
+            room, count = self._filled(call, RawRow, _ROWS, *places)
+            return [Row._of(room[i], self._text(fmtp, *places, i)) for i in range(count)]
+
+
+class SessionDescription(_Handle):
+    """A description that was read of a text. Any thread may call it; one call waits for another."""
+
+    _free = staticmethod(library.zax_session_free)
+
+    def __init__(self, text: Text) -> None:
+        raw, made, error = _bytes_of(text), c_void_p(), RawError()
+        check(library.zax_read(raw, len(raw), byref(made), byref(error)), error)
+        self._pointer = made.value
+        self._rest = (error.line, error.offset) if error.line else (None, None)
+
+    @classmethod
+    def read(cls, text: Text) -> SessionDescription:
+        """Reads the description that a text, UTF-8 where it is bytes, begins with. Raises ParseError, Utf8Error or OutOfMemory."""
+        return cls(text)
+
+    @property
+    def rest_line(self) -> Optional[int]:
+        """The line, from 1, at which reading ended; None where all was read."""
+        return self._rest[0]
+
+    @property
+    def rest_offset(self) -> Optional[int]:
+        """The same in bytes of UTF-8, from 0."""
+        return self._rest[1]
+
+    def print(self) -> str:
+        """The description as SDP, with CR and LF at the end of each line; `str` of it is the same."""
+        return self._text(library.zax_print)
+
+    def __str__(self) -> str:
+        return self.print()
+
+    @property
+    def sections(self) -> int:
+        """How many sections there are; a section is named by its number, from 0."""
+        with self._lock:
+            return library.zax_sections(self._open())
+
+    def mid(self, section: SupportsIndex) -> str:
+        """The mid of a section; empty where it has none. Raises SectionError."""
+        return self._text(library.zax_section_mid, _index(section))
+
+    def rows(self, section: SupportsIndex) -> List[Row]:
+        """The rows of a section. Raises SectionError."""
+        return self._rows(library.zax_rows, library.zax_row_fmtp, _index(section))
+
+    def json(self) -> Dict[str, Any]:
+        """The description as the library's JSON has it."""
+        return json.loads(self._text(getattr(library, JSON)))
+
+
+class Configuration(_Handle):
+    """The rows of one side, of which some are locked: the default rows at first. Any thread may call it; one call waits for another."""
+
+    _free = staticmethod(library.zax_config_free)
+
+    def __init__(self) -> None:
+        made = c_void_p()
+        check(library.zax_config_defaults(byref(made)))
+        self._pointer = made.value
+
+    @classmethod
+    def defaults(cls) -> Configuration:
+        """A configuration with the default rows."""
+        return cls()
+
+    def negotiate(self, text: Text) -> List[Outcome]:
+        """Reads a text, and runs a round for each of its audio and video sections; the outcome of each.
+
+        Raises ParseError or Utf8Error, and then no round has run. A round that is refused changes nothing, and the next one runs."""
+        raw, error, needed = _bytes_of(text), RawError(), c_size_t()
+        size = _size_above(raw.count(b"m="))  # (each section begins so)
+        room = _room_type(RawOutcome, size)()
+        with self._lock:
+            check(library.zax_negotiate(self._open(), raw, len(raw), room, size, byref(needed), byref(error)), error)
+        return [Outcome._of(room[i]) for i in range(needed.value)]
+
+    def rows(self) -> List[Row]:
+        """All rows."""
+        return self._rows(library.zax_config_rows, library.zax_config_row_fmtp)
+
+    def answer(self, own: SessionDescription, section: SupportsIndex) -> None:
+        """Puts the locked rows of its kind into a section of one's own description. Raises NothingAgreed or SectionError."""
+        if not isinstance(own, SessionDescription):
+            raise TypeError(f"one's own description is a SessionDescription, not {type(own).__name__}")
+        at = _index(section)
+        with self._lock, own._lock:  # (the configuration's first, always: so no two answers wait for each other)
+            check(library.zax_answer(self._open(), own._open(), at))

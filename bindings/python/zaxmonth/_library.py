@@ -1,0 +1,80 @@
+"""zaxmonth.h as ctypes has it: the structs, what each call takes and answers, and the library that is loaded."""
+from __future__ import annotations
+
+import ctypes
+import os
+from ctypes import POINTER, Structure, c_char, c_char_p, c_size_t, c_uint8, c_uint32, c_void_p
+
+ABI = 0  # ZAX_ABI of the header that this package is written for
+VARIABLE = "ZAXMONTH_LIBRARY"
+SONAME = f"libzaxmonth.so.{ABI}"
+NO_TYPE = 255
+JSON = "zax_rows_json"  # the call behind SessionDescription.json
+
+
+class RawRow(Structure):
+    _fields_ = [("clock_rate", c_uint32)] + [
+        (name, c_uint8) for name in ("pt", "rtx", "red", "channels", "codec", "feedback", "locked", "reserved")
+    ]
+
+
+class RawOutcome(Structure):
+    _fields_ = [("cause", c_uint8), ("pt", c_uint8)]
+
+
+class RawError(Structure):
+    _fields_ = [("status", c_uint32), ("line", c_uint32), ("offset", c_size_t), ("message", c_char * 240)]
+
+
+_HANDLE, _PLACE, _INDEX = c_void_p, POINTER(c_void_p), c_size_t
+_TEXT, _ERROR = (c_char_p, c_size_t), POINTER(RawError)
+_ROOM = (c_void_p, c_size_t, POINTER(c_size_t))
+# Of each call what it answers and what it takes; a status is a number here.
+_CALLS = {
+    "zax_version": (c_char_p, ()),
+    "zax_abi": (c_uint32, ()),
+    "zax_read": (c_uint32, (*_TEXT, _PLACE, _ERROR)),
+    "zax_session_free": (None, (_HANDLE,)),
+    "zax_print": (c_uint32, (_HANDLE, *_ROOM)),
+    "zax_sections": (c_size_t, (_HANDLE,)),
+    "zax_section_mid": (c_uint32, (_HANDLE, _INDEX, *_ROOM)),
+    "zax_rows": (c_uint32, (_HANDLE, _INDEX, *_ROOM)),
+    "zax_row_fmtp": (c_uint32, (_HANDLE, _INDEX, _INDEX, *_ROOM)),
+    JSON: (c_uint32, (_HANDLE, *_ROOM)),
+    "zax_config_defaults": (c_uint32, (_PLACE,)),
+    "zax_config_free": (None, (_HANDLE,)),
+    "zax_negotiate": (c_uint32, (_HANDLE, *_TEXT, *_ROOM, _ERROR)),
+    "zax_config_rows": (c_uint32, (_HANDLE, *_ROOM)),
+    "zax_config_row_fmtp": (c_uint32, (_HANDLE, _INDEX, *_ROOM)),
+    "zax_answer": (c_uint32, (_HANDLE, _HANDLE, _INDEX)),
+}
+
+
+def _declared(library: ctypes.CDLL, path: str, name: str) -> None:
+    try:
+        call = getattr(library, name)
+    except AttributeError:
+        raise ImportError(f"{path} has no {name}: it isn't the libzaxmonth that this package is written for") from None
+    call.restype, call.argtypes = _CALLS[name]
+
+
+def _loaded() -> ctypes.CDLL:
+    path = os.environ.get(VARIABLE) or SONAME
+    try:
+        library = ctypes.CDLL(path)
+    except OSError as error:
+        raise ImportError(f"libzaxmonth isn't found ({error}): {VARIABLE} names its file, or LD_LIBRARY_PATH its folder") from error
+    _declared(library, path, "zax_abi")
+    if library.zax_abi() != ABI:
+        raise ImportError(f"{path} has ABI {library.zax_abi()}, and this package is written for ABI {ABI}")
+    for name in _CALLS:
+        _declared(library, path, name)
+    return library
+
+
+library = _loaded()
+
+
+def library_version() -> str:
+    """The version of the library that is loaded."""
+    return library.zax_version().decode()

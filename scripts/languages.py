@@ -1,0 +1,132 @@
+"""The C library from C and from other languages, through what ./install puts into a folder: the examples print what they have to, the
+tests of the bindings pass, and each text of data/ is by Python and by Go what is stored. What isn't installed of these languages is said,
+and isn't run."""
+import os
+import re
+import shutil
+import subprocess
+import sys
+from dataclasses import dataclass, field
+from pathlib import Path
+
+import c_library
+from proved import TOP
+from static_library import run
+
+TESTS = TOP / "scripts" / "c_tests"
+DATA = TOP / "data"
+EXAMPLES = TOP / "examples"
+BINDINGS = TOP / "bindings"
+OFFER = EXAMPLES / "chromium-audio-offer.sdp"
+OWN = TESTS / "short.sdp"
+STRICT = ["-Wall", "-Wextra", "-Werror"]
+
+
+def missing(*tools):
+    """Says which tools aren't installed, where one isn't."""
+    absent = [it for it in tools if not shutil.which(it)]
+    return f"not run, since {' and '.join(absent)} {'is' if len(absent) == 1 else 'are'}n't installed" if absent else ""
+
+
+@dataclass
+class Tried:
+    room: Path  # for what is built
+    count: object
+    found: dict = field(default_factory=dict)  # the variables by which the library is found
+
+    def prints(self, name, words, wanted):
+        """Runs an example, which has to print what stands in such a file."""
+        ran = subprocess.run(words, env=self.found, stdin=subprocess.DEVNULL, capture_output=True)
+        said, right = ran.stdout + ran.stderr, (TESTS / wanted).read_bytes()
+        self.count.is_right(name, "" if said == right else f"it prints\n{said.decode(errors='replace')}and not\n{right.decode()}")
+
+    def passes(self, folder, words, tests):
+        """Runs the tests of a binding; `tests` says how many have passed by what they print."""
+        how = {"stdin": subprocess.DEVNULL, "stdout": subprocess.PIPE, "stderr": subprocess.STDOUT, "text": True, "errors": "replace"}
+        done = subprocess.run(words, cwd=BINDINGS / folder, env=self.found, **how)
+        passed = tests(done.stdout)
+        self.count.is_right(f"bindings/{folder}", "" if done.returncode == 0 and passed else done.stdout)
+        print(f"bindings/{folder}: {passed} tests")
+
+    def texts(self, folder, words):
+        """Has a binding write the answers to each text of data/, which have to be those that are stored."""
+        out = self.room / f"texts_{folder}"
+        shutil.rmtree(out, ignore_errors=True)
+        out.mkdir()
+        subprocess.run([*words, DATA, out], env=self.found, stdin=subprocess.DEVNULL)
+        stored = [path.with_suffix(f".{word}") for path in sorted(DATA.glob("*.sdp")) for word in ("text", "rows", "negotiate")]
+        for path in stored:
+            is_same = (out / path.name).is_file() and (out / path.name).read_bytes() == path.read_bytes()
+            self.count.is_right(f"bindings/{folder}, {path.name}", "" if is_same else "it is another text")
+        print(f"bindings/{folder}: {len(stored)} answers are compared")
+
+    def flags(self):
+        asked = ["pkg-config", "--cflags", "--libs", "zaxmonth"]
+        return subprocess.run(asked, env=self.found, capture_output=True, text=True, check=True).stdout.split()
+
+
+def in_python(tried):
+    at = BINDINGS / "python"
+    tried.found = {**tried.found, "PYTHONPATH": str(at), "PYTHONDONTWRITEBYTECODE": "1"}
+    tried.prints("bindings/python/examples/rows.py", [sys.executable, at / "examples" / "rows.py", OFFER], "rows.txt")
+    tried.prints("bindings/python/examples/answer.py", [sys.executable, at / "examples" / "answer.py", OFFER, OWN], "answered.sdp")
+    tried.texts("python", [sys.executable, at / "tests" / "texts.py"])
+    tried.passes("python", [sys.executable, "-m", "unittest"], lambda said: sum(map(int, re.findall(r"^Ran (\d+) tests", said, re.M))))
+
+
+def in_c(tried):
+    made = tried.room / "rows"
+    run(["cc", *STRICT, EXAMPLES / "rows.c", *tried.flags(), "-o", made])
+    tried.prints("rows.c", [made, OFFER], "rows.txt")
+
+
+def in_cpp(tried):
+    made = tried.room / "rows_cpp"
+    run(["c++", "-std=c++17", *STRICT, BINDINGS / "cpp" / "rows.cpp", *tried.flags(), "-o", made])
+    tried.prints("rows.cpp", [made, OFFER], "rows.txt")
+
+
+def in_go(tried):
+    made = tried.room / "go"
+    made.mkdir(exist_ok=True)
+    # Nothing is fetched, and nothing is written outside of the room.
+    own = {"GOCACHE": str(made / "cache"), "GOPATH": str(made / "path"), "GOPROXY": "off", "GOTOOLCHAIN": "local", "GOWORK": "off"}
+    tried.found = {"CC": "cc", **tried.found, **own, "CGO_ENABLED": "1", "GOFLAGS": "-buildvcs=false"}
+    built = subprocess.run(["go", "build", "-o", made, "./..."], cwd=BINDINGS / "go", env=tried.found, capture_output=True, text=True)
+    if built.returncode != 0:
+        tried.count.is_right("bindings/go", built.stdout + built.stderr)
+        return
+    tried.prints("bindings/go/examples/rows", [made / "rows", OFFER], "rows.txt")
+    tried.prints("bindings/go/examples/answer", [made / "answer", OFFER, OWN], "answered.sdp")
+    tried.texts("go", [made / "texts"])
+    tried.passes("go", ["go", "test", "-count=1", "-v", "./..."], lambda said: len(re.findall(r"^--- PASS", said, re.M)))
+
+
+def in_rust(tried):
+    asked = ["--offline", "--quiet", "--manifest-path", BINDINGS / "rust" / "Cargo.toml", "--target-dir", tried.room / "rust"]
+    tried.passes("rust", ["cargo", "test", *asked], lambda said: sum(map(int, re.findall(r"^test result: ok\. (\d+) passed", said, re.M))))
+    tried.prints("rows.rs", ["cargo", "run", *asked, "--example", "rows", OFFER], "rows.txt")
+
+
+# of each language the tools besides Python that it needs
+LANGUAGES = (
+    ("Python", in_python, ()),
+    ("C", in_c, ("pkg-config",)),
+    ("C++", in_cpp, ("pkg-config", "c++")),
+    ("Go", in_go, ("pkg-config", "go")),
+    ("Rust", in_rust, ("pkg-config", "cargo")),
+)
+
+
+def tried(made, room, count):
+    """Tries the libraries in each language that is installed."""
+    prefix = room / "installed"
+    shutil.rmtree(prefix, ignore_errors=True)
+    c_library.install(made, prefix)
+    found = {**os.environ, "PKG_CONFIG_PATH": str(prefix / "lib" / "pkgconfig"), "LD_LIBRARY_PATH": str(prefix / "lib")}
+    found.pop("ZAXMONTH_LIBRARY", None)
+    for language, calls, tools in LANGUAGES:
+        if why := missing(*tools):
+            print(f"{language}: {why}")
+        else:
+            calls(Tried(room, count, found))
