@@ -27,3 +27,9 @@ refused_so said text (ParseError message) (Ok found) refuses told =
     subst (Tells said text) (sym told.0) (λ back. refuses (back.0, []) back.1)
 refused_so said text (Inconsistent message) (Ok found) refuses told = absurd refuses
 refused_so said text Memory (Ok found) refuses told = absurd (told.1 refl)
+
+-- a copy that was found is what was said, and is read back
+pub copied : (said : Sdp) (text : List ℕ) (found : Option Sdp) (copy : Sdp) → found ≡ Some copy
+    → MatchOption found (IsReadBack said text → ⊥) (λ it. (it ≡ said) × IsReadBack said text) → (copy ≡ said) × IsReadBack said text
+copied said text found copy is told =
+    subst (λ (other : Option Sdp). MatchOption other (IsReadBack said text → ⊥) (λ it. (it ≡ said) × IsReadBack said text)) is told
