@@ -7,12 +7,18 @@ use Rattle.str0m_sdp.specs.SectionRows.{rows}
 use Rattle.str0m_sdp.specs.declared.media_line.MediaLine.{MediaLine}
 use Rattle.str0m_sdp.specs.declared.session.Sdp.{Sdp}
 use Rattle.c_parts.specs.Row.{c_row}
+use Rattle.c_parts.specs.Section.{c_section}
 use Rattle.c_parts.specs.declared.row.Row.{Row}
+use Rattle.c_parts.specs.declared.section.Section.{Section}
 use Rattle.c_calls.specs.Mid.{mid_text}
 
 -- the mid of a section
 abbrev pub mid_at : Sdp → ℕ → Option (List ℕ)
 mid_at sdp at = option_map mid_text (slice_get sdp.media_lines at)
+
+-- a section, as C holds it
+abbrev pub section_at : Sdp → ℕ → Option Section
+section_at sdp at = option_map c_section (slice_get sdp.media_lines at)
 
 -- the rows of a section, as C holds them
 abbrev pub rows_at : Sdp → ℕ → Option (List Row)

@@ -5,3 +5,4 @@ pub mod Mid
 pub mod Ran
 pub mod Says
 pub mod Status
+pub mod TransportFound

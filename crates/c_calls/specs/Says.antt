@@ -17,3 +17,12 @@ Puts found before after = after ≡ put_into before found
 -- and one that takes memory, unless it is refused: then room and count stay
 abbrev pub Says : {X : Type 0} → Option (List X) → List X × ℕ → ℕ × List X × ℕ → Type 0
 Says found before after = Puts found before after ⊎ (after ≡ (no_memory, before.0, before.1))
+
+-- the same of some text that is such
+abbrev pub SaysSome : (List ℕ → Type 0) → List ℕ × ℕ → ℕ × List ℕ × ℕ → Type 0
+SaysSome IsSuch before after = ((text : List ℕ) × IsSuch text × Puts (Some text) before after) ⊎ (after ≡ (no_memory, before.0, before.1))
+
+-- one thing is written where it is found; else the place stays
+abbrev pub Gives : {X : Type 0} → Option X → X → ℕ × X → Type 0
+Gives None before after = after ≡ (no_section, before)
+Gives (Some found) before after = after ≡ (done, found)
