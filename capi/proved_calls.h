@@ -5,6 +5,8 @@
 
 #include "zaxmonth.h"
 
+#include <stdbool.h>
+
 struct handle {
     void *ptr;
 };
@@ -13,10 +15,17 @@ uint32_t zaxp_session_read(const uint8_t *text, size_t text_length, struct handl
                            size_t message_cap, size_t *message_length);
 size_t zaxp_session_sections(struct handle *handle);
 uint32_t zaxp_session_print(struct handle *handle, uint8_t *room, size_t room_cap, size_t *needed);
+uint32_t zaxp_session_section(struct handle *handle, size_t at, zax_section *info);
 uint32_t zaxp_session_mid(struct handle *handle, size_t at, uint8_t *room, size_t room_cap, size_t *needed);
 uint32_t zaxp_session_rows(struct handle *handle, size_t at, zax_row *room, size_t room_cap, size_t *needed);
 uint32_t zaxp_session_format(struct handle *handle, size_t at, size_t row, uint8_t *room, size_t room_cap, size_t *needed);
 uint32_t zaxp_session_rows_json(struct handle *handle, uint8_t *room, size_t room_cap, size_t *needed);
+uint32_t zaxp_session_is_writable(struct handle *handle, size_t at, bool *writable);
+uint32_t zaxp_session_ice_ufrag(struct handle *handle, uint8_t *room, size_t room_cap, size_t *needed);
+uint32_t zaxp_session_ice_pwd(struct handle *handle, uint8_t *room, size_t room_cap, size_t *needed);
+uint32_t zaxp_session_fingerprint(struct handle *handle, uint8_t *room, size_t room_cap, size_t *needed);
+uint32_t zaxp_session_candidates(struct handle *handle, size_t *count);
+uint32_t zaxp_session_candidate(struct handle *handle, size_t index, uint8_t *room, size_t room_cap, size_t *needed);
 void zaxp_session_free(struct handle *handle);
 uint32_t zaxp_config_defaults(struct handle *handle);
 uint32_t zaxp_config_negotiate(struct handle *handle, const uint8_t *text, size_t text_length, zax_outcome *room, size_t room_cap,

@@ -141,6 +141,13 @@ size_t zax_sections(zax_session *session)
     return session && is_full(&session->handle) ? zaxp_session_sections(&session->handle) : 0;
 }
 
+zax_status zax_section_info(zax_session *session, size_t section, zax_section *info)
+{
+    if (!session || !is_full(&session->handle) || !info)
+        return ZAX_E_ARGUMENT;
+    return (zax_status)zaxp_session_section(&session->handle, section, info);
+}
+
 zax_status zax_section_mid(zax_session *session, size_t section, char *room, size_t cap, size_t *needed)
 {
     BEGIN(session, room, cap, needed);
@@ -157,6 +164,48 @@ zax_status zax_row_fmtp(zax_session *session, size_t section, size_t row, char *
 {
     BEGIN(session, room, cap, needed);
     return (zax_status)zaxp_session_format(&session->handle, section, row, ROOM(uint8_t, room, cap), cap, needed);
+}
+
+zax_status zax_is_writable(zax_session *session, size_t section, int *writable)
+{
+    bool answer = false;
+    if (!session || !is_full(&session->handle) || !writable)
+        return ZAX_E_ARGUMENT;
+    uint32_t status = zaxp_session_is_writable(&session->handle, section, &answer);
+    if (status == ZAX_OK)
+        *writable = answer;
+    return (zax_status)status;
+}
+
+zax_status zax_ice_ufrag(zax_session *session, char *room, size_t cap, size_t *needed)
+{
+    BEGIN(session, room, cap, needed);
+    return (zax_status)zaxp_session_ice_ufrag(&session->handle, ROOM(uint8_t, room, cap), cap, needed);
+}
+
+zax_status zax_ice_pwd(zax_session *session, char *room, size_t cap, size_t *needed)
+{
+    BEGIN(session, room, cap, needed);
+    return (zax_status)zaxp_session_ice_pwd(&session->handle, ROOM(uint8_t, room, cap), cap, needed);
+}
+
+zax_status zax_fingerprint(zax_session *session, char *room, size_t cap, size_t *needed)
+{
+    BEGIN(session, room, cap, needed);
+    return (zax_status)zaxp_session_fingerprint(&session->handle, ROOM(uint8_t, room, cap), cap, needed);
+}
+
+zax_status zax_candidates(zax_session *session, size_t *count)
+{
+    if (!session || !is_full(&session->handle) || !count)
+        return ZAX_E_ARGUMENT;
+    return (zax_status)zaxp_session_candidates(&session->handle, count);
+}
+
+zax_status zax_candidate(zax_session *session, size_t index, char *room, size_t cap, size_t *needed)
+{
+    BEGIN(session, room, cap, needed);
+    return (zax_status)zaxp_session_candidate(&session->handle, index, ROOM(uint8_t, room, cap), cap, needed);
 }
 
 zax_status zax_rows_json(zax_session *session, char *room, size_t cap, size_t *needed)

@@ -65,6 +65,21 @@ typedef struct zax_outcome {
     uint8_t pt; /* the payload type at fault */
 } zax_outcome;
 
+typedef enum zax_kind { ZAX_AUDIO = 0, ZAX_VIDEO, ZAX_APPLICATION, ZAX_OTHER_KIND } zax_kind;
+typedef enum zax_protocol { ZAX_PROTOCOL_RTP = 0, ZAX_PROTOCOL_SCTP } zax_protocol;
+typedef enum zax_direction { ZAX_SENDRECV = 0, ZAX_SENDONLY, ZAX_RECVONLY, ZAX_INACTIVE } zax_direction;
+typedef enum zax_setup { ZAX_NO_SETUP = 0, ZAX_ACTPASS, ZAX_ACTIVE, ZAX_PASSIVE } zax_setup;
+
+/* A section. */
+typedef struct zax_section {
+    uint8_t kind;      /* zax_kind: what it carries */
+    uint8_t protocol;  /* zax_protocol: what carries it */
+    uint8_t direction; /* zax_direction; ZAX_INACTIVE where it says none */
+    uint8_t setup;     /* zax_setup: its role in the DTLS handshake, where it says one itself */
+    uint8_t disabled;  /* 0 or 1: whether its port is 0 */
+    uint8_t reserved[3];
+} zax_section;
+
 /* Where a call takes one, it may be NULL. */
 typedef struct zax_error {
     uint32_t status;   /* zax_status */
@@ -83,11 +98,23 @@ ZAX_API void zax_session_free(zax_session *session); /* NULL is fine */
 ZAX_API zax_status zax_print(zax_session *session, char *room, size_t cap, size_t *needed);
 /* How many sections there are; `section` counts them from 0. */
 ZAX_API size_t zax_sections(zax_session *session);
+/* What a section is. Where there is no such section, `*info` stays as it is. */
+ZAX_API zax_status zax_section_info(zax_session *session, size_t section, zax_section *info);
 /* The mid of a section; nothing where it has none. */
 ZAX_API zax_status zax_section_mid(zax_session *session, size_t section, char *room, size_t cap, size_t *needed);
 ZAX_API zax_status zax_rows(zax_session *session, size_t section, zax_row *room, size_t cap, size_t *needed);
 /* What the format of a row says, as an fmtp line has it; `row` counts those of zax_rows from 0. */
 ZAX_API zax_status zax_row_fmtp(zax_session *session, size_t section, size_t row, char *room, size_t cap, size_t *needed);
+/* Whether zax_answer may write into the section: `*writable` becomes 0 or 1. */
+ZAX_API zax_status zax_is_writable(zax_session *session, size_t section, int *writable);
+/* The credentials of ICE that the session says, else the first section that says both; nothing where none does. */
+ZAX_API zax_status zax_ice_ufrag(zax_session *session, char *room, size_t cap, size_t *needed);
+ZAX_API zax_status zax_ice_pwd(zax_session *session, char *room, size_t cap, size_t *needed);
+/* The fingerprint of the session, else of the first section that has one, as `sha-256 AB:CD`; nothing where none has. */
+ZAX_API zax_status zax_fingerprint(zax_session *session, char *room, size_t cap, size_t *needed);
+/* How many candidates there are, each counted once, and the text of one of them, from 0, without `a=`. */
+ZAX_API zax_status zax_candidates(zax_session *session, size_t *count);
+ZAX_API zax_status zax_candidate(zax_session *session, size_t index, char *room, size_t cap, size_t *needed);
 /* The sections with their rows, as JSON. */
 ZAX_API zax_status zax_rows_json(zax_session *session, char *room, size_t cap, size_t *needed);
 

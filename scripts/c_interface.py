@@ -19,7 +19,7 @@ PARTS = TOP / "crates" / "c_parts"
 ITEMS = {"u8": "uint8_t", "Row": "zax_row", "Outcome": "zax_outcome"}
 PLAIN = {"usize": "size_t", "u32": "uint32_t", "u8": "uint8_t", "bool": "bool"}
 HANDLES = {"SessionHandle": "session_handle", "ConfigHandle": "config_handle"}
-STRUCTS = {"Row": "zax_row", "Outcome": "zax_outcome"}
+STRUCTS = {"Row": ("zax_row", "row"), "Outcome": ("zax_outcome", "row"), "Section": ("zax_section", "section")}  # by file of c_parts
 # What each status of specs/Status.antt is in the header, each cause of a refused round, and the codecs whose name there isn't their own
 STATUSES = {
     "done": "OK",
@@ -31,6 +31,7 @@ STATUSES = {
     "nothing_agreed": "E_NOTHING",
 }
 CAUSES = {"TypeTooLarge": "TYPE_TOO_LARGE", "ClaimedTwice": "CLAIMED_TWICE", "Exhausted": "EXHAUSTED", "Memory": "ROUND_MEMORY"}
+SECTIONS = {("kind", "Unknown"): "OTHER_KIND", ("protocol", "Srtp"): "PROTOCOL_RTP", ("protocol", "Sctp"): "PROTOCOL_SCTP", ("setup", "None"): "NO_SETUP"}
 CODECS = {"Tele": "TELEPHONE_EVENT", "Null": "NULL_CODEC", "AmrWb": "AMR_WB"}
 
 
@@ -53,7 +54,8 @@ def crossed(name, kind):
         const, more = ("", "cap") if slice_[1] else ("const ", "length")
         return [(f"{const}{ITEMS[slice_[2]]} *", name), ("size_t", f"{name}_{more}")]
     if place := re.fullmatch(r"&mut (\w+)", kind):
-        return [("struct handle *" if place[1] in HANDLES else f"{PLAIN[place[1]]} *", name)]
+        owned = STRUCTS[place[1]][0] if place[1] in STRUCTS else PLAIN.get(place[1])
+        return [("struct handle *" if place[1] in HANDLES else f"{owned} *", name)]
     return [(PLAIN[kind], name)]
 
 
@@ -66,11 +68,12 @@ def exports():
 
 
 def fields(path, struct):
-    """The fields of a struct of C's layout that are in memory, by name, with their types in C."""
+    """The fields of a struct of C's layout that are in memory: the name of each, its type in C, and how many it is, or 0."""
     text = path.read_text("utf-8")
     inside = re.search(rf"#\[repr\(C\)\]\n(?:#\[.*\]\n)*pub struct {struct} \{{\n(.*?)\n\}}", text, re.S)[1]
-    found = re.findall(r"^    (?:pub )?(\w+): ([^,]+),$", inside, re.M)
-    return [(name, "void *" if kind.startswith("*mut") else PLAIN[kind]) for name, kind in found if kind != "Global"]
+    found = re.findall(r"^    (?:pub )?(\w+): (?:\[(\w+); (\d+)\]|([^,]+)),$", inside, re.M)
+    kinds = [(name, item or kind, int(count or 0)) for name, item, count, kind in found]
+    return [(name, "void *" if kind.startswith("*mut") else PLAIN[kind], count) for name, kind, count in kinds if kind != "Global"]
 
 
 def declarations(file):
@@ -86,12 +89,12 @@ def asserted(claim):
 
 def same_struct(ours, theirs, own):
     """Claims that a struct of the header is this one: it has these fields, at the same places, and nothing besides."""
-    members = " ".join(f"{kind}{'' if kind.endswith('*') else ' '}{name};" for name, kind in own)
+    members = " ".join(f"{kind}{'' if kind.endswith('*') else ' '}{name}{f'[{count}]' if count else ''};" for name, kind, count in own)
     yield f"struct {ours} {{ {members} }};"
     yield asserted(f"sizeof({theirs}) == sizeof(struct {ours}) && _Alignof({theirs}) == _Alignof(struct {ours})")
-    for name, kind in own:
+    for name, kind, count in own:
         yield asserted(f"offsetof({theirs}, {name}) == offsetof(struct {ours}, {name})")
-        yield asserted(f"_Generic((({theirs} *)0)->{name}, {kind}: 1, default: 0)")
+        yield asserted(f"_Generic((({theirs} *)0)->{name}, {f'{kind} *' if count else kind}: 1, default: 0)")
 
 
 def numbers():
@@ -101,6 +104,9 @@ def numbers():
     row = (PARTS / "specs" / "Row.antt").read_text("utf-8")
     for name, number in re.findall(r"^codec_number (\w+) = (\d+)$", row, re.M):
         yield f"ZAX_{CODECS.get(name, name.upper())}", number
+    section = (PARTS / "specs" / "Section.antt").read_text("utf-8")
+    for of, name, number in re.findall(r"^(kind|protocol|direction|setup)_number \(?(?:Some )?(\w+).*= (\d+)$", section, re.M):
+        yield f"ZAX_{SECTIONS.get((of, name), name.upper())}", number
     for number, name in re.findall(r"bit (\d+) row\.fb_(\w+)", row):
         yield f"ZAX_{name.upper()}", number
     for name, number in re.findall(r"^c_outcome \(?Err \(?(\w+).*cause = (\d+)", row, re.M):
@@ -111,8 +117,8 @@ def compared(found):
     """A text in C that compiles where header and exports agree."""
     yield from ("#include <stdbool.h>", "#include <stddef.h>", '#include "proved_calls.h"')
     yield from (it.declared() for it in found)
-    for struct, name in STRUCTS.items():
-        yield from same_struct(f"rt_{name}", name, fields(PARTS / "src" / "row.rt", struct))
+    for struct, (name, file) in STRUCTS.items():
+        yield from same_struct(f"rt_{name}", name, fields(PARTS / "src" / f"{file}.rt", struct))
     for struct, file in HANDLES.items():
         yield from same_struct(f"rt_{file}", "struct handle", fields(PARTS / "src" / f"{file}.rt", struct))
     yield from (asserted(f"{name} == {number}") for name, number in numbers())

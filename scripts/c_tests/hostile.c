@@ -46,6 +46,10 @@ static zax_status mid(void *s, void *room, size_t cap, size_t *needed) { return 
 static zax_status rows(void *s, void *room, size_t cap, size_t *needed) { return zax_rows(s, 0, room, cap, needed); }
 static zax_status fmtp(void *s, void *room, size_t cap, size_t *needed) { return zax_row_fmtp(s, 0, 0, room, cap, needed); }
 static zax_status json(void *s, void *room, size_t cap, size_t *needed) { return zax_rows_json(s, room, cap, needed); }
+static zax_status ufrag(void *s, void *room, size_t cap, size_t *needed) { return zax_ice_ufrag(s, room, cap, needed); }
+static zax_status pwd(void *s, void *room, size_t cap, size_t *needed) { return zax_ice_pwd(s, room, cap, needed); }
+static zax_status hash(void *s, void *room, size_t cap, size_t *needed) { return zax_fingerprint(s, room, cap, needed); }
+static zax_status second(void *s, void *room, size_t cap, size_t *needed) { return zax_candidate(s, 1, room, cap, needed); }
 static zax_status held(void *c, void *room, size_t cap, size_t *needed) { return zax_config_rows(c, room, cap, needed); }
 static zax_status held_fmtp(void *c, void *room, size_t cap, size_t *needed) { return zax_config_row_fmtp(c, 0, room, cap, needed); }
 
@@ -188,6 +192,61 @@ static void rounds(zax_session *own)
     zax_config_free(config);
 }
 
+/* Calls that answer what isn't a text or a list. */
+static void facts(zax_session *session)
+{
+    uint8_t guarded[sizeof(zax_section) + 2 * GUARD];
+    zax_section *info = (zax_section *)(guarded + GUARD);
+    int writable = 7;
+    memset(guarded, CANARY, sizeof guarded);
+    IS(zax_section_info(session, 99, info), ZAX_E_SECTION);
+    IS(zax_section_info(session, (size_t)-1, info), ZAX_E_SECTION);
+    IS(zax_section_info(session, 0, NULL), ZAX_E_ARGUMENT);
+    IS(zax_section_info(NULL, 0, info), ZAX_E_ARGUMENT);
+    IS(changed(guarded, sizeof guarded), 0);
+    IS(zax_section_info(session, 0, info), ZAX_OK);
+    IS(info->kind, ZAX_AUDIO);
+    IS(info->protocol, ZAX_PROTOCOL_RTP);
+    IS(info->direction, ZAX_SENDRECV);
+    IS(info->setup, ZAX_ACTPASS);
+    IS(info->disabled, 0);
+    IS(info->reserved[0] | info->reserved[1] | info->reserved[2], 0);
+    IS(changed(guarded, GUARD) + changed(guarded + GUARD + sizeof *info, GUARD), 0);
+    IS(zax_is_writable(session, 99, &writable), ZAX_E_SECTION);
+    IS(zax_is_writable(session, 0, NULL), ZAX_E_ARGUMENT);
+    IS(zax_is_writable(NULL, 0, &writable), ZAX_E_ARGUMENT);
+    IS(writable, 7);
+    IS(zax_is_writable(session, 0, &writable), ZAX_OK);
+    IS(writable, 1);
+}
+
+/* A candidate that stands twice is one. */
+static void candidates(void)
+{
+    static const char own[] = "v=0\r\no=- 1 2 IN IP4 0.0.0.0\r\ns=-\r\nt=0 0\r\na=candidate:1 1 udp 1 192.0.2.1 9 typ host\r\n"
+                              "a=candidate:1 1 udp 1 192.0.2.1 9 typ host\r\na=candidate:2 1 tcp 7 2001:db8::1 9 typ host tcptype active\r\n";
+    static const char first[] = "candidate:1 1 udp 1 192.0.2.1 9 typ host";
+    char found[64];
+    zax_session *session;
+    size_t count = 99, got;
+    IS(zax_read(own, sizeof own - 1, &session, NULL), ZAX_OK);
+    IS(zax_candidates(session, NULL), ZAX_E_ARGUMENT);
+    IS(zax_candidates(NULL, &count), ZAX_E_ARGUMENT);
+    IS(count, 99);
+    IS(zax_candidates(session, &count), ZAX_OK);
+    IS(count, 2);
+    rooms(second, session, 1);
+    IS(zax_candidate(session, 0, found, sizeof found, &got), ZAX_OK);
+    IS(got == sizeof first - 1 && !memcmp(found, first, got), 1);
+    IS(zax_candidate(session, 2, found, sizeof found, &got), ZAX_E_SECTION);
+    IS(zax_candidate(session, (size_t)-1, NULL, 0, &got), ZAX_E_SECTION);
+    IS(zax_ice_ufrag(session, found, sizeof found, &got), ZAX_OK);
+    IS(got, 0);
+    IS(zax_fingerprint(session, found, sizeof found, &got), ZAX_OK);
+    IS(got, 0);
+    zax_session_free(session);
+}
+
 int main(int count, char **words)
 {
     FILE *file = count == 2 ? fopen(words[1], "rb") : NULL;
@@ -208,6 +267,11 @@ int main(int count, char **words)
     rooms(rows, session, sizeof(zax_row));
     rooms(fmtp, session, 1);
     rooms(json, session, 1);
+    rooms(ufrag, session, 1);
+    rooms(pwd, session, 1);
+    rooms(hash, session, 1);
+    facts(session);
+    candidates();
     zax_row one;
     IS(zax_rows(session, 99, &one, 1, &got), ZAX_E_SECTION);
     IS(zax_rows(session, (size_t)-1, &one, 1, &got), ZAX_E_SECTION);

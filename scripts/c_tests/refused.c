@@ -88,7 +88,9 @@ static int run(void)
     zax_config *config = NULL;
     zax_error error;
     zax_outcome outcomes[16];
+    zax_section info;
     size_t count;
+    int writable;
     int status = zax_read(text, length, &session, &error);
     if (status) {
         wrong += session != NULL || error.status != (uint32_t)status;
@@ -102,6 +104,14 @@ static int run(void)
     ASKS(session, zax_row_fmtp(session, 0, 0, room, sizeof room, &count));
     ASKS(session, zax_section_mid(session, 0, room, sizeof room, &count));
     ASKS(session, zax_rows_json(session, room, sizeof room, &count));
+    ASKS(session, zax_section_info(session, 0, &info));
+    ASKS(session, zax_is_writable(session, 0, &writable));
+    ASKS(session, zax_ice_ufrag(session, room, sizeof room, &count));
+    ASKS(session, zax_ice_pwd(session, room, sizeof room, &count));
+    ASKS(session, zax_fingerprint(session, room, sizeof room, &count));
+    ASKS(session, zax_candidates(session, &count));
+    if (count > 0)
+        ASKS(session, zax_candidate(session, 0, room, sizeof room, &count));
     status = zax_config_defaults(&config);
     if (status) {
         wrong += config != NULL;

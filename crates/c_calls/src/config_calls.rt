@@ -3,7 +3,7 @@
 ghost use Rattle.std.specs.Prelude.{◌≡◌, ◌≢◌, IfOk, None};
 ghost use Rattle.c_parts.specs.Full.{IsFull};
 ghost use Rattle.c_calls.specs.Held.{Of};
-ghost use Rattle.c_calls.specs.Status.{done};
+ghost use Rattle.c_calls.specs.Status.{done, no_memory};
 ghost use Rattle.str0m_formats.specs.DefaultRows.{usual_rows};
 
 use crate::said::{DONE, NO_MEMORY};
@@ -27,6 +27,7 @@ pub extern "C" fn zaxp_config_defaults(alloc: Global, handle: &mut ConfigHandle)
     requires { handle.old.inner ≡ None }
     ensures made { result ≡ done → Of handle.new.inner (λ config. config.params.items ≡ usual_rows) }
     ensures empty { result ≢ done → handle.new.inner ≡ None }
+    ensures refused { result ≢ done → result ≡ no_memory }
 {
     match boxed(alloc) {
         Ok(owned) => {

@@ -2,8 +2,11 @@
 //! status (`zax_status`).
 #![tactic(auto)]
 
+mod candidate_calls;
 mod config_calls;
 mod round_calls;
 mod row_calls;
 mod said;
+mod section_calls;
 mod session_calls;
+mod transport_calls;

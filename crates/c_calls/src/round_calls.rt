@@ -1,14 +1,15 @@
 //! Calls that negotiate, and that answer with what is agreed.
 
-ghost use Rattle.std.specs.Prelude.{◌≡◌, ◌≢◌, [], IfErr, IfOk, IfSome, OnErr, OnOk, List, Some, ℕ, length, map};
+ghost use Rattle.std.specs.Prelude.{◌≡◌, ◌≢◌, ◌↔◌, ◌⊎◌, [], IfErr, IfNone, IfOk, IfSome, OnErr, OnOk, List, None, Some, ℕ, length, map};
 ghost use Rattle.std.specs.List.{slice_get};
 ghost use Rattle.std.specs.Str.{IsUtf8};
 ghost use Rattle.c_parts.specs.Full.{IsFull};
 ghost use Rattle.c_parts.specs.Refused.{RefusesText};
 ghost use Rattle.c_parts.specs.Row.{c_outcome};
-ghost use Rattle.c_calls.specs.Answered.{Answered, Lists, of_type};
+ghost use Rattle.c_calls.specs.Answered.{Answered, CantAnswer, CantList, Lists, of_type};
+ghost use Rattle.c_calls.specs.Held.{Of};
 ghost use Rattle.c_calls.specs.Ran.{Ran, RanHeld, front};
-ghost use Rattle.c_calls.specs.Status.{done, no_session, no_utf8};
+ghost use Rattle.c_calls.specs.Status.{done, no_memory, no_section, no_session, no_utf8, nothing_agreed};
 ghost use Rattle.str0m_sdp.specs.SectionOf.{made};
 ghost use Rattle.str0m_sdp.specs.declared.media_line.MediaLine.{MediaLine};
 ghost use Rattle.str0m_sdp.specs.declared.session.Sdp.{Sdp};
@@ -62,6 +63,7 @@ fn negotiated_text(
     ensures ran { OnOk result (Ran text.now config.old config.new room.old room.new needed.new) }
     ensures same { OnErr result (config.new ≡ config.old) }
     ensures kept { OnErr result (room.new ≡ room.old) }
+    ensures uncounted { OnErr result (needed.new ≡ needed.old) }
     ensures refused { IfErr result (λ error. Refuses error (Described text.now)) }
 {
     let outcomes = negotiate_text(config, text)?;
@@ -78,6 +80,7 @@ fn negotiated(
     ensures ran { OnOk result (Ran bytes.now config.old config.new room.old room.new needed.new) }
     ensures same { OnErr result (config.new ≡ config.old) }
     ensures kept { OnErr result (room.new ≡ room.old) }
+    ensures uncounted { OnErr result (needed.new ≡ needed.old) }
     ensures refused { IfErr result (λ refusal. RefusesText refusal bytes.now) }
 {
     match str::from_utf8(bytes) {
@@ -104,6 +107,7 @@ pub extern "C" fn zaxp_config_negotiate(
     ensures ran { result ≡ done → RanHeld text.now handle.old.inner handle.new.inner room.old room.new needed.new }
     ensures same { result ≢ done → handle.new.inner ≡ handle.old.inner }
     ensures kept { result ≢ done → room.new ≡ room.old }
+    ensures uncounted { result ≢ done → needed.new ≡ needed.old }
     ensures no_session { result ≡ no_session → (sdp : Sdp) → Described text.now sdp → ⊥ }
     ensures no_text { result ≡ no_utf8 → IsUtf8 text.now → ⊥ }
 {
@@ -134,19 +138,27 @@ fn answered(
     at: usize,
     frame: &MediaLine,
 ) -> Result<Option<MediaLine>, AllocError>
-    ensures { IfOk result (λ found. IfSome found (λ section. Writable own.now at × (of_type frame.now.typ config.now.params.items ≢ [])
+    ensures made { IfOk result (λ found. IfSome found (λ section. Writable own.now at × (of_type frame.now.typ config.now.params.items ≢ [])
         × (section ≡ made frame.now (of_type frame.now.typ config.now.params.items)))) }
+    ensures none { IfOk result (λ found. IfNone found
+        ((of_type frame.now.typ config.now.params.items ≡ []) ⊎ (Writable own.now at → ⊥))) }
 {
     let rows = agreed(config, &frame.typ)?;
-    if rows.is_empty() || !is_writable(own, at)? {
+    if rows.is_empty() {
+        return Ok(None);
+    }
+    if !is_writable(own, at)? {
         return Ok(None);
     }
     Ok(Some(section_of(frame, rows.as_slice())?))
 }
 
 fn answer(config: &CodecConfig, own: &mut Sdp, at: usize) -> u32
+    ensures statuses { (result ≡ done) ⊎ (result ≡ no_memory) ⊎ (result ≡ no_section) ⊎ (result ≡ nothing_agreed) }
     ensures lists { result ≡ done → Lists config.now.params.items own.old at own.new }
     ensures same { result ≢ done → own.new ≡ own.old }
+    ensures missing { (result ≡ no_section) ↔ (slice_get own.old.media_lines at ≡ None) }
+    ensures nothing { result ≡ nothing_agreed → CantList config.now.params.items own.old at }
 {
     let made = match own.media_lines.get(at) {
         Some(frame) => answered(config, own, at, frame),
@@ -173,8 +185,11 @@ pub extern "C" fn zaxp_config_answer(
     requires handle { IsFull handle.old.inner }
     requires own { IsFull own.old.inner }
     ensures same { handle.new.inner ≡ handle.old.inner }
+    ensures statuses { (result ≡ done) ⊎ (result ≡ no_memory) ⊎ (result ≡ no_section) ⊎ (result ≡ nothing_agreed) }
     ensures answered { result ≡ done → Answered handle.old.inner own.old.inner at own.new.inner }
     ensures kept { result ≢ done → own.new.inner ≡ own.old.inner }
+    ensures missing { Of own.old.inner (λ sdp. (result ≡ no_section) ↔ (slice_get sdp.media_lines at ≡ None)) }
+    ensures nothing { result ≡ nothing_agreed → CantAnswer handle.old.inner own.old.inner at }
 {
     let config = handle.take(alloc);
     let mut sdp = own.take(alloc);

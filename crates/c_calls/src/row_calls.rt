@@ -1,16 +1,14 @@
 //! Calls of rows, of a section and of a configuration.
 
-ghost use Rattle.std.specs.Prelude.{◌≡◌, ◌≢◌, None, length, map};
-ghost use Rattle.std.specs.List.{slice_get};
+ghost use Rattle.std.specs.Prelude.{◌≡◌, Some, map};
 ghost use Rattle.c_parts.specs.Full.{IsFull};
-ghost use Rattle.c_parts.specs.Room.{Holds};
 ghost use Rattle.c_parts.specs.Row.{c_row};
-ghost use Rattle.c_calls.specs.Held.{Of, OfRow, OfSection};
-ghost use Rattle.c_calls.specs.Status.{done, no_memory, no_section};
-ghost use Rattle.str0m_formats.specs.FormatParams.{params_text};
+ghost use Rattle.c_calls.specs.Found.{format_at, format_in, rows_at};
+ghost use Rattle.c_calls.specs.Held.{Of};
+ghost use Rattle.c_calls.specs.Says.{Says};
 ghost use Rattle.str0m_sdp.specs.SectionRows.{rows};
 
-use crate::said::{NO_MEMORY, NO_SECTION, put};
+use crate::said::{NO_MEMORY, NO_SECTION, put, put_made};
 use c_parts::config_handle::ConfigHandle;
 use c_parts::row::{Row, rows_of};
 use c_parts::session_handle::SessionHandle;
@@ -18,10 +16,7 @@ use std::alloc::Global;
 use str0m_signal::{MediaLine, PayloadParams, Sdp};
 
 fn put_rows(alloc: Global, rows: &[PayloadParams], room: &mut [Row], needed: &mut usize) -> u32
-    ensures written { result ≡ done → Holds room.new (map c_row rows.now) room.old }
-    ensures kept { result ≢ done → room.new ≡ room.old }
-    ensures there { result ≢ no_section }
-    ensures needed { result ≢ no_memory → needed.new ≡ length (map c_row rows.now) }
+    ensures { Says (Some (map c_row rows.now)) (room.old, needed.old) (result, room.new, needed.new) }
 {
     match rows_of(alloc, rows) {
         Ok(made) => put(made.as_slice(), room, needed),
@@ -36,24 +31,16 @@ fn put_format(
     room: &mut [u8],
     needed: &mut usize,
 ) -> u32
-    ensures written { result ≡ done → OfRow rows.now row (λ found. Holds room.new (params_text found.spec.format) room.old) }
-    ensures kept { result ≢ done → room.new ≡ room.old }
-    ensures missing { result ≡ no_section → slice_get rows.now row ≡ None }
+    ensures { Says (format_in rows.now row) (room.old, needed.old) (result, room.new, needed.new) }
 {
     match rows.get(row) {
-        Some(found) => match found.spec().format.to_string(alloc) {
-            Ok(text) => put(text.as_bytes(), room, needed),
-            Err(_) => NO_MEMORY,
-        },
+        Some(found) => put_made(found.spec().format.to_string(alloc), room, needed),
         None => NO_SECTION,
     }
 }
 
 fn put_section_rows(alloc: Global, section: &MediaLine, room: &mut [Row], needed: &mut usize) -> u32
-    ensures written { result ≡ done → Holds room.new (map c_row (rows section.now)) room.old }
-    ensures kept { result ≢ done → room.new ≡ room.old }
-    ensures there { result ≢ no_section }
-    ensures needed { result ≢ no_memory → needed.new ≡ length (map c_row (rows section.now)) }
+    ensures { Says (Some (map c_row (rows section.now))) (room.old, needed.old) (result, room.new, needed.new) }
 {
     match section.rtp_params() {
         Ok(found) => put_rows(alloc, found.as_slice(), room, needed),
@@ -62,9 +49,7 @@ fn put_section_rows(alloc: Global, section: &MediaLine, room: &mut [Row], needed
 }
 
 fn put_rows_at(alloc: Global, sdp: &Sdp, at: usize, room: &mut [Row], needed: &mut usize) -> u32
-    ensures written { result ≡ done → Of (slice_get sdp.now.media_lines at) (λ section. Holds room.new (map c_row (rows section)) room.old) }
-    ensures kept { result ≢ done → room.new ≡ room.old }
-    ensures missing { result ≡ no_section → slice_get sdp.now.media_lines at ≡ None }
+    ensures { Says (rows_at sdp.now at) (room.old, needed.old) (result, room.new, needed.new) }
 {
     match sdp.media_lines.get(at) {
         Some(section) => put_section_rows(alloc, section, room, needed),
@@ -83,9 +68,7 @@ pub extern "C" fn zaxp_session_rows(
 ) -> u32
     requires { IsFull handle.old.inner }
     ensures same { handle.new.inner ≡ handle.old.inner }
-    ensures written { result ≡ done → OfSection handle.old.inner at (λ section. Holds room.new (map c_row (rows section)) room.old) }
-    ensures kept { result ≢ done → room.new ≡ room.old }
-    ensures missing { result ≡ no_section → Of handle.old.inner (λ sdp. slice_get sdp.media_lines at ≡ None) }
+    ensures says { Of handle.old.inner (λ sdp. Says (rows_at sdp at) (room.old, needed.old) (result, room.new, needed.new)) }
 {
     let sdp = handle.take(alloc);
     let code = put_rows_at(alloc, &sdp, at, room, needed);
@@ -100,8 +83,7 @@ fn put_section_format(
     room: &mut [u8],
     needed: &mut usize,
 ) -> u32
-    ensures written { result ≡ done → OfRow (rows section.now) row (λ found. Holds room.new (params_text found.spec.format) room.old) }
-    ensures kept { result ≢ done → room.new ≡ room.old }
+    ensures { Says (format_in (rows section.now) row) (room.old, needed.old) (result, room.new, needed.new) }
 {
     match section.rtp_params() {
         Ok(found) => put_format(alloc, found.as_slice(), row, room, needed),
@@ -117,8 +99,7 @@ fn put_format_at(
     room: &mut [u8],
     needed: &mut usize,
 ) -> u32
-    ensures written { result ≡ done → Of (slice_get sdp.now.media_lines at) (λ section. OfRow (rows section) row (λ found. Holds room.new (params_text found.spec.format) room.old)) }
-    ensures kept { result ≢ done → room.new ≡ room.old }
+    ensures { Says (format_at sdp.now at row) (room.old, needed.old) (result, room.new, needed.new) }
 {
     match sdp.media_lines.get(at) {
         Some(section) => put_section_format(alloc, section, row, room, needed),
@@ -138,8 +119,7 @@ pub extern "C" fn zaxp_session_format(
 ) -> u32
     requires { IsFull handle.old.inner }
     ensures same { handle.new.inner ≡ handle.old.inner }
-    ensures written { result ≡ done → OfSection handle.old.inner at (λ section. OfRow (rows section) row (λ found. Holds room.new (params_text found.spec.format) room.old)) }
-    ensures kept { result ≢ done → room.new ≡ room.old }
+    ensures says { Of handle.old.inner (λ sdp. Says (format_at sdp at row) (room.old, needed.old) (result, room.new, needed.new)) }
 {
     let sdp = handle.take(alloc);
     let code = put_format_at(alloc, &sdp, at, row, room, needed);
@@ -157,9 +137,7 @@ pub extern "C" fn zaxp_config_rows(
 ) -> u32
     requires { IsFull handle.old.inner }
     ensures same { handle.new.inner ≡ handle.old.inner }
-    ensures written { result ≡ done → Of handle.old.inner (λ config. Holds room.new (map c_row config.params.items) room.old) }
-    ensures kept { result ≢ done → room.new ≡ room.old }
-    ensures needed { result ≢ no_memory → Of handle.old.inner (λ config. needed.new ≡ length (map c_row config.params.items)) }
+    ensures says { Of handle.old.inner (λ config. Says (Some (map c_row config.params.items)) (room.old, needed.old) (result, room.new, needed.new)) }
 {
     let config = handle.take(alloc);
     let code = put_rows(alloc, config.params(), room, needed);
@@ -178,9 +156,7 @@ pub extern "C" fn zaxp_config_format(
 ) -> u32
     requires { IsFull handle.old.inner }
     ensures same { handle.new.inner ≡ handle.old.inner }
-    ensures written { result ≡ done → Of handle.old.inner (λ config. OfRow config.params.items row (λ found. Holds room.new (params_text found.spec.format) room.old)) }
-    ensures kept { result ≢ done → room.new ≡ room.old }
-    ensures missing { result ≡ no_section → Of handle.old.inner (λ config. slice_get config.params.items row ≡ None) }
+    ensures says { Of handle.old.inner (λ config. Says (format_in config.params.items row) (room.old, needed.old) (result, room.new, needed.new)) }
 {
     let config = handle.take(alloc);
     let code = put_format(alloc, config.params(), row, room, needed);

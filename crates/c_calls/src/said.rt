@@ -1,16 +1,16 @@
 //! What a call answers.
 
-ghost use Rattle.std.specs.Prelude.{◌≡◌, ◌≢◌, ◌<◌, length, List, ℕ};
+ghost use Rattle.std.specs.Prelude.{◌≡◌, ◌≢◌, IfOk, Some, List, ℕ, string_bytes};
 ghost use Rattle.std.specs.Str.{IsUtf8};
-ghost use Rattle.c_parts.specs.Room.{Holds};
 ghost use Rattle.c_parts.specs.Refused.{RefusesText};
-ghost use Rattle.c_calls.specs.Status.{done, no_room, no_session, no_utf8};
+ghost use Rattle.c_calls.specs.Says.{Puts, Says};
+ghost use Rattle.c_calls.specs.Status.{done, no_session, no_utf8};
 ghost use Rattle.str0m_sdp.specs.declared.session.Sdp.{Sdp};
 ghost use Rattle.str0m_signal.specs.Reading.{Described};
 
 use c_parts::reading::Refusal;
 use c_parts::room::copied;
-use std::alloc::Global;
+use std::alloc::{AllocError, Global};
 
 pub(crate) const DONE: u32 = 0;
 
@@ -23,16 +23,25 @@ pub(crate) const NO_SECTION: u32 = 5;
 pub(crate) const NOTHING: u32 = 6;
 
 /// Writes items into the caller's room where they fit, and always how many there are.
+#[tactic(auto, using(crate::proofs::Putting::put_fits, crate::proofs::Putting::put_full))]
 pub(crate) fn put<T: Copy>(items: &[T], room: &mut [T], needed: &mut usize) -> u32
-    ensures written { result ≡ done → Holds room.new items.now room.old }
-    ensures refused { result ≢ done → (result ≡ no_room) × (length room.old < length items.now) }
-    ensures kept { result ≢ done → room.new ≡ room.old }
-    ensures needed { needed.new ≡ length items.now }
+    ensures { Puts (Some items.now) (room.old, needed.old) (result, room.new, needed.new) }
 {
     if copied(items, room, needed) {
         DONE
     } else {
         NO_ROOM
+    }
+}
+
+/// Writes a text that was made, unless memory was refused for it.
+pub(crate) fn put_made(made: Result<String, AllocError>, room: &mut [u8], needed: &mut usize) -> u32
+    ensures { (text : List ℕ) → IfOk made (λ it. string_bytes it ≡ text)
+        → Says (Some text) (room.old, needed.old) (result, room.new, needed.new) }
+{
+    match made {
+        Ok(text) => put(text.as_bytes(), room, needed),
+        Err(_) => NO_MEMORY,
     }
 }
 

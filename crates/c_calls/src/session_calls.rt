@@ -1,18 +1,18 @@
 //! Calls of descriptions.
 
 ghost use Rattle.std.specs.Prelude.{◌≡◌, ◌≢◌, None, Some, List, ℕ, length};
-ghost use Rattle.std.specs.List.{slice_get};
 ghost use Rattle.std.specs.Str.{IsUtf8};
 ghost use Rattle.c_parts.specs.Full.{IsFull};
-ghost use Rattle.c_parts.specs.Room.{Holds};
-ghost use Rattle.c_calls.specs.Held.{Of, OfSection};
+ghost use Rattle.c_calls.specs.Found.{mid_at};
+ghost use Rattle.c_calls.specs.Held.{Of};
 ghost use Rattle.c_calls.specs.Mid.{mid_named, mid_text};
-ghost use Rattle.c_calls.specs.Status.{done, no_memory, no_section, no_session, no_utf8};
+ghost use Rattle.c_calls.specs.Says.{Puts, Says};
+ghost use Rattle.c_calls.specs.Status.{done, no_session, no_utf8};
 ghost use Rattle.str0m_sdp.specs.Session.{sdp_text};
 ghost use Rattle.str0m_sdp.specs.declared.session.Sdp.{Sdp};
 ghost use Rattle.str0m_signal.specs.Reading.{Described, Reading};
 
-use crate::said::{DONE, NO_MEMORY, NO_SECTION, put, refuse};
+use crate::said::{DONE, NO_MEMORY, NO_SECTION, put, put_made, refuse};
 use c_parts::json::rows_json;
 use c_parts::reading::read;
 use c_parts::session_handle::SessionHandle;
@@ -63,14 +63,9 @@ pub extern "C" fn zaxp_session_sections(alloc: Global, handle: &mut SessionHandl
 }
 
 fn put_text(alloc: Global, sdp: &Sdp, room: &mut [u8], needed: &mut usize) -> u32
-    ensures written { result ≡ done → Holds room.new (sdp_text sdp.now) room.old }
-    ensures kept { result ≢ done → room.new ≡ room.old }
-    ensures needed { result ≢ no_memory → needed.new ≡ length (sdp_text sdp.now) }
+    ensures { Says (Some (sdp_text sdp.now)) (room.old, needed.old) (result, room.new, needed.new) }
 {
-    match sdp.to_string(alloc) {
-        Ok(text) => put(text.as_bytes(), room, needed),
-        Err(_) => NO_MEMORY,
-    }
+    put_made(sdp.to_string(alloc), room, needed)
 }
 
 /// Prints the description into the caller's room.
@@ -83,9 +78,7 @@ pub extern "C" fn zaxp_session_print(
 ) -> u32
     requires { IsFull handle.old.inner }
     ensures same { handle.new.inner ≡ handle.old.inner }
-    ensures written { result ≡ done → Of handle.old.inner (λ sdp. Holds room.new (sdp_text sdp) room.old) }
-    ensures kept { result ≢ done → room.new ≡ room.old }
-    ensures needed { result ≢ no_memory → Of handle.old.inner (λ sdp. needed.new ≡ length (sdp_text sdp)) }
+    ensures says { Of handle.old.inner (λ sdp. Says (Some (sdp_text sdp)) (room.old, needed.old) (result, room.new, needed.new)) }
 {
     let sdp = handle.take(alloc);
     let code = put_text(alloc, &sdp, room, needed);
@@ -94,7 +87,7 @@ pub extern "C" fn zaxp_session_print(
 }
 
 fn put_rows_json(alloc: Global, sdp: &Sdp, room: &mut [u8], needed: &mut usize) -> u32
-    ensures kept { result ≢ done → room.new ≡ room.old }
+    ensures { (text : List ℕ) × Says (Some text) (room.old, needed.old) (result, room.new, needed.new) }
 {
     match rows_json(alloc, sdp) {
         Ok(text) => put(text.as_bytes(), room, needed),
@@ -112,7 +105,7 @@ pub extern "C" fn zaxp_session_rows_json(
 ) -> u32
     requires { IsFull handle.old.inner }
     ensures same { handle.new.inner ≡ handle.old.inner }
-    ensures kept { result ≢ done → room.new ≡ room.old }
+    ensures says { (text : List ℕ) × Says (Some text) (room.old, needed.old) (result, room.new, needed.new) }
 {
     let sdp = handle.take(alloc);
     let code = put_rows_json(alloc, &sdp, room, needed);
@@ -131,9 +124,7 @@ fn mid_named(section: &MediaLine) -> Option<Mid>
 }
 
 fn put_mid(section: &MediaLine, room: &mut [u8], needed: &mut usize) -> u32
-    ensures written { result ≡ done → Holds room.new (mid_text section.now) room.old }
-    ensures kept { result ≢ done → room.new ≡ room.old }
-    ensures there { result ≢ no_section }
+    ensures { Puts (Some (mid_text section.now)) (room.old, needed.old) (result, room.new, needed.new) }
 {
     match mid_named(section) {
         Some(mid) => put(mid.as_str().as_bytes(), room, needed),
@@ -142,9 +133,7 @@ fn put_mid(section: &MediaLine, room: &mut [u8], needed: &mut usize) -> u32
 }
 
 fn put_mid_at(sdp: &Sdp, at: usize, room: &mut [u8], needed: &mut usize) -> u32
-    ensures written { result ≡ done → Of (slice_get sdp.now.media_lines at) (λ section. Holds room.new (mid_text section) room.old) }
-    ensures kept { result ≢ done → room.new ≡ room.old }
-    ensures missing { result ≡ no_section → slice_get sdp.now.media_lines at ≡ None }
+    ensures { Puts (mid_at sdp.now at) (room.old, needed.old) (result, room.new, needed.new) }
 {
     match sdp.media_lines.get(at) {
         Some(section) => put_mid(section, room, needed),
@@ -163,9 +152,7 @@ pub extern "C" fn zaxp_session_mid(
 ) -> u32
     requires { IsFull handle.old.inner }
     ensures same { handle.new.inner ≡ handle.old.inner }
-    ensures written { result ≡ done → OfSection handle.old.inner at (λ section. Holds room.new (mid_text section) room.old) }
-    ensures kept { result ≢ done → room.new ≡ room.old }
-    ensures missing { result ≡ no_section → Of handle.old.inner (λ sdp. slice_get sdp.media_lines at ≡ None) }
+    ensures says { Of handle.old.inner (λ sdp. Puts (mid_at sdp at) (room.old, needed.old) (result, room.new, needed.new)) }
 {
     let sdp = handle.take(alloc);
     let code = put_mid_at(&sdp, at, room, needed);

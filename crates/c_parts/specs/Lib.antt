@@ -4,4 +4,5 @@ pub mod Owned
 pub mod Refused
 pub mod Room
 pub mod Row
+pub mod Section
 pub mod SessionOwned

@@ -1,6 +1,6 @@
 -- Room that the caller gives.
-use Rattle.std.specs.Prelude.{◌≡◌, ◌++◌, List, drop, length}
+use Rattle.std.specs.Prelude.{◌++◌, List, drop, length}
 
--- the room begins with the items, and is as it was behind them
-abbrev pub Holds : {X : Type 0} → List X → List X → List X → Type 0
-Holds after items before = after ≡ items ++ drop (length items) before
+-- the room with these items at its beginning; behind them it is as it was
+abbrev pub begun_with : {X : Type 0} → List X → List X → List X
+begun_with items room = items ++ drop (length items) room

@@ -1,4 +1,5 @@
-//! What the calls from C are made of: handles, texts that are read, room of the caller's, rows as C holds them, and JSON.
+//! What the calls from C are made of: handles, texts that are read, room of the caller's, rows and sections as C
+//! holds them, and JSON.
 #![tactic(auto)]
 
 pub mod config_handle;
@@ -7,4 +8,5 @@ mod parts;
 pub mod reading;
 pub mod room;
 pub mod row;
+pub mod section;
 pub mod session_handle;

@@ -71,7 +71,7 @@ fn code_of(codec: Codec) -> u8
     }
 }
 
-fn flag(value: u8, is_on: bool) -> u8
+pub(crate) fn flag(value: u8, is_on: bool) -> u8
     ensures value { result ≡ bit value is_on }
     ensures low { result ≤ value }
 {

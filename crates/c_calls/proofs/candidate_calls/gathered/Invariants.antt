@@ -1,0 +1,13 @@
+use Rattle.std.specs.Prelude.{◌≡◌, ◌++◌}
+use Rattle.str0m_sdp.specs.Candidates.{all_candidates, same_candidate}
+use Rattle.str0m_sdp.specs.DistinctCandidates.{distinct_left}
+use Rattle.str0m_sdp.specs.Lists.{distinct}
+use Rattle.c_calls.specs.TransportFound.{lent}
+use Rattle.c_calls.proofs.candidate_calls.gathered.Given as goal
+
+-- those so far, with those that are still to come
+abbrev pub invariant-loop-candidate : goal.invariant-loop-candidate
+invariant-loop-candidate l =
+    (goal.iterator-loop-candidate).can_next l.candidate-iterator
+    × (goal.iterator-loop-candidate).is_finite l.candidate-iterator
+    × (lent l.found.items ++ distinct_left l.candidate-iterator ≡ distinct same_candidate (all_candidates l.sdp))

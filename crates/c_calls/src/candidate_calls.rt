@@ -1,0 +1,104 @@
+//! Calls of candidates.
+
+ghost use Rattle.std.specs.Prelude.{◌≡◌, ◌≢◌, ◌⊎◌, IfOk, length, map};
+ghost use Rattle.std.specs.List.{slice_get};
+ghost use Rattle.c_parts.specs.Full.{IsFull};
+ghost use Rattle.c_calls.specs.Held.{Of};
+ghost use Rattle.c_calls.specs.Says.{Says};
+ghost use Rattle.c_calls.specs.Status.{done, no_memory};
+ghost use Rattle.c_calls.specs.TransportFound.{candidate_texts, lent};
+ghost use Rattle.str0m_sdp.specs.Candidates.{all_candidates, same_candidate};
+ghost use Rattle.str0m_sdp.specs.Lists.{distinct};
+ghost use Rattle.str0m_values.specs.Candidate.{candidate_text};
+
+use crate::said::{DONE, NO_MEMORY, NO_SECTION, put_made};
+use c_parts::session_handle::SessionHandle;
+use std::alloc::{AllocError, Global};
+use str0m_signal::{Candidate, Sdp};
+
+/// The candidates of a description, each once.
+fn gathered<'a>(alloc: Global, sdp: &'a Sdp) -> Result<Vec<&'a Candidate>, AllocError>
+    ensures { IfOk result (λ found. lent found.items ≡ distinct same_candidate (all_candidates sdp.now)) }
+{
+    let mut found = Vec::new(alloc);
+    for candidate in sdp.ice_candidates()? {
+        found.push(candidate)?;
+    }
+    Ok(found)
+}
+
+fn count_candidates(alloc: Global, sdp: &Sdp, count: &mut usize) -> u32
+    ensures statuses { (result ≡ done) ⊎ (result ≡ no_memory) }
+    ensures counted { result ≡ done → count.new ≡ length (candidate_texts sdp.now) }
+    ensures kept { result ≢ done → count.new ≡ count.old }
+{
+    match gathered(alloc, sdp) {
+        Ok(found) => {
+            *count = found.len();
+            DONE
+        }
+        Err(_) => NO_MEMORY,
+    }
+}
+
+/// How many candidates the description lists, each once.
+#[unsafe(no_mangle)]
+pub extern "C" fn zaxp_session_candidates(
+    alloc: Global,
+    handle: &mut SessionHandle,
+    count: &mut usize,
+) -> u32
+    requires { IsFull handle.old.inner }
+    ensures same { handle.new.inner ≡ handle.old.inner }
+    ensures statuses { (result ≡ done) ⊎ (result ≡ no_memory) }
+    ensures counted { result ≡ done → Of handle.old.inner (λ sdp. count.new ≡ length (candidate_texts sdp)) }
+    ensures kept { result ≢ done → count.new ≡ count.old }
+{
+    let sdp = handle.take(alloc);
+    let code = count_candidates(alloc, &sdp, count);
+    handle.put(sdp);
+    code
+}
+
+fn put_one(
+    alloc: Global,
+    candidates: &[&Candidate],
+    index: usize,
+    room: &mut [u8],
+    needed: &mut usize,
+) -> u32
+    ensures { Says (slice_get (map candidate_text (lent candidates.now)) index) (room.old, needed.old) (result, room.new, needed.new) }
+{
+    if index >= candidates.len() {
+        return NO_SECTION;
+    }
+    put_made(candidates[index].to_sdp_string(alloc), room, needed)
+}
+
+fn put_candidate(alloc: Global, sdp: &Sdp, index: usize, room: &mut [u8], needed: &mut usize) -> u32
+    ensures { Says (slice_get (candidate_texts sdp.now) index) (room.old, needed.old) (result, room.new, needed.new) }
+{
+    match gathered(alloc, sdp) {
+        Ok(found) => put_one(alloc, found.as_slice(), index, room, needed),
+        Err(_) => NO_MEMORY,
+    }
+}
+
+/// The text of a candidate, without `a=` and a line's end.
+#[unsafe(no_mangle)]
+pub extern "C" fn zaxp_session_candidate(
+    alloc: Global,
+    handle: &mut SessionHandle,
+    index: usize,
+    room: &mut [u8],
+    needed: &mut usize,
+) -> u32
+    requires { IsFull handle.old.inner }
+    ensures same { handle.new.inner ≡ handle.old.inner }
+    ensures says { Of handle.old.inner (λ sdp. Says (slice_get (candidate_texts sdp) index) (room.old, needed.old) (result, room.new, needed.new)) }
+{
+    let sdp = handle.take(alloc);
+    let code = put_candidate(alloc, &sdp, index, room, needed);
+    handle.put(sdp);
+    code
+}

@@ -1,0 +1,106 @@
+//! Calls of the transport that a description speaks of.
+
+ghost use Rattle.std.specs.Prelude.{◌≡◌, IfOk, Some, string_bytes};
+ghost use Rattle.c_parts.specs.Full.{IsFull};
+ghost use Rattle.c_calls.specs.Held.{Of};
+ghost use Rattle.c_calls.specs.Says.{Says, SaysSome};
+ghost use Rattle.c_calls.specs.TransportFound.{IsPreferredText, pwd_of, ufrag_of};
+ghost use Rattle.str0m_sdp.specs.Transport.{sdp_creds};
+
+use crate::said::{NO_MEMORY, put};
+use c_parts::session_handle::SessionHandle;
+use std::alloc::{AllocError, Global};
+use str0m_signal::Sdp;
+
+fn put_ufrag(sdp: &Sdp, room: &mut [u8], needed: &mut usize) -> u32
+    ensures { Says (Some (ufrag_of (sdp_creds sdp.now))) (room.old, needed.old) (result, room.new, needed.new) }
+{
+    match sdp.ice_creds() {
+        Ok(Some(creds)) => put(creds.ufrag.as_str().as_bytes(), room, needed),
+        Ok(None) => put(&[], room, needed),
+        Err(_) => NO_MEMORY,
+    }
+}
+
+/// The user fragment of ICE that the description says; nothing where it says no credentials.
+#[unsafe(no_mangle)]
+pub extern "C" fn zaxp_session_ice_ufrag(
+    alloc: Global,
+    handle: &mut SessionHandle,
+    room: &mut [u8],
+    needed: &mut usize,
+) -> u32
+    requires { IsFull handle.old.inner }
+    ensures same { handle.new.inner ≡ handle.old.inner }
+    ensures says { Of handle.old.inner (λ sdp. Says (Some (ufrag_of (sdp_creds sdp))) (room.old, needed.old) (result, room.new, needed.new)) }
+{
+    let sdp = handle.take(alloc);
+    let code = put_ufrag(&sdp, room, needed);
+    handle.put(sdp);
+    code
+}
+
+fn put_pwd(sdp: &Sdp, room: &mut [u8], needed: &mut usize) -> u32
+    ensures { Says (Some (pwd_of (sdp_creds sdp.now))) (room.old, needed.old) (result, room.new, needed.new) }
+{
+    match sdp.ice_creds() {
+        Ok(Some(creds)) => put(creds.pass.as_str().as_bytes(), room, needed),
+        Ok(None) => put(&[], room, needed),
+        Err(_) => NO_MEMORY,
+    }
+}
+
+/// The password of ICE that the description says; nothing where it says no credentials.
+#[unsafe(no_mangle)]
+pub extern "C" fn zaxp_session_ice_pwd(
+    alloc: Global,
+    handle: &mut SessionHandle,
+    room: &mut [u8],
+    needed: &mut usize,
+) -> u32
+    requires { IsFull handle.old.inner }
+    ensures same { handle.new.inner ≡ handle.old.inner }
+    ensures says { Of handle.old.inner (λ sdp. Says (Some (pwd_of (sdp_creds sdp))) (room.old, needed.old) (result, room.new, needed.new)) }
+{
+    let sdp = handle.take(alloc);
+    let code = put_pwd(&sdp, room, needed);
+    handle.put(sdp);
+    code
+}
+
+/// The text of the preferred fingerprint.
+fn fingerprint_text(alloc: Global, sdp: &Sdp) -> Result<String, AllocError>
+    ensures { IfOk result (λ text. IsPreferredText sdp.now (string_bytes text)) }
+{
+    match sdp.fingerprint()? {
+        Some(found) => found.to_string(alloc),
+        None => Ok(String::new(alloc)),
+    }
+}
+
+fn put_fingerprint(alloc: Global, sdp: &Sdp, room: &mut [u8], needed: &mut usize) -> u32
+    ensures { SaysSome (IsPreferredText sdp.now) (room.old, needed.old) (result, room.new, needed.new) }
+{
+    match fingerprint_text(alloc, sdp) {
+        Ok(text) => put(text.as_bytes(), room, needed),
+        Err(_) => NO_MEMORY,
+    }
+}
+
+/// The preferred fingerprint that the description says; nothing where it says none.
+#[unsafe(no_mangle)]
+pub extern "C" fn zaxp_session_fingerprint(
+    alloc: Global,
+    handle: &mut SessionHandle,
+    room: &mut [u8],
+    needed: &mut usize,
+) -> u32
+    requires { IsFull handle.old.inner }
+    ensures same { handle.new.inner ≡ handle.old.inner }
+    ensures says { Of handle.old.inner (λ sdp. SaysSome (IsPreferredText sdp) (room.old, needed.old) (result, room.new, needed.new)) }
+{
+    let sdp = handle.take(alloc);
+    let code = put_fingerprint(alloc, &sdp, room, needed);
+    handle.put(sdp);
+    code
+}

@@ -1,0 +1,53 @@
+-- A section as C holds it.
+use Rattle.std.specs.Prelude.{ℕ, [], ◌∷◌, Option, Some, None, filter_map}
+use Rattle.str0m_values.specs.declared.direction.Direction.{Direction}
+use Rattle.str0m_values.specs.declared.direction.Direction.TheVariants.{SendRecv, SendOnly, RecvOnly, Inactive}
+use Rattle.str0m_sdp.specs.Lists.{first}
+use Rattle.str0m_sdp.specs.SectionDirection.{section_direction}
+use Rattle.str0m_sdp.specs.Transport.{media_setup}
+use Rattle.str0m_sdp.specs.declared.media_line.MediaLine.{MediaLine}
+use Rattle.str0m_sdp.specs.declared.media_type.MediaType.{MediaType}
+use Rattle.str0m_sdp.specs.declared.media_type.MediaType.TheVariants.{Audio, Video, Application, Unknown}
+use Rattle.str0m_sdp.specs.declared.proto.Proto.{Proto}
+use Rattle.str0m_sdp.specs.declared.proto.Proto.TheVariants.{Srtp, Sctp}
+use Rattle.str0m_sdp.specs.declared.setup.Setup.{Setup}
+use Rattle.str0m_sdp.specs.declared.setup.Setup.TheVariants.{ActPass, Active, Passive}
+use Rattle.c_parts.specs.Row.{bit}
+use Rattle.c_parts.specs.declared.section.Section.{Section}
+
+-- what it carries (`zax_kind`)
+abbrev pub kind_number : MediaType → ℕ
+kind_number Audio = 0
+kind_number Video = 1
+kind_number Application = 2
+kind_number (Unknown text) = 3
+
+-- what carries it (`zax_protocol`)
+abbrev pub protocol_number : Proto → ℕ
+protocol_number Srtp = 0
+protocol_number Sctp = 1
+
+-- its direction (`zax_direction`)
+abbrev pub direction_number : Direction → ℕ
+direction_number SendRecv = 0
+direction_number SendOnly = 1
+direction_number RecvOnly = 2
+direction_number Inactive = 3
+
+-- its role in the handshake, where it says one (`zax_setup`)
+abbrev pub setup_number : Option Setup → ℕ
+setup_number None = 0
+setup_number (Some ActPass) = 1
+setup_number (Some Active) = 2
+setup_number (Some Passive) = 3
+
+-- a section (`zax_section`)
+abbrev pub c_section : MediaLine → Section
+c_section section = record {
+  kind = kind_number section.typ;
+  protocol = protocol_number section.proto;
+  direction = direction_number (section_direction section.attrs);
+  setup = setup_number (first (filter_map media_setup section.attrs));
+  disabled = bit 1 section.disabled;
+  reserved = 0 ∷ 0 ∷ 0 ∷ [];
+}
