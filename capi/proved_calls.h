@@ -19,7 +19,7 @@ uint32_t zaxp_session_section(struct handle *handle, size_t at, zax_section *inf
 uint32_t zaxp_session_mid(struct handle *handle, size_t at, uint8_t *room, size_t room_cap, size_t *needed);
 uint32_t zaxp_session_rows(struct handle *handle, size_t at, zax_row *room, size_t room_cap, size_t *needed);
 uint32_t zaxp_session_format(struct handle *handle, size_t at, size_t row, uint8_t *room, size_t room_cap, size_t *needed);
-uint32_t zaxp_session_rows_json(struct handle *handle, uint8_t *room, size_t room_cap, size_t *needed);
+uint32_t zaxp_session_json(struct handle *handle, uint8_t *room, size_t room_cap, size_t *needed);
 uint32_t zaxp_session_is_writable(struct handle *handle, size_t at, bool *writable);
 uint32_t zaxp_session_ice_ufrag(struct handle *handle, uint8_t *room, size_t room_cap, size_t *needed);
 uint32_t zaxp_session_ice_pwd(struct handle *handle, uint8_t *room, size_t room_cap, size_t *needed);

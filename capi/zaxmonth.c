@@ -208,10 +208,10 @@ zax_status zax_candidate(zax_session *session, size_t index, char *room, size_t 
     return (zax_status)zaxp_session_candidate(&session->handle, index, ROOM(uint8_t, room, cap), cap, needed);
 }
 
-zax_status zax_rows_json(zax_session *session, char *room, size_t cap, size_t *needed)
+zax_status zax_json(zax_session *session, char *room, size_t cap, size_t *needed)
 {
     BEGIN(session, room, cap, needed);
-    return (zax_status)zaxp_session_rows_json(&session->handle, ROOM(uint8_t, room, cap), cap, needed);
+    return (zax_status)zaxp_session_json(&session->handle, ROOM(uint8_t, room, cap), cap, needed);
 }
 
 zax_status zax_config_defaults(zax_config **config)

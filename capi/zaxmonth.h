@@ -115,8 +115,8 @@ ZAX_API zax_status zax_fingerprint(zax_session *session, char *room, size_t cap,
 /* How many candidates there are, each counted once, and the text of one of them, from 0, without `a=`. */
 ZAX_API zax_status zax_candidates(zax_session *session, size_t *count);
 ZAX_API zax_status zax_candidate(zax_session *session, size_t index, char *room, size_t cap, size_t *needed);
-/* The sections with their rows, as JSON. */
-ZAX_API zax_status zax_rows_json(zax_session *session, char *room, size_t cap, size_t *needed);
+/* The description as it prints, as JSON by the keys of sdp-transform, and with the rows of each section. */
+ZAX_API zax_status zax_json(zax_session *session, char *room, size_t cap, size_t *needed);
 
 /* A configuration with the default rows. `*config` is NULL where memory is refused. */
 ZAX_API zax_status zax_config_defaults(zax_config **config);

@@ -86,9 +86,9 @@ class Session {
         return detail::filled<std::string>(
             [&](char *room, size_t cap, size_t *needed) { return zax_row_fmtp(get(), section, row, room, cap, needed); });
     }
-    std::string rows_json() const
+    std::string json() const
     {
-        return detail::filled<std::string>([&](char *room, size_t cap, size_t *needed) { return zax_rows_json(get(), room, cap, needed); });
+        return detail::filled<std::string>([&](char *room, size_t cap, size_t *needed) { return zax_json(get(), room, cap, needed); });
     }
     zax_session *get() const { return handle_.get(); }
 

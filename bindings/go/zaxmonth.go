@@ -86,7 +86,7 @@ func (s *Session) WriteTo(writer io.Writer) (int64, error) {
 // JSON is the description as the library's JSON has it.
 func (s *Session) JSON() ([]byte, error) {
 	return s.handle.text(func(it *C.zax_session, room *C.char, size C.size_t, needed *C.size_t) C.zax_status {
-		return C.zax_rows_json(it, room, size, needed)
+		return C.zax_json(it, room, size, needed)
 	})
 }
 

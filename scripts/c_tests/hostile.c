@@ -45,7 +45,7 @@ static zax_status print(void *s, void *room, size_t cap, size_t *needed) { retur
 static zax_status mid(void *s, void *room, size_t cap, size_t *needed) { return zax_section_mid(s, 0, room, cap, needed); }
 static zax_status rows(void *s, void *room, size_t cap, size_t *needed) { return zax_rows(s, 0, room, cap, needed); }
 static zax_status fmtp(void *s, void *room, size_t cap, size_t *needed) { return zax_row_fmtp(s, 0, 0, room, cap, needed); }
-static zax_status json(void *s, void *room, size_t cap, size_t *needed) { return zax_rows_json(s, room, cap, needed); }
+static zax_status json(void *s, void *room, size_t cap, size_t *needed) { return zax_json(s, room, cap, needed); }
 static zax_status ufrag(void *s, void *room, size_t cap, size_t *needed) { return zax_ice_ufrag(s, room, cap, needed); }
 static zax_status pwd(void *s, void *room, size_t cap, size_t *needed) { return zax_ice_pwd(s, room, cap, needed); }
 static zax_status hash(void *s, void *room, size_t cap, size_t *needed) { return zax_fingerprint(s, room, cap, needed); }

@@ -1,4 +1,4 @@
-/* Does what sdpshow does, by the calls of zaxmonth.h:   texts text|rows|negotiate < TEXT */
+/* Does what sdpshow does, by the calls of zaxmonth.h, and writes JSON:   texts text|json|rows|facts|negotiate < TEXT */
 #include <zaxmonth.h>
 
 #include <stdio.h>
@@ -51,6 +51,32 @@ static void show_rows(zax_session *session)
             printf("%.*s", length ? (int)length : 1, length ? mid : "-");
             show_row(&rows[i], room, said);
         }
+    }
+}
+
+static void show_text(zax_status (*call)(zax_session *, char *, size_t, size_t *), zax_session *session)
+{
+    size_t said;
+    must(call(session, room, sizeof room, &said));
+    printf("%.*s\n", (int)said, room);
+}
+
+/* Each section in numbers, the credentials of ICE, the fingerprint, and the candidates. */
+static void show_facts(zax_session *session)
+{
+    size_t count, said;
+    for (size_t at = 0; at < zax_sections(session); at++) {
+        zax_section info;
+        must(zax_section_info(session, at, &info));
+        printf("%d %d %d %d %d\n", info.kind, info.protocol, info.direction, info.setup, info.disabled);
+    }
+    show_text(zax_ice_ufrag, session);
+    show_text(zax_ice_pwd, session);
+    show_text(zax_fingerprint, session);
+    must(zax_candidates(session, &count));
+    for (size_t i = 0; i < count; i++) {
+        must(zax_candidate(session, i, room, sizeof room, &said));
+        printf("%.*s\n", (int)said, room);
     }
 }
 
@@ -109,8 +135,10 @@ int main(int count, char **words)
         return fprintf(stderr, "%s\n", error.message), 1;
     if (!strcmp(words[1], "rows")) {
         show_rows(session);
+    } else if (!strcmp(words[1], "facts")) {
+        show_facts(session);
     } else {
-        must(zax_print(session, room, sizeof room, &size));
+        must((strcmp(words[1], "json") ? zax_print : zax_json)(session, room, sizeof room, &size));
         fwrite(room, 1, size, stdout);
     }
     zax_session_free(session);

@@ -9,7 +9,7 @@ ABI = 0  # ZAX_ABI of the header that this package is written for
 VARIABLE = "ZAXMONTH_LIBRARY"
 SONAME = f"libzaxmonth.so.{ABI}"
 NO_TYPE = 255
-JSON = "zax_rows_json"  # the call behind SessionDescription.json
+JSON = "zax_json"  # the call behind SessionDescription.json
 
 
 class RawRow(Structure):

@@ -6,14 +6,15 @@ ghost use Rattle.c_parts.specs.Full.{IsFull};
 ghost use Rattle.c_calls.specs.Found.{mid_at};
 ghost use Rattle.c_calls.specs.Held.{Of};
 ghost use Rattle.c_calls.specs.Mid.{mid_named, mid_text};
-ghost use Rattle.c_calls.specs.Says.{Puts, Says};
+ghost use Rattle.c_calls.specs.Says.{Puts, Says, SaysSome};
+ghost use Rattle.c_json.specs.JsonText.{IsJsonText};
 ghost use Rattle.c_calls.specs.Status.{done, no_session, no_utf8};
 ghost use Rattle.str0m_sdp.specs.Session.{sdp_text};
 ghost use Rattle.str0m_sdp.specs.declared.session.Sdp.{Sdp};
 ghost use Rattle.str0m_signal.specs.Reading.{Described, Reading};
 
 use crate::said::{DONE, NO_MEMORY, NO_SECTION, put, put_made, refuse};
-use c_parts::json::rows_json;
+use c_json::json_text;
 use c_parts::reading::read;
 use c_parts::session_handle::SessionHandle;
 use std::alloc::Global;
@@ -86,18 +87,18 @@ pub extern "C" fn zaxp_session_print(
     code
 }
 
-fn put_rows_json(alloc: Global, sdp: &Sdp, room: &mut [u8], needed: &mut usize) -> u32
-    ensures { (text : List ℕ) × Says (Some text) (room.old, needed.old) (result, room.new, needed.new) }
+fn put_json(alloc: Global, sdp: &Sdp, room: &mut [u8], needed: &mut usize) -> u32
+    ensures { SaysSome IsJsonText (room.old, needed.old) (result, room.new, needed.new) }
 {
-    match rows_json(alloc, sdp) {
+    match json_text(alloc, sdp) {
         Ok(text) => put(text.as_bytes(), room, needed),
         Err(_) => NO_MEMORY,
     }
 }
 
-/// Writes the sections with their rows into the caller's room, as JSON.
+/// Writes the description with the rows of its sections into the caller's room, as JSON.
 #[unsafe(no_mangle)]
-pub extern "C" fn zaxp_session_rows_json(
+pub extern "C" fn zaxp_session_json(
     alloc: Global,
     handle: &mut SessionHandle,
     room: &mut [u8],
@@ -105,10 +106,10 @@ pub extern "C" fn zaxp_session_rows_json(
 ) -> u32
     requires { IsFull handle.old.inner }
     ensures same { handle.new.inner ≡ handle.old.inner }
-    ensures says { (text : List ℕ) × Says (Some text) (room.old, needed.old) (result, room.new, needed.new) }
+    ensures says { SaysSome IsJsonText (room.old, needed.old) (result, room.new, needed.new) }
 {
     let sdp = handle.take(alloc);
-    let code = put_rows_json(alloc, &sdp, room, needed);
+    let code = put_json(alloc, &sdp, room, needed);
     handle.put(sdp);
     code
 }

@@ -1,9 +1,8 @@
-//! What the calls from C are made of: handles, texts that are read, room of the caller's, rows and sections as C
-//! holds them, and JSON.
+//! What the calls from C are made of: handles, texts that are read, room of the caller's, and rows and sections
+//! as C holds them.
 #![tactic(auto)]
 
 pub mod config_handle;
-pub mod json;
 mod parts;
 pub mod reading;
 pub mod room;
