@@ -38,7 +38,7 @@ MEDIA = {
     **BOTH,
     "[rtp]": (rf"rtpmap:({TYPE}) ([^/]+)/(\d+)(?:/(\d+))?", "payload: codec rate: encoding:"),
     "[fmtp]": (rf"fmtp:({TYPE}) (.+)", "payload: config"),
-    "[rtcpFb]": (rf"rtcp-fb:({TYPE}) (\S*)(?: (.+))?", "payload: type subtype"),
+    "[rtcpFb]": (rf"rtcp-fb:({TYPE}) (\S*)(?: (.*))?", "payload: type subtype"),
     "[ext]": (rf"extmap:({BYTE}) (\S+)", "value: uri"),
     "rtcp": (r"rtcp:(\S+) (\S+) IP(\S+) (.+)|rtcp:(.+)", "port: netType ipVer: address port:"),
     "mid": (r"mid:(.+)", ""),
@@ -160,7 +160,7 @@ def row_line(mid, row):
 
 def feedback(section, row):
     """What a row has of feedback: what lines say of its type; of pictures all but the first word in any case."""
-    said = {" ".join(it for it in (fb["type"], fb.get("subtype")) if it) for fb in section.get("rtcpFb", []) if fb["payload"] == row["pt"]}
+    said = {" ".join(it for it in (fb["type"], fb.get("subtype")) if it is not None) for fb in section.get("rtcpFb", []) if fb["payload"] == row["pt"]}
     return [it for it in WORDS if it in said or (it != WORDS[0] and row["codec"] in PICTURES)]
 
 

@@ -1,7 +1,7 @@
 """Whether the package has what zaxmonth.h declares: numbers, fields of structs, and what each call takes and answers."""
 import re
 import unittest
-from ctypes import POINTER, c_char, c_char_p, c_size_t, c_uint8, c_uint32, c_void_p
+from ctypes import POINTER, c_char, c_char_p, c_int, c_size_t, c_uint8, c_uint32, c_void_p
 
 from zaxmonth import ABI, Cause, Codec, Feedback, Status
 from zaxmonth._library import _CALLS, NO_TYPE, RawError, RawOutcome, RawRow
@@ -17,11 +17,12 @@ KINDS = {
     "zax_status ": c_uint32,
     "void ": None,
     "size_t *": POINTER(c_size_t),
+    "int *": POINTER(c_int),
     "zax_error *": POINTER(RawError),
     "zax_session **": POINTER(c_void_p),
     "zax_config **": POINTER(c_void_p),
 }
-HANDLES_AND_ROOMS = ("zax_session *", "zax_config *", "char *", "zax_row *", "zax_outcome *")
+HANDLES_AND_ROOMS = ("zax_session *", "zax_config *", "char *", "zax_row *", "zax_outcome *", "zax_section *")
 KINDS.update(dict.fromkeys(HANDLES_AND_ROOMS, c_void_p))
 
 

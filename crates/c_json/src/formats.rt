@@ -36,10 +36,12 @@ pub(crate) fn add_feedback(
     said: &str,
 ) -> Result<(), AllocError> {
     let mut feedback = of_type(alloc, pt)?;
-    let (kind, more) = first_word(said);
-    feedback.text("type", kind)?;
-    if !more.is_empty() {
-        feedback.text("subtype", more)?;
+    match said.split_once(' ') {
+        Some((kind, more)) => {
+            feedback.text("type", kind)?;
+            feedback.text("subtype", more)?;
+        }
+        None => feedback.text("type", said)?,
     }
     members.append_object("rtcpFb", feedback)
 }
