@@ -48,7 +48,8 @@ impl<'a> fmt::Display for FmtpLine<'a> {
             return Ok(());
         };
         let shown = Shown { first, more };
-        let value = Pair(&self.pt, &shown);
+        let pt = self.pt.value();
+        let value = Pair(&pt, &shown);
         Labelled(label::FMTP, &value).fmt(f)
     }
 }

@@ -23,8 +23,8 @@ impl<'a> fmt::Display for NumberedLine<'a> {
     #[inline(always)]
     fn fmt<W: fmt::Write>(&self, f: &mut fmt::Formatter<W>) -> fmt::Result {
         match *self {
-            NumberedLine::RtpMap(pt, map) => Paired(label::RTPMAP, &pt, map).fmt(f),
-            NumberedLine::RtcpFb(pt, value) => Paired(label::RTCP_FB, &pt, value).fmt(f),
+            NumberedLine::RtpMap(pt, map) => Paired(label::RTPMAP, &pt.value(), map).fmt(f),
+            NumberedLine::RtcpFb(pt, value) => Paired(label::RTCP_FB, &pt.value(), value).fmt(f),
             NumberedLine::Ssrc(ssrc, attr, value) => {
                 let said = Said { attr, value };
                 Paired(label::SSRC, &ssrc, &said).fmt(f)
@@ -44,8 +44,9 @@ impl<'a> fmt::Display for Said<'a> {
     ghost output = { λ said. Some (said.attr.now ++ (codes ":" ++ said.value.now)) };
 
     fn fmt<W: fmt::Write>(&self, f: &mut fmt::Formatter<W>) -> fmt::Result {
-        let (attr, value) = (self.attr, self.value);
-        write!(f, "{attr}:{value}")
+        self.attr.fmt(f)?;
+        f.write_str(":")?;
+        self.value.fmt(f)
     }
 }
 

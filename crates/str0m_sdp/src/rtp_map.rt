@@ -5,7 +5,7 @@ ghost use Rattle.str0m_sdp.specs.RtpMap.{rtp_map_text, channels_text, sampling_r
 use crate::printed::Printed;
 use std::fmt;
 use str0m_formats::{Codec, CodecSpec, FormatParams};
-use str0m_values::Frequency;
+use str0m_values::{Frequency, Worded};
 
 /// The codec of a payload type, its clock rate and its channels (RFC 8866, section 6.6).
 #[derive(Clone, Copy, Debug, PartialEq, Eq)]
@@ -23,13 +23,11 @@ impl fmt::Display for RtpMap {
     ghost output = { λ map. Some (rtp_map_text map) };
 
     fn fmt<W: fmt::Write>(&self, f: &mut fmt::Formatter<W>) -> fmt::Result {
-        let RtpMap {
-            codec,
-            clock_rate,
-            channels,
-        } = *self;
-        let channels = Channels(channels);
-        write!(f, "{codec}/{clock_rate}{channels}")
+        let hertz = self.clock_rate.get();
+        f.write_str(self.codec.word())?;
+        f.write_str("/")?;
+        fmt::Display::fmt(&hertz, f)?;
+        Channels(self.channels).fmt(f)
     }
 }
 
@@ -49,7 +47,10 @@ impl fmt::Display for Channels {
     fn fmt<W: fmt::Write>(&self, f: &mut fmt::Formatter<W>) -> fmt::Result {
         match self.0 {
             None => Ok(()),
-            Some(channels) => write!(f, "/{channels}"),
+            Some(channels) => {
+                f.write_str("/")?;
+                fmt::Display::fmt(&channels, f)
+            }
         }
     }
 }
