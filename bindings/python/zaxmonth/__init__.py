@@ -4,7 +4,7 @@
 
     with SessionDescription.read(text) as offer:
         for row in offer.rows(0):
-            print(row.pt, row.codec, row.fmtp)
+            print(row.pt, row.name, row.fmtp)
 
 The library is found by its soname, as the loader finds any; the variable ZAXMONTH_LIBRARY names its file instead."""
 from ._errors import (
