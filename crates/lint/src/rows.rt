@@ -387,7 +387,7 @@ pub static CHANGES: [Row; 11] = [
         remedy: "hand the text on as it stands where the other side is to have it",
         explanation: "A key of the format, or the value of a key, is none that this layer knows. It is left out where the line is printed, and so is a line of which nothing is known.",
         source: "RFC 8866, section 6.15",
-        example: "a=fmtp:111 maxplaybackrate=48000",
+        example: "a=fmtp:96 x-google-min-bitrate=1000",
     },
     Row {
         name: "format-value",
