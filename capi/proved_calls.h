@@ -29,6 +29,10 @@ uint32_t zaxp_session_candidates(struct handle *handle, size_t *count);
 uint32_t zaxp_session_candidate(struct handle *handle, size_t index, uint8_t *room, size_t room_cap, size_t *needed);
 void zaxp_session_free(struct handle *handle);
 uint32_t zaxp_config_defaults(struct handle *handle);
+uint32_t zaxp_config_empty(struct handle *handle);
+uint32_t zaxp_config_enable(struct handle *handle, uint8_t codec, bool enabled, bool use_red);
+uint32_t zaxp_config_add(struct handle *handle, uint8_t pt, uint8_t rtx, uint8_t codec, uint32_t clock_rate, uint8_t channels,
+                         const uint8_t *format, size_t format_length);
 uint32_t zaxp_config_negotiate(struct handle *handle, const uint8_t *text, size_t text_length, zax_outcome *room, size_t room_cap,
                                size_t *needed, uint8_t *message, size_t message_cap, size_t *message_length);
 uint32_t zaxp_config_rows(struct handle *handle, zax_row *room, size_t room_cap, size_t *needed);

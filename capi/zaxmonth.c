@@ -220,7 +220,7 @@ zax_status zax_json(zax_session *session, char *room, size_t cap, size_t *needed
     return (zax_status)zaxp_session_json(&session->handle, ROOM(uint8_t, room, cap), cap, needed);
 }
 
-zax_status zax_config_defaults(zax_config **config)
+static zax_status make_config(uint32_t (*fill)(struct handle *), zax_config **config)
 {
     if (!config)
         return ZAX_E_ARGUMENT;
@@ -228,13 +228,38 @@ zax_status zax_config_defaults(zax_config **config)
     zax_config *made = calloc(1, sizeof *made);
     if (!made)
         return ZAX_E_MEMORY;
-    uint32_t status = zaxp_config_defaults(&made->handle);
+    uint32_t status = fill(&made->handle);
     if (status != ZAX_OK) {
         free(made);
         return (zax_status)status;
     }
     *config = made;
     return ZAX_OK;
+}
+
+zax_status zax_config_defaults(zax_config **config)
+{
+    return make_config(zaxp_config_defaults, config);
+}
+
+zax_status zax_config_empty(zax_config **config)
+{
+    return make_config(zaxp_config_empty, config);
+}
+
+zax_status zax_config_enable(zax_config *config, zax_codec codec, int enabled, int use_red)
+{
+    if (!config || !is_full(&config->handle) || (unsigned)codec > UINT8_MAX)
+        return ZAX_E_ARGUMENT;
+    return (zax_status)zaxp_config_enable(&config->handle, (uint8_t)codec, enabled != 0, use_red != 0);
+}
+
+zax_status zax_config_add(zax_config *config, uint8_t pt, uint8_t rtx, zax_codec codec, uint32_t clock_rate, uint8_t channels,
+                          const char *fmtp, size_t length)
+{
+    if (!config || !is_full(&config->handle) || (unsigned)codec > UINT8_MAX || !is_slice(fmtp, length, 1))
+        return ZAX_E_ARGUMENT;
+    return (zax_status)zaxp_config_add(&config->handle, pt, rtx, (uint8_t)codec, clock_rate, channels, bytes(fmtp, length), length);
 }
 
 void zax_config_free(zax_config *config)

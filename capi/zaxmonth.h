@@ -4,7 +4,7 @@
  * caller's room: `cap` counts the items that the room has space for, `*needed` becomes the count of those that there are. Where they
  * don't fit the answer is ZAX_E_ROOM, and the room is as it was. `needed` may be NULL, and so may a room whose `cap` is 0.
  *
- * A handle is made by zax_read or zax_config_defaults, and freed by the call of its kind. One call at a time uses it, on any thread.
+ * A handle is made by zax_read, zax_config_defaults or zax_config_empty, and freed by the call of its kind. One call at a time uses it, on any thread.
  * No call aborts, prints, starts a thread or calls back, and none keeps state outside of handles. A call that isn't answered by
  * ZAX_OK leaves each handle as it was. docs/C.md says what is proved of all this, and what is trusted. */
 #ifndef ZAXMONTH_H
@@ -33,7 +33,7 @@ typedef enum zax_status {
     ZAX_E_ROOM = 4,     /* the room is too small */
     ZAX_E_SECTION = 5,  /* there is no such section, or no such row */
     ZAX_E_NOTHING = 6,  /* no row of the section's kind is locked, or rows printed there might not be read again */
-    ZAX_E_ARGUMENT = 7  /* a pointer is NULL that may not be, or a length is above half of what can be addressed */
+    ZAX_E_ARGUMENT = 7  /* a pointer is NULL that may not be, a length is above half of what can be addressed, or no row is such */
 } zax_status;
 
 /* ZAX_UNKNOWN, too, is one that the library reads and has no number here; zax_row_codec has its name. */
@@ -123,7 +123,17 @@ ZAX_API zax_status zax_json(zax_session *session, char *room, size_t cap, size_t
 
 /* A configuration with the default rows. `*config` is NULL where memory is refused. */
 ZAX_API zax_status zax_config_defaults(zax_config **config);
+/* One without rows. */
+ZAX_API zax_status zax_config_empty(zax_config **config);
 ZAX_API void zax_config_free(zax_config *config); /* NULL is fine */
+/* Takes all rows of a codec out and, where `enabled`, puts its default rows last: with RED where `use_red` asks for it and the codec
+ * has it (Opus, PCMU, PCMA, G722). ZAX_E_ARGUMENT where the codec has no default rows. */
+ZAX_API zax_status zax_config_enable(zax_config *config, zax_codec codec, int enabled, int use_red);
+/* Adds a row at the end: with RTX unless that is ZAX_NO_TYPE, with this clock rate in Hz and so many channels, 0 where they aren't said,
+ * and with what an fmtp line says; what doesn't read there is passed over. It has the feedback of its kind, no RED, and isn't locked.
+ * ZAX_E_ARGUMENT where the codec has no number or the clock rate is 0, ZAX_E_UTF8. */
+ZAX_API zax_status zax_config_add(zax_config *config, uint8_t pt, uint8_t rtx, zax_codec codec, uint32_t clock_rate, uint8_t channels,
+                                  const char *fmtp, size_t length);
 /* Reads a text, and runs a round for each of its audio and video sections. As many outcomes are written as there is room for, with no
  * error where there are more. */
 ZAX_API zax_status zax_negotiate(zax_config *config, const char *text, size_t length, zax_outcome *room, size_t cap, size_t *needed,

@@ -29,6 +29,7 @@ STATUSES = {
     "no_room": "E_ROOM",
     "no_section": "E_SECTION",
     "nothing_agreed": "E_NOTHING",
+    "wrong_argument": "E_ARGUMENT",
 }
 CAUSES = {"TypeTooLarge": "TYPE_TOO_LARGE", "ClaimedTwice": "CLAIMED_TWICE", "Exhausted": "EXHAUSTED", "Memory": "ROUND_MEMORY"}
 SECTIONS = {("kind", "Unknown"): "OTHER_KIND", ("protocol", "Srtp"): "PROTOCOL_RTP", ("protocol", "Sctp"): "PROTOCOL_SCTP", ("setup", "None"): "NO_SETUP"}

@@ -29,7 +29,7 @@ namespace detail {
 inline void check(zax_status status, const char *message = "")
 {
     static const char *const said[] = {"", "the text describes no session", "the text is not UTF-8", "", "", "there is no such section or row",
-                                       "nothing is agreed that could be printed there", "an argument is missing"};
+                                       "nothing is agreed that could be printed there", "an argument is none that the library takes"};
     if (status == ZAX_E_MEMORY)
         throw std::bad_alloc();
     if (status != ZAX_OK)
@@ -108,11 +108,19 @@ class Session {
 // What one side sends and receives, and what is agreed of it.
 class Config {
   public:
-    Config()
+    // With the default rows.
+    Config() : Config(zax_config_defaults) {}
+    // Without rows.
+    static Config empty() { return Config(zax_config_empty); }
+    // Takes all rows of a codec out and, where it is enabled, puts its default rows last, with RED where that is asked for.
+    void enable(zax_codec codec, bool enabled = true, bool use_red = false)
     {
-        zax_config *made = nullptr;
-        detail::check(zax_config_defaults(&made));
-        handle_.reset(made);
+        detail::check(zax_config_enable(get(), codec, enabled, use_red));
+    }
+    // Adds a row at the end: channels are 0 where they aren't said, `rtx` is ZAX_NO_TYPE where there is none.
+    void add(uint8_t pt, zax_codec codec, uint32_t clock_rate, uint8_t channels = 0, uint8_t rtx = ZAX_NO_TYPE, std::string_view fmtp = {})
+    {
+        detail::check(zax_config_add(get(), pt, rtx, codec, clock_rate, channels, fmtp.data(), fmtp.size()));
     }
     // The outcome of each round. A text has no more rounds than it has lines.
     std::vector<zax_outcome> negotiate(std::string_view text)
@@ -134,6 +142,12 @@ class Config {
     zax_config *get() const { return handle_.get(); }
 
   private:
+    explicit Config(zax_status (*make)(zax_config **))
+    {
+        zax_config *made = nullptr;
+        detail::check(make(&made));
+        handle_.reset(made);
+    }
     struct Free {
         void operator()(zax_config *config) const { zax_config_free(config); }
     };

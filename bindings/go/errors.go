@@ -30,7 +30,7 @@ var (
 	ErrRoom     = errors.New("the room is too small")
 	ErrSection  = errors.New("there is no such section or row")
 	ErrNothing  = errors.New("nothing is agreed that could be printed there")
-	ErrArgument = errors.New("an argument is missing")
+	ErrArgument = errors.New("an argument is none that the library takes")
 )
 
 // ErrClosed is answered by each call over a Session or a Config that is closed; it is an ErrArgument.

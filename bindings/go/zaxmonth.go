@@ -135,10 +135,47 @@ type Config struct {
 // NewConfig makes a configuration with the default rows. Errors: ErrMemory.
 func NewConfig() (*Config, error) {
 	var made *C.zax_config
-	if err := errorOf(C.zax_config_defaults(&made), nil); err != nil {
+	return configOf(&made, C.zax_config_defaults(&made))
+}
+
+// EmptyConfig makes a configuration without rows. Errors: ErrMemory.
+func EmptyConfig() (*Config, error) {
+	var made *C.zax_config
+	return configOf(&made, C.zax_config_empty(&made))
+}
+
+func configOf(made **C.zax_config, status C.zax_status) (*Config, error) {
+	if err := errorOf(status, nil); err != nil {
 		return nil, err
 	}
-	return &Config{newHandle(made, func(it *C.zax_config) { C.zax_config_free(it) })}, nil
+	return &Config{newHandle(*made, func(it *C.zax_config) { C.zax_config_free(it) })}, nil
+}
+
+func flag(on bool) C.int {
+	if on {
+		return 1
+	}
+	return 0
+}
+
+// Enable takes all rows of a codec out and, where enabled, puts its default rows last, with RED where useRED asks for it and the codec has
+// it. Errors: ErrArgument where the codec has no default rows, ErrMemory.
+func (c *Config) Enable(codec Codec, enabled, useRED bool) error {
+	return c.handle.use(func(it *C.zax_config) error {
+		return errorOf(C.zax_config_enable(it, C.zax_codec(codec), flag(enabled), flag(useRED)), nil)
+	})
+}
+
+// Add adds a row at the end, with the payload type, RTX (or NoType), codec, clock rate, channels and format of this one: with the feedback
+// of its kind, without RED, not locked. What its format says that doesn't read is passed over. Errors: ErrArgument where the codec has no
+// number or the clock rate is 0, ErrUTF8, ErrMemory.
+func (c *Config) Add(row Row) error {
+	fmtp := []byte(row.Fmtp)
+	return c.handle.use(func(it *C.zax_config) error {
+		pt, rtx, channels := C.uint8_t(row.PT), C.uint8_t(row.RTX), C.uint8_t(row.Channels)
+		codec, rate := C.zax_codec(row.Codec), C.uint32_t(row.ClockRate)
+		return errorOf(C.zax_config_add(it, pt, rtx, codec, rate, channels, chars(fmtp), C.size_t(len(fmtp))), nil)
+	})
 }
 
 // Close frees the configuration, where it isn't freed yet; other calls answer ErrClosed from then on. It answers nil.

@@ -197,6 +197,27 @@ func TestRounds(t *testing.T) {
 	is(t, fmt.Sprint(refused), "[ok payload type 109 is claimed twice]")
 }
 
+func TestConfigurationOfRows(t *testing.T) {
+	rows, err := EmptyConfig()
+	if err != nil {
+		t.Fatal(err)
+	}
+	defer rows.Close()
+	is(t, len(must[[]Row](t)(rows.Rows())), 0)
+	is(t, rows.Enable(CodecPCMU, true, true), nil)
+	is(t, errors.Is(rows.Enable(CodecRTX, true, true), ErrArgument), true)
+	is(t, rows.Add(Row{PT: 100, RTX: 101, Codec: CodecOpus, ClockRate: 48000, Channels: 2, Fmtp: "stereo=1;unknown=2"}), nil)
+	is(t, errors.Is(rows.Add(Row{PT: 102, RTX: NoType, Codec: CodecUnknown, ClockRate: 48000}), ErrArgument), true)
+	is(t, errors.Is(rows.Add(Row{PT: 102, RTX: NoType, Codec: CodecOpus}), ErrArgument), true)
+	is(t, errors.Is(rows.Add(Row{PT: 102, RTX: NoType, Codec: CodecOpus, ClockRate: 1, Fmtp: "\xff"}), ErrUTF8), true)
+	is(t, must[[]Row](t)(rows.Rows()), []Row{
+		{0, NoType, 61, CodecPCMU, "PCMU", 8000, 0, TransportCC, false, ""},
+		{100, 101, NoType, CodecOpus, "opus", 48000, 2, TransportCC, false, "stereo=1"},
+	})
+	is(t, rows.Enable(CodecPCMU, false, false), nil)
+	is(t, len(must[[]Row](t)(rows.Rows())), 1)
+}
+
 func lockedTypes(t testing.TB, rows *Config) []uint8 {
 	found := []uint8{}
 	for _, row := range must[[]Row](t)(rows.Rows()) {

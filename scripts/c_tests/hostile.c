@@ -252,6 +252,80 @@ static void candidates(void)
     zax_session_free(session);
 }
 
+/* How many rows a configuration has; the first of them is written. */
+static size_t listed(zax_config *config, zax_row *first)
+{
+    zax_row found[16] = {0};
+    size_t got;
+    IS(zax_config_rows(config, found, 16, &got), ZAX_OK);
+    *first = found[0];
+    return got;
+}
+
+/* Default rows are taken in and out by the number of their codec. */
+static void enabled(zax_config *config)
+{
+    zax_row row;
+    IS(zax_config_enable(config, ZAX_OPUS, 1, 1), ZAX_OK);
+    IS(listed(config, &row), 1);
+    IS(row.pt == 111 && row.red == 63 && row.rtx == ZAX_NO_TYPE && row.codec == ZAX_OPUS && row.clock_rate == 48000, 1);
+    IS(zax_config_enable(config, ZAX_H264, 2, 0), ZAX_OK);
+    IS(listed(config, &row), 8);
+    IS(zax_config_enable(config, ZAX_OPUS, 1, 0), ZAX_OK);
+    IS(listed(config, &row), 8);
+    IS(row.codec, ZAX_H264);
+    IS(zax_config_enable(config, ZAX_H264, 0, 0), ZAX_OK);
+    IS(listed(config, &row), 1);
+    IS(row.red, ZAX_NO_TYPE);
+    static const int none[] = {ZAX_UNKNOWN, ZAX_TELEPHONE_EVENT, ZAX_RTX, ZAX_RED, ZAX_NULL_CODEC, 17, 255, 256, 256 + ZAX_OPUS, -1};
+    for (size_t i = 0; i < sizeof none / sizeof *none; i++)
+        IS(zax_config_enable(config, (zax_codec)none[i], 1, 1), ZAX_E_ARGUMENT);
+    IS(listed(config, &row), 1);
+    IS(zax_config_enable(NULL, ZAX_OPUS, 1, 1), ZAX_E_ARGUMENT);
+    IS(zax_config_enable(config, ZAX_OPUS, 0, 1), ZAX_OK);
+}
+
+/* A row that is added is as it was asked for. */
+static void added(zax_config *config)
+{
+    static const char said[] = "minptime=10;stereo=1;unknown=2";
+    char room[64];
+    zax_row row;
+    size_t got;
+    IS(zax_config_add(config, 100, 101, ZAX_OPUS, 48000, 2, said, sizeof said - 1), ZAX_OK);
+    IS(listed(config, &row), 1);
+    IS(row.pt == 100 && row.rtx == 101 && row.red == ZAX_NO_TYPE && row.codec == ZAX_OPUS && row.clock_rate == 48000, 1);
+    IS(row.channels == 2 && row.feedback == ZAX_TRANSPORT_CC && row.locked == 0, 1);
+    IS(zax_config_row_fmtp(config, 0, room, sizeof room, &got), ZAX_OK);
+    IS(got == 20 && !memcmp(room, "minptime=10;stereo=1", 20), 1);
+    IS(zax_config_add(config, 102, ZAX_NO_TYPE, ZAX_UNKNOWN, 48000, 2, said, 1), ZAX_E_ARGUMENT);
+    IS(zax_config_add(config, 102, ZAX_NO_TYPE, (zax_codec)17, 48000, 2, said, 1), ZAX_E_ARGUMENT);
+    IS(zax_config_add(config, 102, ZAX_NO_TYPE, (zax_codec)257, 48000, 2, said, 1), ZAX_E_ARGUMENT);
+    IS(zax_config_add(config, 102, ZAX_NO_TYPE, ZAX_OPUS, 0, 2, said, 1), ZAX_E_ARGUMENT);
+    IS(zax_config_add(config, 102, ZAX_NO_TYPE, ZAX_OPUS, 48000, 2, "\xff", 1), ZAX_E_UTF8);
+    IS(zax_config_add(config, 102, ZAX_NO_TYPE, ZAX_OPUS, 48000, 2, NULL, 1), ZAX_E_ARGUMENT);
+    IS(zax_config_add(config, 102, ZAX_NO_TYPE, ZAX_OPUS, 48000, 2, said, (size_t)-1), ZAX_E_ARGUMENT);
+    IS(zax_config_add(NULL, 102, ZAX_NO_TYPE, ZAX_OPUS, 48000, 2, said, 1), ZAX_E_ARGUMENT);
+    IS(listed(config, &row), 1);
+    IS(zax_config_add(config, 96, ZAX_NO_TYPE, ZAX_VP8, 90000, 0, NULL, 0), ZAX_OK);
+    IS(listed(config, &row), 2);
+    IS(row.pt, 100);
+}
+
+/* A configuration without rows, and what makes it one's own. */
+static void configurations(void)
+{
+    zax_config *config;
+    zax_row row;
+    IS(zax_config_empty(NULL), ZAX_E_ARGUMENT);
+    IS(zax_config_empty(&config), ZAX_OK);
+    IS(listed(config, &row), 0);
+    enabled(config);
+    IS(listed(config, &row), 0);
+    added(config);
+    zax_config_free(config);
+}
+
 int main(int count, char **words)
 {
     FILE *file = count == 2 ? fopen(words[1], "rb") : NULL;
@@ -288,6 +362,7 @@ int main(int count, char **words)
     IS(zax_row_codec(NULL, 0, 0, NULL, 0, &got), ZAX_E_ARGUMENT);
     IS(zax_section_mid(session, 99, NULL, 0, &got), ZAX_E_SECTION);
     rounds(session);
+    configurations();
     zax_session_free(session);
     free(text);
     IS(strcmp(zax_version(), ZAX_VERSION), 0);

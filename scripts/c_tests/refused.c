@@ -82,6 +82,27 @@ static size_t listed(zax_config *config, zax_row *to)
             goto end;                                                                                                    \
     } while (0)
 
+/* Makes a configuration of one's own. */
+static int configured(void)
+{
+    zax_config *config = NULL;
+    int status = zax_config_empty(&config);
+    if (!status)
+        status = zax_config_enable(config, ZAX_H264, 1, 0);
+    size_t was = config ? listed(config, rows_before) : 0;
+    if (!status)
+        status = zax_config_enable(config, ZAX_PCMU, 1, 1);
+    if (status && config)
+        wrong += listed(config, rows_after) != was || memcmp(rows_before, rows_after, was * sizeof *rows);
+    was = config ? listed(config, rows_before) : 0;
+    if (!status)
+        status = zax_config_add(config, 100, 101, ZAX_OPUS, 48000, 2, "minptime=10;stereo=1", 20);
+    if (status && config)
+        wrong += listed(config, rows_after) != was || memcmp(rows_before, rows_after, was * sizeof *rows);
+    zax_config_free(config);
+    return status;
+}
+
 static int run(void)
 {
     zax_session *session = NULL, *own = NULL;
@@ -134,6 +155,9 @@ static int run(void)
         status = zax_config_row_codec(config, 0, room, sizeof room, &count);
     if (!status)
         status = zax_config_row_fmtp(config, 0, room, sizeof room, &count);
+    if (status)
+        goto end;
+    status = configured();
     if (status)
         goto end;
     size_t own_was = printed(own, before);

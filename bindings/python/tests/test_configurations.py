@@ -2,6 +2,7 @@
 import unittest
 
 from zaxmonth import (
+    ArgumentError,
     Cause,
     ClosedError,
     Codec,
@@ -40,6 +41,33 @@ class Rounds(unittest.TestCase):
         self.assertEqual([row.locked for row in rows], [False] * 13)
         opus = Row(111, None, None, Codec.OPUS, "opus", 48000, 2, Feedback.TRANSPORT_CC, False, "minptime=10;useinbandfec=1")
         self.assertEqual((rows[0], rows[1].pt, rows[1].rtx, rows[1].codec), (opus, 96, 97, Codec.VP8))
+
+    def test_rows_are_enabled_by_their_codec(self):
+        config = Configuration.empty()
+        self.assertEqual(config.rows(), [])
+        config.enable(Codec.OPUS, red=True)
+        config.enable(Codec.H264)
+        self.assertEqual([(row.pt, row.red) for row in config.rows()][:2], [(111, 63), (127, None)])
+        config.enable(Codec.OPUS)
+        config.enable(Codec.H264, enabled=False)
+        self.assertEqual([(row.pt, row.red) for row in config.rows()], [(111, None)])
+        for codec in (Codec.RTX, Codec.TELEPHONE_EVENT, Codec.UNKNOWN):
+            with self.subTest(codec=codec), self.assertRaises(ArgumentError):
+                config.enable(codec)
+        self.assertEqual(len(config.rows()), 1)
+
+    def test_a_row_is_added(self):
+        config = Configuration.empty()
+        config.add(100, Codec.OPUS, 48000, channels=2, rtx=101, fmtp="stereo=1;unknown=2")
+        added = Row(100, 101, None, Codec.OPUS, "opus", 48000, 2, Feedback.TRANSPORT_CC, False, "stereo=1")
+        self.assertEqual(config.rows(), [added])
+        wrong = [(100, Codec.UNKNOWN, 48000), (100, Codec.OPUS, 0), (256, Codec.OPUS, 48000), (-1, Codec.OPUS, 48000), (100, Codec.OPUS, 2**32)]
+        for given in wrong:
+            with self.subTest(given=given), self.assertRaises(ArgumentError):
+                config.add(*given)
+        with self.assertRaises(Utf8Error):
+            config.add(100, Codec.OPUS, 48000, fmtp=b"\xff")
+        self.assertEqual(config.rows(), [added])
 
     def test_a_round_for_each_section(self):
         config = Configuration.defaults()

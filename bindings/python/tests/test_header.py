@@ -15,6 +15,8 @@ KINDS = {
     "uint32_t ": c_uint32,
     "uint8_t ": c_uint8,
     "zax_status ": c_uint32,
+    "zax_codec ": c_uint32,
+    "int ": c_int,
     "void ": None,
     "size_t *": POINTER(c_size_t),
     "int *": POINTER(c_int),

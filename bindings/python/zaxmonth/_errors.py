@@ -80,7 +80,7 @@ class ArgumentError(Error, ValueError):
     """An argument isn't one that the library takes."""
 
     status = Status.ARGUMENT
-    meaning = "an argument is missing"
+    meaning = "an argument is none that the library takes"
 
 
 class ClosedError(ArgumentError):

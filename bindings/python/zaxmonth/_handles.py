@@ -10,9 +10,9 @@ import threading
 from ctypes import byref, c_char, c_size_t, c_void_p
 from typing import Any, Callable, Dict, List, NoReturn, Optional, SupportsIndex, Tuple, TypeVar, Union
 
-from ._errors import ClosedError, SectionError, Status, Utf8Error, check
-from ._library import JSON, RawError, RawOutcome, RawRow, library
-from ._rows import Outcome, Row
+from ._errors import ArgumentError, ClosedError, SectionError, Status, Utf8Error, check
+from ._library import JSON, NO_TYPE, RawError, RawOutcome, RawRow, library
+from ._rows import Codec, Outcome, Row
 
 Text = Union[str, bytes, bytearray, memoryview]
 _Self = TypeVar("_Self", bound="_Handle")
@@ -117,6 +117,12 @@ class _Handle:
             return [Row._of(room[i], *(self._text(text, *places, i) for text in texts)) for i in range(count)]
 
 
+def _in_range(number: int, most: int) -> int:
+    if not 0 <= number <= most:
+        raise ArgumentError(f"{number} isn't one of 0 to {most}")
+    return number
+
+
 class SessionDescription(_Handle):
     """A description that was read of a text. Any thread may call it; one call waits for another."""
 
@@ -175,14 +181,41 @@ class Configuration(_Handle):
     _free = staticmethod(library.zax_config_free)
 
     def __init__(self) -> None:
+        self._fill(library.zax_config_defaults)
+
+    def _fill(self, call: Callable[..., int]) -> None:
         made = c_void_p()
-        check(library.zax_config_defaults(byref(made)))
+        check(call(byref(made)))
         self._pointer = made.value
 
     @classmethod
     def defaults(cls) -> Configuration:
         """A configuration with the default rows."""
         return cls()
+
+    @classmethod
+    def empty(cls) -> Configuration:
+        """A configuration without rows."""
+        made = cls.__new__(cls)
+        made._fill(library.zax_config_empty)
+        return made
+
+    def enable(self, codec: Codec, enabled: bool = True, red: bool = False) -> None:
+        """Takes all rows of a codec out and, where it is enabled, puts its default rows last.
+
+        They have RED where `red` asks for it and the codec has it. Raises ArgumentError where the codec has no default rows."""
+        with self._lock:
+            check(library.zax_config_enable(self._open(), codec.value, enabled, red))
+
+    def add(self, pt: int, codec: Codec, clock_rate: int, *, channels: int = 0, rtx: Optional[int] = None, fmtp: Text = "") -> None:
+        """Adds a row at the end: with the feedback of its kind, without RED, not locked.
+
+        `clock_rate` is in Hz; 0 channels aren't said; `fmtp` is what an fmtp line says, and what doesn't read there is passed over.
+        Raises ArgumentError where the codec has no number, the clock rate is 0 or a number is out of range."""
+        types = [_in_range(it, NO_TYPE) for it in (pt, NO_TYPE if rtx is None else rtx)]
+        kind, line = (codec.value, _in_range(clock_rate, 2**32 - 1), _in_range(channels, 255)), _bytes_of(fmtp)
+        with self._lock:
+            check(library.zax_config_add(self._open(), *types, *kind, line, len(line)))
 
     def negotiate(self, text: Text) -> List[Outcome]:
         """Reads a text, and runs a round for each of its audio and video sections; the outcome of each.

@@ -3,7 +3,7 @@ from __future__ import annotations
 
 import ctypes
 import os
-from ctypes import POINTER, Structure, c_char, c_char_p, c_size_t, c_uint8, c_uint32, c_void_p
+from ctypes import POINTER, Structure, c_char, c_char_p, c_int, c_size_t, c_uint8, c_uint32, c_void_p
 
 ABI = 0  # ZAX_ABI of the header that this package is written for
 VARIABLE = "ZAXMONTH_LIBRARY"
@@ -43,7 +43,10 @@ _CALLS = {
     "zax_row_fmtp": (c_uint32, (_HANDLE, _INDEX, _INDEX, *_ROOM)),
     JSON: (c_uint32, (_HANDLE, *_ROOM)),
     "zax_config_defaults": (c_uint32, (_PLACE,)),
+    "zax_config_empty": (c_uint32, (_PLACE,)),
     "zax_config_free": (None, (_HANDLE,)),
+    "zax_config_enable": (c_uint32, (_HANDLE, c_uint32, c_int, c_int)),
+    "zax_config_add": (c_uint32, (_HANDLE, c_uint8, c_uint8, c_uint32, c_uint32, c_uint8, *_TEXT)),
     "zax_negotiate": (c_uint32, (_HANDLE, *_TEXT, *_ROOM, _ERROR)),
     "zax_config_rows": (c_uint32, (_HANDLE, *_ROOM)),
     "zax_config_row_codec": (c_uint32, (_HANDLE, _INDEX, *_ROOM)),

@@ -46,6 +46,8 @@ pub enum SdpError {
     NoSection,
     /// No row of the section's kind is locked, or rows printed there might not be read again.
     NothingAgreed,
+    /// An argument is none that the library takes.
+    Argument,
 }
 
 impl SdpError {
@@ -55,6 +57,7 @@ impl SdpError {
             SdpError::Memory => "out of memory",
             SdpError::NoSection => "there is no such section or row",
             SdpError::NothingAgreed => "nothing is agreed that could be printed there",
+            SdpError::Argument => "an argument is none that the library takes",
         }
     }
 }
@@ -77,7 +80,16 @@ fn error_of(status: u32, message: String) -> SdpError {
         3 => SdpError::Memory,
         5 => SdpError::NoSection,
         6 => SdpError::NothingAgreed,
+        7 => SdpError::Argument,
         _ => SdpError::Parse(message),
+    }
+}
+
+/// What a status says by itself.
+fn done(status: u32) -> Result<(), SdpError> {
+    match status {
+        0 => Ok(()),
+        _ => Err(error_of(status, String::new())),
     }
 }
 
@@ -171,6 +183,31 @@ impl CodecConfig {
         NonNull::new(made).map(CodecConfig).ok_or(SdpError::Memory)
     }
 
+    /// A configuration without rows.
+    pub fn empty() -> Result<CodecConfig, SdpError> {
+        let mut made = null_mut();
+        // SAFETY: the place is there.
+        unsafe { raw::zax_config_empty(&mut made) };
+        NonNull::new(made).map(CodecConfig).ok_or(SdpError::Memory)
+    }
+
+    /// Takes all rows of a codec out and, where it is enabled, puts its default rows last, with RED where `use_red` asks for it. The codec
+    /// goes by its number in zaxmonth.h; `Argument` where it has no default rows.
+    pub fn enable(&mut self, codec: u8, enabled: bool, use_red: bool) -> Result<(), SdpError> {
+        // SAFETY: the handle is full.
+        done(unsafe { raw::zax_config_enable(self.0.as_ptr(), codec.into(), enabled.into(), use_red.into()) })
+    }
+
+    /// Adds a row at the end, with the payload types, the codec, the clock rate in Hz and the channels of this one, and with what an fmtp
+    /// line says; it has the feedback of its kind, no RED, and isn't locked. `Argument` where its codec has no number or its clock rate
+    /// is 0.
+    pub fn add_config(&mut self, row: &Row, fmtp: &str) -> Result<(), SdpError> {
+        let (at, handle) = (fmtp.as_ptr().cast(), self.0.as_ptr());
+        let (pt, rtx, codec) = (row.pt, row.rtx, row.codec.into());
+        // SAFETY: the handle is full, and the text is that long.
+        done(unsafe { raw::zax_config_add(handle, pt, rtx, codec, row.clock_rate, row.channels, at, fmtp.len()) })
+    }
+
     /// Runs a round for each audio and video section of a text; the outcome of each.
     pub fn negotiate_text(&mut self, text: &str) -> Result<Vec<Outcome>, SdpError> {
         // A text has no more rounds than it has lines, so one call has room enough.
@@ -189,10 +226,7 @@ impl CodecConfig {
     /// Puts the locked rows of its kind into a section of one's own description.
     pub fn answer(&self, own: &mut Sdp, section: usize) -> Result<(), SdpError> {
         // SAFETY: both handles are full.
-        match unsafe { raw::zax_answer(self.0.as_ptr(), own.0.as_ptr(), section) } {
-            0 => Ok(()),
-            status => Err(error_of(status, String::new())),
-        }
+        done(unsafe { raw::zax_answer(self.0.as_ptr(), own.0.as_ptr(), section) })
     }
 }
 
@@ -232,6 +266,21 @@ mod tests {
         assert!(!locked.is_empty());
         assert_eq!(answered, locked);
         assert_eq!(config.answer(&mut own, 7), Err(SdpError::NoSection));
+    }
+
+    #[test]
+    fn a_configuration_is_made_of_rows() {
+        let mut config = CodecConfig::empty().unwrap();
+        assert!(config.params().unwrap().is_empty());
+        config.enable(10, true, false).unwrap();
+        let row = Row { clock_rate: 48_000, pt: 100, rtx: 255, red: 255, channels: 2, codec: 1, ..Row::default() };
+        config.add_config(&row, "stereo=1").unwrap();
+        let rows = config.params().unwrap();
+        assert_eq!(rows.iter().map(|it| (it.pt, it.codec)).collect::<Vec<_>>(), [(96, 10), (100, 1)]);
+        assert_eq!(rows[1], Row { feedback: 1, ..row });
+        assert_eq!(config.enable(14, true, false), Err(SdpError::Argument));
+        assert_eq!(config.add_config(&Row { clock_rate: 0, ..row }, ""), Err(SdpError::Argument));
+        assert_eq!(config.params().unwrap(), rows);
     }
 
     #[test]

@@ -1,5 +1,5 @@
 //! zaxmonth.h as Rust has it.
-use std::ffi::c_char;
+use std::ffi::{c_char, c_int};
 
 #[repr(C)]
 pub struct Session([u8; 0]);
@@ -25,7 +25,19 @@ extern "C" {
     pub fn zax_row_codec(session: *mut Session, section: usize, row: usize, room: *mut u8, cap: usize, needed: *mut usize) -> u32;
     pub fn zax_row_fmtp(session: *mut Session, section: usize, row: usize, room: *mut u8, cap: usize, needed: *mut usize) -> u32;
     pub fn zax_config_defaults(config: *mut *mut Config) -> u32;
+    pub fn zax_config_empty(config: *mut *mut Config) -> u32;
     pub fn zax_config_free(config: *mut Config);
+    pub fn zax_config_enable(config: *mut Config, codec: u32, enabled: c_int, use_red: c_int) -> u32;
+    pub fn zax_config_add(
+        config: *mut Config,
+        pt: u8,
+        rtx: u8,
+        codec: u32,
+        clock_rate: u32,
+        channels: u8,
+        fmtp: *const c_char,
+        length: usize,
+    ) -> u32;
     pub fn zax_negotiate(
         config: *mut Config,
         text: *const c_char,

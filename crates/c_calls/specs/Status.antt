@@ -21,3 +21,6 @@ no_section = 5
 
 abbrev pub nothing_agreed : ℕ
 nothing_agreed = 6
+
+abbrev pub wrong_argument : ℕ
+wrong_argument = 7

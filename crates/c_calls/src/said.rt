@@ -14,6 +14,8 @@ use std::alloc::{AllocError, Global};
 
 pub(crate) const DONE: u32 = 0;
 
+pub(crate) const NO_UTF8: u32 = 2;
+
 pub(crate) const NO_MEMORY: u32 = 3;
 
 pub(crate) const NO_ROOM: u32 = 4;
@@ -21,6 +23,8 @@ pub(crate) const NO_ROOM: u32 = 4;
 pub(crate) const NO_SECTION: u32 = 5;
 
 pub(crate) const NOTHING: u32 = 6;
+
+pub(crate) const WRONG_ARGUMENT: u32 = 7;
 
 /// Writes items into the caller's room where they fit, and always how many there are.
 #[tactic(auto, using(crate::proofs::Putting::put_fits, crate::proofs::Putting::put_full))]

@@ -1,5 +1,5 @@
 -- Rows and outcomes as C holds them.
-use Rattle.std.specs.Prelude.{ℕ, ◌+◌, Bool, true, false, Option, Some, None, Ok, Err}
+use Rattle.std.specs.Prelude.{ℕ, ◌+◌, ◌==◌, Bool, true, false, Option, Some, None, Ok, Err, find, if◌then◌else◌}
 use Rattle.str0m_formats.specs.Runs.{Outcome as RoundOutcome}
 use Rattle.str0m_formats.specs.declared.codec.Codec.{Codec}
 use Rattle.str0m_formats.specs.declared.codec.Codec.TheVariants.{Opus, PCMU, PCMA, G722, CN, AmrWb, H264, H265, H266, Vp8, Vp9, Av1, Tele, Rtx, Red, Null}
@@ -7,6 +7,7 @@ use Rattle.str0m_formats.specs.declared.negotiation_error.NegotiationError.TheVa
 use Rattle.str0m_formats.specs.declared.payload_params.PayloadParams.{PayloadParams}
 use Rattle.c_parts.specs.declared.row.Outcome.{Outcome}
 use Rattle.c_parts.specs.declared.row.Row.{Row}
+use Rattle.c_parts.specs.declared.row.TheConstants.{NUMBERED}
 
 -- the number of a codec (`zax_codec`): 0 of one that isn't known, and of one that the header has no number for
 abbrev pub codec_number : Codec → ℕ
@@ -28,10 +29,18 @@ codec_number Red = 15
 codec_number Null = 16
 codec_number other = 0
 
+-- the codec of a number
+abbrev pub codec_at : ℕ → Option Codec
+codec_at number = find (λ codec. codec_number codec == number) NUMBERED
+
 -- a number that may not be there, and what stands in its place then
 abbrev pub number_or : ℕ → Option ℕ → ℕ
 number_or other (Some n) = n
 number_or other None = other
+
+-- what such a number says
+abbrev pub unless : ℕ → ℕ → Option ℕ
+unless none number = if number == none then None else Some number
 
 -- the bit of what is on
 abbrev pub bit : ℕ → Bool → ℕ

@@ -1,7 +1,7 @@
 //! Rows and outcomes as C holds them.
 
 ghost use Rattle.std.specs.Prelude.{◌≡◌, ◌≤◌, IfOk, length, map};
-ghost use Rattle.c_parts.specs.Row.{bit, c_outcome, c_row, codec_number, feedback_bits, number_or};
+ghost use Rattle.c_parts.specs.Row.{bit, c_outcome, c_row, codec_at, codec_number, feedback_bits, number_or, unless};
 
 use std::alloc::{AllocError, Global};
 use str0m_signal::{Codec, NegotiationError, PayloadParams, Pt};
@@ -28,6 +28,26 @@ pub struct Outcome {
     pub cause: u8,
     pub pt: u8,
 }
+
+/// The codecs that have a number in the header.
+const NUMBERED: [Codec; 16] = [
+    Codec::Opus,
+    Codec::PCMU,
+    Codec::PCMA,
+    Codec::G722,
+    Codec::CN,
+    Codec::AmrWb,
+    Codec::H264,
+    Codec::H265,
+    Codec::H266,
+    Codec::Vp8,
+    Codec::Vp9,
+    Codec::Av1,
+    Codec::Tele,
+    Codec::Rtx,
+    Codec::Red,
+    Codec::Null,
+];
 
 fn or_none(pt: Option<Pt>) -> u8
     ensures { result ≡ number_or 255 pt }
@@ -70,6 +90,23 @@ fn code_of(codec: Codec) -> u8
         Codec::Null => 16,
         _ => 0,
     }
+}
+
+/// The codec of a number; none has 0.
+pub fn codec_at(number: u8) -> Option<Codec>
+    ensures { result ≡ codec_at number }
+{
+    NUMBERED
+        .iter()
+        .copied()
+        .find(|codec| code_of(*codec) == number)
+}
+
+/// The number, unless it stands for none.
+pub fn unless(none: u8, number: u8) -> Option<u8>
+    ensures { result ≡ unless none number }
+{
+    if number == none { None } else { Some(number) }
 }
 
 pub(crate) fn flag(value: u8, is_on: bool) -> u8
