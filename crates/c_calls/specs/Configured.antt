@@ -32,5 +32,5 @@ abbrev pub IsAdded : ℕ → ℕ → ℕ × ℕ × ℕ → List ℕ → CodecCon
 IsAdded pt rtx kind line before after =
     (codec : Codec) × (codec_at kind.0 ≡ Some codec) × (format : FormatParams) × IsFormatOfLine line format
     × (after.params.items ≡ before.params.items ++ new_row pt (unless 255 rtx)
-    (record { codec = codec; clock_rate = kind.1.0; channels = unless 0 kind.1.1; format = format }) ∷ [])
+    (record { codec = codec; clock_rate = kind.1; channels = unless 0 kind.2; format = format }) ∷ [])
     × (after.red_distances ≡ before.red_distances)
