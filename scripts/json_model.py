@@ -1,6 +1,6 @@
 """What `zax_json` is to write, and what the calls of sections and of the transport are to answer, by a second way: the printed text
 is read line by line, with a pattern for each key, as sdp-transform does.
-The forms are those of docs/GRAMMAR.md, as docs/PRINTING.md has them print; nothing of the library is asked."""
+The forms are those of docs/GRAMMAR.md, as they print; nothing of the library is asked."""
 import ipaddress
 import re
 

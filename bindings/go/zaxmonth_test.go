@@ -12,7 +12,7 @@ import (
 	"testing"
 )
 
-// What is expected is worked out by hand from the texts of examples/, by docs/SECTIONS.md, docs/ROUNDS.md and docs/PRINTING.md, or stands
+// What is expected is worked out by hand from the texts of examples/, by docs/SECTIONS.md, docs/ROUNDS.md and docs/GRAMMAR.md, or stands
 // in data/.
 const top = "../.."
 
@@ -33,7 +33,7 @@ func twoSections(t testing.TB) []byte { return text(t, "examples", "firefox-audi
 
 func ownText(t testing.TB) []byte { return text(t, "scripts", "c_tests", "short.sdp") }
 
-// printedOwn is ownText with what is lost of it: another origin (docs/PRINTING.md).
+// printedOwn is ownText with what is lost of it: another origin (docs/GRAMMAR.md).
 func printedOwn(t testing.TB) string {
 	was, is := "o=- 4611731400430051336 2 IN IP4 127.0.0.1", "o=str0m-0.25.0 4611731400430051336 2 IN IP4 0.0.0.0"
 	return strings.Replace(string(ownText(t)), was, is, 1)

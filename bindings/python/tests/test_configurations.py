@@ -20,7 +20,7 @@ from zaxmonth import (
 
 from . import DATA, OFFER, OWN, TWO_SECTIONS
 
-# OWN as docs/PRINTING.md has it, with the one row that is agreed
+# OWN as docs/GRAMMAR.md has it, with the one row that is agreed
 OPUS = "a=rtpmap:111 opus/48000/2\r\na=rtcp-fb:111 transport-cc\r\na=fmtp:111 minptime=10;useinbandfec=1\r\n"
 ANSWERED = (
     OWN.replace("o=- 4611731400430051336 2 IN IP4 127.0.0.1", "o=str0m-0.25.0 4611731400430051336 2 IN IP4 0.0.0.0")

@@ -1,6 +1,6 @@
 """Reading, printing and asking.
 
-What is expected is worked out by hand from the texts of examples/, by docs/SECTIONS.md and docs/PRINTING.md."""
+What is expected is worked out by hand from the texts of examples/, by docs/SECTIONS.md and docs/GRAMMAR.md."""
 import copy
 import dataclasses
 import gc
@@ -21,7 +21,7 @@ OFFERED = [
     Row(110, None, None, Codec.TELEPHONE_EVENT, "telephone-event", 48000, None, NONE, False, "0-16"),
     Row(126, None, None, Codec.TELEPHONE_EVENT, "telephone-event", 8000, None, NONE, False, "0-16"),
 ]
-# OWN, with what is lost of it: another origin (docs/PRINTING.md)
+# OWN, with what is lost of it: another origin (docs/GRAMMAR.md)
 PRINTED = OWN.replace("o=- 4611731400430051336 2 IN IP4 127.0.0.1", "o=str0m-0.25.0 4611731400430051336 2 IN IP4 0.0.0.0")
 
 
