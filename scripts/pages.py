@@ -1,6 +1,5 @@
 """What the pages say of the code: whether the code that README.md and CALLING.md show is that of `crates/uses` or its tests, and that
-of docs/EXCHANGE.md of `crates/sdpexchange`; whether CALLING.md names each public call and type of the libraries, and
-docs/EXCHANGE.md those of `exchange`; and whether README.md is short.
+of docs/EXCHANGE.md of `crates/sdpexchange`; whether `str0m_signal` passes on all but what CALLING.md says; and whether README.md is short.
 
 A block of code stands in one of those files word for word, but for contracts and comments. One that has `use` lines is to compile as it
 stands: so its items stand in one file, each of them, and what they use of what that file imports or has is imported or stands in the
@@ -67,8 +66,9 @@ def missing(block, file):
     yield from (defined[1] - defined[0]) & used
 
 
-def code_of(crates):
-    return {file: file.read_text() for crate in sorted((TOP / "crates").glob(crates)) for file in sorted((crate / "src").glob("*.rt"))}
+def code_of(*crates):
+    folders = [it for name in crates for it in sorted((TOP / "crates").glob(name))]
+    return {file: file.read_text() for crate in folders for file in sorted((crate / "src").glob("*.rt"))}
 
 
 def block_faults(block, files):
@@ -88,20 +88,20 @@ def exported(crate):
     return {name for names in EXPORTED.findall(code) for name in re.findall(r"\w+", names)}
 
 
-def unnamed(text, crates):
+def unnamed(text, *crates):
     """What is public in the crates, and not named in the text."""
     named = set(re.findall(r"\w+", text))
-    for file, code in code_of(crates).items():
+    for file, code in code_of(*crates).items():
         for name in PUBLIC.findall(code) if file.name != "label.rt" else []:  # (labels are named together)
             if name not in named:
                 yield f"doesn't name {name} of {file.relative_to(TOP)}"
 
 
 def calling_faults(text):
-    """What CALLING.md should name and doesn't, and what it says that str0m_signal passes on, which doesn't."""
-    last = set(re.findall(r"\w+", text.splitlines()[-1]))
-    yield from unnamed(text, "str0m_*")
-    for name in sorted(set().union(*map(exported, LOWER)) - exported(TOPMOST) - last):
+    """What CALLING.md doesn't except of what str0m_signal passes on, and which it doesn't pass on."""
+    excepted = re.search(rf"^`{TOPMOST}` passes on .*?\n\n", text + "\n", re.M | re.S)
+    names = set(re.findall(r"\w+", excepted[0])) if excepted else set()
+    for name in sorted(set().union(*map(exported, LOWER)) - exported(TOPMOST) - names):
         yield f"{TOPMOST} doesn't pass on {name}"
 
 
@@ -115,5 +115,3 @@ def faults(page):
         yield f"{words} words, {MOST_WORDS} at most"
     if page == "CALLING.md":
         yield from calling_faults(text)
-    if page == "docs/EXCHANGE.md":
-        yield from unnamed(text, "exchange")
