@@ -1,5 +1,6 @@
 """What the pages say of the code: whether the code that README.md and CALLING.md show is that of `crates/uses` or its tests, and that
-of docs/EXCHANGE.md of `crates/sdpexchange`; whether `str0m_signal` passes on all but what CALLING.md says; and whether README.md is short.
+of docs/EXCHANGE.md of `crates/sdpexchange`; whether `str0m_signal` passes on all but what CALLING.md says; whether README.md is short, and
+all pages together are, the generated ones aside; and whether each link of a page leads to a file and a heading that are there.
 
 A block of code stands in one of those files word for word, but for contracts and comments. One that has `use` lines is to compile as it
 stands: so its items stand in one file, each of them, and what they use of what that file imports or has is imported or stands in the
@@ -16,7 +17,10 @@ ITEM = re.compile(r"(?:pub(?:\(crate\))? )?(?:const )?(?:fn|struct|enum|const|tr
 LOWER, TOPMOST = ("str0m_values", "str0m_formats", "str0m_sdp"), "str0m_signal"
 CODE = {"README.md": "uses*", "CALLING.md": "uses*", "docs/EXCHANGE.md": "sdpexchange"}  # of each page, where its code stands
 PAGES = tuple(CODE)
-MOST_WORDS = 900  # of README.md
+MOST_WORDS, MOST_WORDS_OF_ALL = 900, 24_000  # of README.md, and of all pages
+GENERATED = ("docs/API.md", "docs/LINT.md")
+LINK = re.compile(r"\]\(([^)#\s]*)(?:#([^)\s]*))?\)")
+HEADING = re.compile(r"^#+ (.*)$", re.M)
 
 
 def kept(text):
@@ -103,6 +107,34 @@ def calling_faults(text):
     names = set(re.findall(r"\w+", excepted[0])) if excepted else set()
     for name in sorted(set().union(*map(exported, LOWER)) - exported(TOPMOST) - names):
         yield f"{TOPMOST} doesn't pass on {name}"
+
+
+def anchors(text):
+    """What links call the headings of a page."""
+    plain_code = re.sub(r"^```.*?^```", "", text, flags=re.M | re.S)
+    return {re.sub(r"[^\w -]", "", re.sub(r"\[([^]]*)\]\([^)]*\)", r"\1", it)).strip().lower().replace(" ", "-") for it in HEADING.findall(plain_code)}
+
+
+def link_faults(page):
+    """The links of a page that lead nowhere."""
+    for path, anchor in LINK.findall(page.read_text("utf-8")):
+        to = (page.parent / path).resolve() if path else page
+        if "://" in path:
+            continue
+        if not to.exists():
+            yield f"{page.relative_to(TOP)}: there is no {path}"
+        elif anchor and anchor not in anchors(to.read_text("utf-8")):
+            yield f"{page.relative_to(TOP)}: {path or 'this page'} has no heading #{anchor}"
+
+
+def common_faults():
+    """What is wrong with the pages together."""
+    top = [*(TOP / it for it in ("README.md", "CALLING.md", "CHANGELOG.md")), *sorted((TOP / "docs").glob("*.md"))]
+    words = sum(len(it.read_text("utf-8").split()) for it in top if str(it.relative_to(TOP)) not in GENERATED)
+    if words > MOST_WORDS_OF_ALL:
+        yield f"{words} words, {MOST_WORDS_OF_ALL} at most"
+    for page in [*top, *sorted(it for name in ("scripts", "cases", "data", "examples", "bindings") for it in (TOP / name).rglob("*.md"))]:
+        yield from link_faults(page)
 
 
 def faults(page):
