@@ -1,4 +1,4 @@
-"""Whether each public call that may want memory is made by a case or a test: a body that always wants it is proved, too.
+"""Whether a case or a test makes each public call that may need memory: a body that always returns "out of memory" is proved, too.
 
 Such a call is a public function of the libraries whose result may be an error that stands for refused memory. It is made where a
 word that stands in cases/*.txt, a test, or `sdpexchange`, whose answers are compared, comes to code that names it, by way of `exchange` too: `NAME(` of a function, `TYPE::NAME` of one that takes no
@@ -16,7 +16,7 @@ COMMON = ("clone", "push")  # methods that values of std have, too
 BLOCK = re.compile(r"^(?:impl(?:<[^{]*?>)? (?:(?P<trait>\w+)[^{]*? for )?(?P<type>\w+)[^{]*)\{$", re.MULTILINE)
 FUNCTION = re.compile(r"^ *(?P<public>pub )?(?P<inner>pub\(\w+\) )?(?:const )?fn (?P<name>\w+)(?:<.*?>)?\(", re.MULTILINE)
 NO_CODE = re.compile(r"""//.*|'(?:[^'\\\n]|\\.)'|(?P<text>"(?:[^"\\]|\\.)*")""")
-INFALLIBLE = "ghost is_infallible = { λ _. Unit"  # of a copy that never wants memory
+INFALLIBLE = "ghost is_infallible = { λ _. Unit"  # of a copy that needs no memory
 PRIVATE = re.compile(r"^(?:pub\(\w+\) )?trait (\w+)", re.MULTILINE)
 WANT = re.compile(r"impl From<AllocError> for (\w+)")
 ARM = re.compile(r'(?:"[\w-]+"\s*(?:\|\s*)?)+(?:if [^=]*)?=> ')
@@ -150,7 +150,7 @@ def runs():
 
 
 def faults():
-    """The public calls that may want memory and that nothing makes."""
+    """The public calls that may need memory and that nothing makes."""
     own = [it for it in functions("str0m_*", "exchange") if it.is_public]
     wants = {"AllocError", *(it for crate in ("str0m_*", "exchange") for file in TOP.glob(f"crates/{crate}/src/*.rt") for it in WANT.findall(file.read_text()))}
     names, made_by = [it.name for it in own], list(runs())
@@ -158,7 +158,7 @@ def faults():
         if call.result.startswith("Result<") and wants & set(re.findall(r"\w+", call.result)):
             is_shared = call.name in COMMON or names.count(call.name) > 1
             if not any(call.is_made_by(it, body, is_shared) for run in made_by for it, body in run.items()):
-                yield f"{f'{call.owner}::' if call.owner else ''}{call.name} may want memory, and no case and no test makes it"
+                yield f"{f'{call.owner}::' if call.owner else ''}{call.name} may need memory, and no case and no test makes it"
 
 
 if __name__ == "__main__":

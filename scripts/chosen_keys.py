@@ -3,8 +3,8 @@ fixed): by number of bytes, what a stranger may send to stop a server.
 
 The hash goes over a text of more than 16 bytes, 16 of them at a time: it folds the first eight, crossed with what it has, with the
 others, crossed with a constant; to fold is to multiply and to cross both halves of the product. So where the first eight are what
-it has, it has 0 behind them, whatever the others are. A beginning of 16 bytes is looked for, behind which it has eight
-bytes that may stand in a key: with these behind it, all keys of 32 bytes have one hash."""
+it has, it has 0 after them, whatever the others are. A beginning of 16 bytes is looked for, after which it has eight
+bytes that may stand in a key: with these after it, all keys of 32 bytes have one hash."""
 import functools
 import random
 import string
@@ -32,14 +32,14 @@ def folded(one, other):
 
 @functools.cache
 def beginning(letters):
-    """24 of these letters behind which the hash has 0."""
+    """24 of these letters after which the hash has 0."""
     drawn, allowed = random.Random(1), letters.encode()
     while True:
         first = bytes(drawn.choices(allowed, k=16))
         halves = [int.from_bytes(it, "little") for it in (first[:8], first[8:])]
-        behind = folded(halves[0] ^ (SEED + KEY), halves[1] ^ CONSTANT).to_bytes(8, "little")
-        if all(it in allowed for it in behind):
-            return (first + behind).decode()
+        after = folded(halves[0] ^ (SEED + KEY), halves[1] ^ CONSTANT).to_bytes(8, "little")
+        if all(it in allowed for it in after):
+            return (first + after).decode()
 
 
 def keys(letters, count):
@@ -79,7 +79,7 @@ def of_sources(size):
 
 
 def of_formats(size):
-    """127 types that the m-line doesn't list, each mapped to 16 codecs, and fmtp lines of one of them behind that."""
+    """127 types that the m-line doesn't list, each mapped to 16 codecs, and fmtp lines of one of them after that."""
     types = [it for it in range(128) if it != 96]
     mapped = "".join(f"a=rtpmap:{pt} {name}/90000\r\n" for pt in types for name in NAMES)
     line = "a=fmtp:1 x\r\n"

@@ -66,7 +66,7 @@ def public_modules(crate):
 
 
 def source_of(crate, words):
-    """The file of code whose module the first of the words name, and the words behind it."""
+    """The file of code whose module the first of the words name, and the words after it."""
     for count in range(len(words), 0, -1):
         file = crates() / crate / "src" / Path(*words[:count]).with_suffix(".rt")
         if file.is_file():

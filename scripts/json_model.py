@@ -16,7 +16,7 @@ CANDIDATE = (
     r"candidate:(\S+) (\d+) (udp|tcp|ssltcp|tls) (\d+) (\S+) (\d+) typ (host|srflx|prflx|relay)"
     r"(?: raddr (\S+) rport (\d+))?(?: tcptype (active|passive|so))?(?: ufrag (\S+))?"
 )
-# Of each key: the pattern of what stands behind `a=`, and the names of its parts; one that has no name is the value itself. A key in
+# Of each key: the pattern of what stands after `a=`, and the names of its parts; one that has no name is the value itself. A key in
 # brackets is a list, and a name with a colon a number.
 BOTH = {
     "iceUfrag": (r"ice-ufrag:(.+)", ""),
@@ -71,7 +71,7 @@ SETUPS = ("", "actpass", "active", "passive")
 HASH = r"\S+ [0-9A-F]{2}(?::[0-9A-F]{2})*"
 HASHES = {"sha-256": 0, "sha-1": 1}  # (RFC 8122, section 5.1: how they are preferred)
 WORDS = ("transport-cc", "nack", "nack pli", "ccm fir", "goog-remb")  # of rows, as docs/C.md has them
-PICTURES = {"VP8", "VP9", "AV1", "H264", "H265", "H266"}
+VIDEO = {"VP8", "VP9", "AV1", "H264", "H265", "H266"}
 
 
 def part(name, text):
@@ -159,9 +159,9 @@ def row_line(mid, row):
 
 
 def feedback(section, row):
-    """What a row has of feedback: what lines say of its type; of pictures all but the first word in any case."""
+    """What a row has of feedback: what lines say of its type; of video all but the first word in any case."""
     said = {" ".join(it for it in (fb["type"], fb.get("subtype")) if it is not None) for fb in section.get("rtcpFb", []) if fb["payload"] == row["pt"]}
-    return [it for it in WORDS if it in said or (it != WORDS[0] and row["codec"] in PICTURES)]
+    return [it for it in WORDS if it in said or (it != WORDS[0] and row["codec"] in VIDEO)]
 
 
 def fault(found, text, rows):

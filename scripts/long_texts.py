@@ -90,7 +90,7 @@ def of_lines_each(sections, count):
 
 
 def of_video_sections(count):
-    """So many times the section of pictures of a browser's offer, each under a name of its own."""
+    """So many times the video section of a browser's offer, each under a name of its own."""
     offer = (TOP / "examples" / "firefox-audio-video-offer.sdp").read_bytes().decode()
     head, section = re.fullmatch(r"(.*?)m=audio.*(m=video.*)", offer, re.DOTALL).groups()
     return head + "".join(re.sub(r"^a=mid:.*$", f"a=mid:{i}\r", section, flags=re.MULTILINE) for i in range(count))
@@ -120,7 +120,7 @@ def of_numbered_lines(head, form):
 
 
 def of_types(count):
-    """So many payload types in an m-line, and as many lines behind it."""
+    """So many payload types in an m-line, and as many lines after it."""
     return HEADER + SECTION.replace("111\r\n", "111" + " 111" * (count - 1) + "\r\n", 1) + lines(["x"], count)
 
 
@@ -147,7 +147,7 @@ def of_disabled_sections(count):
 
 
 def of_paired_sections(count):
-    """The same, but that the first two of them have one name with the last two, crosswise: the first fault stands far behind."""
+    """The same, but that the first two of them have one name with the last two, crosswise: the first fault stands far down."""
     return of_named_sections(count - 2) + "".join(SECTION.replace("a=mid:0", f"a=mid:{i}", 1) for i in (1, 0))
 
 

@@ -16,7 +16,7 @@ def places(before, offer):
     used = {it.mid for earlier in before for it in earlier.sections}
     last = before[-1].sections if before else []
     if len(offer.sections) < len(last):
-        yield f"{len(offer.sections)} m-sections behind {len(last)} (RFC 3264, section 8)"
+        yield f"{len(offer.sections)} m-sections after {len(last)} (RFC 3264, section 8)"
     for i, now in enumerate(offer.sections):
         was = last[i] if i < len(last) else None
         if was and was.mid == now.mid and was.kind != now.kind:
@@ -58,6 +58,6 @@ RULES = (names, places, bundle, transports, rows, agreed)
 
 
 def broken(before, offer):
-    """The rules that the offer breaks behind these texts of this side, a line each."""
+    """The rules that the offer breaks after these texts of this side, a line each."""
     said, now = [described(it) for it in before], described(offer)
     return [f"{rule.__name__}: {fault}" for rule in RULES for fault in rule(said, now)]

@@ -1,8 +1,8 @@
 """Whether the mutants that docs/PROOFS.md and docs/EXCHANGE.md name for a promise are there, in the crate that the table or the page says.
 
 A table of docs/PROOFS.md names the crate at the head of its last column. A cell of that column has names of edits, of another crate
-behind its name and a slash; or it says `those of` a word that stands in another row; or it is a dash. In docs/EXCHANGE.md an item ends
-with names in parentheses, behind the last `;` there."""
+after its name and a slash; or it says `those of` a word that stands in another row; or it is a dash. In docs/EXCHANGE.md an item ends
+with names in parentheses, after the last `;` there."""
 import re
 
 from proved import TOP

@@ -72,7 +72,7 @@ def declared(text, mark):
 
 
 def blocks(lines, indent):
-    """Each line of a block that begins with so many blanks, and something behind them, with its comment, its attributes and its text to the end."""
+    """Each line of a block that begins with so many blanks, and something after them, with its comment, its attributes and its text to the end."""
     comment, attributes = [], []
     for at, line in enumerate(lines):
         own = line[len(indent) :] if line.startswith(indent) else ""

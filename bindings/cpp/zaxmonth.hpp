@@ -14,7 +14,7 @@
 
 namespace zaxmonth {
 
-// Why a call failed. Want of memory is std::bad_alloc.
+// Why a call failed. Out of memory is std::bad_alloc.
 class Error : public std::runtime_error {
   public:
     Error(zax_status status, const std::string &message) : std::runtime_error(message), status_(status) {}

@@ -79,7 +79,7 @@ class Asking(unittest.TestCase):
         read = SessionDescription.read(TWO_SECTIONS)
         self.assertEqual((read.sections, read.mid(0), read.mid(1)), (2, "0", "1"))
 
-    def test_rows_of_pictures(self):
+    def test_rows_of_video(self):
         rows = SessionDescription.read(TWO_SECTIONS).rows(1)
         every = Feedback.TRANSPORT_CC | Feedback.NACK | Feedback.PLI | Feedback.FIR | Feedback.REMB
         kinds = [(row.pt, row.rtx, row.red, row.codec, row.clock_rate) for row in rows if row.codec is not Codec.UNKNOWN]
