@@ -58,7 +58,7 @@ def compiled(name, flags):
 
 
 def build():
-    """Builds the driver; answers its path, and the other libraries that it calls."""
+    """Builds the driver; returns its path, and the other libraries that it calls."""
     BUILD.mkdir(parents=True, exist_ok=True)
     print("the static library is built, and proved first where it has changed", file=sys.stderr)
     kit, calls = static_library.kit(), static_library.built("bench_calls", BUILD)

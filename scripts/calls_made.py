@@ -1,10 +1,12 @@
 """Whether a case or a test makes each public call that may need memory: a body that always returns "out of memory" is proved, too.
 
-Such a call is a public function of the libraries whose result may be an error that stands for refused memory. It is made where a
-word that stands in cases/*.txt, a test, or `sdpexchange`, whose answers are compared, comes to code that names it, by way of `exchange` too: `NAME(` of a function, `TYPE::NAME` of one that takes no
-value, `.NAME(` of a method; of a method whose name others have, too, the value is a parameter of its type, as `value: &TYPE`.
-Comments and texts are no code. A word comes to the functions `answers` of the files that have it, without the arms that
-other words go in `match word`, and from there to each function whose name is called."""
+Such a call is a public function of the libraries whose result may be an error that stands for refused memory. Calls are looked for in the
+code that a case (by its first word, in cases/*.txt), a test, or `sdpexchange` comes to, by way of `exchange` too. Code makes a call where it
+has `NAME(` for a function, `TYPE::NAME` for one that takes no value, `.NAME(` for a method; where several types have a method of this name,
+a parameter is a value of the type, as `value: &TYPE`. Comments and texts are no code.
+
+A case comes to the functions `answers` of the files that have its word, without the arms of `match word` that other words take, and from there
+to each function whose name is called."""
 import re
 from dataclasses import dataclass
 

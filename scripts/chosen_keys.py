@@ -1,10 +1,9 @@
-"""Texts whose keys are chosen to fall together in a table that is looked up by the toolchain's hash (its `FoldHasher`, whose seed is
-fixed): by number of bytes, what a stranger may send to stop a server.
+"""Texts that a stranger may send to stop a server: their keys have one hash, by the toolchain's `FoldHasher`, whose seed is fixed.
 
-The hash goes over a text of more than 16 bytes, 16 of them at a time: it folds the first eight, crossed with what it has, with the
-others, crossed with a constant; to fold is to multiply and to cross both halves of the product. So where the first eight are what
-it has, it has 0 after them, whatever the others are. A beginning of 16 bytes is looked for, after which it has eight
-bytes that may stand in a key: with these after it, all keys of 32 bytes have one hash."""
+A text of more than 16 bytes is hashed 16 bytes at a time: the first eight are crossed with the hash so far, the others with a constant; the two
+are multiplied, and both halves of the product are crossed. Where the first eight equal the hash so far, the product is 0, whatever the
+others are. So a beginning of 16 bytes is looked for, after which the hash is eight bytes that may stand in a key: followed by these,
+all keys of 32 bytes have one hash."""
 import functools
 import random
 import string

@@ -1,9 +1,8 @@
-"""Whether each name that is imported of the repository's definitions, proofs and types is there and may be imported; whether definitions
-and proofs use what they import; and whether each root of them lists its modules.
+"""Whether each name that is imported of the repository's definitions, proofs and types is there and is public; whether definitions and proofs
+use what they import; and whether each root of them lists its modules.
 
-`rattle` says so too, but of a proof only when all below it is proved, and of a name that nothing uses not at all. Modules that rattle
-writes itself are judged by the source that they are written from: those of types and constants (`declared`, `TheLaws`, ..), of functions (`Given`,
-`Goals`, ..) and of contracts."""
+`rattle` says so too, but of a proof only once all below it is proved, and of an unused name not at all. Modules that rattle writes are judged
+by their source: those of types and constants (`declared`, `TheLaws`, ..), of functions (`Given`, `Goals`, ..) and of contracts."""
 import re
 from functools import lru_cache
 from pathlib import Path

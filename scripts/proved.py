@@ -53,7 +53,7 @@ def forget():
 
 
 def copy():
-    """Makes the copy anew; answers where it stands."""
+    """Makes the copy anew; returns where it stands."""
     forget()
     to = folder()
     to.mkdir(mode=0o700)
@@ -90,7 +90,7 @@ def wait_for(names):
 
 
 def wait_for_end():
-    """Waits until the gate, which runs beside this, has ended; answers whether it has passed over these sources."""
+    """Waits until the gate, which runs beside this, has ended; returns whether it has passed over these sources."""
     while not has_ended():
         time.sleep(1)
     return is_current()

@@ -1,6 +1,6 @@
-"""The schema of SARIF 2.1.0 as Debian has it. No package holds the file itself, but one holds types of Go that were made of the whole of
-it. From these come the names of all members, their types, which of them have to be there, and the words of enumerations. What types
-of Go don't say (least numbers, patterns, lists without repetition), scripts/lint asks by itself, of what sdplint writes."""
+"""The schema of SARIF 2.1.0, made of Debian's types of Go for it: no package holds the schema itself. The types have the names of all members,
+their types, which of them have to be there, and the words of enumerations. The rest (least numbers, patterns, lists without repetition)
+scripts/lint asks of what sdplint writes."""
 import re
 from pathlib import Path
 

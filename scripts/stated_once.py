@@ -1,7 +1,7 @@
 """Whether each label, key and word stands once: its text is a row of one table, and everything else names that row.
 
-A text may stand in one file beside its table, for a definition that the language can't have name the row. Comments don't count, nor does
-a text within another, as in a message. Where code and definition share a row no proof sees a misspelt text, so each stands in a case."""
+A text may stand in one more file, for a definition that can't name the row. Comments don't count, nor does a text within another, as in a
+message. Where code and definition share a row, no proof sees a misspelt text; so each stands in a case."""
 import re
 from collections import defaultdict
 

@@ -1,6 +1,6 @@
 """Static libraries of the repository, over what ./test has proved of these very sources: the gate proves them and builds none. That takes one or
-two minutes, since what it has checked of the crate itself counts, too (bases.py); three where it has kept none of that. Where ./test has not
-proved these sources, `rt lib` proves all of a library over what the checks of this place have kept."""
+two minutes, three where nothing is kept of the crate itself (bases.py). Where ./test hasn't proved these sources, `rt lib` proves the library,
+over what the checks of this place have kept."""
 import subprocess
 import sys
 import tempfile
