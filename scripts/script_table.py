@@ -59,4 +59,4 @@ def faults():
     for name, by in runners(texts):
         wanted = ", ".join(by) or "by hand"
         if name in said and said[name] != wanted:
-            yield f"scripts/{name} is run {wanted}, and not {said[name]}"
+            yield f"scripts/{name}: its row says {said[name]}, and it is {wanted}"
