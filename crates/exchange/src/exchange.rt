@@ -1,5 +1,5 @@
 //! Exchanges of offers and answers.
-ghost use Rattle.std.specs.Prelude.{All, ◌≡◌, ◌≢◌, ◌↔◌, ◌+◌, ◌-◌, ◌^◌, ◌∷◌, ◌++◌, [], ℕ, true, IfErr, IfOk, IsSomeAnd, IsTrue, MatchOption, OnErr, OnOk, None, Some, length, min};
+ghost use Rattle.std.specs.Prelude.{All, ◌≡◌, ◌≢◌, ◌↔◌, ◌+◌, ◌-◌, ◌^◌, [], ℕ, true, IfErr, IfOk, IsSomeAnd, IsTrue, MatchOption, OnErr, OnOk, None, Some, length, min};
 ghost use Rattle.std.specs.Option.{option_copied};
 ghost use Rattle.std.specs.List.{AllZip};
 ghost use Rattle.str0m_formats.specs.KindRows.{kind_rows};
@@ -9,6 +9,7 @@ ghost use Rattle.str0m_formats.specs.Rows.{types};
 ghost use Rattle.str0m_formats.specs.TypeSets.{AllDistinct};
 ghost use Rattle.str0m_sdp.specs.RowBounds.{HasBoundedRows};
 ghost use Rattle.str0m_sdp.specs.SessionConsistency.{AreDistinct, section_mids};
+ghost use Rattle.exchange.specs.AddedTo.{with_channels, with_media};
 ghost use Rattle.exchange.specs.AnsweredSession.{BundlesAccepted};
 ghost use Rattle.exchange.specs.Exchange.{AnswersOffer, EachSection, RefusesChannels, RefusesMedia, RefusesOffer, RefusesSections, RefusesToOffer};
 ghost use Rattle.exchange.specs.Follows.{Follows, IsSound};
@@ -24,7 +25,6 @@ ghost use Rattle.exchange.specs.Rules.{HasShapeOf, IsAcceptedExactly, KeepsRules
 ghost use Rattle.exchange.specs.State.{pending_sdp, sections_of, state_of, taken_names};
 ghost use Rattle.str0m_sdp.specs.Session.{versioned_text};
 ghost use Rattle.exchange.specs.Tracks.{tracks};
-ghost use Rattle.exchange.specs.declared.added.Added.TheVariants.{Media, Channels};
 ghost use Rattle.exchange.specs.declared.exchange_error.ExchangeError.TheVariants.{Memory};
 ghost use Rattle.exchange.specs.declared.signaling_state.SignalingState.TheVariants.{Stable};
 
@@ -229,7 +229,7 @@ impl Exchange {
     /// memory was refused.
     #[tactic(auto, using(crate::proofs::FollowLaws::follows_same, crate::proofs::FollowLaws::follows_self))]
     pub fn add_media(&mut self, kind: MediaKind, direction: Direction) -> Result<(), ExchangeError>
-        ensures ok { OnOk result (self.new ≡ record self.old { added = self.old.added ++ Media kind direction ∷ [] }) }
+        ensures ok { OnOk result (self.new ≡ with_media kind direction self.old) }
         ensures has_rows { OnOk result (kind_rows kind true self.old.config.params.items ≢ []) }
         ensures sound { IsSound self.old → IsSound self.new }
         ensures follows { Follows self.old self.new }
@@ -250,7 +250,7 @@ impl Exchange {
     /// Nothing is changed by an error. `NoChannels` where this side takes none (`OwnSide`); `Memory` where memory was refused.
     #[tactic(auto, using(crate::proofs::FollowLaws::follows_same, crate::proofs::FollowLaws::follows_self))]
     pub fn add_channels(&mut self) -> Result<(), ExchangeError>
-        ensures ok { OnOk result (self.new ≡ record self.old { added = self.old.added ++ Channels ∷ [] }) }
+        ensures ok { OnOk result (self.new ≡ with_channels self.old) }
         ensures has_channels { OnOk result (self.old.own.channels ≢ None) }
         ensures sound { IsSound self.old → IsSound self.new }
         ensures follows { Follows self.old self.new }
