@@ -1,4 +1,5 @@
 pub mod Answered
+pub mod Exchanged
 pub mod Found
 pub mod Held
 pub mod Mid

@@ -4,9 +4,12 @@
 
 mod candidate_calls;
 mod config_calls;
+mod exchange_calls;
+mod offer_calls;
 mod round_calls;
 mod row_calls;
 mod said;
 mod section_calls;
 mod session_calls;
+mod told;
 mod transport_calls;

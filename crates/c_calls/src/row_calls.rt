@@ -15,7 +15,12 @@ use c_parts::session_handle::SessionHandle;
 use std::alloc::Global;
 use str0m_signal::{MediaLine, PayloadParams, Sdp};
 
-fn put_rows(alloc: Global, rows: &[PayloadParams], room: &mut [Row], needed: &mut usize) -> u32
+pub(crate) fn put_rows(
+    alloc: Global,
+    rows: &[PayloadParams],
+    room: &mut [Row],
+    needed: &mut usize,
+) -> u32
     ensures { Says (Some (map c_row rows.now)) (room.old, needed.old) (result, room.new, needed.new) }
 {
     match rows_of(alloc, rows) {
