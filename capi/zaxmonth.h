@@ -1,12 +1,12 @@
-/* zaxmonth.h: session descriptions (SDP) and their payload types, read, negotiated and printed.
+/* zaxmonth.h: session descriptions (SDP) and their payload types, read, negotiated, printed and answered.
  *
  * Text is UTF-8, given by a pointer and a length in bytes; no zero ends it. A text or a list that a call answers is written into the
  * caller's room: `cap` counts the items that the room has space for, `*needed` becomes the count of those that there are. Where they
  * don't fit the answer is ZAX_E_ROOM, and the room is as it was. `needed` may be NULL, and so may a room whose `cap` is 0.
  *
- * A handle is made by zax_read or zax_config_defaults, and freed by the call of its kind. One call at a time uses it, on any thread.
- * No call aborts, prints, starts a thread or calls back, and none keeps state outside of handles. A call that isn't answered by
- * ZAX_OK leaves each handle as it was. docs/C.md says what is proved of all this, and what is trusted. */
+ * A handle is made by zax_read, zax_config_defaults or a call of exchanges, and freed by the call of its kind. One call at a time uses
+ * it, on any thread. No call aborts, prints, starts a thread or calls back, and none keeps state outside of handles. A call that isn't
+ * answered by ZAX_OK leaves each handle as it was. docs/C.md says what is proved of all this, and what is trusted. */
 #ifndef ZAXMONTH_H
 #define ZAXMONTH_H
 
@@ -191,6 +191,7 @@ ZAX_API zax_status zax_restart_ice(zax_exchange *exchange, zax_slice ufrag, zax_
 ZAX_API zax_status zax_print_version(zax_session *session, uint64_t version, char *room, size_t cap, size_t *needed);
 /* The rows of its configuration, each with whether it is locked. */
 ZAX_API zax_status zax_exchange_rows(zax_exchange *exchange, zax_row *room, size_t cap, size_t *needed);
+ZAX_API zax_status zax_exchange_row_fmtp(zax_exchange *exchange, size_t row, char *room, size_t cap, size_t *needed);
 /* Whether an offer of this side waits for its answer: ZAX_STABLE or ZAX_HAVE_LOCAL_OFFER. */
 ZAX_API zax_status zax_exchange_state(zax_exchange *exchange, uint32_t *state);
 

@@ -221,6 +221,15 @@ static void rooms(zax_exchange *exchange, zax_session *session)
     IS(zax_exchange_rows(exchange, rows, needed, &got), ZAX_OK);
     IS(got, needed);
     IS(zax_exchange_rows(NULL, rows, 128, &got), ZAX_E_ARGUMENT);
+    IS(zax_exchange_row_fmtp(exchange, 0, NULL, 0, &needed), ZAX_E_ROOM);
+    memset(printed, 0x5a, needed + 1);
+    IS(zax_exchange_row_fmtp(exchange, 0, printed, needed - 1, &got), ZAX_E_ROOM);
+    IS(printed[0], 0x5a);
+    IS(zax_exchange_row_fmtp(exchange, 0, printed, needed, &got), ZAX_OK);
+    IS(printed[needed], 0x5a);
+    IS(memcmp(printed, "minptime=10;useinbandfec=1", needed), 0);
+    IS(zax_exchange_row_fmtp(exchange, 128, printed, 9, &got), ZAX_E_SECTION);
+    IS(zax_exchange_row_fmtp(NULL, 0, printed, 9, &got), ZAX_E_ARGUMENT);
     IS(zax_print_version(session, 7, NULL, 0, &needed), ZAX_E_ROOM);
     memset(printed, 0x5a, needed + 1);
     IS(zax_print_version(session, 7, printed, needed - 1, &got), ZAX_E_ROOM);
@@ -329,6 +338,7 @@ static void session_with_refusals(void)
     AGAIN(zax_accept_answer(here, printed, size, NULL));
     static zax_row rows[128];
     AGAIN(zax_exchange_rows(here, rows, 128, &size));
+    AGAIN(zax_exchange_row_fmtp(here, 0, printed, sizeof printed, &size));
 end:
     zax_session_free(answer);
     zax_session_free(offer);

@@ -6,6 +6,7 @@ ghost use Rattle.c_parts.specs.Full.{IsFull};
 ghost use Rattle.c_parts.specs.Row.{c_row};
 ghost use Rattle.c_parts.specs.Side.{RefusesOwn, SaysOwn, own_texts};
 ghost use Rattle.c_calls.specs.Exchanged.{AcceptsOffer, Begins, Goes, state_number};
+ghost use Rattle.c_calls.specs.Found.{format_in};
 ghost use Rattle.c_calls.specs.Held.{Of};
 ghost use Rattle.c_calls.specs.Says.{Says};
 ghost use Rattle.c_calls.specs.Status.{done};
@@ -13,7 +14,7 @@ ghost use Rattle.exchange.specs.Exchange.{RefusesOffer};
 ghost use Rattle.exchange.specs.Follows.{IsSound};
 ghost use Rattle.exchange.specs.State.{state_of};
 
-use crate::row_calls::put_rows;
+use crate::row_calls::{put_format, put_rows};
 use crate::said::{DONE, NO_MEMORY};
 use crate::told::tell;
 use c_parts::config_handle::ConfigHandle;
@@ -208,6 +209,26 @@ pub extern "C" fn zaxp_exchange_rows(
 {
     let exchange = handle.take(alloc);
     let code = put_rows(alloc, exchange.config().params(), room, needed);
+    handle.put(exchange);
+    code
+}
+
+/// What the format of a row of its configuration says.
+#[unsafe(no_mangle)]
+pub extern "C" fn zaxp_exchange_format(
+    alloc: Global,
+    handle: &mut ExchangeHandle,
+    row: usize,
+    room: &mut [u8],
+    needed: &mut usize,
+) -> u32
+    requires { IsFull handle.old.inner }
+    ensures same { handle.new.inner ≡ handle.old.inner }
+    ensures says { Of handle.old.inner (λ it.
+        Says (format_in it.config.params.items row) (room.old, needed.old) (result, room.new, needed.new)) }
+{
+    let exchange = handle.take(alloc);
+    let code = put_format(alloc, exchange.config().params(), row, room, needed);
     handle.put(exchange);
     code
 }

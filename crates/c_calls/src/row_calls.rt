@@ -29,7 +29,7 @@ pub(crate) fn put_rows(
     }
 }
 
-fn put_format(
+pub(crate) fn put_format(
     alloc: Global,
     rows: &[PayloadParams],
     row: usize,
