@@ -6,7 +6,12 @@
 //! assert_eq!(offer.rtp_params(0)?[0].pt, 111);
 //! # Ok::<(), Box<dyn std::error::Error>>(())
 //! ```
+mod exchange;
+mod own;
 mod raw;
+
+pub use exchange::{Description, Exchange, ExchangeError, SignalingState};
+pub use own::{DataChannels, Direction, IceCreds, MediaKind, OwnSide};
 
 use std::ffi::CStr;
 use std::fmt;
