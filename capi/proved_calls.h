@@ -27,6 +27,7 @@ uint32_t zaxp_session_fingerprint(struct handle *handle, uint8_t *room, size_t r
 uint32_t zaxp_session_candidates(struct handle *handle, size_t *count);
 uint32_t zaxp_session_candidate(struct handle *handle, size_t index, uint8_t *room, size_t room_cap, size_t *needed);
 void zaxp_session_free(struct handle *handle);
+uint32_t zaxp_findings(const uint8_t *text, size_t text_length, uint8_t *room, size_t room_cap, size_t *needed);
 uint32_t zaxp_config_defaults(struct handle *handle);
 uint32_t zaxp_config_negotiate(struct handle *handle, const uint8_t *text, size_t text_length, zax_outcome *room, size_t room_cap,
                                size_t *needed, uint8_t *message, size_t message_cap, size_t *message_length);

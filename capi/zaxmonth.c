@@ -214,6 +214,17 @@ zax_status zax_json(zax_session *session, char *room, size_t cap, size_t *needed
     return (zax_status)zaxp_session_json(&session->handle, ROOM(uint8_t, room, cap), cap, needed);
 }
 
+zax_status zax_findings(const char *text, size_t length, char *room, size_t cap, size_t *needed)
+{
+    size_t unasked;
+    if (!needed)
+        needed = &unasked;
+    *needed = 0;
+    if (!is_slice(text, length, 1) || !is_slice(room, cap, 1))
+        return ZAX_E_ARGUMENT;
+    return (zax_status)zaxp_findings(bytes(text, length), length, ROOM(uint8_t, room, cap), cap, needed);
+}
+
 zax_status zax_config_defaults(zax_config **config)
 {
     if (!config)

@@ -126,6 +126,9 @@ ZAX_API zax_status zax_candidate(zax_session *session, size_t index, char *room,
 /* The description as it prints, as JSON by the keys of sdp-transform, and with the rows of each section. */
 ZAX_API zax_status zax_json(zax_session *session, char *room, size_t cap, size_t *needed);
 
+/* What is found in a text (docs/LINT.md), as JSON: why it is refused, and what is lost of it, by line and column. */
+ZAX_API zax_status zax_findings(const char *text, size_t length, char *room, size_t cap, size_t *needed);
+
 /* A configuration with the default rows. `*config` is NULL where memory is refused. */
 ZAX_API zax_status zax_config_defaults(zax_config **config);
 ZAX_API void zax_config_free(zax_config *config); /* NULL is fine */

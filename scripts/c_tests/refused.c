@@ -66,6 +66,7 @@ static int run(void)
     ASKS(session, zax_row_fmtp(session, 0, 0, room, sizeof room, &count));
     ASKS(session, zax_section_mid(session, 0, room, sizeof room, &count));
     ASKS(session, zax_json(session, room, sizeof room, &count));
+    ASKS(session, zax_findings(text, length, room, sizeof room, &count));
     ASKS(session, zax_section_info(session, 0, &info));
     ASKS(session, zax_is_writable(session, 0, &writable));
     ASKS(session, zax_ice_ufrag(session, room, sizeof room, &count));

@@ -1,5 +1,6 @@
 pub mod Answered
 pub mod Exchanged
+pub mod Findings
 pub mod Found
 pub mod Held
 pub mod Mid

@@ -14,6 +14,8 @@ use std::alloc::{AllocError, Global};
 
 pub(crate) const DONE: u32 = 0;
 
+pub(crate) const NO_UTF8: u32 = 2;
+
 pub(crate) const NO_MEMORY: u32 = 3;
 
 pub(crate) const NO_ROOM: u32 = 4;
