@@ -54,6 +54,14 @@ template <class Items, class Call> Items filled(Call call)
 
 } // namespace detail
 
+// What is found in a text, whether it describes a session or not, as JSON: an array of objects with line, column, severity, code and message
+// (docs/LINT.md).
+inline std::string findings(std::string_view text)
+{
+    return detail::filled<std::string>(
+        [&](char *room, size_t cap, size_t *needed) { return zax_findings(text.data(), text.size(), room, cap, needed); });
+}
+
 // A description. One call at a time uses it.
 class Session {
   public:

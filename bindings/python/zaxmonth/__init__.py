@@ -31,6 +31,7 @@ from ._errors import (
     Utf8Error,
 )
 from ._exchange import DataChannels, Direction, Exchange, MediaKind, OwnSide, SignalingState, VersionedDescription
+from ._findings import Finding, findings
 from ._handles import Configuration, SessionDescription
 from ._library import ABI, library_version
 from ._rows import Cause, Codec, Feedback, Outcome, Row
@@ -48,6 +49,7 @@ __all__ = [
     "Error",
     "Exchange",
     "Feedback",
+    "Finding",
     "MediaKind",
     "NoChannels",
     "NoNameLeft",
@@ -70,5 +72,6 @@ __all__ = [
     "UnreadLine",
     "Utf8Error",
     "VersionedDescription",
+    "findings",
     "library_version",
 ]

@@ -59,6 +59,7 @@ _CALLS = {
     "zax_rows": (c_uint32, (_HANDLE, _INDEX, *_ROOM)),
     "zax_row_fmtp": (c_uint32, (_HANDLE, _INDEX, _INDEX, *_ROOM)),
     JSON: (c_uint32, (_HANDLE, *_ROOM)),
+    "zax_findings": (c_uint32, (*_TEXT, *_ROOM)),
     "zax_config_defaults": (c_uint32, (_PLACE,)),
     "zax_config_free": (None, (_HANDLE,)),
     "zax_negotiate": (c_uint32, (_HANDLE, *_TEXT, *_ROOM, _ERROR)),

@@ -106,6 +106,13 @@ fn text_of(bytes: Vec<u8>) -> String {
     String::from_utf8(bytes).expect("what is printed is UTF-8")
 }
 
+/// What is found in a text, whether it describes a session or not, as JSON: an array of objects with `line`, `column`, `severity`, `code`
+/// and `message` (docs/LINT.md).
+pub fn findings(text: &str) -> Result<String, SdpError> {
+    // SAFETY: the text is that long, and `filled` hands in room for so many bytes.
+    filled(|room, cap, needed| unsafe { raw::zax_findings(text.as_ptr().cast(), text.len(), room, cap, needed) }).map(text_of)
+}
+
 /// A description.
 #[derive(Debug)]
 pub struct Sdp(NonNull<raw::Session>);
@@ -232,6 +239,12 @@ mod tests {
         assert!(!locked.is_empty());
         assert_eq!(answered, locked);
         assert_eq!(config.answer(&mut own, 7), Err(SdpError::NoSection));
+    }
+
+    #[test]
+    fn what_is_found_is_json() {
+        let found = findings("x").unwrap();
+        assert!(found.starts_with("[{\"") && found.contains("\"line\":1,") && found.ends_with("}]"), "{found}");
     }
 
     #[test]
