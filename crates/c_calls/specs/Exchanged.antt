@@ -6,7 +6,7 @@ use Rattle.str0m_formats.specs.Rows.{types}
 use Rattle.str0m_formats.specs.TypeSets.{AllDistinct}
 use Rattle.str0m_formats.specs.declared.codec_config.CodecConfig.{CodecConfig}
 use Rattle.str0m_sdp.specs.Session.{versioned_text}
-use Rattle.str0m_sdp.specs.SessionConsistency.{AreDistinct}
+use Rattle.str0m_sdp.specs.SessionConsistency.{AreDistinct, section_mids}
 use Rattle.str0m_sdp.specs.declared.session.Sdp.{Sdp}
 use Rattle.exchange.specs.AcceptedAnswer.{IsAnswer, placed_of}
 use Rattle.exchange.specs.Added.{with_placed}
@@ -17,11 +17,11 @@ use Rattle.exchange.specs.Follows.{Follows, IsSound}
 use Rattle.exchange.specs.FreshNames.{AreFresh}
 use Rattle.exchange.specs.MadeOffer.{MakesOffer, placed_as, ready_with}
 use Rattle.exchange.specs.Names.{grown}
-use Rattle.exchange.specs.OfferRules.{IsOffered, KeepsPlaces}
+use Rattle.exchange.specs.OfferRules.{IsNewName, IsOffered, KeepsPlaces}
 use Rattle.exchange.specs.Offered.{IsOffer, Negotiates}
 use Rattle.exchange.specs.Places.{StaysInPlaces}
 use Rattle.exchange.specs.ReadBack.{IsReadBack}
-use Rattle.exchange.specs.Rules.{KeepsRules}
+use Rattle.exchange.specs.Rules.{HasShapeOf, IsAcceptedExactly, KeepsRules}
 use Rattle.exchange.specs.State.{pending_sdp, sections_of, state_of, taken_names}
 use Rattle.exchange.specs.Tracks.{tracks}
 use Rattle.exchange.specs.declared.exchange.Exchange.{Exchange}
@@ -38,9 +38,12 @@ pub record AcceptsOffer (before after : Exchange) (text : List ℕ) (answer : Sd
   -- no offer of this side was open; the text is an offer whose sections are in their places
   pub stable : state_of before ≡ Stable
   pub read : IsSomeAnd after.remote (IsOffer text)
+  pub different : IsSomeAnd after.remote (λ offer. AreDistinct (section_mids offer.media_lines))
   pub placed : IsSomeAnd after.remote (StaysInPlaces before.names (sections_of before.local) before.remote)
   -- the answer answers it, line by line, by the rules and with its bundle, and the other side reads it as what it says
   pub answers : IsSomeAnd after.remote (λ offer. AnswersOffer before.own after.config.params.items offer answer)
+  pub shape : EachSection (λ offer. HasShapeOf) after.remote answer
+  pub exactly : EachSection (IsAcceptedExactly before.own after.config.params.items) after.remote answer
   pub rules : EachSection (KeepsRules before.own after.config.params.items) after.remote answer
   pub bundle : IsSomeAnd after.remote (λ offer. BundlesAccepted offer answer)
   pub tracks : AreDistinct (tracks answer)
@@ -68,10 +71,12 @@ pub record CreatesOffer (before after : Exchange) (offer : Sdp) (version : ℕ) 
   pub names : List (List ℕ)
   pub fresh : (to : ℕ) × AreFresh (taken_names before) 0 names to
   pub as_many : length names ≡ length before.added
+  pub new : All (IsNewName before) names
   -- it is offered with what goes on, by the rules, and the other side reads it as what it says
   pub says : MakesOffer before names offer
   pub places : KeepsPlaces before 0 (sections_of before.local) offer.media_lines
   pub rules : All (IsOffered before (ready_with before names)) offer.media_lines
+  pub different : AreDistinct (section_mids (sections_of before.local)) → AreDistinct (section_mids offer.media_lines)
   pub read_back : IsReadBack offer (versioned_text version offer)
   pub version_is : version ≡ before.version
   -- it waits for its answer, and the next description has the next version

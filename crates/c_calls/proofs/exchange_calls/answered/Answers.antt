@@ -5,8 +5,11 @@ pub returns-in-Ok-clause-answered : goal.returns-in-Ok-clause-answered
 returns-in-Ok-clause-answered c = rw (c.into_sdp.ensures, c.version-version.ensures) (record {
   stable = c.in-Ok.ensures.stable;
   read = c.in-Ok.ensures.read;
+  different = c.in-Ok.ensures.different;
   placed = c.in-Ok.ensures.placed;
   answers = c.in-Ok.ensures.answers;
+  shape = c.in-Ok.ensures.shape;
+  exactly = c.in-Ok.ensures.exactly;
   rules = c.in-Ok.ensures.rules;
   bundle = c.in-Ok.ensures.bundle;
   tracks = c.in-Ok.ensures.tracks;
