@@ -18,6 +18,7 @@ uint32_t zaxp_session_print(struct handle *handle, uint8_t *room, size_t room_ca
 uint32_t zaxp_session_section(struct handle *handle, size_t at, zax_section *info);
 uint32_t zaxp_session_mid(struct handle *handle, size_t at, uint8_t *room, size_t room_cap, size_t *needed);
 uint32_t zaxp_session_rows(struct handle *handle, size_t at, zax_row *room, size_t room_cap, size_t *needed);
+uint32_t zaxp_session_codec(struct handle *handle, size_t at, size_t row, uint8_t *room, size_t room_cap, size_t *needed);
 uint32_t zaxp_session_format(struct handle *handle, size_t at, size_t row, uint8_t *room, size_t room_cap, size_t *needed);
 uint32_t zaxp_session_json(struct handle *handle, uint8_t *room, size_t room_cap, size_t *needed);
 uint32_t zaxp_session_is_writable(struct handle *handle, size_t at, bool *writable);
@@ -32,6 +33,7 @@ uint32_t zaxp_config_defaults(struct handle *handle);
 uint32_t zaxp_config_negotiate(struct handle *handle, const uint8_t *text, size_t text_length, zax_outcome *room, size_t room_cap,
                                size_t *needed, uint8_t *message, size_t message_cap, size_t *message_length);
 uint32_t zaxp_config_rows(struct handle *handle, zax_row *room, size_t room_cap, size_t *needed);
+uint32_t zaxp_config_codec(struct handle *handle, size_t row, uint8_t *room, size_t room_cap, size_t *needed);
 uint32_t zaxp_config_format(struct handle *handle, size_t row, uint8_t *room, size_t room_cap, size_t *needed);
 uint32_t zaxp_config_answer(struct handle *handle, struct handle *own, size_t at);
 void zaxp_config_free(struct handle *handle);

@@ -160,6 +160,12 @@ zax_status zax_rows(zax_session *session, size_t section, zax_row *room, size_t 
     return (zax_status)zaxp_session_rows(&session->handle, section, ROOM(zax_row, room, cap), cap, needed);
 }
 
+zax_status zax_row_codec(zax_session *session, size_t section, size_t row, char *room, size_t cap, size_t *needed)
+{
+    BEGIN(session, room, cap, needed);
+    return (zax_status)zaxp_session_codec(&session->handle, section, row, ROOM(uint8_t, room, cap), cap, needed);
+}
+
 zax_status zax_row_fmtp(zax_session *session, size_t section, size_t row, char *room, size_t cap, size_t *needed)
 {
     BEGIN(session, room, cap, needed);
@@ -270,6 +276,12 @@ zax_status zax_config_rows(zax_config *config, zax_row *room, size_t cap, size_t
 {
     BEGIN(config, room, cap, needed);
     return (zax_status)zaxp_config_rows(&config->handle, ROOM(zax_row, room, cap), cap, needed);
+}
+
+zax_status zax_config_row_codec(zax_config *config, size_t row, char *room, size_t cap, size_t *needed)
+{
+    BEGIN(config, room, cap, needed);
+    return (zax_status)zaxp_config_codec(&config->handle, row, ROOM(uint8_t, room, cap), cap, needed);
 }
 
 zax_status zax_config_row_fmtp(zax_config *config, size_t row, char *room, size_t cap, size_t *needed)

@@ -44,6 +44,7 @@ typedef enum zax_status {
     ZAX_E_OWN = 15      /* a text of zax_own is no fingerprint, or no candidate */
 } zax_status;
 
+/* ZAX_UNKNOWN, too, is one that the library reads and has no number here; zax_row_codec has its name. */
 typedef enum zax_codec {
     ZAX_UNKNOWN = 0, ZAX_OPUS, ZAX_PCMU, ZAX_PCMA, ZAX_G722, ZAX_CN, ZAX_AMR_WB, ZAX_H264, ZAX_H265, ZAX_H266,
     ZAX_VP8, ZAX_VP9, ZAX_AV1, ZAX_TELEPHONE_EVENT, ZAX_RTX, ZAX_RED, ZAX_NULL_CODEC
@@ -111,7 +112,9 @@ ZAX_API zax_status zax_section_info(zax_session *session, size_t section, zax_se
 /* The mid of a section; nothing where it has none. */
 ZAX_API zax_status zax_section_mid(zax_session *session, size_t section, char *room, size_t cap, size_t *needed);
 ZAX_API zax_status zax_rows(zax_session *session, size_t section, zax_row *room, size_t cap, size_t *needed);
-/* What the format of a row says, as an fmtp line has it; `row` counts those of zax_rows from 0. */
+/* The name of a row's codec, as an rtpmap line has it; `row` counts those of zax_rows from 0. */
+ZAX_API zax_status zax_row_codec(zax_session *session, size_t section, size_t row, char *room, size_t cap, size_t *needed);
+/* What its format says, as an fmtp line has it. */
 ZAX_API zax_status zax_row_fmtp(zax_session *session, size_t section, size_t row, char *room, size_t cap, size_t *needed);
 /* Whether zax_answer may write into the section: `*writable` becomes 0 or 1. */
 ZAX_API zax_status zax_is_writable(zax_session *session, size_t section, int *writable);
@@ -137,6 +140,7 @@ ZAX_API void zax_config_free(zax_config *config); /* NULL is fine */
 ZAX_API zax_status zax_negotiate(zax_config *config, const char *text, size_t length, zax_outcome *room, size_t cap, size_t *needed,
                                  zax_error *error);
 ZAX_API zax_status zax_config_rows(zax_config *config, zax_row *room, size_t cap, size_t *needed);
+ZAX_API zax_status zax_config_row_codec(zax_config *config, size_t row, char *room, size_t cap, size_t *needed);
 ZAX_API zax_status zax_config_row_fmtp(zax_config *config, size_t row, char *room, size_t cap, size_t *needed);
 /* Puts the locked rows of its kind into a section of one's own description. */
 ZAX_API zax_status zax_answer(zax_config *config, zax_session *own, size_t section);

@@ -8,16 +8,17 @@ static char text[1 << 20];
 
 static void show(zax_session *session, size_t section)
 {
-    char mid[64], fmtp[1024];
+    char mid[64], codec[64], fmtp[1024];
     zax_row rows[128];
     size_t named = 0, found = 0;
     if (zax_section_mid(session, section, mid, sizeof mid, &named) != ZAX_OK ||
         zax_rows(session, section, rows, 128, &found) != ZAX_OK)
         return;
     for (size_t i = 0; i < found; i++) {
-        size_t said = 0;
+        size_t length = 0, said = 0;
+        zax_row_codec(session, section, i, codec, sizeof codec, &length);
         zax_row_fmtp(session, section, i, fmtp, sizeof fmtp, &said);
-        printf("mid %.*s: payload type %d, codec %d at %u Hz%s%.*s\n", (int)named, mid, rows[i].pt, rows[i].codec, rows[i].clock_rate,
+        printf("mid %.*s: payload type %d, %.*s at %u Hz%s%.*s\n", (int)named, mid, rows[i].pt, (int)length, codec, rows[i].clock_rate,
                said ? ", " : "", (int)said, fmtp);
     }
 }

@@ -62,7 +62,7 @@ FAULTS = {
 STATES = {"Stable": "STABLE", "HaveLocalOffer": "HAVE_LOCAL_OFFER"}
 CAUSES = {"TypeTooLarge": "TYPE_TOO_LARGE", "ClaimedTwice": "CLAIMED_TWICE", "Exhausted": "EXHAUSTED", "Memory": "ROUND_MEMORY"}
 SECTIONS = {("kind", "Unknown"): "OTHER_KIND", ("protocol", "Srtp"): "PROTOCOL_RTP", ("protocol", "Sctp"): "PROTOCOL_SCTP", ("setup", "None"): "NO_SETUP"}
-CODECS = {"Tele": "TELEPHONE_EVENT", "Null": "NULL_CODEC", "AmrWb": "AMR_WB"}
+CODECS = {"Tele": "TELEPHONE_EVENT", "Null": "NULL_CODEC", "AmrWb": "AMR_WB", "other": "UNKNOWN"}
 
 
 @dataclass

@@ -18,9 +18,10 @@ int main(int count, char **words)
             const auto mid = session.mid(section);
             size_t i = 0;
             for (const auto &row : session.rows(section)) {
-                const auto fmtp = session.fmtp(section, i++);
-                std::printf("mid %s: payload type %d, codec %d at %u Hz%s%s\n", mid.c_str(), row.pt, row.codec, row.clock_rate,
+                const auto codec = session.codec(section, i), fmtp = session.fmtp(section, i);
+                std::printf("mid %s: payload type %d, %s at %u Hz%s%s\n", mid.c_str(), row.pt, codec.c_str(), row.clock_rate,
                             fmtp.empty() ? "" : ", ", fmtp.c_str());
+                i++;
             }
         }
     } catch (const std::exception &error) {

@@ -90,6 +90,11 @@ class Session {
         return detail::filled<std::vector<zax_row>>(
             [&](zax_row *room, size_t cap, size_t *needed) { return zax_rows(get(), section, room, cap, needed); });
     }
+    std::string codec(size_t section, size_t row) const
+    {
+        return detail::filled<std::string>(
+            [&](char *room, size_t cap, size_t *needed) { return zax_row_codec(get(), section, row, room, cap, needed); });
+    }
     std::string fmtp(size_t section, size_t row) const
     {
         return detail::filled<std::string>(

@@ -24,7 +24,7 @@ func ExampleRead() {
 		log.Fatal(err)
 	}
 	for _, row := range rows[:3] {
-		fmt.Println(row.PT, row.Codec, row.ClockRate)
+		fmt.Println(row.PT, row.Name, row.ClockRate)
 	}
 	// Output:
 	// 111 opus 48000

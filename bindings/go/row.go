@@ -5,10 +5,10 @@ import "C"
 
 import "fmt"
 
-// A Codec is a codec, by its number in zaxmonth.h.
+// A Codec is a codec, by its number in zaxmonth.h; Row.Name is its name.
 type Codec uint8
 
-// The codecs.
+// The codecs. CodecUnknown is one that isn't known, or that has no number.
 const (
 	CodecUnknown        Codec = C.ZAX_UNKNOWN
 	CodecOpus           Codec = C.ZAX_OPUS
@@ -28,34 +28,6 @@ const (
 	CodecRED            Codec = C.ZAX_RED
 	CodecNull           Codec = C.ZAX_NULL_CODEC
 )
-
-var codecNames = [...]string{
-	CodecUnknown:        "unknown",
-	CodecOpus:           "opus",
-	CodecPCMU:           "PCMU",
-	CodecPCMA:           "PCMA",
-	CodecG722:           "G722",
-	CodecCN:             "CN",
-	CodecAMRWB:          "AMR-WB",
-	CodecH264:           "H264",
-	CodecH265:           "H265",
-	CodecH266:           "H266",
-	CodecVP8:            "VP8",
-	CodecVP9:            "VP9",
-	CodecAV1:            "AV1",
-	CodecTelephoneEvent: "telephone-event",
-	CodecRTX:            "rtx",
-	CodecRED:            "red",
-	CodecNull:           "null",
-}
-
-// String is the name of the codec in an rtpmap line.
-func (c Codec) String() string {
-	if int(c) < len(codecNames) {
-		return codecNames[c]
-	}
-	return fmt.Sprintf("codec %d", uint8(c))
-}
 
 // Feedback is the kinds of feedback (rtcp-fb) of a row, a bit each.
 type Feedback uint8
@@ -83,6 +55,7 @@ type Row struct {
 	RTX       uint8 // the payload type of retransmissions, or NoType
 	RED       uint8 // the payload type of RED, or NoType
 	Codec     Codec
+	Name      string // the name of the codec, as an rtpmap line has it
 	ClockRate uint32 // at which the codec samples, in Hz
 	Channels  uint8  // 0: not said
 	Feedback  Feedback
@@ -133,12 +106,13 @@ func outcomesOf(raw []C.zax_outcome) []Outcome {
 	return outcomes
 }
 
-func rowOf(raw *C.zax_row, fmtp string) Row {
+func rowOf(raw *C.zax_row, name, fmtp string) Row {
 	return Row{
 		PT:        uint8(raw.pt),
 		RTX:       uint8(raw.rtx),
 		RED:       uint8(raw.red),
 		Codec:     Codec(raw.codec),
+		Name:      name,
 		ClockRate: uint32(raw.clock_rate),
 		Channels:  uint8(raw.channels),
 		Feedback:  Feedback(raw.feedback),
@@ -147,24 +121,34 @@ func rowOf(raw *C.zax_row, fmtp string) Row {
 	}
 }
 
-// rowsOf is the rows that a call writes, with the fmtp that another says of each.
-func rowsOf(
-	call func(*C.zax_row, C.size_t, *C.size_t) C.zax_status,
-	fmtp func(C.size_t, *C.char, C.size_t, *C.size_t) C.zax_status,
-) ([]Row, error) {
+// A rowText is a call that writes a text of a row into room.
+type rowText func(C.size_t, *C.char, C.size_t, *C.size_t) C.zax_status
+
+// of is what the call writes of a row.
+func (call rowText) of(row int) (string, error) {
+	said, err := textOf(func(room *C.char, size C.size_t, needed *C.size_t) C.zax_status {
+		return call(C.size_t(row), room, size, needed)
+	})
+	return string(said), err
+}
+
+// rowsOf is the rows that a call writes, with the names of their codecs and their formats, which two others say.
+func rowsOf(call func(*C.zax_row, C.size_t, *C.size_t) C.zax_status, codec, fmtp rowText) ([]Row, error) {
 	raw, err := filled(128, call)
 	if err != nil {
 		return nil, err
 	}
 	rows := make([]Row, len(raw))
 	for i := range raw {
-		said, err := textOf(func(room *C.char, size C.size_t, needed *C.size_t) C.zax_status {
-			return fmtp(C.size_t(i), room, size, needed)
-		})
+		name, err := codec.of(i)
 		if err != nil {
 			return nil, err
 		}
-		rows[i] = rowOf(&raw[i], string(said))
+		format, err := fmtp.of(i)
+		if err != nil {
+			return nil, err
+		}
+		rows[i] = rowOf(&raw[i], name, format)
 	}
 	return rows, nil
 }

@@ -131,6 +131,9 @@ func (s *Session) Rows(section int) (rows []Row, err error) {
 				return C.zax_rows(it, at, room, size, needed)
 			},
 			func(row C.size_t, room *C.char, size C.size_t, needed *C.size_t) C.zax_status {
+				return C.zax_row_codec(it, at, row, room, size, needed)
+			},
+			func(row C.size_t, room *C.char, size C.size_t, needed *C.size_t) C.zax_status {
 				return C.zax_row_fmtp(it, at, row, room, size, needed)
 			})
 		return err
@@ -180,6 +183,9 @@ func (c *Config) Rows() (rows []Row, err error) {
 		rows, err = rowsOf(
 			func(room *C.zax_row, size C.size_t, needed *C.size_t) C.zax_status {
 				return C.zax_config_rows(it, room, size, needed)
+			},
+			func(row C.size_t, room *C.char, size C.size_t, needed *C.size_t) C.zax_status {
+				return C.zax_config_row_codec(it, row, room, size, needed)
 			},
 			func(row C.size_t, room *C.char, size C.size_t, needed *C.size_t) C.zax_status {
 				return C.zax_config_row_fmtp(it, row, room, size, needed)

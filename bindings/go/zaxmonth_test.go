@@ -79,13 +79,13 @@ func TestRowsOfAnOffer(t *testing.T) {
 	is(t, session.Sections(), 1)
 	is(t, must[string](t)(session.Mid(0)), "0")
 	is(t, must[[]Row](t)(session.Rows(0)), []Row{
-		{111, NoType, 63, CodecOpus, 48000, 2, TransportCC, false, "minptime=10;useinbandfec=1"},
-		{9, NoType, NoType, CodecG722, 16000, 0, 0, false, ""},
-		{0, NoType, NoType, CodecPCMU, 8000, 0, 0, false, ""},
-		{8, NoType, NoType, CodecPCMA, 8000, 0, 0, false, ""},
-		{13, NoType, NoType, CodecCN, 8000, 0, 0, false, ""},
-		{110, NoType, NoType, CodecTelephoneEvent, 48000, 0, 0, false, "0-16"},
-		{126, NoType, NoType, CodecTelephoneEvent, 8000, 0, 0, false, "0-16"},
+		{111, NoType, 63, CodecOpus, "opus", 48000, 2, TransportCC, false, "minptime=10;useinbandfec=1"},
+		{9, NoType, NoType, CodecG722, "G722", 16000, 0, 0, false, ""},
+		{0, NoType, NoType, CodecPCMU, "PCMU", 8000, 0, 0, false, ""},
+		{8, NoType, NoType, CodecPCMA, "PCMA", 8000, 0, 0, false, ""},
+		{13, NoType, NoType, CodecCN, "CN", 8000, 0, 0, false, ""},
+		{110, NoType, NoType, CodecTelephoneEvent, "telephone-event", 48000, 0, 0, false, "0-16"},
+		{126, NoType, NoType, CodecTelephoneEvent, "telephone-event", 8000, 0, 0, false, "0-16"},
 	})
 }
 
@@ -193,7 +193,7 @@ func TestRounds(t *testing.T) {
 	rows := config(t)
 	all := must[[]Row](t)(rows.Rows())
 	is(t, len(all), 13)
-	is(t, all[0], Row{111, NoType, NoType, CodecOpus, 48000, 2, TransportCC, false, "minptime=10;useinbandfec=1"})
+	is(t, all[0], Row{111, NoType, NoType, CodecOpus, "opus", 48000, 2, TransportCC, false, "minptime=10;useinbandfec=1"})
 	is(t, must[[]Outcome](t)(rows.Negotiate(twoSections(t))), []Outcome{{Accepted, NoType}, {Accepted, NoType}})
 	is(t, lockedTypes(t, rows), []uint8{109, 120, 121, 99})
 	refused := must[[]Outcome](t)(config(t).Negotiate(text(t, "data", "made-type-demanded-twice.sdp")))
@@ -232,7 +232,6 @@ func TestAnswer(t *testing.T) {
 }
 
 func TestNames(t *testing.T) {
-	is(t, fmt.Sprint(CodecOpus, CodecAMRWB, CodecNull, Codec(99)), "opus AMR-WB null codec 99")
 	causes := []Outcome{{TypeTooLarge, 200}, {Exhausted, NoType}, {RoundMemory, NoType}, {77, NoType}}
 	wanted := "[payload type 200 is above 127 payload type ranges exhausted out of memory refused for the unknown cause 77]"
 	is(t, fmt.Sprint(causes), wanted)

@@ -45,6 +45,7 @@ static zax_status print(void *s, void *room, size_t cap, size_t *needed) { retur
 static zax_status mid(void *s, void *room, size_t cap, size_t *needed) { return zax_section_mid(s, 0, room, cap, needed); }
 static zax_status rows(void *s, void *room, size_t cap, size_t *needed) { return zax_rows(s, 0, room, cap, needed); }
 static zax_status fmtp(void *s, void *room, size_t cap, size_t *needed) { return zax_row_fmtp(s, 0, 0, room, cap, needed); }
+static zax_status codec(void *s, void *room, size_t cap, size_t *needed) { return zax_row_codec(s, 0, 0, room, cap, needed); }
 static zax_status json(void *s, void *room, size_t cap, size_t *needed) { return zax_json(s, room, cap, needed); }
 static zax_status ufrag(void *s, void *room, size_t cap, size_t *needed) { return zax_ice_ufrag(s, room, cap, needed); }
 static zax_status pwd(void *s, void *room, size_t cap, size_t *needed) { return zax_ice_pwd(s, room, cap, needed); }
@@ -53,6 +54,7 @@ static zax_status second(void *s, void *room, size_t cap, size_t *needed) { retu
 static zax_status findings(void *s, void *room, size_t cap, size_t *needed) { return zax_findings(s, s ? length : 1, room, cap, needed); }
 static zax_status held(void *c, void *room, size_t cap, size_t *needed) { return zax_config_rows(c, room, cap, needed); }
 static zax_status held_fmtp(void *c, void *room, size_t cap, size_t *needed) { return zax_config_row_fmtp(c, 0, room, cap, needed); }
+static zax_status held_codec(void *c, void *room, size_t cap, size_t *needed) { return zax_config_row_codec(c, 0, room, cap, needed); }
 
 /* How many of the bytes aren't the canary any more. */
 static size_t changed(const uint8_t *from, size_t count)
@@ -184,7 +186,10 @@ static void rounds(zax_session *own)
     }
     rooms(held, config, sizeof(zax_row));
     rooms(held_fmtp, config, 1);
+    rooms(held_codec, config, 1);
     IS(zax_config_row_fmtp(config, (size_t)-1, NULL, 0, &got), ZAX_E_SECTION);
+    IS(zax_config_row_codec(config, (size_t)-1, NULL, 0, &got), ZAX_E_SECTION);
+    IS(zax_config_row_codec(NULL, 0, NULL, 0, &got), ZAX_E_ARGUMENT);
     IS(zax_answer(config, own, 0), ZAX_OK);
     IS(zax_answer(config, own, 77), ZAX_E_SECTION);
     IS(zax_answer(config, NULL, 0), ZAX_E_ARGUMENT);
@@ -267,6 +272,7 @@ int main(int count, char **words)
     rooms(mid, session, 1);
     rooms(rows, session, sizeof(zax_row));
     rooms(fmtp, session, 1);
+    rooms(codec, session, 1);
     rooms(json, session, 1);
     rooms(ufrag, session, 1);
     rooms(pwd, session, 1);
@@ -283,6 +289,9 @@ int main(int count, char **words)
     IS(zax_rows(session, (size_t)-1, &one, 1, &got), ZAX_E_SECTION);
     IS(zax_row_fmtp(session, 0, 1000, NULL, 0, &got), ZAX_E_SECTION);
     IS(zax_row_fmtp(session, 99, 0, NULL, 0, &got), ZAX_E_SECTION);
+    IS(zax_row_codec(session, 0, 1000, NULL, 0, &got), ZAX_E_SECTION);
+    IS(zax_row_codec(session, 99, 0, NULL, 0, &got), ZAX_E_SECTION);
+    IS(zax_row_codec(NULL, 0, 0, NULL, 0, &got), ZAX_E_ARGUMENT);
     IS(zax_section_mid(session, 99, NULL, 0, &got), ZAX_E_SECTION);
     rounds(session);
     zax_session_free(session);

@@ -63,6 +63,7 @@ static int run(void)
     if (status)
         goto end;
     ASKS(session, zax_rows(session, 0, rows, 128, &count));
+    ASKS(session, zax_row_codec(session, 0, 0, room, sizeof room, &count));
     ASKS(session, zax_row_fmtp(session, 0, 0, room, sizeof room, &count));
     ASKS(session, zax_section_mid(session, 0, room, sizeof room, &count));
     ASKS(session, zax_json(session, room, sizeof room, &count));
@@ -92,6 +93,8 @@ static int run(void)
     if (status)
         goto end;
     status = zax_config_rows(config, rows, 128, &count);
+    if (!status)
+        status = zax_config_row_codec(config, 0, room, sizeof room, &count);
     if (!status)
         status = zax_config_row_fmtp(config, 0, room, sizeof room, &count);
     if (status)

@@ -5,11 +5,8 @@
 #include <stdlib.h>
 #include <string.h>
 
-static char text[1 << 20], room[1 << 20];
+static char text[1 << 20], room[1 << 20], codec[64];
 static zax_row rows[4096];
-
-static const char *const codecs[] = {"unknown", "opus", "PCMU", "PCMA", "G722", "CN",  "AMR-WB",          "H264", "H265",
-                                     "H266",    "VP8",  "VP9",  "AV1",  "telephone-event", "rtx", "red", "null"};
 
 static void must(zax_status status)
 {
@@ -27,15 +24,16 @@ static void show_type(uint8_t pt)
         printf(" %d", pt);
 }
 
-static void show_row(const zax_row *row, const char *fmtp, size_t length)
+/* A row, whose codec stands in `codec` and whose format in `room`. */
+static void show_row(const zax_row *row, size_t codec_length, size_t length)
 {
     printf(" %d", row->pt);
     show_type(row->rtx);
     show_type(row->red);
-    printf(" %s/%u", codecs[row->codec], row->clock_rate);
+    printf(" %.*s/%u", (int)codec_length, codec, row->clock_rate);
     if (row->channels)
         printf("/%d", row->channels);
-    printf(" %.*s\n", length ? (int)length : 1, length ? fmtp : "-");
+    printf(" %.*s\n", length ? (int)length : 1, length ? room : "-");
 }
 
 static void show_rows(zax_session *session)
@@ -46,10 +44,11 @@ static void show_rows(zax_session *session)
         must(zax_section_mid(session, at, mid, sizeof mid, &length));
         must(zax_rows(session, at, rows, 4096, &count));
         for (size_t i = 0; i < count; i++) {
-            size_t said;
+            size_t named, said;
+            must(zax_row_codec(session, at, i, codec, sizeof codec, &named));
             must(zax_row_fmtp(session, at, i, room, sizeof room, &said));
             printf("%.*s", length ? (int)length : 1, length ? mid : "-");
-            show_row(&rows[i], room, said);
+            show_row(&rows[i], named, said);
         }
     }
 }
@@ -113,10 +112,11 @@ static int negotiate(size_t length)
             printf("round %zu refused: %s\n", i + 1, cause_of(&outcomes[i]));
     must(zax_config_rows(config, rows, 4096, &count));
     for (size_t i = 0; i < count; i++) {
-        size_t said;
+        size_t named, said;
+        must(zax_config_row_codec(config, i, codec, sizeof codec, &named));
         must(zax_config_row_fmtp(config, i, room, sizeof room, &said));
         printf("%s", rows[i].locked ? "locked" : "open");
-        show_row(&rows[i], room, said);
+        show_row(&rows[i], named, said);
     }
     zax_config_free(config);
     return 0;

@@ -12,7 +12,7 @@ def show(offer):
         mid = offer.mid(section)
         for row in offer.rows(section):
             lead = ", " if row.fmtp else ""
-            print(f"mid {mid}: payload type {row.pt}, codec {row.codec.value} at {row.clock_rate} Hz{lead}{row.fmtp}")
+            print(f"mid {mid}: payload type {row.pt}, {row.name} at {row.clock_rate} Hz{lead}{row.fmtp}")
 
 
 def main(words):

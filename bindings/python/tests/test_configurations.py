@@ -38,7 +38,7 @@ class Rounds(unittest.TestCase):
     def test_default_rows_are_open(self):
         rows = Configuration.defaults().rows()
         self.assertEqual([row.locked for row in rows], [False] * 13)
-        opus = Row(111, None, None, Codec.OPUS, 48000, 2, Feedback.TRANSPORT_CC, False, "minptime=10;useinbandfec=1")
+        opus = Row(111, None, None, Codec.OPUS, "opus", 48000, 2, Feedback.TRANSPORT_CC, False, "minptime=10;useinbandfec=1")
         self.assertEqual((rows[0], rows[1].pt, rows[1].rtx, rows[1].codec), (opus, 96, 97, Codec.VP8))
 
     def test_a_round_for_each_section(self):

@@ -9,7 +9,7 @@ from zaxmonth import Configuration, Error, SessionDescription
 
 def columns(row):
     types = (row.pt, row.rtx, row.red)
-    codec = f"{row.codec}/{row.clock_rate}" + (f"/{row.channels}" if row.channels else "")
+    codec = f"{row.name}/{row.clock_rate}" + (f"/{row.channels}" if row.channels else "")
     return " ".join(["-" if it is None else str(it) for it in types] + [codec, row.fmtp or "-"])
 
 

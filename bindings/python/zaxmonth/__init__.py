@@ -4,7 +4,7 @@
 
     with SessionDescription.read(text) as offer:
         for row in offer.rows(0):
-            print(row.pt, row.codec, row.fmtp)
+            print(row.pt, row.name, row.fmtp)
 
     with Exchange(OwnSide(ice_ufrag, ice_pwd, fingerprint), Configuration()) as exchange:
         print(exchange.accept_offer(text))

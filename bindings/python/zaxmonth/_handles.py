@@ -110,10 +110,11 @@ class _Handle:
             room, length = self._filled(call, c_char, _LETTERS, *places)
         return ctypes.string_at(room, length).decode()
 
-    def _rows(self, call: Callable[..., int], fmtp: Callable[..., int], *places: int) -> List[Row]:
+    def _rows(self, call: Callable[..., int], texts: Tuple[Callable[..., int], ...], *places: int) -> List[Row]:
+        """The rows that a call writes, with the texts of each that others write: the name of its codec, its format."""
         with self._lock:
             room, count = self._filled(call, RawRow, _ROWS, *places)
-            return [Row._of(room[i], self._text(fmtp, *places, i)) for i in range(count)]
+            return [Row._of(room[i], *(self._text(text, *places, i) for text in texts)) for i in range(count)]
 
 
 class SessionDescription(_Handle):
@@ -161,7 +162,7 @@ class SessionDescription(_Handle):
 
     def rows(self, section: SupportsIndex) -> List[Row]:
         """The rows of a section. Raises SectionError."""
-        return self._rows(library.zax_rows, library.zax_row_fmtp, _index(section))
+        return self._rows(library.zax_rows, (library.zax_row_codec, library.zax_row_fmtp), _index(section))
 
     def json(self) -> Dict[str, Any]:
         """The description as the library's JSON has it."""
@@ -196,7 +197,7 @@ class Configuration(_Handle):
 
     def rows(self) -> List[Row]:
         """All rows."""
-        return self._rows(library.zax_config_rows, library.zax_config_row_fmtp)
+        return self._rows(library.zax_config_rows, (library.zax_config_row_codec, library.zax_config_row_fmtp))
 
     def answer(self, own: SessionDescription, section: SupportsIndex) -> None:
         """Puts the locked rows of its kind into a section of one's own description. Raises NothingAgreed or SectionError."""

@@ -9,39 +9,29 @@ from ._library import NO_TYPE, RawOutcome, RawRow
 
 
 class Codec(enum.Enum):
-    """A codec. `value` is its number in zaxmonth.h, `str` its name in an rtpmap line. A number that isn't known here is UNKNOWN."""
+    """A codec by its number in zaxmonth.h; `Row.name` has its name. UNKNOWN is one that isn't known here, or has no number."""
 
-    label: str
-
-    UNKNOWN = 0, "unknown"
-    OPUS = 1, "opus"
-    PCMU = 2, "PCMU"
-    PCMA = 3, "PCMA"
-    G722 = 4, "G722"
-    CN = 5, "CN"
-    AMR_WB = 6, "AMR-WB"
-    H264 = 7, "H264"
-    H265 = 8, "H265"
-    H266 = 9, "H266"
-    VP8 = 10, "VP8"
-    VP9 = 11, "VP9"
-    AV1 = 12, "AV1"
-    TELEPHONE_EVENT = 13, "telephone-event"
-    RTX = 14, "rtx"
-    RED = 15, "red"
-    NULL = 16, "null"
-
-    def __new__(cls, number: int, label: str) -> Codec:
-        made = object.__new__(cls)
-        made._value_, made.label = number, label
-        return made
+    UNKNOWN = 0
+    OPUS = 1
+    PCMU = 2
+    PCMA = 3
+    G722 = 4
+    CN = 5
+    AMR_WB = 6
+    H264 = 7
+    H265 = 8
+    H266 = 9
+    VP8 = 10
+    VP9 = 11
+    AV1 = 12
+    TELEPHONE_EVENT = 13
+    RTX = 14
+    RED = 15
+    NULL = 16
 
     @classmethod
     def _missing_(cls, value: object) -> Optional[Codec]:
         return cls.UNKNOWN if isinstance(value, int) else None
-
-    def __str__(self) -> str:
-        return self.label
 
 
 class Feedback(enum.IntFlag):
@@ -81,6 +71,7 @@ class Row:
     rtx: Optional[int]  # the payload type of retransmissions
     red: Optional[int]  # the payload type of RED
     codec: Codec
+    name: str  # the name of the codec, as an rtpmap line has it
     clock_rate: int  # at which the codec samples, in Hz
     channels: Optional[int]  # None: not said
     feedback: Feedback
@@ -88,9 +79,10 @@ class Row:
     fmtp: str  # what its format says, as an fmtp line has it; empty where it says nothing
 
     @classmethod
-    def _of(cls, raw: RawRow, fmtp: str) -> Row:
+    def _of(cls, raw: RawRow, name: str, fmtp: str) -> Row:
         types = (raw.pt, _type(raw.rtx), _type(raw.red))
-        return cls(*types, Codec(raw.codec), raw.clock_rate, raw.channels or None, Feedback(raw.feedback), bool(raw.locked), fmtp)
+        codec = (Codec(raw.codec), name, raw.clock_rate, raw.channels or None)
+        return cls(*types, *codec, Feedback(raw.feedback), bool(raw.locked), fmtp)
 
 
 @dataclass(frozen=True)

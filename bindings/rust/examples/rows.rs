@@ -5,9 +5,9 @@ fn main() -> Result<(), Box<dyn std::error::Error>> {
     for section in 0..offer.sections() {
         let mid = offer.mid(section)?;
         for (i, row) in offer.rtp_params(section)?.iter().enumerate() {
-            let fmtp = offer.fmtp(section, i)?;
+            let (codec, fmtp) = (offer.codec(section, i)?, offer.fmtp(section, i)?);
             let lead = if fmtp.is_empty() { "" } else { ", " };
-            println!("mid {mid}: payload type {}, codec {} at {} Hz{lead}{fmtp}", row.pt, row.codec, row.clock_rate);
+            println!("mid {mid}: payload type {}, {codec} at {} Hz{lead}{fmtp}", row.pt, row.clock_rate);
         }
     }
     Ok(())

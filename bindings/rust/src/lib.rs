@@ -150,6 +150,11 @@ impl Sdp {
         filled(|room, cap, needed| unsafe { raw::zax_rows(self.0.as_ptr(), section, room, cap, needed) })
     }
 
+    /// The name of the codec of a row, as an rtpmap line has it.
+    pub fn codec(&self, section: usize, row: usize) -> Result<String, SdpError> {
+        filled(|room, cap, needed| unsafe { raw::zax_row_codec(self.0.as_ptr(), section, row, room, cap, needed) }).map(text_of)
+    }
+
     /// What the format of a row says, as an fmtp line has it.
     pub fn fmtp(&self, section: usize, row: usize) -> Result<String, SdpError> {
         filled(|room, cap, needed| unsafe { raw::zax_row_fmtp(self.0.as_ptr(), section, row, room, cap, needed) }).map(text_of)

@@ -1,6 +1,7 @@
 -- What calls find in what a handle owns; nothing where there is no such section or row.
 use Rattle.std.specs.Prelude.{ℕ, List, Option, map, option_and_then, option_map}
 use Rattle.std.specs.List.{slice_get}
+use Rattle.str0m_formats.specs.Codec.{codec_text}
 use Rattle.str0m_formats.specs.FormatParams.{params_text}
 use Rattle.str0m_formats.specs.declared.payload_params.PayloadParams.{PayloadParams}
 use Rattle.str0m_sdp.specs.SectionRows.{rows}
@@ -11,6 +12,8 @@ use Rattle.c_parts.specs.Section.{c_section}
 use Rattle.c_parts.specs.declared.row.Row.{Row}
 use Rattle.c_parts.specs.declared.section.Section.{Section}
 use Rattle.c_calls.specs.Mid.{mid_text}
+use Rattle.c_calls.specs.declared.row_calls.RowText.{RowText}
+use Rattle.c_calls.specs.declared.row_calls.RowText.TheVariants.{Codec, Format}
 
 -- the mid of a section
 abbrev pub mid_at : Sdp → ℕ → Option (List ℕ)
@@ -24,10 +27,15 @@ section_at sdp at = option_map c_section (slice_get sdp.media_lines at)
 abbrev pub rows_at : Sdp → ℕ → Option (List Row)
 rows_at sdp at = option_map (λ (section : MediaLine). map c_row (rows section)) (slice_get sdp.media_lines at)
 
--- the format of a row among these
-abbrev pub format_in : List PayloadParams → ℕ → Option (List ℕ)
-format_in rows row = option_map (λ (found : PayloadParams). params_text found.spec.format) (slice_get rows row)
+-- what is printed of a row: the name of its codec, or its format
+abbrev pub row_text : RowText → PayloadParams → List ℕ
+row_text Codec row = codec_text row.spec.codec
+row_text Format row = params_text row.spec.format
 
--- the format of a row of a section
-abbrev pub format_at : Sdp → ℕ → ℕ → Option (List ℕ)
-format_at sdp at row = option_and_then (λ (section : MediaLine). format_in (rows section) row) (slice_get sdp.media_lines at)
+-- that of a row among these
+abbrev pub text_in : RowText → List PayloadParams → ℕ → Option (List ℕ)
+text_in what rows row = option_map (row_text what) (slice_get rows row)
+
+-- that of a row of a section
+abbrev pub text_at : RowText → Sdp → ℕ → ℕ → Option (List ℕ)
+text_at what sdp at row = option_and_then (λ (section : MediaLine). text_in what (rows section) row) (slice_get sdp.media_lines at)

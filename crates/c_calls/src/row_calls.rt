@@ -1,9 +1,10 @@
 //! Calls of rows, of a section and of a configuration.
 
-ghost use Rattle.std.specs.Prelude.{◌≡◌, Some, map};
+ghost use Rattle.std.specs.Prelude.{◌≡◌, IfOk, Some, map, string_bytes};
 ghost use Rattle.c_parts.specs.Full.{IsFull};
 ghost use Rattle.c_parts.specs.Row.{c_row};
-ghost use Rattle.c_calls.specs.Found.{format_at, format_in, rows_at};
+ghost use Rattle.c_calls.specs.Found.{row_text, rows_at, text_at, text_in};
+ghost use Rattle.c_calls.specs.declared.row_calls.RowText.TheVariants.{Codec, Format};
 ghost use Rattle.c_calls.specs.Held.{Of};
 ghost use Rattle.c_calls.specs.Says.{Says};
 ghost use Rattle.str0m_sdp.specs.SectionRows.{rows};
@@ -12,8 +13,17 @@ use crate::said::{NO_MEMORY, NO_SECTION, put, put_made};
 use c_parts::config_handle::ConfigHandle;
 use c_parts::row::{Row, rows_of};
 use c_parts::session_handle::SessionHandle;
-use std::alloc::Global;
+use std::alloc::{AllocError, Global};
 use str0m_signal::{MediaLine, PayloadParams, Sdp};
+
+/// What a call prints of a row.
+#[derive(Clone, Copy)]
+pub(crate) enum RowText {
+    /// The name of its codec, as an rtpmap line has it.
+    Codec,
+    /// Its format, as an fmtp line has it.
+    Format,
+}
 
 pub(crate) fn put_rows(
     alloc: Global,
@@ -29,17 +39,28 @@ pub(crate) fn put_rows(
     }
 }
 
-pub(crate) fn put_format(
+fn printed(alloc: Global, row: &PayloadParams, what: RowText) -> Result<String, AllocError>
+    ensures { IfOk result (λ text. string_bytes text ≡ row_text what row.now) }
+{
+    let spec = row.spec();
+    match what {
+        RowText::Codec => spec.codec.to_string(alloc),
+        RowText::Format => spec.format.to_string(alloc),
+    }
+}
+
+pub(crate) fn put_text(
     alloc: Global,
     rows: &[PayloadParams],
     row: usize,
+    what: RowText,
     room: &mut [u8],
     needed: &mut usize,
 ) -> u32
-    ensures { Says (format_in rows.now row) (room.old, needed.old) (result, room.new, needed.new) }
+    ensures { Says (text_in what rows.now row) (room.old, needed.old) (result, room.new, needed.new) }
 {
     match rows.get(row) {
-        Some(found) => put_made(found.spec().format.to_string(alloc), room, needed),
+        Some(found) => put_made(printed(alloc, found, what), room, needed),
         None => NO_SECTION,
     }
 }
@@ -81,35 +102,57 @@ pub extern "C" fn zaxp_session_rows(
     code
 }
 
-fn put_section_format(
+fn put_section_text(
     alloc: Global,
     section: &MediaLine,
     row: usize,
+    what: RowText,
     room: &mut [u8],
     needed: &mut usize,
 ) -> u32
-    ensures { Says (format_in (rows section.now) row) (room.old, needed.old) (result, room.new, needed.new) }
+    ensures { Says (text_in what (rows section.now) row) (room.old, needed.old) (result, room.new, needed.new) }
 {
     match section.rtp_params() {
-        Ok(found) => put_format(alloc, found.as_slice(), row, room, needed),
+        Ok(found) => put_text(alloc, found.as_slice(), row, what, room, needed),
         Err(_) => NO_MEMORY,
     }
 }
 
-fn put_format_at(
+fn put_text_at(
     alloc: Global,
     sdp: &Sdp,
+    at: usize,
+    row: usize,
+    what: RowText,
+    room: &mut [u8],
+    needed: &mut usize,
+) -> u32
+    ensures { Says (text_at what sdp.now at row) (room.old, needed.old) (result, room.new, needed.new) }
+{
+    match sdp.media_lines.get(at) {
+        Some(section) => put_section_text(alloc, section, row, what, room, needed),
+        None => NO_SECTION,
+    }
+}
+
+/// The name of the codec of a row of a section, as an rtpmap line has it.
+#[unsafe(no_mangle)]
+pub extern "C" fn zaxp_session_codec(
+    alloc: Global,
+    handle: &mut SessionHandle,
     at: usize,
     row: usize,
     room: &mut [u8],
     needed: &mut usize,
 ) -> u32
-    ensures { Says (format_at sdp.now at row) (room.old, needed.old) (result, room.new, needed.new) }
+    requires { IsFull handle.old.inner }
+    ensures same { handle.new.inner ≡ handle.old.inner }
+    ensures says { Of handle.old.inner (λ sdp. Says (text_at Codec sdp at row) (room.old, needed.old) (result, room.new, needed.new)) }
 {
-    match sdp.media_lines.get(at) {
-        Some(section) => put_section_format(alloc, section, row, room, needed),
-        None => NO_SECTION,
-    }
+    let sdp = handle.take(alloc);
+    let code = put_text_at(alloc, &sdp, at, row, RowText::Codec, room, needed);
+    handle.put(sdp);
+    code
 }
 
 /// The format of a row of a section, as an fmtp line says it.
@@ -124,10 +167,10 @@ pub extern "C" fn zaxp_session_format(
 ) -> u32
     requires { IsFull handle.old.inner }
     ensures same { handle.new.inner ≡ handle.old.inner }
-    ensures says { Of handle.old.inner (λ sdp. Says (format_at sdp at row) (room.old, needed.old) (result, room.new, needed.new)) }
+    ensures says { Of handle.old.inner (λ sdp. Says (text_at Format sdp at row) (room.old, needed.old) (result, room.new, needed.new)) }
 {
     let sdp = handle.take(alloc);
-    let code = put_format_at(alloc, &sdp, at, row, room, needed);
+    let code = put_text_at(alloc, &sdp, at, row, RowText::Format, room, needed);
     handle.put(sdp);
     code
 }
@@ -150,6 +193,25 @@ pub extern "C" fn zaxp_config_rows(
     code
 }
 
+/// The name of the codec of a row of a configuration.
+#[unsafe(no_mangle)]
+pub extern "C" fn zaxp_config_codec(
+    alloc: Global,
+    handle: &mut ConfigHandle,
+    row: usize,
+    room: &mut [u8],
+    needed: &mut usize,
+) -> u32
+    requires { IsFull handle.old.inner }
+    ensures same { handle.new.inner ≡ handle.old.inner }
+    ensures says { Of handle.old.inner (λ config. Says (text_in Codec config.params.items row) (room.old, needed.old) (result, room.new, needed.new)) }
+{
+    let config = handle.take(alloc);
+    let code = put_text(alloc, config.params(), row, RowText::Codec, room, needed);
+    handle.put(config);
+    code
+}
+
 /// The format of a row of a configuration.
 #[unsafe(no_mangle)]
 pub extern "C" fn zaxp_config_format(
@@ -161,10 +223,10 @@ pub extern "C" fn zaxp_config_format(
 ) -> u32
     requires { IsFull handle.old.inner }
     ensures same { handle.new.inner ≡ handle.old.inner }
-    ensures says { Of handle.old.inner (λ config. Says (format_in config.params.items row) (room.old, needed.old) (result, room.new, needed.new)) }
+    ensures says { Of handle.old.inner (λ config. Says (text_in Format config.params.items row) (room.old, needed.old) (result, room.new, needed.new)) }
 {
     let config = handle.take(alloc);
-    let code = put_format(alloc, config.params(), row, room, needed);
+    let code = put_text(alloc, config.params(), row, RowText::Format, room, needed);
     handle.put(config);
     code
 }

@@ -2,15 +2,14 @@
 use Rattle.std.specs.Prelude.{ℕ, ◌+◌, Bool, true, false, Option, Some, None, Ok, Err}
 use Rattle.str0m_formats.specs.Runs.{Outcome as RoundOutcome}
 use Rattle.str0m_formats.specs.declared.codec.Codec.{Codec}
-use Rattle.str0m_formats.specs.declared.codec.Codec.TheVariants.{Opus, PCMU, PCMA, G722, CN, AmrWb, H264, H265, H266, Vp8, Vp9, Av1, Tele, Rtx, Red, Null, Unknown}
+use Rattle.str0m_formats.specs.declared.codec.Codec.TheVariants.{Opus, PCMU, PCMA, G722, CN, AmrWb, H264, H265, H266, Vp8, Vp9, Av1, Tele, Rtx, Red, Null}
 use Rattle.str0m_formats.specs.declared.negotiation_error.NegotiationError.TheVariants.{TypeTooLarge, ClaimedTwice, Exhausted, Memory}
 use Rattle.str0m_formats.specs.declared.payload_params.PayloadParams.{PayloadParams}
 use Rattle.c_parts.specs.declared.row.Outcome.{Outcome}
 use Rattle.c_parts.specs.declared.row.Row.{Row}
 
--- the number of a codec (`zax_codec`)
+-- the number of a codec (`zax_codec`): 0 of one that isn't known, and of one that the header has no number for
 abbrev pub codec_number : Codec → ℕ
-codec_number Unknown = 0
 codec_number Opus = 1
 codec_number PCMU = 2
 codec_number PCMA = 3
@@ -27,6 +26,7 @@ codec_number Tele = 13
 codec_number Rtx = 14
 codec_number Red = 15
 codec_number Null = 16
+codec_number other = 0
 
 -- a number that may not be there, and what stands in its place then
 abbrev pub number_or : ℕ → Option ℕ → ℕ

@@ -47,11 +47,11 @@ fn or_zero(channels: Option<u8>) -> u8
     }
 }
 
+/// The number that the header has for a codec; 0 where it has none.
 fn code_of(codec: Codec) -> u8
     ensures { result ≡ codec_number codec }
 {
     match codec {
-        Codec::Unknown => 0,
         Codec::Opus => 1,
         Codec::PCMU => 2,
         Codec::PCMA => 3,
@@ -68,6 +68,7 @@ fn code_of(codec: Codec) -> u8
         Codec::Rtx => 14,
         Codec::Red => 15,
         Codec::Null => 16,
+        _ => 0,
     }
 }
 

@@ -44,7 +44,7 @@ func showSection(offer *zaxmonth.Session, section int) error {
 		if row.Fmtp != "" {
 			lead = ", "
 		}
-		fmt.Printf("mid %s: payload type %d, codec %d at %d Hz%s%s\n", mid, row.PT, uint8(row.Codec), row.ClockRate, lead, row.Fmtp)
+		fmt.Printf("mid %s: payload type %d, %s at %d Hz%s%s\n", mid, row.PT, row.Name, row.ClockRate, lead, row.Fmtp)
 	}
 	return nil
 }

@@ -29,7 +29,7 @@ func orDash(text string) string {
 }
 
 func columns(row zaxmonth.Row) string {
-	codec := fmt.Sprintf("%v/%d", row.Codec, row.ClockRate)
+	codec := fmt.Sprintf("%s/%d", row.Name, row.ClockRate)
 	if row.Channels != 0 {
 		codec += fmt.Sprintf("/%d", row.Channels)
 	}
