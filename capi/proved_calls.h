@@ -69,6 +69,7 @@ uint32_t zaxp_exchange_restart_ice(struct handle *handle, const uint8_t *ufrag, 
                                    size_t pwd_length);
 uint32_t zaxp_session_print_version(struct handle *handle, uint64_t version, uint8_t *room, size_t room_cap, size_t *needed);
 uint32_t zaxp_exchange_rows(struct handle *handle, zax_row *room, size_t room_cap, size_t *needed);
+uint32_t zaxp_exchange_codec(struct handle *handle, size_t row, uint8_t *room, size_t room_cap, size_t *needed);
 uint32_t zaxp_exchange_format(struct handle *handle, size_t row, uint8_t *room, size_t room_cap, size_t *needed);
 uint32_t zaxp_exchange_state(struct handle *handle);
 

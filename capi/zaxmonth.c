@@ -505,6 +505,12 @@ zax_status zax_exchange_rows(zax_exchange *exchange, zax_row *room, size_t cap, 
     return (zax_status)zaxp_exchange_rows(&exchange->handle, ROOM(zax_row, room, cap), cap, needed);
 }
 
+zax_status zax_exchange_row_codec(zax_exchange *exchange, size_t row, char *room, size_t cap, size_t *needed)
+{
+    BEGIN(exchange, room, cap, needed);
+    return (zax_status)zaxp_exchange_codec(&exchange->handle, row, ROOM(uint8_t, room, cap), cap, needed);
+}
+
 zax_status zax_exchange_row_fmtp(zax_exchange *exchange, size_t row, char *room, size_t cap, size_t *needed)
 {
     BEGIN(exchange, room, cap, needed);

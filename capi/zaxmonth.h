@@ -198,6 +198,7 @@ ZAX_API zax_status zax_restart_ice(zax_exchange *exchange, zax_slice ufrag, zax_
 ZAX_API zax_status zax_print_version(zax_session *session, uint64_t version, char *room, size_t cap, size_t *needed);
 /* The rows of its configuration, each with whether it is locked. */
 ZAX_API zax_status zax_exchange_rows(zax_exchange *exchange, zax_row *room, size_t cap, size_t *needed);
+ZAX_API zax_status zax_exchange_row_codec(zax_exchange *exchange, size_t row, char *room, size_t cap, size_t *needed);
 ZAX_API zax_status zax_exchange_row_fmtp(zax_exchange *exchange, size_t row, char *room, size_t cap, size_t *needed);
 /* Whether an offer of this side waits for its answer: ZAX_STABLE or ZAX_HAVE_LOCAL_OFFER. */
 ZAX_API zax_status zax_exchange_state(zax_exchange *exchange, uint32_t *state);

@@ -263,6 +263,11 @@ class Exchange {
         return detail::filled<std::vector<zax_row>>(
             [&](zax_row *room, size_t cap, size_t *needed) { return zax_exchange_rows(get(), room, cap, needed); });
     }
+    std::string codec(size_t row) const
+    {
+        return detail::filled<std::string>(
+            [&](char *room, size_t cap, size_t *needed) { return zax_exchange_row_codec(get(), row, room, cap, needed); });
+    }
     std::string fmtp(size_t row) const
     {
         return detail::filled<std::string>(

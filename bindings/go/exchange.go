@@ -167,6 +167,9 @@ func (e *Exchange) Rows() (rows []Row, err error) {
 				return C.zax_exchange_rows(it, room, size, needed)
 			},
 			func(row C.size_t, room *C.char, size C.size_t, needed *C.size_t) C.zax_status {
+				return C.zax_exchange_row_codec(it, row, room, size, needed)
+			},
+			func(row C.size_t, room *C.char, size C.size_t, needed *C.size_t) C.zax_status {
 				return C.zax_exchange_row_fmtp(it, row, room, size, needed)
 			})
 		return err

@@ -221,6 +221,11 @@ static void rooms(zax_exchange *exchange, zax_session *session)
     IS(zax_exchange_rows(exchange, rows, needed, &got), ZAX_OK);
     IS(got, needed);
     IS(zax_exchange_rows(NULL, rows, 128, &got), ZAX_E_ARGUMENT);
+    IS(zax_exchange_row_codec(exchange, 0, printed, 4, &needed), ZAX_OK);
+    IS(needed == 4 && !memcmp(printed, "opus", 4), 1);
+    IS(zax_exchange_row_codec(exchange, 0, printed, 3, &needed), ZAX_E_ROOM);
+    IS(zax_exchange_row_codec(exchange, 128, printed, 9, &got), ZAX_E_SECTION);
+    IS(zax_exchange_row_codec(NULL, 0, printed, 9, &got), ZAX_E_ARGUMENT);
     IS(zax_exchange_row_fmtp(exchange, 0, NULL, 0, &needed), ZAX_E_ROOM);
     memset(printed, 0x5a, needed + 1);
     IS(zax_exchange_row_fmtp(exchange, 0, printed, needed - 1, &got), ZAX_E_ROOM);
@@ -338,6 +343,7 @@ static void session_with_refusals(void)
     AGAIN(zax_accept_answer(here, printed, size, NULL));
     static zax_row rows[128];
     AGAIN(zax_exchange_rows(here, rows, 128, &size));
+    AGAIN(zax_exchange_row_codec(here, 0, printed, sizeof printed, &size));
     AGAIN(zax_exchange_row_fmtp(here, 0, printed, sizeof printed, &size));
 end:
     zax_session_free(answer);

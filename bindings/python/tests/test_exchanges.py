@@ -70,8 +70,8 @@ class Answers(unittest.TestCase):
         exchange = side()
         self.assertEqual([row.locked for row in exchange.rows()], [False] * 13)
         exchange.accept_offer(OFFER)
-        locked = [(row.pt, row.codec, row.fmtp) for row in exchange.rows() if row.locked]
-        self.assertEqual(locked, [(111, Codec.OPUS, "minptime=10;useinbandfec=1")])
+        locked = [(row.pt, row.codec, row.name, row.fmtp) for row in exchange.rows() if row.locked]
+        self.assertEqual(locked, [(111, Codec.OPUS, "opus", "minptime=10;useinbandfec=1")])
 
 
 class Offers(unittest.TestCase):

@@ -181,7 +181,7 @@ class Exchange(_Handle):
 
     def rows(self) -> List[Row]:
         """The rows of its configuration."""
-        return self._rows(library.zax_exchange_rows, library.zax_exchange_row_fmtp)
+        return self._rows(library.zax_exchange_rows, (library.zax_exchange_row_codec, library.zax_exchange_row_fmtp))
 
     @property
     def state(self) -> SignalingState:

@@ -79,6 +79,7 @@ _CALLS = {
     "zax_restart_ice": (c_uint32, (_HANDLE, RawSlice, RawSlice)),
     "zax_print_version": (c_uint32, (_HANDLE, c_uint64, *_ROOM)),
     "zax_exchange_rows": (c_uint32, (_HANDLE, *_ROOM)),
+    "zax_exchange_row_codec": (c_uint32, (_HANDLE, _INDEX, *_ROOM)),
     "zax_exchange_row_fmtp": (c_uint32, (_HANDLE, _INDEX, *_ROOM)),
     "zax_exchange_state": (c_uint32, (_HANDLE, POINTER(c_uint32))),
 }

@@ -191,6 +191,11 @@ impl Exchange {
         filled(|room, cap, needed| unsafe { raw::zax_exchange_rows(self.0.as_ptr(), room, cap, needed) })
     }
 
+    /// The name of the codec of a row, as an rtpmap line has it.
+    pub fn codec(&self, row: usize) -> Result<String, SdpError> {
+        filled(|room, cap, needed| unsafe { raw::zax_exchange_row_codec(self.0.as_ptr(), row, room, cap, needed) }).map(text_of)
+    }
+
     /// What the format of a row says, as an fmtp line has it.
     pub fn fmtp(&self, row: usize) -> Result<String, SdpError> {
         filled(|room, cap, needed| unsafe { raw::zax_exchange_row_fmtp(self.0.as_ptr(), row, room, cap, needed) }).map(text_of)

@@ -85,6 +85,7 @@ extern "C" {
     pub fn zax_restart_ice(exchange: *mut Exchange, ufrag: Slice, pwd: Slice) -> u32;
     pub fn zax_print_version(session: *mut Session, version: u64, room: *mut u8, cap: usize, needed: *mut usize) -> u32;
     pub fn zax_exchange_rows(exchange: *mut Exchange, room: *mut crate::Row, cap: usize, needed: *mut usize) -> u32;
+    pub fn zax_exchange_row_codec(exchange: *mut Exchange, row: usize, room: *mut u8, cap: usize, needed: *mut usize) -> u32;
     pub fn zax_exchange_row_fmtp(exchange: *mut Exchange, row: usize, room: *mut u8, cap: usize, needed: *mut usize) -> u32;
     pub fn zax_exchange_state(exchange: *mut Exchange, state: *mut u32) -> u32;
 }

@@ -70,7 +70,7 @@ fn one_side_offers_and_the_other_answers() {
     assert_eq!(here.state(), SignalingState::Stable);
     let locked: Vec<u8> = here.params().unwrap().iter().filter(|row| row.locked == 1).map(|row| row.codec).collect();
     assert!(locked.contains(&1), "{locked:?}");
-    assert_eq!(here.fmtp(0).unwrap(), "minptime=10;useinbandfec=1");
+    assert_eq!((here.codec(0).unwrap(), here.fmtp(0).unwrap()), ("opus".to_owned(), "minptime=10;useinbandfec=1".to_owned()));
 }
 
 #[test]

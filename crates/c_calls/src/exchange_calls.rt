@@ -6,15 +6,16 @@ ghost use Rattle.c_parts.specs.Full.{IsFull};
 ghost use Rattle.c_parts.specs.Row.{c_row};
 ghost use Rattle.c_parts.specs.Side.{RefusesOwn, SaysOwn, own_texts};
 ghost use Rattle.c_calls.specs.Exchanged.{AcceptsOffer, Begins, Goes, state_number};
-ghost use Rattle.c_calls.specs.Found.{format_in};
+ghost use Rattle.c_calls.specs.Found.{text_in};
 ghost use Rattle.c_calls.specs.Held.{Of};
 ghost use Rattle.c_calls.specs.Says.{Says};
 ghost use Rattle.c_calls.specs.Status.{done};
+ghost use Rattle.c_calls.specs.declared.row_calls.RowText.TheVariants.{Codec, Format};
 ghost use Rattle.exchange.specs.Exchange.{RefusesOffer};
 ghost use Rattle.exchange.specs.Follows.{IsSound};
 ghost use Rattle.exchange.specs.State.{state_of};
 
-use crate::row_calls::{put_format, put_rows};
+use crate::row_calls::{RowText, put_rows, put_text};
 use crate::said::{DONE, NO_MEMORY};
 use crate::told::tell;
 use c_parts::config_handle::ConfigHandle;
@@ -213,6 +214,33 @@ pub extern "C" fn zaxp_exchange_rows(
     code
 }
 
+/// The name of the codec of a row of its configuration.
+#[unsafe(no_mangle)]
+pub extern "C" fn zaxp_exchange_codec(
+    alloc: Global,
+    handle: &mut ExchangeHandle,
+    row: usize,
+    room: &mut [u8],
+    needed: &mut usize,
+) -> u32
+    requires { IsFull handle.old.inner }
+    ensures same { handle.new.inner ≡ handle.old.inner }
+    ensures says { Of handle.old.inner (λ it.
+        Says (text_in Codec it.config.params.items row) (room.old, needed.old) (result, room.new, needed.new)) }
+{
+    let exchange = handle.take(alloc);
+    let code = put_text(
+        alloc,
+        exchange.config().params(),
+        row,
+        RowText::Codec,
+        room,
+        needed,
+    );
+    handle.put(exchange);
+    code
+}
+
 /// What the format of a row of its configuration says.
 #[unsafe(no_mangle)]
 pub extern "C" fn zaxp_exchange_format(
@@ -225,10 +253,17 @@ pub extern "C" fn zaxp_exchange_format(
     requires { IsFull handle.old.inner }
     ensures same { handle.new.inner ≡ handle.old.inner }
     ensures says { Of handle.old.inner (λ it.
-        Says (format_in it.config.params.items row) (room.old, needed.old) (result, room.new, needed.new)) }
+        Says (text_in Format it.config.params.items row) (room.old, needed.old) (result, room.new, needed.new)) }
 {
     let exchange = handle.take(alloc);
-    let code = put_format(alloc, exchange.config().params(), row, room, needed);
+    let code = put_text(
+        alloc,
+        exchange.config().params(),
+        row,
+        RowText::Format,
+        room,
+        needed,
+    );
     handle.put(exchange);
     code
 }
