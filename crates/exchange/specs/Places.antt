@@ -1,9 +1,13 @@
 -- The places of sections over several exchanges (RFC 3264, section 8; RFC 8829, section 5.2.2).
 use Rattle.std.specs.Prelude.{◌≡◌, ◌<◌, ◌≤◌, ◌⊎◌, ℕ, true, false, List, Option, Some, IfSome, IsSomeAnd, length}
+use Rattle.std.specs.Borrow.{Bor}
+use Rattle.std.specs.BTreeSet.{BTreeSet}
 use Rattle.std.specs.List.{slice_get}
+use Rattle.str0m_sdp.specs.OrderedMids.{Holds}
 use Rattle.str0m_sdp.specs.SessionConsistency.{is_listed}
 use Rattle.str0m_sdp.specs.declared.media_line.MediaLine.{MediaLine}
 use Rattle.str0m_sdp.specs.declared.session.Sdp.{Sdp}
+use Rattle.exchange.specs.InBundle.{bundle_names}
 use Rattle.exchange.specs.Stopped.{IsStoppedAt, name_of}
 
 -- ---- which places may have a new name
@@ -11,6 +15,10 @@ use Rattle.exchange.specs.Stopped.{IsStoppedAt, name_of}
 -- the place of a section of this side is over: it has port 0, or the other side has stopped its own
 abbrev pub IsOver : Option Sdp → ℕ → MediaLine → Type 0
 IsOver remote at mine = (mine.disabled ≡ true) ⊎ IsSomeAnd remote (λ sdp. IsStoppedAt sdp at)
+
+-- the names of the other side's first `BUNDLE` group in order, where it has said a description
+abbrev pub HoldsGroup : Option Sdp → BTreeSet (Bor (List ℕ)) → Type 0
+HoldsGroup remote group = IfSome remote (λ sdp. Holds group (bundle_names sdp))
 
 -- it is over, where it isn't behind the last
 abbrev pub IsFree : List MediaLine → Option Sdp → ℕ → Type 0
