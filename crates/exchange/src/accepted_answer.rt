@@ -79,7 +79,7 @@ impl Exchange {
     ///
     /// Nothing is changed by an error. `WrongState` where no offer is open; `NotRead` where the text describes no session;
     /// `Unread` where a line of it is left; `DoesNotFit` exactly where it breaks a rule, with the first section that breaks
-    /// one, and the first such rule; `Memory` where memory was refused.
+    /// one, and the first such rule in the order of `Rule`; `Memory` where memory was refused.
     #[tactic(auto, using(crate::proofs::FollowLaws::follows_self))]
     pub fn accept_answer(&mut self, answer: &str) -> Result<(), ExchangeError>
         ensures waiting { OnOk result (state_of self.old ≡ HaveLocalOffer) }
