@@ -66,11 +66,17 @@ pub(crate) fn candidate_lines(
     Ok(lines)
 }
 
+/// The most bytes that the id of a track has: a name has sixteen at most.
+const TRACK_ID: usize = 22;
+
 /// The id of the track that is sent in a section: no two sections may name the same.
 fn track_id(alloc: Global, mid: Mid) -> Result<Text, AllocError>
     ensures { IfOk result (λ id. id ≡ track_id mid) }
 {
-    Ok(Text::from(format!(in alloc; "track-{mid}")?))
+    let mut id = String::with_capacity(alloc, TRACK_ID)?;
+    id.push_str("track-")?;
+    id.push_str(mid.as_str())?;
+    Ok(Text::from(id))
 }
 
 /// The stream and the track, where this side sends.
