@@ -28,6 +28,7 @@ uint32_t zaxp_session_fingerprint(struct handle *handle, uint8_t *room, size_t r
 uint32_t zaxp_session_candidates(struct handle *handle, size_t *count);
 uint32_t zaxp_session_candidate(struct handle *handle, size_t index, uint8_t *room, size_t room_cap, size_t *needed);
 void zaxp_session_free(struct handle *handle);
+uint32_t zaxp_findings(const uint8_t *text, size_t text_length, uint8_t *room, size_t room_cap, size_t *needed);
 uint32_t zaxp_config_defaults(struct handle *handle);
 uint32_t zaxp_config_empty(struct handle *handle);
 uint32_t zaxp_config_enable(struct handle *handle, uint8_t codec, bool enabled, bool use_red);
@@ -40,5 +41,40 @@ uint32_t zaxp_config_codec(struct handle *handle, size_t row, uint8_t *room, siz
 uint32_t zaxp_config_format(struct handle *handle, size_t row, uint8_t *room, size_t room_cap, size_t *needed);
 uint32_t zaxp_config_answer(struct handle *handle, struct handle *own, size_t at);
 void zaxp_config_free(struct handle *handle);
+
+/* The numbers of zax_own. */
+struct own_numbers {
+    uint64_t session_id;
+    uint64_t max_message_size;
+    uint16_t sctp_port;
+    uint8_t has_channels;
+    uint8_t audio;
+    uint8_t video;
+    uint8_t receives_simulcast;
+};
+
+uint32_t zaxp_exchange_new(struct handle *handle, struct handle *config, const struct own_numbers *numbers, const uint8_t *ice_ufrag,
+                           size_t ice_ufrag_length, const uint8_t *ice_pwd, size_t ice_pwd_length, const uint8_t *fingerprint,
+                           size_t fingerprint_length, const uint8_t *stream_id, size_t stream_id_length, const zax_slice *extensions,
+                           size_t extensions_length, const zax_slice *candidates, size_t candidates_length, uint8_t *message,
+                           size_t message_cap, size_t *message_length);
+void zaxp_exchange_free(struct handle *handle);
+uint32_t zaxp_exchange_accept_offer(struct handle *handle, const uint8_t *offer, size_t offer_length, struct handle *answer,
+                                    uint64_t *version, size_t *line, uint8_t *message, size_t message_cap, size_t *message_length);
+uint32_t zaxp_exchange_create_offer(struct handle *handle, struct handle *offer, uint64_t *version, uint8_t *message,
+                                    size_t message_cap, size_t *message_length);
+uint32_t zaxp_exchange_accept_answer(struct handle *handle, const uint8_t *answer, size_t answer_length, size_t *line,
+                                     uint8_t *message, size_t message_cap, size_t *message_length);
+void zaxp_exchange_rollback(struct handle *handle);
+uint32_t zaxp_exchange_add_media(struct handle *handle, uint8_t kind, uint8_t direction, uint8_t *message, size_t message_cap,
+                                 size_t *message_length);
+uint32_t zaxp_exchange_add_channels(struct handle *handle, uint8_t *message, size_t message_cap, size_t *message_length);
+uint32_t zaxp_exchange_restart_ice(struct handle *handle, const uint8_t *ufrag, size_t ufrag_length, const uint8_t *pwd,
+                                   size_t pwd_length);
+uint32_t zaxp_session_print_version(struct handle *handle, uint64_t version, uint8_t *room, size_t room_cap, size_t *needed);
+uint32_t zaxp_exchange_rows(struct handle *handle, zax_row *room, size_t room_cap, size_t *needed);
+uint32_t zaxp_exchange_codec(struct handle *handle, size_t row, uint8_t *room, size_t room_cap, size_t *needed);
+uint32_t zaxp_exchange_format(struct handle *handle, size_t row, uint8_t *room, size_t room_cap, size_t *needed);
+uint32_t zaxp_exchange_state(struct handle *handle);
 
 #endif

@@ -220,6 +220,17 @@ zax_status zax_json(zax_session *session, char *room, size_t cap, size_t *needed
     return (zax_status)zaxp_session_json(&session->handle, ROOM(uint8_t, room, cap), cap, needed);
 }
 
+zax_status zax_findings(const char *text, size_t length, char *room, size_t cap, size_t *needed)
+{
+    size_t unasked;
+    if (!needed)
+        needed = &unasked;
+    *needed = 0;
+    if (!is_slice(text, length, 1) || !is_slice(room, cap, 1))
+        return ZAX_E_ARGUMENT;
+    return (zax_status)zaxp_findings(bytes(text, length), length, ROOM(uint8_t, room, cap), cap, needed);
+}
+
 static zax_status make_config(uint32_t (*fill)(struct handle *), zax_config **config)
 {
     if (!config)
@@ -309,4 +320,232 @@ zax_status zax_answer(zax_config *config, zax_session *own, size_t section)
     if (!config || !is_full(&config->handle) || !own || !is_full(&own->handle))
         return ZAX_E_ARGUMENT;
     return (zax_status)zaxp_config_answer(&config->handle, &own->handle, section);
+}
+
+/* ---- Exchanges of offers and answers */
+
+struct zax_exchange {
+    struct handle handle;
+};
+
+static int is_text(zax_slice text)
+{
+    return is_slice(text.at, text.length, 1);
+}
+
+/* Whether each text of a list has a place of its own. */
+static int are_texts(const zax_slice *texts, size_t count)
+{
+    if (!is_slice(texts, count, sizeof *texts))
+        return 0;
+    for (size_t i = 0; i < count; i++)
+        if (!texts[i].at || !is_text(texts[i]))
+            return 0;
+    return 1;
+}
+
+static int is_own(const zax_own *own)
+{
+    return own && is_text(own->ice_ufrag) && is_text(own->ice_pwd) && is_text(own->fingerprint) && is_text(own->stream_id) &&
+           are_texts(own->extensions, own->extension_count) && are_texts(own->candidates, own->candidate_count) &&
+           own->audio <= ZAX_INACTIVE && own->video <= ZAX_INACTIVE;
+}
+
+/* What a status says where there was no memory, or no room, for a message. */
+static const char *usual_message(uint32_t status)
+{
+    switch (status) {
+    case ZAX_E_PARSE: return "the text describes no session";
+    case ZAX_E_MEMORY: return "out of memory";
+    case ZAX_E_UNREAD: return "a line of the text fits nowhere";
+    default: return "the call is refused";
+    }
+}
+
+/* What is written where a call of an exchange is refused. */
+struct fault {
+    size_t line, length;
+    uint8_t message[MESSAGE_CAP];
+};
+
+static zax_status exchanged(zax_error *error, uint32_t status, const struct fault *fault)
+{
+    if (status == ZAX_OK)
+        return told(error, ZAX_OK, "");
+    told(error, status, usual_message(status));
+    if (error && fault->length > 0 && fault->length <= MESSAGE_CAP)
+        copy_message(error, fault->message, fault->length);
+    if (error)
+        error->line = fault->line < UINT32_MAX ? (uint32_t)fault->line : UINT32_MAX;
+    return (zax_status)status;
+}
+
+#define TEXT(text) bytes(text.at, text.length), text.length
+#define TEXTS(texts, count) (count ? texts : (const zax_slice *)nothing), count
+#define MESSAGE(fault) fault.message, sizeof fault.message, &fault.length
+
+static uint32_t exchange_of(struct handle *made, struct handle *config, const zax_own *own, struct fault *fault)
+{
+    struct own_numbers numbers = {own->session_id, own->max_message_size, own->sctp_port,         own->has_channels,
+                                  own->audio,      own->video,            own->receives_simulcast};
+    return zaxp_exchange_new(made, config, &numbers, TEXT(own->ice_ufrag), TEXT(own->ice_pwd), TEXT(own->fingerprint),
+                             TEXT(own->stream_id), TEXTS(own->extensions, own->extension_count),
+                             TEXTS(own->candidates, own->candidate_count), MESSAGE((*fault)));
+}
+
+zax_status zax_exchange_new(const zax_own *own, zax_config *config, zax_exchange **exchange, zax_error *error)
+{
+    struct fault fault;
+    fault.line = fault.length = 0;
+    if (!exchange)
+        return told(error, ZAX_E_ARGUMENT, "no place for the exchange");
+    *exchange = NULL;
+    if (!is_own(own) || !config || !is_full(&config->handle))
+        return told(error, ZAX_E_ARGUMENT, "no configuration, no text or no direction");
+    zax_exchange *made = calloc(1, sizeof *made);
+    if (!made)
+        return told(error, ZAX_E_MEMORY, "out of memory");
+    uint32_t status = exchange_of(&made->handle, &config->handle, own, &fault);
+    if (status == ZAX_OK) {
+        free(config);
+        *exchange = made;
+    } else {
+        free(made);
+    }
+    return exchanged(error, status, &fault);
+}
+
+void zax_exchange_free(zax_exchange *exchange)
+{
+    if (!exchange)
+        return;
+    if (is_full(&exchange->handle))
+        zaxp_exchange_free(&exchange->handle);
+    free(exchange);
+}
+
+static int is_exchange(const zax_exchange *exchange)
+{
+    return exchange && is_full(&exchange->handle);
+}
+
+/* Gives the handle of a description to the caller, or frees it where nothing was made. */
+static zax_status handed(zax_session *made, uint32_t status, const struct fault *fault, zax_session **session, zax_error *error)
+{
+    if (status == ZAX_OK)
+        *session = made;
+    else
+        free(made);
+    return exchanged(error, status, fault);
+}
+
+zax_status zax_accept_offer(zax_exchange *exchange, const char *offer, size_t length, zax_session **answer, uint64_t *version,
+                            zax_error *error)
+{
+    struct fault fault;
+    fault.line = fault.length = 0;
+    if (!answer || !version)
+        return told(error, ZAX_E_ARGUMENT, "no place for the answer");
+    *answer = NULL;
+    if (!is_exchange(exchange) || !is_slice(offer, length, 1))
+        return told(error, ZAX_E_ARGUMENT, "no exchange or no text");
+    zax_session *made = calloc(1, sizeof *made);
+    if (!made)
+        return told(error, ZAX_E_MEMORY, "out of memory");
+    uint32_t status = zaxp_exchange_accept_offer(&exchange->handle, bytes(offer, length), length, &made->handle, version,
+                                                 &fault.line, MESSAGE(fault));
+    return handed(made, status, &fault, answer, error);
+}
+
+zax_status zax_create_offer(zax_exchange *exchange, zax_session **offer, uint64_t *version, zax_error *error)
+{
+    struct fault fault;
+    fault.line = fault.length = 0;
+    if (!offer || !version)
+        return told(error, ZAX_E_ARGUMENT, "no place for the offer");
+    *offer = NULL;
+    if (!is_exchange(exchange))
+        return told(error, ZAX_E_ARGUMENT, "no exchange");
+    zax_session *made = calloc(1, sizeof *made);
+    if (!made)
+        return told(error, ZAX_E_MEMORY, "out of memory");
+    uint32_t status = zaxp_exchange_create_offer(&exchange->handle, &made->handle, version, MESSAGE(fault));
+    return handed(made, status, &fault, offer, error);
+}
+
+zax_status zax_accept_answer(zax_exchange *exchange, const char *answer, size_t length, zax_error *error)
+{
+    struct fault fault;
+    fault.line = fault.length = 0;
+    if (!is_exchange(exchange) || !is_slice(answer, length, 1))
+        return told(error, ZAX_E_ARGUMENT, "no exchange or no text");
+    uint32_t status =
+        zaxp_exchange_accept_answer(&exchange->handle, bytes(answer, length), length, &fault.line, MESSAGE(fault));
+    return exchanged(error, status, &fault);
+}
+
+zax_status zax_rollback(zax_exchange *exchange)
+{
+    if (!is_exchange(exchange))
+        return ZAX_E_ARGUMENT;
+    zaxp_exchange_rollback(&exchange->handle);
+    return ZAX_OK;
+}
+
+zax_status zax_add_media(zax_exchange *exchange, zax_kind kind, zax_direction direction, zax_error *error)
+{
+    struct fault fault;
+    fault.line = fault.length = 0;
+    if (!is_exchange(exchange) || (unsigned)kind > ZAX_VIDEO || (unsigned)direction > ZAX_INACTIVE)
+        return told(error, ZAX_E_ARGUMENT, "no exchange, no kind or no direction");
+    uint32_t status = zaxp_exchange_add_media(&exchange->handle, (uint8_t)kind, (uint8_t)direction, MESSAGE(fault));
+    return exchanged(error, status, &fault);
+}
+
+zax_status zax_add_channels(zax_exchange *exchange, zax_error *error)
+{
+    struct fault fault;
+    fault.line = fault.length = 0;
+    if (!is_exchange(exchange))
+        return told(error, ZAX_E_ARGUMENT, "no exchange");
+    return exchanged(error, zaxp_exchange_add_channels(&exchange->handle, MESSAGE(fault)), &fault);
+}
+
+zax_status zax_restart_ice(zax_exchange *exchange, zax_slice ufrag, zax_slice pwd)
+{
+    if (!is_exchange(exchange) || !is_text(ufrag) || !is_text(pwd))
+        return ZAX_E_ARGUMENT;
+    return (zax_status)zaxp_exchange_restart_ice(&exchange->handle, TEXT(ufrag), TEXT(pwd));
+}
+
+zax_status zax_print_version(zax_session *session, uint64_t version, char *room, size_t cap, size_t *needed)
+{
+    BEGIN(session, room, cap, needed);
+    return (zax_status)zaxp_session_print_version(&session->handle, version, ROOM(uint8_t, room, cap), cap, needed);
+}
+
+zax_status zax_exchange_rows(zax_exchange *exchange, zax_row *room, size_t cap, size_t *needed)
+{
+    BEGIN(exchange, room, cap, needed);
+    return (zax_status)zaxp_exchange_rows(&exchange->handle, ROOM(zax_row, room, cap), cap, needed);
+}
+
+zax_status zax_exchange_row_codec(zax_exchange *exchange, size_t row, char *room, size_t cap, size_t *needed)
+{
+    BEGIN(exchange, room, cap, needed);
+    return (zax_status)zaxp_exchange_codec(&exchange->handle, row, ROOM(uint8_t, room, cap), cap, needed);
+}
+
+zax_status zax_exchange_row_fmtp(zax_exchange *exchange, size_t row, char *room, size_t cap, size_t *needed)
+{
+    BEGIN(exchange, room, cap, needed);
+    return (zax_status)zaxp_exchange_format(&exchange->handle, row, ROOM(uint8_t, room, cap), cap, needed);
+}
+
+zax_status zax_exchange_state(zax_exchange *exchange, uint32_t *state)
+{
+    if (!is_exchange(exchange) || !state)
+        return ZAX_E_ARGUMENT;
+    *state = zaxp_exchange_state(&exchange->handle);
+    return ZAX_OK;
 }

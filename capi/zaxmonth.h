@@ -1,12 +1,12 @@
-/* zaxmonth.h: session descriptions (SDP) and their payload types, read, negotiated and printed.
+/* zaxmonth.h: session descriptions (SDP) and their payload types, read, negotiated, printed and answered.
  *
  * Text is UTF-8, given by a pointer and a length in bytes; no zero ends it. A text or a list that a call answers is written into the
  * caller's room: `cap` counts the items that the room has space for, `*needed` becomes the count of those that there are. Where they
  * don't fit the answer is ZAX_E_ROOM, and the room is as it was. `needed` may be NULL, and so may a room whose `cap` is 0.
  *
- * A handle is made by zax_read, zax_config_defaults or zax_config_empty, and freed by the call of its kind. One call at a time uses it, on any thread.
- * No call aborts, prints, starts a thread or calls back, and none keeps state outside of handles. A call that isn't answered by
- * ZAX_OK leaves each handle as it was. docs/C.md says what is proved of all this, and what is trusted. */
+ * A handle is made by zax_read, zax_config_defaults, zax_config_empty or a call of exchanges, and freed by the call of its kind. One call at a time uses
+ * it, on any thread. No call aborts, prints, starts a thread or calls back, and none keeps state outside of handles. A call that isn't
+ * answered by ZAX_OK leaves each handle as it was. docs/C.md says what is proved of all this, and what is trusted. */
 #ifndef ZAXMONTH_H
 #define ZAXMONTH_H
 
@@ -33,7 +33,15 @@ typedef enum zax_status {
     ZAX_E_ROOM = 4,     /* the room is too small */
     ZAX_E_SECTION = 5,  /* there is no such section, or no such row */
     ZAX_E_NOTHING = 6,  /* no row of the section's kind is locked, or rows printed there might not be read again */
-    ZAX_E_ARGUMENT = 7  /* a pointer is NULL that may not be, a length is above half of what can be addressed, or no row is such */
+    ZAX_E_ARGUMENT = 7, /* a pointer is NULL that may not be, a length is above half of what can be addressed, or no row is such */
+    ZAX_E_STATE = 8,    /* the call is out of turn: an offer of this side is open, or none is */
+    ZAX_E_UNREAD = 9,   /* a line of the text fits nowhere */
+    ZAX_E_FIT = 10,     /* a section breaks a rule of answers, or of later offers */
+    ZAX_E_PRINT = 11,   /* the description would be read as another one */
+    ZAX_E_ROWS = 12,    /* no row of the configuration is for media of that kind */
+    ZAX_E_CHANNELS = 13, /* this side takes no data channels */
+    ZAX_E_NAME = 14,    /* no name is left for a section */
+    ZAX_E_OWN = 15      /* a text of zax_own is no fingerprint, or no candidate */
 } zax_status;
 
 /* ZAX_UNKNOWN, too, is one that the library reads and has no number here; zax_row_codec has its name. */
@@ -84,7 +92,7 @@ typedef struct zax_section {
 /* Where a call takes one, it may be NULL. */
 typedef struct zax_error {
     uint32_t status;   /* zax_status */
-    uint32_t line;     /* zax_read, with ZAX_OK: the line, from 1, at which reading ended; 0 where all was read */
+    uint32_t line;     /* zax_read, with ZAX_OK: the line, from 1, at which reading ended; 0 where all was read. ZAX_E_UNREAD: that line */
     size_t offset;     /* the same in bytes, from 0 */
     char message[240]; /* a line of English, cut where it is longer, and ended by a zero */
 } zax_error;
@@ -121,6 +129,9 @@ ZAX_API zax_status zax_candidate(zax_session *session, size_t index, char *room,
 /* The description as it prints, as JSON by the keys of sdp-transform, and with the rows of each section. */
 ZAX_API zax_status zax_json(zax_session *session, char *room, size_t cap, size_t *needed);
 
+/* What is found in a text (docs/LINT.md), as JSON: why it is refused, and what is lost of it, by line and column. */
+ZAX_API zax_status zax_findings(const char *text, size_t length, char *room, size_t cap, size_t *needed);
+
 /* A configuration with the default rows. `*config` is NULL where memory is refused. */
 ZAX_API zax_status zax_config_defaults(zax_config **config);
 /* One without rows. */
@@ -143,6 +154,64 @@ ZAX_API zax_status zax_config_row_codec(zax_config *config, size_t row, char *ro
 ZAX_API zax_status zax_config_row_fmtp(zax_config *config, size_t row, char *room, size_t cap, size_t *needed);
 /* Puts the locked rows of its kind into a section of one's own description. */
 ZAX_API zax_status zax_answer(zax_config *config, zax_session *own, size_t section);
+
+/* ---- Exchanges of offers and answers (RFC 3264, RFC 8829). docs/EXCHANGE.md says what offers and answers keep. */
+
+typedef struct zax_exchange zax_exchange; /* one side of an exchange */
+
+enum { ZAX_STABLE = 0, ZAX_HAVE_LOCAL_OFFER }; /* zax_exchange_state */
+
+/* A text. */
+typedef struct zax_slice {
+    const char *at;
+    size_t length;
+} zax_slice;
+
+/* What a side says of itself; texts are copied. No text of a list may be NULL. */
+typedef struct zax_own {
+    uint64_t session_id; /* in the o= line */
+    zax_slice ice_ufrag;
+    zax_slice ice_pwd;
+    zax_slice fingerprint; /* of its certificate: "sha-256 AB:CD:.." */
+    zax_slice stream_id;   /* of what it sends */
+    const zax_slice *extensions; /* the header extensions that it knows: their URIs */
+    size_t extension_count;
+    const zax_slice *candidates; /* where it is reached: lines as browsers trickle them, with or without "a=" */
+    size_t candidate_count;
+    uint64_t max_message_size;  /* of data channels; 0 for any */
+    uint16_t sctp_port;         /* as 5000 */
+    uint8_t has_channels;       /* 0 or 1: whether it takes data channels */
+    uint8_t audio;              /* zax_direction: what it is ready for */
+    uint8_t video;
+    uint8_t receives_simulcast; /* 0 or 1 */
+} zax_own;
+
+/* One side, with the rows of a configuration. Where it succeeds it takes the configuration and frees that handle, which is not used
+ * again; where it doesn't, the configuration stays the caller's as it is, and `*exchange` is NULL. */
+ZAX_API zax_status zax_exchange_new(const zax_own *own, zax_config *config, zax_exchange **exchange, zax_error *error);
+ZAX_API void zax_exchange_free(zax_exchange *exchange); /* NULL is fine */
+/* Answers an offer of the other side. `*answer` is a handle of the caller's, NULL where there is none; zax_print_version prints it. */
+ZAX_API zax_status zax_accept_offer(zax_exchange *exchange, const char *offer, size_t length, zax_session **answer, uint64_t *version,
+                                    zax_error *error);
+/* Makes an offer of what was added and what goes on. It waits for its answer then. `*offer` is as `*answer` above. */
+ZAX_API zax_status zax_create_offer(zax_exchange *exchange, zax_session **offer, uint64_t *version, zax_error *error);
+/* Takes the other side's answer to the offer that waits for it. */
+ZAX_API zax_status zax_accept_answer(zax_exchange *exchange, const char *answer, size_t length, zax_error *error);
+/* Drops the offer that waits for its answer; where none does, nothing changes. */
+ZAX_API zax_status zax_rollback(zax_exchange *exchange);
+/* Has the next offer add a section, of media or of data channels. */
+ZAX_API zax_status zax_add_media(zax_exchange *exchange, zax_kind kind, zax_direction direction, zax_error *error);
+ZAX_API zax_status zax_add_channels(zax_exchange *exchange, zax_error *error);
+/* Has the next description say these credentials of ICE. */
+ZAX_API zax_status zax_restart_ice(zax_exchange *exchange, zax_slice ufrag, zax_slice pwd);
+/* Prints a description with its version in the o= line, as the other side is to get it. */
+ZAX_API zax_status zax_print_version(zax_session *session, uint64_t version, char *room, size_t cap, size_t *needed);
+/* The rows of its configuration, each with whether it is locked. */
+ZAX_API zax_status zax_exchange_rows(zax_exchange *exchange, zax_row *room, size_t cap, size_t *needed);
+ZAX_API zax_status zax_exchange_row_codec(zax_exchange *exchange, size_t row, char *room, size_t cap, size_t *needed);
+ZAX_API zax_status zax_exchange_row_fmtp(zax_exchange *exchange, size_t row, char *room, size_t cap, size_t *needed);
+/* Whether an offer of this side waits for its answer: ZAX_STABLE or ZAX_HAVE_LOCAL_OFFER. */
+ZAX_API zax_status zax_exchange_state(zax_exchange *exchange, uint32_t *state);
 
 #ifdef __cplusplus
 }

@@ -16,10 +16,16 @@ from proved import TOP
 CAPI = TOP / "capi"
 CALLS = TOP / "crates" / "c_calls"
 PARTS = TOP / "crates" / "c_parts"
-ITEMS = {"u8": "uint8_t", "Row": "zax_row", "Outcome": "zax_outcome"}
-PLAIN = {"usize": "size_t", "u32": "uint32_t", "u8": "uint8_t", "bool": "bool"}
-HANDLES = {"SessionHandle": "session_handle", "ConfigHandle": "config_handle"}
-STRUCTS = {"Row": ("zax_row", "row"), "Outcome": ("zax_outcome", "row"), "Section": ("zax_section", "section")}  # by file of c_parts
+ITEMS = {"u8": "uint8_t", "Row": "zax_row", "Outcome": "zax_outcome", "&[u8]": "zax_slice"}
+PLAIN = {"usize": "size_t", "u64": "uint64_t", "u32": "uint32_t", "u16": "uint16_t", "u8": "uint8_t", "bool": "bool"}
+HANDLES = {"SessionHandle": "session_handle", "ConfigHandle": "config_handle", "ExchangeHandle": "exchange_handle"}
+# Structs of C's layout: the name in C, and the file of c_parts
+STRUCTS = {
+    "Row": ("zax_row", "row"),
+    "Outcome": ("zax_outcome", "row"),
+    "Section": ("zax_section", "section"),
+    "OwnNumbers": ("struct own_numbers", "side"),
+}
 # What each status of specs/Status.antt is in the header, each cause of a refused round, and the codecs whose name there isn't their own
 STATUSES = {
     "done": "OK",
@@ -30,7 +36,31 @@ STATUSES = {
     "no_section": "E_SECTION",
     "nothing_agreed": "E_NOTHING",
     "wrong_argument": "E_ARGUMENT",
+    "wrong_state": "E_STATE",
+    "unread_line": "E_UNREAD",
+    "no_fit": "E_FIT",
+    "not_printable": "E_PRINT",
+    "no_rows": "E_ROWS",
+    "no_channels": "E_CHANNELS",
+    "no_name": "E_NAME",
+    "not_own": "E_OWN",
 }
+# What each fault of a call of an exchange is in the header
+FAULTS = {
+    "NotRead": "E_PARSE",
+    "Memory": "E_MEMORY",
+    "WrongState": "E_STATE",
+    "Unread": "E_UNREAD",
+    "DoesNotFit": "E_FIT",
+    "NotPrintable": "E_PRINT",
+    "NoRows": "E_ROWS",
+    "NoChannels": "E_CHANNELS",
+    "NoName": "E_NAME",
+    "NotUtf8": "E_UTF8",
+    "NoFingerprint": "E_OWN",
+    "NoCandidate": "E_OWN",
+}
+STATES = {"Stable": "STABLE", "HaveLocalOffer": "HAVE_LOCAL_OFFER"}
 CAUSES = {"TypeTooLarge": "TYPE_TOO_LARGE", "ClaimedTwice": "CLAIMED_TWICE", "Exhausted": "EXHAUSTED", "Memory": "ROUND_MEMORY"}
 SECTIONS = {("kind", "Unknown"): "OTHER_KIND", ("protocol", "Srtp"): "PROTOCOL_RTP", ("protocol", "Sctp"): "PROTOCOL_SCTP", ("setup", "None"): "NO_SETUP"}
 CODECS = {"Tele": "TELEPHONE_EVENT", "Null": "NULL_CODEC", "AmrWb": "AMR_WB", "other": "UNKNOWN"}
@@ -51,12 +81,14 @@ def crossed(name, kind):
     """The parameters in C of a parameter of an export."""
     if kind == "Global":
         return []
-    if slice_ := re.fullmatch(r"&(mut )?\[(\w+)\]", kind):
+    if slice_ := re.fullmatch(r"&(mut )?\[(\w+|&\[u8\])\]", kind):
         const, more = ("", "cap") if slice_[1] else ("const ", "length")
         return [(f"{const}{ITEMS[slice_[2]]} *", name), ("size_t", f"{name}_{more}")]
     if place := re.fullmatch(r"&mut (\w+)", kind):
         owned = STRUCTS[place[1]][0] if place[1] in STRUCTS else PLAIN.get(place[1])
         return [("struct handle *" if place[1] in HANDLES else f"{owned} *", name)]
+    if struct := re.fullmatch(r"&(\w+)", kind):
+        return [(f"const {STRUCTS[struct[1]][0]} *", name)]
     return [(PLAIN[kind], name)]
 
 
@@ -112,6 +144,19 @@ def numbers():
         yield f"ZAX_{name.upper()}", number
     for name, number in re.findall(r"^c_outcome \(?Err \(?(\w+).*cause = (\d+)", row, re.M):
         yield f"ZAX_{CAUSES[name]}", number
+    yield from numbers_of_exchanges()
+
+
+def numbers_of_exchanges():
+    fault = (PARTS / "specs" / "Fault.antt").read_text("utf-8")
+    for name, number in re.findall(r"^(?:error|fault)_code \(?(\w+).* = (\d+)$", fault, re.M):
+        yield f"ZAX_{FAULTS[name]}", number
+    side = (PARTS / "specs" / "Side.antt").read_text("utf-8")
+    for number, name in re.findall(r"nat_eq n (\d+) then (\w+)", side):
+        yield f"ZAX_{name.upper()}", number
+    exchanged = (CALLS / "specs" / "Exchanged.antt").read_text("utf-8")
+    for name, number in re.findall(r"^state_number (\w+) = (\d+)$", exchanged, re.M):
+        yield f"ZAX_{STATES[name]}", number
 
 
 def compared(found):
@@ -119,7 +164,7 @@ def compared(found):
     yield from ("#include <stdbool.h>", "#include <stddef.h>", '#include "proved_calls.h"')
     yield from (it.declared() for it in found)
     for struct, (name, file) in STRUCTS.items():
-        yield from same_struct(f"rt_{name}", name, fields(PARTS / "src" / f"{file}.rt", struct))
+        yield from same_struct(f"rt_{struct}", name, fields(PARTS / "src" / f"{file}.rt", struct))
     for struct, file in HANDLES.items():
         yield from same_struct(f"rt_{file}", "struct handle", fields(PARTS / "src" / f"{file}.rt", struct))
     yield from (asserted(f"{name} == {number}") for name, number in numbers())

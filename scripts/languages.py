@@ -1,15 +1,17 @@
 """The C library from C and from other languages, through what ./install puts into a folder: the examples print what they have to, the
-tests of the bindings pass, and each text of data/ is by Python and by Go what is stored. What isn't installed of these languages is said,
-and isn't run."""
+tests of the bindings pass, each text of data/ is by Python and by Go what is stored, and is answered by each of them as sdpexchange
+answers it. What isn't installed of these languages is said, and isn't run."""
 import os
 import re
 import shutil
 import subprocess
 import sys
+from concurrent.futures import ThreadPoolExecutor
 from dataclasses import dataclass, field
 from pathlib import Path
 
 import c_library
+from answering import SIDE
 from proved import TOP
 from static_library import run
 
@@ -32,6 +34,7 @@ def missing(*tools):
 class Tried:
     room: Path  # for what is built
     count: object
+    offers: list  # each with what has to come of it (c_answers.py)
     found: dict = field(default_factory=dict)  # the variables by which the library is found
 
     def prints(self, name, words, wanted):
@@ -60,6 +63,18 @@ class Tried:
             self.count.is_right(f"bindings/{folder}, {path.name}", "" if is_same else "it is another text")
         print(f"bindings/{folder}: {len(stored)} answers are compared")
 
+    def answers(self, name, words):
+        """Has an example answer each offer."""
+        def fault(offer, wanted):
+            ran = subprocess.run([*words, offer, SIDE], env=self.found, stdin=subprocess.DEVNULL, capture_output=True, timeout=60)
+            said = ran.returncode, ran.stdout, ran.stderr
+            return "" if said == wanted else f"it comes to {said}, and not to {wanted}"
+
+        with ThreadPoolExecutor(len(os.sched_getaffinity(0))) as pool:
+            for (offer, _), wrong in zip(self.offers, pool.map(lambda it: fault(*it), self.offers)):
+                self.count.is_right(f"{name}, {offer.name}", wrong)
+        print(f"{name}: {len(self.offers)} answers are compared")
+
     def flags(self):
         asked = ["pkg-config", "--cflags", "--libs", "zaxmonth"]
         return subprocess.run(asked, env=self.found, capture_output=True, text=True, check=True).stdout.split()
@@ -70,20 +85,27 @@ def in_python(tried):
     tried.found = {**tried.found, "PYTHONPATH": str(at), "PYTHONDONTWRITEBYTECODE": "1"}
     tried.prints("bindings/python/examples/rows.py", [sys.executable, at / "examples" / "rows.py", OFFER], "rows.txt")
     tried.prints("bindings/python/examples/answer.py", [sys.executable, at / "examples" / "answer.py", OFFER, OWN], "answered.sdp")
+    tried.answers("bindings/python/examples/exchange.py", [sys.executable, at / "examples" / "exchange.py"])
     tried.texts("python", [sys.executable, at / "tests" / "texts.py"])
     tried.passes("python", [sys.executable, "-m", "unittest"], lambda said: sum(map(int, re.findall(r"^Ran (\d+) tests", said, re.M))))
 
 
+def compiled(tried, compiler, source):
+    """An example, compiled by these words."""
+    made = tried.room / source.name.replace(".", "_")
+    run([*compiler, *STRICT, source, *tried.flags(), "-o", made])
+    return made
+
+
 def in_c(tried):
-    made = tried.room / "rows"
-    run(["cc", *STRICT, EXAMPLES / "rows.c", *tried.flags(), "-o", made])
-    tried.prints("rows.c", [made, OFFER], "rows.txt")
+    tried.prints("rows.c", [compiled(tried, ["cc"], EXAMPLES / "rows.c"), OFFER], "rows.txt")
+    tried.answers("exchange.c", [compiled(tried, ["cc"], EXAMPLES / "exchange.c")])
 
 
 def in_cpp(tried):
-    made = tried.room / "rows_cpp"
-    run(["c++", "-std=c++17", *STRICT, BINDINGS / "cpp" / "rows.cpp", *tried.flags(), "-o", made])
-    tried.prints("rows.cpp", [made, OFFER], "rows.txt")
+    compiler = ["c++", "-std=c++17"]
+    tried.prints("rows.cpp", [compiled(tried, compiler, BINDINGS / "cpp" / "rows.cpp"), OFFER], "rows.txt")
+    tried.answers("exchange.cpp", [compiled(tried, compiler, BINDINGS / "cpp" / "exchange.cpp")])
 
 
 def in_go(tried):
@@ -98,6 +120,7 @@ def in_go(tried):
         return
     tried.prints("bindings/go/examples/rows", [made / "rows", OFFER], "rows.txt")
     tried.prints("bindings/go/examples/answer", [made / "answer", OFFER, OWN], "answered.sdp")
+    tried.answers("bindings/go/examples/exchange", [made / "exchange"])
     tried.texts("go", [made / "texts"])
     tried.passes("go", ["go", "test", "-count=1", "-v", "./..."], lambda said: len(re.findall(r"^--- PASS", said, re.M)))
 
@@ -106,6 +129,7 @@ def in_rust(tried):
     asked = ["--offline", "--quiet", "--manifest-path", BINDINGS / "rust" / "Cargo.toml", "--target-dir", tried.room / "rust"]
     tried.passes("rust", ["cargo", "test", *asked], lambda said: sum(map(int, re.findall(r"^test result: ok\. (\d+) passed", said, re.M))))
     tried.prints("rows.rs", ["cargo", "run", *asked, "--example", "rows", OFFER], "rows.txt")
+    tried.answers("exchange.rs", [tried.room / "rust" / "debug" / "examples" / "exchange"])  # (which cargo test has built)
 
 
 # of each language the tools besides Python that it needs
@@ -118,8 +142,8 @@ LANGUAGES = (
 )
 
 
-def tried(made, room, count):
-    """Tries the libraries in each language that is installed."""
+def tried(made, room, count, offers):
+    """Tries the libraries in each language that is installed, with these offers."""
     prefix = room / "installed"
     shutil.rmtree(prefix, ignore_errors=True)
     c_library.install(made, prefix)
@@ -129,4 +153,4 @@ def tried(made, room, count):
         if why := missing(*tools):
             print(f"{language}: {why}")
         else:
-            calls(Tried(room, count, found))
+            calls(Tried(room, count, offers, found))

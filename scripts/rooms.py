@@ -3,10 +3,9 @@
 
     scripts/rooms.py names    a file of definitions or laws is named after a module of code of its crate
     scripts/rooms.py sizes    no folder of a crate has more than 40 files
-    scripts/rooms.py lengths  no line of a proof has more than 140 characters
 
 `RtpMap.antt` is named after `rtp_map.rt`. A file of laws may have one more word of the list below, as `RtpMapLaws.antt`, and may be named after a
-file of definitions. What a root (`Lib.antt`) or many modules share has a name of the list, too. None of the three is a part of ./test:
+file of definitions. What a root (`Lib.antt`) or many modules share has a name of the list, too. Neither is a part of ./test:
 the sources don't keep to them yet."""
 import re
 import sys
@@ -16,7 +15,7 @@ from proved import TOP
 CRATES = TOP / "crates"
 MORE_WORDS = ("Laws", "Reading", "ReadingLaws", "Again", "Equal", "Answers", "Steps")
 SHARED = ("Lib", "Common")
-MOST_FILES, MOST_CHARACTERS = 40, 140
+MOST_FILES = 40
 
 
 def stems(name):
@@ -43,14 +42,7 @@ def sizes():
             yield f"{folder.relative_to(TOP)} has {count} files"
 
 
-def lengths():
-    for file in sorted(CRATES.glob("*/proofs/**/*.antt")):
-        for number, line in enumerate(file.read_text("utf-8").split("\n"), 1):
-            if len(line) > MOST_CHARACTERS:
-                yield f"{file.relative_to(TOP)}:{number} has {len(line)} characters"
-
-
-CHECKS = {"names": names, "sizes": sizes, "lengths": lengths}
+CHECKS = {"names": names, "sizes": sizes}
 
 if __name__ == "__main__":
     if len(sys.argv) != 2 or sys.argv[1] not in CHECKS:

@@ -10,6 +10,7 @@
 #include <stdexcept>
 #include <string>
 #include <string_view>
+#include <utility>
 #include <vector>
 
 namespace zaxmonth {
@@ -33,7 +34,7 @@ inline void check(zax_status status, const char *message = "")
     if (status == ZAX_E_MEMORY)
         throw std::bad_alloc();
     if (status != ZAX_OK)
-        throw Error(status, *message ? message : said[status]);
+        throw Error(status, *message ? message : status <= ZAX_E_ARGUMENT ? said[status] : "the call is refused");
 }
 
 // What a call writes, in room that is as large as it asks for.
@@ -52,6 +53,14 @@ template <class Items, class Call> Items filled(Call call)
 }
 
 } // namespace detail
+
+// What is found in a text, whether it describes a session or not, as JSON: an array of objects with line, column, severity, code and message
+// (docs/LINT.md).
+inline std::string findings(std::string_view text)
+{
+    return detail::filled<std::string>(
+        [&](char *room, size_t cap, size_t *needed) { return zax_findings(text.data(), text.size(), room, cap, needed); });
+}
 
 // A description. One call at a time uses it.
 class Session {
@@ -97,6 +106,9 @@ class Session {
     }
     zax_session *get() const { return handle_.get(); }
 
+  protected:
+    explicit Session(zax_session *made) : handle_(made) {}
+
   private:
     struct Free {
         void operator()(zax_session *session) const { zax_session_free(session); }
@@ -140,6 +152,8 @@ class Config {
     // Puts the locked rows into a section of one's own description.
     void answer(Session &own, size_t section) { detail::check(zax_answer(get(), own.get(), section)); }
     zax_config *get() const { return handle_.get(); }
+    // Gives up the handle.
+    zax_config *release() { return handle_.release(); }
 
   private:
     explicit Config(zax_status (*make)(zax_config **))
@@ -152,6 +166,149 @@ class Config {
         void operator()(zax_config *config) const { zax_config_free(config); }
     };
     std::unique_ptr<zax_config, Free> handle_;
+};
+
+// What a side says of itself, the same in each of its descriptions.
+struct OwnSide {
+    uint64_t session_id = 1; // in the o= line
+    std::string ice_ufrag;
+    std::string ice_pwd;
+    std::string fingerprint;             // of its certificate: "sha-256 AB:CD:.."
+    std::string stream_id = "-";         // of what it sends
+    std::vector<std::string> extensions; // the header extensions that it knows: their URIs
+    std::vector<std::string> candidates; // where it is reached: lines as browsers trickle them, with or without "a="
+    bool has_channels = true;            // whether it takes data channels
+    uint16_t sctp_port = 5000;
+    uint64_t max_message_size = 262144;  // of data channels, in bytes; 0 for any
+    zax_direction audio = ZAX_SENDRECV;  // what it is ready for
+    zax_direction video = ZAX_SENDRECV;
+    bool receives_simulcast = true;
+};
+
+namespace detail {
+
+inline zax_slice slice(std::string_view text) { return {text.data(), text.size()}; }
+
+inline std::vector<zax_slice> slices(const std::vector<std::string> &texts)
+{
+    std::vector<zax_slice> made;
+    for (const auto &text : texts)
+        made.push_back(slice(text));
+    return made;
+}
+
+} // namespace detail
+
+// An offer or an answer of a side, with its version: of two of a session the later has the greater.
+class Description : public Session {
+  public:
+    uint64_t version() const { return version_; } // 1 at first
+    // With this version in the o= line, as the other side is to get it.
+    std::string text() const
+    {
+        return detail::filled<std::string>(
+            [&](char *room, size_t cap, size_t *needed) { return zax_print_version(get(), version_, room, cap, needed); });
+    }
+
+  private:
+    friend class Exchange;
+    Description(zax_session *made, uint64_t version) : Session(made), version_(version) {}
+    uint64_t version_;
+};
+
+// One side of a session: it answers offers, makes its own, and takes answers to them. Where a call throws, nothing has changed.
+class Exchange {
+  public:
+    // With the rows of a configuration, which has no handle any more then; where this throws it is as it was.
+    Exchange(const OwnSide &own, Config &&config)
+    {
+        const auto extensions = detail::slices(own.extensions), candidates = detail::slices(own.candidates);
+        zax_own said{};
+        said.session_id = own.session_id;
+        said.ice_ufrag = detail::slice(own.ice_ufrag), said.ice_pwd = detail::slice(own.ice_pwd);
+        said.fingerprint = detail::slice(own.fingerprint), said.stream_id = detail::slice(own.stream_id);
+        said.extensions = extensions.data(), said.extension_count = extensions.size();
+        said.candidates = candidates.data(), said.candidate_count = candidates.size();
+        said.max_message_size = own.max_message_size, said.sctp_port = own.sctp_port, said.has_channels = own.has_channels;
+        said.audio = own.audio, said.video = own.video, said.receives_simulcast = own.receives_simulcast;
+        zax_exchange *made = nullptr;
+        zax_error error;
+        detail::check(zax_exchange_new(&said, config.get(), &made, &error), error.message);
+        config.release();
+        handle_.reset(made);
+    }
+    Description accept_offer(std::string_view offer)
+    {
+        return described([&](zax_session **made, uint64_t *version, zax_error *error) {
+            return zax_accept_offer(get(), offer.data(), offer.size(), made, version, error);
+        });
+    }
+    // Of what was added and what goes on; it waits for its answer then.
+    Description create_offer()
+    {
+        return described(
+            [&](zax_session **made, uint64_t *version, zax_error *error) { return zax_create_offer(get(), made, version, error); });
+    }
+    void accept_answer(std::string_view answer)
+    {
+        zax_error error;
+        detail::check(zax_accept_answer(get(), answer.data(), answer.size(), &error), error.message);
+    }
+    // Drops the offer that waits for its answer; where none does, nothing changes.
+    void rollback() { detail::check(zax_rollback(get())); }
+    // Have the next offer add a section.
+    void add_media(zax_kind kind, zax_direction direction)
+    {
+        zax_error error;
+        detail::check(zax_add_media(get(), kind, direction, &error), error.message);
+    }
+    void add_channels()
+    {
+        zax_error error;
+        detail::check(zax_add_channels(get(), &error), error.message);
+    }
+    // Has the next description say these credentials of ICE.
+    void restart_ice(std::string_view ufrag, std::string_view pwd)
+    {
+        detail::check(zax_restart_ice(get(), detail::slice(ufrag), detail::slice(pwd)));
+    }
+    std::vector<zax_row> rows() const
+    {
+        return detail::filled<std::vector<zax_row>>(
+            [&](zax_row *room, size_t cap, size_t *needed) { return zax_exchange_rows(get(), room, cap, needed); });
+    }
+    std::string codec(size_t row) const
+    {
+        return detail::filled<std::string>(
+            [&](char *room, size_t cap, size_t *needed) { return zax_exchange_row_codec(get(), row, room, cap, needed); });
+    }
+    std::string fmtp(size_t row) const
+    {
+        return detail::filled<std::string>(
+            [&](char *room, size_t cap, size_t *needed) { return zax_exchange_row_fmtp(get(), row, room, cap, needed); });
+    }
+    // ZAX_STABLE or ZAX_HAVE_LOCAL_OFFER.
+    uint32_t state() const
+    {
+        uint32_t found = 0;
+        detail::check(zax_exchange_state(get(), &found));
+        return found;
+    }
+    zax_exchange *get() const { return handle_.get(); }
+
+  private:
+    template <class Call> static Description described(Call call)
+    {
+        zax_session *made = nullptr;
+        uint64_t version = 0;
+        zax_error error;
+        detail::check(call(&made, &version, &error), error.message);
+        return Description(made, version);
+    }
+    struct Free {
+        void operator()(zax_exchange *exchange) const { zax_exchange_free(exchange); }
+    };
+    std::unique_ptr<zax_exchange, Free> handle_;
 };
 
 } // namespace zaxmonth

@@ -20,6 +20,14 @@ const (
 	StatusSection  Status = C.ZAX_E_SECTION
 	StatusNothing  Status = C.ZAX_E_NOTHING
 	StatusArgument Status = C.ZAX_E_ARGUMENT
+	StatusState    Status = C.ZAX_E_STATE
+	StatusUnread   Status = C.ZAX_E_UNREAD
+	StatusFit      Status = C.ZAX_E_FIT
+	StatusPrint    Status = C.ZAX_E_PRINT
+	StatusRows     Status = C.ZAX_E_ROWS
+	StatusChannels Status = C.ZAX_E_CHANNELS
+	StatusName     Status = C.ZAX_E_NAME
+	StatusOwn      Status = C.ZAX_E_OWN
 )
 
 // What errors.Is knows an error by: one for each status.
@@ -31,9 +39,17 @@ var (
 	ErrSection  = errors.New("there is no such section or row")
 	ErrNothing  = errors.New("nothing is agreed that could be printed there")
 	ErrArgument = errors.New("an argument is none that the library takes")
+	ErrState    = errors.New("the call is out of turn")
+	ErrUnread   = errors.New("a line of the text fits nowhere")
+	ErrFit      = errors.New("a section breaks a rule")
+	ErrPrint    = errors.New("the description would be read as another one")
+	ErrRows     = errors.New("this side has no codec for media of that kind")
+	ErrChannels = errors.New("this side takes no data channels")
+	ErrName     = errors.New("no name is left for a section")
+	ErrOwn      = errors.New("a text of this side is no fingerprint, or no candidate")
 )
 
-// ErrClosed is answered by each call over a Session or a Config that is closed; it is an ErrArgument.
+// ErrClosed is answered by each call over a Session, a Config or an Exchange that is closed; it is an ErrArgument.
 var ErrClosed error = &Error{Status: StatusArgument, Message: "it is closed"}
 
 var sentinels = map[Status]error{
@@ -44,6 +60,14 @@ var sentinels = map[Status]error{
 	StatusSection:  ErrSection,
 	StatusNothing:  ErrNothing,
 	StatusArgument: ErrArgument,
+	StatusState:    ErrState,
+	StatusUnread:   ErrUnread,
+	StatusFit:      ErrFit,
+	StatusPrint:    ErrPrint,
+	StatusRows:     ErrRows,
+	StatusChannels: ErrChannels,
+	StatusName:     ErrName,
+	StatusOwn:      ErrOwn,
 }
 
 // An Error says why a call was refused. Nothing has changed then.

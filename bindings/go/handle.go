@@ -9,7 +9,7 @@ import (
 	"unsafe"
 )
 
-// A handle is one of the library's, over which one call at a time runs. A Session and a Config point to theirs, so that a copy of either
+// A handle is one of the library's, over which one call at a time runs. A Session, a Config and an Exchange point to theirs, so that a copy
 // has the same one.
 type handle[P comparable] struct {
 	mutex   sync.Mutex
@@ -51,6 +51,19 @@ func (h *handle[P]) use(calls func(P) error) error {
 	err := calls(h.pointer)
 	runtime.KeepAlive(h) // (else it could be freed while the last call runs)
 	return err
+}
+
+// give runs a call that takes the handle where it succeeds: the handle is closed then.
+func (h *handle[P]) give(call func(P) error) error {
+	return h.use(func(it P) error {
+		if err := call(it); err != nil {
+			return err
+		}
+		var taken P
+		h.pointer = taken
+		runtime.SetFinalizer(h, nil)
+		return nil
+	})
 }
 
 // text is what a call writes over the handle.

@@ -6,7 +6,13 @@
 //	err = config.Answer(own, 0)
 //	_, err = own.WriteTo(os.Stdout)
 //
-// A Session and a Config own memory of the library's. Close frees it at once; where nobody calls Close, the garbage collector does.
+// An offer is answered as a whole by an Exchange:
+//
+//	exchange, err := zaxmonth.NewExchange(own, config)
+//	answer, err := exchange.AcceptOffer(offer)
+//	_, err = answer.WriteTo(os.Stdout)
+//
+// A Session, a Config and an Exchange own memory of the library's. Close frees it at once; where nobody calls Close, the garbage collector does.
 // Any goroutine may call them: one call waits for another over the same value.
 //
 // cgo finds the library by pkg-config: PKG_CONFIG_PATH names the folder of zaxmonth.pc, and LD_LIBRARY_PATH that of the shared library when
@@ -51,8 +57,11 @@ func Read(text []byte) (*Session, error) {
 	if err := errorOf(status, &told); err != nil {
 		return nil, err
 	}
-	owned := newHandle(made, func(it *C.zax_session) { C.zax_session_free(it) })
-	return &Session{owned, int(told.line), int(told.offset)}, nil
+	return &Session{newSession(made), int(told.line), int(told.offset)}, nil
+}
+
+func newSession(made *C.zax_session) *handle[*C.zax_session] {
+	return newHandle(made, func(it *C.zax_session) { C.zax_session_free(it) })
 }
 
 // Close frees the session, where it isn't freed yet; other calls answer ErrClosed from then on. It answers nil.
@@ -76,6 +85,11 @@ func (s *Session) MarshalText() ([]byte, error) {
 // WriteTo prints the description to a writer.
 func (s *Session) WriteTo(writer io.Writer) (int64, error) {
 	text, err := s.MarshalText()
+	return write(writer, text, err)
+}
+
+// write writes a text, where there is one.
+func write(writer io.Writer, text []byte, err error) (int64, error) {
 	if err != nil {
 		return 0, err
 	}

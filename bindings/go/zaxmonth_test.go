@@ -175,7 +175,11 @@ func TestSectionThatIsNotThere(t *testing.T) {
 
 func TestErrors(t *testing.T) {
 	is(t, errorOf(0, nil), nil)
-	for status, wanted := range []error{ErrParse, ErrUTF8, ErrMemory, ErrRoom, ErrSection, ErrNothing, ErrArgument} {
+	known := []error{
+		ErrParse, ErrUTF8, ErrMemory, ErrRoom, ErrSection, ErrNothing, ErrArgument,
+		ErrState, ErrUnread, ErrFit, ErrPrint, ErrRows, ErrChannels, ErrName, ErrOwn,
+	}
+	for status, wanted := range known {
 		err := &Error{Status: Status(status + 1), Message: wanted.Error()}
 		is(t, errors.Is(err, wanted), true)
 		is(t, errors.Is(err, ErrClosed), false)

@@ -51,6 +51,7 @@ static zax_status ufrag(void *s, void *room, size_t cap, size_t *needed) { retur
 static zax_status pwd(void *s, void *room, size_t cap, size_t *needed) { return zax_ice_pwd(s, room, cap, needed); }
 static zax_status hash(void *s, void *room, size_t cap, size_t *needed) { return zax_fingerprint(s, room, cap, needed); }
 static zax_status second(void *s, void *room, size_t cap, size_t *needed) { return zax_candidate(s, 1, room, cap, needed); }
+static zax_status findings(void *s, void *room, size_t cap, size_t *needed) { return zax_findings(s, s ? length : 1, room, cap, needed); }
 static zax_status held(void *c, void *room, size_t cap, size_t *needed) { return zax_config_rows(c, room, cap, needed); }
 static zax_status held_fmtp(void *c, void *room, size_t cap, size_t *needed) { return zax_config_row_fmtp(c, 0, room, cap, needed); }
 static zax_status held_codec(void *c, void *room, size_t cap, size_t *needed) { return zax_config_row_codec(c, 0, room, cap, needed); }
@@ -352,6 +353,11 @@ int main(int count, char **words)
     rooms(hash, session, 1);
     facts(session);
     candidates();
+    rooms(findings, text, 1);
+    IS(zax_findings("\xff", 1, NULL, 0, &got), ZAX_E_UTF8);
+    IS(zax_findings(text, (size_t)-1, NULL, 0, &got), ZAX_E_ARGUMENT);
+    IS(zax_findings(NULL, 0, NULL, 0, &got), ZAX_E_ROOM);
+    IS(got > 0, 1);
     zax_row one;
     IS(zax_rows(session, 99, &one, 1, &got), ZAX_E_SECTION);
     IS(zax_rows(session, (size_t)-1, &one, 1, &got), ZAX_E_SECTION);

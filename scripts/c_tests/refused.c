@@ -2,49 +2,11 @@
  * given is as it was.   refused FILE      It is linked with --wrap of malloc, calloc, realloc and free. */
 #include <zaxmonth.h>
 
-#include <malloc.h>
+#include "refusing.h"
+
 #include <stdio.h>
 #include <stdlib.h>
 #include <string.h>
-
-static long left = -1, live; /* allocations until one is refused, and blocks that are held */
-
-void *__real_malloc(size_t);
-void *__real_calloc(size_t, size_t);
-void *__real_realloc(void *, size_t);
-void __real_free(void *);
-
-static int is_refused(void) { return left >= 0 && left-- == 0; }
-
-void *__wrap_malloc(size_t size)
-{
-    void *at = is_refused() ? NULL : __real_malloc(size);
-    live += at != NULL;
-    return at;
-}
-
-void *__wrap_calloc(size_t count, size_t size)
-{
-    void *at = is_refused() ? NULL : __real_calloc(count, size);
-    live += at != NULL;
-    return at;
-}
-
-/* A block that is to be no larger than what malloc has given for it stays where it is: a call goes on with it, where that is refused. */
-void *__wrap_realloc(void *from, size_t size)
-{
-    if (from && size <= malloc_usable_size(from))
-        return from;
-    void *at = is_refused() ? NULL : __real_realloc(from, size);
-    live += at && !from;
-    return at;
-}
-
-void __wrap_free(void *at)
-{
-    live -= at != NULL;
-    __real_free(at);
-}
 
 static char text[1 << 20], room[1 << 20], before[1 << 20], after[1 << 20];
 static zax_row rows[128], rows_before[128], rows_after[128];
@@ -126,6 +88,7 @@ static int run(void)
     ASKS(session, zax_row_fmtp(session, 0, 0, room, sizeof room, &count));
     ASKS(session, zax_section_mid(session, 0, room, sizeof room, &count));
     ASKS(session, zax_json(session, room, sizeof room, &count));
+    ASKS(session, zax_findings(text, length, room, sizeof room, &count));
     ASKS(session, zax_section_info(session, 0, &info));
     ASKS(session, zax_is_writable(session, 0, &writable));
     ASKS(session, zax_ice_ufrag(session, room, sizeof room, &count));

@@ -1,4 +1,4 @@
-/* Does what sdpshow does, by the calls of zaxmonth.h, and writes JSON:   texts text|json|rows|facts|negotiate < TEXT */
+/* Does what sdpshow does, by the calls of zaxmonth.h, and writes JSON:   texts text|json|findings|rows|facts|negotiate < TEXT */
 #include <zaxmonth.h>
 
 #include <stdio.h>
@@ -129,6 +129,11 @@ int main(int count, char **words)
     size_t length = fread(text, 1, sizeof text, stdin), size;
     if (!strcmp(words[1], "negotiate"))
         return negotiate(length);
+    if (!strcmp(words[1], "findings")) {
+        must(zax_findings(text, length, room, sizeof room, &size));
+        fwrite(room, 1, size, stdout);
+        return 0;
+    }
     zax_session *session;
     zax_error error;
     if (zax_read(text, length, &session, &error) != ZAX_OK)

@@ -1,8 +1,11 @@
 """Tests of the package:   python3 -m unittest      (in bindings/python, with the library as README.md there says)"""
+import dataclasses
 import os
 import subprocess
 import sys
 from pathlib import Path
+
+from zaxmonth import OwnSide
 
 PACKAGE = Path(__file__).resolve().parent.parent
 TOP = PACKAGE.parent.parent
@@ -10,6 +13,15 @@ EXAMPLES, DATA = TOP / "examples", TOP / "data"
 OFFER = (EXAMPLES / "chromium-audio-offer.sdp").read_bytes().decode()
 TWO_SECTIONS = (EXAMPLES / "firefox-audio-video-offer.sdp").read_bytes().decode()
 OWN = (TOP / "scripts" / "c_tests" / "short.sdp").read_bytes().decode()
+
+
+def own_side(**other):
+    """What this side said when the browsers of data/answers/ took its answers, with what is said otherwise."""
+    lines = [line.partition(" ") for line in (EXAMPLES / "own-side.txt").read_text().splitlines()]
+    said = {word: [value for it, _, value in lines if it == word] for word, _, _ in lines}
+    creds = said["ufrag"][0], said["pwd"][0], said["fingerprint"][0]
+    side = OwnSide(*creds, int(said["session-id"][0]), said["stream"][0], said["extension"], said["candidate"])
+    return dataclasses.replace(side, **other)
 
 
 def in_another_process(code, **environment):

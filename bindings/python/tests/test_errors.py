@@ -11,13 +11,21 @@ from zaxmonth import (
     ArgumentError,
     Configuration,
     Error,
+    NoChannels,
+    NoNameLeft,
+    NoRows,
     NothingAgreed,
     OutOfMemory,
+    OwnSideError,
     ParseError,
     RoomError,
     SectionError,
     SessionDescription,
+    StateError,
     Status,
+    UnfitSection,
+    UnprintableText,
+    UnreadLine,
     Utf8Error,
 )
 from zaxmonth._errors import check
@@ -76,7 +84,9 @@ class Exceptions(unittest.TestCase):
         self.assertEqual(error.message, "nothing is agreed that could be printed there")
 
     def test_each_status_has_its_exception(self):
-        kinds = (ParseError, Utf8Error, OutOfMemory, RoomError, SectionError, NothingAgreed, ArgumentError)
+        of_exchanges = (StateError, UnreadLine, UnfitSection, UnprintableText, NoRows, NoChannels, NoNameLeft, OwnSideError)
+        kinds = (ParseError, Utf8Error, OutOfMemory, RoomError, SectionError, NothingAgreed, ArgumentError, *of_exchanges)
+        self.assertEqual(len(kinds) + 1, len(Status))
         self.assertIsNone(check(0))
         for number, kind in enumerate(kinds, 1):
             error = self.refused(kind, check, number)

@@ -1,10 +1,10 @@
 """Whether the package has what zaxmonth.h declares: numbers, fields of structs, and what each call takes and answers."""
 import re
 import unittest
-from ctypes import POINTER, c_char, c_char_p, c_int, c_size_t, c_uint8, c_uint32, c_void_p
+from ctypes import POINTER, c_char, c_char_p, c_int, c_size_t, c_uint8, c_uint16, c_uint32, c_uint64, c_void_p
 
-from zaxmonth import ABI, Cause, Codec, Feedback, Status
-from zaxmonth._library import _CALLS, NO_TYPE, RawError, RawOutcome, RawRow
+from zaxmonth import ABI, Cause, Codec, Direction, Feedback, MediaKind, SignalingState, Status
+from zaxmonth._library import _CALLS, NO_TYPE, RawError, RawOutcome, RawOwn, RawRow, RawSlice
 
 from . import TOP
 
@@ -13,18 +13,28 @@ KINDS = {
     "const char *": c_char_p,
     "size_t ": c_size_t,
     "uint32_t ": c_uint32,
+    "uint64_t ": c_uint64,
+    "uint16_t ": c_uint16,
     "uint8_t ": c_uint8,
     "zax_status ": c_uint32,
     "zax_codec ": c_uint32,
     "int ": c_int,
+    "zax_kind ": c_uint32,
+    "zax_direction ": c_uint32,
+    "zax_slice ": RawSlice,
+    "const zax_slice *": POINTER(RawSlice),
+    "const zax_own *": POINTER(RawOwn),
     "void ": None,
     "size_t *": POINTER(c_size_t),
+    "uint32_t *": POINTER(c_uint32),
+    "uint64_t *": POINTER(c_uint64),
     "int *": POINTER(c_int),
     "zax_error *": POINTER(RawError),
     "zax_session **": POINTER(c_void_p),
     "zax_config **": POINTER(c_void_p),
+    "zax_exchange **": POINTER(c_void_p),
 }
-HANDLES_AND_ROOMS = ("zax_session *", "zax_config *", "char *", "zax_row *", "zax_outcome *", "zax_section *")
+HANDLES_AND_ROOMS = ("zax_session *", "zax_config *", "zax_exchange *", "char *", "zax_row *", "zax_outcome *", "zax_section *")
 KINDS.update(dict.fromkeys(HANDLES_AND_ROOMS, c_void_p))
 
 
@@ -39,7 +49,7 @@ def numbers(first):
 
 def fields(struct):
     inside = re.search(rf"typedef struct {struct} \{{(.*?)\}}", HEADER, re.S)[1]
-    for kind, name, size in re.findall(r"(\w+ )(\w+)(?:\[(\d+)\])?;", inside):
+    for kind, name, size in re.findall(r"((?:const )?\w+ \*?)(\w+)(?:\[(\d+)\])?;", inside):
         yield name, c_char * int(size) if size else KINDS[kind]
 
 
@@ -59,14 +69,19 @@ class Header(unittest.TestCase):
         causes = {f"ZAX_{it.name}": it.value for it in Cause if it is not Cause.OTHER}
         causes["ZAX_ROUND_MEMORY"] = causes.pop("ZAX_MEMORY")
         self.assertEqual(causes, numbers("ZAX_ACCEPTED"))
+        kinds = {f"ZAX_{it.name}": it.value for it in MediaKind}
+        self.assertLessEqual(kinds.items(), numbers("ZAX_AUDIO").items())
+        self.assertEqual({f"ZAX_{it.name}": it.value for it in Direction}, numbers("ZAX_SENDRECV"))
+        self.assertEqual({f"ZAX_{it.name}": it.value for it in SignalingState}, numbers("ZAX_STABLE"))
         self.assertEqual({"ZAX_NO_TYPE": NO_TYPE}, numbers("ZAX_NO_TYPE"))
         self.assertIn(f"#define ZAX_ABI {ABI}\n", HEADER)
 
     def test_structs(self):
-        for struct, raw in (("zax_row", RawRow), ("zax_outcome", RawOutcome), ("zax_error", RawError)):
+        structs = {"zax_row": RawRow, "zax_outcome": RawOutcome, "zax_error": RawError, "zax_slice": RawSlice, "zax_own": RawOwn}
+        for struct, raw in structs.items():
             self.assertEqual(list(raw._fields_), list(fields(struct)))
 
     def test_calls(self):
         calls = dict(declared())
-        self.assertGreaterEqual(len(calls), 16)
+        self.assertGreaterEqual(len(calls), len(_CALLS))
         self.assertEqual(_CALLS, {name: calls.get(name) for name in _CALLS})

@@ -5,9 +5,9 @@ import unittest
 from concurrent.futures import ThreadPoolExecutor
 from threading import Barrier
 
-from zaxmonth import ClosedError, Configuration, Error, SessionDescription
+from zaxmonth import ClosedError, Configuration, Error, Exchange, MediaKind, SessionDescription, StateError
 
-from . import OFFER, OWN, own_memory
+from . import OFFER, OWN, own_memory, own_side
 
 THREADS = 100
 
@@ -60,6 +60,22 @@ class Threads(unittest.TestCase):
 
         self.assertEqual(len(set(at_once(asks))), 1)
 
+    def test_offers_of_one_exchange(self):
+        exchange = Exchange(own_side(), Configuration.defaults())
+        exchange.add_media(MediaKind.AUDIO)
+
+        def offers(_number):
+            made = []
+            for _ in range(20):
+                try:
+                    made.append(exchange.create_offer().version)
+                except StateError:
+                    exchange.rollback()
+            return made
+
+        versions = [it for made in at_once(offers) for it in made]
+        self.assertEqual(sorted(versions), list(range(1, len(versions) + 1)))
+
     def test_a_signal_handler_calls_what_it_interrupts(self):
         read, found = SessionDescription.read(OFFER), []
         wanted = str(read)
@@ -105,6 +121,25 @@ class Memory(unittest.TestCase):
         gc.collect()
         before = own_memory()
         for _ in range(2000):
+            cycle()
+        gc.collect()
+        self.assertLess(own_memory() - before, 64)
+
+    def test_exchanges(self):
+        def cycle():
+            with Exchange(own_side(), Configuration.defaults()) as exchange:
+                self.assertEqual(exchange.accept_offer(OFFER).version, 1)
+                self.assertRaises(Error, exchange.accept_offer, "x")
+                exchange.add_channels()
+                exchange.create_offer()
+            config = Configuration.defaults()
+            self.assertRaises(Error, Exchange, own_side(candidates=["x"]), config)
+
+        for _ in range(200):
+            cycle()
+        gc.collect()
+        before = own_memory()
+        for _ in range(1000):
             cycle()
         gc.collect()
         self.assertLess(own_memory() - before, 64)

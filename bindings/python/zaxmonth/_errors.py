@@ -18,6 +18,14 @@ class Status(enum.Enum):
     SECTION = 5
     NOTHING = 6
     ARGUMENT = 7
+    STATE = 8
+    UNREAD = 9
+    FIT = 10
+    PRINT = 11
+    ROWS = 12
+    CHANNELS = 13
+    NAME = 14
+    OWN = 15
 
 
 class Error(Exception):
@@ -89,7 +97,65 @@ class ClosedError(ArgumentError):
     meaning = "it is closed"
 
 
-_KINDS = {kind.status.value: kind for kind in (ParseError, Utf8Error, OutOfMemory, RoomError, SectionError, NothingAgreed, ArgumentError)}
+class StateError(Error):
+    """The call is out of turn: an offer of this side is open, or none is."""
+
+    status = Status.STATE
+    meaning = "the call is out of turn"
+
+
+class UnreadLine(Error, ValueError):
+    """A line of the text, which `line` numbers, fits nowhere, so that what follows it isn't known."""
+
+    status = Status.UNREAD
+    meaning = "a line of the text fits nowhere"
+
+
+class UnfitSection(Error, ValueError):
+    """A section breaks a rule of answers, or of later offers; `message` names both."""
+
+    status = Status.FIT
+    meaning = "a section breaks a rule"
+
+
+class UnprintableText(Error, ValueError):
+    """A text of this side would be read as something else."""
+
+    status = Status.PRINT
+    meaning = "the description would be read as another one"
+
+
+class NoRows(Error):
+    """No row of the configuration is for media of that kind."""
+
+    status = Status.ROWS
+    meaning = "this side has no codec for media of that kind"
+
+
+class NoChannels(Error):
+    """This side takes no data channels."""
+
+    status = Status.CHANNELS
+    meaning = "this side takes no data channels"
+
+
+class NoNameLeft(Error):
+    """Sections of the session have had each name that is a number of 32 bits."""
+
+    status = Status.NAME
+    meaning = "no name is left for a section"
+
+
+class OwnSideError(Error, ValueError):
+    """What this side says of itself has no fingerprint, or a line that is no candidate."""
+
+    status = Status.OWN
+    meaning = "a text of this side is no fingerprint, or no candidate"
+
+
+_OF_EXCHANGES = (StateError, UnreadLine, UnfitSection, UnprintableText, NoRows, NoChannels, NoNameLeft, OwnSideError)
+_OF_ALL = (ParseError, Utf8Error, OutOfMemory, RoomError, SectionError, NothingAgreed, ArgumentError)
+_KINDS = {kind.status.value: kind for kind in (*_OF_ALL, *_OF_EXCHANGES)}
 
 
 def check(status: int, error: Optional[RawError] = None) -> None:

@@ -3,7 +3,7 @@ from __future__ import annotations
 
 import ctypes
 import os
-from ctypes import POINTER, Structure, c_char, c_char_p, c_int, c_size_t, c_uint8, c_uint32, c_void_p
+from ctypes import POINTER, Structure, c_char, c_char_p, c_int, c_size_t, c_uint8, c_uint16, c_uint32, c_uint64, c_void_p
 
 ABI = 0  # ZAX_ABI of the header that this package is written for
 VARIABLE = "ZAXMONTH_LIBRARY"
@@ -26,6 +26,24 @@ class RawError(Structure):
     _fields_ = [("status", c_uint32), ("line", c_uint32), ("offset", c_size_t), ("message", c_char * 240)]
 
 
+class RawSlice(Structure):
+    _fields_ = [("at", c_char_p), ("length", c_size_t)]
+
+
+class RawOwn(Structure):
+    _fields_ = [
+        ("session_id", c_uint64),
+        *((name, RawSlice) for name in ("ice_ufrag", "ice_pwd", "fingerprint", "stream_id")),
+        ("extensions", POINTER(RawSlice)),
+        ("extension_count", c_size_t),
+        ("candidates", POINTER(RawSlice)),
+        ("candidate_count", c_size_t),
+        ("max_message_size", c_uint64),
+        ("sctp_port", c_uint16),
+        *((name, c_uint8) for name in ("has_channels", "audio", "video", "receives_simulcast")),
+    ]
+
+
 _HANDLE, _PLACE, _INDEX = c_void_p, POINTER(c_void_p), c_size_t
 _TEXT, _ERROR = (c_char_p, c_size_t), POINTER(RawError)
 _ROOM = (c_void_p, c_size_t, POINTER(c_size_t))
@@ -42,6 +60,7 @@ _CALLS = {
     "zax_row_codec": (c_uint32, (_HANDLE, _INDEX, _INDEX, *_ROOM)),
     "zax_row_fmtp": (c_uint32, (_HANDLE, _INDEX, _INDEX, *_ROOM)),
     JSON: (c_uint32, (_HANDLE, *_ROOM)),
+    "zax_findings": (c_uint32, (*_TEXT, *_ROOM)),
     "zax_config_defaults": (c_uint32, (_PLACE,)),
     "zax_config_empty": (c_uint32, (_PLACE,)),
     "zax_config_free": (None, (_HANDLE,)),
@@ -52,6 +71,20 @@ _CALLS = {
     "zax_config_row_codec": (c_uint32, (_HANDLE, _INDEX, *_ROOM)),
     "zax_config_row_fmtp": (c_uint32, (_HANDLE, _INDEX, *_ROOM)),
     "zax_answer": (c_uint32, (_HANDLE, _HANDLE, _INDEX)),
+    "zax_exchange_new": (c_uint32, (POINTER(RawOwn), _HANDLE, _PLACE, _ERROR)),
+    "zax_exchange_free": (None, (_HANDLE,)),
+    "zax_accept_offer": (c_uint32, (_HANDLE, *_TEXT, _PLACE, POINTER(c_uint64), _ERROR)),
+    "zax_create_offer": (c_uint32, (_HANDLE, _PLACE, POINTER(c_uint64), _ERROR)),
+    "zax_accept_answer": (c_uint32, (_HANDLE, *_TEXT, _ERROR)),
+    "zax_rollback": (c_uint32, (_HANDLE,)),
+    "zax_add_media": (c_uint32, (_HANDLE, c_uint32, c_uint32, _ERROR)),
+    "zax_add_channels": (c_uint32, (_HANDLE, _ERROR)),
+    "zax_restart_ice": (c_uint32, (_HANDLE, RawSlice, RawSlice)),
+    "zax_print_version": (c_uint32, (_HANDLE, c_uint64, *_ROOM)),
+    "zax_exchange_rows": (c_uint32, (_HANDLE, *_ROOM)),
+    "zax_exchange_row_codec": (c_uint32, (_HANDLE, _INDEX, *_ROOM)),
+    "zax_exchange_row_fmtp": (c_uint32, (_HANDLE, _INDEX, *_ROOM)),
+    "zax_exchange_state": (c_uint32, (_HANDLE, POINTER(c_uint32))),
 }
 
 

@@ -6,7 +6,12 @@
 //! assert_eq!(offer.rtp_params(0)?[0].pt, 111);
 //! # Ok::<(), Box<dyn std::error::Error>>(())
 //! ```
+mod exchange;
+mod own;
 mod raw;
+
+pub use exchange::{Description, Exchange, ExchangeError, SignalingState};
+pub use own::{DataChannels, Direction, IceCreds, MediaKind, OwnSide};
 
 use std::ffi::CStr;
 use std::fmt;
@@ -111,6 +116,13 @@ fn filled<T: Clone + Default>(call: impl Fn(*mut T, usize, *mut usize) -> u32) -
 
 fn text_of(bytes: Vec<u8>) -> String {
     String::from_utf8(bytes).expect("what is printed is UTF-8")
+}
+
+/// What is found in a text, whether it describes a session or not, as JSON: an array of objects with `line`, `column`, `severity`, `code`
+/// and `message` (docs/LINT.md).
+pub fn findings(text: &str) -> Result<String, SdpError> {
+    // SAFETY: the text is that long, and `filled` hands in room for so many bytes.
+    filled(|room, cap, needed| unsafe { raw::zax_findings(text.as_ptr().cast(), text.len(), room, cap, needed) }).map(text_of)
 }
 
 /// A description.
@@ -281,6 +293,12 @@ mod tests {
         assert_eq!(config.enable(14, true, false), Err(SdpError::Argument));
         assert_eq!(config.add_config(&Row { clock_rate: 0, ..row }, ""), Err(SdpError::Argument));
         assert_eq!(config.params().unwrap(), rows);
+    }
+
+    #[test]
+    fn what_is_found_is_json() {
+        let found = findings("x").unwrap();
+        assert!(found.starts_with("[{\"") && found.contains("\"line\":1,") && found.ends_with("}]"), "{found}");
     }
 
     #[test]

@@ -8,6 +8,35 @@ pub struct Session([u8; 0]);
 pub struct Config([u8; 0]);
 
 #[repr(C)]
+pub struct Exchange([u8; 0]);
+
+/// A text; of a list, it isn't null.
+#[repr(C)]
+pub struct Slice {
+    pub at: *const c_char,
+    pub length: usize,
+}
+
+#[repr(C)]
+pub struct Own {
+    pub session_id: u64,
+    pub ice_ufrag: Slice,
+    pub ice_pwd: Slice,
+    pub fingerprint: Slice,
+    pub stream_id: Slice,
+    pub extensions: *const Slice,
+    pub extension_count: usize,
+    pub candidates: *const Slice,
+    pub candidate_count: usize,
+    pub max_message_size: u64,
+    pub sctp_port: u16,
+    pub has_channels: u8,
+    pub audio: u8,
+    pub video: u8,
+    pub receives_simulcast: u8,
+}
+
+#[repr(C)]
 pub struct Error {
     pub status: u32,
     pub line: u32,
@@ -24,6 +53,7 @@ extern "C" {
     pub fn zax_rows(session: *mut Session, section: usize, room: *mut crate::Row, cap: usize, needed: *mut usize) -> u32;
     pub fn zax_row_codec(session: *mut Session, section: usize, row: usize, room: *mut u8, cap: usize, needed: *mut usize) -> u32;
     pub fn zax_row_fmtp(session: *mut Session, section: usize, row: usize, room: *mut u8, cap: usize, needed: *mut usize) -> u32;
+    pub fn zax_findings(text: *const c_char, length: usize, room: *mut u8, cap: usize, needed: *mut usize) -> u32;
     pub fn zax_config_defaults(config: *mut *mut Config) -> u32;
     pub fn zax_config_empty(config: *mut *mut Config) -> u32;
     pub fn zax_config_free(config: *mut Config);
@@ -49,4 +79,25 @@ extern "C" {
     ) -> u32;
     pub fn zax_config_rows(config: *mut Config, room: *mut crate::Row, cap: usize, needed: *mut usize) -> u32;
     pub fn zax_answer(config: *mut Config, own: *mut Session, section: usize) -> u32;
+    pub fn zax_exchange_new(own: *const Own, config: *mut Config, exchange: *mut *mut Exchange, error: *mut Error) -> u32;
+    pub fn zax_exchange_free(exchange: *mut Exchange);
+    pub fn zax_accept_offer(
+        exchange: *mut Exchange,
+        offer: *const c_char,
+        length: usize,
+        answer: *mut *mut Session,
+        version: *mut u64,
+        error: *mut Error,
+    ) -> u32;
+    pub fn zax_create_offer(exchange: *mut Exchange, offer: *mut *mut Session, version: *mut u64, error: *mut Error) -> u32;
+    pub fn zax_accept_answer(exchange: *mut Exchange, answer: *const c_char, length: usize, error: *mut Error) -> u32;
+    pub fn zax_rollback(exchange: *mut Exchange) -> u32;
+    pub fn zax_add_media(exchange: *mut Exchange, kind: u32, direction: u32, error: *mut Error) -> u32;
+    pub fn zax_add_channels(exchange: *mut Exchange, error: *mut Error) -> u32;
+    pub fn zax_restart_ice(exchange: *mut Exchange, ufrag: Slice, pwd: Slice) -> u32;
+    pub fn zax_print_version(session: *mut Session, version: u64, room: *mut u8, cap: usize, needed: *mut usize) -> u32;
+    pub fn zax_exchange_rows(exchange: *mut Exchange, room: *mut crate::Row, cap: usize, needed: *mut usize) -> u32;
+    pub fn zax_exchange_row_codec(exchange: *mut Exchange, row: usize, room: *mut u8, cap: usize, needed: *mut usize) -> u32;
+    pub fn zax_exchange_row_fmtp(exchange: *mut Exchange, row: usize, room: *mut u8, cap: usize, needed: *mut usize) -> u32;
+    pub fn zax_exchange_state(exchange: *mut Exchange, state: *mut u32) -> u32;
 }

@@ -1,5 +1,7 @@
 pub mod Answered
 pub mod Configured
+pub mod Exchanged
+pub mod Findings
 pub mod Found
 pub mod Held
 pub mod Mid

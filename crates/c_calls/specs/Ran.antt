@@ -6,7 +6,7 @@ use Rattle.str0m_signal.specs.Negotiation.{NegotiatedText}
 use Rattle.c_parts.specs.Row.{c_outcome}
 use Rattle.c_parts.specs.declared.row.Outcome as c
 
--- as many of the first items as there is room for; behind them the room is as it was
+-- as many of the first items as there is room for; after them the room is as it was
 abbrev pub front : {X : Type 0} → List X → List X → List X
 front items before = take (length before) items ++ drop (length items) before
 

@@ -3,7 +3,7 @@ use Rattle.std.specs.Prelude.{◌≡◌, ◌⊎◌, ℕ, List, length, Option, S
 use Rattle.c_parts.specs.Room.{begun_with}
 use Rattle.c_calls.specs.Status.{done, no_memory, no_room, no_section}
 
--- the status, the room and the count behind a call, from the room and the count before it and what it finds: that is put into the room
+-- the status, the room and the count after a call, from the room and the count before it and what it finds: that is put into the room
 -- where it fits, and is counted in any case; where there is no such section or row, both stay
 abbrev pub put_into : {X : Type 0} → List X × ℕ → Option (List X) → ℕ × List X × ℕ
 put_into before None = (no_section, before.0, before.1)

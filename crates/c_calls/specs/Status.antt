@@ -24,3 +24,27 @@ nothing_agreed = 6
 
 abbrev pub wrong_argument : ℕ
 wrong_argument = 7
+
+abbrev pub wrong_state : ℕ
+wrong_state = 8
+
+abbrev pub unread_line : ℕ
+unread_line = 9
+
+abbrev pub no_fit : ℕ
+no_fit = 10
+
+abbrev pub not_printable : ℕ
+not_printable = 11
+
+abbrev pub no_rows : ℕ
+no_rows = 12
+
+abbrev pub no_channels : ℕ
+no_channels = 13
+
+abbrev pub no_name : ℕ
+no_name = 14
+
+abbrev pub not_own : ℕ
+not_own = 15

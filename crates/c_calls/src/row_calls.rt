@@ -25,7 +25,12 @@ pub(crate) enum RowText {
     Format,
 }
 
-fn put_rows(alloc: Global, rows: &[PayloadParams], room: &mut [Row], needed: &mut usize) -> u32
+pub(crate) fn put_rows(
+    alloc: Global,
+    rows: &[PayloadParams],
+    room: &mut [Row],
+    needed: &mut usize,
+) -> u32
     ensures { Says (Some (map c_row rows.now)) (room.old, needed.old) (result, room.new, needed.new) }
 {
     match rows_of(alloc, rows) {
@@ -44,7 +49,7 @@ fn printed(alloc: Global, row: &PayloadParams, what: RowText) -> Result<String, 
     }
 }
 
-fn put_text(
+pub(crate) fn put_text(
     alloc: Global,
     rows: &[PayloadParams],
     row: usize,

@@ -9,7 +9,7 @@ ghost use Rattle.c_calls.specs.Mid.{mid_named, mid_text};
 ghost use Rattle.c_calls.specs.Says.{Puts, Says, SaysSome};
 ghost use Rattle.c_json.specs.JsonText.{IsJsonText};
 ghost use Rattle.c_calls.specs.Status.{done, no_session, no_utf8};
-ghost use Rattle.str0m_sdp.specs.Session.{sdp_text};
+ghost use Rattle.str0m_sdp.specs.Session.{sdp_text, versioned_text};
 ghost use Rattle.str0m_sdp.specs.declared.session.Sdp.{Sdp};
 ghost use Rattle.str0m_signal.specs.Reading.{Described, Reading};
 
@@ -18,7 +18,7 @@ use c_json::json_text;
 use c_parts::reading::read;
 use c_parts::session_handle::SessionHandle;
 use std::alloc::Global;
-use str0m_signal::{MediaLine, Mid, Sdp};
+use str0m_signal::{MediaLine, Mid, Sdp, VersionedSdp};
 
 /// Reads the description that a text begins with into an empty handle.
 #[unsafe(no_mangle)]
@@ -83,6 +83,31 @@ pub extern "C" fn zaxp_session_print(
 {
     let sdp = handle.take(alloc);
     let code = put_text(alloc, &sdp, room, needed);
+    handle.put(sdp);
+    code
+}
+
+fn put_versioned(alloc: Global, sdp: &Sdp, version: u64, room: &mut [u8], needed: &mut usize) -> u32
+    ensures { Says (Some (versioned_text version sdp.now)) (room.old, needed.old) (result, room.new, needed.new) }
+{
+    put_made(VersionedSdp { sdp, version }.to_string(alloc), room, needed)
+}
+
+/// Prints the description with a version in its `o=` line, as answers and offers print.
+#[unsafe(no_mangle)]
+pub extern "C" fn zaxp_session_print_version(
+    alloc: Global,
+    handle: &mut SessionHandle,
+    version: u64,
+    room: &mut [u8],
+    needed: &mut usize,
+) -> u32
+    requires { IsFull handle.old.inner }
+    ensures same { handle.new.inner ≡ handle.old.inner }
+    ensures says { Of handle.old.inner (λ sdp. Says (Some (versioned_text version sdp)) (room.old, needed.old) (result, room.new, needed.new)) }
+{
+    let sdp = handle.take(alloc);
+    let code = put_versioned(alloc, &sdp, version, room, needed);
     handle.put(sdp);
     code
 }

@@ -1,4 +1,6 @@
 pub mod ConfigOwned
+pub mod ExchangeOwned
+pub mod Fault
 pub mod Full
 pub mod Owned
 pub mod Refused
@@ -6,3 +8,4 @@ pub mod Room
 pub mod Row
 pub mod Section
 pub mod SessionOwned
+pub mod Side

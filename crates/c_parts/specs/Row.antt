@@ -47,7 +47,7 @@ abbrev pub bit : ℕ → Bool → ℕ
 bit n true = n
 bit n false = 0
 
--- feedback as bits (`ZAX_TRANSPORT_CC` and those behind it)
+-- feedback as bits (`ZAX_TRANSPORT_CC` and those after it)
 abbrev pub feedback_bits : PayloadParams → ℕ
 feedback_bits row = bit 1 row.fb_transport_cc + (bit 2 row.fb_nack + (bit 4 row.fb_pli + (bit 8 row.fb_fir + bit 16 row.fb_remb)))
 

@@ -3,9 +3,12 @@
 #![tactic(auto)]
 
 pub mod config_handle;
+pub mod exchange_handle;
+pub mod fault;
 mod parts;
 pub mod reading;
 pub mod room;
 pub mod row;
 pub mod section;
 pub mod session_handle;
+pub mod side;

@@ -28,7 +28,7 @@ fn read_text(alloc: Global, text: &str) -> Result<(Sdp, usize), SdpError>
     }
 }
 
-/// The description that the bytes begin with, and how many bytes behind it are unread.
+/// The description that the bytes begin with, and how many bytes after it are unread.
 pub fn read(alloc: Global, bytes: &[u8]) -> Result<(Sdp, usize), Refusal>
     ensures read { IfOk result (λ read. (rest : List ℕ) × Reading bytes.now (read.0, rest) × (read.1 ≡ length rest)) }
     ensures refused { IfErr result (λ refusal. RefusesText refusal bytes.now) }

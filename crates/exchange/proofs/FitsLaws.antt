@@ -1,16 +1,16 @@
 -- An answer that fits its offer.
-use Rattle.std.proofs.Common.{arith, ◌≡◌, ◌<◌, ◌≤◌, ℕ, List, [], ◌∷◌, All, Option, length, inl, inr, subst}
+use Rattle.std.proofs.Common.{arith, ◌≡◌, ◌<◌, ◌≤◌, ℕ, List, All, Option, get_or, length, take, inl, inr, subst}
 use Rattle.std.proofs.lemmas.Bool.{cases_lt}
-use Rattle.std.proofs.lemmas.Option.{slice_get_past}
+use Rattle.std.proofs.lemmas.Option.{slice_get-get_or, slice_get_past}
 use Rattle.str0m_formats.specs.declared.payload_params.PayloadParams.{PayloadParams}
 use Rattle.str0m_sdp.specs.declared.media_line.MediaLine.{MediaLine}
 use Rattle.str0m_sdp.specs.declared.session.Sdp.{Sdp}
-use Rattle.exchange.specs.Fits.{FitsAt, FitsSection, Keeps}
+use Rattle.exchange.specs.Fits.{BreaksFirst, FitsAt, FitsSection, Keeps, asked}
 use Rattle.exchange.specs.Places.{StaysInPlaceAt}
 use Rattle.exchange.specs.declared.rule.Rule.{Rule}
 use Rattle.exchange.specs.declared.rule.Rule.TheVariants as rule
 
--- behind the last section of the offer nothing is asked
+-- after the last section of the offer nothing is asked
 pub all_fit : (ours : List PayloadParams) (offer answer : Sdp) (n : ℕ) → length offer.media_lines ≤ n
     → ((k : ℕ) → k < n → FitsAt ours offer answer k) → (at : ℕ) → FitsAt ours offer answer at
 all_fit ours offer answer n past fits at = elim (cases_lt at n) [
@@ -33,12 +33,14 @@ all_kept names local remote offer n past kept at = elim (cases_lt at n) [
 
 -- ---- the rules of a section
 
--- those that are asked of a section, in order
-abbrev pub asked : List Rule
-asked =
-    rule.MediaType ∷ (rule.Protocol ∷ (rule.Name ∷ (rule.Stopped ∷ (rule.Direction ∷ (rule.Role ∷ (rule.Formats ∷ (rule.Lines ∷ (rule.Layers ∷ (rule.Credentials ∷ (rule.Fingerprint ∷ []))))))))))
+-- the first that isn't kept
+pub first_broken : (ours : List PayloadParams) (answer : Sdp) (offered answered : MediaLine) (i : ℕ) → i < length asked
+    → All (Keeps ours answer offered answered) (take i asked) → (Keeps ours answer offered answered (get_or asked i rule.Sections) → ⊥)
+    → BreaksFirst ours answer offered answered (get_or asked i rule.Sections)
+first_broken ours answer offered answered i lt kept broken =
+    record { place = i; stands = slice_get-get_or asked i rule.Sections lt; earlier = kept; broken = broken }
 
--- each rule is among them, or asks nothing
+-- each rule is among those that are asked, or asks nothing
 pub rules_kept : (ours : List PayloadParams) (answer : Sdp) (offered answered : MediaLine) (rules : List Rule) → rules ≡ asked
     → All (Keeps ours answer offered answered) rules → FitsSection ours answer offered answered
 rules_kept ours answer offered answered rules is all = kept (subst (All (Keeps ours answer offered answered)) is all) where

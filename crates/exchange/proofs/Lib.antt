@@ -8,7 +8,6 @@ pub mod FreshLaws
 pub mod InForceLaws
 pub mod LayerLaws
 pub mod ListLaws
-pub mod NameLaws
 pub mod OfferFollows
 pub mod OfferNameLaws
 pub mod OfferRuleLaws
@@ -24,6 +23,7 @@ pub mod RoundNameLaws
 pub mod RowLaws
 pub mod RowTypes
 pub mod RuleLaws
+pub mod StoppedLaws
 pub mod TrackLaws
 pub mod TrickledLaws
 pub mod TypeLaws

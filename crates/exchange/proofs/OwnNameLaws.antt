@@ -26,7 +26,7 @@ pub record AreOwn (sections : List MediaLine) (names : BTreeSet (Bor (List ℕ))
   pub held : Holds names (section_mids (take at sections))
   pub differ : AreDistinct (section_mids (take at sections))
 
--- ---- one name behind others
+-- ---- one name after others
 
 turned_so : (b c : Bool) → (b || c) ≡ (c || (b || false))
 turned_so true true = refl

@@ -8,7 +8,7 @@ use Rattle.str0m_sdp.specs.declared.session.Sdp.{Sdp}
 use Rattle.exchange.specs.InForce.{creds_at, in_force_of}
 use Rattle.exchange.specs.Restart.{IsIceRestart, IsRestartedAt}
 
--- behind the last section no credentials are in force
+-- after the last section no credentials are in force
 no_creds : (sdp : Sdp) (at : ℕ) → length sdp.media_lines ≤ at → creds_at sdp at ≡ None
 no_creds sdp at past =
     ap (λ (m : Option MediaLine). creds (in_force_of media_ufrag session_ufrag sdp.session.attrs m) (in_force_of media_pwd session_pwd sdp.session.attrs m))

@@ -11,7 +11,7 @@ use Rattle.str0m_sdp.specs.declared.media_line.MediaLine.{MediaLine}
 use Rattle.str0m_sdp.specs.declared.session.Sdp.{Sdp}
 use Rattle.exchange.specs.Offered.{AreRoundsOf, BringsRound, IsRoundOf}
 
--- a section behind the others that brings none
+-- a section after the others that brings none
 behind_none : (offer : Sdp) (ms : List MediaLine) (m : MediaLine) (rounds : List Round) → (BringsRound offer m → ⊥)
     → AreRoundsOf offer ms rounds → AreRoundsOf offer (ms ++ m ∷ []) rounds
 behind_none offer [] m rounds none are = inl (none, are)
@@ -20,7 +20,7 @@ behind_none offer (x ∷ xs) m rounds none are = elim are [
   | inr q ↦ inr (q.0, q.1, q.2, q.3, q.4, behind_none offer xs m q.2 none q.5)
 ]
 
--- a section behind the others that brings one
+-- a section after the others that brings one
 behind_one : (offer : Sdp) (ms : List MediaLine) (m : MediaLine) (rounds : List Round) (round : Round) → BringsRound offer m → IsRoundOf m round
     → AreRoundsOf offer ms rounds → AreRoundsOf offer (ms ++ m ∷ []) (rounds ++ round ∷ [])
 behind_one offer [] m rounds round brings is are = inr (brings, round, [], ap (λ (rs : List Round). rs ++ round ∷ []) are, is, refl)

@@ -168,7 +168,7 @@ rejecting_shape offered = record { typ = refl; proto = refl; name = rejected_nam
 
 -- ---- sections that accept
 
--- the direction that stands behind the first lines is the section's
+-- the direction that stands after the first lines is the section's
 pub direction_said : (own : OwnSide) (mid : List ℕ) (role : Setup) (direction : Direction) (behind rows : List MediaAttribute)
     → section_direction (filter (λ attr. not (is_of_type attr)) (first_lines own mid role ++ (direction_attribute direction ∷ behind)) ++ rows) ≡ direction
 direction_said own mid role way.SendRecv behind rows = refl

@@ -18,7 +18,7 @@ use Rattle.exchange.specs.declared.signaling_state.SignalingState.TheVariants.{S
 abbrev pub IsAnswer : List ℕ → Sdp → Type 0
 IsAnswer text answer = Reading text (answer, [])
 
--- why an answer with these rows behind its rounds doesn't fit an offer
+-- why an answer with these rows after its rounds doesn't fit an offer
 abbrev pub RefusesFit : List PayloadParams → Sdp → Sdp → ExchangeError → Type 0
 RefusesFit ours offer answer (DoesNotFit section broken) = Breaks ours offer answer section broken
 RefusesFit ours offer answer Memory = Unit {0}

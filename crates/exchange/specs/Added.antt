@@ -22,6 +22,6 @@ direction_under mid Channels = None
 abbrev pub direction_of : Placed → Option SectionDirection
 direction_of placed = direction_under placed.mid placed.added
 
--- behind what this side is ready for in other sections
+-- after what this side is ready for in other sections
 abbrev pub with_placed : List SectionDirection → List Placed → List SectionDirection
 with_placed entries placed = entries ++ filter_map direction_of placed

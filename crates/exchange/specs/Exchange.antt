@@ -55,7 +55,7 @@ pub record IsUnprintable (old : Exchange) (text : List ℕ) : Type 0 where
   pub loses : LosesAnswer old ours offer
 
 -- which section of an offer isn't taken, and the rule that it breaks: it has the name of an earlier one, or no two have one name
--- and it isn't in its place behind the last exchange
+-- and it isn't in its place after the last exchange
 abbrev pub BreaksAt : List (List ℕ) → List MediaLine → Option Sdp → Sdp → ℕ → Rule → Type 0
 BreaksAt names local remote offer section OwnName = IsNamedAgain offer.media_lines section
 BreaksAt names local remote offer section Place = AreDistinct (section_mids offer.media_lines) × MovesAt names local remote offer section

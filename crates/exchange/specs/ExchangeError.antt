@@ -4,7 +4,7 @@ use Rattle.str0m_sdp.specs.declared.error.SdpError.TheVariants as sdp
 use Rattle.exchange.specs.declared.exchange_error.ExchangeError.{ExchangeError}
 use Rattle.exchange.specs.declared.exchange_error.ExchangeError.TheVariants.{NotRead, Memory}
 
--- what a reader refuses, but for want of memory
+-- what a reader refuses, but for refused memory
 abbrev pub not_read : SdpError → ExchangeError
 not_read sdp.Memory = Memory
 not_read cause = NotRead cause

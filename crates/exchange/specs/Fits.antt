@@ -1,5 +1,5 @@
 -- The rules that an answer to an offer of this side keeps.
-use Rattle.std.specs.Prelude.{◌≡◌, ◌≢◌, ◌⊎◌, ℕ, true, false, cond, List, [], Option, Some, None, All, filter_map, length}
+use Rattle.std.specs.Prelude.{◌≡◌, ◌≢◌, ◌<◌, ◌⊎◌, ℕ, true, false, cond, List, [], ◌∷◌, Option, Some, None, All, filter_map, length, take}
 use Rattle.std.specs.List.{slice_get}
 use Rattle.str0m_values.specs.Direction.{receives, sends}
 use Rattle.str0m_values.specs.declared.direction.Direction.{Direction}
@@ -31,7 +31,7 @@ pub record FlowsWithin (offered answered : Direction) : Type 0 where
 abbrev pub IfAccepted : MediaLine → Type 0 → Type 0
 IfAccepted answered Holds = answered.disabled ≡ false → Holds
 
--- what each rule asks of a section, where `ours` are this side's rows behind the rounds of the answer
+-- what each rule asks of a section, where `ours` are this side's rows after the rounds of the answer
 abbrev pub Keeps : List PayloadParams → Sdp → MediaLine → MediaLine → Rule → Type 0
 Keeps ours answer offered answered rule.MediaType = answered.typ ≡ offered.typ
 Keeps ours answer offered answered rule.Protocol = answered.proto ≡ offered.proto
@@ -86,19 +86,38 @@ pub record FitsOffer (ours : List PayloadParams) (offer answer : Sdp) : Type 0 w
 
 -- ---- what doesn't fit
 
--- the section at a place breaks a rule
+-- the rules of a section, in the order in which they are asked
+abbrev pub asked : List Rule
+asked =
+    rule.MediaType ∷ (rule.Protocol ∷ (rule.Name ∷ (rule.Stopped ∷ (rule.Direction ∷ (rule.Role ∷ (rule.Formats ∷ (rule.Lines ∷ (rule.Layers ∷ (rule.Credentials ∷ (rule.Fingerprint ∷ []))))))))))
+
+-- a section breaks a rule, and keeps all that are asked before it
+pub record BreaksFirst (ours : List PayloadParams) (answer : Sdp) (offered answered : MediaLine) (rule : Rule) : Type 0 where
+  pub place : ℕ
+  pub stands : slice_get asked place ≡ Some rule
+  pub earlier : All (Keeps ours answer offered answered) (take place asked)
+  pub broken : Keeps ours answer offered answered rule → ⊥
+
+-- so does the section at a place
 pub record BreaksAt (ours : List PayloadParams) (offer answer : Sdp) (at : ℕ) (rule : Rule) : Type 0 where
   pub offered : MediaLine
   pub answered : MediaLine
   pub offered_there : slice_get offer.media_lines at ≡ Some offered
   pub answered_there : slice_get answer.media_lines at ≡ Some answered
-  pub broken : Keeps ours answer offered answered rule → ⊥
+  pub first : BreaksFirst ours answer offered answered rule
 
--- the answer as a whole breaks one
-abbrev pub BreaksWhole : Sdp → Sdp → Rule → Type 0
-BreaksWhole offer answer rule.Sections = length answer.media_lines ≢ length offer.media_lines
-BreaksWhole offer answer rule.Bundle = BundlesSo offer answer → ⊥
-BreaksWhole offer answer _ = ⊥
+-- and those before it keep every rule
+abbrev pub BreaksFirstAt : List PayloadParams → Sdp → Sdp → ℕ → Rule → Type 0
+BreaksFirstAt ours offer answer at rule = ((before : ℕ) → before < at → FitsAt ours offer answer before) × BreaksAt ours offer answer at rule
 
+-- the answer as a whole breaks one: it has too many or too few sections, or all fit and the group lists what it may not
+abbrev pub BreaksWhole : List PayloadParams → Sdp → Sdp → Rule → Type 0
+BreaksWhole ours offer answer rule.Sections = length answer.media_lines ≢ length offer.media_lines
+BreaksWhole ours offer answer rule.Bundle =
+    (length answer.media_lines ≡ length offer.media_lines) × ((at : ℕ) → FitsAt ours offer answer at) × (BundlesSo offer answer → ⊥)
+BreaksWhole ours offer answer _ = ⊥
+
+-- the first that is broken: the number of sections is asked first, then section by section each rule, then the group
 abbrev pub Breaks : List PayloadParams → Sdp → Sdp → ℕ → Rule → Type 0
-Breaks ours offer answer at rule = BreaksAt ours offer answer at rule ⊎ BreaksWhole offer answer rule
+Breaks ours offer answer at rule =
+    ((length answer.media_lines ≡ length offer.media_lines) × BreaksFirstAt ours offer answer at rule) ⊎ BreaksWhole ours offer answer rule

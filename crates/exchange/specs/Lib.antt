@@ -1,6 +1,7 @@
 pub mod Accepted
 pub mod AcceptedAnswer
 pub mod Added
+pub mod AddedTo
 pub mod AnsweredSection
 pub mod AnsweredSession
 pub mod Bundle

@@ -8,6 +8,6 @@ use Rattle.exchange.specs.Stopped.{name_of}
 abbrev pub new_name : List (List ℕ) → MediaLine → Option (List ℕ)
 new_name names m = cond (is_listed names (name_of m)) None (name_of m)
 
--- the names with those of sections that are new, behind them and in order
+-- the names with those of sections that are new, after them and in order
 abbrev pub grown : List (List ℕ) → List MediaLine → List (List ℕ)
 grown names sections = names ++ filter_map (new_name names) sections

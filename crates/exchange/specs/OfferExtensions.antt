@@ -31,7 +31,7 @@ abbrev pub greatest_in : ℕ → List MediaLine → ℕ
 greatest_in least [] = least
 greatest_in least (m ∷ ms) = greatest_in (greatest_of least m.attrs) ms
 
--- the number for a URI: the one that is said, else the next behind the last, up to 14 (one-byte headers, RFC 8285, section 4.2)
+-- the number for a URI: the one that is said, else the next after the last, up to 14 (one-byte headers, RFC 8285, section 4.2)
 abbrev pub next_number : ℕ → Option ℕ
 next_number last = if nat_lt last 14 then Some (last + 1) else None
 

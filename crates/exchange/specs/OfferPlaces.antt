@@ -37,7 +37,7 @@ FillsPlaces old ready at (mine ∷ more) added [] left = ⊥
 FillsPlaces old ready at (mine ∷ more) added (said ∷ behind) left =
     (between : List MediaLine) × FillsPlace old ready at mine added said between × FillsPlaces old ready (at + 1) more between behind left
 
--- all places, and behind them what is left of what is added
+-- all places, and after them what is left of what is added
 pub record FillsAll (old : Exchange) (ready : List SectionDirection) (places added sections : List MediaLine) : Type 0 where
   pub filled : List MediaLine
   pub left : List MediaLine

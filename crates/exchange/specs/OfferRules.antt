@@ -35,7 +35,7 @@ HasNewName old m = MatchOption (name_of m) ⊥ (IsNewName old)
 abbrev pub KeepsPlace : Exchange → ℕ → MediaLine → MediaLine → Type 0
 KeepsPlace old at mine said = HasShapeOf mine said ⊎ (IsOver old.remote at mine × HasNewName old said)
 
--- each place from one on, and there may be more behind them
+-- each place from one on, and there may be more after them
 abbrev pub KeepsPlaces : Exchange → ℕ → List MediaLine → List MediaLine → Type 0
 KeepsPlaces old at [] sections = Unit {0}
 KeepsPlaces old at (mine ∷ more) [] = ⊥

@@ -38,7 +38,7 @@ abbrev pub type_of : MediaKind → MediaType
 type_of kind.Audio = Audio
 type_of kind.Video = Video
 
--- what media says but for its rows, behind its name and its transport: its direction, where this side is reached, what both
+-- what media says but for its rows, after its name and its transport: its direction, where this side is reached, what both
 -- sides have to agree on, and its track
 abbrev pub flow_lines : OwnSide → List ℕ → Direction → List MediaAttribute → List MediaAttribute
 flow_lines own mid direction asked = direction_attribute direction ∷ [] ++ map candidate_line own.candidates ++ asked ++ msid_lines own direction mid

@@ -1,9 +1,13 @@
 -- The places of sections over several exchanges (RFC 3264, section 8; RFC 8829, section 5.2.2).
 use Rattle.std.specs.Prelude.{◌≡◌, ◌<◌, ◌≤◌, ◌⊎◌, ℕ, true, false, List, Option, Some, IfSome, IsSomeAnd, length}
+use Rattle.std.specs.Borrow.{Bor}
+use Rattle.std.specs.BTreeSet.{BTreeSet}
 use Rattle.std.specs.List.{slice_get}
+use Rattle.str0m_sdp.specs.OrderedMids.{Holds}
 use Rattle.str0m_sdp.specs.SessionConsistency.{is_listed}
 use Rattle.str0m_sdp.specs.declared.media_line.MediaLine.{MediaLine}
 use Rattle.str0m_sdp.specs.declared.session.Sdp.{Sdp}
+use Rattle.exchange.specs.InBundle.{bundle_names}
 use Rattle.exchange.specs.Stopped.{IsStoppedAt, name_of}
 
 -- ---- which places may have a new name
@@ -12,7 +16,11 @@ use Rattle.exchange.specs.Stopped.{IsStoppedAt, name_of}
 abbrev pub IsOver : Option Sdp → ℕ → MediaLine → Type 0
 IsOver remote at mine = (mine.disabled ≡ true) ⊎ IsSomeAnd remote (λ sdp. IsStoppedAt sdp at)
 
--- it is over, where it isn't behind the last
+-- the names of the other side's first `BUNDLE` group in order, where it has said a description
+abbrev pub HoldsGroup : Option Sdp → BTreeSet (Bor (List ℕ)) → Type 0
+HoldsGroup remote group = IfSome remote (λ sdp. Holds group (bundle_names sdp))
+
+-- it is over, where it isn't after the last
 abbrev pub IsFree : List MediaLine → Option Sdp → ℕ → Type 0
 IsFree local remote at = IfSome (slice_get local at) (IsOver remote at)
 
@@ -34,12 +42,12 @@ StaysInPlace names local remote at m = HasNameAt local at m ⊎ (IsFree local re
 abbrev pub StaysInPlaceAt : List (List ℕ) → List MediaLine → Option Sdp → Sdp → ℕ → Type 0
 StaysInPlaceAt names local remote offer at = (m : MediaLine) → slice_get offer.media_lines at ≡ Some m → StaysInPlace names local remote at m
 
--- an offer behind earlier exchanges, where `local` are this side's sections in the last one: at least as many, each in its place
+-- an offer after earlier exchanges, where `local` are this side's sections in the last one: at least as many, each in its place
 pub record StaysInPlaces (names : List (List ℕ)) (local : List MediaLine) (remote : Option Sdp) (offer : Sdp) : Type 0 where
   pub as_many : length local ≤ length offer.media_lines
   pub each : (at : ℕ) → StaysInPlaceAt names local remote offer at
 
--- the first place that isn't kept: behind the last section of an offer that has too few, or at a section
+-- the first place that isn't kept: after the last section of an offer that has too few, or at a section
 abbrev pub MovesAt : List (List ℕ) → List MediaLine → Option Sdp → Sdp → ℕ → Type 0
 MovesAt names local remote offer at =
     ((before : ℕ) → before < at → StaysInPlaceAt names local remote offer before)

@@ -28,7 +28,7 @@ direction_over Sctp = []
 abbrev pub line_that : (MediaAttribute → Bool) → List MediaAttribute → List MediaAttribute
 line_that test lines = option_to_list (find test lines)
 
--- the offered type, protocol and name behind port 0 (RFC 3264, section 6; RFC 8829, section 5.3.1), and a type with its mapping
+-- the offered type, protocol and name after port 0 (RFC 3264, section 6; RFC 8829, section 5.3.1), and a type with its mapping
 abbrev pub rejecting : MediaLine → MediaLine
 rejecting offered = record {
   typ = offered.typ;

@@ -66,11 +66,17 @@ pub(crate) fn candidate_lines(
     Ok(lines)
 }
 
+/// The most bytes that the id of a track has: a name has sixteen at most.
+const TRACK_ID: usize = 22;
+
 /// The id of the track that is sent in a section: no two sections may name the same.
 fn track_id(alloc: Global, mid: Mid) -> Result<Text, AllocError>
     ensures { IfOk result (λ id. id ≡ track_id mid) }
 {
-    Ok(Text::from(format!(in alloc; "track-{mid}")?))
+    let mut id = String::with_capacity(alloc, TRACK_ID)?;
+    id.push_str("track-")?;
+    id.push_str(mid.as_str())?;
+    Ok(Text::from(id))
 }
 
 /// The stream and the track, where this side sends.
@@ -223,7 +229,7 @@ fn keep_frame(lines: &mut Vec<MediaAttribute>)
     lines.retain(|attr| !attr.is_of_type());
 }
 
-/// Puts the lines of rows behind others.
+/// Puts the lines of rows after others.
 fn push_rows(lines: &mut Vec<MediaAttribute>, rows: &[PayloadParams]) -> Result<(), AllocError>
     ensures { OnOk result (lines.new.items ≡ lines.old.items ++ flat_map row_attrs rows.now) }
 {

@@ -24,7 +24,7 @@ use crate::signaling_state::SignalingState;
 use std::alloc::{AllocError, Global};
 use str0m_signal::{CodecConfig, Items, Sdp};
 
-/// An error where an answer doesn't fit an offer of this side, which has this configuration behind the rounds of the answer.
+/// An error where an answer doesn't fit an offer of this side, which has this configuration after the rounds of the answer.
 fn check_fit(
     alloc: Global,
     ours: &CodecConfig,
@@ -43,7 +43,7 @@ fn check_fit(
     }
 }
 
-/// What was added behind the first so many.
+/// What was added after the first so many.
 fn behind(alloc: Global, added: &[Added], placed: usize) -> Result<Items<Added>, AllocError>
     ensures { IfOk result (λ left. left ≡ drop placed added.now) }
 {
@@ -79,7 +79,7 @@ impl Exchange {
     ///
     /// Nothing is changed by an error. `WrongState` where no offer is open; `NotRead` where the text describes no session;
     /// `Unread` where a line of it is left; `DoesNotFit` exactly where it breaks a rule, with the first section that breaks
-    /// one, and the first such rule; `Memory` where memory was refused.
+    /// one, and the first such rule in the order of `Rule`; `Memory` where memory was refused.
     #[tactic(auto, using(crate::proofs::FollowLaws::follows_self))]
     pub fn accept_answer(&mut self, answer: &str) -> Result<(), ExchangeError>
         ensures waiting { OnOk result (state_of self.old ≡ HaveLocalOffer) }

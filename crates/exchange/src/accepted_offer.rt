@@ -61,7 +61,7 @@ fn answer_to(
     })
 }
 
-/// An error where two sections of an offer have one name, or one isn't in its place behind the last exchange.
+/// An error where two sections of an offer have one name, or one isn't in its place after the last exchange.
 fn check_sections(
     alloc: Global,
     names: &Items<Mid>,
@@ -135,7 +135,7 @@ impl Exchange {
     ///
     /// Nothing is changed by an error. `WrongState` where the state isn't `Stable`; `NotRead` where the text
     /// describes no session; `Unread` where a line of it is left; `DoesNotFit` exactly where a section has the mid of an earlier
-    /// one, with the first such one and `Rule::OwnName`, or else where one isn't in its place behind the last exchange, with the
+    /// one, with the first such one and `Rule::OwnName`, or else where one isn't in its place after the last exchange, with the
     /// first such one and `Rule::Place`; `NotPrintable` where the answer would be read as another one; `Memory` where memory was
     /// refused.
     #[tactic(auto, using(crate::proofs::FollowLaws::follows_self))]

@@ -58,7 +58,7 @@ fn direction_of(placed: &Placed) -> Option<SectionDirection>
     }
 }
 
-/// What this side is ready for, with that of what is placed behind it.
+/// What this side is ready for, with that of what is placed after it.
 pub(crate) fn with_placed(
     alloc: Global,
     entries: &[SectionDirection],

@@ -27,6 +27,14 @@ impl Answer {
     {
         self.version
     }
+
+    /// The description, without a copy.
+    pub fn into_sdp(self) -> Sdp
+        ensures { result ≡ self.sdp }
+    {
+        let Answer { sdp, .. } = self;
+        sdp
+    }
 }
 
 impl Deref for Answer {

@@ -1,17 +1,21 @@
 //! The sections of an answer.
 ghost use Rattle.std.specs.Prelude.{◌≡◌, IfOk};
 ghost use Rattle.std.specs.List.{AllZip};
+ghost use Rattle.str0m_sdp.specs.OrderedMids.{Holds};
 ghost use Rattle.str0m_sdp.specs.SectionRows.{rows};
 ghost use Rattle.exchange.specs.AnsweredSection.{AnswersSection, SaysChoice};
+ghost use Rattle.exchange.specs.InBundle.{bundle_names};
 ghost use Rattle.exchange.specs.Offered.{AreRoundsOf, BringsRound};
 ghost use Rattle.exchange.specs.Rules.{HasShapeOf, IsAcceptedExactly, KeepsRules};
 
 use crate::accepted::{accepted_channels, accepted_media};
 use crate::choice::{Choice, choice_of};
+use crate::in_bundle::ordered_bundle;
 use crate::offered::rows_of_next;
 use crate::own_side::OwnSide;
 use crate::rejected_section::rejected;
 use std::alloc::{AllocError, Global};
+use std::collections::BTreeSet;
 use str0m_signal::{CodecConfig, Items, MediaLine, PayloadParams, Round, Sdp};
 
 /// The section that says this choice.
@@ -36,18 +40,21 @@ fn section_of_choice(
 }
 
 /// The section that answers one, with `theirs` for its rows where it brings a round (RFC 3264, section 6; RFC 8829, section 5.3.1).
+/// `group` has the names of the offer's group in order.
 fn answered_section(
     alloc: Global,
     own: &OwnSide,
     config: &CodecConfig,
     offer: &Sdp,
+    group: &BTreeSet<&str>,
     offered: &MediaLine,
     theirs: &[PayloadParams],
 ) -> Result<MediaLine, AllocError>
-    requires { BringsRound offer.now offered.now → theirs.now ≡ rows offered.now }
+    requires group { Holds group.now (bundle_names offer.now) }
+    requires rows { BringsRound offer.now offered.now → theirs.now ≡ rows offered.now }
     ensures { IfOk result (AnswersSection own.now config.now.params.items offer.now offered.now) }
 {
-    let choice = choice_of(own, config, offer, offered, theirs)?;
+    let choice = choice_of(own, config, offer, group, offered, theirs)?;
     section_of_choice(alloc, own, offer, offered, &choice)
 }
 
@@ -63,12 +70,13 @@ fn each_answered(
     requires { AreRoundsOf offer.now offer.now.media_lines rounds.now }
     ensures { IfOk result (AllZip (AnswersSection own.now config.now.params.items offer.now) offer.now.media_lines) }
 {
+    let group = ordered_bundle(alloc, offer)?;
     let offered = offer.media_lines.as_slice();
     let mut sections = Vec::with_capacity(alloc, offered.len())?;
     let mut left = rounds;
     for section in offered {
-        let (theirs, later) = rows_of_next(offer, section, left);
-        sections.push(answered_section(alloc, own, config, offer, section, theirs)?)?;
+        let (theirs, later) = rows_of_next(&group, offer, section, left);
+        sections.push(answered_section(alloc, own, config, offer, &group, section, theirs)?)?;
         left = later;
     }
     Ok(Items::from(sections))

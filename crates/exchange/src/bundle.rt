@@ -1,12 +1,14 @@
 //! The names that the group of an answer lists.
 
 ghost use Rattle.std.specs.Prelude.{◌≡◌, IfOk, Some};
-ghost use Rattle.std.specs.Str.{bytes_eq};
+ghost use Rattle.str0m_sdp.specs.OrderedMids.{Holds};
 ghost use Rattle.str0m_sdp.specs.SessionConsistency.{is_listed};
 ghost use Rattle.exchange.specs.Bundle.{accepted_names, answered_bundle, listed_among, name_if_accepted};
 
+use crate::names::{is_held, ordered};
 use crate::stopped::name_of;
 use std::alloc::{AllocError, Global};
+use std::collections::BTreeSet;
 use str0m_signal::{Items, MediaLine, Mid, Sdp};
 
 fn name_if_accepted(section: &MediaLine, is_accepted: bool) -> Option<Mid>
@@ -38,25 +40,22 @@ pub(crate) fn accepted_names(
     Ok(names)
 }
 
-fn is_same(mid: Mid, other: Mid) -> bool
-    ensures { result ≡ bytes_eq mid other }
-{
-    mid == other
-}
-
-fn is_listed(names: &[Mid], mid: Mid) -> bool
+/// Whether a name is among others, which `listed` has in order.
+fn is_listed(names: &[Mid], listed: &BTreeSet<&str>, mid: Mid) -> bool
+    requires { Holds listed.now names.now }
     ensures { result ≡ is_listed names.now (Some mid) }
 {
-    names.iter().any(|other| is_same(*other, mid))
+    is_held(listed, Some(mid))
 }
 
 /// The names of a group that are among others, in the group's order.
 fn listed_among(alloc: Global, names: &[Mid], group: &[Mid]) -> Result<Vec<Mid>, AllocError>
     ensures { IfOk result (λ mids. mids.items ≡ listed_among names.now (Some group.now)) }
 {
+    let listed = ordered(alloc, names)?;
     let mut mids = Vec::new(alloc);
     for mid in group {
-        if is_listed(names, *mid) {
+        if is_listed(names, &listed, *mid) {
             mids.push(*mid)?;
         }
     }

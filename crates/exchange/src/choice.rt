@@ -1,16 +1,19 @@
 //! What a section is answered with.
 ghost use Rattle.std.specs.Prelude.{◌≡◌, IfOk, true};
 ghost use Rattle.str0m_sdp.specs.MediaType.{is_media};
+ghost use Rattle.str0m_sdp.specs.OrderedMids.{Holds};
 ghost use Rattle.str0m_sdp.specs.SectionRows.{rows};
 ghost use Rattle.str0m_sdp.specs.declared.proto.Proto.TheVariants.{Srtp};
 ghost use Rattle.exchange.specs.Choice.{IsChoice, channels_or_none, open_choice, rows_or_none};
+ghost use Rattle.exchange.specs.InBundle.{bundle_names};
 ghost use Rattle.exchange.specs.Offered.{BringsRound};
 ghost use Rattle.exchange.specs.Rows.{answered_rows};
 
 use crate::own_side::{DataChannels, OwnSide};
 use crate::rows::answered_rows;
-use crate::stopped::{is_section_stopped, name_of};
+use crate::stopped::{is_stopped_in, name_of};
 use std::alloc::AllocError;
+use std::collections::BTreeSet;
 use str0m_signal::{CodecConfig, Items, MediaLine, MediaType, Mid, PayloadParams, Proto, Sdp};
 
 /// What a section is answered with.
@@ -73,18 +76,20 @@ fn open_choice(
 
 /// What an offered section is answered with (RFC 3264, section 6): it is rejected where it is stopped, where it is
 /// neither media over Srtp nor data channels over Sctp, and where this side has nothing for it. `theirs` are its rows,
-/// where it brings a round.
+/// where it brings a round; `group` has the names of the offer's group in order.
 pub(crate) fn choice_of(
     own: &OwnSide,
     config: &CodecConfig,
     offer: &Sdp,
+    group: &BTreeSet<&str>,
     section: &MediaLine,
     theirs: &[PayloadParams],
 ) -> Result<Choice, AllocError>
-    requires { BringsRound offer.now section.now → theirs.now ≡ rows section.now }
+    requires group { Holds group.now (bundle_names offer.now) }
+    requires rows { BringsRound offer.now section.now → theirs.now ≡ rows section.now }
     ensures { IfOk result (IsChoice own.now config.now.params.items offer.now section.now) }
 {
-    if is_section_stopped(offer, section) {
+    if is_stopped_in(group, offer, section) {
         return Ok(Choice::Rejected);
     }
     open_choice(own, config, section, theirs)

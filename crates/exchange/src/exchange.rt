@@ -1,5 +1,5 @@
 //! Exchanges of offers and answers.
-ghost use Rattle.std.specs.Prelude.{All, ◌≡◌, ◌≢◌, ◌↔◌, ◌+◌, ◌-◌, ◌^◌, ◌∷◌, ◌++◌, [], ℕ, true, IfErr, IfOk, IsSomeAnd, IsTrue, MatchOption, OnErr, OnOk, None, Some, length, min};
+ghost use Rattle.std.specs.Prelude.{All, ◌≡◌, ◌≢◌, ◌↔◌, ◌+◌, ◌-◌, ◌^◌, [], ℕ, true, IfErr, IfOk, IsSomeAnd, IsTrue, MatchOption, OnErr, OnOk, None, Some, length, min};
 ghost use Rattle.std.specs.Option.{option_copied};
 ghost use Rattle.std.specs.List.{AllZip};
 ghost use Rattle.str0m_formats.specs.KindRows.{kind_rows};
@@ -9,6 +9,7 @@ ghost use Rattle.str0m_formats.specs.Rows.{types};
 ghost use Rattle.str0m_formats.specs.TypeSets.{AllDistinct};
 ghost use Rattle.str0m_sdp.specs.RowBounds.{HasBoundedRows};
 ghost use Rattle.str0m_sdp.specs.SessionConsistency.{AreDistinct, section_mids};
+ghost use Rattle.exchange.specs.AddedTo.{with_channels, with_media};
 ghost use Rattle.exchange.specs.AnsweredSession.{BundlesAccepted};
 ghost use Rattle.exchange.specs.Exchange.{AnswersOffer, EachSection, RefusesChannels, RefusesMedia, RefusesOffer, RefusesSections, RefusesToOffer};
 ghost use Rattle.exchange.specs.Follows.{Follows, IsSound};
@@ -24,7 +25,6 @@ ghost use Rattle.exchange.specs.Rules.{HasShapeOf, IsAcceptedExactly, KeepsRules
 ghost use Rattle.exchange.specs.State.{pending_sdp, sections_of, state_of, taken_names};
 ghost use Rattle.str0m_sdp.specs.Session.{versioned_text};
 ghost use Rattle.exchange.specs.Tracks.{tracks};
-ghost use Rattle.exchange.specs.declared.added.Added.TheVariants.{Media, Channels};
 ghost use Rattle.exchange.specs.declared.exchange_error.ExchangeError.TheVariants.{Memory};
 ghost use Rattle.exchange.specs.declared.signaling_state.SignalingState.TheVariants.{Stable};
 
@@ -91,7 +91,7 @@ pub(crate) fn printable_copy(
     Ok(Some(copy))
 }
 
-/// A copy of the configuration behind these rounds of an offer.
+/// A copy of the configuration after these rounds of an offer.
 pub(crate) fn negotiated_by(
     config: &CodecConfig,
     offer: &Sdp,
@@ -109,7 +109,7 @@ pub(crate) fn negotiated_by(
     Ok(config)
 }
 
-/// A copy of the configuration behind the rounds of an offer.
+/// A copy of the configuration after the rounds of an offer.
 pub(crate) fn negotiated(config: &CodecConfig, offer: &Sdp) -> Result<CodecConfig, AllocError>
     ensures rounds { IfOk result (λ after. Negotiates offer.now config.now.params.items after.params.items) }
     ensures stay { IfOk result (λ after. LockedStay config.now.params.items after.params.items) }
@@ -220,7 +220,7 @@ impl Exchange {
         Ok(())
     }
 
-    /// Has the next offer, and those behind it until an exchange has placed it, offer media of a kind in a section of its own,
+    /// Has the next offer, and those after it until an exchange has placed it, offer media of a kind in a section of its own,
     /// for which this side is ready in this direction (JSEP: a transceiver is added). The offer names the section.
     ///
     /// # Errors
@@ -229,7 +229,7 @@ impl Exchange {
     /// memory was refused.
     #[tactic(auto, using(crate::proofs::FollowLaws::follows_same, crate::proofs::FollowLaws::follows_self))]
     pub fn add_media(&mut self, kind: MediaKind, direction: Direction) -> Result<(), ExchangeError>
-        ensures ok { OnOk result (self.new ≡ record self.old { added = self.old.added ++ Media kind direction ∷ [] }) }
+        ensures ok { OnOk result (self.new ≡ with_media kind direction self.old) }
         ensures has_rows { OnOk result (kind_rows kind true self.old.config.params.items ≢ []) }
         ensures sound { IsSound self.old → IsSound self.new }
         ensures follows { Follows self.old self.new }
@@ -243,14 +243,14 @@ impl Exchange {
         Ok(())
     }
 
-    /// Has the next offer, and those behind it until an exchange has placed them, offer data channels in a section of their own.
+    /// Has the next offer, and those after it until an exchange has placed them, offer data channels in a section of their own.
     ///
     /// # Errors
     ///
     /// Nothing is changed by an error. `NoChannels` where this side takes none (`OwnSide`); `Memory` where memory was refused.
     #[tactic(auto, using(crate::proofs::FollowLaws::follows_same, crate::proofs::FollowLaws::follows_self))]
     pub fn add_channels(&mut self) -> Result<(), ExchangeError>
-        ensures ok { OnOk result (self.new ≡ record self.old { added = self.old.added ++ Channels ∷ [] }) }
+        ensures ok { OnOk result (self.new ≡ with_channels self.old) }
         ensures has_channels { OnOk result (self.old.own.channels ≢ None) }
         ensures sound { IsSound self.old → IsSound self.new }
         ensures follows { Follows self.old self.new }
@@ -281,7 +281,7 @@ impl Exchange {
     /// this side is ready for it, with the rows of its kind of the configuration, so that rows that are agreed on stand under
     /// their types; of `a=rtcp-mux`, `a=rtcp-rsize` and `a=extmap` lines it says those that both sides said last. A place is over
     /// where this side's section is disabled, or the other side has stopped its own: what is added next takes it, and where
-    /// nothing is left it stays rejected. What is left of what was added stands behind. It has names that no section of the
+    /// nothing is left it stays rejected. What is left of what was added stands after. It has names that no section of the
     /// session has had, `Offer::added`.
     ///
     /// All sections with a port share a bundle. The offer has a version of its own, and the other side reads it to its end as what
@@ -331,7 +331,7 @@ impl Exchange {
         Ok(offer)
     }
 
-    /// Has these be the last descriptions of both sides, with the rows and the names that are in use behind them.
+    /// Has these be the last descriptions of both sides, with the rows and the names that are in use after them.
     pub(crate) fn settle(
         &mut self,
         local: Option<Sdp>,

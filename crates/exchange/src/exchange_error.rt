@@ -60,7 +60,7 @@ impl From<AllocError> for ExchangeError {
     }
 }
 
-/// What a reader refuses; want of memory is want of memory here, too.
+/// What a reader refuses; out of memory stays out of memory.
 impl From<SdpError> for ExchangeError {
     ghost from_gives = { λ cause error. error ≡ not_read cause };
 

@@ -3,7 +3,7 @@ ghost use Rattle.std.specs.Prelude.{◌≡◌, ◌↔◌, ℕ, IfOk, IsTrue, Mat
 ghost use Rattle.std.specs.Prelude.{Some};
 ghost use Rattle.str0m_sdp.specs.OrderedMids.{Holds};
 ghost use Rattle.exchange.specs.Bundled.{IsBundledBy};
-ghost use Rattle.exchange.specs.Fits.{Breaks, BreaksAt, BundlesSo, FitsAt, FitsOffer, IsBundledSo, accepted_name, accepted_names};
+ghost use Rattle.exchange.specs.Fits.{Breaks, BreaksAt, BreaksFirstAt, BundlesSo, FitsAt, FitsOffer, IsBundledSo, accepted_name, accepted_names};
 ghost use Rattle.exchange.specs.InBundle.{bundle_names};
 
 use crate::bundled::{Bundled, shared_by};
@@ -41,7 +41,7 @@ fn broken_section(
     answer: &Sdp,
 ) -> Result<Option<Misfit>, AllocError>
     ensures { IfOk result (λ found. MatchOption found ((at : ℕ) → FitsAt ours.now.params.items offer.now answer.now at)
-        (λ misfit. BreaksAt ours.now.params.items offer.now answer.now misfit.section misfit.rule)) }
+        (λ misfit. BreaksFirstAt ours.now.params.items offer.now answer.now misfit.section misfit.rule)) }
 {
     let bundled = shared_by(alloc, answer)?;
     for section in 0..offer.media_lines.len() {
@@ -104,7 +104,7 @@ fn bundles_so(alloc: Global, offer: &Sdp, answer: &Sdp) -> Result<bool, AllocErr
 }
 
 /// What of an answer doesn't fit the offer of this side: a wrong number of sections, else the first section that breaks a
-/// rule, with the first rule that it breaks, else the group. `ours` is the configuration behind the rounds of the answer. The
+/// rule, with the first rule that it breaks, else the group. `ours` is the configuration after the rounds of the answer. The
 /// only error is that memory was refused.
 pub(crate) fn first_misfit(
     alloc: Global,

@@ -5,7 +5,7 @@ ghost use Rattle.str0m_sdp.specs.SectionDirection.{section_direction};
 ghost use Rattle.str0m_sdp.specs.declared.setup.Setup.TheVariants.{ActPass};
 ghost use Rattle.exchange.specs.Bundled.{IsBundledBy};
 ghost use Rattle.exchange.specs.Accepted.{setup_in_force};
-ghost use Rattle.exchange.specs.Fits.{FitsSection, FlowsWithin, IfAccepted, Keeps};
+ghost use Rattle.exchange.specs.Fits.{BreaksFirst, FitsSection, FlowsWithin, IfAccepted, Keeps};
 ghost use Rattle.exchange.specs.InBundle.{is_so_for};
 ghost use Rattle.exchange.specs.Reached.{has_creds, has_fingerprint};
 ghost use Rattle.exchange.specs.Rows.{answered_rows};
@@ -146,7 +146,7 @@ pub(crate) fn broken_rule(
 ) -> Result<Option<Rule>, AllocError>
     requires { IsBundledBy answer.now bundled.now }
     ensures { IfOk result (λ found. MatchOption found (FitsSection ours.now.params.items answer.now offered.now answered.now)
-        (λ rule. Keeps ours.now.params.items answer.now offered.now answered.now rule → ⊥)) }
+        (BreaksFirst ours.now.params.items answer.now offered.now answered.now)) }
 {
     for rule in &RULES {
         if !keeps(*rule, ours, answer, bundled, offered, answered)? {

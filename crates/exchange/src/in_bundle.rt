@@ -1,9 +1,13 @@
 //! Sections that share the transport of a bundle.
-ghost use Rattle.std.specs.Prelude.{◌≡◌};
+ghost use Rattle.std.specs.Prelude.{◌≡◌, IfOk};
 ghost use Rattle.std.specs.Option.{option_copied};
+ghost use Rattle.str0m_sdp.specs.OrderedMids.{Holds};
 ghost use Rattle.exchange.specs.InBundle.{bundle_names, is_same_name, is_tagged, tagged};
 
+use crate::names::ordered;
 use crate::stopped::name_of;
+use std::alloc::{AllocError, Global};
+use std::collections::BTreeSet;
 use str0m_signal::{MediaLine, Mid, Sdp};
 
 /// The names of the first `BUNDLE` group; none where there is no such group.
@@ -14,6 +18,13 @@ pub(crate) fn bundle_names(sdp: &Sdp) -> &[Mid]
         Some(names) => names,
         None => &[],
     }
+}
+
+/// The same in the order of their bytes.
+pub(crate) fn ordered_bundle(alloc: Global, sdp: &Sdp) -> Result<BTreeSet<&str>, AllocError>
+    ensures { IfOk result (λ group. Holds group (bundle_names sdp.now)) }
+{
+    ordered(alloc, bundle_names(sdp))
 }
 
 fn is_same_name(name: Option<Mid>, other: Option<Mid>) -> bool

@@ -159,7 +159,7 @@ fn received_layers(
     Ok(layers)
 }
 
-/// The line of the layers behind the rid lines.
+/// The line of the layers after the rid lines.
 fn with_layers(
     alloc: Global,
     mut lines: Vec<MediaAttribute>,

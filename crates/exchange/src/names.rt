@@ -42,7 +42,7 @@ fn new_name(had: &[Mid], names: &BTreeSet<&str>, section: &MediaLine) -> Option<
     }
 }
 
-/// Puts a name behind the others, where there is one.
+/// Puts a name after the others, where there is one.
 pub(crate) fn push_name(names: &mut Vec<Mid>, name: Option<Mid>) -> Result<(), AllocError>
     ensures { OnOk result (names.new.items ≡ names.old.items ++ option_to_list name) }
 {

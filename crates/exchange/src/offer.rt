@@ -39,6 +39,14 @@ impl Offer {
     {
         self.added.as_slice()
     }
+
+    /// The description, without a copy.
+    pub fn into_sdp(self) -> Sdp
+        ensures { result ≡ self.sdp }
+    {
+        let Offer { sdp, .. } = self;
+        sdp
+    }
 }
 
 impl Deref for Offer {

@@ -107,7 +107,7 @@ fn behind(last: u8, number: Option<u8>) -> u8
     }
 }
 
-/// The line of a URI behind others, where it has a number.
+/// The line of a URI after others, where it has a number.
 fn push_line(
     alloc: Global,
     lines: &mut Vec<MediaAttribute>,
@@ -124,7 +124,7 @@ fn push_line(
 }
 
 /// The lines of the header extensions that this side knows, in order: each under the number that some section says, else under
-/// the next one behind all that are said, up to 14; without a number none is said.
+/// the next one after all that are said, up to 14; without a number none is said.
 pub(crate) fn extension_lines(
     alloc: Global,
     said: &[MediaLine],

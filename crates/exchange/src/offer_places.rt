@@ -8,7 +8,7 @@ use crate::added::Placed;
 use crate::exchange::Exchange;
 use crate::offer_section::{new_section, next_section};
 use crate::own_side::SectionDirection;
-use crate::places::is_over;
+use crate::places::{is_over, remote_bundle};
 use crate::rejected_section::rejected;
 use std::alloc::{AllocError, Global};
 use str0m_signal::{MediaAttribute, MediaLine, Sdp};
@@ -69,7 +69,7 @@ fn left_of(is_over: bool, added: &[MediaLine]) -> &[MediaLine]
     if is_over { but_first(added) } else { added }
 }
 
-/// Copies of sections behind others.
+/// Copies of sections after others.
 fn with_copies(
     mut sections: Vec<MediaLine>,
     behind: &[MediaLine],
@@ -82,7 +82,7 @@ fn with_copies(
     Ok(sections)
 }
 
-/// The sections of an offer: at each place of the last exchange, and behind them what is left of what is added.
+/// The sections of an offer: at each place of the last exchange, and after them what is left of what is added.
 #[tactic(auto, using(crate::proofs::PlaceLaws::fills_more))]
 pub(crate) fn filled_places(
     exchange: &Exchange,
@@ -92,10 +92,12 @@ pub(crate) fn filled_places(
 ) -> Result<Vec<MediaLine>, AllocError>
     ensures { IfOk result (λ sections. FillsAll exchange.now ready.now places.now added.now sections.items) }
 {
-    let mut sections = Vec::new(*exchange.config.allocator());
+    let alloc = *exchange.config.allocator();
+    let group = remote_bundle(alloc, &exchange.remote)?;
+    let mut sections = Vec::new(alloc);
     let mut left = added;
     for (at, mine) in places.iter().enumerate() {
-        let is_over = is_over(&exchange.remote, at, mine);
+        let is_over = is_over(&exchange.remote, &group, at, mine);
         sections.push(place_section(exchange, ready, at, mine, is_over, left)?)?;
         left = left_of(is_over, left);
     }

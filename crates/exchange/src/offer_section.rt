@@ -62,7 +62,7 @@ pub(crate) fn has_rows(config: &CodecConfig, kind: MediaKind) -> bool
     config.all_for_kind(kind, true).next().is_some()
 }
 
-/// What media says but for its rows, behind its name and its transport.
+/// What media says but for its rows, after its name and its transport.
 fn flow_lines(
     alloc: Global,
     own: &OwnSide,

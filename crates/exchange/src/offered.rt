@@ -4,15 +4,19 @@ ghost use Rattle.str0m_formats.specs.PlainRow.{IsPlain};
 ghost use Rattle.str0m_formats.specs.Rows.{types};
 ghost use Rattle.str0m_formats.specs.TypeSets.{AllDistinct};
 ghost use Rattle.str0m_formats.specs.Promises.{LockedStay};
+ghost use Rattle.str0m_sdp.specs.OrderedMids.{Holds};
 ghost use Rattle.str0m_sdp.specs.RowBounds.{HasBoundedRows};
 ghost use Rattle.str0m_sdp.specs.SectionRows.{rows};
 ghost use Rattle.str0m_sdp.specs.declared.media_line.MediaLine.{MediaLine};
 ghost use Rattle.str0m_signal.specs.FromLine.{IsFromLine};
+ghost use Rattle.exchange.specs.InBundle.{bundle_names};
 ghost use Rattle.exchange.specs.Offered.{AreRoundsOf, BringsRound, IsOffer, IsRoundOf, Negotiates, RefusesText};
 
 use crate::exchange_error::ExchangeError;
-use crate::stopped::is_section_stopped;
+use crate::in_bundle::ordered_bundle;
+use crate::stopped::is_stopped_in;
 use std::alloc::{AllocError, Global};
+use std::collections::BTreeSet;
 use str0m_signal::{
     CodecConfig, MediaLine, NegotiationError, PayloadParams, Proto, Round, Sdp, Text, sdp_parser,
 };
@@ -53,11 +57,12 @@ pub(crate) fn whole_description(alloc: Global, text: &str) -> Result<Sdp, Exchan
     })
 }
 
-/// Whether a section brings a round.
-pub(crate) fn is_negotiated(offer: &Sdp, section: &MediaLine) -> bool
+/// Whether a section brings a round, where `group` has the names of the offer's group in order.
+fn is_negotiated(group: &BTreeSet<&str>, offer: &Sdp, section: &MediaLine) -> bool
+    requires { Holds group.now (bundle_names offer.now) }
     ensures { IsTrue result ↔ BringsRound offer.now section.now }
 {
-    !is_section_stopped(offer, section)
+    !is_stopped_in(group, offer, section)
         && section.typ.is_media()
         && matches!(section.proto, Proto::Srtp)
 }
@@ -75,10 +80,11 @@ fn round_of(section: &MediaLine) -> Result<Round, AllocError>
 pub(crate) fn rounds_of(alloc: Global, offer: &Sdp) -> Result<Vec<Round>, AllocError>
     ensures { IfOk result (λ rounds. AreRoundsOf offer.now offer.now.media_lines rounds.items) }
 {
+    let group = ordered_bundle(alloc, offer)?;
     let sections = offer.media_lines.as_slice();
     let mut rounds = Vec::new(alloc);
     for section in sections {
-        if is_negotiated(offer, section) {
+        if is_negotiated(&group, offer, section) {
             rounds.push(round_of(section)?)?;
         }
     }
@@ -91,17 +97,20 @@ fn lacked_memory(outcomes: &[Result<(), NegotiationError>]) -> bool {
         .any(|outcome| matches!(outcome, Err(NegotiationError::Memory)))
 }
 
-/// The rows of a section that stands next, where it brings the round that does, and the rounds behind it.
+/// The rows of a section that stands next, where it brings the round that does, and the rounds after it. `group` has the names of
+/// the offer's group in order.
 pub(crate) fn rows_of_next<'a>(
+    group: &BTreeSet<&str>,
     offer: &Sdp,
     section: &MediaLine,
     rounds: &'a [Round],
 ) -> (&'a [PayloadParams], &'a [Round])
+    requires { Holds group.now (bundle_names offer.now) }
     ensures rows { (later : List MediaLine) → AreRoundsOf offer.now (section.now ∷ later) rounds.now → BringsRound offer.now section.now
         → result.0.now ≡ rows section.now }
     ensures later { (later : List MediaLine) → AreRoundsOf offer.now (section.now ∷ later) rounds.now → AreRoundsOf offer.now later result.1.now }
 {
-    if !is_negotiated(offer, section) {
+    if !is_negotiated(group, offer, section) {
         return (&[], rounds);
     }
     match rounds.split_first() {

@@ -1,12 +1,13 @@
 //! The places of sections over several exchanges.
 ghost use Rattle.std.specs.Prelude.{◌≡◌, ◌↔◌, IfOk, IsSomeAnd, IsTrue, MatchOption};
 ghost use Rattle.str0m_sdp.specs.OrderedMids.{Holds};
-ghost use Rattle.exchange.specs.Places.{HasNameAt, IsFree, IsOver, StaysInPlace, StaysInPlaceAt, StaysInPlaces, MovesAt};
+ghost use Rattle.exchange.specs.Places.{HasNameAt, HoldsGroup, IsFree, IsOver, StaysInPlace, StaysInPlaceAt, StaysInPlaces, MovesAt};
 ghost use Rattle.exchange.specs.State.{sections_of};
 ghost use Rattle.exchange.specs.Stopped.{IsStoppedAt};
 
+use crate::in_bundle::ordered_bundle;
 use crate::names::{is_held, ordered};
-use crate::stopped::{is_stopped, name_of};
+use crate::stopped::{is_stopped_at, name_of};
 use std::alloc::{AllocError, Global};
 use std::collections::BTreeSet;
 use str0m_signal::{MediaLine, Mid, Sdp};
@@ -21,27 +22,49 @@ pub(crate) fn sections_of(sdp: &Option<Sdp>) -> &[MediaLine]
     }
 }
 
-fn is_stopped_by(remote: &Option<Sdp>, at: usize) -> bool
+/// The names of the other side's first `BUNDLE` group in order; none before its first description.
+pub(crate) fn remote_bundle(
+    alloc: Global,
+    remote: &Option<Sdp>,
+) -> Result<BTreeSet<&str>, AllocError>
+    ensures { IfOk result (HoldsGroup remote.now) }
+{
+    match remote {
+        Some(sdp) => ordered_bundle(alloc, sdp),
+        None => Ok(BTreeSet::new(alloc)),
+    }
+}
+
+fn is_stopped_by(remote: &Option<Sdp>, group: &BTreeSet<&str>, at: usize) -> bool
+    requires { HoldsGroup remote.now group.now }
     ensures { IsTrue result ↔ IsSomeAnd remote.now (λ sdp. IsStoppedAt sdp at) }
 {
     match remote {
-        Some(sdp) => is_stopped(sdp, at),
+        Some(sdp) => is_stopped_at(group, sdp, at),
         None => false,
     }
 }
 
-/// Whether the place of a section of this side is over: it has port 0, or the other side has stopped its own.
-pub(crate) fn is_over(remote: &Option<Sdp>, at: usize, mine: &MediaLine) -> bool
+/// Whether the place of a section of this side is over: it has port 0, or the other side has stopped its own. `group` has the
+/// names of the other side's group in order.
+pub(crate) fn is_over(
+    remote: &Option<Sdp>,
+    group: &BTreeSet<&str>,
+    at: usize,
+    mine: &MediaLine,
+) -> bool
+    requires { HoldsGroup remote.now group.now }
     ensures { IsTrue result ↔ IsOver remote.now at mine.now }
 {
-    mine.disabled || is_stopped_by(remote, at)
+    mine.disabled || is_stopped_by(remote, group, at)
 }
 
-fn is_free(local: &[MediaLine], remote: &Option<Sdp>, at: usize) -> bool
+fn is_free(local: &[MediaLine], remote: &Option<Sdp>, group: &BTreeSet<&str>, at: usize) -> bool
+    requires { HoldsGroup remote.now group.now }
     ensures { IsTrue result ↔ IsFree local.now remote.now at }
 {
     match local.get(at) {
-        Some(mine) => is_over(remote, at, mine),
+        Some(mine) => is_over(remote, group, at, mine),
         None => true,
     }
 }
@@ -71,14 +94,16 @@ fn keeps_place(
     names: &BTreeSet<&str>,
     local: &[MediaLine],
     remote: &Option<Sdp>,
+    group: &BTreeSet<&str>,
     at: usize,
     section: &MediaLine,
 ) -> bool
-    requires { Holds names.now had.now }
+    requires names { Holds names.now had.now }
+    requires group { HoldsGroup remote.now group.now }
     ensures { IsTrue result ↔ StaysInPlace had.now local.now remote.now at section.now }
 {
     has_name_at(local, at, section)
-        || (is_free(local, remote, at) && !is_held(names, name_of(section)))
+        || (is_free(local, remote, group, at) && !is_held(names, name_of(section)))
 }
 
 fn keeps_place_at(
@@ -86,19 +111,21 @@ fn keeps_place_at(
     names: &BTreeSet<&str>,
     local: &[MediaLine],
     remote: &Option<Sdp>,
+    group: &BTreeSet<&str>,
     offer: &Sdp,
     at: usize,
 ) -> bool
-    requires { Holds names.now had.now }
+    requires names { Holds names.now had.now }
+    requires group { HoldsGroup remote.now group.now }
     ensures { IsTrue result ↔ StaysInPlaceAt had.now local.now remote.now offer.now at }
 {
     match offer.media_lines.get(at) {
-        Some(section) => keeps_place(had, names, local, remote, at, section),
+        Some(section) => keeps_place(had, names, local, remote, group, at, section),
         None => true,
     }
 }
 
-/// The first section of an offer that isn't in its place behind the last exchange, with these sections of this side
+/// The first section of an offer that isn't in its place after the last exchange, with these sections of this side
 /// and this description of the other, where sections have had these names; where it has too few sections, their number.
 pub(crate) fn first_moved(
     alloc: Global,
@@ -110,9 +137,10 @@ pub(crate) fn first_moved(
     ensures { IfOk result (λ found. MatchOption found (StaysInPlaces had.now local.now remote.now offer.now) (MovesAt had.now local.now remote.now offer.now)) }
 {
     let names = ordered(alloc, had)?;
+    let group = remote_bundle(alloc, remote)?;
     let many = offer.media_lines.len();
     for at in 0..many {
-        if !keeps_place_at(had, &names, local, remote, offer, at) {
+        if !keeps_place_at(had, &names, local, remote, &group, offer, at) {
             return Ok(Some(at));
         }
     }

@@ -57,7 +57,7 @@ fn listed_alone(alloc: Global, typ: &MediaType, listed: &[Pt]) -> Result<Vec<Pt>
     Ok(alone)
 }
 
-/// A copy of a line, where there is one, behind the others.
+/// A copy of a line, where there is one, after the others.
 fn push_copy(
     lines: &mut Vec<MediaAttribute>,
     line: Option<&MediaAttribute>,

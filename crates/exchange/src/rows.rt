@@ -7,9 +7,10 @@ ghost use Rattle.str0m_formats.specs.TypeSets.{AllDistinct, has};
 ghost use Rattle.str0m_formats.specs.declared.payload_params.PayloadParams.{PayloadParams};
 ghost use Rattle.str0m_sdp.specs.Lists.{distinct};
 ghost use Rattle.str0m_sdp.specs.SectionRows.{rows};
+ghost use Rattle.exchange.specs.OfferedFeedback.{TellsOf};
 ghost use Rattle.exchange.specs.Rows.{IsAgreed, Belongs, KeepsPlain, SaysWhatIsOffered, agreed_type, as_answered, is_answered, is_carried_in, matches, answer_to, answer_under, answered_rows, own_types};
 
-use crate::offered_feedback::offered_feedback;
+use crate::offered_feedback::{SectionFeedback, section_feedback};
 use std::alloc::{AllocError, Global};
 use str0m_signal::{CodecConfig, MediaLine, MediaType, PayloadParams, Pt};
 
@@ -37,11 +38,17 @@ fn agreed_type(listed: &[Pt], ours: Option<Pt>, theirs: Option<Pt>) -> Option<Pt
 
 /// What an answer says of our row beside the one that is offered.
 #[tactic(auto, unfolding(crate::specs::Rows::as_answered))]
-fn as_answered(section: &MediaLine, theirs: &PayloadParams, ours: &PayloadParams) -> PayloadParams
+fn as_answered(
+    section: &MediaLine,
+    feedback: &SectionFeedback,
+    theirs: &PayloadParams,
+    ours: &PayloadParams,
+) -> PayloadParams
+    requires { TellsOf section.now feedback.now }
     ensures { result ≡ as_answered section.now theirs.now ours.now }
 {
     let (pt, listed) = (ours.pt(), section.pts.as_slice());
-    let offered = offered_feedback(section.attrs.as_slice(), pt);
+    let offered = feedback.for_type(section, pt);
     let resend = agreed_type(listed, ours.resend(), theirs.resend());
     let red = agreed_type(listed, ours.red(), theirs.red());
     let mut row = PayloadParams::new(pt, resend, ours.spec()).with_red(red);
@@ -97,12 +104,14 @@ fn our_match<'a>(
 fn answer_to(
     own: &[PayloadParams],
     section: &MediaLine,
+    feedback: &SectionFeedback,
     theirs: &PayloadParams,
 ) -> Option<PayloadParams>
+    requires { TellsOf section.now feedback.now }
     ensures { result ≡ answer_to own.now section.now theirs.now }
 {
     match our_match(own, &section.typ, theirs) {
-        Some(ours) => Some(as_answered(section, theirs, ours)),
+        Some(ours) => Some(as_answered(section, feedback, theirs, ours)),
         None => None,
     }
 }
@@ -112,18 +121,20 @@ fn answer_to(
 fn answer_under(
     own: &[PayloadParams],
     section: &MediaLine,
+    feedback: &SectionFeedback,
     offered: &[PayloadParams],
     pt: Pt,
 ) -> Option<PayloadParams>
+    requires { TellsOf section.now feedback.now }
     ensures { result ≡ answer_under own.now section.now offered.now pt }
 {
     match offered_under(offered, pt) {
-        Some(theirs) => answer_to(own, section, theirs),
+        Some(theirs) => answer_to(own, section, feedback, theirs),
         None => None,
     }
 }
 
-/// A payload type behind the others, unless it stands among them.
+/// A payload type after the others, unless it stands among them.
 fn push_new(once: &mut Vec<Pt>, pt: Pt) -> Result<(), AllocError>
     ensures { OnOk result (once.new.items ≡ once.old.items ++ (if has once.old.items pt then [] else pt ∷ [])) }
 {
@@ -160,14 +171,16 @@ fn push_answer(
 fn answers_under(
     own: &[PayloadParams],
     section: &MediaLine,
+    feedback: &SectionFeedback,
     offered: &[PayloadParams],
     listed: &[Pt],
 ) -> Result<Vec<PayloadParams>, AllocError>
+    requires { TellsOf section.now feedback.now }
     ensures { IfOk result (λ rows. rows.items ≡ filter_map (answer_under own.now section.now offered.now) listed.now) }
 {
     let mut rows = Vec::with_capacity(*section.attrs.allocator(), offered.len())?;
     for pt in listed {
-        let answer = answer_under(own, section, offered, *pt);
+        let answer = answer_under(own, section, feedback, offered, *pt);
         push_answer(&mut rows, answer)?;
     }
     Ok(rows)
@@ -184,7 +197,8 @@ pub(crate) fn answered_rows(
     ensures { IfOk result (λ answer. answer.items ≡ answered_rows own.now section.now) }
 {
     let listed = each_once(*section.attrs.allocator(), section.pts.as_slice())?;
-    let answer = answers_under(own, section, offered, listed.as_slice())?;
+    let feedback = section_feedback(section);
+    let answer = answers_under(own, section, &feedback, offered, listed.as_slice())?;
     Ok(answer)
 }
 

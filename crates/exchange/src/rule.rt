@@ -49,7 +49,7 @@ pub enum Rule {
     /// Each section of a description has a mid of its own (RFC 5888, section 4; RFC 8829, section 5.2.1).
     #[error("no two sections have one mid")]
     OwnName,
-    /// Sections keep their places and their mids; a new mid takes a place that is over or behind the last (RFC 3264,
+    /// Sections keep their places and their mids; a new mid takes a place that is over or after the last (RFC 3264,
     /// section 8; RFC 8829, section 5.2.2).
     #[error("a section keeps its place and its mid; a mid that is new takes a place that is over")]
     Place,

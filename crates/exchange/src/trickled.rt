@@ -29,7 +29,7 @@ fn refusal(alloc: Global, message: &str) -> SdpError
     }
 }
 
-/// The candidate, where nothing stands behind it.
+/// The candidate, where nothing stands after it.
 fn alone(alloc: Global, candidate: Candidate, rest: &str) -> Result<Candidate, SdpError>
     ensures { Answers (λ read. read) result (λ read. (read ≡ candidate) × (rest.now ≡ [])) }
 {
@@ -55,7 +55,7 @@ fn only_candidate(alloc: Global, line: &str) -> Result<Candidate, SdpError>
 ///
 /// # Errors
 ///
-/// `ParseError` exactly where the text is no such line, or where something stands behind it; so of the
+/// `ParseError` exactly where the text is no such line, or where something stands after it; so of the
 /// empty text, by which browsers say that no candidate follows. `Memory` where a growth was refused.
 pub fn trickled_candidate(alloc: Global, text: &str) -> Result<Candidate, SdpError>
     ensures read { Answers (λ candidate. candidate) result (IsTrickled text.now) }

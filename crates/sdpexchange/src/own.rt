@@ -85,7 +85,7 @@ fn creds(alloc: Global, matches: &ArgMatches<'_>) -> Result<IceCreds, AllocError
     })
 }
 
-/// The credentials behind a restart of ICE: those of the options with the number of the offer behind them.
+/// The credentials after a restart of ICE: those of the options with the number of the offer after them.
 pub(crate) fn restarted(
     alloc: Global,
     matches: &ArgMatches<'_>,

@@ -1,6 +1,7 @@
 //! What is written of all files.
 
-use crate::records::{log, record, sarif_result};
+use crate::records::{log, sarif_result};
+use c_json::record;
 use lint::{Finding, Report, Severity};
 use serde_json::Value;
 use std::alloc::{AllocError, Global};

@@ -1,4 +1,4 @@
-//! Findings as JSON and as SARIF 2.1.0.
+//! Findings as SARIF 2.1.0.
 
 use lint::{CHANGES, CONFLICTS, FATES, Finding, MISFITS, REFUSALS, Row, UNFITS, UNKNOWNS, UNSEENS};
 use percent_encoding::{AsciiSet, NON_ALPHANUMERIC, utf8_percent_encode};
@@ -17,21 +17,6 @@ pub(crate) fn tables() -> [&'static [Row]; 8] {
         CONFLICTS.as_slice(),
         FATES.as_slice(),
     ]
-}
-
-/// A finding as an object.
-pub(crate) fn record(alloc: Global, file: &str, finding: &Finding) -> Result<Value, AllocError> {
-    let (line, column) = (finding.line as u64, finding.column as u64);
-    let severity = finding.code.severity().word();
-    let (code, message) = (finding.code.row().name, finding.sentence.as_str());
-    json!(in alloc; {
-        "file": file,
-        "line": line,
-        "column": column,
-        "severity": severity,
-        "code": code,
-        "message": message
-    })
 }
 
 /// The characters that a path keeps in a URI (RFC 3986, section 3.3).

@@ -108,8 +108,8 @@ fn locked_section(
 }
 
 /// Negotiates with an offer, and answers with `own`, the description of the answering side: in its
-/// section at `at`, counted from 0, stand the rows of its kind that are locked then, those of sound and
-/// telephone events in one of audio, those of pictures in one of video. `None` exactly where no such row
+/// section at `at`, counted from 0, stand the rows of its kind that are locked then, those of audio and
+/// telephone events in one of audio, those of video in one of video. `None` exactly where no such row
 /// is locked, or where `is_writable` is false of `own` and `at`.
 ///
 /// The other side reads the answer to its end, and finds these rows in that section, in order, where
@@ -120,7 +120,7 @@ fn locked_section(
 /// # Errors
 ///
 /// `ParseError` where the offer's text describes no session: nothing has changed then. `Memory` where
-/// memory was refused, before the rounds or behind them.
+/// memory was refused, before the rounds or after them.
 pub fn answer_section(
     config: &mut CodecConfig,
     offer: &str,

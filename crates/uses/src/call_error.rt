@@ -10,7 +10,7 @@ use thiserror::Error;
 /// Why a call can't go on.
 #[derive(Debug, Drop, Error)]
 pub enum CallError {
-    /// The other side's text wasn't read, for its form or for want of memory.
+    /// The other side's text wasn't read, for its form or since memory ran out.
     #[error("{0}")]
     NotRead(SdpError),
     /// A round was refused.

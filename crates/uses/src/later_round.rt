@@ -32,7 +32,7 @@ fn first_refusal(outcomes: &[Result<(), NegotiationError>]) -> Option<Negotiatio
 ///
 /// `NotRead` where the text describes no session, or where memory was refused before the rounds: none
 /// has run then, and nothing has changed. `Refused` with the cause of the first round that was
-/// refused, which may be want of memory.
+/// refused, which may be out of memory.
 pub fn negotiate_again(config: &mut CodecConfig, offer: &str) -> Result<(), CallError>
     ensures outcome { ComesTo offer.now config.old.params.items result config.new.params.items }
     ensures else_same { config.new ≡ record config.old { params = config.new.params } }

@@ -59,7 +59,7 @@ fn candidates_are_read_as_browsers_trickle_them(rt: HostRuntime) -> Result<(), F
     Ok(())
 }
 
-/// Sound, data channels between, and a disabled picture.
+/// Audio, data channels between, and disabled video.
 const CALL: &str =
     "v=0\r\no=- 7 2 IN IP4 0.0.0.0\r\ns=-\r\nt=0 0\r\nm=audio 9 UDP/TLS/RTP/SAVPF 109\r\nc=IN IP4 0.0.0.0\r\na=mid:sound\r\na=sendrecv\r\na=rtpmap:109 opus/48000/2\r\nm=application 9 UDP/DTLS/SCTP webrtc-datachannel\r\nc=IN IP4 0.0.0.0\r\na=mid:data\r\na=sctp-port:5000\r\nm=video 0 UDP/TLS/RTP/SAVPF 120\r\nc=IN IP4 0.0.0.0\r\na=mid:picture\r\na=sendrecv\r\na=rtpmap:120 VP8/90000\r\n";
 

@@ -7,8 +7,8 @@ use Rattle.exchange.specs.Offered.{AreRoundsOf}
 use Rattle.exchange.proofs.RoundLaws.{next_section}
 use Rattle.exchange.proofs.answered_section.each_answered.Goals as goal
 
-pub answered_section-requires : goal.answered_section-requires
-answered_section-requires c =
+pub answered_section-requires-clause-rows : goal.answered_section-requires-clause-rows
+answered_section-requires-clause-rows c =
     let offered : List MediaLine = c.as_slice-offered.result.now in
     let i = c.loop-section.section-index in
     let next = next_section offered i c.section-item.result c.loop-section-test.true c.section-item.is in

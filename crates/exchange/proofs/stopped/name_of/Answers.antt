@@ -1,5 +1,10 @@
-use Rattle.exchange.proofs.NameLaws.{nameless}
+use Rattle.std.proofs.Common.{rules, tests}
+use Rattle.std.proofs.lemmas.Iterator.{YieldsList-from_slice}
+use Rattle.str0m_sdp.proofs.Finding.{first_by_find_map}
+use Rattle.str0m_sdp.specs.Consistency.{mid_of}
 use Rattle.exchange.proofs.stopped.name_of.Goals as goal
 
-pub returns-else-has_mid : goal.returns-else-has_mid
-returns-else-has_mid c = nameless c.args.section.now.attrs c.has_mid.result c.has_mid.ensures c.if-has_mid.false
+pub returns : goal.returns
+returns c =
+    first_by_find_map mid_of (YieldsList-from_slice c.args.section.now.attrs cc) (λ x r q k. search (rules, tests))
+    c.find_map.result c.find_map.ensures.runs

@@ -1,0 +1,16 @@
+-- A handle may go to another thread where what it owns may.
+use denote.Struct.Struct.{exits_of}
+use denote.Struct.Owning.{shape, fields, to}
+use denote.Param.Send.{IsSend, AllSend, owning_send, struct_send, sendable}
+use Rattle.std_alloc.proofs.SendSync.{quiet}
+use Rattle.std_heap.proofs.Global.TheSendSync as heap
+use Rattle.exchange.specs.contracts.exchange.Exchange as Inner
+use Rattle.exchange.proofs.exchange.Exchange.TheSendSync.{the_send as inner}
+use Rattle.c_parts.proofs.Crossing.{owned_keyless}
+use Rattle.c_parts.specs.contracts.exchange_handle.ExchangeHandle.{the_row, the_type}
+
+pub send : IsSend the_row
+send =
+    let all : AllSend (fields the_type) = (search sendable, (heap.the_field_send, tt)) in
+    owning_send the_type all (λ d. owned_keyless Inner.the_row inner d.alloc d.ptr d.inner)
+    (λ k. quiet (to the_type) (exits_of k (fields the_type)) ((struct_send (shape the_type) all).leaving k))

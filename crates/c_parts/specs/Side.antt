@@ -1,0 +1,121 @@
+-- What this side says of itself, as C says it.
+use Rattle.std.specs.Prelude.{◌≡◌, ℕ, Bool, not, List, [], Option, None, Some, All, map, nat_eq, if◌then◌else◌}
+use Rattle.std.specs.Borrow.{Bor}
+use Rattle.std.specs.List.{AllZip}
+use Rattle.std.specs.Str.{IsUtf8}
+use Rattle.str0m_values.specs.Fingerprint.{IsFingerprint}
+use Rattle.str0m_values.specs.declared.candidate.Candidate.{Candidate}
+use Rattle.str0m_values.specs.declared.direction.Direction.{Direction}
+use Rattle.str0m_values.specs.declared.direction.Direction.TheVariants.{SendRecv, SendOnly, RecvOnly, Inactive}
+use Rattle.str0m_values.specs.declared.fingerprint.Fingerprint.{Fingerprint}
+use Rattle.str0m_values.specs.declared.media_kind.MediaKind.{MediaKind}
+use Rattle.str0m_values.specs.declared.media_kind.MediaKind.TheVariants.{Audio, Video}
+use Rattle.exchange.specs.Trickled.{IsTrickled}
+use Rattle.exchange.specs.declared.exchange_error.ExchangeError.TheVariants.{Memory}
+use Rattle.exchange.specs.declared.own_side.DataChannels.{DataChannels}
+use Rattle.exchange.specs.declared.own_side.OwnSide.{OwnSide}
+use Rattle.c_parts.specs.declared.fault.Fault.{Fault}
+use Rattle.c_parts.specs.declared.fault.Fault.TheVariants.{NotUtf8, NoFingerprint, NoCandidate, Refused}
+use Rattle.c_parts.specs.declared.side.OwnNumbers.{OwnNumbers}
+use Rattle.c_parts.specs.declared.side.OwnTexts.{OwnTexts}
+
+-- the direction of a number (`zax_direction`)
+abbrev pub direction_numbered : ℕ → Direction
+direction_numbered n = if nat_eq n 0 then SendRecv else (if nat_eq n 1 then SendOnly else (if nat_eq n 2 then RecvOnly else Inactive))
+
+-- the kind of media of a number (`zax_kind`)
+abbrev pub kind_numbered : ℕ → MediaKind
+kind_numbered n = if nat_eq n 0 then Audio else Video
+
+-- 0 is no, and all else is yes
+abbrev pub is_on : ℕ → Bool
+is_on n = not (nat_eq n 0)
+
+-- where data channels are reached, where there are some
+abbrev pub channels_of : OwnNumbers → Option DataChannels
+channels_of numbers =
+    if is_on numbers.has_channels then Some (record { port = numbers.sctp_port; max_message_size = numbers.max_message_size }) else None
+
+-- the texts of a list
+abbrev pub listed : List (Bor (List ℕ)) → List (List ℕ)
+listed texts = map (λ text. text.now) texts
+
+-- the texts that a call takes one by one
+abbrev pub own_texts : (ice_ufrag ice_pwd fingerprint stream_id : Bor (List ℕ)) (extensions candidates : Bor (List (Bor (List ℕ))))
+    → OwnTexts
+own_texts ice_ufrag ice_pwd fingerprint stream_id extensions candidates = record {
+  ice_ufrag = ice_ufrag;
+  ice_pwd = ice_pwd;
+  fingerprint = fingerprint;
+  stream_id = stream_id;
+  extensions = extensions;
+  candidates = candidates;
+}
+
+-- it says what the numbers and the texts say
+pub record SaysOwn (numbers : OwnNumbers) (texts : OwnTexts) (own : OwnSide) : Type 0 where
+  pub session_id : own.session_id ≡ numbers.session_id
+  pub ufrag : own.creds.ufrag ≡ texts.ice_ufrag.now
+  pub pwd : own.creds.pass ≡ texts.ice_pwd.now
+  pub fingerprint : IsFingerprint texts.fingerprint.now own.fingerprint
+  pub audio : own.audio ≡ direction_numbered numbers.audio
+  pub video : own.video ≡ direction_numbered numbers.video
+  pub directions : own.directions ≡ []
+  pub stream_id : own.stream_id ≡ texts.stream_id.now
+  pub extensions : own.extensions ≡ listed texts.extensions.now
+  pub candidates : AllZip IsTrickled (listed texts.candidates.now) own.candidates
+  pub channels : own.channels ≡ channels_of numbers
+  pub receives_simulcast : own.receives_simulcast ≡ is_on numbers.receives_simulcast
+
+-- all of the texts are UTF-8
+pub record AreUtf8 (texts : OwnTexts) : Type 0 where
+  pub ufrag : IsUtf8 texts.ice_ufrag.now
+  pub pwd : IsUtf8 texts.ice_pwd.now
+  pub fingerprint : IsUtf8 texts.fingerprint.now
+  pub stream_id : IsUtf8 texts.stream_id.now
+  pub extensions : All IsUtf8 (listed texts.extensions.now)
+  pub candidates : All IsUtf8 (listed texts.candidates.now)
+
+-- why one of two texts isn't taken
+abbrev pub RefusesBoth : List ℕ → List ℕ → Fault → Type 0
+RefusesBoth text other NotUtf8 = IsUtf8 text → IsUtf8 other → ⊥
+RefusesBoth text other (Refused error) = error ≡ Memory
+RefusesBoth text other _ = ⊥
+
+-- why a list of texts isn't
+abbrev pub RefusesList : List (List ℕ) → Fault → Type 0
+RefusesList texts NotUtf8 = All IsUtf8 texts → ⊥
+RefusesList texts (Refused error) = error ≡ Memory
+RefusesList texts _ = ⊥
+
+-- no candidates are what the lines say
+abbrev pub AreNotTrickled : List (List ℕ) → Type 0
+AreNotTrickled lines = (candidates : List Candidate) → AllZip IsTrickled lines candidates → ⊥
+
+-- why a candidate isn't
+abbrev pub RefusesCandidate : List ℕ → Fault → Type 0
+RefusesCandidate line NotUtf8 = IsUtf8 line → ⊥
+RefusesCandidate line NoCandidate = (candidate : Candidate) → IsTrickled line candidate → ⊥
+RefusesCandidate line (Refused error) = error ≡ Memory
+RefusesCandidate line NoFingerprint = ⊥
+
+-- why a list of candidates isn't
+abbrev pub RefusesCandidates : List (List ℕ) → Fault → Type 0
+RefusesCandidates lines NotUtf8 = All IsUtf8 lines → ⊥
+RefusesCandidates lines NoCandidate = AreNotTrickled lines
+RefusesCandidates lines (Refused error) = error ≡ Memory
+RefusesCandidates lines NoFingerprint = ⊥
+
+-- why a fingerprint isn't
+abbrev pub RefusesFingerprint : List ℕ → Fault → Type 0
+RefusesFingerprint text NotUtf8 = IsUtf8 text → ⊥
+RefusesFingerprint text NoFingerprint = (fingerprint : Fingerprint) → IsFingerprint text fingerprint → ⊥
+RefusesFingerprint text (Refused error) = error ≡ Memory
+RefusesFingerprint text NoCandidate = ⊥
+
+-- why what this side says isn't
+abbrev pub RefusesOwn : OwnTexts → Fault → Type 0
+RefusesOwn texts NotUtf8 = AreUtf8 texts → ⊥
+RefusesOwn texts NoFingerprint = (fingerprint : Fingerprint) → IsFingerprint texts.fingerprint.now fingerprint → ⊥
+RefusesOwn texts NoCandidate = AreNotTrickled (listed texts.candidates.now)
+RefusesOwn texts (Refused error) = error ≡ Memory
