@@ -173,7 +173,7 @@ typedef struct zax_own {
     zax_slice ice_ufrag;
     zax_slice ice_pwd;
     zax_slice fingerprint; /* of its certificate: "sha-256 AB:CD:.." */
-    zax_slice stream_id;   /* of what it sends */
+    zax_slice stream_id;   /* of what it sends: "-" for none */
     const zax_slice *extensions; /* the header extensions that it knows: their URIs */
     size_t extension_count;
     const zax_slice *candidates; /* where it is reached: lines as browsers trickle them, with or without "a=" */

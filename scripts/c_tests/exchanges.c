@@ -195,8 +195,9 @@ static void refused_offers(void)
     IS(zax_accept_offer(NULL, text, length, &answer, &version, &error), ZAX_E_ARGUMENT);
     IS(zax_accept_offer(exchange, text, length, NULL, &version, &error), ZAX_E_ARGUMENT);
     IS(zax_accept_offer(exchange, text, length, &answer, NULL, &error), ZAX_E_ARGUMENT);
-    const char *twice = "v=0\r\no=- 1 1 IN IP4 0.0.0.0\r\ns=-\r\nt=0 0\r\nm=audio 9 UDP/TLS/RTP/SAVPF 0\r\nc=IN IP4 0.0.0.0\r\na=mid:0\r\n"
-                        "m=audio 9 UDP/TLS/RTP/SAVPF 0\r\nc=IN IP4 0.0.0.0\r\na=mid:0\r\n";
+    const char *twice = "v=0\r\no=- 1 1 IN IP4 0.0.0.0\r\ns=-\r\nt=0 0\r\n"
+                        "m=audio 9 UDP/TLS/RTP/SAVPF 0\r\nc=IN IP4 0.0.0.0\r\na=mid:0\r\na=sendrecv\r\n"
+                        "m=audio 9 UDP/TLS/RTP/SAVPF 0\r\nc=IN IP4 0.0.0.0\r\na=mid:0\r\na=sendrecv\r\n";
     IS(zax_accept_offer(exchange, twice, strlen(twice), &answer, &version, &error), ZAX_E_FIT);
     IS(strcmp(error.message, "section 1 breaks a rule: no two sections have one mid"), 0);
     IS(zax_accept_answer(exchange, text, length, &error), ZAX_E_STATE);

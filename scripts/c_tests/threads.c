@@ -7,7 +7,8 @@
 static char text[1 << 16];
 static size_t length;
 
-static const zax_own own = {.session_id = 1, .ice_ufrag = {"ufrag", 5}, .ice_pwd = {"password", 8}, .fingerprint = {"sha-256 AB:CD", 13}};
+static const zax_own own = {
+    .ice_ufrag = {"ufrag", 5}, .ice_pwd = {"password", 8}, .fingerprint = {"sha-256 AB:CD", 13}, .stream_id = {"-", 1}};
 
 /* Answers the offer. */
 static void *answers(void *exchange)

@@ -5,7 +5,7 @@ use zaxmonth::{CodecConfig, DataChannels, Direction, Exchange, ExchangeError, Ic
 const OFFER: &str = include_str!("../../../examples/chromium-audio-offer.sdp");
 const SIDE: &str = include_str!("../../../examples/own-side.txt");
 const HEAD: &str = "v=0\r\no=- 1 1 IN IP4 0.0.0.0\r\ns=-\r\nt=0 0\r\n";
-const SECTION: &str = "m=audio 9 UDP/TLS/RTP/SAVPF 0\r\nc=IN IP4 0.0.0.0\r\na=mid:0\r\n";
+const SECTION: &str = "m=audio 9 UDP/TLS/RTP/SAVPF 0\r\nc=IN IP4 0.0.0.0\r\na=mid:0\r\na=sendrecv\r\n";
 
 fn taken(name: &str) -> String {
     read_to_string(format!("../../data/answers/{name}.sdp")).unwrap()
