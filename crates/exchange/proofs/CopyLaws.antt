@@ -1,12 +1,11 @@
 -- Items that are in a relation with those in their places, mended one after another.
-use Rattle.std.proofs.Common.{arith, ◌≡◌, ◌<◌, ◌+◌, ◌≤◌, Bool, true, false, ℕ, List, get_or, length, set, subst, sym, ap, ◌∙◌}
+use Rattle.std.proofs.Common.{arith, ◌≡◌, ◌<◌, ◌+◌, ◌≤◌, false, ℕ, List, get_or, length, set, subst, sym}
 use Rattle.std.proofs.lemmas.Bool.{true≢false}
 use Rattle.std.proofs.lemmas.List.{get_or-set_other}
 use Rattle.str0m_sdp.specs.Alike.{Alike}
 use Rattle.str0m_sdp.specs.declared.attribute.MediaAttribute.{MediaAttribute}
 use Rattle.str0m_sdp.specs.declared.attribute.MediaAttribute.TheVariants.{Fmtp, Simulcast as SimulcastLine}
-use Rattle.str0m_sdp.specs.declared.media_line.MediaLine.{MediaLine}
-use Rattle.exchange.specs.ReadBack.{IsSectionReadAs, may_differ}
+use Rattle.exchange.specs.ReadBack.{may_differ}
 
 -- those from a place on
 abbrev pub FromOn : {X : Type 0} → (X → X → Type 0) → List X → List X → ℕ → Type 0
