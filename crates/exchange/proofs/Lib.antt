@@ -1,5 +1,6 @@
 pub mod AnswerLaws
 pub mod BundleLaws
+pub mod CopyLaws
 pub mod Equal
 pub mod FeedbackLaws
 pub mod FitsLaws

@@ -1,7 +1,9 @@
 -- A description whose text is read to its end as this very description.
-use Rattle.std.specs.Prelude.{◌≡◌, ℕ, List, []}
+use Rattle.std.specs.Prelude.{◌≡◌, ℕ, Bool, true, false, List, []}
 use Rattle.std.specs.List.{AllZip}
 use Rattle.str0m_sdp.specs.Alike.{Alike}
+use Rattle.str0m_sdp.specs.declared.attribute.MediaAttribute.{MediaAttribute}
+use Rattle.str0m_sdp.specs.declared.attribute.MediaAttribute.TheVariants.{Fmtp, Simulcast as SimulcastLine}
 use Rattle.str0m_sdp.specs.declared.media_line.MediaLine.{MediaLine}
 use Rattle.str0m_sdp.specs.declared.session.Sdp.{Sdp}
 use Rattle.str0m_signal.specs.Reading.{Reading}
@@ -12,6 +14,12 @@ pub record IsSameHead (said read : MediaLine) : Type 0 where
   pub disabled : read.disabled ≡ said.disabled
   pub proto : read.proto ≡ said.proto
   pub types : read.pts ≡ said.pts
+
+-- lines that differ may be alike: fmtp lines, and those of layers
+abbrev pub may_differ : MediaAttribute → Bool
+may_differ (Fmtp pt values) = true
+may_differ (SimulcastLine layers) = true
+may_differ _ = false
 
 -- a section with the same m-line and the same bandwidth, whose attributes are alike one by one
 pub record IsSectionReadAs (said read : MediaLine) : Type 0 where

@@ -1,8 +1,9 @@
-//! Descriptions made equal to others, at the cost of what differs.
-ghost use Rattle.std.specs.Prelude.{◌≡◌, ◌↔◌, IsTrue, OnOk, length};
-ghost use Rattle.exchange.specs.ReadBack.{IsSameHead};
+//! Descriptions that were read back, made equal to those that were said, at the cost of what may differ.
+ghost use Rattle.std.specs.Prelude.{◌≡◌, ◌↔◌, IsTrue, OnOk};
+ghost use Rattle.std.specs.List.{AllZip};
+ghost use Rattle.str0m_sdp.specs.Alike.{Alike};
+ghost use Rattle.exchange.specs.ReadBack.{IsReadAs, IsSectionReadAs, may_differ};
 
-use crate::read_back::{is_same_bandwidth, is_same_head, is_same_session};
 use std::alloc::AllocError;
 use str0m_signal::{MediaAttribute, MediaLine, Sdp};
 
@@ -14,7 +15,7 @@ fn is_same_line(line: &MediaAttribute, other: &MediaAttribute) -> bool
 }
 
 /// Makes a line equal to another.
-fn copy_line(source: &MediaAttribute, line: &mut MediaAttribute) -> Result<(), AllocError>
+fn copy_values(source: &MediaAttribute, line: &mut MediaAttribute) -> Result<(), AllocError>
     ensures { OnOk result (line.new ≡ source.now) }
 {
     if is_same_line(line, source) {
@@ -24,9 +25,31 @@ fn copy_line(source: &MediaAttribute, line: &mut MediaAttribute) -> Result<(), A
     Ok(())
 }
 
-/// Makes lines equal to as many others, each to the one in its place.
+/// Whether a line may be alike that differs.
+fn may_differ(line: &MediaAttribute) -> bool
+    ensures { result ≡ may_differ line.now }
+{
+    matches!(
+        line,
+        MediaAttribute::Fmtp { .. } | MediaAttribute::Simulcast(_)
+    )
+}
+
+/// Makes a line equal to one that is alike.
+fn copy_line(source: &MediaAttribute, line: &mut MediaAttribute) -> Result<(), AllocError>
+    requires { Alike source.now line.old }
+    ensures { OnOk result (line.new ≡ source.now) }
+{
+    if may_differ(source) {
+        copy_values(source, line)
+    } else {
+        Ok(())
+    }
+}
+
+/// Makes lines equal to others that are alike one by one.
 fn copy_lines(sources: &[MediaAttribute], lines: &mut Vec<MediaAttribute>) -> Result<(), AllocError>
-    requires { length lines.old.items ≡ length sources.now }
+    requires { AllZip Alike sources.now lines.old.items }
     ensures { OnOk result (lines.new.items ≡ sources.now) }
 {
     for i in 0..sources.len() {
@@ -35,29 +58,17 @@ fn copy_lines(sources: &[MediaAttribute], lines: &mut Vec<MediaAttribute>) -> Re
     Ok(())
 }
 
-/// Whether two sections may differ in their attributes alone, of which they have as many.
-fn is_same_frame(section: &MediaLine, other: &MediaLine) -> bool
-    ensures { IsTrue result → IsSameHead section.now other.now × (other.now.bw ≡ section.now.bw) × (length other.now.attrs ≡ length section.now.attrs) }
-{
-    is_same_head(section, other)
-        && is_same_bandwidth(&other.bw, &section.bw)
-        && other.attrs.len() == section.attrs.len()
-}
-
-/// Makes a section equal to another.
+/// Makes a section equal to one that is read as it.
 fn copy_section(source: &MediaLine, section: &mut MediaLine) -> Result<(), AllocError>
+    requires { IsSectionReadAs source.now section.old }
     ensures { OnOk result (section.new ≡ source.now) }
 {
-    if is_same_frame(source, section) {
-        return copy_lines(source.attrs.as_slice(), &mut section.attrs.0);
-    }
-    *section = source.clone()?;
-    Ok(())
+    copy_lines(source.attrs.as_slice(), &mut section.attrs.0)
 }
 
-/// Makes sections equal to as many others, each to the one in its place.
+/// Makes sections equal to others that are read as they are, one by one.
 fn copy_sections(sources: &[MediaLine], sections: &mut Vec<MediaLine>) -> Result<(), AllocError>
-    requires { length sections.old.items ≡ length sources.now }
+    requires { AllZip IsSectionReadAs sources.now sections.old.items }
     ensures { OnOk result (sections.new.items ≡ sources.now) }
 {
     for i in 0..sources.len() {
@@ -66,16 +77,11 @@ fn copy_sections(sources: &[MediaLine], sections: &mut Vec<MediaLine>) -> Result
     Ok(())
 }
 
-/// Makes a description equal to another. Lines that are equal already are left where they stand, so that it takes little memory
-/// where little differs. The only error is that memory was refused.
+/// Makes a description equal to the one that it was read as. Lines that are equal are left where they stand, so that it takes
+/// little memory where little differs. The only error is that memory was refused.
 pub(crate) fn copy_over(source: &Sdp, sdp: &mut Sdp) -> Result<(), AllocError>
+    requires { IsReadAs source.now sdp.old }
     ensures { OnOk result (sdp.new ≡ source.now) }
 {
-    if is_same_session(&sdp.session, &source.session)
-        && sdp.media_lines.len() == source.media_lines.len()
-    {
-        return copy_sections(source.media_lines.as_slice(), &mut sdp.media_lines.0);
-    }
-    *sdp = source.clone()?;
-    Ok(())
+    copy_sections(source.media_lines.as_slice(), &mut sdp.media_lines.0)
 }

@@ -1,6 +1,6 @@
 //! A description whose text is read again.
 
-ghost use Rattle.std.specs.Prelude.{◌≡◌, ◌≢◌, ◌↔◌, [], IfOk, IsTrue, MatchOption, None};
+ghost use Rattle.std.specs.Prelude.{◌≡◌, ◌≢◌, ◌↔◌, [], IfOk, IfSome, IsTrue, MatchOption, None};
 ghost use Rattle.std.specs.List.{AllZip};
 ghost use Rattle.str0m_sdp.specs.Alike.{Alike};
 ghost use Rattle.str0m_sdp.specs.declared.error.SdpError.TheVariants.{Memory};
@@ -35,14 +35,14 @@ pub(crate) fn is_same_type(typ: &MediaType, other: &MediaType) -> bool
 }
 
 #[tactic(auto, using(crate::proofs::Equal::bandwidth_Decides))]
-pub(crate) fn is_same_bandwidth(bw: &Option<Bandwidth>, other: &Option<Bandwidth>) -> bool
+fn is_same_bandwidth(bw: &Option<Bandwidth>, other: &Option<Bandwidth>) -> bool
     ensures { IsTrue result ↔ (bw.now ≡ other.now) }
 {
     bw == other
 }
 
 #[tactic(auto, using(crate::proofs::Equal::session_Decides))]
-pub(crate) fn is_same_session(session: &Session, other: &Session) -> bool
+fn is_same_session(session: &Session, other: &Session) -> bool
     ensures { IsTrue result ↔ (session.now ≡ other.now) }
 {
     session == other
@@ -61,7 +61,7 @@ fn are_same_types(types: &[Pt], others: &[Pt]) -> bool
 }
 
 /// Whether the m-lines have the same type, port 0 or not, protocol and payload types.
-pub(crate) fn is_same_head(said: &MediaLine, read: &MediaLine) -> bool
+fn is_same_head(said: &MediaLine, read: &MediaLine) -> bool
     ensures { IsTrue result ↔ IsSameHead said.now read.now }
 {
     is_same_type(&read.typ, &said.typ)
@@ -112,7 +112,7 @@ fn is_whole(said: &Sdp, read: &Sdp, rest: &str) -> bool
 fn whole(said: &Sdp, read: Sdp, rest: &str) -> Option<Sdp>
     ensures { MatchOption result
         ((rest.now ≡ []) × IsReadAs said.now read → ⊥)
-        (λ found. (rest.now ≡ []) × IsReadAs said.now read) }
+        (λ found. (found ≡ read) × (rest.now ≡ []) × IsReadAs said.now read) }
 {
     if is_whole(said, &read, rest) {
         Some(read)
@@ -134,6 +134,7 @@ fn refused(error: SdpError) -> Result<Option<Sdp>, AllocError>
 /// What a text is read as, where it is read to its end as this very description; see `is_read_back`.
 pub(crate) fn read_back(alloc: Global, said: &Sdp, text: &str) -> Result<Option<Sdp>, AllocError>
     ensures exact { IfOk result (λ found. MatchOption found (IsReadBack said.now text.now → ⊥) (λ read. IsReadBack said.now text.now)) }
+    ensures alike { IfOk result (λ found. IfSome found (IsReadAs said.now)) }
 {
     match sdp_parser(alloc, text) {
         Ok((read, rest)) => Ok(whole(said, read, rest)),
