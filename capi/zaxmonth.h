@@ -4,9 +4,9 @@
  * caller's room: `cap` counts the items that the room has space for, `*needed` becomes the count of those that there are. Where they
  * don't fit the answer is ZAX_E_ROOM, and the room is as it was. `needed` may be NULL, and so may a room whose `cap` is 0.
  *
- * A handle is made by zax_read, zax_config_defaults, zax_config_empty or a call of exchanges, and freed by the call of its kind. One call at a time uses
- * it, on any thread. No call aborts, prints, starts a thread or calls back, and none keeps state outside of handles. A call that isn't
- * answered by ZAX_OK leaves each handle as it was. docs/C.md says what is proved of all this, and what is trusted. */
+ * A handle is made by zax_read, zax_config_defaults, zax_config_empty or a call of exchanges, and freed by the call of its kind. One
+ * call at a time uses it, on any thread. No call aborts, prints, starts a thread or calls back, and none keeps state outside of handles.
+ * A call that isn't answered by ZAX_OK leaves each handle as it was. docs/C.md says what is proved of all this, and what is trusted. */
 #ifndef ZAXMONTH_H
 #define ZAXMONTH_H
 
