@@ -205,7 +205,6 @@ impl fmt::Display for Codec {
     ghost output = { λ codec. Some (codec_text codec) };
 
     fn fmt<W: fmt::Write>(&self, f: &mut fmt::Formatter<W>) -> fmt::Result {
-        let name = self.word();
-        write!(f, "{name}")
+        f.write_str(self.word())
     }
 }

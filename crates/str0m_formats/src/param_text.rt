@@ -18,9 +18,9 @@ impl fmt::Display for Flag {
 
     fn fmt<W: fmt::Write>(&self, f: &mut fmt::Formatter<W>) -> fmt::Result {
         if self.0 {
-            write!(f, "1")
+            f.write_str("1")
         } else {
-            write!(f, "0")
+            f.write_str("0")
         }
     }
 }
@@ -129,10 +129,10 @@ impl fmt::Display for Value {
 
     fn fmt<W: fmt::Write>(&self, f: &mut fmt::Formatter<W>) -> fmt::Result {
         match *self {
-            Value::Flag(b) => write!(f, "{}", Flag(b)),
-            Value::Number(n) => write!(f, "{n}"),
-            Value::SixDigits(n) => write!(f, "{}", SixDigits(n)),
-            Value::Modes(mask) => write!(f, "{}", ModeList(mask)),
+            Value::Flag(b) => Flag(b).fmt(f),
+            Value::Number(n) => fmt::Display::fmt(&n, f),
+            Value::SixDigits(n) => SixDigits(n).fmt(f),
+            Value::Modes(mask) => ModeList(mask).fmt(f),
         }
     }
 }
@@ -146,7 +146,11 @@ impl fmt::Display for Keyed {
 
     fn fmt<W: fmt::Write>(&self, f: &mut fmt::Formatter<W>) -> fmt::Result {
         match self.0.entry() {
-            Some((key, value)) => write!(f, "{}={value}", key.text()),
+            Some((key, value)) => {
+                f.write_str(key.text())?;
+                f.write_str("=")?;
+                value.fmt(f)
+            }
             None => Ok(()),
         }
     }
@@ -183,15 +187,11 @@ impl fmt::Display for FormatParam {
 
     fn fmt<W: fmt::Write>(&self, f: &mut fmt::Formatter<W>) -> fmt::Result {
         match *self {
-            FormatParam::H265ProfileTierLevel(triple) => write!(f, "{}", Triple::of(triple)),
-            FormatParam::H266ProfileTierLevel(triple) => write!(f, "{}", Triple::of(triple)),
-            FormatParam::TelephoneEvents(n) | FormatParam::BareRange(n) => write!(
-                f,
-                "{}",
-                Range(n)
-            ),
-            FormatParam::BarePtList(pt) | FormatParam::Red(pt) => write!(f, "{}", TypeList(pt)),
-            param => write!(f, "{}", Keyed(param)),
+            FormatParam::H265ProfileTierLevel(triple) => Triple::of(triple).fmt(f),
+            FormatParam::H266ProfileTierLevel(triple) => Triple::of(triple).fmt(f),
+            FormatParam::TelephoneEvents(n) | FormatParam::BareRange(n) => Range(n).fmt(f),
+            FormatParam::BarePtList(pt) | FormatParam::Red(pt) => TypeList(pt).fmt(f),
+            param => Keyed(param).fmt(f),
         }
     }
 }

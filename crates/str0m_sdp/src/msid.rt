@@ -34,7 +34,9 @@ impl fmt::Display for Msid {
             stream_id,
             track_id,
         } = self;
-        write!(f, "{stream_id} {track_id}")
+        stream_id.fmt(f)?;
+        f.write_str(" ")?;
+        track_id.fmt(f)
     }
 }
 

@@ -56,7 +56,6 @@ impl fmt::Display for Word {
     ghost output = { λ word. Some word };
 
     fn fmt<W: fmt::Write>(&self, f: &mut fmt::Formatter<W>) -> fmt::Result {
-        let word = self.as_str();
-        write!(f, "{word}")
+        f.write_str(self.as_str())
     }
 }

@@ -63,6 +63,6 @@ impl fmt::Display for Pt {
 
     fn fmt<W: fmt::Write>(&self, f: &mut fmt::Formatter<W>) -> fmt::Result {
         let value = self.0;
-        write!(f, "{value}")
+        fmt::Display::fmt(&value, f)
     }
 }

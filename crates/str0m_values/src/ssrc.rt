@@ -43,6 +43,6 @@ impl fmt::Display for Ssrc {
 
     fn fmt<W: fmt::Write>(&self, f: &mut fmt::Formatter<W>) -> fmt::Result {
         let ssrc = self.0;
-        write!(f, "{ssrc}")
+        fmt::Display::fmt(&ssrc, f)
     }
 }
