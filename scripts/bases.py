@@ -1,8 +1,8 @@
 """What `rt ci` has checked of each crate, as a base on which the checks of its edits begin.
 
-While rattle proves a crate, it has each module that it has checked in a folder of the run's own, below that for temporary files, and
-removes them in the end. They are such as `--incremental` takes, and aren't changed once they are written; so each gets a second name
-here while the run lasts. Nothing is taken for whole: what is missed, or is of other sources, rattle checks again."""
+While rattle proves a crate, it keeps each module that it has checked in a folder of its own, in that for temporary files, and removes them in
+the end. They are such as `--incremental` takes, and don't change once they are written; so each gets a second name here while the run
+lasts. A base may be incomplete: what is missing, or is of other sources, rattle checks again."""
 import contextlib
 import os
 import re

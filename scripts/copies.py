@@ -1,9 +1,9 @@
-"""Copies of functions: an edit of one function is made in a copy of it, so that one check tries all, and callers aren't touched.
+"""Copies of functions: an edit of a function is made in a copy of it, so that one check tries all its edits and its callers stay as they are.
 
-A copy has the function's contract and a name of its own, and is called by nothing. It stands behind the last line of its file, a
-method in a block with the head and the `ghost use` lines of its own; what proofs/ holds of the function is copied for it. So what is
-owed of it is what is owed of the function, where that is edited. A method of a trait has no copy, since its block is the only one of
-its trait and type; nor has what calls itself, or has a proof file for one of its closures."""
+A copy has the function's contract and a name of its own, and nothing calls it. It stands after the last line of its file, a method in a block
+with the head and the `ghost use` lines of its own; what proofs/ holds of the function is copied for it. So the same is owed of it as of the
+function, where that is edited. No copy have a method of a trait, since its block is the only one of its trait and type; what calls itself;
+and what has a proof file for one of its closures."""
 import copy
 import re
 

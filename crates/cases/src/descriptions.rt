@@ -1,4 +1,4 @@
-//! Descriptions: their sessions and sections, what is left behind them, and why they are refused.
+//! Descriptions: their sessions and sections, what is left after them, and why they are refused.
 
 use crate::escapes::push_escaped;
 use crate::lines::{push_printed, push_rest};
@@ -30,7 +30,7 @@ pub(crate) fn answers(answer: &mut Answer, word: &str, text: &str) -> bool {
     true
 }
 
-/// What the word asks of lines behind a header.
+/// What the word asks of lines after a header.
 fn of_lines(answer: &mut Answer, word: &str, lines: &str) -> bool {
     let text = behind_header(answer, lines);
     match word {

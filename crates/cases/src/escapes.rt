@@ -26,7 +26,7 @@ fn meaning(escape: char) -> char {
     }
 }
 
-/// The text as an answer writes it: a line break stands behind each `\n` but the last.
+/// The text as an answer writes it: a line break stands after each `\n` but the last.
 pub(crate) fn push_escaped(answer: &mut Answer, text: &str) {
     for character in text.trim_end_matches('\n').chars() {
         match character {
@@ -40,7 +40,7 @@ pub(crate) fn push_escaped(answer: &mut Answer, text: &str) {
     answer.push_if(text.ends_with('\n'), "\\n");
 }
 
-/// The answer behind `=>`: a space before it, and its further lines under its first.
+/// The answer after `=>`: a space before it, and its further lines under its first.
 pub(crate) fn push_indented(shown: &mut Answer, answer: &str) {
     shown.push_if(!answer.is_empty(), " ");
     for character in answer.chars() {

@@ -1,4 +1,4 @@
-//! Lines of attributes: what each is read as, what it prints, and what is left behind it.
+//! Lines of attributes: what each is read as, what it prints, and what is left after it.
 
 use crate::attribute_parts::push_part;
 use crate::escapes::push_escaped;
@@ -117,7 +117,7 @@ pub(crate) fn push_printed<T: Display>(answer: &mut Answer, value: &T) {
     }
 }
 
-/// What is left behind what was read, if anything is.
+/// What is left after what was read, if anything is.
 pub(crate) fn push_rest(answer: &mut Answer, rest: &str) {
     if !rest.is_empty() {
         answer.push("\nleft ");

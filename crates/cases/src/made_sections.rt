@@ -45,7 +45,7 @@ pub(crate) fn push_made(answer: &mut Answer, frame: &MediaLine, rows: &[PayloadP
     }
 }
 
-/// What is said of a section of sound with a payload type, or `-` for none, and these lines.
+/// What is said of an audio section with a payload type, or `-` for none, and these lines.
 fn fault(answer: &mut Answer, text: &str) {
     let (pt, lines) = text.split_once(' ').unwrap_or((text, ""));
     let mut section = section(answer, lines);

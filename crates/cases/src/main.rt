@@ -52,7 +52,7 @@ fn plain(alloc: Global, text: &str) -> Result<String, AllocError> {
     plain.finish()
 }
 
-/// The answer as it stands behind `=>`.
+/// The answer as it stands after `=>`.
 fn indented(alloc: Global, answer: &str) -> Result<String, AllocError> {
     let mut shown = Answer::new(alloc);
     push_indented(&mut shown, answer);

@@ -63,7 +63,7 @@ fn locked(answer: &mut Answer, own: &str, text: &str) {
     show_locked(answer, &config, "video ", MediaKind::Video);
 }
 
-/// The locked rows of a kind of media, behind its name.
+/// The locked rows of a kind of media, after its name.
 fn show_locked(answer: &mut Answer, config: &CodecConfig, name: &str, kind: MediaKind) {
     answer.item("\n");
     answer.push(name);

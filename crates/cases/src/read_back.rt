@@ -58,7 +58,7 @@ fn come_back_at(answer: &mut Answer, sdp: &Sdp, index: &str, rows: &[PayloadPara
 }
 
 /// Runs the rounds of the text: what each comes to, and whether the rows that they leave come back from each of its
-/// sections of sound and pictures.
+/// audio and video sections.
 fn negotiated_back(answer: &mut Answer, config: &mut CodecConfig, text: &str) {
     negotiated(answer, config, text);
     let read = sdp_parser(answer.alloc(), text);

@@ -1,4 +1,4 @@
-//! The lines that describe rows, behind one that was there before.
+//! The lines that describe rows, after one that was there before.
 
 use plain_cases::{Answer, rows_of};
 use str0m_signal::{AsMediaAttrs, Items, MediaAttribute, PayloadParams};

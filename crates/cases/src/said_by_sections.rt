@@ -118,7 +118,7 @@ fn add_ways(answer: &mut Answer, label: &str, simulcast: &Simulcast) {
     answer.push_if(simulcast.is_munged, ", munged");
 }
 
-/// The word's direction is set in a section of the lines behind it: the direction then, and the section.
+/// The word's direction is set in a section of the lines after it: the direction then, and the section.
 fn with_direction(answer: &mut Answer, text: &str) {
     let (word, lines) = text.split_once(' ').unwrap_or((text, ""));
     let mut section = section(answer, lines);

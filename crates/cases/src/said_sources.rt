@@ -18,7 +18,7 @@ pub(crate) fn answers(answer: &mut Answer, word: &str, text: &str) -> bool {
     true
 }
 
-/// Copies of the sources of a section of sound with these lines, a line each.
+/// Copies of the sources of an audio section with these lines, a line each.
 fn sources(answer: &mut Answer, lines: &str) {
     let section = section(answer, lines);
     let found = section.ssrc_info();

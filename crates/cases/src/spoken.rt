@@ -8,7 +8,7 @@ use str0m_signal::{
 /// A header with nothing that may be left out.
 const HEADER: &str = "v=0\r\no=- 1 1 IN IP4 127.0.0.1\r\ns=-\r\nt=0 0\r\n";
 
-/// The header, and these lines behind it.
+/// The header, and these lines after it.
 pub(crate) fn behind_header(answer: &mut Answer, lines: &str) -> String {
     let alloc = answer.alloc();
     answer.kept(format!(in alloc; "{HEADER}{lines}"), String::new(alloc))
@@ -54,7 +54,7 @@ pub(crate) fn add_attribute(answer: &mut Answer, section: &mut MediaLine, line: 
     }
 }
 
-/// A section of sound with these attribute lines alone, consistent or not.
+/// An audio section with these attribute lines alone, consistent or not.
 pub(crate) fn section(answer: &mut Answer, lines: &str) -> MediaLine {
     let mut section = MediaLine::new(answer.alloc());
     for line in lines.split("\r\n") {

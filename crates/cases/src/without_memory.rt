@@ -9,7 +9,7 @@ use str0m_signal::{SdpError, sdp_parser};
 /// each allocation is refused as long as it is held (scripts/refuse.c).
 const HELD: usize = 54_321;
 
-/// What reading these lines behind a header comes to.
+/// What reading these lines after a header comes to.
 pub(crate) fn read(answer: &mut Answer, lines: &str) {
     let text = behind_header(answer, lines);
     let outcome = outcome(answer.alloc(), text.as_str());

@@ -9,7 +9,7 @@ use str0m_signal::{
     SdpOffer, Session, SessionAttribute, is_writable,
 };
 
-/// Two sections of sound.
+/// Two audio sections.
 const TWO: &str =
     "m=audio 9 UDP/TLS/RTP/SAVPF 0\r\na=mid:0\r\na=sendrecv\r\nm=audio 9 UDP/TLS/RTP/SAVPF 0\r\na=mid:1\r\na=sendrecv\r\n";
 
@@ -74,7 +74,7 @@ fn push_added_to_two(answer: &mut Answer, printed: &str) {
     }
 }
 
-/// What stands in the printed text behind the one before, or else between its session and its sections.
+/// What stands in the printed text after the one before, or else between its session and its sections.
 fn added<'a>(printed: &'a str, before: &str, session: &str) -> &'a str {
     if let Some(added) = printed.strip_prefix(before) {
         return added;
@@ -152,7 +152,7 @@ fn change_attributes(
     }
 }
 
-/// The type and value that stand before and behind the first colon.
+/// The type and value that stand before and after the first colon.
 fn bandwidth(answer: &mut Answer, text: &str) -> Bandwidth {
     let (typ, val) = text.split_once(':').unwrap_or((text, ""));
     Bandwidth {

@@ -34,7 +34,7 @@ fn a_source_begins_with_nothing_known(rt: HostRuntime) -> Result<(), Fail> {
     Ok(())
 }
 
-/// Whether the section is one of sound over RTP, without a bandwidth.
+/// Whether the section is one of audio over RTP, without a bandwidth.
 fn is_enabled(section: &MediaLine) -> bool {
     section.typ == MediaType::Audio
         && section.proto == Proto::Srtp

@@ -8,7 +8,7 @@ use str0m_signal::{
     MediaLine, Mid, PayloadParams, Pt, Sdp, SdpError, sdp_parser, section_of,
 };
 
-/// A section of sound with a mid and a direction.
+/// An audio section with a mid and a direction.
 fn frame(alloc: Global) -> Result<MediaLine, AllocError> {
     let mut frame = MediaLine::new(alloc);
     frame.attrs.push(MediaAttribute::Mid(Mid::from("0")))?;
@@ -103,7 +103,7 @@ fn all_printed(alloc: Global, attributes: &[MediaAttribute]) -> Result<String, A
     Ok(all)
 }
 
-/// A row of pictures, and its lines: feedback stands in one order, behind the mapping and before the format.
+/// A video row, and its lines: feedback stands in one order, after the mapping and before the format.
 fn pictures() -> (PayloadParams, &'static str) {
     let spec = plain(Codec::Vp8, Frequency::NINETY_KHZ, None);
     let row = PayloadParams::new(Pt::from(96), Some(Pt::from(97)), spec);

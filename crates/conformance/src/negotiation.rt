@@ -16,7 +16,7 @@ fn is_refused_unchanged(alloc: Global, text: &str) -> Result<bool, AllocError> {
     Ok(is_refused && is_open && config.params() == before.params())
 }
 
-/// The second text has a section of Opus, which a round would lock, and behind it one without its mid.
+/// The second text has a section of Opus, which a round would lock, and after it one without its mid.
 #[test]
 fn a_text_that_describes_no_session_runs_no_round(rt: HostRuntime) -> Result<(), Fail> {
     let alloc = rt.alloc();

@@ -10,7 +10,7 @@ use Rattle.lint.specs.Lines.{IsNumbered, attribute_numbers, begins_attribute}
 use Rattle.lint.specs.declared.notes.Notes.{Notes}
 use Rattle.lint.specs.declared.mark.Mark.{Mark}
 
--- the numbers of attributes that are kept unread, of a text behind so many lines
+-- the numbers of attributes that are kept unread, of a text after so many lines
 abbrev pub numbers : ℕ → List ℕ → List Mark → List ℕ
 numbers before text said = kept_at (map is_unread said) (attribute_numbers (before + 1) (lines_of text))
 

@@ -81,7 +81,7 @@ tells_rest text sdp (x ∷ rest) number old mid late new some is k c last e = re
   last_stays = e.last_stays ∙ last ∙ k.last_stays;
 }
 
--- what is said behind it is about something else
+-- what is said after it is about something else
 pub tells_else : (text : List ℕ) (sdp : Sdp) (rest : List ℕ) (old mid new : Notes) → Tells text sdp rest old mid → SaysElse mid new → new.last ≡ mid.last
     → Tells text sdp rest old new
 tells_else text sdp rest old mid new t s last = record {
@@ -93,7 +93,7 @@ tells_else text sdp rest old mid new t s last = record {
   last_stays = last ∙ t.last_stays;
 }
 
--- what is refused, and not for want of memory, has no reading
+-- what is refused, and not for memory, has no reading
 pub no_reading : (error : SdpError) (text : List ℕ) → Refuses error (Reading text) → IsNoWant error → (v : Sdp × List ℕ) → Reading text v → ⊥
 no_reading (ParseError message) text h is = h
 no_reading (Inconsistent message) text h is = absurd h

@@ -15,7 +15,7 @@ pub without_return : (line : Bor (List ℕ)) (r : Option (Bor (List ℕ))) (resu
     → result ≡ unwrap_or r line → IsWithoutReturn line.now result.now
 without_return line r result cases is = rw is (without_suffix 13 (lit< tt) line r cases)
 
--- some end behind the content, and the rest of the lines
+-- some end after the content, and the rest of the lines
 abbrev pub Begins : List ℕ → List ℕ → List ℕ → Type 0
 Begins text content rest = (ending : List ℕ) × (lines_of text ≡ record { content = content; ending = ending } ∷ lines_of rest)
 

@@ -93,7 +93,7 @@ pub record Tells (text : List ℕ) (sdp : Sdp) (rest : List ℕ) (old new : Note
   pub changed : rest ≡ [] → is_changed old.findings ≡ false → (is_changed new.findings ≡ false) ↔ (told text ≡ told (sdp_text sdp))
   pub last_stays : new.last ≡ old.last
 
--- what is said of a line, by the attributes that were left before it and those that are left behind it: the numbers of lines that are kept
+-- what is said of a line, by the attributes that were left before it and those that are left after it: the numbers of lines that are kept
 -- unread begin with the line's own, if it is one
 pub record NotesLine (number : ℕ) (content : List ℕ) (left more : List Mark) (old new : Notes) : Type 0 where
   pub own : List ℕ

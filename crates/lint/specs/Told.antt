@@ -10,7 +10,7 @@ use Rattle.str0m_signal.specs.Reading.{Reading}
 use Rattle.lint.specs.declared.told.Next.{Next}
 use Rattle.lint.specs.declared.told.Told.{Told as Shown}
 
--- of an m-line its type with `m=`, whether its port is 0, and what stands behind the port; of another line the whole of it
+-- of an m-line its type with `m=`, whether its port is 0, and what stands after the port; of another line the whole of it
 pub record Told : Type 0 where
   pub kind : List ℕ
   pub stopped : Bool
@@ -53,7 +53,7 @@ NothingLost text = (sdp : Sdp) × Reading text (sdp, []) × (told text ≡ told 
 abbrev pub shown : Shown → Told
 shown line = record { kind = line.kind.now; stopped = line.stopped; rest = line.rest.now }
 
--- no line of the text is told; or this one is the first, and the text behind it is left
+-- no line of the text is told; or this one is the first, and the text after it is left
 abbrev pub NextTold : List ℕ → Option Next → Type 0
 NextTold text None = told text ≡ []
 NextTold text (Some next) = told text ≡ shown next.line ∷ told next.rest.now

@@ -11,7 +11,7 @@ use std::alloc::AllocError;
 use str0m_values::Text;
 
 impl Notes {
-    /// Adds a finding: what is wrong by its code, what stands there, where there is something, and what to do. What is missing behind
+    /// Adds a finding: what is wrong by its code, what stands there, where there is something, and what to do. What is missing after
     /// the last line is said of that line.
     pub(crate) fn add(&mut self, place: Place, code: Code, detail: &str) -> Result<(), AllocError>
         ensures one { OnOk result (AddsOne place.line code self.old self.new) }

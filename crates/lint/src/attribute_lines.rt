@@ -14,7 +14,7 @@ use crate::part::Part;
 use std::alloc::AllocError;
 use str0m_values::cuts::strip;
 
-/// Says what there is to be said of an attribute by its mark, whose text behind `a=` is handed over with its line.
+/// Says what there is to be said of an attribute by its mark, whose text after `a=` is handed over with its line.
 fn note_attribute(
     notes: &mut Notes,
     number: usize,

@@ -20,7 +20,7 @@ struct Left<'a> {
     printed: &'a str,
 }
 
-/// The next printed line that begins so, and the text behind it.
+/// The next printed line that begins so, and the text after it.
 fn next_printed<'a>(text: &'a str, letter: &str) -> Option<(&'a str, &'a str)> {
     let mut rest = text;
     while let Some((line, after)) = next_line(rest) {
@@ -94,7 +94,7 @@ fn note_attribute<'a>(
     Ok(Left { marks, printed })
 }
 
-/// What is lost of an m-line, by what stands behind its port and what is printed there.
+/// What is lost of an m-line, by what stands after its port and what is printed there.
 fn media_change(rest: &str, written: &str) -> Change {
     if behind_space(rest) == behind_space(written) {
         Change::Protocol
@@ -146,7 +146,7 @@ fn note_line<'a>(
     }
 }
 
-/// Says what is lost of each line of a text behind so many lines, by what is printed of all, and the marks of its attributes.
+/// Says what is lost of each line of a text after so many lines, by what is printed of all, and the marks of its attributes.
 pub(crate) fn note_printed(
     notes: &mut Notes,
     before: usize,

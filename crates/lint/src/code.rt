@@ -81,11 +81,11 @@ pub enum Unfit {
     Protocol,
     /// The formats of an m-line begin with a space.
     Formats,
-    /// A `c=` line stands behind others, or is empty.
+    /// A `c=` line stands after others, or is empty.
     Connection,
-    /// A `b=` line stands behind others, or has no type and value.
+    /// A `b=` line stands after others, or has no type and value.
     Bandwidth,
-    /// Nothing stands behind `a=`.
+    /// Nothing stands after `a=`.
     EmptyAttribute,
     /// It is neither an attribute line nor an m-line.
     NoAttribute,
@@ -112,11 +112,11 @@ pub enum Misfit {
     StreamDirection,
     /// Bytes of a fingerprint aren't pairs of hexadecimal digits.
     Hash,
-    /// No value stands behind the colon.
+    /// No value stands after the colon.
     Empty,
     /// A part is missing at the end.
     Missing,
-    /// Something stands behind an attribute that is a word alone.
+    /// Something stands after an attribute that is a word alone.
     Behind,
     /// The line doesn't fit in another way.
     Form,
@@ -147,19 +147,19 @@ pub enum Change {
     FormatKey,
     /// The value of a format key is another.
     FormatValue,
-    /// The direction of a header extension, or what stands behind its URI.
+    /// The direction of a header extension, or what stands after its URI.
     Extension,
     /// The alternatives of a simulcast layer.
     Layers,
     /// The formats of an m-line, which are no payload types.
     Formats,
-    /// What stands behind the first 16 bytes of a mid.
+    /// What stands after the first 16 bytes of a mid.
     Mid,
     /// A header line that isn't kept.
     HeaderLine,
     /// An old name of a protocol.
     Protocol,
-    /// What stands behind the address of a candidate and isn't kept.
+    /// What stands after the address of a candidate and isn't kept.
     Candidate,
     /// Blanks, case, or another way to write a number.
     Spelling,

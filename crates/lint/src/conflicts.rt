@@ -30,12 +30,12 @@ fn lines_of(alloc: Global, text: &str) -> Result<Vec<usize>, AllocError> {
     Ok(lines)
 }
 
-/// The number of the line that stands there; a number behind all lines where there is none.
+/// The number of the line that stands there; a number after all lines where there is none.
 pub(crate) fn number_at(lines: &[usize], at: usize) -> usize {
     lines.get(at).copied().unwrap_or(usize::MAX)
 }
 
-/// The lines behind so many.
+/// The lines after so many.
 fn behind(lines: &[usize], count: usize) -> &[usize] {
     lines.get(count..).unwrap_or(&[])
 }
@@ -224,7 +224,7 @@ fn names_of(alloc: Global, sections: &[MediaLine]) -> Result<BTreeSet<&str>, All
     Ok(names)
 }
 
-/// Says what the lines of a text say against each other, and whether its sections are grouped as they stand. A group may stand behind a
+/// Says what the lines of a text say against each other, and whether its sections are grouped as they stand. A group may stand after a
 /// text of which no section is read and the reading ended.
 pub(crate) fn note_conflicts(
     notes: &mut Notes,

@@ -50,7 +50,7 @@ pub(crate) struct Fault {
     pub(crate) detail: String,
 }
 
-/// The first two lines of each kind that a section has once, where its attributes begin behind so many lines.
+/// The first two lines of each kind that a section has once, where its attributes begin after so many lines.
 #[derive(Clone, Copy)]
 struct Seen {
     mids: Pair,

@@ -6,7 +6,7 @@ fn is_separator(byte: u8) -> bool {
     matches!(byte, b' ' | b':' | b';' | b',' | b'=' | b'/')
 }
 
-/// How many bytes of two lines are the same, up to the last separator before they differ; where the line goes on behind what is printed
+/// How many bytes of two lines are the same, up to the last separator before they differ; where the line goes on after what is printed
 /// with a separator, with that.
 fn common(line: &[u8], printed: &[u8]) -> usize {
     let shorter = line.len().min(printed.len());
@@ -34,7 +34,7 @@ pub(crate) fn fork<'a, 'b>(line: &'a str, printed: &'b str) -> (&'a str, &'b str
     )
 }
 
-/// The first byte that isn't blank, in lower case, and the text behind it.
+/// The first byte that isn't blank, in lower case, and the text after it.
 fn next_letter(text: &[u8]) -> Option<(u8, &[u8])>
     ensures { IfSome result (λ found. length found.1.now < length text.now) }
 {

@@ -1,4 +1,4 @@
-//! The forms of attributes as a person reads them, a part behind the other, to say which part of a line doesn't fit.
+//! The forms of attributes as a person reads them, a part after the other, to say which part of a line doesn't fit.
 
 use crate::code::Misfit;
 use crate::part::Part;
@@ -33,7 +33,7 @@ enum Kind {
     Any,
 }
 
-/// A part, what ends it, and whether the line may end behind it.
+/// A part, what ends it, and whether the line may end after it.
 #[derive(Clone, Copy)]
 struct Step(Kind, Separator, bool);
 
@@ -81,7 +81,7 @@ const MORE: Step = Step(Kind::Any, Separator::LineFeed, true);
 /// How many parts of a form are told apart.
 const PARTS: usize = 6;
 
-/// An attribute: its label, where it is read, and its parts behind the label. A word alone has none.
+/// An attribute: its label, where it is read, and its parts after the label. A word alone has none.
 #[derive(Clone, Copy)]
 pub(crate) struct Form(&'static str, Level, [Step; PARTS]);
 
@@ -234,7 +234,7 @@ impl Kind {
     }
 }
 
-/// The name of an attribute: the text behind `a=` up to a colon or a space.
+/// The name of an attribute: the text after `a=` up to a colon or a space.
 pub(crate) fn name_of(text: &str) -> &str {
     before(before(text, Separator::Colon), Separator::Space)
 }

@@ -53,7 +53,7 @@ fn note_described(notes: &mut Notes, text: &str, sdp: &Sdp, rest: &str) -> Resul
     note_conflicts(notes, text_before(text, rest), sdp, rest.is_empty())
 }
 
-/// Of an error that isn't want of memory, nothing.
+/// Of an error that isn't out of memory, nothing.
 fn unless_memory(error: SdpError) -> Result<(), AllocError>
     ensures { OnOk result (IsNoWant error) }
 {

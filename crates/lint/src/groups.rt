@@ -83,7 +83,7 @@ fn note_listing(notes: &mut Notes, number: usize, sdp: &Sdp) -> Result<(), Alloc
 }
 
 /// Says that the session has no group, or that the first doesn't list the sections as they stand: where their mids differ, and each mid
-/// of the group is one of theirs. The attributes stand on these lines, the first m-line behind them.
+/// of the group is one of theirs. The attributes stand on these lines, the first m-line after them.
 pub(crate) fn note_grouping(
     notes: &mut Notes,
     lines: &[usize],

@@ -34,7 +34,7 @@ enum Step {
 }
 
 impl Step {
-    /// The place behind the line, where it is one that may stand at this place.
+    /// The place after the line, where it is one that may stand at this place.
     fn behind(self, line: &str) -> Option<Step> {
         match self {
             Step::Version if line == "v=0" => Some(Step::Origin),

@@ -14,7 +14,7 @@ pub(crate) struct Reason<'a> {
     pub(crate) part: Part<'a>,
 }
 
-/// Why the text behind `a=` isn't read on a level where its attribute is.
+/// Why the text after `a=` isn't read on a level where its attribute is.
 fn misfit<'a>(form: Form, text: &'a str) -> (Misfit, Part<'a>) {
     let whole = Part::to_end(text);
     let Some(value) = strip(text, form.label()) else {
@@ -30,7 +30,7 @@ fn misfit<'a>(form: Form, text: &'a str) -> (Misfit, Part<'a>) {
         .unwrap_or((Misfit::Form, Part::to_end(value)))
 }
 
-/// Why the text behind `a=` is kept unread on this level.
+/// Why the text after `a=` is kept unread on this level.
 pub(crate) fn why_kept<'a>(level: Level, text: &'a str) -> Reason<'a>
     ensures { is_kept result.code ≡ true }
 {

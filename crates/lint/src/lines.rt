@@ -13,7 +13,7 @@ fn without_return(line: &str) -> &str
     line.strip_suffix('\r').unwrap_or(line)
 }
 
-/// The first line without its end, and the text behind it.
+/// The first line without its end, and the text after it.
 #[tactic(auto, using(crate::proofs::LineLaws::line_at_end, crate::proofs::LineLaws::no_line))]
 pub(crate) fn next_line(text: &str) -> Option<(&str, &str)>
     ensures line { NextLine text.now result }
@@ -47,7 +47,7 @@ pub(crate) fn column_of(line: &str, behind: &str) -> usize {
     before.saturating_add(1)
 }
 
-/// What stands behind the first space of a line, or the line.
+/// What stands after the first space of a line, or the line.
 pub(crate) fn behind_space(line: &str) -> &str {
     match cut(line, Separator::Space) {
         Some((_, value)) => value,

@@ -9,7 +9,7 @@ pub(crate) struct Place {
     pub(crate) column: usize,
 }
 
-/// A part of a line that is at fault: as it is shown, and with what stands behind it up to the line's end.
+/// A part of a line that is at fault: as it is shown, and with what stands after it up to the line's end.
 #[derive(Clone, Copy)]
 pub(crate) struct Part<'a> {
     pub(crate) shown: &'a str,

@@ -18,7 +18,7 @@ use str0m_sdp::{SdpError, Session};
 use str0m_signal::session_parser;
 use str0m_values::cuts::strip;
 
-/// Says where the reading of a section ended before the next m-line, if it did: what is missing may stand behind that line. Returns
+/// Says where the reading of a section ended before the next m-line, if it did: what is missing may stand after that line. Returns
 /// what is said of the section itself.
 fn note_inner_end(
     notes: &mut Notes,
@@ -39,7 +39,7 @@ fn note_inner_end(
     format!(in notes.alloc(); "{detail}{comma}its reading ended at line {number}")
 }
 
-/// Says what is at fault in a section behind so many lines, whose attributes are said already.
+/// Says what is at fault in a section after so many lines, whose attributes are said already.
 fn note_section(notes: &mut Notes, before: usize, section: &Section<'_>) -> Result<(), AllocError>
     ensures refused { OnOk result (is_refused notes.new.findings ≡ true) }
     ensures last { notes.new.last ≡ notes.old.last }
@@ -56,7 +56,7 @@ fn note_section(notes: &mut Notes, before: usize, section: &Section<'_>) -> Resu
     notes.add(place, Code::Refused(fault.refusal), detail.as_str())
 }
 
-/// Says what stands on the lines of a section behind so many lines.
+/// Says what stands on the lines of a section after so many lines.
 fn note_lines(
     notes: &mut Notes,
     before: usize,

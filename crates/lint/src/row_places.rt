@@ -35,7 +35,7 @@ impl<'a> Cursor<'a> {
     }
 }
 
-/// Behind the next line that begins so; where none does, behind the last line.
+/// After the next line that begins so; where none does, after the last line.
 fn next<'a>(from: Cursor<'a>, letter: &str) -> Cursor<'a> {
     let mut rest = from.rest;
     let mut passed = from.passed;
@@ -52,7 +52,7 @@ fn next<'a>(from: Cursor<'a>, letter: &str) -> Cursor<'a> {
     Cursor { rest, passed }
 }
 
-/// The lines of the section that stands next, and the place behind it.
+/// The lines of the section that stands next, and the place after it.
 pub(crate) fn next_places<'a>(from: Cursor<'a>, section: &MediaLine) -> (RowPlaces, Cursor<'a>) {
     let mut at = next(from, "m=");
     let head = at.passed;

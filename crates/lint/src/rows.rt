@@ -501,7 +501,7 @@ pub static CONFLICTS: [Row; 8] = [
         name: "other-kind",
         title: "a payload type of this m-section stands for a codec of another kind of media",
         remedy: "map the type to a codec of the kind that the m-line says, or move it to another section",
-        explanation: "A section of audio carries sound, one of video pictures. The row of the type is of no use there. PCMU, PCMA, G722 and CN (0, 8, 9 and 13) are sound without a mapping.",
+        explanation: "An audio section carries audio codecs, a video section video codecs. The row of the type is of no use there. PCMU, PCMA, G722 and CN (0, 8, 9 and 13) are audio without a mapping.",
         source: "RFC 8866, sections 5.14 and 6.6; RFC 3551, section 6",
         example: "a=rtpmap:96 VP8/90000 in a section of audio",
     },

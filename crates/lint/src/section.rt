@@ -11,7 +11,7 @@ use str0m_signal::media_attribute_line;
 use str0m_values::cuts::num_u8;
 use str0m_values::{Items, Pt, Text};
 
-/// A section, how many lines stand before its attributes, the text that begins with these, and the text behind them.
+/// A section, how many lines stand before its attributes, the text that begins with these, and the text after them.
 #[derive(Drop)]
 pub(crate) struct Section<'a> {
     pub(crate) line: MediaLine,
@@ -62,7 +62,7 @@ fn attribute(alloc: Global, line: &str) -> Result<Option<MediaAttribute>, AllocE
     }
 }
 
-/// The attributes of the lines that stand next, and the text behind them.
+/// The attributes of the lines that stand next, and the text after them.
 fn attributes(alloc: Global, text: &str) -> Result<(Items<MediaAttribute>, &str), AllocError>
     ensures { IfOk result (λ found. length found.1.now ≤ length text.now) }
 {
@@ -78,7 +78,7 @@ fn attributes(alloc: Global, text: &str) -> Result<(Items<MediaAttribute>, &str)
     Ok((attributes, rest))
 }
 
-/// The text behind a `c=` line that stands next, and how many lines that are.
+/// The text after a `c=` line that stands next, and how many lines that are.
 fn behind_connection(text: &str) -> (usize, &str)
     ensures rest { length result.1.now ≤ length text.now }
     ensures one { result.0 ≤ 1 }
@@ -89,7 +89,7 @@ fn behind_connection(text: &str) -> (usize, &str)
     }
 }
 
-/// The text behind a `b=` line that stands next, and how many lines that are.
+/// The text after a `b=` line that stands next, and how many lines that are.
 fn behind_bandwidth(text: &str) -> (usize, &str)
     ensures rest { length result.1.now ≤ length text.now }
     ensures one { result.0 ≤ 1 }

@@ -6,7 +6,7 @@ use crate::lines::next_line;
 use str0m_values::Separator;
 use str0m_values::cuts::{cut, strip};
 
-/// Of an m-line its type with `m=`, whether its port is 0, and what stands behind the port; of another line the whole of it.
+/// Of an m-line its type with `m=`, whether its port is 0, and what stands after the port; of another line the whole of it.
 #[derive(Clone, Copy)]
 pub(crate) struct Told<'a> {
     pub(crate) kind: &'a str,
@@ -25,7 +25,7 @@ impl<'a> Told<'a> {
         }
     }
 
-    /// An m-line by its parts, where a space stands before and behind its port.
+    /// An m-line by its parts, where a space stands before and after its port.
     fn ported(line: &'a str) -> Option<Told<'a>>
         ensures { option_map shown result ≡ ported line.now }
     {
@@ -66,7 +66,7 @@ impl<'a> Told<'a> {
     }
 }
 
-/// A line that is told, how many lines stand before the text behind it, and that text.
+/// A line that is told, how many lines stand before the text after it, and that text.
 #[derive(Clone, Copy)]
 pub(crate) struct Next<'a> {
     pub(crate) line: Told<'a>,

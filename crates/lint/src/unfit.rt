@@ -105,7 +105,7 @@ fn fault(line: &str) -> (Unfit, Part<'_>) {
     }
 }
 
-/// How many lines and m-lines stand behind the first line of the text.
+/// How many lines and m-lines stand after the first line of the text.
 fn lost(text: &str) -> (usize, usize) {
     let (mut lines, mut sections) = (0usize, 0usize);
     let mut rest = match next_line(text) {
@@ -128,7 +128,7 @@ fn counted(alloc: Global, count: usize, noun: &str) -> Result<String, AllocError
     format!(in alloc; "{count} {noun}{ending}")
 }
 
-/// What the first line of the rest is, by the part of it that is at fault, and what stands behind it.
+/// What the first line of the rest is, by the part of it that is at fault, and what stands after it.
 fn hidden(alloc: Global, part: Part<'_>, rest: &str) -> Result<String, AllocError> {
     let shown = part.quoted(alloc)?;
     let (lines, sections) = lost(rest);
@@ -148,7 +148,7 @@ fn hidden(alloc: Global, part: Part<'_>, rest: &str) -> Result<String, AllocErro
     format!(in alloc; "{subject} hides {lines} after it, {sections} among them")
 }
 
-/// Says that reading ended at the first line of the rest, which has this number, why, and what stands behind it.
+/// Says that reading ended at the first line of the rest, which has this number, why, and what stands after it.
 pub(crate) fn note_end(notes: &mut Notes, number: usize, rest: &str) -> Result<(), AllocError>
     ensures ends { IsNumbered notes.old.last number → OnOk result (Ends number notes.old notes.new) }
     ensures last { notes.new.last ≡ notes.old.last }

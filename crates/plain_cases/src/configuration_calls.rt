@@ -6,7 +6,7 @@ use crate::row_texts::{byte_of, codec_of, row_of, rows_of, type_of, type_or_dash
 use std::alloc::AllocError;
 use str0m_formats::{Codec, CodecConfig};
 
-/// Enables or disables sound that can have RED; none of what can have none.
+/// Enables or disables audio that can have RED; none of what can have none.
 fn enable_sound(
     config: &mut CodecConfig,
     codec: Codec,
@@ -175,7 +175,7 @@ fn call_unless_refused(answer: &mut Answer, config: &mut CodecConfig, text: &str
     }
 }
 
-/// The configuration of these rows, or behind `calls` of those calls.
+/// The configuration of these rows, or after `calls` of those calls.
 pub(crate) fn config_of(answer: &mut Answer, text: &str) -> CodecConfig {
     match text.strip_prefix("calls ") {
         Some(calls) => made(answer, calls),

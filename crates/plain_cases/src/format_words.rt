@@ -18,8 +18,8 @@ fn show_or_dash<T: Display>(answer: &mut Answer, value: &T) {
 /// What packets of the codec carry.
 fn content(codec: Codec) -> &'static str {
     match (codec.is_audio(), codec.is_video(), codec.is_tele()) {
-        (true, false, false) => "sound",
-        (false, true, false) => "pictures",
+        (true, false, false) => "audio",
+        (false, true, false) => "video",
         (false, false, true) => "events",
         (false, false, false) => "nothing of these",
         _ => "more than one of these",
@@ -53,7 +53,7 @@ fn show_spec(answer: &mut Answer, spec: &CodecSpec) {
     answer.show(&spec.rtp_clock_rate());
 }
 
-/// What stands before and behind the first `=`.
+/// What stands before and after the first `=`.
 fn pair<'a>(answer: &mut Answer, text: &'a str) -> (&'a str, &'a str) {
     match text.split_once('=') {
         Some(pair) => pair,
@@ -64,7 +64,7 @@ fn pair<'a>(answer: &mut Answer, text: &'a str) -> (&'a str, &'a str) {
     }
 }
 
-/// `param KEY=VALUE`: the parameter that the value reads as behind the key.
+/// `param KEY=VALUE`: the parameter that the value reads as after the key.
 pub(crate) fn param(answer: &mut Answer, text: &str) {
     let (key, value) = pair(answer, text);
     show_or_dash(answer, &FormatParam::parse(key, value));

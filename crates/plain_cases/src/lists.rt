@@ -1,6 +1,6 @@
 //! Words and numbers in a text.
 
-/// The first word of a text, and what stands behind the space.
+/// The first word of a text, and what stands after the space.
 pub(crate) fn word(text: &str) -> (&str, &str) {
     text.split_once(' ').unwrap_or((text, ""))
 }

@@ -1,4 +1,4 @@
-//! Whether rows are plain. A row may have what no line says, behind a bar: `| modes 512, h266`.
+//! Whether rows are plain. A row may have what no line says, after a bar: `| modes 512, h266`.
 
 use crate::answer::Answer;
 use crate::configuration_calls::config_of;

@@ -1,5 +1,5 @@
 //! Rounds of negotiation, and the distances of RED. A round is a direction and the remote rows, as
-//! `recvonly 96 - - opus/48000/2 -`; rounds stand behind this side's rows, each behind ` | `.
+//! `recvonly 96 - - opus/48000/2 -`; rounds stand after this side's rows, each after ` | `.
 
 use crate::answer::Answer;
 use crate::claim_words::DIFFERS;
@@ -122,7 +122,7 @@ pub(crate) fn together(answer: &mut Answer, text: &str) {
     show_rows(answer, config.params());
 }
 
-/// Each outcome, with a colon behind it.
+/// Each outcome, with a colon after it.
 fn show_outcomes(answer: &mut Answer, outcomes: &[Outcome]) {
     for outcome in outcomes {
         show_outcome(answer, *outcome);

@@ -39,7 +39,7 @@ fn show_types(answer: &mut Answer, row: &PayloadParams) {
     answer.push(" ");
 }
 
-/// The rows, each behind `locked` or `open`; `none` for no row.
+/// The rows, each after `locked` or `open`; `none` for no row.
 pub fn show_rows(answer: &mut Answer, rows: &[PayloadParams]) {
     answer.push_if(rows.is_empty(), "none");
     let mut separator = "";

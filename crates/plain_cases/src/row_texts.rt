@@ -1,6 +1,6 @@
 //! Rows as cases write them, and as answers show them: `96 97 - VP8/90000 -`, which is the primary type, those of RTX
 //! and RED, the codec with its clock rate (and its channels, as `opus/48000/2`), and the format; `-` stands for what is
-//! absent. Behind it may stand what feedback is off, as `no-transport-cc`. Rows are parted by ` + `; `none` is no row.
+//! absent. After it may stand what feedback is off, as `no-transport-cc`. Rows are parted by ` + `; `none` is no row.
 //! Of a text that names no such thing the answer says so, and anything stands for it.
 
 use crate::answer::Answer;
@@ -71,7 +71,7 @@ pub(crate) fn spec_of(answer: &mut Answer, map: &str, format: &str) -> CodecSpec
     }
 }
 
-/// A rate, and the channels behind it where there are some.
+/// A rate, and the channels after it where there are some.
 fn rate_and_channels(rates: &str) -> (&str, Option<&str>) {
     match rates.split_once('/') {
         None => (rates, None),
@@ -115,7 +115,7 @@ fn turn_off(answer: &mut Answer, row: &mut PayloadParams, word: &str) {
     }
 }
 
-/// A codec with its rates and its format, and the text behind them.
+/// A codec with its rates and its format, and the text after them.
 fn spec_and_rest<'a>(answer: &mut Answer, text: &'a str) -> (CodecSpec, &'a str) {
     let (map, rest) = word(text);
     let (format, rest) = word(rest);

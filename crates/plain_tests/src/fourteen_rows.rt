@@ -17,8 +17,8 @@ fn opus(channels: u8, types: Types) -> PayloadParams {
     )
 }
 
-/// A row of its own spec at three types that follow each other; behind 127 stands 0. Rows with one channel more begin so many
-/// types behind each other as the step says.
+/// A row of its own spec at three types that follow each other; after 127 stands 0. Rows with one channel more begin so many
+/// types after each other as the step says.
 fn row(channels: u8, first: u8, step: u8) -> PayloadParams {
     let pt = first.wrapping_add(channels.wrapping_mul(step));
     let (resend, red) = (pt.wrapping_add(1), pt.wrapping_add(2));

@@ -88,7 +88,7 @@ fn round(
     }
 }
 
-/// How many rows are asked before the first that carries pictures is found, and its type.
+/// How many rows are asked before the first that carries video is found, and its type.
 fn asked(alloc: Global) -> Result<(usize, Option<u8>), AllocError> {
     let config = CodecConfig::new_with_defaults(alloc)?;
     let mut count: usize = 0;

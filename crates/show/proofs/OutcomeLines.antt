@@ -17,7 +17,7 @@ lines_more n (first ∷ outcomes) outcome =
     (lines_more (n + 1) outcomes outcome ∙ ap (λ (k : ℕ). outcome_lines (n + 1) outcomes ++ outcome_line k outcome) next)
     ∙ sym (append_assoc (outcome_line n first) (outcome_lines (n + 1) outcomes) (outcome_line (n + length (first ∷ outcomes)) outcome))
 
--- counted from 1, the line behind the first i is that of i + 1
+-- counted from 1, the line after the first i is that of i + 1
 pub one_more : (outcomes : List Outcome) (i : ℕ) (outcome : Outcome) → i < length outcomes → outcome ≡ get_or outcomes i outcome
     → outcome_lines 1 (take (i + 1) outcomes) ≡ outcome_lines 1 (take i outcomes) ++ outcome_line (i + 1) outcome
 one_more outcomes i outcome lt is =

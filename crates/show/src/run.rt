@@ -181,7 +181,7 @@ fn show<R: Read, W: Write>(
     write_whole(output, printed.as_str())
 }
 
-/// Runs the program: the words behind its name, what it reads, what it writes, and what it says of
+/// Runs the program: the words after its name, what it reads, what it writes, and what it says of
 /// faults. Answers the exit status, and whether the line that goes with it could be written.
 ///
 /// The word `text`, `rows` or `negotiate` alone reads the whole input as UTF-8. `text` prints the

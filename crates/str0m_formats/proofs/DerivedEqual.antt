@@ -37,7 +37,7 @@ bare_Decides D bare a b = (same_true D bare a b, true_same D a b)
 abbrev pub word : (D : Declared) → Bare D.parts → Equality D.D
 word D bare = record { test = sameb D; decides = bare_Decides D bare }
 
--- one part after another; the last has nothing behind it
+-- one part after another; the last has nothing after it
 abbrev pub last : {A : Type 0} → Equality A → Equality (A × Unit {0})
 last a = record {
   test = λ x y. a.test x.0 y.0;

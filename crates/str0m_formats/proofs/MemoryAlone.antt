@@ -1,4 +1,4 @@
--- When a round is refused for want of memory alone.
+-- When a round is refused for memory alone.
 use Rattle.str0m_formats.proofs.Common.{arith, ◌≡◌, ◌≤◌, inl, inr, Bool, false, List, ◌++◌, length, sym, ◌∙◌, true≢false}
 use Rattle.str0m_formats.specs.declared.negotiation_error.NegotiationError.{NegotiationError}
 use Rattle.str0m_formats.specs.declared.payload_params.PayloadParams.{PayloadParams}

@@ -72,7 +72,7 @@ mask_fails pieces piece k at none mask h =
     let e : (let nothing : Option ℕ = None in nothing ≡ Some is_mode.0) = none.only is_mode.0 (subst (λ p. IsMode p is_mode.0) (sym at.1) is_mode.1) in
     cc
 
--- behind pieces whose mask is known, the rest is read as the one mask of them all
+-- after pieces whose mask is known, the rest is read as the one mask of them all
 modes_from_only : (done more : List (List ℕ)) (mask : ℕ) → IsMask done mask → IsTheOnly (IsMask (done ++ more)) (modes_from mask more)
 modes_from_only done [] mask h = rw (append-nil done) (record { found = h; only = λ m k. ap Some (mask_same done mask m h k) })
 modes_from_only done (piece ∷ more) mask h = step done piece more mask h (num 8 (trim piece)) (num_only 8 (trim piece)) (modes_from_only (done ++ piece ∷ []) more)

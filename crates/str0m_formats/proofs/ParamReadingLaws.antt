@@ -1,4 +1,4 @@
--- Numbers behind keys are read both ways.
+-- Numbers after keys are read both ways.
 use Rattle.str0m_formats.proofs.Common.{arith, ◌≡◌, ℕ, true, List, [], ◌∷◌, Option, refl, AllDigits, ltb-true, lt-ltb, le-leb, leb-true, and_parts, IsTheOnly, IsNumber, IsNum, num, when_some, when_true, only_read, and_from, reads_first, Reads}
 use Rattle.str0m_values.proofs.CandidateParts.{num_both}
 use Rattle.str0m_formats.specs.FormatParam.{IsHexElseDecimal}

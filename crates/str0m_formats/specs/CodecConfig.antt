@@ -14,7 +14,7 @@ use Rattle.str0m_formats.specs.FormatParams.{empty}
 use Rattle.str0m_formats.specs.declared.payload_params.PayloadParams.{PayloadParams}
 use Rattle.str0m_formats.specs.Rows.{new_row}
 
--- a codec of pictures: at 90000 Hz, and without channels
+-- a video codec: at 90000 Hz, and without channels
 abbrev pub picture_spec : Codec → FormatParams → CodecSpec
 picture_spec codec format = record { codec = codec; clock_rate = 90000; channels = None; format = format }
 

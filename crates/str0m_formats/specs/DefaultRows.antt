@@ -20,11 +20,11 @@ use Rattle.str0m_formats.specs.Scores.{same_codec}
 use Rattle.str0m_formats.specs.TypeSets.{AllDistinct}
 use Rattle.str0m_formats.specs.CodecConfig.{picture_spec, h264_row, h265_row, h266_row}
 
--- a row of sound at a rate in Hz, without RTX
+-- an audio row at a rate in Hz, without RTX
 abbrev pub sound_row : Codec → ℕ → ℕ → Option ℕ → FormatParams → PayloadParams
 sound_row codec pt rate channels format = new_row pt None (record { codec = codec; clock_rate = rate; channels = channels; format = format })
 
--- a row of pictures with its RTX
+-- a video row with its RTX
 abbrev pub picture_row : Codec → ℕ → ℕ → FormatParams → PayloadParams
 picture_row codec pt resend format = new_row pt (Some resend) (picture_spec codec format)
 

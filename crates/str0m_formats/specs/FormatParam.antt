@@ -17,7 +17,7 @@ use Rattle.str0m_formats.specs.declared.format_key.FormatKey.TheVariants as key
 use Rattle.str0m_formats.specs.declared.format_param.FormatParam.{FormatParam}
 use Rattle.str0m_formats.specs.declared.format_param.FormatParam.TheVariants.{MinPTime, Stereo, SpropStereo, UseInbandFec, UseDtx, LevelAsymmetryAllowed, PacketizationMode, ProfileLevelId, ProfileId, Profile, LevelIdx, Tier, H265ProfileTierLevel, H266ProfileTierLevel, SpropMaxDonDiff, TelephoneEvents, BareRange, BarePtList, OctetAlign, ModeSet, AmrWbUnsupported, Apt, Red, Unknown}
 
--- what stands behind a key: a flag, a number up to a limit, a number that prints in hexadecimal, a set of modes, one text
+-- what stands after a key: a flag, a number up to a limit, a number that prints in hexadecimal, a set of modes, one text
 -- alone, or anything
 pub data Kind : Type 0 where
   flag : Kind
@@ -112,7 +112,7 @@ Reads modes text mask = IsModeSet text mask
 Reads (exactly own) text x = text ≡ own
 Reads anything text x = Unit {0}
 
--- the value behind the key spells the parameter
+-- the value after the key spells the parameter
 abbrev pub Holds : FormatKey → List ℕ → FormatParam → Type 0
 Holds key text param = (x : Held (kind key)) × (param ≡ made key x) × Reads (kind key) text x
 

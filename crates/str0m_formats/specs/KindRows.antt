@@ -14,7 +14,7 @@ abbrev pub has_sound : Content → Bool
 has_sound audio = true
 has_sound _ = false
 
--- whether a row carries sound, pictures, telephone events
+-- whether a row carries audio, video, telephone events
 abbrev pub is_sound : PayloadParams → Bool
 is_sound row = has_sound (content row.spec.codec)
 
@@ -24,7 +24,7 @@ is_pictures row = has_pictures (content row.spec.codec)
 abbrev pub is_events : PayloadParams → Bool
 is_events row = has_events (content row.spec.codec)
 
--- whether the timestamps of the row count at the rate of some row of sound
+-- whether the timestamps of the row count at the rate of some audio row
 abbrev pub rate_of : PayloadParams → ℕ
 rate_of row = rtp_rate row.spec.codec row.spec.clock_rate
 
@@ -35,7 +35,7 @@ shares_rate rows row = list_any (λ other. is_sound other && rate_of other == ra
 abbrev pub some_share_rate : List PayloadParams → Bool
 some_share_rate rows = list_any (λ row. is_events row && shares_rate rows row) rows
 
--- whether events are listed only at rates of sound: in a new offer, where some stand at one
+-- whether events are listed only at rates of audio: in a new offer, where some stand at one
 abbrev pub is_narrowed : Bool → List PayloadParams → Bool
 is_narrowed for_new_offer rows = for_new_offer && some_share_rate rows
 

@@ -52,7 +52,7 @@ kind_read modes text = modes_read text
 kind_read (exactly own) text = when (bytes_eq text own) (tt {0})
 kind_read anything text = Some (tt {0})
 
--- the parameter of a value behind a key, by cases, so that it computes at each key and at no variable
+-- the parameter of a value after a key, by cases, so that it computes at each key and at no variable
 abbrev param_read : FormatKey → List ℕ → Option FormatParam
 param_read key text = option_map (made key) (kind_read (kind key) text)
 

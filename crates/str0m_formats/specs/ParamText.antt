@@ -1,4 +1,4 @@
--- How the value behind a key prints, as the printer takes it.
+-- How the value after a key prints, as the printer takes it.
 use Rattle.std.specs.Prelude.{ℕ, List, [], ◌++◌, codes, Option, Some, None}
 use Rattle.std.specs.Fmt.{decimal}
 use Rattle.str0m_formats.specs.FormatKey.{key_text}

@@ -12,7 +12,7 @@ use Rattle.str0m_formats.specs.declared.payload_params.PayloadParams.{PayloadPar
 abbrev pub IsPlainG722 : CodecSpec → Type 0
 IsPlainG722 spec = (spec.clock_rate ≡ 16000) × (spec.channels ≢ Some 1)
 
--- the feedback that every row of pictures has: NACK and PLI (RFC 4585, section 4.2), FIR (RFC 5104, section 7.1) and REMB
+-- the feedback that every video row has: NACK and PLI (RFC 4585, section 4.2), FIR (RFC 5104, section 7.1) and REMB
 pub record HasPictureFeedback (row : PayloadParams) : Type 0 where
   pub nack : row.fb_nack ≡ true
   pub pli : row.fb_pli ≡ true
@@ -29,7 +29,7 @@ pub record HasPlainTriples (spec : CodecSpec) : Type 0 where
   pub h265 : spec.format.h265_profile_tier_level ≢ None → (spec.codec ≡ H265) × (spec.format.profile_id ≡ None)
   pub h266 : spec.format.h266_profile_tier_level ≢ None → (spec.codec ≡ H266) × (spec.format.profile_id ≡ None)
 
--- the codec carries sound, pictures or events; what it carries says which feedback, RED and maximum of events are there
+-- the codec carries audio, video or events; what it carries says which feedback, RED and maximum of events are there
 pub record IsPlain (row : PayloadParams) : Type 0 where
   pub carried : content row.spec.codec ≢ other
   pub bounded : IsBounded row

@@ -107,7 +107,7 @@ pub record Negotiates (remote : List PayloadParams) (receives : Bool) (old new :
   pub alone : OnOk result (LeavesOnly old.params.items remote receives new.params.items)
   pub one_cause : IfErr result (λ cause. cause ≢ Memory → RefusedOnly old.params.items remote receives cause)
   pub room : length old.params.items ≤ 14 → result ≢ Err Exhausted
-  -- where few rows with types of seven bits meet a side that demands nothing, only memory can be wanting
+  -- where few rows with types of seven bits meet a side that demands nothing, it can only be out of memory
   pub bounded : length old.params.items ≤ 14 → KeepsBounds old.params.items remote → receives ≡ false → OnlyForMemory result
   -- what holds of the rows before, the remote rows and the rows after alone
   pub promises : OnOk result (Promises old.params.items remote receives new.params.items)
@@ -126,7 +126,7 @@ pub record RunPromises (before : List PayloadParams) (rounds : List Round) (outc
   pub plain : All IsPlain before → All (λ round. All IsBounded round.remote.items) rounds → All IsPlain after
   -- fourteen rows never exhaust the types that may be given
   pub room : length before ≤ 14 → All (λ outcome. outcome ≢ Err Exhausted) outcomes
-  -- and where besides no other side receives, and types have seven bits, only memory can be wanting
+  -- and where besides no other side receives, and types have seven bits, it can only be out of memory
   pub bounded : length before ≤ 14 → AllSmall (types before) → AllDistinct (locked_types before)
       → All (λ round. AllSmall (types round.remote.items)) rounds → All (λ round. receives round.direction ≡ false) rounds
       → All OnlyForMemory outcomes

@@ -8,12 +8,12 @@ use Rattle.str0m_formats.specs.Codec.{Content, content, video}
 use Rattle.str0m_formats.specs.FormatParams.{empty}
 use Rattle.str0m_formats.specs.declared.payload_params.PayloadParams.{PayloadParams}
 
--- whether it carries pictures
+-- whether it carries video
 abbrev pub has_pictures : Content → Bool
 has_pictures video = true
 has_pictures _ = false
 
--- a row that isn't locked: feedback of pictures where the codec carries them, and no RED
+-- a row that isn't locked: feedback of video where the codec carries it, and no RED
 abbrev pub new_row : ℕ → Option ℕ → CodecSpec → PayloadParams
 new_row pt resend spec = record {
   pt = pt;

@@ -11,7 +11,7 @@ use Rattle.str0m_formats.specs.Rounds.{Leaves, Refused}
 abbrev pub Outcome : Type 0
 Outcome = Result (Unit {0}) NegotiationError
 
--- one round with its outcome. A cause, like want of memory, changes no row
+-- one round with its outcome. A cause, like out of memory, changes no row
 abbrev pub Ran : List PayloadParams → List PayloadParams → Bool → Outcome → List PayloadParams → Type 0
 Ran before remote receives (Ok done) after = Leaves before remote receives after
 Ran before remote receives (Err Memory) after = after ≡ before

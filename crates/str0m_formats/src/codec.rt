@@ -65,7 +65,7 @@ const NAMED: [Codec; 15] = [
 ];
 
 impl Codec {
-    /// Whether the codec carries sound: `Opus`, `PCMU`, `PCMA`, `G722`, `CN` or `AmrWb`.
+    /// Whether the codec carries audio: `Opus`, `PCMU`, `PCMA`, `G722`, `CN` or `AmrWb`.
     pub fn is_audio(self) -> bool
         ensures { IsTrue result ↔ (content self ≡ audio) }
     {
@@ -75,7 +75,7 @@ impl Codec {
         )
     }
 
-    /// Whether the codec carries pictures: `H264`, `H265`, `H266`, `Vp8`, `Vp9` or `Av1`.
+    /// Whether the codec carries video: `H264`, `H265`, `H266`, `Vp8`, `Vp9` or `Av1`.
     pub fn is_video(self) -> bool
         ensures { IsTrue result ↔ (content self ≡ video) }
     {
@@ -92,7 +92,7 @@ impl Codec {
         matches!(self, Codec::Tele)
     }
 
-    /// The kind of the sections that the codec stands in: audio for what carries sound or telephone
+    /// The kind of the sections that the codec stands in: audio for what carries audio or telephone
     /// events, video for all else.
     pub fn kind(self) -> MediaKind
         ensures { result ≡ media_kind (content self) }

@@ -32,7 +32,7 @@ pub struct CodecConfig {
 /// How many rows a list has room for at least, once it has one.
 const LEAST_ROOM: usize = 4;
 
-/// A codec of pictures: at 90 kHz, and without channels.
+/// A video codec: at 90 kHz, and without channels.
 pub(crate) fn picture_spec(codec: Codec, format: FormatParams) -> CodecSpec
     ensures { result ≡ picture_spec codec format }
 {

@@ -10,11 +10,13 @@ use str0m_values::{Frequency, Pt};
 /// A codec with its clock rate, its channels and its format.
 #[derive(Clone, Copy, Debug, PartialEq, Eq)]
 pub struct CodecSpec {
+    /// The codec.
     pub codec: Codec,
     /// The rate at which the codec samples, in Hz.
     pub clock_rate: Frequency,
     /// The channels, where they are given.
     pub channels: Option<u8>,
+    /// What its fmtp lines say.
     pub format: FormatParams,
 }
 

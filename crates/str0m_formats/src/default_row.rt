@@ -84,7 +84,7 @@ pub(crate) fn h264_rows() -> [PayloadParams; 7]
     ]
 }
 
-/// A row of pictures of which nothing more is said.
+/// A video row of which nothing more is said.
 pub(crate) fn plain_row(codec: Codec, pt: u8, resend: u8) -> PayloadParams
     ensures { result ≡ picture_row codec pt resend empty }
 {

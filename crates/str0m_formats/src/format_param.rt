@@ -143,7 +143,7 @@ fn modes(text: &str) -> Option<u16>
 }
 
 impl FormatKey {
-    /// The parameter of a value behind the key.
+    /// The parameter of a value after the key.
     fn param(self, value: &str) -> Option<FormatParam>
         ensures { result ≡ value_read self value.now }
     {

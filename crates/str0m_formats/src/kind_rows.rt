@@ -14,7 +14,7 @@ pub struct KindRows<'a> {
     /// Those of them that are still to be looked at.
     rest: &'a [PayloadParams],
     kind: MediaKind,
-    /// Whether telephone events are left out where no sound has their rate.
+    /// Whether telephone events are left out where no audio has their rate.
     narrowed: bool,
 }
 
@@ -36,7 +36,7 @@ fn rate_of(row: &PayloadParams) -> u32
     row.spec().rtp_clock_rate().get()
 }
 
-/// Whether some row of sound has the RTP clock rate of this one.
+/// Whether some audio row has the RTP clock rate of this one.
 fn shares_rate(rows: &[PayloadParams], row: &PayloadParams) -> bool
     ensures { result ≡ shares_rate rows.now row.now }
 {
@@ -44,7 +44,7 @@ fn shares_rate(rows: &[PayloadParams], row: &PayloadParams) -> bool
         .any(|other| is_sound(other) && rate_of(other) == rate_of(row))
 }
 
-/// Whether some row of events has the RTP clock rate of some row of sound.
+/// Whether some row of events has the RTP clock rate of some audio row.
 fn some_share_rate(rows: &[PayloadParams]) -> bool
     ensures { result ≡ some_share_rate rows.now }
 {
@@ -66,11 +66,11 @@ fn is_listed(kind: MediaKind, narrowed: bool, rows: &[PayloadParams], row: &Payl
 impl CodecConfig {
     ghost use Rattle.str0m_formats.specs.KindRows.{rows_left, kind_rows};
 
-    /// The rows for sections of a kind, in order: those of pictures for video, those of sound and of
-    /// telephone events for audio.
+    /// The rows for sections of a kind, in order: for video those of video, for audio those of audio
+    /// and of telephone events.
     ///
-    /// A new offer names telephone events at the RTP clock rates of its sound (RFC 4733, section
-    /// 2.1), so where some row of events shares its rate with a row of sound, `for_new_offer` leaves
+    /// A new offer names telephone events at the RTP clock rates of its audio (RFC 4733, section
+    /// 2.1), so where some row of events shares its rate with an audio row, `for_new_offer` leaves
     /// out the rows of events that don't.
     pub fn all_for_kind(&self, kind: MediaKind, for_new_offer: bool) -> KindRows<'_>
         ensures { rows_left result ≡ kind_rows kind for_new_offer self.now.params.items }

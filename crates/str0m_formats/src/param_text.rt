@@ -115,7 +115,7 @@ impl fmt::Display for ModeList {
     }
 }
 
-/// What stands behind a key, as it prints.
+/// What stands after a key, as it prints.
 #[derive(Clone, Copy)]
 pub(crate) enum Value {
     Flag(bool),

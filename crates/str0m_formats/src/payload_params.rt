@@ -38,7 +38,7 @@ impl PayloadParams {
     /// A row of a codec that isn't locked and has no RED.
     ///
     /// It has transport-wide congestion control, and FIR, NACK, PLI and REMB where the codec carries
-    /// pictures, and only there.
+    /// video, and only there.
     pub fn new(pt: Pt, resend: Option<Pt>, spec: CodecSpec) -> PayloadParams
         ensures { result ≡ new_row pt resend spec }
     {

@@ -14,10 +14,10 @@ impl PayloadParams {
     /// Whether the row is plain: the lines of a section say all of it, so that a section made of such rows describes
     /// them again.
     ///
-    /// - The codec carries sound, pictures or telephone events, and all types are at most 127 (RFC 3550, section 5.1).
+    /// - The codec carries audio, video or telephone events, and all types are at most 127 (RFC 3550, section 5.1).
     /// - G722 has 16000 Hz and channels other than `Some(1)` (RFC 3551, section 4.5.2).
-    /// - A codec of pictures has NACK, PLI, FIR and REMB on (RFC 4585, section 4.2; RFC 5104, section 7.1).
-    /// - RED stands under a codec of sound alone (RFC 2198, section 5).
+    /// - A video codec has NACK, PLI, FIR and REMB on (RFC 4585, section 4.2; RFC 5104, section 7.1).
+    /// - RED stands under an audio codec alone (RFC 2198, section 5).
     /// - Telephone events have a maximum and say nothing else (RFC 4733, section 2.4.1); other codecs have no maximum.
     /// - A profile, tier and level stands under its own codec alone, and without `profile_id` (RFC 7798, section 7.1;
     ///   RFC 9328, section 7.2).
@@ -63,7 +63,7 @@ fn has_plain_triples(spec: CodecSpec) -> bool
         && (format.h266_profile_tier_level.is_none() || spec.codec == Codec::H266 && is_alone)
 }
 
-/// Whether a codec of sound has no maximum of events and, if it is G722, its rate and channels.
+/// Whether an audio codec has no maximum of events and, if it is G722, its rate and channels.
 fn is_plain_sound(spec: CodecSpec) -> bool
     ensures { IsTrue result ↔ (spec.format.telephone_event_max ≡ None) × (spec.codec ≡ G722 → IsPlainG722 spec) }
 {
@@ -72,7 +72,7 @@ fn is_plain_sound(spec: CodecSpec) -> bool
             || spec.clock_rate.get() == 16_000 && spec.channels != Some(1))
 }
 
-/// Whether a codec of pictures has the feedback of pictures, no RED and no maximum of events.
+/// Whether a video codec has the feedback of video, no RED and no maximum of events.
 fn is_plain_picture(row: &PayloadParams) -> bool
     ensures { IsTrue result ↔ (row.now.red ≡ None) × (row.now.spec.format.telephone_event_max ≡ None) × HasPictureFeedback row.now }
 {

@@ -61,7 +61,7 @@ key_alike a b x y p q = sym (laws.matches_eq-law x y) ∙ equal_alike a b x y p 
 either_last : (s t : Bool) → cond s true t ≡ (t || (s || false))
 either_last s t = grind arith
 
--- a candidate behind those that were seen, and its key among theirs
+-- a candidate after those that were seen, and its key among theirs
 pub seen_more : (old new : BTreeSet CandidateKey) (once pushed : List (Bor Candidate)) (c : Bor Candidate) (k : CandidateKey)
     → IsKeyOf c.now k → Updates order.cmp-value.it old new k true → pushed ≡ once ++ c ∷ []
     → ((d : Candidate) (q : CandidateKey) → IsKeyOf d q → contains order.cmp-value.it old q ≡ list_any (same_candidate d) (map (λ x. x.now) once))

@@ -99,7 +99,7 @@ module _ {X : Type 0} (same : X → X → Bool) where
 one_kept : {X : Type 0} (test : X → Bool) (x : X) (s b : Bool) → test x ≡ not s → filter test (cond b [] (x ∷ [])) ≡ cond (s || b) [] (x ∷ [])
 one_kept test x s b is = grind arith
 
--- one item more stands behind the others, unless it is the same as one of them
+-- one item more stands after the others, unless it is the same as one of them
 pub distinct_push : {X : Type 0} (same : X → X → Bool) (xs : List X) (x : X)
     → distinct same (xs ++ x ∷ []) ≡ distinct same xs ++ cond (list_any (λ y. same y x) xs) [] (x ∷ [])
 distinct_push same [] x = refl

@@ -30,7 +30,7 @@ holds_before old new name mid mids same more holds None = refl
 holds_before old new name mid mids same more holds (Some q) =
     held_more old new name mid same more q ∙ ap (λ (b : Bool). bytes_eq mid q || b) (holds (Some q))
 
--- one behind them
+-- one after them
 pub holds_behind : (old new : BTreeSet (Bor (List ℕ))) (name : Bor (List ℕ)) (mid : List ℕ) (mids : List (List ℕ)) (i : ℕ) → i < length mids → mid ≡ get_or mids i mid → name.now ≡ mid
     → Updates (λ x y. slice_cmp nat_cmp x.now y.now) old new name true → Holds old (take i mids) → Holds new (take (i + 1) mids)
 holds_behind old new name mid mids i lt is same more holds None = refl

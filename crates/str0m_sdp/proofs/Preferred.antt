@@ -6,7 +6,7 @@ use Rattle.str0m_values.specs.declared.fingerprint.Fingerprint.{Fingerprint}
 use Rattle.str0m_sdp.specs.PreferredFingerprint.{is_preferred, IsPreferred, better, preferred, first_filled}
 use Rattle.str0m_sdp.specs.Lists.{first}
 
--- one more behind the others
+-- one more after the others
 pub preferred_more : (prints : List Fingerprint) (print : Fingerprint) → preferred (prints ++ print ∷ []) ≡ Some (better (preferred prints) print)
 preferred_more [] print = refl
 preferred_more (first ∷ prints) print = ap (λ best. Some best) (along first prints)

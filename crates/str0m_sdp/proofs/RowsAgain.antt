@@ -35,7 +35,7 @@ kept_content : (c : Content) (there : Bool) → c ≢ other → there ≡ true
     → (has_sound c || (has_pictures c || (has_events c && there))) ≡ true
 kept_content c there h k = grind arith
 
--- sound alone has RED
+-- audio alone has RED
 no_red : (c : Content) → (c ≡ audio → ⊥) → (red : Option ℕ) → (red ≢ None → c ≡ audio) → None ≡ red
 no_red c apart None h = refl
 no_red c apart (Some n) h = absurd (apart (h (λ e. cc)))

@@ -1,4 +1,4 @@
--- The types that go with another type: RTX, which sends it again, and RED, which repeats its sound.
+-- The types that go with another type: RTX, which sends it again, and RED, which repeats its audio.
 use Rattle.std.specs.Prelude.{ℕ, Bool, false, ◌==◌, ◌&&◌, List, Option, Some, None, filter_map, if◌then◌else◌}
 use Rattle.std.specs.List.{list_any}
 use Rattle.str0m_values.specs.Cuts.{when}
@@ -50,6 +50,6 @@ companion codec mapped attrs pt = last (filter_map (companion_in codec mapped pt
 abbrev pub rtx_type : MediaLine → ℕ → Option ℕ
 rtx_type m pt = companion codecs.Rtx (mapped m) m.attrs pt
 
--- the type under which sound is repeated (RFC 2198)
+-- the type under which audio is repeated (RFC 2198)
 abbrev pub red_type : MediaLine → ℕ → Codec → Option ℕ
 red_type m pt codec = if has_sound (content codec) then companion codecs.Red (mapped m) m.attrs pt else None

@@ -54,7 +54,7 @@ pub record FitsCandidate (c : Candidate) : Type 0 where
 abbrev pub FitsRtpMap : RtpMap → Type 0
 FitsRtpMap map = IsRateNumber map.clock_rate × IfSome map.channels IsByte
 
--- a value behind a key by the key's kind
+-- a value after a key by the key's kind
 abbrev pub FitsParam : FormatParam → Type 0
 FitsParam (param.TelephoneEvents n) = IsByte n
 FitsParam (param.BareRange n) = IsByte n

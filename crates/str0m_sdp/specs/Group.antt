@@ -4,7 +4,7 @@ use Rattle.std.specs.List.{flat_map, join_by}
 use Rattle.str0m_sdp.specs.Lines.{attribute_line}
 use Rattle.str0m_sdp.specs.declared.label.TheConstants as label
 
--- the kind of the group, and its names, each behind a space (RFC 5888, section 5)
+-- the kind of the group, and its names, each after a space (RFC 5888, section 5)
 abbrev pub group_text : List ℕ → List (List ℕ) → List ℕ
 group_text typ mids = attribute_line (label.GROUP.now ++ (typ ++ flat_map (λ mid. codes " " ++ mid) mids))
 

@@ -9,6 +9,6 @@ line_end = 13 ∷ 10 ∷ []
 abbrev pub attribute_line : List ℕ → List ℕ
 attribute_line text = codes "a=" ++ (text ++ line_end)
 
--- an attribute line of a label and a text right behind it
+-- an attribute line of a label and a text right after it
 abbrev pub labelled_line : List ℕ → List ℕ → List ℕ
 labelled_line label text = codes "a=" ++ (label ++ (text ++ line_end))

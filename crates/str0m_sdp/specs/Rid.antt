@@ -10,12 +10,12 @@ use Rattle.str0m_sdp.specs.declared.label.TheConstants as label
 abbrev pub restriction_text : List ℕ × List ℕ → List ℕ
 restriction_text pair = pair.0 ++ (codes "=" ++ pair.1)
 
--- the payload types, behind their label
+-- the payload types, after their label
 abbrev pub pts_part : List ℕ → List ℕ
 pts_part [] = []
 pts_part (pt ∷ pts) = codes " pt=" ++ join_by decimal (codes ",") (pt ∷ pts)
 
--- what stands before the restrictions: `;` behind payload types, else a space
+-- what stands before the restrictions: `;` after payload types, else a space
 abbrev pub before_restrictions : List ℕ → List ℕ
 before_restrictions [] = codes " "
 before_restrictions (pt ∷ pts) = codes ";"

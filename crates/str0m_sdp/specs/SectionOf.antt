@@ -16,7 +16,7 @@ is_of_type (RtcpFb pt value) = true
 is_of_type (Fmtp pt values) = true
 is_of_type _ = false
 
--- the frame with the payload types of the rows, and their lines behind the frame's own, of which those stay that
+-- the frame with the payload types of the rows, and their lines after the frame's own, of which those stay that
 -- describe no payload type
 abbrev pub made : MediaLine → List PayloadParams → MediaLine
 made frame rows = record frame {

@@ -26,7 +26,7 @@ values_in pt _ = None
 unfoldable pub lines_of : List MediaAttribute → ℕ → List (List FormatParam)
 lines_of attrs pt = filter_map (values_in pt) attrs
 
--- whether a type has a row: it carries sound or pictures, or telephone events and stands in the m-line
+-- whether a type has a row: it carries audio or video, or telephone events and stands in the m-line
 abbrev pub is_kept : MediaLine → ℕ × CodecSpec → Bool
 is_kept m (pt, spec) =
     has_sound (content spec.codec) || (has_pictures (content spec.codec)

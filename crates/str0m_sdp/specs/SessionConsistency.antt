@@ -60,7 +60,7 @@ pub record ConsistentSdp (sdp : Sdp) : Type 0 where
 abbrev pub AreFew : List MediaLine → Type 0
 AreFew sections = length sections ≤ 16
 
--- an answer says whether something holds, want of memory aside
+-- an answer says whether something holds, out of memory aside
 abbrev pub SaysWhether : Type 0 → Result (Unit {0}) SdpError → Type 0
 SaysWhether Holds (Ok done) = Holds
 SaysWhether Holds (Err (ParseError message)) = ⊥

@@ -65,7 +65,7 @@ session_message sdp =
     sections_message sdp.media_lines
     <|> option_map session_fault_text (first_session_fault sdp)
 
--- a contradiction is told in these words, and want of memory tells none
+-- a contradiction is told in these words, and out of memory tells none
 abbrev pub Tells : Option (List ℕ) → SdpError → Type 0
 Tells message (ParseError text) = ⊥
 Tells message (Inconsistent text) = Some (string_bytes text) ≡ message

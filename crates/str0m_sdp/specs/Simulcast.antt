@@ -6,7 +6,7 @@ use Rattle.str0m_sdp.specs.declared.simulcast.SimulcastLayer.{SimulcastLayer}
 use Rattle.str0m_sdp.specs.declared.simulcast.Simulcast.{Simulcast}
 use Rattle.str0m_sdp.specs.Lines.{attribute_line}
 
--- a name, behind `~` where it isn't active
+-- a name, after `~` where it isn't active
 abbrev pub name_text : List ℕ → Bool → List ℕ
 name_text name true = name
 name_text name false = codes "~" ++ name

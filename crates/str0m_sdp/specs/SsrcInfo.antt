@@ -57,7 +57,7 @@ id_of piece = if bytes_eq (trim piece) (codes "-") then None else Some (trim pie
 abbrev pub stream_said : ℕ → MediaAttribute → Option (Option (List ℕ))
 stream_said s attr = option_map (λ value. id_of (before 32 value)) (value_of (codes "msid") s attr)
 
--- its track: the text behind the first space, up to the next one
+-- its track: the text after the first space, up to the next one
 abbrev pub track_said : ℕ → MediaAttribute → Option (Option (List ℕ))
 track_said s attr = value_of (codes "msid") s attr >>= (λ value. option_map (λ parts. id_of (before 32 parts.1)) (cut 32 value))
 

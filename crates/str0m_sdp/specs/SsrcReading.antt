@@ -9,7 +9,7 @@ use Rattle.str0m_sdp.specs.declared.attribute.MediaAttribute.{MediaAttribute}
 use Rattle.str0m_sdp.specs.declared.ssrc_info.SsrcInfo.{SsrcInfo}
 use Rattle.str0m_sdp.specs.SsrcInfo.{id_of, latest, repaired_by, cname_said, stream_said, track_said, empty_info}
 
--- the track that a value names behind its first space, where it has one
+-- the track that a value names after its first space, where it has one
 abbrev pub track_after : Option (List ℕ × List ℕ) → Option (List ℕ) → Option (List ℕ)
 track_after None old = old
 track_after (Some parts) old = id_of (before 32 parts.1)

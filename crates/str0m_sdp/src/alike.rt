@@ -20,7 +20,7 @@ fn as_read(param: FormatParam) -> FormatParam
     }
 }
 
-/// The first value that is shown, as it is read, and those behind it.
+/// The first value that is shown, as it is read, and those after it.
 fn next_shown(values: &[FormatParam]) -> Option<(FormatParam, &[FormatParam])>
     ensures { MatchOption result
         (shown values.now ≡ [])

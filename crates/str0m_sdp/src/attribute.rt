@@ -54,7 +54,7 @@ pub enum SessionAttribute {
     Candidate(Candidate),
     /// `a=end-of-candidates` (RFC 8840, section 8.1).
     EndOfCandidates,
-    /// Any other attribute, as the text behind `a=`.
+    /// Any other attribute, as the text after `a=`.
     Unused(Text),
 }
 
@@ -156,10 +156,10 @@ pub enum MediaAttribute {
         ssrc: Ssrc,
         /// The name of what it says, as `cname`.
         attr: Text,
-        /// The text behind the colon that ends the name.
+        /// The text after the colon that ends the name.
         value: Text,
     },
-    /// Any other attribute, as the text behind `a=`.
+    /// Any other attribute, as the text after `a=`.
     Unused(Text),
 }
 

@@ -9,7 +9,7 @@ use crate::session::Session;
 use crate::transport::TransportAttribute;
 use str0m_values::Candidate;
 
-/// The first candidate, and the attributes behind it.
+/// The first candidate, and the attributes after it.
 fn first_candidate<'a, A: TransportAttribute>(attrs: &'a [A]) -> Option<(&'a Candidate, &'a [A])>
     ensures { MatchOption result
         (filter_map A.candidate attrs.now ≡ [])

@@ -62,7 +62,7 @@ impl Feedback {
         ensures { result ≡ with_feedback self row }
     {
         // A new row has transport-cc on, though in a section only a line says it: so it is set. The
-        // other four a new row has on where its codec carries pictures: lines only add to them.
+        // other four a new row has on where its codec carries video: lines only add to them.
         row.set_fb_transport_cc(self.transport_cc);
         row.set_fb_fir(row.fb_fir() || self.fir);
         row.set_fb_nack(row.fb_nack() || self.nack);

@@ -24,7 +24,7 @@ pub(crate) fn is_shown(value: FormatParam) -> bool
     !matches!(value, FormatParam::Unknown | FormatParam::AmrWbUnsupported)
 }
 
-/// The first value that is shown, and those behind it.
+/// The first value that is shown, and those after it.
 pub(crate) fn first_shown(values: &[FormatParam]) -> Option<(FormatParam, &[FormatParam])>
     ensures { MatchOption result
         (filter is_shown values.now ≡ [])
@@ -54,7 +54,7 @@ impl<'a> fmt::Display for FmtpLine<'a> {
     }
 }
 
-/// A value, and each shown one of those behind it, parted by `;`.
+/// A value, and each shown one of those after it, parted by `;`.
 #[derive(Drop)]
 struct Shown<'a> {
     first: FormatParam,
@@ -76,7 +76,7 @@ impl<'a> Printed for Shown<'a> {
     ghost prints = { λ _. refl };
 }
 
-/// The values that are shown, each behind `;`.
+/// The values that are shown, each after `;`.
 #[derive(Drop)]
 struct MoreShown<'a>(&'a [FormatParam]);
 

@@ -1,4 +1,4 @@
-//! The words of descriptions: labels of attributes, as they stand behind `a=`, with the colon where a value follows (RFC 8866,
+//! The words of descriptions: labels of attributes, as they stand after `a=`, with the colon where a value follows (RFC 8866,
 //! section 6; an attribute without a value is its label alone), media types, protocols and feedback.
 
 pub use str0m_values::direction_label::{INACTIVE, RECV_ONLY, SEND_ONLY, SEND_RECV};
@@ -58,9 +58,9 @@ pub const EXTMAP_ALLOW_MIXED: &str = "extmap-allow-mixed";
 /// This side is ICE lite (RFC 8839, section 5.3).
 pub const ICE_LITE: &str = "ice-lite";
 
-/// The media type of sound (RFC 8866, section 5.14).
+/// The media type of audio (RFC 8866, section 5.14).
 pub const AUDIO: &str = "audio";
-/// The media type of pictures (RFC 8866, section 5.14).
+/// The media type of video (RFC 8866, section 5.14).
 pub const VIDEO: &str = "video";
 /// The media type of data channels (RFC 8841, section 4).
 pub const APPLICATION: &str = "application";
@@ -80,5 +80,5 @@ pub const REMB: &str = "goog-remb";
 pub const FIR: &str = "ccm fir";
 /// Packets that are missing (RFC 4585, section 4.2).
 pub const NACK: &str = "nack";
-/// Pictures that are missing (RFC 4585, section 4.2).
+/// Video that is missing (RFC 4585, section 4.2).
 pub const PLI: &str = "nack pli";

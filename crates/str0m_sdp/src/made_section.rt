@@ -64,7 +64,7 @@ fn kept(alloc: Global, attrs: &[MediaAttribute]) -> Result<Vec<MediaAttribute>, 
     Ok(kept)
 }
 
-/// The lines of rows behind others.
+/// The lines of rows after others.
 fn with_rows(
     mut attrs: Vec<MediaAttribute>,
     rows: &[PayloadParams],

@@ -10,10 +10,10 @@ use str0m_values::Text;
 /// The media type of a section (RFC 8866, section 5.14).
 #[derive(Clone, Debug, Default, PartialEq, Eq, Drop)]
 pub enum MediaType {
-    /// `audio`: sound.
+    /// `audio`.
     #[default]
     Audio,
-    /// `video`: pictures.
+    /// `video`.
     Video,
     /// `application`: data channels (RFC 8841, section 4).
     Application,

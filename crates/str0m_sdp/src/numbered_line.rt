@@ -33,7 +33,7 @@ impl<'a> fmt::Display for NumberedLine<'a> {
     }
 }
 
-/// What is said of a source: a name and a value behind a colon.
+/// What is said of a source: a name and a value after a colon.
 #[derive(Drop)]
 struct Said<'a> {
     attr: &'a Text,

@@ -29,8 +29,8 @@ pub(crate) fn is_held(names: &BTreeSet<&str>, mid: Option<Mid>) -> bool
     }
 }
 
-/// The first mid that stands again behind its place. They are passed from the last to the first: so
-/// those behind a mid are known when it comes, and the last that is found is the first of all.
+/// The first mid that stands again after its place. They are passed from the last to the first: so
+/// those after a mid are known when it comes, and the last that is found is the first of all.
 pub(crate) fn find_again(mids: &[Mid], alloc: Global) -> Result<Option<Mid>, AllocError>
     ensures { IfOk result (λ found. found ≡ first_again mids.now) }
 {

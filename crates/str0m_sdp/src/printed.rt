@@ -57,7 +57,7 @@ impl Printed for Fingerprint {
     ghost prints = { λ _. refl };
 }
 
-/// Items one right behind the other.
+/// Items one right after the other.
 #[derive(Drop)]
 pub(crate) struct Each<'a, T>(pub(crate) &'a [T]);
 
@@ -72,14 +72,14 @@ impl<'a, T: Printed> fmt::Display for Each<'a, T> {
     }
 }
 
-/// Items, each behind a lead.
+/// Items, each after a lead.
 #[derive(Drop)]
 pub(crate) struct Led<'a, T> {
     pub(crate) items: &'a [T],
     pub(crate) lead: &'a str,
 }
 
-/// Items, each behind a space.
+/// Items, each after a space.
 pub(crate) fn behind_spaces<T>(items: &[T]) -> Led<T>
     ensures items { result.items.now ≡ items.now }
     ensures lead { result.lead.now ≡ codes " " }
@@ -171,7 +171,7 @@ impl<'a> fmt::Display for Alone<'a> {
     }
 }
 
-/// The `a=` line of a label and a value right behind it, with its end.
+/// The `a=` line of a label and a value right after it, with its end.
 #[derive(Drop)]
 pub(crate) struct Labelled<'a, T>(pub(crate) &'a str, pub(crate) &'a T);
 
@@ -186,7 +186,7 @@ impl<'a, T: Printed> fmt::Display for Labelled<'a, T> {
     }
 }
 
-/// The `a=` line of a label, a value right behind it and another behind a space, with its end.
+/// The `a=` line of a label, a value right after it and another after a space, with its end.
 #[derive(Drop)]
 pub(crate) struct Paired<'a, A, B>(pub(crate) &'a str, pub(crate) &'a A, pub(crate) &'a B);
 

@@ -38,7 +38,7 @@ impl<'a> fmt::Display for RidLine<'a> {
     }
 }
 
-/// The payload types that the stream may have, behind their label; nothing where there is none.
+/// The payload types that the stream may have, after their label; nothing where there is none.
 #[derive(Drop)]
 struct PtsPart<'a>(&'a [Pt]);
 
@@ -58,7 +58,7 @@ impl<'a> fmt::Display for PtsPart<'a> {
     }
 }
 
-/// The restrictions, behind `;` or a space; nothing where there is none.
+/// The restrictions, after `;` or a space; nothing where there is none.
 #[derive(Drop)]
 struct RestrictionsPart<'a> {
     pts: &'a [Pt],

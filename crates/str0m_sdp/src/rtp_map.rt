@@ -14,11 +14,11 @@ pub struct RtpMap {
     pub codec: Codec,
     /// The clock rate of RTP timestamps, in Hz.
     pub clock_rate: Frequency,
-    /// How many channels sound has, 0 to 255; `None` where the mapping doesn't count them.
+    /// How many channels audio has, 0 to 255; `None` where the mapping doesn't count them.
     pub channels: Option<u8>,
 }
 
-/// The mapping as it stands behind the payload type of an rtpmap line.
+/// The mapping as it stands after the payload type of an rtpmap line.
 impl fmt::Display for RtpMap {
     ghost output = { λ map. Some (rtp_map_text map) };
 
@@ -37,7 +37,7 @@ impl Printed for RtpMap {
     ghost prints = { λ _. refl };
 }
 
-/// How many channels a mapping counts, behind `/`; nothing where it counts none.
+/// How many channels a mapping counts, after `/`; nothing where it counts none.
 #[derive(Drop)]
 struct Channels(Option<u8>);
 

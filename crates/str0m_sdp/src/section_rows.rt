@@ -164,17 +164,17 @@ impl MediaLine {
 
     /// The rows that the section describes.
     ///
-    /// Each rtpmap line of a codec of sound or pictures gives a row, in order (RFC 8866, section 6.6),
+    /// Each rtpmap line of an audio or video codec gives a row, in order (RFC 8866, section 6.6),
     /// and one of telephone events where its type stands in the m-line; then each type of the m-line
     /// that needs no rtpmap line and has none (RFC 3551, section 6) gives one.
     ///
     /// The format is what the fmtp lines of the type say of its codec, by
     /// `FormatParams::from_sdp_fmtp`; where that refuses, there is no row. The RTX type is the last
     /// type of `rtx` whose fmtp line names this one by `apt` (RFC 4588, section 8.1), the RED type of
-    /// sound the last type of `red` whose fmtp line names this one by a list (RFC 2198, section 5).
+    /// audio the last type of `red` whose fmtp line names this one by a list (RFC 2198, section 5).
     /// The rtcp-fb values `transport-cc` (draft-holmer-rmcat-transport-wide-cc-extensions),
     /// `ccm fir`, `nack`, `nack pli` and `goog-remb` (draft-alvestrand-rmcat-remb) of the type turn
-    /// feedback on (RFC 4585, section 4.2); pictures have all of it but `transport-cc` anyway. No
+    /// feedback on (RFC 4585, section 4.2); video has all of it but `transport-cc` anyway. No
     /// row is locked.
     ///
     /// The only error is that memory was refused. The section stays as it is.

@@ -77,7 +77,7 @@ fn scan_shared(sections: &[MediaLine]) -> Option<Mid>
     None
 }
 
-/// Puts a mid behind the others, where there is one.
+/// Puts a mid after the others, where there is one.
 fn push_mid(mids: &mut Vec<Mid>, mid: Option<Mid>) -> Result<(), AllocError>
     ensures { OnOk result (mids.new.items ≡ mids.old.items ++ option_to_list mid) }
 {

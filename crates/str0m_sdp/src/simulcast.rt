@@ -36,7 +36,7 @@ impl RestrictionId {
         RestrictionId(Text::empty(), true)
     }
 
-    /// The name as simulcast lines show it: behind `~` where the stream isn't active (RFC 8853,
+    /// The name as simulcast lines show it: after `~` where the stream isn't active (RFC 8853,
     /// section 5.1). The only error is that memory was refused.
     pub fn to_sdp(&self, alloc: Global) -> Result<String, AllocError>
         ensures { IfOk result (λ text. string_bytes text ≡ id_text self.now) }

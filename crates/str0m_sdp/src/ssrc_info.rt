@@ -61,7 +61,7 @@ impl SsrcInfo {
         Clone::clone(self)
     }
 
-    /// Sets the ids of an `msid` value: a stream, and behind a space a track.
+    /// Sets the ids of an `msid` value: a stream, and after a space a track.
     fn set_ids(&mut self, alloc: Global, value: &str) -> Result<(), AllocError>
         ensures { OnOk result (self.new ≡ with_ids value.now self.old) }
     {
@@ -152,7 +152,7 @@ impl MediaLine {
     /// What the section says of each of its sources (RFC 5576, sections 4.1, 4.2 and 6.1).
     ///
     /// There is one entry for each source of an `Ssrc` attribute, in order of first appearance. Its
-    /// `cname` attribute names it. Its `msid` attribute has the id of its stream and, behind a space,
+    /// `cname` attribute names it. Its `msid` attribute has the id of its stream and, after a space,
     /// that of its track; white space at their ends is left out, and `-` stands for none (RFC 8830,
     /// section 2). A group `FID` of two sources says that the second repairs the first; a second one
     /// without an entry gets one at the end. Where two attributes say the same of a source, the later

@@ -6,7 +6,7 @@ use Rattle.std.specs.Char.{encode_utf8}
 abbrev IsInside : ℕ → Type 0
 IsInside b = (128 ≤ b) × (b < 192)
 
--- a character begins behind at most k bytes, and from each on behind at most three
+-- a character begins after at most k bytes, and from each on after at most three
 abbrev pub StartsWithin : ℕ → List ℕ → Type 0
 StartsWithin k [] = Unit {0}
 StartsWithin k (x ∷ xs) = (IsInside x × (0 < k) × StartsWithin (k - 1) xs) ⊎ (¬ (IsInside x) × StartsWithin 3 xs)

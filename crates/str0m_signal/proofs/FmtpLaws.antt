@@ -55,7 +55,7 @@ blanks_gone blanks h = ap skip_blanks (sym (append-nil blanks)) ∙ IsBlank-skip
 
 -- ---- one pair
 
--- a text behind a value goes on so
+-- a text after a value goes on so
 abbrev Follows : List ℕ → Option (List ℕ) → Type 0
 Follows text None = IsEnd text
 Follows text (Some more) = (after : List ℕ) × (text ≡ codes ";" ++ (after ++ more)) × AreBlanks after × StartsPlain more

@@ -54,7 +54,7 @@ origin_both = record { sound = found; complete = given }
 one_behind : (letter : List ℕ) → length letter ≡ 2 → (content text : List ℕ) → IsField letter content text → text ≡ drop 2 content
 one_behind letter two content text h = sym (rw (h.0, ← two) (drop-append_seam letter text))
 
--- what a field of two characters says stands behind them
+-- what a field of two characters says stands after them
 field_behind : (letters : List (List ℕ)) → AllByRecursion (λ letter. length letter ≡ 2) letters → (content text : List ℕ) → IsOneField letters content text → text ≡ drop 2 content
 field_behind [] two content text h = absurd h
 field_behind (letter ∷ letters) two content text h = elim h [ inl k ↦ one_behind letter two.0 content text k | inr k ↦ field_behind letters two.1 content text k ]

@@ -4,7 +4,7 @@ use Rattle.str0m_signal.specs.Lines.{Line, EndsIn, IsLine}
 use Rattle.str0m_signal.specs.LineReading.{is_crlf, longer, lines_of, plain_line, behind_end, IsAtEnd}
 use Rattle.str0m_signal.proofs.LineLaws.{at_other, line_here}
 
--- ---- the first line, by what stands behind it
+-- ---- the first line, by what stands after it
 
 no_return_ends : (a : List ℕ) → Lacks 13 a → EndsIn 13 a → ⊥
 no_return_ends a h e = go e.0 (rw e.1 at h)
@@ -40,7 +40,7 @@ returned (x ∷ xs) rest feed return lone =
 refused : (text a rest : List ℕ) → text ≡ a ++ (13 ∷ rest) → Lacks 10 a → Lacks 13 a → is_crlf 13 rest ≡ false → None ≡ plain_line (lines_of text)
 refused text a rest e feed return lone = grind (arith, returned)
 
--- the line is the text up to its end, and what follows is behind that
+-- the line is the text up to its end, and what follows is after that
 pub plain_cut : (text a b : List ℕ) → text ≡ a ++ b → Lacks 10 a → Lacks 13 a → IsAtEnd b → IsRest text → (behind_end b >>= λ rest. Some (a, lines_of rest)) ≡ plain_line (lines_of text)
 plain_cut text a [] e feed return stops rest = grind (arith, append-nil a, plain_here text (record { content = a; ending = [] }) [] e)
 plain_cut text a (x ∷ xs) e feed return (inl lf) rest =

@@ -16,7 +16,7 @@ nil_ends c h = go h.0 h.1
     go [] e = nil_cons c [] e
     go (f ∷ fs) e = nil_cons f (fs ++ (c ∷ [])) e
 
--- what ends in c behind x, or is x alone
+-- what ends in c after x, or is x alone
 cons_ends : (c x : ℕ) (xs : List ℕ) → EndsIn c (x ∷ xs) → ((x ≡ c) × (xs ≡ [])) ⊎ EndsIn c xs
 cons_ends c x xs h = go h.0 h.1
   where

@@ -13,7 +13,7 @@ no_feeds : (text : List ℕ) → Lacks 10 text → line_feeds text ≡ 0
 no_feeds [] h = refl
 no_feeds (x ∷ xs) h = sum_by-cons (λ c. cond (c == 10) 1 0) x xs ∙ rw (ne_eqb x 10 h.0, no_feeds xs h.1) refl
 
--- a line with something behind it has one, at its end
+-- a line with something after it has one, at its end
 one_feed : (line : Line) (rest : List ℕ) → IsLine line rest → rest ≢ [] → line_feeds line.ending ≡ 1
 one_feed line rest h some = elim h.ends [
   | inl lf ↦ ap line_feeds lf.0

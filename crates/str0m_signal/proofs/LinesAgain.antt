@@ -37,7 +37,7 @@ pub taken_line : {A : Type 0} (F : List ℕ → A → Type 0) (lines : List Line
 taken_line F lines None rest fine h = (tt, subst IsFine h.0 fine)
 taken_line F lines (Some a) rest fine h = one_line F lines a rest fine h
 
--- the text behind `a=`, as the line
+-- the text after `a=`, as the line
 pub record IsBehind (text : List ℕ) : Type 0 where
   pub quiet : HoldsNoEnd text
   pub starts : StartsWithin 3 text

@@ -1,4 +1,4 @@
--- Pairs that stand one behind the other are read one by one, exactly where each stands.
+-- Pairs that stand one after the other are read one by one, exactly where each stands.
 use Rattle.str0m_signal.proofs.Common.{◌≡◌, ℕ, zero, suc, ◌<◌, List, [], ◌∷◌, length, Option, Some, None, refl, subst, arith, ◌>>=◌, bind_some, some_is}
 use Rattle.str0m_signal.specs.Fmtp.{OneByOne}
 use Rattle.str0m_signal.specs.FmtpReading.{pairs_after, pairs_at}

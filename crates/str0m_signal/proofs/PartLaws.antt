@@ -27,7 +27,7 @@ some_bound (Some xs) x = refl
 pub cut_shorter : (c : ℕ) (text a b : List ℕ) → cut c text ≡ Some (a, b) → length b < length text
 cut_shorter c text a b e = let found = cut_found c text a b e in omega (arith, ap length found.0, length-append a (c ∷ b))
 
--- the item stands behind the others
+-- the item stands after the others
 abbrev PutsLast : {A : Type 0} → Vec A Global → A → Vec A Global → Type 0
 PutsLast old item new = new.items ≡ old.items ++ item ∷ []
 
@@ -73,7 +73,7 @@ module _ {A : Type 0} (c : ℕ) (f : List ℕ → Option A) where
   alone_some : (o : Option A) → is_some (o >>= λ x. Some (x ∷ [])) ≡ is_some o
   alone_some o = grind arith
 
-  -- behind a part, the rest decides
+  -- after a part, the rest decides
   pub one_part : (rest a b : List ℕ) → cut c rest ≡ Some (a, b) → is_some (f a) ≡ true → is_some (parted_read c f rest) ≡ is_some (parted_read c f b)
   one_part rest a b cut-is is = ap (λ (o : Option (List A)). is_some o) (parted_cut rest a b cut-is) ∙ decides (f a) (parted_read c f b) is
 
@@ -86,7 +86,7 @@ module _ {A : Type 0} (c : ℕ) (f : List ℕ → Option A) where
 -- ---- both ways
 
 module _ {A : Type 0} {F : List ℕ → A → Type 0} {f : List ℕ → Option A} (c : ℕ) (reads : Reads F f) (lacks : (text : List ℕ) (x : A) → F text x → Lacks c text) where
-  -- one part, or a part and more behind c
+  -- one part, or a part and more after c
   record Last (text : List ℕ) (xs : List A) : Type 0 where
     x : A
     part_is : F text x

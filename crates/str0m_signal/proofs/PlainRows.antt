@@ -13,7 +13,7 @@ pub each_small : (ns : List ℕ) → AllSmall ns → AllByRecursion (λ n. n ≤
 each_small [] h = tt
 each_small (n ∷ ns) h = let p = small_first n ns h in (p.0, each_small ns p.1)
 
--- a row whose codec carries sound, pictures or events, and whose numbers keep to their ranges
+-- a row whose codec carries audio, video or events, and whose numbers keep to their ranges
 pub keeps : (row : PayloadParams) → AllSmall (types_of row) → content row.spec.codec ≢ other → IsRate row.spec.clock_rate
     → IfSome row.spec.channels (λ n. n ≤ 255) → KeepsToRow row
 keeps row small carried rate channels = grind arith

@@ -72,7 +72,7 @@ types_again = parted_again (num_again 127 (lit< tt)) 44
 abbrev pub more_text : List ℕ × List (List ℕ × List ℕ) → List ℕ
 more_text lists = pts_part lists.0 ++ restrictions_part lists.0 lists.1
 
--- types, and restrictions behind them
+-- types, and restrictions after them
 typed_form : (text : List ℕ) (n : ℕ) (ns : List ℕ) (pairs : List (List ℕ × List ℕ)) → AreTyped text (n ∷ ns, pairs)
     → AreTyped (join_by decimal (codes ",") (n ∷ ns) ++ restrictions_part (n ∷ ns) pairs) (n ∷ ns, pairs)
 typed_form text n ns [] (inl h) =
@@ -137,7 +137,7 @@ more_lacks : (c : ℕ) → 16 ≤ digit_value c → (text : List ℕ) (lists : L
 more_lacks c far text lists (inl h) lacks = rw h.1 tt
 more_lacks c far text lists (inr h) lacks = lists_lack c far h.0 lists.0 lists.1 h.2 (subst (Lacks c) h.1 lacks)
 
--- what stands behind the name, where no restriction names types
+-- what stands after the name, where no restriction names types
 abbrev pub IsPlainDirected : List ℕ → List ℕ × (List ℕ × List (List ℕ × List ℕ)) → Type 0
 IsPlainDirected text fields = IsDirected text fields × NamesNoTypes fields.1.1
 
@@ -185,7 +185,7 @@ side_lacks text (layer ∷ (next ∷ layers)) h =
     lacks_both 32 (layer_text layer) (59 ∷ layers_text (next ∷ layers)) (name_lacks h.0 layer.restriction_id h.3.0 h.3.1)
     ((λ e. absurd (omega (arith, e))), side_lacks h.1 (next ∷ layers) h.4)
 
--- what stands behind the label
+-- what stands after the label
 abbrev pub sides_words : List SimulcastLayer → List SimulcastLayer → List ℕ
 sides_words [] [] = []
 sides_words (s ∷ send) [] = codes "send " ++ layers_text (s ∷ send)

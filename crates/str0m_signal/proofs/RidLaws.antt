@@ -13,12 +13,12 @@ use Rattle.str0m_signal.proofs.SimulcastLaws.{name_from, name_true, parted_lacks
 
 -- ---- one restriction
 
--- a restriction, and behind it the end, or `;` and more
+-- a restriction, and after it the end, or `;` and more
 abbrev pub Stands : List ℕ → List ℕ × List ℕ → Option (List ℕ) → Type 0
 Stands text pair None = IsRestriction text pair
 Stands text pair (Some more) = (part : List ℕ) × (text ≡ part ++ (59 ∷ more)) × IsRestriction part pair
 
--- what stands behind a value
+-- what stands after a value
 abbrev tail_of : Option (List ℕ) → List ℕ
 tail_of None = []
 tail_of (Some more) = 59 ∷ more
@@ -36,7 +36,7 @@ next_given next = grind arith
 tail_ends : (next : Option (List ℕ)) → EndsValue (tail_of next)
 tail_ends next = grind arith
 
--- blanks, key, `=` and value, and what stands behind them
+-- blanks, key, `=` and value, and what stands after them
 regroup : (blanks key value tail : List ℕ) → (blanks ++ (key ++ (61 ∷ value))) ++ tail ≡ blanks ++ (key ++ (61 ∷ (value ++ tail)))
 regroup blanks key value tail = grind (arith, append_assoc)
 

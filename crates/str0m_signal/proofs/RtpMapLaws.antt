@@ -11,7 +11,7 @@ frequency_sound text hertz e = grind (arith, bind_some, when_some, ltb-true, num
 pub frequency_complete : (text : List ℕ) (hertz : ℕ) → IsNum 4294967295 text hertz → 0 < hertz → frequency_read text ≡ Some hertz
 frequency_complete text hertz h positive = rw (num_reads 4294967295 text hertz h, lt-ltb 0 hertz positive) refl
 
--- a clock rate and the channels behind it
+-- a clock rate and the channels after it
 record IsClock (text : List ℕ) (hertz : ℕ) (channels : Option ℕ) : Type 0 where
   number : List ℕ
   more : List ℕ

@@ -72,7 +72,7 @@ head_of m types pts kind printed no_end are =
       },
     )
 
--- a section of sound or pictures with some types: its m-line reads as what it says
+-- an audio or video section with some types: its m-line reads as what it says
 pub head_printed : (m : MediaLine) → is_media m.typ ≡ true → (pt : ℕ) (pts : List ℕ) → m.pts ≡ pt ∷ pts → AreTypes (pt ∷ pts)
     → IsPrintedAs IsHead (m_line m) (record { typ = m.typ; disabled = m.disabled; proto = m.proto; pts = m.pts })
 head_printed m media pt pts e small =

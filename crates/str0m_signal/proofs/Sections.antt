@@ -143,6 +143,6 @@ said_sections (m ∷ ms) (read ∷ reads) h =
 no_head : Stops (OneLine IsHead) []
 no_head a after one = let e = one.1 in absurd cc
 
--- with nothing behind them they are the sections of their lines
+-- with nothing after them they are the sections of their lines
 pub sections_are : (ms reads : List MediaLine) (all : SaidSections ms reads) → Sections (all.lines ++ []) reads []
 sections_are ms reads all = (all.chain [] tt tt, no_head)

@@ -104,7 +104,7 @@ side_space text layers h = parted_lacks {F = IsLayer} 32 59 (λ e. absurd (omega
 
 -- ---- sides
 
--- one side behind its word, or the other one behind it
+-- one side after its word, or the other one after it
 abbrev AreOrdered : List ℕ → List ℕ → List SimulcastLayer → List SimulcastLayer → Type 0
 AreOrdered other text first [] = IsSide text first
 AreOrdered other text first (x ∷ second) = Two 32 IsSide (Behind other IsSide) text (first, x ∷ second)
@@ -133,7 +133,7 @@ sent_first text first second h = grind arith
 received_first : (text : List ℕ) (first second : List SimulcastLayer) → Behind (codes "recv ") (λ body layers. AreOrdered (codes "send ") body first second) text first → AreSides text second first
 received_first text first second h = grind arith
 
--- what is read behind a word, as layers
+-- what is read after a word, as layers
 abbrev way_read : List ℕ → List ℕ → (List SimulcastLayer → List SimulcastLayer → Simulcast) → List ℕ → Option Simulcast
 way_read own other make text = behind own (sides_read other) text >>= λ sides. Some (make sides.0 sides.1)
 

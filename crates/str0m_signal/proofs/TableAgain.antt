@@ -99,7 +99,7 @@ module _ {A : Type 0} {Fits : A → Type 0} {line : A → List ℕ} {test : A �
 abbrev AreWords : {A : Type 0} → (A → List ℕ) → (A → Bool) → List (List ℕ × A) → Type 0
 AreWords line test rows = map {B = List ℕ × Bool} (λ row. (line row.1, test row.1)) rows ≡ map {B = List ℕ × Bool} (λ row. (attribute_line row.0, true)) rows
 
--- and likewise each label with a value behind it
+-- and likewise each label with a value after it
 abbrev AreLabelled : {A V : Type 0} → (V → List ℕ) → (A → List ℕ) → (A → Bool) → List (List ℕ × (V → A)) → Type 0
 AreLabelled {V} print line test rows =
     (x : V) → map {B = List ℕ × Bool} (λ row. (line (row.1 x), test (row.1 x))) rows ≡ map {B = List ℕ × Bool} (λ row. (attribute_line (row.0 ++ print x), true)) rows

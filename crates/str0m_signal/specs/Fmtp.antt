@@ -66,7 +66,7 @@ IsRangeForm more values = (last : ℕ) × Behind (codes " ") IsEventRange more l
 abbrev pub IsAnything : List ℕ → List FormatParam → Type 0
 IsAnything more values = values ≡ Unknown ∷ []
 
--- `fmtp:` pt, and behind that word the first form that fits
+-- `fmtp:` pt, and after that word the first form that fits
 pub record IsFmtp (text : List ℕ) (pt : ℕ) (values : List FormatParam) : Type 0 where
   pub number : List ℕ
   pub more : List ℕ

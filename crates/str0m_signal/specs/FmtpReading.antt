@@ -36,7 +36,7 @@ abbrev pub skip_blanks : List ℕ → List ℕ
 skip_blanks [] = []
 skip_blanks (x ∷ xs) = if x == 32 then skip_blanks xs else if x == 9 then skip_blanks xs else x ∷ xs
 
--- what stands behind a value and its blanks: the end, or `;` and more
+-- what stands after a value and its blanks: the end, or `;` and more
 abbrev pub next_read : List ℕ → Option (Option (List ℕ))
 next_read text = if is_rest text then (strip (codes ";") text >>= λ t. Some (when (is_rest (skip_blanks t)) (skip_blanks t))) else Some None
 

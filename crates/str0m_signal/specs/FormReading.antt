@@ -8,7 +8,7 @@ use Rattle.str0m_values.specs.Cuts.{◌>>=◌, cut, strip, when, is_rest, num}
 abbrev pub alone : {A : Type 0} → List ℕ → A → List ℕ → Option A
 alone word x text = when (bytes_eq text word) x
 
--- what f reads behind a label
+-- what f reads after a label
 abbrev pub behind : {A : Type 0} → List ℕ → (List ℕ → Option A) → List ℕ → Option A
 behind label f text = strip label text >>= f
 
@@ -19,7 +19,7 @@ text_read text = when (is_rest text) text
 abbrev pub digits_read : ℕ → List ℕ → Option ℕ
 digits_read limit text = if is_some (strip (codes "+") text) then None else num limit text
 
--- what f reads before the first c, and g behind it
+-- what f reads before the first c, and g after it
 abbrev pub two_read : {A B : Type 0} → ℕ → (List ℕ → Option A) → (List ℕ → Option B) → List ℕ → Option (A × B)
 two_read c f g text = do
   parts ← cut c text
@@ -27,7 +27,7 @@ two_read c f g text = do
   second ← g parts.1
   Some (first, second)
 
--- what f reads before the first c; what stands behind it is dropped
+-- what f reads before the first c; what stands after it is dropped
 abbrev pub tail_after : {A : Type 0} → (List ℕ → Option A) → List ℕ → Option (List ℕ × List ℕ) → Option A
 tail_after f text None = f text
 tail_after f text (Some parts) = do

@@ -43,7 +43,7 @@ pub record Form (A : Type 0) : Type 1 where
 abbrev pub own : {A : Type 0} → List ℕ → (List ℕ → A → Type 0) → (List ℕ → Option A) → Form A
 own label Is read = record { labels = label ∷ []; Is = Is; read = read }
 
--- a label, and a piece behind it
+-- a label, and a piece after it
 abbrev pub led_by : {A : Type 0} → List ℕ → Piece A → Form A
 led_by label piece = own label (Behind label piece.Is) (behind label piece.read)
 
@@ -58,7 +58,7 @@ made {A} form make = record {
 abbrev pub labelled : {A B : Type 0} → List ℕ → Piece A → (A → B) → Form B
 labelled label piece make = made (led_by label piece) make
 
--- a word alone, behind which the line ends
+-- a word alone, after which the line ends
 abbrev pub word : {A : Type 0} → List ℕ → A → Form A
 word name x = record { labels = (name ++ (10 ∷ [])) ∷ []; Is = λ text y. (text ≡ name) × (y ≡ x); read = alone name x }
 
@@ -89,16 +89,16 @@ words_of (row ∷ rows) = word row.0 row.1 ∷ words_of rows
 abbrev pub words : {A : Type 0} → List (List ℕ × A) → Form A
 words rows = any (words_of rows)
 
--- each label with this piece behind it
+-- each label with this piece after it
 abbrev pub labelled_by : {A B : Type 0} → Piece B → List (List ℕ × (B → A)) → List (Form A)
 labelled_by piece [] = []
 labelled_by piece (row ∷ rows) = labelled row.0 piece row.1 ∷ labelled_by piece rows
 
--- a table of labels with a text behind
+-- a table of labels with a text after
 abbrev pub texts : {A : Type 0} → List (List ℕ × (List ℕ → A)) → Form A
 texts rows = any (labelled_by a_text rows)
 
--- a table of labels with two texts behind
+-- a table of labels with two texts after
 abbrev pub pairs : {A : Type 0} → List (List ℕ × (List ℕ × List ℕ → A)) → Form A
 pairs rows = any (labelled_by two_texts rows)
 

@@ -2,7 +2,7 @@
 use Rattle.std.specs.Prelude.{◌≡◌, ◌⊎◌, ◌++◌, ◌∷◌, [], ℕ, List}
 use Rattle.str0m_values.specs.Parts.{Lacks, IsRest}
 
--- a label, and behind it the text of a value by F
+-- a label, and after it the text of a value by F
 abbrev pub Behind : {A : Type 0} → List ℕ → (List ℕ → A → Type 0) → List ℕ → A → Type 0
 Behind label F text x = (body : List ℕ) × (text ≡ label ++ body) × F body x
 
@@ -10,7 +10,7 @@ Behind label F text x = (body : List ℕ) × (text ≡ label ++ body) × F body 
 abbrev pub IsText : List ℕ → List ℕ → Type 0
 IsText text x = IsRest text × (x ≡ text)
 
--- what stands before the first c, and what stands behind it, each with its value
+-- what stands before the first c, and what stands after it, each with its value
 abbrev pub Two : {A B : Type 0} → ℕ → (List ℕ → A → Type 0) → (List ℕ → B → Type 0) → List ℕ → A × B → Type 0
 Two c F G text pair = (front : List ℕ) × (rest : List ℕ) × (text ≡ front ++ (c ∷ rest)) × Lacks c front × F front pair.0 × G rest pair.1
 

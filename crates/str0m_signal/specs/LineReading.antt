@@ -39,7 +39,7 @@ behind_end text =
     <|> strip (10 ∷ []) text
     <|> when (length text == 0) text
 
--- the first line, if it holds no CR, and the lines behind it
+-- the first line, if it holds no CR, and the lines after it
 abbrev pub plain_line : List Line → Option (List ℕ × List Line)
 plain_line [] = None
 plain_line (line ∷ lines) = if lacks 13 line.content then Some (line.content, lines) else None
@@ -57,7 +57,7 @@ abbrev pub Takes : {A P : Type 0} → (P → A → P → Type 0) → Option A �
 Takes {A} Puts found old new true = (value : A) × (found ≡ Some value) × Puts old value new
 Takes Puts found old new false = (found ≡ None) × (new ≡ old)
 
--- what f reads of the first line stands behind the others, and this text is left; or f reads nothing, and nothing is added
+-- what f reads of the first line stands after the others, and this text is left; or f reads nothing, and nothing is added
 abbrev pub TakesLine : {A : Type 0} → (List ℕ → Option A) → List Line → List A → List A → Option (Bor (List ℕ)) → Type 0
 TakesLine f lines old new None = (None ≡ line_read f lines) × (new ≡ old)
 TakesLine {A} f lines old new (Some rest) = (value : A) × IsRead f lines value (lines_of rest.now) × (new ≡ old ++ value ∷ [])

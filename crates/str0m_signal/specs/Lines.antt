@@ -32,7 +32,7 @@ Lines text lines = (text ≡ joined lines) × AreLines lines
 abbrev pub OneLine : {A : Type 0} → (List ℕ → A → Type 0) → List Line → A → List Line → Type 0
 OneLine F lines value rest = (line : Line) × (lines ≡ line ∷ rest) × Lacks 13 line.content × F line.content value
 
--- the text's lines begin so, and the text of the lines behind is left
+-- the text's lines begin so, and the text of the lines after is left
 abbrev pub OfText : {A : Type 0} → (List Line → A → List Line → Type 0) → List ℕ → A × List ℕ → Type 0
 OfText S text found = (lines : List Line) × (rest : List Line) × Lines text lines × S lines found.0 rest × (found.1 ≡ joined rest)
 

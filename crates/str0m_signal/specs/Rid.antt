@@ -20,7 +20,7 @@ abbrev pub AreRestrictions : List ℕ → List (List ℕ × List ℕ) → Type 0
 AreRestrictions text [] = text ≡ []
 AreRestrictions text (pair ∷ pairs) = Parted 59 IsRestriction text (pair ∷ pairs)
 
--- payload types with `,` between each two, and behind them nothing, or `;` and restrictions
+-- payload types with `,` between each two, and after them nothing, or `;` and restrictions
 abbrev pub AreTyped : List ℕ → List ℕ × List (List ℕ × List ℕ) → Type 0
 AreTyped text lists = (Parted 44 IsPt text lists.0 × (lists.1 ≡ [])) ⊎ Two 59 (Parted 44 IsPt) AreRestrictions text lists
 

@@ -9,7 +9,7 @@ use Rattle.str0m_signal.specs.StreamName.{is_stream_name}
 abbrev pub active_read : List ℕ → Option RestrictionId
 active_read text = when (is_stream_name text) (record { 0 = text; 1 = true })
 
--- what stands behind a value: the end, or `;` and more
+-- what stands after a value: the end, or `;` and more
 abbrev pub next_read : List ℕ → Option (Option (List ℕ))
 next_read text = if is_rest text then (strip (codes ";") text >>= λ more. Some (Some more)) else Some None
 
@@ -41,7 +41,7 @@ typed_after text (Some parts) = do
 abbrev pub typed_read : List ℕ → Option (List ℕ × List (List ℕ × List ℕ))
 typed_read text = typed_after text (cut 59 text)
 
--- the lists, where the text was cut behind `pt=` if it begins so
+-- the lists, where the text was cut after `pt=` if it begins so
 abbrev pub lists_after : List ℕ → Option (List ℕ) → Option (List ℕ × List (List ℕ × List ℕ))
 lists_after text None = restricted_read text >>= λ pairs. Some ([], pairs)
 lists_after text (Some typed) = typed_read typed
@@ -52,7 +52,7 @@ lists_read text = lists_after text (strip (codes "pt=") text)
 abbrev pub more_read : List ℕ → Option (List ℕ × List (List ℕ × List ℕ))
 more_read text = if is_rest text then (strip (codes " ") text >>= lists_read) else Some ([], [])
 
--- a word at the front, and what stands behind it
+-- a word at the front, and what stands after it
 abbrev pub word_read : List ℕ → List ℕ → Option (List ℕ × List ℕ)
 word_read word text = strip word text >>= λ behind. Some (word, behind)
 

@@ -5,7 +5,7 @@ use Rattle.str0m_formats.specs.Codec.{IsReadAs}
 use Rattle.str0m_sdp.specs.declared.rtp_map.RtpMap.{RtpMap as Mapping}
 use Rattle.str0m_sdp.specs.declared.label.TheConstants as label
 
--- the channels behind a clock rate: none, or `/` and a number
+-- the channels after a clock rate: none, or `/` and a number
 abbrev pub IsChannels : List ℕ → Option ℕ → Type 0
 IsChannels text None = text ≡ []
 IsChannels text (Some n) = (number : List ℕ) × (text ≡ codes "/" ++ number) × IsNum 255 number n

@@ -8,7 +8,7 @@ use Rattle.str0m_values.specs.Joined.{Parted}
 use Rattle.str0m_signal.specs.Forms.{Behind, Two}
 use Rattle.str0m_signal.specs.StreamName.{IsStreamName}
 
--- a name, behind `~` where it isn't active
+-- a name, after `~` where it isn't active
 abbrev pub IsAlternative : List ℕ → RestrictionId → Type 0
 IsAlternative text id = (text ≡ id_text id) × IsStreamName id.0
 
@@ -20,7 +20,7 @@ IsLayer text layer = (others : List RestrictionId) × Parted 44 IsAlternative te
 abbrev pub IsSide : List ℕ → List SimulcastLayer → Type 0
 IsSide = Parted 59 IsLayer
 
--- two sides, each behind its word
+-- two sides, each after its word
 abbrev pub AreBoth : List ℕ → List ℕ → List ℕ → List SimulcastLayer × List SimulcastLayer → Type 0
 AreBoth first second = Behind first (Two 32 IsSide (Behind second IsSide))
 

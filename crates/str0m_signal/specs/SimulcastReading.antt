@@ -7,7 +7,7 @@ use Rattle.str0m_values.specs.Cuts.{◌>>=◌, ◌<|>◌, cut, strip, when}
 use Rattle.str0m_signal.specs.FormReading.{behind, parted_read}
 use Rattle.str0m_signal.specs.StreamName.{is_stream_name}
 
--- a name, where the text was cut behind `~` if it begins so
+-- a name, where the text was cut after `~` if it begins so
 abbrev pub alternative_after : List ℕ → Option (List ℕ) → Option RestrictionId
 alternative_after text None = when (is_stream_name text) (record { 0 = text; 1 = true })
 alternative_after text (Some name) = when (is_stream_name name) (record { 0 = name; 1 = false })

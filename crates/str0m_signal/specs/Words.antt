@@ -22,7 +22,7 @@ IsHexPair text byte = (high : ℕ) × (low : ℕ) × (text ≡ high ∷ (low ∷
 abbrev pub IsSpace : List ℕ → Type 0
 IsSpace text = (text ≡ []) ⊎ (text ≡ codes " ")
 
--- a word, and names behind it, each behind a space; a space may end them (RFC 5888, section 5)
+-- a word, and names after it, each after a space; a space may end them (RFC 5888, section 5)
 abbrev pub AreNames : List ℕ → List ℕ → List (List ℕ) → Type 0
 AreNames text typ [] = IsWordText text typ
 AreNames text typ (name ∷ names) = Two 32 IsText (Parted 32 IsName) text (typ, name ∷ names)
@@ -30,6 +30,6 @@ AreNames text typ (name ∷ names) = Two 32 IsText (Parted 32 IsName) text (typ,
 abbrev pub IsGroup : List ℕ → List ℕ × List (List ℕ) → Type 0
 IsGroup text group = (names : List ℕ) × (end : List ℕ) × (text ≡ names ++ end) × IsSpace end × AreNames names group.0 group.1
 
--- a word and one or more words behind it, each behind a space; a space may stand before them
+-- a word and one or more words after it, each after a space; a space may stand before them
 abbrev pub IsMsidSemantic : List ℕ → List ℕ × List (List ℕ) → Type 0
 IsMsidSemantic text meant = (lead : List ℕ) × (words : List ℕ) × (text ≡ lead ++ words) × IsSpace lead × Two 32 IsText (Parted 32 IsWordText) words meant

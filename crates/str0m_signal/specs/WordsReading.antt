@@ -43,7 +43,7 @@ names_read text = names_after text (cut 32 text)
 abbrev pub group_fields_read : List ℕ → Option (List ℕ × List (List ℕ))
 group_fields_read text = names_read (without_space text)
 
--- the text behind its first space, where it begins with one
+-- the text after its first space, where it begins with one
 abbrev pub behind_space : List ℕ → Option (List ℕ) → List ℕ
 behind_space text None = text
 behind_space text (Some rest) = rest

@@ -65,7 +65,7 @@ pub record IsFrame (m : MediaLine) : Type 0 where
   pub direction : count_by is_direction m.attrs ≡ 1
   pub none_of_type : All (λ attr. is_of_type attr ≡ false) m.attrs
 
--- the only list with P stands behind the others; or no list has P
+-- the only list with P stands after the others; or no list has P
 abbrev pub PutsBack : {X : Type 0} → (List X → Type 0) → List X → List X → Bool → Type 0
 PutsBack {X} P old new true = (reads : List X) × IsTheOnly P (Some reads) × (new ≡ old ++ reads)
 PutsBack P old new false = IsTheOnly P None

@@ -21,7 +21,7 @@ pub(crate) trait Place<A> {
         ensures { IfOk result (λ _. Puts self.old item self.new) };
 }
 
-/// Behind the others of a list.
+/// After the others of a list.
 impl<A: Drop> Place<A> for Vec<A> {
     ghost Puts = { λ old item new. new.items ≡ old.items ++ item ∷ [] };
 
@@ -46,10 +46,10 @@ impl<A: Drop> Place<A> for Option<A> {
 /// What a line of `a=` and a text may say: the attributes of sessions are one such table of forms,
 /// those of sections another.
 pub(crate) trait Attribute: Drop {
-    /// Which attribute a text behind `a=` stands for.
+    /// Which attribute a text after `a=` stands for.
     ghost reading: { List ℕ → Option Self };
 
-    /// Puts the attribute of the text behind `a=` in its place, where it is one; whether it is.
+    /// Puts the attribute of the text after `a=` in its place, where it is one; whether it is.
     fn take<P: Place<Self>>(alloc: Global, text: &str, place: &mut P) -> Result<bool, AllocError>
     where
         Self: Sized,
@@ -120,7 +120,7 @@ fn next_line<A: Attribute>(alloc: Global, text: &str) -> Result<Option<(A, &str)
     }
 }
 
-/// Puts the attribute of the first line behind the others, and answers what follows that line.
+/// Puts the attribute of the first line after the others, and answers what follows that line.
 fn take_line<'a, A: Attribute>(
     alloc: Global,
     text: &'a str,

@@ -39,7 +39,7 @@ fn range(text: &str) -> Option<u8>
     digits(strip(text, "0-")?)
 }
 
-/// The value behind the payload type, where no pairs stand there.
+/// The value after the payload type, where no pairs stand there.
 pub(crate) fn bare(more: &str) -> FormatParam
     ensures { Some (result ∷ []) ≡ bare_read more.now }
 {

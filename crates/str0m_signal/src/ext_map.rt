@@ -10,7 +10,7 @@ use str0m_sdp::{MediaAttribute, label};
 use str0m_values::cuts::{cut, num_u8, strip};
 use str0m_values::{Extension, Separator};
 
-/// The number of the extension; a direction may stand behind it.
+/// The number of the extension; a direction may stand after it.
 fn id(text: &str) -> Option<u8>
     ensures { result ≡ tailed_read 47 (num 255) text.now }
 {
@@ -33,7 +33,7 @@ fn cut_far(text: &str) -> Option<(&str, &str)>
     }
 }
 
-/// The URI; more may stand behind it.
+/// The URI; more may stand after it.
 fn uri(text: &str) -> Option<&str>
     ensures { option_map (λ x. x.now) result ≡ tailed_read 32 text_read text.now }
 {
@@ -48,7 +48,7 @@ fn uri(text: &str) -> Option<&str>
     }
 }
 
-/// The extmap line of the text behind `a=`.
+/// The extmap line of the text after `a=`.
 pub(crate) fn ext_map(alloc: Global, text: &str) -> Result<Option<MediaAttribute>, AllocError>
     ensures { IfOk result (λ found. found ≡ ext_map.read text.now) }
 {

@@ -42,7 +42,7 @@ pub(crate) fn kept(alloc: Global, text: &str, label: &str) -> Result<Option<Text
     }
 }
 
-/// The texts before and behind the first `at`, where neither is nothing.
+/// The texts before and after the first `at`, where neither is nothing.
 pub(crate) fn two_texts(text: &str, at: Separator) -> Option<(&str, &str)>
     ensures { parts result ≡ two_read (code at) text_read text_read text.now }
 {

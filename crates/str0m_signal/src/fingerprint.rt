@@ -8,7 +8,7 @@ use str0m_sdp::label;
 use str0m_values::cuts::{cut, strip};
 use str0m_values::{Fingerprint, Separator, Text};
 
-/// The fingerprint of the text behind `a=`.
+/// The fingerprint of the text after `a=`.
 pub(crate) fn fingerprint(alloc: Global, text: &str) -> Result<Option<Fingerprint>, AllocError>
     ensures { IfOk result (λ found. found ≡ fingerprint.read text.now) }
 {

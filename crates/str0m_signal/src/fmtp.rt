@@ -12,7 +12,7 @@ use str0m_sdp::{MediaAttribute, label};
 use str0m_values::cuts::{before, num_u8, strip};
 use str0m_values::{Items, Pt, Separator};
 
-/// The values of pairs behind a space.
+/// The values of pairs after a space.
 fn pairs_form(alloc: Global, more: &str) -> Result<Option<Items<FormatParam>>, AllocError>
     ensures { IfOk result (λ found. found ≡ pairs_form_read more.now) }
 {
@@ -28,7 +28,7 @@ fn pairs_form(alloc: Global, more: &str) -> Result<Option<Items<FormatParam>>, A
     }
 }
 
-/// The values behind the payload type.
+/// The values after the payload type.
 fn values(alloc: Global, more: &str) -> Result<Items<FormatParam>, AllocError>
     ensures { IfOk result (λ values. Some values ≡ fmtp_values_read more.now) }
 {
@@ -40,7 +40,7 @@ fn values(alloc: Global, more: &str) -> Result<Items<FormatParam>, AllocError>
     Ok(Items::from(values))
 }
 
-/// The fmtp line of the text behind `a=`.
+/// The fmtp line of the text after `a=`.
 pub(crate) fn fmtp(alloc: Global, text: &str) -> Result<Option<MediaAttribute>, AllocError>
     ensures { IfOk result (λ found. found ≡ fmtp.read text.now) }
 {

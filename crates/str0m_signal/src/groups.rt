@@ -9,7 +9,7 @@ use str0m_sdp::{SessionAttribute, label};
 use str0m_values::cuts::{cut, strip};
 use str0m_values::{Items, Mid, Separator, Text};
 
-/// The group of a word and of names behind it.
+/// The group of a word and of names after it.
 fn names(alloc: Global, text: &str) -> Result<Option<SessionAttribute>, AllocError>
     ensures { IfOk result (λ found. found ≡ names_form_read text.now) }
 {
@@ -31,7 +31,7 @@ fn names(alloc: Global, text: &str) -> Result<Option<SessionAttribute>, AllocErr
     Ok(Some(SessionAttribute::Group { typ, mids }))
 }
 
-/// The group line of the text behind `a=`.
+/// The group line of the text after `a=`.
 pub(crate) fn group(alloc: Global, text: &str) -> Result<Option<SessionAttribute>, AllocError>
     ensures { IfOk result (λ found. found ≡ group.read text.now) }
 {
@@ -41,7 +41,7 @@ pub(crate) fn group(alloc: Global, text: &str) -> Result<Option<SessionAttribute
     }
 }
 
-/// The msid-semantic line of the text behind `a=`.
+/// The msid-semantic line of the text after `a=`.
 pub(crate) fn msid_semantic(
     alloc: Global,
     text: &str,

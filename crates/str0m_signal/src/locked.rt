@@ -36,8 +36,8 @@ fn locked_among(
     Ok(locked)
 }
 
-/// The rows of a kind of media that rounds have locked, in order: of sound and telephone events for
-/// audio, of pictures for video. Both sides have agreed on them, and an answer lists them in a section
+/// The rows of a kind of media that rounds have locked, in order: of audio and telephone events for
+/// audio, of video for video. Both sides have agreed on them, and an answer lists them in a section
 /// of that kind (RFC 3264, section 6.1; RFC 8829, section 5.3.1). Where the rows may be printed (each is
 /// plain, and no payload type stands twice), so may these, where there is one.
 ///

@@ -80,7 +80,7 @@ pub(crate) fn key(text: &str) -> Option<&str>
     if text.is_empty() { None } else { Some(text) }
 }
 
-/// What stands behind a value and its blanks: the end, or `;` and more.
+/// What stands after a value and its blanks: the end, or `;` and more.
 fn next(text: &str) -> Option<Option<&str>>
     ensures { option_map (λ o. option_map (λ x. x.now) o) result ≡ next_read text.now }
 {

@@ -64,7 +64,7 @@ fn line_back<A: ReadBack>(alloc: Global, attr: &A, text: &str) -> Result<Option<
     }
 }
 
-/// Puts what the text of the attribute is read as behind the others, nothing where it is empty; whether it comes back.
+/// Puts what the text of the attribute is read as after the others, nothing where it is empty; whether it comes back.
 fn text_back<A: ReadBack>(
     alloc: Global,
     attr: &A,
@@ -79,7 +79,7 @@ fn text_back<A: ReadBack>(
     taken_result(line_back(alloc, attr, text), reads)
 }
 
-/// Puts what the attribute comes back as, once it is printed and read, behind the others; whether it comes back.
+/// Puts what the attribute comes back as, once it is printed and read, after the others; whether it comes back.
 fn item_back<A: ReadBack + Printed>(
     alloc: Global,
     attr: &A,

@@ -19,7 +19,7 @@ use std::alloc::Global;
 use str0m_sdp::{MediaAttribute, MediaLine, Sdp, SdpError, Session, SessionAttribute};
 use str0m_values::{Candidate, Items};
 
-/// The refusal with a message, or want of memory for it.
+/// The refusal with a message, or out of memory.
 pub(crate) fn refusal(alloc: Global, message: &str) -> SdpError
     ensures { IsRefusal result }
 {
@@ -108,7 +108,7 @@ pub fn sdp_parser(alloc: Global, text: &str) -> Result<(Sdp, &str), SdpError>
 }
 
 /// Reads the first line of a text as an attribute line of a session. Answers the attribute and the
-/// rest behind the line, a slice of the text.
+/// rest after the line, a slice of the text.
 ///
 /// # Errors
 ///
@@ -128,7 +128,7 @@ pub fn session_attribute_line(
 }
 
 /// Reads the first line of a text as an attribute line of a section. Answers the attribute and the
-/// rest behind the line, a slice of the text.
+/// rest after the line, a slice of the text.
 ///
 /// # Errors
 ///
@@ -145,7 +145,7 @@ pub fn media_attribute_line(alloc: Global, text: &str) -> Result<(MediaAttribute
 }
 
 /// Reads the first line of a text as the line of a candidate (RFC 8839, section 5.1). Answers the
-/// candidate and the rest behind the line, a slice of the text.
+/// candidate and the rest after the line, a slice of the text.
 ///
 /// # Errors
 ///

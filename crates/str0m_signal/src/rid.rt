@@ -18,7 +18,7 @@ use str0m_sdp::{MediaAttribute, RestrictionId, Word, label};
 use str0m_values::cuts::{cut, strip};
 use str0m_values::{Items, Pt, Separator, Text};
 
-/// What stands behind a value: the end, or `;` and more.
+/// What stands after a value: the end, or `;` and more.
 fn next(text: &str) -> Option<Option<&str>>
     ensures { option_map (λ o. option_map (λ x. x.now) o) result ≡ next_read text.now }
 {
@@ -29,7 +29,7 @@ fn next(text: &str) -> Option<Option<&str>>
     Some(Some(more))
 }
 
-/// The restriction at the front of the text, and what stands behind it.
+/// The restriction at the front of the text, and what stands after it.
 fn restriction(text: &str) -> Option<(&str, &str, Option<&str>)>
     ensures { option_map (λ x. ((x.0.now, x.1.now), option_map (λ y. y.now) x.2)) result ≡ restriction_read text.now }
 {
@@ -56,7 +56,7 @@ fn are_restrictions(text: &str) -> bool
     }
 }
 
-/// Puts copies of a key and its value behind the others.
+/// Puts copies of a key and its value after the others.
 fn keep_pair(
     alloc: Global,
     key: &str,
@@ -129,7 +129,7 @@ struct Lists {
     restrictions: Items<(Text, Text)>,
 }
 
-/// The lists behind `pt=`. Memory is asked for only where both can be read.
+/// The lists after `pt=`. Memory is asked for only where both can be read.
 fn typed(alloc: Global, text: &str) -> Result<Option<Lists>, AllocError>
     ensures { IfOk result (λ found. option_map lists_of found ≡ typed_read text.now) }
 {
@@ -160,7 +160,7 @@ fn typed(alloc: Global, text: &str) -> Result<Option<Lists>, AllocError>
     }))
 }
 
-/// The lists behind the direction and a space.
+/// The lists after the direction and a space.
 fn listed(alloc: Global, text: &str) -> Result<Option<Lists>, AllocError>
     ensures { IfOk result (λ found. option_map lists_of found ≡ lists_read text.now) }
 {
@@ -179,7 +179,7 @@ fn listed(alloc: Global, text: &str) -> Result<Option<Lists>, AllocError>
     }
 }
 
-/// The lists behind the direction.
+/// The lists after the direction.
 fn more(alloc: Global, text: &str) -> Result<Option<Lists>, AllocError>
     ensures { IfOk result (λ found. option_map lists_of found ≡ more_read text.now) }
 {
@@ -197,7 +197,7 @@ fn more(alloc: Global, text: &str) -> Result<Option<Lists>, AllocError>
     }
 }
 
-/// The word at the front of the text, and what stands behind it.
+/// The word at the front of the text, and what stands after it.
 fn direction(text: &str) -> Option<(&'static str, &str)>
     ensures { parts result ≡ direction_read text.now }
 {
@@ -208,7 +208,7 @@ fn direction(text: &str) -> Option<(&'static str, &str)>
     Some(("recv", behind))
 }
 
-/// The name of the stream, its direction, and what stands behind them.
+/// The name of the stream, its direction, and what stands after them.
 fn fields(text: &str) -> Option<(&str, &'static str, &str)>
     ensures { option_map (λ x. (x.0.now, (x.1.now, x.2.now))) result ≡ behind label.RID.now (two_read 32 (λ name. when (is_stream_name name) name) direction_read) text.now }
 {
@@ -233,7 +233,7 @@ fn made(name: Text, word: &'static str, lists: Lists) -> MediaAttribute
     }
 }
 
-/// The rid line of the text behind `a=`.
+/// The rid line of the text after `a=`.
 pub(crate) fn rid(alloc: Global, text: &str) -> Result<Option<MediaAttribute>, AllocError>
     ensures { IfOk result (λ found. found ≡ rid.read text.now) }
 {

@@ -47,7 +47,7 @@ pub(crate) fn is_stream_name(text: &str) -> bool
         && !has(text, Separator::Tilde)
 }
 
-/// A name, behind `~` where it isn't active.
+/// A name, after `~` where it isn't active.
 impl Part for RestrictionId {
     type Value = RestrictionId;
 
@@ -152,7 +152,7 @@ fn both_sides(alloc: Global, text: &str, other: &str) -> Result<Option<Sides>, A
     Ok(Some(Sides { first, second }))
 }
 
-/// The layers of the text behind the label.
+/// The layers of the text after the label.
 fn layers(alloc: Global, text: &str) -> Result<Option<Simulcast>, AllocError>
     ensures { IfOk result (λ found. found ≡ simulcast_fields_read text.now) }
 {
@@ -181,7 +181,7 @@ fn simulcast(send: Items<SimulcastLayer>, recv: Items<SimulcastLayer>) -> Simulc
     }
 }
 
-/// The simulcast line of the text behind `a=`.
+/// The simulcast line of the text after `a=`.
 pub(crate) fn simulcast_line(
     alloc: Global,
     text: &str,

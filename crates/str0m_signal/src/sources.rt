@@ -9,7 +9,7 @@ use str0m_sdp::{MediaAttribute, label};
 use str0m_values::cuts::{cut, num_u8, num_u32, strip};
 use str0m_values::{Pt, Separator, Ssrc, Text};
 
-/// The rtcp-fb line of the text behind `a=`.
+/// The rtcp-fb line of the text after `a=`.
 pub(crate) fn rtcp_fb(alloc: Global, text: &str) -> Result<Option<MediaAttribute>, AllocError>
     ensures { IfOk result (λ found. found ≡ rtcp_fb.read text.now) }
 {
@@ -32,7 +32,7 @@ pub(crate) fn rtcp_fb(alloc: Global, text: &str) -> Result<Option<MediaAttribute
     }))
 }
 
-/// The ssrc line of the text behind `a=`.
+/// The ssrc line of the text after `a=`.
 pub(crate) fn ssrc(alloc: Global, text: &str) -> Result<Option<MediaAttribute>, AllocError>
     ensures { IfOk result (λ found. found ≡ ssrc.read text.now) }
 {
@@ -57,7 +57,7 @@ pub(crate) fn ssrc(alloc: Global, text: &str) -> Result<Option<MediaAttribute>, 
     }))
 }
 
-/// The ssrc-group line of the text behind `a=`.
+/// The ssrc-group line of the text after `a=`.
 pub(crate) fn ssrc_group(alloc: Global, text: &str) -> Result<Option<MediaAttribute>, AllocError>
     ensures { IfOk result (λ found. found ≡ ssrc_group.read text.now) }
 {

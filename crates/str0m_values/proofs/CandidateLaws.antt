@@ -19,7 +19,7 @@ use Rattle.str0m_values.specs.declared.candidate_label.TheConstants as candidate
 
 -- ---- what may follow a part
 
--- the labels of the parts behind the kind, from each of them on
+-- the labels of the parts after the kind, from each of them on
 abbrev from_cost : List (List ℕ)
 from_cost = candidate_label.NETWORK_COST.now ∷ []
 
@@ -152,7 +152,7 @@ last_complete text x h =
     ∙ bind_is _ _ _ _ ((optional_front candidate_label.GENERATION.now).complete h.generation h.generation_is.0 r₂ h.generation_is.1 b₁)
     (bind_is _ _ _ _ (names_front.complete h.names x h.cost h.names_are b₂) (bind_is _ _ _ _ (cost_complete h.cost h.cost_is) refl))
 
--- ---- the parts behind the kind
+-- ---- the parts after the kind
 
 record IsExtras (text : List ℕ) (x : Extras) : Type 0 where
   related : List ℕ

@@ -90,7 +90,7 @@ name = candidate_label.UFRAG.now
 abbrev pub EndsNames : List ℕ → Type 0
 EndsNames rest = Ends rest × (strip network rest ≡ None) × (strip name rest ≡ None)
 
--- what is read behind the first two
+-- what is read after the first two
 abbrev behind_read : Option (List ℕ) → Option (List ℕ) × List ℕ → Option (Option (List ℕ) × List ℕ)
 behind_read first named =
     if is_some first || is_none named.0 then Some named

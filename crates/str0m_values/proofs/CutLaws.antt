@@ -108,7 +108,7 @@ before_rest c text = go (cut c text) refl
     go None e = ([], sym (append-nil text))
     go (Some p) e = (c ∷ p.1, (cut_found c text p.0 p.1 e).0)
 
--- behind what goes before stands the rest
+-- after what goes before stands the rest
 pub strip_before : (c : ℕ) (text : List ℕ) → strip (before c text) text ≡ Some (drop (length (before c text)) text)
 strip_before c text = let rest = before_rest c text in go (before c text) text rest.0 rest.1
   where

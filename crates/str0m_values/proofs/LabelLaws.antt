@@ -1,4 +1,4 @@
--- Words behind labels are read both ways.
+-- Words after labels are read both ways.
 use Rattle.str0m_values.proofs.Common.{◌≡◌, ◌⊎◌, ℕ, List, [], ◌∷◌, ◌++◌, length, drop, false, Option, Some, None, refl, sym, ap, ◌∙◌, inl, inr, arith, append-nil, append_assoc, AllByRecursion, ltb-true, ◌==◌}
 use Rattle.str0m_values.specs.Parts.{IsWord}
 use Rattle.str0m_values.specs.Cuts.{◌>>=◌, before, strip}
@@ -16,7 +16,7 @@ bound o f y e then = grind arith
 pub bind_is : {A B : Type 0} (o : Option A) (x : A) (f : A → Option B) (y : Option B) → o ≡ Some x → f x ≡ y → (o >>= f) ≡ y
 bind_is o x f y e more = ap (λ p. p >>= f) e ∙ more
 
--- ---- what may stand behind a part
+-- ---- what may stand after a part
 
 -- nothing, or text that begins with one of the labels
 abbrev pub Starts : List (List ℕ) → List ℕ → Type 0
@@ -41,7 +41,7 @@ EndsWithout label rest = Ends rest × (strip label rest ≡ None)
 
 -- ---- parts
 
--- p reads a part with its value by F from the front of a text, where Behind holds of what follows
+-- p reads a part with its value by F from the front of a text, where After holds of what follows
 pub record Front {B : Type 0} (F : List ℕ → B → Type 0) (Behind : List ℕ → Type 0) (p : List ℕ → Option (B × List ℕ)) : Type 0 where
   pub sound : (text : List ℕ) (x : B × List ℕ) → p text ≡ Some x → (part : List ℕ) × (text ≡ part ++ x.1) × F part x.0
   pub complete : (part : List ℕ) (x : B) (rest : List ℕ) → F part x → Behind rest → p (part ++ rest) ≡ Some (x, rest)
@@ -52,7 +52,7 @@ word_sound text x e = grind (arith, bound, when_some, ltb-true, before_lacks, so
 word_complete : (word rest : List ℕ) → IsWord word → Ends rest → word_read (word ++ rest) ≡ Some (word, rest)
 word_complete word rest h ends = grind (arith, before_front, append-nil, rest_true, strip_at)
 
--- the word that isn't empty, and what stands behind it
+-- the word that isn't empty, and what stands after it
 pub word_before : (text : List ℕ) → false ≡ (length (before 32 text) == 0) → Some (before 32 text, drop (length (before 32 text)) text) ≡ word_read text
 word_before text some = grind (arith, rest_true, strip_before)
 

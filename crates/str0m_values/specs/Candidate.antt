@@ -1,4 +1,4 @@
--- The text of a candidate, which stands behind `a=` (RFC 8839 section 5.1; for tcptype RFC 6544 section 4.5).
+-- The text of a candidate, which stands after `a=` (RFC 8839 section 5.1; for tcptype RFC 6544 section 4.5).
 use Rattle.std.specs.Prelude.{◌≡◌, ◌⊎◌, ◌<◌, ◌^◌, IfSome, ℕ, List, [], ◌++◌, Option, Some, None, codes}
 use Rattle.std.specs.Fmt.{decimal}
 use Rattle.str0m_values.specs.declared.address.SocketAddr.{SocketAddr}
@@ -12,7 +12,7 @@ use Rattle.str0m_values.specs.declared.candidate_label.TheConstants as candidate
 
 -- ---- what a text stands for
 
--- a word that is an address and a word that is a port, each behind its label
+-- a word that is an address and a word that is a port, each after its label
 abbrev pub IsSocket : List ℕ → List ℕ → List ℕ → SocketAddr → Type 0
 IsSocket ip_label port_label text addr =
     (ip : List ℕ) × (port : List ℕ) × (text ≡ ip ++ port) × IsLabelled ip_label IsIpText ip addr.ip × IsLabelled port_label (IsNum 65535) port addr.port
@@ -57,7 +57,7 @@ pub record IsCandidateText (text : List ℕ) (c : Candidate) : Type 0 where
 
 -- ---- what is printed
 
--- an address and a port, each behind its label
+-- an address and a port, each after its label
 abbrev pub socket_text : List ℕ → List ℕ → SocketAddr → List ℕ
 socket_text ip_label port_label addr = ip_label ++ (ip_text addr.ip ++ (port_label ++ decimal addr.port))
 
@@ -65,7 +65,7 @@ abbrev pub related_text : Option SocketAddr → List ℕ
 related_text None = []
 related_text (Some addr) = socket_text candidate_label.RELATED_ADDRESS.now candidate_label.RELATED_PORT.now addr
 
--- the parts that stand behind the kind
+-- the parts that stand after the kind
 abbrev pub extras_text : Candidate → List ℕ
 extras_text c = related_text c.raddr ++ (optional_text candidate_label.TCP_TYPE.now tcp_type_text c.tcptype ++ optional_text candidate_label.UFRAG.now (λ t. t) c.ufrag)
 

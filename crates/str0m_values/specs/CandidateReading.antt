@@ -24,7 +24,7 @@ tcp_type_read word = case_alike tcp_type_text TCP_TYPES word
 abbrev pub kind_read : List ℕ → Option CandidateKind
 kind_read word = case_of kind_text KINDS word
 
--- an address and a port, each behind its label, and what stands behind them
+-- an address and a port, each after its label, and what stands after them
 abbrev pub socket_read : List ℕ → List ℕ → List ℕ → Option (SocketAddr × List ℕ)
 socket_read ip_label port_label text = do
   ip ← part_read ip_label ip_read text
@@ -43,7 +43,7 @@ tcp_part_read text = do
   tcp_type ← value_read tcp_type_read word.0
   Some (tcp_type, word.1)
 
--- a network's id is looked for behind the name fragment where none stood before it
+-- a network's id is looked for after the name fragment where none stood before it
 abbrev pub names_read : List ℕ → Option (Option (List ℕ) × List ℕ)
 names_read text = do
   network ← optional_read candidate_label.NETWORK_ID.now text
@@ -66,7 +66,7 @@ lead_read text = do
   priority ← part_read (codes " ") (num 4294967295) protocol.1
   Some (record { foundation = foundation.0; component_id = component.0; proto = protocol.0; prio = priority.0 }, priority.1)
 
--- the name fragment of the last parts, behind which nothing stands
+-- the name fragment of the last parts, after which nothing stands
 abbrev pub last_read : List ℕ → Option (Option (List ℕ))
 last_read text = do
   generation ← optional_read candidate_label.GENERATION.now text
@@ -74,7 +74,7 @@ last_read text = do
   cost ← optional_read candidate_label.NETWORK_COST.now names.1
   if is_rest cost.1 then None else Some names.0
 
--- what is kept of the parts behind the kind
+-- what is kept of the parts after the kind
 pub record Extras : Type 0 where
   pub raddr : Option SocketAddr
   pub tcptype : Option TcpType

@@ -62,7 +62,7 @@ IsBytesReading text (Err NoSpace) = ⊥
 IsBytesReading text (Err BadByte) = HasBadPiece text
 IsBytesReading text (Err Memory) = ⊤
 
--- what a text is read as, or why it isn't; memory is asked for only behind a space
+-- what a text is read as, or why it isn't; memory is asked for only after a space
 abbrev pub IsReading : List ℕ → Result Fingerprint FingerprintError → Type 0
 IsReading text (Ok f) = IsFingerprint text f
 IsReading text (Err NoSpace) = Lacks 32 text

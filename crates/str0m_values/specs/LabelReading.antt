@@ -1,15 +1,15 @@
--- Reading of words behind labels as functions. The relations are in Labels.
+-- Reading of words after labels as functions. The relations are in Labels.
 use Rattle.std.specs.Prelude.{List, ℕ, Option, Some, None}
 use Rattle.str0m_values.specs.Cuts.{◌>>=◌, before, strip, when, is_rest}
 
--- the word at the front, and what stands behind it
+-- the word at the front, and what stands after it
 abbrev pub word_read : List ℕ → Option (List ℕ × List ℕ)
 word_read text = do
   word ← when (is_rest (before 32 text)) (before 32 text)
   rest ← strip word text
   Some (word, rest)
 
--- the word behind a label, and what stands behind it
+-- the word after a label, and what stands after it
 abbrev pub labelled_read : List ℕ → List ℕ → Option (List ℕ × List ℕ)
 labelled_read label text = strip label text >>= word_read
 
@@ -20,7 +20,7 @@ part_read label f text = do
   x ← f word.0
   Some (x, word.1)
 
--- the word where the label stands, else nothing, and what stands behind it
+-- the word where the label stands, else nothing, and what stands after it
 abbrev pub optional_after : List ℕ → Option (List ℕ) → Option (Option (List ℕ) × List ℕ)
 optional_after text None = Some (None, text)
 optional_after text (Some body) = word_read body >>= λ word. Some (Some word.0, word.1)

@@ -1,4 +1,4 @@
--- Words behind labels, as the parts of a line.
+-- Words after labels, as the parts of a line.
 use Rattle.std.specs.Prelude.{◌≡◌, ℕ, List, [], ◌++◌, Option, Some, None}
 use Rattle.str0m_values.specs.Parts.{IsWord}
 
@@ -6,7 +6,7 @@ use Rattle.str0m_values.specs.Parts.{IsWord}
 abbrev pub IsSame : List ℕ → List ℕ → Type 0
 IsSame text x = x ≡ text
 
--- a label, and behind it a word with its value by F
+-- a label, and after it a word with its value by F
 abbrev pub IsLabelled : {B : Type 0} → List ℕ → (List ℕ → B → Type 0) → List ℕ → B → Type 0
 IsLabelled label F part x = (word : List ℕ) × (part ≡ label ++ word) × IsWord word × F word x
 

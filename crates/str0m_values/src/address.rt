@@ -9,7 +9,9 @@ use std::net::{self, IpAddr as NetIpAddr};
 /// in the order in which they are written.
 #[derive(Clone, Copy, Debug, PartialEq, Eq, Hash)]
 pub enum IpAddr {
+    /// The four octets, the first one first.
     V4([u8; 4]),
+    /// The eight groups of 16 bits, the first one first.
     V6([u16; 8]),
 }
 
@@ -81,7 +83,9 @@ impl fmt::Display for IpAddr {
 /// An IP address and a port.
 #[derive(Clone, Copy, Debug, PartialEq, Eq, Hash)]
 pub struct SocketAddr {
+    /// The address.
     pub ip: IpAddr,
+    /// The port, 0 to 65535.
     pub port: u16,
 }
 

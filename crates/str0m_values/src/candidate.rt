@@ -110,7 +110,7 @@ impl Candidate {
         self.kind
     }
 
-    /// The related address: the host's own behind a reflexive or a relayed one; `None` where none was named.
+    /// The related address: the host's own after a reflexive or a relayed one; `None` where none was named.
     pub fn raddr(&self) -> Option<SocketAddr>
         ensures { result ≡ self.now.raddr }
     {
@@ -187,7 +187,7 @@ impl fmt::Display for Related {
     }
 }
 
-/// How a connection is opened, behind its label, where it is said.
+/// How a connection is opened, after its label, where it is said.
 #[derive(Drop)]
 struct OpenedBy(Option<TcpType>);
 
@@ -206,7 +206,7 @@ impl fmt::Display for OpenedBy {
     }
 }
 
-/// The username fragment behind its label, where there is one.
+/// The username fragment after its label, where there is one.
 #[derive(Drop)]
 struct Fragment<'a>(&'a Option<Text>);
 
@@ -256,7 +256,7 @@ impl<'a> fmt::Display for CandidateParts<'a> {
     }
 }
 
-/// The foundation and the component of a candidate, behind its label.
+/// The foundation and the component of a candidate, after its label.
 #[derive(Drop)]
 struct CandidateName<'a>(&'a Candidate);
 
@@ -275,7 +275,7 @@ impl<'a> fmt::Display for CandidateName<'a> {
     }
 }
 
-/// A transport and a priority, each behind a space.
+/// A transport and a priority, each after a space.
 #[derive(Drop)]
 struct Transport {
     proto: Protocol,
@@ -298,7 +298,7 @@ impl fmt::Display for Transport {
     }
 }
 
-/// An address and a port, each behind its label.
+/// An address and a port, each after its label.
 #[derive(Drop)]
 struct LabelledSocket {
     ip_label: &'static str,

@@ -28,7 +28,7 @@ struct Lead<'a> {
     prio: u32,
 }
 
-/// What is kept of the parts behind the kind, likewise.
+/// What is kept of the parts after the kind, likewise.
 #[derive(Clone, Copy)]
 struct Extras<'a> {
     raddr: Option<SocketAddr>,
@@ -66,7 +66,7 @@ fn priority(text: &str) -> Option<(u32, &str)>
     Some((num_u32(word)?, rest))
 }
 
-/// An address and a port, each behind its label.
+/// An address and a port, each after its label.
 fn socket<'a>(text: &'a str, ip_label: &str, port_label: &str) -> Option<(SocketAddr, &'a str)>
     ensures { option_map (λ x. (x.0, x.1.now)) result ≡ socket_read ip_label.now port_label.now text.now }
 {
@@ -140,7 +140,7 @@ fn before_address(text: &str) -> Option<(Lead<'_>, &str)>
     ))
 }
 
-/// The username fragment of the last parts, where nothing stands behind them.
+/// The username fragment of the last parts, where nothing stands after them.
 fn last(text: &str) -> Option<Option<&str>>
     ensures { option_map (λ x. option_map (λ w. w.now) x) result ≡ last_read text.now }
 {

@@ -9,9 +9,13 @@ use std::fmt;
 /// Which ways media flow, as seen by the side whose description says it (RFC 8866, section 6.7).
 #[derive(Clone, Copy, Debug, PartialEq, Eq, Hash)]
 pub enum Direction {
+    /// `sendrecv`: media flow both ways.
     SendRecv,
+    /// `sendonly`: this side sends and doesn't receive.
     SendOnly,
+    /// `recvonly`: this side receives and doesn't send.
     RecvOnly,
+    /// `inactive`: no media flow.
     Inactive,
 }
 

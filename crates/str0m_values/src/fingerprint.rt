@@ -153,7 +153,7 @@ impl<'a> fmt::Display for FingerprintFmt<'a> {
     }
 }
 
-/// Bytes, each as two upper-case hex digits behind a `:`, written by fours.
+/// Bytes, each as two upper-case hex digits after a `:`, written by fours.
 #[derive(Drop)]
 struct MorePairs<'a>(&'a [u8]);
 

@@ -46,7 +46,9 @@ pub enum H264Level {
 /// A profile and a level of H264, as a profile-level-id names them (RFC 6184, section 8.1).
 #[derive(Clone, Copy, Debug, PartialEq, Eq, Hash)]
 pub struct H264ProfileLevel {
+    /// Which tools a stream may use.
     pub profile: H264Profile,
+    /// What a decoder has to bear.
     pub level: H264Level,
 }
 

@@ -8,7 +8,9 @@ use std::alloc::AllocError;
 /// section 5.4). Any texts can be held.
 #[derive(Clone, Debug, PartialEq, Eq, Drop)]
 pub struct IceCreds {
+    /// The username fragment, of `a=ice-ufrag`.
     pub ufrag: Text,
+    /// The password, of `a=ice-pwd`.
     pub pass: Text,
 }
 

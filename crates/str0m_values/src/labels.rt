@@ -1,4 +1,4 @@
-//! Words behind labels.
+//! Words after labels.
 ghost use Rattle.std.specs.Prelude.{◌≡◌, option_map};
 ghost use Rattle.str0m_values.specs.Cuts.{parts};
 ghost use Rattle.str0m_values.specs.LabelReading.{word_read, labelled_read, optional_read};
@@ -6,7 +6,7 @@ ghost use Rattle.str0m_values.specs.LabelReading.{word_read, labelled_read, opti
 use crate::cuts::{before, strip};
 use crate::separator::Separator;
 
-/// The word at the front of a text, and what stands behind it.
+/// The word at the front of a text, and what stands after it.
 pub(crate) fn word(text: &str) -> Option<(&str, &str)>
     ensures { parts result ≡ word_read text.now }
 {
@@ -17,14 +17,14 @@ pub(crate) fn word(text: &str) -> Option<(&str, &str)>
     Some((word, &text[word.len()..]))
 }
 
-/// The word behind a label, and what stands behind it.
+/// The word after a label, and what stands after it.
 pub(crate) fn labelled<'a>(text: &'a str, label: &str) -> Option<(&'a str, &'a str)>
     ensures { parts result ≡ labelled_read label.now text.now }
 {
     word(strip(text, label)?)
 }
 
-/// The word behind a label, or nothing where the label doesn't stand, and what stands behind it.
+/// The word after a label, or nothing where the label doesn't stand, and what stands after it.
 pub(crate) fn optional<'a>(text: &'a str, label: &str) -> Option<(Option<&'a str>, &'a str)>
     ensures { option_map (λ x. (option_map (λ w. w.now) x.0, x.1.now)) result ≡ optional_read label.now text.now }
 {

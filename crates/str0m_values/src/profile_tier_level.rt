@@ -42,8 +42,11 @@ pub trait Leveled: Numbered {
 /// A profile, a tier and a level of one codec: what a stream holds, or what a decoder bears.
 #[derive(Clone, Copy, Debug, PartialEq, Eq, Hash)]
 pub struct ProfileTierLevel<P, T, L> {
+    /// Which tools a stream may use.
     pub profile: P,
+    /// How high the bit rate of the level may be.
     pub tier: T,
+    /// What a decoder has to bear.
     pub level: L,
 }
 

@@ -9,10 +9,13 @@ use std::fmt;
 /// The transport of a candidate (RFC 8839, section 5.1; RFC 6544, section 4.5).
 #[derive(Clone, Copy, Debug, PartialEq, Eq, Hash)]
 pub enum Protocol {
+    /// UDP.
     Udp,
+    /// TCP (RFC 6544).
     Tcp,
     /// TCP that begins with an SSL handshake, which gets it past some proxies.
     SslTcp,
+    /// TLS over TCP.
     Tls,
 }
 

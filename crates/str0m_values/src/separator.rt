@@ -6,14 +6,23 @@ ghost use Rattle.str0m_values.specs.Separator.{code};
 /// falls between two characters.
 #[derive(Clone, Copy, Debug, PartialEq, Eq)]
 pub enum Separator {
+    /// LF.
     LineFeed,
+    /// CR.
     CarriageReturn,
+    /// A space.
     Space,
+    /// `,`.
     Comma,
+    /// `/`.
     Slash,
+    /// `:`.
     Colon,
+    /// `;`.
     Semicolon,
+    /// `=`.
     Equals,
+    /// `~`.
     Tilde,
 }
 

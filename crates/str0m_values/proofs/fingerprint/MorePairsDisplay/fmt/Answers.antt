@@ -3,7 +3,7 @@ use Rattle.std.proofs.lemmas.List.Concat.{flat_map-append}
 use Rattle.str0m_values.specs.Fingerprint.{hex_pair}
 use Rattle.str0m_values.proofs.fingerprint.MorePairsDisplay.fmt.Goals as goal
 
--- bytes, each behind its colon
+-- bytes, each after its colon
 abbrev pairs : List ℕ → List ℕ
 pairs = flat_map (λ byte. 58 ∷ hex_pair byte)
 
