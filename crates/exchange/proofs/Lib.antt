@@ -1,3 +1,4 @@
+pub mod AcceptedLaws
 pub mod AnswerLaws
 pub mod BundleLaws
 pub mod CopyLaws

@@ -79,27 +79,25 @@ fn track_id(alloc: Global, mid: Mid) -> Result<Text, AllocError>
     Ok(Text::from(id))
 }
 
-/// The stream and the track, where this side sends.
-pub(crate) fn msid_lines(
-    alloc: Global,
+/// Puts the stream and the track behind other lines, where this side sends.
+pub(crate) fn push_msid(
+    lines: &mut Vec<MediaAttribute>,
     own: &OwnSide,
     direction: Direction,
     mid: Mid,
-) -> Result<Vec<MediaAttribute>, AllocError>
-    ensures { IfOk result (λ lines. lines.items ≡ msid_lines own.now direction mid) }
+) -> Result<(), AllocError>
+    ensures { OnOk result (lines.new.items ≡ lines.old.items ++ msid_lines own.now direction mid) }
 {
     if !direction.sends() {
-        return Ok(Vec::new(alloc));
+        return Ok(());
     }
     let stream_id = own.stream_id.clone()?;
-    let track_id = track_id(alloc, mid)?;
-    let lines = vec![in alloc;
-        MediaAttribute::Msid(Msid {
-            stream_id,
-            track_id
-        }),
-    ]?;
-    Ok(lines)
+    let track_id = track_id(*lines.allocator(), mid)?;
+    lines.push(MediaAttribute::Msid(Msid {
+        stream_id,
+        track_id,
+    }))?;
+    Ok(())
 }
 
 fn tells_layer(line: &MediaAttribute) -> bool
@@ -166,23 +164,24 @@ fn framed(
     Ok(frame)
 }
 
-/// What media says in this direction, but for its rows.
-fn media_lines(
-    alloc: Global,
+/// Puts what media says in this direction, but for its rows, behind other lines.
+fn push_media(
+    lines: &mut Vec<MediaAttribute>,
     own: &OwnSide,
     offered: &MediaLine,
     mid: Mid,
     direction: Direction,
     rows: &[PayloadParams],
-) -> Result<Vec<MediaAttribute>, AllocError>
-    ensures { IfOk result (λ lines. lines.items ≡ media_lines own.now offered.now mid direction rows.now) }
+) -> Result<(), AllocError>
+    ensures { OnOk result (lines.new.items ≡ lines.old.items ++ media_lines own.now offered.now mid direction rows.now) }
 {
-    let mut lines = vec![in alloc; MediaAttribute::from(direction)]?;
+    let alloc = *lines.allocator();
+    lines.push(MediaAttribute::from(direction))?;
     lines.append(&mut candidate_lines(alloc, own)?)?;
     lines.append(&mut repeated(alloc, own.extensions.as_slice(), offered)?)?;
-    lines.append(&mut msid_lines(alloc, own, direction, mid)?)?;
+    push_msid(lines, own, direction, mid)?;
     lines.append(&mut layer_lines(alloc, own, direction, offered, rows)?)?;
-    Ok(lines)
+    Ok(())
 }
 
 /// How many lines a section may have, as a guess that most don't pass: no answer depends on it. A stranger's long section doesn't
@@ -270,7 +269,7 @@ pub(crate) fn accepted_media(
     let direction = offered.direction().answer(own.direction_for(offered));
     let mut lines = Vec::with_capacity(alloc, likely_lines(own, offered))?;
     lines.append(&mut first_lines(alloc, own, mid, role)?)?;
-    lines.append(&mut media_lines(alloc, own, offered, mid, direction, rows)?)?;
+    push_media(&mut lines, own, offered, mid, direction, rows)?;
     made(alloc, offered, lines, rows)
 }
 

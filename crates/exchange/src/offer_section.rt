@@ -5,7 +5,7 @@ ghost use Rattle.std.specs.Option.{option_copied};
 ghost use Rattle.str0m_formats.specs.KindRows.{kind_rows};
 ghost use Rattle.exchange.specs.OfferSection.{asked_lines, flow_lines, is_extension, is_kept, is_mux, is_own, is_rsize, is_said, is_same, kept_lines, new_section, next_section, offered_channels, offered_media, section_with, type_of};
 
-use crate::accepted::{candidate_lines, channel_lines, first_lines, msid_lines};
+use crate::accepted::{candidate_lines, channel_lines, first_lines, push_msid};
 use crate::added::{Added, Placed};
 use crate::exchange::Exchange;
 use crate::own_side::{OwnSide, SectionDirection};
@@ -75,7 +75,7 @@ fn flow_lines(
     let mut lines = vec![in alloc; MediaAttribute::from(direction)]?;
     lines.append(&mut candidate_lines(alloc, own)?)?;
     lines.append(&mut asked)?;
-    lines.append(&mut msid_lines(alloc, own, direction, mid)?)?;
+    push_msid(&mut lines, own, direction, mid)?;
     Ok(lines)
 }
 
