@@ -6,8 +6,7 @@ use Rattle.str0m_formats.specs.declared.codec_spec.CodecSpec.{CodecSpec}
 use Rattle.str0m_formats.specs.declared.payload_params.PayloadParams.{PayloadParams}
 use Rattle.str0m_formats.specs.Narrowing.{narrowed, levels_differ}
 use Rattle.str0m_formats.specs.Rounds.{Leaves}
-use Rattle.str0m_formats.specs.Scores.{same_spec, same_codec, same_number, same_or}
-use Rattle.str0m_formats.specs.Scores.{h264_level_score, codec_score, score}
+use Rattle.str0m_formats.specs.Scores.{same_spec, same_codec, same_number, same_or, h264_level_score, codec_score, score}
 use Rattle.str0m_formats.specs.Promises.{NamesNoHigher, LevelsNarrow}
 use Rattle.str0m_formats.proofs.FormatEqual.{codec_Decides, spec_Decides}
 use Rattle.str0m_formats.proofs.ScoreRules.{either_way, score_rules}

@@ -1,12 +1,10 @@
 -- What pairs read as, together.
 use Rattle.str0m_formats.proofs.Common.{arith, ◌≡◌, ◌||◌, ℕ, Bool, true, false, cond, List, [], ◌∷◌, map, refl, sym, ap, subst, ◌∙◌, MatchBool, list_any, Bor}
 use Rattle.str0m_formats.specs.declared.format_param.FormatParam.{FormatParam}
-use Rattle.str0m_formats.specs.FormatParam.{AreParsed}
+use Rattle.str0m_formats.specs.FormatParam.{AreParsed, pair_texts}
 use Rattle.str0m_formats.specs.ParamReading.{param_of}
-use Rattle.str0m_formats.specs.Pairs.{has_mark, merged, others, texts_of, AreJoined, AreRead}
+use Rattle.str0m_formats.specs.Pairs.{has_mark, merged, others, texts_of, is_mark, AreJoined, AreRead}
 use Rattle.str0m_formats.specs.PairsReading.{triple_read, joined_read, params_read}
-use Rattle.str0m_formats.specs.FormatParam.{pair_texts}
-use Rattle.str0m_formats.specs.Pairs.{is_mark}
 use Rattle.str0m_formats.proofs.ParamLaws.{all_parsed, all_parsed_only}
 use Rattle.str0m_formats.proofs.TripleLaws.{triple_is, triple_only}
 

@@ -10,8 +10,7 @@ use Rattle.str0m_formats.specs.PlainRow.{IsPlain}
 use Rattle.str0m_formats.specs.Rows.{AllSmall, types, locked_types}
 use Rattle.str0m_formats.specs.Rounds.{Leaves}
 use Rattle.str0m_formats.specs.Runs.{Outcome, Ran, Reached, AtEachOk}
-use Rattle.str0m_formats.specs.Promises.{AtEachRow, StaysLocked}
-use Rattle.str0m_formats.specs.Promises.{Promises, OnlyForMemory, RunPromises}
+use Rattle.str0m_formats.specs.Promises.{AtEachRow, StaysLocked, Promises, OnlyForMemory, RunPromises}
 use Rattle.str0m_formats.proofs.WholeRound.{row_before}
 use Rattle.str0m_formats.proofs.Counting.{never_exhausted}
 use Rattle.str0m_formats.proofs.LockedStays.{stays-same, stays-then}

@@ -1,6 +1,5 @@
 -- What every accepted round promises, read off the rows before it, the remote rows and the rows after it alone.
-use Rattle.std.specs.Prelude.{◌≡◌, ◌≢◌, ◌≤◌, ℕ, Bool, true, false, Option, Some, None, Ok, Err, OnOk, OnErr, IfErr, List, ◌++◌, length, slice_get}
-use Rattle.std.specs.Prelude.{Contains, All}
+use Rattle.std.specs.Prelude.{◌≡◌, ◌≢◌, ◌≤◌, ℕ, Bool, true, false, Option, Some, None, Ok, Err, OnOk, OnErr, IfErr, List, ◌++◌, length, slice_get, Contains, All}
 use Rattle.str0m_values.specs.Direction.{receives}
 use Rattle.str0m_values.specs.H264.{named, level_ordinal}
 use Rattle.str0m_values.specs.declared.h264.H264ProfileLevel.{H264ProfileLevel}

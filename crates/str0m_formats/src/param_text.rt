@@ -1,8 +1,7 @@
 //! How parameters of formats print.
 ghost use Rattle.std.specs.Prelude.{◌≡◌, ◌++◌, Some, codes};
 ghost use Rattle.std.specs.Fmt.{decimal};
-ghost use Rattle.str0m_formats.specs.FormatParam.{flag_text, six_digits, mode_list, triple_text, param_text};
-ghost use Rattle.str0m_formats.specs.FormatParam.{entry, entry_text, part_if};
+ghost use Rattle.str0m_formats.specs.FormatParam.{entry, entry_text, flag_text, mode_list, param_text, part_if, six_digits, triple_text};
 ghost use Rattle.str0m_formats.specs.ParamText.{shown};
 
 use crate::format_param::FormatParam;

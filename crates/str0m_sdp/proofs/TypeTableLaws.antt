@@ -1,6 +1,6 @@
 -- Tables by payload type, one attribute more.
 use Rattle.str0m_sdp.proofs.Common.{arith, ◌≡◌, ◌<◌, ◌+◌, ◌++◌, ℕ, true, false, List, [], ◌∷◌, length, take, get_or, Option, None, count_by, refl, sym, ap, ◌∙◌, inl, inr, cases_eq, eq-eqb, ne_eqb, take_at_read, get_or-set_same, get_or-set_other, FormatParam, ◌<|>◌, is_some, set, count_by_more_no, count_by_more_yes}
-use Rattle.str0m_sdp.specs.Consistency.{maps, apt_among, apt_in, first_apt, AgreesOnApt}
+use Rattle.str0m_sdp.specs.Consistency.{maps, apt_among, apt_in, first_apt}
 use Rattle.str0m_sdp.specs.declared.attribute.MediaAttribute.{MediaAttribute}
 use Rattle.str0m_sdp.specs.declared.attribute.MediaAttribute.TheVariants.{RtpMap, Fmtp}
 use Rattle.str0m_sdp.specs.declared.rtp_map.RtpMap.{RtpMap as Mapping}
@@ -101,7 +101,3 @@ first_named attrs firsts i n values attr lt row is variant none pt so_far =
           get_or-set_other firsts n pt (apt_among values) None (λ same. apart (sym same))
           ∙ first_same attrs firsts i attr lt is pt (ap (apt_in pt) variant ∙ apt_apart n pt values apart) so_far
     ]
-
--- what is no fmtp line agrees
-pub agrees_other : (attrs : List MediaAttribute) (attr : MediaAttribute) → ((n : ℕ) (values : List FormatParam) → attr ≡ Fmtp n values → ⊥) → AgreesOnApt attrs attr
-agrees_other attrs attr other = grind arith

@@ -3,7 +3,7 @@ ghost use Rattle.std.specs.Prelude.{Some};
 ghost use Rattle.str0m_sdp.specs.Group.{group_text, msid_semantic_text};
 
 use crate::label;
-use crate::printed::{Paired, behind_spaces, spaced};
+use crate::printed::{Led, Paired, spaced};
 use std::fmt;
 use str0m_values::{Items, Mid, Text};
 
@@ -18,7 +18,11 @@ impl<'a> fmt::Display for GroupLine<'a> {
     ghost output = { λ line. Some (group_text line.typ.now line.mids.now) };
 
     fn fmt<W: fmt::Write>(&self, f: &mut fmt::Formatter<W>) -> fmt::Result {
-        let (typ, mids) = (self.typ, behind_spaces(self.mids.as_slice()));
+        let typ = self.typ;
+        let mids = Led {
+            items: self.mids.as_slice(),
+            lead: " ",
+        };
         write!(f, "a={}{typ}{mids}\r\n", label::GROUP)
     }
 }

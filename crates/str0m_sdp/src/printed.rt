@@ -79,14 +79,6 @@ pub(crate) struct Led<'a, T> {
     pub(crate) lead: &'a str,
 }
 
-/// Items, each after a space.
-pub(crate) fn behind_spaces<T>(items: &[T]) -> Led<T>
-    ensures items { result.items.now ≡ items.now }
-    ensures lead { result.lead.now ≡ codes " " }
-{
-    Led { items, lead: " " }
-}
-
 impl<'a, T: Printed> fmt::Display for Led<'a, T> {
     ghost output = { λ led. Some (flat_map (λ item. led.lead.now ++ T.text item) led.items.now) };
 

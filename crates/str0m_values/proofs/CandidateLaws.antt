@@ -9,7 +9,7 @@ use Rattle.str0m_values.specs.Parts.{IsNum}
 use Rattle.str0m_values.specs.CandidateKind.{IsKindText}
 use Rattle.str0m_values.specs.Protocol.{IsProtocolText, IsTcpTypeText}
 use Rattle.str0m_values.specs.Candidate.{IsSocket, IsRelated, AreNames, IsCandidateText}
-use Rattle.str0m_values.specs.CandidateReading.{Lead, Extras, protocol_read, kind_read, socket_read, related_read, tcp_part_read, names_read, lead_read, last_read, extras_read, candidate_read}
+use Rattle.str0m_values.specs.CandidateReading.{Lead, Extras, protocol_read, kind_read, socket_read, related_read, tcp_part_read, names_read, lead_read, last_read, extras_read, candidate_of, candidate_read}
 use Rattle.str0m_values.proofs.BothWays.{Reads, some_is}
 use Rattle.str0m_values.proofs.NumLaws.{rest_true}
 use Rattle.str0m_values.proofs.CandidateWords.{protocol_both, kind_both}
@@ -204,22 +204,11 @@ candidate_sound text c e =
     bound (socket_read (codes " ") (codes " ") lead.1) _ _ k₁ λ address e₂ k₂.
     bound (part_read candidate_label.TYPE.now kind_read address.1) _ _ k₂ λ kind e₃ k₃.
     bound (extras_read kind.1) _ _ k₃ λ extras e₄ same.
-    let made : Candidate = record {
-      foundation = lead.0.foundation;
-      component_id = lead.0.component_id;
-      proto = lead.0.proto;
-      prio = lead.0.prio;
-      addr = address.0;
-      kind = kind.0;
-      raddr = extras.raddr;
-      tcptype = extras.tcptype;
-      ufrag = extras.ufrag;
-    } in
     let l = lead_sound text lead e₁ in
     let a = spaced_socket.sound lead.1 address e₂ in
     let k = (part_front candidate_label.TYPE.now kind_both).sound address.1 kind e₃ in
     let x = extras_sound kind.1 extras e₄ in
-    subst (IsCandidateText text) (some_is made c same) (record {
+    subst (IsCandidateText text) (some_is (candidate_of lead.0 address.0 kind.0 extras) c same) (record {
       foundation = l.foundation;
       component = l.component;
       protocol = l.protocol;

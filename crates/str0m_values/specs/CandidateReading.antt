@@ -87,20 +87,24 @@ extras_read text = do
   ufrag ← last_read tcp_type.1
   Some (record { raddr = related.0; tcptype = tcp_type.0; ufrag = ufrag })
 
+-- the candidate that has these parts
+abbrev pub candidate_of : Lead → SocketAddr → CandidateKind → Extras → Candidate
+candidate_of lead addr kind extras = record {
+  foundation = lead.foundation;
+  component_id = lead.component_id;
+  proto = lead.proto;
+  prio = lead.prio;
+  addr = addr;
+  kind = kind;
+  raddr = extras.raddr;
+  tcptype = extras.tcptype;
+  ufrag = extras.ufrag;
+}
+
 abbrev pub candidate_read : List ℕ → Option Candidate
 candidate_read text = do
   lead ← lead_read text
   address ← socket_read (codes " ") (codes " ") lead.1
   kind ← part_read candidate_label.TYPE.now kind_read address.1
   extras ← extras_read kind.1
-  Some (record {
-    foundation = lead.0.foundation;
-    component_id = lead.0.component_id;
-    proto = lead.0.proto;
-    prio = lead.0.prio;
-    addr = address.0;
-    kind = kind.0;
-    raddr = extras.raddr;
-    tcptype = extras.tcptype;
-    ufrag = extras.ufrag;
-  })
+  Some (candidate_of lead.0 address.0 kind.0 extras)

@@ -4,7 +4,7 @@ use Rattle.str0m_values.specs.declared.candidate.Candidate.{Candidate}
 use Rattle.str0m_values.specs.declared.candidate_text.Lead.{Lead as FoundLead}
 use Rattle.str0m_values.specs.declared.candidate_text.Extras.{Extras as FoundExtras}
 use Rattle.str0m_values.specs.declared.candidate_text.Found.{Found}
-use Rattle.str0m_values.specs.CandidateReading.{Lead, Extras}
+use Rattle.str0m_values.specs.CandidateReading.{Lead, Extras, candidate_of}
 
 abbrev pub seen_lead : FoundLead → Lead
 seen_lead lead = record { foundation = lead.foundation.now; component_id = lead.component_id; proto = lead.proto; prio = lead.prio }
@@ -13,14 +13,4 @@ abbrev pub seen_extras : FoundExtras → Extras
 seen_extras extras = record { raddr = extras.raddr; tcptype = extras.tcptype; ufrag = option_map (λ t. t.now) extras.ufrag }
 
 abbrev pub seen : Found → Candidate
-seen found = record {
-  foundation = found.lead.foundation.now;
-  component_id = found.lead.component_id;
-  proto = found.lead.proto;
-  prio = found.lead.prio;
-  addr = found.addr;
-  kind = found.kind;
-  raddr = found.extras.raddr;
-  tcptype = found.extras.tcptype;
-  ufrag = option_map (λ t. t.now) found.extras.ufrag;
-}
+seen found = candidate_of (seen_lead found.lead) found.addr found.kind (seen_extras found.extras)
