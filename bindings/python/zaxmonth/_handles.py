@@ -105,9 +105,9 @@ class _Handle:
                 return room, needed.value
             size = _size_above(needed.value)
 
-    def _text(self, call: Callable[..., int], *places: int) -> str:
+    def _text(self, call: Callable[..., int], *places: int, letters: int = _LETTERS) -> str:
         with self._lock:
-            room, length = self._filled(call, c_char, _LETTERS, *places)
+            room, length = self._filled(call, c_char, letters, *places)
         return ctypes.string_at(room, length).decode()
 
     def _rows(self, call: Callable[..., int], texts: Tuple[Callable[..., int], ...], *places: int) -> List[Row]:
@@ -127,11 +127,13 @@ class SessionDescription(_Handle):
     """A description that was read of a text. Any thread may call it; one call waits for another."""
 
     _free = staticmethod(library.zax_session_free)
+    _letters = _LETTERS
 
     def __init__(self, text: Text) -> None:
         raw, made, error = _bytes_of(text), c_void_p(), RawError()
         check(library.zax_read(raw, len(raw), byref(made), byref(error)), error)
         self._pointer = made.value
+        self._letters = _size_above(3 * len(raw))  # (JSON is some twice as long as the text)
         self._rest = (error.line, error.offset) if error.line else (None, None)
 
     @classmethod
@@ -151,7 +153,7 @@ class SessionDescription(_Handle):
 
     def print(self) -> str:
         """The description as SDP, with CR and LF at the end of each line; `str` of it is the same."""
-        return self._text(library.zax_print)
+        return self._text(library.zax_print, letters=self._letters)
 
     def __str__(self) -> str:
         return self.print()
@@ -172,7 +174,7 @@ class SessionDescription(_Handle):
 
     def json(self) -> Dict[str, Any]:
         """The description as the library's JSON has it."""
-        return json.loads(self._text(getattr(library, JSON)))
+        return json.loads(self._text(getattr(library, JSON), letters=self._letters))
 
 
 class Configuration(_Handle):
