@@ -35,8 +35,8 @@ class Limit:
 
 
 # From C and from Rust a tenth is for arguments that are tested, and for the handle, which is an allocation of its own. From Go each call goes to
-# the stack of C and back, and malloc takes locks, since the process has threads. JSON is two to four times as long as the text. From Python all
-# of it is to take less than a reader in Python.
+# the stack of C and back, and malloc takes locks, since the process has threads. JSON is some twice as long as the text. From Python all of it
+# is to take less than a reader in Python.
 LIMITS = (
     Limit("C", 1.1, "direct"),
     Limit("Rust", 1.1, "direct"),
