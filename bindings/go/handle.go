@@ -50,12 +50,17 @@ func (k *kind[P]) handle(pointer P) handle[P] {
 }
 
 func (h handle[P]) close() {
-	err := h.use(func(P) error {
+	if h.place == nil {
+		return
+	}
+	h.place.mutex.Lock()
+	isOpen := h.turn == h.place.turn
+	if isOpen {
 		h.place.free()
 		h.place.turn++
-		return nil
-	})
-	if err == nil {
+	}
+	h.place.mutex.Unlock()
+	if isOpen {
 		h.place.kind.waiting.Put(h.place)
 	}
 }

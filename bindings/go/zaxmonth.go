@@ -44,6 +44,12 @@ static struct reading reading_of(const char *text, size_t length)
 		*made.error = error;
 	return made;
 }
+
+// A number, since cgo puts a pointer into Go's heap to look behind it for pointers of Go's, of which a handle has none.
+static void free_session(uintptr_t session)
+{
+	zax_session_free((zax_session *)session);
+}
 */
 import "C"
 
@@ -81,7 +87,9 @@ func Read(text []byte) (*Session, error) {
 	return &Session{sessions.handle(made.session), int(made.line), int(made.offset)}, nil
 }
 
-var sessions = kind[*C.zax_session]{free: func(it *C.zax_session) { C.zax_session_free(it) }}
+var sessions = kind[*C.zax_session]{free: func(it *C.zax_session) {
+	C.free_session(C.uintptr_t(uintptr(unsafe.Pointer(it))))
+}}
 
 // Close frees the session, where it isn't freed yet; other calls answer ErrClosed from then on. It answers nil.
 func (s *Session) Close() error {
