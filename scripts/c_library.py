@@ -1,4 +1,6 @@
-"""The C library: its header, the static and the shared library, and what pkg-config reads of it (docs/C.md)."""
+"""The C library: its header, the static and the shared library, and what pkg-config reads of it (docs/C.md); and how it is found, by callers
+in other languages, where it is installed."""
+import os
 import re
 import shutil
 from dataclasses import dataclass
@@ -70,3 +72,16 @@ def install(made, prefix):
     link.unlink(missing_ok=True)
     link.symlink_to(made.soname())
     (lib / "pkgconfig" / "zaxmonth.pc").write_text(PKG_CONFIG.format(prefix=prefix, version=said("ZAX_VERSION")))
+
+
+def found(prefix):
+    """The variables by which the library is found below the folder."""
+    own = {"PKG_CONFIG_PATH": str(prefix / "lib" / "pkgconfig"), "LD_LIBRARY_PATH": str(prefix / "lib")}
+    return {name: text for name, text in os.environ.items() if name != "ZAXMONTH_LIBRARY"} | own
+
+
+def of_go(room):
+    """Those of Go besides: it fetches nothing, and writes nothing outside of the room."""
+    room.mkdir(parents=True, exist_ok=True)
+    own = {"GOCACHE": str(room / "cache"), "GOPATH": str(room / "path"), "GOPROXY": "off", "GOTOOLCHAIN": "local", "GOWORK": "off"}
+    return {"CC": os.environ.get("CC", "cc"), **own, "CGO_ENABLED": "1", "GOFLAGS": "-buildvcs=false"}

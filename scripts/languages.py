@@ -110,10 +110,7 @@ def in_cpp(tried):
 
 def in_go(tried):
     made = tried.room / "go"
-    made.mkdir(exist_ok=True)
-    # Nothing is fetched, and nothing is written outside of the room.
-    own = {"GOCACHE": str(made / "cache"), "GOPATH": str(made / "path"), "GOPROXY": "off", "GOTOOLCHAIN": "local", "GOWORK": "off"}
-    tried.found = {"CC": "cc", **tried.found, **own, "CGO_ENABLED": "1", "GOFLAGS": "-buildvcs=false"}
+    tried.found = {**tried.found, **c_library.of_go(made)}
     built = subprocess.run(["go", "build", "-o", made, "./..."], cwd=BINDINGS / "go", env=tried.found, capture_output=True, text=True)
     if built.returncode != 0:
         tried.count.is_right("bindings/go", built.stdout + built.stderr)
@@ -147,8 +144,7 @@ def tried(made, room, count, offers):
     prefix = room / "installed"
     shutil.rmtree(prefix, ignore_errors=True)
     c_library.install(made, prefix)
-    found = {**os.environ, "PKG_CONFIG_PATH": str(prefix / "lib" / "pkgconfig"), "LD_LIBRARY_PATH": str(prefix / "lib")}
-    found.pop("ZAXMONTH_LIBRARY", None)
+    found = c_library.found(prefix)
     for language, calls, tools in LANGUAGES:
         if why := missing(*tools):
             print(f"{language}: {why}")

@@ -11,9 +11,9 @@ import proved
 from proved import TOP
 
 
-def run(command, where=TOP):
+def run(command, where=TOP, env=None):
     """Runs what has to succeed; what it says is shown where it doesn't."""
-    done = subprocess.run(command, cwd=where, stdin=subprocess.DEVNULL, capture_output=True, text=True)
+    done = subprocess.run(command, cwd=where, env=env, stdin=subprocess.DEVNULL, capture_output=True, text=True)
     if done.returncode != 0:
         print(done.stdout, done.stderr, sep="\n", file=sys.stderr)
         raise SystemExit(f"{' '.join(map(str, command))}: it ends with status {done.returncode}")

@@ -37,7 +37,7 @@ const (
 // An Exchange is one side of a session: it answers offers, makes its own, and takes answers to them (RFC 3264, RFC 8829). The zero value is
 // closed. A call that answers an error has changed nothing.
 type Exchange struct {
-	handle *handle[*C.zax_exchange]
+	handle handle[*C.zax_exchange]
 }
 
 // NewExchange makes one side of a session. It takes the configuration, which is closed then; Rows tells its rows. Errors: ErrOwn, ErrUTF8,
@@ -54,8 +54,10 @@ func NewExchange(own OwnSide, config *Config) (*Exchange, error) {
 	if err != nil {
 		return nil, err
 	}
-	return &Exchange{newHandle(made, func(it *C.zax_exchange) { C.zax_exchange_free(it) })}, nil
+	return &Exchange{exchanges.handle(made)}, nil
 }
+
+var exchanges = kind[*C.zax_exchange]{free: func(it *C.zax_exchange) { C.zax_exchange_free(it) }}
 
 // Close frees the exchange, where it isn't freed yet; other calls answer ErrClosed from then on. It answers nil.
 func (e *Exchange) Close() error {
@@ -96,7 +98,7 @@ func (e *Exchange) described(
 	if err != nil {
 		return nil, err
 	}
-	return &Description{Session{handle: newSession(made)}, uint64(version)}, nil
+	return &Description{Session{handle: sessions.handle(made)}, uint64(version)}, nil
 }
 
 // AcceptOffer answers an offer of the other side. Errors: ErrParse, ErrUTF8, ErrUnread, ErrFit, ErrPrint, ErrState, ErrMemory.

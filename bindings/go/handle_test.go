@@ -60,6 +60,24 @@ func TestClosed(t *testing.T) {
 	is(t, config(t).Answer(session, 0), ErrClosed)
 }
 
+// What is closed stays so, whatever has its place by then.
+func TestClosedBeforeAnother(t *testing.T) {
+	for i := 0; i < 100; i++ {
+		first, rows := read(t, offer(t)), config(t)
+		wanted, given := printed(t, read(t, ownText(t))), config(t)
+		exchange := must[*Exchange](t)(NewExchange(ownSide(t), given))
+		is(t, []error{first.Close(), rows.Close()}, make([]error, 2))
+		second, others := read(t, ownText(t)), config(t)
+		_, ofText := first.MarshalText()
+		_, ofRows := rows.Rows()
+		_, ofGiven := given.Rows()
+		is(t, []error{ofText, ofRows, ofGiven, first.Close(), rows.Close(), given.Close()}, []error{ErrClosed, ErrClosed, ErrClosed, nil, nil, nil})
+		is(t, printed(t, second), wanted)
+		is(t, len(must[[]Row](t)(others.Rows())), len(must[[]Row](t)(exchange.Rows())))
+		is(t, []error{second.Close(), others.Close(), exchange.Close()}, make([]error, 3))
+	}
+}
+
 func TestOneSessionInManyGoroutines(t *testing.T) {
 	session := read(t, offer(t))
 	wanted, rows := printed(t, session), must[[]Row](t)(session.Rows(0))

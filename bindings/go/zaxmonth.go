@@ -21,7 +21,35 @@ package zaxmonth
 
 /*
 #cgo pkg-config: zaxmonth
+#include <stdlib.h>
 #include <zaxmonth.h>
+
+// What is read of a text. A value that C returns lies on Go's stack; the places that zax_read writes to would lie in its heap.
+struct reading {
+	zax_session *session;
+	zax_error *error; // why there is none, for free; NULL where there is no memory for it
+	zax_status status;
+	uint32_t line;
+	size_t offset;
+};
+
+static struct reading reading_of(const char *text, size_t length)
+{
+	struct reading made = {0};
+	zax_error error;
+	made.status = zax_read(text, length, &made.session, &error);
+	made.line = error.line;
+	made.offset = error.offset;
+	if (made.status != ZAX_OK && (made.error = malloc(sizeof error)))
+		*made.error = error;
+	return made;
+}
+
+// A number, since cgo puts a pointer into Go's heap to look behind it for pointers of Go's, of which a handle has none.
+static void free_session(uintptr_t session)
+{
+	zax_session_free((zax_session *)session);
+}
 */
 import "C"
 
@@ -45,24 +73,23 @@ func chars(text []byte) *C.char {
 
 // A Session is a description that was read of a text. The zero value is closed.
 type Session struct {
-	handle               *handle[*C.zax_session]
+	handle               handle[*C.zax_session]
 	restLine, restOffset int
 }
 
 // Read reads the description that a text begins with: UTF-8, which nobody changes during the call. Errors: ErrParse, ErrUTF8, ErrMemory.
 func Read(text []byte) (*Session, error) {
-	var made *C.zax_session
-	var told C.zax_error
-	status := C.zax_read(chars(text), C.size_t(len(text)), &made, &told)
-	if err := errorOf(status, &told); err != nil {
-		return nil, err
+	made := C.reading_of(chars(text), C.size_t(len(text)))
+	if made.status != C.ZAX_OK {
+		defer C.free(unsafe.Pointer(made.error))
+		return nil, errorOf(made.status, made.error)
 	}
-	return &Session{newSession(made), int(told.line), int(told.offset)}, nil
+	return &Session{sessions.handle(made.session), int(made.line), int(made.offset)}, nil
 }
 
-func newSession(made *C.zax_session) *handle[*C.zax_session] {
-	return newHandle(made, func(it *C.zax_session) { C.zax_session_free(it) })
-}
+var sessions = kind[*C.zax_session]{free: func(it *C.zax_session) {
+	C.free_session(C.uintptr_t(uintptr(unsafe.Pointer(it))))
+}}
 
 // Close frees the session, where it isn't freed yet; other calls answer ErrClosed from then on. It answers nil.
 func (s *Session) Close() error {
@@ -143,7 +170,7 @@ func (s *Session) Rows(section int) (rows []Row, err error) {
 
 // A Config is the rows of one side, of which some are locked. The zero value is closed.
 type Config struct {
-	handle *handle[*C.zax_config]
+	handle handle[*C.zax_config]
 }
 
 // NewConfig makes a configuration with the default rows. Errors: ErrMemory.
@@ -162,8 +189,10 @@ func configOf(made **C.zax_config, status C.zax_status) (*Config, error) {
 	if err := errorOf(status, nil); err != nil {
 		return nil, err
 	}
-	return &Config{newHandle(*made, func(it *C.zax_config) { C.zax_config_free(it) })}, nil
+	return &Config{configs.handle(*made)}, nil
 }
+
+var configs = kind[*C.zax_config]{free: func(it *C.zax_config) { C.zax_config_free(it) }}
 
 func flag(on bool) C.int {
 	if on {

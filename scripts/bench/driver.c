@@ -6,6 +6,7 @@
 // counts little.
 #include "calls.h"
 #include "counted.h"
+#include "texts.h"
 
 #include <inttypes.h>
 #include <malloc.h>
@@ -24,11 +25,6 @@ struct call {
     const char *name;
     run run;
     int reads_once; // (then the reading isn't counted)
-};
-
-struct text {
-    uint8_t *bytes;
-    size_t length;
 };
 
 static uint64_t read_again(const uint8_t *text, size_t length, uint32_t more)
@@ -121,21 +117,6 @@ static double loop(void)
             best = one;
     }
     return best;
-}
-
-static struct text text_of(const char *path)
-{
-    FILE *file = fopen(path, "rb");
-    if (!file || fseek(file, 0, SEEK_END) != 0)
-        exit((perror(path), 1));
-    struct text text = {NULL, (size_t)ftell(file)};
-    rewind(file);
-    text.bytes = malloc(text.length + 1);
-    if (!text.bytes || fread(text.bytes, 1, text.length, file) != text.length)
-        exit((perror(path), 1));
-    text.bytes[text.length] = 0;
-    fclose(file);
-    return text;
 }
 
 static void show(const char *path, const struct call *call, struct text text)

@@ -155,12 +155,13 @@ class OwnSideError(Error, ValueError):
 
 _OF_EXCHANGES = (StateError, UnreadLine, UnfitSection, UnprintableText, NoRows, NoChannels, NoNameLeft, OwnSideError)
 _OF_ALL = (ParseError, Utf8Error, OutOfMemory, RoomError, SectionError, NothingAgreed, ArgumentError)
+_OK = Status.OK.value  # (an enum is asked for its value slowly)
 _KINDS = {kind.status.value: kind for kind in (*_OF_ALL, *_OF_EXCHANGES)}
 
 
 def check(status: int, error: Optional[RawError] = None) -> None:
     """Raises the exception of a status that isn't OK."""
-    if status == Status.OK.value:
+    if status == _OK:
         return
     if status not in _KINDS:
         raise Error(f"the call is answered by the unknown status {status}")

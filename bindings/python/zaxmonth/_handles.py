@@ -1,7 +1,6 @@
 """Descriptions and configurations: each owns a handle of the library."""
 from __future__ import annotations
 
-import ctypes
 import functools
 import json
 import operator
@@ -17,6 +16,8 @@ from ._rows import Codec, Outcome, Row
 Text = Union[str, bytes, bytearray, memoryview]
 _Self = TypeVar("_Self", bound="_Handle")
 _ROWS, _LETTERS = 128, 1024  # room that suffices as a rule
+_JSON = json.JSONDecoder()
+_NO_ROOM = Status.ROOM.value  # (an enum is asked for its value slowly)
 
 
 def _bytes_of(text: Text) -> bytes:
@@ -71,7 +72,8 @@ class _Handle:
                 self._free(pointer)
 
     def __del__(self) -> None:
-        self.close()
+        if self._pointer:
+            self.close()
 
     @property
     def closed(self) -> bool:
@@ -100,15 +102,15 @@ class _Handle:
         while True:
             room = _room_type(kind, size)()
             status = call(self._open(), *places, room, size, byref(needed))
-            if status != Status.ROOM.value:
+            if status != _NO_ROOM:
                 check(status)
                 return room, needed.value
             size = _size_above(needed.value)
 
-    def _text(self, call: Callable[..., int], *places: int) -> str:
+    def _text(self, call: Callable[..., int], *places: int, letters: int = _LETTERS) -> str:
         with self._lock:
-            room, length = self._filled(call, c_char, _LETTERS, *places)
-        return ctypes.string_at(room, length).decode()
+            room, length = self._filled(call, c_char, letters, *places)
+        return str(memoryview(room)[:length], "utf-8")
 
     def _rows(self, call: Callable[..., int], texts: Tuple[Callable[..., int], ...], *places: int) -> List[Row]:
         """The rows that a call writes, with the texts of each that others write: the name of its codec, its format."""
@@ -127,11 +129,13 @@ class SessionDescription(_Handle):
     """A description that was read of a text. Any thread may call it; one call waits for another."""
 
     _free = staticmethod(library.zax_session_free)
+    _letters = _LETTERS
 
     def __init__(self, text: Text) -> None:
         raw, made, error = _bytes_of(text), c_void_p(), RawError()
         check(library.zax_read(raw, len(raw), byref(made), byref(error)), error)
         self._pointer = made.value
+        self._letters = _size_above(3 * len(raw))  # (JSON is some twice as long as the text)
         self._rest = (error.line, error.offset) if error.line else (None, None)
 
     @classmethod
@@ -151,7 +155,7 @@ class SessionDescription(_Handle):
 
     def print(self) -> str:
         """The description as SDP, with CR and LF at the end of each line; `str` of it is the same."""
-        return self._text(library.zax_print)
+        return self._text(library.zax_print, letters=self._letters)
 
     def __str__(self) -> str:
         return self.print()
@@ -172,7 +176,7 @@ class SessionDescription(_Handle):
 
     def json(self) -> Dict[str, Any]:
         """The description as the library's JSON has it."""
-        return json.loads(self._text(getattr(library, JSON)))
+        return _JSON.raw_decode(self._text(getattr(library, JSON), letters=self._letters))[0]  # (no spaces stand around it)
 
 
 class Configuration(_Handle):
