@@ -1,6 +1,7 @@
-"""What the pages say of the code: whether the code that README.md and CALLING.md show is that of `crates/uses` or its tests, and that
-of docs/EXCHANGE.md of `crates/sdpexchange`; whether `str0m_signal` passes on all but what CALLING.md says; whether README.md is short, and
-all pages together are, the generated ones aside; and whether each link of a page leads to a file and a heading that are there.
+"""What the pages say of the code: whether the code that README.md shows is that of `crates/uses`, that of CALLING.md there or in
+`crates/tests`, and that of docs/EXCHANGE.md in `crates/sdpexchange`; whether `str0m_signal` passes on all but what CALLING.md says; whether
+README.md is short, and all pages together are, the generated ones aside; and whether each link of a page leads to a file and a heading that
+are there.
 
 A block of code stands in one of those files word for word, but for contracts and comments. One that has `use` lines is to compile as it
 stands: so its items stand in one file, each of them, and what they use of what that file imports or has is imported or stands in the
@@ -15,7 +16,7 @@ PUBLIC = re.compile(r"^ *pub (?:const )?(?:fn|struct|enum|trait|const) (\w+)", r
 EXPORTED = re.compile(r"^pub use (?:\w+::)+(\w+|\{.*?\});", re.MULTILINE | re.DOTALL)
 ITEM = re.compile(r"(?:pub(?:\(crate\))? )?(?:const )?(?:fn|struct|enum|const|trait) (\w+)")
 LOWER, TOPMOST = ("str0m_values", "str0m_formats", "str0m_sdp"), "str0m_signal"
-CODE = {"README.md": "uses*", "CALLING.md": "uses*", "docs/EXCHANGE.md": "sdpexchange"}  # of each page, where its code stands
+CODE = {"README.md": ("uses",), "CALLING.md": ("uses", "tests"), "docs/EXCHANGE.md": ("sdpexchange",)}  # of each page, where its code stands
 PAGES = tuple(CODE)
 MOST_WORDS, MOST_WORDS_OF_ALL = 900, 24_000  # of README.md, and of all pages
 GENERATED = ("docs/API.md", "docs/LINT.md")
@@ -139,7 +140,7 @@ def common_faults():
 
 def faults(page):
     """What is wrong with a page."""
-    text, files = (TOP / page).read_text(), list(code_of(CODE[page]).values())
+    text, files = (TOP / page).read_text(), list(code_of(*CODE[page]).values())
     for block in BLOCK.findall(text):
         yield from block_faults(block, files)
     words = len(text.split())

@@ -1,4 +1,4 @@
-//! What no text makes of descriptions: values before anything is said.
+//! Sections, and what stands in them, before anything is said: what no text makes.
 
 use std::alloc::AllocError;
 use std::test::Fail;

@@ -1,21 +1,11 @@
 //! Fourteen rows, of three types each, against remote rows that demand each payload type in turn. So many rows never exhaust
 //! the types, and a type of a locked row never gets a second role (docs/ROUNDS.md).
 
-use crate::rows_and_rounds::{DIRECTIONS, Types, row_of};
+use crate::rows::{DIRECTIONS, opus};
 use std::alloc::{AllocError, Global};
 use std::test::Fail;
-use str0m_formats::{Codec, CodecConfig, NegotiationError, PayloadParams};
-use str0m_values::{Direction, Frequency, Pt};
-
-/// Opus with so many channels: rows with other channels don't match it.
-fn opus(channels: u8, types: Types) -> PayloadParams {
-    row_of(
-        Codec::Opus,
-        Frequency::FORTY_EIGHT_KHZ,
-        Some(channels),
-        types,
-    )
-}
+use str0m_formats::{CodecConfig, NegotiationError, PayloadParams};
+use str0m_values::{Direction, Pt};
 
 /// A row of its own spec at three types that follow each other; after 127 stands 0. Rows with one channel more begin so many
 /// types after each other as the step says.

@@ -1,0 +1,86 @@
+//! Candidates (RFC 8839, section 5.1): made of their parts, and as browsers trickle them.
+
+use exchange::trickled_candidate;
+use std::alloc::{AllocError, Global};
+use std::test::Fail;
+use str0m_values::candidate_text::candidate;
+use str0m_values::{Candidate, CandidateKind, IpAddr, Protocol, SocketAddr, TcpType, Text};
+
+/// The text of a relayed candidate over TCP with every optional part.
+const RELAYED: &str =
+    "candidate:f 2 tcp 7 ::1 9 typ relay raddr ::1 rport 9 tcptype active ufrag u";
+
+fn loopback() -> SocketAddr {
+    SocketAddr {
+        ip: IpAddr::V6([0, 0, 0, 0, 0, 0, 0, 1]),
+        port: 9,
+    }
+}
+
+/// The candidate of that text, made of its parts.
+fn relayed(alloc: Global) -> Result<Candidate, AllocError> {
+    Ok(Candidate::from_parts(
+        Text::from_str(alloc, "f")?,
+        2,
+        Protocol::Tcp,
+        7,
+        loopback(),
+        CandidateKind::Relayed,
+        Some(loopback()),
+        Some(TcpType::Active),
+        Some(Text::from_str(alloc, "u")?),
+    ))
+}
+
+/// Whether that text is read as this candidate.
+fn is_read(alloc: Global, made: &Candidate) -> Result<bool, AllocError> {
+    let read = candidate(alloc, RELAYED)?;
+    match &read {
+        Some(read) => Ok(*made == *read),
+        None => Ok(false),
+    }
+}
+
+fn is_candidate_copied(candidate: &Candidate) -> Result<bool, AllocError> {
+    let copy = candidate.clone()?;
+    Ok(copy == *candidate)
+}
+
+#[test]
+fn a_candidate_of_its_parts_is_the_one_that_is_read(rt: HostRuntime) -> Result<(), Fail> {
+    let made = relayed(rt.alloc())?;
+    assert!(rt; is_read(rt.alloc(), &made)?);
+    assert!(rt; is_candidate_copied(&made)?);
+    Ok(())
+}
+
+#[test]
+fn every_part_of_a_candidate_is_printed(rt: HostRuntime) -> Result<(), Fail> {
+    let made = relayed(rt.alloc())?;
+    let line = made.to_sdp_string(rt.alloc())?;
+    assert_eq!(rt; line.as_str(), RELAYED);
+    Ok(())
+}
+
+#[test]
+fn candidates_are_read_as_browsers_trickle_them(rt: HostRuntime) -> Result<(), Fail> {
+    for text in [
+        "candidate:1 1 udp 2122260223 192.0.2.1 5000 typ host",
+        "a=candidate:1 1 udp 2122260223 192.0.2.1 5000 typ host",
+        "candidate:1 1 udp 2122260223 192.0.2.1 5000 typ host\r\n",
+        "a=candidate:1 1 udp 2122260223 192.0.2.1 5000 typ host\n",
+    ] {
+        let candidate = trickled_candidate(rt.alloc(), text)?;
+        assert_eq!(rt; candidate.component_id(), 1);
+    }
+    for text in [
+        "",
+        "a=",
+        "candidate:1",
+        "candidate:1 1 udp 1 192.0.2.1 5000 typ host\r\nx",
+        "a=a=candidate:1 1 udp 1 192.0.2.1 5000 typ host",
+    ] {
+        assert!(rt; trickled_candidate(rt.alloc(), text).is_err());
+    }
+    Ok(())
+}

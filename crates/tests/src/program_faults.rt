@@ -1,0 +1,176 @@
+//! Runs of the program where input or output fails.
+
+use crate::program::{HEADER, PRINTED, Ran, USAGE, owned, run_over};
+use show::run::run;
+use std::alloc::{AllocError, Global};
+use std::io;
+use std::io::{ErrorKind, Read, Write};
+use std::test::Fail;
+
+/// Gives its bytes, one a read, and then fails.
+#[derive(Drop)]
+struct Broken<'a> {
+    bytes: &'a [u8],
+    kind: ErrorKind,
+}
+
+impl<'a> Read for Broken<'a> {
+    fn read(&mut self, buf: &mut [u8]) -> io::Result<usize> {
+        let Some((first, rest)) = self.bytes.split_first() else {
+            return Err(io::Error::from(self.kind));
+        };
+        let Some(cell) = buf.first_mut() else {
+            return Ok(0);
+        };
+        *cell = *first;
+        self.bytes = rest;
+        Ok(1)
+    }
+}
+
+/// Takes so many bytes, one a write, and then fails; and fails to hand them on, where it is so made.
+#[derive(Drop)]
+struct Full {
+    room: usize,
+    hands_on: bool,
+    taken: Vec<u8>,
+}
+
+impl Write for Full {
+    fn write(&mut self, buf: &[u8]) -> io::Result<usize> {
+        let (Some(first), true) = (buf.first(), self.taken.len() < self.room) else {
+            return Err(io::Error::from(ErrorKind::BrokenPipe));
+        };
+        self.taken.push(*first)?;
+        Ok(1)
+    }
+
+    fn flush(&mut self) -> io::Result<()> {
+        if self.hands_on {
+            Ok(())
+        } else {
+            Err(io::Error::from(ErrorKind::StorageFull))
+        }
+    }
+}
+
+/// A writer with so much room.
+fn with_room(alloc: Global, room: usize) -> Full {
+    Full {
+        room,
+        hands_on: true,
+        taken: Vec::new(alloc),
+    }
+}
+
+/// A word, what is read before an error of which kind, the status, and what is said.
+const UNREADABLE: [(&str, &str, ErrorKind, u8, &str); 4] = [
+    (
+        "text",
+        "",
+        ErrorKind::PermissionDenied,
+        1,
+        "cannot read input\n",
+    ),
+    (
+        "text",
+        HEADER,
+        ErrorKind::BrokenPipe,
+        1,
+        "cannot read input\n",
+    ),
+    (
+        "text",
+        "",
+        ErrorKind::OutOfMemory,
+        1,
+        "SDP: out of memory\n",
+    ),
+    ("show", "", ErrorKind::PermissionDenied, 2, USAGE),
+];
+
+/// Words are compared before anything is read, and input that ends in an error is not shown.
+#[test]
+fn input_that_cannot_be_read(rt: HostRuntime) -> Result<(), Fail> {
+    for (word, bytes, kind, status, said) in &UNREADABLE {
+        let mut input = Broken {
+            bytes: bytes.as_bytes(),
+            kind: *kind,
+        };
+        let ran = run_over(rt.alloc(), &[word], &mut input)?;
+        assert!(rt; ran.is(*status, "", said), "{said:?}: {ran:?}");
+        assert_eq!(rt;
+            input.bytes.len() == bytes.len(),
+            *status == 2 || bytes.is_empty(),
+            "{said:?}"
+        );
+    }
+    Ok(())
+}
+
+/// Runs the program over the header, with so much room for faults.
+fn run_into(
+    alloc: Global,
+    word: &str,
+    mut output: Full,
+    faults_room: usize,
+) -> Result<Ran, AllocError> {
+    let words = owned(alloc, &[word])?;
+    let mut input = HEADER.as_bytes();
+    let mut faults = with_room(alloc, faults_room);
+    let ending = run(
+        alloc,
+        words.as_slice(),
+        &mut input,
+        &mut output,
+        &mut faults,
+    );
+    Ok(Ran {
+        status: ending.status,
+        could_say: ending.said.is_ok(),
+        written: output.taken,
+        said: faults.taken,
+    })
+}
+
+/// Whether the run ended with this status and said just this, and wrote a beginning of what the header
+/// prints: all of it where the status is 0, and else less.
+fn is_whole_or_told(ran: &Ran, status: u8, said: &str) -> bool {
+    let is_whole = ran.written.len() == PRINTED.len();
+    ran.status == status
+        && ran.could_say == (status == 0 || !said.is_empty())
+        && ran.said.as_slice() == said.as_bytes()
+        && PRINTED.as_bytes().starts_with(ran.written.as_slice())
+        && is_whole == (status == 0)
+}
+
+/// A description is written whole or the run says so; a line of faults that can't be written leaves
+/// the status as it is.
+#[test]
+fn output_that_cannot_be_written(rt: HostRuntime) -> Result<(), Fail> {
+    for (word, room, faults_room, status, said) in &[
+        ("text", PRINTED.len(), 100, 0, ""),
+        ("text", PRINTED.len(), 0, 0, ""),
+        ("text", PRINTED.len() - 1, 100, 1, "cannot write output\n"),
+        ("text", PRINTED.len() - 1, 0, 1, ""),
+        ("text", 0, 100, 1, "cannot write output\n"),
+        ("text", 0, 0, 1, ""),
+        ("show", 0, 100, 2, USAGE),
+        ("show", 0, 0, 2, ""),
+    ] {
+        let output = with_room(rt.alloc(), *room);
+        let ran = run_into(rt.alloc(), word, output, *faults_room)?;
+        assert!(rt; is_whole_or_told(&ran, *status, said), "{said:?}: {ran:?}");
+    }
+    Ok(())
+}
+
+/// What is written whole, and isn't handed on, is a fault.
+#[test]
+fn output_that_is_not_handed_on(rt: HostRuntime) -> Result<(), Fail> {
+    let mut output = with_room(rt.alloc(), PRINTED.len());
+    output.hands_on = false;
+    let ran = run_into(rt.alloc(), "text", output, 100)?;
+    assert!(rt; ran.is(1, PRINTED, "cannot write output\n"), "{ran:?}");
+    Ok(())
+}
