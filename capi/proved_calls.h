@@ -71,6 +71,7 @@ uint32_t zaxp_exchange_add_media(struct handle *handle, uint8_t kind, uint8_t di
 uint32_t zaxp_exchange_add_channels(struct handle *handle, uint8_t *message, size_t message_cap, size_t *message_length);
 uint32_t zaxp_exchange_restart_ice(struct handle *handle, const uint8_t *ufrag, size_t ufrag_length, const uint8_t *pwd,
                                    size_t pwd_length);
+uint32_t zaxp_exchange_set_direction(struct handle *handle, const uint8_t *mid, size_t mid_length, uint8_t direction);
 uint32_t zaxp_session_print_version(struct handle *handle, uint64_t version, uint8_t *room, size_t room_cap, size_t *needed);
 uint32_t zaxp_exchange_rows(struct handle *handle, zax_row *room, size_t room_cap, size_t *needed);
 uint32_t zaxp_exchange_codec(struct handle *handle, size_t row, uint8_t *room, size_t room_cap, size_t *needed);

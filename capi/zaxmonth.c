@@ -518,6 +518,13 @@ zax_status zax_restart_ice(zax_exchange *exchange, zax_slice ufrag, zax_slice pw
     return (zax_status)zaxp_exchange_restart_ice(&exchange->handle, TEXT(ufrag), TEXT(pwd));
 }
 
+zax_status zax_set_direction(zax_exchange *exchange, const char *mid, size_t length, zax_direction direction)
+{
+    if (!is_exchange(exchange) || !is_slice(mid, length, 1) || (unsigned)direction > ZAX_INACTIVE)
+        return ZAX_E_ARGUMENT;
+    return (zax_status)zaxp_exchange_set_direction(&exchange->handle, bytes(mid, length), length, (uint8_t)direction);
+}
+
 zax_status zax_print_version(zax_session *session, uint64_t version, char *room, size_t cap, size_t *needed)
 {
     BEGIN(session, room, cap, needed);

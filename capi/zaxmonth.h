@@ -33,7 +33,7 @@ typedef enum zax_status {
     ZAX_E_ROOM = 4,     /* the room is too small */
     ZAX_E_SECTION = 5,  /* there is no such section, or no such row */
     ZAX_E_NOTHING = 6,  /* no row of the section's kind is locked, or rows printed there might not be read again */
-    ZAX_E_ARGUMENT = 7, /* a pointer is NULL that may not be, a length is above half of what can be addressed, or no row is such */
+    ZAX_E_ARGUMENT = 7, /* a pointer is NULL that may not be, a length is above half of what can be addressed, no row is such, or no mid */
     ZAX_E_STATE = 8,    /* the call is out of turn: an offer of this side is open, or none is */
     ZAX_E_UNREAD = 9,   /* a line of the text fits nowhere */
     ZAX_E_FIT = 10,     /* a section breaks a rule of answers, or of later offers */
@@ -204,6 +204,9 @@ ZAX_API zax_status zax_add_media(zax_exchange *exchange, zax_kind kind, zax_dire
 ZAX_API zax_status zax_add_channels(zax_exchange *exchange, zax_error *error);
 /* Has the next description say these credentials of ICE. */
 ZAX_API zax_status zax_restart_ice(zax_exchange *exchange, zax_slice ufrag, zax_slice pwd);
+/* Has the next description say this direction in the section of a mid, to hold its media and to resume it. ZAX_E_UTF8, and ZAX_E_ARGUMENT
+ * where the mid has more than 16 bytes; one that no section has turns none. */
+ZAX_API zax_status zax_set_direction(zax_exchange *exchange, const char *mid, size_t length, zax_direction direction);
 /* Prints a description with its version in the o= line, as the other side is to get it. */
 ZAX_API zax_status zax_print_version(zax_session *session, uint64_t version, char *room, size_t cap, size_t *needed);
 /* The rows of its configuration, each with whether it is locked. */

@@ -272,6 +272,11 @@ class Exchange {
     {
         detail::check(zax_restart_ice(get(), detail::slice(ufrag), detail::slice(pwd)));
     }
+    // Has the next description say this direction in the section of a mid, of at most 16 bytes, to hold its media and to resume it.
+    void set_direction(std::string_view mid, zax_direction direction)
+    {
+        detail::check(zax_set_direction(get(), mid.data(), mid.size(), direction));
+    }
     std::vector<zax_row> rows() const
     {
         return detail::filled<std::vector<zax_row>>(

@@ -161,6 +161,15 @@ func (e *Exchange) RestartICE(ufrag, pwd string) error {
 	})
 }
 
+// SetDirection has the next description say this direction in the section of a mid, to hold its media and to resume it. Errors: ErrUTF8,
+// ErrMemory; ErrArgument for a direction that isn't one, or a mid of more than 16 bytes.
+func (e *Exchange) SetDirection(mid string, direction Direction) error {
+	text := []byte(mid)
+	return e.handle.use(func(it *C.zax_exchange) error {
+		return errorOf(C.zax_set_direction(it, chars(text), C.size_t(len(text)), C.zax_direction(direction)), nil)
+	})
+}
+
 // Rows are the rows of its configuration.
 func (e *Exchange) Rows() (rows []Row, err error) {
 	err = e.handle.use(func(it *C.zax_exchange) error {

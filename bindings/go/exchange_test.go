@@ -94,6 +94,29 @@ func TestOneSideOffersAndTheOtherAnswers(t *testing.T) {
 	is(t, must[State](t)(here.State()), Stable)
 }
 
+// offered is an offer, which the other side answers.
+func offered(t testing.TB, here, there *Exchange) string {
+	t.Helper()
+	made := said(t, must[*Description](t)(here.CreateOffer()))
+	answer := said(t, must[*Description](t)(there.AcceptOffer([]byte(made))))
+	is(t, here.AcceptAnswer([]byte(answer)), nil)
+	return made
+}
+
+func TestSectionIsHeldAndResumed(t *testing.T) {
+	here, there := exchangeOf(t, ownSide(t)), exchangeOf(t, ownSide(t))
+	is(t, here.AddMedia(Audio, SendRecv), nil)
+	is(t, strings.Contains(offered(t, here, there), "a=sendrecv\r\n"), true)
+	is(t, here.SetDirection("0", Inactive), nil)
+	is(t, here.SetDirection("1", SendRecv), nil)
+	is(t, errors.Is(here.SetDirection("0", Direction(4)), ErrArgument), true)
+	is(t, errors.Is(here.SetDirection("0123456789abcdef0", SendRecv), ErrArgument), true)
+	is(t, errors.Is(here.SetDirection("\xff", SendRecv), ErrUTF8), true)
+	is(t, strings.Contains(offered(t, here, there), "a=inactive\r\n"), true)
+	is(t, here.SetDirection("0", SendOnly), nil)
+	is(t, strings.Contains(offered(t, here, there), "a=sendonly\r\n"), true)
+}
+
 func TestOfferIsDropped(t *testing.T) {
 	exchange := exchangeOf(t, ownSide(t))
 	is(t, []error{exchange.Rollback(), exchange.AddMedia(Video, RecvOnly)}, make([]error, 2))
@@ -159,7 +182,7 @@ func TestClosedExchange(t *testing.T) {
 		_, ofState := exchange.State()
 		found := []error{
 			ofOffer, ofMaking, ofRows, ofState, exchange.AcceptAnswer(nil), exchange.Rollback(), exchange.AddMedia(Audio, SendRecv),
-			exchange.AddChannels(), exchange.RestartICE("a", "b"),
+			exchange.AddChannels(), exchange.RestartICE("a", "b"), exchange.SetDirection("0", Inactive),
 		}
 		for _, err := range found {
 			is(t, err, ErrClosed)

@@ -301,6 +301,50 @@ static void both_sides(void)
     zax_exchange_free(here);
 }
 
+/* What an offer says of its first section; the other side answers it, and the answer is taken. */
+static int direction_offered(zax_exchange *here, zax_exchange *there)
+{
+    zax_session *offer, *answer;
+    zax_section section;
+    uint64_t version;
+    IS(zax_create_offer(here, &offer, &version, NULL), ZAX_OK);
+    IS(zax_section_info(offer, 0, &section), ZAX_OK);
+    size_t size = text_of(offer, version, wanted);
+    zax_session_free(offer);
+    IS(zax_accept_offer(there, wanted, size, &answer, &version, NULL), ZAX_OK);
+    size = text_of(answer, version, printed);
+    zax_session_free(answer);
+    IS(zax_accept_answer(here, printed, size, NULL), ZAX_OK);
+    return section.direction;
+}
+
+/* Each offer says what was set last for its section; what is refused, or names another section, turns none. */
+static void directions(void)
+{
+    static const char name[] = "0\0" "23456789abcdef0";
+    zax_exchange *here = exchange_of(&own), *there = exchange_of(&own);
+    IS(zax_add_media(here, ZAX_VIDEO, ZAX_SENDRECV, NULL), ZAX_OK);
+    IS(direction_offered(here, there), ZAX_SENDRECV);
+    for (int direction = ZAX_INACTIVE; direction >= ZAX_SENDRECV; direction--) {
+        IS(zax_set_direction(here, "0", 1, (zax_direction)direction), ZAX_OK);
+        IS(direction_offered(here, there), direction);
+    }
+    IS(zax_set_direction(here, "0", 1, ZAX_SENDONLY), ZAX_OK);
+    IS(zax_set_direction(here, "0", 1, (zax_direction)4), ZAX_E_ARGUMENT);
+    IS(zax_set_direction(here, "0", 1, (zax_direction)-1), ZAX_E_ARGUMENT);
+    IS(zax_set_direction(here, "0", 1, (zax_direction)256), ZAX_E_ARGUMENT);
+    IS(zax_set_direction(here, NULL, 1, ZAX_INACTIVE), ZAX_E_ARGUMENT);
+    IS(zax_set_direction(here, "0", (size_t)-1, ZAX_INACTIVE), ZAX_E_ARGUMENT);
+    IS(zax_set_direction(NULL, "0", 1, ZAX_INACTIVE), ZAX_E_ARGUMENT);
+    IS(zax_set_direction(here, "0\xff", 2, ZAX_INACTIVE), ZAX_E_UTF8);
+    IS(zax_set_direction(here, NULL, 0, ZAX_INACTIVE), ZAX_OK);
+    for (size_t size = 2; size < sizeof name; size++)
+        IS(zax_set_direction(here, name, size, ZAX_INACTIVE), size > 16 ? ZAX_E_ARGUMENT : ZAX_OK);
+    IS(direction_offered(here, there), ZAX_SENDONLY);
+    zax_exchange_free(here);
+    zax_exchange_free(there);
+}
+
 static long refusals, wrong;
 
 /* Runs a call, and once more with no allocation refused where it wants memory; the same is to come of it. */
@@ -319,6 +363,7 @@ static void session_with_refusals(void)
     zax_config *config = NULL;
     zax_exchange *here = NULL, *there = NULL;
     zax_session *answer = NULL, *offer = NULL;
+    zax_section held;
     uint64_t version = 0;
     size_t size;
     AGAIN(zax_config_defaults(&config));
@@ -330,7 +375,9 @@ static void session_with_refusals(void)
     AGAIN(zax_add_media(here, ZAX_VIDEO, ZAX_RECVONLY, NULL));
     AGAIN(zax_add_channels(here, NULL));
     AGAIN(zax_restart_ice(here, (zax_slice)SLICE("a fragment of ICE"), (zax_slice)SLICE("a password of ICE, longer than that")));
+    AGAIN(zax_set_direction(here, "0", 1, ZAX_INACTIVE));
     AGAIN(zax_create_offer(here, &offer, &version, NULL));
+    wrong += zax_section_info(offer, 0, &held) || held.direction != ZAX_INACTIVE;
     wrong += version != 2 || zax_sections(offer) != zax_sections(answer) + 2;
     AGAIN(zax_print_version(offer, version, printed, sizeof printed, &size));
     AGAIN(zax_config_defaults(&config));
@@ -400,6 +447,7 @@ int main(int count, char **words)
             hostile_own();
             refused_offers();
             both_sides();
+            directions();
         }
     }
     IS(live, 0);

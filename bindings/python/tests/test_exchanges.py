@@ -3,6 +3,7 @@ import copy
 import unittest
 
 from zaxmonth import (
+    ArgumentError,
     ClosedError,
     Codec,
     Configuration,
@@ -85,6 +86,27 @@ class Offers(unittest.TestCase):
         here.accept_answer(str(there.accept_offer(str(offer))))
         self.assertIs(here.state, SignalingState.STABLE)
         self.assertEqual([row.pt for row in here.rows() if row.locked], [row.pt for row in there.rows() if row.locked])
+
+    def test_a_section_is_held_and_resumed(self):
+        here, there = side(), side()
+
+        def offered():
+            offer = str(here.create_offer())
+            here.accept_answer(str(there.accept_offer(offer)))
+            return [line for line in offer.splitlines() if line in ("a=sendrecv", "a=sendonly", "a=inactive")]
+
+        here.add_media(MediaKind.AUDIO)
+        self.assertEqual(offered(), ["a=sendrecv"])
+        here.set_direction("0", Direction.INACTIVE)
+        here.set_direction(b"1", Direction.SENDRECV)
+        self.assertRaises(ValueError, here.set_direction, "0", 4)
+        self.assertRaises(TypeError, here.set_direction, 0, Direction.SENDRECV)
+        self.assertRaises(Utf8Error, here.set_direction, b"\xff", Direction.SENDRECV)
+        with self.assertRaises(ArgumentError):
+            here.set_direction("0123456789abcdef0", Direction.SENDRECV)
+        self.assertEqual(offered(), ["a=inactive"])
+        here.set_direction("0", Direction.SENDONLY)
+        self.assertEqual(offered(), ["a=sendonly"])
 
     def test_an_offer_is_dropped(self):
         exchange = side()
@@ -190,6 +212,7 @@ class Ownership(unittest.TestCase):
             lambda: exchange.add_media(MediaKind.AUDIO),
             exchange.add_channels,
             lambda: exchange.restart_ice("a", "b"),
+            lambda: exchange.set_direction("0", Direction.INACTIVE),
             exchange.rows,
             lambda: exchange.state,
         )

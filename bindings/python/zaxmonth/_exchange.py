@@ -179,6 +179,14 @@ class Exchange(_Handle):
         with self._lock:
             check(library.zax_restart_ice(self._open(), _slice(ufrag), _slice(pwd)))
 
+    def set_direction(self, mid: Text, direction: Direction) -> None:
+        """Has the next description say this direction in the section of a mid, to hold its media and to resume it.
+
+        Raises ArgumentError where the mid has more than 16 bytes, Utf8Error or OutOfMemory."""
+        raw, number = _bytes_of(mid), Direction(direction).value
+        with self._lock:
+            check(library.zax_set_direction(self._open(), raw, len(raw), number))
+
     def rows(self) -> List[Row]:
         """The rows of its configuration."""
         return self._rows(library.zax_exchange_rows, (library.zax_exchange_row_codec, library.zax_exchange_row_fmtp))

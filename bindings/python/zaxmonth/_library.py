@@ -80,6 +80,7 @@ _CALLS = {
     "zax_add_media": (c_uint32, (_HANDLE, c_uint32, c_uint32, _ERROR)),
     "zax_add_channels": (c_uint32, (_HANDLE, _ERROR)),
     "zax_restart_ice": (c_uint32, (_HANDLE, RawSlice, RawSlice)),
+    "zax_set_direction": (c_uint32, (_HANDLE, *_TEXT, c_uint32)),
     "zax_print_version": (c_uint32, (_HANDLE, c_uint64, *_ROOM)),
     "zax_exchange_rows": (c_uint32, (_HANDLE, *_ROOM)),
     "zax_exchange_row_codec": (c_uint32, (_HANDLE, _INDEX, *_ROOM)),

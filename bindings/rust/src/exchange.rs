@@ -27,6 +27,8 @@ pub enum ExchangeError {
     NoName,
     /// What this side says of itself has no fingerprint, or a line that is no candidate.
     OwnSide(String),
+    /// An argument is none that the library takes.
+    Argument,
     /// Memory was refused.
     Memory,
 }
@@ -43,6 +45,7 @@ impl fmt::Display for ExchangeError {
             ExchangeError::NoRows => "this side has no codec for media of that kind",
             ExchangeError::NoChannels => "this side takes no data channels",
             ExchangeError::NoName => "no name is left for a section that was added",
+            ExchangeError::Argument => "an argument is none that the library takes",
             ExchangeError::Memory => "out of memory",
         })
     }
@@ -53,6 +56,7 @@ impl std::error::Error for ExchangeError {}
 fn error_of(status: u32, error: &raw::Error) -> ExchangeError {
     match status {
         3 => ExchangeError::Memory,
+        7 => ExchangeError::Argument,
         8 => ExchangeError::WrongState(told(error)),
         9 => ExchangeError::Unread { line: error.line, message: told(error) },
         10 => ExchangeError::DoesNotFit(told(error)),
@@ -183,6 +187,13 @@ impl Exchange {
     pub fn restart_ice(&mut self, creds: &IceCreds) -> Result<(), ExchangeError> {
         // SAFETY: the texts are that long, and the handle is full.
         self.told(|it, _error| unsafe { raw::zax_restart_ice(it, slice(&creds.ufrag), slice(&creds.pass)) })
+    }
+
+    /// Has the next description say this direction in the section of a mid, to hold its media and to resume it (RFC 3264, section 8.4).
+    /// `Argument` where the mid has more than 16 bytes.
+    pub fn set_direction(&mut self, mid: &str, direction: Direction) -> Result<(), ExchangeError> {
+        // SAFETY: the text is that long, and the handle is full.
+        self.told(|it, _error| unsafe { raw::zax_set_direction(it, mid.as_ptr().cast(), mid.len(), direction as u32) })
     }
 
     /// The rows of its configuration.

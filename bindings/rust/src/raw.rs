@@ -95,6 +95,7 @@ extern "C" {
     pub fn zax_add_media(exchange: *mut Exchange, kind: u32, direction: u32, error: *mut Error) -> u32;
     pub fn zax_add_channels(exchange: *mut Exchange, error: *mut Error) -> u32;
     pub fn zax_restart_ice(exchange: *mut Exchange, ufrag: Slice, pwd: Slice) -> u32;
+    pub fn zax_set_direction(exchange: *mut Exchange, mid: *const c_char, length: usize, direction: u32) -> u32;
     pub fn zax_print_version(session: *mut Session, version: u64, room: *mut u8, cap: usize, needed: *mut usize) -> u32;
     pub fn zax_exchange_rows(exchange: *mut Exchange, room: *mut crate::Row, cap: usize, needed: *mut usize) -> u32;
     pub fn zax_exchange_row_codec(exchange: *mut Exchange, row: usize, room: *mut u8, cap: usize, needed: *mut usize) -> u32;

@@ -73,6 +73,26 @@ fn one_side_offers_and_the_other_answers() {
     assert_eq!((here.codec(0).unwrap(), here.fmtp(0).unwrap()), ("opus".to_owned(), "minptime=10;useinbandfec=1".to_owned()));
 }
 
+/// An offer, which the other side answers.
+fn offered(here: &mut Exchange, there: &mut Exchange) -> String {
+    let offer = here.create_offer().unwrap().to_sdp_string().unwrap();
+    here.accept_answer(&there.accept_offer(&offer).unwrap().to_sdp_string().unwrap()).unwrap();
+    offer
+}
+
+#[test]
+fn a_section_is_held_and_resumed() {
+    let (mut here, mut there) = (exchange(), exchange());
+    here.add_media(MediaKind::Audio, Direction::SendRecv).unwrap();
+    assert!(offered(&mut here, &mut there).contains("a=sendrecv\r\n"));
+    here.set_direction("0", Direction::Inactive).unwrap();
+    here.set_direction("1", Direction::SendRecv).unwrap();
+    assert_eq!(here.set_direction("0123456789abcdef0", Direction::SendRecv), Err(ExchangeError::Argument));
+    assert!(offered(&mut here, &mut there).contains("a=inactive\r\n"));
+    here.set_direction("0", Direction::SendOnly).unwrap();
+    assert!(offered(&mut here, &mut there).contains("a=sendonly\r\n"));
+}
+
 #[test]
 fn an_offer_is_dropped() {
     let mut exchange = exchange();

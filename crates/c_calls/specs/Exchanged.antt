@@ -1,5 +1,6 @@
 -- What an exchange of offers and answers is behind a call.
 use Rattle.std.specs.Prelude.{◌≡◌, ◌+◌, ◌-◌, ◌^◌, [], ℕ, List, All, IsSomeAnd, None, Option, Some, drop, length, min}
+use Rattle.str0m_values.specs.declared.direction.Direction.{Direction}
 use Rattle.str0m_formats.specs.PlainRow.{IsPlain}
 use Rattle.str0m_formats.specs.Promises.{LockedStay}
 use Rattle.str0m_formats.specs.Rows.{types}
@@ -19,6 +20,7 @@ use Rattle.exchange.specs.MadeOffer.{MakesOffer, placed_as, ready_with}
 use Rattle.exchange.specs.Names.{grown}
 use Rattle.exchange.specs.OfferRules.{IsNewName, IsOffered, KeepsPlaces}
 use Rattle.exchange.specs.Offered.{IsOffer, Negotiates}
+use Rattle.exchange.specs.OwnSide.{with_direction}
 use Rattle.exchange.specs.Places.{StaysInPlaces}
 use Rattle.exchange.specs.ReadBack.{IsReadBack}
 use Rattle.exchange.specs.Rules.{HasShapeOf, IsAcceptedExactly, KeepsRules}
@@ -116,6 +118,11 @@ begun own config = record { own = own; config = config; local = None; remote = N
 -- with a configuration one side begins, which is what the numbers and the texts say
 abbrev pub Begins : OwnNumbers → OwnTexts → Option CodecConfig → Option Exchange → Type 0
 Begins numbers texts config after = (own : OwnSide) × SaysOwn numbers texts own × Of config (λ it. after ≡ Some (begun own it))
+
+-- this side is ready for a direction in the section of a name, from its next description on (RFC 3264, section 8.4)
+abbrev pub turned : List ℕ → Direction → Exchange → Exchange
+turned mid direction before =
+    record before { own = record before.own { directions = with_direction mid direction before.own.directions } }
 
 -- what a handle held becomes this, and another handle gets that
 abbrev pub Goes : {X Y : Type 0} → (X → X → Y → Type 0) → Option X → Option X → Option Y → Type 0

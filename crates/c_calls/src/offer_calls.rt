@@ -1,19 +1,20 @@
 //! Calls of exchanges in which this side offers.
 
-ghost use Rattle.std.specs.Prelude.{◌≡◌, ◌≢◌, [], IfErr, IfOk, None, OnErr, OnOk, Some, true};
+ghost use Rattle.std.specs.Prelude.{◌≡◌, ◌≢◌, ◌<◌, ◌≤◌, ◌↔◌, ◌⊎◌, [], IfErr, IfOk, None, OnErr, OnOk, Some, length, true};
+ghost use Rattle.std.specs.Str.{IsUtf8};
 ghost use Rattle.c_parts.specs.Fault.{Refuses, RefusesBytes, Told, ToldAt};
 ghost use Rattle.c_parts.specs.Full.{IsFull};
 ghost use Rattle.c_parts.specs.Side.{RefusesBoth, direction_numbered, kind_numbered};
-ghost use Rattle.c_calls.specs.Exchanged.{AcceptsAnswer, CreatesOffer, Goes};
+ghost use Rattle.c_calls.specs.Exchanged.{AcceptsAnswer, CreatesOffer, Goes, turned};
 ghost use Rattle.c_calls.specs.Held.{Of};
-ghost use Rattle.c_calls.specs.Status.{done};
+ghost use Rattle.c_calls.specs.Status.{done, no_memory, no_utf8, wrong_argument};
 ghost use Rattle.exchange.specs.AcceptedAnswer.{RefusesAnswer};
 ghost use Rattle.exchange.specs.AddedTo.{with_channels, with_media};
 ghost use Rattle.exchange.specs.Exchange.{RefusesChannels, RefusesMedia, RefusesToOffer};
 ghost use Rattle.str0m_formats.specs.KindRows.{kind_rows};
 
 use crate::exchange_calls::place_for_description;
-use crate::said::{DONE, NO_MEMORY};
+use crate::said::{DONE, NO_MEMORY, NO_UTF8, WRONG_ARGUMENT};
 use crate::told::{tell, tell_error};
 use c_parts::exchange_handle::ExchangeHandle;
 use c_parts::fault::Fault;
@@ -22,7 +23,7 @@ use c_parts::side::{direction_numbered, kind_numbered, text_of};
 use exchange::{Exchange, ExchangeError};
 use std::alloc::Global;
 use std::str;
-use str0m_signal::{IceCreds, Sdp};
+use str0m_signal::{IceCreds, Mid, Sdp};
 
 /// Makes an offer, which stands in its place then.
 fn offered(exchange: &mut Exchange, place: &mut Sdp) -> Result<u64, ExchangeError>
@@ -209,5 +210,36 @@ pub extern "C" fn zaxp_exchange_restart_ice(
             DONE
         }
         Err(fault) => fault.code(),
+    }
+}
+
+/// Has the next description say that this side is ready for a direction in the section of a name: to hold media, and to resume it.
+#[unsafe(no_mangle)]
+pub extern "C" fn zaxp_exchange_set_direction(
+    alloc: Global,
+    handle: &mut ExchangeHandle,
+    mid: &[u8],
+    direction: u8,
+) -> u32
+    requires { IsFull handle.old.inner }
+    ensures turned { result ≡ done → Of handle.old.inner (λ before.
+        handle.new.inner ≡ Some (turned mid.now (direction_numbered direction) before)) }
+    ensures same { result ≢ done → handle.new.inner ≡ handle.old.inner }
+    ensures statuses { (result ≡ done) ⊎ (result ≡ no_memory) ⊎ (result ≡ no_utf8) ⊎ (result ≡ wrong_argument) }
+    ensures wrong { (result ≡ wrong_argument) ↔ (16 < length mid.now) }
+    ensures no_text { (result ≡ no_utf8) ↔ ((length mid.now ≤ 16) × (IsUtf8 mid.now → ⊥)) }
+{
+    if mid.len() > 16 {
+        return WRONG_ARGUMENT; // (no section keeps such a name, and its beginning may be another's)
+    }
+    let Ok(name) = str::from_utf8(mid) else {
+        return NO_UTF8;
+    };
+    let mut exchange = handle.take(alloc);
+    let done = exchange.set_direction(Mid::from(name), direction_numbered(direction));
+    handle.put(exchange);
+    match done {
+        Ok(()) => DONE,
+        Err(_) => NO_MEMORY,
     }
 }

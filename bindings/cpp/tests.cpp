@@ -1,0 +1,63 @@
+// Tests of zaxmonth.hpp; the last line is 'N passed, M failed'.
+//     c++ -std=c++17 tests.cpp $(pkg-config --cflags --libs zaxmonth) -o tests
+#include "zaxmonth.hpp"
+
+#include <cstdio>
+
+static int passed, failed;
+
+template <class Found, class Wanted> static void is(const char *what, const Found &found, const Wanted &wanted)
+{
+    const bool is_right = found == wanted;
+    passed += is_right, failed += !is_right;
+    if (!is_right)
+        std::printf("tests.cpp: %s is another\n", what);
+}
+
+// The status that a call throws; ZAX_OK where it throws none.
+template <class Call> static zax_status thrown(Call call)
+{
+    try {
+        call();
+        return ZAX_OK;
+    } catch (const zaxmonth::Error &error) {
+        return error.status();
+    }
+}
+
+static zaxmonth::Exchange side()
+{
+    zaxmonth::OwnSide own;
+    own.ice_ufrag = "ansr", own.ice_pwd = "0123456789abcdef01234567", own.fingerprint = "sha-256 01:23";
+    return zaxmonth::Exchange(own, zaxmonth::Config());
+}
+
+// Whether an offer, which the other side answers, has the line.
+static bool offers(zaxmonth::Exchange &here, zaxmonth::Exchange &there, const char *line)
+{
+    const auto offer = here.create_offer().text();
+    here.accept_answer(there.accept_offer(offer).text());
+    return offer.find(std::string("\r\n") + line + "\r\n") != std::string::npos;
+}
+
+static void directions()
+{
+    auto here = side(), there = side();
+    here.add_media(ZAX_AUDIO, ZAX_SENDRECV);
+    is("an offer", offers(here, there, "a=sendrecv"), true);
+    here.set_direction("0", ZAX_INACTIVE);
+    here.set_direction("1", ZAX_SENDRECV);
+    is("no direction", thrown([&] { here.set_direction("0", static_cast<zax_direction>(4)); }), ZAX_E_ARGUMENT);
+    is("a long mid", thrown([&] { here.set_direction("0123456789abcdef0", ZAX_SENDRECV); }), ZAX_E_ARGUMENT);
+    is("a mid that is no text", thrown([&] { here.set_direction("\xff", ZAX_SENDRECV); }), ZAX_E_UTF8);
+    is("an offer that holds", offers(here, there, "a=inactive"), true);
+    here.set_direction("0", ZAX_SENDONLY);
+    is("an offer that resumes", offers(here, there, "a=sendonly"), true);
+}
+
+int main()
+{
+    directions();
+    std::printf("%d passed, %d failed\n", passed, failed);
+    return failed != 0;
+}
