@@ -75,17 +75,31 @@ fn want_of_memory_is_said(rt: HostRuntime) -> Result<(), Fail> {
 }
 
 #[test]
-fn the_section_comes_before_the_session(rt: HostRuntime) -> Result<(), Fail> {
+fn the_role_of_a_section_comes_before_that_of_the_session(rt: HostRuntime) -> Result<(), Fail> {
     let offer = read(rt.alloc(), FOUR_SECTIONS)?;
     assert_eq!(rt; setup_at(&offer, 0), Some(Setup::Passive));
     assert_eq!(rt; setup_at(&offer, 1), Some(Setup::ActPass));
     assert_eq!(rt; setup_at(&offer, 4), None);
+    Ok(())
+}
+
+#[test]
+fn each_credential_is_that_of_the_section_before_the_session(rt: HostRuntime) -> Result<(), Fail> {
+    let offer = read(rt.alloc(), FOUR_SECTIONS)?;
     let own = creds_at(&offer, 0)?.ok_or("credentials")?;
     assert_eq!(rt; own.ufrag.as_str(), "own1");
     assert_eq!(rt; own.pass.as_str(), "session-password-of-22");
     let theirs = creds_at(&offer, 1)?.ok_or("credentials")?;
     assert_eq!(rt; theirs.ufrag.as_str(), "sess");
     assert!(rt; creds_at(&offer, 4)?.is_none());
+    Ok(())
+}
+
+#[test]
+fn a_fingerprint_of_a_section_comes_before_those_of_the_session(
+    rt: HostRuntime,
+) -> Result<(), Fail> {
+    let offer = read(rt.alloc(), FOUR_SECTIONS)?;
     let print = fingerprint_at(&offer, 2)?.ok_or("fingerprint")?;
     assert_eq!(rt; print.hash_func.as_str(), "sha-256");
     let print = fingerprint_at(&offer, 3)?.ok_or("fingerprint")?;
