@@ -1,9 +1,14 @@
 -- Answers to an offer of this side.
-use Rattle.std.specs.Prelude.{◌≡◌, ℕ, List, [], Option, Some, None}
+use Rattle.std.specs.Prelude.{◌≡◌, ℕ, List, [], Option, Some, None, All}
+use Rattle.str0m_formats.specs.Promises.{LockedStay}
+use Rattle.str0m_formats.specs.PlainRow.{IsPlain}
+use Rattle.str0m_formats.specs.Rows.{types}
+use Rattle.str0m_formats.specs.TypeSets.{AllDistinct}
+use Rattle.str0m_formats.specs.declared.codec_config.CodecConfig.{CodecConfig}
 use Rattle.str0m_formats.specs.declared.payload_params.PayloadParams.{PayloadParams}
 use Rattle.str0m_sdp.specs.declared.session.Sdp.{Sdp}
 use Rattle.str0m_signal.specs.Reading.{Reading}
-use Rattle.exchange.specs.Fits.{Breaks}
+use Rattle.exchange.specs.Fits.{Breaks, FitsOffer}
 use Rattle.exchange.specs.Offered.{Negotiates, RefusesText}
 use Rattle.exchange.specs.State.{pending_sdp}
 use Rattle.exchange.specs.declared.added.Placed.{Placed}
@@ -53,3 +58,15 @@ RefusesAnswer old text NoChannels = ⊥
 RefusesAnswer old text NoName = ⊥
 RefusesAnswer old text NotPrintable = ⊥
 RefusesAnswer old text Memory = Unit {0}
+
+-- the text is an answer that fits the open offer, and its rounds lead to this configuration
+pub record IsTakenWith (old : Exchange) (text : List ℕ) (answer : Sdp) (after : CodecConfig) : Type 0 where
+  pub offer : Pending
+  pub open_so : old.pending ≡ Some offer
+  pub read : IsAnswer text answer
+  pub fits : FitsOffer after.params.items offer.sdp answer
+  pub negotiated : Negotiates answer old.config.params.items after.params.items
+  pub stay : LockedStay old.config.params.items after.params.items
+  pub distinct : AllDistinct (types old.config.params.items) → AllDistinct (types after.params.items)
+  pub plain : All IsPlain old.config.params.items → All IsPlain after.params.items
+  pub distances : after.red_distances ≡ old.config.red_distances

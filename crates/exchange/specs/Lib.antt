@@ -1,5 +1,6 @@
 pub mod Accepted
 pub mod AcceptedAnswer
+pub mod AcceptedOffer
 pub mod Added
 pub mod AddedTo
 pub mod AnsweredSection

@@ -8,6 +8,7 @@ ghost use Rattle.str0m_formats.specs.TypeSets.{AllDistinct};
 ghost use Rattle.str0m_sdp.specs.RowBounds.{HasBoundedRows};
 ghost use Rattle.str0m_sdp.specs.Session.{versioned_text};
 ghost use Rattle.str0m_sdp.specs.SessionConsistency.{AreDistinct, section_mids};
+ghost use Rattle.exchange.specs.AcceptedOffer.{IsAnsweredWith};
 ghost use Rattle.exchange.specs.AnsweredSession.{BundlesAccepted};
 ghost use Rattle.exchange.specs.Exchange.{AnswersOffer, EachSection, RefusesOffer, RefusesSections, RefusesToAnswer};
 ghost use Rattle.exchange.specs.Follows.{Follows, IsSound};
@@ -33,6 +34,19 @@ use crate::places::{first_moved, sections_of};
 use crate::rule::Rule;
 use std::alloc::{AllocError, Global};
 use str0m_signal::{CodecConfig, Items, Mid, Round, Sdp};
+
+/// An offer and what answers it, of which nothing is in force yet.
+#[derive(Drop)]
+struct Answering {
+    remote: Sdp,
+    /// The rows after the rounds of the offer.
+    config: CodecConfig,
+    sdp: Sdp,
+    /// A copy of the answer, which stays.
+    local: Sdp,
+    /// The names that sections have had, those of the answer among them.
+    names: Items<Mid>,
+}
 
 /// The description that answers an offer.
 #[tactic(auto, using(crate::proofs::BundleLaws::bundles))]
@@ -121,6 +135,29 @@ impl Exchange {
         }
     }
 
+    /// What this side answers to an offer.
+    fn answering(&self, offer: &str) -> Result<Answering, ExchangeError>
+        ensures answered { IfOk result (λ it. IsAnsweredWith self.now offer.now it.remote it.config it.sdp) }
+        ensures same { IfOk result (λ it. it.local ≡ it.sdp) }
+        ensures names { IfOk result (λ it. it.names ≡ grown self.now.names it.sdp.media_lines) }
+        ensures refused { IfErr result (RefusesOffer self.now offer.now) }
+    {
+        let remote = self.placed_offer(offer)?;
+        let alloc = *self.config.allocator();
+        let rounds = rounds_of(alloc, &remote)?;
+        let config = negotiated_by(&self.config, &remote, rounds.as_slice())?;
+        let sdp = answer_to(alloc, &self.own, &config, &remote, rounds.as_slice())?;
+        let local = self.printable_answer(&config, &remote, &sdp)?;
+        let names = grown(alloc, &self.names, local.media_lines.as_slice())?;
+        Ok(Answering {
+            remote,
+            config,
+            sdp,
+            local,
+            names,
+        })
+    }
+
     /// Answers an offer (RFC 3264, section 6; RFC 8829, section 5.3): with as many sections, in its order, of the same
     /// types, protocols and names. One is rejected exactly where it is stopped, where it is neither media over RTP nor
     /// data channels over SCTP, or where this side has nothing for it. Media flows where both sides are ready for it, with
@@ -172,15 +209,9 @@ impl Exchange {
         ensures unchanged { OnErr result (self.new ≡ self.old) }
     {
         self.check_stable()?;
-        let remote = self.placed_offer(offer)?;
-        let alloc = *self.config.allocator();
-        let rounds = rounds_of(alloc, &remote)?;
-        let config = negotiated_by(&self.config, &remote, rounds.as_slice())?;
-        let sdp = answer_to(alloc, &self.own, &config, &remote, rounds.as_slice())?;
-        let local = self.printable_answer(&config, &remote, &sdp)?;
-        let names = grown(alloc, &self.names, local.media_lines.as_slice())?;
-        let answer = Answer::new(sdp, self.version);
-        self.settle(Some(local), remote, config, names);
+        let made = self.answering(offer)?;
+        let answer = Answer::new(made.sdp, self.version);
+        self.settle(Some(made.local), made.remote, made.config, made.names);
         self.version = next_version(self.version);
         Ok(answer)
     }
