@@ -23,7 +23,7 @@ ghost use Rattle.exchange.specs.declared.signaling_state.SignalingState.TheVaria
 use crate::answer::Answer;
 use crate::answered_section::answered_sections;
 use crate::answered_session::answered_session;
-use crate::exchange::{Exchange, negotiated_by, printable_copy};
+use crate::exchange::{Exchange, negotiated_by, next_version, printable_copy};
 use crate::exchange_error::ExchangeError;
 use crate::names::grown;
 use crate::offered::{rounds_of, whole_description};
@@ -31,7 +31,6 @@ use crate::own_names::first_named_again;
 use crate::own_side::OwnSide;
 use crate::places::{first_moved, sections_of};
 use crate::rule::Rule;
-use crate::signaling_state::SignalingState;
 use std::alloc::{AllocError, Global};
 use str0m_signal::{CodecConfig, Items, Mid, Round, Sdp};
 
@@ -172,9 +171,7 @@ impl Exchange {
         ensures refused { IfErr result (RefusesOffer self.old offer.now) }
         ensures unchanged { OnErr result (self.new ≡ self.old) }
     {
-        if !matches!(self.state(), SignalingState::Stable) {
-            return Err(ExchangeError::WrongState(self.state()));
-        }
+        self.check_stable()?;
         let remote = self.placed_offer(offer)?;
         let alloc = *self.config.allocator();
         let rounds = rounds_of(alloc, &remote)?;
@@ -184,7 +181,7 @@ impl Exchange {
         let names = grown(alloc, &self.names, local.media_lines.as_slice())?;
         let answer = Answer::new(sdp, self.version);
         self.settle(Some(local), remote, config, names);
-        self.version = self.version.saturating_add(1);
+        self.version = next_version(self.version);
         Ok(answer)
     }
 }

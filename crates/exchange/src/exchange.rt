@@ -25,7 +25,7 @@ ghost use Rattle.exchange.specs.Rules.{HasShapeOf, IsAcceptedExactly, KeepsRules
 ghost use Rattle.exchange.specs.State.{pending_sdp, sections_of, state_of, taken_names};
 ghost use Rattle.str0m_sdp.specs.Session.{versioned_text};
 ghost use Rattle.exchange.specs.Tracks.{tracks};
-ghost use Rattle.exchange.specs.declared.exchange_error.ExchangeError.TheVariants.{Memory};
+ghost use Rattle.exchange.specs.declared.exchange_error.ExchangeError.TheVariants.{Memory, WrongState};
 ghost use Rattle.exchange.specs.declared.signaling_state.SignalingState.TheVariants.{Stable};
 
 use crate::added::Added;
@@ -119,6 +119,13 @@ pub(crate) fn negotiated(config: &CodecConfig, offer: &Sdp) -> Result<CodecConfi
 {
     let rounds = rounds_of(*config.allocator(), offer)?;
     negotiated_by(config, offer, rounds.as_slice())
+}
+
+/// The version of the description behind one (RFC 8866, section 5.2: it grows).
+pub(crate) fn next_version(version: u64) -> u64
+    ensures { result ≡ min (version + 1) (2 ^ 64 - 1) }
+{
+    version.saturating_add(1)
 }
 
 impl Exchange {
@@ -313,9 +320,7 @@ impl Exchange {
         ensures refused { IfErr result (RefusesToOffer self.old) }
         ensures unchanged { OnErr result (self.new ≡ self.old) }
     {
-        if let SignalingState::HaveLocalOffer = self.state() {
-            return Err(ExchangeError::WrongState(self.state()));
-        }
+        self.check_stable()?;
         let (alloc, version) = (*self.config.allocator(), self.version);
         let taken = taken_names(self)?;
         let added = fresh_names(alloc, taken.as_slice(), self.added.len())?;
@@ -327,8 +332,19 @@ impl Exchange {
         let pending = Pending { sdp: copy, placed };
         let offer = Offer::new(sdp, version, added);
         self.pending = Some(pending);
-        self.version = version.saturating_add(1);
+        self.version = next_version(version);
         Ok(offer)
+    }
+
+    /// An error where an offer of this side waits for its answer.
+    pub(crate) fn check_stable(&self) -> Result<(), ExchangeError>
+        ensures stable { OnOk result (state_of self.now ≡ Stable) }
+        ensures refused { IfErr result (λ error. (error ≡ WrongState (state_of self.now)) × (state_of self.now ≢ Stable)) }
+    {
+        match self.state() {
+            SignalingState::Stable => Ok(()),
+            state => Err(ExchangeError::WrongState(state)),
+        }
     }
 
     /// Has these be the last descriptions of both sides, with the rows and the names that are in use after them.

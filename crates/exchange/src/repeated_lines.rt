@@ -24,6 +24,9 @@ pub(crate) fn is_repeated(known: &[Text], line: &MediaAttribute) -> bool
     }
 }
 
+/// How many lines most answers repeat at the most: no answer depends on it.
+const LIKELY_LINES: usize = 16;
+
 /// The lines that an answer repeats from an offered section, in the offer's order: `a=rtcp-mux` (RFC 5761, section 5.1.1),
 /// `a=rtcp-rsize` (RFC 5506, section 5), each `a=extmap` line whose URI stands in `known`, with the offered number, and
 /// `a=extmap-allow-mixed` (RFC 8285, section 6). No other line stands in the result, and none that isn't offered.
@@ -36,7 +39,7 @@ pub fn repeated(
 ) -> Result<Vec<MediaAttribute>, AllocError>
     ensures { IfOk result (λ lines. lines.items ≡ repeated_lines known.now offered.now) }
 {
-    let mut lines = Vec::new(alloc);
+    let mut lines = Vec::with_capacity(alloc, offered.attrs.len().min(LIKELY_LINES))?;
     for line in offered.attrs.as_slice() {
         if is_repeated(known, line) {
             lines.push(line.clone()?)?;
