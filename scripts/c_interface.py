@@ -26,7 +26,7 @@ STRUCTS = {
     "Section": ("zax_section", "section"),
     "OwnNumbers": ("struct own_numbers", "side"),
 }
-# What each status of specs/Status.antt is in the header, each cause of a refused round, and the codecs whose name there isn't their own
+# What each status of specs/Told.antt is in the header, each cause of a refused round, and the codecs whose name there isn't their own
 STATUSES = {
     "done": "OK",
     "no_session": "E_PARSE",
@@ -132,7 +132,7 @@ def same_struct(ours, theirs, own):
 
 def numbers():
     """The names of the header with the numbers that the definitions give them."""
-    statuses = dict(re.findall(r"^(\w+) = (\d+)$", (CALLS / "specs" / "Status.antt").read_text("utf-8"), re.M))
+    statuses = dict(re.findall(r"^(\w+) = (\d+)$", (CALLS / "specs" / "Told.antt").read_text("utf-8"), re.M))
     yield from ((f"ZAX_{STATUSES[name]}", number) for name, number in statuses.items())
     row = (PARTS / "specs" / "Row.antt").read_text("utf-8")
     for name, number in re.findall(r"^codec_number (\w+) = (\d+)$", row, re.M):
@@ -154,7 +154,7 @@ def numbers_of_exchanges():
     side = (PARTS / "specs" / "Side.antt").read_text("utf-8")
     for number, name in re.findall(r"nat_eq n (\d+) then (\w+)", side):
         yield f"ZAX_{name.upper()}", number
-    exchanged = (CALLS / "specs" / "Exchanged.antt").read_text("utf-8")
+    exchanged = (CALLS / "specs" / "ExchangeCalls.antt").read_text("utf-8")
     for name, number in re.findall(r"^state_number (\w+) = (\d+)$", exchanged, re.M):
         yield f"ZAX_{STATES[name]}", number
 

@@ -1,2 +1,2 @@
-pub mod Filled
-pub mod Putting
+pub mod OfferCallsFilled
+pub mod SaidPutting

@@ -1,5 +1,18 @@
 //! What C calls, after the tests of capi/zaxmonth.c. Each takes handles that own something where it asks for that, and answers a
 //! status (`zax_status`).
+//!
+//! - `candidate_calls`: Calls of candidates.
+//! - `config_calls`: Calls that make, change and free configurations.
+//! - `exchange_calls`: Calls of exchanges: one side is made, and it answers offers.
+//! - `finding_calls`: The call of findings.
+//! - `offer_calls`: Calls of exchanges in which this side offers.
+//! - `round_calls`: Calls that negotiate, and that answer with what is agreed.
+//! - `row_calls`: Calls of rows, of a section and of a configuration.
+//! - `said`: What a call answers.
+//! - `section_calls`: Calls of sections.
+//! - `session_calls`: Calls of descriptions.
+//! - `told`: What a call of an exchange tells where it is refused.
+//! - `transport_calls`: Calls of the transport that a description speaks of.
 #![tactic(auto)]
 
 mod candidate_calls;

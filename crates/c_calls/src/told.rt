@@ -1,7 +1,7 @@
 //! What a call of an exchange tells where it is refused.
 
 ghost use Rattle.std.specs.Prelude.{◌≡◌, ◌≢◌};
-ghost use Rattle.c_calls.specs.Status.{done};
+ghost use Rattle.c_calls.specs.Told.{done};
 ghost use Rattle.c_parts.specs.Fault.{error_code, fault_code, fault_line};
 
 use c_parts::fault::Fault;

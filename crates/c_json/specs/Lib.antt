@@ -1,1 +1,1 @@
-pub mod JsonText
+pub mod Description

@@ -1,6 +1,6 @@
 //! The whole of a description.
 ghost use Rattle.std.specs.Prelude.{IfOk, string_bytes};
-ghost use Rattle.c_json.specs.JsonText.{IsJsonText};
+ghost use Rattle.c_json.specs.Description.{IsJsonText};
 
 use crate::head::add_head;
 use crate::media_attribute::add_media_attribute;
@@ -42,7 +42,7 @@ fn description(alloc: Global, sdp: &Sdp) -> Result<Value, AllocError> {
 }
 
 /// The description as it prints, as JSON without spaces. The only error is that memory was refused.
-#[tactic(auto, using(crate::proofs::Written::is_json_text))]
+#[tactic(auto, using(crate::proofs::DescriptionWritten::is_json_text))]
 pub fn json_text(alloc: Global, sdp: &Sdp) -> Result<String, AllocError>
     ensures { IfOk result (λ text. IsJsonText (string_bytes text)) }
 {

@@ -1,6 +1,6 @@
 //! What is found in a text.
 ghost use Rattle.std.specs.Prelude.{IfOk, string_bytes};
-ghost use Rattle.c_json.specs.JsonText.{IsJsonText};
+ghost use Rattle.c_json.specs.Description.{IsJsonText};
 
 use lint::{Finding, findings};
 use serde_json::{Value, json};
@@ -37,7 +37,7 @@ fn records(alloc: Global, text: &str) -> Result<Value, AllocError> {
 
 /// What is found in a text, as JSON without spaces: what `sdplint --format json` writes of it as standard input, without the end of
 /// the line. The only error is that memory was refused.
-#[tactic(auto, using(crate::proofs::Written::is_json_text))]
+#[tactic(auto, using(crate::proofs::DescriptionWritten::is_json_text))]
 pub fn findings_text(alloc: Global, text: &str) -> Result<String, AllocError>
     ensures { IfOk result (λ text. IsJsonText (string_bytes text)) }
 {

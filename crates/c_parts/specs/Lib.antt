@@ -1,11 +1,10 @@
-pub mod ConfigOwned
-pub mod ExchangeOwned
+pub mod ConfigHandle
+pub mod ExchangeHandle
 pub mod Fault
-pub mod Full
-pub mod Owned
-pub mod Refused
+pub mod Parts
+pub mod Reading
 pub mod Room
 pub mod Row
 pub mod Section
-pub mod SessionOwned
+pub mod SessionHandle
 pub mod Side

@@ -1,10 +1,10 @@
 -- Rows and outcomes as C holds them.
 use Rattle.std.specs.Prelude.{ℕ, ◌+◌, ◌==◌, Bool, true, false, Option, Some, None, Ok, Err, find, if◌then◌else◌}
-use Rattle.str0m_formats.specs.Runs.{Outcome as RoundOutcome}
+use Rattle.str0m_formats.specs.round.RoundsRuns.{Outcome as RoundOutcome}
 use Rattle.str0m_formats.specs.declared.codec.Codec.{Codec}
 use Rattle.str0m_formats.specs.declared.codec.Codec.TheVariants.{Opus, PCMU, PCMA, G722, CN, AmrWb, H264, H265, H266, Vp8, Vp9, Av1, Tele, Rtx, Red, Null}
-use Rattle.str0m_formats.specs.declared.negotiation_error.NegotiationError.TheVariants.{TypeTooLarge, ClaimedTwice, Exhausted, Memory}
-use Rattle.str0m_formats.specs.declared.payload_params.PayloadParams.{PayloadParams}
+use Rattle.str0m_formats.specs.declared.round.negotiation_error.NegotiationError.TheVariants.{TypeTooLarge, ClaimedTwice, Exhausted, Memory}
+use Rattle.str0m_formats.specs.declared.row.payload_params.PayloadParams.{PayloadParams}
 use Rattle.c_parts.specs.declared.row.Outcome.{Outcome}
 use Rattle.c_parts.specs.declared.row.Row.{Row}
 use Rattle.c_parts.specs.declared.row.TheConstants.{NUMBERED}

@@ -10,10 +10,10 @@ use Rattle.str0m_values.specs.declared.direction.Direction.TheVariants.{SendRecv
 use Rattle.str0m_values.specs.declared.fingerprint.Fingerprint.{Fingerprint}
 use Rattle.str0m_values.specs.declared.media_kind.MediaKind.{MediaKind}
 use Rattle.str0m_values.specs.declared.media_kind.MediaKind.TheVariants.{Audio, Video}
-use Rattle.exchange.specs.Trickled.{IsTrickled}
-use Rattle.exchange.specs.declared.exchange_error.ExchangeError.TheVariants.{Memory}
-use Rattle.exchange.specs.declared.own_side.DataChannels.{DataChannels}
-use Rattle.exchange.specs.declared.own_side.OwnSide.{OwnSide}
+use Rattle.exchange.specs.section.Trickled.{IsTrickled}
+use Rattle.exchange.specs.declared.state.exchange_error.ExchangeError.TheVariants.{Memory}
+use Rattle.exchange.specs.declared.state.own_side.DataChannels.{DataChannels}
+use Rattle.exchange.specs.declared.state.own_side.OwnSide.{OwnSide}
 use Rattle.c_parts.specs.declared.fault.Fault.{Fault}
 use Rattle.c_parts.specs.declared.fault.Fault.TheVariants.{NotUtf8, NoFingerprint, NoCandidate, Refused}
 use Rattle.c_parts.specs.declared.side.OwnNumbers.{OwnNumbers}

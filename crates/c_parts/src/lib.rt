@@ -1,5 +1,16 @@
 //! What the calls from C are made of: handles, texts that are read, room of the caller's, and rows and sections
 //! as C holds them.
+//!
+//! - `config_handle`: A configuration on the heap, as C holds it.
+//! - `exchange_handle`: One side of an exchange of offers and answers on the heap, as C holds it.
+//! - `fault`: Why a call of an exchange of offers and answers is refused.
+//! - `parts`: A box as its pointer and its allocator.
+//! - `reading`: A text that C gives, read.
+//! - `room`: Texts and lists that go into room which the caller gives.
+//! - `row`: Rows and outcomes as C holds them.
+//! - `section`: Sections as C holds them.
+//! - `session_handle`: A description on the heap, as C holds it.
+//! - `side`: What this side says of itself, as C says it.
 #![tactic(auto)]
 
 pub mod config_handle;

@@ -6,18 +6,18 @@ use Rattle.std.proofs.lemmas.Result.{on_err_weaker}
 use Rattle.std.proofs.lemmas.List.{append_assoc, append-nil, length-take-le, map-append}
 use Rattle.str0m_values.specs.Direction.{receives}
 use Rattle.str0m_formats.proofs.Common.{take_more}
-use Rattle.str0m_formats.proofs.RunSteps.{ran_from}
-use Rattle.str0m_formats.specs.Promises.{Negotiates}
-use Rattle.str0m_formats.specs.Runs.{Outcome}
-use Rattle.str0m_formats.specs.declared.codec_config.CodecConfig.{CodecConfig}
-use Rattle.str0m_formats.specs.declared.payload_params.PayloadParams.{PayloadParams}
-use Rattle.str0m_sdp.specs.MediaType.{is_media}
-use Rattle.str0m_sdp.specs.SectionDirection.{section_direction}
-use Rattle.str0m_sdp.specs.SectionRows.{rows}
-use Rattle.str0m_sdp.specs.declared.media_line.MediaLine.{MediaLine}
+use Rattle.str0m_formats.proofs.round.RoundsRunSteps.{ran_from}
+use Rattle.str0m_formats.specs.round.RoundsPromises.{Negotiates}
+use Rattle.str0m_formats.specs.round.RoundsRuns.{Outcome}
+use Rattle.str0m_formats.specs.declared.row.codec_config.CodecConfig.{CodecConfig}
+use Rattle.str0m_formats.specs.declared.row.payload_params.PayloadParams.{PayloadParams}
+use Rattle.str0m_sdp.specs.attribute.MediaType.{is_media}
+use Rattle.str0m_sdp.specs.section.SectionDirection.{section_direction}
+use Rattle.str0m_sdp.specs.section.SectionRows.{rows}
+use Rattle.str0m_sdp.specs.declared.section.media_line.MediaLine.{MediaLine}
 use Rattle.str0m_sdp.specs.declared.session.Sdp.{Sdp}
-use Rattle.str0m_signal.specs.Answers.{AtMostOne}
-use Rattle.str0m_signal.specs.Reading.{Reading}
+use Rattle.str0m_signal.specs.session.ReaderAnswers.{AtMostOne}
+use Rattle.str0m_signal.specs.session.Reader.{Reading}
 use Rattle.lint.specs.Fates.{AddsFates, ArePartners, IsPartner, RoundSays, RoundsSay, SaysRounds, Where, codes, fate, refusal, some_of}
 use Rattle.lint.specs.Findings.{AddsOne}
 use Rattle.lint.specs.declared.code.Code.{Code}

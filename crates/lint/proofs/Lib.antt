@@ -1,4 +1,4 @@
-pub mod AttributeLaws
+pub mod AttributeLinesLaws
 pub mod FateLaws
 pub mod FindingsLaws
 pub mod LineLaws

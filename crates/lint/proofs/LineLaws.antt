@@ -5,9 +5,9 @@ use Rattle.std.specs.Str.Pattern.{FindsCharSuffix}
 use Rattle.std.proofs.lemmas.List.{append_assoc, append-nil}
 use Rattle.str0m_values.proofs.CutLaws.{cut_found, cut_none_lacks, Lacks-append}
 use Rattle.str0m_values.specs.Cuts.{cut}
-use Rattle.str0m_values.specs.Parts.{Lacks}
-use Rattle.str0m_signal.proofs.LineLaws.{line_here, without_suffix}
-use Rattle.str0m_signal.specs.LineReading.{lines_of}
+use Rattle.str0m_values.specs.CutsParts.{Lacks}
+use Rattle.str0m_signal.proofs.line.LinesLaws.{line_here, without_suffix}
+use Rattle.str0m_signal.specs.line.LinesReading.{lines_of}
 use Rattle.lint.specs.Lines.{IsWithoutReturn}
 
 pub without_return : (line : Bor (List ℕ)) (r : Option (Bor (List ℕ))) (result : Bor (List ℕ))

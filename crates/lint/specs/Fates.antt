@@ -2,18 +2,18 @@
 use Rattle.std.specs.Prelude.{◌≡◌, ◌==◌, ℕ, Bool, true, false, ◌&&◌, ◌||◌, not, Option, Some, None, Ok, Err, List, [], ◌∷◌, ◌++◌, if◌then◌else◌, filter_map, map, option_map, is_some}
 use Rattle.std.specs.List.{list_any}
 use Rattle.str0m_values.specs.Direction.{receives}
-use Rattle.str0m_formats.specs.Choices.{IsChoice, points_with}
-use Rattle.str0m_formats.specs.Runs.{Outcome, Ran}
-use Rattle.str0m_formats.specs.Scores.{same_codec, score}
+use Rattle.str0m_formats.specs.round.Choices.{IsChoice, points_with}
+use Rattle.str0m_formats.specs.round.RoundsRuns.{Outcome, Ran}
+use Rattle.str0m_formats.specs.round.MatchScore.{same_codec, score}
 use Rattle.str0m_formats.specs.declared.codec.Codec.{Codec}
-use Rattle.str0m_formats.specs.declared.negotiation_error.NegotiationError.TheVariants.{TypeTooLarge, ClaimedTwice, Exhausted, Memory}
-use Rattle.str0m_formats.specs.declared.payload_params.PayloadParams.{PayloadParams}
-use Rattle.str0m_sdp.specs.MediaType.{is_media}
-use Rattle.str0m_sdp.specs.SectionDirection.{section_direction}
-use Rattle.str0m_sdp.specs.SectionRows.{rows}
-use Rattle.str0m_sdp.specs.declared.media_line.MediaLine.{MediaLine}
+use Rattle.str0m_formats.specs.declared.round.negotiation_error.NegotiationError.TheVariants.{TypeTooLarge, ClaimedTwice, Exhausted, Memory}
+use Rattle.str0m_formats.specs.declared.row.payload_params.PayloadParams.{PayloadParams}
+use Rattle.str0m_sdp.specs.attribute.MediaType.{is_media}
+use Rattle.str0m_sdp.specs.section.SectionDirection.{section_direction}
+use Rattle.str0m_sdp.specs.section.SectionRows.{rows}
+use Rattle.str0m_sdp.specs.declared.section.media_line.MediaLine.{MediaLine}
 use Rattle.str0m_sdp.specs.declared.session.Sdp.{Sdp}
-use Rattle.str0m_signal.specs.Reading.{Reading}
+use Rattle.str0m_signal.specs.session.Reader.{Reading}
 use Rattle.lint.specs.declared.code.Code.{Code}
 use Rattle.lint.specs.declared.code.Code.TheVariants.{Round}
 use Rattle.lint.specs.declared.code.Fate.{Fate}

@@ -4,4 +4,3 @@ pub mod Findings
 pub mod Kept
 pub mod Lines
 pub mod Told
-pub mod Within

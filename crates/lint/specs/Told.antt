@@ -3,10 +3,10 @@ use Rattle.std.specs.Prelude.{◌≡◌, ℕ, Bool, false, List, [], ◌∷◌, 
 use Rattle.std.specs.Str.{bytes_eq}
 use Rattle.str0m_values.specs.Cuts.{cut, strip, ◌>>=◌}
 use Rattle.str0m_sdp.specs.declared.session.Sdp.{Sdp}
-use Rattle.str0m_sdp.specs.Session.{sdp_text}
-use Rattle.str0m_signal.specs.Lines.{Line}
-use Rattle.str0m_signal.specs.LineReading.{lines_of}
-use Rattle.str0m_signal.specs.Reading.{Reading}
+use Rattle.str0m_sdp.specs.session.Session.{sdp_text}
+use Rattle.str0m_signal.specs.line.Lines.{Line}
+use Rattle.str0m_signal.specs.line.LinesReading.{lines_of}
+use Rattle.str0m_signal.specs.session.Reader.{Reading}
 use Rattle.lint.specs.declared.told.Next.{Next}
 use Rattle.lint.specs.declared.told.Told.{Told as Shown}
 

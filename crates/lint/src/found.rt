@@ -1,11 +1,10 @@
 //! What a text loses, and why it is refused, line by line.
 ghost use Rattle.std.specs.Prelude.{◌≡◌, ◌↔◌, ℕ, List, [], true, All, IfOk, OnOk};
 ghost use Rattle.str0m_sdp.specs.declared.session.Sdp.{Sdp};
-ghost use Rattle.str0m_signal.specs.Answers.{AtMostOne};
-ghost use Rattle.str0m_signal.specs.LineReading.{lines_of};
-ghost use Rattle.str0m_signal.specs.Reading.{Reading};
-ghost use Rattle.lint.specs.Findings.{AreFindingsOf, AreSilent, IsNoWant, ReadsAs, Tells, ends, kept, is_refused};
-ghost use Rattle.lint.specs.Within.{IsWithin};
+ghost use Rattle.str0m_signal.specs.session.ReaderAnswers.{AtMostOne};
+ghost use Rattle.str0m_signal.specs.line.LinesReading.{lines_of};
+ghost use Rattle.str0m_signal.specs.session.Reader.{Reading};
+ghost use Rattle.lint.specs.Findings.{AreFindingsOf, AreSilent, IsNoWant, ReadsAs, Tells, ends, kept, is_refused, IsWithin};
 ghost use Rattle.lint.specs.Kept.{kept_at, kept_flags};
 ghost use Rattle.lint.specs.Lines.{attribute_numbers, last_line, unread_lines};
 ghost use Rattle.lint.specs.Told.{NothingLost};

@@ -1,6 +1,6 @@
 //! The findings while they are gathered.
 ghost use Rattle.std.specs.Prelude.{◌≡◌, ◌<◌, ◌≤◌, ◌^◌, [], All, max};
-ghost use Rattle.lint.specs.Within.{IsWithin};
+ghost use Rattle.lint.specs.Findings.{IsWithin};
 
 use crate::finding::Finding;
 use std::alloc::Global;

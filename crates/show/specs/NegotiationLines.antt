@@ -2,11 +2,11 @@
 use Rattle.std.specs.Prelude.{◌≡◌, ℕ, ◌+◌, Bool, true, false, List, [], ◌∷◌, ◌++◌, Ok, Err, codes}
 use Rattle.std.specs.List.{flat_map}
 use Rattle.std.specs.Fmt.{decimal}
-use Rattle.str0m_formats.specs.Causes.{cause_text}
-use Rattle.str0m_formats.specs.DefaultRows.{usual_rows}
-use Rattle.str0m_formats.specs.Runs.{Outcome}
-use Rattle.str0m_formats.specs.declared.payload_params.PayloadParams.{PayloadParams}
-use Rattle.str0m_signal.specs.Negotiation.{NegotiatedText}
+use Rattle.str0m_formats.specs.round.NegotiationError.{cause_text}
+use Rattle.str0m_formats.specs.row.DefaultRows.{usual_rows}
+use Rattle.str0m_formats.specs.round.RoundsRuns.{Outcome}
+use Rattle.str0m_formats.specs.declared.row.payload_params.PayloadParams.{PayloadParams}
+use Rattle.str0m_signal.specs.session.Negotiation.{NegotiatedText}
 use Rattle.show.specs.RowLines.{row_line}
 
 -- what the round of a number came to

@@ -1,7 +1,7 @@
 //! Why a run of the program fails.
 
 ghost use Rattle.std.specs.Prelude.{◌≡◌};
-ghost use Rattle.str0m_sdp.specs.declared.error.SdpError.TheVariants.{Memory};
+ghost use Rattle.str0m_sdp.specs.declared.session.error.SdpError.TheVariants.{Memory};
 ghost use Rattle.show.specs.declared.fault.Fault.TheVariants.{Refused};
 
 use std::alloc::AllocError;

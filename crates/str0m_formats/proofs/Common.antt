@@ -36,14 +36,13 @@ pub use Prim.Native.Nat.{suc, zero}
 pub use Rattle.indexmap.proofs.MapLemmas.{insert_entry-absent}
 pub use Rattle.indexmap.specs.IndexMap.{insert_all, insert_entry, set_value_at}
 pub use mathlib.Core.Path.{fun_ext}
-pub use Rattle.str0m_values.proofs.BothWays.{bind_some, reads_none, some_is, reads_first, Reads, none_reads}
-pub use Rattle.str0m_values.proofs.NumLaws.{num_found, num_only, num_reads, when_some, when_true, parsed_ok, parsed_err}
-pub use Rattle.str0m_values.proofs.OnlyLaws.{only_read}
-pub use Rattle.str0m_values.specs.Cuts.{num, when, ◌<|>◌, ◌>>=◌, lacks}
+pub use Rattle.str0m_values.proofs.CutsBothWays.{bind_some, reads_none, some_is, reads_first, Reads, none_reads}
+pub use Rattle.str0m_values.proofs.CutsNumLaws.{num_found, num_only, num_reads, when_some, when_true, parsed_ok, parsed_err}
+pub use Rattle.str0m_values.proofs.CutsOnlyLaws.{only_read}
+pub use Rattle.str0m_values.specs.Cuts.{num, when, ◌<|>◌, ◌>>=◌, lacks, IsTheOnly}
 pub use Rattle.str0m_values.specs.Direction.{receives}
 pub use Rattle.str0m_values.specs.H265.{H265ProfileTierLevel}
 pub use Rattle.str0m_values.specs.H266.{H266ProfileTierLevel}
-pub use Rattle.str0m_values.specs.Only.{IsTheOnly}
-pub use Rattle.str0m_values.specs.Parts.{IsNum, IsNumber, IsRest, Lacks, IsGiven, lay}
+pub use Rattle.str0m_values.specs.CutsParts.{IsNum, IsNumber, IsRest, Lacks, IsGiven, lay}
 pub use Rattle.str0m_values.specs.declared.h264.H264ProfileLevel.{H264ProfileLevel}
 pub use Rattle.str0m_values.specs.declared.profile_tier_level.ProfileTierLevel.{ProfileTierLevel}

@@ -11,7 +11,7 @@ use Rattle.str0m_values.specs.declared.address.IpAddr.TheVariants.{V4, V6}
 use Rattle.str0m_values.specs.Address.{IsIpText}
 use Rattle.str0m_values.specs.AddressReading.{own_address, ip_read}
 use Rattle.str0m_values.proofs.AddressLaws.{v4_from, v4_to, v6_from, v6_to}
-use Rattle.str0m_values.proofs.BothWays.{Reads, or_some, some_is, reads_none}
+use Rattle.str0m_values.proofs.CutsBothWays.{Reads, or_some, some_is, reads_none}
 
 -- ---- std's reading of the front of a text, where it is the whole
 

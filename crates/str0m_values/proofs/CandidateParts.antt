@@ -9,12 +9,12 @@ use Rattle.str0m_values.specs.Protocol.{IsTcpTypeText}
 use Rattle.str0m_values.specs.Candidate.{IsSocket, IsRelated, AreNames}
 use Rattle.str0m_values.specs.AddressReading.{ip_read}
 use Rattle.str0m_values.specs.CandidateReading.{tcp_type_read, socket_read, related_read, tcp_part_read, names_read}
-use Rattle.str0m_values.proofs.BothWays.{Reads, some_is}
-use Rattle.str0m_values.proofs.NumLaws.{num_found, num_reads}
+use Rattle.str0m_values.proofs.CutsBothWays.{Reads, some_is}
+use Rattle.str0m_values.proofs.CutsNumLaws.{num_found, num_reads}
 use Rattle.str0m_values.proofs.AddressBothWays.{ip_both}
 use Rattle.str0m_values.proofs.CandidateWords.{tcp_type_both}
 use Rattle.str0m_values.proofs.LabelLaws.{bound, bind_is, Ends, EndsWithout, Front, part_front, optional_front, value_sound}
-use Rattle.str0m_values.specs.Parts.{IsNum}
+use Rattle.str0m_values.specs.CutsParts.{IsNum}
 use Rattle.str0m_values.specs.declared.candidate_label.TheConstants as candidate_label
 
 pub num_both : (limit : ℕ) → Reads (IsNum limit) (num limit)

@@ -5,7 +5,7 @@ use Rattle.str0m_values.specs.declared.candidate.Candidate.{Candidate}
 use Rattle.str0m_values.specs.declared.candidate_kind.CandidateKind.{CandidateKind}
 use Rattle.str0m_values.specs.declared.protocol.Protocol.{Protocol}
 use Rattle.str0m_values.specs.declared.protocol.TcpType.{TcpType}
-use Rattle.str0m_values.specs.Parts.{IsWord, IsNum}
+use Rattle.str0m_values.specs.CutsParts.{IsWord, IsNum}
 use Rattle.str0m_values.specs.Labels.{IsSame, IsLabelled, IsOptional, optional_text}
 use Rattle.str0m_values.specs.Address.{ip_text}
 use Rattle.str0m_values.specs.CandidateKind.{kind_text}

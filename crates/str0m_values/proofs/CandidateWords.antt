@@ -10,7 +10,7 @@ use Rattle.str0m_values.specs.CandidateKind.{kind_text, IsKindText}
 use Rattle.str0m_values.specs.CandidateReading.{protocol_read, tcp_type_read, kind_read}
 use Rattle.str0m_values.specs.Words.{case_alike, case_of}
 use Rattle.str0m_values.proofs.WordsOfCases.{reads_alike, reads_words}
-use Rattle.str0m_values.proofs.BothWays.{Reads}
+use Rattle.str0m_values.proofs.CutsBothWays.{Reads}
 
 -- each case by its own word, which is in lower case
 protocol_own : (p : Protocol) → (str_to_ascii_lowercase (protocol_text p) ≡ protocol_text p) × (case_alike protocol_text PROTOCOLS (protocol_text p) ≡ Some p)

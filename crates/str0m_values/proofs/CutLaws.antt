@@ -3,7 +3,7 @@ use Rattle.str0m_values.proofs.Common.{◌≡◌, ◌≢◌, ℕ, suc, inl, inr,
 use Rattle.std.specs.Borrow.{Bor}
 use Rattle.std.specs.Str.Pattern.{FindsTextPrefix}
 use Rattle.std.proofs.lemmas.Str.Pattern.{IsSplitOnceResult, split_parts}
-use Rattle.str0m_values.specs.Parts.{Lacks}
+use Rattle.str0m_values.specs.CutsParts.{Lacks}
 use Rattle.str0m_values.specs.Cuts.{cut, before_cut, strip, parts, front, before, lacks}
 
 pub cut_none : (c : ℕ) (text : List ℕ) → Lacks c text → cut c text ≡ None

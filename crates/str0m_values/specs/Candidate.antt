@@ -3,7 +3,7 @@ use Rattle.std.specs.Prelude.{◌≡◌, ◌⊎◌, ◌<◌, ◌^◌, IfSome, �
 use Rattle.std.specs.Fmt.{decimal}
 use Rattle.str0m_values.specs.declared.address.SocketAddr.{SocketAddr}
 use Rattle.str0m_values.specs.declared.candidate.Candidate.{Candidate}
-use Rattle.str0m_values.specs.Parts.{IsWord, IsNum}
+use Rattle.str0m_values.specs.CutsParts.{IsWord, IsNum}
 use Rattle.str0m_values.specs.Labels.{IsSame, IsLabelled, IsOptional, IsLeftOut, optional_text}
 use Rattle.str0m_values.specs.Address.{IsIpText, IsInRange, ip_text}
 use Rattle.str0m_values.specs.CandidateKind.{IsKindText, kind_text}

@@ -3,7 +3,7 @@ use Rattle.std.specs.Prelude.{◌≡◌, ◌<◌, ◌==◌, ◌/◌, ◌%◌, �
 use Rattle.std.specs.List.{AllZip, flat_map, slice_split}
 use Rattle.std.specs.Str.{str_eq_ignore_ascii_case}
 use Rattle.std.specs.Fmt.{digit_glyph}
-use Rattle.str0m_values.specs.Parts.{Lacks, IsNumber}
+use Rattle.str0m_values.specs.CutsParts.{Lacks, IsNumber}
 use Rattle.str0m_values.specs.declared.fingerprint.Fingerprint.{Fingerprint}
 use Rattle.str0m_values.specs.declared.fingerprint.FingerprintError.{FingerprintError}
 use Rattle.str0m_values.specs.declared.fingerprint.FingerprintError.TheVariants.{NoSpace, BadByte, Memory}

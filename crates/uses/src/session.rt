@@ -1,6 +1,6 @@
 //! A session as a list of calls.
 
-ghost use Rattle.exchange.specs.Follows.{Follows, IsSound};
+ghost use Rattle.exchange.specs.state.ExchangeFollows.{Follows, IsSound};
 
 use exchange::Exchange;
 use str0m_signal::{Direction, IceCreds, MediaKind, Mid};

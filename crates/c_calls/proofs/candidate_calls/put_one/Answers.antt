@@ -3,7 +3,7 @@ use Rattle.std.proofs.lemmas.Option.{slice_get-map, slice_get_read}
 use Rattle.std.specs.List.{slice_get}
 use Rattle.str0m_values.specs.Candidate.{candidate_text}
 use Rattle.str0m_values.specs.declared.candidate.Candidate.{Candidate}
-use Rattle.c_calls.specs.TransportFound.{lent}
+use Rattle.c_calls.specs.TransportCalls.{lent}
 use Rattle.c_calls.proofs.candidate_calls.put_one.Goals as goal
 
 -- the text of a candidate that is lent

@@ -1,7 +1,7 @@
 use Rattle.std.proofs.Common.{refl}
-use Rattle.exchange.specs.declared.exchange_error.ExchangeError.TheVariants.{Memory}
+use Rattle.exchange.specs.declared.state.exchange_error.ExchangeError.TheVariants.{Memory}
 use Rattle.c_parts.specs.declared.fault.Fault.TheVariants.{Refused}
-use Rattle.c_calls.proofs.Filled.{of_full}
+use Rattle.c_calls.proofs.OfferCallsFilled.{of_full}
 use Rattle.c_calls.proofs.exchange_calls.zaxp_exchange_accept_offer.Goals as goal
 
 -- no memory was left for a place

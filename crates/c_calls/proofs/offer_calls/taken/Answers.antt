@@ -1,5 +1,5 @@
 use Rattle.std.proofs.Common.{ℕ, List, subst}
-use Rattle.c_calls.specs.Exchanged.{AcceptsAnswer}
+use Rattle.c_calls.specs.ExchangeCalls.{AcceptsAnswer}
 use Rattle.c_calls.proofs.offer_calls.taken.Goals as goal
 
 -- the text is the bytes

@@ -1,12 +1,12 @@
 use Rattle.std.proofs.Common.{subst, sym}
 use Rattle.std.specs.Prelude.{Option}
 use Rattle.str0m_values.specs.declared.media_kind.MediaKind.{MediaKind}
-use Rattle.exchange.specs.Exchange.{RefusesMedia}
-use Rattle.exchange.specs.declared.exchange.Exchange.{Exchange}
+use Rattle.exchange.specs.state.Exchange.{RefusesMedia}
+use Rattle.exchange.specs.declared.state.exchange.Exchange.{Exchange}
 use Rattle.c_parts.specs.Fault.{Refuses, Told}
 use Rattle.c_parts.specs.Side.{kind_numbered}
 use Rattle.c_parts.specs.declared.fault.Fault.TheVariants.{Refused}
-use Rattle.c_calls.specs.Held.{Of}
+use Rattle.c_calls.specs.Common.{Of}
 use Rattle.c_calls.proofs.offer_calls.zaxp_exchange_add_media.Goals as goal
 
 -- the fault is the error of the exchange

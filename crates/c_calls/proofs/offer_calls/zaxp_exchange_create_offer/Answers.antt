@@ -1,12 +1,12 @@
 use Rattle.std.proofs.Common.{refl, subst, sym}
 use Rattle.std.specs.Prelude.{Option}
-use Rattle.exchange.specs.Exchange.{RefusesToOffer}
-use Rattle.exchange.specs.declared.exchange.Exchange.{Exchange}
-use Rattle.exchange.specs.declared.exchange_error.ExchangeError.TheVariants.{Memory}
+use Rattle.exchange.specs.state.Exchange.{RefusesToOffer}
+use Rattle.exchange.specs.declared.state.exchange.Exchange.{Exchange}
+use Rattle.exchange.specs.declared.state.exchange_error.ExchangeError.TheVariants.{Memory}
 use Rattle.c_parts.specs.Fault.{Refuses, Told}
 use Rattle.c_parts.specs.declared.fault.Fault.TheVariants.{Refused}
-use Rattle.c_calls.proofs.Filled.{of_full}
-use Rattle.c_calls.specs.Held.{Of}
+use Rattle.c_calls.proofs.OfferCallsFilled.{of_full}
+use Rattle.c_calls.specs.Common.{Of}
 use Rattle.c_calls.proofs.offer_calls.zaxp_exchange_create_offer.Goals as goal
 
 -- no memory was left for a place

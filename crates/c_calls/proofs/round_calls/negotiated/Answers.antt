@@ -1,5 +1,5 @@
 use Rattle.std.proofs.Common.{subst}
-use Rattle.c_calls.specs.Ran.{Ran}
+use Rattle.c_calls.specs.RoundCalls.{Ran}
 use Rattle.c_calls.proofs.round_calls.negotiated.Goals as goal
 
 -- the text is the bytes

@@ -1,5 +1,5 @@
 use Rattle.std.proofs.Common.{◌≡◌, Some}
-use Rattle.c_calls.specs.Answered.{CantList}
+use Rattle.c_calls.specs.RoundCalls.{CantList}
 use Rattle.c_calls.proofs.round_calls.zaxp_config_answer.Goals as goal
 
 pub returns-clause-nothing : goal.returns-clause-nothing

@@ -1,5 +1,5 @@
 use Rattle.std.proofs.Common.{◌≡◌, ℕ, List, true, Option, Some, None, is_some, refl, sym, ◌∙◌, true≢false}
-use Rattle.str0m_sdp.proofs.Holders.{mid_counted}
+use Rattle.str0m_sdp.proofs.section.SectionDirectionHolders.{mid_counted}
 use Rattle.c_calls.proofs.session_calls.mid_named.Goals as goal
 
 -- what isn't something is nothing

@@ -1,4 +1,4 @@
-use Rattle.str0m_sdp.specs.Session.{sdp_text}
+use Rattle.str0m_sdp.specs.session.Session.{sdp_text}
 use Rattle.c_calls.proofs.session_calls.put_text.Goals as goal
 
 pub returns : goal.returns

@@ -1,4 +1,4 @@
-use Rattle.str0m_sdp.specs.Session.{versioned_text}
+use Rattle.str0m_sdp.specs.session.Session.{versioned_text}
 use Rattle.c_calls.proofs.session_calls.put_versioned.Goals as goal
 
 pub returns : goal.returns

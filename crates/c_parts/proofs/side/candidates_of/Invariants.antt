@@ -1,6 +1,6 @@
 use Rattle.std.specs.Prelude.{take}
 use Rattle.std.specs.List.{AllZip}
-use Rattle.exchange.specs.Trickled.{IsTrickled}
+use Rattle.exchange.specs.section.Trickled.{IsTrickled}
 use Rattle.c_parts.specs.Side.{listed}
 use Rattle.c_parts.proofs.side.candidates_of.Given as goal
 

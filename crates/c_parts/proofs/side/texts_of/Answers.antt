@@ -1,6 +1,6 @@
 use Rattle.std.proofs.Common.{arith}
 use Rattle.std.proofs.lemmas.Grind.{common_steps}
-use Rattle.c_parts.proofs.Listed.{list_refused}
+use Rattle.c_parts.proofs.SideListed.{list_refused}
 use Rattle.c_parts.specs.Side.{RefusesList, listed}
 use Rattle.c_parts.proofs.side.texts_of.Goals as goal
 

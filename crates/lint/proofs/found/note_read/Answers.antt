@@ -1,7 +1,7 @@
 use Rattle.std.proofs.Common.{◌≡◌, ◌+◌, ◌≤◌, [], Bool, List, map, length, ap, ◌∙◌, sym, subst, arith, rules}
 use Rattle.std.proofs.lemmas.Result.{on_ok_weaker}
-use Rattle.str0m_sdp.specs.Session.{sdp_text}
-use Rattle.str0m_signal.specs.LineReading.{lines_of}
+use Rattle.str0m_sdp.specs.session.Session.{sdp_text}
+use Rattle.str0m_signal.specs.line.LinesReading.{lines_of}
 use Rattle.lint.specs.Findings.{Keeps}
 use Rattle.lint.specs.Kept.{is_unread, kept_at, kept_flags}
 use Rattle.lint.specs.Lines.{IsNumbered, attribute_numbers}

@@ -1,5 +1,5 @@
 use Rattle.std.proofs.Common.{sym}
-use Rattle.str0m_signal.proofs.PartLaws.{cut_shorter}
+use Rattle.str0m_signal.proofs.line.PartLaws.{cut_shorter}
 use Rattle.lint.proofs.LineLaws.{line_at_feed}
 use Rattle.lint.proofs.lines.next_line.Goals as goal
 

@@ -1,7 +1,7 @@
 use Rattle.std.proofs.Common.{◌+◌, ◌++◌, List, ℕ, sym, ap, ◌∙◌}
 use Rattle.std.specs.String.{string_bytes}
 use Rattle.show.specs.NegotiationLines.{outcome_line}
-use Rattle.show.proofs.OutcomeLines.{one_more}
+use Rattle.show.proofs.NegotiationLinesLaws.{one_more}
 use Rattle.show.proofs.negotiation_lines.outcome_lines.Goals as goal
 
 pub loop-i-preserved : goal.loop-i-preserved

@@ -1,6 +1,6 @@
 use Rattle.std.proofs.Common.{◌≡◌, ℕ, List, true, Option, Some, None, is_some, codes, refl, sym, ◌∙◌, true≢false}
 use Rattle.std.specs.Option.{unwrap_or}
-use Rattle.str0m_sdp.proofs.Holders.{mid_counted}
+use Rattle.str0m_sdp.proofs.section.SectionDirectionHolders.{mid_counted}
 use Rattle.show.proofs.row_lines.mid_text.Goals as goal
 
 -- what isn't there is a dash

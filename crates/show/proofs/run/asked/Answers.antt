@@ -1,5 +1,5 @@
 use Rattle.std.proofs.Common.{◌≡◌, ◌<◌, ◌≤◌, List, [], ◌∷◌, length, get_or, ap, sym, ◌∙◌, arith}
-use Rattle.show.specs.Show.{asked_by}
+use Rattle.show.specs.Run.{asked_by}
 use Rattle.show.proofs.run.asked.Goals as goal
 
 -- a list of one item

@@ -1,4 +1,4 @@
-use Rattle.str0m_values.specs.Near.{LacksAt}
+use Rattle.str0m_values.specs.Cuts.{LacksAt}
 use Rattle.str0m_values.proofs.cuts.near.Given as goal
 
 abbrev pub invariant-loop-i : goal.invariant-loop-i

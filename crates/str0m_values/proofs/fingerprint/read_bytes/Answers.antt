@@ -2,7 +2,7 @@ use Rattle.str0m_values.proofs.Common.{◌≡◌, ℕ, List, ◌∷◌, [], ◌+
 use Rattle.std.proofs.lemmas.Iterator.Splits.{YieldsList-from_str_split}
 use Rattle.std.proofs.lemmas.Iterator.Consumers.{YieldsList-turn, YieldsList-end}
 use Rattle.str0m_values.specs.Fingerprint.{IsByte, pieces_of}
-use Rattle.str0m_values.proofs.ZipLaws.{AllZip-push}
+use Rattle.str0m_values.proofs.FingerprintZipLaws.{AllZip-push}
 use Rattle.str0m_values.proofs.fingerprint.read_bytes.Goals as goal
 
 pub returns-in_default : goal.returns-in_default

@@ -4,9 +4,9 @@ use denote.Struct.Owning.{shape, fields, to}
 use denote.Param.Send.{IsSend, AllSend, owning_send, struct_send, sendable}
 use Rattle.std_alloc.proofs.SendSync.{quiet}
 use Rattle.std_heap.proofs.Global.TheSendSync as heap
-use Rattle.exchange.specs.contracts.exchange.Exchange as Inner
-use Rattle.exchange.proofs.exchange.Exchange.TheSendSync.{the_send as inner}
-use Rattle.c_parts.proofs.Crossing.{owned_keyless}
+use Rattle.exchange.specs.contracts.state.exchange.Exchange as Inner
+use Rattle.exchange.proofs.state.exchange.Exchange.TheSendSync.{the_send as inner}
+use Rattle.c_parts.proofs.PartsCrossing.{owned_keyless}
 use Rattle.c_parts.specs.contracts.exchange_handle.ExchangeHandle.{the_row, the_type}
 
 pub send : IsSend the_row

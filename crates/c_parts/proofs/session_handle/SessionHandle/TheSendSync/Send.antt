@@ -6,7 +6,7 @@ use Rattle.std_alloc.proofs.SendSync.{quiet}
 use Rattle.std_heap.proofs.Global.TheSendSync as heap
 use Rattle.str0m_sdp.specs.contracts.session.Sdp as Inner
 use Rattle.str0m_sdp.proofs.session.Sdp.TheSendSync.{the_send as inner}
-use Rattle.c_parts.proofs.Crossing.{owned_keyless}
+use Rattle.c_parts.proofs.PartsCrossing.{owned_keyless}
 use Rattle.c_parts.specs.contracts.session_handle.SessionHandle.{the_row, the_type}
 
 pub send : IsSend the_row

@@ -1,4 +1,4 @@
-use Rattle.str0m_formats.proofs.CodecNames.{read_printed}
+use Rattle.str0m_formats.proofs.codec.CodecNames.{read_printed}
 use Rattle.str0m_formats.proofs.codec.CodecFromRefStr.from.Goals as goal
 
 pub returns-clause-printed : goal.returns-clause-printed

@@ -1,6 +1,6 @@
 use Rattle.str0m_sdp.proofs.Common.{rules, tests, YieldsList-from_slice}
-use Rattle.str0m_sdp.specs.SdpAccessors.{bundled_of}
-use Rattle.str0m_sdp.proofs.Finding.{first_from_find_map}
+use Rattle.str0m_sdp.specs.session.SdpAccessors.{bundled_of}
+use Rattle.str0m_sdp.proofs.section.SectionAccessorsFinding.{first_from_find_map}
 use Rattle.str0m_sdp.proofs.session.Sdp.bundle_mids.Goals as goal
 
 pub returns : goal.returns

@@ -1,6 +1,6 @@
 use Rattle.str0m_values.proofs.Common.{◌∙◌, ap}
 use Rattle.str0m_values.specs.AddressReading.{ip_read}
-use Rattle.str0m_values.proofs.OnlyLaws.{only_read}
+use Rattle.str0m_values.proofs.CutsOnlyLaws.{only_read}
 use Rattle.str0m_values.proofs.AddressText.{printed}
 use Rattle.str0m_values.proofs.AddressBothWays.{ip_both}
 use Rattle.str0m_values.proofs.address.IpAddr.from_text.Goals as goal

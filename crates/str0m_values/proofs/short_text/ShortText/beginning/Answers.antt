@@ -1,5 +1,5 @@
 use Rattle.str0m_values.proofs.Common.{◌≡◌, ◌<◌, ◌≤◌, ◌++◌, arith, take, drop, length, subst, sym, ◌∙◌, ap, take-append-drop, length-take-le, List, ℕ, inr, IsUtf8, IsCharBoundary, IsUtf8-take}
-use Rattle.str0m_values.proofs.Cells.{length-filled, take-filled, drop-filled}
+use Rattle.str0m_values.proofs.ShortTextCells.{length-filled, take-filled, drop-filled}
 use Rattle.str0m_values.specs.ShortText.{IsLongestBeginning}
 use Rattle.str0m_values.proofs.short_text.ShortText.beginning.Goals as goal
 

@@ -1,0 +1,63 @@
+-- A section of one's own that lists what is agreed.
+use Rattle.std.specs.Prelude.{◌≡◌, ◌≢◌, ◌⊎◌, ℕ, List, [], Option, Some, slice_set, ◌++◌, None, drop, length, map, take}
+use Rattle.std.specs.List.{slice_get}
+use Rattle.str0m_values.specs.declared.media_kind.MediaKind.TheVariants as kind
+use Rattle.str0m_formats.specs.declared.row.codec_config.CodecConfig.{CodecConfig}
+use Rattle.str0m_formats.specs.declared.row.payload_params.PayloadParams.{PayloadParams}
+use Rattle.str0m_sdp.specs.declared.section.media_line.MediaLine.{MediaLine}
+use Rattle.str0m_sdp.specs.declared.attribute.media_type.MediaType.{MediaType}
+use Rattle.str0m_sdp.specs.declared.attribute.media_type.MediaType.TheVariants.{Audio, Video}
+use Rattle.str0m_sdp.specs.declared.session.Sdp.{Sdp}
+use Rattle.str0m_sdp.specs.section.MadeSection.{made}
+use Rattle.str0m_signal.specs.session.Locked.{locked_of_kind}
+use Rattle.str0m_signal.specs.back.Writable.{Writable}
+use Rattle.str0m_formats.specs.round.RoundsRuns.{Outcome}
+use Rattle.str0m_signal.specs.session.Negotiation.{NegotiatedText}
+use Rattle.c_parts.specs.Row.{c_outcome}
+use Rattle.c_parts.specs.declared.row.Outcome as c
+
+-- of a section's type: those of its kind that are locked; none where it carries no media
+abbrev pub of_type : MediaType → List PayloadParams → List PayloadParams
+of_type Audio rows = locked_of_kind kind.Audio rows
+of_type Video rows = locked_of_kind kind.Video rows
+of_type _ rows = []
+
+-- the section there, which is writable, has the locked rows of its kind, of which there are some, and nothing else has changed
+abbrev pub Lists : List PayloadParams → Sdp → ℕ → Sdp → Type 0
+Lists rows before at after =
+    (frame : MediaLine) × (slice_get before.media_lines at ≡ Some frame) × Writable before at × (of_type frame.typ rows ≢ [])
+    × (after ≡ record before { media_lines = slice_set before.media_lines at (made frame (of_type frame.typ rows)) })
+
+-- nothing can be listed in the section there: no row of its kind is locked, or rows printed there might not be read again
+abbrev pub CantList : List PayloadParams → Sdp → ℕ → Type 0
+CantList rows own at =
+    (frame : MediaLine) × (slice_get own.media_lines at ≡ Some frame) × ((of_type frame.typ rows ≡ []) ⊎ (Writable own at → ⊥))
+
+-- a section that lists what is agreed, of what two handles own
+abbrev pub Answered : Option CodecConfig → Option Sdp → ℕ → Option Sdp → Type 0
+Answered (Some config) (Some before) at (Some after) = Lists config.params.items before at after
+Answered _ _ at _ = ⊥
+
+-- nothing can be listed there, of what two handles own
+abbrev pub CantAnswer : Option CodecConfig → Option Sdp → ℕ → Type 0
+CantAnswer (Some config) (Some own) at = CantList config.params.items own at
+CantAnswer _ _ at = ⊥
+
+-- ---- rounds that were run for a caller
+
+-- as many of the first items as there is room for; after them the room is as it was
+abbrev pub front : {X : Type 0} → List X → List X → List X
+front items before = take (length before) items ++ drop (length items) before
+
+-- the rounds of the text lead from one configuration to the other, in which nothing but the rows has changed; their outcomes are
+-- counted, and stand in the room
+abbrev pub Ran : List ℕ → CodecConfig → CodecConfig → List c.Outcome → List c.Outcome → ℕ → Type 0
+Ran text before after room_before room_after needed =
+    (outcomes : List Outcome) × NegotiatedText text before.params.items outcomes after.params.items
+    × (after ≡ record before { params = after.params }) × (needed ≡ length outcomes) × (room_after ≡ front (map c_outcome outcomes) room_before)
+
+-- the same of what a handle owns
+abbrev pub RanHeld : List ℕ → Option CodecConfig → Option CodecConfig → List c.Outcome → List c.Outcome → ℕ → Type 0
+RanHeld text (Some before) (Some after) = Ran text before after
+RanHeld text None after = λ room_before room_after needed. ⊥
+RanHeld text (Some before) None = λ room_before room_after needed. ⊥

@@ -1,0 +1,41 @@
+-- What calls find in what a handle owns; nothing where there is no such section or row.
+use Rattle.std.specs.Prelude.{ℕ, List, Option, map, option_and_then, option_map}
+use Rattle.std.specs.List.{slice_get}
+use Rattle.str0m_formats.specs.codec.Codec.{codec_text}
+use Rattle.str0m_formats.specs.format.FormatParams.{params_text}
+use Rattle.str0m_formats.specs.declared.row.payload_params.PayloadParams.{PayloadParams}
+use Rattle.str0m_sdp.specs.section.SectionRows.{rows}
+use Rattle.str0m_sdp.specs.declared.section.media_line.MediaLine.{MediaLine}
+use Rattle.str0m_sdp.specs.declared.session.Sdp.{Sdp}
+use Rattle.c_parts.specs.Row.{c_row}
+use Rattle.c_parts.specs.Section.{c_section}
+use Rattle.c_parts.specs.declared.row.Row.{Row}
+use Rattle.c_parts.specs.declared.section.Section.{Section}
+use Rattle.c_calls.specs.SessionCalls.{mid_text}
+use Rattle.c_calls.specs.declared.row_calls.RowText.{RowText}
+use Rattle.c_calls.specs.declared.row_calls.RowText.TheVariants.{Codec, Format}
+
+-- the mid of a section
+abbrev pub mid_at : Sdp → ℕ → Option (List ℕ)
+mid_at sdp at = option_map mid_text (slice_get sdp.media_lines at)
+
+-- a section, as C holds it
+abbrev pub section_at : Sdp → ℕ → Option Section
+section_at sdp at = option_map c_section (slice_get sdp.media_lines at)
+
+-- the rows of a section, as C holds them
+abbrev pub rows_at : Sdp → ℕ → Option (List Row)
+rows_at sdp at = option_map (λ (section : MediaLine). map c_row (rows section)) (slice_get sdp.media_lines at)
+
+-- what is printed of a row: the name of its codec, or its format
+abbrev pub row_text : RowText → PayloadParams → List ℕ
+row_text Codec row = codec_text row.spec.codec
+row_text Format row = params_text row.spec.format
+
+-- that of a row among these
+abbrev pub text_in : RowText → List PayloadParams → ℕ → Option (List ℕ)
+text_in what rows row = option_map (row_text what) (slice_get rows row)
+
+-- that of a row of a section
+abbrev pub text_at : RowText → Sdp → ℕ → ℕ → Option (List ℕ)
+text_at what sdp at row = option_and_then (λ (section : MediaLine). text_in what (rows section) row) (slice_get sdp.media_lines at)

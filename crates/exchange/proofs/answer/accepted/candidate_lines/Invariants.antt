@@ -1,0 +1,7 @@
+use Rattle.std.proofs.Common.{◌≡◌, take, map}
+use Rattle.exchange.specs.answer.Accepted.{candidate_line}
+use Rattle.exchange.proofs.answer.accepted.candidate_lines.Given as goal
+
+-- the lines of the candidates so far
+abbrev pub invariant-loop-candidate : goal.invariant-loop-candidate
+invariant-loop-candidate l = l.lines.items ≡ map candidate_line (take l.candidate-index l.candidate-items)

@@ -1,0 +1,11 @@
+use Rattle.std.proofs.Common.{drop, take}
+use Rattle.std.specs.List.{AllZip}
+use Rattle.exchange.specs.answer.AnsweredSection.{AnswersSection}
+use Rattle.exchange.specs.answer.Offered.{AreRoundsOf}
+use Rattle.exchange.proofs.answer.answered_section.each_answered.Given as goal
+
+-- the sections so far answer the offered ones in their places, and the rounds that are left are those of the others
+abbrev pub invariant-loop-section : goal.invariant-loop-section
+invariant-loop-section l =
+    AllZip (AnswersSection l.own l.config.params.items l.offer) (take l.section-index l.offered) l.sections.items
+    × AreRoundsOf l.offer (drop l.section-index l.offered) l.left

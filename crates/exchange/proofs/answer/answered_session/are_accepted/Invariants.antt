@@ -1,0 +1,7 @@
+use Rattle.std.proofs.Common.{◌≡◌, take, map}
+use Rattle.exchange.specs.answer.AnsweredSession.{is_accepted}
+use Rattle.exchange.proofs.answer.answered_session.are_accepted.Given as goal
+
+-- the answers for the sections so far
+abbrev pub invariant-loop-section : goal.invariant-loop-section
+invariant-loop-section l = l.accepted.items ≡ map is_accepted (take l.section-index l.sections)

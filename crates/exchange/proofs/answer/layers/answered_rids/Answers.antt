@@ -1,0 +1,10 @@
+use Rattle.std.proofs.Common.{arith}
+use Rattle.std.proofs.lemmas.Grind.{common_steps}
+use Rattle.str0m_sdp.proofs.section.MappingsFilterMap.{map_more}
+use Rattle.exchange.specs.answer.Layers.{answered_rid}
+use Rattle.exchange.proofs.answer.layers.answered_rids.Goals as goal
+
+pub loop-line-preserved : goal.loop-line-preserved
+loop-line-preserved c =
+    let more = map_more (answered_rid c.args.sent.now c.args.rows.now) c.args.lines.now c.loop-line.line-index c.line-item.result c.loop-line-test.true c.line-item.is in
+    grind (arith, common_steps, more)

@@ -1,0 +1,13 @@
+use Rattle.std.proofs.Common.{arith}
+use Rattle.std.proofs.lemmas.Grind.{common_steps}
+use Rattle.str0m_sdp.proofs.section.MappingsFilterMap.{map_more}
+use Rattle.exchange.specs.offer.Added.{direction_of}
+use Rattle.exchange.proofs.offer.added.with_placed.Goals as goal
+
+pub loop-it-preserved : goal.loop-it-preserved
+loop-it-preserved c =
+    let more = map_more direction_of c.args.placed.now c.loop-it.it-index c.it-item.result c.loop-it-test.true c.it-item.is in
+    elim c.match-direction_of.branch [
+      | goal.in-Some+in_ok-push w ↦ grind (arith, common_steps, more)
+      | goal.in_default w ↦ grind (arith, common_steps, more)
+    ]

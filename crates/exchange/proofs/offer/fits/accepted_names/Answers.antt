@@ -1,0 +1,10 @@
+use Rattle.std.proofs.Common.{arith}
+use Rattle.std.proofs.lemmas.Grind.{common_steps}
+use Rattle.str0m_sdp.proofs.section.MappingsFilterMap.{map_more}
+use Rattle.exchange.specs.offer.Fits.{accepted_name}
+use Rattle.exchange.proofs.offer.fits.accepted_names.Goals as goal
+
+pub loop-section-preserved : goal.loop-section-preserved
+loop-section-preserved c =
+    let more = map_more accepted_name c.args.sections.now c.loop-section.section-index c.section-item.result c.loop-section-test.true c.section-item.is in
+    grind (arith, common_steps, more)

@@ -1,0 +1,40 @@
+-- One name for each outcome of a text's rounds.
+use Rattle.std.proofs.Common.{◌≡◌, suc, Bool, true, false, cond, List, [], ◌∷◌, Some, None, filter, filter_map, length, map, refl, sym, ap, ◌∙◌}
+use Rattle.std.specs.List.{cons_option}
+use Rattle.str0m_formats.specs.round.RoundsRuns.{Outcome, Reached}
+use Rattle.str0m_formats.specs.declared.row.payload_params.PayloadParams.{PayloadParams}
+use Rattle.str0m_formats.specs.declared.round.rounds.Round.{Round}
+use Rattle.str0m_sdp.specs.attribute.MediaType.{is_media}
+use Rattle.str0m_sdp.specs.section.SectionDirection.{section_direction}
+use Rattle.str0m_sdp.specs.section.SectionRows.{rows}
+use Rattle.str0m_sdp.specs.declared.section.media_line.MediaLine.{MediaLine}
+use Rattle.str0m_sdp.specs.declared.session.Sdp.{Sdp}
+use Rattle.str0m_signal.specs.session.Negotiation.{Negotiated, brought, brought_by}
+use Rattle.exchange.specs.section.RoundNames.{has_round, negotiated_names}
+use Rattle.exchange.specs.section.Stopped.{name_of}
+
+-- a section has a name there where it brings a round
+named : (ms : List MediaLine) → length (map name_of (filter has_round ms)) ≡ length (filter_map brought_by ms)
+named [] = refl
+named (m ∷ ms) = go (is_media m.typ) (named ms) where
+  go : (b : Bool) → length (map name_of (filter has_round ms)) ≡ length (filter_map brought_by ms)
+      → length (map name_of (cond b (m ∷ filter has_round ms) (filter has_round ms)))
+      ≡ length (cons_option (cond b (Some (rows m, section_direction m.attrs)) None) (filter_map brought_by ms))
+  go true rec = ap suc rec
+  go false rec = rec
+
+mapped : (rounds : List Round) → length (map brought rounds) ≡ length rounds
+mapped [] = refl
+mapped (round ∷ rounds) = ap suc (mapped rounds)
+
+ended : (before : List PayloadParams) (rounds : List Round) (outcomes : List Outcome) (after : List PayloadParams) → Reached before rounds outcomes after
+    → length rounds ≡ length outcomes
+ended before [] [] after reached = refl
+ended before (round ∷ rounds) (outcome ∷ outcomes) after reached = ap suc (ended reached.0 rounds outcomes after reached.2)
+ended before [] (outcome ∷ outcomes) after reached = absurd reached
+ended before (round ∷ rounds) [] after reached = absurd reached
+
+pub one_each : (sdp : Sdp) (before after : List PayloadParams) (outcomes : List Outcome) → Negotiated sdp.media_lines before outcomes after
+    → length (negotiated_names sdp) ≡ length outcomes
+one_each sdp before after outcomes negotiated =
+    named sdp.media_lines ∙ sym (ap length negotiated.rounds_are) ∙ mapped negotiated.rounds ∙ ended before negotiated.rounds outcomes after negotiated.reached

@@ -1,0 +1,14 @@
+-- Which outcome of a text's rounds is of which section.
+use Rattle.std.specs.Prelude.{ℕ, Bool, List, Option, filter, map}
+use Rattle.str0m_sdp.specs.attribute.MediaType.{is_media}
+use Rattle.str0m_sdp.specs.declared.section.media_line.MediaLine.{MediaLine}
+use Rattle.str0m_sdp.specs.declared.session.Sdp.{Sdp}
+use Rattle.exchange.specs.section.Stopped.{name_of}
+
+-- audio and video sections have a round each, disabled ones too
+abbrev pub has_round : MediaLine → Bool
+has_round m = is_media m.typ
+
+-- their names, in order
+abbrev pub negotiated_names : Sdp → List (Option (List ℕ))
+negotiated_names sdp = map name_of (filter has_round sdp.media_lines)

@@ -1,0 +1,14 @@
+-- A candidate as it is trickled (RFC 8838; RFC 8839, section 5.1).
+use Rattle.std.specs.Prelude.{ℕ, List, [], ◌++◌, codes, nat_eq, if◌then◌else◌}
+use Rattle.std.specs.List.{starts_with}
+use Rattle.str0m_values.specs.declared.candidate.Candidate.{Candidate}
+use Rattle.str0m_signal.specs.form.CandidateLine.{IsCandidateLine}
+use Rattle.str0m_signal.specs.line.Lines.{FirstLine}
+
+-- the text as a line of a description, which begins with `a=`
+abbrev pub as_line : List ℕ → List ℕ
+as_line text = if starts_with nat_eq text (codes "a=") then text else codes "a=" ++ text
+
+-- the text is one line, which is the candidate's, and nothing is left
+abbrev pub IsTrickled : List ℕ → Candidate → Type 0
+IsTrickled text candidate = FirstLine IsCandidateLine (as_line text) (candidate, [])

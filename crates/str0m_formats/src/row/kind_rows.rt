@@ -1,0 +1,106 @@
+//! The rows of a kind of media.
+ghost use Rattle.std.specs.Prelude.{◌≡◌};
+ghost use Rattle.std.specs.Iterator.{YieldsFirstRef, item_count};
+ghost use Rattle.str0m_formats.specs.row.KindRows.{is_sound, is_events, rate_of, shares_rate, some_share_rate, is_listed};
+
+use crate::row::codec_config::CodecConfig;
+use crate::row::payload_params::PayloadParams;
+use str0m_values::MediaKind;
+
+/// The rows that stand in sections of a kind, in order.
+#[derive(Debug, Drop)]
+pub struct KindRows<'a> {
+    all: &'a [PayloadParams],
+    /// Those of them that are still to be looked at.
+    rest: &'a [PayloadParams],
+    kind: MediaKind,
+    /// Whether telephone events are left out where no audio has their rate.
+    narrowed: bool,
+}
+
+fn is_sound(row: &PayloadParams) -> bool
+    ensures { result ≡ is_sound row.now }
+{
+    row.spec().codec.is_audio()
+}
+
+fn is_events(row: &PayloadParams) -> bool
+    ensures { result ≡ is_events row.now }
+{
+    row.spec().codec.is_tele()
+}
+
+fn rate_of(row: &PayloadParams) -> u32
+    ensures { result ≡ rate_of row.now }
+{
+    row.spec().rtp_clock_rate().get()
+}
+
+/// Whether some audio row has the RTP clock rate of this one.
+fn shares_rate(rows: &[PayloadParams], row: &PayloadParams) -> bool
+    ensures { result ≡ shares_rate rows.now row.now }
+{
+    rows.iter()
+        .any(|other| is_sound(other) && rate_of(other) == rate_of(row))
+}
+
+/// Whether some row of events has the RTP clock rate of some audio row.
+fn some_share_rate(rows: &[PayloadParams]) -> bool
+    ensures { result ≡ some_share_rate rows.now }
+{
+    rows.iter()
+        .any(|row| is_events(row) && shares_rate(rows, row))
+}
+
+fn is_listed(kind: MediaKind, narrowed: bool, rows: &[PayloadParams], row: &PayloadParams) -> bool
+    ensures { result ≡ is_listed kind narrowed rows.now row.now }
+{
+    match kind {
+        MediaKind::Video => row.spec().codec.is_video(),
+        MediaKind::Audio => {
+            is_sound(row) || (is_events(row) && (!narrowed || shares_rate(rows, row)))
+        }
+    }
+}
+
+impl CodecConfig {
+    ghost use Rattle.str0m_formats.specs.row.KindRows.{rows_left, kind_rows};
+
+    /// The rows for sections of a kind, in order: for video those of video, for audio those of audio
+    /// and of telephone events.
+    ///
+    /// A new offer names telephone events at the RTP clock rates of its audio (RFC 4733, section
+    /// 2.1), so where some row of events shares its rate with an audio row, `for_new_offer` leaves
+    /// out the rows of events that don't.
+    pub fn all_for_kind(&self, kind: MediaKind, for_new_offer: bool) -> KindRows<'_>
+        ensures { rows_left result ≡ kind_rows kind for_new_offer self.now.params.items }
+    {
+        let rows = self.params.as_slice();
+        KindRows {
+            all: rows,
+            rest: rows,
+            kind,
+            narrowed: for_new_offer && some_share_rate(rows),
+        }
+    }
+}
+
+impl<'a> Iterator for KindRows<'a> {
+    ghost use Rattle.str0m_formats.specs.row.KindRows.{rows_left};
+
+    type Item = &'a PayloadParams;
+
+    ghost next_gives = { YieldsFirstRef rows_left };
+
+    ghost remaining = { item_count rows_left };
+
+    fn next(&mut self) -> Option<&'a PayloadParams> {
+        while let Some((first, rest)) = self.rest.split_first() {
+            self.rest = rest;
+            if is_listed(self.kind, self.narrowed, self.all, first) {
+                return Some(first);
+            }
+        }
+        None
+    }
+}

@@ -1,0 +1,170 @@
+//! The sources of a section.
+ghost use Rattle.std.specs.Prelude.{◌≡◌, ◌++◌, [], IfOk, OnOk};
+ghost use Rattle.std.specs.List.{filter_map};
+ghost use Rattle.str0m_sdp.specs.section.Sources.{ArePlaced, entries};
+ghost use Rattle.str0m_sdp.specs.section.SsrcInfo.{id_of, empty_info};
+ghost use Rattle.str0m_sdp.specs.section.SsrcInfoReading.{with_value, AreGathered};
+
+use crate::attribute::MediaAttribute;
+use crate::attribute::msid::is_no_stream;
+use crate::section::media_line::MediaLine;
+use crate::section::sources::Sources;
+use std::alloc::{AllocError, Global};
+use str0m_values::cuts::{before, cut, is_same_text};
+use str0m_values::{Separator, Ssrc, Text};
+
+/// What a section says of a source of RTP packets (RFC 5576).
+#[derive(Clone, Debug, PartialEq, Eq, Drop)]
+pub struct SsrcInfo {
+    /// The number of the source, of 32 bits (RFC 3550, section 3).
+    pub ssrc: Ssrc,
+    /// The source whose packets this one sends again.
+    pub repairs: Option<Ssrc>,
+    /// The name of the endpoint that sends it (RFC 5576, section 6.1).
+    pub cname: Option<Text>,
+    /// The id of its stream (RFC 8830, section 2).
+    pub stream_id: Option<Text>,
+    /// The id of its track in the stream.
+    pub track_id: Option<Text>,
+}
+
+/// The id in a piece of a value, where it has one (RFC 8830, section 2).
+fn id_of(alloc: Global, piece: &str) -> Result<Option<Text>, AllocError>
+    ensures { IfOk result (λ id. id ≡ id_of piece.now) }
+{
+    if is_no_stream(piece) {
+        return Ok(None);
+    }
+    Ok(Some(Text::from_str(alloc, piece.trim())?))
+}
+
+impl SsrcInfo {
+    ghost use Rattle.str0m_sdp.specs.section.SsrcInfoReading.{with_ids};
+
+    /// A source of which nothing is said.
+    pub(crate) fn empty(ssrc: Ssrc) -> SsrcInfo
+        ensures { result ≡ empty_info ssrc }
+    {
+        SsrcInfo {
+            ssrc,
+            repairs: None,
+            cname: None,
+            stream_id: None,
+            track_id: None,
+        }
+    }
+
+    /// A copy that equals its source; the only error is that memory was refused.
+    pub fn clone(&self) -> Result<SsrcInfo, AllocError>
+        ensures { IfOk result (λ info. info ≡ self.now) }
+    {
+        Clone::clone(self)
+    }
+
+    /// Sets the ids of an `msid` value: a stream, and after a space a track.
+    fn set_ids(&mut self, alloc: Global, value: &str) -> Result<(), AllocError>
+        ensures { OnOk result (self.new ≡ with_ids value.now self.old) }
+    {
+        self.stream_id = id_of(alloc, before(value, Separator::Space))?;
+        if let Some((_, rest)) = cut(value, Separator::Space) {
+            self.track_id = id_of(alloc, before(rest, Separator::Space))?;
+        }
+        Ok(())
+    }
+
+    /// Sets what the value of an `Ssrc` attribute says (RFC 5576, section 4.1).
+    pub(crate) fn set_value(
+        &mut self,
+        alloc: Global,
+        name: &str,
+        value: &str,
+    ) -> Result<(), AllocError>
+        ensures { OnOk result (self.new ≡ with_value name.now value.now self.old) }
+    {
+        if is_same_text(name, "cname") {
+            self.cname = Some(Text::from_str(alloc, value)?);
+        } else if is_same_text(name, "msid") {
+            self.set_ids(alloc, value)?;
+        }
+        Ok(())
+    }
+}
+
+/// Source 0, of which nothing is said.
+impl Default for SsrcInfo {
+    ghost is_default = { λ info. info ≡ empty_info 0 };
+
+    fn default() -> SsrcInfo {
+        SsrcInfo::empty(Ssrc::from(0))
+    }
+}
+
+impl MediaAttribute {
+    ghost use Rattle.str0m_sdp.specs.section.SsrcInfo.{repair_pair};
+
+    /// A source and the one that repairs it, where this is their group (RFC 5576, section 4.2).
+    fn repair_pair(&self) -> Option<(Ssrc, Ssrc)>
+        ensures { result ≡ repair_pair self.now }
+    {
+        let MediaAttribute::SsrcGroup { semantics, ssrcs } = self else {
+            return None;
+        };
+        match ssrcs.as_slice() {
+            [repaired, repairing] if is_same_text(semantics.as_str(), "fid") => {
+                Some((*repaired, *repairing))
+            }
+            _ => None,
+        }
+    }
+}
+
+impl MediaLine {
+    ghost use Rattle.str0m_sdp.specs.section.SsrcInfo.{infos, source_of, repair_source};
+
+    /// What the `Ssrc` attributes say of each source, in order of first appearance.
+    fn gather_values(&self, alloc: Global) -> Result<Sources, AllocError>
+        ensures said { IfOk result (λ sources. AreGathered (filter_map source_of self.now.attrs) [] self.now.attrs (entries sources)) }
+        ensures placed { IfOk result ArePlaced }
+    {
+        let mut sources = Sources::new(alloc);
+        for line in self.attrs.as_slice() {
+            if let MediaAttribute::Ssrc { ssrc, attr, value } = line {
+                sources.add_value(alloc, *ssrc, attr.as_str(), value.as_str())?;
+            }
+        }
+        Ok(sources)
+    }
+
+    /// Adds which sources repair others. Those that have no entry yet come last.
+    fn add_repairs(&self, sources: &mut Sources) -> Result<(), AllocError>
+        requires said { AreGathered (filter_map source_of self.now.attrs) [] self.now.attrs (entries sources.old) }
+        requires placed { ArePlaced sources.old }
+        ensures { OnOk result (AreGathered (filter_map source_of self.now.attrs ++ filter_map repair_source self.now.attrs) self.now.attrs self.now.attrs (entries sources.new)) }
+    {
+        for line in self.attrs.as_slice() {
+            if let Some((repaired, repairing)) = line.repair_pair() {
+                sources.add_repair(repaired, repairing)?;
+            }
+        }
+        Ok(())
+    }
+
+    /// What the section says of each of its sources (RFC 5576, sections 4.1, 4.2 and 6.1).
+    ///
+    /// There is one entry for each source of an `Ssrc` attribute, in order of first appearance. Its
+    /// `cname` attribute names it. Its `msid` attribute has the id of its stream and, after a space,
+    /// that of its track; white space at their ends is left out, and `-` stands for none (RFC 8830,
+    /// section 2). A group `FID` of two sources says that the second repairs the first; a second one
+    /// without an entry gets one at the end. Where two attributes say the same of a source, the later
+    /// one holds. Names are compared without regard to the case of ASCII letters. Time grows as that of
+    /// a sort, whatever the numbers are. `AllocError` where memory is refused.
+    #[tactic(auto, using(crate::proofs::section::SsrcInfoLaws::gathered_infos))]
+    pub fn ssrc_info(&self) -> Result<Vec<SsrcInfo>, AllocError>
+        ensures { IfOk result (λ list. list.items ≡ infos self.now.attrs) }
+    {
+        let alloc = *self.attrs.allocator();
+        let mut sources = self.gather_values(alloc)?;
+        self.add_repairs(&mut sources)?;
+        Ok(sources.into_infos())
+    }
+}

@@ -1,0 +1,84 @@
+//! The candidates of sessions and of sections.
+ghost use Rattle.std.specs.Prelude.{◌≡◌, [], ◌∷◌, MatchOption};
+ghost use Rattle.std.specs.List.{filter_map};
+ghost use Rattle.std.specs.Iterator.{YieldsFirstRef, item_count};
+
+use crate::attribute::{MediaAttribute, SessionAttribute};
+use crate::section::media_line::MediaLine;
+use crate::session::Session;
+use crate::session::transport::TransportAttribute;
+use str0m_values::Candidate;
+
+/// The first candidate, and the attributes after it.
+fn first_candidate<'a, A: TransportAttribute>(attrs: &'a [A]) -> Option<(&'a Candidate, &'a [A])>
+    ensures { MatchOption result
+        (filter_map A.candidate attrs.now ≡ [])
+        (λ found. filter_map A.candidate attrs.now ≡ found.0.now ∷ filter_map A.candidate found.1.now) }
+{
+    let mut left = attrs;
+    while let Some((attr, more)) = left.split_first() {
+        left = more;
+        if let Some(candidate) = attr.as_candidate() {
+            return Some((candidate, left));
+        }
+    }
+    None
+}
+
+/// The candidates of a session or of a section, in attribute order (RFC 8839, section 5.1).
+#[derive(Debug, Drop)]
+pub struct Candidates<'a> {
+    /// The attributes of the session that are still to be looked at, before those of the section.
+    session: &'a [SessionAttribute],
+    /// Those of the section.
+    media: &'a [MediaAttribute],
+}
+
+impl Session {
+    ghost use Rattle.str0m_sdp.specs.session.Candidates.{candidates_left, session_candidates};
+
+    /// The candidates that the session lists itself, in attribute order (RFC 8839, section 5.1).
+    pub fn ice_candidates(&self) -> Candidates<'_>
+        ensures { candidates_left result ≡ session_candidates self.now }
+    {
+        Candidates {
+            session: self.attrs.as_slice(),
+            media: &[],
+        }
+    }
+}
+
+impl MediaLine {
+    ghost use Rattle.str0m_sdp.specs.session.Candidates.{candidates_left, section_candidates};
+
+    /// The candidates that the section lists, in attribute order (RFC 8839, section 5.1).
+    pub fn ice_candidates(&self) -> Candidates<'_>
+        ensures { candidates_left result ≡ section_candidates self.now }
+    {
+        Candidates {
+            session: &[],
+            media: self.attrs.as_slice(),
+        }
+    }
+}
+
+/// It gives exactly those, and then ends.
+impl<'a> Iterator for Candidates<'a> {
+    ghost use Rattle.str0m_sdp.specs.session.Candidates.{candidates_left};
+
+    type Item = &'a Candidate;
+
+    ghost next_gives = { YieldsFirstRef candidates_left };
+
+    ghost remaining = { item_count candidates_left };
+
+    fn next(&mut self) -> Option<&'a Candidate> {
+        if let Some((candidate, left)) = first_candidate(self.session) {
+            self.session = left;
+            return Some(candidate);
+        }
+        let (candidate, left) = first_candidate(self.media)?;
+        self.media = left;
+        Some(candidate)
+    }
+}
