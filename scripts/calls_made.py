@@ -154,7 +154,7 @@ def runs():
 def faults():
     """The public calls that may need memory and that nothing makes."""
     own = [it for it in functions("str0m_*", "exchange") if it.is_public]
-    wants = {"AllocError", *(it for crate in ("str0m_*", "exchange") for file in TOP.glob(f"crates/{crate}/src/*.rt") for it in WANT.findall(file.read_text()))}
+    wants = {"AllocError", *(it for crate in ("str0m_*", "exchange") for file in TOP.glob(f"crates/{crate}/src/**/*.rt") for it in WANT.findall(file.read_text()))}
     names, made_by = [it.name for it in own], list(runs())
     for call in own:
         if call.result.startswith("Result<") and wants & set(re.findall(r"\w+", call.result)):

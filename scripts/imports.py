@@ -154,15 +154,17 @@ def faults_of(file):
 
 
 def unlisted(lib):
-    """The modules that a root lists and has not, or has and doesn't list."""
+    """The modules that a root or a room lists and has not, or has and doesn't list."""
     listed_here = set(re.findall(r"^pub mod (\w+)$", text_of(lib), re.M))
-    there = {it.stem for it in lib.parent.glob("*.antt")} - {"Lib"}
+    folder = lib.parent if lib.stem == "Lib" else lib.with_suffix("")
+    # (of laws `rattle` finds the rooms by the modules of code)
+    there = {it.stem for it in folder.glob("*.antt") if it.stem[0].isupper() or "specs" in it.parts} - {"Lib"}
     for name in sorted(listed_here ^ there):
         yield f"{lib.relative_to(crates())}: {name} is {'listed, and not there' if name in listed_here else 'there, and not listed'}"
 
 
 def faults():
-    for lib in sorted(crates().glob("*/*/Lib.antt")):
+    for lib in sorted(it for it in crates().glob("*/*/*.antt") if it.stem == "Lib" or it.stem[0].islower()):
         yield from unlisted(lib)
     for file in sorted(it for part in ("src", "specs", "proofs") for it in crates().glob(f"*/{part}/**/*") if it.suffix in (".rt", ".antt")):
         yield from faults_of(file)
