@@ -1,14 +1,11 @@
 //! Attribute lines, and runs of them.
 
 ghost use Rattle.std.specs.Prelude.{◌≡◌, ◌∷◌, ◌++◌, [], ℕ, List, Ok, Option, Some, IfOk, option_map};
-ghost use Rattle.str0m_signal.specs.session.ReaderAnswers.{Gives};
 ghost use Rattle.str0m_signal.specs.line.Lines.{Run};
 ghost use Rattle.str0m_signal.specs.line.LinesReading.{lines_of, line_read, read_attribute, left, IsRead, Takes, TakesLine};
 
 use crate::line::lines::plain_line;
-use crate::session::reader::refusal;
 use std::alloc::{AllocError, Global};
-use str0m_sdp::SdpError;
 use str0m_values::Items;
 use str0m_values::cuts::strip;
 
@@ -108,7 +105,10 @@ pub(crate) fn line<A: Attribute>(alloc: Global, line: &str) -> Result<Option<A>,
 }
 
 /// The attribute of the first line, and what follows that line.
-fn next_line<A: Attribute>(alloc: Global, text: &str) -> Result<Option<(A, &str)>, AllocError>
+pub(crate) fn next_line<A: Attribute>(
+    alloc: Global,
+    text: &str,
+) -> Result<Option<(A, &str)>, AllocError>
     ensures { IfOk result (λ found. option_map left found ≡ line_read (read_attribute A.reading) (lines_of text.now)) }
 {
     let Some((content, rest)) = plain_line(text) else {
@@ -164,17 +164,4 @@ pub(crate) fn attribute_run<A: Attribute>(
         rest = after;
     }
     Ok((held(attributes), rest))
-}
-
-/// The attribute of the first line, where it is one.
-pub(crate) fn first_attribute<A: Attribute>(
-    alloc: Global,
-    text: &str,
-) -> Result<(A, &str), SdpError>
-    ensures { Gives left result (line_read (read_attribute A.reading) (lines_of text.now)) }
-{
-    match next_line(alloc, text)? {
-        Some(found) => Ok(found),
-        None => Err(refusal(alloc, "line does not fit")),
-    }
 }

@@ -2,16 +2,16 @@
 
 ghost use Rattle.std.specs.Prelude.{All, IfOk};
 ghost use Rattle.str0m_sdp.specs.section.SectionRows.{HasBoundedRows};
-ghost use Rattle.str0m_signal.specs.session.ReaderAnswers.{Answers, AtMostOne, IsRefusal, unread};
+ghost use Rattle.str0m_signal.specs.session.ReaderAnswers.{Answers, AtMostOne, Gives, IsRefusal, unread};
 ghost use Rattle.str0m_signal.specs.session.Reader.{IsFromLine, Sections, IsSession, IsReading, Reading, SessionReading};
 ghost use Rattle.str0m_signal.specs.line.Lines.{FirstLine};
-ghost use Rattle.str0m_signal.specs.line.LinesReading.{lines_of, left};
+ghost use Rattle.str0m_signal.specs.line.LinesReading.{left, line_read, lines_of, read_attribute};
 ghost use Rattle.str0m_signal.specs.form.CandidateLine.{IsCandidateLine};
 ghost use Rattle.str0m_signal.specs.form.MediaAttribute.{IsMediaLine};
 ghost use Rattle.str0m_signal.specs.form.SessionAttribute.{IsSessionLine};
 
 use crate::form::session_attribute::session_attributes;
-use crate::session::attributes::first_attribute;
+use crate::session::attributes::{Attribute, next_line};
 use crate::session::header::{SessionHead, next_header};
 use crate::session::section::section;
 use std::alloc::Global;
@@ -65,6 +65,16 @@ fn read_sdp(alloc: Global, text: &str) -> Result<(Sdp, &str), SdpError>
         media_lines,
     };
     Ok((sdp, rest))
+}
+
+/// The attribute of the first line, where it is one.
+fn first_attribute<A: Attribute>(alloc: Global, text: &str) -> Result<(A, &str), SdpError>
+    ensures { Gives left result (line_read (read_attribute A.reading) (lines_of text.now)) }
+{
+    match next_line(alloc, text)? {
+        Some(found) => Ok(found),
+        None => Err(refusal(alloc, "line does not fit")),
+    }
 }
 
 /// Reads the session that a text begins with: its header and its attribute lines (RFC 8866,
