@@ -25,6 +25,7 @@
 //! - `label`: The words of descriptions: labels of attributes, as they stand after `a=`.
 //! - `section`: Sections: what they say, when they are consistent, and their rows.
 //!   - `alike`: Attributes that say the same once they are printed and read.
+//!   - `attribute_values`: What an attribute of a section is, and what it holds.
 //!   - `companions`: The payload types that go with another type, by type.
 //!   - `consistency`: Which sections are consistent.
 //!   - `fmtp_lines`: The fmtp lines of a payload type among those of a section.

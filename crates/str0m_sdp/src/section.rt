@@ -1,6 +1,7 @@
 //! Sections: what they say, when they are consistent, and their rows.
 
 pub(crate) mod alike;
+pub(crate) mod attribute_values;
 pub(crate) mod companions;
 pub(crate) mod consistency;
 pub(crate) mod fmtp_lines;

@@ -15,42 +15,6 @@ use std::alloc::AllocError;
 use str0m_formats::FormatParam;
 use str0m_values::{Mid, Pt};
 
-impl MediaAttribute {
-    fn is_mid(&self) -> bool
-        ensures { result ≡ is_mid self.now }
-    {
-        matches!(self, MediaAttribute::Mid(_))
-    }
-
-    fn as_mid(&self) -> Option<Mid>
-        ensures { result ≡ mid_of self.now }
-    {
-        match self {
-            MediaAttribute::Mid(mid) => Some(*mid),
-            _ => None,
-        }
-    }
-
-    fn is_setup(&self) -> bool
-        ensures { result ≡ is_setup self.now }
-    {
-        matches!(self, MediaAttribute::Setup(_))
-    }
-
-    /// Whether this is one of the four directions (RFC 8866, section 6.7).
-    pub fn is_direction(&self) -> bool
-        ensures { result ≡ is_direction self.now }
-    {
-        matches!(
-            self,
-            MediaAttribute::RecvOnly
-                | MediaAttribute::SendRecv
-                | MediaAttribute::SendOnly
-                | MediaAttribute::Inactive
-        )
-    }
-}
-
 fn count_mids(attrs: &[MediaAttribute]) -> usize
     ensures { result ≡ count_by is_mid attrs.now }
 {

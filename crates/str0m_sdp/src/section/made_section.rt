@@ -36,21 +36,6 @@ fn push_types(pts: &mut Vec<Pt>, row: &PayloadParams) -> Result<(), AllocError>
     Ok(())
 }
 
-impl MediaAttribute {
-    /// Whether the attribute describes a payload type: an rtpmap, rtcp-fb or fmtp line (RFC 8866,
-    /// section 6.6; RFC 4585, section 4.2; RFC 8866, section 6.15).
-    pub fn is_of_type(&self) -> bool
-        ensures { result ≡ is_of_type self.now }
-    {
-        matches!(
-            self,
-            MediaAttribute::RtpMap { .. }
-                | MediaAttribute::RtcpFb { .. }
-                | MediaAttribute::Fmtp { .. }
-        )
-    }
-}
-
 /// Copies of the lines that describe no payload type.
 fn kept(alloc: Global, attrs: &[MediaAttribute]) -> Result<Vec<MediaAttribute>, AllocError>
     ensures { IfOk result (λ kept. kept.items ≡ filter (λ attr. not (is_of_type attr)) attrs.now) }

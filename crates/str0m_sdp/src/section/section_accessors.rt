@@ -1,7 +1,7 @@
 //! What a section says.
-ghost use Rattle.std.specs.Prelude.{◌≡◌, ◌+◌, ◌<◌, ◌↔◌, IfOk, IsTrue, Some, count_by, filter_map, map};
+ghost use Rattle.std.specs.Prelude.{◌≡◌, ◌<◌, ◌↔◌, IfOk, IsTrue, Some, count_by, filter_map, map};
 ghost use Rattle.std.specs.List.{AllZip, list_any};
-ghost use Rattle.std.specs.Option.{option_copied, option_map};
+ghost use Rattle.std.specs.Option.{option_copied};
 ghost use Rattle.str0m_sdp.specs.section.Consistency.{is_mid, mid_of};
 ghost use Rattle.str0m_sdp.specs.Common.{first, last};
 ghost use Rattle.str0m_sdp.specs.session.PreferredFingerprint.{IsPreferred};
@@ -18,62 +18,6 @@ use crate::session::preferred_fingerprint::{copied_fingerprint, preferred};
 use crate::session::transport::{copied_creds, ends, first_creds, first_setup};
 use std::alloc::AllocError;
 use str0m_values::{Extension, Fingerprint, IceCreds, Mid, Rid};
-
-impl MediaAttribute {
-    fn as_sctp_init(&self) -> Option<&str>
-        ensures { option_copied result ≡ sctp_init_of self.now }
-    {
-        match self {
-            MediaAttribute::SctpInit(text) => Some(text.as_str()),
-            _ => None,
-        }
-    }
-
-    fn as_msid(&self) -> Option<&Msid>
-        ensures { option_copied result ≡ msid_of self.now }
-    {
-        match self {
-            MediaAttribute::Msid(msid) => Some(msid),
-            _ => None,
-        }
-    }
-
-    fn as_max_message_size(&self) -> Option<u64>
-        ensures { result ≡ max_message_size_of self.now }
-    {
-        match self {
-            MediaAttribute::MaxMessageSize(size) => Some(*size),
-            _ => None,
-        }
-    }
-
-    fn as_simulcast(&self) -> Option<&Simulcast>
-        ensures { option_copied result ≡ simulcast_of self.now }
-    {
-        match self {
-            MediaAttribute::Simulcast(simulcast) => Some(simulcast),
-            _ => None,
-        }
-    }
-
-    fn as_ext_map(&self) -> Option<(u8, &Extension)>
-        ensures { option_map ext_map_at result ≡ ext_map_of self.now }
-    {
-        match self {
-            MediaAttribute::ExtMap { id, ext } => Some((*id, ext)),
-            _ => None,
-        }
-    }
-
-    fn as_rid_name(&self) -> Option<&str>
-        ensures { option_copied result ≡ rid_name_of self.now }
-    {
-        match self {
-            MediaAttribute::Rid { id, .. } => Some(id.0.as_str()),
-            _ => None,
-        }
-    }
-}
 
 impl MediaLine {
     /// Whether an attribute names the section (RFC 5888, section 4).

@@ -9,20 +9,6 @@ use crate::attribute::MediaAttribute;
 use crate::section::media_line::MediaLine;
 use str0m_values::Direction;
 
-impl MediaAttribute {
-    fn as_direction(&self) -> Option<Direction>
-        ensures { result ≡ direction_of self.now }
-    {
-        match self {
-            MediaAttribute::SendRecv => Some(Direction::SendRecv),
-            MediaAttribute::SendOnly => Some(Direction::SendOnly),
-            MediaAttribute::RecvOnly => Some(Direction::RecvOnly),
-            MediaAttribute::Inactive => Some(Direction::Inactive),
-            _ => None,
-        }
-    }
-}
-
 impl MediaLine {
     /// Whether an attribute says a direction (RFC 8866, section 6.7).
     #[tactic(auto, using(crate::proofs::section::SectionDirectionHolders::direction_counted))]

@@ -99,25 +99,6 @@ impl Default for SsrcInfo {
     }
 }
 
-impl MediaAttribute {
-    ghost use Rattle.str0m_sdp.specs.section.SsrcInfo.{repair_pair};
-
-    /// A source and the one that repairs it, where this is their group (RFC 5576, section 4.2).
-    fn repair_pair(&self) -> Option<(Ssrc, Ssrc)>
-        ensures { result ≡ repair_pair self.now }
-    {
-        let MediaAttribute::SsrcGroup { semantics, ssrcs } = self else {
-            return None;
-        };
-        match ssrcs.as_slice() {
-            [repaired, repairing] if is_same_text(semantics.as_str(), "fid") => {
-                Some((*repaired, *repairing))
-            }
-            _ => None,
-        }
-    }
-}
-
 impl MediaLine {
     ghost use Rattle.str0m_sdp.specs.section.SsrcInfo.{infos, source_of, repair_source};
 
