@@ -34,8 +34,8 @@
 //!   - `mappings`: Which codec each payload type of a section stands for.
 //!   - `media_line`: The sections of a session description.
 //!   - `row_attributes`: The attribute lines of a row.
-//!   - `section_accessors`: What a section says.
-//!   - `section_direction`: The direction of a section.
+//!   - `section_accessors`: What a section says, and its first fault.
+//!   - `section_direction`: Which attribute says the direction of a section.
 //!   - `section_rows`: The rows that a section describes.
 //!   - `sources`: What is said of the sources of a section, in order of first appearance.
 //!   - `ssrc_info`: The sources of a section.

@@ -1,8 +1,7 @@
 //! Which sections are consistent.
-ghost use Rattle.std.specs.Prelude.{◌≡◌, ◌<◌, ◌↔◌, IfOk, IsSome, Ok, None, Some, count_by, filter_map, option_map};
-ghost use Rattle.std.specs.String.{string_bytes};
-ghost use Rattle.str0m_sdp.specs.section.Consistency.{is_mid, mid_of, is_setup, is_direction, Consistent, NoneIff};
-ghost use Rattle.str0m_sdp.specs.session.Fault.{err_if, only_mid, setup_fault, proto_fault, mapping_fault, map_fault, value_fault, values_fault, apt_fault, first_fault, section_message};
+ghost use Rattle.std.specs.Prelude.{◌≡◌, ◌<◌, ◌↔◌, IsSome, Some, count_by, filter_map};
+ghost use Rattle.str0m_sdp.specs.section.Consistency.{is_mid, mid_of, is_setup, is_direction};
+ghost use Rattle.str0m_sdp.specs.session.Fault.{err_if, only_mid, setup_fault, proto_fault, mapping_fault, map_fault, value_fault, values_fault, apt_fault, first_fault};
 ghost use Rattle.str0m_sdp.specs.Common.{first};
 
 use crate::attribute::MediaAttribute;
@@ -10,8 +9,7 @@ use crate::attribute::proto::Proto;
 use crate::section::mappings::static_spec;
 use crate::section::media_line::MediaLine;
 use crate::section::type_tables::{apt_of, count_maps, first_apts, place};
-use crate::session::fault::{Clash, Fault, Message};
-use std::alloc::AllocError;
+use crate::session::fault::{Clash, Fault};
 use str0m_formats::FormatParam;
 use str0m_values::{Mid, Pt};
 
@@ -164,7 +162,7 @@ fn check_apts(attrs: &[MediaAttribute], mid: Mid) -> Result<(), Fault>
 }
 
 /// The first fault of a section, as the error.
-fn check(m: &MediaLine) -> Result<(), Fault>
+pub(crate) fn check(m: &MediaLine) -> Result<(), Fault>
     ensures { result ≡ err_if (first_fault m.now) }
 {
     let attrs = m.attrs.as_slice();
@@ -173,34 +171,4 @@ fn check(m: &MediaLine) -> Result<(), Fault>
     check_proto(m, mid)?;
     check_maps(attrs, m.pts.as_slice(), mid)?;
     check_apts(attrs, mid)
-}
-
-impl MediaLine {
-    /// The message of the section's first fault; `None` where it is consistent.
-    ///
-    /// A section has exactly one `a=mid` line and at most one `a=setup` line (RFC 8829, section
-    /// 5.2.1). Over Srtp it has exactly one direction, and a payload type unless it is disabled.
-    /// Each payload type of its m-line has exactly one `a=rtpmap` line (RFC 8866, section 6.6); a
-    /// static type (RFC 3551, section 6; `CodecSpec::from_static_pt`) may have none. The `apt` values of
-    /// one payload type's fmtp lines name one primary type (RFC 4588, section 8.1). Faults are looked
-    /// for in this order.
-    ///
-    /// Only a message takes memory, so a consistent section needs none; the only error is that
-    /// memory for the message was refused.
-    #[tactic(auto, using(crate::proofs::session::FaultLaws::consistent_if_ok, crate::proofs::session::FaultLaws::consistent_not_err))]
-    pub fn check_consistent(&self) -> Result<Option<String>, AllocError>
-        ensures told { IfOk result (λ message. NoneIff message (Consistent self.now)) }
-        ensures first { IfOk result (λ message. option_map string_bytes message ≡ section_message self.now) }
-        ensures takes_no_memory { Consistent self.now → result ≡ Ok None }
-    {
-        match check(self) {
-            Ok(()) => Ok(None),
-            Err(fault) => {
-                let section = self;
-                let message = Message { fault, section };
-                let alloc = *self.attrs.allocator();
-                Ok(Some(message.to_string(alloc)?))
-            }
-        }
-    }
 }

@@ -5,14 +5,13 @@ ghost use Rattle.str0m_formats.specs.codec.CodecSpec.{static_spec};
 ghost use Rattle.str0m_sdp.specs.section.Mappings.{mapping, static_row, mapped, is_mapped_to};
 
 use crate::attribute::MediaAttribute;
-use crate::section::media_line::MediaLine;
 use crate::section::type_tables::{TYPES, place};
 use std::alloc::{AllocError, Global};
 use str0m_formats::{Codec, CodecSpec};
 use str0m_values::Pt;
 
 /// The types of rtpmap lines with their codecs, in order. There is room for as many as are likely.
-fn mappings(
+pub(crate) fn mappings(
     alloc: Global,
     attrs: &[MediaAttribute],
     likely: usize,
@@ -38,7 +37,7 @@ pub(crate) fn static_spec(pt: Pt) -> Option<CodecSpec>
 }
 
 /// Which types are mapped.
-fn mapped_types(mapped: &[(Pt, CodecSpec)]) -> [bool; TYPES]
+pub(crate) fn mapped_types(mapped: &[(Pt, CodecSpec)]) -> [bool; TYPES]
     ensures rows { (pt : ℕ) → pt < 256 → get_or result pt false ≡ list_any (λ row. row.0 == pt) mapped.now }
     ensures whole { length result ≡ 256 }
 {
@@ -64,33 +63,11 @@ pub(crate) fn types_of(mapped: &[(Pt, CodecSpec)], codec: Codec) -> [bool; TYPES
 }
 
 /// One more type, where it needs no rtpmap line.
-fn push_static(mapped: &mut Vec<(Pt, CodecSpec)>, pt: Pt) -> Result<(), AllocError>
+pub(crate) fn push_static(mapped: &mut Vec<(Pt, CodecSpec)>, pt: Pt) -> Result<(), AllocError>
     ensures { OnOk result (mapped.new.items ≡ mapped.old.items ++ option_to_list (static_row pt)) }
 {
     match static_spec(pt) {
         Some(spec) => mapped.extend_from_slice(&[(pt, spec)]),
         None => Ok(()),
-    }
-}
-
-impl MediaLine {
-    /// The types with their codecs: that of each rtpmap line (RFC 8866, section 6.6), so that a
-    /// type of many lines stands as many times, then the static types of the m-line that have no
-    /// such line (RFC 3551, section 6), each of these once. The only error is that memory was
-    /// refused.
-    pub(crate) fn mapped(&self) -> Result<Vec<(Pt, CodecSpec)>, AllocError>
-        ensures { IfOk result (λ rows. rows.items ≡ mapped self.now) }
-    {
-        let attrs = self.attrs.as_slice();
-        let mut mapped = mappings(*self.attrs.allocator(), attrs, self.pts.len().min(TYPES))?;
-        let mut seen = mapped_types(mapped.as_slice());
-        for pt in self.pts.as_slice() {
-            let place = place(*pt);
-            if !seen[place] {
-                seen[place] = true;
-                push_static(&mut mapped, *pt)?;
-            }
-        }
-        Ok(mapped)
     }
 }

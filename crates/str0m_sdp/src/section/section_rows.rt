@@ -13,7 +13,7 @@ use crate::attribute::MediaAttribute;
 use crate::attribute::feedback::{Feedback, note_feedback};
 use crate::section::companions::note_line;
 use crate::section::known_formats::{format_of, groups_of};
-use crate::section::mappings::types_of;
+use crate::section::mappings::{mapped_types, mappings, push_static, types_of};
 use crate::section::media_line::MediaLine;
 use crate::section::type_tables::{TYPES, place, types_in};
 use std::alloc::{AllocError, Global};
@@ -133,6 +133,26 @@ fn is_events(codec: Codec) -> bool
 
 impl MediaLine {
     ghost use Rattle.str0m_sdp.specs.section.Mappings.{mapped};
+
+    /// The types with their codecs: that of each rtpmap line (RFC 8866, section 6.6), so that a
+    /// type of many lines stands as many times, then the static types of the m-line that have no
+    /// such line (RFC 3551, section 6), each of these once. The only error is that memory was
+    /// refused.
+    pub(crate) fn mapped(&self) -> Result<Vec<(Pt, CodecSpec)>, AllocError>
+        ensures { IfOk result (λ rows. rows.items ≡ mapped self.now) }
+    {
+        let attrs = self.attrs.as_slice();
+        let mut mapped = mappings(*self.attrs.allocator(), attrs, self.pts.len().min(TYPES))?;
+        let mut seen = mapped_types(mapped.as_slice());
+        for pt in self.pts.as_slice() {
+            let place = place(*pt);
+            if !seen[place] {
+                seen[place] = true;
+                push_static(&mut mapped, *pt)?;
+            }
+        }
+        Ok(mapped)
+    }
 
     /// The rows of the section, by the mapped types.
     fn rows_of(&self, types: &[(Pt, CodecSpec)]) -> Result<Vec<PayloadParams>, AllocError>

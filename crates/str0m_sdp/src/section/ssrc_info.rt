@@ -1,14 +1,9 @@
 //! The sources of a section.
-ghost use Rattle.std.specs.Prelude.{◌≡◌, ◌++◌, [], IfOk, OnOk};
-ghost use Rattle.std.specs.List.{filter_map};
-ghost use Rattle.str0m_sdp.specs.section.Sources.{ArePlaced, entries};
+ghost use Rattle.std.specs.Prelude.{◌≡◌, IfOk, OnOk};
 ghost use Rattle.str0m_sdp.specs.section.SsrcInfo.{id_of, empty_info};
-ghost use Rattle.str0m_sdp.specs.section.SsrcInfoReading.{with_value, AreGathered};
+ghost use Rattle.str0m_sdp.specs.section.SsrcInfoReading.{with_value};
 
-use crate::attribute::MediaAttribute;
 use crate::attribute::msid::is_no_stream;
-use crate::section::media_line::MediaLine;
-use crate::section::sources::Sources;
 use std::alloc::{AllocError, Global};
 use str0m_values::cuts::{before, cut, is_same_text};
 use str0m_values::{Separator, Ssrc, Text};
@@ -96,56 +91,5 @@ impl Default for SsrcInfo {
 
     fn default() -> SsrcInfo {
         SsrcInfo::empty(Ssrc::from(0))
-    }
-}
-
-impl MediaLine {
-    ghost use Rattle.str0m_sdp.specs.section.SsrcInfo.{infos, source_of, repair_source};
-
-    /// What the `Ssrc` attributes say of each source, in order of first appearance.
-    fn gather_values(&self, alloc: Global) -> Result<Sources, AllocError>
-        ensures said { IfOk result (λ sources. AreGathered (filter_map source_of self.now.attrs) [] self.now.attrs (entries sources)) }
-        ensures placed { IfOk result ArePlaced }
-    {
-        let mut sources = Sources::new(alloc);
-        for line in self.attrs.as_slice() {
-            if let MediaAttribute::Ssrc { ssrc, attr, value } = line {
-                sources.add_value(alloc, *ssrc, attr.as_str(), value.as_str())?;
-            }
-        }
-        Ok(sources)
-    }
-
-    /// Adds which sources repair others. Those that have no entry yet come last.
-    fn add_repairs(&self, sources: &mut Sources) -> Result<(), AllocError>
-        requires said { AreGathered (filter_map source_of self.now.attrs) [] self.now.attrs (entries sources.old) }
-        requires placed { ArePlaced sources.old }
-        ensures { OnOk result (AreGathered (filter_map source_of self.now.attrs ++ filter_map repair_source self.now.attrs) self.now.attrs self.now.attrs (entries sources.new)) }
-    {
-        for line in self.attrs.as_slice() {
-            if let Some((repaired, repairing)) = line.repair_pair() {
-                sources.add_repair(repaired, repairing)?;
-            }
-        }
-        Ok(())
-    }
-
-    /// What the section says of each of its sources (RFC 5576, sections 4.1, 4.2 and 6.1).
-    ///
-    /// There is one entry for each source of an `Ssrc` attribute, in order of first appearance. Its
-    /// `cname` attribute names it. Its `msid` attribute has the id of its stream and, after a space,
-    /// that of its track; white space at their ends is left out, and `-` stands for none (RFC 8830,
-    /// section 2). A group `FID` of two sources says that the second repairs the first; a second one
-    /// without an entry gets one at the end. Where two attributes say the same of a source, the later
-    /// one holds. Names are compared without regard to the case of ASCII letters. Time grows as that of
-    /// a sort, whatever the numbers are. `AllocError` where memory is refused.
-    #[tactic(auto, using(crate::proofs::section::SsrcInfoLaws::gathered_infos))]
-    pub fn ssrc_info(&self) -> Result<Vec<SsrcInfo>, AllocError>
-        ensures { IfOk result (λ list. list.items ≡ infos self.now.attrs) }
-    {
-        let alloc = *self.attrs.allocator();
-        let mut sources = self.gather_values(alloc)?;
-        self.add_repairs(&mut sources)?;
-        Ok(sources.into_infos())
     }
 }

@@ -4,7 +4,6 @@ ghost use Rattle.std.specs.List.{filter_map};
 ghost use Rattle.std.specs.Iterator.{YieldsFirstRef, item_count};
 
 use crate::attribute::{MediaAttribute, SessionAttribute};
-use crate::section::media_line::MediaLine;
 use crate::session::Session;
 use crate::session::transport::TransportAttribute;
 use str0m_values::Candidate;
@@ -29,9 +28,9 @@ fn first_candidate<'a, A: TransportAttribute>(attrs: &'a [A]) -> Option<(&'a Can
 #[derive(Debug, Drop)]
 pub struct Candidates<'a> {
     /// The attributes of the session that are still to be looked at, before those of the section.
-    session: &'a [SessionAttribute],
+    pub(crate) session: &'a [SessionAttribute],
     /// Those of the section.
-    media: &'a [MediaAttribute],
+    pub(crate) media: &'a [MediaAttribute],
 }
 
 impl Session {
@@ -44,20 +43,6 @@ impl Session {
         Candidates {
             session: self.attrs.as_slice(),
             media: &[],
-        }
-    }
-}
-
-impl MediaLine {
-    ghost use Rattle.str0m_sdp.specs.session.Candidates.{candidates_left, section_candidates};
-
-    /// The candidates that the section lists, in attribute order (RFC 8839, section 5.1).
-    pub fn ice_candidates(&self) -> Candidates<'_>
-        ensures { candidates_left result ≡ section_candidates self.now }
-    {
-        Candidates {
-            session: &[],
-            media: self.attrs.as_slice(),
         }
     }
 }
