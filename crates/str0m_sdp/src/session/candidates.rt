@@ -4,7 +4,6 @@ ghost use Rattle.std.specs.List.{filter_map};
 ghost use Rattle.std.specs.Iterator.{YieldsFirstRef, item_count};
 
 use crate::attribute::{MediaAttribute, SessionAttribute};
-use crate::session::Session;
 use crate::session::transport::TransportAttribute;
 use str0m_values::Candidate;
 
@@ -31,20 +30,6 @@ pub struct Candidates<'a> {
     pub(crate) session: &'a [SessionAttribute],
     /// Those of the section.
     pub(crate) media: &'a [MediaAttribute],
-}
-
-impl Session {
-    ghost use Rattle.str0m_sdp.specs.session.Candidates.{candidates_left, session_candidates};
-
-    /// The candidates that the session lists itself, in attribute order (RFC 8839, section 5.1).
-    pub fn ice_candidates(&self) -> Candidates<'_>
-        ensures { candidates_left result ≡ session_candidates self.now }
-    {
-        Candidates {
-            session: self.attrs.as_slice(),
-            media: &[],
-        }
-    }
 }
 
 /// It gives exactly those, and then ends.

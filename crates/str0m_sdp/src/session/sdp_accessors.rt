@@ -1,8 +1,9 @@
 //! What a description says, in its session or in its sections.
-ghost use Rattle.std.specs.Prelude.{◌≡◌, IfOk, filter_map, find};
-ghost use Rattle.std.specs.Option.{option_copied, option_map};
-ghost use Rattle.str0m_sdp.specs.Common.{first};
+ghost use Rattle.std.specs.Prelude.{◌≡◌, IfOk, filter_map, find, option_copied, option_map};
+ghost use Rattle.str0m_sdp.specs.Common.{distinct, first};
 ghost use Rattle.str0m_sdp.specs.attribute.MediaType.{is_channel};
+ghost use Rattle.str0m_sdp.specs.session.Candidates.{all_candidates, same_candidate};
+ghost use Rattle.str0m_sdp.specs.session.DistinctCandidates.{IsEachOnce, distinct_left};
 ghost use Rattle.str0m_sdp.specs.session.PreferredFingerprint.{IsPreferred, media_fingerprints, preferred, sdp_fingerprints};
 ghost use Rattle.str0m_sdp.specs.session.SdpAccessors.{bundled_of, sdp_sctp_init};
 ghost use Rattle.str0m_sdp.specs.session.Transport.{creds_at, media_creds, media_setup, sdp_creds, sdp_setup};
@@ -12,7 +13,9 @@ use crate::attribute::SessionAttribute;
 use crate::attribute::setup::Setup;
 use crate::section::media_line::MediaLine;
 use crate::session::Sdp;
+use crate::session::distinct_candidates::{DistinctCandidates, add_all};
 use crate::session::preferred_fingerprint::{copied_fingerprint, preferred};
+use crate::session::seen_candidates::SeenCandidates;
 use crate::session::transport::{copied_creds, first_creds};
 use std::alloc::AllocError;
 use str0m_values::{Fingerprint, IceCreds, Mid, Text};
@@ -73,6 +76,23 @@ impl Sdp {
             Some(print) => copied_fingerprint(Some(print)),
             None => copied_fingerprint(preferred_among(self.media_lines.as_slice())),
         }
+    }
+
+    /// Each candidate that the session or a section lists, once, in order of first appearance: those
+    /// of the session before those of the sections (RFC 8839, section 5.1). Time grows as that of a
+    /// sort, whatever they are. `AllocError` where memory is refused.
+    pub fn ice_candidates(&self) -> Result<DistinctCandidates<'_>, AllocError>
+        ensures distinct { IfOk result (λ candidates. distinct_left candidates ≡ distinct same_candidate (all_candidates self.now)) }
+        ensures once { IfOk result (λ candidates. IsEachOnce (all_candidates self.now) (distinct_left candidates)) }
+    {
+        let mut found = SeenCandidates::new(*self.media_lines.allocator());
+        add_all(&mut found, self.session.ice_candidates())?;
+        for line in self.media_lines.as_slice() {
+            add_all(&mut found, line.ice_candidates())?;
+        }
+        Ok(DistinctCandidates {
+            left: found.into_iter(),
+        })
     }
 
     /// The INIT chunk of SCTP, in base 64 (draft-hancke-tsvwg-snap), of the first application

@@ -2,12 +2,14 @@
 ghost use Rattle.std.specs.Prelude.{◌≡◌, IfOk, filter_map};
 ghost use Rattle.std.specs.List.{list_any};
 ghost use Rattle.str0m_sdp.specs.Common.{first};
+ghost use Rattle.str0m_sdp.specs.session.Candidates.{candidates_left, session_candidates};
 ghost use Rattle.str0m_sdp.specs.session.PreferredFingerprint.{IsPreferred};
 ghost use Rattle.str0m_sdp.specs.session.Transport.{is_ice_lite, session_creds, session_ends, session_fingerprint, session_setup};
 
 use crate::attribute::SessionAttribute;
 use crate::attribute::setup::Setup;
 use crate::session::Session;
+use crate::session::candidates::Candidates;
 use crate::session::preferred_fingerprint::{copied_fingerprint, preferred};
 use crate::session::transport::{copied_creds, ends, first_creds, first_setup};
 use std::alloc::AllocError;
@@ -36,6 +38,16 @@ impl Session {
         ensures { IfOk result (IsPreferred (filter_map session_fingerprint self.now.attrs)) }
     {
         copied_fingerprint(preferred(self.attrs.as_slice()))
+    }
+
+    /// The candidates that the session lists itself, in attribute order (RFC 8839, section 5.1).
+    pub fn ice_candidates(&self) -> Candidates<'_>
+        ensures { candidates_left result ≡ session_candidates self.now }
+    {
+        Candidates {
+            session: self.attrs.as_slice(),
+            media: &[],
+        }
     }
 
     /// Whether an attribute says that no candidate follows (RFC 8840, section 8.1).
