@@ -13,7 +13,7 @@
 //!   - `param_text`: How parameters of formats print.
 //! - `round`: Rounds, in which payload types are negotiated.
 //!   - `beginning`: What stands before a round: whether it may begin, and what is claimed then.
-//!   - `choices`: Which rows of a configuration answer a question.
+//!   - `choices`: Which row is chosen among several.
 //!   - `claim_mask`: A table of claimed payload types in one number.
 //!   - `claimed`: Tables of claimed payload types.
 //!   - `claims`: What a round has claimed: which remote row a row then goes with, and which types it may take.

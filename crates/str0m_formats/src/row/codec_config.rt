@@ -1,21 +1,30 @@
 //! The codecs that one side can send and receive.
-ghost use Rattle.std.specs.Prelude.{◌≡◌, ◌+◌, ◌≤◌, ◌++◌, ◌∷◌, [], IfOk, IsOk, OnOk, OnErr, vec_len, vec_capacity};
+ghost use Rattle.std.specs.Prelude.{◌≡◌, ◌==◌, ◌+◌, ◌≤◌, ◌++◌, ◌∷◌, [], All, IfOk, IsOk, List, ℕ, OnErr, OnOk, option_copied, vec_capacity, vec_len};
+ghost use Rattle.std.specs.List.{list_any};
+ghost use Rattle.std.specs.List.Sorted.{IsStrictlyIncreasing};
+ghost use Rattle.str0m_values.specs.Direction.{receives};
 ghost use Rattle.str0m_values.specs.H265.{H265ProfileTierLevel};
 ghost use Rattle.str0m_values.specs.H266.{H266ProfileTierLevel};
-ghost use Rattle.str0m_formats.specs.row.PayloadParams.{new_row, types};
+ghost use Rattle.str0m_formats.specs.round.Choices.{FirstAccepted, IsChoice, IsMatchedType, highest_event, points_with};
 ghost use Rattle.str0m_formats.specs.round.Claimed.{AllDistinct};
 ghost use Rattle.str0m_formats.specs.row.CodecConfig.{picture_spec, h264_row, h265_row, h266_row, IsTripleOr, IsH265Triple, IsH266Triple};
 ghost use Rattle.str0m_formats.specs.row.DefaultRows.{AreDefault};
+ghost use Rattle.str0m_formats.specs.row.KindRows.{kind_rows, rows_left};
+ghost use Rattle.str0m_formats.specs.row.PayloadParams.{new_row, types};
+ghost use Rattle.str0m_formats.specs.row.RedDistances.{AreKept};
 
 use crate::codec::Codec;
 use crate::codec::codec_spec::CodecSpec;
 use crate::format::format_params::FormatParams;
+use crate::round::choices::{better, is_event_row};
+use crate::row::kind_rows::{KindRows, some_share_rate};
 use crate::row::payload_params::PayloadParams;
 use crate::row::red_distances::RedDistances;
 use std::alloc::{AllocError, Global};
 use std::ops::{Deref, DerefMut};
 use str0m_values::{
-    Frequency, H265ProfileTierLevel, H266ProfileTierLevel, Numbered, ProfileTierLevel, Pt,
+    Direction, Frequency, H265ProfileTierLevel, H266ProfileTierLevel, MediaKind, Numbered,
+    ProfileTierLevel, Pt,
 };
 
 /// The rows of codecs that one side can send and receive, in order of preference, and how far back
@@ -144,6 +153,108 @@ impl CodecConfig {
         ensures distances { self.new.red_distances ≡ self.old.red_distances }
     {
         self.params.clear();
+    }
+
+    /// The row that matches these parameters best: the last of those of greatest score. `None` where
+    /// no row matches.
+    pub fn match_params(&self, params: PayloadParams) -> Option<&PayloadParams>
+        ensures { IsChoice (points_with params) self.now.params.items (option_copied result) }
+    {
+        let mut best = None;
+        for row in self.params.as_slice() {
+            best = better(best, row, row.match_score(&params));
+        }
+        match best {
+            Some((row, _)) => Some(row),
+            None => None,
+        }
+    }
+
+    /// The payload type under which the media of a remote row are sent: the remote's own where the
+    /// remote receives, since it says there what it wants to get (RFC 3264, section 5.1), else that
+    /// of our best match. `None` where no row matches.
+    pub fn sdp_match_remote(&self, params: PayloadParams, dir: Direction) -> Option<Pt>
+        ensures { IsMatchedType self.now.params.items params (receives dir) result }
+    {
+        let ours = self.match_params(params)?;
+        if dir.sdp_is_receiving() {
+            Some(params.pt())
+        } else {
+            Some(ours.pt())
+        }
+    }
+
+    /// The first row that `accept` accepts; it refused each row before that one. `None` where it
+    /// refused them all. No row is asked after the accepted one, which a test shows: a clause can't
+    /// tell in what state a closure is that was handed over.
+    pub fn find<F: FnMut(&PayloadParams) -> bool>(&self, mut accept: F) -> Option<&PayloadParams>
+        requires { F.IsAlwaysCallable accept }
+        ensures { FirstAccepted F.step accept self.now.params.items (option_copied result) }
+    {
+        for row in self.params.iter() {
+            if accept(row) {
+                return Some(row);
+            }
+        }
+        None
+    }
+
+    /// Whether some row has this payload type as its primary one.
+    pub fn has_pt(&self, pt: Pt) -> bool
+        ensures { result ≡ list_any (λ row. row.pt == pt) self.now.params.items }
+    {
+        self.params.iter().any(|row| row.pt() == pt)
+    }
+
+    /// The highest telephone event of the first row of events under this payload type. Where the row
+    /// doesn't say it, that is 16, the default of `str0m` (RFC 4733 itself has 0 to 15). `None` where
+    /// there is no such row.
+    pub fn tele_event_max(&self, pt: Pt) -> Option<u8>
+        ensures { result ≡ highest_event pt self.now.params.items }
+    {
+        let row = self.params.iter().find(|row| is_event_row(row, pt))?;
+        Some(row.spec().format.highest_event())
+    }
+
+    /// The rows for sections of a kind, in order: for video those of video, for audio those of audio
+    /// and of telephone events.
+    ///
+    /// A new offer names telephone events at the RTP clock rates of its audio (RFC 4733, section
+    /// 2.1), so where some row of events shares its rate with an audio row, `for_new_offer` leaves
+    /// out the rows of events that don't.
+    pub fn all_for_kind(&self, kind: MediaKind, for_new_offer: bool) -> KindRows<'_>
+        ensures { rows_left result ≡ kind_rows kind for_new_offer self.now.params.items }
+    {
+        let rows = self.params.as_slice();
+        KindRows {
+            all: rows,
+            rest: rows,
+            kind,
+            narrowed: for_new_offer && some_share_rate(rows),
+        }
+    }
+
+    /// How many packets back each redundant level of RED lies (RFC 2198, section 3): 1 first, which
+    /// is the packet before, then ever greater numbers, up to 16.
+    pub fn red_distances(&self) -> &[u32]
+        ensures value { result.now ≡ self.now.red_distances }
+        ensures first { (rest : List ℕ) × (result.now ≡ 1 ∷ rest) }
+        ensures increasing { IsStrictlyIncreasing result.now }
+        ensures bounded { All (λ d. d ≤ 16) result.now }
+    {
+        self.red_distances.as_slice()
+    }
+
+    /// Says how many packets back each redundant level of RED lies (RFC 2198, section 3).
+    ///
+    /// Of the numbers given those from 1 to 16 are kept, each once and in increasing order, and 1 is
+    /// added where it is missing: a receiver takes the nearest level for the packet before. Whether
+    /// rows have a RED isn't changed, nor is any row.
+    pub fn set_red_distances(&mut self, distances: &[u32])
+        ensures kept { AreKept distances.now self.new.red_distances }
+        ensures rows { self.new.params ≡ self.old.params }
+    {
+        self.red_distances = RedDistances::kept(distances);
     }
 
     /// Makes room for so many more rows. It is made elsewhere, and the rows go there, so that want of it

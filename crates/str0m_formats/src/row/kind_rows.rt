@@ -3,19 +3,18 @@ ghost use Rattle.std.specs.Prelude.{◌≡◌};
 ghost use Rattle.std.specs.Iterator.{YieldsFirstRef, item_count};
 ghost use Rattle.str0m_formats.specs.row.KindRows.{is_sound, is_events, rate_of, shares_rate, some_share_rate, is_listed};
 
-use crate::row::codec_config::CodecConfig;
 use crate::row::payload_params::PayloadParams;
 use str0m_values::MediaKind;
 
 /// The rows that stand in sections of a kind, in order.
 #[derive(Debug, Drop)]
 pub struct KindRows<'a> {
-    all: &'a [PayloadParams],
+    pub(crate) all: &'a [PayloadParams],
     /// Those of them that are still to be looked at.
-    rest: &'a [PayloadParams],
-    kind: MediaKind,
+    pub(crate) rest: &'a [PayloadParams],
+    pub(crate) kind: MediaKind,
     /// Whether telephone events are left out where no audio has their rate.
-    narrowed: bool,
+    pub(crate) narrowed: bool,
 }
 
 fn is_sound(row: &PayloadParams) -> bool
@@ -45,7 +44,7 @@ fn shares_rate(rows: &[PayloadParams], row: &PayloadParams) -> bool
 }
 
 /// Whether some row of events has the RTP clock rate of some audio row.
-fn some_share_rate(rows: &[PayloadParams]) -> bool
+pub(crate) fn some_share_rate(rows: &[PayloadParams]) -> bool
     ensures { result ≡ some_share_rate rows.now }
 {
     rows.iter()
@@ -59,28 +58,6 @@ fn is_listed(kind: MediaKind, narrowed: bool, rows: &[PayloadParams], row: &Payl
         MediaKind::Video => row.spec().codec.is_video(),
         MediaKind::Audio => {
             is_sound(row) || (is_events(row) && (!narrowed || shares_rate(rows, row)))
-        }
-    }
-}
-
-impl CodecConfig {
-    ghost use Rattle.str0m_formats.specs.row.KindRows.{rows_left, kind_rows};
-
-    /// The rows for sections of a kind, in order: for video those of video, for audio those of audio
-    /// and of telephone events.
-    ///
-    /// A new offer names telephone events at the RTP clock rates of its audio (RFC 4733, section
-    /// 2.1), so where some row of events shares its rate with an audio row, `for_new_offer` leaves
-    /// out the rows of events that don't.
-    pub fn all_for_kind(&self, kind: MediaKind, for_new_offer: bool) -> KindRows<'_>
-        ensures { rows_left result ≡ kind_rows kind for_new_offer self.now.params.items }
-    {
-        let rows = self.params.as_slice();
-        KindRows {
-            all: rows,
-            rest: rows,
-            kind,
-            narrowed: for_new_offer && some_share_rate(rows),
         }
     }
 }
