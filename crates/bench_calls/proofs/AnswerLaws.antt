@@ -1,11 +1,11 @@
 -- An answer has as many sections as the offer that it answers.
+use Rattle.bench_calls.specs.Answers.{HasAnswered}
+use Rattle.exchange.specs.answer.Offered.{IsOffer}
+use Rattle.exchange.specs.offer.Rules.{HasShapeOf}
+use Rattle.exchange.specs.state.Exchange.{EachSection}
 use Rattle.std.proofs.Common.{List, ℕ, Option, Some, None, IsSomeAnd, length}
 use Rattle.std.proofs.lemmas.Slice.Zip.{AllZip-long}
 use Rattle.str0m_sdp.specs.declared.session.Sdp.{Sdp}
-use Rattle.bench_calls.specs.Answers.{HasAnswered}
-use Rattle.exchange.specs.state.Exchange.{EachSection}
-use Rattle.exchange.specs.answer.Offered.{IsOffer}
-use Rattle.exchange.specs.offer.Rules.{HasShapeOf}
 
 pub as_many : (text : List ℕ) (remote : Option Sdp) (answer : Sdp) → IsSomeAnd remote (IsOffer text) → EachSection (λ offer. HasShapeOf) remote answer
     → HasAnswered text (length answer.media_lines)

@@ -1,13 +1,13 @@
 -- The numbers that the calls answer.
+use Rattle.exchange.specs.answer.Offered.{IsOffer}
 use Rattle.std.specs.Prelude.{◌≡◌, ◌≢◌, ◌-◌, ◌^◌, ℕ, List, length}
-use Rattle.str0m_formats.specs.row.DefaultRows.{usual_rows}
-use Rattle.str0m_formats.specs.round.RoundsRuns.{Outcome}
 use Rattle.str0m_formats.specs.declared.row.payload_params.PayloadParams.{PayloadParams}
-use Rattle.str0m_sdp.specs.session.Session.{sdp_text}
+use Rattle.str0m_formats.specs.round.RoundsRuns.{Outcome}
+use Rattle.str0m_formats.specs.row.DefaultRows.{usual_rows}
 use Rattle.str0m_sdp.specs.declared.session.Sdp.{Sdp}
+use Rattle.str0m_sdp.specs.session.Session.{sdp_text}
 use Rattle.str0m_signal.specs.session.Negotiation.{NegotiatedText}
 use Rattle.str0m_signal.specs.session.Reader.{Described}
-use Rattle.exchange.specs.answer.Offered.{IsOffer}
 
 abbrev pub sections : Sdp → ℕ
 sections sdp = length sdp.media_lines

@@ -1,7 +1,7 @@
 //! Answers to offers, each in an exchange of its own.
 
-ghost use Rattle.std.specs.Prelude.{IfOk, IfSome};
 ghost use Rattle.bench_calls.specs.Answers.{HasAnswered};
+ghost use Rattle.std.specs.Prelude.{IfOk, IfSome};
 
 use exchange::{DataChannels, Exchange, ExchangeError, OwnSide};
 use std::alloc::{AllocError, Global};

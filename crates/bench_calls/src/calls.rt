@@ -2,8 +2,8 @@
 //! the text describes no session, or where memory was refused. C passes nothing for the allocator, and a text by its
 //! pointer and its length.
 
-ghost use Rattle.std.specs.Prelude.{◌≡◌, ◌-◌, ◌^◌, MatchOption};
 ghost use Rattle.bench_calls.specs.Answers.{HasAnswer, HasAnswered, HasRounds, Tells, sections, text_length};
+ghost use Rattle.std.specs.Prelude.{◌≡◌, ◌-◌, ◌^◌, MatchOption};
 
 use crate::answers::answered;
 use crate::task::{done, negotiated};

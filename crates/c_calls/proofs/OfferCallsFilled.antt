@@ -1,7 +1,7 @@
 -- What a full handle owns.
-use Rattle.std.specs.Prelude.{Option, None, Some}
-use Rattle.c_parts.specs.Parts.{IsFull}
 use Rattle.c_calls.specs.Common.{Of}
+use Rattle.c_parts.specs.Parts.{IsFull}
+use Rattle.std.specs.Prelude.{Option, None, Some}
 
 -- what is so of everything is so of what it owns
 pub of_full : {X : Type 0} (P : X → Type 0) (inner : Option X) → IsFull inner → ((x : X) → P x) → Of inner P

@@ -1,9 +1,9 @@
 -- What is put into room, by whether it fits.
-use Rattle.std.proofs.Common.{◌≡◌, ◌≤◌, ◌<◌, ◌↔◌, ℕ, Bool, List, length, true, false, nat_le, Some, IsTrue, ⊎_elim}
-use Rattle.std.proofs.lemmas.Bool.{le-leb, lt-leb, iff_false, cases_lt}
-use Rattle.c_parts.specs.Room.{begun_with}
 use Rattle.c_calls.specs.Said.{Puts}
 use Rattle.c_calls.specs.Told.{done, no_room}
+use Rattle.c_parts.specs.Room.{begun_with}
+use Rattle.std.proofs.Common.{◌≡◌, ◌≤◌, ◌<◌, ◌↔◌, ℕ, Bool, List, length, true, false, nat_le, Some, IsTrue, ⊎_elim}
+use Rattle.std.proofs.lemmas.Bool.{le-leb, lt-leb, iff_false, cases_lt}
 
 -- items that fit are put there
 pub put_fits : {X : Type 0} (items before after : List X) (was count : ℕ) (fits : Bool) → (IsTrue fits ↔ (length items ≤ length before))

@@ -1,7 +1,7 @@
 -- What a call answers that writes into the caller's room.
-use Rattle.std.specs.Prelude.{◌≡◌, ◌⊎◌, ℕ, List, length, Option, Some, None, nat_le, if◌then◌else◌}
-use Rattle.c_parts.specs.Room.{begun_with}
 use Rattle.c_calls.specs.Told.{done, no_memory, no_room, no_section}
+use Rattle.c_parts.specs.Room.{begun_with}
+use Rattle.std.specs.Prelude.{◌≡◌, ◌⊎◌, ℕ, List, length, Option, Some, None, nat_le, if◌then◌else◌}
 
 -- the status, the room and the count after a call, from the room and the count before it and what it finds: that is put into the room
 -- where it fits, and is counted in any case; where there is no such section or row, both stay

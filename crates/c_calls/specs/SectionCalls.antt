@@ -1,19 +1,19 @@
 -- What calls find in what a handle owns; nothing where there is no such section or row.
-use Rattle.std.specs.Prelude.{ℕ, List, Option, map, option_and_then, option_map}
-use Rattle.std.specs.List.{slice_get}
-use Rattle.str0m_formats.specs.codec.Codec.{codec_text}
-use Rattle.str0m_formats.specs.format.FormatParams.{params_text}
-use Rattle.str0m_formats.specs.declared.row.payload_params.PayloadParams.{PayloadParams}
-use Rattle.str0m_sdp.specs.section.SectionRows.{rows}
-use Rattle.str0m_sdp.specs.declared.section.media_line.MediaLine.{MediaLine}
-use Rattle.str0m_sdp.specs.declared.session.Sdp.{Sdp}
+use Rattle.c_calls.specs.SessionCalls.{mid_text}
+use Rattle.c_calls.specs.declared.row_calls.RowText.{RowText}
+use Rattle.c_calls.specs.declared.row_calls.RowText.TheVariants.{Codec, Format}
 use Rattle.c_parts.specs.Row.{c_row}
 use Rattle.c_parts.specs.Section.{c_section}
 use Rattle.c_parts.specs.declared.row.Row.{Row}
 use Rattle.c_parts.specs.declared.section.Section.{Section}
-use Rattle.c_calls.specs.SessionCalls.{mid_text}
-use Rattle.c_calls.specs.declared.row_calls.RowText.{RowText}
-use Rattle.c_calls.specs.declared.row_calls.RowText.TheVariants.{Codec, Format}
+use Rattle.std.specs.List.{slice_get}
+use Rattle.std.specs.Prelude.{ℕ, List, Option, map, option_and_then, option_map}
+use Rattle.str0m_formats.specs.codec.Codec.{codec_text}
+use Rattle.str0m_formats.specs.declared.row.payload_params.PayloadParams.{PayloadParams}
+use Rattle.str0m_formats.specs.format.FormatParams.{params_text}
+use Rattle.str0m_sdp.specs.declared.section.media_line.MediaLine.{MediaLine}
+use Rattle.str0m_sdp.specs.declared.session.Sdp.{Sdp}
+use Rattle.str0m_sdp.specs.section.SectionRows.{rows}
 
 -- the mid of a section
 abbrev pub mid_at : Sdp → ℕ → Option (List ℕ)

@@ -1,14 +1,14 @@
 //! Calls of candidates.
 
-ghost use Rattle.std.specs.Prelude.{◌≡◌, ◌≢◌, ◌⊎◌, IfOk, length, map};
-ghost use Rattle.std.specs.List.{slice_get};
-ghost use Rattle.c_parts.specs.Parts.{IsFull};
 ghost use Rattle.c_calls.specs.Common.{Of};
 ghost use Rattle.c_calls.specs.Said.{Says};
 ghost use Rattle.c_calls.specs.Told.{done, no_memory};
 ghost use Rattle.c_calls.specs.TransportCalls.{candidate_texts, lent};
-ghost use Rattle.str0m_sdp.specs.session.Candidates.{all_candidates, same_candidate};
+ghost use Rattle.c_parts.specs.Parts.{IsFull};
+ghost use Rattle.std.specs.List.{slice_get};
+ghost use Rattle.std.specs.Prelude.{◌≡◌, ◌≢◌, ◌⊎◌, IfOk, length, map};
 ghost use Rattle.str0m_sdp.specs.Common.{distinct};
+ghost use Rattle.str0m_sdp.specs.session.Candidates.{all_candidates, same_candidate};
 ghost use Rattle.str0m_values.specs.Candidate.{candidate_text};
 
 use crate::said::{DONE, NO_MEMORY, NO_SECTION, put_made};

@@ -1,8 +1,8 @@
 //! What a call of an exchange tells where it is refused.
 
-ghost use Rattle.std.specs.Prelude.{◌≡◌, ◌≢◌};
 ghost use Rattle.c_calls.specs.Told.{done};
 ghost use Rattle.c_parts.specs.Fault.{error_code, fault_code, fault_line};
+ghost use Rattle.std.specs.Prelude.{◌≡◌, ◌≢◌};
 
 use c_parts::fault::Fault;
 use c_parts::room::copied;

@@ -1,11 +1,11 @@
 -- What is written of a value.
-use Rattle.std.proofs.Common.{◌≡◌, Result, Ok, Err, IfOk, String, string_bytes}
-use Rattle.std.specs.declared.alloc.Global.{Global}
+use Rattle.c_json.specs.Description.{IsJsonText}
 use Rattle.json.specs.Lex.{tokens}
 use Rattle.json.specs.Print.{print}
 use Rattle.serde_json.specs.Data.{Data}
 use Rattle.serde_json.specs.Written.{IsInOrder}
-use Rattle.c_json.specs.Description.{IsJsonText}
+use Rattle.std.proofs.Common.{◌≡◌, Result, Ok, Err, IfOk, String, string_bytes}
+use Rattle.std.specs.declared.alloc.Global.{Global}
 
 -- a text in the order of a value is its text
 pub is_json_text : {E : Type 0} (value : Data) (written : Result (String Global) E) → IfOk written (λ text. IsInOrder (string_bytes text) value)

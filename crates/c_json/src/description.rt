@@ -1,6 +1,6 @@
 //! The whole of a description.
-ghost use Rattle.std.specs.Prelude.{IfOk, string_bytes};
 ghost use Rattle.c_json.specs.Description.{IsJsonText};
+ghost use Rattle.std.specs.Prelude.{IfOk, string_bytes};
 
 use crate::head::add_head;
 use crate::media_attribute::add_media_attribute;

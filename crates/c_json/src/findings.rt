@@ -1,6 +1,6 @@
 //! What is found in a text.
-ghost use Rattle.std.specs.Prelude.{IfOk, string_bytes};
 ghost use Rattle.c_json.specs.Description.{IsJsonText};
+ghost use Rattle.std.specs.Prelude.{IfOk, string_bytes};
 
 use lint::{Finding, findings};
 use serde_json::{Value, json};

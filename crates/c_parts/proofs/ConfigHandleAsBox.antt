@@ -1,16 +1,16 @@
 -- A handle and its parts own what a box at the same types owns.
-use mir.Syntax.{impl, tnil, dnil}
-use mathlib.Core.List.{[]}
+use Rattle.c_parts.proofs.PartsSteps.{boxed}
+use Rattle.c_parts.specs.contracts.config_handle.ConfigHandle as Handle
+use Rattle.c_parts.specs.contracts.parts.Parts as Parts
 use Rattle.std_alloc.proofs.BoxSteps.Form.{Bx}
+use Rattle.std_heap.proofs.Global.TheLaws as heap
 use Rattle.std_heap.specs.contracts.Global as Heap
 use Rattle.std_heap.specs.contracts.GlobalAllocator.TheImpl.{ghosts, dict}
-use Rattle.std_heap.proofs.Global.TheLaws as heap
-use denote.Signature.{Slot, plain}
-use Rattle.c_parts.proofs.PartsSteps.{boxed}
-use Rattle.c_parts.specs.contracts.parts.Parts as Parts
-use Rattle.c_parts.specs.contracts.config_handle.ConfigHandle as Handle
-use Rattle.str0m_formats.specs.contracts.row.codec_config.CodecConfig as Inner
 use Rattle.str0m_formats.proofs.row.codec_config.CodecConfig.TheLaws as inner
+use Rattle.str0m_formats.specs.contracts.row.codec_config.CodecConfig as Inner
+use denote.Signature.{Slot, plain}
+use mathlib.Core.List.{[]}
+use mir.Syntax.{impl, tnil, dnil}
 
 abbrev pub E : Bx
 E = boxed Inner.the_row inner.the_row_laws Heap.the_row heap.the_row_laws ghosts dict (impl [] tnil dnil)

@@ -1,16 +1,16 @@
 -- A handle and its parts own what a box at the same types owns.
-use mir.Syntax.{impl, tnil, dnil}
-use mathlib.Core.List.{[]}
+use Rattle.c_parts.proofs.PartsSteps.{boxed}
+use Rattle.c_parts.specs.contracts.exchange_handle.ExchangeHandle as Handle
+use Rattle.c_parts.specs.contracts.parts.Parts as Parts
+use Rattle.exchange.proofs.state.exchange.Exchange.TheLaws as inner
+use Rattle.exchange.specs.contracts.state.exchange.Exchange as Inner
 use Rattle.std_alloc.proofs.BoxSteps.Form.{Bx}
+use Rattle.std_heap.proofs.Global.TheLaws as heap
 use Rattle.std_heap.specs.contracts.Global as Heap
 use Rattle.std_heap.specs.contracts.GlobalAllocator.TheImpl.{ghosts, dict}
-use Rattle.std_heap.proofs.Global.TheLaws as heap
 use denote.Signature.{Slot, plain}
-use Rattle.c_parts.proofs.PartsSteps.{boxed}
-use Rattle.c_parts.specs.contracts.parts.Parts as Parts
-use Rattle.c_parts.specs.contracts.exchange_handle.ExchangeHandle as Handle
-use Rattle.exchange.specs.contracts.state.exchange.Exchange as Inner
-use Rattle.exchange.proofs.state.exchange.Exchange.TheLaws as inner
+use mathlib.Core.List.{[]}
+use mir.Syntax.{impl, tnil, dnil}
 
 abbrev pub E : Bx
 E = boxed Inner.the_row inner.the_row_laws Heap.the_row heap.the_row_laws ghosts dict (impl [] tnil dnil)

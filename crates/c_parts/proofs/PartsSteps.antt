@@ -8,74 +8,74 @@
 --     asked, answer         a callee's contract; its answer is what is said, the result and the tokens
 --     field_of              field k of the word that a local holds
 --     told, spent           a fact, and nothing of the parameter, as a walk's end asks for them
-pub use mathlib.Core.Path.{◌≡◌, refl, ap}
-pub use mathlib.Core.List.{List, [], ◌∷◌, ◌++◌}
-pub use Rattle.std.proofs.Common.{lit<}
-pub use mir.Syntax.{w64, a_type, dcons, dnil}
-pub use mir.MapTy.{inst_fn}
-pub use mir.Val.{Val, vptr, vint, vstruct, of_list, has_ty}
-pub use base.Logic.{SProp, id⊢, fst∗}
-pub use base.Fml.{ftrue, fsep}
-pub use contract.BorrowLft.{◌⊑◌}
-pub use prog.Wp.{WpFn}
-pub use contract.Monad.{fact}
-pub use contract.Running.{tables}
-pub use types.Kit.{‵, raw, ◌⊛◌, at_ret, ◌$◌, ◌∵◌, !, qed, by, move, keep, use1, join, split3, group, rewrite, prop, regoal, fjoin, fpack, feq_i}
-pub use types.Part.{agg}
-pub use types.Run.{lit, no_more, and_then, of_opd, returns, enter, first, blocks, exec}
-pub use types.ByLocal.{alloc_all, pass_all, free_all, look_at, get, sets, lands_as, lands_last, env}
-pub use denote.RattleType.{RattleType, Valss}
-pub use denote.Exit.{yes, no}
-pub use denote.Param.{bounded}
-pub use denote.RawPtr.{RawPtr, block_ptr, null_ptr, ptr_val}
-pub use denote.Signature.{type_at, plain}
-pub use denote.Steps.{heard, nothing, only}
-pub use denote.Triple.Call.{calls_at, calls_at_last}
-pub use denote.Triple.Walked.{Stays, stay_dropped, walk_of, Goes-dropped}
 pub use Rattle.core.proofs.alloc.Calls.{α, handle_tells, Goes-blank}
 pub use Rattle.core.proofs.alloc.Shapes.{after}
 pub use Rattle.core.proofs.atomic.Steps.{fm}
+pub use Rattle.std.proofs.Common.{lit<}
 pub use Rattle.std.proofs.raw_atomic.Walks.{proved_at, leaves}
 pub use Rattle.std_alloc.proofs.BoxSteps.Form.{X, D, R, P, B, args, word, box_typed}
 pub use Rattle.std_alloc.proofs.BoxSteps.Steps.{box_in}
-pub use denote.Struct.Struct.{within}
-pub use denote.Struct.Owning.{shape, to}
 pub use Rattle.std_alloc.proofs.ResultValues.{and_tt}
+pub use base.Fml.{ftrue, fsep}
+pub use base.Logic.{SProp, id⊢, fst∗}
+pub use contract.BorrowLft.{◌⊑◌}
+pub use contract.Monad.{fact}
+pub use contract.Running.{tables}
+pub use denote.Exit.{yes, no}
+pub use denote.Param.{bounded}
+pub use denote.RattleType.{RattleType, Valss}
+pub use denote.RawPtr.{RawPtr, block_ptr, null_ptr, ptr_val}
+pub use denote.Signature.{type_at, plain}
+pub use denote.Steps.{heard, nothing, only}
+pub use denote.Struct.Owning.{shape, to}
+pub use denote.Struct.Struct.{within}
+pub use denote.Triple.Call.{calls_at, calls_at_last}
 pub use denote.Triple.Entry.{alive}
+pub use denote.Triple.Walked.{Stays, stay_dropped, walk_of, Goes-dropped}
+pub use mathlib.Core.List.{List, [], ◌∷◌, ◌++◌}
+pub use mathlib.Core.Path.{◌≡◌, refl, ap}
+pub use mir.MapTy.{inst_fn}
+pub use mir.Syntax.{w64, a_type, dcons, dnil}
+pub use mir.Val.{Val, vptr, vint, vstruct, of_list, has_ty}
+pub use prog.Wp.{WpFn}
+pub use types.ByLocal.{alloc_all, pass_all, free_all, look_at, get, sets, lands_as, lands_last, env}
+pub use types.Kit.{‵, raw, ◌⊛◌, at_ret, ◌$◌, ◌∵◌, !, qed, by, move, keep, use1, join, split3, group, rewrite, prop, regoal, fjoin, fpack, feq_i}
+pub use types.Part.{agg}
+pub use types.Run.{lit, no_more, and_then, of_opd, returns, enter, first, blocks, exec}
 use Prim.Native.Nat.{ℕ, zero, ◌+◌}
-use mathlib.Core.Path.{sym, subst}
-use mathlib.Core.Option.{some as present}
-use lib.Dec.{T}
-use seplogic.Ra.Ura.{Ura}
-use mir.Syntax.{Dict, Sym, Ty, Tys, ty_struct, place, field, copy, rv_opd}
-use mir.Raw.{raw as bare}
-use mir.Val.{WT, Vals}
-use mir.Fields.{get_v, set_v}
-use base.Logic.{sep, emp}
+use Rattle.core.proofs.alloc.Calls.{token, Fits}
+use Rattle.core.specs.declared.alloc.Allocator.{Ghosts}
+use Rattle.std_alloc.proofs.BoxSteps.Form.{Bx, τ, box_ty, handle}
+use Rattle.std_alloc.proofs.BoxSteps.Steps.{box_out}
+use Rattle.std_alloc.specs.Box.Ownership.{box_owns}
 use base.Fml.{Fml, Share, fat}
 use base.Fraction.{full_share}
-use prog.Wp.{Env, Spot, spot_of}
-use prog.Memory.{field_at}
-use types.Logic.{sem, Logic}
-use types.Kit.{some, later, drop, use0, split, pick, fsplit, await, Item, Goal, Soaks, Seq, Step, step}
-use types.Part.{whole, sub, Part}
-use types.Run.{stop, fld, Walks, Rv}
-use types.ByLocal.{get_in, at}
+use base.Logic.{sep, emp}
 use contract.Monad.{fact_i}
+use denote.Memory.{part_at}
+use denote.Param.Laws.{Laws}
 use denote.RattleType.{owns}
 use denote.RawPtr.{Ptr}
 use denote.Struct.Tuple.{Tuple}
-use denote.Triple.Spec.{triple_of}
-use denote.Triple.Entry.{Res}
-use denote.Memory.{part_at}
-use denote.Param.Laws.{Laws}
 use denote.Triple.Clauses.{Ended, Clauses, Lasts, lasts, at_exit, closing}
+use denote.Triple.Entry.{Res}
+use denote.Triple.Spec.{triple_of}
 use denote.Triple.Statement.{Contract}
-use Rattle.core.proofs.alloc.Calls.{token, Fits}
-use Rattle.std_alloc.specs.Box.Ownership.{box_owns}
-use Rattle.std_alloc.proofs.BoxSteps.Form.{Bx, τ, box_ty, handle}
-use Rattle.std_alloc.proofs.BoxSteps.Steps.{box_out}
-use Rattle.core.specs.declared.alloc.Allocator.{Ghosts}
+use lib.Dec.{T}
+use mathlib.Core.Option.{some as present}
+use mathlib.Core.Path.{sym, subst}
+use mir.Fields.{get_v, set_v}
+use mir.Raw.{raw as bare}
+use mir.Syntax.{Dict, Sym, Ty, Tys, ty_struct, place, field, copy, rv_opd}
+use mir.Val.{WT, Vals}
+use prog.Memory.{field_at}
+use prog.Wp.{Env, Spot, spot_of}
+use seplogic.Ra.Ura.{Ura}
+use types.ByLocal.{get_in, at}
+use types.Kit.{some, later, drop, use0, split, pick, fsplit, await, Item, Goal, Soaks, Seq, Step, step}
+use types.Logic.{sem, Logic}
+use types.Part.{whole, sub, Part}
+use types.Run.{stop, fld, Walks, Rv}
 
 abbrev pub boxed : (X : RattleType) → Laws X → (Z : RattleType) → Laws Z → Ghosts Z.Denot → Dict → Dict → Bx
 boxed X LX Z LZ g d drops = record { row = X; laws = LX; al = record { row = Z; laws = LZ; g = g; d = d; drops = drops } }

@@ -2,8 +2,8 @@
 use Rattle.std.specs.Prelude.{ℕ, List}
 use Rattle.str0m_sdp.specs.declared.session.error.SdpError.{SdpError}
 use Rattle.str0m_sdp.specs.declared.session.error.SdpError.TheVariants.{ParseError, Inconsistent, Memory}
-use Rattle.str0m_signal.specs.session.ReaderAnswers.{Refuses}
 use Rattle.str0m_signal.specs.session.Reader.{Described, Reading}
+use Rattle.str0m_signal.specs.session.ReaderAnswers.{Refuses}
 
 -- where no value and no rest are a reading of the text, it describes none
 pub described : (error : SdpError) (text : List ℕ) → Refuses error (Reading text) → Refuses error (Described text)

@@ -1,19 +1,19 @@
 -- Texts that stand in a list, one of which is refused.
+use Rattle.c_parts.specs.Fault.{RefusesBytes}
+use Rattle.c_parts.specs.Side.{RefusesCandidate, RefusesCandidates, RefusesList, listed}
+use Rattle.c_parts.specs.declared.fault.Fault.{Fault}
+use Rattle.c_parts.specs.declared.fault.Fault.TheVariants.{NotUtf8, NoFingerprint, NoCandidate, Refused}
+use Rattle.exchange.specs.declared.state.exchange_error.ExchangeError.TheVariants.{Memory}
+use Rattle.exchange.specs.section.Trickled.{IsTrickled}
 use Rattle.std.proofs.Common.{◌≡◌, ◌<◌, ◌+◌, ℕ, List, [], ◌∷◌, ◌++◌, arith, get_or, length, subst, sym, take}
-use Rattle.std.proofs.lemmas.List.{get_or-map, length-map}
 use Rattle.std.proofs.lemmas.Grind.{common_steps}
+use Rattle.std.proofs.lemmas.List.{get_or-map, length-map}
 use Rattle.std.proofs.lemmas.List.Elements.{All-get_or}
 use Rattle.std.specs.Borrow.{Bor}
 use Rattle.std.specs.List.{AllZip}
 use Rattle.std.specs.Str.{IsUtf8}
 use Rattle.str0m_values.proofs.FingerprintZipLaws.{AllZip-at, AllZip-push}
 use Rattle.str0m_values.specs.declared.candidate.Candidate.{Candidate}
-use Rattle.exchange.specs.section.Trickled.{IsTrickled}
-use Rattle.exchange.specs.declared.state.exchange_error.ExchangeError.TheVariants.{Memory}
-use Rattle.c_parts.specs.Fault.{RefusesBytes}
-use Rattle.c_parts.specs.Side.{RefusesCandidate, RefusesCandidates, RefusesList, listed}
-use Rattle.c_parts.specs.declared.fault.Fault.{Fault}
-use Rattle.c_parts.specs.declared.fault.Fault.TheVariants.{NotUtf8, NoFingerprint, NoCandidate, Refused}
 
 -- the text at a place of the list
 at : (texts : List (Bor (List ℕ))) (i : ℕ) (d : Bor (List ℕ)) → i < length texts → get_or (listed texts) i d.now ≡ (get_or texts i d).now

@@ -1,11 +1,11 @@
 -- What a handle owns: what a box owns, or nothing where it is empty.
+use Rattle.std.specs.Box.Ownership.{box_owns}
+use Rattle.std.specs.Global.{Global}
+use Rattle.std.specs.Prelude.{Option, None, Some}
+use Rattle.std_heap.specs.contracts.GlobalAllocator.TheImpl.{ghosts}
 use base.Fml.{Fml, ftrue}
 use denote.RattleType.{RattleType}
 use denote.RawPtr.{Ptr}
-use Rattle.std.specs.Prelude.{Option, None, Some}
-use Rattle.std.specs.Box.Ownership.{box_owns}
-use Rattle.std.specs.Global.{Global}
-use Rattle.std_heap.specs.contracts.GlobalAllocator.TheImpl.{ghosts}
 
 abbrev pub owned : (R : RattleType) → Global → Ptr → Option R.Denot → Fml
 owned R alloc p None = ftrue

@@ -1,10 +1,10 @@
 -- Why a text isn't read.
-use Rattle.std.specs.Prelude.{ℕ, List}
-use Rattle.std.specs.Str.{IsUtf8}
-use Rattle.str0m_signal.specs.session.ReaderAnswers.{Refuses}
-use Rattle.str0m_signal.specs.session.Reader.{Described}
 use Rattle.c_parts.specs.declared.reading.Refusal.{Refusal}
 use Rattle.c_parts.specs.declared.reading.Refusal.TheVariants.{NotUtf8, Refused}
+use Rattle.std.specs.Prelude.{ℕ, List}
+use Rattle.std.specs.Str.{IsUtf8}
+use Rattle.str0m_signal.specs.session.Reader.{Described}
+use Rattle.str0m_signal.specs.session.ReaderAnswers.{Refuses}
 
 -- the bytes are no text, or the reader refuses them: memory aside, they describe no session
 abbrev pub RefusesText : Refusal → List ℕ → Type 0

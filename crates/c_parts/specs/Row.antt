@@ -1,13 +1,13 @@
 -- Rows and outcomes as C holds them.
+use Rattle.c_parts.specs.declared.row.Outcome.{Outcome}
+use Rattle.c_parts.specs.declared.row.Row.{Row}
+use Rattle.c_parts.specs.declared.row.TheConstants.{NUMBERED}
 use Rattle.std.specs.Prelude.{ℕ, ◌+◌, ◌==◌, Bool, true, false, Option, Some, None, Ok, Err, find, if◌then◌else◌}
-use Rattle.str0m_formats.specs.round.RoundsRuns.{Outcome as RoundOutcome}
 use Rattle.str0m_formats.specs.declared.codec.Codec.{Codec}
 use Rattle.str0m_formats.specs.declared.codec.Codec.TheVariants.{Opus, PCMU, PCMA, G722, CN, AmrWb, H264, H265, H266, Vp8, Vp9, Av1, Tele, Rtx, Red, Null}
 use Rattle.str0m_formats.specs.declared.round.negotiation_error.NegotiationError.TheVariants.{TypeTooLarge, ClaimedTwice, Exhausted, Memory}
 use Rattle.str0m_formats.specs.declared.row.payload_params.PayloadParams.{PayloadParams}
-use Rattle.c_parts.specs.declared.row.Outcome.{Outcome}
-use Rattle.c_parts.specs.declared.row.Row.{Row}
-use Rattle.c_parts.specs.declared.row.TheConstants.{NUMBERED}
+use Rattle.str0m_formats.specs.round.RoundsRuns.{Outcome as RoundOutcome}
 
 -- the number of a codec (`zax_codec`): 0 of one that isn't known, and of one that the header has no number for
 abbrev pub codec_number : Codec → ℕ

@@ -1,12 +1,12 @@
 -- What a handle of a description owns.
+use Rattle.c_parts.specs.Parts.{owned}
+use Rattle.std.specs.Coded.{coded_option}
+use Rattle.std.specs.Global.{Global}
+use Rattle.std.specs.Prelude.{Option}
+use Rattle.str0m_sdp.specs.contracts.session.Sdp.{the_row}
 use base.Fml.{Fml}
 use base.Stored.{Coded}
 use denote.RawPtr.{Ptr}
-use Rattle.std.specs.Prelude.{Option}
-use Rattle.std.specs.Coded.{coded_option}
-use Rattle.std.specs.Global.{Global}
-use Rattle.str0m_sdp.specs.contracts.session.Sdp.{the_row}
-use Rattle.c_parts.specs.Parts.{owned}
 
 abbrev pub handle_owns : Global → Ptr → Option the_row.Denot → Fml
 handle_owns = owned the_row

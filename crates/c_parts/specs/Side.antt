@@ -1,7 +1,15 @@
 -- What this side says of itself, as C says it.
-use Rattle.std.specs.Prelude.{◌≡◌, ℕ, Bool, not, List, [], Option, None, Some, All, map, nat_eq, if◌then◌else◌}
+use Rattle.c_parts.specs.declared.fault.Fault.{Fault}
+use Rattle.c_parts.specs.declared.fault.Fault.TheVariants.{NotUtf8, NoFingerprint, NoCandidate, Refused}
+use Rattle.c_parts.specs.declared.side.OwnNumbers.{OwnNumbers}
+use Rattle.c_parts.specs.declared.side.OwnTexts.{OwnTexts}
+use Rattle.exchange.specs.declared.state.exchange_error.ExchangeError.TheVariants.{Memory}
+use Rattle.exchange.specs.declared.state.own_side.DataChannels.{DataChannels}
+use Rattle.exchange.specs.declared.state.own_side.OwnSide.{OwnSide}
+use Rattle.exchange.specs.section.Trickled.{IsTrickled}
 use Rattle.std.specs.Borrow.{Bor}
 use Rattle.std.specs.List.{AllZip}
+use Rattle.std.specs.Prelude.{◌≡◌, ℕ, Bool, not, List, [], Option, None, Some, All, map, nat_eq, if◌then◌else◌}
 use Rattle.std.specs.Str.{IsUtf8}
 use Rattle.str0m_values.specs.Fingerprint.{IsFingerprint}
 use Rattle.str0m_values.specs.declared.candidate.Candidate.{Candidate}
@@ -10,14 +18,6 @@ use Rattle.str0m_values.specs.declared.direction.Direction.TheVariants.{SendRecv
 use Rattle.str0m_values.specs.declared.fingerprint.Fingerprint.{Fingerprint}
 use Rattle.str0m_values.specs.declared.media_kind.MediaKind.{MediaKind}
 use Rattle.str0m_values.specs.declared.media_kind.MediaKind.TheVariants.{Audio, Video}
-use Rattle.exchange.specs.section.Trickled.{IsTrickled}
-use Rattle.exchange.specs.declared.state.exchange_error.ExchangeError.TheVariants.{Memory}
-use Rattle.exchange.specs.declared.state.own_side.DataChannels.{DataChannels}
-use Rattle.exchange.specs.declared.state.own_side.OwnSide.{OwnSide}
-use Rattle.c_parts.specs.declared.fault.Fault.{Fault}
-use Rattle.c_parts.specs.declared.fault.Fault.TheVariants.{NotUtf8, NoFingerprint, NoCandidate, Refused}
-use Rattle.c_parts.specs.declared.side.OwnNumbers.{OwnNumbers}
-use Rattle.c_parts.specs.declared.side.OwnTexts.{OwnTexts}
 
 -- the direction of a number (`zax_direction`)
 abbrev pub direction_numbered : ℕ → Direction

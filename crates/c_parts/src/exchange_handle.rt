@@ -1,9 +1,9 @@
 //! One side of an exchange of offers and answers on the heap, as C holds it.
 
-ghost use Rattle.std.specs.Prelude.{◌≡◌, Option, None, Some};
-ghost use Rattle.exchange.specs.declared.state.exchange.Exchange.{Exchange};
 ghost use Rattle.c_parts.specs.ExchangeHandle.{handle_owns, inner_coded};
 ghost use Rattle.c_parts.specs.Parts.{IsFull};
+ghost use Rattle.exchange.specs.declared.state.exchange.Exchange.{Exchange};
+ghost use Rattle.std.specs.Prelude.{◌≡◌, Option, None, Some};
 
 use crate::parts::Parts;
 use exchange::Exchange;

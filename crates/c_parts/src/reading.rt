@@ -1,11 +1,11 @@
 //! A text that C gives, read.
 
+ghost use Rattle.c_parts.specs.Reading.{RefusesText};
 ghost use Rattle.std.specs.Prelude.{◌≡◌, ◌≢◌, IfErr, IfOk, List, length, ℕ};
 ghost use Rattle.std.specs.Str.{IsUtf8};
 ghost use Rattle.str0m_sdp.specs.declared.session.Sdp.{Sdp};
-ghost use Rattle.str0m_signal.specs.session.ReaderAnswers.{Refuses};
 ghost use Rattle.str0m_signal.specs.session.Reader.{Described, Reading};
-ghost use Rattle.c_parts.specs.Reading.{RefusesText};
+ghost use Rattle.str0m_signal.specs.session.ReaderAnswers.{Refuses};
 
 use std::alloc::{AllocError, Global};
 use std::str;

@@ -1,7 +1,7 @@
 //! Rows and outcomes as C holds them.
 
-ghost use Rattle.std.specs.Prelude.{◌≡◌, ◌≤◌, IfOk, length, map};
 ghost use Rattle.c_parts.specs.Row.{bit, c_outcome, c_row, codec_at, codec_number, feedback_bits, number_or, unless};
+ghost use Rattle.std.specs.Prelude.{◌≡◌, ◌≤◌, IfOk, length, map};
 
 use std::alloc::{AllocError, Global};
 use str0m_signal::{Codec, NegotiationError, PayloadParams, Pt};

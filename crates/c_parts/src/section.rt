@@ -1,7 +1,7 @@
 //! Sections as C holds them.
 
-ghost use Rattle.std.specs.Prelude.{◌≡◌};
 ghost use Rattle.c_parts.specs.Section.{c_section, direction_number, kind_number, protocol_number, setup_number};
+ghost use Rattle.std.specs.Prelude.{◌≡◌};
 
 use crate::row::flag;
 use str0m_signal::{Direction, MediaLine, MediaType, Proto, Setup};

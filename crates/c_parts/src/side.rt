@@ -1,12 +1,12 @@
 //! What this side says of itself, as C says it.
 
-ghost use Rattle.std.specs.Prelude.{◌≡◌, IfErr, IfOk};
-ghost use Rattle.std.specs.List.{AllZip};
-ghost use Rattle.str0m_values.specs.Fingerprint.{IsFingerprint};
-ghost use Rattle.exchange.specs.section.Trickled.{IsTrickled};
-ghost use Rattle.exchange.specs.declared.state.exchange_error.ExchangeError.TheVariants.{Memory};
 ghost use Rattle.c_parts.specs.Fault.{RefusesBytes};
 ghost use Rattle.c_parts.specs.Side.{RefusesCandidate, RefusesCandidates, RefusesFingerprint, RefusesList, RefusesOwn, SaysOwn, channels_of, direction_numbered, kind_numbered, listed};
+ghost use Rattle.exchange.specs.declared.state.exchange_error.ExchangeError.TheVariants.{Memory};
+ghost use Rattle.exchange.specs.section.Trickled.{IsTrickled};
+ghost use Rattle.std.specs.List.{AllZip};
+ghost use Rattle.std.specs.Prelude.{◌≡◌, IfErr, IfOk};
+ghost use Rattle.str0m_values.specs.Fingerprint.{IsFingerprint};
 
 use crate::fault::Fault;
 use exchange::{DataChannels, ExchangeError, OwnSide, trickled_candidate};

@@ -1,6 +1,6 @@
 //! Names that are drawn at random, here of a counter.
-ghost use Rattle.std.specs.Prelude.{ℕ, ◌+◌, ◌%◌, ◌^◌};
 ghost use Rattle.rand_core.specs.Steps.{stream_of, steps_u32};
+ghost use Rattle.std.specs.Prelude.{ℕ, ◌+◌, ◌%◌, ◌^◌};
 
 use plain_cases::Answer;
 use rand_core::utils::NextWord;

@@ -1,14 +1,14 @@
 -- The first line of a text, by where its line feed stands.
+use Rattle.lint.specs.Lines.{IsWithoutReturn}
 use Rattle.std.proofs.Common.{◌≡◌, ◌<◌, ◌-◌, ◌+◌, ℕ, List, [], ◌∷◌, ◌++◌, Option, Some, None, length, take, MatchOption, unwrap_or, refl, sym, ap, ◌∙◌, inl, inr, arith, lit<}
+use Rattle.std.proofs.lemmas.List.{append_assoc, append-nil}
 use Rattle.std.specs.Borrow.{Bor}
 use Rattle.std.specs.Str.Pattern.{FindsCharSuffix}
-use Rattle.std.proofs.lemmas.List.{append_assoc, append-nil}
+use Rattle.str0m_signal.proofs.line.LinesLaws.{line_here, without_suffix}
+use Rattle.str0m_signal.specs.line.LinesReading.{lines_of}
 use Rattle.str0m_values.proofs.CutLaws.{cut_found, cut_none_lacks, Lacks-append}
 use Rattle.str0m_values.specs.Cuts.{cut}
 use Rattle.str0m_values.specs.CutsParts.{Lacks}
-use Rattle.str0m_signal.proofs.line.LinesLaws.{line_here, without_suffix}
-use Rattle.str0m_signal.specs.line.LinesReading.{lines_of}
-use Rattle.lint.specs.Lines.{IsWithoutReturn}
 
 pub without_return : (line : Bor (List ℕ)) (r : Option (Bor (List ℕ))) (result : Bor (List ℕ))
     → MatchOption r (FindsCharSuffix 13 line.now None) (λ x. (n : ℕ) × FindsCharSuffix 13 line.now (Some n) × (x.now ≡ take (length line.now - n) line.now) × (length x.now + n ≡ length line.now))

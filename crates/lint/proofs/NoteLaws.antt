@@ -1,21 +1,21 @@
 -- What one more finding changes.
-use Rattle.std.proofs.Common.{◌≡◌, ◌||◌, ℕ, Bool, true, false, cond, List, [], ◌∷◌, ◌++◌, Some, None, min, max, refl, ap, ◌∙◌, arith}
-use Rattle.std.specs.List.{cons_option, list_any}
-use Rattle.std.proofs.lemmas.List.{append-nil}
-use Rattle.std.proofs.lemmas.List.Elements.{filter_map-append}
-use Rattle.std.proofs.lemmas.List.Folds.{list_any-append}
 use Rattle.lint.specs.Code.{is_refusal, is_end, is_kept, is_change}
 use Rattle.lint.specs.Findings.{AddsOne, Ends, Keeps, OnlyChanges, SaysElse, ends, is_changed, is_refused, kept, line_if, lines_of_kind}
 use Rattle.lint.specs.Lines.{IsNumbered}
+use Rattle.lint.specs.declared.code.Change.{Change}
 use Rattle.lint.specs.declared.code.Code.{Code}
 use Rattle.lint.specs.declared.code.Code.TheVariants.{Refused, Unread, Malformed, Unknown, Unseen, Changed, Contradiction, Round}
-use Rattle.lint.specs.declared.code.Change.{Change}
 use Rattle.lint.specs.declared.code.Conflict.{Conflict}
 use Rattle.lint.specs.declared.code.Refusal.{Refusal}
 use Rattle.lint.specs.declared.code.Unfit.{Unfit}
 use Rattle.lint.specs.declared.code.Unseen.{Unseen as What}
 use Rattle.lint.specs.declared.finding.Finding.{Finding}
 use Rattle.lint.specs.declared.notes.Notes.{Notes}
+use Rattle.std.proofs.Common.{◌≡◌, ◌||◌, ℕ, Bool, true, false, cond, List, [], ◌∷◌, ◌++◌, Some, None, min, max, refl, ap, ◌∙◌, arith}
+use Rattle.std.proofs.lemmas.List.{append-nil}
+use Rattle.std.proofs.lemmas.List.Elements.{filter_map-append}
+use Rattle.std.proofs.lemmas.List.Folds.{list_any-append}
+use Rattle.std.specs.List.{cons_option, list_any}
 
 -- one item, or none
 abbrev one_if : Bool → ℕ → List ℕ

@@ -1,13 +1,13 @@
 -- What codes say.
-use Rattle.std.specs.Prelude.{ℕ, Bool, true, false, List, codes}
-use Rattle.lint.specs.declared.code.Code.{Code}
-use Rattle.lint.specs.declared.code.Code.TheVariants.{Refused, Unread, Malformed, Unknown, Unseen, Changed, Contradiction, Round}
 use Rattle.lint.specs.declared.code.Change.{Change}
 use Rattle.lint.specs.declared.code.Change.TheVariants.{HeaderLine, Protocol, Candidate, Spelling}
+use Rattle.lint.specs.declared.code.Code.{Code}
+use Rattle.lint.specs.declared.code.Code.TheVariants.{Refused, Unread, Malformed, Unknown, Unseen, Changed, Contradiction, Round}
 use Rattle.lint.specs.declared.code.Fate.{Fate}
 use Rattle.lint.specs.declared.code.Fate.TheVariants.{RefusedRound}
 use Rattle.lint.specs.declared.code.Severity.{Severity}
 use Rattle.lint.specs.declared.code.Severity.TheVariants.{Error, Warning, Note}
+use Rattle.std.specs.Prelude.{ℕ, Bool, true, false, List, codes}
 
 -- of a change, a note where the other side can't tell, else a warning
 abbrev pub severity_of_change : Change → Severity

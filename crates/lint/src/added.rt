@@ -1,6 +1,6 @@
 //! Findings that are added to the others, and whether there is one of a kind.
-ghost use Rattle.std.specs.Prelude.{◌≡◌, OnOk};
 ghost use Rattle.lint.specs.Findings.{AddsOne, is_changed};
+ghost use Rattle.std.specs.Prelude.{◌≡◌, OnOk};
 
 use crate::code::Code;
 use crate::finding::Finding;

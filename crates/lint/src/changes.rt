@@ -1,7 +1,7 @@
 //! Lines that are printed otherwise than they stand.
-ghost use Rattle.std.specs.Prelude.{◌≡◌, ◌↔◌, OnOk, false, true};
 ghost use Rattle.lint.specs.Findings.{OnlyChanges, is_changed};
 ghost use Rattle.lint.specs.Told.{told};
+ghost use Rattle.std.specs.Prelude.{◌≡◌, ◌↔◌, OnOk, false, true};
 
 use crate::code::{Change, Code};
 use crate::fork::{fork, is_respelled};

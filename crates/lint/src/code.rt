@@ -1,6 +1,6 @@
 //! The codes of findings: what is wrong, by kind.
-ghost use Rattle.std.specs.Prelude.{◌≡◌};
 ghost use Rattle.lint.specs.Code.{is_change, severity_of, severity_of_change, severity_of_fate, severity_word};
+ghost use Rattle.std.specs.Prelude.{◌≡◌};
 
 use crate::rows;
 use crate::rows::Row;

@@ -1,6 +1,6 @@
 //! What lines of a description say against each other.
-ghost use Rattle.std.specs.Prelude.{◌≡◌, OnOk};
 ghost use Rattle.lint.specs.Findings.{SaysElse};
+ghost use Rattle.std.specs.Prelude.{◌≡◌, OnOk};
 
 use crate::code::{Code, Conflict};
 use crate::groups::{note_grouping, note_groups};

@@ -1,7 +1,7 @@
 //! What comes of a row of the other side in a round.
-ghost use Rattle.std.specs.Prelude.{◌≡◌, IfOk, length};
-ghost use Rattle.std.specs.List.{list_any};
 ghost use Rattle.lint.specs.Fates.{ArePartners, IsPartner, accepted_fate, fate, fits, fitting_fate, has_codec, has_type, holds, is_taken, is_type};
+ghost use Rattle.std.specs.List.{list_any};
+ghost use Rattle.std.specs.Prelude.{◌≡◌, IfOk, length};
 
 use crate::code::Fate;
 use std::alloc::{AllocError, Global};

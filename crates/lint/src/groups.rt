@@ -1,6 +1,6 @@
 //! What the groups of a session say against its sections.
-ghost use Rattle.std.specs.Prelude.{◌≡◌, OnOk};
 ghost use Rattle.lint.specs.Findings.{SaysElse};
+ghost use Rattle.std.specs.Prelude.{◌≡◌, OnOk};
 
 use crate::code::Conflict;
 use crate::conflicts::{note_conflict, note_mid, number_at};

@@ -1,6 +1,6 @@
 //! Which line of a header is at fault.
-ghost use Rattle.std.specs.Prelude.{◌≡◌, true, OnOk};
 ghost use Rattle.lint.specs.Findings.{is_refused};
+ghost use Rattle.std.specs.Prelude.{◌≡◌, true, OnOk};
 
 use crate::code::{Code, Refusal};
 use crate::fields::{is_bandwidth, is_field, is_info, is_origin};

@@ -1,6 +1,6 @@
 //! Why attribute lines are kept unread.
-ghost use Rattle.std.specs.Prelude.{◌≡◌, true};
 ghost use Rattle.lint.specs.Code.{is_kept};
+ghost use Rattle.std.specs.Prelude.{◌≡◌, true};
 
 use crate::code::{Code, Misfit, Unknown};
 use crate::forms::{Form, Level, name_of};

@@ -1,6 +1,6 @@
 //! The findings while they are gathered.
-ghost use Rattle.std.specs.Prelude.{◌≡◌, ◌<◌, ◌≤◌, ◌^◌, [], All, max};
 ghost use Rattle.lint.specs.Findings.{IsWithin};
+ghost use Rattle.std.specs.Prelude.{◌≡◌, ◌<◌, ◌≤◌, ◌^◌, [], All, max};
 
 use crate::finding::Finding;
 use std::alloc::Global;

@@ -1,6 +1,6 @@
 //! Why a text is refused.
-ghost use Rattle.std.specs.Prelude.{◌≡◌, true, OnOk};
 ghost use Rattle.lint.specs.Findings.{is_refused};
+ghost use Rattle.std.specs.Prelude.{◌≡◌, true, OnOk};
 
 use crate::attribute_lines::note_attributes;
 use crate::changes::note_printed;

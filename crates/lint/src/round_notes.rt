@@ -1,7 +1,7 @@
 //! What is said of rounds.
-ghost use Rattle.std.specs.Prelude.{◌≡◌, Err, List, OnOk, Some, filter_map};
 ghost use Rattle.lint.specs.Fates.{AddsFates, RoundSays, RoundsSay, fate, refusal, some_of};
 ghost use Rattle.lint.specs.declared.code.Fate.{Fate};
+ghost use Rattle.std.specs.Prelude.{◌≡◌, Err, List, OnOk, Some, filter_map};
 
 use crate::code::{Code, Fate};
 use crate::difference::nearest;

@@ -1,6 +1,6 @@
 //! What the lines of a text say, but for what printing fixes.
-ghost use Rattle.std.specs.Prelude.{◌≡◌, ◌<◌, ◌↔◌, IsTrue, IfSome, MatchOption, length, option_map};
 ghost use Rattle.lint.specs.Told.{NextTold, line_told, ported, shown, told, whole};
+ghost use Rattle.std.specs.Prelude.{◌≡◌, ◌<◌, ◌↔◌, IsTrue, IfSome, MatchOption, length, option_map};
 
 use crate::lines::next_line;
 use str0m_values::Separator;

@@ -1,10 +1,10 @@
 -- The lines of outcomes, one more.
-use native.Mathlib.Omega.{arith}
+use Rattle.show.specs.NegotiationLines.{outcome_line, outcome_lines}
 use Rattle.std.proofs.Common.{◌≡◌, ◌<◌, ◌+◌, ◌++◌, ℕ, List, [], ◌∷◌, length, take, get_or, sym, ap, ◌∙◌}
 use Rattle.std.proofs.lemmas.Grind.{take_at_read}
 use Rattle.std.proofs.lemmas.List.{append-nil, append_assoc, length-take}
 use Rattle.str0m_formats.specs.round.RoundsRuns.{Outcome}
-use Rattle.show.specs.NegotiationLines.{outcome_line, outcome_lines}
+use native.Mathlib.Omega.{arith}
 
 lines_more : (n : ℕ) (outcomes : List Outcome) (outcome : Outcome)
     → outcome_lines n (outcomes ++ outcome ∷ []) ≡ outcome_lines n outcomes ++ outcome_line (n + length outcomes) outcome

@@ -1,14 +1,14 @@
 -- Why a run of the program fails, and the line that says so.
-use Rattle.std.specs.Prelude.{◌≡◌, ◌++◌, ℕ, List, Option, IfSome, codes}
-use Rattle.std.specs.Str.{IsUtf8}
-use Rattle.str0m_sdp.specs.declared.session.error.SdpError.{SdpError}
-use Rattle.str0m_sdp.specs.declared.session.error.SdpError.TheVariants.{ParseError, Inconsistent, Memory}
-use Rattle.str0m_sdp.specs.session.Error.{error_text}
-use Rattle.str0m_sdp.specs.declared.session.Sdp.{Sdp}
-use Rattle.str0m_signal.specs.session.Reader.{Described}
 use Rattle.show.specs.Run.{Describes}
 use Rattle.show.specs.declared.fault.Fault.{Fault}
 use Rattle.show.specs.declared.fault.Fault.TheVariants.{Refused, NotUtf8, Unreadable, Unwritable}
+use Rattle.std.specs.Prelude.{◌≡◌, ◌++◌, ℕ, List, Option, IfSome, codes}
+use Rattle.std.specs.Str.{IsUtf8}
+use Rattle.str0m_sdp.specs.declared.session.Sdp.{Sdp}
+use Rattle.str0m_sdp.specs.declared.session.error.SdpError.{SdpError}
+use Rattle.str0m_sdp.specs.declared.session.error.SdpError.TheVariants.{ParseError, Inconsistent, Memory}
+use Rattle.str0m_sdp.specs.session.Error.{error_text}
+use Rattle.str0m_signal.specs.session.Reader.{Described}
 
 -- what is said of it; of a refusal, its own words
 abbrev pub fault_text : Fault → List ℕ

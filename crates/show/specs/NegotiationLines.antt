@@ -1,13 +1,13 @@
 -- The lines of `sdpshow negotiate`.
-use Rattle.std.specs.Prelude.{◌≡◌, ℕ, ◌+◌, Bool, true, false, List, [], ◌∷◌, ◌++◌, Ok, Err, codes}
-use Rattle.std.specs.List.{flat_map}
-use Rattle.std.specs.Fmt.{decimal}
-use Rattle.str0m_formats.specs.round.NegotiationError.{cause_text}
-use Rattle.str0m_formats.specs.row.DefaultRows.{usual_rows}
-use Rattle.str0m_formats.specs.round.RoundsRuns.{Outcome}
-use Rattle.str0m_formats.specs.declared.row.payload_params.PayloadParams.{PayloadParams}
-use Rattle.str0m_signal.specs.session.Negotiation.{NegotiatedText}
 use Rattle.show.specs.RowLines.{row_line}
+use Rattle.std.specs.Fmt.{decimal}
+use Rattle.std.specs.List.{flat_map}
+use Rattle.std.specs.Prelude.{◌≡◌, ℕ, ◌+◌, Bool, true, false, List, [], ◌∷◌, ◌++◌, Ok, Err, codes}
+use Rattle.str0m_formats.specs.declared.row.payload_params.PayloadParams.{PayloadParams}
+use Rattle.str0m_formats.specs.round.NegotiationError.{cause_text}
+use Rattle.str0m_formats.specs.round.RoundsRuns.{Outcome}
+use Rattle.str0m_formats.specs.row.DefaultRows.{usual_rows}
+use Rattle.str0m_signal.specs.session.Negotiation.{NegotiatedText}
 
 -- what the round of a number came to
 abbrev pub outcome_line : ℕ → Outcome → List ℕ

@@ -1,16 +1,16 @@
 -- The lines of `sdpshow rows`.
-use Rattle.std.specs.Prelude.{ℕ, List, [], ◌∷◌, ◌++◌, Option, Some, None, codes, filter_map}
-use Rattle.std.specs.Option.{unwrap_or}
-use Rattle.std.specs.List.{flat_map}
 use Rattle.std.specs.Fmt.{decimal}
-use Rattle.str0m_formats.specs.format.FormatParams.{params_text}
+use Rattle.std.specs.List.{flat_map}
+use Rattle.std.specs.Option.{unwrap_or}
+use Rattle.std.specs.Prelude.{ℕ, List, [], ◌∷◌, ◌++◌, Option, Some, None, codes, filter_map}
 use Rattle.str0m_formats.specs.declared.row.payload_params.PayloadParams.{PayloadParams}
+use Rattle.str0m_formats.specs.format.FormatParams.{params_text}
 use Rattle.str0m_sdp.specs.Common.{first}
 use Rattle.str0m_sdp.specs.attribute.RtpMap.{rtp_map_text}
-use Rattle.str0m_sdp.specs.section.Consistency.{mid_of}
-use Rattle.str0m_sdp.specs.section.SectionRows.{rows}
 use Rattle.str0m_sdp.specs.declared.section.media_line.MediaLine.{MediaLine}
 use Rattle.str0m_sdp.specs.declared.session.Sdp.{Sdp}
+use Rattle.str0m_sdp.specs.section.Consistency.{mid_of}
+use Rattle.str0m_sdp.specs.section.SectionRows.{rows}
 
 -- a text, and `-` for one that is absent or empty
 abbrev pub or_dash : List ℕ → List ℕ

@@ -1,8 +1,8 @@
 //! Why a run of the program fails.
 
+ghost use Rattle.show.specs.declared.fault.Fault.TheVariants.{Refused};
 ghost use Rattle.std.specs.Prelude.{◌≡◌};
 ghost use Rattle.str0m_sdp.specs.declared.session.error.SdpError.TheVariants.{Memory};
-ghost use Rattle.show.specs.declared.fault.Fault.TheVariants.{Refused};
 
 use std::alloc::AllocError;
 use std::fmt;
@@ -43,8 +43,8 @@ impl From<AllocError> for Fault {
 }
 
 impl fmt::Display for Fault {
-    ghost use Rattle.std.specs.Prelude.{Some};
     ghost use Rattle.show.specs.Faults.{fault_text};
+    ghost use Rattle.std.specs.Prelude.{Some};
 
     ghost output = { λ fault. Some (fault_text fault) };
 

@@ -1,15 +1,15 @@
 //! The program over any reader and any two writers.
-ghost use Rattle.std.specs.Prelude.{◌≡◌, ◌↔◌, ◌⊎◌, ℕ, List, None, IfErr, IfOk, IfSome, OnOk, OnErr, map};
-ghost use Rattle.std.specs.String.{string_bytes};
-ghost use Rattle.std.specs.Io.KnownBytes.{Appends, IsAtEnd};
-ghost use Rattle.std.specs.Str.{IsUtf8};
-ghost use Rattle.str0m_sdp.specs.session.Session.{sdp_text};
-ghost use Rattle.str0m_signal.specs.session.ReaderAnswers.{Refuses};
-ghost use Rattle.str0m_signal.specs.session.Reader.{Described};
 ghost use Rattle.show.specs.Faults.{fault_line, usage_line, IsFaultOf, IsFaultOfInput, IsFaultOfReading};
 ghost use Rattle.show.specs.RowLines.{rows_text};
 ghost use Rattle.show.specs.Run.{asked, asked_by, Prints, PrintsBy, Shows, ShowsAsked, Describes};
 ghost use Rattle.show.specs.declared.fault.Fault.TheVariants.{NotUtf8, Unwritable};
+ghost use Rattle.std.specs.Io.KnownBytes.{Appends, IsAtEnd};
+ghost use Rattle.std.specs.Prelude.{◌≡◌, ◌↔◌, ◌⊎◌, ℕ, List, None, IfErr, IfOk, IfSome, OnOk, OnErr, map};
+ghost use Rattle.std.specs.Str.{IsUtf8};
+ghost use Rattle.std.specs.String.{string_bytes};
+ghost use Rattle.str0m_sdp.specs.session.Session.{sdp_text};
+ghost use Rattle.str0m_signal.specs.session.Reader.{Described};
+ghost use Rattle.str0m_signal.specs.session.ReaderAnswers.{Refuses};
 
 use crate::fault::Fault;
 use crate::negotiation_lines::negotiation_text;

@@ -1,5 +1,9 @@
 -- The names that proofs cite from elsewhere, passed on from one place. Declares nothing.
+pub use Prim.Native.Nat.{suc, zero}
+pub use Rattle.indexmap.proofs.MapLemmas.{insert_entry-absent}
+pub use Rattle.indexmap.specs.IndexMap.{insert_all, insert_entry, set_value_at}
 pub use Rattle.std.proofs.Common.{[], All, ap, arith, bit_or, Bool, cond, drop, Err, false, filter, find, get_or, IfErr, IfOk, IfSome, if◌then◌else◌, inl, inr, is_some, leb, length, List, lit<, lit≤, map, MatchOption, nat_eq, nat_le, nat_lt, None, not, Ok, OnErr, OnOk, Option, option_map, refl, replicate, Result, rules, slice_index_or, Some, subst, sym, take, tests, true, ℕ, ◌%◌, ◌&&◌, ◌*◌, ◌++◌, ◌+◌, ◌-◌, ◌<◌, ◌==◌, ◌^◌, ◌||◌, ◌↔◌, ◌∙◌, ◌∷◌, ◌≡◌, ◌≢◌, ◌≤◌, ◌⊎◌, take-append-drop, drop-cons, is_ok, set, min, ◌/◌, Any, add-one, is_none, zero-add, slice_set}
+pub use Rattle.std.proofs.Math.Bool.{or-false, or-true, or_assoc, and-false, and_comm, or_comm}
 pub use Rattle.std.proofs.Output.{has_written_append, has_written_of_eq}
 pub use Rattle.std.proofs.lemmas.Bool.{and_parts, cases_Bool, cases_lt, cases_order, eq-eqb, eqb-true, false_from_ne_true, false≢true, le-leb, le-ltb, leb-true, lt-ltb, ltb-true, ne_eqb, not-true, or_cases, or_left, or_parts, or_right, true≢false, ltb-false, cases_eq, and_from}
 pub use Rattle.std.proofs.lemmas.Bool.Decides.{Decides-like, eqb_tells, nat_tests, Decides-and}
@@ -17,14 +21,13 @@ pub use Rattle.std.proofs.lemmas.Nat.Bits.{and_pow, bit_at-lt, bit_at-zero, bit_
 pub use Rattle.std.proofs.lemmas.Option.{get_or_from_slice_get, none-some, same_Some, slice_get-get_or, slice_get_within, IfSome_then, MatchOption-from_none, slice_get_read}
 pub use Rattle.std.proofs.lemmas.Result.{IfErr-at_err, IfErr-weaker, IfOk-at_ok, IfOk-weaker, on_err_weaker, on_ok_weaker}
 pub use Rattle.std.proofs.lemmas.Slice.Eq.{bytes_eq-Decides}
-pub use Rattle.std.proofs.Math.Bool.{or-false, or-true, or_assoc, and-false, and_comm, or_comm}
 pub use Rattle.std.specs.Bool.{beq, Decides, MatchBool, one_answer}
 pub use Rattle.std.specs.Borrow.{Bor}
 pub use Rattle.std.specs.Char.{digit_value, to_ascii_lowercase, is_whitespace}
 pub use Rattle.std.specs.Cmp.{booleans_Decides, IsEquivalence, unsigned_Decides, nat_eq_equiv, equiv, bool_eq_equiv}
+pub use Rattle.std.specs.Cmp.Lexicographic.{pointwise, pointwise_decides, slice_cmp, options_equiv}
 pub use Rattle.std.specs.Fmt.{decimal, digits, HasWritten, IsPlainFormatter, format_spec}
 pub use Rattle.std.specs.Int.{bit_at, bit_not, trailing_zeros, w128, IsBitSet, w16}
-pub use Rattle.std.specs.Cmp.Lexicographic.{pointwise, pointwise_decides, slice_cmp, options_equiv}
 pub use Rattle.std.specs.Int.Bits.{bit_and}
 pub use Rattle.std.specs.List.{AllByRecursion, AllZip, cons_option, Contains, filter_map, flat_map, IsDistinct, join_with_byte, list_all, list_any, range_with_len, slice_get, slice_split}
 pub use Rattle.std.specs.Map.{keys_of, lookup}
@@ -32,17 +35,14 @@ pub use Rattle.std.specs.Option.{ok_or, option_or, option_to_list, option_eq, op
 pub use Rattle.std.specs.Prelude.{codes, unwrap_or, IsOk, IsAscii}
 pub use Rattle.std.specs.Str.{bytes_eq, str_eq_ignore_ascii_case, str_to_ascii_lowercase, trim, trim_end, trim_start, skip_leading_whitespace, drop_trailing_whitespace}
 pub use Rattle.std.specs.Str.Parse.{AllDigits, digits_value, IsNumeral}
-pub use Prim.Native.Nat.{suc, zero}
-pub use Rattle.indexmap.proofs.MapLemmas.{insert_entry-absent}
-pub use Rattle.indexmap.specs.IndexMap.{insert_all, insert_entry, set_value_at}
-pub use mathlib.Core.Path.{fun_ext}
 pub use Rattle.str0m_values.proofs.CutsBothWays.{bind_some, reads_none, some_is, reads_first, Reads, none_reads}
 pub use Rattle.str0m_values.proofs.CutsNumLaws.{num_found, num_only, num_reads, when_some, when_true, parsed_ok, parsed_err}
 pub use Rattle.str0m_values.proofs.CutsOnlyLaws.{only_read}
 pub use Rattle.str0m_values.specs.Cuts.{num, when, ◌<|>◌, ◌>>=◌, lacks, IsTheOnly}
+pub use Rattle.str0m_values.specs.CutsParts.{IsNum, IsNumber, IsRest, Lacks, IsGiven, lay}
 pub use Rattle.str0m_values.specs.Direction.{receives}
 pub use Rattle.str0m_values.specs.H265.{H265ProfileTierLevel}
 pub use Rattle.str0m_values.specs.H266.{H266ProfileTierLevel}
-pub use Rattle.str0m_values.specs.CutsParts.{IsNum, IsNumber, IsRest, Lacks, IsGiven, lay}
 pub use Rattle.str0m_values.specs.declared.h264.H264ProfileLevel.{H264ProfileLevel}
 pub use Rattle.str0m_values.specs.declared.profile_tier_level.ProfileTierLevel.{ProfileTierLevel}
+pub use mathlib.Core.Path.{fun_ext}

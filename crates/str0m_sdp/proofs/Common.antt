@@ -1,4 +1,6 @@
 -- The names that proofs cite from elsewhere, passed on from one place. Declares nothing.
+pub use Rattle.indexmap.specs.IndexMap.{insert_entry}
+pub use Rattle.indexmap.specs.IndexSet.{insert_all, insert_key}
 pub use Rattle.std.proofs.Common.{[], All, ap, append_assoc, arith, Bool, cond, count_by, drop, Err, false, filter, filter_map, find, get_or, IfSome, if◌then◌else◌, inl, inr, length, List, map, nat_eq, None, not, Ok, Option, option_to_list, refl, replicate, Result, rules, Some, subst, suc, sym, take, tests, true, true≢false, zero, ℕ, ◌&&◌, ◌++◌, ◌+◌, ◌<◌, ◌==◌, ◌||◌, ◌∙◌, ◌∷◌, ◌≡◌, ◌≢◌, ◌≤◌, ◌⊎◌, set, IfOk, ◌%◌, add-one, add-zero, add-suc, take-append-drop, OnOk, is_ok, ltb, reverse, ◌-◌}
 pub use Rattle.std.proofs.lemmas.Bool.{cases_eq, eq-eqb, eqb-true, false≢true, le-ltb, lt-ltb, ltb-true, ne_eqb, or_left, or_parts, or_right, cases_Bool, cases_lt, eqb-false, and_right}
 pub use Rattle.std.proofs.lemmas.Bool.Decides.{Decides-like}
@@ -25,30 +27,28 @@ pub use Rattle.std.specs.Ordering.{nat_cmp, is_eq}
 pub use Rattle.std.specs.Prelude.{codes, IsTrue, MatchOption, nat_lt, option_map, slice_get, slice_set, ◌↔◌, IsSomeAnd}
 pub use Rattle.std.specs.Str.{bytes_eq, str_eq_ignore_ascii_case, str_to_ascii_lowercase}
 pub use Rattle.std.specs.String.{string_bytes, string_len, string_capacity}
-pub use Rattle.indexmap.specs.IndexMap.{insert_entry}
-pub use Rattle.indexmap.specs.IndexSet.{insert_all, insert_key}
-pub use denote.Enum.Bare.{same_true, sameb}
-pub use Rattle.str0m_formats.proofs.format.FormatParamsDerived.{Equality, along, equality, word}
-pub use Rattle.str0m_formats.proofs.format.FormatParamEqual.{param_Decides}
 pub use Rattle.str0m_formats.proofs.codec.CodecSpecStatic.{needs_none, static_small}
+pub use Rattle.str0m_formats.proofs.format.FormatParamEqual.{param_Decides}
+pub use Rattle.str0m_formats.proofs.format.FormatParamsDerived.{Equality, along, equality, word}
 pub use Rattle.str0m_formats.proofs.round.ClaimedTimes.{times-append, times-cons, one_if, times-some}
-pub use Rattle.str0m_formats.specs.row.PlainRowBounds.{IsBounded, AreModes, IsDistance, HoldsRowNumbers}
 pub use Rattle.str0m_formats.specs.codec.Codec.{content, events, other, Content, audio, video}
 pub use Rattle.str0m_formats.specs.codec.CodecSpec.{rtp_rate, static_spec}
-pub use Rattle.str0m_formats.specs.format.FormatLine.{format_of_fmtp, is_refused, line_values, events_end, is_events, kept, values_of}
-pub use Rattle.str0m_formats.specs.format.FormatParams.{empty, set_all}
-pub use Rattle.str0m_formats.specs.row.PlainRow.{IsPlain, IsPlainG722}
-pub use Rattle.str0m_formats.specs.row.PayloadParams.{SameRow, types, types_of, has_pictures}
-pub use Rattle.str0m_formats.specs.round.MatchScore.{same_codec}
-pub use Rattle.str0m_formats.specs.round.Claimed.{AllDistinct, has, times}
 pub use Rattle.str0m_formats.specs.declared.codec.Codec.{Codec}
 pub use Rattle.str0m_formats.specs.declared.codec.codec_spec.CodecSpec.{CodecSpec}
 pub use Rattle.str0m_formats.specs.declared.format.format_param.FormatParam.{FormatParam}
 pub use Rattle.str0m_formats.specs.declared.format.format_param.FormatParam.TheVariants.{Apt, BarePtList, BareRange}
 pub use Rattle.str0m_formats.specs.declared.format.format_params.FormatParams.{FormatParams}
 pub use Rattle.str0m_formats.specs.declared.row.payload_params.PayloadParams.{PayloadParams}
+pub use Rattle.str0m_formats.specs.format.FormatLine.{format_of_fmtp, is_refused, line_values, events_end, is_events, kept, values_of}
+pub use Rattle.str0m_formats.specs.format.FormatParams.{empty, set_all}
+pub use Rattle.str0m_formats.specs.round.Claimed.{AllDistinct, has, times}
+pub use Rattle.str0m_formats.specs.round.MatchScore.{same_codec}
+pub use Rattle.str0m_formats.specs.row.PayloadParams.{SameRow, types, types_of, has_pictures}
+pub use Rattle.str0m_formats.specs.row.PlainRow.{IsPlain, IsPlainG722}
+pub use Rattle.str0m_formats.specs.row.PlainRowBounds.{IsBounded, AreModes, IsDistance, HoldsRowNumbers}
 pub use Rattle.str0m_values.specs.Cuts.{when, ◌<|>◌, ◌>>=◌, cut, before}
 pub use Rattle.str0m_values.specs.declared.address.IpAddr.{IpAddr}
 pub use Rattle.str0m_values.specs.declared.address.IpAddr.TheVariants.{V4, V6}
 pub use Rattle.str0m_values.specs.declared.address.SocketAddr.{SocketAddr}
 pub use Rattle.str0m_values.specs.declared.candidate.Candidate.{Candidate}
+pub use denote.Enum.Bare.{same_true, sameb}

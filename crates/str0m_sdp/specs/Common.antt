@@ -1,6 +1,6 @@
 -- Words on lists.
-use Rattle.std.specs.Prelude.{Bool, not, List, [], ◌∷◌, filter, Option, Some, None}
 use Rattle.std.specs.Option.{option_or}
+use Rattle.std.specs.Prelude.{Bool, not, List, [], ◌∷◌, filter, Option, Some, None}
 
 -- the first item, and the last
 abbrev pub first : {X : Type 0} → List X → Option X

@@ -1,17 +1,17 @@
 -- A text is read as an address exactly where it stands for it.
-use Rattle.str0m_values.proofs.Common.{rules, ◌≡◌, ℕ, List, [], ◌∷◌, ◌++◌, length, Option, Some, None, refl, sym, ap, arith, append-nil, option_map, ipv6_segments, ne_eqb, ipv4_octets}
+use Rattle.std.proofs.NetLemmas.Ipv4.{read_ipv4_complete, read_ipv4_sound}
+use Rattle.std.proofs.NetLemmas.Ipv6.{read_ipv6_complete, read_ipv6_sound, EndsGroups-nil, IsDotted-not_colon_hex}
 use Rattle.std.specs.Net.Grammar as net
 use Rattle.std.specs.Net.Reader.{Read, whole_value, read_ipv4, read_ipv6}
 use Rattle.std.specs.declared.net.ip_addr.IpAddr.{IpAddr as NetIpAddr}
 use Rattle.std.specs.declared.net.ip_addr.IpAddr.TheVariants as NetIp
-use Rattle.std.proofs.NetLemmas.Ipv4.{read_ipv4_complete, read_ipv4_sound}
-use Rattle.std.proofs.NetLemmas.Ipv6.{read_ipv6_complete, read_ipv6_sound, EndsGroups-nil, IsDotted-not_colon_hex}
-use Rattle.str0m_values.specs.declared.address.IpAddr.{IpAddr}
-use Rattle.str0m_values.specs.declared.address.IpAddr.TheVariants.{V4, V6}
+use Rattle.str0m_values.proofs.AddressLaws.{v4_from, v4_to, v6_from, v6_to}
+use Rattle.str0m_values.proofs.Common.{rules, ◌≡◌, ℕ, List, [], ◌∷◌, ◌++◌, length, Option, Some, None, refl, sym, ap, arith, append-nil, option_map, ipv6_segments, ne_eqb, ipv4_octets}
+use Rattle.str0m_values.proofs.CutsBothWays.{Reads, or_some, some_is, reads_none}
 use Rattle.str0m_values.specs.Address.{IsIpText}
 use Rattle.str0m_values.specs.AddressReading.{own_address, ip_read}
-use Rattle.str0m_values.proofs.AddressLaws.{v4_from, v4_to, v6_from, v6_to}
-use Rattle.str0m_values.proofs.CutsBothWays.{Reads, or_some, some_is, reads_none}
+use Rattle.str0m_values.specs.declared.address.IpAddr.{IpAddr}
+use Rattle.str0m_values.specs.declared.address.IpAddr.TheVariants.{V4, V6}
 
 -- ---- std's reading of the front of a text, where it is the whole
 

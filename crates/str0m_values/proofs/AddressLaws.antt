@@ -1,6 +1,6 @@
 -- The grammar of addresses here and that of std say the same.
-use Rattle.str0m_values.proofs.Common.{◌≡◌, ◌⊎◌, ℕ, ◌+◌, ◌-◌, ◌*◌, Bool, true, false, List, [], ◌∷◌, ◌++◌, length, replicate, refl, sym, ap, ◌∙◌, subst, arith, inl, inr, append-nil, append_assoc, length-append, codes, length-replicate, IsTrue, segments_of}
 use Rattle.std.specs.Net.Grammar as net
+use Rattle.str0m_values.proofs.Common.{◌≡◌, ◌⊎◌, ℕ, ◌+◌, ◌-◌, ◌*◌, Bool, true, false, List, [], ◌∷◌, ◌++◌, length, replicate, refl, sym, ap, ◌∙◌, subst, arith, inl, inr, append-nil, append_assoc, length-append, codes, length-replicate, IsTrue, segments_of}
 use Rattle.str0m_values.specs.Address.{Parted, IsOctet, IsV4Text, IsGroup, IsOneGroup, pairs, IsV4Tail, IsEnd, AreGroups, AreAnyGroups, IsShortened, IsV6Text}
 
 -- ---- V4

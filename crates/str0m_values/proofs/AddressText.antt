@@ -1,12 +1,12 @@
 -- What is printed of an address stands for it.
-use Rattle.str0m_values.proofs.Common.{◌≡◌, ℕ, zero, suc, ◌<◌, ◌≤◌, ◌+◌, ◌^◌, List, [], ◌∷◌, ◌++◌, length, get_or, refl, ap, subst, arith, append-nil, append_assoc, lit<, AllByRecursion, cases_lt, le-leb, lt-leb, hex}
-use Rattle.std.specs.Net.Text as net
-use Rattle.std.specs.Net.Text.{hex_groups_text}
 use Rattle.std.proofs.NetLemmas.Arrays.{four_items}
 use Rattle.std.proofs.NetLemmas.Texts.{IsDotted-ipv4_text, IsColonHex-hex_groups_text}
-use Rattle.str0m_values.specs.declared.address.IpAddr.{IpAddr}
-use Rattle.str0m_values.specs.Address.{IsV4Text, IsV6Text, IsIpText, v4_text, groups_text, zeros_at_front, longest_run, first_run, v6_text, ip_text, IsInRange}
+use Rattle.std.specs.Net.Text as net
+use Rattle.std.specs.Net.Text.{hex_groups_text}
 use Rattle.str0m_values.proofs.AddressLaws.{v4_from, v6_from}
+use Rattle.str0m_values.proofs.Common.{◌≡◌, ℕ, zero, suc, ◌<◌, ◌≤◌, ◌+◌, ◌^◌, List, [], ◌∷◌, ◌++◌, length, get_or, refl, ap, subst, arith, append-nil, append_assoc, lit<, AllByRecursion, cases_lt, le-leb, lt-leb, hex}
+use Rattle.str0m_values.specs.Address.{IsV4Text, IsV6Text, IsIpText, v4_text, groups_text, zeros_at_front, longest_run, first_run, v6_text, ip_text, IsInRange}
+use Rattle.str0m_values.specs.declared.address.IpAddr.{IpAddr}
 
 -- ---- std's printing and ours
 

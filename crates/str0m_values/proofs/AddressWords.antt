@@ -1,9 +1,9 @@
 -- The text of an address is a word.
 use Rattle.str0m_values.proofs.Common.{◌≡◌, ◌≢◌, ℕ, ◌<◌, ◌≤◌, ◌+◌, ◌^◌, List, [], ◌∷◌, ◌++◌, length, ap, ◌∙◌, inl, inr, arith, lit≤, length-append, codes, decimal, digit_value, IsNumeral, AllDigits, decimal_is_IsNumeral}
+use Rattle.str0m_values.specs.Address.{Parted, IsOctet, IsV4Text, IsGroup, IsOneGroup, IsEnd, AreGroups, AreAnyGroups, IsShortened, IsIpText}
+use Rattle.str0m_values.specs.CutsParts.{Lacks, IsRest, IsWord}
 use Rattle.str0m_values.specs.declared.address.IpAddr.{IpAddr}
 use Rattle.str0m_values.specs.declared.address.IpAddr.TheVariants.{V4, V6}
-use Rattle.str0m_values.specs.CutsParts.{Lacks, IsRest, IsWord}
-use Rattle.str0m_values.specs.Address.{Parted, IsOctet, IsV4Text, IsGroup, IsOneGroup, IsEnd, AreGroups, AreAnyGroups, IsShortened, IsIpText}
 
 pub lacks_both : (c : ℕ) (xs ys : List ℕ) → Lacks c xs → Lacks c ys → Lacks c (xs ++ ys)
 lacks_both c [] ys h k = k

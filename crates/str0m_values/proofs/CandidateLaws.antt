@@ -1,20 +1,20 @@
 -- A text is read as a candidate exactly where it stands for it.
+use Rattle.str0m_values.proofs.CandidateParts.{num_both, socket_front, related_front, tcp_front, EndsNames, names_front}
+use Rattle.str0m_values.proofs.CandidateWords.{protocol_both, kind_both}
 use Rattle.str0m_values.proofs.Common.{rules, ◌≡◌, ℕ, cond, List, [], ◌∷◌, ◌++◌, Option, Some, None, refl, ap, ◌∙◌, inl, inr, append_assoc, append-nil, subst, arith, codes}
-use Rattle.str0m_values.specs.declared.address.SocketAddr.{SocketAddr}
-use Rattle.str0m_values.specs.declared.candidate.Candidate.{Candidate}
-use Rattle.str0m_values.specs.Cuts.{num, is_rest}
-use Rattle.str0m_values.specs.Labels.{IsSame, IsLabelled, IsOptional, IsLeftOut}
-use Rattle.str0m_values.specs.LabelReading.{labelled_read, part_read, optional_read}
-use Rattle.str0m_values.specs.CutsParts.{IsNum}
-use Rattle.str0m_values.specs.CandidateKind.{IsKindText}
-use Rattle.str0m_values.specs.Protocol.{IsProtocolText, IsTcpTypeText}
-use Rattle.str0m_values.specs.Candidate.{IsSocket, IsRelated, AreNames, IsCandidateText}
-use Rattle.str0m_values.specs.CandidateReading.{Lead, Extras, protocol_read, kind_read, socket_read, related_read, tcp_part_read, names_read, lead_read, last_read, extras_read, candidate_of, candidate_read}
 use Rattle.str0m_values.proofs.CutsBothWays.{Reads, some_is}
 use Rattle.str0m_values.proofs.CutsNumLaws.{rest_true}
-use Rattle.str0m_values.proofs.CandidateWords.{protocol_both, kind_both}
 use Rattle.str0m_values.proofs.LabelLaws.{bound, bind_is, Ends, EndsWithout, Starts, starts_all, starts_optional, Front, labelled_front, part_front, optional_front}
-use Rattle.str0m_values.proofs.CandidateParts.{num_both, socket_front, related_front, tcp_front, EndsNames, names_front}
+use Rattle.str0m_values.specs.Candidate.{IsSocket, IsRelated, AreNames, IsCandidateText}
+use Rattle.str0m_values.specs.CandidateKind.{IsKindText}
+use Rattle.str0m_values.specs.CandidateReading.{Lead, Extras, protocol_read, kind_read, socket_read, related_read, tcp_part_read, names_read, lead_read, last_read, extras_read, candidate_of, candidate_read}
+use Rattle.str0m_values.specs.Cuts.{num, is_rest}
+use Rattle.str0m_values.specs.CutsParts.{IsNum}
+use Rattle.str0m_values.specs.LabelReading.{labelled_read, part_read, optional_read}
+use Rattle.str0m_values.specs.Labels.{IsSame, IsLabelled, IsOptional, IsLeftOut}
+use Rattle.str0m_values.specs.Protocol.{IsProtocolText, IsTcpTypeText}
+use Rattle.str0m_values.specs.declared.address.SocketAddr.{SocketAddr}
+use Rattle.str0m_values.specs.declared.candidate.Candidate.{Candidate}
 use Rattle.str0m_values.specs.declared.candidate_label.TheConstants as candidate_label
 
 -- ---- what may follow a part

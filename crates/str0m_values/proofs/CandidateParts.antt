@@ -1,21 +1,21 @@
 -- The parts of a candidate's text that have a form of their own are read both ways.
-use Rattle.str0m_values.proofs.Common.{rules, arith, ◌≡◌, ℕ, true, cond, List, [], ◌++◌, Option, Some, None, refl, sym, ap, ◌∙◌, inl, inr, append_assoc, is_some, is_none, ◌||◌, if◌then◌else◌}
-use Rattle.str0m_values.specs.declared.address.SocketAddr.{SocketAddr}
-use Rattle.str0m_values.specs.declared.protocol.TcpType.{TcpType}
-use Rattle.str0m_values.specs.Cuts.{◌>>=◌, strip, num}
-use Rattle.str0m_values.specs.Labels.{IsSame, IsOptional}
-use Rattle.str0m_values.specs.LabelReading.{part_read, optional_read, value_read}
-use Rattle.str0m_values.specs.Protocol.{IsTcpTypeText}
-use Rattle.str0m_values.specs.Candidate.{IsSocket, IsRelated, AreNames}
-use Rattle.str0m_values.specs.AddressReading.{ip_read}
-use Rattle.str0m_values.specs.CandidateReading.{tcp_type_read, socket_read, related_read, tcp_part_read, names_read}
-use Rattle.str0m_values.proofs.CutsBothWays.{Reads, some_is}
-use Rattle.str0m_values.proofs.CutsNumLaws.{num_found, num_reads}
 use Rattle.str0m_values.proofs.AddressBothWays.{ip_both}
 use Rattle.str0m_values.proofs.CandidateWords.{tcp_type_both}
+use Rattle.str0m_values.proofs.Common.{rules, arith, ◌≡◌, ℕ, true, cond, List, [], ◌++◌, Option, Some, None, refl, sym, ap, ◌∙◌, inl, inr, append_assoc, is_some, is_none, ◌||◌, if◌then◌else◌}
+use Rattle.str0m_values.proofs.CutsBothWays.{Reads, some_is}
+use Rattle.str0m_values.proofs.CutsNumLaws.{num_found, num_reads}
 use Rattle.str0m_values.proofs.LabelLaws.{bound, bind_is, Ends, EndsWithout, Front, part_front, optional_front, value_sound}
+use Rattle.str0m_values.specs.AddressReading.{ip_read}
+use Rattle.str0m_values.specs.Candidate.{IsSocket, IsRelated, AreNames}
+use Rattle.str0m_values.specs.CandidateReading.{tcp_type_read, socket_read, related_read, tcp_part_read, names_read}
+use Rattle.str0m_values.specs.Cuts.{◌>>=◌, strip, num}
 use Rattle.str0m_values.specs.CutsParts.{IsNum}
+use Rattle.str0m_values.specs.LabelReading.{part_read, optional_read, value_read}
+use Rattle.str0m_values.specs.Labels.{IsSame, IsOptional}
+use Rattle.str0m_values.specs.Protocol.{IsTcpTypeText}
+use Rattle.str0m_values.specs.declared.address.SocketAddr.{SocketAddr}
 use Rattle.str0m_values.specs.declared.candidate_label.TheConstants as candidate_label
+use Rattle.str0m_values.specs.declared.protocol.TcpType.{TcpType}
 
 pub num_both : (limit : ℕ) → Reads (IsNum limit) (num limit)
 num_both limit = record { sound = num_found limit; complete = num_reads limit }

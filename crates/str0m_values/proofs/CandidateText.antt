@@ -1,19 +1,19 @@
 -- What is printed of a candidate stands for it.
+use Rattle.str0m_values.proofs.AddressText.{printed}
+use Rattle.str0m_values.proofs.AddressWords.{decimal_word, ip_word}
 use Rattle.str0m_values.proofs.Common.{◌≡◌, ◌≢◌, ℕ, ◌<◌, ◌≤◌, ◌^◌, List, [], ◌∷◌, ◌++◌, get_or, Option, Some, None, refl, sym, inl, arith, subst, append-nil, append_assoc, lit<, codes, decimal, IfSome, digit_value, IsNumeral, decimal_is_IsNumeral, without_leading_plus_none}
+use Rattle.str0m_values.specs.Address.{ip_text}
+use Rattle.str0m_values.specs.Candidate.{IsSocket, IsRelated, IsCandidateText, socket_text, related_text, candidate_text, IsSocketInRange, IsPrintable}
+use Rattle.str0m_values.specs.CandidateKind.{kind_text}
+use Rattle.str0m_values.specs.CutsParts.{IsWord, IsNum}
+use Rattle.str0m_values.specs.Labels.{IsSame, IsLabelled, IsOptional, optional_text}
+use Rattle.str0m_values.specs.Protocol.{IsProtocolText, IsTcpTypeText, protocol_text, tcp_type_text}
 use Rattle.str0m_values.specs.declared.address.SocketAddr.{SocketAddr}
 use Rattle.str0m_values.specs.declared.candidate.Candidate.{Candidate}
 use Rattle.str0m_values.specs.declared.candidate_kind.CandidateKind.{CandidateKind}
+use Rattle.str0m_values.specs.declared.candidate_label.TheConstants as candidate_label
 use Rattle.str0m_values.specs.declared.protocol.Protocol.{Protocol}
 use Rattle.str0m_values.specs.declared.protocol.TcpType.{TcpType}
-use Rattle.str0m_values.specs.CutsParts.{IsWord, IsNum}
-use Rattle.str0m_values.specs.Labels.{IsSame, IsLabelled, IsOptional, optional_text}
-use Rattle.str0m_values.specs.Address.{ip_text}
-use Rattle.str0m_values.specs.CandidateKind.{kind_text}
-use Rattle.str0m_values.specs.Protocol.{IsProtocolText, IsTcpTypeText, protocol_text, tcp_type_text}
-use Rattle.str0m_values.specs.Candidate.{IsSocket, IsRelated, IsCandidateText, socket_text, related_text, candidate_text, IsSocketInRange, IsPrintable}
-use Rattle.str0m_values.proofs.AddressText.{printed}
-use Rattle.str0m_values.proofs.AddressWords.{decimal_word, ip_word}
-use Rattle.str0m_values.specs.declared.candidate_label.TheConstants as candidate_label
 
 -- ---- numbers and words
 

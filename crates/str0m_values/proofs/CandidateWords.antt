@@ -1,16 +1,16 @@
 -- The words for protocols, TCP types and kinds of candidates, read both ways.
 use Rattle.str0m_values.proofs.Common.{arith, ◌≡◌, Some, str_to_ascii_lowercase}
-use Rattle.str0m_values.specs.declared.protocol.TheConstants.{PROTOCOLS, TCP_TYPES}
-use Rattle.str0m_values.specs.declared.protocol.Protocol.{Protocol}
-use Rattle.str0m_values.specs.declared.protocol.TcpType.{TcpType}
-use Rattle.str0m_values.specs.declared.candidate_kind.TheConstants.{KINDS}
-use Rattle.str0m_values.specs.declared.candidate_kind.CandidateKind.{CandidateKind}
-use Rattle.str0m_values.specs.Protocol.{protocol_text, tcp_type_text, IsProtocolText, IsTcpTypeText}
+use Rattle.str0m_values.proofs.CutsBothWays.{Reads}
+use Rattle.str0m_values.proofs.WordsOfCases.{reads_alike, reads_words}
 use Rattle.str0m_values.specs.CandidateKind.{kind_text, IsKindText}
 use Rattle.str0m_values.specs.CandidateReading.{protocol_read, tcp_type_read, kind_read}
+use Rattle.str0m_values.specs.Protocol.{protocol_text, tcp_type_text, IsProtocolText, IsTcpTypeText}
 use Rattle.str0m_values.specs.Words.{case_alike, case_of}
-use Rattle.str0m_values.proofs.WordsOfCases.{reads_alike, reads_words}
-use Rattle.str0m_values.proofs.CutsBothWays.{Reads}
+use Rattle.str0m_values.specs.declared.candidate_kind.CandidateKind.{CandidateKind}
+use Rattle.str0m_values.specs.declared.candidate_kind.TheConstants.{KINDS}
+use Rattle.str0m_values.specs.declared.protocol.Protocol.{Protocol}
+use Rattle.str0m_values.specs.declared.protocol.TcpType.{TcpType}
+use Rattle.str0m_values.specs.declared.protocol.TheConstants.{PROTOCOLS, TCP_TYPES}
 
 -- each case by its own word, which is in lower case
 protocol_own : (p : Protocol) → (str_to_ascii_lowercase (protocol_text p) ≡ protocol_text p) × (case_alike protocol_text PROTOCOLS (protocol_text p) ≡ Some p)

@@ -1,10 +1,10 @@
 -- What a cut at a character, and what follows a prefix, are.
-use Rattle.str0m_values.proofs.Common.{◌≡◌, ◌≢◌, ℕ, suc, inl, inr, ◌<◌, ◌≤◌, ◌+◌, true, not, List, [], ◌∷◌, ◌++◌, length, get_or, drop, take, Option, Some, None, refl, sym, ap, ◌∙◌, arith, append-nil, option_map, is_some, eq-eqb, ne_eqb, cases_eq, both_ways, and_parts, some_pair_parts, none-some, drop-append_seam, take-append_seam, IsUtf8, IsCharBoundary, MatchOption, not-true, false_from_ne_true, length-append, IsCharBoundary-from_take}
+use Rattle.std.proofs.lemmas.Str.Pattern.{IsSplitOnceResult, split_parts}
 use Rattle.std.specs.Borrow.{Bor}
 use Rattle.std.specs.Str.Pattern.{FindsTextPrefix}
-use Rattle.std.proofs.lemmas.Str.Pattern.{IsSplitOnceResult, split_parts}
-use Rattle.str0m_values.specs.CutsParts.{Lacks}
+use Rattle.str0m_values.proofs.Common.{◌≡◌, ◌≢◌, ℕ, suc, inl, inr, ◌<◌, ◌≤◌, ◌+◌, true, not, List, [], ◌∷◌, ◌++◌, length, get_or, drop, take, Option, Some, None, refl, sym, ap, ◌∙◌, arith, append-nil, option_map, is_some, eq-eqb, ne_eqb, cases_eq, both_ways, and_parts, some_pair_parts, none-some, drop-append_seam, take-append_seam, IsUtf8, IsCharBoundary, MatchOption, not-true, false_from_ne_true, length-append, IsCharBoundary-from_take}
 use Rattle.str0m_values.specs.Cuts.{cut, before_cut, strip, parts, front, before, lacks}
+use Rattle.str0m_values.specs.CutsParts.{Lacks}
 
 pub cut_none : (c : ℕ) (text : List ℕ) → Lacks c text → cut c text ≡ None
 cut_none c [] h = refl

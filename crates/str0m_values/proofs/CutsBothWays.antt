@@ -1,7 +1,7 @@
 -- A function that reads what a relation says, both ways.
 use Rattle.str0m_values.proofs.Common.{arith, ap, ◌≡◌, ◌⊎◌, Bool, true, cond, Option, Some, None, refl, sym, ◌∙◌, inl, inr}
-use Rattle.str0m_values.specs.CutsParts.{FirstFit}
 use Rattle.str0m_values.specs.Cuts.{◌>>=◌, ◌<|>◌}
+use Rattle.str0m_values.specs.CutsParts.{FirstFit}
 
 -- what f reads is in F
 pub record Sound {A B : Type 0} (F : A → B → Type 0) (f : A → Option B) : Type 0 where

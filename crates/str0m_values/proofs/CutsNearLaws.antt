@@ -1,8 +1,8 @@
 -- What going over the bytes of a field finds: a cut, and a number.
 use Rattle.str0m_values.proofs.Common.{◌≡◌, ℕ, zero, suc, ◌<◌, ◌≤◌, ◌+◌, ◌-◌, List, [], ◌∷◌, length, take, drop, Some, None, refl, sym, ap, arith, AllDigits, digits_value, without_leading_plus, eq-eqb, ne_eqb, numerals_by_value, add-one, slice_range, tells_digits, digits_value_short, length-take}
-use Rattle.str0m_values.specs.Cuts.{LacksAt, IsFirstAt, IsWrittenAs, cut, before_cut, num}
 use Rattle.str0m_values.proofs.CutLaws.{cut_none, Lacks-by_index}
 use Rattle.str0m_values.proofs.CutsNumLaws.{num_reads}
+use Rattle.str0m_values.specs.Cuts.{LacksAt, IsFirstAt, IsWrittenAs, cut, before_cut, num}
 
 behind_first : (c : ℕ) (text : List ℕ) (i : ℕ) → IsFirstAt c text i → Some (take i text, drop (suc i) text) ≡ cut c text
 behind_first c [] i h = absurd (omega (arith, h.0))

@@ -1,14 +1,14 @@
 -- A text is read as one fingerprint at most, and what is printed is read as itself.
 use Rattle.str0m_values.proofs.Common.{◌≡◌, ◌<◌, ℕ, List, [], ◌∷◌, All, length, Some, Result, Ok, Err, arith, refl, sym, ap, ◌∙◌, subst, AllZip, some_pair_parts, none-some, Any, IsErr, IsErrOf, IsErrAnd}
+use Rattle.str0m_values.proofs.CutLaws.{cut_at, cut_none}
+use Rattle.str0m_values.proofs.FingerprintPairs.{printed_read}
+use Rattle.str0m_values.proofs.FingerprintZipLaws.{AllZip-at}
 use Rattle.str0m_values.specs.Cuts.{cut}
 use Rattle.str0m_values.specs.CutsParts.{Lacks}
 use Rattle.str0m_values.specs.Fingerprint.{IsNamed, IsByte, pieces_of, IsFingerprint, HasBadByte, IsBytesReading, IsReading, Gives, CanBeReadBack, fingerprint_text, pairs_text}
 use Rattle.str0m_values.specs.declared.fingerprint.Fingerprint.{Fingerprint}
 use Rattle.str0m_values.specs.declared.fingerprint.FingerprintError.{FingerprintError}
 use Rattle.str0m_values.specs.declared.fingerprint.FingerprintError.TheVariants.{NoSpace, BadByte, Memory}
-use Rattle.str0m_values.proofs.CutLaws.{cut_at, cut_none}
-use Rattle.str0m_values.proofs.FingerprintPairs.{printed_read}
-use Rattle.str0m_values.proofs.FingerprintZipLaws.{AllZip-at}
 
 -- ---- the name
 

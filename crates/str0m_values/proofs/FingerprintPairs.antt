@@ -1,7 +1,7 @@
 -- The two hex digits that are printed for a byte, and bytes so printed with `:` between them.
-use Rattle.str0m_values.proofs.Common.{◌≡◌, ◌≢◌, ◌==◌, ◌<◌, ◌+◌, ◌*◌, ℕ, true, false, List, [], ◌∷◌, ◌++◌, All, map, arith, sym, append-nil, subst, digit_value, AllZip, flat_map, digit_glyph, slice_split}
 use Rattle.std.proofs.lemmas.List.Elements.{All-head, All-tail}
 use Rattle.std.proofs.lemmas.List.Splits.{slice_split_at, slice_split_none}
+use Rattle.str0m_values.proofs.Common.{◌≡◌, ◌≢◌, ◌==◌, ◌<◌, ◌+◌, ◌*◌, ℕ, true, false, List, [], ◌∷◌, ◌++◌, All, map, arith, sym, append-nil, subst, digit_value, AllZip, flat_map, digit_glyph, slice_split}
 use Rattle.str0m_values.specs.Fingerprint.{hex_pair, pairs_text, pieces_of, IsByte}
 
 -- a printed digit is worth what it was printed for

@@ -1,7 +1,7 @@
 -- No two patterns of the table of profiles fit the same bytes: a computed test over all pairs of them.
-use Rattle.str0m_values.proofs.Common.{◌≡◌, ◌≤◌, ◌+◌, ◌==◌, ◌&&◌, ◌||◌, ℕ, Bool, true, false, not, cond, List, [], ◌∷◌, refl, sym, ap, ◌∙◌, arith, and_parts, eq-eqb, cases_Bool, bit_and, count_by, eqb-true}
 use Rattle.std.proofs.lemmas.List.Sums.{sum_by-cons}
 use Rattle.std.proofs.lemmas.Nat.{and_assoc, and_comm}
+use Rattle.str0m_values.proofs.Common.{◌≡◌, ◌≤◌, ◌+◌, ◌==◌, ◌&&◌, ◌||◌, ℕ, Bool, true, false, not, cond, List, [], ◌∷◌, refl, sym, ap, ◌∙◌, arith, and_parts, eq-eqb, cases_Bool, bit_and, count_by, eqb-true}
 use Rattle.str0m_values.specs.H264.{Pattern, patterns, fits}
 
 -- the first bytes differ, or some bit that counts in both does

@@ -1,6 +1,6 @@
 -- The longest beginning of a text that fits: there is one, and only one.
-use Rattle.str0m_values.proofs.Common.{◌≡◌, ◌⊎◌, ℕ, zero, suc, ◌<◌, ◌≤◌, true, false, leb, List, [], ◌++◌, length, take, drop, refl, sym, ap, ◌∙◌, inl, inr, arith, take-append-drop, length-take-le, IsCharBoundary, ltb-true, leb-true, cases_Bool, cases_lt, take-append_seam, ◌+◌, ◌∷◌, length-append, is_char_start, leb-false, append-nil}
 use Rattle.std.specs.Fmt.Cut.{floor_char_boundary}
+use Rattle.str0m_values.proofs.Common.{◌≡◌, ◌⊎◌, ℕ, zero, suc, ◌<◌, ◌≤◌, true, false, leb, List, [], ◌++◌, length, take, drop, refl, sym, ap, ◌∙◌, inl, inr, arith, take-append-drop, length-take-le, IsCharBoundary, ltb-true, leb-true, cases_Bool, cases_lt, take-append_seam, ◌+◌, ◌∷◌, length-append, is_char_start, leb-false, append-nil}
 use Rattle.str0m_values.specs.ShortText.{IsLongestBeginning, beginning_of}
 
 -- where a character ends at i or before it, the last such place

@@ -1,12 +1,12 @@
 -- Words after labels are read both ways.
 use Rattle.str0m_values.proofs.Common.{◌≡◌, ◌⊎◌, ℕ, List, [], ◌∷◌, ◌++◌, length, drop, false, Option, Some, None, refl, sym, ap, ◌∙◌, inl, inr, arith, append-nil, append_assoc, AllByRecursion, ltb-true, ◌==◌}
-use Rattle.str0m_values.specs.CutsParts.{IsWord}
-use Rattle.str0m_values.specs.Cuts.{◌>>=◌, before, strip}
-use Rattle.str0m_values.specs.Labels.{IsSame, IsLabelled, IsOptional}
-use Rattle.str0m_values.specs.LabelReading.{word_read, labelled_read, part_read, optional_after, optional_read, value_read}
 use Rattle.str0m_values.proofs.CutLaws.{before_front, before_lacks, strip_at, strip_before, strip_found}
-use Rattle.str0m_values.proofs.CutsNumLaws.{when_some, rest_true}
 use Rattle.str0m_values.proofs.CutsBothWays.{Reads, some_is}
+use Rattle.str0m_values.proofs.CutsNumLaws.{when_some, rest_true}
+use Rattle.str0m_values.specs.Cuts.{◌>>=◌, before, strip}
+use Rattle.str0m_values.specs.CutsParts.{IsWord}
+use Rattle.str0m_values.specs.LabelReading.{word_read, labelled_read, part_read, optional_after, optional_read, value_read}
+use Rattle.str0m_values.specs.Labels.{IsSame, IsLabelled, IsOptional}
 
 -- ---- steps
 

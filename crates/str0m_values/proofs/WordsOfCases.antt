@@ -1,7 +1,7 @@
 -- The words of an enumeration are read both ways, where each case is found by its own word.
 use Rattle.str0m_values.proofs.Common.{arith, ◌≡◌, ℕ, Bool, true, false, cond, List, [], ◌∷◌, map, Some, refl, sym, ap, ◌∙◌, bytes_eq, str_to_ascii_lowercase, bytes_eq-Decides, find, to_ascii_lowercase, str_eq_ignore_ascii_case}
-use Rattle.str0m_values.specs.Words.{case_of, case_alike}
 use Rattle.str0m_values.proofs.CutsBothWays.{Reads, some_is}
+use Rattle.str0m_values.specs.Words.{case_of, case_alike}
 
 -- what is found passes
 pub found_passes : {A : Type 0} (test : A → Bool) (xs : List A) (x : A) → find test xs ≡ Some x → test x ≡ true

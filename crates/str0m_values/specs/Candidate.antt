@@ -1,13 +1,13 @@
 -- The text of a candidate, which stands after `a=` (RFC 8839 section 5.1; for tcptype RFC 6544 section 4.5).
-use Rattle.std.specs.Prelude.{◌≡◌, ◌⊎◌, ◌<◌, ◌^◌, IfSome, ℕ, List, [], ◌++◌, Option, Some, None, codes}
 use Rattle.std.specs.Fmt.{decimal}
-use Rattle.str0m_values.specs.declared.address.SocketAddr.{SocketAddr}
-use Rattle.str0m_values.specs.declared.candidate.Candidate.{Candidate}
-use Rattle.str0m_values.specs.CutsParts.{IsWord, IsNum}
-use Rattle.str0m_values.specs.Labels.{IsSame, IsLabelled, IsOptional, IsLeftOut, optional_text}
+use Rattle.std.specs.Prelude.{◌≡◌, ◌⊎◌, ◌<◌, ◌^◌, IfSome, ℕ, List, [], ◌++◌, Option, Some, None, codes}
 use Rattle.str0m_values.specs.Address.{IsIpText, IsInRange, ip_text}
 use Rattle.str0m_values.specs.CandidateKind.{IsKindText, kind_text}
+use Rattle.str0m_values.specs.CutsParts.{IsWord, IsNum}
+use Rattle.str0m_values.specs.Labels.{IsSame, IsLabelled, IsOptional, IsLeftOut, optional_text}
 use Rattle.str0m_values.specs.Protocol.{IsProtocolText, IsTcpTypeText, protocol_text, tcp_type_text}
+use Rattle.str0m_values.specs.declared.address.SocketAddr.{SocketAddr}
+use Rattle.str0m_values.specs.declared.candidate.Candidate.{Candidate}
 use Rattle.str0m_values.specs.declared.candidate_label.TheConstants as candidate_label
 
 -- ---- what a text stands for

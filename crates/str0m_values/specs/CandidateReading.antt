@@ -1,19 +1,19 @@
 -- Reading of a candidate's text as functions. The relations are in Candidate.
 use Rattle.std.specs.Prelude.{ℕ, List, Option, Some, None, ◌||◌, is_some, is_none, if◌then◌else◌, codes}
+use Rattle.str0m_values.specs.AddressReading.{ip_read}
+use Rattle.str0m_values.specs.CandidateKind.{kind_text}
+use Rattle.str0m_values.specs.Cuts.{◌>>=◌, strip, is_rest, num}
+use Rattle.str0m_values.specs.LabelReading.{labelled_read, part_read, optional_read, value_read}
+use Rattle.str0m_values.specs.Protocol.{protocol_text, tcp_type_text}
+use Rattle.str0m_values.specs.Words.{case_alike, case_of}
+use Rattle.str0m_values.specs.declared.address.SocketAddr.{SocketAddr}
+use Rattle.str0m_values.specs.declared.candidate.Candidate.{Candidate}
+use Rattle.str0m_values.specs.declared.candidate_kind.CandidateKind.{CandidateKind}
+use Rattle.str0m_values.specs.declared.candidate_kind.TheConstants.{KINDS}
+use Rattle.str0m_values.specs.declared.candidate_label.TheConstants as candidate_label
 use Rattle.str0m_values.specs.declared.protocol.Protocol.{Protocol}
 use Rattle.str0m_values.specs.declared.protocol.TcpType.{TcpType}
 use Rattle.str0m_values.specs.declared.protocol.TheConstants.{PROTOCOLS, TCP_TYPES}
-use Rattle.str0m_values.specs.declared.candidate_kind.CandidateKind.{CandidateKind}
-use Rattle.str0m_values.specs.declared.candidate_kind.TheConstants.{KINDS}
-use Rattle.str0m_values.specs.declared.address.SocketAddr.{SocketAddr}
-use Rattle.str0m_values.specs.declared.candidate.Candidate.{Candidate}
-use Rattle.str0m_values.specs.Cuts.{◌>>=◌, strip, is_rest, num}
-use Rattle.str0m_values.specs.LabelReading.{labelled_read, part_read, optional_read, value_read}
-use Rattle.str0m_values.specs.AddressReading.{ip_read}
-use Rattle.str0m_values.specs.CandidateKind.{kind_text}
-use Rattle.str0m_values.specs.Protocol.{protocol_text, tcp_type_text}
-use Rattle.str0m_values.specs.Words.{case_alike, case_of}
-use Rattle.str0m_values.specs.declared.candidate_label.TheConstants as candidate_label
 
 abbrev pub protocol_read : List ℕ → Option Protocol
 protocol_read word = case_alike protocol_text PROTOCOLS word

@@ -1,8 +1,8 @@
 -- Reading as functions on texts: what the readers of lines compute. The relations of the grammar are in CutsParts.
+use Rattle.std.specs.Borrow.{Bor}
 use Rattle.std.specs.Prelude.{ℕ, Bool, true, List, [], ◌∷◌, Option, Some, None, ◌==◌, ◌&&◌, not, nat_le, nat_lt, length, if◌then◌else◌, ◌≡◌, ◌≢◌, ◌<◌, get_or, IfSome}
 use Rattle.std.specs.Str.{all_ascii_digits}
 use Rattle.std.specs.Str.Parse.{digits_value, without_leading_plus, IsNumeral}
-use Rattle.std.specs.Borrow.{Bor}
 
 infixl 10 ◌>>=◌
 abbrev pub ◌>>=◌ : {A B : Type 0} → Option A → (A → Option B) → Option B

@@ -1,10 +1,10 @@
 -- Profiles and levels of H264 as the three bytes of a profile-level-id name them (RFC 6184, section 8.1).
 use Rattle.std.specs.Prelude.{◌^◌, ◌/◌, ◌%◌, ◌==◌, ◌&&◌, ◌||◌, ℕ, Bool, not, nat_lt, bit_and, if◌then◌else◌, List, [], ◌∷◌, find, Option, Some, None, option_map}
 use Rattle.str0m_values.specs.Cuts.{◌>>=◌}
-use Rattle.str0m_values.specs.declared.h264.H264Profile.{H264Profile}
-use Rattle.str0m_values.specs.declared.h264.H264Profile.TheVariants.{ConstrainedBaseline, Baseline, Main, High, ConstrainedHigh, PredictiveHigh444}
 use Rattle.str0m_values.specs.declared.h264.H264Level.{H264Level}
 use Rattle.str0m_values.specs.declared.h264.H264Level.TheVariants as level
+use Rattle.str0m_values.specs.declared.h264.H264Profile.{H264Profile}
+use Rattle.str0m_values.specs.declared.h264.H264Profile.TheVariants.{ConstrainedBaseline, Baseline, Main, High, ConstrainedHigh, PredictiveHigh444}
 use Rattle.str0m_values.specs.declared.h264.H264ProfileLevel.{H264ProfileLevel}
 
 -- ---- profiles

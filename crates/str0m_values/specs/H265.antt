@@ -1,14 +1,14 @@
 -- Profiles, tiers and levels of H265 (RFC 7798, section 7.1), in one table each.
 use Rattle.std.specs.Prelude.{ℕ}
+use Rattle.str0m_values.specs.ProfileTierLevel.{Tables}
+use Rattle.str0m_values.specs.declared.h265.H265Level.{H265Level}
+use Rattle.str0m_values.specs.declared.h265.H265Level.TheVariants as level
 use Rattle.str0m_values.specs.declared.h265.H265Profile.{H265Profile}
 use Rattle.str0m_values.specs.declared.h265.H265Profile.TheVariants as profile
 use Rattle.str0m_values.specs.declared.h265.H265Tier.{H265Tier}
 use Rattle.str0m_values.specs.declared.h265.H265Tier.TheVariants as tier
-use Rattle.str0m_values.specs.declared.h265.H265Level.{H265Level}
-use Rattle.str0m_values.specs.declared.h265.H265Level.TheVariants as level
 use Rattle.str0m_values.specs.declared.h265.TheConstants.{PROFILES, TIERS, LEVELS}
 use Rattle.str0m_values.specs.declared.profile_tier_level.ProfileTierLevel.{ProfileTierLevel}
-use Rattle.str0m_values.specs.ProfileTierLevel.{Tables}
 
 abbrev pub H265ProfileTierLevel : Type 0
 H265ProfileTierLevel = ProfileTierLevel H265Profile H265Tier H265Level

@@ -1,14 +1,14 @@
 -- Profiles, tiers and levels of H266 (RFC 9328, section 7.2), in one table each.
 use Rattle.std.specs.Prelude.{ℕ}
+use Rattle.str0m_values.specs.ProfileTierLevel.{Tables}
+use Rattle.str0m_values.specs.declared.h266.H266Level.{H266Level}
+use Rattle.str0m_values.specs.declared.h266.H266Level.TheVariants as level
 use Rattle.str0m_values.specs.declared.h266.H266Profile.{H266Profile}
 use Rattle.str0m_values.specs.declared.h266.H266Profile.TheVariants as profile
 use Rattle.str0m_values.specs.declared.h266.H266Tier.{H266Tier}
 use Rattle.str0m_values.specs.declared.h266.H266Tier.TheVariants as tier
-use Rattle.str0m_values.specs.declared.h266.H266Level.{H266Level}
-use Rattle.str0m_values.specs.declared.h266.H266Level.TheVariants as level
 use Rattle.str0m_values.specs.declared.h266.TheConstants.{PROFILES, TIERS, LEVELS}
 use Rattle.str0m_values.specs.declared.profile_tier_level.ProfileTierLevel.{ProfileTierLevel}
-use Rattle.str0m_values.specs.ProfileTierLevel.{Tables}
 
 abbrev pub H266ProfileTierLevel : Type 0
 H266ProfileTierLevel = ProfileTierLevel H266Profile H266Tier H266Level

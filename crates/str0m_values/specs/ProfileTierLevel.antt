@@ -1,6 +1,6 @@
 -- A profile, a tier and a level of a codec, by the numbers that stand for each.
-use Rattle.std.specs.Prelude.{◌≡◌, ◌==◌, ℕ, List, find, Option, option_map}
 use Rattle.std.specs.Borrow.{Bor}
+use Rattle.std.specs.Prelude.{◌≡◌, ◌==◌, ℕ, List, find, Option, option_map}
 use Rattle.str0m_values.specs.CutsParts.{IsGiven, lay}
 use Rattle.str0m_values.specs.declared.profile_tier_level.ProfileTierLevel.{ProfileTierLevel}
 

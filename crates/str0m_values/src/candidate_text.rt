@@ -1,11 +1,11 @@
 //! The text of a candidate, for the readers of lines.
 ghost use Rattle.std.specs.Prelude.{◌≡◌, IfOk, Some, option_map, codes};
-ghost use Rattle.str0m_values.specs.declared.candidate.Candidate.{Candidate};
+ghost use Rattle.str0m_values.specs.Candidate.{IsCandidateText, IsPrintable, candidate_text};
+ghost use Rattle.str0m_values.specs.CandidateReading.{protocol_read, kind_read, socket_read, related_read, tcp_part_read, names_read, lead_read, last_read, extras_read, candidate_read};
+ghost use Rattle.str0m_values.specs.CandidateText.{seen_lead, seen_extras, seen};
 ghost use Rattle.str0m_values.specs.Cuts.{IsTheOnly, num};
 ghost use Rattle.str0m_values.specs.LabelReading.{part_read};
-ghost use Rattle.str0m_values.specs.Candidate.{IsCandidateText, IsPrintable, candidate_text};
-ghost use Rattle.str0m_values.specs.CandidateText.{seen_lead, seen_extras, seen};
-ghost use Rattle.str0m_values.specs.CandidateReading.{protocol_read, kind_read, socket_read, related_read, tcp_part_read, names_read, lead_read, last_read, extras_read, candidate_read};
+ghost use Rattle.str0m_values.specs.declared.candidate.Candidate.{Candidate};
 ghost use Rattle.str0m_values.specs.declared.candidate_label.TheConstants as candidate_label;
 
 use crate::address::{IpAddr, SocketAddr};

@@ -1,8 +1,8 @@
 //! Clock rates.
-ghost use Rattle.std.specs.Prelude.{◌≡◌, ◌<◌, ◌^◌, ◌↔◌, ◌∷◌, [], ℕ, IsSome, IfSome, Some};
 ghost use Rattle.std.specs.Fmt.{decimal};
-ghost use Rattle.str0m_values.specs.Frequency.{IsRate};
+ghost use Rattle.std.specs.Prelude.{◌≡◌, ◌<◌, ◌^◌, ◌↔◌, ◌∷◌, [], ℕ, IsSome, IfSome, Some};
 ghost use Rattle.str0m_values.specs.Cuts.{IsTheOnly};
+ghost use Rattle.str0m_values.specs.Frequency.{IsRate};
 
 use crate::cuts::num_u32;
 use std::fmt;

@@ -1,13 +1,13 @@
 -- Which rows an answer lists in a section.
-use Rattle.std.specs.Prelude.{ℕ, List, [], Option, Some, None}
 use Rattle.std.specs.List.{slice_get}
-use Rattle.str0m_values.specs.declared.media_kind.MediaKind.TheVariants as kind
+use Rattle.std.specs.Prelude.{ℕ, List, [], Option, Some, None}
 use Rattle.str0m_formats.specs.declared.row.payload_params.PayloadParams.{PayloadParams}
-use Rattle.str0m_sdp.specs.declared.section.media_line.MediaLine.{MediaLine}
 use Rattle.str0m_sdp.specs.declared.attribute.media_type.MediaType.{MediaType}
 use Rattle.str0m_sdp.specs.declared.attribute.media_type.MediaType.TheVariants.{Audio, Video}
+use Rattle.str0m_sdp.specs.declared.section.media_line.MediaLine.{MediaLine}
 use Rattle.str0m_sdp.specs.declared.session.Sdp.{Sdp}
 use Rattle.str0m_signal.specs.session.Locked.{locked_of_kind}
+use Rattle.str0m_values.specs.declared.media_kind.MediaKind.TheVariants as kind
 
 -- of a section's type: those of its kind that are locked; none where it carries no media
 abbrev pub of_type : MediaType → List PayloadParams → List PayloadParams

@@ -1,12 +1,12 @@
 -- What negotiating with a later offer comes to.
-use Rattle.std.specs.Prelude.{◌≡◌, ◌<◌, ℕ, Result, Ok, Err, Option, Some, None, List, MatchOption}
 use Rattle.std.specs.List.{slice_get}
-use Rattle.str0m_formats.specs.round.RoundsRuns.{Outcome}
+use Rattle.std.specs.Prelude.{◌≡◌, ◌<◌, ℕ, Result, Ok, Err, Option, Some, None, List, MatchOption}
 use Rattle.str0m_formats.specs.declared.round.negotiation_error.NegotiationError.{NegotiationError}
 use Rattle.str0m_formats.specs.declared.row.payload_params.PayloadParams.{PayloadParams}
-use Rattle.str0m_signal.specs.session.ReaderAnswers.{Refuses}
+use Rattle.str0m_formats.specs.round.RoundsRuns.{Outcome}
 use Rattle.str0m_signal.specs.session.Negotiation.{NegotiatedText}
 use Rattle.str0m_signal.specs.session.Reader.{Described}
+use Rattle.str0m_signal.specs.session.ReaderAnswers.{Refuses}
 use Rattle.uses.specs.declared.call_error.CallError.{CallError}
 use Rattle.uses.specs.declared.call_error.CallError.TheVariants.{NotRead, Refused, Memory}
 

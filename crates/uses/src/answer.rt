@@ -1,18 +1,18 @@
 //! An offer that is answered.
 
-ghost use Rattle.std.specs.Prelude.{◌≡◌, ◌≢◌, ◌<◌, [], IfErr, IfOk, IfSome, List, None, Some, length, slice_set};
 ghost use Rattle.std.specs.List.{slice_get};
+ghost use Rattle.std.specs.Prelude.{◌≡◌, ◌≢◌, ◌<◌, [], IfErr, IfOk, IfSome, List, None, Some, length, slice_set};
 ghost use Rattle.std.specs.String.{string_bytes};
+ghost use Rattle.str0m_formats.specs.round.RoundsRuns.{Outcome};
+ghost use Rattle.str0m_sdp.specs.declared.section.media_line.MediaLine.{MediaLine};
+ghost use Rattle.str0m_sdp.specs.declared.session.error.SdpError.TheVariants.{Memory};
 ghost use Rattle.str0m_sdp.specs.section.MadeSection.{made};
 ghost use Rattle.str0m_sdp.specs.session.Session.{sdp_text};
-ghost use Rattle.str0m_sdp.specs.declared.session.error.SdpError.TheVariants.{Memory};
-ghost use Rattle.str0m_sdp.specs.declared.section.media_line.MediaLine.{MediaLine};
-ghost use Rattle.str0m_formats.specs.round.RoundsRuns.{Outcome};
-ghost use Rattle.str0m_signal.specs.session.ReaderAnswers.{Refuses};
-ghost use Rattle.str0m_signal.specs.session.Negotiation.{NegotiatedText};
 ghost use Rattle.str0m_signal.specs.back.ReadBack.{MayBePrinted, ReadsBack, with_rows};
-ghost use Rattle.str0m_signal.specs.session.Reader.{Described};
 ghost use Rattle.str0m_signal.specs.back.Writable.{Writable};
+ghost use Rattle.str0m_signal.specs.session.Negotiation.{NegotiatedText};
+ghost use Rattle.str0m_signal.specs.session.Reader.{Described};
+ghost use Rattle.str0m_signal.specs.session.ReaderAnswers.{Refuses};
 ghost use Rattle.uses.specs.Answer.{agreed, of_type};
 
 use std::alloc::AllocError;

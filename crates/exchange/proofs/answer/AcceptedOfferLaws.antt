@@ -1,44 +1,44 @@
 -- The tracks of an answer are pairwise different, where the names of the sections are.
-use Rattle.std.proofs.Common.{arith, ◌≡◌, ◌≢◌, ◌++◌, inl, inr, ℕ, Bool, true, false, cond, not, List, [], ◌∷◌, Option, Some, None, IfSome, All, filter, filter_map, find, map, option_to_list, refl, subst, sym, ap, ◌∙◌, append-nil}
-use Rattle.std.specs.List.{AllZip, cons_option, flat_map, list_any}
-use Rattle.std.specs.Prelude.{◌&&◌, ◌⊎◌, bytes_eq, codes}
-use Rattle.std.proofs.lemmas.List.{append_cancel_left}
-use Rattle.std.proofs.lemmas.List.Elements.{All-append, All-cons, All-head, All-nil, All-tail, filter_map-append}
-use Rattle.std.proofs.lemmas.List.Kept.{AllPairs-cons}
-use Rattle.str0m_values.specs.Direction.{receives}
-use Rattle.str0m_values.specs.declared.candidate.Candidate.{Candidate}
-use Rattle.str0m_values.specs.declared.direction.Direction.{Direction}
-use Rattle.str0m_values.specs.declared.direction.Direction.TheVariants as way
-use Rattle.str0m_formats.specs.declared.format.format_param.FormatParam.{FormatParam}
-use Rattle.str0m_formats.specs.declared.row.payload_params.PayloadParams.{PayloadParams}
-use Rattle.str0m_sdp.specs.attribute.Attribute.{direction_attribute}
-use Rattle.str0m_sdp.specs.section.Consistency.{is_mid, maps}
-use Rattle.str0m_sdp.specs.section.RowAttributes.{feedback_attrs, feedback_line, fmtp_line, format_attrs, format_values, red_attrs, red_lines, row_attrs, rtx_attrs, rtx_lines}
-use Rattle.str0m_sdp.specs.section.MadeSection.{is_of_type, made}
-use Rattle.str0m_sdp.specs.session.SessionConsistency.{AreDistinct, section_mids}
-use Rattle.str0m_sdp.specs.declared.attribute.MediaAttribute.{MediaAttribute}
-use Rattle.str0m_sdp.specs.declared.attribute.MediaAttribute.TheVariants as media
-use Rattle.str0m_sdp.specs.declared.label.TheConstants.{EXTMAP_ALLOW_MIXED, FIR, NACK, PLI, REMB, TRANSPORT_CC}
-use Rattle.str0m_sdp.specs.declared.section.media_line.MediaLine.{MediaLine}
-use Rattle.str0m_sdp.specs.declared.attribute.proto.Proto.{Proto}
-use Rattle.str0m_sdp.specs.declared.attribute.proto.Proto.TheVariants.{Srtp, Sctp}
-use Rattle.str0m_sdp.specs.declared.session.Sdp.{Sdp}
-use Rattle.str0m_sdp.specs.declared.attribute.setup.Setup.{Setup}
-use Rattle.str0m_sdp.specs.declared.attribute.simulcast.SimulcastLayer.{SimulcastLayer}
 use Rattle.exchange.proofs.offer.OfferNameLaws.{Differ, Other, differ_from}
 use Rattle.exchange.proofs.offer.RuleLaws.{sections_shape}
 use Rattle.exchange.specs.answer.Accepted.{are_layers_told, candidate_line, channel_lines, first_lines, framed, layer_lines, media_lines, msid_lines, track_id}
+use Rattle.exchange.specs.answer.AcceptedOffer.{section_tracks, track_of}
 use Rattle.exchange.specs.answer.AnsweredSection.{AnswersSection, SaysChoice}
 use Rattle.exchange.specs.answer.Layers.{answered_layers, answered_rid, answered_rids, is_left, is_named, layers_line, received_layers, sent_layers, types_left}
 use Rattle.exchange.specs.answer.RejectedSection.{direction_over, first_type, line_that, rejecting}
-use Rattle.exchange.specs.section.RepeatedLines.{is_repeated, repeated_lines}
-use Rattle.exchange.specs.offer.Rules.{HasShapeOf}
-use Rattle.exchange.specs.section.Stopped.{name_of}
-use Rattle.exchange.specs.answer.AcceptedOffer.{section_tracks, track_of}
 use Rattle.exchange.specs.declared.answer.choice.Choice.{Choice}
 use Rattle.exchange.specs.declared.answer.choice.Choice.TheVariants.{Rejected, Media, Channels}
 use Rattle.exchange.specs.declared.state.own_side.DataChannels.{DataChannels}
 use Rattle.exchange.specs.declared.state.own_side.OwnSide.{OwnSide}
+use Rattle.exchange.specs.offer.Rules.{HasShapeOf}
+use Rattle.exchange.specs.section.RepeatedLines.{is_repeated, repeated_lines}
+use Rattle.exchange.specs.section.Stopped.{name_of}
+use Rattle.std.proofs.Common.{arith, ◌≡◌, ◌≢◌, ◌++◌, inl, inr, ℕ, Bool, true, false, cond, not, List, [], ◌∷◌, Option, Some, None, IfSome, All, filter, filter_map, find, map, option_to_list, refl, subst, sym, ap, ◌∙◌, append-nil}
+use Rattle.std.proofs.lemmas.List.{append_cancel_left}
+use Rattle.std.proofs.lemmas.List.Elements.{All-append, All-cons, All-head, All-nil, All-tail, filter_map-append}
+use Rattle.std.proofs.lemmas.List.Kept.{AllPairs-cons}
+use Rattle.std.specs.List.{AllZip, cons_option, flat_map, list_any}
+use Rattle.std.specs.Prelude.{◌&&◌, ◌⊎◌, bytes_eq, codes}
+use Rattle.str0m_formats.specs.declared.format.format_param.FormatParam.{FormatParam}
+use Rattle.str0m_formats.specs.declared.row.payload_params.PayloadParams.{PayloadParams}
+use Rattle.str0m_sdp.specs.attribute.Attribute.{direction_attribute}
+use Rattle.str0m_sdp.specs.declared.attribute.MediaAttribute.{MediaAttribute}
+use Rattle.str0m_sdp.specs.declared.attribute.MediaAttribute.TheVariants as media
+use Rattle.str0m_sdp.specs.declared.attribute.proto.Proto.{Proto}
+use Rattle.str0m_sdp.specs.declared.attribute.proto.Proto.TheVariants.{Srtp, Sctp}
+use Rattle.str0m_sdp.specs.declared.attribute.setup.Setup.{Setup}
+use Rattle.str0m_sdp.specs.declared.attribute.simulcast.SimulcastLayer.{SimulcastLayer}
+use Rattle.str0m_sdp.specs.declared.label.TheConstants.{EXTMAP_ALLOW_MIXED, FIR, NACK, PLI, REMB, TRANSPORT_CC}
+use Rattle.str0m_sdp.specs.declared.section.media_line.MediaLine.{MediaLine}
+use Rattle.str0m_sdp.specs.declared.session.Sdp.{Sdp}
+use Rattle.str0m_sdp.specs.section.Consistency.{is_mid, maps}
+use Rattle.str0m_sdp.specs.section.MadeSection.{is_of_type, made}
+use Rattle.str0m_sdp.specs.section.RowAttributes.{feedback_attrs, feedback_line, fmtp_line, format_attrs, format_values, red_attrs, red_lines, row_attrs, rtx_attrs, rtx_lines}
+use Rattle.str0m_sdp.specs.session.SessionConsistency.{AreDistinct, section_mids}
+use Rattle.str0m_values.specs.Direction.{receives}
+use Rattle.str0m_values.specs.declared.candidate.Candidate.{Candidate}
+use Rattle.str0m_values.specs.declared.direction.Direction.{Direction}
+use Rattle.str0m_values.specs.declared.direction.Direction.TheVariants as way
 
 -- lines that say no track
 abbrev Trackless : List MediaAttribute → Type 0

@@ -4,11 +4,11 @@ use Rattle.std.proofs.lemmas.Bool.{eqb-true, eq-eqb, false≢true}
 use Rattle.std.proofs.lemmas.Bool.Decides.{nat_tests}
 use Rattle.std.proofs.lemmas.Grind.{take_at_read}
 use Rattle.std.proofs.lemmas.List.Elements.{All-cons, All-nil, All-head, All-tail, All-filter, Contains-append_right}
-use Rattle.std.specs.List.{list_any, Contains, cons_option}
 use Rattle.std.proofs.lemmas.List.Folds.{list_any_at}
+use Rattle.std.specs.List.{list_any, Contains, cons_option}
 use Rattle.std.specs.Option.{is_some}
-use Rattle.str0m_formats.specs.round.Claimed.{times, has}
 use Rattle.str0m_formats.proofs.round.ClaimedTimes.{times-cons, times-none, one_if}
+use Rattle.str0m_formats.specs.round.Claimed.{times, has}
 use Rattle.str0m_sdp.proofs.session.DistinctCandidatesLaws.{distinct_push}
 use Rattle.str0m_sdp.specs.Common.{distinct}
 

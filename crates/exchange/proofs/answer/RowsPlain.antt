@@ -1,4 +1,7 @@
 -- A plain row of this side stays plain in an answer, where it keeps the feedback of video.
+use Rattle.exchange.proofs.answer.RowLaws.{all_agreed}
+use Rattle.exchange.proofs.answer.RowsListLaws.{is_some_find}
+use Rattle.exchange.specs.answer.Rows.{IsAgreed, KeepsPlain, agreed_type, answered_rows, as_answered}
 use Rattle.std.proofs.Common.{◌≡◌, ◌&&◌, ◌==◌, ◌||◌, ℕ, Bool, true, false, List, Option, Some, None, All, if◌then◌else◌, find, nat_lt, option_to_list, refl, subst, sym, ap, ◌∙◌}
 use Rattle.std.proofs.lemmas.Bool.{false≢true, or_parts}
 use Rattle.std.proofs.lemmas.List.Elements.{All-contains, All-weaker}
@@ -6,14 +9,11 @@ use Rattle.std.proofs.lemmas.List.Folds.{list_any-append}
 use Rattle.std.specs.List.{list_any}
 use Rattle.std.specs.Option.{is_some}
 use Rattle.str0m_formats.specs.codec.Codec.{content, video}
-use Rattle.str0m_formats.specs.row.PlainRow.{HasPictureFeedback, IsPlain}
-use Rattle.str0m_formats.specs.row.PayloadParams.{AllSmall, types_of}
-use Rattle.str0m_formats.specs.round.Claimed.{has}
 use Rattle.str0m_formats.specs.declared.row.payload_params.PayloadParams.{PayloadParams}
+use Rattle.str0m_formats.specs.round.Claimed.{has}
+use Rattle.str0m_formats.specs.row.PayloadParams.{AllSmall, types_of}
+use Rattle.str0m_formats.specs.row.PlainRow.{HasPictureFeedback, IsPlain}
 use Rattle.str0m_sdp.specs.declared.section.media_line.MediaLine.{MediaLine}
-use Rattle.exchange.specs.answer.Rows.{IsAgreed, KeepsPlain, agreed_type, answered_rows, as_answered}
-use Rattle.exchange.proofs.answer.RowsListLaws.{is_some_find}
-use Rattle.exchange.proofs.answer.RowLaws.{all_agreed}
 
 abbrev is_large : ℕ → Bool
 is_large = nat_lt 127

@@ -1,29 +1,29 @@
 -- An offer of this side leaves the sections of the last exchange in their places, and what is added has names that no section
 -- has had.
-use Rattle.std.proofs.Common.{arith, ◌≡◌, ◌+◌, ◌++◌, ◌||◌, ◌⊎◌, ℕ, suc, zero, Bool, true, false, List, [], ◌∷◌, map, Option, Some, All, inl, inr, subst, sym, ap, ◌∙◌}
-use Rattle.std.proofs.lemmas.Bool.{true≢false}
-use Rattle.std.proofs.lemmas.List.Elements.{All-cons, All-head, All-nil, All-tail}
-use Rattle.std.proofs.lemmas.Option.{get_or_from_slice_get, same_Some, slice_get_within}
-use Rattle.std.specs.List.{slice_get}
-use Rattle.str0m_sdp.specs.session.SessionConsistency.{is_listed, section_mids}
-use Rattle.str0m_sdp.specs.declared.attribute.MediaAttribute.{MediaAttribute}
-use Rattle.str0m_sdp.specs.declared.section.media_line.MediaLine.{MediaLine}
-use Rattle.str0m_sdp.specs.declared.session.Sdp.{Sdp}
-use Rattle.exchange.proofs.state.ExchangeFollowLaws.{listed_more}
 use Rattle.exchange.proofs.offer.OfferRuleLaws.{new_name, next_shape}
 use Rattle.exchange.proofs.offer.RuleLaws.{rejecting_shape}
+use Rattle.exchange.proofs.state.ExchangeFollowLaws.{listed_more}
+use Rattle.exchange.specs.declared.offer.added.Added.{Added}
+use Rattle.exchange.specs.declared.offer.added.Placed.{Placed}
+use Rattle.exchange.specs.declared.state.exchange.Exchange.{Exchange}
+use Rattle.exchange.specs.declared.state.own_side.SectionDirection.{SectionDirection}
 use Rattle.exchange.specs.offer.Added.{placed_under}
 use Rattle.exchange.specs.offer.MadeOffer.{MakesOffer, ready_with, sections_added}
 use Rattle.exchange.specs.offer.OfferPlaces.{FillsPlace, FillsPlaces, but_first, over_section, theirs_at}
 use Rattle.exchange.specs.offer.OfferRules.{IsNewName}
 use Rattle.exchange.specs.offer.OfferSection.{new_section}
 use Rattle.exchange.specs.section.Places.{FollowsPlaces, HasNameAt, IsNew}
-use Rattle.exchange.specs.state.State.{sections_of}
 use Rattle.exchange.specs.section.Stopped.{name_of}
-use Rattle.exchange.specs.declared.offer.added.Added.{Added}
-use Rattle.exchange.specs.declared.offer.added.Placed.{Placed}
-use Rattle.exchange.specs.declared.state.exchange.Exchange.{Exchange}
-use Rattle.exchange.specs.declared.state.own_side.SectionDirection.{SectionDirection}
+use Rattle.exchange.specs.state.State.{sections_of}
+use Rattle.std.proofs.Common.{arith, ◌≡◌, ◌+◌, ◌++◌, ◌||◌, ◌⊎◌, ℕ, suc, zero, Bool, true, false, List, [], ◌∷◌, map, Option, Some, All, inl, inr, subst, sym, ap, ◌∙◌}
+use Rattle.std.proofs.lemmas.Bool.{true≢false}
+use Rattle.std.proofs.lemmas.List.Elements.{All-cons, All-head, All-nil, All-tail}
+use Rattle.std.proofs.lemmas.Option.{get_or_from_slice_get, same_Some, slice_get_within}
+use Rattle.std.specs.List.{slice_get}
+use Rattle.str0m_sdp.specs.declared.attribute.MediaAttribute.{MediaAttribute}
+use Rattle.str0m_sdp.specs.declared.section.media_line.MediaLine.{MediaLine}
+use Rattle.str0m_sdp.specs.declared.session.Sdp.{Sdp}
+use Rattle.str0m_sdp.specs.session.SessionConsistency.{is_listed, section_mids}
 
 -- ---- names that are new
 

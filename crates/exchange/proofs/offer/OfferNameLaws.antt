@@ -1,28 +1,28 @@
 -- The names of an offer's sections are pairwise different.
+use Rattle.exchange.proofs.offer.OfferRuleLaws.{all_named, new_name, next_shape}
+use Rattle.exchange.proofs.offer.RuleLaws.{rejecting_shape}
+use Rattle.exchange.proofs.section.PlaceLaws.{places_hold}
+use Rattle.exchange.specs.answer.RejectedSection.{rejecting}
+use Rattle.exchange.specs.declared.offer.added.Added.{Added}
+use Rattle.exchange.specs.declared.state.exchange.Exchange.{Exchange}
+use Rattle.exchange.specs.declared.state.own_side.SectionDirection.{SectionDirection}
+use Rattle.exchange.specs.offer.Added.{placed_under}
+use Rattle.exchange.specs.offer.MadeOffer.{MakesOffer, ready_with, sections_added}
+use Rattle.exchange.specs.offer.OfferPlaces.{FillsPlace, FillsPlaces, theirs_at}
+use Rattle.exchange.specs.offer.OfferRules.{IsNewName}
+use Rattle.exchange.specs.offer.OfferSection.{new_section, next_section}
+use Rattle.exchange.specs.section.Stopped.{name_of}
+use Rattle.exchange.specs.state.State.{sections_of}
 use Rattle.std.proofs.Common.{arith, ◌≡◌, ◌≢◌, ◌+◌, ◌++◌, inl, inr, ℕ, suc, false, List, [], ◌∷◌, Option, Some, None, IfSome, MatchOption, All, bytes_eq, map, subst, sym, ap, ◌∙◌}
 use Rattle.std.proofs.lemmas.Bool.{or_parts, true≢false}
 use Rattle.std.proofs.lemmas.List.Elements.{All-cons, All-head, All-nil, All-tail, All-weaker}
 use Rattle.std.proofs.lemmas.List.Kept.{AllPairs-cons}
 use Rattle.std.proofs.lemmas.Slice.Eq.{bytes_eq-Decides}
 use Rattle.std.specs.List.{cons_option}
-use Rattle.str0m_sdp.specs.session.SessionConsistency.{AreDistinct, is_listed, section_mids}
 use Rattle.str0m_sdp.specs.declared.attribute.MediaAttribute.{MediaAttribute}
 use Rattle.str0m_sdp.specs.declared.section.media_line.MediaLine.{MediaLine}
 use Rattle.str0m_sdp.specs.declared.session.Sdp.{Sdp}
-use Rattle.exchange.proofs.offer.OfferRuleLaws.{all_named, new_name, next_shape}
-use Rattle.exchange.proofs.section.PlaceLaws.{places_hold}
-use Rattle.exchange.proofs.offer.RuleLaws.{rejecting_shape}
-use Rattle.exchange.specs.offer.Added.{placed_under}
-use Rattle.exchange.specs.offer.MadeOffer.{MakesOffer, ready_with, sections_added}
-use Rattle.exchange.specs.offer.OfferPlaces.{FillsPlace, FillsPlaces, theirs_at}
-use Rattle.exchange.specs.offer.OfferRules.{IsNewName}
-use Rattle.exchange.specs.offer.OfferSection.{new_section, next_section}
-use Rattle.exchange.specs.answer.RejectedSection.{rejecting}
-use Rattle.exchange.specs.state.State.{sections_of}
-use Rattle.exchange.specs.section.Stopped.{name_of}
-use Rattle.exchange.specs.declared.offer.added.Added.{Added}
-use Rattle.exchange.specs.declared.state.exchange.Exchange.{Exchange}
-use Rattle.exchange.specs.declared.state.own_side.SectionDirection.{SectionDirection}
+use Rattle.str0m_sdp.specs.session.SessionConsistency.{AreDistinct, is_listed, section_mids}
 
 -- ---- sections whose names differ
 

@@ -1,39 +1,39 @@
 -- An offer of this side keeps its rules.
-use Rattle.std.proofs.Common.{◌≡◌, ◌+◌, ◌++◌, inl, inr, ℕ, true, false, List, [], ◌∷◌, Option, Some, None, MatchOption, All, map, refl, subst, sym, ◌∙◌}
-use Rattle.std.specs.List.{flat_map}
-use Rattle.std.proofs.lemmas.List.Elements.{All-cons, All-head, All-nil, All-tail}
-use Rattle.str0m_values.specs.declared.media_kind.MediaKind.{MediaKind}
-use Rattle.str0m_values.specs.declared.media_kind.MediaKind.TheVariants as kind
-use Rattle.str0m_formats.specs.row.KindRows.{kind_rows}
-use Rattle.str0m_sdp.specs.section.RowAttributes.{row_attrs}
-use Rattle.str0m_sdp.specs.declared.attribute.MediaAttribute.{MediaAttribute}
-use Rattle.str0m_sdp.specs.declared.attribute.MediaAttribute.TheVariants as media
-use Rattle.str0m_sdp.specs.declared.section.media_line.MediaLine.{MediaLine}
-use Rattle.str0m_sdp.specs.declared.attribute.media_type.MediaType.{MediaType}
-use Rattle.str0m_sdp.specs.declared.attribute.media_type.MediaType.TheVariants.{Audio, Video, Application, Unknown}
-use Rattle.str0m_sdp.specs.declared.attribute.proto.Proto.{Proto}
-use Rattle.str0m_sdp.specs.declared.attribute.proto.Proto.TheVariants.{Srtp, Sctp}
-use Rattle.str0m_sdp.specs.declared.session.Sdp.{Sdp}
-use Rattle.str0m_sdp.specs.declared.attribute.setup.Setup.TheVariants.{ActPass}
-use Rattle.exchange.proofs.section.PlaceLaws.{places_hold}
 use Rattle.exchange.proofs.offer.RuleLaws.{direction_said, rejecting_shape}
+use Rattle.exchange.proofs.section.PlaceLaws.{places_hold}
 use Rattle.exchange.specs.answer.Accepted.{candidate_line, msid_lines}
-use Rattle.exchange.specs.offer.Added.{placed_under}
-use Rattle.exchange.specs.offer.MadeOffer.{MakesOffer, ready_with, sections_added}
-use Rattle.exchange.specs.offer.OfferPlaces.{FillsPlace, FillsPlaces, theirs_at}
-use Rattle.exchange.specs.offer.OfferRules.{HasNewName, IsNewName, IsOffered, KeepsOffered, KeepsPlace, KeepsPlaces}
-use Rattle.exchange.specs.offer.OfferSection.{asked_lines, kept_lines, new_section, next_section, offered_channels, offered_media, section_by, section_for, section_with}
-use Rattle.exchange.specs.state.OwnSide.{direction_among}
 use Rattle.exchange.specs.answer.RejectedSection.{rejecting}
-use Rattle.exchange.specs.offer.Rules.{HasShapeOf}
-use Rattle.exchange.specs.state.State.{sections_of}
-use Rattle.exchange.specs.section.Stopped.{name_of}
 use Rattle.exchange.specs.declared.offer.added.Added.{Added}
 use Rattle.exchange.specs.declared.offer.added.Added.TheVariants as added
 use Rattle.exchange.specs.declared.offer.added.Placed.{Placed}
 use Rattle.exchange.specs.declared.state.exchange.Exchange.{Exchange}
 use Rattle.exchange.specs.declared.state.own_side.DataChannels.{DataChannels}
 use Rattle.exchange.specs.declared.state.own_side.SectionDirection.{SectionDirection}
+use Rattle.exchange.specs.offer.Added.{placed_under}
+use Rattle.exchange.specs.offer.MadeOffer.{MakesOffer, ready_with, sections_added}
+use Rattle.exchange.specs.offer.OfferPlaces.{FillsPlace, FillsPlaces, theirs_at}
+use Rattle.exchange.specs.offer.OfferRules.{HasNewName, IsNewName, IsOffered, KeepsOffered, KeepsPlace, KeepsPlaces}
+use Rattle.exchange.specs.offer.OfferSection.{asked_lines, kept_lines, new_section, next_section, offered_channels, offered_media, section_by, section_for, section_with}
+use Rattle.exchange.specs.offer.Rules.{HasShapeOf}
+use Rattle.exchange.specs.section.Stopped.{name_of}
+use Rattle.exchange.specs.state.OwnSide.{direction_among}
+use Rattle.exchange.specs.state.State.{sections_of}
+use Rattle.std.proofs.Common.{◌≡◌, ◌+◌, ◌++◌, inl, inr, ℕ, true, false, List, [], ◌∷◌, Option, Some, None, MatchOption, All, map, refl, subst, sym, ◌∙◌}
+use Rattle.std.proofs.lemmas.List.Elements.{All-cons, All-head, All-nil, All-tail}
+use Rattle.std.specs.List.{flat_map}
+use Rattle.str0m_formats.specs.row.KindRows.{kind_rows}
+use Rattle.str0m_sdp.specs.declared.attribute.MediaAttribute.{MediaAttribute}
+use Rattle.str0m_sdp.specs.declared.attribute.MediaAttribute.TheVariants as media
+use Rattle.str0m_sdp.specs.declared.attribute.media_type.MediaType.{MediaType}
+use Rattle.str0m_sdp.specs.declared.attribute.media_type.MediaType.TheVariants.{Audio, Video, Application, Unknown}
+use Rattle.str0m_sdp.specs.declared.attribute.proto.Proto.{Proto}
+use Rattle.str0m_sdp.specs.declared.attribute.proto.Proto.TheVariants.{Srtp, Sctp}
+use Rattle.str0m_sdp.specs.declared.attribute.setup.Setup.TheVariants.{ActPass}
+use Rattle.str0m_sdp.specs.declared.section.media_line.MediaLine.{MediaLine}
+use Rattle.str0m_sdp.specs.declared.session.Sdp.{Sdp}
+use Rattle.str0m_sdp.specs.section.RowAttributes.{row_attrs}
+use Rattle.str0m_values.specs.declared.media_kind.MediaKind.{MediaKind}
+use Rattle.str0m_values.specs.declared.media_kind.MediaKind.TheVariants as kind
 
 -- ---- shapes and names
 

@@ -1,12 +1,9 @@
 -- When two values of a description are equal, by the derived `==`.
-use Rattle.std.specs.Prelude.{◌≡◌, ℕ, List, Option}
 use Rattle.std.specs.Bool.{Decides}
 use Rattle.std.specs.Cmp.Lexicographic.{pointwise}
 use Rattle.std.specs.Option.{option_eq}
+use Rattle.std.specs.Prelude.{◌≡◌, ℕ, List, Option}
 use Rattle.str0m_formats.proofs.format.FormatParamsDerived.{Equality, along, equality}
-use Rattle.str0m_values.specs.contracts.ice_creds.IceCredsPartialEq.TheImpl as creds_eq
-use Rattle.str0m_values.specs.declared.ice_creds.IceCreds.{IceCreds}
-use Rattle.str0m_values.specs.contracts.payload_type.PtPartialEq.TheImpl as pt_eq
 use Rattle.str0m_sdp.proofs.attribute.AttributeEqual.{session_Decides as attribute_Decides}
 use Rattle.str0m_sdp.specs.contracts.attribute.SessionAttributePartialEq.TheImpl as attribute_eq
 use Rattle.str0m_sdp.specs.contracts.attribute.bandwidth.BandwidthPartialEq.TheImpl as bandwidth_eq
@@ -17,6 +14,9 @@ use Rattle.str0m_sdp.specs.declared.attribute.SessionAttribute.{SessionAttribute
 use Rattle.str0m_sdp.specs.declared.attribute.bandwidth.Bandwidth.{Bandwidth}
 use Rattle.str0m_sdp.specs.declared.attribute.media_type.MediaType.{MediaType}
 use Rattle.str0m_sdp.specs.declared.session.Session.{Session}
+use Rattle.str0m_values.specs.contracts.ice_creds.IceCredsPartialEq.TheImpl as creds_eq
+use Rattle.str0m_values.specs.contracts.payload_type.PtPartialEq.TheImpl as pt_eq
+use Rattle.str0m_values.specs.declared.ice_creds.IceCreds.{IceCreds}
 
 abbrev types : Equality (List ℕ)
 types = hlevel equality

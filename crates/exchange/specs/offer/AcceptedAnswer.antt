@@ -1,18 +1,18 @@
 -- Answers to an offer of this side.
+use Rattle.exchange.specs.answer.Offered.{Negotiates, RefusesText}
+use Rattle.exchange.specs.declared.offer.added.Placed.{Placed}
+use Rattle.exchange.specs.declared.offer.pending.Pending.{Pending}
+use Rattle.exchange.specs.declared.offer.rule.Rule.{Rule}
+use Rattle.exchange.specs.declared.state.exchange.Exchange.{Exchange}
+use Rattle.exchange.specs.declared.state.exchange_error.ExchangeError.{ExchangeError}
+use Rattle.exchange.specs.declared.state.exchange_error.ExchangeError.TheVariants.{NotRead, Unread, WrongState, DoesNotFit, NoRows, NoChannels, NoName, NotPrintable, Memory}
+use Rattle.exchange.specs.declared.state.signaling_state.SignalingState.TheVariants.{Stable}
+use Rattle.exchange.specs.offer.Fits.{Breaks}
+use Rattle.exchange.specs.state.State.{pending_sdp}
 use Rattle.std.specs.Prelude.{◌≡◌, ℕ, List, [], Option, Some, None}
 use Rattle.str0m_formats.specs.declared.row.payload_params.PayloadParams.{PayloadParams}
 use Rattle.str0m_sdp.specs.declared.session.Sdp.{Sdp}
 use Rattle.str0m_signal.specs.session.Reader.{Reading}
-use Rattle.exchange.specs.offer.Fits.{Breaks}
-use Rattle.exchange.specs.answer.Offered.{Negotiates, RefusesText}
-use Rattle.exchange.specs.state.State.{pending_sdp}
-use Rattle.exchange.specs.declared.offer.added.Placed.{Placed}
-use Rattle.exchange.specs.declared.state.exchange.Exchange.{Exchange}
-use Rattle.exchange.specs.declared.state.exchange_error.ExchangeError.{ExchangeError}
-use Rattle.exchange.specs.declared.state.exchange_error.ExchangeError.TheVariants.{NotRead, Unread, WrongState, DoesNotFit, NoRows, NoChannels, NoName, NotPrintable, Memory}
-use Rattle.exchange.specs.declared.offer.pending.Pending.{Pending}
-use Rattle.exchange.specs.declared.offer.rule.Rule.{Rule}
-use Rattle.exchange.specs.declared.state.signaling_state.SignalingState.TheVariants.{Stable}
 
 -- the text is this description, and nothing follows it
 abbrev pub IsAnswer : List ℕ → Sdp → Type 0

@@ -1,6 +1,6 @@
 -- Sections that say how their transport is reached, or for which the session says so.
-use Rattle.std.specs.Prelude.{◌||◌, ◌&&◌, Bool, true, false}
 use Rattle.std.specs.List.{list_any}
+use Rattle.std.specs.Prelude.{◌||◌, ◌&&◌, Bool, true, false}
 use Rattle.str0m_sdp.specs.declared.attribute.MediaAttribute.{MediaAttribute}
 use Rattle.str0m_sdp.specs.declared.attribute.MediaAttribute.TheVariants as media
 use Rattle.str0m_sdp.specs.declared.attribute.SessionAttribute.{SessionAttribute}

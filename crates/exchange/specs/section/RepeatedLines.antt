@@ -1,6 +1,6 @@
 -- The lines that an answer says only where the offer does.
-use Rattle.std.specs.Prelude.{ℕ, Bool, true, false, List, bytes_eq, filter}
 use Rattle.std.specs.List.{list_any}
+use Rattle.std.specs.Prelude.{ℕ, Bool, true, false, List, bytes_eq, filter}
 use Rattle.str0m_sdp.specs.declared.attribute.MediaAttribute.{MediaAttribute}
 use Rattle.str0m_sdp.specs.declared.attribute.MediaAttribute.TheVariants.{RtcpMux, RtcpRsize, ExtMap, Unused}
 use Rattle.str0m_sdp.specs.declared.label.TheConstants.{EXTMAP_ALLOW_MIXED}

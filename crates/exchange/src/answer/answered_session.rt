@@ -1,7 +1,7 @@
 //! What an answer says of the session as a whole.
-ghost use Rattle.std.specs.Prelude.{◌≡◌, IfOk, map};
-ghost use Rattle.std.specs.List.{list_any};
 ghost use Rattle.exchange.specs.answer.AnsweredSession.{allows_mixed, answered_session, group_lines, is_accepted, mixed_lines};
+ghost use Rattle.std.specs.List.{list_any};
+ghost use Rattle.std.specs.Prelude.{◌≡◌, IfOk, map};
 
 use crate::answer::bundle::answered_bundle;
 use crate::state::own_side::OwnSide;

@@ -1,8 +1,8 @@
 //! What the sections of a bundle share, looked for once.
-ghost use Rattle.std.specs.Prelude.{◌≡◌, IfOk};
 ghost use Rattle.exchange.specs.answer.Bundled.{IsBundledBy};
 ghost use Rattle.exchange.specs.answer.InBundle.{is_so_for, is_so_of, tagged};
 ghost use Rattle.exchange.specs.section.Reached.{has_creds, has_fingerprint};
+ghost use Rattle.std.specs.Prelude.{◌≡◌, IfOk};
 
 use crate::answer::in_bundle::{bundle_names, tagged};
 use crate::offer::names::{is_held, ordered};

@@ -1,8 +1,8 @@
 //! Layers of an answer beside those of its offer.
-ghost use Rattle.std.specs.Prelude.{◌≡◌, ◌↔◌, IfOk, IsTrue, All, true};
-ghost use Rattle.std.specs.List.{list_any};
 ghost use Rattle.exchange.specs.answer.Layers.{is_named};
 ghost use Rattle.exchange.specs.answer.TurnedLayers.{AreAmong, TurnsLayers, are_opposite, is_opposite, is_turned, layers_received};
+ghost use Rattle.std.specs.List.{list_any};
+ghost use Rattle.std.specs.Prelude.{◌≡◌, ◌↔◌, IfOk, IsTrue, All, true};
 
 use crate::answer::layers::{is_sent, sent_layers};
 use std::alloc::{AllocError, Global};

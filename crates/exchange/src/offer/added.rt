@@ -1,6 +1,6 @@
 //! What is added to a session, and where an offer places it.
-ghost use Rattle.std.specs.Prelude.{◌≡◌, IfOk};
 ghost use Rattle.exchange.specs.offer.Added.{direction_of, placed_under, with_placed};
+ghost use Rattle.std.specs.Prelude.{◌≡◌, IfOk};
 
 use crate::state::own_side::SectionDirection;
 use std::alloc::{AllocError, Global};

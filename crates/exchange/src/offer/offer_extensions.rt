@@ -1,6 +1,6 @@
 //! The header extensions of a section that an offer adds.
-ghost use Rattle.std.specs.Prelude.{◌≡◌, ◌++◌, IfOk, OnOk, option_map, option_to_list};
 ghost use Rattle.exchange.specs.offer.OfferExtensions.{behind, extension_line, extension_lines, greatest_in, greatest_of, next_number, number_at, number_for, number_in, number_of, number_or};
+ghost use Rattle.std.specs.Prelude.{◌≡◌, ◌++◌, IfOk, OnOk, option_map, option_to_list};
 
 use std::alloc::{AllocError, Global};
 use str0m_signal::{Extension, MediaAttribute, MediaLine, Text};

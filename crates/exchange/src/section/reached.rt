@@ -1,7 +1,7 @@
 //! Sections that say how their transport is reached, or for which the session says so.
-ghost use Rattle.std.specs.Prelude.{◌≡◌};
-ghost use Rattle.std.specs.List.{list_any};
 ghost use Rattle.exchange.specs.section.Reached.{has_creds, has_fingerprint, has_pwd, has_ufrag, is_fingerprint, is_pwd, is_session_fingerprint, is_session_pwd, is_session_ufrag, is_ufrag};
+ghost use Rattle.std.specs.List.{list_any};
+ghost use Rattle.std.specs.Prelude.{◌≡◌};
 
 use str0m_signal::{MediaAttribute, MediaLine, Session, SessionAttribute};
 

@@ -1,7 +1,7 @@
 //! The lines that an answer says only where the offer does.
-ghost use Rattle.std.specs.Prelude.{◌≡◌, IfOk, bytes_eq};
-ghost use Rattle.std.specs.List.{list_any};
 ghost use Rattle.exchange.specs.section.RepeatedLines.{is_repeated, repeated_lines};
+ghost use Rattle.std.specs.List.{list_any};
+ghost use Rattle.std.specs.Prelude.{◌≡◌, IfOk, bytes_eq};
 
 use std::alloc::{AllocError, Global};
 use str0m_sdp::label::EXTMAP_ALLOW_MIXED;

@@ -1,7 +1,7 @@
 //! Whether a description restarts ICE.
 
-ghost use Rattle.std.specs.Prelude.{◌≡◌, ◌↔◌, IfOk, IsTrue};
 ghost use Rattle.exchange.specs.section.Restart.{IsIceRestart, IsRestartedAt};
+ghost use Rattle.std.specs.Prelude.{◌≡◌, ◌↔◌, IfOk, IsTrue};
 
 use crate::answer::in_force::creds_at;
 use std::alloc::AllocError;

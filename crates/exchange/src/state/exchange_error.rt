@@ -1,7 +1,7 @@
 //! Why a call of an exchange is refused.
-ghost use Rattle.std.specs.Prelude.{◌≡◌};
-ghost use Rattle.exchange.specs.state.ExchangeError.{not_read};
 ghost use Rattle.exchange.specs.declared.state.exchange_error.ExchangeError.TheVariants.{Memory};
+ghost use Rattle.exchange.specs.state.ExchangeError.{not_read};
+ghost use Rattle.std.specs.Prelude.{◌≡◌};
 
 use crate::offer::rule::Rule;
 use crate::state::signaling_state::SignalingState;

@@ -1,6 +1,6 @@
 //! Where an exchange of offers and answers stands.
-ghost use Rattle.std.specs.Prelude.{Some};
 ghost use Rattle.exchange.specs.state.SignalingState.{state_text};
+ghost use Rattle.std.specs.Prelude.{Some};
 
 use std::fmt;
 

@@ -1,11 +1,11 @@
 -- The codec of a name is the one that its text reads as.
 use Rattle.str0m_formats.proofs.Common.{rules, arith, ◌≡◌, ◌≢◌, ℕ, Bool, true, false, ◌⊎◌, List, map, Some, ap, ◌∙◌, unwrap_or, to_ascii_lowercase, bytes_eq, str_eq_ignore_ascii_case, bytes_eq-Decides}
-use Rattle.str0m_formats.specs.declared.codec.TheConstants.{NAMED}
+use Rattle.str0m_formats.proofs.codec.CodecLookup.{find_passes, if_some_map, row_at}
+use Rattle.str0m_formats.specs.codec.Codec.{codec_text, codec_of, printed_and_read, IsSameText, IsReadAs}
 use Rattle.str0m_formats.specs.declared.codec.Codec.{Codec}
 use Rattle.str0m_formats.specs.declared.codec.Codec.TheVariants.{Null, Unknown}
-use Rattle.str0m_formats.specs.codec.Codec.{codec_text, codec_of, printed_and_read, IsSameText, IsReadAs}
+use Rattle.str0m_formats.specs.declared.codec.TheConstants.{NAMED}
 use Rattle.str0m_values.specs.Words.{case_of}
-use Rattle.str0m_formats.proofs.codec.CodecLookup.{find_passes, if_some_map, row_at}
 
 -- the test of two texts says whether they are the same
 pub same_text : (s t : List ℕ) → str_eq_ignore_ascii_case s t ≡ true → IsSameText s t

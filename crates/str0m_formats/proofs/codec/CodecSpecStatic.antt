@@ -1,13 +1,13 @@
 -- What a payload type stands for without a mapping is found in the table of codecs.
 use Rattle.str0m_formats.proofs.Common.{arith, ◌≡◌, ◌≤◌, ◌↔◌, ℕ, leb, Bool, true, false, Option, Some, None, is_some, option_map, refl, sym, ap, ◌∙◌, leb-true, false≢true, IsTheOnly, bind_some, only_read, reads_none, Reads}
-use Rattle.str0m_values.proofs.LabelLaws.{bind_is}
-use Rattle.str0m_values.proofs.WordsOfCases.{found_passes}
 use Rattle.str0m_formats.specs.codec.Codec.{static_row}
 use Rattle.str0m_formats.specs.codec.CodecSpec.{IsStatic, plain, is_at, static_codec, static_spec}
-use Rattle.str0m_formats.specs.round.MatchScore.{same_codec}
 use Rattle.str0m_formats.specs.declared.codec.Codec.{Codec}
 use Rattle.str0m_formats.specs.declared.codec.TheConstants.{NAMED}
 use Rattle.str0m_formats.specs.declared.codec.codec_spec.CodecSpec.{CodecSpec}
+use Rattle.str0m_formats.specs.round.MatchScore.{same_codec}
+use Rattle.str0m_values.proofs.LabelLaws.{bind_is}
+use Rattle.str0m_values.proofs.WordsOfCases.{found_passes}
 
 abbrev is_it : Codec → Option Codec → Bool
 is_it codec None = false

@@ -1,15 +1,15 @@
 -- Parameters of the table of keys, as they print and are read again.
 use Rattle.str0m_formats.proofs.Common.{◌≡◌, ◌⊎◌, ℕ, Bool, false, List, [], ◌∷◌, length, map, filter, nat_lt, Option, Some, None, MatchOption, refl, arith, inl, inr, AllByRecursion, str_to_ascii_lowercase, lt-ltb, IsRest}
+use Rattle.str0m_formats.proofs.format.FormatParamAgain.{key_reads, entry_made}
+use Rattle.str0m_formats.proofs.format.FormatParamModeBounds.{modes_within}
+use Rattle.str0m_formats.proofs.format.FormatParamsShown.{joined_pair, IsPlainPair, Entry, HasRange, pair_in, pair_plain}
 use Rattle.str0m_formats.specs.declared.format.format_key.FormatKey.{FormatKey}
 use Rattle.str0m_formats.specs.declared.format.format_key.FormatKey.TheVariants as key
 use Rattle.str0m_formats.specs.declared.format.format_param.FormatParam.{FormatParam}
 use Rattle.str0m_formats.specs.format.FormatKey.{key_text}
 use Rattle.str0m_formats.specs.format.FormatParam.{Kind, flag, number, hex, modes, exactly, anything, Held, Reads, kind, made, entry, IsParsed, AreParsed, InRange, param_text}
-use Rattle.str0m_formats.specs.format.Pairs.{is_mark, has_mark}
 use Rattle.str0m_formats.specs.format.FormatParamReading.{param_of}
-use Rattle.str0m_formats.proofs.format.FormatParamModeBounds.{modes_within}
-use Rattle.str0m_formats.proofs.format.FormatParamAgain.{key_reads, entry_made}
-use Rattle.str0m_formats.proofs.format.FormatParamsShown.{joined_pair, IsPlainPair, Entry, HasRange, pair_in, pair_plain}
+use Rattle.str0m_formats.specs.format.Pairs.{is_mark, has_mark}
 
 -- the key and the value that a parameter of the table prints
 abbrev pub entry_pair : Option Entry → List ℕ × List ℕ

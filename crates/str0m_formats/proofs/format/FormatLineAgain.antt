@@ -1,32 +1,32 @@
 -- A format that is printed, and read by its line, is itself.
-use Rattle.str0m_formats.proofs.Common.{rules, ◌≡◌, ◌<◌, ◌≤◌, ◌⊎◌, inl, inr, ℕ, Bool, true, false, cond, List, [], ◌∷◌, ◌++◌, length, drop, map, filter, Option, Some, None, IfSome, Result, option_map, refl, sym, ap, subst, ◌∙◌, arith, codes, decimal, AllByRecursion, AllZip, cons_option, flat_map, join_with_byte, list_all, digits_value, and_parts, false_from_ne_true, decimal_is_IsNumeral, append_assoc, append-nil, map-append, filter_map-append, none-some, IfOk, lacks}
 use Rattle.std.proofs.Common.{filter_map}
-use Rattle.str0m_values.specs.H265.{H265ProfileTierLevel as h265_triple}
-use Rattle.str0m_values.specs.H266.{H266ProfileTierLevel as h266_triple}
-use Rattle.str0m_values.proofs.AddressWords.{lacks_both}
-use Rattle.str0m_values.proofs.CutLaws.{cut_at, cut_none, lacks_true, lacks_from}
+use Rattle.str0m_formats.proofs.Common.{rules, ◌≡◌, ◌<◌, ◌≤◌, ◌⊎◌, inl, inr, ℕ, Bool, true, false, cond, List, [], ◌∷◌, ◌++◌, length, drop, map, filter, Option, Some, None, IfSome, Result, option_map, refl, sym, ap, subst, ◌∙◌, arith, codes, decimal, AllByRecursion, AllZip, cons_option, flat_map, join_with_byte, list_all, digits_value, and_parts, false_from_ne_true, decimal_is_IsNumeral, append_assoc, append-nil, map-append, filter_map-append, none-some, IfOk, lacks}
+use Rattle.str0m_formats.proofs.format.FormatLineLaws.{set_all-append}
+use Rattle.str0m_formats.proofs.format.FormatParamsSet.{filled, are_fresh, set_each}
+use Rattle.str0m_formats.proofs.format.FormatParamsShown.{rows_at, bares_at, joined_pair, pieces_at, IsPlainPair, IsShown, shows, is_single, reads}
+use Rattle.str0m_formats.proofs.format.PairsJoined.{AreFreeOf, slice_split-join}
+use Rattle.str0m_formats.proofs.format.PairsLaws.{pairs_read_only}
+use Rattle.str0m_formats.proofs.format.PairsPlain.{IsPlain, plain_lacks, lacks_free, trim_plain}
+use Rattle.str0m_formats.proofs.format.PairsRows.{Rows, given, given-append, look_given, mark_given, others_given, merged_given}
+use Rattle.str0m_formats.proofs.format.PairsTripleLaws.{h265_again, h266_again}
+use Rattle.str0m_formats.specs.declared.format.format_key.FormatKey.TheVariants as key
+use Rattle.str0m_formats.specs.declared.format.format_key.TheConstants.{PROFILE_ID, TIER_FLAG, LEVEL_ID}
 use Rattle.str0m_formats.specs.declared.format.format_param.FormatParam.{FormatParam}
 use Rattle.str0m_formats.specs.declared.format.format_param.FormatParam.TheVariants.{H265ProfileTierLevel, H266ProfileTierLevel, TelephoneEvents}
 use Rattle.str0m_formats.specs.declared.format.format_params.Field.{Field}
 use Rattle.str0m_formats.specs.declared.format.format_params.Field.TheVariants as field
-use Rattle.str0m_formats.specs.declared.format.format_params.TheConstants.{FIELDS}
-use Rattle.str0m_formats.specs.declared.format.format_key.FormatKey.TheVariants as key
 use Rattle.str0m_formats.specs.declared.format.format_params.FormatParams.{FormatParams}
-use Rattle.str0m_formats.specs.format.FormatParam.{IsBare, param_text}
-use Rattle.str0m_formats.specs.format.FormatParams.{empty, get, set_all, param_at, params_of, params_text, IsWithin, CanBeReadBack}
+use Rattle.str0m_formats.specs.declared.format.format_params.TheConstants.{FIELDS}
 use Rattle.str0m_formats.specs.format.FormatLine.{pieces, pair_in, bare_in, pairs_in, bares_in, IsFormatOfLine}
+use Rattle.str0m_formats.specs.format.FormatParam.{IsBare, param_text}
 use Rattle.str0m_formats.specs.format.FormatParamReading.{param_of}
+use Rattle.str0m_formats.specs.format.FormatParams.{empty, get, set_all, param_at, params_of, params_text, IsWithin, CanBeReadBack}
 use Rattle.str0m_formats.specs.format.Pairs.{has_mark, merged, others, texts_of}
 use Rattle.str0m_formats.specs.format.PairsReading.{triple_read, joined_read, params_read}
-use Rattle.str0m_formats.proofs.format.PairsJoined.{AreFreeOf, slice_split-join}
-use Rattle.str0m_formats.proofs.format.FormatLineLaws.{set_all-append}
-use Rattle.str0m_formats.proofs.format.PairsLaws.{pairs_read_only}
-use Rattle.str0m_formats.proofs.format.PairsPlain.{IsPlain, plain_lacks, lacks_free, trim_plain}
-use Rattle.str0m_formats.proofs.format.PairsRows.{Rows, given, given-append, look_given, mark_given, others_given, merged_given}
-use Rattle.str0m_formats.proofs.format.FormatParamsSet.{filled, are_fresh, set_each}
-use Rattle.str0m_formats.proofs.format.FormatParamsShown.{rows_at, bares_at, joined_pair, pieces_at, IsPlainPair, IsShown, shows, is_single, reads}
-use Rattle.str0m_formats.proofs.format.PairsTripleLaws.{h265_again, h266_again}
-use Rattle.str0m_formats.specs.declared.format.format_key.TheConstants.{PROFILE_ID, TIER_FLAG, LEVEL_ID}
+use Rattle.str0m_values.proofs.AddressWords.{lacks_both}
+use Rattle.str0m_values.proofs.CutLaws.{cut_at, cut_none, lacks_true, lacks_from}
+use Rattle.str0m_values.specs.H265.{H265ProfileTierLevel as h265_triple}
+use Rattle.str0m_values.specs.H266.{H266ProfileTierLevel as h266_triple}
 
 -- ---- lists of fields
 

@@ -1,13 +1,13 @@
 -- What the loops over lines keep.
+use Rattle.indexmap.proofs.SetLemmas.{AllZip-push}
 use Rattle.str0m_formats.proofs.Common.{arith, ◌≡◌, ◌<◌, ◌+◌, ◌||◌, ℕ, Bool, List, [], ◌∷◌, ◌++◌, length, get_or, take, Option, Some, None, refl, sym, ap, subst, ◌∙◌, AllZip, cons_option, list_any, Bor, take_more, append_assoc, append-nil, map-append, filter_map-append}
 use Rattle.str0m_formats.specs.declared.codec.Codec.TheVariants.{AmrWb}
 use Rattle.str0m_formats.specs.declared.format.format_param.FormatParam.{FormatParam}
 use Rattle.str0m_formats.specs.declared.format.format_params.FormatParams.{FormatParams}
-use Rattle.indexmap.proofs.SetLemmas.{AllZip-push}
-use Rattle.str0m_formats.specs.format.FormatParam.{IsBare, pair_texts}
-use Rattle.str0m_formats.specs.format.Pairs.{AreRead}
-use Rattle.str0m_formats.specs.format.FormatParams.{empty, set, set_all}
 use Rattle.str0m_formats.specs.format.FormatLine.{pair_in, bare_in, pairs_in, bares_in, pieces, IsFormatOfBares, IsFormatOfLine, is_unsupported, is_refused, kept, values_of, line_values}
+use Rattle.str0m_formats.specs.format.FormatParam.{IsBare, pair_texts}
+use Rattle.str0m_formats.specs.format.FormatParams.{empty, set, set_all}
+use Rattle.str0m_formats.specs.format.Pairs.{AreRead}
 
 pub set_all-append : (xs ys : List FormatParam) (p : FormatParams) → set_all p (xs ++ ys) ≡ set_all (set_all p xs) ys
 set_all-append [] ys p = refl

@@ -1,24 +1,24 @@
 -- A format that is printed as an fmtp line: its pairs, and what they read as.
-use Rattle.str0m_formats.proofs.Common.{◌≡◌, ◌≢◌, ℕ, false, List, [], ◌∷◌, ◌++◌, length, map, Option, Some, None, IfSome, option_map, inl, inr, refl, sym, arith, ap, subst, ◌∙◌, AllByRecursion, cons_option, list_any, append-nil, map-append, IsRest}
 use Rattle.std.proofs.Common.{filter_map}
-use Rattle.str0m_formats.specs.declared.format.format_param.FormatParam.{FormatParam}
-use Rattle.str0m_formats.specs.declared.format.format_param.FormatParam.TheVariants.{TelephoneEvents, BareRange, BarePtList, AmrWbUnsupported, Apt, Red, Unknown}
-use Rattle.str0m_formats.specs.declared.codec.Codec.{Codec}
-use Rattle.str0m_formats.specs.declared.codec.Codec.TheVariants as codec
-use Rattle.str0m_formats.specs.declared.format.format_params.Field.{Field}
-use Rattle.str0m_formats.specs.declared.format.format_params.Field.TheVariants as field
-use Rattle.str0m_formats.specs.declared.format.format_params.TheConstants.{FIELDS}
-use Rattle.str0m_formats.specs.declared.format.format_params.FormatParams.{FormatParams}
-use Rattle.str0m_formats.specs.declared.format.format_key.FormatKey.{FormatKey}
-use Rattle.str0m_formats.specs.declared.format.format_key.FormatKey.TheVariants as key
-use Rattle.str0m_formats.specs.format.FormatParam.{Held, kind, made, entry, param_text}
-use Rattle.str0m_formats.specs.format.FormatParams.{empty, get, param_in, set_all, param_at, params_of, CanBeReadBack}
-use Rattle.str0m_formats.specs.format.FormatLine.{is_events, is_unsupported, is_refused, kept, values_of, format_of_fmtp}
-use Rattle.str0m_formats.specs.format.PairsReading.{params_read}
+use Rattle.str0m_formats.proofs.Common.{◌≡◌, ◌≢◌, ℕ, false, List, [], ◌∷◌, ◌++◌, length, map, Option, Some, None, IfSome, option_map, inl, inr, refl, sym, arith, ap, subst, ◌∙◌, AllByRecursion, cons_option, list_any, append-nil, map-append, IsRest}
 use Rattle.str0m_formats.proofs.format.FormatLineAgain.{all_pieces, all_pairs, joined, alike, order_of}
 use Rattle.str0m_formats.proofs.format.FormatParamsSet.{param_is, set_each}
 use Rattle.str0m_formats.proofs.format.FormatParamsShown.{joined_pair, rows_at, bares_at, IsPlainPair, entry_at, shows}
 use Rattle.str0m_formats.proofs.format.PairsRows.{given}
+use Rattle.str0m_formats.specs.declared.codec.Codec.{Codec}
+use Rattle.str0m_formats.specs.declared.codec.Codec.TheVariants as codec
+use Rattle.str0m_formats.specs.declared.format.format_key.FormatKey.{FormatKey}
+use Rattle.str0m_formats.specs.declared.format.format_key.FormatKey.TheVariants as key
+use Rattle.str0m_formats.specs.declared.format.format_param.FormatParam.{FormatParam}
+use Rattle.str0m_formats.specs.declared.format.format_param.FormatParam.TheVariants.{TelephoneEvents, BareRange, BarePtList, AmrWbUnsupported, Apt, Red, Unknown}
+use Rattle.str0m_formats.specs.declared.format.format_params.Field.{Field}
+use Rattle.str0m_formats.specs.declared.format.format_params.Field.TheVariants as field
+use Rattle.str0m_formats.specs.declared.format.format_params.FormatParams.{FormatParams}
+use Rattle.str0m_formats.specs.declared.format.format_params.TheConstants.{FIELDS}
+use Rattle.str0m_formats.specs.format.FormatLine.{is_events, is_unsupported, is_refused, kept, values_of, format_of_fmtp}
+use Rattle.str0m_formats.specs.format.FormatParam.{Held, kind, made, entry, param_text}
+use Rattle.str0m_formats.specs.format.FormatParams.{empty, get, param_in, set_all, param_at, params_of, CanBeReadBack}
+use Rattle.str0m_formats.specs.format.PairsReading.{params_read}
 
 -- a parameter of a field: not one that only lines hold, and no range of events
 abbrev pub IsOwn : FormatParam → Type 0

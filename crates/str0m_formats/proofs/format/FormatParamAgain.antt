@@ -1,15 +1,15 @@
 -- What prints reads back.
-use Rattle.str0m_formats.proofs.Common.{◌≡◌, ◌≢◌, ◌≤◌, ◌<◌, ◌^◌, ◌-◌, inl, ℕ, Bool, true, false, List, [], ◌∷◌, ◌++◌, get_or, replicate, refl, sym, ap, ◌∙◌, arith, lit<, decimal, AllDigits, digits_value, decimal_is_IsNumeral, digits_is_IsNumeral, length-append, false≢true, IsNumber, IsNum, IsRest, Option, Some, None, MatchOption, nat_le, inr, ◌==◌, ◌&&◌, and_parts, cases_lt, eqb-true, leb-true, zero, suc, IsNumeral}
-use Rattle.std.specs.Fmt.{digits}
 use Rattle.std.specs.Char.{encode_utf8}
+use Rattle.std.specs.Fmt.{digits}
 use Rattle.std.specs.Str.{trim_end, chars, trim_start}
-use Rattle.str0m_formats.specs.format.FormatKey.{key_text}
+use Rattle.str0m_formats.proofs.Common.{◌≡◌, ◌≢◌, ◌≤◌, ◌<◌, ◌^◌, ◌-◌, inl, ℕ, Bool, true, false, List, [], ◌∷◌, ◌++◌, get_or, replicate, refl, sym, ap, ◌∙◌, arith, lit<, decimal, AllDigits, digits_value, decimal_is_IsNumeral, digits_is_IsNumeral, length-append, false≢true, IsNumber, IsNum, IsRest, Option, Some, None, MatchOption, nat_le, inr, ◌==◌, ◌&&◌, and_parts, cases_lt, eqb-true, leb-true, zero, suc, IsNumeral}
+use Rattle.str0m_formats.proofs.format.FormatParamLaws.{spelled, parsed_only}
+use Rattle.str0m_formats.proofs.format.FormatParamModes.{modes_only}
 use Rattle.str0m_formats.specs.declared.format.format_key.FormatKey.{FormatKey}
 use Rattle.str0m_formats.specs.declared.format.format_param.FormatParam.{FormatParam}
+use Rattle.str0m_formats.specs.format.FormatKey.{key_text}
 use Rattle.str0m_formats.specs.format.FormatParam.{Kind, flag, number, hex, modes, exactly, anything, Held, Reads, kind, made, entry, IsParsed, IsPrinted, InRange, IsModeSet, flag_text, six_digits, mode_list, value_text}
 use Rattle.str0m_formats.specs.format.FormatParamReading.{modes_read, param_of}
-use Rattle.str0m_formats.proofs.format.FormatParamModes.{modes_only}
-use Rattle.str0m_formats.proofs.format.FormatParamLaws.{spelled, parsed_only}
 
 -- a numeral begins with no plus
 no_plus : (radix : ℕ) (ds : List ℕ) → radix ≤ 16 → AllDigits radix ds → get_or ds 0 0 ≢ 43

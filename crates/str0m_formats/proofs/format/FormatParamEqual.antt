@@ -1,10 +1,10 @@
 -- When two parameters are equal: each variant by what it holds, and two variants never.
 use Rattle.str0m_formats.proofs.Common.{◌≡◌, Decides}
+use Rattle.str0m_formats.proofs.format.FormatParamsDerived.{Equality, along, equality}
+use Rattle.str0m_formats.proofs.format.FormatParamsEqual.{h265, h266}
 use Rattle.str0m_formats.specs.contracts.format.format_param.FormatParam as param_type
 use Rattle.str0m_formats.specs.contracts.format.format_param.FormatParamPartialEq.TheImpl as param_eq
 use Rattle.str0m_formats.specs.declared.format.format_param.FormatParam.{FormatParam}
-use Rattle.str0m_formats.proofs.format.FormatParamsDerived.{Equality, along, equality}
-use Rattle.str0m_formats.proofs.format.FormatParamsEqual.{h265, h266}
 
 abbrev param : Equality FormatParam
 param = along param_type.as_values param_type.the_make param_type.the_eta (hlevel (h265, h266, equality))

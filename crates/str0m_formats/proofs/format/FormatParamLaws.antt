@@ -1,17 +1,17 @@
 -- What a key and its value read as.
 use Rattle.str0m_formats.proofs.Common.{rules, arith, ◌≡◌, ℕ, List, [], ◌∷◌, map, Option, Some, None, refl, sym, ap, ◌∙◌, inl, inr, codes, unwrap_or, to_ascii_lowercase, bytes_eq, none-some, bytes_eq-Decides, IsTheOnly, ◌>>=◌, num_only, num_reads, when_true, some_is, only_read, one_answer, IfSome, option_map}
+use Rattle.str0m_formats.proofs.codec.CodecLookup.{find_passes, if_some_map, row_at}
+use Rattle.str0m_formats.proofs.codec.CodecNames.{same_text}
+use Rattle.str0m_formats.proofs.format.FormatParamModes.{modes_only}
+use Rattle.str0m_formats.proofs.format.FormatParamReadingLaws.{hex_both}
+use Rattle.str0m_formats.specs.codec.Codec.{IsSameText}
 use Rattle.str0m_formats.specs.declared.format.format_key.FormatKey.{FormatKey}
 use Rattle.str0m_formats.specs.declared.format.format_key.FormatKey.TheVariants as key
 use Rattle.str0m_formats.specs.declared.format.format_param.FormatParam.{FormatParam}
 use Rattle.str0m_formats.specs.declared.format.format_param.FormatParam.TheVariants.{Unknown}
-use Rattle.str0m_formats.specs.codec.Codec.{IsSameText}
 use Rattle.str0m_formats.specs.format.FormatKey.{key_text}
 use Rattle.str0m_formats.specs.format.FormatParam.{Kind, flag, number, hex, modes, exactly, anything, Held, Reads, kind, made, Holds, Spells, IsParsed, AreParsed, IsEventRange, IsBare}
 use Rattle.str0m_formats.specs.format.FormatParamReading.{hex_read, keys, key_read, is_one, kind_read, value_read, param_of, bare_param}
-use Rattle.str0m_formats.proofs.codec.CodecNames.{same_text}
-use Rattle.str0m_formats.proofs.codec.CodecLookup.{find_passes, if_some_map, row_at}
-use Rattle.str0m_formats.proofs.format.FormatParamModes.{modes_only}
-use Rattle.str0m_formats.proofs.format.FormatParamReadingLaws.{hex_both}
 
 -- ---- keys
 

@@ -1,8 +1,8 @@
 -- A set of modes that a text names has one at least, and none above 8.
 use Rattle.str0m_formats.proofs.Common.{◌≡◌, ◌<◌, ◌≤◌, ◌+◌, ◌-◌, ◌*◌, ◌%◌, ◌^◌, ℕ, List, [], length, get_or, sym, ap, ◌∙◌, inl, inr, arith, bit_at, bit_and, slice_split, cases_lt, and_pow, bit_at-lt, bit_at-zero, same_from_bits, ◌/◌, ◌==◌, get_or_default, length-slice_split, bit_at_cat_high}
-use Rattle.str0m_formats.specs.row.PlainRowBounds.{AreModes}
-use Rattle.str0m_formats.specs.format.FormatParam.{IsMask, IsModeSet}
 use Rattle.str0m_formats.proofs.format.FormatParamModes.{bit_at_set}
+use Rattle.str0m_formats.specs.format.FormatParam.{IsMask, IsModeSet}
+use Rattle.str0m_formats.specs.row.PlainRowBounds.{AreModes}
 
 -- a number without the bits from the ninth on
 below : (n : ℕ) → ((k : ℕ) → 9 ≤ k → bit_at n k ≡ 0) → n ≤ 511

@@ -1,9 +1,9 @@
 -- Numbers after keys are read both ways.
 use Rattle.str0m_formats.proofs.Common.{arith, ◌≡◌, ℕ, true, List, [], ◌∷◌, Option, refl, AllDigits, ltb-true, lt-ltb, le-leb, leb-true, and_parts, IsTheOnly, IsNumber, IsNum, num, when_some, when_true, only_read, and_from, reads_first, Reads}
-use Rattle.str0m_values.proofs.CandidateParts.{num_both}
+use Rattle.str0m_formats.proofs.format.FormatParamOnly.{only_same}
 use Rattle.str0m_formats.specs.format.FormatParam.{IsHexElseDecimal}
 use Rattle.str0m_formats.specs.format.FormatParamReading.{all_digits, number_read, hex_read}
-use Rattle.str0m_formats.proofs.format.FormatParamOnly.{only_same}
+use Rattle.str0m_values.proofs.CandidateParts.{num_both}
 
 digits_from : (radix : ℕ) (ds : List ℕ) → all_digits radix ds ≡ true → AllDigits radix ds
 digits_from radix [] e = tt

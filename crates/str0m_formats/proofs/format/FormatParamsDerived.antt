@@ -1,9 +1,9 @@
 -- When two values are equal by a derived `==`. `hlevel equality` finds the test of a type from its parts, with the proof that it decides
 -- equality: so a field or a variant more needs no line.
 use Rattle.str0m_formats.proofs.Common.{◌≡◌, ◌&&◌, ◌⊎◌, inl, inr, ℕ, Bool, true, false, List, Option, Some, None, nat_eq, beq, refl, sym, ap, ◌∙◌, Decides, unsigned_Decides, booleans_Decides, false≢true, Decides-like, pointwise, pointwise_decides, option_eq, Decides-and}
-use mathlib.Core.Logic.{⊎_elim}
 use denote.Enum.Bare.{Bare, sameb, same_true, true_same}
 use denote.Enum.Declared.{Declared, left_or, right_or}
+use mathlib.Core.Logic.{⊎_elim}
 
 -- a test of equality, which decides
 pub record Equality (V : Type 0) : Type 0 where

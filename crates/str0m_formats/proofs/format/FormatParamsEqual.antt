@@ -1,18 +1,18 @@
 -- When two formats are equal, two specs and two parameters: `==` of each part decides, and so does that of the whole.
 use Rattle.str0m_formats.proofs.Common.{◌≡◌, ℕ, Bool, true, false, Option, nat_eq, refl, sym, ◌∙◌, Decides, unsigned_Decides, option_eq, H265ProfileTierLevel, H266ProfileTierLevel}
-use Rattle.str0m_values.specs.contracts.h265.H265Profile as h265_profile
-use Rattle.str0m_values.specs.contracts.h265.H265Tier as h265_tier
-use Rattle.str0m_values.specs.contracts.h265.H265Level as h265_level
-use Rattle.str0m_values.specs.contracts.h266.H266Profile as h266_profile
-use Rattle.str0m_values.specs.contracts.h266.H266Tier as h266_tier
-use Rattle.str0m_values.specs.contracts.h266.H266Level as h266_level
+use Rattle.str0m_formats.proofs.format.FormatParamsDerived.{Equality, equality, word}
 use Rattle.str0m_formats.specs.contracts.codec.Codec as codec_type
 use Rattle.str0m_formats.specs.contracts.format.format_params.FormatParamsPartialEq.TheImpl as format_eq
 use Rattle.str0m_formats.specs.declared.codec.Codec.{Codec}
 use Rattle.str0m_formats.specs.declared.codec.codec_spec.CodecSpec.{CodecSpec}
 use Rattle.str0m_formats.specs.declared.format.format_params.FormatParams.{FormatParams}
 use Rattle.str0m_formats.specs.round.MatchScore.{same_codec, same_number, same_spec}
-use Rattle.str0m_formats.proofs.format.FormatParamsDerived.{Equality, equality, word}
+use Rattle.str0m_values.specs.contracts.h265.H265Level as h265_level
+use Rattle.str0m_values.specs.contracts.h265.H265Profile as h265_profile
+use Rattle.str0m_values.specs.contracts.h265.H265Tier as h265_tier
+use Rattle.str0m_values.specs.contracts.h266.H266Level as h266_level
+use Rattle.str0m_values.specs.contracts.h266.H266Profile as h266_profile
+use Rattle.str0m_values.specs.contracts.h266.H266Tier as h266_tier
 pub use Rattle.str0m_formats.proofs.format.FormatParamsDerived.{option_Decides, bare_Decides}
 
 pub numbers : (a b : Option ℕ) → Decides (option_eq nat_eq a b) (a ≡ b)

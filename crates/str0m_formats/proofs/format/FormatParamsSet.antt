@@ -1,12 +1,12 @@
 -- Parameters that are set one after another.
 use Rattle.str0m_formats.proofs.Common.{arith, ◌≡◌, ◌&&◌, Bool, true, List, [], ◌∷◌, Option, Some, None, option_map, refl, ap, ◌∙◌, sym, cons_option, filter_map, and_parts, is_none}
-use Rattle.str0m_formats.specs.format.FormatParams.{Content, get, put, param_in, set, set_all, empty, param_at, params_of}
 use Rattle.str0m_formats.specs.declared.format.format_key.FormatKey.TheVariants as key
 use Rattle.str0m_formats.specs.declared.format.format_param.FormatParam.{FormatParam}
 use Rattle.str0m_formats.specs.declared.format.format_params.Field.{Field}
 use Rattle.str0m_formats.specs.declared.format.format_params.Field.TheVariants as field
-use Rattle.str0m_formats.specs.declared.format.format_params.TheConstants.{FIELDS}
 use Rattle.str0m_formats.specs.declared.format.format_params.FormatParams.{FormatParams}
+use Rattle.str0m_formats.specs.declared.format.format_params.TheConstants.{FIELDS}
+use Rattle.str0m_formats.specs.format.FormatParams.{Content, get, put, param_in, set, set_all, empty, param_at, params_of}
 
 -- ---- one field
 

@@ -1,8 +1,14 @@
 -- What each field of a format prints: keys with values, and the range of events.
-use Rattle.str0m_formats.proofs.Common.{◌≡◌, ◌≤◌, ◌<◌, ◌-◌, ℕ, replicate, Bool, true, false, List, [], ◌∷◌, ◌++◌, map, Option, Some, None, IfSome, option_map, refl, sym, ap, ◌∙◌, arith, lit≤, lit<, codes, decimal, AllByRecursion, cons_option, join_with_byte, list_all, false≢true, append_assoc, length-append, none-some, IsRest, decimal_is_IsNumeral, digits_is_IsNumeral, ProfileTierLevel, zero, suc}
 use Rattle.std.specs.Fmt.{digits}
+use Rattle.str0m_formats.proofs.Common.{◌≡◌, ◌≤◌, ◌<◌, ◌-◌, ℕ, replicate, Bool, true, false, List, [], ◌∷◌, ◌++◌, map, Option, Some, None, IfSome, option_map, refl, sym, ap, ◌∙◌, arith, lit≤, lit<, codes, decimal, AllByRecursion, cons_option, join_with_byte, list_all, false≢true, append_assoc, length-append, none-some, IsRest, decimal_is_IsNumeral, digits_is_IsNumeral, ProfileTierLevel, zero, suc}
+use Rattle.str0m_formats.proofs.format.FormatParamAgain.{is_small, key_small, limit_small, modes_filled, key_reads}
+use Rattle.str0m_formats.proofs.format.FormatParamsSet.{param_is}
+use Rattle.str0m_formats.proofs.format.PairsPlain.{IsPlain, is_plain, plain_from, plain_append, digits_plain, below, below_at}
+use Rattle.str0m_formats.proofs.format.PairsRows.{Rows, given}
+use Rattle.str0m_formats.proofs.format.PairsTripleLaws.{AreBytes, h265_small, h266_small}
 use Rattle.str0m_formats.specs.declared.format.format_key.FormatKey.{FormatKey}
 use Rattle.str0m_formats.specs.declared.format.format_key.FormatKey.TheVariants as key
+use Rattle.str0m_formats.specs.declared.format.format_key.TheConstants.{PROFILE_ID, TIER_FLAG, LEVEL_ID}
 use Rattle.str0m_formats.specs.declared.format.format_param.FormatParam.{FormatParam}
 use Rattle.str0m_formats.specs.declared.format.format_param.FormatParam.TheVariants.{H265ProfileTierLevel, H266ProfileTierLevel, TelephoneEvents, BareRange, BarePtList, Red}
 use Rattle.str0m_formats.specs.declared.format.format_params.Field.{Field}
@@ -10,15 +16,9 @@ use Rattle.str0m_formats.specs.declared.format.format_params.Field.TheVariants a
 use Rattle.str0m_formats.specs.declared.format.format_params.FormatParams.{FormatParams}
 use Rattle.str0m_formats.specs.format.FormatKey.{key_text}
 use Rattle.str0m_formats.specs.format.FormatParam.{Kind, flag, number, hex, modes, exactly, anything, Held, kind, made, entry, InRange, value_text, entry_text, six_digits, mode_list, triple_text, param_text}
+use Rattle.str0m_formats.specs.format.FormatParamReading.{param_of}
 use Rattle.str0m_formats.specs.format.FormatParams.{get, param_in, param_at, IsWithin}
 use Rattle.str0m_formats.specs.format.PairsReading.{Tables, h265_tables, h266_tables}
-use Rattle.str0m_formats.specs.format.FormatParamReading.{param_of}
-use Rattle.str0m_formats.proofs.format.PairsPlain.{IsPlain, is_plain, plain_from, plain_append, digits_plain, below, below_at}
-use Rattle.str0m_formats.proofs.format.FormatParamAgain.{is_small, key_small, limit_small, modes_filled, key_reads}
-use Rattle.str0m_formats.proofs.format.FormatParamsSet.{param_is}
-use Rattle.str0m_formats.proofs.format.PairsRows.{Rows, given}
-use Rattle.str0m_formats.proofs.format.PairsTripleLaws.{AreBytes, h265_small, h266_small}
-use Rattle.str0m_formats.specs.declared.format.format_key.TheConstants.{PROFILE_ID, TIER_FLAG, LEVEL_ID}
 
 -- ---- plain values
 

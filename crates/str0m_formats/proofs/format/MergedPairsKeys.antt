@@ -1,8 +1,8 @@
 -- Merged pairs have keys in lower case, each once; and pairs that have are merged already.
-use Rattle.str0m_formats.proofs.Common.{rules, arith, ◌≡◌, ℕ, false, not, List, [], ◌∷◌, ◌++◌, map, refl, sym, ap, ◌∙◌, inl, inr, AllByRecursion, keys_of, bytes_eq, str_to_ascii_lowercase, cases_Bool, false_from_ne_true, append_assoc, append-nil, IsDistinct-cons, IsDistinct-head, IsDistinct-tail, bytes_eq-Decides, insert_entry, insert_all, insert_entry-absent}
-use Rattle.std.specs.List.{IsDistinct}
 use Rattle.std.proofs.lemmas.Map.Made.{IsDistinct-keys_filter}
 use Rattle.std.proofs.lemmas.Str.Ascii.{lowercase-lowercase}
+use Rattle.std.specs.List.{IsDistinct}
+use Rattle.str0m_formats.proofs.Common.{rules, arith, ◌≡◌, ℕ, false, not, List, [], ◌∷◌, ◌++◌, map, refl, sym, ap, ◌∙◌, inl, inr, AllByRecursion, keys_of, bytes_eq, str_to_ascii_lowercase, cases_Bool, false_from_ne_true, append_assoc, append-nil, IsDistinct-cons, IsDistinct-head, IsDistinct-tail, bytes_eq-Decides, insert_entry, insert_all, insert_entry-absent}
 use Rattle.str0m_formats.specs.format.Pairs.{merged, others, is_part}
 
 abbrev Pairs : Type 0

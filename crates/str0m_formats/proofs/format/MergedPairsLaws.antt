@@ -1,10 +1,10 @@
 -- Laws of the places of keys among entries.
-use Rattle.str0m_formats.proofs.Common.{◌≡◌, ◌<◌, ◌+◌, ℕ, Bool, true, false, cond, List, [], ◌∷◌, ◌++◌, length, get_or, take, Option, Some, None, refl, sym, ap, ◌∙◌, subst, arith, Bor, lookup, bytes_eq, map-append, take_more, bytes_eq-Decides, insert_entry, zero, suc, set, slice_cmp, set_value_at}
+use Rattle.std.proofs.lemmas.Map.Text.{is_eq-slice_cmp}
 use Rattle.std.specs.BTreeMap.{BTreeMap, Updates, get_by}
 use Rattle.std.specs.Ordering.{nat_cmp}
-use Rattle.std.proofs.lemmas.Map.Text.{is_eq-slice_cmp}
-use Rattle.str0m_formats.specs.format.FormatParam.{pair_texts}
+use Rattle.str0m_formats.proofs.Common.{◌≡◌, ◌<◌, ◌+◌, ℕ, Bool, true, false, cond, List, [], ◌∷◌, ◌++◌, length, get_or, take, Option, Some, None, refl, sym, ap, ◌∙◌, subst, arith, Bor, lookup, bytes_eq, map-append, take_more, bytes_eq-Decides, insert_entry, zero, suc, set, slice_cmp, set_value_at}
 use Rattle.str0m_formats.proofs.format.MergedPairsKeys.{turned}
+use Rattle.str0m_formats.specs.format.FormatParam.{pair_texts}
 use Rattle.str0m_formats.specs.format.MergedPairs.{IsPlace, HasPlaces}
 
 -- ---- one entry

@@ -1,18 +1,18 @@
 -- What pairs were read as prints as pairs that are read as the same, but for what prints nothing.
 use Rattle.str0m_formats.proofs.Common.{◌≡◌, ◌≢◌, ◌≤◌, ℕ, Bool, true, false, List, [], ◌∷◌, ◌++◌, length, map, filter, Some, refl, sym, ap, ◌∙◌, subst, arith, inl, inr, codes, MatchBool, decimal, AllByRecursion, IsDistinct, cons_option, join_with_byte, keys_of, bytes_eq, lt-ltb, false_from_ne_true, append_assoc, IsDistinct-cons, IsDistinct-head, IsDistinct-tail, bytes_eq-Decides, ProfileTierLevel, decimal_nonempty}
+use Rattle.str0m_formats.proofs.format.FormatKeyAgain.{IsKeyed, AreKeyed, pair_of, prints, key_unmarked, own_key, keyed_or_hidden, keyed_shown, shown_keyed, keyed_params, keyed_texts, keyed_pairs, keyed_unmarked}
+use Rattle.str0m_formats.proofs.format.FormatLineAgain.{unmarked, marked}
+use Rattle.str0m_formats.proofs.format.FormatParamsShown.{IsPlainPair, joined_pair, decimal_plain}
+use Rattle.str0m_formats.proofs.format.MergedPairsKeys.{IsLow, AreLow, AreApart, merged_apart, others_all, others_apart, others_other, others_same, merged_same}
+use Rattle.str0m_formats.proofs.format.PairsPlain.{plain_from}
+use Rattle.str0m_formats.proofs.format.PairsTripleLaws.{AreBytes, texts_shown, h265_small, h266_small, h265_again, h266_again}
+use Rattle.str0m_formats.specs.declared.format.format_key.TheConstants.{PROFILE_ID, TIER_FLAG, LEVEL_ID}
 use Rattle.str0m_formats.specs.declared.format.format_param.FormatParam.{FormatParam}
 use Rattle.str0m_formats.specs.declared.format.format_param.FormatParam.TheVariants.{H265ProfileTierLevel, H266ProfileTierLevel}
 use Rattle.str0m_formats.specs.format.FormatParam.{IsParsed, AreParsed, triple_text, param_text}
+use Rattle.str0m_formats.specs.format.FormatParamReading.{param_of}
 use Rattle.str0m_formats.specs.format.Pairs.{has_mark, merged, others, is_part, AreJoined, AreRead}
 use Rattle.str0m_formats.specs.format.PairsReading.{Tables, h265_tables, h266_tables, params_read, triple_read}
-use Rattle.str0m_formats.specs.format.FormatParamReading.{param_of}
-use Rattle.str0m_formats.proofs.format.FormatKeyAgain.{IsKeyed, AreKeyed, pair_of, prints, key_unmarked, own_key, keyed_or_hidden, keyed_shown, shown_keyed, keyed_params, keyed_texts, keyed_pairs, keyed_unmarked}
-use Rattle.str0m_formats.proofs.format.MergedPairsKeys.{IsLow, AreLow, AreApart, merged_apart, others_all, others_apart, others_other, others_same, merged_same}
-use Rattle.str0m_formats.proofs.format.FormatLineAgain.{unmarked, marked}
-use Rattle.str0m_formats.proofs.format.PairsPlain.{plain_from}
-use Rattle.str0m_formats.proofs.format.FormatParamsShown.{IsPlainPair, joined_pair, decimal_plain}
-use Rattle.str0m_formats.proofs.format.PairsTripleLaws.{AreBytes, texts_shown, h265_small, h266_small, h265_again, h266_again}
-use Rattle.str0m_formats.specs.declared.format.format_key.TheConstants.{PROFILE_ID, TIER_FLAG, LEVEL_ID}
 
 -- the parameters print as pairs that are read as them
 pub record IsPairsLine (shown : List FormatParam) : Type 0 where

@@ -1,12 +1,12 @@
 -- What pairs read as, together.
 use Rattle.str0m_formats.proofs.Common.{arith, ◌≡◌, ◌||◌, ℕ, Bool, true, false, cond, List, [], ◌∷◌, map, refl, sym, ap, subst, ◌∙◌, MatchBool, list_any, Bor}
+use Rattle.str0m_formats.proofs.format.FormatParamLaws.{all_parsed, all_parsed_only}
+use Rattle.str0m_formats.proofs.format.PairsTripleLaws.{triple_is, triple_only}
 use Rattle.str0m_formats.specs.declared.format.format_param.FormatParam.{FormatParam}
 use Rattle.str0m_formats.specs.format.FormatParam.{AreParsed, pair_texts}
 use Rattle.str0m_formats.specs.format.FormatParamReading.{param_of}
 use Rattle.str0m_formats.specs.format.Pairs.{has_mark, merged, others, texts_of, is_mark, AreJoined, AreRead}
 use Rattle.str0m_formats.specs.format.PairsReading.{triple_read, joined_read, params_read}
-use Rattle.str0m_formats.proofs.format.FormatParamLaws.{all_parsed, all_parsed_only}
-use Rattle.str0m_formats.proofs.format.PairsTripleLaws.{triple_is, triple_only}
 
 joined : (pairs : List (List ℕ × List ℕ)) → AreJoined pairs (joined_read pairs)
 joined pairs = (triple_read (texts_of pairs), map param_of (others pairs), triple_is (texts_of pairs), all_parsed (others pairs), refl)

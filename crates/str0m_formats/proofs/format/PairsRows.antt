@@ -1,8 +1,8 @@
 -- Keys with values that may be absent: what is left of them, looked up, merged and taken apart.
-use Rattle.str0m_formats.proofs.Common.{arith, ◌≡◌, ◌&&◌, ℕ, Bool, true, false, not, cond, List, [], ◌∷◌, ◌++◌, filter, Option, Some, None, is_some, inl, inr, refl, ap, AllByRecursion, keys_of, list_all, list_any, lookup, bytes_eq, str_to_ascii_lowercase, cases_Bool, and_parts, not-true, bytes_eq-Decides, ◌<|>◌}
 use Rattle.std.specs.List.{IsDistinct}
-use Rattle.str0m_formats.specs.format.Pairs.{is_mark, has_mark, merged, is_part, others}
+use Rattle.str0m_formats.proofs.Common.{arith, ◌≡◌, ◌&&◌, ℕ, Bool, true, false, not, cond, List, [], ◌∷◌, ◌++◌, filter, Option, Some, None, is_some, inl, inr, refl, ap, AllByRecursion, keys_of, list_all, list_any, lookup, bytes_eq, str_to_ascii_lowercase, cases_Bool, and_parts, not-true, bytes_eq-Decides, ◌<|>◌}
 use Rattle.str0m_formats.proofs.format.MergedPairsKeys.{AreLow, AreApart, merged_same}
+use Rattle.str0m_formats.specs.format.Pairs.{is_mark, has_mark, merged, is_part, others}
 
 abbrev pub Rows : Type 0
 Rows = List (List ℕ × Option (List ℕ))

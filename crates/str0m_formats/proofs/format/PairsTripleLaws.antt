@@ -1,17 +1,17 @@
 -- The triple of three values is read both ways.
 use Rattle.str0m_formats.proofs.Common.{◌≡◌, ◌≤◌, ℕ, List, Option, Some, None, refl, sym, subst, ◌∙◌, inl, inr, arith, rules, Bor, decimal, none-some, IsTheOnly, ◌<|>◌, ProfileTierLevel, num_found, num_reads, only_read, bind_some, some_is, reads_none, option_map, IsGiven, lay, none_reads, Reads}
-use Rattle.str0m_values.specs.H265 as h265
-use Rattle.str0m_values.specs.H266 as h266
-use Rattle.str0m_values.specs.ProfileTierLevel.{HasGivenNumbers, HasNumbersOfTexts, Tables, value_in}
-use Rattle.str0m_values.specs.declared.h266.H266Level.{H266Level}
-use Rattle.str0m_values.specs.H265.{H265ProfileTierLevel as h265_triple}
-use Rattle.str0m_values.specs.H266.{H266ProfileTierLevel as h266_triple}
+use Rattle.str0m_formats.proofs.format.FormatParamAgain.{decimal_reads}
+use Rattle.str0m_formats.proofs.format.FormatParamOnly.{only_same}
 use Rattle.str0m_formats.specs.declared.format.format_param.FormatParam.{FormatParam}
 use Rattle.str0m_formats.specs.declared.format.format_param.FormatParam.TheVariants.{H265ProfileTierLevel, H266ProfileTierLevel}
-use Rattle.str0m_formats.specs.format.PairsTriple.{Texts, IsTripleParam}
 use Rattle.str0m_formats.specs.format.PairsReading.{given_read, row_read, h265_tables, h266_tables, read_triple, triple_read}
-use Rattle.str0m_formats.proofs.format.FormatParamOnly.{only_same}
-use Rattle.str0m_formats.proofs.format.FormatParamAgain.{decimal_reads}
+use Rattle.str0m_formats.specs.format.PairsTriple.{Texts, IsTripleParam}
+use Rattle.str0m_values.specs.H265 as h265
+use Rattle.str0m_values.specs.H265.{H265ProfileTierLevel as h265_triple}
+use Rattle.str0m_values.specs.H266 as h266
+use Rattle.str0m_values.specs.H266.{H266ProfileTierLevel as h266_triple}
+use Rattle.str0m_values.specs.ProfileTierLevel.{HasGivenNumbers, HasNumbersOfTexts, Tables, value_in}
+use Rattle.str0m_values.specs.declared.h266.H266Level.{H266Level}
 
 given_both : (default : ℕ) → Reads (IsGiven 255 default) (given_read default)
 given_both default = grind (arith, some_is, num_found, num_reads)

@@ -1,11 +1,11 @@
 -- Texts that are printed one after another, parted by a character; and the parameters of a format, one field after another.
 use Rattle.str0m_formats.proofs.Common.{arith, ◌≡◌, ◌<◌, ◌+◌, ℕ, Bool, true, false, List, [], ◌∷◌, ◌++◌, length, get_or, take, map, Some, None, refl, ap, ◌∙◌, join_with_byte, filter_map, cons_option, append_assoc, append-nil, take_more, filter_map-append}
-use Rattle.str0m_formats.specs.format.FormatParam.{param_text, part_if}
-use Rattle.str0m_formats.specs.format.FormatParams.{param_at, params_text, params_of}
 use Rattle.str0m_formats.specs.declared.format.format_param.FormatParam.{FormatParam}
 use Rattle.str0m_formats.specs.declared.format.format_params.Field.{Field}
-use Rattle.str0m_formats.specs.declared.format.format_params.TheConstants.{FIELDS}
 use Rattle.str0m_formats.specs.declared.format.format_params.FormatParams.{FormatParams}
+use Rattle.str0m_formats.specs.declared.format.format_params.TheConstants.{FIELDS}
+use Rattle.str0m_formats.specs.format.FormatParam.{param_text, part_if}
+use Rattle.str0m_formats.specs.format.FormatParams.{param_at, params_text, params_of}
 
 unfoldable pub listed : {A : Type 0} → ℕ → (A → List ℕ) → List A → List ℕ
 listed c text xs = join_with_byte c (map text xs)

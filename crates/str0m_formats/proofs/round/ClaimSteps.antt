@@ -1,15 +1,15 @@
 -- Types that are claimed one by one: what is then claimed, and which is met a second time.
 use Rattle.str0m_formats.proofs.Common.{◌≡◌, ◌==◌, ℕ, ◌+◌, ◌<◌, ◌≤◌, Bool, true, false, cond, List, [], ◌∷◌, ◌++◌, length, take, drop, get_or, Result, Ok, Err, refl, sym, ap, ◌∙◌, subst, arith, append_assoc, append-nil, take_more, filter-append, flat_map-append, eqb-true, take-append-drop}
+use Rattle.str0m_formats.proofs.round.ClaimedSets.{type-is}
+use Rattle.str0m_formats.proofs.round.ClaimedTimes.{times-cons, times-nil, times-append, times-none, one_if}
+use Rattle.str0m_formats.proofs.row.PayloadParamsSets.{has-append, locked_types-push, open_types-push}
 use Rattle.str0m_formats.specs.declared.round.negotiation_error.NegotiationError.{NegotiationError}
 use Rattle.str0m_formats.specs.declared.round.negotiation_error.NegotiationError.TheVariants.{ClaimedTwice}
 use Rattle.str0m_formats.specs.declared.row.payload_params.PayloadParams.{PayloadParams}
 use Rattle.str0m_formats.specs.round.Claimed.{TypeSet, has, with_type, either, times, AllDistinct}
-use Rattle.str0m_formats.specs.row.PayloadParams.{types_of, types, locked_types, open_types}
 use Rattle.str0m_formats.specs.round.Claims.{claim_each}
 use Rattle.str0m_formats.specs.round.Rounds.{and_then, IsFirstRepeat}
-use Rattle.str0m_formats.proofs.round.ClaimedSets.{type-is}
-use Rattle.str0m_formats.proofs.row.PayloadParamsSets.{has-append, locked_types-push, open_types-push}
-use Rattle.str0m_formats.proofs.round.ClaimedTimes.{times-cons, times-nil, times-append, times-none, one_if}
+use Rattle.str0m_formats.specs.row.PayloadParams.{types_of, types, locked_types, open_types}
 
 pub claim_each-append : (set : TypeSet) (xs ys : List ℕ) → claim_each set (xs ++ ys) ≡ and_then (claim_each set xs) (λ s. claim_each s ys)
 unfolding claim_each

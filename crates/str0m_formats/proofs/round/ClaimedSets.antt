@@ -1,7 +1,7 @@
 -- Sets of payload types: what is claimed, and what is free.
 use Rattle.str0m_formats.proofs.Common.{◌≡◌, ◌==◌, ℕ, ◌≤◌, ◌<◌, Bool, true, false, ◌||◌, ◌&&◌, not, nat_le, List, [], ◌∷◌, Option, Some, IfSome, ◌++◌, length, get_or, refl, sym, ap, ◌∙◌, subst, arith, slice_get, option_to_list, not-true, leb-true, le-leb, or-false, or_assoc, fun_ext, or_comm, slice_get_read}
-use Rattle.str0m_formats.specs.round.Claimed.{TypeSet, has, with_type, with_option, either, free, preferred}
 use Rattle.str0m_formats.proofs.codec.CodecLookup.{find_passes}
+use Rattle.str0m_formats.specs.round.Claimed.{TypeSet, has, with_type, with_option, either, free, preferred}
 
 -- a type that is claimed stands in the set from then on, whether it did before or not
 pub claimed_with : (old new : ℕ → Bool) (pt : ℕ) (answer : Bool) → pt ≤ 127 → answer ≡ (nat_le pt 127 && not (old pt)) → ((t : ℕ) → new t ≡ (old t || (answer && pt == t))) → new ≡ with_type old pt

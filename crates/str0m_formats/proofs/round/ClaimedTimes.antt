@@ -1,6 +1,6 @@
 -- How often a number stands in a list.
-use Rattle.str0m_formats.proofs.Common.{◌≡◌, ◌==◌, ℕ, ◌+◌, ◌≤◌, Bool, true, false, not, ◌&&◌, ◌||◌, cond, List, [], ◌∷◌, ◌++◌, refl, sym, ap, ◌∙◌, arith, list_all, false≢true, and_parts, or_parts, not-true, eqb-true, zero-add}
 use Rattle.std.proofs.lemmas.List.Sums.{sum_by-append}
+use Rattle.str0m_formats.proofs.Common.{◌≡◌, ◌==◌, ℕ, ◌+◌, ◌≤◌, Bool, true, false, not, ◌&&◌, ◌||◌, cond, List, [], ◌∷◌, ◌++◌, refl, sym, ap, ◌∙◌, arith, list_all, false≢true, and_parts, or_parts, not-true, eqb-true, zero-add}
 use Rattle.str0m_formats.specs.round.Claimed.{has, times}
 
 pub one_if : (b c : Bool) → b ≡ c → cond {A = ℕ} b 1 0 ≡ cond {A = ℕ} c 1 0

@@ -1,15 +1,15 @@
 -- The first pass of a round: what one row changes, and the state between two rows.
 use Rattle.str0m_formats.proofs.Common.{zero, suc, ◌≡◌, ℕ, ◌+◌, ◌<◌, ◌⊎◌, inl, Bool, true, false, not, ◌||◌, ◌&&◌, cond, if◌then◌else◌, find, nat_lt, List, [], ◌∷◌, ◌++◌, length, take, drop, get_or, Option, Some, None, Result, Ok, Err, IfSome, IfErr, refl, sym, ap, ◌∙◌, subst, arith, slice_get, find-append, append_assoc, take_more_set, drop-set-lt, length-set, length-take-le, length_push, drop_more_same, false≢true, set}
-use Rattle.str0m_formats.specs.declared.round.negotiation_error.NegotiationError.{NegotiationError}
-use Rattle.str0m_formats.specs.declared.row.payload_params.PayloadParams.{PayloadParams}
-use Rattle.str0m_formats.specs.codec.Codec.{content}
-use Rattle.str0m_formats.specs.round.Claimed.{TypeSet, has, with_type, with_option, either}
-use Rattle.str0m_formats.specs.row.PayloadParams.{AllSmall, types_of, types, locked_types, open_types}
-use Rattle.str0m_formats.specs.round.Narrowing.{narrowed}
-use Rattle.str0m_formats.specs.round.Choices.{IsChoice, points_for}
-use Rattle.str0m_formats.specs.round.Rounds.{taken_by, placed, locked_to, and_then, role_type, rtx_type, red_type, only_audio, Becomes, Begun, MayBegin, StopsFirst}
 use Rattle.str0m_formats.proofs.round.RoundsPasses.{EachPlace, at_split, each_push, get_from_rest}
 use Rattle.str0m_formats.proofs.row.PayloadParamsSets.{has-append, either-covered, locked_types-push, locked_types-at}
+use Rattle.str0m_formats.specs.codec.Codec.{content}
+use Rattle.str0m_formats.specs.declared.round.negotiation_error.NegotiationError.{NegotiationError}
+use Rattle.str0m_formats.specs.declared.row.payload_params.PayloadParams.{PayloadParams}
+use Rattle.str0m_formats.specs.round.Choices.{IsChoice, points_for}
+use Rattle.str0m_formats.specs.round.Claimed.{TypeSet, has, with_type, with_option, either}
+use Rattle.str0m_formats.specs.round.Narrowing.{narrowed}
+use Rattle.str0m_formats.specs.round.Rounds.{taken_by, placed, locked_to, and_then, role_type, rtx_type, red_type, only_audio, Becomes, Begun, MayBegin, StopsFirst}
+use Rattle.str0m_formats.specs.row.PayloadParams.{AllSmall, types_of, types, locked_types, open_types}
 
 -- ---- types of at most 127
 

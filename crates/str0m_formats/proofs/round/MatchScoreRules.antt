@@ -1,11 +1,11 @@
 -- The rules of the score, from the function.
-use Rattle.str0m_formats.proofs.Common.{arith, ◌≡◌, ◌≢◌, ◌==◌, ◌⊎◌, inl, inr, ℕ, Bool, false, Option, None, refl, ap, ◌∙◌, Decides, unsigned_Decides, and-false}
 use Rattle.std.specs.Bool.{if◌then◌else◌}
+use Rattle.str0m_formats.proofs.Common.{arith, ◌≡◌, ◌≢◌, ◌==◌, ◌⊎◌, inl, inr, ℕ, Bool, false, Option, None, refl, ap, ◌∙◌, Decides, unsigned_Decides, and-false}
+use Rattle.str0m_formats.proofs.format.FormatParamsEqual.{numbers, codec_Decides, spec_Decides, fails}
 use Rattle.str0m_formats.specs.declared.codec.Codec.{Codec}
 use Rattle.str0m_formats.specs.declared.codec.Codec.TheVariants.{AmrWb, Tele, Unknown}
 use Rattle.str0m_formats.specs.declared.codec.codec_spec.CodecSpec.{CodecSpec}
 use Rattle.str0m_formats.specs.round.MatchScore.{same_codec, same_spec, same_number, codec_score, score, IsScore}
-use Rattle.str0m_formats.proofs.format.FormatParamsEqual.{numbers, codec_Decides, spec_Decides, fails}
 
 -- what a test decides holds or doesn't
 pub either_way : {P : Type 0} (t : Bool) → Decides t P → P ⊎ (P → ⊥)

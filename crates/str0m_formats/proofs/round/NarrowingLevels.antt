@@ -1,16 +1,16 @@
 -- An H264 row keeps its profile, and its level never grows.
 use Rattle.str0m_formats.proofs.Common.{◌≡◌, ◌≢◌, ◌⊎◌, inl, inr, ℕ, Bool, true, false, List, Option, Some, None, refl, sym, ap, ◌∙◌, subst, arith, unsigned_Decides, ltb-true, same_Some, H264ProfileLevel, nat_lt, if◌then◌else◌}
-use Rattle.str0m_values.specs.H264.{named, level_ordinal, lower_of, lower_level}
-use Rattle.str0m_formats.specs.declared.codec.Codec.TheVariants.{H264}
-use Rattle.str0m_formats.specs.declared.codec.codec_spec.CodecSpec.{CodecSpec}
-use Rattle.str0m_formats.specs.declared.row.payload_params.PayloadParams.{PayloadParams}
-use Rattle.str0m_formats.specs.round.Narrowing.{narrowed, levels_differ}
-use Rattle.str0m_formats.specs.round.Rounds.{Leaves}
-use Rattle.str0m_formats.specs.round.MatchScore.{same_spec, same_codec, same_number, same_or, h264_level_score, codec_score, score}
-use Rattle.str0m_formats.specs.round.RoundsPromises.{NamesNoHigher, LevelsNarrow}
 use Rattle.str0m_formats.proofs.format.FormatParamsEqual.{codec_Decides, spec_Decides}
 use Rattle.str0m_formats.proofs.round.MatchScoreRules.{either_way, score_rules}
 use Rattle.str0m_formats.proofs.round.NarrowingSteps.{round_holds}
+use Rattle.str0m_formats.specs.declared.codec.Codec.TheVariants.{H264}
+use Rattle.str0m_formats.specs.declared.codec.codec_spec.CodecSpec.{CodecSpec}
+use Rattle.str0m_formats.specs.declared.row.payload_params.PayloadParams.{PayloadParams}
+use Rattle.str0m_formats.specs.round.MatchScore.{same_spec, same_codec, same_number, same_or, h264_level_score, codec_score, score}
+use Rattle.str0m_formats.specs.round.Narrowing.{narrowed, levels_differ}
+use Rattle.str0m_formats.specs.round.Rounds.{Leaves}
+use Rattle.str0m_formats.specs.round.RoundsPromises.{NamesNoHigher, LevelsNarrow}
+use Rattle.str0m_values.specs.H264.{named, level_ordinal, lower_of, lower_level}
 
 -- ---- formats that fit name one profile
 

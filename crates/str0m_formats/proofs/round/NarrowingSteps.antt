@@ -1,17 +1,17 @@
 -- What a round makes of a row's spec: it stays, or is narrowed by one that it fits.
 use Rattle.str0m_formats.proofs.Common.{◌≡◌, ◌≢◌, Bool, true, false, List, Option, Some, None, Ok, refl, sym, ap, ◌∙◌, subst}
-use Rattle.str0m_formats.specs.declared.codec.codec_spec.CodecSpec.{CodecSpec}
-use Rattle.str0m_formats.specs.declared.row.payload_params.PayloadParams.{PayloadParams}
-use Rattle.str0m_formats.specs.round.Claimed.{TypeSet}
-use Rattle.str0m_formats.specs.round.Choices.{IsChoice, points_for}
-use Rattle.str0m_formats.specs.round.Narrowing.{narrowed}
-use Rattle.str0m_formats.specs.round.Rounds.{placed, settled, Leaves}
-use Rattle.str0m_formats.specs.round.RoundsPromises.{AtEachRow}
-use Rattle.str0m_formats.specs.round.MatchScore.{score}
 use Rattle.str0m_formats.proofs.round.FirstPass.{same_Ok, placed-locked_row, placed-open_row, placed-no_choice, locked_parts}
 use Rattle.str0m_formats.proofs.round.RoundsMatched.{some_score}
 use Rattle.str0m_formats.proofs.round.RoundsRowSteps.{row_steps}
 use Rattle.str0m_formats.proofs.round.SettlingPass.{settled_parts, settled-same}
+use Rattle.str0m_formats.specs.declared.codec.codec_spec.CodecSpec.{CodecSpec}
+use Rattle.str0m_formats.specs.declared.row.payload_params.PayloadParams.{PayloadParams}
+use Rattle.str0m_formats.specs.round.Choices.{IsChoice, points_for}
+use Rattle.str0m_formats.specs.round.Claimed.{TypeSet}
+use Rattle.str0m_formats.specs.round.MatchScore.{score}
+use Rattle.str0m_formats.specs.round.Narrowing.{narrowed}
+use Rattle.str0m_formats.specs.round.Rounds.{placed, settled, Leaves}
+use Rattle.str0m_formats.specs.round.RoundsPromises.{AtEachRow}
 
 settled-spec : (locked taken unlocked : TypeSet) (row new : PayloadParams) → settled locked taken unlocked row ≡ Ok new
     → row.spec ≡ new.spec

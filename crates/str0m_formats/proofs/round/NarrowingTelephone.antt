@@ -1,12 +1,12 @@
 -- The highest telephone event of a row never grows.
 use Rattle.str0m_formats.proofs.Common.{◌≡◌, ◌≤◌, Bool, List, arith}
+use Rattle.str0m_formats.proofs.round.NarrowingSteps.{round_holds}
 use Rattle.str0m_formats.specs.declared.codec.Codec.TheVariants.{Tele}
 use Rattle.str0m_formats.specs.declared.codec.codec_spec.CodecSpec.{CodecSpec}
 use Rattle.str0m_formats.specs.declared.row.payload_params.PayloadParams.{PayloadParams}
 use Rattle.str0m_formats.specs.round.Narrowing.{narrowed, telephone_max}
 use Rattle.str0m_formats.specs.round.Rounds.{Leaves}
 use Rattle.str0m_formats.specs.round.RoundsPromises.{TelephoneNarrows}
-use Rattle.str0m_formats.proofs.round.NarrowingSteps.{round_holds}
 
 -- a telephone format stays one, and its maximum doesn't grow
 abbrev pub Narrows : CodecSpec → CodecSpec → Type 0

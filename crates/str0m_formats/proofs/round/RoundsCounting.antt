@@ -1,19 +1,19 @@
 -- With few rows a free type is always left: counting the types that are held back.
 use Rattle.str0m_formats.proofs.Common.{zero, suc, ◌≡◌, ◌==◌, ℕ, ◌+◌, ◌*◌, ◌<◌, ◌≤◌, ◌⊎◌, inl, inr, Bool, true, false, not, cond, find, List, [], ◌∷◌, ◌++◌, length, Option, Some, None, Result, Ok, Err, IfErr, IfSome, filter, refl, sym, ap, ◌∙◌, arith, slice_get, option_to_list, ok_or, slice_get_within, same_Some, none-some, length-append, false≢true, and_parts, not-true, or_cases, or_left, or_right, or-false, cases_Bool, eqb-true, eq-eqb, IfErr-at_err, fun_ext}
+use Rattle.str0m_formats.proofs.round.ClaimedSets.{type-is, two-are}
+use Rattle.str0m_formats.proofs.round.ClaimedTimes.{all_apart}
+use Rattle.str0m_formats.proofs.round.RoundsOutcome.{HasLarge, HasRepeat, Cases, cases_of}
+use Rattle.str0m_formats.proofs.round.RoundsRowCounts.{length-split}
+use Rattle.str0m_formats.proofs.round.RoundsRowSteps.{role_cases, then_err}
+use Rattle.str0m_formats.proofs.round.SettlingPass.{settled-locked, settled_if_locked}
+use Rattle.str0m_formats.proofs.row.PayloadParamsSets.{has-append}
 use Rattle.str0m_formats.specs.declared.round.negotiation_error.NegotiationError.{NegotiationError}
 use Rattle.str0m_formats.specs.declared.round.negotiation_error.NegotiationError.TheVariants.{Exhausted, ClaimedTwice}
 use Rattle.str0m_formats.specs.declared.row.payload_params.PayloadParams.{PayloadParams}
 use Rattle.str0m_formats.specs.round.Claimed.{TypeSet, has, with_type, with_option, either, free, preferred}
-use Rattle.str0m_formats.specs.row.PayloadParams.{types_of, types, locked_types, open_types}
 use Rattle.str0m_formats.specs.round.Narrowing.{narrowed}
 use Rattle.str0m_formats.specs.round.Rounds.{and_then, role_type, rtx_type, locked_to, placed, taken_by, taken_after, settled, kept_or_free, kept_red, kept_rtx, StopsFirst, StopsSecond, Refused}
-use Rattle.str0m_formats.proofs.round.ClaimedTimes.{all_apart}
-use Rattle.str0m_formats.proofs.round.ClaimedSets.{type-is, two-are}
-use Rattle.str0m_formats.proofs.row.PayloadParamsSets.{has-append}
-use Rattle.str0m_formats.proofs.round.RoundsRowCounts.{length-split}
-use Rattle.str0m_formats.proofs.round.SettlingPass.{settled-locked, settled_if_locked}
-use Rattle.str0m_formats.proofs.round.RoundsRowSteps.{role_cases, then_err}
-use Rattle.str0m_formats.proofs.round.RoundsOutcome.{HasLarge, HasRepeat, Cases, cases_of}
+use Rattle.str0m_formats.specs.row.PayloadParams.{types_of, types, locked_types, open_types}
 
 -- ---- a list without repeats that stands in another is no longer
 

@@ -1,16 +1,16 @@
 -- Distinct types stay distinct.
 use Rattle.str0m_formats.proofs.Common.{rules, zero, suc, ◌≡◌, ℕ, ◌+◌, ◌<◌, ◌≤◌, ◌⊎◌, inl, inr, Bool, true, false, not, cond, List, [], ◌++◌, length, take, drop, Option, Some, None, refl, ap, ◌∙◌, arith, slice_get, cases_Bool, or_parts, not-true, take_all}
+use Rattle.str0m_formats.proofs.round.ClaimedTimes.{times-append, times-nil, times-none}
+use Rattle.str0m_formats.proofs.round.RoundsInvariants.{locked_alone}
+use Rattle.str0m_formats.proofs.round.RoundsPasses.{none_within}
+use Rattle.str0m_formats.proofs.round.RoundsRowCounts.{drop_suc, times_where-cons, times_where-drop, times_where-fewer, times-split, Standing, standing_step}
+use Rattle.str0m_formats.proofs.round.RoundsWhole.{row_before, begun_open}
+use Rattle.str0m_formats.proofs.round.SettlingPass.{settled-locked, SettledParts, settled_parts, settled-same}
+use Rattle.str0m_formats.proofs.round.SettlingRows.{row-held, row-once}
 use Rattle.str0m_formats.specs.declared.row.payload_params.PayloadParams.{PayloadParams}
 use Rattle.str0m_formats.specs.round.Claimed.{has, either, times, AllDistinct}
-use Rattle.str0m_formats.specs.row.PayloadParams.{types_of, types, locked_types, open_types}
 use Rattle.str0m_formats.specs.round.Rounds.{taken_after, AllBegun, Settled, Leaves}
-use Rattle.str0m_formats.proofs.round.RoundsPasses.{none_within}
-use Rattle.str0m_formats.proofs.round.ClaimedTimes.{times-append, times-nil, times-none}
-use Rattle.str0m_formats.proofs.round.SettlingPass.{settled-locked, SettledParts, settled_parts, settled-same}
-use Rattle.str0m_formats.proofs.round.RoundsWhole.{row_before, begun_open}
-use Rattle.str0m_formats.proofs.round.RoundsRowCounts.{drop_suc, times_where-cons, times_where-drop, times_where-fewer, times-split, Standing, standing_step}
-use Rattle.str0m_formats.proofs.round.SettlingRows.{row-held, row-once}
-use Rattle.str0m_formats.proofs.round.RoundsInvariants.{locked_alone}
+use Rattle.str0m_formats.specs.row.PayloadParams.{types_of, types, locked_types, open_types}
 
 abbrev is_open : PayloadParams → Bool
 is_open row = not row.locked

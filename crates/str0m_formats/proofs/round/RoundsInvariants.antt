@@ -1,22 +1,22 @@
 -- What holds of the locked rows after every accepted round.
 use Rattle.str0m_formats.proofs.Common.{zero, suc, ◌≡◌, ◌==◌, ℕ, ◌+◌, ◌<◌, ◌≤◌, ◌⊎◌, inl, inr, Bool, true, false, not, cond, List, [], ◌∷◌, ◌++◌, length, take, Option, Some, None, Ok, IfSome, filter, refl, sym, ap, ◌∙◌, subst, arith, slice_get, option_to_list, true≢false, cases_Bool, or_parts, or_left, or-false, eqb-true, append-nil, take_all, IfOk-at_ok}
-use Rattle.str0m_formats.specs.declared.row.payload_params.PayloadParams.{PayloadParams}
-use Rattle.str0m_formats.specs.round.Claimed.{TypeSet, has, with_type, with_option, either, free, times, AllDistinct}
-use Rattle.str0m_formats.specs.codec.Codec.{Content, audio, content}
-use Rattle.str0m_formats.specs.row.PayloadParams.{types_of, types, locked_types, open_types}
-use Rattle.str0m_formats.specs.round.Rounds.{red_type, only_audio, locked_to, placed, taken_by, taken_after, AllBegun, Leaves}
-use Rattle.str0m_formats.specs.round.RoundsPromises.{LockedStandAlone}
-use Rattle.str0m_formats.proofs.round.ClaimedSets.{free-small, type-is, two-are}
-use Rattle.str0m_formats.proofs.round.RoundsPasses.{none_within}
-use Rattle.str0m_formats.proofs.row.PayloadParamsSets.{has-append}
-use Rattle.str0m_formats.proofs.round.FirstPass.{locked_to-locks, placed-locked, placed-open_row, placed-no_choice, locked_parts}
 use Rattle.str0m_formats.proofs.round.ClaimSteps.{distinct_push}
+use Rattle.str0m_formats.proofs.round.ClaimedSets.{free-small, type-is, two-are}
 use Rattle.str0m_formats.proofs.round.ClaimedTimes.{times-append, times-cons, times-nil, times-none, times-some}
+use Rattle.str0m_formats.proofs.round.FirstPass.{locked_to-locks, placed-locked, placed-open_row, placed-no_choice, locked_parts}
+use Rattle.str0m_formats.proofs.round.RoundsPasses.{none_within}
+use Rattle.str0m_formats.proofs.round.RoundsRowCounts.{Standing, standing_step, times_where-drop, times-split}
+use Rattle.str0m_formats.proofs.round.RoundsRowSteps.{role-given, rtx-given, red-given}
 use Rattle.str0m_formats.proofs.round.RoundsWhole.{row_before}
 use Rattle.str0m_formats.proofs.round.SettlingPass.{settled-locked, settled-same, settled_parts}
-use Rattle.str0m_formats.proofs.round.RoundsRowSteps.{role-given, rtx-given, red-given}
 use Rattle.str0m_formats.proofs.round.SettlingRows.{row-apart}
-use Rattle.str0m_formats.proofs.round.RoundsRowCounts.{Standing, standing_step, times_where-drop, times-split}
+use Rattle.str0m_formats.proofs.row.PayloadParamsSets.{has-append}
+use Rattle.str0m_formats.specs.codec.Codec.{Content, audio, content}
+use Rattle.str0m_formats.specs.declared.row.payload_params.PayloadParams.{PayloadParams}
+use Rattle.str0m_formats.specs.round.Claimed.{TypeSet, has, with_type, with_option, either, free, times, AllDistinct}
+use Rattle.str0m_formats.specs.round.Rounds.{red_type, only_audio, locked_to, placed, taken_by, taken_after, AllBegun, Leaves}
+use Rattle.str0m_formats.specs.round.RoundsPromises.{LockedStandAlone}
+use Rattle.str0m_formats.specs.row.PayloadParams.{types_of, types, locked_types, open_types}
 
 -- ---- the types of a row that is locked are new, and differ
 

@@ -1,12 +1,12 @@
 -- A locked row stays locked, with its types each in its role.
 use Rattle.str0m_formats.proofs.Common.{arith, ◌≡◌, Bool, true, List, Option, Some, None, Ok, refl}
+use Rattle.str0m_formats.proofs.round.FirstPass.{same_Ok, placed-locked_row, placed-no_choice}
+use Rattle.str0m_formats.proofs.round.RoundsRowSteps.{row_steps}
+use Rattle.str0m_formats.proofs.round.SettlingPass.{settled-same}
 use Rattle.str0m_formats.specs.declared.row.payload_params.PayloadParams.{PayloadParams}
 use Rattle.str0m_formats.specs.round.Claimed.{TypeSet}
 use Rattle.str0m_formats.specs.round.Rounds.{placed, Leaves}
 use Rattle.str0m_formats.specs.round.RoundsPromises.{StaysLocked, LockedStay}
-use Rattle.str0m_formats.proofs.round.FirstPass.{same_Ok, placed-locked_row, placed-no_choice}
-use Rattle.str0m_formats.proofs.round.RoundsRowSteps.{row_steps}
-use Rattle.str0m_formats.proofs.round.SettlingPass.{settled-same}
 
 placed-stays : (taken unlocked : TypeSet) (receives : Bool) (row new : PayloadParams) (choice : Option PayloadParams) → placed taken unlocked receives row choice ≡ Ok new → row.locked ≡ true → StaysLocked row new
 placed-stays taken unlocked receives row new None h l = grind (arith, placed-no_choice)

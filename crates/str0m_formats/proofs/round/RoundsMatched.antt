@@ -1,19 +1,19 @@
 -- Which rows a round locks, and at which types.
-use Rattle.str0m_formats.proofs.Common.{arith, ◌≡◌, ◌≢◌, ℕ, Bool, true, false, not, ◌&&◌, List, Option, Some, None, Ok, refl, sym, ap, ◌∙◌, subst, fun_ext}
 use Rattle.std.specs.Prelude.{Contains}
+use Rattle.str0m_formats.proofs.Common.{arith, ◌≡◌, ◌≢◌, ℕ, Bool, true, false, not, ◌&&◌, List, Option, Some, None, Ok, refl, sym, ap, ◌∙◌, subst, fun_ext}
+use Rattle.str0m_formats.proofs.round.FirstPass.{and_then-ok, same_Ok, locked_to-locks, placed-open_row, placed-no_choice, locked_parts}
+use Rattle.str0m_formats.proofs.round.RoundsLocked.{locked_stay}
+use Rattle.str0m_formats.proofs.round.RoundsPasses.{split_has}
+use Rattle.str0m_formats.proofs.round.RoundsRowSteps.{RowSteps, row_steps}
+use Rattle.str0m_formats.proofs.round.SettlingPass.{settled-locked, settled-same}
+use Rattle.str0m_formats.specs.codec.Codec.{is_amr_wb}
 use Rattle.str0m_formats.specs.declared.codec.Codec.TheVariants.{AmrWb}
 use Rattle.str0m_formats.specs.declared.row.payload_params.PayloadParams.{PayloadParams}
+use Rattle.str0m_formats.specs.round.Choices.{IsBest, IsChoice, points_for}
 use Rattle.str0m_formats.specs.round.Claimed.{TypeSet}
 use Rattle.str0m_formats.specs.round.MatchScore.{score}
-use Rattle.str0m_formats.specs.round.Choices.{IsBest, IsChoice, points_for}
-use Rattle.str0m_formats.specs.codec.Codec.{is_amr_wb}
 use Rattle.str0m_formats.specs.round.Rounds.{role_type, rtx_type, placed, Leaves}
 use Rattle.str0m_formats.specs.round.RoundsPromises.{IsMatched, MatchedAreLocked, HasTypesOf, LockedAtBest}
-use Rattle.str0m_formats.proofs.round.RoundsPasses.{split_has}
-use Rattle.str0m_formats.proofs.round.FirstPass.{and_then-ok, same_Ok, locked_to-locks, placed-open_row, placed-no_choice, locked_parts}
-use Rattle.str0m_formats.proofs.round.SettlingPass.{settled-locked, settled-same}
-use Rattle.str0m_formats.proofs.round.RoundsLocked.{locked_stay}
-use Rattle.str0m_formats.proofs.round.RoundsRowSteps.{RowSteps, row_steps}
 
 -- ---- when a remote row's points are its score
 

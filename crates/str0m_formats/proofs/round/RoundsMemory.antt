@@ -1,13 +1,13 @@
 -- When a round is refused for memory alone.
 use Rattle.str0m_formats.proofs.Common.{arith, ◌≡◌, ◌≤◌, inl, inr, Bool, false, List, ◌++◌, length, sym, ◌∙◌, true≢false}
+use Rattle.str0m_formats.proofs.round.RoundsCounting.{FewRefused, few_refused}
+use Rattle.str0m_formats.proofs.round.RoundsOutcome.{large_or_small, repeat_not_once}
 use Rattle.str0m_formats.specs.declared.round.negotiation_error.NegotiationError.{NegotiationError}
 use Rattle.str0m_formats.specs.declared.row.payload_params.PayloadParams.{PayloadParams}
-use Rattle.str0m_formats.specs.row.PayloadParams.{types, locked_types}
 use Rattle.str0m_formats.specs.round.Rounds.{Refused}
-use Rattle.str0m_formats.specs.round.RoundsRuns.{Outcome, Ran}
 use Rattle.str0m_formats.specs.round.RoundsPromises.{KeepsBounds, OnlyForMemory}
-use Rattle.str0m_formats.proofs.round.RoundsOutcome.{large_or_small, repeat_not_once}
-use Rattle.str0m_formats.proofs.round.RoundsCounting.{FewRefused, few_refused}
+use Rattle.str0m_formats.specs.round.RoundsRuns.{Outcome, Ran}
+use Rattle.str0m_formats.specs.row.PayloadParams.{types, locked_types}
 
 -- with at most fourteen rows, types within bounds, and a remote that doesn't receive, a round has no cause
 pub never_refused : (before remote : List PayloadParams) (receives : Bool) → length before ≤ 14 → KeepsBounds before remote → receives ≡ false → (cause : NegotiationError) → Refused before remote receives cause → ⊥

@@ -1,15 +1,15 @@
 -- A round has one outcome: one list of rows, or one cause.
 use Rattle.str0m_formats.proofs.Common.{rules, ◌≡◌, ℕ, ◌<◌, ◌≤◌, ◌⊎◌, inl, inr, Bool, true, find, nat_lt, List, [], ◌∷◌, ◌++◌, length, take, Option, Some, None, Result, Ok, Err, IfSome, All, refl, sym, ap, ◌∙◌, subst, arith, slice_get, slice_get_within, none-some, same_Some, All-contains, take_all, cases_order, eq-eqb}
+use Rattle.str0m_formats.proofs.round.ClaimedTimes.{times-append, times-cons, times-some}
+use Rattle.str0m_formats.proofs.round.FirstPass.{same_Ok, same_Err}
+use Rattle.str0m_formats.proofs.round.RoundsPasses.{EachPlace, split_has, each_same, none_within}
 use Rattle.str0m_formats.specs.declared.round.negotiation_error.NegotiationError.{NegotiationError}
 use Rattle.str0m_formats.specs.declared.round.negotiation_error.NegotiationError.TheVariants.{TypeTooLarge, ClaimedTwice}
 use Rattle.str0m_formats.specs.declared.row.payload_params.PayloadParams.{PayloadParams}
-use Rattle.str0m_formats.specs.round.Claimed.{TypeSet, has, times, AllDistinct}
-use Rattle.str0m_formats.specs.row.PayloadParams.{AllSmall, types, locked_types, open_types}
 use Rattle.str0m_formats.specs.round.Choices.{IsChoice}
+use Rattle.str0m_formats.specs.round.Claimed.{TypeSet, has, times, AllDistinct}
 use Rattle.str0m_formats.specs.round.Rounds.{taken_by, taken_after, settled, Becomes, MayBegin, AllBegun, Settled, StopsFirst, StopsSettling, StopsSecond, Leaves, IsFirstRepeat, LeavesOnly, RefusedOnly, Refused}
-use Rattle.str0m_formats.proofs.round.RoundsPasses.{EachPlace, split_has, each_same, none_within}
-use Rattle.str0m_formats.proofs.round.FirstPass.{same_Ok, same_Err}
-use Rattle.str0m_formats.proofs.round.ClaimedTimes.{times-append, times-cons, times-some}
+use Rattle.str0m_formats.specs.row.PayloadParams.{AllSmall, types, locked_types, open_types}
 
 -- ---- two splits of one list
 

@@ -1,23 +1,23 @@
 -- Plain rows stay plain through a round against rows whose numbers keep to their ranges.
 use Rattle.str0m_formats.proofs.Common.{arith, ◌≡◌, ◌≢◌, ℕ, Bool, true, false, List, Option, Some, None, Ok, IfSome, All, take, refl, sym, ap, ◌∙◌, subst, slice_get, All-contains}
+use Rattle.str0m_formats.proofs.round.FirstPass.{small_at, same_Ok, placed-locked_row, placed-open_row, placed-no_choice, locked_parts}
+use Rattle.str0m_formats.proofs.round.RoundsPasses.{at_place, split_has, from_places}
+use Rattle.str0m_formats.proofs.round.RoundsRowSteps.{row_steps}
+use Rattle.str0m_formats.proofs.round.RoundsSmallTypes.{small_after}
+use Rattle.str0m_formats.proofs.round.RoundsWhole.{row_before}
+use Rattle.str0m_formats.proofs.round.SettlingPass.{settled_parts, settled-same}
+use Rattle.str0m_formats.specs.codec.Codec.{Content, content, audio, video, events, other}
 use Rattle.str0m_formats.specs.declared.codec.Codec.{Codec}
 use Rattle.str0m_formats.specs.declared.codec.Codec.TheVariants.{G722, AmrWb, H264, H265, H266, Tele}
 use Rattle.str0m_formats.specs.declared.codec.codec_spec.CodecSpec.{CodecSpec}
 use Rattle.str0m_formats.specs.declared.row.payload_params.PayloadParams.{PayloadParams}
-use Rattle.str0m_formats.specs.row.PlainRowBounds.{AreModes, IsDistance, IsBounded}
-use Rattle.str0m_formats.specs.codec.Codec.{Content, content, audio, video, events, other}
-use Rattle.str0m_formats.specs.round.Narrowing.{narrowed, narrowed_as}
-use Rattle.str0m_formats.specs.row.PlainRow.{IsPlain, IsPlainG722, HasPictureFeedback, HasPlainTriples, SaysEventsAlone}
-use Rattle.str0m_formats.specs.row.PayloadParams.{AllSmall, types_of, locked_types, open_types}
 use Rattle.str0m_formats.specs.round.Choices.{IsChoice, points_for}
 use Rattle.str0m_formats.specs.round.Claimed.{TypeSet, has}
+use Rattle.str0m_formats.specs.round.Narrowing.{narrowed, narrowed_as}
 use Rattle.str0m_formats.specs.round.Rounds.{taken_by, taken_after, placed, settled, kept_red, only_audio, Leaves}
-use Rattle.str0m_formats.proofs.round.FirstPass.{small_at, same_Ok, placed-locked_row, placed-open_row, placed-no_choice, locked_parts}
-use Rattle.str0m_formats.proofs.round.RoundsPasses.{at_place, split_has, from_places}
-use Rattle.str0m_formats.proofs.round.RoundsWhole.{row_before}
-use Rattle.str0m_formats.proofs.round.RoundsRowSteps.{row_steps}
-use Rattle.str0m_formats.proofs.round.RoundsSmallTypes.{small_after}
-use Rattle.str0m_formats.proofs.round.SettlingPass.{settled_parts, settled-same}
+use Rattle.str0m_formats.specs.row.PayloadParams.{AllSmall, types_of, locked_types, open_types}
+use Rattle.str0m_formats.specs.row.PlainRow.{IsPlain, IsPlainG722, HasPictureFeedback, HasPlainTriples, SaysEventsAlone}
+use Rattle.str0m_formats.specs.row.PlainRowBounds.{AreModes, IsDistance, IsBounded}
 
 -- ---- a plain row is one of small types, a plain spec, and feedback and RED that go with what the codec carries
 

@@ -1,23 +1,23 @@
 -- Every round keeps its promises.
 use Rattle.str0m_formats.proofs.Common.{arith, rules, ◌≡◌, ◌≢◌, Bool, List, Ok, Err, OnOk, OnErr, IfErr, on_ok_weaker, on_err_weaker}
-use Rattle.str0m_formats.specs.declared.row.codec_config.CodecConfig.{CodecConfig}
-use Rattle.str0m_formats.specs.declared.round.negotiation_error.NegotiationError.{NegotiationError}
-use Rattle.str0m_formats.specs.declared.round.negotiation_error.NegotiationError.TheVariants.{Memory}
-use Rattle.str0m_formats.specs.declared.row.payload_params.PayloadParams.{PayloadParams}
-use Rattle.str0m_formats.specs.round.Rounds.{Leaves, Refused}
-use Rattle.str0m_formats.specs.round.RoundsRuns.{Outcome}
-use Rattle.str0m_formats.specs.round.RoundsPromises.{Promises, Negotiates}
-use Rattle.str0m_formats.proofs.round.RoundsRunSteps.{ran_from}
-use Rattle.str0m_formats.proofs.round.RoundsOutcome.{leaves_only, refused_only}
+use Rattle.str0m_formats.proofs.round.NarrowingLevels.{levels_narrow}
+use Rattle.str0m_formats.proofs.round.NarrowingTelephone.{telephone_narrows}
 use Rattle.str0m_formats.proofs.round.RoundsCounting.{never_exhausted}
-use Rattle.str0m_formats.proofs.round.RoundsMemory.{only_for_memory}
+use Rattle.str0m_formats.proofs.round.RoundsDistinct.{distinct_stay}
 use Rattle.str0m_formats.proofs.round.RoundsInvariants.{locked_alone}
 use Rattle.str0m_formats.proofs.round.RoundsLocked.{locked_stay}
 use Rattle.str0m_formats.proofs.round.RoundsMatched.{matched_are_locked, locked_at_best}
-use Rattle.str0m_formats.proofs.round.RoundsDistinct.{distinct_stay}
-use Rattle.str0m_formats.proofs.round.NarrowingTelephone.{telephone_narrows}
-use Rattle.str0m_formats.proofs.round.NarrowingLevels.{levels_narrow}
+use Rattle.str0m_formats.proofs.round.RoundsMemory.{only_for_memory}
+use Rattle.str0m_formats.proofs.round.RoundsOutcome.{leaves_only, refused_only}
 use Rattle.str0m_formats.proofs.round.RoundsPlain.{plain_stay}
+use Rattle.str0m_formats.proofs.round.RoundsRunSteps.{ran_from}
+use Rattle.str0m_formats.specs.declared.round.negotiation_error.NegotiationError.{NegotiationError}
+use Rattle.str0m_formats.specs.declared.round.negotiation_error.NegotiationError.TheVariants.{Memory}
+use Rattle.str0m_formats.specs.declared.row.codec_config.CodecConfig.{CodecConfig}
+use Rattle.str0m_formats.specs.declared.row.payload_params.PayloadParams.{PayloadParams}
+use Rattle.str0m_formats.specs.round.Rounds.{Leaves, Refused}
+use Rattle.str0m_formats.specs.round.RoundsPromises.{Promises, Negotiates}
+use Rattle.str0m_formats.specs.round.RoundsRuns.{Outcome}
 
 pub promised : (before remote : List PayloadParams) (receives : Bool) (after : List PayloadParams) → Leaves before remote receives after → Promises before remote receives after
 promised before remote receives after r =

@@ -1,11 +1,11 @@
 -- How often a type stands among the rows that pass a test, as the rows are gone over one by one.
 use Rattle.str0m_formats.proofs.Common.{rules, zero, suc, ◌≡◌, ℕ, ◌+◌, ◌≤◌, Bool, true, false, not, cond, List, [], ◌∷◌, ◌++◌, length, take, drop, Some, filter, refl, ap, ◌∙◌, arith, slice_get, same_Some, none-some, length-append}
+use Rattle.str0m_formats.proofs.round.ClaimedTimes.{times-append, times-nil}
+use Rattle.str0m_formats.proofs.round.RoundsPasses.{take_suc}
+use Rattle.str0m_formats.proofs.row.PayloadParamsSets.{types_where-push}
 use Rattle.str0m_formats.specs.declared.row.payload_params.PayloadParams.{PayloadParams}
 use Rattle.str0m_formats.specs.round.Claimed.{times}
 use Rattle.str0m_formats.specs.row.PayloadParams.{types_of, types, locked_types, open_types}
-use Rattle.str0m_formats.proofs.round.RoundsPasses.{take_suc}
-use Rattle.str0m_formats.proofs.row.PayloadParamsSets.{types_where-push}
-use Rattle.str0m_formats.proofs.round.ClaimedTimes.{times-append, times-nil}
 
 pub drop_suc : {A : Type 0} (xs : List A) (i : ℕ) (x : A) → slice_get xs i ≡ Some x → drop i xs ≡ x ∷ drop (suc i) xs
 drop_suc [] i x e = absurd (cc)

@@ -1,12 +1,12 @@
 -- What a round does to the row at a place, step by step.
 use Rattle.str0m_formats.proofs.Common.{arith, ◌≡◌, ℕ, Bool, true, false, List, take, Option, Some, None, Result, Ok, Err, IfOk, IfErr, IfSome, slice_get, ok_or}
+use Rattle.str0m_formats.proofs.round.RoundsWhole.{row_before}
 use Rattle.str0m_formats.specs.declared.round.negotiation_error.NegotiationError.{NegotiationError}
 use Rattle.str0m_formats.specs.declared.round.negotiation_error.NegotiationError.TheVariants.{Exhausted, ClaimedTwice}
 use Rattle.str0m_formats.specs.declared.row.payload_params.PayloadParams.{PayloadParams}
 use Rattle.str0m_formats.specs.round.Claimed.{TypeSet, has, either, free}
-use Rattle.str0m_formats.specs.row.PayloadParams.{locked_types, open_types}
 use Rattle.str0m_formats.specs.round.Rounds.{and_then, role_type, rtx_type, red_type, taken_by, taken_after, settled, kept_red, Becomes, Leaves}
-use Rattle.str0m_formats.proofs.round.RoundsWhole.{row_before}
+use Rattle.str0m_formats.specs.row.PayloadParams.{locked_types, open_types}
 
 -- ---- what a step gives, by its parts
 

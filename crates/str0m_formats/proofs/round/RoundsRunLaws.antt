@@ -1,24 +1,24 @@
 -- What holds over every list of rounds.
 use Rattle.str0m_formats.proofs.Common.{rules, ◌≡◌, ◌≢◌, ◌≤◌, Bool, true, false, List, [], ◌∷◌, length, Ok, Err, refl, sym, ◌∙◌, subst, arith, same_Some, All-nil, All-cons, All-head, All-tail, receives, All}
-use Rattle.str0m_formats.specs.declared.round.negotiation_error.NegotiationError.{NegotiationError}
-use Rattle.str0m_formats.specs.declared.round.negotiation_error.NegotiationError.TheVariants.{Exhausted}
-use Rattle.str0m_formats.specs.declared.row.payload_params.PayloadParams.{PayloadParams}
-use Rattle.str0m_formats.specs.declared.round.rounds.Round.{Round}
-use Rattle.str0m_formats.specs.round.Claimed.{AllDistinct}
-use Rattle.str0m_formats.specs.row.PlainRowBounds.{IsBounded}
-use Rattle.str0m_formats.specs.row.PlainRow.{IsPlain}
-use Rattle.str0m_formats.specs.row.PayloadParams.{AllSmall, types, locked_types}
-use Rattle.str0m_formats.specs.round.Rounds.{Leaves}
-use Rattle.str0m_formats.specs.round.RoundsRuns.{Outcome, Ran, Reached, AtEachOk}
-use Rattle.str0m_formats.specs.round.RoundsPromises.{AtEachRow, StaysLocked, Promises, OnlyForMemory, RunPromises}
-use Rattle.str0m_formats.proofs.round.RoundsWhole.{row_before}
+use Rattle.str0m_formats.proofs.round.NarrowingLevels.{Lowers, lowers-same, lowers-then}
+use Rattle.str0m_formats.proofs.round.NarrowingTelephone.{Narrows, narrows-same, narrows-then}
 use Rattle.str0m_formats.proofs.round.RoundsCounting.{never_exhausted}
 use Rattle.str0m_formats.proofs.round.RoundsLocked.{stays-same, stays-then}
-use Rattle.str0m_formats.proofs.round.NarrowingTelephone.{Narrows, narrows-same, narrows-then}
-use Rattle.str0m_formats.proofs.round.NarrowingLevels.{Lowers, lowers-same, lowers-then}
-use Rattle.str0m_formats.proofs.round.RoundsSmallTypes.{small-append, bounds_kept}
 use Rattle.str0m_formats.proofs.round.RoundsMemory.{only_for_memory}
 use Rattle.str0m_formats.proofs.round.RoundsPromised.{promised}
+use Rattle.str0m_formats.proofs.round.RoundsSmallTypes.{small-append, bounds_kept}
+use Rattle.str0m_formats.proofs.round.RoundsWhole.{row_before}
+use Rattle.str0m_formats.specs.declared.round.negotiation_error.NegotiationError.{NegotiationError}
+use Rattle.str0m_formats.specs.declared.round.negotiation_error.NegotiationError.TheVariants.{Exhausted}
+use Rattle.str0m_formats.specs.declared.round.rounds.Round.{Round}
+use Rattle.str0m_formats.specs.declared.row.payload_params.PayloadParams.{PayloadParams}
+use Rattle.str0m_formats.specs.round.Claimed.{AllDistinct}
+use Rattle.str0m_formats.specs.round.Rounds.{Leaves}
+use Rattle.str0m_formats.specs.round.RoundsPromises.{AtEachRow, StaysLocked, Promises, OnlyForMemory, RunPromises}
+use Rattle.str0m_formats.specs.round.RoundsRuns.{Outcome, Ran, Reached, AtEachOk}
+use Rattle.str0m_formats.specs.row.PayloadParams.{AllSmall, types, locked_types}
+use Rattle.str0m_formats.specs.row.PlainRow.{IsPlain}
+use Rattle.str0m_formats.specs.row.PlainRowBounds.{IsBounded}
 
 -- ---- one round after another
 

@@ -1,17 +1,17 @@
 -- Types stay at most 127.
 use Rattle.str0m_formats.proofs.Common.{arith, zero, suc, ◌≡◌, ℕ, Bool, true, false, cond, find, nat_lt, List, [], ◌∷◌, ◌++◌, Option, Some, None, Ok, IfSome, refl, sym, ap, ◌∙◌, subst, slice_get, option_to_list, option_or, find-append, le-ltb, IfOk-at_ok}
-use Rattle.str0m_formats.specs.declared.row.payload_params.PayloadParams.{PayloadParams}
-use Rattle.str0m_formats.specs.codec.Codec.{Content, content}
-use Rattle.str0m_formats.specs.round.Claimed.{TypeSet, with_type, with_option, either, free, AllDistinct}
-use Rattle.str0m_formats.specs.row.PayloadParams.{AllSmall, types_of, types, locked_types}
-use Rattle.str0m_formats.specs.round.Choices.{points_for}
-use Rattle.str0m_formats.specs.round.Rounds.{red_type, only_audio, placed, settled, Leaves}
 use Rattle.str0m_formats.proofs.round.ClaimedSets.{free-small}
 use Rattle.str0m_formats.proofs.round.FirstPass.{none-parts, small_at, small_choice, placed-locked, placed-open_row, placed-no_choice, locked_parts}
-use Rattle.str0m_formats.proofs.round.RoundsWhole.{row_before}
-use Rattle.str0m_formats.proofs.round.RoundsRowSteps.{row_steps, role-given, rtx-given, red-given, kept-given}
 use Rattle.str0m_formats.proofs.round.RoundsInvariants.{locked_once}
+use Rattle.str0m_formats.proofs.round.RoundsRowSteps.{row_steps, role-given, rtx-given, red-given, kept-given}
+use Rattle.str0m_formats.proofs.round.RoundsWhole.{row_before}
 use Rattle.str0m_formats.proofs.round.SettlingPass.{settled_parts, new_red, new_resend, with_red, settled-same}
+use Rattle.str0m_formats.specs.codec.Codec.{Content, content}
+use Rattle.str0m_formats.specs.declared.row.payload_params.PayloadParams.{PayloadParams}
+use Rattle.str0m_formats.specs.round.Choices.{points_for}
+use Rattle.str0m_formats.specs.round.Claimed.{TypeSet, with_type, with_option, either, free, AllDistinct}
+use Rattle.str0m_formats.specs.round.Rounds.{red_type, only_audio, placed, settled, Leaves}
+use Rattle.str0m_formats.specs.row.PayloadParams.{AllSmall, types_of, types, locked_types}
 
 pub small-append : (xs ys : List ℕ) → AllSmall xs → AllSmall ys → AllSmall (xs ++ ys)
 small-append xs ys hx hy = find-append (nat_lt 127) xs ys ∙ ap (λ o. option_or o (find (nat_lt 127) ys)) hx ∙ hy

@@ -1,17 +1,17 @@
 -- What a whole first pass leaves, and a whole round.
 use Rattle.str0m_formats.proofs.Common.{zero, suc, ◌≡◌, ℕ, ◌⊎◌, inl, inr, Bool, true, false, ◌||◌, cond, find, nat_lt, List, [], ◌∷◌, ◌++◌, length, Some, Result, Ok, Err, OnOk, IfErr, filter, refl, sym, ap, ◌∙◌, subst, arith, slice_get, slice_get_within, true≢false, false≢true, cases_Bool, or_cases, fun_ext}
+use Rattle.str0m_formats.proofs.round.ClaimSteps.{claimed_all, claimed_twice}
+use Rattle.str0m_formats.proofs.round.ClaimedTimes.{times-nil}
+use Rattle.str0m_formats.proofs.round.FirstPass.{placed-locked, placed-open}
+use Rattle.str0m_formats.proofs.round.RoundsPasses.{none_within}
+use Rattle.str0m_formats.proofs.row.PayloadParamsSets.{has-append, locked_types-at, open_types-at}
 use Rattle.str0m_formats.specs.declared.round.negotiation_error.NegotiationError.{NegotiationError}
 use Rattle.str0m_formats.specs.declared.round.negotiation_error.NegotiationError.TheVariants.{TypeTooLarge}
 use Rattle.str0m_formats.specs.declared.row.payload_params.PayloadParams.{PayloadParams}
 use Rattle.str0m_formats.specs.round.Claimed.{TypeSet, has, AllDistinct}
-use Rattle.str0m_formats.specs.row.PayloadParams.{AllSmall, types_of, types, locked_types, open_types}
 use Rattle.str0m_formats.specs.round.Claims.{claim_each}
 use Rattle.str0m_formats.specs.round.Rounds.{taken_by, Begun, MayBegin, AllBegun, Settled, StopsSettling, Leaves, Refused, too_large, twice_before, in_second}
-use Rattle.str0m_formats.proofs.round.RoundsPasses.{none_within}
-use Rattle.str0m_formats.proofs.row.PayloadParamsSets.{has-append, locked_types-at, open_types-at}
-use Rattle.str0m_formats.proofs.round.FirstPass.{placed-locked, placed-open}
-use Rattle.str0m_formats.proofs.round.ClaimSteps.{claimed_all, claimed_twice}
-use Rattle.str0m_formats.proofs.round.ClaimedTimes.{times-nil}
+use Rattle.str0m_formats.specs.row.PayloadParams.{AllSmall, types_of, types, locked_types, open_types}
 
 -- no type stands in an empty list
 nothing : AllDistinct []

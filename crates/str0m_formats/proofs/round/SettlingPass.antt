@@ -1,16 +1,16 @@
 -- The second pass of a round: what one row changes, and the state between two rows.
 use Rattle.str0m_formats.proofs.Common.{◌≡◌, ◌==◌, ℕ, ◌+◌, ◌<◌, Bool, true, false, ◌||◌, cond, if◌then◌else◌, List, [], ◌∷◌, ◌++◌, length, take, drop, get_or, Option, Some, None, Result, Ok, Err, refl, sym, ap, ◌∙◌, subst, arith, slice_get, ok_or, append_assoc, append-nil, take_more_set, drop-set-lt, length-set, length-take-le, length_push, drop_more_same, true≢false, eqb-true, or_parts, or-false, fun_ext, set}
+use Rattle.str0m_formats.proofs.round.ClaimedSets.{free-small, or_turned}
+use Rattle.str0m_formats.proofs.round.FirstPass.{and_then-ok, same_Ok}
+use Rattle.str0m_formats.proofs.round.RoundsPasses.{EachPlace, each_push, get_from_rest}
+use Rattle.str0m_formats.proofs.row.PayloadParamsSets.{has-append, open_types-push}
 use Rattle.str0m_formats.specs.declared.round.negotiation_error.NegotiationError.{NegotiationError}
 use Rattle.str0m_formats.specs.declared.round.negotiation_error.NegotiationError.TheVariants.{Exhausted}
 use Rattle.str0m_formats.specs.declared.row.payload_params.PayloadParams.{PayloadParams}
 use Rattle.str0m_formats.specs.round.Claimed.{TypeSet, has, with_type, with_option, either, free}
 use Rattle.str0m_formats.specs.round.Claims.{Serves}
-use Rattle.str0m_formats.specs.row.PayloadParams.{types_of, locked_types, open_types}
 use Rattle.str0m_formats.specs.round.Rounds.{settled, and_then, kept_or_free, kept_red, kept_rtx, taken_after, Settled, StopsSettling}
-use Rattle.str0m_formats.proofs.round.ClaimedSets.{free-small, or_turned}
-use Rattle.str0m_formats.proofs.round.RoundsPasses.{EachPlace, each_push, get_from_rest}
-use Rattle.str0m_formats.proofs.row.PayloadParamsSets.{has-append, open_types-push}
-use Rattle.str0m_formats.proofs.round.FirstPass.{and_then-ok, same_Ok}
+use Rattle.str0m_formats.specs.row.PayloadParams.{types_of, locked_types, open_types}
 
 -- ---- what a row becomes
 

@@ -1,12 +1,12 @@
 -- How often a type stands in a row that stays open.
 use Rattle.str0m_formats.proofs.Common.{◌≡◌, ℕ, ◌+◌, ◌≤◌, ◌⊎◌, inl, inr, Bool, true, false, cond, [], ◌∷◌, ◌++◌, Option, Some, None, refl, sym, ap, ◌∙◌, subst, arith, option_to_list, cases_Bool, or_parts, or_left}
-use Rattle.str0m_formats.specs.declared.row.payload_params.PayloadParams.{PayloadParams}
-use Rattle.str0m_formats.specs.round.Claimed.{TypeSet, with_type, with_option, either, free, times}
-use Rattle.str0m_formats.specs.row.PayloadParams.{types_of}
-use Rattle.str0m_formats.specs.round.Rounds.{kept_red}
 use Rattle.str0m_formats.proofs.round.ClaimedSets.{free-small}
 use Rattle.str0m_formats.proofs.round.ClaimedTimes.{times-nil}
 use Rattle.str0m_formats.proofs.round.SettlingPass.{SettledParts, new_red, new_resend, with_red}
+use Rattle.str0m_formats.specs.declared.row.payload_params.PayloadParams.{PayloadParams}
+use Rattle.str0m_formats.specs.round.Claimed.{TypeSet, with_type, with_option, either, free, times}
+use Rattle.str0m_formats.specs.round.Rounds.{kept_red}
+use Rattle.str0m_formats.specs.row.PayloadParams.{types_of}
 
 -- ---- one role
 

@@ -1,16 +1,16 @@
 -- Default rows are distinct, and stay default while codecs are enabled and disabled.
-use Rattle.str0m_formats.proofs.Common.{rules, ◌≡◌, ◌==◌, ℕ, ◌+◌, ◌≤◌, Bool, true, false, not, ◌&&◌, cond, Option, Some, None, option_map, find, List, [], ◌∷◌, ◌++◌, map, All, Result, Ok, Err, OnOk, OnErr, if◌then◌else◌, refl, sym, ap, ◌∙◌, subst, arith, AllByRecursion, Contains, list_all, flat_map, and_parts, eqb-true, true≢false, map-append, All-append, All-filter, All-weaker, All-contains, All-nil, unwrap_or, is_ok, IsOk, All-contains_itself, All-from_recursion, recursion_from_All}
 use Rattle.std.specs.declared.alloc.AllocError.{AllocError}
+use Rattle.str0m_formats.proofs.Common.{rules, ◌≡◌, ◌==◌, ℕ, ◌+◌, ◌≤◌, Bool, true, false, not, ◌&&◌, cond, Option, Some, None, option_map, find, List, [], ◌∷◌, ◌++◌, map, All, Result, Ok, Err, OnOk, OnErr, if◌then◌else◌, refl, sym, ap, ◌∙◌, subst, arith, AllByRecursion, Contains, list_all, flat_map, and_parts, eqb-true, true≢false, map-append, All-append, All-filter, All-weaker, All-contains, All-nil, unwrap_or, is_ok, IsOk, All-contains_itself, All-from_recursion, recursion_from_All}
+use Rattle.str0m_formats.proofs.format.FormatParamsEqual.{codec_Decides}
+use Rattle.str0m_formats.proofs.round.ClaimedTimes.{one_if, times-cons, times-append, all_apart, once_within}
 use Rattle.str0m_formats.specs.declared.codec.Codec.{Codec}
 use Rattle.str0m_formats.specs.declared.codec.TheConstants.{NAMED}
 use Rattle.str0m_formats.specs.declared.row.codec_config.CodecConfig.{CodecConfig}
 use Rattle.str0m_formats.specs.declared.row.payload_params.PayloadParams.{PayloadParams}
-use Rattle.str0m_formats.specs.row.PayloadParams.{types_of, types}
 use Rattle.str0m_formats.specs.round.Claimed.{has, times, AllDistinct}
-use Rattle.str0m_formats.specs.row.DefaultRows.{default_rows, others, enabled_rows, IsDefault, AreDefault, Enables}
 use Rattle.str0m_formats.specs.round.MatchScore.{same_codec}
-use Rattle.str0m_formats.proofs.format.FormatParamsEqual.{codec_Decides}
-use Rattle.str0m_formats.proofs.round.ClaimedTimes.{one_if, times-cons, times-append, all_apart, once_within}
+use Rattle.str0m_formats.specs.row.DefaultRows.{default_rows, others, enabled_rows, IsDefault, AreDefault, Enables}
+use Rattle.str0m_formats.specs.row.PayloadParams.{types_of, types}
 
 -- the whole table, with its REDs
 abbrev table : List PayloadParams

@@ -1,11 +1,11 @@
 -- When two rows are the same: `==` of each field but `locked` decides, and so does that of the row.
 use Rattle.str0m_formats.proofs.Common.{◌≡◌, ℕ, Bool, true, false, Option, refl, sym, ap, ◌∙◌, Decides, IsEquivalence, Decides-like, one_answer, equiv}
-use Rattle.str0m_formats.specs.row.PayloadParams.{SameRow}
+use Rattle.str0m_formats.proofs.format.FormatParamsDerived.{Equality, equality}
+use Rattle.str0m_formats.proofs.format.FormatParamsEqual.{spec}
 use Rattle.str0m_formats.specs.contracts.row.payload_params.PayloadParamsPartialEq.TheImpl as row
 use Rattle.str0m_formats.specs.declared.codec.codec_spec.CodecSpec.{CodecSpec}
 use Rattle.str0m_formats.specs.declared.row.payload_params.PayloadParams.{PayloadParams}
-use Rattle.str0m_formats.proofs.format.FormatParamsDerived.{Equality, equality}
-use Rattle.str0m_formats.proofs.format.FormatParamsEqual.{spec}
+use Rattle.str0m_formats.specs.row.PayloadParams.{SameRow}
 
 -- a row but for whether it is locked
 abbrev Seen : Type 0

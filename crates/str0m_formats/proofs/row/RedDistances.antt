@@ -1,9 +1,9 @@
 -- What is kept of the distances given.
-use Rattle.str0m_formats.proofs.Common.{rules, ◌≡◌, ◌==◌, ◌↔◌, ◌⊎◌, inl, inr, ℕ, ◌+◌, ◌-◌, ◌<◌, ◌≤◌, Bool, true, false, ◌&&◌, cond, List, [], ◌∷◌, ◌++◌, filter, All, length, take, refl, sym, ◌∙◌, arith, Contains, list_any, range_with_len, or_cases, or_left, or_right, and_parts, eqb-true, eq-eqb, append-nil, take_more_set, All-filter, filter-append, add-one, set, nat_eq_equiv, and-false, and_from}
-use Rattle.std.specs.List.Sorted.{IsStrictlyIncreasing}
 use Rattle.std.proofs.lemmas.List.FromFn.{length-range_with_len, get_or-range_with_len}
 use Rattle.std.proofs.lemmas.List.Kept.{IsStrictlyIncreasing-filter}
 use Rattle.std.proofs.lemmas.Map.Views.{list_any-from_Contains, Contains-from_any}
+use Rattle.std.specs.List.Sorted.{IsStrictlyIncreasing}
+use Rattle.str0m_formats.proofs.Common.{rules, ◌≡◌, ◌==◌, ◌↔◌, ◌⊎◌, inl, inr, ℕ, ◌+◌, ◌-◌, ◌<◌, ◌≤◌, Bool, true, false, ◌&&◌, cond, List, [], ◌∷◌, ◌++◌, filter, All, length, take, refl, sym, ◌∙◌, arith, Contains, list_any, range_with_len, or_cases, or_left, or_right, and_parts, eqb-true, eq-eqb, append-nil, take_more_set, All-filter, filter-append, add-one, set, nat_eq_equiv, and-false, and_from}
 use Rattle.str0m_formats.proofs.format.ParamTextPrinted.{range_push}
 use Rattle.str0m_formats.specs.row.RedDistances.{IsKept, AreKept, AreDistances, keeps, kept_to}
 

@@ -1,10 +1,10 @@
 -- The keys of format parameters, and their texts.
 use Rattle.std.specs.Prelude.{ℕ, List, [], find, option_map, unwrap_or}
-use denote.Enum.Bare.{sameb}
 use Rattle.str0m_formats.specs.contracts.format.format_key.FormatKey as format_key
 use Rattle.str0m_formats.specs.declared.format.format_key.FormatKey.{FormatKey}
 use Rattle.str0m_formats.specs.declared.format.format_key.FormatKey.TheVariants.{Apt}
 use Rattle.str0m_formats.specs.declared.format.format_key.TheConstants.{KEYS}
+use denote.Enum.Bare.{sameb}
 
 -- the text in the row of the key
 abbrev row_text : FormatKey → List ℕ

@@ -1,17 +1,17 @@
 -- Formats: what each field holds, which parameter sets it, and how a format prints.
-use Rattle.std.specs.Prelude.{◌≡◌, ◌⊎◌, ◌≤◌, ℕ, List, map, Option, Some, None, IfSome, option_map, filter_map}
 use Rattle.std.specs.List.{join_with_byte, fold}
-use Rattle.str0m_values.specs.H265.{H265ProfileTierLevel as h265_triple}
-use Rattle.str0m_values.specs.H266.{H266ProfileTierLevel as h266_triple}
-use Rattle.str0m_formats.specs.format.FormatParam.{Held, kind, made, entry, InRange, param_text}
+use Rattle.std.specs.Prelude.{◌≡◌, ◌⊎◌, ◌≤◌, ℕ, List, map, Option, Some, None, IfSome, option_map, filter_map}
 use Rattle.str0m_formats.specs.declared.format.format_key.FormatKey.{FormatKey}
 use Rattle.str0m_formats.specs.declared.format.format_key.FormatKey.TheVariants as key
 use Rattle.str0m_formats.specs.declared.format.format_param.FormatParam.{FormatParam}
 use Rattle.str0m_formats.specs.declared.format.format_param.FormatParam.TheVariants.{H265ProfileTierLevel, H266ProfileTierLevel, TelephoneEvents}
 use Rattle.str0m_formats.specs.declared.format.format_params.Field.{Field}
 use Rattle.str0m_formats.specs.declared.format.format_params.Field.TheVariants as field
-use Rattle.str0m_formats.specs.declared.format.format_params.TheConstants.{FIELDS}
 use Rattle.str0m_formats.specs.declared.format.format_params.FormatParams.{FormatParams}
+use Rattle.str0m_formats.specs.declared.format.format_params.TheConstants.{FIELDS}
+use Rattle.str0m_formats.specs.format.FormatParam.{Held, kind, made, entry, InRange, param_text}
+use Rattle.str0m_values.specs.H265.{H265ProfileTierLevel as h265_triple}
+use Rattle.str0m_values.specs.H266.{H266ProfileTierLevel as h266_triple}
 
 -- what the field of a format holds: the value of its key, a profile, tier and level, or the highest event
 abbrev pub Content : Field → Type 0

@@ -1,11 +1,11 @@
 -- How the value after a key prints, as the printer takes it.
-use Rattle.std.specs.Prelude.{ℕ, List, [], ◌++◌, codes, Option, Some, None}
 use Rattle.std.specs.Fmt.{decimal}
-use Rattle.str0m_formats.specs.format.FormatKey.{key_text}
-use Rattle.str0m_formats.specs.format.FormatParam.{flag_text, six_digits, mode_list}
+use Rattle.std.specs.Prelude.{ℕ, List, [], ◌++◌, codes, Option, Some, None}
 use Rattle.str0m_formats.specs.declared.format.format_key.FormatKey.{FormatKey}
 use Rattle.str0m_formats.specs.declared.format.param_text.Value.{Value}
 use Rattle.str0m_formats.specs.declared.format.param_text.Value.TheVariants.{Flag, Number, SixDigits, Modes}
+use Rattle.str0m_formats.specs.format.FormatKey.{key_text}
+use Rattle.str0m_formats.specs.format.FormatParam.{flag_text, six_digits, mode_list}
 
 abbrev pub shown : Value → List ℕ
 shown (Flag b) = flag_text b

@@ -1,11 +1,11 @@
 -- Which row of a list is chosen, and which remote row a row is matched with.
-use Rattle.std.specs.Prelude.{◌≡◌, ◌==◌, ◌<◌, ◌≤◌, ℕ, Bool, true, false, ◌&&◌, not, Option, Some, None, List, [], ◌∷◌, ◌++◌, if◌then◌else◌, IfSome, All, find, nat_lt, option_map}
 use Rattle.std.specs.Borrow.{Bor}
+use Rattle.std.specs.Prelude.{◌≡◌, ◌==◌, ◌<◌, ◌≤◌, ℕ, Bool, true, false, ◌&&◌, not, Option, Some, None, List, [], ◌∷◌, ◌++◌, if◌then◌else◌, IfSome, All, find, nat_lt, option_map}
 use Rattle.str0m_formats.specs.codec.Codec.{Content, content, events, is_amr_wb}
 use Rattle.str0m_formats.specs.declared.row.payload_params.PayloadParams.{PayloadParams}
-use Rattle.str0m_formats.specs.round.Narrowing.{telephone_max}
-use Rattle.str0m_formats.specs.round.MatchScore.{score}
 use Rattle.str0m_formats.specs.round.Claimed.{TypeSet}
+use Rattle.str0m_formats.specs.round.MatchScore.{score}
+use Rattle.str0m_formats.specs.round.Narrowing.{telephone_max}
 
 -- a row is the last of the rows of greatest score
 pub record IsBest (points : PayloadParams → Option ℕ) (rows : List PayloadParams) (best : PayloadParams) : Type 0 where

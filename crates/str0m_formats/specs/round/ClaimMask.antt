@@ -1,7 +1,7 @@
 -- A number as a set of payload types: bit t stands for the type t.
-use Rattle.std.specs.Prelude.{◌==◌, ℕ, Option, find}
-use Rattle.std.specs.List.{range_with_len}
 use Rattle.std.specs.Int.{bit_at}
+use Rattle.std.specs.List.{range_with_len}
+use Rattle.std.specs.Prelude.{◌==◌, ℕ, Option, find}
 use Rattle.str0m_formats.specs.round.Claimed.{TypeSet}
 
 abbrev pub bit_set : ℕ → TypeSet

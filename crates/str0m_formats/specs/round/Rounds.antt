@@ -1,14 +1,14 @@
 -- A round of negotiation: what it leaves, or why it is refused, read off finished lists of rows.
-use Rattle.std.specs.Prelude.{◌≡◌, ◌≤◌, ℕ, Bool, true, ◌&&◌, Option, Some, None, Result, Ok, Err, List, ◌∷◌, ◌++◌, length, take, slice_get, find, nat_lt, if◌then◌else◌}
 use Rattle.std.specs.Option.{ok_or}
+use Rattle.std.specs.Prelude.{◌≡◌, ◌≤◌, ℕ, Bool, true, ◌&&◌, Option, Some, None, Result, Ok, Err, List, ◌∷◌, ◌++◌, length, take, slice_get, find, nat_lt, if◌then◌else◌}
+use Rattle.str0m_formats.specs.codec.Codec.{Content, audio, content}
 use Rattle.str0m_formats.specs.declared.round.negotiation_error.NegotiationError.{NegotiationError}
 use Rattle.str0m_formats.specs.declared.round.negotiation_error.NegotiationError.TheVariants.{TypeTooLarge, ClaimedTwice, Exhausted}
-use Rattle.str0m_formats.specs.codec.Codec.{Content, audio, content}
 use Rattle.str0m_formats.specs.declared.row.payload_params.PayloadParams.{PayloadParams}
-use Rattle.str0m_formats.specs.round.Claimed.{TypeSet, has, with_type, with_option, either, free, AllDistinct}
-use Rattle.str0m_formats.specs.row.PayloadParams.{AllSmall, types, locked_types, open_types}
-use Rattle.str0m_formats.specs.round.Narrowing.{narrowed}
 use Rattle.str0m_formats.specs.round.Choices.{IsChoice, points_for}
+use Rattle.str0m_formats.specs.round.Claimed.{TypeSet, has, with_type, with_option, either, free, AllDistinct}
+use Rattle.str0m_formats.specs.round.Narrowing.{narrowed}
+use Rattle.str0m_formats.specs.row.PayloadParams.{AllSmall, types, locked_types, open_types}
 
 -- what a step gives, where it is not refused
 abbrev pub and_then : {A B : Type 0} → Result A NegotiationError → (A → Result B NegotiationError) → Result B NegotiationError

@@ -1,25 +1,25 @@
 -- The rows that a configuration takes in.
+use Rattle.std.specs.Borrow.{Lends, MutBor, Fml, RattleType}
 use Rattle.std.specs.Prelude.{◌≡◌, ℕ, Bool, true, Option, Some, None, if◌then◌else◌}
-use Rattle.str0m_values.specs.H265 as h265
-use Rattle.str0m_values.specs.H266 as h266
-use Rattle.str0m_values.specs.ProfileTierLevel.{HasNumbers}
-use Rattle.str0m_values.specs.declared.profile_tier_level.ProfileTierLevel.{ProfileTierLevel}
-use Rattle.str0m_values.specs.H265.{H265ProfileTierLevel}
-use Rattle.str0m_values.specs.H266.{H266ProfileTierLevel}
+use Rattle.std.specs.contracts.alloc.Global as global
+use Rattle.std.specs.contracts.impls.GlobalAllocator.TheImpl.{ghosts}
+use Rattle.std.specs.contracts.vec.Vec as vec
+use Rattle.str0m_formats.specs.contracts.row.codec_config.CodecConfig.{the_row}
+use Rattle.str0m_formats.specs.contracts.row.payload_params.PayloadParams as row
 use Rattle.str0m_formats.specs.declared.codec.Codec.{Codec}
 use Rattle.str0m_formats.specs.declared.codec.Codec.TheVariants.{H264, H265, H266}
 use Rattle.str0m_formats.specs.declared.codec.codec_spec.CodecSpec.{CodecSpec}
 use Rattle.str0m_formats.specs.declared.format.format_params.FormatParams.{FormatParams}
-use Rattle.str0m_formats.specs.format.FormatParams.{empty}
-use Rattle.str0m_formats.specs.declared.row.payload_params.PayloadParams.{PayloadParams}
-use Rattle.str0m_formats.specs.row.PayloadParams.{new_row}
-use Rattle.std.specs.Borrow.{Lends, MutBor, Fml, RattleType}
-use Rattle.std.specs.contracts.alloc.Global as global
-use Rattle.std.specs.contracts.vec.Vec as vec
-use Rattle.std.specs.contracts.impls.GlobalAllocator.TheImpl.{ghosts}
-use Rattle.str0m_formats.specs.contracts.row.payload_params.PayloadParams as row
 use Rattle.str0m_formats.specs.declared.row.codec_config.CodecConfig.{CodecConfig}
-use Rattle.str0m_formats.specs.contracts.row.codec_config.CodecConfig.{the_row}
+use Rattle.str0m_formats.specs.declared.row.payload_params.PayloadParams.{PayloadParams}
+use Rattle.str0m_formats.specs.format.FormatParams.{empty}
+use Rattle.str0m_formats.specs.row.PayloadParams.{new_row}
+use Rattle.str0m_values.specs.H265 as h265
+use Rattle.str0m_values.specs.H265.{H265ProfileTierLevel}
+use Rattle.str0m_values.specs.H266 as h266
+use Rattle.str0m_values.specs.H266.{H266ProfileTierLevel}
+use Rattle.str0m_values.specs.ProfileTierLevel.{HasNumbers}
+use Rattle.str0m_values.specs.declared.profile_tier_level.ProfileTierLevel.{ProfileTierLevel}
 
 -- a video codec: at 90000 Hz, and without channels
 abbrev pub picture_spec : Codec → FormatParams → CodecSpec

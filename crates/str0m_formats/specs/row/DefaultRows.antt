@@ -1,24 +1,24 @@
 -- The default rows of each codec, and the lists that they make.
-use Rattle.std.specs.Prelude.{◌≡◌, ℕ, Bool, true, false, not, Option, Some, None, List, [], ◌∷◌, ◌++◌, map, filter, All, Result, OnOk, OnErr, IsOk, if◌then◌else◌}
 use Rattle.std.specs.List.{Contains, flat_map}
+use Rattle.std.specs.Prelude.{◌≡◌, ℕ, Bool, true, false, not, Option, Some, None, List, [], ◌∷◌, ◌++◌, map, filter, All, Result, OnOk, OnErr, IsOk, if◌then◌else◌}
 use Rattle.std.specs.declared.alloc.AllocError.{AllocError}
-use Rattle.str0m_values.specs.declared.h265.H265Profile.TheVariants as h265_profile
-use Rattle.str0m_values.specs.declared.h265.H265Tier.TheVariants as h265_tier
-use Rattle.str0m_values.specs.declared.h265.H265Level.TheVariants as h265_level
-use Rattle.str0m_values.specs.declared.h266.H266Profile.TheVariants as h266_profile
-use Rattle.str0m_values.specs.declared.h266.H266Tier.TheVariants as h266_tier
-use Rattle.str0m_values.specs.declared.h266.H266Level.TheVariants as h266_level
+use Rattle.str0m_formats.specs.codec.Codec.{static_row}
 use Rattle.str0m_formats.specs.declared.codec.Codec.{Codec}
 use Rattle.str0m_formats.specs.declared.codec.Codec.TheVariants.{Opus, PCMU, PCMA, G722, CN, AmrWb, H264, H265, H266, Vp8, Vp9, Av1, Tele, Rtx, Red, Null, Unknown}
-use Rattle.str0m_formats.specs.declared.row.codec_config.CodecConfig.{CodecConfig}
 use Rattle.str0m_formats.specs.declared.format.format_params.FormatParams.{FormatParams}
-use Rattle.str0m_formats.specs.format.FormatParams.{empty}
+use Rattle.str0m_formats.specs.declared.row.codec_config.CodecConfig.{CodecConfig}
 use Rattle.str0m_formats.specs.declared.row.payload_params.PayloadParams.{PayloadParams}
-use Rattle.str0m_formats.specs.codec.Codec.{static_row}
-use Rattle.str0m_formats.specs.row.PayloadParams.{new_row, types}
-use Rattle.str0m_formats.specs.round.MatchScore.{same_codec}
+use Rattle.str0m_formats.specs.format.FormatParams.{empty}
 use Rattle.str0m_formats.specs.round.Claimed.{AllDistinct}
+use Rattle.str0m_formats.specs.round.MatchScore.{same_codec}
 use Rattle.str0m_formats.specs.row.CodecConfig.{picture_spec, h264_row, h265_row, h266_row}
+use Rattle.str0m_formats.specs.row.PayloadParams.{new_row, types}
+use Rattle.str0m_values.specs.declared.h265.H265Level.TheVariants as h265_level
+use Rattle.str0m_values.specs.declared.h265.H265Profile.TheVariants as h265_profile
+use Rattle.str0m_values.specs.declared.h265.H265Tier.TheVariants as h265_tier
+use Rattle.str0m_values.specs.declared.h266.H266Level.TheVariants as h266_level
+use Rattle.str0m_values.specs.declared.h266.H266Profile.TheVariants as h266_profile
+use Rattle.str0m_values.specs.declared.h266.H266Tier.TheVariants as h266_tier
 
 -- an audio row at a rate in Hz, without RTX
 abbrev pub sound_row : Codec → ℕ → ℕ → Option ℕ → FormatParams → PayloadParams

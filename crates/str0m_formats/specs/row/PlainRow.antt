@@ -1,12 +1,12 @@
 -- Plain rows: those that the lines of a section say whole, so that a section made of them describes them again.
 use Rattle.std.specs.Prelude.{◌≡◌, ◌≢◌, ℕ, true, Some, None}
-use Rattle.str0m_formats.specs.row.PlainRowBounds.{IsBounded}
 use Rattle.str0m_formats.specs.codec.Codec.{content, audio, video, events, other}
-use Rattle.str0m_formats.specs.format.FormatParams.{empty}
 use Rattle.str0m_formats.specs.declared.codec.Codec.TheVariants.{G722, H265, H266}
 use Rattle.str0m_formats.specs.declared.codec.codec_spec.CodecSpec.{CodecSpec}
 use Rattle.str0m_formats.specs.declared.format.format_params.FormatParams.{FormatParams}
 use Rattle.str0m_formats.specs.declared.row.payload_params.PayloadParams.{PayloadParams}
+use Rattle.str0m_formats.specs.format.FormatParams.{empty}
+use Rattle.str0m_formats.specs.row.PlainRowBounds.{IsBounded}
 
 -- G722 samples at 16000 Hz, and its one channel isn't said (RFC 3551, section 4.5.2)
 abbrev pub IsPlainG722 : CodecSpec → Type 0

@@ -1,12 +1,12 @@
 -- Rows whose numbers keep to their ranges, and those whose numbers fit the types of their fields.
 use Rattle.std.specs.Prelude.{◌<◌, ◌≤◌, ℕ, IfSome, if◌then◌else◌, nat_le}
-use Rattle.str0m_formats.specs.format.FormatParam.{Kind, number, hex, modes, Held, kind}
-use Rattle.str0m_formats.specs.format.FormatParams.{get}
-use Rattle.str0m_formats.specs.row.PayloadParams.{AllSmall, types_of}
 use Rattle.str0m_formats.specs.declared.format.format_key.FormatKey.{FormatKey}
 use Rattle.str0m_formats.specs.declared.format.format_params.Field.TheVariants as field
 use Rattle.str0m_formats.specs.declared.format.format_params.FormatParams.{FormatParams}
 use Rattle.str0m_formats.specs.declared.row.payload_params.PayloadParams.{PayloadParams}
+use Rattle.str0m_formats.specs.format.FormatParam.{Kind, number, hex, modes, Held, kind}
+use Rattle.str0m_formats.specs.format.FormatParams.{get}
+use Rattle.str0m_formats.specs.row.PayloadParams.{AllSmall, types_of}
 
 -- some of the modes 0 to 8, a bit each (RFC 4867, section 8.2)
 abbrev pub AreModes : ℕ → Type 0

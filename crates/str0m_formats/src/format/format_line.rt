@@ -1,12 +1,12 @@
 //! Formats that are read of a line, or of the values of fmtp lines.
-ghost use Rattle.std.specs.Prelude.{◌≡◌, ◌∷◌, [], IfOk, option_map};
 ghost use Rattle.std.specs.List.{list_any};
-ghost use Rattle.str0m_formats.specs.format.FormatParam.{pair_texts};
-ghost use Rattle.str0m_formats.specs.format.FormatParams.{empty, set_all, params_text, CanBeReadBack};
-ghost use Rattle.str0m_formats.specs.format.FormatLine.{pieces, pair_in, bare_in, pairs_in, IsFormatOfLine, IsFormatOfBares, is_events, is_unsupported, events_end, is_refused, kept, values_of, format_of_fmtp, line_values};
-ghost use Rattle.str0m_formats.specs.round.Narrowing.{telephone_max};
+ghost use Rattle.std.specs.Prelude.{◌≡◌, ◌∷◌, [], IfOk, option_map};
 ghost use Rattle.str0m_formats.specs.declared.codec.Codec.TheVariants.{AmrWb};
 ghost use Rattle.str0m_formats.specs.declared.format.format_params.FormatParams.{FormatParams};
+ghost use Rattle.str0m_formats.specs.format.FormatLine.{pieces, pair_in, bare_in, pairs_in, IsFormatOfLine, IsFormatOfBares, is_events, is_unsupported, events_end, is_refused, kept, values_of, format_of_fmtp, line_values};
+ghost use Rattle.str0m_formats.specs.format.FormatParam.{pair_texts};
+ghost use Rattle.str0m_formats.specs.format.FormatParams.{empty, set_all, params_text, CanBeReadBack};
+ghost use Rattle.str0m_formats.specs.round.Narrowing.{telephone_max};
 
 use crate::codec::Codec;
 use crate::format::format_param::FormatParam;

@@ -1,8 +1,8 @@
 //! Formats: the parameters of a codec, each in a field.
 ghost use Rattle.std.specs.Prelude.{◌≡◌, ◌++◌, IfOk, Some};
+ghost use Rattle.str0m_formats.specs.declared.format.format_params.Field.TheVariants as field;
 ghost use Rattle.str0m_formats.specs.format.FormatParam.{param_text, part_if};
 ghost use Rattle.str0m_formats.specs.format.FormatParams.{set_all, empty, set, param_at, params_of, params_text};
-ghost use Rattle.str0m_formats.specs.declared.format.format_params.Field.TheVariants as field;
 
 use crate::format::format_key::FormatKey;
 use crate::format::format_param::FormatParam;

@@ -1,13 +1,13 @@
 //! Pairs with each key once. Where they are many, keys are found by their order, so that time is that of
 //! a sort, whoever chose them. A table whose hash is known has to look at all that were chosen to fall
 //! together.
-ghost use Rattle.std.specs.Prelude.{◌≡◌, ◌<◌, [], IfOk, IfSome, OnOk, length, map, vec_len};
-ghost use Rattle.std.specs.String.{string_bytes};
-ghost use Rattle.std.specs.Str.{bytes_eq, str_to_ascii_lowercase};
 ghost use Rattle.indexmap.specs.IndexMap.{insert_entry, insert_all, set_value_at};
+ghost use Rattle.std.specs.Prelude.{◌≡◌, ◌<◌, [], IfOk, IfSome, OnOk, length, map, vec_len};
+ghost use Rattle.std.specs.Str.{bytes_eq, str_to_ascii_lowercase};
+ghost use Rattle.std.specs.String.{string_bytes};
 ghost use Rattle.str0m_formats.specs.format.FormatParam.{pair_texts};
-ghost use Rattle.str0m_formats.specs.format.PairsReading.{entry_texts};
 ghost use Rattle.str0m_formats.specs.format.MergedPairs.{HasPlaces, IsPlace};
+ghost use Rattle.str0m_formats.specs.format.PairsReading.{entry_texts};
 
 use std::alloc::{AllocError, Global};
 use std::collections::BTreeMap;

@@ -1,6 +1,6 @@
 //! Pairs of keys and values that are read together.
-ghost use Rattle.std.specs.Prelude.{◌≡◌, IfOk, map};
 ghost use Rattle.std.specs.List.{list_any};
+ghost use Rattle.std.specs.Prelude.{◌≡◌, IfOk, map};
 ghost use Rattle.str0m_formats.specs.format.FormatParam.{pair_texts};
 ghost use Rattle.str0m_formats.specs.format.FormatParamReading.{param_of};
 ghost use Rattle.str0m_formats.specs.format.Pairs.{is_mark, has_mark, value_of, is_part};

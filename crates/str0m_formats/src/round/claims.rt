@@ -1,11 +1,11 @@
 //! What a round has claimed: which remote row a row then goes with, and which types it may take.
-ghost use Rattle.std.specs.Prelude.{◌≡◌, ◌≤◌, IfOk, IfSome, not};
 ghost use Rattle.std.specs.Bool.{OnTrue, OnFalse};
 ghost use Rattle.std.specs.Option.{option_copied};
-ghost use Rattle.str0m_formats.specs.round.Claimed.{with_type, with_option, either, free};
-ghost use Rattle.str0m_formats.specs.round.Choices.{points_for, IsChoice};
-ghost use Rattle.str0m_formats.specs.round.Rounds.{role_type, own_or_free, rtx_type, red_type, only_audio};
+ghost use Rattle.std.specs.Prelude.{◌≡◌, ◌≤◌, IfOk, IfSome, not};
 ghost use Rattle.str0m_formats.specs.codec.Codec.{content};
+ghost use Rattle.str0m_formats.specs.round.Choices.{points_for, IsChoice};
+ghost use Rattle.str0m_formats.specs.round.Claimed.{with_type, with_option, either, free};
+ghost use Rattle.str0m_formats.specs.round.Rounds.{role_type, own_or_free, rtx_type, red_type, only_audio};
 
 use crate::codec::Codec;
 use crate::round::choices::better;

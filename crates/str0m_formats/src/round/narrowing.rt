@@ -1,7 +1,7 @@
 //! What the row that a row is matched with changes in its format.
 ghost use Rattle.std.specs.Prelude.{◌≡◌};
-ghost use Rattle.str0m_formats.specs.round.Narrowing.{narrowed, narrowed_as, levels_differ, lower_triple, id_beside};
 ghost use Rattle.str0m_formats.specs.declared.codec.Codec.TheVariants.{AmrWb, H264, H265, H266, Tele};
+ghost use Rattle.str0m_formats.specs.round.Narrowing.{narrowed, narrowed_as, levels_differ, lower_triple, id_beside};
 
 use crate::codec::Codec;
 use crate::codec::codec_spec::CodecSpec;

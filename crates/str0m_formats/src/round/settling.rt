@@ -3,8 +3,8 @@ ghost use Rattle.std.specs.Prelude.{◌≡◌, ℕ, Ok, IfOk, IfErr, IfSome, OnO
 ghost use Rattle.str0m_formats.specs.declared.row.payload_params.PayloadParams.{PayloadParams};
 ghost use Rattle.str0m_formats.specs.round.Claimed.{TypeSet, has, with_option, either};
 ghost use Rattle.str0m_formats.specs.round.Claims.{Serves};
-ghost use Rattle.str0m_formats.specs.row.PayloadParams.{types_of, locked_types};
 ghost use Rattle.str0m_formats.specs.round.Rounds.{and_then, kept_or_free, kept_red, kept_rtx, settled, Settled, StopsSettling};
+ghost use Rattle.str0m_formats.specs.row.PayloadParams.{types_of, locked_types};
 
 use crate::round::claimed::Claimed;
 use crate::round::claims::Claims;

@@ -1,9 +1,9 @@
 //! The default rows of codecs, which are taken in and out together.
 ghost use Rattle.std.specs.Prelude.{◌≡◌, ◌++◌, ◌∷◌, [], false, IfOk, OnOk, OnErr, IsOk, length};
 ghost use Rattle.str0m_formats.specs.declared.codec.Codec.{Codec};
-ghost use Rattle.str0m_formats.specs.row.PayloadParams.{types};
 ghost use Rattle.str0m_formats.specs.round.Claimed.{AllDistinct};
 ghost use Rattle.str0m_formats.specs.row.DefaultRows.{default_rows, static_rows, others, AreDefault, Enables, usual_rows};
+ghost use Rattle.str0m_formats.specs.row.PayloadParams.{types};
 
 use crate::codec::Codec;
 use crate::format::format_params::FormatParams;

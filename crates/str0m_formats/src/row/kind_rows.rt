@@ -1,6 +1,6 @@
 //! The rows of a kind of media.
-ghost use Rattle.std.specs.Prelude.{◌≡◌};
 ghost use Rattle.std.specs.Iterator.{YieldsFirstRef, item_count};
+ghost use Rattle.std.specs.Prelude.{◌≡◌};
 ghost use Rattle.str0m_formats.specs.row.KindRows.{is_sound, is_events, rate_of, shares_rate, some_share_rate, is_listed};
 
 use crate::row::payload_params::PayloadParams;

@@ -1,8 +1,8 @@
 //! Rows: a codec with the payload types that it is sent under.
-ghost use Rattle.std.specs.Prelude.{◌≡◌, ◌↔◌, IsTrue, IfSome, ◌≤◌};
 ghost use Rattle.std.specs.Cmp.{IsEquivalence};
-ghost use Rattle.str0m_formats.specs.row.PayloadParams.{new_row, probe_row, SameRow};
+ghost use Rattle.std.specs.Prelude.{◌≡◌, ◌↔◌, IsTrue, IfSome, ◌≤◌};
 ghost use Rattle.str0m_formats.specs.round.MatchScore.{IsScore, IsSelfScore, score};
+ghost use Rattle.str0m_formats.specs.row.PayloadParams.{new_row, probe_row, SameRow};
 
 use crate::codec::Codec;
 use crate::codec::codec_spec::CodecSpec;

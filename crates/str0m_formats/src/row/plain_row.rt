@@ -1,8 +1,8 @@
 //! Plain rows: those that the lines of a section say whole.
 ghost use Rattle.std.specs.Prelude.{◌≡◌, ◌↔◌, IsTrue, None};
-ghost use Rattle.str0m_formats.specs.row.PlainRowBounds.{IsBounded};
 ghost use Rattle.str0m_formats.specs.declared.codec.Codec.TheVariants.{G722};
 ghost use Rattle.str0m_formats.specs.row.PlainRow.{IsPlain, IsPlainG722, HasPictureFeedback, HasPlainTriples, SaysEventsAlone};
+ghost use Rattle.str0m_formats.specs.row.PlainRowBounds.{IsBounded};
 
 use crate::codec::Codec;
 use crate::codec::codec_spec::CodecSpec;

@@ -1,6 +1,6 @@
 //! How far back the redundant levels of RED reach (RFC 2198, section 3).
-ghost use Rattle.std.specs.Prelude.{◌≡◌, ◌==◌, ◌∷◌, []};
 ghost use Rattle.std.specs.List.{list_any};
+ghost use Rattle.std.specs.Prelude.{◌≡◌, ◌==◌, ◌∷◌, []};
 ghost use Rattle.str0m_formats.specs.row.RedDistances.{AreDistances, keeps, kept_to};
 
 use std::marker::Model;

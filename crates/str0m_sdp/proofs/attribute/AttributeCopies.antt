@@ -1,15 +1,15 @@
 -- A copy that the derived `clone` makes equals its source.
 use Rattle.str0m_sdp.proofs.Common.{arith, ◌≡◌, elements, same_from_all_zip}
-use Rattle.str0m_sdp.specs.declared.attribute.MediaAttribute.{MediaAttribute}
-use Rattle.str0m_sdp.specs.declared.section.media_line.MediaLine.{MediaLine}
-use Rattle.str0m_sdp.specs.declared.session.Session.{Session}
-use Rattle.str0m_sdp.specs.declared.session.Sdp.{Sdp}
-use Rattle.str0m_sdp.specs.declared.attribute.simulcast.Simulcast.{Simulcast}
 use Rattle.str0m_sdp.specs.contracts.attribute.MediaAttributeClone.TheImpl as attribute
-use Rattle.str0m_sdp.specs.contracts.section.media_line.MediaLineClone.TheImpl as line
-use Rattle.str0m_sdp.specs.contracts.session.SessionClone.TheImpl as session
-use Rattle.str0m_sdp.specs.contracts.session.SdpClone.TheImpl as sdp
 use Rattle.str0m_sdp.specs.contracts.attribute.simulcast.SimulcastClone.TheImpl as simulcast
+use Rattle.str0m_sdp.specs.contracts.section.media_line.MediaLineClone.TheImpl as line
+use Rattle.str0m_sdp.specs.contracts.session.SdpClone.TheImpl as sdp
+use Rattle.str0m_sdp.specs.contracts.session.SessionClone.TheImpl as session
+use Rattle.str0m_sdp.specs.declared.attribute.MediaAttribute.{MediaAttribute}
+use Rattle.str0m_sdp.specs.declared.attribute.simulcast.Simulcast.{Simulcast}
+use Rattle.str0m_sdp.specs.declared.section.media_line.MediaLine.{MediaLine}
+use Rattle.str0m_sdp.specs.declared.session.Sdp.{Sdp}
+use Rattle.str0m_sdp.specs.declared.session.Session.{Session}
 
 pub simulcast_copied : (a b : Simulcast) → simulcast.is_clone-value.it a b → b ≡ a
 simulcast_copied a b h = grind (arith, elements)

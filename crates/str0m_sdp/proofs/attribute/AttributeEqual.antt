@@ -1,7 +1,8 @@
 -- When two attributes are equal: each variant by its fields, and two variants never.
-use Rattle.str0m_sdp.proofs.Common.{◌≡◌, Decides, param_Decides, FormatParam, Equality, along, equality, word}
 use Rattle.str0m_formats.specs.contracts.codec.Codec as codec
 use Rattle.str0m_formats.specs.contracts.format.format_param.FormatParamPartialEq.TheImpl as param_eq
+use Rattle.str0m_sdp.proofs.Common.{◌≡◌, Decides, param_Decides, FormatParam, Equality, along, equality, word}
+use Rattle.str0m_sdp.proofs.session.CandidateEqual.{candidate}
 use Rattle.str0m_sdp.specs.contracts.attribute.MediaAttribute as media_type
 use Rattle.str0m_sdp.specs.contracts.attribute.MediaAttributePartialEq.TheImpl as media_eq
 use Rattle.str0m_sdp.specs.contracts.attribute.SessionAttribute as session_type
@@ -13,7 +14,6 @@ use Rattle.str0m_sdp.specs.declared.attribute.MediaAttribute.{MediaAttribute}
 use Rattle.str0m_sdp.specs.declared.attribute.SessionAttribute.{SessionAttribute}
 use Rattle.str0m_sdp.specs.declared.attribute.simulcast.RestrictionId.{RestrictionId}
 use Rattle.str0m_sdp.specs.declared.attribute.simulcast.Simulcast.{Simulcast}
-use Rattle.str0m_sdp.proofs.session.CandidateEqual.{candidate}
 
 abbrev param : Equality FormatParam
 param = record { test = param_eq.eq-value.it; decides = param_Decides }

@@ -1,10 +1,10 @@
 -- The feedback of types, one attribute more.
 use Rattle.str0m_sdp.proofs.Common.{arith, ◌≡◌, ◌<◌, ◌+◌, ◌||◌, ℕ, Bool, false, List, [], length, take, get_or, refl, sym, ap, ◌∙◌, inl, inr, cases_eq, eq-eqb, ne_eqb, get_or-set_same, get_or-set_other, bytes_eq, set}
+use Rattle.str0m_sdp.proofs.section.TypeTablesMarks.{any_more, any_same}
 use Rattle.str0m_sdp.specs.attribute.Feedback.{is_feedback, has_feedback, feedback_by, feedback_of, none, named, either}
 use Rattle.str0m_sdp.specs.declared.attribute.MediaAttribute.{MediaAttribute}
 use Rattle.str0m_sdp.specs.declared.attribute.MediaAttribute.TheVariants.{RtcpFb}
 use Rattle.str0m_sdp.specs.declared.attribute.feedback.Feedback.{Feedback}
-use Rattle.str0m_sdp.proofs.section.TypeTablesMarks.{any_more, any_same}
 
 -- the words are spoken so far, or in the attribute that is read
 has_more : (attrs : List MediaAttribute) (i : ℕ) (attr : MediaAttribute) (pt : ℕ) (words : List ℕ) → i < length attrs → attr ≡ get_or attrs i attr

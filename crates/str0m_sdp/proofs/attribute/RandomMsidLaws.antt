@@ -1,6 +1,6 @@
 -- One more word at the end of those drawn, and that each letter is ASCII.
-use Rattle.str0m_sdp.proofs.Common.{◌≡◌, ℕ, zero, suc, ◌+◌, ◌<◌, ◌++◌, [], ◌∷◌, List, refl, ap, arith, map, ◌∙◌, codes, nat_lt, ltb-true, map-append, ◌%◌, add-one, add-zero, add-suc, AllPass, AllPass-from_list_all}
 use Rattle.rand_core.specs.Stream.{Stream, next_u32}
+use Rattle.str0m_sdp.proofs.Common.{◌≡◌, ℕ, zero, suc, ◌+◌, ◌<◌, ◌++◌, [], ◌∷◌, List, refl, ap, arith, map, ◌∙◌, codes, nat_lt, ltb-true, map-append, ◌%◌, add-one, add-zero, add-suc, AllPass, AllPass-from_list_all}
 use Rattle.str0m_sdp.specs.attribute.RandomMsid.{words, after_words, letter_of}
 
 words-none : (stream : Stream) → words 0 stream ≡ []

@@ -1,9 +1,9 @@
 -- What is shown of values, one after the other, and when it is the same.
-use Rattle.str0m_sdp.proofs.Common.{◌≡◌, ◌<◌, ◌+◌, ℕ, Bool, false, not, cond, List, [], ◌∷◌, length, drop, get_or, Option, sym, ◌∙◌, ◌↔◌, IsTrue, MatchOption, FormatParam, arith, is_some, length-map}
 use Rattle.std.proofs.Math.Seq.{drop-cons}
-use Rattle.str0m_sdp.specs.section.Alike.{as_read, ids, shown}
+use Rattle.str0m_sdp.proofs.Common.{◌≡◌, ◌<◌, ◌+◌, ℕ, Bool, false, not, cond, List, [], ◌∷◌, length, drop, get_or, Option, sym, ◌∙◌, ◌↔◌, IsTrue, MatchOption, FormatParam, arith, is_some, length-map}
 use Rattle.str0m_sdp.specs.attribute.Fmtp.{is_shown}
 use Rattle.str0m_sdp.specs.declared.attribute.simulcast.SimulcastLayer.{SimulcastLayer}
+use Rattle.str0m_sdp.specs.section.Alike.{as_read, ids, shown}
 
 shown_first : (value : FormatParam) (values : List FormatParam) (b : Bool) → is_shown value ≡ b → shown (value ∷ values) ≡ cond b (as_read value ∷ shown values) (shown values)
 shown_first value values b is = grind arith

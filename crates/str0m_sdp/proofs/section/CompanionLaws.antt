@@ -1,10 +1,10 @@
 -- The types that go with others, one attribute more.
 use Rattle.str0m_sdp.proofs.Common.{arith, ◌≡◌, ◌<◌, ◌+◌, ◌++◌, ◌&&◌, ℕ, Bool, false, cond, List, [], ◌∷◌, length, take, get_or, Option, Some, None, filter_map, refl, sym, ap, ◌∙◌, option_or, list_any, take_at_read, filter_map-append, when, Codec, CodecSpec, FormatParam}
-use Rattle.str0m_sdp.specs.section.Companions.{names, companion_in, companion}
 use Rattle.str0m_sdp.specs.Common.{last}
-use Rattle.str0m_sdp.specs.section.Mappings.{is_mapped_to}
 use Rattle.str0m_sdp.specs.declared.attribute.MediaAttribute.{MediaAttribute}
 use Rattle.str0m_sdp.specs.declared.attribute.MediaAttribute.TheVariants.{Fmtp}
+use Rattle.str0m_sdp.specs.section.Companions.{names, companion_in, companion}
+use Rattle.str0m_sdp.specs.section.Mappings.{is_mapped_to}
 
 or_none : {X : Type 0} (o : Option X) → option_or o None ≡ o
 or_none o = grind arith

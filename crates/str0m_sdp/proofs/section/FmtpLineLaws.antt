@@ -1,10 +1,10 @@
 -- The fmtp lines of types, one attribute more.
 use Rattle.str0m_sdp.proofs.Common.{arith, ◌≡◌, ◌==◌, ◌<◌, ◌+◌, ◌++◌, ℕ, true, false, List, [], ◌∷◌, length, take, get_or, Option, Some, None, option_to_list, refl, sym, ap, ◌∙◌, inl, inr, Bor, cases_eq, eq-eqb, ne_eqb, append-nil, map-append, filter_map-append, line_values, FormatParam}
-use Rattle.str0m_sdp.specs.section.FmtpLines.{line_with, lines_with}
-use Rattle.str0m_sdp.specs.section.SectionRows.{values_in, lines_of}
+use Rattle.str0m_sdp.proofs.section.MappingsFilterMap.{map_one, map_more}
 use Rattle.str0m_sdp.specs.declared.attribute.MediaAttribute.{MediaAttribute}
 use Rattle.str0m_sdp.specs.declared.attribute.MediaAttribute.TheVariants.{Fmtp}
-use Rattle.str0m_sdp.proofs.section.MappingsFilterMap.{map_one, map_more}
+use Rattle.str0m_sdp.specs.section.FmtpLines.{line_with, lines_with}
+use Rattle.str0m_sdp.specs.section.SectionRows.{values_in, lines_of}
 
 -- before any attribute there are none
 pub no_lines : (lines : List (ℕ × Bor (List FormatParam))) (pt : ℕ) → lines ≡ [] → line_values (lines_with pt lines) ≡ lines_of [] pt

@@ -1,15 +1,15 @@
 -- What the fmtp lines of one row answer: to questions on its own types exactly its own, to those on other types nothing.
 use Rattle.str0m_sdp.proofs.Common.{◌≡◌, ◌==◌, Option, ℕ, false, List, [], ◌∷◌, Some, None, refl, ap, ◌∙◌, append-nil, has, types_of, FormatParam, PayloadParams, filter_map}
+use Rattle.str0m_sdp.proofs.section.RowAttributesAnswers.{flipped}
+use Rattle.str0m_sdp.proofs.section.RowAttributesReads.{fmtp_lines, red_reads, reads, each, all_fmtp, all_rtx, all_red, quiet, parts_said}
+use Rattle.str0m_sdp.proofs.section.SectionRowsApart.{Roles, self, pt_apart, rtx_apart, red_apart}
+use Rattle.str0m_sdp.proofs.section.SectionRowsParts.{always}
 use Rattle.str0m_sdp.specs.declared.attribute.MediaAttribute.{MediaAttribute}
-use Rattle.str0m_sdp.specs.declared.attribute.rtp_map.RtpMap.{RtpMap as Mapping}
 use Rattle.str0m_sdp.specs.declared.attribute.MediaAttribute.TheVariants.{RtpMap, RtcpFb, Fmtp}
+use Rattle.str0m_sdp.specs.declared.attribute.rtp_map.RtpMap.{RtpMap as Mapping}
+use Rattle.str0m_sdp.specs.section.Consistency.{apt_in}
 use Rattle.str0m_sdp.specs.section.RowAttributes.{rtx_lines}
 use Rattle.str0m_sdp.specs.section.SectionRows.{values_in}
-use Rattle.str0m_sdp.specs.section.Consistency.{apt_in}
-use Rattle.str0m_sdp.proofs.section.SectionRowsApart.{Roles, self, pt_apart, rtx_apart, red_apart}
-use Rattle.str0m_sdp.proofs.section.RowAttributesReads.{fmtp_lines, red_reads, reads, each, all_fmtp, all_rtx, all_red, quiet, parts_said}
-use Rattle.str0m_sdp.proofs.section.SectionRowsParts.{always}
-use Rattle.str0m_sdp.proofs.section.RowAttributesAnswers.{flipped}
 
 -- a question of fmtp lines alone, on a type that the row doesn't have
 fmtp_apart : {Y : Type 0} (q : MediaAttribute → Option Y) (row : PayloadParams) (vs : List (List FormatParam)) (t : ℕ)

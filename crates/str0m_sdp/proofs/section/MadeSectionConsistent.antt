@@ -1,20 +1,20 @@
 -- A section of plain, distinct rows is consistent, and each of its RTX and RED lines names one primary type.
-use Rattle.str0m_sdp.proofs.Common.{◌≡◌, ◌≢◌, ◌≤◌, inl, ℕ, Bool, true, false, List, [], ◌∷◌, ◌++◌, Option, Some, IfSome, All, refl, sym, ap, ◌∙◌, subst, arith, AllByRecursion, flat_map, All-from_recursion, content, other, types, same_codec, has, AllDistinct, Codec, FormatParam, Apt, BarePtList, PayloadParams, IsPlain, count_by, true≢false, times-some}
 use Rattle.str0m_formats.specs.declared.codec.Codec.TheVariants as codec
-use Rattle.str0m_sdp.specs.section.Consistency.{is_mid, is_setup, is_direction, maps, IsMapped, first_apt, NamesNoOther, AgreesOnApt, Consistent}
-use Rattle.str0m_sdp.specs.section.Mappings.{mapped, is_mapped_to}
-use Rattle.str0m_sdp.specs.section.MadeSection.{is_of_type}
+use Rattle.str0m_sdp.proofs.Common.{◌≡◌, ◌≢◌, ◌≤◌, inl, ℕ, Bool, true, false, List, [], ◌∷◌, ◌++◌, Option, Some, IfSome, All, refl, sym, ap, ◌∙◌, subst, arith, AllByRecursion, flat_map, All-from_recursion, content, other, types, same_codec, has, AllDistinct, Codec, FormatParam, Apt, BarePtList, PayloadParams, IsPlain, count_by, true≢false, times-some}
+use Rattle.str0m_sdp.proofs.section.MadeSectionFrame.{HasNoTypes, NameNoType, NamesNoType}
+use Rattle.str0m_sdp.proofs.section.MappingsBack.{IsSaid, section, each_type}
+use Rattle.str0m_sdp.proofs.section.RowAttributesQuestions.{lines, attrs_of, apt_is, maps_are}
+use Rattle.str0m_sdp.proofs.section.RowAttributesReads.{each}
+use Rattle.str0m_sdp.proofs.section.SectionRowsAgain.{pt_mapped, rtx_mapped, red_mapped, primary_among}
+use Rattle.str0m_sdp.proofs.section.SectionRowsParts.{always, both, weaker, over_lines, each_among, taken_apart, count-append, none_counted}
 use Rattle.str0m_sdp.specs.declared.attribute.MediaAttribute.{MediaAttribute}
 use Rattle.str0m_sdp.specs.declared.attribute.MediaAttribute.TheVariants.{Fmtp}
-use Rattle.str0m_sdp.specs.declared.section.media_line.MediaLine.{MediaLine}
 use Rattle.str0m_sdp.specs.declared.attribute.proto.Proto.TheVariants.{Srtp}
+use Rattle.str0m_sdp.specs.declared.section.media_line.MediaLine.{MediaLine}
+use Rattle.str0m_sdp.specs.section.Consistency.{is_mid, is_setup, is_direction, maps, IsMapped, first_apt, NamesNoOther, AgreesOnApt, Consistent}
+use Rattle.str0m_sdp.specs.section.MadeSection.{is_of_type}
+use Rattle.str0m_sdp.specs.section.Mappings.{mapped, is_mapped_to}
 use Rattle.str0m_sdp.specs.section.SectionRows.{NamesOne, primary_types}
-use Rattle.str0m_sdp.proofs.section.SectionRowsParts.{always, both, weaker, over_lines, each_among, taken_apart, count-append, none_counted}
-use Rattle.str0m_sdp.proofs.section.RowAttributesReads.{each}
-use Rattle.str0m_sdp.proofs.section.MadeSectionFrame.{HasNoTypes, NameNoType, NamesNoType}
-use Rattle.str0m_sdp.proofs.section.RowAttributesQuestions.{lines, attrs_of, apt_is, maps_are}
-use Rattle.str0m_sdp.proofs.section.MappingsBack.{IsSaid, section, each_type}
-use Rattle.str0m_sdp.proofs.section.SectionRowsAgain.{pt_mapped, rtx_mapped, red_mapped, primary_among}
 
 -- ---- what is counted stands in the frame alone
 

@@ -1,12 +1,12 @@
 -- Lines that describe no payload type answer nothing.
 use Rattle.str0m_sdp.proofs.Common.{arith, ◌≡◌, ℕ, false, List, None, AllByRecursion, Codec, CodecSpec, FormatParam}
+use Rattle.str0m_sdp.specs.attribute.Feedback.{is_feedback}
 use Rattle.str0m_sdp.specs.declared.attribute.MediaAttribute.{MediaAttribute}
-use Rattle.str0m_sdp.specs.section.MadeSection.{is_of_type}
-use Rattle.str0m_sdp.specs.section.SectionRows.{values_in}
 use Rattle.str0m_sdp.specs.section.Companions.{companion_in, listed}
 use Rattle.str0m_sdp.specs.section.Consistency.{maps, apt_of, apt_in}
-use Rattle.str0m_sdp.specs.attribute.Feedback.{is_feedback}
+use Rattle.str0m_sdp.specs.section.MadeSection.{is_of_type}
 use Rattle.str0m_sdp.specs.section.Mappings.{mapping}
+use Rattle.str0m_sdp.specs.section.SectionRows.{values_in}
 
 -- the value names no payload type
 abbrev pub NamesNoType : FormatParam → Type 0

@@ -1,17 +1,17 @@
 -- A section that was read, whose types and lines are those of plain, distinct rows, describes these rows.
 use Rattle.str0m_sdp.proofs.Common.{arith, ◌≡◌, ◌≢◌, ◌≤◌, false, List, [], map, All, AllZip, flat_map, recursion_from_All, IsPlain, types, SameRow, AllDistinct, FormatParam, PayloadParams, count_by}
-use Rattle.str0m_sdp.specs.section.Consistency.{is_mid, is_setup, is_direction, Consistent}
-use Rattle.str0m_sdp.specs.section.Mappings.{mapped}
-use Rattle.str0m_sdp.specs.section.MadeSection.{is_of_type}
-use Rattle.str0m_sdp.specs.section.SectionRows.{rows as rows_of, NamesOne}
-use Rattle.str0m_sdp.specs.declared.attribute.MediaAttribute.{MediaAttribute}
-use Rattle.str0m_sdp.specs.declared.section.media_line.MediaLine.{MediaLine}
-use Rattle.str0m_sdp.specs.declared.attribute.proto.Proto.TheVariants.{Srtp}
+use Rattle.str0m_sdp.proofs.section.MadeSectionConsistent.{consistent, names_one}
+use Rattle.str0m_sdp.proofs.section.MappingsBack.{IsSaid, unlocked, section, mapped_is}
 use Rattle.str0m_sdp.proofs.section.RowAttributesAnswers.{entries}
 use Rattle.str0m_sdp.proofs.section.RowAttributesQuestions.{attrs_of}
-use Rattle.str0m_sdp.proofs.section.MappingsBack.{IsSaid, unlocked, section, mapped_is}
 use Rattle.str0m_sdp.proofs.section.SectionRowsAgain.{rows_are, rows_same}
-use Rattle.str0m_sdp.proofs.section.MadeSectionConsistent.{consistent, names_one}
+use Rattle.str0m_sdp.specs.declared.attribute.MediaAttribute.{MediaAttribute}
+use Rattle.str0m_sdp.specs.declared.attribute.proto.Proto.TheVariants.{Srtp}
+use Rattle.str0m_sdp.specs.declared.section.media_line.MediaLine.{MediaLine}
+use Rattle.str0m_sdp.specs.section.Consistency.{is_mid, is_setup, is_direction, Consistent}
+use Rattle.str0m_sdp.specs.section.MadeSection.{is_of_type}
+use Rattle.str0m_sdp.specs.section.Mappings.{mapped}
+use Rattle.str0m_sdp.specs.section.SectionRows.{rows as rows_of, NamesOne}
 
 -- what a frame says beside its types: one mid, one setup at most, one direction over Srtp, and no line of a type
 pub record IsFrame (m : MediaLine) (frame : List MediaAttribute) : Type 0 where

@@ -1,19 +1,19 @@
 -- What the fmtp lines of a plain row read as: its format, and no payload type.
-use Rattle.str0m_sdp.proofs.Common.{rules, arith, ◌≡◌, ◌≢◌, ℕ, false, List, [], ◌∷◌, Some, refl, All, get_or, AllByRecursion, types, AllDistinct, content, events, format_of_fmtp, empty, IsPlain, Codec, FormatParam, FormatParams, PayloadParams, HoldsRowNumbers, BareRange}
-use Rattle.str0m_sdp.specs.declared.attribute.MediaAttribute.{MediaAttribute}
-use Rattle.str0m_sdp.specs.declared.section.media_line.MediaLine.{MediaLine}
-use Rattle.str0m_sdp.proofs.section.RowAttributesQuestions.{attrs_of}
-use Rattle.str0m_sdp.proofs.section.MadeSectionRead.{IsFrame, Describes, describes}
+use Rattle.str0m_formats.proofs.format.FormatLineAgain.{printed_pairs}
+use Rattle.str0m_formats.proofs.format.FormatLinePairs.{IsOwn, IsLineOf, said, line_of_pairs}
+use Rattle.str0m_formats.proofs.row.PlainRowFormats.{can_be_read_back}
+use Rattle.str0m_formats.specs.declared.codec.Codec.TheVariants as codec
 use Rattle.str0m_formats.specs.format.FormatLine.{is_refused}
-use Rattle.str0m_formats.specs.round.Narrowing.{telephone_max}
 use Rattle.str0m_formats.specs.format.Pairs.{has_mark}
 use Rattle.str0m_formats.specs.format.PairsReading.{params_read}
-use Rattle.str0m_formats.specs.declared.codec.Codec.TheVariants as codec
-use Rattle.str0m_formats.proofs.format.FormatLinePairs.{IsOwn, IsLineOf, said, line_of_pairs}
-use Rattle.str0m_formats.proofs.format.FormatLineAgain.{printed_pairs}
-use Rattle.str0m_formats.proofs.row.PlainRowFormats.{can_be_read_back}
+use Rattle.str0m_formats.specs.round.Narrowing.{telephone_max}
+use Rattle.str0m_sdp.proofs.Common.{rules, arith, ◌≡◌, ◌≢◌, ℕ, false, List, [], ◌∷◌, Some, refl, All, get_or, AllByRecursion, types, AllDistinct, content, events, format_of_fmtp, empty, IsPlain, Codec, FormatParam, FormatParams, PayloadParams, HoldsRowNumbers, BareRange}
 use Rattle.str0m_sdp.proofs.section.MadeSectionFrame.{NamesNoType, NameNoType}
+use Rattle.str0m_sdp.proofs.section.MadeSectionRead.{IsFrame, Describes, describes}
 use Rattle.str0m_sdp.proofs.section.MappingsBack.{IsSaid}
+use Rattle.str0m_sdp.proofs.section.RowAttributesQuestions.{attrs_of}
+use Rattle.str0m_sdp.specs.declared.attribute.MediaAttribute.{MediaAttribute}
+use Rattle.str0m_sdp.specs.declared.section.media_line.MediaLine.{MediaLine}
 
 -- one line of these pairs, and none where there are none
 abbrev pub line_read : List (List ℕ × List ℕ) → List (List FormatParam)

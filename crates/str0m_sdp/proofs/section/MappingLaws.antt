@@ -1,16 +1,16 @@
 -- The types of a section with their codecs, one type more.
 use Rattle.str0m_sdp.proofs.Common.{arith, ◌≡◌, ◌<◌, ◌+◌, ◌++◌, ◌==◌, ℕ, Bool, true, false, cond, ◌||◌, List, [], ◌∷◌, length, take, get_or, Option, None, nat_eq, filter_map, option_to_list, refl, sym, ap, ◌∙◌, inl, inr, list_any, cases_eq, eq-eqb, ne_eqb, or_right, take_at_read, append-nil, filter_map-append, CodecSpec, set}
-use Rattle.str0m_sdp.specs.section.Consistency.{maps}
+use Rattle.str0m_sdp.proofs.section.MappingsFilterMap.{map_more}
+use Rattle.str0m_sdp.proofs.section.SectionRowsParts.{or_false}
+use Rattle.str0m_sdp.proofs.section.TypeTablesMarks.{any_more, marked}
+use Rattle.str0m_sdp.proofs.session.DistinctCandidatesLaws.{distinct_push}
 use Rattle.str0m_sdp.specs.Common.{distinct}
-use Rattle.str0m_sdp.specs.section.Mappings.{mapping, static_row, unmapped}
 use Rattle.str0m_sdp.specs.attribute.RtpMap.{spec_of_map}
 use Rattle.str0m_sdp.specs.declared.attribute.MediaAttribute.{MediaAttribute}
 use Rattle.str0m_sdp.specs.declared.attribute.MediaAttribute.TheVariants.{RtpMap}
 use Rattle.str0m_sdp.specs.declared.attribute.rtp_map.RtpMap.{RtpMap as Mapping}
-use Rattle.str0m_sdp.proofs.section.MappingsFilterMap.{map_more}
-use Rattle.str0m_sdp.proofs.session.DistinctCandidatesLaws.{distinct_push}
-use Rattle.str0m_sdp.proofs.section.TypeTablesMarks.{any_more, marked}
-use Rattle.str0m_sdp.proofs.section.SectionRowsParts.{or_false}
+use Rattle.str0m_sdp.specs.section.Consistency.{maps}
+use Rattle.str0m_sdp.specs.section.Mappings.{mapping, static_row, unmapped}
 
 -- a type that was seen adds no row; else it adds what it stands for
 one_more : {X Y : Type 0} (f : X → Option Y) (x : X) (o : Option Y) (a b : Bool) → f x ≡ cond a None o

@@ -1,17 +1,17 @@
 -- What the types of a section of plain, distinct rows are mapped to: each row's in order, and no type that needs no line.
-use Rattle.str0m_sdp.proofs.Common.{◌≡◌, ◌==◌, ℕ, true, false, not, List, [], ◌∷◌, ◌++◌, Option, Some, nat_eq, refl, arith, AllByRecursion, flat_map, list_any, or_left, or_right, append-nil, list_any-append, format_of_fmtp, types_of, types, same_codec, has, AllDistinct, Codec, CodecSpec, FormatParam, PayloadParams, IsPlain, IsPlainG722, times-some}
 use Rattle.str0m_formats.specs.declared.codec.Codec.TheVariants as codec
-use Rattle.str0m_sdp.specs.section.Consistency.{maps}
-use Rattle.str0m_sdp.specs.Common.{distinct}
-use Rattle.str0m_sdp.specs.section.Mappings.{mapped, is_of, is_mapped_to}
-use Rattle.str0m_sdp.specs.declared.attribute.MediaAttribute.{MediaAttribute}
-use Rattle.str0m_sdp.specs.declared.section.media_line.MediaLine.{MediaLine}
-use Rattle.str0m_sdp.proofs.section.SectionRowsParts.{all-filter, both, weaker, each_among, none_passes, or_false, own_holds, AllFail, passes}
-use Rattle.str0m_sdp.proofs.section.SectionRowsApart.{Apart, Roles, apart, self, has-append}
-use Rattle.str0m_sdp.proofs.section.RowAttributesReads.{quiet}
+use Rattle.str0m_sdp.proofs.Common.{◌≡◌, ◌==◌, ℕ, true, false, not, List, [], ◌∷◌, ◌++◌, Option, Some, nat_eq, refl, arith, AllByRecursion, flat_map, list_any, or_left, or_right, append-nil, list_any-append, format_of_fmtp, types_of, types, same_codec, has, AllDistinct, Codec, CodecSpec, FormatParam, PayloadParams, IsPlain, IsPlainG722, times-some}
 use Rattle.str0m_sdp.proofs.section.MadeSectionFrame.{HasNoTypes, NameNoType}
 use Rattle.str0m_sdp.proofs.section.RowAttributesAnswers.{NamesItself, entries, rtx_entry, red_entry, flipped}
 use Rattle.str0m_sdp.proofs.section.RowAttributesQuestions.{attrs_of, mappings_are, maps_are}
+use Rattle.str0m_sdp.proofs.section.RowAttributesReads.{quiet}
+use Rattle.str0m_sdp.proofs.section.SectionRowsApart.{Apart, Roles, apart, self, has-append}
+use Rattle.str0m_sdp.proofs.section.SectionRowsParts.{all-filter, both, weaker, each_among, none_passes, or_false, own_holds, AllFail, passes}
+use Rattle.str0m_sdp.specs.Common.{distinct}
+use Rattle.str0m_sdp.specs.declared.attribute.MediaAttribute.{MediaAttribute}
+use Rattle.str0m_sdp.specs.declared.section.media_line.MediaLine.{MediaLine}
+use Rattle.str0m_sdp.specs.section.Consistency.{maps}
+use Rattle.str0m_sdp.specs.section.Mappings.{mapped, is_of, is_mapped_to}
 
 -- ---- the codec that the mapping of a plain row names
 

@@ -1,18 +1,18 @@
 -- What the lines of one row answer: to questions on its own types exactly its own, to those on other types nothing.
-use Rattle.str0m_sdp.proofs.Common.{arith, ◌≡◌, ◌==◌, ◌&&◌, ◌||◌, ℕ, Bool, true, false, List, [], ◌∷◌, ◌++◌, Option, Some, None, option_to_list, refl, sym, ap, ◌∙◌, AllByRecursion, list_any, ne_eqb, append-nil, list_any-append, when, has, types_of, rtp_rate, empty, Codec, CodecSpec, Apt, BarePtList, FormatParam, PayloadParams, bytes_eq, filter_map, eqb-false}
 use Rattle.str0m_formats.specs.declared.codec.Codec.TheVariants as codec
-use Rattle.str0m_sdp.specs.declared.label.TheConstants.{TRANSPORT_CC, REMB, FIR, NACK, PLI}
+use Rattle.str0m_sdp.proofs.Common.{arith, ◌≡◌, ◌==◌, ◌&&◌, ◌||◌, ℕ, Bool, true, false, List, [], ◌∷◌, ◌++◌, Option, Some, None, option_to_list, refl, sym, ap, ◌∙◌, AllByRecursion, list_any, ne_eqb, append-nil, list_any-append, when, has, types_of, rtp_rate, empty, Codec, CodecSpec, Apt, BarePtList, FormatParam, PayloadParams, bytes_eq, filter_map, eqb-false}
+use Rattle.str0m_sdp.proofs.section.MadeSectionFrame.{NameNoType, NamesNoType}
+use Rattle.str0m_sdp.proofs.section.RowAttributesReads.{fmtp_lines, red_reads, reads, each, all_feedback, all_fmtp, all_rtx, all_red, quiet, append_said, parts_said}
+use Rattle.str0m_sdp.proofs.section.SectionRowsApart.{self, pt_apart}
+use Rattle.str0m_sdp.proofs.section.SectionRowsParts.{always, both, none_passes, or_false, weaker}
+use Rattle.str0m_sdp.specs.attribute.Feedback.{is_feedback}
+use Rattle.str0m_sdp.specs.attribute.RtpMap.{map_of_spec, spec_of_map}
 use Rattle.str0m_sdp.specs.declared.attribute.MediaAttribute.{MediaAttribute}
 use Rattle.str0m_sdp.specs.declared.attribute.MediaAttribute.TheVariants.{RtpMap, Fmtp}
-use Rattle.str0m_sdp.specs.attribute.RtpMap.{map_of_spec, spec_of_map}
-use Rattle.str0m_sdp.specs.section.RowAttributes.{feedback_line, feedback_attrs, rtx_lines}
+use Rattle.str0m_sdp.specs.declared.label.TheConstants.{TRANSPORT_CC, REMB, FIR, NACK, PLI}
 use Rattle.str0m_sdp.specs.section.Companions.{companion_in, names}
-use Rattle.str0m_sdp.specs.attribute.Feedback.{is_feedback}
 use Rattle.str0m_sdp.specs.section.Mappings.{mapping, is_mapped_to}
-use Rattle.str0m_sdp.proofs.section.SectionRowsParts.{always, both, none_passes, or_false, weaker}
-use Rattle.str0m_sdp.proofs.section.SectionRowsApart.{self, pt_apart}
-use Rattle.str0m_sdp.proofs.section.RowAttributesReads.{fmtp_lines, red_reads, reads, each, all_feedback, all_fmtp, all_rtx, all_red, quiet, append_said, parts_said}
-use Rattle.str0m_sdp.proofs.section.MadeSectionFrame.{NameNoType, NamesNoType}
+use Rattle.str0m_sdp.specs.section.RowAttributes.{feedback_line, feedback_attrs, rtx_lines}
 
 pub flipped : (m n : ℕ) → (m == n) ≡ false → (n == m) ≡ false
 flipped m n h = ne_eqb n m (λ e. eqb-false m n h (sym e))

@@ -1,24 +1,24 @@
 -- Asked of a frame without lines of types and the lines of all rows, each question on a row's type has that row's answer.
-use Rattle.str0m_sdp.proofs.Common.{◌≡◌, ◌==◌, ◌&&◌, ℕ, Bool, true, false, cond, List, [], ◌∷◌, ◌++◌, Option, Some, None, option_to_list, refl, ap, ◌∙◌, arith, AllByRecursion, flat_map, list_any, filter_map-append, times, AllDistinct, types_of, types, CodecSpec, FormatParam, PayloadParams, times-append, times-cons, Codec, count_by, filter_map}
 use Rattle.str0m_formats.specs.declared.codec.Codec.TheVariants as codec
-use Rattle.str0m_sdp.specs.declared.label.TheConstants.{TRANSPORT_CC, REMB, FIR, NACK, PLI}
-use Rattle.str0m_sdp.specs.declared.attribute.MediaAttribute.{MediaAttribute}
-use Rattle.str0m_sdp.specs.declared.attribute.MediaAttribute.TheVariants.{RtpMap}
-use Rattle.str0m_sdp.specs.attribute.RtpMap.{map_of_spec}
-use Rattle.str0m_sdp.specs.section.RowAttributes.{feedback_attrs, rtx_lines}
-use Rattle.str0m_sdp.specs.section.SectionRows.{values_in, lines_of}
-use Rattle.str0m_sdp.specs.section.Companions.{companion_in, companion}
-use Rattle.str0m_sdp.specs.section.Consistency.{maps, apt_in, first_apt}
-use Rattle.str0m_sdp.specs.attribute.Feedback.{is_feedback, has_feedback}
-use Rattle.str0m_sdp.specs.Common.{first, last}
-use Rattle.str0m_sdp.specs.section.Mappings.{mapping, is_mapped_to}
-use Rattle.str0m_sdp.proofs.section.SectionRowsOwn.{AreOpen, own_said}
-use Rattle.str0m_sdp.proofs.section.SectionRowsParts.{always, or_false, weaker, together, taken_apart, none_passes, none_counted, count-append, own_holds, AllFail}
-use Rattle.str0m_sdp.proofs.section.SectionRowsApart.{Apart, Roles, apart, roles, row_distinct, has_pt, has_rtx, pt_apart}
-use Rattle.str0m_sdp.proofs.section.RowAttributesReads.{reads, fmtp_lines, red_reads, quiet, all_feedback, all_fmtp}
+use Rattle.str0m_sdp.proofs.Common.{◌≡◌, ◌==◌, ◌&&◌, ℕ, Bool, true, false, cond, List, [], ◌∷◌, ◌++◌, Option, Some, None, option_to_list, refl, ap, ◌∙◌, arith, AllByRecursion, flat_map, list_any, filter_map-append, times, AllDistinct, types_of, types, CodecSpec, FormatParam, PayloadParams, times-append, times-cons, Codec, count_by, filter_map}
+use Rattle.str0m_sdp.proofs.section.FmtpLinesAnswers.{values_apart, values_own, apt_apart, apt_own}
 use Rattle.str0m_sdp.proofs.section.MadeSectionFrame.{HasNoTypes, NameNoType, frame_mapping, frame_maps, frame_feedback, frame_values, frame_apt, frame_companion}
 use Rattle.str0m_sdp.proofs.section.RowAttributesAnswers.{NamesItself, entries, and_false, none_with, rtx_own, red_own, feedback_apart, feedback_own, mapping_own}
-use Rattle.str0m_sdp.proofs.section.FmtpLinesAnswers.{values_apart, values_own, apt_apart, apt_own}
+use Rattle.str0m_sdp.proofs.section.RowAttributesReads.{reads, fmtp_lines, red_reads, quiet, all_feedback, all_fmtp}
+use Rattle.str0m_sdp.proofs.section.SectionRowsApart.{Apart, Roles, apart, roles, row_distinct, has_pt, has_rtx, pt_apart}
+use Rattle.str0m_sdp.proofs.section.SectionRowsOwn.{AreOpen, own_said}
+use Rattle.str0m_sdp.proofs.section.SectionRowsParts.{always, or_false, weaker, together, taken_apart, none_passes, none_counted, count-append, own_holds, AllFail}
+use Rattle.str0m_sdp.specs.Common.{first, last}
+use Rattle.str0m_sdp.specs.attribute.Feedback.{is_feedback, has_feedback}
+use Rattle.str0m_sdp.specs.attribute.RtpMap.{map_of_spec}
+use Rattle.str0m_sdp.specs.declared.attribute.MediaAttribute.{MediaAttribute}
+use Rattle.str0m_sdp.specs.declared.attribute.MediaAttribute.TheVariants.{RtpMap}
+use Rattle.str0m_sdp.specs.declared.label.TheConstants.{TRANSPORT_CC, REMB, FIR, NACK, PLI}
+use Rattle.str0m_sdp.specs.section.Companions.{companion_in, companion}
+use Rattle.str0m_sdp.specs.section.Consistency.{maps, apt_in, first_apt}
+use Rattle.str0m_sdp.specs.section.Mappings.{mapping, is_mapped_to}
+use Rattle.str0m_sdp.specs.section.RowAttributes.{feedback_attrs, rtx_lines}
+use Rattle.str0m_sdp.specs.section.SectionRows.{values_in, lines_of}
 
 first_apt-is : (t : ℕ) (attrs : List MediaAttribute) → first_apt t attrs ≡ first (filter_map (apt_in t) attrs)
 first_apt-is t [] = refl

@@ -1,12 +1,12 @@
 -- What the lines of a row read as, and what holds of each of them.
-use Rattle.str0m_sdp.proofs.Common.{arith, ◌≡◌, ℕ, Bool, List, [], ◌∷◌, ◌++◌, Option, Some, None, refl, ap, ◌∙◌, AllByRecursion, filter_map-append, rtp_rate, FormatParam, Apt, BarePtList, PayloadParams, filter_map}
 use Rattle.str0m_formats.specs.declared.codec.Codec.TheVariants as codec
+use Rattle.str0m_sdp.proofs.Common.{arith, ◌≡◌, ℕ, Bool, List, [], ◌∷◌, ◌++◌, Option, Some, None, refl, ap, ◌∙◌, AllByRecursion, filter_map-append, rtp_rate, FormatParam, Apt, BarePtList, PayloadParams, filter_map}
+use Rattle.str0m_sdp.proofs.section.SectionRowsParts.{both}
+use Rattle.str0m_sdp.specs.attribute.RtpMap.{map_of_spec}
 use Rattle.str0m_sdp.specs.declared.attribute.MediaAttribute.{MediaAttribute}
 use Rattle.str0m_sdp.specs.declared.attribute.MediaAttribute.TheVariants.{RtpMap, RtcpFb, Fmtp}
 use Rattle.str0m_sdp.specs.declared.attribute.rtp_map.RtpMap.{RtpMap as Mapping}
-use Rattle.str0m_sdp.specs.attribute.RtpMap.{map_of_spec}
 use Rattle.str0m_sdp.specs.section.RowAttributes.{feedback_line, feedback_attrs, rtx_lines}
-use Rattle.str0m_sdp.proofs.section.SectionRowsParts.{both}
 
 abbrev pub fmtp_lines : ℕ → List (List FormatParam) → List MediaAttribute
 fmtp_lines pt [] = []

@@ -1,9 +1,9 @@
 -- What `find_map` answers over the list that an iterator gives.
-use Rattle.str0m_sdp.proofs.Common.{◌≡◌, ℕ, ◌<◌, ◌+◌, zero, suc, List, [], ◌∷◌, ◌++◌, map, filter_map, length, drop, Option, Some, None, refl, ap, sym, subst, ◌∙◌, arith, MatchOption, IsTrue, slice_get, cons_option, take-append-drop, IfSome, IsSomeAnd, option_map, YieldsList, option_map_id, YieldsList-so_far, YieldsList-end}
 use Rattle.std.specs.Fn.{Called}
-use Rattle.std.specs.Iterator.Runs.{Run, YieldsRun, SomeRun, AllItemsGive, IsFirstToGive}
-use Rattle.str0m_sdp.specs.Common.{first}
 use Rattle.std.specs.Iterator.{Yields}
+use Rattle.std.specs.Iterator.Runs.{Run, YieldsRun, SomeRun, AllItemsGive, IsFirstToGive}
+use Rattle.str0m_sdp.proofs.Common.{◌≡◌, ℕ, ◌<◌, ◌+◌, zero, suc, List, [], ◌∷◌, ◌++◌, map, filter_map, length, drop, Option, Some, None, refl, ap, sym, subst, ◌∙◌, arith, MatchOption, IsTrue, slice_get, cons_option, take-append-drop, IfSome, IsSomeAnd, option_map, YieldsList, option_map_id, YieldsList-so_far, YieldsList-end}
+use Rattle.str0m_sdp.specs.Common.{first}
 use denote.Param.Members.{Mut}
 
 module _ {A B D : Type 0} (v : A → B) (h : B → Option D) where

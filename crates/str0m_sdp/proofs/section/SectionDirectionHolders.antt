@@ -1,11 +1,11 @@
 -- Where a section has a mid and a direction.
 use Rattle.str0m_sdp.proofs.Common.{arith, ◌≡◌, ◌<◌, true, List, filter_map, count_by, is_some, ◌↔◌}
-use Rattle.str0m_values.specs.declared.direction.Direction.{Direction}
-use Rattle.str0m_sdp.specs.section.Consistency.{is_mid, is_direction, mid_of}
-use Rattle.str0m_sdp.specs.Common.{first}
-use Rattle.str0m_sdp.specs.section.SectionDirection.{direction_of, section_direction, with_direction}
-use Rattle.str0m_sdp.specs.declared.attribute.MediaAttribute.{MediaAttribute}
 use Rattle.str0m_sdp.proofs.section.SectionAccessorsLists.{first_counted, first_set, first_within}
+use Rattle.str0m_sdp.specs.Common.{first}
+use Rattle.str0m_sdp.specs.declared.attribute.MediaAttribute.{MediaAttribute}
+use Rattle.str0m_sdp.specs.section.Consistency.{is_mid, is_direction, mid_of}
+use Rattle.str0m_sdp.specs.section.SectionDirection.{direction_of, section_direction, with_direction}
+use Rattle.str0m_values.specs.declared.direction.Direction.{Direction}
 
 mid_is : (attr : MediaAttribute) → is_some (mid_of attr) ≡ is_mid attr
 mid_is attr = grind arith

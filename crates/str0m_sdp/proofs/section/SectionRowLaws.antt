@@ -1,9 +1,9 @@
 -- The row of a type, as tables tell it.
 use Rattle.str0m_sdp.proofs.Common.{arith, ◌≡◌, ◌<◌, ◌++◌, ℕ, List, [], ◌∷◌, Option, Some, None, Result, Ok, Err, option_to_list, if◌then◌else◌, refl, sym, ap, ◌∙◌, format_of_fmtp, CodecSpec, FormatParams, OnOk, is_ok, option_map}
-use Rattle.str0m_sdp.specs.section.SectionRows.{lines_of, row, row_with}
-use Rattle.str0m_sdp.specs.section.SectionRowsWords.{row_of, SayOf}
 use Rattle.str0m_sdp.specs.declared.section.media_line.MediaLine.{MediaLine}
 use Rattle.str0m_sdp.specs.declared.section.section_rows.TypeWords.{TypeWords}
+use Rattle.str0m_sdp.specs.section.SectionRows.{lines_of, row, row_with}
+use Rattle.str0m_sdp.specs.section.SectionRowsWords.{row_of, SayOf}
 
 said : (m : MediaLine) (words : TypeWords) (pt : ℕ) (spec : CodecSpec) (format : FormatParams) → SayOf m words → pt < 256
     → row_of words pt (record spec { format = format }) ≡ row_with m pt spec format

@@ -1,18 +1,18 @@
 -- The rows of a section of plain, distinct rows: these rows again, unlocked and in order.
-use Rattle.str0m_sdp.proofs.Common.{arith, ◌≡◌, ◌≢◌, ◌&&◌, ◌||◌, ℕ, Bool, true, false, cond, List, [], ◌∷◌, ◌++◌, map, Option, Some, None, refl, sym, ap, ◌∙◌, subst, option_map, or_left, or_right, AllByRecursion, AllZip, flat_map, cons_option, filter_map-append, filter-append, content, events, other, format_of_fmtp, empty, types_of, types, SameRow, same_codec, has, AllDistinct, Codec, FormatParam, PayloadParams, IsPlain, ◌==◌, filter, filter_map, Content, audio, video, has_pictures}
+use Rattle.str0m_formats.specs.declared.codec.Codec.TheVariants as codec
 use Rattle.str0m_formats.specs.round.Choices.{has_events}
 use Rattle.str0m_formats.specs.row.KindRows.{has_sound}
-use Rattle.str0m_formats.specs.declared.codec.Codec.TheVariants as codec
+use Rattle.str0m_sdp.proofs.Common.{arith, ◌≡◌, ◌≢◌, ◌&&◌, ◌||◌, ℕ, Bool, true, false, cond, List, [], ◌∷◌, ◌++◌, map, Option, Some, None, refl, sym, ap, ◌∙◌, subst, option_map, or_left, or_right, AllByRecursion, AllZip, flat_map, cons_option, filter_map-append, filter-append, content, events, other, format_of_fmtp, empty, types_of, types, SameRow, same_codec, has, AllDistinct, Codec, FormatParam, PayloadParams, IsPlain, ◌==◌, filter, filter_map, Content, audio, video, has_pictures}
+use Rattle.str0m_sdp.proofs.section.MadeSectionFrame.{HasNoTypes, NameNoType}
+use Rattle.str0m_sdp.proofs.section.MappingsBack.{IsSaid, unlocked, section, mapped_is, mapped_among, entry_pt, entry_rtx, entry_red}
+use Rattle.str0m_sdp.proofs.section.RowAttributesAnswers.{entries, rtx_entry, red_entry}
+use Rattle.str0m_sdp.proofs.section.RowAttributesQuestions.{attrs_of, values_are, feedback_is, SayFeedback, rtx_is, red_is}
+use Rattle.str0m_sdp.proofs.section.SectionRowsApart.{Roles, roles, row_distinct, self, has_pt, has_rtx, has_red, has-append}
+use Rattle.str0m_sdp.proofs.section.SectionRowsParts.{weaker, taken_apart, each_among}
+use Rattle.str0m_sdp.specs.declared.section.media_line.MediaLine.{MediaLine}
 use Rattle.str0m_sdp.specs.section.Companions.{rtx_type, red_type}
 use Rattle.str0m_sdp.specs.section.Mappings.{mapped, is_mapped_to}
 use Rattle.str0m_sdp.specs.section.SectionRows.{primary_types, is_kept, row as row_at, row_with, rows as rows_of}
-use Rattle.str0m_sdp.specs.declared.section.media_line.MediaLine.{MediaLine}
-use Rattle.str0m_sdp.proofs.section.SectionRowsParts.{weaker, taken_apart, each_among}
-use Rattle.str0m_sdp.proofs.section.SectionRowsApart.{Roles, roles, row_distinct, self, has_pt, has_rtx, has_red, has-append}
-use Rattle.str0m_sdp.proofs.section.MadeSectionFrame.{HasNoTypes, NameNoType}
-use Rattle.str0m_sdp.proofs.section.RowAttributesAnswers.{entries, rtx_entry, red_entry}
-use Rattle.str0m_sdp.proofs.section.RowAttributesQuestions.{attrs_of, values_are, feedback_is, SayFeedback, rtx_is, red_is}
-use Rattle.str0m_sdp.proofs.section.MappingsBack.{IsSaid, unlocked, section, mapped_is, mapped_among, entry_pt, entry_rtx, entry_red}
 
 has_types : (before : List PayloadParams) (row : PayloadParams) (after : List PayloadParams) (t : ℕ) → has (types_of row) t ≡ true
     → has (types (before ++ row ∷ after)) t ≡ true

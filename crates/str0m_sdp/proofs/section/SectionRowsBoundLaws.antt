@@ -1,13 +1,13 @@
 -- Where lines keep to their ranges, rows do.
-use Rattle.str0m_sdp.proofs.Common.{rules, arith, ◌≡◌, ◌≤◌, ◌++◌, ℕ, Bool, cond, not, List, [], ◌∷◌, Option, Some, None, All, IfSome, filter, find, nat_eq, option_to_list, filter_map, All-nil, All-head, All-tail, IsBounded, static_spec, format_of_fmtp, empty, set_all, Codec, CodecSpec, FormatParam, FormatParams, nat_lt, option_map, All-append, All-filter, AreModes, IsDistance, events_end, is_events, kept, values_of, static_small}
 use Rattle.str0m_formats.specs.format.FormatParams.{set}
-use Rattle.str0m_sdp.specs.section.Companions.{companion_in, companion, rtx_type, red_type}
+use Rattle.str0m_sdp.proofs.Common.{rules, arith, ◌≡◌, ◌≤◌, ◌++◌, ℕ, Bool, cond, not, List, [], ◌∷◌, Option, Some, None, All, IfSome, filter, find, nat_eq, option_to_list, filter_map, All-nil, All-head, All-tail, IsBounded, static_spec, format_of_fmtp, empty, set_all, Codec, CodecSpec, FormatParam, FormatParams, nat_lt, option_map, All-append, All-filter, AreModes, IsDistance, events_end, is_events, kept, values_of, static_small}
+use Rattle.str0m_sdp.proofs.section.MappingsFilterMap.{all_mapped, last_of_all}
 use Rattle.str0m_sdp.specs.Common.{distinct}
-use Rattle.str0m_sdp.specs.section.Mappings.{mapping, unmapped, mapped}
-use Rattle.str0m_sdp.specs.section.SectionRows.{IsInRange, KeepsToLine, KeepsToLines, values_in, lines_of, is_kept, row_with, row, rows}
 use Rattle.str0m_sdp.specs.declared.attribute.MediaAttribute.{MediaAttribute}
 use Rattle.str0m_sdp.specs.declared.section.media_line.MediaLine.{MediaLine}
-use Rattle.str0m_sdp.proofs.section.MappingsFilterMap.{all_mapped, last_of_all}
+use Rattle.str0m_sdp.specs.section.Companions.{companion_in, companion, rtx_type, red_type}
+use Rattle.str0m_sdp.specs.section.Mappings.{mapping, unmapped, mapped}
+use Rattle.str0m_sdp.specs.section.SectionRows.{IsInRange, KeepsToLine, KeepsToLines, values_in, lines_of, is_kept, row_with, row, rows}
 
 abbrev Small : ℕ → Type 0
 Small n = n ≤ 127

@@ -1,18 +1,18 @@
 -- What a section says of each type, one attribute more.
-use Rattle.str0m_sdp.proofs.Common.{arith, ◌≡◌, ◌==◌, ◌<◌, ◌+◌, ◌++◌, ◌&&◌, ℕ, Bool, false, cond, List, [], ◌∷◌, length, take, get_or, replicate, Option, Some, None, refl, sym, ap, ◌∙◌, Bor, list_any, length-set, get_or-replicate, CodecSpec, FormatParam, set}
 use Rattle.str0m_formats.specs.declared.codec.Codec.TheVariants.{Rtx, Red}
-use Rattle.str0m_sdp.specs.section.Companions.{names}
+use Rattle.str0m_sdp.proofs.Common.{arith, ◌≡◌, ◌==◌, ◌<◌, ◌+◌, ◌++◌, ◌&&◌, ℕ, Bool, false, cond, List, [], ◌∷◌, length, take, get_or, replicate, Option, Some, None, refl, sym, ap, ◌∙◌, Bor, list_any, length-set, get_or-replicate, CodecSpec, FormatParam, set}
+use Rattle.str0m_sdp.proofs.attribute.FeedbackLaws.{feedback_start, feedback_other, feedback_named}
+use Rattle.str0m_sdp.proofs.section.CompanionLaws.{companion_start, companion_other, companions_noted}
+use Rattle.str0m_sdp.proofs.section.FmtpLineLaws.{no_lines, lines_other, lines_pushed}
 use Rattle.str0m_sdp.specs.attribute.Feedback.{none, named, either}
-use Rattle.str0m_sdp.specs.section.Mappings.{is_mapped_to, mapped}
-use Rattle.str0m_sdp.specs.section.SectionRowsWords.{AreOf, SayOf}
 use Rattle.str0m_sdp.specs.declared.attribute.MediaAttribute.{MediaAttribute}
 use Rattle.str0m_sdp.specs.declared.attribute.MediaAttribute.TheVariants.{Fmtp, RtcpFb}
 use Rattle.str0m_sdp.specs.declared.attribute.feedback.Feedback.{Feedback}
 use Rattle.str0m_sdp.specs.declared.section.media_line.MediaLine.{MediaLine}
 use Rattle.str0m_sdp.specs.declared.section.section_rows.TypeWords.{TypeWords}
-use Rattle.str0m_sdp.proofs.section.CompanionLaws.{companion_start, companion_other, companions_noted}
-use Rattle.str0m_sdp.proofs.attribute.FeedbackLaws.{feedback_start, feedback_other, feedback_named}
-use Rattle.str0m_sdp.proofs.section.FmtpLineLaws.{no_lines, lines_other, lines_pushed}
+use Rattle.str0m_sdp.specs.section.Companions.{names}
+use Rattle.str0m_sdp.specs.section.Mappings.{is_mapped_to, mapped}
+use Rattle.str0m_sdp.specs.section.SectionRowsWords.{AreOf, SayOf}
 
 -- each type is told by its mark whether it is of the codec
 abbrev pub Marks : List Bool → (ℕ → Bool) → Type 0

@@ -1,11 +1,11 @@
 -- Laws of sources and their places.
-use Rattle.str0m_sdp.proofs.Common.{◌≡◌, ◌<◌, ◌++◌, ℕ, zero, suc, Bool, true, false, cond, nat_eq, List, [], ◌∷◌, length, get_or, Option, None, Some, refl, ap, ◌∙◌, arith, option_map, slice_get, slice_set, get, nat_eq_equiv, nat_cmp, insert_entry, eqb-true, unsigned_tied, get_or_from_slice_get, BTreeMap}
-use Rattle.std.specs.Map.{values_of}
 use Rattle.std.specs.BTreeMap.{Updates}
+use Rattle.std.specs.Map.{values_of}
+use Rattle.str0m_sdp.proofs.Common.{◌≡◌, ◌<◌, ◌++◌, ℕ, zero, suc, Bool, true, false, cond, nat_eq, List, [], ◌∷◌, length, get_or, Option, None, Some, refl, ap, ◌∙◌, arith, option_map, slice_get, slice_set, get, nat_eq_equiv, nat_cmp, insert_entry, eqb-true, unsigned_tied, get_or_from_slice_get, BTreeMap}
+use Rattle.str0m_sdp.specs.declared.section.ssrc_info.SsrcInfo.{SsrcInfo}
 use Rattle.str0m_sdp.specs.section.Sources.{entries_of, place_in}
 use Rattle.str0m_sdp.specs.section.SsrcInfo.{empty_info}
 use Rattle.str0m_sdp.specs.section.SsrcInfoReading.{so_far, with_value}
-use Rattle.str0m_sdp.specs.declared.section.ssrc_info.SsrcInfo.{SsrcInfo}
 
 -- ---- where a source stands, and where it doesn't
 

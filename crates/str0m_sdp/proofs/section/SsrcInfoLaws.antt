@@ -1,14 +1,14 @@
 -- What is gathered of sources, attribute by attribute, is what the attributes say.
-use Rattle.str0m_sdp.proofs.Common.{arith, ◌≡◌, ◌<◌, ◌+◌, ◌&&◌, ℕ, suc, Bool, true, false, cond, nat_eq, List, [], ◌∷◌, ◌++◌, get_or, length, map, take, Option, None, Some, refl, sym, ap, subst, ◌∙◌, append_assoc, true≢false, codes, slice_get, nat_eq_equiv, bytes_decides, cons_option, IsDistinct, lookup, option_or, unwrap_or, str_eq_ignore_ascii_case, append-nil, take_more, filter_map-append, insert_entry, insert_key, insert_all, when, eqb-true, filter_map, option_map, option_flatten, str_to_ascii_lowercase, fold-append, ◌>>=◌, cut, before, keys_of}
-use Rattle.std.specs.Map.{values_of}
 use Rattle.std.proofs.lemmas.Map.Entries.{lookup_from_place}
+use Rattle.std.specs.Map.{values_of}
+use Rattle.str0m_sdp.proofs.Common.{arith, ◌≡◌, ◌<◌, ◌+◌, ◌&&◌, ℕ, suc, Bool, true, false, cond, nat_eq, List, [], ◌∷◌, ◌++◌, get_or, length, map, take, Option, None, Some, refl, sym, ap, subst, ◌∙◌, append_assoc, true≢false, codes, slice_get, nat_eq_equiv, bytes_decides, cons_option, IsDistinct, lookup, option_or, unwrap_or, str_eq_ignore_ascii_case, append-nil, take_more, filter_map-append, insert_entry, insert_key, insert_all, when, eqb-true, filter_map, option_map, option_flatten, str_to_ascii_lowercase, fold-append, ◌>>=◌, cut, before, keys_of}
+use Rattle.str0m_sdp.proofs.session.DistinctCandidatesLaws.{inserted-distinct, distinct-apart}
 use Rattle.str0m_sdp.specs.Common.{last, distinct}
-use Rattle.str0m_sdp.specs.section.SsrcInfo.{source_of, repair_pair, repair_source, value_of, repaired_by, cname_said, id_of, stream_said, track_said, latest, info, infos, empty_info}
-use Rattle.str0m_sdp.specs.section.SsrcInfoReading.{track_after, with_ids, with_value, so_far, info_from, AreGathered}
 use Rattle.str0m_sdp.specs.declared.attribute.MediaAttribute.{MediaAttribute}
 use Rattle.str0m_sdp.specs.declared.attribute.MediaAttribute.TheVariants.{Ssrc}
 use Rattle.str0m_sdp.specs.declared.section.ssrc_info.SsrcInfo.{SsrcInfo}
-use Rattle.str0m_sdp.proofs.session.DistinctCandidatesLaws.{inserted-distinct, distinct-apart}
+use Rattle.str0m_sdp.specs.section.SsrcInfo.{source_of, repair_pair, repair_source, value_of, repaired_by, cname_said, id_of, stream_said, track_said, latest, info, infos, empty_info}
+use Rattle.str0m_sdp.specs.section.SsrcInfoReading.{track_after, with_ids, with_value, so_far, info_from, AreGathered}
 
 -- ---- entries with a number as their key
 

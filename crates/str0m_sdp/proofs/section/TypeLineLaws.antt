@@ -1,8 +1,8 @@
 -- Laws of fmtp lines by their types.
 use Rattle.str0m_sdp.proofs.Common.{arith, ◌≡◌, ◌<◌, ◌+◌, ◌++◌, ℕ, List, [], ◌∷◌, All, length, take, get_or, slice_set, Bor, cases_eq, eq-eqb, ne_eqb, get_or-set_other, length-set, FormatParam, get_or-set_at}
-use Rattle.str0m_sdp.specs.section.TypeLines.{AreGrouped}
-use Rattle.str0m_sdp.specs.declared.section.type_lines.TypeLines.{TypeLines}
 use Rattle.str0m_sdp.proofs.section.FmtpLineLaws.{found_own, found_other}
+use Rattle.str0m_sdp.specs.declared.section.type_lines.TypeLines.{TypeLines}
+use Rattle.str0m_sdp.specs.section.TypeLines.{AreGrouped}
 
 -- one line more stands in the group of its type
 pub line_more : (lines : List (ℕ × Bor (List FormatParam))) (i : ℕ) (item : ℕ × Bor (List FormatParam)) (groups : List TypeLines) (old group : TypeLines)

@@ -1,6 +1,14 @@
 -- Keys of candidates tell apart what `==` of candidates does.
 use Rattle.str0m_sdp.proofs.Common.{arith, ◌≡◌, ◌&&◌, ◌||◌, ◌++◌, ℕ, Bool, true, false, cond, nat_eq, List, [], ◌∷◌, map, Option, sym, ap, ◌∙◌, option_map, Bor, BTreeSet, Updates, contains, decided, list_any, option_eq, map-append, list_any-append, sameb, IpAddr, SocketAddr, Candidate, is_eq}
-use denote.Enum.Declared.{tag_of}
+use Rattle.str0m_sdp.proofs.session.CandidateEqual.{candidate_Decides}
+use Rattle.str0m_sdp.specs.contracts.session.candidate_key.CandidateKeyOrd.TheImpl as order
+use Rattle.str0m_sdp.specs.contracts.session.candidate_key.CandidateKeyOrd.TheImpl.Laws as laws
+use Rattle.str0m_sdp.specs.contracts.session.candidate_key.CandidateKeyPartialEq.TheImpl as key
+use Rattle.str0m_sdp.specs.contracts.session.candidate_key.IpPartPartialEq.TheImpl as part
+use Rattle.str0m_sdp.specs.declared.session.candidate_key.CandidateKey.{CandidateKey}
+use Rattle.str0m_sdp.specs.declared.session.candidate_key.IpPart.{IpPart}
+use Rattle.str0m_sdp.specs.session.CandidateKey.{IsKeyOf, address_part, ip_part, kind_part, protocol_part, type_part}
+use Rattle.str0m_sdp.specs.session.Candidates.{same_candidate}
 use Rattle.str0m_values.specs.contracts.address.IpAddrPartialEq.TheImpl as ip
 use Rattle.str0m_values.specs.contracts.address.SocketAddrPartialEq.TheImpl as socket
 use Rattle.str0m_values.specs.contracts.candidate_kind.CandidateKind as kind
@@ -9,15 +17,7 @@ use Rattle.str0m_values.specs.contracts.protocol.TcpType as tcp_type
 use Rattle.str0m_values.specs.declared.candidate_kind.CandidateKind.{CandidateKind}
 use Rattle.str0m_values.specs.declared.protocol.Protocol.{Protocol}
 use Rattle.str0m_values.specs.declared.protocol.TcpType.{TcpType}
-use Rattle.str0m_sdp.specs.session.CandidateKey.{IsKeyOf, address_part, ip_part, kind_part, protocol_part, type_part}
-use Rattle.str0m_sdp.specs.session.Candidates.{same_candidate}
-use Rattle.str0m_sdp.specs.contracts.session.candidate_key.CandidateKeyOrd.TheImpl as order
-use Rattle.str0m_sdp.specs.contracts.session.candidate_key.CandidateKeyOrd.TheImpl.Laws as laws
-use Rattle.str0m_sdp.specs.contracts.session.candidate_key.CandidateKeyPartialEq.TheImpl as key
-use Rattle.str0m_sdp.specs.contracts.session.candidate_key.IpPartPartialEq.TheImpl as part
-use Rattle.str0m_sdp.specs.declared.session.candidate_key.CandidateKey.{CandidateKey}
-use Rattle.str0m_sdp.specs.declared.session.candidate_key.IpPart.{IpPart}
-use Rattle.str0m_sdp.proofs.session.CandidateEqual.{candidate_Decides}
+use denote.Enum.Declared.{tag_of}
 
 -- ---- the parts
 

@@ -1,12 +1,12 @@
 -- Laws of mids in the order of their bytes.
-use Rattle.str0m_sdp.proofs.Common.{arith, ◌≡◌, ◌<◌, ◌+◌, ◌++◌, ◌||◌, not, cond, ℕ, Bool, true, false, List, [], ◌∷◌, length, take, get_or, Option, Some, None, append_assoc, filter_map, refl, sym, ap, ◌∙◌, Bor, BTreeSet, Updates, contains, cons_option, nat_cmp, bytes_eq, ◌<|>◌, when, slice_cmp}
 use Rattle.std.proofs.Math.Bool.{or_comm}
 use Rattle.std.proofs.lemmas.Map.Text.{is_eq-slice_cmp}
+use Rattle.str0m_sdp.proofs.Common.{arith, ◌≡◌, ◌<◌, ◌+◌, ◌++◌, ◌||◌, not, cond, ℕ, Bool, true, false, List, [], ◌∷◌, length, take, get_or, Option, Some, None, append_assoc, filter_map, refl, sym, ap, ◌∙◌, Bor, BTreeSet, Updates, contains, cons_option, nat_cmp, bytes_eq, ◌<|>◌, when, slice_cmp}
+use Rattle.str0m_sdp.proofs.section.TypeTablesMarks.{any_more}
+use Rattle.str0m_sdp.specs.declared.section.media_line.MediaLine.{MediaLine}
 use Rattle.str0m_sdp.specs.session.OrderedMids.{Holds, is_held, part_mid}
 use Rattle.str0m_sdp.specs.session.SessionConsistency.{is_listed, parts, section_mid, takes_part}
 use Rattle.str0m_sdp.specs.session.SessionFault.{first_again}
-use Rattle.str0m_sdp.specs.declared.section.media_line.MediaLine.{MediaLine}
-use Rattle.str0m_sdp.proofs.section.TypeTablesMarks.{any_more}
 
 -- ---- what is held
 

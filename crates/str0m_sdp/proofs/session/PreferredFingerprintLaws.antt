@@ -1,10 +1,10 @@
 -- The preferred of several fingerprints.
-use Rattle.str0m_sdp.proofs.Common.{arith, ◌≡◌, List, [], ◌∷◌, ◌++◌, filter_map, map, Option, Some, Result, refl, ap, ◌∙◌, cons_option, option_or, IfOk, best_of, get_or_default}
 use Rattle.std.proofs.lemmas.List.MinMax.{IsFirstBest-from_best_of, IsStrictWeakOrder-by_number}
+use Rattle.str0m_sdp.proofs.Common.{arith, ◌≡◌, List, [], ◌∷◌, ◌++◌, filter_map, map, Option, Some, Result, refl, ap, ◌∙◌, cons_option, option_or, IfOk, best_of, get_or_default}
+use Rattle.str0m_sdp.specs.Common.{first}
+use Rattle.str0m_sdp.specs.session.PreferredFingerprint.{is_preferred, IsPreferred, better, preferred, first_filled}
 use Rattle.str0m_values.specs.Fingerprint.{preference_of}
 use Rattle.str0m_values.specs.declared.fingerprint.Fingerprint.{Fingerprint}
-use Rattle.str0m_sdp.specs.session.PreferredFingerprint.{is_preferred, IsPreferred, better, preferred, first_filled}
-use Rattle.str0m_sdp.specs.Common.{first}
 
 -- one more after the others
 pub preferred_more : (prints : List Fingerprint) (print : Fingerprint) → preferred (prints ++ print ∷ []) ≡ Some (better (preferred prints) print)

@@ -1,7 +1,7 @@
 -- Laws of mids that differ, and of lists that don't.
-use Rattle.str0m_sdp.proofs.Common.{◌≡◌, ◌≢◌, ℕ, suc, true, false, not, List, [], ◌∷◌, length, get_or, find, Some, None, refl, sym, ◌∙◌, arith, ◌↔◌, bytes_eq, false≢true, zip, Any-from_list_any, list_any_at}
 use Rattle.std.proofs.lemmas.List.Kept.{AllPairs-cons}
 use Rattle.std.proofs.lemmas.Slice.Eq.{bytes_eq-Decides}
+use Rattle.str0m_sdp.proofs.Common.{◌≡◌, ◌≢◌, ℕ, suc, true, false, not, List, [], ◌∷◌, length, get_or, find, Some, None, refl, sym, ◌∙◌, arith, ◌↔◌, bytes_eq, false≢true, zip, Any-from_list_any, list_any_at}
 use Rattle.str0m_sdp.specs.session.SessionConsistency.{AreDistinct, is_listed}
 
 -- ---- mids that differ

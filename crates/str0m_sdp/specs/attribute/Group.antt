@@ -1,8 +1,8 @@
 -- What the lines of a session print that list names.
-use Rattle.std.specs.Prelude.{ℕ, List, ◌++◌, codes}
 use Rattle.std.specs.List.{flat_map, join_by}
-use Rattle.str0m_sdp.specs.form.Printed.{attribute_line}
+use Rattle.std.specs.Prelude.{ℕ, List, ◌++◌, codes}
 use Rattle.str0m_sdp.specs.declared.label.TheConstants as label
+use Rattle.str0m_sdp.specs.form.Printed.{attribute_line}
 
 -- the kind of the group, and its names, each after a space (RFC 5888, section 5)
 abbrev pub group_text : List ℕ → List (List ℕ) → List ℕ

@@ -1,8 +1,8 @@
 -- Media types: their words, and which of them carry media.
 use Rattle.std.specs.Prelude.{ℕ, Bool, true, false, List}
-use Rattle.str0m_sdp.specs.declared.label.TheConstants.{AUDIO, VIDEO, APPLICATION}
 use Rattle.str0m_sdp.specs.declared.attribute.media_type.MediaType.{MediaType}
 use Rattle.str0m_sdp.specs.declared.attribute.media_type.MediaType.TheVariants.{Audio, Video, Application, Unknown}
+use Rattle.str0m_sdp.specs.declared.label.TheConstants.{AUDIO, VIDEO, APPLICATION}
 
 abbrev pub media_type_text : MediaType → List ℕ
 media_type_text Audio = AUDIO.now

@@ -1,6 +1,6 @@
 -- The ids that a generator draws: which words it gives, and which letters they stand for.
-use Rattle.std.specs.Prelude.{ℕ, zero, suc, ◌%◌, List, [], ◌∷◌, map, codes, slice_index}
 use Rattle.rand_core.specs.Stream.{Stream, next_u32}
+use Rattle.std.specs.Prelude.{ℕ, zero, suc, ◌%◌, List, [], ◌∷◌, map, codes, slice_index}
 
 -- the next n words of a generator
 unfoldable pub words : ℕ → Stream → List ℕ

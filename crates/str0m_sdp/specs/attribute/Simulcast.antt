@@ -1,9 +1,9 @@
 -- Layers, as they print (RFC 8853, section 5.1).
-use Rattle.std.specs.Prelude.{ℕ, Bool, true, false, List, [], ◌∷◌, ◌++◌, codes}
 use Rattle.std.specs.List.{join_by}
+use Rattle.std.specs.Prelude.{ℕ, Bool, true, false, List, [], ◌∷◌, ◌++◌, codes}
 use Rattle.str0m_sdp.specs.declared.attribute.simulcast.RestrictionId.{RestrictionId}
-use Rattle.str0m_sdp.specs.declared.attribute.simulcast.SimulcastLayer.{SimulcastLayer}
 use Rattle.str0m_sdp.specs.declared.attribute.simulcast.Simulcast.{Simulcast}
+use Rattle.str0m_sdp.specs.declared.attribute.simulcast.SimulcastLayer.{SimulcastLayer}
 use Rattle.str0m_sdp.specs.form.Printed.{attribute_line}
 
 -- a name, after `~` where it isn't active

@@ -1,24 +1,24 @@
 -- What the line of an attribute prints, by the kind of what it is made of.
-use Rattle.std.specs.Prelude.{ℕ, List, ◌++◌, codes}
 use Rattle.std.specs.Fmt.{decimal}
-use Rattle.str0m_values.specs.Candidate.{candidate_text}
-use Rattle.str0m_values.specs.Fingerprint.{fingerprint_text}
+use Rattle.std.specs.Prelude.{ℕ, List, ◌++◌, codes}
+use Rattle.str0m_sdp.specs.attribute.ExtMap.{ext_map_text}
+use Rattle.str0m_sdp.specs.attribute.Fmtp.{fmtp_text}
+use Rattle.str0m_sdp.specs.attribute.Group.{group_text, msid_semantic_text}
+use Rattle.str0m_sdp.specs.attribute.Rid.{rid_text}
+use Rattle.str0m_sdp.specs.attribute.RtpMap.{rtp_map_text}
+use Rattle.str0m_sdp.specs.attribute.Setup.{setup_text}
+use Rattle.str0m_sdp.specs.attribute.Simulcast.{simulcast_text}
+use Rattle.str0m_sdp.specs.attribute.SsrcGroup.{ssrc_group_text}
 use Rattle.str0m_sdp.specs.declared.form.attribute_line.Line.{Line}
 use Rattle.str0m_sdp.specs.declared.form.attribute_line.Line.TheVariants as line
 use Rattle.str0m_sdp.specs.declared.form.numbered_line.NumberedLine.{NumberedLine}
 use Rattle.str0m_sdp.specs.declared.form.numbered_line.NumberedLine.TheVariants as numbered
 use Rattle.str0m_sdp.specs.declared.form.structured_line.StructuredLine.{StructuredLine}
 use Rattle.str0m_sdp.specs.declared.form.structured_line.StructuredLine.TheVariants as structured
-use Rattle.str0m_sdp.specs.attribute.ExtMap.{ext_map_text}
-use Rattle.str0m_sdp.specs.attribute.Fmtp.{fmtp_text}
-use Rattle.str0m_sdp.specs.attribute.Group.{group_text, msid_semantic_text}
-use Rattle.str0m_sdp.specs.form.Printed.{attribute_line, labelled_line}
-use Rattle.str0m_sdp.specs.attribute.Rid.{rid_text}
-use Rattle.str0m_sdp.specs.attribute.RtpMap.{rtp_map_text}
-use Rattle.str0m_sdp.specs.attribute.Setup.{setup_text}
-use Rattle.str0m_sdp.specs.attribute.Simulcast.{simulcast_text}
-use Rattle.str0m_sdp.specs.attribute.SsrcGroup.{ssrc_group_text}
 use Rattle.str0m_sdp.specs.declared.label.TheConstants as label
+use Rattle.str0m_sdp.specs.form.Printed.{attribute_line, labelled_line}
+use Rattle.str0m_values.specs.Candidate.{candidate_text}
+use Rattle.str0m_values.specs.Fingerprint.{fingerprint_text}
 
 -- of a payload type, or of a source
 abbrev pub numbered_text : NumberedLine → List ℕ

@@ -1,15 +1,15 @@
 -- What sections print (RFC 8866, section 5.14).
-use Rattle.std.specs.Prelude.{ℕ, Bool, true, false, List, [], ◌∷◌, ◌++◌, codes}
-use Rattle.std.specs.List.{flat_map, join_by}
 use Rattle.std.specs.Fmt.{decimal}
-use Rattle.str0m_sdp.specs.declared.section.media_line.MediaLine.{MediaLine}
-use Rattle.str0m_sdp.specs.declared.attribute.media_type.MediaType.{MediaType}
-use Rattle.str0m_sdp.specs.declared.attribute.media_type.MediaType.TheVariants.{Audio, Video, Application, Unknown}
+use Rattle.std.specs.List.{flat_map, join_by}
+use Rattle.std.specs.Prelude.{ℕ, Bool, true, false, List, [], ◌∷◌, ◌++◌, codes}
 use Rattle.str0m_sdp.specs.attribute.Attribute.{media_attribute_text}
 use Rattle.str0m_sdp.specs.attribute.Bandwidth.{bandwidth_line}
-use Rattle.str0m_sdp.specs.form.Printed.{line_end}
 use Rattle.str0m_sdp.specs.attribute.MediaType.{media_type_text}
 use Rattle.str0m_sdp.specs.attribute.Proto.{proto_text}
+use Rattle.str0m_sdp.specs.declared.attribute.media_type.MediaType.{MediaType}
+use Rattle.str0m_sdp.specs.declared.attribute.media_type.MediaType.TheVariants.{Audio, Video, Application, Unknown}
+use Rattle.str0m_sdp.specs.declared.section.media_line.MediaLine.{MediaLine}
+use Rattle.str0m_sdp.specs.form.Printed.{line_end}
 
 -- 0 for a section that is rejected or stopped (RFC 8829, section 5.3.1), else the discard port,
 -- since ICE finds the port (RFC 8829, section 5.2.1)

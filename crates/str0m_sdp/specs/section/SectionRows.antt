@@ -1,25 +1,25 @@
 -- The rows that a section describes.
-use Rattle.std.specs.Prelude.{ℕ, Bool, ◌==◌, ◌&&◌, ◌||◌, List, Option, Some, None, option_map, filter, filter_map, if◌then◌else◌, ◌≡◌, true, [], ◌∷◌, map, ◌≤◌, All}
 use Rattle.std.specs.List.{list_any}
-use Rattle.str0m_formats.specs.round.Choices.{has_events}
+use Rattle.std.specs.Prelude.{ℕ, Bool, ◌==◌, ◌&&◌, ◌||◌, List, Option, Some, None, option_map, filter, filter_map, if◌then◌else◌, ◌≡◌, true, [], ◌∷◌, map, ◌≤◌, All}
 use Rattle.str0m_formats.specs.codec.Codec.{content}
-use Rattle.str0m_formats.specs.format.FormatLine.{format_of_fmtp}
-use Rattle.str0m_formats.specs.row.KindRows.{has_sound}
-use Rattle.str0m_formats.specs.row.PayloadParams.{has_pictures, new_row}
+use Rattle.str0m_formats.specs.declared.codec.Codec.TheVariants.{Rtx, Red}
 use Rattle.str0m_formats.specs.declared.codec.codec_spec.CodecSpec.{CodecSpec}
 use Rattle.str0m_formats.specs.declared.format.format_param.FormatParam.{FormatParam}
+use Rattle.str0m_formats.specs.declared.format.format_param.FormatParam.TheVariants.{Apt, BarePtList, ModeSet, SpropMaxDonDiff}
 use Rattle.str0m_formats.specs.declared.format.format_params.FormatParams.{FormatParams}
 use Rattle.str0m_formats.specs.declared.row.payload_params.PayloadParams.{PayloadParams}
-use Rattle.str0m_sdp.specs.section.Companions.{rtx_type, red_type}
+use Rattle.str0m_formats.specs.format.FormatLine.{format_of_fmtp}
+use Rattle.str0m_formats.specs.round.Choices.{has_events}
+use Rattle.str0m_formats.specs.round.Claimed.{has}
+use Rattle.str0m_formats.specs.row.KindRows.{has_sound}
+use Rattle.str0m_formats.specs.row.PayloadParams.{has_pictures, new_row}
+use Rattle.str0m_formats.specs.row.PlainRowBounds.{AreModes, IsDistance, IsBounded}
 use Rattle.str0m_sdp.specs.attribute.Feedback.{feedback_of, with_feedback}
-use Rattle.str0m_sdp.specs.section.Mappings.{mapped, is_mapped_to}
 use Rattle.str0m_sdp.specs.declared.attribute.MediaAttribute.{MediaAttribute}
 use Rattle.str0m_sdp.specs.declared.attribute.MediaAttribute.TheVariants.{Fmtp, RtpMap}
 use Rattle.str0m_sdp.specs.declared.section.media_line.MediaLine.{MediaLine}
-use Rattle.str0m_formats.specs.declared.format.format_param.FormatParam.TheVariants.{Apt, BarePtList, ModeSet, SpropMaxDonDiff}
-use Rattle.str0m_formats.specs.declared.codec.Codec.TheVariants.{Rtx, Red}
-use Rattle.str0m_formats.specs.round.Claimed.{has}
-use Rattle.str0m_formats.specs.row.PlainRowBounds.{AreModes, IsDistance, IsBounded}
+use Rattle.str0m_sdp.specs.section.Companions.{rtx_type, red_type}
+use Rattle.str0m_sdp.specs.section.Mappings.{mapped, is_mapped_to}
 
 -- the values of an fmtp line of the type (RFC 8866, section 6.15)
 abbrev pub values_in : ℕ → MediaAttribute → Option (List FormatParam)

@@ -1,23 +1,23 @@
 -- What a section says of each type, as tables.
-use Rattle.std.specs.Prelude.{◌≡◌, ◌==◌, ◌<◌, ℕ, false, List, None, get_or, length, if◌then◌else◌}
 use Rattle.std.specs.Borrow.{Bor}
 use Rattle.std.specs.List.{list_any}
+use Rattle.std.specs.Prelude.{◌≡◌, ◌==◌, ◌<◌, ℕ, false, List, None, get_or, length, if◌then◌else◌}
 use Rattle.str0m_formats.specs.codec.Codec.{content}
-use Rattle.str0m_formats.specs.format.FormatLine.{line_values}
-use Rattle.str0m_formats.specs.row.KindRows.{has_sound}
-use Rattle.str0m_formats.specs.row.PayloadParams.{new_row}
 use Rattle.str0m_formats.specs.declared.codec.Codec.TheVariants.{Rtx, Red}
 use Rattle.str0m_formats.specs.declared.codec.codec_spec.CodecSpec.{CodecSpec}
 use Rattle.str0m_formats.specs.declared.format.format_param.FormatParam.{FormatParam}
 use Rattle.str0m_formats.specs.declared.row.payload_params.PayloadParams.{PayloadParams}
-use Rattle.str0m_sdp.specs.section.Companions.{companion}
+use Rattle.str0m_formats.specs.format.FormatLine.{line_values}
+use Rattle.str0m_formats.specs.row.KindRows.{has_sound}
+use Rattle.str0m_formats.specs.row.PayloadParams.{new_row}
 use Rattle.str0m_sdp.specs.attribute.Feedback.{none, feedback_of, with_feedback}
-use Rattle.str0m_sdp.specs.section.FmtpLines.{lines_with}
-use Rattle.str0m_sdp.specs.section.Mappings.{mapped}
-use Rattle.str0m_sdp.specs.section.SectionRows.{lines_of}
 use Rattle.str0m_sdp.specs.declared.attribute.MediaAttribute.{MediaAttribute}
 use Rattle.str0m_sdp.specs.declared.section.media_line.MediaLine.{MediaLine}
 use Rattle.str0m_sdp.specs.declared.section.section_rows.TypeWords.{TypeWords}
+use Rattle.str0m_sdp.specs.section.Companions.{companion}
+use Rattle.str0m_sdp.specs.section.FmtpLines.{lines_with}
+use Rattle.str0m_sdp.specs.section.Mappings.{mapped}
+use Rattle.str0m_sdp.specs.section.SectionRows.{lines_of}
 
 -- the row of a type, as the tables tell it
 abbrev pub row_of : TypeWords → ℕ → CodecSpec → PayloadParams

@@ -1,10 +1,10 @@
 -- What is said of sources, and where it stands.
-use Rattle.std.specs.Prelude.{◌≡◌, ℕ, suc, option_map, nat_eq, cond, None, Some, [], ◌∷◌, List, map, slice_set, Option}
+use Rattle.indexmap.specs.IndexMap.{insert_entry}
 use Rattle.std.specs.BTreeMap.{get}
 use Rattle.std.specs.Ordering.{nat_cmp}
-use Rattle.indexmap.specs.IndexMap.{insert_entry}
-use Rattle.str0m_sdp.specs.declared.section.ssrc_info.SsrcInfo.{SsrcInfo}
+use Rattle.std.specs.Prelude.{◌≡◌, ℕ, suc, option_map, nat_eq, cond, None, Some, [], ◌∷◌, List, map, slice_set, Option}
 use Rattle.str0m_sdp.specs.declared.section.sources.Sources.{Sources}
+use Rattle.str0m_sdp.specs.declared.section.ssrc_info.SsrcInfo.{SsrcInfo}
 
 -- each source, and what is said of it
 abbrev pub entries_of : List SsrcInfo → List (ℕ × SsrcInfo)

@@ -1,5 +1,8 @@
 -- Candidates in the order of their parts.
 use Rattle.std.specs.Prelude.{◌≡◌, ℕ, option_map}
+use Rattle.str0m_sdp.specs.declared.session.candidate_key.CandidateKey.{CandidateKey}
+use Rattle.str0m_sdp.specs.declared.session.candidate_key.IpPart.{IpPart}
+use Rattle.str0m_sdp.specs.declared.session.candidate_key.IpPart.TheVariants as part
 use Rattle.str0m_values.specs.declared.address.IpAddr.{IpAddr}
 use Rattle.str0m_values.specs.declared.address.IpAddr.TheVariants as address
 use Rattle.str0m_values.specs.declared.address.SocketAddr.{SocketAddr}
@@ -10,9 +13,6 @@ use Rattle.str0m_values.specs.declared.protocol.Protocol.{Protocol}
 use Rattle.str0m_values.specs.declared.protocol.Protocol.TheVariants.{Udp, Tcp, SslTcp, Tls}
 use Rattle.str0m_values.specs.declared.protocol.TcpType.{TcpType}
 use Rattle.str0m_values.specs.declared.protocol.TcpType.TheVariants.{Active, Passive, So}
-use Rattle.str0m_sdp.specs.declared.session.candidate_key.CandidateKey.{CandidateKey}
-use Rattle.str0m_sdp.specs.declared.session.candidate_key.IpPart.{IpPart}
-use Rattle.str0m_sdp.specs.declared.session.candidate_key.IpPart.TheVariants as part
 
 -- an address by its numbers
 abbrev pub ip_part : IpAddr → IpPart

@@ -1,11 +1,11 @@
 -- Mids in the order of their bytes.
-use Rattle.std.specs.Prelude.{◌≡◌, ℕ, Bool, false, cond, not, ◌||◌, List, Option, Some, None}
-use Rattle.std.specs.Borrow.{Bor}
 use Rattle.std.specs.BTreeSet.{BTreeSet, contains_by}
+use Rattle.std.specs.Borrow.{Bor}
 use Rattle.std.specs.Cmp.Lexicographic.{slice_cmp}
 use Rattle.std.specs.Ordering.{nat_cmp}
-use Rattle.str0m_sdp.specs.session.SessionConsistency.{is_listed, section_mid}
+use Rattle.std.specs.Prelude.{◌≡◌, ℕ, Bool, false, cond, not, ◌||◌, List, Option, Some, None}
 use Rattle.str0m_sdp.specs.declared.section.media_line.MediaLine.{MediaLine}
+use Rattle.str0m_sdp.specs.session.SessionConsistency.{is_listed, section_mid}
 
 -- whether a mid is among the names
 abbrev pub is_held : BTreeSet (Bor (List ℕ)) → Option (List ℕ) → Bool

@@ -1,14 +1,14 @@
 -- What a description says in its session, or in its first application section.
-use Rattle.std.specs.Prelude.{ℕ, List, Option, Some, None, codes, if◌then◌else◌}
 use Rattle.std.specs.List.{find}
 use Rattle.std.specs.Option.{option_and_then}
+use Rattle.std.specs.Prelude.{ℕ, List, Option, Some, None, codes, if◌then◌else◌}
 use Rattle.std.specs.Str.{bytes_eq}
 use Rattle.str0m_sdp.specs.attribute.MediaType.{is_channel}
-use Rattle.str0m_sdp.specs.section.SectionAccessors.{section_sctp_init}
 use Rattle.str0m_sdp.specs.declared.attribute.SessionAttribute.{SessionAttribute}
 use Rattle.str0m_sdp.specs.declared.attribute.SessionAttribute.TheVariants.{Group}
 use Rattle.str0m_sdp.specs.declared.section.media_line.MediaLine.{MediaLine}
 use Rattle.str0m_sdp.specs.declared.session.Sdp.{Sdp}
+use Rattle.str0m_sdp.specs.section.SectionAccessors.{section_sctp_init}
 
 -- the sections that share a transport (RFC 9143, section 5)
 abbrev pub bundled_of : SessionAttribute → Option (List (List ℕ))

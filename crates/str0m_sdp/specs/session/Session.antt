@@ -1,17 +1,17 @@
 -- What a session description prints (RFC 8866, section 5).
-use Rattle.std.specs.Prelude.{◌<◌, ◌^◌, ℕ, List, ◌++◌, All, IfSome, codes}
-use Rattle.std.specs.List.{flat_map}
 use Rattle.std.specs.Fmt.{decimal}
+use Rattle.std.specs.List.{flat_map}
+use Rattle.std.specs.Prelude.{◌<◌, ◌^◌, ℕ, List, ◌++◌, All, IfSome, codes}
 use Rattle.std.specs.Str.{IsUtf8}
 use Rattle.str0m_formats.specs.row.PlainRowBounds.{IsByte}
-use Rattle.str0m_sdp.specs.declared.section.media_line.MediaLine.{MediaLine}
+use Rattle.str0m_sdp.specs.attribute.Attribute.{FitsMediaAttribute, FitsSessionAttribute, session_attribute_text}
+use Rattle.str0m_sdp.specs.attribute.AttributeFits.{FitsBandwidth}
+use Rattle.str0m_sdp.specs.attribute.Bandwidth.{bandwidth_line}
 use Rattle.str0m_sdp.specs.declared.attribute.media_type.MediaType.{MediaType}
 use Rattle.str0m_sdp.specs.declared.attribute.media_type.MediaType.TheVariants.{Unknown}
+use Rattle.str0m_sdp.specs.declared.section.media_line.MediaLine.{MediaLine}
 use Rattle.str0m_sdp.specs.declared.session.Sdp.{Sdp}
 use Rattle.str0m_sdp.specs.declared.session.Session.{Session}
-use Rattle.str0m_sdp.specs.attribute.Attribute.{FitsMediaAttribute, FitsSessionAttribute, session_attribute_text}
-use Rattle.str0m_sdp.specs.attribute.Bandwidth.{bandwidth_line}
-use Rattle.str0m_sdp.specs.attribute.AttributeFits.{FitsBandwidth}
 use Rattle.str0m_sdp.specs.form.Printed.{line_end}
 use Rattle.str0m_sdp.specs.section.MediaLine.{media_line_text}
 

@@ -1,15 +1,15 @@
 -- Which sessions are consistent.
-use Rattle.std.specs.Prelude.{◌≡◌, ◌≢◌, ◌≤◌, ℕ, Bool, false, not, ◌||◌, List, filter, filter_map, length, Option, Some, None, MatchOption, All, Result, Ok, Err}
 use Rattle.std.specs.List.{AllPairs, list_any}
+use Rattle.std.specs.Prelude.{◌≡◌, ◌≢◌, ◌≤◌, ℕ, Bool, false, not, ◌||◌, List, filter, filter_map, length, Option, Some, None, MatchOption, All, Result, Ok, Err}
 use Rattle.std.specs.Str.{bytes_eq}
-use Rattle.str0m_sdp.specs.section.Consistency.{Consistent, mid_of}
 use Rattle.str0m_sdp.specs.Common.{first}
 use Rattle.str0m_sdp.specs.declared.attribute.SessionAttribute.{SessionAttribute}
 use Rattle.str0m_sdp.specs.declared.attribute.SessionAttribute.TheVariants.{Group}
-use Rattle.str0m_sdp.specs.declared.session.error.SdpError.{SdpError}
-use Rattle.str0m_sdp.specs.declared.session.error.SdpError.TheVariants.{ParseError, Inconsistent, Memory}
 use Rattle.str0m_sdp.specs.declared.section.media_line.MediaLine.{MediaLine}
 use Rattle.str0m_sdp.specs.declared.session.Sdp.{Sdp}
+use Rattle.str0m_sdp.specs.declared.session.error.SdpError.{SdpError}
+use Rattle.str0m_sdp.specs.declared.session.error.SdpError.TheVariants.{ParseError, Inconsistent, Memory}
+use Rattle.str0m_sdp.specs.section.Consistency.{Consistent, mid_of}
 
 -- the mid of a section, the first that it says
 abbrev pub section_mid : MediaLine → Option (List ℕ)

@@ -1,6 +1,6 @@
 //! The lines of streams that may be restricted.
-ghost use Rattle.std.specs.Prelude.{Some, codes};
 ghost use Rattle.std.specs.List.{join_by};
+ghost use Rattle.std.specs.Prelude.{Some, codes};
 ghost use Rattle.str0m_sdp.specs.attribute.Rid.{restriction_text, rid_text, pts_part, restrictions_part};
 
 use crate::attribute::simulcast::RestrictionId;

@@ -1,9 +1,9 @@
 //! Lists, pairs and lines of values as text.
-ghost use Rattle.std.specs.Prelude.{◌≡◌, ◌++◌, List, ℕ, Some, codes, refl};
 ghost use Rattle.std.specs.Fmt.{decimal};
 ghost use Rattle.std.specs.List.{flat_map, join_by};
-ghost use Rattle.str0m_values.specs.Fingerprint.{fingerprint_text};
+ghost use Rattle.std.specs.Prelude.{◌≡◌, ◌++◌, List, ℕ, Some, codes, refl};
 ghost use Rattle.str0m_sdp.specs.form.Printed.{attribute_line, labelled_line};
+ghost use Rattle.str0m_values.specs.Fingerprint.{fingerprint_text};
 
 use std::fmt;
 use str0m_values::{Fingerprint, Mid, Pt, Ssrc, Text};

@@ -1,8 +1,8 @@
 //! Words of the program's own.
-ghost use Rattle.std.specs.Prelude.{◌≡◌, ◌==◌, List, ℕ, Some};
-ghost use Rattle.std.specs.Cmp.Rules.{comparing};
 ghost use Rattle.std.proofs.Common.{rules};
 ghost use Rattle.std.specs.Cmp.Lexicographic.{pointwise};
+ghost use Rattle.std.specs.Cmp.Rules.{comparing};
+ghost use Rattle.std.specs.Prelude.{◌≡◌, ◌==◌, List, ℕ, Some};
 
 use std::alloc::AllocError;
 use std::fmt;

@@ -1,6 +1,6 @@
 //! The payload types that go with another type, by type.
-ghost use Rattle.std.specs.Prelude.{◌≡◌, ◌<◌, ◌&&◌, ℕ, false, Some, None, get_or, length, if◌then◌else◌};
 ghost use Rattle.std.specs.List.{list_any};
+ghost use Rattle.std.specs.Prelude.{◌≡◌, ◌<◌, ◌&&◌, ℕ, false, Some, None, get_or, length, if◌then◌else◌};
 ghost use Rattle.str0m_sdp.specs.section.Companions.{listed, named_by, names};
 
 use crate::section::type_tables::{TYPES, apt_of, place};

@@ -1,8 +1,8 @@
 //! Which sections are consistent.
 ghost use Rattle.std.specs.Prelude.{◌≡◌, ◌<◌, ◌↔◌, IsSome, Some, count_by, filter_map};
+ghost use Rattle.str0m_sdp.specs.Common.{first};
 ghost use Rattle.str0m_sdp.specs.section.Consistency.{is_mid, mid_of, is_setup, is_direction};
 ghost use Rattle.str0m_sdp.specs.session.Fault.{err_if, only_mid, setup_fault, proto_fault, mapping_fault, map_fault, value_fault, values_fault, apt_fault, first_fault};
-ghost use Rattle.str0m_sdp.specs.Common.{first};
 
 use crate::attribute::MediaAttribute;
 use crate::attribute::proto::Proto;

@@ -1,6 +1,6 @@
 //! What a section says, and its first fault.
-ghost use Rattle.std.specs.Prelude.{◌≡◌, ◌<◌, ◌↔◌, ◌++◌, [], IfOk, IsTrue, None, Ok, OnOk, Some, count_by, filter_map, length, map, option_copied, option_map, slice_set, string_bytes};
 ghost use Rattle.std.specs.List.{AllZip, list_any};
+ghost use Rattle.std.specs.Prelude.{◌≡◌, ◌<◌, ◌↔◌, ◌++◌, [], IfOk, IsTrue, None, Ok, OnOk, Some, count_by, filter_map, length, map, option_copied, option_map, slice_set, string_bytes};
 ghost use Rattle.str0m_sdp.specs.Common.{first, last};
 ghost use Rattle.str0m_sdp.specs.section.Consistency.{Consistent, NoneIff, is_direction, is_mid, mid_of};
 ghost use Rattle.str0m_sdp.specs.section.SectionAccessors.{IsRidOf, ext_map_at, ext_map_of, max_message_size_of, msid_of, rid_name_of, sctp_init_of, simulcast_of};

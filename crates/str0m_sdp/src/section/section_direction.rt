@@ -1,8 +1,8 @@
 //! Which attribute says the direction of a section.
-ghost use Rattle.std.specs.Prelude.{◌≡◌, ◌<◌, count_by, filter_map, length, position};
 ghost use Rattle.std.specs.List.{position_or_len};
-ghost use Rattle.str0m_sdp.specs.section.Consistency.{is_direction};
+ghost use Rattle.std.specs.Prelude.{◌≡◌, ◌<◌, count_by, filter_map, length, position};
 ghost use Rattle.str0m_sdp.specs.Common.{first};
+ghost use Rattle.str0m_sdp.specs.section.Consistency.{is_direction};
 ghost use Rattle.str0m_sdp.specs.section.SectionDirection.{direction_of};
 
 use crate::attribute::MediaAttribute;

@@ -1,11 +1,11 @@
 //! What is said of the sources of a section, in order of first appearance, and where that stands by their numbers: so one is
 //! found among many without a look at each, whoever chose them. A table whose hash is known has to look at all that were chosen
 //! to fall together.
-ghost use Rattle.std.specs.Prelude.{◌≡◌, ◌<◌, [], length, nat_eq, slice_get, IfOk, OnOk, Some};
-ghost use Rattle.std.specs.Map.{values_of};
 ghost use Rattle.indexmap.specs.IndexMap.{insert_entry};
-ghost use Rattle.str0m_sdp.specs.section.SsrcInfoReading.{so_far, with_value};
+ghost use Rattle.std.specs.Map.{values_of};
+ghost use Rattle.std.specs.Prelude.{◌≡◌, ◌<◌, [], length, nat_eq, slice_get, IfOk, OnOk, Some};
 ghost use Rattle.str0m_sdp.specs.section.Sources.{ArePlaced, IsPutAt, entries};
+ghost use Rattle.str0m_sdp.specs.section.SsrcInfoReading.{so_far, with_value};
 
 use crate::section::ssrc_info::SsrcInfo;
 use std::alloc::{AllocError, Global};

@@ -1,6 +1,6 @@
 //! What a section says of each payload type, gathered in one pass over its attributes.
-ghost use Rattle.std.specs.Prelude.{◌≡◌, ◌==◌, ◌<◌, ℕ, false, None, count_by, get_or, length};
 ghost use Rattle.std.specs.List.{list_any};
+ghost use Rattle.std.specs.Prelude.{◌≡◌, ◌==◌, ◌<◌, ℕ, false, None, count_by, get_or, length};
 ghost use Rattle.str0m_sdp.specs.section.Consistency.{maps, apt_of, apt_among, first_apt};
 
 use crate::attribute::MediaAttribute;

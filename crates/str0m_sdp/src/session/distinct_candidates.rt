@@ -1,7 +1,7 @@
 //! The candidates of a whole description, each once.
-ghost use Rattle.std.specs.Prelude.{◌≡◌, OnOk};
-ghost use Rattle.std.specs.Iterator.{YieldsFirstBy, item_count};
 ghost use Rattle.indexmap.specs.IndexSet.{insert_all};
+ghost use Rattle.std.specs.Iterator.{YieldsFirstBy, item_count};
+ghost use Rattle.std.specs.Prelude.{◌≡◌, OnOk};
 ghost use Rattle.str0m_sdp.specs.session.Candidates.{candidates_left, same_candidate};
 ghost use Rattle.str0m_sdp.specs.session.SeenCandidates.{AreByKey, seen};
 

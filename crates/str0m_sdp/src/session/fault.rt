@@ -135,8 +135,8 @@ impl fmt::Display for SessionFault {
 struct Unequal(usize, usize);
 
 impl fmt::Display for Unequal {
-    ghost use Rattle.std.specs.Prelude.{◌++◌, Some, codes};
     ghost use Rattle.std.specs.Fmt.{decimal};
+    ghost use Rattle.std.specs.Prelude.{◌++◌, Some, codes};
 
     ghost output = { λ counts. Some (decimal counts.0 ++ (codes " != " ++ decimal counts.1)) };
 

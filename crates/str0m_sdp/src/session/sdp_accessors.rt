@@ -2,12 +2,12 @@
 ghost use Rattle.std.specs.Prelude.{◌≡◌, IfOk, filter_map, find, option_copied, option_map};
 ghost use Rattle.str0m_sdp.specs.Common.{distinct, first};
 ghost use Rattle.str0m_sdp.specs.attribute.MediaType.{is_channel};
+ghost use Rattle.str0m_sdp.specs.declared.section.media_line.MediaLine.{MediaLine};
 ghost use Rattle.str0m_sdp.specs.session.Candidates.{all_candidates, same_candidate};
 ghost use Rattle.str0m_sdp.specs.session.DistinctCandidates.{IsEachOnce, distinct_left};
 ghost use Rattle.str0m_sdp.specs.session.PreferredFingerprint.{IsPreferred, media_fingerprints, preferred, sdp_fingerprints};
 ghost use Rattle.str0m_sdp.specs.session.SdpAccessors.{bundled_of, sdp_sctp_init};
 ghost use Rattle.str0m_sdp.specs.session.Transport.{creds_at, media_creds, media_setup, sdp_creds, sdp_setup};
-ghost use Rattle.str0m_sdp.specs.declared.section.media_line.MediaLine.{MediaLine};
 
 use crate::attribute::SessionAttribute;
 use crate::attribute::setup::Setup;

@@ -1,6 +1,6 @@
 //! Candidates, each once, in order of first appearance.
-ghost use Rattle.std.specs.Prelude.{◌≡◌, [], OnOk};
 ghost use Rattle.indexmap.specs.IndexSet.{insert_key};
+ghost use Rattle.std.specs.Prelude.{◌≡◌, [], OnOk};
 ghost use Rattle.str0m_sdp.specs.session.Candidates.{same_candidate};
 ghost use Rattle.str0m_sdp.specs.session.SeenCandidates.{AreByKey, seen};
 

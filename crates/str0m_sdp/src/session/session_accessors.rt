@@ -1,6 +1,6 @@
 //! What a session says.
-ghost use Rattle.std.specs.Prelude.{◌≡◌, IfOk, filter_map};
 ghost use Rattle.std.specs.List.{list_any};
+ghost use Rattle.std.specs.Prelude.{◌≡◌, IfOk, filter_map};
 ghost use Rattle.str0m_sdp.specs.Common.{first};
 ghost use Rattle.str0m_sdp.specs.session.Candidates.{candidates_left, session_candidates};
 ghost use Rattle.str0m_sdp.specs.session.PreferredFingerprint.{IsPreferred};

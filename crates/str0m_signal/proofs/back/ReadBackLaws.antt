@@ -1,8 +1,8 @@
 -- What is printed, read again line by line.
-use Rattle.str0m_signal.proofs.Common.{rules, ◌≡◌, ◌<◌, ◌+◌, ◌++◌, ◌∷◌, [], ◌&&◌, eqb, arith, ℕ, suc, Bool, true, false, List, length, take, drop, get_or, Option, Some, None, inl, inr, refl, sym, ap, subst, ◌∙◌, eqb-true, none-some, same_Some, lacks, IsTheOnly, Lacks, lacks_true, lacks_from, line_end, Reads, take-append-drop, drop-cons, append_cancel_right, IfSome_then}
 use Rattle.std.proofs.lemmas.Grind.{take_at_read}
-use Rattle.str0m_signal.specs.line.LinesReading.{read_attribute}
+use Rattle.str0m_signal.proofs.Common.{rules, ◌≡◌, ◌<◌, ◌+◌, ◌++◌, ◌∷◌, [], ◌&&◌, eqb, arith, ℕ, suc, Bool, true, false, List, length, take, drop, get_or, Option, Some, None, inl, inr, refl, sym, ap, subst, ◌∙◌, eqb-true, none-some, same_Some, lacks, IsTheOnly, Lacks, lacks_true, lacks_from, line_end, Reads, take-append-drop, drop-cons, append_cancel_right, IfSome_then}
 use Rattle.str0m_signal.specs.back.Writable.{AreReadAs, IsPrintedAs, IsReadBy, PutsBack}
+use Rattle.str0m_signal.specs.line.LinesReading.{read_attribute}
 
 -- the text is this line and its end
 abbrev pub IsContent : List ℕ → List ℕ → Type 0

@@ -1,16 +1,16 @@
 -- The printed lines of a row have their forms, and read as the row's lines.
-use Rattle.str0m_signal.proofs.Common.{◌≡◌, ◌≢◌, ◌<◌, ◌≤◌, ℕ, Bool, List, [], ◌∷◌, ◌++◌, map, Option, Some, None, IfSome, refl, sym, ap, subst, arith, lit<, AllByRecursion, flat_map, IsRest, param_text, telephone_max, Codec, FormatParam, TelephoneEvents, BareRange, BarePtList, Red, PayloadParams, IsPlainPair, joined_pair, media_attribute_text, row_attrs, MediaAttribute, Fmtp, reads, feedback_line, feedback_attrs, fmtp_line, format_values, format_attrs, rtx_lines, rtx_attrs, red_lines, red_attrs, map_of_spec, line_read, fmtp_lines, red_reads, RtpMap, joined, TRANSPORT_CC, REMB, FIR, NACK, PLI}
+use Rattle.str0m_formats.proofs.format.FormatLinePairs.{IsLineOf, params_print}
 use Rattle.str0m_formats.specs.codec.CodecSpec.{rtp_rate}
-use Rattle.str0m_formats.specs.format.FormatParams.{params_of}
 use Rattle.str0m_formats.specs.declared.codec.Codec.TheVariants as codec
 use Rattle.str0m_formats.specs.declared.format.format_params.FormatParams.{FormatParams}
-use Rattle.str0m_formats.proofs.format.FormatLinePairs.{IsLineOf, params_print}
+use Rattle.str0m_formats.specs.format.FormatParams.{params_of}
 use Rattle.str0m_sdp.specs.declared.attribute.rtp_map.RtpMap.{RtpMap as Mapping}
-use Rattle.str0m_signal.specs.form.MediaAttribute.{IsMediaLine}
-use Rattle.str0m_signal.specs.back.Writable.{IsPrintedAs}
-use Rattle.str0m_signal.proofs.session.AttributesPrinted.{AreReadAs, one_read, both_read, HoldsNoEnd, no_end}
-use Rattle.str0m_signal.proofs.form.RtpMapPrinted.{KeepsToMapping, mapping_printed, feedback_printed}
+use Rattle.str0m_signal.proofs.Common.{◌≡◌, ◌≢◌, ◌<◌, ◌≤◌, ℕ, Bool, List, [], ◌∷◌, ◌++◌, map, Option, Some, None, IfSome, refl, sym, ap, subst, arith, lit<, AllByRecursion, flat_map, IsRest, param_text, telephone_max, Codec, FormatParam, TelephoneEvents, BareRange, BarePtList, Red, PayloadParams, IsPlainPair, joined_pair, media_attribute_text, row_attrs, MediaAttribute, Fmtp, reads, feedback_line, feedback_attrs, fmtp_line, format_values, format_attrs, rtx_lines, rtx_attrs, red_lines, red_attrs, map_of_spec, line_read, fmtp_lines, red_reads, RtpMap, joined, TRANSPORT_CC, REMB, FIR, NACK, PLI}
 use Rattle.str0m_signal.proofs.form.FmtpPrinted.{AreShown, apt_printed, list_printed, range_printed, pairs_printed}
+use Rattle.str0m_signal.proofs.form.RtpMapPrinted.{KeepsToMapping, mapping_printed, feedback_printed}
+use Rattle.str0m_signal.proofs.session.AttributesPrinted.{AreReadAs, one_read, both_read, HoldsNoEnd, no_end}
+use Rattle.str0m_signal.specs.back.Writable.{IsPrintedAs}
+use Rattle.str0m_signal.specs.form.MediaAttribute.{IsMediaLine}
 
 -- the attributes print lines that read as these
 abbrev pub ReadAs : List MediaAttribute → List MediaAttribute → Type 0

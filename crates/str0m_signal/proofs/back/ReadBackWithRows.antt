@@ -1,16 +1,16 @@
 -- A writable session with rows in the place of a section: its text has a reading with nothing left, and that section is read as the
 -- frame with the lines of the rows.
 use Rattle.str0m_signal.proofs.Common.{◌≡◌, ◌≢◌, ◌<◌, ◌^◌, inl, inr, ℕ, zero, suc, true, List, [], ◌∷◌, ◌++◌, Some, refl, arith, AllByRecursion, flat_map, slice_get, types, FormatParam, PayloadParams, session_attribute_text, Consistent, is_media, row_attrs, is_of_type, sdp_text, MediaLine, Sdp, reads, slice_set, not, filter, made}
-use Rattle.str0m_signal.specs.form.SessionAttribute.{IsSessionLine}
-use Rattle.str0m_signal.specs.session.Reader.{Reading}
+use Rattle.str0m_signal.proofs.back.ReadBackRowLines.{ReadAs, joins, rows_read}
+use Rattle.str0m_signal.proofs.session.AttributesPrinted.{AreReadAs}
+use Rattle.str0m_signal.proofs.session.ReaderPrinted.{read_of, reading_printed}
+use Rattle.str0m_signal.proofs.session.SectionLines.{AreTypes, head_printed}
+use Rattle.str0m_signal.proofs.session.Sections.{SectionReadAs, AreSectionsRead}
 use Rattle.str0m_signal.specs.back.ReadBack.{with_rows}
 use Rattle.str0m_signal.specs.back.Writable as writable
 use Rattle.str0m_signal.specs.back.Writable.{Writable, frame_of}
-use Rattle.str0m_signal.proofs.session.AttributesPrinted.{AreReadAs}
-use Rattle.str0m_signal.proofs.session.ReaderPrinted.{read_of, reading_printed}
-use Rattle.str0m_signal.proofs.back.ReadBackRowLines.{ReadAs, joins, rows_read}
-use Rattle.str0m_signal.proofs.session.SectionLines.{AreTypes, head_printed}
-use Rattle.str0m_signal.proofs.session.Sections.{SectionReadAs, AreSectionsRead}
+use Rattle.str0m_signal.specs.form.SessionAttribute.{IsSessionLine}
+use Rattle.str0m_signal.specs.session.Reader.{Reading}
 
 -- ---- what is read, without what goes with it
 

@@ -1,18 +1,18 @@
 -- A session that was read is writable where it may be printed again.
 use Rattle.str0m_signal.proofs.Common.{rules, arith, ◌≡◌, ℕ, zero, suc, not, List, [], ◌∷◌, filter, Some, IfSome, refl, subst, inl, inr, codes, AllByRecursion, slice_get, cases_Bool, some_is, session_attribute_text, Consistent, is_of_type, MediaAttribute, SessionAttribute, MediaLine, Srtp, Sdp}
-use Rattle.str0m_signal.specs.line.Lines.{Chain, Line}
-use Rattle.str0m_signal.specs.form.MediaAttribute.{IsMediaLine}
-use Rattle.str0m_signal.specs.session.Reader.{IsReading, ConsistentSection}
-use Rattle.str0m_signal.specs.session.Header.{IsExactly, IsOrigin, IsInfo}
-use Rattle.str0m_signal.specs.form.SessionAttribute.{IsSessionLine}
-use Rattle.str0m_signal.specs.session.Section.{IsField, IsHead, IsBandwidth}
-use Rattle.str0m_signal.specs.back.WritableAgain.{FitsKind, FitsAgain, SectionFitsAgain, MayBeWrittenAgain, IsOverSrtp, IsRead}
-use Rattle.str0m_signal.specs.back.Writable.{AreReadAs, SessionGoesWith, IsReadAs, IsFrame, Writable, frame_of}
 use Rattle.str0m_signal.proofs.form.MediaAttributeAgain.{ComesBack, media_again}
-use Rattle.str0m_signal.proofs.line.WordsCharacterStarts.{StartsWithin, of_utf8}
-use Rattle.str0m_signal.proofs.line.LinesAgain.{IsFine, IsOnLine, one_line, chain_lines, taken_line, behind_is, bandwidth_again, head_is, head_again}
-use Rattle.str0m_signal.proofs.session.SectionAgain.{are_again, consistent_again, frame_again}
 use Rattle.str0m_signal.proofs.form.SessionAttributeAgain.{session_again}
+use Rattle.str0m_signal.proofs.line.LinesAgain.{IsFine, IsOnLine, one_line, chain_lines, taken_line, behind_is, bandwidth_again, head_is, head_again}
+use Rattle.str0m_signal.proofs.line.WordsCharacterStarts.{StartsWithin, of_utf8}
+use Rattle.str0m_signal.proofs.session.SectionAgain.{are_again, consistent_again, frame_again}
+use Rattle.str0m_signal.specs.back.Writable.{AreReadAs, SessionGoesWith, IsReadAs, IsFrame, Writable, frame_of}
+use Rattle.str0m_signal.specs.back.WritableAgain.{FitsKind, FitsAgain, SectionFitsAgain, MayBeWrittenAgain, IsOverSrtp, IsRead}
+use Rattle.str0m_signal.specs.form.MediaAttribute.{IsMediaLine}
+use Rattle.str0m_signal.specs.form.SessionAttribute.{IsSessionLine}
+use Rattle.str0m_signal.specs.line.Lines.{Chain, Line}
+use Rattle.str0m_signal.specs.session.Header.{IsExactly, IsOrigin, IsInfo}
+use Rattle.str0m_signal.specs.session.Reader.{IsReading, ConsistentSection}
+use Rattle.str0m_signal.specs.session.Section.{IsField, IsHead, IsBandwidth}
 
 -- ---- sections
 

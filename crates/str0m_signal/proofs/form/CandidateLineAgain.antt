@@ -1,8 +1,11 @@
 -- A candidate is printed as it was read.
-use Rattle.str0m_signal.proofs.Common.{rules, ◌≡◌, ◌≢◌, ◌≤◌, ◌<◌, ◌^◌, ℕ, zero, suc, List, [], ◌∷◌, ◌++◌, Option, Some, None, IfSome, refl, sym, subst, arith, lit<, lit≤, inl, inr, codes, digit_value, decimal, AllByRecursion, IsCandidateText, candidate_text, Parted, Lacks, IsWord, some_is, Lacks-append, lacks_both, replicate, AllDigits, IsOctet, IsGroup, IsOneGroup, IsEnd, AreGroups, AreAnyGroups, IsIpText, IsSocket, IsRelated, AreNames, IsSocketInRange, IsPrintable, socket_text, related_text, extras_text, pairs, ip_text}
-use Rattle.str0m_values.specs.declared.candidate.Candidate.{Candidate}
 use Rattle.std.proofs.Math.Nat.{pow-le-pow_right}
 use Rattle.std.proofs.lemmas.Int.Digits.{digits_value-lt}
+use Rattle.str0m_signal.proofs.Common.{rules, ◌≡◌, ◌≢◌, ◌≤◌, ◌<◌, ◌^◌, ℕ, zero, suc, List, [], ◌∷◌, ◌++◌, Option, Some, None, IfSome, refl, sym, subst, arith, lit<, lit≤, inl, inr, codes, digit_value, decimal, AllByRecursion, IsCandidateText, candidate_text, Parted, Lacks, IsWord, some_is, Lacks-append, lacks_both, replicate, AllDigits, IsOctet, IsGroup, IsOneGroup, IsEnd, AreGroups, AreAnyGroups, IsIpText, IsSocket, IsRelated, AreNames, IsSocketInRange, IsPrintable, socket_text, related_text, extras_text, pairs, ip_text}
+use Rattle.str0m_signal.proofs.form.FmtpPrinted.{behind_lacks}
+use Rattle.str0m_signal.proofs.session.AttributesPrinted.{HoldsNoEnd, no_end, no_ends, decimal_lacks, decimal_no_end}
+use Rattle.str0m_values.proofs.AddressText.{printed}
+use Rattle.str0m_values.proofs.CandidateText.{printed_candidate}
 use Rattle.str0m_values.specs.Address.{IsInRange}
 use Rattle.str0m_values.specs.CandidateKind.{kind_text}
 use Rattle.str0m_values.specs.Labels.{IsSame, IsLabelled, optional_text}
@@ -10,14 +13,11 @@ use Rattle.str0m_values.specs.Protocol.{protocol_text, tcp_type_text}
 use Rattle.str0m_values.specs.declared.address.IpAddr.{IpAddr}
 use Rattle.str0m_values.specs.declared.address.IpAddr.TheVariants.{V4, V6}
 use Rattle.str0m_values.specs.declared.address.SocketAddr.{SocketAddr}
+use Rattle.str0m_values.specs.declared.candidate.Candidate.{Candidate}
 use Rattle.str0m_values.specs.declared.candidate_kind.CandidateKind.{CandidateKind}
+use Rattle.str0m_values.specs.declared.candidate_label.TheConstants as candidate_label
 use Rattle.str0m_values.specs.declared.protocol.Protocol.{Protocol}
 use Rattle.str0m_values.specs.declared.protocol.TcpType.{TcpType}
-use Rattle.str0m_values.proofs.AddressText.{printed}
-use Rattle.str0m_values.proofs.CandidateText.{printed_candidate}
-use Rattle.str0m_signal.proofs.form.FmtpPrinted.{behind_lacks}
-use Rattle.str0m_signal.proofs.session.AttributesPrinted.{HoldsNoEnd, no_end, no_ends, decimal_lacks, decimal_no_end}
-use Rattle.str0m_values.specs.declared.candidate_label.TheConstants as candidate_label
 
 -- ---- addresses keep to their ranges
 

@@ -1,8 +1,8 @@
 -- What a search over the bytes of a text finds.
-use Rattle.str0m_signal.proofs.Common.{◌≡◌, ℕ, List, ◌+◌, length, None, Some, arith, eqb-true, eq-eqb, cut, slice_range, drop}
 use Rattle.memchr.specs.Find.{NoneBefore, Nowhere, Passes, is_byte}
-use Rattle.str0m_values.specs.Cuts.{IsFirstAt, LacksAt}
+use Rattle.str0m_signal.proofs.Common.{◌≡◌, ℕ, List, ◌+◌, length, None, Some, arith, eqb-true, eq-eqb, cut, slice_range, drop}
 use Rattle.str0m_values.proofs.CutsNearLaws.{cut_first, cut_nowhere}
+use Rattle.str0m_values.specs.Cuts.{IsFirstAt, LacksAt}
 
 lacks_before : (c : ℕ) (text : List ℕ) (n : ℕ) → Nowhere (Passes (is_byte c) text) 0 n → LacksAt c text n
 lacks_before c text n h = λ k lt e. h k (omega arith) lt (eq-eqb _ c e)

@@ -1,11 +1,11 @@
 -- The pairs of an fmtp line are read exactly where they stand.
+use Rattle.str0m_sdp.specs.declared.label.TheConstants as label
 use Rattle.str0m_signal.proofs.Common.{◌≡◌, ◌⊎◌, ℕ, suc, ◌<◌, Bool, true, false, List, [], ◌∷◌, ◌++◌, length, Option, Some, None, refl, sym, ap, subst, ◌∙◌, arith, inl, inr, length-append, codes, ne_eqb, ltb-true, lt-ltb, cases_eq, both_ways, append-nil, some_pair_parts, FormatParam, Lacks, IsRest, Bor, pair_texts, pairs_read_is, params_read, FirstFit, lacks, ◌>>=◌, cut, strip, when, is_rest, num, before, cut_at, cut_found, strip_found, strip_at, when_some, lacks_true, lacks_from, Lacks-append, bind_some, some_is, if_some, reads_first, rest_true, number_lacks, num_found, num_reads, before_front, Reads, AreRead, pairs_read_only, front, before_lacks}
+use Rattle.str0m_signal.proofs.line.BareValuesLaws.{bare_both}
+use Rattle.str0m_signal.proofs.line.PairLaws.{value_given, EndsValue, IsBlank-skip}
+use Rattle.str0m_signal.proofs.line.PairsOneByOne.{all_found, all_given}
 use Rattle.str0m_signal.specs.form.Fmtp.{IsBlank, AreBlanks, IsKey, IsValue, IsEnd, StartsPlain, IsPair, ArePairs, IsPairsForm, IsListForm, IsRangeForm, IsAnything, IsFmtp}
 use Rattle.str0m_signal.specs.form.FmtpReading.{value_read, skip_blanks, next_read, key_read, pair_read, pairs_read, pairs_form_read, fmtp_values_read, fmtp_fields_read}
-use Rattle.str0m_signal.proofs.line.BareValuesLaws.{bare_both}
-use Rattle.str0m_signal.proofs.line.PairsOneByOne.{all_found, all_given}
-use Rattle.str0m_signal.proofs.line.PairLaws.{value_given, EndsValue, IsBlank-skip}
-use Rattle.str0m_sdp.specs.declared.label.TheConstants as label
 
 -- ---- the parts of a pair
 

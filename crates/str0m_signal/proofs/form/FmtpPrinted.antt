@@ -1,16 +1,16 @@
 -- Printed fmtp lines have their forms: pairs, `apt=N`, `N/N` and `0-N`.
-use Rattle.str0m_signal.proofs.Common.{◌≡◌, ◌≤◌, ℕ, List, [], ◌∷◌, ◌++◌, map, filter, length, length-append, refl, sym, ap, ◌∙◌, subst, arith, lit<, lit≤, inl, inr, codes, AllByRecursion, join_with_byte, join_by, decimal, IsNumeral, digits_value, lt-ltb, decimal_is_IsNumeral, decimal_nonempty, append_assoc, append-nil, FirstFit, Lacks, IsRest, IsNum, param_text, FormatParam, BareRange, BarePtList, Apt, pairs_read_is, IsPlainPair, joined_pair, media_attribute_text, is_shown, shown_line, attribute_line, Fmtp, lacks_both, decimal_plain, parsed_printed}
-use Rattle.str0m_formats.specs.format.Pairs.{has_mark}
-use Rattle.str0m_formats.specs.format.PairsReading.{params_read}
-use Rattle.str0m_formats.specs.format.FormatParamReading.{param_of}
 use Rattle.str0m_formats.proofs.format.FormatParamLaws.{parsed}
 use Rattle.str0m_formats.proofs.format.PairsPlain.{IsPlain, plain_lacks}
+use Rattle.str0m_formats.specs.format.FormatParamReading.{param_of}
+use Rattle.str0m_formats.specs.format.Pairs.{has_mark}
+use Rattle.str0m_formats.specs.format.PairsReading.{params_read}
+use Rattle.str0m_sdp.specs.declared.label.TheConstants as label
+use Rattle.str0m_signal.proofs.Common.{◌≡◌, ◌≤◌, ℕ, List, [], ◌∷◌, ◌++◌, map, filter, length, length-append, refl, sym, ap, ◌∙◌, subst, arith, lit<, lit≤, inl, inr, codes, AllByRecursion, join_with_byte, join_by, decimal, IsNumeral, digits_value, lt-ltb, decimal_is_IsNumeral, decimal_nonempty, append_assoc, append-nil, FirstFit, Lacks, IsRest, IsNum, param_text, FormatParam, BareRange, BarePtList, Apt, pairs_read_is, IsPlainPair, joined_pair, media_attribute_text, is_shown, shown_line, attribute_line, Fmtp, lacks_both, decimal_plain, parsed_printed}
+use Rattle.str0m_signal.proofs.form.FmtpLaws.{key_starts}
+use Rattle.str0m_signal.proofs.session.AttributesPrinted.{HoldsNoEnd, no_ends, no_end, num_is, decimal_lacks, decimal_no_end, attribute_printed}
+use Rattle.str0m_signal.specs.back.Writable.{IsPrintedAs}
 use Rattle.str0m_signal.specs.form.Fmtp.{IsKey, IsValue, StartsPlain, ArePairs, IsPairsForm, IsListForm, IsRangeForm, IsAnything, IsFmtp}
 use Rattle.str0m_signal.specs.form.MediaAttribute.{IsMediaLine}
-use Rattle.str0m_signal.specs.back.Writable.{IsPrintedAs}
-use Rattle.str0m_signal.proofs.session.AttributesPrinted.{HoldsNoEnd, no_ends, no_end, num_is, decimal_lacks, decimal_no_end, attribute_printed}
-use Rattle.str0m_sdp.specs.declared.label.TheConstants as label
-use Rattle.str0m_signal.proofs.form.FmtpLaws.{key_starts}
 
 -- the first of the four forms that holds
 abbrev pub FmtpValues : List ℕ → List FormatParam → Type 0

@@ -1,7 +1,7 @@
 -- The pieces that forms share are read both ways.
 use Rattle.str0m_signal.proofs.Common.{◌≢◌, ◌≤◌, arith, cases_eq, eq-eqb, ne_eqb, digits_lack, digits_value, IsNumeral, ◌≡◌, ℕ, List, [], ◌∷◌, ◌++◌, length, Option, Some, None, refl, sym, ap, ◌∙◌, inl, inr, ltb-true, ◌>>=◌, cut, when, is_rest, num, IsNum, bind_some, some_is, cut_none, cut_none_lacks, cut_at, cut_found, strip_at, strip_found, when_some, num_found, num_reads, rest_true, Reads, append-nil}
-use Rattle.str0m_signal.specs.form.Forms.{Behind, IsText, Two, Tailed}
 use Rattle.str0m_signal.specs.form.FormReading.{behind, digits_read, text_read, two_read, tail_after, tailed_read}
+use Rattle.str0m_signal.specs.form.Forms.{Behind, IsText, Two, Tailed}
 
 pub text_both : Reads IsText text_read
 text_both = grind arith

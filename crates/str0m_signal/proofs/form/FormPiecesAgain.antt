@@ -1,8 +1,8 @@
 -- Pieces of lines that are printed as they were read: each has its form again, and holds no character that it hadn't.
 use Rattle.str0m_signal.proofs.Common.{◌≤◌, ◌<◌, ◌^◌, ℕ, List, [], ◌∷◌, ◌++◌, refl, sym, subst, arith, inl, digit_value, decimal, join_by, append-nil, Parted, Lacks, IsNum, Lacks-append, lacks_both}
-use Rattle.str0m_signal.specs.form.Forms.{Behind, IsText, Two, Tailed}
 use Rattle.str0m_signal.proofs.form.FmtpPrinted.{behind_lacks}
 use Rattle.str0m_signal.proofs.session.AttributesPrinted.{num_is, decimal_lacks}
+use Rattle.str0m_signal.specs.form.Forms.{Behind, IsText, Two, Tailed}
 
 -- what has the form F is printed as a text that has it again, and a character that is no digit stands there only where it stood before
 pub record Again {A : Type 0} (F : List ℕ → A → Type 0) (print : A → List ℕ) : Type 0 where

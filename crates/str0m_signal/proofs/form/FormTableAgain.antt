@@ -1,11 +1,11 @@
 -- The attributes of a table are printed as they were read: from the laws of each form.
 use Rattle.str0m_signal.proofs.Common.{num_both, ◌≡◌, ◌≤◌, ◌<◌, ◌^◌, ℕ, Bool, true, List, [], ◌∷◌, ◌++◌, map, refl, sym, subst, lit≤, inl, inr, digit_value, decimal, attribute_line}
-use Rattle.str0m_signal.specs.form.FormTable.{Piece, Form, word, words_of, words, made, labelled, labelled_by, any, a_text, number, two, two_texts, tailed, led_by}
-use Rattle.str0m_signal.proofs.line.WordsCharacterStarts.{StartsWithin}
 use Rattle.str0m_signal.proofs.form.FormLaws.{text_both, two_both, tailed_both}
 use Rattle.str0m_signal.proofs.form.FormPiecesAgain.{Again, text_again, num_again, two_again, tailed_again, behind_again}
-use Rattle.str0m_signal.proofs.session.AttributesPrinted.{HoldsNoEnd}
 use Rattle.str0m_signal.proofs.form.FormTableLaws.{Readable, Lawful, AllOf, labelled_lawful, words_lawful, all_labelled_lawful, forms_apart, head_is, tail_is}
+use Rattle.str0m_signal.proofs.line.WordsCharacterStarts.{StartsWithin}
+use Rattle.str0m_signal.proofs.session.AttributesPrinted.{HoldsNoEnd}
+use Rattle.str0m_signal.specs.form.FormTable.{Piece, Form, word, words_of, words, made, labelled, labelled_by, any, a_text, number, two, two_texts, tailed, led_by}
 
 -- ---- pieces
 

@@ -1,7 +1,7 @@
 -- A table of forms is read exactly where one of its forms holds: from a law of each form, and from its labels.
 use Rattle.str0m_signal.proofs.Common.{arith, ◌≡◌, ◌⊎◌, ℕ, Bool, true, false, ◌&&◌, ◌||◌, ◌==◌, List, [], ◌∷◌, ◌++◌, Option, Some, None, refl, sym, ap, ◌∙◌, inl, inr, list_all, list_any, cases_eq, cases_Bool, eq-eqb, ne_eqb, and_parts, false≢true, bytes_eq-Decides, ◌<|>◌, or_some, when_some, when_true, append_assoc, append-nil, if◌then◌else◌, reads_none, Reads}
-use Rattle.str0m_signal.specs.form.FormTable.{Piece, Form, own, made, labelled, word, AnyOf, labels_of, first_read, any, words_of, words, labelled_by, IsUnused, unused_read, first_byte, begins_with, beginning, letter_read, by_letter}
 use Rattle.str0m_signal.proofs.form.FormLaws.{behind_both}
+use Rattle.str0m_signal.specs.form.FormTable.{Piece, Form, own, made, labelled, word, AnyOf, labels_of, first_read, any, words_of, words, labelled_by, IsUnused, unused_read, first_byte, begins_with, beginning, letter_read, by_letter}
 
 abbrev pub Readable : {A : Type 0} → Piece A → Type 0
 Readable piece = Reads piece.Is piece.read

@@ -1,46 +1,46 @@
 -- Attributes are read exactly where their forms hold, and printed as they were read.
-use Rattle.str0m_signal.proofs.Common.{arith, ◌≡◌, ◌⊎◌, ◌≤◌, ℕ, Bool, true, false, false≢true, List, [], ◌∷◌, ◌++◌, Option, Some, IfSome, refl, ap, ◌∙◌, subst, sym, lit<, lit≤, inl, inr, codes, printed_and_read, Codec, media_attribute_text, is_shown, attribute_line, KeepsToLine, setup_text, MediaAttribute, Fmtp, RestrictionId, SimulcastLayer, candidate_text, candidate_both, IsCandidateText, Parted, IsLongestBeginning, decimal, join_by, length, ltb-true, Lacks, IsNum, is_rest, beginning_of, beginning_is, beginning_only, lacks_from, rest_true, when_some, when_true, IsReadAs, RtpMap, Simulcast, filter, sides_text, unless_munged, Fingerprint, Setup, Mid, Candidate, SsrcGroup, Unused, fingerprint_text, media_words}
 use Rattle.str0m_formats.specs.declared.codec.Codec.TheVariants as codec
 use Rattle.str0m_sdp.specs.declared.attribute.rtp_map.RtpMap.{RtpMap as Mapping}
-use Rattle.str0m_sdp.specs.declared.attribute.simulcast.Simulcast.{Simulcast as TheSimulcast}
 use Rattle.str0m_sdp.specs.declared.attribute.setup.Setup.{Setup as Role}
 use Rattle.str0m_sdp.specs.declared.attribute.setup.Setup.TheVariants.{ActPass}
 use Rattle.str0m_sdp.specs.declared.attribute.setup.TheConstants.{SETUPS}
-use Rattle.str0m_values.specs.Words.{case_of}
-use Rattle.str0m_values.proofs.WordsOfCases.{reads_words}
-use Rattle.str0m_values.specs.declared.candidate.Candidate.{Candidate as TheCandidate}
-use Rattle.str0m_values.specs.declared.fingerprint.Fingerprint.{Fingerprint as TheFingerprint}
-use Rattle.str0m_signal.specs.form.FormTable.{Form, any, led_by, two, parted, a_text, number}
-use Rattle.str0m_signal.specs.form.Forms.{Behind, IsText, Two}
-use Rattle.str0m_signal.specs.form.MediaAttribute.{media_texts, media_pairs, name, mid, ssrc_group, rid, simulcast, plain_forms, IsMediaLine, MediaForm}
-use Rattle.str0m_signal.specs.form.Rid.{IsRid}
-use Rattle.str0m_signal.specs.form.RtpMap.{IsChannels, IsRtpMap}
-use Rattle.str0m_signal.specs.form.Simulcast.{AreSides, IsSimulcast}
-use Rattle.str0m_signal.specs.line.Words.{IsHexPair}
-use Rattle.str0m_signal.specs.form.FormTransport.{candidate, fingerprint, role}
-use Rattle.str0m_signal.specs.form.MediaAttributeReading.{role_read}
-use Rattle.str0m_signal.specs.form.RidReading.{rid_fields_read}
-use Rattle.str0m_signal.specs.form.SimulcastReading.{simulcast_fields_read}
-use Rattle.str0m_signal.specs.back.Writable.{IsPrintedAs}
-use Rattle.str0m_signal.specs.back.WritableAgain.{FitsAgain, NamesNoTypes}
+use Rattle.str0m_sdp.specs.declared.attribute.simulcast.Simulcast.{Simulcast as TheSimulcast}
+use Rattle.str0m_sdp.specs.declared.label.TheConstants as label
+use Rattle.str0m_signal.proofs.Common.{arith, ◌≡◌, ◌⊎◌, ◌≤◌, ℕ, Bool, true, false, false≢true, List, [], ◌∷◌, ◌++◌, Option, Some, IfSome, refl, ap, ◌∙◌, subst, sym, lit<, lit≤, inl, inr, codes, printed_and_read, Codec, media_attribute_text, is_shown, attribute_line, KeepsToLine, setup_text, MediaAttribute, Fmtp, RestrictionId, SimulcastLayer, candidate_text, candidate_both, IsCandidateText, Parted, IsLongestBeginning, decimal, join_by, length, ltb-true, Lacks, IsNum, is_rest, beginning_of, beginning_is, beginning_only, lacks_from, rest_true, when_some, when_true, IsReadAs, RtpMap, Simulcast, filter, sides_text, unless_munged, Fingerprint, Setup, Mid, Candidate, SsrcGroup, Unused, fingerprint_text, media_words}
 use Rattle.str0m_signal.proofs.form.CandidateLineAgain.{candidate_again}
 use Rattle.str0m_signal.proofs.form.CandidateLineLaws.{candidate_begins}
-use Rattle.str0m_signal.proofs.line.WordsCharacterStarts.{StartsWithin, behind_starts, kept_some}
 use Rattle.str0m_signal.proofs.form.FmtpAgain.{fmtp_again}
-use Rattle.str0m_signal.proofs.form.FormLaws.{text_both, two_both}
 use Rattle.str0m_signal.proofs.form.FmtpPrinted.{behind_lacks}
-use Rattle.str0m_signal.proofs.form.RtpMapPrinted.{mapping_printed}
+use Rattle.str0m_signal.proofs.form.FormLaws.{text_both, two_both}
 use Rattle.str0m_signal.proofs.form.FormPiecesAgain.{Again, text_again, num_again, two_again, behind_again, parted_again}
-use Rattle.str0m_signal.proofs.session.AttributesPrinted.{HoldsNoEnd, no_end, no_ends, line_printed, attribute_printed}
-use Rattle.str0m_signal.proofs.form.RidAgain.{IsPlainRid, rid_again, sides_words, sides_form, sides_lack}
-use Rattle.str0m_signal.proofs.form.RidLaws.{rid_fields_both}
-use Rattle.str0m_signal.proofs.form.SimulcastLaws.{simulcast_fields_both}
 use Rattle.str0m_signal.proofs.form.FormTableAgain.{Kept, PrintsAgain, Whole, laws_of, quiet_again, made_again, both, text_kept, number_kept, two_kept, pair_kept, tailed_kept, labelled_whole, words_whole, all_labelled_whole, any_again}
 use Rattle.str0m_signal.proofs.form.FormTableLaws.{Readable, Lawful, AllOf, ◌also◌, own_lawful, labelled_lawful, made_lawful}
+use Rattle.str0m_signal.proofs.form.RidAgain.{IsPlainRid, rid_again, sides_words, sides_form, sides_lack}
+use Rattle.str0m_signal.proofs.form.RidLaws.{rid_fields_both}
+use Rattle.str0m_signal.proofs.form.RtpMapPrinted.{mapping_printed}
+use Rattle.str0m_signal.proofs.form.SimulcastLaws.{simulcast_fields_both}
 use Rattle.str0m_signal.proofs.line.WordsAgain.{kept_again, kept_lacks, hash_again, fingerprint_pair, pairs_are_joined}
+use Rattle.str0m_signal.proofs.line.WordsCharacterStarts.{StartsWithin, behind_starts, kept_some}
 use Rattle.str0m_signal.proofs.line.WordsLaws.{hex_pairs_both, sources_both}
+use Rattle.str0m_signal.proofs.session.AttributesPrinted.{HoldsNoEnd, no_end, no_ends, line_printed, attribute_printed}
+use Rattle.str0m_signal.specs.back.Writable.{IsPrintedAs}
+use Rattle.str0m_signal.specs.back.WritableAgain.{FitsAgain, NamesNoTypes}
+use Rattle.str0m_signal.specs.form.FormTable.{Form, any, led_by, two, parted, a_text, number}
+use Rattle.str0m_signal.specs.form.FormTransport.{candidate, fingerprint, role}
+use Rattle.str0m_signal.specs.form.Forms.{Behind, IsText, Two}
+use Rattle.str0m_signal.specs.form.MediaAttribute.{media_texts, media_pairs, name, mid, ssrc_group, rid, simulcast, plain_forms, IsMediaLine, MediaForm}
+use Rattle.str0m_signal.specs.form.MediaAttributeReading.{role_read}
+use Rattle.str0m_signal.specs.form.Rid.{IsRid}
+use Rattle.str0m_signal.specs.form.RidReading.{rid_fields_read}
+use Rattle.str0m_signal.specs.form.RtpMap.{IsChannels, IsRtpMap}
+use Rattle.str0m_signal.specs.form.Simulcast.{AreSides, IsSimulcast}
+use Rattle.str0m_signal.specs.form.SimulcastReading.{simulcast_fields_read}
+use Rattle.str0m_signal.specs.line.Words.{IsHexPair}
+use Rattle.str0m_values.proofs.WordsOfCases.{reads_words}
+use Rattle.str0m_values.specs.Words.{case_of}
+use Rattle.str0m_values.specs.declared.candidate.Candidate.{Candidate as TheCandidate}
 use Rattle.str0m_values.specs.declared.candidate_label.TheConstants as candidate_label
-use Rattle.str0m_sdp.specs.declared.label.TheConstants as label
+use Rattle.str0m_values.specs.declared.fingerprint.Fingerprint.{Fingerprint as TheFingerprint}
 
 -- ---- what sessions and sections share
 

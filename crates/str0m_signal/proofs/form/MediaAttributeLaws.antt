@@ -1,13 +1,13 @@
 -- A section's attribute is read exactly where its form holds.
 use Rattle.str0m_signal.proofs.Common.{refl, reads_first, Reads, Unused}
-use Rattle.str0m_signal.specs.line.LinesReading.{read_attribute}
-use Rattle.str0m_signal.specs.form.MediaAttribute.{plain_forms, media_forms, letters, IsMediaLine, media_read}
-use Rattle.str0m_signal.proofs.form.MediaAttributeAgain.{PlainForm, plain_laws}
 use Rattle.str0m_signal.proofs.form.FmtpLaws.{fmtp_fields_both}
-use Rattle.str0m_signal.proofs.line.LinesLaws.{attribute_both}
-use Rattle.str0m_signal.proofs.form.RtpMapLaws.{rtpmap_fields_both}
 use Rattle.str0m_signal.proofs.form.FormTableAgain.{laws_of}
 use Rattle.str0m_signal.proofs.form.FormTableLaws.{Lawful, AllOf, ◌also◌, own_lawful, made_lawful, unused_reads, lettered}
+use Rattle.str0m_signal.proofs.form.MediaAttributeAgain.{PlainForm, plain_laws}
+use Rattle.str0m_signal.proofs.form.RtpMapLaws.{rtpmap_fields_both}
+use Rattle.str0m_signal.proofs.line.LinesLaws.{attribute_both}
+use Rattle.str0m_signal.specs.form.MediaAttribute.{plain_forms, media_forms, letters, IsMediaLine, media_read}
+use Rattle.str0m_signal.specs.line.LinesReading.{read_attribute}
 
 laws : AllOf Lawful media_forms
 laws =

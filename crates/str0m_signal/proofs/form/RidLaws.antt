@@ -1,15 +1,15 @@
 -- The line of a stream that may be restricted is read exactly where its form holds.
 use Rattle.str0m_signal.proofs.Common.{◌≡◌, ℕ, suc, ◌<◌, List, [], ◌∷◌, ◌++◌, length, Option, Some, None, refl, sym, ap, subst, ◌∙◌, arith, inl, inr, length-append, codes, some_pair_parts, none-some, append-nil, ◌>>=◌, cut, strip, Parted, Lacks, IsPt, bind_some, some_is, cut_none, cut_at, cut_found, strip_at, strip_found, when_some, number_lacks, rest_true, num_both, Reads, append_assoc, strip_none}
+use Rattle.str0m_signal.proofs.form.FmtpLaws.{value_found, key_found, key_given, skips, starts_kept, key_starts}
+use Rattle.str0m_signal.proofs.form.FormLaws.{two_both}
+use Rattle.str0m_signal.proofs.form.SimulcastLaws.{name_from, name_true, parted_lacks}
+use Rattle.str0m_signal.proofs.line.PairLaws.{EndsValue, value_given, IsBlank-skip}
+use Rattle.str0m_signal.proofs.line.PairsOneByOne.{Pairs, all_found, all_given}
+use Rattle.str0m_signal.proofs.line.PartLaws.{parted_both}
 use Rattle.str0m_signal.specs.form.Fmtp.{AreBlanks, IsKey, IsValue, OneByOne}
 use Rattle.str0m_signal.specs.form.FmtpReading.{value_read, skip_blanks, key_read, pairs_at}
 use Rattle.str0m_signal.specs.form.Rid.{IsActive, IsRestriction, AreRestrictions, AreTyped, AreLists, IsMore, IsDirection, IsDirected, IsRid}
 use Rattle.str0m_signal.specs.form.RidReading.{active_read, next_read, restriction_read, restrictions_read, restricted_read, types_read, typed_after, typed_read, lists_after, lists_read, more_read, direction_read, directed_read, rid_fields_read}
-use Rattle.str0m_signal.proofs.form.FmtpLaws.{value_found, key_found, key_given, skips, starts_kept, key_starts}
-use Rattle.str0m_signal.proofs.form.FormLaws.{two_both}
-use Rattle.str0m_signal.proofs.line.PairsOneByOne.{Pairs, all_found, all_given}
-use Rattle.str0m_signal.proofs.line.PairLaws.{EndsValue, value_given, IsBlank-skip}
-use Rattle.str0m_signal.proofs.line.PartLaws.{parted_both}
-use Rattle.str0m_signal.proofs.form.SimulcastLaws.{name_from, name_true, parted_lacks}
 
 -- ---- one restriction
 

@@ -1,9 +1,9 @@
 -- An rtpmap line is read exactly where its form holds.
-use Rattle.str0m_signal.proofs.Common.{◌≡◌, ℕ, ◌<◌, List, ◌∷◌, ◌++◌, length, Option, Some, None, refl, ap, subst, ◌∙◌, arith, ltb-true, lt-ltb, append-nil, some_pair_parts, Lacks, IsNum, ◌>>=◌, cut, strip, when, is_rest, num, cut_none, cut_none_lacks, cut_at, cut_found, strip_found, when_some, num_found, num_reads, number_lacks, rest_true, bind_some, some_is, Codec, codec_of, read_as, Reads, IsReadAs, IsWithout, read_only}
 use Rattle.str0m_sdp.specs.declared.attribute.rtp_map.RtpMap.{RtpMap as Mapping}
+use Rattle.str0m_sdp.specs.declared.label.TheConstants as label
+use Rattle.str0m_signal.proofs.Common.{◌≡◌, ℕ, ◌<◌, List, ◌∷◌, ◌++◌, length, Option, Some, None, refl, ap, subst, ◌∙◌, arith, ltb-true, lt-ltb, append-nil, some_pair_parts, Lacks, IsNum, ◌>>=◌, cut, strip, when, is_rest, num, cut_none, cut_none_lacks, cut_at, cut_found, strip_found, when_some, num_found, num_reads, number_lacks, rest_true, bind_some, some_is, Codec, codec_of, read_as, Reads, IsReadAs, IsWithout, read_only}
 use Rattle.str0m_signal.specs.form.RtpMap.{IsChannels, IsRtpMap}
 use Rattle.str0m_signal.specs.form.RtpMapReading.{frequency_read, clock_read, mapping_read, rtpmap_fields_read}
-use Rattle.str0m_sdp.specs.declared.label.TheConstants as label
 
 pub frequency_sound : (text : List ℕ) (hertz : ℕ) → frequency_read text ≡ Some hertz → IsNum 4294967295 text hertz × (0 < hertz)
 frequency_sound text hertz e = grind (arith, bind_some, when_some, ltb-true, num_found)

@@ -1,14 +1,14 @@
 -- Printed mappings and feedback have their forms.
-use Rattle.str0m_signal.proofs.Common.{◌≡◌, ◌<◌, ◌≤◌, ℕ, List, ◌++◌, Option, Some, None, IfSome, refl, subst, arith, lit<, lit≤, inl, inr, codes, decimal, decimal_nonempty, Lacks, IsRest, IsPt, printed_and_read, Codec, read_as, media_attribute_text, RtcpFb, channels_text, rtp_map_text, RtpMap, codec_text, IsReadAs}
 use Rattle.str0m_formats.specs.codec.Codec.{codec_of}
 use Rattle.str0m_formats.specs.declared.codec.Codec.TheVariants as codec
 use Rattle.str0m_sdp.specs.declared.attribute.rtp_map.RtpMap.{RtpMap as Mapping}
-use Rattle.str0m_signal.specs.form.Forms.{Behind, IsText, Two}
-use Rattle.str0m_signal.specs.form.RtpMap.{IsChannels, IsRtpMap}
-use Rattle.str0m_signal.specs.form.MediaAttribute.{IsMediaLine}
-use Rattle.str0m_signal.specs.back.Writable.{IsPrintedAs}
-use Rattle.str0m_signal.proofs.session.AttributesPrinted.{HoldsNoEnd, no_ends, no_end, num_is, decimal_lacks, decimal_no_end, attribute_printed}
 use Rattle.str0m_sdp.specs.declared.label.TheConstants as label
+use Rattle.str0m_signal.proofs.Common.{◌≡◌, ◌<◌, ◌≤◌, ℕ, List, ◌++◌, Option, Some, None, IfSome, refl, subst, arith, lit<, lit≤, inl, inr, codes, decimal, decimal_nonempty, Lacks, IsRest, IsPt, printed_and_read, Codec, read_as, media_attribute_text, RtcpFb, channels_text, rtp_map_text, RtpMap, codec_text, IsReadAs}
+use Rattle.str0m_signal.proofs.session.AttributesPrinted.{HoldsNoEnd, no_ends, no_end, num_is, decimal_lacks, decimal_no_end, attribute_printed}
+use Rattle.str0m_signal.specs.back.Writable.{IsPrintedAs}
+use Rattle.str0m_signal.specs.form.Forms.{Behind, IsText, Two}
+use Rattle.str0m_signal.specs.form.MediaAttribute.{IsMediaLine}
+use Rattle.str0m_signal.specs.form.RtpMap.{IsChannels, IsRtpMap}
 
 -- ---- the name of a codec
 

@@ -1,24 +1,24 @@
 -- The attributes of a session are read exactly where their forms hold, and are printed as they were read.
-use Rattle.str0m_signal.proofs.Common.{arith, ℕ, true, List, ◌++◌, refl, sym, subst, lit≤, inl, inr, session_attribute_text, SessionAttribute, reads_first, Reads, session_words}
 use Rattle.str0m_sdp.specs.declared.attribute.SessionAttribute.TheVariants.{Group, Candidate, Fingerprint, Setup, Unused}
-use Rattle.str0m_signal.specs.form.FormTable.{Form, led_by}
-use Rattle.str0m_signal.specs.form.Forms.{Behind}
-use Rattle.str0m_signal.specs.line.LinesReading.{read_attribute}
-use Rattle.str0m_signal.specs.form.SessionAttribute.{session_texts, group, session_forms, session_read, SessionForm, IsSessionLine}
-use Rattle.str0m_signal.specs.form.FormTransport.{candidate, fingerprint}
-use Rattle.str0m_signal.specs.line.Words.{IsGroup, IsMsidSemantic}
-use Rattle.str0m_signal.specs.line.WordsReading.{group_fields_read, msid_semantic_fields_read}
-use Rattle.str0m_signal.specs.back.Writable.{IsPrintedAs}
-use Rattle.str0m_signal.proofs.form.MediaAttributeAgain.{role_kept, candidate_lawful, fingerprint_lawful, printed_candidate, printed_fingerprint}
-use Rattle.str0m_signal.proofs.line.WordsCharacterStarts.{StartsWithin, behind_starts}
-use Rattle.str0m_signal.proofs.line.LinesLaws.{attribute_both}
+use Rattle.str0m_sdp.specs.declared.label.TheConstants as label
+use Rattle.str0m_signal.proofs.Common.{arith, ℕ, true, List, ◌++◌, refl, sym, subst, lit≤, inl, inr, session_attribute_text, SessionAttribute, reads_first, Reads, session_words}
 use Rattle.str0m_signal.proofs.form.FormPiecesAgain.{behind_again}
-use Rattle.str0m_signal.proofs.session.AttributesPrinted.{HoldsNoEnd, line_printed}
 use Rattle.str0m_signal.proofs.form.FormTableAgain.{Kept, PrintsAgain, Whole, laws_of, quiet_again, made_again, both, text_kept, labelled_whole, words_whole, all_labelled_whole, any_again}
 use Rattle.str0m_signal.proofs.form.FormTableLaws.{Lawful, AllOf, ◌also◌, any_lawful, labelled_lawful, made_lawful, unused_reads}
+use Rattle.str0m_signal.proofs.form.MediaAttributeAgain.{role_kept, candidate_lawful, fingerprint_lawful, printed_candidate, printed_fingerprint}
+use Rattle.str0m_signal.proofs.line.LinesLaws.{attribute_both}
 use Rattle.str0m_signal.proofs.line.WordsAgain.{IsFilledGroup, group_again, group_filled, meaning_again, meaning_text, names_text}
+use Rattle.str0m_signal.proofs.line.WordsCharacterStarts.{StartsWithin, behind_starts}
 use Rattle.str0m_signal.proofs.line.WordsLaws.{group_both, msid_semantic_both}
-use Rattle.str0m_sdp.specs.declared.label.TheConstants as label
+use Rattle.str0m_signal.proofs.session.AttributesPrinted.{HoldsNoEnd, line_printed}
+use Rattle.str0m_signal.specs.back.Writable.{IsPrintedAs}
+use Rattle.str0m_signal.specs.form.FormTable.{Form, led_by}
+use Rattle.str0m_signal.specs.form.FormTransport.{candidate, fingerprint}
+use Rattle.str0m_signal.specs.form.Forms.{Behind}
+use Rattle.str0m_signal.specs.form.SessionAttribute.{session_texts, group, session_forms, session_read, SessionForm, IsSessionLine}
+use Rattle.str0m_signal.specs.line.LinesReading.{read_attribute}
+use Rattle.str0m_signal.specs.line.Words.{IsGroup, IsMsidSemantic}
+use Rattle.str0m_signal.specs.line.WordsReading.{group_fields_read, msid_semantic_fields_read}
 
 abbrev ComesBack : Form SessionAttribute → Type 0
 ComesBack = PrintsAgain (λ _. Unit {0}) session_attribute_text (λ _. true)

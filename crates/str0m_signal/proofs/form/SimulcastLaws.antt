@@ -1,13 +1,13 @@
 -- A simulcast line is read exactly where its form holds.
-use Rattle.str0m_signal.proofs.Common.{rules, ◌≡◌, ◌≢◌, ℕ, Bool, true, List, [], ◌∷◌, ◌++◌, Option, Some, None, refl, sym, ap, subst, ◌∙◌, arith, inl, inr, codes, is_some, ltb-true, and_parts, and_from, RestrictionId, SimulcastLayer, name_text, ◌>>=◌, cut, strip, when, lacks, Parted, Lacks, IsRest, Sound, bind_some, some_is, sound_or, cut_none, cut_at, cut_found, strip_found, lacks_true, lacks_from, when_some, when_true, rest_true, Reads, chars}
 use Rattle.str0m_sdp.specs.declared.attribute.simulcast.Simulcast.{Simulcast}
-use Rattle.str0m_signal.specs.form.Forms.{Behind, Two}
+use Rattle.str0m_signal.proofs.Common.{rules, ◌≡◌, ◌≢◌, ℕ, Bool, true, List, [], ◌∷◌, ◌++◌, Option, Some, None, refl, sym, ap, subst, ◌∙◌, arith, inl, inr, codes, is_some, ltb-true, and_parts, and_from, RestrictionId, SimulcastLayer, name_text, ◌>>=◌, cut, strip, when, lacks, Parted, Lacks, IsRest, Sound, bind_some, some_is, sound_or, cut_none, cut_at, cut_found, strip_found, lacks_true, lacks_from, when_some, when_true, rest_true, Reads, chars}
+use Rattle.str0m_signal.proofs.form.FormLaws.{behind_both}
+use Rattle.str0m_signal.proofs.line.PartLaws.{parted_both}
 use Rattle.str0m_signal.specs.form.FormReading.{behind, parted_read}
+use Rattle.str0m_signal.specs.form.Forms.{Behind, Two}
 use Rattle.str0m_signal.specs.form.RidStreamName.{is_name_character, IsStreamName, is_stream_name}
 use Rattle.str0m_signal.specs.form.Simulcast.{IsAlternative, IsLayer, IsSide, AreSides, IsSimulcast}
 use Rattle.str0m_signal.specs.form.SimulcastReading.{alternative_after, alternative_read, first_after, layer_read, side_read, sides_after, sides_read, layers_of, simulcast_fields_read}
-use Rattle.str0m_signal.proofs.form.FormLaws.{behind_both}
-use Rattle.str0m_signal.proofs.line.PartLaws.{parted_both}
 
 -- ---- names
 

@@ -1,11 +1,11 @@
 -- The values without keys of an fmtp line are read exactly where they stand.
 use Rattle.str0m_signal.proofs.Common.{ℕ, List, [], ◌∷◌, Option, Some, refl, sym, ap, ◌∙◌, arith, codes, FormatParam, BareRange, BarePtList, ◌>>=◌, strip, num, FirstFit, Parted, Lacks, IsNum, bind_some, some_is, reads_first, cut_at, strip_found, number_lacks, num_reads, num_both, Reads, IsEventRange, Unknown}
-use Rattle.str0m_signal.specs.form.Forms.{Two}
-use Rattle.str0m_signal.specs.form.FormReading.{behind, digits_read, two_read, parted_read}
-use Rattle.str0m_signal.specs.form.Fmtp.{IsListForm, IsRangeForm, IsAnything}
-use Rattle.str0m_signal.specs.form.FmtpReading.{first_read, range_read, list_form_read, range_form_read, bare_read}
 use Rattle.str0m_signal.proofs.form.FormLaws.{digits_both, two_both, behind_both}
 use Rattle.str0m_signal.proofs.line.PartLaws.{parted_both}
+use Rattle.str0m_signal.specs.form.Fmtp.{IsListForm, IsRangeForm, IsAnything}
+use Rattle.str0m_signal.specs.form.FmtpReading.{first_read, range_read, list_form_read, range_form_read, bare_read}
+use Rattle.str0m_signal.specs.form.FormReading.{behind, digits_read, two_read, parted_read}
+use Rattle.str0m_signal.specs.form.Forms.{Two}
 
 -- ---- lists
 

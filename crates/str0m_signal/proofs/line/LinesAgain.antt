@@ -1,16 +1,16 @@
 -- The lines of what was read; m-lines and bandwidths are printed as they were.
-use Rattle.str0m_signal.proofs.Common.{◌≡◌, ◌≢◌, ◌⊎◌, ℕ, List, [], ◌∷◌, ◌++◌, Option, Some, None, IfSome, refl, subst, arith, lit<, lit≤, inl, inr, codes, AllByRecursion, append_assoc, FirstFit, Parted, Lacks, IsWord, IsNum, Lacks-append, bandwidth_text, pts_text, formats_text, media_type_text, Bandwidth, MediaLine, MediaType, Proto, Sctp, none_reads}
 use Rattle.str0m_sdp.specs.declared.attribute.media_type.MediaType.TheVariants as typ
-use Rattle.str0m_signal.specs.line.Lines.{Chain, Taken, Line, joined, AreLines, OneLine}
-use Rattle.str0m_signal.specs.session.Section.{Head, IsKind, IsHead, IsBandwidth, NoTypes}
-use Rattle.str0m_signal.specs.back.WritableAgain.{FitsKind}
-use Rattle.str0m_signal.specs.back.Writable.{IsPrintedAs, HasTypes}
-use Rattle.str0m_signal.proofs.line.WordsCharacterStarts.{StartsWithin, front_starts, behind_starts}
+use Rattle.str0m_signal.proofs.Common.{◌≡◌, ◌≢◌, ◌⊎◌, ℕ, List, [], ◌∷◌, ◌++◌, Option, Some, None, IfSome, refl, subst, arith, lit<, lit≤, inl, inr, codes, AllByRecursion, append_assoc, FirstFit, Parted, Lacks, IsWord, IsNum, Lacks-append, bandwidth_text, pts_text, formats_text, media_type_text, Bandwidth, MediaLine, MediaType, Proto, Sctp, none_reads}
 use Rattle.str0m_signal.proofs.form.FmtpPrinted.{behind_lacks}
 use Rattle.str0m_signal.proofs.form.FormPiecesAgain.{num_again, parted_again}
+use Rattle.str0m_signal.proofs.line.WordsCharacterStarts.{StartsWithin, front_starts, behind_starts}
 use Rattle.str0m_signal.proofs.session.AttributesPrinted.{HoldsNoEnd, no_end}
 use Rattle.str0m_signal.proofs.session.SectionLaws.{numbers_both}
 use Rattle.str0m_signal.proofs.session.SectionLines.{head_of}
+use Rattle.str0m_signal.specs.back.Writable.{IsPrintedAs, HasTypes}
+use Rattle.str0m_signal.specs.back.WritableAgain.{FitsKind}
+use Rattle.str0m_signal.specs.line.Lines.{Chain, Taken, Line, joined, AreLines, OneLine}
+use Rattle.str0m_signal.specs.session.Section.{Head, IsKind, IsHead, IsBandwidth, NoTypes}
 
 -- ---- lines
 

@@ -1,8 +1,8 @@
 -- Parts of a list of lines that stand one after another.
 use Rattle.str0m_signal.proofs.Common.{◌≡◌, ℕ, ◌<◌, ◌≤◌, List, [], ◌∷◌, ◌++◌, length, Option, None, refl, sym, ap, subst, ◌∙◌, arith, none-some, Reads}
+use Rattle.str0m_signal.proofs.line.LinesLaws.{line_found, line_given}
 use Rattle.str0m_signal.specs.line.Lines.{Line, OneLine, Chain, Run, Taken}
 use Rattle.str0m_signal.specs.line.LinesReading.{lines_of, line_read, IsRead}
-use Rattle.str0m_signal.proofs.line.LinesLaws.{line_found, line_given}
 
 -- one more part at the end
 pub chain_more : {A : Type 0} (S : List Line → A → List Line → Type 0) (start : List Line) (done : List A) (now : List Line) (a : A) (next : List Line) → Chain S start done now → S now a next → Chain S start (done ++ a ∷ []) next

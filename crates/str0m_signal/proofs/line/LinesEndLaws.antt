@@ -1,8 +1,8 @@
 -- Where the first line ends.
 use Rattle.str0m_signal.proofs.Common.{◌≡◌, ◌≢◌, ℕ, suc, true, false, not, eqb, List, [], ◌∷◌, ◌++◌, length, Some, None, refl, sym, ap, ◌∙◌, arith, inl, inr, eqb-true, ne_eqb, cases_eq, and_right, append-nil, Lacks, IsRest, lacks, ◌>>=◌, lacks_true}
+use Rattle.str0m_signal.proofs.line.LinesLaws.{at_other, line_here}
 use Rattle.str0m_signal.specs.line.Lines.{Line, EndsIn, IsLine}
 use Rattle.str0m_signal.specs.line.LinesReading.{is_crlf, longer, lines_of, plain_line, behind_end, IsAtEnd}
-use Rattle.str0m_signal.proofs.line.LinesLaws.{at_other, line_here}
 
 -- ---- the first line, by what stands after it
 

@@ -1,10 +1,10 @@
 -- `lines_of` gives the lines of a text, and no others are.
-use Rattle.str0m_signal.proofs.Common.{rules, ◌≡◌, ◌≢◌, ◌⊎◌, ℕ, ◌<◌, ◌+◌, true, false, eqb, List, [], ◌∷◌, ◌++◌, length, Option, Some, None, refl, sym, ap, ◌∙◌, arith, inl, inr, ne_eqb, cases_eq, cases_Bool, both_ways, and_right, take, ◌-◌, Bor, some_pair_parts, lacks_true, lacks_from, bind_some, if_some, Reads, MatchOption, unwrap_or}
-use Rattle.std.specs.Str.Pattern.{FindsCharSuffix}
 use Rattle.std.proofs.lemmas.Str.Pattern.{strip_suffix_char}
+use Rattle.std.specs.Str.Pattern.{FindsCharSuffix}
+use Rattle.str0m_signal.proofs.Common.{rules, ◌≡◌, ◌≢◌, ◌⊎◌, ℕ, ◌<◌, ◌+◌, true, false, eqb, List, [], ◌∷◌, ◌++◌, length, Option, Some, None, refl, sym, ap, ◌∙◌, arith, inl, inr, ne_eqb, cases_eq, cases_Bool, both_ways, and_right, take, ◌-◌, Bor, some_pair_parts, lacks_true, lacks_from, bind_some, if_some, Reads, MatchOption, unwrap_or}
+use Rattle.str0m_signal.proofs.line.PartLaws.{cons_parts}
 use Rattle.str0m_signal.specs.line.Lines.{IsAttributeLine, OneLine, Line, joined, EndsIn, IsLine, AreLines, Lines}
 use Rattle.str0m_signal.specs.line.LinesReading.{read_attribute, line_read, is_crlf, longer, behind_first, line_from, lines_of}
-use Rattle.str0m_signal.proofs.line.PartLaws.{cons_parts}
 
 nil_cons : (y : ℕ) (ys : List ℕ) → [] ≡ y ∷ ys → ⊥
 nil_cons y ys e = absurd cc

@@ -1,8 +1,8 @@
 -- Printed texts are their lines, these are read one after another, and a run stops where another letter begins.
 use Rattle.str0m_signal.proofs.Common.{arith, ◌≡◌, ◌≢◌, inl, inr, get_or, ℕ, List, [], ◌∷◌, ◌++◌, refl, sym, ap, ◌∙◌, subst, codes, flat_map, append_assoc, Lacks, line_end}
+use Rattle.str0m_signal.proofs.session.AttributesPrinted.{AreReadAs}
 use Rattle.str0m_signal.specs.line.Lines.{Line, joined, AreLines, Lines, OneLine, IsAttributeLine, Chain, Stops}
 use Rattle.str0m_signal.specs.session.Section.{IsField, IsBandwidth}
-use Rattle.str0m_signal.proofs.session.AttributesPrinted.{AreReadAs}
 
 -- a line of this content that ends as printed lines do
 abbrev pub printed_line : List ℕ → Line

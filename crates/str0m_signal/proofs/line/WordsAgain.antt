@@ -1,10 +1,10 @@
 -- Words, names and bytes are printed as they were read.
 use Rattle.str0m_signal.proofs.Common.{◌≡◌, ◌≤◌, ◌<◌, ◌/◌, ◌%◌, ℕ, true, List, [], ◌∷◌, ◌++◌, refl, sym, subst, arith, lit≤, inl, inr, codes, digit_value, AllByRecursion, flat_map, join_by, append-nil, Parted, Lacks, IsRest, IsLongestBeginning, Lacks-append, digit_glyph, hex_pair, pairs_text}
-use Rattle.str0m_signal.specs.form.Forms.{IsText, Two}
-use Rattle.str0m_signal.proofs.line.WordsCharacterStarts.{StartsWithin, front_starts, behind_starts, kept_some}
-use Rattle.str0m_signal.specs.line.Words.{IsWordText, IsName, IsHexPair, IsGroup, AreNames, IsMsidSemantic}
 use Rattle.str0m_signal.proofs.form.FmtpPrinted.{behind_lacks}
 use Rattle.str0m_signal.proofs.form.FormPiecesAgain.{Again, text_again, two_again, parted_again}
+use Rattle.str0m_signal.proofs.line.WordsCharacterStarts.{StartsWithin, front_starts, behind_starts, kept_some}
+use Rattle.str0m_signal.specs.form.Forms.{IsText, Two}
+use Rattle.str0m_signal.specs.line.Words.{IsWordText, IsName, IsHexPair, IsGroup, AreNames, IsMsidSemantic}
 
 pub word_again : Again IsWordText (λ x. x)
 word_again = grind arith

@@ -1,12 +1,12 @@
 -- Lists of words are read both ways.
 use Rattle.str0m_signal.proofs.Common.{rules, ◌≡◌, ◌≢◌, ◌⊎◌, ◌<◌, ◌≤◌, ◌+◌, ℕ, List, [], ◌∷◌, ◌++◌, Option, Some, None, refl, sym, ap, ◌∙◌, arith, inl, inr, codes, digit_value, lt-ltb, eq-eqb, ne_eqb, cases_eq, ◌>>=◌, cut, strip, lacks, num, Parted, Lacks, IsRest, IsNum, beginning_is, beginning_only, bind_some, if_some, some_is, cut_none, cut_none_lacks, cut_at, cut_found, strip_found, lacks_true, lacks_from, number_lacks, num_both, Reads, append-nil}
-use Rattle.str0m_signal.specs.line.Lines.{EndsIn}
-use Rattle.str0m_signal.specs.form.Forms.{IsText, Two}
-use Rattle.str0m_signal.specs.form.FormReading.{text_read, two_read, parted_read}
-use Rattle.str0m_signal.specs.line.Words.{IsWordText, IsName, IsHexPair, IsSpace, AreNames, IsGroup, IsMsidSemantic}
-use Rattle.str0m_signal.specs.line.WordsReading.{word_read, name_read, digit_read, hex_pair_read, without_space, names_after, names_read, group_fields_read, behind_space, msid_semantic_fields_read}
 use Rattle.str0m_signal.proofs.form.FormLaws.{text_both, two_both}
 use Rattle.str0m_signal.proofs.line.PartLaws.{parted_both}
+use Rattle.str0m_signal.specs.form.FormReading.{text_read, two_read, parted_read}
+use Rattle.str0m_signal.specs.form.Forms.{IsText, Two}
+use Rattle.str0m_signal.specs.line.Lines.{EndsIn}
+use Rattle.str0m_signal.specs.line.Words.{IsWordText, IsName, IsHexPair, IsSpace, AreNames, IsGroup, IsMsidSemantic}
+use Rattle.str0m_signal.specs.line.WordsReading.{word_read, name_read, digit_read, hex_pair_read, without_space, names_after, names_read, group_fields_read, behind_space, msid_semantic_fields_read}
 
 -- ---- items
 

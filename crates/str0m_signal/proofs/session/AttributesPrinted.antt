@@ -1,9 +1,9 @@
 -- Printed attribute lines and their parts.
 use Rattle.str0m_signal.proofs.Common.{◌≡◌, ◌⊎◌, ◌≤◌, ◌<◌, ◌^◌, ℕ, true, List, [], ◌∷◌, ◌++◌, refl, sym, subst, arith, lit≤, inl, inr, codes, digit_value, decimal, decimal_is_IsNumeral, lacks, Lacks, IsNum, lacks_from, digits_lack, attribute_line, MediaAttribute, lacks_both, decimal_reads}
-use Rattle.str0m_signal.specs.line.Lines.{IsAttributeLine}
+use Rattle.str0m_signal.specs.back.Writable.{IsPrintedAs}
 use Rattle.str0m_signal.specs.form.FormTable.{any}
 use Rattle.str0m_signal.specs.form.MediaAttribute.{media_forms, MediaForm, IsMediaLine}
-use Rattle.str0m_signal.specs.back.Writable.{IsPrintedAs}
+use Rattle.str0m_signal.specs.line.Lines.{IsAttributeLine}
 
 -- each item prints nothing, or one line that reads as the value in its place
 abbrev pub AreReadAs : {X A : Type 0} → (X → List ℕ) → (List ℕ → A → Type 0) → List X → List A → Type 0

@@ -1,14 +1,14 @@
 -- The lines of a header are read exactly where their forms hold.
+use Rattle.std.proofs.Math.Seq.{drop-append_seam}
 use Rattle.str0m_signal.proofs.Common.{rules, ◌≡◌, ℕ, List, [], ◌∷◌, ◌++◌, length, Some, refl, sym, ap, subst, ◌∙◌, arith, inl, inr, codes, ltb-true, bytes_eq-Decides, some_pair_parts, Lacks, ◌>>=◌, cut, strip, when, is_rest, cut_at, cut_found, strip_found, when_some, when_true, bind_some, some_is, AllByRecursion, drop, digits_lack, rest_true, reads_either, Reads}
+use Rattle.str0m_signal.proofs.form.FormLaws.{digits_both}
+use Rattle.str0m_signal.proofs.line.LinesLaws.{line_found, line_given}
+use Rattle.str0m_signal.proofs.session.SectionLaws.{field_both}
+use Rattle.str0m_signal.specs.form.FormReading.{digits_read}
 use Rattle.str0m_signal.specs.line.Lines.{Line}
 use Rattle.str0m_signal.specs.session.Header.{IsExactly, IsDigits, IsOrigin, IsOneField, IsInfo, IsOpening}
-use Rattle.str0m_signal.specs.session.Section.{IsField}
-use Rattle.str0m_signal.specs.form.FormReading.{digits_read}
 use Rattle.str0m_signal.specs.session.HeaderReading.{exact_read, origin_read, one_field_read, info_read, opening_read}
-use Rattle.std.proofs.Math.Seq.{drop-append_seam}
-use Rattle.str0m_signal.proofs.line.LinesLaws.{line_found, line_given}
-use Rattle.str0m_signal.proofs.form.FormLaws.{digits_both}
-use Rattle.str0m_signal.proofs.session.SectionLaws.{field_both}
+use Rattle.str0m_signal.specs.session.Section.{IsField}
 
 pub exact_both : (word : List ℕ) → Reads (IsExactly word) (exact_read word)
 exact_both word = grind (arith, when_some, bytes_eq-Decides, when_true)

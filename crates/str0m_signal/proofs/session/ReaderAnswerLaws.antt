@@ -1,11 +1,11 @@
 -- The clauses of a reader.
-use Rattle.str0m_signal.proofs.Common.{arith, ◌≡◌, ℕ, List, Option, Result, Ok, Err, sym, ap, subst, ◌∙◌, Bor, none-some, SdpError, Reads, IsErrAnd}
 use Rattle.str0m_sdp.specs.declared.session.error.SdpError.TheVariants.{ParseError, Inconsistent, Memory}
-use Rattle.str0m_signal.specs.session.ReaderAnswers.{Answers, AtMostOne, Gives, Refuses, IsRefusal, unread}
+use Rattle.str0m_signal.proofs.Common.{arith, ◌≡◌, ℕ, List, Option, Result, Ok, Err, sym, ap, subst, ◌∙◌, Bor, none-some, SdpError, Reads, IsErrAnd}
+use Rattle.str0m_signal.proofs.line.LinesChainLaws.{OnlyOne, one_line_only}
+use Rattle.str0m_signal.proofs.line.LinesLaws.{joined_lines, lines_both, lines_only, line_found, line_given, pair_is}
 use Rattle.str0m_signal.specs.line.Lines.{Line, OneLine, OfText, FirstLine}
 use Rattle.str0m_signal.specs.line.LinesReading.{lines_of, line_read, left}
-use Rattle.str0m_signal.proofs.line.LinesLaws.{joined_lines, lines_both, lines_only, line_found, line_given, pair_is}
-use Rattle.str0m_signal.proofs.line.LinesChainLaws.{OnlyOne, one_line_only}
+use Rattle.str0m_signal.specs.session.ReaderAnswers.{Answers, AtMostOne, Gives, Refuses, IsRefusal, unread}
 
 -- what was read of the lines of a text was read of the text
 pub text_answers : {A : Type 0} (S : List Line → A → List Line → Type 0) (text : List ℕ) (r : Result (A × Bor (List ℕ)) SdpError) → Answers left r (λ v. S (lines_of text) v.0 v.1) → Answers unread r (OfText S text)

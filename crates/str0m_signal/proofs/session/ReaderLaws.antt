@@ -1,17 +1,17 @@
 -- A text has at most one reading.
 use Rattle.str0m_signal.proofs.Common.{◌≡◌, ℕ, ◌<◌, List, [], ◌∷◌, length, Option, Some, sym, ap, subst, ◌∙◌, arith, codes, some_pair_parts, Bandwidth, MediaLine, MediaAttribute, Consistent, Sdp, SessionAttribute, Session}
+use Rattle.str0m_signal.proofs.form.MediaAttributeLaws.{media_line_both}
+use Rattle.str0m_signal.proofs.form.SessionAttributeAgain.{session_line_both}
+use Rattle.str0m_signal.proofs.line.LinesChainLaws.{OnlyOne, one_line_only, chain_ends, taken_only, one_fewer, chain_fewer, taken_fewer}
+use Rattle.str0m_signal.proofs.session.HeaderLaws.{exact_both, info_both, opening_given}
+use Rattle.str0m_signal.proofs.session.SectionLaws.{field_both, bandwidth_both, head_both}
+use Rattle.str0m_signal.specs.form.MediaAttribute.{IsMediaLine}
+use Rattle.str0m_signal.specs.form.SessionAttribute.{IsSessionLine}
 use Rattle.str0m_signal.specs.line.Lines.{Line, OneLine, Chain, Stops, Run, Taken}
 use Rattle.str0m_signal.specs.session.Header.{Header, IsExactly, IsInfo, IsHeader}
-use Rattle.str0m_signal.specs.session.Section.{IsField, IsBandwidth, Head, IsHead, IsSection}
-use Rattle.str0m_signal.specs.form.MediaAttribute.{IsMediaLine}
-use Rattle.str0m_signal.specs.session.Reader.{ConsistentSection, Sections, IsSession, IsReading}
-use Rattle.str0m_signal.specs.form.SessionAttribute.{IsSessionLine}
-use Rattle.str0m_signal.proofs.form.SessionAttributeAgain.{session_line_both}
 use Rattle.str0m_signal.specs.session.HeaderReading.{opening_read}
-use Rattle.str0m_signal.proofs.line.LinesChainLaws.{OnlyOne, one_line_only, chain_ends, taken_only, one_fewer, chain_fewer, taken_fewer}
-use Rattle.str0m_signal.proofs.form.MediaAttributeLaws.{media_line_both}
-use Rattle.str0m_signal.proofs.session.SectionLaws.{field_both, bandwidth_both, head_both}
-use Rattle.str0m_signal.proofs.session.HeaderLaws.{exact_both, info_both, opening_given}
+use Rattle.str0m_signal.specs.session.Reader.{ConsistentSection, Sections, IsSession, IsReading}
+use Rattle.str0m_signal.specs.session.Section.{IsField, IsBandwidth, Head, IsHead, IsSection}
 
 -- where two headers of the same lines have their timing
 module _ (lines : List Line) (id : ℕ) (l1 l2 l3 : List Line) (infos : List (List ℕ)) (bw : Option Bandwidth) (open_is : opening_read lines ≡ Some (id, l1)) (infos_are : Run (OneLine IsInfo) l1 infos l2) (bw_is : Taken (OneLine IsBandwidth) l2 bw l3) where

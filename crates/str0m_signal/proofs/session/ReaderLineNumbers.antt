@@ -1,7 +1,7 @@
 -- The number of the line at which a rest begins: as many lines stand before it as line feeds.
 use Rattle.str0m_signal.proofs.Common.{◌≡◌, ◌≢◌, ◌==◌, ◌+◌, ℕ, List, [], ◌∷◌, ◌++◌, cond, count_by, length, refl, sym, ap, ◌∙◌, arith, inl, inr, ne_eqb, Lacks, sum_by-append, sum_by-cons}
-use Rattle.str0m_signal.specs.session.Reader.{IsFromLine}
 use Rattle.str0m_signal.specs.line.Lines.{Line, joined, IsLine, AreLines}
+use Rattle.str0m_signal.specs.session.Reader.{IsFromLine}
 
 abbrev pub line_feeds : List ℕ → ℕ
 line_feeds text = count_by (λ c. c == 10) text

@@ -1,14 +1,14 @@
 -- A printed session with its sections has a reading with nothing left.
 use Rattle.str0m_signal.proofs.Common.{◌≡◌, ◌≢◌, ◌<◌, ◌^◌, ℕ, List, [], ◌++◌, IfSome, refl, sym, ap, ◌∙◌, arith, flat_map, append-nil, session_attribute_text, bandwidth_text, media_line_text, sdp_text, SessionAttribute, MediaLine, Sdp}
+use Rattle.str0m_signal.proofs.line.LinesPrinted.{joined-append, printed-append, lines_printed, Apart, apart-append}
+use Rattle.str0m_signal.proofs.session.AttributesPrinted.{AreReadAs}
+use Rattle.str0m_signal.proofs.session.Sections.{AreSectionsRead, SaidSections, said_sections, sections_are}
+use Rattle.str0m_signal.proofs.session.SessionLines.{SaidSession, said_session}
+use Rattle.str0m_signal.specs.back.Writable.{IsPrintedAs}
+use Rattle.str0m_signal.specs.form.SessionAttribute.{IsSessionLine}
 use Rattle.str0m_signal.specs.line.Lines.{joined}
 use Rattle.str0m_signal.specs.session.Reader.{Reading}
 use Rattle.str0m_signal.specs.session.Section.{IsBandwidth}
-use Rattle.str0m_signal.specs.form.SessionAttribute.{IsSessionLine}
-use Rattle.str0m_signal.specs.back.Writable.{IsPrintedAs}
-use Rattle.str0m_signal.proofs.session.AttributesPrinted.{AreReadAs}
-use Rattle.str0m_signal.proofs.line.LinesPrinted.{joined-append, printed-append, lines_printed, Apart, apart-append}
-use Rattle.str0m_signal.proofs.session.Sections.{AreSectionsRead, SaidSections, said_sections, sections_are}
-use Rattle.str0m_signal.proofs.session.SessionLines.{SaidSession, said_session}
 
 -- the description with other attributes of the session and other sections
 abbrev pub read_of : Sdp → List SessionAttribute → List MediaLine → Sdp

@@ -1,12 +1,12 @@
 -- What a reader leaves of a text begins a line.
 use Rattle.str0m_signal.proofs.Common.{◌≡◌, ℕ, List, [], ◌∷◌, ◌++◌, Option, Some, None, Result, Ok, Err, IfOk, sym, ap, subst, ◌∙◌, append_assoc, codes, Bor, SdpError}
-use Rattle.str0m_signal.specs.session.ReaderAnswers.{Answers, unread}
-use Rattle.str0m_signal.specs.line.Lines.{Chain, Taken, Line, Lines, OneLine, OfText}
-use Rattle.str0m_signal.specs.session.Reader.{IsFromLine, ConsistentSection, IsReading, IsSession}
-use Rattle.str0m_signal.specs.session.Header.{IsExactly, IsHeader, IsInfo, IsOrigin}
 use Rattle.str0m_signal.specs.form.MediaAttribute.{IsMediaLine}
-use Rattle.str0m_signal.specs.session.Section.{IsBandwidth, IsField, IsHead}
 use Rattle.str0m_signal.specs.form.SessionAttribute.{IsSessionLine}
+use Rattle.str0m_signal.specs.line.Lines.{Chain, Taken, Line, Lines, OneLine, OfText}
+use Rattle.str0m_signal.specs.session.Header.{IsExactly, IsHeader, IsInfo, IsOrigin}
+use Rattle.str0m_signal.specs.session.Reader.{IsFromLine, ConsistentSection, IsReading, IsSession}
+use Rattle.str0m_signal.specs.session.ReaderAnswers.{Answers, unread}
+use Rattle.str0m_signal.specs.session.Section.{IsBandwidth, IsField, IsHead}
 
 -- the last of these lines, and those before them
 pub record Leaves (lines rest : List Line) : Type 0 where

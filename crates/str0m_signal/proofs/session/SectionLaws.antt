@@ -1,12 +1,12 @@
 -- The lines of a section are read exactly where their forms hold.
-use Rattle.str0m_signal.proofs.Common.{rules, ◌≡◌, ℕ, Bool, false, cond, List, [], ◌∷◌, ◌++◌, length, Option, Some, None, refl, sym, ap, subst, ◌∙◌, arith, codes, is_some, bytes_eq, ltb-true, both_ways, append-nil, Parted, bytes_eq-Decides, Bandwidth, AUDIO, VIDEO, MediaType, Proto, IsRest, IsNum, FirstFit, ◌>>=◌, cut, strip, when, is_rest, cut_at, cut_found, strip_at, strip_found, when_some, Sound, bind_some, some_is, sound_or, reads_first, number_lacks, rest_true, num_both, Reads, false_from_ne_true, APPLICATION}
+use Rattle.std.proofs.NetLemmas.Options.{cond_none}
 use Rattle.std.proofs.lemmas.Bool.Decides.{same_from_decides}
-use Rattle.str0m_signal.proofs.line.PartLaws.{parted_both}
 use Rattle.str0m_sdp.specs.declared.attribute.media_type.MediaType.TheVariants.{Audio, Video, Application, Unknown}
+use Rattle.str0m_signal.proofs.Common.{rules, ◌≡◌, ℕ, Bool, false, cond, List, [], ◌∷◌, ◌++◌, length, Option, Some, None, refl, sym, ap, subst, ◌∙◌, arith, codes, is_some, bytes_eq, ltb-true, both_ways, append-nil, Parted, bytes_eq-Decides, Bandwidth, AUDIO, VIDEO, MediaType, Proto, IsRest, IsNum, FirstFit, ◌>>=◌, cut, strip, when, is_rest, cut_at, cut_found, strip_at, strip_found, when_some, Sound, bind_some, some_is, sound_or, reads_first, number_lacks, rest_true, num_both, Reads, false_from_ne_true, APPLICATION}
+use Rattle.str0m_signal.proofs.line.PartLaws.{parted_both}
 use Rattle.str0m_signal.specs.session.Section.{IsField, IsBandwidth, Begins, IsKind, IsProto, NoTypes, Head, IsHead}
 use Rattle.str0m_signal.specs.session.SectionReading.{field_read, bandwidth_read, unknown_read, kind_read, proto_read, numbers_read, no_types_read, types_read, head_read}
 use Rattle.str0m_values.proofs.WordLaws.{word_sound}
-use Rattle.std.proofs.NetLemmas.Options.{cond_none}
 
 pub field_both : (letter : List ℕ) → Reads (IsField letter) (field_read letter)
 field_both letter = grind (arith, bind_some, when_some, ltb-true, strip_found, strip_at, rest_true)

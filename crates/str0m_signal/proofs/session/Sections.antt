@@ -1,12 +1,12 @@
 -- Printed sections are read as sections, one after another.
 use Rattle.str0m_signal.proofs.Common.{◌≡◌, ◌≢◌, ℕ, List, [], ◌∷◌, ◌++◌, Option, Some, None, IfSome, refl, sym, ap, ◌∙◌, subst, arith, lit<, codes, flat_map, append_assoc, lacks_from, media_attribute_text, bandwidth_text, Consistent, line_end, m_line, media_line_text, Bandwidth, MediaLine, bandwidth_line}
-use Rattle.str0m_signal.specs.line.Lines.{Chain, Stops, Taken, Line, joined, OneLine}
+use Rattle.str0m_signal.proofs.line.LinesPrinted.{printed_line, ArePrinted, joined-append, printed-append, Apart, apart-append, apart, no_bandwidth, no_attribute, SaidLines, said}
+use Rattle.str0m_signal.proofs.session.AttributesPrinted.{AreReadAs}
+use Rattle.str0m_signal.specs.back.Writable.{IsPrintedAs}
 use Rattle.str0m_signal.specs.form.MediaAttribute.{MediaForm, IsMediaLine}
+use Rattle.str0m_signal.specs.line.Lines.{Chain, Stops, Taken, Line, joined, OneLine}
 use Rattle.str0m_signal.specs.session.Reader.{ConsistentSection, Sections}
 use Rattle.str0m_signal.specs.session.Section.{IsBandwidth, IsHead, IsSection}
-use Rattle.str0m_signal.specs.back.Writable.{IsPrintedAs}
-use Rattle.str0m_signal.proofs.session.AttributesPrinted.{AreReadAs}
-use Rattle.str0m_signal.proofs.line.LinesPrinted.{printed_line, ArePrinted, joined-append, printed-append, Apart, apart-append, apart, no_bandwidth, no_attribute, SaidLines, said}
 
 -- ---- a bandwidth
 

@@ -3,9 +3,9 @@ use Rattle.std.specs.Prelude.{◌≡◌, ◌<◌, ◌≤◌, ◌||◌, ℕ, zero
 use Rattle.str0m_formats.specs.declared.format.format_param.FormatParam.{FormatParam}
 use Rattle.str0m_formats.specs.declared.format.format_param.FormatParam.TheVariants.{BareRange, BarePtList, Unknown}
 use Rattle.str0m_formats.specs.format.PairsReading.{params_read}
+use Rattle.str0m_sdp.specs.declared.label.TheConstants as label
 use Rattle.str0m_signal.specs.form.FormReading.{behind, digits_read, two_read, parted_read}
 use Rattle.str0m_values.specs.Cuts.{◌>>=◌, ◌<|>◌, cut, strip, when, is_rest, num, before, lacks}
-use Rattle.str0m_sdp.specs.declared.label.TheConstants as label
 
 -- the value of an fmtp pair, which ends at `;`, space or tab, and what follows it
 abbrev pub value_read : List ℕ → Option (List ℕ × List ℕ)

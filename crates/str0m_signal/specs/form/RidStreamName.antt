@@ -1,13 +1,13 @@
 -- The names of streams that may be restricted.
-use Rattle.std.specs.Prelude.{◌≡◌, ◌||◌, ◌&&◌, ℕ, Bool, true, false, List}
 use Rattle.std.specs.List.{list_all}
+use Rattle.std.specs.Prelude.{◌≡◌, ◌||◌, ◌&&◌, ℕ, Bool, true, false, List}
 use Rattle.std.specs.Str.{chars}
-use Rattle.unicode.specs.Binary.{is_alphabetic}
-use Rattle.unicode.specs.GeneralCategory.{general_category}
-use Rattle.ucd_category.specs.declared.GeneralCategory.{GeneralCategory}
-use Rattle.ucd_category.specs.declared.GeneralCategory.TheVariants.{DecimalNumber, LetterNumber, OtherNumber}
 use Rattle.str0m_values.specs.Cuts.{is_rest, lacks}
 use Rattle.str0m_values.specs.CutsParts.{IsRest, Lacks}
+use Rattle.ucd_category.specs.declared.GeneralCategory.{GeneralCategory}
+use Rattle.ucd_category.specs.declared.GeneralCategory.TheVariants.{DecimalNumber, LetterNumber, OtherNumber}
+use Rattle.unicode.specs.Binary.{is_alphabetic}
+use Rattle.unicode.specs.GeneralCategory.{general_category}
 
 -- the categories Nd, Nl and No
 abbrev pub is_number : GeneralCategory → Bool

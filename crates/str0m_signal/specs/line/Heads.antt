@@ -1,6 +1,6 @@
 -- What the private records of the code say, in the words of the grammar.
-use Rattle.std.specs.Prelude.{ℕ, List}
 use Rattle.std.specs.Borrow.{Bor}
+use Rattle.std.specs.Prelude.{ℕ, List}
 use Rattle.str0m_sdp.specs.declared.attribute.media_type.MediaType.{MediaType}
 use Rattle.str0m_sdp.specs.declared.attribute.media_type.MediaType.TheVariants as typ
 use Rattle.str0m_signal.specs.declared.line.heads.Kind.{Kind}
@@ -9,8 +9,8 @@ use Rattle.str0m_signal.specs.declared.line.heads.MediaHead.{MediaHead}
 use Rattle.str0m_signal.specs.declared.session.header.SessionHead.{SessionHead}
 use Rattle.str0m_signal.specs.line.Lines.{Line}
 use Rattle.str0m_signal.specs.line.LinesReading.{lines_of}
-use Rattle.str0m_signal.specs.session.Section.{Head}
 use Rattle.str0m_signal.specs.session.Header.{Header}
+use Rattle.str0m_signal.specs.session.Section.{Head}
 
 abbrev pub kind_is : Kind → MediaType
 kind_is Audio = typ.Audio

@@ -1,9 +1,9 @@
 -- Reading of a header's lines as functions.
 use Rattle.std.specs.Prelude.{ℕ, List, [], ◌∷◌, Option, Some, None, codes}
 use Rattle.std.specs.Str.{bytes_eq}
+use Rattle.str0m_signal.specs.form.FormReading.{digits_read}
 use Rattle.str0m_signal.specs.line.Lines.{Line}
 use Rattle.str0m_signal.specs.line.LinesReading.{line_read}
-use Rattle.str0m_signal.specs.form.FormReading.{digits_read}
 use Rattle.str0m_signal.specs.session.SectionReading.{field_read}
 use Rattle.str0m_values.specs.Cuts.{◌>>=◌, ◌<|>◌, cut, strip, when, is_rest}
 

@@ -1,13 +1,13 @@
 -- The reading of a text.
 use Rattle.std.specs.Prelude.{ℕ, List, ◌≡◌, ◌++◌}
 use Rattle.str0m_sdp.specs.declared.section.media_line.MediaLine.{MediaLine}
-use Rattle.str0m_sdp.specs.declared.session.Session.{Session as TheSession}
 use Rattle.str0m_sdp.specs.declared.session.Sdp.{Sdp}
+use Rattle.str0m_sdp.specs.declared.session.Session.{Session as TheSession}
 use Rattle.str0m_sdp.specs.section.Consistency.{Consistent}
-use Rattle.str0m_signal.specs.line.Lines.{Line, OneLine, OfText, Chain, Stops, Run, joined, Lines}
 use Rattle.str0m_signal.specs.form.SessionAttribute.{IsSessionLine}
-use Rattle.str0m_signal.specs.session.Section.{IsHead, IsSection}
+use Rattle.str0m_signal.specs.line.Lines.{Line, OneLine, OfText, Chain, Stops, Run, joined, Lines}
 use Rattle.str0m_signal.specs.session.Header.{IsHeader}
+use Rattle.str0m_signal.specs.session.Section.{IsHead, IsSection}
 
 -- the lines are a header, the longest run of session attributes, and the rest (RFC 8866, section 5)
 pub record IsSession (lines : List Line) (session : TheSession) (rest : List Line) : Type 0 where

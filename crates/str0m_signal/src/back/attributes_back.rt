@@ -1,10 +1,10 @@
 //! Attributes of sessions and of sections, printed and read again.
 
 ghost use Rattle.std.specs.Prelude.{◌≡◌, ◌↔◌, IfOk, IsTrue};
-ghost use Rattle.str0m_values.specs.Cuts.{IsTheOnly};
 ghost use Rattle.str0m_sdp.specs.attribute.Attribute.{session_attribute_text};
-ghost use Rattle.str0m_signal.specs.form.SessionAttribute.{IsSessionLine};
 ghost use Rattle.str0m_signal.specs.back.Writable.{AreReadAs, MediaAreReadAs, SessionGoesWith};
+ghost use Rattle.str0m_signal.specs.form.SessionAttribute.{IsSessionLine};
+ghost use Rattle.str0m_values.specs.Cuts.{IsTheOnly};
 
 use crate::back::read_back::{Printed, ReadBack, read_back};
 use std::alloc::{AllocError, Global};

@@ -1,18 +1,18 @@
 //! Whether rows may be printed in a session and are read again.
 
-ghost use Rattle.std.specs.Prelude.{◌≡◌, ◌≢◌, ◌↔◌, ℕ, List, IfOk, IfSome, IsTrue, Ok, Some, true};
 ghost use Rattle.std.specs.List.{slice_get};
+ghost use Rattle.std.specs.Prelude.{◌≡◌, ◌≢◌, ◌↔◌, ℕ, List, IfOk, IfSome, IsTrue, Ok, Some, true};
 ghost use Rattle.str0m_formats.specs.declared.row.payload_params.PayloadParams.{PayloadParams};
 ghost use Rattle.str0m_sdp.specs.attribute.Attribute.{session_attribute_text};
 ghost use Rattle.str0m_sdp.specs.attribute.Bandwidth.{bandwidth_text};
-ghost use Rattle.str0m_sdp.specs.section.Consistency.{Consistent};
 ghost use Rattle.str0m_sdp.specs.declared.attribute.SessionAttribute.{SessionAttribute};
 ghost use Rattle.str0m_sdp.specs.declared.section.media_line.MediaLine.{MediaLine};
+ghost use Rattle.str0m_sdp.specs.section.Consistency.{Consistent};
 ghost use Rattle.str0m_signal.specs.back.ReadBack.{MayBePrinted, ReadsBack};
-ghost use Rattle.str0m_signal.specs.session.Section.{IsBandwidth};
-ghost use Rattle.str0m_signal.specs.form.SessionAttribute.{IsSessionLine};
 ghost use Rattle.str0m_signal.specs.back.Writable.{AreReadAs, IsPrintedAs, IsReadAs, SessionGoesWith, Writable};
 ghost use Rattle.str0m_signal.specs.back.WritableAgain.{IsOverSrtp, IsRead, MayBeWrittenAgain};
+ghost use Rattle.str0m_signal.specs.form.SessionAttribute.{IsSessionLine};
+ghost use Rattle.str0m_signal.specs.session.Section.{IsBandwidth};
 
 use crate::back::attributes_back::session_back;
 use crate::back::section_back::{bandwidth_comes_back, comes_back, frame_comes_back};

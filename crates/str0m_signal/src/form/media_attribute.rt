@@ -3,8 +3,8 @@
 ghost use Rattle.std.specs.Prelude.{◌≡◌, IfOk};
 ghost use Rattle.str0m_sdp.specs.declared.attribute.MediaAttribute.TheVariants.{Fingerprint, Setup, Candidate, Unused};
 ghost use Rattle.str0m_signal.specs.form.FormTable.{made, pairs, texts, unused_read, first_byte, letter_read};
-ghost use Rattle.str0m_signal.specs.form.MediaAttribute.{media_texts, media_pairs, rtcp, mid, sctp_port, sctp_init, max_message_size, media_forms, named_read, media_read, IsMediaLine};
 ghost use Rattle.str0m_signal.specs.form.FormTransport.{candidate, fingerprint, setup};
+ghost use Rattle.str0m_signal.specs.form.MediaAttribute.{media_texts, media_pairs, rtcp, mid, sctp_port, sctp_init, max_message_size, media_forms, named_read, media_read, IsMediaLine};
 ghost use Rattle.str0m_signal.specs.line.Lines.{Run, OneLine};
 ghost use Rattle.str0m_signal.specs.line.LinesReading.{lines_of, Takes};
 

@@ -2,9 +2,9 @@
 
 ghost use Rattle.std.specs.Prelude.{◌≡◌, IfOk};
 ghost use Rattle.str0m_sdp.specs.declared.attribute.SessionAttribute.TheVariants.{Setup, Fingerprint, Candidate, Unused};
-ghost use Rattle.str0m_signal.specs.form.SessionAttribute.{session_texts, session_forms, session_read, IsSessionLine};
 ghost use Rattle.str0m_signal.specs.form.FormTable.{made, any, texts, unused_read};
 ghost use Rattle.str0m_signal.specs.form.FormTransport.{candidate, fingerprint, setup};
+ghost use Rattle.str0m_signal.specs.form.SessionAttribute.{session_texts, session_forms, session_read, IsSessionLine};
 ghost use Rattle.str0m_signal.specs.line.Lines.{Run, OneLine};
 ghost use Rattle.str0m_signal.specs.line.LinesReading.{lines_of};
 

@@ -2,8 +2,8 @@
 
 ghost use Rattle.std.specs.Prelude.{◌≡◌, IfOk, codes, is_some, option_map};
 ghost use Rattle.std.specs.Str.{bytes_eq};
-ghost use Rattle.str0m_signal.specs.session.SectionReading.{unknown_read, kind_read, proto_read, types_read, head_read};
 ghost use Rattle.str0m_signal.specs.line.Heads.{kind_is, media_head};
+ghost use Rattle.str0m_signal.specs.session.SectionReading.{unknown_read, kind_read, proto_read, types_read, head_read};
 
 use crate::line::parts::parts;
 use crate::line::words::Number;

@@ -1,13 +1,13 @@
 //! The header of a description.
 
 ghost use Rattle.std.specs.Prelude.{◌≡◌, IfOk, List, ℕ, codes, option_map};
-ghost use Rattle.str0m_signal.specs.line.Lines.{Run, OneLine};
 ghost use Rattle.str0m_signal.specs.form.FormReading.{digits_read};
-ghost use Rattle.str0m_signal.specs.line.LinesReading.{lines_of, line_read, left, both_left, Next};
-ghost use Rattle.str0m_signal.specs.session.Section.{IsField};
-ghost use Rattle.str0m_signal.specs.session.Header.{IsInfo, IsHeader};
 ghost use Rattle.str0m_signal.specs.line.Heads.{session_head};
+ghost use Rattle.str0m_signal.specs.line.Lines.{Run, OneLine};
+ghost use Rattle.str0m_signal.specs.line.LinesReading.{lines_of, line_read, left, both_left, Next};
+ghost use Rattle.str0m_signal.specs.session.Header.{IsInfo, IsHeader};
 ghost use Rattle.str0m_signal.specs.session.HeaderReading.{exact_read, origin_read, info_read, opening_read};
+ghost use Rattle.str0m_signal.specs.session.Section.{IsField};
 
 use crate::form::bandwidth::take_bandwidth;
 use crate::line::fields::{field, num_u64, read_field};

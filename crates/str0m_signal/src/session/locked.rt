@@ -1,8 +1,8 @@
 //! The rows that rounds have locked.
 
 ghost use Rattle.std.specs.Prelude.{◌≡◌, ◌≢◌, [], IfOk};
-ghost use Rattle.str0m_signal.specs.session.Locked.{is_carried, locked_of_kind};
 ghost use Rattle.str0m_signal.specs.back.ReadBack.{MayBePrinted};
+ghost use Rattle.str0m_signal.specs.session.Locked.{is_carried, locked_of_kind};
 
 use std::alloc::{AllocError, Global};
 use str0m_formats::{CodecConfig, PayloadParams};

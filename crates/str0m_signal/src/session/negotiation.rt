@@ -1,17 +1,17 @@
 //! Rounds of negotiation over a whole text.
 
 ghost use Rattle.std.specs.Prelude.{◌≡◌, All, IfErr, IfOk, OnErr, filter_map, map, option_map, ℕ};
-ghost use Rattle.str0m_formats.specs.row.PlainRow.{IsPlain};
-ghost use Rattle.str0m_formats.specs.row.PayloadParams.{types};
 ghost use Rattle.str0m_formats.specs.round.Claimed.{AllDistinct};
-ghost use Rattle.str0m_sdp.specs.section.SectionRows.{HasBoundedRows};
-ghost use Rattle.str0m_signal.specs.session.ReaderAnswers.{Refuses};
-ghost use Rattle.str0m_signal.specs.session.Negotiation.{Negotiated, NegotiatedText, brought, brought_by};
+ghost use Rattle.str0m_formats.specs.row.PayloadParams.{types};
+ghost use Rattle.str0m_formats.specs.row.PlainRow.{IsPlain};
 ghost use Rattle.str0m_sdp.specs.declared.session.Sdp.{Sdp};
+ghost use Rattle.str0m_sdp.specs.section.SectionRows.{HasBoundedRows};
 ghost use Rattle.str0m_signal.specs.back.ReadBack.{MayBePrinted, ReadsBack};
-ghost use Rattle.str0m_signal.specs.session.Reader.{Described};
 ghost use Rattle.str0m_signal.specs.back.Writable.{Writable};
 ghost use Rattle.str0m_signal.specs.back.WritableAgain.{IsOverSrtp, IsRead, MayBeWrittenAgain};
+ghost use Rattle.str0m_signal.specs.session.Negotiation.{Negotiated, NegotiatedText, brought, brought_by};
+ghost use Rattle.str0m_signal.specs.session.Reader.{Described};
+ghost use Rattle.str0m_signal.specs.session.ReaderAnswers.{Refuses};
 
 use crate::session::offer::described;
 use std::alloc::{AllocError, Global};

@@ -5,8 +5,8 @@ ghost use Rattle.std.specs.Prelude.{◌≡◌, All, IfOk, Some};
 ghost use Rattle.std.specs.String.{string_bytes};
 ghost use Rattle.str0m_sdp.specs.section.SectionRows.{HasBoundedRows};
 ghost use Rattle.str0m_sdp.specs.session.Session.{sdp_text};
-ghost use Rattle.str0m_signal.specs.session.ReaderAnswers.{Answers, AtMostOne};
 ghost use Rattle.str0m_signal.specs.session.Reader.{Described};
+ghost use Rattle.str0m_signal.specs.session.ReaderAnswers.{Answers, AtMostOne};
 
 use crate::session::reader::sdp_parser;
 use std::alloc::{AllocError, Global};

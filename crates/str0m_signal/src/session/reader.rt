@@ -2,13 +2,13 @@
 
 ghost use Rattle.std.specs.Prelude.{All, IfOk};
 ghost use Rattle.str0m_sdp.specs.section.SectionRows.{HasBoundedRows};
-ghost use Rattle.str0m_signal.specs.session.ReaderAnswers.{Answers, AtMostOne, Gives, IsRefusal, unread};
-ghost use Rattle.str0m_signal.specs.session.Reader.{IsFromLine, Sections, IsSession, IsReading, Reading, SessionReading};
-ghost use Rattle.str0m_signal.specs.line.Lines.{FirstLine};
-ghost use Rattle.str0m_signal.specs.line.LinesReading.{left, line_read, lines_of, read_attribute};
 ghost use Rattle.str0m_signal.specs.form.CandidateLine.{IsCandidateLine};
 ghost use Rattle.str0m_signal.specs.form.MediaAttribute.{IsMediaLine};
 ghost use Rattle.str0m_signal.specs.form.SessionAttribute.{IsSessionLine};
+ghost use Rattle.str0m_signal.specs.line.Lines.{FirstLine};
+ghost use Rattle.str0m_signal.specs.line.LinesReading.{left, line_read, lines_of, read_attribute};
+ghost use Rattle.str0m_signal.specs.session.Reader.{IsFromLine, Sections, IsSession, IsReading, Reading, SessionReading};
+ghost use Rattle.str0m_signal.specs.session.ReaderAnswers.{Answers, AtMostOne, Gives, IsRefusal, unread};
 
 use crate::form::session_attribute::session_attributes;
 use crate::session::attributes::{Attribute, next_line};

@@ -1,9 +1,9 @@
 //! The sections of a description.
 
 ghost use Rattle.std.specs.Prelude.{◌≡◌, IfOk, List, ℕ, Option, codes, option_map};
+ghost use Rattle.str0m_signal.specs.line.Heads.{media_head_left};
 ghost use Rattle.str0m_signal.specs.line.Lines.{Taken, OneLine};
 ghost use Rattle.str0m_signal.specs.line.LinesReading.{lines_of, line_read};
-ghost use Rattle.str0m_signal.specs.line.Heads.{media_head_left};
 ghost use Rattle.str0m_signal.specs.session.Section.{IsField};
 ghost use Rattle.str0m_signal.specs.session.SectionReading.{head_read, NextSection};
 

@@ -1,7 +1,7 @@
-use Rattle.std.proofs.Common.{◌≡◌, ℕ, length, subst, sym}
 use Rattle.bench_calls.proofs.AnswerLaws.{as_many}
-use Rattle.bench_calls.specs.Answers.{HasAnswered}
 use Rattle.bench_calls.proofs.answers.sections_answered.Goals as goal
+use Rattle.bench_calls.specs.Answers.{HasAnswered}
+use Rattle.std.proofs.Common.{◌≡◌, ℕ, length, subst, sym}
 
 pub returns : goal.returns
 returns c =

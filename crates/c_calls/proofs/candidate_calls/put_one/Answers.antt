@@ -1,10 +1,10 @@
+use Rattle.c_calls.proofs.candidate_calls.put_one.Goals as goal
+use Rattle.c_calls.specs.TransportCalls.{lent}
 use Rattle.std.proofs.Common.{◌≡◌, ◌∙◌, ℕ, List, Bor, Option, Some, length, map, option_map, ap, refl}
 use Rattle.std.proofs.lemmas.Option.{slice_get-map, slice_get_read}
 use Rattle.std.specs.List.{slice_get}
 use Rattle.str0m_values.specs.Candidate.{candidate_text}
 use Rattle.str0m_values.specs.declared.candidate.Candidate.{Candidate}
-use Rattle.c_calls.specs.TransportCalls.{lent}
-use Rattle.c_calls.proofs.candidate_calls.put_one.Goals as goal
 
 -- the text of a candidate that is lent
 abbrev lent_text : Option (Bor Candidate) → Option (List ℕ)

@@ -1,11 +1,11 @@
-use Rattle.std.proofs.Common.{subst, sym}
-use Rattle.std.specs.Prelude.{Option}
-use Rattle.exchange.specs.state.Exchange.{RefusesChannels}
-use Rattle.exchange.specs.declared.state.exchange.Exchange.{Exchange}
+use Rattle.c_calls.proofs.offer_calls.zaxp_exchange_add_channels.Goals as goal
+use Rattle.c_calls.specs.Common.{Of}
 use Rattle.c_parts.specs.Fault.{Refuses, Told}
 use Rattle.c_parts.specs.declared.fault.Fault.TheVariants.{Refused}
-use Rattle.c_calls.specs.Common.{Of}
-use Rattle.c_calls.proofs.offer_calls.zaxp_exchange_add_channels.Goals as goal
+use Rattle.exchange.specs.declared.state.exchange.Exchange.{Exchange}
+use Rattle.exchange.specs.state.Exchange.{RefusesChannels}
+use Rattle.std.proofs.Common.{subst, sym}
+use Rattle.std.specs.Prelude.{Option}
 
 -- the fault is the error of the exchange
 pub returns-in-Err-clause-refused : goal.returns-in-Err-clause-refused

@@ -1,13 +1,13 @@
-use Rattle.std.proofs.Common.{refl, subst, sym}
-use Rattle.std.specs.Prelude.{Option}
-use Rattle.exchange.specs.state.Exchange.{RefusesToOffer}
-use Rattle.exchange.specs.declared.state.exchange.Exchange.{Exchange}
-use Rattle.exchange.specs.declared.state.exchange_error.ExchangeError.TheVariants.{Memory}
+use Rattle.c_calls.proofs.OfferCallsFilled.{of_full}
+use Rattle.c_calls.proofs.offer_calls.zaxp_exchange_create_offer.Goals as goal
+use Rattle.c_calls.specs.Common.{Of}
 use Rattle.c_parts.specs.Fault.{Refuses, Told}
 use Rattle.c_parts.specs.declared.fault.Fault.TheVariants.{Refused}
-use Rattle.c_calls.proofs.OfferCallsFilled.{of_full}
-use Rattle.c_calls.specs.Common.{Of}
-use Rattle.c_calls.proofs.offer_calls.zaxp_exchange_create_offer.Goals as goal
+use Rattle.exchange.specs.declared.state.exchange.Exchange.{Exchange}
+use Rattle.exchange.specs.declared.state.exchange_error.ExchangeError.TheVariants.{Memory}
+use Rattle.exchange.specs.state.Exchange.{RefusesToOffer}
+use Rattle.std.proofs.Common.{refl, subst, sym}
+use Rattle.std.specs.Prelude.{Option}
 
 -- no memory was left for a place
 pub returns-in_default-clause-refused : goal.returns-in_default-clause-refused

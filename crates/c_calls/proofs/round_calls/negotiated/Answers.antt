@@ -1,6 +1,6 @@
-use Rattle.std.proofs.Common.{subst}
-use Rattle.c_calls.specs.RoundCalls.{Ran}
 use Rattle.c_calls.proofs.round_calls.negotiated.Goals as goal
+use Rattle.c_calls.specs.RoundCalls.{Ran}
+use Rattle.std.proofs.Common.{subst}
 
 -- the text is the bytes
 pub returns-in-Ok-negotiated_text-clause-ran : goal.returns-in-Ok-negotiated_text-clause-ran

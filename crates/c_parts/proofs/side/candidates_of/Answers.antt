@@ -1,11 +1,11 @@
+use Rattle.c_parts.proofs.SideListed.{candidates_more, candidates_refused}
+use Rattle.c_parts.proofs.side.candidates_of.Goals as goal
+use Rattle.c_parts.specs.Side.{RefusesCandidates, listed}
+use Rattle.exchange.specs.section.Trickled.{IsTrickled}
 use Rattle.std.proofs.Common.{◌+◌, List, arith, subst, sym, take}
 use Rattle.std.proofs.lemmas.Grind.{common_steps}
 use Rattle.std.specs.List.{AllZip}
 use Rattle.str0m_values.specs.declared.candidate.Candidate.{Candidate}
-use Rattle.exchange.specs.section.Trickled.{IsTrickled}
-use Rattle.c_parts.proofs.SideListed.{candidates_more, candidates_refused}
-use Rattle.c_parts.specs.Side.{RefusesCandidates, listed}
-use Rattle.c_parts.proofs.side.candidates_of.Goals as goal
 
 pub returns-in_err-candidate-clause-refused : goal.returns-in_err-candidate-clause-refused
 returns-in_err-candidate-clause-refused c =

@@ -1,8 +1,8 @@
-use Rattle.std.specs.Prelude.{take}
-use Rattle.std.specs.List.{AllZip}
-use Rattle.exchange.specs.section.Trickled.{IsTrickled}
-use Rattle.c_parts.specs.Side.{listed}
 use Rattle.c_parts.proofs.side.candidates_of.Given as goal
+use Rattle.c_parts.specs.Side.{listed}
+use Rattle.exchange.specs.section.Trickled.{IsTrickled}
+use Rattle.std.specs.List.{AllZip}
+use Rattle.std.specs.Prelude.{take}
 
 -- the candidates so far
 abbrev pub invariant-loop-line : goal.invariant-loop-line

@@ -1,8 +1,8 @@
+use Rattle.c_parts.proofs.SideListed.{list_refused}
+use Rattle.c_parts.proofs.side.texts_of.Goals as goal
+use Rattle.c_parts.specs.Side.{RefusesList, listed}
 use Rattle.std.proofs.Common.{arith}
 use Rattle.std.proofs.lemmas.Grind.{common_steps}
-use Rattle.c_parts.proofs.SideListed.{list_refused}
-use Rattle.c_parts.specs.Side.{RefusesList, listed}
-use Rattle.c_parts.proofs.side.texts_of.Goals as goal
 
 pub returns-in_err-text-clause-refused : goal.returns-in_err-text-clause-refused
 returns-in_err-text-clause-refused c =

@@ -1,6 +1,6 @@
-use Rattle.std.specs.Prelude.{◌≡◌, take}
-use Rattle.c_parts.specs.Side.{listed}
 use Rattle.c_parts.proofs.side.texts_of.Given as goal
+use Rattle.c_parts.specs.Side.{listed}
+use Rattle.std.specs.Prelude.{◌≡◌, take}
 
 -- the texts so far
 abbrev pub invariant-loop-bytes : goal.invariant-loop-bytes

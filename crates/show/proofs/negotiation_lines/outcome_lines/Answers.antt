@@ -1,8 +1,8 @@
-use Rattle.std.proofs.Common.{◌+◌, ◌++◌, List, ℕ, sym, ap, ◌∙◌}
-use Rattle.std.specs.String.{string_bytes}
-use Rattle.show.specs.NegotiationLines.{outcome_line}
 use Rattle.show.proofs.NegotiationLinesLaws.{one_more}
 use Rattle.show.proofs.negotiation_lines.outcome_lines.Goals as goal
+use Rattle.show.specs.NegotiationLines.{outcome_line}
+use Rattle.std.proofs.Common.{◌+◌, ◌++◌, List, ℕ, sym, ap, ◌∙◌}
+use Rattle.std.specs.String.{string_bytes}
 
 pub loop-i-preserved : goal.loop-i-preserved
 loop-i-preserved c =

@@ -1,9 +1,9 @@
-use Rattle.std.proofs.Common.{Result, Ok, Err, OnErr, inr}
-use Rattle.std.specs.String.{string_bytes}
-use Rattle.std.proofs.lemmas.Result.{on_ok_weaker}
 use Rattle.show.proofs.Faults.{unwritten}
 use Rattle.show.proofs.RunShows.{described_by}
 use Rattle.show.proofs.run.show.Goals as goal
+use Rattle.std.proofs.Common.{Result, Ok, Err, OnErr, inr}
+use Rattle.std.proofs.lemmas.Result.{on_ok_weaker}
+use Rattle.std.specs.String.{string_bytes}
 
 -- what holds in any case holds on an error
 on_err : {T E P : Type 0} (r : Result T E) → P → OnErr r P

@@ -1,12 +1,12 @@
-use Rattle.str0m_values.proofs.Common.{◌≡◌, Result, Ok, Err, Option, Some, List, ℕ, ◌∙◌, ap, IfOk}
-use Rattle.str0m_values.specs.declared.candidate.Candidate.{Candidate}
-use Rattle.str0m_values.specs.Cuts.{IsTheOnly}
-use Rattle.str0m_values.specs.Candidate.{IsCandidateText, IsPrintable, candidate_text}
-use Rattle.str0m_values.specs.CandidateReading.{candidate_read}
-use Rattle.str0m_values.proofs.CutsOnlyLaws.{only_read}
 use Rattle.str0m_values.proofs.CandidateLaws.{candidate_both}
 use Rattle.str0m_values.proofs.CandidateText.{printed_candidate}
+use Rattle.str0m_values.proofs.Common.{◌≡◌, Result, Ok, Err, Option, Some, List, ℕ, ◌∙◌, ap, IfOk}
+use Rattle.str0m_values.proofs.CutsOnlyLaws.{only_read}
 use Rattle.str0m_values.proofs.candidate_text.candidate.Goals as goal
+use Rattle.str0m_values.specs.Candidate.{IsCandidateText, IsPrintable, candidate_text}
+use Rattle.str0m_values.specs.CandidateReading.{candidate_read}
+use Rattle.str0m_values.specs.Cuts.{IsTheOnly}
+use Rattle.str0m_values.specs.declared.candidate.Candidate.{Candidate}
 
 read : {E : Type 0} (text : List ℕ) (r : Result (Option Candidate) E) → IfOk r (λ found. found ≡ candidate_read text) → IfOk r (IsTheOnly (IsCandidateText text))
 read text (Ok found) h = only_read candidate_both text found h

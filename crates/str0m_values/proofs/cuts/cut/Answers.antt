@@ -1,8 +1,8 @@
 use Rattle.std.proofs.lemmas.Str.{IsCharBoundary-after_ascii}
 use Rattle.str0m_values.proofs.CutLaws.{cut_from_split}
 use Rattle.str0m_values.proofs.CutsNearLaws.{cut_first, cut_nowhere}
-use Rattle.str0m_values.specs.Separator.{code}
 use Rattle.str0m_values.proofs.cuts.cut.Goals as goal
+use Rattle.str0m_values.specs.Separator.{code}
 
 pub range_from-requires : goal.range_from-requires
 range_from-requires c =

@@ -1,5 +1,5 @@
-use Rattle.str0m_values.proofs.CutsNumLaws.{parsed_ok, parsed_err}
 use Rattle.str0m_values.proofs.CutsNearLaws.{written_fits}
+use Rattle.str0m_values.proofs.CutsNumLaws.{parsed_ok, parsed_err}
 use Rattle.str0m_values.proofs.cuts.number.Goals as goal
 
 pub returns-then-number-from-clause-value : goal.returns-then-number-from-clause-value

@@ -1,8 +1,8 @@
 use Rattle.str0m_values.proofs.Common.{sym}
-use Rattle.str0m_values.specs.declared.fingerprint.FingerprintError.TheVariants.{Memory}
 use Rattle.str0m_values.proofs.CutLaws.{cut_none_lacks, cut_found}
 use Rattle.str0m_values.proofs.FingerprintLaws.{refused, was_err, named_space}
 use Rattle.str0m_values.proofs.fingerprint.read.Goals as goal
+use Rattle.str0m_values.specs.declared.fingerprint.FingerprintError.TheVariants.{Memory}
 
 pub returns-in_default : goal.returns-in_default
 returns-in_default c = cut_none_lacks 32 c.args.text.now (sym c.in_default.ensures)

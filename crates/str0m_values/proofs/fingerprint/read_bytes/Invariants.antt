@@ -1,6 +1,6 @@
 use Rattle.str0m_values.proofs.Common.{length, take, AllZip}
-use Rattle.str0m_values.specs.Fingerprint.{IsByte, pieces_of}
 use Rattle.str0m_values.proofs.fingerprint.read_bytes.Given as goal
+use Rattle.str0m_values.specs.Fingerprint.{IsByte, pieces_of}
 
 abbrev pub invariant-loop-piece : goal.invariant-loop-piece
 invariant-loop-piece l =

@@ -1,12 +1,12 @@
 -- `into_box` hands what the parts own to `from_raw`.
 use Rattle.c_parts.proofs.PartsSteps.{◌≡◌, refl, [], ◌∷◌, ◌++◌, inst_fn, Val, vptr, SProp, id⊢, fst∗, ftrue, fsep, WpFn, fact, ◌⊑◌, tables, ‵, raw, ◌⊛◌, at_ret, ◌$◌, ◌∵◌, !, qed, by, move, keep, use1, join, split3, group, prop, no_more, and_then, of_opd, returns, enter, first, blocks, exec, alloc_all, pass_all, free_all, look_at, get, sets, lands_last, env, RattleType, no, block_ptr, plain, calls_at_last, Stays, stay_dropped, walk_of, Goes-blank, after, fm, proved_at, leaves, D, R, P, B, args, word, box_typed, alive, boxed, asked, takes, begins, one_box, apart, answer, spent, field_of}
-use Rattle.std_alloc.specs.contracts.boxed.Box.from_raw as callee
-use Rattle.std_alloc.proofs.boxed.Box.from_raw.Met.{met}
+use Rattle.c_parts.proofs.parts.Parts.into_box.Code as code
+use Rattle.c_parts.proofs.parts.Parts.into_box.Statement.{statement}
 use Rattle.c_parts.specs.contracts.parts.Parts as parts
 use Rattle.c_parts.specs.contracts.parts.Parts.into_box.{ended, clauses}
 use Rattle.c_parts.specs.contracts.parts.Parts.into_box.Key.{name as #self}
-use Rattle.c_parts.proofs.parts.Parts.into_box.Statement.{statement}
-use Rattle.c_parts.proofs.parts.Parts.into_box.Code as code
+use Rattle.std_alloc.proofs.boxed.Box.from_raw.Met.{met}
+use Rattle.std_alloc.specs.contracts.boxed.Box.from_raw as callee
 
 pub into_box_spec : {M : Type 1} → statement M
 into_box_spec 𝓤 𝓛 𝓜 𝓡 wired X Z LX LZ g d dd allocator freed =

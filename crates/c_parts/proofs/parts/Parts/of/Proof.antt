@@ -1,11 +1,11 @@
 -- `of` takes the box apart, and the parts own what it owned.
 use Rattle.c_parts.proofs.PartsSteps.{◌≡◌, refl, ap, [], ◌∷◌, ◌++◌, a_type, dcons, dnil, inst_fn, Val, SProp, id⊢, ftrue, fsep, WpFn, tables, ‵, raw, ◌⊛◌, ◌$◌, ◌∵◌, !, qed, by, keep, use1, join, prop, agg, no_more, and_then, of_opd, returns, enter, alloc_all, pass_all, free_all, look_at, get, sets, lands_as, no, bounded, plain, only, calls_at, Stays, stay_dropped, walk_of, Goes-blank, fm, proved_at, leaves, B, D, word, box_typed, box_in, alive, boxed, asked, takes, hands, begins, one_word, both, answer, told, spent, field_of}
-use Rattle.std_alloc.specs.contracts.boxed.Box.into_raw_with_allocator as callee
-use Rattle.std_alloc.proofs.boxed.Box.into_raw_with_allocator.Met.{met}
+use Rattle.c_parts.proofs.parts.Parts.of.Code as code
+use Rattle.c_parts.proofs.parts.Parts.of.Statement.{statement}
 use Rattle.c_parts.specs.contracts.parts.Parts.of.{ended, clauses}
 use Rattle.c_parts.specs.contracts.parts.Parts.of.Key.{name as #self}
-use Rattle.c_parts.proofs.parts.Parts.of.Statement.{statement}
-use Rattle.c_parts.proofs.parts.Parts.of.Code as code
+use Rattle.std_alloc.proofs.boxed.Box.into_raw_with_allocator.Met.{met}
+use Rattle.std_alloc.specs.contracts.boxed.Box.into_raw_with_allocator as callee
 
 pub of_spec : {M : Type 1} → statement M
 of_spec 𝓤 𝓛 𝓜 𝓡 wired X Z LX LZ g d dd dx allocator freed dropped =

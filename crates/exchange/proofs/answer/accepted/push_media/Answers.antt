@@ -1,8 +1,8 @@
+use Rattle.exchange.proofs.answer.AcceptedLaws.{five_behind}
+use Rattle.exchange.proofs.answer.accepted.push_media.Goals as goal
+use Rattle.exchange.specs.section.RepeatedLines.{repeated_lines}
 use Rattle.std.proofs.Common.{◌++◌, ℕ, List, [], ◌∷◌, ap, ◌∙◌}
 use Rattle.str0m_sdp.specs.declared.attribute.MediaAttribute.{MediaAttribute}
-use Rattle.exchange.proofs.answer.AcceptedLaws.{five_behind}
-use Rattle.exchange.specs.section.RepeatedLines.{repeated_lines}
-use Rattle.exchange.proofs.answer.accepted.push_media.Goals as goal
 
 pub returns : goal.returns
 returns c =

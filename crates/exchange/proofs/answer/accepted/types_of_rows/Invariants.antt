@@ -1,6 +1,6 @@
+use Rattle.exchange.proofs.answer.accepted.types_of_rows.Given as goal
 use Rattle.std.proofs.Common.{◌≡◌, take}
 use Rattle.str0m_formats.specs.row.PayloadParams.{types}
-use Rattle.exchange.proofs.answer.accepted.types_of_rows.Given as goal
 
 -- the types of the rows so far
 abbrev pub invariant-loop-row : goal.invariant-loop-row

@@ -1,6 +1,6 @@
+use Rattle.exchange.proofs.answer.rows.each_once.Given as goal
 use Rattle.std.proofs.Common.{◌≡◌, ◌==◌, take}
 use Rattle.str0m_sdp.specs.Common.{distinct}
-use Rattle.exchange.proofs.answer.rows.each_once.Given as goal
 
 -- the types so far, each once
 abbrev pub invariant-loop-pt : goal.invariant-loop-pt

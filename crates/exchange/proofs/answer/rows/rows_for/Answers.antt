@@ -1,6 +1,6 @@
-use Rattle.exchange.proofs.answer.RowsPlain.{all_plain}
 use Rattle.exchange.proofs.answer.RowLaws.{all_say, all_stand, each_once}
 use Rattle.exchange.proofs.answer.RowTypes.{all_apart}
+use Rattle.exchange.proofs.answer.RowsPlain.{all_plain}
 use Rattle.exchange.proofs.answer.rows.rows_for.Goals as goal
 
 pub returns-clause-offered : goal.returns-clause-offered

@@ -1,8 +1,8 @@
+use Rattle.exchange.proofs.offer.fits.bundles_so.Goals as goal
+use Rattle.exchange.specs.answer.InBundle.{bundle_names}
+use Rattle.exchange.specs.offer.Fits.{IsBundledSo}
 use Rattle.std.proofs.Common.{◌∙◌, All, subst, refl}
 use Rattle.std.proofs.lemmas.List.{take_all}
-use Rattle.exchange.specs.offer.Fits.{IsBundledSo}
-use Rattle.exchange.specs.answer.InBundle.{bundle_names}
-use Rattle.exchange.proofs.offer.fits.bundles_so.Goals as goal
 
 pub returns : goal.returns
 returns c =

@@ -1,8 +1,8 @@
+use Rattle.exchange.proofs.offer.names.grown.Goals as goal
+use Rattle.exchange.specs.offer.Names.{new_name}
 use Rattle.std.proofs.Common.{arith}
 use Rattle.std.proofs.lemmas.Grind.{common_steps}
 use Rattle.str0m_sdp.proofs.section.MappingsFilterMap.{map_more}
-use Rattle.exchange.specs.offer.Names.{new_name}
-use Rattle.exchange.proofs.offer.names.grown.Goals as goal
 
 pub loop-section-preserved : goal.loop-section-preserved
 loop-section-preserved c =

@@ -1,6 +1,6 @@
+use Rattle.exchange.proofs.offer.names.ordered.Given as goal
 use Rattle.std.proofs.Common.{take}
 use Rattle.str0m_sdp.specs.session.OrderedMids.{Holds}
-use Rattle.exchange.proofs.offer.names.ordered.Given as goal
 
 -- the names so far
 abbrev pub invariant-loop-mid : goal.invariant-loop-mid

@@ -1,7 +1,7 @@
 use Rattle.str0m_formats.proofs.Common.{◌≡◌, ◌∷◌, ◌++◌, [], length, take, lit<, sym, ap, ◌∙◌, arith, YieldsList-from_str_split, YieldsList-turn, YieldsList-end, take_more, length_push, take_all}
-use Rattle.str0m_formats.specs.format.FormatLine.{pieces}
 use Rattle.str0m_formats.proofs.format.FormatLineLaws.{bares_none, bares_given, bares_absent}
 use Rattle.str0m_formats.proofs.format.format_line.bares_in.Goals as goal
+use Rattle.str0m_formats.specs.format.FormatLine.{pieces}
 
 pub loop-piece-init : goal.loop-piece-init
 loop-piece-init c = (tt, tt, rw c.default-format.ensures bares_none)

@@ -1,6 +1,6 @@
 use Rattle.str0m_formats.proofs.Common.{length, take}
-use Rattle.str0m_formats.specs.format.FormatLine.{pieces, IsFormatOfBares}
 use Rattle.str0m_formats.proofs.format.format_line.bares_in.Given as goal
+use Rattle.str0m_formats.specs.format.FormatLine.{pieces, IsFormatOfBares}
 
 -- what the pieces so far say
 abbrev pub invariant-loop-piece : goal.invariant-loop-piece

@@ -1,8 +1,8 @@
 use Rattle.str0m_formats.proofs.Common.{◌≡◌, ◌∷◌, ◌++◌, [], length, take, lit<, sym, ap, ◌∙◌, arith, YieldsList-from_str_split, YieldsList-turn, YieldsList-end, take_more, length_push, take_all}
-use Rattle.str0m_formats.specs.format.FormatLine.{pieces, pairs_in}
-use Rattle.str0m_formats.specs.format.FormatParam.{pair_texts}
 use Rattle.str0m_formats.proofs.format.FormatLineLaws.{pairs_given, pairs_absent}
 use Rattle.str0m_formats.proofs.format.format_line.pairs_in.Goals as goal
+use Rattle.str0m_formats.specs.format.FormatLine.{pieces, pairs_in}
+use Rattle.str0m_formats.specs.format.FormatParam.{pair_texts}
 
 pub loop-piece-init : goal.loop-piece-init
 unfolding pairs_in

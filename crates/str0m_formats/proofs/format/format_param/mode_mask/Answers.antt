@@ -1,7 +1,7 @@
 use Rattle.str0m_formats.proofs.Common.{Some, ◌≡◌, ◌==◌, ◌^◌, ◌*◌, ◌%◌, ℕ, List, [], ◌∷◌, ◌++◌, length, take, lit<, sym, ap, ◌∙◌, subst, arith, bit_or, slice_split, YieldsList-from_str_split, YieldsList-turn, YieldsList-end, take_more, length_push, take_all}
-use Rattle.str0m_formats.specs.format.FormatParam.{IsModeSet, IsMask}
 use Rattle.str0m_formats.proofs.format.FormatParamModes.{mask_push, mask_same, mask_fails}
 use Rattle.str0m_formats.proofs.format.format_param.mode_mask.Goals as goal
+use Rattle.str0m_formats.specs.format.FormatParam.{IsModeSet, IsMask}
 
 pub returns-in_err-mask : goal.returns-in_err-mask
 unfolding IsModeSet

@@ -1,6 +1,6 @@
 use Rattle.str0m_formats.proofs.Common.{length, take, slice_split, ◌==◌}
-use Rattle.str0m_formats.specs.format.FormatParam.{IsMask}
 use Rattle.str0m_formats.proofs.format.format_param.mode_mask.Given as goal
+use Rattle.str0m_formats.specs.format.FormatParam.{IsMask}
 
 abbrev pub invariant-loop-piece : goal.invariant-loop-piece
 invariant-loop-piece l =

@@ -1,7 +1,7 @@
 use Rattle.str0m_formats.proofs.Common.{◌≡◌, map, take, str_to_ascii_lowercase}
+use Rattle.str0m_formats.proofs.format.merged_pairs.lowered.Given as goal
 use Rattle.str0m_formats.specs.format.FormatParam.{pair_texts}
 use Rattle.str0m_formats.specs.format.PairsReading.{entry_texts}
-use Rattle.str0m_formats.proofs.format.merged_pairs.lowered.Given as goal
 
 -- the pairs so far
 abbrev pub invariant-loop-key : goal.invariant-loop-key

@@ -1,7 +1,7 @@
 use Rattle.str0m_formats.proofs.Common.{◌≡◌, [], take, bytes_eq, insert_all}
+use Rattle.str0m_formats.proofs.format.merged_pairs.merge_few.Given as goal
 use Rattle.str0m_formats.specs.format.FormatParam.{pair_texts}
 use Rattle.str0m_formats.specs.format.PairsReading.{entry_texts}
-use Rattle.str0m_formats.proofs.format.merged_pairs.merge_few.Given as goal
 
 -- the pairs so far are merged
 abbrev pub invariant-loop-key : goal.invariant-loop-key

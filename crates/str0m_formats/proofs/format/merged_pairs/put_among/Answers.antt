@@ -1,7 +1,7 @@
 use Rattle.str0m_formats.proofs.Common.{sym, ◌∙◌, bytes_eq}
-use Rattle.str0m_formats.specs.format.FormatParam.{pair_texts}
 use Rattle.str0m_formats.proofs.format.MergedPairsLaws.{entry_there, entry_new, placed, pushed}
 use Rattle.str0m_formats.proofs.format.merged_pairs.put_among.Goals as goal
+use Rattle.str0m_formats.specs.format.FormatParam.{pair_texts}
 
 pub returns-in-Some : goal.returns-in-Some
 returns-in-Some c =

@@ -1,7 +1,7 @@
 use Rattle.str0m_formats.proofs.Common.{refl, sym, ◌∙◌, arith, bytes_eq}
-use Rattle.str0m_formats.specs.format.FormatParam.{pair_texts}
 use Rattle.str0m_formats.proofs.format.MergedPairsLaws.{as_many, entry_there, entry_new, index_within, placed, places_grow, places_stay, pushed}
 use Rattle.str0m_formats.proofs.format.merged_pairs.put_ordered.Goals as goal
+use Rattle.str0m_formats.specs.format.FormatParam.{pair_texts}
 
 pub set_value-requires : goal.set_value-requires
 set_value-requires c =

@@ -1,7 +1,7 @@
 use Rattle.str0m_formats.proofs.Common.{None, take, bytes_eq}
+use Rattle.str0m_formats.proofs.format.merged_pairs.scan.Given as goal
 use Rattle.str0m_formats.specs.format.FormatParam.{pair_texts}
 use Rattle.str0m_formats.specs.format.MergedPairs.{IsPlace}
-use Rattle.str0m_formats.proofs.format.merged_pairs.scan.Given as goal
 
 -- the key is none of those so far
 abbrev pub invariant-loop-place : goal.invariant-loop-place

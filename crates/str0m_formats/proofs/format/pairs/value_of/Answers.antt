@@ -1,7 +1,7 @@
 use Rattle.str0m_formats.proofs.Common.{refl, sym}
-use Rattle.str0m_formats.specs.format.FormatParam.{pair_texts}
 use Rattle.str0m_formats.proofs.format.MergedPairsLaws.{no_value, placed, value_there}
 use Rattle.str0m_formats.proofs.format.pairs.value_of.Goals as goal
+use Rattle.str0m_formats.specs.format.FormatParam.{pair_texts}
 
 pub returns-in-Some : goal.returns-in-Some
 returns-in-Some c =

@@ -1,6 +1,6 @@
 use Rattle.str0m_formats.proofs.Common.{nat_lt, sym, ◌∙◌, refl, find-append}
-use Rattle.str0m_formats.specs.row.PayloadParams.{types}
 use Rattle.str0m_formats.proofs.round.beginning.check_types.Goals as goal
+use Rattle.str0m_formats.specs.row.PayloadParams.{types}
 
 pub returns-in-None-clause-ok : goal.returns-in-None-clause-ok
 returns-in-None-clause-ok c =

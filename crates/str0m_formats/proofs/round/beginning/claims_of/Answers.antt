@@ -1,10 +1,10 @@
 use Rattle.str0m_formats.proofs.Common.{Ok, Err, sym, ap, rules, ◌+◌, fun_ext}
-use Rattle.str0m_formats.specs.round.Claims.{claim_each}
-use Rattle.str0m_formats.proofs.round.FirstPass.{IfErr_from, small_at}
-use Rattle.str0m_formats.proofs.round.ClaimedSets.{slice_get_item}
 use Rattle.str0m_formats.proofs.round.ClaimSteps.{claims_locked, claims_open, unlocked_locked, unlocked_open, claims_refused}
+use Rattle.str0m_formats.proofs.round.ClaimedSets.{slice_get_item}
+use Rattle.str0m_formats.proofs.round.FirstPass.{IfErr_from, small_at}
 use Rattle.str0m_formats.proofs.round.beginning.claims_of.Goals as goal
 use Rattle.str0m_formats.proofs.round.beginning.claims_of.Goals.{then-row+in_ok-claim_row, else-row}
+use Rattle.str0m_formats.specs.round.Claims.{claim_each}
 
 pub loop-row-init : goal.loop-row-init
 unfolding claim_each

@@ -1,8 +1,8 @@
 use Rattle.str0m_formats.proofs.Common.{◌≡◌, [], take, Ok}
+use Rattle.str0m_formats.proofs.round.beginning.claims_of.Given as goal
 use Rattle.str0m_formats.specs.round.Claimed.{has}
 use Rattle.str0m_formats.specs.round.Claims.{claim_each}
 use Rattle.str0m_formats.specs.row.PayloadParams.{locked_types, open_types}
-use Rattle.str0m_formats.proofs.round.beginning.claims_of.Given as goal
 
 abbrev pub invariant-loop-row : goal.invariant-loop-row
 invariant-loop-row g l =

@@ -1,7 +1,7 @@
 use Rattle.str0m_formats.proofs.Common.{find, nat_lt, ap, ◌∙◌, rules}
-use Rattle.str0m_formats.specs.row.PayloadParams.{types_of}
 use Rattle.str0m_formats.proofs.round.ClaimedRanges.{find-flat_map_here, find-flat_map_more}
 use Rattle.str0m_formats.proofs.round.beginning.first_large.Goals as goal
+use Rattle.str0m_formats.specs.row.PayloadParams.{types_of}
 
 pub returns-then-is_some : goal.returns-then-is_some
 returns-then-is_some c =

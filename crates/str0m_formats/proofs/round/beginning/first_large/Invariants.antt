@@ -1,6 +1,6 @@
 use Rattle.str0m_formats.proofs.Common.{◌≡◌, find, nat_lt, drop}
-use Rattle.str0m_formats.specs.row.PayloadParams.{types}
 use Rattle.str0m_formats.proofs.round.beginning.first_large.Given as goal
+use Rattle.str0m_formats.specs.row.PayloadParams.{types}
 
 -- the search from this row on has the answer of the whole search
 abbrev pub invariant-loop-row : goal.invariant-loop-row

@@ -1,7 +1,7 @@
 use Rattle.str0m_formats.proofs.Common.{Some, sym, ap, ◌∙◌, arith}
-use Rattle.str0m_formats.specs.round.ClaimMask.{least_bit}
 use Rattle.str0m_formats.proofs.round.ClaimMaskBits.{least-zero, least-trailing}
 use Rattle.str0m_formats.proofs.round.claim_mask.least_type.Goals as goal
+use Rattle.str0m_formats.specs.round.ClaimMask.{least_bit}
 
 pub returns-then-bits-eq0 : goal.returns-then-bits-eq0
 returns-then-bits-eq0 c = sym (ap least_bit c.if-bits-eq0.true ∙ least-zero)

@@ -1,6 +1,6 @@
 use Rattle.str0m_formats.proofs.Common.{◌≡◌, ◌||◌, false, not, find, slice_index_or, drop, flat_map}
-use Rattle.str0m_formats.specs.round.Claimed.{range_types, preferred}
 use Rattle.str0m_formats.proofs.round.claimed.first_free.Given as goal
+use Rattle.str0m_formats.specs.round.Claimed.{range_types, preferred}
 
 -- the search from this range on has the answer of the whole search
 abbrev pub invariant-loop-first : goal.invariant-loop-first

@@ -1,6 +1,6 @@
 use Rattle.str0m_formats.proofs.Common.{◌≡◌, ◌+◌, ◌||◌, ◌-◌, false, not, find, slice_index_or, range_with_len}
-use Rattle.str0m_formats.specs.round.Claimed.{range_types}
 use Rattle.str0m_formats.proofs.round.claimed.first_in.Given as goal
+use Rattle.str0m_formats.specs.round.Claimed.{range_types}
 
 -- the search from here on has the answer of the whole search
 abbrev pub invariant-loop-t : goal.invariant-loop-t

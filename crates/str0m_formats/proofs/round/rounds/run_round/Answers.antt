@@ -1,9 +1,9 @@
 use Rattle.str0m_formats.proofs.Common.{Bool, ◌∙◌, subst, rules, nat_lt}
-use Rattle.str0m_formats.specs.row.PayloadParams.{types}
-use Rattle.str0m_formats.specs.round.Rounds.{StopsFirst, in_first}
 use Rattle.str0m_formats.proofs.round.FirstPass.{IfErr_from, none-parts}
 use Rattle.str0m_formats.proofs.round.RoundsWhole.{taken_whole, open_before, may_begin, claimed_is_locked, refused_before, round_done, refused_large}
 use Rattle.str0m_formats.proofs.round.rounds.run_round.Goals as goal
+use Rattle.str0m_formats.specs.round.Rounds.{StopsFirst, in_first}
+use Rattle.str0m_formats.specs.row.PayloadParams.{types}
 
 pub returns-in_err-check_types-clause-err : goal.returns-in_err-check_types-clause-err
 returns-in_err-check_types-clause-err g c =

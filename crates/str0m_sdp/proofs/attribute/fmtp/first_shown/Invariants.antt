@@ -1,6 +1,6 @@
 use Rattle.str0m_sdp.proofs.Common.{◌≡◌, filter, length}
-use Rattle.str0m_sdp.specs.attribute.Fmtp.{is_shown}
 use Rattle.str0m_sdp.proofs.attribute.fmtp.first_shown.Given as goal
+use Rattle.str0m_sdp.specs.attribute.Fmtp.{is_shown}
 
 -- no value that is shown was passed
 abbrev pub invariant-loop-first : goal.invariant-loop-first

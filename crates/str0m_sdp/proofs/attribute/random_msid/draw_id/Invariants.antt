@@ -1,6 +1,6 @@
 use Rattle.str0m_sdp.proofs.Common.{◌≡◌, ◌≤◌, map, string_bytes, string_len, string_capacity}
-use Rattle.str0m_sdp.specs.attribute.RandomMsid.{words, after_words, letter_of}
 use Rattle.str0m_sdp.proofs.attribute.random_msid.draw_id.Given as goal
+use Rattle.str0m_sdp.specs.attribute.RandomMsid.{words, after_words, letter_of}
 
 -- the letters so far are those of the words so far, and there is room for the others
 abbrev pub invariant-loop-i : goal.invariant-loop-i

@@ -1,7 +1,7 @@
 use Rattle.str0m_sdp.proofs.Common.{ℕ, ◌≡◌, ◌<◌, rules, subst, sym}
-use Rattle.str0m_sdp.specs.attribute.RandomMsid.{letter_of}
 use Rattle.str0m_sdp.proofs.attribute.RandomMsidLaws.{letter_of-ascii}
 use Rattle.str0m_sdp.proofs.attribute.random_msid.letter.Goals as goal
+use Rattle.str0m_sdp.specs.attribute.RandomMsid.{letter_of}
 
 pub returns-clause-value : goal.returns-clause-value
 unfolding letter_of

@@ -1,6 +1,6 @@
 use Rattle.str0m_sdp.proofs.Common.{◌≡◌, drop, ◌↔◌}
-use Rattle.str0m_sdp.specs.section.Alike.{shown}
 use Rattle.str0m_sdp.proofs.section.alike.are_same_shown.Given as goal
+use Rattle.str0m_sdp.specs.section.Alike.{shown}
 
 -- the same is shown of all where the same is shown of what is left of both
 abbrev pub invariant-loop-value : goal.invariant-loop-value

@@ -1,7 +1,7 @@
 use Rattle.str0m_sdp.proofs.Common.{sym, ap, refl, subst, ◌∙◌, ◌<◌, ◌≤◌, ℕ, true≢false, drop_all}
-use Rattle.str0m_sdp.specs.section.Alike.{ids}
 use Rattle.str0m_sdp.proofs.section.AlikeLaws.{ids_from, firsts_differ, firsts_agree, other_length}
 use Rattle.str0m_sdp.proofs.section.alike.have_same_names.Goals as goal
+use Rattle.str0m_sdp.specs.section.Alike.{ids}
 
 pub returns-then-layers-others : goal.returns-then-layers-others
 returns-then-layers-others c = (λ h. absurd (true≢false (sym h)), λ same. absurd (other_length c.args.layers.now c.args.others.now c.if-layers-others.true same))

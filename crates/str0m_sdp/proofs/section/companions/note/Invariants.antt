@@ -1,6 +1,6 @@
 use Rattle.str0m_sdp.proofs.Common.{◌≡◌, ◌<◌, ℕ, Some, None, get_or, length, take, if◌then◌else◌, list_any}
-use Rattle.str0m_sdp.specs.section.Companions.{names}
 use Rattle.str0m_sdp.proofs.section.companions.note.Given as goal
+use Rattle.str0m_sdp.specs.section.Companions.{names}
 
 -- each row has the type where a value so far names its own, and else what it had
 abbrev pub invariant-loop-value : goal.invariant-loop-value

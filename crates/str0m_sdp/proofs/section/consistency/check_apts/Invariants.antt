@@ -1,7 +1,7 @@
 use Rattle.str0m_sdp.proofs.Common.{◌≡◌, filter_map, length}
-use Rattle.str0m_sdp.specs.session.Fault.{apt_fault}
-use Rattle.str0m_sdp.specs.Common.{first}
 use Rattle.str0m_sdp.proofs.section.consistency.check_apts.Given as goal
+use Rattle.str0m_sdp.specs.Common.{first}
+use Rattle.str0m_sdp.specs.session.Fault.{apt_fault}
 
 -- no line that was passed clashes
 abbrev pub invariant-loop-attr : goal.invariant-loop-attr

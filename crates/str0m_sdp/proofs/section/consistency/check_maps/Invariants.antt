@@ -1,7 +1,7 @@
 use Rattle.str0m_sdp.proofs.Common.{◌≡◌, filter_map, length}
-use Rattle.str0m_sdp.specs.session.Fault.{map_fault}
-use Rattle.str0m_sdp.specs.Common.{first}
 use Rattle.str0m_sdp.proofs.section.consistency.check_maps.Given as goal
+use Rattle.str0m_sdp.specs.Common.{first}
+use Rattle.str0m_sdp.specs.session.Fault.{map_fault}
 
 -- no type that was passed has a fault
 abbrev pub invariant-loop-pt : goal.invariant-loop-pt

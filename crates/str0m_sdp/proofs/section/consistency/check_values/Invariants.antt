@@ -1,6 +1,6 @@
 use Rattle.str0m_sdp.proofs.Common.{◌≡◌, Some, length}
-use Rattle.str0m_sdp.specs.session.Fault.{values_fault}
 use Rattle.str0m_sdp.proofs.section.consistency.check_values.Given as goal
+use Rattle.str0m_sdp.specs.session.Fault.{values_fault}
 
 -- no value that was passed clashes
 abbrev pub invariant-loop-value : goal.invariant-loop-value

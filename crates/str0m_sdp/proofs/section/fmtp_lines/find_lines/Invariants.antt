@@ -1,6 +1,6 @@
 use Rattle.str0m_sdp.proofs.Common.{◌≡◌, take}
-use Rattle.str0m_sdp.specs.section.FmtpLines.{lines_with}
 use Rattle.str0m_sdp.proofs.section.fmtp_lines.find_lines.Given as goal
+use Rattle.str0m_sdp.specs.section.FmtpLines.{lines_with}
 
 -- the values of the type's lines so far are found
 abbrev pub invariant-loop-number : goal.invariant-loop-number

@@ -1,6 +1,6 @@
 use Rattle.str0m_sdp.proofs.Common.{◌≡◌, ◌++◌, take, flat_map}
-use Rattle.str0m_sdp.specs.section.RowAttributes.{row_attrs}
 use Rattle.str0m_sdp.proofs.section.made_section.with_rows.Given as goal
+use Rattle.str0m_sdp.specs.section.RowAttributes.{row_attrs}
 
 -- the lines of the rows so far stand after the others
 abbrev pub invariant-loop-row : goal.invariant-loop-row

@@ -1,8 +1,8 @@
 use Rattle.str0m_sdp.proofs.Common.{List, filter_map, ap, ◌∙◌, take_all}
-use Rattle.str0m_sdp.specs.section.Mappings.{mapping}
-use Rattle.str0m_sdp.specs.declared.attribute.MediaAttribute.{MediaAttribute}
 use Rattle.str0m_sdp.proofs.section.MappingLaws.{mapping_more, mapping_other}
 use Rattle.str0m_sdp.proofs.section.mappings.mappings.Goals as goal
+use Rattle.str0m_sdp.specs.declared.attribute.MediaAttribute.{MediaAttribute}
+use Rattle.str0m_sdp.specs.section.Mappings.{mapping}
 
 pub loop-attr-preserved : goal.loop-attr-preserved
 loop-attr-preserved c =

@@ -1,7 +1,7 @@
 use Rattle.str0m_sdp.proofs.Common.{◌||◌, Bool, take, ap, sym, refl, ◌∙◌, list_any, get_or-replicate, length-set, and_right}
 use Rattle.str0m_sdp.proofs.section.TypeTablesMarks.{any_more, any_same, marked, and_true}
-use Rattle.str0m_sdp.specs.section.Mappings.{is_of}
 use Rattle.str0m_sdp.proofs.section.mappings.types_of.Goals as goal
+use Rattle.str0m_sdp.specs.section.Mappings.{is_of}
 
 pub loop-pt-init : goal.loop-pt-init
 loop-pt-init c = (refl, λ pt lt. get_or-replicate 256 pt _ _ lt)

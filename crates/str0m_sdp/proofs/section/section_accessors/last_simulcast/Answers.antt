@@ -1,8 +1,8 @@
 use Rattle.str0m_sdp.proofs.Common.{rules, tests, ◌∙◌, YieldsList-from_rev_slice}
-use Rattle.str0m_sdp.specs.section.SectionAccessors.{simulcast_of}
 use Rattle.str0m_sdp.proofs.section.SectionAccessorsFinding.{first_from_find_map}
 use Rattle.str0m_sdp.proofs.section.SectionAccessorsLists.{first_reversed}
 use Rattle.str0m_sdp.proofs.section.section_accessors.last_simulcast.Goals as goal
+use Rattle.str0m_sdp.specs.section.SectionAccessors.{simulcast_of}
 
 pub returns : goal.returns
 returns c =

@@ -1,7 +1,7 @@
-use Rattle.str0m_sdp.proofs.Common.{rules, ap, sym, ◌∙◌, same_true, format_of_fmtp}
 use Rattle.str0m_formats.specs.contracts.codec.Codec.{the_type}
-use Rattle.str0m_sdp.specs.section.TypeLines.{IsKnown}
+use Rattle.str0m_sdp.proofs.Common.{rules, ap, sym, ◌∙◌, same_true, format_of_fmtp}
 use Rattle.str0m_sdp.proofs.section.type_lines.known_format.Goals as goal
+use Rattle.str0m_sdp.specs.section.TypeLines.{IsKnown}
 
 pub returns-then-eq : goal.returns-then-eq
 unfolding IsKnown

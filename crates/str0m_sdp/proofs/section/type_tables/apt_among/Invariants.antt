@@ -1,6 +1,6 @@
 use Rattle.str0m_sdp.proofs.Common.{◌≡◌, length}
-use Rattle.str0m_sdp.specs.section.Consistency.{apt_among}
 use Rattle.str0m_sdp.proofs.section.type_tables.apt_among.Given as goal
+use Rattle.str0m_sdp.specs.section.Consistency.{apt_among}
 
 -- none that was passed names a type
 abbrev pub invariant-loop-value : goal.invariant-loop-value

@@ -1,6 +1,6 @@
 use Rattle.str0m_sdp.proofs.Common.{◌≡◌, ◌<◌, ℕ, count_by, get_or, length, take}
-use Rattle.str0m_sdp.specs.section.Consistency.{maps}
 use Rattle.str0m_sdp.proofs.section.type_tables.count_maps.Given as goal
+use Rattle.str0m_sdp.specs.section.Consistency.{maps}
 
 -- each row counts the mappings so far
 abbrev pub invariant-loop-attr : goal.invariant-loop-attr

@@ -1,8 +1,8 @@
 use Rattle.str0m_sdp.proofs.Common.{ap, filter_map, map, ◌∙◌, option_or}
-use Rattle.str0m_sdp.specs.session.PreferredFingerprint.{first_filled, media_fingerprints, preferred}
-use Rattle.str0m_sdp.specs.session.Transport.{session_fingerprint}
 use Rattle.str0m_sdp.proofs.session.PreferredFingerprintLaws.{preferred_among, preferred_copied, preferred_of_first}
 use Rattle.str0m_sdp.proofs.session.Sdp.fingerprint.Goals as goal
+use Rattle.str0m_sdp.specs.session.PreferredFingerprint.{first_filled, media_fingerprints, preferred}
+use Rattle.str0m_sdp.specs.session.Transport.{session_fingerprint}
 
 pub returns-in-Some : goal.returns-in-Some
 returns-in-Some c =

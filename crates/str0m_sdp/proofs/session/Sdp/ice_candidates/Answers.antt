@@ -1,10 +1,10 @@
 use Rattle.str0m_sdp.proofs.Common.{sym, subst, decided}
-use Rattle.str0m_sdp.specs.session.Candidates.{section_candidates, all_candidates, same_candidate}
-use Rattle.str0m_sdp.specs.session.DistinctCandidates.{IsEachOnce}
-use Rattle.str0m_sdp.specs.session.SeenCandidates.{seen}
 use Rattle.str0m_sdp.proofs.session.CandidateEqual.{candidate_Decides}
 use Rattle.str0m_sdp.proofs.session.DistinctCandidatesLaws.{all_put, each_once}
 use Rattle.str0m_sdp.proofs.session.Sdp.ice_candidates.Goals as goal
+use Rattle.str0m_sdp.specs.session.Candidates.{section_candidates, all_candidates, same_candidate}
+use Rattle.str0m_sdp.specs.session.DistinctCandidates.{IsEachOnce}
+use Rattle.str0m_sdp.specs.session.SeenCandidates.{seen}
 
 pub returns-clause-distinct : goal.returns-clause-distinct
 returns-clause-distinct c =

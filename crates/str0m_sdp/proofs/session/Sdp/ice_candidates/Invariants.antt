@@ -1,7 +1,7 @@
 use Rattle.str0m_sdp.proofs.Common.{◌≡◌, [], drop, flat_map, insert_all}
+use Rattle.str0m_sdp.proofs.session.Sdp.ice_candidates.Given as goal
 use Rattle.str0m_sdp.specs.session.Candidates.{section_candidates, all_candidates, same_candidate}
 use Rattle.str0m_sdp.specs.session.SeenCandidates.{AreByKey, seen}
-use Rattle.str0m_sdp.proofs.session.Sdp.ice_candidates.Given as goal
 
 -- what was seen, with the candidates of the sections that are still to come
 abbrev pub invariant-loop-line : goal.invariant-loop-line

@@ -1,7 +1,7 @@
 use Rattle.str0m_sdp.proofs.Common.{◌∙◌}
-use Rattle.str0m_sdp.specs.session.Candidates.{same_candidate}
 use Rattle.str0m_sdp.proofs.session.DistinctCandidatesLaws.{one_put}
 use Rattle.str0m_sdp.proofs.session.distinct_candidates.add_all.Goals as goal
+use Rattle.str0m_sdp.specs.session.Candidates.{same_candidate}
 
 pub loop-candidate-preserved : goal.loop-candidate-preserved
 loop-candidate-preserved c = (

@@ -1,7 +1,7 @@
 use Rattle.str0m_sdp.proofs.Common.{◌≡◌, insert_all}
+use Rattle.str0m_sdp.proofs.session.distinct_candidates.add_all.Given as goal
 use Rattle.str0m_sdp.specs.session.Candidates.{candidates_left, same_candidate}
 use Rattle.str0m_sdp.specs.session.SeenCandidates.{AreByKey, seen}
-use Rattle.str0m_sdp.proofs.session.distinct_candidates.add_all.Given as goal
 
 -- what was seen, with the candidates that are still to come
 abbrev pub invariant-loop-candidate : goal.invariant-loop-candidate

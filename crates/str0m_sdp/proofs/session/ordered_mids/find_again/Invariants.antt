@@ -1,7 +1,7 @@
 use Rattle.str0m_sdp.proofs.Common.{◌≡◌, ◌++◌, ℕ, List, length}
+use Rattle.str0m_sdp.proofs.session.ordered_mids.find_again.Given as goal
 use Rattle.str0m_sdp.specs.session.OrderedMids.{Holds}
 use Rattle.str0m_sdp.specs.session.SessionFault.{first_again}
-use Rattle.str0m_sdp.proofs.session.ordered_mids.find_again.Given as goal
 
 -- of the mids that were passed, the first that stands again, and all of them by name
 abbrev pub invariant-loop-mid : goal.invariant-loop-mid

@@ -1,6 +1,6 @@
 use Rattle.str0m_sdp.proofs.Common.{take}
-use Rattle.str0m_sdp.specs.session.OrderedMids.{Holds}
 use Rattle.str0m_sdp.proofs.session.ordered_mids.names_of.Given as goal
+use Rattle.str0m_sdp.specs.session.OrderedMids.{Holds}
 
 -- the mids so far by name
 abbrev pub invariant-loop-mid : goal.invariant-loop-mid

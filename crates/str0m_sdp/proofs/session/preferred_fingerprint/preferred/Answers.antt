@@ -1,8 +1,8 @@
 use Rattle.str0m_sdp.proofs.Common.{Some, ap, filter_map, sym, take, ◌∙◌, option_copied}
-use Rattle.str0m_sdp.specs.session.PreferredFingerprint.{better, preferred}
 use Rattle.str0m_sdp.proofs.section.SectionAccessorsLists.{filter_map_more, filter_map_same}
 use Rattle.str0m_sdp.proofs.session.PreferredFingerprintLaws.{preferred_more}
 use Rattle.str0m_sdp.proofs.session.preferred_fingerprint.preferred.Goals as goal
+use Rattle.str0m_sdp.specs.session.PreferredFingerprint.{better, preferred}
 
 pub loop-attr-preserved : goal.loop-attr-preserved
 loop-attr-preserved g c =

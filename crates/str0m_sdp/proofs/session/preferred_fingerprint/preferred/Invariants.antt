@@ -1,6 +1,6 @@
 use Rattle.str0m_sdp.proofs.Common.{◌≡◌, filter_map, take, option_copied}
-use Rattle.str0m_sdp.specs.session.PreferredFingerprint.{preferred}
 use Rattle.str0m_sdp.proofs.session.preferred_fingerprint.preferred.Given as goal
+use Rattle.str0m_sdp.specs.session.PreferredFingerprint.{preferred}
 
 -- the preferred one of those so far
 abbrev pub invariant-loop-attr : goal.invariant-loop-attr

@@ -1,6 +1,6 @@
 use Rattle.str0m_sdp.proofs.Common.{◌≡◌, length}
-use Rattle.str0m_sdp.specs.session.SessionConsistency.{first_group}
 use Rattle.str0m_sdp.proofs.session.session_consistency.first_group.Given as goal
+use Rattle.str0m_sdp.specs.session.SessionConsistency.{first_group}
 
 -- no group was passed
 abbrev pub invariant-loop-attr : goal.invariant-loop-attr

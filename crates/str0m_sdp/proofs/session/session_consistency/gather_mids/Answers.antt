@@ -1,7 +1,7 @@
 use Rattle.str0m_sdp.proofs.Common.{◌++◌, option_to_list, sym, ◌∙◌}
-use Rattle.str0m_sdp.specs.session.SessionConsistency.{section_mid}
 use Rattle.str0m_sdp.proofs.section.MappingsFilterMap.{map_more}
 use Rattle.str0m_sdp.proofs.session.session_consistency.gather_mids.Goals as goal
+use Rattle.str0m_sdp.specs.session.SessionConsistency.{section_mid}
 
 pub loop-section-preserved : goal.loop-section-preserved
 loop-section-preserved c =

@@ -1,7 +1,7 @@
-use Rattle.str0m_sdp.proofs.Common.{rules, bytes_eq, YieldsList-from_slice, YieldsList-from_filter_map, tests}
 use Rattle.std.proofs.lemmas.Iterator.Search.{any_from_yields_List}
-use Rattle.str0m_sdp.specs.session.SessionConsistency.{section_mid}
+use Rattle.str0m_sdp.proofs.Common.{rules, bytes_eq, YieldsList-from_slice, YieldsList-from_filter_map, tests}
 use Rattle.str0m_sdp.proofs.session.session_consistency.has_mid.Goals as goal
+use Rattle.str0m_sdp.specs.session.SessionConsistency.{section_mid}
 
 pub returns : goal.returns
 returns c =

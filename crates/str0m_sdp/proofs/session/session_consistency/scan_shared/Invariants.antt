@@ -1,7 +1,7 @@
 use Rattle.str0m_sdp.proofs.Common.{◌≡◌, length}
+use Rattle.str0m_sdp.proofs.session.session_consistency.scan_shared.Given as goal
 use Rattle.str0m_sdp.specs.session.SessionConsistency.{section_mids}
 use Rattle.str0m_sdp.specs.session.SessionFault.{first_again}
-use Rattle.str0m_sdp.proofs.session.session_consistency.scan_shared.Given as goal
 
 -- no mid that was passed stands again
 abbrev pub invariant-loop-section : goal.invariant-loop-section

@@ -1,6 +1,6 @@
 use Rattle.str0m_sdp.proofs.Common.{◌≡◌, length}
-use Rattle.str0m_sdp.specs.session.SessionFault.{sections_message}
 use Rattle.str0m_sdp.proofs.session.session_consistency.section_message.Given as goal
+use Rattle.str0m_sdp.specs.session.SessionFault.{sections_message}
 
 -- no section that was passed has a message
 abbrev pub invariant-loop-section : goal.invariant-loop-section

@@ -1,9 +1,9 @@
 use Rattle.str0m_signal.proofs.Common.{IfOk-weaker, media_attribute_text}
-use Rattle.str0m_signal.specs.form.MediaAttribute.{IsMediaLine, media_read}
-use Rattle.str0m_signal.specs.back.Writable.{MediaGoesWith}
-use Rattle.str0m_signal.proofs.form.MediaAttributeLaws.{media_line_both}
 use Rattle.str0m_signal.proofs.back.ReadBackLaws.{back_by_form}
 use Rattle.str0m_signal.proofs.back.attributes_back.media_back.Goals as goal
+use Rattle.str0m_signal.proofs.form.MediaAttributeLaws.{media_line_both}
+use Rattle.str0m_signal.specs.back.Writable.{MediaGoesWith}
+use Rattle.str0m_signal.specs.form.MediaAttribute.{IsMediaLine, media_read}
 
 pub returns : goal.returns
 returns c =

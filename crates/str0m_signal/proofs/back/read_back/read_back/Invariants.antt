@@ -1,6 +1,6 @@
 use Rattle.str0m_signal.proofs.Common.{Some, take, IsTheOnly}
-use Rattle.str0m_signal.specs.back.Writable.{AreReadAs, IsReadBy}
 use Rattle.str0m_signal.proofs.back.read_back.read_back.Given as goal
+use Rattle.str0m_signal.specs.back.Writable.{AreReadAs, IsReadBy}
 
 -- the attributes so far come back as these
 abbrev pub invariant-loop-attr : goal.invariant-loop-attr

@@ -1,7 +1,7 @@
 use Rattle.str0m_signal.proofs.Common.{IfOk-weaker}
 use Rattle.str0m_signal.proofs.back.ReadBackLaws.{printed_by}
-use Rattle.str0m_signal.proofs.session.SectionLaws.{bandwidth_both}
 use Rattle.str0m_signal.proofs.back.section_back.bandwidth_line_back.Goals as goal
+use Rattle.str0m_signal.proofs.session.SectionLaws.{bandwidth_both}
 
 pub returns-in-Some : goal.returns-in-Some
 returns-in-Some c =

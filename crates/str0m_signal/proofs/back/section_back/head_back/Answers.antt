@@ -1,8 +1,8 @@
 use Rattle.str0m_signal.proofs.Common.{option_map, IfOk-weaker}
-use Rattle.str0m_signal.specs.line.Heads.{media_head}
 use Rattle.str0m_signal.proofs.back.ReadBackLaws.{printed_by}
-use Rattle.str0m_signal.proofs.session.SectionLaws.{head_both}
 use Rattle.str0m_signal.proofs.back.section_back.head_back.Goals as goal
+use Rattle.str0m_signal.proofs.session.SectionLaws.{head_both}
+use Rattle.str0m_signal.specs.line.Heads.{media_head}
 
 pub returns-in-Some : goal.returns-in-Some
 returns-in-Some c =

@@ -1,9 +1,9 @@
 use Rattle.str0m_signal.proofs.Common.{sym, ◌∙◌, true≢false, m_line}
-use Rattle.str0m_signal.specs.line.Heads.{media_head}
-use Rattle.str0m_signal.specs.session.Section.{IsHead}
-use Rattle.str0m_signal.specs.back.Writable.{IsPrintedAs}
 use Rattle.str0m_signal.proofs.back.WritableLaws.{no_head, same_head, other_head}
 use Rattle.str0m_signal.proofs.back.section_back.pts_back.Goals as goal
+use Rattle.str0m_signal.specs.back.Writable.{IsPrintedAs}
+use Rattle.str0m_signal.specs.line.Heads.{media_head}
+use Rattle.str0m_signal.specs.session.Section.{IsHead}
 
 pub returns-in-Some : goal.returns-in-Some
 returns-in-Some c =

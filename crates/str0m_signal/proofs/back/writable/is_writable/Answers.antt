@@ -1,9 +1,9 @@
 use Rattle.str0m_signal.proofs.Common.{Bool, refl, ◌↔◌, IsTrue, IfOk-weaker}
+use Rattle.str0m_signal.proofs.back.ReadBackRows.{reads_back}
+use Rattle.str0m_signal.proofs.back.WritableAgainLaws.{read_is_writable}
+use Rattle.str0m_signal.proofs.back.writable.is_writable.Goals as goal
 use Rattle.str0m_signal.specs.back.Writable.{Writable}
 use Rattle.str0m_signal.specs.back.WritableAgain.{IsOverSrtp, IsRead, MayBeWrittenAgain}
-use Rattle.str0m_signal.proofs.back.WritableAgainLaws.{read_is_writable}
-use Rattle.str0m_signal.proofs.back.ReadBackRows.{reads_back}
-use Rattle.str0m_signal.proofs.back.writable.is_writable.Goals as goal
 
 pub returns-clause-read_is_writable : goal.returns-clause-read_is_writable
 returns-clause-read_is_writable c = read_is_writable c.args.sdp.now c.args.section

@@ -1,9 +1,9 @@
 use Rattle.str0m_signal.proofs.Common.{◌≡◌, ◌∙◌, rules, sym, is_some}
-use Rattle.str0m_signal.specs.form.RidReading.{restriction_read, restrictions_read}
-use Rattle.str0m_signal.proofs.line.PairsOneByOne.{next_of}
-use Rattle.str0m_signal.proofs.line.PartLaws.{some_bound}
 use Rattle.str0m_signal.proofs.form.RidLaws.{restriction_shorter}
 use Rattle.str0m_signal.proofs.form.rid.are_restrictions.Goals as goal
+use Rattle.str0m_signal.proofs.line.PairsOneByOne.{next_of}
+use Rattle.str0m_signal.proofs.line.PartLaws.{some_bound}
+use Rattle.str0m_signal.specs.form.RidReading.{restriction_read, restrictions_read}
 
 pub returns-in_default : goal.returns-in_default
 returns-in_default c = next_of restriction_read restriction_shorter (λ o. is_some o ≡ is_some (restrictions_read c.args.text.now)) c.loop-next.rest.now _ (sym c.in_default.ensures) c.loop-next.invariant.1

@@ -1,7 +1,7 @@
 use Rattle.str0m_signal.proofs.Common.{◌≡◌, length, is_some, Utf8, shadow}
-use Rattle.str0m_signal.specs.form.RidReading.{restriction_read, restrictions_read}
-use Rattle.str0m_signal.proofs.line.PairsOneByOne.{Left}
 use Rattle.str0m_signal.proofs.form.rid.are_restrictions.Given as goal
+use Rattle.str0m_signal.proofs.line.PairsOneByOne.{Left}
+use Rattle.str0m_signal.specs.form.RidReading.{restriction_read, restrictions_read}
 
 -- the rest is restrictions where the text is
 abbrev pub invariant-loop-next : goal.invariant-loop-next

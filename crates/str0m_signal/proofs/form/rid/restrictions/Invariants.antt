@@ -1,8 +1,8 @@
 use Rattle.str0m_signal.proofs.Common.{◌≡◌, length, Utf8, shadow}
-use Rattle.str0m_signal.specs.form.RidReading.{restriction_read, restrictions_read}
+use Rattle.str0m_signal.proofs.form.rid.restrictions.Given as goal
 use Rattle.str0m_signal.proofs.line.PairsOneByOne.{Left}
 use Rattle.str0m_signal.proofs.line.PartLaws.{with_front}
-use Rattle.str0m_signal.proofs.form.rid.restrictions.Given as goal
+use Rattle.str0m_signal.specs.form.RidReading.{restriction_read, restrictions_read}
 
 -- the restrictions so far and those of the rest are those of the text
 abbrev pub invariant-loop-key : goal.invariant-loop-key

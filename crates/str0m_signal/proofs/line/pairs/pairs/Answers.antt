@@ -1,9 +1,9 @@
 use Rattle.str0m_signal.proofs.Common.{◌≡◌, ◌∙◌, rules, sym, pair_texts}
-use Rattle.str0m_signal.specs.form.FmtpReading.{pair_read, pairs_read}
 use Rattle.str0m_signal.proofs.form.FmtpLaws.{pair_shorter, texts_push}
 use Rattle.str0m_signal.proofs.line.PairsOneByOne.{next_of}
 use Rattle.str0m_signal.proofs.line.PartLaws.{regroup, with_front}
 use Rattle.str0m_signal.proofs.line.pairs.pairs.Goals as goal
+use Rattle.str0m_signal.specs.form.FmtpReading.{pair_read, pairs_read}
 
 pub returns-in_default : goal.returns-in_default
 returns-in_default c = next_of pair_read pair_shorter (λ o. with_front (pair_texts c.loop-key.pairs.items) o ≡ pairs_read c.args.text.now) c.loop-key.rest.now _ (sym c.in_default.ensures) c.loop-key.invariant.1

@@ -1,8 +1,8 @@
 use Rattle.str0m_signal.proofs.Common.{◌≡◌, length, Utf8, shadow, pair_texts}
-use Rattle.str0m_signal.specs.form.FmtpReading.{pair_read, pairs_read}
 use Rattle.str0m_signal.proofs.line.PairsOneByOne.{Left}
 use Rattle.str0m_signal.proofs.line.PartLaws.{with_front}
 use Rattle.str0m_signal.proofs.line.pairs.pairs.Given as goal
+use Rattle.str0m_signal.specs.form.FmtpReading.{pair_read, pairs_read}
 
 -- the pairs so far and those of the rest are those of the text
 abbrev pub invariant-loop-key : goal.invariant-loop-key

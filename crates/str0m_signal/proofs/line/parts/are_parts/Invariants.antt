@@ -1,6 +1,6 @@
 use Rattle.str0m_signal.proofs.Common.{◌≡◌, length, is_some, Utf8, shadow, code}
-use Rattle.str0m_signal.specs.form.FormReading.{parted_read}
 use Rattle.str0m_signal.proofs.line.parts.are_parts.Given as goal
+use Rattle.str0m_signal.specs.form.FormReading.{parted_read}
 
 -- the rest is items where the text is
 abbrev pub invariant-loop-part : goal.invariant-loop-part

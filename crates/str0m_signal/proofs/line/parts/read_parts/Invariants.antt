@@ -1,7 +1,7 @@
 use Rattle.str0m_signal.proofs.Common.{◌≡◌, length, Utf8, shadow, code}
-use Rattle.str0m_signal.specs.form.FormReading.{parted_read}
 use Rattle.str0m_signal.proofs.line.PartLaws.{with_front}
 use Rattle.str0m_signal.proofs.line.parts.read_parts.Given as goal
+use Rattle.str0m_signal.specs.form.FormReading.{parted_read}
 
 -- the items so far and those of the rest are those of the text
 abbrev pub invariant-loop-part : goal.invariant-loop-part

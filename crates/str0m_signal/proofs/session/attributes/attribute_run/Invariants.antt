@@ -1,7 +1,7 @@
 use Rattle.str0m_signal.proofs.Common.{length, Utf8, shadow}
+use Rattle.str0m_signal.proofs.session.attributes.attribute_run.Given as goal
 use Rattle.str0m_signal.specs.line.Lines.{Chain}
 use Rattle.str0m_signal.specs.line.LinesReading.{lines_of, read_attribute, IsRead}
-use Rattle.str0m_signal.proofs.session.attributes.attribute_run.Given as goal
 
 -- the attributes so far are those of the lines before the rest
 abbrev pub invariant-loop-attributes : goal.invariant-loop-attributes

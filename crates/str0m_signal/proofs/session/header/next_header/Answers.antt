@@ -1,10 +1,10 @@
 use Rattle.str0m_signal.proofs.Common.{sym, ◌∙◌, codes, none-some}
-use Rattle.str0m_signal.specs.line.LinesReading.{lines_of}
-use Rattle.str0m_signal.proofs.line.LinesLaws.{line_found}
 use Rattle.str0m_signal.proofs.line.LinesChainLaws.{taken_none}
+use Rattle.str0m_signal.proofs.line.LinesLaws.{line_found}
 use Rattle.str0m_signal.proofs.session.HeaderLaws.{exact_both, opening_found, opening_given}
 use Rattle.str0m_signal.proofs.session.ReaderLaws.{no_timing}
 use Rattle.str0m_signal.proofs.session.header.next_header.Goals as goal
+use Rattle.str0m_signal.specs.line.LinesReading.{lines_of}
 
 pub returns-in_default : goal.returns-in_default
 returns-in_default c header rest h = none-some (header.id, h.after_opening) (c.in_default.ensures ∙ opening_given (lines_of c.args.text.now) header.id h.after_opening h.opening_is)

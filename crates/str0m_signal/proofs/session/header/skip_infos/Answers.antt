@@ -1,11 +1,11 @@
 use Rattle.str0m_signal.proofs.Common.{rules, sym, ◌++◌, ◌∷◌, [], refl}
-use Rattle.str0m_signal.specs.session.Header.{IsInfo}
+use Rattle.str0m_signal.proofs.line.LinesChainLaws.{chain_more, one_fewer, taken_none}
+use Rattle.str0m_signal.proofs.line.LinesLaws.{line_found}
 use Rattle.str0m_signal.proofs.session.HeaderLaws.{info_both}
+use Rattle.str0m_signal.proofs.session.header.skip_infos.Goals as goal
 use Rattle.str0m_signal.specs.line.Lines.{OneLine}
 use Rattle.str0m_signal.specs.line.LinesReading.{lines_of}
-use Rattle.str0m_signal.proofs.line.LinesLaws.{line_found}
-use Rattle.str0m_signal.proofs.line.LinesChainLaws.{chain_more, one_fewer, taken_none}
-use Rattle.str0m_signal.proofs.session.header.skip_infos.Goals as goal
+use Rattle.str0m_signal.specs.session.Header.{IsInfo}
 
 pub loop-after-init : goal.loop-after-init
 loop-after-init c = (search rules, ([], refl))

@@ -1,8 +1,8 @@
 use Rattle.str0m_signal.proofs.Common.{List, ℕ, length, Utf8, shadow, codes}
+use Rattle.str0m_signal.proofs.session.header.skip_repeats.Given as goal
 use Rattle.str0m_signal.specs.line.Lines.{Chain, OneLine}
 use Rattle.str0m_signal.specs.line.LinesReading.{lines_of}
 use Rattle.str0m_signal.specs.session.Section.{IsField}
-use Rattle.str0m_signal.proofs.session.header.skip_repeats.Given as goal
 
 -- the lines before the rest are such fields
 abbrev pub invariant-loop-after : goal.invariant-loop-after

@@ -1,6 +1,6 @@
 use Rattle.str0m_signal.proofs.Common.{◌≡◌, take}
-use Rattle.str0m_signal.specs.session.Locked.{locked_of_kind}
 use Rattle.str0m_signal.proofs.session.locked.locked_among.Given as goal
+use Rattle.str0m_signal.specs.session.Locked.{locked_of_kind}
 
 -- copies of those so far that are locked and of the kind
 abbrev pub invariant-loop-row : goal.invariant-loop-row

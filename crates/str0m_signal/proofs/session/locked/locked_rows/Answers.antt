@@ -1,7 +1,7 @@
 use Rattle.str0m_signal.proofs.Common.{◌&&◌, IfOk-weaker}
-use Rattle.str0m_signal.specs.session.Locked.{is_carried}
 use Rattle.str0m_signal.proofs.session.LockedPicked.{printable_as}
 use Rattle.str0m_signal.proofs.session.locked.locked_rows.Goals as goal
+use Rattle.str0m_signal.specs.session.Locked.{is_carried}
 
 pub returns-clause-printable : goal.returns-clause-printable
 returns-clause-printable c = λ may.

@@ -1,9 +1,9 @@
-use Rattle.str0m_signal.proofs.Common.{All, types, AllDistinct, IsPlain}
 use Rattle.str0m_formats.specs.declared.row.codec_config.CodecConfig.{CodecConfig}
-use Rattle.str0m_signal.specs.back.ReadBack.{MayBePrinted}
-use Rattle.str0m_signal.proofs.session.NegotiationLaws.{kept_or_same, rounds_bounded}
+use Rattle.str0m_signal.proofs.Common.{All, types, AllDistinct, IsPlain}
 use Rattle.str0m_signal.proofs.back.ReadBackRows.{still_printable}
+use Rattle.str0m_signal.proofs.session.NegotiationLaws.{kept_or_same, rounds_bounded}
 use Rattle.str0m_signal.proofs.session.negotiation.negotiate.Goals as goal
+use Rattle.str0m_signal.specs.back.ReadBack.{MayBePrinted}
 
 pub returns-clause-distinct : goal.returns-clause-distinct
 returns-clause-distinct c =

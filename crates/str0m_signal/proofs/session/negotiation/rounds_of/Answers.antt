@@ -1,7 +1,7 @@
 use Rattle.str0m_signal.proofs.Common.{Option, ◌++◌, option_to_list, sym, ap, ◌∙◌, append-nil, Round}
-use Rattle.str0m_signal.specs.session.Negotiation.{brought, brought_by}
 use Rattle.str0m_signal.proofs.session.NegotiationLaws.{one_more}
 use Rattle.str0m_signal.proofs.session.negotiation.rounds_of.Goals as goal
+use Rattle.str0m_signal.specs.session.Negotiation.{brought, brought_by}
 
 pub loop-section-preserved : goal.loop-section-preserved
 loop-section-preserved c =

@@ -1,6 +1,6 @@
-use Rattle.str0m_signal.specs.session.Reader.{Reading, Described}
 use Rattle.str0m_signal.proofs.session.ReaderAnswerLaws.{passed_on, one_described}
 use Rattle.str0m_signal.proofs.session.offer.described.Goals as goal
+use Rattle.str0m_signal.specs.session.Reader.{Reading, Described}
 
 pub returns-in-Ok-clause-one : goal.returns-in-Ok-clause-one
 returns-in-Ok-clause-one c = one_described (Reading c.args.text.now) c.in-Ok.ensures.one

@@ -1,8 +1,8 @@
-use Rattle.str0m_signal.specs.line.LinesReading.{lines_of, left}
-use Rattle.str0m_signal.specs.session.Reader.{Sections, IsSession, IsReading}
 use Rattle.str0m_signal.proofs.session.ReaderAnswerLaws.{passed_on, handed_on}
 use Rattle.str0m_signal.proofs.session.ReaderLaws.{session_of, sections_of}
 use Rattle.str0m_signal.proofs.session.reader.read_sdp.Goals as goal
+use Rattle.str0m_signal.specs.line.LinesReading.{lines_of, left}
+use Rattle.str0m_signal.specs.session.Reader.{Sections, IsSession, IsReading}
 
 pub returns-in_err-session : goal.returns-in_err-session
 returns-in_err-session c =

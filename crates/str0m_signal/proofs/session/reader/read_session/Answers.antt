@@ -1,7 +1,7 @@
-use Rattle.str0m_signal.specs.line.LinesReading.{lines_of}
-use Rattle.str0m_signal.specs.session.Reader.{IsSession}
 use Rattle.str0m_signal.proofs.session.ReaderAnswerLaws.{refused}
 use Rattle.str0m_signal.proofs.session.reader.read_session.Goals as goal
+use Rattle.str0m_signal.specs.line.LinesReading.{lines_of}
+use Rattle.str0m_signal.specs.session.Reader.{IsSession}
 
 pub returns-in_default : goal.returns-in_default
 returns-in_default c =

@@ -1,9 +1,9 @@
-use Rattle.str0m_signal.specs.session.Reader.{IsReading}
 use Rattle.str0m_signal.proofs.session.ReaderAnswerLaws.{text_answers, text_one}
 use Rattle.str0m_signal.proofs.session.ReaderBoundLaws.{answer_bounded}
 use Rattle.str0m_signal.proofs.session.ReaderLaws.{reading_only}
 use Rattle.str0m_signal.proofs.session.ReaderRestLaws.{left_from_line, reading_leaves}
 use Rattle.str0m_signal.proofs.session.reader.sdp_parser.Goals as goal
+use Rattle.str0m_signal.specs.session.Reader.{IsReading}
 
 pub returns-clause-read : goal.returns-clause-read
 returns-clause-read c = text_answers IsReading c.args.text.now c.read_sdp.result c.read_sdp.ensures

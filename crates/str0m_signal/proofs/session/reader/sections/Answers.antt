@@ -1,9 +1,9 @@
 use Rattle.str0m_signal.proofs.Common.{rules}
-use Rattle.str0m_signal.specs.line.LinesReading.{lines_of}
-use Rattle.str0m_signal.specs.session.Reader.{ConsistentSection}
 use Rattle.str0m_signal.proofs.line.LinesChainLaws.{chain_more}
 use Rattle.str0m_signal.proofs.session.ReaderLaws.{section_fewer, sections_blocked}
 use Rattle.str0m_signal.proofs.session.reader.sections.Goals as goal
+use Rattle.str0m_signal.specs.line.LinesReading.{lines_of}
+use Rattle.str0m_signal.specs.session.Reader.{ConsistentSection}
 
 pub returns-in-Some-2 : goal.returns-in-Some-2
 returns-in-Some-2 c =

@@ -1,8 +1,8 @@
 use Rattle.str0m_signal.proofs.Common.{length, Utf8, shadow}
+use Rattle.str0m_signal.proofs.session.reader.sections.Given as goal
 use Rattle.str0m_signal.specs.line.Lines.{Chain}
 use Rattle.str0m_signal.specs.line.LinesReading.{lines_of}
 use Rattle.str0m_signal.specs.session.Reader.{ConsistentSection}
-use Rattle.str0m_signal.proofs.session.reader.sections.Given as goal
 
 -- the sections so far stand before the rest
 abbrev pub invariant-loop-sections : goal.invariant-loop-sections

@@ -1,8 +1,8 @@
-use Rattle.str0m_signal.specs.session.Reader.{IsSession}
 use Rattle.str0m_signal.proofs.session.ReaderAnswerLaws.{text_answers, text_one}
 use Rattle.str0m_signal.proofs.session.ReaderLaws.{session_only}
 use Rattle.str0m_signal.proofs.session.ReaderRestLaws.{left_from_line, session_leaves}
 use Rattle.str0m_signal.proofs.session.reader.session_parser.Goals as goal
+use Rattle.str0m_signal.specs.session.Reader.{IsSession}
 
 pub returns-clause-read : goal.returns-clause-read
 returns-clause-read c = text_answers IsSession c.args.text.now c.read_session.result c.read_session.ensures

@@ -1,10 +1,10 @@
 use Rattle.str0m_signal.proofs.Common.{sym}
-use Rattle.str0m_signal.specs.line.LinesReading.{lines_of}
-use Rattle.str0m_signal.specs.line.Heads.{media_head}
-use Rattle.str0m_signal.proofs.line.LinesLaws.{line_found}
 use Rattle.str0m_signal.proofs.line.LinesChainLaws.{taken_none}
+use Rattle.str0m_signal.proofs.line.LinesLaws.{line_found}
 use Rattle.str0m_signal.proofs.session.SectionLaws.{head_both}
 use Rattle.str0m_signal.proofs.session.section.section.Goals as goal
+use Rattle.str0m_signal.specs.line.Heads.{media_head}
+use Rattle.str0m_signal.specs.line.LinesReading.{lines_of}
 
 pub returns-in_default : goal.returns-in_default
 returns-in_default c = (taken_none head_both c.args.text.now (rw c.in_default.is at c.in_ok-head.ensures)).1

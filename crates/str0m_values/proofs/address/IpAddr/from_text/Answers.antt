@@ -1,9 +1,9 @@
-use Rattle.str0m_values.proofs.Common.{◌∙◌, ap}
-use Rattle.str0m_values.specs.AddressReading.{ip_read}
-use Rattle.str0m_values.proofs.CutsOnlyLaws.{only_read}
-use Rattle.str0m_values.proofs.AddressText.{printed}
 use Rattle.str0m_values.proofs.AddressBothWays.{ip_both}
+use Rattle.str0m_values.proofs.AddressText.{printed}
+use Rattle.str0m_values.proofs.Common.{◌∙◌, ap}
+use Rattle.str0m_values.proofs.CutsOnlyLaws.{only_read}
 use Rattle.str0m_values.proofs.address.IpAddr.from_text.Goals as goal
+use Rattle.str0m_values.specs.AddressReading.{ip_read}
 
 pub returns-clause-read : goal.returns-clause-read
 returns-clause-read c = only_read ip_both c.args.text.now c.parsed.result c.parsed.ensures

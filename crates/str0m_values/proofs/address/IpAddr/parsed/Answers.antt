@@ -1,5 +1,5 @@
-use Rattle.str0m_values.proofs.Common.{◌∙◌, ap, Some}
 use Rattle.str0m_values.proofs.AddressBothWays.{parsed_ok, parsed_err}
+use Rattle.str0m_values.proofs.Common.{◌∙◌, ap, Some}
 use Rattle.str0m_values.proofs.address.IpAddr.parsed.Goals as goal
 
 pub returns-in-Ok : goal.returns-in-Ok

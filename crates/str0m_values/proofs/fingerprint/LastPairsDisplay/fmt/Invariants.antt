@@ -1,6 +1,6 @@
 use Rattle.str0m_values.proofs.Common.{◌∷◌, take, flat_map, HasWritten, IsPlainFormatter}
-use Rattle.str0m_values.specs.Fingerprint.{hex_pair}
 use Rattle.str0m_values.proofs.fingerprint.LastPairsDisplay.fmt.Given as goal
+use Rattle.str0m_values.specs.Fingerprint.{hex_pair}
 
 abbrev pub invariant-loop-byte : goal.invariant-loop-byte
 invariant-loop-byte g l =

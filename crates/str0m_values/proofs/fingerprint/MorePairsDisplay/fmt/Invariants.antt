@@ -1,6 +1,6 @@
 use Rattle.str0m_values.proofs.Common.{◌≡◌, ℕ, List, ◌++◌, ◌∷◌, length, flat_map, HasWritten, IsPlainFormatter}
-use Rattle.str0m_values.specs.Fingerprint.{hex_pair}
 use Rattle.str0m_values.proofs.fingerprint.MorePairsDisplay.fmt.Given as goal
+use Rattle.str0m_values.specs.Fingerprint.{hex_pair}
 
 -- what is written so far, with what is left, is the text
 abbrev pub invariant-loop-four : goal.invariant-loop-four

@@ -1,10 +1,10 @@
 use Rattle.str0m_values.proofs.Common.{◌≡◌, ◌<◌, ℕ, List, Option, Some, None, refl, sym, ◌∙◌, ap, arith, IfSome, ◌↔◌, IsSome}
-use Rattle.str0m_values.specs.Cuts.{num, IsTheOnly}
-use Rattle.str0m_values.specs.Frequency.{IsRate}
-use Rattle.str0m_values.specs.CutsParts.{IsNum}
-use Rattle.str0m_values.proofs.CutsNumLaws.{num_found, num_reads}
 use Rattle.str0m_values.proofs.CutsBothWays.{some_is}
+use Rattle.str0m_values.proofs.CutsNumLaws.{num_found, num_reads}
 use Rattle.str0m_values.proofs.frequency.Frequency.from_str.Goals as goal
+use Rattle.str0m_values.specs.Cuts.{num, IsTheOnly}
+use Rattle.str0m_values.specs.CutsParts.{IsNum}
+use Rattle.str0m_values.specs.Frequency.{IsRate}
 
 unread : (text : List ℕ) → None ≡ num 4294967295 text → IsTheOnly (IsRate text) None
 unread text e = record { found = tt; only = λ n is. let reads = num_reads 4294967295 text n is.0 in absurd cc }

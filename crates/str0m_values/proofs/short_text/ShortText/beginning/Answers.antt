@@ -1,7 +1,7 @@
 use Rattle.str0m_values.proofs.Common.{◌≡◌, ◌<◌, ◌≤◌, ◌++◌, arith, take, drop, length, subst, sym, ◌∙◌, ap, take-append-drop, length-take-le, List, ℕ, inr, IsUtf8, IsCharBoundary, IsUtf8-take}
 use Rattle.str0m_values.proofs.ShortTextCells.{length-filled, take-filled, drop-filled}
-use Rattle.str0m_values.specs.ShortText.{IsLongestBeginning}
 use Rattle.str0m_values.proofs.short_text.ShortText.beginning.Goals as goal
+use Rattle.str0m_values.specs.ShortText.{IsLongestBeginning}
 
 -- what was copied is the text's beginning
 copied : (n : ℕ) (text shown xs : List ℕ) → xs ≡ take n shown → shown ≡ text → n ≤ length text → (xs ≡ take n text) × (length xs ≡ n)

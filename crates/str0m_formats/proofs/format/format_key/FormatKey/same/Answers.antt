@@ -1,9 +1,9 @@
-use Rattle.str0m_formats.proofs.Common.{rules, tests, Option, Some, None, option_map, ◌≡◌, ◌∙◌, refl, str_eq_ignore_ascii_case, YieldsList-at}
 use Rattle.std.proofs.lemmas.Iterator.{YieldsList-from_slice, YieldsList-from_map}
 use Rattle.std.proofs.lemmas.Iterator.Search.{find_from_yields_List}
+use Rattle.str0m_formats.proofs.Common.{rules, tests, Option, Some, None, option_map, ◌≡◌, ◌∙◌, refl, str_eq_ignore_ascii_case, YieldsList-at}
+use Rattle.str0m_formats.proofs.format.format_key.FormatKey.same.Goals as goal
 use Rattle.str0m_formats.specs.format.FormatKey.{key_text}
 use Rattle.str0m_formats.specs.format.FormatParamReading.{key_read}
-use Rattle.str0m_formats.proofs.format.format_key.FormatKey.same.Goals as goal
 
 itself : {A : Type 0} (o : Option A) → o ≡ option_map (λ x. x) o
 itself None = refl

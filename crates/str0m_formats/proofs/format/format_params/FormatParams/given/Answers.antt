@@ -1,8 +1,8 @@
 use Rattle.str0m_formats.proofs.Common.{rules, ◌≡◌, sym, ap, ◌∙◌, arith, length}
-use Rattle.str0m_formats.specs.declared.format.format_params.TheConstants.{FIELDS}
 use Rattle.str0m_formats.proofs.format.ParamTextListed.{params_to, params_push, params_pass, params_all}
 use Rattle.str0m_formats.proofs.format.format_params.FormatParams.given.Goals as goal
 use Rattle.str0m_formats.proofs.format.format_params.FormatParams.given.Goals.{in-Some+in_ok-push, in_default}
+use Rattle.str0m_formats.specs.declared.format.format_params.TheConstants.{FIELDS}
 
 pub loop-field-init : goal.loop-field-init
 unfolding params_to

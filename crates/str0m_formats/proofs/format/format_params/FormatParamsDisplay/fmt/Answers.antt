@@ -1,9 +1,9 @@
 use Rattle.str0m_formats.proofs.Common.{rules, ◌≡◌, ◌++◌, refl, sym, ap, ◌∙◌, arith, length, has_written_append, has_written_of_eq}
-use Rattle.str0m_formats.specs.format.FormatParam.{param_text, part_if}
-use Rattle.str0m_formats.specs.declared.format.format_params.TheConstants.{FIELDS}
 use Rattle.str0m_formats.proofs.format.ParamTextListed.{has_some, params_to, listed, listed_push, has_some_push, params_push, params_pass, listed_all}
 use Rattle.str0m_formats.proofs.format.format_params.FormatParamsDisplay.fmt.Goals as goal
 use Rattle.str0m_formats.proofs.format.format_params.FormatParamsDisplay.fmt.Goals.{in-Some+in_ok-write, in_default}
+use Rattle.str0m_formats.specs.declared.format.format_params.TheConstants.{FIELDS}
+use Rattle.str0m_formats.specs.format.FormatParam.{param_text, part_if}
 
 pub loop-field-init : goal.loop-field-init
 unfolding has_some params_to listed

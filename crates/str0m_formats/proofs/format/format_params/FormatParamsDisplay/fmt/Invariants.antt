@@ -1,7 +1,7 @@
 use Rattle.str0m_formats.proofs.Common.{◌≡◌, HasWritten, IsPlainFormatter}
-use Rattle.str0m_formats.specs.format.FormatParam.{param_text}
 use Rattle.str0m_formats.proofs.format.ParamTextListed.{has_some, params_to, listed}
 use Rattle.str0m_formats.proofs.format.format_params.FormatParamsDisplay.fmt.Given as goal
+use Rattle.str0m_formats.specs.format.FormatParam.{param_text}
 
 abbrev pub invariant-loop-field : goal.invariant-loop-field
 invariant-loop-field g l =

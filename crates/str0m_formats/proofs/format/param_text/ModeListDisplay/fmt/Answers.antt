@@ -1,7 +1,7 @@
 use Rattle.str0m_formats.proofs.Common.{rules, arith, has_written_append, has_written_of_eq}
-use Rattle.str0m_formats.proofs.format.param_text.ModeListDisplay.fmt.Goals as goal
 use Rattle.str0m_formats.proofs.format.ParamTextListed.{has_some, listed, listed_push, has_some_push}
 use Rattle.str0m_formats.proofs.format.ParamTextPrinted.{modes_below, modes_push, modes_pass, shifted_one}
+use Rattle.str0m_formats.proofs.format.param_text.ModeListDisplay.fmt.Goals as goal
 use Rattle.str0m_formats.proofs.format.param_text.ModeListDisplay.fmt.Goals.{else-mask-mode-ne0}
 
 pub loop-mode-init : goal.loop-mode-init

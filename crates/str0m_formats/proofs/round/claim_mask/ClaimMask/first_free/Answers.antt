@@ -1,8 +1,8 @@
 use Rattle.str0m_formats.proofs.Common.{◌≡◌, ◌||◌, refl, ap, ◌∙◌}
-use Rattle.str0m_formats.specs.round.Claimed.{free}
-use Rattle.str0m_formats.specs.round.ClaimMask.{bit_set}
 use Rattle.str0m_formats.proofs.round.ClaimMaskBits.{free-from_masks}
 use Rattle.str0m_formats.proofs.round.claim_mask.ClaimMask.first_free.Goals as goal
+use Rattle.str0m_formats.specs.round.ClaimMask.{bit_set}
+use Rattle.str0m_formats.specs.round.Claimed.{free}
 
 pub returns : goal.returns
 returns c =

@@ -1,9 +1,9 @@
-use Rattle.str0m_formats.proofs.Common.{ℕ, List, Option, sym, subst, take_all}
 use Rattle.std.proofs.Common.{Bor}
-use Rattle.str0m_formats.specs.declared.row.payload_params.PayloadParams.{PayloadParams}
-use Rattle.str0m_formats.specs.round.Choices.{points_for, seen}
+use Rattle.str0m_formats.proofs.Common.{ℕ, List, Option, sym, subst, take_all}
 use Rattle.str0m_formats.proofs.round.ChoiceSteps.{IsChoiceSoFar, choice_next}
 use Rattle.str0m_formats.proofs.round.claims.Claims.choice.Goals as goal
+use Rattle.str0m_formats.specs.declared.row.payload_params.PayloadParams.{PayloadParams}
+use Rattle.str0m_formats.specs.round.Choices.{points_for, seen}
 
 pub loop-theirs-preserved : goal.loop-theirs-preserved
 loop-theirs-preserved g c =

@@ -1,7 +1,7 @@
 use Rattle.str0m_formats.proofs.Common.{take}
-use Rattle.str0m_formats.specs.round.Choices.{points_for, seen}
 use Rattle.str0m_formats.proofs.round.ChoiceSteps.{IsChoiceSoFar}
 use Rattle.str0m_formats.proofs.round.claims.Claims.choice.Given as goal
+use Rattle.str0m_formats.specs.round.Choices.{points_for, seen}
 
 -- the choice among the rows so far
 abbrev pub invariant-loop-theirs : goal.invariant-loop-theirs

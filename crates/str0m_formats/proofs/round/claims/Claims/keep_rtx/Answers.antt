@@ -1,7 +1,7 @@
 use Rattle.str0m_formats.proofs.Common.{◌≡◌, ℕ, Option, Some, subst, rules}
+use Rattle.str0m_formats.proofs.round.claims.Claims.keep_rtx.Goals as goal
 use Rattle.str0m_formats.specs.round.Claimed.{with_option}
 use Rattle.str0m_formats.specs.round.Claims.{Serves}
-use Rattle.str0m_formats.proofs.round.claims.Claims.keep_rtx.Goals as goal
 
 pub returns-in_ok-pt-in-Some-clause-claimed : goal.returns-in_ok-pt-in-Some-clause-claimed
 returns-in_ok-pt-in-Some-clause-claimed g c = λ locked taken serves.

@@ -1,10 +1,10 @@
 use Rattle.str0m_formats.proofs.Common.{◌≡◌, Bool, Result, Ok, sym, ap, ◌∙◌, subst, arith, get_or, nat_lt, option_copied}
-use Rattle.str0m_formats.specs.declared.round.negotiation_error.NegotiationError.{NegotiationError}
-use Rattle.str0m_formats.specs.row.PayloadParams.{types}
-use Rattle.str0m_formats.specs.round.Choices.{IsChoice, points_for}
-use Rattle.str0m_formats.specs.round.Rounds.{and_then, placed}
 use Rattle.str0m_formats.proofs.round.FirstPass.{first_step, first_stops, next_row, small_at, small_choice, none-parts, IfErr_from}
 use Rattle.str0m_formats.proofs.round.claims.Claims.lock_rows.Goals as goal
+use Rattle.str0m_formats.specs.declared.round.negotiation_error.NegotiationError.{NegotiationError}
+use Rattle.str0m_formats.specs.round.Choices.{IsChoice, points_for}
+use Rattle.str0m_formats.specs.round.Rounds.{and_then, placed}
+use Rattle.str0m_formats.specs.row.PayloadParams.{types}
 
 pub place-requires-clause-row : goal.place-requires-clause-row
 place-requires-clause-row g c =

@@ -1,12 +1,12 @@
 use Rattle.str0m_formats.proofs.Common.{◌≡◌, ℕ, Option, Some, Result, Ok, Err, sym, ap, ◌∙◌, subst, rules, ok_or}
+use Rattle.str0m_formats.proofs.round.ClaimedSets.{with_row_types}
+use Rattle.str0m_formats.proofs.round.SettlingPass.{settled_if_locked, settled_stops, settled_by, red_step}
+use Rattle.str0m_formats.proofs.round.claims.Claims.settle.Goals as goal
 use Rattle.str0m_formats.specs.declared.round.negotiation_error.NegotiationError.{NegotiationError}
 use Rattle.str0m_formats.specs.declared.round.negotiation_error.NegotiationError.TheVariants.{Exhausted}
 use Rattle.str0m_formats.specs.round.Claimed.{TypeSet, with_type, with_option}
 use Rattle.str0m_formats.specs.round.Claims.{Serves}
 use Rattle.str0m_formats.specs.round.Rounds.{and_then, kept_rtx}
-use Rattle.str0m_formats.proofs.round.ClaimedSets.{with_row_types}
-use Rattle.str0m_formats.proofs.round.SettlingPass.{settled_if_locked, settled_stops, settled_by, red_step}
-use Rattle.str0m_formats.proofs.round.claims.Claims.settle.Goals as goal
 
 pub returns-then-row-clause-value : goal.returns-then-row-clause-value
 returns-then-row-clause-value g c = λ locked taken serves. settled_if_locked locked taken (g.C.Claimed.holds c.args.self.now.unlocked) c.args.row.now c.if-row.true

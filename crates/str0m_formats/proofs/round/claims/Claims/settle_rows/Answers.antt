@@ -1,11 +1,11 @@
 use Rattle.str0m_formats.proofs.Common.{Result, Ok, sym, ap, ◌∙◌, rules, arith, get_or, take}
-use Rattle.str0m_formats.specs.round.Claimed.{TypeSet, has}
-use Rattle.str0m_formats.specs.declared.round.negotiation_error.NegotiationError.{NegotiationError}
-use Rattle.str0m_formats.specs.row.PayloadParams.{locked_types}
-use Rattle.str0m_formats.specs.round.Rounds.{and_then, taken_after}
 use Rattle.str0m_formats.proofs.round.FirstPass.{IfErr_from}
 use Rattle.str0m_formats.proofs.round.SettlingPass.{second_step, second_stops, second_row, serves_now}
 use Rattle.str0m_formats.proofs.round.claims.Claims.settle_rows.Goals as goal
+use Rattle.str0m_formats.specs.declared.round.negotiation_error.NegotiationError.{NegotiationError}
+use Rattle.str0m_formats.specs.round.Claimed.{TypeSet, has}
+use Rattle.str0m_formats.specs.round.Rounds.{and_then, taken_after}
+use Rattle.str0m_formats.specs.row.PayloadParams.{locked_types}
 
 pub settle-requires : goal.settle-requires
 settle-requires g c = λ open_row t h.

@@ -1,7 +1,7 @@
 use Rattle.str0m_formats.proofs.Common.{refl}
-use denote.Param.Always.{mut_next}
 use Rattle.str0m_formats.proofs.round.ChoicesAsked.{RefusedAll-take, FirstAccepted-at}
 use Rattle.str0m_formats.proofs.row.codec_config.CodecConfig.find.Goals as goal
+use denote.Param.Always.{mut_next}
 
 pub returns-then-accept : goal.returns-then-accept
 returns-then-accept g c =

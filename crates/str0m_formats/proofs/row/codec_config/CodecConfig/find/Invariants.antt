@@ -1,6 +1,6 @@
 use Rattle.str0m_formats.proofs.Common.{take}
-use Rattle.str0m_formats.specs.round.Choices.{RefusedAll}
 use Rattle.str0m_formats.proofs.row.codec_config.CodecConfig.find.Given as goal
+use Rattle.str0m_formats.specs.round.Choices.{RefusedAll}
 
 abbrev pub invariant-loop-row : goal.invariant-loop-row
 invariant-loop-row g l = record {

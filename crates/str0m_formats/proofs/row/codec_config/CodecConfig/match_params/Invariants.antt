@@ -1,7 +1,7 @@
 use Rattle.str0m_formats.proofs.Common.{take}
-use Rattle.str0m_formats.specs.round.Choices.{points_with, seen}
 use Rattle.str0m_formats.proofs.round.ChoiceSteps.{IsChoiceSoFar}
 use Rattle.str0m_formats.proofs.row.codec_config.CodecConfig.match_params.Given as goal
+use Rattle.str0m_formats.specs.round.Choices.{points_with, seen}
 
 -- the choice among the rows so far
 abbrev pub invariant-loop-row : goal.invariant-loop-row

@@ -1,6 +1,6 @@
 use Rattle.str0m_formats.proofs.Common.{arith, take_all, length-set, on_err_weaker}
-use Rattle.str0m_formats.proofs.round.RoundsRunSteps.{ran_from, reached_step}
 use Rattle.str0m_formats.proofs.round.RoundsRunLaws.{run_promised}
+use Rattle.str0m_formats.proofs.round.RoundsRunSteps.{ran_from, reached_step}
 use Rattle.str0m_formats.proofs.row.codec_config.CodecConfig.update_all.Goals as goal
 
 pub loop-i-preserved : goal.loop-i-preserved

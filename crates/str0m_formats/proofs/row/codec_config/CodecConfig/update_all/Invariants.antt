@@ -1,6 +1,6 @@
 use Rattle.str0m_formats.proofs.Common.{◌≡◌, length, take}
-use Rattle.str0m_formats.specs.round.RoundsRuns.{Reached}
 use Rattle.str0m_formats.proofs.row.codec_config.CodecConfig.update_all.Given as goal
+use Rattle.str0m_formats.specs.round.RoundsRuns.{Reached}
 
 -- the rounds so far are run, with their outcomes, and nothing but the rows is changed
 abbrev pub invariant-loop-i : goal.invariant-loop-i

@@ -1,10 +1,10 @@
 use Rattle.str0m_formats.proofs.Common.{◌≡◌, ◌++◌, Err, List, length, take, drop, Bool, refl, sym, ap, ◌∙◌, subst, rules, take_at, receives, same_from_all_zip}
+use Rattle.str0m_formats.proofs.round.RoundsPromised.{leaves_round, refused_round}
+use Rattle.str0m_formats.proofs.round.RoundsWhole.{refused_as_copied}
+use Rattle.str0m_formats.proofs.row.codec_config.CodecConfig.update_params_in.Goals as goal
 use Rattle.str0m_formats.specs.declared.round.negotiation_error.NegotiationError.TheVariants.{Memory}
 use Rattle.str0m_formats.specs.declared.row.payload_params.PayloadParams.{PayloadParams}
 use Rattle.str0m_formats.specs.round.Rounds.{Leaves}
-use Rattle.str0m_formats.proofs.round.RoundsWhole.{refused_as_copied}
-use Rattle.str0m_formats.proofs.round.RoundsPromised.{leaves_round, refused_round}
-use Rattle.str0m_formats.proofs.row.codec_config.CodecConfig.update_params_in.Goals as goal
 
 pub returns-in_err-rows : goal.returns-in_err-rows
 returns-in_err-rows g c =

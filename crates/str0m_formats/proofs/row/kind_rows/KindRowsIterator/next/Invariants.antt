@@ -1,6 +1,6 @@
 use Rattle.str0m_formats.proofs.Common.{◌≡◌, length}
-use Rattle.str0m_formats.specs.row.KindRows.{rows_left}
 use Rattle.str0m_formats.proofs.row.kind_rows.KindRowsIterator.next.Given as goal
+use Rattle.str0m_formats.specs.row.KindRows.{rows_left}
 
 -- what is asked of a row stays, and the rows that are still to come are those of the start
 abbrev pub invariant-loop-first : goal.invariant-loop-first

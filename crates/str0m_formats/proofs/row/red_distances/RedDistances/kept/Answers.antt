@@ -1,9 +1,9 @@
-use Rattle.str0m_formats.proofs.Common.{◌≡◌, ℕ, List, sym, ap, ◌∙◌, subst, rules, arith}
 use Rattle.std.proofs.Math.ListN.{length-set}
-use Rattle.str0m_formats.specs.row.RedDistances.{AreDistances, kept_to}
+use Rattle.str0m_formats.proofs.Common.{◌≡◌, ℕ, List, sym, ap, ◌∙◌, subst, rules, arith}
 use Rattle.str0m_formats.proofs.row.RedDistances.{kept_none, kept_taken, kept_skipped, kept_distances}
 use Rattle.str0m_formats.proofs.row.red_distances.RedDistances.kept.Goals as goal
 use Rattle.str0m_formats.proofs.row.red_distances.RedDistances.kept.Goals.{then-is_kept, else-is_kept}
+use Rattle.str0m_formats.specs.row.RedDistances.{AreDistances, kept_to}
 
 pub loop-seen-init : goal.loop-seen-init
 loop-seen-init c = record { room = search rules; fits = omega arith; kept = sym (kept_none c.args.given.now) }

@@ -1,6 +1,6 @@
 use Rattle.str0m_formats.proofs.Common.{◌≡◌, ◌≤◌, length, take}
-use Rattle.str0m_formats.specs.row.RedDistances.{kept_to}
 use Rattle.str0m_formats.proofs.row.red_distances.RedDistances.kept.Given as goal
+use Rattle.str0m_formats.specs.row.RedDistances.{kept_to}
 
 -- what is kept of the numbers so far, of which there are no more
 abbrev pub invariant-loop-seen : goal.invariant-loop-seen

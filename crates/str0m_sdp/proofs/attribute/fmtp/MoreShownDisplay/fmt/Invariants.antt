@@ -1,7 +1,7 @@
-use Rattle.str0m_sdp.proofs.Common.{◌++◌, take, filter, codes, flat_map, HasWritten, IsPlainFormatter}
 use Rattle.str0m_formats.specs.format.FormatParam.{param_text}
-use Rattle.str0m_sdp.specs.attribute.Fmtp.{is_shown}
+use Rattle.str0m_sdp.proofs.Common.{◌++◌, take, filter, codes, flat_map, HasWritten, IsPlainFormatter}
 use Rattle.str0m_sdp.proofs.attribute.fmtp.MoreShownDisplay.fmt.Given as goal
+use Rattle.str0m_sdp.specs.attribute.Fmtp.{is_shown}
 
 -- the values so far that are shown are written, each after a separator
 abbrev pub invariant-loop-value : goal.invariant-loop-value

@@ -1,6 +1,6 @@
 use Rattle.str0m_sdp.proofs.Common.{◌++◌, take, codes, flat_map, HasWritten, IsPlainFormatter}
-use Rattle.str0m_sdp.specs.attribute.Rid.{restriction_text}
 use Rattle.str0m_sdp.proofs.attribute.rid.PairsDisplay.fmt.Given as goal
+use Rattle.str0m_sdp.specs.attribute.Rid.{restriction_text}
 
 -- the restrictions so far are written, each after a separator
 abbrev pub invariant-loop-pair : goal.invariant-loop-pair

@@ -1,8 +1,8 @@
 use Rattle.str0m_sdp.proofs.Common.{ap, subst, sym, ◌∙◌, filter_map}
-use Rattle.str0m_sdp.specs.section.Sources.{ArePlaced, entries}
-use Rattle.str0m_sdp.specs.section.SsrcInfo.{source_of}
 use Rattle.str0m_sdp.proofs.section.SsrcInfoLaws.{put_repair, pass_repair}
 use Rattle.str0m_sdp.proofs.section.media_line.MediaLine.add_repairs.Goals as goal
+use Rattle.str0m_sdp.specs.section.Sources.{ArePlaced, entries}
+use Rattle.str0m_sdp.specs.section.SsrcInfo.{source_of}
 
 pub loop-line-preserved : goal.loop-line-preserved
 loop-line-preserved c =

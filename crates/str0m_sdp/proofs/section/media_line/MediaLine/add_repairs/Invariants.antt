@@ -1,8 +1,8 @@
 use Rattle.str0m_sdp.proofs.Common.{take, ◌++◌, filter_map}
+use Rattle.str0m_sdp.proofs.section.media_line.MediaLine.add_repairs.Given as goal
 use Rattle.str0m_sdp.specs.section.Sources.{ArePlaced, entries}
 use Rattle.str0m_sdp.specs.section.SsrcInfo.{source_of, repair_source}
 use Rattle.str0m_sdp.specs.section.SsrcInfoReading.{AreGathered}
-use Rattle.str0m_sdp.proofs.section.media_line.MediaLine.add_repairs.Given as goal
 
 -- all values and the groups so far are gathered
 abbrev pub invariant-loop-line : goal.invariant-loop-line

@@ -1,7 +1,7 @@
 use Rattle.str0m_sdp.proofs.Common.{[], ap, sym, ◌++◌, ◌∙◌, ◌∷◌, map-append}
-use Rattle.str0m_sdp.specs.section.SectionAccessors.{ext_map_at, ext_map_of}
 use Rattle.str0m_sdp.proofs.section.SectionAccessorsLists.{filter_map_more, filter_map_same}
 use Rattle.str0m_sdp.proofs.section.media_line.MediaLine.extmaps.Goals as goal
+use Rattle.str0m_sdp.specs.section.SectionAccessors.{ext_map_at, ext_map_of}
 
 pub loop-attr-preserved : goal.loop-attr-preserved
 loop-attr-preserved c =

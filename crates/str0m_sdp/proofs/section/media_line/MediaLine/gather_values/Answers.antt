@@ -1,8 +1,8 @@
 use Rattle.str0m_sdp.proofs.Common.{nat_eq, ap, subst, sym, ◌∙◌, insert_entry}
-use Rattle.str0m_sdp.specs.section.Sources.{ArePlaced, entries}
-use Rattle.str0m_sdp.specs.section.SsrcInfoReading.{with_value, so_far}
 use Rattle.str0m_sdp.proofs.section.SsrcInfoLaws.{put_value, pass_value}
 use Rattle.str0m_sdp.proofs.section.media_line.MediaLine.gather_values.Goals as goal
+use Rattle.str0m_sdp.specs.section.Sources.{ArePlaced, entries}
+use Rattle.str0m_sdp.specs.section.SsrcInfoReading.{with_value, so_far}
 
 pub loop-line-preserved : goal.loop-line-preserved
 loop-line-preserved c =

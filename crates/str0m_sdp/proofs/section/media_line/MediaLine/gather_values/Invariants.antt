@@ -1,8 +1,8 @@
 use Rattle.str0m_sdp.proofs.Common.{[], take, filter_map}
+use Rattle.str0m_sdp.proofs.section.media_line.MediaLine.gather_values.Given as goal
 use Rattle.str0m_sdp.specs.section.Sources.{ArePlaced, entries}
 use Rattle.str0m_sdp.specs.section.SsrcInfo.{source_of}
 use Rattle.str0m_sdp.specs.section.SsrcInfoReading.{AreGathered}
-use Rattle.str0m_sdp.proofs.section.media_line.MediaLine.gather_values.Given as goal
 
 -- the values so far are gathered
 abbrev pub invariant-loop-line : goal.invariant-loop-line

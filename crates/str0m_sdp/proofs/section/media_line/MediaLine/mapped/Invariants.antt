@@ -1,8 +1,8 @@
 use Rattle.str0m_sdp.proofs.Common.{◌≡◌, ◌<◌, ◌++◌, ◌==◌, ◌||◌, ℕ, false, nat_eq, get_or, length, take, filter_map, list_any}
-use Rattle.str0m_sdp.specs.section.Consistency.{maps}
-use Rattle.str0m_sdp.specs.Common.{distinct}
-use Rattle.str0m_sdp.specs.section.Mappings.{mapping, unmapped}
 use Rattle.str0m_sdp.proofs.section.media_line.MediaLine.mapped.Given as goal
+use Rattle.str0m_sdp.specs.Common.{distinct}
+use Rattle.str0m_sdp.specs.section.Consistency.{maps}
+use Rattle.str0m_sdp.specs.section.Mappings.{mapping, unmapped}
 
 -- the rows of the types so far, and which types have an rtpmap line or were seen
 abbrev pub invariant-loop-pt : goal.invariant-loop-pt

@@ -1,8 +1,8 @@
 use Rattle.str0m_sdp.proofs.Common.{filter_map, take}
-use Rattle.str0m_values.proofs.FingerprintZipLaws.{AllZip-push}
-use Rattle.str0m_sdp.specs.section.SectionAccessors.{IsRidOf, rid_name_of}
 use Rattle.str0m_sdp.proofs.section.SectionAccessorsLists.{filter_map_more, filter_map_same}
 use Rattle.str0m_sdp.proofs.section.media_line.MediaLine.rids.Goals as goal
+use Rattle.str0m_sdp.specs.section.SectionAccessors.{IsRidOf, rid_name_of}
+use Rattle.str0m_values.proofs.FingerprintZipLaws.{AllZip-push}
 
 pub loop-attr-preserved : goal.loop-attr-preserved
 loop-attr-preserved c =

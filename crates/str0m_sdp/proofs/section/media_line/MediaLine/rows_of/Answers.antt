@@ -1,11 +1,11 @@
 use Rattle.str0m_sdp.proofs.Common.{◌++◌, ◌==◌, ℕ, List, replicate, filter, filter_map, option_to_list, refl, rules, tests, sym, ap, ◌∙◌, Bor, list_any, take_all, All-same, line_values, FormatParam, CodecSpec, PayloadParams, IsBounded}
+use Rattle.str0m_sdp.proofs.section.MappingsFilterMap.{kept_more, left_out}
+use Rattle.str0m_sdp.proofs.section.SectionRowsBoundLaws.{rows_bounded}
+use Rattle.str0m_sdp.proofs.section.SectionRowsGatherLaws.{Marks, nothing_gathered, all_gathered}
+use Rattle.str0m_sdp.proofs.section.media_line.MediaLine.rows_of.Goals as goal
+use Rattle.str0m_sdp.specs.declared.attribute.feedback.Feedback.{Feedback}
 use Rattle.str0m_sdp.specs.section.FmtpLines.{lines_with}
 use Rattle.str0m_sdp.specs.section.SectionRows.{is_kept, row, rows}
-use Rattle.str0m_sdp.specs.declared.attribute.feedback.Feedback.{Feedback}
-use Rattle.str0m_sdp.proofs.section.MappingsFilterMap.{kept_more, left_out}
-use Rattle.str0m_sdp.proofs.section.SectionRowsGatherLaws.{Marks, nothing_gathered, all_gathered}
-use Rattle.str0m_sdp.proofs.section.SectionRowsBoundLaws.{rows_bounded}
-use Rattle.str0m_sdp.proofs.section.media_line.MediaLine.rows_of.Goals as goal
 
 pub gather-requires : goal.gather-requires
 gather-requires c = nothing_gathered c.args.types.now _ refl refl (ap (λ (f : Feedback). replicate 256 f) c.none.ensures)

@@ -1,7 +1,7 @@
 use Rattle.str0m_sdp.proofs.Common.{◌≡◌, take, filter, filter_map}
+use Rattle.str0m_sdp.proofs.section.media_line.MediaLine.rows_of.Given as goal
 use Rattle.str0m_sdp.specs.section.SectionRows.{is_kept, row}
 use Rattle.str0m_sdp.specs.section.TypeLines.{AreKnown}
-use Rattle.str0m_sdp.proofs.section.media_line.MediaLine.rows_of.Given as goal
 
 -- what the groups have, and the rows of the types so far
 abbrev pub invariant-loop-pt : goal.invariant-loop-pt

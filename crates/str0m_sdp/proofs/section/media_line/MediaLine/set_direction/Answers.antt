@@ -1,10 +1,10 @@
 use Rattle.str0m_sdp.proofs.Common.{ap, ◌∙◌, position_or_len, slice_set}
-use Rattle.str0m_sdp.specs.section.Consistency.{is_direction}
-use Rattle.str0m_sdp.specs.section.SectionDirection.{section_direction}
-use Rattle.str0m_sdp.specs.declared.attribute.MediaAttribute.{MediaAttribute}
-use Rattle.str0m_sdp.specs.declared.section.media_line.MediaLine.{MediaLine}
 use Rattle.str0m_sdp.proofs.section.SectionDirectionHolders.{direction_read_back}
 use Rattle.str0m_sdp.proofs.section.media_line.MediaLine.set_direction.Goals as goal
+use Rattle.str0m_sdp.specs.declared.attribute.MediaAttribute.{MediaAttribute}
+use Rattle.str0m_sdp.specs.declared.section.media_line.MediaLine.{MediaLine}
+use Rattle.str0m_sdp.specs.section.Consistency.{is_direction}
+use Rattle.str0m_sdp.specs.section.SectionDirection.{section_direction}
 
 pub returns-clause-set : goal.returns-clause-set
 returns-clause-set c =

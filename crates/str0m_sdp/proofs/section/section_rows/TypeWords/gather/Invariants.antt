@@ -1,6 +1,6 @@
 use Rattle.str0m_sdp.proofs.Common.{◌≡◌, take}
-use Rattle.str0m_sdp.specs.section.SectionRowsWords.{AreOf}
 use Rattle.str0m_sdp.proofs.section.section_rows.TypeWords.gather.Given as goal
+use Rattle.str0m_sdp.specs.section.SectionRowsWords.{AreOf}
 
 -- the tables and lines are those of the attributes so far
 abbrev pub invariant-loop-attr : goal.invariant-loop-attr

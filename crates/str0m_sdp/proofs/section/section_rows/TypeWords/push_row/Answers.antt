@@ -1,7 +1,7 @@
 use Rattle.str0m_sdp.proofs.Common.{◌≡◌, ◌++◌, ◌∙◌, Option, Some, None, option_to_list, sym, ap, append-nil, PayloadParams, format_of_fmtp}
-use Rattle.str0m_sdp.specs.section.SectionRows.{lines_of}
 use Rattle.str0m_sdp.proofs.section.SectionRowLaws.{row_is, no_row, pushed}
 use Rattle.str0m_sdp.proofs.section.section_rows.TypeWords.push_row.Goals as goal
+use Rattle.str0m_sdp.specs.section.SectionRows.{lines_of}
 
 pub returns-in-Some : goal.returns-in-Some
 returns-in-Some c = λ m say own.

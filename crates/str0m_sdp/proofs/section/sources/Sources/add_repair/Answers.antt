@@ -1,8 +1,8 @@
 use Rattle.str0m_sdp.proofs.Common.{Some, nat_eq, refl, ap, ◌∙◌, insert_entry}
-use Rattle.str0m_sdp.specs.section.Sources.{entries}
-use Rattle.str0m_sdp.specs.declared.section.ssrc_info.SsrcInfo.{SsrcInfo}
 use Rattle.str0m_sdp.proofs.section.SourceLaws.{written}
 use Rattle.str0m_sdp.proofs.section.sources.Sources.add_repair.Goals as goal
+use Rattle.str0m_sdp.specs.declared.section.ssrc_info.SsrcInfo.{SsrcInfo}
+use Rattle.str0m_sdp.specs.section.Sources.{entries}
 
 pub returns-clause-entries : goal.returns-clause-entries
 returns-clause-entries c =

@@ -1,8 +1,8 @@
 use Rattle.str0m_sdp.proofs.Common.{nat_eq, ap, ◌∙◌, insert_entry}
-use Rattle.str0m_sdp.specs.section.Sources.{entries}
-use Rattle.str0m_sdp.specs.section.SsrcInfoReading.{with_value}
 use Rattle.str0m_sdp.proofs.section.SourceLaws.{value_keeps, written}
 use Rattle.str0m_sdp.proofs.section.sources.Sources.add_value.Goals as goal
+use Rattle.str0m_sdp.specs.section.Sources.{entries}
+use Rattle.str0m_sdp.specs.section.SsrcInfoReading.{with_value}
 
 pub returns-clause-entries : goal.returns-clause-entries
 returns-clause-entries c =

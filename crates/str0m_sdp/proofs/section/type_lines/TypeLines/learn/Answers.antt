@@ -1,6 +1,6 @@
 use Rattle.str0m_sdp.proofs.Common.{List, ap, ◌∙◌, Bor, All-push, All-same, format_of_fmtp, line_values, FormatParam}
-use Rattle.str0m_sdp.specs.section.TypeLines.{IsKnown}
 use Rattle.str0m_sdp.proofs.section.type_lines.TypeLines.learn.Goals as goal
+use Rattle.str0m_sdp.specs.section.TypeLines.{IsKnown}
 
 pub returns-clause-group : goal.returns-clause-group
 unfolding IsKnown
