@@ -11,7 +11,7 @@ ghost use Rattle.exchange.specs.state.ExchangeFollows.{Follows, IsSound};
 ghost use Rattle.exchange.specs.state.ReadBack.{IsReadBack};
 ghost use Rattle.exchange.specs.state.State.{sections_of, state_of};
 ghost use Rattle.std.specs.List.{AllZip};
-ghost use Rattle.std.specs.Prelude.{All, ◌≡◌, ◌+◌, ◌-◌, ◌^◌, ◌↔◌, IfErr, IfOk, IsSomeAnd, OnErr, OnOk, Some, min};
+ghost use Rattle.std.specs.Prelude.{All, ◌≡◌, ◌+◌, ◌-◌, ◌^◌, IfErr, IfOk, IsSomeAnd, OnErr, OnOk, Some, min};
 ghost use Rattle.str0m_formats.specs.round.Claimed.{AllDistinct};
 ghost use Rattle.str0m_formats.specs.round.RoundsPromises.{LockedStay};
 ghost use Rattle.str0m_formats.specs.row.PayloadParams.{types};
