@@ -2,8 +2,7 @@
 use Rattle.c_calls.specs.Said.{SaysSome}
 use Rattle.c_calls.specs.Told.{no_utf8}
 use Rattle.c_json.specs.Description.{IsJsonText}
-use Rattle.std.specs.Prelude.{◌≡◌, ◌⊎◌, ℕ, List}
-use Rattle.std.specs.Str.{IsUtf8}
+use Rattle.std.specs.Prelude.{◌≡◌, ◌⊎◌, ℕ, List, IsUtf8}
 
 -- JSON, as in other calls with room; or that the text isn't UTF-8: then room and count stay
 abbrev pub SaysFindings : List ℕ → List ℕ × ℕ → ℕ × List ℕ × ℕ → Type 0

@@ -1,8 +1,7 @@
 -- A section of one's own that lists what is agreed.
 use Rattle.c_parts.specs.Row.{c_outcome}
 use Rattle.c_parts.specs.declared.row.Outcome as c
-use Rattle.std.specs.List.{slice_get}
-use Rattle.std.specs.Prelude.{◌≡◌, ◌≢◌, ◌⊎◌, ℕ, List, [], Option, Some, slice_set, ◌++◌, None, drop, length, map, take}
+use Rattle.std.specs.Prelude.{◌≡◌, ◌≢◌, ◌⊎◌, ℕ, List, [], Option, Some, slice_set, ◌++◌, None, drop, length, map, take, slice_get}
 use Rattle.str0m_formats.specs.declared.row.codec_config.CodecConfig.{CodecConfig}
 use Rattle.str0m_formats.specs.declared.row.payload_params.PayloadParams.{PayloadParams}
 use Rattle.str0m_formats.specs.round.RoundsRuns.{Outcome}

@@ -6,8 +6,7 @@ use Rattle.c_parts.specs.Row.{c_row}
 use Rattle.c_parts.specs.Section.{c_section}
 use Rattle.c_parts.specs.declared.row.Row.{Row}
 use Rattle.c_parts.specs.declared.section.Section.{Section}
-use Rattle.std.specs.List.{slice_get}
-use Rattle.std.specs.Prelude.{ℕ, List, Option, map, option_and_then, option_map}
+use Rattle.std.specs.Prelude.{ℕ, List, Option, map, option_and_then, option_map, slice_get}
 use Rattle.str0m_formats.specs.codec.Codec.{codec_text}
 use Rattle.str0m_formats.specs.declared.row.payload_params.PayloadParams.{PayloadParams}
 use Rattle.str0m_formats.specs.format.FormatParams.{params_text}

@@ -1,6 +1,5 @@
 -- The name of a section.
-use Rattle.std.specs.Option.{unwrap_or}
-use Rattle.std.specs.Prelude.{ℕ, List, [], Option, filter_map}
+use Rattle.std.specs.Prelude.{ℕ, List, [], Option, filter_map, unwrap_or}
 use Rattle.str0m_sdp.specs.Common.{first}
 use Rattle.str0m_sdp.specs.declared.section.media_line.MediaLine.{MediaLine}
 use Rattle.str0m_sdp.specs.section.Consistency.{mid_of}

@@ -5,8 +5,7 @@ ghost use Rattle.c_calls.specs.ConfigCalls.{HasNoDefaults, IsAdded, IsEnabled, I
 ghost use Rattle.c_calls.specs.Told.{done, no_memory, no_utf8, wrong_argument};
 ghost use Rattle.c_parts.specs.Parts.{IsFull};
 ghost use Rattle.c_parts.specs.Row.{codec_at};
-ghost use Rattle.std.specs.Prelude.{◌≡◌, ◌≢◌, ◌↔◌, ◌⊎◌, [], IfErr, IfNone, IfOk, IfSome, None, OnErr, OnOk, Some};
-ghost use Rattle.std.specs.Str.{IsUtf8};
+ghost use Rattle.std.specs.Prelude.{◌≡◌, ◌≢◌, ◌↔◌, ◌⊎◌, [], IfErr, IfNone, IfOk, IfSome, None, OnErr, OnOk, Some, IsUtf8};
 ghost use Rattle.str0m_formats.specs.format.FormatLine.{IsFormatOfLine};
 ghost use Rattle.str0m_formats.specs.row.DefaultRows.{enabled_rows, usual_rows};
 

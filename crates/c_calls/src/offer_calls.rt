@@ -9,8 +9,7 @@ ghost use Rattle.c_parts.specs.Side.{RefusesBoth, direction_numbered, kind_numbe
 ghost use Rattle.exchange.specs.offer.AcceptedAnswer.{RefusesAnswer};
 ghost use Rattle.exchange.specs.offer.Added.{with_channels, with_media};
 ghost use Rattle.exchange.specs.state.Exchange.{RefusesChannels, RefusesMedia, RefusesToOffer};
-ghost use Rattle.std.specs.Prelude.{◌≡◌, ◌≢◌, ◌<◌, ◌≤◌, ◌↔◌, ◌⊎◌, [], IfErr, IfOk, None, OnErr, OnOk, Some, length, true};
-ghost use Rattle.std.specs.Str.{IsUtf8};
+ghost use Rattle.std.specs.Prelude.{◌≡◌, ◌≢◌, ◌<◌, ◌≤◌, ◌↔◌, ◌⊎◌, [], IfErr, IfOk, None, OnErr, OnOk, Some, length, true, IsUtf8};
 ghost use Rattle.str0m_formats.specs.row.KindRows.{kind_rows};
 
 use crate::exchange_calls::place_for_description;

@@ -6,9 +6,7 @@ ghost use Rattle.c_calls.specs.Told.{done, no_memory, no_section, no_session, no
 ghost use Rattle.c_parts.specs.Parts.{IsFull};
 ghost use Rattle.c_parts.specs.Reading.{RefusesText};
 ghost use Rattle.c_parts.specs.Row.{c_outcome};
-ghost use Rattle.std.specs.List.{slice_get};
-ghost use Rattle.std.specs.Prelude.{◌≡◌, ◌≢◌, ◌↔◌, ◌⊎◌, [], IfErr, IfNone, IfOk, IfSome, OnErr, OnOk, List, None, Some, ℕ, length, map};
-ghost use Rattle.std.specs.Str.{IsUtf8};
+ghost use Rattle.std.specs.Prelude.{◌≡◌, ◌≢◌, ◌↔◌, ◌⊎◌, [], IfErr, IfNone, IfOk, IfSome, OnErr, OnOk, List, None, Some, ℕ, length, map, slice_get, IsUtf8};
 ghost use Rattle.str0m_sdp.specs.declared.section.media_line.MediaLine.{MediaLine};
 ghost use Rattle.str0m_sdp.specs.declared.session.Sdp.{Sdp};
 ghost use Rattle.str0m_sdp.specs.section.MadeSection.{made};

@@ -3,8 +3,7 @@ use Rattle.c_parts.specs.declared.fault.Fault.{Fault}
 use Rattle.c_parts.specs.declared.fault.Fault.TheVariants.{NotUtf8, NoFingerprint, NoCandidate, Refused}
 use Rattle.exchange.specs.declared.state.exchange_error.ExchangeError.{ExchangeError}
 use Rattle.exchange.specs.declared.state.exchange_error.ExchangeError.TheVariants.{NotRead, Unread, WrongState, DoesNotFit, NoRows, NoChannels, NoName, NotPrintable, Memory}
-use Rattle.std.specs.Prelude.{◌≡◌, ℕ, List}
-use Rattle.std.specs.Str.{IsUtf8}
+use Rattle.std.specs.Prelude.{◌≡◌, ℕ, List, IsUtf8}
 
 -- the number of an error (`zax_status`)
 abbrev pub error_code : ExchangeError → ℕ

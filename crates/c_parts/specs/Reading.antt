@@ -1,8 +1,7 @@
 -- Why a text isn't read.
 use Rattle.c_parts.specs.declared.reading.Refusal.{Refusal}
 use Rattle.c_parts.specs.declared.reading.Refusal.TheVariants.{NotUtf8, Refused}
-use Rattle.std.specs.Prelude.{ℕ, List}
-use Rattle.std.specs.Str.{IsUtf8}
+use Rattle.std.specs.Prelude.{ℕ, List, IsUtf8}
 use Rattle.str0m_signal.specs.session.Reader.{Described}
 use Rattle.str0m_signal.specs.session.ReaderAnswers.{Refuses}
 

@@ -9,8 +9,7 @@ use Rattle.exchange.specs.declared.state.own_side.OwnSide.{OwnSide}
 use Rattle.exchange.specs.section.Trickled.{IsTrickled}
 use Rattle.std.specs.Borrow.{Bor}
 use Rattle.std.specs.List.{AllZip}
-use Rattle.std.specs.Prelude.{◌≡◌, ℕ, Bool, not, List, [], Option, None, Some, All, map, nat_eq, if◌then◌else◌}
-use Rattle.std.specs.Str.{IsUtf8}
+use Rattle.std.specs.Prelude.{◌≡◌, ℕ, Bool, not, List, [], Option, None, Some, All, map, nat_eq, if◌then◌else◌, IsUtf8}
 use Rattle.str0m_values.specs.Fingerprint.{IsFingerprint}
 use Rattle.str0m_values.specs.declared.candidate.Candidate.{Candidate}
 use Rattle.str0m_values.specs.declared.direction.Direction.{Direction}

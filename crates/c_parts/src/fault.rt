@@ -3,8 +3,7 @@
 ghost use Rattle.c_parts.specs.Fault.{error_code, error_line, fault_code, fault_line};
 ghost use Rattle.c_parts.specs.declared.fault.Fault.TheVariants.{Refused};
 ghost use Rattle.exchange.specs.declared.state.exchange_error.ExchangeError.TheVariants.{Memory};
-ghost use Rattle.std.specs.Prelude.{◌≡◌, IfErr, IfOk};
-ghost use Rattle.std.specs.Str.{IsUtf8};
+ghost use Rattle.std.specs.Prelude.{◌≡◌, IfErr, IfOk, IsUtf8};
 
 use exchange::ExchangeError;
 use std::alloc::{AllocError, Global};

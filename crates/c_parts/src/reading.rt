@@ -1,8 +1,7 @@
 //! A text that C gives, read.
 
 ghost use Rattle.c_parts.specs.Reading.{RefusesText};
-ghost use Rattle.std.specs.Prelude.{◌≡◌, ◌≢◌, IfErr, IfOk, List, length, ℕ};
-ghost use Rattle.std.specs.Str.{IsUtf8};
+ghost use Rattle.std.specs.Prelude.{◌≡◌, ◌≢◌, IfErr, IfOk, List, length, ℕ, IsUtf8};
 ghost use Rattle.str0m_sdp.specs.declared.session.Sdp.{Sdp};
 ghost use Rattle.str0m_signal.specs.session.Reader.{Described, Reading};
 ghost use Rattle.str0m_signal.specs.session.ReaderAnswers.{Refuses};

@@ -1,8 +1,7 @@
 -- What the lines of a text say, but for what printing fixes.
 use Rattle.lint.specs.declared.told.Next.{Next}
 use Rattle.lint.specs.declared.told.Told.{Told as Shown}
-use Rattle.std.specs.Prelude.{◌≡◌, ℕ, Bool, false, List, [], ◌∷◌, Option, Some, None, codes, is_some, if◌then◌else◌}
-use Rattle.std.specs.Str.{bytes_eq}
+use Rattle.std.specs.Prelude.{◌≡◌, ℕ, Bool, false, List, [], ◌∷◌, Option, Some, None, codes, is_some, if◌then◌else◌, bytes_eq}
 use Rattle.str0m_sdp.specs.declared.session.Sdp.{Sdp}
 use Rattle.str0m_sdp.specs.session.Session.{sdp_text}
 use Rattle.str0m_signal.specs.line.Lines.{Line}

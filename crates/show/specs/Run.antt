@@ -3,8 +3,7 @@ use Rattle.show.specs.NegotiationLines.{PrintsRounds}
 use Rattle.show.specs.RowLines.{rows_text}
 use Rattle.show.specs.declared.run.Shown.{Shown}
 use Rattle.show.specs.declared.run.Shown.TheVariants.{Text, Rows, Negotiation}
-use Rattle.std.specs.Prelude.{◌≡◌, ℕ, List, [], ◌∷◌, Option, Some, None, IfSome, codes, if◌then◌else◌}
-use Rattle.std.specs.Str.{bytes_eq}
+use Rattle.std.specs.Prelude.{◌≡◌, ℕ, List, [], ◌∷◌, Option, Some, None, IfSome, codes, if◌then◌else◌, bytes_eq}
 use Rattle.str0m_sdp.specs.declared.session.Sdp.{Sdp}
 use Rattle.str0m_sdp.specs.session.Session.{sdp_text}
 use Rattle.str0m_signal.specs.session.Reader.{Described}

@@ -1,7 +1,6 @@
 //! The lines of `sdpshow rows`.
 ghost use Rattle.show.specs.RowLines.{or_dash, type_text, mid_text, line_text, row_line, section_lines, rows_text};
-ghost use Rattle.std.specs.Prelude.{◌≡◌, ◌++◌, IfOk, OnOk, Some};
-ghost use Rattle.std.specs.String.{string_bytes};
+ghost use Rattle.std.specs.Prelude.{◌≡◌, ◌++◌, IfOk, OnOk, Some, string_bytes};
 
 use std::alloc::{AllocError, Global};
 use std::fmt;

@@ -1,6 +1,5 @@
 //! Session descriptions.
-ghost use Rattle.std.specs.Fmt.{decimal};
-ghost use Rattle.std.specs.Prelude.{◌≡◌, IfOk, Some, refl};
+ghost use Rattle.std.specs.Prelude.{◌≡◌, IfOk, Some, refl, decimal};
 ghost use Rattle.str0m_sdp.specs.session.Session.{origin_line, session_lines, session_text, sdp_text, versioned_origin, versioned_text};
 
 use crate::attribute::SessionAttribute;

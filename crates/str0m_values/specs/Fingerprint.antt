@@ -1,7 +1,7 @@
 -- Fingerprints of certificates in texts (RFC 8122, section 5).
 use Rattle.std.specs.Fmt.{digit_glyph}
-use Rattle.std.specs.List.{AllZip, flat_map, slice_split}
-use Rattle.std.specs.Prelude.{◌≡◌, ◌<◌, ◌==◌, ◌/◌, ◌%◌, ⊤, ℕ, true, List, [], ◌∷◌, ◌++◌, length, All, Any, Result, Ok, Err, codes, if◌then◌else◌}
+use Rattle.std.specs.List.{AllZip, slice_split}
+use Rattle.std.specs.Prelude.{◌≡◌, ◌<◌, ◌==◌, ◌/◌, ◌%◌, ⊤, ℕ, true, List, [], ◌∷◌, ◌++◌, length, All, Any, Result, Ok, Err, codes, if◌then◌else◌, flat_map}
 use Rattle.std.specs.Str.{str_eq_ignore_ascii_case}
 use Rattle.str0m_values.specs.CutsParts.{Lacks, IsNumber}
 use Rattle.str0m_values.specs.declared.fingerprint.Fingerprint.{Fingerprint}

@@ -1,7 +1,5 @@
 //! Candidates.
-ghost use Rattle.std.specs.Prelude.{◌≡◌, IfOk, Some, option_map};
-ghost use Rattle.std.specs.Str.{IsUtf8};
-ghost use Rattle.std.specs.String.{string_bytes};
+ghost use Rattle.std.specs.Prelude.{◌≡◌, IfOk, Some, option_map, IsUtf8, string_bytes};
 ghost use Rattle.str0m_values.specs.declared.candidate_label.TheConstants as candidate_label;
 
 use crate::address::SocketAddr;
@@ -230,7 +228,7 @@ struct CandidateParts<'a>(&'a Candidate);
 
 impl<'a> fmt::Display for CandidateParts<'a> {
     ghost use Rattle.std.specs.Fmt.{decimal};
-    ghost use Rattle.std.specs.Prelude.{◌++◌, codes};
+    ghost use Rattle.std.specs.Prelude.{codes, ◌++◌};
     ghost use Rattle.str0m_values.specs.Candidate.{socket_text};
     ghost use Rattle.str0m_values.specs.CandidateKind.{kind_text};
     ghost use Rattle.str0m_values.specs.Protocol.{protocol_text};
@@ -262,7 +260,7 @@ struct CandidateName<'a>(&'a Candidate);
 
 impl<'a> fmt::Display for CandidateName<'a> {
     ghost use Rattle.std.specs.Fmt.{decimal};
-    ghost use Rattle.std.specs.Prelude.{◌++◌, codes};
+    ghost use Rattle.std.specs.Prelude.{codes, ◌++◌};
 
     ghost output = { λ name. Some (candidate_label.CANDIDATE.now ++ (name.0.now.foundation ++ (codes " " ++ decimal name.0.now.component_id))) };
 
@@ -284,7 +282,7 @@ struct Transport {
 
 impl fmt::Display for Transport {
     ghost use Rattle.std.specs.Fmt.{decimal};
-    ghost use Rattle.std.specs.Prelude.{◌++◌, codes};
+    ghost use Rattle.std.specs.Prelude.{codes, ◌++◌};
     ghost use Rattle.str0m_values.specs.Protocol.{protocol_text};
 
     ghost output = { λ it. Some (codes " " ++ (protocol_text it.proto ++ (codes " " ++ decimal it.prio))) };

@@ -1,7 +1,6 @@
 //! Fingerprints of certificates.
 ghost use Rattle.std.specs.Fmt.{digit_glyph};
-ghost use Rattle.std.specs.List.{flat_map};
-ghost use Rattle.std.specs.Prelude.{◌≡◌, ◌<◌, ◌∷◌, ◌↔◌, IfOk, IsErr, IsErrOf, IsTrue, Some, true};
+ghost use Rattle.std.specs.Prelude.{◌≡◌, ◌<◌, ◌∷◌, ◌↔◌, IfOk, IsErr, IsErrOf, IsTrue, Some, true, flat_map};
 ghost use Rattle.str0m_values.specs.CutsParts.{Lacks};
 ghost use Rattle.str0m_values.specs.Fingerprint.{IsFingerprint, HasBadByte, IsBytesReading, IsReading, Gives, CanBeReadBack, fingerprint_text, hex_pair, pairs_text, preference_of};
 ghost use Rattle.str0m_values.specs.declared.fingerprint.Fingerprint.{Fingerprint};

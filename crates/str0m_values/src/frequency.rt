@@ -1,6 +1,5 @@
 //! Clock rates.
-ghost use Rattle.std.specs.Fmt.{decimal};
-ghost use Rattle.std.specs.Prelude.{◌≡◌, ◌<◌, ◌^◌, ◌↔◌, ◌∷◌, [], ℕ, IsSome, IfSome, Some};
+ghost use Rattle.std.specs.Prelude.{◌≡◌, ◌<◌, ◌^◌, ◌↔◌, ◌∷◌, [], ℕ, IsSome, IfSome, Some, decimal};
 ghost use Rattle.str0m_values.specs.Cuts.{IsTheOnly};
 ghost use Rattle.str0m_values.specs.Frequency.{IsRate};
 

@@ -3,9 +3,7 @@ ghost use Rattle.std.proofs.Common.{rules};
 ghost use Rattle.std.specs.Cmp.Lexicographic.{pointwise};
 ghost use Rattle.std.specs.Cmp.Rules.{comparing, hashing};
 ghost use Rattle.std.specs.Hash as fed;
-ghost use Rattle.std.specs.Prelude.{◌≡◌, ◌==◌, ◌≤◌, List, ℕ, IfOk, IsOk, IsTrue, ◌↔◌, length, Some, []};
-ghost use Rattle.std.specs.Str.{IsUtf8};
-ghost use Rattle.std.specs.String.{string_bytes, string_len};
+ghost use Rattle.std.specs.Prelude.{◌≡◌, ◌==◌, ◌≤◌, List, ℕ, IfOk, IsOk, IsTrue, ◌↔◌, length, Some, [], IsUtf8, string_bytes, string_len};
 
 use arrayvec::ArrayString;
 use std::alloc::{AllocError, Global};

@@ -1,8 +1,6 @@
 //! An offer that is answered.
 
-ghost use Rattle.std.specs.List.{slice_get};
-ghost use Rattle.std.specs.Prelude.{◌≡◌, ◌≢◌, ◌<◌, [], IfErr, IfOk, IfSome, List, None, Some, length, slice_set};
-ghost use Rattle.std.specs.String.{string_bytes};
+ghost use Rattle.std.specs.Prelude.{◌≡◌, ◌≢◌, ◌<◌, [], IfErr, IfOk, IfSome, List, None, Some, length, slice_set, slice_get, string_bytes};
 ghost use Rattle.str0m_formats.specs.round.RoundsRuns.{Outcome};
 ghost use Rattle.str0m_sdp.specs.declared.section.media_line.MediaLine.{MediaLine};
 ghost use Rattle.str0m_sdp.specs.declared.session.error.SdpError.TheVariants.{Memory};

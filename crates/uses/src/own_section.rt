@@ -1,8 +1,6 @@
 //! A section of one's own, made of nothing but values.
 
-ghost use Rattle.std.specs.List.{slice_get};
-ghost use Rattle.std.specs.Prelude.{◌≡◌, IfOk, IfSome, None, Some};
-ghost use Rattle.std.specs.String.{string_bytes};
+ghost use Rattle.std.specs.Prelude.{◌≡◌, IfOk, IfSome, None, Some, slice_get, string_bytes};
 ghost use Rattle.str0m_sdp.specs.declared.section.media_line.MediaLine.{MediaLine};
 ghost use Rattle.str0m_sdp.specs.session.Session.{sdp_text};
 ghost use Rattle.str0m_signal.specs.back.ReadBack.{MayBePrinted, ReadsBack, with_rows};

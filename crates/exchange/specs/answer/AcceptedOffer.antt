@@ -1,6 +1,5 @@
 -- The tracks that a description says (RFC 8830, section 2).
-use Rattle.std.specs.List.{flat_map}
-use Rattle.std.specs.Prelude.{ℕ, List, Option, Some, None, filter_map}
+use Rattle.std.specs.Prelude.{ℕ, List, Option, Some, None, filter_map, flat_map}
 use Rattle.str0m_sdp.specs.declared.attribute.MediaAttribute.{MediaAttribute}
 use Rattle.str0m_sdp.specs.declared.attribute.MediaAttribute.TheVariants.{Msid}
 use Rattle.str0m_sdp.specs.declared.section.media_line.MediaLine.{MediaLine}

@@ -1,7 +1,6 @@
 -- What is in force at a section: what it says itself, else what the session says for all sections.
-use Rattle.std.specs.List.{slice_get}
 use Rattle.std.specs.Option.{option_or}
-use Rattle.std.specs.Prelude.{ℕ, List, [], ◌∷◌, Option, Some, None, filter_map}
+use Rattle.std.specs.Prelude.{ℕ, List, [], ◌∷◌, Option, Some, None, filter_map, slice_get}
 use Rattle.str0m_sdp.specs.Common.{first}
 use Rattle.str0m_sdp.specs.declared.attribute.MediaAttribute.{MediaAttribute}
 use Rattle.str0m_sdp.specs.declared.attribute.SessionAttribute.{SessionAttribute}

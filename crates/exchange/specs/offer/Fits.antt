@@ -8,8 +8,7 @@ use Rattle.exchange.specs.declared.offer.rule.Rule.TheVariants as rule
 use Rattle.exchange.specs.offer.Rules.{SaysOnlyOffered}
 use Rattle.exchange.specs.section.Reached.{has_creds, has_fingerprint}
 use Rattle.exchange.specs.section.Stopped.{name_of}
-use Rattle.std.specs.List.{slice_get}
-use Rattle.std.specs.Prelude.{◌≡◌, ◌≢◌, ◌<◌, ◌⊎◌, ℕ, true, false, cond, List, [], ◌∷◌, Option, Some, None, All, filter_map, length, take}
+use Rattle.std.specs.Prelude.{◌≡◌, ◌≢◌, ◌<◌, ◌⊎◌, ℕ, true, false, cond, List, [], ◌∷◌, Option, Some, None, All, filter_map, length, take, slice_get}
 use Rattle.str0m_formats.specs.declared.row.payload_params.PayloadParams.{PayloadParams}
 use Rattle.str0m_sdp.specs.attribute.MediaType.{is_media}
 use Rattle.str0m_sdp.specs.declared.attribute.setup.Setup.TheVariants.{ActPass}

@@ -1,7 +1,6 @@
 -- Sections that share a name (RFC 5888, section 4).
 use Rattle.exchange.specs.section.Stopped.{name_of}
-use Rattle.std.specs.List.{slice_get}
-use Rattle.std.specs.Prelude.{◌≡◌, ℕ, true, List, Some, take}
+use Rattle.std.specs.Prelude.{◌≡◌, ℕ, true, List, Some, take, slice_get}
 use Rattle.str0m_sdp.specs.declared.section.media_line.MediaLine.{MediaLine}
 use Rattle.str0m_sdp.specs.session.SessionConsistency.{AreDistinct, is_listed, section_mids}
 

@@ -1,6 +1,5 @@
 -- Which sections are stopped, and which only share the transport of a bundle (RFC 9143, section 6).
-use Rattle.std.specs.List.{Contains, slice_get}
-use Rattle.std.specs.Prelude.{◌≡◌, ℕ, true, List, Option, Some, codes, filter_map}
+use Rattle.std.specs.Prelude.{◌≡◌, ℕ, true, List, Option, Some, codes, filter_map, Contains, slice_get}
 use Rattle.str0m_sdp.specs.Common.{first}
 use Rattle.str0m_sdp.specs.declared.attribute.MediaAttribute.TheVariants.{Unused}
 use Rattle.str0m_sdp.specs.declared.section.media_line.MediaLine.{MediaLine}

@@ -1,7 +1,6 @@
 //! Sections that accept.
 ghost use Rattle.exchange.specs.answer.Accepted.{AcceptsChannels, AcceptsMedia, are_layers_told, candidate_line, channel_lines, first_lines, framed, layer_lines, media_lines, msid_lines, setup_in_force, tells_layer, track_id};
-ghost use Rattle.std.specs.List.{flat_map};
-ghost use Rattle.std.specs.Prelude.{◌≡◌, ◌++◌, IfOk, OnOk, filter, map, not};
+ghost use Rattle.std.specs.Prelude.{◌≡◌, ◌++◌, IfOk, OnOk, filter, map, not, flat_map};
 ghost use Rattle.str0m_formats.specs.row.PayloadParams.{types, types_of};
 ghost use Rattle.str0m_sdp.specs.section.MadeSection.{is_of_type, made};
 ghost use Rattle.str0m_sdp.specs.section.RowAttributes.{row_attrs};

@@ -1,7 +1,6 @@
 //! The feedback that a section offers for each payload type, by one pass over its lines.
 ghost use Rattle.exchange.specs.answer.OfferedFeedback.{IsGathered, TellsOf, either, named, none, offered_feedback, with_words, words_for_all};
-ghost use Rattle.std.specs.Option.{option_copied};
-ghost use Rattle.std.specs.Prelude.{◌≡◌, ◌<◌, get_or, set};
+ghost use Rattle.std.specs.Prelude.{◌≡◌, ◌<◌, get_or, set, option_copied};
 
 use str0m_sdp::label::{FIR, NACK, PLI, REMB, TRANSPORT_CC};
 use str0m_signal::{MediaAttribute, MediaLine, Pt};

@@ -1,7 +1,6 @@
 //! The section that rejects an offered one.
 ghost use Rattle.exchange.specs.answer.RejectedSection.{direction_over, first_type, line_that, listed_alone, rejecting};
-ghost use Rattle.std.specs.Option.{option_copied};
-ghost use Rattle.std.specs.Prelude.{◌≡◌, ◌++◌, IfOk, OnOk, find, option_to_list};
+ghost use Rattle.std.specs.Prelude.{◌≡◌, ◌++◌, IfOk, OnOk, find, option_to_list, option_copied};
 ghost use Rattle.str0m_sdp.specs.section.Consistency.{Consistent, is_mid, maps};
 
 use std::alloc::{AllocError, Global};

@@ -1,8 +1,7 @@
 //! The places of an offer.
 ghost use Rattle.exchange.specs.offer.OfferPlaces.{FillsAll, but_first, over_section, theirs_at};
 ghost use Rattle.exchange.specs.offer.OfferSection.{new_section, next_section};
-ghost use Rattle.std.specs.Option.{option_copied};
-ghost use Rattle.std.specs.Prelude.{◌≡◌, ◌++◌, IfOk, if◌then◌else◌, map};
+ghost use Rattle.std.specs.Prelude.{◌≡◌, ◌++◌, IfOk, if◌then◌else◌, map, option_copied};
 
 use crate::answer::rejected_section::rejected;
 use crate::offer::added::Placed;

@@ -1,8 +1,7 @@
 //! Candidates as they are trickled.
 
 ghost use Rattle.exchange.specs.section.Trickled.{IsTrickled, as_line};
-ghost use Rattle.std.specs.Prelude.{◌≡◌, IfOk, []};
-ghost use Rattle.std.specs.String.{string_bytes};
+ghost use Rattle.std.specs.Prelude.{◌≡◌, IfOk, [], string_bytes};
 ghost use Rattle.str0m_signal.specs.form.CandidateLine.{IsCandidateLine};
 ghost use Rattle.str0m_signal.specs.line.Lines.{FirstLine};
 ghost use Rattle.str0m_signal.specs.session.ReaderAnswers.{Answers, AtMostOne, IsRefusal};

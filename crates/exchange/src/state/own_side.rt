@@ -1,7 +1,6 @@
 //! What this side says of itself.
 ghost use Rattle.exchange.specs.state.OwnSide.{direction_among, is_of, kind_direction, own_direction, said_of, with_direction};
-ghost use Rattle.std.specs.Option.{option_copied};
-ghost use Rattle.std.specs.Prelude.{◌≡◌, IfOk, find};
+ghost use Rattle.std.specs.Prelude.{◌≡◌, IfOk, find, option_copied};
 
 use crate::section::stopped::name_of;
 use std::alloc::{AllocError, Global};

@@ -1,9 +1,8 @@
 -- The parameters of formats: one table of keys, by which a key and its value are read and printed.
 use Rattle.std.specs.Borrow.{Bor}
-use Rattle.std.specs.Fmt.{decimal, digits}
-use Rattle.std.specs.Int.Bits.{bit_and}
+use Rattle.std.specs.Fmt.{digits}
 use Rattle.std.specs.List.{slice_split, join_with_byte, range_with_len}
-use Rattle.std.specs.Prelude.{◌≡◌, ◌↔◌, ◌≤◌, ◌<◌, ◌^◌, ◌-◌, ◌==◌, ℕ, Bool, true, false, not, List, [], ◌∷◌, ◌++◌, length, replicate, map, filter, codes, IsTrue, IsBitSet, Any, All, Option, Some, None, MatchOption}
+use Rattle.std.specs.Prelude.{◌≡◌, ◌↔◌, ◌≤◌, ◌<◌, ◌^◌, ◌-◌, ◌==◌, ℕ, Bool, true, false, not, List, [], ◌∷◌, ◌++◌, length, replicate, map, filter, codes, IsTrue, IsBitSet, Any, All, Option, Some, None, MatchOption, decimal, bit_and}
 use Rattle.std.specs.Str.{trim}
 use Rattle.std.specs.Str.Parse.{IsNumeral, digits_value}
 use Rattle.str0m_formats.specs.codec.Codec.{IsSameText}

@@ -1,9 +1,8 @@
 -- Reading of keys and values as functions.
 use Rattle.std.specs.Char.{digit_value}
-use Rattle.std.specs.Int.Bits.{bit_or}
 use Rattle.std.specs.List.{slice_split}
-use Rattle.std.specs.Prelude.{ℕ, ◌==◌, ◌^◌, ◌&&◌, Bool, true, List, [], ◌∷◌, map, Option, Some, None, codes, option_map, unwrap_or, find, nat_le, nat_lt}
-use Rattle.std.specs.Str.{bytes_eq, str_eq_ignore_ascii_case, trim}
+use Rattle.std.specs.Prelude.{ℕ, ◌==◌, ◌^◌, ◌&&◌, Bool, true, List, [], ◌∷◌, map, Option, Some, None, codes, option_map, unwrap_or, find, nat_le, nat_lt, bit_or, bytes_eq}
+use Rattle.std.specs.Str.{str_eq_ignore_ascii_case, trim}
 use Rattle.std.specs.Str.Parse.{digits_value, without_leading_plus}
 use Rattle.str0m_formats.specs.declared.format.format_key.FormatKey.{FormatKey}
 use Rattle.str0m_formats.specs.declared.format.format_key.FormatKey.TheVariants.{Apt}

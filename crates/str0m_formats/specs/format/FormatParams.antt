@@ -1,6 +1,6 @@
 -- Formats: what each field holds, which parameter sets it, and how a format prints.
-use Rattle.std.specs.List.{join_with_byte, fold}
-use Rattle.std.specs.Prelude.{◌≡◌, ◌⊎◌, ◌≤◌, ℕ, List, map, Option, Some, None, IfSome, option_map, filter_map}
+use Rattle.std.specs.List.{join_with_byte}
+use Rattle.std.specs.Prelude.{◌≡◌, ◌⊎◌, ◌≤◌, ℕ, List, map, Option, Some, None, IfSome, option_map, filter_map, fold}
 use Rattle.str0m_formats.specs.declared.format.format_key.FormatKey.{FormatKey}
 use Rattle.str0m_formats.specs.declared.format.format_key.FormatKey.TheVariants as key
 use Rattle.str0m_formats.specs.declared.format.format_param.FormatParam.{FormatParam}

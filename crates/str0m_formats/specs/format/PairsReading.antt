@@ -1,8 +1,7 @@
 -- Reading of pairs as functions.
 use Rattle.std.specs.Borrow.{Bor}
 use Rattle.std.specs.List.{cons_option}
-use Rattle.std.specs.Prelude.{ℕ, String, List, map, Option, Some, None, option_map, if◌then◌else◌}
-use Rattle.std.specs.String.{string_bytes}
+use Rattle.std.specs.Prelude.{ℕ, String, List, map, Option, Some, None, option_map, if◌then◌else◌, string_bytes}
 use Rattle.str0m_values.specs.Cuts.{◌>>=◌, ◌<|>◌, num}
 pub use Rattle.str0m_values.specs.CutsParts.{lay}
 pub use Rattle.str0m_values.specs.H265.{tables as h265_tables}

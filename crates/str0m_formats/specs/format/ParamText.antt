@@ -1,6 +1,5 @@
 -- How the value after a key prints, as the printer takes it.
-use Rattle.std.specs.Fmt.{decimal}
-use Rattle.std.specs.Prelude.{ℕ, List, [], ◌++◌, codes, Option, Some, None}
+use Rattle.std.specs.Prelude.{ℕ, List, [], ◌++◌, codes, Option, Some, None, decimal}
 use Rattle.str0m_formats.specs.declared.format.format_key.FormatKey.{FormatKey}
 use Rattle.str0m_formats.specs.declared.format.param_text.Value.{Value}
 use Rattle.str0m_formats.specs.declared.format.param_text.Value.TheVariants.{Flag, Number, SixDigits, Modes}

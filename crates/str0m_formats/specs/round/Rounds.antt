@@ -1,6 +1,5 @@
 -- A round of negotiation: what it leaves, or why it is refused, read off finished lists of rows.
-use Rattle.std.specs.Option.{ok_or}
-use Rattle.std.specs.Prelude.{◌≡◌, ◌≤◌, ℕ, Bool, true, ◌&&◌, Option, Some, None, Result, Ok, Err, List, ◌∷◌, ◌++◌, length, take, slice_get, find, nat_lt, if◌then◌else◌}
+use Rattle.std.specs.Prelude.{◌≡◌, ◌≤◌, ℕ, Bool, true, ◌&&◌, Option, Some, None, Result, Ok, Err, List, ◌∷◌, ◌++◌, length, take, slice_get, find, nat_lt, if◌then◌else◌, ok_or}
 use Rattle.str0m_formats.specs.codec.Codec.{Content, audio, content}
 use Rattle.str0m_formats.specs.declared.round.negotiation_error.NegotiationError.{NegotiationError}
 use Rattle.str0m_formats.specs.declared.round.negotiation_error.NegotiationError.TheVariants.{TypeTooLarge, ClaimedTwice, Exhausted}

@@ -1,6 +1,5 @@
 -- The default rows of each codec, and the lists that they make.
-use Rattle.std.specs.List.{Contains, flat_map}
-use Rattle.std.specs.Prelude.{◌≡◌, ℕ, Bool, true, false, not, Option, Some, None, List, [], ◌∷◌, ◌++◌, map, filter, All, Result, OnOk, OnErr, IsOk, if◌then◌else◌}
+use Rattle.std.specs.Prelude.{◌≡◌, ℕ, Bool, true, false, not, Option, Some, None, List, [], ◌∷◌, ◌++◌, map, filter, All, Result, OnOk, OnErr, IsOk, if◌then◌else◌, Contains, flat_map}
 use Rattle.std.specs.declared.alloc.AllocError.{AllocError}
 use Rattle.str0m_formats.specs.codec.Codec.{static_row}
 use Rattle.str0m_formats.specs.declared.codec.Codec.{Codec}

@@ -1,7 +1,5 @@
 -- Rows: which a call makes, when two are the same, and the payload types that they hold.
-use Rattle.std.specs.List.{flat_map}
-use Rattle.std.specs.Option.{option_to_list}
-use Rattle.std.specs.Prelude.{◌≡◌, find, nat_lt, ℕ, Bool, true, false, not, Option, None, List, ◌∷◌, ◌++◌, filter}
+use Rattle.std.specs.Prelude.{◌≡◌, find, nat_lt, ℕ, Bool, true, false, not, Option, None, List, ◌∷◌, ◌++◌, filter, flat_map, option_to_list}
 use Rattle.str0m_formats.specs.codec.Codec.{Content, content, video}
 use Rattle.str0m_formats.specs.declared.codec.Codec.TheVariants.{Null}
 use Rattle.str0m_formats.specs.declared.codec.codec_spec.CodecSpec.{CodecSpec}

@@ -1,7 +1,7 @@
 -- How far back the redundant levels of RED reach (RFC 2198, section 3).
-use Rattle.std.specs.List.{Contains, list_any, range_with_len}
+use Rattle.std.specs.List.{list_any, range_with_len}
 use Rattle.std.specs.List.Sorted.{IsStrictlyIncreasing}
-use Rattle.std.specs.Prelude.{◌≡◌, ◌==◌, ◌↔◌, ◌⊎◌, ◌≤◌, ℕ, Bool, ◌||◌, List, ◌∷◌, filter, All}
+use Rattle.std.specs.Prelude.{◌≡◌, ◌==◌, ◌↔◌, ◌⊎◌, ◌≤◌, ℕ, Bool, ◌||◌, List, ◌∷◌, filter, All, Contains}
 
 -- a distance is kept: it is 1, or it was given and is 1 to 16
 abbrev pub IsKept : List ℕ → ℕ → Type 0

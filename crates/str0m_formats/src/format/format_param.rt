@@ -1,6 +1,5 @@
 //! The parameters of formats, and how they are read.
-ghost use Rattle.std.specs.Prelude.{◌≡◌, IfOk, codes, option_map};
-ghost use Rattle.std.specs.Str.{bytes_eq};
+ghost use Rattle.std.specs.Prelude.{◌≡◌, IfOk, codes, option_map, bytes_eq};
 ghost use Rattle.str0m_formats.specs.declared.format.format_param.FormatParam.{FormatParam};
 ghost use Rattle.str0m_formats.specs.declared.format.format_param.FormatParam.TheVariants.{AmrWbUnsupported};
 ghost use Rattle.str0m_formats.specs.format.FormatParam.{IsMode, IsModeSet, IsParsed, IsEventRange, IsBare, IsPrinted, pair_texts, entry, entry_text};

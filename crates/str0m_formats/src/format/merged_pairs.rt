@@ -2,9 +2,8 @@
 //! a sort, whoever chose them. A table whose hash is known has to look at all that were chosen to fall
 //! together.
 ghost use Rattle.indexmap.specs.IndexMap.{insert_entry, insert_all, set_value_at};
-ghost use Rattle.std.specs.Prelude.{◌≡◌, ◌<◌, [], IfOk, IfSome, OnOk, length, map, vec_len};
-ghost use Rattle.std.specs.Str.{bytes_eq, str_to_ascii_lowercase};
-ghost use Rattle.std.specs.String.{string_bytes};
+ghost use Rattle.std.specs.Prelude.{◌≡◌, ◌<◌, [], IfOk, IfSome, OnOk, length, map, vec_len, bytes_eq, string_bytes};
+ghost use Rattle.std.specs.Str.{str_to_ascii_lowercase};
 ghost use Rattle.str0m_formats.specs.format.FormatParam.{pair_texts};
 ghost use Rattle.str0m_formats.specs.format.MergedPairs.{HasPlaces, IsPlace};
 ghost use Rattle.str0m_formats.specs.format.PairsReading.{entry_texts};

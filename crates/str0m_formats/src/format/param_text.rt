@@ -1,6 +1,5 @@
 //! How parameters of formats print.
-ghost use Rattle.std.specs.Fmt.{decimal};
-ghost use Rattle.std.specs.Prelude.{◌≡◌, ◌++◌, Some, codes};
+ghost use Rattle.std.specs.Prelude.{◌≡◌, ◌++◌, Some, codes, decimal};
 ghost use Rattle.str0m_formats.specs.format.FormatParam.{entry, entry_text, flag_text, mode_list, param_text, part_if, six_digits, triple_text};
 ghost use Rattle.str0m_formats.specs.format.ParamText.{shown};
 

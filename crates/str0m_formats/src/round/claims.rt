@@ -1,7 +1,6 @@
 //! What a round has claimed: which remote row a row then goes with, and which types it may take.
 ghost use Rattle.std.specs.Bool.{OnTrue, OnFalse};
-ghost use Rattle.std.specs.Option.{option_copied};
-ghost use Rattle.std.specs.Prelude.{◌≡◌, ◌≤◌, IfOk, IfSome, not};
+ghost use Rattle.std.specs.Prelude.{◌≡◌, ◌≤◌, IfOk, IfSome, not, option_copied};
 ghost use Rattle.str0m_formats.specs.codec.Codec.{content};
 ghost use Rattle.str0m_formats.specs.round.Choices.{points_for, IsChoice};
 ghost use Rattle.str0m_formats.specs.round.Claimed.{with_type, with_option, either, free};

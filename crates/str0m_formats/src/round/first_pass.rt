@@ -1,6 +1,5 @@
 //! The first pass of a round: each row that is matched is locked.
-ghost use Rattle.std.specs.Option.{option_copied};
-ghost use Rattle.std.specs.Prelude.{◌≡◌, Ok, IfErr, IfSome, OnOk, not, ◌&&◌, if◌then◌else◌, true};
+ghost use Rattle.std.specs.Prelude.{◌≡◌, Ok, IfErr, IfSome, OnOk, not, ◌&&◌, if◌then◌else◌, true, option_copied};
 ghost use Rattle.str0m_formats.specs.round.Claimed.{has, either};
 ghost use Rattle.str0m_formats.specs.round.Narrowing.{narrowed};
 ghost use Rattle.str0m_formats.specs.round.Rounds.{and_then, locked_to, placed, taken_by, MayBegin, Begun, StopsFirst};

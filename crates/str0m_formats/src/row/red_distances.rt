@@ -13,7 +13,7 @@ pub(crate) struct RedDistances {
 }
 
 impl Model for RedDistances {
-    ghost use Rattle.std.specs.Prelude.{List, ℕ, take, ◌≤◌};
+    ghost use Rattle.std.specs.Prelude.{List, take, ℕ, ◌≤◌};
     ghost use Rattle.str0m_formats.specs.row.RedDistances.{AreDistances};
 
     ghost Value = { List ℕ };

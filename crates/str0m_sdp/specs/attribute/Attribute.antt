@@ -1,7 +1,5 @@
 -- What attributes print: a line for each form (RFC 8866, sections 5.13 and 6). And which of them are a word alone.
-use Rattle.std.specs.Fmt.{decimal}
-use Rattle.std.specs.Prelude.{◌<◌, ◌^◌, ℕ, List, [], ◌∷◌, ◌++◌, Option, None, All, codes}
-use Rattle.std.specs.Str.{bytes_eq, IsUtf8}
+use Rattle.std.specs.Prelude.{◌<◌, ◌^◌, ℕ, List, [], ◌∷◌, ◌++◌, Option, None, All, codes, decimal, bytes_eq, IsUtf8}
 use Rattle.str0m_formats.specs.row.PlainRowBounds.{IsByte}
 use Rattle.str0m_sdp.specs.attribute.AttributeFits.{AreTexts, FitsCandidate, FitsFingerprint, FitsLayer, FitsParam, FitsRtpMap, IsMidText, IsPortNumber, IsSourceNumber}
 use Rattle.str0m_sdp.specs.attribute.ExtMap.{ext_map_text}

@@ -1,7 +1,6 @@
 -- Values whose numbers and texts fit the types of their fields. Every value that a program holds does; definitions speak of
 -- numbers and bytes without a limit, so what is promised of every value is promised of those that fit.
-use Rattle.std.specs.Prelude.{◌<◌, ◌≤◌, ◌^◌, ℕ, List, length, All, IfSome}
-use Rattle.std.specs.Str.{IsUtf8}
+use Rattle.std.specs.Prelude.{◌<◌, ◌≤◌, ◌^◌, ℕ, List, length, All, IfSome, IsUtf8}
 use Rattle.str0m_formats.specs.declared.format.format_param.FormatParam.{FormatParam}
 use Rattle.str0m_formats.specs.declared.format.format_param.FormatParam.TheVariants as param
 use Rattle.str0m_formats.specs.format.FormatParam.{kind, entry}

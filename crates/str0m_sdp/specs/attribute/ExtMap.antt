@@ -1,6 +1,5 @@
 -- What the mapping of a header extension prints (RFC 8285, section 5).
-use Rattle.std.specs.Fmt.{decimal}
-use Rattle.std.specs.Prelude.{ℕ, Bool, true, false, List, [], ◌++◌, codes}
+use Rattle.std.specs.Prelude.{ℕ, Bool, true, false, List, [], ◌++◌, codes, decimal}
 use Rattle.str0m_sdp.specs.declared.label.TheConstants as label
 use Rattle.str0m_sdp.specs.form.Printed.{attribute_line}
 use Rattle.str0m_values.specs.declared.extension.Extension.{Extension}

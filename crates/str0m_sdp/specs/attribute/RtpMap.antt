@@ -1,6 +1,5 @@
 -- The mapping of a payload type: as it prints, and as the codec that it names.
-use Rattle.std.specs.Fmt.{decimal}
-use Rattle.std.specs.Prelude.{ℕ, List, [], ◌++◌, ◌==◌, Option, Some, None, codes, if◌then◌else◌}
+use Rattle.std.specs.Prelude.{ℕ, List, [], ◌++◌, ◌==◌, Option, Some, None, codes, if◌then◌else◌, decimal}
 use Rattle.str0m_formats.specs.codec.Codec.{codec_text}
 use Rattle.str0m_formats.specs.codec.CodecSpec.{rtp_rate}
 use Rattle.str0m_formats.specs.declared.codec.Codec.{Codec}

@@ -1,7 +1,6 @@
 -- What a group of sources prints (RFC 5576, section 4.2).
-use Rattle.std.specs.Fmt.{decimal}
 use Rattle.std.specs.List.{join_by}
-use Rattle.std.specs.Prelude.{ℕ, List, [], ◌∷◌, ◌++◌, codes}
+use Rattle.std.specs.Prelude.{ℕ, List, [], ◌∷◌, ◌++◌, codes, decimal}
 use Rattle.str0m_sdp.specs.declared.label.TheConstants as label
 use Rattle.str0m_sdp.specs.form.Printed.{attribute_line}
 

@@ -1,6 +1,5 @@
 -- What the line of an attribute prints, by the kind of what it is made of.
-use Rattle.std.specs.Fmt.{decimal}
-use Rattle.std.specs.Prelude.{ℕ, List, ◌++◌, codes}
+use Rattle.std.specs.Prelude.{ℕ, List, ◌++◌, codes, decimal}
 use Rattle.str0m_sdp.specs.attribute.ExtMap.{ext_map_text}
 use Rattle.str0m_sdp.specs.attribute.Fmtp.{fmtp_text}
 use Rattle.str0m_sdp.specs.attribute.Group.{group_text, msid_semantic_text}

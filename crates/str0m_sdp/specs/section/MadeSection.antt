@@ -1,6 +1,5 @@
 -- The section that rows make of a frame.
-use Rattle.std.specs.List.{flat_map}
-use Rattle.std.specs.Prelude.{Bool, true, false, not, List, ◌++◌, filter}
+use Rattle.std.specs.Prelude.{Bool, true, false, not, List, ◌++◌, filter, flat_map}
 use Rattle.str0m_formats.specs.declared.row.payload_params.PayloadParams.{PayloadParams}
 use Rattle.str0m_formats.specs.row.PayloadParams.{types}
 use Rattle.str0m_sdp.specs.declared.attribute.MediaAttribute.{MediaAttribute}

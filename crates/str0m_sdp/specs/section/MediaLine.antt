@@ -1,7 +1,6 @@
 -- What sections print (RFC 8866, section 5.14).
-use Rattle.std.specs.Fmt.{decimal}
-use Rattle.std.specs.List.{flat_map, join_by}
-use Rattle.std.specs.Prelude.{ℕ, Bool, true, false, List, [], ◌∷◌, ◌++◌, codes}
+use Rattle.std.specs.List.{join_by}
+use Rattle.std.specs.Prelude.{ℕ, Bool, true, false, List, [], ◌∷◌, ◌++◌, codes, decimal, flat_map}
 use Rattle.str0m_sdp.specs.attribute.Attribute.{media_attribute_text}
 use Rattle.str0m_sdp.specs.attribute.Bandwidth.{bandwidth_line}
 use Rattle.str0m_sdp.specs.attribute.MediaType.{media_type_text}

@@ -1,7 +1,6 @@
 -- The direction of a section (RFC 8866, section 6.7).
 use Rattle.std.specs.List.{position_or_len}
-use Rattle.std.specs.Option.{unwrap_or}
-use Rattle.std.specs.Prelude.{List, Option, Some, None, filter_map, slice_set}
+use Rattle.std.specs.Prelude.{List, Option, Some, None, filter_map, slice_set, unwrap_or}
 use Rattle.str0m_sdp.specs.Common.{first}
 use Rattle.str0m_sdp.specs.attribute.Attribute.{direction_attribute}
 use Rattle.str0m_sdp.specs.declared.attribute.MediaAttribute.{MediaAttribute}

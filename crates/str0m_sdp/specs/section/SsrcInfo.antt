@@ -1,8 +1,7 @@
 -- What a section says of each of its sources (RFC 5576).
-use Rattle.std.specs.List.{filter_map}
-use Rattle.std.specs.Option.{option_map, option_flatten}
-use Rattle.std.specs.Prelude.{ℕ, ◌==◌, ◌&&◌, nat_eq, List, [], ◌∷◌, ◌++◌, map, Option, Some, None, codes, if◌then◌else◌}
-use Rattle.std.specs.Str.{trim, bytes_eq, str_eq_ignore_ascii_case}
+use Rattle.std.specs.Option.{option_flatten}
+use Rattle.std.specs.Prelude.{ℕ, ◌==◌, ◌&&◌, nat_eq, List, [], ◌∷◌, ◌++◌, map, Option, Some, None, codes, if◌then◌else◌, filter_map, option_map, bytes_eq}
+use Rattle.std.specs.Str.{trim, str_eq_ignore_ascii_case}
 use Rattle.str0m_sdp.specs.Common.{last, distinct}
 use Rattle.str0m_sdp.specs.declared.attribute.MediaAttribute.{MediaAttribute}
 use Rattle.str0m_sdp.specs.declared.attribute.MediaAttribute.TheVariants.{Ssrc, SsrcGroup}

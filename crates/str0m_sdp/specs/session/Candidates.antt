@@ -1,6 +1,5 @@
 -- The candidates that a description lists (RFC 8839, section 5.1).
-use Rattle.std.specs.List.{filter_map, flat_map}
-use Rattle.std.specs.Prelude.{Bool, List, ◌++◌, Option, Some, None}
+use Rattle.std.specs.Prelude.{Bool, List, ◌++◌, Option, Some, None, filter_map, flat_map}
 use Rattle.str0m_sdp.specs.declared.attribute.MediaAttribute.{MediaAttribute}
 use Rattle.str0m_sdp.specs.declared.attribute.MediaAttribute.TheVariants as media
 use Rattle.str0m_sdp.specs.declared.attribute.SessionAttribute.{SessionAttribute}

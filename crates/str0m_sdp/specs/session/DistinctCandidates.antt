@@ -1,6 +1,5 @@
 -- The candidates of a whole description, each once.
-use Rattle.std.specs.List.{AllPairs, Contains}
-use Rattle.std.specs.Prelude.{◌≢◌, ◌↔◌, List, map}
+use Rattle.std.specs.Prelude.{◌≢◌, ◌↔◌, List, map, AllPairs, Contains}
 use Rattle.std.specs.Vec.Iter.{into_iter_items}
 use Rattle.str0m_sdp.specs.declared.session.distinct_candidates.DistinctCandidates.{DistinctCandidates}
 use Rattle.str0m_values.specs.declared.candidate.Candidate.{Candidate}

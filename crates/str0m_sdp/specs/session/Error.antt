@@ -1,6 +1,5 @@
 -- What is said of why a session description is refused.
-use Rattle.std.specs.Prelude.{ℕ, List, codes, ◌++◌}
-use Rattle.std.specs.String.{string_bytes}
+use Rattle.std.specs.Prelude.{ℕ, List, codes, ◌++◌, string_bytes}
 use Rattle.str0m_sdp.specs.declared.session.error.SdpError.{SdpError}
 use Rattle.str0m_sdp.specs.declared.session.error.SdpError.TheVariants.{ParseError, Inconsistent, Memory}
 

@@ -1,6 +1,5 @@
 -- Which fault of a section is told, where it isn't consistent, and what the message says.
-use Rattle.std.specs.Fmt.{decimal}
-use Rattle.std.specs.Prelude.{ℕ, not, ◌==◌, ◌&&◌, nat_lt, is_some, List, ◌++◌, codes, length, filter_map, count_by, if◌then◌else◌, Option, Some, None, option_map, Result, Ok, Err}
+use Rattle.std.specs.Prelude.{ℕ, not, ◌==◌, ◌&&◌, nat_lt, is_some, List, ◌++◌, codes, length, filter_map, count_by, if◌then◌else◌, Option, Some, None, option_map, Result, Ok, Err, decimal}
 use Rattle.str0m_formats.specs.codec.CodecSpec.{static_spec}
 use Rattle.str0m_formats.specs.declared.format.format_param.FormatParam.{FormatParam}
 use Rattle.str0m_sdp.specs.Common.{first}

@@ -1,8 +1,5 @@
 -- What a session description prints (RFC 8866, section 5).
-use Rattle.std.specs.Fmt.{decimal}
-use Rattle.std.specs.List.{flat_map}
-use Rattle.std.specs.Prelude.{◌<◌, ◌^◌, ℕ, List, ◌++◌, All, IfSome, codes}
-use Rattle.std.specs.Str.{IsUtf8}
+use Rattle.std.specs.Prelude.{◌<◌, ◌^◌, ℕ, List, ◌++◌, All, IfSome, codes, decimal, flat_map, IsUtf8}
 use Rattle.str0m_formats.specs.row.PlainRowBounds.{IsByte}
 use Rattle.str0m_sdp.specs.attribute.Attribute.{FitsMediaAttribute, FitsSessionAttribute, session_attribute_text}
 use Rattle.str0m_sdp.specs.attribute.AttributeFits.{FitsBandwidth}

@@ -1,7 +1,6 @@
 -- Which sessions are consistent.
-use Rattle.std.specs.List.{AllPairs, list_any}
-use Rattle.std.specs.Prelude.{◌≡◌, ◌≢◌, ◌≤◌, ℕ, Bool, false, not, ◌||◌, List, filter, filter_map, length, Option, Some, None, MatchOption, All, Result, Ok, Err}
-use Rattle.std.specs.Str.{bytes_eq}
+use Rattle.std.specs.List.{list_any}
+use Rattle.std.specs.Prelude.{◌≡◌, ◌≢◌, ◌≤◌, ℕ, Bool, false, not, ◌||◌, List, filter, filter_map, length, Option, Some, None, MatchOption, All, Result, Ok, Err, AllPairs, bytes_eq}
 use Rattle.str0m_sdp.specs.Common.{first}
 use Rattle.str0m_sdp.specs.declared.attribute.SessionAttribute.{SessionAttribute}
 use Rattle.str0m_sdp.specs.declared.attribute.SessionAttribute.TheVariants.{Group}

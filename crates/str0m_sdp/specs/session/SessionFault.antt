@@ -1,9 +1,5 @@
 -- Which fault of a session is told, where it isn't consistent, and what the message says.
-use Rattle.std.specs.Fmt.{decimal}
-use Rattle.std.specs.List.{zip}
-use Rattle.std.specs.Prelude.{◌≡◌, ℕ, not, ◌==◌, List, [], ◌∷◌, ◌++◌, codes, length, find, filter_map, Option, Some, None, option_map}
-use Rattle.std.specs.Str.{bytes_eq}
-use Rattle.std.specs.String.{string_bytes}
+use Rattle.std.specs.Prelude.{◌≡◌, ℕ, not, ◌==◌, List, [], ◌∷◌, ◌++◌, codes, length, find, filter_map, Option, Some, None, option_map, decimal, zip, bytes_eq, string_bytes}
 use Rattle.str0m_sdp.specs.Common.{first}
 use Rattle.str0m_sdp.specs.declared.section.media_line.MediaLine.{MediaLine}
 use Rattle.str0m_sdp.specs.declared.session.Sdp.{Sdp}

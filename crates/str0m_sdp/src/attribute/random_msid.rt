@@ -1,6 +1,5 @@
 //! Ids of streams and tracks that a generator draws.
-ghost use Rattle.std.specs.Prelude.{◌≡◌, ◌≤◌, ◌<◌, IfOk, OnOk, OnErr, []};
-ghost use Rattle.std.specs.String.{string_bytes, string_capacity};
+ghost use Rattle.std.specs.Prelude.{◌≡◌, ◌≤◌, ◌<◌, IfOk, OnOk, OnErr, [], string_bytes, string_capacity};
 ghost use Rattle.str0m_sdp.specs.attribute.RandomMsid.{after_words, letter_of, random_id};
 
 use crate::attribute::msid::Msid;

@@ -1,6 +1,5 @@
 //! Streams that are sent and received in several layers.
-ghost use Rattle.std.specs.Prelude.{◌≡◌, IfOk, Some, [], true, refl};
-ghost use Rattle.std.specs.String.{string_bytes};
+ghost use Rattle.std.specs.Prelude.{◌≡◌, IfOk, Some, [], true, refl, string_bytes};
 ghost use Rattle.str0m_sdp.specs.attribute.Simulcast.{id_text, inverted, layer_text, layers_text, sides_text, simulcast_text};
 
 use crate::form::printed::{Joined, Labelled, Printed};

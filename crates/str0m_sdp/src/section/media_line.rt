@@ -1,6 +1,5 @@
 //! The sections of a session description.
-ghost use Rattle.std.specs.Prelude.{◌≡◌, [], IfOk, None, Some, false, refl};
-ghost use Rattle.std.specs.String.{string_bytes};
+ghost use Rattle.std.specs.Prelude.{◌≡◌, [], IfOk, None, Some, false, refl, string_bytes};
 ghost use Rattle.str0m_sdp.specs.declared.attribute.media_type.MediaType.TheVariants.{Audio};
 ghost use Rattle.str0m_sdp.specs.declared.attribute.proto.Proto.TheVariants.{Srtp};
 ghost use Rattle.str0m_sdp.specs.section.MediaLine.{formats_text, m_line, media_line_text, port_text, pts_text};

@@ -1,7 +1,6 @@
 //! The candidates of sessions and of sections.
 ghost use Rattle.std.specs.Iterator.{YieldsFirstRef, item_count};
-ghost use Rattle.std.specs.List.{filter_map};
-ghost use Rattle.std.specs.Prelude.{◌≡◌, [], ◌∷◌, MatchOption};
+ghost use Rattle.std.specs.Prelude.{◌≡◌, [], ◌∷◌, MatchOption, filter_map};
 
 use crate::attribute::{MediaAttribute, SessionAttribute};
 use crate::session::transport::TransportAttribute;

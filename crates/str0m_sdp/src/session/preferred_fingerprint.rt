@@ -1,6 +1,5 @@
 //! Which of several fingerprints is preferred.
-ghost use Rattle.std.specs.Option.{option_copied};
-ghost use Rattle.std.specs.Prelude.{◌≡◌, IfOk, filter_map};
+ghost use Rattle.std.specs.Prelude.{◌≡◌, IfOk, filter_map, option_copied};
 ghost use Rattle.str0m_sdp.specs.session.PreferredFingerprint.{better, preferred};
 
 use crate::session::transport::TransportAttribute;

@@ -1,7 +1,5 @@
 //! Which sessions are consistent.
-ghost use Rattle.std.specs.Prelude.{◌≡◌, ◌==◌, ◌++◌, IfErr, IfOk, IsOk, None, Ok, OnOk, filter_map, length, not, option_map, option_to_list, Some};
-ghost use Rattle.std.specs.Str.{bytes_eq};
-ghost use Rattle.std.specs.String.{string_bytes};
+ghost use Rattle.std.specs.Prelude.{◌≡◌, ◌==◌, ◌++◌, IfErr, IfOk, IsOk, None, Ok, OnOk, filter_map, length, not, option_map, option_to_list, Some, bytes_eq, string_bytes};
 ghost use Rattle.str0m_sdp.specs.declared.session.fault.SessionFault.TheVariants.{Count, Order};
 ghost use Rattle.str0m_sdp.specs.session.OrderedMids.{is_part, part_mid};
 ghost use Rattle.str0m_sdp.specs.session.SessionConsistency.{AreFew, ConsistentSdp, IsContradiction, SaysWhether, first_group, is_listed, parts, section_mid, section_mids, takes_part};

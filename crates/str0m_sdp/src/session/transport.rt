@@ -1,7 +1,6 @@
 //! What sessions and sections both say of their transport.
 ghost use Rattle.std.specs.List.{list_any};
-ghost use Rattle.std.specs.Option.{option_copied, option_map};
-ghost use Rattle.std.specs.Prelude.{◌≡◌, Bool, IfOk, List, Option, filter_map, ℕ};
+ghost use Rattle.std.specs.Prelude.{◌≡◌, Bool, IfOk, List, Option, filter_map, ℕ, option_copied, option_map};
 ghost use Rattle.str0m_sdp.specs.Common.{first};
 ghost use Rattle.str0m_sdp.specs.declared.attribute.setup.Setup.{Setup};
 ghost use Rattle.str0m_sdp.specs.session.Candidates.{session_candidate, media_candidate};

@@ -1,6 +1,6 @@
 -- Rows that are printed in a session and read again.
-use Rattle.std.specs.List.{slice_get, AllZip}
-use Rattle.std.specs.Prelude.{◌≡◌, ◌≢◌, ℕ, true, List, [], Some, slice_set, All}
+use Rattle.std.specs.List.{AllZip}
+use Rattle.std.specs.Prelude.{◌≡◌, ◌≢◌, ℕ, true, List, [], Some, slice_set, All, slice_get}
 use Rattle.str0m_formats.specs.declared.row.payload_params.PayloadParams.{PayloadParams}
 use Rattle.str0m_formats.specs.round.Claimed.{AllDistinct}
 use Rattle.str0m_formats.specs.row.PayloadParams.{SameRow, types}

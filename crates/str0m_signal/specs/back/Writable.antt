@@ -1,6 +1,5 @@
 -- Sessions whose printed text is read line by line as what they hold, up to one section's rows.
-use Rattle.std.specs.List.{slice_get}
-use Rattle.std.specs.Prelude.{◌≡◌, ◌≢◌, ◌≤◌, ◌⊎◌, ℕ, Bool, not, List, [], ◌∷◌, ◌++◌, Option, Some, None, IfSome, All, count_by, true, false, filter}
+use Rattle.std.specs.Prelude.{◌≡◌, ◌≢◌, ◌≤◌, ◌⊎◌, ℕ, Bool, not, List, [], ◌∷◌, ◌++◌, Option, Some, None, IfSome, All, count_by, true, false, filter, slice_get}
 use Rattle.str0m_sdp.specs.attribute.Attribute.{session_attribute_text, media_attribute_text}
 use Rattle.str0m_sdp.specs.attribute.Bandwidth.{bandwidth_text}
 use Rattle.str0m_sdp.specs.declared.attribute.MediaAttribute.{MediaAttribute}

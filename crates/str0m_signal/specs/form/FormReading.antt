@@ -1,7 +1,6 @@
 -- Reading of the pieces that forms share, as functions.
 use Rattle.std.specs.List.{slice_split}
-use Rattle.std.specs.Prelude.{ℕ, List, [], ◌∷◌, ◌==◌, Option, Some, None, codes, is_some, if◌then◌else◌}
-use Rattle.std.specs.Str.{bytes_eq}
+use Rattle.std.specs.Prelude.{ℕ, List, [], ◌∷◌, ◌==◌, Option, Some, None, codes, is_some, if◌then◌else◌, bytes_eq}
 use Rattle.str0m_values.specs.Cuts.{◌>>=◌, cut, strip, when, is_rest, num}
 
 -- a value where the text is this word

@@ -1,7 +1,6 @@
 -- The names of streams that may be restricted.
 use Rattle.std.specs.List.{list_all}
-use Rattle.std.specs.Prelude.{◌≡◌, ◌||◌, ◌&&◌, ℕ, Bool, true, false, List}
-use Rattle.std.specs.Str.{chars}
+use Rattle.std.specs.Prelude.{◌≡◌, ◌||◌, ◌&&◌, ℕ, Bool, true, false, List, chars}
 use Rattle.str0m_values.specs.Cuts.{is_rest, lacks}
 use Rattle.str0m_values.specs.CutsParts.{IsRest, Lacks}
 use Rattle.ucd_category.specs.declared.GeneralCategory.{GeneralCategory}

@@ -1,6 +1,5 @@
 -- Reading of a header's lines as functions.
-use Rattle.std.specs.Prelude.{ℕ, List, [], ◌∷◌, Option, Some, None, codes}
-use Rattle.std.specs.Str.{bytes_eq}
+use Rattle.std.specs.Prelude.{ℕ, List, [], ◌∷◌, Option, Some, None, codes, bytes_eq}
 use Rattle.str0m_signal.specs.form.FormReading.{digits_read}
 use Rattle.str0m_signal.specs.line.Lines.{Line}
 use Rattle.str0m_signal.specs.line.LinesReading.{line_read}

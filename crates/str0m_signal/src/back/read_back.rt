@@ -1,7 +1,6 @@
 //! What is printed, read again line by line.
 
-ghost use Rattle.std.specs.Option.{option_copied};
-ghost use Rattle.std.specs.Prelude.{◌≡◌, ◌∷◌, ◌++◌, ◌↔◌, ◌&&◌, [], ℕ, List, Some, IfOk, IsTrue};
+ghost use Rattle.std.specs.Prelude.{◌≡◌, ◌∷◌, ◌++◌, ◌↔◌, ◌&&◌, [], ℕ, List, Some, IfOk, IsTrue, option_copied};
 ghost use Rattle.str0m_sdp.specs.form.Printed.{line_end};
 ghost use Rattle.str0m_signal.specs.back.Writable.{AreReadAs, IsPrintedAs, IsReadBy, PutsBack};
 ghost use Rattle.str0m_values.specs.Cuts.{lacks, IsTheOnly};

@@ -1,7 +1,6 @@
 //! Whether rows may be printed in a session and are read again.
 
-ghost use Rattle.std.specs.List.{slice_get};
-ghost use Rattle.std.specs.Prelude.{◌≡◌, ◌≢◌, ◌↔◌, ℕ, List, IfOk, IfSome, IsTrue, Ok, Some, true};
+ghost use Rattle.std.specs.Prelude.{◌≡◌, ◌≢◌, ◌↔◌, ℕ, List, IfOk, IfSome, IsTrue, Ok, Some, true, slice_get};
 ghost use Rattle.str0m_formats.specs.declared.row.payload_params.PayloadParams.{PayloadParams};
 ghost use Rattle.str0m_sdp.specs.attribute.Attribute.{session_attribute_text};
 ghost use Rattle.str0m_sdp.specs.attribute.Bandwidth.{bandwidth_text};

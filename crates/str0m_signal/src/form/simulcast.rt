@@ -1,7 +1,6 @@
 //! Lines of streams in several layers.
 ghost use Rattle.std.specs.List.{list_all};
-ghost use Rattle.std.specs.Prelude.{◌≡◌, IfOk, option_map};
-ghost use Rattle.std.specs.Str.{chars};
+ghost use Rattle.std.specs.Prelude.{◌≡◌, IfOk, option_map, chars};
 ghost use Rattle.str0m_signal.specs.form.MediaAttribute.{simulcast};
 ghost use Rattle.str0m_signal.specs.form.RidStreamName.{is_name_character, is_stream_name};
 ghost use Rattle.str0m_signal.specs.form.SimulcastReading.{sides_of, alternative_read, first_read, layer_read, sides_read, layers_of, simulcast_fields_read};

@@ -1,7 +1,6 @@
 //! The m-lines of sections.
 
-ghost use Rattle.std.specs.Prelude.{◌≡◌, IfOk, codes, is_some, option_map};
-ghost use Rattle.std.specs.Str.{bytes_eq};
+ghost use Rattle.std.specs.Prelude.{◌≡◌, IfOk, codes, is_some, option_map, bytes_eq};
 ghost use Rattle.str0m_signal.specs.line.Heads.{kind_is, media_head};
 ghost use Rattle.str0m_signal.specs.session.SectionReading.{unknown_read, kind_read, proto_read, types_read, head_read};
 

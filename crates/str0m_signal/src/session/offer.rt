@@ -1,8 +1,7 @@
 //! Offers and answers: the description that one side proposes, and the one that settles it
 //! (RFC 3264).
 
-ghost use Rattle.std.specs.Prelude.{◌≡◌, All, IfOk, Some};
-ghost use Rattle.std.specs.String.{string_bytes};
+ghost use Rattle.std.specs.Prelude.{◌≡◌, All, IfOk, Some, string_bytes};
 ghost use Rattle.str0m_sdp.specs.section.SectionRows.{HasBoundedRows};
 ghost use Rattle.str0m_sdp.specs.session.Session.{sdp_text};
 ghost use Rattle.str0m_signal.specs.session.Reader.{Described};
