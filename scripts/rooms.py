@@ -14,7 +14,7 @@ import sys
 from proved import TOP
 
 CRATES = TOP / "crates"
-SHARED = ("Lib", "Common")
+SHARED = ("Lib", "Common", "Prelude")
 MOST_FILES = 40
 
 

@@ -1,13 +1,6 @@
 -- How calls change a configuration.
-use Rattle.c_parts.specs.Row.{codec_at, unless}
+use Rattle.c_calls.specs.Prelude.{Codec, CodecConfig, FormatParams, IsFormatOfLine, PayloadParams, codec_at, default_rows, enabled_rows, new_row, unless}
 use Rattle.std.specs.Prelude.{◌≡◌, ◌⊎◌, ◌++◌, ◌∷◌, ℕ, Bool, false, List, [], Some, None}
-use Rattle.str0m_formats.specs.declared.codec.Codec.{Codec}
-use Rattle.str0m_formats.specs.declared.format.format_params.FormatParams.{FormatParams}
-use Rattle.str0m_formats.specs.declared.row.codec_config.CodecConfig.{CodecConfig}
-use Rattle.str0m_formats.specs.declared.row.payload_params.PayloadParams.{PayloadParams}
-use Rattle.str0m_formats.specs.format.FormatLine.{IsFormatOfLine}
-use Rattle.str0m_formats.specs.row.DefaultRows.{default_rows, enabled_rows}
-use Rattle.str0m_formats.specs.row.PayloadParams.{new_row}
 
 -- the default rows of a codec, without RED
 abbrev pub defaults_of : Codec → List PayloadParams

@@ -1,39 +1,8 @@
 -- What an exchange of offers and answers is behind a call.
 use Rattle.c_calls.specs.Common.{Of}
-use Rattle.c_parts.specs.Side.{SaysOwn}
-use Rattle.c_parts.specs.declared.side.OwnNumbers.{OwnNumbers}
-use Rattle.c_parts.specs.declared.side.OwnTexts.{OwnTexts}
-use Rattle.exchange.specs.answer.AcceptedOffer.{tracks}
-use Rattle.exchange.specs.answer.AnsweredSession.{BundlesAccepted}
-use Rattle.exchange.specs.answer.Offered.{IsOffer, Negotiates}
-use Rattle.exchange.specs.declared.state.exchange.Exchange.{Exchange}
-use Rattle.exchange.specs.declared.state.own_side.OwnSide.{OwnSide}
-use Rattle.exchange.specs.declared.state.signaling_state.SignalingState.{SignalingState}
+use Rattle.c_calls.specs.Prelude.{AllDistinct, AnswersOffer, AreDistinct, AreFresh, BundlesAccepted, CodecConfig, Direction, EachSection, Exchange, FitsOffer, Follows, HasShapeOf, IsAcceptedExactly, IsAnswer, IsNewName, IsOffer, IsOffered, IsPlain, IsReadBack, IsSound, KeepsPlaces, KeepsRules, LockedStay, MakesOffer, Negotiates, OwnNumbers, OwnSide, OwnTexts, SaysOwn, Sdp, SignalingState, StaysInPlaces, grown, pending_sdp, placed_as, placed_of, ready_with, section_mids, sections_of, state_of, taken_names, tracks, types, versioned_text, with_direction, with_placed}
 use Rattle.exchange.specs.declared.state.signaling_state.SignalingState.TheVariants.{HaveLocalOffer, Stable}
-use Rattle.exchange.specs.offer.AcceptedAnswer.{IsAnswer, placed_of}
-use Rattle.exchange.specs.offer.Added.{with_placed}
-use Rattle.exchange.specs.offer.Fits.{FitsOffer}
-use Rattle.exchange.specs.offer.FreshNames.{AreFresh}
-use Rattle.exchange.specs.offer.MadeOffer.{MakesOffer, placed_as, ready_with}
-use Rattle.exchange.specs.offer.Names.{grown}
-use Rattle.exchange.specs.offer.OfferRules.{IsNewName, IsOffered, KeepsPlaces}
-use Rattle.exchange.specs.offer.Rules.{HasShapeOf, IsAcceptedExactly, KeepsRules}
-use Rattle.exchange.specs.section.Places.{StaysInPlaces}
-use Rattle.exchange.specs.state.Exchange.{AnswersOffer, EachSection}
-use Rattle.exchange.specs.state.ExchangeFollows.{Follows, IsSound}
-use Rattle.exchange.specs.state.OwnSide.{with_direction}
-use Rattle.exchange.specs.state.ReadBack.{IsReadBack}
-use Rattle.exchange.specs.state.State.{pending_sdp, sections_of, state_of, taken_names}
 use Rattle.std.specs.Prelude.{◌≡◌, ◌+◌, ◌-◌, ◌^◌, [], ℕ, List, All, IsSomeAnd, None, Option, Some, drop, length, min}
-use Rattle.str0m_formats.specs.declared.row.codec_config.CodecConfig.{CodecConfig}
-use Rattle.str0m_formats.specs.round.Claimed.{AllDistinct}
-use Rattle.str0m_formats.specs.round.RoundsPromises.{LockedStay}
-use Rattle.str0m_formats.specs.row.PayloadParams.{types}
-use Rattle.str0m_formats.specs.row.PlainRow.{IsPlain}
-use Rattle.str0m_sdp.specs.declared.session.Sdp.{Sdp}
-use Rattle.str0m_sdp.specs.session.Session.{versioned_text}
-use Rattle.str0m_sdp.specs.session.SessionConsistency.{AreDistinct, section_mids}
-use Rattle.str0m_values.specs.declared.direction.Direction.{Direction}
 
 -- an offer of the other side is answered
 pub record AcceptsOffer (before after : Exchange) (text : List ℕ) (answer : Sdp) (version : ℕ) : Type 0 where

@@ -1,7 +1,7 @@
 -- What a call answers of what is found in a text.
+use Rattle.c_calls.specs.Prelude.{IsJsonText}
 use Rattle.c_calls.specs.Said.{SaysSome}
 use Rattle.c_calls.specs.Told.{no_utf8}
-use Rattle.c_json.specs.Description.{IsJsonText}
 use Rattle.std.specs.Prelude.{◌≡◌, ◌⊎◌, ℕ, List, IsUtf8}
 
 -- JSON, as in other calls with room; or that the text isn't UTF-8: then room and count stay

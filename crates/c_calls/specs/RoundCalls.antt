@@ -1,18 +1,8 @@
 -- A section of one's own that lists what is agreed.
-use Rattle.c_parts.specs.Row.{c_outcome}
+use Rattle.c_calls.specs.Prelude.{CodecConfig, MediaLine, MediaType, NegotiatedText, Outcome, PayloadParams, Sdp, Writable, c_outcome, locked_of_kind, made}
 use Rattle.c_parts.specs.declared.row.Outcome as c
 use Rattle.std.specs.Prelude.{◌≡◌, ◌≢◌, ◌⊎◌, ℕ, List, [], Option, Some, slice_set, ◌++◌, None, drop, length, map, take, slice_get}
-use Rattle.str0m_formats.specs.declared.row.codec_config.CodecConfig.{CodecConfig}
-use Rattle.str0m_formats.specs.declared.row.payload_params.PayloadParams.{PayloadParams}
-use Rattle.str0m_formats.specs.round.RoundsRuns.{Outcome}
-use Rattle.str0m_sdp.specs.declared.attribute.media_type.MediaType.{MediaType}
 use Rattle.str0m_sdp.specs.declared.attribute.media_type.MediaType.TheVariants.{Audio, Video}
-use Rattle.str0m_sdp.specs.declared.section.media_line.MediaLine.{MediaLine}
-use Rattle.str0m_sdp.specs.declared.session.Sdp.{Sdp}
-use Rattle.str0m_sdp.specs.section.MadeSection.{made}
-use Rattle.str0m_signal.specs.back.Writable.{Writable}
-use Rattle.str0m_signal.specs.session.Locked.{locked_of_kind}
-use Rattle.str0m_signal.specs.session.Negotiation.{NegotiatedText}
 use Rattle.str0m_values.specs.declared.media_kind.MediaKind.TheVariants as kind
 
 -- of a section's type: those of its kind that are locked; none where it carries no media

@@ -1,18 +1,9 @@
 -- What calls find in what a handle owns; nothing where there is no such section or row.
+use Rattle.c_calls.specs.Prelude.{MediaLine, PayloadParams, Row, Sdp, Section, c_row, c_section, codec_text, params_text, rows}
 use Rattle.c_calls.specs.SessionCalls.{mid_text}
 use Rattle.c_calls.specs.declared.row_calls.RowText.{RowText}
 use Rattle.c_calls.specs.declared.row_calls.RowText.TheVariants.{Codec, Format}
-use Rattle.c_parts.specs.Row.{c_row}
-use Rattle.c_parts.specs.Section.{c_section}
-use Rattle.c_parts.specs.declared.row.Row.{Row}
-use Rattle.c_parts.specs.declared.section.Section.{Section}
 use Rattle.std.specs.Prelude.{ℕ, List, Option, map, option_and_then, option_map, slice_get}
-use Rattle.str0m_formats.specs.codec.Codec.{codec_text}
-use Rattle.str0m_formats.specs.declared.row.payload_params.PayloadParams.{PayloadParams}
-use Rattle.str0m_formats.specs.format.FormatParams.{params_text}
-use Rattle.str0m_sdp.specs.declared.section.media_line.MediaLine.{MediaLine}
-use Rattle.str0m_sdp.specs.declared.session.Sdp.{Sdp}
-use Rattle.str0m_sdp.specs.section.SectionRows.{rows}
 
 -- the mid of a section
 abbrev pub mid_at : Sdp → ℕ → Option (List ℕ)

@@ -1,8 +1,6 @@
 -- The name of a section.
+use Rattle.c_calls.specs.Prelude.{MediaLine, first, mid_of}
 use Rattle.std.specs.Prelude.{ℕ, List, [], Option, filter_map, unwrap_or}
-use Rattle.str0m_sdp.specs.Common.{first}
-use Rattle.str0m_sdp.specs.declared.section.media_line.MediaLine.{MediaLine}
-use Rattle.str0m_sdp.specs.section.Consistency.{mid_of}
 
 -- by the first attribute that says one (RFC 5888, section 4)
 abbrev pub mid_named : MediaLine → Option (List ℕ)

@@ -1,15 +1,7 @@
 -- What calls find of the transport of a description.
+use Rattle.c_calls.specs.Prelude.{Candidate, Fingerprint, IceCreds, IsPreferred, Sdp, all_candidates, candidate_text, distinct, fingerprint_text, same_candidate, sdp_fingerprints}
 use Rattle.std.specs.Borrow.{Bor}
 use Rattle.std.specs.Prelude.{◌≡◌, ℕ, List, [], Option, Some, None, map}
-use Rattle.str0m_sdp.specs.Common.{distinct}
-use Rattle.str0m_sdp.specs.declared.session.Sdp.{Sdp}
-use Rattle.str0m_sdp.specs.session.Candidates.{all_candidates, same_candidate}
-use Rattle.str0m_sdp.specs.session.PreferredFingerprint.{IsPreferred, sdp_fingerprints}
-use Rattle.str0m_values.specs.Candidate.{candidate_text}
-use Rattle.str0m_values.specs.Fingerprint.{fingerprint_text}
-use Rattle.str0m_values.specs.declared.candidate.Candidate.{Candidate}
-use Rattle.str0m_values.specs.declared.fingerprint.Fingerprint.{Fingerprint}
-use Rattle.str0m_values.specs.declared.ice_creds.IceCreds.{IceCreds}
 
 -- the user fragment of credentials, and their password; nothing where there are none
 abbrev pub ufrag_of : Option IceCreds → List ℕ

@@ -1,14 +1,11 @@
 //! Calls of candidates.
 
 ghost use Rattle.c_calls.specs.Common.{Of};
+ghost use Rattle.c_calls.specs.Prelude.{IsFull, all_candidates, candidate_text, distinct, same_candidate};
 ghost use Rattle.c_calls.specs.Said.{Says};
 ghost use Rattle.c_calls.specs.Told.{done, no_memory};
 ghost use Rattle.c_calls.specs.TransportCalls.{candidate_texts, lent};
-ghost use Rattle.c_parts.specs.Parts.{IsFull};
 ghost use Rattle.std.specs.Prelude.{◌≡◌, ◌≢◌, ◌⊎◌, IfOk, length, map, slice_get};
-ghost use Rattle.str0m_sdp.specs.Common.{distinct};
-ghost use Rattle.str0m_sdp.specs.session.Candidates.{all_candidates, same_candidate};
-ghost use Rattle.str0m_values.specs.Candidate.{candidate_text};
 
 use crate::said::{DONE, NO_MEMORY, NO_SECTION, put_made};
 use c_parts::session_handle::SessionHandle;

@@ -2,12 +2,9 @@
 
 ghost use Rattle.c_calls.specs.Common.{Of};
 ghost use Rattle.c_calls.specs.ConfigCalls.{HasNoDefaults, IsAdded, IsEnabled, IsNoKind, defaults_of};
+ghost use Rattle.c_calls.specs.Prelude.{IsFormatOfLine, IsFull, codec_at, enabled_rows, usual_rows};
 ghost use Rattle.c_calls.specs.Told.{done, no_memory, no_utf8, wrong_argument};
-ghost use Rattle.c_parts.specs.Parts.{IsFull};
-ghost use Rattle.c_parts.specs.Row.{codec_at};
 ghost use Rattle.std.specs.Prelude.{◌≡◌, ◌≢◌, ◌↔◌, ◌⊎◌, [], IfErr, IfNone, IfOk, IfSome, None, OnErr, OnOk, Some, IsUtf8};
-ghost use Rattle.str0m_formats.specs.format.FormatLine.{IsFormatOfLine};
-ghost use Rattle.str0m_formats.specs.row.DefaultRows.{enabled_rows, usual_rows};
 
 use crate::said::{DONE, NO_MEMORY, NO_UTF8, WRONG_ARGUMENT};
 use c_parts::config_handle::ConfigHandle;

@@ -2,17 +2,12 @@
 
 ghost use Rattle.c_calls.specs.Common.{Of};
 ghost use Rattle.c_calls.specs.ExchangeCalls.{AcceptsOffer, Begins, Goes, state_number};
+ghost use Rattle.c_calls.specs.Prelude.{IsFull, IsSound, RefusesOffer, RefusesOwn, SaysOwn, c_row, own_texts, state_of};
 ghost use Rattle.c_calls.specs.Said.{Says};
 ghost use Rattle.c_calls.specs.SectionCalls.{text_in};
 ghost use Rattle.c_calls.specs.Told.{done};
 ghost use Rattle.c_calls.specs.declared.row_calls.RowText.TheVariants.{Codec, Format};
 ghost use Rattle.c_parts.specs.Fault.{RefusesBytes, Told, ToldAt};
-ghost use Rattle.c_parts.specs.Parts.{IsFull};
-ghost use Rattle.c_parts.specs.Row.{c_row};
-ghost use Rattle.c_parts.specs.Side.{RefusesOwn, SaysOwn, own_texts};
-ghost use Rattle.exchange.specs.state.Exchange.{RefusesOffer};
-ghost use Rattle.exchange.specs.state.ExchangeFollows.{IsSound};
-ghost use Rattle.exchange.specs.state.State.{state_of};
 ghost use Rattle.std.specs.Prelude.{◌≡◌, ◌≢◌, IfErr, IfOk, None, OnErr, Some, map};
 
 use crate::row_calls::{RowText, put_rows, put_text};

@@ -1,8 +1,8 @@
 //! The call of findings.
 
 ghost use Rattle.c_calls.specs.FindingCalls.{SaysFindings};
+ghost use Rattle.c_calls.specs.Prelude.{IsJsonText};
 ghost use Rattle.c_calls.specs.Said.{SaysSome};
-ghost use Rattle.c_json.specs.Description.{IsJsonText};
 
 use crate::said::{NO_MEMORY, NO_UTF8, put};
 use c_json::findings_text;

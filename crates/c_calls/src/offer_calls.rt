@@ -2,15 +2,10 @@
 
 ghost use Rattle.c_calls.specs.Common.{Of};
 ghost use Rattle.c_calls.specs.ExchangeCalls.{AcceptsAnswer, CreatesOffer, Goes, turned};
+ghost use Rattle.c_calls.specs.Prelude.{IsFull, RefusesAnswer, RefusesBoth, RefusesChannels, RefusesMedia, RefusesToOffer, direction_numbered, kind_numbered, kind_rows, with_channels, with_media};
 ghost use Rattle.c_calls.specs.Told.{done, no_memory, no_utf8, wrong_argument};
 ghost use Rattle.c_parts.specs.Fault.{Refuses, RefusesBytes, Told, ToldAt};
-ghost use Rattle.c_parts.specs.Parts.{IsFull};
-ghost use Rattle.c_parts.specs.Side.{RefusesBoth, direction_numbered, kind_numbered};
-ghost use Rattle.exchange.specs.offer.AcceptedAnswer.{RefusesAnswer};
-ghost use Rattle.exchange.specs.offer.Added.{with_channels, with_media};
-ghost use Rattle.exchange.specs.state.Exchange.{RefusesChannels, RefusesMedia, RefusesToOffer};
 ghost use Rattle.std.specs.Prelude.{◌≡◌, ◌≢◌, ◌<◌, ◌≤◌, ◌↔◌, ◌⊎◌, [], IfErr, IfOk, None, OnErr, OnOk, Some, length, true, IsUtf8};
-ghost use Rattle.str0m_formats.specs.row.KindRows.{kind_rows};
 
 use crate::exchange_calls::place_for_description;
 use crate::said::{DONE, NO_MEMORY, NO_UTF8, WRONG_ARGUMENT};

@@ -1,17 +1,10 @@
 //! Calls that negotiate, and that answer with what is agreed.
 
 ghost use Rattle.c_calls.specs.Common.{Of};
+ghost use Rattle.c_calls.specs.Prelude.{Described, IsFull, MediaLine, RefusesText, Sdp, Writable, c_outcome, made};
 ghost use Rattle.c_calls.specs.RoundCalls.{Answered, CantAnswer, CantList, Lists, of_type, Ran, RanHeld, front};
 ghost use Rattle.c_calls.specs.Told.{done, no_memory, no_section, no_session, no_utf8, nothing_agreed};
-ghost use Rattle.c_parts.specs.Parts.{IsFull};
-ghost use Rattle.c_parts.specs.Reading.{RefusesText};
-ghost use Rattle.c_parts.specs.Row.{c_outcome};
 ghost use Rattle.std.specs.Prelude.{◌≡◌, ◌≢◌, ◌↔◌, ◌⊎◌, [], IfErr, IfNone, IfOk, IfSome, OnErr, OnOk, List, None, Some, ℕ, length, map, slice_get, IsUtf8};
-ghost use Rattle.str0m_sdp.specs.declared.section.media_line.MediaLine.{MediaLine};
-ghost use Rattle.str0m_sdp.specs.declared.session.Sdp.{Sdp};
-ghost use Rattle.str0m_sdp.specs.section.MadeSection.{made};
-ghost use Rattle.str0m_signal.specs.back.Writable.{Writable};
-ghost use Rattle.str0m_signal.specs.session.Reader.{Described};
 ghost use Rattle.str0m_signal.specs.session.ReaderAnswers.{Refuses};
 
 use crate::said::{DONE, NO_MEMORY, NO_SECTION, NOTHING, refuse};

@@ -1,13 +1,11 @@
 //! Calls of rows, of a section and of a configuration.
 
 ghost use Rattle.c_calls.specs.Common.{Of};
+ghost use Rattle.c_calls.specs.Prelude.{IsFull, c_row, rows};
 ghost use Rattle.c_calls.specs.Said.{Says};
 ghost use Rattle.c_calls.specs.SectionCalls.{row_text, rows_at, text_at, text_in};
 ghost use Rattle.c_calls.specs.declared.row_calls.RowText.TheVariants.{Codec, Format};
-ghost use Rattle.c_parts.specs.Parts.{IsFull};
-ghost use Rattle.c_parts.specs.Row.{c_row};
 ghost use Rattle.std.specs.Prelude.{◌≡◌, IfOk, Some, map, string_bytes};
-ghost use Rattle.str0m_sdp.specs.section.SectionRows.{rows};
 
 use crate::said::{NO_MEMORY, NO_SECTION, put, put_made};
 use c_parts::config_handle::ConfigHandle;

@@ -1,11 +1,9 @@
 //! What a call answers.
 
+ghost use Rattle.c_calls.specs.Prelude.{Described, RefusesText, Sdp};
 ghost use Rattle.c_calls.specs.Said.{Puts, Says};
 ghost use Rattle.c_calls.specs.Told.{done, no_session, no_utf8};
-ghost use Rattle.c_parts.specs.Reading.{RefusesText};
 ghost use Rattle.std.specs.Prelude.{◌≡◌, ◌≢◌, IfOk, Some, List, ℕ, string_bytes, IsUtf8};
-ghost use Rattle.str0m_sdp.specs.declared.session.Sdp.{Sdp};
-ghost use Rattle.str0m_signal.specs.session.Reader.{Described};
 
 use c_parts::reading::Refusal;
 use c_parts::room::copied;

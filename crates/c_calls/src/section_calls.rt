@@ -1,12 +1,11 @@
 //! Calls of sections.
 
 ghost use Rattle.c_calls.specs.Common.{Of};
+ghost use Rattle.c_calls.specs.Prelude.{IsFull, Writable};
 ghost use Rattle.c_calls.specs.Said.{Gives};
 ghost use Rattle.c_calls.specs.SectionCalls.{section_at};
 ghost use Rattle.c_calls.specs.Told.{done, no_memory, no_section};
-ghost use Rattle.c_parts.specs.Parts.{IsFull};
 ghost use Rattle.std.specs.Prelude.{◌≡◌, ◌≢◌, ◌↔◌, ◌⊎◌, IfOk, IsTrue, None, slice_get};
-ghost use Rattle.str0m_signal.specs.back.Writable.{Writable};
 
 use crate::said::{DONE, NO_MEMORY, NO_SECTION};
 use c_parts::section::{Section, section_info};

@@ -1,16 +1,12 @@
 //! Calls of descriptions.
 
 ghost use Rattle.c_calls.specs.Common.{Of};
+ghost use Rattle.c_calls.specs.Prelude.{Described, IsFull, IsJsonText, Reading, Sdp, sdp_text, versioned_text};
 ghost use Rattle.c_calls.specs.Said.{Puts, Says, SaysSome};
 ghost use Rattle.c_calls.specs.SectionCalls.{mid_at};
 ghost use Rattle.c_calls.specs.SessionCalls.{mid_named, mid_text};
 ghost use Rattle.c_calls.specs.Told.{done, no_session, no_utf8};
-ghost use Rattle.c_json.specs.Description.{IsJsonText};
-ghost use Rattle.c_parts.specs.Parts.{IsFull};
 ghost use Rattle.std.specs.Prelude.{◌≡◌, ◌≢◌, None, Some, List, ℕ, length, IsUtf8};
-ghost use Rattle.str0m_sdp.specs.declared.session.Sdp.{Sdp};
-ghost use Rattle.str0m_sdp.specs.session.Session.{sdp_text, versioned_text};
-ghost use Rattle.str0m_signal.specs.session.Reader.{Described, Reading};
 
 use crate::said::{DONE, NO_MEMORY, NO_SECTION, put, put_made, refuse};
 use c_json::json_text;

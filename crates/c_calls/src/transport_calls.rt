@@ -1,11 +1,10 @@
 //! Calls of the transport that a description speaks of.
 
 ghost use Rattle.c_calls.specs.Common.{Of};
+ghost use Rattle.c_calls.specs.Prelude.{IsFull, sdp_creds};
 ghost use Rattle.c_calls.specs.Said.{Says, SaysSome};
 ghost use Rattle.c_calls.specs.TransportCalls.{IsPreferredText, pwd_of, ufrag_of};
-ghost use Rattle.c_parts.specs.Parts.{IsFull};
 ghost use Rattle.std.specs.Prelude.{◌≡◌, IfOk, Some, string_bytes};
-ghost use Rattle.str0m_sdp.specs.session.Transport.{sdp_creds};
 
 use crate::said::{NO_MEMORY, put};
 use c_parts::session_handle::SessionHandle;

@@ -1,3 +1,4 @@
+pub mod Prelude
 pub mod answer
 pub mod offer
 pub mod section

@@ -1,6 +1,6 @@
 //! Offers with their versions.
+ghost use Rattle.exchange.specs.Prelude.{versioned_text};
 ghost use Rattle.std.specs.Prelude.{◌≡◌, Some};
-ghost use Rattle.str0m_sdp.specs.session.Session.{versioned_text};
 
 use std::fmt;
 use std::ops::Deref;

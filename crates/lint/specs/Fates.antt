@@ -1,4 +1,5 @@
 -- What comes of rounds with the sections of a text.
+use Rattle.lint.specs.Prelude.{Codec, IsChoice, MediaLine, Outcome, PayloadParams, Ran, Reading, Sdp, is_media, points_with, receives, rows, same_codec, score, section_direction}
 use Rattle.lint.specs.declared.code.Code.{Code}
 use Rattle.lint.specs.declared.code.Code.TheVariants.{Round}
 use Rattle.lint.specs.declared.code.Fate.{Fate}
@@ -7,19 +8,7 @@ use Rattle.lint.specs.declared.finding.Finding.{Finding}
 use Rattle.lint.specs.declared.notes.Notes.{Notes}
 use Rattle.std.specs.List.{list_any}
 use Rattle.std.specs.Prelude.{◌≡◌, ◌==◌, ℕ, Bool, true, false, ◌&&◌, ◌||◌, not, Option, Some, None, Ok, Err, List, [], ◌∷◌, ◌++◌, if◌then◌else◌, filter_map, map, option_map, is_some}
-use Rattle.str0m_formats.specs.declared.codec.Codec.{Codec}
 use Rattle.str0m_formats.specs.declared.round.negotiation_error.NegotiationError.TheVariants.{TypeTooLarge, ClaimedTwice, Exhausted, Memory}
-use Rattle.str0m_formats.specs.declared.row.payload_params.PayloadParams.{PayloadParams}
-use Rattle.str0m_formats.specs.round.Choices.{IsChoice, points_with}
-use Rattle.str0m_formats.specs.round.MatchScore.{same_codec, score}
-use Rattle.str0m_formats.specs.round.RoundsRuns.{Outcome, Ran}
-use Rattle.str0m_sdp.specs.attribute.MediaType.{is_media}
-use Rattle.str0m_sdp.specs.declared.section.media_line.MediaLine.{MediaLine}
-use Rattle.str0m_sdp.specs.declared.session.Sdp.{Sdp}
-use Rattle.str0m_sdp.specs.section.SectionDirection.{section_direction}
-use Rattle.str0m_sdp.specs.section.SectionRows.{rows}
-use Rattle.str0m_signal.specs.session.Reader.{Reading}
-use Rattle.str0m_values.specs.Direction.{receives}
 
 -- some row of these fits it
 abbrev pub fits : List PayloadParams → PayloadParams → Bool

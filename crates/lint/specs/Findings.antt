@@ -2,6 +2,7 @@
 use Rattle.lint.specs.Code.{is_refusal, is_end, is_kept, is_change}
 use Rattle.lint.specs.Kept.{is_unread, kept_at, kept_flags}
 use Rattle.lint.specs.Lines.{attribute_numbers, unread_lines, IsNumbered}
+use Rattle.lint.specs.Prelude.{Line, Reading, Sdp, lines_of, sdp_text}
 use Rattle.lint.specs.Told.{NothingLost, told}
 use Rattle.lint.specs.declared.code.Code.{Code}
 use Rattle.lint.specs.declared.finding.Finding.{Finding}
@@ -10,13 +11,8 @@ use Rattle.lint.specs.declared.notes.Notes.{Notes}
 use Rattle.std.specs.Borrow.{Bor}
 use Rattle.std.specs.List.{list_any}
 use Rattle.std.specs.Prelude.{◌≡◌, ◌↔◌, ◌+◌, ℕ, Bool, true, false, List, [], ◌∷◌, ◌++◌, Option, Some, None, filter_map, map, max, min, if◌then◌else◌}
-use Rattle.str0m_sdp.specs.declared.session.Sdp.{Sdp}
 use Rattle.str0m_sdp.specs.declared.session.error.SdpError.{SdpError}
 use Rattle.str0m_sdp.specs.declared.session.error.SdpError.TheVariants.{ParseError, Inconsistent, Memory}
-use Rattle.str0m_sdp.specs.session.Session.{sdp_text}
-use Rattle.str0m_signal.specs.line.Lines.{Line}
-use Rattle.str0m_signal.specs.line.LinesReading.{lines_of}
-use Rattle.str0m_signal.specs.session.Reader.{Reading}
 
 -- the line of a finding whose code is such a one
 abbrev pub line_if : (Code → Bool) → Finding → Option ℕ

@@ -1,9 +1,7 @@
 -- The lines of a text as the findings number them.
+use Rattle.lint.specs.Prelude.{EndsIn, Line, lines_of, strip}
 use Rattle.std.specs.Borrow.{Bor}
 use Rattle.std.specs.Prelude.{◌≡◌, ◌⊎◌, ◌+◌, ◌-◌, ◌≤◌, ℕ, Bool, List, [], ◌∷◌, ◌++◌, Option, Some, None, codes, length, max, if◌then◌else◌, is_some}
-use Rattle.str0m_signal.specs.line.Lines.{Line, EndsIn}
-use Rattle.str0m_signal.specs.line.LinesReading.{lines_of}
-use Rattle.str0m_values.specs.Cuts.{strip}
 
 -- the line without the carriage return that ends it, if one does
 abbrev pub IsWithoutReturn : List ℕ → List ℕ → Type 0

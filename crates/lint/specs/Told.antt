@@ -1,13 +1,8 @@
 -- What the lines of a text say, but for what printing fixes.
+use Rattle.lint.specs.Prelude.{Line, Reading, Sdp, cut, lines_of, sdp_text, strip, ◌>>=◌}
 use Rattle.lint.specs.declared.told.Next.{Next}
 use Rattle.lint.specs.declared.told.Told.{Told as Shown}
 use Rattle.std.specs.Prelude.{◌≡◌, ℕ, Bool, false, List, [], ◌∷◌, Option, Some, None, codes, is_some, if◌then◌else◌, bytes_eq}
-use Rattle.str0m_sdp.specs.declared.session.Sdp.{Sdp}
-use Rattle.str0m_sdp.specs.session.Session.{sdp_text}
-use Rattle.str0m_signal.specs.line.Lines.{Line}
-use Rattle.str0m_signal.specs.line.LinesReading.{lines_of}
-use Rattle.str0m_signal.specs.session.Reader.{Reading}
-use Rattle.str0m_values.specs.Cuts.{cut, strip, ◌>>=◌}
 
 -- of an m-line its type with `m=`, whether its port is 0, and what stands after the port; of another line the whole of it
 pub record Told : Type 0 where

@@ -2,13 +2,10 @@
 ghost use Rattle.lint.specs.Fates.{AddsFates, RoundsSay, SaysRounds, codes};
 ghost use Rattle.lint.specs.Findings.{ReadsAs, IsWithin};
 ghost use Rattle.lint.specs.Lines.{last_line};
+ghost use Rattle.lint.specs.Prelude.{AtMostOne, PayloadParams, Reading, Sdp};
 ghost use Rattle.lint.specs.declared.code.Code.TheVariants.{Round};
 ghost use Rattle.lint.specs.declared.code.Fate.{Fate};
 ghost use Rattle.std.specs.Prelude.{◌≡◌, ℕ, List, [], All, IfOk, OnOk, map};
-ghost use Rattle.str0m_formats.specs.declared.row.payload_params.PayloadParams.{PayloadParams};
-ghost use Rattle.str0m_sdp.specs.declared.session.Sdp.{Sdp};
-ghost use Rattle.str0m_signal.specs.session.Reader.{Reading};
-ghost use Rattle.str0m_signal.specs.session.ReaderAnswers.{AtMostOne};
 
 use crate::finding::Report;
 use crate::found::read;

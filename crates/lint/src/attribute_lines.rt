@@ -2,8 +2,8 @@
 ghost use Rattle.lint.specs.Findings.{Keeps, NotesLine};
 ghost use Rattle.lint.specs.Kept.{is_unread, kept_at};
 ghost use Rattle.lint.specs.Lines.{IsNumbered, attribute_numbers};
+ghost use Rattle.lint.specs.Prelude.{lines_of};
 ghost use Rattle.std.specs.Prelude.{◌≡◌, ◌+◌, ◌≤◌, IfOk, OnOk, [], ◌∷◌, length, map, if◌then◌else◌};
-ghost use Rattle.str0m_signal.specs.line.LinesReading.{lines_of};
 
 use crate::code::Code;
 use crate::kept::why_kept;

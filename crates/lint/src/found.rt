@@ -2,12 +2,9 @@
 ghost use Rattle.lint.specs.Findings.{AreFindingsOf, AreSilent, IsNoWant, ReadsAs, Tells, ends, kept, is_refused, IsWithin};
 ghost use Rattle.lint.specs.Kept.{kept_at, kept_flags};
 ghost use Rattle.lint.specs.Lines.{attribute_numbers, last_line, unread_lines};
+ghost use Rattle.lint.specs.Prelude.{AtMostOne, Reading, Sdp, lines_of};
 ghost use Rattle.lint.specs.Told.{NothingLost};
 ghost use Rattle.std.specs.Prelude.{◌≡◌, ◌↔◌, ℕ, List, [], true, All, IfOk, OnOk};
-ghost use Rattle.str0m_sdp.specs.declared.session.Sdp.{Sdp};
-ghost use Rattle.str0m_signal.specs.line.LinesReading.{lines_of};
-ghost use Rattle.str0m_signal.specs.session.Reader.{Reading};
-ghost use Rattle.str0m_signal.specs.session.ReaderAnswers.{AtMostOne};
 
 use crate::attribute_lines::note_attributes;
 use crate::changes::note_changes;

@@ -1,3 +1,4 @@
+pub mod Prelude
 pub mod codec
 pub mod format
 pub mod round

@@ -1,4 +1,5 @@
 pub mod Common
+pub mod Prelude
 pub mod attribute
 pub mod form
 pub mod section

@@ -1,3 +1,4 @@
+pub mod Prelude
 pub mod back
 pub mod form
 pub mod line

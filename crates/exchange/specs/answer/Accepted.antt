@@ -1,4 +1,5 @@
 -- What an accepted section says, line by line.
+use Rattle.exchange.specs.Prelude.{AnswersDirection, AnswersRole, Candidate, Direction, MediaAttribute, MediaLine, PayloadParams, Sdp, Setup, direction_attribute, first, made, media_setup, receives, section_direction, sends, session_setup}
 use Rattle.exchange.specs.answer.Layers.{answered_layers}
 use Rattle.exchange.specs.declared.answer.accepted.TheConstants.{RTP_STREAM_ID}
 use Rattle.exchange.specs.declared.state.own_side.DataChannels.{DataChannels}
@@ -8,21 +9,7 @@ use Rattle.exchange.specs.state.OwnSide.{own_direction}
 use Rattle.std.specs.List.{list_any}
 use Rattle.std.specs.Option.{option_or}
 use Rattle.std.specs.Prelude.{◌≡◌, ◌&&◌, ℕ, Bool, false, List, [], ◌∷◌, ◌++◌, Option, None, bytes_eq, codes, filter_map, map, if◌then◌else◌}
-use Rattle.str0m_formats.specs.declared.row.payload_params.PayloadParams.{PayloadParams}
-use Rattle.str0m_sdp.specs.Common.{first}
-use Rattle.str0m_sdp.specs.attribute.Attribute.{direction_attribute}
-use Rattle.str0m_sdp.specs.attribute.Setup.{AnswersRole}
-use Rattle.str0m_sdp.specs.declared.attribute.MediaAttribute.{MediaAttribute}
 use Rattle.str0m_sdp.specs.declared.attribute.MediaAttribute.TheVariants as media
-use Rattle.str0m_sdp.specs.declared.attribute.setup.Setup.{Setup}
-use Rattle.str0m_sdp.specs.declared.section.media_line.MediaLine.{MediaLine}
-use Rattle.str0m_sdp.specs.declared.session.Sdp.{Sdp}
-use Rattle.str0m_sdp.specs.section.MadeSection.{made}
-use Rattle.str0m_sdp.specs.section.SectionDirection.{section_direction}
-use Rattle.str0m_sdp.specs.session.Transport.{media_setup, session_setup}
-use Rattle.str0m_values.specs.Direction.{AnswersDirection, receives, sends}
-use Rattle.str0m_values.specs.declared.candidate.Candidate.{Candidate}
-use Rattle.str0m_values.specs.declared.direction.Direction.{Direction}
 
 -- the role that is said for a section: by its own lines, else by the session (RFC 8842, section 5.2)
 abbrev pub setup_in_force : Sdp → MediaLine → Option Setup

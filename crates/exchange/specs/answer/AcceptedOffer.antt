@@ -1,9 +1,7 @@
 -- The tracks that a description says (RFC 8830, section 2).
+use Rattle.exchange.specs.Prelude.{MediaAttribute, MediaLine, Sdp}
 use Rattle.std.specs.Prelude.{ℕ, List, Option, Some, None, filter_map, flat_map}
-use Rattle.str0m_sdp.specs.declared.attribute.MediaAttribute.{MediaAttribute}
 use Rattle.str0m_sdp.specs.declared.attribute.MediaAttribute.TheVariants.{Msid}
-use Rattle.str0m_sdp.specs.declared.section.media_line.MediaLine.{MediaLine}
-use Rattle.str0m_sdp.specs.declared.session.Sdp.{Sdp}
 
 -- the id of the track of a line
 abbrev pub track_of : MediaAttribute → Option (List ℕ)

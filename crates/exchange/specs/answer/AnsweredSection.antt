@@ -1,4 +1,5 @@
 -- How a section of an answer answers one that is offered.
+use Rattle.exchange.specs.Prelude.{MediaLine, PayloadParams, Sdp}
 use Rattle.exchange.specs.answer.Accepted.{AcceptsChannels, AcceptsMedia}
 use Rattle.exchange.specs.answer.Choice.{IsChoice}
 use Rattle.exchange.specs.answer.RejectedSection.{rejecting}
@@ -6,9 +7,6 @@ use Rattle.exchange.specs.declared.answer.choice.Choice.{Choice}
 use Rattle.exchange.specs.declared.answer.choice.Choice.TheVariants.{Rejected, Media, Channels}
 use Rattle.exchange.specs.declared.state.own_side.OwnSide.{OwnSide}
 use Rattle.std.specs.Prelude.{◌≡◌, List}
-use Rattle.str0m_formats.specs.declared.row.payload_params.PayloadParams.{PayloadParams}
-use Rattle.str0m_sdp.specs.declared.section.media_line.MediaLine.{MediaLine}
-use Rattle.str0m_sdp.specs.declared.session.Sdp.{Sdp}
 
 -- what it says where the offered one is answered with this
 abbrev pub SaysChoice : OwnSide → Sdp → MediaLine → Choice → MediaLine → Type 0

@@ -1,15 +1,12 @@
 -- What an answer says of the session as a whole.
+use Rattle.exchange.specs.Prelude.{MediaLine, Sdp, Session, SessionAttribute}
 use Rattle.exchange.specs.answer.Bundle.{answered_bundle}
 use Rattle.exchange.specs.answer.InBundle.{bundle_names}
 use Rattle.exchange.specs.declared.state.own_side.OwnSide.{OwnSide}
 use Rattle.exchange.specs.section.Stopped.{bundle_group}
 use Rattle.std.specs.List.{list_any}
 use Rattle.std.specs.Prelude.{◌≡◌, ℕ, Bool, true, false, not, List, [], ◌∷◌, ◌++◌, None, codes, map, if◌then◌else◌}
-use Rattle.str0m_sdp.specs.declared.attribute.SessionAttribute.{SessionAttribute}
 use Rattle.str0m_sdp.specs.declared.attribute.SessionAttribute.TheVariants.{AllowMixedExts, Group}
-use Rattle.str0m_sdp.specs.declared.section.media_line.MediaLine.{MediaLine}
-use Rattle.str0m_sdp.specs.declared.session.Sdp.{Sdp}
-use Rattle.str0m_sdp.specs.declared.session.Session.{Session}
 
 -- the section has a port (RFC 3264, section 6)
 abbrev pub is_accepted : MediaLine → Bool

@@ -1,9 +1,7 @@
 -- The names that the group of an answer lists (RFC 9143, section 7.3).
+use Rattle.exchange.specs.Prelude.{MediaLine, Sdp, is_listed}
 use Rattle.exchange.specs.section.Stopped.{bundle_group, name_of}
 use Rattle.std.specs.Prelude.{ℕ, Bool, true, false, List, [], Option, Some, None, filter, filter_map, zip}
-use Rattle.str0m_sdp.specs.declared.section.media_line.MediaLine.{MediaLine}
-use Rattle.str0m_sdp.specs.declared.session.Sdp.{Sdp}
-use Rattle.str0m_sdp.specs.session.SessionConsistency.{is_listed}
 
 -- the name of a section that is accepted
 abbrev pub name_if_accepted : MediaLine × Bool → Option (List ℕ)

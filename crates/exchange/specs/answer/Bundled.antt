@@ -1,10 +1,9 @@
 -- What the sections of a bundle share.
+use Rattle.exchange.specs.Prelude.{Holds, Sdp}
 use Rattle.exchange.specs.answer.InBundle.{bundle_names, is_so_of, tagged}
 use Rattle.exchange.specs.declared.answer.bundled.Bundled.{Bundled}
 use Rattle.exchange.specs.section.Reached.{has_creds, has_fingerprint}
 use Rattle.std.specs.Prelude.{◌≡◌}
-use Rattle.str0m_sdp.specs.declared.session.Sdp.{Sdp}
-use Rattle.str0m_sdp.specs.session.OrderedMids.{Holds}
 
 -- their names, and what is in force at the section whose transport they share
 pub record IsBundledBy (sdp : Sdp) (bundled : Bundled) : Type 0 where

@@ -1,4 +1,5 @@
 -- What a section is answered with (RFC 3264, section 6; RFC 8829, section 5.3.1).
+use Rattle.exchange.specs.Prelude.{MediaLine, MediaType, PayloadParams, Proto, Sdp}
 use Rattle.exchange.specs.answer.Rows.{answered_rows}
 use Rattle.exchange.specs.declared.answer.choice.Choice.{Choice}
 use Rattle.exchange.specs.declared.answer.choice.Choice.TheVariants.{Rejected, Media, Channels}
@@ -6,13 +7,8 @@ use Rattle.exchange.specs.declared.state.own_side.DataChannels.{DataChannels}
 use Rattle.exchange.specs.declared.state.own_side.OwnSide.{OwnSide}
 use Rattle.exchange.specs.section.Stopped.{IsStopped, name_of}
 use Rattle.std.specs.Prelude.{◌≡◌, ℕ, List, [], ◌∷◌, Option, Some, None}
-use Rattle.str0m_formats.specs.declared.row.payload_params.PayloadParams.{PayloadParams}
-use Rattle.str0m_sdp.specs.declared.attribute.media_type.MediaType.{MediaType}
 use Rattle.str0m_sdp.specs.declared.attribute.media_type.MediaType.TheVariants.{Audio, Video, Application}
-use Rattle.str0m_sdp.specs.declared.attribute.proto.Proto.{Proto}
 use Rattle.str0m_sdp.specs.declared.attribute.proto.Proto.TheVariants.{Srtp, Sctp}
-use Rattle.str0m_sdp.specs.declared.section.media_line.MediaLine.{MediaLine}
-use Rattle.str0m_sdp.specs.declared.session.Sdp.{Sdp}
 
 -- media is accepted with its rows, and rejected where no row is agreed on
 abbrev pub rows_or_none : List ℕ → List PayloadParams → Choice

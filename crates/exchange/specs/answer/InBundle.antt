@@ -1,10 +1,7 @@
 -- Sections that share the transport of a bundle.
+use Rattle.exchange.specs.Prelude.{MediaLine, Sdp, first, is_listed}
 use Rattle.exchange.specs.section.Stopped.{bundle_group, name_of}
 use Rattle.std.specs.Prelude.{◌||◌, ◌&&◌, ℕ, Bool, false, List, [], Option, Some, None, bytes_eq, find}
-use Rattle.str0m_sdp.specs.Common.{first}
-use Rattle.str0m_sdp.specs.declared.section.media_line.MediaLine.{MediaLine}
-use Rattle.str0m_sdp.specs.declared.session.Sdp.{Sdp}
-use Rattle.str0m_sdp.specs.session.SessionConsistency.{is_listed}
 
 abbrev pub names_or_none : Option (List (List ℕ)) → List (List ℕ)
 names_or_none None = []

@@ -1,16 +1,7 @@
 -- What is in force at a section: what it says itself, else what the session says for all sections.
+use Rattle.exchange.specs.Prelude.{Fingerprint, IceCreds, MediaAttribute, MediaLine, Sdp, SessionAttribute, Setup, creds, first, first_filled, media_fingerprint, media_pwd, media_setup, media_ufrag, session_fingerprint, session_pwd, session_setup, session_ufrag}
 use Rattle.std.specs.Option.{option_or}
 use Rattle.std.specs.Prelude.{ℕ, List, [], ◌∷◌, Option, Some, None, filter_map, slice_get}
-use Rattle.str0m_sdp.specs.Common.{first}
-use Rattle.str0m_sdp.specs.declared.attribute.MediaAttribute.{MediaAttribute}
-use Rattle.str0m_sdp.specs.declared.attribute.SessionAttribute.{SessionAttribute}
-use Rattle.str0m_sdp.specs.declared.attribute.setup.Setup.{Setup}
-use Rattle.str0m_sdp.specs.declared.section.media_line.MediaLine.{MediaLine}
-use Rattle.str0m_sdp.specs.declared.session.Sdp.{Sdp}
-use Rattle.str0m_sdp.specs.session.PreferredFingerprint.{first_filled}
-use Rattle.str0m_sdp.specs.session.Transport.{creds, media_fingerprint, media_pwd, media_setup, media_ufrag, session_fingerprint, session_pwd, session_setup, session_ufrag}
-use Rattle.str0m_values.specs.declared.fingerprint.Fingerprint.{Fingerprint}
-use Rattle.str0m_values.specs.declared.ice_creds.IceCreds.{IceCreds}
 
 -- the first that the section there says, else the first that the session says; nothing where there is no section
 abbrev pub in_force_of : {X : Type 0} → (MediaAttribute → Option X) → (SessionAttribute → Option X) → List SessionAttribute → Option MediaLine → Option X

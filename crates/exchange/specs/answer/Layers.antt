@@ -1,15 +1,10 @@
 -- The layers of a stream that is received in several (RFC 8853, section 5.3.2; RFC 8851, section 6.3).
+use Rattle.exchange.specs.Prelude.{MediaAttribute, MediaLine, PayloadParams, SimulcastLayer, last, rid_name_of, simulcast_of}
 use Rattle.std.specs.List.{list_any}
 use Rattle.std.specs.Prelude.{◌==◌, ◌&&◌, ◌||◌, ℕ, Bool, true, false, List, [], ◌∷◌, ◌++◌, Option, Some, None, codes, bytes_eq, filter, filter_map, length, if◌then◌else◌, ◌≡◌, ◌≢◌, ◌⊎◌, All, Contains}
-use Rattle.str0m_formats.specs.declared.row.payload_params.PayloadParams.{PayloadParams}
-use Rattle.str0m_sdp.specs.Common.{last}
-use Rattle.str0m_sdp.specs.declared.attribute.MediaAttribute.{MediaAttribute}
 use Rattle.str0m_sdp.specs.declared.attribute.MediaAttribute.TheVariants.{Rid, Simulcast}
 use Rattle.str0m_sdp.specs.declared.attribute.simulcast.RestrictionId.{RestrictionId}
 use Rattle.str0m_sdp.specs.declared.attribute.simulcast.Simulcast as layers
-use Rattle.str0m_sdp.specs.declared.attribute.simulcast.SimulcastLayer.{SimulcastLayer}
-use Rattle.str0m_sdp.specs.declared.section.media_line.MediaLine.{MediaLine}
-use Rattle.str0m_sdp.specs.section.SectionAccessors.{rid_name_of, simulcast_of}
 
 -- the layers that the offer sends
 abbrev pub sent_by : Option layers.Simulcast → List SimulcastLayer

@@ -1,21 +1,11 @@
 -- Offers that are read whole, and their rounds.
+use Rattle.exchange.specs.Prelude.{IsReading, Line, Lines, MediaLine, Outcome, PayloadParams, Reached, Reading, Refuses, RunPromises, Sdp, is_media, rows, section_direction}
 use Rattle.exchange.specs.declared.state.exchange_error.ExchangeError.{ExchangeError}
 use Rattle.exchange.specs.declared.state.exchange_error.ExchangeError.TheVariants.{NotRead, Unread, WrongState, DoesNotFit, NoRows, NoChannels, NoName, NotPrintable, Memory}
 use Rattle.exchange.specs.section.Stopped.{IsStopped}
 use Rattle.std.specs.Prelude.{◌≡◌, ◌≢◌, ◌⊎◌, ◌+◌, ◌++◌, ℕ, true, List, [], ◌∷◌, length}
 use Rattle.str0m_formats.specs.declared.round.rounds.Round.{Round}
-use Rattle.str0m_formats.specs.declared.row.payload_params.PayloadParams.{PayloadParams}
-use Rattle.str0m_formats.specs.round.RoundsPromises.{RunPromises}
-use Rattle.str0m_formats.specs.round.RoundsRuns.{Outcome, Reached}
-use Rattle.str0m_sdp.specs.attribute.MediaType.{is_media}
 use Rattle.str0m_sdp.specs.declared.attribute.proto.Proto.TheVariants.{Srtp}
-use Rattle.str0m_sdp.specs.declared.section.media_line.MediaLine.{MediaLine}
-use Rattle.str0m_sdp.specs.declared.session.Sdp.{Sdp}
-use Rattle.str0m_sdp.specs.section.SectionDirection.{section_direction}
-use Rattle.str0m_sdp.specs.section.SectionRows.{rows}
-use Rattle.str0m_signal.specs.line.Lines.{Line, Lines}
-use Rattle.str0m_signal.specs.session.Reader.{IsReading, Reading}
-use Rattle.str0m_signal.specs.session.ReaderAnswers.{Refuses}
 
 -- the text is this description, and nothing follows it
 abbrev pub IsOffer : List ℕ → Sdp → Type 0

@@ -1,12 +1,11 @@
 -- The feedback that a section offers for a payload type (RFC 4585, section 4.2).
+use Rattle.exchange.specs.Prelude.{MediaAttribute, MediaLine}
 use Rattle.exchange.specs.answer.Rows.{is_offered, words_of_all}
 use Rattle.exchange.specs.declared.answer.offered_feedback.OfferedFeedback.{OfferedFeedback}
 use Rattle.exchange.specs.declared.answer.offered_feedback.SectionFeedback.{SectionFeedback}
 use Rattle.std.specs.Prelude.{◌≡◌, ◌<◌, ◌||◌, ℕ, Bool, false, List, Option, Some, None, bytes_eq, get_or, length}
-use Rattle.str0m_sdp.specs.declared.attribute.MediaAttribute.{MediaAttribute}
 use Rattle.str0m_sdp.specs.declared.attribute.MediaAttribute.TheVariants.{Unused}
 use Rattle.str0m_sdp.specs.declared.label.TheConstants.{TRANSPORT_CC, REMB, FIR, NACK, PLI}
-use Rattle.str0m_sdp.specs.declared.section.media_line.MediaLine.{MediaLine}
 
 -- the words of a line that offers feedback for all types
 abbrev pub words_for_all : MediaAttribute → Option (List ℕ)

@@ -1,13 +1,9 @@
 -- The section that rejects an offered one.
+use Rattle.exchange.specs.Prelude.{MediaAttribute, MediaLine, MediaType, Proto, is_mid, maps}
 use Rattle.std.specs.Prelude.{ℕ, Bool, true, List, [], ◌∷◌, ◌++◌, None, find, option_to_list}
-use Rattle.str0m_sdp.specs.declared.attribute.MediaAttribute.{MediaAttribute}
 use Rattle.str0m_sdp.specs.declared.attribute.MediaAttribute.TheVariants.{Inactive}
-use Rattle.str0m_sdp.specs.declared.attribute.media_type.MediaType.{MediaType}
 use Rattle.str0m_sdp.specs.declared.attribute.media_type.MediaType.TheVariants.{Application}
-use Rattle.str0m_sdp.specs.declared.attribute.proto.Proto.{Proto}
 use Rattle.str0m_sdp.specs.declared.attribute.proto.Proto.TheVariants.{Srtp, Sctp}
-use Rattle.str0m_sdp.specs.declared.section.media_line.MediaLine.{MediaLine}
-use Rattle.str0m_sdp.specs.section.Consistency.{is_mid, maps}
 
 -- the first offered type, or 0, since an m-line lists at least one (RFC 3264, section 6)
 abbrev pub first_type : List ℕ → ℕ

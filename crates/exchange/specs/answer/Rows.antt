@@ -1,21 +1,12 @@
 -- The rows that answer a section, and what it says of each.
+use Rattle.exchange.specs.Prelude.{HasPictureFeedback, IsPlain, MediaAttribute, MediaLine, MediaType, PayloadParams, distinct, has, is_carried, rows, strip, ◌>>=◌}
 use Rattle.std.specs.List.{list_any}
 use Rattle.std.specs.Prelude.{◌≡◌, ◌≢◌, ◌==◌, ◌&&◌, ℕ, Bool, true, false, List, Option, Some, None, codes, bytes_eq, find, filter_map, map, option_map, is_some, if◌then◌else◌, Contains, IfSome}
 use Rattle.str0m_formats.specs.codec.Codec.{content, video}
-use Rattle.str0m_formats.specs.declared.row.payload_params.PayloadParams.{PayloadParams}
-use Rattle.str0m_formats.specs.round.Claimed.{has}
 use Rattle.str0m_formats.specs.round.MatchScore.{score}
-use Rattle.str0m_formats.specs.row.PlainRow.{HasPictureFeedback, IsPlain}
-use Rattle.str0m_sdp.specs.Common.{distinct}
-use Rattle.str0m_sdp.specs.declared.attribute.MediaAttribute.{MediaAttribute}
 use Rattle.str0m_sdp.specs.declared.attribute.MediaAttribute.TheVariants.{RtcpFb, Unused}
-use Rattle.str0m_sdp.specs.declared.attribute.media_type.MediaType.{MediaType}
 use Rattle.str0m_sdp.specs.declared.attribute.media_type.MediaType.TheVariants.{Audio, Video}
 use Rattle.str0m_sdp.specs.declared.label.TheConstants.{TRANSPORT_CC, REMB, FIR, NACK, PLI}
-use Rattle.str0m_sdp.specs.declared.section.media_line.MediaLine.{MediaLine}
-use Rattle.str0m_sdp.specs.section.SectionRows.{rows}
-use Rattle.str0m_signal.specs.session.Locked.{is_carried}
-use Rattle.str0m_values.specs.Cuts.{◌>>=◌, strip}
 use Rattle.str0m_values.specs.declared.media_kind.MediaKind.TheVariants as kind
 
 -- ---- what a section offers

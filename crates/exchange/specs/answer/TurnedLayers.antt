@@ -1,15 +1,11 @@
 -- Layers of an answer beside those of its offer: what the one sends, the other receives (RFC 8851, section 6.3; RFC 8853,
 -- section 5.3.2).
+use Rattle.exchange.specs.Prelude.{MediaAttribute, MediaLine, SimulcastLayer, last, simulcast_of}
 use Rattle.exchange.specs.answer.Layers.{is_named, sent_layers}
 use Rattle.std.specs.List.{list_any}
 use Rattle.std.specs.Prelude.{◌≡◌, ◌&&◌, ◌||◌, ℕ, Bool, true, false, List, [], Option, Some, None, All, codes, bytes_eq, filter_map}
-use Rattle.str0m_sdp.specs.Common.{last}
-use Rattle.str0m_sdp.specs.declared.attribute.MediaAttribute.{MediaAttribute}
 use Rattle.str0m_sdp.specs.declared.attribute.MediaAttribute.TheVariants.{Rid}
 use Rattle.str0m_sdp.specs.declared.attribute.simulcast.Simulcast as layers
-use Rattle.str0m_sdp.specs.declared.attribute.simulcast.SimulcastLayer.{SimulcastLayer}
-use Rattle.str0m_sdp.specs.declared.section.media_line.MediaLine.{MediaLine}
-use Rattle.str0m_sdp.specs.section.SectionAccessors.{simulcast_of}
 
 -- the words of two rid lines, of which the one sends what the other receives
 abbrev pub are_opposite : List ℕ → List ℕ → Bool

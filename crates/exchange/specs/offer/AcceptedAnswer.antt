@@ -1,4 +1,5 @@
 -- Answers to an offer of this side.
+use Rattle.exchange.specs.Prelude.{PayloadParams, Reading, Sdp}
 use Rattle.exchange.specs.answer.Offered.{Negotiates, RefusesText}
 use Rattle.exchange.specs.declared.offer.added.Placed.{Placed}
 use Rattle.exchange.specs.declared.offer.pending.Pending.{Pending}
@@ -10,9 +11,6 @@ use Rattle.exchange.specs.declared.state.signaling_state.SignalingState.TheVaria
 use Rattle.exchange.specs.offer.Fits.{Breaks}
 use Rattle.exchange.specs.state.State.{pending_sdp}
 use Rattle.std.specs.Prelude.{◌≡◌, ℕ, List, [], Option, Some, None}
-use Rattle.str0m_formats.specs.declared.row.payload_params.PayloadParams.{PayloadParams}
-use Rattle.str0m_sdp.specs.declared.session.Sdp.{Sdp}
-use Rattle.str0m_signal.specs.session.Reader.{Reading}
 
 -- the text is this description, and nothing follows it
 abbrev pub IsAnswer : List ℕ → Sdp → Type 0

@@ -1,12 +1,11 @@
 -- What is added to a session, and where an offer places it.
+use Rattle.exchange.specs.Prelude.{Direction, MediaKind}
 use Rattle.exchange.specs.declared.offer.added.Added.{Added}
 use Rattle.exchange.specs.declared.offer.added.Added.TheVariants.{Media, Channels}
 use Rattle.exchange.specs.declared.offer.added.Placed.{Placed}
 use Rattle.exchange.specs.declared.state.exchange.Exchange.{Exchange}
 use Rattle.exchange.specs.declared.state.own_side.SectionDirection.{SectionDirection}
 use Rattle.std.specs.Prelude.{ℕ, List, [], ◌∷◌, ◌++◌, Option, Some, None, filter_map, map}
-use Rattle.str0m_values.specs.declared.direction.Direction.{Direction}
-use Rattle.str0m_values.specs.declared.media_kind.MediaKind.{MediaKind}
 
 -- what was added, in order, each under its name
 abbrev pub placed_under : List (List ℕ) → List Added → List Placed

@@ -1,4 +1,5 @@
 -- The rules that an answer to an offer of this side keeps.
+use Rattle.exchange.specs.Prelude.{Direction, MediaLine, PayloadParams, Sdp, is_listed, is_media, receives, section_direction, sends}
 use Rattle.exchange.specs.answer.Accepted.{setup_in_force}
 use Rattle.exchange.specs.answer.InBundle.{bundle_names, is_so_for}
 use Rattle.exchange.specs.answer.Rows.{answered_rows}
@@ -9,15 +10,7 @@ use Rattle.exchange.specs.offer.Rules.{SaysOnlyOffered}
 use Rattle.exchange.specs.section.Reached.{has_creds, has_fingerprint}
 use Rattle.exchange.specs.section.Stopped.{name_of}
 use Rattle.std.specs.Prelude.{◌≡◌, ◌≢◌, ◌<◌, ◌⊎◌, ℕ, true, false, cond, List, [], ◌∷◌, Option, Some, None, All, filter_map, length, take, slice_get}
-use Rattle.str0m_formats.specs.declared.row.payload_params.PayloadParams.{PayloadParams}
-use Rattle.str0m_sdp.specs.attribute.MediaType.{is_media}
 use Rattle.str0m_sdp.specs.declared.attribute.setup.Setup.TheVariants.{ActPass}
-use Rattle.str0m_sdp.specs.declared.section.media_line.MediaLine.{MediaLine}
-use Rattle.str0m_sdp.specs.declared.session.Sdp.{Sdp}
-use Rattle.str0m_sdp.specs.section.SectionDirection.{section_direction}
-use Rattle.str0m_sdp.specs.session.SessionConsistency.{is_listed}
-use Rattle.str0m_values.specs.Direction.{receives, sends}
-use Rattle.str0m_values.specs.declared.direction.Direction.{Direction}
 
 -- ---- a section beside the one that is offered in its place
 

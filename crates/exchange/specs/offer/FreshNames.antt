@@ -1,6 +1,6 @@
 -- The names of what is added to a session (RFC 5888, section 4; RFC 8829, section 5.2.1): numbers that name no section of it.
+use Rattle.exchange.specs.Prelude.{is_listed}
 use Rattle.std.specs.Prelude.{◌≡◌, ◌≤◌, ◌<◌, ◌+◌, ◌^◌, ℕ, Bool, true, false, List, [], ◌∷◌, Some, decimal, length}
-use Rattle.str0m_sdp.specs.session.SessionConsistency.{is_listed}
 
 -- whether the number is one of these names
 abbrev pub is_taken : List (List ℕ) → ℕ → Bool

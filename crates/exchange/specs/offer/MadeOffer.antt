@@ -1,4 +1,5 @@
 -- The offer that this side makes (RFC 3264, section 8; RFC 8829, section 5.2).
+use Rattle.exchange.specs.Prelude.{MediaLine, Sdp, Session}
 use Rattle.exchange.specs.answer.AnsweredSession.{group_lines, is_accepted, mixed_lines}
 use Rattle.exchange.specs.answer.Bundle.{accepted_names}
 use Rattle.exchange.specs.declared.offer.added.Placed.{Placed}
@@ -10,9 +11,6 @@ use Rattle.exchange.specs.offer.OfferPlaces.{FillsAll}
 use Rattle.exchange.specs.offer.OfferSection.{new_section}
 use Rattle.exchange.specs.state.State.{sections_of, session_of}
 use Rattle.std.specs.Prelude.{◌≡◌, ℕ, List, ◌++◌, None, map}
-use Rattle.str0m_sdp.specs.declared.section.media_line.MediaLine.{MediaLine}
-use Rattle.str0m_sdp.specs.declared.session.Sdp.{Sdp}
-use Rattle.str0m_sdp.specs.declared.session.Session.{Session}
 
 -- what was added, under these names
 abbrev pub placed_as : Exchange → List (List ℕ) → List Placed

@@ -1,8 +1,7 @@
 -- The names that sections of a session have had.
+use Rattle.exchange.specs.Prelude.{MediaLine, is_listed}
 use Rattle.exchange.specs.section.Stopped.{name_of}
 use Rattle.std.specs.Prelude.{ℕ, cond, List, ◌++◌, Option, None, filter_map}
-use Rattle.str0m_sdp.specs.declared.section.media_line.MediaLine.{MediaLine}
-use Rattle.str0m_sdp.specs.session.SessionConsistency.{is_listed}
 
 -- the name of a section, where it isn't among the others
 abbrev pub new_name : List (List ℕ) → MediaLine → Option (List ℕ)

@@ -1,10 +1,8 @@
 -- The header extensions of a section that an offer adds (RFC 8285, section 5; RFC 8829, section 5.2.1).
+use Rattle.exchange.specs.Prelude.{MediaAttribute, MediaLine, first}
 use Rattle.std.specs.Option.{option_or}
 use Rattle.std.specs.Prelude.{ℕ, ◌+◌, true, List, [], ◌∷◌, ◌++◌, Option, Some, None, bytes_eq, filter_map, if◌then◌else◌, max, nat_lt, option_map, option_to_list}
-use Rattle.str0m_sdp.specs.Common.{first}
-use Rattle.str0m_sdp.specs.declared.attribute.MediaAttribute.{MediaAttribute}
 use Rattle.str0m_sdp.specs.declared.attribute.MediaAttribute.TheVariants.{ExtMap}
-use Rattle.str0m_sdp.specs.declared.section.media_line.MediaLine.{MediaLine}
 
 -- the number under which a line says the extension of a URI
 abbrev pub number_of : List ℕ → MediaAttribute → Option ℕ

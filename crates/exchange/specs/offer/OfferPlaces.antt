@@ -1,12 +1,11 @@
 -- The places of an offer: those of the last exchange, and what is added (RFC 3264, section 8; RFC 8829, section 5.2.2).
+use Rattle.exchange.specs.Prelude.{MediaLine, Sdp}
 use Rattle.exchange.specs.answer.RejectedSection.{rejecting}
 use Rattle.exchange.specs.declared.state.exchange.Exchange.{Exchange}
 use Rattle.exchange.specs.declared.state.own_side.SectionDirection.{SectionDirection}
 use Rattle.exchange.specs.offer.OfferSection.{next_section}
 use Rattle.exchange.specs.section.Places.{IsOver}
 use Rattle.std.specs.Prelude.{◌≡◌, ◌⊎◌, ◌+◌, ℕ, List, [], ◌∷◌, ◌++◌, Option, Some, None, slice_get}
-use Rattle.str0m_sdp.specs.declared.section.media_line.MediaLine.{MediaLine}
-use Rattle.str0m_sdp.specs.declared.session.Sdp.{Sdp}
 
 -- the other side's section there
 abbrev pub theirs_at : Option Sdp → ℕ → Option MediaLine

@@ -1,4 +1,5 @@
 -- The rules that an offer of this side keeps, beside the last exchange.
+use Rattle.exchange.specs.Prelude.{MediaLine, MediaType, PayloadParams, first, is_listed, is_media, kind_rows, media_creds, media_fingerprint, media_setup, section_direction, types}
 use Rattle.exchange.specs.declared.state.exchange.Exchange.{Exchange}
 use Rattle.exchange.specs.declared.state.own_side.SectionDirection.{SectionDirection}
 use Rattle.exchange.specs.offer.Rules.{HasShapeOf}
@@ -7,18 +8,8 @@ use Rattle.exchange.specs.section.Stopped.{name_of}
 use Rattle.exchange.specs.state.OwnSide.{direction_among}
 use Rattle.exchange.specs.state.State.{taken_names}
 use Rattle.std.specs.Prelude.{◌≡◌, ◌⊎◌, ◌+◌, ℕ, true, false, List, [], ◌∷◌, Some, MatchOption, filter_map}
-use Rattle.str0m_formats.specs.declared.row.payload_params.PayloadParams.{PayloadParams}
-use Rattle.str0m_formats.specs.row.KindRows.{kind_rows}
-use Rattle.str0m_formats.specs.row.PayloadParams.{types}
-use Rattle.str0m_sdp.specs.Common.{first}
-use Rattle.str0m_sdp.specs.attribute.MediaType.{is_media}
-use Rattle.str0m_sdp.specs.declared.attribute.media_type.MediaType.{MediaType}
 use Rattle.str0m_sdp.specs.declared.attribute.media_type.MediaType.TheVariants.{Audio, Video}
 use Rattle.str0m_sdp.specs.declared.attribute.setup.Setup.TheVariants.{ActPass}
-use Rattle.str0m_sdp.specs.declared.section.media_line.MediaLine.{MediaLine}
-use Rattle.str0m_sdp.specs.section.SectionDirection.{section_direction}
-use Rattle.str0m_sdp.specs.session.SessionConsistency.{is_listed}
-use Rattle.str0m_sdp.specs.session.Transport.{media_creds, media_fingerprint, media_setup}
 use Rattle.str0m_values.specs.declared.media_kind.MediaKind.TheVariants as kind
 
 -- ---- places

@@ -1,4 +1,5 @@
 -- The sections of an offer of this side (RFC 8829, sections 5.2.1 and 5.2.2).
+use Rattle.exchange.specs.Prelude.{Direction, MediaAttribute, MediaKind, MediaLine, MediaType, Proto, direction_attribute, kind_rows, made}
 use Rattle.exchange.specs.answer.Accepted.{candidate_line, channel_lines, first_lines, msid_lines}
 use Rattle.exchange.specs.answer.RejectedSection.{rejecting}
 use Rattle.exchange.specs.declared.offer.added.Added.{Added}
@@ -12,20 +13,11 @@ use Rattle.exchange.specs.section.Stopped.{name_of}
 use Rattle.exchange.specs.state.OwnSide.{direction_among}
 use Rattle.std.specs.List.{list_any}
 use Rattle.std.specs.Prelude.{◌==◌, ◌&&◌, ◌||◌, ℕ, Bool, true, false, List, [], ◌∷◌, ◌++◌, Option, Some, None, bytes_eq, filter, map}
-use Rattle.str0m_formats.specs.row.KindRows.{kind_rows}
-use Rattle.str0m_sdp.specs.attribute.Attribute.{direction_attribute}
-use Rattle.str0m_sdp.specs.declared.attribute.MediaAttribute.{MediaAttribute}
 use Rattle.str0m_sdp.specs.declared.attribute.MediaAttribute.TheVariants as media
-use Rattle.str0m_sdp.specs.declared.attribute.media_type.MediaType.{MediaType}
 use Rattle.str0m_sdp.specs.declared.attribute.media_type.MediaType.TheVariants.{Audio, Video, Application}
-use Rattle.str0m_sdp.specs.declared.attribute.proto.Proto.{Proto}
 use Rattle.str0m_sdp.specs.declared.attribute.proto.Proto.TheVariants.{Srtp, Sctp}
 use Rattle.str0m_sdp.specs.declared.attribute.setup.Setup.TheVariants.{ActPass}
 use Rattle.str0m_sdp.specs.declared.label.TheConstants.{EXTMAP_ALLOW_MIXED}
-use Rattle.str0m_sdp.specs.declared.section.media_line.MediaLine.{MediaLine}
-use Rattle.str0m_sdp.specs.section.MadeSection.{made}
-use Rattle.str0m_values.specs.declared.direction.Direction.{Direction}
-use Rattle.str0m_values.specs.declared.media_kind.MediaKind.{MediaKind}
 use Rattle.str0m_values.specs.declared.media_kind.MediaKind.TheVariants as kind
 
 -- ---- what is offered

@@ -1,8 +1,7 @@
 -- Sections that share a name (RFC 5888, section 4).
+use Rattle.exchange.specs.Prelude.{AreDistinct, MediaLine, is_listed, section_mids}
 use Rattle.exchange.specs.section.Stopped.{name_of}
 use Rattle.std.specs.Prelude.{◌≡◌, ℕ, true, List, Some, take, slice_get}
-use Rattle.str0m_sdp.specs.declared.section.media_line.MediaLine.{MediaLine}
-use Rattle.str0m_sdp.specs.session.SessionConsistency.{AreDistinct, is_listed, section_mids}
 
 -- the section at a place has the name of one before it, and no two of those before it have one name
 pub record IsNamedAgain (sections : List MediaLine) (at : ℕ) : Type 0 where

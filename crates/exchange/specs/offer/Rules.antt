@@ -1,27 +1,14 @@
 -- The rules that each section of an answer keeps, beside the section that it answers.
+use Rattle.exchange.specs.Prelude.{AnswersDirection, AnswersRole, MediaAttribute, MediaLine, MediaType, PayloadParams, Proto, Sdp, Setup, first, is_media, media_creds, media_fingerprint, media_setup, section_direction, types}
 use Rattle.exchange.specs.answer.Accepted.{setup_in_force}
 use Rattle.exchange.specs.answer.Rows.{answered_rows}
 use Rattle.exchange.specs.declared.state.own_side.OwnSide.{OwnSide}
 use Rattle.exchange.specs.section.Stopped.{IsStopped, name_of}
 use Rattle.exchange.specs.state.OwnSide.{own_direction}
 use Rattle.std.specs.Prelude.{◌≡◌, ◌≢◌, ◌↔◌, Bool, true, false, List, [], Some, None, All, Contains, filter_map}
-use Rattle.str0m_formats.specs.declared.row.payload_params.PayloadParams.{PayloadParams}
-use Rattle.str0m_formats.specs.row.PayloadParams.{types}
-use Rattle.str0m_sdp.specs.Common.{first}
-use Rattle.str0m_sdp.specs.attribute.MediaType.{is_media}
-use Rattle.str0m_sdp.specs.attribute.Setup.{AnswersRole}
-use Rattle.str0m_sdp.specs.declared.attribute.MediaAttribute.{MediaAttribute}
 use Rattle.str0m_sdp.specs.declared.attribute.MediaAttribute.TheVariants as media
-use Rattle.str0m_sdp.specs.declared.attribute.media_type.MediaType.{MediaType}
 use Rattle.str0m_sdp.specs.declared.attribute.media_type.MediaType.TheVariants.{Audio, Video, Application}
-use Rattle.str0m_sdp.specs.declared.attribute.proto.Proto.{Proto}
 use Rattle.str0m_sdp.specs.declared.attribute.proto.Proto.TheVariants.{Srtp, Sctp}
-use Rattle.str0m_sdp.specs.declared.attribute.setup.Setup.{Setup}
-use Rattle.str0m_sdp.specs.declared.section.media_line.MediaLine.{MediaLine}
-use Rattle.str0m_sdp.specs.declared.session.Sdp.{Sdp}
-use Rattle.str0m_sdp.specs.section.SectionDirection.{section_direction}
-use Rattle.str0m_sdp.specs.session.Transport.{media_creds, media_fingerprint, media_setup}
-use Rattle.str0m_values.specs.Direction.{AnswersDirection}
 
 -- the type, the protocol and the name of the offered one (RFC 3264, section 6; RFC 8829, section 5.3.1)
 pub record HasShapeOf (offered answered : MediaLine) : Type 0 where

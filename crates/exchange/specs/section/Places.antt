@@ -1,13 +1,10 @@
 -- The places of sections over several exchanges (RFC 3264, section 8; RFC 8829, section 5.2.2).
+use Rattle.exchange.specs.Prelude.{Holds, MediaLine, Sdp, is_listed}
 use Rattle.exchange.specs.answer.InBundle.{bundle_names}
 use Rattle.exchange.specs.section.Stopped.{IsStoppedAt, name_of}
 use Rattle.std.specs.BTreeSet.{BTreeSet}
 use Rattle.std.specs.Borrow.{Bor}
 use Rattle.std.specs.Prelude.{◌≡◌, ◌<◌, ◌≤◌, ◌⊎◌, ℕ, true, false, List, Option, Some, IfSome, IsSomeAnd, length, slice_get}
-use Rattle.str0m_sdp.specs.declared.section.media_line.MediaLine.{MediaLine}
-use Rattle.str0m_sdp.specs.declared.session.Sdp.{Sdp}
-use Rattle.str0m_sdp.specs.session.OrderedMids.{Holds}
-use Rattle.str0m_sdp.specs.session.SessionConsistency.{is_listed}
 
 -- ---- which places may have a new name
 

@@ -1,12 +1,9 @@
 -- Sections that say how their transport is reached, or for which the session says so.
+use Rattle.exchange.specs.Prelude.{MediaAttribute, MediaLine, Session, SessionAttribute}
 use Rattle.std.specs.List.{list_any}
 use Rattle.std.specs.Prelude.{◌||◌, ◌&&◌, Bool, true, false}
-use Rattle.str0m_sdp.specs.declared.attribute.MediaAttribute.{MediaAttribute}
 use Rattle.str0m_sdp.specs.declared.attribute.MediaAttribute.TheVariants as media
-use Rattle.str0m_sdp.specs.declared.attribute.SessionAttribute.{SessionAttribute}
 use Rattle.str0m_sdp.specs.declared.attribute.SessionAttribute.TheVariants as session
-use Rattle.str0m_sdp.specs.declared.section.media_line.MediaLine.{MediaLine}
-use Rattle.str0m_sdp.specs.declared.session.Session.{Session}
 
 abbrev pub is_ufrag : MediaAttribute → Bool
 is_ufrag (media.IceUfrag text) = true

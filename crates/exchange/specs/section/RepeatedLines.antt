@@ -1,10 +1,9 @@
 -- The lines that an answer says only where the offer does.
+use Rattle.exchange.specs.Prelude.{MediaAttribute, MediaLine}
 use Rattle.std.specs.List.{list_any}
 use Rattle.std.specs.Prelude.{ℕ, Bool, true, false, List, bytes_eq, filter}
-use Rattle.str0m_sdp.specs.declared.attribute.MediaAttribute.{MediaAttribute}
 use Rattle.str0m_sdp.specs.declared.attribute.MediaAttribute.TheVariants.{RtcpMux, RtcpRsize, ExtMap, Unused}
 use Rattle.str0m_sdp.specs.declared.label.TheConstants.{EXTMAP_ALLOW_MIXED}
-use Rattle.str0m_sdp.specs.declared.section.media_line.MediaLine.{MediaLine}
 
 -- one port for RTP and RTCP (RFC 5761, section 5.1.1), RTCP of reduced size (RFC 5506, section 5), an extension that this side
 -- knows by its URI, and short and long extensions mixed (RFC 8285, section 6), a line that is kept unread

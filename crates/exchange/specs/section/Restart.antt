@@ -1,8 +1,7 @@
 -- When a description restarts ICE (RFC 8839, section 4.4.3.1.1).
+use Rattle.exchange.specs.Prelude.{IceCreds, Sdp}
 use Rattle.exchange.specs.answer.InForce.{creds_at}
 use Rattle.std.specs.Prelude.{◌≡◌, ◌≢◌, ℕ, Some}
-use Rattle.str0m_sdp.specs.declared.session.Sdp.{Sdp}
-use Rattle.str0m_values.specs.declared.ice_creds.IceCreds.{IceCreds}
 
 -- the section there had credentials, and it has others now
 abbrev pub IsRestartedAt : Sdp → Sdp → ℕ → Type 0

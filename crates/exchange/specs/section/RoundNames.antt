@@ -1,9 +1,7 @@
 -- Which outcome of a text's rounds is of which section.
+use Rattle.exchange.specs.Prelude.{MediaLine, Sdp, is_media}
 use Rattle.exchange.specs.section.Stopped.{name_of}
 use Rattle.std.specs.Prelude.{ℕ, Bool, List, Option, filter, map}
-use Rattle.str0m_sdp.specs.attribute.MediaType.{is_media}
-use Rattle.str0m_sdp.specs.declared.section.media_line.MediaLine.{MediaLine}
-use Rattle.str0m_sdp.specs.declared.session.Sdp.{Sdp}
 
 -- audio and video sections have a round each, disabled ones too
 abbrev pub has_round : MediaLine → Bool

@@ -1,11 +1,7 @@
 -- Which sections are stopped, and which only share the transport of a bundle (RFC 9143, section 6).
+use Rattle.exchange.specs.Prelude.{MediaLine, Sdp, bundled_of, first, mid_of}
 use Rattle.std.specs.Prelude.{◌≡◌, ℕ, true, List, Option, Some, codes, filter_map, Contains, slice_get}
-use Rattle.str0m_sdp.specs.Common.{first}
 use Rattle.str0m_sdp.specs.declared.attribute.MediaAttribute.TheVariants.{Unused}
-use Rattle.str0m_sdp.specs.declared.section.media_line.MediaLine.{MediaLine}
-use Rattle.str0m_sdp.specs.declared.session.Sdp.{Sdp}
-use Rattle.str0m_sdp.specs.section.Consistency.{mid_of}
-use Rattle.str0m_sdp.specs.session.SdpAccessors.{bundled_of}
 
 -- the name of a section (RFC 5888, section 4), the first that it says
 abbrev pub name_of : MediaLine → Option (List ℕ)

@@ -1,9 +1,7 @@
 -- A candidate as it is trickled (RFC 8838; RFC 8839, section 5.1).
+use Rattle.exchange.specs.Prelude.{Candidate, FirstLine, IsCandidateLine}
 use Rattle.std.specs.List.{starts_with}
 use Rattle.std.specs.Prelude.{ℕ, List, [], ◌++◌, codes, nat_eq, if◌then◌else◌}
-use Rattle.str0m_signal.specs.form.CandidateLine.{IsCandidateLine}
-use Rattle.str0m_signal.specs.line.Lines.{FirstLine}
-use Rattle.str0m_values.specs.declared.candidate.Candidate.{Candidate}
 
 -- the text as a line of a description, which begins with `a=`
 abbrev pub as_line : List ℕ → List ℕ

@@ -1,4 +1,5 @@
 -- What an exchange of offers and answers comes to.
+use Rattle.exchange.specs.Prelude.{AreDistinct, MediaKind, MediaLine, PayloadParams, Sdp, kind_rows, section_mids, versioned_text}
 use Rattle.exchange.specs.answer.AnsweredSection.{AnswersSection}
 use Rattle.exchange.specs.answer.AnsweredSession.{answered_session}
 use Rattle.exchange.specs.answer.Offered.{IsOffer, Negotiates, RefusesText}
@@ -17,13 +18,6 @@ use Rattle.exchange.specs.state.ReadBack.{IsReadBack}
 use Rattle.exchange.specs.state.State.{sections_of, state_of, taken_names}
 use Rattle.std.specs.List.{AllZip}
 use Rattle.std.specs.Prelude.{◌≡◌, ◌≢◌, ℕ, true, List, [], Option, None, IsSomeAnd, length}
-use Rattle.str0m_formats.specs.declared.row.payload_params.PayloadParams.{PayloadParams}
-use Rattle.str0m_formats.specs.row.KindRows.{kind_rows}
-use Rattle.str0m_sdp.specs.declared.section.media_line.MediaLine.{MediaLine}
-use Rattle.str0m_sdp.specs.declared.session.Sdp.{Sdp}
-use Rattle.str0m_sdp.specs.session.Session.{versioned_text}
-use Rattle.str0m_sdp.specs.session.SessionConsistency.{AreDistinct, section_mids}
-use Rattle.str0m_values.specs.declared.media_kind.MediaKind.{MediaKind}
 
 -- the description answers an offer, where this side has these rows: section by section, and as a whole
 pub record AnswersOffer (own : OwnSide) (ours : List PayloadParams) (offer answer : Sdp) : Type 0 where

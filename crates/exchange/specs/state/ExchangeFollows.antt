@@ -1,13 +1,11 @@
 -- What holds over any list of calls of an exchange (RFC 3264, section 8; RFC 8829, section 5.2.2).
+use Rattle.exchange.specs.Prelude.{AreDistinct, LockedStay, MediaLine, is_listed, section_mids}
 use Rattle.exchange.specs.declared.offer.pending.Pending.{Pending}
 use Rattle.exchange.specs.declared.state.exchange.Exchange.{Exchange}
 use Rattle.exchange.specs.section.Places.{FollowsPlaces}
 use Rattle.exchange.specs.section.Stopped.{name_of}
 use Rattle.exchange.specs.state.State.{sections_of}
 use Rattle.std.specs.Prelude.{◌≡◌, ◌≢◌, ℕ, true, List, Option, None, All, IfSome, length}
-use Rattle.str0m_formats.specs.round.RoundsPromises.{LockedStay}
-use Rattle.str0m_sdp.specs.declared.section.media_line.MediaLine.{MediaLine}
-use Rattle.str0m_sdp.specs.session.SessionConsistency.{AreDistinct, is_listed, section_mids}
 
 -- each name that was there is there
 abbrev pub Grows : List (List ℕ) → List (List ℕ) → Type 0

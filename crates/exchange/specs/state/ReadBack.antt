@@ -1,12 +1,8 @@
 -- A description whose text is read to its end as this very description.
+use Rattle.exchange.specs.Prelude.{Alike, MediaAttribute, MediaLine, Reading, Sdp}
 use Rattle.std.specs.List.{AllZip}
 use Rattle.std.specs.Prelude.{◌≡◌, ℕ, Bool, true, false, List, []}
-use Rattle.str0m_sdp.specs.declared.attribute.MediaAttribute.{MediaAttribute}
 use Rattle.str0m_sdp.specs.declared.attribute.MediaAttribute.TheVariants.{Fmtp, Simulcast as SimulcastLine}
-use Rattle.str0m_sdp.specs.declared.section.media_line.MediaLine.{MediaLine}
-use Rattle.str0m_sdp.specs.declared.session.Sdp.{Sdp}
-use Rattle.str0m_sdp.specs.section.Alike.{Alike}
-use Rattle.str0m_signal.specs.session.Reader.{Reading}
 
 -- the same m-line (RFC 8866, section 5.14): type, port 0 or not, protocol and payload types
 pub record IsSameHead (said read : MediaLine) : Type 0 where

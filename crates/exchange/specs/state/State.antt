@@ -1,13 +1,10 @@
 -- Where an exchange of offers and answers stands (RFC 8829, section 3.2).
+use Rattle.exchange.specs.Prelude.{MediaLine, Sdp, SessionAttribute, section_mids}
 use Rattle.exchange.specs.declared.offer.pending.Pending.{Pending}
 use Rattle.exchange.specs.declared.state.exchange.Exchange.{Exchange}
 use Rattle.exchange.specs.declared.state.signaling_state.SignalingState.{SignalingState}
 use Rattle.exchange.specs.declared.state.signaling_state.SignalingState.TheVariants.{Stable, HaveLocalOffer}
 use Rattle.std.specs.Prelude.{ℕ, List, [], ◌++◌, Option, Some, None, option_map}
-use Rattle.str0m_sdp.specs.declared.attribute.SessionAttribute.{SessionAttribute}
-use Rattle.str0m_sdp.specs.declared.section.media_line.MediaLine.{MediaLine}
-use Rattle.str0m_sdp.specs.declared.session.Sdp.{Sdp}
-use Rattle.str0m_sdp.specs.session.SessionConsistency.{section_mids}
 
 -- stable where no offer of this side waits for its answer
 abbrev pub state_by : Option Pending → SignalingState

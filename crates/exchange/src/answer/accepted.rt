@@ -1,9 +1,7 @@
 //! Sections that accept.
+ghost use Rattle.exchange.specs.Prelude.{is_of_type, made, row_attrs, types, types_of};
 ghost use Rattle.exchange.specs.answer.Accepted.{AcceptsChannels, AcceptsMedia, are_layers_told, candidate_line, channel_lines, first_lines, framed, layer_lines, media_lines, msid_lines, setup_in_force, tells_layer, track_id};
 ghost use Rattle.std.specs.Prelude.{◌≡◌, ◌++◌, IfOk, OnOk, filter, map, not, flat_map};
-ghost use Rattle.str0m_formats.specs.row.PayloadParams.{types, types_of};
-ghost use Rattle.str0m_sdp.specs.section.MadeSection.{is_of_type, made};
-ghost use Rattle.str0m_sdp.specs.section.RowAttributes.{row_attrs};
 
 use crate::answer::layers::answered_layers;
 use crate::section::repeated_lines::{is_repeated, repeated};

@@ -1,4 +1,5 @@
 //! Answers of this side to offers.
+ghost use Rattle.exchange.specs.Prelude.{AllDistinct, AreDistinct, HasBoundedRows, IsPlain, LockedStay, section_mids, types, versioned_text};
 ghost use Rattle.exchange.specs.answer.AcceptedOffer.{tracks};
 ghost use Rattle.exchange.specs.answer.AnsweredSession.{BundlesAccepted};
 ghost use Rattle.exchange.specs.answer.Offered.{AreRoundsOf, IsOffer, Negotiates};
@@ -12,13 +13,6 @@ ghost use Rattle.exchange.specs.state.ReadBack.{IsReadBack};
 ghost use Rattle.exchange.specs.state.State.{sections_of, state_of};
 ghost use Rattle.std.specs.List.{AllZip};
 ghost use Rattle.std.specs.Prelude.{All, ◌≡◌, ◌+◌, ◌-◌, ◌^◌, IfErr, IfOk, IsSomeAnd, OnErr, OnOk, Some, min};
-ghost use Rattle.str0m_formats.specs.round.Claimed.{AllDistinct};
-ghost use Rattle.str0m_formats.specs.round.RoundsPromises.{LockedStay};
-ghost use Rattle.str0m_formats.specs.row.PayloadParams.{types};
-ghost use Rattle.str0m_formats.specs.row.PlainRow.{IsPlain};
-ghost use Rattle.str0m_sdp.specs.section.SectionRows.{HasBoundedRows};
-ghost use Rattle.str0m_sdp.specs.session.Session.{versioned_text};
-ghost use Rattle.str0m_sdp.specs.session.SessionConsistency.{AreDistinct, section_mids};
 
 use crate::answer::Answer;
 use crate::answer::answered_section::answered_sections;

@@ -1,12 +1,11 @@
 //! The sections of an answer.
+ghost use Rattle.exchange.specs.Prelude.{Holds, rows};
 ghost use Rattle.exchange.specs.answer.AnsweredSection.{AnswersSection, SaysChoice};
 ghost use Rattle.exchange.specs.answer.InBundle.{bundle_names};
 ghost use Rattle.exchange.specs.answer.Offered.{AreRoundsOf, BringsRound};
 ghost use Rattle.exchange.specs.offer.Rules.{HasShapeOf, IsAcceptedExactly, KeepsRules};
 ghost use Rattle.std.specs.List.{AllZip};
 ghost use Rattle.std.specs.Prelude.{◌≡◌, IfOk};
-ghost use Rattle.str0m_sdp.specs.section.SectionRows.{rows};
-ghost use Rattle.str0m_sdp.specs.session.OrderedMids.{Holds};
 
 use crate::answer::accepted::{accepted_channels, accepted_media};
 use crate::answer::choice::{Choice, choice_of};

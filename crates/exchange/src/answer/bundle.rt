@@ -1,9 +1,8 @@
 //! The names that the group of an answer lists.
 
+ghost use Rattle.exchange.specs.Prelude.{Holds, is_listed};
 ghost use Rattle.exchange.specs.answer.Bundle.{accepted_names, answered_bundle, listed_among, name_if_accepted};
 ghost use Rattle.std.specs.Prelude.{◌≡◌, IfOk, Some};
-ghost use Rattle.str0m_sdp.specs.session.OrderedMids.{Holds};
-ghost use Rattle.str0m_sdp.specs.session.SessionConsistency.{is_listed};
 
 use crate::offer::names::{is_held, ordered};
 use crate::section::stopped::name_of;

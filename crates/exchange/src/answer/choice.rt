@@ -1,13 +1,11 @@
 //! What a section is answered with.
+ghost use Rattle.exchange.specs.Prelude.{Holds, is_media, rows};
 ghost use Rattle.exchange.specs.answer.Choice.{IsChoice, channels_or_none, open_choice, rows_or_none};
 ghost use Rattle.exchange.specs.answer.InBundle.{bundle_names};
 ghost use Rattle.exchange.specs.answer.Offered.{BringsRound};
 ghost use Rattle.exchange.specs.answer.Rows.{answered_rows};
 ghost use Rattle.std.specs.Prelude.{◌≡◌, IfOk, true};
-ghost use Rattle.str0m_sdp.specs.attribute.MediaType.{is_media};
 ghost use Rattle.str0m_sdp.specs.declared.attribute.proto.Proto.TheVariants.{Srtp};
-ghost use Rattle.str0m_sdp.specs.section.SectionRows.{rows};
-ghost use Rattle.str0m_sdp.specs.session.OrderedMids.{Holds};
 
 use crate::answer::rows::answered_rows;
 use crate::section::stopped::{is_stopped_in, name_of};

@@ -1,7 +1,7 @@
 //! Sections that share the transport of a bundle.
+ghost use Rattle.exchange.specs.Prelude.{Holds};
 ghost use Rattle.exchange.specs.answer.InBundle.{bundle_names, is_same_name, is_tagged, tagged};
 ghost use Rattle.std.specs.Prelude.{◌≡◌, IfOk, option_copied};
-ghost use Rattle.str0m_sdp.specs.session.OrderedMids.{Holds};
 
 use crate::offer::names::ordered;
 use crate::section::stopped::name_of;

@@ -1,10 +1,8 @@
 //! What is in force at a section: what it says itself, else what the session says for all sections.
 
+ghost use Rattle.exchange.specs.Prelude.{IsPreferred, first, media_pwd, media_ufrag, session_pwd, session_ufrag};
 ghost use Rattle.exchange.specs.answer.InForce.{creds_at, fingerprints_at, fingerprints_of, pwd_at, setup_at, ufrag_at};
 ghost use Rattle.std.specs.Prelude.{◌≡◌, IfOk, Some, filter_map, option_copied};
-ghost use Rattle.str0m_sdp.specs.Common.{first};
-ghost use Rattle.str0m_sdp.specs.session.PreferredFingerprint.{IsPreferred};
-ghost use Rattle.str0m_sdp.specs.session.Transport.{media_pwd, media_ufrag, session_pwd, session_ufrag};
 
 use std::alloc::AllocError;
 use str0m_signal::{

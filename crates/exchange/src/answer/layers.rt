@@ -1,8 +1,8 @@
 //! The layers of a stream that is received in several.
+ghost use Rattle.exchange.specs.Prelude.{rid_name_of};
 ghost use Rattle.exchange.specs.answer.Layers.{IsTurned, answered_layers, answered_rid, answered_rids, has_name, is_answered, is_left, is_named, is_type_of, layers_line, received_layers, sent_layers, types_left};
 ghost use Rattle.std.specs.List.{list_any};
 ghost use Rattle.std.specs.Prelude.{◌≡◌, ◌++◌, ◌==◌, ℕ, IfOk, List, OnOk, filter, filter_map, option_to_list, All, []};
-ghost use Rattle.str0m_sdp.specs.section.SectionAccessors.{rid_name_of};
 
 use std::alloc::{AllocError, Global};
 use str0m_signal::{

@@ -1,15 +1,8 @@
 //! Offers that are read whole, and their rounds.
+ghost use Rattle.exchange.specs.Prelude.{AllDistinct, HasBoundedRows, Holds, IsFromLine, IsPlain, LockedStay, MediaLine, rows, types};
 ghost use Rattle.exchange.specs.answer.InBundle.{bundle_names};
 ghost use Rattle.exchange.specs.answer.Offered.{AreRoundsOf, BringsRound, IsOffer, IsRoundOf, Negotiates, RefusesText};
 ghost use Rattle.std.specs.Prelude.{◌≡◌, ◌≢◌, ◌==◌, ◌+◌, ◌∷◌, ◌↔◌, [], IfErr, IfOk, IsTrue, List, OnOk, All, count_by, length};
-ghost use Rattle.str0m_formats.specs.round.Claimed.{AllDistinct};
-ghost use Rattle.str0m_formats.specs.round.RoundsPromises.{LockedStay};
-ghost use Rattle.str0m_formats.specs.row.PayloadParams.{types};
-ghost use Rattle.str0m_formats.specs.row.PlainRow.{IsPlain};
-ghost use Rattle.str0m_sdp.specs.declared.section.media_line.MediaLine.{MediaLine};
-ghost use Rattle.str0m_sdp.specs.section.SectionRows.{HasBoundedRows, rows};
-ghost use Rattle.str0m_sdp.specs.session.OrderedMids.{Holds};
-ghost use Rattle.str0m_signal.specs.session.Reader.{IsFromLine};
 
 use crate::answer::in_bundle::ordered_bundle;
 use crate::section::stopped::is_stopped_in;

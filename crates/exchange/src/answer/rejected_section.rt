@@ -1,7 +1,7 @@
 //! The section that rejects an offered one.
+ghost use Rattle.exchange.specs.Prelude.{Consistent, is_mid, maps};
 ghost use Rattle.exchange.specs.answer.RejectedSection.{direction_over, first_type, line_that, listed_alone, rejecting};
 ghost use Rattle.std.specs.Prelude.{◌≡◌, ◌++◌, IfOk, OnOk, find, option_to_list, option_copied};
-ghost use Rattle.str0m_sdp.specs.section.Consistency.{Consistent, is_mid, maps};
 
 use std::alloc::{AllocError, Global};
 use str0m_signal::{Items, MediaAttribute, MediaLine, MediaType, Proto, Pt};

@@ -1,13 +1,8 @@
 //! The rows that answer a section.
+ghost use Rattle.exchange.specs.Prelude.{AllDistinct, IsPlain, PayloadParams, distinct, has, locked_types, rows, types};
 ghost use Rattle.exchange.specs.answer.OfferedFeedback.{TellsOf};
 ghost use Rattle.exchange.specs.answer.Rows.{IsAgreed, Belongs, KeepsPlain, SaysWhatIsOffered, agreed_type, as_answered, is_answered, is_carried_in, matches, answer_to, answer_under, answered_rows, own_types};
 ghost use Rattle.std.specs.Prelude.{◌≡◌, ◌==◌, ◌++◌, ◌∷◌, [], All, Contains, IfOk, OnOk, filter, filter_map, find, if◌then◌else◌, option_to_list, option_copied};
-ghost use Rattle.str0m_formats.specs.declared.row.payload_params.PayloadParams.{PayloadParams};
-ghost use Rattle.str0m_formats.specs.round.Claimed.{AllDistinct, has};
-ghost use Rattle.str0m_formats.specs.row.PayloadParams.{locked_types, types};
-ghost use Rattle.str0m_formats.specs.row.PlainRow.{IsPlain};
-ghost use Rattle.str0m_sdp.specs.Common.{distinct};
-ghost use Rattle.str0m_sdp.specs.section.SectionRows.{rows};
 
 use crate::answer::offered_feedback::{SectionFeedback, section_feedback};
 use std::alloc::{AllocError, Global};

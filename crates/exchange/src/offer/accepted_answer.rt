@@ -1,4 +1,5 @@
 //! Answers to offers of this side.
+ghost use Rattle.exchange.specs.Prelude.{AllDistinct, IsPlain, LockedStay, types};
 ghost use Rattle.exchange.specs.answer.Offered.{Negotiates};
 ghost use Rattle.exchange.specs.declared.state.signaling_state.SignalingState.TheVariants.{HaveLocalOffer, Stable};
 ghost use Rattle.exchange.specs.offer.AcceptedAnswer.{IsAnswer, RefusesAnswer, RefusesFit, placed_of};
@@ -8,10 +9,6 @@ ghost use Rattle.exchange.specs.offer.Names.{grown};
 ghost use Rattle.exchange.specs.state.ExchangeFollows.{Follows, IsSound};
 ghost use Rattle.exchange.specs.state.State.{pending_sdp, sections_of, state_of};
 ghost use Rattle.std.specs.Prelude.{All, ◌≡◌, IfErr, IfOk, IsSomeAnd, None, OnErr, OnOk, drop, length, option_map};
-ghost use Rattle.str0m_formats.specs.round.Claimed.{AllDistinct};
-ghost use Rattle.str0m_formats.specs.round.RoundsPromises.{LockedStay};
-ghost use Rattle.str0m_formats.specs.row.PayloadParams.{types};
-ghost use Rattle.str0m_formats.specs.row.PlainRow.{IsPlain};
 
 use crate::answer::offered::whole_description;
 use crate::offer::added::{Added, with_placed};

@@ -1,9 +1,9 @@
 //! Whether an answer fits the offer of this side.
+ghost use Rattle.exchange.specs.Prelude.{Holds};
 ghost use Rattle.exchange.specs.answer.Bundled.{IsBundledBy};
 ghost use Rattle.exchange.specs.answer.InBundle.{bundle_names};
 ghost use Rattle.exchange.specs.offer.Fits.{Breaks, BreaksAt, BreaksFirstAt, BundlesSo, FitsAt, FitsOffer, IsBundledSo, accepted_name, accepted_names};
 ghost use Rattle.std.specs.Prelude.{◌≡◌, ◌↔◌, ℕ, IfOk, IsTrue, MatchOption, filter_map, Some};
-ghost use Rattle.str0m_sdp.specs.session.OrderedMids.{Holds};
 
 use crate::answer::bundled::{Bundled, shared_by};
 use crate::answer::in_bundle::bundle_names;

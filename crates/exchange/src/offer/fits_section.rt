@@ -1,4 +1,5 @@
 //! The rules that a section of an answer keeps beside the one that is offered in its place.
+ghost use Rattle.exchange.specs.Prelude.{is_media, section_direction};
 ghost use Rattle.exchange.specs.answer.Accepted.{setup_in_force};
 ghost use Rattle.exchange.specs.answer.Bundled.{IsBundledBy};
 ghost use Rattle.exchange.specs.answer.InBundle.{is_so_for};
@@ -8,9 +9,7 @@ ghost use Rattle.exchange.specs.offer.Fits.{BreaksFirst, FitsSection, FlowsWithi
 ghost use Rattle.exchange.specs.offer.Rules.{SaysOnlyOffered};
 ghost use Rattle.exchange.specs.section.Reached.{has_creds, has_fingerprint};
 ghost use Rattle.std.specs.Prelude.{◌≡◌, ◌≢◌, ◌↔◌, [], IfOk, IsTrue, MatchOption, Some, true};
-ghost use Rattle.str0m_sdp.specs.attribute.MediaType.{is_media};
 ghost use Rattle.str0m_sdp.specs.declared.attribute.setup.Setup.TheVariants.{ActPass};
-ghost use Rattle.str0m_sdp.specs.section.SectionDirection.{section_direction};
 
 use crate::answer::accepted::setup_in_force;
 use crate::answer::bundled::Bundled;

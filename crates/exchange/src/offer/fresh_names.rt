@@ -1,9 +1,8 @@
 //! The names of what is added to a session.
+ghost use Rattle.exchange.specs.Prelude.{AreDistinct, Holds, is_held, is_listed};
 ghost use Rattle.exchange.specs.declared.state.exchange_error.ExchangeError.TheVariants.{Memory, NoName};
 ghost use Rattle.exchange.specs.offer.FreshNames.{AreAllTaken, AreFresh, AreTooFew, IsNextFree};
 ghost use Rattle.std.specs.Prelude.{◌≡◌, ◌<◌, ◌⊎◌, ◌^◌, false, All, IfErr, IfOk, MatchOption, ℕ, Some, decimal, length};
-ghost use Rattle.str0m_sdp.specs.session.OrderedMids.{Holds, is_held};
-ghost use Rattle.str0m_sdp.specs.session.SessionConsistency.{AreDistinct, is_listed};
 
 use crate::offer::names::ordered;
 use crate::state::exchange_error::ExchangeError;

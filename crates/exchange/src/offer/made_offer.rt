@@ -1,4 +1,5 @@
 //! The offer that this side makes.
+ghost use Rattle.exchange.specs.Prelude.{AreDistinct, section_mids};
 ghost use Rattle.exchange.specs.offer.MadeOffer.{MakesOffer, bundled_names, offer_session, placed_as, ready_with};
 ghost use Rattle.exchange.specs.offer.OfferExtensions.{extension_lines};
 ghost use Rattle.exchange.specs.offer.OfferRules.{IsNewName, IsOffered, KeepsPlaces};
@@ -6,7 +7,6 @@ ghost use Rattle.exchange.specs.offer.OfferSection.{new_section};
 ghost use Rattle.exchange.specs.section.Places.{FollowsPlaces};
 ghost use Rattle.exchange.specs.state.State.{sections_of, session_of, taken_names};
 ghost use Rattle.std.specs.Prelude.{◌≡◌, All, IfOk, map};
-ghost use Rattle.str0m_sdp.specs.session.SessionConsistency.{AreDistinct, section_mids};
 
 use crate::answer::answered_session::{are_accepted, group_lines, mixed_lines};
 use crate::answer::bundle::accepted_names;

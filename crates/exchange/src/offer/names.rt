@@ -1,8 +1,8 @@
 //! Names of sections in the order of their bytes, so that one is found among many without a look at each, whoever chose
 //! them, and the names that sections of a session have had.
+ghost use Rattle.exchange.specs.Prelude.{Holds, is_held};
 ghost use Rattle.exchange.specs.offer.Names.{grown, new_name};
 ghost use Rattle.std.specs.Prelude.{◌≡◌, ◌++◌, IfOk, OnOk, option_to_list};
-ghost use Rattle.str0m_sdp.specs.session.OrderedMids.{Holds, is_held};
 
 use crate::section::stopped::name_of;
 use std::alloc::{AllocError, Global};

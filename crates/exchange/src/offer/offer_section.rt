@@ -1,8 +1,8 @@
 //! The sections of an offer.
+ghost use Rattle.exchange.specs.Prelude.{kind_rows};
 ghost use Rattle.exchange.specs.offer.OfferSection.{asked_lines, flow_lines, is_extension, is_mux, is_own, is_rsize, is_said, is_same, kept_lines, new_section, next_section, offered_channels, offered_media, section_with, type_of};
 ghost use Rattle.std.specs.List.{list_any};
 ghost use Rattle.std.specs.Prelude.{◌≡◌, ◌≢◌, [], IfOk, false, true, option_copied};
-ghost use Rattle.str0m_formats.specs.row.KindRows.{kind_rows};
 
 use crate::answer::accepted::{candidate_lines, channel_lines, first_lines, push_msid};
 use crate::answer::rejected_section::rejected;

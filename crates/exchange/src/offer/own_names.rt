@@ -1,8 +1,8 @@
 //! Whether each section of a description has a name of its own (RFC 5888, section 4).
+ghost use Rattle.exchange.specs.Prelude.{AreDistinct, section_mids};
 ghost use Rattle.exchange.specs.offer.OwnNames.{IsNamedAgain};
 ghost use Rattle.exchange.specs.section.Stopped.{name_of};
 ghost use Rattle.std.specs.Prelude.{◌≡◌, IfOk, MatchOption, map};
-ghost use Rattle.str0m_sdp.specs.session.SessionConsistency.{AreDistinct, section_mids};
 
 use crate::section::stopped::name_of;
 use std::alloc::{AllocError, Global};

@@ -1,9 +1,9 @@
 //! The places of sections over several exchanges.
+ghost use Rattle.exchange.specs.Prelude.{Holds};
 ghost use Rattle.exchange.specs.section.Places.{HasNameAt, HoldsGroup, IsFree, IsOver, StaysInPlace, StaysInPlaceAt, StaysInPlaces, MovesAt};
 ghost use Rattle.exchange.specs.section.Stopped.{IsStoppedAt};
 ghost use Rattle.exchange.specs.state.State.{sections_of};
 ghost use Rattle.std.specs.Prelude.{◌≡◌, ◌↔◌, IfOk, IsSomeAnd, IsTrue, MatchOption};
-ghost use Rattle.str0m_sdp.specs.session.OrderedMids.{Holds};
 
 use crate::answer::in_bundle::ordered_bundle;
 use crate::offer::names::{is_held, ordered};

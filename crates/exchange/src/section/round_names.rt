@@ -1,9 +1,7 @@
 //! Which outcome of a text's rounds is of which section.
+ghost use Rattle.exchange.specs.Prelude.{Negotiated, Outcome, PayloadParams};
 ghost use Rattle.exchange.specs.section.RoundNames.{has_round, negotiated_names};
 ghost use Rattle.std.specs.Prelude.{◌≡◌, List, IfOk, length};
-ghost use Rattle.str0m_formats.specs.declared.row.payload_params.PayloadParams.{PayloadParams};
-ghost use Rattle.str0m_formats.specs.round.RoundsRuns.{Outcome};
-ghost use Rattle.str0m_signal.specs.session.Negotiation.{Negotiated};
 
 use crate::section::stopped::name_of;
 use std::alloc::{AllocError, Global};

@@ -1,11 +1,10 @@
 //! Which sections of an offer are stopped.
 
+ghost use Rattle.exchange.specs.Prelude.{Holds, mid_of};
 ghost use Rattle.exchange.specs.answer.InBundle.{bundle_names};
 ghost use Rattle.exchange.specs.section.Stopped.{IsBundled, IsBundleOnly, IsStopped, IsStoppedAt, name_of};
 ghost use Rattle.std.specs.Prelude.{◌≡◌, ◌↔◌, IsTrue, Some, codes, Contains};
 ghost use Rattle.str0m_sdp.specs.declared.attribute.MediaAttribute.TheVariants.{Unused};
-ghost use Rattle.str0m_sdp.specs.section.Consistency.{mid_of};
-ghost use Rattle.str0m_sdp.specs.session.OrderedMids.{Holds};
 
 use crate::offer::names::is_held;
 use std::collections::BTreeSet;

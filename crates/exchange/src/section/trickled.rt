@@ -1,10 +1,8 @@
 //! Candidates as they are trickled.
 
+ghost use Rattle.exchange.specs.Prelude.{Answers, AtMostOne, FirstLine, IsCandidateLine, IsRefusal};
 ghost use Rattle.exchange.specs.section.Trickled.{IsTrickled, as_line};
 ghost use Rattle.std.specs.Prelude.{◌≡◌, IfOk, [], string_bytes};
-ghost use Rattle.str0m_signal.specs.form.CandidateLine.{IsCandidateLine};
-ghost use Rattle.str0m_signal.specs.line.Lines.{FirstLine};
-ghost use Rattle.str0m_signal.specs.session.ReaderAnswers.{Answers, AtMostOne, IsRefusal};
 
 use std::alloc::{AllocError, Global};
 use str0m_signal::{Candidate, SdpError, candidate_attribute};

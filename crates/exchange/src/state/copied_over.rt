@@ -1,8 +1,8 @@
 //! Descriptions that were read back, made equal to those that were said, at the cost of what may differ.
+ghost use Rattle.exchange.specs.Prelude.{Alike};
 ghost use Rattle.exchange.specs.state.ReadBack.{IsReadAs, IsSectionReadAs, may_differ};
 ghost use Rattle.std.specs.List.{AllZip};
 ghost use Rattle.std.specs.Prelude.{◌≡◌, ◌↔◌, IsTrue, OnOk};
-ghost use Rattle.str0m_sdp.specs.section.Alike.{Alike};
 
 use std::alloc::AllocError;
 use str0m_signal::{MediaAttribute, MediaLine, Sdp};

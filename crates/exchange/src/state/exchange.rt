@@ -1,4 +1,5 @@
 //! Exchanges of offers and answers.
+ghost use Rattle.exchange.specs.Prelude.{AllDistinct, AreDistinct, HasBoundedRows, IsPlain, LockedStay, kind_rows, section_mids, types, versioned_text};
 ghost use Rattle.exchange.specs.answer.Offered.{AreRoundsOf, Negotiates};
 ghost use Rattle.exchange.specs.declared.state.exchange_error.ExchangeError.TheVariants.{Memory, WrongState};
 ghost use Rattle.exchange.specs.declared.state.signaling_state.SignalingState.TheVariants.{Stable};
@@ -12,14 +13,6 @@ ghost use Rattle.exchange.specs.state.OwnSide.{with_direction};
 ghost use Rattle.exchange.specs.state.ReadBack.{IsReadBack};
 ghost use Rattle.exchange.specs.state.State.{pending_sdp, sections_of, state_of, taken_names};
 ghost use Rattle.std.specs.Prelude.{All, ◌≡◌, ◌≢◌, ◌+◌, ◌-◌, ◌^◌, [], ℕ, true, IfErr, IfOk, MatchOption, OnErr, OnOk, None, Some, length, min, option_copied};
-ghost use Rattle.str0m_formats.specs.round.Claimed.{AllDistinct};
-ghost use Rattle.str0m_formats.specs.round.RoundsPromises.{LockedStay};
-ghost use Rattle.str0m_formats.specs.row.KindRows.{kind_rows};
-ghost use Rattle.str0m_formats.specs.row.PayloadParams.{types};
-ghost use Rattle.str0m_formats.specs.row.PlainRow.{IsPlain};
-ghost use Rattle.str0m_sdp.specs.section.SectionRows.{HasBoundedRows};
-ghost use Rattle.str0m_sdp.specs.session.Session.{versioned_text};
-ghost use Rattle.str0m_sdp.specs.session.SessionConsistency.{AreDistinct, section_mids};
 
 use crate::answer::offered::{negotiate, rounds_of};
 use crate::offer::Offer;

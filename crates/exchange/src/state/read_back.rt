@@ -1,10 +1,10 @@
 //! A description whose text is read again.
 
+ghost use Rattle.exchange.specs.Prelude.{Alike};
 ghost use Rattle.exchange.specs.state.ReadBack.{IsReadAs, IsReadBack, IsSameHead, IsSectionReadAs};
 ghost use Rattle.std.specs.List.{AllZip};
 ghost use Rattle.std.specs.Prelude.{◌≡◌, ◌≢◌, ◌↔◌, [], IfOk, IfSome, IsTrue, MatchOption, None};
 ghost use Rattle.str0m_sdp.specs.declared.session.error.SdpError.TheVariants.{Memory};
-ghost use Rattle.str0m_sdp.specs.section.Alike.{Alike};
 
 use std::alloc::{AllocError, Global};
 use str0m_signal::{

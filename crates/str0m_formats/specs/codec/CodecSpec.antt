@@ -1,11 +1,11 @@
 -- Codecs with their clock rates.
 use Rattle.std.specs.Prelude.{◌≡◌, ◌==◌, ℕ, Bool, false, Option, Some, None, option_map, unwrap_or, find}
+use Rattle.str0m_formats.specs.Prelude.{◌>>=◌}
 use Rattle.str0m_formats.specs.codec.Codec.{static_row, rtp_clock}
 use Rattle.str0m_formats.specs.declared.codec.Codec.{Codec}
 use Rattle.str0m_formats.specs.declared.codec.TheConstants.{NAMED}
 use Rattle.str0m_formats.specs.declared.codec.codec_spec.CodecSpec.{CodecSpec}
 use Rattle.str0m_formats.specs.format.FormatParams.{empty}
-use Rattle.str0m_values.specs.Cuts.{◌>>=◌}
 
 -- the payload type stands for the spec: its codec at that rate, and nothing else said
 abbrev pub IsStatic : ℕ → CodecSpec → Type 0

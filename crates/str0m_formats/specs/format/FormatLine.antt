@@ -3,6 +3,7 @@ use Rattle.std.specs.Borrow.{Bor}
 use Rattle.std.specs.List.{AllZip, list_any, slice_split}
 use Rattle.std.specs.Prelude.{◌≡◌, ◌==◌, ◌&&◌, ℕ, Bool, true, false, not, List, [], ◌∷◌, ◌++◌, map, filter, filter_map, Option, Some, None, option_map, if◌then◌else◌}
 use Rattle.std.specs.Str.{trim}
+use Rattle.str0m_formats.specs.Prelude.{before, cut, lacks, when}
 use Rattle.str0m_formats.specs.codec.Codec.{is_amr_wb}
 use Rattle.str0m_formats.specs.declared.codec.Codec.{Codec}
 use Rattle.str0m_formats.specs.declared.codec.Codec.TheVariants.{Tele}
@@ -13,7 +14,6 @@ use Rattle.str0m_formats.specs.format.FormatParam.{IsBare}
 use Rattle.str0m_formats.specs.format.FormatParams.{empty, set_all}
 use Rattle.str0m_formats.specs.format.Pairs.{AreRead}
 use Rattle.str0m_formats.specs.round.Narrowing.{telephone_max}
-use Rattle.str0m_values.specs.Cuts.{cut, before, lacks, when}
 
 -- ---- a line
 

@@ -5,13 +5,13 @@ use Rattle.std.specs.List.{slice_split, join_with_byte, range_with_len}
 use Rattle.std.specs.Prelude.{◌≡◌, ◌↔◌, ◌≤◌, ◌<◌, ◌^◌, ◌-◌, ◌==◌, ℕ, Bool, true, false, not, List, [], ◌∷◌, ◌++◌, length, replicate, map, filter, codes, IsTrue, IsBitSet, Any, All, Option, Some, None, MatchOption, decimal, bit_and}
 use Rattle.std.specs.Str.{trim}
 use Rattle.std.specs.Str.Parse.{IsNumeral, digits_value}
+use Rattle.str0m_formats.specs.Prelude.{FirstFit, IsNum, IsNumber}
 use Rattle.str0m_formats.specs.codec.Codec.{IsSameText}
 use Rattle.str0m_formats.specs.declared.format.format_key.FormatKey.{FormatKey}
 use Rattle.str0m_formats.specs.declared.format.format_key.FormatKey.TheVariants as key
 use Rattle.str0m_formats.specs.declared.format.format_param.FormatParam.{FormatParam}
 use Rattle.str0m_formats.specs.declared.format.format_param.FormatParam.TheVariants.{MinPTime, Stereo, SpropStereo, UseInbandFec, UseDtx, LevelAsymmetryAllowed, PacketizationMode, ProfileLevelId, ProfileId, Profile, LevelIdx, Tier, H265ProfileTierLevel, H266ProfileTierLevel, SpropMaxDonDiff, TelephoneEvents, BareRange, BarePtList, OctetAlign, ModeSet, AmrWbUnsupported, Apt, Red, Unknown}
 use Rattle.str0m_formats.specs.format.FormatKey.{key_text}
-use Rattle.str0m_values.specs.CutsParts.{IsNumber, IsNum, FirstFit}
 use Rattle.str0m_values.specs.H265 as h265
 use Rattle.str0m_values.specs.H266 as h266
 

@@ -4,6 +4,7 @@ use Rattle.std.specs.List.{slice_split}
 use Rattle.std.specs.Prelude.{ℕ, ◌==◌, ◌^◌, ◌&&◌, Bool, true, List, [], ◌∷◌, map, Option, Some, None, codes, option_map, unwrap_or, find, nat_le, nat_lt, bit_or, bytes_eq}
 use Rattle.std.specs.Str.{str_eq_ignore_ascii_case, trim}
 use Rattle.std.specs.Str.Parse.{digits_value, without_leading_plus}
+use Rattle.str0m_formats.specs.Prelude.{is_rest, num, when, ◌<|>◌, ◌>>=◌}
 use Rattle.str0m_formats.specs.declared.format.format_key.FormatKey.{FormatKey}
 use Rattle.str0m_formats.specs.declared.format.format_key.FormatKey.TheVariants.{Apt}
 use Rattle.str0m_formats.specs.declared.format.format_key.TheConstants.{KEYS}
@@ -11,7 +12,6 @@ use Rattle.str0m_formats.specs.declared.format.format_param.FormatParam.{FormatP
 use Rattle.str0m_formats.specs.declared.format.format_param.FormatParam.TheVariants.{TelephoneEvents, Unknown}
 use Rattle.str0m_formats.specs.format.FormatKey.{key_text}
 use Rattle.str0m_formats.specs.format.FormatParam.{Kind, flag, number, hex, modes, exactly, anything, Held, kind, made}
-use Rattle.str0m_values.specs.Cuts.{◌>>=◌, ◌<|>◌, is_rest, num, when}
 
 abbrev pub all_digits : ℕ → List ℕ → Bool
 all_digits radix [] = true

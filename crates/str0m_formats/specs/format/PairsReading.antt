@@ -2,18 +2,17 @@
 use Rattle.std.specs.Borrow.{Bor}
 use Rattle.std.specs.List.{cons_option}
 use Rattle.std.specs.Prelude.{ℕ, String, List, map, Option, Some, None, option_map, if◌then◌else◌, string_bytes}
-use Rattle.str0m_values.specs.Cuts.{◌>>=◌, ◌<|>◌, num}
+use Rattle.str0m_formats.specs.Prelude.{num, ◌<|>◌, ◌>>=◌}
 pub use Rattle.str0m_values.specs.CutsParts.{lay}
 pub use Rattle.str0m_values.specs.H265.{tables as h265_tables}
 pub use Rattle.str0m_values.specs.H266.{tables as h266_tables}
 pub use Rattle.str0m_values.specs.ProfileTierLevel.{Tables}
+use Rattle.str0m_formats.specs.Prelude.{ProfileTierLevel, value_in}
 use Rattle.str0m_formats.specs.declared.format.format_param.FormatParam.{FormatParam}
 use Rattle.str0m_formats.specs.declared.format.format_param.FormatParam.TheVariants.{H265ProfileTierLevel, H266ProfileTierLevel}
 use Rattle.str0m_formats.specs.format.FormatParamReading.{param_of}
 use Rattle.str0m_formats.specs.format.Pairs.{has_mark, merged, others, texts_of}
 use Rattle.str0m_formats.specs.format.PairsTriple.{Texts}
-use Rattle.str0m_values.specs.ProfileTierLevel.{value_in}
-use Rattle.str0m_values.specs.declared.profile_tier_level.ProfileTierLevel.{ProfileTierLevel}
 
 -- the number in the text, or the default where there is no text
 abbrev pub given_read : ℕ → Option (List ℕ) → Option ℕ

@@ -1,14 +1,13 @@
 -- The profile, tier and level that three values of a format name: H265's table (RFC 7798, section 7.1) comes first, then
 -- H266's (RFC 9328, section 7.2).
 use Rattle.std.specs.Prelude.{◌≡◌, ℕ, List, Option, Some, None}
+use Rattle.str0m_formats.specs.Prelude.{FirstFit, HasGivenNumbers}
 use Rattle.str0m_formats.specs.declared.format.format_param.FormatParam.{FormatParam}
 use Rattle.str0m_formats.specs.declared.format.format_param.FormatParam.TheVariants.{H265ProfileTierLevel, H266ProfileTierLevel}
-use Rattle.str0m_values.specs.CutsParts.{FirstFit}
 use Rattle.str0m_values.specs.H265 as h265
 use Rattle.str0m_values.specs.H265.{H265ProfileTierLevel as h265_triple}
 use Rattle.str0m_values.specs.H266 as h266
 use Rattle.str0m_values.specs.H266.{H266ProfileTierLevel as h266_triple}
-use Rattle.str0m_values.specs.ProfileTierLevel.{HasGivenNumbers}
 
 -- the values of `profile-id`, `tier-flag` and `level-id`, where they are given
 abbrev pub Texts : Type 0

@@ -3,6 +3,7 @@ use Rattle.std.specs.Bool.{beq}
 use Rattle.std.specs.Int.{abs_diff}
 use Rattle.std.specs.Option.{option_eq}
 use Rattle.std.specs.Prelude.{◌≡◌, ◌≢◌, ◌-◌, ◌%◌, ◌^◌, ◌==◌, ◌&&◌, not, ℕ, Bool, false, if◌then◌else◌, Option, Some, None, nat_eq, unwrap_or, option_map}
+use Rattle.str0m_formats.specs.Prelude.{H264Profile, H264ProfileLevel, H265ProfileTierLevel, H266ProfileTierLevel, ProfileTierLevel, when}
 use Rattle.str0m_formats.specs.codec.Codec.{Rule, codec_rule, by_flags, by_level, by_h265, by_h266, by_modes, by_profile, by_av1, by_events, by_equality}
 use Rattle.str0m_formats.specs.contracts.codec.Codec as codec
 use Rattle.str0m_formats.specs.contracts.codec.codec_spec.CodecSpecPartialEq.TheImpl as spec
@@ -11,16 +12,10 @@ use Rattle.str0m_formats.specs.declared.codec.Codec.TheVariants.{AmrWb, Tele, Un
 use Rattle.str0m_formats.specs.declared.codec.codec_spec.CodecSpec.{CodecSpec}
 use Rattle.str0m_formats.specs.declared.format.format_params.FormatParams.{FormatParams}
 use Rattle.str0m_formats.specs.declared.round.match_score.ProfileNumbers.{ProfileNumbers}
-use Rattle.str0m_values.specs.Cuts.{when}
 use Rattle.str0m_values.specs.H264 as h264
 use Rattle.str0m_values.specs.H265 as h265
-use Rattle.str0m_values.specs.H265.{H265ProfileTierLevel}
 use Rattle.str0m_values.specs.H266 as h266
-use Rattle.str0m_values.specs.H266.{H266ProfileTierLevel}
 use Rattle.str0m_values.specs.contracts.h264.H264Profile as h264_profile
-use Rattle.str0m_values.specs.declared.h264.H264Profile.{H264Profile}
-use Rattle.str0m_values.specs.declared.h264.H264ProfileLevel.{H264ProfileLevel}
-use Rattle.str0m_values.specs.declared.profile_tier_level.ProfileTierLevel.{ProfileTierLevel}
 use denote.Enum.Bare.{sameb}
 
 -- ---- tests: `==` of each type, true where both sides are equal and only there

@@ -1,14 +1,13 @@
 -- What the row that a row is matched with changes in its format.
 use Rattle.std.specs.Option.{option_or}
 use Rattle.std.specs.Prelude.{◌&&◌, ℕ, Bool, false, Option, Some, None, unwrap_or, min, nat_lt, if◌then◌else◌}
+use Rattle.str0m_formats.specs.Prelude.{ProfileTierLevel, lower_level}
 use Rattle.str0m_formats.specs.codec.Codec.{Rule, codec_rule, by_flags, by_level, by_h265, by_h266, by_modes, by_profile, by_av1, by_events, by_equality}
 use Rattle.str0m_formats.specs.declared.codec.Codec.{Codec}
 use Rattle.str0m_formats.specs.declared.codec.codec_spec.CodecSpec.{CodecSpec}
 use Rattle.str0m_formats.specs.declared.format.format_params.FormatParams.{FormatParams}
-use Rattle.str0m_values.specs.H264.{lower_level}
 use Rattle.str0m_values.specs.H265 as h265
 use Rattle.str0m_values.specs.H266 as h266
-use Rattle.str0m_values.specs.declared.profile_tier_level.ProfileTierLevel.{ProfileTierLevel}
 
 -- the highest telephone event of a format; where it gives none, 16, the default of `str0m` (RFC 4733 itself has 0 to 15)
 abbrev pub telephone_max : FormatParams → ℕ

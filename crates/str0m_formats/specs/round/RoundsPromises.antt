@@ -1,5 +1,6 @@
 -- What every accepted round promises, read off the rows before it, the remote rows and the rows after it alone.
 use Rattle.std.specs.Prelude.{◌≡◌, ◌≢◌, ◌≤◌, ℕ, Bool, true, false, Option, Some, None, Ok, Err, OnOk, OnErr, IfErr, List, ◌++◌, length, slice_get, Contains, All}
+use Rattle.str0m_formats.specs.Prelude.{H264ProfileLevel, level_ordinal, named, receives}
 use Rattle.str0m_formats.specs.declared.codec.Codec.TheVariants.{AmrWb, H264, Tele}
 use Rattle.str0m_formats.specs.declared.round.negotiation_error.NegotiationError.TheVariants.{Exhausted, Memory}
 use Rattle.str0m_formats.specs.declared.round.rounds.Round.{Round}
@@ -14,9 +15,6 @@ use Rattle.str0m_formats.specs.round.RoundsRuns.{Outcome, Reached, AtEachOk}
 use Rattle.str0m_formats.specs.row.PayloadParams.{types, locked_types, AllSmall}
 use Rattle.str0m_formats.specs.row.PlainRow.{IsPlain}
 use Rattle.str0m_formats.specs.row.PlainRowBounds.{IsBounded}
-use Rattle.str0m_values.specs.Direction.{receives}
-use Rattle.str0m_values.specs.H264.{named, level_ordinal}
-use Rattle.str0m_values.specs.declared.h264.H264ProfileLevel.{H264ProfileLevel}
 
 -- each row has its place in both lists: what holds of the row before and the row after, at each place
 abbrev pub AtEachRow : (PayloadParams → PayloadParams → Type 0) → List PayloadParams → List PayloadParams → Type 0

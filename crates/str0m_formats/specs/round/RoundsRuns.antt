@@ -1,11 +1,11 @@
 -- Rounds one after another.
 use Rattle.std.specs.Prelude.{◌≡◌, Result, Ok, Err, List, [], ◌∷◌, Bool}
+use Rattle.str0m_formats.specs.Prelude.{receives}
 use Rattle.str0m_formats.specs.declared.round.negotiation_error.NegotiationError.{NegotiationError}
 use Rattle.str0m_formats.specs.declared.round.negotiation_error.NegotiationError.TheVariants.{TypeTooLarge, ClaimedTwice, Exhausted, Memory}
 use Rattle.str0m_formats.specs.declared.round.rounds.Round.{Round}
 use Rattle.str0m_formats.specs.declared.row.payload_params.PayloadParams.{PayloadParams}
 use Rattle.str0m_formats.specs.round.Rounds.{Leaves, Refused}
-use Rattle.str0m_values.specs.Direction.{receives}
 
 -- what a round answers
 abbrev pub Outcome : Type 0

@@ -4,6 +4,7 @@ use Rattle.std.specs.Prelude.{◌≡◌, ℕ, Bool, true, Option, Some, None, if
 use Rattle.std.specs.contracts.alloc.Global as global
 use Rattle.std.specs.contracts.impls.GlobalAllocator.TheImpl.{ghosts}
 use Rattle.std.specs.contracts.vec.Vec as vec
+use Rattle.str0m_formats.specs.Prelude.{H265ProfileTierLevel, H266ProfileTierLevel, HasNumbers, ProfileTierLevel}
 use Rattle.str0m_formats.specs.contracts.row.codec_config.CodecConfig.{the_row}
 use Rattle.str0m_formats.specs.contracts.row.payload_params.PayloadParams as row
 use Rattle.str0m_formats.specs.declared.codec.Codec.{Codec}
@@ -15,11 +16,7 @@ use Rattle.str0m_formats.specs.declared.row.payload_params.PayloadParams.{Payloa
 use Rattle.str0m_formats.specs.format.FormatParams.{empty}
 use Rattle.str0m_formats.specs.row.PayloadParams.{new_row}
 use Rattle.str0m_values.specs.H265 as h265
-use Rattle.str0m_values.specs.H265.{H265ProfileTierLevel}
 use Rattle.str0m_values.specs.H266 as h266
-use Rattle.str0m_values.specs.H266.{H266ProfileTierLevel}
-use Rattle.str0m_values.specs.ProfileTierLevel.{HasNumbers}
-use Rattle.str0m_values.specs.declared.profile_tier_level.ProfileTierLevel.{ProfileTierLevel}
 
 -- a video codec: at 90000 Hz, and without channels
 abbrev pub picture_spec : Codec → FormatParams → CodecSpec

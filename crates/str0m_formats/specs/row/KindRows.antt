@@ -1,13 +1,13 @@
 -- The rows of a kind of media.
 use Rattle.std.specs.List.{list_any}
 use Rattle.std.specs.Prelude.{◌==◌, ℕ, Bool, true, false, ◌&&◌, ◌||◌, not, List, filter}
+use Rattle.str0m_formats.specs.Prelude.{MediaKind}
 use Rattle.str0m_formats.specs.codec.Codec.{Content, content, audio}
 use Rattle.str0m_formats.specs.codec.CodecSpec.{rtp_rate}
 use Rattle.str0m_formats.specs.declared.row.kind_rows.KindRows.{KindRows}
 use Rattle.str0m_formats.specs.declared.row.payload_params.PayloadParams.{PayloadParams}
 use Rattle.str0m_formats.specs.round.Choices.{has_events}
 use Rattle.str0m_formats.specs.row.PayloadParams.{has_pictures}
-use Rattle.str0m_values.specs.declared.media_kind.MediaKind.{MediaKind}
 use Rattle.str0m_values.specs.declared.media_kind.MediaKind.TheVariants.{Audio, Video}
 
 abbrev pub has_sound : Content → Bool

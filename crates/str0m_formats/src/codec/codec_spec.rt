@@ -1,7 +1,7 @@
 //! Codecs with their clock rates, channels and formats.
 ghost use Rattle.std.specs.Prelude.{◌≡◌};
+ghost use Rattle.str0m_formats.specs.Prelude.{IsTheOnly};
 ghost use Rattle.str0m_formats.specs.codec.CodecSpec.{IsStatic, static_spec, rtp_rate};
-ghost use Rattle.str0m_values.specs.Cuts.{IsTheOnly};
 
 use crate::codec::Codec;
 use crate::format::format_params::FormatParams;

@@ -1,13 +1,12 @@
 //! The parameters of formats, and how they are read.
 ghost use Rattle.std.specs.Prelude.{◌≡◌, IfOk, codes, option_map, bytes_eq};
+ghost use Rattle.str0m_formats.specs.Prelude.{IsNum, IsTheOnly, num, when};
 ghost use Rattle.str0m_formats.specs.declared.format.format_param.FormatParam.{FormatParam};
 ghost use Rattle.str0m_formats.specs.declared.format.format_param.FormatParam.TheVariants.{AmrWbUnsupported};
 ghost use Rattle.str0m_formats.specs.format.FormatParam.{IsMode, IsModeSet, IsParsed, IsEventRange, IsBare, IsPrinted, pair_texts, entry, entry_text};
 ghost use Rattle.str0m_formats.specs.format.FormatParamReading.{number_read, hex_read, modes_read, value_read, param_of, bare_param};
 ghost use Rattle.str0m_formats.specs.format.Pairs.{AreRead};
 ghost use Rattle.str0m_formats.specs.format.ParamText.{keyed_text};
-ghost use Rattle.str0m_values.specs.Cuts.{num, when, IsTheOnly};
-ghost use Rattle.str0m_values.specs.CutsParts.{IsNum};
 
 use crate::format::format_key::FormatKey;
 use crate::format::pairs::params;

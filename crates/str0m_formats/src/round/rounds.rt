@@ -1,9 +1,9 @@
 //! Rounds of negotiation, one and many.
 ghost use Rattle.std.specs.Prelude.{◌≡◌, OnOk, OnErr, IfErr, IfOk};
+ghost use Rattle.str0m_formats.specs.Prelude.{receives};
 ghost use Rattle.str0m_formats.specs.round.Rounds.{Leaves, Refused};
 ghost use Rattle.str0m_formats.specs.round.RoundsPromises.{Negotiates, RunPromises, EveryRunPromises};
 ghost use Rattle.str0m_formats.specs.round.RoundsRuns.{Reached};
-ghost use Rattle.str0m_values.specs.Direction.{receives};
 
 use crate::round::beginning::{check_types, claims_of};
 use crate::round::claim_mask::ClaimMask;

@@ -2,6 +2,7 @@
 ghost use Rattle.std.specs.List.{list_any};
 ghost use Rattle.std.specs.List.Sorted.{IsStrictlyIncreasing};
 ghost use Rattle.std.specs.Prelude.{◌≡◌, ◌==◌, ◌+◌, ◌≤◌, ◌++◌, ◌∷◌, [], All, IfOk, IsOk, List, ℕ, OnErr, OnOk, option_copied, vec_capacity, vec_len};
+ghost use Rattle.str0m_formats.specs.Prelude.{H265ProfileTierLevel, H266ProfileTierLevel, receives};
 ghost use Rattle.str0m_formats.specs.round.Choices.{FirstAccepted, IsChoice, IsMatchedType, highest_event, points_with};
 ghost use Rattle.str0m_formats.specs.round.Claimed.{AllDistinct};
 ghost use Rattle.str0m_formats.specs.row.CodecConfig.{picture_spec, h264_row, h265_row, h266_row, IsTripleOr, IsH265Triple, IsH266Triple};
@@ -9,9 +10,6 @@ ghost use Rattle.str0m_formats.specs.row.DefaultRows.{AreDefault};
 ghost use Rattle.str0m_formats.specs.row.KindRows.{kind_rows, rows_left};
 ghost use Rattle.str0m_formats.specs.row.PayloadParams.{new_row, types};
 ghost use Rattle.str0m_formats.specs.row.RedDistances.{AreKept};
-ghost use Rattle.str0m_values.specs.Direction.{receives};
-ghost use Rattle.str0m_values.specs.H265.{H265ProfileTierLevel};
-ghost use Rattle.str0m_values.specs.H266.{H266ProfileTierLevel};
 
 use crate::codec::Codec;
 use crate::codec::codec_spec::CodecSpec;

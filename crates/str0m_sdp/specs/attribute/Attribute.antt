@@ -1,6 +1,6 @@
 -- What attributes print: a line for each form (RFC 8866, sections 5.13 and 6). And which of them are a word alone.
 use Rattle.std.specs.Prelude.{◌<◌, ◌^◌, ℕ, List, [], ◌∷◌, ◌++◌, Option, None, All, codes, decimal, bytes_eq, IsUtf8}
-use Rattle.str0m_formats.specs.row.PlainRowBounds.{IsByte}
+use Rattle.str0m_sdp.specs.Prelude.{Direction, IsByte, candidate_text, fingerprint_text, when, ◌<|>◌}
 use Rattle.str0m_sdp.specs.attribute.AttributeFits.{AreTexts, FitsCandidate, FitsFingerprint, FitsLayer, FitsParam, FitsRtpMap, IsMidText, IsPortNumber, IsSourceNumber}
 use Rattle.str0m_sdp.specs.attribute.ExtMap.{ext_map_text}
 use Rattle.str0m_sdp.specs.attribute.Fmtp.{fmtp_text}
@@ -17,10 +17,6 @@ use Rattle.str0m_sdp.specs.declared.attribute.SessionAttribute.{SessionAttribute
 use Rattle.str0m_sdp.specs.declared.attribute.SessionAttribute.TheVariants as session
 use Rattle.str0m_sdp.specs.declared.label.TheConstants as label
 use Rattle.str0m_sdp.specs.form.Printed.{attribute_line}
-use Rattle.str0m_values.specs.Candidate.{candidate_text}
-use Rattle.str0m_values.specs.Cuts.{◌<|>◌, when}
-use Rattle.str0m_values.specs.Fingerprint.{fingerprint_text}
-use Rattle.str0m_values.specs.declared.direction.Direction.{Direction}
 use Rattle.str0m_values.specs.declared.direction.Direction.TheVariants as way
 use Rattle.str0m_values.specs.declared.direction_label.TheConstants as way_label
 

@@ -1,16 +1,11 @@
 -- Values whose numbers and texts fit the types of their fields. Every value that a program holds does; definitions speak of
 -- numbers and bytes without a limit, so what is promised of every value is promised of those that fit.
 use Rattle.std.specs.Prelude.{◌<◌, ◌≤◌, ◌^◌, ℕ, List, length, All, IfSome, IsUtf8}
-use Rattle.str0m_formats.specs.declared.format.format_param.FormatParam.{FormatParam}
 use Rattle.str0m_formats.specs.declared.format.format_param.FormatParam.TheVariants as param
-use Rattle.str0m_formats.specs.format.FormatParam.{kind, entry}
-use Rattle.str0m_formats.specs.row.PlainRowBounds.{IsByte, FitsType}
+use Rattle.str0m_sdp.specs.Prelude.{Candidate, Fingerprint, FitsType, FormatParam, IsByte, IsSocketInRange, entry, kind}
 use Rattle.str0m_sdp.specs.declared.attribute.bandwidth.Bandwidth.{Bandwidth}
 use Rattle.str0m_sdp.specs.declared.attribute.rtp_map.RtpMap.{RtpMap}
 use Rattle.str0m_sdp.specs.declared.attribute.simulcast.SimulcastLayer.{SimulcastLayer}
-use Rattle.str0m_values.specs.Candidate.{IsSocketInRange}
-use Rattle.str0m_values.specs.declared.candidate.Candidate.{Candidate}
-use Rattle.str0m_values.specs.declared.fingerprint.Fingerprint.{Fingerprint}
 
 -- ---- numbers and texts
 

@@ -1,8 +1,8 @@
 -- What the mapping of a header extension prints (RFC 8285, section 5).
 use Rattle.std.specs.Prelude.{ℕ, Bool, true, false, List, [], ◌++◌, codes, decimal}
+use Rattle.str0m_sdp.specs.Prelude.{Extension}
 use Rattle.str0m_sdp.specs.declared.label.TheConstants as label
 use Rattle.str0m_sdp.specs.form.Printed.{attribute_line}
-use Rattle.str0m_values.specs.declared.extension.Extension.{Extension}
 
 -- no line for an extension that isn't written
 abbrev pub if_written : Bool → List ℕ → List ℕ

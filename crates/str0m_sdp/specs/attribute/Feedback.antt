@@ -1,7 +1,7 @@
 -- The feedback that a section speaks of (RFC 4585, section 4.2).
 use Rattle.std.specs.List.{list_any}
 use Rattle.std.specs.Prelude.{ℕ, Bool, false, ◌==◌, ◌&&◌, ◌||◌, List, bytes_eq}
-use Rattle.str0m_formats.specs.declared.row.payload_params.PayloadParams.{PayloadParams}
+use Rattle.str0m_sdp.specs.Prelude.{PayloadParams}
 use Rattle.str0m_sdp.specs.declared.attribute.MediaAttribute.{MediaAttribute}
 use Rattle.str0m_sdp.specs.declared.attribute.MediaAttribute.TheVariants.{RtcpFb}
 use Rattle.str0m_sdp.specs.declared.attribute.feedback.Feedback.{Feedback}

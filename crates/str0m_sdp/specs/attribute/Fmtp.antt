@@ -1,8 +1,7 @@
 -- What the parameters of a format print (RFC 8866, section 6.15).
 use Rattle.std.specs.List.{join_by}
 use Rattle.std.specs.Prelude.{ℕ, Bool, List, [], ◌∷◌, ◌++◌, codes, filter, length, nat_lt, decimal}
-use Rattle.str0m_formats.specs.declared.format.format_param.FormatParam.{FormatParam}
-use Rattle.str0m_formats.specs.format.FormatParam.{param_text}
+use Rattle.str0m_sdp.specs.Prelude.{FormatParam, param_text}
 use Rattle.str0m_sdp.specs.declared.label.TheConstants as label
 use Rattle.str0m_sdp.specs.form.Printed.{attribute_line}
 

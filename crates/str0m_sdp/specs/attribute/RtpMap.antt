@@ -1,11 +1,7 @@
 -- The mapping of a payload type: as it prints, and as the codec that it names.
 use Rattle.std.specs.Prelude.{ℕ, List, [], ◌++◌, ◌==◌, Option, Some, None, codes, if◌then◌else◌, decimal}
-use Rattle.str0m_formats.specs.codec.Codec.{codec_text}
-use Rattle.str0m_formats.specs.codec.CodecSpec.{rtp_rate}
-use Rattle.str0m_formats.specs.declared.codec.Codec.{Codec}
 use Rattle.str0m_formats.specs.declared.codec.Codec.TheVariants.{G722}
-use Rattle.str0m_formats.specs.declared.codec.codec_spec.CodecSpec.{CodecSpec}
-use Rattle.str0m_formats.specs.format.FormatParams.{empty}
+use Rattle.str0m_sdp.specs.Prelude.{Codec, CodecSpec, codec_text, empty, rtp_rate}
 use Rattle.str0m_sdp.specs.declared.attribute.rtp_map.RtpMap.{RtpMap}
 
 abbrev pub channels_text : Option ℕ → List ℕ

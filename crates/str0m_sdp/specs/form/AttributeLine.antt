@@ -1,5 +1,6 @@
 -- What the line of an attribute prints, by the kind of what it is made of.
 use Rattle.std.specs.Prelude.{ℕ, List, ◌++◌, codes, decimal}
+use Rattle.str0m_sdp.specs.Prelude.{candidate_text, fingerprint_text}
 use Rattle.str0m_sdp.specs.attribute.ExtMap.{ext_map_text}
 use Rattle.str0m_sdp.specs.attribute.Fmtp.{fmtp_text}
 use Rattle.str0m_sdp.specs.attribute.Group.{group_text, msid_semantic_text}
@@ -16,8 +17,6 @@ use Rattle.str0m_sdp.specs.declared.form.structured_line.StructuredLine.{Structu
 use Rattle.str0m_sdp.specs.declared.form.structured_line.StructuredLine.TheVariants as structured
 use Rattle.str0m_sdp.specs.declared.label.TheConstants as label
 use Rattle.str0m_sdp.specs.form.Printed.{attribute_line, labelled_line}
-use Rattle.str0m_values.specs.Candidate.{candidate_text}
-use Rattle.str0m_values.specs.Fingerprint.{fingerprint_text}
 
 -- of a payload type, or of a source
 abbrev pub numbered_text : NumberedLine → List ℕ

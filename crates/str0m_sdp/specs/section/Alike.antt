@@ -1,7 +1,7 @@
 -- Attributes that say the same once they are printed and read.
 use Rattle.std.specs.Prelude.{◌≡◌, ◌⊎◌, false, List, map, filter}
-use Rattle.str0m_formats.specs.declared.format.format_param.FormatParam.{FormatParam}
 use Rattle.str0m_formats.specs.declared.format.format_param.FormatParam.TheVariants.{TelephoneEvents, BareRange, BarePtList, Red}
+use Rattle.str0m_sdp.specs.Prelude.{FormatParam}
 use Rattle.str0m_sdp.specs.attribute.Fmtp.{is_shown}
 use Rattle.str0m_sdp.specs.declared.attribute.MediaAttribute.{MediaAttribute}
 use Rattle.str0m_sdp.specs.declared.attribute.MediaAttribute.TheVariants.{Fmtp, Simulcast as SimulcastLine}

@@ -1,20 +1,15 @@
 -- The types that go with another type: RTX, which sends it again, and RED, which repeats its audio.
 use Rattle.std.specs.List.{list_any}
 use Rattle.std.specs.Prelude.{ℕ, Bool, false, ◌==◌, ◌&&◌, List, Option, Some, None, filter_map, if◌then◌else◌}
-use Rattle.str0m_formats.specs.codec.Codec.{content}
-use Rattle.str0m_formats.specs.declared.codec.Codec.{Codec}
 use Rattle.str0m_formats.specs.declared.codec.Codec.TheVariants as codecs
-use Rattle.str0m_formats.specs.declared.codec.codec_spec.CodecSpec.{CodecSpec}
-use Rattle.str0m_formats.specs.declared.format.format_param.FormatParam.{FormatParam}
 use Rattle.str0m_formats.specs.declared.format.format_param.FormatParam.TheVariants.{BarePtList, Red}
-use Rattle.str0m_formats.specs.row.KindRows.{has_sound}
 use Rattle.str0m_sdp.specs.Common.{last}
+use Rattle.str0m_sdp.specs.Prelude.{Codec, CodecSpec, FormatParam, content, has_sound, when}
 use Rattle.str0m_sdp.specs.declared.attribute.MediaAttribute.{MediaAttribute}
 use Rattle.str0m_sdp.specs.declared.attribute.MediaAttribute.TheVariants.{Fmtp}
 use Rattle.str0m_sdp.specs.declared.section.media_line.MediaLine.{MediaLine}
 use Rattle.str0m_sdp.specs.section.Consistency.{apt_of}
 use Rattle.str0m_sdp.specs.section.Mappings.{mapped, is_mapped_to}
-use Rattle.str0m_values.specs.Cuts.{when}
 
 -- the first type of a list of types (RFC 2198, section 5)
 abbrev pub listed : FormatParam → Option ℕ

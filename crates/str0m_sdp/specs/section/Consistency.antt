@@ -1,14 +1,11 @@
 -- Which sections are consistent.
 use Rattle.std.specs.Prelude.{◌≡◌, ◌≢◌, ◌≤◌, ◌⊎◌, ◌==◌, ℕ, Bool, true, false, List, [], ◌∷◌, Option, Some, None, IfSome, MatchOption, All, count_by, if◌then◌else◌}
-use Rattle.str0m_formats.specs.codec.CodecSpec.{IsStatic}
-use Rattle.str0m_formats.specs.declared.codec.codec_spec.CodecSpec.{CodecSpec}
-use Rattle.str0m_formats.specs.declared.format.format_param.FormatParam.{FormatParam}
 use Rattle.str0m_formats.specs.declared.format.format_param.FormatParam.TheVariants.{Apt}
+use Rattle.str0m_sdp.specs.Prelude.{CodecSpec, FormatParam, IsStatic, ◌<|>◌}
 use Rattle.str0m_sdp.specs.declared.attribute.MediaAttribute.{MediaAttribute}
 use Rattle.str0m_sdp.specs.declared.attribute.MediaAttribute.TheVariants.{Setup, Mid, RecvOnly, SendRecv, SendOnly, Inactive, RtpMap, Fmtp}
 use Rattle.str0m_sdp.specs.declared.attribute.proto.Proto.TheVariants.{Srtp}
 use Rattle.str0m_sdp.specs.declared.section.media_line.MediaLine.{MediaLine}
-use Rattle.str0m_values.specs.Cuts.{◌<|>◌}
 
 abbrev pub is_mid : MediaAttribute → Bool
 is_mid (Mid mid) = true

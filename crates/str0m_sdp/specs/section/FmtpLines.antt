@@ -1,7 +1,7 @@
 -- The fmtp lines of a section, each beside its type.
 use Rattle.std.specs.Borrow.{Bor}
 use Rattle.std.specs.Prelude.{ℕ, ◌==◌, List, Option, Some, None, filter_map, if◌then◌else◌}
-use Rattle.str0m_formats.specs.declared.format.format_param.FormatParam.{FormatParam}
+use Rattle.str0m_sdp.specs.Prelude.{FormatParam}
 
 -- the values of a line, where it is of the type
 abbrev pub line_with : ℕ → ℕ × Bor (List FormatParam) → Option (Bor (List FormatParam))

@@ -1,7 +1,6 @@
 -- The section that rows make of a frame.
 use Rattle.std.specs.Prelude.{Bool, true, false, not, List, ◌++◌, filter, flat_map}
-use Rattle.str0m_formats.specs.declared.row.payload_params.PayloadParams.{PayloadParams}
-use Rattle.str0m_formats.specs.row.PayloadParams.{types}
+use Rattle.str0m_sdp.specs.Prelude.{PayloadParams, types}
 use Rattle.str0m_sdp.specs.declared.attribute.MediaAttribute.{MediaAttribute}
 use Rattle.str0m_sdp.specs.declared.attribute.MediaAttribute.TheVariants.{RtpMap, RtcpFb, Fmtp}
 use Rattle.str0m_sdp.specs.declared.section.media_line.MediaLine.{MediaLine}

@@ -1,11 +1,9 @@
 -- Which codec each type of a section stands for.
 use Rattle.std.specs.List.{list_any}
 use Rattle.std.specs.Prelude.{ℕ, Bool, ◌==◌, ◌&&◌, nat_eq, List, ◌++◌, Option, Some, None, option_map, filter_map, if◌then◌else◌}
-use Rattle.str0m_formats.specs.codec.CodecSpec.{static_spec}
-use Rattle.str0m_formats.specs.declared.codec.Codec.{Codec}
-use Rattle.str0m_formats.specs.declared.codec.codec_spec.CodecSpec.{CodecSpec}
 use Rattle.str0m_formats.specs.round.MatchScore.{same_codec}
 use Rattle.str0m_sdp.specs.Common.{distinct}
+use Rattle.str0m_sdp.specs.Prelude.{Codec, CodecSpec, static_spec}
 use Rattle.str0m_sdp.specs.attribute.RtpMap.{spec_of_map}
 use Rattle.str0m_sdp.specs.declared.attribute.MediaAttribute.{MediaAttribute}
 use Rattle.str0m_sdp.specs.declared.attribute.MediaAttribute.TheVariants.{RtpMap}

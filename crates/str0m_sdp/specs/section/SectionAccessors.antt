@@ -2,13 +2,13 @@
 use Rattle.std.specs.Borrow.{Bor}
 use Rattle.std.specs.Prelude.{◌≡◌, ◌≤◌, ℕ, List, Option, Some, None, filter_map, length}
 use Rattle.str0m_sdp.specs.Common.{first}
+use Rattle.str0m_sdp.specs.Prelude.{Extension}
 use Rattle.str0m_sdp.specs.declared.attribute.MediaAttribute.{MediaAttribute}
 use Rattle.str0m_sdp.specs.declared.attribute.MediaAttribute.TheVariants as media
 use Rattle.str0m_sdp.specs.declared.attribute.msid.Msid.{Msid}
 use Rattle.str0m_sdp.specs.declared.attribute.simulcast.Simulcast.{Simulcast}
 use Rattle.str0m_sdp.specs.declared.section.media_line.MediaLine.{MediaLine}
 use Rattle.str0m_values.specs.ShortText.{IsLongestBeginning}
-use Rattle.str0m_values.specs.declared.extension.Extension.{Extension}
 
 -- an INIT chunk in base 64
 abbrev pub sctp_init_of : MediaAttribute → Option (List ℕ)

@@ -2,11 +2,11 @@
 use Rattle.std.specs.List.{position_or_len}
 use Rattle.std.specs.Prelude.{List, Option, Some, None, filter_map, slice_set, unwrap_or}
 use Rattle.str0m_sdp.specs.Common.{first}
+use Rattle.str0m_sdp.specs.Prelude.{Direction}
 use Rattle.str0m_sdp.specs.attribute.Attribute.{direction_attribute}
 use Rattle.str0m_sdp.specs.declared.attribute.MediaAttribute.{MediaAttribute}
 use Rattle.str0m_sdp.specs.declared.attribute.MediaAttribute.TheVariants as media
 use Rattle.str0m_sdp.specs.section.Consistency.{is_direction}
-use Rattle.str0m_values.specs.declared.direction.Direction.{Direction}
 use Rattle.str0m_values.specs.declared.direction.Direction.TheVariants as way
 
 abbrev pub direction_of : MediaAttribute → Option Direction

@@ -1,19 +1,9 @@
 -- The rows that a section describes.
 use Rattle.std.specs.List.{list_any}
 use Rattle.std.specs.Prelude.{ℕ, Bool, ◌==◌, ◌&&◌, ◌||◌, List, Option, Some, None, option_map, filter, filter_map, if◌then◌else◌, ◌≡◌, true, [], ◌∷◌, map, ◌≤◌, All}
-use Rattle.str0m_formats.specs.codec.Codec.{content}
 use Rattle.str0m_formats.specs.declared.codec.Codec.TheVariants.{Rtx, Red}
-use Rattle.str0m_formats.specs.declared.codec.codec_spec.CodecSpec.{CodecSpec}
-use Rattle.str0m_formats.specs.declared.format.format_param.FormatParam.{FormatParam}
 use Rattle.str0m_formats.specs.declared.format.format_param.FormatParam.TheVariants.{Apt, BarePtList, ModeSet, SpropMaxDonDiff}
-use Rattle.str0m_formats.specs.declared.format.format_params.FormatParams.{FormatParams}
-use Rattle.str0m_formats.specs.declared.row.payload_params.PayloadParams.{PayloadParams}
-use Rattle.str0m_formats.specs.format.FormatLine.{format_of_fmtp}
-use Rattle.str0m_formats.specs.round.Choices.{has_events}
-use Rattle.str0m_formats.specs.round.Claimed.{has}
-use Rattle.str0m_formats.specs.row.KindRows.{has_sound}
-use Rattle.str0m_formats.specs.row.PayloadParams.{has_pictures, new_row}
-use Rattle.str0m_formats.specs.row.PlainRowBounds.{AreModes, IsDistance, IsBounded}
+use Rattle.str0m_sdp.specs.Prelude.{AreModes, CodecSpec, FormatParam, FormatParams, IsBounded, IsDistance, PayloadParams, content, format_of_fmtp, has, has_events, has_pictures, has_sound, new_row}
 use Rattle.str0m_sdp.specs.attribute.Feedback.{feedback_of, with_feedback}
 use Rattle.str0m_sdp.specs.declared.attribute.MediaAttribute.{MediaAttribute}
 use Rattle.str0m_sdp.specs.declared.attribute.MediaAttribute.TheVariants.{Fmtp, RtpMap}

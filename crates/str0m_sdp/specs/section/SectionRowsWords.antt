@@ -2,14 +2,8 @@
 use Rattle.std.specs.Borrow.{Bor}
 use Rattle.std.specs.List.{list_any}
 use Rattle.std.specs.Prelude.{◌≡◌, ◌==◌, ◌<◌, ℕ, false, List, None, get_or, length, if◌then◌else◌}
-use Rattle.str0m_formats.specs.codec.Codec.{content}
 use Rattle.str0m_formats.specs.declared.codec.Codec.TheVariants.{Rtx, Red}
-use Rattle.str0m_formats.specs.declared.codec.codec_spec.CodecSpec.{CodecSpec}
-use Rattle.str0m_formats.specs.declared.format.format_param.FormatParam.{FormatParam}
-use Rattle.str0m_formats.specs.declared.row.payload_params.PayloadParams.{PayloadParams}
-use Rattle.str0m_formats.specs.format.FormatLine.{line_values}
-use Rattle.str0m_formats.specs.row.KindRows.{has_sound}
-use Rattle.str0m_formats.specs.row.PayloadParams.{new_row}
+use Rattle.str0m_sdp.specs.Prelude.{CodecSpec, FormatParam, PayloadParams, content, has_sound, line_values, new_row}
 use Rattle.str0m_sdp.specs.attribute.Feedback.{none, feedback_of, with_feedback}
 use Rattle.str0m_sdp.specs.declared.attribute.MediaAttribute.{MediaAttribute}
 use Rattle.str0m_sdp.specs.declared.section.media_line.MediaLine.{MediaLine}

@@ -3,10 +3,10 @@ use Rattle.std.specs.Option.{option_flatten}
 use Rattle.std.specs.Prelude.{ℕ, ◌==◌, ◌&&◌, nat_eq, List, [], ◌∷◌, ◌++◌, map, Option, Some, None, codes, if◌then◌else◌, filter_map, option_map, bytes_eq}
 use Rattle.std.specs.Str.{trim, str_eq_ignore_ascii_case}
 use Rattle.str0m_sdp.specs.Common.{last, distinct}
+use Rattle.str0m_sdp.specs.Prelude.{before, cut, when, ◌>>=◌}
 use Rattle.str0m_sdp.specs.declared.attribute.MediaAttribute.{MediaAttribute}
 use Rattle.str0m_sdp.specs.declared.attribute.MediaAttribute.TheVariants.{Ssrc, SsrcGroup}
 use Rattle.str0m_sdp.specs.declared.section.ssrc_info.SsrcInfo.{SsrcInfo}
-use Rattle.str0m_values.specs.Cuts.{◌>>=◌, when, cut, before}
 
 -- ---- sources
 

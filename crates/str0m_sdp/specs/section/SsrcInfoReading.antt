@@ -4,10 +4,10 @@ use Rattle.std.specs.Map.{lookup, keys_of}
 use Rattle.std.specs.Option.{option_flatten}
 use Rattle.std.specs.Prelude.{◌≡◌, ℕ, nat_eq, List, [], Option, Some, None, codes, unwrap_or, if◌then◌else◌}
 use Rattle.std.specs.Str.{str_eq_ignore_ascii_case}
+use Rattle.str0m_sdp.specs.Prelude.{before, cut}
 use Rattle.str0m_sdp.specs.declared.attribute.MediaAttribute.{MediaAttribute}
 use Rattle.str0m_sdp.specs.declared.section.ssrc_info.SsrcInfo.{SsrcInfo}
 use Rattle.str0m_sdp.specs.section.SsrcInfo.{id_of, latest, repaired_by, cname_said, stream_said, track_said, empty_info}
-use Rattle.str0m_values.specs.Cuts.{cut, before}
 
 -- the track that a value names after its first space, where it has one
 abbrev pub track_after : Option (List ℕ × List ℕ) → Option (List ℕ) → Option (List ℕ)

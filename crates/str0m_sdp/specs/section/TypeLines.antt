@@ -1,8 +1,7 @@
 -- The fmtp lines of payload types, and what they say of codecs, once it is known.
 use Rattle.std.specs.Borrow.{Bor}
 use Rattle.std.specs.Prelude.{◌≡◌, ◌<◌, ℕ, List, [], All, get_or, length}
-use Rattle.str0m_formats.specs.declared.format.format_param.FormatParam.{FormatParam}
-use Rattle.str0m_formats.specs.format.FormatLine.{format_of_fmtp, line_values}
+use Rattle.str0m_sdp.specs.Prelude.{FormatParam, format_of_fmtp, line_values}
 use Rattle.str0m_sdp.specs.declared.attribute.MediaAttribute.{MediaAttribute}
 use Rattle.str0m_sdp.specs.declared.section.type_lines.KnownFormat.{KnownFormat}
 use Rattle.str0m_sdp.specs.declared.section.type_lines.TypeLines.{TypeLines}

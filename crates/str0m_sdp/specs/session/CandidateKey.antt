@@ -1,17 +1,12 @@
 -- Candidates in the order of their parts.
 use Rattle.std.specs.Prelude.{◌≡◌, ℕ, option_map}
+use Rattle.str0m_sdp.specs.Prelude.{Candidate, CandidateKind, IpAddr, Protocol, SocketAddr, TcpType}
 use Rattle.str0m_sdp.specs.declared.session.candidate_key.CandidateKey.{CandidateKey}
 use Rattle.str0m_sdp.specs.declared.session.candidate_key.IpPart.{IpPart}
 use Rattle.str0m_sdp.specs.declared.session.candidate_key.IpPart.TheVariants as part
-use Rattle.str0m_values.specs.declared.address.IpAddr.{IpAddr}
 use Rattle.str0m_values.specs.declared.address.IpAddr.TheVariants as address
-use Rattle.str0m_values.specs.declared.address.SocketAddr.{SocketAddr}
-use Rattle.str0m_values.specs.declared.candidate.Candidate.{Candidate}
-use Rattle.str0m_values.specs.declared.candidate_kind.CandidateKind.{CandidateKind}
 use Rattle.str0m_values.specs.declared.candidate_kind.CandidateKind.TheVariants.{Host, PeerReflexive, ServerReflexive, Relayed}
-use Rattle.str0m_values.specs.declared.protocol.Protocol.{Protocol}
 use Rattle.str0m_values.specs.declared.protocol.Protocol.TheVariants.{Udp, Tcp, SslTcp, Tls}
-use Rattle.str0m_values.specs.declared.protocol.TcpType.{TcpType}
 use Rattle.str0m_values.specs.declared.protocol.TcpType.TheVariants.{Active, Passive, So}
 
 -- an address by its numbers

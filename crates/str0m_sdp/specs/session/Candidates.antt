@@ -1,5 +1,6 @@
 -- The candidates that a description lists (RFC 8839, section 5.1).
 use Rattle.std.specs.Prelude.{Bool, List, ◌++◌, Option, Some, None, filter_map, flat_map}
+use Rattle.str0m_sdp.specs.Prelude.{Candidate}
 use Rattle.str0m_sdp.specs.declared.attribute.MediaAttribute.{MediaAttribute}
 use Rattle.str0m_sdp.specs.declared.attribute.MediaAttribute.TheVariants as media
 use Rattle.str0m_sdp.specs.declared.attribute.SessionAttribute.{SessionAttribute}
@@ -9,7 +10,6 @@ use Rattle.str0m_sdp.specs.declared.session.Sdp.{Sdp}
 use Rattle.str0m_sdp.specs.declared.session.Session.{Session}
 use Rattle.str0m_sdp.specs.declared.session.candidates.Candidates.{Candidates}
 use Rattle.str0m_values.specs.contracts.candidate.CandidatePartialEq.TheImpl as candidate
-use Rattle.str0m_values.specs.declared.candidate.Candidate.{Candidate}
 
 -- the candidate that an attribute of a session holds
 abbrev pub session_candidate : SessionAttribute → Option Candidate

@@ -1,8 +1,8 @@
 -- The candidates of a whole description, each once.
 use Rattle.std.specs.Prelude.{◌≢◌, ◌↔◌, List, map, AllPairs, Contains}
 use Rattle.std.specs.Vec.Iter.{into_iter_items}
+use Rattle.str0m_sdp.specs.Prelude.{Candidate}
 use Rattle.str0m_sdp.specs.declared.session.distinct_candidates.DistinctCandidates.{DistinctCandidates}
-use Rattle.str0m_values.specs.declared.candidate.Candidate.{Candidate}
 
 -- those that an iterator is still to give
 abbrev pub distinct_left : DistinctCandidates → List Candidate

@@ -1,8 +1,7 @@
 -- Which fault of a section is told, where it isn't consistent, and what the message says.
 use Rattle.std.specs.Prelude.{ℕ, not, ◌==◌, ◌&&◌, nat_lt, is_some, List, ◌++◌, codes, length, filter_map, count_by, if◌then◌else◌, Option, Some, None, option_map, Result, Ok, Err, decimal}
-use Rattle.str0m_formats.specs.codec.CodecSpec.{static_spec}
-use Rattle.str0m_formats.specs.declared.format.format_param.FormatParam.{FormatParam}
 use Rattle.str0m_sdp.specs.Common.{first}
+use Rattle.str0m_sdp.specs.Prelude.{FormatParam, static_spec, when, ◌<|>◌}
 use Rattle.str0m_sdp.specs.attribute.MediaType.{media_type_text}
 use Rattle.str0m_sdp.specs.attribute.Proto.{proto_text}
 use Rattle.str0m_sdp.specs.declared.attribute.MediaAttribute.{MediaAttribute}
@@ -14,7 +13,6 @@ use Rattle.str0m_sdp.specs.declared.session.fault.Clash.{Clash}
 use Rattle.str0m_sdp.specs.declared.session.fault.Fault.{Fault}
 use Rattle.str0m_sdp.specs.declared.session.fault.Fault.TheVariants.{MissingMid, SecondMid, SecondSetup, Directions, MissingType, MissingMap, SecondMap, Apts}
 use Rattle.str0m_sdp.specs.section.Consistency.{is_mid, mid_of, is_setup, is_direction, maps, apt_of, first_apt}
-use Rattle.str0m_values.specs.Cuts.{◌<|>◌, when}
 
 -- ---- what may be wrong, a question each
 

@@ -2,12 +2,12 @@
 use Rattle.std.specs.BTreeSet.{contains}
 use Rattle.std.specs.List.{list_any}
 use Rattle.std.specs.Prelude.{◌≡◌, List, map}
+use Rattle.str0m_sdp.specs.Prelude.{Candidate}
 use Rattle.str0m_sdp.specs.contracts.session.candidate_key.CandidateKeyOrd.TheImpl as order
 use Rattle.str0m_sdp.specs.declared.session.candidate_key.CandidateKey.{CandidateKey}
 use Rattle.str0m_sdp.specs.declared.session.seen_candidates.SeenCandidates.{SeenCandidates}
 use Rattle.str0m_sdp.specs.session.CandidateKey.{IsKeyOf}
 use Rattle.str0m_sdp.specs.session.Candidates.{same_candidate}
-use Rattle.str0m_values.specs.declared.candidate.Candidate.{Candidate}
 
 -- those that were seen, in order of first appearance
 abbrev pub seen : SeenCandidates → List Candidate

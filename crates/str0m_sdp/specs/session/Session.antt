@@ -1,6 +1,6 @@
 -- What a session description prints (RFC 8866, section 5).
 use Rattle.std.specs.Prelude.{◌<◌, ◌^◌, ℕ, List, ◌++◌, All, IfSome, codes, decimal, flat_map, IsUtf8}
-use Rattle.str0m_formats.specs.row.PlainRowBounds.{IsByte}
+use Rattle.str0m_sdp.specs.Prelude.{IsByte}
 use Rattle.str0m_sdp.specs.attribute.Attribute.{FitsMediaAttribute, FitsSessionAttribute, session_attribute_text}
 use Rattle.str0m_sdp.specs.attribute.AttributeFits.{FitsBandwidth}
 use Rattle.str0m_sdp.specs.attribute.Bandwidth.{bandwidth_line}

@@ -1,6 +1,7 @@
 -- Which fault of a session is told, where it isn't consistent, and what the message says.
 use Rattle.std.specs.Prelude.{◌≡◌, ℕ, not, ◌==◌, List, [], ◌∷◌, ◌++◌, codes, length, find, filter_map, Option, Some, None, option_map, decimal, zip, bytes_eq, string_bytes}
 use Rattle.str0m_sdp.specs.Common.{first}
+use Rattle.str0m_sdp.specs.Prelude.{when, ◌<|>◌}
 use Rattle.str0m_sdp.specs.declared.section.media_line.MediaLine.{MediaLine}
 use Rattle.str0m_sdp.specs.declared.session.Sdp.{Sdp}
 use Rattle.str0m_sdp.specs.declared.session.error.SdpError.{SdpError}
@@ -9,7 +10,6 @@ use Rattle.str0m_sdp.specs.declared.session.fault.SessionFault.{SessionFault}
 use Rattle.str0m_sdp.specs.declared.session.fault.SessionFault.TheVariants.{SharedMid, MissingGroup, Count, Order}
 use Rattle.str0m_sdp.specs.session.Fault.{section_message}
 use Rattle.str0m_sdp.specs.session.SessionConsistency.{first_group, is_listed, parts, section_mids}
-use Rattle.str0m_values.specs.Cuts.{◌<|>◌, when}
 
 -- ---- what may be wrong, a question each
 

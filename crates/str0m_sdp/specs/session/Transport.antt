@@ -3,6 +3,7 @@ use Rattle.std.specs.Borrow.{Bor}
 use Rattle.std.specs.Option.{option_or}
 use Rattle.std.specs.Prelude.{ℕ, Bool, true, false, List, Option, Some, None, filter_map}
 use Rattle.str0m_sdp.specs.Common.{first}
+use Rattle.str0m_sdp.specs.Prelude.{Fingerprint, IceCreds}
 use Rattle.str0m_sdp.specs.declared.attribute.MediaAttribute.{MediaAttribute}
 use Rattle.str0m_sdp.specs.declared.attribute.MediaAttribute.TheVariants as media
 use Rattle.str0m_sdp.specs.declared.attribute.SessionAttribute.{SessionAttribute}
@@ -10,8 +11,6 @@ use Rattle.str0m_sdp.specs.declared.attribute.SessionAttribute.TheVariants as se
 use Rattle.str0m_sdp.specs.declared.attribute.setup.Setup.{Setup}
 use Rattle.str0m_sdp.specs.declared.section.media_line.MediaLine.{MediaLine}
 use Rattle.str0m_sdp.specs.declared.session.Sdp.{Sdp}
-use Rattle.str0m_values.specs.declared.fingerprint.Fingerprint.{Fingerprint}
-use Rattle.str0m_values.specs.declared.ice_creds.IceCreds.{IceCreds}
 
 -- the role in the DTLS handshake (RFC 8842, section 5.2)
 abbrev pub session_setup : SessionAttribute → Option Setup

@@ -1,7 +1,7 @@
 //! The lines of format parameters.
 ghost use Rattle.std.specs.List.{join_by};
 ghost use Rattle.std.specs.Prelude.{◌≡◌, ◌∷◌, ◌++◌, [], Some, MatchOption, codes, filter, refl, flat_map};
-ghost use Rattle.str0m_formats.specs.format.FormatParam.{param_text};
+ghost use Rattle.str0m_sdp.specs.Prelude.{param_text};
 ghost use Rattle.str0m_sdp.specs.attribute.Fmtp.{is_shown, fmtp_text};
 
 use crate::form::printed::{Labelled, Pair, Printed};

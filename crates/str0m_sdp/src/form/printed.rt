@@ -1,8 +1,8 @@
 //! Lists, pairs and lines of values as text.
 ghost use Rattle.std.specs.List.{join_by};
 ghost use Rattle.std.specs.Prelude.{◌≡◌, ◌++◌, List, ℕ, Some, codes, refl, decimal, flat_map};
+ghost use Rattle.str0m_sdp.specs.Prelude.{fingerprint_text};
 ghost use Rattle.str0m_sdp.specs.form.Printed.{attribute_line, labelled_line};
-ghost use Rattle.str0m_values.specs.Fingerprint.{fingerprint_text};
 
 use std::fmt;
 use str0m_values::{Fingerprint, Mid, Pt, Ssrc, Text};

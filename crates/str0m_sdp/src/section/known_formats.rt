@@ -1,6 +1,6 @@
 //! What the fmtp lines of a payload type say of a codec, made once where the section says much in them.
 ghost use Rattle.std.specs.Prelude.{◌≡◌, ℕ, IfOk, List};
-ghost use Rattle.str0m_formats.specs.format.FormatLine.{format_of_fmtp, line_values};
+ghost use Rattle.str0m_sdp.specs.Prelude.{format_of_fmtp, line_values};
 ghost use Rattle.str0m_sdp.specs.declared.attribute.MediaAttribute.{MediaAttribute};
 ghost use Rattle.str0m_sdp.specs.section.FmtpLines.{lines_with};
 ghost use Rattle.str0m_sdp.specs.section.SectionRows.{lines_of};

@@ -1,6 +1,6 @@
 //! Sections that are made of rows.
 ghost use Rattle.std.specs.Prelude.{◌≡◌, ◌++◌, IfOk, OnOk, filter, not, flat_map};
-ghost use Rattle.str0m_formats.specs.row.PayloadParams.{types, types_of};
+ghost use Rattle.str0m_sdp.specs.Prelude.{types, types_of};
 ghost use Rattle.str0m_sdp.specs.section.MadeSection.{is_of_type, made};
 ghost use Rattle.str0m_sdp.specs.section.RowAttributes.{row_attrs};
 

@@ -1,7 +1,7 @@
 //! Which codec each payload type of a section stands for.
 ghost use Rattle.std.specs.List.{list_any};
 ghost use Rattle.std.specs.Prelude.{◌≡◌, ◌==◌, ◌<◌, ◌++◌, ℕ, false, IfOk, OnOk, get_or, length, filter_map, option_to_list};
-ghost use Rattle.str0m_formats.specs.codec.CodecSpec.{static_spec};
+ghost use Rattle.str0m_sdp.specs.Prelude.{static_spec};
 ghost use Rattle.str0m_sdp.specs.section.Mappings.{mapping, static_row, mapped, is_mapped_to};
 
 use crate::attribute::MediaAttribute;

@@ -1,6 +1,6 @@
 //! The attribute lines of a row.
 ghost use Rattle.std.specs.Prelude.{◌≡◌, ◌∷◌, ◌++◌, [], List, OnOk, OnErr, IfOk};
-ghost use Rattle.str0m_formats.specs.declared.format.format_param.FormatParam.{FormatParam};
+ghost use Rattle.str0m_sdp.specs.Prelude.{FormatParam};
 ghost use Rattle.str0m_sdp.specs.declared.attribute.MediaAttribute.{MediaAttribute};
 ghost use Rattle.str0m_sdp.specs.section.RowAttributes.{Begins, feedback_line, feedback_attrs, fmtp_line, format_values, format_attrs, rtx_lines, rtx_attrs, red_lines, red_attrs, row_attrs};
 

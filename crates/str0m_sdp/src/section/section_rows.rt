@@ -1,11 +1,6 @@
 //! The rows that a section describes.
 ghost use Rattle.std.specs.Prelude.{◌≡◌, ◌<◌, ◌++◌, [], All, IfOk, OnOk, option_to_list};
-ghost use Rattle.str0m_formats.specs.codec.Codec.{content};
-ghost use Rattle.str0m_formats.specs.format.FormatLine.{format_of_fmtp};
-ghost use Rattle.str0m_formats.specs.round.Choices.{has_events};
-ghost use Rattle.str0m_formats.specs.row.KindRows.{has_sound};
-ghost use Rattle.str0m_formats.specs.row.PayloadParams.{has_pictures};
-ghost use Rattle.str0m_formats.specs.row.PlainRowBounds.{IsBounded};
+ghost use Rattle.str0m_sdp.specs.Prelude.{IsBounded, content, format_of_fmtp, has_events, has_pictures, has_sound};
 ghost use Rattle.str0m_sdp.specs.declared.section.media_line.MediaLine.{MediaLine};
 ghost use Rattle.str0m_sdp.specs.section.SectionRows.{KeepsToLines, lines_of, is_kept, row, rows};
 

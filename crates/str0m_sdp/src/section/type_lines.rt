@@ -1,7 +1,6 @@
 //! The fmtp lines of a section by payload type, and what they say of codecs, each made once.
 ghost use Rattle.std.specs.Prelude.{◌≡◌, ◌++◌, [], ◌∷◌, All, IfOk, IfSome, List, OnOk};
-ghost use Rattle.str0m_formats.specs.declared.format.format_param.FormatParam.{FormatParam};
-ghost use Rattle.str0m_formats.specs.format.FormatLine.{format_of_fmtp};
+ghost use Rattle.str0m_sdp.specs.Prelude.{FormatParam, format_of_fmtp};
 ghost use Rattle.str0m_sdp.specs.section.TypeLines.{AreGrouped, IsGroup, IsKnown};
 
 use crate::section::type_tables::TYPES;

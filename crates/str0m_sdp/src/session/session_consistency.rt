@@ -1,10 +1,10 @@
 //! Which sessions are consistent.
 ghost use Rattle.std.specs.Prelude.{◌≡◌, ◌==◌, ◌++◌, IfErr, IfOk, IsOk, None, Ok, OnOk, filter_map, length, not, option_map, option_to_list, Some, bytes_eq, string_bytes};
+ghost use Rattle.str0m_sdp.specs.Prelude.{when, ◌<|>◌};
 ghost use Rattle.str0m_sdp.specs.declared.session.fault.SessionFault.TheVariants.{Count, Order};
 ghost use Rattle.str0m_sdp.specs.session.OrderedMids.{is_part, part_mid};
 ghost use Rattle.str0m_sdp.specs.session.SessionConsistency.{AreFew, ConsistentSdp, IsContradiction, SaysWhether, first_group, is_listed, parts, section_mid, section_mids, takes_part};
 ghost use Rattle.str0m_sdp.specs.session.SessionFault.{Tells, first_again, first_difference, first_session_fault, listing_fault, sections_message, session_message};
-ghost use Rattle.str0m_values.specs.Cuts.{◌<|>◌, when};
 
 use crate::attribute::SessionAttribute;
 use crate::section::consistency::first_mid;

@@ -2,11 +2,11 @@
 ghost use Rattle.std.specs.List.{list_any};
 ghost use Rattle.std.specs.Prelude.{◌≡◌, Bool, IfOk, List, Option, filter_map, ℕ, option_copied, option_map};
 ghost use Rattle.str0m_sdp.specs.Common.{first};
+ghost use Rattle.str0m_sdp.specs.Prelude.{Fingerprint};
 ghost use Rattle.str0m_sdp.specs.declared.attribute.setup.Setup.{Setup};
 ghost use Rattle.str0m_sdp.specs.session.Candidates.{session_candidate, media_candidate};
 ghost use Rattle.str0m_sdp.specs.session.Transport.{session_setup, session_ufrag, session_pwd, session_fingerprint, session_ends, media_setup, media_ufrag, media_pwd, media_fingerprint, media_ends, creds, creds_at};
 ghost use Rattle.str0m_values.specs.declared.candidate.Candidate.{Candidate as CandidateValue};
-ghost use Rattle.str0m_values.specs.declared.fingerprint.Fingerprint.{Fingerprint};
 
 use crate::attribute::setup::Setup;
 use crate::attribute::{MediaAttribute, SessionAttribute};

@@ -1,18 +1,8 @@
 -- Rows that are printed in a session and read again.
 use Rattle.std.specs.List.{AllZip}
 use Rattle.std.specs.Prelude.{◌≡◌, ◌≢◌, ℕ, true, List, [], Some, slice_set, All, slice_get}
-use Rattle.str0m_formats.specs.declared.row.payload_params.PayloadParams.{PayloadParams}
-use Rattle.str0m_formats.specs.round.Claimed.{AllDistinct}
-use Rattle.str0m_formats.specs.row.PayloadParams.{SameRow, types}
-use Rattle.str0m_formats.specs.row.PlainRow.{IsPlain}
 use Rattle.str0m_formats.specs.row.PlainRowBounds.{HoldsRowNumbers}
-use Rattle.str0m_sdp.specs.attribute.MediaType.{is_media}
-use Rattle.str0m_sdp.specs.declared.section.media_line.MediaLine.{MediaLine}
-use Rattle.str0m_sdp.specs.declared.session.Sdp.{Sdp}
-use Rattle.str0m_sdp.specs.section.Consistency.{Consistent}
-use Rattle.str0m_sdp.specs.section.MadeSection.{made}
-use Rattle.str0m_sdp.specs.section.SectionRows.{NamesOne, rows}
-use Rattle.str0m_sdp.specs.session.Session.{IsSessionNumber, sdp_text}
+use Rattle.str0m_signal.specs.Prelude.{AllDistinct, Consistent, IsPlain, IsSessionNumber, MediaLine, NamesOne, PayloadParams, SameRow, Sdp, is_media, made, rows, sdp_text, types}
 use Rattle.str0m_signal.specs.session.Reader.{Reading}
 
 -- the session with a section made of rows in the place of one

@@ -1,24 +1,14 @@
 -- Sessions whose printed text is read line by line as what they hold, up to one section's rows.
 use Rattle.std.specs.Prelude.{◌≡◌, ◌≢◌, ◌≤◌, ◌⊎◌, ℕ, Bool, not, List, [], ◌∷◌, ◌++◌, Option, Some, None, IfSome, All, count_by, true, false, filter, slice_get}
-use Rattle.str0m_sdp.specs.attribute.Attribute.{session_attribute_text, media_attribute_text}
-use Rattle.str0m_sdp.specs.attribute.Bandwidth.{bandwidth_text}
-use Rattle.str0m_sdp.specs.declared.attribute.MediaAttribute.{MediaAttribute}
 use Rattle.str0m_sdp.specs.declared.attribute.MediaAttribute.TheVariants as media
-use Rattle.str0m_sdp.specs.declared.attribute.SessionAttribute.{SessionAttribute}
 use Rattle.str0m_sdp.specs.declared.attribute.SessionAttribute.TheVariants as session
-use Rattle.str0m_sdp.specs.declared.section.media_line.MediaLine.{MediaLine}
-use Rattle.str0m_sdp.specs.declared.session.Sdp.{Sdp}
-use Rattle.str0m_sdp.specs.form.Printed.{line_end}
 use Rattle.str0m_sdp.specs.section.Alike.{Alike}
-use Rattle.str0m_sdp.specs.section.Consistency.{Consistent, is_mid, is_setup, is_direction}
-use Rattle.str0m_sdp.specs.section.MadeSection.{is_of_type}
 use Rattle.str0m_sdp.specs.section.MediaLine.{m_line}
+use Rattle.str0m_signal.specs.Prelude.{Consistent, IsTheOnly, Lacks, MediaAttribute, MediaLine, Sdp, SessionAttribute, bandwidth_text, is_direction, is_mid, is_of_type, is_setup, line_end, media_attribute_text, session_attribute_text}
 use Rattle.str0m_signal.specs.form.MediaAttribute.{IsMediaLine}
 use Rattle.str0m_signal.specs.form.SessionAttribute.{IsSessionLine}
 use Rattle.str0m_signal.specs.line.LinesReading.{read_attribute}
 use Rattle.str0m_signal.specs.session.Section.{IsBandwidth, IsHead}
-use Rattle.str0m_values.specs.Cuts.{IsTheOnly}
-use Rattle.str0m_values.specs.CutsParts.{Lacks}
 
 -- the text is one printed line, which has the form F of the value
 abbrev pub IsPrintedAs : {A : Type 0} → (List ℕ → A → Type 0) → List ℕ → A → Type 0

@@ -1,14 +1,10 @@
 -- Which sessions that were read may be printed again, and are read line by line as what they say.
 use Rattle.std.specs.List.{AllByRecursion}
 use Rattle.std.specs.Prelude.{◌≡◌, ◌≢◌, ℕ, List, [], Some, codes, slice_get, IsUtf8}
-use Rattle.str0m_sdp.specs.declared.attribute.MediaAttribute.{MediaAttribute}
 use Rattle.str0m_sdp.specs.declared.attribute.MediaAttribute.TheVariants.{Rid}
-use Rattle.str0m_sdp.specs.declared.attribute.media_type.MediaType.{MediaType}
 use Rattle.str0m_sdp.specs.declared.attribute.media_type.MediaType.TheVariants.{Application}
-use Rattle.str0m_sdp.specs.declared.attribute.proto.Proto.{Proto}
 use Rattle.str0m_sdp.specs.declared.attribute.proto.Proto.TheVariants.{Srtp, Sctp}
-use Rattle.str0m_sdp.specs.declared.section.media_line.MediaLine.{MediaLine}
-use Rattle.str0m_sdp.specs.declared.session.Sdp.{Sdp}
+use Rattle.str0m_signal.specs.Prelude.{MediaAttribute, MediaLine, MediaType, Proto, Sdp}
 use Rattle.str0m_signal.specs.session.Reader.{Reading}
 
 -- no restriction has the label of payload types for a key

@@ -1,14 +1,11 @@
 -- The form of an fmtp line (RFC 8866, section 6.15).
 use Rattle.std.specs.List.{AllByRecursion}
 use Rattle.std.specs.Prelude.{◌≡◌, ◌⊎◌, ℕ, List, [], ◌∷◌, ◌++◌, Option, Some, None, codes}
-use Rattle.str0m_formats.specs.declared.format.format_param.FormatParam.{FormatParam}
 use Rattle.str0m_formats.specs.declared.format.format_param.FormatParam.TheVariants.{BareRange, BarePtList, Unknown}
-use Rattle.str0m_formats.specs.format.FormatParam.{IsEventRange}
 use Rattle.str0m_formats.specs.format.Pairs.{AreRead}
 use Rattle.str0m_sdp.specs.declared.label.TheConstants as label
+use Rattle.str0m_signal.specs.Prelude.{FirstFit, FormatParam, IsEventRange, IsNum, IsPt, IsRest, Lacks, Parted}
 use Rattle.str0m_signal.specs.form.Forms.{Behind}
-use Rattle.str0m_values.specs.Address.{Parted}
-use Rattle.str0m_values.specs.CutsParts.{Lacks, IsRest, IsNum, IsPt, FirstFit}
 
 -- a space or a tab
 abbrev pub IsBlank : ℕ → Type 0

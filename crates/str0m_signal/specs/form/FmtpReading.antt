@@ -1,11 +1,10 @@
 -- Reading of an fmtp line as functions.
 use Rattle.std.specs.Prelude.{◌≡◌, ◌<◌, ◌≤◌, ◌||◌, ℕ, zero, suc, Bool, true, false, get_or, List, [], ◌∷◌, Option, Some, None, codes, length, if◌then◌else◌, ◌==◌}
-use Rattle.str0m_formats.specs.declared.format.format_param.FormatParam.{FormatParam}
 use Rattle.str0m_formats.specs.declared.format.format_param.FormatParam.TheVariants.{BareRange, BarePtList, Unknown}
 use Rattle.str0m_formats.specs.format.PairsReading.{params_read}
 use Rattle.str0m_sdp.specs.declared.label.TheConstants as label
+use Rattle.str0m_signal.specs.Prelude.{FormatParam, before, cut, is_rest, lacks, num, strip, when, ◌<|>◌, ◌>>=◌}
 use Rattle.str0m_signal.specs.form.FormReading.{behind, digits_read, two_read, parted_read}
-use Rattle.str0m_values.specs.Cuts.{◌>>=◌, ◌<|>◌, cut, strip, when, is_rest, num, before, lacks}
 
 -- the value of an fmtp pair, which ends at `;`, space or tab, and what follows it
 abbrev pub value_read : List ℕ → Option (List ℕ × List ℕ)

@@ -1,7 +1,7 @@
 -- Reading of the pieces that forms share, as functions.
 use Rattle.std.specs.List.{slice_split}
 use Rattle.std.specs.Prelude.{ℕ, List, [], ◌∷◌, ◌==◌, Option, Some, None, codes, is_some, if◌then◌else◌, bytes_eq}
-use Rattle.str0m_values.specs.Cuts.{◌>>=◌, cut, strip, when, is_rest, num}
+use Rattle.str0m_signal.specs.Prelude.{cut, is_rest, num, strip, when, ◌>>=◌}
 
 -- a value where the text is this word
 abbrev pub alone : {A : Type 0} → List ℕ → A → List ℕ → Option A

@@ -1,10 +1,8 @@
 -- Tables of forms: what a text may begin with, what it stands for, and how it is read. One row states all three.
 use Rattle.std.specs.Prelude.{◌≡◌, ◌⊎◌, ◌++◌, ◌∷◌, [], ℕ, Bool, true, false, List, Option, Some, None, ◌==◌, ◌||◌, if◌then◌else◌}
+use Rattle.str0m_signal.specs.Prelude.{IsNum, IsRest, Parted, is_rest, num, when, ◌<|>◌, ◌>>=◌}
 use Rattle.str0m_signal.specs.form.FormReading.{alone, behind, text_read, two_read, tailed_read, parted_read}
 use Rattle.str0m_signal.specs.form.Forms.{Behind, IsText, Two, Tailed}
-use Rattle.str0m_values.specs.Address.{Parted}
-use Rattle.str0m_values.specs.Cuts.{◌>>=◌, ◌<|>◌, when, is_rest, num}
-use Rattle.str0m_values.specs.CutsParts.{IsRest, IsNum}
 
 -- ---- parts of a text
 

@@ -1,17 +1,13 @@
 -- The forms that attributes of sessions and of sections share: of ICE and of DTLS.
 use Rattle.std.specs.Prelude.{◌≡◌, ℕ, List, [], ◌∷◌}
-use Rattle.str0m_sdp.specs.attribute.Setup.{setup_text}
 use Rattle.str0m_sdp.specs.declared.attribute.setup.Setup.{Setup}
 use Rattle.str0m_sdp.specs.declared.label.TheConstants as label
+use Rattle.str0m_signal.specs.Prelude.{Candidate, Fingerprint, IsCandidateText, candidate_read, setup_text}
 use Rattle.str0m_signal.specs.form.FormTable.{Piece, Form, own, a_text, two, parted, labelled}
 use Rattle.str0m_signal.specs.form.MediaAttributeReading.{role_read}
 use Rattle.str0m_signal.specs.line.Words.{IsHexPair}
 use Rattle.str0m_signal.specs.line.WordsReading.{hex_pair_read}
-use Rattle.str0m_values.specs.Candidate.{IsCandidateText}
-use Rattle.str0m_values.specs.CandidateReading.{candidate_read}
-use Rattle.str0m_values.specs.declared.candidate.Candidate.{Candidate}
 use Rattle.str0m_values.specs.declared.candidate_label.TheConstants as candidate_label
-use Rattle.str0m_values.specs.declared.fingerprint.Fingerprint.{Fingerprint}
 
 -- the credentials of ICE and its options (RFC 8839, sections 5.4 and 5.6)
 abbrev pub ice_texts : {A : Type 0} → (List ℕ → A) → (List ℕ → A) → (List ℕ → A) → List (List ℕ × (List ℕ → A))

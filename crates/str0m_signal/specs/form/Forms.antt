@@ -1,6 +1,6 @@
 -- The pieces that forms of attributes share.
 use Rattle.std.specs.Prelude.{◌≡◌, ◌⊎◌, ◌++◌, ◌∷◌, [], ℕ, List}
-use Rattle.str0m_values.specs.CutsParts.{Lacks, IsRest}
+use Rattle.str0m_signal.specs.Prelude.{IsRest, Lacks}
 
 -- a label, and after it the text of a value by F
 abbrev pub Behind : {A : Type 0} → List ℕ → (List ℕ → A → Type 0) → List ℕ → A → Type 0

@@ -1,9 +1,8 @@
 -- The attributes of a section, each with the text that stands for it after `a=`.
 use Rattle.std.specs.Prelude.{ℕ, true, List, [], ◌∷◌, Option, codes}
-use Rattle.str0m_sdp.specs.attribute.Attribute.{media_words}
-use Rattle.str0m_sdp.specs.declared.attribute.MediaAttribute.{MediaAttribute}
 use Rattle.str0m_sdp.specs.declared.attribute.MediaAttribute.TheVariants.{Rtcp, IceUfrag, IcePwd, IceOptions, Fingerprint, Setup, Mid, SctpPort, MaxMessageSize, SctpInit, ExtMap, Msid, Candidate, RtpMap, RtcpFb, Fmtp, Rid, Simulcast, SsrcGroup, Ssrc, Unused}
 use Rattle.str0m_sdp.specs.declared.label.TheConstants as label
+use Rattle.str0m_signal.specs.Prelude.{FirstFit, IsLongestBeginning, IsRest, MediaAttribute, beginning_of, is_rest, media_words, when, ◌<|>◌}
 use Rattle.str0m_signal.specs.form.Fmtp.{IsFmtp}
 use Rattle.str0m_signal.specs.form.FmtpReading.{fmtp_fields_read}
 use Rattle.str0m_signal.specs.form.FormTable.{Piece, Form, own, a_text, number, two, tailed, parted, labelled, made, any, words, texts, pairs, IsUnused, unused_read, first_byte, by_letter}
@@ -15,9 +14,6 @@ use Rattle.str0m_signal.specs.form.RtpMapReading.{rtpmap_fields_read}
 use Rattle.str0m_signal.specs.form.Simulcast.{IsSimulcast}
 use Rattle.str0m_signal.specs.form.SimulcastReading.{simulcast_fields_read}
 use Rattle.str0m_signal.specs.line.Lines.{IsAttributeLine}
-use Rattle.str0m_values.specs.Cuts.{◌<|>◌, when, is_rest}
-use Rattle.str0m_values.specs.CutsParts.{FirstFit, IsRest}
-use Rattle.str0m_values.specs.ShortText.{IsLongestBeginning, beginning_of}
 
 abbrev pub media_texts : List (List ℕ × (List ℕ → MediaAttribute))
 media_texts = ice_texts IceUfrag IcePwd IceOptions

@@ -1,11 +1,9 @@
 -- The form of the line of a stream that may be restricted (RFC 8851, section 10).
 use Rattle.std.specs.Prelude.{◌≡◌, ◌≢◌, ◌⊎◌, ◌++◌, true, ℕ, List, [], ◌∷◌, codes}
-use Rattle.str0m_sdp.specs.declared.attribute.simulcast.RestrictionId.{RestrictionId}
+use Rattle.str0m_signal.specs.Prelude.{IsPt, Parted, RestrictionId}
 use Rattle.str0m_signal.specs.form.Fmtp.{AreBlanks, IsKey, IsValue}
 use Rattle.str0m_signal.specs.form.Forms.{Behind, Two}
 use Rattle.str0m_signal.specs.form.RidStreamName.{IsStreamName}
-use Rattle.str0m_values.specs.Address.{Parted}
-use Rattle.str0m_values.specs.CutsParts.{IsPt}
 
 -- a name, which is active
 abbrev pub IsActive : List ℕ → RestrictionId → Type 0

@@ -1,11 +1,10 @@
 -- Reading of the line of a stream that may be restricted, as functions.
 use Rattle.std.specs.Prelude.{ℕ, true, List, [], Option, Some, None, codes, if◌then◌else◌}
-use Rattle.str0m_sdp.specs.declared.attribute.simulcast.RestrictionId.{RestrictionId}
+use Rattle.str0m_signal.specs.Prelude.{RestrictionId, cut, is_rest, num, strip, when, ◌<|>◌, ◌>>=◌}
 use Rattle.str0m_signal.specs.declared.form.rid.Lists.{Lists as TheLists}
 use Rattle.str0m_signal.specs.form.FmtpReading.{value_read, skip_blanks, key_read, one_by_one}
 use Rattle.str0m_signal.specs.form.FormReading.{two_read, parted_read}
 use Rattle.str0m_signal.specs.form.RidStreamName.{is_stream_name}
-use Rattle.str0m_values.specs.Cuts.{◌>>=◌, ◌<|>◌, cut, strip, when, is_rest, num}
 
 abbrev pub active_read : List ℕ → Option RestrictionId
 active_read text = when (is_stream_name text) (record { 0 = text; 1 = true })

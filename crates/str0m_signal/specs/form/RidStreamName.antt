@@ -1,8 +1,7 @@
 -- The names of streams that may be restricted.
 use Rattle.std.specs.List.{list_all}
 use Rattle.std.specs.Prelude.{◌≡◌, ◌||◌, ◌&&◌, ℕ, Bool, true, false, List, chars}
-use Rattle.str0m_values.specs.Cuts.{is_rest, lacks}
-use Rattle.str0m_values.specs.CutsParts.{IsRest, Lacks}
+use Rattle.str0m_signal.specs.Prelude.{IsRest, Lacks, is_rest, lacks}
 use Rattle.ucd_category.specs.declared.GeneralCategory.{GeneralCategory}
 use Rattle.ucd_category.specs.declared.GeneralCategory.TheVariants.{DecimalNumber, LetterNumber, OtherNumber}
 use Rattle.unicode.specs.Binary.{is_alphabetic}

@@ -1,9 +1,8 @@
 -- The form of an rtpmap line.
 use Rattle.std.specs.Prelude.{◌≡◌, ◌<◌, ◌++◌, ℕ, List, [], Option, Some, None, codes}
-use Rattle.str0m_formats.specs.codec.Codec.{IsReadAs}
 use Rattle.str0m_sdp.specs.declared.attribute.rtp_map.RtpMap.{RtpMap as Mapping}
 use Rattle.str0m_sdp.specs.declared.label.TheConstants as label
-use Rattle.str0m_values.specs.CutsParts.{IsWithout, IsNum, IsPt}
+use Rattle.str0m_signal.specs.Prelude.{IsNum, IsPt, IsReadAs, IsWithout}
 
 -- the channels after a clock rate: none, or `/` and a number
 abbrev pub IsChannels : List ℕ → Option ℕ → Type 0

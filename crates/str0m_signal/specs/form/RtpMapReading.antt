@@ -1,9 +1,8 @@
 -- Reading of an rtpmap line as functions.
 use Rattle.std.specs.Prelude.{ℕ, List, Option, Some, None, nat_lt}
-use Rattle.str0m_formats.specs.codec.Codec.{codec_of}
 use Rattle.str0m_sdp.specs.declared.attribute.rtp_map.RtpMap.{RtpMap as Mapping}
 use Rattle.str0m_sdp.specs.declared.label.TheConstants as label
-use Rattle.str0m_values.specs.Cuts.{◌>>=◌, cut, strip, when, is_rest, num}
+use Rattle.str0m_signal.specs.Prelude.{codec_of, cut, is_rest, num, strip, when, ◌>>=◌}
 
 abbrev pub frequency_read : List ℕ → Option ℕ
 frequency_read text = do

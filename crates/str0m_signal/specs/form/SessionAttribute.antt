@@ -1,16 +1,13 @@
 -- The attributes of a session, each with the text that stands for it after `a=`.
 use Rattle.std.specs.Prelude.{ℕ, List, [], ◌∷◌, Option, Some}
-use Rattle.str0m_sdp.specs.attribute.Attribute.{session_words}
-use Rattle.str0m_sdp.specs.declared.attribute.SessionAttribute.{SessionAttribute}
 use Rattle.str0m_sdp.specs.declared.attribute.SessionAttribute.TheVariants.{Group, MsidSemantic, IceUfrag, IcePwd, IceOptions, Fingerprint, Setup, Candidate, Unused}
 use Rattle.str0m_sdp.specs.declared.label.TheConstants as label
+use Rattle.str0m_signal.specs.Prelude.{FirstFit, SessionAttribute, session_words, ◌<|>◌, ◌>>=◌}
 use Rattle.str0m_signal.specs.form.FormTable.{Form, labelled, made, any, words, texts, IsUnused, unused_read}
 use Rattle.str0m_signal.specs.form.FormTransport.{ice_texts, candidate, fingerprint, setup}
 use Rattle.str0m_signal.specs.line.Lines.{IsAttributeLine}
 use Rattle.str0m_signal.specs.line.Words.{IsGroup, IsMsidSemantic}
 use Rattle.str0m_signal.specs.line.WordsReading.{names_read, group_fields_read, msid_semantic_fields_read}
-use Rattle.str0m_values.specs.Cuts.{◌>>=◌, ◌<|>◌}
-use Rattle.str0m_values.specs.CutsParts.{FirstFit}
 
 abbrev pub session_texts : List (List ℕ × (List ℕ → SessionAttribute))
 session_texts = ice_texts IceUfrag IcePwd IceOptions

@@ -1,12 +1,9 @@
 -- The form of a simulcast line (RFC 8853, section 5.1).
 use Rattle.std.specs.Prelude.{◌≡◌, ◌⊎◌, false, ℕ, List, [], ◌∷◌, None, codes}
 use Rattle.str0m_sdp.specs.attribute.Simulcast.{id_text}
-use Rattle.str0m_sdp.specs.declared.attribute.simulcast.RestrictionId.{RestrictionId}
-use Rattle.str0m_sdp.specs.declared.attribute.simulcast.Simulcast.{Simulcast}
-use Rattle.str0m_sdp.specs.declared.attribute.simulcast.SimulcastLayer.{SimulcastLayer}
+use Rattle.str0m_signal.specs.Prelude.{Parted, RestrictionId, Simulcast, SimulcastLayer}
 use Rattle.str0m_signal.specs.form.Forms.{Behind, Two}
 use Rattle.str0m_signal.specs.form.RidStreamName.{IsStreamName}
-use Rattle.str0m_values.specs.Address.{Parted}
 
 -- a name, after `~` where it isn't active
 abbrev pub IsAlternative : List ℕ → RestrictionId → Type 0

@@ -1,12 +1,9 @@
 -- Reading of a simulcast line as functions.
 use Rattle.std.specs.Prelude.{ℕ, true, false, List, [], Option, Some, None, codes, is_some}
-use Rattle.str0m_sdp.specs.declared.attribute.simulcast.RestrictionId.{RestrictionId}
-use Rattle.str0m_sdp.specs.declared.attribute.simulcast.Simulcast.{Simulcast}
-use Rattle.str0m_sdp.specs.declared.attribute.simulcast.SimulcastLayer.{SimulcastLayer}
+use Rattle.str0m_signal.specs.Prelude.{RestrictionId, Simulcast, SimulcastLayer, cut, strip, when, ◌<|>◌, ◌>>=◌}
 use Rattle.str0m_signal.specs.declared.form.simulcast.Sides.{Sides as TheSides}
 use Rattle.str0m_signal.specs.form.FormReading.{behind, parted_read}
 use Rattle.str0m_signal.specs.form.RidStreamName.{is_stream_name}
-use Rattle.str0m_values.specs.Cuts.{◌>>=◌, ◌<|>◌, cut, strip, when}
 
 -- a name, where the text was cut after `~` if it begins so
 abbrev pub alternative_after : List ℕ → Option (List ℕ) → Option RestrictionId

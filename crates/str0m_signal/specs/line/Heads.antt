@@ -1,8 +1,8 @@
 -- What the private records of the code say, in the words of the grammar.
 use Rattle.std.specs.Borrow.{Bor}
 use Rattle.std.specs.Prelude.{ℕ, List}
-use Rattle.str0m_sdp.specs.declared.attribute.media_type.MediaType.{MediaType}
 use Rattle.str0m_sdp.specs.declared.attribute.media_type.MediaType.TheVariants as typ
+use Rattle.str0m_signal.specs.Prelude.{MediaType}
 use Rattle.str0m_signal.specs.declared.line.heads.Kind.{Kind}
 use Rattle.str0m_signal.specs.declared.line.heads.Kind.TheVariants.{Audio, Video, Application, Unknown}
 use Rattle.str0m_signal.specs.declared.line.heads.MediaHead.{MediaHead}

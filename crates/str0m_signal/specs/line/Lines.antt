@@ -1,6 +1,6 @@
 -- The lines of a text.
 use Rattle.std.specs.Prelude.{◌≡◌, ◌⊎◌, ℕ, List, [], ◌∷◌, ◌++◌, codes, Option, Some, None}
-use Rattle.str0m_values.specs.CutsParts.{Lacks, IsRest}
+use Rattle.str0m_signal.specs.Prelude.{IsRest, Lacks}
 
 pub record Line : Type 0 where
   pub content : List ℕ

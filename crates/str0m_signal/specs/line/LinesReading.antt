@@ -1,8 +1,8 @@
 -- The lines of a text as a function.
 use Rattle.std.specs.Borrow.{Bor}
 use Rattle.std.specs.Prelude.{◌≡◌, ◌⊎◌, ℕ, Bool, false, true, codes, List, [], ◌∷◌, ◌++◌, length, Option, Some, None, ◌==◌, ◌&&◌, if◌then◌else◌}
+use Rattle.str0m_signal.specs.Prelude.{lacks, strip, when, ◌<|>◌, ◌>>=◌}
 use Rattle.str0m_signal.specs.line.Lines.{Line, Stops}
-use Rattle.str0m_values.specs.Cuts.{strip, lacks, when, ◌>>=◌, ◌<|>◌}
 
 abbrev pub is_crlf : ℕ → List ℕ → Bool
 is_crlf x [] = false

@@ -1,10 +1,8 @@
 -- What one item of a list stands for, and what may stand at the ends of a list.
 use Rattle.std.specs.Char.{digit_value}
 use Rattle.std.specs.Prelude.{◌≡◌, ◌⊎◌, ◌<◌, ◌+◌, ◌*◌, ℕ, List, [], ◌∷◌, ◌++◌, codes}
+use Rattle.str0m_signal.specs.Prelude.{IsLongestBeginning, IsWord, Parted}
 use Rattle.str0m_signal.specs.form.Forms.{IsText, Two}
-use Rattle.str0m_values.specs.Address.{Parted}
-use Rattle.str0m_values.specs.CutsParts.{IsWord}
-use Rattle.str0m_values.specs.ShortText.{IsLongestBeginning}
 
 -- a word stands for itself
 abbrev pub IsWordText : List ℕ → List ℕ → Type 0

@@ -1,9 +1,8 @@
 -- Reading of lists of words as functions.
 use Rattle.std.specs.Char.{digit_value}
 use Rattle.std.specs.Prelude.{ℕ, ◌+◌, ◌*◌, ◌==◌, nat_lt, List, [], ◌∷◌, Option, Some, None, codes, if◌then◌else◌}
+use Rattle.str0m_signal.specs.Prelude.{beginning_of, cut, lacks, strip, when, ◌>>=◌}
 use Rattle.str0m_signal.specs.form.FormReading.{text_read, two_read, parted_read}
-use Rattle.str0m_values.specs.Cuts.{◌>>=◌, cut, strip, when, lacks}
-use Rattle.str0m_values.specs.ShortText.{beginning_of}
 
 abbrev pub word_read : List ℕ → Option (List ℕ)
 word_read text = if lacks 32 text then text_read text else None

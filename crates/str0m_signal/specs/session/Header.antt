@@ -1,10 +1,9 @@
 -- The lines of a header.
 use Rattle.std.specs.Prelude.{◌≡◌, ◌⊎◌, ◌≤◌, ℕ, List, [], ◌∷◌, ◌++◌, Option, codes}
 use Rattle.std.specs.Str.Parse.{IsNumeral, digits_value}
-use Rattle.str0m_sdp.specs.declared.attribute.bandwidth.Bandwidth.{Bandwidth}
+use Rattle.str0m_signal.specs.Prelude.{Bandwidth, IsRest, IsWord}
 use Rattle.str0m_signal.specs.line.Lines.{Line, OneLine, Taken, Run}
 use Rattle.str0m_signal.specs.session.Section.{IsField, IsBandwidth}
-use Rattle.str0m_values.specs.CutsParts.{IsRest, IsWord}
 
 -- the line is this word, which is also what it says
 abbrev pub IsExactly : List ℕ → List ℕ → List ℕ → Type 0

@@ -1,10 +1,10 @@
 -- Reading of a header's lines as functions.
 use Rattle.std.specs.Prelude.{ℕ, List, [], ◌∷◌, Option, Some, None, codes, bytes_eq}
+use Rattle.str0m_signal.specs.Prelude.{cut, is_rest, strip, when, ◌<|>◌, ◌>>=◌}
 use Rattle.str0m_signal.specs.form.FormReading.{digits_read}
 use Rattle.str0m_signal.specs.line.Lines.{Line}
 use Rattle.str0m_signal.specs.line.LinesReading.{line_read}
 use Rattle.str0m_signal.specs.session.SectionReading.{field_read}
-use Rattle.str0m_values.specs.Cuts.{◌>>=◌, ◌<|>◌, cut, strip, when, is_rest}
 
 abbrev pub exact_read : List ℕ → List ℕ → Option (List ℕ)
 exact_read word content = when (bytes_eq content word) word

@@ -1,8 +1,7 @@
 -- The rows that rounds have locked.
 use Rattle.std.specs.Prelude.{Bool, ◌&&◌, ◌||◌, List, filter}
-use Rattle.str0m_formats.specs.declared.row.payload_params.PayloadParams.{PayloadParams}
 use Rattle.str0m_formats.specs.row.KindRows.{is_sound, is_pictures, is_events}
-use Rattle.str0m_values.specs.declared.media_kind.MediaKind.{MediaKind}
+use Rattle.str0m_signal.specs.Prelude.{MediaKind, PayloadParams}
 use Rattle.str0m_values.specs.declared.media_kind.MediaKind.TheVariants.{Audio, Video}
 
 -- whether sections of the kind carry what the row is of

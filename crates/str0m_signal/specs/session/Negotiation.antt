@@ -1,16 +1,11 @@
 -- Rounds of negotiation over a whole text.
 use Rattle.std.specs.Prelude.{◌≡◌, ℕ, List, Option, Some, None, map, filter_map, if◌then◌else◌}
 use Rattle.str0m_formats.specs.declared.round.rounds.Round.{Round}
-use Rattle.str0m_formats.specs.declared.row.payload_params.PayloadParams.{PayloadParams}
 use Rattle.str0m_formats.specs.round.RoundsPromises.{RunPromises}
 use Rattle.str0m_formats.specs.round.RoundsRuns.{Outcome, Reached}
-use Rattle.str0m_sdp.specs.attribute.MediaType.{is_media}
-use Rattle.str0m_sdp.specs.declared.section.media_line.MediaLine.{MediaLine}
-use Rattle.str0m_sdp.specs.declared.session.Sdp.{Sdp}
 use Rattle.str0m_sdp.specs.section.SectionDirection.{section_direction}
-use Rattle.str0m_sdp.specs.section.SectionRows.{rows}
+use Rattle.str0m_signal.specs.Prelude.{Direction, MediaLine, PayloadParams, Sdp, is_media, rows}
 use Rattle.str0m_signal.specs.session.Reader.{Described}
-use Rattle.str0m_values.specs.declared.direction.Direction.{Direction}
 
 -- what an audio or video section brings to a round: its rows, and the direction that it describes
 abbrev pub brought_by : MediaLine → Option (List PayloadParams × Direction)

@@ -1,9 +1,7 @@
 -- The reading of a text.
 use Rattle.std.specs.Prelude.{ℕ, List, ◌≡◌, ◌++◌}
-use Rattle.str0m_sdp.specs.declared.section.media_line.MediaLine.{MediaLine}
-use Rattle.str0m_sdp.specs.declared.session.Sdp.{Sdp}
 use Rattle.str0m_sdp.specs.declared.session.Session.{Session as TheSession}
-use Rattle.str0m_sdp.specs.section.Consistency.{Consistent}
+use Rattle.str0m_signal.specs.Prelude.{Consistent, MediaLine, Sdp}
 use Rattle.str0m_signal.specs.form.SessionAttribute.{IsSessionLine}
 use Rattle.str0m_signal.specs.line.Lines.{Line, OneLine, OfText, Chain, Stops, Run, joined, Lines}
 use Rattle.str0m_signal.specs.session.Header.{IsHeader}

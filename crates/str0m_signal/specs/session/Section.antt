@@ -1,16 +1,11 @@
 -- The lines of a section.
 use Rattle.std.specs.Prelude.{◌≡◌, ◌⊎◌, ◌↔◌, ℕ, Bool, List, [], ◌++◌, Option, codes, IsTrue}
-use Rattle.str0m_sdp.specs.declared.attribute.bandwidth.Bandwidth.{Bandwidth}
-use Rattle.str0m_sdp.specs.declared.attribute.media_type.MediaType.{MediaType}
 use Rattle.str0m_sdp.specs.declared.attribute.media_type.MediaType.TheVariants.{Audio, Video, Application, Unknown}
-use Rattle.str0m_sdp.specs.declared.attribute.proto.Proto.{Proto}
 use Rattle.str0m_sdp.specs.declared.attribute.proto.Proto.TheVariants.{Srtp, Sctp}
 use Rattle.str0m_sdp.specs.declared.label.TheConstants.{AUDIO, VIDEO, APPLICATION, SRTP, SCTP, OLD_SCTP}
-use Rattle.str0m_sdp.specs.declared.section.media_line.MediaLine.{MediaLine}
+use Rattle.str0m_signal.specs.Prelude.{Bandwidth, FirstFit, IsNum, IsRest, IsWithout, IsWord, MediaLine, MediaType, Parted, Proto}
 use Rattle.str0m_signal.specs.form.MediaAttribute.{IsMediaLine}
 use Rattle.str0m_signal.specs.line.Lines.{Line, OneLine, Taken, Run}
-use Rattle.str0m_values.specs.Address.{Parted}
-use Rattle.str0m_values.specs.CutsParts.{IsRest, IsWord, IsWithout, IsNum, FirstFit}
 
 -- a letter with `=`, and one or more characters
 abbrev pub IsField : List ℕ → List ℕ → List ℕ → Type 0

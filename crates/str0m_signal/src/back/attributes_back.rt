@@ -1,10 +1,9 @@
 //! Attributes of sessions and of sections, printed and read again.
 
 ghost use Rattle.std.specs.Prelude.{◌≡◌, ◌↔◌, IfOk, IsTrue};
-ghost use Rattle.str0m_sdp.specs.attribute.Attribute.{session_attribute_text};
+ghost use Rattle.str0m_signal.specs.Prelude.{IsTheOnly, session_attribute_text};
 ghost use Rattle.str0m_signal.specs.back.Writable.{AreReadAs, MediaAreReadAs, SessionGoesWith};
 ghost use Rattle.str0m_signal.specs.form.SessionAttribute.{IsSessionLine};
-ghost use Rattle.str0m_values.specs.Cuts.{IsTheOnly};
 
 use crate::back::read_back::{Printed, ReadBack, read_back};
 use std::alloc::{AllocError, Global};
@@ -13,7 +12,7 @@ use str0m_values::Items;
 
 impl Printed for MediaAttribute {
     ghost use Rattle.std.specs.Prelude.{refl};
-    ghost use Rattle.str0m_sdp.specs.attribute.Attribute.{media_attribute_text};
+    ghost use Rattle.str0m_signal.specs.Prelude.{media_attribute_text};
 
     ghost text = { media_attribute_text };
 
@@ -32,7 +31,7 @@ impl ReadBack for MediaAttribute {
 
 impl Printed for SessionAttribute {
     ghost use Rattle.std.specs.Prelude.{refl};
-    ghost use Rattle.str0m_sdp.specs.attribute.Attribute.{session_attribute_text};
+    ghost use Rattle.str0m_signal.specs.Prelude.{session_attribute_text};
 
     ghost text = { session_attribute_text };
 

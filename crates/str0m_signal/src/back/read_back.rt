@@ -1,10 +1,8 @@
 //! What is printed, read again line by line.
 
 ghost use Rattle.std.specs.Prelude.{◌≡◌, ◌∷◌, ◌++◌, ◌↔◌, ◌&&◌, [], ℕ, List, Some, IfOk, IsTrue, option_copied};
-ghost use Rattle.str0m_sdp.specs.form.Printed.{line_end};
+ghost use Rattle.str0m_signal.specs.Prelude.{IsTheOnly, Lacks, lacks, line_end};
 ghost use Rattle.str0m_signal.specs.back.Writable.{AreReadAs, IsPrintedAs, IsReadBy, PutsBack};
-ghost use Rattle.str0m_values.specs.Cuts.{lacks, IsTheOnly};
-ghost use Rattle.str0m_values.specs.CutsParts.{Lacks};
 
 use crate::session::attributes::{Attribute, line, taken_result};
 use std::alloc::{AllocError, Global};

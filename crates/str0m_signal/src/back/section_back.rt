@@ -2,14 +2,10 @@
 
 ghost use Rattle.std.specs.List.{list_any};
 ghost use Rattle.std.specs.Prelude.{◌≡◌, ◌↔◌, IfOk, IfSome, IsTrue, option_map};
-ghost use Rattle.str0m_sdp.specs.attribute.Bandwidth.{bandwidth_text};
-ghost use Rattle.str0m_sdp.specs.declared.section.media_line.MediaLine.{MediaLine};
-ghost use Rattle.str0m_sdp.specs.section.Consistency.{Consistent};
-ghost use Rattle.str0m_sdp.specs.section.MadeSection.{is_of_type};
+ghost use Rattle.str0m_signal.specs.Prelude.{Consistent, IsTheOnly, MediaLine, bandwidth_text, is_of_type};
 ghost use Rattle.str0m_signal.specs.back.Writable.{HasTypes, IsFrame, IsPrintedAs, IsReadAs, frame_of};
 ghost use Rattle.str0m_signal.specs.line.Heads.{media_head};
 ghost use Rattle.str0m_signal.specs.session.Section.{IsBandwidth, IsHead};
-ghost use Rattle.str0m_values.specs.Cuts.{IsTheOnly};
 
 use crate::back::attributes_back::media_back;
 use crate::back::read_back::content;

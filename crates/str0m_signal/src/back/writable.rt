@@ -1,12 +1,7 @@
 //! Whether rows may be printed in a session and are read again.
 
 ghost use Rattle.std.specs.Prelude.{◌≡◌, ◌≢◌, ◌↔◌, ℕ, List, IfOk, IfSome, IsTrue, Ok, Some, true, slice_get};
-ghost use Rattle.str0m_formats.specs.declared.row.payload_params.PayloadParams.{PayloadParams};
-ghost use Rattle.str0m_sdp.specs.attribute.Attribute.{session_attribute_text};
-ghost use Rattle.str0m_sdp.specs.attribute.Bandwidth.{bandwidth_text};
-ghost use Rattle.str0m_sdp.specs.declared.attribute.SessionAttribute.{SessionAttribute};
-ghost use Rattle.str0m_sdp.specs.declared.section.media_line.MediaLine.{MediaLine};
-ghost use Rattle.str0m_sdp.specs.section.Consistency.{Consistent};
+ghost use Rattle.str0m_signal.specs.Prelude.{Consistent, MediaLine, PayloadParams, SessionAttribute, bandwidth_text, session_attribute_text};
 ghost use Rattle.str0m_signal.specs.back.ReadBack.{MayBePrinted, ReadsBack};
 ghost use Rattle.str0m_signal.specs.back.Writable.{AreReadAs, IsPrintedAs, IsReadAs, SessionGoesWith, Writable};
 ghost use Rattle.str0m_signal.specs.back.WritableAgain.{IsOverSrtp, IsRead, MayBeWrittenAgain};

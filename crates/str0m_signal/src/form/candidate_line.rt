@@ -1,6 +1,6 @@
 //! Lines with a candidate.
 
-ghost use Rattle.str0m_values.specs.CandidateReading.{candidate_read};
+ghost use Rattle.str0m_signal.specs.Prelude.{candidate_read};
 
 use crate::session::attributes::{Attribute, Place, taken};
 use std::alloc::{AllocError, Global};

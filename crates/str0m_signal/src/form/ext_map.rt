@@ -1,8 +1,8 @@
 //! Lines of header extensions.
 ghost use Rattle.std.specs.Prelude.{◌≡◌, IfOk, option_map};
+ghost use Rattle.str0m_signal.specs.Prelude.{cut, num, parts};
 ghost use Rattle.str0m_signal.specs.form.FormReading.{text_read, tailed_read};
 ghost use Rattle.str0m_signal.specs.form.MediaAttribute.{ext_map};
-ghost use Rattle.str0m_values.specs.Cuts.{cut, num, parts};
 
 use memchr::memchr;
 use std::alloc::{AllocError, Global};

@@ -2,11 +2,11 @@
 ghost use Rattle.std.specs.Prelude.{◌≡◌, ◌∷◌, ◌++◌, [], IfOk, option_map, is_some, true};
 ghost use Rattle.str0m_sdp.specs.declared.attribute.MediaAttribute.TheVariants.{Rid};
 ghost use Rattle.str0m_sdp.specs.declared.label.TheConstants as label;
+ghost use Rattle.str0m_signal.specs.Prelude.{parts, when};
 ghost use Rattle.str0m_signal.specs.form.FormReading.{behind, two_read};
 ghost use Rattle.str0m_signal.specs.form.MediaAttribute.{rid};
 ghost use Rattle.str0m_signal.specs.form.RidReading.{lists_of, next_read, restriction_read, restrictions_read, restricted_read, typed_read, lists_read, more_read, direction_read};
 ghost use Rattle.str0m_signal.specs.form.RidStreamName.{is_stream_name};
-ghost use Rattle.str0m_values.specs.Cuts.{parts, when};
 
 use crate::form::simulcast::is_stream_name;
 use crate::line::pairs::{key, skip_blanks, value};

@@ -1,10 +1,9 @@
 //! Lines that map a payload type to a codec.
 
 ghost use Rattle.std.specs.Prelude.{◌≡◌};
-ghost use Rattle.str0m_formats.specs.codec.Codec.{codec_of};
+ghost use Rattle.str0m_signal.specs.Prelude.{codec_of, cut};
 ghost use Rattle.str0m_signal.specs.form.MediaAttribute.{rtpmap};
 ghost use Rattle.str0m_signal.specs.form.RtpMapReading.{frequency_read, clock_read, mapping_read};
-ghost use Rattle.str0m_values.specs.Cuts.{cut};
 
 use str0m_formats::Codec;
 use str0m_sdp::{MediaAttribute, RtpMap, label};

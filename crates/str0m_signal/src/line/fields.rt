@@ -1,14 +1,12 @@
 //! What fields of several lines share.
 
 ghost use Rattle.std.specs.Prelude.{◌≡◌, IfOk, option_map};
+ghost use Rattle.str0m_signal.specs.Prelude.{beginning_of, code, num, parts};
 ghost use Rattle.str0m_signal.specs.form.FormReading.{behind, text_read, two_read};
 ghost use Rattle.str0m_signal.specs.form.FormTable.{two_texts};
 ghost use Rattle.str0m_signal.specs.form.MediaAttributeReading.{role_read};
 ghost use Rattle.str0m_signal.specs.line.LinesReading.{lines_of, line_read, both_left};
 ghost use Rattle.str0m_signal.specs.session.SectionReading.{field_read};
-ghost use Rattle.str0m_values.specs.Cuts.{num, parts};
-ghost use Rattle.str0m_values.specs.Separator.{code};
-ghost use Rattle.str0m_values.specs.ShortText.{beginning_of};
 
 use crate::line::lines::plain_line;
 use std::alloc::{AllocError, Global};

@@ -2,8 +2,8 @@
 
 ghost use Rattle.memchr.specs.Find.{IsFirstByte, is_byte2};
 ghost use Rattle.std.specs.Prelude.{◌≡◌, ◌++◌, option_map};
+ghost use Rattle.str0m_signal.specs.Prelude.{Lacks};
 ghost use Rattle.str0m_signal.specs.line.LinesReading.{lines_of, plain_line, behind_end, IsAtEnd, both_left};
-ghost use Rattle.str0m_values.specs.CutsParts.{Lacks};
 
 use memchr::memchr2;
 use str0m_values::cuts::strip;

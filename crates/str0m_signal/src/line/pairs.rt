@@ -2,9 +2,8 @@
 
 ghost use Rattle.std.specs.List.{list_any};
 ghost use Rattle.std.specs.Prelude.{◌≡◌, IfOk, option_map};
-ghost use Rattle.str0m_formats.specs.format.FormatParam.{pair_texts};
+ghost use Rattle.str0m_signal.specs.Prelude.{pair_texts, parts};
 ghost use Rattle.str0m_signal.specs.form.FmtpReading.{IsValueEnd, ends_value, is_blank, value_read, skip_blanks, next_read, key_read, pair_read, pairs_read};
-ghost use Rattle.str0m_values.specs.Cuts.{parts};
 
 use std::alloc::{AllocError, Global};
 use str0m_values::Separator;

@@ -1,7 +1,7 @@
 //! Lists whose items have a character between them.
 ghost use Rattle.std.specs.Prelude.{◌≡◌, ℕ, List, Option, IfOk, is_some};
+ghost use Rattle.str0m_signal.specs.Prelude.{code};
 ghost use Rattle.str0m_signal.specs.form.FormReading.{parted_read};
-ghost use Rattle.str0m_values.specs.Separator.{code};
 
 use crate::session::attributes::taken_result;
 use std::alloc::{AllocError, Global};

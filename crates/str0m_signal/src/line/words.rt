@@ -1,7 +1,7 @@
 //! The items of lists.
 ghost use Rattle.std.specs.Prelude.{◌≡◌, ◌&&◌};
+ghost use Rattle.str0m_signal.specs.Prelude.{is_rest, lacks, num};
 ghost use Rattle.str0m_signal.specs.line.WordsReading.{word_read, name_read, digit_read, hex_pair_read, without_space};
-ghost use Rattle.str0m_values.specs.Cuts.{is_rest, lacks, num};
 
 use crate::line::fields::short;
 use crate::line::parts::Part;

@@ -1,11 +1,7 @@
 //! Rounds of negotiation over a whole text.
 
 ghost use Rattle.std.specs.Prelude.{◌≡◌, All, IfErr, IfOk, OnErr, filter_map, map, option_map, ℕ};
-ghost use Rattle.str0m_formats.specs.round.Claimed.{AllDistinct};
-ghost use Rattle.str0m_formats.specs.row.PayloadParams.{types};
-ghost use Rattle.str0m_formats.specs.row.PlainRow.{IsPlain};
-ghost use Rattle.str0m_sdp.specs.declared.session.Sdp.{Sdp};
-ghost use Rattle.str0m_sdp.specs.section.SectionRows.{HasBoundedRows};
+ghost use Rattle.str0m_signal.specs.Prelude.{AllDistinct, HasBoundedRows, IsPlain, Sdp, types};
 ghost use Rattle.str0m_signal.specs.back.ReadBack.{MayBePrinted, ReadsBack};
 ghost use Rattle.str0m_signal.specs.back.Writable.{Writable};
 ghost use Rattle.str0m_signal.specs.back.WritableAgain.{IsOverSrtp, IsRead, MayBeWrittenAgain};

@@ -2,8 +2,7 @@
 //! (RFC 3264).
 
 ghost use Rattle.std.specs.Prelude.{◌≡◌, All, IfOk, Some, string_bytes};
-ghost use Rattle.str0m_sdp.specs.section.SectionRows.{HasBoundedRows};
-ghost use Rattle.str0m_sdp.specs.session.Session.{sdp_text};
+ghost use Rattle.str0m_signal.specs.Prelude.{HasBoundedRows, sdp_text};
 ghost use Rattle.str0m_signal.specs.session.Reader.{Described};
 ghost use Rattle.str0m_signal.specs.session.ReaderAnswers.{Answers, AtMostOne};
 
@@ -58,7 +57,7 @@ fn printed(sdp: &Sdp) -> Result<String, AllocError>
 }
 
 impl Model for SdpOffer {
-    ghost use Rattle.str0m_sdp.specs.declared.session.Sdp.{Sdp};
+    ghost use Rattle.str0m_signal.specs.Prelude.{Sdp};
 
     ghost Value = { Sdp };
 
@@ -124,7 +123,7 @@ impl fmt::Display for SdpOffer {
 }
 
 impl Model for SdpAnswer {
-    ghost use Rattle.str0m_sdp.specs.declared.session.Sdp.{Sdp};
+    ghost use Rattle.str0m_signal.specs.Prelude.{Sdp};
 
     ghost Value = { Sdp };
 

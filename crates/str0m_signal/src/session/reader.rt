@@ -1,7 +1,7 @@
 //! The readers of whole texts and of single lines.
 
 ghost use Rattle.std.specs.Prelude.{All, IfOk};
-ghost use Rattle.str0m_sdp.specs.section.SectionRows.{HasBoundedRows};
+ghost use Rattle.str0m_signal.specs.Prelude.{HasBoundedRows};
 ghost use Rattle.str0m_signal.specs.form.CandidateLine.{IsCandidateLine};
 ghost use Rattle.str0m_signal.specs.form.MediaAttribute.{IsMediaLine};
 ghost use Rattle.str0m_signal.specs.form.SessionAttribute.{IsSessionLine};
