@@ -1,14 +1,11 @@
 -- What is said of attribute lines, a line at a time.
+use Rattle.lint.proofs.Common.{◌≡◌, ◌+◌, ◌≤◌, ℕ, Bool, true, false, List, [], ◌∷◌, ◌++◌, length, map, refl, sym, ap, ◌∙◌, arith, cond, append_assoc, append-nil, Line, lines_of}
 use Rattle.lint.proofs.LineLaws.{Begins}
 use Rattle.lint.specs.Findings.{Keeps, NotesLine, ends, kept, is_changed, is_refused}
 use Rattle.lint.specs.Kept.{is_unread, kept_at}
 use Rattle.lint.specs.Lines.{IsNumbered, attribute_numbers, begins_attribute}
 use Rattle.lint.specs.declared.mark.Mark.{Mark}
 use Rattle.lint.specs.declared.notes.Notes.{Notes}
-use Rattle.std.proofs.Common.{◌≡◌, ◌+◌, ◌≤◌, ℕ, Bool, true, false, List, [], ◌∷◌, ◌++◌, length, map, refl, sym, ap, ◌∙◌, arith, cond}
-use Rattle.std.proofs.lemmas.List.{append_assoc, append-nil}
-use Rattle.str0m_signal.specs.line.Lines.{Line}
-use Rattle.str0m_signal.specs.line.LinesReading.{lines_of}
 
 -- the numbers of attributes that are kept unread, of a text after so many lines
 abbrev pub numbers : ℕ → List ℕ → List Mark → List ℕ

@@ -1,4 +1,5 @@
 -- What is said of rounds, one more at a time.
+use Rattle.lint.proofs.Common.{◌≡◌, ◌+◌, ◌<◌, ℕ, Bool, true, false, Option, Some, None, Ok, Err, filter_map, List, [], ◌∷◌, ◌++◌, length, map, take, get_or, refl, sym, ap, subst, ◌∙◌, arith, append_assoc, append-nil, length-take-le, map-append, filter_map-append, on_err_weaker, cons_option, take_more, ran_from, CodecConfig, PayloadParams, Negotiates, Outcome, is_media, MediaLine, Sdp, section_direction, rows, Reading, AtMostOne, receives}
 use Rattle.lint.specs.Fates.{AddsFates, ArePartners, IsPartner, RoundSays, RoundsSay, SaysRounds, Where, codes, fate, refusal, some_of}
 use Rattle.lint.specs.Findings.{AddsOne}
 use Rattle.lint.specs.declared.code.Code.{Code}
@@ -6,25 +7,6 @@ use Rattle.lint.specs.declared.code.Code.TheVariants.{Round}
 use Rattle.lint.specs.declared.code.Fate.{Fate}
 use Rattle.lint.specs.declared.finding.Finding.{Finding}
 use Rattle.lint.specs.declared.notes.Notes.{Notes}
-use Rattle.std.proofs.Common.{◌≡◌, ◌+◌, ◌<◌, ℕ, Bool, true, false, Option, Some, None, Ok, Err, filter_map, List, [], ◌∷◌, ◌++◌, length, map, take, get_or, refl, sym, ap, subst, ◌∙◌, arith}
-use Rattle.std.proofs.lemmas.List.{append_assoc, append-nil, length-take-le, map-append}
-use Rattle.std.proofs.lemmas.List.Elements.{filter_map-append}
-use Rattle.std.proofs.lemmas.Result.{on_err_weaker}
-use Rattle.std.specs.List.{cons_option}
-use Rattle.str0m_formats.proofs.Common.{take_more}
-use Rattle.str0m_formats.proofs.round.RoundsRunSteps.{ran_from}
-use Rattle.str0m_formats.specs.declared.row.codec_config.CodecConfig.{CodecConfig}
-use Rattle.str0m_formats.specs.declared.row.payload_params.PayloadParams.{PayloadParams}
-use Rattle.str0m_formats.specs.round.RoundsPromises.{Negotiates}
-use Rattle.str0m_formats.specs.round.RoundsRuns.{Outcome}
-use Rattle.str0m_sdp.specs.attribute.MediaType.{is_media}
-use Rattle.str0m_sdp.specs.declared.section.media_line.MediaLine.{MediaLine}
-use Rattle.str0m_sdp.specs.declared.session.Sdp.{Sdp}
-use Rattle.str0m_sdp.specs.section.SectionDirection.{section_direction}
-use Rattle.str0m_sdp.specs.section.SectionRows.{rows}
-use Rattle.str0m_signal.specs.session.Reader.{Reading}
-use Rattle.str0m_signal.specs.session.ReaderAnswers.{AtMostOne}
-use Rattle.str0m_values.specs.Direction.{receives}
 
 pub adds_none : (old : Notes) → AddsFates [] old old
 adds_none old = sym (append-nil (codes old.findings))

@@ -1,20 +1,15 @@
 -- What the findings of a text come to.
+use Rattle.lint.proofs.Common.{◌≡◌, ◌↔◌, ◌+◌, ◌-◌, ◌≤◌, ℕ, true, false, true≢false, cond, eqb, List, [], ◌∷◌, ◌++◌, length, refl, sym, ap, subst, ◌∙◌, arith, eqb-true, append-nil, Sdp, sdp_text, Line, Reading, AtMostOne}
 use Rattle.lint.specs.Findings.{AreFindingsOf, AreSilent, Ends, IsNoWant, Keeps, OnlyChanges, SaysElse, Tells, ends, is_changed, is_refused, kept, kept_numbers}
 use Rattle.lint.specs.Lines.{IsNumbered, last_line, unread_lines}
 use Rattle.lint.specs.Told.{NothingLost, told}
 use Rattle.lint.specs.declared.finding.Finding.{Finding}
 use Rattle.lint.specs.declared.notes.Notes.{Notes}
-use Rattle.std.proofs.Common.{◌≡◌, ◌↔◌, ◌+◌, ◌-◌, ◌≤◌, ℕ, true, false, true≢false, cond, eqb, List, [], ◌∷◌, ◌++◌, length, refl, sym, ap, subst, ◌∙◌, arith}
-use Rattle.std.proofs.lemmas.Bool.{eqb-true, false≢true}
-use Rattle.std.proofs.lemmas.List.{append-nil}
-use Rattle.str0m_sdp.specs.declared.session.Sdp.{Sdp}
+use Rattle.std.proofs.lemmas.Bool.{false≢true}
 use Rattle.str0m_sdp.specs.declared.session.error.SdpError.{SdpError}
 use Rattle.str0m_sdp.specs.declared.session.error.SdpError.TheVariants.{ParseError, Inconsistent, Memory}
-use Rattle.str0m_sdp.specs.session.Session.{sdp_text}
-use Rattle.str0m_signal.specs.line.Lines.{Line}
 use Rattle.str0m_signal.specs.line.LinesReading.{behind_first, is_crlf, lines_of, longer}
-use Rattle.str0m_signal.specs.session.Reader.{Reading}
-use Rattle.str0m_signal.specs.session.ReaderAnswers.{AtMostOne, Refuses}
+use Rattle.str0m_signal.specs.session.ReaderAnswers.{Refuses}
 
 some_longer : (x : ℕ) (lines : List Line) → 1 ≤ length (longer x lines)
 some_longer x [] = omega arith

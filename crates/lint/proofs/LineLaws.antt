@@ -1,13 +1,10 @@
 -- The first line of a text, by where its line feed stands.
+use Rattle.lint.proofs.Common.{◌≡◌, ◌<◌, ◌-◌, ◌+◌, ℕ, List, [], ◌∷◌, ◌++◌, Option, Some, None, length, take, MatchOption, unwrap_or, refl, sym, ap, ◌∙◌, inl, inr, arith, lit<, append_assoc, append-nil, Bor, cut}
 use Rattle.lint.specs.Lines.{IsWithoutReturn}
-use Rattle.std.proofs.Common.{◌≡◌, ◌<◌, ◌-◌, ◌+◌, ℕ, List, [], ◌∷◌, ◌++◌, Option, Some, None, length, take, MatchOption, unwrap_or, refl, sym, ap, ◌∙◌, inl, inr, arith, lit<}
-use Rattle.std.proofs.lemmas.List.{append_assoc, append-nil}
-use Rattle.std.specs.Borrow.{Bor}
 use Rattle.std.specs.Str.Pattern.{FindsCharSuffix}
 use Rattle.str0m_signal.proofs.line.LinesLaws.{line_here, without_suffix}
 use Rattle.str0m_signal.specs.line.LinesReading.{lines_of}
 use Rattle.str0m_values.proofs.CutLaws.{cut_found, cut_none_lacks, Lacks-append}
-use Rattle.str0m_values.specs.Cuts.{cut}
 use Rattle.str0m_values.specs.CutsParts.{Lacks}
 
 pub without_return : (line : Bor (List ℕ)) (r : Option (Bor (List ℕ))) (result : Bor (List ℕ))

@@ -1,4 +1,5 @@
 -- What one more finding changes.
+use Rattle.lint.proofs.Common.{◌≡◌, ◌||◌, ℕ, Bool, true, false, cond, List, [], ◌∷◌, ◌++◌, Some, None, min, max, refl, ap, ◌∙◌, arith, append-nil, filter_map-append, cons_option, list_any}
 use Rattle.lint.specs.Code.{is_refusal, is_end, is_kept, is_change}
 use Rattle.lint.specs.Findings.{AddsOne, Ends, Keeps, OnlyChanges, SaysElse, ends, is_changed, is_refused, kept, line_if, lines_of_kind}
 use Rattle.lint.specs.Lines.{IsNumbered}
@@ -11,11 +12,7 @@ use Rattle.lint.specs.declared.code.Unfit.{Unfit}
 use Rattle.lint.specs.declared.code.Unseen.{Unseen as What}
 use Rattle.lint.specs.declared.finding.Finding.{Finding}
 use Rattle.lint.specs.declared.notes.Notes.{Notes}
-use Rattle.std.proofs.Common.{◌≡◌, ◌||◌, ℕ, Bool, true, false, cond, List, [], ◌∷◌, ◌++◌, Some, None, min, max, refl, ap, ◌∙◌, arith}
-use Rattle.std.proofs.lemmas.List.{append-nil}
-use Rattle.std.proofs.lemmas.List.Elements.{filter_map-append}
 use Rattle.std.proofs.lemmas.List.Folds.{list_any-append}
-use Rattle.std.specs.List.{cons_option, list_any}
 
 -- one item, or none
 abbrev one_if : Bool → ℕ → List ℕ

@@ -1,9 +1,8 @@
 -- What is told of a text, a line at a time.
+use Rattle.lint.proofs.Common.{◌≡◌, ◌↔◌, ℕ, true, false, List, ◌∷◌, refl, sym, ap, ◌∙◌, codes, is_some, strip}
 use Rattle.lint.proofs.LineLaws.{Begins}
 use Rattle.lint.specs.Told.{Told, line_told, lines_told, told}
-use Rattle.std.proofs.Common.{◌≡◌, ◌↔◌, ℕ, true, false, List, ◌∷◌, refl, sym, ap, ◌∙◌, codes, is_some}
 use Rattle.str0m_signal.proofs.form.FormTableLaws.{tail_is}
-use Rattle.str0m_values.specs.Cuts.{strip}
 
 -- the first line is a `c=` line
 pub told_skip : (text content after : List ℕ) → Begins text content after → is_some (strip (codes "c=") content) ≡ true → told text ≡ told after

@@ -1,6 +1,5 @@
 -- Lines that are put behind others.
-use Rattle.std.proofs.Common.{arith, append_assoc, ◌≡◌, ◌++◌, List, [], ◌∷◌}
-use Rattle.str0m_sdp.specs.declared.attribute.MediaAttribute.{MediaAttribute}
+use Rattle.exchange.proofs.Common.{arith, append_assoc, ◌≡◌, ◌++◌, List, [], ◌∷◌, MediaAttribute}
 
 -- one, and four lists behind it
 pub five_behind : (old first second third fourth all cands again msid layers : List MediaAttribute) (line : MediaAttribute) → first ≡ old ++ line ∷ []

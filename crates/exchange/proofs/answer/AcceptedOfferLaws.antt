@@ -1,4 +1,5 @@
 -- The tracks of an answer are pairwise different, where the names of the sections are.
+use Rattle.exchange.proofs.Common.{arith, ◌≡◌, ◌≢◌, ◌++◌, inl, inr, ℕ, Bool, true, false, cond, not, List, [], ◌∷◌, Option, Some, None, IfSome, All, filter, filter_map, find, map, option_to_list, refl, subst, sym, ap, ◌∙◌, append-nil, append_cancel_left, All-append, All-cons, All-head, All-nil, All-tail, filter_map-append, AllPairs-cons, AllZip, cons_option, flat_map, list_any, ◌&&◌, ◌⊎◌, bytes_eq, codes, FormatParam, PayloadParams, direction_attribute, MediaAttribute, Proto, Srtp, Sctp, Setup, SimulcastLayer, EXTMAP_ALLOW_MIXED, FIR, NACK, PLI, REMB, TRANSPORT_CC, MediaLine, Sdp, is_mid, maps, is_of_type, made, feedback_attrs, feedback_line, fmtp_line, format_attrs, format_values, red_attrs, red_lines, row_attrs, rtx_attrs, rtx_lines, AreDistinct, section_mids, receives, Candidate, Direction}
 use Rattle.exchange.proofs.offer.OfferNameLaws.{Differ, Other, differ_from}
 use Rattle.exchange.proofs.offer.RuleLaws.{sections_shape}
 use Rattle.exchange.specs.answer.Accepted.{are_layers_told, candidate_line, channel_lines, first_lines, framed, layer_lines, media_lines, msid_lines, track_id}
@@ -13,31 +14,7 @@ use Rattle.exchange.specs.declared.state.own_side.OwnSide.{OwnSide}
 use Rattle.exchange.specs.offer.Rules.{HasShapeOf}
 use Rattle.exchange.specs.section.RepeatedLines.{is_repeated, repeated_lines}
 use Rattle.exchange.specs.section.Stopped.{name_of}
-use Rattle.std.proofs.Common.{arith, ◌≡◌, ◌≢◌, ◌++◌, inl, inr, ℕ, Bool, true, false, cond, not, List, [], ◌∷◌, Option, Some, None, IfSome, All, filter, filter_map, find, map, option_to_list, refl, subst, sym, ap, ◌∙◌, append-nil}
-use Rattle.std.proofs.lemmas.List.{append_cancel_left}
-use Rattle.std.proofs.lemmas.List.Elements.{All-append, All-cons, All-head, All-nil, All-tail, filter_map-append}
-use Rattle.std.proofs.lemmas.List.Kept.{AllPairs-cons}
-use Rattle.std.specs.List.{AllZip, cons_option, flat_map, list_any}
-use Rattle.std.specs.Prelude.{◌&&◌, ◌⊎◌, bytes_eq, codes}
-use Rattle.str0m_formats.specs.declared.format.format_param.FormatParam.{FormatParam}
-use Rattle.str0m_formats.specs.declared.row.payload_params.PayloadParams.{PayloadParams}
-use Rattle.str0m_sdp.specs.attribute.Attribute.{direction_attribute}
-use Rattle.str0m_sdp.specs.declared.attribute.MediaAttribute.{MediaAttribute}
 use Rattle.str0m_sdp.specs.declared.attribute.MediaAttribute.TheVariants as media
-use Rattle.str0m_sdp.specs.declared.attribute.proto.Proto.{Proto}
-use Rattle.str0m_sdp.specs.declared.attribute.proto.Proto.TheVariants.{Srtp, Sctp}
-use Rattle.str0m_sdp.specs.declared.attribute.setup.Setup.{Setup}
-use Rattle.str0m_sdp.specs.declared.attribute.simulcast.SimulcastLayer.{SimulcastLayer}
-use Rattle.str0m_sdp.specs.declared.label.TheConstants.{EXTMAP_ALLOW_MIXED, FIR, NACK, PLI, REMB, TRANSPORT_CC}
-use Rattle.str0m_sdp.specs.declared.section.media_line.MediaLine.{MediaLine}
-use Rattle.str0m_sdp.specs.declared.session.Sdp.{Sdp}
-use Rattle.str0m_sdp.specs.section.Consistency.{is_mid, maps}
-use Rattle.str0m_sdp.specs.section.MadeSection.{is_of_type, made}
-use Rattle.str0m_sdp.specs.section.RowAttributes.{feedback_attrs, feedback_line, fmtp_line, format_attrs, format_values, red_attrs, red_lines, row_attrs, rtx_attrs, rtx_lines}
-use Rattle.str0m_sdp.specs.session.SessionConsistency.{AreDistinct, section_mids}
-use Rattle.str0m_values.specs.Direction.{receives}
-use Rattle.str0m_values.specs.declared.candidate.Candidate.{Candidate}
-use Rattle.str0m_values.specs.declared.direction.Direction.{Direction}
 use Rattle.str0m_values.specs.declared.direction.Direction.TheVariants as way
 
 -- lines that say no track

@@ -1,4 +1,5 @@
 -- Why an answer isn't taken, or none is given.
+use Rattle.exchange.proofs.Common.{◌≡◌, List, ℕ, Some, PayloadParams, Sdp}
 use Rattle.exchange.specs.answer.Offered.{IsOffer, Negotiates}
 use Rattle.exchange.specs.declared.state.exchange.Exchange.{Exchange}
 use Rattle.exchange.specs.declared.state.exchange_error.ExchangeError.{ExchangeError}
@@ -6,9 +7,6 @@ use Rattle.exchange.specs.declared.state.exchange_error.ExchangeError.TheVariant
 use Rattle.exchange.specs.offer.AcceptedAnswer.{IsAnswer, RefusesAnswer, RefusesFit}
 use Rattle.exchange.specs.state.Exchange.{RefusesOffer, RefusesToAnswer}
 use Rattle.exchange.specs.state.State.{pending_sdp}
-use Rattle.std.proofs.Common.{◌≡◌, List, ℕ, Some}
-use Rattle.str0m_formats.specs.declared.row.payload_params.PayloadParams.{PayloadParams}
-use Rattle.str0m_sdp.specs.declared.session.Sdp.{Sdp}
 
 -- what doesn't fit the open offer
 pub misfit : (old : Exchange) (text : List ℕ) (offer answer : Sdp) (ours : List PayloadParams) (error : ExchangeError) → RefusesFit ours offer answer error

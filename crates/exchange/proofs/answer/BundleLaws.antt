@@ -1,16 +1,10 @@
 -- The group of an answer.
+use Rattle.exchange.proofs.Common.{◌≡◌, ◌++◌, ℕ, Bool, true, false, cond, List, [], ◌∷◌, Option, None, filter_map, map, refl, sym, ap, ◌∙◌, list_any, first, SessionAttribute, Sdp, Session, bundled_of}
 use Rattle.exchange.specs.answer.AnsweredSession.{BundlesAccepted, allows_mixed, answered_session, group_lines, is_accepted, mixed_lines}
 use Rattle.exchange.specs.answer.Bundle.{answered_bundle}
 use Rattle.exchange.specs.answer.InBundle.{names_or_none}
 use Rattle.exchange.specs.declared.state.own_side.OwnSide.{OwnSide}
-use Rattle.std.proofs.Common.{◌≡◌, ◌++◌, ℕ, Bool, true, false, cond, List, [], ◌∷◌, Option, None, filter_map, map, refl, sym, ap, ◌∙◌}
-use Rattle.std.specs.List.{list_any}
-use Rattle.str0m_sdp.specs.Common.{first}
-use Rattle.str0m_sdp.specs.declared.attribute.SessionAttribute.{SessionAttribute}
 use Rattle.str0m_sdp.specs.declared.attribute.SessionAttribute.TheVariants.{AllowMixedExts}
-use Rattle.str0m_sdp.specs.declared.session.Sdp.{Sdp}
-use Rattle.str0m_sdp.specs.declared.session.Session.{Session}
-use Rattle.str0m_sdp.specs.session.SdpAccessors.{bundled_of}
 
 -- the group that lines say
 abbrev group_in : List SessionAttribute → Option (List (List ℕ))

@@ -1,7 +1,5 @@
 -- The preferred fingerprint, of a section's own or of the session's.
-use Rattle.std.proofs.Common.{List, [], ◌∷◌, Option, Some, None, Result, Ok, Err, IfOk, arith}
-use Rattle.str0m_sdp.specs.session.PreferredFingerprint.{IsPreferred, first_filled}
-use Rattle.str0m_values.specs.declared.fingerprint.Fingerprint.{Fingerprint}
+use Rattle.exchange.proofs.Common.{List, [], ◌∷◌, Option, Some, None, Result, Ok, Err, IfOk, arith, IsPreferred, first_filled, Fingerprint}
 
 -- that of a section which has any
 pub of_section : (own session : List Fingerprint) (print : Fingerprint) → IsPreferred own (Some print)

@@ -1,18 +1,8 @@
 -- What holds of the lines of layers that answer an offer.
+use Rattle.exchange.proofs.Common.{◌≡◌, ◌&&◌, ◌++◌, inl, inr, ℕ, Bool, true, false, List, [], ◌∷◌, Option, Some, None, All, IfSome, if◌then◌else◌, filter, filter_map, refl, subst, sym, ap, ◌∙◌, and_parts, All-append, All-cons, All-contains_itself, All-filter, All-nil, bytes_eq-Decides, Contains, cons_option, list_any, codes, bytes_eq, PayloadParams, MediaAttribute, SimulcastLayer, MediaLine}
 use Rattle.exchange.proofs.answer.RowsListLaws.{All-filter_map}
 use Rattle.exchange.specs.answer.Layers.{IsTurned, answered_layers, answered_rid, answered_rids, is_answered, is_left, is_named, layers_line, received_layers, sent_layers, types_left}
-use Rattle.std.proofs.Common.{◌≡◌, ◌&&◌, ◌++◌, inl, inr, ℕ, Bool, true, false, List, [], ◌∷◌, Option, Some, None, All, IfSome, if◌then◌else◌, filter, filter_map, refl, subst, sym, ap, ◌∙◌}
-use Rattle.std.proofs.lemmas.Bool.{and_parts}
-use Rattle.std.proofs.lemmas.List.Elements.{All-append, All-cons, All-contains_itself, All-filter, All-nil}
-use Rattle.std.proofs.lemmas.Slice.Eq.{bytes_eq-Decides}
-use Rattle.std.specs.List.{Contains, cons_option, list_any}
-use Rattle.std.specs.Prelude.{codes}
-use Rattle.std.specs.Str.{bytes_eq}
-use Rattle.str0m_formats.specs.declared.row.payload_params.PayloadParams.{PayloadParams}
-use Rattle.str0m_sdp.specs.declared.attribute.MediaAttribute.{MediaAttribute}
 use Rattle.str0m_sdp.specs.declared.attribute.MediaAttribute.TheVariants as media
-use Rattle.str0m_sdp.specs.declared.attribute.simulcast.SimulcastLayer.{SimulcastLayer}
-use Rattle.str0m_sdp.specs.declared.section.media_line.MediaLine.{MediaLine}
 
 turned_rid : (rows : List PayloadParams) (offered : MediaLine) (line : MediaAttribute) → Contains offered.attrs line
     → IfSome (answered_rid (sent_layers offered) rows line) (IsTurned rows offered)

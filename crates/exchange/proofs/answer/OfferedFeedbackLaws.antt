@@ -1,14 +1,10 @@
 -- The feedback that the lines of a section offer, one line more.
+use Rattle.exchange.proofs.Common.{◌≡◌, ◌<◌, ◌+◌, ◌==◌, ◌||◌, ◌&&◌, ℕ, Bool, true, false, List, [], length, replicate, set, take, get_or, Option, Some, None, inl, inr, refl, subst, sym, ap, ◌∙◌, bytes_eq, if◌then◌else◌, cases_eq, eq-eqb, ne_eqb, get_or-replicate, get_or-set_other, get_or-set_same, length-set, MediaAttribute, RtcpFb, Unused}
 use Rattle.exchange.specs.answer.OfferedFeedback.{IsGathered, either, feedback_by, named, none, offered_feedback, with_words, words_for_all}
 use Rattle.exchange.specs.answer.Rows.{are, is_offered, offers, words_of_all}
 use Rattle.exchange.specs.declared.answer.offered_feedback.OfferedFeedback.{OfferedFeedback}
-use Rattle.std.proofs.Common.{◌≡◌, ◌<◌, ◌+◌, ◌==◌, ◌||◌, ◌&&◌, ℕ, Bool, true, false, List, [], length, replicate, set, take, get_or, Option, Some, None, inl, inr, refl, subst, sym, ap, ◌∙◌, bytes_eq, if◌then◌else◌}
 use Rattle.std.proofs.Math.Bool.{or_comm}
-use Rattle.std.proofs.lemmas.Bool.{cases_eq, eq-eqb, ne_eqb}
-use Rattle.std.proofs.lemmas.List.{get_or-replicate, get_or-set_other, get_or-set_same, length-set}
 use Rattle.str0m_sdp.proofs.section.TypeTablesMarks.{any_more, any_same}
-use Rattle.str0m_sdp.specs.declared.attribute.MediaAttribute.{MediaAttribute}
-use Rattle.str0m_sdp.specs.declared.attribute.MediaAttribute.TheVariants.{RtcpFb, Unused}
 
 -- ---- one line more
 

@@ -1,30 +1,12 @@
 -- An accepted section of media says the lines that need the offer only where the offer says them.
+use Rattle.exchange.proofs.Common.{◌≡◌, ℕ, Bool, true, false, cond, not, ◌||◌, List, [], ◌∷◌, ◌++◌, Option, Some, None, All, filter, filter_map, map, refl, sym, ap, ◌∙◌, false≢true, All-append, All-cons, All-contains_itself, All-filter, All-nil, All-weaker, list_any-append, Contains, cons_option, flat_map, list_any, ◌&&◌, bytes_eq, codes, FormatParam, PayloadParams, direction_attribute, MediaAttribute, Setup, SimulcastLayer, FIR, NACK, PLI, REMB, TRANSPORT_CC, MediaLine, is_of_type, made, feedback_attrs, feedback_line, fmtp_line, format_attrs, format_values, red_attrs, red_lines, row_attrs, rtx_attrs, rtx_lines, receives, Candidate, Direction}
 use Rattle.exchange.specs.answer.Accepted.{are_layers_told, candidate_line, channel_lines, first_lines, framed, layer_lines, media_lines, msid_lines}
 use Rattle.exchange.specs.answer.Layers.{answered_layers, answered_rid, answered_rids, is_left, is_named, layers_line, received_layers, sent_layers, types_left}
 use Rattle.exchange.specs.declared.state.own_side.DataChannels.{DataChannels}
 use Rattle.exchange.specs.declared.state.own_side.OwnSide.{OwnSide}
 use Rattle.exchange.specs.offer.Rules.{SaysOnlyOffered, needs_offer}
 use Rattle.exchange.specs.section.RepeatedLines.{is_repeated, repeated_lines}
-use Rattle.std.proofs.Common.{◌≡◌, ℕ, Bool, true, false, cond, not, ◌||◌, List, [], ◌∷◌, ◌++◌, Option, Some, None, All, filter, filter_map, map, refl, sym, ap, ◌∙◌}
-use Rattle.std.proofs.lemmas.Bool.{false≢true}
-use Rattle.std.proofs.lemmas.List.Elements.{All-append, All-cons, All-contains_itself, All-filter, All-nil, All-weaker}
-use Rattle.std.proofs.lemmas.List.Folds.{list_any-append}
-use Rattle.std.specs.List.{Contains, cons_option, flat_map, list_any}
-use Rattle.std.specs.Prelude.{◌&&◌, bytes_eq, codes}
-use Rattle.str0m_formats.specs.declared.format.format_param.FormatParam.{FormatParam}
-use Rattle.str0m_formats.specs.declared.row.payload_params.PayloadParams.{PayloadParams}
-use Rattle.str0m_sdp.specs.attribute.Attribute.{direction_attribute}
-use Rattle.str0m_sdp.specs.declared.attribute.MediaAttribute.{MediaAttribute}
 use Rattle.str0m_sdp.specs.declared.attribute.MediaAttribute.TheVariants as media
-use Rattle.str0m_sdp.specs.declared.attribute.setup.Setup.{Setup}
-use Rattle.str0m_sdp.specs.declared.attribute.simulcast.SimulcastLayer.{SimulcastLayer}
-use Rattle.str0m_sdp.specs.declared.label.TheConstants.{FIR, NACK, PLI, REMB, TRANSPORT_CC}
-use Rattle.str0m_sdp.specs.declared.section.media_line.MediaLine.{MediaLine}
-use Rattle.str0m_sdp.specs.section.MadeSection.{is_of_type, made}
-use Rattle.str0m_sdp.specs.section.RowAttributes.{feedback_attrs, feedback_line, fmtp_line, format_attrs, format_values, red_attrs, red_lines, row_attrs, rtx_attrs, rtx_lines}
-use Rattle.str0m_values.specs.Direction.{receives}
-use Rattle.str0m_values.specs.declared.candidate.Candidate.{Candidate}
-use Rattle.str0m_values.specs.declared.direction.Direction.{Direction}
 use Rattle.str0m_values.specs.declared.direction.Direction.TheVariants as way
 
 abbrev IsOffered : MediaLine → MediaAttribute → Type 0

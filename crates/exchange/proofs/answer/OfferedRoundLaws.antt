@@ -1,14 +1,7 @@
 -- The rounds of sections, one after another.
+use Rattle.exchange.proofs.Common.{arith, ◌≡◌, ◌<◌, ◌+◌, ◌++◌, ℕ, List, [], ◌∷◌, length, drop, take, get_or, inl, inr, refl, subst, sym, ap, ◌∙◌, All, drop-cons, take_at_read, All-cons, All-head, All-nil, All-tail, Round, MediaLine, Sdp, HasBoundedRows, rows}
 use Rattle.exchange.specs.answer.Offered.{AreRoundsOf, BringsRound, IsRoundOf}
-use Rattle.std.proofs.Common.{arith, ◌≡◌, ◌<◌, ◌+◌, ◌++◌, ℕ, List, [], ◌∷◌, length, drop, take, get_or, inl, inr, refl, subst, sym, ap, ◌∙◌, All}
-use Rattle.std.proofs.Math.Seq.{drop-cons}
-use Rattle.std.proofs.lemmas.Grind.{take_at_read}
-use Rattle.std.proofs.lemmas.List.Elements.{All-cons, All-head, All-nil, All-tail}
-use Rattle.str0m_formats.specs.declared.round.rounds.Round.{Round}
 use Rattle.str0m_formats.specs.row.PlainRowBounds.{IsBounded}
-use Rattle.str0m_sdp.specs.declared.section.media_line.MediaLine.{MediaLine}
-use Rattle.str0m_sdp.specs.declared.session.Sdp.{Sdp}
-use Rattle.str0m_sdp.specs.section.SectionRows.{HasBoundedRows, rows}
 
 -- a section after the others that brings none
 behind_none : (offer : Sdp) (ms : List MediaLine) (m : MediaLine) (rounds : List Round) → (BringsRound offer m → ⊥)

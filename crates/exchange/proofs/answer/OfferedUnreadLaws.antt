@@ -1,14 +1,10 @@
 -- The line at which reading ends.
+use Rattle.exchange.proofs.Common.{arith, ◌≡◌, ◌≢◌, ◌≤◌, ◌+◌, ◌-◌, ◌++◌, ◌==◌, ℕ, List, [], ◌∷◌, length, take, min, append_assoc, length-append, length-take-le, refl, subst, sym, ap, ◌∙◌, count-append, Sdp, line_feeds, line_number, Line, Lines, IsFromLine, IsReading, Reading}
 use Rattle.exchange.specs.answer.Offered.{IsCutShort}
-use Rattle.std.proofs.Common.{arith, ◌≡◌, ◌≢◌, ◌≤◌, ◌+◌, ◌-◌, ◌++◌, ◌==◌, ℕ, List, [], ◌∷◌, length, take, min, append_assoc, length-append, length-take-le, refl, subst, sym, ap, ◌∙◌}
 use Rattle.std.proofs.Math.Seq.{take-append_seam}
 use Rattle.std.proofs.lemmas.List.Sums.{count_by-le-length}
-use Rattle.str0m_sdp.proofs.section.SectionRowsParts.{count-append}
-use Rattle.str0m_sdp.specs.declared.session.Sdp.{Sdp}
-use Rattle.str0m_signal.proofs.session.ReaderLineNumbers.{line_feeds, line_number}
 use Rattle.str0m_signal.proofs.session.ReaderRestLaws.{reading_leaves}
-use Rattle.str0m_signal.specs.line.Lines.{Line, Lines, joined}
-use Rattle.str0m_signal.specs.session.Reader.{IsFromLine, IsReading, Reading}
+use Rattle.str0m_signal.specs.line.Lines.{joined}
 
 joined_both : (xs ys : List Line) → joined (xs ++ ys) ≡ joined xs ++ joined ys
 joined_both [] ys = refl

@@ -1,22 +1,11 @@
 -- A section that rejects a consistent one is consistent.
+use Rattle.exchange.proofs.Common.{arith, ◌≡◌, ◌+◌, ◌≤◌, inl, inr, ℕ, Bool, true, false, cond, List, [], ◌∷◌, ◌++◌, Option, Some, None, All, IfSome, find, count_by, option_to_list, refl, subst, sym, ap, ◌∙◌, false≢true, All-append, All-cons, All-head, All-nil, list_any, is_some, count-append, uncounted, MediaAttribute, MediaType, Application, Audio, Video, Unknown, Proto, Srtp, Sctp, MediaLine, Consistent, is_mid, maps}
 use Rattle.exchange.proofs.answer.RowsListLaws.{found, is_some_find}
 use Rattle.exchange.specs.answer.RejectedSection.{direction_over, first_type, line_that, listed_alone, rejecting}
-use Rattle.std.proofs.Common.{arith, ◌≡◌, ◌+◌, ◌≤◌, inl, inr, ℕ, Bool, true, false, cond, List, [], ◌∷◌, ◌++◌, Option, Some, None, All, IfSome, find, count_by, option_to_list, refl, subst, sym, ap, ◌∙◌}
-use Rattle.std.proofs.lemmas.Bool.{false≢true}
-use Rattle.std.proofs.lemmas.List.Elements.{All-append, All-cons, All-head, All-nil}
-use Rattle.std.specs.List.{list_any}
-use Rattle.std.specs.Option.{is_some}
 use Rattle.str0m_formats.specs.declared.codec.Codec.TheVariants.{PCMU}
 use Rattle.str0m_formats.specs.format.FormatParams.{empty}
-use Rattle.str0m_sdp.proofs.section.SectionRowsParts.{count-append, uncounted}
-use Rattle.str0m_sdp.specs.declared.attribute.MediaAttribute.{MediaAttribute}
 use Rattle.str0m_sdp.specs.declared.attribute.MediaAttribute.TheVariants as media
-use Rattle.str0m_sdp.specs.declared.attribute.media_type.MediaType.{MediaType}
-use Rattle.str0m_sdp.specs.declared.attribute.media_type.MediaType.TheVariants.{Application, Audio, Video, Unknown}
-use Rattle.str0m_sdp.specs.declared.attribute.proto.Proto.{Proto}
-use Rattle.str0m_sdp.specs.declared.attribute.proto.Proto.TheVariants.{Srtp, Sctp}
-use Rattle.str0m_sdp.specs.declared.section.media_line.MediaLine.{MediaLine}
-use Rattle.str0m_sdp.specs.section.Consistency.{AgreesOnApt, Consistent, IsMapped, NeedsNoMapping, is_direction, is_mid, is_setup, maps}
+use Rattle.str0m_sdp.specs.section.Consistency.{AgreesOnApt, IsMapped, NeedsNoMapping, is_direction, is_setup}
 
 -- ---- what a line counts for
 

@@ -1,18 +1,8 @@
 -- What holds of the rows that answer a section.
+use Rattle.exchange.proofs.Common.{arith, ◌≡◌, ◌≢◌, ◌==◌, ◌&&◌, ◌≤◌, ℕ, Bool, true, false, List, Option, Some, None, All, IfSome, if◌then◌else◌, filter, find, refl, subst, sym, ap, ◌∙◌, option_map, and_parts, eqb-true, eq-eqb, false≢true, All-contains_itself, Contains, is_some, PayloadParams, AllDistinct, has, times, distinct, MediaLine, rows, ◌>>=◌}
 use Rattle.exchange.proofs.answer.RowsListLaws.{All-distinct, All-filter_map, contains_type, distinct-once, found, found_some, kept_type, marks, times-filter}
 use Rattle.exchange.specs.answer.Rows.{IsAgreed, Belongs, SaysWhatIsOffered, agreed_type, answer_to, answer_under, answered_rows, as_answered, is_answered, is_carried_in, matches, own_types}
-use Rattle.std.proofs.Common.{arith, ◌≡◌, ◌≢◌, ◌==◌, ◌&&◌, ◌≤◌, ℕ, Bool, true, false, List, Option, Some, None, All, IfSome, if◌then◌else◌, filter, find, refl, subst, sym, ap, ◌∙◌, option_map}
-use Rattle.std.proofs.lemmas.Bool.{and_parts, eqb-true, eq-eqb, false≢true}
-use Rattle.std.proofs.lemmas.List.Elements.{All-contains_itself}
-use Rattle.std.specs.List.{Contains}
-use Rattle.std.specs.Option.{is_some}
-use Rattle.str0m_formats.specs.declared.row.payload_params.PayloadParams.{PayloadParams}
-use Rattle.str0m_formats.specs.round.Claimed.{AllDistinct, has, times}
 use Rattle.str0m_formats.specs.round.MatchScore.{score}
-use Rattle.str0m_sdp.specs.Common.{distinct}
-use Rattle.str0m_sdp.specs.declared.section.media_line.MediaLine.{MediaLine}
-use Rattle.str0m_sdp.specs.section.SectionRows.{rows}
-use Rattle.str0m_values.specs.Cuts.{◌>>=◌}
 
 -- ---- one row
 

@@ -1,18 +1,8 @@
 -- The types of an answer: none stands there more often than among the locked rows of this side.
+use Rattle.exchange.proofs.Common.{arith, ◌≡◌, ◌+◌, ◌≤◌, ◌==◌, ◌&&◌, ℕ, Bool, true, false, List, [], ◌∷◌, ◌++◌, ap, ◌∙◌, Option, Some, None, IfSome, if◌then◌else◌, find, option_map, option_to_list, subst, sym, and_parts, eqb-true, false≢true, Contains, times-append, PayloadParams, AllDistinct, has, times, locked_types, types, types_of, distinct, MediaLine, rows, ◌>>=◌}
 use Rattle.exchange.proofs.answer.RowsListLaws.{distinct-once, found}
 use Rattle.exchange.proofs.answer.RowsTypeLaws.{no_more, weight_found}
 use Rattle.exchange.specs.answer.Rows.{agreed_type, answer_to, answer_under, answered_rows, as_answered, matches}
-use Rattle.std.proofs.Common.{arith, ◌≡◌, ◌+◌, ◌≤◌, ◌==◌, ◌&&◌, ℕ, Bool, true, false, List, [], ◌∷◌, ◌++◌, ap, ◌∙◌, Option, Some, None, IfSome, if◌then◌else◌, find, option_map, option_to_list, subst, sym}
-use Rattle.std.proofs.lemmas.Bool.{and_parts, eqb-true, false≢true}
-use Rattle.std.specs.List.{Contains}
-use Rattle.str0m_formats.proofs.round.ClaimedTimes.{times-append}
-use Rattle.str0m_formats.specs.declared.row.payload_params.PayloadParams.{PayloadParams}
-use Rattle.str0m_formats.specs.round.Claimed.{AllDistinct, has, times}
-use Rattle.str0m_formats.specs.row.PayloadParams.{locked_types, types, types_of}
-use Rattle.str0m_sdp.specs.Common.{distinct}
-use Rattle.str0m_sdp.specs.declared.section.media_line.MediaLine.{MediaLine}
-use Rattle.str0m_sdp.specs.section.SectionRows.{rows}
-use Rattle.str0m_values.specs.Cuts.{◌>>=◌}
 
 -- a type that is agreed on is ours
 agreed_fewer : (listed : List ℕ) (ours theirs : Option ℕ) (t : ℕ) → times (option_to_list (agreed_type listed ours theirs)) t ≤ times (option_to_list ours) t

@@ -1,16 +1,7 @@
 -- Lists of types, each once; what is found in a list; lists that are mapped in part.
-use Rattle.std.proofs.Common.{arith, ◌≡◌, ◌<◌, ◌+◌, ◌≤◌, ◌++◌, ◌==◌, ◌||◌, ℕ, Bool, true, false, cond, not, List, [], ◌∷◌, length, take, get_or, Option, Some, None, All, IfSome, filter, filter_map, find, map, refl, sym, ap, ◌∙◌}
-use Rattle.std.proofs.lemmas.Bool.{eqb-true, eq-eqb, false≢true}
+use Rattle.exchange.proofs.Common.{arith, ◌≡◌, ◌<◌, ◌+◌, ◌≤◌, ◌++◌, ◌==◌, ◌||◌, ℕ, Bool, true, false, cond, not, List, [], ◌∷◌, length, take, get_or, Option, Some, None, All, IfSome, filter, filter_map, find, map, refl, sym, ap, ◌∙◌, eqb-true, eq-eqb, false≢true, take_at_read, All-cons, All-nil, All-head, All-tail, All-filter, Contains-append_right, list_any_at, list_any, Contains, cons_option, is_some, times-cons, times-none, one_if, times, has, distinct}
 use Rattle.std.proofs.lemmas.Bool.Decides.{nat_tests}
-use Rattle.std.proofs.lemmas.Grind.{take_at_read}
-use Rattle.std.proofs.lemmas.List.Elements.{All-cons, All-nil, All-head, All-tail, All-filter, Contains-append_right}
-use Rattle.std.proofs.lemmas.List.Folds.{list_any_at}
-use Rattle.std.specs.List.{list_any, Contains, cons_option}
-use Rattle.std.specs.Option.{is_some}
-use Rattle.str0m_formats.proofs.round.ClaimedTimes.{times-cons, times-none, one_if}
-use Rattle.str0m_formats.specs.round.Claimed.{times, has}
 use Rattle.str0m_sdp.proofs.session.DistinctCandidatesLaws.{distinct_push}
-use Rattle.str0m_sdp.specs.Common.{distinct}
 
 -- ---- each once
 

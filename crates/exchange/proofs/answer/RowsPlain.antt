@@ -1,19 +1,10 @@
 -- A plain row of this side stays plain in an answer, where it keeps the feedback of video.
+use Rattle.exchange.proofs.Common.{◌≡◌, ◌&&◌, ◌==◌, ◌||◌, ℕ, Bool, true, false, List, Option, Some, None, All, if◌then◌else◌, find, nat_lt, option_to_list, refl, subst, sym, ap, ◌∙◌, false≢true, or_parts, All-contains, All-weaker, list_any-append, list_any, is_some, PayloadParams, has, types_of, HasPictureFeedback, IsPlain, MediaLine}
 use Rattle.exchange.proofs.answer.RowLaws.{all_agreed}
 use Rattle.exchange.proofs.answer.RowsListLaws.{is_some_find}
 use Rattle.exchange.specs.answer.Rows.{IsAgreed, KeepsPlain, agreed_type, answered_rows, as_answered}
-use Rattle.std.proofs.Common.{◌≡◌, ◌&&◌, ◌==◌, ◌||◌, ℕ, Bool, true, false, List, Option, Some, None, All, if◌then◌else◌, find, nat_lt, option_to_list, refl, subst, sym, ap, ◌∙◌}
-use Rattle.std.proofs.lemmas.Bool.{false≢true, or_parts}
-use Rattle.std.proofs.lemmas.List.Elements.{All-contains, All-weaker}
-use Rattle.std.proofs.lemmas.List.Folds.{list_any-append}
-use Rattle.std.specs.List.{list_any}
-use Rattle.std.specs.Option.{is_some}
 use Rattle.str0m_formats.specs.codec.Codec.{content, video}
-use Rattle.str0m_formats.specs.declared.row.payload_params.PayloadParams.{PayloadParams}
-use Rattle.str0m_formats.specs.round.Claimed.{has}
-use Rattle.str0m_formats.specs.row.PayloadParams.{AllSmall, types_of}
-use Rattle.str0m_formats.specs.row.PlainRow.{HasPictureFeedback, IsPlain}
-use Rattle.str0m_sdp.specs.declared.section.media_line.MediaLine.{MediaLine}
+use Rattle.str0m_formats.specs.row.PayloadParams.{AllSmall}
 
 abbrev is_large : ℕ → Bool
 is_large = nat_lt 127

@@ -1,11 +1,5 @@
 -- How often a type stands in rows that are made of a list of rows, one of each at most.
-use Rattle.std.proofs.Common.{arith, ◌≡◌, ◌+◌, ◌≤◌, ◌==◌, ℕ, Bool, true, false, cond, List, [], ◌∷◌, Option, Some, None, IfSome, filter, filter_map, find, refl, sym, ap}
-use Rattle.std.proofs.lemmas.Bool.{eq-eqb}
-use Rattle.std.specs.List.{cons_option}
-use Rattle.str0m_formats.proofs.round.ClaimedTimes.{times-append, times-cons, one_if}
-use Rattle.str0m_formats.specs.declared.row.payload_params.PayloadParams.{PayloadParams}
-use Rattle.str0m_formats.specs.round.Claimed.{AllDistinct, times}
-use Rattle.str0m_formats.specs.row.PayloadParams.{locked_types, types, types_of}
+use Rattle.exchange.proofs.Common.{arith, ◌≡◌, ◌+◌, ◌≤◌, ◌==◌, ℕ, Bool, true, false, cond, List, [], ◌∷◌, Option, Some, None, IfSome, filter, filter_map, find, refl, sym, ap, eq-eqb, cons_option, times-append, times-cons, one_if, PayloadParams, AllDistinct, times, locked_types, types, types_of}
 
 -- how often t stands in a row, and in a row that is found
 abbrev pub weight : ℕ → PayloadParams → ℕ

@@ -1,14 +1,9 @@
 -- An answer that fits its offer.
+use Rattle.exchange.proofs.Common.{arith, ◌≡◌, ◌<◌, ◌≤◌, ℕ, List, All, Option, get_or, length, take, inl, inr, subst, cases_lt, slice_get-get_or, slice_get_past, PayloadParams, MediaLine, Sdp}
 use Rattle.exchange.specs.declared.offer.rule.Rule.{Rule}
 use Rattle.exchange.specs.declared.offer.rule.Rule.TheVariants as rule
 use Rattle.exchange.specs.offer.Fits.{BreaksFirst, FitsAt, FitsSection, Keeps, asked}
 use Rattle.exchange.specs.section.Places.{StaysInPlaceAt}
-use Rattle.std.proofs.Common.{arith, ◌≡◌, ◌<◌, ◌≤◌, ℕ, List, All, Option, get_or, length, take, inl, inr, subst}
-use Rattle.std.proofs.lemmas.Bool.{cases_lt}
-use Rattle.std.proofs.lemmas.Option.{slice_get-get_or, slice_get_past}
-use Rattle.str0m_formats.specs.declared.row.payload_params.PayloadParams.{PayloadParams}
-use Rattle.str0m_sdp.specs.declared.section.media_line.MediaLine.{MediaLine}
-use Rattle.str0m_sdp.specs.declared.session.Sdp.{Sdp}
 
 -- after the last section of the offer nothing is asked
 pub all_fit : (ours : List PayloadParams) (offer answer : Sdp) (n : ℕ) → length offer.media_lines ≤ n

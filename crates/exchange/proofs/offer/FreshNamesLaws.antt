@@ -1,13 +1,8 @@
 -- Names that are new: they stand among no others, and each once.
+use Rattle.exchange.proofs.Common.{arith, ◌≡◌, ◌<◌, ◌≤◌, ◌+◌, ◌++◌, ◌^◌, ◌||◌, ◌⊎◌, inl, inr, ℕ, Bool, true, false, List, [], ◌∷◌, Some, All, decimal, length, bytes_eq, refl, subst, sym, ap, ◌∙◌, eq-or-lt_of_le, false≢true, All-cons, All-head, All-nil, All-tail, bytes_eq-Decides, AreDistinct, is_listed}
 use Rattle.exchange.specs.offer.FreshNames.{AreFresh, IsNextFree, is_taken}
-use Rattle.std.proofs.Common.{arith, ◌≡◌, ◌<◌, ◌≤◌, ◌+◌, ◌++◌, ◌^◌, ◌||◌, ◌⊎◌, inl, inr, ℕ, Bool, true, false, List, [], ◌∷◌, Some, All, decimal, length, bytes_eq, refl, subst, sym, ap, ◌∙◌}
-use Rattle.std.proofs.Math.Nat.{eq-or-lt_of_le}
-use Rattle.std.proofs.lemmas.Bool.{false≢true}
 use Rattle.std.proofs.lemmas.Fmt.{decimal_injective, length-decimal-le}
-use Rattle.std.proofs.lemmas.List.Elements.{All-cons, All-head, All-nil, All-tail}
-use Rattle.std.proofs.lemmas.Slice.Eq.{bytes_eq-Decides}
 use Rattle.str0m_sdp.proofs.session.SessionLaws.{apart}
-use Rattle.str0m_sdp.specs.session.SessionConsistency.{AreDistinct, is_listed}
 
 -- a name of a section has room for 16 bytes
 pub short_name : (n : ℕ) → n < 2 ^ 32 → length (decimal n) ≤ 16

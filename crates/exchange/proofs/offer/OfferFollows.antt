@@ -1,5 +1,6 @@
 -- An offer of this side leaves the sections of the last exchange in their places, and what is added has names that no section
 -- has had.
+use Rattle.exchange.proofs.Common.{arith, ◌≡◌, ◌+◌, ◌++◌, ◌||◌, ◌⊎◌, ℕ, suc, zero, Bool, true, false, List, [], ◌∷◌, map, Option, Some, All, inl, inr, subst, sym, ap, ◌∙◌, true≢false, All-cons, All-head, All-nil, All-tail, get_or_from_slice_get, same_Some, slice_get_within, slice_get, MediaAttribute, MediaLine, Sdp, is_listed, section_mids}
 use Rattle.exchange.proofs.offer.OfferRuleLaws.{new_name, next_shape}
 use Rattle.exchange.proofs.offer.RuleLaws.{rejecting_shape}
 use Rattle.exchange.proofs.state.ExchangeFollowLaws.{listed_more}
@@ -15,15 +16,6 @@ use Rattle.exchange.specs.offer.OfferSection.{new_section}
 use Rattle.exchange.specs.section.Places.{FollowsPlaces, HasNameAt, IsNew}
 use Rattle.exchange.specs.section.Stopped.{name_of}
 use Rattle.exchange.specs.state.State.{sections_of}
-use Rattle.std.proofs.Common.{arith, ◌≡◌, ◌+◌, ◌++◌, ◌||◌, ◌⊎◌, ℕ, suc, zero, Bool, true, false, List, [], ◌∷◌, map, Option, Some, All, inl, inr, subst, sym, ap, ◌∙◌}
-use Rattle.std.proofs.lemmas.Bool.{true≢false}
-use Rattle.std.proofs.lemmas.List.Elements.{All-cons, All-head, All-nil, All-tail}
-use Rattle.std.proofs.lemmas.Option.{get_or_from_slice_get, same_Some, slice_get_within}
-use Rattle.std.specs.List.{slice_get}
-use Rattle.str0m_sdp.specs.declared.attribute.MediaAttribute.{MediaAttribute}
-use Rattle.str0m_sdp.specs.declared.section.media_line.MediaLine.{MediaLine}
-use Rattle.str0m_sdp.specs.declared.session.Sdp.{Sdp}
-use Rattle.str0m_sdp.specs.session.SessionConsistency.{is_listed, section_mids}
 
 -- ---- names that are new
 

@@ -1,4 +1,5 @@
 -- The names of an offer's sections are pairwise different.
+use Rattle.exchange.proofs.Common.{arith, ◌≡◌, ◌≢◌, ◌+◌, ◌++◌, inl, inr, ℕ, suc, false, List, [], ◌∷◌, Option, Some, None, IfSome, MatchOption, All, bytes_eq, map, subst, sym, ap, ◌∙◌, or_parts, true≢false, All-cons, All-head, All-nil, All-tail, All-weaker, AllPairs-cons, bytes_eq-Decides, cons_option, MediaAttribute, MediaLine, Sdp, AreDistinct, is_listed, section_mids}
 use Rattle.exchange.proofs.offer.OfferRuleLaws.{all_named, new_name, next_shape}
 use Rattle.exchange.proofs.offer.RuleLaws.{rejecting_shape}
 use Rattle.exchange.proofs.section.PlaceLaws.{places_hold}
@@ -13,16 +14,6 @@ use Rattle.exchange.specs.offer.OfferRules.{IsNewName}
 use Rattle.exchange.specs.offer.OfferSection.{new_section, next_section}
 use Rattle.exchange.specs.section.Stopped.{name_of}
 use Rattle.exchange.specs.state.State.{sections_of}
-use Rattle.std.proofs.Common.{arith, ◌≡◌, ◌≢◌, ◌+◌, ◌++◌, inl, inr, ℕ, suc, false, List, [], ◌∷◌, Option, Some, None, IfSome, MatchOption, All, bytes_eq, map, subst, sym, ap, ◌∙◌}
-use Rattle.std.proofs.lemmas.Bool.{or_parts, true≢false}
-use Rattle.std.proofs.lemmas.List.Elements.{All-cons, All-head, All-nil, All-tail, All-weaker}
-use Rattle.std.proofs.lemmas.List.Kept.{AllPairs-cons}
-use Rattle.std.proofs.lemmas.Slice.Eq.{bytes_eq-Decides}
-use Rattle.std.specs.List.{cons_option}
-use Rattle.str0m_sdp.specs.declared.attribute.MediaAttribute.{MediaAttribute}
-use Rattle.str0m_sdp.specs.declared.section.media_line.MediaLine.{MediaLine}
-use Rattle.str0m_sdp.specs.declared.session.Sdp.{Sdp}
-use Rattle.str0m_sdp.specs.session.SessionConsistency.{AreDistinct, is_listed, section_mids}
 
 -- ---- sections whose names differ
 

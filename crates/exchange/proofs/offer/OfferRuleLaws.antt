@@ -1,4 +1,5 @@
 -- An offer of this side keeps its rules.
+use Rattle.exchange.proofs.Common.{◌≡◌, ◌+◌, ◌++◌, inl, inr, ℕ, true, false, List, [], ◌∷◌, Option, Some, None, MatchOption, All, map, refl, subst, sym, ◌∙◌, All-cons, All-head, All-nil, All-tail, flat_map, kind_rows, MediaAttribute, MediaType, Audio, Video, Application, Unknown, Proto, Srtp, Sctp, ActPass, MediaLine, Sdp, row_attrs, MediaKind}
 use Rattle.exchange.proofs.offer.RuleLaws.{direction_said, rejecting_shape}
 use Rattle.exchange.proofs.section.PlaceLaws.{places_hold}
 use Rattle.exchange.specs.answer.Accepted.{candidate_line, msid_lines}
@@ -18,21 +19,7 @@ use Rattle.exchange.specs.offer.Rules.{HasShapeOf}
 use Rattle.exchange.specs.section.Stopped.{name_of}
 use Rattle.exchange.specs.state.OwnSide.{direction_among}
 use Rattle.exchange.specs.state.State.{sections_of}
-use Rattle.std.proofs.Common.{◌≡◌, ◌+◌, ◌++◌, inl, inr, ℕ, true, false, List, [], ◌∷◌, Option, Some, None, MatchOption, All, map, refl, subst, sym, ◌∙◌}
-use Rattle.std.proofs.lemmas.List.Elements.{All-cons, All-head, All-nil, All-tail}
-use Rattle.std.specs.List.{flat_map}
-use Rattle.str0m_formats.specs.row.KindRows.{kind_rows}
-use Rattle.str0m_sdp.specs.declared.attribute.MediaAttribute.{MediaAttribute}
 use Rattle.str0m_sdp.specs.declared.attribute.MediaAttribute.TheVariants as media
-use Rattle.str0m_sdp.specs.declared.attribute.media_type.MediaType.{MediaType}
-use Rattle.str0m_sdp.specs.declared.attribute.media_type.MediaType.TheVariants.{Audio, Video, Application, Unknown}
-use Rattle.str0m_sdp.specs.declared.attribute.proto.Proto.{Proto}
-use Rattle.str0m_sdp.specs.declared.attribute.proto.Proto.TheVariants.{Srtp, Sctp}
-use Rattle.str0m_sdp.specs.declared.attribute.setup.Setup.TheVariants.{ActPass}
-use Rattle.str0m_sdp.specs.declared.section.media_line.MediaLine.{MediaLine}
-use Rattle.str0m_sdp.specs.declared.session.Sdp.{Sdp}
-use Rattle.str0m_sdp.specs.section.RowAttributes.{row_attrs}
-use Rattle.str0m_values.specs.declared.media_kind.MediaKind.{MediaKind}
 use Rattle.str0m_values.specs.declared.media_kind.MediaKind.TheVariants as kind
 
 -- ---- shapes and names

@@ -1,25 +1,8 @@
 -- Sections one after another, each with a name of its own.
+use Rattle.exchange.proofs.Common.{arith, ◌≡◌, ◌≢◌, ◌<◌, ◌≤◌, ◌+◌, ◌++◌, ◌||◌, ℕ, Bool, true, false, not, List, [], ◌∷◌, length, take, get_or, Option, Some, None, bytes_eq, map, option_map, refl, subst, sym, ap, ◌∙◌, false≢true, length-map, take_all, list_any_at, all_pairs_push, get_or_from_slice_get, slice_get-map, slice_get_within, bytes_eq-Decides, BTreeSet, Updates, contains, Bor, slice_cmp, slice_get, nat_cmp, slice_get_item, filter_map_more, filter_map_same, holds_before, MediaLine, Holds, is_held, AreDistinct, is_listed, section_mid, section_mids}
 use Rattle.exchange.proofs.state.ExchangeFollowLaws.{listed_more}
 use Rattle.exchange.specs.offer.OwnNames.{IsNamedAgain}
 use Rattle.exchange.specs.section.Stopped.{name_of}
-use Rattle.std.proofs.Common.{arith, ◌≡◌, ◌≢◌, ◌<◌, ◌≤◌, ◌+◌, ◌++◌, ◌||◌, ℕ, Bool, true, false, not, List, [], ◌∷◌, length, take, get_or, Option, Some, None, bytes_eq, map, option_map, refl, subst, sym, ap, ◌∙◌}
-use Rattle.std.proofs.lemmas.Bool.{false≢true}
-use Rattle.std.proofs.lemmas.List.{length-map, take_all}
-use Rattle.std.proofs.lemmas.List.Folds.{list_any_at}
-use Rattle.std.proofs.lemmas.List.Quantifiers.{all_pairs_push}
-use Rattle.std.proofs.lemmas.Option.{get_or_from_slice_get, slice_get-map, slice_get_within}
-use Rattle.std.proofs.lemmas.Slice.Eq.{bytes_eq-Decides}
-use Rattle.std.specs.BTreeSet.{BTreeSet, Updates, contains}
-use Rattle.std.specs.Borrow.{Bor}
-use Rattle.std.specs.Cmp.Lexicographic.{slice_cmp}
-use Rattle.std.specs.List.{slice_get}
-use Rattle.std.specs.Ordering.{nat_cmp}
-use Rattle.str0m_formats.proofs.round.ClaimedSets.{slice_get_item}
-use Rattle.str0m_sdp.proofs.section.SectionAccessorsLists.{filter_map_more, filter_map_same}
-use Rattle.str0m_sdp.proofs.session.OrderedMids.{holds_before}
-use Rattle.str0m_sdp.specs.declared.section.media_line.MediaLine.{MediaLine}
-use Rattle.str0m_sdp.specs.session.OrderedMids.{Holds, is_held}
-use Rattle.str0m_sdp.specs.session.SessionConsistency.{AreDistinct, is_listed, section_mid, section_mids}
 
 -- the names of the first so many sections are held, and no two are one
 pub record AreOwn (sections : List MediaLine) (names : BTreeSet (Bor (List ℕ))) (at : ℕ) : Type 0 where

@@ -1,4 +1,5 @@
 -- A section that answers another keeps the rules.
+use Rattle.exchange.proofs.Common.{◌≡◌, ◌≢◌, ℕ, Bool, true, false, cond, not, List, [], ◌∷◌, ◌++◌, Option, Some, None, filter, filter_map, map, find, option_to_list, refl, subst, sym, ap, ◌∙◌, append-nil, filter_map-append, AllZip, flat_map, PayloadParams, types, first, direction_attribute, is_media, MediaAttribute, MediaType, Audio, Video, Application, Unknown, Proto, Srtp, Sctp, Setup, MediaLine, Sdp, is_mid, mid_of, maps, is_of_type, made, row_attrs, section_direction, AnswersDirection, Direction}
 use Rattle.exchange.proofs.answer.OfferedLaws.{accepted_channels_offered, accepted_media_offered}
 use Rattle.exchange.specs.answer.Accepted.{AcceptsChannels, AcceptsMedia, candidate_line, first_lines, framed, layer_lines, media_lines, msid_lines}
 use Rattle.exchange.specs.answer.AnsweredSection.{AnswersSection, SaysChoice}
@@ -13,29 +14,7 @@ use Rattle.exchange.specs.offer.Rules.{HasAnswerFor, HasShapeOf, IsAcceptedExact
 use Rattle.exchange.specs.section.RepeatedLines.{repeated_lines}
 use Rattle.exchange.specs.section.Stopped.{IsStopped, name_of}
 use Rattle.exchange.specs.state.OwnSide.{own_direction}
-use Rattle.std.proofs.Common.{◌≡◌, ◌≢◌, ℕ, Bool, true, false, cond, not, List, [], ◌∷◌, ◌++◌, Option, Some, None, filter, filter_map, map, find, option_to_list, refl, subst, sym, ap, ◌∙◌, append-nil}
-use Rattle.std.proofs.lemmas.List.Elements.{filter_map-append}
-use Rattle.std.specs.List.{AllZip, flat_map}
-use Rattle.str0m_formats.specs.declared.row.payload_params.PayloadParams.{PayloadParams}
-use Rattle.str0m_formats.specs.row.PayloadParams.{types}
-use Rattle.str0m_sdp.specs.Common.{first}
-use Rattle.str0m_sdp.specs.attribute.Attribute.{direction_attribute}
-use Rattle.str0m_sdp.specs.attribute.MediaType.{is_media}
-use Rattle.str0m_sdp.specs.declared.attribute.MediaAttribute.{MediaAttribute}
 use Rattle.str0m_sdp.specs.declared.attribute.MediaAttribute.TheVariants as media
-use Rattle.str0m_sdp.specs.declared.attribute.media_type.MediaType.{MediaType}
-use Rattle.str0m_sdp.specs.declared.attribute.media_type.MediaType.TheVariants.{Audio, Video, Application, Unknown}
-use Rattle.str0m_sdp.specs.declared.attribute.proto.Proto.{Proto}
-use Rattle.str0m_sdp.specs.declared.attribute.proto.Proto.TheVariants.{Srtp, Sctp}
-use Rattle.str0m_sdp.specs.declared.attribute.setup.Setup.{Setup}
-use Rattle.str0m_sdp.specs.declared.section.media_line.MediaLine.{MediaLine}
-use Rattle.str0m_sdp.specs.declared.session.Sdp.{Sdp}
-use Rattle.str0m_sdp.specs.section.Consistency.{is_mid, mid_of, maps}
-use Rattle.str0m_sdp.specs.section.MadeSection.{is_of_type, made}
-use Rattle.str0m_sdp.specs.section.RowAttributes.{row_attrs}
-use Rattle.str0m_sdp.specs.section.SectionDirection.{section_direction}
-use Rattle.str0m_values.specs.Direction.{AnswersDirection}
-use Rattle.str0m_values.specs.declared.direction.Direction.{Direction}
 use Rattle.str0m_values.specs.declared.direction.Direction.TheVariants as way
 
 -- ---- lists place by place

@@ -1,13 +1,10 @@
 -- The places of an offer, one after another.
+use Rattle.exchange.proofs.Common.{arith, ◌≡◌, ◌<◌, ◌+◌, ◌++◌, inl, inr, ℕ, List, [], ◌∷◌, length, take, get_or, Option, length-take, refl, subst, sym, ap, ◌∙◌, All, take_at_read, All-cons, All-head, All-tail, MediaLine}
 use Rattle.exchange.specs.answer.RejectedSection.{rejecting}
 use Rattle.exchange.specs.declared.state.exchange.Exchange.{Exchange}
 use Rattle.exchange.specs.declared.state.own_side.SectionDirection.{SectionDirection}
 use Rattle.exchange.specs.offer.OfferPlaces.{FillsPlace, FillsPlaces, theirs_at}
 use Rattle.exchange.specs.offer.OfferSection.{next_section}
-use Rattle.std.proofs.Common.{arith, ◌≡◌, ◌<◌, ◌+◌, ◌++◌, inl, inr, ℕ, List, [], ◌∷◌, length, take, get_or, Option, length-take, refl, subst, sym, ap, ◌∙◌, All}
-use Rattle.std.proofs.lemmas.Grind.{take_at_read}
-use Rattle.std.proofs.lemmas.List.Elements.{All-cons, All-head, All-tail}
-use Rattle.str0m_sdp.specs.declared.section.media_line.MediaLine.{MediaLine}
 
 -- ---- one place more
 

@@ -1,12 +1,7 @@
 -- Where no section restarts ICE.
+use Rattle.exchange.proofs.Common.{◌≡◌, ℕ, ◌<◌, ◌≤◌, Option, None, length, ap, inl, inr, arith, cases_lt, slice_get_past, MediaLine, Sdp, creds, media_pwd, media_ufrag, session_pwd, session_ufrag}
 use Rattle.exchange.specs.answer.InForce.{creds_at, in_force_of}
 use Rattle.exchange.specs.section.Restart.{IsIceRestart, IsRestartedAt}
-use Rattle.std.proofs.Common.{◌≡◌, ℕ, ◌<◌, ◌≤◌, Option, None, length, ap, inl, inr, arith}
-use Rattle.std.proofs.lemmas.Bool.{cases_lt}
-use Rattle.std.proofs.lemmas.Option.{slice_get_past}
-use Rattle.str0m_sdp.specs.declared.section.media_line.MediaLine.{MediaLine}
-use Rattle.str0m_sdp.specs.declared.session.Sdp.{Sdp}
-use Rattle.str0m_sdp.specs.session.Transport.{creds, media_pwd, media_ufrag, session_pwd, session_ufrag}
 
 -- after the last section no credentials are in force
 no_creds : (sdp : Sdp) (at : ℕ) → length sdp.media_lines ≤ at → creds_at sdp at ≡ None

@@ -1,17 +1,8 @@
 -- One name for each outcome of a text's rounds.
+use Rattle.exchange.proofs.Common.{◌≡◌, suc, Bool, true, false, cond, List, [], ◌∷◌, Some, None, filter, filter_map, length, map, refl, sym, ap, ◌∙◌, cons_option, Round, PayloadParams, Outcome, Reached, is_media, MediaLine, Sdp, section_direction, rows, Negotiated}
 use Rattle.exchange.specs.section.RoundNames.{has_round, negotiated_names}
 use Rattle.exchange.specs.section.Stopped.{name_of}
-use Rattle.std.proofs.Common.{◌≡◌, suc, Bool, true, false, cond, List, [], ◌∷◌, Some, None, filter, filter_map, length, map, refl, sym, ap, ◌∙◌}
-use Rattle.std.specs.List.{cons_option}
-use Rattle.str0m_formats.specs.declared.round.rounds.Round.{Round}
-use Rattle.str0m_formats.specs.declared.row.payload_params.PayloadParams.{PayloadParams}
-use Rattle.str0m_formats.specs.round.RoundsRuns.{Outcome, Reached}
-use Rattle.str0m_sdp.specs.attribute.MediaType.{is_media}
-use Rattle.str0m_sdp.specs.declared.section.media_line.MediaLine.{MediaLine}
-use Rattle.str0m_sdp.specs.declared.session.Sdp.{Sdp}
-use Rattle.str0m_sdp.specs.section.SectionDirection.{section_direction}
-use Rattle.str0m_sdp.specs.section.SectionRows.{rows}
-use Rattle.str0m_signal.specs.session.Negotiation.{Negotiated, brought, brought_by}
+use Rattle.str0m_signal.specs.session.Negotiation.{brought, brought_by}
 
 -- a section has a name there where it brings a round
 named : (ms : List MediaLine) → length (map name_of (filter has_round ms)) ≡ length (filter_map brought_by ms)

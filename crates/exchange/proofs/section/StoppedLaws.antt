@@ -1,19 +1,8 @@
 -- Sections that a group names.
+use Rattle.exchange.proofs.Common.{arith, ◌≡◌, ◌↔◌, ◌||◌, ℕ, Bool, true, false, List, [], ◌∷◌, get_or, Option, Some, None, IfSome, IsTrue, bytes_eq, refl, subst, sym, ap, ◌∙◌, false≢true, Contains-append_right, list_any_at, bytes_eq-Decides, BTreeSet, Bor, Contains, MediaLine, Sdp, Holds, is_listed}
 use Rattle.exchange.specs.answer.InBundle.{bundle_names, names_or_none}
 use Rattle.exchange.specs.section.Places.{HoldsGroup}
 use Rattle.exchange.specs.section.Stopped.{IsBundled, bundle_group, name_of}
-use Rattle.std.proofs.Common.{arith, ◌≡◌, ◌↔◌, ◌||◌, ℕ, Bool, true, false, List, [], ◌∷◌, get_or, Option, Some, None, IfSome, IsTrue, bytes_eq, refl, subst, sym, ap, ◌∙◌}
-use Rattle.std.proofs.lemmas.Bool.{false≢true}
-use Rattle.std.proofs.lemmas.List.Elements.{Contains-append_right}
-use Rattle.std.proofs.lemmas.List.Folds.{list_any_at}
-use Rattle.std.proofs.lemmas.Slice.Eq.{bytes_eq-Decides}
-use Rattle.std.specs.BTreeSet.{BTreeSet}
-use Rattle.std.specs.Borrow.{Bor}
-use Rattle.std.specs.List.{Contains}
-use Rattle.str0m_sdp.specs.declared.section.media_line.MediaLine.{MediaLine}
-use Rattle.str0m_sdp.specs.declared.session.Sdp.{Sdp}
-use Rattle.str0m_sdp.specs.session.OrderedMids.{Holds}
-use Rattle.str0m_sdp.specs.session.SessionConsistency.{is_listed}
 
 -- ---- names in a list
 

@@ -1,11 +1,7 @@
 -- Items that are in a relation with those in their places, mended one after another.
+use Rattle.exchange.proofs.Common.{arith, ◌≡◌, ◌<◌, ◌+◌, ◌≤◌, false, ℕ, List, get_or, length, set, subst, sym, true≢false, get_or-set_other, MediaAttribute, Fmtp, Alike}
 use Rattle.exchange.specs.state.ReadBack.{may_differ}
-use Rattle.std.proofs.Common.{arith, ◌≡◌, ◌<◌, ◌+◌, ◌≤◌, false, ℕ, List, get_or, length, set, subst, sym}
-use Rattle.std.proofs.lemmas.Bool.{true≢false}
-use Rattle.std.proofs.lemmas.List.{get_or-set_other}
-use Rattle.str0m_sdp.specs.declared.attribute.MediaAttribute.{MediaAttribute}
-use Rattle.str0m_sdp.specs.declared.attribute.MediaAttribute.TheVariants.{Fmtp, Simulcast as SimulcastLine}
-use Rattle.str0m_sdp.specs.section.Alike.{Alike}
+use Rattle.str0m_sdp.specs.declared.attribute.MediaAttribute.TheVariants.{Simulcast as SimulcastLine}
 
 -- those from a place on
 abbrev pub FromOn : {X : Type 0} → (X → X → Type 0) → List X → List X → ℕ → Type 0

@@ -1,4 +1,5 @@
 -- States of an exchange one after another.
+use Rattle.exchange.proofs.Common.{arith, ◌≡◌, ◌≢◌, ◌||◌, ◌++◌, ◌⊎◌, ℕ, Bool, true, false, cond, List, [], ◌∷◌, length, Option, Some, None, All, IfSome, IsSomeAnd, MatchOption, bytes_eq, filter_map, inl, inr, refl, subst, sym, ap, ◌∙◌, true≢false, All-cons, All-nil, All-weaker, list_any-append, same_Some, bytes_eq-Decides, AllZip-long, AllZip-right, AllZip, cons_option, slice_get, stays-same, stays-then, row_before, CodecConfig, PayloadParams, LockedStay, StaysLocked, MediaLine, Sdp, AreDistinct, is_listed, section_mids}
 use Rattle.exchange.specs.declared.offer.pending.Pending.{Pending}
 use Rattle.exchange.specs.declared.state.exchange.Exchange.{Exchange}
 use Rattle.exchange.specs.declared.state.signaling_state.SignalingState.TheVariants.{Stable}
@@ -8,22 +9,6 @@ use Rattle.exchange.specs.section.Places.{FollowsPlaces, HasNameAt, IsNew, Stays
 use Rattle.exchange.specs.section.Stopped.{name_of}
 use Rattle.exchange.specs.state.ExchangeFollows.{Follows, Grows, IsKnown, IsPlacedSo, IsSound}
 use Rattle.exchange.specs.state.State.{sections_of, state_by}
-use Rattle.std.proofs.Common.{arith, ◌≡◌, ◌≢◌, ◌||◌, ◌++◌, ◌⊎◌, ℕ, Bool, true, false, cond, List, [], ◌∷◌, length, Option, Some, None, All, IfSome, IsSomeAnd, MatchOption, bytes_eq, filter_map, inl, inr, refl, subst, sym, ap, ◌∙◌}
-use Rattle.std.proofs.lemmas.Bool.{true≢false}
-use Rattle.std.proofs.lemmas.List.Elements.{All-cons, All-nil, All-weaker}
-use Rattle.std.proofs.lemmas.List.Folds.{list_any-append}
-use Rattle.std.proofs.lemmas.Option.{same_Some}
-use Rattle.std.proofs.lemmas.Slice.Eq.{bytes_eq-Decides}
-use Rattle.std.proofs.lemmas.Slice.Zip.{AllZip-long, AllZip-right}
-use Rattle.std.specs.List.{AllZip, cons_option, slice_get}
-use Rattle.str0m_formats.proofs.round.RoundsLocked.{stays-same, stays-then}
-use Rattle.str0m_formats.proofs.round.RoundsWhole.{row_before}
-use Rattle.str0m_formats.specs.declared.row.codec_config.CodecConfig.{CodecConfig}
-use Rattle.str0m_formats.specs.declared.row.payload_params.PayloadParams.{PayloadParams}
-use Rattle.str0m_formats.specs.round.RoundsPromises.{LockedStay, StaysLocked}
-use Rattle.str0m_sdp.specs.declared.section.media_line.MediaLine.{MediaLine}
-use Rattle.str0m_sdp.specs.declared.session.Sdp.{Sdp}
-use Rattle.str0m_sdp.specs.session.SessionConsistency.{AreDistinct, is_listed, section_mids}
 
 -- ---- names
 

@@ -1,8 +1,6 @@
 -- When two values of a description are equal, by the derived `==`.
-use Rattle.std.specs.Bool.{Decides}
-use Rattle.std.specs.Cmp.Lexicographic.{pointwise}
+use Rattle.exchange.proofs.Common.{Decides, pointwise, ◌≡◌, ℕ, List, Option, SessionAttribute, MediaType, Session, IceCreds}
 use Rattle.std.specs.Option.{option_eq}
-use Rattle.std.specs.Prelude.{◌≡◌, ℕ, List, Option}
 use Rattle.str0m_formats.proofs.format.FormatParamsDerived.{Equality, along, equality}
 use Rattle.str0m_sdp.proofs.attribute.AttributeEqual.{session_Decides as attribute_Decides}
 use Rattle.str0m_sdp.specs.contracts.attribute.SessionAttributePartialEq.TheImpl as attribute_eq
@@ -10,13 +8,9 @@ use Rattle.str0m_sdp.specs.contracts.attribute.bandwidth.BandwidthPartialEq.TheI
 use Rattle.str0m_sdp.specs.contracts.attribute.media_type.MediaType as media_type
 use Rattle.str0m_sdp.specs.contracts.attribute.media_type.MediaTypePartialEq.TheImpl as type_eq
 use Rattle.str0m_sdp.specs.contracts.session.SessionPartialEq.TheImpl as session_eq
-use Rattle.str0m_sdp.specs.declared.attribute.SessionAttribute.{SessionAttribute}
 use Rattle.str0m_sdp.specs.declared.attribute.bandwidth.Bandwidth.{Bandwidth}
-use Rattle.str0m_sdp.specs.declared.attribute.media_type.MediaType.{MediaType}
-use Rattle.str0m_sdp.specs.declared.session.Session.{Session}
 use Rattle.str0m_values.specs.contracts.ice_creds.IceCredsPartialEq.TheImpl as creds_eq
 use Rattle.str0m_values.specs.contracts.payload_type.PtPartialEq.TheImpl as pt_eq
-use Rattle.str0m_values.specs.declared.ice_creds.IceCreds.{IceCreds}
 
 abbrev types : Equality (List ℕ)
 types = hlevel equality

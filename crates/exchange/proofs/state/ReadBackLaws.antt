@@ -1,11 +1,6 @@
 -- What one reading says of a description that may be read back.
+use Rattle.exchange.proofs.Common.{◌≡◌, ◌≢◌, ℕ, List, [], Option, None, Some, Result, Ok, Err, IfOk, IfSome, MatchOption, ap, subst, sym, refl, Sdp, SdpError, ParseError, Inconsistent, Memory, Reading, AtMostOne, Refuses}
 use Rattle.exchange.specs.state.ReadBack.{IsReadAs, IsReadBack}
-use Rattle.std.proofs.Common.{◌≡◌, ◌≢◌, ℕ, List, [], Option, None, Some, Result, Ok, Err, IfOk, IfSome, MatchOption, ap, subst, sym, refl}
-use Rattle.str0m_sdp.specs.declared.session.Sdp.{Sdp}
-use Rattle.str0m_sdp.specs.declared.session.error.SdpError.{SdpError}
-use Rattle.str0m_sdp.specs.declared.session.error.SdpError.TheVariants.{ParseError, Inconsistent, Memory}
-use Rattle.str0m_signal.specs.session.Reader.{Reading}
-use Rattle.str0m_signal.specs.session.ReaderAnswers.{AtMostOne, Refuses}
 
 -- what a reading of the text says of the description, where one was found
 abbrev pub Tells : Sdp → List ℕ → Option Sdp → Type 0

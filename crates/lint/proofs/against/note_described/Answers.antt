@@ -1,6 +1,6 @@
+use Rattle.lint.proofs.Common.{on_ok_weaker}
 use Rattle.lint.proofs.FateLaws.{described_says}
 use Rattle.lint.proofs.against.note_described.Goals as goal
-use Rattle.std.proofs.lemmas.Result.{on_ok_weaker}
 
 pub returns-clause-said : goal.returns-clause-said
 returns-clause-said c =

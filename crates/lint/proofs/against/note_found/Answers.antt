@@ -1,6 +1,6 @@
+use Rattle.lint.proofs.Common.{on_ok_weaker}
 use Rattle.lint.proofs.FateLaws.{says_none, says_read}
 use Rattle.lint.proofs.against.note_found.Goals as goal
-use Rattle.std.proofs.lemmas.Result.{on_ok_weaker}
 
 pub returns-in-Some-clause-said : goal.returns-in-Some-clause-said
 returns-in-Some-clause-said c = λ none one reads.

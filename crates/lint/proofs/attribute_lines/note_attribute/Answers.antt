@@ -1,6 +1,6 @@
+use Rattle.lint.proofs.Common.{on_ok_weaker}
 use Rattle.lint.proofs.NoteLaws.{keeps_none, keeps_one}
 use Rattle.lint.proofs.attribute_lines.note_attribute.Goals as goal
-use Rattle.std.proofs.lemmas.Result.{on_ok_weaker}
 
 pub returns-in-Kept-clause-keeps : goal.returns-in-Kept-clause-keeps
 returns-in-Kept-clause-keeps c = λ here.

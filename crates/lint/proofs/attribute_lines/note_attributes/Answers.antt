@@ -1,8 +1,8 @@
 use Rattle.lint.proofs.AttributeLinesLaws.{here, one_further, without_lines}
+use Rattle.lint.proofs.Common.{◌≡◌, ◌+◌, ◌∙◌, arith, rules}
 use Rattle.lint.proofs.attribute_lines.note_attributes.Goals as goal
 use Rattle.lint.specs.Findings.{NotesLine}
 use Rattle.lint.specs.Lines.{IsNumbered}
-use Rattle.std.proofs.Common.{◌≡◌, ◌+◌, ◌∙◌, arith, rules}
 
 pub loop-line-preserved : goal.loop-line-preserved
 loop-line-preserved c =

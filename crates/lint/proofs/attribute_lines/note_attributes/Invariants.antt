@@ -1,8 +1,6 @@
 use Rattle.lint.proofs.AttributeLinesLaws.{SoFar}
+use Rattle.lint.proofs.Common.{◌≡◌, ◌+◌, ◌≤◌, length, Utf8, shadow, lines_of}
 use Rattle.lint.proofs.attribute_lines.note_attributes.Given as goal
-use Rattle.std.proofs.Common.{◌≡◌, ◌+◌, ◌≤◌, length}
-use Rattle.str0m_signal.proofs.Common.{Utf8, shadow}
-use Rattle.str0m_signal.specs.line.LinesReading.{lines_of}
 
 -- what is said so far, and what is to be said of the rest, is what is to be said of the text
 abbrev pub invariant-loop-line : goal.invariant-loop-line

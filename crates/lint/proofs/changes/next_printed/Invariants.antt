@@ -1,6 +1,5 @@
+use Rattle.lint.proofs.Common.{length, Utf8, shadow}
 use Rattle.lint.proofs.changes.next_printed.Given as goal
-use Rattle.std.proofs.Common.{length}
-use Rattle.str0m_signal.proofs.Common.{Utf8, shadow}
 
 abbrev pub invariant-loop-line : goal.invariant-loop-line
 invariant-loop-line l = shadow (Utf8 l.rest)

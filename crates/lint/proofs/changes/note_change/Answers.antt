@@ -1,6 +1,6 @@
+use Rattle.lint.proofs.Common.{on_ok_weaker}
 use Rattle.lint.proofs.NoteLaws.{changes_one}
 use Rattle.lint.proofs.changes.note_change.Goals as goal
-use Rattle.std.proofs.lemmas.Result.{on_ok_weaker}
 
 pub returns-clause-only : goal.returns-clause-only
 returns-clause-only c =

@@ -1,6 +1,6 @@
+use Rattle.lint.proofs.Common.{on_ok_weaker}
 use Rattle.lint.proofs.NoteLaws.{else_one}
 use Rattle.lint.proofs.conflicts.note_conflict.Goals as goal
-use Rattle.std.proofs.lemmas.Result.{on_ok_weaker}
 
 pub returns-clause-others : goal.returns-clause-others
 returns-clause-others c =

@@ -1,5 +1,5 @@
+use Rattle.lint.proofs.Common.{length}
 use Rattle.lint.proofs.fork.is_respelled.Given as goal
-use Rattle.std.proofs.Common.{length}
 
 abbrev pub invariant-loop-byte : goal.invariant-loop-byte
 invariant-loop-byte l = Unit {0}

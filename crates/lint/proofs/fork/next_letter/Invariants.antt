@@ -1,5 +1,5 @@
+use Rattle.lint.proofs.Common.{◌≤◌, length}
 use Rattle.lint.proofs.fork.next_letter.Given as goal
-use Rattle.std.proofs.Common.{◌≤◌, length}
 
 abbrev pub invariant-loop-byte : goal.invariant-loop-byte
 invariant-loop-byte l = length l.rest ≤ length l.fn.text

@@ -1,5 +1,5 @@
+use Rattle.lint.proofs.Common.{max, ap, ◌∙◌}
 use Rattle.lint.proofs.found.findings.Goals as goal
-use Rattle.std.proofs.Common.{max, ap, ◌∙◌}
 
 pub returns-clause-refused : goal.returns-clause-refused
 returns-clause-refused c =

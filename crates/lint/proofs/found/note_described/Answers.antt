@@ -1,6 +1,6 @@
+use Rattle.lint.proofs.Common.{on_ok_weaker}
 use Rattle.lint.proofs.FindingsLaws.{tells_else}
 use Rattle.lint.proofs.found.note_described.Goals as goal
-use Rattle.std.proofs.lemmas.Result.{on_ok_weaker}
 
 pub returns-clause-tells : goal.returns-clause-tells
 returns-clause-tells c = λ last.

@@ -1,6 +1,6 @@
+use Rattle.lint.proofs.Common.{on_ok_weaker}
 use Rattle.lint.proofs.FindingsLaws.{said_read, said_refused}
 use Rattle.lint.proofs.found.note_found.Goals as goal
-use Rattle.std.proofs.lemmas.Result.{on_ok_weaker}
 
 pub returns-in-Some-clause-said : goal.returns-in-Some-clause-said
 returns-in-Some-clause-said c = λ none last one reads.

@@ -1,12 +1,9 @@
+use Rattle.lint.proofs.Common.{◌≡◌, ◌+◌, ◌≤◌, [], Bool, List, map, length, ap, ◌∙◌, sym, subst, arith, rules, on_ok_weaker, sdp_text, lines_of}
 use Rattle.lint.proofs.FindingsLaws.{empty_rest, first_unread, same_as_printed, some_lines, tells_rest, tells_whole, unread_numbered}
 use Rattle.lint.proofs.found.note_read.Goals as goal
 use Rattle.lint.specs.Findings.{Keeps}
 use Rattle.lint.specs.Kept.{is_unread, kept_at, kept_flags}
 use Rattle.lint.specs.Lines.{IsNumbered, attribute_numbers}
-use Rattle.std.proofs.Common.{◌≡◌, ◌+◌, ◌≤◌, [], Bool, List, map, length, ap, ◌∙◌, sym, subst, arith, rules}
-use Rattle.std.proofs.lemmas.Result.{on_ok_weaker}
-use Rattle.str0m_sdp.specs.session.Session.{sdp_text}
-use Rattle.str0m_signal.specs.line.LinesReading.{lines_of}
 
 pub returns-then-is_empty-clause-tells : goal.returns-then-is_empty-clause-tells
 returns-then-is_empty-clause-tells c = λ last.

@@ -1,7 +1,5 @@
+use Rattle.lint.proofs.Common.{◌≡◌, ◌+◌, ◌≤◌, length, Utf8, shadow, lines_of}
 use Rattle.lint.proofs.lines.line_count.Given as goal
-use Rattle.std.proofs.Common.{◌≡◌, ◌+◌, ◌≤◌, length}
-use Rattle.str0m_signal.proofs.Common.{Utf8, shadow}
-use Rattle.str0m_signal.specs.line.LinesReading.{lines_of}
 
 -- the lines so far and those of the rest are those of the text
 abbrev pub invariant-loop-after : goal.invariant-loop-after

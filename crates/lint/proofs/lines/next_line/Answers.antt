@@ -1,6 +1,6 @@
+use Rattle.lint.proofs.Common.{sym}
 use Rattle.lint.proofs.LineLaws.{line_at_feed}
 use Rattle.lint.proofs.lines.next_line.Goals as goal
-use Rattle.std.proofs.Common.{sym}
 use Rattle.str0m_signal.proofs.line.PartLaws.{cut_shorter}
 
 pub returns-in-Some-clause-line : goal.returns-in-Some-clause-line

@@ -1,10 +1,6 @@
+use Rattle.lint.proofs.Common.{◌≡◌, ◌∙◌, ap, rules, on_ok_weaker, section_direction, rows, receives}
 use Rattle.lint.proofs.FateLaws.{round_said}
 use Rattle.lint.proofs.round_notes.note_round.Goals as goal
-use Rattle.std.proofs.Common.{◌≡◌, ◌∙◌, ap, rules}
-use Rattle.std.proofs.lemmas.Result.{on_ok_weaker}
-use Rattle.str0m_sdp.specs.section.SectionDirection.{section_direction}
-use Rattle.str0m_sdp.specs.section.SectionRows.{rows}
-use Rattle.str0m_values.specs.Direction.{receives}
 
 pub returns-clause-said : goal.returns-clause-said
 returns-clause-said c =

@@ -1,10 +1,8 @@
+use Rattle.lint.proofs.Common.{◌≡◌, ◌+◌, ◌<◌, true, false, length, get_or, take, subst, sym, ◌∙◌, ap, arith, rules, CodecConfig, is_media}
 use Rattle.lint.proofs.FateLaws.{SaidSoFar, round_step, skip_step}
 use Rattle.lint.proofs.round_notes.note_rounds.Goals.{then-is_media+in_ok-note_round, else-is_media}
 use Rattle.lint.proofs.round_notes.note_rounds.Goals as goal
 use Rattle.lint.specs.declared.notes.Notes.{Notes}
-use Rattle.std.proofs.Common.{◌≡◌, ◌+◌, ◌<◌, true, false, length, get_or, take, subst, sym, ◌∙◌, ap, arith, rules}
-use Rattle.str0m_formats.specs.declared.row.codec_config.CodecConfig.{CodecConfig}
-use Rattle.str0m_sdp.specs.attribute.MediaType.{is_media}
 
 pub loop-section-preserved : goal.loop-section-preserved
 loop-section-preserved c =

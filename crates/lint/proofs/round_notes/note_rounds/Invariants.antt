@@ -1,6 +1,6 @@
+use Rattle.lint.proofs.Common.{◌≡◌, take}
 use Rattle.lint.proofs.FateLaws.{SaidSoFar}
 use Rattle.lint.proofs.round_notes.note_rounds.Given as goal
-use Rattle.std.proofs.Common.{◌≡◌, take}
 
 -- the rounds of the sections so far are said
 abbrev pub invariant-loop-section : goal.invariant-loop-section

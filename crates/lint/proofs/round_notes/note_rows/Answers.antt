@@ -1,7 +1,6 @@
+use Rattle.lint.proofs.Common.{arith, take_all}
 use Rattle.lint.proofs.FateLaws.{rows_step}
 use Rattle.lint.proofs.round_notes.note_rows.Goals as goal
-use Rattle.std.proofs.Common.{arith}
-use Rattle.std.proofs.lemmas.List.{take_all}
 
 pub loop-theirs-preserved : goal.loop-theirs-preserved
 loop-theirs-preserved c = grind (arith, rows_step)

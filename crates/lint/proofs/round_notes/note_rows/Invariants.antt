@@ -1,6 +1,6 @@
+use Rattle.lint.proofs.Common.{◌≡◌, filter_map, take}
 use Rattle.lint.proofs.round_notes.note_rows.Given as goal
 use Rattle.lint.specs.Fates.{AddsFates, fate}
-use Rattle.std.proofs.Common.{◌≡◌, filter_map, take}
 
 -- the fates of the rows so far are said
 abbrev pub invariant-loop-theirs : goal.invariant-loop-theirs

@@ -1,6 +1,5 @@
+use Rattle.lint.proofs.Common.{◌≤◌, length, Utf8, shadow}
 use Rattle.lint.proofs.section.attributes.Given as goal
-use Rattle.std.proofs.Common.{◌≤◌, length}
-use Rattle.str0m_signal.proofs.Common.{Utf8, shadow}
 
 -- the rest is no longer than the text
 abbrev pub invariant-loop-line : goal.invariant-loop-line

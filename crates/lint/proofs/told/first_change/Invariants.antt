@@ -1,7 +1,6 @@
+use Rattle.lint.proofs.Common.{◌≡◌, ◌↔◌, length, Utf8, shadow}
 use Rattle.lint.proofs.told.first_change.Given as goal
 use Rattle.lint.specs.Told.{told}
-use Rattle.std.proofs.Common.{◌≡◌, ◌↔◌, length}
-use Rattle.str0m_signal.proofs.Common.{Utf8, shadow}
 
 -- what is left of both says the same exactly where both do
 abbrev pub invariant-loop-next : goal.invariant-loop-next

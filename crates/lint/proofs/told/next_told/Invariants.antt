@@ -1,7 +1,6 @@
+use Rattle.lint.proofs.Common.{◌≡◌, ◌≤◌, length, Utf8, shadow}
 use Rattle.lint.proofs.told.next_told.Given as goal
 use Rattle.lint.specs.Told.{told}
-use Rattle.std.proofs.Common.{◌≡◌, ◌≤◌, length}
-use Rattle.str0m_signal.proofs.Common.{Utf8, shadow}
 
 -- the rest says what the text says
 abbrev pub invariant-loop-line : goal.invariant-loop-line

@@ -1,6 +1,6 @@
+use Rattle.lint.proofs.Common.{on_ok_weaker}
 use Rattle.lint.proofs.NoteLaws.{ends_one}
 use Rattle.lint.proofs.unfit.note_end.Goals as goal
-use Rattle.std.proofs.lemmas.Result.{on_ok_weaker}
 
 pub returns-clause-ends : goal.returns-clause-ends
 returns-clause-ends c = λ here.

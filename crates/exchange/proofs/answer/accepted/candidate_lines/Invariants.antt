@@ -1,6 +1,6 @@
+use Rattle.exchange.proofs.Common.{◌≡◌, take, map}
 use Rattle.exchange.proofs.answer.accepted.candidate_lines.Given as goal
 use Rattle.exchange.specs.answer.Accepted.{candidate_line}
-use Rattle.std.proofs.Common.{◌≡◌, take, map}
 
 -- the lines of the candidates so far
 abbrev pub invariant-loop-candidate : goal.invariant-loop-candidate

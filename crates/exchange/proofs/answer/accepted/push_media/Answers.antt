@@ -1,8 +1,7 @@
+use Rattle.exchange.proofs.Common.{◌++◌, ℕ, List, [], ◌∷◌, ap, ◌∙◌, MediaAttribute}
 use Rattle.exchange.proofs.answer.AcceptedLaws.{five_behind}
 use Rattle.exchange.proofs.answer.accepted.push_media.Goals as goal
 use Rattle.exchange.specs.section.RepeatedLines.{repeated_lines}
-use Rattle.std.proofs.Common.{◌++◌, ℕ, List, [], ◌∷◌, ap, ◌∙◌}
-use Rattle.str0m_sdp.specs.declared.attribute.MediaAttribute.{MediaAttribute}
 
 pub returns : goal.returns
 returns c =

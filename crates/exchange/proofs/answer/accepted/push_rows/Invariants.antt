@@ -1,6 +1,5 @@
+use Rattle.exchange.proofs.Common.{◌≡◌, ◌++◌, take, flat_map, row_attrs}
 use Rattle.exchange.proofs.answer.accepted.push_rows.Given as goal
-use Rattle.std.proofs.Common.{◌≡◌, ◌++◌, take, flat_map}
-use Rattle.str0m_sdp.specs.section.RowAttributes.{row_attrs}
 
 -- the lines of the rows so far stand after the others
 abbrev pub invariant-loop-row : goal.invariant-loop-row

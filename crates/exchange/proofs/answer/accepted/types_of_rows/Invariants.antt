@@ -1,6 +1,5 @@
+use Rattle.exchange.proofs.Common.{◌≡◌, take, types}
 use Rattle.exchange.proofs.answer.accepted.types_of_rows.Given as goal
-use Rattle.std.proofs.Common.{◌≡◌, take}
-use Rattle.str0m_formats.specs.row.PayloadParams.{types}
 
 -- the types of the rows so far
 abbrev pub invariant-loop-row : goal.invariant-loop-row

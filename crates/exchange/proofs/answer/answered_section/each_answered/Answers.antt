@@ -1,11 +1,8 @@
+use Rattle.exchange.proofs.Common.{◌+◌, List, drop, subst, sym, take, all_zip_more, AllZip, MediaLine}
 use Rattle.exchange.proofs.answer.OfferedRoundLaws.{next_section}
 use Rattle.exchange.proofs.answer.answered_section.each_answered.Goals as goal
 use Rattle.exchange.specs.answer.AnsweredSection.{AnswersSection}
 use Rattle.exchange.specs.answer.Offered.{AreRoundsOf}
-use Rattle.std.proofs.Common.{◌+◌, List, drop, subst, sym, take}
-use Rattle.std.proofs.lemmas.List.Elements.{all_zip_more}
-use Rattle.std.specs.List.{AllZip}
-use Rattle.str0m_sdp.specs.declared.section.media_line.MediaLine.{MediaLine}
 
 pub answered_section-requires-clause-rows : goal.answered_section-requires-clause-rows
 answered_section-requires-clause-rows c =

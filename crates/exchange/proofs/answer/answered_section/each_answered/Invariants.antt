@@ -1,8 +1,7 @@
+use Rattle.exchange.proofs.Common.{drop, take, AllZip}
 use Rattle.exchange.proofs.answer.answered_section.each_answered.Given as goal
 use Rattle.exchange.specs.answer.AnsweredSection.{AnswersSection}
 use Rattle.exchange.specs.answer.Offered.{AreRoundsOf}
-use Rattle.std.proofs.Common.{drop, take}
-use Rattle.std.specs.List.{AllZip}
 
 -- the sections so far answer the offered ones in their places, and the rounds that are left are those of the others
 abbrev pub invariant-loop-section : goal.invariant-loop-section

@@ -1,6 +1,6 @@
+use Rattle.exchange.proofs.Common.{◌≡◌, take, map}
 use Rattle.exchange.proofs.answer.answered_session.are_accepted.Given as goal
 use Rattle.exchange.specs.answer.AnsweredSession.{is_accepted}
-use Rattle.std.proofs.Common.{◌≡◌, take, map}
 
 -- the answers for the sections so far
 abbrev pub invariant-loop-section : goal.invariant-loop-section

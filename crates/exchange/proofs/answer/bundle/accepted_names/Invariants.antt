@@ -1,7 +1,6 @@
+use Rattle.exchange.proofs.Common.{◌≡◌, ◌++◌, filter_map, length, zip}
 use Rattle.exchange.proofs.answer.bundle.accepted_names.Given as goal
 use Rattle.exchange.specs.answer.Bundle.{name_if_accepted}
-use Rattle.std.proofs.Common.{◌≡◌, ◌++◌, filter_map, length}
-use Rattle.std.specs.List.{zip}
 
 -- the names so far, then those of what is left
 abbrev pub invariant-loop-section : goal.invariant-loop-section

@@ -1,8 +1,5 @@
+use Rattle.exchange.proofs.Common.{rules, tests, YieldsList-from_slice, first_from_find_map, session_ufrag}
 use Rattle.exchange.proofs.answer.in_force.session_ufrag.Goals as goal
-use Rattle.std.proofs.Common.{rules, tests}
-use Rattle.std.proofs.lemmas.Iterator.{YieldsList-from_slice}
-use Rattle.str0m_sdp.proofs.section.SectionAccessorsFinding.{first_from_find_map}
-use Rattle.str0m_sdp.specs.session.Transport.{session_ufrag}
 
 pub returns : goal.returns
 returns c =

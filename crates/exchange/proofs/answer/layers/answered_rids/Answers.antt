@@ -1,8 +1,6 @@
+use Rattle.exchange.proofs.Common.{arith, common_steps, map_more}
 use Rattle.exchange.proofs.answer.layers.answered_rids.Goals as goal
 use Rattle.exchange.specs.answer.Layers.{answered_rid}
-use Rattle.std.proofs.Common.{arith}
-use Rattle.std.proofs.lemmas.Grind.{common_steps}
-use Rattle.str0m_sdp.proofs.section.MappingsFilterMap.{map_more}
 
 pub loop-line-preserved : goal.loop-line-preserved
 loop-line-preserved c =

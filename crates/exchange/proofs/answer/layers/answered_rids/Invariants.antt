@@ -1,6 +1,6 @@
+use Rattle.exchange.proofs.Common.{◌≡◌, filter_map, take}
 use Rattle.exchange.proofs.answer.layers.answered_rids.Given as goal
 use Rattle.exchange.specs.answer.Layers.{answered_rid}
-use Rattle.std.proofs.Common.{◌≡◌, filter_map, take}
 
 -- the answers to the lines so far
 abbrev pub invariant-loop-line : goal.invariant-loop-line

@@ -1,6 +1,6 @@
+use Rattle.exchange.proofs.Common.{◌≡◌, filter, take}
 use Rattle.exchange.proofs.answer.layers.received_layers.Given as goal
 use Rattle.exchange.specs.answer.Layers.{is_answered}
-use Rattle.std.proofs.Common.{◌≡◌, filter, take}
 
 -- those so far that are answered
 abbrev pub invariant-loop-layer : goal.invariant-loop-layer

@@ -1,6 +1,6 @@
+use Rattle.exchange.proofs.Common.{◌≡◌, take}
 use Rattle.exchange.proofs.answer.layers.types_left.Given as goal
 use Rattle.exchange.specs.answer.Layers.{types_left}
-use Rattle.std.proofs.Common.{◌≡◌, take}
 
 -- those so far that are left
 abbrev pub invariant-loop-pt : goal.invariant-loop-pt

@@ -1,7 +1,6 @@
+use Rattle.exchange.proofs.Common.{arith, ◌≡◌, ◌+◌, ◌-◌, ◌≤◌, ℕ, List, length, take, min, ap, ◌∙◌, line_feeds}
 use Rattle.exchange.proofs.answer.OfferedUnreadLaws.{numbered}
 use Rattle.exchange.proofs.answer.offered.line_of.Goals as goal
-use Rattle.std.proofs.Common.{arith, ◌≡◌, ◌+◌, ◌-◌, ◌≤◌, ℕ, List, length, take, min, ap, ◌∙◌}
-use Rattle.str0m_signal.proofs.session.ReaderLineNumbers.{line_feeds}
 
 pub returns : goal.returns
 returns c = λ from some.

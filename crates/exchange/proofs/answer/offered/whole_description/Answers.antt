@@ -1,7 +1,6 @@
+use Rattle.exchange.proofs.Common.{arith, ◌≢◌, [], common_steps}
 use Rattle.exchange.proofs.answer.OfferedUnreadLaws.{cut_short}
 use Rattle.exchange.proofs.answer.offered.whole_description.Goals as goal
-use Rattle.std.proofs.Common.{arith, ◌≢◌, []}
-use Rattle.std.proofs.lemmas.Grind.{common_steps}
 
 pub returns-clause-refused : goal.returns-clause-refused
 returns-clause-refused c =

@@ -1,8 +1,7 @@
+use Rattle.exchange.proofs.Common.{ap, replicate, take_all}
 use Rattle.exchange.proofs.answer.OfferedFeedbackLaws.{none_gathered, other_more, typed_more}
 use Rattle.exchange.proofs.answer.offered_feedback.gathered.Goals as goal
 use Rattle.exchange.specs.declared.answer.offered_feedback.OfferedFeedback.{OfferedFeedback}
-use Rattle.std.proofs.Common.{ap, replicate}
-use Rattle.std.proofs.lemmas.List.{take_all}
 
 pub loop-attr-init : goal.loop-attr-init
 loop-attr-init c = none_gathered _ _ (ap (λ (f : OfferedFeedback). replicate 256 f) c.none-nothing.ensures) c.none-nothing.ensures

@@ -1,6 +1,6 @@
+use Rattle.exchange.proofs.Common.{take}
 use Rattle.exchange.proofs.answer.offered_feedback.gathered.Given as goal
 use Rattle.exchange.specs.answer.OfferedFeedback.{IsGathered}
-use Rattle.std.proofs.Common.{take}
 
 -- what the lines so far offer
 abbrev pub invariant-loop-attr : goal.invariant-loop-attr

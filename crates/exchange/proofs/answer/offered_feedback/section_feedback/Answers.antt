@@ -1,7 +1,6 @@
+use Rattle.exchange.proofs.Common.{List, subst, MediaAttribute}
 use Rattle.exchange.proofs.answer.offered_feedback.section_feedback.Goals as goal
 use Rattle.exchange.specs.answer.OfferedFeedback.{IsGathered}
-use Rattle.std.proofs.Common.{List, subst}
-use Rattle.str0m_sdp.specs.declared.attribute.MediaAttribute.{MediaAttribute}
 
 pub returns : goal.returns
 returns c = subst (λ (attrs : List MediaAttribute). IsGathered attrs c.gathered.result.of_types c.gathered.result.of_all) c.as_slice.ensures c.gathered.ensures

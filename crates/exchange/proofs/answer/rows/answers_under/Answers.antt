@@ -1,8 +1,6 @@
+use Rattle.exchange.proofs.Common.{arith, common_steps, map_more}
 use Rattle.exchange.proofs.answer.rows.answers_under.Goals as goal
 use Rattle.exchange.specs.answer.Rows.{answer_under}
-use Rattle.std.proofs.Common.{arith}
-use Rattle.std.proofs.lemmas.Grind.{common_steps}
-use Rattle.str0m_sdp.proofs.section.MappingsFilterMap.{map_more}
 
 pub loop-pt-preserved : goal.loop-pt-preserved
 loop-pt-preserved c =

@@ -1,6 +1,6 @@
+use Rattle.exchange.proofs.Common.{◌≡◌, filter_map, take}
 use Rattle.exchange.proofs.answer.rows.answers_under.Given as goal
 use Rattle.exchange.specs.answer.Rows.{answer_under}
-use Rattle.std.proofs.Common.{◌≡◌, filter_map, take}
 
 -- what the answer says of the types so far
 abbrev pub invariant-loop-pt : goal.invariant-loop-pt

@@ -1,7 +1,6 @@
+use Rattle.exchange.proofs.Common.{arith, common_steps}
 use Rattle.exchange.proofs.answer.RowsListLaws.{distinct_more}
 use Rattle.exchange.proofs.answer.rows.each_once.Goals as goal
-use Rattle.std.proofs.Common.{arith}
-use Rattle.std.proofs.lemmas.Grind.{common_steps}
 
 pub loop-pt-preserved : goal.loop-pt-preserved
 loop-pt-preserved c =

@@ -1,6 +1,5 @@
+use Rattle.exchange.proofs.Common.{◌≡◌, ◌==◌, take, distinct}
 use Rattle.exchange.proofs.answer.rows.each_once.Given as goal
-use Rattle.std.proofs.Common.{◌≡◌, ◌==◌, take}
-use Rattle.str0m_sdp.specs.Common.{distinct}
 
 -- the types so far, each once
 abbrev pub invariant-loop-pt : goal.invariant-loop-pt

@@ -1,6 +1,6 @@
+use Rattle.exchange.proofs.Common.{◌≡◌, ◌++◌, length}
 use Rattle.exchange.proofs.offer.added.placed_under.Given as goal
 use Rattle.exchange.specs.offer.Added.{placed_under}
-use Rattle.std.proofs.Common.{◌≡◌, ◌++◌, length}
 
 -- what is placed so far, then what is left
 abbrev pub invariant-loop-mid : goal.invariant-loop-mid

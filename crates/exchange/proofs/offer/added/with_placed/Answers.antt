@@ -1,8 +1,6 @@
+use Rattle.exchange.proofs.Common.{arith, common_steps, map_more}
 use Rattle.exchange.proofs.offer.added.with_placed.Goals as goal
 use Rattle.exchange.specs.offer.Added.{direction_of}
-use Rattle.std.proofs.Common.{arith}
-use Rattle.std.proofs.lemmas.Grind.{common_steps}
-use Rattle.str0m_sdp.proofs.section.MappingsFilterMap.{map_more}
 
 pub loop-it-preserved : goal.loop-it-preserved
 loop-it-preserved c =

@@ -1,6 +1,6 @@
+use Rattle.exchange.proofs.Common.{◌≡◌, ◌++◌, filter_map, take}
 use Rattle.exchange.proofs.offer.added.with_placed.Given as goal
 use Rattle.exchange.specs.offer.Added.{direction_of}
-use Rattle.std.proofs.Common.{◌≡◌, ◌++◌, filter_map, take}
 
 -- the directions of what is placed so far, after the others
 abbrev pub invariant-loop-it : goal.invariant-loop-it

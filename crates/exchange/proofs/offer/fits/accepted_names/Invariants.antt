@@ -1,6 +1,6 @@
+use Rattle.exchange.proofs.Common.{◌≡◌, filter_map, take}
 use Rattle.exchange.proofs.offer.fits.accepted_names.Given as goal
 use Rattle.exchange.specs.offer.Fits.{accepted_name}
-use Rattle.std.proofs.Common.{◌≡◌, filter_map, take}
 
 -- the names of the accepted sections so far
 abbrev pub invariant-loop-section : goal.invariant-loop-section

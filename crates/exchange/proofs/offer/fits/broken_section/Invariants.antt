@@ -1,6 +1,6 @@
+use Rattle.exchange.proofs.Common.{ℕ, ◌<◌}
 use Rattle.exchange.proofs.offer.fits.broken_section.Given as goal
 use Rattle.exchange.specs.offer.Fits.{FitsAt}
-use Rattle.std.proofs.Common.{ℕ, ◌<◌}
 
 -- the sections so far keep every rule
 abbrev pub invariant-loop-section : goal.invariant-loop-section

@@ -1,8 +1,7 @@
+use Rattle.exchange.proofs.Common.{◌∙◌, All, subst, refl, take_all}
 use Rattle.exchange.proofs.offer.fits.bundles_so.Goals as goal
 use Rattle.exchange.specs.answer.InBundle.{bundle_names}
 use Rattle.exchange.specs.offer.Fits.{IsBundledSo}
-use Rattle.std.proofs.Common.{◌∙◌, All, subst, refl}
-use Rattle.std.proofs.lemmas.List.{take_all}
 
 pub returns : goal.returns
 returns c =

@@ -1,6 +1,6 @@
+use Rattle.exchange.proofs.Common.{All, take}
 use Rattle.exchange.proofs.offer.fits.bundles_so.Given as goal
 use Rattle.exchange.specs.offer.Fits.{IsBundledSo}
-use Rattle.std.proofs.Common.{All, take}
 
 -- the names so far are those of accepted sections that the offer's group lists
 abbrev pub invariant-loop-mid : goal.invariant-loop-mid

@@ -1,6 +1,5 @@
+use Rattle.exchange.proofs.Common.{◌∙◌, Some, sym, false≢true}
 use Rattle.exchange.proofs.offer.fits.is_bundled_so.Goals as goal
-use Rattle.std.proofs.Common.{◌∙◌, Some, sym}
-use Rattle.std.proofs.lemmas.Bool.{false≢true}
 
 pub returns-then-is_held : goal.returns-then-is_held
 returns-then-is_held c = (

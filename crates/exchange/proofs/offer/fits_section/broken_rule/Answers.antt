@@ -1,11 +1,8 @@
+use Rattle.exchange.proofs.Common.{arith, ◌≤◌, ◌∙◌, length, sym, take, true≢false, take_all, All-more}
 use Rattle.exchange.proofs.offer.FitsLaws.{first_broken, rules_kept}
 use Rattle.exchange.proofs.offer.fits_section.broken_rule.Goals as goal
 use Rattle.exchange.specs.declared.offer.rule.Rule.TheVariants.{Sections}
 use Rattle.exchange.specs.offer.Fits.{Keeps, asked}
-use Rattle.std.proofs.Common.{arith, ◌≤◌, ◌∙◌, length, sym, take}
-use Rattle.std.proofs.lemmas.Bool.{true≢false}
-use Rattle.std.proofs.lemmas.List.{take_all}
-use Rattle.std.proofs.lemmas.List.Elements.{All-more}
 
 pub returns-then-not-branch : goal.returns-then-not-branch
 returns-then-not-branch c =

@@ -1,6 +1,6 @@
+use Rattle.exchange.proofs.Common.{All, take}
 use Rattle.exchange.proofs.offer.fits_section.broken_rule.Given as goal
 use Rattle.exchange.specs.offer.Fits.{Keeps}
-use Rattle.std.proofs.Common.{All, take}
 
 -- the rules so far are kept
 abbrev pub invariant-loop-rule : goal.invariant-loop-rule

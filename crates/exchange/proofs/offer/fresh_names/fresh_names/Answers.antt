@@ -1,7 +1,7 @@
+use Rattle.exchange.proofs.Common.{arith, ◌≡◌, ◌+◌, ◌++◌, List, [], ◌∷◌, ℕ, decimal, length-append, ap, subst, sym, ◌∙◌}
 use Rattle.exchange.proofs.offer.FreshNamesLaws.{fresh_more}
 use Rattle.exchange.proofs.offer.fresh_names.fresh_names.Goals as goal
 use Rattle.exchange.specs.offer.FreshNames.{AreFresh, IsNextFree}
-use Rattle.std.proofs.Common.{arith, ◌≡◌, ◌+◌, ◌++◌, List, [], ◌∷◌, ℕ, decimal, length-append, ap, subst, sym, ◌∙◌}
 
 pub loop-alloc-preserved : goal.loop-alloc-preserved
 loop-alloc-preserved c =

@@ -1,6 +1,6 @@
+use Rattle.exchange.proofs.Common.{◌≤◌, ◌-◌, length}
 use Rattle.exchange.proofs.offer.fresh_names.fresh_names.Given as goal
 use Rattle.exchange.specs.offer.FreshNames.{AreFresh}
-use Rattle.std.proofs.Common.{◌≤◌, ◌-◌, length}
 
 -- the names so far, and no more than are asked for
 abbrev pub invariant-loop-alloc : goal.invariant-loop-alloc

@@ -1,6 +1,6 @@
+use Rattle.exchange.proofs.Common.{arith, Some, decimal, sym, ◌∙◌}
 use Rattle.exchange.proofs.offer.FreshNamesLaws.{more_taken}
 use Rattle.exchange.proofs.offer.fresh_names.next_free.Goals as goal
-use Rattle.std.proofs.Common.{arith, Some, decimal, sym, ◌∙◌}
 
 pub returns-then-not-branch : goal.returns-then-not-branch
 returns-then-not-branch c = record {

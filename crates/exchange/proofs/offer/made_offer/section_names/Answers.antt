@@ -1,8 +1,5 @@
+use Rattle.exchange.proofs.Common.{arith, common_steps, map_more, section_mid}
 use Rattle.exchange.proofs.offer.made_offer.section_names.Goals as goal
-use Rattle.std.proofs.Common.{arith}
-use Rattle.std.proofs.lemmas.Grind.{common_steps}
-use Rattle.str0m_sdp.proofs.section.MappingsFilterMap.{map_more}
-use Rattle.str0m_sdp.specs.session.SessionConsistency.{section_mid}
 
 pub loop-section-preserved : goal.loop-section-preserved
 loop-section-preserved c =

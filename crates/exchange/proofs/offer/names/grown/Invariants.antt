@@ -1,6 +1,6 @@
+use Rattle.exchange.proofs.Common.{◌≡◌, ◌++◌, filter_map, take}
 use Rattle.exchange.proofs.offer.names.grown.Given as goal
 use Rattle.exchange.specs.offer.Names.{new_name}
-use Rattle.std.proofs.Common.{◌≡◌, ◌++◌, filter_map, take}
 
 -- the names that were there, then those of the sections so far that are new
 abbrev pub invariant-loop-section : goal.invariant-loop-section

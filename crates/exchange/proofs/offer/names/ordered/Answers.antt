@@ -1,5 +1,5 @@
+use Rattle.exchange.proofs.Common.{holds_behind}
 use Rattle.exchange.proofs.offer.names.ordered.Goals as goal
-use Rattle.str0m_sdp.proofs.session.OrderedMids.{holds_behind}
 
 pub loop-mid-preserved : goal.loop-mid-preserved
 loop-mid-preserved c =

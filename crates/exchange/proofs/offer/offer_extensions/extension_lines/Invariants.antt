@@ -1,6 +1,6 @@
+use Rattle.exchange.proofs.Common.{◌≡◌, ◌++◌, length}
 use Rattle.exchange.proofs.offer.offer_extensions.extension_lines.Given as goal
 use Rattle.exchange.specs.offer.OfferExtensions.{extension_lines, numbered_lines}
-use Rattle.std.proofs.Common.{◌≡◌, ◌++◌, length}
 
 -- the lines so far, then those of what is left
 abbrev pub invariant-loop-uri : goal.invariant-loop-uri

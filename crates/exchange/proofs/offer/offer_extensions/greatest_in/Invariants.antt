@@ -1,6 +1,6 @@
+use Rattle.exchange.proofs.Common.{◌≡◌, length}
 use Rattle.exchange.proofs.offer.offer_extensions.greatest_in.Given as goal
 use Rattle.exchange.specs.offer.OfferExtensions.{greatest_in}
-use Rattle.std.proofs.Common.{◌≡◌, length}
 
 -- the greatest so far, beside those of what is left
 abbrev pub invariant-loop-section : goal.invariant-loop-section

@@ -1,6 +1,6 @@
+use Rattle.exchange.proofs.Common.{◌≡◌, length}
 use Rattle.exchange.proofs.offer.offer_extensions.greatest_of.Given as goal
 use Rattle.exchange.specs.offer.OfferExtensions.{greatest_of}
-use Rattle.std.proofs.Common.{◌≡◌, length}
 
 -- the greatest so far, beside those of what is left
 abbrev pub invariant-loop-line : goal.invariant-loop-line

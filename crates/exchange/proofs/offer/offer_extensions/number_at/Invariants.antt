@@ -1,7 +1,6 @@
+use Rattle.exchange.proofs.Common.{◌≡◌, filter_map, length, first}
 use Rattle.exchange.proofs.offer.offer_extensions.number_at.Given as goal
 use Rattle.exchange.specs.offer.OfferExtensions.{number_at, number_of}
-use Rattle.std.proofs.Common.{◌≡◌, filter_map, length}
-use Rattle.str0m_sdp.specs.Common.{first}
 
 -- no line so far says the URI
 abbrev pub invariant-loop-line : goal.invariant-loop-line

@@ -1,6 +1,6 @@
+use Rattle.exchange.proofs.Common.{◌≡◌, length}
 use Rattle.exchange.proofs.offer.offer_extensions.number_in.Given as goal
 use Rattle.exchange.specs.offer.OfferExtensions.{number_in}
-use Rattle.std.proofs.Common.{◌≡◌, length}
 
 -- no section so far says the URI
 abbrev pub invariant-loop-section : goal.invariant-loop-section

@@ -1,6 +1,6 @@
+use Rattle.exchange.proofs.Common.{take}
 use Rattle.exchange.proofs.offer.offer_places.filled_places.Given as goal
 use Rattle.exchange.specs.offer.OfferPlaces.{FillsPlaces}
-use Rattle.std.proofs.Common.{take}
 
 -- the places so far, and what is left of what is added
 abbrev pub invariant-loop-at : goal.invariant-loop-at

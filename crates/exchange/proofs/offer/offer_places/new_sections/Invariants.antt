@@ -1,6 +1,6 @@
+use Rattle.exchange.proofs.Common.{◌≡◌, map, take}
 use Rattle.exchange.proofs.offer.offer_places.new_sections.Given as goal
 use Rattle.exchange.specs.offer.OfferSection.{new_section}
-use Rattle.std.proofs.Common.{◌≡◌, map, take}
 
 -- the sections so far
 abbrev pub invariant-loop-it : goal.invariant-loop-it

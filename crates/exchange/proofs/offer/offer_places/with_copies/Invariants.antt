@@ -1,5 +1,5 @@
+use Rattle.exchange.proofs.Common.{◌≡◌, ◌++◌, take}
 use Rattle.exchange.proofs.offer.offer_places.with_copies.Given as goal
-use Rattle.std.proofs.Common.{◌≡◌, ◌++◌, take}
 
 -- the copies so far after the others
 abbrev pub invariant-loop-section : goal.invariant-loop-section

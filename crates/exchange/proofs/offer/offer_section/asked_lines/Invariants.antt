@@ -1,6 +1,6 @@
+use Rattle.exchange.proofs.Common.{◌≡◌, take}
 use Rattle.exchange.proofs.offer.offer_section.asked_lines.Given as goal
 use Rattle.exchange.specs.offer.OfferSection.{asked_lines}
-use Rattle.std.proofs.Common.{◌≡◌, take}
 
 -- with the extensions so far
 abbrev pub invariant-loop-line : goal.invariant-loop-line

@@ -1,6 +1,6 @@
+use Rattle.exchange.proofs.Common.{◌≡◌, filter, option_copied, take}
 use Rattle.exchange.proofs.offer.offer_section.kept_lines.Given as goal
 use Rattle.exchange.specs.offer.OfferSection.{is_kept}
-use Rattle.std.proofs.Common.{◌≡◌, filter, option_copied, take}
 
 -- those so far that it goes on saying
 abbrev pub invariant-loop-line : goal.invariant-loop-line

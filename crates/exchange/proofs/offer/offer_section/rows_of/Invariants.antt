@@ -1,6 +1,6 @@
+use Rattle.exchange.proofs.Common.{◌≡◌, ◌++◌, true, length, kind_rows}
 use Rattle.exchange.proofs.offer.offer_section.rows_of.Given as goal
-use Rattle.std.proofs.Common.{◌≡◌, ◌++◌, true, length}
-use Rattle.str0m_formats.specs.row.KindRows.{kind_rows, rows_left}
+use Rattle.str0m_formats.specs.row.KindRows.{rows_left}
 
 -- the rows so far, then those that are left
 abbrev pub invariant-loop-row : goal.invariant-loop-row

@@ -1,9 +1,7 @@
+use Rattle.exchange.proofs.Common.{◌≡◌, List, ℕ, map, subst, sym, ◌+◌, ◌∙◌, BTreeSet, Bor}
 use Rattle.exchange.proofs.offer.OwnNameLaws.{AreOwn, all_own, named_again, own_more, own_same}
 use Rattle.exchange.proofs.offer.own_names.first_named_again.Goals as goal
 use Rattle.exchange.specs.section.Stopped.{name_of}
-use Rattle.std.proofs.Common.{◌≡◌, List, ℕ, map, subst, sym, ◌+◌, ◌∙◌}
-use Rattle.std.specs.BTreeSet.{BTreeSet}
-use Rattle.std.specs.Borrow.{Bor}
 
 pub returns-then-not-branch : goal.returns-then-not-branch
 returns-then-not-branch c =

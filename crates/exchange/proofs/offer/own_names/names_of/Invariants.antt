@@ -1,6 +1,6 @@
+use Rattle.exchange.proofs.Common.{◌≡◌, map, take}
 use Rattle.exchange.proofs.offer.own_names.names_of.Given as goal
 use Rattle.exchange.specs.section.Stopped.{name_of}
-use Rattle.std.proofs.Common.{◌≡◌, map, take}
 
 -- the names so far
 abbrev pub invariant-loop-section : goal.invariant-loop-section

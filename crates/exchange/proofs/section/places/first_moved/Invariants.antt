@@ -1,6 +1,6 @@
+use Rattle.exchange.proofs.Common.{ℕ, ◌<◌}
 use Rattle.exchange.proofs.section.places.first_moved.Given as goal
 use Rattle.exchange.specs.section.Places.{StaysInPlaceAt}
-use Rattle.std.proofs.Common.{ℕ, ◌<◌}
 
 -- the sections so far are in their places
 abbrev pub invariant-loop-at : goal.invariant-loop-at

@@ -1,6 +1,6 @@
+use Rattle.exchange.proofs.Common.{◌≡◌, filter, take}
 use Rattle.exchange.proofs.section.repeated_lines.repeated.Given as goal
 use Rattle.exchange.specs.section.RepeatedLines.{is_repeated}
-use Rattle.std.proofs.Common.{◌≡◌, filter, take}
 
 -- those so far that are repeated
 abbrev pub invariant-loop-line : goal.invariant-loop-line

@@ -1,7 +1,6 @@
+use Rattle.exchange.proofs.Common.{◌≤◌, length, arith, sym, ◌∙◌, below_more, false≢true, true≢false}
 use Rattle.exchange.proofs.section.RestartLaws.{no_restart}
 use Rattle.exchange.proofs.section.restart.is_ice_restart.Goals as goal
-use Rattle.std.proofs.Common.{◌≤◌, length, arith, sym, ◌∙◌, below_more}
-use Rattle.std.proofs.lemmas.Bool.{false≢true, true≢false}
 
 pub loop-at-preserved : goal.loop-at-preserved
 loop-at-preserved c =

@@ -1,10 +1,8 @@
+use Rattle.exchange.proofs.Common.{◌≡◌, List, Option, ℕ, filter, length, map, ap, ◌∙◌, take_all, MediaLine}
 use Rattle.exchange.proofs.section.RoundNameLaws.{one_each}
 use Rattle.exchange.proofs.section.round_names.negotiated_names.Goals as goal
 use Rattle.exchange.specs.section.RoundNames.{has_round, negotiated_names}
 use Rattle.exchange.specs.section.Stopped.{name_of}
-use Rattle.std.proofs.Common.{◌≡◌, List, Option, ℕ, filter, length, map, ap, ◌∙◌}
-use Rattle.std.proofs.lemmas.List.{take_all}
-use Rattle.str0m_sdp.specs.declared.section.media_line.MediaLine.{MediaLine}
 
 pub returns-clause-one_each : goal.returns-clause-one_each
 returns-clause-one_each c = λ before after outcomes negotiated.

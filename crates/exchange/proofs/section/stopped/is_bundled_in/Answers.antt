@@ -1,8 +1,7 @@
+use Rattle.exchange.proofs.Common.{ap, ◌∙◌, is_listed}
 use Rattle.exchange.proofs.section.StoppedLaws.{bundled_so}
 use Rattle.exchange.proofs.section.stopped.is_bundled_in.Goals as goal
 use Rattle.exchange.specs.answer.InBundle.{bundle_names}
-use Rattle.std.proofs.Common.{ap, ◌∙◌}
-use Rattle.str0m_sdp.specs.session.SessionConsistency.{is_listed}
 
 pub returns : goal.returns
 returns c =

@@ -1,8 +1,5 @@
+use Rattle.exchange.proofs.Common.{rules, tests, YieldsList-from_slice, first_by_find_map, mid_of}
 use Rattle.exchange.proofs.section.stopped.name_of.Goals as goal
-use Rattle.std.proofs.Common.{rules, tests}
-use Rattle.std.proofs.lemmas.Iterator.{YieldsList-from_slice}
-use Rattle.str0m_sdp.proofs.section.SectionAccessorsFinding.{first_by_find_map}
-use Rattle.str0m_sdp.specs.section.Consistency.{mid_of}
 
 pub returns : goal.returns
 returns c =

@@ -1,7 +1,6 @@
+use Rattle.exchange.proofs.Common.{IsCandidateLine, FirstLine}
 use Rattle.exchange.proofs.section.TrickledLaws.{none_so, only_so}
 use Rattle.exchange.proofs.section.trickled.only_candidate.Goals as goal
-use Rattle.str0m_signal.specs.form.CandidateLine.{IsCandidateLine}
-use Rattle.str0m_signal.specs.line.Lines.{FirstLine}
 
 pub returns-in-Ok : goal.returns-in-Ok
 returns-in-Ok c = only_so (FirstLine IsCandidateLine c.args.line.now) _ _ _ c.in-Ok.ensures.read c.in-Ok.ensures.one c.alone.ensures

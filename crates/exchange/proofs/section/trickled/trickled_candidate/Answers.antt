@@ -1,10 +1,7 @@
+use Rattle.exchange.proofs.Common.{ℕ, List, [], ◌∙◌, IsCandidateLine, FirstLine, Candidate}
 use Rattle.exchange.proofs.section.TrickledLaws.{along, one_candidate}
 use Rattle.exchange.proofs.section.trickled.trickled_candidate.Goals as goal
 use Rattle.exchange.specs.section.Trickled.{as_line}
-use Rattle.std.proofs.Common.{ℕ, List, [], ◌∙◌}
-use Rattle.str0m_signal.specs.form.CandidateLine.{IsCandidateLine}
-use Rattle.str0m_signal.specs.line.Lines.{FirstLine}
-use Rattle.str0m_values.specs.declared.candidate.Candidate.{Candidate}
 
 pub returns-in_err-line-clause-one : goal.returns-in_err-line-clause-one
 returns-in_err-line-clause-one c = one_candidate (as_line c.args.text.now)

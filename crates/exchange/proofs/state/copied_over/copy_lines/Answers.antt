@@ -1,9 +1,6 @@
+use Rattle.exchange.proofs.Common.{arith, ◌<◌, length, refl, sym, common_steps, AllZip-get_or, length_all_zip, Alike}
 use Rattle.exchange.proofs.state.CopiedOverLaws.{at_place, behind_place}
 use Rattle.exchange.proofs.state.copied_over.copy_lines.Goals as goal
-use Rattle.std.proofs.Common.{arith, ◌<◌, length, refl, sym}
-use Rattle.std.proofs.lemmas.Grind.{common_steps}
-use Rattle.std.proofs.lemmas.List.Elements.{AllZip-get_or, length_all_zip}
-use Rattle.str0m_sdp.specs.section.Alike.{Alike}
 
 pub loop-i-init : goal.loop-i-init
 loop-i-init c = (refl, sym (length_all_zip Alike _ _ c.requires), λ k d e le lt. AllZip-get_or Alike _ _ k d e c.requires lt)

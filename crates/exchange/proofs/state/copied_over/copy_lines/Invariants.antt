@@ -1,7 +1,6 @@
+use Rattle.exchange.proofs.Common.{◌≡◌, length, take, Alike}
 use Rattle.exchange.proofs.state.CopiedOverLaws.{FromOn}
 use Rattle.exchange.proofs.state.copied_over.copy_lines.Given as goal
-use Rattle.std.specs.Prelude.{◌≡◌, length, take}
-use Rattle.str0m_sdp.specs.section.Alike.{Alike}
 
 -- the lines so far are equal, there are as many as there were, and the others are as they were
 abbrev pub invariant-loop-i : goal.invariant-loop-i

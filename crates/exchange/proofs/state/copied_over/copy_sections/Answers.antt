@@ -1,9 +1,7 @@
+use Rattle.exchange.proofs.Common.{arith, ◌<◌, length, refl, sym, common_steps, AllZip-get_or, length_all_zip}
 use Rattle.exchange.proofs.state.CopiedOverLaws.{at_place, behind_place}
 use Rattle.exchange.proofs.state.copied_over.copy_sections.Goals as goal
 use Rattle.exchange.specs.state.ReadBack.{IsSectionReadAs}
-use Rattle.std.proofs.Common.{arith, ◌<◌, length, refl, sym}
-use Rattle.std.proofs.lemmas.Grind.{common_steps}
-use Rattle.std.proofs.lemmas.List.Elements.{AllZip-get_or, length_all_zip}
 
 pub loop-i-init : goal.loop-i-init
 loop-i-init c = (refl, sym (length_all_zip IsSectionReadAs _ _ c.requires), λ k d e le lt. AllZip-get_or IsSectionReadAs _ _ k d e c.requires lt)

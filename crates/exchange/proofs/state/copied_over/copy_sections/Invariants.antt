@@ -1,7 +1,7 @@
+use Rattle.exchange.proofs.Common.{◌≡◌, length, take}
 use Rattle.exchange.proofs.state.CopiedOverLaws.{FromOn}
 use Rattle.exchange.proofs.state.copied_over.copy_sections.Given as goal
 use Rattle.exchange.specs.state.ReadBack.{IsSectionReadAs}
-use Rattle.std.specs.Prelude.{◌≡◌, length, take}
 
 -- the sections so far are equal, there are as many as there were, and the others are as they were
 abbrev pub invariant-loop-i : goal.invariant-loop-i

@@ -1,9 +1,5 @@
+use Rattle.exchange.proofs.Common.{All, List, subst, sym, PayloadParams, AllDistinct, types, IsPlain}
 use Rattle.exchange.proofs.state.exchange.negotiated_by.Goals as goal
-use Rattle.std.proofs.Common.{All, List, subst, sym}
-use Rattle.str0m_formats.specs.declared.row.payload_params.PayloadParams.{PayloadParams}
-use Rattle.str0m_formats.specs.round.Claimed.{AllDistinct}
-use Rattle.str0m_formats.specs.row.PayloadParams.{types}
-use Rattle.str0m_formats.specs.row.PlainRow.{IsPlain}
 
 pub returns-clause-distinct : goal.returns-clause-distinct
 returns-clause-distinct c = λ distinct.

@@ -1,8 +1,7 @@
+use Rattle.exchange.proofs.Common.{◌≡◌, ℕ, List, rules, subst, versioned_text}
 use Rattle.exchange.proofs.state.ReadBackLaws.{found_alike, found_back}
 use Rattle.exchange.proofs.state.exchange.printable_copy.Goals as goal
 use Rattle.exchange.specs.state.ReadBack.{IsReadBack}
-use Rattle.std.proofs.Common.{◌≡◌, ℕ, List, rules, subst}
-use Rattle.str0m_sdp.specs.session.Session.{versioned_text}
 
 pub copy_over-requires : goal.copy_over-requires
 copy_over-requires c = found_alike c.args.sdp.now _ c.in-Some.copy c.in-Some.is c.in_ok-copy.ensures.alike

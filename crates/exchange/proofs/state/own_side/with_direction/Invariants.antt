@@ -1,6 +1,6 @@
+use Rattle.exchange.proofs.Common.{◌≡◌, filter, not, take}
 use Rattle.exchange.proofs.state.own_side.with_direction.Given as goal
 use Rattle.exchange.specs.state.OwnSide.{is_of}
-use Rattle.std.proofs.Common.{◌≡◌, filter, not, take}
 
 -- those so far that are of another name
 abbrev pub invariant-loop-entry : goal.invariant-loop-entry

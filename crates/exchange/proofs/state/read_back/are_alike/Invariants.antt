@@ -1,7 +1,5 @@
+use Rattle.exchange.proofs.Common.{length, ◌↔◌, AllZip, Alike}
 use Rattle.exchange.proofs.state.read_back.are_alike.Given as goal
-use Rattle.std.proofs.Common.{length, ◌↔◌}
-use Rattle.std.specs.List.{AllZip}
-use Rattle.str0m_sdp.specs.section.Alike.{Alike}
 
 -- all are alike where those are that are left
 abbrev pub invariant-loop-attr : goal.invariant-loop-attr

@@ -1,7 +1,6 @@
+use Rattle.exchange.proofs.Common.{length, ◌↔◌, AllZip}
 use Rattle.exchange.proofs.state.read_back.are_read_as.Given as goal
 use Rattle.exchange.specs.state.ReadBack.{IsSectionReadAs}
-use Rattle.std.proofs.Common.{length, ◌↔◌}
-use Rattle.std.specs.List.{AllZip}
 
 -- all are read so where those are that are left
 abbrev pub invariant-loop-section : goal.invariant-loop-section

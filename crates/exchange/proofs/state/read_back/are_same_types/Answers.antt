@@ -1,6 +1,6 @@
+use Rattle.exchange.proofs.Common.{sym, ◌∙◌}
 use Rattle.exchange.proofs.state.ReadBackEqual.{types_Decides}
 use Rattle.exchange.proofs.state.read_back.are_same_types.Goals as goal
-use Rattle.std.proofs.Common.{sym, ◌∙◌}
 
 pub returns : goal.returns
 returns c =

@@ -1,6 +1,6 @@
+use Rattle.lint.proofs.Common.{take}
 use Rattle.lint.proofs.fate.Ran.partners.Given as goal
 use Rattle.lint.specs.Fates.{ArePartners}
-use Rattle.std.proofs.Common.{take}
 
 -- the partners of the rows so far
 abbrev pub invariant-loop-i : goal.invariant-loop-i

@@ -1,3 +1,4 @@
+use Rattle.exchange.proofs.Common.{arith, ◌≡◌, ◌∙◌, Some, ap, length, option_map, subst, sym, common_steps, AllDistinct, LockedStay, types}
 use Rattle.exchange.proofs.answer.AnswerLaws.{misfit}
 use Rattle.exchange.proofs.state.ExchangeFollowLaws.{follows_done, open_names, sound_done}
 use Rattle.exchange.proofs.state.exchange.Exchange.accept_answer.Goals as goal
@@ -6,11 +7,6 @@ use Rattle.exchange.specs.declared.state.exchange.Exchange.{Exchange}
 use Rattle.exchange.specs.offer.AcceptedAnswer.{RefusesAnswer}
 use Rattle.exchange.specs.offer.Names.{grown}
 use Rattle.exchange.specs.state.State.{pending_sdp}
-use Rattle.std.proofs.Common.{arith, ◌≡◌, ◌∙◌, Some, ap, length, option_map, subst, sym}
-use Rattle.std.proofs.lemmas.Grind.{common_steps}
-use Rattle.str0m_formats.specs.round.Claimed.{AllDistinct}
-use Rattle.str0m_formats.specs.round.RoundsPromises.{LockedStay}
-use Rattle.str0m_formats.specs.row.PayloadParams.{types}
 
 pub returns-in_err-check_fit-clause-refused : goal.returns-in_err-check_fit-clause-refused
 returns-in_err-check_fit-clause-refused c =

@@ -1,3 +1,4 @@
+use Rattle.exchange.proofs.Common.{arith, rules, ◌≡◌, Some, ap, length, subst, sym, ◌∙◌, common_steps, AllDistinct, LockedStay, types, Sdp, versioned_text, AreDistinct, section_mids}
 use Rattle.exchange.proofs.answer.AnswerLaws.{unprintable}
 use Rattle.exchange.proofs.state.ExchangeFollowLaws.{follows_answer, none_open, sound_done}
 use Rattle.exchange.proofs.state.exchange.Exchange.accept_offer.Goals as goal
@@ -8,14 +9,6 @@ use Rattle.exchange.specs.offer.Names.{grown}
 use Rattle.exchange.specs.state.Exchange.{RefusesOffer}
 use Rattle.exchange.specs.state.ReadBack.{IsReadBack}
 use Rattle.exchange.specs.state.State.{state_of}
-use Rattle.std.proofs.Common.{arith, rules, ◌≡◌, Some, ap, length, subst, sym, ◌∙◌}
-use Rattle.std.proofs.lemmas.Grind.{common_steps}
-use Rattle.str0m_formats.specs.round.Claimed.{AllDistinct}
-use Rattle.str0m_formats.specs.round.RoundsPromises.{LockedStay}
-use Rattle.str0m_formats.specs.row.PayloadParams.{types}
-use Rattle.str0m_sdp.specs.declared.session.Sdp.{Sdp}
-use Rattle.str0m_sdp.specs.session.Session.{versioned_text}
-use Rattle.str0m_sdp.specs.session.SessionConsistency.{AreDistinct, section_mids}
 
 pub returns-in_err-local-clause-refused : goal.returns-in_err-local-clause-refused
 returns-in_err-local-clause-refused c =

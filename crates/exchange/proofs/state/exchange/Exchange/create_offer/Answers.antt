@@ -1,3 +1,4 @@
+use Rattle.exchange.proofs.Common.{refl, subst, sym, Sdp, versioned_text, AreDistinct, section_mids}
 use Rattle.exchange.proofs.state.ExchangeFollowLaws.{follows_same}
 use Rattle.exchange.proofs.state.ReadBackLaws.{copied}
 use Rattle.exchange.proofs.state.exchange.Exchange.create_offer.Goals as goal
@@ -5,10 +6,6 @@ use Rattle.exchange.specs.declared.offer.Offer.{Offer}
 use Rattle.exchange.specs.section.Places.{FollowsPlaces}
 use Rattle.exchange.specs.state.ReadBack.{IsReadBack}
 use Rattle.exchange.specs.state.State.{sections_of}
-use Rattle.std.proofs.Common.{refl, subst, sym}
-use Rattle.str0m_sdp.specs.declared.session.Sdp.{Sdp}
-use Rattle.str0m_sdp.specs.session.Session.{versioned_text}
-use Rattle.str0m_sdp.specs.session.SessionConsistency.{AreDistinct, section_mids}
 
 pub returns-clause-read_back : goal.returns-clause-read_back
 returns-clause-read_back c =
