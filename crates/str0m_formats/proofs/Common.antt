@@ -35,14 +35,11 @@ pub use Rattle.std.specs.Option.{ok_or, option_or, option_to_list, option_eq, op
 pub use Rattle.std.specs.Prelude.{codes, unwrap_or, IsOk, IsAscii}
 pub use Rattle.std.specs.Str.{bytes_eq, str_eq_ignore_ascii_case, str_to_ascii_lowercase, trim, trim_end, trim_start, skip_leading_whitespace, drop_trailing_whitespace}
 pub use Rattle.std.specs.Str.Parse.{AllDigits, digits_value, IsNumeral}
+pub use Rattle.str0m_formats.specs.Prelude.{num, when, ◌<|>◌, ◌>>=◌, lacks, IsTheOnly, IsNum, IsNumber, receives, H265ProfileTierLevel, H266ProfileTierLevel, H264ProfileLevel, ProfileTierLevel}
+pub use Rattle.str0m_values.proofs.AddressWords.{lacks_both}
+pub use Rattle.str0m_values.proofs.CutLaws.{cut_at, cut_none, lacks_true, lacks_from}
 pub use Rattle.str0m_values.proofs.CutsBothWays.{bind_some, reads_none, some_is, reads_first, Reads, none_reads}
 pub use Rattle.str0m_values.proofs.CutsNumLaws.{num_found, num_only, num_reads, when_some, when_true, parsed_ok, parsed_err}
 pub use Rattle.str0m_values.proofs.CutsOnlyLaws.{only_read}
-pub use Rattle.str0m_values.specs.Cuts.{num, when, ◌<|>◌, ◌>>=◌, lacks, IsTheOnly}
-pub use Rattle.str0m_values.specs.CutsParts.{IsNum, IsNumber, IsRest, Lacks, IsGiven, lay}
-pub use Rattle.str0m_values.specs.Direction.{receives}
-pub use Rattle.str0m_values.specs.H265.{H265ProfileTierLevel}
-pub use Rattle.str0m_values.specs.H266.{H266ProfileTierLevel}
-pub use Rattle.str0m_values.specs.declared.h264.H264ProfileLevel.{H264ProfileLevel}
-pub use Rattle.str0m_values.specs.declared.profile_tier_level.ProfileTierLevel.{ProfileTierLevel}
+pub use Rattle.str0m_values.specs.CutsParts.{IsRest, Lacks, IsGiven, lay}
 pub use mathlib.Core.Path.{fun_ext}

@@ -31,24 +31,15 @@ pub use Rattle.str0m_formats.proofs.codec.CodecSpecStatic.{needs_none, static_sm
 pub use Rattle.str0m_formats.proofs.format.FormatParamEqual.{param_Decides}
 pub use Rattle.str0m_formats.proofs.format.FormatParamsDerived.{Equality, along, equality, word}
 pub use Rattle.str0m_formats.proofs.round.ClaimedTimes.{times-append, times-cons, one_if, times-some}
-pub use Rattle.str0m_formats.specs.codec.Codec.{content, events, other, Content, audio, video}
-pub use Rattle.str0m_formats.specs.codec.CodecSpec.{rtp_rate, static_spec}
-pub use Rattle.str0m_formats.specs.declared.codec.Codec.{Codec}
-pub use Rattle.str0m_formats.specs.declared.codec.codec_spec.CodecSpec.{CodecSpec}
-pub use Rattle.str0m_formats.specs.declared.format.format_param.FormatParam.{FormatParam}
+pub use Rattle.str0m_formats.specs.codec.Codec.{events, other, Content, audio, video}
 pub use Rattle.str0m_formats.specs.declared.format.format_param.FormatParam.TheVariants.{Apt, BarePtList, BareRange}
-pub use Rattle.str0m_formats.specs.declared.format.format_params.FormatParams.{FormatParams}
-pub use Rattle.str0m_formats.specs.declared.row.payload_params.PayloadParams.{PayloadParams}
-pub use Rattle.str0m_formats.specs.format.FormatLine.{format_of_fmtp, is_refused, line_values, events_end, is_events, kept, values_of}
-pub use Rattle.str0m_formats.specs.format.FormatParams.{empty, set_all}
-pub use Rattle.str0m_formats.specs.round.Claimed.{AllDistinct, has, times}
+pub use Rattle.str0m_formats.specs.format.FormatLine.{is_refused, events_end, is_events, kept, values_of}
+pub use Rattle.str0m_formats.specs.format.FormatParams.{set_all}
+pub use Rattle.str0m_formats.specs.round.Claimed.{AllDistinct, times}
 pub use Rattle.str0m_formats.specs.round.MatchScore.{same_codec}
-pub use Rattle.str0m_formats.specs.row.PayloadParams.{SameRow, types, types_of, has_pictures}
+pub use Rattle.str0m_formats.specs.row.PayloadParams.{SameRow}
 pub use Rattle.str0m_formats.specs.row.PlainRow.{IsPlain, IsPlainG722}
-pub use Rattle.str0m_formats.specs.row.PlainRowBounds.{IsBounded, AreModes, IsDistance, HoldsRowNumbers}
-pub use Rattle.str0m_values.specs.Cuts.{when, ◌<|>◌, ◌>>=◌, cut, before}
-pub use Rattle.str0m_values.specs.declared.address.IpAddr.{IpAddr}
+pub use Rattle.str0m_formats.specs.row.PlainRowBounds.{HoldsRowNumbers}
+pub use Rattle.str0m_sdp.specs.Prelude.{content, rtp_rate, static_spec, Codec, CodecSpec, FormatParam, FormatParams, PayloadParams, format_of_fmtp, line_values, empty, has, types, types_of, has_pictures, IsBounded, AreModes, IsDistance, when, ◌<|>◌, ◌>>=◌, cut, before, IpAddr, SocketAddr, Candidate}
 pub use Rattle.str0m_values.specs.declared.address.IpAddr.TheVariants.{V4, V6}
-pub use Rattle.str0m_values.specs.declared.address.SocketAddr.{SocketAddr}
-pub use Rattle.str0m_values.specs.declared.candidate.Candidate.{Candidate}
 pub use denote.Enum.Bare.{same_true, sameb}

@@ -22,50 +22,38 @@ pub use Rattle.str0m_formats.proofs.format.FormatLineAgain.{printed_pairs, joine
 pub use Rattle.str0m_formats.proofs.format.FormatParamAgain.{parsed_printed, decimal_reads}
 pub use Rattle.str0m_formats.proofs.format.FormatParamsShown.{IsPlainPair, joined_pair, decimal_plain}
 pub use Rattle.str0m_formats.proofs.format.PairsLaws.{pairs_read_is, pairs_read_only}
-pub use Rattle.str0m_formats.specs.codec.Codec.{codec_of, printed_and_read, content, other, IsReadAs, codec_text}
+pub use Rattle.str0m_formats.specs.codec.Codec.{printed_and_read, content, other, codec_text}
 pub use Rattle.str0m_formats.specs.declared.codec.Codec.{Codec}
-pub use Rattle.str0m_formats.specs.declared.format.format_param.FormatParam.{FormatParam}
 pub use Rattle.str0m_formats.specs.declared.format.format_param.FormatParam.TheVariants.{Apt, BarePtList, BareRange, Red, TelephoneEvents, Unknown}
 pub use Rattle.str0m_formats.specs.declared.round.rounds.Round.{Round}
-pub use Rattle.str0m_formats.specs.declared.row.payload_params.PayloadParams.{PayloadParams}
-pub use Rattle.str0m_formats.specs.format.FormatParam.{pair_texts, param_text, IsEventRange, IsParsed, AreParsed}
+pub use Rattle.str0m_formats.specs.format.FormatParam.{param_text, IsParsed, AreParsed}
 pub use Rattle.str0m_formats.specs.format.Pairs.{has_mark, AreRead, AreJoined, merged}
 pub use Rattle.str0m_formats.specs.format.PairsReading.{params_read}
-pub use Rattle.str0m_formats.specs.round.Claimed.{AllDistinct, times}
+pub use Rattle.str0m_formats.specs.round.Claimed.{times}
 pub use Rattle.str0m_formats.specs.round.Narrowing.{telephone_max}
-pub use Rattle.str0m_formats.specs.row.PayloadParams.{types, types_of, AllSmall}
-pub use Rattle.str0m_formats.specs.row.PlainRow.{IsPlain}
+pub use Rattle.str0m_formats.specs.row.PayloadParams.{types_of, AllSmall}
 pub use Rattle.str0m_formats.specs.row.PlainRowBounds.{HoldsRowNumbers, IsBounded, IsByte}
 pub use Rattle.str0m_sdp.proofs.section.MadeSectionValues.{values_printed, describes_read_back, line_read, values_read, printed_line}
 pub use Rattle.str0m_sdp.proofs.section.RowAttributesReads.{reads, fmtp_lines, red_reads}
-pub use Rattle.str0m_sdp.specs.attribute.Attribute.{media_attribute_text, session_attribute_text, media_words, session_words}
-pub use Rattle.str0m_sdp.specs.attribute.Bandwidth.{bandwidth_text, bandwidth_line}
+pub use Rattle.str0m_sdp.specs.attribute.Bandwidth.{bandwidth_line}
 pub use Rattle.str0m_sdp.specs.attribute.Fmtp.{is_shown, shown_line}
-pub use Rattle.str0m_sdp.specs.attribute.MediaType.{is_media, media_type_text}
+pub use Rattle.str0m_sdp.specs.attribute.MediaType.{media_type_text}
 pub use Rattle.str0m_sdp.specs.attribute.RtpMap.{map_of_spec, channels_text, rtp_map_text}
-pub use Rattle.str0m_sdp.specs.attribute.Setup.{setup_text}
 pub use Rattle.str0m_sdp.specs.attribute.Simulcast.{name_text, id_text, layer_text, layers_text, sides_text, unless_munged}
-pub use Rattle.str0m_sdp.specs.declared.attribute.MediaAttribute.{MediaAttribute}
 pub use Rattle.str0m_sdp.specs.declared.attribute.MediaAttribute.TheVariants.{Fmtp, RtcpFb, RtpMap, Simulcast, Fingerprint, Setup, Mid, Candidate, SsrcGroup, Unused}
-pub use Rattle.str0m_sdp.specs.declared.attribute.SessionAttribute.{SessionAttribute}
-pub use Rattle.str0m_sdp.specs.declared.attribute.bandwidth.Bandwidth.{Bandwidth}
-pub use Rattle.str0m_sdp.specs.declared.attribute.media_type.MediaType.{MediaType}
-pub use Rattle.str0m_sdp.specs.declared.attribute.proto.Proto.{Proto}
 pub use Rattle.str0m_sdp.specs.declared.attribute.proto.Proto.TheVariants.{Sctp, Srtp}
-pub use Rattle.str0m_sdp.specs.declared.attribute.simulcast.RestrictionId.{RestrictionId}
-pub use Rattle.str0m_sdp.specs.declared.attribute.simulcast.SimulcastLayer.{SimulcastLayer}
+pub use Rattle.str0m_sdp.specs.declared.attribute.setup.Setup.TheVariants.{ActPass}
+pub use Rattle.str0m_sdp.specs.declared.attribute.setup.TheConstants.{SETUPS}
 pub use Rattle.str0m_sdp.specs.declared.label.TheConstants.{AUDIO, SCTP, SRTP, VIDEO, TRANSPORT_CC, REMB, FIR, NACK, PLI, APPLICATION}
-pub use Rattle.str0m_sdp.specs.declared.section.media_line.MediaLine.{MediaLine}
-pub use Rattle.str0m_sdp.specs.declared.session.Sdp.{Sdp}
 pub use Rattle.str0m_sdp.specs.declared.session.Session.{Session}
 pub use Rattle.str0m_sdp.specs.declared.session.error.SdpError.{SdpError}
-pub use Rattle.str0m_sdp.specs.form.Printed.{attribute_line, line_end}
-pub use Rattle.str0m_sdp.specs.section.Consistency.{AgreesOnApt, Consistent, NoneIff, IsMapped, NamesNoOther, apt_of, apt_among, apt_in, first_apt, maps, is_mid, is_setup, is_direction}
-pub use Rattle.str0m_sdp.specs.section.MadeSection.{is_of_type, made}
+pub use Rattle.str0m_sdp.specs.form.Printed.{attribute_line}
+pub use Rattle.str0m_sdp.specs.section.Consistency.{AgreesOnApt, NoneIff, IsMapped, NamesNoOther, apt_of, apt_among, apt_in, first_apt, maps}
 pub use Rattle.str0m_sdp.specs.section.MediaLine.{formats_text, m_line, media_line_text, pts_text, port_text}
 pub use Rattle.str0m_sdp.specs.section.RowAttributes.{row_attrs, feedback_line, feedback_attrs, fmtp_line, format_values, format_attrs, rtx_lines, rtx_attrs, red_lines, red_attrs}
-pub use Rattle.str0m_sdp.specs.section.SectionRows.{HasBoundedRows, KeepsToLine, IsInRange, KeepsToLines}
-pub use Rattle.str0m_sdp.specs.session.Session.{sdp_text, origin_line, session_text}
+pub use Rattle.str0m_sdp.specs.section.SectionRows.{KeepsToLine, IsInRange, KeepsToLines}
+pub use Rattle.str0m_sdp.specs.session.Session.{origin_line, session_text}
+pub use Rattle.str0m_signal.specs.Prelude.{codec_of, IsReadAs, FormatParam, PayloadParams, pair_texts, IsEventRange, AllDistinct, types, IsPlain, media_attribute_text, session_attribute_text, media_words, session_words, bandwidth_text, is_media, setup_text, MediaAttribute, SessionAttribute, Bandwidth, MediaType, Proto, RestrictionId, SimulcastLayer, MediaLine, Sdp, line_end, Consistent, is_mid, is_setup, is_direction, is_of_type, made, HasBoundedRows, sdp_text, Parted, IsCandidateText, before, cut, is_rest, lacks, num, strip, when, ◌<|>◌, ◌>>=◌, IsTheOnly, FirstFit, IsNum, IsPt, IsRest, IsWord, Lacks, IsWithout, code, beginning_of, IsLongestBeginning}
 pub use Rattle.str0m_values.proofs.AddressWords.{lacks_both}
 pub use Rattle.str0m_values.proofs.CandidateLaws.{candidate_both}
 pub use Rattle.str0m_values.proofs.CandidateParts.{num_both}
@@ -73,12 +61,10 @@ pub use Rattle.str0m_values.proofs.CutLaws.{before_front, cut_at, cut_found, cut
 pub use Rattle.str0m_values.proofs.CutsBothWays.{bind_some, if_some, or_some, reads_first, some_is, Sound, sound_or, reads_either, Reads, one_value, none_reads, reads_none}
 pub use Rattle.str0m_values.proofs.CutsNumLaws.{digits_lack, num_found, num_reads, number_lacks, parsed_whole, rest_true, when_some, when_true}
 pub use Rattle.str0m_values.proofs.IdentifierBeginnings.{beginning_is, beginning_only}
-pub use Rattle.str0m_values.specs.Address.{IsOctet, IsGroup, IsOneGroup, IsEnd, AreGroups, AreAnyGroups, IsIpText, pairs, ip_text, Parted}
-pub use Rattle.str0m_values.specs.Candidate.{candidate_text, IsCandidateText, IsSocket, IsRelated, AreNames, IsSocketInRange, IsPrintable, socket_text, related_text, extras_text}
-pub use Rattle.str0m_values.specs.Cuts.{before, cut, is_rest, lacks, num, strip, when, ◌<|>◌, ◌>>=◌, front, IsTheOnly}
-pub use Rattle.str0m_values.specs.CutsParts.{FirstFit, IsNum, IsPt, IsRest, IsWord, Lacks, IsWithout}
+pub use Rattle.str0m_values.proofs.WordsOfCases.{reads_words}
+pub use Rattle.str0m_values.specs.Address.{IsOctet, IsGroup, IsOneGroup, IsEnd, AreGroups, AreAnyGroups, IsIpText, pairs, ip_text}
+pub use Rattle.str0m_values.specs.Candidate.{candidate_text, IsSocket, IsRelated, AreNames, IsSocketInRange, IsPrintable, socket_text, related_text, extras_text}
+pub use Rattle.str0m_values.specs.Cuts.{front}
 pub use Rattle.str0m_values.specs.Fingerprint.{hex_pair, pairs_text, fingerprint_text}
-pub use Rattle.str0m_values.specs.Separator.{code}
-pub use Rattle.str0m_values.specs.ShortText.{beginning_of, IsLongestBeginning}
 pub use denote.Shadow.{shadow}
 pub use denote.Text.{Utf8}

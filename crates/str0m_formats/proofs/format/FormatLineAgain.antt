@@ -1,6 +1,5 @@
 -- A format that is printed, and read by its line, is itself.
-use Rattle.std.proofs.Common.{filter_map}
-use Rattle.str0m_formats.proofs.Common.{rules, ◌≡◌, ◌<◌, ◌≤◌, ◌⊎◌, inl, inr, ℕ, Bool, true, false, cond, List, [], ◌∷◌, ◌++◌, length, drop, map, filter, Option, Some, None, IfSome, Result, option_map, refl, sym, ap, subst, ◌∙◌, arith, codes, decimal, AllByRecursion, AllZip, cons_option, flat_map, join_with_byte, list_all, digits_value, and_parts, false_from_ne_true, decimal_is_IsNumeral, append_assoc, append-nil, map-append, filter_map-append, none-some, IfOk, lacks}
+use Rattle.str0m_formats.proofs.Common.{rules, ◌≡◌, ◌<◌, ◌≤◌, ◌⊎◌, inl, inr, ℕ, Bool, true, false, cond, List, [], ◌∷◌, ◌++◌, length, drop, map, filter, Option, Some, None, IfSome, Result, option_map, refl, sym, ap, subst, ◌∙◌, arith, codes, decimal, AllByRecursion, AllZip, cons_option, flat_map, join_with_byte, list_all, digits_value, and_parts, false_from_ne_true, decimal_is_IsNumeral, append_assoc, append-nil, map-append, filter_map-append, none-some, IfOk, lacks, filter_map, lacks_both, cut_at, cut_none, lacks_true, lacks_from, H265ProfileTierLevel as h265_triple, H266ProfileTierLevel as h266_triple}
 use Rattle.str0m_formats.proofs.format.FormatLineLaws.{set_all-append}
 use Rattle.str0m_formats.proofs.format.FormatParamsSet.{filled, are_fresh, set_each}
 use Rattle.str0m_formats.proofs.format.FormatParamsShown.{rows_at, bares_at, joined_pair, pieces_at, IsPlainPair, IsShown, shows, is_single, reads}
@@ -23,10 +22,6 @@ use Rattle.str0m_formats.specs.format.FormatParamReading.{param_of}
 use Rattle.str0m_formats.specs.format.FormatParams.{empty, get, set_all, param_at, params_of, params_text, IsWithin, CanBeReadBack}
 use Rattle.str0m_formats.specs.format.Pairs.{has_mark, merged, others, texts_of}
 use Rattle.str0m_formats.specs.format.PairsReading.{triple_read, joined_read, params_read}
-use Rattle.str0m_values.proofs.AddressWords.{lacks_both}
-use Rattle.str0m_values.proofs.CutLaws.{cut_at, cut_none, lacks_true, lacks_from}
-use Rattle.str0m_values.specs.H265.{H265ProfileTierLevel as h265_triple}
-use Rattle.str0m_values.specs.H266.{H266ProfileTierLevel as h266_triple}
 
 -- ---- lists of fields
 

@@ -1,6 +1,5 @@
 -- A format that is printed as an fmtp line: its pairs, and what they read as.
-use Rattle.std.proofs.Common.{filter_map}
-use Rattle.str0m_formats.proofs.Common.{◌≡◌, ◌≢◌, ℕ, false, List, [], ◌∷◌, ◌++◌, length, map, Option, Some, None, IfSome, option_map, inl, inr, refl, sym, arith, ap, subst, ◌∙◌, AllByRecursion, cons_option, list_any, append-nil, map-append, IsRest}
+use Rattle.str0m_formats.proofs.Common.{◌≡◌, ◌≢◌, ℕ, false, List, [], ◌∷◌, ◌++◌, length, map, Option, Some, None, IfSome, option_map, inl, inr, refl, sym, arith, ap, subst, ◌∙◌, AllByRecursion, cons_option, list_any, append-nil, map-append, IsRest, filter_map}
 use Rattle.str0m_formats.proofs.format.FormatLineAgain.{all_pieces, all_pairs, joined, alike, order_of}
 use Rattle.str0m_formats.proofs.format.FormatParamsSet.{param_is, set_each}
 use Rattle.str0m_formats.proofs.format.FormatParamsShown.{joined_pair, rows_at, bares_at, IsPlainPair, entry_at, shows}

@@ -1,8 +1,7 @@
 -- The modes of a text are the bits of its mask.
 use Rattle.std.proofs.Math.Seq.{get_or-append_seam}
 use Rattle.std.proofs.lemmas.List.Quantifiers.{Any-push}
-use Rattle.std.specs.Int.Bits.{bit_or}
-use Rattle.str0m_formats.proofs.Common.{◌≡◌, ◌<◌, ◌^◌, ◌*◌, ◌%◌, ◌⊎◌, inl, inr, ℕ, List, [], ◌∷◌, ◌++◌, ◌==◌, length, get_or, Some, None, Option, sym, ap, ◌∙◌, arith, subst, bit_at, cases_lt, eqb_tells, and_pow, bit_at-lt, bit_at_set_same, bit_at_set_other, same_from_bits, length-append, All-push, IsTheOnly, num_only, ◌>>=◌, num, trim, slice_split, append_assoc, append-nil, Any, IsBitSet, w16, get_or_append_left, pow_pos}
+use Rattle.str0m_formats.proofs.Common.{◌≡◌, ◌<◌, ◌^◌, ◌*◌, ◌%◌, ◌⊎◌, inl, inr, ℕ, List, [], ◌∷◌, ◌++◌, ◌==◌, length, get_or, Some, None, Option, sym, ap, ◌∙◌, arith, subst, bit_at, cases_lt, eqb_tells, and_pow, bit_at-lt, bit_at_set_same, bit_at_set_other, same_from_bits, length-append, All-push, IsTheOnly, num_only, ◌>>=◌, num, trim, slice_split, append_assoc, append-nil, Any, IsBitSet, w16, get_or_append_left, pow_pos, bit_or}
 use Rattle.str0m_formats.proofs.format.FormatParamOnly.{only_same}
 use Rattle.str0m_formats.proofs.format.ParamTextPrinted.{shifted_one}
 use Rattle.str0m_formats.specs.format.FormatParam.{IsMode, IsMask, IsModeSet}

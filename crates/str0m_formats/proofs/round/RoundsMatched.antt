@@ -1,6 +1,5 @@
 -- Which rows a round locks, and at which types.
-use Rattle.std.specs.Prelude.{Contains}
-use Rattle.str0m_formats.proofs.Common.{arith, ◌≡◌, ◌≢◌, ℕ, Bool, true, false, not, ◌&&◌, List, Option, Some, None, Ok, refl, sym, ap, ◌∙◌, subst, fun_ext}
+use Rattle.str0m_formats.proofs.Common.{arith, ◌≡◌, ◌≢◌, ℕ, Bool, true, false, not, ◌&&◌, List, Option, Some, None, Ok, refl, sym, ap, ◌∙◌, subst, fun_ext, Contains}
 use Rattle.str0m_formats.proofs.round.FirstPass.{and_then-ok, same_Ok, locked_to-locks, placed-open_row, placed-no_choice, locked_parts}
 use Rattle.str0m_formats.proofs.round.RoundsLocked.{locked_stay}
 use Rattle.str0m_formats.proofs.round.RoundsPasses.{split_has}

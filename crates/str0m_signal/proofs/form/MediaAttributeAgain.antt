@@ -2,11 +2,9 @@
 use Rattle.str0m_formats.specs.declared.codec.Codec.TheVariants as codec
 use Rattle.str0m_sdp.specs.declared.attribute.rtp_map.RtpMap.{RtpMap as Mapping}
 use Rattle.str0m_sdp.specs.declared.attribute.setup.Setup.{Setup as Role}
-use Rattle.str0m_sdp.specs.declared.attribute.setup.Setup.TheVariants.{ActPass}
-use Rattle.str0m_sdp.specs.declared.attribute.setup.TheConstants.{SETUPS}
 use Rattle.str0m_sdp.specs.declared.attribute.simulcast.Simulcast.{Simulcast as TheSimulcast}
 use Rattle.str0m_sdp.specs.declared.label.TheConstants as label
-use Rattle.str0m_signal.proofs.Common.{arith, ◌≡◌, ◌⊎◌, ◌≤◌, ℕ, Bool, true, false, false≢true, List, [], ◌∷◌, ◌++◌, Option, Some, IfSome, refl, ap, ◌∙◌, subst, sym, lit<, lit≤, inl, inr, codes, printed_and_read, Codec, media_attribute_text, is_shown, attribute_line, KeepsToLine, setup_text, MediaAttribute, Fmtp, RestrictionId, SimulcastLayer, candidate_text, candidate_both, IsCandidateText, Parted, IsLongestBeginning, decimal, join_by, length, ltb-true, Lacks, IsNum, is_rest, beginning_of, beginning_is, beginning_only, lacks_from, rest_true, when_some, when_true, IsReadAs, RtpMap, Simulcast, filter, sides_text, unless_munged, Fingerprint, Setup, Mid, Candidate, SsrcGroup, Unused, fingerprint_text, media_words}
+use Rattle.str0m_signal.proofs.Common.{arith, ◌≡◌, ◌⊎◌, ◌≤◌, ℕ, Bool, true, false, false≢true, List, [], ◌∷◌, ◌++◌, Option, Some, IfSome, refl, ap, ◌∙◌, subst, sym, lit<, lit≤, inl, inr, codes, printed_and_read, Codec, media_attribute_text, is_shown, attribute_line, KeepsToLine, setup_text, MediaAttribute, Fmtp, RestrictionId, SimulcastLayer, candidate_text, candidate_both, IsCandidateText, Parted, IsLongestBeginning, decimal, join_by, length, ltb-true, Lacks, IsNum, is_rest, beginning_of, beginning_is, beginning_only, lacks_from, rest_true, when_some, when_true, IsReadAs, RtpMap, Simulcast, filter, sides_text, unless_munged, Fingerprint, Setup, Mid, Candidate, SsrcGroup, Unused, fingerprint_text, media_words, ActPass, SETUPS, reads_words}
 use Rattle.str0m_signal.proofs.form.CandidateLineAgain.{candidate_again}
 use Rattle.str0m_signal.proofs.form.CandidateLineLaws.{candidate_begins}
 use Rattle.str0m_signal.proofs.form.FmtpAgain.{fmtp_again}
@@ -36,7 +34,6 @@ use Rattle.str0m_signal.specs.form.RtpMap.{IsChannels, IsRtpMap}
 use Rattle.str0m_signal.specs.form.Simulcast.{AreSides, IsSimulcast}
 use Rattle.str0m_signal.specs.form.SimulcastReading.{simulcast_fields_read}
 use Rattle.str0m_signal.specs.line.Words.{IsHexPair}
-use Rattle.str0m_values.proofs.WordsOfCases.{reads_words}
 use Rattle.str0m_values.specs.Words.{case_of}
 use Rattle.str0m_values.specs.declared.candidate.Candidate.{Candidate as TheCandidate}
 use Rattle.str0m_values.specs.declared.candidate_label.TheConstants as candidate_label

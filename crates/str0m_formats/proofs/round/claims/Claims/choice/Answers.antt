@@ -1,5 +1,4 @@
-use Rattle.std.proofs.Common.{Bor}
-use Rattle.str0m_formats.proofs.Common.{ℕ, List, Option, sym, subst, take_all}
+use Rattle.str0m_formats.proofs.Common.{ℕ, List, Option, sym, subst, take_all, Bor}
 use Rattle.str0m_formats.proofs.round.ChoiceSteps.{IsChoiceSoFar, choice_next}
 use Rattle.str0m_formats.proofs.round.claims.Claims.choice.Goals as goal
 use Rattle.str0m_formats.specs.declared.row.payload_params.PayloadParams.{PayloadParams}

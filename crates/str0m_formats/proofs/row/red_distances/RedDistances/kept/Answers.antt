@@ -1,5 +1,4 @@
-use Rattle.std.proofs.Math.ListN.{length-set}
-use Rattle.str0m_formats.proofs.Common.{◌≡◌, ℕ, List, sym, ap, ◌∙◌, subst, rules, arith}
+use Rattle.str0m_formats.proofs.Common.{◌≡◌, ℕ, List, sym, ap, ◌∙◌, subst, rules, arith, length-set}
 use Rattle.str0m_formats.proofs.row.RedDistances.{kept_none, kept_taken, kept_skipped, kept_distances}
 use Rattle.str0m_formats.proofs.row.red_distances.RedDistances.kept.Goals as goal
 use Rattle.str0m_formats.proofs.row.red_distances.RedDistances.kept.Goals.{then-is_kept, else-is_kept}
