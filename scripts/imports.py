@@ -10,7 +10,7 @@ from pathlib import Path
 from proved import TOP
 
 USE = re.compile(r"^( *)(pub )?(?:ghost )?use Rattle\.(\w+)\.(specs|proofs)\.([\w.-]+?)(?:\.\{([^}]*)\}| as (\S+?))?;?$", re.M)
-IN_CODE = re.compile(r"\bcrate::(specs|proofs)::([\w:-]+)")
+IN_CODE = re.compile(r"\b(\w+)::(specs|proofs)::([\w:-]+)")
 CONSTRUCTOR = re.compile(r"^  ([^\s:(]+) :", re.M)
 WRITTEN = {"Given", "Goals", "Answers", "Invariants", "Ends", "Entry", "Statement", "Code"}  # (of a function, by rattle)
 OF_TYPES = {"TheLaws", "TheSendSync"}  # (of a type, by rattle)
@@ -139,11 +139,12 @@ def faults_of_uses(file, crate, text):
 
 def faults_of_paths(crate, text):
     """What is wrong with the definitions and lemmas that code names by their paths."""
-    for part, path in IN_CODE.findall(text):
+    for of, part, path in IN_CODE.findall(text):
         *module, name = path.split("::")
-        fault = fault_of(crate, crate, part, module, [(name, name)])
+        of = crate if of == "crate" else of
+        fault = fault_of(crate, of, part, module, [(name, name)]) if (crates() / of).is_dir() else None
         if fault:
-            yield f"crate::{part}::{path}: {fault}"
+            yield f"{of}::{part}::{path}: {fault}"
 
 
 def faults_of(file):

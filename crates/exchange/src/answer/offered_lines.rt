@@ -13,7 +13,7 @@ fn needs_offer(line: &MediaAttribute) -> bool
     )
 }
 
-#[tactic(auto, using(str0m_sdp::proofs::AttributeEqual::media_Decides))]
+#[tactic(auto, using(str0m_sdp::proofs::attribute::AttributeEqual::media_Decides))]
 fn is_same(line: &MediaAttribute, other: &MediaAttribute) -> bool
     ensures { IsTrue result ↔ (line.now ≡ other.now) }
 {

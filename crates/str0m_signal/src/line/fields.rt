@@ -82,7 +82,7 @@ pub(crate) fn num_u64(text: &str) -> Option<u64>
 }
 
 /// A name, as far as it is kept.
-#[tactic(auto, using(str0m_values::proofs::Beginnings::beginning_only))]
+#[tactic(auto, using(str0m_values::proofs::IdentifierBeginnings::beginning_only))]
 pub(crate) fn short(name: &str) -> Mid
     ensures { result ≡ beginning_of 16 name.now }
 {
