@@ -13,7 +13,7 @@ from dataclasses import dataclass
 from case_files import read_cases
 from proved import TOP
 
-CASES, TESTS = ("plain_cases", "cases"), ("tests",)
+CASES, TESTS = ("format_cases", "cases"), ("tests",)
 COMMON = ("clone", "push")  # methods that values of std have, too
 BLOCK = re.compile(r"^(?:impl(?:<[^{]*?>)? (?:(?P<trait>\w+)[^{]*? for )?(?P<type>\w+)[^{]*)\{$", re.MULTILINE)
 FUNCTION = re.compile(r"^ *(?P<public>pub )?(?P<inner>pub\(\w+\) )?(?:const )?fn (?P<name>\w+)(?:<.*?>)?\(", re.MULTILINE)

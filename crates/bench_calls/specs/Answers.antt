@@ -29,5 +29,5 @@ abbrev pub HasAnswered : List ℕ → ℕ → Type 0
 HasAnswered text told = (offer : Sdp) × IsOffer text offer × (told ≡ sections offer)
 
 -- a call tells what is said of its number, or else the greatest of 64 bits: that there is no description, or no memory
-abbrev pub Tells : (ℕ → Type 0) → ℕ → Type 0
-Tells holds told = told ≢ 2 ^ 64 - 1 → holds told
+abbrev pub TellsNumber : (ℕ → Type 0) → ℕ → Type 0
+TellsNumber holds told = told ≢ 2 ^ 64 - 1 → holds told

@@ -1,5 +1,5 @@
 -- How calls change a configuration.
-use Rattle.c_calls.specs.Prelude.{Codec, CodecConfig, FormatParams, IsFormatOfLine, PayloadParams, codec_at, default_rows, enabled_rows, new_row, unless}
+use Rattle.c_calls.specs.Prelude.{Codec, CodecConfig, FormatParams, IsFormatOfLine, PayloadParams, codec_at, default_rows, enabled_rows, new_row, said_unless}
 use Rattle.std.specs.Prelude.{◌≡◌, ◌⊎◌, ◌++◌, ◌∷◌, ℕ, Bool, false, List, [], Some, None}
 
 -- the default rows of a codec, without RED
@@ -24,6 +24,6 @@ IsNoKind codec clock_rate = (codec_at codec ≡ None) ⊎ (clock_rate ≡ 0)
 abbrev pub IsAdded : ℕ → ℕ → ℕ × ℕ × ℕ → List ℕ → CodecConfig → CodecConfig → Type 0
 IsAdded pt rtx kind line before after =
     (codec : Codec) × (codec_at kind.0 ≡ Some codec) × (format : FormatParams) × IsFormatOfLine line format
-    × (after.params.items ≡ before.params.items ++ new_row pt (unless 255 rtx)
-    (record { codec = codec; clock_rate = kind.1; channels = unless 0 kind.2; format = format }) ∷ [])
+    × (after.params.items ≡ before.params.items ++ new_row pt (said_unless 255 rtx)
+    (record { codec = codec; clock_rate = kind.1; channels = said_unless 0 kind.2; format = format }) ∷ [])
     × (after.red_distances ≡ before.red_distances)

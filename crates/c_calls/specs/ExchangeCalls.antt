@@ -1,6 +1,6 @@
 -- What an exchange of offers and answers is behind a call.
 use Rattle.c_calls.specs.Common.{Of}
-use Rattle.c_calls.specs.Prelude.{AllDistinct, AnswersOffer, AreDistinct, AreFresh, BundlesAccepted, CodecConfig, Direction, EachSection, Exchange, FitsOffer, Follows, HasShapeOf, IsAcceptedExactly, IsAnswer, IsNewName, IsOffer, IsOffered, IsPlain, IsReadBack, IsSound, KeepsPlaces, KeepsRules, LockedStay, MakesOffer, Negotiates, OwnNumbers, OwnSide, OwnTexts, SaysOwn, Sdp, SignalingState, StaysInPlaces, grown, pending_sdp, placed_as, placed_of, ready_with, section_mids, sections_of, state_of, taken_names, tracks, types, versioned_text, with_direction, with_placed}
+use Rattle.c_calls.specs.Prelude.{AllDistinct, AnswersOffer, AreDistinct, AreFresh, BundlesAccepted, CodecConfig, Direction, EachSection, Exchange, FitsOffer, Follows, HasShapeOf, IsAcceptedExactly, IsAnswer, IsNewName, IsOffer, IsOffered, IsPlain, IsReadBack, IsSound, KeepsPlaces, KeepsRules, LockedStay, MakesOffer, NegotiatesOffer, OwnNumbers, OwnSide, OwnTexts, SaysOwn, Sdp, SignalingState, StaysInPlaces, grown, pending_sdp, placed_as, placed_of, ready_with, section_mids, sections_of, state_of, taken_names, tracks, types, versioned_text, with_entry, with_placed}
 use Rattle.exchange.specs.declared.state.signaling_state.SignalingState.TheVariants.{HaveLocalOffer, Stable}
 use Rattle.std.specs.Prelude.{◌≡◌, ◌+◌, ◌-◌, ◌^◌, [], ℕ, List, All, IsSomeAnd, None, Option, Some, drop, length, min}
 
@@ -21,7 +21,7 @@ pub record AcceptsOffer (before after : Exchange) (text : List ℕ) (answer : Sd
   pub read_back : IsReadBack answer (versioned_text version answer)
   pub version_is : version ≡ before.version
   -- the rounds of the offer are run, and rows that were locked stay locked
-  pub negotiated : IsSomeAnd after.remote (λ offer. Negotiates offer before.config.params.items after.config.params.items)
+  pub negotiated : IsSomeAnd after.remote (λ offer. NegotiatesOffer offer before.config.params.items after.config.params.items)
   pub stay : LockedStay before.config.params.items after.config.params.items
   pub distinct : AllDistinct (types before.config.params.items) → AllDistinct (types after.config.params.items)
   pub plain : All IsPlain before.config.params.items → All IsPlain after.config.params.items
@@ -65,7 +65,7 @@ pub record AcceptsAnswer (before after : Exchange) (text : List ℕ) : Type 0 wh
   pub read : IsSomeAnd after.remote (IsAnswer text)
   pub fits : IsSomeAnd after.local (λ offer. IsSomeAnd after.remote (FitsOffer after.config.params.items offer))
   -- its rounds are run, and rows that were locked stay locked
-  pub negotiated : IsSomeAnd after.remote (λ answer. Negotiates answer before.config.params.items after.config.params.items)
+  pub negotiated : IsSomeAnd after.remote (λ answer. NegotiatesOffer answer before.config.params.items after.config.params.items)
   pub stay : LockedStay before.config.params.items after.config.params.items
   pub distinct : AllDistinct (types before.config.params.items) → AllDistinct (types after.config.params.items)
   pub plain : All IsPlain before.config.params.items → All IsPlain after.config.params.items
@@ -85,13 +85,13 @@ abbrev pub begun : OwnSide → CodecConfig → Exchange
 begun own config = record { own = own; config = config; local = None; remote = None; pending = None; version = 1; added = []; names = [] }
 
 -- with a configuration one side begins, which is what the numbers and the texts say
-abbrev pub Begins : OwnNumbers → OwnTexts → Option CodecConfig → Option Exchange → Type 0
-Begins numbers texts config after = (own : OwnSide) × SaysOwn numbers texts own × Of config (λ it. after ≡ Some (begun own it))
+abbrev pub BeginsExchange : OwnNumbers → OwnTexts → Option CodecConfig → Option Exchange → Type 0
+BeginsExchange numbers texts config after = (own : OwnSide) × SaysOwn numbers texts own × Of config (λ it. after ≡ Some (begun own it))
 
 -- this side is ready for a direction in the section of a name, from its next description on (RFC 3264, section 8.4)
 abbrev pub turned : List ℕ → Direction → Exchange → Exchange
 turned mid direction before =
-    record before { own = record before.own { directions = with_direction mid direction before.own.directions } }
+    record before { own = record before.own { directions = with_entry mid direction before.own.directions } }
 
 -- what a handle held becomes this, and another handle gets that
 abbrev pub Goes : {X Y : Type 0} → (X → X → Y → Type 0) → Option X → Option X → Option Y → Type 0

@@ -1,8 +1,8 @@
 -- What definitions and clauses cite of the crates below, passed on from one place. Declares nothing.
 pub use Rattle.c_json.specs.Description.{IsJsonText}
 pub use Rattle.c_parts.specs.Parts.{IsFull}
-pub use Rattle.c_parts.specs.Reading.{RefusesText}
-pub use Rattle.c_parts.specs.Row.{c_outcome, c_row, codec_at, unless}
+pub use Rattle.c_parts.specs.Reading.{RefusesReading}
+pub use Rattle.c_parts.specs.Row.{c_outcome, c_row, codec_at, said_unless}
 pub use Rattle.c_parts.specs.Section.{c_section}
 pub use Rattle.c_parts.specs.Side.{RefusesBoth, RefusesOwn, SaysOwn, direction_numbered, kind_numbered, own_texts}
 pub use Rattle.c_parts.specs.declared.row.Row.{Row}
@@ -11,7 +11,7 @@ pub use Rattle.c_parts.specs.declared.side.OwnNumbers.{OwnNumbers}
 pub use Rattle.c_parts.specs.declared.side.OwnTexts.{OwnTexts}
 pub use Rattle.exchange.specs.answer.AcceptedOffer.{tracks}
 pub use Rattle.exchange.specs.answer.AnsweredSession.{BundlesAccepted}
-pub use Rattle.exchange.specs.answer.Offered.{IsOffer, Negotiates}
+pub use Rattle.exchange.specs.answer.Offered.{IsOffer, NegotiatesOffer}
 pub use Rattle.exchange.specs.declared.state.exchange.Exchange.{Exchange}
 pub use Rattle.exchange.specs.declared.state.own_side.OwnSide.{OwnSide}
 pub use Rattle.exchange.specs.declared.state.signaling_state.SignalingState.{SignalingState}
@@ -26,7 +26,7 @@ pub use Rattle.exchange.specs.offer.Rules.{HasShapeOf, IsAcceptedExactly, KeepsR
 pub use Rattle.exchange.specs.section.Places.{StaysInPlaces}
 pub use Rattle.exchange.specs.state.Exchange.{AnswersOffer, EachSection, RefusesChannels, RefusesMedia, RefusesOffer, RefusesToOffer}
 pub use Rattle.exchange.specs.state.ExchangeFollows.{Follows, IsSound}
-pub use Rattle.exchange.specs.state.OwnSide.{with_direction}
+pub use Rattle.exchange.specs.state.OwnSide.{with_entry}
 pub use Rattle.exchange.specs.state.ReadBack.{IsReadBack}
 pub use Rattle.exchange.specs.state.State.{pending_sdp, sections_of, state_of, taken_names}
 pub use Rattle.str0m_formats.specs.codec.Codec.{codec_text}

@@ -23,6 +23,6 @@ abbrev pub SaysSome : (List ℕ → Type 0) → List ℕ × ℕ → ℕ × List 
 SaysSome IsSuch before after = ((text : List ℕ) × IsSuch text × Puts (Some text) before after) ⊎ (after ≡ (no_memory, before.0, before.1))
 
 -- one thing is written where it is found; else the place stays
-abbrev pub Gives : {X : Type 0} → Option X → X → ℕ × X → Type 0
-Gives None before after = after ≡ (no_section, before)
-Gives (Some found) before after = after ≡ (done, found)
+abbrev pub GivesOne : {X : Type 0} → Option X → X → ℕ × X → Type 0
+GivesOne None before after = after ≡ (no_section, before)
+GivesOne (Some found) before after = after ≡ (done, found)

@@ -1,13 +1,13 @@
 -- What calls find in what a handle owns; nothing where there is no such section or row.
 use Rattle.c_calls.specs.Prelude.{MediaLine, PayloadParams, Row, Sdp, Section, c_row, c_section, codec_text, params_text, rows}
-use Rattle.c_calls.specs.SessionCalls.{mid_text}
+use Rattle.c_calls.specs.SessionCalls.{mid_or_empty}
 use Rattle.c_calls.specs.declared.row_calls.RowText.{RowText}
 use Rattle.c_calls.specs.declared.row_calls.RowText.TheVariants.{Codec, Format}
 use Rattle.std.specs.Prelude.{ℕ, List, Option, map, option_and_then, option_map, slice_get}
 
 -- the mid of a section
 abbrev pub mid_at : Sdp → ℕ → Option (List ℕ)
-mid_at sdp at = option_map mid_text (slice_get sdp.media_lines at)
+mid_at sdp at = option_map mid_or_empty (slice_get sdp.media_lines at)
 
 -- a section, as C holds it
 abbrev pub section_at : Sdp → ℕ → Option Section

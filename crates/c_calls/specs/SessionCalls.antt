@@ -7,5 +7,5 @@ abbrev pub mid_named : MediaLine → Option (List ℕ)
 mid_named m = first (filter_map mid_of m.attrs)
 
 -- nothing where none does
-abbrev pub mid_text : MediaLine → List ℕ
-mid_text m = unwrap_or (mid_named m) []
+abbrev pub mid_or_empty : MediaLine → List ℕ
+mid_or_empty m = unwrap_or (mid_named m) []

@@ -1,16 +1,16 @@
 //! Calls of exchanges: one side is made, and it answers offers.
 
 ghost use Rattle.c_calls.specs.Common.{Of};
-ghost use Rattle.c_calls.specs.ExchangeCalls.{AcceptsOffer, Begins, Goes, state_number};
+ghost use Rattle.c_calls.specs.ExchangeCalls.{AcceptsOffer, BeginsExchange, Goes, state_number};
 ghost use Rattle.c_calls.specs.Prelude.{IsFull, IsSound, RefusesOffer, RefusesOwn, SaysOwn, c_row, own_texts, state_of};
 ghost use Rattle.c_calls.specs.Said.{Says};
 ghost use Rattle.c_calls.specs.SectionCalls.{text_in};
 ghost use Rattle.c_calls.specs.Told.{done};
 ghost use Rattle.c_calls.specs.declared.row_calls.RowText.TheVariants.{Codec, Format};
-ghost use Rattle.c_parts.specs.Fault.{RefusesBytes, Told, ToldAt};
+ghost use Rattle.c_parts.specs.Fault.{RefusesBytes, ToldFault, ToldAt};
 ghost use Rattle.std.specs.Prelude.{◌≡◌, ◌≢◌, IfErr, IfOk, None, OnErr, Some, map};
 
-use crate::row_calls::{RowText, put_rows, put_text};
+use crate::row_calls::{RowText, put_row_text, put_rows};
 use crate::said::{DONE, NO_MEMORY};
 use crate::told::tell;
 use c_parts::config_handle::ConfigHandle;
@@ -82,14 +82,14 @@ pub extern "C" fn zaxp_exchange_new(
 ) -> u32
     requires handle { handle.old.inner ≡ None }
     requires config { IsFull config.old.inner }
-    ensures made { result ≡ done → Begins numbers.now
+    ensures made { result ≡ done → BeginsExchange numbers.now
         (own_texts ice_ufrag.entry ice_pwd.entry fingerprint.entry stream_id.entry extensions.entry candidates.entry)
         config.old.inner handle.new.inner }
     ensures sound { result ≡ done → Of handle.new.inner IsSound }
     ensures taken { result ≡ done → config.new.inner ≡ None }
     ensures empty { result ≢ done → handle.new.inner ≡ None }
     ensures kept { result ≢ done → config.new.inner ≡ config.old.inner }
-    ensures refused { result ≢ done → Told (RefusesOwn
+    ensures refused { result ≢ done → ToldFault (RefusesOwn
         (own_texts ice_ufrag.entry ice_pwd.entry fingerprint.entry stream_id.entry extensions.entry candidates.entry)) result }
 {
     let texts = OwnTexts {
@@ -224,7 +224,7 @@ pub extern "C" fn zaxp_exchange_codec(
         Says (text_in Codec it.config.params.items row) (room.old, needed.old) (result, room.new, needed.new)) }
 {
     let exchange = handle.take(alloc);
-    let code = put_text(
+    let code = put_row_text(
         alloc,
         exchange.config().params(),
         row,
@@ -251,7 +251,7 @@ pub extern "C" fn zaxp_exchange_format(
         Says (text_in Format it.config.params.items row) (room.old, needed.old) (result, room.new, needed.new)) }
 {
     let exchange = handle.take(alloc);
-    let code = put_text(
+    let code = put_row_text(
         alloc,
         exchange.config().params(),
         row,

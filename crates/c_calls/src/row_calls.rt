@@ -47,7 +47,7 @@ fn printed(alloc: Global, row: &PayloadParams, what: RowText) -> Result<String, 
     }
 }
 
-pub(crate) fn put_text(
+pub(crate) fn put_row_text(
     alloc: Global,
     rows: &[PayloadParams],
     row: usize,
@@ -111,7 +111,7 @@ fn put_section_text(
     ensures { Says (text_in what (rows section.now) row) (room.old, needed.old) (result, room.new, needed.new) }
 {
     match section.rtp_params() {
-        Ok(found) => put_text(alloc, found.as_slice(), row, what, room, needed),
+        Ok(found) => put_row_text(alloc, found.as_slice(), row, what, room, needed),
         Err(_) => NO_MEMORY,
     }
 }
@@ -205,7 +205,7 @@ pub extern "C" fn zaxp_config_codec(
     ensures says { Of handle.old.inner (λ config. Says (text_in Codec config.params.items row) (room.old, needed.old) (result, room.new, needed.new)) }
 {
     let config = handle.take(alloc);
-    let code = put_text(alloc, config.params(), row, RowText::Codec, room, needed);
+    let code = put_row_text(alloc, config.params(), row, RowText::Codec, room, needed);
     handle.put(config);
     code
 }
@@ -224,7 +224,7 @@ pub extern "C" fn zaxp_config_format(
     ensures says { Of handle.old.inner (λ config. Says (text_in Format config.params.items row) (room.old, needed.old) (result, room.new, needed.new)) }
 {
     let config = handle.take(alloc);
-    let code = put_text(alloc, config.params(), row, RowText::Format, room, needed);
+    let code = put_row_text(alloc, config.params(), row, RowText::Format, room, needed);
     handle.put(config);
     code
 }

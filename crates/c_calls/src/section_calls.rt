@@ -2,7 +2,7 @@
 
 ghost use Rattle.c_calls.specs.Common.{Of};
 ghost use Rattle.c_calls.specs.Prelude.{IsFull, Writable};
-ghost use Rattle.c_calls.specs.Said.{Gives};
+ghost use Rattle.c_calls.specs.Said.{GivesOne};
 ghost use Rattle.c_calls.specs.SectionCalls.{section_at};
 ghost use Rattle.c_calls.specs.Told.{done, no_memory, no_section};
 ghost use Rattle.std.specs.Prelude.{◌≡◌, ◌≢◌, ◌↔◌, ◌⊎◌, IfOk, IsTrue, None, slice_get};
@@ -14,7 +14,7 @@ use std::alloc::Global;
 use str0m_signal::{Sdp, is_writable};
 
 fn give_section(sdp: &Sdp, at: usize, info: &mut Section) -> u32
-    ensures { Gives (section_at sdp.now at) info.old (result, info.new) }
+    ensures { GivesOne (section_at sdp.now at) info.old (result, info.new) }
 {
     match sdp.media_lines.get(at) {
         Some(section) => {
@@ -35,7 +35,7 @@ pub extern "C" fn zaxp_session_section(
 ) -> u32
     requires { IsFull handle.old.inner }
     ensures same { handle.new.inner ≡ handle.old.inner }
-    ensures given { Of handle.old.inner (λ sdp. Gives (section_at sdp at) info.old (result, info.new)) }
+    ensures given { Of handle.old.inner (λ sdp. GivesOne (section_at sdp at) info.old (result, info.new)) }
 {
     let sdp = handle.take(alloc);
     let code = give_section(&sdp, at, info);

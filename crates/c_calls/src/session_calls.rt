@@ -4,7 +4,7 @@ ghost use Rattle.c_calls.specs.Common.{Of};
 ghost use Rattle.c_calls.specs.Prelude.{Described, IsFull, IsJsonText, Reading, Sdp, sdp_text, versioned_text};
 ghost use Rattle.c_calls.specs.Said.{Puts, Says, SaysSome};
 ghost use Rattle.c_calls.specs.SectionCalls.{mid_at};
-ghost use Rattle.c_calls.specs.SessionCalls.{mid_named, mid_text};
+ghost use Rattle.c_calls.specs.SessionCalls.{mid_named, mid_or_empty};
 ghost use Rattle.c_calls.specs.Told.{done, no_session, no_utf8};
 ghost use Rattle.std.specs.Prelude.{◌≡◌, ◌≢◌, None, Some, List, ℕ, length, IsUtf8};
 
@@ -145,7 +145,7 @@ fn mid_named(section: &MediaLine) -> Option<Mid>
 }
 
 fn put_mid(section: &MediaLine, room: &mut [u8], needed: &mut usize) -> u32
-    ensures { Puts (Some (mid_text section.now)) (room.old, needed.old) (result, room.new, needed.new) }
+    ensures { Puts (Some (mid_or_empty section.now)) (room.old, needed.old) (result, room.new, needed.new) }
 {
     match mid_named(section) {
         Some(mid) => put(mid.as_str().as_bytes(), room, needed),

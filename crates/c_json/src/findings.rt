@@ -13,7 +13,7 @@ const STANDARD_INPUT: &str = "-";
 pub fn record(alloc: Global, file: &str, finding: &Finding) -> Result<Value, AllocError> {
     let (line, column) = (finding.line as u64, finding.column as u64);
     let severity = finding.code.severity().word();
-    let (code, message) = (finding.code.row().name, finding.sentence.as_str());
+    let (code, message) = (finding.code.entry().name, finding.sentence.as_str());
     json!(in alloc; {
         "file": file,
         "line": line,

@@ -12,11 +12,11 @@ use denote.Signature.{Slot, plain}
 use mathlib.Core.List.{[]}
 use mir.Syntax.{impl, tnil, dnil}
 
-abbrev pub E : Bx
-E = boxed Inner.the_row inner.the_row_laws Heap.the_row heap.the_row_laws ghosts dict (impl [] tnil dnil)
+abbrev pub ExchangeBoxed : Bx
+ExchangeBoxed = boxed Inner.the_row inner.the_row_laws Heap.the_row heap.the_row_laws ghosts dict (impl [] tnil dnil)
 
-abbrev pub FromParts : Slot 0
-FromParts = plain (λ _. Parts.the_row Inner.the_row Heap.the_row ghosts)
+abbrev pub FromExchangeParts : Slot 0
+FromExchangeParts = plain (λ _. Parts.the_row Inner.the_row Heap.the_row ghosts)
 
-abbrev pub FromHandle : Slot 0
-FromHandle = plain (λ _. Handle.the_row)
+abbrev pub FromExchangeHandle : Slot 0
+FromExchangeHandle = plain (λ _. Handle.the_row)

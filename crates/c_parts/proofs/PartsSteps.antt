@@ -2,10 +2,10 @@
 --     boxed                 a type and an allocator's type with their laws, as the steps of boxes ask for them
 --     takes, hands          what a walk begins with is the parameter and the tokens; the same put back, for a callee with one parameter
 --     begins                the parameter owns what a box does: its words are one word, and what it owns is taken apart
---     one_word, one_box     what a box owns is owned at one word; that word is of a box's type
---     apart                 what was taken apart, as an allocator and a pointer with what lies there
---     both                  an allocator and a pointer in a tuple, and what lies there, are what a box owns
---     asked, answer         a callee's contract; its answer is what is said, the result and the tokens
+--     box_in_one, one_box   what a box owns is owned at one word; that word is of a box's type
+--     box_apart             what was taken apart, as an allocator and a pointer with what lies there
+--     box_both              an allocator and a pointer in a tuple, and what lies there, are what a box owns
+--     asked_triple, answer  a callee's contract; its answer is what is said, the result and the tokens
 --     field_of              field k of the word that a local holds
 --     told, spent           a fact, and nothing of the parameter, as a walk's end asks for them
 pub use Rattle.core.proofs.alloc.Calls.{α, handle_tells, Goes-blank}
@@ -80,17 +80,17 @@ use types.Run.{stop, fld, Walks, Rv}
 abbrev pub boxed : (X : RattleType) → Laws X → (Z : RattleType) → Laws Z → Ghosts Z.Denot → Dict → Dict → Bx
 boxed X LX Z LZ g d drops = record { row = X; laws = LX; al = record { row = Z; laws = LZ; g = g; d = d; drops = drops } }
 
-abbrev pub asked : {M : Type 1} {𝓤 : Ura M} (𝓛 : Logic 𝓤) (S : Ended) → Clauses 𝓤 S → Contract 𝓤
-asked 𝓛 S c = triple_of 𝓛 S.signature (closing 𝓛 S c)
+abbrev pub asked_triple : {M : Type 1} {𝓤 : Ura M} (𝓛 : Logic 𝓤) (S : Ended) → Clauses 𝓤 S → Contract 𝓤
+asked_triple 𝓛 S c = triple_of 𝓛 S.signature (closing 𝓛 S c)
 
 module _ {M : Type 1} {𝓤 : Ura M} (𝓛 : Logic 𝓤) {K : Type 0} {Γ : List (Item 𝓤)} {G : Goal 𝓤 𝓛.H} where
   pub told : (φ : Type 0) → φ → Step K 𝓛 (raw (fact 𝓤 φ) ∷ Γ) G Γ G
   told φ x = use0 𝓛 (raw (fact 𝓤 φ)) (fact_i 𝓤 φ (emp 𝓤) x)
 
-  pub answer : (S : Ended) (c : Clauses 𝓤 S) (y : (asked 𝓛 S c).Ghost) (u : Val) → K → Soaks G
+  pub answer : (S : Ended) (c : Clauses 𝓤 S) (y : (asked_triple 𝓛 S c).Ghost) (u : Val) → K → Soaks G
       → ((r : Res S.signature y.0.0) (ls : Lasts S y.0.0 y.0.3)
       → Seq K 𝓛 (raw ((c y.0.0 y.0.3).ensures y.1 r (at_exit S y.0.0 y.0.3 ls)) ∷ ‵ ((type_at S.signature.result y.0.0).own_val r (u ∷ [])) ∷ raw (alive 𝓛 S.signature y.0.0 y.0.1) ∷ Γ) G)
-      → Seq K 𝓛 (raw ((asked 𝓛 S c).post y u) ∷ Γ) G
+      → Seq K 𝓛 (raw ((asked_triple 𝓛 S c).post y u) ∷ Γ) G
   answer S c y u t soaks k =
       let Result : Res S.signature y.0.0 → Item 𝓤 = λ r. ‵ ((type_at S.signature.result y.0.0).own_val r (u ∷ [])) in
       let Said : Res S.signature y.0.0 → Item 𝓤 = λ r. some (λ (ls : Lasts S y.0.0 y.0.3). ‵ (lasts S y.0.0 y.0.3 ls) ⊛ raw ((c y.0.0 y.0.3).ensures y.1 r (at_exit S y.0.0 y.0.3 ls))) in
@@ -124,22 +124,22 @@ module _ (E : Bx) {M : Type 1} {𝓤 : Ura M} {𝓛 : Logic 𝓤} {K : Type 0} {
       → Seq K 𝓛 (‵ ((B E).own_val d vs) ∷ Γ) G
   begins d vs At t goal k = box_out E t d vs (λ b o hv at is fits. regoal t At is goal $ k b o hv at fits)
 
-  pub one_word : (d : D E) (vs : List Val) → K
+  pub box_in_one : (d : D E) (vs : List Val) → K
       → ((b o : ℕ) (hv : Val) → vs ≡ word E hv b o ∷ [] → Fits E.al hv → Seq K 𝓛 (‵ ((B E).own_val d (word E hv b o ∷ [])) ∷ Γ) G)
       → Seq K 𝓛 (‵ ((B E).own_val d vs) ∷ Γ) G
-  one_word d vs t k = box_out E t d vs (λ b o hv at is fits. box_in E t d b o d.value at refl $ k b o hv is fits)
+  box_in_one d vs t k = box_out E t d vs (λ b o hv at is fits. box_in E t d b o d.value at refl $ k b o hv is fits)
 
   pub one_box : (d : D E) (u : Val) → K → (T (has_ty (box_ty E) u) × WT u → Seq K 𝓛 (‵ ((B E).own_val d (u ∷ [])) ∷ Γ) G) → Seq K 𝓛 (‵ ((B E).own_val d (u ∷ [])) ∷ Γ) G
-  one_box d u t k = one_word d (u ∷ []) t (λ b o hv is fits. rewrite t 0 (λ (vs : List Val). ‵ ((B E).own_val d vs)) (sym is) refl $
+  one_box d u t k = box_in_one d (u ∷ []) t (λ b o hv is fits. rewrite t 0 (λ (vs : List Val). ‵ ((B E).own_val d vs)) (sym is) refl $
       k (subst (λ (v : Val). T (has_ty (box_ty E) v) × WT v) (sym (ap only is)) (box_typed E hv b o fits)))
 
-  pub apart : (d : D E) (b o : ℕ) (hv : Val) → K
+  pub box_apart : (d : D E) (b o : ℕ) (hv : Val) → K
       → Step K 𝓛 (‵ (owns (P E ∷ RawPtr ∷ []) (d.alloc, (block_ptr b o, tt)) (hv ∷ [], (vptr b o ∷ [], tt))) ∷ ‵ (box_owns (token E.al d.alloc) (R E) (block_ptr b o) d.value) ∷ Γ) G
       (‵ (part_at (R E) full_share d.value b o) ∷ ‵ (token E.al d.alloc (bare (τ E)) (block_ptr b o)) ∷ ‵ (handle E d.alloc hv) ∷ Γ) G
-  apart d b o hv t = step (λ s. fjoin t $ move t (1 ∷ []) $ nothing t $ feq_i t (List Val) (vptr b o ∷ []) (ptr_val (block_ptr b o) ∷ []) refl $ fjoin t $ move t (1 ∷ 0 ∷ []) $ fjoin t $ s)
+  box_apart d b o hv t = step (λ s. fjoin t $ move t (1 ∷ []) $ nothing t $ feq_i t (List Val) (vptr b o ∷ []) (ptr_val (block_ptr b o) ∷ []) refl $ fjoin t $ move t (1 ∷ 0 ∷ []) $ fjoin t $ s)
 
-  pub both : (a : E.al.row.Denot) (x : X E) (r : Ptr × E.al.row.Denot) (vs : List Val) → K
+  pub box_both : (a : E.al.row.Denot) (x : X E) (r : Ptr × E.al.row.Denot) (vs : List Val) → K
       → Step K 𝓛 (‵ ((B E).own_val (record { ptr = r.0; alloc = r.1; value = x }) vs) ∷ Γ) G
       (raw (sep 𝓤 (fact 𝓤 (r.1 ≡ a)) (sem 𝓛 (box_owns (token E.al a) (R E) r.0 x))) ∷ ‵ ((Tuple (RawPtr ∷ P E ∷ [])).own_val r vs) ∷ Γ) G
-  both a x r vs t = step (λ s. use1 𝓛 (raw (fact 𝓤 (r.1 ≡ a)) ⊛ ‵ (box_owns (token E.al a) (R E) r.0 x)) (id⊢ 𝓤 _) $ split t $ heard t (r.1 ≡ a) (λ same.
+  box_both a x r vs t = step (λ s. use1 𝓛 (raw (fact 𝓤 (r.1 ≡ a)) ⊛ ‵ (box_owns (token E.al a) (R E) r.0 x)) (id⊢ 𝓤 _) $ split t $ heard t (r.1 ≡ a) (λ same.
       rewrite t 0 (λ (c : E.al.row.Denot). ‵ (box_owns (token E.al c) (R E) r.0 x)) (sym same) refl $ move t (1 ∷ 0 ∷ []) $ fjoin t $ s))

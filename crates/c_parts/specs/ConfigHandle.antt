@@ -8,8 +8,8 @@ use base.Fml.{Fml}
 use base.Stored.{Coded}
 use denote.RawPtr.{Ptr}
 
-abbrev pub handle_owns : Global → Ptr → Option the_row.Denot → Fml
-handle_owns = owned the_row
+abbrev pub config_owns : Global → Ptr → Option the_row.Denot → Fml
+config_owns = owned the_row
 
-abbrev pub inner_coded : Coded (Option the_row.Denot)
-inner_coded = coded_option the_row.coded
+abbrev pub config_coded : Coded (Option the_row.Denot)
+config_coded = coded_option the_row.coded

@@ -6,6 +6,6 @@ use Rattle.str0m_signal.specs.session.Reader.{Described}
 use Rattle.str0m_signal.specs.session.ReaderAnswers.{Refuses}
 
 -- the bytes are no text, or the reader refuses them: memory aside, they describe no session
-abbrev pub RefusesText : Refusal → List ℕ → Type 0
-RefusesText NotUtf8 text = IsUtf8 text → ⊥
-RefusesText (Refused error) text = Refuses error (Described text)
+abbrev pub RefusesReading : Refusal → List ℕ → Type 0
+RefusesReading NotUtf8 text = IsUtf8 text → ⊥
+RefusesReading (Refused error) text = Refuses error (Described text)

@@ -39,8 +39,8 @@ number_or other (Some n) = n
 number_or other None = other
 
 -- what such a number says
-abbrev pub unless : ℕ → ℕ → Option ℕ
-unless none number = if number == none then None else Some number
+abbrev pub said_unless : ℕ → ℕ → Option ℕ
+said_unless none number = if number == none then None else Some number
 
 -- the bit of what is on
 abbrev pub bit : ℕ → Bool → ℕ

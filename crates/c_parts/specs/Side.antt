@@ -31,13 +31,13 @@ abbrev pub is_on : ℕ → Bool
 is_on n = not (nat_eq n 0)
 
 -- where data channels are reached, where there are some
-abbrev pub channels_of : OwnNumbers → Option DataChannels
-channels_of numbers =
+abbrev pub own_channels_of : OwnNumbers → Option DataChannels
+own_channels_of numbers =
     if is_on numbers.has_channels then Some (record { port = numbers.sctp_port; max_message_size = numbers.max_message_size }) else None
 
 -- the texts of a list
-abbrev pub listed : List (Bor (List ℕ)) → List (List ℕ)
-listed texts = map (λ text. text.now) texts
+abbrev pub listed_texts : List (Bor (List ℕ)) → List (List ℕ)
+listed_texts texts = map (λ text. text.now) texts
 
 -- the texts that a call takes one by one
 abbrev pub own_texts : (ice_ufrag ice_pwd fingerprint stream_id : Bor (List ℕ)) (extensions candidates : Bor (List (Bor (List ℕ))))
@@ -61,9 +61,9 @@ pub record SaysOwn (numbers : OwnNumbers) (texts : OwnTexts) (own : OwnSide) : T
   pub video : own.video ≡ direction_numbered numbers.video
   pub directions : own.directions ≡ []
   pub stream_id : own.stream_id ≡ texts.stream_id.now
-  pub extensions : own.extensions ≡ listed texts.extensions.now
-  pub candidates : AllZip IsTrickled (listed texts.candidates.now) own.candidates
-  pub channels : own.channels ≡ channels_of numbers
+  pub extensions : own.extensions ≡ listed_texts texts.extensions.now
+  pub candidates : AllZip IsTrickled (listed_texts texts.candidates.now) own.candidates
+  pub channels : own.channels ≡ own_channels_of numbers
   pub receives_simulcast : own.receives_simulcast ≡ is_on numbers.receives_simulcast
 
 -- all of the texts are UTF-8
@@ -72,8 +72,8 @@ pub record AreUtf8 (texts : OwnTexts) : Type 0 where
   pub pwd : IsUtf8 texts.ice_pwd.now
   pub fingerprint : IsUtf8 texts.fingerprint.now
   pub stream_id : IsUtf8 texts.stream_id.now
-  pub extensions : All IsUtf8 (listed texts.extensions.now)
-  pub candidates : All IsUtf8 (listed texts.candidates.now)
+  pub extensions : All IsUtf8 (listed_texts texts.extensions.now)
+  pub candidates : All IsUtf8 (listed_texts texts.candidates.now)
 
 -- why one of two texts isn't taken
 abbrev pub RefusesBoth : List ℕ → List ℕ → Fault → Type 0
@@ -116,5 +116,5 @@ RefusesFingerprint text NoCandidate = ⊥
 abbrev pub RefusesOwn : OwnTexts → Fault → Type 0
 RefusesOwn texts NotUtf8 = AreUtf8 texts → ⊥
 RefusesOwn texts NoFingerprint = (fingerprint : Fingerprint) → IsFingerprint texts.fingerprint.now fingerprint → ⊥
-RefusesOwn texts NoCandidate = AreNotTrickled (listed texts.candidates.now)
+RefusesOwn texts NoCandidate = AreNotTrickled (listed_texts texts.candidates.now)
 RefusesOwn texts (Refused error) = error ≡ Memory

@@ -1,6 +1,6 @@
 //! Rows and outcomes as C holds them.
 
-ghost use Rattle.c_parts.specs.Row.{bit, c_outcome, c_row, codec_at, codec_number, feedback_bits, number_or, unless};
+ghost use Rattle.c_parts.specs.Row.{bit, c_outcome, c_row, codec_at, codec_number, feedback_bits, number_or, said_unless};
 ghost use Rattle.std.specs.Prelude.{◌≡◌, ◌≤◌, IfOk, length, map};
 
 use std::alloc::{AllocError, Global};
@@ -103,8 +103,8 @@ pub fn codec_at(number: u8) -> Option<Codec>
 }
 
 /// The number, unless it stands for none.
-pub fn unless(none: u8, number: u8) -> Option<u8>
-    ensures { result ≡ unless none number }
+pub fn said_unless(none: u8, number: u8) -> Option<u8>
+    ensures { result ≡ said_unless none number }
 {
     if number == none { None } else { Some(number) }
 }

@@ -2,7 +2,7 @@
 ghost use Rattle.rand_core.specs.Steps.{stream_of, steps_u32};
 ghost use Rattle.std.specs.Prelude.{ℕ, ◌+◌, ◌%◌, ◌^◌};
 
-use plain_cases::Answer;
+use format_cases::Answer;
 use rand_core::utils::NextWord;
 use rand_core::{Rng, utils};
 use std::marker::Model;

@@ -1,5 +1,5 @@
 -- The names that proofs cite from elsewhere, passed on from one place. Declares nothing.
-pub use Rattle.exchange.specs.Prelude.{Alike, AllDistinct, Answers, AnswersDirection, AreDistinct, AtMostOne, Candidate, Consistent, Direction, Fingerprint, FirstLine, HasBoundedRows, HasPictureFeedback, Holds, IceCreds, IsCandidateLine, IsFromLine, IsPlain, IsPreferred, IsReading, Line, Lines, LockedStay, MediaAttribute, MediaKind, MediaLine, MediaType, Negotiated, Outcome, PayloadParams, Proto, Reached, Reading, Refuses, Sdp, Session, SessionAttribute, Setup, SimulcastLayer, bundled_of, creds, direction_attribute, distinct, first, first_filled, has, is_held, is_listed, is_media, is_mid, is_of_type, kind_rows, locked_types, made, maps, media_pwd, media_ufrag, mid_of, receives, row_attrs, rows, section_direction, section_mids, session_pwd, session_ufrag, types, types_of, versioned_text, ◌>>=◌}
+pub use Rattle.exchange.specs.Prelude.{Alike, AllDistinct, Answers, AnswersDirection, AreDistinct, AtMostOne, Candidate, Consistent, Direction, Fingerprint, FirstLine, HasBoundedRows, HasVideoFeedback, Holds, IceCreds, IsCandidateLine, IsFromLine, IsPlain, IsPreferred, IsReading, Line, Lines, LockedStay, MediaAttribute, MediaKind, MediaLine, MediaType, Negotiated, Outcome, PayloadParams, Proto, Reached, Reading, Refuses, Sdp, Session, SessionAttribute, Setup, SimulcastLayer, bundled_of, creds, direction_attribute, distinct, first, first_filled, has, is_held, is_listed, is_media, is_mid, is_of_type, kind_rows, locked_types, made, maps, media_pwd, media_ufrag, mid_of, receives, row_attrs, rows, section_direction, section_mids, session_pwd, session_ufrag, types, types_of, versioned_text, ◌>>=◌}
 pub use Rattle.std.proofs.Common.{All, BTreeSet, Bool, Bor, Contains, Decides, Err, IfOk, IfSome, IsSomeAnd, IsTrue, List, MatchOption, None, Ok, Option, Result, Some, [], ap, append-nil, append_assoc, arith, below_more, bytes_eq, codes, cond, count_by, decimal, drop, drop-cons, eq-eqb, eq-or-lt_of_le, eqb-true, false, filter, filter_map, find, flat_map, get_or, get_or-set_other, get_or-set_same, if◌then◌else◌, inl, inr, is_some, length, length-append, length-set, length-take, length-take-le, map, min, nat_cmp, nat_lt, ne_eqb, not, option_copied, option_map, option_to_list, refl, replicate, rules, set, slice_get, subst, suc, sym, take, take_all, tests, true, true≢false, zero, zip, ℕ, ◌&&◌, ◌++◌, ◌+◌, ◌-◌, ◌<◌, ◌==◌, ◌^◌, ◌||◌, ◌↔◌, ◌∙◌, ◌∷◌, ◌≡◌, ◌≢◌, ◌≤◌, ◌⊎◌}
 pub use Rattle.std.proofs.lemmas.Bool.{and_parts, cases_eq, cases_lt, false≢true, or_parts}
 pub use Rattle.std.proofs.lemmas.Grind.{common_steps, take_at_read}
@@ -15,16 +15,18 @@ pub use Rattle.std.proofs.lemmas.Slice.Zip.{AllZip-long, AllZip-right}
 pub use Rattle.std.specs.BTreeSet.{Updates, contains}
 pub use Rattle.std.specs.Cmp.Lexicographic.{pointwise, slice_cmp}
 pub use Rattle.std.specs.List.{AllZip, cons_option, list_any}
+pub use Rattle.str0m_formats.proofs.format.MergedPairsLaws.{bytes_itself}
 pub use Rattle.str0m_formats.proofs.round.ClaimedSets.{slice_get_item}
 pub use Rattle.str0m_formats.proofs.round.ClaimedTimes.{one_if, times-append, times-cons, times-none}
 pub use Rattle.str0m_formats.proofs.round.RoundsLocked.{stays-same, stays-then}
+pub use Rattle.str0m_formats.proofs.round.RoundsPasses.{at_place}
 pub use Rattle.str0m_formats.proofs.round.RoundsWhole.{row_before}
 pub use Rattle.str0m_formats.specs.declared.format.format_param.FormatParam.{FormatParam}
 pub use Rattle.str0m_formats.specs.declared.round.rounds.Round.{Round}
 pub use Rattle.str0m_formats.specs.declared.row.codec_config.CodecConfig.{CodecConfig}
 pub use Rattle.str0m_formats.specs.round.Claimed.{times}
 pub use Rattle.str0m_formats.specs.round.RoundsPromises.{StaysLocked}
-pub use Rattle.str0m_sdp.proofs.section.MappingsFilterMap.{map_more}
+pub use Rattle.str0m_sdp.proofs.section.MappingsFilterMap.{map_more, one_mapped}
 pub use Rattle.str0m_sdp.proofs.section.SectionAccessorsFinding.{first_by_find_map, first_from_find_map}
 pub use Rattle.str0m_sdp.proofs.section.SectionAccessorsLists.{filter_map_more, filter_map_same}
 pub use Rattle.str0m_sdp.proofs.section.SectionRowsParts.{count-append, uncounted}
@@ -38,4 +40,5 @@ pub use Rattle.str0m_sdp.specs.declared.session.error.SdpError.{SdpError}
 pub use Rattle.str0m_sdp.specs.declared.session.error.SdpError.TheVariants.{Inconsistent, Memory, ParseError}
 pub use Rattle.str0m_sdp.specs.section.RowAttributes.{feedback_attrs, feedback_line, fmtp_line, format_attrs, format_values, red_attrs, red_lines, rtx_attrs, rtx_lines}
 pub use Rattle.str0m_sdp.specs.session.SessionConsistency.{section_mid}
+pub use Rattle.str0m_signal.proofs.line.LinesPrinted.{joined-append}
 pub use Rattle.str0m_signal.proofs.session.ReaderLineNumbers.{line_feeds, line_number}

@@ -9,4 +9,5 @@ pub use Rattle.str0m_formats.proofs.Common.{take_more}
 pub use Rattle.str0m_formats.proofs.round.RoundsRunSteps.{ran_from}
 pub use Rattle.str0m_formats.specs.declared.row.codec_config.CodecConfig.{CodecConfig}
 pub use Rattle.str0m_formats.specs.round.RoundsPromises.{Negotiates}
+pub use Rattle.str0m_sdp.proofs.section.SectionRowsParts.{or_false}
 pub use Rattle.str0m_signal.proofs.Common.{Utf8, shadow}

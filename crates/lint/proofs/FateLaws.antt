@@ -1,6 +1,6 @@
 -- What is said of rounds, one more at a time.
 use Rattle.lint.proofs.Common.{◌≡◌, ◌+◌, ◌<◌, ℕ, Bool, true, false, Option, Some, None, Ok, Err, filter_map, List, [], ◌∷◌, ◌++◌, length, map, take, get_or, refl, sym, ap, subst, ◌∙◌, arith, append_assoc, append-nil, length-take-le, map-append, filter_map-append, on_err_weaker, cons_option, take_more, ran_from, CodecConfig, PayloadParams, Negotiates, Outcome, is_media, MediaLine, Sdp, section_direction, rows, Reading, AtMostOne, receives}
-use Rattle.lint.specs.Fates.{AddsFates, ArePartners, IsPartner, RoundSays, RoundsSay, SaysRounds, Where, codes, fate, refusal, some_of}
+use Rattle.lint.specs.Fates.{AddsFates, ArePartners, IsPartner, RoundSays, RoundsSay, SaysRounds, Where, codes, fate, refusal_fate, some_of}
 use Rattle.lint.specs.Findings.{AddsOne}
 use Rattle.lint.specs.declared.code.Code.{Code}
 use Rattle.lint.specs.declared.code.Code.TheVariants.{Round}
@@ -112,7 +112,7 @@ pub round_says : (m : MediaLine) (old new : CodecConfig) (outcome : Outcome) (pa
     → Negotiates (rows m) (receives (section_direction m.attrs)) old new outcome
     → ArePartners (rows m) (receives (section_direction m.attrs)) old.params.items new.params.items partners
     → RoundSays m old.params.items
-    (refusal outcome ++ filter_map (fate old.params.items (receives (section_direction m.attrs)) new.params.items outcome partners) (rows m)) new.params.items
+    (refusal_fate outcome ++ filter_map (fate old.params.items (receives (section_direction m.attrs)) new.params.items outcome partners) (rows m)) new.params.items
 round_says m old new outcome partners n are =
     let remote = rows m in
     let dir = receives (section_direction m.attrs) in
@@ -129,7 +129,7 @@ pub round_said : (m : MediaLine) (old new : CodecConfig) (outcome : Outcome) (pa
     → remote ≡ rows m → told ≡ rows m → dir ≡ receives (section_direction m.attrs) → flag ≡ receives (section_direction m.attrs)
     → before ≡ old.params.items → after ≡ new.params.items → shown ≡ partners → Negotiates remote dir old new outcome
     → (length before ≡ length after → ArePartners told flag before after partners)
-    → AddsFates (refusal outcome) first mid → AddsFates (filter_map (fate before flag after outcome shown) told) mid last
+    → AddsFates (refusal_fate outcome) first mid → AddsFates (filter_map (fate before flag after outcome shown) told) mid last
     → (fates : List Fate) × AddsFates fates first last × RoundSays m old.params.items fates new.params.items
 round_said m old new outcome partners shown first mid last remote told before after dir flag is_remote is_told is_dir is_flag is_before is_after is_shown n are a b =
     let sure : Negotiates (rows m) (receives (section_direction m.attrs)) old new outcome =
@@ -145,8 +145,11 @@ round_said m old new outcome partners shown first mid last remote told before af
     subst (λ (x : List PayloadParams). P (rows m) (receives (section_direction m.attrs)) x after) is_before two in
     let four : P (rows m) (receives (section_direction m.attrs)) old.params.items new.params.items =
     subst (λ (y : List PayloadParams). P (rows m) (receives (section_direction m.attrs)) old.params.items y) is_after three in
-    let fates : List Fate = filter_map (fate old.params.items (receives (section_direction m.attrs)) new.params.items outcome partners) (rows m) in
-    (refusal outcome ++ fates, adds_more (refusal outcome) fates first mid last a four.1, round_says m old new outcome partners sure four.0)
+    let fates : List Fate = filter_map (fate old.params.items (receives (section_direction m.attrs)) new.params.items outcome partners) (rows m) in (
+      refusal_fate outcome ++ fates,
+      adds_more (refusal_fate outcome) fates first mid last a four.1,
+      round_says m old new outcome partners sure four.0,
+    )
 
 -- those of a description
 pub described_says : (sections lines : List MediaLine) (config ours after : List PayloadParams) (old new : Notes) → sections ≡ lines → config ≡ ours

@@ -13,10 +13,10 @@ pub without_return : (line : Bor (List ℕ)) (r : Option (Bor (List ℕ))) (resu
 without_return line r result cases is = rw is (without_suffix 13 (lit< tt) line r cases)
 
 -- some end after the content, and the rest of the lines
-abbrev pub Begins : List ℕ → List ℕ → List ℕ → Type 0
-Begins text content rest = (ending : List ℕ) × (lines_of text ≡ record { content = content; ending = ending } ∷ lines_of rest)
+abbrev pub BeginsWithLine : List ℕ → List ℕ → List ℕ → Type 0
+BeginsWithLine text content rest = (ending : List ℕ) × (lines_of text ≡ record { content = content; ending = ending } ∷ lines_of rest)
 
-pub line_at_feed : (text front rest content : List ℕ) → Some (front, rest) ≡ cut 10 text → IsWithoutReturn front content → Begins text content rest
+pub line_at_feed : (text front rest content : List ℕ) → Some (front, rest) ≡ cut 10 text → IsWithoutReturn front content → BeginsWithLine text content rest
 line_at_feed text front rest content found (inl returned) =
     let at = cut_found 10 text front rest (sym found) in
     let whole : text ≡ content ++ ((13 ∷ 10 ∷ []) ++ rest) = at.0 ∙ ap (λ (t : List ℕ). t ++ (10 ∷ rest)) returned ∙ append_assoc content (13 ∷ []) (10 ∷ rest) in
@@ -27,7 +27,7 @@ line_at_feed text front rest content found (inr plain) =
     let whole : text ≡ content ++ ((10 ∷ []) ++ rest) = at.0 ∙ ap (λ (t : List ℕ). t ++ (10 ∷ rest)) (sym plain.0) in
     (10 ∷ [], line_here text (record { content = content; ending = 10 ∷ [] }) rest whole (record { inside = rw (plain.0) at.1; ends = inl (refl, rw (plain.0) plain.1) }))
 
-pub line_at_end : (text : List ℕ) → None ≡ cut 10 text → 0 < length text → Begins text text []
+pub line_at_end : (text : List ℕ) → None ≡ cut 10 text → 0 < length text → BeginsWithLine text text []
 line_at_end text none some =
     ([], line_here text (record { content = text; ending = [] }) [] (sym (append-nil text)) (record { inside = cut_none_lacks 10 text (sym none); ends = inr (inr (refl, refl, some)) }))
 

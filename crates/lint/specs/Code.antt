@@ -49,10 +49,10 @@ is_end (Unread unfit) = true
 is_end _ = false
 
 -- an attribute line is kept unread
-abbrev pub is_kept : Code → Bool
-is_kept (Malformed misfit) = true
-is_kept (Unknown unknown) = true
-is_kept _ = false
+abbrev pub is_unread_code : Code → Bool
+is_unread_code (Malformed misfit) = true
+is_unread_code (Unknown unknown) = true
+is_unread_code _ = false
 
 -- a line is printed otherwise than it stands
 abbrev pub is_change : Code → Bool

@@ -36,18 +36,18 @@ lines_told (line ∷ lines) =
     if is_some (strip (codes "c=") line.content) then lines_told lines else line_told line.content ∷ lines_told lines
 
 -- what the lines of a text say, in order
-abbrev pub told : List ℕ → List Told
-told text = lines_told (lines_of text)
+abbrev pub told_of : List ℕ → List Told
+told_of text = lines_told (lines_of text)
 
 -- nothing is lost of a text: it is read to its end, and its lines say what is printed of it
 abbrev pub NothingLost : List ℕ → Type 0
-NothingLost text = (sdp : Sdp) × Reading text (sdp, []) × (told text ≡ told (sdp_text sdp))
+NothingLost text = (sdp : Sdp) × Reading text (sdp, []) × (told_of text ≡ told_of (sdp_text sdp))
 
 -- what the private record of the code says
-abbrev pub shown : Shown → Told
-shown line = record { kind = line.kind.now; stopped = line.stopped; rest = line.rest.now }
+abbrev pub shown_told : Shown → Told
+shown_told line = record { kind = line.kind.now; stopped = line.stopped; rest = line.rest.now }
 
 -- no line of the text is told; or this one is the first, and the text after it is left
 abbrev pub NextTold : List ℕ → Option Next → Type 0
-NextTold text None = told text ≡ []
-NextTold text (Some next) = told text ≡ shown next.line ∷ told next.rest.now
+NextTold text None = told_of text ≡ []
+NextTold text (Some next) = told_of text ≡ shown_told next.line ∷ told_of next.rest.now

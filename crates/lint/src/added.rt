@@ -17,8 +17,8 @@ impl Notes {
         ensures one { OnOk result (AddsOne place.line code self.old self.new) }
         ensures last { self.new.last ≡ self.old.last }
     {
-        let row = code.row();
-        let (title, remedy) = (row.title, row.remedy);
+        let entry = code.entry();
+        let (title, remedy) = (entry.title, entry.remedy);
         let colon = if detail.is_empty() { "" } else { ": " };
         let sentence = format!(in self.alloc; "{title}{colon}{detail}; {remedy}")?;
         let finding = Finding {

@@ -24,8 +24,8 @@
 //! - `refused`: Why a text is refused.
 //! - `round_notes`: What is said of rounds.
 //! - `row_places`: On which lines the rows of sections stand.
-//! - `rows`: The table of codes: what each says, how it is mended, where it comes from, and an example.
 //! - `section`: A section by itself, consistent or not.
+//! - `table`: The table of codes: what each says, how it is mended, where it comes from, and an example.
 //! - `told`: What the lines of a text say, but for what printing fixes.
 //! - `types`: The payload types of a section, and what its lines say of others.
 //! - `unfit`: Why a line fits nowhere.
@@ -57,8 +57,8 @@ mod part;
 mod refused;
 mod round_notes;
 mod row_places;
-mod rows;
 mod section;
+mod table;
 mod told;
 mod types;
 mod unfit;
@@ -69,4 +69,4 @@ pub use against::rounds;
 pub use code::{Change, Code, Conflict, Fate, Misfit, Refusal, Severity, Unfit, Unknown, Unseen};
 pub use finding::{Finding, Report};
 pub use found::findings;
-pub use rows::{CHANGES, CONFLICTS, FATES, MISFITS, REFUSALS, Row, UNFITS, UNKNOWNS, UNSEENS};
+pub use table::{CHANGES, CONFLICTS, Entry, FATES, MISFITS, REFUSALS, UNFITS, UNKNOWNS, UNSEENS};

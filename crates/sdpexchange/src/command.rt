@@ -1,4 +1,4 @@
-//! The words that the program takes.
+//! The arguments that the program takes.
 
 use clap::{Arg, ArgAction, ArgMatches, Command, value_parser};
 use std::alloc::{AllocError, Global};
@@ -145,7 +145,7 @@ fn valued<'a>(arg: Arg<'a>, value: &'a str, takes: Takes) -> Arg<'a> {
     }
 }
 
-/// The program's words.
+/// The program's arguments.
 pub(crate) fn command<'a>(alloc: Global) -> Result<Command<'a>, AllocError> {
     let steps = Arg::new(alloc, "step")
         .value_name("STEP")

@@ -1,4 +1,4 @@
-//! The words that the program takes.
+//! The arguments that the program takes.
 
 use clap::{Arg, ArgAction, ArgMatches, Command};
 use std::alloc::{AllocError, Global};
@@ -16,7 +16,7 @@ fn option<'a>(alloc: Global, name: &'a str, default: &'a str, help: &'a str) -> 
         .help(help)
 }
 
-/// The program's words.
+/// The program's arguments.
 pub(crate) fn command<'a>(alloc: Global) -> Result<Command<'a>, AllocError> {
     let files = Arg::new(alloc, "file")
         .value_name("FILE")

@@ -9,16 +9,16 @@ use Rattle.str0m_sdp.specs.declared.session.error.SdpError.TheVariants.{ParseErr
 use Rattle.str0m_sdp.specs.session.Error.{error_text}
 use Rattle.str0m_signal.specs.session.Reader.{Described}
 
--- what is said of it; of a refusal, its own words
-abbrev pub fault_text : Fault → List ℕ
-fault_text (Refused refusal) = error_text refusal
-fault_text NotUtf8 = codes "input is not UTF-8"
-fault_text Unreadable = codes "cannot read input"
-fault_text Unwritable = codes "cannot write output"
+-- what is said of it; of a refusal, its own text
+abbrev pub shown_fault : Fault → List ℕ
+shown_fault (Refused refusal) = error_text refusal
+shown_fault NotUtf8 = codes "input is not UTF-8"
+shown_fault Unreadable = codes "cannot read input"
+shown_fault Unwritable = codes "cannot write output"
 
 -- the line that says it
 abbrev pub fault_line : Fault → List ℕ
-fault_line fault = fault_text fault ++ codes "\n"
+fault_line fault = shown_fault fault ++ codes "\n"
 
 -- the line that says how the program is called
 abbrev pub usage_line : List ℕ

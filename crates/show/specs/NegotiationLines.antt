@@ -17,13 +17,13 @@ abbrev pub outcome_lines : ℕ → List Outcome → List ℕ
 outcome_lines n [] = []
 outcome_lines n (outcome ∷ outcomes) = outcome_line n outcome ++ outcome_lines (n + 1) outcomes
 
-abbrev pub state_text : Bool → List ℕ
-state_text true = codes "locked"
-state_text false = codes "open"
+abbrev pub lock_text : Bool → List ℕ
+lock_text true = codes "locked"
+lock_text false = codes "open"
 
 -- a row as the rows of a section are shown, with its state in place of the mid
 abbrev pub state_line : PayloadParams → List ℕ
-state_line row = row_line (state_text row.locked) row
+state_line row = row_line (lock_text row.locked) row
 
 -- the outcomes of all rounds, counted from 1, and the rows that they leave
 abbrev pub negotiation_text : List Outcome → List PayloadParams → List ℕ

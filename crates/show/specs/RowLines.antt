@@ -24,8 +24,8 @@ abbrev pub codec_text_of : PayloadParams → List ℕ
 codec_text_of row = rtp_map_text (record { codec = row.spec.codec; clock_rate = row.spec.clock_rate; channels = row.spec.channels })
 
 -- the mid of the section, the primary, RTX and RED type, the codec, and what the format says
-abbrev pub line_text : List ℕ → PayloadParams → List ℕ → List ℕ
-line_text mid row format =
+abbrev pub row_fields : List ℕ → PayloadParams → List ℕ → List ℕ
+row_fields mid row format =
     mid ++ (codes " " ++ (decimal row.pt ++ (codes " " ++ (type_text row.resend ++ (codes " " ++ (type_text row.red
     ++ (codes " " ++ (codec_text_of row ++ (codes " " ++ (format ++ (10 ∷ [])))))))))))
 
@@ -34,7 +34,7 @@ abbrev pub mid_text : MediaLine → List ℕ
 mid_text m = unwrap_or (first (filter_map mid_of m.attrs)) (codes "-")
 
 abbrev pub row_line : List ℕ → PayloadParams → List ℕ
-row_line mid row = line_text mid row (or_dash (params_text row.spec.format))
+row_line mid row = row_fields mid row (or_dash (params_text row.spec.format))
 
 abbrev pub section_lines : MediaLine → List ℕ
 section_lines m = flat_map (row_line (mid_text m)) (rows m)

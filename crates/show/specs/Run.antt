@@ -8,7 +8,7 @@ use Rattle.str0m_sdp.specs.declared.session.Sdp.{Sdp}
 use Rattle.str0m_sdp.specs.session.Session.{sdp_text}
 use Rattle.str0m_signal.specs.session.Reader.{Described}
 
--- what the words ask for: one word alone, exactly so written
+-- what the arguments ask for: one word alone, exactly so written
 abbrev pub asked_by : List ℕ → Option Shown
 asked_by word =
     if bytes_eq word (codes "text") then Some Text

@@ -43,10 +43,10 @@ impl From<AllocError> for Fault {
 }
 
 impl fmt::Display for Fault {
-    ghost use Rattle.show.specs.Faults.{fault_text};
+    ghost use Rattle.show.specs.Faults.{shown_fault};
     ghost use Rattle.std.specs.Prelude.{Some};
 
-    ghost output = { λ fault. Some (fault_text fault) };
+    ghost output = { λ fault. Some (shown_fault fault) };
 
     fn fmt<W: fmt::Write>(&self, f: &mut fmt::Formatter<W>) -> fmt::Result {
         match self {

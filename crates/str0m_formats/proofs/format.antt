@@ -18,7 +18,7 @@ pub mod MergedPairsLaws
 pub mod PairsAgain
 pub mod PairsJoined
 pub mod PairsLaws
-pub mod PairsPlain
+pub mod PairsSolid
 pub mod PairsRows
 pub mod PairsTripleLaws
 pub mod ParamTextListed

@@ -1,6 +1,6 @@
 //! Codecs.
 ghost use Rattle.std.specs.Prelude.{◌≡◌, ◌↔◌, IsTrue, Some};
-ghost use Rattle.str0m_formats.specs.codec.Codec.{codec_text, content, static_row, audio, video, events, media_kind, codec_of, IsReadAs, printed_and_read};
+ghost use Rattle.str0m_formats.specs.codec.Codec.{codec_text, content, static_entry, audio, video, events, media_kind, codec_of, IsReadAs, printed_and_read};
 ghost use Rattle.str0m_formats.specs.codec.CodecSpec.{is_at, static_codec};
 
 use std::fmt;
@@ -111,7 +111,7 @@ impl Codec {
 impl Codec {
     /// The payload type that stands for it, and the rate at which it samples then.
     pub(crate) fn static_type(self) -> Option<(u8, Frequency)>
-        ensures { result ≡ static_row self }
+        ensures { result ≡ static_entry self }
     {
         match self {
             Codec::PCMU => Some((0, Frequency::EIGHT_KHZ)),
@@ -123,7 +123,7 @@ impl Codec {
     }
 
     fn has_static_type(self, pt: u8) -> bool
-        ensures { result ≡ is_at pt (static_row self) }
+        ensures { result ≡ is_at pt (static_entry self) }
     {
         match self.static_type() {
             Some((own, _)) => own == pt,

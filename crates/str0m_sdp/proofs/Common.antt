@@ -28,18 +28,19 @@ pub use Rattle.std.specs.Prelude.{codes, IsTrue, MatchOption, nat_lt, option_map
 pub use Rattle.std.specs.Str.{bytes_eq, str_eq_ignore_ascii_case, str_to_ascii_lowercase}
 pub use Rattle.std.specs.String.{string_bytes, string_len, string_capacity}
 pub use Rattle.str0m_formats.proofs.codec.CodecSpecStatic.{needs_none, static_small}
+pub use Rattle.str0m_formats.proofs.format.FormatLinePairs.{all_both}
 pub use Rattle.str0m_formats.proofs.format.FormatParamEqual.{param_Decides}
-pub use Rattle.str0m_formats.proofs.format.FormatParamsDerived.{Equality, along, equality, word}
+pub use Rattle.str0m_formats.proofs.format.FormatParamsDerived.{Equality, eq_along, equality, eq_word}
 pub use Rattle.str0m_formats.proofs.round.ClaimedTimes.{times-append, times-cons, one_if, times-some}
 pub use Rattle.str0m_formats.specs.codec.Codec.{events, other, Content, audio, video}
 pub use Rattle.str0m_formats.specs.declared.format.format_param.FormatParam.TheVariants.{Apt, BarePtList, BareRange}
-pub use Rattle.str0m_formats.specs.format.FormatLine.{is_refused, events_end, is_events, kept, values_of}
+pub use Rattle.str0m_formats.specs.format.FormatLine.{asks_absent, events_end, is_event, kept, values_of}
 pub use Rattle.str0m_formats.specs.format.FormatParams.{set_all}
 pub use Rattle.str0m_formats.specs.round.Claimed.{AllDistinct, times}
 pub use Rattle.str0m_formats.specs.round.MatchScore.{same_codec}
 pub use Rattle.str0m_formats.specs.row.PayloadParams.{SameRow}
 pub use Rattle.str0m_formats.specs.row.PlainRow.{IsPlain, IsPlainG722}
 pub use Rattle.str0m_formats.specs.row.PlainRowBounds.{HoldsRowNumbers}
-pub use Rattle.str0m_sdp.specs.Prelude.{content, rtp_rate, static_spec, Codec, CodecSpec, FormatParam, FormatParams, PayloadParams, format_of_fmtp, line_values, empty, has, types, types_of, has_pictures, IsBounded, AreModes, IsDistance, when, ◌<|>◌, ◌>>=◌, cut, before, IpAddr, SocketAddr, Candidate}
+pub use Rattle.str0m_sdp.specs.Prelude.{content, rtp_rate, static_spec, Codec, CodecSpec, FormatParam, FormatParams, PayloadParams, format_of_fmtp, line_values, empty, has, types, types_of, has_video, IsBounded, AreModes, IsDistance, when, ◌<|>◌, ◌>>=◌, cut, before, IpAddr, SocketAddr, Candidate}
 pub use Rattle.str0m_values.specs.declared.address.IpAddr.TheVariants.{V4, V6}
 pub use denote.Enum.Bare.{same_true, sameb}

@@ -1,4 +1,4 @@
--- Words on lists.
+-- Functions on lists.
 use Rattle.std.specs.Option.{option_or}
 use Rattle.std.specs.Prelude.{Bool, not, List, [], ◌∷◌, filter, Option, Some, None}
 

@@ -11,8 +11,8 @@ pub use Rattle.str0m_formats.specs.format.FormatParam.{entry, kind, param_text}
 pub use Rattle.str0m_formats.specs.format.FormatParams.{empty, params_of}
 pub use Rattle.str0m_formats.specs.round.Choices.{has_events}
 pub use Rattle.str0m_formats.specs.round.Claimed.{has}
-pub use Rattle.str0m_formats.specs.row.KindRows.{has_sound}
-pub use Rattle.str0m_formats.specs.row.PayloadParams.{has_pictures, new_row, types, types_of}
+pub use Rattle.str0m_formats.specs.row.KindRows.{has_audio}
+pub use Rattle.str0m_formats.specs.row.PayloadParams.{has_video, new_row, types, types_of}
 pub use Rattle.str0m_formats.specs.row.PlainRowBounds.{AreModes, FitsType, IsBounded, IsByte, IsDistance}
 pub use Rattle.str0m_values.specs.Candidate.{IsSocketInRange, candidate_text}
 pub use Rattle.str0m_values.specs.Cuts.{before, cut, when, ◌<|>◌, ◌>>=◌}

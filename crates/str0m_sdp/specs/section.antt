@@ -9,7 +9,7 @@ pub mod RowAttributes
 pub mod SectionAccessors
 pub mod SectionDirection
 pub mod SectionRows
-pub mod SectionRowsWords
+pub mod SectionRowsFacts
 pub mod Sources
 pub mod SsrcInfo
 pub mod SsrcInfoReading

@@ -22,7 +22,7 @@
 //!   - `printed`: Lists, pairs and lines of values as text.
 //!   - `structured_line`: Lines of several parts, each with a form of its own.
 //!   - `word`: Words of the program's own.
-//! - `label`: The words of descriptions: labels of attributes, as they stand after `a=`.
+//! - `label`: The labels of attributes, as they stand after `a=`.
 //! - `section`: Sections: what they say, when they are consistent, and their rows.
 //!   - `alike`: Attributes that say the same once they are printed and read.
 //!   - `attribute_values`: What an attribute of a section is, and what it holds.

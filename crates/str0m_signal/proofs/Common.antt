@@ -18,9 +18,10 @@ pub use Rattle.std.specs.Prelude.{codes, is_some, IsTrue, ◌↔◌, IsErrAnd, c
 pub use Rattle.std.specs.Str.{bytes_eq, IsCharBoundary, IsUtf8, encode_utf8_all, chars}
 pub use Rattle.std.specs.Str.Parse.{digits_value, IsNumeral, AllDigits}
 pub use Rattle.str0m_formats.proofs.codec.CodecNames.{read_as, read_only}
-pub use Rattle.str0m_formats.proofs.format.FormatLineAgain.{printed_pairs, joined}
+pub use Rattle.str0m_formats.proofs.format.FormatLineAgain.{printed_pairs, linked}
 pub use Rattle.str0m_formats.proofs.format.FormatParamAgain.{parsed_printed, decimal_reads}
-pub use Rattle.str0m_formats.proofs.format.FormatParamsShown.{IsPlainPair, joined_pair, decimal_plain}
+pub use Rattle.str0m_formats.proofs.format.FormatParamsShown.{IsSolidPair, joined_pair, decimal_solid}
+pub use Rattle.str0m_formats.proofs.format.MergedPairsKeys.{Pairs}
 pub use Rattle.str0m_formats.proofs.format.PairsLaws.{pairs_read_is, pairs_read_only}
 pub use Rattle.str0m_formats.specs.codec.Codec.{printed_and_read, content, other, codec_text}
 pub use Rattle.str0m_formats.specs.declared.codec.Codec.{Codec}
@@ -33,7 +34,8 @@ pub use Rattle.str0m_formats.specs.round.Claimed.{times}
 pub use Rattle.str0m_formats.specs.round.Narrowing.{telephone_max}
 pub use Rattle.str0m_formats.specs.row.PayloadParams.{types_of, AllSmall}
 pub use Rattle.str0m_formats.specs.row.PlainRowBounds.{HoldsRowNumbers, IsBounded, IsByte}
-pub use Rattle.str0m_sdp.proofs.section.MadeSectionValues.{values_printed, describes_read_back, line_read, values_read, printed_line}
+pub use Rattle.str0m_sdp.proofs.section.MadeSectionValues.{values_printed, describes_read_back, pairs_line_read, values_read}
+pub use Rattle.str0m_sdp.proofs.section.MadeSectionValues.{format_line_printed}
 pub use Rattle.str0m_sdp.proofs.section.RowAttributesReads.{reads, fmtp_lines, red_reads}
 pub use Rattle.str0m_sdp.specs.attribute.Bandwidth.{bandwidth_line}
 pub use Rattle.str0m_sdp.specs.attribute.Fmtp.{is_shown, shown_line}
@@ -51,7 +53,7 @@ pub use Rattle.str0m_sdp.specs.form.Printed.{attribute_line}
 pub use Rattle.str0m_sdp.specs.section.Consistency.{AgreesOnApt, NoneIff, IsMapped, NamesNoOther, apt_of, apt_among, apt_in, first_apt, maps}
 pub use Rattle.str0m_sdp.specs.section.MediaLine.{formats_text, m_line, media_line_text, pts_text, port_text}
 pub use Rattle.str0m_sdp.specs.section.RowAttributes.{row_attrs, feedback_line, feedback_attrs, fmtp_line, format_values, format_attrs, rtx_lines, rtx_attrs, red_lines, red_attrs}
-pub use Rattle.str0m_sdp.specs.section.SectionRows.{KeepsToLine, IsInRange, KeepsToLines}
+pub use Rattle.str0m_sdp.specs.section.SectionRows.{KeepsToLine, IsInBounds, KeepsToLines}
 pub use Rattle.str0m_sdp.specs.session.Session.{origin_line, session_text}
 pub use Rattle.str0m_signal.specs.Prelude.{codec_of, IsReadAs, FormatParam, PayloadParams, pair_texts, IsEventRange, AllDistinct, types, IsPlain, media_attribute_text, session_attribute_text, media_words, session_words, bandwidth_text, is_media, setup_text, MediaAttribute, SessionAttribute, Bandwidth, MediaType, Proto, RestrictionId, SimulcastLayer, MediaLine, Sdp, line_end, Consistent, is_mid, is_setup, is_direction, is_of_type, made, HasBoundedRows, sdp_text, Parted, IsCandidateText, before, cut, is_rest, lacks, num, strip, when, ◌<|>◌, ◌>>=◌, IsTheOnly, FirstFit, IsNum, IsPt, IsRest, IsWord, Lacks, IsWithout, code, beginning_of, IsLongestBeginning}
 pub use Rattle.str0m_values.proofs.AddressWords.{lacks_both}
@@ -60,10 +62,11 @@ pub use Rattle.str0m_values.proofs.CandidateParts.{num_both}
 pub use Rattle.str0m_values.proofs.CutLaws.{before_front, cut_at, cut_found, cut_none, cut_none_lacks, Lacks-append, lacks_from, lacks_true, strip_at, strip_found, before_lacks, strip_none}
 pub use Rattle.str0m_values.proofs.CutsBothWays.{bind_some, if_some, or_some, reads_first, some_is, Sound, sound_or, reads_either, Reads, one_value, none_reads, reads_none}
 pub use Rattle.str0m_values.proofs.CutsNumLaws.{digits_lack, num_found, num_reads, number_lacks, parsed_whole, rest_true, when_some, when_true}
+pub use Rattle.str0m_values.proofs.FingerprintPairs.{glyph_value}
 pub use Rattle.str0m_values.proofs.IdentifierBeginnings.{beginning_is, beginning_only}
 pub use Rattle.str0m_values.proofs.WordsOfCases.{reads_words}
-pub use Rattle.str0m_values.specs.Address.{IsOctet, IsGroup, IsOneGroup, IsEnd, AreGroups, AreAnyGroups, IsIpText, pairs, ip_text}
-pub use Rattle.str0m_values.specs.Candidate.{candidate_text, IsSocket, IsRelated, AreNames, IsSocketInRange, IsPrintable, socket_text, related_text, extras_text}
+pub use Rattle.str0m_values.specs.Address.{IsOctet, IsHexGroup, IsOneGroup, IsEnd, AreGroups, AreAnyGroups, IsIpText, octet_pairs, ip_text}
+pub use Rattle.str0m_values.specs.Candidate.{candidate_text, IsSocket, IsRelated, AreIceNames, IsSocketInRange, IsPrintable, socket_text, related_text, extras_text}
 pub use Rattle.str0m_values.specs.Cuts.{front}
 pub use Rattle.str0m_values.specs.Fingerprint.{hex_pair, pairs_text, fingerprint_text}
 pub use denote.Shadow.{shadow}

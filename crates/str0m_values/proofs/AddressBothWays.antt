@@ -63,8 +63,8 @@ net_of (V6 groups) = NetIp.V6 (record { segments = groups })
 net_to : (text : List ℕ) (a : IpAddr) → IsIpText text a → net.IsIpText text (net_of a)
 net_to text a h = grind (arith, v4_to, v6_to)
 
-pub parsed_ok : (text : List ℕ) (a : NetIpAddr) → net.IsIpText text a → Some (own_address a) ≡ ip_read text
-parsed_ok text a h = sym (ip_complete text (own_address a) (own_from text a h))
+pub ip_parsed_ok : (text : List ℕ) (a : NetIpAddr) → net.IsIpText text a → Some (own_address a) ≡ ip_read text
+ip_parsed_ok text a h = sym (ip_complete text (own_address a) (own_from text a h))
 
-pub parsed_err : (text : List ℕ) → ((a : NetIpAddr) → net.IsIpText text a → ⊥) → None ≡ ip_read text
-parsed_err text none = sym (reads_none ip_both text (λ a is. none (net_of a) (net_to text a is)))
+pub ip_parsed_err : (text : List ℕ) → ((a : NetIpAddr) → net.IsIpText text a → ⊥) → None ≡ ip_read text
+ip_parsed_err text none = sym (reads_none ip_both text (λ a is. none (net_of a) (net_to text a is)))

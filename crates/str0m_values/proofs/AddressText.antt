@@ -34,19 +34,19 @@ same_v6 groups = grind (arith, same_run, same_groups, append_assoc)
 
 -- ---- what is printed is in the grammar
 
-each : (limit : ℕ) (xs : List ℕ) → 0 < limit → AllByRecursion (λ n. n < limit) xs → (k : ℕ) → get_or xs k 0 < limit
-each limit [] some h k = some
-each limit (x ∷ xs) some h zero = h.0
-each limit (x ∷ xs) some h (suc k) = each limit xs some h.1 k
+each_below : (limit : ℕ) (xs : List ℕ) → 0 < limit → AllByRecursion (λ n. n < limit) xs → (k : ℕ) → get_or xs k 0 < limit
+each_below limit [] some h k = some
+each_below limit (x ∷ xs) some h zero = h.0
+each_below limit (x ∷ xs) some h (suc k) = each_below limit xs some h.1 k
 
 same_v4 : (octets : List ℕ) → length octets ≡ 4 → net.ipv4_text octets ≡ v4_text octets
 same_v4 octets four = rw (four_items octets four) (simp append_assoc)
 
 pub printed_v4 : (octets : List ℕ) → length octets ≡ 4 → AllByRecursion (λ n. n < 2 ^ 8) octets → IsV4Text (v4_text octets) octets
-printed_v4 octets four small = subst (λ t. IsV4Text t octets) (same_v4 octets four) (v4_from (net.ipv4_text octets) octets (IsDotted-ipv4_text octets four (each (2 ^ 8) octets (lit< tt) small)))
+printed_v4 octets four small = subst (λ t. IsV4Text t octets) (same_v4 octets four) (v4_from (net.ipv4_text octets) octets (IsDotted-ipv4_text octets four (each_below (2 ^ 8) octets (lit< tt) small)))
 
 pub printed_v6 : (groups : List ℕ) → length groups ≡ 8 → AllByRecursion (λ n. n < 2 ^ 16) groups → IsV6Text (v6_text groups) groups
-printed_v6 groups eight small = subst (λ t. IsV6Text t groups) (same_v6 groups) (v6_from (hex_groups_text groups) groups (IsColonHex-hex_groups_text groups eight (each (2 ^ 16) groups (lit< tt) small)))
+printed_v6 groups eight small = subst (λ t. IsV6Text t groups) (same_v6 groups) (v6_from (hex_groups_text groups) groups (IsColonHex-hex_groups_text groups eight (each_below (2 ^ 16) groups (lit< tt) small)))
 
-pub printed : (a : IpAddr) → IsInRange a → IsIpText (ip_text a) a
-printed a h = grind (arith, printed_v4, printed_v6)
+pub ip_printed : (a : IpAddr) → IsInRange a → IsIpText (ip_text a) a
+ip_printed a h = grind (arith, printed_v4, printed_v6)

@@ -1,6 +1,6 @@
 -- The text of an address is a word.
 use Rattle.str0m_values.proofs.Common.{◌≡◌, ◌≢◌, ℕ, ◌<◌, ◌≤◌, ◌+◌, ◌^◌, List, [], ◌∷◌, ◌++◌, length, ap, ◌∙◌, inl, inr, arith, lit≤, length-append, codes, decimal, digit_value, IsNumeral, AllDigits, decimal_is_IsNumeral}
-use Rattle.str0m_values.specs.Address.{Parted, IsOctet, IsV4Text, IsGroup, IsOneGroup, IsEnd, AreGroups, AreAnyGroups, IsShortened, IsIpText}
+use Rattle.str0m_values.specs.Address.{Parted, IsOctet, IsV4Text, IsHexGroup, IsOneGroup, IsEnd, AreGroups, AreAnyGroups, IsShortened, IsIpText}
 use Rattle.str0m_values.specs.CutsParts.{Lacks, IsRest, IsWord}
 use Rattle.str0m_values.specs.declared.address.IpAddr.{IpAddr}
 use Rattle.str0m_values.specs.declared.address.IpAddr.TheVariants.{V4, V6}
@@ -37,7 +37,7 @@ v4_word text octets h = parted_word 46 IsOctet (λ e. absurd (omega arith)) (λ 
 colon : ◌≢◌ {A = ℕ} 58 32
 colon e = absurd (omega arith)
 
-group_word : (text : List ℕ) (n : ℕ) → IsGroup text n → IsWord text
+group_word : (text : List ℕ) (n : ℕ) → IsHexGroup text n → IsWord text
 group_word text n h = numeral_word 16 text (lit≤ tt) h.numeral
 
 one_word : (text groups : List ℕ) → IsOneGroup text groups → IsWord text

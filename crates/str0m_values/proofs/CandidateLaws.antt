@@ -4,10 +4,10 @@ use Rattle.str0m_values.proofs.CandidateWords.{protocol_both, kind_both}
 use Rattle.str0m_values.proofs.Common.{rules, ◌≡◌, ℕ, cond, List, [], ◌∷◌, ◌++◌, Option, Some, None, refl, ap, ◌∙◌, inl, inr, append_assoc, append-nil, subst, arith, codes}
 use Rattle.str0m_values.proofs.CutsBothWays.{Reads, some_is}
 use Rattle.str0m_values.proofs.CutsNumLaws.{rest_true}
-use Rattle.str0m_values.proofs.LabelLaws.{bound, bind_is, Ends, EndsWithout, Starts, starts_all, starts_optional, Front, labelled_front, part_front, optional_front}
-use Rattle.str0m_values.specs.Candidate.{IsSocket, IsRelated, AreNames, IsCandidateText}
+use Rattle.str0m_values.proofs.LabelLaws.{bound, bind_is, IsWordEnd, EndsWithout, Starts, starts_all, starts_optional, Front, labelled_front, part_front, optional_front}
+use Rattle.str0m_values.specs.Candidate.{IsSocket, IsRelated, AreIceNames, IsCandidateText}
 use Rattle.str0m_values.specs.CandidateKind.{IsKindText}
-use Rattle.str0m_values.specs.CandidateReading.{Lead, Extras, protocol_read, kind_read, socket_read, related_read, tcp_part_read, names_read, lead_read, last_read, extras_read, candidate_of, candidate_read}
+use Rattle.str0m_values.specs.CandidateReading.{Lead, Extras, protocol_read, candidate_kind_read, socket_read, related_read, tcp_part_read, ice_names_read, lead_read, last_read, extras_read, candidate_of, candidate_read}
 use Rattle.str0m_values.specs.Cuts.{num, is_rest}
 use Rattle.str0m_values.specs.CutsParts.{IsNum}
 use Rattle.str0m_values.specs.LabelReading.{labelled_read, part_read, optional_read}
@@ -32,15 +32,15 @@ from_generation = candidate_label.GENERATION.now ∷ from_names
 abbrev from_tcp_type : List (List ℕ)
 from_tcp_type = candidate_label.TCP_TYPE.now ∷ from_generation
 
-starts_names : (part rest : List ℕ) (x : Option (List ℕ)) → AreNames part x → Starts from_cost rest → Starts from_names (part ++ rest)
+starts_names : (part rest : List ℕ) (x : Option (List ℕ)) → AreIceNames part x → Starts from_cost rest → Starts from_names (part ++ rest)
 starts_names part rest x (inl h) s =
     grind (arith, append_assoc h.0 h.1 rest, starts_optional IsSame candidate_label.UFRAG.now from_cost h.1 rest x h.4 s, starts_optional IsSame candidate_label.NETWORK_ID.now (candidate_label.UFRAG.now ∷ from_cost) h.0 (h.1 ++ rest) h.3.0 h.3.1 (starts_optional IsSame candidate_label.UFRAG.now from_cost h.1 rest x h.4 s))
 starts_names part rest x (inr h) s = grind arith
 
-ends_labelled : {B : Type 0} (F : List ℕ → B → Type 0) (label part rest : List ℕ) (x : B) → ((more : List ℕ) → Ends (label ++ more)) → IsLabelled label F part x → Ends (part ++ rest)
+ends_labelled : {B : Type 0} (F : List ℕ → B → Type 0) (label part rest : List ℕ) (x : B) → ((more : List ℕ) → IsWordEnd (label ++ more)) → IsLabelled label F part x → IsWordEnd (part ++ rest)
 ends_labelled F label part rest x spaced h = rw (h.1, append_assoc label h.0 rest) (spaced (h.0 ++ rest))
 
-ends_socket : (part rest : List ℕ) (x : SocketAddr) → IsSocket (codes " ") (codes " ") part x → Ends (part ++ rest)
+ends_socket : (part rest : List ℕ) (x : SocketAddr) → IsSocket (codes " ") (codes " ") part x → IsWordEnd (part ++ rest)
 ends_socket part rest x h = grind arith
 
 -- ---- the parts in front of the address
@@ -79,7 +79,7 @@ lead_sound text x e =
       priority_is = p₄.2;
     })
 
-lead_complete : (text : List ℕ) (x : Lead) (rest : List ℕ) → IsLead text x rest → Ends rest → lead_read text ≡ Some (x, rest)
+lead_complete : (text : List ℕ) (x : Lead) (rest : List ℕ) → IsLead text x rest → IsWordEnd rest → lead_read text ≡ Some (x, rest)
 lead_complete text x rest h ends =
     let r₄ : List ℕ = h.priority ++ rest in
     let r₃ : List ℕ = h.protocol ++ r₄ in
@@ -106,13 +106,13 @@ record IsLast (text : List ℕ) (x : Option (List ℕ)) : Type 0 where
   cost : List ℕ
   joined : text ≡ generation ++ (names ++ cost)
   generation_is : IsLeftOut candidate_label.GENERATION.now generation
-  names_are : AreNames names x
+  names_are : AreIceNames names x
   cost_is : IsLeftOut candidate_label.NETWORK_COST.now cost
 
 last_sound : (text : List ℕ) (x : Option (List ℕ)) → last_read text ≡ Some x → IsLast text x
 last_sound text x e =
     bound (optional_read candidate_label.GENERATION.now text) _ _ e λ generation e₁ k₁.
-    bound (names_read generation.1) _ _ k₁ λ names e₂ k₂.
+    bound (ice_names_read generation.1) _ _ k₁ λ names e₂ k₂.
     bound (optional_read candidate_label.NETWORK_COST.now names.1) _ _ k₂ λ cost e₃ last.
     let done = nothing_left cost.1 names.0 x last in
     let p₁ = (optional_front candidate_label.GENERATION.now).sound text generation e₁ in
@@ -185,7 +185,7 @@ tcp_type_starts : (text : List ℕ) (x : Extras) (h : IsExtras text x) → Start
 tcp_type_starts text x h =
     search (rules, starts_optional IsTcpTypeText candidate_label.TCP_TYPE.now from_generation h.tcp_type h.last x.tcptype h.tcp_type_is, last_starts h.last x.ufrag h.last_is)
 
-extras_end : (text : List ℕ) (x : Extras) → IsExtras text x → Ends text
+extras_end : (text : List ℕ) (x : Extras) → IsExtras text x → IsWordEnd text
 extras_end text x h = grind arith
 
 extras_complete : (text : List ℕ) (x : Extras) → IsExtras text x → extras_read text ≡ Some x
@@ -194,7 +194,7 @@ extras_complete text x h =
 
 -- ---- the whole text
 
-spaced_socket : Front (IsSocket (codes " ") (codes " ")) Ends (socket_read (codes " ") (codes " "))
+spaced_socket : Front (IsSocket (codes " ") (codes " ")) IsWordEnd (socket_read (codes " ") (codes " "))
 spaced_socket = socket_front (codes " ") (codes " ") (λ more. refl)
 
 -- what is read stands for the candidate
@@ -202,7 +202,7 @@ candidate_sound : (text : List ℕ) (c : Candidate) → candidate_read text ≡ 
 candidate_sound text c e =
     bound (lead_read text) _ _ e λ lead e₁ k₁.
     bound (socket_read (codes " ") (codes " ") lead.1) _ _ k₁ λ address e₂ k₂.
-    bound (part_read candidate_label.TYPE.now kind_read address.1) _ _ k₂ λ kind e₃ k₃.
+    bound (part_read candidate_label.TYPE.now candidate_kind_read address.1) _ _ k₂ λ kind e₃ k₃.
     bound (extras_read kind.1) _ _ k₃ λ extras e₄ same.
     let l = lead_sound text lead e₁ in
     let a = spaced_socket.sound lead.1 address e₂ in

@@ -1,5 +1,5 @@
 -- What is printed of a candidate stands for it.
-use Rattle.str0m_values.proofs.AddressText.{printed}
+use Rattle.str0m_values.proofs.AddressText.{ip_printed}
 use Rattle.str0m_values.proofs.AddressWords.{decimal_word, ip_word}
 use Rattle.str0m_values.proofs.Common.{◌≡◌, ◌≢◌, ℕ, ◌<◌, ◌≤◌, ◌^◌, List, [], ◌∷◌, ◌++◌, get_or, Option, Some, None, refl, sym, inl, arith, subst, append-nil, append_assoc, lit<, codes, decimal, IfSome, digit_value, IsNumeral, decimal_is_IsNumeral, without_leading_plus_none}
 use Rattle.str0m_values.specs.Address.{ip_text}
@@ -40,7 +40,7 @@ number_part label limit n fits small = (decimal n, refl, decimal_word n (omega a
 
 socket_part : (ip_label port_label : List ℕ) (a : SocketAddr) → IsSocketInRange a → IsSocket ip_label port_label (socket_text ip_label port_label a) a
 socket_part ip_label port_label a h =
-    let ip-is = printed a.ip h.0 in (
+    let ip-is = ip_printed a.ip h.0 in (
       ip_label ++ ip_text a.ip,
       port_label ++ decimal a.port,
       sym (append_assoc ip_label (ip_text a.ip) (port_label ++ decimal a.port)),

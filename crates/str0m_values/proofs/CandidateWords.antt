@@ -3,7 +3,7 @@ use Rattle.str0m_values.proofs.Common.{arith, ◌≡◌, Some, str_to_ascii_lowe
 use Rattle.str0m_values.proofs.CutsBothWays.{Reads}
 use Rattle.str0m_values.proofs.WordsOfCases.{reads_alike, reads_words}
 use Rattle.str0m_values.specs.CandidateKind.{kind_text, IsKindText}
-use Rattle.str0m_values.specs.CandidateReading.{protocol_read, tcp_type_read, kind_read}
+use Rattle.str0m_values.specs.CandidateReading.{protocol_read, tcp_type_read, candidate_kind_read}
 use Rattle.str0m_values.specs.Protocol.{protocol_text, tcp_type_text, IsProtocolText, IsTcpTypeText}
 use Rattle.str0m_values.specs.Words.{case_alike, case_of}
 use Rattle.str0m_values.specs.declared.candidate_kind.CandidateKind.{CandidateKind}
@@ -31,5 +31,5 @@ protocol_both = reads_alike protocol_text PROTOCOLS (λ p. (protocol_own p).0) (
 pub tcp_type_both : Reads IsTcpTypeText tcp_type_read
 tcp_type_both = reads_alike tcp_type_text TCP_TYPES (λ t. (tcp_type_own t).0) (λ t. (tcp_type_own t).1)
 
-pub kind_both : Reads IsKindText kind_read
+pub kind_both : Reads IsKindText candidate_kind_read
 kind_both = reads_words kind_text KINDS kind_own

@@ -3,16 +3,16 @@ use Rattle.str0m_values.proofs.Common.{◌≡◌, ℕ, ◌<◌, ◌≤◌, ◌+�
 use Rattle.str0m_values.specs.Cuts.{IsTheOnly, is_rest, is_numeral, num, when}
 use Rattle.str0m_values.specs.CutsParts.{IsNum, Lacks, IsRest}
 
-own : IsNumeralModel (λ ds. all_ascii_digits ds ≡ true) (digits_value 10)
-own = numerals_by_value _ tells_all_ascii_digits
+own_numerals : IsNumeralModel (λ ds. all_ascii_digits ds ≡ true) (digits_value 10)
+own_numerals = numerals_by_value _ tells_all_ascii_digits
 
 pub numeral_true : (ds : List ℕ) → IsNumeral 10 ds → is_numeral ds ≡ true
-numeral_true ds h = and_from (is_rest ds) (all_ascii_digits ds) (lt-ltb 0 (length ds) h.0) (own.from ds h.1)
+numeral_true ds h = and_from (is_rest ds) (all_ascii_digits ds) (lt-ltb 0 (length ds) h.0) (own_numerals.from ds h.1)
 
 pub numeral_from : (ds : List ℕ) → is_numeral ds ≡ true → IsNumeral 10 ds
 numeral_from ds e =
     let p = and_parts (is_rest ds) (all_ascii_digits ds) e in
-    (ltb-true 0 (length ds) p.0, own.to ds p.1)
+    (ltb-true 0 (length ds) p.0, own_numerals.to ds p.1)
 
 pub when_some : {A : Type 0} (test : Bool) (x y : A) → when test x ≡ Some y → (test ≡ true) × (x ≡ y)
 when_some test x y e = grind arith

@@ -2,10 +2,10 @@
 use Rattle.std.proofs.lemmas.List.Elements.{All-head, All-tail}
 use Rattle.std.proofs.lemmas.List.Splits.{slice_split_at, slice_split_none}
 use Rattle.str0m_values.proofs.Common.{◌≡◌, ◌≢◌, ◌==◌, ◌<◌, ◌+◌, ◌*◌, ℕ, true, false, List, [], ◌∷◌, ◌++◌, All, map, arith, sym, append-nil, subst, digit_value, AllZip, flat_map, digit_glyph, slice_split}
-use Rattle.str0m_values.specs.Fingerprint.{hex_pair, pairs_text, pieces_of, IsByte}
+use Rattle.str0m_values.specs.Fingerprint.{hex_pair, pairs_text, pieces_of, IsHexByte}
 
 -- a printed digit is worth what it was printed for
-glyph_value : (d : ℕ) → d < 16 → digit_value (digit_glyph true d) ≡ d
+pub glyph_value : (d : ℕ) → d < 16 → digit_value (digit_glyph true d) ≡ d
 glyph_value d lt = grind arith
 
 -- so it is no character that isn't a digit
@@ -13,11 +13,11 @@ glyph_other : (c d : ℕ) → digit_value c ≡ 36 → d < 16 → digit_glyph tr
 glyph_other c d far lt = grind arith
 
 -- two digits read as the byte that they write
-two_read : (a b m n byte : ℕ) → a ≢ 43 → digit_value a ≡ m → digit_value b ≡ n → m < 16 → n < 16 → m * 16 + n ≡ byte → IsByte (a ∷ b ∷ []) byte
-two_read a b m n byte plus am bn small low sum = grind arith
+two_digits_read : (a b m n byte : ℕ) → a ≢ 43 → digit_value a ≡ m → digit_value b ≡ n → m < 16 → n < 16 → m * 16 + n ≡ byte → IsHexByte (a ∷ b ∷ []) byte
+two_digits_read a b m n byte plus am bn small low sum = grind arith
 
 -- the pair reads as its byte
-pub pair_reads : (byte : ℕ) → byte < 256 → IsByte (hex_pair byte) byte
+pub pair_reads : (byte : ℕ) → byte < 256 → IsHexByte (hex_pair byte) byte
 pair_reads byte lt = grind (arith, glyph_other, glyph_value)
 
 pair_lacks : (byte : ℕ) → byte < 256 → All (λ c. (c == 58) ≡ false) (hex_pair byte)
@@ -29,16 +29,16 @@ pieces_joined text F lacks first [] h all = grind (arith, append-nil, slice_spli
 pieces_joined text F lacks first (next ∷ more) h all =
     grind (arith, slice_split_at, pieces_joined text F lacks next more (All-head F next more all) (All-tail F next more all))
 
-pairs_read : (bytes : List ℕ) → All (λ byte. byte < 256) bytes → AllZip IsByte (map hex_pair bytes) bytes
-pairs_read [] all = tt
-pairs_read (byte ∷ more) all =
+hex_pairs_read : (bytes : List ℕ) → All (λ byte. byte < 256) bytes → AllZip IsHexByte (map hex_pair bytes) bytes
+hex_pairs_read [] all = tt
+hex_pairs_read (byte ∷ more) all =
     let P : ℕ → Type 0 = λ byte. byte < 256 in
-    (pair_reads byte (All-head P byte more all), pairs_read more (All-tail P byte more all))
+    (pair_reads byte (All-head P byte more all), hex_pairs_read more (All-tail P byte more all))
 
 -- printed bytes read as themselves
-pub printed_read : (first : ℕ) (more : List ℕ) → All (λ byte. byte < 256) (first ∷ more) → AllZip IsByte (pieces_of (pairs_text (first ∷ more))) (first ∷ more)
+pub printed_read : (first : ℕ) (more : List ℕ) → All (λ byte. byte < 256) (first ∷ more) → AllZip IsHexByte (pieces_of (pairs_text (first ∷ more))) (first ∷ more)
 printed_read first more all =
     let P : ℕ → Type 0 = λ byte. byte < 256 in
-    subst (λ (pieces : List (List ℕ)). AllZip IsByte pieces (first ∷ more))
+    subst (λ (pieces : List (List ℕ)). AllZip IsHexByte pieces (first ∷ more))
     (sym (pieces_joined hex_pair P pair_lacks first more (All-head P first more all) (All-tail P first more all)))
-    (pairs_read (first ∷ more) all)
+    (hex_pairs_read (first ∷ more) all)

@@ -5,40 +5,40 @@ use Rattle.str0m_values.proofs.Common.{◌≡◌, ◌≤◌, ◌+◌, ◌==◌, 
 use Rattle.str0m_values.specs.H264.{Pattern, patterns, fits}
 
 -- the first bytes differ, or some bit that counts in both does
-abbrev apart : Pattern → Pattern → Bool
-apart a b = not (a.1 == b.1) || not (bit_and a.3 b.2 == bit_and b.3 a.2)
+abbrev pattern_apart : Pattern → Pattern → Bool
+pattern_apart a b = not (a.1 == b.1) || not (bit_and a.3 b.2 == bit_and b.3 a.2)
 
-abbrev apart_from_all : Pattern → List Pattern → Bool
-apart_from_all a [] = true
-apart_from_all a (b ∷ more) = apart a b && apart_from_all a more
+abbrev pattern_apart_from : Pattern → List Pattern → Bool
+pattern_apart_from a [] = true
+pattern_apart_from a (b ∷ more) = pattern_apart a b && pattern_apart_from a more
 
-abbrev all_apart : List Pattern → Bool
-all_apart [] = true
-all_apart (a ∷ more) = apart_from_all a more && all_apart more
+abbrev patterns_apart : List Pattern → Bool
+patterns_apart [] = true
+patterns_apart (a ∷ more) = pattern_apart_from a more && patterns_apart more
 
 -- bits under both masks, one after the other in either order
 both_masks : (n m k : ℕ) → bit_and (bit_and n m) k ≡ bit_and (bit_and n k) m
 both_masks n m k = and_assoc k n m ∙ ap (bit_and n) (and_comm m k) ∙ sym (and_assoc m n k)
 
 -- bytes that fit both of two patterns show that they aren't apart
-not_apart : (idc iop : ℕ) (a b : Pattern) → fits idc iop a ≡ true → fits idc iop b ≡ true → apart a b ≡ false
+not_apart : (idc iop : ℕ) (a b : Pattern) → fits idc iop a ≡ true → fits idc iop b ≡ true → pattern_apart a b ≡ false
 not_apart idc iop a b p q = grind (arith, and_parts, eqb-true, both_masks, eq-eqb)
 
-misses : (idc iop : ℕ) (a b : Pattern) → apart a b ≡ true → fits idc iop a ≡ true → fits idc iop b ≡ false
+misses : (idc iop : ℕ) (a b : Pattern) → pattern_apart a b ≡ true → fits idc iop a ≡ true → fits idc iop b ≡ false
 misses idc iop a b e p = grind (arith, cases_Bool, not_apart)
 
 -- how many fit, with one more pattern in front
 counted : (idc iop : ℕ) (a : Pattern) (more : List Pattern) → count_by (fits idc iop) (a ∷ more) ≡ cond (fits idc iop a) 1 0 + count_by (fits idc iop) more
 counted idc iop a more = sum_by-cons (λ x. cond (fits idc iop x) 1 0) a more
 
-none_fit : (idc iop : ℕ) (a : Pattern) (more : List Pattern) → apart_from_all a more ≡ true → fits idc iop a ≡ true → count_by (fits idc iop) more ≡ 0
+none_fit : (idc iop : ℕ) (a : Pattern) (more : List Pattern) → pattern_apart_from a more ≡ true → fits idc iop a ≡ true → count_by (fits idc iop) more ≡ 0
 none_fit idc iop a [] e p = refl
 none_fit idc iop a (b ∷ more) e p = grind (arith, and_parts, counted, misses, none_fit idc iop a more)
 
-at_most_one : (idc iop : ℕ) (rows : List Pattern) → all_apart rows ≡ true → count_by (fits idc iop) rows ≤ 1
+at_most_one : (idc iop : ℕ) (rows : List Pattern) → patterns_apart rows ≡ true → count_by (fits idc iop) rows ≤ 1
 at_most_one idc iop [] e = omega arith
 at_most_one idc iop (a ∷ more) e =
-    grind (arith, and_parts (apart_from_all a more) (all_apart more) e, cases_Bool (fits idc iop a), counted idc iop a more, none_fit idc iop a more, at_most_one idc iop more)
+    grind (arith, and_parts (pattern_apart_from a more) (patterns_apart more) e, cases_Bool (fits idc iop a), counted idc iop a more, none_fit idc iop a more, at_most_one idc iop more)
 
 pub one_pattern : (idc iop : ℕ) → count_by (fits idc iop) patterns ≤ 1
 one_pattern idc iop = at_most_one idc iop patterns refl

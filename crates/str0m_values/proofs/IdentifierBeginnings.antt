@@ -12,13 +12,13 @@ record IsLastSeam (text : List ℕ) (i at : ℕ) : Type 0 where
 starts : (b : ℕ) → is_char_start b ≡ true → 128 ≤ b → 192 ≤ b
 starts b e high = grind (arith, ltb-true, leb-true)
 
-inside : (b : ℕ) → is_char_start b ≡ false → (128 ≤ b → 192 ≤ b) → ⊥
-inside b e h = grind arith
+no_start_inside : (b : ℕ) → is_char_start b ≡ false → (128 ≤ b → 192 ≤ b) → ⊥
+no_start_inside b e h = grind arith
 
 floor_is : (text : List ℕ) (i : ℕ) → i < length text → IsLastSeam text i (floor_char_boundary text i)
 unfolding floor_char_boundary
 floor_is text zero within = record { bound = omega arith; seam = inl refl; last = λ j above below is. absurd (omega arith) }
-floor_is text (suc i) within = grind (arith, cases_Bool, starts, floor_is text i, cases_lt, inside)
+floor_is text (suc i) within = grind (arith, cases_Bool, starts, floor_is text i, cases_lt, no_start_inside)
 
 -- the function gives a longest beginning
 pub beginning_is : (room : ℕ) (text : List ℕ) → IsLongestBeginning room text (beginning_of room text)

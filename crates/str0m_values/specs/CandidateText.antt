@@ -12,5 +12,5 @@ seen_lead lead = record { foundation = lead.foundation.now; component_id = lead.
 abbrev pub seen_extras : FoundExtras → Extras
 seen_extras extras = record { raddr = extras.raddr; tcptype = extras.tcptype; ufrag = option_map (λ t. t.now) extras.ufrag }
 
-abbrev pub seen : Found → Candidate
-seen found = candidate_of (seen_lead found.lead) found.addr found.kind (seen_extras found.extras)
+abbrev pub seen_candidate : Found → Candidate
+seen_candidate found = candidate_of (seen_lead found.lead) found.addr found.kind (seen_extras found.extras)

@@ -24,7 +24,7 @@ HasNumbersOfTexts profile_id tier_flag level_id defaults profile tier level =
 
 -- the value beside a number in a table
 abbrev pub value_in : {A : Type 0} → List (A × ℕ) → ℕ → Option A
-value_in rows n = option_map (λ row. row.0) (find (λ row. row.1 == n) rows)
+value_in rows n = option_map (λ it. it.0) (find (λ it. it.1 == n) rows)
 
 -- the number of each profile, tier and level of a codec, the tables of them, and the numbers that absent texts stand for
 pub record Tables (P T L : Type 0) : Type 0 where

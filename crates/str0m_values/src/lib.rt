@@ -1,4 +1,4 @@
-//! Plain values that session descriptions speak of, and the parts that their lines are made of.
+//! Values that session descriptions speak of, and the parts that their lines are made of.
 //!
 //! - `address`: IP addresses.
 //! - `candidate`: Candidates.

@@ -14,12 +14,12 @@ use std::ops::{AsDeref, DerefStr};
 
 /// The most bytes that are kept in place: with their number they take as much room as a `String`. Most texts of a description
 /// have fewer.
-const SHORT: usize = 16;
+const IN_PLACE: usize = 16;
 
 /// Where the bytes of a text lie: in place, or in memory of their own.
 #[derive(Drop)]
 enum Letters {
-    Short(ArrayString<SHORT>),
+    Short(ArrayString<IN_PLACE>),
     Long(String),
 }
 

@@ -1,6 +1,6 @@
 //! Tests that are code: of what no line of `cases/` says. Each file has one subject:
 //!
-//! - plain values: `candidates`, `transport` (credentials, fingerprints, roles), `names`, `profiles`;
+//! - values: `candidates`, `transport` (credentials, fingerprints, roles), `names`, `profiles`;
 //! - rows and rounds: `rounds`, `fourteen_rows`; `negotiation`, rounds with a whole text;
 //! - descriptions: `attributes`, `sections`, `descriptions`, `read_back`;
 //! - what callers do: `answers`, `offers`;
@@ -20,7 +20,7 @@
 //! - `profiles`: Profiles, tiers and levels: their order, made of their parts, and asked alone.
 //! - `program`: The program `sdpshow` over memory, and what a run of it comes to.
 //! - `program_faults`: Runs of the program where input or output fails.
-//! - `program_runs`: Runs of the program, by its words and what it reads.
+//! - `program_runs`: Runs of the program, by its arguments and what it reads.
 //! - `read_back`: What is printed and read again: whether it is the same, and what a text would lose.
 //! - `rounds`: Rounds that no text writes: a locked row that stands twice, hundreds of rows.
 //! - `rows`: Rows that tests make and ask, and how a configuration finds one.

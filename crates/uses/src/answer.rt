@@ -11,7 +11,7 @@ ghost use Rattle.str0m_signal.specs.back.Writable.{Writable};
 ghost use Rattle.str0m_signal.specs.session.Negotiation.{NegotiatedText};
 ghost use Rattle.str0m_signal.specs.session.Reader.{Described};
 ghost use Rattle.str0m_signal.specs.session.ReaderAnswers.{Refuses};
-ghost use Rattle.uses.specs.Answer.{agreed, of_type};
+ghost use Rattle.uses.specs.Answer.{agreed, agreed_of_type};
 
 use std::alloc::AllocError;
 use str0m_signal::{
@@ -58,7 +58,7 @@ pub(crate) fn printable_section(
 
 /// The locked rows of what sections of this type carry.
 fn rows_of_type(config: &CodecConfig, typ: &MediaType) -> Result<Vec<PayloadParams>, AllocError>
-    ensures rows { IfOk result (λ rows. rows.items ≡ of_type typ.now config.now.params.items) }
+    ensures rows { IfOk result (λ rows. rows.items ≡ agreed_of_type typ.now config.now.params.items) }
     ensures printable { MayBePrinted config.now.params.items → IfOk result (λ rows. rows.items ≢ [] → MayBePrinted rows.items) }
 {
     match typ {

@@ -21,94 +21,96 @@ use Rattle.str0m_values.specs.declared.direction.Direction.TheVariants as way
 abbrev Trackless : List MediaAttribute → Type 0
 Trackless lines = filter_map track_of lines ≡ []
 
-both : (xs ys : List MediaAttribute) → Trackless xs → Trackless ys → Trackless (xs ++ ys)
-both xs ys x y = filter_map-append track_of xs ys ∙ ap (λ (found : List (List ℕ)). found ++ filter_map track_of ys) x ∙ y
+trackless_both : (xs ys : List MediaAttribute) → Trackless xs → Trackless ys → Trackless (xs ++ ys)
+trackless_both xs ys x y = filter_map-append track_of xs ys ∙ ap (λ (found : List (List ℕ)). found ++ filter_map track_of ys) x ∙ y
 
 -- ---- of rows
 
-feedback_none : (pt : ℕ) (value : List ℕ) (b : Bool) → Trackless (feedback_line pt value b)
-feedback_none pt value true = refl
-feedback_none pt value false = refl
+feedback_trackless : (pt : ℕ) (value : List ℕ) (b : Bool) → Trackless (feedback_line pt value b)
+feedback_trackless pt value true = refl
+feedback_trackless pt value false = refl
 
-fmtp_none : (pt : ℕ) (values : List FormatParam) → Trackless (fmtp_line pt values)
-fmtp_none pt [] = refl
-fmtp_none pt (value ∷ values) = refl
+fmtp_trackless : (pt : ℕ) (values : List FormatParam) → Trackless (fmtp_line pt values)
+fmtp_trackless pt [] = refl
+fmtp_trackless pt (value ∷ values) = refl
 
-rtx_none : (row : PayloadParams) (pt : Option ℕ) → Trackless (rtx_lines row pt)
-rtx_none row None = refl
-rtx_none row (Some pt) = refl
+rtx_trackless : (row : PayloadParams) (pt : Option ℕ) → Trackless (rtx_lines row pt)
+rtx_trackless row None = refl
+rtx_trackless row (Some pt) = refl
 
-red_none : (row : PayloadParams) (pt : Option ℕ) → Trackless (red_lines row pt)
-red_none row None = refl
-red_none row (Some pt) = refl
+red_trackless : (row : PayloadParams) (pt : Option ℕ) → Trackless (red_lines row pt)
+red_trackless row None = refl
+red_trackless row (Some pt) = refl
 
-feedbacks_none : (row : PayloadParams) → Trackless (feedback_attrs row)
-feedbacks_none row =
+feedbacks_trackless : (row : PayloadParams) → Trackless (feedback_attrs row)
+feedbacks_trackless row =
     let cc_line : List MediaAttribute = feedback_line row.pt TRANSPORT_CC.now row.fb_transport_cc in
     let remb : List MediaAttribute = feedback_line row.pt REMB.now row.fb_remb in
     let fir : List MediaAttribute = feedback_line row.pt FIR.now row.fb_fir in
     let nack : List MediaAttribute = feedback_line row.pt NACK.now row.fb_nack in
     let pli : List MediaAttribute = feedback_line row.pt PLI.now row.fb_pli in
-    both cc_line (remb ++ (fir ++ (nack ++ pli))) (feedback_none row.pt TRANSPORT_CC.now row.fb_transport_cc)
-    (both remb (fir ++ (nack ++ pli)) (feedback_none row.pt REMB.now row.fb_remb)
-    (both fir (nack ++ pli) (feedback_none row.pt FIR.now row.fb_fir)
-    (both nack pli (feedback_none row.pt NACK.now row.fb_nack) (feedback_none row.pt PLI.now row.fb_pli))))
+    trackless_both cc_line (remb ++ (fir ++ (nack ++ pli))) (feedback_trackless row.pt TRANSPORT_CC.now row.fb_transport_cc)
+    (trackless_both remb (fir ++ (nack ++ pli)) (feedback_trackless row.pt REMB.now row.fb_remb)
+    (trackless_both fir (nack ++ pli) (feedback_trackless row.pt FIR.now row.fb_fir)
+    (trackless_both nack pli (feedback_trackless row.pt NACK.now row.fb_nack) (feedback_trackless row.pt PLI.now row.fb_pli))))
 
-row_none : (row : PayloadParams) → Trackless (row_attrs row)
-row_none row =
-    both (feedback_attrs row) (format_attrs row ++ (rtx_attrs row ++ red_attrs row)) (feedbacks_none row)
-    (both (format_attrs row) (rtx_attrs row ++ red_attrs row) (fmtp_none row.pt (format_values row.spec.codec row.spec.format))
-    (both (rtx_attrs row) (red_attrs row) (rtx_none row row.resend) (red_none row row.red)))
+row_trackless : (row : PayloadParams) → Trackless (row_attrs row)
+row_trackless row =
+    trackless_both (feedback_attrs row) (format_attrs row ++ (rtx_attrs row ++ red_attrs row)) (feedbacks_trackless row)
+    (trackless_both (format_attrs row) (rtx_attrs row ++ red_attrs row)
+    (fmtp_trackless row.pt (format_values row.spec.codec row.spec.format))
+    (trackless_both (rtx_attrs row) (red_attrs row) (rtx_trackless row row.resend) (red_trackless row row.red)))
 
-rows_none : (rows : List PayloadParams) → Trackless (flat_map row_attrs rows)
-rows_none [] = refl
-rows_none (row ∷ rows) = both (row_attrs row) (flat_map row_attrs rows) (row_none row) (rows_none rows)
+rows_trackless : (rows : List PayloadParams) → Trackless (flat_map row_attrs rows)
+rows_trackless [] = refl
+rows_trackless (row ∷ rows) = trackless_both (row_attrs row) (flat_map row_attrs rows) (row_trackless row) (rows_trackless rows)
 
 -- ---- of frames
 
-candidates_none : (candidates : List Candidate) → Trackless (map candidate_line candidates)
-candidates_none [] = refl
-candidates_none (candidate ∷ candidates) = candidates_none candidates
+candidates_trackless : (candidates : List Candidate) → Trackless (map candidate_line candidates)
+candidates_trackless [] = refl
+candidates_trackless (candidate ∷ candidates) = candidates_trackless candidates
 
-direction_none : (direction : Direction) → Trackless (direction_attribute direction ∷ [])
-direction_none way.SendRecv = refl
-direction_none way.SendOnly = refl
-direction_none way.RecvOnly = refl
-direction_none way.Inactive = refl
+direction_trackless : (direction : Direction) → Trackless (direction_attribute direction ∷ [])
+direction_trackless way.SendRecv = refl
+direction_trackless way.SendOnly = refl
+direction_trackless way.RecvOnly = refl
+direction_trackless way.Inactive = refl
 
-repeated_none : (known : List (List ℕ)) (attrs : List MediaAttribute) → Trackless (filter (is_repeated known) attrs)
-repeated_none known [] = refl
-repeated_none known (media.RtcpMux ∷ attrs) = repeated_none known attrs
-repeated_none known (media.RtcpRsize ∷ attrs) = repeated_none known attrs
-repeated_none known (media.ExtMap id ext ∷ attrs) = go (list_any (λ uri. bytes_eq uri ext.uri) known) (repeated_none known attrs) where
-  go : (b : Bool) → Trackless (filter (is_repeated known) attrs) → Trackless (cond b (media.ExtMap id ext ∷ filter (is_repeated known) attrs) (filter (is_repeated known) attrs))
-  go true rec = rec
-  go false rec = rec
-repeated_none known (media.Unused text ∷ attrs) = go (bytes_eq text EXTMAP_ALLOW_MIXED.now) (repeated_none known attrs) where
+repeated_trackless : (known : List (List ℕ)) (attrs : List MediaAttribute) → Trackless (filter (is_repeated known) attrs)
+repeated_trackless known [] = refl
+repeated_trackless known (media.RtcpMux ∷ attrs) = repeated_trackless known attrs
+repeated_trackless known (media.RtcpRsize ∷ attrs) = repeated_trackless known attrs
+repeated_trackless known (media.ExtMap id ext ∷ attrs) = go (list_any (λ uri. bytes_eq uri ext.uri) known) (repeated_trackless known attrs)
+  where
+    go : (b : Bool) → Trackless (filter (is_repeated known) attrs) → Trackless (cond b (media.ExtMap id ext ∷ filter (is_repeated known) attrs) (filter (is_repeated known) attrs))
+    go true rec = rec
+    go false rec = rec
+repeated_trackless known (media.Unused text ∷ attrs) = go (bytes_eq text EXTMAP_ALLOW_MIXED.now) (repeated_trackless known attrs) where
   go : (b : Bool) → Trackless (filter (is_repeated known) attrs) → Trackless (cond b (media.Unused text ∷ filter (is_repeated known) attrs) (filter (is_repeated known) attrs))
   go true rec = rec
   go false rec = rec
-repeated_none known (attr ∷ attrs) = repeated_none known attrs
+repeated_trackless known (attr ∷ attrs) = repeated_trackless known attrs
 
-rids_none : (sent : List SimulcastLayer) (rows : List PayloadParams) (attrs : List MediaAttribute) → Trackless (filter_map (answered_rid sent rows) attrs)
-rids_none sent rows [] = refl
-rids_none sent rows (media.Rid id direction pts restrictions ∷ attrs) =
-    go (bytes_eq direction (codes "send") && (list_any (is_named id.0) sent && is_left rows pts)) (rids_none sent rows attrs) where
+rids_trackless : (sent : List SimulcastLayer) (rows : List PayloadParams) (attrs : List MediaAttribute) → Trackless (filter_map (answered_rid sent rows) attrs)
+rids_trackless sent rows [] = refl
+rids_trackless sent rows (media.Rid id direction pts restrictions ∷ attrs) =
+    go (bytes_eq direction (codes "send") && (list_any (is_named id.0) sent && is_left rows pts)) (rids_trackless sent rows attrs) where
       go : (b : Bool) → Trackless (filter_map (answered_rid sent rows) attrs)
           → Trackless (cons_option (cond b (Some (media.Rid id (codes "recv") (types_left rows pts) restrictions)) None) (filter_map (answered_rid sent rows) attrs))
       go true rec = rec
       go false rec = rec
-rids_none sent rows (attr ∷ attrs) = rids_none sent rows attrs
+rids_trackless sent rows (attr ∷ attrs) = rids_trackless sent rows attrs
 
-layers_none : (layers : List SimulcastLayer) → Trackless (layers_line layers)
-layers_none [] = refl
-layers_none (layer ∷ layers) = refl
+layers_trackless : (layers : List SimulcastLayer) → Trackless (layers_line layers)
+layers_trackless [] = refl
+layers_trackless (layer ∷ layers) = refl
 
-layer_lines_none : (own : OwnSide) (direction : Direction) (offered : MediaLine) (rows : List PayloadParams) → Trackless (layer_lines own direction offered rows)
-layer_lines_none own direction offered rows = go (own.receives_simulcast && (receives direction && are_layers_told own.extensions offered)) where
+layer_lines_trackless : (own : OwnSide) (direction : Direction) (offered : MediaLine) (rows : List PayloadParams) → Trackless (layer_lines own direction offered rows)
+layer_lines_trackless own direction offered rows = go (own.receives_simulcast && (receives direction && are_layers_told own.extensions offered)) where
   go : (b : Bool) → Trackless (cond b (answered_layers rows offered) [])
-  go true = both (answered_rids rows offered) (layers_line (received_layers (answered_rids rows offered) offered))
-      (rids_none (sent_layers offered) rows offered.attrs) (layers_none (received_layers (answered_rids rows offered) offered))
+  go true = trackless_both (answered_rids rows offered) (layers_line (received_layers (answered_rids rows offered) offered))
+      (rids_trackless (sent_layers offered) rows offered.attrs) (layers_trackless (received_layers (answered_rids rows offered) offered))
   go false = refl
 
 -- ---- a section says no track, or the one of its name
@@ -134,11 +136,12 @@ media_tracks own offered mid direction rows =
     let d : List MediaAttribute = msid_lines own direction mid in
     let e : List MediaAttribute = layer_lines own direction offered rows in
     filter_map-append track_of (a ++ b ++ c ++ d) e
-    ∙ ap (λ (found : List (List ℕ)). filter_map track_of (a ++ b ++ c ++ d) ++ found) (layer_lines_none own direction offered rows)
+    ∙ ap (λ (found : List (List ℕ)). filter_map track_of (a ++ b ++ c ++ d) ++ found) (layer_lines_trackless own direction offered rows)
     ∙ append-nil (filter_map track_of (a ++ b ++ c ++ d))
     ∙ filter_map-append track_of (a ++ b ++ c) d
     ∙ ap (λ (found : List (List ℕ)). found ++ filter_map track_of d)
-    (both (a ++ b) c (both a b (direction_none direction) (candidates_none own.candidates)) (repeated_none own.extensions offered.attrs))
+    (trackless_both (a ++ b) c (trackless_both a b (direction_trackless direction) (candidates_trackless own.candidates))
+    (repeated_trackless own.extensions offered.attrs))
 
 accepted_tracks : (own : OwnSide) (offered : MediaLine) (mid : List ℕ) (role : Setup) (direction : Direction) (rows : List PayloadParams)
     → section_tracks (made (framed offered (first_lines own mid role ++ media_lines own offered mid direction rows)) rows) ≡ filter_map track_of (msid_lines own direction mid)
@@ -146,7 +149,7 @@ accepted_tracks own offered mid role direction rows =
     let lines : List MediaAttribute = first_lines own mid role ++ media_lines own offered mid direction rows in
     let frame : List MediaAttribute = filter (λ attr. not (is_of_type attr)) lines in
     filter_map-append track_of frame (flat_map row_attrs rows)
-    ∙ ap (λ (found : List (List ℕ)). filter_map track_of frame ++ found) (rows_none rows)
+    ∙ ap (λ (found : List (List ℕ)). filter_map track_of frame ++ found) (rows_trackless rows)
     ∙ append-nil (filter_map track_of frame)
     ∙ kept_tracks lines
     ∙ media_tracks own offered mid direction rows
@@ -158,38 +161,40 @@ media_so own offered mid role way.SendOnly rows = inr (mid, refl, accepted_track
 media_so own offered mid role way.RecvOnly rows = inl (accepted_tracks own offered mid role way.RecvOnly rows)
 media_so own offered mid role way.Inactive rows = inl (accepted_tracks own offered mid role way.Inactive rows)
 
-mid_none : (attrs : List MediaAttribute) → Trackless (option_to_list (find is_mid attrs))
-mid_none [] = refl
-mid_none (media.Mid mid ∷ attrs) = refl
-mid_none (attr ∷ attrs) = mid_none attrs
+mid_trackless : (attrs : List MediaAttribute) → Trackless (option_to_list (find is_mid attrs))
+mid_trackless [] = refl
+mid_trackless (media.Mid mid ∷ attrs) = refl
+mid_trackless (attr ∷ attrs) = mid_trackless attrs
 
-mapped_none : (pt : ℕ) (attrs : List MediaAttribute) → Trackless (option_to_list (find (maps pt) attrs))
-mapped_none pt [] = refl
-mapped_none pt (media.RtpMap n value ∷ attrs) = go (maps pt (media.RtpMap n value)) (mapped_none pt attrs) where
+mapped_trackless : (pt : ℕ) (attrs : List MediaAttribute) → Trackless (option_to_list (find (maps pt) attrs))
+mapped_trackless pt [] = refl
+mapped_trackless pt (media.RtpMap n value ∷ attrs) = go (maps pt (media.RtpMap n value)) (mapped_trackless pt attrs) where
   go : (b : Bool) → Trackless (option_to_list (find (maps pt) attrs)) → Trackless (option_to_list (cond b (Some (media.RtpMap n value)) (find (maps pt) attrs)))
   go true rec = refl
   go false rec = rec
-mapped_none pt (attr ∷ attrs) = mapped_none pt attrs
+mapped_trackless pt (attr ∷ attrs) = mapped_trackless pt attrs
 
-over_none : (proto : Proto) → Trackless (direction_over proto)
-over_none Srtp = refl
-over_none Sctp = refl
+over_trackless : (proto : Proto) → Trackless (direction_over proto)
+over_trackless Srtp = refl
+over_trackless Sctp = refl
 
-rejected_none : (offered : MediaLine) → section_tracks (rejecting offered) ≡ []
-rejected_none offered =
+rejected_trackless : (offered : MediaLine) → section_tracks (rejecting offered) ≡ []
+rejected_trackless offered =
     let mapped : List MediaAttribute = line_that (maps (first_type offered.pts)) offered.attrs in
-    both (line_that is_mid offered.attrs) (direction_over offered.proto ++ mapped) (mid_none offered.attrs)
-    (both (direction_over offered.proto) mapped (over_none offered.proto) (mapped_none (first_type offered.pts) offered.attrs))
+    trackless_both (line_that is_mid offered.attrs) (direction_over offered.proto ++ mapped) (mid_trackless offered.attrs)
+    (trackless_both (direction_over offered.proto) mapped (over_trackless offered.proto)
+    (mapped_trackless (first_type offered.pts) offered.attrs))
 
-channels_none : (own : OwnSide) (offered : MediaLine) (mid : List ℕ) (role : Setup) (channels : DataChannels)
+channels_trackless : (own : OwnSide) (offered : MediaLine) (mid : List ℕ) (role : Setup) (channels : DataChannels)
     → section_tracks (framed offered (first_lines own mid role ++ channel_lines channels ++ map candidate_line own.candidates)) ≡ []
-channels_none own offered mid role channels =
-    both (first_lines own mid role ++ channel_lines channels) (map candidate_line own.candidates) refl (candidates_none own.candidates)
+channels_trackless own offered mid role channels =
+    trackless_both (first_lines own mid role ++ channel_lines channels) (map candidate_line own.candidates) refl
+    (candidates_trackless own.candidates)
 
 choice_so : (own : OwnSide) (offer : Sdp) (offered answered : MediaLine) (choice : Choice) → SaysChoice own offer offered choice answered → TracksSo answered
-choice_so own offer offered answered Rejected says = subst TracksSo (sym says) (inl (rejected_none offered))
+choice_so own offer offered answered Rejected says = subst TracksSo (sym says) (inl (rejected_trackless offered))
 choice_so own offer offered answered (Media mid rows) says = subst TracksSo (sym says.says) (media_so own offered mid says.role says.direction rows)
-choice_so own offer offered answered (Channels mid channels) says = subst TracksSo (sym says.says) (inl (channels_none own offered mid says.role channels))
+choice_so own offer offered answered (Channels mid channels) says = subst TracksSo (sym says.says) (inl (channels_trackless own offered mid says.role channels))
 
 -- ---- all sections
 

@@ -18,9 +18,9 @@ no_group offered = go (list_any allows_mixed offered) where
   go false = refl
 
 -- the names that are listed
-said : (names : List (List ℕ)) (offered : List SessionAttribute) → names_or_none (group_in (group_lines names ++ mixed_lines offered)) ≡ names
-said [] offered = ap names_or_none (no_group offered)
-said (name ∷ names) offered = refl
+group_said : (names : List (List ℕ)) (offered : List SessionAttribute) → names_or_none (group_in (group_lines names ++ mixed_lines offered)) ≡ names
+group_said [] offered = ap names_or_none (no_group offered)
+group_said (name ∷ names) offered = refl
 
 -- an empty group isn't said
 unsaid : (names : List (List ℕ)) (offered : List SessionAttribute) → names ≡ [] → group_in (group_lines names ++ mixed_lines offered) ≡ None
@@ -31,7 +31,7 @@ pub bundles : (own : OwnSide) (offer answer : Sdp) → answer.session ≡ answer
 bundles own offer answer is =
     let names : List (List ℕ) = answered_bundle offer (map is_accepted answer.media_lines) in
     let group : group_in answer.session.attrs ≡ group_in (group_lines names ++ mixed_lines offer.session.attrs) = ap (λ (session : Session). group_in session.attrs) is in
-    let listed : names_or_none (group_in answer.session.attrs) ≡ names = ap names_or_none group ∙ said names offer.session.attrs in
+    let listed : names_or_none (group_in answer.session.attrs) ≡ names = ap names_or_none group ∙ group_said names offer.session.attrs in
     record {
       names = listed;
       absent = λ none. group ∙ unsaid names offer.session.attrs (sym listed ∙ none);

@@ -1,7 +1,7 @@
 -- What holds of the lines of layers that answer an offer.
 use Rattle.exchange.proofs.Common.{◌≡◌, ◌&&◌, ◌++◌, inl, inr, ℕ, Bool, true, false, List, [], ◌∷◌, Option, Some, None, All, IfSome, if◌then◌else◌, filter, filter_map, refl, subst, sym, ap, ◌∙◌, and_parts, All-append, All-cons, All-contains_itself, All-filter, All-nil, bytes_eq-Decides, Contains, cons_option, list_any, codes, bytes_eq, PayloadParams, MediaAttribute, SimulcastLayer, MediaLine}
 use Rattle.exchange.proofs.answer.RowsListLaws.{All-filter_map}
-use Rattle.exchange.specs.answer.Layers.{IsTurned, answered_layers, answered_rid, answered_rids, is_answered, is_left, is_named, layers_line, received_layers, sent_layers, types_left}
+use Rattle.exchange.specs.answer.Layers.{IsTurned, answered_layers, answered_rid, answered_rids, is_rid_answered, is_left, is_named, layers_line, received_layers, sent_layers, types_left}
 use Rattle.str0m_sdp.specs.declared.attribute.MediaAttribute.TheVariants as media
 
 turned_rid : (rows : List PayloadParams) (offered : MediaLine) (line : MediaAttribute) → Contains offered.attrs line
@@ -36,7 +36,7 @@ all_turned rows offered lines is = subst (All (IsTurned rows offered)) (sym is)
     (All-append (IsTurned rows offered) (answered_rids rows offered) (layers_line (received_layers (answered_rids rows offered) offered))
     (All-filter_map (Contains offered.attrs) (IsTurned rows offered) (answered_rid (sent_layers offered) rows) (turned_rid rows offered) offered.attrs (All-contains_itself offered.attrs))
     (turned_line rows offered (received_layers (answered_rids rows offered) offered)
-    (All-filter (is_answered (answered_rids rows offered)) (Contains (sent_layers offered)) (sent_layers offered) (All-contains_itself (sent_layers offered)))))
+    (All-filter (is_rid_answered (answered_rids rows offered)) (Contains (sent_layers offered)) (sent_layers offered) (All-contains_itself (sent_layers offered)))))
 
 -- ---- where nothing is sent
 
@@ -51,8 +51,8 @@ no_rids : (rows : List PayloadParams) (lines : List MediaAttribute) → filter_m
 no_rids rows [] = refl
 no_rids rows (line ∷ lines) = ap (λ (o : Option MediaAttribute). cons_option o (filter_map (answered_rid [] rows) lines)) (no_rid rows line) ∙ no_rids rows lines
 
-pub none_said : (rows : List PayloadParams) (offered : MediaLine) (lines : List MediaAttribute) → lines ≡ answered_layers rows offered → sent_layers offered ≡ [] → lines ≡ []
-none_said rows offered lines is none =
+pub no_layers_said : (rows : List PayloadParams) (offered : MediaLine) (lines : List MediaAttribute) → lines ≡ answered_layers rows offered → sent_layers offered ≡ [] → lines ≡ []
+no_layers_said rows offered lines is none =
     is
-    ∙ ap (λ (sent : List SimulcastLayer). filter_map (answered_rid sent rows) offered.attrs ++ layers_line (filter (is_answered (filter_map (answered_rid sent rows) offered.attrs)) sent)) none
+    ∙ ap (λ (sent : List SimulcastLayer). filter_map (answered_rid sent rows) offered.attrs ++ layers_line (filter (is_rid_answered (filter_map (answered_rid sent rows) offered.attrs)) sent)) none
     ∙ ap (λ (rids : List MediaAttribute). rids ++ []) (no_rids rows offered.attrs)

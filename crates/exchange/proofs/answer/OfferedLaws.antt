@@ -9,20 +9,20 @@ use Rattle.exchange.specs.section.RepeatedLines.{is_repeated, repeated_lines}
 use Rattle.str0m_sdp.specs.declared.attribute.MediaAttribute.TheVariants as media
 use Rattle.str0m_values.specs.declared.direction.Direction.TheVariants as way
 
-abbrev IsOffered : MediaLine → MediaAttribute → Type 0
-IsOffered offered line = needs_offer line ≡ true → Contains offered.attrs line
+abbrev WasOffered : MediaLine → MediaAttribute → Type 0
+WasOffered offered line = needs_offer line ≡ true → Contains offered.attrs line
 
 -- lines none of which needs the offer
-from_none : (offered : MediaLine) (lines : List MediaAttribute) → list_any needs_offer lines ≡ false → All (IsOffered offered) lines
-from_none offered [] none = All-nil (IsOffered offered)
+from_none : (offered : MediaLine) (lines : List MediaAttribute) → list_any needs_offer lines ≡ false → All (WasOffered offered) lines
+from_none offered [] none = All-nil (WasOffered offered)
 from_none offered (line ∷ lines) none = go (needs_offer line) refl none (from_none offered lines) where
-  go : (b : Bool) → needs_offer line ≡ b → (b || list_any needs_offer lines) ≡ false → (list_any needs_offer lines ≡ false → All (IsOffered offered) lines)
-      → All (IsOffered offered) (line ∷ lines)
+  go : (b : Bool) → needs_offer line ≡ b → (b || list_any needs_offer lines) ≡ false → (list_any needs_offer lines ≡ false → All (WasOffered offered) lines)
+      → All (WasOffered offered) (line ∷ lines)
   go true is other rec = absurd (false≢true (sym other))
-  go false is other rec = All-cons (IsOffered offered) line lines (λ needs. absurd (false≢true (sym is ∙ needs))) (rec other)
+  go false is other rec = All-cons (WasOffered offered) line lines (λ needs. absurd (false≢true (sym is ∙ needs))) (rec other)
 
-both : (xs ys : List MediaAttribute) → list_any needs_offer xs ≡ false → list_any needs_offer ys ≡ false → list_any needs_offer (xs ++ ys) ≡ false
-both xs ys x y = list_any-append needs_offer xs ys ∙ ap (λ (b : Bool). b || list_any needs_offer ys) x ∙ y
+unoffered_both : (xs ys : List MediaAttribute) → list_any needs_offer xs ≡ false → list_any needs_offer ys ≡ false → list_any needs_offer (xs ++ ys) ≡ false
+unoffered_both xs ys x y = list_any-append needs_offer xs ys ∙ ap (λ (b : Bool). b || list_any needs_offer ys) x ∙ y
 
 -- ---- of rows
 
@@ -49,20 +49,20 @@ feedbacks_none row =
     let fir : List MediaAttribute = feedback_line row.pt FIR.now row.fb_fir in
     let nack : List MediaAttribute = feedback_line row.pt NACK.now row.fb_nack in
     let pli : List MediaAttribute = feedback_line row.pt PLI.now row.fb_pli in
-    both cc_line (remb ++ (fir ++ (nack ++ pli))) (feedback_none row.pt TRANSPORT_CC.now row.fb_transport_cc)
-    (both remb (fir ++ (nack ++ pli)) (feedback_none row.pt REMB.now row.fb_remb)
-    (both fir (nack ++ pli) (feedback_none row.pt FIR.now row.fb_fir)
-    (both nack pli (feedback_none row.pt NACK.now row.fb_nack) (feedback_none row.pt PLI.now row.fb_pli))))
+    unoffered_both cc_line (remb ++ (fir ++ (nack ++ pli))) (feedback_none row.pt TRANSPORT_CC.now row.fb_transport_cc)
+    (unoffered_both remb (fir ++ (nack ++ pli)) (feedback_none row.pt REMB.now row.fb_remb)
+    (unoffered_both fir (nack ++ pli) (feedback_none row.pt FIR.now row.fb_fir)
+    (unoffered_both nack pli (feedback_none row.pt NACK.now row.fb_nack) (feedback_none row.pt PLI.now row.fb_pli))))
 
 row_none : (row : PayloadParams) → list_any needs_offer (row_attrs row) ≡ false
 row_none row =
-    both (feedback_attrs row) (format_attrs row ++ (rtx_attrs row ++ red_attrs row)) (feedbacks_none row)
-    (both (format_attrs row) (rtx_attrs row ++ red_attrs row) (fmtp_none row.pt (format_values row.spec.codec row.spec.format))
-    (both (rtx_attrs row) (red_attrs row) (rtx_none row row.resend) (red_none row row.red)))
+    unoffered_both (feedback_attrs row) (format_attrs row ++ (rtx_attrs row ++ red_attrs row)) (feedbacks_none row)
+    (unoffered_both (format_attrs row) (rtx_attrs row ++ red_attrs row) (fmtp_none row.pt (format_values row.spec.codec row.spec.format))
+    (unoffered_both (rtx_attrs row) (red_attrs row) (rtx_none row row.resend) (red_none row row.red)))
 
 rows_none : (rows : List PayloadParams) → list_any needs_offer (flat_map row_attrs rows) ≡ false
 rows_none [] = refl
-rows_none (row ∷ rows) = both (row_attrs row) (flat_map row_attrs rows) (row_none row) (rows_none rows)
+rows_none (row ∷ rows) = unoffered_both (row_attrs row) (flat_map row_attrs rows) (row_none row) (rows_none rows)
 
 -- ---- of frames
 
@@ -99,21 +99,21 @@ layers_none (layer ∷ layers) = refl
 layer_lines_none : (own : OwnSide) (direction : Direction) (offered : MediaLine) (rows : List PayloadParams) → list_any needs_offer (layer_lines own direction offered rows) ≡ false
 layer_lines_none own direction offered rows = go (own.receives_simulcast && (receives direction && are_layers_told own.extensions offered)) where
   go : (b : Bool) → list_any needs_offer (cond b (answered_layers rows offered) []) ≡ false
-  go true = both (answered_rids rows offered) (layers_line (received_layers (answered_rids rows offered) offered))
+  go true = unoffered_both (answered_rids rows offered) (layers_line (received_layers (answered_rids rows offered) offered))
       (rids_none (sent_layers offered) rows offered.attrs) (layers_none (received_layers (answered_rids rows offered) offered))
   go false = refl
 
 -- ---- what is repeated stands there
 
-repeated_offered : (known : List (List ℕ)) (offered : MediaLine) → All (IsOffered offered) (repeated_lines known offered)
+repeated_offered : (known : List (List ℕ)) (offered : MediaLine) → All (WasOffered offered) (repeated_lines known offered)
 repeated_offered known offered =
-    All-filter (is_repeated known) (IsOffered offered) offered.attrs
-    (All-weaker (Contains offered.attrs) (IsOffered offered) (λ line there needs. there) offered.attrs (All-contains_itself offered.attrs))
+    All-filter (is_repeated known) (WasOffered offered) offered.attrs
+    (All-weaker (Contains offered.attrs) (WasOffered offered) (λ line there needs. there) offered.attrs (All-contains_itself offered.attrs))
 
-media_offered : (own : OwnSide) (offered : MediaLine) (mid : List ℕ) (direction : Direction) (rows : List PayloadParams)
-    → All (IsOffered offered) (media_lines own offered mid direction rows)
-media_offered own offered mid direction rows =
-    let P : MediaAttribute → Type 0 = IsOffered offered in
+media_lines_offered : (own : OwnSide) (offered : MediaLine) (mid : List ℕ) (direction : Direction) (rows : List PayloadParams)
+    → All (WasOffered offered) (media_lines own offered mid direction rows)
+media_lines_offered own offered mid direction rows =
+    let P : MediaAttribute → Type 0 = WasOffered offered in
     let a : List MediaAttribute = direction_attribute direction ∷ [] in
     let b : List MediaAttribute = map candidate_line own.candidates in
     let c : List MediaAttribute = repeated_lines own.extensions offered in
@@ -130,15 +130,15 @@ media_offered own offered mid direction rows =
 pub accepted_media_offered : (own : OwnSide) (offered : MediaLine) (mid : List ℕ) (role : Setup) (direction : Direction) (rows : List PayloadParams)
     → SaysOnlyOffered offered (made (framed offered (first_lines own mid role ++ media_lines own offered mid direction rows)) rows)
 accepted_media_offered own offered mid role direction rows =
-    let P : MediaAttribute → Type 0 = IsOffered offered in
+    let P : MediaAttribute → Type 0 = WasOffered offered in
     let head : List MediaAttribute = first_lines own mid role in
     let lines : List MediaAttribute = media_lines own offered mid direction rows in
     All-append P (filter (λ attr. not (is_of_type attr)) (head ++ lines)) (flat_map row_attrs rows)
-    (All-filter (λ attr. not (is_of_type attr)) P (head ++ lines) (All-append P head lines (from_none offered head refl) (media_offered own offered mid direction rows)))
+    (All-filter (λ attr. not (is_of_type attr)) P (head ++ lines) (All-append P head lines (from_none offered head refl) (media_lines_offered own offered mid direction rows)))
     (from_none offered (flat_map row_attrs rows) (rows_none rows))
 
 pub accepted_channels_offered : (own : OwnSide) (offered : MediaLine) (mid : List ℕ) (role : Setup) (channels : DataChannels)
     → SaysOnlyOffered offered (framed offered (first_lines own mid role ++ channel_lines channels ++ map candidate_line own.candidates))
 accepted_channels_offered own offered mid role channels =
-    All-append (IsOffered offered) (first_lines own mid role ++ channel_lines channels) (map candidate_line own.candidates)
+    All-append (WasOffered offered) (first_lines own mid role ++ channel_lines channels) (map candidate_line own.candidates)
     (from_none offered (first_lines own mid role ++ channel_lines channels) refl) (from_none offered (map candidate_line own.candidates) (candidates_none own.candidates))

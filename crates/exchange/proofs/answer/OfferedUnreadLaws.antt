@@ -1,24 +1,20 @@
 -- The line at which reading ends.
-use Rattle.exchange.proofs.Common.{arith, ◌≡◌, ◌≢◌, ◌≤◌, ◌+◌, ◌-◌, ◌++◌, ◌==◌, ℕ, List, [], ◌∷◌, length, take, min, append_assoc, length-append, length-take-le, refl, subst, sym, ap, ◌∙◌, count-append, Sdp, line_feeds, line_number, Line, Lines, IsFromLine, IsReading, Reading}
+use Rattle.exchange.proofs.Common.{arith, ◌≡◌, ◌≢◌, ◌≤◌, ◌+◌, ◌-◌, ◌++◌, ◌==◌, ℕ, List, [], ◌∷◌, length, take, min, length-append, length-take-le, refl, subst, sym, ap, ◌∙◌, count-append, Sdp, line_feeds, line_number, Line, Lines, IsFromLine, IsReading, Reading, joined-append}
 use Rattle.exchange.specs.answer.Offered.{IsCutShort}
 use Rattle.std.proofs.Math.Seq.{take-append_seam}
 use Rattle.std.proofs.lemmas.List.Sums.{count_by-le-length}
 use Rattle.str0m_signal.proofs.session.ReaderRestLaws.{reading_leaves}
 use Rattle.str0m_signal.specs.line.Lines.{joined}
 
-joined_both : (xs ys : List Line) → joined (xs ++ ys) ≡ joined xs ++ joined ys
-joined_both [] ys = refl
-joined_both (x ∷ xs) ys = grind (arith, append_assoc, joined_both xs ys)
-
 -- the lines before the rest, and the rest
 front_first : (text rest : List ℕ) (from : IsFromLine text rest) → text ≡ joined from.before ++ rest
 front_first text rest from =
-    from.lines_are.0 ∙ joined_both from.before from.after ∙ ap (λ (t : List ℕ). joined from.before ++ t) (sym from.rest_is)
+    from.lines_are.0 ∙ joined-append from.before from.after ∙ ap (λ (t : List ℕ). joined from.before ++ t) (sym from.rest_is)
 
 -- what stands before the rest has as many line feeds as lines, and is shorter than the text
-pub feeds_before : (text rest : List ℕ) (n : ℕ) (from : IsFromLine text rest) → rest ≢ [] → n ≡ length text - length rest
+pub feeds_before_rest : (text rest : List ℕ) (n : ℕ) (from : IsFromLine text rest) → rest ≢ [] → n ≡ length text - length rest
     → line_feeds (take n text) ≡ length from.before
-feeds_before text rest n from some is =
+feeds_before_rest text rest n from some is =
     let front : List ℕ = joined from.before in
     let whole : text ≡ front ++ rest = front_first text rest from in
     let long : n ≡ length front = omega (arith, is, ap (λ (t : List ℕ). length t) whole, length-append front rest) in
@@ -31,7 +27,7 @@ feeds_before text rest n from some is =
 pub numbered : (text rest : List ℕ) (n most line : ℕ) (from : IsFromLine text rest) → rest ≢ [] → n ≡ length text - length rest → length text ≤ most
     → line ≡ min (line_feeds (take n text) + 1) most → line ≡ length from.before + 1
 numbered text rest n most line from some is bounded told =
-    let feeds : line_feeds (take n text) ≡ length from.before = feeds_before text rest n from some is in
+    let feeds : line_feeds (take n text) ≡ length from.before = feeds_before_rest text rest n from some is in
     let whole : length text ≡ length (joined from.before) + length rest = ap (λ (t : List ℕ). length t) (front_first text rest from) ∙ length-append (joined from.before) rest in
     let left : 1 ≤ length rest = some_long rest some in
     let short : n ≤ length text = omega (arith, is) in

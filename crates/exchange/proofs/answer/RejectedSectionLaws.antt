@@ -28,13 +28,13 @@ of_mapping pt _ h = absurd (false≢true h)
 -- ---- a line that is found
 
 -- of the line that is found, where none counts, and where each does
-none_of : (test : MediaAttribute → Bool) (o : Option MediaAttribute) → IfSome o (λ line. test line ≡ false) → count_by test (option_to_list o) ≡ 0
-none_of test None h = refl
-none_of test (Some line) h = ap (λ (b : Bool). 0 + cond {A = ℕ} b 1 0) h
+count_none : (test : MediaAttribute → Bool) (o : Option MediaAttribute) → IfSome o (λ line. test line ≡ false) → count_by test (option_to_list o) ≡ 0
+count_none test None h = refl
+count_none test (Some line) h = ap (λ (b : Bool). 0 + cond {A = ℕ} b 1 0) h
 
-one_of : (test : MediaAttribute → Bool) (o : Option MediaAttribute) → is_some o ≡ true → IfSome o (λ line. test line ≡ true) → count_by test (option_to_list o) ≡ 1
-one_of test None there h = absurd (false≢true there)
-one_of test (Some line) there h = ap (λ (b : Bool). 0 + cond {A = ℕ} b 1 0) h
+count_one : (test : MediaAttribute → Bool) (o : Option MediaAttribute) → is_some o ≡ true → IfSome o (λ line. test line ≡ true) → count_by test (option_to_list o) ≡ 1
+count_one test None there h = absurd (false≢true there)
+count_one test (Some line) there h = ap (λ (b : Bool). 0 + cond {A = ℕ} b 1 0) h
 
 -- where one is counted, one is found
 there_is : (test : MediaAttribute → Bool) (lines : List MediaAttribute) → count_by test lines ≡ 1 → is_some (find test lines) ≡ true
@@ -43,9 +43,9 @@ there_is test lines one = go (list_any test lines) refl where
   go true e = is_some_find test lines ∙ e
   go false e = let none = uncounted test lines e in absurd (omega arith)
 
-weaker : (P Q : MediaAttribute → Type 0) → ((line : MediaAttribute) → P line → Q line) → (o : Option MediaAttribute) → IfSome o P → IfSome o Q
-weaker P Q f None h = tt
-weaker P Q f (Some line) h = f line h
+line_weaker : (P Q : MediaAttribute → Type 0) → ((line : MediaAttribute) → P line → Q line) → (o : Option MediaAttribute) → IfSome o P → IfSome o Q
+line_weaker P Q f None h = tt
+line_weaker P Q f (Some line) h = f line h
 
 -- ---- the lines of the section
 
@@ -59,17 +59,17 @@ module _ (offered : MediaLine) (is : Consistent offered) where
   abbrev mapping_found : Option MediaAttribute
   mapping_found = find (maps pt) offered.attrs
 
-  abbrev lines : List MediaAttribute
-  lines = option_to_list mid_found ++ (direction_over offered.proto ++ option_to_list mapping_found)
+  abbrev its_lines : List MediaAttribute
+  its_lines = option_to_list mid_found ++ (direction_over offered.proto ++ option_to_list mapping_found)
 
   mid_counts : IfSome mid_found (λ line. Counts pt line true false false false)
-  mid_counts = weaker _ _ (λ line h. of_mid pt line h.0) mid_found (found is_mid offered.attrs)
+  mid_counts = line_weaker _ _ (λ line h. of_mid pt line h.0) mid_found (found is_mid offered.attrs)
 
   mapping_counts : IfSome mapping_found (λ line. Counts pt line false false false true)
-  mapping_counts = weaker _ _ (λ line h. of_mapping pt line h.0) mapping_found (found (maps pt) offered.attrs)
+  mapping_counts = line_weaker _ _ (λ line h. of_mapping pt line h.0) mapping_found (found (maps pt) offered.attrs)
 
-  counted : (test : MediaAttribute → Bool) → count_by test lines ≡ count_by test (option_to_list mid_found) + (count_by test (direction_over offered.proto) + count_by test (option_to_list mapping_found))
-  counted test =
+  lines_counted : (test : MediaAttribute → Bool) → count_by test its_lines ≡ count_by test (option_to_list mid_found) + (count_by test (direction_over offered.proto) + count_by test (option_to_list mapping_found))
+  lines_counted test =
       count-append test (option_to_list mid_found) (direction_over offered.proto ++ option_to_list mapping_found)
       ∙ ap (λ (n : ℕ). count_by test (option_to_list mid_found) + n) (count-append test (direction_over offered.proto) (option_to_list mapping_found))
 
@@ -85,70 +85,72 @@ module _ (offered : MediaLine) (is : Consistent offered) where
   directed Srtp = record { mids = refl; setups = refl; mappings = refl; one = λ e. refl; agree = λ all. All-cons (AgreesOnApt all) media.Inactive [] tt (All-nil (AgreesOnApt all)) }
   directed Sctp = record { mids = refl; setups = refl; mappings = refl; one = λ e. cc; agree = λ all. All-nil (AgreesOnApt all) }
 
-  one_mid : count_by is_mid lines ≡ 1
-  one_mid =
-      let here = one_of is_mid mid_found (there_is is_mid offered.attrs is.mid) (weaker _ _ (λ line h. h.mid_is) mid_found mid_counts) in
-      let neither = none_of is_mid mapping_found (weaker _ _ (λ line h. h.mid_is) mapping_found mapping_counts) in
+  one_mid_line : count_by is_mid its_lines ≡ 1
+  one_mid_line =
+      let here = count_one is_mid mid_found (there_is is_mid offered.attrs is.mid)
+      (line_weaker _ _ (λ line h. h.mid_is) mid_found mid_counts) in
+      let neither = count_none is_mid mapping_found (line_weaker _ _ (λ line h. h.mid_is) mapping_found mapping_counts) in
       let none = (directed offered.proto).mids in
-      omega (arith, counted is_mid, here, neither, none)
+      omega (arith, lines_counted is_mid, here, neither, none)
 
-  few_setups : count_by is_setup lines ≤ 1
+  few_setups : count_by is_setup its_lines ≤ 1
   few_setups =
-      let here = none_of is_setup mid_found (weaker _ _ (λ line h. h.setup_is) mid_found mid_counts) in
-      let neither = none_of is_setup mapping_found (weaker _ _ (λ line h. h.setup_is) mapping_found mapping_counts) in
+      let here = count_none is_setup mid_found (line_weaker _ _ (λ line h. h.setup_is) mid_found mid_counts) in
+      let neither = count_none is_setup mapping_found (line_weaker _ _ (λ line h. h.setup_is) mapping_found mapping_counts) in
       let none = (directed offered.proto).setups in
-      omega (arith, counted is_setup, here, neither, none)
+      omega (arith, lines_counted is_setup, here, neither, none)
 
-  one_direction : offered.proto ≡ Srtp → count_by is_direction lines ≡ 1
+  one_direction : offered.proto ≡ Srtp → count_by is_direction its_lines ≡ 1
   one_direction srtp =
-      let here = none_of is_direction mid_found (weaker _ _ (λ line h. h.direction_is) mid_found mid_counts) in
-      let neither = none_of is_direction mapping_found (weaker _ _ (λ line h. h.direction_is) mapping_found mapping_counts) in
+      let here = count_none is_direction mid_found (line_weaker _ _ (λ line h. h.direction_is) mid_found mid_counts) in
+      let neither = count_none is_direction mapping_found (line_weaker _ _ (λ line h. h.direction_is) mapping_found mapping_counts) in
       let one = (directed offered.proto).one srtp in
-      omega (arith, counted is_direction, here, neither, one)
+      omega (arith, lines_counted is_direction, here, neither, one)
 
-  mappings : count_by (maps pt) lines ≡ count_by (maps pt) (option_to_list mapping_found)
+  mappings : count_by (maps pt) its_lines ≡ count_by (maps pt) (option_to_list mapping_found)
   mappings =
-      let here = none_of (maps pt) mid_found (weaker _ _ (λ line h. h.mapping_is) mid_found mid_counts) in
+      let here = count_none (maps pt) mid_found (line_weaker _ _ (λ line h. h.mapping_is) mid_found mid_counts) in
       let none = (directed offered.proto).mappings in
-      omega (arith, counted (maps pt), here, none)
+      omega (arith, lines_counted (maps pt), here, none)
 
-  needs_none : (pts : List ℕ) → offered.pts ≡ pts → is_some (find (maps (first_type pts)) offered.attrs) ≡ false → NeedsNoMapping (first_type pts)
-  needs_none [] e none = (record { codec = PCMU; clock_rate = 8000; channels = None; format = empty }, (refl, refl, refl))
-  needs_none (t ∷ ts) e none = go (All-head (IsMapped offered.attrs) t ts (subst (All (IsMapped offered.attrs)) e is.mapped)) where
+  needs_no_mapping : (pts : List ℕ) → offered.pts ≡ pts → is_some (find (maps (first_type pts)) offered.attrs) ≡ false → NeedsNoMapping (first_type pts)
+  needs_no_mapping [] e none = (record { codec = PCMU; clock_rate = 8000; channels = None; format = empty }, (refl, refl, refl))
+  needs_no_mapping (t ∷ ts) e none = go (All-head (IsMapped offered.attrs) t ts (subst (All (IsMapped offered.attrs)) e is.mapped)) where
     go : IsMapped offered.attrs t → NeedsNoMapping t
     go (inl one) = absurd (false≢true (sym none ∙ there_is (maps t) offered.attrs one))
     go (inr h) = h.1
 
-  mapped : IsMapped lines pt
-  mapped = go mapping_found refl mapping_counts mappings where
+  type_mapped : IsMapped its_lines pt
+  type_mapped = go mapping_found refl mapping_counts mappings where
     go : (o : Option MediaAttribute) → mapping_found ≡ o → IfSome o (λ line. Counts pt line false false false true)
-        → count_by (maps pt) lines ≡ count_by (maps pt) (option_to_list o) → IsMapped lines pt
-    go None e h n = inr (n, needs_none offered.pts refl (ap (λ (o : Option MediaAttribute). is_some o) e))
-    go (Some line) e h n = inl (n ∙ one_of (maps pt) (Some line) refl h.mapping_is)
+        → count_by (maps pt) its_lines ≡ count_by (maps pt) (option_to_list o) → IsMapped its_lines pt
+    go None e h n = inr (n, needs_no_mapping offered.pts refl (ap (λ (o : Option MediaAttribute). is_some o) e))
+    go (Some line) e h n = inl (n ∙ count_one (maps pt) (Some line) refl h.mapping_is)
 
-  all_mapped : (typ : MediaType) → All (IsMapped lines) (listed_alone typ offered.pts)
-  all_mapped Application = All-nil (IsMapped lines)
-  all_mapped Audio = All-cons (IsMapped lines) pt [] mapped (All-nil (IsMapped lines))
-  all_mapped Video = All-cons (IsMapped lines) pt [] mapped (All-nil (IsMapped lines))
-  all_mapped (Unknown text) = All-cons (IsMapped lines) pt [] mapped (All-nil (IsMapped lines))
+  listed_mapped : (typ : MediaType) → All (IsMapped its_lines) (listed_alone typ offered.pts)
+  listed_mapped Application = All-nil (IsMapped its_lines)
+  listed_mapped Audio = All-cons (IsMapped its_lines) pt [] type_mapped (All-nil (IsMapped its_lines))
+  listed_mapped Video = All-cons (IsMapped its_lines) pt [] type_mapped (All-nil (IsMapped its_lines))
+  listed_mapped (Unknown text) = All-cons (IsMapped its_lines) pt [] type_mapped (All-nil (IsMapped its_lines))
 
   found_agrees : (o : Option MediaAttribute) (all : List MediaAttribute) → IfSome o (λ line. AgreesOnApt all line) → All (AgreesOnApt all) (option_to_list o)
   found_agrees None all h = All-nil (AgreesOnApt all)
   found_agrees (Some line) all h = All-cons (AgreesOnApt all) line [] h (All-nil (AgreesOnApt all))
 
-  all_agree : All (AgreesOnApt lines) lines
+  all_agree : All (AgreesOnApt its_lines) its_lines
   all_agree =
-      All-append (AgreesOnApt lines) (option_to_list mid_found) (direction_over offered.proto ++ option_to_list mapping_found)
-      (found_agrees mid_found lines (weaker _ _ (λ line h. h.agrees lines) mid_found mid_counts))
-      (All-append (AgreesOnApt lines) (direction_over offered.proto) (option_to_list mapping_found) ((directed offered.proto).agree lines)
-      (found_agrees mapping_found lines (weaker _ _ (λ line h. h.agrees lines) mapping_found mapping_counts)))
+      All-append (AgreesOnApt its_lines) (option_to_list mid_found) (direction_over offered.proto ++ option_to_list mapping_found)
+      (found_agrees mid_found its_lines (line_weaker _ _ (λ line h. h.agrees its_lines) mid_found mid_counts))
+      (All-append (AgreesOnApt its_lines) (direction_over offered.proto) (option_to_list mapping_found)
+      ((directed offered.proto).agree its_lines)
+      (found_agrees mapping_found its_lines (line_weaker _ _ (λ line h. h.agrees its_lines) mapping_found mapping_counts)))
 
   consistent_so : Consistent (rejecting offered)
   consistent_so = record {
-    mid = one_mid;
+    mid = one_mid_line;
     setup = few_setups;
     proto = λ srtp. (one_direction srtp, λ e. absurd (false≢true (sym e)));
-    mapped = all_mapped offered.typ;
+    mapped = listed_mapped offered.typ;
     apt = all_agree;
   }
 

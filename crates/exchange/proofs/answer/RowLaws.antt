@@ -14,8 +14,8 @@ some : {A : Type 0} (o : Option A) → o ≢ None → is_some o ≡ true
 some None h = absurd (h refl)
 some (Some x) h = refl
 
-both : {a b : Bool} → a ≡ true → b ≡ true → (a && b) ≡ true
-both {a} {b} e f = ap (λ (x : Bool). x && b) e ∙ f
+and_both : {a b : Bool} → a ≡ true → b ≡ true → (a && b) ≡ true
+and_both {a} {b} e f = ap (λ (x : Bool). x && b) e ∙ f
 
 -- a type that is agreed on stands in the m-line
 in_m_line : (listed : List ℕ) (ours theirs : Option ℕ) → IfSome (agreed_type listed ours theirs) (Contains listed)
@@ -93,9 +93,9 @@ found_under own section pt = go (find (λ row. row.pt == pt) (rows section)) (fo
 
 -- ---- all rows
 
-weaker : {A : Type 0} (P Q : A → Type 0) → ((x : A) → P x → Q x) → (o : Option A) → IfSome o P → IfSome o Q
-weaker P Q f None h = tt
-weaker P Q f (Some x) h = f x h
+IfSome_weaker : {A : Type 0} (P Q : A → Type 0) → ((x : A) → P x → Q x) → (o : Option A) → IfSome o P → IfSome o Q
+IfSome_weaker P Q f None h = tt
+IfSome_weaker P Q f (Some x) h = f x h
 
 -- the types of the m-line, each once
 abbrev types_once : MediaLine → List ℕ
@@ -108,14 +108,14 @@ pub all_agreed : (own : List PayloadParams) (section : MediaLine) (answer : List
 unfolding answered_rows
 all_agreed own section answer is = subst (All (IsAgreed own section)) (sym is)
     (All-filter_map (Contains section.pts) (IsAgreed own section) (answer_under own section (rows section))
-    (λ pt listed. weaker (Found own section pt) (IsAgreed own section) (λ row h. h.agreed listed) (answer_under own section (rows section) pt) (found_under own section pt))
+    (λ pt listed. IfSome_weaker (Found own section pt) (IsAgreed own section) (λ row h. h.agreed listed) (answer_under own section (rows section) pt) (found_under own section pt))
     (types_once section) (listed_once section))
 
 pub all_say : (own : List PayloadParams) (section : MediaLine) (answer : List PayloadParams) → answer ≡ answered_rows own section → All (SaysWhatIsOffered section) answer
 unfolding answered_rows
 all_say own section answer is = subst (All (SaysWhatIsOffered section)) (sym is)
     (All-filter_map (Contains section.pts) (SaysWhatIsOffered section) (answer_under own section (rows section))
-    (λ pt listed. weaker (Found own section pt) (SaysWhatIsOffered section) (λ row h. h.offered) (answer_under own section (rows section) pt) (found_under own section pt))
+    (λ pt listed. IfSome_weaker (Found own section pt) (SaysWhatIsOffered section) (λ row h. h.offered) (answer_under own section (rows section) pt) (found_under own section pt))
     (types_once section) (listed_once section))
 
 pub in_order : (own : List PayloadParams) (section : MediaLine) (answer : List PayloadParams) → answer ≡ answered_rows own section
@@ -124,11 +124,11 @@ unfolding answered_rows
 in_order own section answer is =
     ap own_types is
     ∙ marks (λ row. row.pt) (answer_under own section (rows section))
-    (λ pt. weaker (Found own section pt) (λ row. row.pt ≡ pt) (λ row h. h.under) (answer_under own section (rows section) pt) (found_under own section pt))
+    (λ pt. IfSome_weaker (Found own section pt) (λ row. row.pt ≡ pt) (λ row h. h.under) (answer_under own section (rows section) pt) (found_under own section pt))
     (types_once section)
 
-pub each_once : (own : List PayloadParams) (section : MediaLine) (answer : List PayloadParams) → answer ≡ answered_rows own section → AllDistinct (own_types answer)
-each_once own section answer is = λ t. go t (in_order own section answer is) where
+pub answers_once : (own : List PayloadParams) (section : MediaLine) (answer : List PayloadParams) → answer ≡ answered_rows own section → AllDistinct (own_types answer)
+answers_once own section answer is = λ t. go t (in_order own section answer is) where
   go : (t : ℕ) → own_types answer ≡ filter (is_answered own section) (distinct ◌==◌ section.pts) → times (own_types answer) t ≤ 1
   go t e =
       let fewer = times-filter (is_answered own section) (types_once section) t in
@@ -148,7 +148,8 @@ has_answer own section ours b = ap (λ (o : Option PayloadParams). is_some (o >>
   is_under = (subst (λ (o : Option PayloadParams). IfSome o (λ theirs. ((theirs.pt == ours.pt) ≡ true) × Contains (rows section) theirs)) b.offered (found (λ row. row.pt == ours.pt) (rows section))).0
 
   passes : matches section.typ b.theirs ours ≡ true
-  passes = both b.locked (both (eq-eqb _ _ (sym (eqb-true _ _ is_under))) (both b.carried (some (score ours.spec b.theirs.spec) b.match)))
+  passes = and_both b.locked (and_both (eq-eqb _ _ (sym (eqb-true _ _ is_under)))
+      (and_both b.carried (some (score ours.spec b.theirs.spec) b.match)))
 
 pub all_stand : (own : List PayloadParams) (section : MediaLine) (answer : List PayloadParams) → answer ≡ answered_rows own section
     → (ours : PayloadParams) → Belongs own section ours → Contains (own_types answer) ours.pt

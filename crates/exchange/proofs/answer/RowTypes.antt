@@ -13,8 +13,8 @@ agreed_fewer listed (Some a) (Some b) t = go (a == b && has listed a) where
   go true = omega arith
   go false = omega arith
 
-joined : (row : PayloadParams) (t : ℕ) → times (types_of row) t ≡ times (row.pt ∷ []) t + (times (option_to_list row.resend) t + times (option_to_list row.red) t)
-joined row t =
+times_joined : (row : PayloadParams) (t : ℕ) → times (types_of row) t ≡ times (row.pt ∷ []) t + (times (option_to_list row.resend) t + times (option_to_list row.red) t)
+times_joined row t =
     times-append (row.pt ∷ []) (option_to_list row.resend ++ option_to_list row.red) t
     ∙ ap (λ (n : ℕ). times (row.pt ∷ []) t + n) (times-append (option_to_list row.resend) (option_to_list row.red) t)
 
@@ -22,8 +22,8 @@ answer_fewer : (section : MediaLine) (theirs ours : PayloadParams) (t : ℕ) →
 unfolding as_answered
 answer_fewer section theirs ours t = omega (
   arith,
-  joined (as_answered section theirs ours) t,
-  joined ours t,
+  times_joined (as_answered section theirs ours) t,
+  times_joined ours t,
   agreed_fewer section.pts ours.resend theirs.resend t,
   agreed_fewer section.pts ours.red theirs.red t,
 )
@@ -45,10 +45,10 @@ tied section pt ours = go (find (λ row. row.pt == pt) (rows section)) (found (�
       let locked = and_parts ours.locked _ e in
       (eqb-true _ _ (and_parts (ours.pt == theirs.pt) _ locked.1).0 ∙ eqb-true _ _ h.0, locked.0)
 
-each : (own : List PayloadParams) (section : MediaLine) (t pt : ℕ)
+each_weighed : (own : List PayloadParams) (section : MediaLine) (t pt : ℕ)
     → IfSome (answer_under own section (rows section) pt) (λ row. times (types_of row) t ≤ weight_found t (find (test_under section pt) own))
 unfolding answer_under
-each own section t pt = go (find (λ row. row.pt == pt) (rows section)) where
+each_weighed own section t pt = go (find (λ row. row.pt == pt) (rows section)) where
   mapped : (theirs : PayloadParams) (o : Option PayloadParams) → IfSome (option_map (as_answered section theirs) o) (λ row. times (types_of row) t ≤ weight_found t o)
   mapped theirs None = tt
   mapped theirs (Some ours) = answer_fewer section theirs ours t
@@ -57,12 +57,12 @@ each own section t pt = go (find (λ row. row.pt == pt) (rows section)) where
   go None = tt
   go (Some theirs) = mapped theirs (find (matches section.typ theirs) own)
 
-bounded : (own : List PayloadParams) (section : MediaLine) (t : ℕ) → times (types (answered_rows own section)) t ≤ times (locked_types own) t
+times_bounded : (own : List PayloadParams) (section : MediaLine) (t : ℕ) → times (types (answered_rows own section)) t ≤ times (locked_types own) t
 unfolding answered_rows
-bounded own section t =
-    no_more t (test_under section) (tied section) own (answer_under own section (rows section)) (each own section t) (distinct ◌==◌ section.pts)
+times_bounded own section t =
+    no_more t (test_under section) (tied section) own (answer_under own section (rows section)) (each_weighed own section t) (distinct ◌==◌ section.pts)
     (distinct-once section.pts)
 
-pub all_apart : (own : List PayloadParams) (section : MediaLine) (answer : List PayloadParams) → answer ≡ answered_rows own section
+pub answer_apart : (own : List PayloadParams) (section : MediaLine) (answer : List PayloadParams) → answer ≡ answered_rows own section
     → AllDistinct (locked_types own) → AllDistinct (types answer)
-all_apart own section answer is apart = subst (λ (rs : List PayloadParams). AllDistinct (types rs)) (sym is) (λ t. omega (arith, bounded own section t, apart t))
+answer_apart own section answer is apart = subst (λ (rs : List PayloadParams). AllDistinct (types rs)) (sym is) (λ t. omega (arith, times_bounded own section t, apart t))

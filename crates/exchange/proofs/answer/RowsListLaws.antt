@@ -1,21 +1,21 @@
 -- Lists of types, each once; what is found in a list; lists that are mapped in part.
-use Rattle.exchange.proofs.Common.{arith, ◌≡◌, ◌<◌, ◌+◌, ◌≤◌, ◌++◌, ◌==◌, ◌||◌, ℕ, Bool, true, false, cond, not, List, [], ◌∷◌, length, take, get_or, Option, Some, None, All, IfSome, filter, filter_map, find, map, refl, sym, ap, ◌∙◌, eqb-true, eq-eqb, false≢true, take_at_read, All-cons, All-nil, All-head, All-tail, All-filter, Contains-append_right, list_any_at, list_any, Contains, cons_option, is_some, times-cons, times-none, one_if, times, has, distinct}
+use Rattle.exchange.proofs.Common.{arith, ◌≡◌, ◌<◌, ◌+◌, ◌≤◌, ◌++◌, ◌==◌, ◌||◌, ℕ, Bool, true, false, cond, not, List, [], ◌∷◌, length, take, get_or, Option, Some, None, All, IfSome, filter, filter_map, find, map, refl, sym, ap, ◌∙◌, eqb-true, eq-eqb, false≢true, take_at_read, All-cons, All-nil, All-head, All-tail, All-filter, Contains-append_right, list_any_at, list_any, Contains, cons_option, is_some, times-cons, times-none, one_if, times, has, distinct, one_mapped}
 use Rattle.std.proofs.lemmas.Bool.Decides.{nat_tests}
 use Rattle.str0m_sdp.proofs.session.DistinctCandidatesLaws.{distinct_push}
 
 -- ---- each once
 
 -- leaving out what differs from k loses no k
-any-others : (k x : ℕ) → (x == k) ≡ false → (xs : List ℕ) → has (filter (λ y. not (x == y)) xs) k ≡ has xs k
-any-others k x apart [] = refl
-any-others k x apart (y ∷ ys) = grind (arith, nat_tests, any-others k x apart ys)
+has-others : (k x : ℕ) → (x == k) ≡ false → (xs : List ℕ) → has (filter (λ y. not (x == y)) xs) k ≡ has xs k
+has-others k x apart [] = refl
+has-others k x apart (y ∷ ys) = grind (arith, nat_tests, has-others k x apart ys)
 
-pub any-distinct : (xs : List ℕ) (k : ℕ) → has (distinct ◌==◌ xs) k ≡ has xs k
-any-distinct [] k = refl
-any-distinct (x ∷ xs) k = go (x == k) refl (any-distinct xs k) where
+pub has-distinct : (xs : List ℕ) (k : ℕ) → has (distinct ◌==◌ xs) k ≡ has xs k
+has-distinct [] k = refl
+has-distinct (x ∷ xs) k = go (x == k) refl (has-distinct xs k) where
   go : (b : Bool) → (x == k) ≡ b → has (distinct ◌==◌ xs) k ≡ has xs k → (b || has (filter (λ y. not (x == y)) (distinct ◌==◌ xs)) k) ≡ (b || has xs k)
   go true e rec = refl
-  go false e rec = any-others k x e (distinct ◌==◌ xs) ∙ rec
+  go false e rec = has-others k x e (distinct ◌==◌ xs) ∙ rec
 
 -- one type more
 pub distinct_more : (xs : List ℕ) (i x : ℕ) → i < length xs → x ≡ get_or xs i x
@@ -23,7 +23,7 @@ pub distinct_more : (xs : List ℕ) (i x : ℕ) → i < length xs → x ≡ get_
 distinct_more xs i x lt is =
     ap (distinct ◌==◌) ((take_at_read xs i x lt).1 ∙ ap (λ (y : ℕ). take i xs ++ y ∷ []) (sym is))
     ∙ distinct_push ◌==◌ (take i xs) x
-    ∙ ap (λ (b : Bool). distinct ◌==◌ (take i xs) ++ cond b [] (x ∷ [])) (sym (any-distinct (take i xs) x))
+    ∙ ap (λ (b : Bool). distinct ◌==◌ (take i xs) ++ cond b [] (x ∷ [])) (sym (has-distinct (take i xs) x))
 
 pub All-distinct : {X : Type 0} (P : X → Type 0) (same : X → X → Bool) (xs : List X) → All P xs → All P (distinct same xs)
 All-distinct P same [] all = All-nil P
@@ -40,16 +40,16 @@ times-filter test (x ∷ xs) t = go (test x) (times-filter test xs t) where
   go false rec = omega (arith, rec, times-cons x xs t)
 
 -- the type that is left out doesn't stand there
-left_out : (x : ℕ) (xs : List ℕ) → has (filter (λ y. not (x == y)) xs) x ≡ false
-left_out x [] = refl
-left_out x (y ∷ ys) = grind (arith, nat_tests, left_out x ys)
+filtered_out : (x : ℕ) (xs : List ℕ) → has (filter (λ y. not (x == y)) xs) x ≡ false
+filtered_out x [] = refl
+filtered_out x (y ∷ ys) = grind (arith, nat_tests, filtered_out x ys)
 
 pub distinct-once : (xs : List ℕ) (t : ℕ) → times (distinct ◌==◌ xs) t ≤ 1
 distinct-once [] t = omega arith
 distinct-once (x ∷ xs) t = go (x == t) refl (distinct-once xs t) where
   go : (b : Bool) → (x == t) ≡ b → times (distinct ◌==◌ xs) t ≤ 1 → times (distinct ◌==◌ (x ∷ xs)) t ≤ 1
   go true e rec =
-      let none : times (filter (λ y. not (x == y)) (distinct ◌==◌ xs)) t ≡ 0 = times-none (filter (λ y. not (x == y)) (distinct ◌==◌ xs)) t (ap (has (filter (λ y. not (x == y)) (distinct ◌==◌ xs))) (sym (eqb-true x t e)) ∙ left_out x (distinct ◌==◌ xs)) in
+      let none : times (filter (λ y. not (x == y)) (distinct ◌==◌ xs)) t ≡ 0 = times-none (filter (λ y. not (x == y)) (distinct ◌==◌ xs)) t (ap (has (filter (λ y. not (x == y)) (distinct ◌==◌ xs))) (sym (eqb-true x t e)) ∙ filtered_out x (distinct ◌==◌ xs)) in
       omega (arith, none, times-cons x (filter (λ y. not (x == y)) (distinct ◌==◌ xs)) t, one_if (x == t) true e)
   go false e rec = omega (arith, rec, times-filter (λ y. not (x == y)) (distinct ◌==◌ xs) t, times-cons x (filter (λ y. not (x == y)) (distinct ◌==◌ xs)) t, one_if (x == t) false e)
 
@@ -82,10 +82,6 @@ marks {Y} mark f each (x ∷ xs) = go (f x) (each x) (marks mark f each xs) wher
   go None h rec = rec
   go (Some y) h rec = ap (λ (m : ℕ). m ∷ map mark (filter_map f xs)) h ∙ ap (λ (ms : List ℕ). x ∷ ms) rec
 
-one_mapped : {Y : Type 0} (Q : Y → Type 0) (o : Option Y) (ys : List Y) → IfSome o Q → All Q ys → All Q (cons_option o ys)
-one_mapped Q None ys image rest = rest
-one_mapped Q (Some y) ys image rest = All-cons Q y ys image rest
-
 -- what holds of the image of each item
 pub All-filter_map : {X Y : Type 0} (P : X → Type 0) (Q : Y → Type 0) (f : X → Option Y) → ((x : X) → P x → IfSome (f x) Q) → (xs : List X)
     → All P xs → All Q (filter_map f xs)
@@ -113,8 +109,8 @@ contains_type (x ∷ xs) k h = go (x == k) refl h (contains_type xs k) where
   go true e h rec = (0, omega arith, eqb-true x k e)
   go false e h rec = Contains-append_right (x ∷ []) xs k (rec h)
 
-has_type : (xs : List ℕ) (k : ℕ) → Contains xs k → has xs k ≡ true
-has_type xs k there = list_any_at (λ x. x == k) xs there.0 k there.1 (eq-eqb _ _ there.2)
+has_contained : (xs : List ℕ) (k : ℕ) → Contains xs k → has xs k ≡ true
+has_contained xs k there = list_any_at (λ x. x == k) xs there.0 k there.1 (eq-eqb _ _ there.2)
 
 has-filter : (test : ℕ → Bool) (xs : List ℕ) (k : ℕ) → test k ≡ true → has (filter test xs) k ≡ has xs k
 has-filter test [] k passes = refl
@@ -127,4 +123,5 @@ has-filter test (x ∷ xs) k passes = go (test x) (x == k) refl refl (has-filter
 -- a type that passes stands among those that pass, each once
 pub kept_type : (test : ℕ → Bool) (xs : List ℕ) (k : ℕ) → Contains xs k → test k ≡ true → Contains (filter test (distinct ◌==◌ xs)) k
 kept_type test xs k there passes =
-    contains_type (filter test (distinct ◌==◌ xs)) k (has-filter test (distinct ◌==◌ xs) k passes ∙ any-distinct xs k ∙ has_type xs k there)
+    contains_type (filter test (distinct ◌==◌ xs)) k (has-filter test (distinct ◌==◌ xs) k passes ∙ has-distinct xs k
+    ∙ has_contained xs k there)

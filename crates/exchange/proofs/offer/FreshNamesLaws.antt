@@ -2,7 +2,7 @@
 use Rattle.exchange.proofs.Common.{arith, ◌≡◌, ◌<◌, ◌≤◌, ◌+◌, ◌++◌, ◌^◌, ◌||◌, ◌⊎◌, inl, inr, ℕ, Bool, true, false, List, [], ◌∷◌, Some, All, decimal, length, bytes_eq, refl, subst, sym, ap, ◌∙◌, eq-or-lt_of_le, false≢true, All-cons, All-head, All-nil, All-tail, bytes_eq-Decides, AreDistinct, is_listed}
 use Rattle.exchange.specs.offer.FreshNames.{AreFresh, IsNextFree, is_taken}
 use Rattle.std.proofs.lemmas.Fmt.{decimal_injective, length-decimal-le}
-use Rattle.str0m_sdp.proofs.session.SessionLaws.{apart}
+use Rattle.str0m_sdp.proofs.session.SessionLaws.{mids_apart}
 
 -- a name of a section has room for 16 bytes
 pub short_name : (n : ℕ) → n < 2 ^ 32 → length (decimal n) ≤ 16
@@ -57,7 +57,7 @@ fresh_distinct names from [] to fresh = λ i j d lt within. absurd (omega arith)
 fresh_distinct names from (name ∷ given) to fresh =
     let unlisted : is_listed given (Some name) ≡ false =
     ap (λ (text : List ℕ). is_listed given (Some text)) fresh.1 ∙ later_apart names fresh.0 (fresh.0 + 1) given to fresh.2.bounded (omega arith) fresh.3 in
-    (apart name given unlisted).0 (fresh_distinct names (fresh.0 + 1) given to fresh.3)
+    (mids_apart name given unlisted).0 (fresh_distinct names (fresh.0 + 1) given to fresh.3)
 
 -- a name among the others is none of them
 pub fresh_unlisted : (names : List (List ℕ)) (given : List (List ℕ)) (other : List ℕ) → All (λ name. is_listed names (Some name) ≡ false) given

@@ -1,7 +1,7 @@
 -- An offer of this side leaves the sections of the last exchange in their places, and what is added has names that no section
 -- has had.
-use Rattle.exchange.proofs.Common.{arith, ◌≡◌, ◌+◌, ◌++◌, ◌||◌, ◌⊎◌, ℕ, suc, zero, Bool, true, false, List, [], ◌∷◌, map, Option, Some, All, inl, inr, subst, sym, ap, ◌∙◌, true≢false, All-cons, All-head, All-nil, All-tail, get_or_from_slice_get, same_Some, slice_get_within, slice_get, MediaAttribute, MediaLine, Sdp, is_listed, section_mids}
-use Rattle.exchange.proofs.offer.OfferRuleLaws.{new_name, next_shape}
+use Rattle.exchange.proofs.Common.{arith, ◌≡◌, ◌+◌, ◌++◌, ◌||◌, ◌⊎◌, ℕ, suc, zero, Bool, true, false, List, [], ◌∷◌, map, Option, Some, All, inl, inr, subst, sym, ap, ◌∙◌, true≢false, All-cons, All-head, All-nil, All-tail, same_Some, slice_get, MediaAttribute, MediaLine, Sdp, is_listed, section_mids, at_place}
+use Rattle.exchange.proofs.offer.OfferRuleLaws.{new_section_name, next_shape}
 use Rattle.exchange.proofs.offer.RuleLaws.{rejecting_shape}
 use Rattle.exchange.proofs.state.ExchangeFollowLaws.{listed_more}
 use Rattle.exchange.specs.declared.offer.added.Added.{Added}
@@ -31,25 +31,22 @@ added_new old ready extensions (mid ∷ mids) [] new = All-nil (IsNew old.names)
 added_new old ready extensions (mid ∷ mids) (first ∷ more) new =
     let placed : Placed = record { mid = mid; added = first } in
     All-cons (IsNew old.names) (new_section old ready extensions placed) (map (new_section old ready extensions) (placed_under mids more))
-    (subst (λ (name : Option (List ℕ)). is_listed old.names name ≡ false) (sym (new_name old ready extensions placed))
+    (subst (λ (name : Option (List ℕ)). is_listed old.names name ≡ false) (sym (new_section_name old ready extensions placed))
     (unlisted_part _ _ (sym (listed_more (section_mids (sections_of old.local)) old.names (Some mid)) ∙ All-head (IsNewName old) mid mids new)))
     (added_new old ready extensions mids more (All-tail (IsNewName old) mid mids new))
 
 -- ---- place by place
 
-at_place : {X : Type 0} (P : X → Type 0) (xs : List X) (k : ℕ) (x : X) → All P xs → slice_get xs k ≡ Some x → P x
-at_place P xs k x all there = subst P (get_or_from_slice_get xs k x x there) (all k x (slice_get_within xs k x there))
-
-record Stands (names : List (List ℕ)) (mine said : MediaLine) (left : List MediaLine) : Type 0 where
+record StandsNamed (names : List (List ℕ)) (mine said : MediaLine) (left : List MediaLine) : Type 0 where
   pub stands : (name_of said ≡ name_of mine) ⊎ IsNew names said
   pub left_new : All (IsNew names) left
 
-over_so : (names : List (List ℕ)) (mine : MediaLine) (added : List MediaLine) → All (IsNew names) added → Stands names mine (over_section added mine) (but_first added)
+over_so : (names : List (List ℕ)) (mine : MediaLine) (added : List MediaLine) → All (IsNew names) added → StandsNamed names mine (over_section added mine) (but_first added)
 over_so names mine [] new = record { stands = inl (rejecting_shape mine).name; left_new = new }
 over_so names mine (first ∷ more) new = record { stands = inr (All-head (IsNew names) first more new); left_new = All-tail (IsNew names) first more new }
 
 place_so : (names : List (List ℕ)) (old : Exchange) (ready : List SectionDirection) (at : ℕ) (mine : MediaLine) (added : List MediaLine) (said : MediaLine) (left : List MediaLine)
-    → All (IsNew names) added → FillsPlace old ready at mine added said left → Stands names mine said left
+    → All (IsNew names) added → FillsPlace old ready at mine added said left → StandsNamed names mine said left
 place_so names old ready at mine added said left new fills = elim fills [
   | inl on ↦ record {
     stands = inl (ap name_of on.1 ∙ (next_shape old ready (theirs_at old.remote at) mine).name);
@@ -75,7 +72,7 @@ places_so names old ready at (mine ∷ more) added (said ∷ behind) left new fi
     let one = place_so names old ready at mine added said fills.0 new fills.1 in
     let rest = places_so names old ready (at + 1) more fills.0 behind left one.left_new fills.2 in
     record { as_many = omega (arith, rest.as_many); each = go one rest } where
-      go : Stands names mine said fills.0 → FollowsPlaces names more (behind ++ left)
+      go : StandsNamed names mine said fills.0 → FollowsPlaces names more (behind ++ left)
           → (k : ℕ) (m : MediaLine) → slice_get (said ∷ behind ++ left) k ≡ Some m → HasNameAt (mine ∷ more) k m ⊎ IsNew names m
       go one rest zero m there = subst (λ (x : MediaLine). (name_of x ≡ name_of mine) ⊎ IsNew names x) (same_Some said m there) one.stands
       go one rest (suc k) m there = rest.each k m there

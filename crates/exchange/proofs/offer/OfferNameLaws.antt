@@ -1,6 +1,6 @@
 -- The names of an offer's sections are pairwise different.
 use Rattle.exchange.proofs.Common.{arith, ◌≡◌, ◌≢◌, ◌+◌, ◌++◌, inl, inr, ℕ, suc, false, List, [], ◌∷◌, Option, Some, None, IfSome, MatchOption, All, bytes_eq, map, subst, sym, ap, ◌∙◌, or_parts, true≢false, All-cons, All-head, All-nil, All-tail, All-weaker, AllPairs-cons, bytes_eq-Decides, cons_option, MediaAttribute, MediaLine, Sdp, AreDistinct, is_listed, section_mids}
-use Rattle.exchange.proofs.offer.OfferRuleLaws.{all_named, new_name, next_shape}
+use Rattle.exchange.proofs.offer.OfferRuleLaws.{all_named, new_section_name, next_shape}
 use Rattle.exchange.proofs.offer.RuleLaws.{rejecting_shape}
 use Rattle.exchange.proofs.section.PlaceLaws.{places_hold}
 use Rattle.exchange.specs.answer.RejectedSection.{rejecting}
@@ -25,11 +25,12 @@ abbrev pub Differ : List MediaLine → Type 0
 Differ [] = Unit {0}
 Differ (m ∷ ms) = All (Other (name_of m)) ms × Differ ms
 
-flipped : (name other : Option (List ℕ)) → IfSome name (λ n. IfSome other (λ k. k ≢ n)) → IfSome other (λ k. IfSome name (λ n. n ≢ k))
-flipped None None apart = tt
-flipped None (Some k) apart = tt
-flipped (Some n) None apart = tt
-flipped (Some n) (Some k) apart = λ e. apart (sym e)
+differ_flipped : (name other : Option (List ℕ)) → IfSome name (λ n. IfSome other (λ k. k ≢ n))
+    → IfSome other (λ k. IfSome name (λ n. n ≢ k))
+differ_flipped None None apart = tt
+differ_flipped None (Some k) apart = tt
+differ_flipped (Some n) None apart = tt
+differ_flipped (Some n) (Some k) apart = λ e. apart (sym e)
 
 -- what holds of the names
 named_from : (P : List ℕ → Type 0) (ms : List MediaLine) → All P (section_mids ms) → All (λ m. IfSome (name_of m) P) ms
@@ -94,74 +95,75 @@ others_hold name old ready at ms added filled left there apart fills =
     places_hold (Other name) (Other name) old ready (other_next name old ready) (other_over name) at ms added filled left there apart fills
 
 -- each of what is added has another name than each earlier section
-abbrev Apart : List MediaLine → List MediaLine → Type 0
-Apart added ms = All (λ a. All (Other (name_of a)) ms) added
+abbrev AreNamedApart : List MediaLine → List MediaLine → Type 0
+AreNamedApart added ms = All (λ a. All (Other (name_of a)) ms) added
 
 -- none of what is added has the name of the first
-none_so : (m : MediaLine) (ms added : List MediaLine) → Apart added (m ∷ ms) → All (Other (name_of m)) added
-none_so m ms added apart =
+none_named_first : (m : MediaLine) (ms added : List MediaLine) → AreNamedApart added (m ∷ ms) → All (Other (name_of m)) added
+none_named_first m ms added apart =
     All-weaker (λ (a : MediaLine). All (Other (name_of a)) (m ∷ ms)) (Other (name_of m))
-    (λ a others. flipped (name_of a) (name_of m) (All-head (Other (name_of a)) m ms others)) added apart
+    (λ a others. differ_flipped (name_of a) (name_of m) (All-head (Other (name_of a)) m ms others)) added apart
 
-but_one : (m : MediaLine) (ms added : List MediaLine) → Apart added (m ∷ ms) → Apart added ms
+but_one : (m : MediaLine) (ms added : List MediaLine) → AreNamedApart added (m ∷ ms) → AreNamedApart added ms
 but_one m ms added apart =
     All-weaker (λ (a : MediaLine). All (Other (name_of a)) (m ∷ ms)) (λ (a : MediaLine). All (Other (name_of a)) ms)
     (λ a others. All-tail (Other (name_of a)) m ms others) added apart
 
-record Goes (ms : List MediaLine) (said : MediaLine) (between : List MediaLine) : Type 0 where
+record GoesApart (ms : List MediaLine) (said : MediaLine) (between : List MediaLine) : Type 0 where
   earlier : All (Other (name_of said)) ms
   later : All (Other (name_of said)) between
   differ : Differ between
-  apart : Apart between ms
+  apart : AreNamedApart between ms
 
 as_named : (ms added : List MediaLine) (m said : MediaLine) (between : List MediaLine) → name_of said ≡ name_of m → between ≡ added
-    → Differ (m ∷ ms) → Differ added → Apart added (m ∷ ms) → Goes ms said between
+    → Differ (m ∷ ms) → Differ added → AreNamedApart added (m ∷ ms) → GoesApart ms said between
 as_named ms added m said between name same earlier differ apart = record {
   earlier = subst (λ (found : Option (List ℕ)). All (Other found) ms) (sym name) earlier.0;
-  later = subst (λ (found : Option (List ℕ)). All (Other found) between) (sym name) (subst (All (Other (name_of m))) (sym same) (none_so m ms added apart));
+  later = subst (λ (found : Option (List ℕ)). All (Other found) between) (sym name) (subst (All (Other (name_of m))) (sym same) (none_named_first m ms added apart));
   differ = subst Differ (sym same) differ;
-  apart = subst (λ (more : List MediaLine). Apart more ms) (sym same) (but_one m ms added apart);
+  apart = subst (λ (more : List MediaLine). AreNamedApart more ms) (sym same) (but_one m ms added apart);
 }
 
 goes : (old : Exchange) (ready : List SectionDirection) (at : ℕ) (m : MediaLine) (ms added : List MediaLine) (said : MediaLine) (between : List MediaLine)
-    → Differ (m ∷ ms) → Differ added → Apart added (m ∷ ms) → FillsPlace old ready at m added said between → Goes ms said between
+    → Differ (m ∷ ms) → Differ added → AreNamedApart added (m ∷ ms) → FillsPlace old ready at m added said between
+    → GoesApart ms said between
 goes old ready at m ms added said between earlier differ apart (inl (runs, is, same)) =
     as_named ms added m said between (ap name_of is ∙ (next_shape old ready (theirs_at old.remote at) m).name) same earlier differ apart
 goes old ready at m ms [] said between earlier differ apart (inr (over, is, same)) =
     as_named ms [] m said between (ap name_of is ∙ (rejecting_shape m).name) same earlier differ apart
 goes old ready at m ms (x ∷ xs) said between earlier differ apart (inr (over, is, same)) =
-    let rest : Apart (x ∷ xs) ms = but_one m ms (x ∷ xs) apart in
+    let rest : AreNamedApart (x ∷ xs) ms = but_one m ms (x ∷ xs) apart in
     record {
       earlier = subst (λ (section : MediaLine). All (Other (name_of section)) ms) (sym is) (All-head (λ (a : MediaLine). All (Other (name_of a)) ms) x xs rest);
       later = subst (λ (section : MediaLine). All (Other (name_of section)) between) (sym is) (subst (All (Other (name_of x))) (sym same) differ.0);
       differ = subst Differ (sym same) differ.1;
-      apart = subst (λ (more : List MediaLine). Apart more ms) (sym same) (All-tail (λ (a : MediaLine). All (Other (name_of a)) ms) x xs rest);
+      apart = subst (λ (more : List MediaLine). AreNamedApart more ms) (sym same) (All-tail (λ (a : MediaLine). All (Other (name_of a)) ms) x xs rest);
     }
 
 places_differ : (old : Exchange) (ready : List SectionDirection) (at : ℕ) (ms added filled left : List MediaLine)
-    → Differ ms → Differ added → Apart added ms → FillsPlaces old ready at ms added filled left → Differ (filled ++ left)
+    → Differ ms → Differ added → AreNamedApart added ms → FillsPlaces old ready at ms added filled left → Differ (filled ++ left)
 places_differ old ready at [] added [] left earlier differ apart fills = subst Differ (sym fills) differ
 places_differ old ready at [] added (x ∷ filled) left earlier differ apart fills = absurd fills
 places_differ old ready at (m ∷ ms) added [] left earlier differ apart fills = absurd fills
 places_differ old ready at (m ∷ ms) added (x ∷ filled) left earlier differ apart fills =
-    let it : Goes ms x fills.0 = goes old ready at m ms added x fills.0 earlier differ apart fills.1 in (
+    let it : GoesApart ms x fills.0 = goes old ready at m ms added x fills.0 earlier differ apart fills.1 in (
       others_hold (name_of x) old ready (at + 1) ms fills.0 filled left it.earlier it.later fills.2,
       places_differ old ready (at + 1) ms fills.0 filled left earlier.1 it.differ it.apart fills.2,
     )
 
 -- ---- what is added
 
-weaker : (P : List ℕ → Type 0) (name : Option (List ℕ)) → MatchOption name ⊥ P → IfSome name P
-weaker P None it = tt
-weaker P (Some n) it = it
+name_weaker : (P : List ℕ → Type 0) (name : Option (List ℕ)) → MatchOption name ⊥ P → IfSome name P
+name_weaker P None it = tt
+name_weaker P (Some n) it = it
 
 added_differ : (old : Exchange) (ready : List SectionDirection) (extensions : List MediaAttribute) (names : List (List ℕ)) (what : List Added) → AreDistinct names
     → Differ (map (new_section old ready extensions) (placed_under names what))
 added_differ old ready extensions [] what distinct = tt
 added_differ old ready extensions (name ∷ names) [] distinct = tt
 added_differ old ready extensions (name ∷ names) (it ∷ more) distinct = (
-  subst (λ (found : Option (List ℕ)). All (Other found) (map (new_section old ready extensions) (placed_under names more))) (sym (new_name old ready extensions (record { mid = name; added = it })))
-      (All-weaker (λ (m : MediaLine). MatchOption (name_of m) ⊥ (λ k. k ≢ name)) (Other (Some name)) (λ m. weaker (λ (k : List ℕ). k ≢ name) (name_of m))
+  subst (λ (found : Option (List ℕ)). All (Other found) (map (new_section old ready extensions) (placed_under names more))) (sym (new_section_name old ready extensions (record { mid = name; added = it })))
+      (All-weaker (λ (m : MediaLine). MatchOption (name_of m) ⊥ (λ k. k ≢ name)) (Other (Some name)) (λ m. name_weaker (λ (k : List ℕ). k ≢ name) (name_of m))
       (map (new_section old ready extensions) (placed_under names more))
       (all_named (λ (k : List ℕ). k ≢ name) old ready extensions names more (head_apart name names distinct))),
   added_differ old ready extensions names more (tail_distinct name names distinct),
@@ -180,7 +182,7 @@ new_apart : (old : Exchange) (name : List ℕ) → IsNewName old name → All (�
 new_apart old name new = unlisted_apart (section_mids (sections_of old.local)) old.names name new
 
 added_apart : (old : Exchange) (ready : List SectionDirection) (extensions : List MediaAttribute) (names : List (List ℕ)) (what : List Added) → All (IsNewName old) names
-    → Apart (map (new_section old ready extensions) (placed_under names what)) (sections_of old.local)
+    → AreNamedApart (map (new_section old ready extensions) (placed_under names what)) (sections_of old.local)
 added_apart old ready extensions names what new =
     All-weaker (λ (m : MediaLine). MatchOption (name_of m) ⊥ (IsNewName old)) (λ (m : MediaLine). All (Other (name_of m)) (sections_of old.local))
     (λ m. apart_so (name_of m)) (map (new_section old ready extensions) (placed_under names what)) (all_named (IsNewName old) old ready extensions names what new) where

@@ -53,9 +53,9 @@ name_for : (old : Exchange) (ready : List SectionDirection) (extensions : List M
 name_for old ready extensions mid (added.Media kind direction) = refl
 name_for old ready extensions mid added.Channels = channels_name old mid old.own.channels
 
-pub new_name : (old : Exchange) (ready : List SectionDirection) (extensions : List MediaAttribute) (placed : Placed)
+pub new_section_name : (old : Exchange) (ready : List SectionDirection) (extensions : List MediaAttribute) (placed : Placed)
     → name_of (new_section old ready extensions placed) ≡ Some placed.mid
-new_name old ready extensions placed = name_for old ready extensions placed.mid placed.added
+new_section_name old ready extensions placed = name_for old ready extensions placed.mid placed.added
 
 -- ---- places
 
@@ -66,15 +66,15 @@ all_named P old ready extensions [] what all = All-nil (λ (m : MediaLine). Matc
 all_named P old ready extensions (name ∷ names) [] all = All-nil (λ (m : MediaLine). MatchOption (name_of m) ⊥ P)
 all_named P old ready extensions (name ∷ names) (it ∷ more) all =
     All-cons (λ (m : MediaLine). MatchOption (name_of m) ⊥ P) (new_section old ready extensions (record { mid = name; added = it })) (map (new_section old ready extensions) (placed_under names more))
-    (subst (λ (found : Option (List ℕ)). MatchOption found ⊥ P) (sym (new_name old ready extensions (record { mid = name; added = it }))) (All-head P name names all))
+    (subst (λ (found : Option (List ℕ)). MatchOption found ⊥ P) (sym (new_section_name old ready extensions (record { mid = name; added = it }))) (All-head P name names all))
     (all_named P old ready extensions names more (All-tail P name names all))
 
-record Kept (old : Exchange) (at : ℕ) (mine said : MediaLine) (left : List MediaLine) : Type 0 where
+record KeptPlace (old : Exchange) (at : ℕ) (mine said : MediaLine) (left : List MediaLine) : Type 0 where
   place : KeepsPlace old at mine said
   later : All (HasNewName old) left
 
 place_kept : (old : Exchange) (ready : List SectionDirection) (at : ℕ) (mine : MediaLine) (added : List MediaLine) (said : MediaLine) (left : List MediaLine)
-    → All (HasNewName old) added → FillsPlace old ready at mine added said left → Kept old at mine said left
+    → All (HasNewName old) added → FillsPlace old ready at mine added said left → KeptPlace old at mine said left
 place_kept old ready at mine added said left new (inl (runs, is, same)) =
     record { place = inl (subst (HasShapeOf mine) (sym is) (next_shape old ready (theirs_at old.remote at) mine)); later = subst (All (HasNewName old)) (sym same) new }
 place_kept old ready at mine [] said left new (inr (over, is, same)) =
@@ -88,7 +88,7 @@ places_kept old ready at [] added [] left new fills = tt
 places_kept old ready at [] added (x ∷ filled) left new fills = absurd fills
 places_kept old ready at (m ∷ ms) added [] left new fills = absurd fills
 places_kept old ready at (m ∷ ms) added (x ∷ filled) left new fills =
-    let kept : Kept old at m x fills.0 = place_kept old ready at m added x fills.0 new fills.1 in
+    let kept : KeptPlace old at m x fills.0 = place_kept old ready at m added x fills.0 new fills.1 in
     (kept.place, places_kept old ready (at + 1) ms fills.0 filled left kept.later fills.2)
 
 pub offer_places : (old : Exchange) (names : List (List ℕ)) (offer : Sdp) → All (IsNewName old) names → MakesOffer old names offer
@@ -127,14 +127,14 @@ media_offered old ready kind.Video mid asked = λ on. record {
   rows = refl;
 }
 
-no_media : (P : Type 0) → false ≡ true → P
-no_media P e = cc
+absurd_media : (P : Type 0) → false ≡ true → P
+absurd_media P e = cc
 
 channels_offered : (old : Exchange) (ready : List SectionDirection) (instead : MediaLine) (mid : List ℕ) (channels : Option DataChannels)
     → IsOffered old ready (offered_channels old.own instead mid channels)
 channels_offered old ready instead mid None = rejecting_offered old ready instead
 channels_offered old ready instead mid (Some channels) =
-    λ on. record { creds = refl; fingerprint = refl; role = refl; flows = λ typ. no_media _ typ; rows = tt }
+    λ on. record { creds = refl; fingerprint = refl; role = refl; flows = λ typ. absurd_media _ typ; rows = tt }
 
 offered_by : (old : Exchange) (ready : List SectionDirection) (theirs : Option MediaLine) (mine : MediaLine) (name : Option (List ℕ)) (typ : MediaType) (proto : Proto)
     → IsOffered old ready (section_by old ready theirs mine name typ proto)

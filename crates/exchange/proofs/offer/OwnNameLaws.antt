@@ -17,9 +17,10 @@ turned_so true false = refl
 turned_so false true = refl
 turned_so false false = refl
 
-turned : (mid : List ℕ) (mids : List (List ℕ)) (name : Option (List ℕ)) → is_listed (mid ∷ mids) name ≡ is_listed (mids ++ mid ∷ []) name
-turned mid mids None = refl
-turned mid mids (Some q) = turned_so (bytes_eq mid q) (is_listed mids (Some q)) ∙ sym (listed_more mids (mid ∷ []) (Some q))
+listed_turned : (mid : List ℕ) (mids : List (List ℕ)) (name : Option (List ℕ))
+    → is_listed (mid ∷ mids) name ≡ is_listed (mids ++ mid ∷ []) name
+listed_turned mid mids None = refl
+listed_turned mid mids (Some q) = turned_so (bytes_eq mid q) (is_listed mids (Some q)) ∙ sym (listed_more mids (mid ∷ []) (Some q))
 
 differ_behind : (mid : List ℕ) (mids : List (List ℕ)) → is_listed mids (Some mid) ≡ false → AreDistinct mids → AreDistinct (mids ++ mid ∷ [])
 differ_behind mid mids unlisted distinct =
@@ -28,26 +29,26 @@ differ_behind mid mids unlisted distinct =
 
 -- ---- the section that a name is of
 
-record Stands (sections : List MediaLine) (at : ℕ) (name : Option (List ℕ)) : Type 0 where
+record StandsUnder (sections : List MediaLine) (at : ℕ) (name : Option (List ℕ)) : Type 0 where
   section : MediaLine
   stands : slice_get sections at ≡ Some section
   named_so : name_of section ≡ name
 
 standing : (sections : List MediaLine) (at : ℕ) (name : Option (List ℕ)) (o : Option MediaLine) → slice_get sections at ≡ o → option_map name_of o ≡ Some name
-    → Stands sections at name
+    → StandsUnder sections at name
 standing sections at name None is mapped = cc
 standing sections at name (Some m) is mapped = record { section = m; stands = is; named_so = cc }
 
 stands_at : (sections : List MediaLine) (names : List (Option (List ℕ))) (at : ℕ) (name : Option (List ℕ)) → names ≡ map name_of sections
-    → at < length names → name ≡ get_or names at name → Stands sections at name
+    → at < length names → name ≡ get_or names at name → StandsUnder sections at name
 stands_at sections names at name are lt is =
     standing sections at name (slice_get sections at) refl
     (sym (slice_get-map name_of sections at) ∙ ap (λ (all : List (Option (List ℕ))). slice_get all at) (sym are) ∙ slice_get_item names at name lt is)
 
 -- ---- steps
 
-was_there : (added there b : Bool) → added ≡ not there → added ≡ b → there ≡ not b
-was_there added there b is test = grind arith
+was_listed : (added there b : Bool) → added ≡ not there → added ≡ b → there ≡ not b
+was_listed added there b is test = grind arith
 
 pub none_yet : (sections : List MediaLine) (names : BTreeSet (Bor (List ℕ))) → Holds names [] → AreOwn sections names 0
 none_yet sections names held = record { held = held; differ = λ i j d lt within. absurd (omega arith) }
@@ -56,7 +57,7 @@ none_yet sections names held = record { held = held; differ = λ i j d lt within
 pub own_same : (sections : List MediaLine) (names : List (Option (List ℕ))) (before : BTreeSet (Bor (List ℕ))) (at : ℕ) (name : Option (List ℕ)) → names ≡ map name_of sections
     → at < length names → name ≡ get_or names at name → name ≡ None → AreOwn sections before at → AreOwn sections before (at + 1)
 own_same sections names before at name are lt is none own =
-    let it : Stands sections at name = stands_at sections names at name are lt is in
+    let it : StandsUnder sections at name = stands_at sections names at name are lt is in
     let same : section_mids (take (at + 1) sections) ≡ section_mids (take at sections) =
     filter_map_same section_mid sections at it.section (slice_get_within sections at it.section it.stands)
     (sym (get_or_from_slice_get sections at it.section it.section it.stands)) (sym (it.named_so ∙ none)) in
@@ -71,15 +72,15 @@ pub own_more : (sections : List MediaLine) (names : List (Option (List ℕ))) (b
     → Updates (λ x y. slice_cmp nat_cmp x.now y.now) before after text true → added ≡ not (contains (λ x y. slice_cmp nat_cmp x.now y.now) before text) → added ≡ true
     → AreOwn sections before at → AreOwn sections after (at + 1)
 own_more sections names before after at name text mid added are lt is some same updates told test own =
-    let it : Stands sections at name = stands_at sections names at name are lt is in
+    let it : StandsUnder sections at name = stands_at sections names at name are lt is in
     let mids : List (List ℕ) = section_mids (take at sections) in
     let more : section_mids (take (at + 1) sections) ≡ mids ++ mid ∷ [] =
     filter_map_more section_mid sections at it.section mid (slice_get_within sections at it.section it.stands)
     (sym (get_or_from_slice_get sections at it.section it.section it.stands)) (sym (it.named_so ∙ some)) in
     let unlisted : is_listed mids (Some mid) ≡ false =
-    ap (λ (word : List ℕ). is_listed mids (Some word)) (sym same) ∙ sym (own.held (Some text.now)) ∙ was_there added (is_held before (Some text.now)) true told test in
+    ap (λ (word : List ℕ). is_listed mids (Some word)) (sym same) ∙ sym (own.held (Some text.now)) ∙ was_listed added (is_held before (Some text.now)) true told test in
     record {
-      held = subst (Holds after) (sym more) (λ other. holds_before before after text mid mids same updates own.held other ∙ turned mid mids other);
+      held = subst (Holds after) (sym more) (λ other. holds_before before after text mid mids same updates own.held other ∙ listed_turned mid mids other);
       differ = subst AreDistinct (sym more) (differ_behind mid mids unlisted own.differ);
     }
 
@@ -88,13 +89,13 @@ pub named_again : (sections : List MediaLine) (names : List (Option (List ℕ)))
     → names ≡ map name_of sections → at < length names → name ≡ get_or names at name → name ≡ Some mid → text.now ≡ mid
     → added ≡ not (contains (λ x y. slice_cmp nat_cmp x.now y.now) before text) → added ≡ false → AreOwn sections before at → IsNamedAgain sections at
 named_again sections names before at name text mid added are lt is some same told test own =
-    let it : Stands sections at name = stands_at sections names at name are lt is in
+    let it : StandsUnder sections at name = stands_at sections names at name are lt is in
     let mids : List (List ℕ) = section_mids (take at sections) in
     record {
       m = it.section;
       stands = it.stands;
       again = ap (is_listed mids) (it.named_so ∙ some) ∙ ap (λ (word : List ℕ). is_listed mids (Some word)) (sym same)
-          ∙ sym (own.held (Some text.now)) ∙ was_there added (is_held before (Some text.now)) false told test;
+          ∙ sym (own.held (Some text.now)) ∙ was_listed added (is_held before (Some text.now)) false told test;
       differ = own.differ;
     }
 

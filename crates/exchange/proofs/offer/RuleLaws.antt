@@ -3,7 +3,7 @@ use Rattle.exchange.proofs.Common.{◌≡◌, ◌≢◌, ℕ, Bool, true, false,
 use Rattle.exchange.proofs.answer.OfferedLaws.{accepted_channels_offered, accepted_media_offered}
 use Rattle.exchange.specs.answer.Accepted.{AcceptsChannels, AcceptsMedia, candidate_line, first_lines, framed, layer_lines, media_lines, msid_lines}
 use Rattle.exchange.specs.answer.AnsweredSection.{AnswersSection, SaysChoice}
-use Rattle.exchange.specs.answer.Choice.{IsChoice, by_kind, by_name, channels_or_none, rows_or_none}
+use Rattle.exchange.specs.answer.Choice.{IsSectionChoice, choice_by_kind, by_name, channels_or_none, rows_or_none}
 use Rattle.exchange.specs.answer.RejectedSection.{direction_over, first_type, line_that, rejecting}
 use Rattle.exchange.specs.answer.Rows.{answered_rows}
 use Rattle.exchange.specs.declared.answer.choice.Choice.{Choice}
@@ -33,13 +33,14 @@ from_rows : (mid name : List ℕ) (theirs rows : List PayloadParams) → Media m
 from_rows mid name theirs [] e = cc
 from_rows mid name theirs (row ∷ rows) e = ((cc), (cc), λ (n : row ∷ rows ≡ []). cc)
 
-no_media : (mid name : List ℕ) (theirs : List PayloadParams) (channels : Option DataChannels) → Media mid theirs ≡ channels_or_none name channels → ⊥
-no_media mid name theirs None e = cc
-no_media mid name theirs (Some channels) e = cc
+rows_not_channels : (mid name : List ℕ) (theirs : List PayloadParams) (channels : Option DataChannels) → Media mid theirs ≡ channels_or_none name channels → ⊥
+rows_not_channels mid name theirs None e = cc
+rows_not_channels mid name theirs (Some channels) e = cc
 
-no_channels : (mid name : List ℕ) (theirs : DataChannels) (rows : List PayloadParams) → Channels mid theirs ≡ rows_or_none name rows → ⊥
-no_channels mid name theirs [] e = cc
-no_channels mid name theirs (row ∷ rows) e = cc
+channels_not_rows : (mid name : List ℕ) (theirs : DataChannels) (rows : List PayloadParams) → Channels mid theirs ≡ rows_or_none name rows
+    → ⊥
+channels_not_rows mid name theirs [] e = cc
+channels_not_rows mid name theirs (row ∷ rows) e = cc
 
 from_channels : (mid name : List ℕ) (theirs : DataChannels) (channels : Option DataChannels) → Channels mid theirs ≡ channels_or_none name channels → (name ≡ mid) × (channels ≢ None)
 from_channels mid name theirs None e = cc
@@ -52,10 +53,10 @@ record MediaChosen (own : OwnSide) (rows : List PayloadParams) (name : Option (L
   answerable : HasAnswerFor own rows typ proto
 
 media_of_kind : (own : OwnSide) (rows : List PayloadParams) (name : List ℕ) (typ : MediaType) (proto : Proto) (mid : List ℕ) (theirs : List PayloadParams)
-    → Media mid theirs ≡ by_kind own rows name typ proto → MediaChosen own rows (Some name) typ proto mid theirs
+    → Media mid theirs ≡ choice_by_kind own rows name typ proto → MediaChosen own rows (Some name) typ proto mid theirs
 media_of_kind own rows name Audio Srtp mid theirs e = let f = from_rows mid name theirs rows e in record { named_so = ap Some f.0; same = f.1; some = f.2; answerable = f.2 }
 media_of_kind own rows name Video Srtp mid theirs e = let f = from_rows mid name theirs rows e in record { named_so = ap Some f.0; same = f.1; some = f.2; answerable = f.2 }
-media_of_kind own rows name Application Sctp mid theirs e = absurd (no_media mid name theirs own.channels e)
+media_of_kind own rows name Application Sctp mid theirs e = absurd (rows_not_channels mid name theirs own.channels e)
 media_of_kind own rows name Audio Sctp mid theirs e = cc
 media_of_kind own rows name Video Sctp mid theirs e = cc
 media_of_kind own rows name Application Srtp mid theirs e = cc
@@ -73,9 +74,9 @@ record ChannelsChosen (own : OwnSide) (rows : List PayloadParams) (name : Option
   answerable : HasAnswerFor own rows typ proto
 
 channels_of_kind : (own : OwnSide) (rows : List PayloadParams) (name : List ℕ) (typ : MediaType) (proto : Proto) (mid : List ℕ) (theirs : DataChannels)
-    → Channels mid theirs ≡ by_kind own rows name typ proto → ChannelsChosen own rows (Some name) typ proto mid
-channels_of_kind own rows name Audio Srtp mid theirs e = absurd (no_channels mid name theirs rows e)
-channels_of_kind own rows name Video Srtp mid theirs e = absurd (no_channels mid name theirs rows e)
+    → Channels mid theirs ≡ choice_by_kind own rows name typ proto → ChannelsChosen own rows (Some name) typ proto mid
+channels_of_kind own rows name Audio Srtp mid theirs e = absurd (channels_not_rows mid name theirs rows e)
+channels_of_kind own rows name Video Srtp mid theirs e = absurd (channels_not_rows mid name theirs rows e)
 channels_of_kind own rows name Application Sctp mid theirs e = let f = from_channels mid name theirs own.channels e in record { named_so = ap Some f.0; no_media = refl; answerable = f.1 }
 channels_of_kind own rows name Audio Sctp mid theirs e = cc
 channels_of_kind own rows name Video Sctp mid theirs e = cc
@@ -114,10 +115,10 @@ some_name name mid e n = cc
 
 -- ---- sections that reject
 
-mid_found : (attrs : List MediaAttribute) → first (filter_map mid_of (option_to_list (find is_mid attrs))) ≡ first (filter_map mid_of attrs)
-mid_found [] = refl
-mid_found (media.Mid mid ∷ attrs) = refl
-mid_found (attr ∷ attrs) = mid_found attrs
+mid_first : (attrs : List MediaAttribute) → first (filter_map mid_of (option_to_list (find is_mid attrs))) ≡ first (filter_map mid_of attrs)
+mid_first [] = refl
+mid_first (media.Mid mid ∷ attrs) = refl
+mid_first (attr ∷ attrs) = mid_first attrs
 
 no_mid_mapped : (pt : ℕ) (attrs : List MediaAttribute) → filter_map mid_of (option_to_list (find (maps pt) attrs)) ≡ []
 no_mid_mapped pt [] = refl
@@ -140,7 +141,7 @@ rejected_name offered =
     ap first (filter_map-append mid_of (line_that is_mid offered.attrs) (direction_over offered.proto ++ mapped)
     ∙ ap (λ (names : List (List ℕ)). filter_map mid_of (line_that is_mid offered.attrs) ++ names) behind
     ∙ append-nil (filter_map mid_of (line_that is_mid offered.attrs)))
-    ∙ mid_found offered.attrs
+    ∙ mid_first offered.attrs
 
 pub rejecting_shape : (offered : MediaLine) → HasShapeOf offered (rejecting offered)
 rejecting_shape offered = record { typ = refl; proto = refl; name = rejected_name offered }
@@ -160,7 +161,7 @@ direction_said own mid role way.Inactive behind rows = refl
 true_false : (b : Bool) → b ≡ true → b ≡ false → ⊥
 true_false b t f = cc
 
-rejected_keeps : (own : OwnSide) (ours : List PayloadParams) (offer : Sdp) (offered answered : MediaLine) → IsChoice own ours offer offered Rejected
+rejected_keeps : (own : OwnSide) (ours : List PayloadParams) (offer : Sdp) (offered answered : MediaLine) → IsSectionChoice own ours offer offered Rejected
     → answered ≡ rejecting offered → KeepsRules own ours offer offered answered
 rejected_keeps own ours offer offered answered is says =
     let off : answered.disabled ≡ true = ap (λ (m : MediaLine). m.disabled) says in
@@ -174,7 +175,7 @@ rejected_keeps own ours offer offered answered is says =
     }
 
 media_keeps : (own : OwnSide) (ours : List PayloadParams) (offer : Sdp) (offered answered : MediaLine) (mid : List ℕ) (rows : List PayloadParams)
-    → IsChoice own ours offer offered (Media mid rows) → AcceptsMedia own offer offered mid rows answered → KeepsRules own ours offer offered answered
+    → IsSectionChoice own ours offer offered (Media mid rows) → AcceptsMedia own offer offered mid rows answered → KeepsRules own ours offer offered answered
 media_keeps own ours offer offered answered mid rows is accepts =
     let runs : IsStopped offer offered → ⊥ = λ stopped. let e : Media mid rows ≡ Rejected = is.stopped stopped in cc in
     let chosen : MediaChosen own (answered_rows ours offered) (name_of offered) offered.typ offered.proto mid rows =
@@ -201,7 +202,7 @@ media_keeps own ours offer offered answered mid rows is accepts =
     }
 
 channels_keep : (own : OwnSide) (ours : List PayloadParams) (offer : Sdp) (offered answered : MediaLine) (mid : List ℕ) (channels : DataChannels)
-    → IsChoice own ours offer offered (Channels mid channels) → AcceptsChannels own offer offered mid channels answered → KeepsRules own ours offer offered answered
+    → IsSectionChoice own ours offer offered (Channels mid channels) → AcceptsChannels own offer offered mid channels answered → KeepsRules own ours offer offered answered
 channels_keep own ours offer offered answered mid channels is accepts =
     let runs : IsStopped offer offered → ⊥ = λ stopped. let e : Channels mid channels ≡ Rejected = is.stopped stopped in cc in
     let chosen : ChannelsChosen own (answered_rows ours offered) (name_of offered) offered.typ offered.proto mid =
@@ -224,27 +225,28 @@ channels_keep own ours offer offered answered mid channels is accepts =
     }
 
 choice_keeps : (own : OwnSide) (ours : List PayloadParams) (offer : Sdp) (offered answered : MediaLine) (choice : Choice)
-    → IsChoice own ours offer offered choice → SaysChoice own offer offered choice answered → KeepsRules own ours offer offered answered
+    → IsSectionChoice own ours offer offered choice → SaysChoice own offer offered choice answered
+    → KeepsRules own ours offer offered answered
 choice_keeps own ours offer offered answered Rejected is says = rejected_keeps own ours offer offered answered is says
 choice_keeps own ours offer offered answered (Media mid rows) is says = media_keeps own ours offer offered answered mid rows is says
 choice_keeps own ours offer offered answered (Channels mid channels) is says = channels_keep own ours offer offered answered mid channels is says
 
-pub section_keeps : (own : OwnSide) (ours : List PayloadParams) (offer : Sdp) (offered answered : MediaLine) → AnswersSection own ours offer offered answered
+pub section_keeps_rules : (own : OwnSide) (ours : List PayloadParams) (offer : Sdp) (offered answered : MediaLine) → AnswersSection own ours offer offered answered
     → KeepsRules own ours offer offered answered
-section_keeps own ours offer offered answered answers = choice_keeps own ours offer offered answered answers.choice answers.is_choice answers.says
+section_keeps_rules own ours offer offered answered answers = choice_keeps own ours offer offered answered answers.choice answers.is_choice answers.says
 
 -- each section keeps them
 pub sections_keep : (own : OwnSide) (ours : List PayloadParams) (offer : Sdp) (answered : List MediaLine) → AllZip (AnswersSection own ours offer) offer.media_lines answered
     → AllZip (KeepsRules own ours offer) offer.media_lines answered
 sections_keep own ours offer answered answers =
-    all_zip_weaker (AnswersSection own ours offer) (KeepsRules own ours offer) (λ theirs said. section_keeps own ours offer theirs said) offer.media_lines answered answers
+    all_zip_weaker (AnswersSection own ours offer) (KeepsRules own ours offer) (λ theirs said. section_keeps_rules own ours offer theirs said) offer.media_lines answered answers
 
 pub sections_shape : (own : OwnSide) (ours : List PayloadParams) (offer : Sdp) (answered : List MediaLine) → AllZip (AnswersSection own ours offer) offer.media_lines answered
     → AllZip HasShapeOf offer.media_lines answered
 sections_shape own ours offer answered answers =
-    all_zip_weaker (AnswersSection own ours offer) HasShapeOf (λ theirs said each. (section_keeps own ours offer theirs said each).shape) offer.media_lines answered answers
+    all_zip_weaker (AnswersSection own ours offer) HasShapeOf (λ theirs said each. (section_keeps_rules own ours offer theirs said each).shape) offer.media_lines answered answers
 
 pub sections_exact : (own : OwnSide) (ours : List PayloadParams) (offer : Sdp) (answered : List MediaLine) → AllZip (AnswersSection own ours offer) offer.media_lines answered
     → AllZip (IsAcceptedExactly own ours offer) offer.media_lines answered
 sections_exact own ours offer answered answers =
-    all_zip_weaker (AnswersSection own ours offer) (IsAcceptedExactly own ours offer) (λ theirs said each. (section_keeps own ours offer theirs said each).exactly) offer.media_lines answered answers
+    all_zip_weaker (AnswersSection own ours offer) (IsAcceptedExactly own ours offer) (λ theirs said each. (section_keeps_rules own ours offer theirs said each).exactly) offer.media_lines answered answers

@@ -8,16 +8,16 @@ use Rattle.exchange.specs.offer.OfferSection.{next_section}
 
 -- ---- one place more
 
-behind : (old : Exchange) (ready : List SectionDirection) (from i : ℕ) (ms added filled between left : List MediaLine) (mine said : MediaLine)
+filled_behind : (old : Exchange) (ready : List SectionDirection) (from i : ℕ) (ms added filled between left : List MediaLine) (mine said : MediaLine)
     → i ≡ from + length ms → FillsPlaces old ready from ms added filled between → FillsPlace old ready i mine between said left
     → FillsPlaces old ready from (ms ++ mine ∷ []) added (filled ++ said ∷ []) left
-behind old ready from i [] added [] between left mine said at fills place =
+filled_behind old ready from i [] added [] between left mine said at fills place =
     let here : i ≡ from = omega (arith, at) in
     (left, subst (λ (j : ℕ). FillsPlace old ready j mine added said left) here (subst (λ (more : List MediaLine). FillsPlace old ready i mine more said left) fills place), refl)
-behind old ready from i [] added (x ∷ filled) between left mine said at fills place = absurd fills
-behind old ready from i (m ∷ ms) added [] between left mine said at fills place = absurd fills
-behind old ready from i (m ∷ ms) added (x ∷ filled) between left mine said at fills place =
-    (fills.0, fills.1, behind old ready (from + 1) i ms fills.0 filled between left mine said (omega (arith, at)) fills.2 place)
+filled_behind old ready from i [] added (x ∷ filled) between left mine said at fills place = absurd fills
+filled_behind old ready from i (m ∷ ms) added [] between left mine said at fills place = absurd fills
+filled_behind old ready from i (m ∷ ms) added (x ∷ filled) between left mine said at fills place =
+    (fills.0, fills.1, filled_behind old ready (from + 1) i ms fills.0 filled between left mine said (omega (arith, at)) fills.2 place)
 
 pub fills_more : (old : Exchange) (ready : List SectionDirection) (i : ℕ) (ms added filled between left : List MediaLine) (mine said : MediaLine)
     → i < length ms → mine ≡ get_or ms i mine → FillsPlaces old ready 0 (take i ms) added filled between → FillsPlace old ready i mine between said left
@@ -27,17 +27,17 @@ fills_more old ready i ms added filled between left mine said lt is fills place 
     (take_at_read ms i mine lt).1 ∙ ap (λ (y : MediaLine). take i ms ++ y ∷ []) (sym is) in
     let at : i ≡ 0 + length (take i ms) = grind (arith, length-take) in
     subst (λ (places : List MediaLine). FillsPlaces old ready 0 places added (filled ++ said ∷ []) left) (sym taken)
-    (behind old ready 0 i (take i ms) added filled between left mine said at fills place)
+    (filled_behind old ready 0 i (take i ms) added filled between left mine said at fills place)
 
 -- ---- what holds of each section
 
-record Holds (P : MediaLine → Type 0) (said : MediaLine) (left : List MediaLine) : Type 0 where
+record HoldsFilled (P : MediaLine → Type 0) (said : MediaLine) (left : List MediaLine) : Type 0 where
   here : P said
   behind_it : All P left
 
 place_holds : (P Q : MediaLine → Type 0) (old : Exchange) (ready : List SectionDirection) → ((theirs : Option MediaLine) (mine : MediaLine) → Q mine → P (next_section old ready theirs mine))
     → ((mine : MediaLine) → Q mine → P (rejecting mine)) → (at : ℕ) (mine : MediaLine) (added : List MediaLine) (said : MediaLine) (left : List MediaLine)
-    → Q mine → All P added → FillsPlace old ready at mine added said left → Holds P said left
+    → Q mine → All P added → FillsPlace old ready at mine added said left → HoldsFilled P said left
 place_holds P Q old ready next over at mine added said left there all (inl (runs, is, same)) =
     record { here = subst P (sym is) (next (theirs_at old.remote at) mine there); behind_it = subst (All P) (sym same) all }
 place_holds P Q old ready next over at mine [] said left there all (inr (ended, is, same)) =
@@ -53,5 +53,5 @@ places_hold P Q old ready next over at [] added [] left there all fills = subst 
 places_hold P Q old ready next over at [] added (x ∷ filled) left there all fills = absurd fills
 places_hold P Q old ready next over at (m ∷ ms) added [] left there all fills = absurd fills
 places_hold P Q old ready next over at (m ∷ ms) added (x ∷ filled) left there all fills =
-    let holds : Holds P x fills.0 = place_holds P Q old ready next over at m added x fills.0 (All-head Q m ms there) all fills.1 in
+    let holds : HoldsFilled P x fills.0 = place_holds P Q old ready next over at m added x fills.0 (All-head Q m ms there) all fills.1 in
     All-cons P x (filled ++ left) holds.here (places_hold P Q old ready next over (at + 1) ms fills.0 filled left (All-tail Q m ms there) holds.behind_it fills.2)

@@ -5,18 +5,18 @@ use Rattle.exchange.specs.section.Stopped.{name_of}
 use Rattle.str0m_signal.specs.session.Negotiation.{brought, brought_by}
 
 -- a section has a name there where it brings a round
-named : (ms : List MediaLine) → length (map name_of (filter has_round ms)) ≡ length (filter_map brought_by ms)
-named [] = refl
-named (m ∷ ms) = go (is_media m.typ) (named ms) where
+as_many_named : (ms : List MediaLine) → length (map name_of (filter has_round ms)) ≡ length (filter_map brought_by ms)
+as_many_named [] = refl
+as_many_named (m ∷ ms) = go (is_media m.typ) (as_many_named ms) where
   go : (b : Bool) → length (map name_of (filter has_round ms)) ≡ length (filter_map brought_by ms)
       → length (map name_of (cond b (m ∷ filter has_round ms) (filter has_round ms)))
       ≡ length (cons_option (cond b (Some (rows m, section_direction m.attrs)) None) (filter_map brought_by ms))
   go true rec = ap suc rec
   go false rec = rec
 
-mapped : (rounds : List Round) → length (map brought rounds) ≡ length rounds
-mapped [] = refl
-mapped (round ∷ rounds) = ap suc (mapped rounds)
+as_many_brought : (rounds : List Round) → length (map brought rounds) ≡ length rounds
+as_many_brought [] = refl
+as_many_brought (round ∷ rounds) = ap suc (as_many_brought rounds)
 
 ended : (before : List PayloadParams) (rounds : List Round) (outcomes : List Outcome) (after : List PayloadParams) → Reached before rounds outcomes after
     → length rounds ≡ length outcomes
@@ -28,4 +28,4 @@ ended before (round ∷ rounds) [] after reached = absurd reached
 pub one_each : (sdp : Sdp) (before after : List PayloadParams) (outcomes : List Outcome) → Negotiated sdp.media_lines before outcomes after
     → length (negotiated_names sdp) ≡ length outcomes
 one_each sdp before after outcomes negotiated =
-    named sdp.media_lines ∙ sym (ap length negotiated.rounds_are) ∙ mapped negotiated.rounds ∙ ended before negotiated.rounds outcomes after negotiated.reached
+    as_many_named sdp.media_lines ∙ sym (ap length negotiated.rounds_are) ∙ as_many_brought negotiated.rounds ∙ ended before negotiated.rounds outcomes after negotiated.reached

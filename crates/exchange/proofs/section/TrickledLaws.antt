@@ -27,6 +27,6 @@ one_candidate line read other there here =
     ap (λ (found : Candidate × List ℕ). found.0) (first_line_one (attribute_both candidate_both) line (read, []) (other, []) there here)
 
 -- of the line that a text makes
-pub along : (P : List ℕ → Candidate → Type 0) (line made : List ℕ) (r : Result Candidate SdpError) → line ≡ made
+pub made_along : (P : List ℕ → Candidate → Type 0) (line made : List ℕ) (r : Result Candidate SdpError) → line ≡ made
     → Answers (λ read. read) r (P line) → Answers (λ read. read) r (P made)
-along P line made r same h = subst (λ (text : List ℕ). Answers (λ read. read) r (P text)) same h
+made_along P line made r same h = subst (λ (text : List ℕ). Answers (λ read. read) r (P text)) same h

@@ -7,8 +7,8 @@ use Rattle.str0m_sdp.specs.declared.attribute.MediaAttribute.TheVariants.{Simulc
 abbrev pub FromOn : {X : Type 0} → (X → X → Type 0) → List X → List X → ℕ → Type 0
 FromOn {X} R xs ys i = (k : ℕ) (d e : X) → i ≤ k → k < length xs → R (get_or xs k d) (get_or ys k e)
 
-pub at_place : {X : Type 0} (R : X → X → Type 0) (xs ys : List X) (i : ℕ) (x y : X) → i < length xs → x ≡ get_or xs i x → y ≡ get_or ys i y → FromOn R xs ys i → R x y
-at_place {X} R xs ys i x y lt isx isy rest =
+pub from_on_at : {X : Type 0} (R : X → X → Type 0) (xs ys : List X) (i : ℕ) (x y : X) → i < length xs → x ≡ get_or xs i x → y ≡ get_or ys i y → FromOn R xs ys i → R x y
+from_on_at {X} R xs ys i x y lt isx isy rest =
     subst (λ (z : X). R z y) (sym isx) (subst (λ (z : X). R (get_or xs i x) z) (sym isy) (rest i x y (omega arith) lt))
 
 -- a change at a place leaves those behind it

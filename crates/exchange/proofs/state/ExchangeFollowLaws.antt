@@ -1,5 +1,5 @@
 -- States of an exchange one after another.
-use Rattle.exchange.proofs.Common.{arith, ◌≡◌, ◌≢◌, ◌||◌, ◌++◌, ◌⊎◌, ℕ, Bool, true, false, cond, List, [], ◌∷◌, length, Option, Some, None, All, IfSome, IsSomeAnd, MatchOption, bytes_eq, filter_map, inl, inr, refl, subst, sym, ap, ◌∙◌, true≢false, All-cons, All-nil, All-weaker, list_any-append, same_Some, bytes_eq-Decides, AllZip-long, AllZip-right, AllZip, cons_option, slice_get, stays-same, stays-then, row_before, CodecConfig, PayloadParams, LockedStay, StaysLocked, MediaLine, Sdp, AreDistinct, is_listed, section_mids}
+use Rattle.exchange.proofs.Common.{arith, ◌≡◌, ◌≢◌, ◌||◌, ◌++◌, ◌⊎◌, ℕ, Bool, true, false, cond, List, [], ◌∷◌, length, Option, Some, None, All, IfSome, IsSomeAnd, MatchOption, filter_map, inl, inr, refl, subst, sym, ap, ◌∙◌, true≢false, All-cons, All-nil, All-weaker, list_any-append, same_Some, AllZip-long, AllZip-right, AllZip, cons_option, slice_get, stays-same, stays-then, row_before, CodecConfig, PayloadParams, LockedStay, StaysLocked, MediaLine, Sdp, AreDistinct, is_listed, section_mids, bytes_itself}
 use Rattle.exchange.specs.declared.offer.pending.Pending.{Pending}
 use Rattle.exchange.specs.declared.state.exchange.Exchange.{Exchange}
 use Rattle.exchange.specs.declared.state.signaling_state.SignalingState.TheVariants.{Stable}
@@ -7,7 +7,7 @@ use Rattle.exchange.specs.offer.Names.{grown, new_name}
 use Rattle.exchange.specs.offer.Rules.{HasShapeOf}
 use Rattle.exchange.specs.section.Places.{FollowsPlaces, HasNameAt, IsNew, StaysInPlace, StaysInPlaces}
 use Rattle.exchange.specs.section.Stopped.{name_of}
-use Rattle.exchange.specs.state.ExchangeFollows.{Follows, Grows, IsKnown, IsPlacedSo, IsSound}
+use Rattle.exchange.specs.state.ExchangeFollows.{Follows, Grows, IsKnownName, IsPlacedSo, IsSound}
 use Rattle.exchange.specs.state.State.{sections_of, state_by}
 
 -- ---- names
@@ -67,8 +67,8 @@ rows_then xs ys zs as_many first second i old new at_old at_new =
     let mid = row_before ys zs i new as_many at_new in
     stays-then old mid.0 new (first i old mid.0 at_old mid.1) (second i mid.0 new mid.1 at_new)
 
-rows_same : (rows : List PayloadParams) → LockedStay rows rows
-rows_same rows i old new at_old at_new = subst (λ (row : PayloadParams). old.locked ≡ true → StaysLocked old row) (same_Some old new (sym at_old ∙ at_new)) (stays-same old)
+locked_stay_same : (rows : List PayloadParams) → LockedStay rows rows
+locked_stay_same rows i old new at_old at_new = subst (λ (row : PayloadParams). old.locked ≡ true → StaysLocked old row) (same_Some old new (sym at_old ∙ at_new)) (stays-same old)
 
 -- ---- states
 
@@ -77,7 +77,7 @@ follows_self exchange = record {
   names = λ name there. there;
   places = places_same exchange.names (sections_of exchange.local);
   rows = refl;
-  stay = rows_same exchange.config.params.items;
+  stay = locked_stay_same exchange.config.params.items;
 }
 
 pub follows_then : (first second third : Exchange) → Follows first second → Follows second third → Follows first third
@@ -95,7 +95,7 @@ follows_same before after names local config =
       names = λ name there. subst (λ (ns : List (List ℕ)). is_listed ns name ≡ true) (sym names) there;
       places = subst (λ (sdp : Option Sdp). FollowsPlaces before.names (sections_of before.local) (sections_of sdp)) (sym local) (places_same before.names (sections_of before.local));
       rows = ap (λ (c : CodecConfig). length c.params.items) config;
-      stay = subst (λ (c : CodecConfig). LockedStay before.config.params.items c.params.items) (sym config) (rows_same before.config.params.items);
+      stay = subst (λ (c : CodecConfig). LockedStay before.config.params.items c.params.items) (sym config) (locked_stay_same before.config.params.items);
     }
 
 -- ---- what an exchange leaves
@@ -109,8 +109,8 @@ shaped names local remote at m (Some e) each shape = renamed names local at m e 
   | inr free ↦ inr free.1
 ])
 
-found : (o : Option MediaLine) (m : MediaLine) (P : MediaLine → Type 0) → o ≡ Some m → MatchOption o (Unit {0}) P → P m
-found o m P is h = subst (λ (x : Option MediaLine). MatchOption x (Unit {0}) P) is h
+matched_some : (o : Option MediaLine) (m : MediaLine) (P : MediaLine → Type 0) → o ≡ Some m → MatchOption o (Unit {0}) P → P m
+matched_some o m P is h = subst (λ (x : Option MediaLine). MatchOption x (Unit {0}) P) is h
 
 -- an answer of the shape of an offer that keeps its places
 pub answer_follows : (names : List (List ℕ)) (local : List MediaLine) (remote : Option Sdp) (offer answer : Sdp) → StaysInPlaces names local remote offer
@@ -118,29 +118,26 @@ pub answer_follows : (names : List (List ℕ)) (local : List MediaLine) (remote 
 answer_follows names local remote offer answer kept shape = record {
   as_many = omega (arith, kept.as_many, AllZip-long HasShapeOf offer.media_lines answer.media_lines shape);
   each = λ at m there. shaped names local remote at m (slice_get offer.media_lines at) (λ e is. kept.each at e is)
-      (found (slice_get answer.media_lines at) m (λ y. IsSomeAnd (slice_get offer.media_lines at) (λ x. HasShapeOf x y)) there
+      (matched_some (slice_get answer.media_lines at) m (λ y. IsSomeAnd (slice_get offer.media_lines at) (λ x. HasShapeOf x y)) there
       (AllZip-right HasShapeOf offer.media_lines answer.media_lines shape at));
 }
 
 -- ---- names that are known
 
-same_text : (text : List ℕ) → bytes_eq text text ≡ true
-same_text text = (bytes_eq-Decides text text).1 refl
-
-or_true : (b c : Bool) → c ≡ true → (b || c) ≡ true
-or_true true c e = refl
-or_true false c e = e
+or_when_true : (b c : Bool) → c ≡ true → (b || c) ≡ true
+or_when_true true c e = refl
+or_when_true false c e = e
 
 first_known : (names rest : List (List ℕ)) (o : Option (List ℕ)) (b : Bool) → is_listed names o ≡ b → o ≢ None
     → (b || is_listed (cons_option (cond b None o) rest) o) ≡ true
 first_known names rest None b is some = absurd (some refl)
 first_known names rest (Some mid) true is some = refl
-first_known names rest (Some mid) false is some = either_true _ _ (same_text mid)
+first_known names rest (Some mid) false is some = either_true _ _ (bytes_itself mid)
 
 later_known : (rest : List (List ℕ)) (o name : Option (List ℕ)) → is_listed rest name ≡ true → is_listed (cons_option o rest) name ≡ true
 later_known rest None name there = there
 later_known rest (Some mid) None there = there
-later_known rest (Some mid) (Some name) there = or_true _ _ there
+later_known rest (Some mid) (Some name) there = or_when_true _ _ there
 
 either_later : (names rest : List (List ℕ)) (o name : Option (List ℕ)) → (is_listed names name || is_listed rest name) ≡ true
     → (is_listed names name || is_listed (cons_option o rest) name) ≡ true
@@ -161,9 +158,9 @@ all_among names (m ∷ ms) =
     (All-weaker (IsAmong names rest) (IsAmong names (cons_option (new_name names m) rest))
     (λ later known some. either_later names rest (new_name names m) (name_of later) (known some)) ms (all_among names ms))
 
-pub known_all : (names : List (List ℕ)) (sections : List MediaLine) → All (IsKnown (grown names sections)) sections
+pub known_all : (names : List (List ℕ)) (sections : List MediaLine) → All (IsKnownName (grown names sections)) sections
 known_all names sections =
-    All-weaker (IsAmong names (filter_map (new_name names) sections)) (IsKnown (grown names sections))
+    All-weaker (IsAmong names (filter_map (new_name names) sections)) (IsKnownName (grown names sections))
     (λ m among some. listed_more names (filter_map (new_name names) sections) (name_of m) ∙ among some) sections (all_among names sections)
 
 -- ---- exchanges that are done
@@ -201,7 +198,7 @@ none_open (Some pending) stable = cc
 pub sound_new : (exchange : Exchange) → exchange.local ≡ None → exchange.pending ≡ None → IsSound exchange
 sound_new exchange local none = record {
   own_names = subst (λ (o : Option Sdp). AreDistinct (section_mids (sections_of o))) (sym local) (λ i j d lt within. absurd (omega arith));
-  known = subst (λ (o : Option Sdp). All (IsKnown exchange.names) (sections_of o)) (sym local) (All-nil (IsKnown exchange.names));
+  known = subst (λ (o : Option Sdp). All (IsKnownName exchange.names) (sections_of o)) (sym local) (All-nil (IsKnownName exchange.names));
   placed = subst (λ (o : Option Pending). IfSome o (IsPlacedSo exchange)) (sym none) tt;
 }
 
@@ -214,7 +211,7 @@ pub sound_done : (after : Exchange) (names : List (List ℕ)) (sdp : Sdp) → Ar
     → after.names ≡ grown names sdp.media_lines → after.pending ≡ None → IsSound after
 sound_done after names sdp differ local named none = record {
   own_names = subst (λ (o : Option Sdp). AreDistinct (section_mids (sections_of o))) (sym local) differ;
-  known = subst (λ (o : Option Sdp). All (IsKnown after.names) (sections_of o)) (sym local)
-      (subst (λ (ns : List (List ℕ)). All (IsKnown ns) sdp.media_lines) (sym named) (known_all names sdp.media_lines));
+  known = subst (λ (o : Option Sdp). All (IsKnownName after.names) (sections_of o)) (sym local)
+      (subst (λ (ns : List (List ℕ)). All (IsKnownName ns) sdp.media_lines) (sym named) (known_all names sdp.media_lines));
   placed = subst (λ (o : Option Pending). IfSome o (IsPlacedSo after)) (sym none) tt;
 }

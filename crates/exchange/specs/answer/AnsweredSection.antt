@@ -1,7 +1,7 @@
 -- How a section of an answer answers one that is offered.
 use Rattle.exchange.specs.Prelude.{MediaLine, PayloadParams, Sdp}
 use Rattle.exchange.specs.answer.Accepted.{AcceptsChannels, AcceptsMedia}
-use Rattle.exchange.specs.answer.Choice.{IsChoice}
+use Rattle.exchange.specs.answer.Choice.{IsSectionChoice}
 use Rattle.exchange.specs.answer.RejectedSection.{rejecting}
 use Rattle.exchange.specs.declared.answer.choice.Choice.{Choice}
 use Rattle.exchange.specs.declared.answer.choice.Choice.TheVariants.{Rejected, Media, Channels}
@@ -17,5 +17,5 @@ SaysChoice own offer offered (Channels mid channels) answered = AcceptsChannels 
 -- the section answers the offered one, where this side has these rows
 pub record AnswersSection (own : OwnSide) (ours : List PayloadParams) (offer : Sdp) (offered answered : MediaLine) : Type 0 where
   pub choice : Choice
-  pub is_choice : IsChoice own ours offer offered choice
+  pub is_choice : IsSectionChoice own ours offer offered choice
   pub says : SaysChoice own offer offered choice answered

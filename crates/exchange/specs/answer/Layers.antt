@@ -44,11 +44,11 @@ abbrev pub has_name : List ℕ → Option (List ℕ) → Bool
 has_name name None = false
 has_name name (Some other) = bytes_eq other name
 
-abbrev pub is_answered : List MediaAttribute → SimulcastLayer → Bool
-is_answered rids layer = list_any (λ rid. has_name layer.restriction_id.0 (rid_name_of rid)) rids
+abbrev pub is_rid_answered : List MediaAttribute → SimulcastLayer → Bool
+is_rid_answered rids layer = list_any (λ rid. has_name layer.restriction_id.0 (rid_name_of rid)) rids
 
 abbrev pub received_layers : List MediaAttribute → MediaLine → List SimulcastLayer
-received_layers rids offered = filter (is_answered rids) (sent_layers offered)
+received_layers rids offered = filter (is_rid_answered rids) (sent_layers offered)
 
 -- the line of the layers; none where there is no layer
 abbrev pub layers_line : List SimulcastLayer → List MediaAttribute

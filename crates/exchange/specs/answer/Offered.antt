@@ -44,16 +44,16 @@ abbrev pub IsRoundOf : MediaLine → Round → Type 0
 IsRoundOf m round = (round.remote.items ≡ rows m) × (round.direction ≡ section_direction m.attrs)
 
 -- one round for each section that brings one, in order
-abbrev pub AreRoundsOf : Sdp → List MediaLine → List Round → Type 0
-AreRoundsOf offer [] rounds = rounds ≡ []
-AreRoundsOf offer (m ∷ ms) rounds =
-    ((BringsRound offer m → ⊥) × AreRoundsOf offer ms rounds)
-    ⊎ (BringsRound offer m × (round : Round) × (more : List Round) × (rounds ≡ round ∷ more) × IsRoundOf m round × AreRoundsOf offer ms more)
+abbrev pub AreOfferRounds : Sdp → List MediaLine → List Round → Type 0
+AreOfferRounds offer [] rounds = rounds ≡ []
+AreOfferRounds offer (m ∷ ms) rounds =
+    ((BringsRound offer m → ⊥) × AreOfferRounds offer ms rounds)
+    ⊎ (BringsRound offer m × (round : Round) × (more : List Round) × (rounds ≡ round ∷ more) × IsRoundOf m round × AreOfferRounds offer ms more)
 
 -- the rounds of an offer lead from the rows before them to the rows after them
-pub record Negotiates (offer : Sdp) (before after : List PayloadParams) : Type 0 where
+pub record NegotiatesOffer (offer : Sdp) (before after : List PayloadParams) : Type 0 where
   pub rounds : List Round
-  pub rounds_are : AreRoundsOf offer offer.media_lines rounds
+  pub rounds_are : AreOfferRounds offer offer.media_lines rounds
   pub outcomes : List Outcome
   pub reached : Reached before rounds outcomes after
   pub promises : RunPromises before rounds outcomes after

@@ -1,5 +1,5 @@
 -- The rows that answer a section, and what it says of each.
-use Rattle.exchange.specs.Prelude.{HasPictureFeedback, IsPlain, MediaAttribute, MediaLine, MediaType, PayloadParams, distinct, has, is_carried, rows, strip, ◌>>=◌}
+use Rattle.exchange.specs.Prelude.{HasVideoFeedback, IsPlain, MediaAttribute, MediaLine, MediaType, PayloadParams, distinct, has, is_carried, rows, strip, ◌>>=◌}
 use Rattle.std.specs.List.{list_any}
 use Rattle.std.specs.Prelude.{◌≡◌, ◌≢◌, ◌==◌, ◌&&◌, ℕ, Bool, true, false, List, Option, Some, None, codes, bytes_eq, find, filter_map, map, option_map, is_some, if◌then◌else◌, Contains, IfSome}
 use Rattle.str0m_formats.specs.codec.Codec.{content, video}
@@ -11,18 +11,18 @@ use Rattle.str0m_values.specs.declared.media_kind.MediaKind.TheVariants as kind
 
 -- ---- what a section offers
 
--- the words of an rtcp-fb line of all types, which is kept unread
-abbrev pub words_of_all : List ℕ → Option (List ℕ)
-words_of_all text = strip (codes "rtcp-fb:* ") text
+-- the value of an rtcp-fb line of all types, which is kept unread
+abbrev pub value_of_all : List ℕ → Option (List ℕ)
+value_of_all text = strip (codes "rtcp-fb:* ") text
 
 abbrev pub are : List ℕ → Option (List ℕ) → Bool
 are words (Some others) = bytes_eq others words
 are words None = false
 
--- an rtcp-fb line with these words, of the type or of all types (RFC 4585, section 4.2)
+-- an rtcp-fb line with this value, of the type or of all types (RFC 4585, section 4.2)
 abbrev pub offers : ℕ → List ℕ → MediaAttribute → Bool
 offers pt words (RtcpFb n value) = n == pt && bytes_eq value words
-offers pt words (Unused text) = are words (words_of_all text)
+offers pt words (Unused text) = are words (value_of_all text)
 offers pt words _ = false
 
 unfoldable pub is_offered : List MediaAttribute → ℕ → List ℕ → Bool
@@ -118,4 +118,4 @@ pub record SaysWhatIsOffered (section : MediaLine) (row : PayloadParams) : Type 
 
 -- the row is plain where it still has the feedback that every plain row of video has
 abbrev pub KeepsPlain : PayloadParams → Type 0
-KeepsPlain row = (content row.spec.codec ≡ video → HasPictureFeedback row) → IsPlain row
+KeepsPlain row = (content row.spec.codec ≡ video → HasVideoFeedback row) → IsPlain row

@@ -1,6 +1,6 @@
 -- Answers to an offer of this side.
 use Rattle.exchange.specs.Prelude.{PayloadParams, Reading, Sdp}
-use Rattle.exchange.specs.answer.Offered.{Negotiates, RefusesText}
+use Rattle.exchange.specs.answer.Offered.{NegotiatesOffer, RefusesText}
 use Rattle.exchange.specs.declared.offer.added.Placed.{Placed}
 use Rattle.exchange.specs.declared.offer.pending.Pending.{Pending}
 use Rattle.exchange.specs.declared.offer.rule.Rule.{Rule}
@@ -37,7 +37,7 @@ pub record IsMisfit (old : Exchange) (text : List ℕ) (section : ℕ) (rule : R
   pub answer : Sdp
   pub is_answer : IsAnswer text answer
   pub ours : List PayloadParams
-  pub negotiated : Negotiates answer old.config.params.items ours
+  pub negotiated : NegotiatesOffer answer old.config.params.items ours
   pub breaks : Breaks ours offer answer section rule
 
 -- why an answer isn't taken

@@ -21,12 +21,12 @@ abbrev pub direction_under : List ℕ → Added → Option SectionDirection
 direction_under mid (Media kind direction) = Some (record { mid = mid; direction = direction })
 direction_under mid Channels = None
 
-abbrev pub direction_of : Placed → Option SectionDirection
-direction_of placed = direction_under placed.mid placed.added
+abbrev pub placed_direction : Placed → Option SectionDirection
+placed_direction placed = direction_under placed.mid placed.added
 
 -- after what this side is ready for in other sections
 abbrev pub with_placed : List SectionDirection → List Placed → List SectionDirection
-with_placed entries placed = entries ++ filter_map direction_of placed
+with_placed entries placed = entries ++ filter_map placed_direction placed
 
 -- ---- an exchange to which something is added
 

@@ -45,13 +45,13 @@ Keeps ours answer offered answered rule.OwnName = Unit {0}
 Keeps ours answer offered answered rule.Place = Unit {0}
 
 -- a section keeps every rule
-abbrev pub FitsSection : List PayloadParams → Sdp → MediaLine → MediaLine → Type 0
-FitsSection ours answer offered answered = (rule : Rule) → Keeps ours answer offered answered rule
+abbrev pub KeepsEveryRule : List PayloadParams → Sdp → MediaLine → MediaLine → Type 0
+KeepsEveryRule ours answer offered answered = (rule : Rule) → Keeps ours answer offered answered rule
 
 -- so does the one at a place, where both sides have one there
 abbrev pub FitsAt : List PayloadParams → Sdp → Sdp → ℕ → Type 0
 FitsAt ours offer answer at = (offered answered : MediaLine)
-    → slice_get offer.media_lines at ≡ Some offered → slice_get answer.media_lines at ≡ Some answered → FitsSection ours answer offered answered
+    → slice_get offer.media_lines at ≡ Some offered → slice_get answer.media_lines at ≡ Some answered → KeepsEveryRule ours answer offered answered
 
 -- ---- an answer as a whole
 
@@ -59,12 +59,12 @@ FitsAt ours offer answer at = (offered answered : MediaLine)
 abbrev pub accepted_name : MediaLine → Option (List ℕ)
 accepted_name m = cond m.disabled None (name_of m)
 
-abbrev pub accepted_names : Sdp → List (List ℕ)
-accepted_names sdp = filter_map accepted_name sdp.media_lines
+abbrev pub unrejected_names : Sdp → List (List ℕ)
+unrejected_names sdp = filter_map accepted_name sdp.media_lines
 
 -- its group lists accepted sections alone, and of those that the offer's group lists (RFC 9143, section 7.3)
 pub record IsBundledSo (offer answer : Sdp) (mid : List ℕ) : Type 0 where
-  pub accepted : is_listed (accepted_names answer) (Some mid) ≡ true
+  pub accepted : is_listed (unrejected_names answer) (Some mid) ≡ true
   pub offered : is_listed (bundle_names offer) (Some mid) ≡ true
 
 abbrev pub BundlesSo : Sdp → Sdp → Type 0
@@ -79,15 +79,15 @@ pub record FitsOffer (ours : List PayloadParams) (offer answer : Sdp) : Type 0 w
 -- ---- what doesn't fit
 
 -- the rules of a section, in the order in which they are asked
-abbrev pub asked : List Rule
-asked =
+abbrev pub rules_asked : List Rule
+rules_asked =
     rule.MediaType ∷ (rule.Protocol ∷ (rule.Name ∷ (rule.Stopped ∷ (rule.Direction ∷ (rule.Role ∷ (rule.Formats ∷ (rule.Lines ∷ (rule.Layers ∷ (rule.Credentials ∷ (rule.Fingerprint ∷ []))))))))))
 
 -- a section breaks a rule, and keeps all that are asked before it
 pub record BreaksFirst (ours : List PayloadParams) (answer : Sdp) (offered answered : MediaLine) (rule : Rule) : Type 0 where
   pub place : ℕ
-  pub stands : slice_get asked place ≡ Some rule
-  pub earlier : All (Keeps ours answer offered answered) (take place asked)
+  pub stands : slice_get rules_asked place ≡ Some rule
+  pub earlier : All (Keeps ours answer offered answered) (take place rules_asked)
   pub broken : Keeps ours answer offered answered rule → ⊥
 
 -- so does the section at a place

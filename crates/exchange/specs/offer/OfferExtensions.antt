@@ -17,13 +17,13 @@ abbrev pub number_in : List MediaLine → List ℕ → Option ℕ
 number_in said uri = first (filter_map (number_at uri) said)
 
 -- the greatest number that is said, and no less than another
-abbrev pub number_or : ℕ → MediaAttribute → ℕ
-number_or least (ExtMap id ext) = max least id
-number_or least _ = least
+abbrev pub greatest_with : ℕ → MediaAttribute → ℕ
+greatest_with least (ExtMap id ext) = max least id
+greatest_with least _ = least
 
 abbrev pub greatest_of : ℕ → List MediaAttribute → ℕ
 greatest_of least [] = least
-greatest_of least (line ∷ lines) = greatest_of (number_or least line) lines
+greatest_of least (line ∷ lines) = greatest_of (greatest_with least line) lines
 
 abbrev pub greatest_in : ℕ → List MediaLine → ℕ
 greatest_in least [] = least
@@ -36,9 +36,9 @@ next_number last = if nat_lt last 14 then Some (last + 1) else None
 abbrev pub number_for : List MediaLine → ℕ → List ℕ → Option ℕ
 number_for said last uri = option_or (number_in said uri) (next_number last)
 
-abbrev pub behind : ℕ → Option ℕ → ℕ
-behind last None = last
-behind last (Some number) = max last number
+abbrev pub last_number : ℕ → Option ℕ → ℕ
+last_number last None = last
+last_number last (Some number) = max last number
 
 abbrev pub extension_line : List ℕ → ℕ → MediaAttribute
 extension_line uri number = ExtMap number (record { uri = uri; serialized = true })
@@ -47,7 +47,7 @@ extension_line uri number = ExtMap number (record { uri = uri; serialized = true
 abbrev pub numbered_lines : List MediaLine → ℕ → List (List ℕ) → List MediaAttribute
 numbered_lines said last [] = []
 numbered_lines said last (uri ∷ uris) =
-    option_to_list (option_map (extension_line uri) (number_for said last uri)) ++ numbered_lines said (behind last (number_for said last uri)) uris
+    option_to_list (option_map (extension_line uri) (number_for said last uri)) ++ numbered_lines said (last_number last (number_for said last uri)) uris
 
 abbrev pub extension_lines : List MediaLine → List (List ℕ) → List MediaAttribute
 extension_lines said known = numbered_lines said (greatest_in 0 said) known

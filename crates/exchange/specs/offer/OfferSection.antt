@@ -94,11 +94,11 @@ is_own (media.Unused text) = bytes_eq text EXTMAP_ALLOW_MIXED.now
 is_own _ = false
 
 -- what this side said last and goes on saying: of what both have to say, what both said
-abbrev pub is_kept : Option MediaLine → MediaAttribute → Bool
-is_kept theirs line = is_said theirs line || is_own line
+abbrev pub is_said_again : Option MediaLine → MediaAttribute → Bool
+is_said_again theirs line = is_said theirs line || is_own line
 
 abbrev pub kept_lines : Option MediaLine → MediaLine → List MediaAttribute
-kept_lines theirs mine = filter (is_kept theirs) mine.attrs
+kept_lines theirs mine = filter (is_said_again theirs) mine.attrs
 
 -- by its name, its type and its protocol, which stay (RFC 3264, section 8; RFC 8829, section 5.2.2)
 abbrev pub section_by : Exchange → List SectionDirection → Option MediaLine → MediaLine → Option (List ℕ) → MediaType → Proto → MediaLine

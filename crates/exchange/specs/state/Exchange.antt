@@ -2,7 +2,7 @@
 use Rattle.exchange.specs.Prelude.{AreDistinct, MediaKind, MediaLine, PayloadParams, Sdp, kind_rows, section_mids, versioned_text}
 use Rattle.exchange.specs.answer.AnsweredSection.{AnswersSection}
 use Rattle.exchange.specs.answer.AnsweredSession.{answered_session}
-use Rattle.exchange.specs.answer.Offered.{IsOffer, Negotiates, RefusesText}
+use Rattle.exchange.specs.answer.Offered.{IsOffer, NegotiatesOffer, RefusesText}
 use Rattle.exchange.specs.declared.offer.rule.Rule.{Rule}
 use Rattle.exchange.specs.declared.offer.rule.Rule.TheVariants.{OwnName, Place}
 use Rattle.exchange.specs.declared.state.exchange.Exchange.{Exchange}
@@ -45,19 +45,20 @@ pub record IsUnprintable (old : Exchange) (text : List ℕ) : Type 0 where
   pub offer : Sdp
   pub is_offer : IsOffer text offer
   pub ours : List PayloadParams
-  pub negotiated : Negotiates offer old.config.params.items ours
+  pub negotiated : NegotiatesOffer offer old.config.params.items ours
   pub loses : LosesAnswer old ours offer
 
 -- which section of an offer isn't taken, and the rule that it breaks: it has the name of an earlier one, or no two have one name
 -- and it isn't in its place after the last exchange
-abbrev pub BreaksAt : List (List ℕ) → List MediaLine → Option Sdp → Sdp → ℕ → Rule → Type 0
-BreaksAt names local remote offer section OwnName = IsNamedAgain offer.media_lines section
-BreaksAt names local remote offer section Place = AreDistinct (section_mids offer.media_lines) × MovesAt names local remote offer section
-BreaksAt names local remote offer section _ = ⊥
+abbrev pub OfferBreaksAt : List (List ℕ) → List MediaLine → Option Sdp → Sdp → ℕ → Rule → Type 0
+OfferBreaksAt names local remote offer section OwnName = IsNamedAgain offer.media_lines section
+OfferBreaksAt names local remote offer section Place = AreDistinct (section_mids offer.media_lines)
+    × MovesAt names local remote offer section
+OfferBreaksAt names local remote offer section _ = ⊥
 
 -- why the sections of an offer aren't taken
 abbrev pub RefusesSections : List (List ℕ) → List MediaLine → Option Sdp → Sdp → ExchangeError → Type 0
-RefusesSections names local remote offer (DoesNotFit section broken) = BreaksAt names local remote offer section broken
+RefusesSections names local remote offer (DoesNotFit section broken) = OfferBreaksAt names local remote offer section broken
 RefusesSections names local remote offer Memory = Unit {0}
 RefusesSections names local remote offer _ = ⊥
 
@@ -65,7 +66,7 @@ RefusesSections names local remote offer _ = ⊥
 pub record IsRefusedAt (old : Exchange) (text : List ℕ) (section : ℕ) (broken : Rule) : Type 0 where
   pub offer : Sdp
   pub is_offer : IsOffer text offer
-  pub breaks : BreaksAt old.names (sections_of old.local) old.remote offer section broken
+  pub breaks : OfferBreaksAt old.names (sections_of old.local) old.remote offer section broken
 
 -- why an offer isn't answered
 abbrev pub RefusesOffer : Exchange → List ℕ → ExchangeError → Type 0

@@ -20,8 +20,8 @@ pub record Follows (before after : Exchange) : Type 0 where
   pub stay : LockedStay before.config.params.items after.config.params.items
 
 -- a section's name is among those that sections have had
-abbrev pub IsKnown : List (List ℕ) → MediaLine → Type 0
-IsKnown names m = name_of m ≢ None → is_listed names (name_of m) ≡ true
+abbrev pub IsKnownName : List (List ℕ) → MediaLine → Type 0
+IsKnownName names m = name_of m ≢ None → is_listed names (name_of m) ≡ true
 
 -- the sections of an open offer are in the places of the last exchange, and no two have one name
 abbrev pub IsPlacedSo : Exchange → Pending → Type 0
@@ -32,5 +32,5 @@ IsPlacedSo exchange pending =
 -- offer of this side moves no section
 pub record IsSound (exchange : Exchange) : Type 0 where
   pub own_names : AreDistinct (section_mids (sections_of exchange.local))
-  pub known : All (IsKnown exchange.names) (sections_of exchange.local)
+  pub known : All (IsKnownName exchange.names) (sections_of exchange.local)
   pub placed : IfSome exchange.pending (IsPlacedSo exchange)

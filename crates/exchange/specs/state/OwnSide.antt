@@ -8,17 +8,17 @@ use Rattle.str0m_sdp.specs.declared.attribute.media_type.MediaType.TheVariants.{
 use Rattle.str0m_values.specs.declared.direction.Direction.TheVariants.{Inactive}
 
 -- an entry of a name
-abbrev pub is_of : List ℕ → SectionDirection → Bool
-is_of mid entry = bytes_eq entry.mid mid
+abbrev pub is_entry_of : List ℕ → SectionDirection → Bool
+is_entry_of mid entry = bytes_eq entry.mid mid
 
 -- what the entries say of a name, the first that has it
 abbrev pub said_of : List SectionDirection → Option (List ℕ) → Option Direction
 said_of entries None = None
-said_of entries (Some mid) = option_map (λ entry. entry.direction) (find (is_of mid) entries)
+said_of entries (Some mid) = option_map (λ entry. entry.direction) (find (is_entry_of mid) entries)
 
 -- with this direction for a name, in place of others of that name
-abbrev pub with_direction : List ℕ → Direction → List SectionDirection → List SectionDirection
-with_direction mid direction entries = filter (λ entry. not (is_of mid entry)) entries ++ record { mid = mid; direction = direction } ∷ []
+abbrev pub with_entry : List ℕ → Direction → List SectionDirection → List SectionDirection
+with_entry mid direction entries = filter (λ entry. not (is_entry_of mid entry)) entries ++ record { mid = mid; direction = direction } ∷ []
 
 -- what it is ready for in sections of a type
 abbrev pub kind_direction : OwnSide → MediaType → Direction

@@ -24,10 +24,10 @@ pub record IsSectionReadAs (said read : MediaLine) : Type 0 where
   pub attributes : AllZip Alike said.attrs read.attrs
 
 -- the same session, and as many sections, one by one
-pub record IsReadAs (said read : Sdp) : Type 0 where
+pub record IsWholeReadAs (said read : Sdp) : Type 0 where
   pub session : read.session ≡ said.session
   pub sections : AllZip IsSectionReadAs said.media_lines read.media_lines
 
 -- the text has a reading with nothing left, which is that of what was said (RFC 8866, section 5)
 abbrev pub IsReadBack : Sdp → List ℕ → Type 0
-IsReadBack said text = (read : Sdp) × Reading text (read, []) × IsReadAs said read
+IsReadBack said text = (read : Sdp) × Reading text (read, []) × IsWholeReadAs said read

@@ -2,7 +2,7 @@
 ghost use Rattle.exchange.specs.Prelude.{AllDistinct, AreDistinct, HasBoundedRows, IsPlain, LockedStay, section_mids, types, versioned_text};
 ghost use Rattle.exchange.specs.answer.AcceptedOffer.{tracks};
 ghost use Rattle.exchange.specs.answer.AnsweredSession.{BundlesAccepted};
-ghost use Rattle.exchange.specs.answer.Offered.{AreRoundsOf, IsOffer, Negotiates};
+ghost use Rattle.exchange.specs.answer.Offered.{AreOfferRounds, IsOffer, NegotiatesOffer};
 ghost use Rattle.exchange.specs.declared.state.signaling_state.SignalingState.TheVariants.{Stable};
 ghost use Rattle.exchange.specs.offer.Names.{grown};
 ghost use Rattle.exchange.specs.offer.Rules.{HasShapeOf, IsAcceptedExactly, KeepsRules};
@@ -30,14 +30,14 @@ use str0m_signal::{CodecConfig, Items, Mid, Round, Sdp};
 
 /// The description that answers an offer.
 #[tactic(auto, using(crate::proofs::answer::BundleLaws::bundles))]
-fn answer_to(
+fn description_for(
     alloc: Global,
     own: &OwnSide,
     config: &CodecConfig,
     offer: &Sdp,
     rounds: &[Round],
 ) -> Result<Sdp, AllocError>
-    requires { AreRoundsOf offer.now offer.now.media_lines rounds.now }
+    requires { AreOfferRounds offer.now offer.now.media_lines rounds.now }
     ensures answers { IfOk result (AnswersOffer own.now config.now.params.items offer.now) }
     ensures shape { IfOk result (λ answer. AllZip HasShapeOf offer.now.media_lines answer.media_lines) }
     ensures exactly { IfOk result (λ answer. AllZip (IsAcceptedExactly own.now config.now.params.items offer.now) offer.now.media_lines answer.media_lines) }
@@ -149,7 +149,7 @@ impl Exchange {
         ensures tracks { IfOk result (λ answer. AreDistinct (tracks answer.sdp)) }
         ensures read_back { IfOk result (λ answer. IsReadBack answer.sdp (versioned_text answer.version answer.sdp)) }
         ensures negotiated { IfOk result (λ answer. IsSomeAnd self.new.remote (λ remote.
-            Negotiates remote self.old.config.params.items self.new.config.params.items)) }
+            NegotiatesOffer remote self.old.config.params.items self.new.config.params.items)) }
         ensures stay { IfOk result (λ answer. LockedStay self.old.config.params.items self.new.config.params.items) }
         ensures distinct { AllDistinct (types self.old.config.params.items) → IfOk result (λ answer. AllDistinct (types self.new.config.params.items)) }
         ensures plain { All IsPlain self.old.config.params.items → IfOk result (λ answer. All IsPlain self.new.config.params.items) }
@@ -170,7 +170,7 @@ impl Exchange {
         let alloc = *self.config.allocator();
         let rounds = rounds_of(alloc, &remote)?;
         let config = negotiated_by(&self.config, &remote, rounds.as_slice())?;
-        let sdp = answer_to(alloc, &self.own, &config, &remote, rounds.as_slice())?;
+        let sdp = description_for(alloc, &self.own, &config, &remote, rounds.as_slice())?;
         let local = self.printable_answer(&config, &remote, &sdp)?;
         let names = grown(alloc, &self.names, local.media_lines.as_slice())?;
         let answer = Answer::new(sdp, self.version);

@@ -2,7 +2,7 @@
 ghost use Rattle.exchange.specs.Prelude.{Holds, rows};
 ghost use Rattle.exchange.specs.answer.AnsweredSection.{AnswersSection, SaysChoice};
 ghost use Rattle.exchange.specs.answer.InBundle.{bundle_names};
-ghost use Rattle.exchange.specs.answer.Offered.{AreRoundsOf, BringsRound};
+ghost use Rattle.exchange.specs.answer.Offered.{AreOfferRounds, BringsRound};
 ghost use Rattle.exchange.specs.offer.Rules.{HasShapeOf, IsAcceptedExactly, KeepsRules};
 ghost use Rattle.std.specs.List.{AllZip};
 ghost use Rattle.std.specs.Prelude.{◌≡◌, IfOk};
@@ -66,7 +66,7 @@ fn each_answered(
     offer: &Sdp,
     rounds: &[Round],
 ) -> Result<Items<MediaLine>, AllocError>
-    requires { AreRoundsOf offer.now offer.now.media_lines rounds.now }
+    requires { AreOfferRounds offer.now offer.now.media_lines rounds.now }
     ensures { IfOk result (AllZip (AnswersSection own.now config.now.params.items offer.now) offer.now.media_lines) }
 {
     let group = ordered_bundle(alloc, offer)?;
@@ -90,7 +90,7 @@ pub(crate) fn answered_sections(
     offer: &Sdp,
     rounds: &[Round],
 ) -> Result<Items<MediaLine>, AllocError>
-    requires { AreRoundsOf offer.now offer.now.media_lines rounds.now }
+    requires { AreOfferRounds offer.now offer.now.media_lines rounds.now }
     ensures answers { IfOk result (AllZip (AnswersSection own.now config.now.params.items offer.now) offer.now.media_lines) }
     ensures shape { IfOk result (AllZip HasShapeOf offer.now.media_lines) }
     ensures exactly { IfOk result (AllZip (IsAcceptedExactly own.now config.now.params.items offer.now) offer.now.media_lines) }

@@ -1,6 +1,6 @@
 //! What a section is answered with.
 ghost use Rattle.exchange.specs.Prelude.{Holds, is_media, rows};
-ghost use Rattle.exchange.specs.answer.Choice.{IsChoice, channels_or_none, open_choice, rows_or_none};
+ghost use Rattle.exchange.specs.answer.Choice.{IsSectionChoice, channels_or_none, open_choice, rows_or_none};
 ghost use Rattle.exchange.specs.answer.InBundle.{bundle_names};
 ghost use Rattle.exchange.specs.answer.Offered.{BringsRound};
 ghost use Rattle.exchange.specs.answer.Rows.{answered_rows};
@@ -85,7 +85,7 @@ pub(crate) fn choice_of(
 ) -> Result<Choice, AllocError>
     requires group { Holds group.now (bundle_names offer.now) }
     requires rows { BringsRound offer.now section.now → theirs.now ≡ rows section.now }
-    ensures { IfOk result (IsChoice own.now config.now.params.items offer.now section.now) }
+    ensures { IfOk result (IsSectionChoice own.now config.now.params.items offer.now section.now) }
 {
     if is_stopped_in(group, offer, section) {
         return Ok(Choice::Rejected);

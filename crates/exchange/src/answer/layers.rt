@@ -1,6 +1,6 @@
 //! The layers of a stream that is received in several.
 ghost use Rattle.exchange.specs.Prelude.{rid_name_of};
-ghost use Rattle.exchange.specs.answer.Layers.{IsTurned, answered_layers, answered_rid, answered_rids, has_name, is_answered, is_left, is_named, is_type_of, layers_line, received_layers, sent_layers, types_left};
+ghost use Rattle.exchange.specs.answer.Layers.{IsTurned, answered_layers, answered_rid, answered_rids, has_name, is_rid_answered, is_left, is_named, is_type_of, layers_line, received_layers, sent_layers, types_left};
 ghost use Rattle.std.specs.List.{list_any};
 ghost use Rattle.std.specs.Prelude.{◌≡◌, ◌++◌, ◌==◌, ℕ, IfOk, List, OnOk, filter, filter_map, option_to_list, All, []};
 
@@ -136,8 +136,8 @@ fn has_name(rid: &MediaAttribute, name: &str) -> bool
     }
 }
 
-fn is_answered(rids: &[MediaAttribute], layer: &SimulcastLayer) -> bool
-    ensures { result ≡ is_answered rids.now layer.now }
+fn is_rid_answered(rids: &[MediaAttribute], layer: &SimulcastLayer) -> bool
+    ensures { result ≡ is_rid_answered rids.now layer.now }
 {
     let name = layer.restriction_id.0.as_str();
     rids.iter().any(|rid| has_name(rid, name))
@@ -148,11 +148,11 @@ fn received_layers(
     rids: &[MediaAttribute],
     sent: &[SimulcastLayer],
 ) -> Result<Vec<SimulcastLayer>, AllocError>
-    ensures { IfOk result (λ layers. layers.items ≡ filter (is_answered rids.now) sent.now) }
+    ensures { IfOk result (λ layers. layers.items ≡ filter (is_rid_answered rids.now) sent.now) }
 {
     let mut layers = Vec::new(alloc);
     for layer in sent {
-        if is_answered(rids, layer) {
+        if is_rid_answered(rids, layer) {
             layers.push(layer.clone()?)?;
         }
     }

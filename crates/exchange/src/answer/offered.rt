@@ -1,7 +1,7 @@
 //! Offers that are read whole, and their rounds.
 ghost use Rattle.exchange.specs.Prelude.{AllDistinct, HasBoundedRows, Holds, IsFromLine, IsPlain, LockedStay, MediaLine, rows, types};
 ghost use Rattle.exchange.specs.answer.InBundle.{bundle_names};
-ghost use Rattle.exchange.specs.answer.Offered.{AreRoundsOf, BringsRound, IsOffer, IsRoundOf, Negotiates, RefusesText};
+ghost use Rattle.exchange.specs.answer.Offered.{AreOfferRounds, BringsRound, IsOffer, IsRoundOf, NegotiatesOffer, RefusesText};
 ghost use Rattle.std.specs.Prelude.{◌≡◌, ◌≢◌, ◌==◌, ◌+◌, ◌∷◌, ◌↔◌, [], IfErr, IfOk, IsTrue, List, OnOk, All, count_by, length};
 
 use crate::answer::in_bundle::ordered_bundle;
@@ -68,9 +68,9 @@ fn round_of(section: &MediaLine) -> Result<Round, AllocError>
 }
 
 /// The rounds of the sections of media that aren't stopped, in order.
-#[tactic(auto, using(crate::proofs::answer::OfferedRoundLaws::none_more, crate::proofs::answer::OfferedRoundLaws::one_more))]
+#[tactic(auto, using(crate::proofs::answer::OfferedRoundLaws::no_round_more, crate::proofs::answer::OfferedRoundLaws::one_round_more))]
 pub(crate) fn rounds_of(alloc: Global, offer: &Sdp) -> Result<Vec<Round>, AllocError>
-    ensures { IfOk result (λ rounds. AreRoundsOf offer.now offer.now.media_lines rounds.items) }
+    ensures { IfOk result (λ rounds. AreOfferRounds offer.now offer.now.media_lines rounds.items) }
 {
     let group = ordered_bundle(alloc, offer)?;
     let sections = offer.media_lines.as_slice();
@@ -98,9 +98,9 @@ pub(crate) fn rows_of_next<'a>(
     rounds: &'a [Round],
 ) -> (&'a [PayloadParams], &'a [Round])
     requires { Holds group.now (bundle_names offer.now) }
-    ensures rows { (later : List MediaLine) → AreRoundsOf offer.now (section.now ∷ later) rounds.now → BringsRound offer.now section.now
+    ensures rows { (later : List MediaLine) → AreOfferRounds offer.now (section.now ∷ later) rounds.now → BringsRound offer.now section.now
         → result.0.now ≡ rows section.now }
-    ensures later { (later : List MediaLine) → AreRoundsOf offer.now (section.now ∷ later) rounds.now → AreRoundsOf offer.now later result.1.now }
+    ensures later { (later : List MediaLine) → AreOfferRounds offer.now (section.now ∷ later) rounds.now → AreOfferRounds offer.now later result.1.now }
 {
     if !is_negotiated(group, offer, section) {
         return (&[], rounds);
@@ -117,8 +117,8 @@ pub(crate) fn negotiate(
     offer: &Sdp,
     rounds: &[Round],
 ) -> Result<(), AllocError>
-    requires { AreRoundsOf offer.now offer.now.media_lines rounds.now }
-    ensures ok { OnOk result (Negotiates offer.now config.old.params.items config.new.params.items) }
+    requires { AreOfferRounds offer.now offer.now.media_lines rounds.now }
+    ensures ok { OnOk result (NegotiatesOffer offer.now config.old.params.items config.new.params.items) }
     ensures stay { OnOk result (LockedStay config.old.params.items config.new.params.items) }
     ensures distinct { AllDistinct (types config.old.params.items) → OnOk result (AllDistinct (types config.new.params.items)) }
     ensures plain { All HasBoundedRows offer.now.media_lines → All IsPlain config.old.params.items → OnOk result (All IsPlain config.new.params.items) }

@@ -1,5 +1,5 @@
 //! The feedback that a section offers for each payload type, by one pass over its lines.
-ghost use Rattle.exchange.specs.answer.OfferedFeedback.{IsGathered, TellsOf, either, named, none, offered_feedback, with_words, words_for_all};
+ghost use Rattle.exchange.specs.answer.OfferedFeedback.{IsGathered, TellsOf, either_offered, named_offered, none_offered, offered_feedback, with_offered, value_for_all};
 ghost use Rattle.std.specs.Prelude.{◌≡◌, ◌<◌, get_or, set, option_copied};
 
 use str0m_sdp::label::{FIR, NACK, PLI, REMB, TRANSPORT_CC};
@@ -28,9 +28,9 @@ pub(crate) struct SectionFeedback {
     of_all: OfferedFeedback,
 }
 
-/// The words of a line that offers feedback for all types.
-fn words_for_all(attr: &MediaAttribute) -> Option<&str>
-    ensures { option_copied result ≡ words_for_all attr.now }
+/// The value of a line that offers feedback for all types.
+fn value_for_all(attr: &MediaAttribute) -> Option<&str>
+    ensures { option_copied result ≡ value_for_all attr.now }
 {
     match attr {
         MediaAttribute::Unused(text) => strip(text.as_str(), "rtcp-fb:* "),
@@ -40,7 +40,7 @@ fn words_for_all(attr: &MediaAttribute) -> Option<&str>
 
 impl OfferedFeedback {
     fn none() -> OfferedFeedback
-        ensures { result ≡ none }
+        ensures { result ≡ none_offered }
     {
         OfferedFeedback {
             transport_cc: false,
@@ -52,7 +52,7 @@ impl OfferedFeedback {
     }
 
     fn named(words: &str) -> OfferedFeedback
-        ensures { result ≡ named words.now }
+        ensures { result ≡ named_offered words.now }
     {
         OfferedFeedback {
             transport_cc: words == TRANSPORT_CC,
@@ -65,7 +65,7 @@ impl OfferedFeedback {
 
     /// What either of both names.
     fn or(self, other: OfferedFeedback) -> OfferedFeedback
-        ensures { result ≡ either self other }
+        ensures { result ≡ either_offered self other }
     {
         OfferedFeedback {
             transport_cc: self.transport_cc || other.transport_cc,
@@ -78,9 +78,9 @@ impl OfferedFeedback {
 
     /// With what a line offers for all types.
     fn with_line(self, attr: &MediaAttribute) -> OfferedFeedback
-        ensures { result ≡ with_words self (words_for_all attr.now) }
+        ensures { result ≡ with_offered self (value_for_all attr.now) }
     {
-        match words_for_all(attr) {
+        match value_for_all(attr) {
             Some(words) => self.or(OfferedFeedback::named(words)),
             None => self,
         }
@@ -95,9 +95,9 @@ fn place(pt: Pt) -> usize
     usize::from(pt.value())
 }
 
-/// Adds what the words of a line name to the feedback of its payload type.
-fn add_words(table: &mut [OfferedFeedback; TYPES], pt: Pt, words: &str)
-    ensures added { table.new ≡ set table.old pt (either (get_or table.old pt none) (named words.now)) }
+/// Adds what the value of a line names to the feedback of its payload type.
+fn add_value(table: &mut [OfferedFeedback; TYPES], pt: Pt, words: &str)
+    ensures added { table.new ≡ set table.old pt (either_offered (get_or table.old pt none_offered) (named_offered words.now)) }
     ensures within { pt < 256 }
 {
     let place = place(pt);
@@ -113,7 +113,7 @@ fn gathered(attrs: &[MediaAttribute]) -> SectionFeedback
     let mut of_all = nothing;
     for attr in attrs {
         match attr {
-            MediaAttribute::RtcpFb { pt, value } => add_words(&mut of_types, *pt, value.as_str()),
+            MediaAttribute::RtcpFb { pt, value } => add_value(&mut of_types, *pt, value.as_str()),
             _ => of_all = of_all.with_line(attr),
         }
     }
@@ -129,7 +129,7 @@ pub(crate) fn section_feedback(section: &MediaLine) -> SectionFeedback
 
 impl SectionFeedback {
     /// What the section offers for a payload type, by lines of its own or of all types.
-    #[tactic(auto, using(crate::proofs::answer::OfferedFeedbackLaws::told))]
+    #[tactic(auto, using(crate::proofs::answer::OfferedFeedbackLaws::feedback_told))]
     pub(crate) fn for_type(&self, section: &MediaLine, pt: Pt) -> OfferedFeedback
         requires { TellsOf section.now self.now }
         ensures { result ≡ offered_feedback section.now.attrs pt }

@@ -14,22 +14,22 @@ fn needs_offer(line: &MediaAttribute) -> bool
 }
 
 #[tactic(auto, using(str0m_sdp::proofs::attribute::AttributeEqual::media_Decides))]
-fn is_same(line: &MediaAttribute, other: &MediaAttribute) -> bool
+fn is_equal_line(line: &MediaAttribute, other: &MediaAttribute) -> bool
     ensures { IsTrue result ↔ (line.now ≡ other.now) }
 {
     line == other
 }
 
-fn says(lines: &[MediaAttribute], line: &MediaAttribute) -> bool
+fn has_line(lines: &[MediaAttribute], line: &MediaAttribute) -> bool
     ensures { IsTrue result ↔ Contains lines.now line.now }
 {
-    lines.iter().any(|other| is_same(other, line))
+    lines.iter().any(|other| is_equal_line(other, line))
 }
 
 fn may_be_said(offered: &[MediaAttribute], line: &MediaAttribute) -> bool
     ensures { IsTrue result ↔ (needs_offer line.now ≡ true → Contains offered.now line.now) }
 {
-    !needs_offer(line) || says(offered, line)
+    !needs_offer(line) || has_line(offered, line)
 }
 
 /// Whether `rtcp-mux`, `rtcp-rsize` and header extensions are said only as the offered section says them.

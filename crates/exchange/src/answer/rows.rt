@@ -8,7 +8,7 @@ use crate::answer::offered_feedback::{SectionFeedback, section_feedback};
 use std::alloc::{AllocError, Global};
 use str0m_signal::{CodecConfig, MediaLine, MediaType, PayloadParams, Pt};
 
-fn is_listed(listed: &[Pt], pt: Pt) -> bool
+fn is_type_listed(listed: &[Pt], pt: Pt) -> bool
     ensures { result ≡ has listed.now pt }
 {
     listed.iter().any(|other| *other == pt)
@@ -20,7 +20,7 @@ fn agreed_type(listed: &[Pt], ours: Option<Pt>, theirs: Option<Pt>) -> Option<Pt
 {
     match (ours, theirs) {
         (Some(ours), Some(theirs)) => {
-            if ours == theirs && is_listed(listed, ours) {
+            if ours == theirs && is_type_listed(listed, ours) {
                 Some(ours)
             } else {
                 None
@@ -132,7 +132,7 @@ fn answer_under(
 fn push_new(once: &mut Vec<Pt>, pt: Pt) -> Result<(), AllocError>
     ensures { OnOk result (once.new.items ≡ once.old.items ++ (if has once.old.items pt then [] else pt ∷ [])) }
 {
-    if !is_listed(once.as_slice(), pt) {
+    if !is_type_listed(once.as_slice(), pt) {
         once.push(pt)?;
     }
     Ok(())

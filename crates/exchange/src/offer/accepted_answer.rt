@@ -1,6 +1,6 @@
 //! Answers to offers of this side.
 ghost use Rattle.exchange.specs.Prelude.{AllDistinct, IsPlain, LockedStay, types};
-ghost use Rattle.exchange.specs.answer.Offered.{Negotiates};
+ghost use Rattle.exchange.specs.answer.Offered.{NegotiatesOffer};
 ghost use Rattle.exchange.specs.declared.state.signaling_state.SignalingState.TheVariants.{HaveLocalOffer, Stable};
 ghost use Rattle.exchange.specs.offer.AcceptedAnswer.{IsAnswer, RefusesAnswer, RefusesFit, placed_of};
 ghost use Rattle.exchange.specs.offer.Added.{with_placed};
@@ -41,7 +41,7 @@ fn check_fit(
 }
 
 /// What was added after the first so many.
-fn behind(alloc: Global, added: &[Added], placed: usize) -> Result<Items<Added>, AllocError>
+fn added_behind(alloc: Global, added: &[Added], placed: usize) -> Result<Items<Added>, AllocError>
     ensures { IfOk result (λ left. left ≡ drop placed added.now) }
 {
     if added.len() <= placed {
@@ -83,7 +83,7 @@ impl Exchange {
         ensures read { OnOk result (IsSomeAnd self.new.remote (IsAnswer answer.now)) }
         ensures fits { OnOk result (IsSomeAnd self.new.local (λ offer. IsSomeAnd self.new.remote (FitsOffer self.new.config.params.items offer))) }
         ensures negotiated { OnOk result (IsSomeAnd self.new.remote (λ remote.
-            Negotiates remote self.old.config.params.items self.new.config.params.items)) }
+            NegotiatesOffer remote self.old.config.params.items self.new.config.params.items)) }
         ensures stay { OnOk result (LockedStay self.old.config.params.items self.new.config.params.items) }
         ensures distinct { AllDistinct (types self.old.config.params.items) → OnOk result (AllDistinct (types self.new.config.params.items)) }
         ensures plain { All IsPlain self.old.config.params.items → OnOk result (All IsPlain self.new.config.params.items) }
@@ -109,7 +109,7 @@ impl Exchange {
         let names = grown(alloc, &self.names, pending.sdp.media_lines.as_slice())?;
         let placed = pending.placed.as_slice();
         let directions = with_placed(alloc, self.own.directions.as_slice(), placed)?;
-        let added = behind(alloc, self.added.as_slice(), placed.len())?;
+        let added = added_behind(alloc, self.added.as_slice(), placed.len())?;
         let local = taken(&mut self.pending);
         self.settle(local, remote, config, names);
         self.own.directions = directions;

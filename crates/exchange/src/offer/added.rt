@@ -1,5 +1,5 @@
 //! What is added to a session, and where an offer places it.
-ghost use Rattle.exchange.specs.offer.Added.{direction_of, placed_under, with_placed};
+ghost use Rattle.exchange.specs.offer.Added.{placed_direction, placed_under, with_placed};
 ghost use Rattle.std.specs.Prelude.{◌≡◌, IfOk};
 
 use crate::state::own_side::SectionDirection;
@@ -46,8 +46,8 @@ pub(crate) fn placed_under(
     Ok(placed)
 }
 
-fn direction_of(placed: &Placed) -> Option<SectionDirection>
-    ensures { result ≡ direction_of placed.now }
+fn placed_direction(placed: &Placed) -> Option<SectionDirection>
+    ensures { result ≡ placed_direction placed.now }
 {
     match placed.added {
         Added::Media(_, direction) => Some(SectionDirection {
@@ -68,7 +68,7 @@ pub(crate) fn with_placed(
 {
     let mut after = Vec::from_slice(alloc, entries)?;
     for it in placed {
-        if let Some(entry) = direction_of(it) {
+        if let Some(entry) = placed_direction(it) {
             after.push(entry)?;
         }
     }

@@ -2,7 +2,7 @@
 ghost use Rattle.exchange.specs.Prelude.{Holds};
 ghost use Rattle.exchange.specs.answer.Bundled.{IsBundledBy};
 ghost use Rattle.exchange.specs.answer.InBundle.{bundle_names};
-ghost use Rattle.exchange.specs.offer.Fits.{Breaks, BreaksAt, BreaksFirstAt, BundlesSo, FitsAt, FitsOffer, IsBundledSo, accepted_name, accepted_names};
+ghost use Rattle.exchange.specs.offer.Fits.{Breaks, BreaksAt, BreaksFirstAt, BundlesSo, FitsAt, FitsOffer, IsBundledSo, accepted_name, unrejected_names};
 ghost use Rattle.std.specs.Prelude.{◌≡◌, ◌↔◌, ℕ, IfOk, IsTrue, MatchOption, filter_map, Some};
 
 use crate::answer::bundled::{Bundled, shared_by};
@@ -62,7 +62,7 @@ fn accepted_name(section: &MediaLine) -> Option<Mid>
 }
 
 /// The names of the sections that are accepted.
-fn accepted_names(alloc: Global, sections: &[MediaLine]) -> Result<Vec<Mid>, AllocError>
+fn unrejected_names(alloc: Global, sections: &[MediaLine]) -> Result<Vec<Mid>, AllocError>
     ensures { IfOk result (λ names. names.items ≡ filter_map accepted_name sections.now) }
 {
     let mut names = Vec::new(alloc);
@@ -79,7 +79,7 @@ fn is_bundled_so(
     offered: &BTreeSet<&str>,
     mid: Mid,
 ) -> bool
-    requires accepted { Holds accepted.now (accepted_names answer.now) }
+    requires accepted { Holds accepted.now (unrejected_names answer.now) }
     requires offered { Holds offered.now (bundle_names offer.now) }
     ensures { IsTrue result ↔ IsBundledSo offer.now answer.now mid }
 {
@@ -90,7 +90,7 @@ fn is_bundled_so(
 fn bundles_so(alloc: Global, offer: &Sdp, answer: &Sdp) -> Result<bool, AllocError>
     ensures { IfOk result (λ bundles. IsTrue bundles ↔ BundlesSo offer.now answer.now) }
 {
-    let names = accepted_names(alloc, answer.media_lines.as_slice())?;
+    let names = unrejected_names(alloc, answer.media_lines.as_slice())?;
     let accepted = ordered(alloc, names.as_slice())?;
     let offered = ordered(alloc, bundle_names(offer))?;
     let listed = bundle_names(answer);

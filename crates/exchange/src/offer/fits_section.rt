@@ -5,7 +5,7 @@ ghost use Rattle.exchange.specs.answer.Bundled.{IsBundledBy};
 ghost use Rattle.exchange.specs.answer.InBundle.{is_so_for};
 ghost use Rattle.exchange.specs.answer.Rows.{answered_rows};
 ghost use Rattle.exchange.specs.answer.TurnedLayers.{TurnsLayers};
-ghost use Rattle.exchange.specs.offer.Fits.{BreaksFirst, FitsSection, FlowsWithin, IfAccepted, Keeps};
+ghost use Rattle.exchange.specs.offer.Fits.{BreaksFirst, KeepsEveryRule, FlowsWithin, IfAccepted, Keeps};
 ghost use Rattle.exchange.specs.offer.Rules.{SaysOnlyOffered};
 ghost use Rattle.exchange.specs.section.Reached.{has_creds, has_fingerprint};
 ghost use Rattle.std.specs.Prelude.{◌≡◌, ◌≢◌, ◌↔◌, [], IfOk, IsTrue, MatchOption, Some, true};
@@ -17,7 +17,7 @@ use crate::answer::offered_lines::says_only_offered;
 use crate::answer::rows::rows_for;
 use crate::answer::turned_layers::turns_layers;
 use crate::offer::rule::Rule;
-use crate::section::places::is_same_name;
+use crate::section::places::are_same_names;
 use crate::section::stopped::name_of;
 use crate::state::read_back::{is_same_proto, is_same_type};
 use std::alloc::AllocError;
@@ -122,7 +122,7 @@ fn keeps(
     match rule {
         Rule::MediaType => Ok(is_same_type(&answered.typ, &offered.typ)),
         Rule::Protocol => Ok(is_same_proto(answered.proto, offered.proto)),
-        Rule::Name => Ok(is_same_name(name_of(answered), name_of(offered))),
+        Rule::Name => Ok(are_same_names(name_of(answered), name_of(offered))),
         Rule::Stopped => Ok(keeps_stopped(offered, answered)),
         Rule::Direction => Ok(keeps_direction(offered, answered)),
         Rule::Role => Ok(keeps_role(answer, answered)),
@@ -144,7 +144,7 @@ pub(crate) fn broken_rule(
     answered: &MediaLine,
 ) -> Result<Option<Rule>, AllocError>
     requires { IsBundledBy answer.now bundled.now }
-    ensures { IfOk result (λ found. MatchOption found (FitsSection ours.now.params.items answer.now offered.now answered.now)
+    ensures { IfOk result (λ found. MatchOption found (KeepsEveryRule ours.now.params.items answer.now offered.now answered.now)
         (BreaksFirst ours.now.params.items answer.now offered.now answered.now)) }
 {
     for rule in &RULES {

@@ -1,5 +1,5 @@
 //! The header extensions of a section that an offer adds.
-ghost use Rattle.exchange.specs.offer.OfferExtensions.{behind, extension_line, extension_lines, greatest_in, greatest_of, next_number, number_at, number_for, number_in, number_of, number_or};
+ghost use Rattle.exchange.specs.offer.OfferExtensions.{last_number, extension_line, extension_lines, greatest_in, greatest_of, next_number, number_at, number_for, number_in, number_of, greatest_with};
 ghost use Rattle.std.specs.Prelude.{◌≡◌, ◌++◌, IfOk, OnOk, option_map, option_to_list};
 
 use std::alloc::{AllocError, Global};
@@ -45,8 +45,8 @@ fn number_in(said: &[MediaLine], uri: &str) -> Option<u8>
     None
 }
 
-fn number_or(line: &MediaAttribute, least: u8) -> u8
-    ensures { result ≡ number_or least line.now }
+fn greatest_with(line: &MediaAttribute, least: u8) -> u8
+    ensures { result ≡ greatest_with least line.now }
 {
     match line {
         MediaAttribute::ExtMap { id, .. } => least.max(*id),
@@ -60,7 +60,7 @@ fn greatest_of(lines: &[MediaAttribute], least: u8) -> u8
 {
     let (mut greatest, mut left) = (least, lines);
     while let Some((line, later)) = left.split_first() {
-        greatest = number_or(line, greatest);
+        greatest = greatest_with(line, greatest);
         left = later;
     }
     greatest
@@ -98,8 +98,8 @@ fn number_for(said: &[MediaLine], last: u8, uri: &str) -> Option<u8>
     }
 }
 
-fn behind(last: u8, number: Option<u8>) -> u8
-    ensures { result ≡ behind last number }
+fn last_number(last: u8, number: Option<u8>) -> u8
+    ensures { result ≡ last_number last number }
 {
     match number {
         Some(number) => last.max(number),
@@ -137,7 +137,7 @@ pub(crate) fn extension_lines(
     while let Some((uri, later)) = left.split_first() {
         let number = number_for(said, last, uri.as_str());
         push_line(alloc, &mut lines, uri.as_str(), number)?;
-        last = behind(last, number);
+        last = last_number(last, number);
         left = later;
     }
     Ok(lines)

@@ -69,7 +69,7 @@ fn is_free(local: &[MediaLine], remote: &Option<Sdp>, group: &BTreeSet<&str>, at
     }
 }
 
-pub(crate) fn is_same_name(name: Option<Mid>, other: Option<Mid>) -> bool
+pub(crate) fn are_same_names(name: Option<Mid>, other: Option<Mid>) -> bool
     ensures { IsTrue result ↔ (name ≡ other) }
 {
     match (name, other) {
@@ -83,7 +83,7 @@ fn has_name_at(sections: &[MediaLine], at: usize, section: &MediaLine) -> bool
     ensures { IsTrue result ↔ HasNameAt sections.now at section.now }
 {
     match sections.get(at) {
-        Some(earlier) => is_same_name(name_of(section), name_of(earlier)),
+        Some(earlier) => are_same_names(name_of(section), name_of(earlier)),
         None => false,
     }
 }

@@ -8,7 +8,7 @@ use std::alloc::AllocError;
 use str0m_signal::{IceCreds, Sdp};
 
 #[tactic(auto, using(crate::proofs::state::ReadBackEqual::creds_Decides))]
-fn is_same(creds: &IceCreds, other: &IceCreds) -> bool
+fn are_same_creds(creds: &IceCreds, other: &IceCreds) -> bool
     ensures { IsTrue result ↔ (creds.now ≡ other.now) }
 {
     creds == other
@@ -20,7 +20,7 @@ fn is_restarted_at(before: &Sdp, now: &Sdp, at: usize) -> Result<bool, AllocErro
     let old = creds_at(before, at)?;
     let new = creds_at(now, at)?;
     match (&old, &new) {
-        (Some(old), Some(new)) => Ok(!is_same(old, new)),
+        (Some(old), Some(new)) => Ok(!are_same_creds(old, new)),
         _ => Ok(false),
     }
 }

@@ -48,7 +48,7 @@ pub fn name_of(section: &MediaLine) -> Option<Mid>
     attrs.iter().find_map(|attr| mid_of(attr))
 }
 
-fn is_same(mid: Mid, other: Mid) -> bool
+fn is_one_mid(mid: Mid, other: Mid) -> bool
     ensures { IsTrue result ↔ (mid ≡ other) }
 {
     mid == other
@@ -57,7 +57,7 @@ fn is_same(mid: Mid, other: Mid) -> bool
 fn lists(group: &[Mid], mid: Mid) -> bool
     ensures { IsTrue result ↔ Contains group.now mid }
 {
-    group.iter().any(|other| is_same(*other, mid))
+    group.iter().any(|other| is_one_mid(*other, mid))
 }
 
 /// Whether the first `BUNDLE` group of the description names the section.

@@ -1,6 +1,6 @@
 //! Descriptions that were read back, made equal to those that were said, at the cost of what may differ.
 ghost use Rattle.exchange.specs.Prelude.{Alike};
-ghost use Rattle.exchange.specs.state.ReadBack.{IsReadAs, IsSectionReadAs, may_differ};
+ghost use Rattle.exchange.specs.state.ReadBack.{IsWholeReadAs, IsSectionReadAs, may_differ};
 ghost use Rattle.std.specs.List.{AllZip};
 ghost use Rattle.std.specs.Prelude.{◌≡◌, ◌↔◌, IsTrue, OnOk};
 
@@ -80,7 +80,7 @@ fn copy_sections(sources: &[MediaLine], sections: &mut Vec<MediaLine>) -> Result
 /// Makes a description equal to the one that it was read as. Lines that are equal are left where they stand, so that it takes
 /// little memory where little differs. The only error is that memory was refused.
 pub(crate) fn copy_over(source: &Sdp, sdp: &mut Sdp) -> Result<(), AllocError>
-    requires { IsReadAs source.now sdp.old }
+    requires { IsWholeReadAs source.now sdp.old }
     ensures { OnOk result (sdp.new ≡ source.now) }
 {
     copy_sections(source.media_lines.as_slice(), &mut sdp.media_lines.0)

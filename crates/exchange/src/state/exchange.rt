@@ -1,6 +1,6 @@
 //! Exchanges of offers and answers.
 ghost use Rattle.exchange.specs.Prelude.{AllDistinct, AreDistinct, HasBoundedRows, IsPlain, LockedStay, kind_rows, section_mids, types, versioned_text};
-ghost use Rattle.exchange.specs.answer.Offered.{AreRoundsOf, Negotiates};
+ghost use Rattle.exchange.specs.answer.Offered.{AreOfferRounds, NegotiatesOffer};
 ghost use Rattle.exchange.specs.declared.state.exchange_error.ExchangeError.TheVariants.{Memory, WrongState};
 ghost use Rattle.exchange.specs.declared.state.signaling_state.SignalingState.TheVariants.{Stable};
 ghost use Rattle.exchange.specs.offer.Added.{with_channels, with_media};
@@ -9,7 +9,7 @@ ghost use Rattle.exchange.specs.offer.MadeOffer.{MakesOffer, placed_as, ready_wi
 ghost use Rattle.exchange.specs.offer.OfferRules.{IsNewName, IsOffered, KeepsPlaces};
 ghost use Rattle.exchange.specs.state.Exchange.{RefusesChannels, RefusesMedia, RefusesToOffer};
 ghost use Rattle.exchange.specs.state.ExchangeFollows.{Follows, IsSound};
-ghost use Rattle.exchange.specs.state.OwnSide.{with_direction};
+ghost use Rattle.exchange.specs.state.OwnSide.{with_entry};
 ghost use Rattle.exchange.specs.state.ReadBack.{IsReadBack};
 ghost use Rattle.exchange.specs.state.State.{pending_sdp, sections_of, state_of, taken_names};
 ghost use Rattle.std.specs.Prelude.{All, ◌≡◌, ◌≢◌, ◌+◌, ◌-◌, ◌^◌, [], ℕ, true, IfErr, IfOk, MatchOption, OnErr, OnOk, None, Some, length, min, option_copied};
@@ -24,7 +24,7 @@ use crate::offer::pending::Pending;
 use crate::section::places::sections_of;
 use crate::state::copied_over::copy_over;
 use crate::state::exchange_error::ExchangeError;
-use crate::state::own_side::{OwnSide, with_direction};
+use crate::state::own_side::{OwnSide, with_entry};
 use crate::state::read_back::read_back;
 use crate::state::signaling_state::SignalingState;
 use std::alloc::{AllocError, Global};
@@ -77,8 +77,8 @@ pub(crate) fn negotiated_by(
     offer: &Sdp,
     rounds: &[Round],
 ) -> Result<CodecConfig, AllocError>
-    requires { AreRoundsOf offer.now offer.now.media_lines rounds.now }
-    ensures rounds { IfOk result (λ after. Negotiates offer.now config.now.params.items after.params.items) }
+    requires { AreOfferRounds offer.now offer.now.media_lines rounds.now }
+    ensures rounds { IfOk result (λ after. NegotiatesOffer offer.now config.now.params.items after.params.items) }
     ensures stay { IfOk result (λ after. LockedStay config.now.params.items after.params.items) }
     ensures distinct { AllDistinct (types config.now.params.items) → IfOk result (λ after. AllDistinct (types after.params.items)) }
     ensures plain { All HasBoundedRows offer.now.media_lines → All IsPlain config.now.params.items → IfOk result (λ after. All IsPlain after.params.items) }
@@ -91,7 +91,7 @@ pub(crate) fn negotiated_by(
 
 /// A copy of the configuration after the rounds of an offer.
 pub(crate) fn negotiated(config: &CodecConfig, offer: &Sdp) -> Result<CodecConfig, AllocError>
-    ensures rounds { IfOk result (λ after. Negotiates offer.now config.now.params.items after.params.items) }
+    ensures rounds { IfOk result (λ after. NegotiatesOffer offer.now config.now.params.items after.params.items) }
     ensures stay { IfOk result (λ after. LockedStay config.now.params.items after.params.items) }
     ensures distinct { AllDistinct (types config.now.params.items) → IfOk result (λ after. AllDistinct (types after.params.items)) }
     ensures plain { All HasBoundedRows offer.now.media_lines → All IsPlain config.now.params.items → IfOk result (λ after. All IsPlain after.params.items) }
@@ -192,7 +192,7 @@ impl Exchange {
     pub fn set_direction(&mut self, mid: Mid, direction: Direction) -> Result<(), ExchangeError>
         ensures ok { OnOk result (self.new ≡ record self.old {
           own = record self.old.own {
-            directions = with_direction mid direction self.old.own.directions;
+            directions = with_entry mid direction self.old.own.directions;
           };
         }) }
         ensures sound { IsSound self.old → IsSound self.new }
@@ -202,7 +202,7 @@ impl Exchange {
     {
         let alloc = *self.config.allocator();
         let entries = self.own.directions.as_slice();
-        let directions = with_direction(alloc, entries, mid, direction)?;
+        let directions = with_entry(alloc, entries, mid, direction)?;
         self.own.directions = directions;
         Ok(())
     }

@@ -1,5 +1,5 @@
 //! What this side says of itself.
-ghost use Rattle.exchange.specs.state.OwnSide.{direction_among, is_of, kind_direction, own_direction, said_of, with_direction};
+ghost use Rattle.exchange.specs.state.OwnSide.{direction_among, is_entry_of, kind_direction, own_direction, said_of, with_entry};
 ghost use Rattle.std.specs.Prelude.{◌≡◌, IfOk, find, option_copied};
 
 use crate::section::stopped::name_of;
@@ -53,31 +53,31 @@ pub struct OwnSide {
     pub receives_simulcast: bool,
 }
 
-fn is_of(entry: &SectionDirection, mid: Mid) -> bool
-    ensures { result ≡ is_of mid entry.now }
+fn is_entry_of(entry: &SectionDirection, mid: Mid) -> bool
+    ensures { result ≡ is_entry_of mid entry.now }
 {
     entry.mid == mid
 }
 
 /// The first entry of a name.
 fn entry_of(entries: &[SectionDirection], mid: Mid) -> Option<&SectionDirection>
-    ensures { option_copied result ≡ find (is_of mid) entries.now }
+    ensures { option_copied result ≡ find (is_entry_of mid) entries.now }
 {
-    entries.iter().find(|entry| is_of(entry, mid))
+    entries.iter().find(|entry| is_entry_of(entry, mid))
 }
 
 /// The entries with this direction for a name, in place of others of that name.
-pub(crate) fn with_direction(
+pub(crate) fn with_entry(
     alloc: Global,
     entries: &[SectionDirection],
     mid: Mid,
     direction: Direction,
 ) -> Result<Items<SectionDirection>, AllocError>
-    ensures { IfOk result (λ after. after ≡ with_direction mid direction entries.now) }
+    ensures { IfOk result (λ after. after ≡ with_entry mid direction entries.now) }
 {
     let mut after = Vec::new(alloc);
     for entry in entries {
-        if !is_of(entry, mid) {
+        if !is_entry_of(entry, mid) {
             after.push(*entry)?;
         }
     }

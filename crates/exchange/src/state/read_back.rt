@@ -1,7 +1,7 @@
 //! A description whose text is read again.
 
 ghost use Rattle.exchange.specs.Prelude.{Alike};
-ghost use Rattle.exchange.specs.state.ReadBack.{IsReadAs, IsReadBack, IsSameHead, IsSectionReadAs};
+ghost use Rattle.exchange.specs.state.ReadBack.{IsWholeReadAs, IsReadBack, IsSameHead, IsSectionReadAs};
 ghost use Rattle.std.specs.List.{AllZip};
 ghost use Rattle.std.specs.Prelude.{◌≡◌, ◌≢◌, ◌↔◌, [], IfOk, IfSome, IsTrue, MatchOption, None};
 ghost use Rattle.str0m_sdp.specs.declared.session.error.SdpError.TheVariants.{Memory};
@@ -41,7 +41,7 @@ fn is_same_bandwidth(bw: &Option<Bandwidth>, other: &Option<Bandwidth>) -> bool
     bw == other
 }
 
-#[tactic(auto, using(crate::proofs::state::ReadBackEqual::session_Decides))]
+#[tactic(auto, using(crate::proofs::state::ReadBackEqual::whole_session_Decides))]
 fn is_same_session(session: &Session, other: &Session) -> bool
     ensures { IsTrue result ↔ (session.now ≡ other.now) }
 {
@@ -95,7 +95,7 @@ fn are_read_as(said: &[MediaLine], read: &[MediaLine]) -> bool
 }
 
 fn is_read_as(said: &Sdp, read: &Sdp) -> bool
-    ensures { IsTrue result ↔ IsReadAs said.now read.now }
+    ensures { IsTrue result ↔ IsWholeReadAs said.now read.now }
 {
     is_same_session(&read.session, &said.session)
         && are_read_as(said.media_lines.as_slice(), read.media_lines.as_slice())
@@ -103,7 +103,7 @@ fn is_read_as(said: &Sdp, read: &Sdp) -> bool
 
 /// Whether what was read is this description, with nothing left.
 fn is_whole(said: &Sdp, read: &Sdp, rest: &str) -> bool
-    ensures { IsTrue result ↔ ((rest.now ≡ []) × IsReadAs said.now read.now) }
+    ensures { IsTrue result ↔ ((rest.now ≡ []) × IsWholeReadAs said.now read.now) }
 {
     rest.is_empty() && is_read_as(said, read)
 }
@@ -111,8 +111,8 @@ fn is_whole(said: &Sdp, read: &Sdp, rest: &str) -> bool
 /// What was read, where it is this description with nothing left.
 fn whole(said: &Sdp, read: Sdp, rest: &str) -> Option<Sdp>
     ensures { MatchOption result
-        ((rest.now ≡ []) × IsReadAs said.now read → ⊥)
-        (λ found. (found ≡ read) × (rest.now ≡ []) × IsReadAs said.now read) }
+        ((rest.now ≡ []) × IsWholeReadAs said.now read → ⊥)
+        (λ found. (found ≡ read) × (rest.now ≡ []) × IsWholeReadAs said.now read) }
 {
     if is_whole(said, &read, rest) {
         Some(read)
@@ -134,7 +134,7 @@ fn refused(error: SdpError) -> Result<Option<Sdp>, AllocError>
 /// What a text is read as, where it is read to its end as this very description; see `is_read_back`.
 pub(crate) fn read_back(alloc: Global, said: &Sdp, text: &str) -> Result<Option<Sdp>, AllocError>
     ensures exact { IfOk result (λ found. MatchOption found (IsReadBack said.now text.now → ⊥) (λ read. IsReadBack said.now text.now)) }
-    ensures alike { IfOk result (λ found. IfSome found (IsReadAs said.now)) }
+    ensures alike { IfOk result (λ found. IfSome found (IsWholeReadAs said.now)) }
 {
     match sdp_parser(alloc, text) {
         Ok((read, rest)) => Ok(whole(said, read, rest)),

@@ -1,4 +1,4 @@
--- Rows of a table that are looked up by their texts, without regard to the case of ASCII letters.
+-- Cases of a table that are looked up by their texts, without regard to the case of ASCII letters.
 use Rattle.str0m_formats.proofs.Common.{arith, ◌≡◌, ℕ, Bool, true, List, [], ◌∷◌, map, Option, IfSome, list_all, to_ascii_lowercase, bytes_eq, and_parts, find}
 
 -- what is found stands in the list and passes
@@ -9,6 +9,6 @@ find_passes {A} own test (x ∷ xs) all = grind (arith, and_parts, find_passes o
 pub if_some_map : {A : Type 0} {P Q : A → Type 0} (o : Option A) → IfSome o P → ((x : A) → P x → Q x) → IfSome o Q
 if_some_map o h then = grind arith
 
--- the row of which this is the text in lower case
-abbrev pub row_at : {A : Type 0} → (A → List ℕ) → List A → List ℕ → Option A
-row_at text rows low = find (λ row. bytes_eq low (map to_ascii_lowercase (text row))) rows
+-- the case of which this is the text in lower case
+abbrev pub case_at : {A : Type 0} → (A → List ℕ) → List A → List ℕ → Option A
+case_at text rows low = find (λ row. bytes_eq low (map to_ascii_lowercase (text row))) rows

@@ -1,7 +1,7 @@
 -- What a payload type stands for without a mapping is found in the table of codecs.
 use Rattle.str0m_formats.proofs.Common.{arith, ◌≡◌, ◌≤◌, ◌↔◌, ℕ, leb, Bool, true, false, Option, Some, None, is_some, option_map, refl, sym, ap, ◌∙◌, leb-true, false≢true, IsTheOnly, bind_some, only_read, reads_none, Reads}
-use Rattle.str0m_formats.specs.codec.Codec.{static_row}
-use Rattle.str0m_formats.specs.codec.CodecSpec.{IsStatic, plain, is_at, static_codec, static_spec}
+use Rattle.str0m_formats.specs.codec.Codec.{static_entry}
+use Rattle.str0m_formats.specs.codec.CodecSpec.{IsStatic, spec_at, is_at, static_codec, static_spec}
 use Rattle.str0m_formats.specs.declared.codec.Codec.{Codec}
 use Rattle.str0m_formats.specs.declared.codec.TheConstants.{NAMED}
 use Rattle.str0m_formats.specs.declared.codec.codec_spec.CodecSpec.{CodecSpec}
@@ -16,23 +16,24 @@ is_it codec (Some found) = same_codec found codec
 it_is : (codec : Codec) (o : Option Codec) → is_it codec o ≡ true → o ≡ Some codec
 it_is codec o same = grind arith
 
-own : (pt : ℕ) (spec : CodecSpec) → IsStatic pt spec → (is_it spec.codec (static_codec pt) ≡ true) × (leb pt 127 ≡ true)
-own pt spec is = grind arith
+static_own : (pt : ℕ) (spec : CodecSpec) → IsStatic pt spec → (is_it spec.codec (static_codec pt) ≡ true) × (leb pt 127 ≡ true)
+static_own pt spec is = grind arith
 
-row_is : (pt : ℕ) (codec : Codec) (row : Option (ℕ × ℕ)) (spec : CodecSpec) → static_row codec ≡ row → is_at pt row ≡ true
-    → option_map (λ row. plain codec row.1) row ≡ Some spec → IsStatic pt spec
-row_is pt codec row spec is at e = grind arith
+static_entry_is : (pt : ℕ) (codec : Codec) (row : Option (ℕ × ℕ)) (spec : CodecSpec) → static_entry codec ≡ row → is_at pt row ≡ true
+    → option_map (λ row. spec_at codec row.1) row ≡ Some spec → IsStatic pt spec
+static_entry_is pt codec row spec is at e = grind arith
 
 pub static_both : Reads IsStatic static_spec
 unfolding static_spec
 static_both = record {
   sound = λ pt spec e.
-      let codec = bind_some (static_codec pt) (λ codec. option_map (λ row. plain codec row.1) (static_row codec)) spec e in
-      row_is pt codec.0 (static_row codec.0) spec refl (found_passes (λ codec. is_at pt (static_row codec)) NAMED codec.0 codec.1) codec.2;
+      let codec = bind_some (static_codec pt) (λ codec. option_map (λ row. spec_at codec row.1) (static_entry codec)) spec e in
+      static_entry_is pt codec.0 (static_entry codec.0) spec refl
+      (found_passes (λ codec. is_at pt (static_entry codec)) NAMED codec.0 codec.1) codec.2;
   complete = λ pt spec is.
-      let said : plain spec.codec spec.clock_rate ≡ spec = rw (is.1, is.2) refl in
-      bind_is (static_codec pt) spec.codec _ (Some spec) (it_is spec.codec (static_codec pt) (own pt spec is).0)
-      (ap (option_map (λ row. plain spec.codec row.1)) is.0 ∙ ap (λ (s : CodecSpec). Some s) said);
+      let said : spec_at spec.codec spec.clock_rate ≡ spec = rw (is.1, is.2) refl in
+      bind_is (static_codec pt) spec.codec _ (Some spec) (it_is spec.codec (static_codec pt) (static_own pt spec is).0)
+      (ap (option_map (λ row. spec_at spec.codec row.1)) is.0 ∙ ap (λ (s : CodecSpec). Some s) said);
 }
 
 pub static_only : (pt : ℕ) (result : Option CodecSpec) → result ≡ static_spec pt → IsTheOnly (IsStatic pt) result
@@ -51,4 +52,4 @@ needs_none pt = (there (static_spec pt) refl, λ needs. ap is_some (static_both.
     there (Some spec) e some = (spec, static_both.sound pt spec e)
 
 pub static_small : (pt : ℕ) (spec : CodecSpec) → static_spec pt ≡ Some spec → pt ≤ 127
-static_small pt spec e = leb-true pt 127 (own pt spec (static_both.sound pt spec e)).1
+static_small pt spec e = leb-true pt 127 (static_own pt spec (static_both.sound pt spec e)).1

@@ -2,19 +2,19 @@
 use Rattle.str0m_formats.proofs.Common.{◌≡◌, ◌⊎◌, ℕ, Bool, false, List, [], ◌∷◌, length, map, filter, nat_lt, Option, Some, None, MatchOption, refl, arith, inl, inr, AllByRecursion, str_to_ascii_lowercase, lt-ltb, IsRest}
 use Rattle.str0m_formats.proofs.format.FormatParamAgain.{key_reads, entry_made}
 use Rattle.str0m_formats.proofs.format.FormatParamModeBounds.{modes_within}
-use Rattle.str0m_formats.proofs.format.FormatParamsShown.{joined_pair, IsPlainPair, Entry, HasRange, pair_in, pair_plain}
+use Rattle.str0m_formats.proofs.format.FormatParamsShown.{joined_pair, IsSolidPair, Entry, HasRange, pair_of_entry, pair_solid}
 use Rattle.str0m_formats.specs.declared.format.format_key.FormatKey.{FormatKey}
 use Rattle.str0m_formats.specs.declared.format.format_key.FormatKey.TheVariants as key
 use Rattle.str0m_formats.specs.declared.format.format_param.FormatParam.{FormatParam}
 use Rattle.str0m_formats.specs.format.FormatKey.{key_text}
-use Rattle.str0m_formats.specs.format.FormatParam.{Kind, flag, number, hex, modes, exactly, anything, Held, Reads, kind, made, entry, IsParsed, AreParsed, InRange, param_text}
+use Rattle.str0m_formats.specs.format.FormatParam.{Kind, flag, number, hex, modes, exactly, anything, Held, ReadsKind, kind, keyed, entry, IsParsed, AreParsed, InRange, param_text}
 use Rattle.str0m_formats.specs.format.FormatParamReading.{param_of}
 use Rattle.str0m_formats.specs.format.Pairs.{is_mark, has_mark}
 
 -- the key and the value that a parameter of the table prints
 abbrev pub entry_pair : Option Entry → List ℕ × List ℕ
 entry_pair None = ([], [])
-entry_pair (Some e) = pair_in e
+entry_pair (Some e) = pair_of_entry e
 
 abbrev pub pair_of : FormatParam → List ℕ × List ℕ
 pair_of param = entry_pair (entry param)
@@ -34,7 +34,7 @@ Ranged (exactly own) x = Unit {0}
 Ranged anything x = Unit {0}
 Ranged k x = InRange k x
 
-value_ranged : (k : Kind) (text : List ℕ) (x : Held k) → Reads k text x → Ranged k x
+value_ranged : (k : Kind) (text : List ℕ) (x : Held k) → ReadsKind k text x → Ranged k x
 value_ranged flag text b h = tt
 value_ranged (number limit) text n h = h.fits
 value_ranged hex text n (inl h) = h.fits
@@ -44,17 +44,18 @@ value_ranged (exactly own) text x h = tt
 value_ranged anything text x h = tt
 
 -- what is read of a pair is of the table, under its key, or prints nothing
-spelled : (k : FormatKey) (text : List ℕ) (x : Held (kind k)) → Reads (kind k) text x → IsKeyed (made k x) ⊎ (param_text (made k x) ≡ [])
-spelled key.Crc text x h = inr refl
-spelled key.RobustSorting text x h = inr refl
-spelled key.ModeChangePeriod text x h = inr refl
-spelled key.Interleaving text x h = inr refl
-spelled k text x h = inl (value_ranged (kind k) text x h)
+key_spelled : (k : FormatKey) (text : List ℕ) (x : Held (kind k)) → ReadsKind (kind k) text x
+    → IsKeyed (keyed k x) ⊎ (param_text (keyed k x) ≡ [])
+key_spelled key.Crc text x h = inr refl
+key_spelled key.RobustSorting text x h = inr refl
+key_spelled key.ModeChangePeriod text x h = inr refl
+key_spelled key.Interleaving text x h = inr refl
+key_spelled k text x h = inl (value_ranged (kind k) text x h)
 
 pub keyed_or_hidden : (pair : List ℕ × List ℕ) (param : FormatParam) → IsParsed pair param → IsKeyed param ⊎ (param_text param ≡ [])
-keyed_or_hidden pair param o = grind (arith, spelled)
+keyed_or_hidden pair param o = grind (arith, key_spelled)
 
-pub own_key : (k : FormatKey) (x : Held (kind k)) → IsKeyed (made k x) → (pair_of (made k x)).0 ≡ key_text k
+pub own_key : (k : FormatKey) (x : Held (kind k)) → IsKeyed (keyed k x) → (pair_of (keyed k x)).0 ≡ key_text k
 own_key key.Crc x h = absurd h
 own_key key.RobustSorting x h = absurd h
 own_key key.ModeChangePeriod x h = absurd h
@@ -64,24 +65,24 @@ own_key k x h = refl
 -- ---- what is printed of it
 
 -- it is read again
-read_of : (param : FormatParam) (o : Option Entry) → MatchOption o (Unit {0}) (λ e. param ≡ made e.0 e.1) → MatchOption o ⊥ HasRange
+read_again : (param : FormatParam) (o : Option Entry) → MatchOption o (Unit {0}) (λ e. param ≡ keyed e.0 e.1) → MatchOption o ⊥ HasRange
     → param_of (entry_pair o) ≡ param
-read_of param o is h = grind (arith, key_reads)
+read_again param o is h = grind (arith, key_reads)
 
 keyed_read : (param : FormatParam) → IsKeyed param → param_of (pair_of param) ≡ param
-keyed_read param h = read_of param (entry param) (entry_made param) h
+keyed_read param h = read_again param (entry param) (entry_made param) h
 
-plain_of : (o : Option Entry) → MatchOption o ⊥ HasRange → IsPlainPair (entry_pair o)
-plain_of o h = grind (arith, pair_plain)
+solid_of : (o : Option Entry) → MatchOption o ⊥ HasRange → IsSolidPair (entry_pair o)
+solid_of o h = grind (arith, pair_solid)
 
-keyed_plain : (param : FormatParam) → IsKeyed param → IsPlainPair (pair_of param)
-keyed_plain param h = plain_of (entry param) h
+keyed_solid : (param : FormatParam) → IsKeyed param → IsSolidPair (pair_of param)
+keyed_solid param h = solid_of (entry param) h
 
-text_at : (param : FormatParam) (o : Option Entry) → entry param ≡ o → MatchOption o ⊥ HasRange → param_text param ≡ joined_pair (entry_pair o)
-text_at param o is h = grind arith
+param_text_at : (param : FormatParam) (o : Option Entry) → entry param ≡ o → MatchOption o ⊥ HasRange → param_text param ≡ joined_pair (entry_pair o)
+param_text_at param o is h = grind arith
 
-keyed_text : (param : FormatParam) → IsKeyed param → param_text param ≡ joined_pair (pair_of param)
-keyed_text param h = text_at param (entry param) refl h
+keyed_again : (param : FormatParam) → IsKeyed param → param_text param ≡ joined_pair (pair_of param)
+keyed_again param h = param_text_at param (entry param) refl h
 
 mark_of : (o : Option Entry) → MatchOption o ⊥ HasRange → is_mark (entry_pair o).0 ≡ false
 mark_of o h = grind arith
@@ -112,11 +113,11 @@ keyed_params (param ∷ params) h = (λ i. keyed_read param h.0 i ∷ keyed_para
 
 pub keyed_texts : (params : List FormatParam) → AreKeyed params → map param_text params ≡ map joined_pair (map pair_of params)
 keyed_texts [] h = refl
-keyed_texts (param ∷ params) h = (λ i. keyed_text param h.0 i ∷ keyed_texts params h.1 i)
+keyed_texts (param ∷ params) h = (λ i. keyed_again param h.0 i ∷ keyed_texts params h.1 i)
 
-pub keyed_pairs : (params : List FormatParam) → AreKeyed params → AllByRecursion IsPlainPair (map pair_of params)
+pub keyed_pairs : (params : List FormatParam) → AreKeyed params → AllByRecursion IsSolidPair (map pair_of params)
 keyed_pairs [] h = tt
-keyed_pairs (param ∷ params) h = (keyed_plain param h.0, keyed_pairs params h.1)
+keyed_pairs (param ∷ params) h = (keyed_solid param h.0, keyed_pairs params h.1)
 
 pub keyed_unmarked : (params : List FormatParam) → AreKeyed params → has_mark (map pair_of params) ≡ false
 unfolding has_mark

@@ -2,11 +2,11 @@
 use Rattle.str0m_formats.proofs.Common.{rules, ◌≡◌, ◌<◌, ◌≤◌, ◌⊎◌, inl, inr, ℕ, Bool, true, false, cond, List, [], ◌∷◌, ◌++◌, length, drop, map, filter, Option, Some, None, IfSome, Result, option_map, refl, sym, ap, subst, ◌∙◌, arith, codes, decimal, AllByRecursion, AllZip, cons_option, flat_map, join_with_byte, list_all, digits_value, and_parts, false_from_ne_true, decimal_is_IsNumeral, append_assoc, append-nil, map-append, filter_map-append, none-some, IfOk, lacks, filter_map, lacks_both, cut_at, cut_none, lacks_true, lacks_from, H265ProfileTierLevel as h265_triple, H266ProfileTierLevel as h266_triple}
 use Rattle.str0m_formats.proofs.format.FormatLineLaws.{set_all-append}
 use Rattle.str0m_formats.proofs.format.FormatParamsSet.{filled, are_fresh, set_each}
-use Rattle.str0m_formats.proofs.format.FormatParamsShown.{rows_at, bares_at, joined_pair, pieces_at, IsPlainPair, IsShown, shows, is_single, reads}
+use Rattle.str0m_formats.proofs.format.FormatParamsShown.{slots_at, bares_at, joined_pair, pieces_at, IsSolidPair, IsShown, shows, is_single, field_reads}
 use Rattle.str0m_formats.proofs.format.PairsJoined.{AreFreeOf, slice_split-join}
 use Rattle.str0m_formats.proofs.format.PairsLaws.{pairs_read_only}
-use Rattle.str0m_formats.proofs.format.PairsPlain.{IsPlain, plain_lacks, lacks_free, trim_plain}
-use Rattle.str0m_formats.proofs.format.PairsRows.{Rows, given, given-append, look_given, mark_given, others_given, merged_given}
+use Rattle.str0m_formats.proofs.format.PairsRows.{Slots, given, given-append, look_given, mark_given, others_given, merged_given}
+use Rattle.str0m_formats.proofs.format.PairsSolid.{IsSolid, solid_lacks, lacks_free, trim_solid}
 use Rattle.str0m_formats.proofs.format.PairsTripleLaws.{h265_again, h266_again}
 use Rattle.str0m_formats.specs.declared.format.format_key.FormatKey.TheVariants as key
 use Rattle.str0m_formats.specs.declared.format.format_key.TheConstants.{PROFILE_ID, TIER_FLAG, LEVEL_ID}
@@ -31,23 +31,23 @@ all_pieces (f ∷ fs) p = pieces_at f p ++ all_pieces fs p
 
 abbrev pub all_pairs : List Field → FormatParams → List (List ℕ × List ℕ)
 all_pairs [] p = []
-all_pairs (f ∷ fs) p = given (rows_at f p) ++ all_pairs fs p
+all_pairs (f ∷ fs) p = given (slots_at f p) ++ all_pairs fs p
 
 -- the pairs that a format prints
 abbrev pub printed_pairs : FormatParams → List (List ℕ × List ℕ)
 printed_pairs p = all_pairs FIELDS p
 
-abbrev pub all_rows : List Field → FormatParams → Rows
-all_rows [] p = []
-all_rows (f ∷ fs) p = rows_at f p ++ all_rows fs p
+abbrev pub all_slots : List Field → FormatParams → Slots
+all_slots [] p = []
+all_slots (f ∷ fs) p = slots_at f p ++ all_slots fs p
 
 abbrev all_bares : List Field → FormatParams → List (List ℕ)
 all_bares [] p = []
 all_bares (f ∷ fs) p = bares_at f p ++ all_bares fs p
 
-pairs_rows : (fs : List Field) (p : FormatParams) → all_pairs fs p ≡ given (all_rows fs p)
-pairs_rows [] p = refl
-pairs_rows (f ∷ fs) p = grind (arith, pairs_rows fs p, given-append)
+pairs_slots : (fs : List Field) (p : FormatParams) → all_pairs fs p ≡ given (all_slots fs p)
+pairs_slots [] p = refl
+pairs_slots (f ∷ fs) p = grind (arith, pairs_slots fs p, given-append)
 
 -- the values of all fields read back
 abbrev pub AllWithin : FormatParams → Type 0
@@ -55,25 +55,25 @@ AllWithin p = (f : Field) → IfSome (get f p) (IsWithin f)
 
 -- ---- the text is the pieces, joined
 
-abbrev pub joined : List (List ℕ) → List ℕ
-joined texts = join_with_byte 59 texts
+abbrev pub linked : List (List ℕ) → List ℕ
+linked texts = join_with_byte 59 texts
 
-join_cons : (text : List ℕ) (texts : List (List ℕ)) → 0 < length texts → joined (text ∷ texts) ≡ text ++ (59 ∷ joined texts)
+join_cons : (text : List ℕ) (texts : List (List ℕ)) → 0 < length texts → linked (text ∷ texts) ≡ text ++ (59 ∷ linked texts)
 join_cons text texts some = grind arith
 
-join_append : (first : List ℕ) (more ys : List (List ℕ)) → 0 < length ys → joined ((first ∷ more) ++ ys) ≡ joined (first ∷ more) ++ (59 ∷ joined ys)
+join_append : (first : List ℕ) (more ys : List (List ℕ)) → 0 < length ys → linked ((first ∷ more) ++ ys) ≡ linked (first ∷ more) ++ (59 ∷ linked ys)
 join_append first [] ys some = join_cons first ys some
 join_append first (next ∷ more) ys some = grind (arith, join_append next more ys some, append_assoc)
 
 abbrev pub AreAlike : List (List ℕ) → List (List ℕ) → Type 0
-AreAlike texts pieces = ((texts ≡ []) × (pieces ≡ [])) ⊎ ((0 < length texts) × (0 < length pieces) × (joined texts ≡ joined pieces))
+AreAlike texts pieces = ((texts ≡ []) × (pieces ≡ [])) ⊎ ((0 < length texts) × (0 < length pieces) × (linked texts ≡ linked pieces))
 
 alike_step : (o : Option FormatParam) (qs : List FormatParam) (own rest : List (List ℕ)) → IsShown o own → AreAlike (map param_text qs) rest → AreAlike (map param_text (cons_option o qs)) (own ++ rest)
 alike_step o qs own rest shown alike = grind (arith, append-nil, join_cons, join_append)
 
-pub alike : (fs : List Field) (p : FormatParams) → AllWithin p → AreAlike (map param_text (filter_map (λ f. param_at f p) fs)) (all_pieces fs p)
-alike [] p h = inl (refl, refl)
-alike (f ∷ fs) p h = grind (arith, alike_step, shows, alike fs p h)
+pub texts_alike : (fs : List Field) (p : FormatParams) → AllWithin p → AreAlike (map param_text (filter_map (λ f. param_at f p) fs)) (all_pieces fs p)
+texts_alike [] p h = inl (refl, refl)
+texts_alike (f ∷ fs) p h = grind (arith, alike_step, shows, texts_alike fs p h)
 
 -- ---- and is cut into them
 
@@ -81,61 +81,61 @@ free_append : (xs ys : List (List ℕ)) → AreFreeOf 59 xs → AreFreeOf 59 ys 
 free_append [] ys h k = k
 free_append (x ∷ xs) ys h k = (h.0, free_append xs ys h.1 k)
 
-free_pairs : (pairs : List (List ℕ × List ℕ)) → AllByRecursion IsPlainPair pairs → AreFreeOf 59 (map joined_pair pairs)
+free_pairs : (pairs : List (List ℕ × List ℕ)) → AllByRecursion IsSolidPair pairs → AreFreeOf 59 (map joined_pair pairs)
 free_pairs [] h = tt
 free_pairs (pair ∷ pairs) h =
-    grind (arith, lacks_free 59 (joined_pair pair), lacks_both 59 pair.0 (61 ∷ pair.1), plain_lacks 59 pair.1, plain_lacks 59 pair.0, free_pairs pairs h.1)
+    grind (arith, lacks_free 59 (joined_pair pair), lacks_both 59 pair.0 (61 ∷ pair.1), solid_lacks 59 pair.1, solid_lacks 59 pair.0, free_pairs pairs h.1)
 
-free_bares : (texts : List (List ℕ)) → AllByRecursion IsPlain texts → AreFreeOf 59 texts
+free_bares : (texts : List (List ℕ)) → AllByRecursion IsSolid texts → AreFreeOf 59 texts
 free_bares [] h = tt
-free_bares (text ∷ texts) h = (lacks_free 59 text (plain_lacks 59 text refl h.0), free_bares texts h.1)
+free_bares (text ∷ texts) h = (lacks_free 59 text (solid_lacks 59 text refl h.0), free_bares texts h.1)
 
 free_pieces : (fs : List Field) (p : FormatParams) → AllWithin p → AreFreeOf 59 (all_pieces fs p)
 free_pieces [] p h = tt
 free_pieces (f ∷ fs) p h =
     let own = shows f p (h f) in
-    free_append (pieces_at f p) (all_pieces fs p) (free_append (map joined_pair (given (rows_at f p))) (bares_at f p) (free_pairs (given (rows_at f p)) own.plain) (free_bares (bares_at f p) own.bare)) (free_pieces fs p h)
+    free_append (pieces_at f p) (all_pieces fs p) (free_append (map joined_pair (given (slots_at f p))) (bares_at f p) (free_pairs (given (slots_at f p)) own.plain) (free_bares (bares_at f p) own.bare)) (free_pieces fs p h)
 
-cut_pieces : (texts : List (List ℕ)) (all : List (List ℕ)) → AreAlike texts all → AreFreeOf 59 all → (pieces (joined texts) ≡ all) ⊎ ((all ≡ []) × (pieces (joined texts) ≡ [] ∷ []))
+cut_pieces : (texts : List (List ℕ)) (all : List (List ℕ)) → AreAlike texts all → AreFreeOf 59 all → (pieces (linked texts) ≡ all) ⊎ ((all ≡ []) × (pieces (linked texts) ≡ [] ∷ []))
 cut_pieces texts [] alike free = elim alike [ inl none ↦ inr (refl, rw none.0 refl) | inr some ↦ absurd (omega (arith, some.1)) ]
 cut_pieces texts (first ∷ more) alike free = elim alike [ inl none ↦ absurd cc | inr some ↦ inl (ap pieces some.2 ∙ slice_split-join 59 first more free) ]
 
 -- ---- keys and values of pieces
 
-pair_found : (pair : List ℕ × List ℕ) → IsPlainPair pair → pair_in (joined_pair pair) ≡ Some pair
-pair_found pair h = grind (arith, cut_none, plain_lacks, cut_at, trim_plain)
+piece_pair_found : (pair : List ℕ × List ℕ) → IsSolidPair pair → pair_in (joined_pair pair) ≡ Some pair
+piece_pair_found pair h = grind (arith, cut_none, solid_lacks, cut_at, trim_solid)
 
-no_bare : (pair : List ℕ × List ℕ) → IsPlainPair pair → bare_in (joined_pair pair) ≡ None
+no_bare : (pair : List ℕ × List ℕ) → IsSolidPair pair → bare_in (joined_pair pair) ≡ None
 no_bare pair h =
-    let free : lacks 61 (joined_pair pair) ≡ false = false_from_ne_true (lacks 61 (joined_pair pair)) (λ t. none-some (pair.0, pair.1) (sym (cut_none 61 (joined_pair pair) (lacks_from 61 (joined_pair pair) t)) ∙ cut_at 61 pair.0 pair.1 (plain_lacks 61 pair.0 refl h.0))) in
+    let free : lacks 61 (joined_pair pair) ≡ false = false_from_ne_true (lacks 61 (joined_pair pair)) (λ t. none-some (pair.0, pair.1) (sym (cut_none 61 (joined_pair pair) (lacks_from 61 (joined_pair pair) t)) ∙ cut_at 61 pair.0 pair.1 (solid_lacks 61 pair.0 refl h.0))) in
     rw free refl
 
-no_pair : (text : List ℕ) → IsPlain text → pair_in text ≡ None
-no_pair text h = rw (cut_none 61 text (plain_lacks 61 text refl h)) refl
+no_pair : (text : List ℕ) → IsSolid text → pair_in text ≡ None
+no_pair text h = rw (cut_none 61 text (solid_lacks 61 text refl h)) refl
 
-bare_found : (text : List ℕ) → IsPlain text → bare_in text ≡ Some text
-bare_found text h = rw (lacks_true 61 text (plain_lacks 61 text refl h), trim_plain text h) refl
+bare_found : (text : List ℕ) → IsSolid text → bare_in text ≡ Some text
+bare_found text h = rw (lacks_true 61 text (solid_lacks 61 text refl h), trim_solid text h) refl
 
-pairs_found : (pairs : List (List ℕ × List ℕ)) → AllByRecursion IsPlainPair pairs → (filter_map pair_in (map joined_pair pairs) ≡ pairs) × (filter_map bare_in (map joined_pair pairs) ≡ [])
-pairs_found [] h = (refl, refl)
-pairs_found (pair ∷ pairs) h = grind (arith, pairs_found pairs h.1, pair_found, no_bare)
+piece_pairs_found : (pairs : List (List ℕ × List ℕ)) → AllByRecursion IsSolidPair pairs → (filter_map pair_in (map joined_pair pairs) ≡ pairs) × (filter_map bare_in (map joined_pair pairs) ≡ [])
+piece_pairs_found [] h = (refl, refl)
+piece_pairs_found (pair ∷ pairs) h = grind (arith, piece_pairs_found pairs h.1, piece_pair_found, no_bare)
 
-bares_found : (texts : List (List ℕ)) → AllByRecursion IsPlain texts → (filter_map pair_in texts ≡ []) × (filter_map bare_in texts ≡ texts)
+bares_found : (texts : List (List ℕ)) → AllByRecursion IsSolid texts → (filter_map pair_in texts ≡ []) × (filter_map bare_in texts ≡ texts)
 bares_found [] h = (refl, refl)
 bares_found (text ∷ texts) h = grind (arith, bares_found texts h.1, no_pair, bare_found)
 
-found : (fs : List Field) (p : FormatParams) → AllWithin p → (pairs_in (all_pieces fs p) ≡ all_pairs fs p) × (bares_in (all_pieces fs p) ≡ all_bares fs p)
+pieces_found : (fs : List Field) (p : FormatParams) → AllWithin p → (pairs_in (all_pieces fs p) ≡ all_pairs fs p) × (bares_in (all_pieces fs p) ≡ all_bares fs p)
 unfolding pairs_in bares_in
-found [] p h = (refl, refl)
-found (f ∷ fs) p h =
+pieces_found [] p h = (refl, refl)
+pieces_found (f ∷ fs) p h =
     let own = shows f p (h f) in
-    let keyed = map joined_pair (given (rows_at f p)) in
-    let pairs = pairs_found (given (rows_at f p)) own.plain in
+    let keyed = map joined_pair (given (slots_at f p)) in
+    let pairs = piece_pairs_found (given (slots_at f p)) own.plain in
     let bares = bares_found (bares_at f p) own.bare in
-    let rest = found fs p h in (
+    let rest = pieces_found fs p h in (
       filter_map-append pair_in (keyed ++ bares_at f p) (all_pieces fs p)
-          ∙ ap (λ (t : List (List ℕ × List ℕ)). t ++ filter_map pair_in (all_pieces fs p)) (filter_map-append pair_in keyed (bares_at f p) ∙ ap (λ (t : List (List ℕ × List ℕ)). t ++ filter_map pair_in (bares_at f p)) pairs.0 ∙ ap (λ (t : List (List ℕ × List ℕ)). given (rows_at f p) ++ t) bares.0 ∙ append-nil (given (rows_at f p)))
-          ∙ ap (λ (t : List (List ℕ × List ℕ)). given (rows_at f p) ++ t) rest.0,
+          ∙ ap (λ (t : List (List ℕ × List ℕ)). t ++ filter_map pair_in (all_pieces fs p)) (filter_map-append pair_in keyed (bares_at f p) ∙ ap (λ (t : List (List ℕ × List ℕ)). t ++ filter_map pair_in (bares_at f p)) pairs.0 ∙ ap (λ (t : List (List ℕ × List ℕ)). given (slots_at f p) ++ t) bares.0 ∙ append-nil (given (slots_at f p)))
+          ∙ ap (λ (t : List (List ℕ × List ℕ)). given (slots_at f p) ++ t) rest.0,
       filter_map-append bare_in (keyed ++ bares_at f p) (all_pieces fs p)
           ∙ ap (λ (t : List (List ℕ)). t ++ filter_map bare_in (all_pieces fs p)) (filter_map-append bare_in keyed (bares_at f p) ∙ ap (λ (t : List (List ℕ)). t ++ filter_map bare_in (bares_at f p)) pairs.1 ∙ bares.1)
           ∙ ap (λ (t : List (List ℕ)). bares_at f p ++ t) rest.1,
@@ -161,8 +161,8 @@ reads_all : (fs : List Field) (p : FormatParams) → AllWithin p → list_all is
 reads_all [] p h single = refl
 reads_all (f ∷ fs) p h single =
     let k = and_parts (is_single f) (list_all is_single fs) single in
-    map-append param_of (given (rows_at f p)) (all_pairs fs p)
-    ∙ ap (λ (t : List FormatParam). t ++ map param_of (all_pairs fs p)) (reads f p k.0 (h f))
+    map-append param_of (given (slots_at f p)) (all_pairs fs p)
+    ∙ ap (λ (t : List FormatParam). t ++ map param_of (all_pairs fs p)) (field_reads f p k.0 (h f))
     ∙ ap (λ (t : List FormatParam). cons_option (param_at f p) [] ++ t) (reads_all fs p h k.1)
     ∙ cons_append (param_at f p) (filter_map (λ f. param_at f p) fs)
 
@@ -176,7 +176,7 @@ marked pairs e same = rw (e, same) refl
 
 without_triple : (p : FormatParams) → AllWithin p → p.h265_profile_tier_level ≡ None → p.h266_profile_tier_level ≡ None → params_read (all_pairs FIELDS p) ≡ filter_map (λ f. param_at f p) (field.H265ProfileTierLevel ∷ field.H266ProfileTierLevel ∷ singles)
 without_triple p h e5 e6 =
-    grind (arith, pairs_rows singles p, mark_given (all_rows singles p), unmarked (all_pairs singles p), reads_all singles p h)
+    grind (arith, pairs_slots singles p, mark_given (all_slots singles p), unmarked (all_pairs singles p), reads_all singles p h)
 
 abbrev triple_first : List Field
 triple_first = field.H265ProfileTierLevel ∷ field.H266ProfileTierLevel ∷ field.Key key.ProfileId ∷ rest
@@ -184,28 +184,28 @@ triple_first = field.H265ProfileTierLevel ∷ field.H266ProfileTierLevel ∷ fie
 -- ---- with a triple
 
 -- the keys of a triple in the place of H265's, among those of the other fields
-abbrev rows_beside : List ℕ → List ℕ → List ℕ → FormatParams → Field → Rows
-rows_beside a b c p field.H265ProfileTierLevel = (PROFILE_ID.now, Some a) ∷ (TIER_FLAG.now, Some b) ∷ (LEVEL_ID.now, Some c) ∷ []
-rows_beside a b c p f = cond (is_beside f) (rows_at f p) []
+abbrev slots_beside : List ℕ → List ℕ → List ℕ → FormatParams → Field → Slots
+slots_beside a b c p field.H265ProfileTierLevel = (PROFILE_ID.now, Some a) ∷ (TIER_FLAG.now, Some b) ∷ (LEVEL_ID.now, Some c) ∷ []
+slots_beside a b c p f = cond (is_beside f) (slots_at f p) []
 
-abbrev rows_with : List ℕ → List ℕ → List ℕ → FormatParams → Rows
-rows_with a b c p = flat_map (rows_beside a b c p) FIELDS
+abbrev slots_with : List ℕ → List ℕ → List ℕ → FormatParams → Slots
+slots_with a b c p = flat_map (slots_beside a b c p) FIELDS
 
-with_triple : (q : FormatParam) (a b c : List ℕ) (p : FormatParams) → AllWithin p → all_pairs FIELDS p ≡ given (rows_with a b c p)
+with_triple : (q : FormatParam) (a b c : List ℕ) (p : FormatParams) → AllWithin p → all_pairs FIELDS p ≡ given (slots_with a b c p)
     → triple_read (Some a, Some b, Some c) ≡ Some q → params_read (all_pairs FIELDS p) ≡ q ∷ filter_map (λ f. param_at f p) rest
 with_triple q a b c p h own read =
-    let rows = rows_with a b c p in
+    let rows = slots_with a b c p in
     let texts : texts_of (given rows) ≡ (Some a, Some b, Some c) = λ i. (look_given PROFILE_ID.now rows i, look_given TIER_FLAG.now rows i, look_given LEVEL_ID.now rows i) in
-    let others_are : map param_of (others (given rows)) ≡ filter_map (λ f. param_at f p) rest = ap (map param_of) (others_given rows ∙ sym (pairs_rows rest p)) ∙ reads_all rest p h refl in
+    let others_are : map param_of (others (given rows)) ≡ filter_map (λ f. param_at f p) rest = ap (map param_of) (others_given rows ∙ sym (pairs_slots rest p)) ∙ reads_all rest p h refl in
     ap params_read own ∙ marked (given rows) (mark_given rows) (merged_given rows refl)
     ∙ ap (λ (o : Option FormatParam). cons_option o (map param_of (others (given rows)))) (ap triple_read texts ∙ read)
     ∙ ap (λ (qs : List FormatParam). q ∷ qs) others_are
 
 with_h265 : (p : FormatParams) (t : h265_triple) → AllWithin p → p.h265_profile_tier_level ≡ Some t → p.h266_profile_tier_level ≡ None → p.profile_id ≡ None → params_read (all_pairs FIELDS p) ≡ filter_map (λ f. param_at f p) triple_first
-with_h265 p t h e5 e6 ei = grind (arith, with_triple (H265ProfileTierLevel t), pairs_rows FIELDS p, h265_again t)
+with_h265 p t h e5 e6 ei = grind (arith, with_triple (H265ProfileTierLevel t), pairs_slots FIELDS p, h265_again t)
 
 with_h266 : (p : FormatParams) (t : h266_triple) → AllWithin p → p.h266_profile_tier_level ≡ Some t → p.h265_profile_tier_level ≡ None → p.profile_id ≡ None → params_read (all_pairs FIELDS p) ≡ filter_map (λ f. param_at f p) triple_first
-with_h266 p t h e6 e5 ei = grind (arith, with_triple (H266ProfileTierLevel t), pairs_rows FIELDS p, h266_again t)
+with_h266 p t h e6 e5 ei = grind (arith, with_triple (H266ProfileTierLevel t), pairs_slots FIELDS p, h266_again t)
 
 -- ---- values without a key
 
@@ -235,8 +235,8 @@ no_events o e = grind arith
 
 -- ---- the whole
 
-clash : {A C : Type 0} (o : Option A) (x : A) → o ≡ Some x → o ≡ None → C
-clash o x e f = absurd (none-some x (sym f ∙ e))
+some_not_none : {A C : Type 0} (o : Option A) (x : A) → o ≡ Some x → o ≡ None → C
+some_not_none o x e f = absurd (none-some x (sym f ∙ e))
 
 conclude : (order : List Field) (p r : FormatParams) (bares params : List FormatParam) → are_fresh (field.TelephoneEvents ∷ order) p empty ≡ true → filled (field.TelephoneEvents ∷ order) p empty ≡ p → set_all empty bares ≡ set_all empty (cons_option (param_at field.TelephoneEvents p) []) → params ≡ filter_map (λ f. param_at f p) order → r ≡ set_all empty (bares ++ params) → r ≡ p
 conclude order p r bares params fresh whole first second e = grind (arith, set_all-append, cons_append, set_each)
@@ -250,34 +250,34 @@ pub record Order (p : FormatParams) : Type 0 where
 
 pub order_of : (p : FormatParams) → CanBeReadBack p → (o5 : Option h265_triple) (o6 : Option h266_triple) → p.h265_profile_tier_level ≡ o5 → p.h266_profile_tier_level ≡ o6 → Order p
 order_of p h None None e5 e6 = search (rules, without_triple p h.values e5 e6)
-order_of p h (Some t) None e5 e6 = record { order = triple_first; fresh = refl; whole = refl; read = with_h265 p t h.values e5 e6 (elim h.profile [ inl e ↦ e | inr both ↦ clash p.h265_profile_tier_level t e5 both.0 ]) }
-order_of p h None (Some u) e5 e6 = record { order = triple_first; fresh = refl; whole = refl; read = with_h266 p u h.values e6 e5 (elim h.profile [ inl e ↦ e | inr both ↦ clash p.h266_profile_tier_level u e6 both.1 ]) }
+order_of p h (Some t) None e5 e6 = record { order = triple_first; fresh = refl; whole = refl; read = with_h265 p t h.values e5 e6 (elim h.profile [ inl e ↦ e | inr both ↦ some_not_none p.h265_profile_tier_level t e5 both.0 ]) }
+order_of p h None (Some u) e5 e6 = record { order = triple_first; fresh = refl; whole = refl; read = with_h266 p u h.values e6 e5 (elim h.profile [ inl e ↦ e | inr both ↦ some_not_none p.h266_profile_tier_level u e6 both.1 ]) }
 order_of p h (Some t) (Some u) e5 e6 = grind arith
 
 -- the values without a key that are printed
 bares_printed : (p : FormatParams) → all_bares FIELDS p ≡ bares_at field.TelephoneEvents p
 bares_printed p = append-nil (bares_at field.TelephoneEvents p)
 
-line_texts : (p : FormatParams) → params_text p ≡ joined (map param_text (filter_map (λ f. param_at f p) FIELDS))
+line_texts : (p : FormatParams) → params_text p ≡ linked (map param_text (filter_map (λ f. param_at f p) FIELDS))
 unfolding params_text params_of
 line_texts p = refl
 
-no_pairs : pairs_in ([] ∷ []) ≡ []
+no_piece_pairs : pairs_in ([] ∷ []) ≡ []
 unfolding pairs_in
-no_pairs = refl
+no_piece_pairs = refl
 
 one_bare : bares_in ([] ∷ []) ≡ [] ∷ []
 unfolding bares_in
-one_bare = rw (trim_plain [] tt) refl
+one_bare = rw (trim_solid [] tt) refl
 
-pub itself : (line : List ℕ) (p r : FormatParams) → CanBeReadBack p → line ≡ params_text p → IsFormatOfLine line r → r ≡ p
+pub format_itself : (line : List ℕ) (p r : FormatParams) → CanBeReadBack p → line ≡ params_text p → IsFormatOfLine line r → r ≡ p
 unfolding pairs_in bares_in
-itself line p r h printed reading =
+format_itself line p r h printed reading =
     let order = order_of p h p.h265_profile_tier_level p.h266_profile_tier_level refl refl in
-    let is = found FIELDS p h.values in
+    let is = pieces_found FIELDS p h.values in
     let events = h.values field.TelephoneEvents in
     let params_are : pairs_in (pieces line) ≡ all_pairs FIELDS p → reading.params ≡ filter_map (λ f. param_at f p) order.order = λ same. pairs_read_only (pairs_in (pieces line)) reading.params reading.params_are ∙ ap params_read same ∙ order.read in
-    elim (cut_pieces (map param_text (filter_map (λ f. param_at f p) FIELDS)) (all_pieces FIELDS p) (alike FIELDS p h.values) (free_pieces FIELDS p h.values)) [
+    elim (cut_pieces (map param_text (filter_map (λ f. param_at f p) FIELDS)) (all_pieces FIELDS p) (texts_alike FIELDS p h.values) (free_pieces FIELDS p h.values)) [
       | inl same ↦
           let whole : pieces line ≡ all_pieces FIELDS p = ap pieces (printed ∙ line_texts p) ∙ same in
           let bares_are = bares_set p.telephone_event_max reading.bares events (subst (λ (ts : List (List ℕ)). AllZip IsBare ts reading.bares) (ap bares_in whole ∙ is.1 ∙ bares_printed p) reading.bares_are) in
@@ -285,10 +285,10 @@ itself line p r h printed reading =
       | inr empty_text ↦
           let whole : pieces line ≡ [] ∷ [] = ap pieces (printed ∙ line_texts p) ∙ empty_text.1 in
           let none : p.telephone_event_max ≡ None = no_events p.telephone_event_max (sym (bares_printed p) ∙ sym is.1 ∙ ap bares_in empty_text.0) in
-          let pairs_are : pairs_in (pieces line) ≡ all_pairs FIELDS p = ap pairs_in whole ∙ no_pairs ∙ sym (ap pairs_in empty_text.0) ∙ is.0 in
+          let pairs_are : pairs_in (pieces line) ≡ all_pairs FIELDS p = ap pairs_in whole ∙ no_piece_pairs ∙ sym (ap pairs_in empty_text.0) ∙ is.0 in
           let bares_are = nothing_set reading.bares (subst (λ (ts : List (List ℕ)). AllZip IsBare ts reading.bares) (ap bares_in whole ∙ one_bare) reading.bares_are) in
           conclude order.order p r reading.bares reading.params order.fresh order.whole (bares_are ∙ ap (λ (o : Option ℕ). set_all empty (cons_option (option_map (λ n. TelephoneEvents n) o) [])) (sym none)) (params_are pairs_are) reading.format
     ]
 
 pub line_itself : {E : Type 0} (line : List ℕ) (answer : Result FormatParams E) → IfOk answer (IsFormatOfLine line) → (p : FormatParams) → CanBeReadBack p → line ≡ params_text p → IfOk answer (λ r. r ≡ p)
-line_itself line answer h p can printed = grind (arith, itself)
+line_itself line answer h p can printed = grind (arith, format_itself)

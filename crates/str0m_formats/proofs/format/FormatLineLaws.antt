@@ -4,7 +4,7 @@ use Rattle.str0m_formats.proofs.Common.{arith, ◌≡◌, ◌<◌, ◌+◌, ◌|
 use Rattle.str0m_formats.specs.declared.codec.Codec.TheVariants.{AmrWb}
 use Rattle.str0m_formats.specs.declared.format.format_param.FormatParam.{FormatParam}
 use Rattle.str0m_formats.specs.declared.format.format_params.FormatParams.{FormatParams}
-use Rattle.str0m_formats.specs.format.FormatLine.{pair_in, bare_in, pairs_in, bares_in, pieces, IsFormatOfBares, IsFormatOfLine, is_unsupported, is_refused, kept, values_of, line_values}
+use Rattle.str0m_formats.specs.format.FormatLine.{pair_in, bare_in, pairs_in, bares_in, pieces, IsFormatOfBares, IsFormatOfLine, is_unsupported, asks_absent, kept, values_of, line_values}
 use Rattle.str0m_formats.specs.format.FormatParam.{IsBare, pair_texts}
 use Rattle.str0m_formats.specs.format.FormatParams.{empty, set, set_all}
 use Rattle.str0m_formats.specs.format.Pairs.{AreRead}
@@ -13,8 +13,8 @@ pub set_all-append : (xs ys : List FormatParam) (p : FormatParams) → set_all p
 set_all-append [] ys p = refl
 set_all-append (x ∷ xs) ys p = set_all-append xs ys (set x p)
 
-pub asks : (lines : List (Bor (List FormatParam))) (answer : Bool) → answer ≡ list_any (λ line. list_any is_unsupported line.now) lines → answer ≡ is_refused AmrWb (line_values lines)
-unfolding is_refused
+pub asks : (lines : List (Bor (List FormatParam))) (answer : Bool) → answer ≡ list_any (λ line. list_any is_unsupported line.now) lines → answer ≡ asks_absent AmrWb (line_values lines)
+unfolding asks_absent
 asks lines answer e = e ∙ sym (go lines)
   where
     go : (lines : List (Bor (List FormatParam))) → list_any (λ line. list_any is_unsupported line) (line_values lines) ≡ list_any (λ line. list_any is_unsupported line.now) lines
@@ -43,8 +43,8 @@ values_more lines i d lt =
 -- ---- pieces
 
 -- a piece with a key
-pub pairs_given : (items : List (Bor (List ℕ) × Bor (List ℕ))) (pair : Bor (List ℕ) × Bor (List ℕ)) (pieces : List (List ℕ)) (piece : List ℕ) → pair_texts items ≡ pairs_in pieces → Some (pair.0.now, pair.1.now) ≡ pair_in piece → pair_texts (items ++ pair ∷ []) ≡ pairs_in (pieces ++ piece ∷ [])
-pairs_given items pair pieces piece h e = grind (arith, map-append, pairs_more)
+pub piece_pairs_given : (items : List (Bor (List ℕ) × Bor (List ℕ))) (pair : Bor (List ℕ) × Bor (List ℕ)) (pieces : List (List ℕ)) (piece : List ℕ) → pair_texts items ≡ pairs_in pieces → Some (pair.0.now, pair.1.now) ≡ pair_in piece → pair_texts (items ++ pair ∷ []) ≡ pairs_in (pieces ++ piece ∷ [])
+piece_pairs_given items pair pieces piece h e = grind (arith, map-append, pairs_more)
 
 -- a piece without one
 pub pairs_absent : (items : List (Bor (List ℕ) × Bor (List ℕ))) (pieces : List (List ℕ)) (piece : List ℕ) → pair_texts items ≡ pairs_in pieces → None ≡ pair_in piece → pair_texts items ≡ pairs_in (pieces ++ piece ∷ [])

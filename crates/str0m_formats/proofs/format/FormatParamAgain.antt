@@ -8,13 +8,13 @@ use Rattle.str0m_formats.proofs.format.FormatParamModes.{modes_only}
 use Rattle.str0m_formats.specs.declared.format.format_key.FormatKey.{FormatKey}
 use Rattle.str0m_formats.specs.declared.format.format_param.FormatParam.{FormatParam}
 use Rattle.str0m_formats.specs.format.FormatKey.{key_text}
-use Rattle.str0m_formats.specs.format.FormatParam.{Kind, flag, number, hex, modes, exactly, anything, Held, Reads, kind, made, entry, IsParsed, IsPrinted, InRange, IsModeSet, flag_text, six_digits, mode_list, value_text}
+use Rattle.str0m_formats.specs.format.FormatParam.{Kind, flag, number, hex, modes, exactly, anything, Held, ReadsKind, kind, keyed, entry, IsParsed, IsPrinted, InRange, IsModeSet, flag_text, six_digits, mode_list, value_text}
 use Rattle.str0m_formats.specs.format.FormatParamReading.{modes_read, param_of}
 
 -- a numeral begins with no plus
-no_plus : (radix : ℕ) (ds : List ℕ) → radix ≤ 16 → AllDigits radix ds → get_or ds 0 0 ≢ 43
-no_plus radix [] small h e = omega arith
-no_plus radix (c ∷ cs) small h e = grind arith
+digits_no_plus : (radix : ℕ) (ds : List ℕ) → radix ≤ 16 → AllDigits radix ds → get_or ds 0 0 ≢ 43
+digits_no_plus radix [] small h e = omega arith
+digits_no_plus radix (c ∷ cs) small h e = grind arith
 
 -- digits read as their value
 as_number : (limit radix : ℕ) (text : List ℕ) (n : ℕ) → radix ≤ 16 → IsNumeral radix text → digits_value radix text ≡ n → n ≤ limit → IsNumber radix limit text n
@@ -36,27 +36,27 @@ zeros_value (suc k) ds = zeros_value k ds
 pub six_digits_reads : (n : ℕ) → n ≤ 4294967295 → IsNumber 16 4294967295 (six_digits n) n
 six_digits_reads n fits = grind (arith, digits_is_IsNumeral, as_number, length-append, zeros_digits, zeros_value)
 
-flag_reads : (b : Bool) → Reads flag (flag_text b) b
+flag_reads : (b : Bool) → ReadsKind flag (flag_text b) b
 flag_reads b = grind arith
 
-reads_back : ℕ → Option ℕ → Bool
-reads_back mask None = false
-reads_back mask (Some read) = read == mask
+mask_reads_back : ℕ → Option ℕ → Bool
+mask_reads_back mask None = false
+mask_reads_back mask (Some read) = read == mask
 
 -- each mask with a mode is read as it prints
 masks_below : ℕ → Bool
 masks_below zero = true
-masks_below (suc mask) = reads_back (suc mask) (modes_read (mode_list (suc mask))) && masks_below mask
+masks_below (suc mask) = mask_reads_back (suc mask) (modes_read (mode_list (suc mask))) && masks_below mask
 
 all_masks : masks_below 511 ≡ true
-unfolding modes_read masks_below reads_back digits trim_end chars trim_start encode_utf8
+unfolding modes_read masks_below mask_reads_back digits trim_end chars trim_start encode_utf8
 all_masks = refl
 
 mask_reads : (most mask : ℕ) → masks_below most ≡ true → 0 < mask → mask ≤ most → modes_read (mode_list mask) ≡ Some mask
-unfolding masks_below reads_back
+unfolding masks_below mask_reads_back
 mask_reads zero mask e some le = absurd (omega arith)
 mask_reads (suc most) mask e some le =
-    let p = and_parts (reads_back (suc most) (modes_read (mode_list (suc most)))) (masks_below most) e in
+    let p = and_parts (mask_reads_back (suc most) (modes_read (mode_list (suc most)))) (masks_below most) e in
     elim (cases_lt mask (suc most)) [
       | inl below ↦ mask_reads most mask p.1 some (omega arith)
       | inr last ↦
@@ -64,7 +64,7 @@ mask_reads (suc most) mask e some le =
           rw same (is_back (suc most) (modes_read (mode_list (suc most))) p.0)
     ]
   where
-    is_back : (mask : ℕ) (o : Option ℕ) → reads_back mask o ≡ true → o ≡ Some mask
+    is_back : (mask : ℕ) (o : Option ℕ) → mask_reads_back mask o ≡ true → o ≡ Some mask
     is_back mask None e = absurd (false≢true e)
     is_back mask (Some read) e = ap (λ (n : ℕ). Some n) (eqb-true read mask e)
 
@@ -92,7 +92,7 @@ pub limit_small : (limit n : ℕ) → is_small (number limit) ≡ true → n ≤
 limit_small limit n small h = let le : limit ≤ 4294967295 = leb-true limit 4294967295 small in omega arith
 
 -- a printed value reads as itself
-value_reads : (k : Kind) (x : Held k) → is_small k ≡ true → InRange k x → Reads k (value_text k x) x
+value_reads : (k : Kind) (x : Held k) → is_small k ≡ true → InRange k x → ReadsKind k (value_text k x) x
 value_reads flag b small h = flag_reads b
 value_reads (number limit) n small h = let le = limit_small limit n small h in decimal_reads limit n h (omega (arith, le))
 value_reads hex n small h = inl (six_digits_reads n h)
@@ -101,18 +101,19 @@ value_reads (exactly own) x small h = absurd h
 value_reads anything x small h = absurd h
 
 -- what a key and its value print is read as the parameter that holds them
-pub key_reads : (k : FormatKey) (x : Held (kind k)) → InRange (kind k) x → param_of (key_text k, value_text (kind k) x) ≡ made k x
-key_reads k x h = sym (spelled (key_text k) (value_text (kind k) x) (made k x) (k, refl, (x, refl, value_reads (kind k) x (key_small k) h)))
+pub key_reads : (k : FormatKey) (x : Held (kind k)) → InRange (kind k) x → param_of (key_text k, value_text (kind k) x) ≡ keyed k x
+key_reads k x h = sym (spelled (key_text k) (value_text (kind k) x) (keyed k x)
+    (k, refl, (x, refl, value_reads (kind k) x (key_small k) h)))
 
 -- the table and the keys of parameters agree
-pub entry_made : (param : FormatParam) → MatchOption (entry param) (Unit {0}) (λ e. param ≡ made e.0 e.1)
+pub entry_made : (param : FormatParam) → MatchOption (entry param) (Unit {0}) (λ e. param ≡ keyed e.0 e.1)
 entry_made param = grind arith
 
 -- what a parameter of the table prints is read as that parameter
 pub parsed_printed : (key_as value : List ℕ) (r : FormatParam) → IsParsed (key_as, value) r → (p : FormatParam) → IsPrinted p (key_as, value) → r ≡ p
 parsed_printed key_as value r h p printed = parsed_only key_as value r h ∙ reads (entry p) (entry_made p) printed
   where
-    reads : (o : Option ((k : FormatKey) × Held (kind k))) → MatchOption o (Unit {0}) (λ e. p ≡ made e.0 e.1)
+    reads : (o : Option ((k : FormatKey) × Held (kind k))) → MatchOption o (Unit {0}) (λ e. p ≡ keyed e.0 e.1)
         → MatchOption o ⊥ (λ e. (key_as ≡ key_text e.0) × (value ≡ value_text (kind e.0) e.1) × InRange (kind e.0) e.1) → param_of (key_as, value) ≡ p
     reads None is printed = absurd printed
     reads (Some e) is printed = (λ i. param_of (printed.0 i, printed.1 i)) ∙ key_reads e.0 e.1 printed.2 ∙ sym is

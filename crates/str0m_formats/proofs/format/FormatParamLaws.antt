@@ -1,6 +1,6 @@
 -- What a key and its value read as.
 use Rattle.str0m_formats.proofs.Common.{rules, arith, ◌≡◌, ℕ, List, [], ◌∷◌, map, Option, Some, None, refl, sym, ap, ◌∙◌, inl, inr, codes, unwrap_or, to_ascii_lowercase, bytes_eq, none-some, bytes_eq-Decides, IsTheOnly, ◌>>=◌, num_only, num_reads, when_true, some_is, only_read, one_answer, IfSome, option_map}
-use Rattle.str0m_formats.proofs.codec.CodecLookup.{find_passes, if_some_map, row_at}
+use Rattle.str0m_formats.proofs.codec.CodecLookup.{find_passes, if_some_map, case_at}
 use Rattle.str0m_formats.proofs.codec.CodecNames.{same_text}
 use Rattle.str0m_formats.proofs.format.FormatParamModes.{modes_only}
 use Rattle.str0m_formats.proofs.format.FormatParamReadingLaws.{hex_both}
@@ -10,13 +10,13 @@ use Rattle.str0m_formats.specs.declared.format.format_key.FormatKey.TheVariants 
 use Rattle.str0m_formats.specs.declared.format.format_param.FormatParam.{FormatParam}
 use Rattle.str0m_formats.specs.declared.format.format_param.FormatParam.TheVariants.{Unknown}
 use Rattle.str0m_formats.specs.format.FormatKey.{key_text}
-use Rattle.str0m_formats.specs.format.FormatParam.{Kind, flag, number, hex, modes, exactly, anything, Held, Reads, kind, made, Holds, Spells, IsParsed, AreParsed, IsEventRange, IsBare}
+use Rattle.str0m_formats.specs.format.FormatParam.{Kind, flag, number, hex, modes, exactly, anything, Held, ReadsKind, kind, keyed, HoldsValue, Spells, IsParsed, AreParsed, IsEventRange, IsBare}
 use Rattle.str0m_formats.specs.format.FormatParamReading.{hex_read, keys, key_read, is_one, kind_read, value_read, param_of, bare_param}
 
 -- ---- keys
 
 -- no two keys have the same text
-key_at-text : (k : FormatKey) → row_at key_text keys (map to_ascii_lowercase (key_text k)) ≡ Some k
+key_at-text : (k : FormatKey) → case_at key_text keys (map to_ascii_lowercase (key_text k)) ≡ Some k
 key_at-text k = grind arith
 
 pub key_only : (text : List ℕ) → IsTheOnly (λ key. IsSameText text (key_text key)) (key_read text)
@@ -26,7 +26,7 @@ key_only text = search (rules, if_some_map, find_passes, same_text, key_at-text)
 -- ---- values
 
 -- a kind reads exactly what it is
-kind_complete : (k : Kind) (text : List ℕ) (x : Held k) → Reads k text x → kind_read k text ≡ Some x
+kind_complete : (k : Kind) (text : List ℕ) (x : Held k) → ReadsKind k text x → kind_read k text ≡ Some x
 kind_complete flag text b h = ap (λ b. Some b) (one_answer (is_one text) b (bytes_eq-Decides text (codes "1")) h)
 kind_complete (number limit) text n h = num_reads limit text n h
 kind_complete hex text n h = hex_both.complete text n h
@@ -34,7 +34,7 @@ kind_complete modes text mask h = (modes_only text).only mask h
 kind_complete (exactly own) text x h = when_true (bytes_eq text own) (tt {0}) ((bytes_eq-Decides text own).1 h)
 kind_complete anything text x h = refl
 
-kind_sound : (k : Kind) (text : List ℕ) → IfSome (kind_read k text) (Reads k text)
+kind_sound : (k : Kind) (text : List ℕ) → IfSome (kind_read k text) (ReadsKind k text)
 kind_sound flag text = bytes_eq-Decides text (codes "1")
 kind_sound (number limit) text = (num_only limit text).found
 kind_sound hex text = (only_read hex_both text (hex_read text) refl).found
@@ -43,15 +43,15 @@ kind_sound (exactly own) text = grind (arith, bytes_eq-Decides)
 kind_sound anything text = tt
 
 -- so does a key
-by_kind : (k : FormatKey) (text : List ℕ) → value_read k text ≡ option_map (made k) (kind_read (kind k) text)
+by_kind : (k : FormatKey) (text : List ℕ) → value_read k text ≡ option_map (keyed k) (kind_read (kind k) text)
 by_kind key.Apt text = refl
 by_kind k text = refl
 
-given : (k : FormatKey) (text : List ℕ) (param : FormatParam) → Holds k text param → value_read k text ≡ Some param
-given k text param h = by_kind k text ∙ ap (option_map (made k)) (kind_complete (kind k) text h.0 h.2) ∙ ap (λ p. Some p) (sym h.1)
+held_read : (k : FormatKey) (text : List ℕ) (param : FormatParam) → HoldsValue k text param → value_read k text ≡ Some param
+held_read k text param h = by_kind k text ∙ ap (option_map (keyed k)) (kind_complete (kind k) text h.0 h.2) ∙ ap (λ p. Some p) (sym h.1)
 
-found : (k : FormatKey) (text : List ℕ) (param : FormatParam) → value_read k text ≡ Some param → Holds k text param
-found k text param e = grind (arith, kind_sound (kind k) text, by_kind k text)
+read_held : (k : FormatKey) (text : List ℕ) (param : FormatParam) → value_read k text ≡ Some param → HoldsValue k text param
+read_held k text param e = grind (arith, kind_sound (kind k) text, by_kind k text)
 
 -- ---- pairs
 
@@ -60,8 +60,8 @@ unfolding param_of
 parsed key_as value = known (key_read key_as) (key_only key_as)
   where
     held : (k : FormatKey) → IsTheOnly (λ key. IsSameText key_as (key_text key)) (Some k) → (o : Option FormatParam) → value_read k value ≡ o → IsParsed (key_as, value) (unwrap_or o Unknown)
-    held k is (Some p) e = inl (k, is.found, found k value p e)
-    held k is None e = inr ((λ c h. none-some c (sym e ∙ ap (λ (key : FormatKey). value_read key value) (some_is k h.0 (is.only h.0 h.1)) ∙ given h.0 value c h.2)), refl)
+    held k is (Some p) e = inl (k, is.found, read_held k value p e)
+    held k is None e = inr ((λ c h. none-some c (sym e ∙ ap (λ (key : FormatKey). value_read key value) (some_is k h.0 (is.only h.0 h.1)) ∙ held_read h.0 value c h.2)), refl)
 
     known : (o : Option FormatKey) → IsTheOnly (λ key. IsSameText key_as (key_text key)) o → IsParsed (key_as, value) (unwrap_or (o >>= λ key. value_read key value) Unknown)
     known None none = inr ((λ c h. none-some h.0 (none.only h.0 h.1)), refl)
@@ -70,7 +70,7 @@ parsed key_as value = known (key_read key_as) (key_only key_as)
 -- what spells a parameter is read as it
 pub spelled : (key_as value : List ℕ) (param : FormatParam) → Spells (key_as, value) param → param ≡ param_of (key_as, value)
 unfolding param_of
-spelled key_as value param h = sym (ap (λ (o : Option FormatKey). unwrap_or (o >>= λ key. value_read key value) Unknown) ((key_only key_as).only h.0 h.1) ∙ ap (λ (o : Option FormatParam). unwrap_or o Unknown) (given h.0 value param h.2))
+spelled key_as value param h = sym (ap (λ (o : Option FormatKey). unwrap_or (o >>= λ key. value_read key value) Unknown) ((key_only key_as).only h.0 h.1) ∙ ap (λ (o : Option FormatParam). unwrap_or o Unknown) (held_read h.0 value param h.2))
 
 pub parsed_only : (key_as value : List ℕ) (param : FormatParam) → IsParsed (key_as, value) param → param ≡ param_of (key_as, value)
 parsed_only key_as value param h = elim h [

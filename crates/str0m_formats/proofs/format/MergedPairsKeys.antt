@@ -5,7 +5,7 @@ use Rattle.std.specs.List.{IsDistinct}
 use Rattle.str0m_formats.proofs.Common.{rules, arith, ◌≡◌, ℕ, false, not, List, [], ◌∷◌, ◌++◌, map, refl, sym, ap, ◌∙◌, inl, inr, AllByRecursion, keys_of, bytes_eq, str_to_ascii_lowercase, cases_Bool, false_from_ne_true, append_assoc, append-nil, IsDistinct-cons, IsDistinct-head, IsDistinct-tail, bytes_eq-Decides, insert_entry, insert_all, insert_entry-absent}
 use Rattle.str0m_formats.specs.format.Pairs.{merged, others, is_part}
 
-abbrev Pairs : Type 0
+abbrev pub Pairs : Type 0
 Pairs = List (List ℕ × List ℕ)
 
 -- the key is in lower case
@@ -21,8 +21,8 @@ AreApart pairs = IsDistinct bytes_eq (keys_of pairs)
 
 -- ---- keys that differ
 
-pub turned : (a b : List ℕ) → bytes_eq a b ≡ false → bytes_eq b a ≡ false
-turned a b other = grind (arith, false_from_ne_true, bytes_eq-Decides)
+pub bytes_turned : (a b : List ℕ) → bytes_eq a b ≡ false → bytes_eq b a ≡ false
+bytes_turned a b other = grind (arith, false_from_ne_true, bytes_eq-Decides)
 
 -- ---- what merging leaves
 
@@ -38,7 +38,7 @@ inserted_apart (e ∷ es) k v apart =
       | inl same ↦ rw same apart
       | inr other ↦
           rw other (IsDistinct-cons bytes_eq e.0 (keys_of (insert_entry bytes_eq es k v))
-          (inserted_all (λ y. bytes_eq e.0 y ≡ false) es k v (IsDistinct-head bytes_eq e.0 (keys_of es) apart) (turned k e.0 other))
+          (inserted_all (λ y. bytes_eq e.0 y ≡ false) es k v (IsDistinct-head bytes_eq e.0 (keys_of es) apart) (bytes_turned k e.0 other))
           (inserted_apart es k v (IsDistinct-tail bytes_eq e.0 (keys_of es) apart)))
     ]
 
@@ -86,17 +86,17 @@ at_middle : (P : List ℕ → Type 0) (xs ys : Pairs) (y : List ℕ × List ℕ)
 at_middle P [] ys y all = all.0
 at_middle P (x ∷ xs) ys y all = at_middle P xs ys y all.1
 
-absent : (xs ys : Pairs) (y : List ℕ × List ℕ) → AreApart (xs ++ (y ∷ ys)) → AllByRecursion (λ k. bytes_eq y.0 k ≡ false) (keys_of xs)
-absent [] ys y apart = tt
-absent (x ∷ xs) ys y apart = (
-  turned x.0 y.0
+key_absent : (xs ys : Pairs) (y : List ℕ × List ℕ) → AreApart (xs ++ (y ∷ ys)) → AllByRecursion (λ k. bytes_eq y.0 k ≡ false) (keys_of xs)
+key_absent [] ys y apart = tt
+key_absent (x ∷ xs) ys y apart = (
+  bytes_turned x.0 y.0
       (at_middle (λ k. bytes_eq x.0 k ≡ false) xs ys y (IsDistinct-head bytes_eq x.0 (keys_of (xs ++ (y ∷ ys))) apart)),
-  absent xs ys y (IsDistinct-tail bytes_eq x.0 (keys_of (xs ++ (y ∷ ys))) apart),
+  key_absent xs ys y (IsDistinct-tail bytes_eq x.0 (keys_of (xs ++ (y ∷ ys))) apart),
 )
 
 all_kept : (done xs : Pairs) → AreApart (done ++ xs) → insert_all bytes_eq done xs ≡ done ++ xs
 all_kept done [] apart = sym (append-nil done)
-all_kept done (x ∷ xs) apart = grind (arith, insert_entry-absent, absent, all_kept (done ++ (x ∷ [])) xs, append_assoc)
+all_kept done (x ∷ xs) apart = grind (arith, insert_entry-absent, key_absent, all_kept (done ++ (x ∷ [])) xs, append_assoc)
 
 lowered_same : (pairs : Pairs) → AreLow pairs → lowered pairs ≡ pairs
 lowered_same [] low = refl

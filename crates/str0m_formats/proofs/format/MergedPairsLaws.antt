@@ -3,7 +3,7 @@ use Rattle.std.proofs.lemmas.Map.Text.{is_eq-slice_cmp}
 use Rattle.std.specs.BTreeMap.{BTreeMap, Updates, get_by}
 use Rattle.std.specs.Ordering.{nat_cmp}
 use Rattle.str0m_formats.proofs.Common.{◌≡◌, ◌<◌, ◌+◌, ℕ, Bool, true, false, cond, List, [], ◌∷◌, ◌++◌, length, get_or, take, Option, Some, None, refl, sym, ap, ◌∙◌, subst, arith, Bor, lookup, bytes_eq, map-append, take_more, bytes_eq-Decides, insert_entry, zero, suc, set, slice_cmp, set_value_at}
-use Rattle.str0m_formats.proofs.format.MergedPairsKeys.{turned}
+use Rattle.str0m_formats.proofs.format.MergedPairsKeys.{bytes_turned}
 use Rattle.str0m_formats.specs.format.FormatParam.{pair_texts}
 use Rattle.str0m_formats.specs.format.MergedPairs.{IsPlace, HasPlaces}
 
@@ -47,11 +47,11 @@ module _ {K X : Type 0} (t : K → Bool) where
 
 -- ---- places of texts
 
-same_text : (a b : List ℕ) → bytes_eq a b ≡ true → a ≡ b
-same_text a b is = (bytes_eq-Decides a b).0 is
+bytes_are_same : (a b : List ℕ) → bytes_eq a b ≡ true → a ≡ b
+bytes_are_same a b is = (bytes_eq-Decides a b).0 is
 
-itself : (a : List ℕ) → bytes_eq a a ≡ true
-itself a = (bytes_eq-Decides a a).1 refl
+pub bytes_itself : (a : List ℕ) → bytes_eq a a ≡ true
+bytes_itself a = (bytes_eq-Decides a a).1 refl
 
 -- places stay known where a value changes
 pub places_stay : (places : BTreeMap (Bor (List ℕ)) ℕ) (es after : List (List ℕ × List ℕ)) (i : ℕ) (v : List ℕ)
@@ -80,13 +80,13 @@ places_grow old new es after k v n known more last none is key =
 
     own : bytes_eq k.now key ≡ true → IsPlace (bytes_eq key) grown (Some n)
     own same =
-        subst (λ (text : List ℕ). IsPlace (bytes_eq text) grown (Some n)) (same_text k.now key same)
+        subst (λ (text : List ℕ). IsPlace (bytes_eq text) grown (Some n)) (bytes_are_same k.now key same)
         (subst (λ (place : ℕ). IsPlace (bytes_eq k.now) grown (Some place)) (sym last)
-        (place_last (bytes_eq k.now) es (k.now, v) none (itself k.now)))
+        (place_last (bytes_eq k.now) es (k.now, v) none (bytes_itself k.now)))
 
     by : (b : Bool) → bytes_eq k.now key ≡ b → IsPlace (bytes_eq key) grown (cond b (Some n) before)
     by true same = own same
-    by false other = place_push (bytes_eq key) es (k.now, v) before (known key) (turned k.now key other)
+    by false other = place_push (bytes_eq key) es (k.now, v) before (known key) (bytes_turned k.now key other)
 
 -- ---- by a look at each
 
@@ -128,13 +128,13 @@ no_value key [] h = refl
 no_value key (e ∷ es) h = ap (λ (b : Bool). cond b (Some e.1) (lookup (bytes_eq key) es)) h.0 ∙ no_value key es h.1
 
 -- the place in a list is that in one like it
-pub placed : (key : List ℕ) (slice entries : List (Bor (List ℕ) × Bor (List ℕ))) (answer place : Option ℕ) → slice ≡ entries → answer ≡ place
+pub placed_alike : (key : List ℕ) (slice entries : List (Bor (List ℕ) × Bor (List ℕ))) (answer place : Option ℕ) → slice ≡ entries → answer ≡ place
     → IsPlace (bytes_eq key) (pair_texts slice) answer → IsPlace (bytes_eq key) (pair_texts entries) place
-placed key slice entries answer place same is h = grind arith
+placed_alike key slice entries answer place same is h = grind arith
 
-pub pushed : (entries after : List (Bor (List ℕ) × Bor (List ℕ))) (e : Bor (List ℕ) × Bor (List ℕ)) → after ≡ entries ++ e ∷ []
+pub pair_pushed : (entries after : List (Bor (List ℕ) × Bor (List ℕ))) (e : Bor (List ℕ) × Bor (List ℕ)) → after ≡ entries ++ e ∷ []
     → pair_texts after ≡ pair_texts entries ++ (e.0.now, e.1.now) ∷ []
-pushed entries after e is = ap (λ es. pair_texts es) is ∙ map-append (λ p. (p.0.now, p.1.now)) entries (e ∷ [])
+pair_pushed entries after e is = ap (λ es. pair_texts es) is ∙ map-append (λ p. (p.0.now, p.1.now)) entries (e ∷ [])
 
 pub as_many : (entries : List (Bor (List ℕ) × Bor (List ℕ))) → length (pair_texts entries) ≡ length entries
 as_many [] = refl

@@ -2,9 +2,9 @@
 use Rattle.str0m_formats.proofs.Common.{◌≡◌, ◌≢◌, ◌≤◌, ℕ, Bool, true, false, List, [], ◌∷◌, ◌++◌, length, map, filter, Some, refl, sym, ap, ◌∙◌, subst, arith, inl, inr, codes, MatchBool, decimal, AllByRecursion, IsDistinct, cons_option, join_with_byte, keys_of, bytes_eq, lt-ltb, false_from_ne_true, append_assoc, IsDistinct-cons, IsDistinct-head, IsDistinct-tail, bytes_eq-Decides, ProfileTierLevel, decimal_nonempty}
 use Rattle.str0m_formats.proofs.format.FormatKeyAgain.{IsKeyed, AreKeyed, pair_of, prints, key_unmarked, own_key, keyed_or_hidden, keyed_shown, shown_keyed, keyed_params, keyed_texts, keyed_pairs, keyed_unmarked}
 use Rattle.str0m_formats.proofs.format.FormatLineAgain.{unmarked, marked}
-use Rattle.str0m_formats.proofs.format.FormatParamsShown.{IsPlainPair, joined_pair, decimal_plain}
+use Rattle.str0m_formats.proofs.format.FormatParamsShown.{IsSolidPair, joined_pair, decimal_solid}
 use Rattle.str0m_formats.proofs.format.MergedPairsKeys.{IsLow, AreLow, AreApart, merged_apart, others_all, others_apart, others_other, others_same, merged_same}
-use Rattle.str0m_formats.proofs.format.PairsPlain.{plain_from}
+use Rattle.str0m_formats.proofs.format.PairsSolid.{solid_from}
 use Rattle.str0m_formats.proofs.format.PairsTripleLaws.{AreBytes, texts_shown, h265_small, h266_small, h265_again, h266_again}
 use Rattle.str0m_formats.specs.declared.format.format_key.TheConstants.{PROFILE_ID, TIER_FLAG, LEVEL_ID}
 use Rattle.str0m_formats.specs.declared.format.format_param.FormatParam.{FormatParam}
@@ -17,7 +17,7 @@ use Rattle.str0m_formats.specs.format.PairsReading.{Tables, h265_tables, h266_ta
 -- the parameters print as pairs that are read as them
 pub record IsPairsLine (shown : List FormatParam) : Type 0 where
   pub pairs : List (List ℕ × List ℕ)
-  pub plain : AllByRecursion IsPlainPair pairs
+  pub plain : AllByRecursion IsSolidPair pairs
   pub text : join_with_byte 59 (map param_text shown) ≡ join_with_byte 59 (map joined_pair pairs)
   pub read : params_read pairs ≡ shown
   pub some : shown ≢ [] → pairs ≢ []
@@ -115,7 +115,7 @@ whole_text q a b c (param ∷ params) keyed e =
     ∙ simp append_assoc
 
 triple_line : (q : FormatParam) (a b c : List ℕ) (params : List FormatParam) → param_text q ≡ triple_joined a b c
-    → AllByRecursion IsPlainPair (triple_pairs a b c) → triple_read (Some a, Some b, Some c) ≡ Some q → AreOthers params
+    → AllByRecursion IsSolidPair (triple_pairs a b c) → triple_read (Some a, Some b, Some c) ≡ Some q → AreOthers params
     → IsPairsLine (q ∷ params)
 triple_line q a b c params text plain read h = record {
   pairs = pairs;
@@ -131,13 +131,13 @@ triple_line q a b c params text plain read h = record {
     pairs : List (List ℕ × List ℕ)
     pairs = triple_pairs a b c ++ map pair_of params
 
-numbers_plain : (k m n : ℕ) → k ≤ 255 → m ≤ 255 → n ≤ 255 → AllByRecursion IsPlainPair (triple_pairs (decimal k) (decimal m) (decimal n))
-numbers_plain k m n p q r = grind (arith, plain_from, decimal_plain, decimal_nonempty)
+numbers_solid : (k m n : ℕ) → k ≤ 255 → m ≤ 255 → n ≤ 255 → AllByRecursion IsSolidPair (triple_pairs (decimal k) (decimal m) (decimal n))
+numbers_solid k m n p q r = grind (arith, solid_from, decimal_solid, decimal_nonempty)
 
-shown_line : {P T L : Type 0} (tables : Tables P T L) (q : FormatParam) (t : ProfileTierLevel P T L) (params : List FormatParam)
+shows_triple : {P T L : Type 0} (tables : Tables P T L) (q : FormatParam) (t : ProfileTierLevel P T L) (params : List FormatParam)
     → param_text q ≡ triple_text (tables.profile_id t.profile) (tables.tier_flag t.tier) (tables.level_id t.level)
     → AreBytes tables t → triple_read (texts_shown tables t) ≡ Some q → AreOthers params → IsPairsLine (q ∷ params)
-shown_line tables q t params text small read h = grind (arith, triple_line, numbers_plain)
+shows_triple tables q t params text small read h = grind (arith, triple_line, numbers_solid)
 
 -- ---- all pairs
 
@@ -157,10 +157,10 @@ others_of pairs params are =
 joined_line : (pairs : List (List ℕ × List ℕ)) (params : List FormatParam) → AreJoined (merged pairs) params → IsPairsLine (filter prints params)
 joined_line pairs params (triple, rest, inl (t, h265, is), are, joined) =
     rw (joined, is, lt-ltb 0 (length (param_text (H265ProfileTierLevel t))) (omega arith))
-    (shown_line h265_tables (H265ProfileTierLevel t) t (filter prints rest) refl (h265_small t) (h265_again t) (others_of pairs rest are))
+    (shows_triple h265_tables (H265ProfileTierLevel t) t (filter prints rest) refl (h265_small t) (h265_again t) (others_of pairs rest are))
 joined_line pairs params (triple, rest, inr (no_h265, inl (t, h266, is)), are, joined) =
     rw (joined, is, lt-ltb 0 (length (param_text (H266ProfileTierLevel t))) (omega arith))
-    (shown_line h266_tables (H266ProfileTierLevel t) t (filter prints rest) refl (h266_small t) (h266_again t) (others_of pairs rest are))
+    (shows_triple h266_tables (H266ProfileTierLevel t) t (filter prints rest) refl (h266_small t) (h266_again t) (others_of pairs rest are))
 joined_line pairs params (triple, rest, inr (no_h265, inr (no_h266, is)), are, joined) = grind (arith, read_alone)
 
 pub pairs_again : (pairs : List (List ℕ × List ℕ)) (params : List FormatParam) → AreRead pairs params → IsPairsLine (filter prints params)

@@ -8,8 +8,8 @@ use Rattle.str0m_formats.specs.format.FormatParamReading.{param_of}
 use Rattle.str0m_formats.specs.format.Pairs.{has_mark, merged, others, texts_of, is_mark, AreJoined, AreRead}
 use Rattle.str0m_formats.specs.format.PairsReading.{triple_read, joined_read, params_read}
 
-joined : (pairs : List (List ℕ × List ℕ)) → AreJoined pairs (joined_read pairs)
-joined pairs = (triple_read (texts_of pairs), map param_of (others pairs), triple_is (texts_of pairs), all_parsed (others pairs), refl)
+joined_is : (pairs : List (List ℕ × List ℕ)) → AreJoined pairs (joined_read pairs)
+joined_is pairs = (triple_read (texts_of pairs), map param_of (others pairs), triple_is (texts_of pairs), all_parsed (others pairs), refl)
 
 joined_only : (pairs : List (List ℕ × List ℕ)) (params : List FormatParam) → AreJoined pairs params → params ≡ joined_read pairs
 joined_only pairs params h = grind (arith, triple_only (texts_of pairs) h.0 h.2, all_parsed_only (others pairs) h.1 h.3)
@@ -20,7 +20,7 @@ unfolding params_read
 pairs_read_is pairs = go (has_mark pairs)
   where
     go : (mark : Bool) → MatchBool mark (AreJoined (merged pairs) (cond mark (joined_read (merged pairs)) (map param_of pairs))) (AreParsed pairs (cond mark (joined_read (merged pairs)) (map param_of pairs)))
-    go true = joined (merged pairs)
+    go true = joined_is (merged pairs)
     go false = all_parsed pairs
 
 -- and nothing else is

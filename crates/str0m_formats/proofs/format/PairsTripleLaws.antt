@@ -4,7 +4,7 @@ use Rattle.str0m_formats.proofs.format.FormatParamAgain.{decimal_reads}
 use Rattle.str0m_formats.proofs.format.FormatParamOnly.{only_same}
 use Rattle.str0m_formats.specs.declared.format.format_param.FormatParam.{FormatParam}
 use Rattle.str0m_formats.specs.declared.format.format_param.FormatParam.TheVariants.{H265ProfileTierLevel, H266ProfileTierLevel}
-use Rattle.str0m_formats.specs.format.PairsReading.{given_read, row_read, h265_tables, h266_tables, read_triple, triple_read}
+use Rattle.str0m_formats.specs.format.PairsReading.{given_read, table_read, h265_tables, h266_tables, read_triple, triple_read}
 use Rattle.str0m_formats.specs.format.PairsTriple.{Texts, IsTripleParam}
 use Rattle.str0m_values.specs.H265 as h265
 use Rattle.str0m_values.specs.H265.{H265ProfileTierLevel as h265_triple}
@@ -21,7 +21,7 @@ record IsTable {A : Type 0} (number_of : A → ℕ) (rows : List (A × ℕ)) : T
   only : (n : ℕ) → IsTheOnly (λ value. number_of value ≡ n) (value_in rows n)
   byte : (value : A) → number_of value ≤ 255
 
-value_both : {A : Type 0} {id : A → ℕ} {rows : List (A × ℕ)} (default : ℕ) → IsTable id rows → Reads (λ text a. IsGiven 255 default text (id a)) (row_read rows default)
+value_both : {A : Type 0} {id : A → ℕ} {rows : List (A × ℕ)} (default : ℕ) → IsTable id rows → Reads (λ text a. IsGiven 255 default text (id a)) (table_read rows default)
 value_both {A} {id} {rows} default table = grind (arith, bind_some, given_both default)
 
 -- ---- a codec's triples, by its tables
@@ -52,9 +52,9 @@ module _ {P T L : Type 0} (tables : Tables P T L) (are : AreTables tables) where
   unfolding read_triple
   triple_both = record {
     sound = λ texts t e.
-        let a = bind_some (row_read tables.profiles tables.defaults.0 texts.0) _ t e in
-        let b = bind_some (row_read tables.tiers tables.defaults.1 texts.1) _ t a.2 in
-        let c = bind_some (row_read tables.levels tables.defaults.2 texts.2) _ t b.2 in
+        let a = bind_some (table_read tables.profiles tables.defaults.0 texts.0) _ t e in
+        let b = bind_some (table_read tables.tiers tables.defaults.1 texts.1) _ t a.2 in
+        let c = bind_some (table_read tables.levels tables.defaults.2 texts.2) _ t b.2 in
         let made : ProfileTierLevel P T L = record { profile = a.0; tier = b.0; level = c.0 } in
         subst (IsOfTables texts) (some_is made t c.2) (record {
           profile_is = (value_both tables.defaults.0 are.profiles).sound texts.0 a.0 a.1;
@@ -113,8 +113,8 @@ pub h266_small : (t : h266_triple) → AreBytes h266_tables t
 h266_small = triple_small h266_tables h266_are
 
 -- no level has one number in both tables
-apart : (b : H266Level) → value_in h265_tables.levels (h266.level_id b) ≡ None
-apart b = grind arith
+levels_apart : (b : H266Level) → value_in h265_tables.levels (h266.level_id b) ≡ None
+levels_apart b = grind arith
 
 no_h265 : (t : h266_triple) → read_triple h265_tables (texts_shown h266_tables t) ≡ None
 no_h265 t =
@@ -122,7 +122,7 @@ no_h265 t =
     let printed = decimal_reads 255 (h266.level_id t.level) small (omega (arith, small)) in
     reads_none (triple_both h265_tables h265_are) (texts_shown h266_tables t) (λ u is.
     let same : h265.level_id u.level ≡ h266.level_id t.level = sym is.level_is.value ∙ printed.value in
-    none-some u.level (sym (apart t.level) ∙ (h265_are.levels.only (h266.level_id t.level)).only u.level same))
+    none-some u.level (sym (levels_apart t.level) ∙ (h265_are.levels.only (h266.level_id t.level)).only u.level same))
 
 pub h265_again : (t : h265_triple) → triple_read (texts_shown h265_tables t) ≡ Some (H265ProfileTierLevel t)
 h265_again t = rw (shown_again h265_tables h265_are t) refl

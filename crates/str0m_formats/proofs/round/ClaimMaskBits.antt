@@ -2,7 +2,7 @@
 use Rattle.str0m_formats.proofs.Common.{◌≡◌, ◌==◌, ℕ, ◌+◌, ◌-◌, ◌*◌, ◌%◌, ◌^◌, ◌<◌, ◌≤◌, ◌⊎◌, inl, inr, Bool, false, not, ◌||◌, bit_or, List, ◌++◌, [], Some, None, find, refl, sym, ap, ◌∙◌, arith, lit<, range_with_len, option_or, bit_at, eq-eqb, ne_eqb, bit_at-lt, bit_at_set_same, bit_at_set_other, bit_at-zero, or_lt, or-false, or-true, find-append, nat_tests, min, bit_not, trailing_zeros, w128, cases_eq, bit_at_and, bit_at_or, bit_at_not, bit_at_above, bit_at-trailing_zeros, bit_at_cat_low, bit_at_mask_inside, bit_and}
 use Rattle.str0m_formats.proofs.round.ClaimedRanges.{find-range_skips, find-range_cut, find-range_here}
 use Rattle.str0m_formats.specs.round.ClaimMask.{bit_set, least_bit}
-use Rattle.str0m_formats.specs.round.Claimed.{free, preferred}
+use Rattle.str0m_formats.specs.round.Claimed.{free, free_order}
 
 -- ---- one type
 
@@ -89,7 +89,7 @@ pub free-from_masks : (a b bits : ℕ) → bits ≡ bit_not w128 (bit_or a b) �
     → option_or (option_or (option_or (least_bit (bit_and bits 0xffff_ffff_0000_0000_0000_0000_0000_0000))
     (least_bit (bit_and bits 0xffff_0000_0000_0000_0000_0000))) (least_bit (bit_and bits 0x6000_0000_0000_0000_0000)))
     (least_bit (bit_and bits 0xff_ffff_fff8_0000_0000)) ≡ free (λ t. bit_set a t || bit_set b t)
-unfolding preferred
+unfolding free_order
 free-from_masks a b bits e ha hb =
     rw (
       least_masked bits 0xffff_ffff_0000_0000_0000_0000_0000_0000 q 96 32 (refl, refl, lit< tt, omega arith) agree,

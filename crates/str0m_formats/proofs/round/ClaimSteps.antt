@@ -54,8 +54,8 @@ claims_refused rows i cause h =
 
 -- ---- what claiming each type means
 
-pub distinct_push : (xs : List ℕ) (y : ℕ) → AllDistinct xs → has xs y ≡ false → AllDistinct (xs ++ y ∷ [])
-distinct_push xs y d h = λ t. go t (y == t) refl where
+pub AllDistinct-push : (xs : List ℕ) (y : ℕ) → AllDistinct xs → has xs y ≡ false → AllDistinct (xs ++ y ∷ [])
+AllDistinct-push xs y d h = λ t. go t (y == t) refl where
   go : (t : ℕ) (b : Bool) → (y == t) ≡ b → times (xs ++ y ∷ []) t ≤ 1
   go t true e =
       let same : y ≡ t = eqb-true y t e in
@@ -77,7 +77,7 @@ claimed_all seen (x ∷ xs) set d h = go (λ d' h'. claimed_all (seen ++ x ∷ [
       → (b : Bool) → has seen x ≡ b → cond b (Err (ClaimedTwice x)) (claim_each (with_type (has seen) x) xs) ≡ Ok set → (set ≡ has (seen ++ x ∷ xs)) × AllDistinct (seen ++ x ∷ xs)
   go rec true e k = absurd (cc)
   go rec false e k =
-      let both = rec (distinct_push seen x d e) (ap (λ s. claim_each s xs) (sym (with_type-push seen x)) ∙ k) in
+      let both = rec (AllDistinct-push seen x d e) (ap (λ s. claim_each s xs) (sym (with_type-push seen x)) ∙ k) in
       let same = append_assoc seen (x ∷ []) xs in
       (both.0 ∙ ap has same, subst AllDistinct same both.1)
 
@@ -89,6 +89,6 @@ claimed_twice seen (x ∷ xs) cause d h = go (λ d' h'. claimed_twice (seen ++ x
       → (b : Bool) → has seen x ≡ b → cond b (Err (ClaimedTwice x)) (claim_each (with_type (has seen) x) xs) ≡ Err cause → (t : ℕ) × (cause ≡ ClaimedTwice t) × IsFirstRepeat (seen ++ x ∷ xs) t
   go rec true e k = (x, cc, record { seen = seen; rest = xs; split = refl; distinct = d; again = e })
   go rec false e k =
-      let found = rec (distinct_push seen x d e) (ap (λ s. claim_each s xs) (sym (with_type-push seen x)) ∙ k) in
+      let found = rec (AllDistinct-push seen x d e) (ap (λ s. claim_each s xs) (sym (with_type-push seen x)) ∙ k) in
       let P : List ℕ → Type 0 = λ ts. IsFirstRepeat ts found.0 in
       (found.0, found.1, subst P (append_assoc seen (x ∷ []) xs) found.2)

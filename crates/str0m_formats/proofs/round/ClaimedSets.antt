@@ -1,7 +1,7 @@
 -- Sets of payload types: what is claimed, and what is free.
 use Rattle.str0m_formats.proofs.Common.{◌≡◌, ◌==◌, ℕ, ◌≤◌, ◌<◌, Bool, true, false, ◌||◌, ◌&&◌, not, nat_le, List, [], ◌∷◌, Option, Some, IfSome, ◌++◌, length, get_or, refl, sym, ap, ◌∙◌, subst, arith, slice_get, option_to_list, not-true, leb-true, le-leb, or-false, or_assoc, fun_ext, or_comm, slice_get_read}
 use Rattle.str0m_formats.proofs.codec.CodecLookup.{find_passes}
-use Rattle.str0m_formats.specs.round.Claimed.{TypeSet, has, with_type, with_option, either, free, preferred}
+use Rattle.str0m_formats.specs.round.Claimed.{TypeSet, has, with_type, with_option, either, free, free_order}
 
 -- a type that is claimed stands in the set from then on, whether it did before or not
 pub claimed_with : (old new : ℕ → Bool) (pt : ℕ) (answer : Bool) → pt ≤ 127 → answer ≡ (nat_le pt 127 && not (old pt)) → ((t : ℕ) → new t ≡ (old t || (answer && pt == t))) → new ≡ with_type old pt
@@ -9,10 +9,10 @@ claimed_with old new pt answer small h step = grind arith
 
 -- a free type is at most 127, and is not in use
 pub free-small : (used : TypeSet) (t : ℕ) → free used ≡ Some t → (t ≤ 127) × (used t ≡ false)
-unfolding preferred
+unfolding free_order
 free-small used t h =
     let Passes : Option ℕ → Type 0 = λ o. IfSome o (λ x. (nat_le x 127 ≡ true) × (not (used x) ≡ true)) in
-    let found = subst Passes h (find_passes (λ x. nat_le x 127) (λ x. not (used x)) preferred refl) in
+    let found = subst Passes h (find_passes (λ x. nat_le x 127) (λ x. not (used x)) free_order refl) in
     (leb-true t 127 found.0, not-true (used t) found.1)
 
 -- a type that is refused leaves the set as it is

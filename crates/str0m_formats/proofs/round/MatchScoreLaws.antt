@@ -9,12 +9,12 @@ use Rattle.str0m_formats.specs.declared.format.format_params.FormatParams.{Forma
 use Rattle.str0m_formats.specs.declared.round.match_score.ProfileNumbers.{ProfileNumbers}
 use Rattle.str0m_formats.specs.round.MatchScore.{same_spec, same_number, same_option, same_flag, same_or, opus_score, is_mono, mode_score, amr_wb_score, h264_level_score, h264_score, profile_score, av1_score, format_score, codec_score, score, IsSelfScore}
 
-numbers : (m n : ℕ) → (m == n) ≡ (n == m)
-numbers m n = nat_eq_equiv.symm m n
+numbers_flip : (m n : ℕ) → (m == n) ≡ (n == m)
+numbers_flip m n = nat_eq_equiv.symm m n
 
 -- a test's score is the same both ways
 number_flips : (score m n : ℕ) → when (m == n) score ≡ when (n == m) score
-number_flips score m n = ap (λ t. when t score) (numbers m n)
+number_flips score m n = ap (λ t. when t score) (numbers_flip m n)
 
 given_numbers : (a b : Option ℕ) → same_number a b ≡ same_number b a
 given_numbers a b = (options_equiv nat_eq_equiv).symm a b
@@ -26,7 +26,7 @@ flags : (a b : Option Bool) → same_flag a b ≡ same_flag b a
 flags a b = bool_eq_equiv.symm (unwrap_or a false) (unwrap_or b false)
 
 numbers_or : (n : ℕ) (a b : Option ℕ) → same_or n a b ≡ same_or n b a
-numbers_or n a b = numbers (unwrap_or a n) (unwrap_or b n)
+numbers_or n a b = numbers_flip (unwrap_or a n) (unwrap_or b n)
 
 opus_flips : (a b : FormatParams) → opus_score a b ≡ opus_score b a
 opus_flips a b = grind (arith, given_numbers, given_flags, flags)

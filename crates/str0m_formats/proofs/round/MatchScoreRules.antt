@@ -1,6 +1,6 @@
 -- The rules of the score, from the function.
 use Rattle.str0m_formats.proofs.Common.{arith, ◌≡◌, ◌≢◌, ◌==◌, ◌⊎◌, inl, inr, ℕ, Bool, false, Option, None, refl, ap, ◌∙◌, Decides, unsigned_Decides, and-false, if◌then◌else◌}
-use Rattle.str0m_formats.proofs.format.FormatParamsEqual.{numbers, codec_Decides, spec_Decides, fails}
+use Rattle.str0m_formats.proofs.format.FormatParamsEqual.{options_decided, codec_Decides, spec_Decides, fails}
 use Rattle.str0m_formats.specs.declared.codec.Codec.{Codec}
 use Rattle.str0m_formats.specs.declared.codec.Codec.TheVariants.{AmrWb, Tele, Unknown}
 use Rattle.str0m_formats.specs.declared.codec.codec_spec.CodecSpec.{CodecSpec}
@@ -23,16 +23,16 @@ module _ (a b : CodecSpec) where
   differ : (a ≡ b → ⊥) → same_spec a b ≡ false
   differ n = fails (same_spec a b) (spec_Decides a b) n
 
-  other_codec : (a.codec ≡ b.codec → ⊥) → same_codec a.codec b.codec ≡ false
-  other_codec n = fails (same_codec a.codec b.codec) (codec_Decides a.codec b.codec) n
+  not_same_codec : (a.codec ≡ b.codec → ⊥) → same_codec a.codec b.codec ≡ false
+  not_same_codec n = fails (same_codec a.codec b.codec) (codec_Decides a.codec b.codec) n
 
   not_amr_wb : (a.codec ≡ AmrWb → ⊥) → same_codec a.codec AmrWb ≡ false
   not_amr_wb n = fails (same_codec a.codec AmrWb) (codec_Decides a.codec AmrWb) n
 
   -- a codec's own score, where the specs aren't equal or the codec is AMR-WB
-  alike : (a ≡ b → a.codec ≡ AmrWb) → a.codec ≡ b.codec → a.clock_rate ≡ b.clock_rate → score a b ≡ codec_score a.codec a b
+  codec_own_score : (a ≡ b → a.codec ≡ AmrWb) → a.codec ≡ b.codec → a.clock_rate ≡ b.clock_rate → score a b ≡ codec_score a.codec a b
   unfolding score
-  alike same e k =
+  codec_own_score same e k =
       let c = (codec_Decides a.codec b.codec).1 e in
       let r = (unsigned_Decides a.clock_rate b.clock_rate).1 k in
       elim (either_way (same_spec a b) (spec_Decides a b)) [
@@ -44,13 +44,13 @@ module _ (a b : CodecSpec) where
   unfolding score
   score_rules = record {
     equal = λ e n. let s = (spec_Decides a b).1 e in let m = not_amr_wb n in rw (s, m) refl;
-    codecs_differ = λ n. let s = differ (λ e. n (ap (λ (x : CodecSpec). x.codec) e)) in let c = other_codec n in rw (s, c) refl;
+    codecs_differ = λ n. let s = differ (λ e. n (ap (λ (x : CodecSpec). x.codec) e)) in let c = not_same_codec n in rw (s, c) refl;
     unknown = λ n u. let s = differ n in let own = of_unknown a.codec a b u in rw (s, own) (nothing_both _);
     clock_rates_differ = λ n. let s = differ (λ e. n (ap (λ (x : CodecSpec). x.clock_rate) e)) in
         let r = fails (a.clock_rate == b.clock_rate) (unsigned_Decides a.clock_rate b.clock_rate) n in
         rw (s, r, and-false) refl;
     channels_differ = λ n t m. let s = differ (λ e. n (ap (λ (x : CodecSpec). x.channels) e)) in
-        let own = of_channels a.codec a b (fails (same_number a.channels b.channels) (numbers a.channels b.channels) n) t m in
+        let own = of_channels a.codec a b (fails (same_number a.channels b.channels) (options_decided a.channels b.channels) n) t m in
         rw (s, own) (nothing_both _);
-    alike = alike;
+    alike = codec_own_score;
   }

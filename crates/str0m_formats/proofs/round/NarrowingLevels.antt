@@ -15,15 +15,15 @@ use Rattle.str0m_values.specs.H264.{named, level_ordinal, lower_of, lower_level}
 -- ---- formats that fit name one profile
 
 -- what holds only under a test
-if_some : {A : Type 0} (t : Bool) (o : Option A) → (if t then o else None) ≢ None → o ≢ None
-if_some t o h = grind arith
+if_not_none : {A : Type 0} (t : Bool) (o : Option A) → (if t then o else None) ≢ None → o ≢ None
+if_not_none t o h = grind arith
 
 levels-profile : (x y : H264ProfileLevel) → h264_level_score (Some x) (Some y) ≢ None → x.profile ≡ y.profile
 levels-profile x y = grind arith
 
 -- specs that fit are the same, or fit by the rule of their codec
-fits : (a b : CodecSpec) → score a b ≢ None → (a ≡ b) ⊎ (codec_score a.codec a b ≢ None)
-fits a b some = elim (either_way (same_spec a b) (spec_Decides a b)) [
+fit_rule : (a b : CodecSpec) → score a b ≢ None → (a ≡ b) ⊎ (codec_score a.codec a b ≢ None)
+fit_rule a b some = elim (either_way (same_spec a b) (spec_Decides a b)) [
   | inl e ↦ inl e
   | inr n ↦ elim (either_way (same_codec a.codec b.codec) (codec_Decides a.codec b.codec)) [
     | inr other ↦ absurd (some ((score_rules a b).codecs_differ other))
@@ -36,14 +36,14 @@ fits a b some = elim (either_way (same_spec a b) (spec_Decides a b)) [
 
 same_profiles : (a b : CodecSpec) → a.codec ≡ H264 → score a b ≢ None → (x y : H264ProfileLevel)
     → named a.format.profile_level_id ≡ Some x → named b.format.profile_level_id ≡ Some y → x.profile ≡ y.profile
-same_profiles a b is some x y at_x at_y = elim (fits a b some) [
+same_profiles a b is some x y at_x at_y = elim (fit_rule a b some) [
   | inl e ↦
       let id : CodecSpec → Option ℕ = λ spec. spec.format.profile_level_id in
       ap (λ (l : H264ProfileLevel). l.profile) (same_Some x y (sym at_x ∙ ap (λ spec. named (id spec)) e ∙ at_y))
   | inr own ↦
       let Fits : _ → Type 0 = λ codec. codec_score codec a b ≢ None in
-      let modes = if_some (same_number a.channels b.channels) _ (subst Fits is own) in
-      let levels = if_some (same_or 0 a.format.packetization_mode b.format.packetization_mode) _ modes in
+      let modes = if_not_none (same_number a.channels b.channels) _ (subst Fits is own) in
+      let levels = if_not_none (same_or 0 a.format.packetization_mode b.format.packetization_mode) _ modes in
       levels-profile x y (λ none. levels ((λ i. h264_level_score (at_x i) (at_y i)) ∙ none))
 ]
 

@@ -10,10 +10,10 @@ use Rattle.str0m_formats.specs.round.Choices.{IsChoice, points_for}
 use Rattle.str0m_formats.specs.round.Claimed.{TypeSet}
 use Rattle.str0m_formats.specs.round.MatchScore.{score}
 use Rattle.str0m_formats.specs.round.Narrowing.{narrowed}
-use Rattle.str0m_formats.specs.round.Rounds.{placed, settled, Leaves}
+use Rattle.str0m_formats.specs.round.Rounds.{placed, settled_row, Leaves}
 use Rattle.str0m_formats.specs.round.RoundsPromises.{AtEachRow}
 
-settled-spec : (locked taken unlocked : TypeSet) (row new : PayloadParams) → settled locked taken unlocked row ≡ Ok new
+settled-spec : (locked taken unlocked : TypeSet) (row new : PayloadParams) → settled_row locked taken unlocked row ≡ Ok new
     → row.spec ≡ new.spec
 settled-spec locked taken unlocked row new h = go row.locked refl where
   go : (b : Bool) → row.locked ≡ b → row.spec ≡ new.spec

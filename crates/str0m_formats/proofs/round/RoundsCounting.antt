@@ -10,48 +10,48 @@ use Rattle.str0m_formats.proofs.row.PayloadParamsSets.{has-append}
 use Rattle.str0m_formats.specs.declared.round.negotiation_error.NegotiationError.{NegotiationError}
 use Rattle.str0m_formats.specs.declared.round.negotiation_error.NegotiationError.TheVariants.{Exhausted, ClaimedTwice}
 use Rattle.str0m_formats.specs.declared.row.payload_params.PayloadParams.{PayloadParams}
-use Rattle.str0m_formats.specs.round.Claimed.{TypeSet, has, with_type, with_option, either, free, preferred}
+use Rattle.str0m_formats.specs.round.Claimed.{TypeSet, has, with_type, with_option, either, free, free_order}
 use Rattle.str0m_formats.specs.round.Narrowing.{narrowed}
-use Rattle.str0m_formats.specs.round.Rounds.{and_then, role_type, rtx_type, locked_to, placed, taken_by, taken_after, settled, kept_or_free, kept_red, kept_rtx, StopsFirst, StopsSecond, Refused}
+use Rattle.str0m_formats.specs.round.Rounds.{and_then, role_type, rtx_type, locked_to, placed, taken_by, taken_after, settled_row, kept_or_free, kept_red, kept_rtx, StopsFirst, StopsSecond, Refused}
 use Rattle.str0m_formats.specs.row.PayloadParams.{types_of, types, locked_types, open_types}
 
 -- ---- a list without repeats that stands in another is no longer
 
-without : ℕ → List ℕ → List ℕ
-without x [] = []
-without x (y ∷ ys) = cond (y == x) ys (y ∷ without x ys)
+without_one : ℕ → List ℕ → List ℕ
+without_one x [] = []
+without_one x (y ∷ ys) = cond (y == x) ys (y ∷ without_one x ys)
 
-length-without : (x : ℕ) (ys : List ℕ) → has ys x ≡ true → suc (length (without x ys)) ≡ length ys
-unfolding without
+length-without : (x : ℕ) (ys : List ℕ) → has ys x ≡ true → suc (length (without_one x ys)) ≡ length ys
+unfolding without_one
 length-without x [] h = absurd (false≢true h)
 length-without x (y ∷ ys) h = grind (arith, length-without x ys)
 
-has-without : (x t : ℕ) (ys : List ℕ) → (x == t) ≡ false → has ys t ≡ true → has (without x ys) t ≡ true
-unfolding without
+has-without : (x t : ℕ) (ys : List ℕ) → (x == t) ≡ false → has ys t ≡ true → has (without_one x ys) t ≡ true
+unfolding without_one
 has-without x t [] ne h = h
 has-without x t (y ∷ ys) ne h = grind (arith, has-without x t ys ne, or_cases, eqb-true, or_left, or_right)
 
 pub pigeons : (xs ys : List ℕ) → all_apart xs ≡ true → ((t : ℕ) → has xs t ≡ true → has ys t ≡ true) → length xs ≤ length ys
 pigeons [] ys d h = omega arith
 pigeons (x ∷ xs) ys d h =
-    grind (arith, and_parts, or_left, eq-eqb, length-without, pigeons xs (without x ys), has-without, not-true, or_right, cases_Bool, eqb-true)
+    grind (arith, and_parts, or_left, eq-eqb, length-without, pigeons xs (without_one x ys), has-without, not-true, or_right, cases_Bool, eqb-true)
 
 -- where nothing is free, each preferred type is in use
 all_used : (used : TypeSet) (xs : List ℕ) → find (λ t. not (used t)) xs ≡ None → (t : ℕ) → has xs t ≡ true → used t ≡ true
 all_used used [] h t k = absurd (false≢true k)
 all_used used (x ∷ xs) h t k = grind (arith, all_used used xs, or_cases, none-some, eqb-true)
 
-preferred_apart : all_apart preferred ≡ true
-unfolding preferred
+preferred_apart : all_apart free_order ≡ true
+unfolding free_order
 preferred_apart = refl
 
-preferred_long : length preferred ≡ 87
-unfolding preferred
+preferred_long : length free_order ≡ 87
+unfolding free_order
 preferred_long = refl
 
 -- fewer than 87 types in use leave a free one
 pub some_free : (used : List ℕ) → length used < 87 → free (has used) ≡ None → ⊥
-some_free used h e = omega (arith, h, preferred_long, pigeons preferred used preferred_apart (all_used (has used) preferred e))
+some_free used h e = omega (arith, h, preferred_long, pigeons free_order used preferred_apart (all_used (has used) free_order e))
 
 -- ---- how many types rows have
 
@@ -81,12 +81,12 @@ RowFails taken unlocked receives cause = (more : List ℕ) × (length more ≤ 2
 none-fails : (taken unlocked : TypeSet) (receives : Bool) → IfErr (ok_or (free (either taken unlocked)) Exhausted) (Fails taken unlocked receives)
 none-fails taken unlocked receives = grind arith
 
-beside : {A : Type 0} (r : Result A NegotiationError) (taken set unlocked : TypeSet) (receives : Bool) (more : List ℕ) → set ≡ either taken (has more) → length more ≤ 2
+fails_beside : {A : Type 0} (r : Result A NegotiationError) (taken set unlocked : TypeSet) (receives : Bool) (more : List ℕ) → set ≡ either taken (has more) → length more ≤ 2
     → IfErr r (Fails set unlocked receives) → IfErr r (RowFails taken unlocked receives)
-beside r taken set unlocked receives more is few = grind arith
+fails_beside r taken set unlocked receives more is few = grind arith
 
-no_more : (taken : TypeSet) → taken ≡ either taken (has [])
-no_more taken = fun_ext (λ t. sym (or-false (taken t)))
+either_no_more : (taken : TypeSet) → taken ≡ either taken (has [])
+either_no_more taken = fun_ext (λ t. sym (or-false (taken t)))
 
 -- ---- the first pass
 
@@ -109,9 +109,9 @@ placed-fails taken unlocked receives row (Some c) = go row.locked where
   go true = tt
   go false =
       then_err (role_type taken unlocked receives c.pt (Some row.pt)) _ (RowFails taken unlocked receives)
-      (beside (role_type taken unlocked receives c.pt (Some row.pt)) taken taken unlocked receives [] (no_more taken) (omega arith) (role-fails taken unlocked receives c.pt (Some row.pt)))
+      (fails_beside (role_type taken unlocked receives c.pt (Some row.pt)) taken taken unlocked receives [] (either_no_more taken) (omega arith) (role-fails taken unlocked receives c.pt (Some row.pt)))
       (λ pt. then_err (rtx_type (with_type taken pt) unlocked receives c.resend row.resend) _ (RowFails taken unlocked receives)
-      (beside (rtx_type (with_type taken pt) unlocked receives c.resend row.resend) taken (with_type taken pt) unlocked receives (pt ∷ []) (type-is taken pt) (omega arith) (rtx-fails (with_type taken pt) unlocked receives c.resend row.resend))
+      (fails_beside (rtx_type (with_type taken pt) unlocked receives c.resend row.resend) taken (with_type taken pt) unlocked receives (pt ∷ []) (type-is taken pt) (omega arith) (rtx-fails (with_type taken pt) unlocked receives c.resend row.resend))
       (λ resend. tt))
 
 -- fewer than 87 types leave a free one
@@ -164,8 +164,8 @@ kept-fails locked taken unlocked receives t = grind arith
 kept_rtx-fails : (locked taken unlocked : TypeSet) (receives : Bool) (own : Option ℕ) → IfErr (kept_rtx locked taken unlocked own) (Fails taken unlocked receives)
 kept_rtx-fails locked taken unlocked receives own = grind arith
 
-settled-fails : (locked taken unlocked : TypeSet) (receives : Bool) (row : PayloadParams) → IfErr (settled locked taken unlocked row) (RowFails taken unlocked receives)
-unfolding settled
+settled-fails : (locked taken unlocked : TypeSet) (receives : Bool) (row : PayloadParams) → IfErr (settled_row locked taken unlocked row) (RowFails taken unlocked receives)
+unfolding settled_row
 settled-fails locked taken unlocked receives row = go row.locked where
   go : (b : Bool) → IfErr (cond b (Ok row) (and_then (ok_or (kept_or_free locked taken unlocked row.pt) Exhausted) (λ pt.
       and_then (kept_rtx locked (with_option (with_type taken pt) (kept_red locked (with_type taken pt) unlocked row.red)) unlocked row.resend) (λ resend.
@@ -173,15 +173,15 @@ settled-fails locked taken unlocked receives row = go row.locked where
   go true = tt
   go false =
       then_err (ok_or (kept_or_free locked taken unlocked row.pt) Exhausted) _ (RowFails taken unlocked receives)
-      (beside (ok_or (kept_or_free locked taken unlocked row.pt) Exhausted) taken taken unlocked receives [] (no_more taken) (omega arith) (kept-fails locked taken unlocked receives row.pt))
+      (fails_beside (ok_or (kept_or_free locked taken unlocked row.pt) Exhausted) taken taken unlocked receives [] (either_no_more taken) (omega arith) (kept-fails locked taken unlocked receives row.pt))
       (λ pt.
       let red = kept_red locked (with_type taken pt) unlocked row.red in
       let two = with_option (with_type taken pt) red in
       then_err (kept_rtx locked two unlocked row.resend) _ (RowFails taken unlocked receives)
-      (beside (kept_rtx locked two unlocked row.resend) taken two unlocked receives (pt ∷ option_to_list red) (two-are taken pt red) (omega (arith, short red)) (kept_rtx-fails locked two unlocked receives row.resend))
+      (fails_beside (kept_rtx locked two unlocked row.resend) taken two unlocked receives (pt ∷ option_to_list red) (two-are taken pt red) (omega (arith, short red)) (kept_rtx-fails locked two unlocked receives row.resend))
       (λ resend. tt))
 
-stops-open : (locked taken unlocked : TypeSet) (row : PayloadParams) (cause : NegotiationError) → settled locked taken unlocked row ≡ Err cause → row.locked ≡ false
+stops-open : (locked taken unlocked : TypeSet) (row : PayloadParams) (cause : NegotiationError) → settled_row locked taken unlocked row ≡ Err cause → row.locked ≡ false
 stops-open locked taken unlocked row cause h = grind (arith, settled_if_locked)
 
 -- with at most fourteen rows no row lacks a type in the second pass

@@ -20,8 +20,8 @@ open_mid : (before remote : List PayloadParams) (receives : Bool) (mid : List Pa
 open_mid before remote receives mid m t = search (rules, times_where-fewer, begun_open, not-true)
 
 -- a row at a place, and the rows after it
-at_place : (rows : List PayloadParams) (i t : ℕ) (row : PayloadParams) → slice_get rows i ≡ Some row → row.locked ≡ false → times (types_of row) t + times (open_types (drop (suc i) rows)) t ≤ times (open_types rows) t
-at_place rows i t row at_row l =
+times_at_place : (rows : List PayloadParams) (i t : ℕ) (row : PayloadParams) → slice_get rows i ≡ Some row → row.locked ≡ false → times (types_of row) t + times (open_types (drop (suc i) rows)) t ≤ times (open_types rows) t
+times_at_place rows i t row at_row l =
     grind (arith, drop_suc rows i row at_row, times_where-cons is_open row (drop (suc i) rows) t, times_where-drop is_open rows i t)
 
 module _ (before remote : List PayloadParams) (receives : Bool) (mid after : List PayloadParams) (m : AllBegun before remote receives mid) (second : Settled (has (open_types before)) mid after) (t : ℕ) where
@@ -43,7 +43,7 @@ module _ (before remote : List PayloadParams) (receives : Bool) (mid after : Lis
         let apart = or_parts (taken_after mid (take i after) t) (has (open_types before) t) h in
         let none_before = times-none (open_types before) t apart.1 in
         let none_done = times-none (locked_types mid ++ open_types (take i after)) t apart.0 in
-        let here = at_place mid i t row at_row l in
+        let here = times_at_place mid i t row at_row l in
         let fewer = open_mid before remote receives mid m t in
         let none_row : times (types_of row) t ≡ 0 = omega (arith, none_before, here, fewer) in
         omega (arith, changed, none_before, none_done, fewer, times_where-drop is_open mid i t, times-append (locked_types mid) (open_types (take i after)) t, row-once _ _ _ row new parts t none_row)

@@ -1,6 +1,6 @@
 -- What holds of the locked rows after every accepted round.
 use Rattle.str0m_formats.proofs.Common.{zero, suc, ◌≡◌, ◌==◌, ℕ, ◌+◌, ◌<◌, ◌≤◌, ◌⊎◌, inl, inr, Bool, true, false, not, cond, List, [], ◌∷◌, ◌++◌, length, take, Option, Some, None, Ok, IfSome, filter, refl, sym, ap, ◌∙◌, subst, arith, slice_get, option_to_list, true≢false, cases_Bool, or_parts, or_left, or-false, eqb-true, append-nil, take_all, IfOk-at_ok}
-use Rattle.str0m_formats.proofs.round.ClaimSteps.{distinct_push}
+use Rattle.str0m_formats.proofs.round.ClaimSteps.{AllDistinct-push}
 use Rattle.str0m_formats.proofs.round.ClaimedSets.{free-small, type-is, two-are}
 use Rattle.str0m_formats.proofs.round.ClaimedTimes.{times-append, times-cons, times-nil, times-none, times-some}
 use Rattle.str0m_formats.proofs.round.FirstPass.{locked_to-locks, placed-locked, placed-open_row, placed-no_choice, locked_parts}
@@ -20,30 +20,30 @@ use Rattle.str0m_formats.specs.row.PayloadParams.{types_of, types, locked_types,
 
 -- ---- the types of a row that is locked are new, and differ
 
-abbrev IsNew : TypeSet → ℕ → Type 0
-IsNew taken t = taken t ≡ false
+abbrev IsUntaken : TypeSet → ℕ → Type 0
+IsUntaken taken t = taken t ≡ false
 
-free-new : (taken unlocked : TypeSet) (t : ℕ) → free (either taken unlocked) ≡ Some t → IsNew taken t
+free-new : (taken unlocked : TypeSet) (t : ℕ) → free (either taken unlocked) ≡ Some t → IsUntaken taken t
 free-new taken unlocked t e = (or_parts (taken t) (unlocked t) (free-small (either taken unlocked) t e).1).0
 
-itself : (taken : TypeSet) (o : Option ℕ) → IfSome o (λ t. taken t ≡ false → IsNew taken t)
-itself taken o = grind arith
+untaken_itself : (taken : TypeSet) (o : Option ℕ) → IfSome o (λ t. taken t ≡ false → IsUntaken taken t)
+untaken_itself taken o = grind arith
 
 -- a primary, then an RTX and a RED that are new beside what came before: each stands once, and none is taken
 abbrev NewTypes : TypeSet → List ℕ → Type 0
 NewTypes taken new = AllDistinct new × ((t : ℕ) → taken t ≡ true → times new t ≡ 0)
 
-new_push : (taken : TypeSet) (ls : List ℕ) (x : ℕ) → NewTypes taken ls → IsNew (either taken (has ls)) x → NewTypes taken (ls ++ x ∷ [])
+new_push : (taken : TypeSet) (ls : List ℕ) (x : ℕ) → NewTypes taken ls → IsUntaken (either taken (has ls)) x → NewTypes taken (ls ++ x ∷ [])
 new_push taken ls x n fresh =
     let parts = or_parts (taken x) (has ls x) fresh in
-    (distinct_push ls x n.0 parts.1, λ t h. go t h (x == t) refl parts.0) where
+    (AllDistinct-push ls x n.0 parts.1, λ t h. go t h (x == t) refl parts.0) where
       go : (t : ℕ) → taken t ≡ true → (b : Bool) → (x == t) ≡ b → taken x ≡ false → times (ls ++ x ∷ []) t ≡ 0
       go t h true e f = absurd (true≢false (sym h ∙ ap taken (sym (eqb-true x t e)) ∙ f))
       go t h false e f =
           let none : cond {A = ℕ} (x == t) 1 0 ≡ 0 = ap (λ b. cond {A = ℕ} b 1 0) e in
           omega (arith, times-append ls (x ∷ []) t, times-cons x [] t, times-nil t, none, n.1 t h)
 
-new_option : (taken set : TypeSet) (ls : List ℕ) (o : Option ℕ) → NewTypes taken ls → set ≡ either taken (has ls) → IfSome o (IsNew set) → NewTypes taken (ls ++ option_to_list o)
+new_option : (taken set : TypeSet) (ls : List ℕ) (o : Option ℕ) → NewTypes taken ls → set ≡ either taken (has ls) → IfSome o (IsUntaken set) → NewTypes taken (ls ++ option_to_list o)
 new_option taken set ls None n is h = subst (NewTypes taken) (sym (append-nil ls)) n
 new_option taken set ls (Some x) n is h = new_push taken ls x n (ap (λ s. s x) (sym is) ∙ h)
 
@@ -52,14 +52,14 @@ locked_to-new taken unlocked receives row choice new h =
     let parts = locked_parts taken unlocked receives row choice new h in
     let one = with_type taken parts.pt in
     let two = with_option one parts.resend in
-    let pt : IsNew taken parts.pt = IfOk-at_ok (IsNew taken) parts.pt_is (role-given (IsNew taken) taken unlocked (free-new taken unlocked) receives choice.pt (Some row.pt) (λ new. new) (λ new. new)) in
-    let resend : IfSome parts.resend (IsNew one) = IfOk-at_ok (λ o. IfSome o (IsNew one)) parts.resend_is (rtx-given (IsNew one) one unlocked (free-new one unlocked) receives choice.resend row.resend (itself one choice.resend) (itself one row.resend)) in
-    let red : IfSome (red_type two unlocked receives choice.red row.red) (IsNew two) = red-given (IsNew two) two unlocked (free-new two unlocked) receives choice.red row.red (itself two choice.red) in
+    let pt : IsUntaken taken parts.pt = IfOk-at_ok (IsUntaken taken) parts.pt_is (role-given (IsUntaken taken) taken unlocked (free-new taken unlocked) receives choice.pt (Some row.pt) (λ new. new) (λ new. new)) in
+    let resend : IfSome parts.resend (IsUntaken one) = IfOk-at_ok (λ o. IfSome o (IsUntaken one)) parts.resend_is (rtx-given (IsUntaken one) one unlocked (free-new one unlocked) receives choice.resend row.resend (untaken_itself one choice.resend) (untaken_itself one row.resend)) in
+    let red : IfSome (red_type two unlocked receives choice.red row.red) (IsUntaken two) = red-given (IsUntaken two) two unlocked (free-new two unlocked) receives choice.red row.red (untaken_itself two choice.red) in
     let New : PayloadParams → Type 0 = λ r. NewTypes taken (types_of r) in
     let primary : NewTypes taken (parts.pt ∷ []) = new_push taken [] parts.pt ((λ t. omega (arith, times-nil t)), (λ t k. refl)) (or-false (taken parts.pt) ∙ pt) in
     let pair : NewTypes taken (parts.pt ∷ option_to_list parts.resend) = new_option taken one (parts.pt ∷ []) parts.resend primary (type-is taken parts.pt) resend in
     subst New parts.all (new_option taken two (parts.pt ∷ option_to_list parts.resend) _ pair (two-are taken parts.pt parts.resend) (kept two _ red (content row.spec.codec))) where
-      kept : (set : TypeSet) (o : Option ℕ) → IfSome o (IsNew set) → (c : Content) → IfSome (only_audio c o) (IsNew set)
+      kept : (set : TypeSet) (o : Option ℕ) → IfSome o (IsUntaken set) → (c : Content) → IfSome (only_audio c o) (IsUntaken set)
       kept set o f audio = f
       kept set o f _ = tt
 

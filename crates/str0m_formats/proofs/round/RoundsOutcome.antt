@@ -8,7 +8,7 @@ use Rattle.str0m_formats.specs.declared.round.negotiation_error.NegotiationError
 use Rattle.str0m_formats.specs.declared.row.payload_params.PayloadParams.{PayloadParams}
 use Rattle.str0m_formats.specs.round.Choices.{IsChoice}
 use Rattle.str0m_formats.specs.round.Claimed.{TypeSet, has, times, AllDistinct}
-use Rattle.str0m_formats.specs.round.Rounds.{taken_by, taken_after, settled, Becomes, MayBegin, AllBegun, Settled, StopsFirst, StopsSettling, StopsSecond, Leaves, IsFirstRepeat, LeavesOnly, RefusedOnly, Refused}
+use Rattle.str0m_formats.specs.round.Rounds.{taken_by, taken_after, settled_row, Becomes, MayBegin, AllBegun, Settled, StopsFirst, StopsSettling, StopsSecond, Leaves, IsFirstRepeat, LeavesOnly, RefusedOnly, Refused}
 use Rattle.str0m_formats.specs.row.PayloadParams.{AllSmall, types, locked_types, open_types}
 
 -- ---- two splits of one list
@@ -52,15 +52,15 @@ becomes_unique taken unlocked remote receives row x y hx hy = grind (arith, choi
 -- ---- one end of a pass
 
 -- the rows so far, in a pass that goes at least as far
-so_far : {A : Type 0} (O : List A → A → Result A NegotiationError → Type 0) (one : (d : List A) (r : A) (x y : Result A NegotiationError) → O d r x → O d r y → x ≡ y) (rows xs ys : List A)
+same_so_far : {A : Type 0} (O : List A → A → Result A NegotiationError → Type 0) (one : (d : List A) (r : A) (x y : Result A NegotiationError) → O d r x → O d r y → x ≡ y) (rows xs ys : List A)
     → EachPlace (λ d r n. O d r (Ok n)) rows xs → EachPlace (λ d r n. O d r (Ok n)) rows ys → length xs ≤ length rows → length xs ≤ length ys → take (length xs) ys ≡ xs
-so_far O one rows xs ys ex ey l h =
+same_so_far O one rows xs ys ex ey l h =
     sym (each_same (λ d r n. O d r (Ok n)) rows xs ys (λ d r a b ha hb. same_Ok a b (one d r (Ok a) (Ok b) ha hb)) ex ey l (length xs) (omega arith) h) ∙ take_all (length xs) xs (omega arith)
 
 pub whole_unique : {A : Type 0} (O : List A → A → Result A NegotiationError → Type 0) (one : (d : List A) (r : A) (x y : Result A NegotiationError) → O d r x → O d r y → x ≡ y) (rows xs ys : List A)
     → EachPlace (λ d r n. O d r (Ok n)) rows xs → EachPlace (λ d r n. O d r (Ok n)) rows ys → length xs ≡ length rows → length ys ≡ length rows → xs ≡ ys
 whole_unique O one rows xs ys ex ey lx ly =
-    sym (so_far O one rows xs ys ex ey (omega arith) (omega arith)) ∙ ap (λ n. take n ys) (lx ∙ sym ly) ∙ take_all (length ys) ys (omega arith)
+    sym (same_so_far O one rows xs ys ex ey (omega arith) (omega arith)) ∙ ap (λ n. take n ys) (lx ∙ sym ly) ∙ take_all (length ys) ys (omega arith)
 
 -- a pass that stops at a place goes no further
 pub stops_here : {A : Type 0} (O : List A → A → Result A NegotiationError → Type 0) (one : (d : List A) (r : A) (x y : Result A NegotiationError) → O d r x → O d r y → x ≡ y) (rows xs ys : List A) (row : A) (cause : NegotiationError)
@@ -69,7 +69,7 @@ stops_here {A} O one rows xs ys row cause ex l next stop ey h = go (slice_get ys
   go : (o : Option A) → slice_get ys (length xs) ≡ o → ⊥
   go None e = none_within ys (length xs) h e
   go (Some y) e =
-      let front : take (length xs) ys ≡ xs = so_far O one rows xs ys ex ey l (omega arith) in
+      let front : take (length xs) ys ≡ xs = same_so_far O one rows xs ys ex ey l (omega arith) in
       let P : List A → Type 0 = λ d. O d row (Ok y) in
       let none : ◌≡◌ {A = Result A NegotiationError} (Ok y) (Err cause) = one xs row (Ok y) (Err cause) (subst P front (ey (length xs) row y next e)) stop in
       cc
@@ -80,7 +80,7 @@ pub stops_unique : {A : Type 0} (O : List A → A → Result A NegotiationError 
 stops_unique {A} O one rows xs ys r s c e ex lx nx sx ey ly ny sy = go (cases_order (length xs) (length ys)) where
   go : (length xs ≡ length ys) ⊎ ((length xs < length ys) ⊎ (length ys < length xs)) → c ≡ e
   go (inl h) =
-      let front : ys ≡ xs = sym (take_all (length ys) ys (omega arith)) ∙ ap (λ n. take n ys) (sym h) ∙ so_far O one rows xs ys ex ey lx (omega arith) in
+      let front : ys ≡ xs = sym (take_all (length ys) ys (omega arith)) ∙ ap (λ n. take n ys) (sym h) ∙ same_so_far O one rows xs ys ex ey lx (omega arith) in
       let same : s ≡ r = same_Some s r (sym ny ∙ ap (slice_get rows) (sym h) ∙ nx) in
       let P : List A → Type 0 = λ d. O d s (Err e) in
       let Q : A → Type 0 = λ x. O xs x (Err e) in
@@ -97,7 +97,7 @@ first_one : (before remote : List PayloadParams) (receives : Bool) (d : List Pay
 first_one before remote receives d r x y hx hy = becomes_unique (taken_by before d) (has (open_types before)) remote receives r x y hx hy
 
 abbrev Second : TypeSet → List PayloadParams → List PayloadParams → PayloadParams → Result PayloadParams NegotiationError → Type 0
-Second unlocked mid d r x = settled (has (locked_types mid)) (taken_after mid d) unlocked r ≡ x
+Second unlocked mid d r x = settled_row (has (locked_types mid)) (taken_after mid d) unlocked r ≡ x
 
 second_one : (unlocked : TypeSet) (mid : List PayloadParams) (d : List PayloadParams) (r : PayloadParams) (x y : Result PayloadParams NegotiationError) → Second unlocked mid d r x → Second unlocked mid d r y → x ≡ y
 second_one unlocked mid d r x y hx hy = sym hx ∙ hy

@@ -14,9 +14,9 @@ use Rattle.str0m_formats.specs.declared.row.payload_params.PayloadParams.{Payloa
 use Rattle.str0m_formats.specs.round.Choices.{IsChoice, points_for}
 use Rattle.str0m_formats.specs.round.Claimed.{TypeSet, has}
 use Rattle.str0m_formats.specs.round.Narrowing.{narrowed, narrowed_as}
-use Rattle.str0m_formats.specs.round.Rounds.{taken_by, taken_after, placed, settled, kept_red, only_audio, Leaves}
+use Rattle.str0m_formats.specs.round.Rounds.{taken_by, taken_after, placed, settled_row, kept_red, only_audio, Leaves}
 use Rattle.str0m_formats.specs.row.PayloadParams.{AllSmall, types_of, locked_types, open_types}
-use Rattle.str0m_formats.specs.row.PlainRow.{IsPlain, IsPlainG722, HasPictureFeedback, HasPlainTriples, SaysEventsAlone}
+use Rattle.str0m_formats.specs.row.PlainRow.{IsPlain, IsPlainG722, HasVideoFeedback, HasPlainTriples, SaysEventsAlone}
 use Rattle.str0m_formats.specs.row.PlainRowBounds.{AreModes, IsDistance, IsBounded}
 
 -- ---- a plain row is one of small types, a plain spec, and feedback and RED that go with what the codec carries
@@ -33,7 +33,7 @@ record PlainSpec (spec : CodecSpec) : Type 0 where
 -- whatever its types are
 record PlainBeside (row : PayloadParams) : Type 0 where
   spec : PlainSpec row.spec
-  pictures : content row.spec.codec ≡ video → HasPictureFeedback row
+  as_video : content row.spec.codec ≡ video → HasVideoFeedback row
   redundant : row.red ≢ None → content row.spec.codec ≡ audio
 
 beside : (row : PayloadParams) → IsPlain row → PlainBeside row
@@ -91,22 +91,22 @@ placed-plain taken unlocked receives row new (Some c) h b p = go row.locked refl
   carries : content (narrowed row.spec c.spec).codec ≡ content row.spec.codec
   carries = ap content (codec-narrowed row.spec c.spec)
 
-  pictures : content (narrowed row.spec c.spec).codec ≡ video → HasPictureFeedback row
-  pictures e = p.pictures (sym carries ∙ e)
+  as_video : content (narrowed row.spec c.spec).codec ≡ video → HasVideoFeedback row
+  as_video e = p.as_video (sym carries ∙ e)
 
   go : (b : Bool) → row.locked ≡ b → PlainBeside new
   go true l =
       let same = sym (placed-locked_row taken unlocked receives row c l) ∙ h in
       subst PlainBeside (same_Ok (record row { spec = narrowed row.spec c.spec }) new same) (record {
         spec = spec-narrowed row.spec c.spec p.spec b.modes b.distance;
-        pictures = λ e. let f = pictures e in record { nack = f.nack; pli = f.pli; fir = f.fir; remb = f.remb };
+        as_video = λ e. let f = as_video e in record { nack = f.nack; pli = f.pli; fir = f.fir; remb = f.remb };
         redundant = λ some. carries ∙ p.redundant some;
       })
   go false l =
       let same = sym (placed-open_row taken unlocked receives row c l) ∙ h in
       subst PlainBeside (locked_parts taken unlocked receives row c new same).all (record {
         spec = spec-narrowed row.spec c.spec p.spec b.modes b.distance;
-        pictures = λ e. let f = pictures e in record { nack = f.nack; pli = f.pli; fir = f.fir; remb = f.remb };
+        as_video = λ e. let f = as_video e in record { nack = f.nack; pli = f.pli; fir = f.fir; remb = f.remb };
         redundant = λ some. carries ∙ audio_alone (content row.spec.codec) _ some;
       })
 
@@ -114,23 +114,23 @@ placed-plain taken unlocked receives row new (Some c) h b p = go row.locked refl
 had_red : (locked taken unlocked : TypeSet) (own : Option ℕ) → kept_red locked taken unlocked own ≢ None → own ≢ None
 had_red locked taken unlocked own h = grind arith
 
-settled-plain : (locked taken unlocked : TypeSet) (row new : PayloadParams) → settled locked taken unlocked row ≡ Ok new
+settled-plain : (locked taken unlocked : TypeSet) (row new : PayloadParams) → settled_row locked taken unlocked row ≡ Ok new
     → PlainBeside row → PlainBeside new
 settled-plain locked taken unlocked row new h p = go row.locked refl where
   go : (b : Bool) → row.locked ≡ b → PlainBeside new
   go true l = subst PlainBeside (sym (settled-same locked taken unlocked row new h l)) p
   go false l = subst PlainBeside (settled_parts locked taken unlocked row new h l).all (record {
     spec = p.spec;
-    pictures = λ e. let f = p.pictures e in record { nack = f.nack; pli = f.pli; fir = f.fir; remb = f.remb };
+    as_video = λ e. let f = p.as_video e in record { nack = f.nack; pli = f.pli; fir = f.fir; remb = f.remb };
     redundant = λ some. p.redundant (had_red locked _ unlocked row.red some);
   })
 
 -- ---- a round
 
-chosen : (points : PayloadParams → Option ℕ) (remote : List PayloadParams) (choice : Option PayloadParams)
+chosen_bounded : (points : PayloadParams → Option ℕ) (remote : List PayloadParams) (choice : Option PayloadParams)
     → IsChoice points remote choice → All IsBounded remote → IfSome choice IsBounded
-chosen points remote None h all = tt
-chosen points remote (Some c) h all = All-contains IsBounded remote c all (split_has remote h.before c h.after h.split)
+chosen_bounded points remote None h all = tt
+chosen_bounded points remote (Some c) h all = All-contains IsBounded remote c all (split_has remote h.before c h.after h.split)
 
 at_each : (before remote : List PayloadParams) (receives : Bool) (after : List PayloadParams) → Leaves before remote receives after
     → All IsPlain before → All IsBounded remote
@@ -140,7 +140,7 @@ at_each before remote receives after r all bounded i new at_new =
     let steps = row_steps before remote receives after r i old.0 new old.1 at_new in
     let taken = taken_by before (take i r.mid) in
     let unlocked = has (open_types before) in
-    let choice = chosen (points_for taken receives old.0) remote steps.became.choice steps.became.is_choice bounded in
+    let choice = chosen_bounded (points_for taken receives old.0) remote steps.became.choice steps.became.is_choice bounded in
     let placed_so = steps.became.placed_so in
     let was = beside old.0 (at_place IsPlain before i old.0 all old.1) in
     let between = placed-plain taken unlocked receives old.0 steps.between steps.became.choice placed_so choice was in

@@ -5,7 +5,7 @@ use Rattle.str0m_formats.specs.declared.round.negotiation_error.NegotiationError
 use Rattle.str0m_formats.specs.declared.round.negotiation_error.NegotiationError.TheVariants.{Exhausted, ClaimedTwice}
 use Rattle.str0m_formats.specs.declared.row.payload_params.PayloadParams.{PayloadParams}
 use Rattle.str0m_formats.specs.round.Claimed.{TypeSet, has, either, free}
-use Rattle.str0m_formats.specs.round.Rounds.{and_then, role_type, rtx_type, red_type, taken_by, taken_after, settled, kept_red, Becomes, Leaves}
+use Rattle.str0m_formats.specs.round.Rounds.{and_then, role_type, rtx_type, red_type, taken_by, taken_after, settled_row, kept_red, Becomes, Leaves}
 use Rattle.str0m_formats.specs.row.PayloadParams.{locked_types, open_types}
 
 -- ---- what a step gives, by its parts
@@ -54,7 +54,7 @@ pub record RowSteps (before remote : List PayloadParams) (receives : Bool) (mid 
   pub between : PayloadParams
   pub at_between : slice_get mid i ≡ Some between
   pub became : Becomes (taken_by before (take i mid)) (has (open_types before)) remote receives old (Ok between)
-  pub then_settled : settled (has (locked_types mid)) (taken_after mid (take i after)) (has (open_types before)) between ≡ Ok new
+  pub then_settled : settled_row (has (locked_types mid)) (taken_after mid (take i after)) (has (open_types before)) between ≡ Ok new
 
 pub row_steps : (before remote : List PayloadParams) (receives : Bool) (after : List PayloadParams) (r : Leaves before remote receives after) (i : ℕ) (old new : PayloadParams) → slice_get before i ≡ Some old → slice_get after i ≡ Some new
     → RowSteps before remote receives r.mid after i old new

@@ -10,7 +10,7 @@ use Rattle.str0m_formats.specs.codec.Codec.{Content, content}
 use Rattle.str0m_formats.specs.declared.row.payload_params.PayloadParams.{PayloadParams}
 use Rattle.str0m_formats.specs.round.Choices.{points_for}
 use Rattle.str0m_formats.specs.round.Claimed.{TypeSet, with_type, with_option, either, free, AllDistinct}
-use Rattle.str0m_formats.specs.round.Rounds.{red_type, only_audio, placed, settled, Leaves}
+use Rattle.str0m_formats.specs.round.Rounds.{red_type, only_audio, placed, settled_row, Leaves}
 use Rattle.str0m_formats.specs.row.PayloadParams.{AllSmall, types_of, types, locked_types}
 
 pub small-append : (xs ys : List ℕ) → AllSmall xs → AllSmall ys → AllSmall (xs ++ ys)
@@ -31,8 +31,8 @@ SmallRoles row = Small row.pt × IfSome row.resend Small × IfSome row.red Small
 single : (o : Option ℕ) → AllSmall (option_to_list o) → IfSome o Small
 single o h = grind arith
 
-listed : (o : Option ℕ) → IfSome o Small → AllSmall (option_to_list o)
-listed o h = grind arith
+listed_small : (o : Option ℕ) → IfSome o Small → AllSmall (option_to_list o)
+listed_small o h = grind arith
 
 roles_of : (row : PayloadParams) → AllSmall (types_of row) → SmallRoles row
 roles_of row h = grind arith
@@ -72,7 +72,7 @@ placed-small taken unlocked receives row new (Some c) h s k = go row.locked refl
 
 -- ---- the second pass
 
-settled-small : (locked taken unlocked : TypeSet) (row new : PayloadParams) → settled locked taken unlocked row ≡ Ok new → AllSmall (types_of row) → AllSmall (types_of new)
+settled-small : (locked taken unlocked : TypeSet) (row new : PayloadParams) → settled_row locked taken unlocked row ≡ Ok new → AllSmall (types_of row) → AllSmall (types_of new)
 settled-small locked taken unlocked row new h s = go row.locked refl where
   go : (b : Bool) → row.locked ≡ b → AllSmall (types_of new)
   go true l = ap (λ r. find (nat_lt 127) (types_of r)) (settled-same locked taken unlocked row new h l) ∙ s

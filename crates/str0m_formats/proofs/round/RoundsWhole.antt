@@ -14,8 +14,8 @@ use Rattle.str0m_formats.specs.round.Rounds.{taken_by, Begun, MayBegin, AllBegun
 use Rattle.str0m_formats.specs.row.PayloadParams.{AllSmall, types_of, types, locked_types, open_types}
 
 -- no type stands in an empty list
-nothing : AllDistinct []
-nothing = λ t. omega (arith, times-nil t)
+distinct_nil : AllDistinct []
+distinct_nil = λ t. omega (arith, times-nil t)
 
 -- the row before the round, at a place of the first pass
 pub row_before : {A B : Type 0} (xs : List A) (ys : List B) (i : ℕ) (y : B) → length ys ≡ length xs → slice_get ys i ≡ Some y → (x : A) × (slice_get xs i ≡ Some x)
@@ -73,13 +73,13 @@ open_before before remote receives mid unlocked begun whole same =
     grind (arith, open_types-at before, begun_open before remote receives mid)
 
 pub may_begin : (before remote : List PayloadParams) (set : TypeSet) → AllSmall (types before ++ types remote) → claim_each (has []) (locked_types before) ≡ Ok set → MayBegin before remote
-may_begin before remote set small h = record { small = small; once = (claimed_all [] (locked_types before) set nothing h).1 }
+may_begin before remote set small h = record { small = small; once = (claimed_all [] (locked_types before) set distinct_nil h).1 }
 
 pub claimed_is_locked : (before : List PayloadParams) (set : TypeSet) → claim_each (has []) (locked_types before) ≡ Ok set → set ≡ has (locked_types before)
-claimed_is_locked before set h = (claimed_all [] (locked_types before) set nothing h).0
+claimed_is_locked before set h = (claimed_all [] (locked_types before) set distinct_nil h).0
 
 pub refused_before : (before remote : List PayloadParams) (receives : Bool) (cause : NegotiationError) → AllSmall (types before ++ types remote) → claim_each (has []) (locked_types before) ≡ Err cause → Refused before remote receives cause
-refused_before before remote receives cause small h = grind (arith, claimed_twice, nothing, twice_before)
+refused_before before remote receives cause small h = grind (arith, claimed_twice, distinct_nil, twice_before)
 
 pub refused_large : (before remote : List PayloadParams) (receives : Bool) (cause : NegotiationError) → (t : ℕ) × (find (nat_lt 127) (types before ++ types remote) ≡ Some t) × (cause ≡ TypeTooLarge t) → Refused before remote receives cause
 refused_large before remote receives cause h = grind (arith, too_large)

@@ -9,7 +9,7 @@ use Rattle.str0m_formats.specs.declared.round.negotiation_error.NegotiationError
 use Rattle.str0m_formats.specs.declared.row.payload_params.PayloadParams.{PayloadParams}
 use Rattle.str0m_formats.specs.round.Claimed.{TypeSet, has, with_type, with_option, either, free}
 use Rattle.str0m_formats.specs.round.Claims.{Serves}
-use Rattle.str0m_formats.specs.round.Rounds.{settled, and_then, kept_or_free, kept_red, kept_rtx, taken_after, Settled, StopsSettling}
+use Rattle.str0m_formats.specs.round.Rounds.{settled_row, and_then, kept_or_free, kept_red, kept_rtx, taken_after, Settled, StopsSettling}
 use Rattle.str0m_formats.specs.row.PayloadParams.{types_of, locked_types, open_types}
 
 -- ---- what a row becomes
@@ -17,9 +17,9 @@ use Rattle.str0m_formats.specs.row.PayloadParams.{types_of, locked_types, open_t
 pub not_ok : {A : Type 0} {cause : NegotiationError} {x : A} → ◌≡◌ {A = Result A NegotiationError} (Err cause) (Ok x) → ⊥
 not_ok e = cc
 
-pub found : (o : Option ℕ) (x : ℕ) → ok_or o Exhausted ≡ Ok x → o ≡ Some x
-found None x e = absurd (not_ok e)
-found (Some y) x e = ap (λ z. Some z) (same_Ok y x e)
+pub ok_or_found : (o : Option ℕ) (x : ℕ) → ok_or o Exhausted ≡ Ok x → o ≡ Some x
+ok_or_found None x e = absurd (not_ok e)
+ok_or_found (Some y) x e = ap (λ z. Some z) (same_Ok y x e)
 
 -- the RED of a row that stays open, and then its RTX, once its primary type is settled
 abbrev pub new_red : TypeSet → TypeSet → TypeSet → PayloadParams → ℕ → Option ℕ
@@ -33,8 +33,8 @@ abbrev pub new_resend : TypeSet → TypeSet → TypeSet → PayloadParams → �
 new_resend locked taken unlocked row pt = kept_red locked (with_red locked taken unlocked row pt) unlocked row.resend
 
 -- a locked row is left as it is; an open one is settled role by role
-pub settled_if_locked : (locked taken unlocked : TypeSet) (row : PayloadParams) → row.locked ≡ true → ◌≡◌ {A = Result PayloadParams NegotiationError} (Ok row) (settled locked taken unlocked row)
-unfolding settled
+pub settled_if_locked : (locked taken unlocked : TypeSet) (row : PayloadParams) → row.locked ≡ true → ◌≡◌ {A = Result PayloadParams NegotiationError} (Ok row) (settled_row locked taken unlocked row)
+unfolding settled_row
 settled_if_locked locked taken unlocked row l = rw l refl
 
 -- what is left to do once the primary type is found, and once the RED is
@@ -44,11 +44,11 @@ from_red locked taken unlocked row pt red = and_then (kept_rtx locked (with_opti
 abbrev from_pt : TypeSet → TypeSet → TypeSet → PayloadParams → ℕ → Result PayloadParams NegotiationError
 from_pt locked taken unlocked row pt = from_red locked taken unlocked row pt (kept_red locked (with_type taken pt) unlocked row.red)
 
-settled_if_open : (locked taken unlocked : TypeSet) (row : PayloadParams) → row.locked ≡ false → settled locked taken unlocked row ≡ and_then (ok_or (kept_or_free locked taken unlocked row.pt) Exhausted) (from_pt locked taken unlocked row)
-unfolding settled
+settled_if_open : (locked taken unlocked : TypeSet) (row : PayloadParams) → row.locked ≡ false → settled_row locked taken unlocked row ≡ and_then (ok_or (kept_or_free locked taken unlocked row.pt) Exhausted) (from_pt locked taken unlocked row)
+unfolding settled_row
 settled_if_open locked taken unlocked row l = rw l refl
 
-pub settled-same : (locked taken unlocked : TypeSet) (row new : PayloadParams) → settled locked taken unlocked row ≡ Ok new → row.locked ≡ true → new ≡ row
+pub settled-same : (locked taken unlocked : TypeSet) (row new : PayloadParams) → settled_row locked taken unlocked row ≡ Ok new → row.locked ≡ true → new ≡ row
 settled-same locked taken unlocked row new h l = sym (same_Ok row new (settled_if_locked locked taken unlocked row l ∙ h))
 
 -- what a row that stays open becomes
@@ -59,13 +59,13 @@ pub record SettledParts (locked taken unlocked : TypeSet) (row new : PayloadPara
 
 kept_rtx-is_kept_red : (locked taken unlocked : TypeSet) (own new : Option ℕ) → kept_rtx locked taken unlocked own ≡ Ok new → kept_red locked taken unlocked own ≡ new
 kept_rtx-is_kept_red locked taken unlocked None new h = same_Ok None new h
-kept_rtx-is_kept_red locked taken unlocked (Some t) new h = grind (arith, and_then-ok, found, same_Ok)
+kept_rtx-is_kept_red locked taken unlocked (Some t) new h = grind (arith, and_then-ok, ok_or_found, same_Ok)
 
-pub settled_parts : (locked taken unlocked : TypeSet) (row new : PayloadParams) → settled locked taken unlocked row ≡ Ok new → row.locked ≡ false → SettledParts locked taken unlocked row new
+pub settled_parts : (locked taken unlocked : TypeSet) (row new : PayloadParams) → settled_row locked taken unlocked row ≡ Ok new → row.locked ≡ false → SettledParts locked taken unlocked row new
 settled_parts locked taken unlocked row new h l = grind (arith, and_then-ok, settled_if_open, kept_rtx-is_kept_red, same_Ok)
 
 -- a row stays locked or open
-pub settled-locked : (locked taken unlocked : TypeSet) (row new : PayloadParams) → settled locked taken unlocked row ≡ Ok new → new.locked ≡ row.locked
+pub settled-locked : (locked taken unlocked : TypeSet) (row new : PayloadParams) → settled_row locked taken unlocked row ≡ Ok new → new.locked ≡ row.locked
 settled-locked locked taken unlocked row new h = go row.locked refl where
   go : (b : Bool) → row.locked ≡ b → new.locked ≡ row.locked
   go true l = ap (λ r. r.locked) (settled-same locked taken unlocked row new h l)
@@ -123,12 +123,12 @@ red_step claimed1 claimed2 unlocked unlocked1 unlocked2 locked taken red asked s
 -- ---- a row that is settled, step by step
 
 pub settled_stops : (locked taken unlocked : TypeSet) (row : PayloadParams) (pt : Option ℕ) (cause : NegotiationError) → row.locked ≡ false → pt ≡ kept_or_free locked taken unlocked row.pt → ok_or pt Exhausted ≡ Err cause
-    → ◌≡◌ {A = Result PayloadParams NegotiationError} (Err cause) (settled locked taken unlocked row)
+    → ◌≡◌ {A = Result PayloadParams NegotiationError} (Err cause) (settled_row locked taken unlocked row)
 settled_stops locked taken unlocked row pt cause l k e = grind (arith, settled_if_open)
 
 pub settled_by : (locked taken unlocked : TypeSet) (row : PayloadParams) (pt : ℕ) (red : Option ℕ) (resend : Result (Option ℕ) NegotiationError) → row.locked ≡ false → Some pt ≡ kept_or_free locked taken unlocked row.pt
     → red ≡ kept_red locked (with_type taken pt) unlocked row.red → resend ≡ kept_rtx locked (with_option (with_type taken pt) red) unlocked row.resend
-    → and_then resend (λ new. Ok (record row { pt = pt; resend = new; red = red })) ≡ settled locked taken unlocked row
+    → and_then resend (λ new. Ok (record row { pt = pt; resend = new; red = red })) ≡ settled_row locked taken unlocked row
 settled_by locked taken unlocked row pt red resend l k r e = grind (arith, settled_if_open)
 
 pub record SecondState (unlocked : TypeSet) (mid rows : List PayloadParams) (i : ℕ) (claimed now_unlocked : TypeSet) : Type 0 where
@@ -146,17 +146,17 @@ pub serves_now : (unlocked : TypeSet) (mid rows : List PayloadParams) (i : ℕ) 
 serves_now unlocked mid rows i claimed now_unlocked s = grind arith
 
 pub second_step : (unlocked : TypeSet) (mid rows : List PayloadParams) (i : ℕ) (claimed now_unlocked claimed' now_unlocked' : TypeSet) (row new : PayloadParams)
-    → SecondState unlocked mid rows i claimed now_unlocked → i < length rows → row ≡ get_or rows i row → settled (has (locked_types mid)) (taken_after mid (take i rows)) now_unlocked row ≡ Ok new
+    → SecondState unlocked mid rows i claimed now_unlocked → i < length rows → row ≡ get_or rows i row → settled_row (has (locked_types mid)) (taken_after mid (take i rows)) now_unlocked row ≡ Ok new
     → Serves claimed' now_unlocked (has (locked_types mid)) (if row.locked then taken_after mid (take i rows) else either (taken_after mid (take i rows)) (has (types_of new))) → now_unlocked' ≡ now_unlocked
     → SecondState unlocked mid (set rows i new) (i + 1) claimed' now_unlocked'
 second_step unlocked mid rows i claimed now_unlocked claimed' now_unlocked' row new s h e p k u =
     let at_row = second_row unlocked mid rows i claimed now_unlocked row s h e in
     let there : length (take i rows) ≡ i = length-take-le i rows (omega arith) in
     let front : take i rows ++ new ∷ [] ≡ take (i + 1) (set rows i new) = sym (take_more_set rows i new h) in
-    let now : settled (has (locked_types mid)) (taken_after mid (take i rows)) unlocked row ≡ Ok new = ap (λ x. settled (has (locked_types mid)) (taken_after mid (take i rows)) x row) (sym s.unlocked_is) ∙ p in
+    let now : settled_row (has (locked_types mid)) (taken_after mid (take i rows)) unlocked row ≡ Ok new = ap (λ x. settled_row (has (locked_types mid)) (taken_after mid (take i rows)) x row) (sym s.unlocked_is) ∙ p in
     let Next : ℕ → Type 0 = λ n. slice_get mid n ≡ Some row in
-    let each = each_push (λ d r n. settled (has (locked_types mid)) (taken_after mid d) unlocked r ≡ Ok n) mid (take i rows) row new s.done.each (subst Next (sym there) at_row) now in
-    let Front : List PayloadParams → Type 0 = λ d. EachPlace (λ d r n. settled (has (locked_types mid)) (taken_after mid d) unlocked r ≡ Ok n) mid d in
+    let each = each_push (λ d r n. settled_row (has (locked_types mid)) (taken_after mid d) unlocked r ≡ Ok n) mid (take i rows) row new s.done.each (subst Next (sym there) at_row) now in
+    let Front : List PayloadParams → Type 0 = λ d. EachPlace (λ d r n. settled_row (has (locked_types mid)) (taken_after mid d) unlocked r ≡ Ok n) mid d in
     let Taken : TypeSet → Type 0 = λ taken. Serves claimed' unlocked (has (locked_types mid)) taken in
     let Unlocked : TypeSet → Type 0 = λ x. Serves claimed' x (has (locked_types mid)) (cond row.locked (taken_after mid (take i rows)) (either (taken_after mid (take i rows)) (has (types_of new)))) in
     record {
@@ -170,6 +170,6 @@ second_step unlocked mid rows i claimed now_unlocked claimed' now_unlocked' row 
     }
 
 pub second_stops : (unlocked : TypeSet) (mid rows : List PayloadParams) (i : ℕ) (claimed now_unlocked : TypeSet) (row : PayloadParams) (cause : NegotiationError)
-    → SecondState unlocked mid rows i claimed now_unlocked → i < length rows → row ≡ get_or rows i row → settled (has (locked_types mid)) (taken_after mid (take i rows)) now_unlocked row ≡ Err cause → StopsSettling unlocked mid cause
+    → SecondState unlocked mid rows i claimed now_unlocked → i < length rows → row ≡ get_or rows i row → settled_row (has (locked_types mid)) (taken_after mid (take i rows)) now_unlocked row ≡ Err cause → StopsSettling unlocked mid cause
 second_stops unlocked mid rows i claimed now_unlocked row cause s h e p =
     grind (arith, length-take-le i rows, second_row unlocked mid rows i claimed now_unlocked row s h e)

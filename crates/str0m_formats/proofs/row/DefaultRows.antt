@@ -9,7 +9,7 @@ use Rattle.str0m_formats.specs.declared.row.codec_config.CodecConfig.{CodecConfi
 use Rattle.str0m_formats.specs.declared.row.payload_params.PayloadParams.{PayloadParams}
 use Rattle.str0m_formats.specs.round.Claimed.{has, times, AllDistinct}
 use Rattle.str0m_formats.specs.round.MatchScore.{same_codec}
-use Rattle.str0m_formats.specs.row.DefaultRows.{default_rows, others, enabled_rows, IsDefault, AreDefault, Enables}
+use Rattle.str0m_formats.specs.row.DefaultRows.{default_rows, except, enabled_rows, IsDefault, AreDefault, Enables}
 use Rattle.str0m_formats.specs.row.PayloadParams.{types_of, types}
 
 -- the whole table, with its REDs
@@ -25,15 +25,15 @@ abbrev is_codec : Codec → Option PayloadParams → Bool
 is_codec codec None = false
 is_codec codec (Some row) = same_codec row.spec.codec codec
 
-abbrev codec_at : ℕ → Option PayloadParams
-codec_at t = find (λ row. row.pt == t) table
+abbrev default_at : ℕ → Option PayloadParams
+default_at t = find (λ row. row.pt == t) table
 
 -- what the table shows of a row: its type is the codec's, each type of it is its own, and stands there once
 abbrev Known : PayloadParams → Type 0
-Known row = (is_codec row.spec.codec (codec_at row.pt) ≡ true) × (list_all (λ t. row.pt == owner t) (types_of row) ≡ true) × (all_apart (types_of row) ≡ true)
+Known row = (is_codec row.spec.codec (default_at row.pt) ≡ true) × (list_all (λ t. row.pt == owner t) (types_of row) ≡ true) × (all_apart (types_of row) ≡ true)
 
 abbrev is_known : PayloadParams → Bool
-is_known row = is_codec row.spec.codec (codec_at row.pt) && (list_all (λ t. row.pt == owner t) (types_of row) && all_apart (types_of row))
+is_known row = is_codec row.spec.codec (default_at row.pt) && (list_all (λ t. row.pt == owner t) (types_of row) && all_apart (types_of row))
 
 known : (codec : Codec) (use_red : Bool) → list_all is_known (default_rows codec use_red) ≡ true
 known codec use_red = grind arith
@@ -42,7 +42,7 @@ abbrev primaries : List PayloadParams → List ℕ
 primaries rows = map (λ row. row.pt) rows
 
 -- the payload types of the rows of a codec are those of the codec, and differ
-once_new : (codec : Codec) (use_red : Bool) → (list_all (λ t. is_codec codec (codec_at t)) (primaries (default_rows codec use_red)) ≡ true) × (all_apart (primaries (default_rows codec use_red)) ≡ true)
+once_new : (codec : Codec) (use_red : Bool) → (list_all (λ t. is_codec codec (default_at t)) (primaries (default_rows codec use_red)) ≡ true) × (all_apart (primaries (default_rows codec use_red)) ≡ true)
 once_new codec use_red = grind arith
 
 rows_known : (rows : List PayloadParams) → list_all is_known rows ≡ true → AllByRecursion Known rows
@@ -58,38 +58,38 @@ all_known rows d = recursion_from_All Known rows (All-weaker IsDefault Known kno
 -- ---- distinct
 
 -- a type stands among the types of the rows no more often than the row that owns it among the rows
-owned : (rows : List PayloadParams) → AllByRecursion Known rows → (t : ℕ) → times (types rows) t ≤ times (primaries rows) (owner t)
-owned [] k t = omega arith
-owned (row ∷ rows) k t =
-    omega (arith, times-append (types_of row) (types rows) t, once_within (λ u. row.pt == owner u) (types_of row) k.0.1 k.0.2 t, times-cons row.pt (primaries rows) (owner t), owned rows k.1 t)
+owned_once : (rows : List PayloadParams) → AllByRecursion Known rows → (t : ℕ) → times (types rows) t ≤ times (primaries rows) (owner t)
+owned_once [] k t = omega arith
+owned_once (row ∷ rows) k t =
+    omega (arith, times-append (types_of row) (types rows) t, once_within (λ u. row.pt == owner u) (types_of row) k.0.1 k.0.2 t, times-cons row.pt (primaries rows) (owner t), owned_once rows k.1 t)
 
 default_distinct : (rows : List PayloadParams) → AreDefault rows → AllDistinct (types rows)
 default_distinct rows d t =
-    let o = owned rows (all_known rows d.each) t in
+    let o = owned_once rows (all_known rows d.each) t in
     let w = d.once (owner t) in
     omega arith
 
 -- ---- enabling
 
 -- no row of the codec is left among the others
-others_once : (codec : Codec) (rows : List PayloadParams) → AllByRecursion Known rows → (t : ℕ) → times (primaries (others codec rows)) t ≤ cond {A = ℕ} (is_codec codec (codec_at t)) 0 (times (primaries rows) t)
+others_once : (codec : Codec) (rows : List PayloadParams) → AllByRecursion Known rows → (t : ℕ) → times (primaries (except codec rows)) t ≤ cond {A = ℕ} (is_codec codec (default_at t)) 0 (times (primaries rows) t)
 others_once codec [] k t = omega arith
 others_once codec (row ∷ rows) k t =
-    step (same_codec row.spec.codec codec) (row.pt == t) (is_codec codec (codec_at t)) (λ e. of_row (eqb-true row.pt t e)) refl (others_once codec rows k.1 t)
+    step (same_codec row.spec.codec codec) (row.pt == t) (is_codec codec (default_at t)) (λ e. of_row (eqb-true row.pt t e)) refl (others_once codec rows k.1 t)
   where
     found : (o : Option PayloadParams) → is_codec row.spec.codec o ≡ true → is_codec codec o ≡ same_codec row.spec.codec codec
     found None e = absurd (true≢false (sym e))
     found (Some r) e = ap (λ c. same_codec c codec) ((codec_Decides r.spec.codec row.spec.codec).0 e)
 
-    of_row : row.pt ≡ t → is_codec codec (codec_at t) ≡ same_codec row.spec.codec codec
-    of_row same = sym (ap (λ u. is_codec codec (codec_at u)) same) ∙ found (codec_at row.pt) k.0.0
+    of_row : row.pt ≡ t → is_codec codec (default_at t) ≡ same_codec row.spec.codec codec
+    of_row same = sym (ap (λ u. is_codec codec (default_at u)) same) ∙ found (default_at row.pt) k.0.0
 
-    step : (b h i : Bool) → (h ≡ true → i ≡ b) → (row.pt == t) ≡ h → times (primaries (others codec rows)) t ≤ cond {A = ℕ} i 0 (times (primaries rows) t) → times (primaries (cond (not b) (row ∷ others codec rows) (others codec rows))) t ≤ cond {A = ℕ} i 0 (times (primaries (row ∷ rows)) t)
+    step : (b h i : Bool) → (h ≡ true → i ≡ b) → (row.pt == t) ≡ h → times (primaries (except codec rows)) t ≤ cond {A = ℕ} i 0 (times (primaries rows) t) → times (primaries (cond (not b) (row ∷ except codec rows) (except codec rows))) t ≤ cond {A = ℕ} i 0 (times (primaries (row ∷ rows)) t)
     step true h true own e l = l
     step true h false own e l = omega (arith, times-cons row.pt (primaries rows) t)
     step false true true own e l = absurd (true≢false (own refl))
-    step false false true own e l = omega (arith, times-cons row.pt (primaries (others codec rows)) t, one_if (row.pt == t) false e)
-    step false h false own e l = omega (arith, times-cons row.pt (primaries (others codec rows)) t, times-cons row.pt (primaries rows) t)
+    step false false true own e l = omega (arith, times-cons row.pt (primaries (except codec rows)) t, one_if (row.pt == t) false e)
+    step false h false own e l = omega (arith, times-cons row.pt (primaries (except codec rows)) t, times-cons row.pt (primaries rows) t)
 
 new_default : (codec : Codec) (use_red : Bool) → All IsDefault (default_rows codec use_red)
 new_default codec use_red =
@@ -99,13 +99,13 @@ once_both : (i : Bool) (a b n : ℕ) → a ≤ cond {A = ℕ} i 0 n → b ≤ co
 once_both i a b n h k l = grind arith
 
 -- rows of the codec come last
-put_last : (codec : Codec) (new rows : List PayloadParams) → All IsDefault new → ((t : ℕ) → times (primaries new) t ≤ cond {A = ℕ} (is_codec codec (codec_at t)) 1 0) → AreDefault rows → AreDefault (others codec rows ++ new)
+put_last : (codec : Codec) (new rows : List PayloadParams) → All IsDefault new → ((t : ℕ) → times (primaries new) t ≤ cond {A = ℕ} (is_codec codec (default_at t)) 1 0) → AreDefault rows → AreDefault (except codec rows ++ new)
 put_last codec new rows all once d = record {
-  each = All-append IsDefault (others codec rows) new (All-filter (λ row. not (same_codec row.spec.codec codec)) IsDefault rows d.each) all;
+  each = All-append IsDefault (except codec rows) new (All-filter (λ row. not (same_codec row.spec.codec codec)) IsDefault rows d.each) all;
   once = λ t.
-      let joined : times (primaries (others codec rows ++ new)) t ≡ times (primaries (others codec rows)) t + times (primaries new) t =
-      ap (λ ts. times ts t) (map-append (λ row. row.pt) (others codec rows) new) ∙ times-append (primaries (others codec rows)) (primaries new) t in
-      let both = once_both (is_codec codec (codec_at t)) (times (primaries (others codec rows)) t) (times (primaries new) t) (times (primaries rows) t) (others_once codec rows (all_known rows d.each) t) (once t) (d.once t) in
+      let joined : times (primaries (except codec rows ++ new)) t ≡ times (primaries (except codec rows)) t + times (primaries new) t =
+      ap (λ ts. times ts t) (map-append (λ row. row.pt) (except codec rows) new) ∙ times-append (primaries (except codec rows)) (primaries new) t in
+      let both = once_both (is_codec codec (default_at t)) (times (primaries (except codec rows)) t) (times (primaries new) t) (times (primaries rows) t) (others_once codec rows (all_known rows d.each) t) (once t) (d.once t) in
       omega arith;
 }
 
@@ -126,5 +126,5 @@ enables codec enabled use_red old new r ok err without distances =
     search (rules, default_stay r codec enabled use_red old new ok err, default_distinct new.params.items)
 
 -- what a call answers that takes the rows of a codec out and appends others
-pub put_ok : (r : Result (Unit {0}) AllocError) (codec : Codec) (old kept rows new : List PayloadParams) → kept ≡ others codec old → new ≡ (if is_ok r then kept ++ rows else kept) → OnOk r (new ≡ others codec old ++ rows)
+pub put_ok : (r : Result (Unit {0}) AllocError) (codec : Codec) (old kept rows new : List PayloadParams) → kept ≡ except codec old → new ≡ (if is_ok r then kept ++ rows else kept) → OnOk r (new ≡ except codec old ++ rows)
 put_ok r codec old kept rows new k e = grind arith

@@ -11,8 +11,8 @@ use Rattle.str0m_formats.specs.row.PayloadParams.{SameRow}
 abbrev Seen : Type 0
 Seen = ℕ × Option ℕ × Option ℕ × CodecSpec × Bool × Bool × Bool × Bool × Bool
 
-abbrev seen : PayloadParams → Seen
-seen r = (r.pt, r.resend, r.red, r.spec, r.fb_transport_cc, r.fb_fir, r.fb_nack, r.fb_pli, r.fb_remb)
+abbrev as_seen : PayloadParams → Seen
+as_seen r = (r.pt, r.resend, r.red, r.spec, r.fb_transport_cc, r.fb_fir, r.fb_nack, r.fb_pli, r.fb_remb)
 
 abbrev open_row : Seen → PayloadParams
 open_row s = record {
@@ -28,12 +28,13 @@ open_row s = record {
   locked = false;
 }
 
-abbrev parts : Equality Seen
-parts = hlevel (spec, equality)
+abbrev eq_seen : Equality Seen
+eq_seen = hlevel (spec, equality)
 
 pub row_Decides : (a b : PayloadParams) → Decides (row.eq-value.it a b) (SameRow a b)
 row_Decides a b =
-    Decides-like _ (λ (e : seen a ≡ seen b). ap open_row e) (λ (e : SameRow a b). ap seen e) (parts.decides (seen a) (seen b))
+    Decides-like _ (λ (e : as_seen a ≡ as_seen b). ap open_row e) (λ (e : SameRow a b). ap as_seen e)
+    (eq_seen.decides (as_seen a) (as_seen b))
 
 pub row_equivalence : IsEquivalence row.eq-value.it
 row_equivalence = equiv (record { symm = symmetric; trans = transitive }) (λ a. (row_Decides a a).1 refl)

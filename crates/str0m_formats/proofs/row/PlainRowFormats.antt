@@ -16,8 +16,8 @@ values row p h (field.Key k) = h.format.keys k
 values row p h field.TelephoneEvents = h.format.telephone_event_max
 values row p h f = each_some (IsWithin f) (get f row.spec.format) (λ x. tt)
 
-some_is : {A : Type 0} (o : Option A) → (o ≡ None) ⊎ (o ≢ None)
-some_is o = grind arith
+none_or_some : {A : Type 0} (o : Option A) → (o ≡ None) ⊎ (o ≢ None)
+none_or_some o = grind arith
 
 pub can_be_read_back : (row : PayloadParams) → IsPlain row → HoldsRowNumbers row → CanBeReadBack row.spec.format
-can_be_read_back row p h = grind (arith, some_is, values)
+can_be_read_back row p h = grind (arith, none_or_some, values)

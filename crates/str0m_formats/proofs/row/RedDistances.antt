@@ -25,15 +25,15 @@ kept_none given = refl
 increasing : (n : ℕ) → IsStrictlyIncreasing (range_with_len 1 n)
 increasing n k l = grind (arith, length-range_with_len, get_or-range_with_len)
 
-bounded : All (λ d. d ≤ 16) (range_with_len 1 16)
-bounded = search (rules, length-range_with_len, get_or-range_with_len)
+range_bounded : All (λ d. d ≤ 16) (range_with_len 1 16)
+range_bounded = search (rules, length-range_with_len, get_or-range_with_len)
 
 pub kept_distances : (given : List ℕ) → AreDistances (kept_to 16 given)
 unfolding kept_to
 kept_distances given = record {
   first = (filter (keeps given) (range_with_len 2 15), refl);
   increasing = IsStrictlyIncreasing-filter (keeps given) (range_with_len 1 16) (increasing 16);
-  bounded = All-filter (keeps given) (λ d. d ≤ 16) (range_with_len 1 16) bounded;
+  bounded = All-filter (keeps given) (λ d. d ≤ 16) (range_with_len 1 16) range_bounded;
 }
 
 -- ---- which numbers stand there
@@ -48,29 +48,29 @@ contains_kept p d xs = (
   λ c. Contains-from_any (λ x y e. eqb-true x y e) d (filter p xs) (any_filter p d xs ∙ and_from (p d) (list_any (λ x. d == x) xs) c.0 (list_any-from_Contains nat_eq_equiv d xs c.1)),
 )
 
-in_range : (d : ℕ) → 1 ≤ d → d ≤ 16 → Contains (range_with_len 1 16) d
-in_range d low high = (d - 1, omega (arith, length-range_with_len 1 16), get_or-range_with_len 1 16 (d - 1) d (omega arith) ∙ omega arith)
+range_has : (d : ℕ) → 1 ≤ d → d ≤ 16 → Contains (range_with_len 1 16) d
+range_has d low high = (d - 1, omega (arith, length-range_with_len 1 16), get_or-range_with_len 1 16 (d - 1) d (omega arith) ∙ omega arith)
 
 of_range : (d : ℕ) → Contains (range_with_len 1 16) d → (1 ≤ d) × (d ≤ 16)
 of_range d c = search (rules, length-range_with_len, get_or-range_with_len)
 
 -- a number that passes was given, or is 1
-passed : (given : List ℕ) (d : ℕ) → keeps given d ≡ true → (1 ≤ d) × (d ≤ 16) → IsKept given d
-passed given d e r = go (or_cases (d == 1) (list_any (λ g. d == g) given) e) where
+passed_kept : (given : List ℕ) (d : ℕ) → keeps given d ≡ true → (1 ≤ d) × (d ≤ 16) → IsKept given d
+passed_kept given d e r = go (or_cases (d == 1) (list_any (λ g. d == g) given) e) where
   go : ((d == 1) ≡ true) ⊎ (list_any (λ g. d == g) given ≡ true) → IsKept given d
   go (inl h) = inl (eqb-true d 1 h)
   go (inr h) = inr (Contains-from_any (λ x y i. eqb-true x y i) d given h, r.0, r.1)
 
-passes : (given : List ℕ) (d : ℕ) → IsKept given d → (keeps given d ≡ true) × (1 ≤ d) × (d ≤ 16)
-passes given d (inl h) = (or_left (d == 1) (list_any (λ g. d == g) given) (eq-eqb d 1 h), omega arith, omega arith)
-passes given d (inr h) = (or_right (d == 1) (list_any (λ g. d == g) given) (list_any-from_Contains nat_eq_equiv d given h.0), h.1, h.2)
+kept_passes : (given : List ℕ) (d : ℕ) → IsKept given d → (keeps given d ≡ true) × (1 ≤ d) × (d ≤ 16)
+kept_passes given d (inl h) = (or_left (d == 1) (list_any (λ g. d == g) given) (eq-eqb d 1 h), omega arith, omega arith)
+kept_passes given d (inr h) = (or_right (d == 1) (list_any (λ g. d == g) given) (list_any-from_Contains nat_eq_equiv d given h.0), h.1, h.2)
 
 pub are_kept : (given : List ℕ) → AreKept given (kept_to 16 given)
 unfolding kept_to
 are_kept given = record {
   each = λ d. (
-    λ c. let k = (contains_kept (keeps given) d (range_with_len 1 16)).0 c in passed given d k.0 (of_range d k.1),
-    λ k. let p = passes given d k in (contains_kept (keeps given) d (range_with_len 1 16)).1 (p.0, in_range d p.1 p.2),
+    λ c. let k = (contains_kept (keeps given) d (range_with_len 1 16)).0 c in passed_kept given d k.0 (of_range d k.1),
+    λ k. let p = kept_passes given d k in (contains_kept (keeps given) d (range_with_len 1 16)).1 (p.0, range_has d p.1 p.2),
   );
   increasing = IsStrictlyIncreasing-filter (keeps given) (range_with_len 1 16) (increasing 16);
 }

@@ -30,39 +30,39 @@ pub data Rule : Type 0 where
 -- of each codec: its name in rtpmap lines; what it carries; the payload type that stands for it without a mapping, with the rate
 -- in Hz at which it samples then (RFC 3551, section 6); its clock rate in RTP, where that is another than the sampling rate, as it
 -- is for historical reasons (RFC 3551, section 4.5.2); its rule
-abbrev pub codec_row : Codec → List ℕ × Content × Option (ℕ × ℕ) × Option ℕ × Rule
-codec_row Opus = (codes "opus", audio, None, None, by_flags)
-codec_row PCMU = (codes "PCMU", audio, Some (0, 8000), None, by_equality)
-codec_row PCMA = (codes "PCMA", audio, Some (8, 8000), None, by_equality)
-codec_row G722 = (codes "G722", audio, Some (9, 16000), Some 8000, by_equality)
-codec_row CN = (codes "CN", audio, Some (13, 8000), None, by_equality)
-codec_row AmrWb = (codes "AMR-WB", audio, None, None, by_modes)
-codec_row H264 = (codes "H264", video, None, None, by_level)
-codec_row H265 = (codes "H265", video, None, None, by_h265)
-codec_row H266 = (codes "H266", video, None, None, by_h266)
-codec_row Vp8 = (codes "VP8", video, None, None, by_equality)
-codec_row Vp9 = (codes "VP9", video, None, None, by_profile)
-codec_row Av1 = (codes "AV1", video, None, None, by_av1)
-codec_row Tele = (codes "telephone-event", events, None, None, by_events)
-codec_row Rtx = (codes "rtx", other, None, None, by_equality)
-codec_row Red = (codes "red", other, None, None, by_equality)
-codec_row Null = (codes "null", other, None, None, by_equality)
-codec_row Unknown = (codes "unknown", other, None, None, by_equality)
+abbrev pub codec_entry : Codec → List ℕ × Content × Option (ℕ × ℕ) × Option ℕ × Rule
+codec_entry Opus = (codes "opus", audio, None, None, by_flags)
+codec_entry PCMU = (codes "PCMU", audio, Some (0, 8000), None, by_equality)
+codec_entry PCMA = (codes "PCMA", audio, Some (8, 8000), None, by_equality)
+codec_entry G722 = (codes "G722", audio, Some (9, 16000), Some 8000, by_equality)
+codec_entry CN = (codes "CN", audio, Some (13, 8000), None, by_equality)
+codec_entry AmrWb = (codes "AMR-WB", audio, None, None, by_modes)
+codec_entry H264 = (codes "H264", video, None, None, by_level)
+codec_entry H265 = (codes "H265", video, None, None, by_h265)
+codec_entry H266 = (codes "H266", video, None, None, by_h266)
+codec_entry Vp8 = (codes "VP8", video, None, None, by_equality)
+codec_entry Vp9 = (codes "VP9", video, None, None, by_profile)
+codec_entry Av1 = (codes "AV1", video, None, None, by_av1)
+codec_entry Tele = (codes "telephone-event", events, None, None, by_events)
+codec_entry Rtx = (codes "rtx", other, None, None, by_equality)
+codec_entry Red = (codes "red", other, None, None, by_equality)
+codec_entry Null = (codes "null", other, None, None, by_equality)
+codec_entry Unknown = (codes "unknown", other, None, None, by_equality)
 
 abbrev pub codec_text : Codec → List ℕ
-codec_text codec = (codec_row codec).0
+codec_text codec = (codec_entry codec).0
 
 abbrev pub content : Codec → Content
-content codec = (codec_row codec).1
+content codec = (codec_entry codec).1
 
-abbrev pub static_row : Codec → Option (ℕ × ℕ)
-static_row codec = (codec_row codec).2
+abbrev pub static_entry : Codec → Option (ℕ × ℕ)
+static_entry codec = (codec_entry codec).2
 
 abbrev pub rtp_clock : Codec → Option ℕ
-rtp_clock codec = (codec_row codec).3
+rtp_clock codec = (codec_entry codec).3
 
 abbrev pub codec_rule : Codec → Rule
-codec_rule codec = (codec_row codec).4
+codec_rule codec = (codec_entry codec).4
 
 -- whether the codec is AMR-WB
 abbrev pub is_amr_wb : Codec → Bool

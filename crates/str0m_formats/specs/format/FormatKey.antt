@@ -6,11 +6,11 @@ use Rattle.str0m_formats.specs.declared.format.format_key.FormatKey.TheVariants.
 use Rattle.str0m_formats.specs.declared.format.format_key.TheConstants.{KEYS}
 use denote.Enum.Bare.{sameb}
 
--- the text in the row of the key
-abbrev row_text : FormatKey → List ℕ
-row_text key = unwrap_or (option_map (λ row. row.1.now) (find (λ row. sameb format_key.the_type row.0 key) KEYS)) []
+-- the text that the table has of the key
+abbrev key_entry_text : FormatKey → List ℕ
+key_entry_text key = unwrap_or (option_map (λ it. it.1.now) (find (λ it. sameb format_key.the_type it.0 key) KEYS)) []
 
 -- the same by cases, so that it computes at each key and at no variable
 abbrev pub key_text : FormatKey → List ℕ
-key_text Apt = row_text Apt
-key_text key = row_text key
+key_text Apt = key_entry_text Apt
+key_text key = key_entry_text key

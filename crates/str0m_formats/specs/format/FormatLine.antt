@@ -50,9 +50,9 @@ pub record IsFormatOfLine (line : List ℕ) (p : FormatParams) : Type 0 where
 
 -- ---- the fmtp lines of a payload type
 
-unfoldable pub is_events : FormatParam → Bool
-is_events (TelephoneEvents n) = true
-is_events _ = false
+unfoldable pub is_event : FormatParam → Bool
+is_event (TelephoneEvents n) = true
+is_event _ = false
 
 unfoldable pub is_unsupported : FormatParam → Bool
 is_unsupported AmrWbUnsupported = true
@@ -71,7 +71,7 @@ events_end _ = None
 
 -- the values without ranges of events
 abbrev pub kept : List FormatParam → List FormatParam
-kept params = filter (λ param. not (is_events param)) params
+kept params = filter (λ param. not (is_event param)) params
 
 -- the values of all lines, without ranges of events
 abbrev pub values_of : List (List FormatParam) → List FormatParam
@@ -79,13 +79,13 @@ values_of [] = []
 values_of (line ∷ lines) = kept line ++ values_of lines
 
 -- whether a line of AMR-WB asks for what isn't there
-unfoldable pub is_refused : Codec → List (List FormatParam) → Bool
-is_refused codec lines = is_amr_wb codec && list_any (λ line. list_any is_unsupported line) lines
+unfoldable pub asks_absent : Codec → List (List FormatParam) → Bool
+asks_absent codec lines = is_amr_wb codec && list_any (λ line. list_any is_unsupported line) lines
 
 -- the format that the lines say of the codec, where they don't ask for what isn't there
 abbrev pub format_of_fmtp : Codec → List (List FormatParam) → Option FormatParams
 format_of_fmtp Tele lines = option_map (λ max. record empty { telephone_event_max = Some max }) (events_end lines)
-format_of_fmtp codec lines = if is_refused codec lines then None else Some (set_all empty (values_of lines))
+format_of_fmtp codec lines = if asks_absent codec lines then None else Some (set_all empty (values_of lines))
 
 -- lines without where they lie in memory
 abbrev pub line_values : List (Bor (List FormatParam)) → List (List FormatParam)

@@ -34,33 +34,33 @@ Held kind = ℕ
 
 -- The table of the keys: the kind of each one's values, and the parameter that holds such a value. The last four ask for what
 -- isn't there of AMR-WB (RFC 4867, section 8.2).
-abbrev pub key_row : FormatKey → (kind : Kind) × (Held kind → FormatParam)
-key_row key.MinPTime = (number 255, MinPTime)
-key_row key.Stereo = (flag, Stereo)
-key_row key.SpropStereo = (flag, SpropStereo)
-key_row key.UseInbandFec = (flag, UseInbandFec)
-key_row key.UseDtx = (flag, UseDtx)
-key_row key.LevelAsymmetryAllowed = (flag, LevelAsymmetryAllowed)
-key_row key.PacketizationMode = (number 255, PacketizationMode)
-key_row key.ProfileLevelId = (hex, ProfileLevelId)
-key_row key.ProfileId = (number 4294967295, ProfileId)
-key_row key.Profile = (number 255, Profile)
-key_row key.LevelIdx = (number 255, LevelIdx)
-key_row key.Tier = (number 255, Tier)
-key_row key.SpropMaxDonDiff = (number 32767, SpropMaxDonDiff)
-key_row key.OctetAlign = (flag, OctetAlign)
-key_row key.ModeSet = (modes, ModeSet)
-key_row key.Apt = (number 255, Apt)
-key_row key.Crc = (exactly (codes "1"), λ x. AmrWbUnsupported)
-key_row key.RobustSorting = (exactly (codes "1"), λ x. AmrWbUnsupported)
-key_row key.ModeChangePeriod = (exactly (codes "2"), λ x. AmrWbUnsupported)
-key_row key.Interleaving = (anything, λ x. AmrWbUnsupported)
+abbrev pub key_entry : FormatKey → (kind : Kind) × (Held kind → FormatParam)
+key_entry key.MinPTime = (number 255, MinPTime)
+key_entry key.Stereo = (flag, Stereo)
+key_entry key.SpropStereo = (flag, SpropStereo)
+key_entry key.UseInbandFec = (flag, UseInbandFec)
+key_entry key.UseDtx = (flag, UseDtx)
+key_entry key.LevelAsymmetryAllowed = (flag, LevelAsymmetryAllowed)
+key_entry key.PacketizationMode = (number 255, PacketizationMode)
+key_entry key.ProfileLevelId = (hex, ProfileLevelId)
+key_entry key.ProfileId = (number 4294967295, ProfileId)
+key_entry key.Profile = (number 255, Profile)
+key_entry key.LevelIdx = (number 255, LevelIdx)
+key_entry key.Tier = (number 255, Tier)
+key_entry key.SpropMaxDonDiff = (number 32767, SpropMaxDonDiff)
+key_entry key.OctetAlign = (flag, OctetAlign)
+key_entry key.ModeSet = (modes, ModeSet)
+key_entry key.Apt = (number 255, Apt)
+key_entry key.Crc = (exactly (codes "1"), λ x. AmrWbUnsupported)
+key_entry key.RobustSorting = (exactly (codes "1"), λ x. AmrWbUnsupported)
+key_entry key.ModeChangePeriod = (exactly (codes "2"), λ x. AmrWbUnsupported)
+key_entry key.Interleaving = (anything, λ x. AmrWbUnsupported)
 
 abbrev pub kind : FormatKey → Kind
-kind key = (key_row key).0
+kind key = (key_entry key).0
 
-abbrev pub made : (key : FormatKey) → Held (kind key) → FormatParam
-made key = (key_row key).1
+abbrev pub keyed : (key : FormatKey) → Held (kind key) → FormatParam
+keyed key = (key_entry key).1
 
 -- the key and the value of each parameter that is written `key=value`
 abbrev pub entry : FormatParam → Option ((key : FormatKey) × Held (kind key))
@@ -102,21 +102,21 @@ unfoldable pub IsModeSet : List ℕ → ℕ → Type 0
 IsModeSet text mask = IsMask (slice_split (λ b. b == 44) text) mask
 
 -- how each value reads: a flag is true exactly for `1`
-abbrev pub Reads : (kind : Kind) → List ℕ → Held kind → Type 0
-Reads flag text b = IsTrue b ↔ (text ≡ codes "1")
-Reads (number limit) text n = IsNum limit text n
-Reads hex text n = IsHexElseDecimal text n
-Reads modes text mask = IsModeSet text mask
-Reads (exactly own) text x = text ≡ own
-Reads anything text x = Unit {0}
+abbrev pub ReadsKind : (kind : Kind) → List ℕ → Held kind → Type 0
+ReadsKind flag text b = IsTrue b ↔ (text ≡ codes "1")
+ReadsKind (number limit) text n = IsNum limit text n
+ReadsKind hex text n = IsHexElseDecimal text n
+ReadsKind modes text mask = IsModeSet text mask
+ReadsKind (exactly own) text x = text ≡ own
+ReadsKind anything text x = Unit {0}
 
 -- the value after the key spells the parameter
-abbrev pub Holds : FormatKey → List ℕ → FormatParam → Type 0
-Holds key text param = (x : Held (kind key)) × (param ≡ made key x) × Reads (kind key) text x
+abbrev pub HoldsValue : FormatKey → List ℕ → FormatParam → Type 0
+HoldsValue key text param = (x : Held (kind key)) × (param ≡ keyed key x) × ReadsKind (kind key) text x
 
 -- the key and the value spell the parameter
 abbrev pub Spells : List ℕ × List ℕ → FormatParam → Type 0
-Spells pair param = (key : FormatKey) × IsSameText pair.0 (key_text key) × Holds key pair.1 param
+Spells pair param = (key : FormatKey) × IsSameText pair.0 (key_text key) × HoldsValue key pair.1 param
 
 abbrev pub IsUnknown : {A : Type 0} → A → FormatParam → Type 0
 IsUnknown text param = param ≡ Unknown

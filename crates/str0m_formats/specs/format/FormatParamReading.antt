@@ -11,7 +11,7 @@ use Rattle.str0m_formats.specs.declared.format.format_key.TheConstants.{KEYS}
 use Rattle.str0m_formats.specs.declared.format.format_param.FormatParam.{FormatParam}
 use Rattle.str0m_formats.specs.declared.format.format_param.FormatParam.TheVariants.{TelephoneEvents, Unknown}
 use Rattle.str0m_formats.specs.format.FormatKey.{key_text}
-use Rattle.str0m_formats.specs.format.FormatParam.{Kind, flag, number, hex, modes, exactly, anything, Held, kind, made}
+use Rattle.str0m_formats.specs.format.FormatParam.{Kind, flag, number, hex, modes, exactly, anything, Held, kind, keyed}
 
 abbrev pub all_digits : ℕ → List ℕ → Bool
 all_digits radix [] = true
@@ -34,7 +34,7 @@ unfoldable pub modes_read : List ℕ → Option ℕ
 modes_read text = modes_from 0 (slice_split (λ b. b == 44) text)
 
 abbrev pub keys : List FormatKey
-keys = map (λ row. row.0) KEYS
+keys = map (λ it. it.0) KEYS
 
 unfoldable pub key_read : List ℕ → Option FormatKey
 key_read text = find (λ key. str_eq_ignore_ascii_case text (key_text key)) keys
@@ -53,7 +53,7 @@ kind_read anything text = Some (tt {0})
 
 -- the parameter of a value after a key, by cases, so that it computes at each key and at no variable
 abbrev param_read : FormatKey → List ℕ → Option FormatParam
-param_read key text = option_map (made key) (kind_read (kind key) text)
+param_read key text = option_map (keyed key) (kind_read (kind key) text)
 
 abbrev pub value_read : FormatKey → List ℕ → Option FormatParam
 value_read Apt text = param_read Apt text

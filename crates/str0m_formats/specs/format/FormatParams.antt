@@ -9,19 +9,19 @@ use Rattle.str0m_formats.specs.declared.format.format_params.Field.{Field}
 use Rattle.str0m_formats.specs.declared.format.format_params.Field.TheVariants as field
 use Rattle.str0m_formats.specs.declared.format.format_params.FormatParams.{FormatParams}
 use Rattle.str0m_formats.specs.declared.format.format_params.TheConstants.{FIELDS}
-use Rattle.str0m_formats.specs.format.FormatParam.{Held, kind, made, entry, InRange, param_text}
+use Rattle.str0m_formats.specs.format.FormatParam.{Held, kind, keyed, entry, InRange, param_text}
 use Rattle.str0m_values.specs.H265.{H265ProfileTierLevel as h265_triple}
 use Rattle.str0m_values.specs.H266.{H266ProfileTierLevel as h266_triple}
 
 -- what the field of a format holds: the value of its key, a profile, tier and level, or the highest event
-abbrev pub Content : Field → Type 0
-Content (field.Key key) = Held (kind key)
-Content field.H265ProfileTierLevel = h265_triple
-Content field.H266ProfileTierLevel = h266_triple
-Content field.TelephoneEvents = ℕ
+abbrev pub FieldContent : Field → Type 0
+FieldContent (field.Key key) = Held (kind key)
+FieldContent field.H265ProfileTierLevel = h265_triple
+FieldContent field.H266ProfileTierLevel = h266_triple
+FieldContent field.TelephoneEvents = ℕ
 
 -- what the field holds; a key without a field holds nothing
-abbrev pub get : (field : Field) → FormatParams → Option (Content field)
+abbrev pub get : (field : Field) → FormatParams → Option (FieldContent field)
 get (field.Key key.MinPTime) p = p.min_p_time
 get (field.Key key.Stereo) p = p.stereo
 get (field.Key key.SpropStereo) p = p.sprop_stereo
@@ -43,7 +43,7 @@ get field.TelephoneEvents p = p.telephone_event_max
 get f p = None
 
 -- the format with this in the field
-abbrev pub put : (field : Field) → Option (Content field) → FormatParams → FormatParams
+abbrev pub put : (field : Field) → Option (FieldContent field) → FormatParams → FormatParams
 put (field.Key key.MinPTime) o p = record p { min_p_time = o }
 put (field.Key key.Stereo) o p = record p { stereo = o }
 put (field.Key key.SpropStereo) o p = record p { sprop_stereo = o }
@@ -65,8 +65,8 @@ put field.TelephoneEvents o p = record p { telephone_event_max = o }
 put f o p = p
 
 -- the parameter of what the field holds
-abbrev pub param_in : (field : Field) → Content field → FormatParam
-param_in (field.Key key) x = made key x
+abbrev pub param_in : (field : Field) → FieldContent field → FormatParam
+param_in (field.Key key) x = keyed key x
 param_in field.H265ProfileTierLevel t = H265ProfileTierLevel t
 param_in field.H266ProfileTierLevel t = H266ProfileTierLevel t
 param_in field.TelephoneEvents n = TelephoneEvents n
@@ -107,7 +107,7 @@ unfoldable pub params_text : FormatParams → List ℕ
 params_text p = join_with_byte 59 (map param_text (params_of p))
 
 -- what the field holds reads back as it prints
-abbrev pub IsWithin : (field : Field) → Content field → Type 0
+abbrev pub IsWithin : (field : Field) → FieldContent field → Type 0
 IsWithin (field.Key key) x = InRange (kind key) x
 IsWithin field.TelephoneEvents n = n ≤ 255
 IsWithin f x = Unit {0}

@@ -4,8 +4,8 @@ use Rattle.std.specs.List.{cons_option}
 use Rattle.std.specs.Prelude.{ℕ, String, List, map, Option, Some, None, option_map, if◌then◌else◌, string_bytes}
 use Rattle.str0m_formats.specs.Prelude.{num, ◌<|>◌, ◌>>=◌}
 pub use Rattle.str0m_values.specs.CutsParts.{lay}
-pub use Rattle.str0m_values.specs.H265.{tables as h265_tables}
-pub use Rattle.str0m_values.specs.H266.{tables as h266_tables}
+pub use Rattle.str0m_values.specs.H265.{h265_tables}
+pub use Rattle.str0m_values.specs.H266.{h266_tables}
 pub use Rattle.str0m_values.specs.ProfileTierLevel.{Tables}
 use Rattle.str0m_formats.specs.Prelude.{ProfileTierLevel, value_in}
 use Rattle.str0m_formats.specs.declared.format.format_param.FormatParam.{FormatParam}
@@ -20,14 +20,14 @@ given_read default None = Some default
 given_read default (Some text) = num 255 text
 
 -- the value of a table beside the number of the text
-abbrev pub row_read : {A : Type 0} → List (A × ℕ) → ℕ → Option (List ℕ) → Option A
-row_read rows default text = given_read default text >>= λ n. value_in rows n
+abbrev pub table_read : {A : Type 0} → List (A × ℕ) → ℕ → Option (List ℕ) → Option A
+table_read rows default text = given_read default text >>= λ n. value_in rows n
 
 unfoldable pub read_triple : {P T L : Type 0} → Tables P T L → Texts → Option (ProfileTierLevel P T L)
 read_triple tables texts = do
-  profile ← row_read tables.profiles tables.defaults.0 texts.0
-  tier ← row_read tables.tiers tables.defaults.1 texts.1
-  level ← row_read tables.levels tables.defaults.2 texts.2
+  profile ← table_read tables.profiles tables.defaults.0 texts.0
+  tier ← table_read tables.tiers tables.defaults.1 texts.1
+  level ← table_read tables.levels tables.defaults.2 texts.2
   Some (record { profile = profile; tier = tier; level = level })
 
 abbrev pub triple_read : Texts → Option FormatParam

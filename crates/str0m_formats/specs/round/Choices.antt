@@ -23,8 +23,8 @@ IsChoice points rows (Some best) = IsBest points rows best
 IsChoice points rows None = All (λ row. points row ≡ None) rows
 
 -- the best row so far, with its score, as it is seen
-abbrev pub seen : Option (Bor PayloadParams × ℕ) → Option (PayloadParams × ℕ)
-seen so_far = option_map (λ it. (it.0.now, it.1)) so_far
+abbrev pub seen_best : Option (Bor PayloadParams × ℕ) → Option (PayloadParams × ℕ)
+seen_best so_far = option_map (λ it. (it.0.now, it.1)) so_far
 
 -- the best row so far, with its score, once one row more was seen: one of the same score takes its place
 abbrev pub better : Option (PayloadParams × ℕ) → PayloadParams → Option ℕ → Option (PayloadParams × ℕ)

@@ -104,10 +104,10 @@ abbrev pub h266_triple : H266ProfileTierLevel → ProfileNumbers
 h266_triple t = profile_numbers h266.profile_id h266.tier_flag h266.level_ordinal t
 
 -- the profile: that of the triple, else the last byte of the profile id, else 1
-abbrev pub profile_of : Option ProfileNumbers → Option ℕ → ℕ
-profile_of (Some triple) id = triple.profile
-profile_of None (Some id) = id % 2 ^ 8
-profile_of None None = 1
+abbrev pub profile_number : Option ProfileNumbers → Option ℕ → ℕ
+profile_number (Some triple) id = triple.profile
+profile_number None (Some id) = id % 2 ^ 8
+profile_number None None = 1
 
 abbrev pub triple_score : ProfileNumbers → ProfileNumbers → Option ℕ
 triple_score x y = level_score (x.profile == y.profile && x.tier == y.tier) x.level y.level
@@ -115,7 +115,7 @@ triple_score x y = level_score (x.profile == y.profile && x.tier == y.tier) x.le
 -- by each side's triple, and each side's profile id
 abbrev pub profile_score : Option ProfileNumbers → Option ProfileNumbers → Option ℕ → Option ℕ → Option ℕ
 profile_score (Some x) (Some y) _ _ = triple_score x y
-profile_score x y m n = when (profile_of x m == profile_of y n) 90
+profile_score x y m n = when (profile_number x m == profile_number y n) 90
 
 -- of two formats, by how a codec's triple counts
 abbrev pub tiered_score : (FormatParams → Option ProfileNumbers) → FormatParams → FormatParams → Option ℕ

@@ -95,8 +95,8 @@ kept_rtx locked taken unlocked None = Ok None
 kept_rtx locked taken unlocked (Some t) = and_then (ok_or (kept_or_free locked taken unlocked t) Exhausted) (λ new. Ok (Some new))
 
 -- a row after the second pass: primary, RED, RTX in this order. Each type that it has then counts as taken for the next
-unfoldable pub settled : TypeSet → TypeSet → TypeSet → PayloadParams → Result PayloadParams NegotiationError
-settled locked taken unlocked row =
+unfoldable pub settled_row : TypeSet → TypeSet → TypeSet → PayloadParams → Result PayloadParams NegotiationError
+settled_row locked taken unlocked row =
     if row.locked then Ok row else
     and_then (ok_or (kept_or_free locked taken unlocked row.pt) Exhausted) (λ pt.
     let taken1 = with_type taken pt in
@@ -114,7 +114,7 @@ taken_after mid done = has (locked_types mid ++ open_types done)
 pub record Settled (unlocked : TypeSet) (mid done : List PayloadParams) : Type 0 where
   pub within : length done ≤ length mid
   pub each : (i : ℕ) (row new : PayloadParams) → slice_get mid i ≡ Some row → slice_get done i ≡ Some new
-      → settled (has (locked_types mid)) (taken_after mid (take i done)) unlocked row ≡ Ok new
+      → settled_row (has (locked_types mid)) (taken_after mid (take i done)) unlocked row ≡ Ok new
 
 -- an open row can't be settled, and each row before it was done
 pub record StopsSettling (unlocked : TypeSet) (mid : List PayloadParams) (cause : NegotiationError) : Type 0 where
@@ -122,7 +122,7 @@ pub record StopsSettling (unlocked : TypeSet) (mid : List PayloadParams) (cause 
   pub before_it : Settled unlocked mid done
   pub row : PayloadParams
   pub next : slice_get mid (length done) ≡ Some row
-  pub stops : settled (has (locked_types mid)) (taken_after mid done) unlocked row ≡ Err cause
+  pub stops : settled_row (has (locked_types mid)) (taken_after mid done) unlocked row ≡ Err cause
 
 -- ---- A round
 

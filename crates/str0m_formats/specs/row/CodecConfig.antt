@@ -19,12 +19,12 @@ use Rattle.str0m_values.specs.H265 as h265
 use Rattle.str0m_values.specs.H266 as h266
 
 -- a video codec: at 90000 Hz, and without channels
-abbrev pub picture_spec : Codec → FormatParams → CodecSpec
-picture_spec codec format = record { codec = codec; clock_rate = 90000; channels = None; format = format }
+abbrev pub video_spec : Codec → FormatParams → CodecSpec
+video_spec codec format = record { codec = codec; clock_rate = 90000; channels = None; format = format }
 
 -- a row of H264, whose levels may differ in the two directions (RFC 6184, section 8.1)
 abbrev pub h264_row : ℕ → Option ℕ → Bool → ℕ → PayloadParams
-h264_row pt resend packetization_mode profile_level_id = new_row pt resend (picture_spec H264 (record empty {
+h264_row pt resend packetization_mode profile_level_id = new_row pt resend (video_spec H264 (record empty {
   level_asymmetry_allowed = Some true;
   packetization_mode = Some (if packetization_mode then 1 else 0);
   profile_level_id = Some profile_level_id;
@@ -32,11 +32,11 @@ h264_row pt resend packetization_mode profile_level_id = new_row pt resend (pict
 
 -- a row of H265 (RFC 7798, section 7.1)
 abbrev pub h265_row : ℕ → Option ℕ → H265ProfileTierLevel → PayloadParams
-h265_row pt resend triple = new_row pt resend (picture_spec H265 (record empty { h265_profile_tier_level = Some triple }))
+h265_row pt resend triple = new_row pt resend (video_spec H265 (record empty { h265_profile_tier_level = Some triple }))
 
 -- a row of H266 (RFC 9328, section 7.2)
 abbrev pub h266_row : ℕ → Option ℕ → H266ProfileTierLevel → PayloadParams
-h266_row pt resend triple = new_row pt resend (picture_spec H266 (record empty { h266_profile_tier_level = Some triple }))
+h266_row pt resend triple = new_row pt resend (video_spec H266 (record empty { h266_profile_tier_level = Some triple }))
 
 -- the value that some numbers stand for, or where they stand for none, the one that stands in
 pub record IsThatOr {A : Type 0} (P otherwise : A → Type 0) (value : A) : Type 0 where

@@ -7,19 +7,19 @@ use Rattle.str0m_formats.specs.codec.CodecSpec.{rtp_rate}
 use Rattle.str0m_formats.specs.declared.row.kind_rows.KindRows.{KindRows}
 use Rattle.str0m_formats.specs.declared.row.payload_params.PayloadParams.{PayloadParams}
 use Rattle.str0m_formats.specs.round.Choices.{has_events}
-use Rattle.str0m_formats.specs.row.PayloadParams.{has_pictures}
+use Rattle.str0m_formats.specs.row.PayloadParams.{has_video}
 use Rattle.str0m_values.specs.declared.media_kind.MediaKind.TheVariants.{Audio, Video}
 
-abbrev pub has_sound : Content → Bool
-has_sound audio = true
-has_sound _ = false
+abbrev pub has_audio : Content → Bool
+has_audio audio = true
+has_audio _ = false
 
 -- whether a row carries audio, video, telephone events
-abbrev pub is_sound : PayloadParams → Bool
-is_sound row = has_sound (content row.spec.codec)
+abbrev pub is_audio : PayloadParams → Bool
+is_audio row = has_audio (content row.spec.codec)
 
-abbrev pub is_pictures : PayloadParams → Bool
-is_pictures row = has_pictures (content row.spec.codec)
+abbrev pub is_video : PayloadParams → Bool
+is_video row = has_video (content row.spec.codec)
 
 abbrev pub is_events : PayloadParams → Bool
 is_events row = has_events (content row.spec.codec)
@@ -29,7 +29,7 @@ abbrev pub rate_of : PayloadParams → ℕ
 rate_of row = rtp_rate row.spec.codec row.spec.clock_rate
 
 abbrev pub shares_rate : List PayloadParams → PayloadParams → Bool
-shares_rate rows row = list_any (λ other. is_sound other && rate_of other == rate_of row) rows
+shares_rate rows row = list_any (λ other. is_audio other && rate_of other == rate_of row) rows
 
 -- whether some row of events does so
 abbrev pub some_share_rate : List PayloadParams → Bool
@@ -40,14 +40,14 @@ abbrev pub is_narrowed : Bool → List PayloadParams → Bool
 is_narrowed for_new_offer rows = for_new_offer && some_share_rate rows
 
 -- whether a row stands in a section of the kind
-abbrev pub is_listed : MediaKind → Bool → List PayloadParams → PayloadParams → Bool
-is_listed Video narrowed rows row = is_pictures row
-is_listed Audio narrowed rows row = is_sound row || (is_events row && (not narrowed || shares_rate rows row))
+abbrev pub is_in_kind : MediaKind → Bool → List PayloadParams → PayloadParams → Bool
+is_in_kind Video narrowed rows row = is_video row
+is_in_kind Audio narrowed rows row = is_audio row || (is_events row && (not narrowed || shares_rate rows row))
 
 -- the rows of a kind, in order
 abbrev pub kind_rows : MediaKind → Bool → List PayloadParams → List PayloadParams
-kind_rows kind for_new_offer rows = filter (is_listed kind (is_narrowed for_new_offer rows) rows) rows
+kind_rows kind for_new_offer rows = filter (is_in_kind kind (is_narrowed for_new_offer rows) rows) rows
 
 -- the rows that are still to come
 abbrev pub rows_left : KindRows → List PayloadParams
-rows_left s = filter (is_listed s.kind s.narrowed s.all.now) s.rest.now
+rows_left s = filter (is_in_kind s.kind s.narrowed s.all.now) s.rest.now

@@ -7,9 +7,9 @@ use Rattle.str0m_formats.specs.declared.row.payload_params.PayloadParams.{Payloa
 use Rattle.str0m_formats.specs.format.FormatParams.{empty}
 
 -- whether it carries video
-abbrev pub has_pictures : Content → Bool
-has_pictures video = true
-has_pictures _ = false
+abbrev pub has_video : Content → Bool
+has_video video = true
+has_video _ = false
 
 -- a row that isn't locked: feedback of video where the codec carries it, and no RED
 abbrev pub new_row : ℕ → Option ℕ → CodecSpec → PayloadParams
@@ -19,10 +19,10 @@ new_row pt resend spec = record {
   red = None;
   spec = spec;
   fb_transport_cc = true;
-  fb_fir = has_pictures (content spec.codec);
-  fb_nack = has_pictures (content spec.codec);
-  fb_pli = has_pictures (content spec.codec);
-  fb_remb = has_pictures (content spec.codec);
+  fb_fir = has_video (content spec.codec);
+  fb_nack = has_video (content spec.codec);
+  fb_pli = has_video (content spec.codec);
+  fb_remb = has_video (content spec.codec);
   locked = false;
 }
 

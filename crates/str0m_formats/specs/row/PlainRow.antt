@@ -13,7 +13,7 @@ abbrev pub IsPlainG722 : CodecSpec → Type 0
 IsPlainG722 spec = (spec.clock_rate ≡ 16000) × (spec.channels ≢ Some 1)
 
 -- the feedback that every video row has: NACK and PLI (RFC 4585, section 4.2), FIR (RFC 5104, section 7.1) and REMB
-pub record HasPictureFeedback (row : PayloadParams) : Type 0 where
+pub record HasVideoFeedback (row : PayloadParams) : Type 0 where
   pub nack : row.fb_nack ≡ true
   pub pli : row.fb_pli ≡ true
   pub fir : row.fb_fir ≡ true
@@ -35,7 +35,7 @@ pub record IsPlain (row : PayloadParams) : Type 0 where
   pub bounded : IsBounded row
   pub triples : HasPlainTriples row.spec
   pub g722 : row.spec.codec ≡ G722 → IsPlainG722 row.spec
-  pub pictures : content row.spec.codec ≡ video → HasPictureFeedback row
+  pub as_video : content row.spec.codec ≡ video → HasVideoFeedback row
   pub redundant : row.red ≢ None → content row.spec.codec ≡ audio
   pub telephone : content row.spec.codec ≡ events → SaysEventsAlone row.spec.format
   pub no_maximum : content row.spec.codec ≢ events → row.spec.format.telephone_event_max ≡ None

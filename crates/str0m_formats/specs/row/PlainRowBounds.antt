@@ -26,8 +26,8 @@ pub record IsBounded (row : PayloadParams) : Type 0 where
 abbrev pub IsByte : ℕ → Type 0
 IsByte n = n ≤ 255
 
-abbrev pub IsWord32 : ℕ → Type 0
-IsWord32 n = n ≤ 4294967295
+abbrev pub IsU32 : ℕ → Type 0
+IsU32 n = n ≤ 4294967295
 
 -- the greatest number of the type that holds a number up to the limit: of `u8`, `u16` and `u32` the first that reaches it
 abbrev pub most : ℕ → ℕ

@@ -1,6 +1,6 @@
 //! Which row is chosen among several.
 ghost use Rattle.std.specs.Prelude.{◌≡◌};
-ghost use Rattle.str0m_formats.specs.round.Choices.{seen, better, is_event_row};
+ghost use Rattle.str0m_formats.specs.round.Choices.{seen_best, better, is_event_row};
 
 use crate::row::payload_params::PayloadParams;
 use str0m_values::Pt;
@@ -18,7 +18,7 @@ pub(crate) fn better<'a>(
     row: &'a PayloadParams,
     score: Option<usize>,
 ) -> Option<(&'a PayloadParams, usize)>
-    ensures { seen result ≡ better (seen so_far.entry) row.now score }
+    ensures { seen_best result ≡ better (seen_best so_far.entry) row.now score }
 {
     match score {
         None => so_far,

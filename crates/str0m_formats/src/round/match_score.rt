@@ -1,6 +1,6 @@
 //! How well two specs fit.
 ghost use Rattle.std.specs.Prelude.{◌≡◌, ◌≤◌, IfSome, option_map};
-ghost use Rattle.str0m_formats.specs.round.MatchScore.{same_flag, unless, opus_score, is_mono, mode_score, amr_wb_score, level_score, h264_level_score, h264_score, profile_numbers, profile_of, triple_score, profile_score, vp9_score, av1_score, format_score, codec_score, same_spec, score};
+ghost use Rattle.str0m_formats.specs.round.MatchScore.{same_flag, unless, opus_score, is_mono, mode_score, amr_wb_score, level_score, h264_level_score, h264_score, profile_numbers, profile_number, triple_score, profile_score, vp9_score, av1_score, format_score, codec_score, same_spec, score};
 
 use crate::codec::Codec;
 use crate::codec::codec_spec::CodecSpec;
@@ -133,7 +133,7 @@ fn profile_numbers<P: Numbered, T: Numbered, L: Leveled>(
 
 /// The profile of a triple, else the last byte of a profile id, else the first profile.
 fn profile(triple: Option<ProfileNumbers>, id: Option<u32>) -> u8
-    ensures { result ≡ profile_of triple id }
+    ensures { result ≡ profile_number triple id }
 {
     match (triple, id) {
         (Some(triple), _) => triple.profile,

@@ -3,7 +3,7 @@ ghost use Rattle.std.specs.Prelude.{◌≡◌, ℕ, Ok, IfOk, IfErr, IfSome, OnO
 ghost use Rattle.str0m_formats.specs.declared.row.payload_params.PayloadParams.{PayloadParams};
 ghost use Rattle.str0m_formats.specs.round.Claimed.{TypeSet, has, with_option, either};
 ghost use Rattle.str0m_formats.specs.round.Claims.{Serves};
-ghost use Rattle.str0m_formats.specs.round.Rounds.{and_then, kept_or_free, kept_red, kept_rtx, settled, Settled, StopsSettling};
+ghost use Rattle.str0m_formats.specs.round.Rounds.{and_then, kept_or_free, kept_red, kept_rtx, settled_row, Settled, StopsSettling};
 ghost use Rattle.str0m_formats.specs.row.PayloadParams.{types_of, locked_types};
 
 use crate::round::claimed::Claimed;
@@ -68,7 +68,7 @@ impl<C: Claimed> Claims<C> {
     fn settle(&mut self, row: &mut PayloadParams) -> Result<(), NegotiationError>
         requires { row.old.locked ≡ false → (t : ℕ) → has (types_of row.old) t ≡ true → C.holds self.old.unlocked t ≡ true }
         ensures value { (locked taken : TypeSet) → Serves (C.holds self.old.claimed) (C.holds self.old.unlocked) locked taken
-            → and_then result (λ _. Ok row.new) ≡ settled locked taken (C.holds self.old.unlocked) row.old }
+            → and_then result (λ _. Ok row.new) ≡ settled_row locked taken (C.holds self.old.unlocked) row.old }
         ensures claimed { (locked taken : TypeSet) → Serves (C.holds self.old.claimed) (C.holds self.old.unlocked) locked taken
             → OnOk result (Serves (C.holds self.new.claimed) (C.holds self.old.unlocked) locked
             (if row.old.locked then taken else either taken (has (types_of row.new)))) }

@@ -5,7 +5,7 @@ ghost use Rattle.std.specs.Prelude.{◌≡◌, ◌==◌, ◌+◌, ◌≤◌, ◌
 ghost use Rattle.str0m_formats.specs.Prelude.{H265ProfileTierLevel, H266ProfileTierLevel, receives};
 ghost use Rattle.str0m_formats.specs.round.Choices.{FirstAccepted, IsChoice, IsMatchedType, highest_event, points_with};
 ghost use Rattle.str0m_formats.specs.round.Claimed.{AllDistinct};
-ghost use Rattle.str0m_formats.specs.row.CodecConfig.{picture_spec, h264_row, h265_row, h266_row, IsTripleOr, IsH265Triple, IsH266Triple};
+ghost use Rattle.str0m_formats.specs.row.CodecConfig.{video_spec, h264_row, h265_row, h266_row, IsTripleOr, IsH265Triple, IsH266Triple};
 ghost use Rattle.str0m_formats.specs.row.DefaultRows.{AreDefault};
 ghost use Rattle.str0m_formats.specs.row.KindRows.{kind_rows, rows_left};
 ghost use Rattle.str0m_formats.specs.row.PayloadParams.{new_row, types};
@@ -40,8 +40,8 @@ pub struct CodecConfig {
 const LEAST_ROOM: usize = 4;
 
 /// A video codec: at 90 kHz, and without channels.
-pub(crate) fn picture_spec(codec: Codec, format: FormatParams) -> CodecSpec
-    ensures { result ≡ picture_spec codec format }
+pub(crate) fn video_spec(codec: Codec, format: FormatParams) -> CodecSpec
+    ensures { result ≡ video_spec codec format }
 {
     CodecSpec {
         codec,
@@ -65,7 +65,7 @@ pub(crate) fn h264_row(
         profile_level_id: Some(profile_level_id),
         ..FormatParams::default()
     };
-    PayloadParams::new(pt, resend, picture_spec(Codec::H264, format))
+    PayloadParams::new(pt, resend, video_spec(Codec::H264, format))
 }
 
 pub(crate) fn h265_row(pt: Pt, resend: Option<Pt>, triple: H265ProfileTierLevel) -> PayloadParams
@@ -75,7 +75,7 @@ pub(crate) fn h265_row(pt: Pt, resend: Option<Pt>, triple: H265ProfileTierLevel)
         h265_profile_tier_level: Some(triple),
         ..FormatParams::default()
     };
-    PayloadParams::new(pt, resend, picture_spec(Codec::H265, format))
+    PayloadParams::new(pt, resend, video_spec(Codec::H265, format))
 }
 
 pub(crate) fn h266_row(pt: Pt, resend: Option<Pt>, triple: H266ProfileTierLevel) -> PayloadParams
@@ -85,7 +85,7 @@ pub(crate) fn h266_row(pt: Pt, resend: Option<Pt>, triple: H266ProfileTierLevel)
         h266_profile_tier_level: Some(triple),
         ..FormatParams::default()
     };
-    PayloadParams::new(pt, resend, picture_spec(Codec::H266, format))
+    PayloadParams::new(pt, resend, video_spec(Codec::H266, format))
 }
 
 /// The triple of three numbers; where one of them stands in no table, the fallback.

@@ -3,26 +3,26 @@ ghost use Rattle.std.specs.Prelude.{◌≡◌, ◌∷◌, [], true, false, Some,
 ghost use Rattle.str0m_formats.specs.declared.codec.Codec.{Codec};
 ghost use Rattle.str0m_formats.specs.format.FormatParams.{empty};
 ghost use Rattle.str0m_formats.specs.row.CodecConfig.{h264_row};
-ghost use Rattle.str0m_formats.specs.row.DefaultRows.{sound_row, picture_row, red_if, default_rows};
+ghost use Rattle.str0m_formats.specs.row.DefaultRows.{audio_row, video_row, red_if, default_rows};
 
 use crate::codec::Codec;
 use crate::codec::codec_spec::CodecSpec;
 use crate::format::format_params::FormatParams;
-use crate::row::codec_config::{h264_row, h265_row, h266_row, picture_spec};
+use crate::row::codec_config::{h264_row, h265_row, h266_row, video_spec};
 use crate::row::payload_params::PayloadParams;
 use str0m_values::{
     Frequency, H265Level, H265Profile, H265ProfileTierLevel, H265Tier, H266Level, H266Profile,
     H266ProfileTierLevel, H266Tier, Pt,
 };
 
-pub(crate) fn sound_row(
+pub(crate) fn audio_row(
     codec: Codec,
     pt: u8,
     clock_rate: Frequency,
     channels: Option<u8>,
     format: FormatParams,
 ) -> PayloadParams
-    ensures { result ≡ sound_row codec pt clock_rate channels format }
+    ensures { result ≡ audio_row codec pt clock_rate channels format }
 {
     let spec = CodecSpec {
         codec,
@@ -33,13 +33,13 @@ pub(crate) fn sound_row(
     PayloadParams::new(Pt::new_with_value(pt), None, spec)
 }
 
-fn picture_row(codec: Codec, pt: u8, resend: u8, format: FormatParams) -> PayloadParams
-    ensures { result ≡ picture_row codec pt resend format }
+fn video_row(codec: Codec, pt: u8, resend: u8, format: FormatParams) -> PayloadParams
+    ensures { result ≡ video_row codec pt resend format }
 {
     PayloadParams::new(
         Pt::new_with_value(pt),
         Some(Pt::new_with_value(resend)),
-        picture_spec(codec, format),
+        video_spec(codec, format),
     )
 }
 
@@ -85,21 +85,21 @@ pub(crate) fn h264_rows() -> [PayloadParams; 7]
 }
 
 /// A video row of which nothing more is said.
-pub(crate) fn plain_row(codec: Codec, pt: u8, resend: u8) -> PayloadParams
-    ensures { result ≡ picture_row codec pt resend empty }
+pub(crate) fn bare_video_row(codec: Codec, pt: u8, resend: u8) -> PayloadParams
+    ensures { result ≡ video_row codec pt resend empty }
 {
-    picture_row(codec, pt, resend, FormatParams::default())
+    video_row(codec, pt, resend, FormatParams::default())
 }
 
 /// A row of VP9 with this profile (RFC 9628, section 6).
 pub(crate) fn vp9_row(pt: u8, resend: u8, profile: u32) -> PayloadParams
-    ensures { result ≡ picture_row Codec.Vp9 pt resend (record empty { profile_id = Some profile }) }
+    ensures { result ≡ video_row Codec.Vp9 pt resend (record empty { profile_id = Some profile }) }
 {
     let format = FormatParams {
         profile_id: Some(profile),
         ..FormatParams::default()
     };
-    picture_row(Codec::Vp9, pt, resend, format)
+    video_row(Codec::Vp9, pt, resend, format)
 }
 
 pub(crate) fn opus_row(use_red: bool) -> PayloadParams
@@ -110,7 +110,7 @@ pub(crate) fn opus_row(use_red: bool) -> PayloadParams
         use_inband_fec: Some(true),
         ..FormatParams::default()
     };
-    let row = sound_row(
+    let row = audio_row(
         Codec::Opus,
         111,
         Frequency::FORTY_EIGHT_KHZ,
@@ -127,7 +127,7 @@ pub(crate) fn amr_wb_row() -> PayloadParams
         octet_align: Some(true),
         ..FormatParams::default()
     };
-    sound_row(Codec::AmrWb, 122, Frequency::SIXTEEN_KHZ, Some(1), format)
+    audio_row(Codec::AmrWb, 122, Frequency::SIXTEEN_KHZ, Some(1), format)
 }
 
 pub(crate) fn default_h265_row() -> PayloadParams

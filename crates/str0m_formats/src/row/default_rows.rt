@@ -2,15 +2,15 @@
 ghost use Rattle.std.specs.Prelude.{◌≡◌, ◌++◌, ◌∷◌, [], false, IfOk, OnOk, OnErr, IsOk, length};
 ghost use Rattle.str0m_formats.specs.declared.codec.Codec.{Codec};
 ghost use Rattle.str0m_formats.specs.round.Claimed.{AllDistinct};
-ghost use Rattle.str0m_formats.specs.row.DefaultRows.{default_rows, static_rows, others, AreDefault, Enables, usual_rows};
+ghost use Rattle.str0m_formats.specs.row.DefaultRows.{default_rows, static_rows, except, AreDefault, Enables, usual_rows};
 ghost use Rattle.str0m_formats.specs.row.PayloadParams.{types};
 
 use crate::codec::Codec;
 use crate::format::format_params::FormatParams;
 use crate::row::codec_config::CodecConfig;
 use crate::row::default_row::{
-    amr_wb_row, default_h265_row, default_h266_row, h264_rows, opus_row, plain_row, red_if,
-    sound_row, vp9_row,
+    amr_wb_row, audio_row, bare_video_row, default_h265_row, default_h266_row, h264_rows, opus_row,
+    red_if, vp9_row,
 };
 use crate::row::payload_params::PayloadParams;
 use std::alloc::{AllocError, Global};
@@ -39,7 +39,7 @@ impl CodecConfig {
 
     /// Takes out all rows of the codec, and puts these last.
     fn put(&mut self, codec: Codec, rows: &[PayloadParams]) -> Result<(), AllocError>
-        ensures ok { OnOk result (self.new.params.items ≡ others codec self.old.params.items ++ rows.now) }
+        ensures ok { OnOk result (self.new.params.items ≡ except codec self.old.params.items ++ rows.now) }
         ensures err { OnErr result (self.new ≡ self.old) }
         ensures none { length rows.now ≡ 0 → IsOk result }
         ensures distances { self.new.red_distances ≡ self.old.red_distances }
@@ -52,13 +52,13 @@ impl CodecConfig {
 
     /// Takes out all rows of the codec, and puts its row under its static type last, with this RED.
     fn put_static(&mut self, codec: Codec, red: Option<Pt>) -> Result<(), AllocError>
-        ensures ok { OnOk result (self.new.params.items ≡ others codec self.old.params.items ++ static_rows codec red) }
+        ensures ok { OnOk result (self.new.params.items ≡ except codec self.old.params.items ++ static_rows codec red) }
         ensures err { OnErr result (self.new ≡ self.old) }
         ensures distances { self.new.red_distances ≡ self.old.red_distances }
     {
         match codec.static_type() {
             Some((pt, rate)) => {
-                let row = sound_row(codec, pt, rate, None, FormatParams::default());
+                let row = audio_row(codec, pt, rate, None, FormatParams::default());
                 self.put(codec, &[row.with_red(red)])
             }
             None => self.put(codec, &[]),
@@ -67,7 +67,7 @@ impl CodecConfig {
 
     /// Takes out all rows of the codec, and puts its default rows last.
     fn put_defaults(&mut self, codec: Codec, use_red: bool) -> Result<(), AllocError>
-        ensures ok { OnOk result (self.new.params.items ≡ others codec self.old.params.items ++ default_rows codec use_red) }
+        ensures ok { OnOk result (self.new.params.items ≡ except codec self.old.params.items ++ default_rows codec use_red) }
         ensures err { OnErr result (self.new ≡ self.old) }
         ensures distances { self.new.red_distances ≡ self.old.red_distances }
     {
@@ -78,12 +78,12 @@ impl CodecConfig {
             Codec::G722 => self.put_static(codec, red_if(use_red, 62)),
             Codec::CN => self.put_static(codec, None),
             Codec::AmrWb => self.put(codec, &[amr_wb_row()]),
-            Codec::Vp8 => self.put(codec, &[plain_row(codec, 96, 97)]),
+            Codec::Vp8 => self.put(codec, &[bare_video_row(codec, 96, 97)]),
             Codec::H264 => self.put(codec, &h264_rows()),
             Codec::H265 => self.put(codec, &[default_h265_row()]),
             Codec::H266 => self.put(codec, &[default_h266_row()]),
             Codec::Vp9 => self.put(codec, &[vp9_row(98, 99, 0), vp9_row(100, 101, 2)]),
-            Codec::Av1 => self.put(codec, &[plain_row(codec, 45, 46)]),
+            Codec::Av1 => self.put(codec, &[bare_video_row(codec, 45, 46)]),
             _ => self.put(codec, &[]),
         }
     }

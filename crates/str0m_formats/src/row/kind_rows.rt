@@ -1,7 +1,7 @@
 //! The rows of a kind of media.
 ghost use Rattle.std.specs.Iterator.{YieldsFirstRef, item_count};
 ghost use Rattle.std.specs.Prelude.{◌≡◌};
-ghost use Rattle.str0m_formats.specs.row.KindRows.{is_sound, is_events, rate_of, shares_rate, some_share_rate, is_listed};
+ghost use Rattle.str0m_formats.specs.row.KindRows.{is_audio, is_events, rate_of, shares_rate, some_share_rate, is_in_kind};
 
 use crate::row::payload_params::PayloadParams;
 use str0m_values::MediaKind;
@@ -17,8 +17,8 @@ pub struct KindRows<'a> {
     pub(crate) narrowed: bool,
 }
 
-fn is_sound(row: &PayloadParams) -> bool
-    ensures { result ≡ is_sound row.now }
+fn is_audio(row: &PayloadParams) -> bool
+    ensures { result ≡ is_audio row.now }
 {
     row.spec().codec.is_audio()
 }
@@ -40,7 +40,7 @@ fn shares_rate(rows: &[PayloadParams], row: &PayloadParams) -> bool
     ensures { result ≡ shares_rate rows.now row.now }
 {
     rows.iter()
-        .any(|other| is_sound(other) && rate_of(other) == rate_of(row))
+        .any(|other| is_audio(other) && rate_of(other) == rate_of(row))
 }
 
 /// Whether some row of events has the RTP clock rate of some audio row.
@@ -51,13 +51,13 @@ pub(crate) fn some_share_rate(rows: &[PayloadParams]) -> bool
         .any(|row| is_events(row) && shares_rate(rows, row))
 }
 
-fn is_listed(kind: MediaKind, narrowed: bool, rows: &[PayloadParams], row: &PayloadParams) -> bool
-    ensures { result ≡ is_listed kind narrowed rows.now row.now }
+fn is_in_kind(kind: MediaKind, narrowed: bool, rows: &[PayloadParams], row: &PayloadParams) -> bool
+    ensures { result ≡ is_in_kind kind narrowed rows.now row.now }
 {
     match kind {
         MediaKind::Video => row.spec().codec.is_video(),
         MediaKind::Audio => {
-            is_sound(row) || (is_events(row) && (!narrowed || shares_rate(rows, row)))
+            is_audio(row) || (is_events(row) && (!narrowed || shares_rate(rows, row)))
         }
     }
 }
@@ -74,7 +74,7 @@ impl<'a> Iterator for KindRows<'a> {
     fn next(&mut self) -> Option<&'a PayloadParams> {
         while let Some((first, rest)) = self.rest.split_first() {
             self.rest = rest;
-            if is_listed(self.kind, self.narrowed, self.all, first) {
+            if is_in_kind(self.kind, self.narrowed, self.all, first) {
                 return Some(first);
             }
         }

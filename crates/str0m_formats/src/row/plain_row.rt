@@ -1,7 +1,7 @@
 //! Plain rows: those that the lines of a section say whole.
 ghost use Rattle.std.specs.Prelude.{◌≡◌, ◌↔◌, IsTrue, None};
 ghost use Rattle.str0m_formats.specs.declared.codec.Codec.TheVariants.{G722};
-ghost use Rattle.str0m_formats.specs.row.PlainRow.{IsPlain, IsPlainG722, HasPictureFeedback, HasPlainTriples, SaysEventsAlone};
+ghost use Rattle.str0m_formats.specs.row.PlainRow.{IsPlain, IsPlainG722, HasVideoFeedback, HasPlainTriples, SaysEventsAlone};
 ghost use Rattle.str0m_formats.specs.row.PlainRowBounds.{IsBounded};
 
 use crate::codec::Codec;
@@ -30,9 +30,9 @@ impl PayloadParams {
         is_bounded(self)
             && has_plain_triples(self.spec)
             && if codec.is_audio() {
-                is_plain_sound(self.spec)
+                is_plain_audio(self.spec)
             } else if codec.is_video() {
-                is_plain_picture(self)
+                is_plain_video(self)
             } else {
                 codec.is_tele() && self.red.is_none() && says_events_alone(self.spec.format)
             }
@@ -64,7 +64,7 @@ fn has_plain_triples(spec: CodecSpec) -> bool
 }
 
 /// Whether an audio codec has no maximum of events and, if it is G722, its rate and channels.
-fn is_plain_sound(spec: CodecSpec) -> bool
+fn is_plain_audio(spec: CodecSpec) -> bool
     ensures { IsTrue result ↔ (spec.format.telephone_event_max ≡ None) × (spec.codec ≡ G722 → IsPlainG722 spec) }
 {
     spec.format.telephone_event_max.is_none()
@@ -73,8 +73,8 @@ fn is_plain_sound(spec: CodecSpec) -> bool
 }
 
 /// Whether a video codec has the feedback of video, no RED and no maximum of events.
-fn is_plain_picture(row: &PayloadParams) -> bool
-    ensures { IsTrue result ↔ (row.now.red ≡ None) × (row.now.spec.format.telephone_event_max ≡ None) × HasPictureFeedback row.now }
+fn is_plain_video(row: &PayloadParams) -> bool
+    ensures { IsTrue result ↔ (row.now.red ≡ None) × (row.now.spec.format.telephone_event_max ≡ None) × HasVideoFeedback row.now }
 {
     row.red.is_none()
         && row.spec.format.telephone_event_max.is_none()

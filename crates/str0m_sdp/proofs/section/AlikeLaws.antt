@@ -3,14 +3,14 @@ use Rattle.std.proofs.Math.Seq.{drop-cons}
 use Rattle.str0m_sdp.proofs.Common.{◌≡◌, ◌<◌, ◌+◌, ℕ, Bool, false, not, cond, List, [], ◌∷◌, length, drop, get_or, Option, sym, ◌∙◌, ◌↔◌, IsTrue, MatchOption, FormatParam, arith, is_some, length-map}
 use Rattle.str0m_sdp.specs.attribute.Fmtp.{is_shown}
 use Rattle.str0m_sdp.specs.declared.attribute.simulcast.SimulcastLayer.{SimulcastLayer}
-use Rattle.str0m_sdp.specs.section.Alike.{as_read, ids, shown}
+use Rattle.str0m_sdp.specs.section.Alike.{as_read, ids, showing}
 
-shown_first : (value : FormatParam) (values : List FormatParam) (b : Bool) → is_shown value ≡ b → shown (value ∷ values) ≡ cond b (as_read value ∷ shown values) (shown values)
+shown_first : (value : FormatParam) (values : List FormatParam) (b : Bool) → is_shown value ≡ b → showing (value ∷ values) ≡ cond b (as_read value ∷ showing values) (showing values)
 shown_first value values b is = grind arith
 
 -- what is shown from a value on
 pub shown_from : (values : List FormatParam) (i : ℕ) (value : FormatParam) (b : Bool) → i < length values → value ≡ get_or values i value → is_shown value ≡ b
-    → shown (drop i values) ≡ cond b (as_read value ∷ shown (drop (i + 1) values)) (shown (drop (i + 1) values))
+    → showing (drop i values) ≡ cond b (as_read value ∷ showing (drop (i + 1) values)) (showing (drop (i + 1) values))
 shown_from values i value b lt at is = grind (arith, drop-cons, shown_first)
 
 -- ---- when two lists are the same, by their first items

@@ -6,16 +6,16 @@ use Rattle.str0m_sdp.specs.declared.attribute.MediaAttribute.TheVariants.{Fmtp}
 use Rattle.str0m_sdp.specs.section.Companions.{names, companion_in, companion}
 use Rattle.str0m_sdp.specs.section.Mappings.{is_mapped_to}
 
-or_none : {X : Type 0} (o : Option X) → option_or o None ≡ o
-or_none o = grind arith
+options_none : {X : Type 0} (o : Option X) → option_or o None ≡ o
+options_none o = grind arith
 
-or_assoc : {X : Type 0} (a b c : Option X) → option_or (option_or a b) c ≡ option_or a (option_or b c)
-or_assoc a b c = grind arith
+options_assoc : {X : Type 0} (a b c : Option X) → option_or (option_or a b) c ≡ option_or a (option_or b c)
+options_assoc a b c = grind arith
 
 -- the last of two lists is that of the second, where it has one
 last_append : {X : Type 0} (xs ys : List X) → last (xs ++ ys) ≡ option_or (last ys) (last xs)
-last_append [] ys = sym (or_none (last ys))
-last_append {X} (x ∷ xs) ys = ap (λ (o : Option X). option_or o (Some x)) (last_append xs ys) ∙ or_assoc (last ys) (last xs) (Some x)
+last_append [] ys = sym (options_none (last ys))
+last_append {X} (x ∷ xs) ys = ap (λ (o : Option X). option_or o (Some x)) (last_append xs ys) ∙ options_assoc (last ys) (last xs) (Some x)
 
 last_one : {X Y : Type 0} (f : X → Option Y) (x : X) (o : Option Y) → f x ≡ o → last (filter_map f (x ∷ [])) ≡ o
 last_one f x o is = grind arith

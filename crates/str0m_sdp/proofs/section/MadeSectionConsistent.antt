@@ -1,12 +1,12 @@
 -- A section of plain, distinct rows is consistent, and each of its RTX and RED lines names one primary type.
 use Rattle.str0m_formats.specs.declared.codec.Codec.TheVariants as codec
-use Rattle.str0m_sdp.proofs.Common.{◌≡◌, ◌≢◌, ◌≤◌, inl, ℕ, Bool, true, false, List, [], ◌∷◌, ◌++◌, Option, Some, IfSome, All, refl, sym, ap, ◌∙◌, subst, arith, AllByRecursion, flat_map, All-from_recursion, content, other, types, same_codec, has, AllDistinct, Codec, FormatParam, Apt, BarePtList, PayloadParams, IsPlain, count_by, true≢false, times-some}
+use Rattle.str0m_sdp.proofs.Common.{◌≡◌, ◌≢◌, ◌≤◌, inl, ℕ, Bool, true, false, List, [], ◌∷◌, ◌++◌, Option, Some, IfSome, All, refl, sym, ap, ◌∙◌, subst, arith, AllByRecursion, flat_map, All-from_recursion, content, other, types, same_codec, has, AllDistinct, Codec, FormatParam, Apt, BarePtList, PayloadParams, IsPlain, count_by, true≢false, times-some, all_both}
 use Rattle.str0m_sdp.proofs.section.MadeSectionFrame.{HasNoTypes, NameNoType, NamesNoType}
 use Rattle.str0m_sdp.proofs.section.MappingsBack.{IsSaid, section, each_type}
 use Rattle.str0m_sdp.proofs.section.RowAttributesQuestions.{lines, attrs_of, apt_is, maps_are}
 use Rattle.str0m_sdp.proofs.section.RowAttributesReads.{each}
 use Rattle.str0m_sdp.proofs.section.SectionRowsAgain.{pt_mapped, rtx_mapped, red_mapped, primary_among}
-use Rattle.str0m_sdp.proofs.section.SectionRowsParts.{always, both, weaker, over_lines, each_among, taken_apart, count-append, none_counted}
+use Rattle.str0m_sdp.proofs.section.SectionRowsParts.{always, weaker, over_lines, each_among, taken_apart, count-append, none_counted}
 use Rattle.str0m_sdp.specs.declared.attribute.MediaAttribute.{MediaAttribute}
 use Rattle.str0m_sdp.specs.declared.attribute.MediaAttribute.TheVariants.{Fmtp}
 use Rattle.str0m_sdp.specs.declared.attribute.proto.Proto.TheVariants.{Srtp}
@@ -27,8 +27,8 @@ no_setup attr h = grind arith
 no_direction : (attr : MediaAttribute) → is_of_type attr ≡ true → is_direction attr ≡ false
 no_direction attr h = grind arith
 
-if_some : {A : Type 0} (o : Option A) (P : A → Type 0) → ((x : A) → P x) → IfSome o P
-if_some o P f = grind arith
+IfSome_all : {A : Type 0} (o : Option A) (P : A → Type 0) → ((x : A) → P x) → IfSome o P
+IfSome_all o P f = grind arith
 
 no_other : (first : ℕ) (v : List FormatParam) → AllByRecursion NamesNoType v → All (NamesNoOther first) v
 no_other first v h = grind (arith, All-from_recursion, weaker, NamesNoType)
@@ -49,9 +49,9 @@ module _ (values : PayloadParams → List (List FormatParam)) where
       (λ n k. (λ m. refl, refl)) (λ n k. (λ m. refl, refl))))
 
   -- what no line of a type passes is counted in the frame alone
-  pub frame_alone : (p : MediaAttribute → Bool) → ((attr : MediaAttribute) → is_of_type attr ≡ true → p attr ≡ false)
+  pub counted_in_frame : (p : MediaAttribute → Bool) → ((attr : MediaAttribute) → is_of_type attr ≡ true → p attr ≡ false)
       → (frame : List MediaAttribute) (rows : List PayloadParams) → count_by p (attrs_of values frame rows) ≡ count_by p frame
-  frame_alone p fails frame rows = grind (arith, count-append, none_counted, weaker, of_types)
+  counted_in_frame p fails frame rows = grind (arith, count-append, none_counted, weaker, of_types)
 
   module _ (frame : MediaLine) (bare : HasNoTypes frame.attrs) (rows : List PayloadParams) (d : AllDistinct (types rows))
       (said : AllByRecursion (λ r. IsSaid r (values r)) rows) where
@@ -71,7 +71,7 @@ module _ (values : PayloadParams → List (List FormatParam)) where
     pub agree : All (AgreesOnApt (attrs_of values frame.attrs rows)) (attrs_of values frame.attrs rows)
     agree =
         All-from_recursion (AgreesOnApt attrs) attrs
-        (both (AgreesOnApt attrs) frame.attrs (flat_map (lines values) rows)
+        (all_both (AgreesOnApt attrs) frame.attrs (flat_map (lines values) rows)
         (weaker _ (AgreesOnApt attrs) (frame_agrees attrs) frame.attrs bare)
         (over_lines (AgreesOnApt attrs) (lines values) rows (each_among _ rows one)))
       where
@@ -81,7 +81,7 @@ module _ (values : PayloadParams → List (List FormatParam)) where
         format : (row : PayloadParams) (vs : List (List FormatParam)) → NameNoType vs
             → AllByRecursion (λ v. AgreesOnApt attrs (Fmtp row.pt v)) vs
         format row [] h = tt
-        format row (v ∷ vs) h = (if_some (first_apt row.pt attrs) _ (λ first. no_other first v h.0), format row vs h.1)
+        format row (v ∷ vs) h = (IfSome_all (first_apt row.pt attrs) _ (λ first. no_other first v h.0), format row vs h.1)
 
         one : (before : List PayloadParams) (row : PayloadParams) (after : List PayloadParams) → rows ≡ before ++ row ∷ after
             → AllByRecursion (AgreesOnApt attrs) (lines values row)
@@ -96,7 +96,7 @@ module _ (values : PayloadParams → List (List FormatParam)) where
             ))
             (λ n is. (
               λ m. tt,
-              if_some (first_apt n attrs) _
+              IfSome_all (first_apt n attrs) _
                   (λ first. All-from_recursion (NamesNoOther first) (BarePtList row.pt ∷ []) (tt, tt)),
             ))
           where
@@ -110,9 +110,9 @@ module _ (values : PayloadParams → List (List FormatParam)) where
         → (frame.proto ≡ Srtp → count_by is_direction frame.attrs ≡ 1) → rows ≢ []
         → Consistent (section values frame rows)
     consistent mid setup direction some = record {
-      mid = frame_alone is_mid no_mid frame.attrs rows ∙ mid;
-      setup = let same = frame_alone is_setup no_setup frame.attrs rows in omega (arith, same, setup);
-      proto = λ e. (frame_alone is_direction no_direction frame.attrs rows ∙ direction e, λ enabled. some_types rows some);
+      mid = counted_in_frame is_mid no_mid frame.attrs rows ∙ mid;
+      setup = let same = counted_in_frame is_setup no_setup frame.attrs rows in omega (arith, same, setup);
+      proto = λ e. (counted_in_frame is_direction no_direction frame.attrs rows ∙ direction e, λ enabled. some_types rows some);
       mapped = mapped_once;
       apt = agree;
     } where
@@ -124,7 +124,7 @@ module _ (values : PayloadParams → List (List FormatParam)) where
     pub names_one : AllByRecursion IsPlain rows → All (NamesOne (section values frame rows)) (section values frame rows).attrs
     names_one plain =
         All-from_recursion (NamesOne m) (attrs_of values frame.attrs rows)
-        (both (NamesOne m) frame.attrs (flat_map (lines values) rows) (weaker _ (NamesOne m) (frame_names m) frame.attrs bare)
+        (all_both (NamesOne m) frame.attrs (flat_map (lines values) rows) (weaker _ (NamesOne m) (frame_names m) frame.attrs bare)
         (over_lines (NamesOne m) (lines values) rows (each_among _ rows one)))
       where
         m : MediaLine

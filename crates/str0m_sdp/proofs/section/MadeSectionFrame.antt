@@ -2,7 +2,7 @@
 use Rattle.str0m_sdp.proofs.Common.{arith, ◌≡◌, ℕ, false, List, None, AllByRecursion, Codec, CodecSpec, FormatParam}
 use Rattle.str0m_sdp.specs.attribute.Feedback.{is_feedback}
 use Rattle.str0m_sdp.specs.declared.attribute.MediaAttribute.{MediaAttribute}
-use Rattle.str0m_sdp.specs.section.Companions.{companion_in, listed}
+use Rattle.str0m_sdp.specs.section.Companions.{companion_in, listed_type}
 use Rattle.str0m_sdp.specs.section.Consistency.{maps, apt_of, apt_in}
 use Rattle.str0m_sdp.specs.section.MadeSection.{is_of_type}
 use Rattle.str0m_sdp.specs.section.Mappings.{mapping}
@@ -10,7 +10,7 @@ use Rattle.str0m_sdp.specs.section.SectionRows.{values_in}
 
 -- the value names no payload type
 abbrev pub NamesNoType : FormatParam → Type 0
-NamesNoType value = (apt_of value ≡ None) × (listed value ≡ None)
+NamesNoType value = (apt_of value ≡ None) × (listed_type value ≡ None)
 
 -- no value of these lines does
 abbrev pub NameNoType : List (List FormatParam) → Type 0

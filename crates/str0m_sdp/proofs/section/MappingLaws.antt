@@ -2,7 +2,7 @@
 use Rattle.str0m_sdp.proofs.Common.{arith, ◌≡◌, ◌<◌, ◌+◌, ◌++◌, ◌==◌, ℕ, Bool, true, false, cond, ◌||◌, List, [], ◌∷◌, length, take, get_or, Option, None, nat_eq, filter_map, option_to_list, refl, sym, ap, ◌∙◌, inl, inr, list_any, cases_eq, eq-eqb, ne_eqb, or_right, take_at_read, append-nil, filter_map-append, CodecSpec, set}
 use Rattle.str0m_sdp.proofs.section.MappingsFilterMap.{map_more}
 use Rattle.str0m_sdp.proofs.section.SectionRowsParts.{or_false}
-use Rattle.str0m_sdp.proofs.section.TypeTablesMarks.{any_more, marked}
+use Rattle.str0m_sdp.proofs.section.TypeTablesMarks.{any_more, set_marked}
 use Rattle.str0m_sdp.proofs.session.DistinctCandidatesLaws.{distinct_push}
 use Rattle.str0m_sdp.specs.Common.{distinct}
 use Rattle.str0m_sdp.specs.attribute.RtpMap.{spec_of_map}
@@ -10,25 +10,25 @@ use Rattle.str0m_sdp.specs.declared.attribute.MediaAttribute.{MediaAttribute}
 use Rattle.str0m_sdp.specs.declared.attribute.MediaAttribute.TheVariants.{RtpMap}
 use Rattle.str0m_sdp.specs.declared.attribute.rtp_map.RtpMap.{RtpMap as Mapping}
 use Rattle.str0m_sdp.specs.section.Consistency.{maps}
-use Rattle.str0m_sdp.specs.section.Mappings.{mapping, static_row, unmapped}
+use Rattle.str0m_sdp.specs.section.Mappings.{mapping, static_type, unmapped}
 
 -- a type that was seen adds no row; else it adds what it stands for
-one_more : {X Y : Type 0} (f : X → Option Y) (x : X) (o : Option Y) (a b : Bool) → f x ≡ cond a None o
+one_type_more : {X Y : Type 0} (f : X → Option Y) (x : X) (o : Option Y) (a b : Bool) → f x ≡ cond a None o
     → filter_map f (cond b [] (x ∷ [])) ≡ cond (a || b) [] (option_to_list o)
-one_more f x o a b is = grind arith
+one_type_more f x o a b is = grind arith
 
 -- the rows of the m-line's types, one type more
 pub statics_more : (attrs : List MediaAttribute) (pts : List ℕ) (i pt : ℕ) → i < length pts → pt ≡ get_or pts i pt
     → filter_map (unmapped attrs) (distinct nat_eq (take (i + 1) pts))
     ≡ filter_map (unmapped attrs) (distinct nat_eq (take i pts))
-    ++ cond (list_any (maps pt) attrs || list_any (λ n. n == pt) (take i pts)) [] (option_to_list (static_row pt))
-statics_more attrs pts i pt lt is = grind (arith, take_at_read, distinct_push, filter_map-append, one_more)
+    ++ cond (list_any (maps pt) attrs || list_any (λ n. n == pt) (take i pts)) [] (option_to_list (static_type pt))
+statics_more attrs pts i pt lt is = grind (arith, take_at_read, distinct_push, filter_map-append, one_type_more)
 
 -- a type that is new adds what it stands for
 pub statics_new : (attrs : List MediaAttribute) (pts : List ℕ) (i pt : ℕ) → i < length pts → pt ≡ get_or pts i pt
     → (list_any (maps pt) attrs || list_any (λ n. n == pt) (take i pts)) ≡ false
     → filter_map (unmapped attrs) (distinct nat_eq (take (i + 1) pts))
-    ≡ filter_map (unmapped attrs) (distinct nat_eq (take i pts)) ++ option_to_list (static_row pt)
+    ≡ filter_map (unmapped attrs) (distinct nat_eq (take i pts)) ++ option_to_list (static_type pt)
 statics_new attrs pts i pt lt is new = grind (arith, statics_more)
 
 -- one that was seen adds nothing
@@ -37,8 +37,8 @@ pub statics_seen : (attrs : List MediaAttribute) (pts : List ℕ) (i pt : ℕ) �
     → filter_map (unmapped attrs) (distinct nat_eq (take (i + 1) pts)) ≡ filter_map (unmapped attrs) (distinct nat_eq (take i pts))
 statics_seen attrs pts i pt lt is seen = grind (arith, statics_more, append-nil)
 
-or_assoc : (a b c : Bool) → ((a || b) || c) ≡ (a || (b || c))
-or_assoc a b c = grind arith
+bools_assoc : (a b c : Bool) → ((a || b) || c) ≡ (a || (b || c))
+bools_assoc a b c = grind arith
 
 -- a new type is marked
 pub mark_new : (marks : List Bool) (pts : List ℕ) (i new pt : ℕ) (a : Bool) → i < length pts → new ≡ get_or pts i new → new < length marks
@@ -46,7 +46,7 @@ pub mark_new : (marks : List Bool) (pts : List ℕ) (i new pt : ℕ) (a : Bool) 
     → get_or (set marks new true) pt false ≡ (a || list_any (λ n. n == pt) (take (i + 1) pts))
 mark_new marks pts i new pt a lt is row so_far =
     let before = list_any (λ n. n == pt) (take i pts) in
-    marked marks new pt (a || before) row so_far ∙ or_assoc a before (new == pt)
+    set_marked marks new pt (a || before) row so_far ∙ bools_assoc a before (new == pt)
     ∙ sym (ap (λ (b : Bool). a || b) (any_more (λ n. n == pt) pts i new lt is))
 
 -- one that is marked stays so

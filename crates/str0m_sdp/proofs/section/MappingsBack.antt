@@ -1,12 +1,12 @@
 -- What the types of a section of plain, distinct rows are mapped to: each row's in order, and no type that needs no line.
 use Rattle.str0m_formats.specs.declared.codec.Codec.TheVariants as codec
-use Rattle.str0m_sdp.proofs.Common.{◌≡◌, ◌==◌, ℕ, true, false, not, List, [], ◌∷◌, ◌++◌, Option, Some, nat_eq, refl, arith, AllByRecursion, flat_map, list_any, or_left, or_right, append-nil, list_any-append, format_of_fmtp, types_of, types, same_codec, has, AllDistinct, Codec, CodecSpec, FormatParam, PayloadParams, IsPlain, IsPlainG722, times-some}
+use Rattle.str0m_sdp.proofs.Common.{◌≡◌, ◌==◌, ℕ, true, false, not, List, [], ◌∷◌, ◌++◌, Option, Some, nat_eq, refl, arith, AllByRecursion, flat_map, list_any, or_left, or_right, append-nil, list_any-append, format_of_fmtp, types_of, types, same_codec, has, AllDistinct, Codec, CodecSpec, FormatParam, PayloadParams, IsPlain, IsPlainG722, times-some, all_both}
 use Rattle.str0m_sdp.proofs.section.MadeSectionFrame.{HasNoTypes, NameNoType}
-use Rattle.str0m_sdp.proofs.section.RowAttributesAnswers.{NamesItself, entries, rtx_entry, red_entry, flipped}
+use Rattle.str0m_sdp.proofs.section.RowAttributesAnswers.{NamesItself, row_entries, rtx_entry, red_entry, flipped}
 use Rattle.str0m_sdp.proofs.section.RowAttributesQuestions.{attrs_of, mappings_are, maps_are}
 use Rattle.str0m_sdp.proofs.section.RowAttributesReads.{quiet}
-use Rattle.str0m_sdp.proofs.section.SectionRowsApart.{Apart, Roles, apart, self, has-append}
-use Rattle.str0m_sdp.proofs.section.SectionRowsParts.{all-filter, both, weaker, each_among, none_passes, or_false, own_holds, AllFail, passes}
+use Rattle.str0m_sdp.proofs.section.SectionRowsApart.{LacksType, Roles, unique, self, has_at-append}
+use Rattle.str0m_sdp.proofs.section.SectionRowsParts.{all-filter, weaker, each_among, none_passes, or_false, own_holds, AllFail, passes}
 use Rattle.str0m_sdp.specs.Common.{distinct}
 use Rattle.str0m_sdp.specs.declared.attribute.MediaAttribute.{MediaAttribute}
 use Rattle.str0m_sdp.specs.declared.section.media_line.MediaLine.{MediaLine}
@@ -27,27 +27,27 @@ module _ (c : Codec) (t : ℕ) (row : PayloadParams) where
   red_fails : (o : Option ℕ) → ((n : ℕ) → o ≡ Some n → (n == t) ≡ false) → AllByRecursion (λ e. is_of c t e ≡ false) (red_entry row o)
   red_fails o h = grind arith
 
-  pub entries_apart : has (types_of row) t ≡ false → list_any (is_of c t) (entries row) ≡ false
+  pub entries_apart : has (types_of row) t ≡ false → list_any (is_of c t) (row_entries row) ≡ false
   entries_apart h = grind arith
 
-  pub entry_pt : Roles row → t ≡ row.pt → list_any (is_of c t) (entries row) ≡ same_codec row.spec.codec c
-  entry_pt r same = grind (arith, none_passes, both, rtx_fails, red_fails, self, or_false)
+  pub entry_pt : Roles row → t ≡ row.pt → list_any (is_of c t) (row_entries row) ≡ same_codec row.spec.codec c
+  entry_pt r same = grind (arith, none_passes, all_both, rtx_fails, red_fails, self, or_false)
 
-  pub entry_rtx : Roles row → row.resend ≡ Some t → list_any (is_of c t) (entries row) ≡ same_codec codec.Rtx c
+  pub entry_rtx : Roles row → row.resend ≡ Some t → list_any (is_of c t) (row_entries row) ≡ same_codec codec.Rtx c
   entry_rtx r is = grind (arith, flipped, list_any-append, none_passes, red_fails, or_false, self)
 
-  pub entry_red : Roles row → row.red ≡ Some t → list_any (is_of c t) (entries row) ≡ same_codec codec.Red c
+  pub entry_red : Roles row → row.red ≡ Some t → list_any (is_of c t) (row_entries row) ≡ same_codec codec.Red c
   entry_red r is = grind (arith, flipped, list_any-append, none_passes, rtx_fails, self, or_false)
 
 -- among the types of all rows a type stands for what its own row says
 pub mapped_among : (c : Codec) (t : ℕ) (before : List PayloadParams) (row : PayloadParams) (after : List PayloadParams)
     → AllDistinct (types (before ++ row ∷ after)) → has (types_of row) t ≡ true
-    → is_mapped_to c (flat_map entries (before ++ row ∷ after)) t ≡ list_any (is_of c t) (entries row)
+    → is_mapped_to c (flat_map row_entries (before ++ row ∷ after)) t ≡ list_any (is_of c t) (row_entries row)
 mapped_among c t before row after d h =
-    own_holds (is_of c t) entries [] before row after refl (others before (apart before row after t d h).0)
-    (others after (apart before row after t d h).1) where
-      others : (rows : List PayloadParams) → Apart t rows → AllFail (is_of c t) entries rows
-      others rows k = weaker _ (λ r. list_any (is_of c t) (entries r) ≡ false) (λ r l. entries_apart c t r l) rows k
+    own_holds (is_of c t) row_entries [] before row after refl (others before (unique before row after t d h).0)
+    (others after (unique before row after t d h).1) where
+      others : (rows : List PayloadParams) → LacksType t rows → AllFail (is_of c t) row_entries rows
+      others rows k = weaker _ (λ r. list_any (is_of c t) (row_entries r) ≡ false) (λ r l. entries_apart c t r l) rows k
 
 -- ---- the section
 
@@ -69,7 +69,7 @@ module _ (values : PayloadParams → List (List FormatParam)) where
   section frame rows = record frame { pts = types rows; attrs = attrs_of values frame.attrs rows }
 
   pub each_type : (rows : List PayloadParams) → AllByRecursion (λ t. has (types rows) t ≡ true) (types rows)
-  each_type rows = grind (arith, each_among, has-append, or_right, or_left, self)
+  each_type rows = grind (arith, each_among, has_at-append, or_right, or_left, self)
 
   pub is_said_mapped : (frame : List MediaAttribute) (rows : List PayloadParams) → HasNoTypes frame → (t : ℕ)
       → has (types rows) t ≡ true → list_any (maps t) (attrs_of values frame rows) ≡ true
@@ -80,7 +80,7 @@ module _ (values : PayloadParams → List (List FormatParam)) where
 
   -- the types that it maps: each row's in order, and none that needs no line
   pub mapped_is : (frame : MediaLine) (rows : List PayloadParams) → HasNoTypes frame.attrs → AllByRecursion IsPlain rows
-      → mapped (section frame rows) ≡ flat_map entries rows
+      → mapped (section frame rows) ≡ flat_map row_entries rows
   unfolding mapped
   mapped_is frame rows bare plain =
       grind (arith, mappings_are, weaker, names_itself, quiet, of_distinct, each_type, append-nil, is_said_mapped)

@@ -1,10 +1,10 @@
 -- What the lines of one row answer: to questions on its own types exactly its own, to those on other types nothing.
 use Rattle.str0m_formats.specs.declared.codec.Codec.TheVariants as codec
-use Rattle.str0m_sdp.proofs.Common.{arith, ◌≡◌, ◌==◌, ◌&&◌, ◌||◌, ℕ, Bool, true, false, List, [], ◌∷◌, ◌++◌, Option, Some, None, option_to_list, refl, sym, ap, ◌∙◌, AllByRecursion, list_any, ne_eqb, append-nil, list_any-append, when, has, types_of, rtp_rate, empty, Codec, CodecSpec, Apt, BarePtList, FormatParam, PayloadParams, bytes_eq, filter_map, eqb-false}
+use Rattle.str0m_sdp.proofs.Common.{arith, ◌≡◌, ◌==◌, ◌&&◌, ◌||◌, ℕ, Bool, true, false, List, [], ◌∷◌, ◌++◌, Option, Some, None, option_to_list, refl, sym, ap, ◌∙◌, AllByRecursion, list_any, ne_eqb, append-nil, list_any-append, when, has, types_of, rtp_rate, empty, Codec, CodecSpec, Apt, BarePtList, FormatParam, PayloadParams, bytes_eq, filter_map, eqb-false, all_both}
 use Rattle.str0m_sdp.proofs.section.MadeSectionFrame.{NameNoType, NamesNoType}
 use Rattle.str0m_sdp.proofs.section.RowAttributesReads.{fmtp_lines, red_reads, reads, each, all_feedback, all_fmtp, all_rtx, all_red, quiet, append_said, parts_said}
 use Rattle.str0m_sdp.proofs.section.SectionRowsApart.{self, pt_apart}
-use Rattle.str0m_sdp.proofs.section.SectionRowsParts.{always, both, none_passes, or_false, weaker}
+use Rattle.str0m_sdp.proofs.section.SectionRowsParts.{always, none_passes, or_false, weaker}
 use Rattle.str0m_sdp.specs.attribute.Feedback.{is_feedback}
 use Rattle.str0m_sdp.specs.attribute.RtpMap.{map_of_spec, spec_of_map}
 use Rattle.str0m_sdp.specs.declared.attribute.MediaAttribute.{MediaAttribute}
@@ -129,8 +129,8 @@ feedback_own row vs words =
     quiet_rest : list_any (is_feedback row.pt words) rest ≡ false
     quiet_rest =
         none_passes (is_feedback row.pt words) rest
-        (both (λ a. is_feedback row.pt words a ≡ false) _ _ (all_fmtp (λ a. is_feedback row.pt words a ≡ false) row vs (always _ (λ v. refl) vs))
-        (both (λ a. is_feedback row.pt words a ≡ false) _ _
+        (all_both (λ a. is_feedback row.pt words a ≡ false) _ _ (all_fmtp (λ a. is_feedback row.pt words a ≡ false) row vs (always _ (λ v. refl) vs))
+        (all_both (λ a. is_feedback row.pt words a ≡ false) _ _
         (all_rtx (λ a. is_feedback row.pt words a ≡ false) row row.resend (λ n e. (λ m. refl, refl)))
         (all_red (λ a. is_feedback row.pt words a ≡ false) row row.red (λ n e. (λ m. refl, refl)))))
 
@@ -154,15 +154,15 @@ red_entry row (Some pt) = (
 ) ∷ []
 
 -- the types of a row with what each stands for: the row's codec with nothing said of its format, RTX, RED
-abbrev pub entries : PayloadParams → List (ℕ × CodecSpec)
-entries row = (row.pt, record row.spec { format = empty }) ∷ (rtx_entry row row.resend ++ red_entry row row.red)
+abbrev pub row_entries : PayloadParams → List (ℕ × CodecSpec)
+row_entries row = (row.pt, record row.spec { format = empty }) ∷ (rtx_entry row row.resend ++ red_entry row row.red)
 
 -- the mapping that is printed names the row's codec at its rate and with its channels
 abbrev pub NamesItself : CodecSpec → Type 0
 NamesItself spec = spec_of_map (map_of_spec spec) ≡ record spec { format = empty }
 
 pub mapping_own : (row : PayloadParams) (vs : List (List FormatParam)) → NamesItself row.spec
-    → filter_map mapping (reads row vs) ≡ entries row
+    → filter_map mapping (reads row vs) ≡ row_entries row
 mapping_own row vs same =
     append_said mapping (RtpMap row.pt (map_of_spec row.spec) ∷ []) (feedback_attrs row ++ after_feedback)
     ((row.pt, record row.spec { format = empty }) ∷ []) (rtx_entry row row.resend ++ red_entry row row.red)

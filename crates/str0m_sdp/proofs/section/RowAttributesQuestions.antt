@@ -3,9 +3,9 @@ use Rattle.str0m_formats.specs.declared.codec.Codec.TheVariants as codec
 use Rattle.str0m_sdp.proofs.Common.{◌≡◌, ◌==◌, ◌&&◌, ℕ, Bool, true, false, cond, List, [], ◌∷◌, ◌++◌, Option, Some, None, option_to_list, refl, ap, ◌∙◌, arith, AllByRecursion, flat_map, list_any, filter_map-append, times, AllDistinct, types_of, types, CodecSpec, FormatParam, PayloadParams, times-append, times-cons, Codec, count_by, filter_map}
 use Rattle.str0m_sdp.proofs.section.FmtpLinesAnswers.{values_apart, values_own, apt_apart, apt_own}
 use Rattle.str0m_sdp.proofs.section.MadeSectionFrame.{HasNoTypes, NameNoType, frame_mapping, frame_maps, frame_feedback, frame_values, frame_apt, frame_companion}
-use Rattle.str0m_sdp.proofs.section.RowAttributesAnswers.{NamesItself, entries, and_false, none_with, rtx_own, red_own, feedback_apart, feedback_own, mapping_own}
+use Rattle.str0m_sdp.proofs.section.RowAttributesAnswers.{NamesItself, row_entries, and_false, none_with, rtx_own, red_own, feedback_apart, feedback_own, mapping_own}
 use Rattle.str0m_sdp.proofs.section.RowAttributesReads.{reads, fmtp_lines, red_reads, quiet, all_feedback, all_fmtp}
-use Rattle.str0m_sdp.proofs.section.SectionRowsApart.{Apart, Roles, apart, roles, row_distinct, has_pt, has_rtx, pt_apart}
+use Rattle.str0m_sdp.proofs.section.SectionRowsApart.{LacksType, Roles, unique, roles, row_distinct, has_pt, has_rtx, pt_apart}
 use Rattle.str0m_sdp.proofs.section.SectionRowsOwn.{AreOpen, own_said}
 use Rattle.str0m_sdp.proofs.section.SectionRowsParts.{always, or_false, weaker, together, taken_apart, none_passes, none_counted, count-append, own_holds, AllFail}
 use Rattle.str0m_sdp.specs.Common.{first, last}
@@ -18,7 +18,7 @@ use Rattle.str0m_sdp.specs.section.Companions.{companion_in, companion}
 use Rattle.str0m_sdp.specs.section.Consistency.{maps, apt_in, first_apt}
 use Rattle.str0m_sdp.specs.section.Mappings.{mapping, is_mapped_to}
 use Rattle.str0m_sdp.specs.section.RowAttributes.{feedback_attrs, rtx_lines}
-use Rattle.str0m_sdp.specs.section.SectionRows.{values_in, lines_of}
+use Rattle.str0m_sdp.specs.section.SectionRows.{values_in, fmtps_of}
 
 first_apt-is : (t : ℕ) (attrs : List MediaAttribute) → first_apt t attrs ≡ first (filter_map (apt_in t) attrs)
 first_apt-is t [] = refl
@@ -58,15 +58,15 @@ module _ (values : PayloadParams → List (List FormatParam)) where
     own_roles = roles row (row_distinct before row after d)
 
     -- the values of its fmtp lines
-    pub values_are : lines_of (attrs_of frame (before ++ row ∷ after)) row.pt ≡ values row
-    unfolding lines_of
+    pub values_are : fmtps_of (attrs_of frame (before ++ row ∷ after)) row.pt ≡ values row
+    unfolding fmtps_of
     values_are =
         own_said (values_in row.pt) lines frame before row after
         (quiet (values_in row.pt) frame (weaker _ (λ a. values_in row.pt a ≡ None) (frame_values row.pt) frame bare))
-        (others before (apart before row after row.pt d (has_pt row)).0) (others after (apart before row after row.pt d (has_pt row)).1)
+        (others before (unique before row after row.pt d (has_pt row)).0) (others after (unique before row after row.pt d (has_pt row)).1)
         ∙ values_own row (values row) own_roles
       where
-        others : (rows : List PayloadParams) → Apart row.pt rows → AreOpen (values_in row.pt) lines rows
+        others : (rows : List PayloadParams) → LacksType row.pt rows → AreOpen (values_in row.pt) lines rows
         others rows h = weaker _ (λ r. filter_map (values_in row.pt) (lines r) ≡ []) (λ r k. values_apart r (values r) row.pt k) rows h
 
     -- the primary type that its RTX type names
@@ -75,10 +75,10 @@ module _ (values : PayloadParams → List (List FormatParam)) where
         first_apt-is t (attrs_of frame (before ++ row ∷ after))
         ∙ ap first (own_said (apt_in t) lines frame before row after
         (quiet (apt_in t) frame (weaker _ (λ a. apt_in t a ≡ None) (frame_apt t) frame bare))
-        (others before (apart before row after t d (has_rtx row t is)).0) (others after (apart before row after t d (has_rtx row t is)).1)
+        (others before (unique before row after t d (has_rtx row t is)).0) (others after (unique before row after t d (has_rtx row t is)).1)
         ∙ apt_own row (values row) t own_roles is)
       where
-        others : (rows : List PayloadParams) → Apart t rows → AreOpen (apt_in t) lines rows
+        others : (rows : List PayloadParams) → LacksType t rows → AreOpen (apt_in t) lines rows
         others rows h = weaker _ (λ r. filter_map (apt_in t) (lines r) ≡ []) (λ r k. apt_apart r (values r) t k) rows h
 
     -- its feedback
@@ -89,9 +89,9 @@ module _ (values : PayloadParams → List (List FormatParam)) where
         own_holds (is_feedback row.pt words) lines frame before row after
         (none_passes (is_feedback row.pt words) frame
         (weaker _ (λ a. is_feedback row.pt words a ≡ false) (frame_feedback row.pt words) frame bare))
-        (others before (apart before row after row.pt d (has_pt row)).0) (others after (apart before row after row.pt d (has_pt row)).1)
+        (others before (unique before row after row.pt d (has_pt row)).0) (others after (unique before row after row.pt d (has_pt row)).1)
       where
-        others : (rows : List PayloadParams) → Apart row.pt rows → AllFail (is_feedback row.pt words) lines rows
+        others : (rows : List PayloadParams) → LacksType row.pt rows → AllFail (is_feedback row.pt words) lines rows
         others rows h =
             weaker _ (λ r. list_any (is_feedback row.pt words) (lines r) ≡ false)
             (λ r k. feedback_apart r (values r) row.pt words k) rows h
@@ -114,12 +114,12 @@ module _ (values : PayloadParams → List (List FormatParam)) where
           ap last (own_said (companion_in c mapped row.pt) lines frame before row after
           (quiet (companion_in c mapped row.pt) frame
           (weaker _ (λ a. companion_in c mapped row.pt a ≡ None) (frame_companion c mapped row.pt) frame bare))
-          (others before (taken_apart _ before row after silent).0 (apart before row after row.pt d (has_pt row)).0)
-          (others after (taken_apart _ before row after silent).2 (apart before row after row.pt d (has_pt row)).1)
+          (others before (taken_apart _ before row after silent).0 (unique before row after row.pt d (has_pt row)).0)
+          (others after (taken_apart _ before row after silent).2 (unique before row after row.pt d (has_pt row)).1)
           ∙ is)
           ∙ last_option own
         where
-          others : (rows : List PayloadParams) → AllByRecursion (λ r. NameNoType (values r)) rows → Apart row.pt rows
+          others : (rows : List PayloadParams) → AllByRecursion (λ r. NameNoType (values r)) rows → LacksType row.pt rows
               → AreOpen (companion_in c mapped row.pt) lines rows
           others rows s h =
               together _ _ (λ r. filter_map (companion_in c mapped row.pt) (lines r) ≡ [])
@@ -139,7 +139,7 @@ module _ (values : PayloadParams → List (List FormatParam)) where
   -- the codecs of the types: in order, each row's own
   pub mappings_are : (frame : List MediaAttribute) (rows : List PayloadParams) → HasNoTypes frame
       → AllByRecursion (λ row. NamesItself row.spec) rows
-      → filter_map mapping (attrs_of frame rows) ≡ flat_map entries rows
+      → filter_map mapping (attrs_of frame rows) ≡ flat_map row_entries rows
   mappings_are frame rows bare same = grind (arith, filter_map-append, quiet, weaker, frame_mapping, over_rows, mapping_own)
 
   -- a type is mapped as often as it stands among the types of the rows

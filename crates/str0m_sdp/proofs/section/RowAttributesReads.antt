@@ -1,7 +1,6 @@
 -- What the lines of a row read as, and what holds of each of them.
 use Rattle.str0m_formats.specs.declared.codec.Codec.TheVariants as codec
-use Rattle.str0m_sdp.proofs.Common.{arith, ◌≡◌, ℕ, Bool, List, [], ◌∷◌, ◌++◌, Option, Some, None, refl, ap, ◌∙◌, AllByRecursion, filter_map-append, rtp_rate, FormatParam, Apt, BarePtList, PayloadParams, filter_map}
-use Rattle.str0m_sdp.proofs.section.SectionRowsParts.{both}
+use Rattle.str0m_sdp.proofs.Common.{arith, ◌≡◌, ℕ, Bool, List, [], ◌∷◌, ◌++◌, Option, Some, None, refl, ap, ◌∙◌, AllByRecursion, filter_map-append, rtp_rate, FormatParam, Apt, BarePtList, PayloadParams, filter_map, all_both}
 use Rattle.str0m_sdp.specs.attribute.RtpMap.{map_of_spec}
 use Rattle.str0m_sdp.specs.declared.attribute.MediaAttribute.{MediaAttribute}
 use Rattle.str0m_sdp.specs.declared.attribute.MediaAttribute.TheVariants.{RtpMap, RtcpFb, Fmtp}
@@ -50,7 +49,7 @@ module _ (P : MediaAttribute → Type 0) (row : PayloadParams) where
       → ((n : ℕ) → row.resend ≡ Some n → ((m : Mapping) → P (RtpMap n m)) × P (Fmtp n (Apt row.pt ∷ [])))
       → ((n : ℕ) → row.red ≡ Some n → ((m : Mapping) → P (RtpMap n m)) × P (Fmtp n (BarePtList row.pt ∷ [])))
       → AllByRecursion P (reads row vs)
-  each vs map feedback format rtx red = grind (arith, both, all_feedback, all_fmtp, all_rtx, all_red)
+  each vs map feedback format rtx red = grind (arith, all_both, all_feedback, all_fmtp, all_rtx, all_red)
 
 -- ---- questions
 

@@ -25,11 +25,11 @@ module _ {S A B C D F : Type 0} {steps : S → Option A → S → Type 0} {v : A
     (w : C → D) (h : B → Option D) (road : YieldsList steps v s all)
     (k : (x : A) (r : Option C) (q : F) → Called g f (x, tt) r q → (q ≡ f) × (option_map w r ≡ h (v x))) where
   -- where the calls gave nothing, and where one gave c
-  answered : (p : Run steps) → p.from ≡ s → (r : Option C)
+  answered_first : (p : Run steps) → p.from ≡ s → (r : Option C)
       → MatchOption r (IsTrue p.whole × AllItemsGive p g f None) (λ c. (i : ℕ) × (i < p.len) × (p.len ≡ i + 1) × IsFirstToGive p g f (Some c) None i)
       → option_map w r ≡ first (filter_map h all)
   unfolding YieldsRun
-  answered p from None (whole, none) =
+  answered_first p from None (whole, none) =
       let drained = p.gave.0 in
       let end = drained.2 whole in
       let start = subst (λ t. Yields steps t p.items drained.0) from drained.1 in
@@ -41,7 +41,7 @@ module _ {S A B C D F : Type 0} {steps : S → Option A → S → Type 0} {v : A
       given : (o : Option A) → IfSome o (λ x. Called g f (x, tt) None f) → IfSome o (λ x. None ≡ h (v x))
       given None c = tt
       given (Some x) c = (k x None f c).1
-  answered p from (Some c) (i, lt, last, hits) =
+  answered_first p from (Some c) (i, lt, last, hits) =
       let drained = p.gave.0 in
       let start = subst (λ t. Yields steps t p.items drained.0) from drained.1 in
       let so_far = YieldsList-so_far road p.items drained.0 start in
@@ -60,7 +60,7 @@ module _ {S A B C D F : Type 0} {steps : S → Option A → S → Type 0} {v : A
   pub first_from_find_map : (r : Option C)
       → SomeRun steps s (λ p. MatchOption r (IsTrue p.whole × AllItemsGive p g f None) (λ c. (i : ℕ) × (i < p.len) × (p.len ≡ i + 1) × IsFirstToGive p g f (Some c) None i))
       → option_map w r ≡ first (filter_map h all)
-  first_from_find_map r (p, from, found) = answered p from r found
+  first_from_find_map r (p, from, found) = answered_first p from r found
 
 -- where the closure itself gives what h gives
 pub first_by_find_map : {S A B C F : Type 0} {steps : S → Option A → S → Type 0} {v : A → B} {g : Mut F (A × Unit {0}) (Option C)} {s : S} {f : F} {all : List B}

@@ -4,8 +4,8 @@ use Rattle.str0m_sdp.specs.Common.{first, last}
 
 -- ---- from the end
 
-first_append : {X : Type 0} (xs ys : List X) → first (xs ++ ys) ≡ option_or (first xs) (first ys)
-first_append xs ys = grind arith
+first-append : {X : Type 0} (xs ys : List X) → first (xs ++ ys) ≡ option_or (first xs) (first ys)
+first-append xs ys = grind arith
 
 first_held : {X : Type 0} (o : Option X) → first (cons_option o []) ≡ o
 first_held o = grind arith
@@ -19,25 +19,25 @@ first_reversed h [] = refl
 first_reversed h (x ∷ xs) =
     ap (λ ys. first (filter_map h ys)) (reverse-append (x ∷ []) xs)
     ∙ ap first (filter_map-append h (reverse xs) (x ∷ []))
-    ∙ first_append (filter_map h (reverse xs)) (filter_map h (x ∷ []))
+    ∙ first-append (filter_map h (reverse xs)) (filter_map h (x ∷ []))
     ∙ ap (option_or (first (filter_map h (reverse xs)))) (first_held (h x))
     ∙ ap (λ o. option_or o (h x)) (first_reversed h xs)
     ∙ sym (last_more (h x) (filter_map h xs))
 
 -- ---- one more item
 
-more : {X Y : Type 0} (h : X → Option Y) (xs : List X) (i : ℕ) (x : X) (o : Option Y) → i < length xs → x ≡ get_or xs i x → o ≡ h x
+item_more : {X Y : Type 0} (h : X → Option Y) (xs : List X) (i : ℕ) (x : X) (o : Option Y) → i < length xs → x ≡ get_or xs i x → o ≡ h x
     → filter_map h (take (i + 1) xs) ≡ filter_map h (take i xs) ++ cons_option o []
-more h xs i x o lt is holds = grind (arith, take_more xs i x lt, filter_map-append h (take i xs) (get_or xs i x ∷ []))
+item_more h xs i x o lt is holds = grind (arith, take_more xs i x lt, filter_map-append h (take i xs) (get_or xs i x ∷ []))
 
 -- an item that holds something is passed, and one that holds nothing
 pub filter_map_more : {X Y : Type 0} (h : X → Option Y) (xs : List X) (i : ℕ) (x : X) (y : Y) → i < length xs → x ≡ get_or xs i x → Some y ≡ h x
     → filter_map h (take (i + 1) xs) ≡ filter_map h (take i xs) ++ y ∷ []
-filter_map_more h xs i x y lt is holds = more h xs i x (Some y) lt is holds
+filter_map_more h xs i x y lt is holds = item_more h xs i x (Some y) lt is holds
 
 pub filter_map_same : {X Y : Type 0} (h : X → Option Y) (xs : List X) (i : ℕ) (x : X) → i < length xs → x ≡ get_or xs i x → None ≡ h x
     → filter_map h (take (i + 1) xs) ≡ filter_map h (take i xs)
-filter_map_same h xs i x lt is holds = more h xs i x None lt is holds ∙ append-nil (filter_map h (take i xs))
+filter_map_same h xs i x lt is holds = item_more h xs i x None lt is holds ∙ append-nil (filter_map h (take i xs))
 
 -- ---- counted by a test
 
@@ -46,13 +46,13 @@ module _ {X Y : Type 0} (h : X → Option Y) (p : X → Bool) (same : (x : X) �
       → is_some (first (cons_option o ys)) ≡ ltb 0 (length (cond b (x ∷ zs) zs))
   held x o b ys zs e rest = grind arith
 
-  counted : (xs : List X) → is_some (first (filter_map h xs)) ≡ ltb 0 (length (filter p xs))
-  counted [] = refl
-  counted (x ∷ xs) = held x (h x) (p x) (filter_map h xs) (filter p xs) (same x) (counted xs)
+  filter_map_counted : (xs : List X) → is_some (first (filter_map h xs)) ≡ ltb 0 (length (filter p xs))
+  filter_map_counted [] = refl
+  filter_map_counted (x ∷ xs) = held x (h x) (p x) (filter_map h xs) (filter p xs) (same x) (filter_map_counted xs)
 
   -- there is a first where some item passes
   pub first_counted : (xs : List X) → (is_some (first (filter_map h xs)) ≡ true) ↔ (0 < count_by p xs)
-  first_counted xs = grind (arith, length-filter, ltb-true, counted, lt-ltb)
+  first_counted xs = grind (arith, length-filter, ltb-true, filter_map_counted, lt-ltb)
 
   replaced : (x y : X) (b : Bool) (o : Option Y) (n : ℕ) (xs : List X) → is_some o ≡ b → h x ≡ o → is_some (h y) ≡ true
       → cond (not b) (1 + n) 0 < length (x ∷ xs)

@@ -7,7 +7,7 @@ use Rattle.str0m_sdp.specs.Common.{last, distinct}
 use Rattle.str0m_sdp.specs.declared.attribute.MediaAttribute.{MediaAttribute}
 use Rattle.str0m_sdp.specs.declared.attribute.MediaAttribute.TheVariants.{Ssrc}
 use Rattle.str0m_sdp.specs.declared.section.ssrc_info.SsrcInfo.{SsrcInfo}
-use Rattle.str0m_sdp.specs.section.SsrcInfo.{source_of, repair_pair, repair_source, value_of, repaired_by, cname_said, id_of, stream_said, track_said, latest, info, infos, empty_info}
+use Rattle.str0m_sdp.specs.section.SsrcInfo.{source_of, repair_pair, repair_source, source_value_of, repaired_by, cname_said, id_of, stream_said, track_said, latest, info, infos, empty_info}
 use Rattle.str0m_sdp.specs.section.SsrcInfoReading.{track_after, with_ids, with_value, so_far, info_from, AreGathered}
 
 -- ---- entries with a number as their key
@@ -22,9 +22,9 @@ module _ {V : Type 0} where
   looked_up (e ∷ es) k s v = grind (arith, looked_up es k s v, nat_eq_equiv)
 
   -- values that follow from their keys
-  keyed : (f : ℕ → V) (es : List (ℕ × V)) → ((i : ℕ) (e : ℕ × V) → slice_get es i ≡ Some e → e.1 ≡ f e.0) → values_of es ≡ map f (keys_of es)
-  keyed f [] same = refl
-  keyed f (e ∷ es) same = λ i. same 0 e refl i ∷ keyed f es (λ j x at. same (suc j) x at) i
+  source_keyed : (f : ℕ → V) (es : List (ℕ × V)) → ((i : ℕ) (e : ℕ × V) → slice_get es i ≡ Some e → e.1 ≡ f e.0) → values_of es ≡ map f (keys_of es)
+  source_keyed f [] same = refl
+  source_keyed f (e ∷ es) same = λ i. same 0 e refl i ∷ source_keyed f es (λ j x at. same (suc j) x at) i
 
 -- ---- what one more attribute says
 
@@ -53,7 +53,7 @@ module _ (groups values : List MediaAttribute) where
     track_id = option_flatten (option_or (ids >>= track_named) (latest (track_said s) values));
   }
 
-  value_more : (attr : MediaAttribute) (s : ℕ) (cname ids : Option (List ℕ)) → value_of (codes "cname") s attr ≡ cname → value_of (codes "msid") s attr ≡ ids → info_from groups (values ++ attr ∷ []) s ≡ more_said s cname ids
+  value_more : (attr : MediaAttribute) (s : ℕ) (cname ids : Option (List ℕ)) → source_value_of (codes "cname") s attr ≡ cname → source_value_of (codes "msid") s attr ≡ ids → info_from groups (values ++ attr ∷ []) s ≡ more_said s cname ids
   value_more attr s cname ids named has = grind (arith, latest_more, cname_said, stream_said, track_said)
 
   group_more : (attr : MediaAttribute) (s : ℕ) (repaired : Option ℕ) → repaired_by s attr ≡ repaired → info_from (groups ++ attr ∷ []) values s ≡ record (info_from groups values s) { repairs = option_or repaired (latest (repaired_by s) groups) }
@@ -64,13 +64,13 @@ module _ (groups values : List MediaAttribute) where
   other_value attr other s = grind (arith, value_more attr s None None)
 
   -- one that is of a source sets what it says of that one
-  one_value : (k : ℕ) (name value : List ℕ) (s : ℕ) → cond (nat_eq k s) (with_value name value (info_from groups values k)) (info_from groups values s) ≡ info_from groups (values ++ Ssrc k name value ∷ []) s
-  one_value k name value s = by (nat_eq k s) refl (str_eq_ignore_ascii_case name (codes "cname")) refl (str_eq_ignore_ascii_case name (codes "msid")) refl
+  one_value_set : (k : ℕ) (name value : List ℕ) (s : ℕ) → cond (nat_eq k s) (with_value name value (info_from groups values k)) (info_from groups values s) ≡ info_from groups (values ++ Ssrc k name value ∷ []) s
+  one_value_set k name value s = by (nat_eq k s) refl (str_eq_ignore_ascii_case name (codes "cname")) refl (str_eq_ignore_ascii_case name (codes "msid")) refl
     where
       attr : MediaAttribute
       attr = Ssrc k name value
 
-      valued : (wanted : List ℕ) (b t : Bool) → nat_eq k s ≡ b → str_eq_ignore_ascii_case name wanted ≡ t → value_of wanted s (Ssrc k name value) ≡ when (b && t) value
+      valued : (wanted : List ℕ) (b t : Bool) → nat_eq k s ≡ b → str_eq_ignore_ascii_case name wanted ≡ t → source_value_of wanted s (Ssrc k name value) ≡ when (b && t) value
       valued wanted b t p q = λ i. when (p i && q i) value
 
       -- no name is both
@@ -120,8 +120,8 @@ gathered_put sources groups values groups' values' es new k v h put step = recor
     inside false o d = refl
 
 -- the attributes up to one, and that one
-taken : (lines : List MediaAttribute) (i : ℕ) (line : MediaAttribute) → i < length lines → line ≡ get_or lines i line → take (i + 1) lines ≡ take i lines ++ line ∷ []
-taken lines i line inside at = take_more lines i line inside ∙ ap (λ l. take i lines ++ l ∷ []) (sym at)
+take_line : (lines : List MediaAttribute) (i : ℕ) (line : MediaAttribute) → i < length lines → line ≡ get_or lines i line → take (i + 1) lines ≡ take i lines ++ line ∷ []
+take_line lines i line inside at = take_more lines i line inside ∙ ap (λ l. take i lines ++ l ∷ []) (sym at)
 
 chosen : (said : MediaAttribute → Option ℕ) (done : List MediaAttribute) (line : MediaAttribute) (o : Option ℕ) → said line ≡ o → filter_map said done ++ cons_option o [] ≡ filter_map said (done ++ line ∷ [])
 chosen said done line o is = ap (λ o. filter_map said done ++ cons_option o []) (sym is) ∙ sym (filter_map-append said done (line ∷ []))
@@ -131,18 +131,18 @@ pub put_value : (lines : List MediaAttribute) (i : ℕ) (line : MediaAttribute) 
     → AreGathered (filter_map source_of (take (i + 1) lines)) [] (take (i + 1) lines) new
 put_value lines i line k name value es new inside at is h put =
     let done = take i lines in
-    let more : take (i + 1) lines ≡ done ++ Ssrc k name value ∷ [] = taken lines i line inside at ∙ ap (λ l. done ++ l ∷ []) is in
+    let more : take (i + 1) lines ≡ done ++ Ssrc k name value ∷ [] = take_line lines i line inside at ∙ ap (λ l. done ++ l ∷ []) is in
     let set : new ≡ insert_entry nat_eq es k (with_value name value (info_from [] done k)) = put ∙ ap (λ info. insert_entry nat_eq es k (with_value name value info)) (h.said k) in
     subst (λ l. AreGathered (filter_map source_of l) [] l new) (sym more)
     (subst (λ sources. AreGathered sources [] (done ++ Ssrc k name value ∷ []) new) (chosen source_of done (Ssrc k name value) (Some k) refl)
-    (gathered_put _ [] done [] (done ++ Ssrc k name value ∷ []) es new k _ h set (one_value [] done k name value)))
+    (gathered_put _ [] done [] (done ++ Ssrc k name value ∷ []) es new k _ h set (one_value_set [] done k name value)))
 
 pub pass_value : (lines : List MediaAttribute) (i : ℕ) (line : MediaAttribute) (es new : List (ℕ × SsrcInfo)) → i < length lines → line ≡ get_or lines i line → ((k : ℕ) (name value : List ℕ) → line ≡ Ssrc k name value → ⊥)
     → AreGathered (filter_map source_of (take i lines)) [] (take i lines) es → new ≡ es
     → AreGathered (filter_map source_of (take (i + 1) lines)) [] (take (i + 1) lines) new
 pass_value lines i line es new inside at other h same =
     let done = take i lines in
-    subst (λ l. AreGathered (filter_map source_of l) [] l new) (sym (taken lines i line inside at)) (record {
+    subst (λ l. AreGathered (filter_map source_of l) [] l new) (sym (take_line lines i line inside at)) (record {
       keys = ap keys_of same ∙ h.keys ∙ ap (insert_all nat_eq []) (sym (append-nil (filter_map source_of done)) ∙ chosen source_of done line None (no_source line other));
       said = λ s. ap (λ es. so_far es s) same ∙ h.said s ∙ sym (other_value [] done line other s);
     })
@@ -159,7 +159,7 @@ module _ (sources : List ℕ) (lines : List MediaAttribute) (i : ℕ) (line : Me
       let done = take i lines in
       let set : new ≡ insert_entry nat_eq es pair.1 (record (info_from done lines pair.1) { repairs = Some pair.0 }) = put ∙ ap (λ info. insert_entry nat_eq es pair.1 (record info { repairs = Some pair.0 })) (h.said pair.1) in
       let more : (sources ++ filter_map repair_source done) ++ pair.1 ∷ [] ≡ sources ++ filter_map repair_source (done ++ line ∷ []) = append_assoc sources (filter_map repair_source done) (pair.1 ∷ []) ∙ ap (λ l. sources ++ l) (chosen repair_source done line (Some pair.1) (ap (option_map (λ pair. pair.1)) is)) in
-      subst (λ l. AreGathered (sources ++ filter_map repair_source l) l lines new) (sym (taken lines i line inside at))
+      subst (λ l. AreGathered (sources ++ filter_map repair_source l) l lines new) (sym (take_line lines i line inside at))
       (subst (λ l. AreGathered l (done ++ line ∷ []) lines new) more
       (gathered_put _ done lines (done ++ line ∷ []) lines es new pair.1 _ h set (one_group done lines line pair.0 pair.1 is)))
 
@@ -167,7 +167,7 @@ module _ (sources : List ℕ) (lines : List MediaAttribute) (i : ℕ) (line : Me
   pass_repair none same =
       let done = take i lines in
       let more : filter_map repair_source done ≡ filter_map repair_source (done ++ line ∷ []) = sym (append-nil (filter_map repair_source done)) ∙ chosen repair_source done line None (ap (option_map (λ pair. pair.1)) none) in
-      subst (λ l. AreGathered (sources ++ filter_map repair_source l) l lines new) (sym (taken lines i line inside at)) (record {
+      subst (λ l. AreGathered (sources ++ filter_map repair_source l) l lines new) (sym (take_line lines i line inside at)) (record {
         keys = ap keys_of same ∙ h.keys ∙ ap (λ l. insert_all nat_eq [] (sources ++ l)) more;
         said = λ s. ap (λ es. so_far es s) same ∙ h.said s ∙ sym (other_group done lines line none s);
       })
@@ -178,4 +178,4 @@ gathered_infos attrs es h =
     let all = filter_map source_of attrs ++ filter_map repair_source attrs in
     let keys : keys_of es ≡ distinct nat_eq all = h.keys ∙ inserted-distinct nat_eq nat_eq_equiv all in
     let apart : IsDistinct nat_eq (keys_of es) = subst (IsDistinct nat_eq) (sym keys) (distinct-apart nat_eq nat_eq_equiv all) in
-    keyed (info attrs) es (λ i e at. sym (ap (λ o. unwrap_or o (empty_info e.0)) (lookup_from_place nat_eq_equiv es i e.0 e.1 apart at)) ∙ h.said e.0) ∙ ap (map (info attrs)) keys
+    source_keyed (info attrs) es (λ i e at. sym (ap (λ o. unwrap_or o (empty_info e.0)) (lookup_from_place nat_eq_equiv es i e.0 e.1 apart at)) ∙ h.said e.0) ∙ ap (map (info attrs)) keys

@@ -27,11 +27,11 @@ count_more attrs counts i n value attr lt row is variant pt so_far =
 
 -- ---- primary types
 
-or_none : (o : Option ℕ) → (o <|> None) ≡ o
-or_none o = grind arith
+or_else_none : (o : Option ℕ) → (o <|> None) ≡ o
+or_else_none o = grind arith
 
-or_assoc : (a b c : Option ℕ) → ((a <|> b) <|> c) ≡ (a <|> (b <|> c))
-or_assoc a b c = grind arith
+or_else_assoc : (a b c : Option ℕ) → ((a <|> b) <|> c) ≡ (a <|> (b <|> c))
+or_else_assoc a b c = grind arith
 
 none_is : (o : Option ℕ) → is_some o ≡ false → o ≡ None
 none_is o empty = grind arith
@@ -39,19 +39,19 @@ none_is o empty = grind arith
 some_or : (a b : Option ℕ) → is_some a ≡ true → a ≡ (a <|> b)
 some_or a b full = grind arith
 
-first_append : (pt : ℕ) (xs ys : List MediaAttribute) → first_apt pt (xs ++ ys) ≡ (first_apt pt xs <|> first_apt pt ys)
-first_append pt [] ys = refl
-first_append pt (x ∷ xs) ys = grind (arith, first_append pt xs ys, or_assoc)
+first_apt-append : (pt : ℕ) (xs ys : List MediaAttribute) → first_apt pt (xs ++ ys) ≡ (first_apt pt xs <|> first_apt pt ys)
+first_apt-append pt [] ys = refl
+first_apt-append pt (x ∷ xs) ys = grind (arith, first_apt-append pt xs ys, or_else_assoc)
 
 first_more : (pt : ℕ) (attrs : List MediaAttribute) (i : ℕ) (attr : MediaAttribute) → i < length attrs → attr ≡ get_or attrs i attr
     → first_apt pt (take (i + 1) attrs) ≡ (first_apt pt (take i attrs) <|> apt_in pt attr)
-first_more pt attrs i attr lt is = grind (arith, take_at_read, first_append, or_none)
+first_more pt attrs i attr lt is = grind (arith, take_at_read, first_apt-append, or_else_none)
 
-apt_own : (n : ℕ) (values : List FormatParam) → apt_in n (Fmtp n values) ≡ apt_among values
-apt_own n values = rw (eq-eqb n n refl) refl
+apt_of_own : (n : ℕ) (values : List FormatParam) → apt_in n (Fmtp n values) ≡ apt_among values
+apt_of_own n values = rw (eq-eqb n n refl) refl
 
-apt_apart : (n pt : ℕ) (values : List FormatParam) → (n ≡ pt → ⊥) → apt_in pt (Fmtp n values) ≡ None
-apt_apart n pt values apart = rw (ne_eqb n pt apart) refl
+apt_of_others : (n pt : ℕ) (values : List FormatParam) → (n ≡ pt → ⊥) → apt_in pt (Fmtp n values) ≡ None
+apt_of_others n pt values apart = rw (ne_eqb n pt apart) refl
 
 apt_none : (pt : ℕ) (attr : MediaAttribute) → ((n : ℕ) (values : List FormatParam) → attr ≡ Fmtp n values → ⊥) → apt_in pt attr ≡ None
 apt_none pt attr other = grind arith
@@ -63,7 +63,7 @@ pub first_same : (attrs : List MediaAttribute) (firsts : List (Option ℕ)) (i :
     → get_or firsts pt None ≡ first_apt pt (take i attrs)
     → get_or firsts pt None ≡ first_apt pt (take (i + 1) attrs)
 first_same attrs firsts i attr lt is pt silent so_far =
-    grind (arith, first_more pt attrs i attr lt is, or_none (first_apt pt (take i attrs)))
+    grind (arith, first_more pt attrs i attr lt is, or_else_none (first_apt pt (take i attrs)))
 
 -- what is no fmtp line names none
 pub first_other : (attrs : List MediaAttribute) (firsts : List (Option ℕ)) (i : ℕ) (attr : MediaAttribute)
@@ -82,7 +82,7 @@ first_kept attrs firsts i n values attr lt is variant named pt so_far =
       | inl same ↦
           let there = ap (λ (o : Option ℕ). is_some o) (sym so_far) ∙ rw same at named in
           so_far ∙ some_or (first_apt pt (take i attrs)) (apt_in pt attr) there ∙ sym (first_more pt attrs i attr lt is)
-      | inr apart ↦ first_same attrs firsts i attr lt is pt (ap (apt_in pt) variant ∙ apt_apart n pt values apart) so_far
+      | inr apart ↦ first_same attrs firsts i attr lt is pt (ap (apt_in pt) variant ∙ apt_of_others n pt values apart) so_far
     ]
 
 -- where none is named yet, the line's own is the first
@@ -96,8 +96,8 @@ first_named attrs firsts i n values attr lt row is variant none pt so_far =
           let at_row = rw (← same) at so_far in
           let nothing : first_apt n (take i attrs) ≡ None = sym at_row ∙ none_is (get_or firsts n None) none in
           rw (← same) (get_or-set_same firsts n (apt_among values) None row ∙ sym (first_more n attrs i attr lt is
-          ∙ ap (λ (o : Option ℕ). o <|> apt_in n attr) nothing ∙ ap (apt_in n) variant ∙ apt_own n values))
+          ∙ ap (λ (o : Option ℕ). o <|> apt_in n attr) nothing ∙ ap (apt_in n) variant ∙ apt_of_own n values))
       | inr apart ↦
           get_or-set_other firsts n pt (apt_among values) None (λ same. apart (sym same))
-          ∙ first_same attrs firsts i attr lt is pt (ap (apt_in pt) variant ∙ apt_apart n pt values apart) so_far
+          ∙ first_same attrs firsts i attr lt is pt (ap (apt_in pt) variant ∙ apt_of_others n pt values apart) so_far
     ]

@@ -15,34 +15,34 @@ module _ {X : Type 0} (same : X → X → Bool) (laws : IsEquivalence same) wher
   unseen seen xs = filter (λ y. not (list_any (same y) seen)) xs
 
   -- those that differ from x
-  abbrev others : X → List X → List X
-  others x xs = filter (λ y. not (same x y)) xs
+  abbrev others_than : X → List X → List X
+  others_than x xs = filter (λ y. not (same x y)) xs
 
   unseen-none : (xs : List X) → unseen [] xs ≡ xs
   unseen-none [] = refl
   unseen-none (x ∷ xs) = ap (λ rest. x ∷ rest) (unseen-none xs)
 
   -- what is the same as one that was seen was seen
-  seen_others : (seen : List X) (x : X) → list_any (same x) seen ≡ true → (xs : List X) → unseen seen (others x xs) ≡ unseen seen xs
+  seen_others : (seen : List X) (x : X) → list_any (same x) seen ≡ true → (xs : List X) → unseen seen (others_than x xs) ≡ unseen seen xs
   seen_others seen x was [] = refl
   seen_others seen x was (y ∷ ys) = grind (arith, seen_others seen x was ys, list_any_congr)
 
   -- one more that was seen
-  seen_more : (seen : List X) (x : X) (xs : List X) → unseen (seen ++ x ∷ []) xs ≡ unseen seen (others x xs)
-  seen_more seen x [] = refl
-  seen_more seen x (y ∷ ys) = grind (arith, list_any-append, seen_more seen x ys)
+  unseen_more : (seen : List X) (x : X) (xs : List X) → unseen (seen ++ x ∷ []) xs ≡ unseen seen (others_than x xs)
+  unseen_more seen x [] = refl
+  unseen_more seen x (y ∷ ys) = grind (arith, list_any-append, unseen_more seen x ys)
 
   -- a set keeps what it had, and then each value that it hadn't
   inserted : (seen xs : List X) → insert_all same seen xs ≡ seen ++ unseen seen (distinct same xs)
   inserted seen [] = sym (append-nil seen)
-  inserted seen (x ∷ xs) = grind (arith, inserted seen xs, inserted (seen ++ x ∷ []) xs, seen_others, append_assoc, seen_more)
+  inserted seen (x ∷ xs) = grind (arith, inserted seen xs, inserted (seen ++ x ∷ []) xs, seen_others, append_assoc, unseen_more)
 
   -- a set into which a list is put has its values, each once
   pub inserted-distinct : (xs : List X) → insert_all same [] xs ≡ distinct same xs
   inserted-distinct xs = inserted [] xs ∙ unseen-none (distinct same xs)
 
   -- leaving out what differs from k loses no k
-  any-others : (k x : X) → same k x ≡ false → (xs : List X) → list_any (same k) (others x xs) ≡ list_any (same k) xs
+  any-others : (k x : X) → same k x ≡ false → (xs : List X) → list_any (same k) (others_than x xs) ≡ list_any (same k) xs
   any-others k x apart [] = refl
   any-others k x apart (y ∷ ys) = grind (arith, any-others k x apart ys)
 
@@ -55,7 +55,7 @@ module _ {X : Type 0} (same : X → X → Bool) (laws : IsEquivalence same) wher
   distinct-filter test [] apart = tt
   distinct-filter test (x ∷ xs) apart = grind (arith, distinct-filter test xs apart.1, all-filter)
 
-  others-apart : (x : X) (xs : List X) → AllByRecursion (λ y. same x y ≡ false) (others x xs)
+  others-apart : (x : X) (xs : List X) → AllByRecursion (λ y. same x y ≡ false) (others_than x xs)
   others-apart x [] = tt
   others-apart x (y ∷ ys) = grind (arith, others-apart x ys)
 

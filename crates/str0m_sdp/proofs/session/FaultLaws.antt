@@ -46,27 +46,27 @@ mids : (count : ℕ) (o : Option (List ℕ)) → ((is_some o ≡ true) ↔ (0 < 
     → ((mid : List ℕ) → (beside mid ≡ None) ↔ P) → (after_mid (one_mid count o) beside ≡ None) ↔ ((count ≡ 1) × P)
 mids count o held beside p none = grind arith
 
-at_most_one : {E : Type 0} (count : ℕ) (fault : E) → (when (nat_lt 1 count) fault ≡ None) ↔ (count ≤ 1)
-at_most_one count fault = grind arith
+count_at_most_one : {E : Type 0} (count : ℕ) (fault : E) → (when (nat_lt 1 count) fault ≡ None) ↔ (count ≤ 1)
+count_at_most_one count fault = grind arith
 
-unmapped : {E : Type 0} (known : Bool) (fault : E) (P : Type 0) → ((known ≡ true) ↔ P) → (when (not known) fault <|> None ≡ None) ↔ P
-unmapped known fault P is = grind arith
+unmapped_none : {E : Type 0} (known : Bool) (fault : E) (P : Type 0) → ((known ≡ true) ↔ P) → (when (not known) fault <|> None ≡ None) ↔ P
+unmapped_none known fault P is = grind arith
 
-mapped : (mid : List ℕ) (pt count : ℕ) → (mapping_fault count mid pt ≡ None) ↔ ((count ≡ 1) ⊎ ((count ≡ 0) × NeedsNoMapping pt))
-mapped mid pt count = grind (arith, cases_lt, lt-ltb, ne_eqb, needs_none)
+mapping_none : (mid : List ℕ) (pt count : ℕ) → (mapping_fault count mid pt ≡ None) ↔ ((count ≡ 1) ⊎ ((count ≡ 0) × NeedsNoMapping pt))
+mapping_none mid pt count = grind (arith, cases_lt, lt-ltb, ne_eqb, needs_none)
 
-one_direction : (count : ℕ) → (not (count == 1) ≡ false) ↔ (count ≡ 1)
-one_direction count = grind arith
+not_one : (count : ℕ) → (not (count == 1) ≡ false) ↔ (count ≡ 1)
+not_one count = grind arith
 
-some_type : (disabled : Bool) (pts : List ℕ) → ((not disabled && length pts == 0) ≡ false) ↔ (disabled ≡ false → pts ≢ [])
-some_type true pts = ((λ is enabled. absurd cc), λ some. refl)
-some_type false [] = ((λ is. absurd cc), λ some. absurd (some refl refl))
-some_type false (pt ∷ pts) = rw (ne_eqb (length (pt ∷ pts)) 0 (λ same. omega (arith, same))) ((λ is enabled same. cc), λ some. refl)
+has_some_type : (disabled : Bool) (pts : List ℕ) → ((not disabled && length pts == 0) ≡ false) ↔ (disabled ≡ false → pts ≢ [])
+has_some_type true pts = ((λ is enabled. absurd cc), λ some. refl)
+has_some_type false [] = ((λ is. absurd cc), λ some. absurd (some refl refl))
+has_some_type false (pt ∷ pts) = rw (ne_eqb (length (pt ∷ pts)) 0 (λ same. omega (arith, same))) ((λ is enabled same. cc), λ some. refl)
 
-fits : (m : MediaLine) (mid : List ℕ) (proto : Proto)
+proto_fits : (m : MediaLine) (mid : List ℕ) (proto : Proto)
     → (proto_fault m mid proto ≡ None) ↔ (proto ≡ Srtp → (count_by is_direction m.attrs ≡ 1) × (m.disabled ≡ false → m.pts ≢ []))
-fits m mid Sctp = ((λ is same. absurd cc), λ fits. refl)
-fits m mid Srtp = grind (arith, when_none, or_none, one_direction, some_type)
+proto_fits m mid Sctp = ((λ is same. absurd cc), λ fits. refl)
+proto_fits m mid Srtp = grind (arith, when_none, or_none, not_one, has_some_type)
 
 clashes : (mid : List ℕ) (pt named : ℕ) (other : Option ℕ) → (clash mid pt named other ≡ None) ↔ IfSome other (λ other. named ≡ other)
 clashes mid pt named other = grind arith
@@ -86,16 +86,16 @@ agrees attrs mid attr = grind (arith, values_agree)
 abbrev Rest : MediaLine → Type 0
 Rest m = (count_by is_setup m.attrs ≤ 1) × (FitsProto m × (All (IsMapped m.attrs) m.pts × All (AgreesOnApt m.attrs) m.attrs))
 
-beside : (m : MediaLine) (mid : List ℕ) → (fault_beside m mid ≡ None) ↔ Rest m
-beside m mid =
+fault_beside_none : (m : MediaLine) (mid : List ℕ) → (fault_beside m mid ≡ None) ↔ Rest m
+fault_beside_none m mid =
     let maps = first (filter_map (map_fault m.attrs mid) m.pts) in
     let apts = first (filter_map (apt_fault m.attrs mid) m.attrs) in
     let a = or_none (setup_fault m.attrs mid) (proto_fault m mid m.proto <|> (maps <|> apts)) in
     let b = or_none (proto_fault m mid m.proto) (maps <|> apts) in
     let d = or_none maps apts in
-    let setup = at_most_one (count_by is_setup m.attrs) (SecondSetup mid) in
-    let proto = fits m mid m.proto in
-    let mapping = none_among (map_fault m.attrs mid) (IsMapped m.attrs) (λ pt. mapped mid pt (count_by (maps_to pt) m.attrs)) m.pts in
+    let setup = count_at_most_one (count_by is_setup m.attrs) (SecondSetup mid) in
+    let proto = proto_fits m mid m.proto in
+    let mapping = none_among (map_fault m.attrs mid) (IsMapped m.attrs) (λ pt. mapping_none mid pt (count_by (maps_to pt) m.attrs)) m.pts in
     let apt = none_among (apt_fault m.attrs mid) (AgreesOnApt m.attrs) (agrees m.attrs mid) m.attrs in (
       (λ is. let p = a.0 is in let q = b.0 p.1 in let r = d.0 q.1 in (setup.0 p.0, (proto.0 q.0, (mapping.0 r.0, apt.0 r.1)))),
       λ holds. a.1 (setup.1 holds.0, b.1 (proto.1 holds.1.0, d.1 (mapping.1 holds.1.1.0, apt.1 holds.1.1.1))),
@@ -104,7 +104,7 @@ beside m mid =
 pub no_fault : (m : MediaLine) → (first_fault m ≡ None) ↔ Consistent m
 no_fault m =
     let held = mid_counted m.attrs in
-    let all = mids (count_by is_mid m.attrs) (first (filter_map mid_of m.attrs)) held (fault_beside m) (Rest m) (beside m) in (
+    let all = mids (count_by is_mid m.attrs) (first (filter_map mid_of m.attrs)) held (fault_beside m) (Rest m) (fault_beside_none m) in (
       (λ is. let holds = all.0 is in
           record { mid = holds.0; setup = holds.1.0; proto = holds.1.1.0; mapped = holds.1.1.1.0; apt = holds.1.1.1.1 }),
       λ is. all.1 (is.mid, (is.setup, (is.proto, (is.mapped, is.apt)))),

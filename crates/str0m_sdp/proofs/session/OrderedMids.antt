@@ -5,13 +5,13 @@ use Rattle.str0m_sdp.proofs.Common.{arith, ◌≡◌, ◌<◌, ◌+◌, ◌++◌
 use Rattle.str0m_sdp.proofs.section.TypeTablesMarks.{any_more}
 use Rattle.str0m_sdp.specs.declared.section.media_line.MediaLine.{MediaLine}
 use Rattle.str0m_sdp.specs.session.OrderedMids.{Holds, is_held, part_mid}
-use Rattle.str0m_sdp.specs.session.SessionConsistency.{is_listed, parts, section_mid, takes_part}
+use Rattle.str0m_sdp.specs.session.SessionConsistency.{is_listed, mids_in_part, section_mid, takes_part}
 use Rattle.str0m_sdp.specs.session.SessionFault.{first_again}
 
 -- ---- what is held
 
-either : (b other : Bool) → cond b true other ≡ (b || other)
-either b other = grind arith
+cond_either : (b other : Bool) → cond b true other ≡ (b || other)
+cond_either b other = grind arith
 
 -- one name more
 held_more : (old new : BTreeSet (Bor (List ℕ))) (name : Bor (List ℕ)) (mid : List ℕ) → name.now ≡ mid
@@ -20,7 +20,7 @@ held_more : (old new : BTreeSet (Bor (List ℕ))) (name : Bor (List ℕ)) (mid :
 held_more old new name mid same more q =
     more.0 (record { ref_ptr = (0, 0); now = q })
     ∙ ap (λ (b : Bool). cond b true (is_held old (Some q))) (is_eq-slice_cmp name.now q)
-    ∙ either (bytes_eq name.now q) (is_held old (Some q))
+    ∙ cond_either (bytes_eq name.now q) (is_held old (Some q))
     ∙ ap (λ (text : List ℕ). bytes_eq text q || is_held old (Some q)) same
 
 -- a mid before those that are held
@@ -72,11 +72,11 @@ found_later names name mid mids added found same holds told test so_far =
 -- ---- the sections that take part
 
 -- one section more, which takes part or not
-one_part : (m : MediaLine) (rest : List MediaLine) (b : Bool)
+one_member : (m : MediaLine) (rest : List MediaLine) (b : Bool)
     → cons_option (cond b (section_mid m) None) (filter_map section_mid rest) ≡ filter_map section_mid (cond b (m ∷ rest) rest)
-one_part m rest b = grind arith
+one_member m rest b = grind arith
 
 pub parts_same : (names : BTreeSet (Bor (List ℕ))) (group : List (List ℕ)) (sections : List MediaLine) → Holds names group
-    → filter_map (part_mid names) sections ≡ parts group sections
+    → filter_map (part_mid names) sections ≡ mids_in_part group sections
 parts_same names group [] holds = refl
-parts_same names group (m ∷ ms) holds = grind (arith, takes_part, parts_same names group ms holds, one_part)
+parts_same names group (m ∷ ms) holds = grind (arith, takes_part, parts_same names group ms holds, one_member)

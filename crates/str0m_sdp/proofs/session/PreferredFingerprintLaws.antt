@@ -2,18 +2,18 @@
 use Rattle.std.proofs.lemmas.List.MinMax.{IsFirstBest-from_best_of, IsStrictWeakOrder-by_number}
 use Rattle.str0m_sdp.proofs.Common.{arith, ◌≡◌, List, [], ◌∷◌, ◌++◌, filter_map, map, Option, Some, Result, refl, ap, ◌∙◌, cons_option, option_or, IfOk, best_of, get_or_default}
 use Rattle.str0m_sdp.specs.Common.{first}
-use Rattle.str0m_sdp.specs.session.PreferredFingerprint.{is_preferred, IsPreferred, better, preferred, first_filled}
+use Rattle.str0m_sdp.specs.session.PreferredFingerprint.{is_preferred, IsPreferred, better_of, preferred, first_filled}
 use Rattle.str0m_values.specs.Fingerprint.{preference_of}
 use Rattle.str0m_values.specs.declared.fingerprint.Fingerprint.{Fingerprint}
 
 -- one more after the others
-pub preferred_more : (prints : List Fingerprint) (print : Fingerprint) → preferred (prints ++ print ∷ []) ≡ Some (better (preferred prints) print)
+pub preferred_more : (prints : List Fingerprint) (print : Fingerprint) → preferred (prints ++ print ∷ []) ≡ Some (better_of (preferred prints) print)
 preferred_more [] print = refl
 preferred_more (first ∷ prints) print = ap (λ best. Some best) (along first prints)
   where
-    along : (best : Fingerprint) (prints : List Fingerprint) → best_of is_preferred best (prints ++ print ∷ []) ≡ better (Some (best_of is_preferred best prints)) print
+    along : (best : Fingerprint) (prints : List Fingerprint) → best_of is_preferred best (prints ++ print ∷ []) ≡ better_of (Some (best_of is_preferred best prints)) print
     along best [] = refl
-    along best (next ∷ prints) = along (better (Some best) next) prints
+    along best (next ∷ prints) = along (better_of (Some best) next) prints
 
 -- what `best_of` finds is the first of those to which no other is preferred
 pub preferred_is : (prints : List Fingerprint) → IsPreferred prints (preferred prints)

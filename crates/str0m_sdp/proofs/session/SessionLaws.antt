@@ -12,8 +12,8 @@ again mid mids listed distinct =
     let at = Any-from_list_any (λ other. bytes_eq other mid) mids listed in
     distinct 0 (suc at.0) at.1 (omega arith) (omega (arith, at.2)) (sym (at.3 ∙ (bytes_eq-Decides at.1 mid).0 at.4))
 
-pub apart : (mid : List ℕ) (mids : List (List ℕ)) → is_listed mids (Some mid) ≡ false → AreDistinct mids ↔ AreDistinct (mid ∷ mids)
-apart mid mids unlisted = (
+pub mids_apart : (mid : List ℕ) (mids : List (List ℕ)) → is_listed mids (Some mid) ≡ false → AreDistinct mids ↔ AreDistinct (mid ∷ mids)
+mids_apart mid mids unlisted = (
   (λ distinct. AllPairs-cons (λ (a b : List ℕ). a ≢ b) mid mids
       (λ k d lt same. false≢true (sym unlisted ∙ list_any_at (λ other. bytes_eq other mid) mids k d lt ((bytes_eq-Decides (get_or mids k d) mid).1 (sym same))))
       distinct),
@@ -28,9 +28,9 @@ same_from_none [] (y ∷ ys) long none = absurd (omega arith)
 same_from_none (x ∷ xs) [] long none = absurd (omega arith)
 same_from_none (x ∷ xs) (y ∷ ys) long none = grind (arith, same_from_none xs ys, bytes_eq-Decides)
 
-itself : (xs : List (List ℕ)) → find (λ pair. not (bytes_eq pair.0 pair.1)) (zip xs xs) ≡ None
-itself [] = refl
-itself (x ∷ xs) = rw ((bytes_eq-Decides x x).1 refl) (itself xs)
+zip_itself : (xs : List (List ℕ)) → find (λ pair. not (bytes_eq pair.0 pair.1)) (zip xs xs) ≡ None
+zip_itself [] = refl
+zip_itself (x ∷ xs) = rw ((bytes_eq-Decides x x).1 refl) (zip_itself xs)
 
 pub none_from_same : (xs ys : List (List ℕ)) → xs ≡ ys → find (λ pair. not (bytes_eq pair.0 pair.1)) (zip xs ys) ≡ None
-none_from_same xs ys same = rw same (itself ys)
+none_from_same xs ys same = rw same (zip_itself ys)

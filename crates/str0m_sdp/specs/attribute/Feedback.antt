@@ -15,7 +15,7 @@ is_feedback pt words _ = false
 unfoldable pub has_feedback : List MediaAttribute → ℕ → List ℕ → Bool
 has_feedback attrs pt words = list_any (is_feedback pt words) attrs
 
--- the feedback whose words pass: transport-wide congestion control, full intra requests (RFC 5104, section 4.3.1), NACK and
+-- the feedback whose values pass: transport-wide congestion control, full intra requests (RFC 5104, section 4.3.1), NACK and
 -- picture loss indication (RFC 4585, section 6), and the receiver's estimate of the bitrate
 abbrev pub feedback_by : (List ℕ → Bool) → Feedback
 feedback_by passes = record {
@@ -30,16 +30,16 @@ feedback_by passes = record {
 abbrev pub feedback_of : List MediaAttribute → ℕ → Feedback
 feedback_of attrs pt = feedback_by (has_feedback attrs pt)
 
-abbrev pub none : Feedback
-none = feedback_by (λ words. false)
+abbrev pub empty_feedback : Feedback
+empty_feedback = feedback_by (λ words. false)
 
 -- what the value of an rtcp-fb line names
-abbrev pub named : List ℕ → Feedback
-named words = feedback_by (bytes_eq words)
+abbrev pub named_feedback : List ℕ → Feedback
+named_feedback words = feedback_by (bytes_eq words)
 
 -- what one or the other names
-abbrev pub either : Feedback → Feedback → Feedback
-either a b = record {
+abbrev pub either_feedback : Feedback → Feedback → Feedback
+either_feedback a b = record {
   transport_cc = a.transport_cc || b.transport_cc;
   fir = a.fir || b.fir;
   nack = a.nack || b.nack;

@@ -34,11 +34,11 @@ abbrev pub IsChosen : Setup → Type 0
 IsChosen role = (role ≡ Active) ⊎ (role ≡ Passive)
 
 -- the offer leaves the choice to the answer
-abbrev pub IsFree : Option Setup → Type 0
-IsFree offered = (offered ≡ None) ⊎ (offered ≡ Some ActPass)
+abbrev pub LeavesRole : Option Setup → Type 0
+LeavesRole offered = (offered ≡ None) ⊎ (offered ≡ Some ActPass)
 
 -- a role that answers what is offered: one of the two, which both sides settle on, and the active one where the choice is free
 pub record AnswersRole (offered : Option Setup) (role : Setup) : Type 0 where
   pub chosen : IsChosen role
   pub fits : IfSome offered (λ theirs. settled role theirs ≡ Some role)
-  pub begins : IsFree offered → role ≡ Active
+  pub begins : LeavesRole offered → role ≡ Active

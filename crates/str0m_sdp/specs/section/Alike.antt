@@ -16,8 +16,8 @@ as_read (Red pt) = BarePtList pt
 as_read param = param
 
 -- the values that print something
-abbrev pub shown : List FormatParam → List FormatParam
-shown values = map as_read (filter is_shown values)
+abbrev pub showing : List FormatParam → List FormatParam
+showing values = map as_read (filter is_shown values)
 
 abbrev pub ids : List SimulcastLayer → List RestrictionId
 ids layers = map (λ layer. layer.restriction_id) layers
@@ -30,6 +30,6 @@ pub record AlikeLayers (a b : Simulcast) : Type 0 where
 
 -- equal, or fmtp lines of one type whose shown values are the same, or layers of the same names
 abbrev pub Alike : MediaAttribute → MediaAttribute → Type 0
-Alike (Fmtp pt values) (Fmtp n others) = (pt ≡ n) × (shown values ≡ shown others)
+Alike (Fmtp pt values) (Fmtp n others) = (pt ≡ n) × (showing values ≡ showing others)
 Alike (SimulcastLine a) (SimulcastLine b) = (a ≡ b) ⊎ AlikeLayers a b
 Alike a b = a ≡ b

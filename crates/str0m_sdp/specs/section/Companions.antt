@@ -4,7 +4,7 @@ use Rattle.std.specs.Prelude.{ℕ, Bool, false, ◌==◌, ◌&&◌, List, Option
 use Rattle.str0m_formats.specs.declared.codec.Codec.TheVariants as codecs
 use Rattle.str0m_formats.specs.declared.format.format_param.FormatParam.TheVariants.{BarePtList, Red}
 use Rattle.str0m_sdp.specs.Common.{last}
-use Rattle.str0m_sdp.specs.Prelude.{Codec, CodecSpec, FormatParam, content, has_sound, when}
+use Rattle.str0m_sdp.specs.Prelude.{Codec, CodecSpec, FormatParam, content, has_audio, when}
 use Rattle.str0m_sdp.specs.declared.attribute.MediaAttribute.{MediaAttribute}
 use Rattle.str0m_sdp.specs.declared.attribute.MediaAttribute.TheVariants.{Fmtp}
 use Rattle.str0m_sdp.specs.declared.section.media_line.MediaLine.{MediaLine}
@@ -12,16 +12,16 @@ use Rattle.str0m_sdp.specs.section.Consistency.{apt_of}
 use Rattle.str0m_sdp.specs.section.Mappings.{mapped, is_mapped_to}
 
 -- the first type of a list of types (RFC 2198, section 5)
-abbrev pub listed : FormatParam → Option ℕ
-listed (BarePtList pt) = Some pt
-listed (Red pt) = Some pt
-listed _ = None
+abbrev pub listed_type : FormatParam → Option ℕ
+listed_type (BarePtList pt) = Some pt
+listed_type (Red pt) = Some pt
+listed_type _ = None
 
 -- the type that a value names in an fmtp line of the codec: by `apt` for RTX (RFC 4588, section 8.1), by a list of types
 -- for RED (RFC 2198, section 5)
 abbrev pub named_by : Codec → FormatParam → Option ℕ
 named_by codecs.Rtx value = apt_of value
-named_by codecs.Red value = listed value
+named_by codecs.Red value = listed_type value
 named_by _ value = None
 
 abbrev pub is_type : ℕ → Option ℕ → Bool
@@ -42,9 +42,9 @@ unfoldable pub companion : Codec → List (ℕ × CodecSpec) → List MediaAttri
 companion codec mapped attrs pt = last (filter_map (companion_in codec mapped pt) attrs)
 
 -- the type under which a type is sent again (RFC 4588)
-abbrev pub rtx_type : MediaLine → ℕ → Option ℕ
-rtx_type m pt = companion codecs.Rtx (mapped m) m.attrs pt
+abbrev pub rtx_companion : MediaLine → ℕ → Option ℕ
+rtx_companion m pt = companion codecs.Rtx (mapped m) m.attrs pt
 
 -- the type under which audio is repeated (RFC 2198)
-abbrev pub red_type : MediaLine → ℕ → Codec → Option ℕ
-red_type m pt codec = if has_sound (content codec) then companion codecs.Red (mapped m) m.attrs pt else None
+abbrev pub red_companion : MediaLine → ℕ → Codec → Option ℕ
+red_companion m pt codec = if has_audio (content codec) then companion codecs.Red (mapped m) m.attrs pt else None

@@ -16,12 +16,12 @@ mapping (RtpMap pt value) = Some (pt, spec_of_map value)
 mapping _ = None
 
 -- a type that needs no rtpmap line, with its codec (RFC 3551, section 6)
-abbrev pub static_row : ℕ → Option (ℕ × CodecSpec)
-static_row pt = option_map (λ spec. (pt, spec)) (static_spec pt)
+abbrev pub static_type : ℕ → Option (ℕ × CodecSpec)
+static_type pt = option_map (λ spec. (pt, spec)) (static_spec pt)
 
 -- where no rtpmap line names the type
 abbrev pub unmapped : List MediaAttribute → ℕ → Option (ℕ × CodecSpec)
-unmapped attrs pt = if list_any (maps pt) attrs then None else static_row pt
+unmapped attrs pt = if list_any (maps pt) attrs then None else static_type pt
 
 -- the types with their codecs: those of rtpmap lines, then those of the m-line that need none, each once
 unfoldable pub mapped : MediaLine → List (ℕ × CodecSpec)

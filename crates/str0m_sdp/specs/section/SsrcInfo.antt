@@ -16,13 +16,13 @@ source_of (Ssrc ssrc name value) = Some ssrc
 source_of _ = None
 
 -- two sources and no more
-abbrev pub pair_of : List ℕ → Option (ℕ × ℕ)
-pair_of (first ∷ second ∷ []) = Some (first, second)
-pair_of _ = None
+abbrev pub only_pair : List ℕ → Option (ℕ × ℕ)
+only_pair (first ∷ second ∷ []) = Some (first, second)
+only_pair _ = None
 
 -- a source and the one that repairs it: a group FID of two (RFC 5576, section 4.2)
 abbrev pub repair_pair : MediaAttribute → Option (ℕ × ℕ)
-repair_pair (SsrcGroup semantics ssrcs) = if str_eq_ignore_ascii_case semantics (codes "fid") then pair_of ssrcs else None
+repair_pair (SsrcGroup semantics ssrcs) = if str_eq_ignore_ascii_case semantics (codes "fid") then only_pair ssrcs else None
 repair_pair _ = None
 
 -- the source that repairs another one
@@ -36,9 +36,9 @@ sources attrs = distinct nat_eq (filter_map source_of attrs ++ filter_map repair
 -- ---- what is said of a source s
 
 -- the value that an attribute gives it under a name, without regard to the case of ASCII letters
-abbrev pub value_of : List ℕ → ℕ → MediaAttribute → Option (List ℕ)
-value_of wanted s (Ssrc ssrc name value) = when ((ssrc == s) && str_eq_ignore_ascii_case name wanted) value
-value_of wanted s _ = None
+abbrev pub source_value_of : List ℕ → ℕ → MediaAttribute → Option (List ℕ)
+source_value_of wanted s (Ssrc ssrc name value) = when ((ssrc == s) && str_eq_ignore_ascii_case name wanted) value
+source_value_of wanted s _ = None
 
 -- the source that it repairs
 abbrev pub repaired_by : ℕ → MediaAttribute → Option ℕ
@@ -46,7 +46,7 @@ repaired_by s attr = repair_pair attr >>= (λ pair. when (pair.1 == s) pair.0)
 
 -- its name (RFC 5576, section 6.1)
 abbrev pub cname_said : ℕ → MediaAttribute → Option (List ℕ)
-cname_said s attr = value_of (codes "cname") s attr
+cname_said s attr = source_value_of (codes "cname") s attr
 
 -- the id in a piece, without white space at its ends, where `-` says that there is none (RFC 8830, section 2)
 abbrev pub id_of : List ℕ → Option (List ℕ)
@@ -54,11 +54,11 @@ id_of piece = if bytes_eq (trim piece) (codes "-") then None else Some (trim pie
 
 -- its stream: the text before the first space
 abbrev pub stream_said : ℕ → MediaAttribute → Option (Option (List ℕ))
-stream_said s attr = option_map (λ value. id_of (before 32 value)) (value_of (codes "msid") s attr)
+stream_said s attr = option_map (λ value. id_of (before 32 value)) (source_value_of (codes "msid") s attr)
 
 -- its track: the text after the first space, up to the next one
 abbrev pub track_said : ℕ → MediaAttribute → Option (Option (List ℕ))
-track_said s attr = value_of (codes "msid") s attr >>= (λ value. option_map (λ parts. id_of (before 32 parts.1)) (cut 32 value))
+track_said s attr = source_value_of (codes "msid") s attr >>= (λ value. option_map (λ parts. id_of (before 32 parts.1)) (cut 32 value))
 
 -- what the last attribute says that says something
 abbrev pub latest : {X : Type 0} → (MediaAttribute → Option X) → List MediaAttribute → Option X

@@ -6,19 +6,19 @@ use Rattle.str0m_sdp.specs.declared.attribute.MediaAttribute.{MediaAttribute}
 use Rattle.str0m_sdp.specs.declared.section.type_lines.KnownFormat.{KnownFormat}
 use Rattle.str0m_sdp.specs.declared.section.type_lines.TypeLines.{TypeLines}
 use Rattle.str0m_sdp.specs.section.FmtpLines.{lines_with}
-use Rattle.str0m_sdp.specs.section.SectionRows.{lines_of}
+use Rattle.str0m_sdp.specs.section.SectionRows.{fmtps_of}
 
 -- it is what these lines say
 unfoldable pub IsKnown : List (List FormatParam) → KnownFormat → Type 0
 IsKnown lines known = known.format ≡ format_of_fmtp known.codec lines
 
 -- a group has these lines, and what is known of them is so
-abbrev pub IsGroup : List (List FormatParam) → TypeLines → Type 0
-IsGroup lines group = (line_values group.lines.items ≡ lines) × All (IsKnown lines) group.known.items
+abbrev pub IsTypeGroup : List (List FormatParam) → TypeLines → Type 0
+IsTypeGroup lines group = (line_values group.lines.items ≡ lines) × All (IsKnown lines) group.known.items
 
 -- each group has the lines of its type among these attributes
 abbrev pub AreKnown : List MediaAttribute → List TypeLines → Type 0
-AreKnown attrs groups = (pt : ℕ) (d : TypeLines) → pt < length groups → IsGroup (lines_of attrs pt) (get_or groups pt d)
+AreKnown attrs groups = (pt : ℕ) (d : TypeLines) → pt < length groups → IsTypeGroup (fmtps_of attrs pt) (get_or groups pt d)
 
 -- there is a group for each type, which has its lines among these, and nothing is known
 abbrev pub AreGrouped : List (ℕ × Bor (List FormatParam)) → List TypeLines → Type 0

@@ -17,9 +17,9 @@ abbrev pub Holds : BTreeSet (Bor (List ℕ)) → List (List ℕ) → Type 0
 Holds names mids = (mid : Option (List ℕ)) → is_held names mid ≡ is_listed mids mid
 
 -- whether a section takes part in the group whose mids the names are
-abbrev pub is_part : BTreeSet (Bor (List ℕ)) → MediaLine → Bool
-is_part names m = not m.disabled || is_held names (section_mid m)
+abbrev pub is_member : BTreeSet (Bor (List ℕ)) → MediaLine → Bool
+is_member names m = not m.disabled || is_held names (section_mid m)
 
 -- the mid of a section that does
 abbrev pub part_mid : BTreeSet (Bor (List ℕ)) → MediaLine → Option (List ℕ)
-part_mid names m = cond (is_part names m) (section_mid m) None
+part_mid names m = cond (is_member names m) (section_mid m) None

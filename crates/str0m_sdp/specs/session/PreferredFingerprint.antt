@@ -16,9 +16,9 @@ IsPreferred prints found = MatchOption found (prints ≡ [])
     (λ print. (i : ℕ) × IsFirstBest is_preferred prints (length prints) i × (get_or prints i print ≡ print))
 
 -- the one to keep of the best so far and another
-abbrev pub better : Option Fingerprint → Fingerprint → Fingerprint
-better None other = other
-better (Some best) other = if is_preferred other best then other else best
+abbrev pub better_of : Option Fingerprint → Fingerprint → Fingerprint
+better_of None other = other
+better_of (Some best) other = if is_preferred other best then other else best
 
 -- that one, as std's `best_of` finds it
 abbrev pub preferred : List Fingerprint → Option Fingerprint

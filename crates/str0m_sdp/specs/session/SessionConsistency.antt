@@ -41,13 +41,13 @@ abbrev pub takes_part : List (List ℕ) → MediaLine → Bool
 takes_part group m = not m.disabled || is_listed group (section_mid m)
 
 -- the mids of those that do, in order
-abbrev pub parts : List (List ℕ) → List MediaLine → List (List ℕ)
-parts group sections = section_mids (filter (takes_part group) sections)
+abbrev pub mids_in_part : List (List ℕ) → List MediaLine → List (List ℕ)
+mids_in_part group sections = section_mids (filter (takes_part group) sections)
 
 -- there is a group, and the first lists, in order, the sections that take part in it (RFC 8829, section 5.2.1; RFC 9143,
 -- section 7.2, which leave the order free)
 abbrev pub IsGrouped : Sdp → Type 0
-IsGrouped sdp = MatchOption (first_group sdp.session.attrs) ⊥ (λ group. parts group sdp.media_lines ≡ group)
+IsGrouped sdp = MatchOption (first_group sdp.session.attrs) ⊥ (λ group. mids_in_part group sdp.media_lines ≡ group)
 
 -- each section is consistent, no two have one mid (RFC 5888, section 4), and they are grouped
 pub record ConsistentSdp (sdp : Sdp) : Type 0 where

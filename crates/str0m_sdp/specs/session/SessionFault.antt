@@ -9,7 +9,7 @@ use Rattle.str0m_sdp.specs.declared.session.error.SdpError.TheVariants.{ParseErr
 use Rattle.str0m_sdp.specs.declared.session.fault.SessionFault.{SessionFault}
 use Rattle.str0m_sdp.specs.declared.session.fault.SessionFault.TheVariants.{SharedMid, MissingGroup, Count, Order}
 use Rattle.str0m_sdp.specs.session.Fault.{section_message}
-use Rattle.str0m_sdp.specs.session.SessionConsistency.{first_group, is_listed, parts, section_mids}
+use Rattle.str0m_sdp.specs.session.SessionConsistency.{first_group, is_listed, mids_in_part, section_mids}
 
 -- ---- what may be wrong, a question each
 
@@ -31,7 +31,7 @@ listing_fault mids group =
 -- of the first group, where there is one (RFC 8829, section 5.2.1)
 abbrev pub group_fault : List MediaLine → Option (List (List ℕ)) → Option SessionFault
 group_fault sections None = Some MissingGroup
-group_fault sections (Some group) = listing_fault (parts group sections) group
+group_fault sections (Some group) = listing_fault (mids_in_part group sections) group
 
 -- ---- the first
 
@@ -61,7 +61,7 @@ session_message sdp =
     sections_message sdp.media_lines
     <|> option_map session_fault_text (first_session_fault sdp)
 
--- a contradiction is told in these words, and out of memory tells none
+-- a contradiction is told by this text, and out of memory tells none
 abbrev pub Tells : Option (List ℕ) → SdpError → Type 0
 Tells message (ParseError text) = ⊥
 Tells message (Inconsistent text) = Some (string_bytes text) ≡ message

@@ -17,10 +17,10 @@ pub(crate) struct Feedback {
 }
 
 impl Feedback {
-    ghost use Rattle.str0m_sdp.specs.attribute.Feedback.{none, named, either, with_feedback};
+    ghost use Rattle.str0m_sdp.specs.attribute.Feedback.{empty_feedback, named_feedback, either_feedback, with_feedback};
 
     pub(crate) fn none() -> Feedback
-        ensures { result ≡ none }
+        ensures { result ≡ empty_feedback }
     {
         Feedback {
             transport_cc: false,
@@ -33,7 +33,7 @@ impl Feedback {
 
     /// What the value of an rtcp-fb line names.
     fn named(value: &str) -> Feedback
-        ensures { result ≡ named value.now }
+        ensures { result ≡ named_feedback value.now }
     {
         Feedback {
             transport_cc: value == TRANSPORT_CC,
@@ -46,7 +46,7 @@ impl Feedback {
 
     /// What either of both names.
     fn or(self, other: Feedback) -> Feedback
-        ensures { result ≡ either self other }
+        ensures { result ≡ either_feedback self other }
     {
         Feedback {
             transport_cc: self.transport_cc || other.transport_cc,
@@ -72,11 +72,11 @@ impl Feedback {
     }
 }
 
-ghost use Rattle.str0m_sdp.specs.attribute.Feedback.{none, named, either};
+ghost use Rattle.str0m_sdp.specs.attribute.Feedback.{empty_feedback, named_feedback, either_feedback};
 
 /// Adds what the value of an rtcp-fb line names to the feedback of its payload type.
 pub(crate) fn note_feedback(table: &mut [Feedback; TYPES], pt: Pt, value: &str)
-    ensures noted { table.new ≡ set table.old pt (either (get_or table.old pt none) (named value.now)) }
+    ensures noted { table.new ≡ set table.old pt (either_feedback (get_or table.old pt empty_feedback) (named_feedback value.now)) }
     ensures within { pt < 256 }
 {
     let place = place(pt);

@@ -1,7 +1,7 @@
 //! Attributes that say the same once they are printed and read.
 
 ghost use Rattle.std.specs.Prelude.{◌≡◌, ◌∷◌, ◌↔◌, [], IsTrue, MatchOption};
-ghost use Rattle.str0m_sdp.specs.section.Alike.{Alike, AlikeLayers, as_read, ids, shown};
+ghost use Rattle.str0m_sdp.specs.section.Alike.{Alike, AlikeLayers, as_read, ids, showing};
 
 use crate::attribute::MediaAttribute;
 use crate::attribute::fmtp::{first_shown, is_shown};
@@ -23,8 +23,8 @@ fn as_read(param: FormatParam) -> FormatParam
 /// The first value that is shown, as it is read, and those after it.
 fn next_shown(values: &[FormatParam]) -> Option<(FormatParam, &[FormatParam])>
     ensures { MatchOption result
-        (shown values.now ≡ [])
-        (λ found. shown values.now ≡ found.0 ∷ shown found.1.now) }
+        (showing values.now ≡ [])
+        (λ found. showing values.now ≡ found.0 ∷ showing found.1.now) }
 {
     match first_shown(values) {
         Some((value, more)) => Some((as_read(value), more)),
@@ -41,7 +41,7 @@ fn is_same(param: FormatParam, other: FormatParam) -> bool
 
 /// Whether the same values are shown, in the same order.
 fn are_same_shown(values: &[FormatParam], others: &[FormatParam]) -> bool
-    ensures { IsTrue result ↔ (shown values.now ≡ shown others.now) }
+    ensures { IsTrue result ↔ (showing values.now ≡ showing others.now) }
 {
     let mut left = others;
     for value in values {

@@ -1,15 +1,15 @@
 //! The payload types that go with another type, by type.
 ghost use Rattle.std.specs.List.{list_any};
 ghost use Rattle.std.specs.Prelude.{◌≡◌, ◌<◌, ◌&&◌, ℕ, false, Some, None, get_or, length, if◌then◌else◌};
-ghost use Rattle.str0m_sdp.specs.section.Companions.{listed, named_by, names};
+ghost use Rattle.str0m_sdp.specs.section.Companions.{listed_type, named_by, names};
 
 use crate::section::type_tables::{TYPES, apt_of, place};
 use str0m_formats::{Codec, FormatParam};
 use str0m_values::Pt;
 
 /// The first type of a list of types (RFC 2198, section 5).
-fn listed(value: FormatParam) -> Option<Pt>
-    ensures { result ≡ listed value }
+fn listed_type(value: FormatParam) -> Option<Pt>
+    ensures { result ≡ listed_type value }
 {
     match value {
         FormatParam::BarePtList(pt) | FormatParam::Red(pt) => Some(pt),
@@ -23,7 +23,7 @@ fn named_by(codec: Codec, value: FormatParam) -> Option<Pt>
 {
     match codec {
         Codec::Rtx => apt_of(value),
-        Codec::Red => listed(value),
+        Codec::Red => listed_type(value),
         _ => None,
     }
 }

@@ -2,7 +2,7 @@
 ghost use Rattle.std.specs.List.{list_any};
 ghost use Rattle.std.specs.Prelude.{◌≡◌, ◌==◌, ◌<◌, ◌++◌, ℕ, false, IfOk, OnOk, get_or, length, filter_map, option_to_list};
 ghost use Rattle.str0m_sdp.specs.Prelude.{static_spec};
-ghost use Rattle.str0m_sdp.specs.section.Mappings.{mapping, static_row, mapped, is_mapped_to};
+ghost use Rattle.str0m_sdp.specs.section.Mappings.{mapping, static_type, mapped, is_mapped_to};
 
 use crate::attribute::MediaAttribute;
 use crate::section::type_tables::{TYPES, place};
@@ -64,7 +64,7 @@ pub(crate) fn types_of(mapped: &[(Pt, CodecSpec)], codec: Codec) -> [bool; TYPES
 
 /// One more type, where it needs no rtpmap line.
 pub(crate) fn push_static(mapped: &mut Vec<(Pt, CodecSpec)>, pt: Pt) -> Result<(), AllocError>
-    ensures { OnOk result (mapped.new.items ≡ mapped.old.items ++ option_to_list (static_row pt)) }
+    ensures { OnOk result (mapped.new.items ≡ mapped.old.items ++ option_to_list (static_type pt)) }
 {
     match static_spec(pt) {
         Some(spec) => mapped.extend_from_slice(&[(pt, spec)]),

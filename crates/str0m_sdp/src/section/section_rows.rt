@@ -1,8 +1,8 @@
 //! The rows that a section describes.
 ghost use Rattle.std.specs.Prelude.{◌≡◌, ◌<◌, ◌++◌, [], All, IfOk, OnOk, option_to_list};
-ghost use Rattle.str0m_sdp.specs.Prelude.{IsBounded, content, format_of_fmtp, has_events, has_pictures, has_sound};
+ghost use Rattle.str0m_sdp.specs.Prelude.{IsBounded, content, format_of_fmtp, has_events, has_video, has_audio};
 ghost use Rattle.str0m_sdp.specs.declared.section.media_line.MediaLine.{MediaLine};
-ghost use Rattle.str0m_sdp.specs.section.SectionRows.{KeepsToLines, lines_of, is_kept, row, rows};
+ghost use Rattle.str0m_sdp.specs.section.SectionRows.{KeepsToLines, fmtps_of, is_kept, row, rows};
 
 use crate::attribute::MediaAttribute;
 use crate::attribute::feedback::{Feedback, note_feedback};
@@ -17,7 +17,7 @@ use str0m_values::Pt;
 
 /// What a section says of each payload type.
 #[derive(Drop)]
-struct TypeWords {
+struct TypeFacts {
     /// The types of retransmissions and of redundant audio.
     rtx: [Option<Pt>; TYPES],
     red: [Option<Pt>; TYPES],
@@ -26,8 +26,8 @@ struct TypeWords {
     feedback: [Feedback; TYPES],
 }
 
-impl TypeWords {
-    ghost use Rattle.str0m_sdp.specs.section.SectionRowsWords.{row_of, SayOf, AreOf};
+impl TypeFacts {
+    ghost use Rattle.str0m_sdp.specs.section.SectionRowsFacts.{row_of, SayOf, AreOf};
 
     /// Gathers in one pass what the attributes say of each type: the fmtp lines (RFC 8866, section 6.15), each beside the number
     /// of its type, and in the tables what these and the rtcp-fb lines name. A table is changed where it stands, since to hand
@@ -68,7 +68,7 @@ impl TypeWords {
         ensures within { pt < 256 }
     {
         let place = place(pt);
-        let red = if is_sound(spec.codec) {
+        let red = if is_audio(spec.codec) {
             self.red[place]
         } else {
             None
@@ -82,7 +82,7 @@ impl TypeWords {
         ensures { (m : MediaLine) → SayOf m self.now → result ≡ is_kept m (pt, spec) }
     {
         let codec = spec.codec;
-        is_sound(codec) || is_pictures(codec) || (is_events(codec) && self.in_m_line[place(pt)])
+        is_audio(codec) || is_video(codec) || (is_events(codec) && self.in_m_line[place(pt)])
     }
 
     /// One more row, where the type has one, by what its fmtp lines say of the codec.
@@ -93,7 +93,7 @@ impl TypeWords {
         pt: Pt,
         spec: CodecSpec,
     ) -> Result<(), AllocError>
-        ensures { (m : MediaLine) → SayOf m self.now → format ≡ format_of_fmtp spec.codec (lines_of m.attrs pt) →
+        ensures { (m : MediaLine) → SayOf m self.now → format ≡ format_of_fmtp spec.codec (fmtps_of m.attrs pt) →
             OnOk result (rows.new.items ≡ rows.old.items ++ option_to_list (row m (pt, spec))) }
     {
         match format {
@@ -108,14 +108,14 @@ impl TypeWords {
     }
 }
 
-fn is_sound(codec: Codec) -> bool
-    ensures { result ≡ has_sound (content codec) }
+fn is_audio(codec: Codec) -> bool
+    ensures { result ≡ has_audio (content codec) }
 {
     codec.is_audio()
 }
 
-fn is_pictures(codec: Codec) -> bool
-    ensures { result ≡ has_pictures (content codec) }
+fn is_video(codec: Codec) -> bool
+    ensures { result ≡ has_video (content codec) }
 {
     codec.is_video()
 }
@@ -156,7 +156,7 @@ impl MediaLine {
         ensures bounded { KeepsToLines self.now → IfOk result (λ params. All IsBounded params.items) }
     {
         let alloc = *self.attrs.allocator();
-        let mut words = TypeWords {
+        let mut words = TypeFacts {
             rtx: [None; TYPES],
             red: [None; TYPES],
             in_m_line: types_in(self.pts.as_slice()),

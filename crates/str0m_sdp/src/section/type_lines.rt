@@ -1,7 +1,7 @@
 //! The fmtp lines of a section by payload type, and what they say of codecs, each made once.
 ghost use Rattle.std.specs.Prelude.{◌≡◌, ◌++◌, [], ◌∷◌, All, IfOk, IfSome, List, OnOk};
 ghost use Rattle.str0m_sdp.specs.Prelude.{FormatParam, format_of_fmtp};
-ghost use Rattle.str0m_sdp.specs.section.TypeLines.{AreGrouped, IsGroup, IsKnown};
+ghost use Rattle.str0m_sdp.specs.section.TypeLines.{AreGrouped, IsTypeGroup, IsKnown};
 
 use crate::section::type_tables::TYPES;
 use std::alloc::{AllocError, Global};
@@ -58,8 +58,8 @@ impl<'a> TypeLines<'a> {
     /// What the lines say of the codec, which joins what is known.
     #[tactic(auto, unfolding(crate::specs::section::TypeLines::IsKnown))]
     fn learn(&mut self, codec: Codec) -> Result<Option<FormatParams>, AllocError>
-        ensures format { (lines : List (List FormatParam)) → IsGroup lines self.old → IfOk result (λ format. format ≡ format_of_fmtp codec lines) }
-        ensures group { (lines : List (List FormatParam)) → IsGroup lines self.old → IsGroup lines self.new }
+        ensures format { (lines : List (List FormatParam)) → IsTypeGroup lines self.old → IfOk result (λ format. format ≡ format_of_fmtp codec lines) }
+        ensures group { (lines : List (List FormatParam)) → IsTypeGroup lines self.old → IsTypeGroup lines self.new }
     {
         let format = FormatParams::from_sdp_fmtp(codec, self.lines.as_slice());
         self.known.push(KnownFormat { codec, format })?;
@@ -68,8 +68,8 @@ impl<'a> TypeLines<'a> {
 
     /// What the lines say of the codec: it is looked up among what is known, and joins it.
     pub(crate) fn format_of(&mut self, codec: Codec) -> Result<Option<FormatParams>, AllocError>
-        ensures format { (lines : List (List FormatParam)) → IsGroup lines self.old → IfOk result (λ format. format ≡ format_of_fmtp codec lines) }
-        ensures group { (lines : List (List FormatParam)) → IsGroup lines self.old → IsGroup lines self.new }
+        ensures format { (lines : List (List FormatParam)) → IsTypeGroup lines self.old → IfOk result (λ format. format ≡ format_of_fmtp codec lines) }
+        ensures group { (lines : List (List FormatParam)) → IsTypeGroup lines self.old → IsTypeGroup lines self.new }
     {
         match known_format(self.known.as_slice(), codec) {
             Some(format) => Ok(format),

@@ -27,7 +27,7 @@ impl fmt::Display for SdpError {
     ghost output = { λ error. Some (error_text error) };
 
     fn fmt<W: fmt::Write>(&self, f: &mut fmt::Formatter<W>) -> fmt::Result {
-        let (kind, message) = self.words();
+        let (kind, message) = self.parts();
         write!(f, "{kind}{message}")
     }
 }
@@ -37,7 +37,7 @@ impl SdpError {
     ghost use Rattle.str0m_sdp.specs.session.Error.{error_text};
 
     /// What kind of error it is, and the message that it holds.
-    fn words(&self) -> (&'static str, &str)
+    fn parts(&self) -> (&'static str, &str)
         ensures { result.0.now ++ result.1.now ≡ error_text self.now }
     {
         match self {

@@ -7,7 +7,7 @@ ghost use Rattle.str0m_sdp.specs.session.Candidates.{all_candidates, same_candid
 ghost use Rattle.str0m_sdp.specs.session.DistinctCandidates.{IsEachOnce, distinct_left};
 ghost use Rattle.str0m_sdp.specs.session.PreferredFingerprint.{IsPreferred, media_fingerprints, preferred, sdp_fingerprints};
 ghost use Rattle.str0m_sdp.specs.session.SdpAccessors.{bundled_of, sdp_sctp_init};
-ghost use Rattle.str0m_sdp.specs.session.Transport.{creds_at, media_creds, media_setup, sdp_creds, sdp_setup};
+ghost use Rattle.str0m_sdp.specs.session.Transport.{lent_creds, media_creds, media_setup, sdp_creds, sdp_setup};
 
 use crate::attribute::SessionAttribute;
 use crate::attribute::setup::Setup;
@@ -114,7 +114,7 @@ fn setup_among(lines: &[MediaLine]) -> Option<Setup>
 }
 
 fn creds_among(lines: &[MediaLine]) -> Option<(&Text, &Text)>
-    ensures { option_map creds_at result ≡ first (filter_map (λ (m : MediaLine). media_creds m.attrs) lines.now) }
+    ensures { option_map lent_creds result ≡ first (filter_map (λ (m : MediaLine). media_creds m.attrs) lines.now) }
 {
     lines
         .iter()

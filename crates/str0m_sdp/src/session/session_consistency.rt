@@ -2,8 +2,8 @@
 ghost use Rattle.std.specs.Prelude.{◌≡◌, ◌==◌, ◌++◌, IfErr, IfOk, IsOk, None, Ok, OnOk, filter_map, length, not, option_map, option_to_list, Some, bytes_eq, string_bytes};
 ghost use Rattle.str0m_sdp.specs.Prelude.{when, ◌<|>◌};
 ghost use Rattle.str0m_sdp.specs.declared.session.fault.SessionFault.TheVariants.{Count, Order};
-ghost use Rattle.str0m_sdp.specs.session.OrderedMids.{is_part, part_mid};
-ghost use Rattle.str0m_sdp.specs.session.SessionConsistency.{AreFew, ConsistentSdp, IsContradiction, SaysWhether, first_group, is_listed, parts, section_mid, section_mids, takes_part};
+ghost use Rattle.str0m_sdp.specs.session.OrderedMids.{is_member, part_mid};
+ghost use Rattle.str0m_sdp.specs.session.SessionConsistency.{AreFew, ConsistentSdp, IsContradiction, SaysWhether, first_group, is_listed, mids_in_part, section_mid, section_mids, takes_part};
 ghost use Rattle.str0m_sdp.specs.session.SessionFault.{Tells, first_again, first_difference, first_session_fault, listing_fault, sections_message, session_message};
 
 use crate::attribute::SessionAttribute;
@@ -43,7 +43,7 @@ fn section_message(sections: &[MediaLine]) -> Result<Option<String>, AllocError>
     Ok(None)
 }
 
-fn is_same(a: Mid, b: Mid) -> bool
+fn is_same_mid(a: Mid, b: Mid) -> bool
     ensures { result ≡ bytes_eq a b }
 {
     a == b
@@ -56,7 +56,7 @@ fn has_mid(sections: &[MediaLine], mid: Mid) -> bool
     sections
         .iter()
         .filter_map(|m| section_mid(m))
-        .any(|other| is_same(other, mid))
+        .any(|other| is_same_mid(other, mid))
 }
 
 /// The first mid that stands again in a later section, by a look at each later one.
@@ -147,7 +147,7 @@ fn takes_part(group: &[Mid], m: &MediaLine) -> bool
 
 /// How many sections take part.
 fn count_parts(group: &[Mid], sections: &[MediaLine]) -> usize
-    ensures { result ≡ length (parts group.now sections.now) }
+    ensures { result ≡ length (mids_in_part group.now sections.now) }
 {
     sections
         .iter()
@@ -158,19 +158,19 @@ fn count_parts(group: &[Mid], sections: &[MediaLine]) -> usize
 
 /// The first place where the sections that take part and the group differ.
 fn first_difference(group: &[Mid], sections: &[MediaLine]) -> Option<(Mid, Mid)>
-    ensures { result ≡ first_difference (parts group.now sections.now) group.now }
+    ensures { result ≡ first_difference (mids_in_part group.now sections.now) group.now }
 {
     sections
         .iter()
         .filter(|m| takes_part(group, m))
         .filter_map(|m| section_mid(m))
         .zip(group.iter().copied())
-        .find(|pair| !is_same(pair.0, pair.1))
+        .find(|pair| !is_same_mid(pair.0, pair.1))
 }
 
 /// Whether a section takes part in the group whose mids the names are.
-fn is_part(names: &BTreeSet<&str>, m: &MediaLine) -> bool
-    ensures { result ≡ is_part names.now m.now }
+fn is_member(names: &BTreeSet<&str>, m: &MediaLine) -> bool
+    ensures { result ≡ is_member names.now m.now }
 {
     !m.disabled || is_held(names, section_mid(m))
 }
@@ -179,7 +179,7 @@ fn is_part(names: &BTreeSet<&str>, m: &MediaLine) -> bool
 fn part_mid(names: &BTreeSet<&str>, m: &MediaLine) -> Option<Mid>
     ensures { result ≡ part_mid names.now m.now }
 {
-    if is_part(names, m) {
+    if is_member(names, m) {
         section_mid(m)
     } else {
         None
@@ -208,7 +208,7 @@ fn gather_parts(
     sections: &[MediaLine],
     alloc: Global,
 ) -> Result<Vec<Mid>, AllocError>
-    ensures { IfOk result (λ mids. mids.items ≡ parts group.now sections.now) }
+    ensures { IfOk result (λ mids. mids.items ≡ mids_in_part group.now sections.now) }
 {
     let names = names_of(group, alloc)?;
     let mids = gather_among(&names, sections, alloc)?;
@@ -222,7 +222,7 @@ fn first_unlike(mids: &[Mid], group: &[Mid]) -> Option<(Mid, Mid)>
     mids.iter()
         .copied()
         .zip(group.iter().copied())
-        .find(|pair| !is_same(pair.0, pair.1))
+        .find(|pair| !is_same_mid(pair.0, pair.1))
 }
 
 /// The fault of so many sections that take part, and of the first place where they and the group differ.
@@ -251,7 +251,7 @@ fn find_group_fault(
     sections: &[MediaLine],
     alloc: Global,
 ) -> Result<Option<SessionFault>, AllocError>
-    ensures { IfOk result (λ fault. fault ≡ listing_fault (parts group.now sections.now) group.now) }
+    ensures { IfOk result (λ fault. fault ≡ listing_fault (mids_in_part group.now sections.now) group.now) }
 {
     let mids = gather_parts(group, sections, alloc)?;
     let unlike = first_unlike(mids.as_slice(), group);
@@ -263,7 +263,7 @@ fn group_fault(
     group: &[Mid],
     sections: &Items<MediaLine>,
 ) -> Result<Option<SessionFault>, AllocError>
-    ensures fault { IfOk result (λ fault. fault ≡ listing_fault (parts group.now sections.now) group.now) }
+    ensures fault { IfOk result (λ fault. fault ≡ listing_fault (mids_in_part group.now sections.now) group.now) }
     ensures takes_no_memory { AreFew sections.now → IsOk result }
 {
     let alloc = *sections.allocator();

@@ -11,32 +11,32 @@ IsContent text line = (text ≡ line ++ line_end) × Lacks 10 line × Lacks 13 l
 both_true : (a b : Bool) → a && b ≡ true → (a ≡ true) × (b ≡ true)
 both_true a b h = grind arith
 
-pub plain_content : (text line : List ℕ) → text ≡ line ++ line_end → lacks 10 line && lacks 13 line ≡ true → IsTheOnly (IsContent text) (Some line)
-plain_content text line e plain = grind (arith, lacks_from, both_true, append_cancel_right)
+pub ended_content : (text line : List ℕ) → text ≡ line ++ line_end → lacks 10 line && lacks 13 line ≡ true → IsTheOnly (IsContent text) (Some line)
+ended_content text line e plain = grind (arith, lacks_from, both_true, append_cancel_right)
 
 pub other_content : (text line : List ℕ) → text ≡ line ++ line_end → lacks 10 line && lacks 13 line ≡ false → IsTheOnly (IsContent text) None
 other_content text line e other = grind (arith, append_cancel_right, lacks_true)
 
-nothing : (text : List ℕ) → eqb (length text) 0 ≡ true → text ≡ []
-nothing [] e = refl
-nothing (x ∷ xs) e = absurd (omega (arith, eqb-true (length (x ∷ xs)) 0 e))
+empty_text : (text : List ℕ) → eqb (length text) 0 ≡ true → text ≡ []
+empty_text [] e = refl
+empty_text (x ∷ xs) e = absurd (omega (arith, eqb-true (length (x ∷ xs)) 0 e))
 
-no_line : (content : List ℕ) → content ++ line_end ≡ [] → ⊥
-no_line [] e = absurd cc
-no_line (x ∷ xs) e = absurd cc
+line_not_empty : (content : List ℕ) → content ++ line_end ≡ [] → ⊥
+line_not_empty [] e = absurd cc
+line_not_empty (x ∷ xs) e = absurd cc
 
 -- ---- what comes back of lists
 
 module _ {X : Type 0} (text : X → List ℕ) (F : List ℕ → X → Type 0) (GoesWith : X → X → Type 0) where
-  abbrev pub ReadAs : List X → List X → Type 0
-  ReadAs = AreReadAs text F GoesWith
+  abbrev pub AreReadBackAs : List X → List X → Type 0
+  AreReadBackAs = AreReadAs text F GoesWith
 
-  back_both : (xs ys reads more : List X) → ReadAs xs reads → ReadAs ys more → ReadAs (xs ++ ys) (reads ++ more)
-  back_both [] ys reads more h k = subst (λ (list : List X). ReadAs ys (list ++ more)) (sym h) k
+  back_both : (xs ys reads more : List X) → AreReadBackAs xs reads → AreReadBackAs ys more → AreReadBackAs (xs ++ ys) (reads ++ more)
+  back_both [] ys reads more h k = subst (λ (list : List X). AreReadBackAs ys (list ++ more)) (sym h) k
   back_both (x ∷ xs) ys reads more (inl h) k = inl (h.0, back_both xs ys reads more h.1 k)
   back_both (x ∷ xs) ys reads more (inr h) k = grind (arith, back_both xs ys h.1 more h.5 k)
 
-  back_parts : (xs ys reads : List X) → ReadAs (xs ++ ys) reads → (front : List X) × (back : List X) × (reads ≡ front ++ back) × ReadAs xs front × ReadAs ys back
+  back_parts : (xs ys reads : List X) → AreReadBackAs (xs ++ ys) reads → (front : List X) × (back : List X) × (reads ≡ front ++ back) × AreReadBackAs xs front × AreReadBackAs ys back
   back_parts [] ys reads h = ([], reads, refl, refl, h)
   back_parts (x ∷ xs) ys reads (inl h) = grind (arith, back_parts xs ys reads h.1)
   back_parts (x ∷ xs) ys reads (inr h) =
@@ -44,27 +44,27 @@ module _ {X : Type 0} (text : X → List ℕ) (F : List ℕ → X → Type 0) (G
       (h.0 ∷ parts.0, parts.1, h.2 ∙ ap (λ (list : List X). h.0 ∷ list) parts.2, inr (h.0, parts.0, refl, h.3, h.4, parts.3), parts.4)
 
   -- what comes back of two lists comes back of both together, and nothing else
-  pub only_both : (xs ys reads more : List X) → IsTheOnly (ReadAs xs) (Some reads) → IsTheOnly (ReadAs ys) (Some more)
-      → IsTheOnly (ReadAs (xs ++ ys)) (Some (reads ++ more))
+  pub only_both : (xs ys reads more : List X) → IsTheOnly (AreReadBackAs xs) (Some reads) → IsTheOnly (AreReadBackAs ys) (Some more)
+      → IsTheOnly (AreReadBackAs (xs ++ ys)) (Some (reads ++ more))
   only_both xs ys reads more h k = grind (arith, back_both, back_parts, same_Some)
 
   -- what doesn't come back lets nothing around it come back
-  pub none_within : (xs ys zs : List X) → IsTheOnly (ReadAs ys) None → IsTheOnly (ReadAs (xs ++ (ys ++ zs))) None
-  none_within xs ys zs none = grind (arith, back_parts, none-some)
+  pub none_around : (xs ys zs : List X) → IsTheOnly (AreReadBackAs ys) None → IsTheOnly (AreReadBackAs (xs ++ (ys ++ zs))) None
+  none_around xs ys zs none = grind (arith, back_parts, none-some)
 
   -- what is printed as nothing comes back as nothing
-  pub empty_back : (x : X) → eqb (length (text x)) 0 ≡ true → IsTheOnly (ReadAs (x ∷ [])) (Some [])
-  empty_back x empty = grind (arith, nothing, no_line)
+  pub empty_back : (x : X) → eqb (length (text x)) 0 ≡ true → IsTheOnly (AreReadBackAs (x ∷ [])) (Some [])
+  empty_back x empty = grind (arith, empty_text, line_not_empty)
 
   -- ---- an attribute at its place in the list
 
-  pub lost_at : (xs : List X) (i : ℕ) (x : X) → i < length xs → x ≡ get_or xs i x → IsTheOnly (ReadAs (x ∷ [])) None → IsTheOnly (ReadAs xs) None
+  pub lost_at : (xs : List X) (i : ℕ) (x : X) → i < length xs → x ≡ get_or xs i x → IsTheOnly (AreReadBackAs (x ∷ [])) None → IsTheOnly (AreReadBackAs xs) None
   lost_at xs i x lt at none =
-      grind (arith, take-append-drop i xs, drop-cons xs i x lt, none_within (take i xs) (x ∷ []) (drop (suc i) xs) none)
+      grind (arith, take-append-drop i xs, drop-cons xs i x lt, none_around (take i xs) (x ∷ []) (drop (suc i) xs) none)
 
   pub back_at : (xs : List X) (i : ℕ) (x : X) (reads more : List X) → i < length xs → x ≡ get_or xs i x
-      → PutsBack (ReadAs (x ∷ [])) reads more true
-      → IsTheOnly (ReadAs (take i xs)) (Some reads) → IsTheOnly (ReadAs (take (i + 1) xs)) (Some more)
+      → PutsBack (AreReadBackAs (x ∷ [])) reads more true
+      → IsTheOnly (AreReadBackAs (take i xs)) (Some reads) → IsTheOnly (AreReadBackAs (take (i + 1) xs)) (Some more)
   back_at xs i x reads more lt at last before =
       grind (arith, take_at_read xs i x lt, only_both (take i xs) (x ∷ []) reads last.0 before last.1)
 

@@ -5,16 +5,16 @@ use Rattle.str0m_formats.specs.declared.codec.Codec.TheVariants as codec
 use Rattle.str0m_formats.specs.declared.format.format_params.FormatParams.{FormatParams}
 use Rattle.str0m_formats.specs.format.FormatParams.{params_of}
 use Rattle.str0m_sdp.specs.declared.attribute.rtp_map.RtpMap.{RtpMap as Mapping}
-use Rattle.str0m_signal.proofs.Common.{◌≡◌, ◌≢◌, ◌<◌, ◌≤◌, ℕ, Bool, List, [], ◌∷◌, ◌++◌, map, Option, Some, None, IfSome, refl, sym, ap, subst, arith, lit<, AllByRecursion, flat_map, IsRest, param_text, telephone_max, Codec, FormatParam, TelephoneEvents, BareRange, BarePtList, Red, PayloadParams, IsPlainPair, joined_pair, media_attribute_text, row_attrs, MediaAttribute, Fmtp, reads, feedback_line, feedback_attrs, fmtp_line, format_values, format_attrs, rtx_lines, rtx_attrs, red_lines, red_attrs, map_of_spec, line_read, fmtp_lines, red_reads, RtpMap, joined, TRANSPORT_CC, REMB, FIR, NACK, PLI}
+use Rattle.str0m_signal.proofs.Common.{◌≡◌, ◌≢◌, ◌<◌, ◌≤◌, ℕ, Bool, List, [], ◌∷◌, ◌++◌, map, Option, Some, None, IfSome, refl, sym, ap, subst, arith, lit<, AllByRecursion, flat_map, IsRest, param_text, telephone_max, Codec, FormatParam, TelephoneEvents, BareRange, BarePtList, Red, PayloadParams, IsSolidPair, joined_pair, media_attribute_text, row_attrs, MediaAttribute, Fmtp, reads, feedback_line, feedback_attrs, fmtp_line, format_values, format_attrs, rtx_lines, rtx_attrs, red_lines, red_attrs, map_of_spec, pairs_line_read, fmtp_lines, red_reads, RtpMap, linked, TRANSPORT_CC, REMB, FIR, NACK, PLI}
 use Rattle.str0m_signal.proofs.form.FmtpPrinted.{AreShown, apt_printed, list_printed, range_printed, pairs_printed}
 use Rattle.str0m_signal.proofs.form.RtpMapPrinted.{KeepsToMapping, mapping_printed, feedback_printed}
-use Rattle.str0m_signal.proofs.session.AttributesPrinted.{AreReadAs, one_read, both_read, HoldsNoEnd, no_end}
+use Rattle.str0m_signal.proofs.session.AttributesPrinted.{LinesReadAs, one_read, both_read, HoldsNoEnd, no_end}
 use Rattle.str0m_signal.specs.back.Writable.{IsPrintedAs}
 use Rattle.str0m_signal.specs.form.MediaAttribute.{IsMediaLine}
 
 -- the attributes print lines that read as these
 abbrev pub ReadAs : List MediaAttribute → List MediaAttribute → Type 0
-ReadAs = AreReadAs media_attribute_text IsMediaLine
+ReadAs = LinesReadAs media_attribute_text IsMediaLine
 
 pub joins : (xs ys reads more : List MediaAttribute) → ReadAs xs reads → ReadAs ys more → ReadAs (xs ++ ys) (reads ++ more)
 joins = both_read media_attribute_text IsMediaLine
@@ -28,10 +28,10 @@ pub named_printed : (pt : ℕ) (value : Mapping) → pt ≤ 127 → KeepsToMappi
     → IsPrintedAs IsMediaLine (media_attribute_text (RtpMap pt value)) (RtpMap pt value)
 named_printed pt value small keeps other = grind (arith, mapping_printed pt value small keeps)
 
-abbrev pub IsRate : ℕ → Type 0
-IsRate rate = (0 < rate) × (rate ≤ 4294967295)
+abbrev pub IsRateInRange : ℕ → Type 0
+IsRateInRange rate = (0 < rate) × (rate ≤ 4294967295)
 
-rate_keeps : (c : Codec) (rate : ℕ) → IsRate rate → IsRate (rtp_rate c rate)
+rate_keeps : (c : Codec) (rate : ℕ) → IsRateInRange rate → IsRateInRange (rtp_rate c rate)
 rate_keeps c rate h = grind arith
 
 -- ---- rows
@@ -42,12 +42,12 @@ pub record KeepsToRow (row : PayloadParams) : Type 0 where
   pub resend : IfSome row.resend (λ n. n ≤ 127)
   pub red : IfSome row.red (λ n. n ≤ 127)
   pub named : row.spec.codec ≢ codec.Null
-  pub rate : IsRate row.spec.clock_rate
+  pub rate : IsRateInRange row.spec.clock_rate
   pub channels : IfSome row.spec.channels (λ n. n ≤ 255)
 
 module _ (row : PayloadParams) (keeps : KeepsToRow row) where
-  rate : IsRate (rtp_rate row.spec.codec row.spec.clock_rate)
-  rate = rate_keeps row.spec.codec row.spec.clock_rate keeps.rate
+  row_rate : IsRateInRange (rtp_rate row.spec.codec row.spec.clock_rate)
+  row_rate = rate_keeps row.spec.codec row.spec.clock_rate keeps.rate
 
   small : row.pt ≤ 127
   small = keeps.pt
@@ -75,7 +75,7 @@ module _ (row : PayloadParams) (keeps : KeepsToRow row) where
       let twice = Fmtp n (Red row.pt ∷ []) in
       let list = Fmtp n (BarePtList row.pt ∷ []) in
       joins (RtpMap n map ∷ []) (twice ∷ []) (RtpMap n map ∷ []) (list ∷ [])
-      (one (RtpMap n map) (RtpMap n map) (named_printed n map h (record { clock = rate; channels = keeps.channels }) (λ e. cc)))
+      (one (RtpMap n map) (RtpMap n map) (named_printed n map h (record { clock = row_rate; channels = keeps.channels }) (λ e. cc)))
       (one twice list (list_printed n row.pt (Red row.pt) refl h (omega (arith, small))))
 
   -- the lines of a row, where its format's lines read as these values
@@ -84,7 +84,7 @@ module _ (row : PayloadParams) (keeps : KeepsToRow row) where
   row_read values format =
       joins (RtpMap row.pt (map_of_spec row.spec) ∷ []) _ (RtpMap row.pt (map_of_spec row.spec) ∷ []) _
       (one (RtpMap row.pt (map_of_spec row.spec)) (RtpMap row.pt (map_of_spec row.spec))
-      (named_printed row.pt (map_of_spec row.spec) small (record { clock = rate; channels = keeps.channels }) keeps.named))
+      (named_printed row.pt (map_of_spec row.spec) small (record { clock = row_rate; channels = keeps.channels }) keeps.named))
       (joins (feedback_attrs row) _ (feedback_attrs row) _ feedback_read
       (joins (format_attrs row) _ (fmtp_lines row.pt values) _ format
       (joins (rtx_attrs row) (red_attrs row) (rtx_lines row row.resend) (red_reads row row.red) (rtx row.resend keeps.resend)
@@ -93,9 +93,9 @@ module _ (row : PayloadParams) (keeps : KeepsToRow row) where
 -- ---- the lines of a format
 
 pub params_printed : (pt : ℕ) (params : List FormatParam) (pairs : List (List ℕ × List ℕ)) → pt ≤ 127 → AreShown params
-    → AllByRecursion IsPlainPair pairs → joined (map param_text params) ≡ joined (map joined_pair pairs)
+    → AllByRecursion IsSolidPair pairs → linked (map param_text params) ≡ linked (map joined_pair pairs)
     → (params ≢ [] → pairs ≢ []) → (params ≡ [] → pairs ≡ [])
-    → ReadAs (fmtp_line pt params) (fmtp_lines pt (line_read pairs))
+    → ReadAs (fmtp_line pt params) (fmtp_lines pt (pairs_line_read pairs))
 params_printed pt params pairs small shown plain e some none = grind (arith, pairs_printed)
 
 -- ---- rows of each codec
@@ -115,12 +115,12 @@ events_read row keeps tele fits =
 format_of : (c : Codec) (p : FormatParams) → c ≢ codec.Tele → format_values c p ≡ params_of p
 format_of c p other = grind arith
 
--- any other codec, whose format prints as plain pairs: what these read as together
+-- any other codec, whose format prints as solid pairs: what these read as together
 pub pairs_row_read : (row : PayloadParams) → KeepsToRow row → row.spec.codec ≢ codec.Tele → (pairs : List (List ℕ × List ℕ))
     → IsLineOf row.spec.format pairs
-    → ReadAs (row_attrs row) (reads row (line_read pairs))
+    → ReadAs (row_attrs row) (reads row (pairs_line_read pairs))
 pairs_row_read row keeps other pairs line =
-    let values = line_read pairs in
+    let values = pairs_line_read pairs in
     row_read row keeps values
     (subst (λ (params : List FormatParam). ReadAs (fmtp_line row.pt params) (fmtp_lines row.pt values))
     (sym (format_of row.spec.codec row.spec.format other))

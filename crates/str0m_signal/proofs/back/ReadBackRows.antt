@@ -1,5 +1,5 @@
 -- The last part of the headline: plain, distinct rows, printed in a writable session, are read back, in order.
-use Rattle.str0m_sdp.proofs.section.MadeSectionRead.{Describes}
+use Rattle.str0m_sdp.proofs.section.MadeSectionRead.{DescribesRows}
 use Rattle.str0m_signal.proofs.Common.{rules, ◌≡◌, ◌≢◌, ◌<◌, ◌^◌, ℕ, true, List, [], ◌∷◌, length, refl, sym, ◌∙◌, subst, recursion_from_All, same_Some, HoldsRowNumbers, types, AllDistinct, PayloadParams, is_media, MediaLine, Sdp, values_printed, IsPlain, All, describes_read_back}
 use Rattle.str0m_signal.proofs.back.ReadBackPlainRows.{types_fit, plain_rows_read}
 use Rattle.str0m_signal.proofs.back.ReadBackWithRows.{section_read, ReadWithRows, with_rows_read}
@@ -8,15 +8,15 @@ use Rattle.str0m_signal.specs.back.ReadBack.{ReadBack, MayBePrinted, ReadsBack}
 use Rattle.str0m_signal.specs.back.Writable.{Writable}
 use Rattle.str0m_signal.specs.back.WritableAgain.{IsOverSrtp, IsRead, MayBeWrittenAgain}
 
-of_section : (sdp : Sdp) (i : ℕ) (w : Writable sdp i) (theirs : List PayloadParams) → sdp.session.id < 2 ^ 64
+section_reads_back : (sdp : Sdp) (i : ℕ) (w : Writable sdp i) (theirs : List PayloadParams) → sdp.session.id < 2 ^ 64
     → is_media w.section.typ ≡ true → MayBePrinted theirs → All HoldsRowNumbers theirs → ReadBack sdp i w.section theirs
-of_section sdp i w [] small media may holds = absurd (may.some refl)
-of_section sdp i w (first ∷ more) small media may holds =
+section_reads_back sdp i w [] small media may holds = absurd (may.some refl)
+section_reads_back sdp i w (first ∷ more) small media may holds =
     let theirs = first ∷ more in
     let m = section_read w.section w.own.0 theirs values_printed in
     let frame = w.own.2 in
     let plain = recursion_from_All IsPlain theirs may.plain in
-    let d : Describes m theirs =
+    let d : DescribesRows m theirs =
     describes_read_back m w.own.0.attrs theirs
     (record { bare = frame.none_of_type; mid = frame.mid; setup = frame.setup; direction = λ srtp. frame.direction })
     refl refl may.plain holds may.distinct may.some in
@@ -37,7 +37,7 @@ pub reads_back : (sdp : Sdp) (i : ℕ) → Writable sdp i → (theirs : List Pay
 reads_back sdp i w theirs may = λ frame at media fit.
     let same : w.section ≡ frame = same_Some w.section frame (sym w.at ∙ at) in
     subst (λ (m : MediaLine). ReadBack sdp i m theirs) same
-    (of_section sdp i w theirs fit.0 (subst (λ (m : MediaLine). is_media m.typ ≡ true) (sym same) media) may fit.1)
+    (section_reads_back sdp i w theirs fit.0 (subst (λ (m : MediaLine). is_media m.typ ≡ true) (sym same) media) may fit.1)
 
 -- so are they in each section over Srtp of every session that was read
 pub back_in_readings : (theirs : List PayloadParams) → MayBePrinted theirs → (sdp : Sdp) (i : ℕ) → IsRead sdp → MayBeWrittenAgain sdp

@@ -2,7 +2,7 @@
 -- frame with the lines of the rows.
 use Rattle.str0m_signal.proofs.Common.{◌≡◌, ◌≢◌, ◌<◌, ◌^◌, inl, inr, ℕ, zero, suc, true, List, [], ◌∷◌, ◌++◌, Some, refl, arith, AllByRecursion, flat_map, slice_get, types, FormatParam, PayloadParams, session_attribute_text, Consistent, is_media, row_attrs, is_of_type, sdp_text, MediaLine, Sdp, reads, slice_set, not, filter, made}
 use Rattle.str0m_signal.proofs.back.ReadBackRowLines.{ReadAs, joins, rows_read}
-use Rattle.str0m_signal.proofs.session.AttributesPrinted.{AreReadAs}
+use Rattle.str0m_signal.proofs.session.AttributesPrinted.{LinesReadAs}
 use Rattle.str0m_signal.proofs.session.ReaderPrinted.{read_of, reading_printed}
 use Rattle.str0m_signal.proofs.session.SectionLines.{AreTypes, head_printed}
 use Rattle.str0m_signal.proofs.session.Sections.{SectionReadAs, AreSectionsRead}
@@ -15,27 +15,27 @@ use Rattle.str0m_signal.specs.session.Reader.{Reading}
 -- ---- what is read, without what goes with it
 
 plainly : {X : Type 0} (text : X → List ℕ) (F : List ℕ → X → Type 0) (GoesWith : X → X → Type 0) (xs reads : List X)
-    → writable.AreReadAs text F GoesWith xs reads → AreReadAs text F xs reads
+    → writable.AreReadAs text F GoesWith xs reads → LinesReadAs text F xs reads
 plainly text F GoesWith [] reads h = h
 plainly text F GoesWith (x ∷ xs) reads (inl nothing) = inl (nothing.0, plainly text F GoesWith xs reads nothing.1)
 plainly text F GoesWith (x ∷ xs) reads (inr (read, more, e, line, goes, later)) = grind (arith, plainly text F GoesWith xs more later)
 
-section_of : (m read : MediaLine) → writable.IsReadAs m read → SectionReadAs m read
-section_of m read h = grind (arith, plainly)
+section_read_as : (m read : MediaLine) → writable.IsMediaReadAs m read → SectionReadAs m read
+section_read_as m read h = grind (arith, plainly)
 
 -- ---- all sections, and another in the place of one
 
 -- the section is read as a consistent one
-abbrev IsRead : MediaLine → Type 0
-IsRead m = (read : MediaLine) × writable.IsReadAs m read × Consistent read
+abbrev IsReadConsistent : MediaLine → Type 0
+IsReadConsistent m = (read : MediaLine) × writable.IsMediaReadAs m read × Consistent read
 
-all_read : (ms : List MediaLine) → ((j : ℕ) (m : MediaLine) → slice_get ms j ≡ Some m → IsRead m)
+sections_all_read : (ms : List MediaLine) → ((j : ℕ) (m : MediaLine) → slice_get ms j ≡ Some m → IsReadConsistent m)
     → (sections : List MediaLine) × AreSectionsRead ms sections
-all_read [] each = ([], tt)
-all_read (m ∷ ms) each =
+sections_all_read [] each = ([], tt)
+sections_all_read (m ∷ ms) each =
     let one = each zero m refl in
-    let more = all_read ms (λ j n e. each (suc j) n e) in
-    (one.0 ∷ more.0, (section_of m one.0 one.1, one.2, more.1))
+    let more = sections_all_read ms (λ j n e. each (suc j) n e) in
+    (one.0 ∷ more.0, (section_read_as m one.0 one.1, one.2, more.1))
 
 -- the sections as they are read, where the i-th is another
 record Placed (ms : List MediaLine) (i : ℕ) (x read : MediaLine) : Type 0 where
@@ -43,17 +43,17 @@ record Placed (ms : List MediaLine) (i : ℕ) (x read : MediaLine) : Type 0 wher
   are : AreSectionsRead (slice_set ms i x) sections
   at : slice_get sections i ≡ Some read
 
-placed : (ms : List MediaLine) (i : ℕ) (section x read : MediaLine) → slice_get ms i ≡ Some section → SectionReadAs x read
+placed_read : (ms : List MediaLine) (i : ℕ) (section x read : MediaLine) → slice_get ms i ≡ Some section → SectionReadAs x read
     → Consistent read
-    → ((j : ℕ) (m : MediaLine) → slice_get ms j ≡ Some m → j ≢ i → IsRead m) → Placed ms i x read
-placed [] i section x read e h consistent others = absurd cc
-placed (m ∷ ms) zero section x read e h consistent others =
-    let more = all_read ms (λ j n f. others (suc j) n f (λ same. absurd (omega (arith, same)))) in
+    → ((j : ℕ) (m : MediaLine) → slice_get ms j ≡ Some m → j ≢ i → IsReadConsistent m) → Placed ms i x read
+placed_read [] i section x read e h consistent others = absurd cc
+placed_read (m ∷ ms) zero section x read e h consistent others =
+    let more = sections_all_read ms (λ j n f. others (suc j) n f (λ same. absurd (omega (arith, same)))) in
     record { sections = read ∷ more.0; are = (h, consistent, more.1); at = refl }
-placed (m ∷ ms) (suc i) section x read e h consistent others =
+placed_read (m ∷ ms) (suc i) section x read e h consistent others =
     let one = others zero m refl (λ same. absurd (omega (arith, same))) in
-    let more = placed ms i section x read e h consistent (λ j n f other. others (suc j) n f (λ same. other (omega (arith, same)))) in
-    record { sections = one.0 ∷ more.sections; are = (section_of m one.0 one.1, one.2, more.are); at = more.at }
+    let more = placed_read ms i section x read e h consistent (λ j n f other. others (suc j) n f (λ same. other (omega (arith, same)))) in
+    record { sections = one.0 ∷ more.sections; are = (section_read_as m one.0 one.1, one.2, more.are); at = more.at }
 
 -- ---- rows in the place of a section
 
@@ -80,7 +80,7 @@ with_rows_read sdp i w row rows values small media fits each consistent =
     let theirs = row ∷ rows in
     let m = made w.section theirs in
     let own = section_read w.section w.own.0 theirs values in
-    let frame = section_of (frame_of w.section) w.own.0 w.own.1 in
+    let frame = section_read_as (frame_of w.section) w.own.0 w.own.1 in
     let is : SectionReadAs m own = record {
       same = refl;
       head = head_printed m media row.pt _ refl fits;
@@ -90,7 +90,7 @@ with_rows_read sdp i w row rows values small media fits each consistent =
           (flat_map (λ r. reads r (values r)) theirs)
           frame.attributes (rows_read theirs values each);
     } in
-    let sections = placed sdp.media_lines i w.section m own w.at is consistent w.others in
+    let sections = placed_read sdp.media_lines i w.section m own w.at is consistent w.others in
     record {
       read = read_of sdp w.session.0 sections.sections;
       whole =

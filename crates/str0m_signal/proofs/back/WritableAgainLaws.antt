@@ -2,10 +2,10 @@
 use Rattle.str0m_signal.proofs.Common.{rules, arith, ◌≡◌, ℕ, zero, suc, not, List, [], ◌∷◌, filter, Some, IfSome, refl, subst, inl, inr, codes, AllByRecursion, slice_get, cases_Bool, some_is, session_attribute_text, Consistent, is_of_type, MediaAttribute, SessionAttribute, MediaLine, Srtp, Sdp}
 use Rattle.str0m_signal.proofs.form.MediaAttributeAgain.{ComesBack, media_again}
 use Rattle.str0m_signal.proofs.form.SessionAttributeAgain.{session_again}
-use Rattle.str0m_signal.proofs.line.LinesAgain.{IsFine, IsOnLine, one_line, chain_lines, taken_line, behind_is, bandwidth_again, head_is, head_again}
+use Rattle.str0m_signal.proofs.line.LinesAgain.{IsFine, IsOnLine, one_line, chain_lines, taken_line, behind_is, bandwidth_again, head_of, head_again}
 use Rattle.str0m_signal.proofs.line.WordsCharacterStarts.{StartsWithin, of_utf8}
 use Rattle.str0m_signal.proofs.session.SectionAgain.{are_again, consistent_again, frame_again}
-use Rattle.str0m_signal.specs.back.Writable.{AreReadAs, SessionGoesWith, IsReadAs, IsFrame, Writable, frame_of}
+use Rattle.str0m_signal.specs.back.Writable.{AreReadAs, SessionGoesWith, IsMediaReadAs, IsFrame, Writable, frame_of}
 use Rattle.str0m_signal.specs.back.WritableAgain.{FitsKind, FitsAgain, SectionFitsAgain, MayBeWrittenAgain, IsOverSrtp, IsRead}
 use Rattle.str0m_signal.specs.form.MediaAttribute.{IsMediaLine}
 use Rattle.str0m_signal.specs.form.SessionAttribute.{IsSessionLine}
@@ -18,7 +18,7 @@ use Rattle.str0m_signal.specs.session.Section.{IsField, IsHead, IsBandwidth}
 
 -- what the lines of a section were
 record WasRead (m : MediaLine) : Type 0 where
-  head : IsOnLine IsHead (head_is m)
+  head : IsOnLine IsHead (head_of m)
   bandwidth : IfSome m.bw (IsOnLine IsBandwidth)
   attributes : AllByRecursion (IsOnLine IsMediaLine) m.attrs
   consistent : Consistent m
@@ -26,7 +26,7 @@ record WasRead (m : MediaLine) : Type 0 where
 was_read : (lines : List Line) (m : MediaLine) (rest : List Line) → IsFine lines → ConsistentSection lines m rest → WasRead m × IsFine rest
 was_read lines m rest are h =
     let section = h.0 in
-    let head = one_line IsHead lines (head_is m) section.after_head are section.head_is in
+    let head = one_line IsHead lines (head_of m) section.after_head are section.head_is in
     let connection = taken_line (IsField (codes "c=")) section.after_head section.connection section.after_connection head.1
     section.connection_is in
     let bandwidth = taken_line IsBandwidth section.after_connection m.bw section.after_bandwidth connection.1 section.bandwidth_is in
@@ -46,7 +46,7 @@ come_back (x ∷ xs) ((content, quiet, starts, (text, e, form)), lines) may =
 
 -- the section's lines are read as a consistent one
 section_again : (m : MediaLine) → WasRead m → FitsKind m.typ m.proto m.pts → AllByRecursion FitsAgain m.attrs
-    → (read : MediaLine) × IsReadAs m read × Consistent read
+    → (read : MediaLine) × IsMediaReadAs m read × Consistent read
 section_again m was fits may =
     let head = head_again m fits was.head in
     let attrs = are_again m.attrs (come_back m.attrs was.attributes may) in (
@@ -55,17 +55,17 @@ section_again m was fits may =
       consistent_again m head.0 attrs.0 attrs.1 head.2 was.consistent,
     )
 
-framed : (attrs : List MediaAttribute) → AllByRecursion ComesBack attrs
+frame_comes_back : (attrs : List MediaAttribute) → AllByRecursion ComesBack attrs
     → AllByRecursion ComesBack (filter (λ attr. not (is_of_type attr)) attrs)
-framed [] all = tt
-framed (x ∷ xs) all = grind (arith, cases_Bool, framed xs all.1)
+frame_comes_back [] all = tt
+frame_comes_back (x ∷ xs) all = grind (arith, cases_Bool, frame_comes_back xs all.1)
 
 -- so is its frame, over Srtp
 own_again : (m : MediaLine) → WasRead m → FitsKind m.typ m.proto m.pts → AllByRecursion FitsAgain m.attrs → m.proto ≡ Srtp
-    → (read : MediaLine) × IsReadAs (frame_of m) read × IsFrame read
+    → (read : MediaLine) × IsMediaReadAs (frame_of m) read × IsFrame read
 own_again m was fits may over =
     let head = head_again m fits was.head in
-    let attrs = are_again (frame_of m).attrs (framed m.attrs (come_back m.attrs was.attributes may)) in (
+    let attrs = are_again (frame_of m).attrs (frame_comes_back m.attrs (come_back m.attrs was.attributes may)) in (
       record (frame_of m) { pts = head.0; attrs = attrs.0 },
       record { same = refl; head = head.1; bandwidth = bandwidth_again m.bw was.bandwidth; attributes = attrs.2 },
       frame_again m head.0 attrs.0 attrs.1 over was.consistent,
@@ -108,19 +108,19 @@ session_attributes (x ∷ xs) ((content, quiet, starts, (text, e, form)), lines)
     let own = behind_is content text e quiet starts in
     inr (x, xs, refl, session_again text x own.quiet own.starts form, inl refl, session_attributes xs lines)
 
-at_place : {A : Type 0} (P : A → Type 0) (xs : List A) → AllByRecursion P xs → (j : ℕ) (x : A) → slice_get xs j ≡ Some x → P x
-at_place P [] all j x e = absurd cc
-at_place P (y ∷ ys) all zero x e = subst P (some_is y x e) all.0
-at_place P (y ∷ ys) all (suc j) x e = at_place P ys all.1 j x e
+AllByRecursion-at : {A : Type 0} (P : A → Type 0) (xs : List A) → AllByRecursion P xs → (j : ℕ) (x : A) → slice_get xs j ≡ Some x → P x
+AllByRecursion-at P [] all j x e = absurd cc
+AllByRecursion-at P (y ∷ ys) all zero x e = subst P (some_is y x e) all.0
+AllByRecursion-at P (y ∷ ys) all (suc j) x e = AllByRecursion-at P ys all.1 j x e
 
 -- a session that was read is writable at each section over Srtp
 pub read_is_writable : (sdp : Sdp) (i : ℕ) → IsRead sdp → MayBeWrittenAgain sdp → IsOverSrtp sdp i → Writable sdp i
 read_is_writable sdp i (text, rest, utf8, (lines, behind, (whole, are), reading, left)) may (m, at, over) =
     let was = session_was_read lines sdp behind (are, subst (StartsWithin 3) whole (of_utf8 text utf8)) reading in
     let fits : (j : ℕ) (x : MediaLine) → slice_get sdp.media_lines j ≡ Some x → SectionFitsAgain x
-    = λ j x e. at_place SectionFitsAgain sdp.media_lines may j x e in
+    = λ j x e. AllByRecursion-at SectionFitsAgain sdp.media_lines may j x e in
     let read : (j : ℕ) (x : MediaLine) → slice_get sdp.media_lines j ≡ Some x → WasRead x
-    = λ j x e. at_place WasRead sdp.media_lines was.sections j x e in
+    = λ j x e. AllByRecursion-at WasRead sdp.media_lines was.sections j x e in
     record {
       section = m;
       at = at;

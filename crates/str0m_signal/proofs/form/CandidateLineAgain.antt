@@ -1,10 +1,10 @@
 -- A candidate is printed as it was read.
 use Rattle.std.proofs.Math.Nat.{pow-le-pow_right}
 use Rattle.std.proofs.lemmas.Int.Digits.{digits_value-lt}
-use Rattle.str0m_signal.proofs.Common.{rules, ◌≡◌, ◌≢◌, ◌≤◌, ◌<◌, ◌^◌, ℕ, zero, suc, List, [], ◌∷◌, ◌++◌, Option, Some, None, IfSome, refl, sym, subst, arith, lit<, lit≤, inl, inr, codes, digit_value, decimal, AllByRecursion, IsCandidateText, candidate_text, Parted, Lacks, IsWord, some_is, Lacks-append, lacks_both, replicate, AllDigits, IsOctet, IsGroup, IsOneGroup, IsEnd, AreGroups, AreAnyGroups, IsIpText, IsSocket, IsRelated, AreNames, IsSocketInRange, IsPrintable, socket_text, related_text, extras_text, pairs, ip_text}
+use Rattle.str0m_signal.proofs.Common.{rules, ◌≡◌, ◌≢◌, ◌≤◌, ◌<◌, ◌^◌, ℕ, zero, suc, List, [], ◌∷◌, ◌++◌, Option, Some, None, IfSome, refl, sym, subst, arith, lit<, lit≤, inl, inr, codes, digit_value, decimal, AllByRecursion, IsCandidateText, candidate_text, Parted, Lacks, IsWord, some_is, Lacks-append, lacks_both, replicate, AllDigits, IsOctet, IsHexGroup, IsOneGroup, IsEnd, AreGroups, AreAnyGroups, IsIpText, IsSocket, IsRelated, AreIceNames, IsSocketInRange, IsPrintable, socket_text, related_text, extras_text, octet_pairs, ip_text}
 use Rattle.str0m_signal.proofs.form.FmtpPrinted.{behind_lacks}
 use Rattle.str0m_signal.proofs.session.AttributesPrinted.{HoldsNoEnd, no_end, no_ends, decimal_lacks, decimal_no_end}
-use Rattle.str0m_values.proofs.AddressText.{printed}
+use Rattle.str0m_values.proofs.AddressText.{ip_printed}
 use Rattle.str0m_values.proofs.CandidateText.{printed_candidate}
 use Rattle.str0m_values.specs.Address.{IsInRange}
 use Rattle.str0m_values.specs.CandidateKind.{kind_text}
@@ -21,7 +21,7 @@ use Rattle.str0m_values.specs.declared.protocol.TcpType.{TcpType}
 
 -- ---- addresses keep to their ranges
 
-small_group : (text : List ℕ) (n : ℕ) → IsGroup text n → n < 2 ^ 16
+small_group : (text : List ℕ) (n : ℕ) → IsHexGroup text n → n < 2 ^ 16
 small_group text n h = grind (arith, digits_value-lt, pow-le-pow_right)
 
 abbrev AreSmall : ℕ → List ℕ → Type 0
@@ -36,7 +36,7 @@ octets_small text [] h = absurd h
 octets_small text (n ∷ []) h = (h.1, tt)
 octets_small text (n ∷ (m ∷ ms)) h = (h.3.1, octets_small h.1 (m ∷ ms) h.4)
 
-pairs_small : (octets : List ℕ) → AreSmall (2 ^ 8) octets → AreSmall (2 ^ 16) (pairs octets)
+pairs_small : (octets : List ℕ) → AreSmall (2 ^ 8) octets → AreSmall (2 ^ 16) (octet_pairs octets)
 pairs_small [] h = tt
 pairs_small (a ∷ []) h = tt
 pairs_small (a ∷ (b ∷ octets)) h = (omega (arith, h.0, h.1.0), pairs_small octets h.1.1)
@@ -61,10 +61,10 @@ module _ (Last : List ℕ → List ℕ → Type 0) (last_small : (text groups : 
   any_small : (text groups : List ℕ) → AreAnyGroups Last text groups → AreSmall (2 ^ 16) groups
   any_small text groups o = grind (arith, groups_small)
 
-in_range : (text : List ℕ) (a : IpAddr) → IsIpText text a → IsInRange a
-in_range text (V4 octets) h = (h.1, octets_small text octets h.0)
-in_range text (V6 groups) (inl all, eight) = (eight, groups_small IsEnd end_small text groups all)
-in_range text (V6 groups) (inr short, eight) = (
+ip_in_range : (text : List ℕ) (a : IpAddr) → IsIpText text a → IsInRange a
+ip_in_range text (V4 octets) h = (h.1, octets_small text octets h.0)
+ip_in_range text (V6 groups) (inl all, eight) = (eight, groups_small IsEnd end_small text groups all)
+ip_in_range text (V6 groups) (inr short, eight) = (
   eight,
   subst (AreSmall (2 ^ 16)) (sym short.groups_are)
       (all_small (2 ^ 16) short.front _ (any_small IsOneGroup one_small short.front_text short.front short.front_is)
@@ -75,9 +75,9 @@ in_range text (V6 groups) (inr short, eight) = (
 -- ---- addresses hold digits, dots and colons
 
 module _ (c : ℕ) (far : 16 ≤ digit_value c) (no_dot : 46 ≢ c) (no_colon : 58 ≢ c) where
-  digits_lack : (digits : List ℕ) → AllDigits 16 digits → Lacks c digits
-  digits_lack [] h = tt
-  digits_lack (x ∷ xs) h = grind (arith, digits_lack xs h.1)
+  hex_lack : (digits : List ℕ) → AllDigits 16 digits → Lacks c digits
+  hex_lack [] h = tt
+  hex_lack (x ∷ xs) h = grind (arith, hex_lack xs h.1)
 
   octets_lack : (text octets : List ℕ) → Parted 46 IsOctet text octets → Lacks c text
   octets_lack text [] h = absurd h
@@ -88,7 +88,7 @@ module _ (c : ℕ) (far : 16 ≤ digit_value c) (no_dot : 46 ≢ c) (no_colon : 
       (no_dot, octets_lack h.1 (m ∷ ms) h.4))
 
   one_lacks : (text groups : List ℕ) → IsOneGroup text groups → Lacks c text
-  one_lacks text groups (n, group, e) = digits_lack text group.numeral.1
+  one_lacks text groups (n, group, e) = hex_lack text group.numeral.1
 
   end_lacks : (text groups : List ℕ) → IsEnd text groups → Lacks c text
   end_lacks text groups (inl one) = one_lacks text groups one
@@ -99,7 +99,7 @@ module _ (c : ℕ) (far : 16 ≤ digit_value c) (no_dot : 46 ≢ c) (no_colon : 
     groups_lack text [] h = absurd h
     groups_lack text (n ∷ groups) (inl h) = last_lacks text (n ∷ groups) h
     groups_lack text (n ∷ groups) (inr h) =
-        subst (Lacks c) (sym h.2) (lacks_both c h.0 (58 ∷ h.1) (digits_lack h.0 h.3.numeral.1) (no_colon, groups_lack h.1 groups h.4))
+        subst (Lacks c) (sym h.2) (lacks_both c h.0 (58 ∷ h.1) (hex_lack h.0 h.3.numeral.1) (no_colon, groups_lack h.1 groups h.4))
 
     any_lack : (text groups : List ℕ) → AreAnyGroups Last text groups → Lacks c text
     any_lack text groups (inl none) = subst (Lacks c) (sym none.0) tt
@@ -115,7 +115,7 @@ module _ (c : ℕ) (far : 16 ≤ digit_value c) (no_dot : 46 ≢ c) (no_colon : 
 
 ip_no_end : (a : IpAddr) → IsInRange a → HoldsNoEnd (ip_text a)
 ip_no_end a h =
-    let is = printed a h in (
+    let is = ip_printed a h in (
       ip_lacks 10 (lit≤ tt) (λ e. absurd (omega (arith, e))) (λ e. absurd (omega (arith, e))) (ip_text a) a is,
       ip_lacks 13 (lit≤ tt) (λ e. absurd (omega (arith, e))) (λ e. absurd (omega (arith, e))) (ip_text a) a is,
     )
@@ -123,7 +123,7 @@ ip_no_end a h =
 -- ---- candidates
 
 socket_in_range : (ip_label port_label text : List ℕ) (a : SocketAddr) → IsSocket ip_label port_label text a → IsSocketInRange a
-socket_in_range ip_label port_label text a (ip, port, e, ip_is, port_is) = grind (arith, in_range)
+socket_in_range ip_label port_label text a (ip, port, e, ip_is, port_is) = grind (arith, ip_in_range)
 
 related_in_range : (o : Option SocketAddr) (text : List ℕ) → IsRelated text o → IfSome o IsSocketInRange
 related_in_range None text h = tt
@@ -132,7 +132,7 @@ related_in_range (Some a) text h = socket_in_range candidate_label.RELATED_ADDRE
 same_word : (label part x : List ℕ) → IsLabelled label IsSame part x → IsWord x
 same_word label part x (word, e, is, same) = subst IsWord (sym same) is
 
-name_word : (o : Option (List ℕ)) (text : List ℕ) → AreNames text o → IfSome o IsWord
+name_word : (o : Option (List ℕ)) (text : List ℕ) → AreIceNames text o → IfSome o IsWord
 name_word o text h = grind arith
 
 printable : (text : List ℕ) (c : Candidate) → IsCandidateText text c → IsPrintable c
@@ -160,13 +160,13 @@ related_no_end (Some a) h = search (rules, socket_no_end, no_end)
 word_lacks : (c : ℕ) (label part x : List ℕ) → IsLabelled label IsSame part x → Lacks c part → Lacks c x
 word_lacks c label part x (word, e, is, same) none = grind (arith, behind_lacks)
 
-name_lacks : (c : ℕ) (o : Option (List ℕ)) (text : List ℕ) → AreNames text o → Lacks c text → Lacks c candidate_label.UFRAG.now
+fragment_lacks : (c : ℕ) (o : Option (List ℕ)) (text : List ℕ) → AreIceNames text o → Lacks c text → Lacks c candidate_label.UFRAG.now
     → Lacks c (optional_text candidate_label.UFRAG.now (λ t. t) o)
-name_lacks c None text h none label = tt
-name_lacks c (Some x) text (inl (network, name, e, left_out, is)) none label =
+fragment_lacks c None text h none label = tt
+fragment_lacks c (Some x) text (inl (network, name, e, left_out, is)) none label =
     lacks_both c candidate_label.UFRAG.now x label
     (word_lacks c candidate_label.UFRAG.now name x is (behind_lacks c network name (subst (Lacks c) e none)))
-name_lacks c (Some x) text (inr (name, network, word, fragment, e, is, network_is, same)) none label =
+fragment_lacks c (Some x) text (inr (name, network, word, fragment, e, is, network_is, same)) none label =
     let own : x ≡ fragment = some_is x fragment same in
     lacks_both c candidate_label.UFRAG.now x label
     (subst (Lacks c) (sym own) (word_lacks c candidate_label.UFRAG.now name fragment is (Lacks-append c name network (subst (Lacks c) e none))))
@@ -178,8 +178,8 @@ module _ (c : ℕ) (text : List ℕ) (candidate : Candidate) (h : IsCandidateTex
       word_lacks c candidate_label.CANDIDATE.now h.foundation candidate.foundation h.foundation_is
       (Lacks-append c h.foundation _ (subst (Lacks c) h.joined none))
 
-  names_lack : Lacks c candidate_label.UFRAG.now → Lacks c (optional_text candidate_label.UFRAG.now (λ t. t) candidate.ufrag)
-  names_lack label =
+  fragments_lack : Lacks c candidate_label.UFRAG.now → Lacks c (optional_text candidate_label.UFRAG.now (λ t. t) candidate.ufrag)
+  fragments_lack label =
       let component = behind_lacks c h.foundation _ (subst (Lacks c) h.joined none) in
       let protocol = behind_lacks c h.component _ component in
       let priority = behind_lacks c h.protocol _ protocol in
@@ -189,7 +189,7 @@ module _ (c : ℕ) (text : List ℕ) (candidate : Candidate) (h : IsCandidateTex
       let tcp = behind_lacks c h.related _ related in
       let generation = behind_lacks c h.tcp_type _ tcp in
       let names = behind_lacks c h.generation _ generation in
-      name_lacks c candidate.ufrag h.names h.names_are (Lacks-append c h.names h.cost names) label
+      fragment_lacks c candidate.ufrag h.names h.names_are (Lacks-append c h.names h.cost names) label
 
 -- a candidate that a text was read as prints a text that stands for it
 pub candidate_again : (text : List ℕ) (c : Candidate) → HoldsNoEnd text → IsCandidateText text c
@@ -212,5 +212,5 @@ candidate_again text c quiet h =
           (no_ends (kind_text c.kind) (extras_text c) (kind_no_end c.kind)
           (no_ends (related_text c.raddr) _ (related_no_end c.raddr is.raddr)
           (no_ends (optional_text candidate_label.TCP_TYPE.now tcp_type_text c.tcptype) _ (tcp_type_no_end c.tcptype)
-          (names_lack 10 text c h quiet.0 label.0, names_lack 13 text c h quiet.1 label.1))))))))))))),
+          (fragments_lack 10 text c h quiet.0 label.0, fragments_lack 13 text c h quiet.1 label.1))))))))))))),
     )

@@ -1,15 +1,15 @@
 -- Printed fmtp lines have their forms: pairs, `apt=N`, `N/N` and `0-N`.
 use Rattle.str0m_formats.proofs.format.FormatParamLaws.{parsed}
-use Rattle.str0m_formats.proofs.format.PairsPlain.{IsPlain, plain_lacks}
+use Rattle.str0m_formats.proofs.format.PairsSolid.{IsSolid, solid_lacks}
 use Rattle.str0m_formats.specs.format.FormatParamReading.{param_of}
 use Rattle.str0m_formats.specs.format.Pairs.{has_mark}
 use Rattle.str0m_formats.specs.format.PairsReading.{params_read}
 use Rattle.str0m_sdp.specs.declared.label.TheConstants as label
-use Rattle.str0m_signal.proofs.Common.{◌≡◌, ◌≤◌, ℕ, List, [], ◌∷◌, ◌++◌, map, filter, length, length-append, refl, sym, ap, ◌∙◌, subst, arith, lit<, lit≤, inl, inr, codes, AllByRecursion, join_with_byte, join_by, decimal, IsNumeral, digits_value, lt-ltb, decimal_is_IsNumeral, decimal_nonempty, append_assoc, append-nil, FirstFit, Lacks, IsRest, IsNum, param_text, FormatParam, BareRange, BarePtList, Apt, pairs_read_is, IsPlainPair, joined_pair, media_attribute_text, is_shown, shown_line, attribute_line, Fmtp, lacks_both, decimal_plain, parsed_printed}
+use Rattle.str0m_signal.proofs.Common.{◌≡◌, ◌≤◌, ℕ, List, [], ◌∷◌, ◌++◌, map, filter, length, length-append, refl, sym, ap, ◌∙◌, subst, arith, lit<, lit≤, inl, inr, codes, AllByRecursion, join_with_byte, join_by, decimal, IsNumeral, digits_value, lt-ltb, decimal_is_IsNumeral, decimal_nonempty, append_assoc, append-nil, FirstFit, Lacks, IsRest, IsNum, param_text, FormatParam, BareRange, BarePtList, Apt, pairs_read_is, IsSolidPair, joined_pair, media_attribute_text, is_shown, shown_line, attribute_line, Fmtp, lacks_both, decimal_solid, parsed_printed}
 use Rattle.str0m_signal.proofs.form.FmtpLaws.{key_starts}
 use Rattle.str0m_signal.proofs.session.AttributesPrinted.{HoldsNoEnd, no_ends, no_end, num_is, decimal_lacks, decimal_no_end, attribute_printed}
 use Rattle.str0m_signal.specs.back.Writable.{IsPrintedAs}
-use Rattle.str0m_signal.specs.form.Fmtp.{IsKey, IsValue, StartsPlain, ArePairs, IsPairsForm, IsListForm, IsRangeForm, IsAnything, IsFmtp}
+use Rattle.str0m_signal.specs.form.Fmtp.{IsKey, IsValue, StartsUnblank, ArePairs, IsPairsForm, IsListForm, IsRangeForm, IsAnything, IsFmtp}
 use Rattle.str0m_signal.specs.form.MediaAttribute.{IsMediaLine}
 
 -- the first of the four forms that holds
@@ -97,36 +97,36 @@ range_is n small =
 
 -- ---- pairs
 
-key_is : (pair : List ℕ × List ℕ) → IsPlainPair pair → IsKey pair.0
-key_is pair h = (h.2, plain_lacks 61 pair.0 refl h.0, plain_lacks 32 pair.0 refl h.0, plain_lacks 9 pair.0 refl h.0)
+solid_key : (pair : List ℕ × List ℕ) → IsSolidPair pair → IsKey pair.0
+solid_key pair h = (h.2, solid_lacks 61 pair.0 refl h.0, solid_lacks 32 pair.0 refl h.0, solid_lacks 9 pair.0 refl h.0)
 
-value_is : (pair : List ℕ × List ℕ) → IsPlainPair pair → IsValue pair.1
-value_is pair h = (h.3, plain_lacks 59 pair.1 refl h.1, plain_lacks 32 pair.1 refl h.1, plain_lacks 9 pair.1 refl h.1)
+value_is : (pair : List ℕ × List ℕ) → IsSolidPair pair → IsValue pair.1
+value_is pair h = (h.3, solid_lacks 59 pair.1 refl h.1, solid_lacks 32 pair.1 refl h.1, solid_lacks 9 pair.1 refl h.1)
 
-starts_joined : (q : List ℕ × List ℕ) (qs : List (List ℕ × List ℕ)) → IsPlainPair q
-    → StartsPlain (join_with_byte 59 (map joined_pair (q ∷ qs)))
-starts_joined q [] h = key_starts q.0 (61 ∷ q.1) (key_is q h)
+starts_joined : (q : List ℕ × List ℕ) (qs : List (List ℕ × List ℕ)) → IsSolidPair q
+    → StartsUnblank (join_with_byte 59 (map joined_pair (q ∷ qs)))
+starts_joined q [] h = key_starts q.0 (61 ∷ q.1) (solid_key q h)
 starts_joined q (r ∷ qs) h =
     rw (append_assoc q.0 (61 ∷ q.1) (59 ∷ join_with_byte 59 (map joined_pair (r ∷ qs))))
-    (key_starts q.0 ((61 ∷ q.1) ++ (59 ∷ join_with_byte 59 (map joined_pair (r ∷ qs)))) (key_is q h))
+    (key_starts q.0 ((61 ∷ q.1) ++ (59 ∷ join_with_byte 59 (map joined_pair (r ∷ qs)))) (solid_key q h))
 
--- plain pairs, joined, are read as these pairs
-pub are_pairs : (p : List ℕ × List ℕ) (ps : List (List ℕ × List ℕ)) → AllByRecursion IsPlainPair (p ∷ ps)
+-- solid pairs, joined, are read as these pairs
+pub are_pairs : (p : List ℕ × List ℕ) (ps : List (List ℕ × List ℕ)) → AllByRecursion IsSolidPair (p ∷ ps)
     → ArePairs (join_with_byte 59 (map joined_pair (p ∷ ps))) (p ∷ ps)
-are_pairs p [] h = ([], [], ap (λ (t : List ℕ). p.0 ++ (61 ∷ t)) (sym (append-nil p.1)), key_is p h.0, value_is p h.0, tt, inl refl)
-are_pairs p (q ∷ qs) h = grind (arith, append_assoc, key_is, value_is, starts_joined, are_pairs q qs h.1)
+are_pairs p [] h = ([], [], ap (λ (t : List ℕ). p.0 ++ (61 ∷ t)) (sym (append-nil p.1)), solid_key p h.0, value_is p h.0, tt, inl refl)
+are_pairs p (q ∷ qs) h = grind (arith, append_assoc, solid_key, value_is, starts_joined, are_pairs q qs h.1)
 
-pub pairs_are : (p : List ℕ × List ℕ) (ps : List (List ℕ × List ℕ)) → AllByRecursion IsPlainPair (p ∷ ps)
+pub pairs_are : (p : List ℕ × List ℕ) (ps : List (List ℕ × List ℕ)) → AllByRecursion IsSolidPair (p ∷ ps)
     → FmtpValues (codes " " ++ join_with_byte 59 (map joined_pair (p ∷ ps))) (params_read (p ∷ ps))
 pairs_are p ps h = inl ([], join_with_byte 59 (map joined_pair (p ∷ ps)), p ∷ ps, refl, tt, are_pairs p ps h, pairs_read_is (p ∷ ps))
 
-plain_no_end : (text : List ℕ) → IsPlain text → HoldsNoEnd text
-plain_no_end text h = (plain_lacks 10 text refl h, plain_lacks 13 text refl h)
+solid_no_end : (text : List ℕ) → IsSolid text → HoldsNoEnd text
+solid_no_end text h = (solid_lacks 10 text refl h, solid_lacks 13 text refl h)
 
-pair_no_end : (pair : List ℕ × List ℕ) → IsPlainPair pair → HoldsNoEnd (joined_pair pair)
-pair_no_end pair h = grind (arith, no_ends, plain_no_end, no_end)
+pair_no_end : (pair : List ℕ × List ℕ) → IsSolidPair pair → HoldsNoEnd (joined_pair pair)
+pair_no_end pair h = grind (arith, no_ends, solid_no_end, no_end)
 
-pub pairs_no_end : (p : List ℕ × List ℕ) (ps : List (List ℕ × List ℕ)) → AllByRecursion IsPlainPair (p ∷ ps)
+pub pairs_no_end : (p : List ℕ × List ℕ) (ps : List (List ℕ × List ℕ)) → AllByRecursion IsSolidPair (p ∷ ps)
     → HoldsNoEnd (join_with_byte 59 (map joined_pair (p ∷ ps)))
 pairs_no_end p [] h = pair_no_end p h.0
 pairs_no_end p (q ∷ qs) h = grind (arith, no_ends, pair_no_end, no_end, pairs_no_end q qs h.1)
@@ -136,8 +136,8 @@ pairs_no_end p (q ∷ qs) h = grind (arith, no_ends, pair_no_end, no_end, pairs_
 abbrev pub apt_pair : ℕ → List ℕ × List ℕ
 apt_pair n = (codes "apt", decimal n)
 
-apt_plain : (n : ℕ) → n ≤ 255 → IsPlainPair (apt_pair n)
-apt_plain n small = ((refl, (refl, (refl, tt))), decimal_plain n (omega arith), lit< tt, decimal_nonempty n (omega arith))
+apt_solid : (n : ℕ) → n ≤ 255 → IsSolidPair (apt_pair n)
+apt_solid n small = ((refl, (refl, (refl, tt))), decimal_solid n (omega arith), lit< tt, decimal_nonempty n (omega arith))
 
 apt_read : (n : ℕ) → n ≤ 255 → params_read (apt_pair n ∷ []) ≡ Apt n ∷ []
 unfolding params_read has_mark
@@ -145,8 +145,8 @@ apt_read n small =
     ap (λ (p : FormatParam). p ∷ [])
     (parsed_printed (codes "apt") (decimal n) (param_of (apt_pair n)) (parsed (codes "apt") (decimal n)) (Apt n) (refl, refl, small))
 
-pub apt_is : (n : ℕ) → n ≤ 255 → FmtpValues (codes " " ++ (codes "apt=" ++ decimal n)) (Apt n ∷ [])
-apt_is n small = grind (arith, apt_read n small, pairs_are (apt_pair n) [], apt_plain n small)
+pub apt_value_is : (n : ℕ) → n ≤ 255 → FmtpValues (codes " " ++ (codes "apt=" ++ decimal n)) (Apt n ∷ [])
+apt_value_is n small = grind (arith, apt_read n small, pairs_are (apt_pair n) [], apt_solid n small)
 
 -- ---- the lines of values
 
@@ -158,24 +158,24 @@ pub all_shown : (values : List FormatParam) → AreShown values → filter is_sh
 all_shown [] h = refl
 all_shown (v ∷ vs) h = rw (lt-ltb 0 (length (param_text v)) h.0) (ap (λ (ws : List FormatParam). v ∷ ws) (all_shown vs h.1))
 
-pub joined_both : (values : List FormatParam) → join_by param_text (codes ";") values ≡ join_with_byte 59 (map param_text values)
-joined_both [] = refl
-joined_both (v ∷ []) = append-nil (param_text v)
-joined_both (v ∷ (w ∷ ws)) = ap (λ (t : List ℕ). param_text v ++ (59 ∷ t)) (joined_both (w ∷ ws))
+pub join_same : (values : List FormatParam) → join_by param_text (codes ";") values ≡ join_with_byte 59 (map param_text values)
+join_same [] = refl
+join_same (v ∷ []) = append-nil (param_text v)
+join_same (v ∷ (w ∷ ws)) = ap (λ (t : List ℕ). param_text v ++ (59 ∷ t)) (join_same (w ∷ ws))
 
 -- a line of values whose joined text reads as others
-pub values_printed : (pt : ℕ) (v : FormatParam) (vs : List FormatParam) (body : List ℕ) (read : List FormatParam) → pt ≤ 127
+pub line_values_printed : (pt : ℕ) (v : FormatParam) (vs : List FormatParam) (body : List ℕ) (read : List FormatParam) → pt ≤ 127
     → AreShown (v ∷ vs)
     → join_with_byte 59 (map param_text (v ∷ vs)) ≡ body → HoldsNoEnd body → FmtpValues (codes " " ++ body) read
     → IsPrintedAs IsMediaLine (media_attribute_text (Fmtp pt (v ∷ vs))) (Fmtp pt read)
-values_printed pt v vs body read small shown e quiet are =
-    grind (arith, shown_line pt, all_shown (v ∷ vs) shown, joined_both (v ∷ vs), fmtp_line_printed pt body read small quiet are)
+line_values_printed pt v vs body read small shown e quiet are =
+    grind (arith, shown_line pt, all_shown (v ∷ vs) shown, join_same (v ∷ vs), fmtp_line_printed pt body read small quiet are)
 
 pub apt_printed : (pt n : ℕ) → pt ≤ 127 → n ≤ 255
     → IsPrintedAs IsMediaLine (media_attribute_text (Fmtp pt (Apt n ∷ []))) (Fmtp pt (Apt n ∷ []))
 apt_printed pt n small fits =
-    values_printed pt (Apt n) [] (codes "apt=" ++ decimal n) (Apt n ∷ []) small (omega arith, tt) refl
-    (no_ends (codes "apt=") (decimal n) (no_end (codes "apt=") refl refl) (decimal_no_end n (omega arith))) (apt_is n fits)
+    line_values_printed pt (Apt n) [] (codes "apt=" ++ decimal n) (Apt n ∷ []) small (omega arith, tt) refl
+    (no_ends (codes "apt=") (decimal n) (no_end (codes "apt=") refl refl) (decimal_no_end n (omega arith))) (apt_value_is n fits)
 
 pub list_shown : (n : ℕ) → n ≤ 255 → IsRest ((decimal n ++ codes "/") ++ decimal n)
 list_shown n small = omega (arith, length-append (decimal n ++ codes "/") (decimal n), decimal_nonempty n (omega arith))
@@ -187,7 +187,7 @@ list_no_end n small = grind (arith, no_ends, decimal_no_end, no_end)
 pub list_printed : (pt n : ℕ) (v : FormatParam) → param_text v ≡ (decimal n ++ codes "/") ++ decimal n → pt ≤ 127 → n ≤ 255
     → IsPrintedAs IsMediaLine (media_attribute_text (Fmtp pt (v ∷ []))) (Fmtp pt (BarePtList n ∷ []))
 list_printed pt n v text small fits =
-    values_printed pt v [] (decimal n ++ (codes "/" ++ decimal n)) (BarePtList n ∷ []) small (subst IsRest (sym text) (list_shown n fits), tt)
+    line_values_printed pt v [] (decimal n ++ (codes "/" ++ decimal n)) (BarePtList n ∷ []) small (subst IsRest (sym text) (list_shown n fits), tt)
     (text ∙ append_assoc (decimal n) (codes "/") (decimal n)) (list_no_end n fits) (list_is n fits)
 
 range_no_end : (n : ℕ) → n ≤ 255 → HoldsNoEnd (codes "0-" ++ decimal n)
@@ -198,14 +198,14 @@ pub range_printed : (pt n : ℕ) (v : FormatParam) → param_text v ≡ codes "0
     → IsPrintedAs IsMediaLine (media_attribute_text (Fmtp pt (v ∷ []))) (Fmtp pt (BareRange n ∷ []))
 range_printed pt n v text small fits =
     let shown : IsRest (codes "0-" ++ decimal n) = omega arith in
-    values_printed pt v [] (codes "0-" ++ decimal n) (BareRange n ∷ []) small (subst IsRest (sym text) shown, tt) text
+    line_values_printed pt v [] (codes "0-" ++ decimal n) (BareRange n ∷ []) small (subst IsRest (sym text) shown, tt) text
     (range_no_end n fits) (range_is n fits)
 
--- a line whose text is that of plain pairs reads as what these read as together
+-- a line whose text is that of solid pairs reads as what these read as together
 pub pairs_printed : (pt : ℕ) (v : FormatParam) (vs : List FormatParam) (p : List ℕ × List ℕ) (ps : List (List ℕ × List ℕ))
     → pt ≤ 127 → AreShown (v ∷ vs)
-    → AllByRecursion IsPlainPair (p ∷ ps) → join_with_byte 59 (map param_text (v ∷ vs)) ≡ join_with_byte 59 (map joined_pair (p ∷ ps))
+    → AllByRecursion IsSolidPair (p ∷ ps) → join_with_byte 59 (map param_text (v ∷ vs)) ≡ join_with_byte 59 (map joined_pair (p ∷ ps))
     → IsPrintedAs IsMediaLine (media_attribute_text (Fmtp pt (v ∷ vs))) (Fmtp pt (params_read (p ∷ ps)))
 pairs_printed pt v vs p ps small shown plain e =
-    values_printed pt v vs (join_with_byte 59 (map joined_pair (p ∷ ps))) (params_read (p ∷ ps)) small shown e
+    line_values_printed pt v vs (join_with_byte 59 (map joined_pair (p ∷ ps))) (params_read (p ∷ ps)) small shown e
     (pairs_no_end p ps plain) (pairs_are p ps plain)

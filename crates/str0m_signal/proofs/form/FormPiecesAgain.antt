@@ -50,15 +50,15 @@ module _ {A : Type 0} {F : List ℕ → A → Type 0} {p : A → List ℕ} (agai
   parted_form c text (x ∷ []) h = subst (λ (t : List ℕ). F t x) (sym (append-nil (p x))) (again.form text x h)
   parted_form c text (x ∷ (y ∷ ys)) h = grind (arith, parted_form c h.1 (y ∷ ys) h.4)
 
-  parted_lacks : (c d : ℕ) → 16 ≤ digit_value d → (text : List ℕ) (xs : List A) → Parted c F text xs → Lacks d text
+  parted_text_lacks : (c d : ℕ) → 16 ≤ digit_value d → (text : List ℕ) (xs : List A) → Parted c F text xs → Lacks d text
       → Lacks d (join_by p (c ∷ []) xs)
-  parted_lacks c d other text [] h lacks = absurd h
-  parted_lacks c d other text (x ∷ []) h lacks = grind (arith, append-nil)
-  parted_lacks c d other text (x ∷ (y ∷ ys)) h lacks =
+  parted_text_lacks c d other text [] h lacks = absurd h
+  parted_text_lacks c d other text (x ∷ []) h lacks = grind (arith, append-nil)
+  parted_text_lacks c d other text (x ∷ (y ∷ ys)) h lacks =
       let whole : Lacks d (h.0 ++ (c ∷ h.1)) = subst (Lacks d) h.2 lacks in
       let behind = behind_lacks d h.0 (c ∷ h.1) whole in
       lacks_both d (p x) (c ∷ join_by p (c ∷ []) (y ∷ ys)) (again.lacks d other h.0 x h.3 (Lacks-append d h.0 (c ∷ h.1) whole))
-      (behind.0, parted_lacks c d other h.1 (y ∷ ys) h.4 behind.1)
+      (behind.0, parted_text_lacks c d other h.1 (y ∷ ys) h.4 behind.1)
 
   pub parted_again : (c : ℕ) → Again (Parted c F) (join_by p (c ∷ []))
-  parted_again c = record { form = parted_form c; lacks = λ d. parted_lacks c d }
+  parted_again c = record { form = parted_form c; lacks = λ d. parted_text_lacks c d }

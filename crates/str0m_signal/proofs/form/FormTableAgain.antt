@@ -2,10 +2,10 @@
 use Rattle.str0m_signal.proofs.Common.{num_both, ◌≡◌, ◌≤◌, ◌<◌, ◌^◌, ℕ, Bool, true, List, [], ◌∷◌, ◌++◌, map, refl, sym, subst, lit≤, inl, inr, digit_value, decimal, attribute_line}
 use Rattle.str0m_signal.proofs.form.FormLaws.{text_both, two_both, tailed_both}
 use Rattle.str0m_signal.proofs.form.FormPiecesAgain.{Again, text_again, num_again, two_again, tailed_again, behind_again}
-use Rattle.str0m_signal.proofs.form.FormTableLaws.{Readable, Lawful, AllOf, labelled_lawful, words_lawful, all_labelled_lawful, forms_apart, head_is, tail_is}
+use Rattle.str0m_signal.proofs.form.FormTableLaws.{Readable, Lawful, AllOf, labelled_lawful, words_lawful, all_labelled_lawful, forms_apart, heads_same, tail_is}
 use Rattle.str0m_signal.proofs.line.WordsCharacterStarts.{StartsWithin}
 use Rattle.str0m_signal.proofs.session.AttributesPrinted.{HoldsNoEnd}
-use Rattle.str0m_signal.specs.form.FormTable.{Piece, Form, word, words_of, words, made, labelled, labelled_by, any, a_text, number, two, two_texts, tailed, led_by}
+use Rattle.str0m_signal.specs.form.FormTable.{Piece, Form, word, words_of, any_word, made_as, labelled, labelled_by, any, a_text, number, two, two_texts, tailed, led_by}
 
 -- ---- pieces
 
@@ -56,7 +56,7 @@ module _ {A : Type 0} {Fits : A → Type 0} {line : A → List ℕ} {test : A �
   pub made_again : {B : Type 0} (form : Form B) (make : B → A) (print : B → List ℕ)
       → ((text : List ℕ) (x : B) → HoldsNoEnd text → StartsWithin 3 text → Fits (make x) → form.Is text x → form.Is (print x) x × HoldsNoEnd (print x))
       → ((x : B) → form.Is (print x) x → line (make x) ≡ attribute_line (print x)) → ((x : B) → test (make x) ≡ true)
-      → PrintsAgain Fits line test (made form make)
+      → PrintsAgain Fits line test (made_as form make)
   made_again form make print back prints passes = record {
     again = λ text attr quiet starts fits h.
         let is = back text h.0 quiet starts (subst Fits h.2 fits) h.1 in
@@ -64,20 +64,20 @@ module _ {A : Type 0} {Fits : A → Type 0} {line : A → List ℕ} {test : A �
     passes = λ text attr h. subst (λ (a : A). test a ≡ true) (sym h.2) (passes h.0);
   }
 
-  pub both : {form : Form A} → Lawful form → PrintsAgain Fits line test form → Whole Fits line test form
-  both lawful prints = record { lawful = lawful; prints = prints }
+  pub entire : {form : Form A} → Lawful form → PrintsAgain Fits line test form → Whole Fits line test form
+  entire lawful prints = record { lawful = lawful; prints = prints }
 
   pub labelled_whole : {B : Type 0} {piece : Piece B} {print : B → List ℕ} (label : List ℕ) (make : B → A) → Kept piece print
       → ((x : B) → line (make x) ≡ attribute_line (label ++ print x)) → ((x : B) → test (make x) ≡ true)
       → Whole Fits line test (labelled label piece make)
   labelled_whole {piece} {print} label make kept prints passes =
       let behind = behind_again kept.again label in
-      both (labelled_lawful label make kept.reads)
+      entire (labelled_lawful label make kept.reads)
       (made_again (led_by label piece) make (λ x. label ++ print x) (λ text x quiet starts fits h. (behind.form text x h, quiet_again behind text x quiet h))
       (λ x h. prints x) passes)
 
-  word_again : (name : List ℕ) (x : A) → line x ≡ attribute_line name → test x ≡ true → PrintsAgain Fits line test (word name x)
-  word_again name x prints passes = record {
+  word_prints_again : (name : List ℕ) (x : A) → line x ≡ attribute_line name → test x ≡ true → PrintsAgain Fits line test (word name x)
+  word_prints_again name x prints passes = record {
     again = λ text attr quiet starts fits h.
         (name, subst (λ (a : A). line a ≡ attribute_line name) (sym h.1) prints, subst HoldsNoEnd h.0 quiet, (refl, h.1));
     passes = λ text attr h. subst (λ (a : A). test a ≡ true) (sym h.1) passes;
@@ -108,21 +108,21 @@ module _ {A : Type 0} (Fits : A → Type 0) (line : A → List ℕ) (test : A �
   words_all : (rows : List (List ℕ × A)) → AreWords line test rows → AllOf (PrintsAgain Fits line test) (words_of rows)
   words_all [] e = tt
   words_all (row ∷ rows) e =
-      let here : (line row.1, test row.1) ≡ (attribute_line row.0, true) = head_is _ _ _ _ e in
-      (word_again row.0 row.1 (λ i. (here i).0) (λ i. (here i).1), words_all rows (tail_is _ _ _ _ e))
+      let here : (line row.1, test row.1) ≡ (attribute_line row.0, true) = heads_same _ _ _ _ e in
+      (word_prints_again row.0 row.1 (λ i. (here i).0) (λ i. (here i).1), words_all rows (tail_is _ _ _ _ e))
 
   labelled_all : {V : Type 0} {piece : Piece V} {print : V → List ℕ} → Kept piece print → (rows : List (List ℕ × (V → A)))
       → AreLabelled print line test rows → AllOf (PrintsAgain Fits line test) (labelled_by piece rows)
   labelled_all kept [] e = tt
   labelled_all {V} {piece} {print} kept (row ∷ rows) e =
-      let here : (x : V) → (line (row.1 x), test (row.1 x)) ≡ (attribute_line (row.0 ++ print x), true) = λ x. head_is _ _ _ _ (e x) in
+      let here : (x : V) → (line (row.1 x), test (row.1 x)) ≡ (attribute_line (row.0 ++ print x), true) = λ x. heads_same _ _ _ _ (e x) in
       ((labelled_whole row.0 row.1 kept (λ x i. (here x i).0) (λ x i. (here x i).1)).prints, labelled_all kept rows (λ x. tail_is _ _ _ _ (e x)))
 
 module _ {A : Type 0} {Fits : A → Type 0} {line : A → List ℕ} {test : A → Bool} where
-  pub words_whole : (rows : List (List ℕ × A)) → forms_apart (words_of rows) ≡ true → AreWords line test rows → Whole Fits line test (words rows)
-  words_whole rows far e = both (words_lawful rows far) (any_again (words_of rows) (words_all Fits line test rows e))
+  pub words_whole : (rows : List (List ℕ × A)) → forms_apart (words_of rows) ≡ true → AreWords line test rows → Whole Fits line test (any_word rows)
+  words_whole rows far e = entire (words_lawful rows far) (any_again (words_of rows) (words_all Fits line test rows e))
 
   pub all_labelled_whole : {V : Type 0} {piece : Piece V} {print : V → List ℕ} → Kept piece print → (rows : List (List ℕ × (V → A)))
       → forms_apart (labelled_by piece rows) ≡ true → AreLabelled print line test rows → Whole Fits line test (any (labelled_by piece rows))
   all_labelled_whole {V} {piece} {print} kept rows far e =
-      both (all_labelled_lawful piece kept.reads rows far) (any_again (labelled_by piece rows) (labelled_all Fits line test kept rows e))
+      entire (all_labelled_lawful piece kept.reads rows far) (any_again (labelled_by piece rows) (labelled_all Fits line test kept rows e))

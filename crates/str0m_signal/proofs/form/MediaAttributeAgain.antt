@@ -11,9 +11,9 @@ use Rattle.str0m_signal.proofs.form.FmtpAgain.{fmtp_again}
 use Rattle.str0m_signal.proofs.form.FmtpPrinted.{behind_lacks}
 use Rattle.str0m_signal.proofs.form.FormLaws.{text_both, two_both}
 use Rattle.str0m_signal.proofs.form.FormPiecesAgain.{Again, text_again, num_again, two_again, behind_again, parted_again}
-use Rattle.str0m_signal.proofs.form.FormTableAgain.{Kept, PrintsAgain, Whole, laws_of, quiet_again, made_again, both, text_kept, number_kept, two_kept, pair_kept, tailed_kept, labelled_whole, words_whole, all_labelled_whole, any_again}
+use Rattle.str0m_signal.proofs.form.FormTableAgain.{Kept, PrintsAgain, Whole, laws_of, quiet_again, made_again, entire, text_kept, number_kept, two_kept, pair_kept, tailed_kept, labelled_whole, words_whole, all_labelled_whole, any_again}
 use Rattle.str0m_signal.proofs.form.FormTableLaws.{Readable, Lawful, AllOf, ◌also◌, own_lawful, labelled_lawful, made_lawful}
-use Rattle.str0m_signal.proofs.form.RidAgain.{IsPlainRid, rid_again, sides_words, sides_form, sides_lack}
+use Rattle.str0m_signal.proofs.form.RidAgain.{IsUntypedRid, rid_again, sides_words, sides_form, sides_lack}
 use Rattle.str0m_signal.proofs.form.RidLaws.{rid_fields_both}
 use Rattle.str0m_signal.proofs.form.RtpMapPrinted.{mapping_printed}
 use Rattle.str0m_signal.proofs.form.SimulcastLaws.{simulcast_fields_both}
@@ -26,7 +26,7 @@ use Rattle.str0m_signal.specs.back.WritableAgain.{FitsAgain, NamesNoTypes}
 use Rattle.str0m_signal.specs.form.FormTable.{Form, any, led_by, two, parted, a_text, number}
 use Rattle.str0m_signal.specs.form.FormTransport.{candidate, fingerprint, role}
 use Rattle.str0m_signal.specs.form.Forms.{Behind, IsText, Two}
-use Rattle.str0m_signal.specs.form.MediaAttribute.{media_texts, media_pairs, name, mid, ssrc_group, rid, simulcast, plain_forms, IsMediaLine, MediaForm}
+use Rattle.str0m_signal.specs.form.MediaAttribute.{media_texts, media_pairs, name, mid, ssrc_group, rid, simulcast, other_forms, IsMediaLine, MediaForm}
 use Rattle.str0m_signal.specs.form.MediaAttributeReading.{role_read}
 use Rattle.str0m_signal.specs.form.Rid.{IsRid}
 use Rattle.str0m_signal.specs.form.RidReading.{rid_fields_read}
@@ -58,9 +58,9 @@ candidate_lawful = own_lawful candidate_label.CANDIDATE.now candidate_both candi
 pub fingerprint_lawful : Lawful fingerprint
 fingerprint_lawful = labelled_lawful _ _ (two_both 32 text_both hex_pairs_both)
 
-pub printed_candidate : {Fits : Type 0} (text : List ℕ) (candidate : TheCandidate) → HoldsNoEnd text → StartsWithin 3 text → Fits
+pub candidate_back : {Fits : Type 0} (text : List ℕ) (candidate : TheCandidate) → HoldsNoEnd text → StartsWithin 3 text → Fits
     → IsCandidateText text candidate → IsCandidateText (candidate_text candidate) candidate × HoldsNoEnd (candidate_text candidate)
-printed_candidate text candidate quiet starts fits h = candidate_again text candidate quiet h
+candidate_back text candidate quiet starts fits h = candidate_again text candidate quiet h
 
 abbrev hash_line : TheFingerprint → List ℕ
 hash_line hash = label.FINGERPRINT.now ++ fingerprint_text hash
@@ -87,31 +87,31 @@ shown_only (Fmtp pt values) = Fmtp pt (filter is_shown values)
 shown_only attr = attr
 
 -- neither a mapping nor a format
-abbrev is_plain : MediaAttribute → Bool
-is_plain (RtpMap pt value) = false
-is_plain (Fmtp pt values) = false
-is_plain _ = true
+abbrev is_other : MediaAttribute → Bool
+is_other (RtpMap pt value) = false
+is_other (Fmtp pt values) = false
+is_other _ = true
 
 -- so it is printed whole, and has no number that one of these would have
-pub plain : (attr : MediaAttribute) → is_plain attr ≡ true → (shown_only attr ≡ attr) × KeepsToLine attr
-plain (RtpMap pt value) e = absurd (false≢true e)
-plain (Fmtp pt values) e = absurd (false≢true e)
-plain _ e = (refl, tt)
+pub other_whole : (attr : MediaAttribute) → is_other attr ≡ true → (shown_only attr ≡ attr) × KeepsToLine attr
+other_whole (RtpMap pt value) e = absurd (false≢true e)
+other_whole (Fmtp pt values) e = absurd (false≢true e)
+other_whole _ e = (refl, tt)
 
-abbrev PlainAgain : Form MediaAttribute → Type 0
-PlainAgain = PrintsAgain FitsAgain media_attribute_text is_plain
+abbrev OtherAgain : Form MediaAttribute → Type 0
+OtherAgain = PrintsAgain FitsAgain media_attribute_text is_other
 
-abbrev pub PlainForm : Form MediaAttribute → Type 0
-PlainForm = Whole FitsAgain media_attribute_text is_plain
+abbrev pub OtherForm : Form MediaAttribute → Type 0
+OtherForm = Whole FitsAgain media_attribute_text is_other
 
-name_both : Readable name
-name_both = record {
+name_readable : Readable name
+name_readable = record {
   sound = λ text mid e. let w = when_some (is_rest text) (beginning_of 16 text) mid e in rw (← w.1) (ltb-true 0 (length text) w.0, beginning_is 16 text);
   complete = λ text mid h.
       when_true (is_rest text) (beginning_of 16 text) (rest_true text h.0) ∙ ap (λ (t : List ℕ). Some t) (sym (beginning_only 16 text mid h.1));
 }
 
-mid_comes_back : PlainAgain mid
+mid_comes_back : OtherAgain mid
 mid_comes_back = made_again (led_by label.MID.now name) Mid (λ mid. label.MID.now ++ mid) (λ text mid quiet starts fits h. back text mid quiet starts h) (λ _ _. refl) (λ _. refl)
   where
     lacks : (c : ℕ) (text mid name : List ℕ) → text ≡ label.MID.now ++ name → IsLongestBeginning 16 name mid → Lacks c text → Lacks c (label.MID.now ++ mid)
@@ -130,7 +130,7 @@ mid_comes_back = made_again (led_by label.MID.now name) Mid (λ mid. label.MID.n
 abbrev simulcast_line : TheSimulcast → List ℕ
 simulcast_line s = label.SIMULCAST.now ++ sides_words s.send.0 s.recv.0
 
-simulcast_comes_back : PlainAgain simulcast
+simulcast_comes_back : OtherAgain simulcast
 simulcast_comes_back = made_again (led_by label.SIMULCAST.now (record { Is = IsSimulcast; read = simulcast_fields_read })) Simulcast simulcast_line (λ text s quiet starts fits h. back text s quiet h) shows (λ _. refl)
   where
     back : (text : List ℕ) (s : TheSimulcast) → HoldsNoEnd text → Behind label.SIMULCAST.now IsSimulcast text s
@@ -156,27 +156,27 @@ simulcast_comes_back = made_again (led_by label.SIMULCAST.now (record { Is = IsS
     shows s (body, e, (sides, whole)) =
         ap (λ (b : Bool). unless_munged b (sides_text s.send.0 s.recv.0)) whole ∙ sides_are body s.send.0 s.recv.0 sides
 
-plain_rid : (text : List ℕ) (id : RestrictionId) (fields : List ℕ × (List ℕ × List (List ℕ × List ℕ)))
+untyped_rid : (text : List ℕ) (id : RestrictionId) (fields : List ℕ × (List ℕ × List (List ℕ × List ℕ)))
     → Behind label.RID.now IsRid text (id, fields)
-    → NamesNoTypes fields.1.1 → Behind label.RID.now IsPlainRid text (id, fields)
-plain_rid text id fields (body, e, (front, rest, f, lacks, name, directed)) named = grind arith
+    → NamesNoTypes fields.1.1 → Behind label.RID.now IsUntypedRid text (id, fields)
+untyped_rid text id fields (body, e, (front, rest, f, lacks, name, directed)) named = grind arith
 
 rid_form : (text : List ℕ) (id : RestrictionId) (fields : List ℕ × (List ℕ × List (List ℕ × List ℕ)))
-    → Behind label.RID.now IsPlainRid text (id, fields)
+    → Behind label.RID.now IsUntypedRid text (id, fields)
     → Behind label.RID.now IsRid text (id, fields)
 rid_form text id fields (body, e, (front, rest, f, lacks, name, directed)) = (body, e, (front, rest, f, lacks, name, directed.0))
 
-rid_comes_back : PlainAgain rid
+rid_comes_back : OtherAgain rid
 rid_comes_back = made_again (led_by label.RID.now (record { Is = IsRid; read = rid_fields_read })) _ _ (λ text f quiet starts fits h.
     let whole = behind_again rid_again label.RID.now in
-    let plain = plain_rid text f.0 f.1 h fits in
+    let plain = untyped_rid text f.0 f.1 h fits in
     (rid_form _ f.0 f.1 (whole.form text f plain), quiet_again whole text f quiet plain)) (λ _ _. refl) (λ _. refl)
 
 abbrev sources_line : List ℕ → List ℕ → List ℕ
 sources_line semantics ssrcs = label.SSRC_GROUP.now ++ (semantics ++ (32 ∷ join_by decimal (codes " ") ssrcs))
 
-group_comes_back : PlainAgain ssrc_group
-group_comes_back =
+ssrc_group_comes_back : OtherAgain ssrc_group
+ssrc_group_comes_back =
     let whole = behind_again (two_again 32 (lit≤ tt) text_again (parted_again (num_again 4294967295 (lit< tt)) 32)) label.SSRC_GROUP.now in
     made_again (led_by label.SSRC_GROUP.now (two 32 a_text (parted 32 (number 4294967295)))) _ _ (λ text p quiet starts fits h. (whole.form text p h, quiet_again whole text p quiet h)) (λ p h. shows p.0 p.1 h) (λ _. refl)
   where
@@ -186,29 +186,29 @@ group_comes_back =
     shows semantics [] h = absurd h.2.5
     shows semantics (ssrc ∷ ssrcs) h = refl
 
-pub plain_laws : AllOf PlainForm plain_forms
-plain_laws =
+pub other_laws : AllOf OtherForm other_forms
+other_laws =
     labelled_whole _ _ (two_kept 32 (lit≤ tt) (number_kept 127 (lit< tt)) text_kept) (λ _. refl) (λ _. refl)
     also labelled_whole _ _ (two_kept 32 (lit≤ tt) (tailed_kept 47 (lit≤ tt) (number_kept 255 (lit< tt))) (tailed_kept 32 (lit≤ tt) text_kept)) (λ _. refl) (λ _. refl)
-    also both (made_lawful Candidate candidate_lawful) (made_again candidate Candidate _ printed_candidate (λ _ _. refl) (λ _. refl))
+    also entire (made_lawful Candidate candidate_lawful) (made_again candidate Candidate _ candidate_back (λ _ _. refl) (λ _. refl))
     also labelled_whole _ _ (two_kept 32 (lit≤ tt) (number_kept 4294967295 (lit< tt)) (two_kept 58 (lit≤ tt) text_kept text_kept)) (λ _. refl) (λ _. refl)
     also labelled_whole _ Setup role_kept (λ _. refl) (λ _. refl)
-    also both (labelled_lawful _ _ (two_both 32 text_both sources_both)) group_comes_back
+    also entire (labelled_lawful _ _ (two_both 32 text_both sources_both)) ssrc_group_comes_back
     also all_labelled_whole text_kept media_texts refl (λ _. refl)
-    also both (made_lawful Fingerprint fingerprint_lawful) (made_again fingerprint Fingerprint _ printed_fingerprint (λ _ _. refl) (λ _. refl))
-    also both (labelled_lawful _ _ name_both) mid_comes_back
+    also entire (made_lawful Fingerprint fingerprint_lawful) (made_again fingerprint Fingerprint _ printed_fingerprint (λ _ _. refl) (λ _. refl))
+    also entire (labelled_lawful _ _ name_readable) mid_comes_back
     also all_labelled_whole pair_kept media_pairs refl (λ _. refl)
-    also both (labelled_lawful _ _ rid_fields_both) rid_comes_back
+    also entire (labelled_lawful _ _ rid_fields_both) rid_comes_back
     also labelled_whole _ _ text_kept (λ _. refl) (λ _. refl)
-    also both (labelled_lawful _ _ simulcast_fields_both) simulcast_comes_back
+    also entire (labelled_lawful _ _ simulcast_fields_both) simulcast_comes_back
     also labelled_whole _ _ (number_kept 65535 (lit< tt)) (λ _. refl) (λ _. refl)
     also labelled_whole _ _ (number_kept 18446744073709551615 (lit< tt)) (λ _. refl) (λ _. refl)
     also labelled_whole _ _ text_kept (λ _. refl) (λ _. refl)
     also words_whole media_words refl refl
     also tt
 
-pub plain_again : PlainAgain (any plain_forms)
-plain_again = any_again plain_forms (laws_of PlainForm PlainAgain (λ form law. law.prints) plain_forms plain_laws)
+pub other_again : OtherAgain (any other_forms)
+other_again = any_again other_forms (laws_of OtherForm OtherAgain (λ form law. law.prints) other_forms other_laws)
 
 -- ---- mappings, formats, and all
 
@@ -241,8 +241,8 @@ pub media_again : (text : List ℕ) (attr : MediaAttribute) → HoldsNoEnd text 
 media_again text attr quiet starts (inl (inl (p, h, e))) may = subst ComesBack (sym e) (inl (mapping_again text p.0 p.1 h))
 media_again text attr quiet starts (inl (inr (inl (p, h, e)))) may = subst ComesBack (sym e) (fmtp_again text p.0 p.1 h)
 media_again text attr quiet starts (inl (inr (inr h))) may =
-    let new = plain_again.again text attr quiet starts may h in
-    let shown = (plain attr (plain_again.passes text attr h)).0 in
+    let new = other_again.again text attr quiet starts may h in
+    let shown = (other_whole attr (other_again.passes text attr h)).0 in
     inl (rw (new.1, shown) (attribute_printed new.0 attr new.2 (inr (inr new.3))))
 media_again text attr quiet starts (inr (none, (filled, e))) may =
     rw e (inl (line_printed MediaForm text (Unused text) quiet (inr (none, (filled, refl)))))

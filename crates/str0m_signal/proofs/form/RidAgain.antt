@@ -34,14 +34,14 @@ restrictions_lack c far text (pair ∷ pairs) h lacks = restrictions_again.lacks
 -- ---- which text begins with the label of types
 
 -- a key and `=` begin with the label only where the key is the label's name
-key_is : (key value rest : List ℕ) → IsRest key → Lacks 61 key → key ++ (codes "=" ++ value) ≡ codes "pt=" ++ rest → key ≡ codes "pt"
-key_is [] value rest filled lacks e = absurd (omega (arith, filled))
-key_is (a ∷ []) value rest filled lacks e = grind arith
-key_is (a ∷ (b ∷ [])) value rest filled lacks e =
+key_is_pt : (key value rest : List ℕ) → IsRest key → Lacks 61 key → key ++ (codes "=" ++ value) ≡ codes "pt=" ++ rest → key ≡ codes "pt"
+key_is_pt [] value rest filled lacks e = absurd (omega (arith, filled))
+key_is_pt (a ∷ []) value rest filled lacks e = grind arith
+key_is_pt (a ∷ (b ∷ [])) value rest filled lacks e =
     let first = cons_parts a 112 (b ∷ (61 ∷ value)) (116 ∷ (61 ∷ rest)) e in
     let second = cons_parts b 116 (61 ∷ value) (61 ∷ rest) first.1 in
     ap (λ (x : ℕ). x ∷ (b ∷ [])) first.0 ∙ ap (λ (x : ℕ). 112 ∷ (x ∷ [])) second.0
-key_is (a ∷ (b ∷ (c ∷ cs))) value rest filled lacks e = grind arith
+key_is_pt (a ∷ (b ∷ (c ∷ cs))) value rest filled lacks e = grind arith
 
 join_first : (pair : List ℕ × List ℕ) (pairs : List (List ℕ × List ℕ))
     → (more : List ℕ) × (restrictions_text (pair ∷ pairs) ≡ pair.0 ++ (codes "=" ++ more))
@@ -62,12 +62,12 @@ first_key text pair pairs h = grind arith
 no_label : (text : List ℕ) (pairs : List (List ℕ × List ℕ)) → AreRestrictions text pairs → NamesNoTypes pairs
     → (rest : List ℕ) → restrictions_text pairs ≢ codes "pt=" ++ rest
 no_label text [] h named rest e = absurd cc
-no_label text (pair ∷ pairs) h named rest e = grind (arith, join_first pair pairs, first_key text pair pairs h, key_is pair.0)
+no_label text (pair ∷ pairs) h named rest e = grind (arith, join_first pair pairs, first_key text pair pairs h, key_is_pt pair.0)
 
 -- ---- rids
 
-types_again : Again (Parted 44 IsPt) (join_by decimal (codes ","))
-types_again = parted_again (num_again 127 (lit< tt)) 44
+pts_again : Again (Parted 44 IsPt) (join_by decimal (codes ","))
+pts_again = parted_again (num_again 127 (lit< tt)) 44
 
 abbrev pub more_text : List ℕ × List (List ℕ × List ℕ) → List ℕ
 more_text lists = pts_part lists.0 ++ restrictions_part lists.0 lists.1
@@ -76,17 +76,17 @@ more_text lists = pts_part lists.0 ++ restrictions_part lists.0 lists.1
 typed_form : (text : List ℕ) (n : ℕ) (ns : List ℕ) (pairs : List (List ℕ × List ℕ)) → AreTyped text (n ∷ ns, pairs)
     → AreTyped (join_by decimal (codes ",") (n ∷ ns) ++ restrictions_part (n ∷ ns) pairs) (n ∷ ns, pairs)
 typed_form text n ns [] (inl h) =
-    inl (subst (λ (t : List ℕ). Parted 44 IsPt t (n ∷ ns)) (sym (append-nil _)) (types_again.form text (n ∷ ns) h.0), refl)
+    inl (subst (λ (t : List ℕ). Parted 44 IsPt t (n ∷ ns)) (sym (append-nil _)) (pts_again.form text (n ∷ ns) h.0), refl)
 typed_form text n ns [] (inr h) =
-    inl (subst (λ (t : List ℕ). Parted 44 IsPt t (n ∷ ns)) (sym (append-nil _)) (types_again.form h.0 (n ∷ ns) h.4), refl)
+    inl (subst (λ (t : List ℕ). Parted 44 IsPt t (n ∷ ns)) (sym (append-nil _)) (pts_again.form h.0 (n ∷ ns) h.4), refl)
 typed_form text n ns (pair ∷ pairs) (inl h) = absurd (let e = h.1 in cc)
 typed_form text n ns (pair ∷ pairs) (inr h) =
     inr (
       join_by decimal (codes ",") (n ∷ ns),
       restrictions_text (pair ∷ pairs),
       refl,
-      types_again.lacks 59 (lit≤ tt) h.0 (n ∷ ns) h.4 h.3,
-      types_again.form h.0 (n ∷ ns) h.4,
+      pts_again.lacks 59 (lit≤ tt) h.0 (n ∷ ns) h.4 h.3,
+      pts_again.form h.0 (n ∷ ns) h.4,
       restrictions_form h.1 (pair ∷ pairs) h.5,
     )
 
@@ -94,16 +94,16 @@ typed_lacks : (c : ℕ) → 16 ≤ digit_value c → (text : List ℕ) (n : ℕ)
     → AreTyped text (n ∷ ns, pairs)
     → Lacks c text → Lacks c (join_by decimal (codes ",") (n ∷ ns) ++ restrictions_part (n ∷ ns) pairs)
 typed_lacks c far text n ns [] (inl h) lacks =
-    subst (Lacks c) (sym (append-nil _)) (types_again.lacks c far text (n ∷ ns) h.0 lacks)
+    subst (Lacks c) (sym (append-nil _)) (pts_again.lacks c far text (n ∷ ns) h.0 lacks)
 typed_lacks c far text n ns [] (inr h) lacks =
     subst (Lacks c) (sym (append-nil _))
-    (types_again.lacks c far h.0 (n ∷ ns) h.4 (Lacks-append c h.0 (59 ∷ h.1) (subst (Lacks c) h.2 lacks)))
+    (pts_again.lacks c far h.0 (n ∷ ns) h.4 (Lacks-append c h.0 (59 ∷ h.1) (subst (Lacks c) h.2 lacks)))
 typed_lacks c far text n ns (pair ∷ pairs) (inl h) lacks = absurd (let e = h.1 in cc)
 typed_lacks c far text n ns (pair ∷ pairs) (inr h) lacks =
     let whole : Lacks c (h.0 ++ (59 ∷ h.1)) = subst (Lacks c) h.2 lacks in
     let behind = behind_lacks c h.0 (59 ∷ h.1) whole in
     lacks_both c (join_by decimal (codes ",") (n ∷ ns)) (59 ∷ restrictions_text (pair ∷ pairs))
-    (types_again.lacks c far h.0 (n ∷ ns) h.4 (Lacks-append c h.0 (59 ∷ h.1) whole))
+    (pts_again.lacks c far h.0 (n ∷ ns) h.4 (Lacks-append c h.0 (59 ∷ h.1) whole))
     (behind.0, restrictions_lack c far h.1 (pair ∷ pairs) h.5 behind.1)
 
 -- a type stands there
@@ -138,10 +138,10 @@ more_lacks c far text lists (inl h) lacks = rw h.1 tt
 more_lacks c far text lists (inr h) lacks = lists_lack c far h.0 lists.0 lists.1 h.2 (subst (Lacks c) h.1 lacks)
 
 -- what stands after the name, where no restriction names types
-abbrev pub IsPlainDirected : List ℕ → List ℕ × (List ℕ × List (List ℕ × List ℕ)) → Type 0
-IsPlainDirected text fields = IsDirected text fields × NamesNoTypes fields.1.1
+abbrev pub IsUntypedDirected : List ℕ → List ℕ × (List ℕ × List (List ℕ × List ℕ)) → Type 0
+IsUntypedDirected text fields = IsDirected text fields × NamesNoTypes fields.1.1
 
-directed_again : Again IsPlainDirected (λ fields. fields.0 ++ more_text fields.1)
+directed_again : Again IsUntypedDirected (λ fields. fields.0 ++ more_text fields.1)
 directed_again = record {
   form = λ text fields h. ((more_text fields.1, refl, h.0.2, more_form h.0.0 fields.1 h.0.3 h.1), h.1);
   lacks = λ c far text fields h lacks.
@@ -153,10 +153,10 @@ directed_again = record {
 active_again : Again IsActive (λ id. id.0)
 active_again = grind arith
 
-abbrev pub IsPlainRid : List ℕ → RestrictionId × (List ℕ × (List ℕ × List (List ℕ × List ℕ))) → Type 0
-IsPlainRid = Two 32 IsActive IsPlainDirected
+abbrev pub IsUntypedRid : List ℕ → RestrictionId × (List ℕ × (List ℕ × List (List ℕ × List ℕ))) → Type 0
+IsUntypedRid = Two 32 IsActive IsUntypedDirected
 
-pub rid_again : Again IsPlainRid (λ rid. rid.0.0 ++ (32 ∷ (rid.1.0 ++ more_text rid.1.1)))
+pub rid_again : Again IsUntypedRid (λ rid. rid.0.0 ++ (32 ∷ (rid.1.0 ++ more_text rid.1.1)))
 rid_again = two_again 32 (lit≤ tt) active_again directed_again
 
 -- ---- layers

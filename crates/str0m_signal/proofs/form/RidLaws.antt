@@ -1,15 +1,15 @@
 -- The line of a stream that may be restricted is read exactly where its form holds.
-use Rattle.str0m_signal.proofs.Common.{◌≡◌, ℕ, suc, ◌<◌, List, [], ◌∷◌, ◌++◌, length, Option, Some, None, refl, sym, ap, subst, ◌∙◌, arith, inl, inr, length-append, codes, some_pair_parts, none-some, append-nil, ◌>>=◌, cut, strip, Parted, Lacks, IsPt, bind_some, some_is, cut_none, cut_at, cut_found, strip_at, strip_found, when_some, number_lacks, rest_true, num_both, Reads, append_assoc, strip_none}
+use Rattle.str0m_signal.proofs.Common.{◌≡◌, ℕ, suc, ◌<◌, List, [], ◌∷◌, ◌++◌, length, Option, Some, None, refl, sym, ap, subst, ◌∙◌, arith, inl, inr, length-append, codes, some_pair_parts, none-some, append-nil, ◌>>=◌, cut, strip, Parted, Lacks, IsPt, bind_some, some_is, cut_none, cut_at, cut_found, strip_at, strip_found, when_some, number_lacks, rest_true, num_both, Reads, append_assoc, strip_none, Pairs}
 use Rattle.str0m_signal.proofs.form.FmtpLaws.{value_found, key_found, key_given, skips, starts_kept, key_starts}
 use Rattle.str0m_signal.proofs.form.FormLaws.{two_both}
 use Rattle.str0m_signal.proofs.form.SimulcastLaws.{name_from, name_true, parted_lacks}
 use Rattle.str0m_signal.proofs.line.PairLaws.{EndsValue, value_given, IsBlank-skip}
-use Rattle.str0m_signal.proofs.line.PairsOneByOne.{Pairs, all_found, all_given}
+use Rattle.str0m_signal.proofs.line.PairsOneByOne.{all_found, all_given}
 use Rattle.str0m_signal.proofs.line.PartLaws.{parted_both}
 use Rattle.str0m_signal.specs.form.Fmtp.{AreBlanks, IsKey, IsValue, OneByOne}
-use Rattle.str0m_signal.specs.form.FmtpReading.{value_read, skip_blanks, key_read, pairs_at}
+use Rattle.str0m_signal.specs.form.FmtpReading.{fmtp_value_read, skip_blanks, fmtp_key_read, pairs_at}
 use Rattle.str0m_signal.specs.form.Rid.{IsActive, IsRestriction, AreRestrictions, AreTyped, AreLists, IsMore, IsDirection, IsDirected, IsRid}
-use Rattle.str0m_signal.specs.form.RidReading.{active_read, next_read, restriction_read, restrictions_read, restricted_read, types_read, typed_after, typed_read, lists_after, lists_read, more_read, direction_read, directed_read, rid_fields_read}
+use Rattle.str0m_signal.specs.form.RidReading.{active_read, next_read, restriction_read, restrictions_read, restricted_read, pts_read, typed_after, typed_read, lists_after, lists_read, more_read, direction_read, directed_read, rid_fields_read}
 
 -- ---- one restriction
 
@@ -37,17 +37,17 @@ tail_ends : (next : Option (List ℕ)) → EndsValue (tail_of next)
 tail_ends next = grind arith
 
 -- blanks, key, `=` and value, and what stands after them
-regroup : (blanks key value tail : List ℕ) → (blanks ++ (key ++ (61 ∷ value))) ++ tail ≡ blanks ++ (key ++ (61 ∷ (value ++ tail)))
-regroup blanks key value tail = grind (arith, append_assoc)
+regroup_pair : (blanks key value tail : List ℕ) → (blanks ++ (key ++ (61 ∷ value))) ++ tail ≡ blanks ++ (key ++ (61 ∷ (value ++ tail)))
+regroup_pair blanks key value tail = grind (arith, append_assoc)
 
 stands : (text blanks : List ℕ) (pair : List ℕ × List ℕ) (next : Option (List ℕ)) → text ≡ (blanks ++ (pair.0 ++ (61 ∷ pair.1))) ++ tail_of next → AreBlanks blanks → IsKey pair.0 → IsValue pair.1 → Stands text pair next
 stands text blanks pair next e are key value = grind (arith, append-nil)
 
 pub restriction_found : (text : List ℕ) (pair : List ℕ × List ℕ) (next : Option (List ℕ)) → restriction_read text ≡ Some (pair, next) → Stands text pair next
 restriction_found text pair next e =
-    let a = bind_some (cut 61 (skip_blanks text)) (λ fields. key_read fields.0 >>= λ key. value_read fields.1 >>= λ value. next_read value.1 >>= λ next. Some ((key, value.0), next)) (pair, next) e in
-    let k = bind_some (key_read a.0.0) (λ key. value_read a.0.1 >>= λ value. next_read value.1 >>= λ next. Some ((key, value.0), next)) (pair, next) a.2 in
-    let v = bind_some (value_read a.0.1) (λ value. next_read value.1 >>= λ next. Some ((k.0, value.0), next)) (pair, next) k.2 in
+    let a = bind_some (cut 61 (skip_blanks text)) (λ fields. fmtp_key_read fields.0 >>= λ key. fmtp_value_read fields.1 >>= λ value. next_read value.1 >>= λ next. Some ((key, value.0), next)) (pair, next) e in
+    let k = bind_some (fmtp_key_read a.0.0) (λ key. fmtp_value_read a.0.1 >>= λ value. next_read value.1 >>= λ next. Some ((key, value.0), next)) (pair, next) a.2 in
+    let v = bind_some (fmtp_value_read a.0.1) (λ value. next_read value.1 >>= λ next. Some ((k.0, value.0), next)) (pair, next) k.2 in
     let n = bind_some (next_read v.0.1) (λ next. Some ((k.0, v.0.0), next)) (pair, next) v.2 in
     let s = skips text in
     let fields = cut_found 61 (skip_blanks text) a.0.0 a.0.1 a.1 in
@@ -58,21 +58,21 @@ restriction_found text pair next e =
     fields.0 ∙ ap (λ (t : List ℕ). t ++ (61 ∷ a.0.1)) key.0
     ∙ ap (λ (t : List ℕ). k.0 ++ (61 ∷ t)) (value.0 ∙ ap (λ (t : List ℕ). v.0.0 ++ t) (next_found v.0.1 n.0 n.1)) in
     let whole : text ≡ (s.blanks ++ (k.0 ++ (61 ∷ v.0.0))) ++ tail_of n.0 =
-    s.joined ∙ ap (λ (t : List ℕ). s.blanks ++ t) plain ∙ sym (regroup s.blanks k.0 v.0.0 (tail_of n.0)) in
+    s.joined ∙ ap (λ (t : List ℕ). s.blanks ++ t) plain ∙ sym (regroup_pair s.blanks k.0 v.0.0 (tail_of n.0)) in
     let made = stands text s.blanks (k.0, v.0.0) n.0 whole s.are key.1 value.1 in
     subst (λ (p : List ℕ × List ℕ). Stands text p next) same.0 (subst (Stands text (k.0, v.0.0)) same.1 made)
 
-read_so : (text blanks : List ℕ) (pair : List ℕ × List ℕ) (next : Option (List ℕ)) → text ≡ (blanks ++ (pair.0 ++ (61 ∷ pair.1))) ++ tail_of next → AreBlanks blanks → IsKey pair.0 → IsValue pair.1 → restriction_read text ≡ Some (pair, next)
-read_so text blanks pair next e are key value =
+pair_read_so : (text blanks : List ℕ) (pair : List ℕ × List ℕ) (next : Option (List ℕ)) → text ≡ (blanks ++ (pair.0 ++ (61 ∷ pair.1))) ++ tail_of next → AreBlanks blanks → IsKey pair.0 → IsValue pair.1 → restriction_read text ≡ Some (pair, next)
+pair_read_so text blanks pair next e are key value =
     let body = pair.0 ++ (61 ∷ (pair.1 ++ tail_of next)) in
     let plain : skip_blanks text ≡ body =
-    ap skip_blanks (e ∙ regroup blanks pair.0 pair.1 (tail_of next)) ∙ IsBlank-skip blanks body are
+    ap skip_blanks (e ∙ regroup_pair blanks pair.0 pair.1 (tail_of next)) ∙ IsBlank-skip blanks body are
     ∙ starts_kept body (key_starts pair.0 (61 ∷ (pair.1 ++ tail_of next)) key) in
     rw (plain, cut_at 61 pair.0 (pair.1 ++ tail_of next) key.1, key_given pair.0 key, value_given pair.1 (tail_of next) value.0 value.1 value.2 value.3 (tail_ends next), next_given next) refl
 
 pub restriction_given : (text : List ℕ) (pair : List ℕ × List ℕ) (next : Option (List ℕ)) → Stands text pair next → restriction_read text ≡ Some (pair, next)
-restriction_given text pair None h = read_so text h.0 pair None (h.1 ∙ sym (append-nil (h.0 ++ (pair.0 ++ (61 ∷ pair.1))))) h.2 h.3 h.4
-restriction_given text pair (Some more) h = grind (arith, read_so text h.2.0 pair (Some more))
+restriction_given text pair None h = pair_read_so text h.0 pair None (h.1 ∙ sym (append-nil (h.0 ++ (pair.0 ++ (61 ∷ pair.1))))) h.2 h.3 h.4
+restriction_given text pair (Some more) h = grind (arith, pair_read_so text h.2.0 pair (Some more))
 
 pub restriction_shorter : (text : List ℕ) (pair : List ℕ × List ℕ) (more : List ℕ) → restriction_read text ≡ Some (pair, Some more) → length more < length text
 restriction_shorter text pair more e = grind (arith, restriction_found text pair (Some more) e, length-append)
@@ -121,8 +121,8 @@ restricted_both = record { sound = found; complete = given }
 
 -- ---- payload types
 
-types_both : Reads (Parted 44 IsPt) types_read
-types_both = parted_both 44 (num_both 127) (λ text n h. number_lacks 44 text (omega arith) (λ e. absurd (omega arith)) h.numeral)
+pts_both : Reads (Parted 44 IsPt) pts_read
+pts_both = parted_both 44 (num_both 127) (λ text n h. number_lacks 44 text (omega arith) (λ e. absurd (omega arith)) h.numeral)
 
 types_semicolon : (text types : List ℕ) → Parted 44 IsPt text types → Lacks 59 text
 types_semicolon text types h = grind (arith, parted_lacks, number_lacks)
@@ -130,15 +130,15 @@ types_semicolon text types h = grind (arith, parted_lacks, number_lacks)
 -- ---- the lists
 
 typed_found : (text : List ℕ) (lists : List ℕ × Pairs) (o : Option (List ℕ × List ℕ)) → cut 59 text ≡ o → typed_after text o ≡ Some lists → AreTyped text lists
-typed_found text lists None is e = grind (arith, bind_some, some_is, types_both)
+typed_found text lists None is e = grind (arith, bind_some, some_is, pts_both)
 typed_found text lists (Some p) is e =
-    let a = bind_some (types_read p.0) (λ types. restricted_read p.1 >>= λ pairs. Some (types, pairs)) lists e in
+    let a = bind_some (pts_read p.0) (λ types. restricted_read p.1 >>= λ pairs. Some (types, pairs)) lists e in
     let b = bind_some (restricted_read p.1) (λ pairs. Some (a.0, pairs)) lists a.2 in
     let found = cut_found 59 text p.0 p.1 is in
-    rw (← some_is (a.0, b.0) lists b.2) (inr (p.0, p.1, found.0, found.1, types_both.sound p.0 a.0 a.1, restricted_both.sound p.1 b.0 b.1))
+    rw (← some_is (a.0, b.0) lists b.2) (inr (p.0, p.1, found.0, found.1, pts_both.sound p.0 a.0 a.1, restricted_both.sound p.1 b.0 b.1))
 
 typed_both : Reads AreTyped typed_read
-typed_both = grind (arith, typed_found, cut_none, types_semicolon, types_both, cut_at, restricted_both)
+typed_both = grind (arith, typed_found, cut_none, types_semicolon, pts_both, cut_at, restricted_both)
 
 lists_found : (text : List ℕ) (lists : List ℕ × Pairs) (o : Option (List ℕ)) → strip (codes "pt=") text ≡ o → lists_after text o ≡ Some lists → AreLists text lists
 lists_found text lists None is e = grind (arith, bind_some, none-some, strip_at, some_is, restricted_both)

@@ -19,8 +19,8 @@ record IsClock (text : List ℕ) (hertz : ℕ) (channels : Option ℕ) : Type 0 
   number_is : IsWithout 47 number × IsNum 4294967295 number hertz × (0 < hertz)
   more_is : IsChannels more channels
 
-without : (text : List ℕ) (hertz : ℕ) → Lacks 47 text → IsNum 4294967295 text hertz → IsWithout 47 text
-without text hertz h n = grind arith
+rate_without : (text : List ℕ) (hertz : ℕ) → Lacks 47 text → IsNum 4294967295 text hertz → IsWithout 47 text
+rate_without text hertz h n = grind arith
 
 clock_sound : (text : List ℕ) (hertz : ℕ) (channels : Option ℕ) (o : Option (List ℕ × List ℕ)) → cut 47 text ≡ o → clock_read text o ≡ Some (hertz, channels) → IsClock text hertz channels
 clock_sound text hertz channels None cut-is e = grind (arith, bind_some, some_pair_parts, frequency_sound, append-nil, cut_none_lacks)
@@ -30,13 +30,13 @@ clock_sound text hertz channels (Some p) cut-is e =
     let pair = some_pair_parts a.0 hertz (Some b.0) channels b.2 in
     let f = frequency_sound p.0 hertz (a.1 ∙ ap (λ (n : ℕ). Some n) pair.0) in
     let found = cut_found 47 text p.0 p.1 cut-is in
-    rw (← pair.1) (record { number = p.0; more = 47 ∷ p.1; joined = found.0; number_is = (without p.0 hertz found.1 f.0, f.0, f.1); more_is = (p.1, refl, num_found 255 p.1 b.0 b.1) })
+    rw (← pair.1) (record { number = p.0; more = 47 ∷ p.1; joined = found.0; number_is = (rate_without p.0 hertz found.1 f.0, f.0, f.1); more_is = (p.1, refl, num_found 255 p.1 b.0 b.1) })
 
 channels_lack : (text : List ℕ) (hertz : List ℕ) (channels : Option ℕ) (rate : ℕ) → IsWithout 47 hertz → IsNum 4294967295 hertz rate → 0 < rate → IsChannels text channels → clock_read (hertz ++ text) (cut 47 (hertz ++ text)) ≡ Some (rate, channels)
 channels_lack text hertz channels rate w n positive h = grind (arith, append-nil, cut_none, frequency_complete, cut_at, num_reads)
 
-abbrev made : ℕ → Codec → Mapping → Option (ℕ × Mapping)
-made pt codec value = Some (pt, record { codec = codec; clock_rate = value.clock_rate; channels = value.channels })
+abbrev made_mapping : ℕ → Codec → Mapping → Option (ℕ × Mapping)
+made_mapping pt codec value = Some (pt, record { codec = codec; clock_rate = value.clock_rate; channels = value.channels })
 
 rtpmap_found : (text : List ℕ) (fields : ℕ × Mapping) → rtpmap_fields_read text ≡ Some fields → IsRtpMap text fields.0 fields.1
 rtpmap_found text fields e =

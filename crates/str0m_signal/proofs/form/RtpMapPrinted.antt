@@ -20,13 +20,13 @@ printed_codec c = grind arith
 pub codec_is : (c : Codec) → IsReadAs (codec_text c) (printed_and_read c)
 codec_is c = subst (IsReadAs (codec_text c)) (printed_codec c) (read_as (codec_text c))
 
-pub record IsPlainName (name : List ℕ) : Type 0 where
+pub record IsMappingName (name : List ℕ) : Type 0 where
   pub filled : IsRest name
   pub no_slash : Lacks 47 name
   pub quiet : HoldsNoEnd name
 
-pub name_is_plain : (c : Codec) → IsPlainName (codec_text c)
-name_is_plain c = grind arith
+pub codec_has_name : (c : Codec) → IsMappingName (codec_text c)
+codec_has_name c = grind arith
 
 -- ---- mappings
 
@@ -38,8 +38,8 @@ channels_no_end : (channels : Option ℕ) → IfSome channels (λ n. n ≤ 255) 
 channels_no_end channels small = grind (arith, no_ends, no_end, decimal_no_end)
 
 -- a mapping as it is read: Null by its name is Unknown
-abbrev pub mapping_read : Mapping → Mapping
-mapping_read value = record value { codec = printed_and_read value.codec }
+abbrev pub mapping_as_read : Mapping → Mapping
+mapping_as_read value = record value { codec = printed_and_read value.codec }
 
 -- numbers as an rtpmap line holds them
 pub record KeepsToMapping (value : Mapping) : Type 0 where
@@ -47,13 +47,13 @@ pub record KeepsToMapping (value : Mapping) : Type 0 where
   pub channels : IfSome value.channels (λ n. n ≤ 255)
 
 pub mapping_printed : (pt : ℕ) (value : Mapping) → pt ≤ 127 → KeepsToMapping value
-    → IsPrintedAs IsMediaLine (media_attribute_text (RtpMap pt value)) (RtpMap pt (mapping_read value))
-mapping_printed pt value small keeps = attribute_printed text (RtpMap pt (mapping_read value)) quiet (inl ((pt, mapping_read value), is, refl)) where
+    → IsPrintedAs IsMediaLine (media_attribute_text (RtpMap pt value)) (RtpMap pt (mapping_as_read value))
+mapping_printed pt value small keeps = attribute_printed text (RtpMap pt (mapping_as_read value)) quiet (inl ((pt, mapping_as_read value), is, refl)) where
   clock : HoldsNoEnd (decimal value.clock_rate)
   clock = let limit = keeps.clock.1 in decimal_no_end value.clock_rate (omega arith)
 
-  name : IsPlainName (codec_text value.codec)
-  name = name_is_plain value.codec
+  name : IsMappingName (codec_text value.codec)
+  name = codec_has_name value.codec
 
   text : List ℕ
   text = label.RTPMAP.now ++ (decimal pt ++ (codes " " ++ rtp_map_text value))
@@ -67,7 +67,7 @@ mapping_printed pt value small keeps = attribute_printed text (RtpMap pt (mappin
       (no_ends (codes "/") _ (no_end (codes "/") refl refl)
       (no_ends (decimal value.clock_rate) (channels_text value.channels) clock (channels_no_end value.channels keeps.channels))))))
 
-  is : IsRtpMap text pt (mapping_read value)
+  is : IsRtpMap text pt (mapping_as_read value)
   is =
       let limit = keeps.clock.1 in
       record {

@@ -6,7 +6,7 @@ use Rattle.str0m_signal.proofs.form.FormPiecesAgain.{num_again, parted_again}
 use Rattle.str0m_signal.proofs.line.WordsCharacterStarts.{StartsWithin, front_starts, behind_starts}
 use Rattle.str0m_signal.proofs.session.AttributesPrinted.{HoldsNoEnd, no_end}
 use Rattle.str0m_signal.proofs.session.SectionLaws.{numbers_both}
-use Rattle.str0m_signal.proofs.session.SectionLines.{head_of}
+use Rattle.str0m_signal.proofs.session.SectionLines.{head_line_read}
 use Rattle.str0m_signal.specs.back.Writable.{IsPrintedAs, HasTypes}
 use Rattle.str0m_signal.specs.back.WritableAgain.{FitsKind}
 use Rattle.str0m_signal.specs.line.Lines.{Chain, Taken, Line, joined, AreLines, OneLine}
@@ -85,11 +85,11 @@ formats_again (typ.Unknown name) proto pts types fits are quiet = grind (arith, 
 kind_again : (kind : List ℕ) (t : MediaType) → IsKind kind t → kind ≡ media_type_text t
 kind_again kind t h = grind arith
 
-abbrev pub head_is : MediaLine → Head
-head_is m = record { typ = m.typ; disabled = m.disabled; proto = m.proto; pts = m.pts }
+abbrev pub head_of : MediaLine → Head
+head_of m = record { typ = m.typ; disabled = m.disabled; proto = m.proto; pts = m.pts }
 
 -- an m-line is read with its own types, or with none where it is of a channel
-pub head_again : (m : MediaLine) → FitsKind m.typ m.proto m.pts → IsOnLine IsHead (head_is m)
+pub head_again : (m : MediaLine) → FitsKind m.typ m.proto m.pts → IsOnLine IsHead (head_of m)
     → (types : List ℕ) × HasTypes m types × ((types ≡ m.pts) ⊎ ((types ≡ []) × (m.proto ≡ Sctp)))
 head_again m fits (content, quiet, starts, h) =
     let front = codes "m=" in
@@ -103,7 +103,7 @@ head_again m fits (content, quiet, starts, h) =
     let kind = kind_again h.kind m.typ h.kind_is.1 in
     let formats = formats_again m.typ m.proto m.pts h.types fits h.types_are (lf.1, cr.1) in (
       formats.types,
-      head_of m (formats_text m.typ m.pts) formats.types
+      head_line_read m (formats_text m.typ m.pts) formats.types
           (subst (λ (t : List ℕ). IsWord t × IsKind t m.typ × HoldsNoEnd t) kind (h.kind_is.0, h.kind_is.1, (lf.0, cr.0)))
           refl formats.quiet formats.are,
       formats.fit,

@@ -2,7 +2,7 @@
 use Rattle.str0m_signal.proofs.Common.{◌≡◌, ℕ, ◌<◌, ◌≤◌, List, [], ◌∷◌, ◌++◌, length, Option, None, refl, sym, ap, subst, ◌∙◌, arith, none-some, Reads}
 use Rattle.str0m_signal.proofs.line.LinesLaws.{line_found, line_given}
 use Rattle.str0m_signal.specs.line.Lines.{Line, OneLine, Chain, Run, Taken}
-use Rattle.str0m_signal.specs.line.LinesReading.{lines_of, line_read, IsRead}
+use Rattle.str0m_signal.specs.line.LinesReading.{lines_of, line_read, ReadsTo}
 
 -- one more part at the end
 pub chain_more : {A : Type 0} (S : List Line → A → List Line → Type 0) (start : List Line) (done : List A) (now : List Line) (a : A) (next : List Line) → Chain S start done now → S now a next → Chain S start (done ++ a ∷ []) next
@@ -42,15 +42,15 @@ taken_none reads text e = (refl, λ a after h. none-some (a, after) (e ∙ line_
 
 -- ---- runs of what a function reads
 
-pub read_fewer : {A : Type 0} (f : List ℕ → Option A) (lines : List Line) (a : A) (after : List Line) → IsRead f lines a after → length after < length lines
+pub read_fewer : {A : Type 0} (f : List ℕ → Option A) (lines : List Line) (a : A) (after : List Line) → ReadsTo f lines a after → length after < length lines
 read_fewer f [] a after e = absurd (none-some (a, after) e)
 read_fewer {A} f (line ∷ lines) a after e = grind arith
 
 module _ {A : Type 0} {F : List ℕ → A → Type 0} {f : List ℕ → Option A} (reads : Reads F f) where
-  chain_of : (lines : List Line) (as' : List A) (rest : List Line) → Chain (IsRead f) lines as' rest → Chain (OneLine F) lines as' rest
+  chain_of : (lines : List Line) (as' : List A) (rest : List Line) → Chain (ReadsTo f) lines as' rest → Chain (OneLine F) lines as' rest
   chain_of lines [] rest h = h
   chain_of lines (a ∷ as') rest h = (h.0, line_found reads lines a h.0 h.1, chain_of h.0 as' rest h.2)
 
   -- a run of what f reads is a run of lines of its form
-  pub run_of : (lines : List Line) (as' : List A) (rest : List Line) → Run (IsRead f) lines as' rest → Run (OneLine F) lines as' rest
+  pub run_of : (lines : List Line) (as' : List A) (rest : List Line) → Run (ReadsTo f) lines as' rest → Run (OneLine F) lines as' rest
   run_of lines as' rest h = (chain_of lines as' rest h.0, λ a after is. h.1 a after (line_given reads rest a after is))

@@ -1,6 +1,6 @@
 -- Printed texts are their lines, these are read one after another, and a run stops where another letter begins.
 use Rattle.str0m_signal.proofs.Common.{arith, ◌≡◌, ◌≢◌, inl, inr, get_or, ℕ, List, [], ◌∷◌, ◌++◌, refl, sym, ap, ◌∙◌, subst, codes, flat_map, append_assoc, Lacks, line_end}
-use Rattle.str0m_signal.proofs.session.AttributesPrinted.{AreReadAs}
+use Rattle.str0m_signal.proofs.session.AttributesPrinted.{LinesReadAs}
 use Rattle.str0m_signal.specs.line.Lines.{Line, joined, AreLines, Lines, OneLine, IsAttributeLine, Chain, Stops}
 use Rattle.str0m_signal.specs.session.Section.{IsField, IsBandwidth}
 
@@ -68,7 +68,7 @@ pub record SaidLines {X A : Type 0} (text : X → List ℕ) (F : List ℕ → A 
   pub letter : (c : ℕ) → c ≢ 97 → Apart c lines
 
 pub said : {X A : Type 0} (text : X → List ℕ) (F : List ℕ → A → Type 0) (xs : List X) (reads : List A)
-    → AreReadAs text (IsAttributeLine F) xs reads → SaidLines text F xs reads
+    → LinesReadAs text (IsAttributeLine F) xs reads → SaidLines text F xs reads
 said text F [] reads h = record {
   lines = [];
   printed = tt;

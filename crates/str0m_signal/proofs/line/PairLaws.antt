@@ -1,6 +1,6 @@
 -- The parts of an fmtp pair.
 use Rattle.str0m_signal.proofs.Common.{◌≡◌, ◌⊎◌, ℕ, ◌<◌, ◌≤◌, zero, suc, true, false, not, ◌&&◌, List, [], ◌∷◌, ◌++◌, length, take, drop, None, Some, refl, sym, ap, ◌∙◌, arith, inl, inr, lt-ltb, false≢true, append-nil, AllByRecursion, list_any, Lacks, IsRest, before, lacks, when, is_rest, before_front, strip_at, if◌then◌else◌, take-append-drop}
-use Rattle.str0m_signal.specs.form.FmtpReading.{ends_value, NoneEnds, IsValueEnd, value_read, is_blank, skip_blanks, key_read}
+use Rattle.str0m_signal.specs.form.FmtpReading.{ends_value, NoneEnds, IsValueEnd, fmtp_value_read, is_blank, skip_blanks, fmtp_key_read}
 
 -- a text without spaces and tabs has neither
 blank_in : (text : List ℕ) → list_any is_blank text ≡ not (lacks 32 text && lacks 9 text)
@@ -8,7 +8,7 @@ blank_in [] = refl
 blank_in (x ∷ xs) = grind (arith, blank_in xs)
 
 -- a key is what has none and isn't empty
-pub key_is : (text : List ℕ) → key_read text ≡ (if list_any is_blank text then None else when (is_rest text) text)
+pub key_is : (text : List ℕ) → fmtp_key_read text ≡ (if list_any is_blank text then None else when (is_rest text) text)
 key_is text = grind (arith, blank_in)
 
 -- a value ends at the end of the text, at `;`, at a space or at a tab
@@ -20,7 +20,7 @@ stop_nothing : (rest : List ℕ) → EndsValue rest → before 9 (before 32 (bef
 stop_nothing rest h = grind arith
 
 -- a value that ends there is read
-pub value_given : (value rest : List ℕ) → IsRest value → Lacks 59 value → Lacks 32 value → Lacks 9 value → EndsValue rest → value_read (value ++ rest) ≡ Some (value, rest)
+pub value_given : (value rest : List ℕ) → IsRest value → Lacks 59 value → Lacks 32 value → Lacks 9 value → EndsValue rest → fmtp_value_read (value ++ rest) ≡ Some (value, rest)
 value_given value rest filled semicolon space tab ends = grind (arith, before_front, stop_nothing, append-nil, lt-ltb, strip_at)
 
 pub IsBlank-skip : (blanks text : List ℕ) → AllByRecursion (λ b. (b ≡ 32) ⊎ (b ≡ 9)) blanks → skip_blanks (blanks ++ text) ≡ skip_blanks text
@@ -46,6 +46,6 @@ lacks_to c ends (suc n) (x ∷ xs) h = ((λ e. false≢true (sym (h 0 (omega ari
 filled_to : (n : ℕ) (text : List ℕ) → 0 < n → n ≤ length text → IsRest (take n text)
 filled_to n text some le = grind arith
 
-pub value_to : (text : List ℕ) (n : ℕ) → IsValueEnd text n → 0 < n → Some (take n text, drop n text) ≡ value_read text
+pub value_to : (text : List ℕ) (n : ℕ) → IsValueEnd text n → 0 < n → Some (take n text, drop n text) ≡ fmtp_value_read text
 value_to text n h some =
     grind (arith, take-append-drop n text, value_given (take n text) (drop n text), filled_to n text some h.0, lacks_to 9, lacks_to 59, lacks_to 32, ends_at n text h)

@@ -67,8 +67,8 @@ module _ {A : Type 0} (c : ℕ) (f : List ℕ → Option A) where
   decides : (o : Option A) (p : Option (List A)) → is_some o ≡ true → is_some (o >>= λ x. p >>= λ xs. Some (x ∷ xs)) ≡ is_some p
   decides o p e = grind arith
 
-  ends : (o : Option A) (p : Option (List A)) → is_some o ≡ false → is_some (o >>= λ x. p >>= λ xs. Some (x ∷ xs)) ≡ false
-  ends o p e = grind arith
+  no_bind : (o : Option A) (p : Option (List A)) → is_some o ≡ false → is_some (o >>= λ x. p >>= λ xs. Some (x ∷ xs)) ≡ false
+  no_bind o p e = grind arith
 
   alone_some : (o : Option A) → is_some (o >>= λ x. Some (x ∷ [])) ≡ is_some o
   alone_some o = grind arith
@@ -77,8 +77,8 @@ module _ {A : Type 0} (c : ℕ) (f : List ℕ → Option A) where
   pub one_part : (rest a b : List ℕ) → cut c rest ≡ Some (a, b) → is_some (f a) ≡ true → is_some (parted_read c f rest) ≡ is_some (parted_read c f b)
   one_part rest a b cut-is is = ap (λ (o : Option (List A)). is_some o) (parted_cut rest a b cut-is) ∙ decides (f a) (parted_read c f b) is
 
-  pub no_part : (rest a b : List ℕ) → cut c rest ≡ Some (a, b) → is_some (f a) ≡ false → is_some (parted_read c f rest) ≡ false
-  no_part rest a b cut-is is = ap (λ (o : Option (List A)). is_some o) (parted_cut rest a b cut-is) ∙ ends (f a) (parted_read c f b) is
+  pub bad_part : (rest a b : List ℕ) → cut c rest ≡ Some (a, b) → is_some (f a) ≡ false → is_some (parted_read c f rest) ≡ false
+  bad_part rest a b cut-is is = ap (λ (o : Option (List A)). is_some o) (parted_cut rest a b cut-is) ∙ no_bind (f a) (parted_read c f b) is
 
   pub last_part : (rest : List ℕ) → cut c rest ≡ None → is_some (parted_read c f rest) ≡ is_some (f rest)
   last_part rest cut-is = ap (λ (o : Option (List A)). is_some o) (parted_end rest cut-is) ∙ alone_some (f rest)
@@ -102,11 +102,11 @@ module _ {A : Type 0} {F : List ℕ → A → Type 0} {f : List ℕ → Option A
     more_are : parted_read c f behind ≡ Some ys
     same : x ∷ ys ≡ xs
 
-  step : (text : List ℕ) (xs : List A) (o : Option (List ℕ × List ℕ)) → cut c text ≡ o → parted_read c f text ≡ Some xs → Last text xs ⊎ More text xs
-  step text xs None cut-is e =
+  part_step : (text : List ℕ) (xs : List A) (o : Option (List ℕ × List ℕ)) → cut c text ≡ o → parted_read c f text ≡ Some xs → Last text xs ⊎ More text xs
+  part_step text xs None cut-is e =
       let a = bind_some (f text) (λ x. Some (x ∷ [])) xs (sym (parted_last c f text (cut_none_lacks c text cut-is)) ∙ e) in
       inl (record { x = a.0; part_is = reads.sound text a.0 a.1; same = some_is (a.0 ∷ []) xs a.2 })
-  step text xs (Some p) cut-is e =
+  part_step text xs (Some p) cut-is e =
       let found = cut_found c text p.0 p.1 cut-is in
       let a = bind_some (f p.0) (λ x. parted_read c f p.1 >>= λ ys. Some (x ∷ ys)) xs (sym (ap (parted_read c f) found.0 ∙ parted_at c f p.0 p.1 found.1) ∙ e) in
       let b = bind_some (parted_read c f p.1) (λ ys. Some (a.0 ∷ ys)) xs a.2 in
@@ -115,30 +115,30 @@ module _ {A : Type 0} {F : List ℕ → A → Type 0} {f : List ℕ → Option A
   not_nil : (x : A) (xs : List A) → x ∷ xs ≡ [] → ⊥
   not_nil x xs e = absurd cc
 
-  found : (xs : List A) (text : List ℕ) → parted_read c f text ≡ Some xs → Parted c F text xs
-  found [] text e =
-      elim (step text [] (cut c text) refl e) [
+  parted_found : (xs : List A) (text : List ℕ) → parted_read c f text ≡ Some xs → Parted c F text xs
+  parted_found [] text e =
+      elim (part_step text [] (cut c text) refl e) [
         | inl last ↦ absurd (not_nil last.x [] last.same)
         | inr more ↦ absurd (not_nil more.x more.ys more.same)
       ]
-  found (x ∷ []) text e =
-      elim (step text (x ∷ []) (cut c text) refl e) [
+  parted_found (x ∷ []) text e =
+      elim (part_step text (x ∷ []) (cut c text) refl e) [
         | inl last ↦ subst (F text) (cons_parts last.x x [] [] last.same).0 last.part_is
-        | inr more ↦ absurd (found [] more.behind (more.more_are ∙ ap (λ (t : List A). Some t) (cons_parts more.x x more.ys [] more.same).1))
+        | inr more ↦ absurd (parted_found [] more.behind (more.more_are ∙ ap (λ (t : List A). Some t) (cons_parts more.x x more.ys [] more.same).1))
       ]
-  found (x ∷ (y ∷ ys)) text e =
-      elim (step text (x ∷ (y ∷ ys)) (cut c text) refl e) [
+  parted_found (x ∷ (y ∷ ys)) text e =
+      elim (part_step text (x ∷ (y ∷ ys)) (cut c text) refl e) [
         | inl last ↦ absurd (not_nil y ys (sym (cons_parts last.x x [] (y ∷ ys) last.same).1))
         | inr more ↦
             let same = cons_parts more.x x more.ys (y ∷ ys) more.same in
-            (more.part, more.behind, more.joined, subst (F more.part) same.0 more.part_is, found (y ∷ ys) more.behind (more.more_are ∙ ap (λ (t : List A). Some t) same.1))
+            (more.part, more.behind, more.joined, subst (F more.part) same.0 more.part_is, parted_found (y ∷ ys) more.behind (more.more_are ∙ ap (λ (t : List A). Some t) same.1))
       ]
 
-  given : (xs : List A) (text : List ℕ) → Parted c F text xs → parted_read c f text ≡ Some xs
-  given [] text h = absurd h
-  given (x ∷ []) text h = parted_last c f text (lacks text x h) ∙ rw (reads.complete text x h) refl
-  given (x ∷ (y ∷ ys)) text h =
-      ap (parted_read c f) h.2 ∙ parted_at c f h.0 h.1 (lacks h.0 x h.3) ∙ rw (reads.complete h.0 x h.3, given (y ∷ ys) h.1 h.4) refl
+  parted_given : (xs : List A) (text : List ℕ) → Parted c F text xs → parted_read c f text ≡ Some xs
+  parted_given [] text h = absurd h
+  parted_given (x ∷ []) text h = parted_last c f text (lacks text x h) ∙ rw (reads.complete text x h) refl
+  parted_given (x ∷ (y ∷ ys)) text h =
+      ap (parted_read c f) h.2 ∙ parted_at c f h.0 h.1 (lacks h.0 x h.3) ∙ rw (reads.complete h.0 x h.3, parted_given (y ∷ ys) h.1 h.4) refl
 
   pub parted_both : Reads (Parted c F) (parted_read c f)
-  parted_both = record { sound = λ text xs e. found xs text e; complete = λ text xs h. given xs text h }
+  parted_both = record { sound = λ text xs e. parted_found xs text e; complete = λ text xs h. parted_given xs text h }

@@ -1,5 +1,5 @@
 -- Words, names and bytes are printed as they were read.
-use Rattle.str0m_signal.proofs.Common.{◌≡◌, ◌≤◌, ◌<◌, ◌/◌, ◌%◌, ℕ, true, List, [], ◌∷◌, ◌++◌, refl, sym, subst, arith, lit≤, inl, inr, codes, digit_value, AllByRecursion, flat_map, join_by, append-nil, Parted, Lacks, IsRest, IsLongestBeginning, Lacks-append, digit_glyph, hex_pair, pairs_text}
+use Rattle.str0m_signal.proofs.Common.{◌≡◌, ◌≤◌, ◌<◌, ◌/◌, ◌%◌, ℕ, true, List, [], ◌∷◌, ◌++◌, refl, sym, subst, arith, lit≤, inl, inr, codes, digit_value, AllByRecursion, flat_map, join_by, append-nil, Parted, Lacks, IsRest, IsLongestBeginning, Lacks-append, digit_glyph, hex_pair, pairs_text, glyph_value}
 use Rattle.str0m_signal.proofs.form.FmtpPrinted.{behind_lacks}
 use Rattle.str0m_signal.proofs.form.FormPiecesAgain.{Again, text_again, two_again, parted_again}
 use Rattle.str0m_signal.proofs.line.WordsCharacterStarts.{StartsWithin, front_starts, behind_starts, kept_some}
@@ -30,10 +30,6 @@ name_again = record {
 }
 
 -- ---- bytes
-
--- a printed digit is worth what it was printed for
-glyph_value : (d : ℕ) → d < 16 → digit_value (digit_glyph true d) ≡ d
-glyph_value d lt = grind arith
 
 glyph_lacks : (c d : ℕ) → 16 ≤ digit_value c → d < 16 → digit_glyph true d ≡ c → ⊥
 glyph_lacks c d far lt e = grind arith
@@ -87,8 +83,8 @@ only_names text [] h = h
 only_names text (x ∷ []) h = h.0
 only_names text (x ∷ (y ∷ ys)) h = (h.0, h.1, h.2, h.3.0, only_names h.1 (y ∷ ys) h.4)
 
-named_again : Again (Two 32 IsText (Parted 32 IsFilledName)) (λ group. group.0 ++ (32 ∷ join_by (λ x. x) (codes " ") group.1))
-named_again = two_again 32 (lit≤ tt) text_again (parted_again name_again 32)
+group_filled_again : Again (Two 32 IsText (Parted 32 IsFilledName)) (λ group. group.0 ++ (32 ∷ join_by (λ x. x) (codes " ") group.1))
+group_filled_again = two_again 32 (lit≤ tt) text_again (parted_again name_again 32)
 
 abbrev pub names_text : List ℕ → List (List ℕ) → List ℕ
 names_text typ names = typ ++ flat_map (λ name. codes " " ++ name) names
@@ -97,7 +93,7 @@ names_form : (text typ : List ℕ) (names : List (List ℕ)) → AreNames text t
     → AreNames (names_text typ names) typ names
 names_form text typ [] h filled = grind (arith, append-nil, word_again)
 names_form text typ (name ∷ names) h filled =
-    let is = named_again.form text (typ, name ∷ names) (h.0, h.1, h.2, h.3, h.4, filled_names h.1 (name ∷ names) h.5 filled) in
+    let is = group_filled_again.form text (typ, name ∷ names) (h.0, h.1, h.2, h.3, h.4, filled_names h.1 (name ∷ names) h.5 filled) in
     (is.0, is.1, is.2, is.3, is.4, only_names is.1 (name ∷ names) is.5)
 
 names_lack : (c : ℕ) → 16 ≤ digit_value c → (text typ : List ℕ) (names : List (List ℕ)) → AreNames text typ names → AreFilled names
@@ -105,7 +101,7 @@ names_lack : (c : ℕ) → 16 ≤ digit_value c → (text typ : List ℕ) (names
 names_lack c far text typ [] h filled lacks =
     subst (Lacks c) (sym (append-nil typ)) (word_again.lacks c far text typ h lacks)
 names_lack c far text typ (name ∷ names) h filled lacks =
-    named_again.lacks c far text (typ, name ∷ names) (h.0, h.1, h.2, h.3, h.4, filled_names h.1 (name ∷ names) h.5 filled) lacks
+    group_filled_again.lacks c far text (typ, name ∷ names) (h.0, h.1, h.2, h.3, h.4, filled_names h.1 (name ∷ names) h.5 filled) lacks
 
 -- a group none of whose names is empty
 abbrev pub IsFilledGroup : List ℕ → List ℕ × List (List ℕ) → Type 0

@@ -6,11 +6,11 @@ use Rattle.str0m_signal.specs.form.FormReading.{text_read, two_read, parted_read
 use Rattle.str0m_signal.specs.form.Forms.{IsText, Two}
 use Rattle.str0m_signal.specs.line.Lines.{EndsIn}
 use Rattle.str0m_signal.specs.line.Words.{IsWordText, IsName, IsHexPair, IsSpace, AreNames, IsGroup, IsMsidSemantic}
-use Rattle.str0m_signal.specs.line.WordsReading.{word_read, name_read, digit_read, hex_pair_read, without_space, names_after, names_read, group_fields_read, behind_space, msid_semantic_fields_read}
+use Rattle.str0m_signal.specs.line.WordsReading.{word_text_read, name_read, digit_read, hex_pair_read, without_space, names_after, names_read, group_fields_read, behind_space, msid_semantic_fields_read}
 
 -- ---- items
 
-pub word_both : Reads IsWordText word_read
+pub word_both : Reads IsWordText word_text_read
 word_both = grind (arith, if_some, text_both, lacks_from, lacks_true)
 
 pub name_both : Reads IsName name_read
@@ -36,7 +36,7 @@ hex_pair_lacks text byte h = rw h.2 (digit_other h.0 58 (omega arith) h.3, (digi
 
 -- ---- lists
 
-pub words_both : Reads (Parted 32 IsWordText) (parted_read 32 word_read)
+pub words_both : Reads (Parted 32 IsWordText) (parted_read 32 word_text_read)
 words_both = parted_both 32 word_both (λ text x h. h.0.1)
 
 pub names_list_both : Reads (Parted 32 IsName) (parted_read 32 name_read)
@@ -120,8 +120,8 @@ names_given : (text typ : List ℕ) (names : List (List ℕ)) → AreNames text 
 names_given text typ [] h = rw (cut_none 32 text h.0.1, text_both.complete text typ (h.0.0, h.1)) refl
 names_given text typ (x ∷ xs) h = ap names_read h.2 ∙ rw (cut_at 32 h.0 h.1 h.3, text_both.complete h.0 typ h.4, names_list_both.complete h.1 (x ∷ xs) h.5) refl
 
-group_text : (text names end : List ℕ) → text ≡ names ++ end → IsSpace end → without_space names ≡ names → without_space text ≡ names
-group_text text names end is o whole = grind (arith, append-nil, space_behind)
+group_whole : (text names end : List ℕ) → text ≡ names ++ end → IsSpace end → without_space names ≡ names → without_space text ≡ names
+group_whole text names end is o whole = grind (arith, append-nil, space_behind)
 
 pub group_both : Reads IsGroup group_fields_read
 group_both = record {
@@ -129,27 +129,27 @@ group_both = record {
       let end = space_left_out text in
       (without_space text, end.0, end.1, end.2, names_found (without_space text) group (cut 32 (without_space text)) refl e);
   complete = λ text group h.
-      ap names_read (group_text text h.0 h.1 h.2 h.3 (names_whole h.0 group.0 group.1 h.4)) ∙ names_given h.0 group.0 group.1 h.4;
+      ap names_read (group_whole text h.0 h.1 h.2 h.3 (names_whole h.0 group.0 group.1 h.4)) ∙ names_given h.0 group.0 group.1 h.4;
 }
 
 -- ---- semantics of streams
 
-semantic_fields : Reads (Two 32 IsText (Parted 32 IsWordText)) (two_read 32 text_read (parted_read 32 word_read))
+semantic_fields : Reads (Two 32 IsText (Parted 32 IsWordText)) (two_read 32 text_read (parted_read 32 word_text_read))
 semantic_fields = two_both 32 text_both words_both
 
-no_space : (a b : List ℕ) → IsRest a → Lacks 32 a → strip (codes " ") (a ++ b) ≡ None
-no_space [] b h lacks = absurd (omega (arith, h))
-no_space (x ∷ xs) b h lacks = rw (ne_eqb 32 x (λ e. lacks.0 (sym e))) refl
+no_space_ahead : (a b : List ℕ) → IsRest a → Lacks 32 a → strip (codes " ") (a ++ b) ≡ None
+no_space_ahead [] b h lacks = absurd (omega (arith, h))
+no_space_ahead (x ∷ xs) b h lacks = rw (ne_eqb 32 x (λ e. lacks.0 (sym e))) refl
 
-semantic_found : (text : List ℕ) (meant : List ℕ × List (List ℕ)) (o : Option (List ℕ)) → strip (codes " ") text ≡ o → two_read 32 text_read (parted_read 32 word_read) (behind_space text o) ≡ Some meant → IsMsidSemantic text meant
+semantic_found : (text : List ℕ) (meant : List ℕ × List (List ℕ)) (o : Option (List ℕ)) → strip (codes " ") text ≡ o → two_read 32 text_read (parted_read 32 word_text_read) (behind_space text o) ≡ Some meant → IsMsidSemantic text meant
 semantic_found text meant None is e = ([], text, refl, inl refl, semantic_fields.sound text meant e)
 semantic_found text meant (Some rest) is e = (codes " ", rest, strip_found (codes " ") text rest is, inr refl, semantic_fields.sound rest meant e)
 
 semantic_given : (text lead words : List ℕ) (meant : List ℕ × List (List ℕ)) → text ≡ lead ++ words → IsSpace lead → Two 32 IsText (Parted 32 IsWordText) words meant → msid_semantic_fields_read text ≡ Some meant
 semantic_given text lead words meant is (inl none) h =
     let plain : text ≡ words = is ∙ ap (λ (t : List ℕ). t ++ words) none in
-    let front : strip (codes " ") words ≡ None = ap (strip (codes " ")) h.2 ∙ no_space h.0 (32 ∷ h.1) h.4.0 h.3 in
-    ap msid_semantic_fields_read plain ∙ ap (λ (o : Option (List ℕ)). two_read 32 text_read (parted_read 32 word_read) (behind_space words o)) front ∙ semantic_fields.complete words meant h
+    let front : strip (codes " ") words ≡ None = ap (strip (codes " ")) h.2 ∙ no_space_ahead h.0 (32 ∷ h.1) h.4.0 h.3 in
+    ap msid_semantic_fields_read plain ∙ ap (λ (o : Option (List ℕ)). two_read 32 text_read (parted_read 32 word_text_read) (behind_space words o)) front ∙ semantic_fields.complete words meant h
 semantic_given text lead words meant is (inr space) h =
     ap msid_semantic_fields_read (is ∙ ap (λ (t : List ℕ). t ++ words) space) ∙ semantic_fields.complete words meant h
 

@@ -6,19 +6,19 @@ use Rattle.str0m_signal.specs.form.MediaAttribute.{media_forms, MediaForm, IsMed
 use Rattle.str0m_signal.specs.line.Lines.{IsAttributeLine}
 
 -- each item prints nothing, or one line that reads as the value in its place
-abbrev pub AreReadAs : {X A : Type 0} → (X → List ℕ) → (List ℕ → A → Type 0) → List X → List A → Type 0
-AreReadAs text F [] reads = reads ≡ []
-AreReadAs {A} text F (x ∷ xs) reads =
-    ((text x ≡ []) × AreReadAs text F xs reads)
-    ⊎ ((a : A) × (more : List A) × (reads ≡ a ∷ more) × IsPrintedAs F (text x) a × AreReadAs text F xs more)
+abbrev pub LinesReadAs : {X A : Type 0} → (X → List ℕ) → (List ℕ → A → Type 0) → List X → List A → Type 0
+LinesReadAs text F [] reads = reads ≡ []
+LinesReadAs {A} text F (x ∷ xs) reads =
+    ((text x ≡ []) × LinesReadAs text F xs reads)
+    ⊎ ((a : A) × (more : List A) × (reads ≡ a ∷ more) × IsPrintedAs F (text x) a × LinesReadAs text F xs more)
 
 pub one_read : {X A : Type 0} (text : X → List ℕ) (F : List ℕ → A → Type 0) (x : X) (a : A) (xs : List X) (reads : List A)
-    → IsPrintedAs F (text x) a → AreReadAs text F xs reads → AreReadAs text F (x ∷ xs) (a ∷ reads)
+    → IsPrintedAs F (text x) a → LinesReadAs text F xs reads → LinesReadAs text F (x ∷ xs) (a ∷ reads)
 one_read text F x a xs reads line more = inr (a, reads, refl, line, more)
 
 pub both_read : {X A : Type 0} (text : X → List ℕ) (F : List ℕ → A → Type 0) (xs ys : List X) (reads more : List A)
-    → AreReadAs text F xs reads → AreReadAs text F ys more → AreReadAs text F (xs ++ ys) (reads ++ more)
-both_read text F [] ys reads more h k = subst (λ rs. AreReadAs text F ys (rs ++ more)) (sym h) k
+    → LinesReadAs text F xs reads → LinesReadAs text F ys more → LinesReadAs text F (xs ++ ys) (reads ++ more)
+both_read text F [] ys reads more h k = subst (λ rs. LinesReadAs text F ys (rs ++ more)) (sym h) k
 both_read text F (x ∷ xs) ys reads more (inl nothing) k = inl (nothing.0, both_read text F xs ys reads more nothing.1 k)
 both_read {A} text F (x ∷ xs) ys reads more (inr (a, rest, e, line, later)) k =
     grind (arith, one_read, both_read text F xs ys rest more later k)

@@ -4,9 +4,9 @@ use Rattle.str0m_signal.proofs.Common.{◌≡◌, ◌≢◌, ◌≤◌, ℕ, Boo
 use Rattle.str0m_signal.specs.back.ReadBack.{MayBePrinted}
 
 module _ (pick : PayloadParams → Bool) where
-  holds : (P : PayloadParams → Type 0) (rows : List PayloadParams) → AllByRecursion P rows → AllByRecursion P (filter pick rows)
-  holds P [] h = tt
-  holds P (row ∷ rows) h = go (pick row) (holds P rows h.1) where
+  picked_hold : (P : PayloadParams → Type 0) (rows : List PayloadParams) → AllByRecursion P rows → AllByRecursion P (filter pick rows)
+  picked_hold P [] h = tt
+  picked_hold P (row ∷ rows) h = go (pick row) (picked_hold P rows h.1) where
     go : (b : Bool) → AllByRecursion P (filter pick rows) → AllByRecursion P (cond b (row ∷ filter pick rows) (filter pick rows))
     go true more = (h.0, more)
     go false more = more
@@ -28,7 +28,7 @@ module _ (pick : PayloadParams → Bool) where
   picked_printable : (rows : List PayloadParams) → MayBePrinted rows → filter pick rows ≢ [] → MayBePrinted (filter pick rows)
   picked_printable rows may some = record {
     some = some;
-    plain = All-from_recursion IsPlain (filter pick rows) (holds IsPlain rows (recursion_from_All IsPlain rows may.plain));
+    plain = All-from_recursion IsPlain (filter pick rows) (picked_hold IsPlain rows (recursion_from_All IsPlain rows may.plain));
     distinct = λ t. omega (arith, fewer rows t, may.distinct t);
   }
 

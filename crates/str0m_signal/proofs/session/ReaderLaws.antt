@@ -2,6 +2,7 @@
 use Rattle.str0m_signal.proofs.Common.{◌≡◌, ℕ, ◌<◌, List, [], ◌∷◌, length, Option, Some, sym, ap, subst, ◌∙◌, arith, codes, some_pair_parts, Bandwidth, MediaLine, MediaAttribute, Consistent, Sdp, SessionAttribute, Session}
 use Rattle.str0m_signal.proofs.form.MediaAttributeLaws.{media_line_both}
 use Rattle.str0m_signal.proofs.form.SessionAttributeAgain.{session_line_both}
+use Rattle.str0m_signal.proofs.line.LinesAgain.{head_of}
 use Rattle.str0m_signal.proofs.line.LinesChainLaws.{OnlyOne, one_line_only, chain_ends, taken_only, one_fewer, chain_fewer, taken_fewer}
 use Rattle.str0m_signal.proofs.session.HeaderLaws.{exact_both, info_both, opening_given}
 use Rattle.str0m_signal.proofs.session.SectionLaws.{field_both, bandwidth_both, head_both}
@@ -37,11 +38,8 @@ header_only lines a b after after' h k =
     let repeats = chain_ends (OneLine (IsField (codes "r="))) (one_line_only (field_both (codes "r="))) h.after_timing h.repeats k.repeats after after' h.repeats_are (subst (λ (ls : List Line). Run (OneLine (IsField (codes "r="))) ls k.repeats after') (sym timing.1) k.repeats_are) in
     (ap (λ (i : ℕ). header_of i a.bw) same.0 ∙ ap (λ (w : Option Bandwidth). header_of b.id w) same.1, repeats.1)
 
-abbrev section_of : Head → Option Bandwidth → List MediaAttribute → MediaLine
-section_of head bw attrs = record { typ = head.typ; disabled = head.disabled; proto = head.proto; pts = head.pts; bw = bw; attrs = attrs }
-
-abbrev head_of : MediaLine → Head
-head_of m = record { typ = m.typ; disabled = m.disabled; proto = m.proto; pts = m.pts }
+abbrev section_from : Head → Option Bandwidth → List MediaAttribute → MediaLine
+section_from head bw attrs = record { typ = head.typ; disabled = head.disabled; proto = head.proto; pts = head.pts; bw = bw; attrs = attrs }
 
 pub section_only : OnlyOne IsSection
 section_only lines a b after after' h k =
@@ -49,7 +47,7 @@ section_only lines a b after after' h k =
     let connection = taken_only (OneLine (IsField (codes "c="))) (one_line_only (field_both (codes "c="))) h.after_head h.connection k.connection h.after_connection k.after_connection h.connection_is (subst (λ (ls : List Line). Taken (OneLine (IsField (codes "c="))) ls k.connection k.after_connection) (sym head.1) k.connection_is) in
     let bandwidth = taken_only (OneLine IsBandwidth) (one_line_only bandwidth_both) h.after_connection a.bw b.bw h.after_bandwidth k.after_bandwidth h.bandwidth_is (subst (λ (ls : List Line). Taken (OneLine IsBandwidth) ls b.bw k.after_bandwidth) (sym connection.1) k.bandwidth_is) in
     let attributes = chain_ends (OneLine IsMediaLine) (one_line_only media_line_both) h.after_bandwidth a.attrs b.attrs after after' h.attributes_are (subst (λ (ls : List Line). Run (OneLine IsMediaLine) ls b.attrs after') (sym bandwidth.1) k.attributes_are) in
-    (ap (λ (m : Head). section_of m a.bw a.attrs) head.0 ∙ ap (λ (w : Option Bandwidth). section_of (head_of b) w a.attrs) bandwidth.0 ∙ ap (λ (xs : List MediaAttribute). section_of (head_of b) b.bw xs) attributes.0, attributes.1)
+    (ap (λ (m : Head). section_from m a.bw a.attrs) head.0 ∙ ap (λ (w : Option Bandwidth). section_from (head_of b) w a.attrs) bandwidth.0 ∙ ap (λ (xs : List MediaAttribute). section_from (head_of b) b.bw xs) attributes.0, attributes.1)
 
 consistent_only : OnlyOne ConsistentSection
 consistent_only lines a b after after' h k = section_only lines a b after after' h.0 k.0
@@ -97,10 +95,10 @@ section_fewer lines m rest h = grind (arith, one_fewer, taken_fewer, chain_fewer
 
 -- ---- what refuses the session or the sections refuses the whole
 
-pub session_of : (lines : List Line) (w : Sdp × List Line) → IsReading lines w.0 w.1 → (v : Session × List Line) × IsSession lines v.0 v.1
-session_of lines w is = ((w.0.session, is.after_session), is.session_is)
+pub session_at : (lines : List Line) (w : Sdp × List Line) → IsReading lines w.0 w.1 → (v : Session × List Line) × IsSession lines v.0 v.1
+session_at lines w is = ((w.0.session, is.after_session), is.session_is)
 
-pub sections_of : (lines rest : List Line) (session : Session) → IsSession lines session rest → (w : Sdp × List Line) → IsReading lines w.0 w.1 → (v : List MediaLine × List Line) × Sections rest v.0 v.1
-sections_of lines rest session h w is =
+pub sections_at : (lines rest : List Line) (session : Session) → IsSession lines session rest → (w : Sdp × List Line) → IsReading lines w.0 w.1 → (v : List MediaLine × List Line) × Sections rest v.0 v.1
+sections_at lines rest session h w is =
     let same = session_only lines session w.0.session rest is.after_session h is.session_is in
     ((w.0.media_lines, w.1), subst (λ (ls : List Line). Sections ls w.0.media_lines w.1) (sym same.1) is.sections_are)

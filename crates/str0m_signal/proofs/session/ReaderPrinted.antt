@@ -1,7 +1,7 @@
 -- A printed session with its sections has a reading with nothing left.
 use Rattle.str0m_signal.proofs.Common.{◌≡◌, ◌≢◌, ◌<◌, ◌^◌, ℕ, List, [], ◌++◌, IfSome, refl, sym, ap, ◌∙◌, arith, flat_map, append-nil, session_attribute_text, bandwidth_text, media_line_text, sdp_text, SessionAttribute, MediaLine, Sdp}
 use Rattle.str0m_signal.proofs.line.LinesPrinted.{joined-append, printed-append, lines_printed, Apart, apart-append}
-use Rattle.str0m_signal.proofs.session.AttributesPrinted.{AreReadAs}
+use Rattle.str0m_signal.proofs.session.AttributesPrinted.{LinesReadAs}
 use Rattle.str0m_signal.proofs.session.Sections.{AreSectionsRead, SaidSections, said_sections, sections_are}
 use Rattle.str0m_signal.proofs.session.SessionLines.{SaidSession, said_session}
 use Rattle.str0m_signal.specs.back.Writable.{IsPrintedAs}
@@ -16,7 +16,7 @@ read_of sdp attrs sections = record { session = record sdp.session { attrs = att
 
 pub reading_printed : (sdp : Sdp) (attrs : List SessionAttribute) (sections : List MediaLine) → sdp.session.id < 2 ^ 64
     → IfSome sdp.session.bw (λ bw. IsPrintedAs IsBandwidth (bandwidth_text bw) bw)
-    → AreReadAs session_attribute_text IsSessionLine sdp.session.attrs attrs → AreSectionsRead sdp.media_lines sections
+    → LinesReadAs session_attribute_text IsSessionLine sdp.session.attrs attrs → AreSectionsRead sdp.media_lines sections
     → Reading (sdp_text sdp) (read_of sdp attrs sections, [])
 reading_printed sdp attrs sections small bandwidth own others = (
   first.lines ++ (behind.lines ++ []),

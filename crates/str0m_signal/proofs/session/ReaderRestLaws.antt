@@ -9,33 +9,33 @@ use Rattle.str0m_signal.specs.session.ReaderAnswers.{Answers, unread}
 use Rattle.str0m_signal.specs.session.Section.{IsBandwidth, IsField, IsHead}
 
 -- the last of these lines, and those before them
-pub record Leaves (lines rest : List Line) : Type 0 where
+pub record LeavesLines (lines rest : List Line) : Type 0 where
   pub before : List Line
   pub are : lines ≡ before ++ rest
 
-both_leave : {a b c : List Line} → Leaves a b → Leaves b c → Leaves a c
+both_leave : {a b c : List Line} → LeavesLines a b → LeavesLines b c → LeavesLines a c
 both_leave {c} h k = record {
   before = h.before ++ k.before;
   are = h.are ∙ ap (λ (ls : List Line). h.before ++ ls) k.are ∙ sym (append_assoc h.before k.before c);
 }
 
 abbrev AlwaysLeaves : {A : Type 0} → (List Line → A → List Line → Type 0) → Type 0
-AlwaysLeaves {A} S = (lines : List Line) (a : A) (rest : List Line) → S lines a rest → Leaves lines rest
+AlwaysLeaves {A} S = (lines : List Line) (a : A) (rest : List Line) → S lines a rest → LeavesLines lines rest
 
 pub one_leaves : {A : Type 0} (F : List ℕ → A → Type 0) → AlwaysLeaves (OneLine F)
 one_leaves F lines a rest h = record { before = h.0 ∷ []; are = h.1 }
 
 chain_leaves : {A : Type 0} (S : List Line → A → List Line → Type 0) → AlwaysLeaves S → (lines : List Line) (values : List A) (rest : List Line)
-    → Chain S lines values rest → Leaves lines rest
+    → Chain S lines values rest → LeavesLines lines rest
 chain_leaves S each lines [] rest h = record { before = []; are = h }
 chain_leaves S each lines (a ∷ values) rest h = both_leave (each lines a h.0 h.1) (chain_leaves S each h.0 values rest h.2)
 
 lines_leave : {A : Type 0} (F : List ℕ → A → Type 0) (lines : List Line) (values : List A) (rest : List Line) → Chain (OneLine F) lines values rest
-    → Leaves lines rest
+    → LeavesLines lines rest
 lines_leave F = chain_leaves (OneLine F) (one_leaves F)
 
 taken_leaves : {A : Type 0} (F : List ℕ → A → Type 0) (lines : List Line) (o : Option A) (rest : List Line) → Taken (OneLine F) lines o rest
-    → Leaves lines rest
+    → LeavesLines lines rest
 taken_leaves F lines None rest h = record { before = []; are = h.0 }
 taken_leaves F lines (Some a) rest h = one_leaves F lines a rest h
 

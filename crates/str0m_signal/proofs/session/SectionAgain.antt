@@ -47,9 +47,9 @@ all_again P Q each (x ∷ xs) reads all (inr are) =
 
 -- ---- counting
 
-counted : (p : MediaAttribute → Bool) (x : MediaAttribute) (xs : List MediaAttribute)
+count-cons : (p : MediaAttribute → Bool) (x : MediaAttribute) (xs : List MediaAttribute)
     → count_by p (x ∷ xs) ≡ cond (p x) 1 0 + count_by p xs
-counted p x xs = sum_by-cons (λ x. cond (p x) 1 0) x xs
+count-cons p x xs = sum_by-cons (λ x. cond (p x) 1 0) x xs
 
 module _ (p : MediaAttribute → Bool) (no_fmtp : (pt : ℕ) (values : List FormatParam) → p (Fmtp pt values) ≡ false) where
   same_test : (x : MediaAttribute) → p (shown_only x) ≡ p x
@@ -61,8 +61,8 @@ module _ (p : MediaAttribute → Bool) (no_fmtp : (pt : ℕ) (values : List Form
   -- an attribute that isn't an fmtp line is counted alike
   pub count_again : (attrs reads : List MediaAttribute) → AreShownAs attrs reads → count_by p reads ≡ count_by p attrs
   count_again [] reads are = ap (count_by p) are
-  count_again (x ∷ xs) reads (inl are) = grind (arith, count_again xs reads are.1, zero-add, counted, hidden_test)
-  count_again (x ∷ xs) reads (inr are) = grind (arith, counted, same_test, count_again xs are.0 are.2)
+  count_again (x ∷ xs) reads (inl are) = grind (arith, count_again xs reads are.1, zero-add, count-cons, hidden_test)
+  count_again (x ∷ xs) reads (inr are) = grind (arith, count-cons, same_test, count_again xs are.0 are.2)
 
 -- ---- the types that fmtp lines name
 
@@ -82,11 +82,11 @@ either_none b o e = grind arith
 hidden_apt : (n : ℕ) (x : MediaAttribute) → IsHidden x → apt_in n x ≡ None
 hidden_apt n x hidden = grind (arith, either_none, shown_apt)
 
-first_again : (n : ℕ) (attrs reads : List MediaAttribute) → AreShownAs attrs reads → first_apt n reads ≡ first_apt n attrs
-first_again n [] reads are = ap (first_apt n) are
-first_again n (x ∷ xs) reads (inl are) = rw (hidden_apt n x are.0) (first_again n xs reads are.1)
-first_again n (x ∷ xs) reads (inr are) =
-    ap (first_apt n) are.1 ∙ (λ i. apt_again n x i <|> first_again n xs are.0 are.2 i)
+apt_stays : (n : ℕ) (attrs reads : List MediaAttribute) → AreShownAs attrs reads → first_apt n reads ≡ first_apt n attrs
+apt_stays n [] reads are = ap (first_apt n) are
+apt_stays n (x ∷ xs) reads (inl are) = rw (hidden_apt n x are.0) (apt_stays n xs reads are.1)
+apt_stays n (x ∷ xs) reads (inr are) =
+    ap (first_apt n) are.1 ∙ (λ i. apt_again n x i <|> apt_stays n xs are.0 are.2 i)
 
 fewer_values : (o : Option ℕ) (values : List FormatParam) → IfSome o (λ first. All (NamesNoOther first) values)
     → IfSome o (λ first. All (NamesNoOther first) (filter is_shown values))
@@ -96,7 +96,7 @@ fewer_values (Some first) values h = All-filter is_shown (NamesNoOther first) va
 agrees_again : (attrs reads : List MediaAttribute) → AreShownAs attrs reads → (x : MediaAttribute) → AgreesOnApt attrs x
     → AgreesOnApt reads (shown_only x)
 agrees_again attrs reads are (Fmtp pt values) h =
-    subst (λ (o : Option ℕ). IfSome o (λ first. All (NamesNoOther first) (filter is_shown values))) (sym (first_again pt attrs reads are))
+    subst (λ (o : Option ℕ). IfSome o (λ first. All (NamesNoOther first) (filter is_shown values))) (sym (apt_stays pt attrs reads are))
     (fewer_values (first_apt pt attrs) values h)
 agrees_again attrs reads are x h = tt
 
@@ -132,7 +132,7 @@ consistent_again m pts reads are types h = record {
 count_frame : (p : MediaAttribute → Bool) → ((x : MediaAttribute) → is_of_type x ≡ true → p x ≡ false) → (attrs : List MediaAttribute)
     → count_by p (filter (λ attr. not (is_of_type attr)) attrs) ≡ count_by p attrs
 count_frame p none [] = refl
-count_frame p none (x ∷ xs) = grind (arith, cases_Bool, count_frame p none xs, zero-add, counted)
+count_frame p none (x ∷ xs) = grind (arith, cases_Bool, count_frame p none xs, zero-add, count-cons)
 
 not_of_type : (p : MediaAttribute → Bool) → ((pt : ℕ) → (value : Mapping) → p (RtpMap pt value) ≡ false)
     → ((pt : ℕ) (value : List ℕ) → p (RtcpFb pt value) ≡ false)

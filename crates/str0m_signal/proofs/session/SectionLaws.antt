@@ -5,7 +5,7 @@ use Rattle.str0m_sdp.specs.declared.attribute.media_type.MediaType.TheVariants.{
 use Rattle.str0m_signal.proofs.Common.{rules, ◌≡◌, ℕ, Bool, false, cond, List, [], ◌∷◌, ◌++◌, length, Option, Some, None, refl, sym, ap, subst, ◌∙◌, arith, codes, is_some, bytes_eq, ltb-true, both_ways, append-nil, Parted, bytes_eq-Decides, Bandwidth, AUDIO, VIDEO, MediaType, Proto, IsRest, IsNum, FirstFit, ◌>>=◌, cut, strip, when, is_rest, cut_at, cut_found, strip_at, strip_found, when_some, Sound, bind_some, some_is, sound_or, reads_first, number_lacks, rest_true, num_both, Reads, false_from_ne_true, APPLICATION}
 use Rattle.str0m_signal.proofs.line.PartLaws.{parted_both}
 use Rattle.str0m_signal.specs.session.Section.{IsField, IsBandwidth, Begins, IsKind, IsProto, NoTypes, Head, IsHead}
-use Rattle.str0m_signal.specs.session.SectionReading.{field_read, bandwidth_read, unknown_read, kind_read, proto_read, numbers_read, no_types_read, types_read, head_read}
+use Rattle.str0m_signal.specs.session.SectionReading.{field_read, bandwidth_read, unknown_read, media_kind_read, proto_read, numbers_read, no_types_read, types_read, head_read}
 use Rattle.str0m_values.proofs.WordLaws.{word_sound}
 
 pub field_both : (letter : List ℕ) → Reads (IsField letter) (field_read letter)
@@ -55,14 +55,14 @@ unknown_sound = record {
       subst (IsKind text) w.1 (refl, ltb-true 0 (length text) w.0, not_begun AUDIO.now text a.0, not_begun VIDEO.now text v.0, not_begun APPLICATION.now text p.0);
 }
 
-kind_sound : Sound IsKind kind_read
-kind_sound = search (rules, sound_or, word_sound, unknown_sound)
+media_kind_sound : Sound IsKind media_kind_read
+media_kind_sound = search (rules, sound_or, word_sound, unknown_sound)
 
-kind_complete : (text : List ℕ) (kind : MediaType) → IsKind text kind → kind_read text ≡ Some kind
-kind_complete text Audio h = rw h refl
-kind_complete text Video h = rw h refl
-kind_complete text Application h = rw h refl
-kind_complete text (Unknown name) h = search (rules, word_not, begun_not, rest_true)
+media_kind_complete : (text : List ℕ) (kind : MediaType) → IsKind text kind → media_kind_read text ≡ Some kind
+media_kind_complete text Audio h = rw h refl
+media_kind_complete text Video h = rw h refl
+media_kind_complete text Application h = rw h refl
+media_kind_complete text (Unknown name) h = search (rules, word_not, begun_not, rest_true)
 
 kind_filled : (text : List ℕ) (kind : MediaType) → IsKind text kind → IsRest text
 kind_filled text kind h = grind arith
@@ -97,11 +97,11 @@ made_head typ disabled proto pts = record { typ = typ; disabled = disabled; prot
 
 head_found : (content : List ℕ) (head : Head) → head_read content ≡ Some head → IsHead content head
 head_found content head e =
-    let a = bind_some (strip (codes "m=") content) (λ body. cut 32 body >>= λ kind. cut 32 kind.1 >>= λ port. cut 32 port.1 >>= λ protocol. kind_read kind.0 >>= λ typ. when (is_rest port.0) port.0 >>= λ number. proto_read protocol.0 >>= λ proto. types_read protocol.1 >>= λ pts. Some (record { typ = typ; disabled = bytes_eq number (codes "0"); proto = proto; pts = pts })) head e in
-    let k = bind_some (cut 32 a.0) (λ kind. cut 32 kind.1 >>= λ port. cut 32 port.1 >>= λ protocol. kind_read kind.0 >>= λ typ. when (is_rest port.0) port.0 >>= λ number. proto_read protocol.0 >>= λ proto. types_read protocol.1 >>= λ pts. Some (record { typ = typ; disabled = bytes_eq number (codes "0"); proto = proto; pts = pts })) head a.2 in
-    let p = bind_some (cut 32 k.0.1) (λ port. cut 32 port.1 >>= λ protocol. kind_read k.0.0 >>= λ typ. when (is_rest port.0) port.0 >>= λ number. proto_read protocol.0 >>= λ proto. types_read protocol.1 >>= λ pts. Some (record { typ = typ; disabled = bytes_eq number (codes "0"); proto = proto; pts = pts })) head k.2 in
-    let r = bind_some (cut 32 p.0.1) (λ protocol. kind_read k.0.0 >>= λ typ. when (is_rest p.0.0) p.0.0 >>= λ number. proto_read protocol.0 >>= λ proto. types_read protocol.1 >>= λ pts. Some (record { typ = typ; disabled = bytes_eq number (codes "0"); proto = proto; pts = pts })) head p.2 in
-    let t = bind_some (kind_read k.0.0) (λ typ. when (is_rest p.0.0) p.0.0 >>= λ number. proto_read r.0.0 >>= λ proto. types_read r.0.1 >>= λ pts. Some (record { typ = typ; disabled = bytes_eq number (codes "0"); proto = proto; pts = pts })) head r.2 in
+    let a = bind_some (strip (codes "m=") content) (λ body. cut 32 body >>= λ kind. cut 32 kind.1 >>= λ port. cut 32 port.1 >>= λ protocol. media_kind_read kind.0 >>= λ typ. when (is_rest port.0) port.0 >>= λ number. proto_read protocol.0 >>= λ proto. types_read protocol.1 >>= λ pts. Some (record { typ = typ; disabled = bytes_eq number (codes "0"); proto = proto; pts = pts })) head e in
+    let k = bind_some (cut 32 a.0) (λ kind. cut 32 kind.1 >>= λ port. cut 32 port.1 >>= λ protocol. media_kind_read kind.0 >>= λ typ. when (is_rest port.0) port.0 >>= λ number. proto_read protocol.0 >>= λ proto. types_read protocol.1 >>= λ pts. Some (record { typ = typ; disabled = bytes_eq number (codes "0"); proto = proto; pts = pts })) head a.2 in
+    let p = bind_some (cut 32 k.0.1) (λ port. cut 32 port.1 >>= λ protocol. media_kind_read k.0.0 >>= λ typ. when (is_rest port.0) port.0 >>= λ number. proto_read protocol.0 >>= λ proto. types_read protocol.1 >>= λ pts. Some (record { typ = typ; disabled = bytes_eq number (codes "0"); proto = proto; pts = pts })) head k.2 in
+    let r = bind_some (cut 32 p.0.1) (λ protocol. media_kind_read k.0.0 >>= λ typ. when (is_rest p.0.0) p.0.0 >>= λ number. proto_read protocol.0 >>= λ proto. types_read protocol.1 >>= λ pts. Some (record { typ = typ; disabled = bytes_eq number (codes "0"); proto = proto; pts = pts })) head p.2 in
+    let t = bind_some (media_kind_read k.0.0) (λ typ. when (is_rest p.0.0) p.0.0 >>= λ number. proto_read r.0.0 >>= λ proto. types_read r.0.1 >>= λ pts. Some (record { typ = typ; disabled = bytes_eq number (codes "0"); proto = proto; pts = pts })) head r.2 in
     let n = bind_some (when (is_rest p.0.0) p.0.0) (λ number. proto_read r.0.0 >>= λ proto. types_read r.0.1 >>= λ pts. Some (record { typ = t.0; disabled = bytes_eq number (codes "0"); proto = proto; pts = pts })) head t.2 in
     let o = bind_some (proto_read r.0.0) (λ proto. types_read r.0.1 >>= λ pts. Some (record { typ = t.0; disabled = bytes_eq n.0 (codes "0"); proto = proto; pts = pts })) head n.2 in
     let y = bind_some (types_read r.0.1) (λ pts. Some (record { typ = t.0; disabled = bytes_eq n.0 (codes "0"); proto = o.0; pts = pts })) head o.2 in
@@ -109,7 +109,7 @@ head_found content head e =
     let kind = cut_found 32 a.0 k.0.0 k.0.1 k.1 in
     let port = cut_found 32 k.0.1 p.0.0 p.0.1 p.1 in
     let protocol = cut_found 32 p.0.1 r.0.0 r.0.1 r.1 in
-    let kind_is = kind_sound.law k.0.0 t.0 t.1 in
+    let kind_is = media_kind_sound.law k.0.0 t.0 t.1 in
     let proto_is = proto_sound.law r.0.0 o.0 o.1 in
     let made : IsHead content (record { typ = t.0; disabled = bytes_eq p.0.0 (codes "0"); proto = o.0; pts = y.0 }) = record {
       kind = k.0.0;
@@ -131,7 +131,7 @@ head_given content head h =
     let behind_kind = h.port ++ (32 ∷ behind_port) in
     let disabled : bytes_eq h.port (codes "0") ≡ head.disabled = same_from_decides (bytes_eq h.port (codes "0")) head.disabled (bytes_eq-Decides h.port (codes "0")) h.port_is.1 in
     ap head_read h.joined
-    ∙ rw (cut_at 32 h.kind behind_kind h.kind_is.0.1, cut_at 32 h.port behind_port h.port_is.0.1, cut_at 32 h.protocol h.types h.protocol_is.0.1, kind_complete h.kind head.typ h.kind_is.1, rest_true h.port h.port_is.0.0, proto_complete h.protocol head.proto h.protocol_is.1, types_both.complete h.types head.pts h.types_are)
+    ∙ rw (cut_at 32 h.kind behind_kind h.kind_is.0.1, cut_at 32 h.port behind_port h.port_is.0.1, cut_at 32 h.protocol h.types h.protocol_is.0.1, media_kind_complete h.kind head.typ h.kind_is.1, rest_true h.port h.port_is.0.0, proto_complete h.protocol head.proto h.protocol_is.1, types_both.complete h.types head.pts h.types_are)
     (ap (λ (b : Bool). Some (made_head head.typ b head.proto head.pts)) disabled)
 
 pub head_both : Reads IsHead head_read

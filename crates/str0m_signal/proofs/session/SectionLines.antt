@@ -8,8 +8,8 @@ use Rattle.str0m_signal.specs.session.Section.{IsKind, IsProto, IsHead, NoTypes}
 
 -- ---- the m-line
 
-kind_is : (t : MediaType) → is_media t ≡ true → IsWord (media_type_text t) × IsKind (media_type_text t) t × HoldsNoEnd (media_type_text t)
-kind_is t h = grind arith
+kind_line : (t : MediaType) → is_media t ≡ true → IsWord (media_type_text t) × IsKind (media_type_text t) t × HoldsNoEnd (media_type_text t)
+kind_line t h = grind arith
 
 port_is : (b : Bool) → (IsWord (port_text b) × (IsTrue b ↔ (port_text b ≡ codes "0"))) × HoldsNoEnd (port_text b)
 port_is b = grind arith
@@ -45,11 +45,11 @@ head_no_end : (kind port protocol types : List ℕ) → HoldsNoEnd kind → Hold
 head_no_end kind port protocol types k p q t = grind (arith, no_ends, no_end)
 
 -- an m-line whose kind and whose types have their forms reads as what it says, with these types
-pub head_of : (m : MediaLine) (types pts : List ℕ)
+pub head_line_read : (m : MediaLine) (types pts : List ℕ)
     → IsWord (media_type_text m.typ) × IsKind (media_type_text m.typ) m.typ × HoldsNoEnd (media_type_text m.typ)
     → formats_text m.typ m.pts ≡ types → HoldsNoEnd types → FirstFit (Parted 32 (IsNum 255)) NoTypes types pts
     → IsPrintedAs IsHead (m_line m) (record { typ = m.typ; disabled = m.disabled; proto = m.proto; pts = pts })
-head_of m types pts kind printed no_end are =
+head_line_read m types pts kind printed no_end are =
     let port = port_is m.disabled in
     let protocol = proto_is m.proto in
     let text = head_text (media_type_text m.typ) (port_text m.disabled) (proto_text m.proto) types in
@@ -77,5 +77,5 @@ pub head_printed : (m : MediaLine) → is_media m.typ ≡ true → (pt : ℕ) (p
     → IsPrintedAs IsHead (m_line m) (record { typ = m.typ; disabled = m.disabled; proto = m.proto; pts = m.pts })
 head_printed m media pt pts e small =
     let types = join_by decimal (codes " ") (pt ∷ pts) in
-    head_of m types m.pts (kind_is m.typ media) (formats_are m.typ m.pts media ∙ ap pts_text e) (types_no_end pt pts small)
+    head_line_read m types m.pts (kind_line m.typ media) (formats_are m.typ m.pts media ∙ ap pts_text e) (types_no_end pt pts small)
     (inl (subst (λ (ns : List ℕ). Parted 32 (IsNum 255) types ns) (sym e) (types_are pt pts small)))

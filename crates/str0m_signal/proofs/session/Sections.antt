@@ -1,7 +1,7 @@
 -- Printed sections are read as sections, one after another.
 use Rattle.str0m_signal.proofs.Common.{◌≡◌, ◌≢◌, ℕ, List, [], ◌∷◌, ◌++◌, Option, Some, None, IfSome, refl, sym, ap, ◌∙◌, subst, arith, lit<, codes, flat_map, append_assoc, lacks_from, media_attribute_text, bandwidth_text, Consistent, line_end, m_line, media_line_text, Bandwidth, MediaLine, bandwidth_line}
 use Rattle.str0m_signal.proofs.line.LinesPrinted.{printed_line, ArePrinted, joined-append, printed-append, Apart, apart-append, apart, no_bandwidth, no_attribute, SaidLines, said}
-use Rattle.str0m_signal.proofs.session.AttributesPrinted.{AreReadAs}
+use Rattle.str0m_signal.proofs.session.AttributesPrinted.{LinesReadAs}
 use Rattle.str0m_signal.specs.back.Writable.{IsPrintedAs}
 use Rattle.str0m_signal.specs.form.MediaAttribute.{MediaForm, IsMediaLine}
 use Rattle.str0m_signal.specs.line.Lines.{Chain, Stops, Taken, Line, joined, OneLine}
@@ -35,7 +35,7 @@ pub record SectionReadAs (m read : MediaLine) : Type 0 where
   pub same : read ≡ record m { pts = read.pts; attrs = read.attrs }
   pub head : IsPrintedAs IsHead (m_line m) (record { typ = m.typ; disabled = m.disabled; proto = m.proto; pts = read.pts })
   pub bandwidth : IfSome m.bw (λ bw. IsPrintedAs IsBandwidth (bandwidth_text bw) bw)
-  pub attributes : AreReadAs media_attribute_text IsMediaLine m.attrs read.attrs
+  pub attributes : LinesReadAs media_attribute_text IsMediaLine m.attrs read.attrs
 
 abbrev pub connection : Line
 connection = printed_line (codes "c=IN IP4 0.0.0.0")

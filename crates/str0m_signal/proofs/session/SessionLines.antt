@@ -2,7 +2,7 @@
 use Rattle.str0m_sdp.specs.declared.session.Session.{Session as TheSession}
 use Rattle.str0m_signal.proofs.Common.{◌≡◌, ◌≢◌, ◌<◌, ◌^◌, ℕ, List, [], ◌∷◌, ◌++◌, Option, IfSome, refl, sym, ap, ◌∙◌, subst, arith, lit<, codes, flat_map, decimal, decimal_is_IsNumeral, append_assoc, Lacks, lacks_from, session_attribute_text, bandwidth_text, line_end, Bandwidth, SessionAttribute, origin_line, session_text}
 use Rattle.str0m_signal.proofs.line.LinesPrinted.{printed_line, ArePrinted, joined-append, printed-append, Apart, apart-append, apart, no_field, no_attribute, SaidLines, said}
-use Rattle.str0m_signal.proofs.session.AttributesPrinted.{AreReadAs, HoldsNoEnd, no_ends, no_end, decimal_no_end}
+use Rattle.str0m_signal.proofs.session.AttributesPrinted.{LinesReadAs, HoldsNoEnd, no_ends, no_end, decimal_no_end}
 use Rattle.str0m_signal.proofs.session.Sections.{SaidBandwidth, said_bandwidth}
 use Rattle.str0m_signal.specs.back.Writable.{IsPrintedAs}
 use Rattle.str0m_signal.specs.form.SessionAttribute.{SessionForm, IsSessionLine}
@@ -92,7 +92,7 @@ pub record SaidSession (session : TheSession) (reads : List SessionAttribute) : 
 
 pub said_session : (session : TheSession) (reads : List SessionAttribute) → session.id < 2 ^ 64
     → IfSome session.bw (λ bw. IsPrintedAs IsBandwidth (bandwidth_text bw) bw)
-    → AreReadAs session_attribute_text IsSessionLine session.attrs reads → SaidSession session reads
+    → LinesReadAs session_attribute_text IsSessionLine session.attrs reads → SaidSession session reads
 said_session session reads small bandwidth attributes = record {
   lines = header_lines session.id b.lines ++ attrs.lines;
   printed = printed-append (header_lines session.id b.lines) attrs.lines header_printed attrs.printed;

@@ -37,7 +37,7 @@ abbrev pub HasTypes : MediaLine → List ℕ → Type 0
 HasTypes m pts = IsPrintedAs IsHead (m_line m) (record { typ = m.typ; disabled = m.disabled; proto = m.proto; pts = pts })
 
 -- a section as its lines are read: its types and attributes may be others
-pub record IsReadAs (m read : MediaLine) : Type 0 where
+pub record IsMediaReadAs (m read : MediaLine) : Type 0 where
   pub same : read ≡ record m { pts = read.pts; attrs = read.attrs }
   pub head : HasTypes m read.pts
   pub bandwidth : IfSome m.bw (λ bw. IsPrintedAs IsBandwidth (bandwidth_text bw) bw)
@@ -66,8 +66,8 @@ pub record Writable (sdp : Sdp) (i : ℕ) : Type 0 where
   pub session : (reads : List SessionAttribute) × AreReadAs session_attribute_text IsSessionLine SessionGoesWith sdp.session.attrs reads
   pub bandwidth : IfSome sdp.session.bw (λ bw. IsPrintedAs IsBandwidth (bandwidth_text bw) bw)
   pub others : (j : ℕ) (m : MediaLine) → slice_get sdp.media_lines j ≡ Some m → j ≢ i
-      → (read : MediaLine) × IsReadAs m read × Consistent read
-  pub own : (read : MediaLine) × IsReadAs (frame_of section) read × IsFrame read
+      → (read : MediaLine) × IsMediaReadAs m read × Consistent read
+  pub own : (read : MediaLine) × IsMediaReadAs (frame_of section) read × IsFrame read
 
 -- the line is read so by a function
 abbrev pub IsReadBy : {A : Type 0} → (List ℕ → Option A) → List ℕ → A → Type 0

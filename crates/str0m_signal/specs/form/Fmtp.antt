@@ -23,19 +23,19 @@ abbrev pub IsValue : List ℕ → Type 0
 IsValue text = IsRest text × Lacks 59 text × Lacks 32 text × Lacks 9 text
 
 -- nothing, or `;` and blanks
-abbrev pub IsEnd : List ℕ → Type 0
-IsEnd text = (text ≡ []) ⊎ ((blanks : List ℕ) × (text ≡ codes ";" ++ blanks) × AreBlanks blanks)
+abbrev pub IsFmtpEnd : List ℕ → Type 0
+IsFmtpEnd text = (text ≡ []) ⊎ ((blanks : List ℕ) × (text ≡ codes ";" ++ blanks) × AreBlanks blanks)
 
-abbrev pub StartsPlain : List ℕ → Type 0
-StartsPlain [] = ⊥
-StartsPlain (x ∷ xs) = IsBlank x → ⊥
+abbrev pub StartsUnblank : List ℕ → Type 0
+StartsUnblank [] = ⊥
+StartsUnblank (x ∷ xs) = IsBlank x → ⊥
 
 -- key `=` value, and then blanks and the end, or `;` between blanks and more
 abbrev pub IsPair : List ℕ → List ℕ × List ℕ → Option (List ℕ) → Type 0
 IsPair text pair None = (blanks : List ℕ) × (end : List ℕ) × (text ≡ pair.0 ++ (codes "=" ++ (pair.1 ++ (blanks ++ end))))
-    × IsKey pair.0 × IsValue pair.1 × AreBlanks blanks × IsEnd end
+    × IsKey pair.0 × IsValue pair.1 × AreBlanks blanks × IsFmtpEnd end
 IsPair text pair (Some more) = (before : List ℕ) × (after : List ℕ) × (text ≡ pair.0 ++ (codes "=" ++ (pair.1 ++ (before ++ (codes ";" ++ (after ++ more))))))
-    × IsKey pair.0 × IsValue pair.1 × AreBlanks before × AreBlanks after × StartsPlain more
+    × IsKey pair.0 × IsValue pair.1 × AreBlanks before × AreBlanks after × StartsUnblank more
 
 -- one or more pairs, where F says how each stands before what follows it
 abbrev pub OneByOne : (List ℕ → List ℕ × List ℕ → Option (List ℕ) → Type 0) → List ℕ → List (List ℕ × List ℕ) → Type 0

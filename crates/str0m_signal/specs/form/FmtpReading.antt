@@ -7,8 +7,8 @@ use Rattle.str0m_signal.specs.Prelude.{FormatParam, before, cut, is_rest, lacks,
 use Rattle.str0m_signal.specs.form.FormReading.{behind, digits_read, two_read, parted_read}
 
 -- the value of an fmtp pair, which ends at `;`, space or tab, and what follows it
-abbrev pub value_read : List ℕ → Option (List ℕ × List ℕ)
-value_read text = do
+abbrev pub fmtp_value_read : List ℕ → Option (List ℕ × List ℕ)
+fmtp_value_read text = do
   value ← Some (before 9 (before 32 (before 59 text)))
   filled ← when (is_rest value) value
   rest ← strip filled text
@@ -36,18 +36,19 @@ skip_blanks [] = []
 skip_blanks (x ∷ xs) = if x == 32 then skip_blanks xs else if x == 9 then skip_blanks xs else x ∷ xs
 
 -- what stands after a value and its blanks: the end, or `;` and more
-abbrev pub next_read : List ℕ → Option (Option (List ℕ))
-next_read text = if is_rest text then (strip (codes ";") text >>= λ t. Some (when (is_rest (skip_blanks t)) (skip_blanks t))) else Some None
+abbrev pub fmtp_next_read : List ℕ → Option (Option (List ℕ))
+fmtp_next_read text = if is_rest text then (strip (codes ";") text >>= λ t. Some (when (is_rest (skip_blanks t)) (skip_blanks t))) else Some
+    None
 
-abbrev pub key_read : List ℕ → Option (List ℕ)
-key_read text = if lacks 32 text then (if lacks 9 text then when (is_rest text) text else None) else None
+abbrev pub fmtp_key_read : List ℕ → Option (List ℕ)
+fmtp_key_read text = if lacks 32 text then (if lacks 9 text then when (is_rest text) text else None) else None
 
 abbrev pub pair_read : List ℕ → Option ((List ℕ × List ℕ) × Option (List ℕ))
 pair_read text = do
   fields ← cut 61 text
-  key ← key_read fields.0
-  value ← value_read fields.1
-  next ← next_read (skip_blanks value.1)
+  key ← fmtp_key_read fields.0
+  value ← fmtp_value_read fields.1
+  next ← fmtp_next_read (skip_blanks value.1)
   Some ((key, value.0), next)
 
 -- one pair, and those that are read of what follows
@@ -73,15 +74,15 @@ pairs_form_read more = do
   Some (params_read pairs)
 
 -- the first of two or more numbers that are parted by `/`
-abbrev pub first_read : List ℕ → Option ℕ
-first_read text = two_read 47 (num 255) (parted_read 47 (num 255)) text >>= λ numbers. Some numbers.0
+abbrev pub first_number_read : List ℕ → Option ℕ
+first_number_read text = two_read 47 (num 255) (parted_read 47 (num 255)) text >>= λ numbers. Some numbers.0
 
 -- where a range from 0 on ends
 abbrev pub range_read : List ℕ → Option ℕ
 range_read text = strip (codes "0-") text >>= digits_read 255
 
 abbrev pub list_form_read : List ℕ → Option (List FormatParam)
-list_form_read more = behind (codes " ") first_read more >>= λ first. Some (BarePtList first ∷ [])
+list_form_read more = behind (codes " ") first_number_read more >>= λ first. Some (BarePtList first ∷ [])
 
 abbrev pub range_form_read : List ℕ → Option (List FormatParam)
 range_form_read more = behind (codes " ") range_read more >>= λ last. Some (BareRange last ∷ [])

@@ -1,4 +1,4 @@
--- Tables of forms: what a text may begin with, what it stands for, and how it is read. One row states all three.
+-- Tables of forms: what a text may begin with, what it stands for, and how it is read. One form states all three.
 use Rattle.std.specs.Prelude.{◌≡◌, ◌⊎◌, ◌++◌, ◌∷◌, [], ℕ, Bool, true, false, List, Option, Some, None, ◌==◌, ◌||◌, if◌then◌else◌}
 use Rattle.str0m_signal.specs.Prelude.{IsNum, IsRest, Parted, is_rest, num, when, ◌<|>◌, ◌>>=◌}
 use Rattle.str0m_signal.specs.form.FormReading.{alone, behind, text_read, two_read, tailed_read, parted_read}
@@ -46,15 +46,15 @@ abbrev pub led_by : {A : Type 0} → List ℕ → Piece A → Form A
 led_by label piece = own label (Behind label piece.Is) (behind label piece.read)
 
 -- the same texts, which stand for what is made of their values
-abbrev pub made : {A B : Type 0} → Form A → (A → B) → Form B
-made {A} form make = record {
+abbrev pub made_as : {A B : Type 0} → Form A → (A → B) → Form B
+made_as {A} form make = record {
   labels = form.labels;
   Is = λ text y. (x : A) × form.Is text x × (y ≡ make x);
   read = λ text. form.read text >>= λ x. Some (make x);
 }
 
 abbrev pub labelled : {A B : Type 0} → List ℕ → Piece A → (A → B) → Form B
-labelled label piece make = made (led_by label piece) make
+labelled label piece make = made_as (led_by label piece) make
 
 -- a word alone, after which the line ends
 abbrev pub word : {A : Type 0} → List ℕ → A → Form A
@@ -84,8 +84,8 @@ words_of [] = []
 words_of (row ∷ rows) = word row.0 row.1 ∷ words_of rows
 
 -- a table of words
-abbrev pub words : {A : Type 0} → List (List ℕ × A) → Form A
-words rows = any (words_of rows)
+abbrev pub any_word : {A : Type 0} → List (List ℕ × A) → Form A
+any_word rows = any (words_of rows)
 
 -- each label with this piece after it
 abbrev pub labelled_by : {A B : Type 0} → Piece B → List (List ℕ × (B → A)) → List (Form A)

@@ -21,12 +21,12 @@ ice_texts ufrag pwd options =
 abbrev pub candidate : Form Candidate
 candidate = own candidate_label.CANDIDATE.now IsCandidateText candidate_read
 
-abbrev pub hex_pair : Piece ℕ
-hex_pair = record { Is = IsHexPair; read = hex_pair_read }
+abbrev pub hex_piece : Piece ℕ
+hex_piece = record { Is = IsHexPair; read = hex_pair_read }
 
 -- a word SP bytes, each as two hexadecimal digits, with `:` between each two (RFC 8122, section 5)
 abbrev pub fingerprint : Form Fingerprint
-fingerprint = labelled label.FINGERPRINT.now (two 32 a_text (parted 58 hex_pair)) (λ hash. record { hash_func = hash.0; bytes = hash.1 })
+fingerprint = labelled label.FINGERPRINT.now (two 32 a_text (parted 58 hex_piece)) (λ hash. record { hash_func = hash.0; bytes = hash.1 })
 
 abbrev pub role : Piece Setup
 role = record { Is = λ text setup. text ≡ setup_text setup; read = role_read }

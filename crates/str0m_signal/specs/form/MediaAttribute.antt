@@ -5,7 +5,7 @@ use Rattle.str0m_sdp.specs.declared.label.TheConstants as label
 use Rattle.str0m_signal.specs.Prelude.{FirstFit, IsLongestBeginning, IsRest, MediaAttribute, beginning_of, is_rest, media_words, when, ◌<|>◌}
 use Rattle.str0m_signal.specs.form.Fmtp.{IsFmtp}
 use Rattle.str0m_signal.specs.form.FmtpReading.{fmtp_fields_read}
-use Rattle.str0m_signal.specs.form.FormTable.{Piece, Form, own, a_text, number, two, tailed, parted, labelled, made, any, words, texts, pairs, IsUnused, unused_read, first_byte, by_letter}
+use Rattle.str0m_signal.specs.form.FormTable.{Piece, Form, own, a_text, number, two, tailed, parted, labelled, made_as, any, any_word, texts, pairs, IsUnused, unused_read, first_byte, by_letter}
 use Rattle.str0m_signal.specs.form.FormTransport.{ice_texts, candidate, fingerprint, setup}
 use Rattle.str0m_signal.specs.form.Rid.{IsRid}
 use Rattle.str0m_signal.specs.form.RidReading.{rid_fields_read}
@@ -45,13 +45,13 @@ ext_map =
     labelled label.EXTMAP.now (two 32 (tailed 47 (number 255)) (tailed 32 a_text)) (λ p. ExtMap p.0 (record { uri = p.1; serialized = true }))
 
 abbrev pub rtpmap : Form MediaAttribute
-rtpmap = made (own label.RTPMAP.now (λ text p. IsRtpMap text p.0 p.1) rtpmap_fields_read) (λ p. RtpMap p.0 p.1)
+rtpmap = made_as (own label.RTPMAP.now (λ text p. IsRtpMap text p.0 p.1) rtpmap_fields_read) (λ p. RtpMap p.0 p.1)
 
 abbrev pub rtcp_fb : Form MediaAttribute
 rtcp_fb = labelled label.RTCP_FB.now (two 32 (number 127) a_text) (λ p. RtcpFb p.0 p.1)
 
 abbrev pub fmtp : Form MediaAttribute
-fmtp = made (own label.FMTP.now (λ text p. IsFmtp text p.0 p.1) fmtp_fields_read) (λ p. Fmtp p.0 p.1)
+fmtp = made_as (own label.FMTP.now (λ text p. IsFmtp text p.0 p.1) fmtp_fields_read) (λ p. Fmtp p.0 p.1)
 
 abbrev pub rid : Form MediaAttribute
 rid = labelled label.RID.now (record { Is = IsRid; read = rid_fields_read }) (λ f. Rid f.0 f.1.0 f.1.1.0 f.1.1.1)
@@ -66,16 +66,16 @@ abbrev pub ssrc : Form MediaAttribute
 ssrc = labelled label.SSRC.now (two 32 (number 4294967295) (two 58 a_text a_text)) (λ p. Ssrc p.0 p.1.0 p.1.1)
 
 -- those that are neither a mapping nor a format
-abbrev pub plain_forms : List (Form MediaAttribute)
-plain_forms =
+abbrev pub other_forms : List (Form MediaAttribute)
+other_forms =
     rtcp_fb
     ∷ ext_map
-    ∷ made candidate Candidate
+    ∷ made_as candidate Candidate
     ∷ ssrc
     ∷ setup Setup
     ∷ ssrc_group
     ∷ texts media_texts
-    ∷ made fingerprint Fingerprint
+    ∷ made_as fingerprint Fingerprint
     ∷ mid
     ∷ pairs media_pairs
     ∷ rid
@@ -84,12 +84,12 @@ plain_forms =
     ∷ sctp_port
     ∷ max_message_size
     ∷ sctp_init
-    ∷ words media_words
+    ∷ any_word media_words
     ∷ []
 
 -- each attribute but `Unused`
 abbrev pub media_forms : List (Form MediaAttribute)
-media_forms = rtpmap ∷ fmtp ∷ plain_forms
+media_forms = rtpmap ∷ fmtp ∷ other_forms
 
 -- the text stands for the attribute: `Unused` only where no other form holds
 abbrev pub MediaForm : List ℕ → MediaAttribute → Type 0

@@ -2,7 +2,7 @@
 use Rattle.std.specs.Prelude.{ℕ, true, List, [], Option, Some, None, codes, if◌then◌else◌}
 use Rattle.str0m_signal.specs.Prelude.{RestrictionId, cut, is_rest, num, strip, when, ◌<|>◌, ◌>>=◌}
 use Rattle.str0m_signal.specs.declared.form.rid.Lists.{Lists as TheLists}
-use Rattle.str0m_signal.specs.form.FmtpReading.{value_read, skip_blanks, key_read, one_by_one}
+use Rattle.str0m_signal.specs.form.FmtpReading.{fmtp_value_read, skip_blanks, fmtp_key_read, one_by_one}
 use Rattle.str0m_signal.specs.form.FormReading.{two_read, parted_read}
 use Rattle.str0m_signal.specs.form.RidStreamName.{is_stream_name}
 
@@ -16,8 +16,8 @@ next_read text = if is_rest text then (strip (codes ";") text >>= λ more. Some 
 abbrev pub restriction_read : List ℕ → Option ((List ℕ × List ℕ) × Option (List ℕ))
 restriction_read text = do
   fields ← cut 61 (skip_blanks text)
-  key ← key_read fields.0
-  value ← value_read fields.1
+  key ← fmtp_key_read fields.0
+  value ← fmtp_value_read fields.1
   next ← next_read value.1
   Some ((key, value.0), next)
 
@@ -27,14 +27,14 @@ restrictions_read = one_by_one restriction_read
 abbrev pub restricted_read : List ℕ → Option (List (List ℕ × List ℕ))
 restricted_read text = if is_rest text then restrictions_read text else Some []
 
-abbrev pub types_read : List ℕ → Option (List ℕ)
-types_read text = parted_read 44 (num 127) text
+abbrev pub pts_read : List ℕ → Option (List ℕ)
+pts_read text = parted_read 44 (num 127) text
 
 -- the types, and the restrictions where the text was cut at a `;`
 abbrev pub typed_after : List ℕ → Option (List ℕ × List ℕ) → Option (List ℕ × List (List ℕ × List ℕ))
-typed_after text None = types_read text >>= λ types. Some (types, [])
+typed_after text None = pts_read text >>= λ types. Some (types, [])
 typed_after text (Some parts) = do
-  types ← types_read parts.0
+  types ← pts_read parts.0
   pairs ← restricted_read parts.1
   Some (types, pairs)
 
@@ -53,11 +53,11 @@ abbrev pub more_read : List ℕ → Option (List ℕ × List (List ℕ × List �
 more_read text = if is_rest text then (strip (codes " ") text >>= lists_read) else Some ([], [])
 
 -- a word at the front, and what stands after it
-abbrev pub word_read : List ℕ → List ℕ → Option (List ℕ × List ℕ)
-word_read word text = strip word text >>= λ behind. Some (word, behind)
+abbrev pub word_ahead : List ℕ → List ℕ → Option (List ℕ × List ℕ)
+word_ahead word text = strip word text >>= λ behind. Some (word, behind)
 
 abbrev pub direction_read : List ℕ → Option (List ℕ × List ℕ)
-direction_read text = word_read (codes "send") text <|> word_read (codes "recv") text
+direction_read text = word_ahead (codes "send") text <|> word_ahead (codes "recv") text
 
 abbrev pub directed_read : List ℕ → Option (List ℕ × (List ℕ × List (List ℕ × List ℕ)))
 directed_read text = do
@@ -68,7 +68,7 @@ directed_read text = do
 abbrev pub rid_fields_read : List ℕ → Option (RestrictionId × (List ℕ × (List ℕ × List (List ℕ × List ℕ))))
 rid_fields_read text = two_read 32 active_read directed_read text
 
--- ---- the lists of a rid line, as plain lists
+-- ---- the lists of a rid line, as lists
 
 abbrev pub lists_of : TheLists → List ℕ × List (List ℕ × List ℕ)
 lists_of lists = (lists.types, lists.restrictions)

@@ -3,7 +3,7 @@ use Rattle.std.specs.Prelude.{ℕ, List, [], ◌∷◌, Option, Some}
 use Rattle.str0m_sdp.specs.declared.attribute.SessionAttribute.TheVariants.{Group, MsidSemantic, IceUfrag, IcePwd, IceOptions, Fingerprint, Setup, Candidate, Unused}
 use Rattle.str0m_sdp.specs.declared.label.TheConstants as label
 use Rattle.str0m_signal.specs.Prelude.{FirstFit, SessionAttribute, session_words, ◌<|>◌, ◌>>=◌}
-use Rattle.str0m_signal.specs.form.FormTable.{Form, labelled, made, any, words, texts, IsUnused, unused_read}
+use Rattle.str0m_signal.specs.form.FormTable.{Form, labelled, made_as, any, any_word, texts, IsUnused, unused_read}
 use Rattle.str0m_signal.specs.form.FormTransport.{ice_texts, candidate, fingerprint, setup}
 use Rattle.str0m_signal.specs.line.Lines.{IsAttributeLine}
 use Rattle.str0m_signal.specs.line.Words.{IsGroup, IsMsidSemantic}
@@ -25,13 +25,13 @@ msid_semantic = labelled label.MSID_SEMANTIC.now (record { Is = IsMsidSemantic; 
 -- each attribute but `Unused`
 abbrev pub session_forms : List (Form SessionAttribute)
 session_forms =
-    words session_words
+    any_word session_words
     ∷ setup Setup
     ∷ group
     ∷ msid_semantic
     ∷ texts session_texts
-    ∷ made fingerprint Fingerprint
-    ∷ made candidate Candidate
+    ∷ made_as fingerprint Fingerprint
+    ∷ made_as candidate Candidate
     ∷ []
 
 -- the text stands for the attribute: `Unused` only where no other form holds

@@ -1,7 +1,7 @@
 -- Reading of a simulcast line as functions.
 use Rattle.std.specs.Prelude.{ℕ, true, false, List, [], Option, Some, None, codes, is_some}
 use Rattle.str0m_signal.specs.Prelude.{RestrictionId, Simulcast, SimulcastLayer, cut, strip, when, ◌<|>◌, ◌>>=◌}
-use Rattle.str0m_signal.specs.declared.form.simulcast.Sides.{Sides as TheSides}
+use Rattle.str0m_signal.specs.declared.form.simulcast.LayerSides.{LayerSides as TheSides}
 use Rattle.str0m_signal.specs.form.FormReading.{behind, parted_read}
 use Rattle.str0m_signal.specs.form.RidStreamName.{is_stream_name}
 
@@ -20,11 +20,11 @@ first_after text (Some parts) = do
   id ← alternative_read parts.0
   when (is_some (parted_read 44 alternative_read parts.1)) id
 
-abbrev pub first_read : List ℕ → Option RestrictionId
-first_read text = first_after text (cut 44 text)
+abbrev pub first_name_read : List ℕ → Option RestrictionId
+first_name_read text = first_after text (cut 44 text)
 
 abbrev pub layer_read : List ℕ → Option SimulcastLayer
-layer_read text = first_read text >>= λ id. Some (record { restriction_id = id; attributes = None })
+layer_read text = first_name_read text >>= λ id. Some (record { restriction_id = id; attributes = None })
 
 abbrev pub side_read : List ℕ → Option (List SimulcastLayer)
 side_read text = parted_read 59 layer_read text
@@ -48,7 +48,7 @@ simulcast_fields_read text =
     (behind (codes "send ") (sides_read (codes "recv ")) text >>= λ sides. Some (layers_of sides.0 sides.1))
     <|> (behind (codes "recv ") (sides_read (codes "send ")) text >>= λ sides. Some (layers_of sides.1 sides.0))
 
--- ---- the sides of a simulcast line, as plain lists
+-- ---- the sides of a simulcast line, as lists
 
 abbrev pub sides_of : TheSides → List SimulcastLayer × List SimulcastLayer
 sides_of sides = (sides.first, sides.second)

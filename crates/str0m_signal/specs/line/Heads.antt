@@ -1,4 +1,4 @@
--- What the private records of the code say, in the words of the grammar.
+-- What the private records of the code say, as the grammar has it.
 use Rattle.std.specs.Borrow.{Bor}
 use Rattle.std.specs.Prelude.{ℕ, List}
 use Rattle.str0m_sdp.specs.declared.attribute.media_type.MediaType.TheVariants as typ

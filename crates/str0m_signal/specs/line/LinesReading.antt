@@ -39,17 +39,17 @@ behind_end text =
     <|> when (length text == 0) text
 
 -- the first line, if it holds no CR, and the lines after it
-abbrev pub plain_line : List Line → Option (List ℕ × List Line)
-plain_line [] = None
-plain_line (line ∷ lines) = if lacks 13 line.content then Some (line.content, lines) else None
+abbrev pub clean_line : List Line → Option (List ℕ × List Line)
+clean_line [] = None
+clean_line (line ∷ lines) = if lacks 13 line.content then Some (line.content, lines) else None
 
 -- what f reads of the first line
 abbrev pub line_read : {A : Type 0} → (List ℕ → Option A) → List Line → Option (A × List Line)
-line_read f lines = plain_line lines >>= λ found. f found.0 >>= λ value. Some (value, found.1)
+line_read f lines = clean_line lines >>= λ found. f found.0 >>= λ value. Some (value, found.1)
 
 -- f reads this of the first line
-abbrev pub IsRead : {A : Type 0} → (List ℕ → Option A) → List Line → A → List Line → Type 0
-IsRead f lines value rest = line_read f lines ≡ Some (value, rest)
+abbrev pub ReadsTo : {A : Type 0} → (List ℕ → Option A) → List Line → A → List Line → Type 0
+ReadsTo f lines value rest = line_read f lines ≡ Some (value, rest)
 
 -- what was found is put in its place; or nothing was found, and the place stays as it is
 abbrev pub Takes : {A P : Type 0} → (P → A → P → Type 0) → Option A → P → P → Bool → Type 0
@@ -59,7 +59,7 @@ Takes Puts found old new false = (found ≡ None) × (new ≡ old)
 -- what f reads of the first line stands after the others, and this text is left; or f reads nothing, and nothing is added
 abbrev pub TakesLine : {A : Type 0} → (List ℕ → Option A) → List Line → List A → List A → Option (Bor (List ℕ)) → Type 0
 TakesLine f lines old new None = (None ≡ line_read f lines) × (new ≡ old)
-TakesLine {A} f lines old new (Some rest) = (value : A) × IsRead f lines value (lines_of rest.now) × (new ≡ old ++ value ∷ [])
+TakesLine {A} f lines old new (Some rest) = (value : A) × ReadsTo f lines value (lines_of rest.now) × (new ≡ old ++ value ∷ [])
 
 -- a value and what is left of the text, as lines
 abbrev pub left : {A : Type 0} → A × Bor (List ℕ) → A × List Line

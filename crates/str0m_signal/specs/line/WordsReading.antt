@@ -4,11 +4,11 @@ use Rattle.std.specs.Prelude.{ℕ, ◌+◌, ◌*◌, ◌==◌, nat_lt, List, [],
 use Rattle.str0m_signal.specs.Prelude.{beginning_of, cut, lacks, strip, when, ◌>>=◌}
 use Rattle.str0m_signal.specs.form.FormReading.{text_read, two_read, parted_read}
 
-abbrev pub word_read : List ℕ → Option (List ℕ)
-word_read text = if lacks 32 text then text_read text else None
+abbrev pub word_text_read : List ℕ → Option (List ℕ)
+word_text_read text = if lacks 32 text then text_read text else None
 
 abbrev pub name_read : List ℕ → Option (List ℕ)
-name_read text = word_read text >>= λ word. Some (beginning_of 16 word)
+name_read text = word_text_read text >>= λ word. Some (beginning_of 16 word)
 
 abbrev pub digit_read : ℕ → Option ℕ
 digit_read c = when (nat_lt (digit_value c) 16) (digit_value c)
@@ -48,4 +48,4 @@ behind_space text None = text
 behind_space text (Some rest) = rest
 
 abbrev pub msid_semantic_fields_read : List ℕ → Option (List ℕ × List (List ℕ))
-msid_semantic_fields_read text = two_read 32 text_read (parted_read 32 word_read) (behind_space text (strip (codes " ") text))
+msid_semantic_fields_read text = two_read 32 text_read (parted_read 32 word_text_read) (behind_space text (strip (codes " ") text))

@@ -23,11 +23,11 @@ abbrev pub AtMostOne : {V : Type 0} → (V → Type 0) → Type 0
 AtMostOne P = (v w : _) → P v → P w → v ≡ w
 
 -- what was read is this, memory aside
-abbrev pub Gives : {X V : Type 0} → (X → V) → Result X SdpError → Option V → Type 0
-Gives view (Ok x) read = read ≡ Some (view x)
-Gives view (Err (ParseError message)) read = read ≡ None
-Gives view (Err (Inconsistent message)) read = ⊥
-Gives view (Err Memory) read = Unit {0}
+abbrev pub GivesRead : {X V : Type 0} → (X → V) → Result X SdpError → Option V → Type 0
+GivesRead view (Ok x) read = read ≡ Some (view x)
+GivesRead view (Err (ParseError message)) read = read ≡ None
+GivesRead view (Err (Inconsistent message)) read = ⊥
+GivesRead view (Err Memory) read = Unit {0}
 
 -- a text is refused, or memory ran out
 abbrev pub IsRefusal : SdpError → Type 0

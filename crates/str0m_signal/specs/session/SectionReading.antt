@@ -30,8 +30,8 @@ unknown_read text =
     else if is_some (strip APPLICATION.now text) then None
     else when (is_rest text) (Unknown text)
 
-abbrev pub kind_read : List ℕ → Option MediaType
-kind_read text =
+abbrev pub media_kind_read : List ℕ → Option MediaType
+media_kind_read text =
     when (bytes_eq text AUDIO.now) Audio
     <|> when (bytes_eq text VIDEO.now) Video
     <|> when (bytes_eq text APPLICATION.now) Application
@@ -59,7 +59,7 @@ head_read content = do
   kind ← cut 32 body
   port ← cut 32 kind.1
   protocol ← cut 32 port.1
-  typ ← kind_read kind.0
+  typ ← media_kind_read kind.0
   number ← when (is_rest port.0) port.0
   proto ← proto_read protocol.0
   pts ← types_read protocol.1

@@ -5,12 +5,12 @@ ghost use Rattle.str0m_signal.specs.Prelude.{IsTheOnly, session_attribute_text};
 ghost use Rattle.str0m_signal.specs.back.Writable.{AreReadAs, MediaAreReadAs, SessionGoesWith};
 ghost use Rattle.str0m_signal.specs.form.SessionAttribute.{IsSessionLine};
 
-use crate::back::read_back::{Printed, ReadBack, read_back};
+use crate::back::read_back::{PrintedBack, ReadBack, read_back};
 use std::alloc::{AllocError, Global};
 use str0m_sdp::{MediaAttribute, SessionAttribute};
 use str0m_values::Items;
 
-impl Printed for MediaAttribute {
+impl PrintedBack for MediaAttribute {
     ghost use Rattle.std.specs.Prelude.{refl};
     ghost use Rattle.str0m_signal.specs.Prelude.{media_attribute_text};
 
@@ -29,7 +29,7 @@ impl ReadBack for MediaAttribute {
     }
 }
 
-impl Printed for SessionAttribute {
+impl PrintedBack for SessionAttribute {
     ghost use Rattle.std.specs.Prelude.{refl};
     ghost use Rattle.str0m_signal.specs.Prelude.{session_attribute_text};
 

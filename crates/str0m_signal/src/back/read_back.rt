@@ -11,7 +11,7 @@ use str0m_values::cuts::has;
 use str0m_values::{Items, Separator};
 
 /// What prints one text, whatever writes it: `text` says which.
-pub(crate) trait Printed: fmt::Display {
+pub(crate) trait PrintedBack: fmt::Display {
     ghost text: { Self → List ℕ };
 
     ghost prints: { (item : Self) → Self.output item ≡ Some (text item) };
@@ -26,7 +26,7 @@ pub(crate) trait ReadBack: Attribute {
         ensures { IsTrue result ↔ GoesWith self.now read.now };
 }
 
-fn is_plain(line: &str) -> bool
+fn has_no_end(line: &str) -> bool
     ensures { result ≡ lacks 10 line.now && lacks 13 line.now }
 {
     !has(line, Separator::LineFeed) && !has(line, Separator::CarriageReturn)
@@ -37,7 +37,7 @@ pub(crate) fn content(text: &str) -> Option<&str>
     ensures { IsTheOnly (λ line. (text.now ≡ line ++ line_end) × Lacks 10 line × Lacks 13 line) (option_copied result) }
 {
     let line = text.strip_suffix("\r\n")?;
-    if is_plain(line) { Some(line) } else { None }
+    if has_no_end(line) { Some(line) } else { None }
 }
 
 /// What was read, where it goes with the attribute.
@@ -76,7 +76,7 @@ fn text_back<A: ReadBack>(
 }
 
 /// Puts what the attribute comes back as, once it is printed and read, after the others; whether it comes back.
-fn item_back<A: ReadBack + Printed>(
+fn item_back<A: ReadBack + PrintedBack>(
     alloc: Global,
     attr: &A,
     reads: &mut Vec<A>,
@@ -88,7 +88,7 @@ fn item_back<A: ReadBack + Printed>(
 }
 
 /// What the attributes come back as, in order; `None` where one doesn't come back.
-pub(crate) fn read_back<A: ReadBack + Printed>(
+pub(crate) fn read_back<A: ReadBack + PrintedBack>(
     alloc: Global,
     attrs: &[A],
 ) -> Result<Option<Items<A>>, AllocError>

@@ -3,7 +3,7 @@
 ghost use Rattle.std.specs.List.{list_any};
 ghost use Rattle.std.specs.Prelude.{◌≡◌, ◌↔◌, IfOk, IfSome, IsTrue, option_map};
 ghost use Rattle.str0m_signal.specs.Prelude.{Consistent, IsTheOnly, MediaLine, bandwidth_text, is_of_type};
-ghost use Rattle.str0m_signal.specs.back.Writable.{HasTypes, IsFrame, IsPrintedAs, IsReadAs, frame_of};
+ghost use Rattle.str0m_signal.specs.back.Writable.{HasTypes, IsFrame, IsPrintedAs, IsMediaReadAs, frame_of};
 ghost use Rattle.str0m_signal.specs.line.Heads.{media_head};
 ghost use Rattle.str0m_signal.specs.session.Section.{IsBandwidth, IsHead};
 
@@ -103,7 +103,7 @@ fn section_back(
     section: &MediaLine,
     attrs: &[MediaAttribute],
 ) -> Result<Option<MediaLine>, AllocError>
-    ensures { IfOk result (IsTheOnly (IsReadAs (record section.now { attrs = attrs.now }))) }
+    ensures { IfOk result (IsTheOnly (IsMediaReadAs (record section.now { attrs = attrs.now }))) }
 {
     if !bandwidth_comes_back(alloc, &section.bw)? {
         return Ok(None);
@@ -120,7 +120,7 @@ fn section_back(
 
 /// Whether the section is read of its lines, and consistent then.
 pub(crate) fn comes_back(alloc: Global, section: &MediaLine) -> Result<bool, AllocError>
-    ensures { IfOk result (λ answer. IsTrue answer ↔ ((read : MediaLine) × IsReadAs section.now read × Consistent read)) }
+    ensures { IfOk result (λ answer. IsTrue answer ↔ ((read : MediaLine) × IsMediaReadAs section.now read × Consistent read)) }
 {
     match section_back(alloc, section, section.attrs.as_slice())? {
         Some(read) => Ok(read.check_consistent()?.is_none()),
@@ -153,7 +153,7 @@ fn is_frame(alloc: Global, section: MediaLine) -> Result<bool, AllocError>
 
 /// Whether the section without its lines of payload types is read of its lines, and a frame then.
 pub(crate) fn frame_comes_back(alloc: Global, section: &MediaLine) -> Result<bool, AllocError>
-    ensures { IfOk result (λ answer. IsTrue answer ↔ ((read : MediaLine) × IsReadAs (frame_of section.now) read × IsFrame read)) }
+    ensures { IfOk result (λ answer. IsTrue answer ↔ ((read : MediaLine) × IsMediaReadAs (frame_of section.now) read × IsFrame read)) }
 {
     let frame = section_of(section, &[])?;
     let read = section_back(alloc, section, frame.attrs.as_slice());

@@ -3,7 +3,7 @@
 ghost use Rattle.std.specs.Prelude.{◌≡◌, ◌≢◌, ◌↔◌, ℕ, List, IfOk, IfSome, IsTrue, Ok, Some, true, slice_get};
 ghost use Rattle.str0m_signal.specs.Prelude.{Consistent, MediaLine, PayloadParams, SessionAttribute, bandwidth_text, session_attribute_text};
 ghost use Rattle.str0m_signal.specs.back.ReadBack.{MayBePrinted, ReadsBack};
-ghost use Rattle.str0m_signal.specs.back.Writable.{AreReadAs, IsPrintedAs, IsReadAs, SessionGoesWith, Writable};
+ghost use Rattle.str0m_signal.specs.back.Writable.{AreReadAs, IsPrintedAs, IsMediaReadAs, SessionGoesWith, Writable};
 ghost use Rattle.str0m_signal.specs.back.WritableAgain.{IsOverSrtp, IsRead, MayBeWrittenAgain};
 ghost use Rattle.str0m_signal.specs.form.SessionAttribute.{IsSessionLine};
 ghost use Rattle.str0m_signal.specs.session.Section.{IsBandwidth};
@@ -28,7 +28,7 @@ fn session_comes_back(alloc: Global, session: &Session) -> Result<bool, AllocErr
 /// Whether each section but one comes back.
 fn others_come_back(alloc: Global, sections: &[MediaLine], own: usize) -> Result<bool, AllocError>
     ensures { IfOk result (λ answer. IsTrue answer ↔ ((j : ℕ) (m : MediaLine) → slice_get sections.now j ≡ Some m → j ≢ own
-        → (read : MediaLine) × IsReadAs m read × Consistent read)) }
+        → (read : MediaLine) × IsMediaReadAs m read × Consistent read)) }
 {
     for (i, section) in sections.iter().enumerate() {
         if i != own && !comes_back(alloc, section)? {

@@ -6,7 +6,7 @@ ghost use Rattle.str0m_signal.specs.line.LinesReading.{lines_of, line_read, left
 ghost use Rattle.str0m_signal.specs.session.Section.{IsBandwidth};
 ghost use Rattle.str0m_signal.specs.session.SectionReading.{bandwidth_read};
 
-use crate::line::lines::plain_line;
+use crate::line::lines::clean_line;
 use std::alloc::{AllocError, Global};
 use str0m_sdp::Bandwidth;
 use str0m_values::cuts::{cut, strip};
@@ -32,7 +32,7 @@ pub(crate) fn bandwidth(alloc: Global, line: &str) -> Result<Option<Bandwidth>, 
 fn read_bandwidth(alloc: Global, text: &str) -> Result<Option<(Bandwidth, &str)>, AllocError>
     ensures { IfOk result (λ found. option_map left found ≡ line_read bandwidth_read (lines_of text.now)) }
 {
-    let Some((line, rest)) = plain_line(text) else {
+    let Some((line, rest)) = clean_line(text) else {
         return Ok(None);
     };
     match bandwidth(alloc, line)? {

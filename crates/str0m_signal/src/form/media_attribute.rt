@@ -2,7 +2,7 @@
 
 ghost use Rattle.std.specs.Prelude.{◌≡◌, IfOk};
 ghost use Rattle.str0m_sdp.specs.declared.attribute.MediaAttribute.TheVariants.{Fingerprint, Setup, Candidate, Unused};
-ghost use Rattle.str0m_signal.specs.form.FormTable.{made, pairs, texts, unused_read, first_byte, letter_read};
+ghost use Rattle.str0m_signal.specs.form.FormTable.{made_as, pairs, texts, unused_read, first_byte, letter_read};
 ghost use Rattle.str0m_signal.specs.form.FormTransport.{candidate, fingerprint, setup};
 ghost use Rattle.str0m_signal.specs.form.MediaAttribute.{media_texts, media_pairs, rtcp, mid, sctp_port, sctp_init, max_message_size, media_forms, named_read, media_read, IsMediaLine};
 ghost use Rattle.str0m_signal.specs.line.Lines.{Run, OneLine};
@@ -24,7 +24,7 @@ use str0m_values::cuts::{num_u16, strip};
 use str0m_values::{Items, Text};
 
 /// The attributes that are a label and a text.
-fn labelled_text(alloc: Global, text: &str) -> Result<Option<MediaAttribute>, AllocError>
+fn media_text(alloc: Global, text: &str) -> Result<Option<MediaAttribute>, AllocError>
     ensures { IfOk result (λ found. found ≡ (texts media_texts).read text.now) }
 {
     if let Some(value) = kept(alloc, text, label::ICE_UFRAG)? {
@@ -84,8 +84,8 @@ fn max_message_size(text: &str) -> Option<MediaAttribute>
     Some(MediaAttribute::MaxMessageSize(num_u64(body)?))
 }
 
-fn fingerprint_form(alloc: Global, text: &str) -> Result<Option<MediaAttribute>, AllocError>
-    ensures { IfOk result (λ found. found ≡ (made fingerprint Fingerprint).read text.now) }
+fn media_fingerprint(alloc: Global, text: &str) -> Result<Option<MediaAttribute>, AllocError>
+    ensures { IfOk result (λ found. found ≡ (made_as fingerprint Fingerprint).read text.now) }
 {
     match fingerprint(alloc, text)? {
         Some(hash) => Ok(Some(MediaAttribute::Fingerprint(hash))),
@@ -93,8 +93,8 @@ fn fingerprint_form(alloc: Global, text: &str) -> Result<Option<MediaAttribute>,
     }
 }
 
-fn candidate_form(alloc: Global, text: &str) -> Result<Option<MediaAttribute>, AllocError>
-    ensures { IfOk result (λ found. found ≡ (made candidate Candidate).read text.now) }
+fn media_candidate(alloc: Global, text: &str) -> Result<Option<MediaAttribute>, AllocError>
+    ensures { IfOk result (λ found. found ≡ (made_as candidate Candidate).read text.now) }
 {
     match candidate(alloc, text)? {
         Some(candidate) => Ok(Some(MediaAttribute::Candidate(candidate))),
@@ -102,7 +102,7 @@ fn candidate_form(alloc: Global, text: &str) -> Result<Option<MediaAttribute>, A
     }
 }
 
-fn setup(text: &str) -> Option<MediaAttribute>
+fn media_setup(text: &str) -> Option<MediaAttribute>
     ensures { result ≡ (setup Setup).read text.now }
 {
     let word = strip(text, label::SETUP)?;
@@ -144,7 +144,7 @@ fn with_f<P: Place<MediaAttribute>>(
     if taken_result(fmtp(alloc, text), place)? {
         return Ok(true);
     }
-    taken_result(fingerprint_form(alloc, text), place)
+    taken_result(media_fingerprint(alloc, text), place)
 }
 
 /// The forms whose names begin with `i`.
@@ -155,7 +155,7 @@ fn with_i<P: Place<MediaAttribute>>(
 ) -> Result<bool, AllocError>
     ensures { IfOk result (Takes P.Puts (letter_read media_forms 105 text.now) place.old place.new) }
 {
-    if taken_result(labelled_text(alloc, text), place)? {
+    if taken_result(media_text(alloc, text), place)? {
         return Ok(true);
     }
     taken(MediaAttribute::from_word(text), place)
@@ -212,7 +212,7 @@ fn with_s<P: Place<MediaAttribute>>(
     if taken_result(ssrc(alloc, text), place)? {
         return Ok(true);
     }
-    if taken(setup(text), place)? {
+    if taken(media_setup(text), place)? {
         return Ok(true);
     }
     if taken_result(ssrc_group(alloc, text), place)? {
@@ -240,7 +240,7 @@ fn first_byte(text: &str) -> u8
 }
 
 /// The attribute whose form is named: only forms whose names begin as the text does are asked.
-fn named<P: Place<MediaAttribute>>(
+fn media_named<P: Place<MediaAttribute>>(
     alloc: Global,
     text: &str,
     place: &mut P,
@@ -248,7 +248,7 @@ fn named<P: Place<MediaAttribute>>(
     ensures { IfOk result (Takes P.Puts (named_read text.now) place.old place.new) }
 {
     match first_byte(text) {
-        b'c' => taken_result(candidate_form(alloc, text), place),
+        b'c' => taken_result(media_candidate(alloc, text), place),
         b'e' => with_e(alloc, text, place),
         b'f' => with_f(alloc, text, place),
         b'i' => with_i(alloc, text, place),
@@ -260,7 +260,7 @@ fn named<P: Place<MediaAttribute>>(
 }
 
 /// What isn't empty, as it stands.
-fn unused(alloc: Global, text: &str) -> Result<Option<MediaAttribute>, AllocError>
+fn media_unused(alloc: Global, text: &str) -> Result<Option<MediaAttribute>, AllocError>
     ensures { IfOk result (λ found. found ≡ unused_read Unused text.now) }
 {
     if text.is_empty() {
@@ -277,10 +277,10 @@ impl Attribute for MediaAttribute {
         text: &str,
         place: &mut P,
     ) -> Result<bool, AllocError> {
-        if named(alloc, text, place)? {
+        if media_named(alloc, text, place)? {
             return Ok(true);
         }
-        taken_result(unused(alloc, text), place)
+        taken_result(media_unused(alloc, text), place)
     }
 }
 

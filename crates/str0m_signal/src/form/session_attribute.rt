@@ -2,7 +2,7 @@
 
 ghost use Rattle.std.specs.Prelude.{◌≡◌, IfOk};
 ghost use Rattle.str0m_sdp.specs.declared.attribute.SessionAttribute.TheVariants.{Setup, Fingerprint, Candidate, Unused};
-ghost use Rattle.str0m_signal.specs.form.FormTable.{made, any, texts, unused_read};
+ghost use Rattle.str0m_signal.specs.form.FormTable.{made_as, any, texts, unused_read};
 ghost use Rattle.str0m_signal.specs.form.FormTransport.{candidate, fingerprint, setup};
 ghost use Rattle.str0m_signal.specs.form.SessionAttribute.{session_texts, session_forms, session_read, IsSessionLine};
 ghost use Rattle.str0m_signal.specs.line.Lines.{Run, OneLine};
@@ -18,7 +18,7 @@ use str0m_values::candidate_text::candidate;
 use str0m_values::cuts::strip;
 use str0m_values::{Items, Text};
 
-fn setup(text: &str) -> Option<SessionAttribute>
+fn session_setup(text: &str) -> Option<SessionAttribute>
     ensures { result ≡ (setup Setup).read text.now }
 {
     let word = strip(text, label::SETUP)?;
@@ -26,7 +26,7 @@ fn setup(text: &str) -> Option<SessionAttribute>
 }
 
 /// The attributes that are a label and a text.
-fn labelled_text(alloc: Global, text: &str) -> Result<Option<SessionAttribute>, AllocError>
+fn session_text(alloc: Global, text: &str) -> Result<Option<SessionAttribute>, AllocError>
     ensures { IfOk result (λ found. found ≡ (texts session_texts).read text.now) }
 {
     if let Some(value) = kept(alloc, text, label::ICE_UFRAG)? {
@@ -41,8 +41,8 @@ fn labelled_text(alloc: Global, text: &str) -> Result<Option<SessionAttribute>, 
     Ok(None)
 }
 
-fn fingerprint_form(alloc: Global, text: &str) -> Result<Option<SessionAttribute>, AllocError>
-    ensures { IfOk result (λ found. found ≡ (made fingerprint Fingerprint).read text.now) }
+fn session_fingerprint(alloc: Global, text: &str) -> Result<Option<SessionAttribute>, AllocError>
+    ensures { IfOk result (λ found. found ≡ (made_as fingerprint Fingerprint).read text.now) }
 {
     match fingerprint(alloc, text)? {
         Some(hash) => Ok(Some(SessionAttribute::Fingerprint(hash))),
@@ -50,8 +50,8 @@ fn fingerprint_form(alloc: Global, text: &str) -> Result<Option<SessionAttribute
     }
 }
 
-fn candidate_form(alloc: Global, text: &str) -> Result<Option<SessionAttribute>, AllocError>
-    ensures { IfOk result (λ found. found ≡ (made candidate Candidate).read text.now) }
+fn session_candidate(alloc: Global, text: &str) -> Result<Option<SessionAttribute>, AllocError>
+    ensures { IfOk result (λ found. found ≡ (made_as candidate Candidate).read text.now) }
 {
     match candidate(alloc, text)? {
         Some(candidate) => Ok(Some(SessionAttribute::Candidate(candidate))),
@@ -59,13 +59,13 @@ fn candidate_form(alloc: Global, text: &str) -> Result<Option<SessionAttribute>,
     }
 }
 
-fn named(alloc: Global, text: &str) -> Result<Option<SessionAttribute>, AllocError>
+fn session_named(alloc: Global, text: &str) -> Result<Option<SessionAttribute>, AllocError>
     ensures { IfOk result (λ found. found ≡ (any session_forms).read text.now) }
 {
     if let Some(found) = SessionAttribute::from_word(text) {
         return Ok(Some(found));
     }
-    if let Some(found) = setup(text) {
+    if let Some(found) = session_setup(text) {
         return Ok(Some(found));
     }
     if let Some(found) = group(alloc, text)? {
@@ -74,17 +74,17 @@ fn named(alloc: Global, text: &str) -> Result<Option<SessionAttribute>, AllocErr
     if let Some(found) = msid_semantic(alloc, text)? {
         return Ok(Some(found));
     }
-    if let Some(found) = labelled_text(alloc, text)? {
+    if let Some(found) = session_text(alloc, text)? {
         return Ok(Some(found));
     }
-    if let Some(found) = fingerprint_form(alloc, text)? {
+    if let Some(found) = session_fingerprint(alloc, text)? {
         return Ok(Some(found));
     }
-    candidate_form(alloc, text)
+    session_candidate(alloc, text)
 }
 
 /// What isn't empty, as it stands.
-fn unused(alloc: Global, text: &str) -> Result<Option<SessionAttribute>, AllocError>
+fn session_unused(alloc: Global, text: &str) -> Result<Option<SessionAttribute>, AllocError>
     ensures { IfOk result (λ found. found ≡ unused_read Unused text.now) }
 {
     if text.is_empty() {
@@ -101,10 +101,10 @@ impl Attribute for SessionAttribute {
         text: &str,
         place: &mut P,
     ) -> Result<bool, AllocError> {
-        if taken(named(alloc, text)?, place)? {
+        if taken(session_named(alloc, text)?, place)? {
             return Ok(true);
         }
-        taken(unused(alloc, text)?, place)
+        taken(session_unused(alloc, text)?, place)
     }
 }
 

@@ -3,7 +3,7 @@ ghost use Rattle.std.specs.List.{list_all};
 ghost use Rattle.std.specs.Prelude.{◌≡◌, IfOk, option_map, chars};
 ghost use Rattle.str0m_signal.specs.form.MediaAttribute.{simulcast};
 ghost use Rattle.str0m_signal.specs.form.RidStreamName.{is_name_character, is_stream_name};
-ghost use Rattle.str0m_signal.specs.form.SimulcastReading.{sides_of, alternative_read, first_read, layer_read, sides_read, layers_of, simulcast_fields_read};
+ghost use Rattle.str0m_signal.specs.form.SimulcastReading.{sides_of, alternative_read, first_name_read, layer_read, sides_read, layers_of, simulcast_fields_read};
 
 use crate::line::parts::{Part, are_parts, parts};
 use std::alloc::{AllocError, Global};
@@ -76,7 +76,7 @@ impl Part for RestrictionId {
 
 /// The first of several names; the others aren't kept.
 fn first_name(alloc: Global, text: &str) -> Result<Option<RestrictionId>, AllocError>
-    ensures { IfOk result (λ found. found ≡ first_read text.now) }
+    ensures { IfOk result (λ found. found ≡ first_name_read text.now) }
 {
     let Some((first, others)) = cut(text, Separator::Comma) else {
         return RestrictionId::read(alloc, text);
@@ -117,20 +117,20 @@ impl Part for SimulcastLayer {
 
 /// The layers of a side, and of the other one where it follows.
 #[derive(Drop)]
-struct Sides {
+struct LayerSides {
     first: Items<SimulcastLayer>,
     second: Items<SimulcastLayer>,
 }
 
 /// Memory is asked for only where both sides can be read.
-fn both_sides(alloc: Global, text: &str, other: &str) -> Result<Option<Sides>, AllocError>
+fn both_sides(alloc: Global, text: &str, other: &str) -> Result<Option<LayerSides>, AllocError>
     ensures { IfOk result (λ found. option_map sides_of found ≡ sides_read other.now text.now) }
 {
     let Some((front, behind)) = cut(text, Separator::Space) else {
         return match parts::<SimulcastLayer>(alloc, text, Separator::Semicolon)? {
             Some(first) => {
                 let second = Items::empty(alloc);
-                Ok(Some(Sides { first, second }))
+                Ok(Some(LayerSides { first, second }))
             }
             None => Ok(None),
         };
@@ -147,7 +147,7 @@ fn both_sides(alloc: Global, text: &str, other: &str) -> Result<Option<Sides>, A
     let Some(second) = parts::<SimulcastLayer>(alloc, rest, Separator::Semicolon)? else {
         return Ok(None);
     };
-    Ok(Some(Sides { first, second }))
+    Ok(Some(LayerSides { first, second }))
 }
 
 /// The layers of the text after the label.
@@ -155,7 +155,7 @@ fn layers(alloc: Global, text: &str) -> Result<Option<Simulcast>, AllocError>
     ensures { IfOk result (λ found. found ≡ simulcast_fields_read text.now) }
 {
     if let Some(body) = strip(text, "send ") {
-        let Some(Sides { first, second }) = both_sides(alloc, body, "recv ")? else {
+        let Some(LayerSides { first, second }) = both_sides(alloc, body, "recv ")? else {
             return Ok(None);
         };
         return Ok(Some(simulcast(first, second)));
@@ -163,7 +163,7 @@ fn layers(alloc: Global, text: &str) -> Result<Option<Simulcast>, AllocError>
     let Some(body) = strip(text, "recv ") else {
         return Ok(None);
     };
-    let Some(Sides { first, second }) = both_sides(alloc, body, "send ")? else {
+    let Some(LayerSides { first, second }) = both_sides(alloc, body, "send ")? else {
         return Ok(None);
     };
     Ok(Some(simulcast(second, first)))

@@ -1,6 +1,6 @@
 //! The values of fmtp lines that have no keys.
 ghost use Rattle.std.specs.Prelude.{◌≡◌, ◌∷◌, [], Some};
-ghost use Rattle.str0m_signal.specs.form.FmtpReading.{first_read, range_read, bare_read};
+ghost use Rattle.str0m_signal.specs.form.FmtpReading.{first_number_read, range_read, bare_read};
 ghost use Rattle.str0m_signal.specs.form.FormReading.{digits_read};
 
 use crate::line::parts::are_parts;
@@ -11,7 +11,7 @@ use str0m_values::{Pt, Separator};
 
 /// The first of two or more payload types that are parted by `/`.
 fn first(text: &str) -> Option<u8>
-    ensures { result ≡ first_read text.now }
+    ensures { result ≡ first_number_read text.now }
 {
     let (front, others) = cut(text, Separator::Slash)?;
     let first = num_u8(front, 255)?;

@@ -8,7 +8,7 @@ ghost use Rattle.str0m_signal.specs.form.MediaAttributeReading.{role_read};
 ghost use Rattle.str0m_signal.specs.line.LinesReading.{lines_of, line_read, both_left};
 ghost use Rattle.str0m_signal.specs.session.SectionReading.{field_read};
 
-use crate::line::lines::plain_line;
+use crate::line::lines::clean_line;
 use std::alloc::{AllocError, Global};
 use str0m_sdp::{SETUPS, Setup};
 use str0m_values::cuts::{cut, strip};
@@ -26,7 +26,7 @@ pub(crate) fn field<'a>(line: &'a str, label: &str) -> Option<&'a str>
 pub(crate) fn read_field<'a>(text: &'a str, label: &str) -> Option<(&'a str, &'a str)>
     ensures { option_map both_left result ≡ line_read (field_read label.now) (lines_of text.now) }
 {
-    let (line, rest) = plain_line(text)?;
+    let (line, rest) = clean_line(text)?;
     Some((field(line, label)?, rest))
 }
 

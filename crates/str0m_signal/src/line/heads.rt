@@ -2,7 +2,7 @@
 
 ghost use Rattle.std.specs.Prelude.{◌≡◌, IfOk, codes, is_some, option_map, bytes_eq};
 ghost use Rattle.str0m_signal.specs.line.Heads.{kind_is, media_head};
-ghost use Rattle.str0m_signal.specs.session.SectionReading.{unknown_read, kind_read, proto_read, types_read, head_read};
+ghost use Rattle.str0m_signal.specs.session.SectionReading.{unknown_read, media_kind_read, proto_read, types_read, head_read};
 
 use crate::line::parts::parts;
 use crate::line::words::Number;
@@ -57,7 +57,7 @@ fn unknown(text: &str) -> Option<Kind<'_>>
 }
 
 fn kind_of(text: &str) -> Option<Kind<'_>>
-    ensures { option_map kind_is result ≡ kind_read text.now }
+    ensures { option_map kind_is result ≡ media_kind_read text.now }
 {
     match text {
         AUDIO => Some(Kind::Audio),

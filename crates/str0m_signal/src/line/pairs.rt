@@ -3,7 +3,7 @@
 ghost use Rattle.std.specs.List.{list_any};
 ghost use Rattle.std.specs.Prelude.{◌≡◌, IfOk, option_map};
 ghost use Rattle.str0m_signal.specs.Prelude.{pair_texts, parts};
-ghost use Rattle.str0m_signal.specs.form.FmtpReading.{IsValueEnd, ends_value, is_blank, value_read, skip_blanks, next_read, key_read, pair_read, pairs_read};
+ghost use Rattle.str0m_signal.specs.form.FmtpReading.{IsValueEnd, ends_value, is_blank, fmtp_value_read, skip_blanks, fmtp_next_read, fmtp_key_read, pair_read, pairs_read};
 
 use std::alloc::{AllocError, Global};
 use str0m_values::Separator;
@@ -29,7 +29,7 @@ fn value_end(bytes: &[u8]) -> usize
 
 /// A value, which ends at `;`, space or tab, and what follows it.
 pub(crate) fn value(text: &str) -> Option<(&str, &str)>
-    ensures { parts result ≡ value_read text.now }
+    ensures { parts result ≡ fmtp_value_read text.now }
 {
     let at = value_end(text.as_bytes());
     if at == 0 {
@@ -71,7 +71,7 @@ fn is_blank(byte: u8) -> bool
 /// A key: one or more characters other than space and tab.
 #[tactic(auto, using(crate::proofs::line::PairLaws::key_is))]
 pub(crate) fn key(text: &str) -> Option<&str>
-    ensures { option_map (λ x. x.now) result ≡ key_read text.now }
+    ensures { option_map (λ x. x.now) result ≡ fmtp_key_read text.now }
 {
     if has_blank(text.as_bytes()) {
         return None;
@@ -80,8 +80,8 @@ pub(crate) fn key(text: &str) -> Option<&str>
 }
 
 /// What stands after a value and its blanks: the end, or `;` and more.
-fn next(text: &str) -> Option<Option<&str>>
-    ensures { option_map (λ o. option_map (λ x. x.now) o) result ≡ next_read text.now }
+fn fmtp_next(text: &str) -> Option<Option<&str>>
+    ensures { option_map (λ o. option_map (λ x. x.now) o) result ≡ fmtp_next_read text.now }
 {
     if text.is_empty() {
         return Some(None);
@@ -100,7 +100,7 @@ fn pair(text: &str) -> Option<(&str, &str, Option<&str>)>
     let (front, behind) = cut(text, Separator::Equals)?;
     let key = key(front)?;
     let (value, behind) = value(behind)?;
-    let more = next(skip_blanks(behind))?;
+    let more = fmtp_next(skip_blanks(behind))?;
     Some((key, value, more))
 }
 

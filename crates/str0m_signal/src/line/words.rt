@@ -1,7 +1,7 @@
 //! The items of lists.
 ghost use Rattle.std.specs.Prelude.{◌≡◌, ◌&&◌};
 ghost use Rattle.str0m_signal.specs.Prelude.{is_rest, lacks, num};
-ghost use Rattle.str0m_signal.specs.line.WordsReading.{word_read, name_read, digit_read, hex_pair_read, without_space};
+ghost use Rattle.str0m_signal.specs.line.WordsReading.{word_text_read, name_read, digit_read, hex_pair_read, without_space};
 
 use crate::line::fields::short;
 use crate::line::parts::Part;
@@ -19,7 +19,7 @@ fn is_word(text: &str) -> bool
 impl Part for Text {
     type Value = Text;
 
-    ghost reading = { word_read };
+    ghost reading = { word_text_read };
 
     fn is_part(text: &str) -> bool {
         is_word(text)

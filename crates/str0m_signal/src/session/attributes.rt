@@ -2,9 +2,9 @@
 
 ghost use Rattle.std.specs.Prelude.{◌≡◌, ◌∷◌, ◌++◌, [], ℕ, List, Ok, Option, Some, IfOk, option_map};
 ghost use Rattle.str0m_signal.specs.line.Lines.{Run};
-ghost use Rattle.str0m_signal.specs.line.LinesReading.{lines_of, line_read, read_attribute, left, IsRead, Takes, TakesLine};
+ghost use Rattle.str0m_signal.specs.line.LinesReading.{lines_of, line_read, read_attribute, left, ReadsTo, Takes, TakesLine};
 
-use crate::line::lines::plain_line;
+use crate::line::lines::clean_line;
 use std::alloc::{AllocError, Global};
 use str0m_values::Items;
 use str0m_values::cuts::strip;
@@ -111,7 +111,7 @@ pub(crate) fn next_line<A: Attribute>(
 ) -> Result<Option<(A, &str)>, AllocError>
     ensures { IfOk result (λ found. option_map left found ≡ line_read (read_attribute A.reading) (lines_of text.now)) }
 {
-    let Some((content, rest)) = plain_line(text) else {
+    let Some((content, rest)) = clean_line(text) else {
         return Ok(None);
     };
     match line(alloc, content)? {
@@ -128,7 +128,7 @@ fn take_line<'a, A: Attribute>(
 ) -> Result<Option<&'a str>, AllocError>
     ensures { IfOk result (λ rest. TakesLine (read_attribute A.reading) (lines_of text.now) attributes.old.items attributes.new.items rest) }
 {
-    let Some((content, rest)) = plain_line(text) else {
+    let Some((content, rest)) = clean_line(text) else {
         return Ok(None);
     };
     if take_content(alloc, content, attributes)? {
@@ -156,7 +156,7 @@ pub(crate) fn attribute_run<A: Attribute>(
     alloc: Global,
     text: &str,
 ) -> Result<(Items<A>, &str), AllocError>
-    ensures { IfOk result (λ found. Run (IsRead (read_attribute A.reading)) (lines_of text.now) found.0 (lines_of found.1.now)) }
+    ensures { IfOk result (λ found. Run (ReadsTo (read_attribute A.reading)) (lines_of text.now) found.0 (lines_of found.1.now)) }
 {
     let mut attributes = Vec::new(alloc);
     let mut rest = text;

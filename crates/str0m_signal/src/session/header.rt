@@ -11,7 +11,7 @@ ghost use Rattle.str0m_signal.specs.session.Section.{IsField};
 
 use crate::form::bandwidth::take_bandwidth;
 use crate::line::fields::{field, num_u64, read_field};
-use crate::line::lines::plain_line;
+use crate::line::lines::clean_line;
 use std::alloc::{AllocError, Global};
 use str0m_sdp::Bandwidth;
 use str0m_values::cuts::{cut, strip};
@@ -28,11 +28,11 @@ pub(crate) struct SessionHead {
 fn exact<'a>(text: &'a str, word: &str) -> Option<&'a str>
     ensures { option_map (λ x. (word.now, lines_of x.now)) result ≡ line_read (exact_read word.now) (lines_of text.now) }
 {
-    let (line, rest) = plain_line(text)?;
+    let (line, rest) = clean_line(text)?;
     if line == word { Some(rest) } else { None }
 }
 
-fn digits(text: &str) -> Option<u64>
+fn id_digits(text: &str) -> Option<u64>
     ensures { result ≡ digits_read 18446744073709551615 text.now }
 {
     if strip(text, "+").is_some() {
@@ -51,14 +51,14 @@ fn origin(line: &str) -> Option<u64>
         return None;
     }
     let (number, more) = cut(body, Separator::Space)?;
-    let id = digits(number)?;
+    let id = id_digits(number)?;
     if more.is_empty() { None } else { Some(id) }
 }
 
 fn read_origin(text: &str) -> Option<(u64, &str)>
     ensures { option_map left result ≡ line_read origin_read (lines_of text.now) }
 {
-    let (line, rest) = plain_line(text)?;
+    let (line, rest) = clean_line(text)?;
     Some((origin(line)?, rest))
 }
 
@@ -100,7 +100,7 @@ fn info(line: &str) -> Option<&str>
 fn read_info(text: &str) -> Option<(&str, &str)>
     ensures { option_map both_left result ≡ line_read info_read (lines_of text.now) }
 {
-    let (line, rest) = plain_line(text)?;
+    let (line, rest) = clean_line(text)?;
     Some((info(line)?, rest))
 }
 

@@ -8,7 +8,7 @@ ghost use Rattle.str0m_signal.specs.form.SessionAttribute.{IsSessionLine};
 ghost use Rattle.str0m_signal.specs.line.Lines.{FirstLine};
 ghost use Rattle.str0m_signal.specs.line.LinesReading.{left, line_read, lines_of, read_attribute};
 ghost use Rattle.str0m_signal.specs.session.Reader.{IsFromLine, Sections, IsSession, IsReading, Reading, SessionReading};
-ghost use Rattle.str0m_signal.specs.session.ReaderAnswers.{Answers, AtMostOne, Gives, IsRefusal, unread};
+ghost use Rattle.str0m_signal.specs.session.ReaderAnswers.{Answers, AtMostOne, GivesRead, IsRefusal, unread};
 
 use crate::form::session_attribute::session_attributes;
 use crate::session::attributes::{Attribute, next_line};
@@ -69,7 +69,7 @@ fn read_sdp(alloc: Global, text: &str) -> Result<(Sdp, &str), SdpError>
 
 /// The attribute of the first line, where it is one.
 fn first_attribute<A: Attribute>(alloc: Global, text: &str) -> Result<(A, &str), SdpError>
-    ensures { Gives left result (line_read (read_attribute A.reading) (lines_of text.now)) }
+    ensures { GivesRead left result (line_read (read_attribute A.reading) (lines_of text.now)) }
 {
     match next_line(alloc, text)? {
         Some(found) => Ok(found),

@@ -11,7 +11,7 @@ use crate::form::bandwidth::take_bandwidth;
 use crate::form::media_attribute::media_attributes;
 use crate::line::fields::read_field;
 use crate::line::heads::{MediaHead, head};
-use crate::line::lines::plain_line;
+use crate::line::lines::clean_line;
 use std::alloc::{AllocError, Global};
 use str0m_sdp::MediaLine;
 
@@ -27,7 +27,7 @@ fn skip_connection(text: &str) -> &str
 fn read_head(alloc: Global, text: &str) -> Result<Option<(MediaHead, &str)>, AllocError>
     ensures { IfOk result (λ found. option_map media_head_left found ≡ line_read head_read (lines_of text.now)) }
 {
-    let Some((line, rest)) = plain_line(text) else {
+    let Some((line, rest)) = clean_line(text) else {
         return Ok(None);
     };
     match head(alloc, line)? {

@@ -1,7 +1,7 @@
 use Rattle.c_calls.proofs.OfferCallsFilled.{of_full}
 use Rattle.c_calls.proofs.offer_calls.zaxp_exchange_create_offer.Goals as goal
 use Rattle.c_calls.specs.Common.{Of}
-use Rattle.c_parts.specs.Fault.{Refuses, Told}
+use Rattle.c_parts.specs.Fault.{RefusesCall, ToldFault}
 use Rattle.c_parts.specs.declared.fault.Fault.TheVariants.{Refused}
 use Rattle.exchange.specs.declared.state.exchange.Exchange.{Exchange}
 use Rattle.exchange.specs.declared.state.exchange_error.ExchangeError.TheVariants.{Memory}
@@ -16,5 +16,5 @@ returns-in_default-clause-refused c = λ failed. of_full _ c.args.handle.now.inn
 -- the fault is the error of the exchange
 pub returns-in-Err-clause-refused : goal.returns-in-Err-clause-refused
 returns-in-Err-clause-refused c = λ failed.
-    subst (λ (inner : Option Exchange). Of inner (λ before. Told (Refuses (RefusesToOffer before)) c.tell_error.result)) (sym c.take-exchange.ensures.0)
+    subst (λ (inner : Option Exchange). Of inner (λ before. ToldFault (RefusesCall (RefusesToOffer before)) c.tell_error.result)) (sym c.take-exchange.ensures.0)
     (Refused c.in-Err.error, subst (λ (before : Exchange). RefusesToOffer before c.in-Err.error) c.deref_mut.ensures.value c.in-Err.ensures.refused, c.tell_error.ensures.code)

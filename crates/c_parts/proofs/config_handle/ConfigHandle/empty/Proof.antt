@@ -1,5 +1,5 @@
 -- `empty` puts null beside the allocator, and an empty handle owns nothing more.
-use Rattle.c_parts.proofs.ConfigHandleAsBox.{E}
+use Rattle.c_parts.proofs.ConfigHandleAsBox.{ConfigBoxed as E}
 use Rattle.c_parts.proofs.PartsSteps.{◌≡◌, refl, List, [], ◌∷◌, ◌++◌, w64, Val, vint, vstruct, of_list, has_ty, SProp, id⊢, ftrue, fsep, WpFn, tables, ‵, raw, ◌⊛◌, ◌$◌, ◌∵◌, !, qed, by, move, keep, use1, fjoin, fpack, feq_i, prop, regoal, agg, lit, no_more, and_then, returns, enter, alloc_all, pass_all, free_all, look_at, get, sets, RattleType, Valss, RawPtr, yes, null_ptr, ptr_val, type_at, plain, nothing, Stays, stay_dropped, walk_of, Goes-dropped, handle_tells, proved_at, leaves, lit<, within, shape, to, and_tt, α, takes, told, spent}
 use Rattle.c_parts.proofs.config_handle.ConfigHandle.empty.Code as code
 use Rattle.c_parts.proofs.config_handle.ConfigHandle.empty.Statement.{statement}

@@ -1,5 +1,5 @@
 -- `into_parts` moves two fields of a full handle, and what they own goes with them.
-use Rattle.c_parts.proofs.ConfigHandleAsBox.{E, FromHandle as From}
+use Rattle.c_parts.proofs.ConfigHandleAsBox.{ConfigBoxed as E, FromConfigHandle as From}
 use Rattle.c_parts.proofs.PartsFullness.{full_is}
 use Rattle.c_parts.proofs.PartsSteps.{◌≡◌, refl, [], ◌∷◌, ◌++◌, Val, SProp, id⊢, ftrue, fsep, WpFn, fact, tables, ‵, raw, ◌⊛◌, ◌$◌, ◌∵◌, !, qed, by, move, keep, use1, rewrite, prop, agg, no_more, and_then, of_opd, returns, enter, alloc_all, pass_all, free_all, look_at, get, sets, RattleType, yes, type_at, heard, Stays, stay_dropped, walk_of, Goes-dropped, proved_at, leaves, X, D, B, word, box_typed, box_in, takes, begins, told, spent, field_of}
 use Rattle.c_parts.proofs.config_handle.ConfigHandle.into_parts.Code as code

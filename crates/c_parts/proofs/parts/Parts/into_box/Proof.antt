@@ -1,5 +1,5 @@
 -- `into_box` hands what the parts own to `from_raw`.
-use Rattle.c_parts.proofs.PartsSteps.{◌≡◌, refl, [], ◌∷◌, ◌++◌, inst_fn, Val, vptr, SProp, id⊢, fst∗, ftrue, fsep, WpFn, fact, ◌⊑◌, tables, ‵, raw, ◌⊛◌, at_ret, ◌$◌, ◌∵◌, !, qed, by, move, keep, use1, join, split3, group, prop, no_more, and_then, of_opd, returns, enter, first, blocks, exec, alloc_all, pass_all, free_all, look_at, get, sets, lands_last, env, RattleType, no, block_ptr, plain, calls_at_last, Stays, stay_dropped, walk_of, Goes-blank, after, fm, proved_at, leaves, D, R, P, B, args, word, box_typed, alive, boxed, asked, takes, begins, one_box, apart, answer, spent, field_of}
+use Rattle.c_parts.proofs.PartsSteps.{◌≡◌, refl, [], ◌∷◌, ◌++◌, inst_fn, Val, vptr, SProp, id⊢, fst∗, ftrue, fsep, WpFn, fact, ◌⊑◌, tables, ‵, raw, ◌⊛◌, at_ret, ◌$◌, ◌∵◌, !, qed, by, move, keep, use1, join, split3, group, prop, no_more, and_then, of_opd, returns, enter, first, blocks, exec, alloc_all, pass_all, free_all, look_at, get, sets, lands_last, env, RattleType, no, block_ptr, plain, calls_at_last, Stays, stay_dropped, walk_of, Goes-blank, after, fm, proved_at, leaves, D, R, P, B, args, word, box_typed, alive, boxed, asked_triple, takes, begins, one_box, box_apart, answer, spent, field_of}
 use Rattle.c_parts.proofs.parts.Parts.into_box.Code as code
 use Rattle.c_parts.proofs.parts.Parts.into_box.Statement.{statement}
 use Rattle.c_parts.specs.contracts.parts.Parts as parts
@@ -20,8 +20,8 @@ into_box_spec 𝓤 𝓛 𝓜 𝓡 wired X Z LX LZ g d dd allocator freed =
     let lasting = raw (fact 𝓤 (z.0.0.0 ⊑ X.lives)) ⊛ raw (fact 𝓤 (z.0.0.1.0 ⊑ Z.lives)) ⊛ ‵ ftrue in
     qed 𝓛 ((raw (alive 𝓛 S.signature z.0.0 z.0.1) ⊛ ‵ (fsep ((B E).own_val held z.0.4.0) ftrue)) ∷ lasting ∷ []) ∵
     -- the parts are one word, an allocator and a pointer
-    takes ! $ begins E held z.0.4.0 (λ vs. prop (WpFn 𝓤 H 𝓣.C 𝓣.Λ fn (vs ++ []) Post)) ! refl (λ b o hv at fits. apart E held b o hv ! $
-    let k = asked 𝓛 T e in let w = word E hv b o in let y : k.Ghost = ((z.0.0, z.0.1, tt, (held.alloc, (block_ptr b o, tt)), (hv ∷ [], (vptr b o ∷ [], tt))), held.value) in
+    takes ! $ begins E held z.0.4.0 (λ vs. prop (WpFn 𝓤 H 𝓣.C 𝓣.Λ fn (vs ++ []) Post)) ! refl (λ b o hv at fits. box_apart E held b o hv ! $
+    let k = asked_triple 𝓛 T e in let w = word E hv b o in let y : k.Ghost = ((z.0.0, z.0.1, tt, (held.alloc, (block_ptr b o, tt)), (hv ∷ [], (vptr b o ∷ [], tt))), held.value) in
     -- [the two lifetimes; nothing; the arguments; what lies there; the tokens], and of it what `from_raw` requires
     move ! (3 ∷ []) $ split3 ! $ keep ! (0 ∷ 1 ∷ 4 ∷ 3 ∷ 5 ∷ []) $ group ! 3 $ move ! (2 ∷ 1 ∷ 0 ∷ []) $ join ! $ join ! $ use1 𝓛 (raw (k.pre y)) (id⊢ 𝓤 _) $
     enter ! 𝓣.C 𝓣.Λ fn (w ∷ []) Post $ alloc_all ! (λ l. pass_all ! refl (box_typed E hv b o fits, tt) $

@@ -1,6 +1,6 @@
 -- `empty` puts null beside the allocator, and an empty handle owns nothing more.
 use Rattle.c_parts.proofs.PartsSteps.{◌≡◌, refl, List, [], ◌∷◌, ◌++◌, w64, Val, vint, vstruct, of_list, has_ty, SProp, id⊢, ftrue, fsep, WpFn, tables, ‵, raw, ◌⊛◌, ◌$◌, ◌∵◌, !, qed, by, move, keep, use1, fjoin, fpack, feq_i, prop, regoal, agg, lit, no_more, and_then, returns, enter, alloc_all, pass_all, free_all, look_at, get, sets, RattleType, Valss, RawPtr, yes, null_ptr, ptr_val, type_at, plain, nothing, Stays, stay_dropped, walk_of, Goes-dropped, handle_tells, proved_at, leaves, lit<, within, shape, to, and_tt, α, takes, told, spent}
-use Rattle.c_parts.proofs.SessionHandleAsBox.{E}
+use Rattle.c_parts.proofs.SessionHandleAsBox.{SessionBoxed as E}
 use Rattle.c_parts.proofs.session_handle.SessionHandle.empty.Code as code
 use Rattle.c_parts.proofs.session_handle.SessionHandle.empty.Statement.{statement}
 use Rattle.c_parts.specs.contracts.session_handle.SessionHandle as Handle

@@ -1,6 +1,6 @@
 -- `of_parts` moves two fields, and what they own goes with them.
 use Rattle.c_parts.proofs.PartsSteps.{◌≡◌, refl, [], ◌∷◌, ◌++◌, Val, SProp, id⊢, ftrue, fsep, WpFn, tables, ‵, raw, ◌⊛◌, ◌$◌, ◌∵◌, !, qed, by, keep, use1, prop, agg, no_more, and_then, of_opd, returns, enter, alloc_all, pass_all, free_all, look_at, get, sets, RattleType, type_at, Stays, stay_dropped, walk_of, Goes-dropped, proved_at, leaves, D, B, word, box_typed, box_in, takes, begins, told, spent, field_of}
-use Rattle.c_parts.proofs.SessionHandleAsBox.{E, FromParts as From}
+use Rattle.c_parts.proofs.SessionHandleAsBox.{SessionBoxed as E, FromSessionParts as From}
 use Rattle.c_parts.proofs.session_handle.SessionHandle.of_parts.Code as code
 use Rattle.c_parts.proofs.session_handle.SessionHandle.of_parts.Statement.{statement}
 use Rattle.c_parts.specs.contracts.session_handle.SessionHandle.of_parts.{ended, clauses}

@@ -1,5 +1,5 @@
-use Rattle.exchange.proofs.answer.RowLaws.{all_say, all_stand, each_once}
-use Rattle.exchange.proofs.answer.RowTypes.{all_apart}
+use Rattle.exchange.proofs.answer.RowLaws.{all_say, all_stand, answers_once}
+use Rattle.exchange.proofs.answer.RowTypes.{answer_apart}
 use Rattle.exchange.proofs.answer.RowsPlain.{all_plain}
 use Rattle.exchange.proofs.answer.rows.rows_for.Goals as goal
 
@@ -9,7 +9,7 @@ returns-clause-offered c =
 
 pub returns-clause-distinct : goal.returns-clause-distinct
 returns-clause-distinct c =
-    each_once c.args.config.now.params.items c.args.section.now c.in_ok-rows.rows.items (rw c.params.ensures at c.in_ok-rows.ensures)
+    answers_once c.args.config.now.params.items c.args.section.now c.in_ok-rows.rows.items (rw c.params.ensures at c.in_ok-rows.ensures)
 
 pub returns-clause-complete : goal.returns-clause-complete
 returns-clause-complete c =
@@ -17,7 +17,7 @@ returns-clause-complete c =
 
 pub returns-clause-apart : goal.returns-clause-apart
 returns-clause-apart c =
-    all_apart c.args.config.now.params.items c.args.section.now c.in_ok-rows.rows.items (rw c.params.ensures at c.in_ok-rows.ensures)
+    answer_apart c.args.config.now.params.items c.args.section.now c.in_ok-rows.rows.items (rw c.params.ensures at c.in_ok-rows.ensures)
 
 pub returns-clause-plain : goal.returns-clause-plain
 returns-clause-plain c =

@@ -1,5 +1,5 @@
 use Rattle.exchange.proofs.Common.{ℕ, List, [], ◌∙◌, IsCandidateLine, FirstLine, Candidate}
-use Rattle.exchange.proofs.section.TrickledLaws.{along, one_candidate}
+use Rattle.exchange.proofs.section.TrickledLaws.{made_along, one_candidate}
 use Rattle.exchange.proofs.section.trickled.trickled_candidate.Goals as goal
 use Rattle.exchange.specs.section.Trickled.{as_line}
 
@@ -8,7 +8,7 @@ returns-in_err-line-clause-one c = one_candidate (as_line c.args.text.now)
 
 pub returns-clause-read : goal.returns-clause-read
 returns-clause-read c =
-    along (λ (line : List ℕ) (candidate : Candidate). FirstLine IsCandidateLine line (candidate, [])) _ _ _
+    made_along (λ (line : List ℕ) (candidate : Candidate). FirstLine IsCandidateLine line (candidate, [])) _ _ _
     (c.as_str.ensures.value ∙ c.in_ok-line.ensures) c.only_candidate.ensures
 
 pub returns-clause-one : goal.returns-clause-one

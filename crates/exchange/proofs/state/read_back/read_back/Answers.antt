@@ -1,4 +1,4 @@
-use Rattle.exchange.proofs.state.ReadBackLaws.{alike_so, none_so, read_so, refused_so}
+use Rattle.exchange.proofs.state.ReadBackLaws.{alike_so, none_read_back, read_so, refused_so}
 use Rattle.exchange.proofs.state.read_back.read_back.Goals as goal
 
 pub returns-in-Ok : goal.returns-in-Ok
@@ -10,5 +10,5 @@ returns-in-Ok c = record {
 pub returns-in-Err : goal.returns-in-Err
 returns-in-Err c = record {
   exact = refused_so _ _ _ _ c.in-Err.ensures.read c.refused.ensures;
-  alike = none_so _ _ _ c.refused.ensures;
+  alike = none_read_back _ _ _ c.refused.ensures;
 }

@@ -1,10 +1,10 @@
 use Rattle.str0m_formats.proofs.Common.{refl, ◌∙◌, rules}
 use Rattle.str0m_formats.proofs.round.ClaimedRanges.{find-flat_map_here, find-flat_map_more}
 use Rattle.str0m_formats.proofs.round.claimed.first_free.Goals as goal
-use Rattle.str0m_formats.specs.round.Claimed.{range_types, preferred}
+use Rattle.str0m_formats.specs.round.Claimed.{range_types, free_order}
 
 pub loop-first-init : goal.loop-first-init
-unfolding preferred
+unfolding free_order
 loop-first-init c = refl
 
 pub returns-then-is_some : goal.returns-then-is_some

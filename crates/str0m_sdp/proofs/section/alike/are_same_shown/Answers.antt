@@ -1,7 +1,7 @@
 use Rattle.str0m_sdp.proofs.Common.{Bool, sym, ap, ◌∙◌, true≢false, drop_all}
 use Rattle.str0m_sdp.proofs.section.AlikeLaws.{shown_from, one_ends, firsts_differ, firsts_agree, both_end, first_passed}
 use Rattle.str0m_sdp.proofs.section.alike.are_same_shown.Goals as goal
-use Rattle.str0m_sdp.specs.section.Alike.{shown}
+use Rattle.str0m_sdp.specs.section.Alike.{showing}
 
 pub returns-in_default : goal.returns-in_default
 returns-in_default c =
@@ -25,4 +25,4 @@ loop-value-preserved c =
     ]
 
 pub returns : goal.returns
-returns c = both_end _ _ _ _ _ _ c.loop-value.invariant (ap shown (drop_all _ _ c.loop-value-test.false)) c.next_shown-2.ensures c.is_none.ensures
+returns c = both_end _ _ _ _ _ _ c.loop-value.invariant (ap showing (drop_all _ _ c.loop-value-test.false)) c.next_shown-2.ensures c.is_none.ensures

@@ -1,5 +1,5 @@
 use Rattle.str0m_sdp.proofs.Common.{◌||◌, Bool, take, ap, sym, refl, ◌∙◌, list_any, get_or-replicate, length-set, and_right}
-use Rattle.str0m_sdp.proofs.section.TypeTablesMarks.{any_more, any_same, marked, and_true}
+use Rattle.str0m_sdp.proofs.section.TypeTablesMarks.{any_more, any_same, set_marked, and_when}
 use Rattle.str0m_sdp.proofs.section.mappings.types_of.Goals as goal
 use Rattle.str0m_sdp.specs.section.Mappings.{is_of}
 
@@ -17,9 +17,9 @@ loop-pt-preserved c =
           let row = rw (← c.loop-pt.invariant.0, w.place.ensures.is) at w.place.ensures.within in
           rw (w.types-is, w.place.ensures.is) (
             length-set c.loop-pt.types item.0 _ ∙ c.loop-pt.invariant.0,
-            λ pt lt. marked c.loop-pt.types item.0 pt (list_any (passes pt) (take i rows)) row (c.loop-pt.invariant.1 pt lt)
+            λ pt lt. set_marked c.loop-pt.types item.0 pt (list_any (passes pt) (take i rows)) row (c.loop-pt.invariant.1 pt lt)
                 ∙ sym (any_more (passes pt) rows i item c.loop-pt-test.true c.loop-pt-item.is
-                ∙ ap (λ (b : Bool). list_any (passes pt) (take i rows) || b) (and_true _ _ (sym c.eq.ensures ∙ w.if-eq.true))),
+                ∙ ap (λ (b : Bool). list_any (passes pt) (take i rows) || b) (and_when _ _ (sym c.eq.ensures ∙ w.if-eq.true))),
           )
       | goal.else-eq w ↦
           rw w.types-is (

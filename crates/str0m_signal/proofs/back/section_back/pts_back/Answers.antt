@@ -1,5 +1,5 @@
 use Rattle.str0m_signal.proofs.Common.{sym, ◌∙◌, true≢false, m_line}
-use Rattle.str0m_signal.proofs.back.WritableLaws.{no_head, same_head, other_head}
+use Rattle.str0m_signal.proofs.back.WritableLaws.{head_lost, same_head, other_head}
 use Rattle.str0m_signal.proofs.back.section_back.pts_back.Goals as goal
 use Rattle.str0m_signal.specs.back.Writable.{IsPrintedAs}
 use Rattle.str0m_signal.specs.line.Heads.{media_head}
@@ -20,5 +20,5 @@ returns c =
           other_head m (IsPrintedAs IsHead (m_line m)) (media_head w.in-Some.head) only (λ same. true≢false (sym (w.says_same.ensures.1 same) ∙ w.if-says_same.false))
       | goal.in_default-via-in_default w ↦
           let none = rw (c.as_str.ensures.value, c.in_ok-text.ensures, w.in_default.is) at c.in_ok-head.ensures in
-          no_head m (IsPrintedAs IsHead (m_line m)) none
+          head_lost m (IsPrintedAs IsHead (m_line m)) none
     ]

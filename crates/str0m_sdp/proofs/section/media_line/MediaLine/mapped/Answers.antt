@@ -5,7 +5,7 @@ use Rattle.str0m_sdp.proofs.section.media_line.MediaLine.mapped.Goals as goal
 use Rattle.str0m_sdp.specs.Common.{distinct}
 use Rattle.str0m_sdp.specs.declared.attribute.MediaAttribute.{MediaAttribute}
 use Rattle.str0m_sdp.specs.section.Consistency.{maps}
-use Rattle.str0m_sdp.specs.section.Mappings.{mapping, unmapped, mapped, static_row}
+use Rattle.str0m_sdp.specs.section.Mappings.{mapping, unmapped, mapped, static_type}
 
 pub loop-pt-init : goal.loop-pt-init
 loop-pt-init c =
@@ -38,8 +38,8 @@ loop-pt-preserved c =
           let new = rw c.place-place.ensures.is at w.if-not-seen-place.true in
           rw (w.mapped-is, w.seen-is, c.place-place.ensures.is) (record {
             rows = w.in_ok-push_static.ensures
-                ∙ ap (λ (rows : List (ℕ × CodecSpec)). rows ++ option_to_list (static_row pt)) c.loop-pt.invariant.rows
-                ∙ append_assoc lines before (option_to_list (static_row pt))
+                ∙ ap (λ (rows : List (ℕ × CodecSpec)). rows ++ option_to_list (static_type pt)) c.loop-pt.invariant.rows
+                ∙ append_assoc lines before (option_to_list (static_type pt))
                 ∙ sym (ap (λ (rows : List (ℕ × CodecSpec)). lines ++ rows) (statics_new attrs pts i pt lt is (sym so_far ∙ new)));
             whole = length-set seen pt _ ∙ c.loop-pt.invariant.whole;
             seen = λ n small. mark_new seen pts i pt n (list_any (maps n) attrs) lt is row (c.loop-pt.invariant.seen n small);
