@@ -1,6 +1,5 @@
-//! The forms of attribute lines and of `b=` lines, and how each is read.
+//! The forms of attribute lines, and how each is read.
 
-pub(crate) mod bandwidth;
 pub(crate) mod candidate_line;
 pub(crate) mod ext_map;
 pub(crate) mod fingerprint;

@@ -5,8 +5,7 @@
 //!   - `read_back`: What is printed, read again line by line.
 //!   - `section_back`: The lines of a section, printed and read again.
 //!   - `writable`: Whether rows may be printed in a session and are read again.
-//! - `form`: The forms of attribute lines and of `b=` lines, and how each is read.
-//!   - `bandwidth`: Lines with a bandwidth.
+//! - `form`: The forms of attribute lines, and how each is read.
 //!   - `candidate_line`: Lines with a candidate.
 //!   - `ext_map`: Lines of header extensions.
 //!   - `fingerprint`: Lines with the fingerprint of a certificate.
@@ -28,6 +27,7 @@
 //!   - `words`: The items of lists.
 //! - `session`: Descriptions whole: their parts, their readers, and rounds over their texts.
 //!   - `attributes`: Attribute lines, and runs of them.
+//!   - `bandwidth`: Lines with a bandwidth.
 //!   - `header`: The header of a description.
 //!   - `locked`: The rows that rounds have locked.
 //!   - `negotiation`: Rounds of negotiation over a whole text.

@@ -1,6 +1,6 @@
 //! Runs of the program where input or output fails.
 
-use crate::program::{HEADER, PRINTED, Ran, USAGE, owned, run_over};
+use crate::program::{HEADER, PRINTED, Ran, USAGE, arguments, run_over};
 use show::run::run;
 use std::alloc::{AllocError, Global};
 use std::io;
@@ -115,7 +115,7 @@ fn run_into(
     mut output: Full,
     faults_room: usize,
 ) -> Result<Ran, AllocError> {
-    let words = owned(alloc, &[word])?;
+    let words = arguments(alloc, &[word])?;
     let mut input = HEADER.as_bytes();
     let mut faults = with_room(alloc, faults_room);
     let ending = run(

@@ -104,8 +104,8 @@ none_named_first m ms added apart =
     All-weaker (λ (a : MediaLine). All (Other (name_of a)) (m ∷ ms)) (Other (name_of m))
     (λ a others. differ_flipped (name_of a) (name_of m) (All-head (Other (name_of a)) m ms others)) added apart
 
-but_one : (m : MediaLine) (ms added : List MediaLine) → AreNamedApart added (m ∷ ms) → AreNamedApart added ms
-but_one m ms added apart =
+apart_from_rest : (m : MediaLine) (ms added : List MediaLine) → AreNamedApart added (m ∷ ms) → AreNamedApart added ms
+apart_from_rest m ms added apart =
     All-weaker (λ (a : MediaLine). All (Other (name_of a)) (m ∷ ms)) (λ (a : MediaLine). All (Other (name_of a)) ms)
     (λ a others. All-tail (Other (name_of a)) m ms others) added apart
 
@@ -121,7 +121,7 @@ as_named ms added m said between name same earlier differ apart = record {
   earlier = subst (λ (found : Option (List ℕ)). All (Other found) ms) (sym name) earlier.0;
   later = subst (λ (found : Option (List ℕ)). All (Other found) between) (sym name) (subst (All (Other (name_of m))) (sym same) (none_named_first m ms added apart));
   differ = subst Differ (sym same) differ;
-  apart = subst (λ (more : List MediaLine). AreNamedApart more ms) (sym same) (but_one m ms added apart);
+  apart = subst (λ (more : List MediaLine). AreNamedApart more ms) (sym same) (apart_from_rest m ms added apart);
 }
 
 goes : (old : Exchange) (ready : List SectionDirection) (at : ℕ) (m : MediaLine) (ms added : List MediaLine) (said : MediaLine) (between : List MediaLine)
@@ -132,7 +132,7 @@ goes old ready at m ms added said between earlier differ apart (inl (runs, is, s
 goes old ready at m ms [] said between earlier differ apart (inr (over, is, same)) =
     as_named ms [] m said between (ap name_of is ∙ (rejecting_shape m).name) same earlier differ apart
 goes old ready at m ms (x ∷ xs) said between earlier differ apart (inr (over, is, same)) =
-    let rest : AreNamedApart (x ∷ xs) ms = but_one m ms (x ∷ xs) apart in
+    let rest : AreNamedApart (x ∷ xs) ms = apart_from_rest m ms (x ∷ xs) apart in
     record {
       earlier = subst (λ (section : MediaLine). All (Other (name_of section)) ms) (sym is) (All-head (λ (a : MediaLine). All (Other (name_of a)) ms) x xs rest);
       later = subst (λ (section : MediaLine). All (Other (name_of section)) between) (sym is) (subst (All (Other (name_of x))) (sym same) differ.0);

@@ -9,8 +9,8 @@ ghost use Rattle.str0m_signal.specs.session.Section.{IsBandwidth, IsHead};
 
 use crate::back::attributes_back::media_back;
 use crate::back::read_back::content;
-use crate::form::bandwidth::bandwidth;
 use crate::line::heads::{MediaHead, head};
+use crate::session::bandwidth::bandwidth;
 use std::alloc::{AllocError, Global};
 use str0m_sdp::{Bandwidth, MediaAttribute, MediaLine, Proto, section_of};
 use str0m_values::{Items, Pt};

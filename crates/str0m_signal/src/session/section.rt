@@ -7,11 +7,11 @@ ghost use Rattle.str0m_signal.specs.line.LinesReading.{lines_of, line_read};
 ghost use Rattle.str0m_signal.specs.session.Section.{IsField};
 ghost use Rattle.str0m_signal.specs.session.SectionReading.{head_read, NextSection};
 
-use crate::form::bandwidth::take_bandwidth;
 use crate::form::media_attribute::media_attributes;
 use crate::line::fields::read_field;
 use crate::line::heads::{MediaHead, head};
 use crate::line::lines::clean_line;
+use crate::session::bandwidth::take_bandwidth;
 use std::alloc::{AllocError, Global};
 use str0m_sdp::MediaLine;
 

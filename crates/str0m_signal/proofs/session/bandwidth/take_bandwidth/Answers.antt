@@ -1,8 +1,8 @@
 use Rattle.str0m_signal.proofs.Common.{sym}
-use Rattle.str0m_signal.proofs.form.bandwidth.take_bandwidth.Goals as goal
 use Rattle.str0m_signal.proofs.line.LinesChainLaws.{taken_none}
 use Rattle.str0m_signal.proofs.line.LinesLaws.{line_found}
 use Rattle.str0m_signal.proofs.session.SectionLaws.{bandwidth_both}
+use Rattle.str0m_signal.proofs.session.bandwidth.take_bandwidth.Goals as goal
 use Rattle.str0m_signal.specs.line.LinesReading.{lines_of}
 
 pub returns-in-Some : goal.returns-in-Some
