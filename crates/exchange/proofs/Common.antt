@@ -15,22 +15,13 @@ pub use Rattle.std.proofs.lemmas.Slice.Zip.{AllZip-long, AllZip-right}
 pub use Rattle.std.specs.BTreeSet.{Updates, contains}
 pub use Rattle.std.specs.Cmp.Lexicographic.{pointwise, slice_cmp}
 pub use Rattle.std.specs.List.{AllZip, cons_option, list_any}
-pub use Rattle.str0m_formats.proofs.format.MergedPairsLaws.{bytes_itself}
-pub use Rattle.str0m_formats.proofs.round.ClaimedSets.{slice_get_item}
-pub use Rattle.str0m_formats.proofs.round.ClaimedTimes.{one_if, times-append, times-cons, times-none}
-pub use Rattle.str0m_formats.proofs.round.RoundsLocked.{stays-same, stays-then}
-pub use Rattle.str0m_formats.proofs.round.RoundsPasses.{at_place}
-pub use Rattle.str0m_formats.proofs.round.RoundsWhole.{row_before}
+pub use Rattle.str0m_formats.proofs.{bytes_itself, slice_get_item, one_if, times-append, times-cons, times-none, stays-same, stays-then, at_place, row_before}
 pub use Rattle.str0m_formats.specs.declared.format.format_param.FormatParam.{FormatParam}
 pub use Rattle.str0m_formats.specs.declared.round.rounds.Round.{Round}
 pub use Rattle.str0m_formats.specs.declared.row.codec_config.CodecConfig.{CodecConfig}
 pub use Rattle.str0m_formats.specs.round.Claimed.{times}
 pub use Rattle.str0m_formats.specs.round.RoundsPromises.{StaysLocked}
-pub use Rattle.str0m_sdp.proofs.section.MappingsFilterMap.{map_more, one_mapped}
-pub use Rattle.str0m_sdp.proofs.section.SectionAccessorsFinding.{first_by_find_map, first_from_find_map}
-pub use Rattle.str0m_sdp.proofs.section.SectionAccessorsLists.{filter_map_more, filter_map_same}
-pub use Rattle.str0m_sdp.proofs.section.SectionRowsParts.{count-append, uncounted}
-pub use Rattle.str0m_sdp.proofs.session.OrderedMids.{holds_before, holds_behind}
+pub use Rattle.str0m_sdp.proofs.{map_more, one_mapped, first_by_find_map, first_from_find_map, filter_map_more, filter_map_same, count-append, uncounted, holds_before, holds_behind}
 pub use Rattle.str0m_sdp.specs.declared.attribute.MediaAttribute.TheVariants.{Fmtp, RtcpFb, Unused}
 pub use Rattle.str0m_sdp.specs.declared.attribute.media_type.MediaType.TheVariants.{Application, Audio, Unknown, Video}
 pub use Rattle.str0m_sdp.specs.declared.attribute.proto.Proto.TheVariants.{Sctp, Srtp}
@@ -40,5 +31,4 @@ pub use Rattle.str0m_sdp.specs.declared.session.error.SdpError.{SdpError}
 pub use Rattle.str0m_sdp.specs.declared.session.error.SdpError.TheVariants.{Inconsistent, Memory, ParseError}
 pub use Rattle.str0m_sdp.specs.section.RowAttributes.{feedback_attrs, feedback_line, fmtp_line, format_attrs, format_values, red_attrs, red_lines, rtx_attrs, rtx_lines}
 pub use Rattle.str0m_sdp.specs.session.SessionConsistency.{section_mid}
-pub use Rattle.str0m_signal.proofs.line.LinesPrinted.{joined-append}
-pub use Rattle.str0m_signal.proofs.session.ReaderLineNumbers.{line_feeds, line_number}
+pub use Rattle.str0m_signal.proofs.{joined-append, line_feeds, line_number}

@@ -2,7 +2,7 @@
 use Rattle.lint.proofs.Common.{◌≡◌, ◌<◌, ◌-◌, ◌+◌, ℕ, List, [], ◌∷◌, ◌++◌, Option, Some, None, length, take, MatchOption, unwrap_or, refl, sym, ap, ◌∙◌, inl, inr, arith, lit<, append_assoc, append-nil, Bor, cut}
 use Rattle.lint.specs.Lines.{IsWithoutReturn}
 use Rattle.std.specs.Str.Pattern.{FindsCharSuffix}
-use Rattle.str0m_signal.proofs.line.LinesLaws.{line_here, without_suffix}
+use Rattle.str0m_signal.proofs.{line_here, without_suffix}
 use Rattle.str0m_signal.specs.line.LinesReading.{lines_of}
 use Rattle.str0m_values.proofs.CutLaws.{cut_found, cut_none_lacks, Lacks-append}
 use Rattle.str0m_values.specs.CutsParts.{Lacks}

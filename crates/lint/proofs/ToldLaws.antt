@@ -2,7 +2,7 @@
 use Rattle.lint.proofs.Common.{◌≡◌, ◌↔◌, ℕ, true, false, List, ◌∷◌, refl, sym, ap, ◌∙◌, codes, is_some, strip}
 use Rattle.lint.proofs.LineLaws.{BeginsWithLine}
 use Rattle.lint.specs.Told.{Told, line_told, lines_told, told_of}
-use Rattle.str0m_signal.proofs.form.FormTableLaws.{tail_is}
+use Rattle.str0m_signal.proofs.{tail_is}
 
 -- the first line is a `c=` line
 pub told_skip : (text content after : List ℕ) → BeginsWithLine text content after → is_some (strip (codes "c=") content) ≡ true → told_of text ≡ told_of after

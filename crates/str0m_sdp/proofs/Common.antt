@@ -27,11 +27,7 @@ pub use Rattle.std.specs.Ordering.{nat_cmp, is_eq}
 pub use Rattle.std.specs.Prelude.{codes, IsTrue, MatchOption, nat_lt, option_map, slice_get, slice_set, ◌↔◌, IsSomeAnd}
 pub use Rattle.std.specs.Str.{bytes_eq, str_eq_ignore_ascii_case, str_to_ascii_lowercase}
 pub use Rattle.std.specs.String.{string_bytes, string_len, string_capacity}
-pub use Rattle.str0m_formats.proofs.codec.CodecSpecStatic.{needs_none, static_small}
-pub use Rattle.str0m_formats.proofs.format.FormatLinePairs.{all_both}
-pub use Rattle.str0m_formats.proofs.format.FormatParamEqual.{param_Decides}
-pub use Rattle.str0m_formats.proofs.format.FormatParamsDerived.{Equality, eq_along, equality, eq_word}
-pub use Rattle.str0m_formats.proofs.round.ClaimedTimes.{times-append, times-cons, one_if, times-some}
+pub use Rattle.str0m_formats.proofs.{needs_none, static_small, all_both, param_Decides, Equality, eq_along, equality, eq_word, times-append, times-cons, one_if, times-some}
 pub use Rattle.str0m_formats.specs.codec.Codec.{events, other, Content, audio, video}
 pub use Rattle.str0m_formats.specs.declared.format.format_param.FormatParam.TheVariants.{Apt, BarePtList, BareRange}
 pub use Rattle.str0m_formats.specs.format.FormatLine.{asks_absent, events_end, is_event, kept, values_of}

@@ -17,12 +17,7 @@ pub use Rattle.std.specs.List.{AllByRecursion, cons_option, flat_map, join_by, j
 pub use Rattle.std.specs.Prelude.{codes, is_some, IsTrue, ◌↔◌, IsErrAnd, count_by, slice_range, slice_set, nat_lt, find, MatchOption, unwrap_or}
 pub use Rattle.std.specs.Str.{bytes_eq, IsCharBoundary, IsUtf8, encode_utf8_all, chars}
 pub use Rattle.std.specs.Str.Parse.{digits_value, IsNumeral, AllDigits}
-pub use Rattle.str0m_formats.proofs.codec.CodecNames.{read_as, read_only}
-pub use Rattle.str0m_formats.proofs.format.FormatLineAgain.{printed_pairs, linked}
-pub use Rattle.str0m_formats.proofs.format.FormatParamAgain.{parsed_printed, decimal_reads}
-pub use Rattle.str0m_formats.proofs.format.FormatParamsShown.{IsSolidPair, joined_pair, decimal_solid}
-pub use Rattle.str0m_formats.proofs.format.MergedPairsKeys.{Pairs}
-pub use Rattle.str0m_formats.proofs.format.PairsLaws.{pairs_read_is, pairs_read_only}
+pub use Rattle.str0m_formats.proofs.{read_as, read_only, printed_pairs, linked, parsed_printed, decimal_reads, IsSolidPair, joined_pair, decimal_solid, Pairs, pairs_read_is, pairs_read_only}
 pub use Rattle.str0m_formats.specs.codec.Codec.{printed_and_read, content, other, codec_text}
 pub use Rattle.str0m_formats.specs.declared.codec.Codec.{Codec}
 pub use Rattle.str0m_formats.specs.declared.format.format_param.FormatParam.TheVariants.{Apt, BarePtList, BareRange, Red, TelephoneEvents, Unknown}
@@ -34,9 +29,7 @@ pub use Rattle.str0m_formats.specs.round.Claimed.{times}
 pub use Rattle.str0m_formats.specs.round.Narrowing.{telephone_max}
 pub use Rattle.str0m_formats.specs.row.PayloadParams.{types_of, AllSmall}
 pub use Rattle.str0m_formats.specs.row.PlainRowBounds.{HoldsRowNumbers, IsBounded, IsByte}
-pub use Rattle.str0m_sdp.proofs.section.MadeSectionValues.{values_printed, describes_read_back, pairs_line_read, values_read}
-pub use Rattle.str0m_sdp.proofs.section.MadeSectionValues.{format_line_printed}
-pub use Rattle.str0m_sdp.proofs.section.RowAttributesReads.{reads, fmtp_lines, red_reads}
+pub use Rattle.str0m_sdp.proofs.{values_printed, describes_read_back, pairs_line_read, values_read, format_line_printed, reads, fmtp_lines, red_reads}
 pub use Rattle.str0m_sdp.specs.attribute.Bandwidth.{bandwidth_line}
 pub use Rattle.str0m_sdp.specs.attribute.Fmtp.{is_shown, shown_line}
 pub use Rattle.str0m_sdp.specs.attribute.MediaType.{media_type_text}

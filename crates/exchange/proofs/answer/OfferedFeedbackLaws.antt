@@ -5,7 +5,7 @@ use Rattle.exchange.specs.answer.OfferedFeedback.{offered_feedback, with_offered
 use Rattle.exchange.specs.answer.Rows.{are, is_offered, offers, value_of_all}
 use Rattle.exchange.specs.declared.answer.offered_feedback.OfferedFeedback.{OfferedFeedback}
 use Rattle.std.proofs.Math.Bool.{or_comm}
-use Rattle.str0m_sdp.proofs.section.TypeTablesMarks.{any_more, any_same}
+use Rattle.str0m_sdp.proofs.{any_more, any_same}
 
 -- ---- one line more
 

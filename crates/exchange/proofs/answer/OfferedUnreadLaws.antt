@@ -3,7 +3,7 @@ use Rattle.exchange.proofs.Common.{arith, ◌≡◌, ◌≢◌, ◌≤◌, ◌+�
 use Rattle.exchange.specs.answer.Offered.{IsCutShort}
 use Rattle.std.proofs.Math.Seq.{take-append_seam}
 use Rattle.std.proofs.lemmas.List.Sums.{count_by-le-length}
-use Rattle.str0m_signal.proofs.session.ReaderRestLaws.{reading_leaves}
+use Rattle.str0m_signal.proofs.{reading_leaves}
 use Rattle.str0m_signal.specs.line.Lines.{joined}
 
 -- the lines before the rest, and the rest

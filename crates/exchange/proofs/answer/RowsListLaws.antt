@@ -1,7 +1,7 @@
 -- Lists of types, each once; what is found in a list; lists that are mapped in part.
 use Rattle.exchange.proofs.Common.{arith, ◌≡◌, ◌<◌, ◌+◌, ◌≤◌, ◌++◌, ◌==◌, ◌||◌, ℕ, Bool, true, false, cond, not, List, [], ◌∷◌, length, take, get_or, Option, Some, None, All, IfSome, filter, filter_map, find, map, refl, sym, ap, ◌∙◌, eqb-true, eq-eqb, false≢true, take_at_read, All-cons, All-nil, All-head, All-tail, All-filter, Contains-append_right, list_any_at, list_any, Contains, cons_option, is_some, times-cons, times-none, one_if, times, has, distinct, one_mapped}
 use Rattle.std.proofs.lemmas.Bool.Decides.{nat_tests}
-use Rattle.str0m_sdp.proofs.session.DistinctCandidatesLaws.{distinct_push}
+use Rattle.str0m_sdp.proofs.{distinct_push}
 
 -- ---- each once
 

@@ -2,7 +2,7 @@
 use Rattle.exchange.proofs.Common.{arith, ◌≡◌, ◌<◌, ◌≤◌, ◌+◌, ◌++◌, ◌^◌, ◌||◌, ◌⊎◌, inl, inr, ℕ, Bool, true, false, List, [], ◌∷◌, Some, All, decimal, length, bytes_eq, refl, subst, sym, ap, ◌∙◌, eq-or-lt_of_le, false≢true, All-cons, All-head, All-nil, All-tail, bytes_eq-Decides, AreDistinct, is_listed}
 use Rattle.exchange.specs.offer.FreshNames.{AreFresh, IsNextFree, is_taken}
 use Rattle.std.proofs.lemmas.Fmt.{decimal_injective, length-decimal-le}
-use Rattle.str0m_sdp.proofs.session.SessionLaws.{mids_apart}
+use Rattle.str0m_sdp.proofs.{mids_apart}
 
 -- a name of a section has room for 16 bytes
 pub short_name : (n : ℕ) → n < 2 ^ 32 → length (decimal n) ≤ 16

@@ -1,8 +1,7 @@
 -- What is read of a line that is to be one candidate's and nothing more.
 use Rattle.exchange.proofs.Common.{◌≡◌, ℕ, List, [], Result, Ok, Err, ap, subst, sym, SdpError, ParseError, Inconsistent, Memory, IsCandidateLine, FirstLine, Answers, AtMostOne, Refuses, Candidate}
+use Rattle.str0m_signal.proofs.{attribute_both, first_line_one}
 use Rattle.str0m_signal.proofs.Common.{candidate_both}
-use Rattle.str0m_signal.proofs.line.LinesLaws.{attribute_both}
-use Rattle.str0m_signal.proofs.session.ReaderAnswerLaws.{first_line_one}
 
 -- a line has one reading: so there is another with nothing left where this is it
 pub only_so : {V : Type 0} (P : V × List ℕ → Type 0) (value : V) (rest : List ℕ) (r : Result V SdpError) → P (value, rest) → AtMostOne P

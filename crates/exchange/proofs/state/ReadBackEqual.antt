@@ -1,8 +1,8 @@
 -- When two values of a description are equal, by the derived `==`.
 use Rattle.exchange.proofs.Common.{Decides, pointwise, ◌≡◌, ℕ, List, Option, SessionAttribute, MediaType, Session, IceCreds}
 use Rattle.std.specs.Option.{option_eq}
-use Rattle.str0m_formats.proofs.format.FormatParamsDerived.{Equality, eq_along, equality}
-use Rattle.str0m_sdp.proofs.attribute.AttributeEqual.{session_Decides as attribute_Decides}
+use Rattle.str0m_formats.proofs.{Equality, eq_along, equality}
+use Rattle.str0m_sdp.proofs.{session_Decides as attribute_Decides}
 use Rattle.str0m_sdp.specs.contracts.attribute.SessionAttributePartialEq.TheImpl as attribute_eq
 use Rattle.str0m_sdp.specs.contracts.attribute.bandwidth.BandwidthPartialEq.TheImpl as bandwidth_eq
 use Rattle.str0m_sdp.specs.contracts.attribute.media_type.MediaType as media_type

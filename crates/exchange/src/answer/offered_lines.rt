@@ -13,7 +13,7 @@ fn needs_offer(line: &MediaAttribute) -> bool
     )
 }
 
-#[tactic(auto, using(str0m_sdp::proofs::attribute::AttributeEqual::media_Decides))]
+#[tactic(auto, using(str0m_sdp::proofs::media_Decides))]
 fn is_equal_line(line: &MediaAttribute, other: &MediaAttribute) -> bool
     ensures { IsTrue result ↔ (line.now ≡ other.now) }
 {

@@ -7,7 +7,7 @@ ghost use Rattle.std.specs.Prelude.{◌≡◌, ◌↔◌, IsTrue, OnOk};
 use std::alloc::AllocError;
 use str0m_signal::{MediaAttribute, MediaLine, Sdp};
 
-#[tactic(auto, using(str0m_sdp::proofs::attribute::AttributeEqual::media_Decides))]
+#[tactic(auto, using(str0m_sdp::proofs::media_Decides))]
 fn is_same_line(line: &MediaAttribute, other: &MediaAttribute) -> bool
     ensures { IsTrue result ↔ (line.now ≡ other.now) }
 {

@@ -1,7 +1,5 @@
 -- What the fmtp lines of a plain row read as: its format, and no payload type.
-use Rattle.str0m_formats.proofs.format.FormatLineAgain.{printed_pairs}
-use Rattle.str0m_formats.proofs.format.FormatLinePairs.{IsOwn, IsLineOf, format_said, line_of_pairs}
-use Rattle.str0m_formats.proofs.row.PlainRowFormats.{can_be_read_back}
+use Rattle.str0m_formats.proofs.{printed_pairs, IsOwn, IsLineOf, format_said, line_of_pairs, can_be_read_back}
 use Rattle.str0m_formats.specs.declared.codec.Codec.TheVariants as codec
 use Rattle.str0m_formats.specs.format.FormatLine.{asks_absent}
 use Rattle.str0m_formats.specs.format.Pairs.{has_mark}

@@ -32,7 +32,7 @@ fn next_shown(values: &[FormatParam]) -> Option<(FormatParam, &[FormatParam])>
     }
 }
 
-#[tactic(auto, using(str0m_formats::proofs::format::FormatParamEqual::param_Decides))]
+#[tactic(auto, using(str0m_formats::proofs::param_Decides))]
 fn is_same(param: FormatParam, other: FormatParam) -> bool
     ensures { IsTrue result ↔ (param ≡ other) }
 {

@@ -29,7 +29,7 @@ pub(crate) fn mappings(
 }
 
 /// The codec that a type stands for without an rtpmap line.
-#[tactic(auto, using(str0m_formats::proofs::codec::CodecSpecStatic::static_is))]
+#[tactic(auto, using(str0m_formats::proofs::static_is))]
 pub(crate) fn static_spec(pt: Pt) -> Option<CodecSpec>
     ensures { result ≡ static_spec pt }
 {

@@ -1,5 +1,5 @@
 -- The printed lines of a row have their forms, and read as the row's lines.
-use Rattle.str0m_formats.proofs.format.FormatLinePairs.{IsLineOf, params_print}
+use Rattle.str0m_formats.proofs.{IsLineOf, params_print}
 use Rattle.str0m_formats.specs.codec.CodecSpec.{rtp_rate}
 use Rattle.str0m_formats.specs.declared.codec.Codec.TheVariants as codec
 use Rattle.str0m_formats.specs.declared.format.format_params.FormatParams.{FormatParams}

@@ -1,6 +1,6 @@
 -- When a session is writable, by what its parts come back as.
 use Rattle.std.proofs.lemmas.List.Folds.{list_any_at, list_any_none}
-use Rattle.str0m_sdp.proofs.section.MadeSectionConsistent.{frame_agrees}
+use Rattle.str0m_sdp.proofs.{frame_agrees}
 use Rattle.str0m_signal.proofs.Common.{◌≡◌, ◌≢◌, ◌<◌, ◌≤◌, ◌+◌, ℕ, Bool, true, false, not, List, [], length, get_or, Option, Some, None, IfSome, refl, sym, ap, ◌∙◌, true≢false, ◌↔◌, IsTrue, list_any, slice_get, cases_Bool, cases_lt, none-some, same_Some, slice_get_read, IsTheOnly, session_attribute_text, bandwidth_text, Consistent, is_of_type, MediaAttribute, SessionAttribute, Bandwidth, MediaLine, Sdp, Srtp, arith, is_some, All, slice_get_within, NoneIff}
 use Rattle.str0m_signal.specs.back.Writable.{AreReadAs, HasTypes, IsFrame, IsPrintedAs, IsMediaReadAs, MediaAreReadAs, SessionGoesWith, Writable, frame_of}
 use Rattle.str0m_signal.specs.form.SessionAttribute.{IsSessionLine}

@@ -1,5 +1,5 @@
 -- An fmtp line is printed with the values that it was read as and that print something, and is read as these again.
-use Rattle.str0m_formats.proofs.format.PairsAgain.{IsPairsLine, pairs_again}
+use Rattle.str0m_formats.proofs.{IsPairsLine, pairs_again}
 use Rattle.str0m_signal.proofs.Common.{rules, ◌≡◌, ◌≢◌, ◌⊎◌, ◌≤◌, ℕ, List, [], ◌∷◌, map, filter, refl, subst, arith, inl, inr, AllByRecursion, join_with_byte, cases_Bool, ltb-true, param_text, params_read, FormatParam, BarePtList, BareRange, IsSolidPair, joined_pair, media_attribute_text, is_shown, shown_line, Fmtp, IsRest}
 use Rattle.str0m_signal.proofs.form.FmtpPrinted.{AreShown, FmtpValues, all_shown, list_shown, list_printed, range_printed, pairs_printed}
 use Rattle.str0m_signal.specs.back.Writable.{IsPrintedAs}

@@ -1,6 +1,5 @@
 -- Printed fmtp lines have their forms: pairs, `apt=N`, `N/N` and `0-N`.
-use Rattle.str0m_formats.proofs.format.FormatParamLaws.{parsed}
-use Rattle.str0m_formats.proofs.format.PairsSolid.{IsSolid, solid_lacks}
+use Rattle.str0m_formats.proofs.{parsed, IsSolid, solid_lacks}
 use Rattle.str0m_formats.specs.format.FormatParamReading.{param_of}
 use Rattle.str0m_formats.specs.format.Pairs.{has_mark}
 use Rattle.str0m_formats.specs.format.PairsReading.{params_read}

@@ -1,5 +1,5 @@
 -- Rounds of sections, one after another.
-use Rattle.str0m_sdp.proofs.section.MappingsFilterMap.{all_mapped, map_more}
+use Rattle.str0m_sdp.proofs.{all_mapped, map_more}
 use Rattle.str0m_sdp.specs.section.SectionDirection.{section_direction}
 use Rattle.str0m_sdp.specs.section.SectionRows.{rows}
 use Rattle.str0m_signal.proofs.Common.{arith, ◌≡◌, ◌<◌, ◌+◌, ◌++◌, ℕ, Bool, cond, List, [], ◌∷◌, Option, Some, None, Result, All, IfOk, IfSome, length, take, get_or, map, filter_map, option_map, option_to_list, sym, subst, All-nil, All-cons, All-head, All-tail, PayloadParams, Round, is_media, HasBoundedRows, MediaLine, OnErr, map-append, IsBounded}

@@ -1,7 +1,7 @@
 -- The numbers of what was read keep to their ranges.
-use Rattle.str0m_formats.proofs.format.FormatKeyAgain.{IsKeyed, keyed_or_hidden}
+use Rattle.str0m_formats.proofs.{IsKeyed, keyed_or_hidden}
 use Rattle.str0m_formats.specs.format.PairsTriple.{Texts, IsTripleParam}
-use Rattle.str0m_sdp.proofs.section.SectionRowsBoundLaws.{rows_bounded}
+use Rattle.str0m_sdp.proofs.{rows_bounded}
 use Rattle.str0m_signal.proofs.Common.{rules, ◌≡◌, ◌⊎◌, arith, param_text, ℕ, Bool, List, [], ◌∷◌, get_or, Option, Result, Ok, Err, All, IfOk, inl, inr, subst, sym, MatchBool, Bor, cons_option, All-nil, FormatParam, KeepsToLine, HasBoundedRows, MediaAttribute, SdpError, MediaLine, Sdp, FirstFit, IsParsed, AreParsed, AreJoined, merged, IsInBounds, KeepsToLines}
 use Rattle.str0m_signal.proofs.form.MediaAttributeAgain.{other_whole, other_again}
 use Rattle.str0m_signal.specs.form.Fmtp.{IsPairsForm, IsListForm, IsRangeForm, IsAnything}

@@ -1,6 +1,6 @@
 use Rattle.c_calls.proofs.session_calls.mid_named.Goals as goal
 use Rattle.std.proofs.Common.{◌≡◌, ℕ, List, true, Option, Some, None, is_some, refl, sym, ◌∙◌, true≢false}
-use Rattle.str0m_sdp.proofs.section.SectionDirectionHolders.{mid_counted}
+use Rattle.str0m_sdp.proofs.{mid_counted}
 
 -- what isn't something is nothing
 not_some : (o : Option (List ℕ)) → (is_some o ≡ true → ⊥) → o ≡ None

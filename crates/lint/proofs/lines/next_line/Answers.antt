@@ -1,7 +1,7 @@
 use Rattle.lint.proofs.Common.{sym}
 use Rattle.lint.proofs.LineLaws.{line_at_feed}
 use Rattle.lint.proofs.lines.next_line.Goals as goal
-use Rattle.str0m_signal.proofs.line.PartLaws.{cut_shorter}
+use Rattle.str0m_signal.proofs.{cut_shorter}
 
 pub returns-in-Some-clause-line : goal.returns-in-Some-clause-line
 returns-in-Some-clause-line c =

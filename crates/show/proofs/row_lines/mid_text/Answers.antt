@@ -1,7 +1,7 @@
 use Rattle.show.proofs.row_lines.mid_text.Goals as goal
 use Rattle.std.proofs.Common.{◌≡◌, ℕ, List, true, Option, Some, None, is_some, codes, refl, sym, ◌∙◌, true≢false}
 use Rattle.std.specs.Option.{unwrap_or}
-use Rattle.str0m_sdp.proofs.section.SectionDirectionHolders.{mid_counted}
+use Rattle.str0m_sdp.proofs.{mid_counted}
 
 -- what isn't there is a dash
 dash : (o : Option (List ℕ)) → (is_some o ≡ true → ⊥) → unwrap_or o (codes "-") ≡ codes "-"

@@ -1,4 +1,4 @@
-use Rattle.str0m_sdp.proofs.attribute.AttributeEqual.{session_Decides}
+use Rattle.str0m_sdp.proofs.{session_Decides}
 use Rattle.str0m_signal.proofs.back.attributes_back.is_same.Goals as goal
 
 pub returns : goal.returns
