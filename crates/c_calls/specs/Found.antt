@@ -1,5 +1,5 @@
 -- What calls find in what a handle owns; nothing where there is no such section or row.
-use Rattle.std.specs.Prelude.{ℕ, List, Option, map, option_and_then, option_map}
+use Rattle.std.specs.Prelude.{ℕ, List, Option, nat_eq, option_and_then, option_map, if◌then◌else◌}
 use Rattle.std.specs.List.{slice_get}
 use Rattle.str0m_formats.specs.Codec.{codec_text}
 use Rattle.str0m_formats.specs.FormatParams.{params_text}
@@ -7,9 +7,7 @@ use Rattle.str0m_formats.specs.declared.payload_params.PayloadParams.{PayloadPar
 use Rattle.str0m_sdp.specs.SectionRows.{rows}
 use Rattle.str0m_sdp.specs.declared.media_line.MediaLine.{MediaLine}
 use Rattle.str0m_sdp.specs.declared.session.Sdp.{Sdp}
-use Rattle.c_parts.specs.Row.{c_row}
 use Rattle.c_parts.specs.Section.{c_section}
-use Rattle.c_parts.specs.declared.row.Row.{Row}
 use Rattle.c_parts.specs.declared.section.Section.{Section}
 use Rattle.c_calls.specs.Mid.{mid_text}
 use Rattle.c_calls.specs.declared.row_calls.RowText.{RowText}
@@ -23,14 +21,18 @@ mid_at sdp at = option_map mid_text (slice_get sdp.media_lines at)
 abbrev pub section_at : Sdp → ℕ → Option Section
 section_at sdp at = option_map c_section (slice_get sdp.media_lines at)
 
--- the rows of a section, as C holds them
-abbrev pub rows_at : Sdp → ℕ → Option (List Row)
-rows_at sdp at = option_map (λ (section : MediaLine). map c_row (rows section)) (slice_get sdp.media_lines at)
+-- what a section lists, as C holds it
+abbrev pub list_at : {X : Type 0} → (MediaLine → List X) → Sdp → ℕ → Option (List X)
+list_at listed sdp at = option_map listed (slice_get sdp.media_lines at)
 
 -- what is printed of a row: the name of its codec, or its format
 abbrev pub row_text : RowText → PayloadParams → List ℕ
 row_text Codec row = codec_text row.spec.codec
 row_text Format row = params_text row.spec.format
+
+-- which of them a number is (`enum row_text` of capi/proved_calls.h)
+abbrev pub row_text_numbered : ℕ → RowText
+row_text_numbered n = if nat_eq n 0 then Codec else Format
 
 -- that of a row among these
 abbrev pub text_in : RowText → List PayloadParams → ℕ → Option (List ℕ)

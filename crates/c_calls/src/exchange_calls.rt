@@ -6,16 +6,15 @@ ghost use Rattle.c_parts.specs.Full.{IsFull};
 ghost use Rattle.c_parts.specs.Row.{c_row};
 ghost use Rattle.c_parts.specs.Side.{RefusesOwn, SaysOwn, own_texts};
 ghost use Rattle.c_calls.specs.Exchanged.{AcceptsOffer, Begins, Goes, state_number};
-ghost use Rattle.c_calls.specs.Found.{text_in};
+ghost use Rattle.c_calls.specs.Found.{row_text_numbered, text_in};
 ghost use Rattle.c_calls.specs.Held.{Of};
 ghost use Rattle.c_calls.specs.Says.{Says};
 ghost use Rattle.c_calls.specs.Status.{done};
-ghost use Rattle.c_calls.specs.declared.row_calls.RowText.TheVariants.{Codec, Format};
 ghost use Rattle.exchange.specs.Exchange.{RefusesOffer};
 ghost use Rattle.exchange.specs.Follows.{IsSound};
 ghost use Rattle.exchange.specs.State.{state_of};
 
-use crate::row_calls::{RowText, put_rows, put_text};
+use crate::row_calls::{put_rows, put_text, row_text_numbered};
 use crate::said::{DONE, NO_MEMORY};
 use crate::told::tell;
 use c_parts::config_handle::ConfigHandle;
@@ -214,11 +213,12 @@ pub extern "C" fn zaxp_exchange_rows(
     code
 }
 
-/// The name of the codec of a row of its configuration.
+/// A text of a row of its configuration, by its number (`enum row_text`).
 #[unsafe(no_mangle)]
-pub extern "C" fn zaxp_exchange_codec(
+pub extern "C" fn zaxp_exchange_text(
     alloc: Global,
     handle: &mut ExchangeHandle,
+    what: u8,
     row: usize,
     room: &mut [u8],
     needed: &mut usize,
@@ -226,44 +226,11 @@ pub extern "C" fn zaxp_exchange_codec(
     requires { IsFull handle.old.inner }
     ensures same { handle.new.inner ≡ handle.old.inner }
     ensures says { Of handle.old.inner (λ it.
-        Says (text_in Codec it.config.params.items row) (room.old, needed.old) (result, room.new, needed.new)) }
+        Says (text_in (row_text_numbered what) it.config.params.items row) (room.old, needed.old) (result, room.new, needed.new)) }
 {
     let exchange = handle.take(alloc);
-    let code = put_text(
-        alloc,
-        exchange.config().params(),
-        row,
-        RowText::Codec,
-        room,
-        needed,
-    );
-    handle.put(exchange);
-    code
-}
-
-/// What the format of a row of its configuration says.
-#[unsafe(no_mangle)]
-pub extern "C" fn zaxp_exchange_format(
-    alloc: Global,
-    handle: &mut ExchangeHandle,
-    row: usize,
-    room: &mut [u8],
-    needed: &mut usize,
-) -> u32
-    requires { IsFull handle.old.inner }
-    ensures same { handle.new.inner ≡ handle.old.inner }
-    ensures says { Of handle.old.inner (λ it.
-        Says (text_in Format it.config.params.items row) (room.old, needed.old) (result, room.new, needed.new)) }
-{
-    let exchange = handle.take(alloc);
-    let code = put_text(
-        alloc,
-        exchange.config().params(),
-        row,
-        RowText::Format,
-        room,
-        needed,
-    );
+    let what = row_text_numbered(what);
+    let code = put_text(alloc, exchange.config().params(), row, what, room, needed);
     handle.put(exchange);
     code
 }

@@ -11,6 +11,7 @@ mod round_calls;
 mod row_calls;
 mod said;
 mod section_calls;
+mod section_lists;
 mod session_calls;
 mod told;
 mod transport_calls;

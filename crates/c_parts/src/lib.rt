@@ -10,5 +10,6 @@ pub mod reading;
 pub mod room;
 pub mod row;
 pub mod section;
+pub mod section_item;
 pub mod session_handle;
 pub mod side;
