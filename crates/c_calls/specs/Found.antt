@@ -1,10 +1,9 @@
 -- What calls find in what a handle owns; nothing where there is no such section or row.
-use Rattle.std.specs.Prelude.{ℕ, List, Option, nat_eq, option_and_then, option_map, if◌then◌else◌}
+use Rattle.std.specs.Prelude.{ℕ, List, Option, nat_eq, option_map, if◌then◌else◌}
 use Rattle.std.specs.List.{slice_get}
 use Rattle.str0m_formats.specs.Codec.{codec_text}
 use Rattle.str0m_formats.specs.FormatParams.{params_text}
 use Rattle.str0m_formats.specs.declared.payload_params.PayloadParams.{PayloadParams}
-use Rattle.str0m_sdp.specs.SectionRows.{rows}
 use Rattle.str0m_sdp.specs.declared.media_line.MediaLine.{MediaLine}
 use Rattle.str0m_sdp.specs.declared.session.Sdp.{Sdp}
 use Rattle.c_parts.specs.Section.{c_section}
@@ -30,14 +29,10 @@ abbrev pub row_text : RowText → PayloadParams → List ℕ
 row_text Codec row = codec_text row.spec.codec
 row_text Format row = params_text row.spec.format
 
--- which of them a number is (`enum row_text` of capi/proved_calls.h)
+-- which of them a number is (of `enum section_text` in capi/proved_calls.h)
 abbrev pub row_text_numbered : ℕ → RowText
 row_text_numbered n = if nat_eq n 0 then Codec else Format
 
 -- that of a row among these
 abbrev pub text_in : RowText → List PayloadParams → ℕ → Option (List ℕ)
 text_in what rows row = option_map (row_text what) (slice_get rows row)
-
--- that of a row of a section
-abbrev pub text_at : RowText → Sdp → ℕ → ℕ → Option (List ℕ)
-text_at what sdp at row = option_and_then (λ (section : MediaLine). text_in what (rows section) row) (slice_get sdp.media_lines at)

@@ -7,5 +7,6 @@ pub mod Held
 pub mod Mid
 pub mod Ran
 pub mod Says
+pub mod SectionTexts
 pub mod Status
 pub mod TransportFound

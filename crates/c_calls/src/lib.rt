@@ -12,6 +12,7 @@ mod row_calls;
 mod said;
 mod section_calls;
 mod section_lists;
+mod section_texts;
 mod session_calls;
 mod told;
 mod transport_calls;
