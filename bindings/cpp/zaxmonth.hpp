@@ -83,6 +83,8 @@ class Session {
     std::vector<zax_row> rows(size_t section) const { return said<std::vector<zax_row>>(zax_rows, section); }
     std::string codec(size_t section, size_t row) const { return said<std::string>(zax_row_codec, section, row); }
     std::string fmtp(size_t section, size_t row) const { return said<std::string>(zax_row_fmtp, section, row); }
+    std::vector<zax_extension> extensions(size_t section) const { return said<std::vector<zax_extension>>(zax_section_extensions, section); }
+    std::string extension_uri(size_t section, size_t extension) const { return said<std::string>(zax_extension_uri, section, extension); }
     std::string json() const { return said<std::string>(zax_json); }
     zax_session *get() const { return handle_.get(); }
 

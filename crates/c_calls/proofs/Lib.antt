@@ -1,2 +1,3 @@
 pub mod Filled
+pub mod Passed
 pub mod Putting

@@ -4,6 +4,7 @@ pub mod Exchanged
 pub mod Findings
 pub mod Found
 pub mod Held
+pub mod LineTexts
 pub mod Mid
 pub mod Ran
 pub mod Says

@@ -6,6 +6,7 @@ mod candidate_calls;
 mod config_calls;
 mod exchange_calls;
 mod finding_calls;
+mod line_texts;
 mod offer_calls;
 mod round_calls;
 mod row_calls;

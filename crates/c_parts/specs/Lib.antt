@@ -1,5 +1,6 @@
 pub mod ConfigOwned
 pub mod ExchangeOwned
+pub mod Extension
 pub mod Fault
 pub mod Full
 pub mod Owned

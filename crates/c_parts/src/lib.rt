@@ -4,6 +4,7 @@
 
 pub mod config_handle;
 pub mod exchange_handle;
+pub mod extension;
 pub mod fault;
 mod parts;
 pub mod reading;
