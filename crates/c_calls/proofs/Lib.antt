@@ -1,3 +1,4 @@
 pub mod Filled
 pub mod Passed
 pub mod Putting
+pub mod RidText

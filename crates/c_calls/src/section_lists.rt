@@ -3,6 +3,8 @@
 ghost use Rattle.std.specs.Prelude.{◌≡◌, Some};
 ghost use Rattle.c_parts.specs.Extension.{c_extensions};
 ghost use Rattle.c_parts.specs.Full.{IsFull};
+ghost use Rattle.c_parts.specs.Layer.{c_layers};
+ghost use Rattle.c_parts.specs.Rid.{c_rids};
 ghost use Rattle.c_parts.specs.Row.{c_rows};
 ghost use Rattle.c_calls.specs.Found.{list_at};
 ghost use Rattle.c_calls.specs.Held.{Of};
@@ -10,6 +12,8 @@ ghost use Rattle.c_calls.specs.Says.{Says};
 
 use crate::said::{NO_MEMORY, NO_SECTION, put};
 use c_parts::extension::SectionExtension;
+use c_parts::layer::SectionLayer;
+use c_parts::rid::SectionRid;
 use c_parts::row::Row;
 use c_parts::section_item::SectionItem;
 use c_parts::session_handle::SessionHandle;
@@ -93,4 +97,36 @@ pub extern "C" fn zaxp_session_extensions(
     ensures says { Of handle.old.inner (λ sdp. Says (list_at c_extensions sdp at) (room.old, needed.old) (result, room.new, needed.new)) }
 {
     list::<SectionExtension>(alloc, handle, at, room, needed)
+}
+
+/// The rid lines of a section.
+#[unsafe(no_mangle)]
+pub extern "C" fn zaxp_session_rids(
+    alloc: Global,
+    handle: &mut SessionHandle,
+    at: usize,
+    room: &mut [SectionRid],
+    needed: &mut usize,
+) -> u32
+    requires { IsFull handle.old.inner }
+    ensures same { handle.new.inner ≡ handle.old.inner }
+    ensures says { Of handle.old.inner (λ sdp. Says (list_at c_rids sdp at) (room.old, needed.old) (result, room.new, needed.new)) }
+{
+    list::<SectionRid>(alloc, handle, at, room, needed)
+}
+
+/// The layers that a section sends, and then those that it receives.
+#[unsafe(no_mangle)]
+pub extern "C" fn zaxp_session_layers(
+    alloc: Global,
+    handle: &mut SessionHandle,
+    at: usize,
+    room: &mut [SectionLayer],
+    needed: &mut usize,
+) -> u32
+    requires { IsFull handle.old.inner }
+    ensures same { handle.new.inner ≡ handle.old.inner }
+    ensures says { Of handle.old.inner (λ sdp. Says (list_at c_layers sdp at) (room.old, needed.old) (result, room.new, needed.new)) }
+{
+    list::<SectionLayer>(alloc, handle, at, room, needed)
 }

@@ -3,8 +3,10 @@ pub mod ExchangeOwned
 pub mod Extension
 pub mod Fault
 pub mod Full
+pub mod Layer
 pub mod Owned
 pub mod Refused
+pub mod Rid
 pub mod Room
 pub mod Row
 pub mod Section
