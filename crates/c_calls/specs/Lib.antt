@@ -9,5 +9,6 @@ pub mod Mid
 pub mod Ran
 pub mod Says
 pub mod SectionTexts
+pub mod SourceTexts
 pub mod Status
 pub mod TransportFound

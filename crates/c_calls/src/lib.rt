@@ -15,5 +15,6 @@ mod section_calls;
 mod section_lists;
 mod section_texts;
 mod session_calls;
+mod source_texts;
 mod told;
 mod transport_calls;

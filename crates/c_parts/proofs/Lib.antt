@@ -2,6 +2,7 @@ pub mod ConfigAsBox
 pub mod Crossing
 pub mod ExchangeAsBox
 pub mod Fullness
+pub mod Grouped
 pub mod Listed
 pub mod Refusals
 pub mod SessionAsBox

@@ -12,3 +12,5 @@ pub mod Row
 pub mod Section
 pub mod SessionOwned
 pub mod Side
+pub mod Source
+pub mod SourceGroup

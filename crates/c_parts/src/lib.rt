@@ -16,3 +16,5 @@ pub mod section;
 pub mod section_item;
 pub mod session_handle;
 pub mod side;
+pub mod source;
+pub mod source_group;
