@@ -44,6 +44,8 @@ MEDIA = {
     "mid": (r"mid:(.+)", ""),
     "msid": (r"msid:(\S+ .+)", ""),
     "direction": (r"(sendrecv|sendonly|recvonly|inactive)", ""),
+    "iceMismatch": (r"(ice-mismatch)", ""),
+    "[imageattrs]": (r"imageattr:(\S+) (.+)", "pt attrs"),
     "rtcpMux": (r"(rtcp-mux)", ""),
     "rtcpMuxOnly": (r"(rtcp-mux-only)", ""),
     "rtcpRsize": (r"(rtcp-rsize)", ""),

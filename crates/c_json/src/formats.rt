@@ -4,7 +4,7 @@ use crate::members::Members;
 use crate::words::{content, first_word};
 use std::alloc::{AllocError, Global};
 use str0m_sdp::label;
-use str0m_signal::{Extension, MediaAttribute, Pt, RtpMap};
+use str0m_signal::{Extension, MediaAttribute, Pt, RtpMap, Text};
 
 fn of_type(alloc: Global, pt: Pt) -> Result<Members, AllocError> {
     let mut members = Members::new(alloc);
@@ -61,6 +61,19 @@ pub(crate) fn add_fmtp(
     let mut fmtp = of_type(alloc, pt)?;
     fmtp.text("config", config)?;
     members.append_object("fmtp", fmtp)
+}
+
+/// Adds which pictures a payload type, or each, may carry (RFC 6236, section 3.1).
+pub(crate) fn add_image_attr(
+    alloc: Global,
+    members: &mut Members,
+    pt: &Text,
+    attrs: &Text,
+) -> Result<(), AllocError> {
+    let mut pictures = Members::new(alloc);
+    pictures.text("pt", pt.as_str())?;
+    pictures.text("attrs", attrs.as_str())?;
+    members.append_object("imageattrs", pictures)
 }
 
 /// Adds a header extension that is listed (RFC 8285, section 5).

@@ -1,6 +1,7 @@
 //! What stands in front of the attributes of a session or of a section, as it prints (RFC 8866, sections 5.1 to 5.14).
 
 use crate::members::Members;
+use crate::transport::add_unread;
 use crate::words::first_word;
 use std::alloc::{AllocError, Global};
 
@@ -80,12 +81,8 @@ fn add_bandwidth(alloc: Global, members: &mut Members, text: &str) -> Result<(),
     members.append_object("bandwidth", bandwidth)
 }
 
-fn add_line(
-    alloc: Global,
-    members: &mut Members,
-    letter: &str,
-    text: &str,
-) -> Result<(), AllocError> {
+fn add_line(alloc: Global, members: &mut Members, line: &str) -> Result<(), AllocError> {
+    let (letter, text) = line.split_once('=').unwrap_or((line, ""));
     match letter {
         "v" => members.number_or_text("version", text),
         "o" => add_origin(alloc, members, text),
@@ -94,16 +91,15 @@ fn add_line(
         "m" => add_media(members, text),
         "c" => add_connection(alloc, members, text),
         "b" => add_bandwidth(alloc, members, text),
-        _ => Ok(()),
+        "a" => Ok(()), // (attributes are added one by one)
+        _ => add_unread(alloc, members, line),
     }
 }
 
 /// Adds what the lines of a printed session or section say that aren't attributes.
 pub(crate) fn add_head(alloc: Global, members: &mut Members, text: &str) -> Result<(), AllocError> {
     for line in text.lines() {
-        if let Some((letter, text)) = line.split_once('=') {
-            add_line(alloc, members, letter, text)?;
-        }
+        add_line(alloc, members, line)?;
     }
     Ok(())
 }

@@ -30,7 +30,11 @@ fn add_fingerprint(
     members.put("fingerprint", fingerprint.into_value())
 }
 
-fn add_unread(alloc: Global, members: &mut Members, text: &str) -> Result<(), AllocError> {
+pub(crate) fn add_unread(
+    alloc: Global,
+    members: &mut Members,
+    text: &str,
+) -> Result<(), AllocError> {
     let mut unread = Members::new(alloc);
     unread.text("value", text)?;
     members.append_object("invalid", unread)
