@@ -26,7 +26,7 @@ pub(crate) enum LineText {
 }
 
 /// Whether the line says it.
-fn says(line: &MediaAttribute, what: LineText) -> bool
+fn has_text(line: &MediaAttribute, what: LineText) -> bool
     ensures { result ≡ is_some (line_text what line.now) }
 {
     match what {
@@ -41,7 +41,7 @@ fn says(line: &MediaAttribute, what: LineText) -> bool
 fn line_at(lines: &[MediaAttribute], what: LineText, index: usize) -> Option<&MediaAttribute>
     ensures { option_copied result ≡ slice_get (filter (λ line. is_some (line_text what line)) lines.now) index }
 {
-    lines.iter().filter(|line| says(line, what)).nth(index)
+    lines.iter().filter(|line| has_text(line, what)).nth(index)
 }
 
 /// What a printed line has behind a front of so many bytes and one more, without its end.
