@@ -1,6 +1,6 @@
 -- What items say, where some say nothing.
-use Rattle.std.proofs.Common.{◌≡◌, ℕ, zero, suc, List, [], ◌∷◌, Option, Some, None, cond, cons_option, filter, filter_map, is_some, option_and_then, refl, sym}
-use Rattle.std.specs.List.{slice_get}
+use Rattle.std.proofs.Common.{◌≡◌, ℕ, zero, suc, List, [], ◌∷◌, Option, Some, None, cond, filter, filter_map, is_some, option_and_then, refl, sym}
+use Rattle.std.specs.List.{cons_option, slice_get}
 
 module _ {X Y : Type 0} (f : X → Option Y) where
   step : (x : X) (o : Option Y) (xs : List X) (i : ℕ) → f x ≡ o
