@@ -1,1 +1,2 @@
 pub mod JsonText
+pub mod Levels

@@ -1,5 +1,6 @@
 //! A description as JSON (RFC 8259), by the keys of sdp-transform, which reads descriptions in JavaScript. `description` has the
-//! whole; `head` what stands in front of attributes; the others what attributes and rows say. `findings` has what is found in a text.
+//! whole, `session` and `section` have their members in the order of the keys; `json_writer` writes; `head` has what stands in front
+//! of attributes; the others what attributes and rows say. `findings` has what is found in a text.
 #![tactic(auto)]
 
 mod candidate;
@@ -7,10 +8,13 @@ mod description;
 mod findings;
 mod formats;
 mod head;
-mod media_attribute;
-mod members;
+mod json_writer;
+mod lists;
 mod rows;
-mod session_attribute;
+mod section;
+mod section_lists;
+mod session;
+mod session_lists;
 mod streams;
 mod transport;
 mod words;

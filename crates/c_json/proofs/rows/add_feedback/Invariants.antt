@@ -1,0 +1,6 @@
+use Rattle.std.proofs.Common.{◌≡◌}
+use Rattle.c_json.proofs.rows.add_feedback.Given as goal
+
+-- the list is still open
+abbrev pub invariant-loop-is_on : goal.invariant-loop-is_on
+invariant-loop-is_on l = l.json ≡ l.initial.json
