@@ -36,7 +36,7 @@ pub(crate) fn described(alloc: Global, text: &str) -> Result<Sdp, SdpError>
 }
 
 /// How many bytes of text a line takes, as a guess that most lines don't pass.
-const BYTES_OF_A_LINE: usize = 48;
+pub(crate) const BYTES_OF_A_LINE: usize = 48;
 
 /// How many bytes the description takes where it is printed, as a guess: no answer depends on it.
 fn likely_length(sdp: &Sdp) -> usize {
@@ -69,13 +69,12 @@ impl Model for SdpOffer {
 }
 
 impl SdpOffer {
-    /// Reads the description that a text begins with. What follows the first line that fits
-    /// nowhere is dropped.
+    /// Reads the description that a text begins with. What follows the first line that fits nowhere is dropped.
     ///
     /// # Errors
     ///
-    /// `ParseError` exactly where a header line is missing or wrong, or where a section that is
-    /// reached isn't consistent; `Memory` where a growth was refused.
+    /// `ParseError` exactly where a header line is missing or wrong, or where a section that is reached isn't consistent; `Memory`
+    /// where a growth was refused.
     pub fn from_sdp_string(alloc: Global, text: &str) -> Result<SdpOffer, SdpError>
         ensures read { Answers (λ offer. offer) result (Described text.now) }
         ensures one { AtMostOne (Described text.now) }
@@ -135,13 +134,12 @@ impl Model for SdpAnswer {
 }
 
 impl SdpAnswer {
-    /// Reads the description that a text begins with. What follows the first line that fits
-    /// nowhere is dropped.
+    /// Reads the description that a text begins with. What follows the first line that fits nowhere is dropped.
     ///
     /// # Errors
     ///
-    /// `ParseError` exactly where a header line is missing or wrong, or where a section that is
-    /// reached isn't consistent; `Memory` where a growth was refused.
+    /// `ParseError` exactly where a header line is missing or wrong, or where a section that is reached isn't consistent; `Memory`
+    /// where a growth was refused.
     pub fn from_sdp_string(alloc: Global, text: &str) -> Result<SdpAnswer, SdpError>
         ensures read { Answers (λ answer. answer) result (Described text.now) }
         ensures one { AtMostOne (Described text.now) }

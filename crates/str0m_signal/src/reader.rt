@@ -68,14 +68,13 @@ fn read_sdp(alloc: Global, text: &str) -> Result<(Sdp, &str), SdpError>
     Ok((sdp, rest))
 }
 
-/// Reads the session that a text begins with: its header and its attribute lines (RFC 8866,
-/// section 5). Answers the session and the unread rest, a slice of the text, which begins at the
-/// first line that is no session attribute. What stands in the rest refuses nothing.
+/// Reads the session that a text begins with: its header and its attribute lines (RFC 8866, section 5). Answers the session and the
+/// unread rest, a slice of the text, which begins at the first line that is no session attribute. What stands in the rest refuses
+/// nothing.
 ///
 /// # Errors
 ///
-/// `ParseError` exactly where a header line is missing or wrong; `Memory` where a growth was
-/// refused.
+/// `ParseError` exactly where a header line is missing or wrong; `Memory` where a growth was refused.
 pub fn session_parser(alloc: Global, text: &str) -> Result<(Session, &str), SdpError>
     ensures read { Answers unread result (SessionReading text.now) }
     ensures one { AtMostOne (SessionReading text.now) }
@@ -86,14 +85,13 @@ pub fn session_parser(alloc: Global, text: &str) -> Result<(Session, &str), SdpE
     read_session(alloc, text)
 }
 
-/// Reads the description that a text begins with: the session and all sections that follow
-/// (RFC 8866, section 5). Answers it and the unread rest, a slice of the text, which begins at the
-/// first line that fits nowhere.
+/// Reads the description that a text begins with: the session and all sections that follow (RFC 8866, section 5). Answers it and
+/// the unread rest, a slice of the text, which begins at the first line that fits nowhere.
 ///
 /// # Errors
 ///
-/// `ParseError` exactly where a header line is missing or wrong, or where a section that is reached
-/// isn't consistent; `Memory` where a growth was refused.
+/// `ParseError` exactly where a header line is missing or wrong, or where a section that is reached isn't consistent; `Memory`
+/// where a growth was refused.
 pub fn sdp_parser(alloc: Global, text: &str) -> Result<(Sdp, &str), SdpError>
     ensures read { Answers unread result (Reading text.now) }
     ensures one { AtMostOne (Reading text.now) }
@@ -107,13 +105,12 @@ pub fn sdp_parser(alloc: Global, text: &str) -> Result<(Sdp, &str), SdpError>
     read_sdp(alloc, text)
 }
 
-/// Reads the first line of a text as an attribute line of a session. Answers the attribute and the
-/// rest after the line, a slice of the text.
+/// Reads the first line of a text as an attribute line of a session. Answers the attribute and the rest after the line, a slice of
+/// the text.
 ///
 /// # Errors
 ///
-/// `ParseError` exactly where the first line is no attribute line; `Memory` where a growth was
-/// refused.
+/// `ParseError` exactly where the first line is no attribute line; `Memory` where a growth was refused.
 pub fn session_attribute_line(
     alloc: Global,
     text: &str,
@@ -127,13 +124,12 @@ pub fn session_attribute_line(
     first_attribute(alloc, text)
 }
 
-/// Reads the first line of a text as an attribute line of a section. Answers the attribute and the
-/// rest after the line, a slice of the text.
+/// Reads the first line of a text as an attribute line of a section. Answers the attribute and the rest after the line, a slice of
+/// the text.
 ///
 /// # Errors
 ///
-/// `ParseError` exactly where the first line is no attribute line; `Memory` where a growth was
-/// refused.
+/// `ParseError` exactly where the first line is no attribute line; `Memory` where a growth was refused.
 pub fn media_attribute_line(alloc: Global, text: &str) -> Result<(MediaAttribute, &str), SdpError>
     ensures read { Answers unread result (FirstLine IsMediaLine text.now) }
     ensures one { AtMostOne (FirstLine IsMediaLine text.now) }
@@ -144,8 +140,8 @@ pub fn media_attribute_line(alloc: Global, text: &str) -> Result<(MediaAttribute
     first_attribute(alloc, text)
 }
 
-/// Reads the first line of a text as the line of a candidate (RFC 8839, section 5.1). Answers the
-/// candidate and the rest after the line, a slice of the text.
+/// Reads the first line of a text as the line of a candidate (RFC 8839, section 5.1). Answers the candidate and the rest after the
+/// line, a slice of the text.
 ///
 /// # Errors
 ///
