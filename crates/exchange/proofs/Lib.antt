@@ -8,6 +8,8 @@ pub mod FitsLaws
 pub mod FollowLaws
 pub mod FreshLaws
 pub mod InForceLaws
+pub mod KnownLaws
+pub mod KnownLines
 pub mod LayerLaws
 pub mod ListLaws
 pub mod OfferFollows

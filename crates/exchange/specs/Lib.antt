@@ -14,6 +14,7 @@ pub mod Follows
 pub mod FreshNames
 pub mod InBundle
 pub mod InForce
+pub mod KnownReading
 pub mod Layers
 pub mod MadeOffer
 pub mod Names

@@ -35,6 +35,7 @@ use crate::answered_session::answered_session;
 use crate::copied_over::copy_over;
 use crate::exchange_error::ExchangeError;
 use crate::fresh_names::fresh_names;
+use crate::known_reading::reading_of;
 use crate::made_offer::{made_offer, placed_as, taken_names};
 use crate::names::grown;
 use crate::offer::Offer;
@@ -44,13 +45,10 @@ use crate::own_names::first_named_again;
 use crate::own_side::{OwnSide, with_direction};
 use crate::pending::Pending;
 use crate::places::{first_moved, sections_of};
-use crate::read_back::read_back;
 use crate::rule::Rule;
 use crate::signaling_state::SignalingState;
 use std::alloc::{AllocError, Global};
-use str0m_signal::{
-    CodecConfig, Direction, IceCreds, Items, MediaKind, Mid, Round, Sdp, VersionedSdp,
-};
+use str0m_signal::{CodecConfig, Direction, IceCreds, Items, MediaKind, Mid, Round, Sdp};
 
 /// One side of an exchange of offers and answers (RFC 3264; RFC 8829).
 #[derive(Drop)]
@@ -68,9 +66,6 @@ pub struct Exchange {
     pub(crate) names: Items<Mid>,
 }
 
-/// The room that most printed descriptions fit in, in bytes: no answer depends on it.
-const USUAL_ROOM: usize = 4096;
-
 /// A copy of a description, where the other side reads the text that it prints with this version as what it says.
 pub(crate) fn printable_copy(
     alloc: Global,
@@ -81,10 +76,7 @@ pub(crate) fn printable_copy(
         (IsReadBack sdp.now (versioned_text version sdp.now) → ⊥)
         (λ copy. (copy ≡ sdp.now) × IsReadBack sdp.now (versioned_text version sdp.now))) }
 {
-    let printed = VersionedSdp { sdp, version };
-    let mut text = String::with_capacity(alloc, USUAL_ROOM)?;
-    write!(text, "{printed}")?;
-    let Some(mut copy) = read_back(alloc, sdp, text.as_str())? else {
+    let Some(mut copy) = reading_of(alloc, sdp, version)? else {
         return Ok(None);
     };
     copy_over(sdp, &mut copy)?;

@@ -19,6 +19,8 @@ mod fits_section;
 mod fresh_names;
 mod in_bundle;
 mod in_force;
+mod known_lines;
+mod known_reading;
 mod layers;
 mod made_offer;
 mod names;

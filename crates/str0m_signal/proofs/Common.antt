@@ -51,7 +51,7 @@ pub use Rattle.str0m_sdp.specs.RowAttributes.{row_attrs, feedback_line, feedback
 pub use Rattle.str0m_sdp.specs.RowBounds.{HasBoundedRows, KeepsToLine, IsInRange, KeepsToLines}
 pub use Rattle.str0m_sdp.specs.RtpMap.{map_of_spec, channels_text, rtp_map_text}
 pub use Rattle.str0m_sdp.specs.SectionOf.{is_of_type, made}
-pub use Rattle.str0m_sdp.specs.Session.{sdp_text, origin_line, session_text}
+pub use Rattle.str0m_sdp.specs.Session.{sdp_text, session_lines, versioned_origin}
 pub use Rattle.str0m_sdp.specs.Setup.{setup_text}
 pub use Rattle.str0m_sdp.specs.Simulcast.{name_text, id_text, layer_text, layers_text, sides_text, unless_munged}
 pub use Rattle.str0m_sdp.specs.declared.attribute.MediaAttribute.{MediaAttribute}

@@ -1,12 +1,12 @@
 -- A writable session with rows in the place of a section: its text has a reading with nothing left, and that section is read as the
 -- frame with the lines of the rows.
-use Rattle.str0m_signal.proofs.Common.{◌≡◌, ◌≢◌, ◌<◌, ◌^◌, inl, inr, ℕ, zero, suc, true, List, [], ◌∷◌, ◌++◌, Some, refl, arith, AllByRecursion, flat_map, slice_get, types, FormatParam, PayloadParams, session_attribute_text, Consistent, is_media, row_attrs, is_of_type, sdp_text, MediaLine, Sdp, reads, slice_set, not, filter, made}
+use Rattle.str0m_signal.proofs.Common.{◌≡◌, ◌≢◌, ◌<◌, ◌^◌, inl, inr, ℕ, zero, suc, true, List, [], ◌∷◌, ◌++◌, Some, refl, arith, codes, AllByRecursion, flat_map, slice_get, types, FormatParam, PayloadParams, session_attribute_text, Consistent, is_media, row_attrs, is_of_type, sdp_text, MediaLine, Sdp, reads, slice_set, not, filter, made}
 use Rattle.str0m_signal.specs.SessionAttribute.{IsSessionLine}
 use Rattle.str0m_signal.specs.Reading.{Reading}
 use Rattle.str0m_signal.specs.ReadBack.{with_rows}
 use Rattle.str0m_signal.specs.Writable as writable
 use Rattle.str0m_signal.specs.Writable.{Writable, frame_of}
-use Rattle.str0m_signal.proofs.PrintedAttributes.{AreReadAs}
+use Rattle.str0m_signal.proofs.PrintedAttributes.{AreReadAs, no_end}
 use Rattle.str0m_signal.proofs.Readings.{read_of, reading_printed}
 use Rattle.str0m_signal.proofs.RowLines.{ReadAs, joins, rows_read}
 use Rattle.str0m_signal.proofs.SectionLines.{AreTypes, head_printed}
@@ -94,7 +94,7 @@ with_rows_read sdp i w row rows values small media fits each consistent =
     record {
       read = read_of sdp w.session.0 sections.sections;
       whole =
-          reading_printed (with_rows sdp i w.section theirs) w.session.0 sections.sections small w.bandwidth
+          reading_printed (codes "2") (with_rows sdp i w.section theirs) w.session.0 sections.sections (no_end (codes "2") refl refl) small w.bandwidth
           (plainly session_attribute_text IsSessionLine writable.SessionGoesWith sdp.session.attrs w.session.0 w.session.1) sections.are;
       at = sections.at;
     }

@@ -32,10 +32,10 @@ name_again = record {
 -- ---- bytes
 
 -- a printed digit is worth what it was printed for
-glyph_value : (d : ℕ) → d < 16 → digit_value (digit_glyph true d) ≡ d
+pub glyph_value : (d : ℕ) → d < 16 → digit_value (digit_glyph true d) ≡ d
 glyph_value d lt = grind arith
 
-glyph_lacks : (c d : ℕ) → 16 ≤ digit_value c → d < 16 → digit_glyph true d ≡ c → ⊥
+pub glyph_lacks : (c d : ℕ) → 16 ≤ digit_value c → d < 16 → digit_glyph true d ≡ c → ⊥
 glyph_lacks c d far lt e = grind arith
 
 pair_small : (text : List ℕ) (byte : ℕ) → IsHexPair text byte → (byte / 16 < 16) × (byte % 16 < 16)

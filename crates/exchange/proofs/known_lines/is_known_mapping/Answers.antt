@@ -1,0 +1,8 @@
+use Rattle.std.proofs.Common.{◌<◌, subst, ℕ}
+use Rattle.exchange.proofs.KnownLines.{mapping_known}
+use Rattle.exchange.proofs.known_lines.is_known_mapping.Goals as goal
+
+pub returns-then-value-lt128 : goal.returns-then-value-lt128
+returns-then-value-lt128 c = λ usual.
+    let (fits, named) = c.is_usual.ensures usual in
+    mapping_known c.args.pt c.args.value.now (subst (λ (n : ℕ). n < 128) c.value.ensures.value c.if-value-lt128.true) fits named

@@ -1,0 +1,8 @@
+use Rattle.std.proofs.Common.{subst, sym}
+use Rattle.exchange.specs.KnownReading.{IsLineReadAs}
+use Rattle.exchange.proofs.KnownLines.{read_as_itself}
+use Rattle.exchange.proofs.known_lines.line_back.Goals as goal
+
+pub returns-then-is_known : goal.returns-then-is_known
+returns-then-is_known c =
+    subst (IsLineReadAs c.args.attr.now) (sym c.in_ok-clone.ensures) (read_as_itself c.args.attr.now (c.is_known.ensures c.if-is_known.true))
