@@ -1,5 +1,5 @@
 -- Answers to an offer of this side.
-use Rattle.exchange.specs.Prelude.{PayloadParams, Reading, Sdp}
+use Rattle.exchange.specs.Prelude.{AllDistinct, IsPlain, LockedStay, PayloadParams, Reading, Sdp, types}
 use Rattle.exchange.specs.answer.Offered.{NegotiatesOffer, RefusesText}
 use Rattle.exchange.specs.declared.offer.added.Placed.{Placed}
 use Rattle.exchange.specs.declared.offer.pending.Pending.{Pending}
@@ -8,9 +8,10 @@ use Rattle.exchange.specs.declared.state.exchange.Exchange.{Exchange}
 use Rattle.exchange.specs.declared.state.exchange_error.ExchangeError.{ExchangeError}
 use Rattle.exchange.specs.declared.state.exchange_error.ExchangeError.TheVariants.{NotRead, Unread, WrongState, DoesNotFit, NoRows, NoChannels, NoName, NotPrintable, Memory}
 use Rattle.exchange.specs.declared.state.signaling_state.SignalingState.TheVariants.{Stable}
-use Rattle.exchange.specs.offer.Fits.{Breaks}
+use Rattle.exchange.specs.offer.Fits.{Breaks, FitsOffer}
 use Rattle.exchange.specs.state.State.{pending_sdp}
-use Rattle.std.specs.Prelude.{◌≡◌, ℕ, List, [], Option, Some, None}
+use Rattle.std.specs.Prelude.{◌≡◌, ℕ, List, [], Option, Some, None, All}
+use Rattle.str0m_formats.specs.declared.row.codec_config.CodecConfig.{CodecConfig}
 
 -- the text is this description, and nothing follows it
 abbrev pub IsAnswer : List ℕ → Sdp → Type 0
@@ -51,3 +52,15 @@ RefusesAnswer old text NoChannels = ⊥
 RefusesAnswer old text NoName = ⊥
 RefusesAnswer old text NotPrintable = ⊥
 RefusesAnswer old text Memory = Unit {0}
+
+-- the text is an answer that fits the open offer, and its rounds lead to this configuration
+pub record IsTakenWith (old : Exchange) (text : List ℕ) (answer : Sdp) (after : CodecConfig) : Type 0 where
+  pub offer : Pending
+  pub open_so : old.pending ≡ Some offer
+  pub read : IsAnswer text answer
+  pub fits : FitsOffer after.params.items offer.sdp answer
+  pub negotiated : NegotiatesOffer answer old.config.params.items after.params.items
+  pub stay : LockedStay old.config.params.items after.params.items
+  pub distinct : AllDistinct (types old.config.params.items) → AllDistinct (types after.params.items)
+  pub plain : All IsPlain old.config.params.items → All IsPlain after.params.items
+  pub distances : after.red_distances ≡ old.config.red_distances

@@ -1,6 +1,6 @@
 //! Answers of this side to offers.
 ghost use Rattle.exchange.specs.Prelude.{AllDistinct, AreDistinct, HasBoundedRows, IsPlain, LockedStay, section_mids, types, versioned_text};
-ghost use Rattle.exchange.specs.answer.AcceptedOffer.{tracks};
+ghost use Rattle.exchange.specs.answer.AcceptedOffer.{IsAnsweredWith, tracks};
 ghost use Rattle.exchange.specs.answer.AnsweredSession.{BundlesAccepted};
 ghost use Rattle.exchange.specs.answer.Offered.{AreOfferRounds, IsOffer, NegotiatesOffer};
 ghost use Rattle.exchange.specs.declared.state.signaling_state.SignalingState.TheVariants.{Stable};
@@ -12,7 +12,7 @@ ghost use Rattle.exchange.specs.state.ExchangeFollows.{Follows, IsSound};
 ghost use Rattle.exchange.specs.state.ReadBack.{IsReadBack};
 ghost use Rattle.exchange.specs.state.State.{sections_of, state_of};
 ghost use Rattle.std.specs.List.{AllZip};
-ghost use Rattle.std.specs.Prelude.{All, ◌≡◌, ◌+◌, ◌-◌, ◌^◌, IfErr, IfOk, IsSomeAnd, OnErr, OnOk, Some, min};
+ghost use Rattle.std.specs.Prelude.{All, ◌≡◌, ◌+◌, ◌-◌, ◌^◌, ◌↔◌, IfErr, IfOk, IsSomeAnd, OnErr, OnOk, Some, min};
 
 use crate::answer::Answer;
 use crate::answer::answered_section::answered_sections;
@@ -27,6 +27,19 @@ use crate::state::exchange_error::ExchangeError;
 use crate::state::own_side::OwnSide;
 use std::alloc::{AllocError, Global};
 use str0m_signal::{CodecConfig, Items, Mid, Round, Sdp};
+
+/// An offer and what answers it, of which nothing is in force yet.
+#[derive(Drop)]
+struct Answering {
+    remote: Sdp,
+    /// The rows after the rounds of the offer.
+    config: CodecConfig,
+    sdp: Sdp,
+    /// A copy of the answer, which stays.
+    local: Sdp,
+    /// The names that sections have had, those of the answer among them.
+    names: Items<Mid>,
+}
 
 /// The description that answers an offer.
 #[tactic(auto, using(crate::proofs::answer::BundleLaws::bundles))]
@@ -115,6 +128,29 @@ impl Exchange {
         }
     }
 
+    /// What this side answers to an offer.
+    fn answering(&self, offer: &str) -> Result<Answering, ExchangeError>
+        ensures answered { IfOk result (λ it. IsAnsweredWith self.now offer.now it.remote it.config it.sdp) }
+        ensures same { IfOk result (λ it. it.local ≡ it.sdp) }
+        ensures names { IfOk result (λ it. it.names ≡ grown self.now.names it.sdp.media_lines) }
+        ensures refused { IfErr result (RefusesOffer self.now offer.now) }
+    {
+        let remote = self.placed_offer(offer)?;
+        let alloc = *self.config.allocator();
+        let rounds = rounds_of(alloc, &remote)?;
+        let config = negotiated_by(&self.config, &remote, rounds.as_slice())?;
+        let sdp = description_for(alloc, &self.own, &config, &remote, rounds.as_slice())?;
+        let local = self.printable_answer(&config, &remote, &sdp)?;
+        let names = grown(alloc, &self.names, local.media_lines.as_slice())?;
+        Ok(Answering {
+            remote,
+            config,
+            sdp,
+            local,
+            names,
+        })
+    }
+
     /// Answers an offer (RFC 3264, section 6; RFC 8829, section 5.3): with as many sections, in its order, of the same
     /// types, protocols and names. One is rejected exactly where it is stopped, where it is neither media over RTP nor
     /// data channels over SCTP, or where this side has nothing for it. Media flows where both sides are ready for it, with
@@ -166,15 +202,9 @@ impl Exchange {
         ensures unchanged { OnErr result (self.new ≡ self.old) }
     {
         self.check_stable()?;
-        let remote = self.placed_offer(offer)?;
-        let alloc = *self.config.allocator();
-        let rounds = rounds_of(alloc, &remote)?;
-        let config = negotiated_by(&self.config, &remote, rounds.as_slice())?;
-        let sdp = description_for(alloc, &self.own, &config, &remote, rounds.as_slice())?;
-        let local = self.printable_answer(&config, &remote, &sdp)?;
-        let names = grown(alloc, &self.names, local.media_lines.as_slice())?;
-        let answer = Answer::new(sdp, self.version);
-        self.settle(Some(local), remote, config, names);
+        let made = self.answering(offer)?;
+        let answer = Answer::new(made.sdp, self.version);
+        self.settle(Some(made.local), made.remote, made.config, made.names);
         self.version = next_version(self.version);
         Ok(answer)
     }

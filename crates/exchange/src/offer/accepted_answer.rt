@@ -2,7 +2,7 @@
 ghost use Rattle.exchange.specs.Prelude.{AllDistinct, IsPlain, LockedStay, types};
 ghost use Rattle.exchange.specs.answer.Offered.{NegotiatesOffer};
 ghost use Rattle.exchange.specs.declared.state.signaling_state.SignalingState.TheVariants.{HaveLocalOffer, Stable};
-ghost use Rattle.exchange.specs.offer.AcceptedAnswer.{IsAnswer, RefusesAnswer, RefusesFit, placed_of};
+ghost use Rattle.exchange.specs.offer.AcceptedAnswer.{IsAnswer, IsTakenWith, RefusesAnswer, RefusesFit, placed_of};
 ghost use Rattle.exchange.specs.offer.Added.{with_placed};
 ghost use Rattle.exchange.specs.offer.Fits.{FitsOffer};
 ghost use Rattle.exchange.specs.offer.Names.{grown};
@@ -17,9 +17,10 @@ use crate::offer::names::grown;
 use crate::offer::pending::Pending;
 use crate::state::exchange::{Exchange, negotiated};
 use crate::state::exchange_error::ExchangeError;
+use crate::state::own_side::SectionDirection;
 use crate::state::signaling_state::SignalingState;
 use std::alloc::{AllocError, Global};
-use str0m_signal::{CodecConfig, Items, Sdp};
+use str0m_signal::{CodecConfig, Items, Mid, Sdp};
 
 /// An error where an answer doesn't fit an offer of this side, which has this configuration after the rounds of the answer.
 fn check_fit(
@@ -62,7 +63,48 @@ fn taken(pending: &mut Option<Pending>) -> Option<Sdp>
     }
 }
 
+/// An answer that fits the open offer, and what it leads to, of which nothing is in force yet.
+#[derive(Drop)]
+struct Fitting {
+    remote: Sdp,
+    /// The rows after the rounds of the answer.
+    config: CodecConfig,
+    /// The names that sections have had, those of the offer among them.
+    names: Items<Mid>,
+    directions: Items<SectionDirection>,
+    /// What no exchange has placed yet.
+    added: Items<Added>,
+}
+
 impl Exchange {
+    /// The answer that a text is, where it fits the open offer.
+    fn fitting(&self, answer: &str) -> Result<Fitting, ExchangeError>
+        ensures taken { IfOk result (λ it. IsTakenWith self.now answer.now it.remote it.config) }
+        ensures names { IfOk result (λ it. it.names ≡ grown self.now.names (sections_of (pending_sdp self.now))) }
+        ensures directions { IfOk result (λ it. it.directions ≡ with_placed self.now.own.directions (placed_of self.now)) }
+        ensures added { IfOk result (λ it. it.added ≡ drop (length (placed_of self.now)) self.now.added) }
+        ensures refused { IfErr result (RefusesAnswer self.now answer.now) }
+    {
+        let Some(pending) = &self.pending else {
+            return Err(ExchangeError::WrongState(SignalingState::Stable));
+        };
+        let alloc = *self.config.allocator();
+        let remote = whole_description(alloc, answer)?;
+        let config = negotiated(&self.config, &remote)?;
+        check_fit(alloc, &config, &pending.sdp, &remote)?;
+        let names = grown(alloc, &self.names, pending.sdp.media_lines.as_slice())?;
+        let placed = pending.placed.as_slice();
+        let directions = with_placed(alloc, self.own.directions.as_slice(), placed)?;
+        let added = added_behind(alloc, self.added.as_slice(), placed.len())?;
+        Ok(Fitting {
+            remote,
+            config,
+            names,
+            directions,
+            added,
+        })
+    }
+
     /// Takes the answer to this side's open offer (RFC 8829, section 5.11). It has to fit the offer, `Rule` by `Rule`: as many
     /// sections of the same types, protocols and mids, each accepted one in a direction, a role, lines and layers that the
     /// offer leaves open, with a format that both sides have, and reached by credentials and a fingerprint; in its `BUNDLE`
@@ -99,21 +141,11 @@ impl Exchange {
         ensures refused { IfErr result (RefusesAnswer self.old answer.now) }
         ensures unchanged { OnErr result (self.new ≡ self.old) }
     {
-        let Some(pending) = &self.pending else {
-            return Err(ExchangeError::WrongState(SignalingState::Stable));
-        };
-        let alloc = *self.config.allocator();
-        let remote = whole_description(alloc, answer)?;
-        let config = negotiated(&self.config, &remote)?;
-        check_fit(alloc, &config, &pending.sdp, &remote)?;
-        let names = grown(alloc, &self.names, pending.sdp.media_lines.as_slice())?;
-        let placed = pending.placed.as_slice();
-        let directions = with_placed(alloc, self.own.directions.as_slice(), placed)?;
-        let added = added_behind(alloc, self.added.as_slice(), placed.len())?;
+        let found = self.fitting(answer)?;
         let local = taken(&mut self.pending);
-        self.settle(local, remote, config, names);
-        self.own.directions = directions;
-        self.added = added;
+        self.settle(local, found.remote, found.config, found.names);
+        self.own.directions = found.directions;
+        self.added = found.added;
         Ok(())
     }
 }
