@@ -155,7 +155,7 @@ pub(crate) fn command<'a>(alloc: Global) -> Result<Command<'a>, AllocError> {
         .version("0.25.0")
         .about("Takes the steps of a session, and writes the last answer or offer of this side")
         .arg(steps)?;
-    for (name, value, takes, help) in OPTIONS {
+    for &(name, value, takes, help) in &OPTIONS {
         let arg = Arg::new(alloc, name).long(name).help(help);
         let arg = match takes {
             Takes::Nothing => arg.action(ArgAction::SetTrue),

@@ -92,16 +92,28 @@ fn rules(alloc: Global) -> Result<Value, AllocError> {
     Ok(Value::Array(rules))
 }
 
+/// The program as the driver of a run of SARIF (section 3.19).
+fn driver(alloc: Global) -> Result<Value, AllocError> {
+    let rules = rules(alloc)?;
+    json!(in alloc; {"name": "sdplint", "version": "0.25.0", "rules": rules})
+}
+
+/// A run of SARIF (section 3.14).
+fn run(alloc: Global, results: Vec<Value>) -> Result<Value, AllocError> {
+    let (driver, results) = (driver(alloc)?, Value::Array(results));
+    json!(in alloc; {
+        "tool": {"driver": driver},
+        "columnKind": "unicodeCodePoints",
+        "results": results
+    })
+}
+
 /// A log of SARIF with one run (section 3.13).
 pub(crate) fn log(alloc: Global, results: Vec<Value>) -> Result<Value, AllocError> {
-    let (rules, results) = (rules(alloc)?, Value::Array(results));
+    let run = run(alloc, results)?;
     json!(in alloc; {
         "$schema": "https://json.schemastore.org/sarif-2.1.0.json",
         "version": "2.1.0",
-        "runs": [{
-            "tool": {"driver": {"name": "sdplint", "version": "0.25.0", "rules": rules}},
-            "columnKind": "unicodeCodePoints",
-            "results": results
-        }]
+        "runs": [run]
     })
 }
