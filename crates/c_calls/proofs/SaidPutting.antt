@@ -7,7 +7,8 @@ use Rattle.std.proofs.lemmas.Bool.{le-leb, lt-leb, iff_false, cases_lt}
 
 -- items that fit are put there
 pub put_fits : {X : Type 0} (items before after : List X) (was count : ℕ) (fits : Bool) → (IsTrue fits ↔ (length items ≤ length before))
-    → (IsTrue fits → after ≡ begun_with items before) → count ≡ length items → fits ≡ true → Puts (Some items) (before, was) (done, after, count)
+    → (IsTrue fits → after ≡ begun_with items before) → count ≡ length items → fits ≡ true
+    → Puts (Some items) (before, was) (done, after, count)
 put_fits items before after was count fits decides put counted test =
     let small : nat_le (length items) (length before) ≡ true = le-leb (length items) (length before) (decides.0 test) in
     let written : after ≡ begun_with items before = put test in

@@ -26,7 +26,8 @@ inside_listed texts i lt = grind (arith, lt, length-map texts (λ (text : Bor (L
 -- one that isn't UTF-8 isn't in a list of texts that are
 pub list_refused : (texts : List (Bor (List ℕ))) (i : ℕ) (d : Bor (List ℕ)) → i < length texts
     → (fault : Fault) → RefusesBytes (get_or texts i d).now (λ error. error ≡ Memory) fault → RefusesList (listed_texts texts) fault
-list_refused texts i d lt NotUtf8 so = λ all. so (subst IsUtf8 (at texts i d lt) (All-get_or IsUtf8 (listed_texts texts) i d.now (inside_listed texts i lt) all))
+list_refused texts i d lt NotUtf8 so = λ all. so
+    (subst IsUtf8 (at texts i d lt) (All-get_or IsUtf8 (listed_texts texts) i d.now (inside_listed texts i lt) all))
 list_refused texts i d lt NoFingerprint so = so
 list_refused texts i d lt NoCandidate so = so
 list_refused texts i d lt (Refused error) so = so
@@ -34,7 +35,8 @@ list_refused texts i d lt (Refused error) so = so
 -- one that is no candidate isn't in a list of lines that are
 pub candidates_refused : (lines : List (Bor (List ℕ))) (i : ℕ) (d : Bor (List ℕ)) → i < length lines
     → (fault : Fault) → RefusesCandidate (get_or lines i d).now fault → RefusesCandidates (listed_texts lines) fault
-candidates_refused lines i d lt NotUtf8 so = λ all. so (subst IsUtf8 (at lines i d lt) (All-get_or IsUtf8 (listed_texts lines) i d.now (inside_listed lines i lt) all))
+candidates_refused lines i d lt NotUtf8 so = λ all. so
+    (subst IsUtf8 (at lines i d lt) (All-get_or IsUtf8 (listed_texts lines) i d.now (inside_listed lines i lt) all))
 candidates_refused lines i d lt NoFingerprint so = so
 candidates_refused lines i d lt NoCandidate so = λ candidates zip.
     let found = AllZip-at IsTrickled (listed_texts lines) candidates i d.now zip (inside_listed lines i lt) in
@@ -43,7 +45,8 @@ candidates_refused lines i d lt (Refused error) so = so
 
 -- one line more, which is a candidate
 pub candidates_more : (lines : List (Bor (List ℕ))) (i : ℕ) (d : Bor (List ℕ)) → i < length lines
-    → (candidates : List Candidate) (candidate : Candidate) → AllZip IsTrickled (listed_texts (take i lines)) candidates → IsTrickled (get_or lines i d).now candidate
+    → (candidates : List Candidate) (candidate : Candidate) → AllZip IsTrickled (listed_texts (take i lines)) candidates
+    → IsTrickled (get_or lines i d).now candidate
     → AllZip IsTrickled (listed_texts (take (i + 1) lines)) (candidates ++ candidate ∷ [])
 candidates_more lines i d lt candidates candidate zip so =
     let more : listed_texts (take (i + 1) lines) ≡ listed_texts (take i lines) ++ (get_or lines i d).now ∷ [] =

@@ -1,5 +1,6 @@
 -- What is said of attribute lines, a line at a time.
-use Rattle.lint.proofs.Common.{◌≡◌, ◌+◌, ◌≤◌, ℕ, Bool, true, false, List, [], ◌∷◌, ◌++◌, length, map, refl, sym, ap, ◌∙◌, arith, cond, append_assoc, append-nil, Line, lines_of}
+use Rattle.lint.proofs.Common.{◌≡◌, ◌+◌, ◌≤◌, ℕ, Bool, true, false, List, [], ◌∷◌, ◌++◌, length, map, refl, sym, ap, ◌∙◌, arith, cond}
+use Rattle.lint.proofs.Common.{append_assoc, append-nil, Line, lines_of}
 use Rattle.lint.proofs.LineLaws.{BeginsWithLine}
 use Rattle.lint.specs.Findings.{KeepsUnread, NotesLine, ends, lines_kept, is_changed, is_refused}
 use Rattle.lint.specs.Kept.{is_unread, kept_at}
@@ -12,7 +13,8 @@ abbrev pub unread_numbers : ℕ → List ℕ → List Mark → List ℕ
 unread_numbers before text said = kept_at (map is_unread said) (attribute_numbers (before + 1) (lines_of text))
 
 -- from the notes in the beginning, with all lines and attributes before them, to those now, with what is left
-pub record SoFar (old : Notes) (before : ℕ) (text : List ℕ) (said : List Mark) (now : Notes) (passed : ℕ) (rest : List ℕ) (left : List Mark) : Type 0 where
+pub record SoFar (old : Notes) (before : ℕ) (text : List ℕ) (said : List Mark) (now : Notes) (passed : ℕ) (rest : List ℕ)
+    (left : List Mark) : Type 0 where
   pub lines : passed + length (lines_of rest) ≡ before + length (lines_of text)
   pub kept_are : lines_kept now.findings ++ unread_numbers passed rest left ≡ lines_kept old.findings ++ unread_numbers before text said
   pub ends_stay : ends now.findings ≡ ends old.findings
@@ -22,7 +24,14 @@ pub record SoFar (old : Notes) (before : ℕ) (text : List ℕ) (said : List Mar
 
 -- the notes are those of the beginning
 pub from_start : (old : Notes) (before : ℕ) (text : List ℕ) (said : List Mark) → SoFar old before text said old before text said
-from_start old before text said = record { lines = refl; kept_are = refl; ends_stay = refl; refused_stays = refl; changed_stays = refl; last_stays = refl }
+from_start old before text said = record {
+  lines = refl;
+  kept_are = refl;
+  ends_stay = refl;
+  refused_stays = refl;
+  changed_stays = refl;
+  last_stays = refl;
+}
 
 kept_of_none : (flags : List Bool) → kept_at flags [] ≡ []
 kept_of_none [] = refl
@@ -38,15 +47,23 @@ numbers_take : (n : ℕ) (content ending : List ℕ) (lines : List Line) → beg
 numbers_take n content ending lines one = rw one refl
 
 -- the first attribute stands on the line of this number
-kept_take : (flag : Bool) (flags : List Bool) (n : ℕ) (ns : List ℕ) → kept_at (flag ∷ flags) (n ∷ ns) ≡ cond flag (n ∷ []) [] ++ kept_at flags ns
+kept_take : (flag : Bool) (flags : List Bool) (n : ℕ) (ns : List ℕ)
+    → kept_at (flag ∷ flags) (n ∷ ns) ≡ cond flag (n ∷ []) [] ++ kept_at flags ns
 kept_take true flags n ns = refl
 kept_take false flags n ns = refl
 
 -- the line is no attribute line
-pub notes_other : (number : ℕ) (content : List ℕ) (left : List Mark) (old : Notes) → begins_attribute content ≡ false → NotesLine number content left left old old
+pub notes_other : (number : ℕ) (content : List ℕ) (left : List Mark) (old : Notes) → begins_attribute content ≡ false
+    → NotesLine number content left left old old
 notes_other number content left old not_one = record {
   own = [];
-  keeps = record { kept_are = sym (append-nil (lines_kept old.findings)); ends_stay = refl; refused_stays = refl; changed_stays = refl; last_stays = refl };
+  keeps = record {
+    kept_are = sym (append-nil (lines_kept old.findings));
+    ends_stay = refl;
+    refused_stays = refl;
+    changed_stays = refl;
+    last_stays = refl;
+  };
   rest_are = λ ending lines. ap (kept_at (map is_unread left)) (numbers_skip number content ending lines not_one);
 }
 
@@ -54,7 +71,13 @@ notes_other number content left old not_one = record {
 pub notes_none : (number : ℕ) (content : List ℕ) (left : List Mark) (old : Notes) → left ≡ [] → NotesLine number content left left old old
 notes_none number content left old none = record {
   own = [];
-  keeps = record { kept_are = sym (append-nil (lines_kept old.findings)); ends_stay = refl; refused_stays = refl; changed_stays = refl; last_stays = refl };
+  keeps = record {
+    kept_are = sym (append-nil (lines_kept old.findings));
+    ends_stay = refl;
+    refused_stays = refl;
+    changed_stays = refl;
+    last_stays = refl;
+  };
   rest_are = λ ending lines. rw none refl;
 }
 
@@ -69,7 +92,8 @@ notes_next number content one more old new is k = record {
 }
 
 -- one line further
-pub one_further : (old : Notes) (before : ℕ) (text : List ℕ) (said : List Mark) (now next : Notes) (passed : ℕ) (rest : List ℕ) (left more : List Mark) (content after : List ℕ)
+pub one_further : (old : Notes) (before : ℕ) (text : List ℕ) (said : List Mark) (now next : Notes) (passed : ℕ) (rest : List ℕ)
+    (left more : List Mark) (content after : List ℕ)
     → SoFar old before text said now passed rest left → BeginsWithLine rest content after
     → NotesLine (passed + 1) content left more now next
     → SoFar old before text said next (passed + 1) after more
@@ -89,12 +113,15 @@ one_further old before text said now next passed rest left more content after h 
     }
 
 -- a line stands there, so its number is that of a line
-pub here : (old : Notes) (before : ℕ) (text : List ℕ) (said : List Mark) (now : Notes) (passed : ℕ) (rest : List ℕ) (left : List Mark) (content after : List ℕ)
-    → before + length (lines_of text) ≤ old.last → SoFar old before text said now passed rest left → BeginsWithLine rest content after → IsNumbered now.last (passed + 1)
+pub here : (old : Notes) (before : ℕ) (text : List ℕ) (said : List Mark) (now : Notes) (passed : ℕ) (rest : List ℕ) (left : List Mark)
+    (content after : List ℕ)
+    → before + length (lines_of text) ≤ old.last → SoFar old before text said now passed rest left → BeginsWithLine rest content after
+    → IsNumbered now.last (passed + 1)
 here old before text said now passed rest left content after fits h (ending, e) = omega (arith, h.lines, ap length e, h.last_stays)
 
 -- no line is left
-pub without_lines : (old : Notes) (before : ℕ) (text : List ℕ) (said : List Mark) (now : Notes) (passed : ℕ) (rest : List ℕ) (left : List Mark)
+pub without_lines : (old : Notes) (before : ℕ) (text : List ℕ) (said : List Mark) (now : Notes) (passed : ℕ) (rest : List ℕ)
+    (left : List Mark)
     → SoFar old before text said now passed rest left → lines_of rest ≡ [] → KeepsUnread (unread_numbers before text said) old now
 without_lines old before text said now passed rest left h none =
     let nothing : unread_numbers passed rest left ≡ [] =

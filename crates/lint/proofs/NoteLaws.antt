@@ -1,5 +1,6 @@
 -- What one more finding changes.
-use Rattle.lint.proofs.Common.{◌≡◌, ◌||◌, ℕ, Bool, true, false, cond, List, [], ◌∷◌, ◌++◌, Some, None, min, max, refl, ap, ◌∙◌, arith, append-nil, filter_map-append, cons_option, list_any, or_false}
+use Rattle.lint.proofs.Common.{◌≡◌, ◌||◌, ℕ, Bool, true, false, cond, List, [], ◌∷◌, ◌++◌, Some, None, min, max, refl, ap, ◌∙◌, arith}
+use Rattle.lint.proofs.Common.{append-nil, filter_map-append, cons_option, list_any, or_false}
 use Rattle.lint.specs.Code.{is_refusal, is_end, is_unread_code, is_change}
 use Rattle.lint.specs.Findings.{AddsOne, Ends, KeepsUnread, OnlyChanges, SaysElse, ends, is_changed, is_refused, lines_kept, line_if}
 use Rattle.lint.specs.Findings.{lines_of_kind}
@@ -23,7 +24,8 @@ one_alone : (b : Bool) (n : ℕ) → cons_option (cond b (Some n) None) [] ≡ l
 one_alone true n = refl
 one_alone false n = refl
 
-one_finding_more : (is : Code → Bool) (old : List Finding) (f : Finding) → lines_of_kind is (old ++ f ∷ []) ≡ lines_of_kind is old ++ line_once (is f.code) f.line
+one_finding_more : (is : Code → Bool) (old : List Finding) (f : Finding)
+    → lines_of_kind is (old ++ f ∷ []) ≡ lines_of_kind is old ++ line_once (is f.code) f.line
 one_finding_more is old f =
     filter_map-append (line_if is) old (f ∷ []) ∙ ap (λ (t : List ℕ). lines_of_kind is old ++ t) (one_alone (is f.code) f.line)
 
@@ -47,10 +49,12 @@ added_any is line code old new (f, e, c, l) =
     ∙ ap (λ (b : Bool). list_any (λ finding. is finding.code) old.findings || b) (or_false (is f.code))
     ∙ ap (λ (k : Code). list_any (λ finding. is finding.code) old.findings || is k) c
 
-added_refusal : (line : ℕ) (code : Code) (old new : Notes) → AddsOne line code old new → is_refused new.findings ≡ (is_refused old.findings || is_refusal code)
+added_refusal : (line : ℕ) (code : Code) (old new : Notes) → AddsOne line code old new
+    → is_refused new.findings ≡ (is_refused old.findings || is_refusal code)
 added_refusal = added_any is_refusal
 
-added_change : (line : ℕ) (code : Code) (old new : Notes) → AddsOne line code old new → is_changed new.findings ≡ (is_changed old.findings || is_change code)
+added_change : (line : ℕ) (code : Code) (old new : Notes) → AddsOne line code old new
+    → is_changed new.findings ≡ (is_changed old.findings || is_change code)
 added_change = added_any is_change
 
 -- a finding of a kind of which no clause counts the lines
@@ -68,17 +72,20 @@ clamped : (last line : ℕ) → IsNumbered last line → min (max line 1) last �
 clamped last line h = omega arith
 
 -- a line that is kept unread
-pub keeps_one : (line : ℕ) (code : Code) (old new : Notes) → is_unread_code code ≡ true → IsNumbered old.last line → AddsOne line code old new → new.last ≡ old.last
+pub keeps_one : (line : ℕ) (code : Code) (old new : Notes) → is_unread_code code ≡ true → IsNumbered old.last line
+    → AddsOne line code old new → new.last ≡ old.last
     → KeepsUnread (line ∷ []) old new
 keeps_one line (Malformed misfit) old new is here a last = record {
-  kept_are = added_lines is_unread_code line (Malformed misfit) old new a ∙ ap (λ (n : ℕ). lines_kept old.findings ++ n ∷ []) (clamped old.last line here);
+  kept_are = added_lines is_unread_code line (Malformed misfit) old new a
+      ∙ ap (λ (n : ℕ). lines_kept old.findings ++ n ∷ []) (clamped old.last line here);
   ends_stay = added_lines is_end line (Malformed misfit) old new a ∙ append-nil (ends old.findings);
   refused_stays = added_refusal line (Malformed misfit) old new a ∙ or_false (is_refused old.findings);
   changed_stays = added_change line (Malformed misfit) old new a ∙ or_false (is_changed old.findings);
   last_stays = last;
 }
 keeps_one line (Unknown unknown) old new is here a last = record {
-  kept_are = added_lines is_unread_code line (Unknown unknown) old new a ∙ ap (λ (n : ℕ). lines_kept old.findings ++ n ∷ []) (clamped old.last line here);
+  kept_are = added_lines is_unread_code line (Unknown unknown) old new a
+      ∙ ap (λ (n : ℕ). lines_kept old.findings ++ n ∷ []) (clamped old.last line here);
   ends_stay = added_lines is_end line (Unknown unknown) old new a ∙ append-nil (ends old.findings);
   refused_stays = added_refusal line (Unknown unknown) old new a ∙ or_false (is_refused old.findings);
   changed_stays = added_change line (Unknown unknown) old new a ∙ or_false (is_changed old.findings);
@@ -92,7 +99,8 @@ keeps_one line (Contradiction conflict) old new is here a last = absurd cc
 keeps_one line (Round fate) old new is here a last = absurd cc
 
 -- the line at which reading ends
-pub ends_one : (line : ℕ) (unfit : Unfit) (old new : Notes) → IsNumbered old.last line → AddsOne line (Unread unfit) old new → new.last ≡ old.last
+pub ends_one : (line : ℕ) (unfit : Unfit) (old new : Notes) → IsNumbered old.last line → AddsOne line (Unread unfit) old new
+    → new.last ≡ old.last
     → Ends line old new
 ends_one line unfit old new here a last = record {
   ends_are = added_lines is_end line (Unread unfit) old new a ∙ ap (λ (n : ℕ). ends old.findings ++ n ∷ []) (clamped old.last line here);

@@ -22,6 +22,7 @@ pub one_outcome_more : (outcomes : List Outcome) (i : ℕ) (outcome : Outcome) �
     → outcome_lines 1 (take (i + 1) outcomes) ≡ outcome_lines 1 (take i outcomes) ++ outcome_line (i + 1) outcome
 one_outcome_more outcomes i outcome lt is =
     let count : 1 + length (take i outcomes) ≡ i + 1 = omega (arith, length-take i outcomes, lt) in
-    ap (λ (list : List Outcome). outcome_lines 1 list) ((take_at_read outcomes i outcome lt).1 ∙ ap (λ (x : Outcome). take i outcomes ++ x ∷ []) (sym is))
+    ap (λ (list : List Outcome). outcome_lines 1 list) ((take_at_read outcomes i outcome lt).1
+    ∙ ap (λ (x : Outcome). take i outcomes ++ x ∷ []) (sym is))
     ∙ outcomes_more 1 (take i outcomes) outcome
     ∙ ap (λ (k : ℕ). outcome_lines 1 (take i outcomes) ++ outcome_line k outcome) count

@@ -3,7 +3,8 @@ pub mod Common
 pub use Rattle.str0m_sdp.proofs.attribute.AttributeEqual.{media_Decides, session_Decides}
 pub use Rattle.str0m_sdp.proofs.section.MadeSectionConsistent.{frame_agrees}
 pub use Rattle.str0m_sdp.proofs.section.MadeSectionRead.{DescribesRows}
-pub use Rattle.str0m_sdp.proofs.section.MadeSectionValues.{describes_read_back, format_line_printed, pairs_line_read, values_printed, values_read}
+pub use Rattle.str0m_sdp.proofs.section.MadeSectionValues.{describes_read_back, format_line_printed, pairs_line_read, values_printed}
+pub use Rattle.str0m_sdp.proofs.section.MadeSectionValues.{values_read}
 pub use Rattle.str0m_sdp.proofs.section.MappingsFilterMap.{all_mapped, map_more, one_mapped}
 pub use Rattle.str0m_sdp.proofs.section.RowAttributesReads.{fmtp_lines, reads, red_reads}
 pub use Rattle.str0m_sdp.proofs.section.SectionAccessorsFinding.{first_by_find_map, first_from_find_map}

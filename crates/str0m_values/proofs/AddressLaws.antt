@@ -1,7 +1,10 @@
 -- The grammar of addresses here and that of std say the same.
 use Rattle.std.specs.Net.Grammar as net
-use Rattle.str0m_values.proofs.Common.{◌≡◌, ◌⊎◌, ℕ, ◌+◌, ◌-◌, ◌*◌, Bool, true, false, List, [], ◌∷◌, ◌++◌, length, replicate, refl, sym, ap, ◌∙◌, subst, arith, inl, inr, append-nil, append_assoc, length-append, codes, length-replicate, IsTrue, segments_of}
-use Rattle.str0m_values.specs.Address.{Parted, IsOctet, IsV4Text, IsHexGroup, IsOneGroup, octet_pairs, IsV4Tail, IsEnd, AreGroups, AreAnyGroups, IsShortened, IsV6Text}
+use Rattle.str0m_values.proofs.Common.{◌≡◌, ◌⊎◌, ℕ, ◌+◌, ◌-◌, ◌*◌, Bool, true, false, List, [], ◌∷◌, ◌++◌, length, replicate, refl, sym, ap}
+use Rattle.str0m_values.proofs.Common.{◌∙◌, subst, arith, inl, inr, append-nil, append_assoc, length-append, codes, length-replicate}
+use Rattle.str0m_values.proofs.Common.{IsTrue, segments_of}
+use Rattle.str0m_values.specs.Address.{Parted, IsOctet, IsV4Text, IsHexGroup, IsOneGroup, octet_pairs, IsV4Tail, IsEnd, AreGroups}
+use Rattle.str0m_values.specs.Address.{AreAnyGroups, IsShortened, IsV6Text}
 
 -- ---- V4
 
@@ -45,7 +48,8 @@ all_ends : GroupEnds true IsEnd
 all_ends = grind arith
 
 module _ {v4 : Bool} {Last : List ℕ → List ℕ → Type 0} (ends : GroupEnds v4 Last) where
-  groups_from : (lead text : List ℕ) (n : ℕ) (groups : List ℕ) → net.IsGroupsAfter v4 lead text (n ∷ groups) → (body : List ℕ) × (text ≡ lead ++ body) × AreGroups Last body (n ∷ groups)
+  groups_from : (lead text : List ℕ) (n : ℕ) (groups : List ℕ) → net.IsGroupsAfter v4 lead text (n ∷ groups)
+      → (body : List ℕ) × (text ≡ lead ++ body) × AreGroups Last body (n ∷ groups)
   groups_from lead text n groups (inr h) = (h.0, h.3, inl (ends.tail h.2 h.0 (n ∷ groups) (h.1, v4_from h.0 h.1 h.4, h.5 ∙ pairs_from h.1)))
   groups_from lead text n [] (inl h) = grind (arith, append-nil, group_from)
   groups_from lead text n (m ∷ groups) (inl h) = grind (arith, groups_from (codes ":") h.1 m groups h.4, append_assoc, group_from)
@@ -53,7 +57,8 @@ module _ {v4 : Bool} {Last : List ℕ → List ℕ → Type 0} (ends : GroupEnds
   one_to : (lead text : List ℕ) (groups : List ℕ) → IsOneGroup text groups → net.IsGroupsAfter v4 lead (lead ++ text) groups
   one_to lead text groups h = grind (arith, append-nil, group_to)
 
-  tail_to : (lead text : List ℕ) (n : ℕ) (groups : List ℕ) → IsTrue v4 → IsV4Tail text (n ∷ groups) → net.IsGroupsAfter v4 lead (lead ++ text) (n ∷ groups)
+  tail_to : (lead text : List ℕ) (n : ℕ) (groups : List ℕ) → IsTrue v4 → IsV4Tail text (n ∷ groups)
+      → net.IsGroupsAfter v4 lead (lead ++ text) (n ∷ groups)
   tail_to lead text n groups allowed h = inr (text, h.0, allowed, refl, v4_to text h.0 h.1, h.2 ∙ sym (pairs_from h.0))
 
   groups_to : (lead text : List ℕ) (groups : List ℕ) → AreGroups Last text groups → net.IsGroupsAfter v4 lead (lead ++ text) groups
@@ -93,7 +98,8 @@ short_from text groups h =
 
 short_to : (text groups : List ℕ) → IsShortened text groups → length groups ≡ 8 → net.IsElided text groups
 short_to text groups h eight =
-    let count : length h.front + (h.zeros + length h.back) ≡ 8 = omega (arith, ap length h.groups_are, length-append {A = ℕ}, length-replicate {A = ℕ}) in
+    let count : length h.front + (h.zeros + length h.back) ≡ 8 =
+    omega (arith, ap length h.groups_are, length-append {A = ℕ}, length-replicate {A = ℕ}) in
     let zeros : h.zeros ≡ 8 - length h.front - length h.back = omega arith in
     record {
       head_text = h.front_text;
@@ -104,13 +110,16 @@ short_to text groups h eight =
       head_groups = any_to one_group_ends h.front_text h.front h.front_is;
       tail_groups = any_to all_ends h.back_text h.back h.back_is;
       room = omega (arith, h.some);
-      value = h.groups_are ∙ ap (λ (k : ℕ). h.front ++ (replicate k 0 ++ h.back)) zeros ∙ sym (append_assoc h.front (replicate (8 - length h.front - length h.back) 0) h.back);
+      value = h.groups_are ∙ ap (λ (k : ℕ). h.front ++ (replicate k 0 ++ h.back)) zeros
+          ∙ sym (append_assoc h.front (replicate (8 - length h.front - length h.back) 0) h.back);
     }
 
 pub v6_from : (text groups : List ℕ) → net.IsColonHex text groups → IsV6Text text groups
 v6_from text [] (inl h) = absurd (omega (arith, h.1))
-v6_from text (n ∷ groups) (inl h) = let all = groups_from all_ends [] text n groups h.0 in (inl (subst (λ (t : List ℕ). AreGroups IsEnd t (n ∷ groups)) (sym all.1) all.2), h.1)
+v6_from text (n ∷ groups) (inl h) = let all = groups_from all_ends [] text n groups h.0 in
+    (inl (subst (λ (t : List ℕ). AreGroups IsEnd t (n ∷ groups)) (sym all.1) all.2), h.1)
 v6_from text groups (inr h) = let all = short_from text groups h in (inr all.0, all.1)
 
 pub v6_to : (text groups : List ℕ) → IsV6Text text groups → net.IsColonHex text groups
-v6_to text groups h = elim h.0 [ inl all ↦ inl (groups_to all_ends [] text groups all, h.1) | inr short ↦ inr (short_to text groups short h.1) ]
+v6_to text groups h = elim h.0
+    [ inl all ↦ inl (groups_to all_ends [] text groups all, h.1) | inr short ↦ inr (short_to text groups short h.1) ]

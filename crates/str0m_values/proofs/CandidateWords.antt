@@ -13,11 +13,13 @@ use Rattle.str0m_values.specs.declared.protocol.TcpType.{TcpType}
 use Rattle.str0m_values.specs.declared.protocol.TheConstants.{PROTOCOLS, TCP_TYPES}
 
 -- each case by its own word, which is in lower case
-protocol_own : (p : Protocol) → (str_to_ascii_lowercase (protocol_text p) ≡ protocol_text p) × (case_alike protocol_text PROTOCOLS (protocol_text p) ≡ Some p)
+protocol_own : (p : Protocol) → (str_to_ascii_lowercase (protocol_text p) ≡ protocol_text p)
+    × (case_alike protocol_text PROTOCOLS (protocol_text p) ≡ Some p)
 unfolding case_alike
 protocol_own p = grind arith
 
-tcp_type_own : (t : TcpType) → (str_to_ascii_lowercase (tcp_type_text t) ≡ tcp_type_text t) × (case_alike tcp_type_text TCP_TYPES (tcp_type_text t) ≡ Some t)
+tcp_type_own : (t : TcpType) → (str_to_ascii_lowercase (tcp_type_text t) ≡ tcp_type_text t)
+    × (case_alike tcp_type_text TCP_TYPES (tcp_type_text t) ≡ Some t)
 unfolding case_alike
 tcp_type_own t = grind arith
 

@@ -44,14 +44,16 @@ module _ {A B : Type 0} {F : A → B → Type 0} {f : A → Option B} (reads : R
   pub one_value : (a : A) (b c : B) → F a b → F a c → b ≡ c
   one_value a b c h k = let p = reads.complete a b h in let q = reads.complete a c k in some_is b c (sym p ∙ q)
 
-pub reads_first : {A B : Type 0} {F G : A → B → Type 0} {f g : A → Option B} → Reads F f → Reads G g → Reads (FirstFit F G) (λ a. f a <|> g a)
+pub reads_first : {A B : Type 0} {F G : A → B → Type 0} {f g : A → Option B} → Reads F f → Reads G g
+    → Reads (FirstFit F G) (λ a. f a <|> g a)
 reads_first {f} {g} p q = record {
   sound = λ a b e. elim (or_some (f a) (g a) b e) [ inl h ↦ inl (p.sound a b h) | inr h ↦ inr (none_reads p a h.0, q.sound a b h.1) ];
   complete = λ a b h. elim h [ inl k ↦ rw (p.complete a b k) refl | inr k ↦ rw (reads_none p a k.0) (q.complete a b k.1) ];
 }
 
 -- two forms that agree where both hold
-pub reads_either : {A B : Type 0} {F G : A → B → Type 0} {f g : A → Option B} → Reads F f → Reads G g → ((a : A) (b c : B) → F a b → G a c → b ≡ c) → Reads (λ a b. F a b ⊎ G a b) (λ a. f a <|> g a)
+pub reads_either : {A B : Type 0} {F G : A → B → Type 0} {f g : A → Option B} → Reads F f → Reads G g
+    → ((a : A) (b c : B) → F a b → G a c → b ≡ c) → Reads (λ a b. F a b ⊎ G a b) (λ a. f a <|> g a)
 reads_either {B} {f} {g} p q agree = record {
   sound = λ a b e. elim (or_some (f a) (g a) b e) [ inl h ↦ inl (p.sound a b h) | inr h ↦ inr (q.sound a b h.1) ];
   complete = λ a b h. elim h [

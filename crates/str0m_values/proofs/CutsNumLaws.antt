@@ -1,5 +1,8 @@
 -- What the reading of a number gives.
-use Rattle.str0m_values.proofs.Common.{◌≡◌, ℕ, ◌<◌, ◌≤◌, ◌+◌, ◌^◌, Bool, true, List, [], ◌∷◌, length, Some, None, Result, Ok, Err, refl, sym, arith, IsNumeral, AllDigits, digits_value, without_leading_plus, ltb-true, lt-ltb, le-leb, leb-true, and_parts, numerals_by_value, ◌≢◌, digit_value, eq-eqb, ne_eqb, cases_eq, result_ok, all_ascii_digits, ParsesUnsigned, and_from, IsNumeralModel, tells_all_ascii_digits}
+use Rattle.str0m_values.proofs.Common.{◌≡◌, ℕ, ◌<◌, ◌≤◌, ◌+◌, ◌^◌, Bool, true, List, [], ◌∷◌, length, Some, None, Result, Ok, Err, refl}
+use Rattle.str0m_values.proofs.Common.{sym, arith, IsNumeral, AllDigits, digits_value, without_leading_plus, ltb-true, lt-ltb, le-leb}
+use Rattle.str0m_values.proofs.Common.{leb-true, and_parts, numerals_by_value, ◌≢◌, digit_value, eq-eqb, ne_eqb, cases_eq, result_ok}
+use Rattle.str0m_values.proofs.Common.{all_ascii_digits, ParsesUnsigned, and_from, IsNumeralModel, tells_all_ascii_digits}
 use Rattle.str0m_values.specs.Cuts.{IsTheOnly, is_rest, is_numeral, num, when}
 use Rattle.str0m_values.specs.CutsParts.{IsNum, Lacks, IsRest}
 
@@ -33,13 +36,18 @@ num_none limit text none = grind (arith, num_found)
 pub num_only : (limit : ℕ) (text : List ℕ) → IsTheOnly (IsNum limit text) (num limit text)
 num_only limit text = grind (arith, num_reads, num_found)
 
-pub parsed_ok : (k limit : ℕ) (text : List ℕ) (x : ℕ) → (IsNumeral 10 (without_leading_plus text) × (digits_value 10 (without_leading_plus text) < 2 ^ k)) × (x ≡ digits_value 10 (without_leading_plus text)) → x ≤ limit → Some x ≡ num limit text
+pub parsed_ok : (k limit : ℕ) (text : List ℕ) (x : ℕ)
+    → (IsNumeral 10 (without_leading_plus text) × (digits_value 10 (without_leading_plus text) < 2 ^ k))
+    × (x ≡ digits_value 10 (without_leading_plus text)) → x ≤ limit → Some x ≡ num limit text
 parsed_ok k limit text x h le = sym (num_reads limit text x (record { numeral = h.0.0; value = sym h.1; fits = le }))
 
-pub parsed_err : (k limit : ℕ) (text : List ℕ) → ((IsNumeral 10 (without_leading_plus text) × (digits_value 10 (without_leading_plus text) < 2 ^ k)) → ⊥) → limit < 2 ^ k → None ≡ num limit text
+pub parsed_err : (k limit : ℕ) (text : List ℕ)
+    → ((IsNumeral 10 (without_leading_plus text) × (digits_value 10 (without_leading_plus text) < 2 ^ k)) → ⊥) → limit < 2 ^ k
+    → None ≡ num limit text
 parsed_err k limit text h lt = sym (num_none limit text (λ n is. h (is.numeral, omega (arith, is.fits, is.value))))
 
-pub parsed_whole : {E : Type 0} (k limit : ℕ) (text : List ℕ) (r : Result ℕ E) → ParsesUnsigned k 10 text r → limit + 1 ≡ 2 ^ k → result_ok r ≡ num limit text
+pub parsed_whole : {E : Type 0} (k limit : ℕ) (text : List ℕ) (r : Result ℕ E) → ParsesUnsigned k 10 text r → limit + 1 ≡ 2 ^ k
+    → result_ok r ≡ num limit text
 parsed_whole k limit text (Ok x) h whole = parsed_ok k limit text x h (omega (arith, h.0.1, h.1))
 parsed_whole k limit text (Err e) h whole = parsed_err k limit text h (omega arith)
 

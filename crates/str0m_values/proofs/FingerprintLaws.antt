@@ -1,11 +1,13 @@
 -- A text is read as one fingerprint at most, and what is printed is read as itself.
-use Rattle.str0m_values.proofs.Common.{◌≡◌, ◌<◌, ℕ, List, [], ◌∷◌, All, length, Some, Result, Ok, Err, arith, refl, sym, ap, ◌∙◌, subst, AllZip, some_pair_parts, none-some, Any, IsErr, IsErrOf, IsErrAnd}
+use Rattle.str0m_values.proofs.Common.{◌≡◌, ◌<◌, ℕ, List, [], ◌∷◌, All, length, Some, Result, Ok, Err, arith, refl, sym, ap, ◌∙◌, subst}
+use Rattle.str0m_values.proofs.Common.{AllZip, some_pair_parts, none-some, Any, IsErr, IsErrOf, IsErrAnd}
 use Rattle.str0m_values.proofs.CutLaws.{cut_at, cut_none}
 use Rattle.str0m_values.proofs.FingerprintPairs.{printed_read}
 use Rattle.str0m_values.proofs.FingerprintZipLaws.{AllZip-at}
 use Rattle.str0m_values.specs.Cuts.{cut}
 use Rattle.str0m_values.specs.CutsParts.{Lacks}
-use Rattle.str0m_values.specs.Fingerprint.{IsNamed, IsHexByte, pieces_of, IsFingerprint, HasBadByte, IsBytesReading, IsFingerprintReading, Gives, CanBeReadBack, fingerprint_text, pairs_text}
+use Rattle.str0m_values.specs.Fingerprint.{IsNamed, IsHexByte, pieces_of, IsFingerprint, HasBadByte, IsBytesReading, IsFingerprintReading}
+use Rattle.str0m_values.specs.Fingerprint.{Gives, CanBeReadBack, fingerprint_text, pairs_text}
 use Rattle.str0m_values.specs.declared.fingerprint.Fingerprint.{Fingerprint}
 use Rattle.str0m_values.specs.declared.fingerprint.FingerprintError.{FingerprintError}
 use Rattle.str0m_values.specs.declared.fingerprint.FingerprintError.TheVariants.{NoSpace, BadByte, Memory}
@@ -32,7 +34,8 @@ bytes_one (piece ∷ pieces) (x ∷ xs) [] h k = absurd k
 bytes_one (piece ∷ pieces) (x ∷ xs) (y ∷ ys) h k = grind (arith, bytes_one pieces xs ys h.1 k.1)
 
 -- where each piece is a byte, none is bad
-none_bad : (pieces : List (List ℕ)) (bytes : List ℕ) → AllZip IsHexByte pieces bytes → Any (λ piece. (byte : ℕ) → ¬ (IsHexByte piece byte)) pieces → ⊥
+none_bad : (pieces : List (List ℕ)) (bytes : List ℕ) → AllZip IsHexByte pieces bytes
+    → Any (λ piece. (byte : ℕ) → ¬ (IsHexByte piece byte)) pieces → ⊥
 none_bad pieces bytes h any =
     let at = AllZip-at IsHexByte pieces bytes any.0 any.1 h any.2 in
     any.4 at.0 (rw any.3 at at.1)
@@ -46,13 +49,15 @@ same_fingerprint text f g h k =
 fingerprint_good : (text : List ℕ) (f : Fingerprint) → IsFingerprint text f → ¬ (HasBadByte text)
 fingerprint_good text f h bad = grind (arith, named_one text f.hash_func bad.0 h.0 bad.1 h.1 bad.2, none_bad (pieces_of h.0) f.bytes h.2)
 
-pub only_one : (text : List ℕ) (r : Result Fingerprint FingerprintError) → IsFingerprintReading text r → (f : Fingerprint) → IsFingerprint text f → Gives f r
+pub only_one : (text : List ℕ) (r : Result Fingerprint FingerprintError) → IsFingerprintReading text r → (f : Fingerprint)
+    → IsFingerprint text f → Gives f r
 only_one text (Ok g) h f is = same_fingerprint text g f h is
 only_one text (Err NoSpace) h f is = absurd (named_space text f.hash_func is.0 is.1 h)
 only_one text (Err BadByte) h f is = absurd (fingerprint_good text f is h)
 only_one text (Err Memory) h f is = refl
 
-pub no_space : (text : List ℕ) (r : Result Fingerprint FingerprintError) → IsFingerprintReading text r → (IsErrOf r NoSpace → Lacks 32 text) × (Lacks 32 text → IsErrOf r NoSpace)
+pub no_space : (text : List ℕ) (r : Result Fingerprint FingerprintError) → IsFingerprintReading text r
+    → (IsErrOf r NoSpace → Lacks 32 text) × (Lacks 32 text → IsErrOf r NoSpace)
 no_space text r h = grind (arith, named_space)
 
 pub refuses : (text : List ℕ) (r : Result Fingerprint FingerprintError) → IsFingerprintReading text r → HasBadByte text → IsErr r
@@ -67,12 +72,14 @@ print_reads_back f (first ∷ more) e can =
     let read = subst (λ (bytes : List ℕ). AllZip IsHexByte (pieces_of (pairs_text bytes)) bytes) (sym e) (printed_read first more small) in
     (pairs_text f.bytes, record { whole = refl; word = can.word }, read)
 
-pub itself : (text : List ℕ) (r : Result Fingerprint FingerprintError) → IsFingerprintReading text r → (f : Fingerprint) → CanBeReadBack f → text ≡ fingerprint_text f → Gives f r
+pub itself : (text : List ℕ) (r : Result Fingerprint FingerprintError) → IsFingerprintReading text r → (f : Fingerprint) → CanBeReadBack f
+    → text ≡ fingerprint_text f → Gives f r
 itself text r h f can e = only_one text r h f (subst (λ (t : List ℕ). IsFingerprint t f) (sym e) (print_reads_back f f.bytes refl can))
 
 -- ---- what a refusal inside says of the whole
 
-pub bytes_refused : (text name rest : List ℕ) (e : FingerprintError) → IsNamed text name rest → IsBytesReading rest (Err e) → IsFingerprintReading text (Err e)
+pub bytes_refused : (text name rest : List ℕ) (e : FingerprintError) → IsNamed text name rest → IsBytesReading rest (Err e)
+    → IsFingerprintReading text (Err e)
 bytes_refused text name rest e named h = grind (arith, named_space)
 
 pub was_err : {T E : Type 0} (r : Result T E) (e : E) → IsErr r × IsErrAnd r (λ x. x ≡ e) → r ≡ Err e

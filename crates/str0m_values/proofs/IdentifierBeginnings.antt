@@ -1,6 +1,9 @@
 -- The longest beginning of a text that fits: there is one, and only one.
 use Rattle.std.specs.Fmt.Cut.{floor_char_boundary}
-use Rattle.str0m_values.proofs.Common.{◌≡◌, ◌⊎◌, ℕ, zero, suc, ◌<◌, ◌≤◌, true, false, leb, List, [], ◌++◌, length, take, drop, refl, sym, ap, ◌∙◌, inl, inr, arith, take-append-drop, length-take-le, IsCharBoundary, ltb-true, leb-true, cases_Bool, cases_lt, take-append_seam, ◌+◌, ◌∷◌, length-append, is_char_start, leb-false, append-nil}
+use Rattle.str0m_values.proofs.Common.{◌≡◌, ◌⊎◌, ℕ, zero, suc, ◌<◌, ◌≤◌, true, false, leb, List, [], ◌++◌, length, take, drop, refl, sym}
+use Rattle.str0m_values.proofs.Common.{ap, ◌∙◌, inl, inr, arith, take-append-drop, length-take-le, IsCharBoundary, ltb-true, leb-true}
+use Rattle.str0m_values.proofs.Common.{cases_Bool, cases_lt, take-append_seam, ◌+◌, ◌∷◌, length-append, is_char_start, leb-false}
+use Rattle.str0m_values.proofs.Common.{append-nil}
 use Rattle.str0m_values.specs.ShortText.{IsLongestBeginning, beginning_of}
 
 -- where a character ends at i or before it, the last such place
@@ -36,7 +39,8 @@ beginning_is room text =
       | inr long ↦
           let within : room < length text = leb-false (length text) room long in
           let at = floor_is text room within in
-          let len : length (take (floor_char_boundary text room) text) ≡ floor_char_boundary text room = length-take-le (floor_char_boundary text room) text (omega (arith, at.bound)) in
+          let len : length (take (floor_char_boundary text room) text) ≡ floor_char_boundary text room =
+          length-take-le (floor_char_boundary text room) text (omega (arith, at.bound)) in
           rw long (record {
             begins = (drop (floor_char_boundary text room) text, sym (take-append-drop (floor_char_boundary text room) text));
             fits = omega (arith, at.bound);

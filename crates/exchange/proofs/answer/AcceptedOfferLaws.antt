@@ -1,11 +1,20 @@
 -- The tracks of an answer are pairwise different, where the names of the sections are.
-use Rattle.exchange.proofs.Common.{arith, ◌≡◌, ◌≢◌, ◌++◌, inl, inr, ℕ, Bool, true, false, cond, not, List, [], ◌∷◌, Option, Some, None, IfSome, All, filter, filter_map, find, map, option_to_list, refl, subst, sym, ap, ◌∙◌, append-nil, append_cancel_left, All-append, All-cons, All-head, All-nil, All-tail, filter_map-append, AllPairs-cons, AllZip, cons_option, flat_map, list_any, ◌&&◌, ◌⊎◌, bytes_eq, codes, FormatParam, PayloadParams, direction_attribute, MediaAttribute, Proto, Srtp, Sctp, Setup, SimulcastLayer, EXTMAP_ALLOW_MIXED, FIR, NACK, PLI, REMB, TRANSPORT_CC, MediaLine, Sdp, is_mid, maps, is_of_type, made, feedback_attrs, feedback_line, fmtp_line, format_attrs, format_values, red_attrs, red_lines, row_attrs, rtx_attrs, rtx_lines, AreDistinct, section_mids, receives, Candidate, Direction}
+use Rattle.exchange.proofs.Common.{arith, ◌≡◌, ◌≢◌, ◌++◌, inl, inr, ℕ, Bool, true, false, cond, not, List, [], ◌∷◌, Option, Some, None}
+use Rattle.exchange.proofs.Common.{IfSome, All, filter, filter_map, find, map, option_to_list, refl, subst, sym, ap, ◌∙◌, append-nil}
+use Rattle.exchange.proofs.Common.{append_cancel_left, All-append, All-cons, All-head, All-nil, All-tail, filter_map-append, AllPairs-cons}
+use Rattle.exchange.proofs.Common.{AllZip, cons_option, flat_map, list_any, ◌&&◌, ◌⊎◌, bytes_eq, codes, FormatParam, PayloadParams}
+use Rattle.exchange.proofs.Common.{direction_attribute, MediaAttribute, Proto, Srtp, Sctp, Setup, SimulcastLayer, EXTMAP_ALLOW_MIXED, FIR}
+use Rattle.exchange.proofs.Common.{NACK, PLI, REMB, TRANSPORT_CC, MediaLine, Sdp, is_mid, maps, is_of_type, made, feedback_attrs}
+use Rattle.exchange.proofs.Common.{feedback_line, fmtp_line, format_attrs, format_values, red_attrs, red_lines, row_attrs, rtx_attrs}
+use Rattle.exchange.proofs.Common.{rtx_lines, AreDistinct, section_mids, receives, Candidate, Direction}
 use Rattle.exchange.proofs.offer.OfferNameLaws.{Differ, Other, differ_from}
 use Rattle.exchange.proofs.offer.RuleLaws.{sections_shape}
-use Rattle.exchange.specs.answer.Accepted.{are_layers_told, candidate_line, channel_lines, first_lines, framed, layer_lines, media_lines, msid_lines, track_id}
+use Rattle.exchange.specs.answer.Accepted.{are_layers_told, candidate_line, channel_lines, first_lines, framed, layer_lines, media_lines}
+use Rattle.exchange.specs.answer.Accepted.{msid_lines, track_id}
 use Rattle.exchange.specs.answer.AcceptedOffer.{section_tracks, track_of}
 use Rattle.exchange.specs.answer.AnsweredSection.{AnswersSection, SaysChoice}
-use Rattle.exchange.specs.answer.Layers.{answered_layers, answered_rid, answered_rids, is_left, is_named, layers_line, received_layers, sent_layers, types_left}
+use Rattle.exchange.specs.answer.Layers.{answered_layers, answered_rid, answered_rids, is_left, is_named, layers_line, received_layers}
+use Rattle.exchange.specs.answer.Layers.{sent_layers, types_left}
 use Rattle.exchange.specs.answer.RejectedSection.{direction_over, first_type, line_that, rejecting}
 use Rattle.exchange.specs.declared.answer.choice.Choice.{Choice}
 use Rattle.exchange.specs.declared.answer.choice.Choice.TheVariants.{Rejected, Media, Channels}
@@ -83,21 +92,25 @@ repeated_trackless known (media.RtcpMux ∷ attrs) = repeated_trackless known at
 repeated_trackless known (media.RtcpRsize ∷ attrs) = repeated_trackless known attrs
 repeated_trackless known (media.ExtMap id ext ∷ attrs) = go (list_any (λ uri. bytes_eq uri ext.uri) known) (repeated_trackless known attrs)
   where
-    go : (b : Bool) → Trackless (filter (is_repeated known) attrs) → Trackless (cond b (media.ExtMap id ext ∷ filter (is_repeated known) attrs) (filter (is_repeated known) attrs))
+    go : (b : Bool) → Trackless (filter (is_repeated known) attrs)
+        → Trackless (cond b (media.ExtMap id ext ∷ filter (is_repeated known) attrs) (filter (is_repeated known) attrs))
     go true rec = rec
     go false rec = rec
 repeated_trackless known (media.Unused text ∷ attrs) = go (bytes_eq text EXTMAP_ALLOW_MIXED.now) (repeated_trackless known attrs) where
-  go : (b : Bool) → Trackless (filter (is_repeated known) attrs) → Trackless (cond b (media.Unused text ∷ filter (is_repeated known) attrs) (filter (is_repeated known) attrs))
+  go : (b : Bool) → Trackless (filter (is_repeated known) attrs)
+      → Trackless (cond b (media.Unused text ∷ filter (is_repeated known) attrs) (filter (is_repeated known) attrs))
   go true rec = rec
   go false rec = rec
 repeated_trackless known (attr ∷ attrs) = repeated_trackless known attrs
 
-rids_trackless : (sent : List SimulcastLayer) (rows : List PayloadParams) (attrs : List MediaAttribute) → Trackless (filter_map (answered_rid sent rows) attrs)
+rids_trackless : (sent : List SimulcastLayer) (rows : List PayloadParams) (attrs : List MediaAttribute)
+    → Trackless (filter_map (answered_rid sent rows) attrs)
 rids_trackless sent rows [] = refl
 rids_trackless sent rows (media.Rid id direction pts restrictions ∷ attrs) =
     go (bytes_eq direction (codes "send") && (list_any (is_named id.0) sent && is_left rows pts)) (rids_trackless sent rows attrs) where
       go : (b : Bool) → Trackless (filter_map (answered_rid sent rows) attrs)
-          → Trackless (cons_option (cond b (Some (media.Rid id (codes "recv") (types_left rows pts) restrictions)) None) (filter_map (answered_rid sent rows) attrs))
+          → Trackless (cons_option (cond b (Some (media.Rid id (codes "recv") (types_left rows pts) restrictions)) None)
+          (filter_map (answered_rid sent rows) attrs))
       go true rec = rec
       go false rec = rec
 rids_trackless sent rows (attr ∷ attrs) = rids_trackless sent rows attrs
@@ -106,12 +119,15 @@ layers_trackless : (layers : List SimulcastLayer) → Trackless (layers_line lay
 layers_trackless [] = refl
 layers_trackless (layer ∷ layers) = refl
 
-layer_lines_trackless : (own : OwnSide) (direction : Direction) (offered : MediaLine) (rows : List PayloadParams) → Trackless (layer_lines own direction offered rows)
-layer_lines_trackless own direction offered rows = go (own.receives_simulcast && (receives direction && are_layers_told own.extensions offered)) where
-  go : (b : Bool) → Trackless (cond b (answered_layers rows offered) [])
-  go true = trackless_both (answered_rids rows offered) (layers_line (received_layers (answered_rids rows offered) offered))
-      (rids_trackless (sent_layers offered) rows offered.attrs) (layers_trackless (received_layers (answered_rids rows offered) offered))
-  go false = refl
+layer_lines_trackless : (own : OwnSide) (direction : Direction) (offered : MediaLine) (rows : List PayloadParams)
+    → Trackless (layer_lines own direction offered rows)
+layer_lines_trackless own direction offered rows = go (own.receives_simulcast
+    && (receives direction && are_layers_told own.extensions offered)) where
+      go : (b : Bool) → Trackless (cond b (answered_layers rows offered) [])
+      go true = trackless_both (answered_rids rows offered) (layers_line (received_layers (answered_rids rows offered) offered))
+          (rids_trackless (sent_layers offered) rows offered.attrs)
+          (layers_trackless (received_layers (answered_rids rows offered) offered))
+      go false = refl
 
 -- ---- a section says no track, or the one of its name
 
@@ -144,7 +160,8 @@ media_tracks own offered mid direction rows =
     (repeated_trackless own.extensions offered.attrs))
 
 accepted_tracks : (own : OwnSide) (offered : MediaLine) (mid : List ℕ) (role : Setup) (direction : Direction) (rows : List PayloadParams)
-    → section_tracks (made (framed offered (first_lines own mid role ++ media_lines own offered mid direction rows)) rows) ≡ filter_map track_of (msid_lines own direction mid)
+    → section_tracks (made (framed offered (first_lines own mid role ++ media_lines own offered mid direction rows)) rows)
+    ≡ filter_map track_of (msid_lines own direction mid)
 accepted_tracks own offered mid role direction rows =
     let lines : List MediaAttribute = first_lines own mid role ++ media_lines own offered mid direction rows in
     let frame : List MediaAttribute = filter (λ attr. not (is_of_type attr)) lines in
@@ -169,7 +186,8 @@ mid_trackless (attr ∷ attrs) = mid_trackless attrs
 mapped_trackless : (pt : ℕ) (attrs : List MediaAttribute) → Trackless (option_to_list (find (maps pt) attrs))
 mapped_trackless pt [] = refl
 mapped_trackless pt (media.RtpMap n value ∷ attrs) = go (maps pt (media.RtpMap n value)) (mapped_trackless pt attrs) where
-  go : (b : Bool) → Trackless (option_to_list (find (maps pt) attrs)) → Trackless (option_to_list (cond b (Some (media.RtpMap n value)) (find (maps pt) attrs)))
+  go : (b : Bool) → Trackless (option_to_list (find (maps pt) attrs))
+      → Trackless (option_to_list (cond b (Some (media.RtpMap n value)) (find (maps pt) attrs)))
   go true rec = refl
   go false rec = rec
 mapped_trackless pt (attr ∷ attrs) = mapped_trackless pt attrs
@@ -191,14 +209,18 @@ channels_trackless own offered mid role channels =
     trackless_both (first_lines own mid role ++ channel_lines channels) (map candidate_line own.candidates) refl
     (candidates_trackless own.candidates)
 
-choice_so : (own : OwnSide) (offer : Sdp) (offered answered : MediaLine) (choice : Choice) → SaysChoice own offer offered choice answered → TracksSo answered
+choice_so : (own : OwnSide) (offer : Sdp) (offered answered : MediaLine) (choice : Choice) → SaysChoice own offer offered choice answered
+    → TracksSo answered
 choice_so own offer offered answered Rejected says = subst TracksSo (sym says) (inl (rejected_trackless offered))
-choice_so own offer offered answered (Media mid rows) says = subst TracksSo (sym says.says) (media_so own offered mid says.role says.direction rows)
-choice_so own offer offered answered (Channels mid channels) says = subst TracksSo (sym says.says) (inl (channels_trackless own offered mid says.role channels))
+choice_so own offer offered answered (Media mid rows) says = subst TracksSo (sym says.says)
+    (media_so own offered mid says.role says.direction rows)
+choice_so own offer offered answered (Channels mid channels) says = subst TracksSo (sym says.says)
+    (inl (channels_trackless own offered mid says.role channels))
 
 -- ---- all sections
 
-all_so : (own : OwnSide) (ours : List PayloadParams) (offer : Sdp) (offered answered : List MediaLine) → AllZip (AnswersSection own ours offer) offered answered → All TracksSo answered
+all_so : (own : OwnSide) (ours : List PayloadParams) (offer : Sdp) (offered answered : List MediaLine)
+    → AllZip (AnswersSection own ours offer) offered answered → All TracksSo answered
 all_so own ours offer [] [] zip = All-nil TracksSo
 all_so own ours offer [] (m ∷ ms) zip = absurd zip
 all_so own ours offer (theirs ∷ more) [] zip = absurd zip
@@ -210,10 +232,12 @@ same_mids [] [] zip = refl
 same_mids [] (m ∷ ms) zip = absurd zip
 same_mids (theirs ∷ more) [] zip = absurd zip
 same_mids (theirs ∷ more) (m ∷ ms) zip =
-    ap (λ (name : Option (List ℕ)). cons_option name (section_mids ms)) zip.0.name ∙ ap (cons_option (name_of theirs)) (same_mids more ms zip.1)
+    ap (λ (name : Option (List ℕ)). cons_option name (section_mids ms)) zip.0.name
+    ∙ ap (cons_option (name_of theirs)) (same_mids more ms zip.1)
 
 -- the track of a name is none of sections of other names
-track_apart : (mid : List ℕ) (ms : List MediaLine) → All (Other (Some mid)) ms → All TracksSo ms → All (λ track. track_id mid ≢ track) (flat_map section_tracks ms)
+track_apart : (mid : List ℕ) (ms : List MediaLine) → All (Other (Some mid)) ms → All TracksSo ms
+    → All (λ track. track_id mid ≢ track) (flat_map section_tracks ms)
 track_apart mid [] other so = All-nil (λ (track : List ℕ). track_id mid ≢ track)
 track_apart mid (m ∷ ms) other so =
     All-append P (section_tracks m) (flat_map section_tracks ms) (here (All-head (Other (Some mid)) m ms other) (All-head TracksSo m ms so))
@@ -225,7 +249,8 @@ track_apart mid (m ∷ ms) other so =
       here apart (inl none) = subst (All P) (sym none) (All-nil P)
       here apart (inr said) =
           let differs : said.0 ≢ mid = subst (λ (name : Option (List ℕ)). IfSome name (λ k. k ≢ mid)) said.1 apart in
-          subst (All P) (sym said.2) (All-cons P (track_id said.0) [] (λ e. differs (sym (append_cancel_left (codes "track-") mid said.0 e))) (All-nil P))
+          subst (All P) (sym said.2) (All-cons P (track_id said.0) []
+          (λ e. differs (sym (append_cancel_left (codes "track-") mid said.0 e))) (All-nil P))
 
 distinct_tracks : (ms : List MediaLine) → Differ ms → All TracksSo ms → AreDistinct (flat_map section_tracks ms)
 distinct_tracks [] differ so = λ i j d lt within. absurd (omega arith)
@@ -238,11 +263,13 @@ distinct_tracks (m ∷ ms) differ so = go (All-head TracksSo m ms so) (distinct_
       (track_apart said.0 ms (subst (λ (name : Option (List ℕ)). All (Other name) ms) said.1 differ.0) (All-tail TracksSo m ms so)) rec)
 
 -- an answer has the names of its offer
-pub same_names : (own : OwnSide) (ours : List PayloadParams) (offer : Sdp) (answered : List MediaLine) → AllZip (AnswersSection own ours offer) offer.media_lines answered
+pub same_names : (own : OwnSide) (ours : List PayloadParams) (offer : Sdp) (answered : List MediaLine)
+    → AllZip (AnswersSection own ours offer) offer.media_lines answered
     → section_mids answered ≡ section_mids offer.media_lines
 same_names own ours offer answered answers = same_mids offer.media_lines answered (sections_shape own ours offer answered answers)
 
-pub tracks_differ : (own : OwnSide) (ours : List PayloadParams) (offer : Sdp) (answered : List MediaLine) → AllZip (AnswersSection own ours offer) offer.media_lines answered
+pub tracks_differ : (own : OwnSide) (ours : List PayloadParams) (offer : Sdp) (answered : List MediaLine)
+    → AllZip (AnswersSection own ours offer) offer.media_lines answered
     → AreDistinct (section_mids offer.media_lines) → AreDistinct (flat_map section_tracks answered)
 tracks_differ own ours offer answered answers distinct =
     distinct_tracks answered (differ_from answered (subst AreDistinct (sym (same_names own ours offer answered answers)) distinct))

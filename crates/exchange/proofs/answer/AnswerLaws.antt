@@ -9,11 +9,20 @@ use Rattle.exchange.specs.state.Exchange.{RefusesOffer, RefusesToAnswer}
 use Rattle.exchange.specs.state.State.{pending_sdp}
 
 -- what doesn't fit the open offer
-pub misfit : (old : Exchange) (text : List ℕ) (offer answer : Sdp) (ours : List PayloadParams) (error : ExchangeError) → RefusesFit ours offer answer error
+pub misfit : (old : Exchange) (text : List ℕ) (offer answer : Sdp) (ours : List PayloadParams) (error : ExchangeError)
+    → RefusesFit ours offer answer error
     → pending_sdp old ≡ Some offer → IsAnswer text answer → NegotiatesOffer answer old.config.params.items ours
     → RefusesAnswer old text error
 misfit old text offer answer ours (DoesNotFit section broken) breaks open_so is_answer negotiated =
-    record { offer = offer; open_so = open_so; answer = answer; is_answer = is_answer; ours = ours; negotiated = negotiated; breaks = breaks }
+    record {
+      offer = offer;
+      open_so = open_so;
+      answer = answer;
+      is_answer = is_answer;
+      ours = ours;
+      negotiated = negotiated;
+      breaks = breaks;
+    }
 misfit old text offer answer ours Memory breaks open_so is_answer negotiated = tt
 misfit old text offer answer ours _ breaks open_so is_answer negotiated = absurd breaks
 

@@ -1,5 +1,7 @@
 -- The rounds of sections, one after another.
-use Rattle.exchange.proofs.Common.{arith, ◌≡◌, ◌<◌, ◌+◌, ◌++◌, ℕ, List, [], ◌∷◌, length, drop, take, get_or, inl, inr, refl, subst, sym, ap, ◌∙◌, All, drop-cons, take_at_read, All-cons, All-head, All-nil, All-tail, Round, MediaLine, Sdp, HasBoundedRows, rows}
+use Rattle.exchange.proofs.Common.{arith, ◌≡◌, ◌<◌, ◌+◌, ◌++◌, ℕ, List, [], ◌∷◌, length, drop, take, get_or, inl, inr, refl, subst, sym, ap}
+use Rattle.exchange.proofs.Common.{◌∙◌, All, drop-cons, take_at_read, All-cons, All-head, All-nil, All-tail, Round, MediaLine, Sdp}
+use Rattle.exchange.proofs.Common.{HasBoundedRows, rows}
 use Rattle.exchange.specs.answer.Offered.{AreOfferRounds, BringsRound, IsRoundOf}
 use Rattle.str0m_formats.specs.row.PlainRowBounds.{IsBounded}
 
@@ -13,26 +15,39 @@ one_without_round offer (x ∷ xs) m rounds none are = elim are [
 ]
 
 -- a section after the others that brings one
-behind_one : (offer : Sdp) (ms : List MediaLine) (m : MediaLine) (rounds : List Round) (round : Round) → BringsRound offer m → IsRoundOf m round
+behind_one : (offer : Sdp) (ms : List MediaLine) (m : MediaLine) (rounds : List Round) (round : Round) → BringsRound offer m
+    → IsRoundOf m round
     → AreOfferRounds offer ms rounds → AreOfferRounds offer (ms ++ m ∷ []) (rounds ++ round ∷ [])
 behind_one offer [] m rounds round brings is are = inr (brings, round, [], ap (λ (rs : List Round). rs ++ round ∷ []) are, is, refl)
 behind_one offer (x ∷ xs) m rounds round brings is are = elim are [
   | inl p ↦ inl (p.0, behind_one offer xs m rounds round brings is p.1)
-  | inr q ↦ inr (q.0, q.1, q.2 ++ round ∷ [], ap (λ (rs : List Round). rs ++ round ∷ []) q.3, q.4, behind_one offer xs m q.2 round brings is q.5)
+  | inr q ↦ inr (
+    q.0,
+    q.1,
+    q.2 ++ round ∷ [],
+    ap (λ (rs : List Round). rs ++ round ∷ []) q.3,
+    q.4,
+    behind_one offer xs m q.2 round brings is q.5,
+  )
 ]
 
 take_section : (ms : List MediaLine) (i : ℕ) (m : MediaLine) → i < length ms → m ≡ get_or ms i m → take (i + 1) ms ≡ take i ms ++ m ∷ []
 take_section ms i m lt at = (take_at_read ms i m lt).1 ∙ ap (λ (y : MediaLine). take i ms ++ y ∷ []) (sym at)
 
-pub no_round_more : (offer : Sdp) (ms : List MediaLine) (i : ℕ) (m : MediaLine) (rounds : List Round) → i < length ms → m ≡ get_or ms i m → (BringsRound offer m → ⊥)
+pub no_round_more : (offer : Sdp) (ms : List MediaLine) (i : ℕ) (m : MediaLine) (rounds : List Round) → i < length ms → m ≡ get_or ms i m
+    → (BringsRound offer m → ⊥)
     → AreOfferRounds offer (take i ms) rounds → AreOfferRounds offer (take (i + 1) ms) rounds
 no_round_more offer ms i m rounds lt at none are =
-    subst (λ (some : List MediaLine). AreOfferRounds offer some rounds) (sym (take_section ms i m lt at)) (one_without_round offer (take i ms) m rounds none are)
+    subst (λ (some : List MediaLine). AreOfferRounds offer some rounds) (sym (take_section ms i m lt at))
+    (one_without_round offer (take i ms) m rounds none are)
 
-pub one_round_more : (offer : Sdp) (ms : List MediaLine) (i : ℕ) (m : MediaLine) (rounds : List Round) (round : Round) → i < length ms → m ≡ get_or ms i m
-    → BringsRound offer m → IsRoundOf m round → AreOfferRounds offer (take i ms) rounds → AreOfferRounds offer (take (i + 1) ms) (rounds ++ round ∷ [])
+pub one_round_more : (offer : Sdp) (ms : List MediaLine) (i : ℕ) (m : MediaLine) (rounds : List Round) (round : Round) → i < length ms
+    → m ≡ get_or ms i m
+    → BringsRound offer m → IsRoundOf m round → AreOfferRounds offer (take i ms) rounds
+    → AreOfferRounds offer (take (i + 1) ms) (rounds ++ round ∷ [])
 one_round_more offer ms i m rounds round lt at brings is are =
-    subst (λ (some : List MediaLine). AreOfferRounds offer some (rounds ++ round ∷ [])) (sym (take_section ms i m lt at)) (behind_one offer (take i ms) m rounds round brings is are)
+    subst (λ (some : List MediaLine). AreOfferRounds offer some (rounds ++ round ∷ [])) (sym (take_section ms i m lt at))
+    (behind_one offer (take i ms) m rounds round brings is are)
 
 -- ---- the round that stands first
 

@@ -1,5 +1,8 @@
 -- A section that rejects a consistent one is consistent.
-use Rattle.exchange.proofs.Common.{arith, ◌≡◌, ◌+◌, ◌≤◌, inl, inr, ℕ, Bool, true, false, cond, List, [], ◌∷◌, ◌++◌, Option, Some, None, All, IfSome, find, count_by, option_to_list, refl, subst, sym, ap, ◌∙◌, false≢true, All-append, All-cons, All-head, All-nil, list_any, is_some, count-append, uncounted, MediaAttribute, MediaType, Application, Audio, Video, Unknown, Proto, Srtp, Sctp, MediaLine, Consistent, is_mid, maps}
+use Rattle.exchange.proofs.Common.{arith, ◌≡◌, ◌+◌, ◌≤◌, inl, inr, ℕ, Bool, true, false, cond, List, [], ◌∷◌, ◌++◌, Option, Some, None, All}
+use Rattle.exchange.proofs.Common.{IfSome, find, count_by, option_to_list, refl, subst, sym, ap, ◌∙◌, false≢true, All-append, All-cons}
+use Rattle.exchange.proofs.Common.{All-head, All-nil, list_any, is_some, count-append, uncounted, MediaAttribute, MediaType, Application}
+use Rattle.exchange.proofs.Common.{Audio, Video, Unknown, Proto, Srtp, Sctp, MediaLine, Consistent, is_mid, maps}
 use Rattle.exchange.proofs.answer.RowsListLaws.{found, is_some_find}
 use Rattle.exchange.specs.answer.RejectedSection.{direction_over, first_type, line_that, listed_alone, rejecting}
 use Rattle.str0m_formats.specs.declared.codec.Codec.TheVariants.{PCMU}
@@ -22,17 +25,25 @@ of_mid pt (media.Mid mid) h = record { mid_is = refl; setup_is = refl; direction
 of_mid pt _ h = absurd (false≢true h)
 
 of_mapping : (pt : ℕ) (line : MediaAttribute) → maps pt line ≡ true → Counts pt line false false false true
-of_mapping pt (media.RtpMap n value) h = record { mid_is = refl; setup_is = refl; direction_is = refl; mapping_is = h; agrees = λ lines. tt }
+of_mapping pt (media.RtpMap n value) h = record {
+  mid_is = refl;
+  setup_is = refl;
+  direction_is = refl;
+  mapping_is = h;
+  agrees = λ lines. tt;
+}
 of_mapping pt _ h = absurd (false≢true h)
 
 -- ---- a line that is found
 
 -- of the line that is found, where none counts, and where each does
-count_none : (test : MediaAttribute → Bool) (o : Option MediaAttribute) → IfSome o (λ line. test line ≡ false) → count_by test (option_to_list o) ≡ 0
+count_none : (test : MediaAttribute → Bool) (o : Option MediaAttribute) → IfSome o (λ line. test line ≡ false)
+    → count_by test (option_to_list o) ≡ 0
 count_none test None h = refl
 count_none test (Some line) h = ap (λ (b : Bool). 0 + cond {A = ℕ} b 1 0) h
 
-count_one : (test : MediaAttribute → Bool) (o : Option MediaAttribute) → is_some o ≡ true → IfSome o (λ line. test line ≡ true) → count_by test (option_to_list o) ≡ 1
+count_one : (test : MediaAttribute → Bool) (o : Option MediaAttribute) → is_some o ≡ true → IfSome o (λ line. test line ≡ true)
+    → count_by test (option_to_list o) ≡ 1
 count_one test None there h = absurd (false≢true there)
 count_one test (Some line) there h = ap (λ (b : Bool). 0 + cond {A = ℕ} b 1 0) h
 
@@ -43,7 +54,8 @@ there_is test lines one = go (list_any test lines) refl where
   go true e = is_some_find test lines ∙ e
   go false e = let none = uncounted test lines e in absurd (omega arith)
 
-line_weaker : (P Q : MediaAttribute → Type 0) → ((line : MediaAttribute) → P line → Q line) → (o : Option MediaAttribute) → IfSome o P → IfSome o Q
+line_weaker : (P Q : MediaAttribute → Type 0) → ((line : MediaAttribute) → P line → Q line) → (o : Option MediaAttribute) → IfSome o P
+    → IfSome o Q
 line_weaker P Q f None h = tt
 line_weaker P Q f (Some line) h = f line h
 
@@ -68,10 +80,12 @@ module _ (offered : MediaLine) (is : Consistent offered) where
   mapping_counts : IfSome mapping_found (λ line. Counts pt line false false false true)
   mapping_counts = line_weaker _ _ (λ line h. of_mapping pt line h.0) mapping_found (found (maps pt) offered.attrs)
 
-  lines_counted : (test : MediaAttribute → Bool) → count_by test its_lines ≡ count_by test (option_to_list mid_found) + (count_by test (direction_over offered.proto) + count_by test (option_to_list mapping_found))
+  lines_counted : (test : MediaAttribute → Bool) → count_by test its_lines ≡ count_by test (option_to_list mid_found)
+      + (count_by test (direction_over offered.proto) + count_by test (option_to_list mapping_found))
   lines_counted test =
       count-append test (option_to_list mid_found) (direction_over offered.proto ++ option_to_list mapping_found)
-      ∙ ap (λ (n : ℕ). count_by test (option_to_list mid_found) + n) (count-append test (direction_over offered.proto) (option_to_list mapping_found))
+      ∙ ap (λ (n : ℕ). count_by test (option_to_list mid_found) + n)
+      (count-append test (direction_over offered.proto) (option_to_list mapping_found))
 
   -- a line of a direction is neither a name nor a setup nor a mapping
   record Directed (proto : Proto) : Type 0 where
@@ -82,7 +96,13 @@ module _ (offered : MediaLine) (is : Consistent offered) where
     pub agree : (all : List MediaAttribute) → All (AgreesOnApt all) (direction_over proto)
 
   directed : (proto : Proto) → Directed proto
-  directed Srtp = record { mids = refl; setups = refl; mappings = refl; one = λ e. refl; agree = λ all. All-cons (AgreesOnApt all) media.Inactive [] tt (All-nil (AgreesOnApt all)) }
+  directed Srtp = record {
+    mids = refl;
+    setups = refl;
+    mappings = refl;
+    one = λ e. refl;
+    agree = λ all. All-cons (AgreesOnApt all) media.Inactive [] tt (All-nil (AgreesOnApt all));
+  }
   directed Sctp = record { mids = refl; setups = refl; mappings = refl; one = λ e. cc; agree = λ all. All-nil (AgreesOnApt all) }
 
   one_mid_line : count_by is_mid its_lines ≡ 1
@@ -113,7 +133,8 @@ module _ (offered : MediaLine) (is : Consistent offered) where
       let none = (directed offered.proto).mappings in
       omega (arith, lines_counted (maps pt), here, none)
 
-  needs_no_mapping : (pts : List ℕ) → offered.pts ≡ pts → is_some (find (maps (first_type pts)) offered.attrs) ≡ false → NeedsNoMapping (first_type pts)
+  needs_no_mapping : (pts : List ℕ) → offered.pts ≡ pts → is_some (find (maps (first_type pts)) offered.attrs) ≡ false
+      → NeedsNoMapping (first_type pts)
   needs_no_mapping [] e none = (record { codec = PCMU; clock_rate = 8000; channels = None; format = empty }, (refl, refl, refl))
   needs_no_mapping (t ∷ ts) e none = go (All-head (IsMapped offered.attrs) t ts (subst (All (IsMapped offered.attrs)) e is.mapped)) where
     go : IsMapped offered.attrs t → NeedsNoMapping t
@@ -133,7 +154,8 @@ module _ (offered : MediaLine) (is : Consistent offered) where
   listed_mapped Video = All-cons (IsMapped its_lines) pt [] type_mapped (All-nil (IsMapped its_lines))
   listed_mapped (Unknown text) = All-cons (IsMapped its_lines) pt [] type_mapped (All-nil (IsMapped its_lines))
 
-  found_agrees : (o : Option MediaAttribute) (all : List MediaAttribute) → IfSome o (λ line. AgreesOnApt all line) → All (AgreesOnApt all) (option_to_list o)
+  found_agrees : (o : Option MediaAttribute) (all : List MediaAttribute) → IfSome o (λ line. AgreesOnApt all line)
+      → All (AgreesOnApt all) (option_to_list o)
   found_agrees None all h = All-nil (AgreesOnApt all)
   found_agrees (Some line) all h = All-cons (AgreesOnApt all) line [] h (All-nil (AgreesOnApt all))
 
@@ -171,5 +193,7 @@ made_of_parts offered typ pts listed attrs lines alone_type same_typ same_pts sa
     ∙ ap (λ (x : List ℕ). of_parts offered.proto offered.typ x attrs) (alone ∙ ap (listed_alone offered.typ) same_pts)
     ∙ ap (of_parts offered.proto offered.typ (listed_alone offered.typ offered.pts))
     (all
-    ∙ ap (λ (x : ℕ). line_that is_mid lines ++ (direction_over offered.proto ++ line_that (maps x) lines)) (is_first ∙ ap first_type same_pts)
-    ∙ ap (λ (x : List MediaAttribute). line_that is_mid x ++ (direction_over offered.proto ++ line_that (maps (first_type offered.pts)) x)) same_lines)
+    ∙ ap (λ (x : ℕ). line_that is_mid lines ++ (direction_over offered.proto ++ line_that (maps x) lines))
+    (is_first ∙ ap first_type same_pts)
+    ∙ ap (λ (x : List MediaAttribute). line_that is_mid x ++ (direction_over offered.proto ++ line_that (maps (first_type offered.pts)) x))
+    same_lines)

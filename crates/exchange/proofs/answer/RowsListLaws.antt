@@ -1,5 +1,9 @@
 -- Lists of types, each once; what is found in a list; lists that are mapped in part.
-use Rattle.exchange.proofs.Common.{arith, ◌≡◌, ◌<◌, ◌+◌, ◌≤◌, ◌++◌, ◌==◌, ◌||◌, ℕ, Bool, true, false, cond, not, List, [], ◌∷◌, length, take, get_or, Option, Some, None, All, IfSome, filter, filter_map, find, map, refl, sym, ap, ◌∙◌, eqb-true, eq-eqb, false≢true, take_at_read, All-cons, All-nil, All-head, All-tail, All-filter, Contains-append_right, list_any_at, list_any, Contains, cons_option, is_some, times-cons, times-none, one_if, times, has, distinct, one_mapped}
+use Rattle.exchange.proofs.Common.{arith, ◌≡◌, ◌<◌, ◌+◌, ◌≤◌, ◌++◌, ◌==◌, ◌||◌, ℕ, Bool, true, false, cond, not, List, [], ◌∷◌, length}
+use Rattle.exchange.proofs.Common.{take, get_or, Option, Some, None, All, IfSome, filter, filter_map, find, map, refl, sym, ap, ◌∙◌}
+use Rattle.exchange.proofs.Common.{eqb-true, eq-eqb, false≢true, take_at_read, All-cons, All-nil, All-head, All-tail, All-filter}
+use Rattle.exchange.proofs.Common.{Contains-append_right, list_any_at, list_any, Contains, cons_option, is_some, times-cons, times-none}
+use Rattle.exchange.proofs.Common.{one_if, times, has, distinct, one_mapped}
 use Rattle.std.proofs.lemmas.Bool.Decides.{nat_tests}
 use Rattle.str0m_sdp.proofs.{distinct_push}
 
@@ -13,7 +17,8 @@ has-others k x apart (y ∷ ys) = grind (arith, nat_tests, has-others k x apart 
 pub has-distinct : (xs : List ℕ) (k : ℕ) → has (distinct ◌==◌ xs) k ≡ has xs k
 has-distinct [] k = refl
 has-distinct (x ∷ xs) k = go (x == k) refl (has-distinct xs k) where
-  go : (b : Bool) → (x == k) ≡ b → has (distinct ◌==◌ xs) k ≡ has xs k → (b || has (filter (λ y. not (x == y)) (distinct ◌==◌ xs)) k) ≡ (b || has xs k)
+  go : (b : Bool) → (x == k) ≡ b → has (distinct ◌==◌ xs) k ≡ has xs k
+      → (b || has (filter (λ y. not (x == y)) (distinct ◌==◌ xs)) k) ≡ (b || has xs k)
   go true e rec = refl
   go false e rec = has-others k x e (distinct ◌==◌ xs) ∙ rec
 
@@ -49,9 +54,17 @@ distinct-once [] t = omega arith
 distinct-once (x ∷ xs) t = go (x == t) refl (distinct-once xs t) where
   go : (b : Bool) → (x == t) ≡ b → times (distinct ◌==◌ xs) t ≤ 1 → times (distinct ◌==◌ (x ∷ xs)) t ≤ 1
   go true e rec =
-      let none : times (filter (λ y. not (x == y)) (distinct ◌==◌ xs)) t ≡ 0 = times-none (filter (λ y. not (x == y)) (distinct ◌==◌ xs)) t (ap (has (filter (λ y. not (x == y)) (distinct ◌==◌ xs))) (sym (eqb-true x t e)) ∙ filtered_out x (distinct ◌==◌ xs)) in
+      let none : times (filter (λ y. not (x == y)) (distinct ◌==◌ xs)) t ≡ 0 =
+      times-none (filter (λ y. not (x == y)) (distinct ◌==◌ xs)) t
+      (ap (has (filter (λ y. not (x == y)) (distinct ◌==◌ xs))) (sym (eqb-true x t e)) ∙ filtered_out x (distinct ◌==◌ xs)) in
       omega (arith, none, times-cons x (filter (λ y. not (x == y)) (distinct ◌==◌ xs)) t, one_if (x == t) true e)
-  go false e rec = omega (arith, rec, times-filter (λ y. not (x == y)) (distinct ◌==◌ xs) t, times-cons x (filter (λ y. not (x == y)) (distinct ◌==◌ xs)) t, one_if (x == t) false e)
+  go false e rec = omega (
+    arith,
+    rec,
+    times-filter (λ y. not (x == y)) (distinct ◌==◌ xs) t,
+    times-cons x (filter (λ y. not (x == y)) (distinct ◌==◌ xs)) t,
+    one_if (x == t) false e,
+  )
 
 -- ---- what is found
 
@@ -66,7 +79,8 @@ found {X} test (x ∷ xs) = go (test x) refl (found test xs) where
   weaker None h = tt
   weaker (Some y) h = behind y h
 
-  go : (b : Bool) → test x ≡ b → IfSome (find test xs) (λ y. (test y ≡ true) × Contains xs y) → IfSome (cond b (Some x) (find test xs)) (λ y. (test y ≡ true) × Contains (x ∷ xs) y)
+  go : (b : Bool) → test x ≡ b → IfSome (find test xs) (λ y. (test y ≡ true) × Contains xs y)
+      → IfSome (cond b (Some x) (find test xs)) (λ y. (test y ≡ true) × Contains (x ∷ xs) y)
   go true e rec = (e, (0, omega arith, refl))
   go false e rec = weaker (find test xs) rec
 
@@ -115,7 +129,8 @@ has_contained xs k there = list_any_at (λ x. x == k) xs there.0 k there.1 (eq-e
 has-filter : (test : ℕ → Bool) (xs : List ℕ) (k : ℕ) → test k ≡ true → has (filter test xs) k ≡ has xs k
 has-filter test [] k passes = refl
 has-filter test (x ∷ xs) k passes = go (test x) (x == k) refl refl (has-filter test xs k passes) where
-  go : (kept same : Bool) → test x ≡ kept → (x == k) ≡ same → has (filter test xs) k ≡ has xs k → has (cond kept (x ∷ filter test xs) (filter test xs)) k ≡ (same || has xs k)
+  go : (kept same : Bool) → test x ≡ kept → (x == k) ≡ same → has (filter test xs) k ≡ has xs k
+      → has (cond kept (x ∷ filter test xs) (filter test xs)) k ≡ (same || has xs k)
   go true same e f rec = ap (λ (b : Bool). b || has (filter test xs) k) f ∙ ap (λ (b : Bool). same || b) rec
   go false true e f rec = absurd (false≢true (sym e ∙ ap test (eqb-true x k f) ∙ passes))
   go false false e f rec = rec

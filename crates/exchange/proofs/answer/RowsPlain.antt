@@ -1,5 +1,7 @@
 -- A plain row of this side stays plain in an answer, where it keeps the feedback of video.
-use Rattle.exchange.proofs.Common.{◌≡◌, ◌&&◌, ◌==◌, ◌||◌, ℕ, Bool, true, false, List, Option, Some, None, All, if◌then◌else◌, find, nat_lt, option_to_list, refl, subst, sym, ap, ◌∙◌, false≢true, or_parts, All-contains, All-weaker, list_any-append, list_any, is_some, PayloadParams, has, types_of, HasVideoFeedback, IsPlain, MediaLine}
+use Rattle.exchange.proofs.Common.{◌≡◌, ◌&&◌, ◌==◌, ◌||◌, ℕ, Bool, true, false, List, Option, Some, None, All, if◌then◌else◌, find, nat_lt}
+use Rattle.exchange.proofs.Common.{option_to_list, refl, subst, sym, ap, ◌∙◌, false≢true, or_parts, All-contains, All-weaker}
+use Rattle.exchange.proofs.Common.{list_any-append, list_any, is_some, PayloadParams, has, types_of, HasVideoFeedback, IsPlain, MediaLine}
 use Rattle.exchange.proofs.answer.RowLaws.{all_agreed}
 use Rattle.exchange.proofs.answer.RowsListLaws.{is_some_find}
 use Rattle.exchange.specs.answer.Rows.{IsAgreed, KeepsPlain, agreed_type, answered_rows, as_answered}
@@ -31,13 +33,15 @@ agreed_small listed (Some a) (Some b) small = go (a == b && has listed a) where
 both_small : (a b : Bool) → a ≡ false → b ≡ false → (a || b) ≡ false
 both_small a b e f = ap (λ (x : Bool). x || b) e ∙ f
 
-answered_small : (section : MediaLine) (theirs ours : PayloadParams) → AllSmall (types_of ours) → AllSmall (types_of (as_answered section theirs ours))
+answered_small : (section : MediaLine) (theirs ours : PayloadParams) → AllSmall (types_of ours)
+    → AllSmall (types_of (as_answered section theirs ours))
 unfolding as_answered
 answered_small section theirs ours small =
     let resend = agreed_type section.pts ours.resend theirs.resend in
     let red = agreed_type section.pts ours.red theirs.red in
     let parts = or_parts (is_large ours.pt) _ (none_large (types_of ours) small) in
-    let others = or_parts (list_any is_large (option_to_list ours.resend)) _ (sym (list_any-append is_large (option_to_list ours.resend) (option_to_list ours.red)) ∙ parts.1) in
+    let others = or_parts (list_any is_large (option_to_list ours.resend)) _
+    (sym (list_any-append is_large (option_to_list ours.resend) (option_to_list ours.red)) ∙ parts.1) in
     all_below (types_of (as_answered section theirs ours))
     (both_small (is_large ours.pt) _ parts.0
     (list_any-append is_large (option_to_list resend) (option_to_list red)
@@ -48,7 +52,11 @@ answer_plain : (section : MediaLine) (theirs ours : PayloadParams) → IsPlain o
 unfolding as_answered
 answer_plain section theirs ours plain as_video = record {
   carried = plain.carried;
-  bounded = record { types = answered_small section theirs ours plain.bounded.types; modes = plain.bounded.modes; distance = plain.bounded.distance };
+  bounded = record {
+    types = answered_small section theirs ours plain.bounded.types;
+    modes = plain.bounded.modes;
+    distance = plain.bounded.distance;
+  };
   triples = plain.triples;
   g722 = plain.g722;
   as_video = as_video;
@@ -65,5 +73,6 @@ pub all_plain : (own : List PayloadParams) (section : MediaLine) (answer : List 
     → All IsPlain own → All KeepsPlain answer
 all_plain own section answer is plain =
     All-weaker (IsAgreed own section) KeepsPlain
-    (λ row agreed. subst KeepsPlain (sym agreed.said) (keeps_plain section agreed.theirs agreed.ours (All-contains IsPlain own agreed.ours plain agreed.known)))
+    (λ row agreed. subst KeepsPlain (sym agreed.said)
+    (keeps_plain section agreed.theirs agreed.ours (All-contains IsPlain own agreed.ours plain agreed.known)))
     answer (all_agreed own section answer is)

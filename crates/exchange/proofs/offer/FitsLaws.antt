@@ -1,5 +1,6 @@
 -- An answer that fits its offer.
-use Rattle.exchange.proofs.Common.{arith, ◌≡◌, ◌<◌, ◌≤◌, ℕ, List, All, Option, get_or, length, take, inl, inr, subst, cases_lt, slice_get-get_or, slice_get_past, PayloadParams, MediaLine, Sdp}
+use Rattle.exchange.proofs.Common.{arith, ◌≡◌, ◌<◌, ◌≤◌, ℕ, List, All, Option, get_or, length, take, inl, inr, subst, cases_lt}
+use Rattle.exchange.proofs.Common.{slice_get-get_or, slice_get_past, PayloadParams, MediaLine, Sdp}
 use Rattle.exchange.specs.declared.offer.rule.Rule.{Rule}
 use Rattle.exchange.specs.declared.offer.rule.Rule.TheVariants as rule
 use Rattle.exchange.specs.offer.Fits.{BreaksFirst, FitsAt, KeepsEveryRule, Keeps, rules_asked}

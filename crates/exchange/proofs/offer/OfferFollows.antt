@@ -1,6 +1,8 @@
 -- An offer of this side leaves the sections of the last exchange in their places, and what is added has names that no section
 -- has had.
-use Rattle.exchange.proofs.Common.{arith, ◌≡◌, ◌+◌, ◌++◌, ◌||◌, ◌⊎◌, ℕ, suc, zero, Bool, true, false, List, [], ◌∷◌, map, Option, Some, All, inl, inr, subst, sym, ap, ◌∙◌, true≢false, All-cons, All-head, All-nil, All-tail, same_Some, slice_get, MediaAttribute, MediaLine, Sdp, is_listed, section_mids, at_place}
+use Rattle.exchange.proofs.Common.{arith, ◌≡◌, ◌+◌, ◌++◌, ◌||◌, ◌⊎◌, ℕ, suc, zero, Bool, true, false, List, [], ◌∷◌, map, Option, Some, All}
+use Rattle.exchange.proofs.Common.{inl, inr, subst, sym, ap, ◌∙◌, true≢false, All-cons, All-head, All-nil, All-tail, same_Some, slice_get}
+use Rattle.exchange.proofs.Common.{MediaAttribute, MediaLine, Sdp, is_listed, section_mids, at_place}
 use Rattle.exchange.proofs.offer.OfferRuleLaws.{new_section_name, next_shape}
 use Rattle.exchange.proofs.offer.RuleLaws.{rejecting_shape}
 use Rattle.exchange.proofs.state.ExchangeFollowLaws.{listed_more}
@@ -32,7 +34,8 @@ added_new old ready extensions (mid ∷ mids) (first ∷ more) new =
     let placed : Placed = record { mid = mid; added = first } in
     All-cons (IsNew old.names) (new_section old ready extensions placed) (map (new_section old ready extensions) (placed_under mids more))
     (subst (λ (name : Option (List ℕ)). is_listed old.names name ≡ false) (sym (new_section_name old ready extensions placed))
-    (unlisted_part _ _ (sym (listed_more (section_mids (sections_of old.local)) old.names (Some mid)) ∙ All-head (IsNewName old) mid mids new)))
+    (unlisted_part _ _ (sym (listed_more (section_mids (sections_of old.local)) old.names (Some mid))
+    ∙ All-head (IsNewName old) mid mids new)))
     (added_new old ready extensions mids more (All-tail (IsNewName old) mid mids new))
 
 -- ---- place by place
@@ -41,11 +44,16 @@ record StandsNamed (names : List (List ℕ)) (mine said : MediaLine) (left : Lis
   pub stands : (name_of said ≡ name_of mine) ⊎ IsNew names said
   pub left_new : All (IsNew names) left
 
-over_so : (names : List (List ℕ)) (mine : MediaLine) (added : List MediaLine) → All (IsNew names) added → StandsNamed names mine (over_section added mine) (but_first added)
+over_so : (names : List (List ℕ)) (mine : MediaLine) (added : List MediaLine) → All (IsNew names) added
+    → StandsNamed names mine (over_section added mine) (but_first added)
 over_so names mine [] new = record { stands = inl (rejecting_shape mine).name; left_new = new }
-over_so names mine (first ∷ more) new = record { stands = inr (All-head (IsNew names) first more new); left_new = All-tail (IsNew names) first more new }
+over_so names mine (first ∷ more) new = record {
+  stands = inr (All-head (IsNew names) first more new);
+  left_new = All-tail (IsNew names) first more new;
+}
 
-place_so : (names : List (List ℕ)) (old : Exchange) (ready : List SectionDirection) (at : ℕ) (mine : MediaLine) (added : List MediaLine) (said : MediaLine) (left : List MediaLine)
+place_so : (names : List (List ℕ)) (old : Exchange) (ready : List SectionDirection) (at : ℕ) (mine : MediaLine) (added : List MediaLine)
+    (said : MediaLine) (left : List MediaLine)
     → All (IsNew names) added → FillsPlace old ready at mine added said left → StandsNamed names mine said left
 place_so names old ready at mine added said left new fills = elim fills [
   | inl on ↦ record {
@@ -81,5 +89,6 @@ pub offer_follows : (old : Exchange) (names : List (List ℕ)) (offer : Sdp) →
     → FollowsPlaces old.names (sections_of old.local) offer.media_lines
 offer_follows old names offer makes new =
     subst (λ (ms : List MediaLine). FollowsPlaces old.names (sections_of old.local) ms) (sym makes.sections.all)
-    (places_so old.names old (ready_with old names) 0 (sections_of old.local) (sections_added old names) makes.sections.filled makes.sections.left
+    (places_so old.names old (ready_with old names) 0 (sections_of old.local) (sections_added old names) makes.sections.filled
+    makes.sections.left
     (added_new old (ready_with old names) _ names old.added new) makes.sections.fills)

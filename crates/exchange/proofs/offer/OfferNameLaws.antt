@@ -1,5 +1,8 @@
 -- The names of an offer's sections are pairwise different.
-use Rattle.exchange.proofs.Common.{arith, ◌≡◌, ◌≢◌, ◌+◌, ◌++◌, inl, inr, ℕ, suc, false, List, [], ◌∷◌, Option, Some, None, IfSome, MatchOption, All, bytes_eq, map, subst, sym, ap, ◌∙◌, or_parts, true≢false, All-cons, All-head, All-nil, All-tail, All-weaker, AllPairs-cons, bytes_eq-Decides, cons_option, MediaAttribute, MediaLine, Sdp, AreDistinct, is_listed, section_mids}
+use Rattle.exchange.proofs.Common.{arith, ◌≡◌, ◌≢◌, ◌+◌, ◌++◌, inl, inr, ℕ, suc, false, List, [], ◌∷◌, Option, Some, None, IfSome}
+use Rattle.exchange.proofs.Common.{MatchOption, All, bytes_eq, map, subst, sym, ap, ◌∙◌, or_parts, true≢false, All-cons, All-head, All-nil}
+use Rattle.exchange.proofs.Common.{All-tail, All-weaker, AllPairs-cons, bytes_eq-Decides, cons_option, MediaAttribute, MediaLine, Sdp}
+use Rattle.exchange.proofs.Common.{AreDistinct, is_listed, section_mids}
 use Rattle.exchange.proofs.offer.OfferRuleLaws.{all_named, new_section_name, next_shape}
 use Rattle.exchange.proofs.offer.RuleLaws.{rejecting_shape}
 use Rattle.exchange.proofs.section.PlaceLaws.{places_hold}
@@ -35,19 +38,21 @@ differ_flipped (Some n) (Some k) apart = λ e. apart (sym e)
 -- what holds of the names
 named_from : (P : List ℕ → Type 0) (ms : List MediaLine) → All P (section_mids ms) → All (λ m. IfSome (name_of m) P) ms
 named_from P [] all = All-nil (λ (m : MediaLine). IfSome (name_of m) P)
-named_from P (m ∷ ms) all = All-cons (λ (m : MediaLine). IfSome (name_of m) P) m ms (here (name_of m) all) (named_from P ms (later (name_of m) all)) where
-  here : (name : Option (List ℕ)) → All P (cons_option name (section_mids ms)) → IfSome name P
-  here None all = tt
-  here (Some n) all = All-head P n (section_mids ms) all
+named_from P (m ∷ ms) all = All-cons (λ (m : MediaLine). IfSome (name_of m) P) m ms (here (name_of m) all)
+    (named_from P ms (later (name_of m) all)) where
+      here : (name : Option (List ℕ)) → All P (cons_option name (section_mids ms)) → IfSome name P
+      here None all = tt
+      here (Some n) all = All-head P n (section_mids ms) all
 
-  later : (name : Option (List ℕ)) → All P (cons_option name (section_mids ms)) → All P (section_mids ms)
-  later None all = all
-  later (Some n) all = All-tail P n (section_mids ms) all
+      later : (name : Option (List ℕ)) → All P (cons_option name (section_mids ms)) → All P (section_mids ms)
+      later None all = all
+      later (Some n) all = All-tail P n (section_mids ms) all
 
 from_named : (P : List ℕ → Type 0) (ms : List MediaLine) → All (λ m. IfSome (name_of m) P) ms → All P (section_mids ms)
 from_named P [] all = All-nil P
 from_named P (m ∷ ms) all =
-    go (name_of m) (All-head (λ (m : MediaLine). IfSome (name_of m) P) m ms all) (from_named P ms (All-tail (λ (m : MediaLine). IfSome (name_of m) P) m ms all)) where
+    go (name_of m) (All-head (λ (m : MediaLine). IfSome (name_of m) P) m ms all)
+    (from_named P ms (All-tail (λ (m : MediaLine). IfSome (name_of m) P) m ms all)) where
       go : (name : Option (List ℕ)) → IfSome name P → All P (section_mids ms) → All P (cons_option name (section_mids ms))
       go None here rec = rec
       go (Some n) here rec = All-cons P n (section_mids ms) here rec
@@ -77,17 +82,20 @@ distinct_from (m ∷ ms) differ = go (name_of m) differ.0 (distinct_from ms diff
   go None apart rec = rec
   go (Some n) apart rec =
       AllPairs-cons (λ (a b : List ℕ). a ≢ b) n (section_mids ms)
-      (All-weaker (λ (k : List ℕ). k ≢ n) (λ (k : List ℕ). n ≢ k) (λ k other e. other (sym e)) (section_mids ms) (from_named (λ (k : List ℕ). k ≢ n) ms apart))
+      (All-weaker (λ (k : List ℕ). k ≢ n) (λ (k : List ℕ). n ≢ k) (λ k other e. other (sym e)) (section_mids ms)
+      (from_named (λ (k : List ℕ). k ≢ n) ms apart))
       rec
 
 -- ---- places
 
-other_next : (name : Option (List ℕ)) (old : Exchange) (ready : List SectionDirection) (theirs : Option MediaLine) (mine : MediaLine) → Other name mine → Other name (next_section old ready theirs mine)
+other_next : (name : Option (List ℕ)) (old : Exchange) (ready : List SectionDirection) (theirs : Option MediaLine) (mine : MediaLine)
+    → Other name mine → Other name (next_section old ready theirs mine)
 other_next name old ready theirs mine apart =
     subst (λ (found : Option (List ℕ)). IfSome name (λ n. IfSome found (λ k. k ≢ n))) (sym (next_shape old ready theirs mine).name) apart
 
 other_over : (name : Option (List ℕ)) (mine : MediaLine) → Other name mine → Other name (rejecting mine)
-other_over name mine apart = subst (λ (found : Option (List ℕ)). IfSome name (λ n. IfSome found (λ k. k ≢ n))) (sym (rejecting_shape mine).name) apart
+other_over name mine apart = subst (λ (found : Option (List ℕ)). IfSome name (λ n. IfSome found (λ k. k ≢ n)))
+    (sym (rejecting_shape mine).name) apart
 
 others_hold : (name : Option (List ℕ)) (old : Exchange) (ready : List SectionDirection) (at : ℕ) (ms added filled left : List MediaLine)
     → All (Other name) ms → All (Other name) added → FillsPlaces old ready at ms added filled left → All (Other name) (filled ++ left)
@@ -119,12 +127,14 @@ as_named : (ms added : List MediaLine) (m said : MediaLine) (between : List Medi
     → Differ (m ∷ ms) → Differ added → AreNamedApart added (m ∷ ms) → GoesApart ms said between
 as_named ms added m said between name same earlier differ apart = record {
   earlier = subst (λ (found : Option (List ℕ)). All (Other found) ms) (sym name) earlier.0;
-  later = subst (λ (found : Option (List ℕ)). All (Other found) between) (sym name) (subst (All (Other (name_of m))) (sym same) (none_named_first m ms added apart));
+  later = subst (λ (found : Option (List ℕ)). All (Other found) between) (sym name)
+      (subst (All (Other (name_of m))) (sym same) (none_named_first m ms added apart));
   differ = subst Differ (sym same) differ;
   apart = subst (λ (more : List MediaLine). AreNamedApart more ms) (sym same) (apart_from_rest m ms added apart);
 }
 
-goes : (old : Exchange) (ready : List SectionDirection) (at : ℕ) (m : MediaLine) (ms added : List MediaLine) (said : MediaLine) (between : List MediaLine)
+goes : (old : Exchange) (ready : List SectionDirection) (at : ℕ) (m : MediaLine) (ms added : List MediaLine) (said : MediaLine)
+    (between : List MediaLine)
     → Differ (m ∷ ms) → Differ added → AreNamedApart added (m ∷ ms) → FillsPlace old ready at m added said between
     → GoesApart ms said between
 goes old ready at m ms added said between earlier differ apart (inl (runs, is, same)) =
@@ -134,10 +144,13 @@ goes old ready at m ms [] said between earlier differ apart (inr (over, is, same
 goes old ready at m ms (x ∷ xs) said between earlier differ apart (inr (over, is, same)) =
     let rest : AreNamedApart (x ∷ xs) ms = apart_from_rest m ms (x ∷ xs) apart in
     record {
-      earlier = subst (λ (section : MediaLine). All (Other (name_of section)) ms) (sym is) (All-head (λ (a : MediaLine). All (Other (name_of a)) ms) x xs rest);
-      later = subst (λ (section : MediaLine). All (Other (name_of section)) between) (sym is) (subst (All (Other (name_of x))) (sym same) differ.0);
+      earlier = subst (λ (section : MediaLine). All (Other (name_of section)) ms) (sym is)
+          (All-head (λ (a : MediaLine). All (Other (name_of a)) ms) x xs rest);
+      later = subst (λ (section : MediaLine). All (Other (name_of section)) between) (sym is)
+          (subst (All (Other (name_of x))) (sym same) differ.0);
       differ = subst Differ (sym same) differ.1;
-      apart = subst (λ (more : List MediaLine). AreNamedApart more ms) (sym same) (All-tail (λ (a : MediaLine). All (Other (name_of a)) ms) x xs rest);
+      apart = subst (λ (more : List MediaLine). AreNamedApart more ms) (sym same)
+          (All-tail (λ (a : MediaLine). All (Other (name_of a)) ms) x xs rest);
     }
 
 places_differ : (old : Exchange) (ready : List SectionDirection) (at : ℕ) (ms added filled left : List MediaLine)
@@ -157,13 +170,16 @@ name_weaker : (P : List ℕ → Type 0) (name : Option (List ℕ)) → MatchOpti
 name_weaker P None it = tt
 name_weaker P (Some n) it = it
 
-added_differ : (old : Exchange) (ready : List SectionDirection) (extensions : List MediaAttribute) (names : List (List ℕ)) (what : List Added) → AreDistinct names
+added_differ : (old : Exchange) (ready : List SectionDirection) (extensions : List MediaAttribute) (names : List (List ℕ))
+    (what : List Added) → AreDistinct names
     → Differ (map (new_section old ready extensions) (placed_under names what))
 added_differ old ready extensions [] what distinct = tt
 added_differ old ready extensions (name ∷ names) [] distinct = tt
 added_differ old ready extensions (name ∷ names) (it ∷ more) distinct = (
-  subst (λ (found : Option (List ℕ)). All (Other found) (map (new_section old ready extensions) (placed_under names more))) (sym (new_section_name old ready extensions (record { mid = name; added = it })))
-      (All-weaker (λ (m : MediaLine). MatchOption (name_of m) ⊥ (λ k. k ≢ name)) (Other (Some name)) (λ m. name_weaker (λ (k : List ℕ). k ≢ name) (name_of m))
+  subst (λ (found : Option (List ℕ)). All (Other found) (map (new_section old ready extensions) (placed_under names more)))
+      (sym (new_section_name old ready extensions (record { mid = name; added = it })))
+      (All-weaker (λ (m : MediaLine). MatchOption (name_of m) ⊥ (λ k. k ≢ name)) (Other (Some name))
+      (λ m. name_weaker (λ (k : List ℕ). k ≢ name) (name_of m))
       (map (new_section old ready extensions) (placed_under names more))
       (all_named (λ (k : List ℕ). k ≢ name) old ready extensions names more (head_apart name names distinct))),
   added_differ old ready extensions names more (tail_distinct name names distinct),
@@ -181,20 +197,25 @@ unlisted_apart (x ∷ xs) ys name none =
 new_apart : (old : Exchange) (name : List ℕ) → IsNewName old name → All (λ k. k ≢ name) (section_mids (sections_of old.local))
 new_apart old name new = unlisted_apart (section_mids (sections_of old.local)) old.names name new
 
-added_apart : (old : Exchange) (ready : List SectionDirection) (extensions : List MediaAttribute) (names : List (List ℕ)) (what : List Added) → All (IsNewName old) names
+added_apart : (old : Exchange) (ready : List SectionDirection) (extensions : List MediaAttribute) (names : List (List ℕ))
+    (what : List Added) → All (IsNewName old) names
     → AreNamedApart (map (new_section old ready extensions) (placed_under names what)) (sections_of old.local)
 added_apart old ready extensions names what new =
-    All-weaker (λ (m : MediaLine). MatchOption (name_of m) ⊥ (IsNewName old)) (λ (m : MediaLine). All (Other (name_of m)) (sections_of old.local))
-    (λ m. apart_so (name_of m)) (map (new_section old ready extensions) (placed_under names what)) (all_named (IsNewName old) old ready extensions names what new) where
+    All-weaker (λ (m : MediaLine). MatchOption (name_of m) ⊥ (IsNewName old))
+    (λ (m : MediaLine). All (Other (name_of m)) (sections_of old.local))
+    (λ m. apart_so (name_of m)) (map (new_section old ready extensions) (placed_under names what))
+    (all_named (IsNewName old) old ready extensions names what new) where
       apart_so : (name : Option (List ℕ)) → MatchOption name ⊥ (IsNewName old) → All (Other name) (sections_of old.local)
       apart_so None it = absurd it
       apart_so (Some n) it = named_from (λ (k : List ℕ). k ≢ n) (sections_of old.local) (new_apart old n it)
 
-pub offer_names : (old : Exchange) (names : List (List ℕ)) (offer : Sdp) → All (IsNewName old) names → AreDistinct names → MakesOffer old names offer
+pub offer_names : (old : Exchange) (names : List (List ℕ)) (offer : Sdp) → All (IsNewName old) names → AreDistinct names
+    → MakesOffer old names offer
     → AreDistinct (section_mids (sections_of old.local)) → AreDistinct (section_mids offer.media_lines)
 offer_names old names offer new distinct makes earlier =
     let ready : List SectionDirection = ready_with old names in
     subst (λ (sections : List MediaLine). AreDistinct (section_mids sections)) (sym makes.sections.all)
     (distinct_from (makes.sections.filled ++ makes.sections.left)
     (places_differ old ready 0 (sections_of old.local) (sections_added old names) makes.sections.filled makes.sections.left
-    (differ_from (sections_of old.local) earlier) (added_differ old ready _ names old.added distinct) (added_apart old ready _ names old.added new) makes.sections.fills))
+    (differ_from (sections_of old.local) earlier) (added_differ old ready _ names old.added distinct)
+    (added_apart old ready _ names old.added new) makes.sections.fills))

@@ -1,5 +1,7 @@
 -- An offer of this side keeps its rules.
-use Rattle.exchange.proofs.Common.{◌≡◌, ◌+◌, ◌++◌, inl, inr, ℕ, true, false, List, [], ◌∷◌, Option, Some, None, MatchOption, All, map, refl, subst, sym, ◌∙◌, All-cons, All-head, All-nil, All-tail, flat_map, kind_rows, MediaAttribute, MediaType, Audio, Video, Application, Unknown, Proto, Srtp, Sctp, ActPass, MediaLine, Sdp, row_attrs, MediaKind}
+use Rattle.exchange.proofs.Common.{◌≡◌, ◌+◌, ◌++◌, inl, inr, ℕ, true, false, List, [], ◌∷◌, Option, Some, None, MatchOption, All, map, refl}
+use Rattle.exchange.proofs.Common.{subst, sym, ◌∙◌, All-cons, All-head, All-nil, All-tail, flat_map, kind_rows, MediaAttribute, MediaType}
+use Rattle.exchange.proofs.Common.{Audio, Video, Application, Unknown, Proto, Srtp, Sctp, ActPass, MediaLine, Sdp, row_attrs, MediaKind}
 use Rattle.exchange.proofs.offer.RuleLaws.{direction_said, rejecting_shape}
 use Rattle.exchange.proofs.section.PlaceLaws.{places_hold}
 use Rattle.exchange.specs.answer.Accepted.{candidate_line, msid_lines}
@@ -14,7 +16,8 @@ use Rattle.exchange.specs.offer.Added.{placed_under}
 use Rattle.exchange.specs.offer.MadeOffer.{MakesOffer, ready_with, sections_added}
 use Rattle.exchange.specs.offer.OfferPlaces.{FillsPlace, FillsPlaces, theirs_at}
 use Rattle.exchange.specs.offer.OfferRules.{HasNewName, IsNewName, IsOffered, KeepsOffered, KeepsPlace, KeepsPlaces}
-use Rattle.exchange.specs.offer.OfferSection.{asked_lines, kept_lines, new_section, next_section, offered_channels, offered_media, section_by, section_for, section_with}
+use Rattle.exchange.specs.offer.OfferSection.{asked_lines, kept_lines, new_section, next_section, offered_channels, offered_media}
+use Rattle.exchange.specs.offer.OfferSection.{section_by, section_for, section_with}
 use Rattle.exchange.specs.offer.Rules.{HasShapeOf}
 use Rattle.exchange.specs.section.Stopped.{name_of}
 use Rattle.exchange.specs.state.OwnSide.{direction_among}
@@ -24,12 +27,14 @@ use Rattle.str0m_values.specs.declared.media_kind.MediaKind.TheVariants as kind
 
 -- ---- shapes and names
 
-channels_shape : (old : Exchange) (mine : MediaLine) (mid : List ℕ) (channels : Option DataChannels) → name_of mine ≡ Some mid → mine.typ ≡ Application → mine.proto ≡ Sctp
+channels_shape : (old : Exchange) (mine : MediaLine) (mid : List ℕ) (channels : Option DataChannels) → name_of mine ≡ Some mid
+    → mine.typ ≡ Application → mine.proto ≡ Sctp
     → HasShapeOf mine (offered_channels old.own mine mid channels)
 channels_shape old mine mid None name typ proto = rejecting_shape mine
 channels_shape old mine mid (Some channels) name typ proto = record { typ = sym typ; proto = sym proto; name = sym name }
 
-shape_by : (old : Exchange) (ready : List SectionDirection) (theirs : Option MediaLine) (mine : MediaLine) (name : Option (List ℕ)) (typ : MediaType) (proto : Proto)
+shape_by : (old : Exchange) (ready : List SectionDirection) (theirs : Option MediaLine) (mine : MediaLine) (name : Option (List ℕ))
+    (typ : MediaType) (proto : Proto)
     → name_of mine ≡ name → mine.typ ≡ typ → mine.proto ≡ proto → HasShapeOf mine (section_by old ready theirs mine name typ proto)
 shape_by old ready theirs mine (Some mid) Audio Srtp name typ proto = record { typ = sym typ; proto = sym proto; name = sym name }
 shape_by old ready theirs mine (Some mid) Video Srtp name typ proto = record { typ = sym typ; proto = sym proto; name = sym name }
@@ -40,7 +45,8 @@ shape_by old ready theirs mine (Some mid) Application Srtp name typ proto = reje
 shape_by old ready theirs mine (Some mid) (Unknown text) proto name typ p = rejecting_shape mine
 shape_by old ready theirs mine None typ proto name t p = rejecting_shape mine
 
-pub next_shape : (old : Exchange) (ready : List SectionDirection) (theirs : Option MediaLine) (mine : MediaLine) → HasShapeOf mine (next_section old ready theirs mine)
+pub next_shape : (old : Exchange) (ready : List SectionDirection) (theirs : Option MediaLine) (mine : MediaLine)
+    → HasShapeOf mine (next_section old ready theirs mine)
 next_shape old ready theirs mine = shape_by old ready theirs mine (name_of mine) mine.typ mine.proto refl refl refl
 
 channels_name : (old : Exchange) (mid : List ℕ) (channels : Option DataChannels)
@@ -60,27 +66,37 @@ new_section_name old ready extensions placed = name_for old ready extensions pla
 -- ---- places
 
 -- what holds of the names holds of the sections under them
-pub all_named : (P : List ℕ → Type 0) (old : Exchange) (ready : List SectionDirection) (extensions : List MediaAttribute) (names : List (List ℕ)) (what : List Added) → All P names
+pub all_named : (P : List ℕ → Type 0) (old : Exchange) (ready : List SectionDirection) (extensions : List MediaAttribute)
+    (names : List (List ℕ)) (what : List Added) → All P names
     → All (λ m. MatchOption (name_of m) ⊥ P) (map (new_section old ready extensions) (placed_under names what))
 all_named P old ready extensions [] what all = All-nil (λ (m : MediaLine). MatchOption (name_of m) ⊥ P)
 all_named P old ready extensions (name ∷ names) [] all = All-nil (λ (m : MediaLine). MatchOption (name_of m) ⊥ P)
 all_named P old ready extensions (name ∷ names) (it ∷ more) all =
-    All-cons (λ (m : MediaLine). MatchOption (name_of m) ⊥ P) (new_section old ready extensions (record { mid = name; added = it })) (map (new_section old ready extensions) (placed_under names more))
-    (subst (λ (found : Option (List ℕ)). MatchOption found ⊥ P) (sym (new_section_name old ready extensions (record { mid = name; added = it }))) (All-head P name names all))
+    All-cons (λ (m : MediaLine). MatchOption (name_of m) ⊥ P) (new_section old ready extensions (record { mid = name; added = it }))
+    (map (new_section old ready extensions) (placed_under names more))
+    (subst (λ (found : Option (List ℕ)). MatchOption found ⊥ P)
+    (sym (new_section_name old ready extensions (record { mid = name; added = it }))) (All-head P name names all))
     (all_named P old ready extensions names more (All-tail P name names all))
 
 record KeptPlace (old : Exchange) (at : ℕ) (mine said : MediaLine) (left : List MediaLine) : Type 0 where
   place : KeepsPlace old at mine said
   later : All (HasNewName old) left
 
-place_kept : (old : Exchange) (ready : List SectionDirection) (at : ℕ) (mine : MediaLine) (added : List MediaLine) (said : MediaLine) (left : List MediaLine)
+place_kept : (old : Exchange) (ready : List SectionDirection) (at : ℕ) (mine : MediaLine) (added : List MediaLine) (said : MediaLine)
+    (left : List MediaLine)
     → All (HasNewName old) added → FillsPlace old ready at mine added said left → KeptPlace old at mine said left
 place_kept old ready at mine added said left new (inl (runs, is, same)) =
-    record { place = inl (subst (HasShapeOf mine) (sym is) (next_shape old ready (theirs_at old.remote at) mine)); later = subst (All (HasNewName old)) (sym same) new }
+    record {
+      place = inl (subst (HasShapeOf mine) (sym is) (next_shape old ready (theirs_at old.remote at) mine));
+      later = subst (All (HasNewName old)) (sym same) new;
+    }
 place_kept old ready at mine [] said left new (inr (over, is, same)) =
     record { place = inl (subst (HasShapeOf mine) (sym is) (rejecting_shape mine)); later = subst (All (HasNewName old)) (sym same) new }
 place_kept old ready at mine (x ∷ xs) said left new (inr (over, is, same)) =
-    record { place = inr (over, subst (HasNewName old) (sym is) (All-head (HasNewName old) x xs new)); later = subst (All (HasNewName old)) (sym same) (All-tail (HasNewName old) x xs new) }
+    record {
+      place = inr (over, subst (HasNewName old) (sym is) (All-head (HasNewName old) x xs new));
+      later = subst (All (HasNewName old)) (sym same) (All-tail (HasNewName old) x xs new);
+    }
 
 places_kept : (old : Exchange) (ready : List SectionDirection) (at : ℕ) (ms added filled left : List MediaLine)
     → All (HasNewName old) added → FillsPlaces old ready at ms added filled left → KeepsPlaces old at ms (filled ++ left)
@@ -136,7 +152,8 @@ channels_offered old ready instead mid None = rejecting_offered old ready instea
 channels_offered old ready instead mid (Some channels) =
     λ on. record { creds = refl; fingerprint = refl; role = refl; flows = λ typ. absurd_media _ typ; rows = tt }
 
-offered_by : (old : Exchange) (ready : List SectionDirection) (theirs : Option MediaLine) (mine : MediaLine) (name : Option (List ℕ)) (typ : MediaType) (proto : Proto)
+offered_by : (old : Exchange) (ready : List SectionDirection) (theirs : Option MediaLine) (mine : MediaLine) (name : Option (List ℕ))
+    (typ : MediaType) (proto : Proto)
     → IsOffered old ready (section_by old ready theirs mine name typ proto)
 offered_by old ready theirs mine (Some mid) Audio Srtp = media_offered old ready kind.Audio mid (kept_lines theirs mine)
 offered_by old ready theirs mine (Some mid) Video Srtp = media_offered old ready kind.Video mid (kept_lines theirs mine)

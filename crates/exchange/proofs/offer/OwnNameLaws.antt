@@ -1,5 +1,10 @@
 -- Sections one after another, each with a name of its own.
-use Rattle.exchange.proofs.Common.{arith, ◌≡◌, ◌≢◌, ◌<◌, ◌≤◌, ◌+◌, ◌++◌, ◌||◌, ℕ, Bool, true, false, not, List, [], ◌∷◌, length, take, get_or, Option, Some, None, bytes_eq, map, option_map, refl, subst, sym, ap, ◌∙◌, false≢true, length-map, take_all, list_any_at, all_pairs_push, get_or_from_slice_get, slice_get-map, slice_get_within, bytes_eq-Decides, BTreeSet, Updates, contains, Bor, slice_cmp, slice_get, nat_cmp, slice_get_item, filter_map_more, filter_map_same, holds_before, MediaLine, Holds, is_held, AreDistinct, is_listed, section_mid, section_mids}
+use Rattle.exchange.proofs.Common.{arith, ◌≡◌, ◌≢◌, ◌<◌, ◌≤◌, ◌+◌, ◌++◌, ◌||◌, ℕ, Bool, true, false, not, List, [], ◌∷◌, length, take}
+use Rattle.exchange.proofs.Common.{get_or, Option, Some, None, bytes_eq, map, option_map, refl, subst, sym, ap, ◌∙◌, false≢true, length-map}
+use Rattle.exchange.proofs.Common.{take_all, list_any_at, all_pairs_push, get_or_from_slice_get, slice_get-map, slice_get_within}
+use Rattle.exchange.proofs.Common.{bytes_eq-Decides, BTreeSet, Updates, contains, Bor, slice_cmp, slice_get, nat_cmp, slice_get_item}
+use Rattle.exchange.proofs.Common.{filter_map_more, filter_map_same, holds_before, MediaLine, Holds, is_held, AreDistinct, is_listed}
+use Rattle.exchange.proofs.Common.{section_mid, section_mids}
 use Rattle.exchange.proofs.state.ExchangeFollowLaws.{listed_more}
 use Rattle.exchange.specs.offer.OwnNames.{IsNamedAgain}
 use Rattle.exchange.specs.section.Stopped.{name_of}
@@ -22,10 +27,12 @@ listed_turned : (mid : List ℕ) (mids : List (List ℕ)) (name : Option (List �
 listed_turned mid mids None = refl
 listed_turned mid mids (Some q) = turned_so (bytes_eq mid q) (is_listed mids (Some q)) ∙ sym (listed_more mids (mid ∷ []) (Some q))
 
-differ_behind : (mid : List ℕ) (mids : List (List ℕ)) → is_listed mids (Some mid) ≡ false → AreDistinct mids → AreDistinct (mids ++ mid ∷ [])
+differ_behind : (mid : List ℕ) (mids : List (List ℕ)) → is_listed mids (Some mid) ≡ false → AreDistinct mids
+    → AreDistinct (mids ++ mid ∷ [])
 differ_behind mid mids unlisted distinct =
     all_pairs_push (λ (a b : List ℕ). a ≢ b) mids mid distinct
-    (λ k d lt same. false≢true (sym unlisted ∙ list_any_at (λ other. bytes_eq other mid) mids k d lt ((bytes_eq-Decides (get_or mids k d) mid).1 same)))
+    (λ k d lt same. false≢true (sym unlisted ∙ list_any_at (λ other. bytes_eq other mid) mids k d lt
+    ((bytes_eq-Decides (get_or mids k d) mid).1 same)))
 
 -- ---- the section that a name is of
 
@@ -34,7 +41,8 @@ record StandsUnder (sections : List MediaLine) (at : ℕ) (name : Option (List �
   stands : slice_get sections at ≡ Some section
   named_so : name_of section ≡ name
 
-standing : (sections : List MediaLine) (at : ℕ) (name : Option (List ℕ)) (o : Option MediaLine) → slice_get sections at ≡ o → option_map name_of o ≡ Some name
+standing : (sections : List MediaLine) (at : ℕ) (name : Option (List ℕ)) (o : Option MediaLine) → slice_get sections at ≡ o
+    → option_map name_of o ≡ Some name
     → StandsUnder sections at name
 standing sections at name None is mapped = cc
 standing sections at name (Some m) is mapped = record { section = m; stands = is; named_so = cc }
@@ -43,7 +51,8 @@ stands_at : (sections : List MediaLine) (names : List (Option (List ℕ))) (at :
     → at < length names → name ≡ get_or names at name → StandsUnder sections at name
 stands_at sections names at name are lt is =
     standing sections at name (slice_get sections at) refl
-    (sym (slice_get-map name_of sections at) ∙ ap (λ (all : List (Option (List ℕ))). slice_get all at) (sym are) ∙ slice_get_item names at name lt is)
+    (sym (slice_get-map name_of sections at) ∙ ap (λ (all : List (Option (List ℕ))). slice_get all at) (sym are)
+    ∙ slice_get_item names at name lt is)
 
 -- ---- steps
 
@@ -54,7 +63,8 @@ pub none_yet : (sections : List MediaLine) (names : BTreeSet (Bor (List ℕ))) �
 none_yet sections names held = record { held = held; differ = λ i j d lt within. absurd (omega arith) }
 
 -- a section without a name
-pub own_same : (sections : List MediaLine) (names : List (Option (List ℕ))) (before : BTreeSet (Bor (List ℕ))) (at : ℕ) (name : Option (List ℕ)) → names ≡ map name_of sections
+pub own_same : (sections : List MediaLine) (names : List (Option (List ℕ))) (before : BTreeSet (Bor (List ℕ))) (at : ℕ)
+    (name : Option (List ℕ)) → names ≡ map name_of sections
     → at < length names → name ≡ get_or names at name → name ≡ None → AreOwn sections before at → AreOwn sections before (at + 1)
 own_same sections names before at name are lt is none own =
     let it : StandsUnder sections at name = stands_at sections names at name are lt is in
@@ -67,9 +77,11 @@ own_same sections names before at name are lt is none own =
     }
 
 -- one of a new name
-pub own_more : (sections : List MediaLine) (names : List (Option (List ℕ))) (before after : BTreeSet (Bor (List ℕ))) (at : ℕ) (name : Option (List ℕ)) (text : Bor (List ℕ)) (mid : List ℕ) (added : Bool)
+pub own_more : (sections : List MediaLine) (names : List (Option (List ℕ))) (before after : BTreeSet (Bor (List ℕ))) (at : ℕ)
+    (name : Option (List ℕ)) (text : Bor (List ℕ)) (mid : List ℕ) (added : Bool)
     → names ≡ map name_of sections → at < length names → name ≡ get_or names at name → name ≡ Some mid → text.now ≡ mid
-    → Updates (λ x y. slice_cmp nat_cmp x.now y.now) before after text true → added ≡ not (contains (λ x y. slice_cmp nat_cmp x.now y.now) before text) → added ≡ true
+    → Updates (λ x y. slice_cmp nat_cmp x.now y.now) before after text true
+    → added ≡ not (contains (λ x y. slice_cmp nat_cmp x.now y.now) before text) → added ≡ true
     → AreOwn sections before at → AreOwn sections after (at + 1)
 own_more sections names before after at name text mid added are lt is some same updates told test own =
     let it : StandsUnder sections at name = stands_at sections names at name are lt is in
@@ -78,16 +90,20 @@ own_more sections names before after at name text mid added are lt is some same 
     filter_map_more section_mid sections at it.section mid (slice_get_within sections at it.section it.stands)
     (sym (get_or_from_slice_get sections at it.section it.section it.stands)) (sym (it.named_so ∙ some)) in
     let unlisted : is_listed mids (Some mid) ≡ false =
-    ap (λ (word : List ℕ). is_listed mids (Some word)) (sym same) ∙ sym (own.held (Some text.now)) ∙ was_listed added (is_held before (Some text.now)) true told test in
+    ap (λ (word : List ℕ). is_listed mids (Some word)) (sym same) ∙ sym (own.held (Some text.now))
+    ∙ was_listed added (is_held before (Some text.now)) true told test in
     record {
-      held = subst (Holds after) (sym more) (λ other. holds_before before after text mid mids same updates own.held other ∙ listed_turned mid mids other);
+      held = subst (Holds after) (sym more) (λ other. holds_before before after text mid mids same updates own.held other
+          ∙ listed_turned mid mids other);
       differ = subst AreDistinct (sym more) (differ_behind mid mids unlisted own.differ);
     }
 
 -- one of a name that stood before
-pub named_again : (sections : List MediaLine) (names : List (Option (List ℕ))) (before : BTreeSet (Bor (List ℕ))) (at : ℕ) (name : Option (List ℕ)) (text : Bor (List ℕ)) (mid : List ℕ) (added : Bool)
+pub named_again : (sections : List MediaLine) (names : List (Option (List ℕ))) (before : BTreeSet (Bor (List ℕ))) (at : ℕ)
+    (name : Option (List ℕ)) (text : Bor (List ℕ)) (mid : List ℕ) (added : Bool)
     → names ≡ map name_of sections → at < length names → name ≡ get_or names at name → name ≡ Some mid → text.now ≡ mid
-    → added ≡ not (contains (λ x y. slice_cmp nat_cmp x.now y.now) before text) → added ≡ false → AreOwn sections before at → IsNamedAgain sections at
+    → added ≡ not (contains (λ x y. slice_cmp nat_cmp x.now y.now) before text) → added ≡ false → AreOwn sections before at
+    → IsNamedAgain sections at
 named_again sections names before at name text mid added are lt is some same told test own =
     let it : StandsUnder sections at name = stands_at sections names at name are lt is in
     let mids : List (List ℕ) = section_mids (take at sections) in
@@ -100,8 +116,10 @@ named_again sections names before at name text mid added are lt is some same tol
     }
 
 -- all of them
-pub all_own : (sections : List MediaLine) (names : List (Option (List ℕ))) (before : BTreeSet (Bor (List ℕ))) (at : ℕ) → names ≡ map name_of sections
+pub all_own : (sections : List MediaLine) (names : List (Option (List ℕ))) (before : BTreeSet (Bor (List ℕ))) (at : ℕ)
+    → names ≡ map name_of sections
     → length names ≤ at → AreOwn sections before at → AreDistinct (section_mids sections)
 all_own sections names before at are past own =
-    let all : length sections ≤ at = omega (arith, past, ap (λ (all : List (Option (List ℕ))). length all) are, length-map sections name_of) in
+    let all : length sections ≤ at =
+    omega (arith, past, ap (λ (all : List (Option (List ℕ))). length all) are, length-map sections name_of) in
     subst (λ (ms : List MediaLine). AreDistinct (section_mids ms)) (take_all at sections all) own.differ

@@ -1,5 +1,6 @@
 -- What is read of a line that is to be one candidate's and nothing more.
-use Rattle.exchange.proofs.Common.{◌≡◌, ℕ, List, [], Result, Ok, Err, ap, subst, sym, SdpError, ParseError, Inconsistent, Memory, IsCandidateLine, FirstLine, Answers, AtMostOne, Refuses, Candidate}
+use Rattle.exchange.proofs.Common.{◌≡◌, ℕ, List, [], Result, Ok, Err, ap, subst, sym, SdpError, ParseError, Inconsistent, Memory}
+use Rattle.exchange.proofs.Common.{IsCandidateLine, FirstLine, Answers, AtMostOne, Refuses, Candidate}
 use Rattle.str0m_signal.proofs.{attribute_both, first_line_one}
 use Rattle.str0m_signal.proofs.Common.{candidate_both}
 

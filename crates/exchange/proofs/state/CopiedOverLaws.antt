@@ -1,5 +1,6 @@
 -- Items that are in a relation with those in their places, mended one after another.
-use Rattle.exchange.proofs.Common.{arith, ◌≡◌, ◌<◌, ◌+◌, ◌≤◌, false, ℕ, List, get_or, length, set, subst, sym, true≢false, get_or-set_other, MediaAttribute, Fmtp, Alike}
+use Rattle.exchange.proofs.Common.{arith, ◌≡◌, ◌<◌, ◌+◌, ◌≤◌, false, ℕ, List, get_or, length, set, subst, sym, true≢false, get_or-set_other}
+use Rattle.exchange.proofs.Common.{MediaAttribute, Fmtp, Alike}
 use Rattle.exchange.specs.state.ReadBack.{may_differ}
 use Rattle.str0m_sdp.specs.declared.attribute.MediaAttribute.TheVariants.{Simulcast as SimulcastLine}
 
@@ -7,7 +8,8 @@ use Rattle.str0m_sdp.specs.declared.attribute.MediaAttribute.TheVariants.{Simulc
 abbrev pub FromOn : {X : Type 0} → (X → X → Type 0) → List X → List X → ℕ → Type 0
 FromOn {X} R xs ys i = (k : ℕ) (d e : X) → i ≤ k → k < length xs → R (get_or xs k d) (get_or ys k e)
 
-pub from_on_at : {X : Type 0} (R : X → X → Type 0) (xs ys : List X) (i : ℕ) (x y : X) → i < length xs → x ≡ get_or xs i x → y ≡ get_or ys i y → FromOn R xs ys i → R x y
+pub from_on_at : {X : Type 0} (R : X → X → Type 0) (xs ys : List X) (i : ℕ) (x y : X) → i < length xs → x ≡ get_or xs i x
+    → y ≡ get_or ys i y → FromOn R xs ys i → R x y
 from_on_at {X} R xs ys i x y lt isx isy rest =
     subst (λ (z : X). R z y) (sym isx) (subst (λ (z : X). R (get_or xs i x) z) (sym isy) (rest i x y (omega arith) lt))
 

@@ -1,5 +1,9 @@
 -- States of an exchange one after another.
-use Rattle.exchange.proofs.Common.{arith, ◌≡◌, ◌≢◌, ◌||◌, ◌++◌, ◌⊎◌, ℕ, Bool, true, false, cond, List, [], ◌∷◌, length, Option, Some, None, All, IfSome, IsSomeAnd, MatchOption, filter_map, inl, inr, refl, subst, sym, ap, ◌∙◌, true≢false, All-cons, All-nil, All-weaker, list_any-append, same_Some, AllZip-long, AllZip-right, AllZip, cons_option, slice_get, stays-same, stays-then, row_before, CodecConfig, PayloadParams, LockedStay, StaysLocked, MediaLine, Sdp, AreDistinct, is_listed, section_mids, bytes_itself}
+use Rattle.exchange.proofs.Common.{arith, ◌≡◌, ◌≢◌, ◌||◌, ◌++◌, ◌⊎◌, ℕ, Bool, true, false, cond, List, [], ◌∷◌, length, Option, Some, None}
+use Rattle.exchange.proofs.Common.{All, IfSome, IsSomeAnd, MatchOption, filter_map, inl, inr, refl, subst, sym, ap, ◌∙◌, true≢false}
+use Rattle.exchange.proofs.Common.{All-cons, All-nil, All-weaker, list_any-append, same_Some, AllZip-long, AllZip-right, AllZip}
+use Rattle.exchange.proofs.Common.{cons_option, slice_get, stays-same, stays-then, row_before, CodecConfig, PayloadParams, LockedStay}
+use Rattle.exchange.proofs.Common.{StaysLocked, MediaLine, Sdp, AreDistinct, is_listed, section_mids, bytes_itself}
 use Rattle.exchange.specs.declared.offer.pending.Pending.{Pending}
 use Rattle.exchange.specs.declared.state.exchange.Exchange.{Exchange}
 use Rattle.exchange.specs.declared.state.signaling_state.SignalingState.TheVariants.{Stable}
@@ -41,7 +45,8 @@ renamed names xs at m e same stands = elim stands [
 ]
 
 through : (names : List (List ℕ)) (xs : List MediaLine) (at : ℕ) (m : MediaLine) (o : Option MediaLine)
-    → ((e : MediaLine) → o ≡ Some e → HasNameAt xs at e ⊎ IsNew names e) → IsSomeAnd o (λ e. name_of m ≡ name_of e) → HasNameAt xs at m ⊎ IsNew names m
+    → ((e : MediaLine) → o ≡ Some e → HasNameAt xs at e ⊎ IsNew names e) → IsSomeAnd o (λ e. name_of m ≡ name_of e)
+    → HasNameAt xs at m ⊎ IsNew names m
 through names xs at m None each same = absurd same
 through names xs at m (Some e) each same = renamed names xs at m e same (each e refl)
 
@@ -51,7 +56,8 @@ places_same names sections = record {
   each = λ at m there. inl (subst (λ (o : Option MediaLine). IsSomeAnd o (λ earlier. name_of m ≡ name_of earlier)) (sym there) refl);
 }
 
-places_then : (names more : List (List ℕ)) (xs ys zs : List MediaLine) → Grows names more → FollowsPlaces names xs ys → FollowsPlaces more ys zs → FollowsPlaces names xs zs
+places_then : (names more : List (List ℕ)) (xs ys zs : List MediaLine) → Grows names more → FollowsPlaces names xs ys
+    → FollowsPlaces more ys zs → FollowsPlaces names xs zs
 places_then names more xs ys zs grows first second = record {
   as_many = omega (arith, first.as_many, second.as_many);
   each = λ at m there. elim (second.each at m there) [
@@ -68,7 +74,8 @@ rows_then xs ys zs as_many first second i old new at_old at_new =
     stays-then old mid.0 new (first i old mid.0 at_old mid.1) (second i mid.0 new mid.1 at_new)
 
 locked_stay_same : (rows : List PayloadParams) → LockedStay rows rows
-locked_stay_same rows i old new at_old at_new = subst (λ (row : PayloadParams). old.locked ≡ true → StaysLocked old row) (same_Some old new (sym at_old ∙ at_new)) (stays-same old)
+locked_stay_same rows i old new at_old at_new = subst (λ (row : PayloadParams). old.locked ≡ true → StaysLocked old row)
+    (same_Some old new (sym at_old ∙ at_new)) (stays-same old)
 
 -- ---- states
 
@@ -83,19 +90,23 @@ follows_self exchange = record {
 pub follows_then : (first second third : Exchange) → Follows first second → Follows second third → Follows first third
 follows_then first second third early late = record {
   names = λ name there. late.names name (early.names name there);
-  places = places_then first.names second.names (sections_of first.local) (sections_of second.local) (sections_of third.local) early.names early.places late.places;
+  places = places_then first.names second.names (sections_of first.local) (sections_of second.local) (sections_of third.local) early.names
+      early.places late.places;
   rows = late.rows ∙ early.rows;
   stay = rows_then first.config.params.items second.config.params.items third.config.params.items late.rows early.stay late.stay;
 }
 
 -- where names, description and rows are left as they are
-pub follows_same : (before after : Exchange) → after.names ≡ before.names → after.local ≡ before.local → after.config ≡ before.config → Follows before after
+pub follows_same : (before after : Exchange) → after.names ≡ before.names → after.local ≡ before.local → after.config ≡ before.config
+    → Follows before after
 follows_same before after names local config =
     record {
       names = λ name there. subst (λ (ns : List (List ℕ)). is_listed ns name ≡ true) (sym names) there;
-      places = subst (λ (sdp : Option Sdp). FollowsPlaces before.names (sections_of before.local) (sections_of sdp)) (sym local) (places_same before.names (sections_of before.local));
+      places = subst (λ (sdp : Option Sdp). FollowsPlaces before.names (sections_of before.local) (sections_of sdp)) (sym local)
+          (places_same before.names (sections_of before.local));
       rows = ap (λ (c : CodecConfig). length c.params.items) config;
-      stay = subst (λ (c : CodecConfig). LockedStay before.config.params.items c.params.items) (sym config) (locked_stay_same before.config.params.items);
+      stay = subst (λ (c : CodecConfig). LockedStay before.config.params.items c.params.items) (sym config)
+          (locked_stay_same before.config.params.items);
     }
 
 -- ---- what an exchange leaves
@@ -113,7 +124,8 @@ matched_some : (o : Option MediaLine) (m : MediaLine) (P : MediaLine → Type 0)
 matched_some o m P is h = subst (λ (x : Option MediaLine). MatchOption x (Unit {0}) P) is h
 
 -- an answer of the shape of an offer that keeps its places
-pub answer_follows : (names : List (List ℕ)) (local : List MediaLine) (remote : Option Sdp) (offer answer : Sdp) → StaysInPlaces names local remote offer
+pub answer_follows : (names : List (List ℕ)) (local : List MediaLine) (remote : Option Sdp) (offer answer : Sdp)
+    → StaysInPlaces names local remote offer
     → AllZip HasShapeOf offer.media_lines answer.media_lines → FollowsPlaces names local answer.media_lines
 answer_follows names local remote offer answer kept shape = record {
   as_many = omega (arith, kept.as_many, AllZip-long HasShapeOf offer.media_lines answer.media_lines shape);
@@ -166,7 +178,8 @@ known_all names sections =
 -- ---- exchanges that are done
 
 -- where the answer to the open offer is taken
-pub follows_done : (before after : Exchange) (pending : Pending) → IsSound before → before.pending ≡ Some pending → after.local ≡ Some pending.sdp
+pub follows_done : (before after : Exchange) (pending : Pending) → IsSound before → before.pending ≡ Some pending
+    → after.local ≡ Some pending.sdp
     → after.names ≡ grown before.names pending.sdp.media_lines → length after.config.params.items ≡ length before.config.params.items
     → LockedStay before.config.params.items after.config.params.items → Follows before after
 follows_done before after pending sound is local names rows stay = record {
@@ -178,9 +191,12 @@ follows_done before after pending sound is local names rows stay = record {
 }
 
 -- where an offer of the other side is answered
-pub follows_answer : (before after : Exchange) (offer answer : Sdp) → StaysInPlaces before.names (sections_of before.local) before.remote offer
-    → AllZip HasShapeOf offer.media_lines answer.media_lines → after.local ≡ Some answer → after.names ≡ grown before.names answer.media_lines
-    → length after.config.params.items ≡ length before.config.params.items → LockedStay before.config.params.items after.config.params.items → Follows before after
+pub follows_answer : (before after : Exchange) (offer answer : Sdp)
+    → StaysInPlaces before.names (sections_of before.local) before.remote offer
+    → AllZip HasShapeOf offer.media_lines answer.media_lines → after.local ≡ Some answer
+    → after.names ≡ grown before.names answer.media_lines
+    → length after.config.params.items ≡ length before.config.params.items → LockedStay before.config.params.items after.config.params.items
+    → Follows before after
 follows_answer before after offer answer kept shape local names rows stay = record {
   names = subst (Grows before.names) (sym names) (grows_so before.names answer.media_lines);
   places = subst (λ (sdp : Option Sdp). FollowsPlaces before.names (sections_of before.local) (sections_of sdp)) (sym local)
@@ -203,11 +219,13 @@ sound_new exchange local none = record {
 }
 
 -- no two sections of an open offer have one name
-pub open_names : (exchange : Exchange) (pending : Pending) → IsSound exchange → exchange.pending ≡ Some pending → AreDistinct (section_mids pending.sdp.media_lines)
+pub open_names : (exchange : Exchange) (pending : Pending) → IsSound exchange → exchange.pending ≡ Some pending
+    → AreDistinct (section_mids pending.sdp.media_lines)
 open_names exchange pending sound is = (subst (λ (offer : Option Pending). IfSome offer (IsPlacedSo exchange)) is sound.placed).1
 
 -- an exchange that is done leaves no open offer, and knows its names
-pub sound_done : (after : Exchange) (names : List (List ℕ)) (sdp : Sdp) → AreDistinct (section_mids sdp.media_lines) → after.local ≡ Some sdp
+pub sound_done : (after : Exchange) (names : List (List ℕ)) (sdp : Sdp) → AreDistinct (section_mids sdp.media_lines)
+    → after.local ≡ Some sdp
     → after.names ≡ grown names sdp.media_lines → after.pending ≡ None → IsSound after
 sound_done after names sdp differ local named none = record {
   own_names = subst (λ (o : Option Sdp). AreDistinct (section_mids (sections_of o))) (sym local) differ;

@@ -1,8 +1,10 @@
 -- Cases of a table that are looked up by their texts, without regard to the case of ASCII letters.
-use Rattle.str0m_formats.proofs.Common.{arith, ◌≡◌, ℕ, Bool, true, List, [], ◌∷◌, map, Option, IfSome, list_all, to_ascii_lowercase, bytes_eq, and_parts, find}
+use Rattle.str0m_formats.proofs.Common.{arith, ◌≡◌, ℕ, Bool, true, List, [], ◌∷◌, map, Option, IfSome, list_all, to_ascii_lowercase}
+use Rattle.str0m_formats.proofs.Common.{bytes_eq, and_parts, find}
 
 -- what is found stands in the list and passes
-pub find_passes : {A : Type 0} (own test : A → Bool) (xs : List A) → list_all own xs ≡ true → IfSome (find test xs) (λ x. (own x ≡ true) × (test x ≡ true))
+pub find_passes : {A : Type 0} (own test : A → Bool) (xs : List A) → list_all own xs ≡ true
+    → IfSome (find test xs) (λ x. (own x ≡ true) × (test x ≡ true))
 find_passes own test [] all = tt
 find_passes {A} own test (x ∷ xs) all = grind (arith, and_parts, find_passes own test xs)
 

@@ -1,5 +1,6 @@
 -- The codec of a name is the one that its text reads as.
-use Rattle.str0m_formats.proofs.Common.{rules, arith, ◌≡◌, ◌≢◌, ℕ, Bool, true, false, ◌⊎◌, List, map, Some, ap, ◌∙◌, unwrap_or, to_ascii_lowercase, bytes_eq, str_eq_ignore_ascii_case, bytes_eq-Decides}
+use Rattle.str0m_formats.proofs.Common.{rules, arith, ◌≡◌, ◌≢◌, ℕ, Bool, true, false, ◌⊎◌, List, map, Some, ap, ◌∙◌, unwrap_or}
+use Rattle.str0m_formats.proofs.Common.{to_ascii_lowercase, bytes_eq, str_eq_ignore_ascii_case, bytes_eq-Decides}
 use Rattle.str0m_formats.proofs.codec.CodecLookup.{find_passes, if_some_map, case_at}
 use Rattle.str0m_formats.specs.codec.Codec.{codec_text, codec_of, printed_and_read, IsSameText, IsReadAs}
 use Rattle.str0m_formats.specs.declared.codec.Codec.{Codec}

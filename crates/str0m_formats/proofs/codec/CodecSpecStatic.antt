@@ -1,5 +1,6 @@
 -- What a payload type stands for without a mapping is found in the table of codecs.
-use Rattle.str0m_formats.proofs.Common.{arith, ◌≡◌, ◌≤◌, ◌↔◌, ℕ, leb, Bool, true, false, Option, Some, None, is_some, option_map, refl, sym, ap, ◌∙◌, leb-true, false≢true, IsTheOnly, bind_some, only_read, reads_none, Reads}
+use Rattle.str0m_formats.proofs.Common.{arith, ◌≡◌, ◌≤◌, ◌↔◌, ℕ, leb, Bool, true, false, Option, Some, None, is_some, option_map, refl, sym}
+use Rattle.str0m_formats.proofs.Common.{ap, ◌∙◌, leb-true, false≢true, IsTheOnly, bind_some, only_read, reads_none, Reads}
 use Rattle.str0m_formats.specs.codec.Codec.{static_entry}
 use Rattle.str0m_formats.specs.codec.CodecSpec.{IsStatic, spec_at, is_at, static_codec, static_spec}
 use Rattle.str0m_formats.specs.declared.codec.Codec.{Codec}

@@ -1,5 +1,6 @@
 -- Parameters of the table of keys, as they print and are read again.
-use Rattle.str0m_formats.proofs.Common.{◌≡◌, ◌⊎◌, ℕ, Bool, false, List, [], ◌∷◌, length, map, filter, nat_lt, Option, Some, None, MatchOption, refl, arith, inl, inr, AllByRecursion, str_to_ascii_lowercase, lt-ltb, IsRest}
+use Rattle.str0m_formats.proofs.Common.{◌≡◌, ◌⊎◌, ℕ, Bool, false, List, [], ◌∷◌, length, map, filter, nat_lt, Option, Some, None}
+use Rattle.str0m_formats.proofs.Common.{MatchOption, refl, arith, inl, inr, AllByRecursion, str_to_ascii_lowercase, lt-ltb, IsRest}
 use Rattle.str0m_formats.proofs.format.FormatParamAgain.{key_reads, entry_made}
 use Rattle.str0m_formats.proofs.format.FormatParamModeBounds.{modes_within}
 use Rattle.str0m_formats.proofs.format.FormatParamsShown.{joined_pair, IsSolidPair, Entry, HasRange, pair_of_entry, pair_solid}
@@ -7,7 +8,8 @@ use Rattle.str0m_formats.specs.declared.format.format_key.FormatKey.{FormatKey}
 use Rattle.str0m_formats.specs.declared.format.format_key.FormatKey.TheVariants as key
 use Rattle.str0m_formats.specs.declared.format.format_param.FormatParam.{FormatParam}
 use Rattle.str0m_formats.specs.format.FormatKey.{key_text}
-use Rattle.str0m_formats.specs.format.FormatParam.{Kind, flag, number, hex, modes, exactly, anything, Held, ReadsKind, kind, keyed, entry, IsParsed, AreParsed, InRange, param_text}
+use Rattle.str0m_formats.specs.format.FormatParam.{Kind, flag, number, hex, modes, exactly, anything, Held, ReadsKind, kind, keyed, entry}
+use Rattle.str0m_formats.specs.format.FormatParam.{IsParsed, AreParsed, InRange, param_text}
 use Rattle.str0m_formats.specs.format.FormatParamReading.{param_of}
 use Rattle.str0m_formats.specs.format.Pairs.{is_mark, has_mark}
 
@@ -78,7 +80,8 @@ solid_of o h = grind (arith, pair_solid)
 keyed_solid : (param : FormatParam) → IsKeyed param → IsSolidPair (pair_of param)
 keyed_solid param h = solid_of (entry param) h
 
-param_text_at : (param : FormatParam) (o : Option Entry) → entry param ≡ o → MatchOption o ⊥ HasRange → param_text param ≡ joined_pair (entry_pair o)
+param_text_at : (param : FormatParam) (o : Option Entry) → entry param ≡ o → MatchOption o ⊥ HasRange
+    → param_text param ≡ joined_pair (entry_pair o)
 param_text_at param o is h = grind arith
 
 keyed_again : (param : FormatParam) → IsKeyed param → param_text param ≡ joined_pair (pair_of param)

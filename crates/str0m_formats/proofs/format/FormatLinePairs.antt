@@ -1,5 +1,7 @@
 -- A format that is printed as an fmtp line: its pairs, and what they read as.
-use Rattle.str0m_formats.proofs.Common.{◌≡◌, ◌≢◌, ℕ, false, List, [], ◌∷◌, ◌++◌, length, map, Option, Some, None, IfSome, option_map, inl, inr, refl, sym, arith, ap, subst, ◌∙◌, AllByRecursion, cons_option, list_any, append-nil, map-append, IsRest, filter_map}
+use Rattle.str0m_formats.proofs.Common.{◌≡◌, ◌≢◌, ℕ, false, List, [], ◌∷◌, ◌++◌, length, map, Option, Some, None, IfSome, option_map, inl}
+use Rattle.str0m_formats.proofs.Common.{inr, refl, sym, arith, ap, subst, ◌∙◌, AllByRecursion, cons_option, list_any, append-nil}
+use Rattle.str0m_formats.proofs.Common.{map-append, IsRest, filter_map}
 use Rattle.str0m_formats.proofs.format.FormatLineAgain.{all_pieces, all_pairs, linked, texts_alike, order_of}
 use Rattle.str0m_formats.proofs.format.FormatParamsSet.{param_is, set_each}
 use Rattle.str0m_formats.proofs.format.FormatParamsShown.{joined_pair, slots_at, bares_at, IsSolidPair, entry_at, shows}
@@ -9,7 +11,8 @@ use Rattle.str0m_formats.specs.declared.codec.Codec.TheVariants as codec
 use Rattle.str0m_formats.specs.declared.format.format_key.FormatKey.{FormatKey}
 use Rattle.str0m_formats.specs.declared.format.format_key.FormatKey.TheVariants as key
 use Rattle.str0m_formats.specs.declared.format.format_param.FormatParam.{FormatParam}
-use Rattle.str0m_formats.specs.declared.format.format_param.FormatParam.TheVariants.{TelephoneEvents, BareRange, BarePtList, AmrWbUnsupported, Apt, Red, Unknown}
+use Rattle.str0m_formats.specs.declared.format.format_param.FormatParam.TheVariants.{TelephoneEvents, BareRange, BarePtList}
+use Rattle.str0m_formats.specs.declared.format.format_param.FormatParam.TheVariants.{AmrWbUnsupported, Apt, Red, Unknown}
 use Rattle.str0m_formats.specs.declared.format.format_params.Field.{Field}
 use Rattle.str0m_formats.specs.declared.format.format_params.Field.TheVariants as field
 use Rattle.str0m_formats.specs.declared.format.format_params.FormatParams.{FormatParams}
@@ -30,7 +33,8 @@ IsOwn (Red pt) = ⊥
 IsOwn Unknown = ⊥
 IsOwn param = Unit {0}
 
-some_has : {A : Type 0} (P : FormatParam → Type 0) (make : A → FormatParam) (o : Option A) → ((x : A) → P (make x)) → IfSome (option_map make o) P
+some_has : {A : Type 0} (P : FormatParam → Type 0) (make : A → FormatParam) (o : Option A) → ((x : A) → P (make x))
+    → IfSome (option_map make o) P
 some_has P make o each = grind arith
 
 key_own : (k : FormatKey) (p : FormatParams) → IfSome (option_map (keyed k) (get (field.Key k) p)) IsOwn
@@ -64,7 +68,8 @@ own_all (f ∷ fs) p none = each_step IsOwn (param_at f p) (filter_map (λ f. pa
 abbrev PrintsSome : FormatParam → Type 0
 PrintsSome param = IsRest (param_text param)
 
-key_prints : (k : FormatKey) (o : Option (Held (kind k))) → IfSome o (λ x. entry (keyed k x) ≡ Some (k, x)) → IfSome (option_map (keyed k) o) PrintsSome
+key_prints : (k : FormatKey) (o : Option (Held (kind k))) → IfSome o (λ x. entry (keyed k x) ≡ Some (k, x))
+    → IfSome (option_map (keyed k) o) PrintsSome
 key_prints k o is = grind arith
 
 prints_in : (f : Field) (p : FormatParams) → IfSome (option_map (param_in f) (get f p)) PrintsSome

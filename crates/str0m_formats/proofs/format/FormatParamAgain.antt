@@ -2,13 +2,17 @@
 use Rattle.std.specs.Char.{encode_utf8}
 use Rattle.std.specs.Fmt.{digits}
 use Rattle.std.specs.Str.{trim_end, chars, trim_start}
-use Rattle.str0m_formats.proofs.Common.{◌≡◌, ◌≢◌, ◌≤◌, ◌<◌, ◌^◌, ◌-◌, inl, ℕ, Bool, true, false, List, [], ◌∷◌, ◌++◌, get_or, replicate, refl, sym, ap, ◌∙◌, arith, lit<, decimal, AllDigits, digits_value, decimal_is_IsNumeral, digits_is_IsNumeral, length-append, false≢true, IsNumber, IsNum, IsRest, Option, Some, None, MatchOption, nat_le, inr, ◌==◌, ◌&&◌, and_parts, cases_lt, eqb-true, leb-true, zero, suc, IsNumeral}
+use Rattle.str0m_formats.proofs.Common.{◌≡◌, ◌≢◌, ◌≤◌, ◌<◌, ◌^◌, ◌-◌, inl, ℕ, Bool, true, false, List, [], ◌∷◌, ◌++◌, get_or, replicate}
+use Rattle.str0m_formats.proofs.Common.{refl, sym, ap, ◌∙◌, arith, lit<, decimal, AllDigits, digits_value, decimal_is_IsNumeral}
+use Rattle.str0m_formats.proofs.Common.{digits_is_IsNumeral, length-append, false≢true, IsNumber, IsNum, IsRest, Option, Some, None}
+use Rattle.str0m_formats.proofs.Common.{MatchOption, nat_le, inr, ◌==◌, ◌&&◌, and_parts, cases_lt, eqb-true, leb-true, zero, suc, IsNumeral}
 use Rattle.str0m_formats.proofs.format.FormatParamLaws.{spelled, parsed_only}
 use Rattle.str0m_formats.proofs.format.FormatParamModes.{modes_only}
 use Rattle.str0m_formats.specs.declared.format.format_key.FormatKey.{FormatKey}
 use Rattle.str0m_formats.specs.declared.format.format_param.FormatParam.{FormatParam}
 use Rattle.str0m_formats.specs.format.FormatKey.{key_text}
-use Rattle.str0m_formats.specs.format.FormatParam.{Kind, flag, number, hex, modes, exactly, anything, Held, ReadsKind, kind, keyed, entry, IsParsed, IsPrinted, InRange, IsModeSet, flag_text, six_digits, mode_list, value_text}
+use Rattle.str0m_formats.specs.format.FormatParam.{Kind, flag, number, hex, modes, exactly, anything, Held, ReadsKind, kind, keyed, entry}
+use Rattle.str0m_formats.specs.format.FormatParam.{IsParsed, IsPrinted, InRange, IsModeSet, flag_text, six_digits, mode_list, value_text}
 use Rattle.str0m_formats.specs.format.FormatParamReading.{modes_read, param_of}
 
 -- a numeral begins with no plus
@@ -17,7 +21,8 @@ digits_no_plus radix [] small h e = omega arith
 digits_no_plus radix (c ∷ cs) small h e = grind arith
 
 -- digits read as their value
-as_number : (limit radix : ℕ) (text : List ℕ) (n : ℕ) → radix ≤ 16 → IsNumeral radix text → digits_value radix text ≡ n → n ≤ limit → IsNumber radix limit text n
+as_number : (limit radix : ℕ) (text : List ℕ) (n : ℕ) → radix ≤ 16 → IsNumeral radix text → digits_value radix text ≡ n → n ≤ limit
+    → IsNumber radix limit text n
 as_number limit radix text n small numeral value fits = grind arith
 
 -- a printed number reads as itself
@@ -110,10 +115,12 @@ pub entry_made : (param : FormatParam) → MatchOption (entry param) (Unit {0}) 
 entry_made param = grind arith
 
 -- what a parameter of the table prints is read as that parameter
-pub parsed_printed : (key_as value : List ℕ) (r : FormatParam) → IsParsed (key_as, value) r → (p : FormatParam) → IsPrinted p (key_as, value) → r ≡ p
+pub parsed_printed : (key_as value : List ℕ) (r : FormatParam) → IsParsed (key_as, value) r → (p : FormatParam)
+    → IsPrinted p (key_as, value) → r ≡ p
 parsed_printed key_as value r h p printed = parsed_only key_as value r h ∙ reads (entry p) (entry_made p) printed
   where
     reads : (o : Option ((k : FormatKey) × Held (kind k))) → MatchOption o (Unit {0}) (λ e. p ≡ keyed e.0 e.1)
-        → MatchOption o ⊥ (λ e. (key_as ≡ key_text e.0) × (value ≡ value_text (kind e.0) e.1) × InRange (kind e.0) e.1) → param_of (key_as, value) ≡ p
+        → MatchOption o ⊥ (λ e. (key_as ≡ key_text e.0) × (value ≡ value_text (kind e.0) e.1) × InRange (kind e.0) e.1)
+        → param_of (key_as, value) ≡ p
     reads None is printed = absurd printed
     reads (Some e) is printed = (λ i. param_of (printed.0 i, printed.1 i)) ∙ key_reads e.0 e.1 printed.2 ∙ sym is

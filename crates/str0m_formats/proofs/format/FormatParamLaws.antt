@@ -1,5 +1,7 @@
 -- What a key and its value read as.
-use Rattle.str0m_formats.proofs.Common.{rules, arith, ◌≡◌, ℕ, List, [], ◌∷◌, map, Option, Some, None, refl, sym, ap, ◌∙◌, inl, inr, codes, unwrap_or, to_ascii_lowercase, bytes_eq, none-some, bytes_eq-Decides, IsTheOnly, ◌>>=◌, num_only, num_reads, when_true, some_is, only_read, one_answer, IfSome, option_map}
+use Rattle.str0m_formats.proofs.Common.{rules, arith, ◌≡◌, ℕ, List, [], ◌∷◌, map, Option, Some, None, refl, sym, ap, ◌∙◌, inl, inr, codes}
+use Rattle.str0m_formats.proofs.Common.{unwrap_or, to_ascii_lowercase, bytes_eq, none-some, bytes_eq-Decides, IsTheOnly, ◌>>=◌, num_only}
+use Rattle.str0m_formats.proofs.Common.{num_reads, when_true, some_is, only_read, one_answer, IfSome, option_map}
 use Rattle.str0m_formats.proofs.codec.CodecLookup.{find_passes, if_some_map, case_at}
 use Rattle.str0m_formats.proofs.codec.CodecNames.{same_text}
 use Rattle.str0m_formats.proofs.format.FormatParamModes.{modes_only}
@@ -10,7 +12,8 @@ use Rattle.str0m_formats.specs.declared.format.format_key.FormatKey.TheVariants 
 use Rattle.str0m_formats.specs.declared.format.format_param.FormatParam.{FormatParam}
 use Rattle.str0m_formats.specs.declared.format.format_param.FormatParam.TheVariants.{Unknown}
 use Rattle.str0m_formats.specs.format.FormatKey.{key_text}
-use Rattle.str0m_formats.specs.format.FormatParam.{Kind, flag, number, hex, modes, exactly, anything, Held, ReadsKind, kind, keyed, HoldsValue, Spells, IsParsed, AreParsed, IsEventRange, IsBare}
+use Rattle.str0m_formats.specs.format.FormatParam.{Kind, flag, number, hex, modes, exactly, anything, Held, ReadsKind, kind, keyed}
+use Rattle.str0m_formats.specs.format.FormatParam.{HoldsValue, Spells, IsParsed, AreParsed, IsEventRange, IsBare}
 use Rattle.str0m_formats.specs.format.FormatParamReading.{hex_read, keys, key_read, is_one, kind_read, value_read, param_of, bare_param}
 
 -- ---- keys
@@ -59,18 +62,26 @@ pub parsed : (key_as value : List ℕ) → IsParsed (key_as, value) (param_of (k
 unfolding param_of
 parsed key_as value = known (key_read key_as) (key_only key_as)
   where
-    held : (k : FormatKey) → IsTheOnly (λ key. IsSameText key_as (key_text key)) (Some k) → (o : Option FormatParam) → value_read k value ≡ o → IsParsed (key_as, value) (unwrap_or o Unknown)
+    held : (k : FormatKey) → IsTheOnly (λ key. IsSameText key_as (key_text key)) (Some k) → (o : Option FormatParam)
+        → value_read k value ≡ o → IsParsed (key_as, value) (unwrap_or o Unknown)
     held k is (Some p) e = inl (k, is.found, read_held k value p e)
-    held k is None e = inr ((λ c h. none-some c (sym e ∙ ap (λ (key : FormatKey). value_read key value) (some_is k h.0 (is.only h.0 h.1)) ∙ held_read h.0 value c h.2)), refl)
+    held k is None e = inr (
+      (λ c h. none-some c (sym e ∙ ap (λ (key : FormatKey). value_read key value) (some_is k h.0 (is.only h.0 h.1))
+          ∙ held_read h.0 value c h.2)),
+      refl,
+    )
 
-    known : (o : Option FormatKey) → IsTheOnly (λ key. IsSameText key_as (key_text key)) o → IsParsed (key_as, value) (unwrap_or (o >>= λ key. value_read key value) Unknown)
+    known : (o : Option FormatKey) → IsTheOnly (λ key. IsSameText key_as (key_text key)) o
+        → IsParsed (key_as, value) (unwrap_or (o >>= λ key. value_read key value) Unknown)
     known None none = inr ((λ c h. none-some h.0 (none.only h.0 h.1)), refl)
     known (Some k) is = held k is (value_read k value) refl
 
 -- what spells a parameter is read as it
 pub spelled : (key_as value : List ℕ) (param : FormatParam) → Spells (key_as, value) param → param ≡ param_of (key_as, value)
 unfolding param_of
-spelled key_as value param h = sym (ap (λ (o : Option FormatKey). unwrap_or (o >>= λ key. value_read key value) Unknown) ((key_only key_as).only h.0 h.1) ∙ ap (λ (o : Option FormatParam). unwrap_or o Unknown) (held_read h.0 value param h.2))
+spelled key_as value param h = sym
+    (ap (λ (o : Option FormatKey). unwrap_or (o >>= λ key. value_read key value) Unknown) ((key_only key_as).only h.0 h.1)
+    ∙ ap (λ (o : Option FormatParam). unwrap_or o Unknown) (held_read h.0 value param h.2))
 
 pub parsed_only : (key_as value : List ℕ) (param : FormatParam) → IsParsed (key_as, value) param → param ≡ param_of (key_as, value)
 parsed_only key_as value param h = elim h [

@@ -1,5 +1,7 @@
 -- A set of modes that a text names has one at least, and none above 8.
-use Rattle.str0m_formats.proofs.Common.{◌≡◌, ◌<◌, ◌≤◌, ◌+◌, ◌-◌, ◌*◌, ◌%◌, ◌^◌, ℕ, List, [], length, get_or, sym, ap, ◌∙◌, inl, inr, arith, bit_at, bit_and, slice_split, cases_lt, and_pow, bit_at-lt, bit_at-zero, same_from_bits, ◌/◌, ◌==◌, get_or_default, length-slice_split, bit_at_cat_high}
+use Rattle.str0m_formats.proofs.Common.{◌≡◌, ◌<◌, ◌≤◌, ◌+◌, ◌-◌, ◌*◌, ◌%◌, ◌^◌, ℕ, List, [], length, get_or, sym, ap, ◌∙◌, inl, inr, arith}
+use Rattle.str0m_formats.proofs.Common.{bit_at, bit_and, slice_split, cases_lt, and_pow, bit_at-lt, bit_at-zero, same_from_bits, ◌/◌, ◌==◌}
+use Rattle.str0m_formats.proofs.Common.{get_or_default, length-slice_split, bit_at_cat_high}
 use Rattle.str0m_formats.proofs.format.FormatParamModes.{bit_at_set}
 use Rattle.str0m_formats.specs.format.FormatParam.{IsMask, IsModeSet}
 use Rattle.str0m_formats.specs.row.PlainRowBounds.{AreModes}
@@ -31,7 +33,8 @@ mask_within pieces mask some is = (positive, below_ninth mask clear)
           | inl above ↦ above
           | inr zero ↦
               let nothing : mask ≡ 0 = omega arith in
-              absurd (set (ap (λ (m : ℕ). bit_and m (2 ^ named.0)) nothing ∙ and_pow 0 named.0 ∙ ap (λ (b : ℕ). b * 2 ^ named.0) (bit_at-zero named.0) ∙ omega arith))
+              absurd (set (ap (λ (m : ℕ). bit_and m (2 ^ named.0)) nothing ∙ and_pow 0 named.0
+              ∙ ap (λ (b : ℕ). b * 2 ^ named.0) (bit_at-zero named.0) ∙ omega arith))
         ]
 
     clear : (k : ℕ) → 9 ≤ k → bit_at mask k ≡ 0

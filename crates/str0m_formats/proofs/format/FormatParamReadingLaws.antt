@@ -1,5 +1,7 @@
 -- Numbers after keys are read both ways.
-use Rattle.str0m_formats.proofs.Common.{arith, ◌≡◌, ℕ, true, List, [], ◌∷◌, Option, refl, AllDigits, ltb-true, lt-ltb, le-leb, leb-true, and_parts, IsTheOnly, IsNumber, IsNum, num, when_some, when_true, only_read, and_from, reads_first, Reads}
+use Rattle.str0m_formats.proofs.Common.{arith, ◌≡◌, ℕ, true, List, [], ◌∷◌, Option, refl, AllDigits, ltb-true, lt-ltb, le-leb, leb-true}
+use Rattle.str0m_formats.proofs.Common.{and_parts, IsTheOnly, IsNumber, IsNum, num, when_some, when_true, only_read, and_from, reads_first}
+use Rattle.str0m_formats.proofs.Common.{Reads}
 use Rattle.str0m_formats.proofs.format.FormatParamOnly.{only_same}
 use Rattle.str0m_formats.specs.format.FormatParam.{IsHexElseDecimal}
 use Rattle.str0m_formats.specs.format.FormatParamReading.{all_digits, number_read, hex_read}

@@ -1,6 +1,8 @@
 -- When two values are equal by a derived `==`. `hlevel equality` finds the test of a type from its parts, with the proof that it decides
 -- equality: so a field or a variant more needs no line.
-use Rattle.str0m_formats.proofs.Common.{◌≡◌, ◌&&◌, ◌⊎◌, inl, inr, ℕ, Bool, true, false, List, Option, Some, None, nat_eq, beq, refl, sym, ap, ◌∙◌, Decides, unsigned_Decides, booleans_Decides, false≢true, Decides-like, pointwise, pointwise_decides, option_eq, Decides-and}
+use Rattle.str0m_formats.proofs.Common.{◌≡◌, ◌&&◌, ◌⊎◌, inl, inr, ℕ, Bool, true, false, List, Option, Some, None, nat_eq, beq, refl, sym}
+use Rattle.str0m_formats.proofs.Common.{ap, ◌∙◌, Decides, unsigned_Decides, booleans_Decides, false≢true, Decides-like, pointwise}
+use Rattle.str0m_formats.proofs.Common.{pointwise_decides, option_eq, Decides-and}
 use denote.Enum.Bare.{Bare, sameb, same_true, true_same}
 use denote.Enum.Declared.{Declared, left_or, right_or}
 use mathlib.Core.Logic.{⊎_elim}
@@ -17,7 +19,8 @@ abbrev pub eq_bool : Equality Bool
 eq_bool = record { test = beq; decides = booleans_Decides }
 
 -- `==` on options decides equality where `==` on what they hold does
-pub option_Decides : {T : Type 0} (E : T → T → Bool) → ((x y : T) → Decides (E x y) (x ≡ y)) → (a b : Option T) → Decides (option_eq E a b) (a ≡ b)
+pub option_Decides : {T : Type 0} (E : T → T → Bool) → ((x y : T) → Decides (E x y) (x ≡ y)) → (a b : Option T)
+    → Decides (option_eq E a b) (a ≡ b)
 option_Decides E each None None = (λ _. refl, λ _. refl)
 option_Decides E each None (Some y) = (λ h. cc, λ h. cc)
 option_Decides E each (Some x) None = (λ h. cc, λ h. cc)
@@ -74,7 +77,8 @@ eq_never = record { test = λ x y. absurd x; decides = λ x y. absurd x }
 abbrev pub eq_along : {A B : Type 0} (to : A → B) (from : B → A) → ((a : A) → from (to a) ≡ a) → Equality B → Equality A
 eq_along to from back parts = record {
   test = λ x y. parts.test (to x) (to y);
-  decides = λ x y. Decides-like (parts.test (to x) (to y)) (λ e. sym (back x) ∙ ap from e ∙ back y) (λ e. ap to e) (parts.decides (to x) (to y));
+  decides = λ x y. Decides-like (parts.test (to x) (to y)) (λ e. sym (back x) ∙ ap from e ∙ back y) (λ e. ap to e)
+      (parts.decides (to x) (to y));
 }
 
 pub ruleset equality = (eq_number, eq_bool, eq_option, eq_list, eq_last, eq_both, eq_unit, eq_either, eq_never, eq_along)

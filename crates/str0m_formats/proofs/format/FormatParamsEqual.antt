@@ -1,5 +1,6 @@
 -- When two formats are equal, two specs and two parameters: `==` of each part decides, and so does that of the whole.
-use Rattle.str0m_formats.proofs.Common.{◌≡◌, ℕ, Bool, true, false, Option, nat_eq, refl, sym, ◌∙◌, Decides, unsigned_Decides, option_eq, H265ProfileTierLevel, H266ProfileTierLevel}
+use Rattle.str0m_formats.proofs.Common.{◌≡◌, ℕ, Bool, true, false, Option, nat_eq, refl, sym, ◌∙◌, Decides, unsigned_Decides, option_eq}
+use Rattle.str0m_formats.proofs.Common.{H265ProfileTierLevel, H266ProfileTierLevel}
 use Rattle.str0m_formats.proofs.format.FormatParamsDerived.{Equality, equality, eq_word}
 use Rattle.str0m_formats.specs.contracts.codec.Codec as codec_type
 use Rattle.str0m_formats.specs.contracts.format.format_params.FormatParamsPartialEq.TheImpl as format_eq
@@ -56,7 +57,9 @@ pub other_codec : (a b : CodecSpec) → same_codec a.codec b.codec ≡ false →
 other_codec a b = specs_apart (same_codec a.codec b.codec) a b (λ e. (codec_Decides a.codec b.codec).1 (λ i. (e i).codec))
 
 pub other_level : (a b : CodecSpec) → same_number a.format.profile_level_id b.format.profile_level_id ≡ false → same_spec a b ≡ false
-other_level a b = specs_apart (same_number a.format.profile_level_id b.format.profile_level_id) a b (λ e. (options_decided _ _).1 (λ i. (e i).format.profile_level_id))
+other_level a b = specs_apart (same_number a.format.profile_level_id b.format.profile_level_id) a b
+    (λ e. (options_decided _ _).1 (λ i. (e i).format.profile_level_id))
 
 pub other_mode : (a b : CodecSpec) → same_number a.format.packetization_mode b.format.packetization_mode ≡ false → same_spec a b ≡ false
-other_mode a b = specs_apart (same_number a.format.packetization_mode b.format.packetization_mode) a b (λ e. (options_decided _ _).1 (λ i. (e i).format.packetization_mode))
+other_mode a b = specs_apart (same_number a.format.packetization_mode b.format.packetization_mode) a b
+    (λ e. (options_decided _ _).1 (λ i. (e i).format.packetization_mode))

@@ -1,6 +1,9 @@
 -- What each field of a format prints: keys with values, and the range of events.
 use Rattle.std.specs.Fmt.{digits}
-use Rattle.str0m_formats.proofs.Common.{◌≡◌, ◌≤◌, ◌<◌, ◌-◌, ℕ, replicate, Bool, true, false, List, [], ◌∷◌, ◌++◌, map, Option, Some, None, IfSome, option_map, refl, sym, ap, ◌∙◌, arith, lit≤, lit<, codes, decimal, AllByRecursion, cons_option, join_with_byte, list_all, false≢true, append_assoc, length-append, none-some, IsRest, decimal_is_IsNumeral, digits_is_IsNumeral, ProfileTierLevel, zero, suc}
+use Rattle.str0m_formats.proofs.Common.{◌≡◌, ◌≤◌, ◌<◌, ◌-◌, ℕ, replicate, Bool, true, false, List, [], ◌∷◌, ◌++◌, map, Option, Some, None}
+use Rattle.str0m_formats.proofs.Common.{IfSome, option_map, refl, sym, ap, ◌∙◌, arith, lit≤, lit<, codes, decimal, AllByRecursion}
+use Rattle.str0m_formats.proofs.Common.{cons_option, join_with_byte, list_all, false≢true, append_assoc, length-append, none-some, IsRest}
+use Rattle.str0m_formats.proofs.Common.{decimal_is_IsNumeral, digits_is_IsNumeral, ProfileTierLevel, zero, suc}
 use Rattle.str0m_formats.proofs.format.FormatParamAgain.{is_small, key_small, limit_small, modes_filled, key_reads}
 use Rattle.str0m_formats.proofs.format.FormatParamsSet.{param_is}
 use Rattle.str0m_formats.proofs.format.PairsRows.{Slots, given}
@@ -10,12 +13,14 @@ use Rattle.str0m_formats.specs.declared.format.format_key.FormatKey.{FormatKey}
 use Rattle.str0m_formats.specs.declared.format.format_key.FormatKey.TheVariants as key
 use Rattle.str0m_formats.specs.declared.format.format_key.TheConstants.{PROFILE_ID, TIER_FLAG, LEVEL_ID}
 use Rattle.str0m_formats.specs.declared.format.format_param.FormatParam.{FormatParam}
-use Rattle.str0m_formats.specs.declared.format.format_param.FormatParam.TheVariants.{H265ProfileTierLevel, H266ProfileTierLevel, TelephoneEvents, BareRange, BarePtList, Red}
+use Rattle.str0m_formats.specs.declared.format.format_param.FormatParam.TheVariants.{H265ProfileTierLevel, H266ProfileTierLevel}
+use Rattle.str0m_formats.specs.declared.format.format_param.FormatParam.TheVariants.{TelephoneEvents, BareRange, BarePtList, Red}
 use Rattle.str0m_formats.specs.declared.format.format_params.Field.{Field}
 use Rattle.str0m_formats.specs.declared.format.format_params.Field.TheVariants as field
 use Rattle.str0m_formats.specs.declared.format.format_params.FormatParams.{FormatParams}
 use Rattle.str0m_formats.specs.format.FormatKey.{key_text}
-use Rattle.str0m_formats.specs.format.FormatParam.{Kind, flag, number, hex, modes, exactly, anything, Held, kind, keyed, entry, InRange, value_text, entry_text, six_digits, mode_list, triple_text, param_text}
+use Rattle.str0m_formats.specs.format.FormatParam.{Kind, flag, number, hex, modes, exactly, anything, Held, kind, keyed, entry, InRange}
+use Rattle.str0m_formats.specs.format.FormatParam.{value_text, entry_text, six_digits, mode_list, triple_text, param_text}
 use Rattle.str0m_formats.specs.format.FormatParamReading.{param_of}
 use Rattle.str0m_formats.specs.format.FormatParams.{get, param_in, param_at, IsWithin}
 use Rattle.str0m_formats.specs.format.PairsReading.{Tables, h265_tables, h266_tables}
@@ -41,7 +46,8 @@ value_solid flag true small h = solid_from (codes "1") refl
 value_solid flag false small h = solid_from (codes "0") refl
 value_solid (number limit) n small h = decimal_solid n (limit_small limit n small h)
 value_solid hex n small h = six_solid n h
-value_solid modes mask small h = solid_from (mode_list mask) (below_at (λ mask. list_all is_solid (mode_list mask)) 512 mask modes_solid (omega (arith, h.1)))
+value_solid modes mask small h = solid_from (mode_list mask)
+    (below_at (λ mask. list_all is_solid (mode_list mask)) 512 mask modes_solid (omega (arith, h.1)))
 value_solid (exactly own) x small h = absurd h
 value_solid anything x small h = absurd h
 
@@ -129,7 +135,8 @@ pieces_at f p = map joined_pair (given (slots_at f p)) ++ bares_at f p
 -- the text of one field: nothing, or its pieces joined
 abbrev pub IsShown : Option FormatParam → List (List ℕ) → Type 0
 IsShown None pieces = pieces ≡ []
-IsShown (Some param) pieces = (first : List ℕ) × (more : List (List ℕ)) × (pieces ≡ first ∷ more) × (param_text param ≡ join_with_byte 59 (first ∷ more))
+IsShown (Some param) pieces = (first : List ℕ) × (more : List (List ℕ)) × (pieces ≡ first ∷ more)
+    × (param_text param ≡ join_with_byte 59 (first ∷ more))
 
 pub record ShowsField (f : Field) (p : FormatParams) : Type 0 where
   pub shown : IsShown (param_at f p) (pieces_at f p)
@@ -153,7 +160,8 @@ entry_at key.ModeChangePeriod p = tt
 entry_at key.Interleaving p = tt
 entry_at k p = each_some (λ x. entry (keyed k x) ≡ Some (k, x)) (get (field.Key k) p) (λ x. refl)
 
-key_shown : (k : FormatKey) (o : Option (Held (kind k))) → IfSome o (λ x. entry (keyed k x) ≡ Some (k, x)) → IsShown (option_map (keyed k) o) (map joined_pair (given (slot k o)) ++ [])
+key_shown : (k : FormatKey) (o : Option (Held (kind k))) → IfSome o (λ x. entry (keyed k x) ≡ Some (k, x))
+    → IsShown (option_map (keyed k) o) (map joined_pair (given (slot k o)) ++ [])
 key_shown k None is = refl
 key_shown k (Some x) is = (joined_pair (pair_of_entry (k, x)), [], refl, text_of (keyed k x) (k, x) is)
 
@@ -161,50 +169,83 @@ pairs_solid : (k : FormatKey) (o : Option (Held (kind k))) → IfSome o (InRange
 pairs_solid k None h = tt
 pairs_solid k (Some x) h = (pair_solid (k, x) h, tt)
 
-slot_reads : (k : FormatKey) (o : Option (Held (kind k))) → IfSome o (InRange (kind k)) → map param_of (given (slot k o)) ≡ cons_option (option_map (keyed k) o) []
+slot_reads : (k : FormatKey) (o : Option (Held (kind k))) → IfSome o (InRange (kind k))
+    → map param_of (given (slot k o)) ≡ cons_option (option_map (keyed k) o) []
 slot_reads k o h = grind (arith, key_reads)
 
-triple_parts : (a b c : List ℕ) → codes "profile-id=" ++ (a ++ (codes ";tier-flag=" ++ (b ++ (codes ";level-id=" ++ c)))) ≡ join_with_byte 59 (joined_pair (PROFILE_ID.now, a) ∷ joined_pair (TIER_FLAG.now, b) ∷ joined_pair (LEVEL_ID.now, c) ∷ [])
+triple_parts : (a b c : List ℕ) → codes "profile-id=" ++ (a ++ (codes ";tier-flag=" ++ (b ++ (codes ";level-id=" ++ c))))
+    ≡ join_with_byte 59 (joined_pair (PROFILE_ID.now, a) ∷ joined_pair (TIER_FLAG.now, b) ∷ joined_pair (LEVEL_ID.now, c) ∷ [])
 triple_parts a b c = refl
 
 -- a field with a profile, tier and level
-module _ {P T L : Type 0} (tables : Tables P T L) (make : ProfileTierLevel P T L → FormatParam) (small : (t : ProfileTierLevel P T L) → AreBytes tables t)
-    (text : (t : ProfileTierLevel P T L) → param_text (make t) ≡ triple_text (tables.profile_id t.profile) (tables.tier_flag t.tier) (tables.level_id t.level)) where
+module _ {P T L : Type 0} (tables : Tables P T L) (make : ProfileTierLevel P T L → FormatParam) (small : (t : ProfileTierLevel P T L)
+    → AreBytes tables t)
+    (text : (t : ProfileTierLevel P T L)
+    → param_text (make t) ≡ triple_text (tables.profile_id t.profile) (tables.tier_flag t.tier) (tables.level_id t.level)) where
   triple_shown : (o : Option (ProfileTierLevel P T L)) → IsShown (option_map make o) (map joined_pair (given (triple_slots tables o)) ++ [])
   triple_shown None = refl
   triple_shown (Some t) =
       let profile = decimal (tables.profile_id t.profile) in
       let tier = decimal (tables.tier_flag t.tier) in
-      let level = decimal (tables.level_id t.level) in
-      (joined_pair (PROFILE_ID.now, profile), joined_pair (TIER_FLAG.now, tier) ∷ joined_pair (LEVEL_ID.now, level) ∷ [], refl, text t ∙ triple_parts profile tier level)
+      let level = decimal (tables.level_id t.level) in (
+        joined_pair (PROFILE_ID.now, profile),
+        joined_pair (TIER_FLAG.now, tier) ∷ joined_pair (LEVEL_ID.now, level) ∷ [],
+        refl,
+        text t
+            ∙ triple_parts profile tier level,
+      )
 
   triple_solid : (o : Option (ProfileTierLevel P T L)) → AllByRecursion IsSolidPair (given (triple_slots tables o))
   triple_solid None = tt
   triple_solid (Some t) =
       let k = small t in (
-        (solid_from PROFILE_ID.now refl, decimal_solid (tables.profile_id t.profile) (omega (arith, k.0)), lit< tt, decimal_filled (tables.profile_id t.profile) (omega (arith, k.0))),
         (
-          (solid_from TIER_FLAG.now refl, decimal_solid (tables.tier_flag t.tier) (omega (arith, k.1)), lit< tt, decimal_filled (tables.tier_flag t.tier) (omega (arith, k.1))),
-          ((solid_from LEVEL_ID.now refl, decimal_solid (tables.level_id t.level) (omega (arith, k.2)), lit< tt, decimal_filled (tables.level_id t.level) (omega (arith, k.2))), tt),
+          solid_from PROFILE_ID.now refl,
+          decimal_solid (tables.profile_id t.profile) (omega (arith, k.0)),
+          lit< tt,
+          decimal_filled (tables.profile_id t.profile) (omega (arith, k.0)),
+        ),
+        (
+          (
+            solid_from TIER_FLAG.now refl,
+            decimal_solid (tables.tier_flag t.tier) (omega (arith, k.1)),
+            lit< tt,
+            decimal_filled (tables.tier_flag t.tier) (omega (arith, k.1)),
+          ),
+          (
+            (
+              solid_from LEVEL_ID.now refl,
+              decimal_solid (tables.level_id t.level) (omega (arith, k.2)),
+              lit< tt,
+              decimal_filled (tables.level_id t.level) (omega (arith, k.2)),
+            ),
+            tt,
+          ),
         ),
       )
 
-events_shown : (o : Option ℕ) → IsShown (option_map (λ n. TelephoneEvents n) o) (cons_option (option_map (λ n. codes "0-" ++ decimal n) o) [])
+events_shown : (o : Option ℕ)
+    → IsShown (option_map (λ n. TelephoneEvents n) o) (cons_option (option_map (λ n. codes "0-" ++ decimal n) o) [])
 events_shown o = grind arith
 
-events_solid : (o : Option ℕ) → IfSome o (λ n. n ≤ 255) → AllByRecursion IsSolid (cons_option (option_map (λ n. codes "0-" ++ decimal n) o) [])
+events_solid : (o : Option ℕ) → IfSome o (λ n. n ≤ 255)
+    → AllByRecursion IsSolid (cons_option (option_map (λ n. codes "0-" ++ decimal n) o) [])
 events_solid o h = grind (arith, solid_append, solid_from, decimal_solid)
 
 shown_at : (f : Field) (p : FormatParams) → IsShown (option_map (param_in f) (get f p)) (pieces_at f p)
 shown_at (field.Key k) p = key_shown k (get (field.Key k) p) (entry_at k p)
-shown_at field.H265ProfileTierLevel p = triple_shown h265_tables (λ t. H265ProfileTierLevel t) h265_small (λ t. refl) p.h265_profile_tier_level
-shown_at field.H266ProfileTierLevel p = triple_shown h266_tables (λ t. H266ProfileTierLevel t) h266_small (λ t. refl) p.h266_profile_tier_level
+shown_at field.H265ProfileTierLevel p = triple_shown h265_tables (λ t. H265ProfileTierLevel t) h265_small (λ t. refl)
+    p.h265_profile_tier_level
+shown_at field.H266ProfileTierLevel p = triple_shown h266_tables (λ t. H266ProfileTierLevel t) h266_small (λ t. refl)
+    p.h266_profile_tier_level
 shown_at field.TelephoneEvents p = events_shown p.telephone_event_max
 
 solid_at : (f : Field) (p : FormatParams) → IfSome (get f p) (IsWithin f) → AllByRecursion IsSolidPair (given (slots_at f p))
 solid_at (field.Key k) p h = pairs_solid k (get (field.Key k) p) h
-solid_at field.H265ProfileTierLevel p h = triple_solid h265_tables (λ t. H265ProfileTierLevel t) h265_small (λ t. refl) p.h265_profile_tier_level
-solid_at field.H266ProfileTierLevel p h = triple_solid h266_tables (λ t. H266ProfileTierLevel t) h266_small (λ t. refl) p.h266_profile_tier_level
+solid_at field.H265ProfileTierLevel p h = triple_solid h265_tables (λ t. H265ProfileTierLevel t) h265_small (λ t. refl)
+    p.h265_profile_tier_level
+solid_at field.H266ProfileTierLevel p h = triple_solid h266_tables (λ t. H266ProfileTierLevel t) h266_small (λ t. refl)
+    p.h266_profile_tier_level
 solid_at field.TelephoneEvents p h = tt
 
 bares_solid : (f : Field) (p : FormatParams) → IfSome (get f p) (IsWithin f) → AllByRecursion IsSolid (bares_at f p)

@@ -2,7 +2,10 @@
 use Rattle.std.proofs.lemmas.Map.Made.{IsDistinct-keys_filter}
 use Rattle.std.proofs.lemmas.Str.Ascii.{lowercase-lowercase}
 use Rattle.std.specs.List.{IsDistinct}
-use Rattle.str0m_formats.proofs.Common.{rules, arith, ◌≡◌, ℕ, false, not, List, [], ◌∷◌, ◌++◌, map, refl, sym, ap, ◌∙◌, inl, inr, AllByRecursion, keys_of, bytes_eq, str_to_ascii_lowercase, cases_Bool, false_from_ne_true, append_assoc, append-nil, IsDistinct-cons, IsDistinct-head, IsDistinct-tail, bytes_eq-Decides, insert_entry, insert_all, insert_entry-absent}
+use Rattle.str0m_formats.proofs.Common.{rules, arith, ◌≡◌, ℕ, false, not, List, [], ◌∷◌, ◌++◌, map, refl, sym, ap, ◌∙◌, inl, inr}
+use Rattle.str0m_formats.proofs.Common.{AllByRecursion, keys_of, bytes_eq, str_to_ascii_lowercase, cases_Bool, false_from_ne_true}
+use Rattle.str0m_formats.proofs.Common.{append_assoc, append-nil, IsDistinct-cons, IsDistinct-head, IsDistinct-tail, bytes_eq-Decides}
+use Rattle.str0m_formats.proofs.Common.{insert_entry, insert_all, insert_entry-absent}
 use Rattle.str0m_formats.specs.format.Pairs.{merged, others, is_part}
 
 abbrev pub Pairs : Type 0
@@ -64,7 +67,8 @@ merged_apart pairs = all_inserted [] (lowered pairs) tt tt (lowered_low pairs)
 
 -- ---- what is no part of a triple
 
-pub others_all : (P : List ℕ → Type 0) (pairs : List (List ℕ × List ℕ)) → AllByRecursion P (keys_of pairs) → AllByRecursion P (keys_of (others pairs))
+pub others_all : (P : List ℕ → Type 0) (pairs : List (List ℕ × List ℕ)) → AllByRecursion P (keys_of pairs)
+    → AllByRecursion P (keys_of (others pairs))
 others_all P [] all = tt
 others_all P (pair ∷ pairs) all = grind (arith, cases_Bool, others_all P pairs all.1)
 

@@ -2,7 +2,9 @@
 use Rattle.std.proofs.lemmas.Map.Text.{is_eq-slice_cmp}
 use Rattle.std.specs.BTreeMap.{BTreeMap, Updates, get_by}
 use Rattle.std.specs.Ordering.{nat_cmp}
-use Rattle.str0m_formats.proofs.Common.{◌≡◌, ◌<◌, ◌+◌, ℕ, Bool, true, false, cond, List, [], ◌∷◌, ◌++◌, length, get_or, take, Option, Some, None, refl, sym, ap, ◌∙◌, subst, arith, Bor, lookup, bytes_eq, map-append, take_more, bytes_eq-Decides, insert_entry, zero, suc, set, slice_cmp, set_value_at}
+use Rattle.str0m_formats.proofs.Common.{◌≡◌, ◌<◌, ◌+◌, ℕ, Bool, true, false, cond, List, [], ◌∷◌, ◌++◌, length, get_or, take, Option, Some}
+use Rattle.str0m_formats.proofs.Common.{None, refl, sym, ap, ◌∙◌, subst, arith, Bor, lookup, bytes_eq, map-append, take_more}
+use Rattle.str0m_formats.proofs.Common.{bytes_eq-Decides, insert_entry, zero, suc, set, slice_cmp, set_value_at}
 use Rattle.str0m_formats.proofs.format.MergedPairsKeys.{bytes_turned}
 use Rattle.str0m_formats.specs.format.FormatParam.{pair_texts}
 use Rattle.str0m_formats.specs.format.MergedPairs.{IsPlace, HasPlaces}
@@ -63,10 +65,12 @@ places_stay places es after i v known is key =
 
 -- and where a new key comes last
 pub places_grow : (old new : BTreeMap (Bor (List ℕ)) ℕ) (es after : List (List ℕ × List ℕ)) (k : Bor (List ℕ)) (v : List ℕ) (n : ℕ)
-    → HasPlaces old es → Updates (λ x y. slice_cmp nat_cmp x.now y.now) old new k (Some n) → n ≡ length es → IsPlace (bytes_eq k.now) es None
+    → HasPlaces old es → Updates (λ x y. slice_cmp nat_cmp x.now y.now) old new k (Some n) → n ≡ length es
+    → IsPlace (bytes_eq k.now) es None
     → after ≡ es ++ (k.now, v) ∷ [] → HasPlaces new after
 places_grow old new es after k v n known more last none is key =
-    subst (λ (entries : List (List ℕ × List ℕ)). IsPlace (bytes_eq key) entries (get_by (λ known. slice_cmp nat_cmp key known.now) new)) (sym is)
+    subst (λ (entries : List (List ℕ × List ℕ)). IsPlace (bytes_eq key) entries (get_by (λ known. slice_cmp nat_cmp key known.now) new))
+    (sym is)
     (subst (λ (place : Option ℕ). IsPlace (bytes_eq key) grown place) (sym found) (by (bytes_eq k.now key) refl))
   where
     grown : List (List ℕ × List ℕ)
@@ -101,7 +105,8 @@ none_more key entries i d lt none other =
     (place_push (bytes_eq key) (pair_texts (take i entries)) (e.0.now, e.1.now) None none other)
 
 -- no key so far, but this one
-pub first_here : (key : List ℕ) (entries : List (Bor (List ℕ) × Bor (List ℕ))) (i : ℕ) (d : Bor (List ℕ) × Bor (List ℕ)) → i < length entries
+pub first_here : (key : List ℕ) (entries : List (Bor (List ℕ) × Bor (List ℕ))) (i : ℕ) (d : Bor (List ℕ) × Bor (List ℕ))
+    → i < length entries
     → IsPlace (bytes_eq key) (pair_texts (take i entries)) None → bytes_eq key (get_or entries i d).0.now ≡ true
     → IsPlace (bytes_eq key) (pair_texts entries) (Some i)
 first_here key [] i d lt none is = absurd (omega (arith, lt))
@@ -111,13 +116,15 @@ first_here key (e ∷ es) (suc i) d lt none is = (none.0, first_here key es i d 
 -- ---- entries as they lie in memory
 
 -- the place is within the list
-pub index_within : (key : List ℕ) (entries : List (Bor (List ℕ) × Bor (List ℕ))) (i : ℕ) → IsPlace (bytes_eq key) (pair_texts entries) (Some i) → i < length entries
+pub index_within : (key : List ℕ) (entries : List (Bor (List ℕ) × Bor (List ℕ))) (i : ℕ)
+    → IsPlace (bytes_eq key) (pair_texts entries) (Some i) → i < length entries
 index_within key [] i h = absurd h
 index_within key (e ∷ es) zero h = omega arith
 index_within key (e ∷ es) (suc i) h = let below = index_within key es i h.1 in omega (arith, below)
 
 -- the value there, and that there is none
-pub value_there : (key : List ℕ) (entries : List (Bor (List ℕ) × Bor (List ℕ))) (i : ℕ) (d : Bor (List ℕ) × Bor (List ℕ)) → IsPlace (bytes_eq key) (pair_texts entries) (Some i)
+pub value_there : (key : List ℕ) (entries : List (Bor (List ℕ) × Bor (List ℕ))) (i : ℕ) (d : Bor (List ℕ) × Bor (List ℕ))
+    → IsPlace (bytes_eq key) (pair_texts entries) (Some i)
     → lookup (bytes_eq key) (pair_texts entries) ≡ Some (get_or entries i d).1.now
 value_there key [] i d h = absurd h
 value_there key (e ∷ es) zero d h = ap (λ (b : Bool). cond b (Some e.1.now) (lookup (bytes_eq key) (pair_texts es))) h
@@ -128,7 +135,8 @@ no_value key [] h = refl
 no_value key (e ∷ es) h = ap (λ (b : Bool). cond b (Some e.1) (lookup (bytes_eq key) es)) h.0 ∙ no_value key es h.1
 
 -- the place in a list is that in one like it
-pub placed_alike : (key : List ℕ) (slice entries : List (Bor (List ℕ) × Bor (List ℕ))) (answer place : Option ℕ) → slice ≡ entries → answer ≡ place
+pub placed_alike : (key : List ℕ) (slice entries : List (Bor (List ℕ) × Bor (List ℕ))) (answer place : Option ℕ) → slice ≡ entries
+    → answer ≡ place
     → IsPlace (bytes_eq key) (pair_texts slice) answer → IsPlace (bytes_eq key) (pair_texts entries) place
 placed_alike key slice entries answer place same is h = grind arith
 
@@ -142,7 +150,8 @@ as_many (e ∷ es) = ap suc (as_many es)
 
 -- ---- another value in its place
 
-pub value_set : (entries : List (Bor (List ℕ) × Bor (List ℕ))) (i : ℕ) (v : Bor (List ℕ)) (d : Bor (List ℕ) × Bor (List ℕ)) → i < length entries
+pub value_set : (entries : List (Bor (List ℕ) × Bor (List ℕ))) (i : ℕ) (v : Bor (List ℕ)) (d : Bor (List ℕ) × Bor (List ℕ))
+    → i < length entries
     → pair_texts (set entries i ((get_or entries i d).0, v)) ≡ set_value_at (pair_texts entries) i v.now
 value_set [] i v d lt = absurd (omega (arith, lt))
 value_set (e ∷ es) zero v d lt = refl

@@ -1,9 +1,14 @@
 -- What pairs were read as prints as pairs that are read as the same, but for what prints nothing.
-use Rattle.str0m_formats.proofs.Common.{◌≡◌, ◌≢◌, ◌≤◌, ℕ, Bool, true, false, List, [], ◌∷◌, ◌++◌, length, map, filter, Some, refl, sym, ap, ◌∙◌, subst, arith, inl, inr, codes, MatchBool, decimal, AllByRecursion, IsDistinct, cons_option, join_with_byte, keys_of, bytes_eq, lt-ltb, false_from_ne_true, append_assoc, IsDistinct-cons, IsDistinct-head, IsDistinct-tail, bytes_eq-Decides, ProfileTierLevel, decimal_nonempty}
-use Rattle.str0m_formats.proofs.format.FormatKeyAgain.{IsKeyed, AreKeyed, pair_of, prints, key_unmarked, own_key, keyed_or_hidden, keyed_shown, shown_keyed, keyed_params, keyed_texts, keyed_pairs, keyed_unmarked}
+use Rattle.str0m_formats.proofs.Common.{◌≡◌, ◌≢◌, ◌≤◌, ℕ, Bool, true, false, List, [], ◌∷◌, ◌++◌, length, map, filter, Some, refl, sym, ap}
+use Rattle.str0m_formats.proofs.Common.{◌∙◌, subst, arith, inl, inr, codes, MatchBool, decimal, AllByRecursion, IsDistinct, cons_option}
+use Rattle.str0m_formats.proofs.Common.{join_with_byte, keys_of, bytes_eq, lt-ltb, false_from_ne_true, append_assoc, IsDistinct-cons}
+use Rattle.str0m_formats.proofs.Common.{IsDistinct-head, IsDistinct-tail, bytes_eq-Decides, ProfileTierLevel, decimal_nonempty}
+use Rattle.str0m_formats.proofs.format.FormatKeyAgain.{IsKeyed, AreKeyed, pair_of, prints, key_unmarked, own_key, keyed_or_hidden}
+use Rattle.str0m_formats.proofs.format.FormatKeyAgain.{keyed_shown, shown_keyed, keyed_params, keyed_texts, keyed_pairs, keyed_unmarked}
 use Rattle.str0m_formats.proofs.format.FormatLineAgain.{unmarked, marked}
 use Rattle.str0m_formats.proofs.format.FormatParamsShown.{IsSolidPair, joined_pair, decimal_solid}
-use Rattle.str0m_formats.proofs.format.MergedPairsKeys.{IsLow, AreLow, AreApart, merged_apart, others_all, others_apart, others_other, others_same, merged_same}
+use Rattle.str0m_formats.proofs.format.MergedPairsKeys.{IsLow, AreLow, AreApart, merged_apart, others_all, others_apart, others_other}
+use Rattle.str0m_formats.proofs.format.MergedPairsKeys.{others_same, merged_same}
 use Rattle.str0m_formats.proofs.format.PairsSolid.{solid_from}
 use Rattle.str0m_formats.proofs.format.PairsTripleLaws.{AreBytes, texts_shown, h265_small, h266_small, h265_again, h266_again}
 use Rattle.str0m_formats.specs.declared.format.format_key.TheConstants.{PROFILE_ID, TIER_FLAG, LEVEL_ID}
@@ -154,7 +159,8 @@ others_of pairs params are =
       other = all_keys (λ k. is_part k ≡ false) kept params low are (others_other (merged pairs));
     }
 
-joined_line : (pairs : List (List ℕ × List ℕ)) (params : List FormatParam) → AreJoined (merged pairs) params → IsPairsLine (filter prints params)
+joined_line : (pairs : List (List ℕ × List ℕ)) (params : List FormatParam) → AreJoined (merged pairs) params
+    → IsPairsLine (filter prints params)
 joined_line pairs params (triple, rest, inl (t, h265, is), are, joined) =
     rw (joined, is, lt-ltb 0 (length (param_text (H265ProfileTierLevel t))) (omega arith))
     (shows_triple h265_tables (H265ProfileTierLevel t) t (filter prints rest) refl (h265_small t) (h265_again t) (others_of pairs rest are))

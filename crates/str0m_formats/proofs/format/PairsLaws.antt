@@ -1,5 +1,6 @@
 -- What pairs read as, together.
-use Rattle.str0m_formats.proofs.Common.{arith, ◌≡◌, ◌||◌, ℕ, Bool, true, false, cond, List, [], ◌∷◌, map, refl, sym, ap, subst, ◌∙◌, MatchBool, list_any, Bor}
+use Rattle.str0m_formats.proofs.Common.{arith, ◌≡◌, ◌||◌, ℕ, Bool, true, false, cond, List, [], ◌∷◌, map, refl, sym, ap, subst, ◌∙◌}
+use Rattle.str0m_formats.proofs.Common.{MatchBool, list_any, Bor}
 use Rattle.str0m_formats.proofs.format.FormatParamLaws.{all_parsed, all_parsed_only}
 use Rattle.str0m_formats.proofs.format.PairsTripleLaws.{triple_is, triple_only}
 use Rattle.str0m_formats.specs.declared.format.format_param.FormatParam.{FormatParam}
@@ -19,7 +20,8 @@ pub pairs_read_is : (pairs : List (List ℕ × List ℕ)) → AreRead pairs (par
 unfolding params_read
 pairs_read_is pairs = go (has_mark pairs)
   where
-    go : (mark : Bool) → MatchBool mark (AreJoined (merged pairs) (cond mark (joined_read (merged pairs)) (map param_of pairs))) (AreParsed pairs (cond mark (joined_read (merged pairs)) (map param_of pairs)))
+    go : (mark : Bool) → MatchBool mark (AreJoined (merged pairs) (cond mark (joined_read (merged pairs)) (map param_of pairs)))
+        (AreParsed pairs (cond mark (joined_read (merged pairs)) (map param_of pairs)))
     go true = joined_is (merged pairs)
     go false = all_parsed pairs
 
@@ -28,7 +30,8 @@ pub pairs_read_only : (pairs : List (List ℕ × List ℕ)) (params : List Forma
 unfolding params_read
 pairs_read_only pairs params h = go (has_mark pairs) h
   where
-    go : (mark : Bool) → MatchBool mark (AreJoined (merged pairs) params) (AreParsed pairs params) → params ≡ cond mark (joined_read (merged pairs)) (map param_of pairs)
+    go : (mark : Bool) → MatchBool mark (AreJoined (merged pairs) params) (AreParsed pairs params)
+        → params ≡ cond mark (joined_read (merged pairs)) (map param_of pairs)
     go true h = joined_only (merged pairs) params h
     go false h = all_parsed_only pairs params h
 
@@ -37,10 +40,12 @@ are_read pairs params e = subst (AreRead pairs) (sym e) (pairs_read_is pairs)
 
 -- ---- what the code keeps
 
-pub marks_are : (pairs : List (Bor (List ℕ) × Bor (List ℕ))) (answer : Bool) → answer ≡ list_any (λ pair. is_mark pair.0.now) pairs → answer ≡ has_mark (pair_texts pairs)
+pub marks_are : (pairs : List (Bor (List ℕ) × Bor (List ℕ))) (answer : Bool) → answer ≡ list_any (λ pair. is_mark pair.0.now) pairs
+    → answer ≡ has_mark (pair_texts pairs)
 unfolding has_mark
 marks_are pairs answer e = e ∙ sym (go pairs)
   where
-    go : (pairs : List (Bor (List ℕ) × Bor (List ℕ))) → list_any (λ pair. is_mark pair.0) (pair_texts pairs) ≡ list_any (λ pair. is_mark pair.0.now) pairs
+    go : (pairs : List (Bor (List ℕ) × Bor (List ℕ))) → list_any (λ pair. is_mark pair.0) (pair_texts pairs)
+        ≡ list_any (λ pair. is_mark pair.0.now) pairs
     go [] = refl
     go (pair ∷ pairs) = ap (λ b. is_mark pair.0.now || b) (go pairs)

@@ -1,6 +1,8 @@
 -- Keys with values that may be absent: what is left of them, looked up, merged and taken apart.
 use Rattle.std.specs.List.{IsDistinct}
-use Rattle.str0m_formats.proofs.Common.{arith, ◌≡◌, ◌&&◌, ℕ, Bool, true, false, not, cond, List, [], ◌∷◌, ◌++◌, filter, Option, Some, None, is_some, inl, inr, refl, ap, AllByRecursion, keys_of, list_all, list_any, lookup, bytes_eq, str_to_ascii_lowercase, cases_Bool, and_parts, not-true, bytes_eq-Decides, ◌<|>◌}
+use Rattle.str0m_formats.proofs.Common.{arith, ◌≡◌, ◌&&◌, ℕ, Bool, true, false, not, cond, List, [], ◌∷◌, ◌++◌, filter, Option, Some, None}
+use Rattle.str0m_formats.proofs.Common.{is_some, inl, inr, refl, ap, AllByRecursion, keys_of, list_all, list_any, lookup, bytes_eq}
+use Rattle.str0m_formats.proofs.Common.{str_to_ascii_lowercase, cases_Bool, and_parts, not-true, bytes_eq-Decides, ◌<|>◌}
 use Rattle.str0m_formats.proofs.format.MergedPairsKeys.{AreLow, AreApart, merged_same}
 use Rattle.str0m_formats.specs.format.Pairs.{is_mark, has_mark, merged, is_part, others}
 
@@ -54,7 +56,8 @@ abbrev pub are_apart : Slots → Bool
 are_apart [] = true
 are_apart (row ∷ rows) = (bytes_eq (str_to_ascii_lowercase row.0) row.0 && list_all (λ d. not (bytes_eq row.0 d.0)) rows) && are_apart rows
 
-not_in : (key : List ℕ) (rows : Slots) → list_all (λ d. not (bytes_eq key d.0)) rows ≡ true → AllByRecursion (λ k. bytes_eq key k ≡ false) (keys_of (given rows))
+not_in : (key : List ℕ) (rows : Slots) → list_all (λ d. not (bytes_eq key d.0)) rows ≡ true
+    → AllByRecursion (λ k. bytes_eq key k ≡ false) (keys_of (given rows))
 not_in key [] e = tt
 not_in key ((own, None) ∷ rows) e = not_in key rows (and_parts (not (bytes_eq key own)) (list_all (λ d. not (bytes_eq key d.0)) rows) e).1
 not_in key ((own, Some value) ∷ rows) e = grind (arith, and_parts, not-true, not_in key rows)
@@ -62,7 +65,8 @@ not_in key ((own, Some value) ∷ rows) e = grind (arith, and_parts, not-true, n
 given_apart : (rows : Slots) → are_apart rows ≡ true → AreLow (given rows) × AreApart (given rows)
 unfolding IsDistinct
 given_apart [] e = (tt, tt)
-given_apart ((own, None) ∷ rows) e = given_apart rows (and_parts (bytes_eq (str_to_ascii_lowercase own) own && list_all (λ d. not (bytes_eq own d.0)) rows) (are_apart rows) e).1
+given_apart ((own, None) ∷ rows) e = given_apart rows
+    (and_parts (bytes_eq (str_to_ascii_lowercase own) own && list_all (λ d. not (bytes_eq own d.0)) rows) (are_apart rows) e).1
 given_apart ((own, Some value) ∷ rows) e =
     let p = and_parts (bytes_eq (str_to_ascii_lowercase own) own && list_all (λ d. not (bytes_eq own d.0)) rows) (are_apart rows) e in
     let q = and_parts (bytes_eq (str_to_ascii_lowercase own) own) (list_all (λ d. not (bytes_eq own d.0)) rows) p.0 in

@@ -1,7 +1,10 @@
 -- Solid texts: graphic ASCII without `;` and `=`, so that cutting and trimming leave them whole.
 use Rattle.std.proofs.lemmas.Str.{chars-IsAscii, encodes-IsAscii}
 use Rattle.std.specs.Str.{trim_start, trim_end}
-use Rattle.str0m_formats.proofs.Common.{◌≡◌, ◌≢◌, ◌<◌, ◌≤◌, ◌==◌, ◌&&◌, ◌||◌, ℕ, Bool, true, false, not, List, [], ◌∷◌, ◌++◌, All, refl, sym, ap, ◌∙◌, arith, tests, AllByRecursion, list_all, digit_value, trim, AllDigits, and_parts, cases_lt, not-true, false≢true, Lacks, zero, suc, nat_le, IsAscii, is_whitespace, skip_leading_whitespace, drop_trailing_whitespace}
+use Rattle.str0m_formats.proofs.Common.{◌≡◌, ◌≢◌, ◌<◌, ◌≤◌, ◌==◌, ◌&&◌, ◌||◌, ℕ, Bool, true, false, not, List, [], ◌∷◌, ◌++◌, All, refl}
+use Rattle.str0m_formats.proofs.Common.{sym, ap, ◌∙◌, arith, tests, AllByRecursion, list_all, digit_value, trim, AllDigits, and_parts}
+use Rattle.str0m_formats.proofs.Common.{cases_lt, not-true, false≢true, Lacks, zero, suc, nat_le, IsAscii, is_whitespace}
+use Rattle.str0m_formats.proofs.Common.{skip_leading_whitespace, drop_trailing_whitespace}
 
 -- ---- what holds of all small numbers
 

@@ -1,5 +1,7 @@
 -- The triple of three values is read both ways.
-use Rattle.str0m_formats.proofs.Common.{◌≡◌, ◌≤◌, ℕ, List, Option, Some, None, refl, sym, subst, ◌∙◌, inl, inr, arith, rules, Bor, decimal, none-some, IsTheOnly, ◌<|>◌, ProfileTierLevel, num_found, num_reads, only_read, bind_some, some_is, reads_none, option_map, IsGiven, lay, none_reads, Reads}
+use Rattle.str0m_formats.proofs.Common.{◌≡◌, ◌≤◌, ℕ, List, Option, Some, None, refl, sym, subst, ◌∙◌, inl, inr, arith, rules, Bor, decimal}
+use Rattle.str0m_formats.proofs.Common.{none-some, IsTheOnly, ◌<|>◌, ProfileTierLevel, num_found, num_reads, only_read, bind_some, some_is}
+use Rattle.str0m_formats.proofs.Common.{reads_none, option_map, IsGiven, lay, none_reads, Reads}
 use Rattle.str0m_formats.proofs.format.FormatParamAgain.{decimal_reads}
 use Rattle.str0m_formats.proofs.format.FormatParamOnly.{only_same}
 use Rattle.str0m_formats.specs.declared.format.format_param.FormatParam.{FormatParam}
@@ -21,7 +23,8 @@ record IsTable {A : Type 0} (number_of : A → ℕ) (rows : List (A × ℕ)) : T
   only : (n : ℕ) → IsTheOnly (λ value. number_of value ≡ n) (value_in rows n)
   byte : (value : A) → number_of value ≤ 255
 
-value_both : {A : Type 0} {id : A → ℕ} {rows : List (A × ℕ)} (default : ℕ) → IsTable id rows → Reads (λ text a. IsGiven 255 default text (id a)) (table_read rows default)
+value_both : {A : Type 0} {id : A → ℕ} {rows : List (A × ℕ)} (default : ℕ) → IsTable id rows
+    → Reads (λ text a. IsGiven 255 default text (id a)) (table_read rows default)
 value_both {A} {id} {rows} default table = grind (arith, bind_some, given_both default)
 
 -- ---- a codec's triples, by its tables
@@ -42,7 +45,11 @@ abbrev pub AreBytes : {P T L : Type 0} → Tables P T L → ProfileTierLevel P T
 AreBytes tables t = (tables.profile_id t.profile ≤ 255) × (tables.tier_flag t.tier ≤ 255) × (tables.level_id t.level ≤ 255)
 
 abbrev pub texts_shown : {P T L : Type 0} → Tables P T L → ProfileTierLevel P T L → Texts
-texts_shown tables t = (Some (decimal (tables.profile_id t.profile)), Some (decimal (tables.tier_flag t.tier)), Some (decimal (tables.level_id t.level)))
+texts_shown tables t = (
+  Some (decimal (tables.profile_id t.profile)),
+  Some (decimal (tables.tier_flag t.tier)),
+  Some (decimal (tables.level_id t.level)),
+)
 
 module _ {P T L : Type 0} (tables : Tables P T L) (are : AreTables tables) where
   abbrev IsOfTables : Texts → ProfileTierLevel P T L → Type 0
@@ -91,7 +98,8 @@ module _ {P T L : Type 0} (tables : Tables P T L) (are : AreTables tables) where
   none_made make texts e param h = none_reads triple_both texts e h.0 h.1
 
   none_read : (make : ProfileTierLevel P T L → FormatParam) (texts : Texts)
-      → ((param : Option FormatParam) → ((t : ProfileTierLevel P T L) × IsOfTables texts t × (param ≡ Some (make t))) → ⊥) → read_triple tables texts ≡ None
+      → ((param : Option FormatParam) → ((t : ProfileTierLevel P T L) × IsOfTables texts t × (param ≡ Some (make t))) → ⊥)
+      → read_triple tables texts ≡ None
   none_read make texts none = reads_none triple_both texts (λ t is. none (Some (make t)) (t, is, refl))
 
 -- ---- each codec
@@ -138,13 +146,24 @@ triple_is texts = go (read_triple h265_tables texts) (read_triple h266_tables te
     go : (o : Option h265_triple) (p : Option h266_triple) → read_triple h265_tables texts ≡ o → read_triple h266_tables texts ≡ p
         → IsTripleParam texts (option_map (λ t. H265ProfileTierLevel t) o <|> option_map (λ t. H266ProfileTierLevel t) p)
     go (Some t) p e f = inl (t, (triple_both h265_tables h265_are).sound texts t e, refl)
-    go None (Some u) e f = inr (none_made h265_tables h265_are (λ t. H265ProfileTierLevel t) texts e, inl (u, (triple_both h266_tables h266_are).sound texts u f, refl))
+    go None (Some u) e f = inr (
+      none_made h265_tables h265_are (λ t. H265ProfileTierLevel t) texts e,
+      inl (u, (triple_both h266_tables h266_are).sound texts u f, refl),
+    )
     go None None e f =
-        inr (none_made h265_tables h265_are (λ t. H265ProfileTierLevel t) texts e, inr (none_made h266_tables h266_are (λ t. H266ProfileTierLevel t) texts f, refl))
+        inr (
+          none_made h265_tables h265_are (λ t. H265ProfileTierLevel t) texts e,
+          inr (none_made h266_tables h266_are (λ t. H266ProfileTierLevel t) texts f, refl),
+        )
 
 pub triple_only : (texts : Texts) (param : Option FormatParam) → IsTripleParam texts param → param ≡ triple_read texts
 triple_only texts param (inl (t, is, e)) = rw (e, (triple_both h265_tables h265_are).complete texts t is) refl
 triple_only texts param (inr (none, inl (u, is, e))) =
-    rw (e, none_read h265_tables h265_are (λ t. H265ProfileTierLevel t) texts none, (triple_both h266_tables h266_are).complete texts u is) refl
+    rw (e, none_read h265_tables h265_are (λ t. H265ProfileTierLevel t) texts none, (triple_both h266_tables h266_are).complete texts u is)
+    refl
 triple_only texts param (inr (none5, inr (none6, e))) =
-    rw (e, none_read h265_tables h265_are (λ t. H265ProfileTierLevel t) texts none5, none_read h266_tables h266_are (λ t. H266ProfileTierLevel t) texts none6) refl
+    rw (
+      e,
+      none_read h265_tables h265_are (λ t. H265ProfileTierLevel t) texts none5,
+      none_read h266_tables h266_are (λ t. H266ProfileTierLevel t) texts none6,
+    ) refl

@@ -1,5 +1,10 @@
 -- Sets of payload types as the bits of a number.
-use Rattle.str0m_formats.proofs.Common.{◌≡◌, ◌==◌, ℕ, ◌+◌, ◌-◌, ◌*◌, ◌%◌, ◌^◌, ◌<◌, ◌≤◌, ◌⊎◌, inl, inr, Bool, false, not, ◌||◌, bit_or, List, ◌++◌, [], Some, None, find, refl, sym, ap, ◌∙◌, arith, lit<, range_with_len, option_or, bit_at, eq-eqb, ne_eqb, bit_at-lt, bit_at_set_same, bit_at_set_other, bit_at-zero, or_lt, or-false, or-true, find-append, nat_tests, min, bit_not, trailing_zeros, w128, cases_eq, bit_at_and, bit_at_or, bit_at_not, bit_at_above, bit_at-trailing_zeros, bit_at_cat_low, bit_at_mask_inside, bit_and}
+use Rattle.str0m_formats.proofs.Common.{◌≡◌, ◌==◌, ℕ, ◌+◌, ◌-◌, ◌*◌, ◌%◌, ◌^◌, ◌<◌, ◌≤◌, ◌⊎◌, inl, inr, Bool, false, not, ◌||◌, bit_or}
+use Rattle.str0m_formats.proofs.Common.{List, ◌++◌, [], Some, None, find, refl, sym, ap, ◌∙◌, arith, lit<, range_with_len, option_or}
+use Rattle.str0m_formats.proofs.Common.{bit_at, eq-eqb, ne_eqb, bit_at-lt, bit_at_set_same, bit_at_set_other, bit_at-zero, or_lt, or-false}
+use Rattle.str0m_formats.proofs.Common.{or-true, find-append, nat_tests, min, bit_not, trailing_zeros, w128, cases_eq, bit_at_and}
+use Rattle.str0m_formats.proofs.Common.{bit_at_or, bit_at_not, bit_at_above, bit_at-trailing_zeros, bit_at_cat_low, bit_at_mask_inside}
+use Rattle.str0m_formats.proofs.Common.{bit_and}
 use Rattle.str0m_formats.proofs.round.ClaimedRanges.{find-range_skips, find-range_cut, find-range_here}
 use Rattle.str0m_formats.specs.round.ClaimMask.{bit_set, least_bit}
 use Rattle.str0m_formats.specs.round.Claimed.{free, free_order}

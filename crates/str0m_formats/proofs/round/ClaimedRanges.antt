@@ -1,8 +1,11 @@
 -- The first number of a range that passes a test.
-use Rattle.str0m_formats.proofs.Common.{zero, suc, ◌≡◌, ℕ, ◌+◌, ◌-◌, ◌<◌, ◌≤◌, Bool, true, false, cond, find, Option, Some, None, List, replicate, get_or, length, drop, refl, is_some, sym, ap, ◌∙◌, arith, true≢false, find-append, range_with_len, flat_map, at_drop_more}
+use Rattle.str0m_formats.proofs.Common.{zero, suc, ◌≡◌, ℕ, ◌+◌, ◌-◌, ◌<◌, ◌≤◌, Bool, true, false, cond, find, Option, Some, None, List}
+use Rattle.str0m_formats.proofs.Common.{replicate, get_or, length, drop, refl, is_some, sym, ap, ◌∙◌, arith, true≢false, find-append}
+use Rattle.str0m_formats.proofs.Common.{range_with_len, flat_map, at_drop_more}
 
 -- where the next number fails, the search goes on after it
-pub find-range_more : (p : ℕ → Bool) (t n : ℕ) → t < n → p t ≡ false → find p (range_with_len t (n - t)) ≡ find p (range_with_len (t + 1) (n - (t + 1)))
+pub find-range_more : (p : ℕ → Bool) (t n : ℕ) → t < n → p t ≡ false
+    → find p (range_with_len t (n - t)) ≡ find p (range_with_len (t + 1) (n - (t + 1)))
 find-range_more p t n h e = let s : n - t ≡ suc (n - (t + 1)) = omega arith in rw s (rw e refl)
 
 -- where it passes, it is the answer
@@ -39,12 +42,16 @@ get_or-replicate_same (suc n) a zero = refl
 get_or-replicate_same (suc n) a (suc i) = get_or-replicate_same n a i
 
 -- what is found in a list of lists, from a place on: in the list there, or after it
-pub find-flat_map_here : (p : ℕ → Bool) {A : Type 0} (f : A → List ℕ) (xs : List A) (i : ℕ) (d : A) (found : Option ℕ) → i < length xs → found ≡ find p (f (get_or xs i d)) → is_some found ≡ true → found ≡ find p (flat_map f (drop i xs))
+pub find-flat_map_here : (p : ℕ → Bool) {A : Type 0} (f : A → List ℕ) (xs : List A) (i : ℕ) (d : A) (found : Option ℕ) → i < length xs
+    → found ≡ find p (f (get_or xs i d)) → is_some found ≡ true → found ≡ find p (flat_map f (drop i xs))
 find-flat_map_here p f xs i d None h e s = absurd (true≢false (sym s))
 find-flat_map_here p f xs i d (Some y) h e s =
-    sym (at_drop_more (λ ys. find p (flat_map f ys)) xs i d h ∙ find-append p (f (get_or xs i d)) (flat_map f (drop (i + 1) xs)) ∙ rw (← e) refl)
+    sym (at_drop_more (λ ys. find p (flat_map f ys)) xs i d h ∙ find-append p (f (get_or xs i d)) (flat_map f (drop (i + 1) xs))
+    ∙ rw (← e) refl)
 
-pub find-flat_map_more : (p : ℕ → Bool) {A : Type 0} (f : A → List ℕ) (xs : List A) (i : ℕ) (d : A) (found : Option ℕ) → i < length xs → found ≡ find p (f (get_or xs i d)) → is_some found ≡ false → find p (flat_map f (drop (i + 1) xs)) ≡ find p (flat_map f (drop i xs))
+pub find-flat_map_more : (p : ℕ → Bool) {A : Type 0} (f : A → List ℕ) (xs : List A) (i : ℕ) (d : A) (found : Option ℕ) → i < length xs
+    → found ≡ find p (f (get_or xs i d)) → is_some found ≡ false → find p (flat_map f (drop (i + 1) xs)) ≡ find p (flat_map f (drop i xs))
 find-flat_map_more p f xs i d (Some y) h e s = absurd (true≢false s)
 find-flat_map_more p f xs i d None h e s =
-    sym (at_drop_more (λ ys. find p (flat_map f ys)) xs i d h ∙ find-append p (f (get_or xs i d)) (flat_map f (drop (i + 1) xs)) ∙ rw (← e) refl)
+    sym (at_drop_more (λ ys. find p (flat_map f ys)) xs i d h ∙ find-append p (f (get_or xs i d)) (flat_map f (drop (i + 1) xs))
+    ∙ rw (← e) refl)

@@ -1,6 +1,7 @@
 -- How often a number stands in a list.
 use Rattle.std.proofs.lemmas.List.Sums.{sum_by-append}
-use Rattle.str0m_formats.proofs.Common.{◌≡◌, ◌==◌, ℕ, ◌+◌, ◌≤◌, Bool, true, false, not, ◌&&◌, ◌||◌, cond, List, [], ◌∷◌, ◌++◌, refl, sym, ap, ◌∙◌, arith, list_all, false≢true, and_parts, or_parts, not-true, eqb-true, zero-add}
+use Rattle.str0m_formats.proofs.Common.{◌≡◌, ◌==◌, ℕ, ◌+◌, ◌≤◌, Bool, true, false, not, ◌&&◌, ◌||◌, cond, List, [], ◌∷◌, ◌++◌, refl, sym}
+use Rattle.str0m_formats.proofs.Common.{ap, ◌∙◌, arith, list_all, false≢true, and_parts, or_parts, not-true, eqb-true, zero-add}
 use Rattle.str0m_formats.specs.round.Claimed.{has, times}
 
 pub one_if : (b c : Bool) → b ≡ c → cond {A = ℕ} b 1 0 ≡ cond {A = ℕ} c 1 0
@@ -32,14 +33,16 @@ all_apart [] = true
 all_apart (x ∷ xs) = not (has xs x) && all_apart xs
 
 -- numbers that all pass a test, none of them twice: each stands there once at most, and not at all where it doesn't pass
-pub once_within : (own : ℕ → Bool) (xs : List ℕ) → list_all own xs ≡ true → all_apart xs ≡ true → (t : ℕ) → times xs t ≤ cond {A = ℕ} (own t) 1 0
+pub once_within : (own : ℕ → Bool) (xs : List ℕ) → list_all own xs ≡ true → all_apart xs ≡ true → (t : ℕ)
+    → times xs t ≤ cond {A = ℕ} (own t) 1 0
 once_within own [] h d t = omega arith
 once_within own (x ∷ xs) h d t =
     let h' = and_parts (own x) (list_all own xs) h in
     let d' = and_parts (not (has xs x)) (all_apart xs) d in
     go (x == t) refl h'.0 d'.0 (once_within own xs h'.1 d'.1 t)
   where
-    go : (b : Bool) → (x == t) ≡ b → own x ≡ true → not (has xs x) ≡ true → times xs t ≤ cond {A = ℕ} (own t) 1 0 → times (x ∷ xs) t ≤ cond {A = ℕ} (own t) 1 0
+    go : (b : Bool) → (x == t) ≡ b → own x ≡ true → not (has xs x) ≡ true → times xs t ≤ cond {A = ℕ} (own t) 1 0
+        → times (x ∷ xs) t ≤ cond {A = ℕ} (own t) 1 0
     go true e mine new rest =
         let same : x ≡ t = eqb-true x t e in
         let none : times xs t ≡ 0 = times-none xs t (ap (has xs) (sym same) ∙ not-true (has xs x) new) in

@@ -1,5 +1,7 @@
 -- The score is the same both ways, and what a spec scores with itself.
-use Rattle.str0m_formats.proofs.Common.{arith, ◌≡◌, ◌≢◌, ◌==◌, inl, inr, ℕ, Bool, true, false, Option, Some, None, refl, sym, ap, ◌∙◌, subst, unsigned_Decides, when, H264ProfileLevel, unwrap_or, nat_eq_equiv, bool_eq_equiv, options_equiv, and_comm}
+use Rattle.str0m_formats.proofs.Common.{arith, ◌≡◌, ◌≢◌, ◌==◌, inl, inr, ℕ, Bool, true, false, Option, Some, None, refl, sym, ap, ◌∙◌}
+use Rattle.str0m_formats.proofs.Common.{subst, unsigned_Decides, when, H264ProfileLevel, unwrap_or, nat_eq_equiv, bool_eq_equiv}
+use Rattle.str0m_formats.proofs.Common.{options_equiv, and_comm}
 use Rattle.str0m_formats.proofs.format.FormatParamsEqual.{codec_Decides, spec_Decides}
 use Rattle.str0m_formats.proofs.round.MatchScoreRules.{either_way, score_rules}
 use Rattle.str0m_formats.specs.declared.codec.Codec.{Codec}
@@ -7,7 +9,9 @@ use Rattle.str0m_formats.specs.declared.codec.Codec.TheVariants.{AmrWb, Tele}
 use Rattle.str0m_formats.specs.declared.codec.codec_spec.CodecSpec.{CodecSpec}
 use Rattle.str0m_formats.specs.declared.format.format_params.FormatParams.{FormatParams}
 use Rattle.str0m_formats.specs.declared.round.match_score.ProfileNumbers.{ProfileNumbers}
-use Rattle.str0m_formats.specs.round.MatchScore.{same_spec, same_number, same_option, same_flag, same_or, opus_score, is_mono, mode_score, amr_wb_score, h264_level_score, h264_score, profile_score, av1_score, format_score, codec_score, score, IsSelfScore}
+use Rattle.str0m_formats.specs.round.MatchScore.{same_spec, same_number, same_option, same_flag, same_or, opus_score, is_mono, mode_score}
+use Rattle.str0m_formats.specs.round.MatchScore.{amr_wb_score, h264_level_score, h264_score, profile_score, av1_score, format_score}
+use Rattle.str0m_formats.specs.round.MatchScore.{codec_score, score, IsSelfScore}
 
 numbers_flip : (m n : ℕ) → (m == n) ≡ (n == m)
 numbers_flip m n = nat_eq_equiv.symm m n

@@ -1,5 +1,6 @@
 -- The rules of the score, from the function.
-use Rattle.str0m_formats.proofs.Common.{arith, ◌≡◌, ◌≢◌, ◌==◌, ◌⊎◌, inl, inr, ℕ, Bool, false, Option, None, refl, ap, ◌∙◌, Decides, unsigned_Decides, and-false, if◌then◌else◌}
+use Rattle.str0m_formats.proofs.Common.{arith, ◌≡◌, ◌≢◌, ◌==◌, ◌⊎◌, inl, inr, ℕ, Bool, false, Option, None, refl, ap, ◌∙◌, Decides}
+use Rattle.str0m_formats.proofs.Common.{unsigned_Decides, and-false, if◌then◌else◌}
 use Rattle.str0m_formats.proofs.format.FormatParamsEqual.{options_decided, codec_Decides, spec_Decides, fails}
 use Rattle.str0m_formats.specs.declared.codec.Codec.{Codec}
 use Rattle.str0m_formats.specs.declared.codec.Codec.TheVariants.{AmrWb, Tele, Unknown}

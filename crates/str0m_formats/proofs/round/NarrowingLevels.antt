@@ -1,5 +1,6 @@
 -- An H264 row keeps its profile, and its level never grows.
-use Rattle.str0m_formats.proofs.Common.{◌≡◌, ◌≢◌, ◌⊎◌, inl, inr, ℕ, Bool, true, false, List, Option, Some, None, refl, sym, ap, ◌∙◌, subst, arith, unsigned_Decides, ltb-true, same_Some, H264ProfileLevel, nat_lt, if◌then◌else◌}
+use Rattle.str0m_formats.proofs.Common.{◌≡◌, ◌≢◌, ◌⊎◌, inl, inr, ℕ, Bool, true, false, List, Option, Some, None, refl, sym, ap, ◌∙◌, subst}
+use Rattle.str0m_formats.proofs.Common.{arith, unsigned_Decides, ltb-true, same_Some, H264ProfileLevel, nat_lt, if◌then◌else◌}
 use Rattle.str0m_formats.proofs.format.FormatParamsEqual.{codec_Decides, spec_Decides}
 use Rattle.str0m_formats.proofs.round.MatchScoreRules.{either_way, score_rules}
 use Rattle.str0m_formats.proofs.round.NarrowingSteps.{round_holds}
@@ -96,6 +97,7 @@ narrowed-lowers own chosen some is had e =
     grind (arith, levels_differ own.format chosen.format, stays_named had, lower_named had, same_profiles own chosen is some had)
 
 -- a round doesn't raise the level of an H264 row
-pub levels_narrow : (before remote : List PayloadParams) (receives : Bool) (after : List PayloadParams) → Leaves before remote receives after
+pub levels_narrow : (before remote : List PayloadParams) (receives : Bool) (after : List PayloadParams)
+    → Leaves before remote receives after
     → LevelsNarrow before after
 levels_narrow = round_holds Lowers lowers-same narrowed-lowers

@@ -23,5 +23,6 @@ unfolding narrowed
 narrowed-narrows own chosen tele = grind arith
 
 -- a round doesn't raise the maximum of a telephone row
-pub telephone_narrows : (before remote : List PayloadParams) (receives : Bool) (after : List PayloadParams) → Leaves before remote receives after → TelephoneNarrows before after
+pub telephone_narrows : (before remote : List PayloadParams) (receives : Bool) (after : List PayloadParams)
+    → Leaves before remote receives after → TelephoneNarrows before after
 telephone_narrows = round_holds Narrows narrows-same (λ own chosen fits. narrowed-narrows own chosen)

@@ -10,7 +10,8 @@ use Rattle.str0m_formats.specs.round.RoundsRuns.{Outcome, Ran}
 use Rattle.str0m_formats.specs.row.PayloadParams.{types, locked_types}
 
 -- with at most fourteen rows, types within bounds, and a remote that doesn't receive, a round has no cause
-pub never_refused : (before remote : List PayloadParams) (receives : Bool) → length before ≤ 14 → KeepsBounds before remote → receives ≡ false → (cause : NegotiationError) → Refused before remote receives cause → ⊥
+pub never_refused : (before remote : List PayloadParams) (receives : Bool) → length before ≤ 14 → KeepsBounds before remote
+    → receives ≡ false → (cause : NegotiationError) → Refused before remote receives cause → ⊥
 never_refused before remote receives few bounds is_false cause f = go (few_refused before remote receives cause few f) where
   go : FewRefused before remote receives cause → ⊥
   go (inl h) = large_or_small (types before ++ types remote) h.0 h.1 bounds.0
@@ -18,5 +19,6 @@ never_refused before remote receives few bounds is_false cause f = go (few_refus
   go (inr (inr h)) = true≢false (sym h.1 ∙ is_false)
 
 -- so it is refused for memory alone
-pub only_for_memory : (before remote : List PayloadParams) (receives : Bool) (outcome : Outcome) (after : List PayloadParams) → length before ≤ 14 → KeepsBounds before remote → receives ≡ false → Ran before remote receives outcome after → OnlyForMemory outcome
+pub only_for_memory : (before remote : List PayloadParams) (receives : Bool) (outcome : Outcome) (after : List PayloadParams)
+    → length before ≤ 14 → KeepsBounds before remote → receives ≡ false → Ran before remote receives outcome after → OnlyForMemory outcome
 only_for_memory before remote receives outcome after few bounds is_false ran = grind (arith, never_refused)

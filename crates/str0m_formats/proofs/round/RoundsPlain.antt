@@ -1,5 +1,6 @@
 -- Plain rows stay plain through a round against rows whose numbers keep to their ranges.
-use Rattle.str0m_formats.proofs.Common.{arith, ◌≡◌, ◌≢◌, ℕ, Bool, true, false, List, Option, Some, None, Ok, IfSome, All, take, refl, sym, ap, ◌∙◌, subst, slice_get, All-contains}
+use Rattle.str0m_formats.proofs.Common.{arith, ◌≡◌, ◌≢◌, ℕ, Bool, true, false, List, Option, Some, None, Ok, IfSome, All, take, refl, sym}
+use Rattle.str0m_formats.proofs.Common.{ap, ◌∙◌, subst, slice_get, All-contains}
 use Rattle.str0m_formats.proofs.round.FirstPass.{small_at, same_Ok, placed-locked_row, placed-open_row, placed-no_choice, locked_parts}
 use Rattle.str0m_formats.proofs.round.RoundsPasses.{at_place, split_has, from_places}
 use Rattle.str0m_formats.proofs.round.RoundsRowSteps.{row_steps}

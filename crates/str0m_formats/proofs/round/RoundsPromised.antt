@@ -19,22 +19,38 @@ use Rattle.str0m_formats.specs.round.Rounds.{Leaves, Refused}
 use Rattle.str0m_formats.specs.round.RoundsPromises.{Promises, Negotiates}
 use Rattle.str0m_formats.specs.round.RoundsRuns.{Outcome}
 
-pub promised : (before remote : List PayloadParams) (receives : Bool) (after : List PayloadParams) → Leaves before remote receives after → Promises before remote receives after
+pub promised : (before remote : List PayloadParams) (receives : Bool) (after : List PayloadParams) → Leaves before remote receives after
+    → Promises before remote receives after
 promised before remote receives after r =
-    search (rules, locked_alone, locked_stay, matched_are_locked, locked_at_best, distinct_stay, telephone_narrows, levels_narrow, plain_stay)
+    search (
+      rules,
+      locked_alone,
+      locked_stay,
+      matched_are_locked,
+      locked_at_best,
+      distinct_stay,
+      telephone_narrows,
+      levels_narrow,
+      plain_stay,
+    )
 
 -- ---- what one call answers
 
-negotiated : (remote : List PayloadParams) (receives : Bool) (old new : CodecConfig) (result : Outcome) → OnOk result (Leaves old.params.items remote receives new.params.items)
-    → IfErr result (λ cause. cause ≢ Memory → Refused old.params.items remote receives cause) → new ≡ record old { params = new.params } → OnErr result (new ≡ old)
+negotiated : (remote : List PayloadParams) (receives : Bool) (old new : CodecConfig) (result : Outcome)
+    → OnOk result (Leaves old.params.items remote receives new.params.items)
+    → IfErr result (λ cause. cause ≢ Memory → Refused old.params.items remote receives cause) → new ≡ record old { params = new.params }
+    → OnErr result (new ≡ old)
     → Negotiates remote receives old new result
 negotiated remote receives old new result ok cause same err =
     grind (arith, on_ok_weaker, leaves_only, refused_only, never_exhausted, only_for_memory, promised, ran_from, on_err_weaker)
 
-pub leaves_round : (remote : List PayloadParams) (receives : Bool) (old new : CodecConfig) → Leaves old.params.items remote receives new.params.items → new ≡ record old { params = new.params } → Negotiates remote receives old new (Ok tt)
+pub leaves_round : (remote : List PayloadParams) (receives : Bool) (old new : CodecConfig)
+    → Leaves old.params.items remote receives new.params.items → new ≡ record old { params = new.params }
+    → Negotiates remote receives old new (Ok tt)
 leaves_round remote receives old new leaves same = negotiated remote receives old new (Ok tt) leaves tt same tt
 
-pub refused_round : (remote : List PayloadParams) (receives : Bool) (config : CodecConfig) (result : Outcome) (cause : NegotiationError) → result ≡ Err cause → (cause ≢ Memory → Refused config.params.items remote receives cause)
+pub refused_round : (remote : List PayloadParams) (receives : Bool) (config : CodecConfig) (result : Outcome) (cause : NegotiationError)
+    → result ≡ Err cause → (cause ≢ Memory → Refused config.params.items remote receives cause)
     → Negotiates remote receives config config result
 refused_round remote receives config result cause is refused =
     grind (arith, negotiated remote receives config config (Err cause) tt refused)

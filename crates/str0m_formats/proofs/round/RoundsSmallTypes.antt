@@ -1,7 +1,10 @@
 -- Types stay at most 127.
-use Rattle.str0m_formats.proofs.Common.{arith, zero, suc, ◌≡◌, ℕ, Bool, true, false, cond, find, nat_lt, List, [], ◌∷◌, ◌++◌, Option, Some, None, Ok, IfSome, refl, sym, ap, ◌∙◌, subst, slice_get, option_to_list, option_or, find-append, le-ltb, IfOk-at_ok}
+use Rattle.str0m_formats.proofs.Common.{arith, zero, suc, ◌≡◌, ℕ, Bool, true, false, cond, find, nat_lt, List, [], ◌∷◌, ◌++◌, Option, Some}
+use Rattle.str0m_formats.proofs.Common.{None, Ok, IfSome, refl, sym, ap, ◌∙◌, subst, slice_get, option_to_list, option_or, find-append}
+use Rattle.str0m_formats.proofs.Common.{le-ltb, IfOk-at_ok}
 use Rattle.str0m_formats.proofs.round.ClaimedSets.{free-small}
-use Rattle.str0m_formats.proofs.round.FirstPass.{none-parts, small_at, small_choice, placed-locked, placed-open_row, placed-no_choice, locked_parts}
+use Rattle.str0m_formats.proofs.round.FirstPass.{none-parts, small_at, small_choice, placed-locked, placed-open_row, placed-no_choice}
+use Rattle.str0m_formats.proofs.round.FirstPass.{locked_parts}
 use Rattle.str0m_formats.proofs.round.RoundsInvariants.{locked_once}
 use Rattle.str0m_formats.proofs.round.RoundsRowSteps.{row_steps, role-given, rtx-given, red-given, kept-given}
 use Rattle.str0m_formats.proofs.round.RoundsWhole.{row_before}
@@ -17,7 +20,8 @@ pub small-append : (xs ys : List ℕ) → AllSmall xs → AllSmall ys → AllSma
 small-append xs ys hx hy = find-append (nat_lt 127) xs ys ∙ ap (λ o. option_or o (find (nat_lt 127) ys)) hx ∙ hy
 
 -- rows each of whose types is small, row by row
-small_rows : (rows : List PayloadParams) → ((i : ℕ) (row : PayloadParams) → slice_get rows i ≡ Some row → AllSmall (types_of row)) → AllSmall (types rows)
+small_rows : (rows : List PayloadParams) → ((i : ℕ) (row : PayloadParams) → slice_get rows i ≡ Some row → AllSmall (types_of row))
+    → AllSmall (types rows)
 small_rows [] h = refl
 small_rows (r ∷ rows) h = small-append (types_of r) (types rows) (h zero r refl) (small_rows rows (λ i row e. h (suc i) row e))
 
@@ -52,7 +56,9 @@ anyway set o h = grind arith
 audio-small : (c : Content) (o : Option ℕ) → IfSome o Small → IfSome (only_audio c o) Small
 audio-small c o h = grind arith
 
-placed-small : (taken unlocked : TypeSet) (receives : Bool) (row new : PayloadParams) (choice : Option PayloadParams) → placed taken unlocked receives row choice ≡ Ok new → AllSmall (types_of row) → IfSome choice (λ c. AllSmall (types_of c)) → AllSmall (types_of new)
+placed-small : (taken unlocked : TypeSet) (receives : Bool) (row new : PayloadParams) (choice : Option PayloadParams)
+    → placed taken unlocked receives row choice ≡ Ok new → AllSmall (types_of row) → IfSome choice (λ c. AllSmall (types_of c))
+    → AllSmall (types_of new)
 placed-small taken unlocked receives row new None h s k = grind (arith, placed-no_choice)
 placed-small taken unlocked receives row new (Some c) h s k = go row.locked refl where
   go : (b : Bool) → row.locked ≡ b → AllSmall (types_of new)
@@ -66,13 +72,18 @@ placed-small taken unlocked receives row new (Some c) h s k = go row.locked refl
       let red = red_type two unlocked receives c.red row.red in
       ap (λ r. find (nat_lt 127) (types_of r)) (sym parts.all)
       ∙ of_roles parts.pt parts.resend (only_audio (content row.spec.codec) red)
-      (IfOk-at_ok Small parts.pt_is (role-given Small taken unlocked (free-fits taken unlocked) receives c.pt (Some row.pt) (λ _. asked.0) (λ _. own.0)))
-      (IfOk-at_ok (λ o. IfSome o Small) parts.resend_is (rtx-given Small one unlocked (free-fits one unlocked) receives c.resend row.resend (anyway one c.resend asked.1) (anyway one row.resend own.1)))
-      (audio-small (content row.spec.codec) red (red-given Small two unlocked (free-fits two unlocked) receives c.red row.red (anyway two c.red asked.2)))
+      (IfOk-at_ok Small parts.pt_is
+      (role-given Small taken unlocked (free-fits taken unlocked) receives c.pt (Some row.pt) (λ _. asked.0) (λ _. own.0)))
+      (IfOk-at_ok (λ o. IfSome o Small) parts.resend_is
+      (rtx-given Small one unlocked (free-fits one unlocked) receives c.resend row.resend (anyway one c.resend asked.1)
+      (anyway one row.resend own.1)))
+      (audio-small (content row.spec.codec) red
+      (red-given Small two unlocked (free-fits two unlocked) receives c.red row.red (anyway two c.red asked.2)))
 
 -- ---- the second pass
 
-settled-small : (locked taken unlocked : TypeSet) (row new : PayloadParams) → settled_row locked taken unlocked row ≡ Ok new → AllSmall (types_of row) → AllSmall (types_of new)
+settled-small : (locked taken unlocked : TypeSet) (row new : PayloadParams) → settled_row locked taken unlocked row ≡ Ok new
+    → AllSmall (types_of row) → AllSmall (types_of new)
 settled-small locked taken unlocked row new h s = go row.locked refl where
   go : (b : Bool) → row.locked ≡ b → AllSmall (types_of new)
   go true l = ap (λ r. find (nat_lt 127) (types_of r)) (settled-same locked taken unlocked row new h l) ∙ s
@@ -91,7 +102,8 @@ settled-small locked taken unlocked row new h s = go row.locked refl where
 -- ---- a round
 
 -- after a round no type is above 127, since none was before it on either side
-pub small_after : (before remote : List PayloadParams) (receives : Bool) (after : List PayloadParams) → Leaves before remote receives after → AllSmall (types after)
+pub small_after : (before remote : List PayloadParams) (receives : Bool) (after : List PayloadParams) → Leaves before remote receives after
+    → AllSmall (types after)
 small_after before remote receives after r = small_rows after at where
   at : (i : ℕ) (new : PayloadParams) → slice_get after i ≡ Some new → AllSmall (types_of new)
   at i new at_new =
@@ -100,8 +112,10 @@ small_after before remote receives after r = small_rows after at where
       let small = none-parts (nat_lt 127) (types before) (types remote) r.first.may.small in
       let chosen = small_choice (points_for _ receives old.0) remote steps.became.choice steps.became.is_choice small.1 in
       settled-small _ _ _ steps.between new steps.then_settled
-      (placed-small _ _ receives old.0 steps.between steps.became.choice steps.became.placed_so (small_at before i old.0 small.0 old.1) chosen)
+      (placed-small _ _ receives old.0 steps.between steps.became.choice steps.became.placed_so (small_at before i old.0 small.0 old.1)
+      chosen)
 
 -- so the next round may begin, against rows of small types
-pub bounds_kept : (before remote : List PayloadParams) (receives : Bool) (after : List PayloadParams) → Leaves before remote receives after → AllSmall (types after) × AllDistinct (locked_types after)
+pub bounds_kept : (before remote : List PayloadParams) (receives : Bool) (after : List PayloadParams) → Leaves before remote receives after
+    → AllSmall (types after) × AllDistinct (locked_types after)
 bounds_kept before remote receives after r = (small_after before remote receives after r, locked_once before remote receives after r)

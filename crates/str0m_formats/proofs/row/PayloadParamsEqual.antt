@@ -1,5 +1,6 @@
 -- When two rows are the same: `==` of each field but `locked` decides, and so does that of the row.
-use Rattle.str0m_formats.proofs.Common.{◌≡◌, ℕ, Bool, true, false, Option, refl, sym, ap, ◌∙◌, Decides, IsEquivalence, Decides-like, one_answer, equiv}
+use Rattle.str0m_formats.proofs.Common.{◌≡◌, ℕ, Bool, true, false, Option, refl, sym, ap, ◌∙◌, Decides, IsEquivalence, Decides-like}
+use Rattle.str0m_formats.proofs.Common.{one_answer, equiv}
 use Rattle.str0m_formats.proofs.format.FormatParamsDerived.{Equality, equality}
 use Rattle.str0m_formats.proofs.format.FormatParamsEqual.{spec}
 use Rattle.str0m_formats.specs.contracts.row.payload_params.PayloadParamsPartialEq.TheImpl as row
@@ -40,7 +41,8 @@ pub row_equivalence : IsEquivalence row.eq-value.it
 row_equivalence = equiv (record { symm = symmetric; trans = transitive }) (λ a. (row_Decides a a).1 refl)
   where
     symmetric : (a b : PayloadParams) → row.eq-value.it a b ≡ row.eq-value.it b a
-    symmetric a b = one_answer (row.eq-value.it a b) (row.eq-value.it b a) (row_Decides a b) (Decides-like (row.eq-value.it b a) sym sym (row_Decides b a))
+    symmetric a b = one_answer (row.eq-value.it a b) (row.eq-value.it b a) (row_Decides a b)
+        (Decides-like (row.eq-value.it b a) sym sym (row_Decides b a))
 
     transitive : (a b c : PayloadParams) → row.eq-value.it a b ≡ true → row.eq-value.it b c ≡ true → row.eq-value.it a c ≡ true
     transitive a b c p q = (row_Decides a c).1 ((row_Decides a b).0 p ∙ (row_Decides b c).0 q)

@@ -3,7 +3,10 @@ use Rattle.std.proofs.lemmas.List.FromFn.{length-range_with_len, get_or-range_wi
 use Rattle.std.proofs.lemmas.List.Kept.{IsStrictlyIncreasing-filter}
 use Rattle.std.proofs.lemmas.Map.Views.{list_any-from_Contains, Contains-from_any}
 use Rattle.std.specs.List.Sorted.{IsStrictlyIncreasing}
-use Rattle.str0m_formats.proofs.Common.{rules, ◌≡◌, ◌==◌, ◌↔◌, ◌⊎◌, inl, inr, ℕ, ◌+◌, ◌-◌, ◌<◌, ◌≤◌, Bool, true, false, ◌&&◌, cond, List, [], ◌∷◌, ◌++◌, filter, All, length, take, refl, sym, ◌∙◌, arith, Contains, list_any, range_with_len, or_cases, or_left, or_right, and_parts, eqb-true, eq-eqb, append-nil, take_more_set, All-filter, filter-append, add-one, set, nat_eq_equiv, and-false, and_from}
+use Rattle.str0m_formats.proofs.Common.{rules, ◌≡◌, ◌==◌, ◌↔◌, ◌⊎◌, inl, inr, ℕ, ◌+◌, ◌-◌, ◌<◌, ◌≤◌, Bool, true, false, ◌&&◌, cond, List}
+use Rattle.str0m_formats.proofs.Common.{[], ◌∷◌, ◌++◌, filter, All, length, take, refl, sym, ◌∙◌, arith, Contains, list_any, range_with_len}
+use Rattle.str0m_formats.proofs.Common.{or_cases, or_left, or_right, and_parts, eqb-true, eq-eqb, append-nil, take_more_set, All-filter}
+use Rattle.str0m_formats.proofs.Common.{filter-append, add-one, set, nat_eq_equiv, and-false, and_from}
 use Rattle.str0m_formats.proofs.format.ParamTextPrinted.{range_push}
 use Rattle.str0m_formats.specs.row.RedDistances.{IsKept, AreKept, AreDistances, keeps, kept_to}
 
@@ -12,10 +15,12 @@ pub kept_more : (given : List ℕ) (n : ℕ) → kept_to (n + 1) given ≡ kept_
 unfolding kept_to
 kept_more given n = grind (arith, add-one, range_push 1 n, filter-append (keeps given) (range_with_len 1 n) ((1 + n) ∷ []))
 
-pub kept_taken : (given levels : List ℕ) (n count : ℕ) → keeps given (n + 1) ≡ true → count < length levels → take count levels ≡ kept_to n given → take (count + 1) (set levels count (n + 1)) ≡ kept_to (n + 1) given
+pub kept_taken : (given levels : List ℕ) (n count : ℕ) → keeps given (n + 1) ≡ true → count < length levels
+    → take count levels ≡ kept_to n given → take (count + 1) (set levels count (n + 1)) ≡ kept_to (n + 1) given
 kept_taken given levels n count e l h = grind (arith, take_more_set, kept_more)
 
-pub kept_skipped : (given levels : List ℕ) (n count : ℕ) → keeps given (n + 1) ≡ false → take count levels ≡ kept_to n given → take count levels ≡ kept_to (n + 1) given
+pub kept_skipped : (given levels : List ℕ) (n count : ℕ) → keeps given (n + 1) ≡ false → take count levels ≡ kept_to n given
+    → take count levels ≡ kept_to (n + 1) given
 kept_skipped given levels n count e h = grind (arith, kept_more, append-nil)
 
 pub kept_none : (given : List ℕ) → kept_to 0 given ≡ []
@@ -44,8 +49,11 @@ any_filter p d (x ∷ xs) = grind (arith, any_filter p d xs, eqb-true)
 
 contains_kept : (p : ℕ → Bool) (d : ℕ) (xs : List ℕ) → Contains (filter p xs) d ↔ ((p d ≡ true) × Contains xs d)
 contains_kept p d xs = (
-  λ c. let parts = and_parts (p d) (list_any (λ x. d == x) xs) (sym (any_filter p d xs) ∙ list_any-from_Contains nat_eq_equiv d (filter p xs) c) in (parts.0, Contains-from_any (λ x y e. eqb-true x y e) d xs parts.1),
-  λ c. Contains-from_any (λ x y e. eqb-true x y e) d (filter p xs) (any_filter p d xs ∙ and_from (p d) (list_any (λ x. d == x) xs) c.0 (list_any-from_Contains nat_eq_equiv d xs c.1)),
+  λ c. let parts = and_parts (p d) (list_any (λ x. d == x) xs)
+      (sym (any_filter p d xs) ∙ list_any-from_Contains nat_eq_equiv d (filter p xs) c) in
+      (parts.0, Contains-from_any (λ x y e. eqb-true x y e) d xs parts.1),
+  λ c. Contains-from_any (λ x y e. eqb-true x y e) d (filter p xs)
+      (any_filter p d xs ∙ and_from (p d) (list_any (λ x. d == x) xs) c.0 (list_any-from_Contains nat_eq_equiv d xs c.1)),
 )
 
 range_has : (d : ℕ) → 1 ≤ d → d ≤ 16 → Contains (range_with_len 1 16) d

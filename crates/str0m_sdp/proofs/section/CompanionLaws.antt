@@ -1,5 +1,7 @@
 -- The types that go with others, one attribute more.
-use Rattle.str0m_sdp.proofs.Common.{arith, ◌≡◌, ◌<◌, ◌+◌, ◌++◌, ◌&&◌, ℕ, Bool, false, cond, List, [], ◌∷◌, length, take, get_or, Option, Some, None, filter_map, refl, sym, ap, ◌∙◌, option_or, list_any, take_at_read, filter_map-append, when, Codec, CodecSpec, FormatParam}
+use Rattle.str0m_sdp.proofs.Common.{arith, ◌≡◌, ◌<◌, ◌+◌, ◌++◌, ◌&&◌, ℕ, Bool, false, cond, List, [], ◌∷◌, length, take, get_or, Option}
+use Rattle.str0m_sdp.proofs.Common.{Some, None, filter_map, refl, sym, ap, ◌∙◌, option_or, list_any, take_at_read, filter_map-append, when}
+use Rattle.str0m_sdp.proofs.Common.{Codec, CodecSpec, FormatParam}
 use Rattle.str0m_sdp.specs.Common.{last}
 use Rattle.str0m_sdp.specs.declared.attribute.MediaAttribute.{MediaAttribute}
 use Rattle.str0m_sdp.specs.declared.attribute.MediaAttribute.TheVariants.{Fmtp}
@@ -23,7 +25,8 @@ last_one f x o is = grind arith
 -- what the attribute that is read says comes before what was said so far
 pub companion_more : (codec : Codec) (mapped : List (ℕ × CodecSpec)) (attrs : List MediaAttribute) (i : ℕ) (attr : MediaAttribute) (pt : ℕ)
     → i < length attrs → attr ≡ get_or attrs i attr
-    → companion codec mapped (take (i + 1) attrs) pt ≡ option_or (companion_in codec mapped pt attr) (companion codec mapped (take i attrs) pt)
+    → companion codec mapped (take (i + 1) attrs) pt ≡ option_or (companion_in codec mapped pt attr)
+    (companion codec mapped (take i attrs) pt)
 unfolding companion
 companion_more codec mapped attrs i attr pt lt is = grind (arith, take_at_read, filter_map-append, last_append, last_one)
 
@@ -42,7 +45,8 @@ when_or : {X : Type 0} (b : Bool) (x : X) (o : Option X) → option_or (when b x
 when_or b x o = grind arith
 
 -- an fmtp line goes with each type that it names, where it is of the codec
-companion_fmtp : (codec : Codec) (mapped : List (ℕ × CodecSpec)) (attrs : List MediaAttribute) (i n : ℕ) (values : List FormatParam) (attr : MediaAttribute) (pt : ℕ)
+companion_fmtp : (codec : Codec) (mapped : List (ℕ × CodecSpec)) (attrs : List MediaAttribute) (i n : ℕ) (values : List FormatParam)
+    (attr : MediaAttribute) (pt : ℕ)
     → i < length attrs → attr ≡ get_or attrs i attr → attr ≡ Fmtp n values
     → companion codec mapped (take (i + 1) attrs) pt
     ≡ cond (is_mapped_to codec mapped n && list_any (names codec pt) values) (Some n) (companion codec mapped (take i attrs) pt)
@@ -52,11 +56,13 @@ companion_fmtp codec mapped attrs i n values attr pt lt is variant =
     ∙ when_or (is_mapped_to codec mapped n && list_any (names codec pt) values) n (companion codec mapped (take i attrs) pt)
 
 -- so a table in which it is noted, where it is of the codec, has what goes with each type one line on
-pub companions_noted : (codec : Codec) (mapped : List (ℕ × CodecSpec)) (attrs : List MediaAttribute) (of_codec : List Bool) (old new : List (Option ℕ))
+pub companions_noted : (codec : Codec) (mapped : List (ℕ × CodecSpec)) (attrs : List MediaAttribute) (of_codec : List Bool)
+    (old new : List (Option ℕ))
     (i n : ℕ) (values : List FormatParam) (attr : MediaAttribute)
     → i < length attrs → attr ≡ get_or attrs i attr → attr ≡ Fmtp n values
     → get_or of_codec n false ≡ is_mapped_to codec mapped n → length old ≡ 256
-    → ((m : ℕ) → m < length old → get_or new m None ≡ cond (get_or of_codec n false && list_any (names codec m) values) (Some n) (get_or old m None))
+    → ((m : ℕ) → m < length old → get_or new m None ≡ cond (get_or of_codec n false && list_any (names codec m) values) (Some n)
+    (get_or old m None))
     → ((pt : ℕ) → pt < 256 → get_or old pt None ≡ companion codec mapped (take i attrs) pt)
     → (pt : ℕ) → pt < 256 → get_or new pt None ≡ companion codec mapped (take (i + 1) attrs) pt
 companions_noted codec mapped attrs of_codec old new i n values attr lt is variant tells rows noted so_far pt small =

@@ -1,5 +1,7 @@
 -- The fmtp lines of types, one attribute more.
-use Rattle.str0m_sdp.proofs.Common.{arith, ◌≡◌, ◌==◌, ◌<◌, ◌+◌, ◌++◌, ℕ, true, false, List, [], ◌∷◌, length, take, get_or, Option, Some, None, option_to_list, refl, sym, ap, ◌∙◌, inl, inr, Bor, cases_eq, eq-eqb, ne_eqb, append-nil, map-append, filter_map-append, line_values, FormatParam}
+use Rattle.str0m_sdp.proofs.Common.{arith, ◌≡◌, ◌==◌, ◌<◌, ◌+◌, ◌++◌, ℕ, true, false, List, [], ◌∷◌, length, take, get_or, Option, Some}
+use Rattle.str0m_sdp.proofs.Common.{None, option_to_list, refl, sym, ap, ◌∙◌, inl, inr, Bor, cases_eq, eq-eqb, ne_eqb, append-nil}
+use Rattle.str0m_sdp.proofs.Common.{map-append, filter_map-append, line_values, FormatParam}
 use Rattle.str0m_sdp.proofs.section.MappingsFilterMap.{map_one, map_more}
 use Rattle.str0m_sdp.specs.declared.attribute.MediaAttribute.{MediaAttribute}
 use Rattle.str0m_sdp.specs.declared.attribute.MediaAttribute.TheVariants.{Fmtp}
@@ -17,7 +19,8 @@ with_more : (pt : ℕ) (lines : List (ℕ × Bor (List FormatParam))) (item : �
     → line_values (lines_with pt (lines ++ item ∷ [])) ≡ line_values (lines_with pt lines) ++ line_values (option_to_list o)
 with_more pt lines item o is = grind (arith, filter_map-append, map_one, map-append)
 
-lines_more : (attrs : List MediaAttribute) (i : ℕ) (attr : MediaAttribute) (pt : ℕ) (o : Option (List FormatParam)) → i < length attrs → attr ≡ get_or attrs i attr
+lines_more : (attrs : List MediaAttribute) (i : ℕ) (attr : MediaAttribute) (pt : ℕ) (o : Option (List FormatParam)) → i < length attrs
+    → attr ≡ get_or attrs i attr
     → values_in pt attr ≡ o → fmtps_of (take (i + 1) attrs) pt ≡ fmtps_of (take i attrs) pt ++ option_to_list o
 unfolding fmtps_of
 lines_more attrs i attr pt o lt is says = grind (arith, map_more (values_in pt) attrs i attr lt is)
@@ -47,7 +50,8 @@ pub lines_other : (attrs : List MediaAttribute) (i : ℕ) (attr : MediaAttribute
 lines_other attrs i attr pt lt is other = lines_same attrs i attr pt lt is (silent_in pt attr other)
 
 -- an fmtp line adds its values to its own type's lines
-pub lines_pushed : (attrs : List MediaAttribute) (lines : List (ℕ × Bor (List FormatParam))) (i n : ℕ) (line : Bor (List FormatParam)) (attr : MediaAttribute) (pt : ℕ)
+pub lines_pushed : (attrs : List MediaAttribute) (lines : List (ℕ × Bor (List FormatParam))) (i n : ℕ) (line : Bor (List FormatParam))
+    (attr : MediaAttribute) (pt : ℕ)
     → i < length attrs → attr ≡ get_or attrs i attr → attr ≡ Fmtp n line.now
     → line_values (lines_with pt lines) ≡ fmtps_of (take i attrs) pt
     → line_values (lines_with pt (lines ++ (n, line) ∷ [])) ≡ fmtps_of (take (i + 1) attrs) pt
@@ -70,13 +74,15 @@ no : (pt : ℕ) (item : ℕ × Bor (List FormatParam)) → (item.0 == pt) ≡ fa
 no pt item is = rw is refl
 
 -- a line of the type is found
-pub found_own : (lines : List (ℕ × Bor (List FormatParam))) (found : List (Bor (List FormatParam))) (i pt : ℕ) (item : ℕ × Bor (List FormatParam))
+pub found_own : (lines : List (ℕ × Bor (List FormatParam))) (found : List (Bor (List FormatParam))) (i pt : ℕ)
+    (item : ℕ × Bor (List FormatParam))
     → i < length lines → item ≡ get_or lines i item → (item.0 == pt) ≡ true → found ≡ lines_with pt (take i lines)
     → found ++ item.1 ∷ [] ≡ lines_with pt (take (i + 1) lines)
 found_own lines found i pt item lt is same so_far = grind (arith, map_more (line_with pt) lines i item lt is, yes pt item same)
 
 -- one of another type isn't
-pub found_other : (lines : List (ℕ × Bor (List FormatParam))) (found : List (Bor (List FormatParam))) (i pt : ℕ) (item : ℕ × Bor (List FormatParam))
+pub found_other : (lines : List (ℕ × Bor (List FormatParam))) (found : List (Bor (List FormatParam))) (i pt : ℕ)
+    (item : ℕ × Bor (List FormatParam))
     → i < length lines → item ≡ get_or lines i item → (item.0 == pt) ≡ false → found ≡ lines_with pt (take i lines)
     → found ≡ lines_with pt (take (i + 1) lines)
 found_other lines found i pt item lt is apart so_far =

@@ -1,6 +1,9 @@
 -- A section of plain, distinct rows is consistent, and each of its RTX and RED lines names one primary type.
 use Rattle.str0m_formats.specs.declared.codec.Codec.TheVariants as codec
-use Rattle.str0m_sdp.proofs.Common.{◌≡◌, ◌≢◌, ◌≤◌, inl, ℕ, Bool, true, false, List, [], ◌∷◌, ◌++◌, Option, Some, IfSome, All, refl, sym, ap, ◌∙◌, subst, arith, AllByRecursion, flat_map, All-from_recursion, content, other, types, same_codec, has, AllDistinct, Codec, FormatParam, Apt, BarePtList, PayloadParams, IsPlain, count_by, true≢false, times-some, all_both}
+use Rattle.str0m_sdp.proofs.Common.{◌≡◌, ◌≢◌, ◌≤◌, inl, ℕ, Bool, true, false, List, [], ◌∷◌, ◌++◌, Option, Some, IfSome, All, refl, sym, ap}
+use Rattle.str0m_sdp.proofs.Common.{◌∙◌, subst, arith, AllByRecursion, flat_map, All-from_recursion, content, other, types, same_codec, has}
+use Rattle.str0m_sdp.proofs.Common.{AllDistinct, Codec, FormatParam, Apt, BarePtList, PayloadParams, IsPlain, count_by, true≢false}
+use Rattle.str0m_sdp.proofs.Common.{times-some, all_both}
 use Rattle.str0m_sdp.proofs.section.MadeSectionFrame.{HasNoTypes, NameNoType, NamesNoType}
 use Rattle.str0m_sdp.proofs.section.MappingsBack.{IsSaid, section, each_type}
 use Rattle.str0m_sdp.proofs.section.RowAttributesQuestions.{lines, attrs_of, apt_is, maps_are}
@@ -11,7 +14,8 @@ use Rattle.str0m_sdp.specs.declared.attribute.MediaAttribute.{MediaAttribute}
 use Rattle.str0m_sdp.specs.declared.attribute.MediaAttribute.TheVariants.{Fmtp}
 use Rattle.str0m_sdp.specs.declared.attribute.proto.Proto.TheVariants.{Srtp}
 use Rattle.str0m_sdp.specs.declared.section.media_line.MediaLine.{MediaLine}
-use Rattle.str0m_sdp.specs.section.Consistency.{is_mid, is_setup, is_direction, maps, IsMapped, first_apt, NamesNoOther, AgreesOnApt, Consistent}
+use Rattle.str0m_sdp.specs.section.Consistency.{is_mid, is_setup, is_direction, maps, IsMapped, first_apt, NamesNoOther, AgreesOnApt}
+use Rattle.str0m_sdp.specs.section.Consistency.{Consistent}
 use Rattle.str0m_sdp.specs.section.MadeSection.{is_of_type}
 use Rattle.str0m_sdp.specs.section.Mappings.{mapped, is_mapped_to}
 use Rattle.str0m_sdp.specs.section.SectionRows.{NamesOne, primary_types}

@@ -1,5 +1,6 @@
 -- A section that was read, whose types and lines are those of plain, distinct rows, describes these rows.
-use Rattle.str0m_sdp.proofs.Common.{arith, ◌≡◌, ◌≢◌, ◌≤◌, false, List, [], map, All, AllZip, flat_map, recursion_from_All, IsPlain, types, SameRow, AllDistinct, FormatParam, PayloadParams, count_by}
+use Rattle.str0m_sdp.proofs.Common.{arith, ◌≡◌, ◌≢◌, ◌≤◌, false, List, [], map, All, AllZip, flat_map, recursion_from_All, IsPlain, types}
+use Rattle.str0m_sdp.proofs.Common.{SameRow, AllDistinct, FormatParam, PayloadParams, count_by}
 use Rattle.str0m_sdp.proofs.section.MadeSectionConsistent.{consistent, names_one}
 use Rattle.str0m_sdp.proofs.section.MappingsBack.{IsSaid, unlocked, section, mapped_is}
 use Rattle.str0m_sdp.proofs.section.RowAttributesAnswers.{row_entries}

@@ -5,7 +5,9 @@ use Rattle.str0m_formats.specs.format.FormatLine.{asks_absent}
 use Rattle.str0m_formats.specs.format.Pairs.{has_mark}
 use Rattle.str0m_formats.specs.format.PairsReading.{params_read}
 use Rattle.str0m_formats.specs.round.Narrowing.{telephone_max}
-use Rattle.str0m_sdp.proofs.Common.{rules, arith, ◌≡◌, ◌≢◌, ℕ, false, List, [], ◌∷◌, Some, refl, All, get_or, AllByRecursion, types, AllDistinct, content, events, format_of_fmtp, empty, IsPlain, Codec, FormatParam, FormatParams, PayloadParams, HoldsRowNumbers, BareRange}
+use Rattle.str0m_sdp.proofs.Common.{rules, arith, ◌≡◌, ◌≢◌, ℕ, false, List, [], ◌∷◌, Some, refl, All, get_or, AllByRecursion, types}
+use Rattle.str0m_sdp.proofs.Common.{AllDistinct, content, events, format_of_fmtp, empty, IsPlain, Codec, FormatParam, FormatParams}
+use Rattle.str0m_sdp.proofs.Common.{PayloadParams, HoldsRowNumbers, BareRange}
 use Rattle.str0m_sdp.proofs.section.MadeSectionFrame.{NamesNoType, NameNoType}
 use Rattle.str0m_sdp.proofs.section.MadeSectionRead.{IsBareFrame, DescribesRows, describes}
 use Rattle.str0m_sdp.proofs.section.MappingsBack.{IsSaid}

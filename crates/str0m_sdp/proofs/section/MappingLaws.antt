@@ -1,5 +1,7 @@
 -- The types of a section with their codecs, one type more.
-use Rattle.str0m_sdp.proofs.Common.{arith, ◌≡◌, ◌<◌, ◌+◌, ◌++◌, ◌==◌, ℕ, Bool, true, false, cond, ◌||◌, List, [], ◌∷◌, length, take, get_or, Option, None, nat_eq, filter_map, option_to_list, refl, sym, ap, ◌∙◌, inl, inr, list_any, cases_eq, eq-eqb, ne_eqb, or_right, take_at_read, append-nil, filter_map-append, CodecSpec, set}
+use Rattle.str0m_sdp.proofs.Common.{arith, ◌≡◌, ◌<◌, ◌+◌, ◌++◌, ◌==◌, ℕ, Bool, true, false, cond, ◌||◌, List, [], ◌∷◌, length, take, get_or}
+use Rattle.str0m_sdp.proofs.Common.{Option, None, nat_eq, filter_map, option_to_list, refl, sym, ap, ◌∙◌, inl, inr, list_any, cases_eq}
+use Rattle.str0m_sdp.proofs.Common.{eq-eqb, ne_eqb, or_right, take_at_read, append-nil, filter_map-append, CodecSpec, set}
 use Rattle.str0m_sdp.proofs.section.MappingsFilterMap.{map_more}
 use Rattle.str0m_sdp.proofs.section.SectionRowsParts.{or_false}
 use Rattle.str0m_sdp.proofs.section.TypeTablesMarks.{any_more, set_marked}
@@ -81,7 +83,8 @@ mapping_other attrs rows i attr lt is other so_far =
     grind (arith, map_more mapping attrs i attr lt is, no_mapping attr other, append-nil (filter_map mapping (take i attrs)))
 
 -- a type is among the mappings where a line maps it
-pub any_mapped : (pt : ℕ) (attrs : List MediaAttribute) → list_any (λ row. row.0 == pt) (filter_map mapping attrs) ≡ list_any (maps pt) attrs
+pub any_mapped : (pt : ℕ) (attrs : List MediaAttribute) → list_any (λ row. row.0 == pt) (filter_map mapping attrs)
+    ≡ list_any (maps pt) attrs
 any_mapped pt [] = refl
 any_mapped pt (RtpMap n value ∷ attrs) = ap (λ (b : Bool). n == pt || b) (any_mapped pt attrs)
 any_mapped pt (_ ∷ attrs) = any_mapped pt attrs

@@ -1,6 +1,9 @@
 -- What the types of a section of plain, distinct rows are mapped to: each row's in order, and no type that needs no line.
 use Rattle.str0m_formats.specs.declared.codec.Codec.TheVariants as codec
-use Rattle.str0m_sdp.proofs.Common.{◌≡◌, ◌==◌, ℕ, true, false, not, List, [], ◌∷◌, ◌++◌, Option, Some, nat_eq, refl, arith, AllByRecursion, flat_map, list_any, or_left, or_right, append-nil, list_any-append, format_of_fmtp, types_of, types, same_codec, has, AllDistinct, Codec, CodecSpec, FormatParam, PayloadParams, IsPlain, IsPlainG722, times-some, all_both}
+use Rattle.str0m_sdp.proofs.Common.{◌≡◌, ◌==◌, ℕ, true, false, not, List, [], ◌∷◌, ◌++◌, Option, Some, nat_eq, refl, arith, AllByRecursion}
+use Rattle.str0m_sdp.proofs.Common.{flat_map, list_any, or_left, or_right, append-nil, list_any-append, format_of_fmtp, types_of, types}
+use Rattle.str0m_sdp.proofs.Common.{same_codec, has, AllDistinct, Codec, CodecSpec, FormatParam, PayloadParams, IsPlain, IsPlainG722}
+use Rattle.str0m_sdp.proofs.Common.{times-some, all_both}
 use Rattle.str0m_sdp.proofs.section.MadeSectionFrame.{HasNoTypes, NameNoType}
 use Rattle.str0m_sdp.proofs.section.RowAttributesAnswers.{NamesItself, row_entries, rtx_entry, red_entry, flipped}
 use Rattle.str0m_sdp.proofs.section.RowAttributesQuestions.{attrs_of, mappings_are, maps_are}

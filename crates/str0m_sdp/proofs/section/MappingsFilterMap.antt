@@ -1,5 +1,7 @@
 -- Lists that are kept in part and mapped, one item more.
-use Rattle.str0m_sdp.proofs.Common.{arith, ◌≡◌, ◌<◌, ◌+◌, ◌++◌, ℕ, Bool, true, false, cond, List, [], ◌∷◌, length, take, get_or, Option, Some, All, IfSome, filter, filter_map, option_to_list, refl, sym, ap, ◌∙◌, cons_option, option_or, take_at_read, append-nil, filter_map-append, filter-append, All-nil, All-head, All-tail}
+use Rattle.str0m_sdp.proofs.Common.{arith, ◌≡◌, ◌<◌, ◌+◌, ◌++◌, ℕ, Bool, true, false, cond, List, [], ◌∷◌, length, take, get_or, Option}
+use Rattle.str0m_sdp.proofs.Common.{Some, All, IfSome, filter, filter_map, option_to_list, refl, sym, ap, ◌∙◌, cons_option, option_or}
+use Rattle.str0m_sdp.proofs.Common.{take_at_read, append-nil, filter_map-append, filter-append, All-nil, All-head, All-tail}
 use Rattle.str0m_sdp.specs.Common.{last}
 
 -- one item that is mapped
@@ -15,16 +17,19 @@ pub map_more : {X Y : Type 0} (f : X → Option Y) (xs : List X) (i : ℕ) (x : 
 map_more {X} {Y} f xs i x lt is = grind (arith, take_read xs i x lt is, filter_map-append f (take i xs) (x ∷ []), map_one f x (f x))
 
 -- an item that is kept
-pub kept_item : {X Y : Type 0} (p : X → Bool) (f : X → Option Y) (xs : List X) (i : ℕ) (x : X) → i < length xs → x ≡ get_or xs i x → p x ≡ true
+pub kept_item : {X Y : Type 0} (p : X → Bool) (f : X → Option Y) (xs : List X) (i : ℕ) (x : X) → i < length xs → x ≡ get_or xs i x
+    → p x ≡ true
     → filter_map f (filter p (take (i + 1) xs)) ≡ filter_map f (filter p (take i xs)) ++ option_to_list (f x)
 kept_item {X} {Y} p f xs i x lt is kept =
     ap (λ (ys : List X). filter_map f (filter p ys)) (take_read xs i x lt is)
-    ∙ ap (λ (ys : List X). filter_map f ys) (filter-append p (take i xs) (x ∷ []) ∙ ap (λ (b : Bool). filter p (take i xs) ++ cond b (x ∷ []) []) kept)
+    ∙ ap (λ (ys : List X). filter_map f ys) (filter-append p (take i xs) (x ∷ [])
+    ∙ ap (λ (b : Bool). filter p (take i xs) ++ cond b (x ∷ []) []) kept)
     ∙ filter_map-append f (filter p (take i xs)) (x ∷ [])
     ∙ ap (λ (ys : List Y). filter_map f (filter p (take i xs)) ++ ys) (map_one f x (f x) refl)
 
 -- one that isn't
-pub left_out : {X Y : Type 0} (p : X → Bool) (f : X → Option Y) (xs : List X) (i : ℕ) (x : X) → i < length xs → x ≡ get_or xs i x → p x ≡ false
+pub left_out : {X Y : Type 0} (p : X → Bool) (f : X → Option Y) (xs : List X) (i : ℕ) (x : X) → i < length xs → x ≡ get_or xs i x
+    → p x ≡ false
     → filter_map f (filter p (take (i + 1) xs)) ≡ filter_map f (filter p (take i xs))
 left_out {X} {Y} p f xs i x lt is fails =
     grind (arith, take_read xs i x lt is, filter-append p (take i xs) (x ∷ []), append-nil (filter p (take i xs)))

@@ -1,8 +1,12 @@
 -- What the lines of one row answer: to questions on its own types exactly its own, to those on other types nothing.
 use Rattle.str0m_formats.specs.declared.codec.Codec.TheVariants as codec
-use Rattle.str0m_sdp.proofs.Common.{arith, ◌≡◌, ◌==◌, ◌&&◌, ◌||◌, ℕ, Bool, true, false, List, [], ◌∷◌, ◌++◌, Option, Some, None, option_to_list, refl, sym, ap, ◌∙◌, AllByRecursion, list_any, ne_eqb, append-nil, list_any-append, when, has, types_of, rtp_rate, empty, Codec, CodecSpec, Apt, BarePtList, FormatParam, PayloadParams, bytes_eq, filter_map, eqb-false, all_both}
+use Rattle.str0m_sdp.proofs.Common.{arith, ◌≡◌, ◌==◌, ◌&&◌, ◌||◌, ℕ, Bool, true, false, List, [], ◌∷◌, ◌++◌, Option, Some, None}
+use Rattle.str0m_sdp.proofs.Common.{option_to_list, refl, sym, ap, ◌∙◌, AllByRecursion, list_any, ne_eqb, append-nil, list_any-append, when}
+use Rattle.str0m_sdp.proofs.Common.{has, types_of, rtp_rate, empty, Codec, CodecSpec, Apt, BarePtList, FormatParam, PayloadParams, bytes_eq}
+use Rattle.str0m_sdp.proofs.Common.{filter_map, eqb-false, all_both}
 use Rattle.str0m_sdp.proofs.section.MadeSectionFrame.{NameNoType, NamesNoType}
-use Rattle.str0m_sdp.proofs.section.RowAttributesReads.{fmtp_lines, red_reads, reads, each, all_feedback, all_fmtp, all_rtx, all_red, quiet, append_said, parts_said}
+use Rattle.str0m_sdp.proofs.section.RowAttributesReads.{fmtp_lines, red_reads, reads, each, all_feedback, all_fmtp, all_rtx, all_red, quiet}
+use Rattle.str0m_sdp.proofs.section.RowAttributesReads.{append_said, parts_said}
 use Rattle.str0m_sdp.proofs.section.SectionRowsApart.{self, pt_apart}
 use Rattle.str0m_sdp.proofs.section.SectionRowsParts.{always, none_passes, or_false, weaker}
 use Rattle.str0m_sdp.specs.attribute.Feedback.{is_feedback}
@@ -67,7 +71,8 @@ module _ (mapped : List (ℕ × CodecSpec)) (row : PayloadParams) where
       → filter_map (companion_in codec.Rtx mapped row.pt) (reads row vs) ≡ option_to_list row.resend
   rtx_own vs none is =
       parts_said (companion_in codec.Rtx mapped row.pt) row vs [] (option_to_list row.resend) [] refl (λ w. refl)
-      (quiet _ (fmtp_lines row.pt vs) (all_fmtp (λ a. companion_in codec.Rtx mapped row.pt a ≡ None) row vs (quiet_lines codec.Rtx row.pt vs none)))
+      (quiet _ (fmtp_lines row.pt vs)
+      (all_fmtp (λ a. companion_in codec.Rtx mapped row.pt a ≡ None) row vs (quiet_lines codec.Rtx row.pt vs none)))
       (go row.resend is)
       (quiet _ (red_reads row row.red)
       (all_red (λ a. companion_in codec.Rtx mapped row.pt a ≡ None) row row.red
@@ -83,7 +88,8 @@ module _ (mapped : List (ℕ × CodecSpec)) (row : PayloadParams) where
       → filter_map (companion_in codec.Red mapped row.pt) (reads row vs) ≡ option_to_list row.red
   red_own vs none is =
       parts_said (companion_in codec.Red mapped row.pt) row vs [] [] (option_to_list row.red) refl (λ w. refl)
-      (quiet _ (fmtp_lines row.pt vs) (all_fmtp (λ a. companion_in codec.Red mapped row.pt a ≡ None) row vs (quiet_lines codec.Red row.pt vs none)))
+      (quiet _ (fmtp_lines row.pt vs)
+      (all_fmtp (λ a. companion_in codec.Red mapped row.pt a ≡ None) row vs (quiet_lines codec.Red row.pt vs none)))
       (quiet _ (rtx_lines row row.resend)
       (all_rtx (λ a. companion_in codec.Red mapped row.pt a ≡ None) row row.resend
       (λ n e. (λ m. refl, unless_both (is_mapped_to codec.Red mapped n) _ n refl))))
@@ -129,7 +135,8 @@ feedback_own row vs words =
     quiet_rest : list_any (is_feedback row.pt words) rest ≡ false
     quiet_rest =
         none_passes (is_feedback row.pt words) rest
-        (all_both (λ a. is_feedback row.pt words a ≡ false) _ _ (all_fmtp (λ a. is_feedback row.pt words a ≡ false) row vs (always _ (λ v. refl) vs))
+        (all_both (λ a. is_feedback row.pt words a ≡ false) _ _
+        (all_fmtp (λ a. is_feedback row.pt words a ≡ false) row vs (always _ (λ v. refl) vs))
         (all_both (λ a. is_feedback row.pt words a ≡ false) _ _
         (all_rtx (λ a. is_feedback row.pt words a ≡ false) row row.resend (λ n e. (λ m. refl, refl)))
         (all_red (λ a. is_feedback row.pt words a ≡ false) row row.red (λ n e. (λ m. refl, refl)))))

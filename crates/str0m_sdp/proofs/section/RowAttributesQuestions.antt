@@ -1,13 +1,19 @@
 -- Asked of a frame without lines of types and the lines of all rows, each question on a row's type has that row's answer.
 use Rattle.str0m_formats.specs.declared.codec.Codec.TheVariants as codec
-use Rattle.str0m_sdp.proofs.Common.{◌≡◌, ◌==◌, ◌&&◌, ℕ, Bool, true, false, cond, List, [], ◌∷◌, ◌++◌, Option, Some, None, option_to_list, refl, ap, ◌∙◌, arith, AllByRecursion, flat_map, list_any, filter_map-append, times, AllDistinct, types_of, types, CodecSpec, FormatParam, PayloadParams, times-append, times-cons, Codec, count_by, filter_map}
+use Rattle.str0m_sdp.proofs.Common.{◌≡◌, ◌==◌, ◌&&◌, ℕ, Bool, true, false, cond, List, [], ◌∷◌, ◌++◌, Option, Some, None, option_to_list}
+use Rattle.str0m_sdp.proofs.Common.{refl, ap, ◌∙◌, arith, AllByRecursion, flat_map, list_any, filter_map-append, times, AllDistinct}
+use Rattle.str0m_sdp.proofs.Common.{types_of, types, CodecSpec, FormatParam, PayloadParams, times-append, times-cons, Codec, count_by}
+use Rattle.str0m_sdp.proofs.Common.{filter_map}
 use Rattle.str0m_sdp.proofs.section.FmtpLinesAnswers.{values_apart, values_own, apt_apart, apt_own}
-use Rattle.str0m_sdp.proofs.section.MadeSectionFrame.{HasNoTypes, NameNoType, frame_mapping, frame_maps, frame_feedback, frame_values, frame_apt, frame_companion}
-use Rattle.str0m_sdp.proofs.section.RowAttributesAnswers.{NamesItself, row_entries, and_false, none_with, rtx_own, red_own, feedback_apart, feedback_own, mapping_own}
+use Rattle.str0m_sdp.proofs.section.MadeSectionFrame.{HasNoTypes, NameNoType, frame_mapping, frame_maps, frame_feedback, frame_values}
+use Rattle.str0m_sdp.proofs.section.MadeSectionFrame.{frame_apt, frame_companion}
+use Rattle.str0m_sdp.proofs.section.RowAttributesAnswers.{NamesItself, row_entries, and_false, none_with, rtx_own, red_own, feedback_apart}
+use Rattle.str0m_sdp.proofs.section.RowAttributesAnswers.{feedback_own, mapping_own}
 use Rattle.str0m_sdp.proofs.section.RowAttributesReads.{reads, fmtp_lines, red_reads, quiet, all_feedback, all_fmtp}
 use Rattle.str0m_sdp.proofs.section.SectionRowsApart.{LacksType, Roles, unique, roles, row_distinct, has_pt, has_rtx, pt_apart}
 use Rattle.str0m_sdp.proofs.section.SectionRowsOwn.{AreOpen, own_said}
-use Rattle.str0m_sdp.proofs.section.SectionRowsParts.{always, or_false, weaker, together, taken_apart, none_passes, none_counted, count-append, own_holds, AllFail}
+use Rattle.str0m_sdp.proofs.section.SectionRowsParts.{always, or_false, weaker, together, taken_apart, none_passes, none_counted}
+use Rattle.str0m_sdp.proofs.section.SectionRowsParts.{count-append, own_holds, AllFail}
 use Rattle.str0m_sdp.specs.Common.{first, last}
 use Rattle.str0m_sdp.specs.attribute.Feedback.{is_feedback, has_feedback}
 use Rattle.str0m_sdp.specs.attribute.RtpMap.{map_of_spec}

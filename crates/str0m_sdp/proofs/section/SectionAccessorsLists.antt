@@ -1,5 +1,8 @@
 -- Laws on the first and the last of what items hold.
-use Rattle.str0m_sdp.proofs.Common.{◌≡◌, ℕ, suc, ◌<◌, ◌+◌, Bool, true, false, cond, not, List, [], ◌∷◌, ◌++◌, filter, filter_map, get_or, length, take, count_by, Option, Some, None, refl, sym, ap, ◌∙◌, arith, cons_option, position_or_len, is_some, option_or, ltb-true, lt-ltb, append-nil, take_more, filter_map-append, ltb, reverse, ◌↔◌, set, position, true≢false, reverse-append, length-filter}
+use Rattle.str0m_sdp.proofs.Common.{◌≡◌, ℕ, suc, ◌<◌, ◌+◌, Bool, true, false, cond, not, List, [], ◌∷◌, ◌++◌, filter, filter_map, get_or}
+use Rattle.str0m_sdp.proofs.Common.{length, take, count_by, Option, Some, None, refl, sym, ap, ◌∙◌, arith, cons_option, position_or_len}
+use Rattle.str0m_sdp.proofs.Common.{is_some, option_or, ltb-true, lt-ltb, append-nil, take_more, filter_map-append, ltb, reverse, ◌↔◌, set}
+use Rattle.str0m_sdp.proofs.Common.{position, true≢false, reverse-append, length-filter}
 use Rattle.str0m_sdp.specs.Common.{first, last}
 
 -- ---- from the end
@@ -31,7 +34,8 @@ item_more : {X Y : Type 0} (h : X → Option Y) (xs : List X) (i : ℕ) (x : X) 
 item_more h xs i x o lt is holds = grind (arith, take_more xs i x lt, filter_map-append h (take i xs) (get_or xs i x ∷ []))
 
 -- an item that holds something is passed, and one that holds nothing
-pub filter_map_more : {X Y : Type 0} (h : X → Option Y) (xs : List X) (i : ℕ) (x : X) (y : Y) → i < length xs → x ≡ get_or xs i x → Some y ≡ h x
+pub filter_map_more : {X Y : Type 0} (h : X → Option Y) (xs : List X) (i : ℕ) (x : X) (y : Y) → i < length xs → x ≡ get_or xs i x
+    → Some y ≡ h x
     → filter_map h (take (i + 1) xs) ≡ filter_map h (take i xs) ++ y ∷ []
 filter_map_more h xs i x y lt is holds = item_more h xs i x (Some y) lt is holds
 
@@ -60,7 +64,8 @@ module _ {X Y : Type 0} (h : X → Option Y) (p : X → Bool) (same : (x : X) �
       → first (filter_map h (set (x ∷ xs) (cond (not b) (1 + n) 0) y)) ≡ h y
   replaced x y true o n xs e is some lt rest = grind arith
   replaced x y false (Some d) n xs e is some lt rest = absurd (true≢false e)
-  replaced x y false None n xs e is some lt rest = ap (λ k. first (filter_map h (set (x ∷ xs) k y))) (let e : 1 + n ≡ suc n = omega arith in e) ∙ ap (λ o. first (cons_option o (filter_map h (set xs n y)))) is ∙ rest (omega arith)
+  replaced x y false None n xs e is some lt rest = ap (λ k. first (filter_map h (set (x ∷ xs) k y))) (let e : 1 + n ≡ suc n = omega arith in
+      e) ∙ ap (λ o. first (cons_option o (filter_map h (set xs n y)))) is ∙ rest (omega arith)
 
   -- what is put where the first item passes is the first
   pub first_set : (xs : List X) (y : X) → is_some (h y) ≡ true → position_or_len p xs < length xs
@@ -72,7 +77,8 @@ module _ {X Y : Type 0} (h : X → Option Y) (p : X → Bool) (same : (x : X) �
 pub first_within : {X : Type 0} (p : X → Bool) (xs : List X) → 0 < count_by p xs → position_or_len p xs < length xs
 first_within p xs lt = within p xs (omega (arith, length-filter p xs))
   where
-    step : {X : Type 0} (x : X) (b : Bool) (n : ℕ) (zs xs : List X) → (0 < length zs → n < length xs) → 0 < length (cond b (x ∷ zs) zs) → cond (not b) (1 + n) 0 < length (x ∷ xs)
+    step : {X : Type 0} (x : X) (b : Bool) (n : ℕ) (zs xs : List X) → (0 < length zs → n < length xs) → 0 < length (cond b (x ∷ zs) zs)
+        → cond (not b) (1 + n) 0 < length (x ∷ xs)
     step x true n zs xs rest lt = omega arith
     step x false n zs xs rest lt = omega (arith, rest lt)
 

@@ -16,7 +16,8 @@ mid_counted attrs = first_counted mid_of is_mid mid_is attrs
 pub direction_is : (attr : MediaAttribute) → is_some (direction_of attr) ≡ is_direction attr
 direction_is attr = grind arith
 
-pub direction_counted : (attrs : List MediaAttribute) → (is_some (first (filter_map direction_of attrs)) ≡ true) ↔ (0 < count_by is_direction attrs)
+pub direction_counted : (attrs : List MediaAttribute) → (is_some (first (filter_map direction_of attrs)) ≡ true)
+    ↔ (0 < count_by is_direction attrs)
 direction_counted attrs = first_counted direction_of is_direction direction_is attrs
 
 -- what is set is read back

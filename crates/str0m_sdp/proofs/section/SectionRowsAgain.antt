@@ -2,7 +2,11 @@
 use Rattle.str0m_formats.specs.declared.codec.Codec.TheVariants as codec
 use Rattle.str0m_formats.specs.round.Choices.{has_events}
 use Rattle.str0m_formats.specs.row.KindRows.{has_audio}
-use Rattle.str0m_sdp.proofs.Common.{arith, ◌≡◌, ◌≢◌, ◌&&◌, ◌||◌, ℕ, Bool, true, false, cond, List, [], ◌∷◌, ◌++◌, map, Option, Some, None, refl, sym, ap, ◌∙◌, subst, option_map, or_left, or_right, AllByRecursion, AllZip, flat_map, cons_option, filter_map-append, filter-append, content, events, other, format_of_fmtp, empty, types_of, types, SameRow, same_codec, has, AllDistinct, Codec, FormatParam, PayloadParams, IsPlain, ◌==◌, filter, filter_map, Content, audio, video, has_video}
+use Rattle.str0m_sdp.proofs.Common.{arith, ◌≡◌, ◌≢◌, ◌&&◌, ◌||◌, ℕ, Bool, true, false, cond, List, [], ◌∷◌, ◌++◌, map, Option, Some, None}
+use Rattle.str0m_sdp.proofs.Common.{refl, sym, ap, ◌∙◌, subst, option_map, or_left, or_right, AllByRecursion, AllZip, flat_map, cons_option}
+use Rattle.str0m_sdp.proofs.Common.{filter_map-append, filter-append, content, events, other, format_of_fmtp, empty, types_of, types}
+use Rattle.str0m_sdp.proofs.Common.{SameRow, same_codec, has, AllDistinct, Codec, FormatParam, PayloadParams, IsPlain, ◌==◌, filter}
+use Rattle.str0m_sdp.proofs.Common.{filter_map, Content, audio, video, has_video}
 use Rattle.str0m_sdp.proofs.section.MadeSectionFrame.{HasNoTypes, NameNoType}
 use Rattle.str0m_sdp.proofs.section.MappingsBack.{IsSaid, unlocked, section, mapped_is, mapped_among, entry_pt, entry_rtx, entry_red}
 use Rattle.str0m_sdp.proofs.section.RowAttributesAnswers.{row_entries, rtx_entry, red_entry}

@@ -1,6 +1,9 @@
 -- Where lines keep to their ranges, rows do.
 use Rattle.str0m_formats.specs.format.FormatParams.{set}
-use Rattle.str0m_sdp.proofs.Common.{rules, arith, ◌≡◌, ◌≤◌, ◌++◌, ℕ, Bool, cond, not, List, [], ◌∷◌, Option, Some, None, All, IfSome, filter, find, nat_eq, option_to_list, filter_map, All-nil, All-head, All-tail, IsBounded, static_spec, format_of_fmtp, empty, set_all, Codec, CodecSpec, FormatParam, FormatParams, nat_lt, option_map, All-append, All-filter, AreModes, IsDistance, events_end, is_event, kept, values_of, static_small}
+use Rattle.str0m_sdp.proofs.Common.{rules, arith, ◌≡◌, ◌≤◌, ◌++◌, ℕ, Bool, cond, not, List, [], ◌∷◌, Option, Some, None, All, IfSome}
+use Rattle.str0m_sdp.proofs.Common.{filter, find, nat_eq, option_to_list, filter_map, All-nil, All-head, All-tail, IsBounded, static_spec}
+use Rattle.str0m_sdp.proofs.Common.{format_of_fmtp, empty, set_all, Codec, CodecSpec, FormatParam, FormatParams, nat_lt, option_map}
+use Rattle.str0m_sdp.proofs.Common.{All-append, All-filter, AreModes, IsDistance, events_end, is_event, kept, values_of, static_small}
 use Rattle.str0m_sdp.proofs.section.MappingsFilterMap.{all_mapped, last_of_all}
 use Rattle.str0m_sdp.specs.Common.{distinct}
 use Rattle.str0m_sdp.specs.declared.attribute.MediaAttribute.{MediaAttribute}
@@ -24,7 +27,8 @@ set_within param p range within = grind arith
 all_within : (params : List FormatParam) (p : FormatParams) → All IsInBounds params → Within p → Within (set_all p params)
 all_within [] p ranges within = within
 all_within (param ∷ params) p ranges within =
-    all_within params (set param p) (All-tail IsInBounds param params ranges) (set_within param p (All-head IsInBounds param params ranges) within)
+    all_within params (set param p) (All-tail IsInBounds param params ranges)
+    (set_within param p (All-head IsInBounds param params ranges) within)
 
 values_within : (lines : List (List FormatParam)) → All (All IsInBounds) lines → All IsInBounds (values_of lines)
 values_within [] ranges = All-nil IsInBounds
@@ -51,10 +55,12 @@ lines_within attrs pt keeps = all_mapped KeepsToLine (All IsInBounds) (values_in
 
 -- ---- types
 
-companion_small_in : (codec : Codec) (types : List (ℕ × CodecSpec)) (pt : ℕ) (attr : MediaAttribute) → KeepsToLine attr → IfSome (companion_in codec types pt attr) IsType
+companion_small_in : (codec : Codec) (types : List (ℕ × CodecSpec)) (pt : ℕ) (attr : MediaAttribute) → KeepsToLine attr
+    → IfSome (companion_in codec types pt attr) IsType
 companion_small_in codec types pt attr keeps = grind arith
 
-companion_small : (codec : Codec) (types : List (ℕ × CodecSpec)) (attrs : List MediaAttribute) (pt : ℕ) → All KeepsToLine attrs → IfSome (companion codec types attrs pt) IsType
+companion_small : (codec : Codec) (types : List (ℕ × CodecSpec)) (attrs : List MediaAttribute) (pt : ℕ) → All KeepsToLine attrs
+    → IfSome (companion codec types attrs pt) IsType
 unfolding companion
 companion_small codec types attrs pt keeps = search (rules, last_of_all, all_mapped, companion_small_in)
 
@@ -64,7 +70,8 @@ small_if b o small = grind arith
 mapping_small : (attr : MediaAttribute) → KeepsToLine attr → IfSome (mapping attr) (λ type. IsType type.0)
 mapping_small attr keeps = grind arith
 
-small_static : (pt : ℕ) (o : Option CodecSpec) → static_spec pt ≡ o → IfSome {T = ℕ × CodecSpec} (option_map (λ spec. (pt, spec)) o) (λ type. IsType type.0)
+small_static : (pt : ℕ) (o : Option CodecSpec) → static_spec pt ≡ o
+    → IfSome {T = ℕ × CodecSpec} (option_map (λ spec. (pt, spec)) o) (λ type. IsType type.0)
 small_static pt o is = grind (arith, static_small)
 
 unless_mapped : {X : Type 0} (P : X → Type 0) (b : Bool) (o : Option X) → IfSome o P → IfSome (cond b None o) P
@@ -86,7 +93,8 @@ small_types : (pt : ℕ) (resend red : Option ℕ) → IsType pt → IfSome rese
     → find (nat_lt 127) (pt ∷ (option_to_list resend ++ option_to_list red)) ≡ None
 small_types pt resend red first second third = grind arith
 
-if_format : {X Y : Type 0} (P : X → Type 0) (Q : Y → Type 0) (f : X → Y) (o : Option X) → ((x : X) → P x → Q (f x)) → IfSome o P → IfSome (option_map f o) Q
+if_format : {X Y : Type 0} (P : X → Type 0) (Q : Y → Type 0) (f : X → Y) (o : Option X) → ((x : X) → P x → Q (f x)) → IfSome o P
+    → IfSome (option_map f o) Q
 if_format P Q f o each holds = grind arith
 
 row_bounded : (m : MediaLine) → KeepsToLines m → (type : ℕ × CodecSpec) → IsType type.0 → IfSome (row m type) IsBounded

@@ -1,7 +1,9 @@
 -- Laws of sources and their places.
 use Rattle.std.specs.BTreeMap.{Updates}
 use Rattle.std.specs.Map.{values_of}
-use Rattle.str0m_sdp.proofs.Common.{◌≡◌, ◌<◌, ◌++◌, ℕ, zero, suc, Bool, true, false, cond, nat_eq, List, [], ◌∷◌, length, get_or, Option, None, Some, refl, ap, ◌∙◌, arith, option_map, slice_get, slice_set, get, nat_eq_equiv, nat_cmp, insert_entry, eqb-true, unsigned_tied, get_or_from_slice_get, BTreeMap}
+use Rattle.str0m_sdp.proofs.Common.{◌≡◌, ◌<◌, ◌++◌, ℕ, zero, suc, Bool, true, false, cond, nat_eq, List, [], ◌∷◌, length, get_or, Option}
+use Rattle.str0m_sdp.proofs.Common.{None, Some, refl, ap, ◌∙◌, arith, option_map, slice_get, slice_set, get, nat_eq_equiv, nat_cmp}
+use Rattle.str0m_sdp.proofs.Common.{insert_entry, eqb-true, unsigned_tied, get_or_from_slice_get, BTreeMap}
 use Rattle.str0m_sdp.specs.declared.section.ssrc_info.SsrcInfo.{SsrcInfo}
 use Rattle.str0m_sdp.specs.section.Sources.{entries_of, place_in}
 use Rattle.str0m_sdp.specs.section.SsrcInfo.{empty_info}
@@ -80,7 +82,8 @@ source_put_last s (e ∷ es) new x same is = grind (arith, source_put_last s es 
 
 -- ---- where the sources stand then
 
-stays : (s : ℕ) (es : List SsrcInfo) (place : ℕ) (x : SsrcInfo) → x.ssrc ≡ s → IsSourcePlace s es place → (q : ℕ) → place_in q (slice_set es place x) ≡ place_in q es
+stays : (s : ℕ) (es : List SsrcInfo) (place : ℕ) (x : SsrcInfo) → x.ssrc ≡ s → IsSourcePlace s es place → (q : ℕ)
+    → place_in q (slice_set es place x) ≡ place_in q es
 stays s [] place x same is q = absurd is
 stays s (e ∷ es) zero x same is q = grind arith
 stays s (e ∷ es) (suc place) x same is q = grind (arith, stays s es place x same is.1 q)
@@ -107,19 +110,22 @@ module _ (s place : ℕ) (es : List SsrcInfo) (is : place_in s es ≡ Some place
   found_stays x same = stays s es place x same (first_source_place s es place is)
 
 -- one that joins the others
-module _ (s place : ℕ) (es more : List SsrcInfo) (new : SsrcInfo) (is : place_in s es ≡ None) (at : place ≡ length es) (last : more ≡ es ++ new ∷ []) where
+module _ (s place : ℕ) (es more : List SsrcInfo) (new : SsrcInfo) (is : place_in s es ≡ None) (at : place ≡ length es)
+    (last : more ≡ es ++ new ∷ []) where
   pub new_said : new ≡ empty_info s → slice_get more place ≡ Some (so_far (entries_of es) s)
   new_said empty = grind (arith, last_said, source_unsaid, absent)
 
   pub new_put : (x : SsrcInfo) → x.ssrc ≡ s → entries_of (slice_set more place x) ≡ insert_entry nat_eq (entries_of es) s x
   new_put x same = (λ i. entries_of (slice_set (last i) (at i) x)) ∙ source_put_last s es new x same (absent s es is)
 
-  pub new_place : (old placed : BTreeMap ℕ ℕ) (k : ℕ) → k ≡ s → Updates nat_cmp old placed k (Some place) → ((q : ℕ) → get nat_cmp old q ≡ place_in q es)
+  pub new_place : (old placed : BTreeMap ℕ ℕ) (k : ℕ) → k ≡ s → Updates nat_cmp old placed k (Some place)
+      → ((q : ℕ) → get nat_cmp old q ≡ place_in q es)
       → (x : SsrcInfo) → x.ssrc ≡ s → (q : ℕ) → get nat_cmp placed q ≡ place_in q (slice_set more place x)
   new_place old placed k key update places x same q = grind (arith, unsigned_tied, comes_last, absent)
 
 -- what is written at the place of a source follows from what was said of it
-pub written : (s place : ℕ) (es infos : List SsrcInfo) (x old : SsrcInfo) (f : SsrcInfo → SsrcInfo) → ((info : SsrcInfo) → (f info).ssrc ≡ info.ssrc)
+pub written : (s place : ℕ) (es infos : List SsrcInfo) (x old : SsrcInfo) (f : SsrcInfo → SsrcInfo)
+    → ((info : SsrcInfo) → (f info).ssrc ≡ info.ssrc)
     → slice_get infos place ≡ Some (so_far (entries_of es) s) → old ≡ get_or infos place old → x ≡ f old
     → (x ≡ f (so_far (entries_of es) s)) × (x.ssrc ≡ s)
 written s place es infos x old f keeps said here is = grind (arith, get_or_from_slice_get, source_said)

@@ -1,5 +1,6 @@
 -- Tables that mark types, one item more.
-use Rattle.str0m_sdp.proofs.Common.{arith, ◌≡◌, ◌<◌, ◌+◌, ◌==◌, ℕ, Bool, true, false, ◌&&◌, ◌||◌, List, length, take, get_or, sym, ap, ◌∙◌, list_any, cases_eq, eq-eqb, ne_eqb, or_right, get_or-set_same, get_or-set_other, set, list_any_more}
+use Rattle.str0m_sdp.proofs.Common.{arith, ◌≡◌, ◌<◌, ◌+◌, ◌==◌, ℕ, Bool, true, false, ◌&&◌, ◌||◌, List, length, take, get_or, sym, ap, ◌∙◌}
+use Rattle.str0m_sdp.proofs.Common.{list_any, cases_eq, eq-eqb, ne_eqb, or_right, get_or-set_same, get_or-set_other, set, list_any_more}
 use Rattle.str0m_sdp.proofs.section.SectionRowsParts.{or_false}
 
 pub and_when : (a b : Bool) → b ≡ true → (a && b) ≡ a

@@ -1,5 +1,7 @@
 -- Keys of candidates tell apart what `==` of candidates does.
-use Rattle.str0m_sdp.proofs.Common.{arith, ◌≡◌, ◌&&◌, ◌||◌, ◌++◌, ℕ, Bool, true, false, cond, nat_eq, List, [], ◌∷◌, map, Option, sym, ap, ◌∙◌, option_map, Bor, BTreeSet, Updates, contains, decided, list_any, option_eq, map-append, list_any-append, sameb, IpAddr, SocketAddr, Candidate, is_eq}
+use Rattle.str0m_sdp.proofs.Common.{arith, ◌≡◌, ◌&&◌, ◌||◌, ◌++◌, ℕ, Bool, true, false, cond, nat_eq, List, [], ◌∷◌, map, Option, sym, ap}
+use Rattle.str0m_sdp.proofs.Common.{◌∙◌, option_map, Bor, BTreeSet, Updates, contains, decided, list_any, option_eq, map-append}
+use Rattle.str0m_sdp.proofs.Common.{list_any-append, sameb, IpAddr, SocketAddr, Candidate, is_eq}
 use Rattle.str0m_sdp.proofs.session.CandidateEqual.{candidate_Decides}
 use Rattle.str0m_sdp.specs.contracts.session.candidate_key.CandidateKeyOrd.TheImpl as order
 use Rattle.str0m_sdp.specs.contracts.session.candidate_key.CandidateKeyOrd.TheImpl.Laws as laws
@@ -64,8 +66,10 @@ either_last s t = grind arith
 -- a candidate after those that were seen, and its key among theirs
 pub seen_more : (old new : BTreeSet CandidateKey) (once pushed : List (Bor Candidate)) (c : Bor Candidate) (k : CandidateKey)
     → IsKeyOf c.now k → Updates order.cmp-value.it old new k true → pushed ≡ once ++ c ∷ []
-    → ((d : Candidate) (q : CandidateKey) → IsKeyOf d q → contains order.cmp-value.it old q ≡ list_any (same_candidate d) (map (λ x. x.now) once))
-    → (d : Candidate) (q : CandidateKey) → IsKeyOf d q → contains order.cmp-value.it new q ≡ list_any (same_candidate d) (map (λ x. x.now) pushed)
+    → ((d : Candidate) (q : CandidateKey) → IsKeyOf d q → contains order.cmp-value.it old q
+    ≡ list_any (same_candidate d) (map (λ x. x.now) once))
+    → (d : Candidate) (q : CandidateKey) → IsKeyOf d q → contains order.cmp-value.it new q
+    ≡ list_any (same_candidate d) (map (λ x. x.now) pushed)
 seen_more old new once pushed c k is more last seen d q of =
     let cs = map (λ (x : Bor Candidate). x.now) once in
     more.0 q

@@ -4,7 +4,10 @@ use Rattle.std.proofs.lemmas.Map.Keys.{apart_from_distinct}
 use Rattle.std.proofs.lemmas.Map.Steps.{list_any_congr}
 use Rattle.std.proofs.lemmas.Map.Views.{list_any-from_Contains}
 use Rattle.std.specs.List.{IsDistinct}
-use Rattle.str0m_sdp.proofs.Common.{arith, ◌≡◌, ◌≤◌, ◌||◌, ℕ, Bool, true, false, cond, not, List, [], ◌∷◌, ◌++◌, length, drop, refl, sym, ap, ◌∙◌, append_assoc, true≢false, Decides, decided, list_any, flat_map, AllByRecursion, append-nil, drop_all, filter-append, list_any-append, insert_key, insert_all, IsEquivalence, AllPairs, Contains, filter}
+use Rattle.str0m_sdp.proofs.Common.{arith, ◌≡◌, ◌≤◌, ◌||◌, ℕ, Bool, true, false, cond, not, List, [], ◌∷◌, ◌++◌, length, drop, refl, sym}
+use Rattle.str0m_sdp.proofs.Common.{ap, ◌∙◌, append_assoc, true≢false, Decides, decided, list_any, flat_map, AllByRecursion, append-nil}
+use Rattle.str0m_sdp.proofs.Common.{drop_all, filter-append, list_any-append, insert_key, insert_all, IsEquivalence, AllPairs, Contains}
+use Rattle.str0m_sdp.proofs.Common.{filter}
 use Rattle.str0m_sdp.proofs.section.SectionRowsParts.{all-filter}
 use Rattle.str0m_sdp.specs.Common.{distinct}
 use Rattle.str0m_sdp.specs.session.DistinctCandidates.{IsEachOnce}
@@ -62,11 +65,21 @@ module _ {X : Type 0} (same : X → X → Bool) (laws : IsEquivalence same) wher
   pub distinct-apart : (xs : List X) → IsDistinct same (distinct same xs)
   unfolding IsDistinct
   distinct-apart [] = tt
-  distinct-apart (x ∷ xs) = (others-apart x (distinct same xs), distinct-filter (λ y. not (same x y)) (distinct same xs) (distinct-apart xs))
+  distinct-apart (x ∷ xs) = (
+    others-apart x (distinct same xs),
+    distinct-filter (λ y. not (same x y)) (distinct same xs) (distinct-apart xs),
+  )
 
 -- where the test decides equality, `distinct` keeps each value once and no others
-pub each_once : {X : Type 0} (same : X → X → Bool) → ((x y : X) → Decides (same x y) (x ≡ y)) → (xs : List X) → IsEachOnce xs (distinct same xs)
-each_once {X} same decides xs = record { apart = apart; same_values = λ x. (λ h. among x xs (sym (any-distinct same laws x xs) ∙ found x _ h), λ h. among x _ (any-distinct same laws x xs ∙ found x xs h)) }
+pub each_once : {X : Type 0} (same : X → X → Bool) → ((x y : X) → Decides (same x y) (x ≡ y)) → (xs : List X)
+    → IsEachOnce xs (distinct same xs)
+each_once {X} same decides xs = record {
+  apart = apart;
+  same_values = λ x. (
+    λ h. among x xs (sym (any-distinct same laws x xs) ∙ found x _ h),
+    λ h. among x _ (any-distinct same laws x xs ∙ found x xs h),
+  );
+}
   where
     laws : IsEquivalence same
     laws = decided same decides
@@ -78,17 +91,20 @@ each_once {X} same decides xs = record { apart = apart; same_values = λ x. (λ 
     among x ys h = Contains-list_any same (λ a b. (decides a b).0) ys x h
 
     apart : AllPairs (λ x y. x ≡ y → ⊥) (distinct same xs)
-    apart i j d before inside equal = true≢false (sym ((decides _ _).1 equal) ∙ apart_from_distinct same (distinct same xs) i j d (distinct-apart same laws xs) before inside)
+    apart i j d before inside equal = true≢false (sym ((decides _ _).1 equal)
+        ∙ apart_from_distinct same (distinct same xs) i j d (distinct-apart same laws xs) before inside)
 
 -- ---- one after another
 
 module _ {X : Type 0} (same : X → X → Bool) where
   -- one of the values that are still to be put in
-  pub one_put : (old new : List X) (x : X) (left rest : List X) → new ≡ insert_key same old x → left ≡ x ∷ rest → insert_all same new rest ≡ insert_all same old left
+  pub one_put : (old new : List X) (x : X) (left rest : List X) → new ≡ insert_key same old x → left ≡ x ∷ rest
+      → insert_all same new rest ≡ insert_all same old left
   one_put old new x left rest put next = ap (λ l. insert_all same l rest) put ∙ sym (ap (insert_all same old) next)
 
   -- once every value is put in, those that are there are each of them, once
-  pub all_put : {A : Type 0} → IsEquivalence same → (values : A → List X) (owners : List A) (i : ℕ) (keys given all : List X) → length owners ≤ i → given ≡ keys
+  pub all_put : {A : Type 0} → IsEquivalence same → (values : A → List X) (owners : List A) (i : ℕ) (keys given all : List X)
+      → length owners ≤ i → given ≡ keys
       → insert_all same keys (flat_map values (drop i owners)) ≡ insert_all same [] all → given ≡ distinct same all
   all_put laws values owners i keys given all past is put =
       is ∙ sym (ap (λ l. insert_all same keys (flat_map values l)) (drop_all i owners past)) ∙ put ∙ inserted-distinct same laws all
@@ -96,7 +112,8 @@ module _ {X : Type 0} (same : X → X → Bool) where
 -- ---- one item more
 
 -- one item under a test that is known of it
-one_kept : {X : Type 0} (test : X → Bool) (x : X) (s b : Bool) → test x ≡ not s → filter test (cond b [] (x ∷ [])) ≡ cond (s || b) [] (x ∷ [])
+one_kept : {X : Type 0} (test : X → Bool) (x : X) (s b : Bool) → test x ≡ not s
+    → filter test (cond b [] (x ∷ [])) ≡ cond (s || b) [] (x ∷ [])
 one_kept test x s b is = grind arith
 
 -- one item more stands after the others, unless it is the same as one of them

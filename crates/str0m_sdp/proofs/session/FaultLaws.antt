@@ -1,5 +1,8 @@
 -- Laws of the first fault of a section: there is none where the section is consistent, and only there.
-use Rattle.str0m_sdp.proofs.Common.{◌≡◌, ℕ, ◌<◌, ◌≤◌, Bool, true, false, not, List, [], ◌∷◌, Option, Some, None, length, filter_map, count_by, All, refl, arith, ◌↔◌, nat_lt, AllByRecursion, cons_option, ne_eqb, lt-ltb, All-from_recursion, recursion_from_All, FormatParam, ◌<|>◌, when, ◌⊎◌, ◌==◌, ◌&&◌, ◌≢◌, is_some, Ok, Err, IfSome, cases_lt, needs_none}
+use Rattle.str0m_sdp.proofs.Common.{◌≡◌, ℕ, ◌<◌, ◌≤◌, Bool, true, false, not, List, [], ◌∷◌, Option, Some, None, length, filter_map}
+use Rattle.str0m_sdp.proofs.Common.{count_by, All, refl, arith, ◌↔◌, nat_lt, AllByRecursion, cons_option, ne_eqb, lt-ltb}
+use Rattle.str0m_sdp.proofs.Common.{All-from_recursion, recursion_from_All, FormatParam, ◌<|>◌, when, ◌⊎◌, ◌==◌, ◌&&◌, ◌≢◌, is_some, Ok}
+use Rattle.str0m_sdp.proofs.Common.{Err, IfSome, cases_lt, needs_none}
 use Rattle.str0m_sdp.proofs.section.SectionDirectionHolders.{mid_counted}
 use Rattle.str0m_sdp.specs.Common.{first}
 use Rattle.str0m_sdp.specs.declared.attribute.MediaAttribute.{MediaAttribute}
@@ -8,8 +11,10 @@ use Rattle.str0m_sdp.specs.declared.attribute.proto.Proto.TheVariants.{Srtp, Sct
 use Rattle.str0m_sdp.specs.declared.section.media_line.MediaLine.{MediaLine}
 use Rattle.str0m_sdp.specs.declared.session.fault.Fault.{Fault}
 use Rattle.str0m_sdp.specs.declared.session.fault.Fault.TheVariants.{SecondSetup}
-use Rattle.str0m_sdp.specs.section.Consistency.{Consistent, NeedsNoMapping, NamesNoOther, AgreesOnApt, IsMapped, FitsProto, apt_of, is_direction, is_mid, is_setup, maps as maps_to, mid_of}
-use Rattle.str0m_sdp.specs.session.Fault.{after_mid, apt_fault, clash, err_if, fault_beside, first_fault, map_fault, mapping_fault, one_mid, proto_fault, setup_fault, value_fault, values_fault}
+use Rattle.str0m_sdp.specs.section.Consistency.{Consistent, NeedsNoMapping, NamesNoOther, AgreesOnApt, IsMapped, FitsProto, apt_of}
+use Rattle.str0m_sdp.specs.section.Consistency.{is_direction, is_mid, is_setup, maps as maps_to, mid_of}
+use Rattle.str0m_sdp.specs.session.Fault.{after_mid, apt_fault, clash, err_if, fault_beside, first_fault, map_fault, mapping_fault, one_mid}
+use Rattle.str0m_sdp.specs.session.Fault.{proto_fault, setup_fault, value_fault, values_fault}
 
 -- ---- the first of several
 

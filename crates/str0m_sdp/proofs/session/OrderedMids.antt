@@ -1,7 +1,9 @@
 -- Laws of mids in the order of their bytes.
 use Rattle.std.proofs.Math.Bool.{or_comm}
 use Rattle.std.proofs.lemmas.Map.Text.{is_eq-slice_cmp}
-use Rattle.str0m_sdp.proofs.Common.{arith, ◌≡◌, ◌<◌, ◌+◌, ◌++◌, ◌||◌, not, cond, ℕ, Bool, true, false, List, [], ◌∷◌, length, take, get_or, Option, Some, None, append_assoc, filter_map, refl, sym, ap, ◌∙◌, Bor, BTreeSet, Updates, contains, cons_option, nat_cmp, bytes_eq, ◌<|>◌, when, slice_cmp}
+use Rattle.str0m_sdp.proofs.Common.{arith, ◌≡◌, ◌<◌, ◌+◌, ◌++◌, ◌||◌, not, cond, ℕ, Bool, true, false, List, [], ◌∷◌, length, take, get_or}
+use Rattle.str0m_sdp.proofs.Common.{Option, Some, None, append_assoc, filter_map, refl, sym, ap, ◌∙◌, Bor, BTreeSet, Updates, contains}
+use Rattle.str0m_sdp.proofs.Common.{cons_option, nat_cmp, bytes_eq, ◌<|>◌, when, slice_cmp}
 use Rattle.str0m_sdp.proofs.section.TypeTablesMarks.{any_more}
 use Rattle.str0m_sdp.specs.declared.section.media_line.MediaLine.{MediaLine}
 use Rattle.str0m_sdp.specs.session.OrderedMids.{Holds, is_held, part_mid}
@@ -31,7 +33,8 @@ holds_before old new name mid mids same more holds (Some q) =
     held_more old new name mid same more q ∙ ap (λ (b : Bool). bytes_eq mid q || b) (holds (Some q))
 
 -- one after them
-pub holds_behind : (old new : BTreeSet (Bor (List ℕ))) (name : Bor (List ℕ)) (mid : List ℕ) (mids : List (List ℕ)) (i : ℕ) → i < length mids → mid ≡ get_or mids i mid → name.now ≡ mid
+pub holds_behind : (old new : BTreeSet (Bor (List ℕ))) (name : Bor (List ℕ)) (mid : List ℕ) (mids : List (List ℕ)) (i : ℕ) → i < length mids
+    → mid ≡ get_or mids i mid → name.now ≡ mid
     → Updates (λ x y. slice_cmp nat_cmp x.now y.now) old new name true → Holds old (take i mids) → Holds new (take (i + 1) mids)
 holds_behind old new name mid mids i lt is same more holds None = refl
 holds_behind old new name mid mids i lt is same more holds (Some q) =
@@ -42,7 +45,8 @@ holds_behind old new name mid mids i lt is same more holds (Some q) =
 
 -- ---- the first that stands again
 
-pub whole_before : (whole left before passed : List (List ℕ)) (mid : List ℕ) → whole ≡ left ++ passed → left ≡ before ++ mid ∷ [] → whole ≡ before ++ (mid ∷ passed)
+pub whole_before : (whole left before passed : List (List ℕ)) (mid : List ℕ) → whole ≡ left ++ passed → left ≡ before ++ mid ∷ []
+    → whole ≡ before ++ (mid ∷ passed)
 whole_before whole left before passed mid all last = grind (arith, append_assoc)
 
 was_there : (added there : Bool) → added ≡ not there → added ≡ false → there ≡ true
@@ -57,16 +61,19 @@ pub found_here : (names : BTreeSet (Bor (List ℕ))) (name : Bor (List ℕ)) (mi
     → Some mid ≡ first_again (mid ∷ mids)
 found_here names name mid mids added same holds told test =
     let listed : is_listed mids (Some mid) ≡ true =
-    ap (λ (text : List ℕ). is_listed mids (Some text)) (sym same) ∙ sym (holds (Some name.now)) ∙ was_there added (is_held names (Some name.now)) told test in
+    ap (λ (text : List ℕ). is_listed mids (Some text)) (sym same) ∙ sym (holds (Some name.now))
+    ∙ was_there added (is_held names (Some name.now)) told test in
     sym (ap (λ (b : Bool). when b mid <|> first_again mids) listed)
 
 -- one that was new doesn't
-pub found_later : (names : BTreeSet (Bor (List ℕ))) (name : Bor (List ℕ)) (mid : List ℕ) (mids : List (List ℕ)) (added : Bool) (found : Option (List ℕ))
+pub found_later : (names : BTreeSet (Bor (List ℕ))) (name : Bor (List ℕ)) (mid : List ℕ) (mids : List (List ℕ)) (added : Bool)
+    (found : Option (List ℕ))
     → name.now ≡ mid → Holds names mids → added ≡ not (contains (λ x y. slice_cmp nat_cmp x.now y.now) names name) → added ≡ true
     → found ≡ first_again mids → found ≡ first_again (mid ∷ mids)
 found_later names name mid mids added found same holds told test so_far =
     let unlisted : is_listed mids (Some mid) ≡ false =
-    ap (λ (text : List ℕ). is_listed mids (Some text)) (sym same) ∙ sym (holds (Some name.now)) ∙ was_new added (is_held names (Some name.now)) told test in
+    ap (λ (text : List ℕ). is_listed mids (Some text)) (sym same) ∙ sym (holds (Some name.now))
+    ∙ was_new added (is_held names (Some name.now)) told test in
     so_far ∙ sym (ap (λ (b : Bool). when b mid <|> first_again mids) unlisted)
 
 -- ---- the sections that take part

@@ -1,5 +1,6 @@
 -- Laws of the first fault of a session: there is none where the session is consistent, and only there.
-use Rattle.str0m_sdp.proofs.Common.{◌≡◌, ℕ, List, [], ◌∷◌, Option, Some, None, All, arith, refl, ◌↔◌, cases_eq, eq-eqb, ne_eqb, MatchOption, option_map}
+use Rattle.str0m_sdp.proofs.Common.{◌≡◌, ℕ, List, [], ◌∷◌, Option, Some, None, All, arith, refl, ◌↔◌, cases_eq, eq-eqb, ne_eqb, MatchOption}
+use Rattle.str0m_sdp.proofs.Common.{option_map}
 use Rattle.str0m_sdp.proofs.session.FaultLaws.{no_fault, none_among, none_first, or_none}
 use Rattle.str0m_sdp.proofs.session.SessionLaws.{again, mids_apart, same_from_none, none_from_same}
 use Rattle.str0m_sdp.specs.declared.section.media_line.MediaLine.{MediaLine}
@@ -8,7 +9,8 @@ use Rattle.str0m_sdp.specs.declared.session.fault.SessionFault.{SessionFault}
 use Rattle.str0m_sdp.specs.section.Consistency.{Consistent}
 use Rattle.str0m_sdp.specs.session.Fault.{fault_text, first_fault, section_message}
 use Rattle.str0m_sdp.specs.session.SessionConsistency.{AreDistinct, ConsistentSdp, IsGrouped, mids_in_part, section_mids}
-use Rattle.str0m_sdp.specs.session.SessionFault.{first_again, first_difference, first_session_fault, group_fault, listing_fault, sections_message}
+use Rattle.str0m_sdp.specs.session.SessionFault.{first_again, first_difference, first_session_fault, group_fault, listing_fault}
+use Rattle.str0m_sdp.specs.session.SessionFault.{sections_message}
 
 mapped_none : {A B : Type 0} (f : A → B) (o : Option A) → (option_map f o ≡ None) ↔ (o ≡ None)
 mapped_none f o = grind arith

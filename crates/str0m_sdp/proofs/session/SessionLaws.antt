@@ -1,7 +1,8 @@
 -- Laws of mids that differ, and of lists that don't.
 use Rattle.std.proofs.lemmas.List.Kept.{AllPairs-cons}
 use Rattle.std.proofs.lemmas.Slice.Eq.{bytes_eq-Decides}
-use Rattle.str0m_sdp.proofs.Common.{◌≡◌, ◌≢◌, ℕ, suc, true, false, not, List, [], ◌∷◌, length, get_or, find, Some, None, refl, sym, ◌∙◌, arith, ◌↔◌, bytes_eq, false≢true, zip, Any-from_list_any, list_any_at}
+use Rattle.str0m_sdp.proofs.Common.{◌≡◌, ◌≢◌, ℕ, suc, true, false, not, List, [], ◌∷◌, length, get_or, find, Some, None, refl, sym, ◌∙◌}
+use Rattle.str0m_sdp.proofs.Common.{arith, ◌↔◌, bytes_eq, false≢true, zip, Any-from_list_any, list_any_at}
 use Rattle.str0m_sdp.specs.session.SessionConsistency.{AreDistinct, is_listed}
 
 -- ---- mids that differ
@@ -15,14 +16,16 @@ again mid mids listed distinct =
 pub mids_apart : (mid : List ℕ) (mids : List (List ℕ)) → is_listed mids (Some mid) ≡ false → AreDistinct mids ↔ AreDistinct (mid ∷ mids)
 mids_apart mid mids unlisted = (
   (λ distinct. AllPairs-cons (λ (a b : List ℕ). a ≢ b) mid mids
-      (λ k d lt same. false≢true (sym unlisted ∙ list_any_at (λ other. bytes_eq other mid) mids k d lt ((bytes_eq-Decides (get_or mids k d) mid).1 (sym same))))
+      (λ k d lt same. false≢true (sym unlisted ∙ list_any_at (λ other. bytes_eq other mid) mids k d lt
+      ((bytes_eq-Decides (get_or mids k d) mid).1 (sym same))))
       distinct),
   λ distinct i j d lt within. distinct (suc i) (suc j) d (omega arith) (omega arith),
 )
 
 -- ---- two lists, place by place
 
-pub same_from_none : (xs ys : List (List ℕ)) → length xs ≡ length ys → find (λ pair. not (bytes_eq pair.0 pair.1)) (zip xs ys) ≡ None → xs ≡ ys
+pub same_from_none : (xs ys : List (List ℕ)) → length xs ≡ length ys → find (λ pair. not (bytes_eq pair.0 pair.1)) (zip xs ys) ≡ None
+    → xs ≡ ys
 same_from_none [] [] long none = refl
 same_from_none [] (y ∷ ys) long none = absurd (omega arith)
 same_from_none (x ∷ xs) [] long none = absurd (omega arith)

@@ -1,6 +1,8 @@
 -- The lines of plain rows, whose numbers keep to their types' ranges, read as values that say the rows' formats again.
 use Rattle.str0m_formats.specs.declared.codec.Codec.TheVariants as codec
-use Rattle.str0m_signal.proofs.Common.{◌≡◌, ◌≢◌, ◌≤◌, ℕ, List, [], ◌∷◌, ◌++◌, IfSome, refl, sym, ◌∙◌, arith, AllByRecursion, HoldsRowNumbers, telephone_max, types_of, types, Codec, PayloadParams, values_printed, reads, row_attrs, IsPlain, content, other, AllSmall, values_read, format_line_printed, printed_pairs}
+use Rattle.str0m_signal.proofs.Common.{◌≡◌, ◌≢◌, ◌≤◌, ℕ, List, [], ◌∷◌, ◌++◌, IfSome, refl, sym, ◌∙◌, arith, AllByRecursion}
+use Rattle.str0m_signal.proofs.Common.{HoldsRowNumbers, telephone_max, types_of, types, Codec, PayloadParams, values_printed, reads}
+use Rattle.str0m_signal.proofs.Common.{row_attrs, IsPlain, content, other, AllSmall, values_read, format_line_printed, printed_pairs}
 use Rattle.str0m_signal.proofs.back.ReadBackRowLines.{ReadAs, IsRateInRange, KeepsToRow, events_read, pairs_row_read}
 use Rattle.str0m_signal.proofs.session.SectionLines.{AreTypes}
 

@@ -1,6 +1,8 @@
 -- The last part of the headline: plain, distinct rows, printed in a writable session, are read back, in order.
 use Rattle.str0m_sdp.proofs.{DescribesRows}
-use Rattle.str0m_signal.proofs.Common.{rules, ◌≡◌, ◌≢◌, ◌<◌, ◌^◌, ℕ, true, List, [], ◌∷◌, length, refl, sym, ◌∙◌, subst, recursion_from_All, same_Some, HoldsRowNumbers, types, AllDistinct, PayloadParams, is_media, MediaLine, Sdp, values_printed, IsPlain, All, describes_read_back}
+use Rattle.str0m_signal.proofs.Common.{rules, ◌≡◌, ◌≢◌, ◌<◌, ◌^◌, ℕ, true, List, [], ◌∷◌, length, refl, sym, ◌∙◌, subst, recursion_from_All}
+use Rattle.str0m_signal.proofs.Common.{same_Some, HoldsRowNumbers, types, AllDistinct, PayloadParams, is_media, MediaLine, Sdp}
+use Rattle.str0m_signal.proofs.Common.{values_printed, IsPlain, All, describes_read_back}
 use Rattle.str0m_signal.proofs.back.ReadBackPlainRows.{types_fit, plain_rows_read}
 use Rattle.str0m_signal.proofs.back.ReadBackWithRows.{section_read, ReadWithRows, with_rows_read}
 use Rattle.str0m_signal.proofs.back.WritableAgainLaws.{read_is_writable}

@@ -1,6 +1,9 @@
 -- A writable session with rows in the place of a section: its text has a reading with nothing left, and that section is read as the
 -- frame with the lines of the rows.
-use Rattle.str0m_signal.proofs.Common.{◌≡◌, ◌≢◌, ◌<◌, ◌^◌, inl, inr, ℕ, zero, suc, true, List, [], ◌∷◌, ◌++◌, Some, refl, arith, AllByRecursion, flat_map, slice_get, types, FormatParam, PayloadParams, session_attribute_text, Consistent, is_media, row_attrs, is_of_type, sdp_text, MediaLine, Sdp, reads, slice_set, not, filter, made}
+use Rattle.str0m_signal.proofs.Common.{◌≡◌, ◌≢◌, ◌<◌, ◌^◌, inl, inr, ℕ, zero, suc, true, List, [], ◌∷◌, ◌++◌, Some, refl, arith}
+use Rattle.str0m_signal.proofs.Common.{AllByRecursion, flat_map, slice_get, types, FormatParam, PayloadParams, session_attribute_text}
+use Rattle.str0m_signal.proofs.Common.{Consistent, is_media, row_attrs, is_of_type, sdp_text, MediaLine, Sdp, reads, slice_set, not, filter}
+use Rattle.str0m_signal.proofs.Common.{made}
 use Rattle.str0m_signal.proofs.back.ReadBackRowLines.{ReadAs, joins, rows_read}
 use Rattle.str0m_signal.proofs.session.AttributesPrinted.{LinesReadAs}
 use Rattle.str0m_signal.proofs.session.ReaderPrinted.{read_of, reading_printed}

@@ -1,8 +1,11 @@
 -- A session that was read is writable where it may be printed again.
-use Rattle.str0m_signal.proofs.Common.{rules, arith, ◌≡◌, ℕ, zero, suc, not, List, [], ◌∷◌, filter, Some, IfSome, refl, subst, inl, inr, codes, AllByRecursion, slice_get, cases_Bool, some_is, session_attribute_text, Consistent, is_of_type, MediaAttribute, SessionAttribute, MediaLine, Srtp, Sdp}
+use Rattle.str0m_signal.proofs.Common.{rules, arith, ◌≡◌, ℕ, zero, suc, not, List, [], ◌∷◌, filter, Some, IfSome, refl, subst, inl, inr}
+use Rattle.str0m_signal.proofs.Common.{codes, AllByRecursion, slice_get, cases_Bool, some_is, session_attribute_text, Consistent}
+use Rattle.str0m_signal.proofs.Common.{is_of_type, MediaAttribute, SessionAttribute, MediaLine, Srtp, Sdp}
 use Rattle.str0m_signal.proofs.form.MediaAttributeAgain.{ComesBack, media_again}
 use Rattle.str0m_signal.proofs.form.SessionAttributeAgain.{session_again}
-use Rattle.str0m_signal.proofs.line.LinesAgain.{IsFine, IsOnLine, one_line, chain_lines, taken_line, behind_is, bandwidth_again, head_of, head_again}
+use Rattle.str0m_signal.proofs.line.LinesAgain.{IsFine, IsOnLine, one_line, chain_lines, taken_line, behind_is, bandwidth_again, head_of}
+use Rattle.str0m_signal.proofs.line.LinesAgain.{head_again}
 use Rattle.str0m_signal.proofs.line.WordsCharacterStarts.{StartsWithin, of_utf8}
 use Rattle.str0m_signal.proofs.session.SectionAgain.{are_again, consistent_again, frame_again}
 use Rattle.str0m_signal.specs.back.Writable.{AreReadAs, SessionGoesWith, IsMediaReadAs, IsFrame, Writable, frame_of}

@@ -1,8 +1,13 @@
 -- When a session is writable, by what its parts come back as.
 use Rattle.std.proofs.lemmas.List.Folds.{list_any_at, list_any_none}
 use Rattle.str0m_sdp.proofs.{frame_agrees}
-use Rattle.str0m_signal.proofs.Common.{◌≡◌, ◌≢◌, ◌<◌, ◌≤◌, ◌+◌, ℕ, Bool, true, false, not, List, [], length, get_or, Option, Some, None, IfSome, refl, sym, ap, ◌∙◌, true≢false, ◌↔◌, IsTrue, list_any, slice_get, cases_Bool, cases_lt, none-some, same_Some, slice_get_read, IsTheOnly, session_attribute_text, bandwidth_text, Consistent, is_of_type, MediaAttribute, SessionAttribute, Bandwidth, MediaLine, Sdp, Srtp, arith, is_some, All, slice_get_within, NoneIff}
-use Rattle.str0m_signal.specs.back.Writable.{AreReadAs, HasTypes, IsFrame, IsPrintedAs, IsMediaReadAs, MediaAreReadAs, SessionGoesWith, Writable, frame_of}
+use Rattle.str0m_signal.proofs.Common.{◌≡◌, ◌≢◌, ◌<◌, ◌≤◌, ◌+◌, ℕ, Bool, true, false, not, List, [], length, get_or, Option, Some, None}
+use Rattle.str0m_signal.proofs.Common.{IfSome, refl, sym, ap, ◌∙◌, true≢false, ◌↔◌, IsTrue, list_any, slice_get, cases_Bool, cases_lt}
+use Rattle.str0m_signal.proofs.Common.{none-some, same_Some, slice_get_read, IsTheOnly, session_attribute_text, bandwidth_text, Consistent}
+use Rattle.str0m_signal.proofs.Common.{is_of_type, MediaAttribute, SessionAttribute, Bandwidth, MediaLine, Sdp, Srtp, arith, is_some, All}
+use Rattle.str0m_signal.proofs.Common.{slice_get_within, NoneIff}
+use Rattle.str0m_signal.specs.back.Writable.{AreReadAs, HasTypes, IsFrame, IsPrintedAs, IsMediaReadAs, MediaAreReadAs, SessionGoesWith}
+use Rattle.str0m_signal.specs.back.Writable.{Writable, frame_of}
 use Rattle.str0m_signal.specs.form.SessionAttribute.{IsSessionLine}
 use Rattle.str0m_signal.specs.session.Section.{Head, IsBandwidth}
 
@@ -65,7 +70,8 @@ module _ (m : MediaLine) where
 
 -- ---- consistency, told by no fault
 
-pub told_by : {A : Type 0} (fault : Option A) (P : Type 0) (answer : Bool) → NoneIff fault P → is_some fault ≡ not answer → IsTrue answer ↔ P
+pub told_by : {A : Type 0} (fault : Option A) (P : Type 0) (answer : Bool) → NoneIff fault P → is_some fault ≡ not answer
+    → IsTrue answer ↔ P
 told_by fault P answer told is = grind arith
 
 -- ---- a frame, by the consistency of a section without payload types
@@ -96,11 +102,13 @@ OthersBefore sections own i = (j : ℕ) (m : MediaLine) → j < i → slice_get 
 abbrev pub Others : List MediaLine → ℕ → Type 0
 Others sections own = (j : ℕ) (m : MediaLine) → slice_get sections j ≡ Some m → j ≢ own → FrameComesBack m
 
-pub others_more : (sections : List MediaLine) (own i : ℕ) (m : MediaLine) → i < length sections → m ≡ get_or sections i m → (i ≢ own → FrameComesBack m)
+pub others_more : (sections : List MediaLine) (own i : ℕ) (m : MediaLine) → i < length sections → m ≡ get_or sections i m
+    → (i ≢ own → FrameComesBack m)
     → OthersBefore sections own i → OthersBefore sections own (i + 1)
 others_more sections own i m lt at back before = grind (arith, cases_lt, slice_get_read, same_Some)
 
-pub one_lost : (sections : List MediaLine) (own i : ℕ) (m : MediaLine) → i < length sections → m ≡ get_or sections i m → i ≢ own → ¬ FrameComesBack m
+pub one_lost : (sections : List MediaLine) (own i : ℕ) (m : MediaLine) → i < length sections → m ≡ get_or sections i m → i ≢ own
+    → ¬ FrameComesBack m
     → IsTrue false ↔ Others sections own
 one_lost sections own i m lt at other lost = grind (arith, slice_get_read)
 
@@ -111,7 +119,8 @@ all_back sections own i end before = grind (arith, slice_get_within)
 -- ---- all of it
 
 pub writable_with : (sdp : Sdp) (i : ℕ) (section : MediaLine) → slice_get sdp.media_lines i ≡ Some section
-    → ((reads : List SessionAttribute) × AreReadAs session_attribute_text IsSessionLine SessionGoesWith sdp.session.attrs reads) × BandwidthComesBack sdp.session.bw
+    → ((reads : List SessionAttribute) × AreReadAs session_attribute_text IsSessionLine SessionGoesWith sdp.session.attrs reads)
+    × BandwidthComesBack sdp.session.bw
     → ((read : MediaLine) × IsMediaReadAs (frame_of section) read × IsFrame read) → {T : Type 0}
     → T ↔ Others sdp.media_lines i
     → T ↔ Writable sdp i

@@ -1,7 +1,12 @@
 -- A candidate is printed as it was read.
 use Rattle.std.proofs.Math.Nat.{pow-le-pow_right}
 use Rattle.std.proofs.lemmas.Int.Digits.{digits_value-lt}
-use Rattle.str0m_signal.proofs.Common.{rules, ◌≡◌, ◌≢◌, ◌≤◌, ◌<◌, ◌^◌, ℕ, zero, suc, List, [], ◌∷◌, ◌++◌, Option, Some, None, IfSome, refl, sym, subst, arith, lit<, lit≤, inl, inr, codes, digit_value, decimal, AllByRecursion, IsCandidateText, candidate_text, Parted, Lacks, IsWord, some_is, Lacks-append, lacks_both, replicate, AllDigits, IsOctet, IsHexGroup, IsOneGroup, IsEnd, AreGroups, AreAnyGroups, IsIpText, IsSocket, IsRelated, AreIceNames, IsSocketInRange, IsPrintable, socket_text, related_text, extras_text, octet_pairs, ip_text}
+use Rattle.str0m_signal.proofs.Common.{rules, ◌≡◌, ◌≢◌, ◌≤◌, ◌<◌, ◌^◌, ℕ, zero, suc, List, [], ◌∷◌, ◌++◌, Option, Some, None, IfSome, refl}
+use Rattle.str0m_signal.proofs.Common.{sym, subst, arith, lit<, lit≤, inl, inr, codes, digit_value, decimal, AllByRecursion}
+use Rattle.str0m_signal.proofs.Common.{IsCandidateText, candidate_text, Parted, Lacks, IsWord, some_is, Lacks-append, lacks_both, replicate}
+use Rattle.str0m_signal.proofs.Common.{AllDigits, IsOctet, IsHexGroup, IsOneGroup, IsEnd, AreGroups, AreAnyGroups, IsIpText, IsSocket}
+use Rattle.str0m_signal.proofs.Common.{IsRelated, AreIceNames, IsSocketInRange, IsPrintable, socket_text, related_text, extras_text}
+use Rattle.str0m_signal.proofs.Common.{octet_pairs, ip_text}
 use Rattle.str0m_signal.proofs.form.FmtpPrinted.{behind_lacks}
 use Rattle.str0m_signal.proofs.session.AttributesPrinted.{HoldsNoEnd, no_end, no_ends, decimal_lacks, decimal_no_end}
 use Rattle.str0m_values.proofs.AddressText.{ip_printed}
@@ -169,7 +174,8 @@ fragment_lacks c (Some x) text (inl (network, name, e, left_out, is)) none label
 fragment_lacks c (Some x) text (inr (name, network, word, fragment, e, is, network_is, same)) none label =
     let own : x ≡ fragment = some_is x fragment same in
     lacks_both c candidate_label.UFRAG.now x label
-    (subst (Lacks c) (sym own) (word_lacks c candidate_label.UFRAG.now name fragment is (Lacks-append c name network (subst (Lacks c) e none))))
+    (subst (Lacks c) (sym own) (word_lacks c candidate_label.UFRAG.now name fragment is
+    (Lacks-append c name network (subst (Lacks c) e none))))
 
 -- the fragment and the foundation hold what the text holds
 module _ (c : ℕ) (text : List ℕ) (candidate : Candidate) (h : IsCandidateText text candidate) (none : Lacks c text) where

@@ -1,6 +1,9 @@
 -- An fmtp line is printed with the values that it was read as and that print something, and is read as these again.
 use Rattle.str0m_formats.proofs.{IsPairsLine, pairs_again}
-use Rattle.str0m_signal.proofs.Common.{rules, ◌≡◌, ◌≢◌, ◌⊎◌, ◌≤◌, ℕ, List, [], ◌∷◌, map, filter, refl, subst, arith, inl, inr, AllByRecursion, join_with_byte, cases_Bool, ltb-true, param_text, params_read, FormatParam, BarePtList, BareRange, IsSolidPair, joined_pair, media_attribute_text, is_shown, shown_line, Fmtp, IsRest}
+use Rattle.str0m_signal.proofs.Common.{rules, ◌≡◌, ◌≢◌, ◌⊎◌, ◌≤◌, ℕ, List, [], ◌∷◌, map, filter, refl, subst, arith, inl, inr}
+use Rattle.str0m_signal.proofs.Common.{AllByRecursion, join_with_byte, cases_Bool, ltb-true, param_text, params_read, FormatParam}
+use Rattle.str0m_signal.proofs.Common.{BarePtList, BareRange, IsSolidPair, joined_pair, media_attribute_text, is_shown, shown_line, Fmtp}
+use Rattle.str0m_signal.proofs.Common.{IsRest}
 use Rattle.str0m_signal.proofs.form.FmtpPrinted.{AreShown, FmtpValues, all_shown, list_shown, list_printed, range_printed, pairs_printed}
 use Rattle.str0m_signal.specs.back.Writable.{IsPrintedAs}
 use Rattle.str0m_signal.specs.form.Fmtp.{IsFmtp}
@@ -39,7 +42,8 @@ values_again : (pt : ℕ) (more : List ℕ) (values : List FormatParam) → pt �
 values_again pt more values small (inl (blanks, text, pairs, joined, are_blanks, are_pairs, read)) =
     search (rules, of_line, shown_are, pairs_again)
 values_again pt more values small (inr (no_pairs, inl (first, second, others, (body, e, parts), is))) =
-    rw is (inl (one_shown pt (BarePtList first) (list_shown first parts.3.fits) (list_printed pt first (BarePtList first) refl small parts.3.fits)))
+    rw is (inl (one_shown pt (BarePtList first) (list_shown first parts.3.fits)
+    (list_printed pt first (BarePtList first) refl small parts.3.fits)))
 values_again pt more values small (inr (no_pairs, inr (no_list, inl (last, (body, e, range), is)))) =
     rw is (inl (one_shown pt (BareRange last) (omega arith) (range_printed pt last (BareRange last) refl small range.fits)))
 values_again pt more values small (inr (no_pairs, inr (no_list, inr (no_range, is)))) = rw is (inr refl)

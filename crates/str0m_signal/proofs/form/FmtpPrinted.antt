@@ -4,9 +4,15 @@ use Rattle.str0m_formats.specs.format.FormatParamReading.{param_of}
 use Rattle.str0m_formats.specs.format.Pairs.{has_mark}
 use Rattle.str0m_formats.specs.format.PairsReading.{params_read}
 use Rattle.str0m_sdp.specs.declared.label.TheConstants as label
-use Rattle.str0m_signal.proofs.Common.{◌≡◌, ◌≤◌, ℕ, List, [], ◌∷◌, ◌++◌, map, filter, length, length-append, refl, sym, ap, ◌∙◌, subst, arith, lit<, lit≤, inl, inr, codes, AllByRecursion, join_with_byte, join_by, decimal, IsNumeral, digits_value, lt-ltb, decimal_is_IsNumeral, decimal_nonempty, append_assoc, append-nil, FirstFit, Lacks, IsRest, IsNum, param_text, FormatParam, BareRange, BarePtList, Apt, pairs_read_is, IsSolidPair, joined_pair, media_attribute_text, is_shown, shown_line, attribute_line, Fmtp, lacks_both, decimal_solid, parsed_printed}
+use Rattle.str0m_signal.proofs.Common.{◌≡◌, ◌≤◌, ℕ, List, [], ◌∷◌, ◌++◌, map, filter, length, length-append, refl, sym, ap, ◌∙◌, subst}
+use Rattle.str0m_signal.proofs.Common.{arith, lit<, lit≤, inl, inr, codes, AllByRecursion, join_with_byte, join_by, decimal, IsNumeral}
+use Rattle.str0m_signal.proofs.Common.{digits_value, lt-ltb, decimal_is_IsNumeral, decimal_nonempty, append_assoc, append-nil, FirstFit}
+use Rattle.str0m_signal.proofs.Common.{Lacks, IsRest, IsNum, param_text, FormatParam, BareRange, BarePtList, Apt, pairs_read_is}
+use Rattle.str0m_signal.proofs.Common.{IsSolidPair, joined_pair, media_attribute_text, is_shown, shown_line, attribute_line, Fmtp}
+use Rattle.str0m_signal.proofs.Common.{lacks_both, decimal_solid, parsed_printed}
 use Rattle.str0m_signal.proofs.form.FmtpLaws.{key_starts}
-use Rattle.str0m_signal.proofs.session.AttributesPrinted.{HoldsNoEnd, no_ends, no_end, num_is, decimal_lacks, decimal_no_end, attribute_printed}
+use Rattle.str0m_signal.proofs.session.AttributesPrinted.{HoldsNoEnd, no_ends, no_end, num_is, decimal_lacks, decimal_no_end}
+use Rattle.str0m_signal.proofs.session.AttributesPrinted.{attribute_printed}
 use Rattle.str0m_signal.specs.back.Writable.{IsPrintedAs}
 use Rattle.str0m_signal.specs.form.Fmtp.{IsKey, IsValue, StartsUnblank, ArePairs, IsPairsForm, IsListForm, IsRangeForm, IsAnything, IsFmtp}
 use Rattle.str0m_signal.specs.form.MediaAttribute.{IsMediaLine}
@@ -186,7 +192,8 @@ list_no_end n small = grind (arith, no_ends, decimal_no_end, no_end)
 pub list_printed : (pt n : ℕ) (v : FormatParam) → param_text v ≡ (decimal n ++ codes "/") ++ decimal n → pt ≤ 127 → n ≤ 255
     → IsPrintedAs IsMediaLine (media_attribute_text (Fmtp pt (v ∷ []))) (Fmtp pt (BarePtList n ∷ []))
 list_printed pt n v text small fits =
-    line_values_printed pt v [] (decimal n ++ (codes "/" ++ decimal n)) (BarePtList n ∷ []) small (subst IsRest (sym text) (list_shown n fits), tt)
+    line_values_printed pt v [] (decimal n ++ (codes "/" ++ decimal n)) (BarePtList n ∷ []) small
+    (subst IsRest (sym text) (list_shown n fits), tt)
     (text ∙ append_assoc (decimal n) (codes "/") (decimal n)) (list_no_end n fits) (list_is n fits)
 
 range_no_end : (n : ℕ) → n ≤ 255 → HoldsNoEnd (codes "0-" ++ decimal n)

@@ -1,5 +1,8 @@
 -- The pieces that forms share are read both ways.
-use Rattle.str0m_signal.proofs.Common.{◌≢◌, ◌≤◌, arith, cases_eq, eq-eqb, ne_eqb, digits_lack, digits_value, IsNumeral, ◌≡◌, ℕ, List, [], ◌∷◌, ◌++◌, length, Option, Some, None, refl, sym, ap, ◌∙◌, inl, inr, ltb-true, ◌>>=◌, cut, when, is_rest, num, IsNum, bind_some, some_is, cut_none, cut_none_lacks, cut_at, cut_found, strip_at, strip_found, when_some, num_found, num_reads, rest_true, Reads, append-nil}
+use Rattle.str0m_signal.proofs.Common.{◌≢◌, ◌≤◌, arith, cases_eq, eq-eqb, ne_eqb, digits_lack, digits_value, IsNumeral, ◌≡◌, ℕ, List, []}
+use Rattle.str0m_signal.proofs.Common.{◌∷◌, ◌++◌, length, Option, Some, None, refl, sym, ap, ◌∙◌, inl, inr, ltb-true, ◌>>=◌, cut, when}
+use Rattle.str0m_signal.proofs.Common.{is_rest, num, IsNum, bind_some, some_is, cut_none, cut_none_lacks, cut_at, cut_found, strip_at}
+use Rattle.str0m_signal.proofs.Common.{strip_found, when_some, num_found, num_reads, rest_true, Reads, append-nil}
 use Rattle.str0m_signal.specs.form.FormReading.{behind, digits_read, text_read, two_read, tail_after, tailed_read}
 use Rattle.str0m_signal.specs.form.Forms.{Behind, IsText, Two, Tailed}
 
@@ -33,10 +36,12 @@ digits_both limit = record { sound = found; complete = given }
         let is : IsNum limit (x ∷ xs) n = record { numeral = rw (ne_eqb x 43 other) h.0; value = rw (ne_eqb x 43 other) h.1; fits = h.2 } in
         rw (ne_eqb 43 x (λ same. other (sym same))) (num_reads limit (x ∷ xs) n is)
 
-pub behind_both : {A : Type 0} {F : List ℕ → A → Type 0} {f : List ℕ → Option A} (label : List ℕ) → Reads F f → Reads (Behind label F) (behind label f)
+pub behind_both : {A : Type 0} {F : List ℕ → A → Type 0} {f : List ℕ → Option A} (label : List ℕ) → Reads F f
+    → Reads (Behind label F) (behind label f)
 behind_both {f} label reads = grind (arith, bind_some, strip_found, strip_at)
 
-pub two_both : {A B : Type 0} {F : List ℕ → A → Type 0} {G : List ℕ → B → Type 0} {f : List ℕ → Option A} {g : List ℕ → Option B} (c : ℕ) → Reads F f → Reads G g → Reads (Two c F G) (two_read c f g)
+pub two_both : {A B : Type 0} {F : List ℕ → A → Type 0} {G : List ℕ → B → Type 0} {f : List ℕ → Option A} {g : List ℕ → Option B} (c : ℕ)
+    → Reads F f → Reads G g → Reads (Two c F G) (two_read c f g)
 two_both {A} {B} {F} {G} {f} {g} c first second = record {
   sound = λ text x e.
       let p = bind_some (cut c text) (λ parts. f parts.0 >>= λ a. g parts.1 >>= λ b. Some (a, b)) x e in

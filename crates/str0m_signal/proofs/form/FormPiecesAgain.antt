@@ -1,5 +1,6 @@
 -- Pieces of lines that are printed as they were read: each has its form again, and holds no character that it hadn't.
-use Rattle.str0m_signal.proofs.Common.{◌≤◌, ◌<◌, ◌^◌, ℕ, List, [], ◌∷◌, ◌++◌, refl, sym, subst, arith, inl, digit_value, decimal, join_by, append-nil, Parted, Lacks, IsNum, Lacks-append, lacks_both}
+use Rattle.str0m_signal.proofs.Common.{◌≤◌, ◌<◌, ◌^◌, ℕ, List, [], ◌∷◌, ◌++◌, refl, sym, subst, arith, inl, digit_value, decimal, join_by}
+use Rattle.str0m_signal.proofs.Common.{append-nil, Parted, Lacks, IsNum, Lacks-append, lacks_both}
 use Rattle.str0m_signal.proofs.form.FmtpPrinted.{behind_lacks}
 use Rattle.str0m_signal.proofs.session.AttributesPrinted.{num_is, decimal_lacks}
 use Rattle.str0m_signal.specs.form.Forms.{Behind, IsText, Two, Tailed}

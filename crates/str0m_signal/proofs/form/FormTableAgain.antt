@@ -1,11 +1,14 @@
 -- The attributes of a table are printed as they were read: from the laws of each form.
-use Rattle.str0m_signal.proofs.Common.{num_both, ◌≡◌, ◌≤◌, ◌<◌, ◌^◌, ℕ, Bool, true, List, [], ◌∷◌, ◌++◌, map, refl, sym, subst, lit≤, inl, inr, digit_value, decimal, attribute_line}
+use Rattle.str0m_signal.proofs.Common.{num_both, ◌≡◌, ◌≤◌, ◌<◌, ◌^◌, ℕ, Bool, true, List, [], ◌∷◌, ◌++◌, map, refl, sym, subst, lit≤, inl}
+use Rattle.str0m_signal.proofs.Common.{inr, digit_value, decimal, attribute_line}
 use Rattle.str0m_signal.proofs.form.FormLaws.{text_both, two_both, tailed_both}
 use Rattle.str0m_signal.proofs.form.FormPiecesAgain.{Again, text_again, num_again, two_again, tailed_again, behind_again}
-use Rattle.str0m_signal.proofs.form.FormTableLaws.{Readable, Lawful, AllOf, labelled_lawful, words_lawful, all_labelled_lawful, forms_apart, heads_same, tail_is}
+use Rattle.str0m_signal.proofs.form.FormTableLaws.{Readable, Lawful, AllOf, labelled_lawful, words_lawful, all_labelled_lawful, forms_apart}
+use Rattle.str0m_signal.proofs.form.FormTableLaws.{heads_same, tail_is}
 use Rattle.str0m_signal.proofs.line.WordsCharacterStarts.{StartsWithin}
 use Rattle.str0m_signal.proofs.session.AttributesPrinted.{HoldsNoEnd}
-use Rattle.str0m_signal.specs.form.FormTable.{Piece, Form, word, words_of, any_word, made_as, labelled, labelled_by, any, a_text, number, two, two_texts, tailed, led_by}
+use Rattle.str0m_signal.specs.form.FormTable.{Piece, Form, word, words_of, any_word, made_as, labelled, labelled_by, any, a_text, number}
+use Rattle.str0m_signal.specs.form.FormTable.{two, two_texts, tailed, led_by}
 
 -- ---- pieces
 
@@ -54,7 +57,8 @@ laws_of P Q each (x ∷ xs) all = (each x all.0, laws_of P Q each xs all.1)
 
 module _ {A : Type 0} {Fits : A → Type 0} {line : A → List ℕ} {test : A → Bool} where
   pub made_again : {B : Type 0} (form : Form B) (make : B → A) (print : B → List ℕ)
-      → ((text : List ℕ) (x : B) → HoldsNoEnd text → StartsWithin 3 text → Fits (make x) → form.Is text x → form.Is (print x) x × HoldsNoEnd (print x))
+      → ((text : List ℕ) (x : B) → HoldsNoEnd text → StartsWithin 3 text → Fits (make x) → form.Is text x
+      → form.Is (print x) x × HoldsNoEnd (print x))
       → ((x : B) → form.Is (print x) x → line (make x) ≡ attribute_line (print x)) → ((x : B) → test (make x) ≡ true)
       → PrintsAgain Fits line test (made_as form make)
   made_again form make print back prints passes = record {
@@ -73,7 +77,8 @@ module _ {A : Type 0} {Fits : A → Type 0} {line : A → List ℕ} {test : A �
   labelled_whole {piece} {print} label make kept prints passes =
       let behind = behind_again kept.again label in
       entire (labelled_lawful label make kept.reads)
-      (made_again (led_by label piece) make (λ x. label ++ print x) (λ text x quiet starts fits h. (behind.form text x h, quiet_again behind text x quiet h))
+      (made_again (led_by label piece) make (λ x. label ++ print x)
+      (λ text x quiet starts fits h. (behind.form text x h, quiet_again behind text x quiet h))
       (λ x h. prints x) passes)
 
   word_prints_again : (name : List ℕ) (x : A) → line x ≡ attribute_line name → test x ≡ true → PrintsAgain Fits line test (word name x)
@@ -97,12 +102,14 @@ module _ {A : Type 0} {Fits : A → Type 0} {line : A → List ℕ} {test : A �
 
 -- each word is what its attribute prints, which passes the test: one fact of a table, which is computed
 abbrev AreWords : {A : Type 0} → (A → List ℕ) → (A → Bool) → List (List ℕ × A) → Type 0
-AreWords line test rows = map {B = List ℕ × Bool} (λ row. (line row.1, test row.1)) rows ≡ map {B = List ℕ × Bool} (λ row. (attribute_line row.0, true)) rows
+AreWords line test rows = map {B = List ℕ × Bool} (λ row. (line row.1, test row.1)) rows
+    ≡ map {B = List ℕ × Bool} (λ row. (attribute_line row.0, true)) rows
 
 -- and likewise each label with a value after it
 abbrev AreLabelled : {A V : Type 0} → (V → List ℕ) → (A → List ℕ) → (A → Bool) → List (List ℕ × (V → A)) → Type 0
 AreLabelled {V} print line test rows =
-    (x : V) → map {B = List ℕ × Bool} (λ row. (line (row.1 x), test (row.1 x))) rows ≡ map {B = List ℕ × Bool} (λ row. (attribute_line (row.0 ++ print x), true)) rows
+    (x : V) → map {B = List ℕ × Bool} (λ row. (line (row.1 x), test (row.1 x))) rows
+    ≡ map {B = List ℕ × Bool} (λ row. (attribute_line (row.0 ++ print x), true)) rows
 
 module _ {A : Type 0} (Fits : A → Type 0) (line : A → List ℕ) (test : A → Bool) where
   words_all : (rows : List (List ℕ × A)) → AreWords line test rows → AllOf (PrintsAgain Fits line test) (words_of rows)
@@ -115,11 +122,14 @@ module _ {A : Type 0} (Fits : A → Type 0) (line : A → List ℕ) (test : A �
       → AreLabelled print line test rows → AllOf (PrintsAgain Fits line test) (labelled_by piece rows)
   labelled_all kept [] e = tt
   labelled_all {V} {piece} {print} kept (row ∷ rows) e =
-      let here : (x : V) → (line (row.1 x), test (row.1 x)) ≡ (attribute_line (row.0 ++ print x), true) = λ x. heads_same _ _ _ _ (e x) in
-      ((labelled_whole row.0 row.1 kept (λ x i. (here x i).0) (λ x i. (here x i).1)).prints, labelled_all kept rows (λ x. tail_is _ _ _ _ (e x)))
+      let here : (x : V) → (line (row.1 x), test (row.1 x)) ≡ (attribute_line (row.0 ++ print x), true) = λ x. heads_same _ _ _ _ (e x) in (
+        (labelled_whole row.0 row.1 kept (λ x i. (here x i).0) (λ x i. (here x i).1)).prints,
+        labelled_all kept rows (λ x. tail_is _ _ _ _ (e x)),
+      )
 
 module _ {A : Type 0} {Fits : A → Type 0} {line : A → List ℕ} {test : A → Bool} where
-  pub words_whole : (rows : List (List ℕ × A)) → forms_apart (words_of rows) ≡ true → AreWords line test rows → Whole Fits line test (any_word rows)
+  pub words_whole : (rows : List (List ℕ × A)) → forms_apart (words_of rows) ≡ true → AreWords line test rows
+      → Whole Fits line test (any_word rows)
   words_whole rows far e = entire (words_lawful rows far) (any_again (words_of rows) (words_all Fits line test rows e))
 
   pub all_labelled_whole : {V : Type 0} {piece : Piece V} {print : V → List ℕ} → Kept piece print → (rows : List (List ℕ × (V → A)))

@@ -1,7 +1,12 @@
 -- A table of forms is read exactly where one of its forms holds: from a law of each form, and from its labels.
-use Rattle.str0m_signal.proofs.Common.{arith, ◌≡◌, ◌⊎◌, ℕ, Bool, true, false, ◌&&◌, ◌||◌, ◌==◌, List, [], ◌∷◌, ◌++◌, Option, Some, None, refl, sym, ap, ◌∙◌, inl, inr, list_all, list_any, cases_eq, cases_Bool, eq-eqb, ne_eqb, and_parts, false≢true, bytes_eq-Decides, ◌<|>◌, or_some, when_some, when_true, append_assoc, append-nil, if◌then◌else◌, reads_none, Reads}
+use Rattle.str0m_signal.proofs.Common.{arith, ◌≡◌, ◌⊎◌, ℕ, Bool, true, false, ◌&&◌, ◌||◌, ◌==◌, List, [], ◌∷◌, ◌++◌, Option, Some, None}
+use Rattle.str0m_signal.proofs.Common.{refl, sym, ap, ◌∙◌, inl, inr, list_all, list_any, cases_eq, cases_Bool, eq-eqb, ne_eqb, and_parts}
+use Rattle.str0m_signal.proofs.Common.{false≢true, bytes_eq-Decides, ◌<|>◌, or_some, when_some, when_true, append_assoc, append-nil}
+use Rattle.str0m_signal.proofs.Common.{if◌then◌else◌, reads_none, Reads}
 use Rattle.str0m_signal.proofs.form.FormLaws.{behind_both}
-use Rattle.str0m_signal.specs.form.FormTable.{Piece, Form, own, made_as, labelled, word, AnyOf, labels_of, first_read, any, words_of, any_word, labelled_by, IsUnused, unused_read, first_byte, begins_with, beginning, letter_read, by_letter}
+use Rattle.str0m_signal.specs.form.FormTable.{Piece, Form, own, made_as, labelled, word, AnyOf, labels_of, first_read, any, words_of}
+use Rattle.str0m_signal.specs.form.FormTable.{any_word, labelled_by, IsUnused, unused_read, first_byte, begins_with, beginning, letter_read}
+use Rattle.str0m_signal.specs.form.FormTable.{by_letter}
 
 abbrev pub Readable : {A : Type 0} → Piece A → Type 0
 Readable piece = Reads piece.Is piece.read
@@ -70,7 +75,8 @@ apart_texts (x ∷ a) (y ∷ b) r s far e = grind (arith, cases_eq, apart_texts 
 abbrev labels_apart : List (List ℕ) → List (List ℕ) → Bool
 labels_apart ls ms = list_all (λ a. list_all (begin_apart a) ms) ls
 
-apart_from : (a : List ℕ) (ms : List (List ℕ)) (text r : List ℕ) → list_all (begin_apart a) ms ≡ true → text ++ (10 ∷ []) ≡ a ++ r → HasLabel text ms → ⊥
+apart_from : (a : List ℕ) (ms : List (List ℕ)) (text r : List ℕ) → list_all (begin_apart a) ms ≡ true → text ++ (10 ∷ []) ≡ a ++ r
+    → HasLabel text ms → ⊥
 apart_from a [] text r far e h = absurd h
 apart_from a (b ∷ ms) text r far e (inl h) = grind (arith, apart_texts, and_parts)
 apart_from a (b ∷ ms) text r far e (inr h) = apart_from a ms text r (and_parts (begin_apart a b) (list_all (begin_apart a) ms) far).1 e h
@@ -86,7 +92,8 @@ forms_apart [] = true
 forms_apart (form ∷ forms) = labels_apart form.labels (labels_of forms) && forms_apart forms
 
 -- the first form, and then the others
-next_form : {A : Type 0} (form : Form A) (forms : List (Form A)) (text : List ℕ) → first_read (form ∷ forms) text ≡ (form.read text <|> first_read forms text)
+next_form : {A : Type 0} (form : Form A) (forms : List (Form A)) (text : List ℕ)
+    → first_read (form ∷ forms) text ≡ (form.read text <|> first_read forms text)
 next_form form forms text = grind arith
 
 begins_either : (ls ms : List (List ℕ)) (text : List ℕ) → HasLabel text ls ⊎ HasLabel text ms → HasLabel text (ls ++ ms)
@@ -97,24 +104,28 @@ begins_either (a ∷ ls) ms text (inl (inr h)) = inr (begins_either ls ms text (
 begins_either (a ∷ ls) ms text (inr h) = inr (begins_either ls ms text (inr h))
 
 module _ {A : Type 0} where
-  any_sound : (forms : List (Form A)) → AllOf Lawful forms → (text : List ℕ) (x : A) → first_read forms text ≡ Some x → (any forms).Is text x
+  any_sound : (forms : List (Form A)) → AllOf Lawful forms → (text : List ℕ) (x : A) → first_read forms text ≡ Some x
+      → (any forms).Is text x
   any_sound [] laws text x e = absurd cc
   any_sound (form ∷ forms) laws text x e = elim (or_some (form.read text) (first_read forms text) x (sym (next_form form forms text) ∙ e)) [
     | inl h ↦ inl (laws.0.reads.sound text x h)
     | inr h ↦ inr (any_sound forms laws.1 text x h.1)
   ]
 
-  any_begins : (forms : List (Form A)) → AllOf Lawful forms → (text : List ℕ) (x : A) → (any forms).Is text x → HasLabel text (labels_of forms)
+  any_begins : (forms : List (Form A)) → AllOf Lawful forms → (text : List ℕ) (x : A) → (any forms).Is text x
+      → HasLabel text (labels_of forms)
   any_begins [] laws text x h = absurd h
   any_begins (form ∷ forms) laws text x (inl h) = begins_either form.labels (labels_of forms) text (inl (laws.0.begins text x h))
   any_begins (form ∷ forms) laws text x (inr h) = begins_either form.labels (labels_of forms) text (inr (any_begins forms laws.1 text x h))
 
-  any_complete : (forms : List (Form A)) → AllOf Lawful forms → forms_apart forms ≡ true → (text : List ℕ) (x : A) → (any forms).Is text x → first_read forms text ≡ Some x
+  any_complete : (forms : List (Form A)) → AllOf Lawful forms → forms_apart forms ≡ true → (text : List ℕ) (x : A) → (any forms).Is text x
+      → first_read forms text ≡ Some x
   any_complete [] laws far text x h = absurd h
   any_complete (form ∷ forms) laws far text x (inl h) = next_form form forms text ∙ rw (laws.0.reads.complete text x h) refl
   any_complete (form ∷ forms) laws far text x (inr h) =
       let parts = and_parts (labels_apart form.labels (labels_of forms)) (forms_apart forms) far in
-      let none = reads_none laws.0.reads text (λ y k. no_both form.labels (labels_of forms) text parts.0 (laws.0.begins text y k) (any_begins forms laws.1 text x h)) in
+      let none = reads_none laws.0.reads text
+      (λ y k. no_both form.labels (labels_of forms) text parts.0 (laws.0.begins text y k) (any_begins forms laws.1 text x h)) in
       next_form form forms text ∙ rw none (any_complete forms laws.1 parts.1 text x h)
 
   pub any_lawful : (forms : List (Form A)) → AllOf Lawful forms → forms_apart forms ≡ true → Lawful (any forms)
@@ -131,7 +142,8 @@ module _ {A : Type 0} where
   labelled_each piece reads [] = tt
   labelled_each piece reads (row ∷ rows) = (labelled_lawful row.0 row.1 reads, labelled_each piece reads rows)
 
-  pub all_labelled_lawful : {B : Type 0} (piece : Piece B) → Readable piece → (rows : List (List ℕ × (B → A))) → forms_apart (labelled_by piece rows) ≡ true
+  pub all_labelled_lawful : {B : Type 0} (piece : Piece B) → Readable piece → (rows : List (List ℕ × (B → A)))
+      → forms_apart (labelled_by piece rows) ≡ true
       → Lawful (any (labelled_by piece rows))
   all_labelled_lawful piece reads rows far = any_lawful (labelled_by piece rows) (labelled_each piece reads rows) far
 
@@ -170,7 +182,8 @@ module _ {A : Type 0} (letters text : List ℕ) where
       let both = letter_in letters form.labels text within (law.begins text x h) in
       elim other [ inl e ↦ false≢true (sym e ∙ both.0) | inr e ↦ false≢true (sym e ∙ both.1) ])
 
-  letter_asked : (forms : List (Form A)) → AllOf Lawful forms → start_in letters forms ≡ true → letter_read forms (first_byte text) text ≡ first_read forms text
+  letter_asked : (forms : List (Form A)) → AllOf Lawful forms → start_in letters forms ≡ true
+      → letter_read forms (first_byte text) text ≡ first_read forms text
   letter_asked [] laws within = refl
   letter_asked (form ∷ forms) laws within =
       let parts = and_parts (list_all (starts_in letters) form.labels) (start_in letters forms) within in
@@ -180,7 +193,8 @@ module _ {A : Type 0} (letters text : List ℕ) where
         | inr not ↦ rw not (more ∙ sym (next_form form forms text ∙ rw (not_asked form laws.0 parts.0 (inr not)) refl))
       ]
 
-  none_asked : (forms : List (Form A)) → AllOf Lawful forms → start_in letters forms ≡ true → is_in (first_byte text) letters ≡ false → first_read forms text ≡ None
+  none_asked : (forms : List (Form A)) → AllOf Lawful forms → start_in letters forms ≡ true → is_in (first_byte text) letters ≡ false
+      → first_read forms text ≡ None
   none_asked [] laws within e = refl
   none_asked (form ∷ forms) laws within e = grind (arith, and_parts, not_asked, none_asked forms laws.1)
 
@@ -196,7 +210,8 @@ module _ {A : Type 0} (letters text : List ℕ) where
   unknown (l ∷ ls) forms c e = grind (arith, cases_eq, eq-eqb, ne_eqb, unknown ls forms c)
 
   -- the look at the first letter changes nothing
-  by_letter_is : (forms : List (Form A)) → AllOf Lawful forms → start_in letters forms ≡ true → by_letter letters forms (first_byte text) text ≡ first_read forms text
+  by_letter_is : (forms : List (Form A)) → AllOf Lawful forms → start_in letters forms ≡ true
+      → by_letter letters forms (first_byte text) text ≡ first_read forms text
   by_letter_is forms laws within = elim (cases_Bool (is_in (first_byte text) letters)) [
     | inl is ↦ letter_chosen letters forms (first_byte text) is ∙ letter_asked forms laws within
     | inr not ↦ unknown letters forms (first_byte text) not ∙ sym (none_asked forms laws within not)

@@ -4,14 +4,23 @@ use Rattle.str0m_sdp.specs.declared.attribute.rtp_map.RtpMap.{RtpMap as Mapping}
 use Rattle.str0m_sdp.specs.declared.attribute.setup.Setup.{Setup as Role}
 use Rattle.str0m_sdp.specs.declared.attribute.simulcast.Simulcast.{Simulcast as TheSimulcast}
 use Rattle.str0m_sdp.specs.declared.label.TheConstants as label
-use Rattle.str0m_signal.proofs.Common.{arith, ◌≡◌, ◌⊎◌, ◌≤◌, ℕ, Bool, true, false, false≢true, List, [], ◌∷◌, ◌++◌, Option, Some, IfSome, refl, ap, ◌∙◌, subst, sym, lit<, lit≤, inl, inr, codes, printed_and_read, Codec, media_attribute_text, is_shown, attribute_line, KeepsToLine, setup_text, MediaAttribute, Fmtp, RestrictionId, SimulcastLayer, candidate_text, candidate_both, IsCandidateText, Parted, IsLongestBeginning, decimal, join_by, length, ltb-true, Lacks, IsNum, is_rest, beginning_of, beginning_is, beginning_only, lacks_from, rest_true, when_some, when_true, IsReadAs, RtpMap, Simulcast, filter, sides_text, unless_munged, Fingerprint, Setup, Mid, Candidate, SsrcGroup, Unused, fingerprint_text, media_words, ActPass, SETUPS, reads_words}
+use Rattle.str0m_signal.proofs.Common.{arith, ◌≡◌, ◌⊎◌, ◌≤◌, ℕ, Bool, true, false, false≢true, List, [], ◌∷◌, ◌++◌, Option, Some, IfSome}
+use Rattle.str0m_signal.proofs.Common.{refl, ap, ◌∙◌, subst, sym, lit<, lit≤, inl, inr, codes, printed_and_read, Codec}
+use Rattle.str0m_signal.proofs.Common.{media_attribute_text, is_shown, attribute_line, KeepsToLine, setup_text, MediaAttribute, Fmtp}
+use Rattle.str0m_signal.proofs.Common.{RestrictionId, SimulcastLayer, candidate_text, candidate_both, IsCandidateText, Parted}
+use Rattle.str0m_signal.proofs.Common.{IsLongestBeginning, decimal, join_by, length, ltb-true, Lacks, IsNum, is_rest, beginning_of}
+use Rattle.str0m_signal.proofs.Common.{beginning_is, beginning_only, lacks_from, rest_true, when_some, when_true, IsReadAs, RtpMap}
+use Rattle.str0m_signal.proofs.Common.{Simulcast, filter, sides_text, unless_munged, Fingerprint, Setup, Mid, Candidate, SsrcGroup, Unused}
+use Rattle.str0m_signal.proofs.Common.{fingerprint_text, media_words, ActPass, SETUPS, reads_words}
 use Rattle.str0m_signal.proofs.form.CandidateLineAgain.{candidate_again}
 use Rattle.str0m_signal.proofs.form.CandidateLineLaws.{candidate_begins}
 use Rattle.str0m_signal.proofs.form.FmtpAgain.{fmtp_again}
 use Rattle.str0m_signal.proofs.form.FmtpPrinted.{behind_lacks}
 use Rattle.str0m_signal.proofs.form.FormLaws.{text_both, two_both}
 use Rattle.str0m_signal.proofs.form.FormPiecesAgain.{Again, text_again, num_again, two_again, behind_again, parted_again}
-use Rattle.str0m_signal.proofs.form.FormTableAgain.{Kept, PrintsAgain, Whole, laws_of, quiet_again, made_again, entire, text_kept, number_kept, two_kept, pair_kept, tailed_kept, labelled_whole, words_whole, all_labelled_whole, any_again}
+use Rattle.str0m_signal.proofs.form.FormTableAgain.{Kept, PrintsAgain, Whole, laws_of, quiet_again, made_again, entire, text_kept}
+use Rattle.str0m_signal.proofs.form.FormTableAgain.{number_kept, two_kept, pair_kept, tailed_kept, labelled_whole, words_whole}
+use Rattle.str0m_signal.proofs.form.FormTableAgain.{all_labelled_whole, any_again}
 use Rattle.str0m_signal.proofs.form.FormTableLaws.{Readable, Lawful, AllOf, ◌also◌, own_lawful, labelled_lawful, made_lawful}
 use Rattle.str0m_signal.proofs.form.RidAgain.{IsUntypedRid, rid_again, sides_words, sides_form, sides_lack}
 use Rattle.str0m_signal.proofs.form.RidLaws.{rid_fields_both}
@@ -26,7 +35,8 @@ use Rattle.str0m_signal.specs.back.WritableAgain.{FitsAgain, NamesNoTypes}
 use Rattle.str0m_signal.specs.form.FormTable.{Form, any, led_by, two, parted, a_text, number}
 use Rattle.str0m_signal.specs.form.FormTransport.{candidate, fingerprint, role}
 use Rattle.str0m_signal.specs.form.Forms.{Behind, IsText, Two}
-use Rattle.str0m_signal.specs.form.MediaAttribute.{media_texts, media_pairs, name, mid, ssrc_group, rid, simulcast, other_forms, IsMediaLine, MediaForm}
+use Rattle.str0m_signal.specs.form.MediaAttribute.{media_texts, media_pairs, name, mid, ssrc_group, rid, simulcast, other_forms}
+use Rattle.str0m_signal.specs.form.MediaAttribute.{IsMediaLine, MediaForm}
 use Rattle.str0m_signal.specs.form.MediaAttributeReading.{role_read}
 use Rattle.str0m_signal.specs.form.Rid.{IsRid}
 use Rattle.str0m_signal.specs.form.RidReading.{rid_fields_read}
@@ -69,7 +79,8 @@ pub printed_fingerprint : {Fits : Type 0} (text : List ℕ) (hash : TheFingerpri
     → fingerprint.Is text hash → fingerprint.Is (hash_line hash) hash × HoldsNoEnd (hash_line hash)
 printed_fingerprint text hash quiet starts fits (p, h, e) =
     subst (λ (f : TheFingerprint). fingerprint.Is (hash_line f) f × HoldsNoEnd (hash_line f)) (sym e)
-    (subst (λ (t : List ℕ). fingerprint.Is (label.FINGERPRINT.now ++ (p.0 ++ (32 ∷ t))) made × HoldsNoEnd (label.FINGERPRINT.now ++ (p.0 ++ (32 ∷ t))))
+    (subst (λ (t : List ℕ). fingerprint.Is (label.FINGERPRINT.now ++ (p.0 ++ (32 ∷ t))) made
+    × HoldsNoEnd (label.FINGERPRINT.now ++ (p.0 ++ (32 ∷ t))))
     (pairs_are_joined p.1)
     ((p, whole.form text p h, refl), quiet_again whole text p quiet h))
   where
@@ -106,15 +117,19 @@ OtherForm = Whole FitsAgain media_attribute_text is_other
 
 name_readable : Readable name
 name_readable = record {
-  sound = λ text mid e. let w = when_some (is_rest text) (beginning_of 16 text) mid e in rw (← w.1) (ltb-true 0 (length text) w.0, beginning_is 16 text);
+  sound = λ text mid e. let w = when_some (is_rest text) (beginning_of 16 text) mid e in
+      rw (← w.1) (ltb-true 0 (length text) w.0, beginning_is 16 text);
   complete = λ text mid h.
-      when_true (is_rest text) (beginning_of 16 text) (rest_true text h.0) ∙ ap (λ (t : List ℕ). Some t) (sym (beginning_only 16 text mid h.1));
+      when_true (is_rest text) (beginning_of 16 text) (rest_true text h.0)
+      ∙ ap (λ (t : List ℕ). Some t) (sym (beginning_only 16 text mid h.1));
 }
 
 mid_comes_back : OtherAgain mid
-mid_comes_back = made_again (led_by label.MID.now name) Mid (λ mid. label.MID.now ++ mid) (λ text mid quiet starts fits h. back text mid quiet starts h) (λ _ _. refl) (λ _. refl)
+mid_comes_back = made_again (led_by label.MID.now name) Mid (λ mid. label.MID.now ++ mid)
+    (λ text mid quiet starts fits h. back text mid quiet starts h) (λ _ _. refl) (λ _. refl)
   where
-    lacks : (c : ℕ) (text mid name : List ℕ) → text ≡ label.MID.now ++ name → IsLongestBeginning 16 name mid → Lacks c text → Lacks c (label.MID.now ++ mid)
+    lacks : (c : ℕ) (text mid name : List ℕ) → text ≡ label.MID.now ++ name → IsLongestBeginning 16 name mid → Lacks c text
+        → Lacks c (label.MID.now ++ mid)
     lacks c text mid name e kept none =
         let whole : Lacks c (label.MID.now ++ name) = subst (Lacks c) e none in
         (whole.0, (whole.1.0, (whole.1.1.0, (whole.1.1.1.0, kept_lacks c 16 name mid kept (behind_lacks c label.MID.now name whole)))))
@@ -122,7 +137,14 @@ mid_comes_back = made_again (led_by label.MID.now name) Mid (λ mid. label.MID.n
     back : (text mid : List ℕ) → HoldsNoEnd text → StartsWithin 3 text → Behind label.MID.now name.Is text mid
         → Behind label.MID.now name.Is (label.MID.now ++ mid) mid × HoldsNoEnd (label.MID.now ++ mid)
     back text mid quiet starts (name, e, (filled, kept)) = (
-      (mid, refl, (kept_some name mid filled (behind_starts 3 label.MID.now name (lit≤ tt) (subst (StartsWithin 3) e starts)) kept, kept_again 16 name mid kept)),
+      (
+        mid,
+        refl,
+        (
+          kept_some name mid filled (behind_starts 3 label.MID.now name (lit≤ tt) (subst (StartsWithin 3) e starts)) kept,
+          kept_again 16 name mid kept,
+        ),
+      ),
       (lacks 10 text mid name e kept quiet.0, lacks 13 text mid name e kept quiet.1),
     )
 
@@ -131,7 +153,8 @@ abbrev simulcast_line : TheSimulcast → List ℕ
 simulcast_line s = label.SIMULCAST.now ++ sides_words s.send.0 s.recv.0
 
 simulcast_comes_back : OtherAgain simulcast
-simulcast_comes_back = made_again (led_by label.SIMULCAST.now (record { Is = IsSimulcast; read = simulcast_fields_read })) Simulcast simulcast_line (λ text s quiet starts fits h. back text s quiet h) shows (λ _. refl)
+simulcast_comes_back = made_again (led_by label.SIMULCAST.now (record { Is = IsSimulcast; read = simulcast_fields_read })) Simulcast
+    simulcast_line (λ text s quiet starts fits h. back text s quiet h) shows (λ _. refl)
   where
     back : (text : List ℕ) (s : TheSimulcast) → HoldsNoEnd text → Behind label.SIMULCAST.now IsSimulcast text s
         → Behind label.SIMULCAST.now IsSimulcast (simulcast_line s) s × HoldsNoEnd (simulcast_line s)
@@ -139,8 +162,10 @@ simulcast_comes_back = made_again (led_by label.SIMULCAST.now (record { Is = IsS
         let behind : (c : ℕ) → Lacks c text → Lacks c body = λ c none. behind_lacks c label.SIMULCAST.now body (subst (Lacks c) e none) in (
           (sides_words s.send.0 s.recv.0, refl, (sides_form body s.send.0 s.recv.0 sides, whole)),
           no_ends label.SIMULCAST.now (sides_words s.send.0 s.recv.0) (no_end label.SIMULCAST.now refl refl) (
-            sides_lack 10 (lit≤ tt) (lacks_from 10 (codes "send ") refl, lacks_from 10 (codes " recv ") refl) body s.send.0 s.recv.0 sides (behind 10 quiet.0),
-            sides_lack 13 (lit≤ tt) (lacks_from 13 (codes "send ") refl, lacks_from 13 (codes " recv ") refl) body s.send.0 s.recv.0 sides (behind 13 quiet.1),
+            sides_lack 10 (lit≤ tt) (lacks_from 10 (codes "send ") refl, lacks_from 10 (codes " recv ") refl) body s.send.0 s.recv.0 sides
+                (behind 10 quiet.0),
+            sides_lack 13 (lit≤ tt) (lacks_from 13 (codes "send ") refl, lacks_from 13 (codes " recv ") refl) body s.send.0 s.recv.0 sides
+                (behind 13 quiet.1),
           ),
         )
 
@@ -178,7 +203,8 @@ sources_line semantics ssrcs = label.SSRC_GROUP.now ++ (semantics ++ (32 ∷ joi
 ssrc_group_comes_back : OtherAgain ssrc_group
 ssrc_group_comes_back =
     let whole = behind_again (two_again 32 (lit≤ tt) text_again (parted_again (num_again 4294967295 (lit< tt)) 32)) label.SSRC_GROUP.now in
-    made_again (led_by label.SSRC_GROUP.now (two 32 a_text (parted 32 (number 4294967295)))) _ _ (λ text p quiet starts fits h. (whole.form text p h, quiet_again whole text p quiet h)) (λ p h. shows p.0 p.1 h) (λ _. refl)
+    made_again (led_by label.SSRC_GROUP.now (two 32 a_text (parted 32 (number 4294967295)))) _ _
+    (λ text p quiet starts fits h. (whole.form text p h, quiet_again whole text p quiet h)) (λ p h. shows p.0 p.1 h) (λ _. refl)
   where
     shows : (semantics ssrcs : List ℕ)
         → Behind label.SSRC_GROUP.now (Two 32 IsText (Parted 32 (IsNum 4294967295))) (sources_line semantics ssrcs) (semantics, ssrcs)
@@ -189,13 +215,16 @@ ssrc_group_comes_back =
 pub other_laws : AllOf OtherForm other_forms
 other_laws =
     labelled_whole _ _ (two_kept 32 (lit≤ tt) (number_kept 127 (lit< tt)) text_kept) (λ _. refl) (λ _. refl)
-    also labelled_whole _ _ (two_kept 32 (lit≤ tt) (tailed_kept 47 (lit≤ tt) (number_kept 255 (lit< tt))) (tailed_kept 32 (lit≤ tt) text_kept)) (λ _. refl) (λ _. refl)
+    also labelled_whole _ _ (two_kept 32 (lit≤ tt) (tailed_kept 47 (lit≤ tt) (number_kept 255 (lit< tt)))
+    (tailed_kept 32 (lit≤ tt) text_kept)) (λ _. refl) (λ _. refl)
     also entire (made_lawful Candidate candidate_lawful) (made_again candidate Candidate _ candidate_back (λ _ _. refl) (λ _. refl))
-    also labelled_whole _ _ (two_kept 32 (lit≤ tt) (number_kept 4294967295 (lit< tt)) (two_kept 58 (lit≤ tt) text_kept text_kept)) (λ _. refl) (λ _. refl)
+    also labelled_whole _ _ (two_kept 32 (lit≤ tt) (number_kept 4294967295 (lit< tt)) (two_kept 58 (lit≤ tt) text_kept text_kept))
+    (λ _. refl) (λ _. refl)
     also labelled_whole _ Setup role_kept (λ _. refl) (λ _. refl)
     also entire (labelled_lawful _ _ (two_both 32 text_both sources_both)) ssrc_group_comes_back
     also all_labelled_whole text_kept media_texts refl (λ _. refl)
-    also entire (made_lawful Fingerprint fingerprint_lawful) (made_again fingerprint Fingerprint _ printed_fingerprint (λ _ _. refl) (λ _. refl))
+    also entire (made_lawful Fingerprint fingerprint_lawful)
+    (made_again fingerprint Fingerprint _ printed_fingerprint (λ _ _. refl) (λ _. refl))
     also entire (labelled_lawful _ _ name_readable) mid_comes_back
     also all_labelled_whole pair_kept media_pairs refl (λ _. refl)
     also entire (labelled_lawful _ _ rid_fields_both) rid_comes_back

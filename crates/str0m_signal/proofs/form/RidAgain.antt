@@ -1,6 +1,8 @@
 -- Rid and simulcast lines are printed as they were read.
 use Rattle.str0m_sdp.specs.attribute.Rid.{restriction_text, pts_part, restrictions_part}
-use Rattle.str0m_signal.proofs.Common.{rules, ◌≡◌, ◌≢◌, ◌≤◌, ℕ, List, [], ◌∷◌, ◌++◌, refl, sym, subst, ap, ◌∙◌, arith, lit<, lit≤, inl, inr, codes, digit_value, decimal, join_by, append_assoc, append-nil, RestrictionId, SimulcastLayer, Parted, Lacks, IsRest, IsPt, Lacks-append, lacks_both, id_text, layer_text, layers_text}
+use Rattle.str0m_signal.proofs.Common.{rules, ◌≡◌, ◌≢◌, ◌≤◌, ℕ, List, [], ◌∷◌, ◌++◌, refl, sym, subst, ap, ◌∙◌, arith, lit<, lit≤, inl, inr}
+use Rattle.str0m_signal.proofs.Common.{codes, digit_value, decimal, join_by, append_assoc, append-nil, RestrictionId, SimulcastLayer}
+use Rattle.str0m_signal.proofs.Common.{Parted, Lacks, IsRest, IsPt, Lacks-append, lacks_both, id_text, layer_text, layers_text}
 use Rattle.str0m_signal.proofs.form.FmtpPrinted.{behind_lacks}
 use Rattle.str0m_signal.proofs.form.FormPiecesAgain.{Again, num_again, two_again, behind_again, parted_again}
 use Rattle.str0m_signal.proofs.line.PartLaws.{cons_parts}

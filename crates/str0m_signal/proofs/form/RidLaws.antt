@@ -1,5 +1,8 @@
 -- The line of a stream that may be restricted is read exactly where its form holds.
-use Rattle.str0m_signal.proofs.Common.{◌≡◌, ℕ, suc, ◌<◌, List, [], ◌∷◌, ◌++◌, length, Option, Some, None, refl, sym, ap, subst, ◌∙◌, arith, inl, inr, length-append, codes, some_pair_parts, none-some, append-nil, ◌>>=◌, cut, strip, Parted, Lacks, IsPt, bind_some, some_is, cut_none, cut_at, cut_found, strip_at, strip_found, when_some, number_lacks, rest_true, num_both, Reads, append_assoc, strip_none, Pairs}
+use Rattle.str0m_signal.proofs.Common.{◌≡◌, ℕ, suc, ◌<◌, List, [], ◌∷◌, ◌++◌, length, Option, Some, None, refl, sym, ap, subst, ◌∙◌, arith}
+use Rattle.str0m_signal.proofs.Common.{inl, inr, length-append, codes, some_pair_parts, none-some, append-nil, ◌>>=◌, cut, strip, Parted}
+use Rattle.str0m_signal.proofs.Common.{Lacks, IsPt, bind_some, some_is, cut_none, cut_at, cut_found, strip_at, strip_found, when_some}
+use Rattle.str0m_signal.proofs.Common.{number_lacks, rest_true, num_both, Reads, append_assoc, strip_none, Pairs}
 use Rattle.str0m_signal.proofs.form.FmtpLaws.{value_found, key_found, key_given, skips, starts_kept, key_starts}
 use Rattle.str0m_signal.proofs.form.FormLaws.{two_both}
 use Rattle.str0m_signal.proofs.form.SimulcastLaws.{name_from, name_true, parted_lacks}
@@ -8,8 +11,11 @@ use Rattle.str0m_signal.proofs.line.PairsOneByOne.{all_found, all_given}
 use Rattle.str0m_signal.proofs.line.PartLaws.{parted_both}
 use Rattle.str0m_signal.specs.form.Fmtp.{AreBlanks, IsKey, IsValue, OneByOne}
 use Rattle.str0m_signal.specs.form.FmtpReading.{fmtp_value_read, skip_blanks, fmtp_key_read, pairs_at}
-use Rattle.str0m_signal.specs.form.Rid.{IsActive, IsRestriction, AreRestrictions, AreTyped, AreLists, IsMore, IsDirection, IsDirected, IsRid}
-use Rattle.str0m_signal.specs.form.RidReading.{active_read, next_read, restriction_read, restrictions_read, restricted_read, pts_read, typed_after, typed_read, lists_after, lists_read, more_read, direction_read, directed_read, rid_fields_read}
+use Rattle.str0m_signal.specs.form.Rid.{IsActive, IsRestriction, AreRestrictions, AreTyped, AreLists, IsMore, IsDirection, IsDirected}
+use Rattle.str0m_signal.specs.form.Rid.{IsRid}
+use Rattle.str0m_signal.specs.form.RidReading.{active_read, next_read, restriction_read, restrictions_read, restricted_read, pts_read}
+use Rattle.str0m_signal.specs.form.RidReading.{typed_after, typed_read, lists_after, lists_read, more_read, direction_read, directed_read}
+use Rattle.str0m_signal.specs.form.RidReading.{rid_fields_read}
 
 -- ---- one restriction
 
@@ -40,13 +46,18 @@ tail_ends next = grind arith
 regroup_pair : (blanks key value tail : List ℕ) → (blanks ++ (key ++ (61 ∷ value))) ++ tail ≡ blanks ++ (key ++ (61 ∷ (value ++ tail)))
 regroup_pair blanks key value tail = grind (arith, append_assoc)
 
-stands : (text blanks : List ℕ) (pair : List ℕ × List ℕ) (next : Option (List ℕ)) → text ≡ (blanks ++ (pair.0 ++ (61 ∷ pair.1))) ++ tail_of next → AreBlanks blanks → IsKey pair.0 → IsValue pair.1 → Stands text pair next
+stands : (text blanks : List ℕ) (pair : List ℕ × List ℕ) (next : Option (List ℕ))
+    → text ≡ (blanks ++ (pair.0 ++ (61 ∷ pair.1))) ++ tail_of next → AreBlanks blanks → IsKey pair.0 → IsValue pair.1
+    → Stands text pair next
 stands text blanks pair next e are key value = grind (arith, append-nil)
 
-pub restriction_found : (text : List ℕ) (pair : List ℕ × List ℕ) (next : Option (List ℕ)) → restriction_read text ≡ Some (pair, next) → Stands text pair next
+pub restriction_found : (text : List ℕ) (pair : List ℕ × List ℕ) (next : Option (List ℕ)) → restriction_read text ≡ Some (pair, next)
+    → Stands text pair next
 restriction_found text pair next e =
-    let a = bind_some (cut 61 (skip_blanks text)) (λ fields. fmtp_key_read fields.0 >>= λ key. fmtp_value_read fields.1 >>= λ value. next_read value.1 >>= λ next. Some ((key, value.0), next)) (pair, next) e in
-    let k = bind_some (fmtp_key_read a.0.0) (λ key. fmtp_value_read a.0.1 >>= λ value. next_read value.1 >>= λ next. Some ((key, value.0), next)) (pair, next) a.2 in
+    let a = bind_some (cut 61 (skip_blanks text)) (λ fields. fmtp_key_read fields.0 >>= λ key. fmtp_value_read fields.1
+    >>= λ value. next_read value.1 >>= λ next. Some ((key, value.0), next)) (pair, next) e in
+    let k = bind_some (fmtp_key_read a.0.0) (λ key. fmtp_value_read a.0.1 >>= λ value. next_read value.1
+    >>= λ next. Some ((key, value.0), next)) (pair, next) a.2 in
     let v = bind_some (fmtp_value_read a.0.1) (λ value. next_read value.1 >>= λ next. Some ((k.0, value.0), next)) (pair, next) k.2 in
     let n = bind_some (next_read v.0.1) (λ next. Some ((k.0, v.0.0), next)) (pair, next) v.2 in
     let s = skips text in
@@ -62,19 +73,29 @@ restriction_found text pair next e =
     let made = stands text s.blanks (k.0, v.0.0) n.0 whole s.are key.1 value.1 in
     subst (λ (p : List ℕ × List ℕ). Stands text p next) same.0 (subst (Stands text (k.0, v.0.0)) same.1 made)
 
-pair_read_so : (text blanks : List ℕ) (pair : List ℕ × List ℕ) (next : Option (List ℕ)) → text ≡ (blanks ++ (pair.0 ++ (61 ∷ pair.1))) ++ tail_of next → AreBlanks blanks → IsKey pair.0 → IsValue pair.1 → restriction_read text ≡ Some (pair, next)
+pair_read_so : (text blanks : List ℕ) (pair : List ℕ × List ℕ) (next : Option (List ℕ))
+    → text ≡ (blanks ++ (pair.0 ++ (61 ∷ pair.1))) ++ tail_of next → AreBlanks blanks → IsKey pair.0 → IsValue pair.1
+    → restriction_read text ≡ Some (pair, next)
 pair_read_so text blanks pair next e are key value =
     let body = pair.0 ++ (61 ∷ (pair.1 ++ tail_of next)) in
     let plain : skip_blanks text ≡ body =
     ap skip_blanks (e ∙ regroup_pair blanks pair.0 pair.1 (tail_of next)) ∙ IsBlank-skip blanks body are
     ∙ starts_kept body (key_starts pair.0 (61 ∷ (pair.1 ++ tail_of next)) key) in
-    rw (plain, cut_at 61 pair.0 (pair.1 ++ tail_of next) key.1, key_given pair.0 key, value_given pair.1 (tail_of next) value.0 value.1 value.2 value.3 (tail_ends next), next_given next) refl
+    rw (
+      plain,
+      cut_at 61 pair.0 (pair.1 ++ tail_of next) key.1,
+      key_given pair.0 key,
+      value_given pair.1 (tail_of next) value.0 value.1 value.2 value.3 (tail_ends next),
+      next_given next,
+    ) refl
 
-pub restriction_given : (text : List ℕ) (pair : List ℕ × List ℕ) (next : Option (List ℕ)) → Stands text pair next → restriction_read text ≡ Some (pair, next)
+pub restriction_given : (text : List ℕ) (pair : List ℕ × List ℕ) (next : Option (List ℕ)) → Stands text pair next
+    → restriction_read text ≡ Some (pair, next)
 restriction_given text pair None h = pair_read_so text h.0 pair None (h.1 ∙ sym (append-nil (h.0 ++ (pair.0 ++ (61 ∷ pair.1))))) h.2 h.3 h.4
 restriction_given text pair (Some more) h = grind (arith, pair_read_so text h.2.0 pair (Some more))
 
-pub restriction_shorter : (text : List ℕ) (pair : List ℕ × List ℕ) (more : List ℕ) → restriction_read text ≡ Some (pair, Some more) → length more < length text
+pub restriction_shorter : (text : List ℕ) (pair : List ℕ × List ℕ) (more : List ℕ) → restriction_read text ≡ Some (pair, Some more)
+    → length more < length text
 restriction_shorter text pair more e = grind (arith, restriction_found text pair (Some more) e, length-append)
 
 -- ---- restrictions
@@ -91,11 +112,13 @@ parted_stands (p ∷ (q ∷ qs)) text h = (h.1, (h.0, h.2, h.3), parted_stands (
 
 restrictions_found : (text : List ℕ) (pairs : Pairs) → restrictions_read text ≡ Some pairs → Parted 59 IsRestriction text pairs
 restrictions_found text pairs e =
-    found_parted pairs text (all_found restriction_read restriction_shorter Stands restriction_found restriction_given (suc (length text)) text pairs e)
+    found_parted pairs text (all_found restriction_read restriction_shorter Stands restriction_found restriction_given (suc (length text))
+    text pairs e)
 
 restrictions_given : (text : List ℕ) (pairs : Pairs) → Parted 59 IsRestriction text pairs → restrictions_read text ≡ Some pairs
 restrictions_given text pairs h =
-    all_given restriction_read restriction_shorter Stands restriction_found restriction_given pairs (suc (length text)) text (parted_stands pairs text h) (omega arith)
+    all_given restriction_read restriction_shorter Stands restriction_found restriction_given pairs (suc (length text)) text
+    (parted_stands pairs text h) (omega arith)
 
 none_restrict : restrictions_read [] ≡ None
 unfolding pairs_at
@@ -129,7 +152,8 @@ types_semicolon text types h = grind (arith, parted_lacks, number_lacks)
 
 -- ---- the lists
 
-typed_found : (text : List ℕ) (lists : List ℕ × Pairs) (o : Option (List ℕ × List ℕ)) → cut 59 text ≡ o → typed_after text o ≡ Some lists → AreTyped text lists
+typed_found : (text : List ℕ) (lists : List ℕ × Pairs) (o : Option (List ℕ × List ℕ)) → cut 59 text ≡ o → typed_after text o ≡ Some lists
+    → AreTyped text lists
 typed_found text lists None is e = grind (arith, bind_some, some_is, pts_both)
 typed_found text lists (Some p) is e =
     let a = bind_some (pts_read p.0) (λ types. restricted_read p.1 >>= λ pairs. Some (types, pairs)) lists e in
@@ -140,7 +164,8 @@ typed_found text lists (Some p) is e =
 typed_both : Reads AreTyped typed_read
 typed_both = grind (arith, typed_found, cut_none, types_semicolon, pts_both, cut_at, restricted_both)
 
-lists_found : (text : List ℕ) (lists : List ℕ × Pairs) (o : Option (List ℕ)) → strip (codes "pt=") text ≡ o → lists_after text o ≡ Some lists → AreLists text lists
+lists_found : (text : List ℕ) (lists : List ℕ × Pairs) (o : Option (List ℕ)) → strip (codes "pt=") text ≡ o
+    → lists_after text o ≡ Some lists → AreLists text lists
 lists_found text lists None is e = grind (arith, bind_some, none-some, strip_at, some_is, restricted_both)
 lists_found text lists (Some typed) is e = inl (typed, strip_found (codes "pt=") text typed is, typed_both.sound typed lists e)
 
@@ -150,7 +175,8 @@ lists_both = record {
   complete = λ text lists h.
       elim h [
         | inl k ↦ ap lists_read k.1 ∙ typed_both.complete k.0 lists k.2
-        | inr k ↦ rw (strip_none (codes "pt=") text k.0, restricted_both.complete text lists.1 k.2) (ap (λ (types : List ℕ). Some (types, lists.1)) (sym k.1))
+        | inr k ↦ rw (strip_none (codes "pt=") text k.0, restricted_both.complete text lists.1 k.2)
+            (ap (λ (types : List ℕ). Some (types, lists.1)) (sym k.1))
       ];
 }
 

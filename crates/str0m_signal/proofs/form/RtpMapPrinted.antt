@@ -3,8 +3,11 @@ use Rattle.str0m_formats.specs.codec.Codec.{codec_of}
 use Rattle.str0m_formats.specs.declared.codec.Codec.TheVariants as codec
 use Rattle.str0m_sdp.specs.declared.attribute.rtp_map.RtpMap.{RtpMap as Mapping}
 use Rattle.str0m_sdp.specs.declared.label.TheConstants as label
-use Rattle.str0m_signal.proofs.Common.{◌≡◌, ◌<◌, ◌≤◌, ℕ, List, ◌++◌, Option, Some, None, IfSome, refl, subst, arith, lit<, lit≤, inl, inr, codes, decimal, decimal_nonempty, Lacks, IsRest, IsPt, printed_and_read, Codec, read_as, media_attribute_text, RtcpFb, channels_text, rtp_map_text, RtpMap, codec_text, IsReadAs}
-use Rattle.str0m_signal.proofs.session.AttributesPrinted.{HoldsNoEnd, no_ends, no_end, num_is, decimal_lacks, decimal_no_end, attribute_printed}
+use Rattle.str0m_signal.proofs.Common.{◌≡◌, ◌<◌, ◌≤◌, ℕ, List, ◌++◌, Option, Some, None, IfSome, refl, subst, arith, lit<, lit≤, inl, inr}
+use Rattle.str0m_signal.proofs.Common.{codes, decimal, decimal_nonempty, Lacks, IsRest, IsPt, printed_and_read, Codec, read_as}
+use Rattle.str0m_signal.proofs.Common.{media_attribute_text, RtcpFb, channels_text, rtp_map_text, RtpMap, codec_text, IsReadAs}
+use Rattle.str0m_signal.proofs.session.AttributesPrinted.{HoldsNoEnd, no_ends, no_end, num_is, decimal_lacks, decimal_no_end}
+use Rattle.str0m_signal.proofs.session.AttributesPrinted.{attribute_printed}
 use Rattle.str0m_signal.specs.back.Writable.{IsPrintedAs}
 use Rattle.str0m_signal.specs.form.Forms.{Behind, IsText, Two}
 use Rattle.str0m_signal.specs.form.MediaAttribute.{IsMediaLine}
@@ -48,43 +51,44 @@ pub record KeepsToMapping (value : Mapping) : Type 0 where
 
 pub mapping_printed : (pt : ℕ) (value : Mapping) → pt ≤ 127 → KeepsToMapping value
     → IsPrintedAs IsMediaLine (media_attribute_text (RtpMap pt value)) (RtpMap pt (mapping_as_read value))
-mapping_printed pt value small keeps = attribute_printed text (RtpMap pt (mapping_as_read value)) quiet (inl ((pt, mapping_as_read value), is, refl)) where
-  clock : HoldsNoEnd (decimal value.clock_rate)
-  clock = let limit = keeps.clock.1 in decimal_no_end value.clock_rate (omega arith)
+mapping_printed pt value small keeps = attribute_printed text (RtpMap pt (mapping_as_read value)) quiet
+    (inl ((pt, mapping_as_read value), is, refl)) where
+      clock : HoldsNoEnd (decimal value.clock_rate)
+      clock = let limit = keeps.clock.1 in decimal_no_end value.clock_rate (omega arith)
 
-  name : IsMappingName (codec_text value.codec)
-  name = codec_has_name value.codec
+      name : IsMappingName (codec_text value.codec)
+      name = codec_has_name value.codec
 
-  text : List ℕ
-  text = label.RTPMAP.now ++ (decimal pt ++ (codes " " ++ rtp_map_text value))
+      text : List ℕ
+      text = label.RTPMAP.now ++ (decimal pt ++ (codes " " ++ rtp_map_text value))
 
-  quiet : HoldsNoEnd text
-  quiet =
-      no_ends label.RTPMAP.now _ (no_end label.RTPMAP.now refl refl)
-      (no_ends (decimal pt) _ (decimal_no_end pt (omega arith))
-      (no_ends (codes " ") _ (no_end (codes " ") refl refl)
-      (no_ends (codec_text value.codec) _ name.quiet
-      (no_ends (codes "/") _ (no_end (codes "/") refl refl)
-      (no_ends (decimal value.clock_rate) (channels_text value.channels) clock (channels_no_end value.channels keeps.channels))))))
+      quiet : HoldsNoEnd text
+      quiet =
+          no_ends label.RTPMAP.now _ (no_end label.RTPMAP.now refl refl)
+          (no_ends (decimal pt) _ (decimal_no_end pt (omega arith))
+          (no_ends (codes " ") _ (no_end (codes " ") refl refl)
+          (no_ends (codec_text value.codec) _ name.quiet
+          (no_ends (codes "/") _ (no_end (codes "/") refl refl)
+          (no_ends (decimal value.clock_rate) (channels_text value.channels) clock (channels_no_end value.channels keeps.channels))))))
 
-  is : IsRtpMap text pt (mapping_as_read value)
-  is =
-      let limit = keeps.clock.1 in
-      record {
-        number = decimal pt;
-        codec = codec_text value.codec;
-        clock = decimal value.clock_rate;
-        channels = channels_text value.channels;
-        joined = refl;
-        number_is = num_is 127 pt small (lit< tt);
-        codec_is = ((name.filled, name.no_slash), codec_is value.codec);
-        clock_is = (
-          (decimal_nonempty value.clock_rate (omega arith), decimal_lacks 47 value.clock_rate (lit≤ tt) (omega arith)),
-          num_is 4294967295 value.clock_rate limit (lit< tt),
-          keeps.clock.0,
-        );
-        channels_is = channels_are value.channels keeps.channels;
-      }
+      is : IsRtpMap text pt (mapping_as_read value)
+      is =
+          let limit = keeps.clock.1 in
+          record {
+            number = decimal pt;
+            codec = codec_text value.codec;
+            clock = decimal value.clock_rate;
+            channels = channels_text value.channels;
+            joined = refl;
+            number_is = num_is 127 pt small (lit< tt);
+            codec_is = ((name.filled, name.no_slash), codec_is value.codec);
+            clock_is = (
+              (decimal_nonempty value.clock_rate (omega arith), decimal_lacks 47 value.clock_rate (lit≤ tt) (omega arith)),
+              num_is 4294967295 value.clock_rate limit (lit< tt),
+              keeps.clock.0,
+            );
+            channels_is = channels_are value.channels keeps.channels;
+          }
 
 -- ---- feedback
 

@@ -1,5 +1,7 @@
 -- The values without keys of an fmtp line are read exactly where they stand.
-use Rattle.str0m_signal.proofs.Common.{ℕ, List, [], ◌∷◌, Option, Some, refl, sym, ap, ◌∙◌, arith, codes, FormatParam, BareRange, BarePtList, ◌>>=◌, strip, num, FirstFit, Parted, Lacks, IsNum, bind_some, some_is, reads_first, cut_at, strip_found, number_lacks, num_reads, num_both, Reads, IsEventRange, Unknown}
+use Rattle.str0m_signal.proofs.Common.{ℕ, List, [], ◌∷◌, Option, Some, refl, sym, ap, ◌∙◌, arith, codes, FormatParam, BareRange, BarePtList}
+use Rattle.str0m_signal.proofs.Common.{◌>>=◌, strip, num, FirstFit, Parted, Lacks, IsNum, bind_some, some_is, reads_first, cut_at}
+use Rattle.str0m_signal.proofs.Common.{strip_found, number_lacks, num_reads, num_both, Reads, IsEventRange, Unknown}
 use Rattle.str0m_signal.proofs.form.FormLaws.{digits_both, two_both, behind_both}
 use Rattle.str0m_signal.proofs.line.PartLaws.{parted_both}
 use Rattle.str0m_signal.specs.form.Fmtp.{IsListForm, IsRangeForm, IsAnything}
@@ -25,10 +27,15 @@ first_both = record {
       let a = bind_some (two_read 47 (num 255) (parted_read 47 (num 255)) text) (λ numbers. Some numbers.0) first e in
       rw (← some_is a.0.0 first a.2) (listed text a.0.0 a.0.1 ((two_both 47 (num_both 255) slashed_both).sound text a.0 a.1));
   complete = λ text first h.
-      ap first_number_read h.2.2 ∙ rw (cut_at 47 h.2.0 h.2.1 (num_lacks h.2.0 first h.2.3), num_reads 255 h.2.0 first h.2.3, slashed_both.complete h.2.1 (h.0 ∷ h.1) h.2.4) refl;
+      ap first_number_read h.2.2 ∙ rw (
+        cut_at 47 h.2.0 h.2.1 (num_lacks h.2.0 first h.2.3),
+        num_reads 255 h.2.0 first h.2.3,
+        slashed_both.complete h.2.1 (h.0 ∷ h.1) h.2.4,
+      ) refl;
 }
   where
-    listed : (text : List ℕ) (first : ℕ) (others : List ℕ) → Two 47 (IsNum 255) (Parted 47 (IsNum 255)) text (first, others) → IsFirstNumber text first
+    listed : (text : List ℕ) (first : ℕ) (others : List ℕ) → Two 47 (IsNum 255) (Parted 47 (IsNum 255)) text (first, others)
+        → IsFirstNumber text first
     listed text first [] h = absurd h.5
     listed text first (x ∷ xs) h = (x, xs, (h.0, h.1, h.2, h.4, h.5))
 
@@ -52,7 +59,8 @@ list_form_both = record {
       let is = (behind_both (codes " ") first_both).sound more a.0 a.1 in
       (a.0, is.2.0, is.2.1, (is.0, is.1, is.2.2), sym (some_is (BarePtList a.0 ∷ []) values a.2));
   complete = λ more values h.
-      ap (λ (o : Option ℕ). o >>= λ first. Some (BarePtList first ∷ [])) ((behind_both (codes " ") first_both).complete more h.0 (h.3.0, h.3.1, (h.1, h.2, h.3.2)))
+      ap (λ (o : Option ℕ). o >>= λ first. Some (BarePtList first ∷ []))
+      ((behind_both (codes " ") first_both).complete more h.0 (h.3.0, h.3.1, (h.1, h.2, h.3.2)))
       ∙ ap (λ (t : List FormatParam). Some t) (sym h.4);
 }
 

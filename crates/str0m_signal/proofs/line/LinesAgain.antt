@@ -1,6 +1,9 @@
 -- The lines of what was read; m-lines and bandwidths are printed as they were.
 use Rattle.str0m_sdp.specs.declared.attribute.media_type.MediaType.TheVariants as typ
-use Rattle.str0m_signal.proofs.Common.{◌≡◌, ◌≢◌, ◌⊎◌, ℕ, List, [], ◌∷◌, ◌++◌, Option, Some, None, IfSome, refl, subst, arith, lit<, lit≤, inl, inr, codes, AllByRecursion, append_assoc, FirstFit, Parted, Lacks, IsWord, IsNum, Lacks-append, bandwidth_text, pts_text, formats_text, media_type_text, Bandwidth, MediaLine, MediaType, Proto, Sctp, none_reads}
+use Rattle.str0m_signal.proofs.Common.{◌≡◌, ◌≢◌, ◌⊎◌, ℕ, List, [], ◌∷◌, ◌++◌, Option, Some, None, IfSome, refl, subst, arith, lit<, lit≤}
+use Rattle.str0m_signal.proofs.Common.{inl, inr, codes, AllByRecursion, append_assoc, FirstFit, Parted, Lacks, IsWord, IsNum, Lacks-append}
+use Rattle.str0m_signal.proofs.Common.{bandwidth_text, pts_text, formats_text, media_type_text, Bandwidth, MediaLine, MediaType, Proto}
+use Rattle.str0m_signal.proofs.Common.{Sctp, none_reads}
 use Rattle.str0m_signal.proofs.form.FmtpPrinted.{behind_lacks}
 use Rattle.str0m_signal.proofs.form.FormPiecesAgain.{num_again, parted_again}
 use Rattle.str0m_signal.proofs.line.WordsCharacterStarts.{StartsWithin, front_starts, behind_starts}

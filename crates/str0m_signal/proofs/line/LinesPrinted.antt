@@ -1,5 +1,6 @@
 -- Printed texts are their lines, these are read one after another, and a run stops where another letter begins.
-use Rattle.str0m_signal.proofs.Common.{arith, ◌≡◌, ◌≢◌, inl, inr, get_or, ℕ, List, [], ◌∷◌, ◌++◌, refl, sym, ap, ◌∙◌, subst, codes, flat_map, append_assoc, Lacks, line_end}
+use Rattle.str0m_signal.proofs.Common.{arith, ◌≡◌, ◌≢◌, inl, inr, get_or, ℕ, List, [], ◌∷◌, ◌++◌, refl, sym, ap, ◌∙◌, subst, codes}
+use Rattle.str0m_signal.proofs.Common.{flat_map, append_assoc, Lacks, line_end}
 use Rattle.str0m_signal.proofs.session.AttributesPrinted.{LinesReadAs}
 use Rattle.str0m_signal.specs.line.Lines.{Line, joined, AreLines, Lines, OneLine, IsAttributeLine, Chain, Stops}
 use Rattle.str0m_signal.specs.session.Section.{IsField, IsBandwidth}

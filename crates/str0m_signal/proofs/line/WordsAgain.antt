@@ -1,5 +1,7 @@
 -- Words, names and bytes are printed as they were read.
-use Rattle.str0m_signal.proofs.Common.{◌≡◌, ◌≤◌, ◌<◌, ◌/◌, ◌%◌, ℕ, true, List, [], ◌∷◌, ◌++◌, refl, sym, subst, arith, lit≤, inl, inr, codes, digit_value, AllByRecursion, flat_map, join_by, append-nil, Parted, Lacks, IsRest, IsLongestBeginning, Lacks-append, digit_glyph, hex_pair, pairs_text, glyph_value}
+use Rattle.str0m_signal.proofs.Common.{◌≡◌, ◌≤◌, ◌<◌, ◌/◌, ◌%◌, ℕ, true, List, [], ◌∷◌, ◌++◌, refl, sym, subst, arith, lit≤, inl, inr}
+use Rattle.str0m_signal.proofs.Common.{codes, digit_value, AllByRecursion, flat_map, join_by, append-nil, Parted, Lacks, IsRest}
+use Rattle.str0m_signal.proofs.Common.{IsLongestBeginning, Lacks-append, digit_glyph, hex_pair, pairs_text, glyph_value}
 use Rattle.str0m_signal.proofs.form.FmtpPrinted.{behind_lacks}
 use Rattle.str0m_signal.proofs.form.FormPiecesAgain.{Again, text_again, two_again, parted_again}
 use Rattle.str0m_signal.proofs.line.WordsCharacterStarts.{StartsWithin, front_starts, behind_starts, kept_some}

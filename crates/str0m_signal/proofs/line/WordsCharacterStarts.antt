@@ -1,6 +1,7 @@
 -- In a text of UTF-8 characters begin close to each other, so something is kept of each text that isn't empty.
 use Rattle.std.specs.Char.{encode_utf8}
-use Rattle.str0m_signal.proofs.Common.{◌⊎◌, ◌≤◌, ◌<◌, ◌+◌, ◌-◌, ◌%◌, ℕ, suc, List, [], ◌∷◌, ◌++◌, length, subst, arith, lit≤, inl, inr, IsCharBoundary, cases_lt, IsRest, IsLongestBeginning, IsUtf8, encode_utf8_all}
+use Rattle.str0m_signal.proofs.Common.{◌⊎◌, ◌≤◌, ◌<◌, ◌+◌, ◌-◌, ◌%◌, ℕ, suc, List, [], ◌∷◌, ◌++◌, length, subst, arith, lit≤, inl, inr}
+use Rattle.str0m_signal.proofs.Common.{IsCharBoundary, cases_lt, IsRest, IsLongestBeginning, IsUtf8, encode_utf8_all}
 
 -- a byte inside a character
 abbrev IsInside : ℕ → Type 0

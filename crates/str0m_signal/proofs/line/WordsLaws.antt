@@ -1,12 +1,17 @@
 -- Lists of words are read both ways.
-use Rattle.str0m_signal.proofs.Common.{rules, ◌≡◌, ◌≢◌, ◌⊎◌, ◌<◌, ◌≤◌, ◌+◌, ℕ, List, [], ◌∷◌, ◌++◌, Option, Some, None, refl, sym, ap, ◌∙◌, arith, inl, inr, codes, digit_value, lt-ltb, eq-eqb, ne_eqb, cases_eq, ◌>>=◌, cut, strip, lacks, num, Parted, Lacks, IsRest, IsNum, beginning_is, beginning_only, bind_some, if_some, some_is, cut_none, cut_none_lacks, cut_at, cut_found, strip_found, lacks_true, lacks_from, number_lacks, num_both, Reads, append-nil}
+use Rattle.str0m_signal.proofs.Common.{rules, ◌≡◌, ◌≢◌, ◌⊎◌, ◌<◌, ◌≤◌, ◌+◌, ℕ, List, [], ◌∷◌, ◌++◌, Option, Some, None, refl, sym, ap, ◌∙◌}
+use Rattle.str0m_signal.proofs.Common.{arith, inl, inr, codes, digit_value, lt-ltb, eq-eqb, ne_eqb, cases_eq, ◌>>=◌, cut, strip, lacks, num}
+use Rattle.str0m_signal.proofs.Common.{Parted, Lacks, IsRest, IsNum, beginning_is, beginning_only, bind_some, if_some, some_is, cut_none}
+use Rattle.str0m_signal.proofs.Common.{cut_none_lacks, cut_at, cut_found, strip_found, lacks_true, lacks_from, number_lacks, num_both}
+use Rattle.str0m_signal.proofs.Common.{Reads, append-nil}
 use Rattle.str0m_signal.proofs.form.FormLaws.{text_both, two_both}
 use Rattle.str0m_signal.proofs.line.PartLaws.{parted_both}
 use Rattle.str0m_signal.specs.form.FormReading.{text_read, two_read, parted_read}
 use Rattle.str0m_signal.specs.form.Forms.{IsText, Two}
 use Rattle.str0m_signal.specs.line.Lines.{EndsIn}
 use Rattle.str0m_signal.specs.line.Words.{IsWordText, IsName, IsHexPair, IsSpace, AreNames, IsGroup, IsMsidSemantic}
-use Rattle.str0m_signal.specs.line.WordsReading.{word_text_read, name_read, digit_read, hex_pair_read, without_space, names_after, names_read, group_fields_read, behind_space, msid_semantic_fields_read}
+use Rattle.str0m_signal.specs.line.WordsReading.{word_text_read, name_read, digit_read, hex_pair_read, without_space, names_after}
+use Rattle.str0m_signal.specs.line.WordsReading.{names_read, group_fields_read, behind_space, msid_semantic_fields_read}
 
 -- ---- items
 
@@ -104,13 +109,15 @@ names_whole text typ (x ∷ xs) h = grind (arith, behind_word h.0 h.1, parted_re
 
 -- ---- groups
 
-names_found : (text : List ℕ) (group : List ℕ × List (List ℕ)) (o : Option (List ℕ × List ℕ)) → cut 32 text ≡ o → names_after text o ≡ Some group → AreNames text group.0 group.1
+names_found : (text : List ℕ) (group : List ℕ × List (List ℕ)) (o : Option (List ℕ × List ℕ)) → cut 32 text ≡ o
+    → names_after text o ≡ Some group → AreNames text group.0 group.1
 names_found text group None cut-is e = grind (arith, bind_some, text_both, some_is, cut_none_lacks)
 names_found text group (Some p) cut-is e =
     let a = bind_some (text_read p.0) (λ typ. parted_read 32 name_read p.1 >>= λ names. Some (typ, names)) group e in
     let b = bind_some (parted_read 32 name_read p.1) (λ names. Some (a.0, names)) group a.2 in
     let found = cut_found 32 text p.0 p.1 cut-is in
-    rw (← some_is (a.0, b.0) group b.2) (listed text a.0 b.0 (p.0, p.1, found.0, found.1, text_both.sound p.0 a.0 a.1, names_list_both.sound p.1 b.0 b.1))
+    rw (← some_is (a.0, b.0) group b.2)
+    (listed text a.0 b.0 (p.0, p.1, found.0, found.1, text_both.sound p.0 a.0 a.1, names_list_both.sound p.1 b.0 b.1))
   where
     listed : (text typ : List ℕ) (names : List (List ℕ)) → Two 32 IsText (Parted 32 IsName) text (typ, names) → AreNames text typ names
     listed text typ [] h = absurd h.5
@@ -118,7 +125,8 @@ names_found text group (Some p) cut-is e =
 
 names_given : (text typ : List ℕ) (names : List (List ℕ)) → AreNames text typ names → names_read text ≡ Some (typ, names)
 names_given text typ [] h = rw (cut_none 32 text h.0.1, text_both.complete text typ (h.0.0, h.1)) refl
-names_given text typ (x ∷ xs) h = ap names_read h.2 ∙ rw (cut_at 32 h.0 h.1 h.3, text_both.complete h.0 typ h.4, names_list_both.complete h.1 (x ∷ xs) h.5) refl
+names_given text typ (x ∷ xs) h = ap names_read h.2
+    ∙ rw (cut_at 32 h.0 h.1 h.3, text_both.complete h.0 typ h.4, names_list_both.complete h.1 (x ∷ xs) h.5) refl
 
 group_whole : (text names end : List ℕ) → text ≡ names ++ end → IsSpace end → without_space names ≡ names → without_space text ≡ names
 group_whole text names end is o whole = grind (arith, append-nil, space_behind)
@@ -141,15 +149,25 @@ no_space_ahead : (a b : List ℕ) → IsRest a → Lacks 32 a → strip (codes "
 no_space_ahead [] b h lacks = absurd (omega (arith, h))
 no_space_ahead (x ∷ xs) b h lacks = rw (ne_eqb 32 x (λ e. lacks.0 (sym e))) refl
 
-semantic_found : (text : List ℕ) (meant : List ℕ × List (List ℕ)) (o : Option (List ℕ)) → strip (codes " ") text ≡ o → two_read 32 text_read (parted_read 32 word_text_read) (behind_space text o) ≡ Some meant → IsMsidSemantic text meant
+semantic_found : (text : List ℕ) (meant : List ℕ × List (List ℕ)) (o : Option (List ℕ)) → strip (codes " ") text ≡ o
+    → two_read 32 text_read (parted_read 32 word_text_read) (behind_space text o) ≡ Some meant → IsMsidSemantic text meant
 semantic_found text meant None is e = ([], text, refl, inl refl, semantic_fields.sound text meant e)
-semantic_found text meant (Some rest) is e = (codes " ", rest, strip_found (codes " ") text rest is, inr refl, semantic_fields.sound rest meant e)
+semantic_found text meant (Some rest) is e = (
+  codes " ",
+  rest,
+  strip_found (codes " ") text rest is,
+  inr refl,
+  semantic_fields.sound rest meant e,
+)
 
-semantic_given : (text lead words : List ℕ) (meant : List ℕ × List (List ℕ)) → text ≡ lead ++ words → IsSpace lead → Two 32 IsText (Parted 32 IsWordText) words meant → msid_semantic_fields_read text ≡ Some meant
+semantic_given : (text lead words : List ℕ) (meant : List ℕ × List (List ℕ)) → text ≡ lead ++ words → IsSpace lead
+    → Two 32 IsText (Parted 32 IsWordText) words meant → msid_semantic_fields_read text ≡ Some meant
 semantic_given text lead words meant is (inl none) h =
     let plain : text ≡ words = is ∙ ap (λ (t : List ℕ). t ++ words) none in
     let front : strip (codes " ") words ≡ None = ap (strip (codes " ")) h.2 ∙ no_space_ahead h.0 (32 ∷ h.1) h.4.0 h.3 in
-    ap msid_semantic_fields_read plain ∙ ap (λ (o : Option (List ℕ)). two_read 32 text_read (parted_read 32 word_text_read) (behind_space words o)) front ∙ semantic_fields.complete words meant h
+    ap msid_semantic_fields_read plain
+    ∙ ap (λ (o : Option (List ℕ)). two_read 32 text_read (parted_read 32 word_text_read) (behind_space words o)) front
+    ∙ semantic_fields.complete words meant h
 semantic_given text lead words meant is (inr space) h =
     ap msid_semantic_fields_read (is ∙ ap (λ (t : List ℕ). t ++ words) space) ∙ semantic_fields.complete words meant h
 

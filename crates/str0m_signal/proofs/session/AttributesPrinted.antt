@@ -1,5 +1,7 @@
 -- Printed attribute lines and their parts.
-use Rattle.str0m_signal.proofs.Common.{◌≡◌, ◌⊎◌, ◌≤◌, ◌<◌, ◌^◌, ℕ, true, List, [], ◌∷◌, ◌++◌, refl, sym, subst, arith, lit≤, inl, inr, codes, digit_value, decimal, decimal_is_IsNumeral, lacks, Lacks, IsNum, lacks_from, digits_lack, attribute_line, MediaAttribute, lacks_both, decimal_reads}
+use Rattle.str0m_signal.proofs.Common.{◌≡◌, ◌⊎◌, ◌≤◌, ◌<◌, ◌^◌, ℕ, true, List, [], ◌∷◌, ◌++◌, refl, sym, subst, arith, lit≤, inl, inr}
+use Rattle.str0m_signal.proofs.Common.{codes, digit_value, decimal, decimal_is_IsNumeral, lacks, Lacks, IsNum, lacks_from, digits_lack}
+use Rattle.str0m_signal.proofs.Common.{attribute_line, MediaAttribute, lacks_both, decimal_reads}
 use Rattle.str0m_signal.specs.back.Writable.{IsPrintedAs}
 use Rattle.str0m_signal.specs.form.FormTable.{any}
 use Rattle.str0m_signal.specs.form.MediaAttribute.{media_forms, MediaForm, IsMediaLine}

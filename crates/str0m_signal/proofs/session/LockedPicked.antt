@@ -1,6 +1,7 @@
 -- Some of the rows that may be printed may be printed, where there is one.
 use Rattle.str0m_formats.proofs.{times-append}
-use Rattle.str0m_signal.proofs.Common.{◌≡◌, ◌≢◌, ◌≤◌, ℕ, Bool, true, false, cond, filter, List, [], ◌∷◌, arith, AllByRecursion, recursion_from_All, types, types_of, PayloadParams, IsPlain, All-from_recursion, times}
+use Rattle.str0m_signal.proofs.Common.{◌≡◌, ◌≢◌, ◌≤◌, ℕ, Bool, true, false, cond, filter, List, [], ◌∷◌, arith, AllByRecursion}
+use Rattle.str0m_signal.proofs.Common.{recursion_from_All, types, types_of, PayloadParams, IsPlain, All-from_recursion, times}
 use Rattle.str0m_signal.specs.back.ReadBack.{MayBePrinted}
 
 module _ (pick : PayloadParams → Bool) where

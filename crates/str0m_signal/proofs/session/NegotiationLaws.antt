@@ -2,7 +2,10 @@
 use Rattle.str0m_sdp.proofs.{all_mapped, map_more}
 use Rattle.str0m_sdp.specs.section.SectionDirection.{section_direction}
 use Rattle.str0m_sdp.specs.section.SectionRows.{rows}
-use Rattle.str0m_signal.proofs.Common.{arith, ◌≡◌, ◌<◌, ◌+◌, ◌++◌, ℕ, Bool, cond, List, [], ◌∷◌, Option, Some, None, Result, All, IfOk, IfSome, length, take, get_or, map, filter_map, option_map, option_to_list, sym, subst, All-nil, All-cons, All-head, All-tail, PayloadParams, Round, is_media, HasBoundedRows, MediaLine, OnErr, map-append, IsBounded}
+use Rattle.str0m_signal.proofs.Common.{arith, ◌≡◌, ◌<◌, ◌+◌, ◌++◌, ℕ, Bool, cond, List, [], ◌∷◌, Option, Some, None, Result, All, IfOk}
+use Rattle.str0m_signal.proofs.Common.{IfSome, length, take, get_or, map, filter_map, option_map, option_to_list, sym, subst, All-nil}
+use Rattle.str0m_signal.proofs.Common.{All-cons, All-head, All-tail, PayloadParams, Round, is_media, HasBoundedRows, MediaLine, OnErr}
+use Rattle.str0m_signal.proofs.Common.{map-append, IsBounded}
 use Rattle.str0m_signal.specs.session.Negotiation.{AreRoundsOf, brought, brought_by}
 use Rattle.str0m_values.specs.declared.direction.Direction.{Direction}
 
@@ -32,11 +35,13 @@ when_media b m bounded = grind arith
 -- what holds of all images holds of the image of each
 of_images : {X Y : Type 0} (P : Y → Type 0) (f : X → Y) (xs : List X) → All P (map f xs) → All (λ x. P (f x)) xs
 of_images P f [] all = All-nil (λ x. P (f x))
-of_images P f (x ∷ xs) all = All-cons (λ x. P (f x)) x xs (All-head P (f x) (map f xs) all) (of_images P f xs (All-tail P (f x) (map f xs) all))
+of_images P f (x ∷ xs) all = All-cons (λ x. P (f x)) x xs (All-head P (f x) (map f xs) all)
+    (of_images P f xs (All-tail P (f x) (map f xs) all))
 
 -- where the rows of each section keep to their ranges, those of each round do
 pub rounds_bounded : (sections : List MediaLine) (rounds : List Round) → AreRoundsOf sections rounds → All HasBoundedRows sections
     → All (λ round. All IsBounded round.remote.items) rounds
 rounds_bounded sections rounds are bounded =
     of_images BringsBounded brought rounds
-    (subst (All BringsBounded) (sym are) (all_mapped HasBoundedRows BringsBounded brought_by (λ m. when_media (is_media m.typ) m) sections bounded))
+    (subst (All BringsBounded) (sym are)
+    (all_mapped HasBoundedRows BringsBounded brought_by (λ m. when_media (is_media m.typ) m) sections bounded))

@@ -2,7 +2,10 @@
 use Rattle.str0m_formats.proofs.{IsKeyed, keyed_or_hidden}
 use Rattle.str0m_formats.specs.format.PairsTriple.{Texts, IsTripleParam}
 use Rattle.str0m_sdp.proofs.{rows_bounded}
-use Rattle.str0m_signal.proofs.Common.{rules, ◌≡◌, ◌⊎◌, arith, param_text, ℕ, Bool, List, [], ◌∷◌, get_or, Option, Result, Ok, Err, All, IfOk, inl, inr, subst, sym, MatchBool, Bor, cons_option, All-nil, FormatParam, KeepsToLine, HasBoundedRows, MediaAttribute, SdpError, MediaLine, Sdp, FirstFit, IsParsed, AreParsed, AreJoined, merged, IsInBounds, KeepsToLines}
+use Rattle.str0m_signal.proofs.Common.{rules, ◌≡◌, ◌⊎◌, arith, param_text, ℕ, Bool, List, [], ◌∷◌, get_or, Option, Result, Ok, Err, All}
+use Rattle.str0m_signal.proofs.Common.{IfOk, inl, inr, subst, sym, MatchBool, Bor, cons_option, All-nil, FormatParam, KeepsToLine}
+use Rattle.str0m_signal.proofs.Common.{HasBoundedRows, MediaAttribute, SdpError, MediaLine, Sdp, FirstFit, IsParsed, AreParsed, AreJoined}
+use Rattle.str0m_signal.proofs.Common.{merged, IsInBounds, KeepsToLines}
 use Rattle.str0m_signal.proofs.form.MediaAttributeAgain.{other_whole, other_again}
 use Rattle.str0m_signal.specs.form.Fmtp.{IsPairsForm, IsListForm, IsRangeForm, IsAnything}
 use Rattle.str0m_signal.specs.form.FormTable.{any}
@@ -26,13 +29,16 @@ params_within [] (param ∷ params) are = absurd are
 params_within (pair ∷ pairs) [] are = absurd are
 params_within (pair ∷ pairs) (param ∷ params) are = grind (arith, parsed_within pair param are.0, params_within pairs params are.1)
 
-triple_within : (texts : Texts) (triple : Option FormatParam) (rest : List FormatParam) → IsTripleParam texts triple → All IsInBounds rest → All IsInBounds (cons_option triple rest)
+triple_within : (texts : Texts) (triple : Option FormatParam) (rest : List FormatParam) → IsTripleParam texts triple → All IsInBounds rest
+    → All IsInBounds (cons_option triple rest)
 triple_within texts triple rest o all = grind arith
 
-read_within : (marked : Bool) (pairs : List (List ℕ × List ℕ)) (params : List FormatParam) → MatchBool marked (AreJoined (merged pairs) params) (AreParsed pairs params) → All IsInBounds params
+read_within : (marked : Bool) (pairs : List (List ℕ × List ℕ)) (params : List FormatParam)
+    → MatchBool marked (AreJoined (merged pairs) params) (AreParsed pairs params) → All IsInBounds params
 read_within marked pairs params are = grind (arith, triple_within, params_within)
 
-fmtp_within : (more : List ℕ) (values : List FormatParam) → FirstFit IsPairsForm (FirstFit IsListForm (FirstFit IsRangeForm IsAnything)) more values → All IsInBounds values
+fmtp_within : (more : List ℕ) (values : List FormatParam)
+    → FirstFit IsPairsForm (FirstFit IsListForm (FirstFit IsRangeForm IsAnything)) more values → All IsInBounds values
 fmtp_within more values o = grind (arith, read_within)
 
 -- ---- lines
@@ -50,7 +56,8 @@ line_keeps : (lines : List Line) (attr : MediaAttribute) (rest : List Line) → 
 line_keeps lines attr rest is = form_keeps is.3.0 attr is.3.2
 
 -- what each part of a chain has, all values have
-all_of_chain : {A : Type 0} (S : List Line → A → List Line → Type 0) (P : A → Type 0) → ((lines : List Line) (a : A) (rest : List Line) → S lines a rest → P a)
+all_of_chain : {A : Type 0} (S : List Line → A → List Line → Type 0) (P : A → Type 0)
+    → ((lines : List Line) (a : A) (rest : List Line) → S lines a rest → P a)
     → (lines : List Line) (values : List A) (rest : List Line) → Chain S lines values rest → All P values
 all_of_chain S P each lines [] rest chain = All-nil P
 all_of_chain S P each lines (a ∷ values) rest chain = grind (arith, all_of_chain S P each chain.0 values rest chain.2)

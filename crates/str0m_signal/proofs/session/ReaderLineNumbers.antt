@@ -1,5 +1,6 @@
 -- The number of the line at which a rest begins: as many lines stand before it as line feeds.
-use Rattle.str0m_signal.proofs.Common.{◌≡◌, ◌≢◌, ◌==◌, ◌+◌, ℕ, List, [], ◌∷◌, ◌++◌, cond, count_by, length, refl, sym, ap, ◌∙◌, arith, inl, inr, ne_eqb, Lacks, sum_by-append, sum_by-cons}
+use Rattle.str0m_signal.proofs.Common.{◌≡◌, ◌≢◌, ◌==◌, ◌+◌, ℕ, List, [], ◌∷◌, ◌++◌, cond, count_by, length, refl, sym, ap, ◌∙◌, arith, inl}
+use Rattle.str0m_signal.proofs.Common.{inr, ne_eqb, Lacks, sum_by-append, sum_by-cons}
 use Rattle.str0m_signal.specs.line.Lines.{Line, joined, IsLine, AreLines}
 use Rattle.str0m_signal.specs.session.Reader.{IsFromLine}
 
@@ -27,12 +28,20 @@ nil_behind (x ∷ a) b e = absurd cc
 some_joined : (before after : List Line) → joined after ≢ [] → joined (before ++ after) ≢ []
 some_joined [] after some = some
 some_joined (line ∷ before) after some =
-    λ e. some_joined before after some (nil_behind line.ending (joined (before ++ after)) (nil_behind line.content (line.ending ++ joined (before ++ after)) e))
+    λ e. some_joined before after some
+    (nil_behind line.ending (joined (before ++ after)) (nil_behind line.content (line.ending ++ joined (before ++ after)) e))
 
 feeds_before : (before after : List Line) → AreLines (before ++ after) → joined after ≢ []
     → line_feeds (joined (before ++ after)) ≡ length before + line_feeds (joined after)
 feeds_before [] after are some = omega arith
-feeds_before (line ∷ before) after are some = grind (arith, feeds_of_both, no_feeds, one_feed, some_joined, feeds_before before after are.1 some)
+feeds_before (line ∷ before) after are some = grind (
+  arith,
+  feeds_of_both,
+  no_feeds,
+  one_feed,
+  some_joined,
+  feeds_before before after are.1 some,
+)
 
 -- where something is left, the line feeds before it are as many as the lines
 pub line_number : (text rest : List ℕ) (h : IsFromLine text rest) → rest ≢ [] → line_feeds text ≡ length h.before + line_feeds rest

@@ -1,5 +1,6 @@
 -- A printed session with its sections has a reading with nothing left.
-use Rattle.str0m_signal.proofs.Common.{◌≡◌, ◌≢◌, ◌<◌, ◌^◌, ℕ, List, [], ◌++◌, IfSome, refl, sym, ap, ◌∙◌, arith, flat_map, append-nil, session_attribute_text, bandwidth_text, media_line_text, sdp_text, SessionAttribute, MediaLine, Sdp}
+use Rattle.str0m_signal.proofs.Common.{◌≡◌, ◌≢◌, ◌<◌, ◌^◌, ℕ, List, [], ◌++◌, IfSome, refl, sym, ap, ◌∙◌, arith, flat_map, append-nil}
+use Rattle.str0m_signal.proofs.Common.{session_attribute_text, bandwidth_text, media_line_text, sdp_text, SessionAttribute, MediaLine, Sdp}
 use Rattle.str0m_signal.proofs.line.LinesPrinted.{joined-append, printed-append, lines_printed, Apart, apart-append}
 use Rattle.str0m_signal.proofs.session.AttributesPrinted.{LinesReadAs}
 use Rattle.str0m_signal.proofs.session.Sections.{AreSectionsRead, SaidSections, said_sections, sections_are}

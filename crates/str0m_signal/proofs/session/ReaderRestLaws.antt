@@ -1,5 +1,6 @@
 -- What a reader leaves of a text begins a line.
-use Rattle.str0m_signal.proofs.Common.{◌≡◌, ℕ, List, [], ◌∷◌, ◌++◌, Option, Some, None, Result, Ok, Err, IfOk, sym, ap, subst, ◌∙◌, append_assoc, codes, Bor, SdpError}
+use Rattle.str0m_signal.proofs.Common.{◌≡◌, ℕ, List, [], ◌∷◌, ◌++◌, Option, Some, None, Result, Ok, Err, IfOk, sym, ap, subst, ◌∙◌}
+use Rattle.str0m_signal.proofs.Common.{append_assoc, codes, Bor, SdpError}
 use Rattle.str0m_signal.specs.form.MediaAttribute.{IsMediaLine}
 use Rattle.str0m_signal.specs.form.SessionAttribute.{IsSessionLine}
 use Rattle.str0m_signal.specs.line.Lines.{Chain, Taken, Line, Lines, OneLine, OfText}
@@ -25,12 +26,14 @@ AlwaysLeaves {A} S = (lines : List Line) (a : A) (rest : List Line) → S lines 
 pub one_leaves : {A : Type 0} (F : List ℕ → A → Type 0) → AlwaysLeaves (OneLine F)
 one_leaves F lines a rest h = record { before = h.0 ∷ []; are = h.1 }
 
-chain_leaves : {A : Type 0} (S : List Line → A → List Line → Type 0) → AlwaysLeaves S → (lines : List Line) (values : List A) (rest : List Line)
+chain_leaves : {A : Type 0} (S : List Line → A → List Line → Type 0) → AlwaysLeaves S
+    → (lines : List Line) (values : List A) (rest : List Line)
     → Chain S lines values rest → LeavesLines lines rest
 chain_leaves S each lines [] rest h = record { before = []; are = h }
 chain_leaves S each lines (a ∷ values) rest h = both_leave (each lines a h.0 h.1) (chain_leaves S each h.0 values rest h.2)
 
-lines_leave : {A : Type 0} (F : List ℕ → A → Type 0) (lines : List Line) (values : List A) (rest : List Line) → Chain (OneLine F) lines values rest
+lines_leave : {A : Type 0} (F : List ℕ → A → Type 0) (lines : List Line) (values : List A) (rest : List Line)
+    → Chain (OneLine F) lines values rest
     → LeavesLines lines rest
 lines_leave F = chain_leaves (OneLine F) (one_leaves F)
 
@@ -71,7 +74,8 @@ reading_leaves lines sdp rest h =
 
 -- what is left of the text, where its lines are read so
 pub left_from_line : {A : Type 0} (S : List Line → A → List Line → Type 0) → AlwaysLeaves S → (text : List ℕ)
-    (result : Result (A × Bor (List ℕ)) SdpError) → Answers unread result (OfText S text) → IfOk result (λ found. IsFromLine text found.1.now)
+    (result : Result (A × Bor (List ℕ)) SdpError) → Answers unread result (OfText S text)
+    → IfOk result (λ found. IsFromLine text found.1.now)
 left_from_line S leaves text (Ok found) h =
     let l = leaves h.0 found.0 h.1 h.3 in
     record { before = l.before; after = h.1; lines_are = subst (Lines text) l.are h.2; rest_is = h.4 }

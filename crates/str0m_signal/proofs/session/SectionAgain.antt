@@ -1,7 +1,12 @@
 -- A section is printed as it was read: its lines are read as a section that is consistent where it was.
 use Rattle.str0m_sdp.specs.declared.attribute.rtp_map.RtpMap.{RtpMap as Mapping}
 use Rattle.str0m_sdp.specs.section.Alike.{Alike}
-use Rattle.str0m_signal.proofs.Common.{◌≡◌, ◌⊎◌, ◌+◌, ℕ, Bool, true, false, not, cond, List, [], ◌∷◌, filter, zero-add, Option, Some, None, IfSome, All, refl, sym, subst, ap, ◌∙◌, arith, inl, inr, AllByRecursion, cases_Bool, All-nil, All-cons, All-head, All-tail, All-weaker, ◌<|>◌, FormatParam, media_attribute_text, Consistent, AgreesOnApt, is_shown, is_of_type, MediaAttribute, Fmtp, RtcpFb, MediaLine, Srtp, Sctp, count_by, All-filter, filter_passes, IsMapped, NamesNoOther, apt_of, apt_among, apt_in, first_apt, maps, is_mid, is_setup, is_direction, RtpMap, sum_by-cons}
+use Rattle.str0m_signal.proofs.Common.{◌≡◌, ◌⊎◌, ◌+◌, ℕ, Bool, true, false, not, cond, List, [], ◌∷◌, filter, zero-add, Option, Some, None}
+use Rattle.str0m_signal.proofs.Common.{IfSome, All, refl, sym, subst, ap, ◌∙◌, arith, inl, inr, AllByRecursion, cases_Bool, All-nil}
+use Rattle.str0m_signal.proofs.Common.{All-cons, All-head, All-tail, All-weaker, ◌<|>◌, FormatParam, media_attribute_text, Consistent}
+use Rattle.str0m_signal.proofs.Common.{AgreesOnApt, is_shown, is_of_type, MediaAttribute, Fmtp, RtcpFb, MediaLine, Srtp, Sctp, count_by}
+use Rattle.str0m_signal.proofs.Common.{All-filter, filter_passes, IsMapped, NamesNoOther, apt_of, apt_among, apt_in, first_apt, maps}
+use Rattle.str0m_signal.proofs.Common.{is_mid, is_setup, is_direction, RtpMap, sum_by-cons}
 use Rattle.str0m_signal.proofs.form.MediaAttributeAgain.{ComesBack, IsHidden, shown_only}
 use Rattle.str0m_signal.specs.back.Writable.{MediaAreReadAs, IsFrame, frame_of}
 

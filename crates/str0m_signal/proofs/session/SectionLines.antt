@@ -1,7 +1,10 @@
 -- Printed sections: their m-line, `c=` and `b=` lines, and the whole of them.
 use Rattle.str0m_sdp.specs.attribute.Proto.{proto_text}
 use Rattle.str0m_sdp.specs.declared.attribute.media_type.MediaType.TheVariants as typ
-use Rattle.str0m_signal.proofs.Common.{◌≡◌, ◌≤◌, inl, ℕ, Bool, true, List, [], ◌∷◌, ◌++◌, refl, sym, ap, ◌∙◌, subst, arith, lit<, ◌↔◌, IsTrue, codes, AllByRecursion, join_by, decimal, append_assoc, append-nil, FirstFit, Parted, IsWord, IsNum, line_end, pts_text, formats_text, m_line, media_type_text, is_media, MediaLine, MediaType, Proto, port_text}
+use Rattle.str0m_signal.proofs.Common.{◌≡◌, ◌≤◌, inl, ℕ, Bool, true, List, [], ◌∷◌, ◌++◌, refl, sym, ap, ◌∙◌, subst, arith, lit<, ◌↔◌}
+use Rattle.str0m_signal.proofs.Common.{IsTrue, codes, AllByRecursion, join_by, decimal, append_assoc, append-nil, FirstFit, Parted, IsWord}
+use Rattle.str0m_signal.proofs.Common.{IsNum, line_end, pts_text, formats_text, m_line, media_type_text, is_media, MediaLine, MediaType}
+use Rattle.str0m_signal.proofs.Common.{Proto, port_text}
 use Rattle.str0m_signal.proofs.session.AttributesPrinted.{HoldsNoEnd, no_ends, no_end, num_is, decimal_no_end}
 use Rattle.str0m_signal.specs.back.Writable.{IsPrintedAs}
 use Rattle.str0m_signal.specs.session.Section.{IsKind, IsProto, IsHead, NoTypes}

@@ -1,6 +1,9 @@
 -- Printed sections are read as sections, one after another.
-use Rattle.str0m_signal.proofs.Common.{◌≡◌, ◌≢◌, ℕ, List, [], ◌∷◌, ◌++◌, Option, Some, None, IfSome, refl, sym, ap, ◌∙◌, subst, arith, lit<, codes, flat_map, append_assoc, lacks_from, media_attribute_text, bandwidth_text, Consistent, line_end, m_line, media_line_text, Bandwidth, MediaLine, bandwidth_line}
-use Rattle.str0m_signal.proofs.line.LinesPrinted.{printed_line, ArePrinted, joined-append, printed-append, Apart, apart-append, apart, no_bandwidth, no_attribute, SaidLines, said}
+use Rattle.str0m_signal.proofs.Common.{◌≡◌, ◌≢◌, ℕ, List, [], ◌∷◌, ◌++◌, Option, Some, None, IfSome, refl, sym, ap, ◌∙◌, subst, arith, lit<}
+use Rattle.str0m_signal.proofs.Common.{codes, flat_map, append_assoc, lacks_from, media_attribute_text, bandwidth_text, Consistent}
+use Rattle.str0m_signal.proofs.Common.{line_end, m_line, media_line_text, Bandwidth, MediaLine, bandwidth_line}
+use Rattle.str0m_signal.proofs.line.LinesPrinted.{printed_line, ArePrinted, joined-append, printed-append, Apart, apart-append, apart}
+use Rattle.str0m_signal.proofs.line.LinesPrinted.{no_bandwidth, no_attribute, SaidLines, said}
 use Rattle.str0m_signal.proofs.session.AttributesPrinted.{LinesReadAs}
 use Rattle.str0m_signal.specs.back.Writable.{IsPrintedAs}
 use Rattle.str0m_signal.specs.form.MediaAttribute.{MediaForm, IsMediaLine}

@@ -1,7 +1,11 @@
 -- A printed header, with a bandwidth or without, and a printed session are read as what they say.
 use Rattle.str0m_sdp.specs.declared.session.Session.{Session as TheSession}
-use Rattle.str0m_signal.proofs.Common.{◌≡◌, ◌≢◌, ◌<◌, ◌^◌, ℕ, List, [], ◌∷◌, ◌++◌, Option, IfSome, refl, sym, ap, ◌∙◌, subst, arith, lit<, codes, flat_map, decimal, decimal_is_IsNumeral, append_assoc, Lacks, lacks_from, session_attribute_text, bandwidth_text, line_end, Bandwidth, SessionAttribute, origin_line, session_text}
-use Rattle.str0m_signal.proofs.line.LinesPrinted.{printed_line, ArePrinted, joined-append, printed-append, Apart, apart-append, apart, no_field, no_attribute, SaidLines, said}
+use Rattle.str0m_signal.proofs.Common.{◌≡◌, ◌≢◌, ◌<◌, ◌^◌, ℕ, List, [], ◌∷◌, ◌++◌, Option, IfSome, refl, sym, ap, ◌∙◌, subst, arith, lit<}
+use Rattle.str0m_signal.proofs.Common.{codes, flat_map, decimal, decimal_is_IsNumeral, append_assoc, Lacks, lacks_from}
+use Rattle.str0m_signal.proofs.Common.{session_attribute_text, bandwidth_text, line_end, Bandwidth, SessionAttribute, origin_line}
+use Rattle.str0m_signal.proofs.Common.{session_text}
+use Rattle.str0m_signal.proofs.line.LinesPrinted.{printed_line, ArePrinted, joined-append, printed-append, Apart, apart-append, apart}
+use Rattle.str0m_signal.proofs.line.LinesPrinted.{no_field, no_attribute, SaidLines, said}
 use Rattle.str0m_signal.proofs.session.AttributesPrinted.{LinesReadAs, HoldsNoEnd, no_ends, no_end, decimal_no_end}
 use Rattle.str0m_signal.proofs.session.Sections.{SaidBandwidth, said_bandwidth}
 use Rattle.str0m_signal.specs.back.Writable.{IsPrintedAs}

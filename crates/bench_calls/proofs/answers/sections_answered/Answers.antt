@@ -7,4 +7,5 @@ pub returns : goal.returns
 returns c =
     let long : c.len.result ≡ length c.in_ok-answer.answer.sdp.media_lines = cc (c.len.ensures, c.deref.ensures) in
     subst (λ (n : ℕ). HasAnswered c.args.offer.now n) (sym long)
-    (as_many_sections c.args.offer.now c.accept_offer.new.self.remote c.in_ok-answer.answer.sdp c.in_ok-answer.ensures.read c.in_ok-answer.ensures.shape)
+    (as_many_sections c.args.offer.now c.accept_offer.new.self.remote c.in_ok-answer.answer.sdp c.in_ok-answer.ensures.read
+    c.in_ok-answer.ensures.shape)

@@ -6,4 +6,5 @@ use Rattle.std.proofs.Common.{refl}
 
 -- no memory was left for a place
 pub returns-in_default-clause-refused : goal.returns-in_default-clause-refused
-returns-in_default-clause-refused c = λ failed. of_full _ c.args.handle.now.inner c.requires.handle (λ before. (Refused Memory, tt, refl, refl))
+returns-in_default-clause-refused c = λ failed. of_full _ c.args.handle.now.inner c.requires.handle
+    (λ before. (Refused Memory, tt, refl, refl))

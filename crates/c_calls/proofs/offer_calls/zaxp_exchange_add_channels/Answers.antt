@@ -10,5 +10,10 @@ use Rattle.std.specs.Prelude.{Option}
 -- the fault is the error of the exchange
 pub returns-in-Err-clause-refused : goal.returns-in-Err-clause-refused
 returns-in-Err-clause-refused c = λ failed.
-    subst (λ (inner : Option Exchange). Of inner (λ before. ToldFault (RefusesCall (RefusesChannels before)) c.tell_error.result)) (sym c.take-exchange.ensures.0)
-    (Refused c.in-Err.error, subst (λ (before : Exchange). RefusesChannels before c.in-Err.error) c.deref_mut.ensures.value c.in-Err.ensures.refused, c.tell_error.ensures.code)
+    subst (λ (inner : Option Exchange). Of inner (λ before. ToldFault (RefusesCall (RefusesChannels before)) c.tell_error.result))
+    (sym c.take-exchange.ensures.0) (
+      Refused c.in-Err.error,
+      subst (λ (before : Exchange). RefusesChannels before c.in-Err.error) c.deref_mut.ensures.value
+          c.in-Err.ensures.refused,
+      c.tell_error.ensures.code,
+    )

@@ -12,9 +12,12 @@ use Rattle.str0m_values.specs.declared.media_kind.MediaKind.{MediaKind}
 -- the fault is the error of the exchange
 pub returns-in-Err-clause-refused : goal.returns-in-Err-clause-refused
 returns-in-Err-clause-refused c = λ failed.
-    subst (λ (inner : Option Exchange). Of inner (λ before. ToldFault (RefusesCall (RefusesMedia before (kind_numbered c.args.kind))) c.tell_error.result)) (sym c.take-exchange.ensures.0) (
+    subst (λ (inner : Option Exchange). Of inner
+    (λ before. ToldFault (RefusesCall (RefusesMedia before (kind_numbered c.args.kind))) c.tell_error.result))
+    (sym c.take-exchange.ensures.0) (
       Refused c.in-Err.error,
       subst (λ (before : Exchange). RefusesMedia before (kind_numbered c.args.kind) c.in-Err.error) c.deref_mut.ensures.value
-          (subst (λ (kind : MediaKind). RefusesMedia c.deref_mut.result.now kind c.in-Err.error) c.kind_numbered.ensures c.in-Err.ensures.refused),
+          (subst (λ (kind : MediaKind). RefusesMedia c.deref_mut.result.now kind c.in-Err.error) c.kind_numbered.ensures
+          c.in-Err.ensures.refused),
       c.tell_error.ensures.code,
     )

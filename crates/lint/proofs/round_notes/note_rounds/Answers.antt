@@ -19,7 +19,8 @@ loop-section-preserved c =
           let one : is_media m.typ ≡ true = search rules in
           let notes : w.note_round.new.notes ≡ c.if-is_media.notes = search rules in
           let config : w.note_round.new.config ≡ c.if-is_media.config = search rules in
-          let so_far = round_step all i m old now.notes w.note_round.new.notes ours now.config.params.items w.note_round.new.config.params.items inside is one now.invariant.1 w.in_ok-note_round.ensures.said in (
+          let so_far = round_step all i m old now.notes w.note_round.new.notes ours now.config.params.items
+          w.note_round.new.config.params.items inside is one now.invariant.1 w.in_ok-note_round.ensures.said in (
             ap (λ (n : Notes). n.last) (sym notes) ∙ w.in_ok-note_round.ensures.last ∙ now.invariant.0,
             subst (λ (n : Notes). SaidSoFar old n (take (i + 1) all) ours c.if-is_media.config.params.items) notes
                 (subst (λ (f : CodecConfig). SaidSoFar old w.note_round.new.notes (take (i + 1) all) ours f.params.items) config so_far),

@@ -6,4 +6,5 @@ use Rattle.lint.specs.Fates.{AddsFates, fate}
 abbrev pub invariant-loop-theirs : goal.invariant-loop-theirs
 invariant-loop-theirs l =
     (l.notes.last ≡ l.initial.notes.last)
-    × AddsFates (filter_map (fate l.ran.before.now l.ran.receives l.ran.after.now l.ran.outcome l.partners) (take l.theirs-index l.theirs-items)) l.initial.notes l.notes
+    × AddsFates (filter_map (fate l.ran.before.now l.ran.receives l.ran.after.now l.ran.outcome l.partners)
+    (take l.theirs-index l.theirs-items)) l.initial.notes l.notes

@@ -6,4 +6,5 @@ use Rattle.std.specs.String.{string_bytes}
 
 -- the lines of the rows so far are appended
 abbrev pub invariant-loop-row : goal.invariant-loop-row
-invariant-loop-row l = string_bytes l.text ≡ string_bytes l.initial.text ++ flat_map (row_line (string_bytes l.mid)) (take l.row-index l.row-items)
+invariant-loop-row l = string_bytes l.text ≡ string_bytes l.initial.text
+    ++ flat_map (row_line (string_bytes l.mid)) (take l.row-index l.row-items)

@@ -10,4 +10,5 @@ dash (Some x) none = absurd (none refl)
 
 pub returns-else-has_mid : goal.returns-else-has_mid
 returns-else-has_mid c =
-    rw (dash _ (λ some. true≢false (sym (c.has_mid.ensures.1 ((mid_counted c.args.section.now.attrs).0 some)) ∙ c.if-has_mid.false))) c.from_str.ensures.ok
+    rw (dash _ (λ some. true≢false (sym (c.has_mid.ensures.1 ((mid_counted c.args.section.now.attrs).0 some)) ∙ c.if-has_mid.false)))
+    c.from_str.ensures.ok

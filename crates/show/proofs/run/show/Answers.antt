@@ -14,7 +14,8 @@ pub returns-clause-shown : goal.returns-clause-shown
 returns-clause-shown g c =
     let prints = rw c.as_str.ensures.value at c.in_ok-printed.ensures.printed in
     let written = rw c.as_str-2.ensures.value at c.write_whole.ensures.written in
-    on_ok_weaker c.write_whole.result (λ w. (string_bytes c.in_ok-printed.printed, (string_bytes c.in_ok-text.text, c.in_ok-text.ensures.whole, prints), w)) written
+    on_ok_weaker c.write_whole.result
+    (λ w. (string_bytes c.in_ok-printed.printed, (string_bytes c.in_ok-text.text, c.in_ok-text.ensures.whole, prints), w)) written
 
 pub returns-clause-refused : goal.returns-clause-refused
 returns-clause-refused g c =

@@ -8,11 +8,13 @@ use Rattle.str0m_values.specs.CandidateReading.{candidate_read}
 use Rattle.str0m_values.specs.Cuts.{IsTheOnly}
 use Rattle.str0m_values.specs.declared.candidate.Candidate.{Candidate}
 
-candidate_found : {E : Type 0} (text : List ℕ) (r : Result (Option Candidate) E) → IfOk r (λ found. found ≡ candidate_read text) → IfOk r (IsTheOnly (IsCandidateText text))
+candidate_found : {E : Type 0} (text : List ℕ) (r : Result (Option Candidate) E) → IfOk r (λ found. found ≡ candidate_read text)
+    → IfOk r (IsTheOnly (IsCandidateText text))
 candidate_found text (Ok found) h = only_read candidate_both text found h
 candidate_found text (Err e) h = tt
 
-printed : {E : Type 0} (text : List ℕ) (r : Result (Option Candidate) E) → IfOk r (λ found. found ≡ candidate_read text) → (c : Candidate) → IsPrintable c → text ≡ candidate_text c → IfOk r (λ found. found ≡ Some c)
+printed : {E : Type 0} (text : List ℕ) (r : Result (Option Candidate) E) → IfOk r (λ found. found ≡ candidate_read text) → (c : Candidate)
+    → IsPrintable c → text ≡ candidate_text c → IfOk r (λ found. found ≡ Some c)
 printed text (Ok found) h c fits is = h ∙ ap candidate_read is ∙ candidate_both.complete (candidate_text c) c (printed_candidate c fits)
 printed text (Err e) h c fits is = tt
 

@@ -11,4 +11,5 @@ returns c =
     (c.in_ok-append-2.ensures.items ∙ ap (λ (lines : List MediaAttribute). c.append.new.self.items ++ lines)
     (c.in_ok-repeated.ensures ∙ ap (λ (known : List (List ℕ)). repeated_lines known c.args.offered.now) c.as_slice.ensures))
     c.in_ok-push_msid.ensures
-    (c.in_ok-append-3.ensures.items ∙ ap (λ (lines : List MediaAttribute). c.push_msid.new.lines.items ++ lines) c.in_ok-layer_lines.ensures)
+    (c.in_ok-append-3.ensures.items ∙ ap (λ (lines : List MediaAttribute). c.push_msid.new.lines.items ++ lines)
+    c.in_ok-layer_lines.ensures)

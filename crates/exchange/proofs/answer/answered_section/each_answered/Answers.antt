@@ -23,5 +23,6 @@ loop-section-preserved c =
           (all_zip_more Answers offered c.loop-section.sections.items i c.section-item.result c.in_ok-answered_section.field-0
           c.loop-section-test.true c.section-item.is c.loop-section.invariant.0 c.in_ok-answered_section.ensures),
       c.rows_of_next.ensures.later (drop (i + 1) offered)
-          (subst (λ (sections : List MediaLine). AreOfferRounds c.args.offer.now sections c.loop-section.left.now) next c.loop-section.invariant.1),
+          (subst (λ (sections : List MediaLine). AreOfferRounds c.args.offer.now sections c.loop-section.left.now) next
+          c.loop-section.invariant.1),
     )

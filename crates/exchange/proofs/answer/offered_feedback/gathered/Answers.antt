@@ -18,7 +18,8 @@ loop-attr-preserved c =
     elim c.match-attr.branch [
       | goal.in-RtcpFb w ↦
           rw (w.of_types-is, w.of_all-is, w.add_words.ensures.added, w.as_str.ensures.value)
-          (typed_more attrs of_types of_all i w.in-RtcpFb.pt w.in-RtcpFb.value attr lt is w.in-RtcpFb.is w.add_words.ensures.within c.loop-attr.invariant)
+          (typed_more attrs of_types of_all i w.in-RtcpFb.pt w.in-RtcpFb.value attr lt is w.in-RtcpFb.is w.add_words.ensures.within
+          c.loop-attr.invariant)
       | goal.in_default w ↦
           rw (w.of_types-is, w.of_all-is, w.with_line-of_all.ensures)
           (other_more attrs of_types of_all i attr lt is w.in_default.not-RtcpFb c.loop-attr.invariant)

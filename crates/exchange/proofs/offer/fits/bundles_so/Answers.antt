@@ -6,5 +6,7 @@ use Rattle.exchange.specs.offer.Fits.{IsBundledSo}
 pub returns : goal.returns
 returns c =
     let all : All (IsBundledSo c.args.offer.now c.args.answer.now) (bundle_names c.args.answer.now) =
-    subst (All (IsBundledSo c.args.offer.now c.args.answer.now)) (take_all c.loop-mid.mid-index c.bundle_names-listed.result.now c.loop-mid-test.false ∙ c.bundle_names-listed.ensures) c.loop-mid.invariant in
+    subst (All (IsBundledSo c.args.offer.now c.args.answer.now))
+    (take_all c.loop-mid.mid-index c.bundle_names-listed.result.now c.loop-mid-test.false ∙ c.bundle_names-listed.ensures)
+    c.loop-mid.invariant in
     (λ yes. all, λ so. refl)

@@ -11,7 +11,8 @@ returns-then-not-branch c =
 
 pub loop-rule-preserved : goal.loop-rule-preserved
 loop-rule-preserved c =
-    All-more (Keeps c.args.ours.now.params.items c.args.answer.now c.args.offered.now c.args.answered.now) rules_asked c.loop-rule.rule-index Sections
+    All-more (Keeps c.args.ours.now.params.items c.args.answer.now c.args.offered.now c.args.answered.now) rules_asked
+    c.loop-rule.rule-index Sections
     c.loop-rule-test.true c.loop-rule.invariant (c.in_ok-keeps.ensures.0 c.if-not-branch.false)
 
 pub returns : goal.returns

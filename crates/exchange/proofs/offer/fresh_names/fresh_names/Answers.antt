@@ -12,6 +12,7 @@ loop-alloc-preserved c =
     let pushed : c.push.new.self ≡ names ++ decimal n ∷ [] =
     c.in_ok-push.ensures.ok ∙ ap (λ (name : List ℕ). names ++ name ∷ []) (c.in_ok-number_name.ensures next.bounded) in
     record {
-      fresh = subst (λ (all : List (List ℕ)). AreFresh taken 0 all (n + 1)) (sym pushed) (fresh_more taken 0 names c.loop-alloc.from n c.loop-alloc.invariant.fresh next);
+      fresh = subst (λ (all : List (List ℕ)). AreFresh taken 0 all (n + 1)) (sym pushed)
+          (fresh_more taken 0 names c.loop-alloc.from n c.loop-alloc.invariant.fresh next);
       most = grind (arith, length-append, pushed);
     }

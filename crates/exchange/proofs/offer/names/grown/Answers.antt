@@ -4,5 +4,6 @@ use Rattle.exchange.specs.offer.Names.{new_name}
 
 pub loop-section-preserved : goal.loop-section-preserved
 loop-section-preserved c =
-    let more = map_more (new_name c.args.had.now) c.args.sections.now c.loop-section.section-index c.section-item.result c.loop-section-test.true c.section-item.is in
+    let more = map_more (new_name c.args.had.now) c.args.sections.now c.loop-section.section-index c.section-item.result
+    c.loop-section-test.true c.section-item.is in
     grind (arith, common_steps, more)

@@ -10,5 +10,8 @@ pub returns : goal.returns
 returns c =
     let past : length c.args.before.now.media_lines ≤ c.loop-at.at = omega (arith, c.len-at-end.ensures) in
     record {
-      exact = (λ h. absurd (false≢true h), λ restart. absurd (no_restart c.args.before.now c.args.now.now c.loop-at.at past c.loop-at.invariant restart));
+      exact = (
+        λ h. absurd (false≢true h),
+        λ restart. absurd (no_restart c.args.before.now c.args.now.now c.loop-at.at past c.loop-at.invariant restart),
+      );
     }

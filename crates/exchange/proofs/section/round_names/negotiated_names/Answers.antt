@@ -9,5 +9,6 @@ returns-clause-one_each c = λ before after outcomes negotiated.
     let sections : List MediaLine = c.as_slice-sections.result.now in
     let are : c.loop-section.names.items ≡ negotiated_names c.args.sdp.now =
     c.loop-section.invariant
-    ∙ ap (λ (ms : List MediaLine). map name_of (filter has_round ms)) (take_all c.loop-section.section-index sections c.loop-section-test.false ∙ c.as_slice-sections.ensures) in
+    ∙ ap (λ (ms : List MediaLine). map name_of (filter has_round ms))
+    (take_all c.loop-section.section-index sections c.loop-section-test.false ∙ c.as_slice-sections.ensures) in
     ap (λ (names : List (Option (List ℕ))). length names) are ∙ one_each c.args.sdp.now before after outcomes negotiated

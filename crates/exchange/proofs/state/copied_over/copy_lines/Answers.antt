@@ -8,7 +8,12 @@ loop-i-init c = (refl, sym (length_all_zip Alike _ _ c.requires), λ k d e le lt
 pub copy_line-requires : goal.copy_line-requires
 copy_line-requires c =
     let lt : c.loop-i.i < length c.args.sources.now = omega (arith, c.loop-i-test.true) in
-    from_on_at Alike c.args.sources.now c.loop-i.lines.items c.loop-i.i _ _ lt c.index-sources-i.is c.index_mut.ensures.value c.loop-i.invariant.2
+    from_on_at Alike c.args.sources.now c.loop-i.lines.items c.loop-i.i _ _ lt c.index-sources-i.is c.index_mut.ensures.value
+    c.loop-i.invariant.2
 
 pub loop-i-preserved : goal.loop-i-preserved
-loop-i-preserved c = (grind (arith, common_steps), grind (arith, common_steps), behind_place Alike c.args.sources.now c.loop-i.lines.items c.loop-i.i _ c.loop-i.invariant.2)
+loop-i-preserved c = (
+  grind (arith, common_steps),
+  grind (arith, common_steps),
+  behind_place Alike c.args.sources.now c.loop-i.lines.items c.loop-i.i _ c.loop-i.invariant.2,
+)

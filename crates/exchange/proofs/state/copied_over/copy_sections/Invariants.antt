@@ -5,4 +5,5 @@ use Rattle.exchange.specs.state.ReadBack.{IsSectionReadAs}
 
 -- the sections so far are equal, there are as many as there were, and the others are as they were
 abbrev pub invariant-loop-i : goal.invariant-loop-i
-invariant-loop-i l = (take l.i l.sections.items ≡ take l.i l.sources) × (length l.sections.items ≡ length l.sources) × FromOn IsSectionReadAs l.sources l.sections.items l.i
+invariant-loop-i l = (take l.i l.sections.items ≡ take l.i l.sources) × (length l.sections.items ≡ length l.sources)
+    × FromOn IsSectionReadAs l.sources l.sections.items l.i

@@ -5,4 +5,5 @@ use Rattle.str0m_formats.specs.format.PairsReading.{entry_texts}
 
 -- the pairs so far
 abbrev pub invariant-loop-key : goal.invariant-loop-key
-invariant-loop-key l = entry_texts l.lowered.items ≡ map (λ pair. (str_to_ascii_lowercase pair.0, pair.1)) (pair_texts (take l.key-index l.pairs))
+invariant-loop-key l = entry_texts l.lowered.items ≡ map (λ pair. (str_to_ascii_lowercase pair.0, pair.1))
+    (pair_texts (take l.key-index l.pairs))

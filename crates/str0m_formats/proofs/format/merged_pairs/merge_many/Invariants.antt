@@ -6,4 +6,5 @@ use Rattle.str0m_formats.specs.format.PairsReading.{entry_texts}
 
 -- the pairs so far are merged, and where each key stands is known
 abbrev pub invariant-loop-key : goal.invariant-loop-key
-invariant-loop-key l = (pair_texts l.entries.items ≡ insert_all bytes_eq [] (entry_texts (take l.key-index l.pairs))) × HasPlaces l.places (pair_texts l.entries.items)
+invariant-loop-key l = (pair_texts l.entries.items ≡ insert_all bytes_eq [] (entry_texts (take l.key-index l.pairs)))
+    × HasPlaces l.places (pair_texts l.entries.items)

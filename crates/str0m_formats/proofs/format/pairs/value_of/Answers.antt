@@ -6,7 +6,8 @@ use Rattle.str0m_formats.specs.format.FormatParam.{pair_texts}
 pub returns-in-Some : goal.returns-in-Some
 returns-in-Some c =
     let merged = c.args.merged.now in
-    sym (value_there c.args.key.now merged c.in-Some.place _ (placed_alike c.args.key.now merged merged _ _ refl c.in-Some.is c.scan.ensures.place))
+    sym (value_there c.args.key.now merged c.in-Some.place _
+    (placed_alike c.args.key.now merged merged _ _ refl c.in-Some.is c.scan.ensures.place))
 
 pub returns-in-None : goal.returns-in-None
 returns-in-None c =

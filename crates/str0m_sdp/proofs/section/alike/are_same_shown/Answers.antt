@@ -5,18 +5,21 @@ use Rattle.str0m_sdp.specs.section.Alike.{showing}
 
 pub returns-in_default : goal.returns-in_default
 returns-in_default c =
-    let at = shown_from c.args.values.now c.loop-value.value-index c.value-item.result _ c.loop-value-test.true c.value-item.is (sym c.if-is_shown.ensures) in
+    let at = shown_from c.args.values.now c.loop-value.value-index c.value-item.result _ c.loop-value-test.true c.value-item.is
+    (sym c.if-is_shown.ensures) in
     one_ends _ _ _ _ c.loop-value.invariant at c.in_default.ensures
 
 pub returns-then-not-is_same : goal.returns-then-not-is_same
 returns-then-not-is_same c =
-    let at = shown_from c.args.values.now c.loop-value.value-index c.value-item.result _ c.loop-value-test.true c.value-item.is (sym c.if-is_shown.ensures) in
+    let at = shown_from c.args.values.now c.loop-value.value-index c.value-item.result _ c.loop-value-test.true c.value-item.is
+    (sym c.if-is_shown.ensures) in
     firsts_differ _ _ _ _ _ _ c.loop-value.invariant at c.in-Some.ensures
     (λ same. true≢false (sym (c.is_same.ensures.1 (same ∙ sym c.as_read.ensures)) ∙ c.if-not-is_same.true))
 
 pub loop-value-preserved : goal.loop-value-preserved
 loop-value-preserved c =
-    let at = λ (b : Bool). shown_from c.args.values.now c.loop-value.value-index c.value-item.result b c.loop-value-test.true c.value-item.is in
+    let at = λ (b : Bool). shown_from c.args.values.now c.loop-value.value-index c.value-item.result b c.loop-value-test.true
+    c.value-item.is in
     elim c.if-is_shown.branch [
       | goal.then-is_shown+in-Some+else-not-is_same w ↦
           let same = w.is_same.ensures.0 w.if-not-is_same.false ∙ w.as_read.ensures in
@@ -25,4 +28,5 @@ loop-value-preserved c =
     ]
 
 pub returns : goal.returns
-returns c = both_end _ _ _ _ _ _ c.loop-value.invariant (ap showing (drop_all _ _ c.loop-value-test.false)) c.next_shown-2.ensures c.is_none.ensures
+returns c = both_end _ _ _ _ _ _ c.loop-value.invariant (ap showing (drop_all _ _ c.loop-value-test.false)) c.next_shown-2.ensures
+    c.is_none.ensures

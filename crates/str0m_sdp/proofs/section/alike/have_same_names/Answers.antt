@@ -4,7 +4,10 @@ use Rattle.str0m_sdp.proofs.section.alike.have_same_names.Goals as goal
 use Rattle.str0m_sdp.specs.section.Alike.{ids}
 
 pub returns-then-layers-others : goal.returns-then-layers-others
-returns-then-layers-others c = (λ h. absurd (true≢false (sym h)), λ same. absurd (other_length c.args.layers.now c.args.others.now c.if-layers-others.true same))
+returns-then-layers-others c = (
+  λ h. absurd (true≢false (sym h)),
+  λ same. absurd (other_length c.args.layers.now c.args.others.now c.if-layers-others.true same),
+)
 
 pub returns-then-not-has_same_name : goal.returns-then-not-has_same_name
 returns-then-not-has_same_name c =
@@ -24,5 +27,6 @@ loop-i-preserved c =
 pub returns : goal.returns
 returns c =
     let over = subst (λ (n : ℕ). n ≤ c.loop-i.i) c.if-layers-others.false c.loop-i-test.false in
-    let ends = ap ids (drop_all c.loop-i.i c.args.layers.now c.loop-i-test.false) ∙ sym (ap ids (drop_all c.loop-i.i c.args.others.now over)) in
+    let ends = ap ids (drop_all c.loop-i.i c.args.layers.now c.loop-i-test.false)
+    ∙ sym (ap ids (drop_all c.loop-i.i c.args.others.now over)) in
     (λ h. c.loop-i.invariant.0 ends, λ same. refl)

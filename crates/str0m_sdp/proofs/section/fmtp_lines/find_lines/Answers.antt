@@ -12,7 +12,8 @@ loop-number-preserved c =
     let is = c.loop-number-item.is in
     elim c.if-is_of.branch [
       | goal.then-is_of+in_ok-push w ↦
-          rw (w.found-is, w.in_ok-push.ensures.items) (found_own lines found i c.args.pt item lt is (sym c.is_of.ensures ∙ w.if-is_of.true) c.loop-number.invariant)
+          rw (w.found-is, w.in_ok-push.ensures.items)
+          (found_own lines found i c.args.pt item lt is (sym c.is_of.ensures ∙ w.if-is_of.true) c.loop-number.invariant)
       | goal.else-is_of w ↦
           rw w.found-is (found_other lines found i c.args.pt item lt is (sym c.is_of.ensures ∙ w.if-is_of.false) c.loop-number.invariant)
     ]

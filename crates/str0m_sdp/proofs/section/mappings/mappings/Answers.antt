@@ -20,4 +20,5 @@ loop-attr-preserved c =
 
 pub returns : goal.returns
 returns c =
-    c.loop-attr.invariant ∙ ap (λ (attrs : List MediaAttribute). filter_map mapping attrs) (take_all c.loop-attr.attr-index c.args.attrs.now c.loop-attr-test.false)
+    c.loop-attr.invariant ∙ ap (λ (attrs : List MediaAttribute). filter_map mapping attrs)
+    (take_all c.loop-attr.attr-index c.args.attrs.now c.loop-attr-test.false)

@@ -25,6 +25,7 @@ loop-pt-preserved c =
           rw w.types-is (
             c.loop-pt.invariant.0,
             λ pt lt. c.loop-pt.invariant.1 pt lt
-                ∙ sym (any_same (passes pt) rows i item c.loop-pt-test.true c.loop-pt-item.is (and_right _ _ (sym c.eq.ensures ∙ w.if-eq.false))),
+                ∙ sym (any_same (passes pt) rows i item c.loop-pt-test.true c.loop-pt-item.is
+                (and_right _ _ (sym c.eq.ensures ∙ w.if-eq.false))),
           )
     ]

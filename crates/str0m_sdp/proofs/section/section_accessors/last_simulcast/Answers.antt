@@ -6,5 +6,6 @@ use Rattle.str0m_sdp.specs.section.SectionAccessors.{simulcast_of}
 
 pub returns : goal.returns
 returns c =
-    first_from_find_map (λ simulcast. simulcast.now) simulcast_of (YieldsList-from_rev_slice c.args.attrs.now cc) (λ x r q k. search (rules, tests)) c.find_map.result c.find_map.ensures.runs
+    first_from_find_map (λ simulcast. simulcast.now) simulcast_of (YieldsList-from_rev_slice c.args.attrs.now cc)
+    (λ x r q k. search (rules, tests)) c.find_map.result c.find_map.ensures.runs
     ∙ first_reversed simulcast_of c.args.attrs.now

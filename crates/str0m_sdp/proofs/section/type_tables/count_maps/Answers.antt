@@ -16,11 +16,13 @@ loop-attr-preserved c =
           let variant = rw (← w.place.ensures.is) at w.in-RtpMap.is in
           rw w.counts-is (
             length-set c.loop-attr.counts n _ ∙ c.loop-attr.invariant.0,
-            λ pt lt. count_more attrs c.loop-attr.counts i n w.in-RtpMap.value c.attr-item.result c.loop-attr-test.true row c.attr-item.is variant pt (c.loop-attr.invariant.1 pt lt),
+            λ pt lt. count_more attrs c.loop-attr.counts i n w.in-RtpMap.value c.attr-item.result c.loop-attr-test.true row c.attr-item.is
+                variant pt (c.loop-attr.invariant.1 pt lt),
           )
       | goal.in_default w ↦
           rw w.counts-is (
             c.loop-attr.invariant.0,
-            λ pt lt. count_same attrs c.loop-attr.counts i c.attr-item.result c.loop-attr-test.true c.attr-item.is w.in_default.not-RtpMap pt (c.loop-attr.invariant.1 pt lt),
+            λ pt lt. count_same attrs c.loop-attr.counts i c.attr-item.result c.loop-attr-test.true c.attr-item.is w.in_default.not-RtpMap
+                pt (c.loop-attr.invariant.1 pt lt),
           )
     ]

@@ -4,4 +4,5 @@ use Rattle.str0m_sdp.specs.section.Consistency.{maps}
 
 -- each row counts the mappings so far
 abbrev pub invariant-loop-attr : goal.invariant-loop-attr
-invariant-loop-attr l = (length l.counts ≡ 256) × ((pt : ℕ) → pt < 256 → get_or l.counts pt 0 ≡ count_by (maps pt) (take l.attr-index l.attrs))
+invariant-loop-attr l = (length l.counts ≡ 256) × ((pt : ℕ) → pt < 256
+    → get_or l.counts pt 0 ≡ count_by (maps pt) (take l.attr-index l.attrs))

@@ -19,4 +19,5 @@ loop-pt-preserved c =
 
 pub returns : goal.returns
 returns c = λ pt lt.
-    c.loop-pt.invariant.1 pt lt ∙ ap (λ (pts : List ℕ). list_any (λ m. m == pt) pts) (take_all c.loop-pt.pt-index c.args.pts.now c.loop-pt-test.false)
+    c.loop-pt.invariant.1 pt lt ∙ ap (λ (pts : List ℕ). list_any (λ m. m == pt) pts)
+    (take_all c.loop-pt.pt-index c.args.pts.now c.loop-pt-test.false)

@@ -10,13 +10,16 @@ returns-in-Some c =
     let others = map media_fingerprints sdp.media_lines in
     let own = c.in-Some.ensures ∙ ap (λ attrs. preferred (filter_map session_fingerprint attrs)) c.as_slice.ensures in
     preferred_copied c.copied_fingerprint.result _ _ c.copied_fingerprint.ensures
-    (ap (λ o. option_or o (preferred (first_filled others))) own ∙ preferred_of_first (filter_map session_fingerprint sdp.session.attrs) others)
+    (ap (λ o. option_or o (preferred (first_filled others))) own
+    ∙ preferred_of_first (filter_map session_fingerprint sdp.session.attrs) others)
 
 pub returns-in-None : goal.returns-in-None
 returns-in-None c =
     let sdp = c.args.self.now in
     let others = map media_fingerprints sdp.media_lines in
     let own = c.in-None.ensures ∙ ap (λ attrs. preferred (filter_map session_fingerprint attrs)) c.as_slice.ensures in
-    let among = c.preferred_among.ensures ∙ preferred_among media_fingerprints c.as_slice-in-None.result.now ∙ ap (λ lines. preferred (first_filled (map media_fingerprints lines))) c.as_slice-in-None.ensures in
+    let among = c.preferred_among.ensures ∙ preferred_among media_fingerprints c.as_slice-in-None.result.now
+    ∙ ap (λ lines. preferred (first_filled (map media_fingerprints lines))) c.as_slice-in-None.ensures in
     preferred_copied c.copied_fingerprint-in-None.result _ _ c.copied_fingerprint-in-None.ensures
-    (among ∙ ap (λ o. option_or o (preferred (first_filled others))) own ∙ preferred_of_first (filter_map session_fingerprint sdp.session.attrs) others)
+    (among ∙ ap (λ o. option_or o (preferred (first_filled others))) own
+    ∙ preferred_of_first (filter_map session_fingerprint sdp.session.attrs) others)

@@ -8,7 +8,8 @@ use Rattle.str0m_sdp.specs.session.SeenCandidates.{seen}
 
 pub returns-clause-distinct : goal.returns-clause-distinct
 returns-clause-distinct c =
-    all_put same_candidate (decided same_candidate candidate_Decides) section_candidates _ c.loop-line.line-index (seen c.loop-line.found) _ (all_candidates c.args.self.now) c.loop-line-test.false c.into_iter.ensures c.loop-line.invariant.0
+    all_put same_candidate (decided same_candidate candidate_Decides) section_candidates _ c.loop-line.line-index (seen c.loop-line.found) _
+    (all_candidates c.args.self.now) c.loop-line-test.false c.into_iter.ensures c.loop-line.invariant.0
 
 pub returns-clause-once : goal.returns-clause-once
 returns-clause-once c =

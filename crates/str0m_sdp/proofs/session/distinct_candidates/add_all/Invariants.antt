@@ -8,5 +8,6 @@ abbrev pub invariant-loop-candidate : goal.invariant-loop-candidate
 invariant-loop-candidate l =
     (goal.iterator-loop-candidate).can_next l.candidate-iterator
     × (goal.iterator-loop-candidate).is_finite l.candidate-iterator
-    × (insert_all same_candidate (seen l.found) (candidates_left l.candidate-iterator) ≡ insert_all same_candidate (seen l.initial.found) (candidates_left l.fn.candidates))
+    × (insert_all same_candidate (seen l.found) (candidates_left l.candidate-iterator)
+    ≡ insert_all same_candidate (seen l.initial.found) (candidates_left l.fn.candidates))
     × AreByKey l.found

@@ -16,7 +16,8 @@ loop-attr-preserved g c =
           ∙ ap Some w.better_of.ensures
           ∙ ap (λ best. Some (better_of best print)) c.loop-attr.invariant
           ∙ sym (preferred_more (filter_map held (take i attrs)) print)
-          ∙ ap preferred (sym (filter_map_more held attrs i c.attr-item.result print c.loop-attr-test.true c.attr-item.is w.in-Some.ensures))
+          ∙ ap preferred (sym (filter_map_more held attrs i c.attr-item.result print c.loop-attr-test.true c.attr-item.is
+          w.in-Some.ensures))
       | goal.in_default w ↦
           ap option_copied w.best-is
           ∙ c.loop-attr.invariant

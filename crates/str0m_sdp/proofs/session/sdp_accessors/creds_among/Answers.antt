@@ -5,4 +5,5 @@ use Rattle.str0m_sdp.specs.declared.section.media_line.MediaLine.{MediaLine}
 use Rattle.str0m_sdp.specs.session.Transport.{lent_creds, media_creds}
 
 pub returns : goal.returns
-returns c = first_from_find_map lent_creds (λ (m : MediaLine). media_creds m.attrs) (YieldsList-from_slice c.args.lines.now cc) (λ x r q k. search (rules, tests)) c.find_map.result c.find_map.ensures.runs
+returns c = first_from_find_map lent_creds (λ (m : MediaLine). media_creds m.attrs) (YieldsList-from_slice c.args.lines.now cc)
+    (λ x r q k. search (rules, tests)) c.find_map.result c.find_map.ensures.runs

@@ -7,4 +7,5 @@ pub loop-section-preserved : goal.loop-section-preserved
 loop-section-preserved c =
     c.in_ok-push_mid.ensures
     ∙ (λ i. c.loop-section.invariant i ++ option_to_list (c.section_mid.ensures i))
-    ∙ sym (map_more section_mid c.args.sections.now c.loop-section.section-index c.section-item.result c.loop-section-test.true c.section-item.is)
+    ∙ sym (map_more section_mid c.args.sections.now c.loop-section.section-index c.section-item.result c.loop-section-test.true
+    c.section-item.is)

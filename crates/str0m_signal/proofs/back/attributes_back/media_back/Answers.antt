@@ -7,4 +7,6 @@ use Rattle.str0m_signal.specs.form.MediaAttribute.{IsMediaLine, media_read}
 
 pub returns : goal.returns
 returns c =
-    IfOk-weaker c.read_back.result _ _ (λ found. back_by_form media_attribute_text IsMediaLine media_read MediaGoesWith media_line_both c.args.attrs.now found) c.read_back.ensures
+    IfOk-weaker c.read_back.result _ _
+    (λ found. back_by_form media_attribute_text IsMediaLine media_read MediaGoesWith media_line_both c.args.attrs.now found)
+    c.read_back.ensures

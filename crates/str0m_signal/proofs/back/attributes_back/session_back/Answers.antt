@@ -7,4 +7,6 @@ use Rattle.str0m_signal.specs.form.SessionAttribute.{IsSessionLine, session_read
 
 pub returns : goal.returns
 returns c =
-    IfOk-weaker c.read_back.result _ _ (λ found. back_by_form session_attribute_text IsSessionLine session_read SessionGoesWith session_line_both c.args.attrs.now found) c.read_back.ensures
+    IfOk-weaker c.read_back.result _ _
+    (λ found. back_by_form session_attribute_text IsSessionLine session_read SessionGoesWith session_line_both c.args.attrs.now found)
+    c.read_back.ensures

@@ -5,4 +5,5 @@ use Rattle.str0m_signal.proofs.session.SectionLaws.{bandwidth_both}
 
 pub returns-in-Some : goal.returns-in-Some
 returns-in-Some c =
-    IfOk-weaker c.bandwidth.result _ _ (λ found is. printed_by bandwidth_both c.args.text.now c.in-Some.line.now found c.in-Some.ensures is) c.bandwidth.ensures
+    IfOk-weaker c.bandwidth.result _ _ (λ found is. printed_by bandwidth_both c.args.text.now c.in-Some.line.now found c.in-Some.ensures is)
+    c.bandwidth.ensures

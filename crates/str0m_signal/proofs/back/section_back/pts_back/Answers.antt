@@ -17,7 +17,8 @@ returns c =
     elim c.in_default.branch [
       | goal.in_default-via-in-Some+else-says_same w ↦
           let only = rw (c.as_str.ensures.value, c.in_ok-text.ensures, w.in-Some.is) at c.in_ok-head.ensures in
-          other_head m (IsPrintedAs IsHead (m_line m)) (media_head w.in-Some.head) only (λ same. true≢false (sym (w.says_same.ensures.1 same) ∙ w.if-says_same.false))
+          other_head m (IsPrintedAs IsHead (m_line m)) (media_head w.in-Some.head) only
+          (λ same. true≢false (sym (w.says_same.ensures.1 same) ∙ w.if-says_same.false))
       | goal.in_default-via-in_default w ↦
           let none = rw (c.as_str.ensures.value, c.in_ok-text.ensures, w.in_default.is) at c.in_ok-head.ensures in
           head_lost m (IsPrintedAs IsHead (m_line m)) none

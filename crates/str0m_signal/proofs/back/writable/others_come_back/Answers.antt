@@ -11,7 +11,8 @@ pub loop-i-preserved : goal.loop-i-preserved
 loop-i-preserved c =
     let more = others_more c.args.sections.now c.args.own c.loop-i.i c.index-sections-i.result c.loop-i-test.true c.index-sections-i.is in
     elim c.else-i-own.branch [
-      | goal.else-i-own-via-then-i-own+in_ok-comes_back+else-not-branch w ↦ more (λ other. w.in_ok-comes_back.ensures.0 w.if-not-branch.false) c.loop-i.invariant
+      | goal.else-i-own-via-then-i-own+in_ok-comes_back+else-not-branch w ↦ more
+          (λ other. w.in_ok-comes_back.ensures.0 w.if-not-branch.false) c.loop-i.invariant
       | goal.else-i-own-via-else-i-own w ↦ more (λ other. absurd (other w.if-i-own.false)) c.loop-i.invariant
     ]
 

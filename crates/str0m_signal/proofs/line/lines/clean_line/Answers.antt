@@ -16,7 +16,8 @@ returns-in-Some c =
     let front = c.cut_at_end.result.0.now in
     let end = c.cut_at_end.ensures in
     ap (with_rest front) c.in-Some.ensures
-    ∙ clean_cut text front c.cut_at_end.result.1.now end.whole end.no_feed end.no_return end.stops (rest_from text (sym c.is_empty.ensures ∙ c.if-is_empty.false))
+    ∙ clean_cut text front c.cut_at_end.result.1.now end.whole end.no_feed end.no_return end.stops
+    (rest_from text (sym c.is_empty.ensures ∙ c.if-is_empty.false))
 
 pub returns-in-None : goal.returns-in-None
 returns-in-None c =
@@ -24,4 +25,5 @@ returns-in-None c =
     let front = c.cut_at_end.result.0.now in
     let end = c.cut_at_end.ensures in
     ap (with_rest front) c.in-None.ensures
-    ∙ clean_cut text front c.cut_at_end.result.1.now end.whole end.no_feed end.no_return end.stops (rest_from text (sym c.is_empty.ensures ∙ c.if-is_empty.false))
+    ∙ clean_cut text front c.cut_at_end.result.1.now end.whole end.no_feed end.no_return end.stops
+    (rest_from text (sym c.is_empty.ensures ∙ c.if-is_empty.false))

@@ -12,12 +12,20 @@ loop-after-init c = (search rules, ([], refl))
 
 pub loop-after-preserved : goal.loop-after-preserved
 loop-after-preserved c =
-    let next = line_found info_both (lines_of c.loop-after.rest.now) c.in-Some.field-0-0.now (lines_of c.in-Some.after.now) (sym c.in-Some.ensures) in
-    (search rules, (c.loop-after.invariant.1.0 ++ c.in-Some.field-0-0.now ∷ [], chain_more (OneLine IsInfo) (lines_of c.args.text.now) c.loop-after.invariant.1.0 (lines_of c.loop-after.rest.now) c.in-Some.field-0-0.now (lines_of c.in-Some.after.now) c.loop-after.invariant.1.1 next))
+    let next = line_found info_both (lines_of c.loop-after.rest.now) c.in-Some.field-0-0.now (lines_of c.in-Some.after.now)
+    (sym c.in-Some.ensures) in (
+      search rules,
+      (
+        c.loop-after.invariant.1.0 ++ c.in-Some.field-0-0.now ∷ [],
+        chain_more (OneLine IsInfo) (lines_of c.args.text.now) c.loop-after.invariant.1.0 (lines_of c.loop-after.rest.now)
+            c.in-Some.field-0-0.now (lines_of c.in-Some.after.now) c.loop-after.invariant.1.1 next,
+      ),
+    )
 
 pub loop-after-smaller : goal.loop-after-smaller
 loop-after-smaller c =
-    let next = line_found info_both (lines_of c.loop-after.rest.now) c.in-Some.field-0-0.now (lines_of c.in-Some.after.now) (sym c.in-Some.ensures) in
+    let next = line_found info_both (lines_of c.loop-after.rest.now) c.in-Some.field-0-0.now (lines_of c.in-Some.after.now)
+    (sym c.in-Some.ensures) in
     one_fewer IsInfo (lines_of c.loop-after.rest.now) c.in-Some.field-0-0.now (lines_of c.in-Some.after.now) next
 
 pub returns : goal.returns

@@ -12,13 +12,24 @@ loop-after-init c = (search rules, ([], refl))
 
 pub loop-after-preserved : goal.loop-after-preserved
 loop-after-preserved c =
-    let next = line_found (field_both (codes "r=")) (lines_of c.loop-after.rest.now) c.in-Some.field-0-0.now (lines_of c.in-Some.after.now) (sym c.in-Some.ensures) in
-    (search rules, (c.loop-after.invariant.1.0 ++ c.in-Some.field-0-0.now ∷ [], chain_more (OneLine (IsField (codes "r="))) (lines_of c.args.text.now) c.loop-after.invariant.1.0 (lines_of c.loop-after.rest.now) c.in-Some.field-0-0.now (lines_of c.in-Some.after.now) c.loop-after.invariant.1.1 next))
+    let next = line_found (field_both (codes "r=")) (lines_of c.loop-after.rest.now) c.in-Some.field-0-0.now (lines_of c.in-Some.after.now)
+    (sym c.in-Some.ensures) in (
+      search rules,
+      (
+        c.loop-after.invariant.1.0 ++ c.in-Some.field-0-0.now ∷ [],
+        chain_more (OneLine (IsField (codes "r="))) (lines_of c.args.text.now) c.loop-after.invariant.1.0 (lines_of c.loop-after.rest.now)
+            c.in-Some.field-0-0.now (lines_of c.in-Some.after.now) c.loop-after.invariant.1.1 next,
+      ),
+    )
 
 pub loop-after-smaller : goal.loop-after-smaller
 loop-after-smaller c =
-    let next = line_found (field_both (codes "r=")) (lines_of c.loop-after.rest.now) c.in-Some.field-0-0.now (lines_of c.in-Some.after.now) (sym c.in-Some.ensures) in
+    let next = line_found (field_both (codes "r=")) (lines_of c.loop-after.rest.now) c.in-Some.field-0-0.now (lines_of c.in-Some.after.now)
+    (sym c.in-Some.ensures) in
     one_fewer (IsField (codes "r=")) (lines_of c.loop-after.rest.now) c.in-Some.field-0-0.now (lines_of c.in-Some.after.now) next
 
 pub returns : goal.returns
-returns c = (c.loop-after.invariant.1.0, (c.loop-after.invariant.1.1, (taken_none (field_both (codes "r=")) c.loop-after.rest.now c.in_default.ensures).1))
+returns c = (
+  c.loop-after.invariant.1.0,
+  (c.loop-after.invariant.1.1, (taken_none (field_both (codes "r=")) c.loop-after.rest.now c.in_default.ensures).1),
+)

@@ -5,5 +5,6 @@ use Rattle.str0m_signal.specs.session.Locked.{is_carried}
 
 pub returns-clause-printable : goal.returns-clause-printable
 returns-clause-printable c = λ may.
-    IfOk-weaker c.locked_among.result _ _ (λ rows. printable_as (λ row. row.locked && is_carried c.args.kind row) c.args.config.now.params.items rows.items may)
+    IfOk-weaker c.locked_among.result _ _
+    (λ rows. printable_as (λ row. row.locked && is_carried c.args.kind row) c.args.config.now.params.items rows.items may)
     (rw c.params.ensures at c.locked_among.ensures)

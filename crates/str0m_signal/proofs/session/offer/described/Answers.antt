@@ -9,4 +9,5 @@ pub returns-in-Err-clause-one : goal.returns-in-Err-clause-one
 returns-in-Err-clause-one c = one_described (Reading c.args.text.now) c.in-Err.ensures.one
 
 pub returns-in-Err-clause-read : goal.returns-in-Err-clause-read
-returns-in-Err-clause-read c = passed_on c.in-Err.error (Reading c.args.text.now) (Described c.args.text.now) c.in-Err.ensures.read (λ w q. ((w, q.0), q.1))
+returns-in-Err-clause-read c = passed_on c.in-Err.error (Reading c.args.text.now) (Described c.args.text.now) c.in-Err.ensures.read
+    (λ w q. ((w, q.0), q.1))

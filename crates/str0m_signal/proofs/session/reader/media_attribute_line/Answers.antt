@@ -12,4 +12,5 @@ pub returns-clause-one : goal.returns-clause-one
 returns-clause-one c = first_line_one media_line_both c.args.text.now
 
 pub returns-clause-rest : goal.returns-clause-rest
-returns-clause-rest c = left_from_line (OneLine IsMediaLine) (one_leaves IsMediaLine) c.args.text.now c.first_attribute.result (returns-clause-read c)
+returns-clause-rest c = left_from_line (OneLine IsMediaLine) (one_leaves IsMediaLine) c.args.text.now c.first_attribute.result
+    (returns-clause-read c)

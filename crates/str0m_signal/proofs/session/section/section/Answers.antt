@@ -15,7 +15,8 @@ returns c = record {
   after_connection = lines_of c.skip_connection-rest.result.now;
   after_bandwidth = lines_of c.in_ok-bw.rest.now;
   connection = c.skip_connection-rest.ensures.0;
-  head_is = line_found head_both (lines_of c.args.text.now) (media_head c.in-Some.head) (lines_of c.in-Some.rest.now) (sym (rw c.in-Some.is at c.in_ok-head.ensures));
+  head_is = line_found head_both (lines_of c.args.text.now) (media_head c.in-Some.head) (lines_of c.in-Some.rest.now)
+      (sym (rw c.in-Some.is at c.in_ok-head.ensures));
   connection_is = c.skip_connection-rest.ensures.1;
   bandwidth_is = c.in_ok-bw.ensures;
   attributes_are = c.in_ok-attrs.ensures;

@@ -6,7 +6,11 @@ use Rattle.str0m_signal.proofs.session.section.skip_connection.Goals as goal
 use Rattle.str0m_signal.specs.line.LinesReading.{lines_of}
 
 pub returns-in-Some : goal.returns-in-Some
-returns-in-Some c = (Some c.in-Some.field-0-0.now, line_found (field_both (codes "c=")) (lines_of c.args.text.now) c.in-Some.field-0-0.now (lines_of c.in-Some.rest.now) (sym c.in-Some.ensures))
+returns-in-Some c = (
+  Some c.in-Some.field-0-0.now,
+  line_found (field_both (codes "c=")) (lines_of c.args.text.now) c.in-Some.field-0-0.now
+      (lines_of c.in-Some.rest.now) (sym c.in-Some.ensures),
+)
 
 pub returns-in-None : goal.returns-in-None
 returns-in-None c = (None, taken_none (field_both (codes "c=")) c.args.text.now c.in-None.ensures)

@@ -1,5 +1,6 @@
 use Rattle.std.proofs.lemmas.List.Concat.{flat_map-append}
-use Rattle.str0m_values.proofs.Common.{ℕ, List, ◌∷◌, ◌++◌, rules, sym, ap, ◌∙◌, append_assoc, flat_map, has_written_append, take-append-drop}
+use Rattle.str0m_values.proofs.Common.{ℕ, List, ◌∷◌, ◌++◌, rules, sym, ap, ◌∙◌, append_assoc, flat_map, has_written_append}
+use Rattle.str0m_values.proofs.Common.{take-append-drop}
 use Rattle.str0m_values.proofs.fingerprint.MorePairsDisplay.fmt.Goals as goal
 use Rattle.str0m_values.specs.Fingerprint.{hex_pair}
 

@@ -13,9 +13,14 @@ no_rate text e = record { found = tt; only = λ n is. let reads = num_reads 4294
 same_rate : (text : List ℕ) (n m : ℕ) → Some n ≡ num 4294967295 text → IsNum 4294967295 text m → n ≡ m
 same_rate text n m e is = some_is n m (e ∙ num_reads 4294967295 text m is)
 
-rate_read : (text : List ℕ) (n : ℕ) (r : Option ℕ) → Some n ≡ num 4294967295 text → IfSome r (λ f. f ≡ n) → (IsSome r ↔ (0 < n)) → IsTheOnly (IsRate text) r
+rate_read : (text : List ℕ) (n : ℕ) (r : Option ℕ) → Some n ≡ num 4294967295 text → IfSome r (λ f. f ≡ n) → (IsSome r ↔ (0 < n))
+    → IsTheOnly (IsRate text) r
 rate_read text n None e value positive =
-    record { found = tt; only = λ m is. let equal = same_rate text n m e is.0 in let above : 0 < n = omega arith in let there = positive.1 above in absurd cc }
+    record {
+      found = tt;
+      only = λ m is. let equal = same_rate text n m e is.0 in let above : 0 < n = omega arith in
+          let there = positive.1 above in absurd cc;
+    }
 rate_read text n (Some f) e value positive =
     let is : IsNum 4294967295 text n = num_found 4294967295 text n (sym e) in
     record { found = (rw value is, rw value (positive.0 refl)); only = λ m is. ap (λ k. Some k) (value ∙ same_rate text n m e is.0) }

@@ -1,4 +1,5 @@
-use Rattle.str0m_values.proofs.Common.{◌≡◌, ◌<◌, ◌≤◌, ◌++◌, arith, take, drop, length, subst, sym, ◌∙◌, ap, take-append-drop, length-take-le, List, ℕ, inr, IsUtf8, IsCharBoundary, IsUtf8-take}
+use Rattle.str0m_values.proofs.Common.{◌≡◌, ◌<◌, ◌≤◌, ◌++◌, arith, take, drop, length, subst, sym, ◌∙◌, ap, take-append-drop}
+use Rattle.str0m_values.proofs.Common.{length-take-le, List, ℕ, inr, IsUtf8, IsCharBoundary, IsUtf8-take}
 use Rattle.str0m_values.proofs.ShortTextCells.{length-filled, take-filled, drop-filled}
 use Rattle.str0m_values.proofs.short_text.ShortText.beginning.Goals as goal
 use Rattle.str0m_values.specs.ShortText.{IsLongestBeginning}
@@ -8,7 +9,8 @@ copied_so : (n : ℕ) (text shown xs : List ℕ) → xs ≡ take n shown → sho
 copied_so n text shown xs same is small =
     let e : xs ≡ take n text = same ∙ ap (λ t. take n t) is in (e, ap length e ∙ length-take-le n text small)
 
-is_longest : (text kept : List ℕ) (n : ℕ) → n ≤ 16 → IsCharBoundary text n → ((i : ℕ) → n < i → i ≤ 16 → ¬ (IsCharBoundary text i)) → kept ≡ take n text → IsLongestBeginning 16 text kept
+is_longest : (text kept : List ℕ) (n : ℕ) → n ≤ 16 → IsCharBoundary text n → ((i : ℕ) → n < i → i ≤ 16 → ¬ (IsCharBoundary text i))
+    → kept ≡ take n text → IsLongestBeginning 16 text kept
 is_longest text kept n small at nearest e =
     let len : length kept ≡ n = ap length e ∙ length-take-le n text at.0 in
     record {

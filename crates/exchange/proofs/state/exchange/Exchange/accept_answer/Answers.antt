@@ -8,11 +8,13 @@ use Rattle.exchange.specs.state.State.{pending_sdp, sections_of}
 
 pub returns-clause-stay : goal.returns-clause-stay
 returns-clause-stay c =
-    subst (λ (after : Exchange). LockedStay c.args.self.now.config.params.items after.config.params.items) (sym c.settle.ensures) c.in_ok-found.ensures.taken.stay
+    subst (λ (after : Exchange). LockedStay c.args.self.now.config.params.items after.config.params.items) (sym c.settle.ensures)
+    c.in_ok-found.ensures.taken.stay
 
 pub returns-clause-distinct : goal.returns-clause-distinct
 returns-clause-distinct c = λ distinct.
-    subst (λ (after : Exchange). AllDistinct (types after.config.params.items)) (sym c.settle.ensures) (c.in_ok-found.ensures.taken.distinct distinct)
+    subst (λ (after : Exchange). AllDistinct (types after.config.params.items)) (sym c.settle.ensures)
+    (c.in_ok-found.ensures.taken.distinct distinct)
 
 pub returns-clause-sound : goal.returns-clause-sound
 returns-clause-sound c = λ sound.
@@ -35,4 +37,5 @@ returns-clause-follows c = λ sound.
     (ap (λ (after : Exchange). after.local) c.settle.ensures ∙ (c.taken-local.ensures.was ∙ open_so))
     (ap (λ (after : Exchange). after.names) c.settle.ensures ∙ named)
     (ap (λ (after : Exchange). length after.config.params.items) c.settle.ensures ∙ taken.negotiated.promises.rows)
-    (subst (λ (after : Exchange). LockedStay c.args.self.now.config.params.items after.config.params.items) (sym c.settle.ensures) taken.stay)
+    (subst (λ (after : Exchange). LockedStay c.args.self.now.config.params.items after.config.params.items) (sym c.settle.ensures)
+    taken.stay)

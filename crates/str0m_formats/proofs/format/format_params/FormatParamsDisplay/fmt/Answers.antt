@@ -1,5 +1,6 @@
 use Rattle.str0m_formats.proofs.Common.{rules, ◌≡◌, ◌++◌, refl, sym, ap, ◌∙◌, arith, length, has_written_append, has_written_of_eq}
-use Rattle.str0m_formats.proofs.format.ParamTextListed.{has_some, params_to, listed, listed_push, has_some_push, params_push, params_pass, listed_all}
+use Rattle.str0m_formats.proofs.format.ParamTextListed.{has_some, params_to, listed, listed_push, has_some_push, params_push, params_pass}
+use Rattle.str0m_formats.proofs.format.ParamTextListed.{listed_all}
 use Rattle.str0m_formats.proofs.format.format_params.FormatParamsDisplay.fmt.Goals as goal
 use Rattle.str0m_formats.proofs.format.format_params.FormatParamsDisplay.fmt.Goals.{in-Some+in_ok-write, in_default}
 use Rattle.str0m_formats.specs.declared.format.format_params.TheConstants.{FIELDS}
@@ -35,4 +36,5 @@ loop-field-preserved g c =
 pub returns-clause-writes : goal.returns-clause-writes
 returns-clause-writes g c = λ plain ok.
     let all : c.loop-field.field-index ≡ length FIELDS = omega arith in
-    has_written_of_eq _ _ _ _ _ (ap (λ n. listed 59 param_text (params_to c.args.self.now n)) all ∙ listed_all c.args.self.now) (c.loop-field.invariant.1 plain)
+    has_written_of_eq _ _ _ _ _ (ap (λ n. listed 59 param_text (params_to c.args.self.now n)) all ∙ listed_all c.args.self.now)
+    (c.loop-field.invariant.1 plain)

@@ -9,7 +9,20 @@ unfolding has_some listed
 loop-mode-init g c = search rules
 
 pub loop-mode-preserved : goal.loop-mode-preserved
-loop-mode-preserved g c = grind (arith, shifted_one, modes_push, has_some, has_some_push, modes_below, has_written_of_eq, listed, listed_push, has_written_append, else-mask-mode-ne0, modes_pass)
+loop-mode-preserved g c = grind (
+  arith,
+  shifted_one,
+  modes_push,
+  has_some,
+  has_some_push,
+  modes_below,
+  has_written_of_eq,
+  listed,
+  listed_push,
+  has_written_append,
+  else-mask-mode-ne0,
+  modes_pass,
+)
 
 pub returns-clause-writes : goal.returns-clause-writes
 unfolding listed

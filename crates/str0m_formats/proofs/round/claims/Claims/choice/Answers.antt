@@ -6,7 +6,8 @@ use Rattle.str0m_formats.specs.round.Choices.{points_for, seen_best}
 
 pub loop-theirs-preserved : goal.loop-theirs-preserved
 loop-theirs-preserved g c =
-    choice_next (points_for (g.C.Claimed.holds c.args.self.now.claimed) c.args.self.now.receives c.args.row.now) c.args.remote.now c.loop-theirs.theirs-index c.theirs-item.result c.points.result (seen_best c.loop-theirs.best) _
+    choice_next (points_for (g.C.Claimed.holds c.args.self.now.claimed) c.args.self.now.receives c.args.row.now) c.args.remote.now
+    c.loop-theirs.theirs-index c.theirs-item.result c.points.result (seen_best c.loop-theirs.best) _
     c.loop-theirs-test.true c.theirs-item.is (sym c.points.ensures) c.better-best.ensures c.loop-theirs.invariant
 
 pub returns-in-None : goal.returns-in-None

@@ -8,12 +8,16 @@ use Rattle.str0m_formats.specs.row.PayloadParams.{types}
 
 pub place-requires-clause-row : goal.place-requires-clause-row
 place-requires-clause-row g c =
-    small_at c.args.rows.now c.loop-row.row-index _ (none-parts (nat_lt 127) (types c.args.rows.now) (types c.args.remote.now) c.requires.may.small).0
-    (next_row _ _ _ c.loop-row.rows c.loop-row.row-index _ _ (get_or c.loop-row.rows c.loop-row.row-index c.row-item.result) c.loop-row.invariant.0 (omega arith) (ap (get_or c.loop-row.rows c.loop-row.row-index) c.row-item.is))
+    small_at c.args.rows.now c.loop-row.row-index _
+    (none-parts (nat_lt 127) (types c.args.rows.now) (types c.args.remote.now) c.requires.may.small).0
+    (next_row _ _ _ c.loop-row.rows c.loop-row.row-index _ _ (get_or c.loop-row.rows c.loop-row.row-index c.row-item.result)
+    c.loop-row.invariant.0 (omega arith) (ap (get_or c.loop-row.rows c.loop-row.row-index) c.row-item.is))
 
 pub place-requires-clause-choice : goal.place-requires-clause-choice
 place-requires-clause-choice g c =
-    small_choice (points_for (g.C.Claimed.holds c.loop-row.self.claimed) c.loop-row.self.receives (get_or c.loop-row.rows c.loop-row.row-index c.row-item.result)) c.args.remote.now (option_copied c.choice-choice.result) c.choice-choice.ensures (none-parts (nat_lt 127) (types c.args.rows.now) (types c.args.remote.now) c.requires.may.small).1
+    small_choice (points_for (g.C.Claimed.holds c.loop-row.self.claimed) c.loop-row.self.receives
+    (get_or c.loop-row.rows c.loop-row.row-index c.row-item.result)) c.args.remote.now (option_copied c.choice-choice.result)
+    c.choice-choice.ensures (none-parts (nat_lt 127) (types c.args.rows.now) (types c.args.remote.now) c.requires.may.small).1
 
 pub returns-in_err-place-clause-err : goal.returns-in_err-place-clause-err
 returns-in_err-place-clause-err g c = grind (arith, IfErr_from, first_stops)
@@ -27,10 +31,13 @@ loop-row-preserved g c =
     let unlocked = g.C.Claimed.holds c.loop-row.self.unlocked in
     let Choice : Bool → Type 0 = λ b. IsChoice (points_for claimed b row) c.args.remote.now (option_copied c.choice-choice.result) in
     let Placed : Bool → Type 0 = λ b. placed claimed unlocked b row (option_copied c.choice-choice.result) ≡ Ok c.place.new.row in (
-      first_step c.args.rows.now c.args.remote.now c.args.self.now.receives rows i claimed unlocked (g.C.Claimed.holds c.place.new.self.claimed) (g.C.Claimed.holds c.place.new.self.unlocked) row c.place.new.row (option_copied c.choice-choice.result)
+      first_step c.args.rows.now c.args.remote.now c.args.self.now.receives rows i claimed unlocked
+          (g.C.Claimed.holds c.place.new.self.claimed) (g.C.Claimed.holds c.place.new.self.unlocked) row c.place.new.row
+          (option_copied c.choice-choice.result)
           c.loop-row.invariant.0 (omega arith) (ap (get_or rows i) c.row-item.is)
           (subst Choice c.loop-row.invariant.1 c.choice-choice.ensures)
-          (subst Placed c.loop-row.invariant.1 (sym c.place.ensures.value ∙ ap (λ (r : Result (Unit {0}) NegotiationError). and_then r (λ u. Ok c.place.new.row)) c.in_ok-place.was))
+          (subst Placed c.loop-row.invariant.1 (sym c.place.ensures.value
+          ∙ ap (λ (r : Result (Unit {0}) NegotiationError). and_then r (λ u. Ok c.place.new.row)) c.in_ok-place.was))
           c.in_ok-place.ensures.claimed (ap g.C.Claimed.holds c.place.ensures.unlocked),
       c.place.ensures.receives ∙ c.loop-row.invariant.1,
     )

@@ -13,7 +13,8 @@ settle-requires g c = λ open_row t h.
     let i = c.loop-row.row-index in
     let row = get_or rows i c.row-item.result in
     ap (λ set. set t) c.loop-row.invariant.unlocked_is
-    ∙ c.requires.open i row (second_row _ c.args.rows.now rows i _ _ row c.loop-row.invariant (omega arith) (ap (get_or rows i) c.row-item.is)) open_row t h
+    ∙ c.requires.open i row (second_row _ c.args.rows.now rows i _ _ row c.loop-row.invariant (omega arith)
+    (ap (get_or rows i) c.row-item.is)) open_row t h
 
 pub returns-in_err-settle-clause-err : goal.returns-in_err-settle-clause-err
 returns-in_err-settle-clause-err g c =
@@ -26,7 +27,8 @@ returns-in_err-settle-clause-err g c =
     IfErr_from c.from_residual.result c.in_err-settle.field-0.0 _ (search rules)
     (second_stops _ c.args.rows.now rows i claimed unlocked row c.in_err-settle.field-0.0
     c.loop-row.invariant (omega arith) (ap (get_or rows i) c.row-item.is)
-    (sym (c.settle.ensures.value (has (locked_types c.args.rows.now)) (taken_after c.args.rows.now (take i rows)) serves) ∙ ap (λ (r : Result (Unit {0}) NegotiationError). and_then r (λ u. Ok c.settle.new.row)) c.in_err-settle.was))
+    (sym (c.settle.ensures.value (has (locked_types c.args.rows.now)) (taken_after c.args.rows.now (take i rows)) serves)
+    ∙ ap (λ (r : Result (Unit {0}) NegotiationError). and_then r (λ u. Ok c.settle.new.row)) c.in_err-settle.was))
 
 pub loop-row-preserved : goal.loop-row-preserved
 loop-row-preserved g c =
@@ -40,5 +42,6 @@ loop-row-preserved g c =
     let serves = serves_now _ c.args.rows.now rows i claimed unlocked c.loop-row.invariant in
     second_step _ c.args.rows.now rows i claimed unlocked _ _ row c.settle.new.row
     c.loop-row.invariant (omega arith) (ap (get_or rows i) c.row-item.is)
-    (sym (c.settle.ensures.value locked taken serves) ∙ ap (λ (r : Result (Unit {0}) NegotiationError). and_then r (λ u. Ok c.settle.new.row)) c.in_ok-settle.was)
+    (sym (c.settle.ensures.value locked taken serves)
+    ∙ ap (λ (r : Result (Unit {0}) NegotiationError). and_then r (λ u. Ok c.settle.new.row)) c.in_ok-settle.was)
     (c.in_ok-settle.ensures.claimed locked taken serves) (ap g.C.Claimed.holds c.settle.ensures.unlocked)

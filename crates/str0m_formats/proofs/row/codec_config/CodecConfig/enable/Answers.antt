@@ -5,9 +5,11 @@ use Rattle.str0m_formats.proofs.row.codec_config.CodecConfig.enable.Goals as goa
 pub returns-then-enabled : goal.returns-then-enabled
 returns-then-enabled c =
     let put = c.put_defaults.ensures in
-    enables c.args.codec c.args.enabled c.args.use_red _ _ _ (rw c.if-enabled.true put.ok) put.err (λ off. absurd (true≢false (sym c.if-enabled.true ∙ off))) put.distances
+    enables c.args.codec c.args.enabled c.args.use_red _ _ _ (rw c.if-enabled.true put.ok) put.err
+    (λ off. absurd (true≢false (sym c.if-enabled.true ∙ off))) put.distances
 
 pub returns-else-enabled : goal.returns-else-enabled
 returns-else-enabled c =
     let put = c.put.ensures in
-    enables c.args.codec c.args.enabled c.args.use_red _ _ _ (rw c.if-enabled.false put.ok) put.err (λ off. put.none (omega arith)) put.distances
+    enables c.args.codec c.args.enabled c.args.use_red _ _ _ (rw c.if-enabled.false put.ok) put.err (λ off. put.none (omega arith))
+    put.distances

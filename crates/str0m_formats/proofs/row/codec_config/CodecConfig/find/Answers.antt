@@ -5,10 +5,12 @@ use denote.Param.Always.{mut_next}
 
 pub returns-then-accept : goal.returns-then-accept
 returns-then-accept g c =
-    FirstAccepted-at (goal.F-step g) c.args.accept c.loop-row.accept c.accept.new.self _ _ _ _ c.deref-row-items.ensures.value c.loop-row-test.true c.row-item.is c.loop-row.invariant.refused c.if-accept.ensures
+    FirstAccepted-at (goal.F-step g) c.args.accept c.loop-row.accept c.accept.new.self _ _ _ _ c.deref-row-items.ensures.value
+    c.loop-row-test.true c.row-item.is c.loop-row.invariant.refused c.if-accept.ensures
 
 pub loop-row-preserved : goal.loop-row-preserved
 loop-row-preserved g c = record {
   callable = mut_next g.F.FnMut _ _ _ _ _ c.accept.ensures refl c.loop-row.invariant.callable;
-  refused = RefusedAll-take (goal.F-step g) c.args.accept c.loop-row.accept c.accept.new.self _ _ _ c.loop-row-test.true c.row-item.is c.loop-row.invariant.refused c.if-accept.ensures;
+  refused = RefusedAll-take (goal.F-step g) c.args.accept c.loop-row.accept c.accept.new.self _ _ _ c.loop-row-test.true c.row-item.is
+      c.loop-row.invariant.refused c.if-accept.ensures;
 }

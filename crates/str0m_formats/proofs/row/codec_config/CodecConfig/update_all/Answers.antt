@@ -13,7 +13,8 @@ pub returns-clause-ok : goal.returns-clause-ok
 returns-clause-ok c = grind (arith, take_all)
 
 pub returns-clause-promises : goal.returns-clause-promises
-returns-clause-promises c = run_promised c.args.self.now.params.items c.args.rounds.now c.loop-i.outcomes.items c.loop-i.self.params.items (returns-clause-ok c)
+returns-clause-promises c = run_promised c.args.self.now.params.items c.args.rounds.now c.loop-i.outcomes.items c.loop-i.self.params.items
+    (returns-clause-ok c)
 
 pub returns-clause-every_run : goal.returns-clause-every_run
 returns-clause-every_run c = run_promised c.args.self.now.params.items

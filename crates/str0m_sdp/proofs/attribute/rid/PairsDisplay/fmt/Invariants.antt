@@ -5,4 +5,5 @@ use Rattle.str0m_sdp.specs.attribute.Rid.{restriction_text}
 -- the restrictions so far are written, each after a separator
 abbrev pub invariant-loop-pair : goal.invariant-loop-pair
 invariant-loop-pair g l =
-    IsPlainFormatter l.initial.f → HasWritten g.W.Write.write_str_gives l.initial.f (flat_map (λ pair. codes ";" ++ restriction_text pair) (take l.pair-index l.more)) l.f
+    IsPlainFormatter l.initial.f → HasWritten g.W.Write.write_str_gives l.initial.f
+    (flat_map (λ pair. codes ";" ++ restriction_text pair) (take l.pair-index l.more)) l.f

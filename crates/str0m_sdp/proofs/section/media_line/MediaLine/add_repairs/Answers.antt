@@ -10,12 +10,14 @@ loop-line-preserved c =
     let es = entries c.loop-line.sources in
     elim c.match-repair_pair.branch [
       | goal.in-Some+in_ok-add_repair w ↦ (
-        put_repair (filter_map source_of lines) lines c.loop-line.line-index c.line-item.result es (entries c.match-repair_pair.sources) c.loop-line-test.true c.line-item.is c.loop-line.invariant.0
+        put_repair (filter_map source_of lines) lines c.loop-line.line-index c.line-item.result es (entries c.match-repair_pair.sources)
+            c.loop-line-test.true c.line-item.is c.loop-line.invariant.0
             _ (sym w.in-Some.ensures) (ap entries w.sources-is ∙ w.in_ok-add_repair.ensures.entries),
         subst ArePlaced (sym w.sources-is) w.in_ok-add_repair.ensures.placed,
       )
       | goal.in_default w ↦ (
-        pass_repair (filter_map source_of lines) lines c.loop-line.line-index c.line-item.result es (entries c.match-repair_pair.sources) c.loop-line-test.true c.line-item.is c.loop-line.invariant.0
+        pass_repair (filter_map source_of lines) lines c.loop-line.line-index c.line-item.result es (entries c.match-repair_pair.sources)
+            c.loop-line-test.true c.line-item.is c.loop-line.invariant.0
             (sym w.in_default.ensures) (ap entries w.sources-is),
         subst ArePlaced (sym w.sources-is) c.loop-line.invariant.1,
       )

@@ -7,5 +7,6 @@ use Rattle.str0m_sdp.specs.section.SsrcInfoReading.{AreGathered}
 -- all values and the groups so far are gathered
 abbrev pub invariant-loop-line : goal.invariant-loop-line
 invariant-loop-line l =
-    AreGathered (filter_map source_of l.line-items ++ filter_map repair_source (take l.line-index l.line-items)) (take l.line-index l.line-items) l.line-items (entries l.sources)
+    AreGathered (filter_map source_of l.line-items ++ filter_map repair_source (take l.line-index l.line-items))
+    (take l.line-index l.line-items) l.line-items (entries l.sources)
     × ArePlaced l.sources

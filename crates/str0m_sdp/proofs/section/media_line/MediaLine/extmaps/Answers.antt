@@ -13,7 +13,8 @@ loop-attr-preserved c =
           rw (w.maps-is, w.in_ok-push.ensures.items) (
           map-append ext_map_at c.loop-attr.maps.items (lent ∷ [])
           ∙ ap (λ maps. maps ++ ext_map_at lent ∷ []) c.loop-attr.invariant
-          ∙ sym (filter_map_more ext_map_of attrs i c.attr-item.result (ext_map_at lent) c.loop-attr-test.true c.attr-item.is w.in-Some.ensures)
+          ∙ sym (filter_map_more ext_map_of attrs i c.attr-item.result (ext_map_at lent) c.loop-attr-test.true c.attr-item.is
+          w.in-Some.ensures)
           )
       | goal.in_default w ↦
           rw w.maps-is (

@@ -7,4 +7,5 @@ use Rattle.str0m_sdp.specs.section.SsrcInfoReading.{AreGathered}
 -- the values so far are gathered
 abbrev pub invariant-loop-line : goal.invariant-loop-line
 invariant-loop-line l =
-    AreGathered (filter_map source_of (take l.line-index l.line-items)) [] (take l.line-index l.line-items) (entries l.sources) × ArePlaced l.sources
+    AreGathered (filter_map source_of (take l.line-index l.line-items)) [] (take l.line-index l.line-items) (entries l.sources)
+    × ArePlaced l.sources

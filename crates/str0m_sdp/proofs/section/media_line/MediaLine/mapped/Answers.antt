@@ -1,4 +1,5 @@
-use Rattle.str0m_sdp.proofs.Common.{◌≡◌, ◌==◌, ◌++◌, ℕ, List, take, filter_map, nat_eq, ap, sym, ◌∙◌, append_assoc, list_any, append-nil, length-set, take_all, CodecSpec, option_to_list}
+use Rattle.str0m_sdp.proofs.Common.{◌≡◌, ◌==◌, ◌++◌, ℕ, List, take, filter_map, nat_eq, ap, sym, ◌∙◌, append_assoc, list_any, append-nil}
+use Rattle.str0m_sdp.proofs.Common.{length-set, take_all, CodecSpec, option_to_list}
 use Rattle.str0m_sdp.proofs.section.MappingLaws.{any_mapped, statics_new, statics_seen, mark_new, mark_seen}
 use Rattle.str0m_sdp.proofs.section.SectionRowsParts.{or_false}
 use Rattle.str0m_sdp.proofs.section.media_line.MediaLine.mapped.Goals as goal

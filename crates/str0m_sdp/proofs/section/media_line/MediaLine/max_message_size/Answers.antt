@@ -4,4 +4,5 @@ use Rattle.str0m_sdp.proofs.section.media_line.MediaLine.max_message_size.Goals 
 use Rattle.str0m_sdp.specs.section.SectionAccessors.{max_message_size_of}
 
 pub returns : goal.returns
-returns c = first_by_find_map max_message_size_of (YieldsList-from_slice c.args.self.now.attrs cc) (λ x r q k. search (rules, tests)) c.find_map.result c.find_map.ensures.runs
+returns c = first_by_find_map max_message_size_of (YieldsList-from_slice c.args.self.now.attrs cc) (λ x r q k. search (rules, tests))
+    c.find_map.result c.find_map.ensures.runs

@@ -13,7 +13,8 @@ loop-attr-preserved c =
           let name = w.in-Some.name.now in
           let names = filter_map_more rid_name_of attrs i c.attr-item.result name c.loop-attr-test.true c.attr-item.is w.in-Some.ensures in
           rw (w.rids-is, w.in_ok-push.ensures.items, names) (
-          AllZip-push IsRidOf (filter_map rid_name_of (take i attrs)) c.loop-attr.rids.items name w.from.result c.loop-attr.invariant w.from.ensures
+          AllZip-push IsRidOf (filter_map rid_name_of (take i attrs)) c.loop-attr.rids.items name w.from.result c.loop-attr.invariant
+          w.from.ensures
           )
       | goal.in_default w ↦
           let names = filter_map_same rid_name_of attrs i c.attr-item.result c.loop-attr-test.true c.attr-item.is w.in_default.ensures in

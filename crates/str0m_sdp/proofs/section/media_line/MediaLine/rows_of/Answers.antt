@@ -1,4 +1,5 @@
-use Rattle.str0m_sdp.proofs.Common.{◌++◌, ◌==◌, ℕ, List, replicate, filter, filter_map, option_to_list, refl, rules, tests, sym, ap, ◌∙◌, Bor, list_any, take_all, All-same, line_values, FormatParam, CodecSpec, PayloadParams, IsBounded}
+use Rattle.str0m_sdp.proofs.Common.{◌++◌, ◌==◌, ℕ, List, replicate, filter, filter_map, option_to_list, refl, rules, tests, sym, ap, ◌∙◌}
+use Rattle.str0m_sdp.proofs.Common.{Bor, list_any, take_all, All-same, line_values, FormatParam, CodecSpec, PayloadParams, IsBounded}
 use Rattle.str0m_sdp.proofs.section.MappingsFilterMap.{kept_item, left_out}
 use Rattle.str0m_sdp.proofs.section.SectionRowsBoundLaws.{rows_bounded}
 use Rattle.str0m_sdp.proofs.section.SectionRowsGatherLaws.{Marks, nothing_gathered, all_gathered}
@@ -14,7 +15,9 @@ pub loop-pt-init : goal.loop-pt-init
 loop-pt-init c =
     let m = c.args.self.now in
     let all = rw (c.as_slice-2.ensures, c.requires) at c.in_ok-lines.ensures.words in (
-      c.in_ok-groups.ensures m.attrs (λ pt. ap (λ (ls : List (ℕ × Bor (List FormatParam))). line_values (lines_with pt ls)) c.as_slice-3.ensures.value ∙ all.gathered pt),
+      c.in_ok-groups.ensures m.attrs
+          (λ pt. ap (λ (ls : List (ℕ × Bor (List FormatParam))). line_values (lines_with pt ls)) c.as_slice-3.ensures.value
+          ∙ all.gathered pt),
       search (rules, tests),
     )
 
@@ -39,14 +42,16 @@ loop-pt-preserved c =
             rw w.rows-is (
                 w.in_ok-push_row.ensures m say (w.in_ok-format.ensures.format m.attrs known own)
                 ∙ ap (λ (rows : List PayloadParams). rows ++ option_to_list (row m item)) c.loop-pt.invariant.1
-                ∙ sym (kept_item (is_kept m) (row m) types i item c.loop-pt-test.true c.loop-pt-item.is (sym (c.is_kept.ensures m say) ∙ w.if-is_kept.true))
+                ∙ sym (kept_item (is_kept m) (row m) types i item c.loop-pt-test.true c.loop-pt-item.is
+                (sym (c.is_kept.ensures m say) ∙ w.if-is_kept.true))
                 ),
           )
       | goal.else-is_kept w ↦ (
         rw w.groups-is known,
         rw w.rows-is (
             c.loop-pt.invariant.1
-            ∙ sym (left_out (is_kept m) (row m) types i item c.loop-pt-test.true c.loop-pt-item.is (sym (c.is_kept.ensures m say) ∙ w.if-is_kept.false))
+            ∙ sym (left_out (is_kept m) (row m) types i item c.loop-pt-test.true c.loop-pt-item.is
+            (sym (c.is_kept.ensures m say) ∙ w.if-is_kept.false))
             ),
       )
     ]

@@ -9,7 +9,8 @@ returns-in-Some c = λ m say own.
     let spec = c.args.spec in
     let read : Some c.in-Some.format ≡ format_of_fmtp spec.codec (fmtps_of m.attrs pt) =
     sym c.in-Some.is ∙ own in
-    pushed c.extend_from_slice.result c.args.rows.now.items c.extend_from_slice.new.self.items c.row_of.result _ c.extend_from_slice.ensures.items
+    pushed c.extend_from_slice.result c.args.rows.now.items c.extend_from_slice.new.self.items c.row_of.result _
+    c.extend_from_slice.ensures.items
     (row_is m c.args.self.now pt spec c.in-Some.format say c.row_of.ensures.within read
     ∙ ap (λ (r : PayloadParams). Some r) (sym c.row_of.ensures.row))
 
