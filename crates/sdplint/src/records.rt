@@ -99,7 +99,7 @@ fn driver(alloc: Global) -> Result<Value, AllocError> {
 }
 
 /// A run of SARIF (section 3.14).
-fn run(alloc: Global, results: Vec<Value>) -> Result<Value, AllocError> {
+fn sarif_run(alloc: Global, results: Vec<Value>) -> Result<Value, AllocError> {
     let (driver, results) = (driver(alloc)?, Value::Array(results));
     json!(in alloc; {
         "tool": {"driver": driver},
@@ -110,7 +110,7 @@ fn run(alloc: Global, results: Vec<Value>) -> Result<Value, AllocError> {
 
 /// A log of SARIF with one run (section 3.13).
 pub(crate) fn log(alloc: Global, results: Vec<Value>) -> Result<Value, AllocError> {
-    let run = run(alloc, results)?;
+    let run = sarif_run(alloc, results)?;
     json!(in alloc; {
         "$schema": "https://json.schemastore.org/sarif-2.1.0.json",
         "version": "2.1.0",
