@@ -72,10 +72,10 @@ clamped : (last line : ℕ) → IsNumbered last line → min (max line 1) last �
 clamped last line h = omega arith
 
 -- a line that is kept unread
-pub keeps_one : (line : ℕ) (code : Code) (old new : Notes) → is_unread_code code ≡ true → IsNumbered old.last line
+pub unread_line_is_kept : (line : ℕ) (code : Code) (old new : Notes) → is_unread_code code ≡ true → IsNumbered old.last line
     → AddsOne line code old new → new.last ≡ old.last
     → KeepsUnread (line ∷ []) old new
-keeps_one line (Malformed misfit) old new is here a last = record {
+unread_line_is_kept line (Malformed misfit) old new is here a last = record {
   kept_are = added_lines is_unread_code line (Malformed misfit) old new a
       ∙ ap (λ (n : ℕ). lines_kept old.findings ++ n ∷ []) (clamped old.last line here);
   ends_stay = added_lines is_end line (Malformed misfit) old new a ∙ append-nil (ends old.findings);
@@ -83,7 +83,7 @@ keeps_one line (Malformed misfit) old new is here a last = record {
   changed_stays = added_change line (Malformed misfit) old new a ∙ or_false (is_changed old.findings);
   last_stays = last;
 }
-keeps_one line (Unknown unknown) old new is here a last = record {
+unread_line_is_kept line (Unknown unknown) old new is here a last = record {
   kept_are = added_lines is_unread_code line (Unknown unknown) old new a
       ∙ ap (λ (n : ℕ). lines_kept old.findings ++ n ∷ []) (clamped old.last line here);
   ends_stay = added_lines is_end line (Unknown unknown) old new a ∙ append-nil (ends old.findings);
@@ -91,12 +91,12 @@ keeps_one line (Unknown unknown) old new is here a last = record {
   changed_stays = added_change line (Unknown unknown) old new a ∙ or_false (is_changed old.findings);
   last_stays = last;
 }
-keeps_one line (Refused refusal) old new is here a last = absurd cc
-keeps_one line (Unread unfit) old new is here a last = absurd cc
-keeps_one line (Unseen what) old new is here a last = absurd cc
-keeps_one line (Changed change) old new is here a last = absurd cc
-keeps_one line (Contradiction conflict) old new is here a last = absurd cc
-keeps_one line (Round fate) old new is here a last = absurd cc
+unread_line_is_kept line (Refused refusal) old new is here a last = absurd cc
+unread_line_is_kept line (Unread unfit) old new is here a last = absurd cc
+unread_line_is_kept line (Unseen what) old new is here a last = absurd cc
+unread_line_is_kept line (Changed change) old new is here a last = absurd cc
+unread_line_is_kept line (Contradiction conflict) old new is here a last = absurd cc
+unread_line_is_kept line (Round fate) old new is here a last = absurd cc
 
 -- the line at which reading ends
 pub ends_one : (line : ℕ) (unfit : Unfit) (old new : Notes) → IsNumbered old.last line → AddsOne line (Unread unfit) old new

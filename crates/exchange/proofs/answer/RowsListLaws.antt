@@ -10,9 +10,9 @@ use Rattle.str0m_sdp.proofs.{distinct_push}
 -- ---- each once
 
 -- leaving out what differs from k loses no k
-has-others : (k x : ℕ) → (x == k) ≡ false → (xs : List ℕ) → has (filter (λ y. not (x == y)) xs) k ≡ has xs k
-has-others k x apart [] = refl
-has-others k x apart (y ∷ ys) = grind (arith, nat_tests, has-others k x apart ys)
+has_after_filter : (k x : ℕ) → (x == k) ≡ false → (xs : List ℕ) → has (filter (λ y. not (x == y)) xs) k ≡ has xs k
+has_after_filter k x apart [] = refl
+has_after_filter k x apart (y ∷ ys) = grind (arith, nat_tests, has_after_filter k x apart ys)
 
 pub has-distinct : (xs : List ℕ) (k : ℕ) → has (distinct ◌==◌ xs) k ≡ has xs k
 has-distinct [] k = refl
@@ -20,7 +20,7 @@ has-distinct (x ∷ xs) k = go (x == k) refl (has-distinct xs k) where
   go : (b : Bool) → (x == k) ≡ b → has (distinct ◌==◌ xs) k ≡ has xs k
       → (b || has (filter (λ y. not (x == y)) (distinct ◌==◌ xs)) k) ≡ (b || has xs k)
   go true e rec = refl
-  go false e rec = has-others k x e (distinct ◌==◌ xs) ∙ rec
+  go false e rec = has_after_filter k x e (distinct ◌==◌ xs) ∙ rec
 
 -- one type more
 pub distinct_more : (xs : List ℕ) (i x : ℕ) → i < length xs → x ≡ get_or xs i x

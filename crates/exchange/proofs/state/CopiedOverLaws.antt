@@ -20,7 +20,7 @@ behind_place {X} R xs ys i y rest = λ k d e le lt.
     subst (λ (z : X). R (get_or xs k d) z) (sym (get_or-set_other ys i k y e other)) (rest k d e (omega (arith, le)) lt)
 
 -- lines that are alike are the same where they have no values and no layers
-pub same_unless : (a b : MediaAttribute) → may_differ a ≡ false → Alike a b → b ≡ a
-same_unless (Fmtp n values) b plain alike = absurd (true≢false plain)
-same_unless (SimulcastLine layers) b plain alike = absurd (true≢false plain)
-same_unless _ b plain alike = sym alike
+pub same_if_alike : (a b : MediaAttribute) → may_differ a ≡ false → Alike a b → b ≡ a
+same_if_alike (Fmtp n values) b plain alike = absurd (true≢false plain)
+same_if_alike (SimulcastLine layers) b plain alike = absurd (true≢false plain)
+same_if_alike _ b plain alike = sym alike

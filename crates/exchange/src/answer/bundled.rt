@@ -1,10 +1,10 @@
 //! What the sections of a bundle share, looked for once.
 ghost use Rattle.exchange.specs.answer.Bundled.{IsBundledBy};
-ghost use Rattle.exchange.specs.answer.InBundle.{is_so_for, is_so_of, tagged};
+ghost use Rattle.exchange.specs.answer.InBundle.{is_so_for, is_so_of, tagged_section};
 ghost use Rattle.exchange.specs.section.Reached.{has_creds, has_fingerprint};
 ghost use Rattle.std.specs.Prelude.{◌≡◌, IfOk};
 
-use crate::answer::in_bundle::{bundle_names, tagged};
+use crate::answer::in_bundle::{bundle_names, tagged_section};
 use crate::offer::names::{is_held, ordered};
 use crate::section::reached::{has_creds, has_fingerprint};
 use crate::section::stopped::name_of;
@@ -24,18 +24,18 @@ pub(crate) struct Bundled<'a> {
 }
 
 fn has_tagged_creds(sdp: &Sdp) -> bool
-    ensures { result ≡ is_so_of (has_creds sdp.now.session) (tagged sdp.now) }
+    ensures { result ≡ is_so_of (has_creds sdp.now.session) (tagged_section sdp.now) }
 {
-    match tagged(sdp) {
+    match tagged_section(sdp) {
         Some(section) => has_creds(&sdp.session, section),
         None => false,
     }
 }
 
 fn has_tagged_fingerprint(sdp: &Sdp) -> bool
-    ensures { result ≡ is_so_of (has_fingerprint sdp.now.session) (tagged sdp.now) }
+    ensures { result ≡ is_so_of (has_fingerprint sdp.now.session) (tagged_section sdp.now) }
 {
-    match tagged(sdp) {
+    match tagged_section(sdp) {
         Some(section) => has_fingerprint(&sdp.session, section),
         None => false,
     }

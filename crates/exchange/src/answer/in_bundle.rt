@@ -1,6 +1,6 @@
 //! Sections that share the transport of a bundle.
 ghost use Rattle.exchange.specs.Prelude.{Holds};
-ghost use Rattle.exchange.specs.answer.InBundle.{bundle_names, is_same_name, is_tagged, tagged};
+ghost use Rattle.exchange.specs.answer.InBundle.{bundle_names, is_same_name, is_tagged, tagged_section};
 ghost use Rattle.std.specs.Prelude.{◌≡◌, IfOk, option_copied};
 
 use crate::offer::names::ordered;
@@ -43,8 +43,8 @@ fn is_tagged(names: &[Mid], section: &MediaLine) -> bool
 }
 
 /// The section whose transport all of the bundle share.
-pub(crate) fn tagged(sdp: &Sdp) -> Option<&MediaLine>
-    ensures { option_copied result ≡ tagged sdp.now }
+pub(crate) fn tagged_section(sdp: &Sdp) -> Option<&MediaLine>
+    ensures { option_copied result ≡ tagged_section sdp.now }
 {
     let names = bundle_names(sdp);
     let sections = sdp.media_lines.as_slice();

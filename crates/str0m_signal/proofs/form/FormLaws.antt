@@ -4,7 +4,7 @@ use Rattle.str0m_signal.proofs.Common.{◌∷◌, ◌++◌, length, Option, Some
 use Rattle.str0m_signal.proofs.Common.{is_rest, num, IsNum, bind_some, some_is, cut_none, cut_none_lacks, cut_at, cut_found, strip_at}
 use Rattle.str0m_signal.proofs.Common.{strip_found, when_some, num_found, num_reads, rest_true, Reads, append-nil}
 use Rattle.str0m_signal.specs.form.FormReading.{behind, digits_read, text_read, two_read, tail_after, tailed_read}
-use Rattle.str0m_signal.specs.form.Forms.{Behind, IsText, Two, Tailed}
+use Rattle.str0m_signal.specs.form.Forms.{Behind, IsText, Two, IsBeforeTail}
 
 pub text_both : Reads IsText text_read
 text_both = grind arith
@@ -53,10 +53,11 @@ two_both {A} {B} {F} {G} {f} {g} c first second = record {
       ap (two_read c f g) h.2 ∙ rw (cut_at c h.0 h.1 h.3, first.complete h.0 x.0 h.4, second.complete h.1 x.1 h.5) refl;
 }
 
-pub tailed_both : {A : Type 0} {F : List ℕ → A → Type 0} {f : List ℕ → Option A} (c : ℕ) → Reads F f → Reads (Tailed c F) (tailed_read c f)
+pub tailed_both : {A : Type 0} {F : List ℕ → A → Type 0} {f : List ℕ → Option A} (c : ℕ) → Reads F f
+    → Reads (IsBeforeTail c F) (tailed_read c f)
 tailed_both {A} {F} {f} c reads = record { sound = λ text x e. found text x (cut c text) refl e; complete = given }
   where
-    found : (text : List ℕ) (x : A) (o : Option (List ℕ × List ℕ)) → cut c text ≡ o → tail_after f text o ≡ Some x → Tailed c F text x
+    found : (text : List ℕ) (x : A) (o : Option (List ℕ × List ℕ)) → cut c text ≡ o → tail_after f text o ≡ Some x → IsBeforeTail c F text x
     found text x None cut-is e = (text, [], sym (append-nil text), cut_none_lacks c text cut-is, reads.sound text x e, inl refl)
     found text x (Some p) cut-is e =
         let a = bind_some (f p.0) (λ v. when (is_rest p.1) v) x e in
@@ -64,7 +65,7 @@ tailed_both {A} {F} {f} c reads = record { sound = λ text x e. found text x (cu
         let cut-found = cut_found c text p.0 p.1 cut-is in
         rw (← w.1) (p.0, c ∷ p.1, cut-found.0, cut-found.1, reads.sound p.0 a.0 a.1, inr (p.1, refl, ltb-true 0 (length p.1) w.0))
 
-    given : (text : List ℕ) (x : A) → Tailed c F text x → tailed_read c f text ≡ Some x
+    given : (text : List ℕ) (x : A) → IsBeforeTail c F text x → tailed_read c f text ≡ Some x
     given text x h =
         elim h.5 [
           | inl none ↦

@@ -3,7 +3,7 @@ use Rattle.str0m_signal.proofs.Common.{◌≤◌, ◌<◌, ◌^◌, ℕ, List, [
 use Rattle.str0m_signal.proofs.Common.{append-nil, Parted, Lacks, IsNum, Lacks-append, lacks_both}
 use Rattle.str0m_signal.proofs.form.FmtpPrinted.{behind_lacks}
 use Rattle.str0m_signal.proofs.session.AttributesPrinted.{num_is, decimal_lacks}
-use Rattle.str0m_signal.specs.form.Forms.{Behind, IsText, Two, Tailed}
+use Rattle.str0m_signal.specs.form.Forms.{Behind, IsText, Two, IsBeforeTail}
 
 -- what has the form F is printed as a text that has it again, and a character that is no digit stands there only where it stood before
 pub record Again {A : Type 0} (F : List ℕ → A → Type 0) (print : A → List ℕ) : Type 0 where
@@ -32,7 +32,7 @@ module _ {A B : Type 0} {F : List ℕ → A → Type 0} {G : List ℕ → B → 
   }
 
 module _ {A : Type 0} {F : List ℕ → A → Type 0} {p : A → List ℕ} (again : Again F p) where
-  pub tailed_again : (c : ℕ) → 16 ≤ digit_value c → Again (Tailed c F) p
+  pub tailed_again : (c : ℕ) → 16 ≤ digit_value c → Again (IsBeforeTail c F) p
   tailed_again c far = record {
     form = λ text x h. (p x, [], sym (append-nil (p x)), again.lacks c far h.0 x h.4 h.3, again.form h.0 x h.4, inl refl);
     lacks = λ d other text x h lacks. again.lacks d other h.0 x h.4 (Lacks-append d h.0 h.1 (subst (Lacks d) h.2 lacks));

@@ -42,8 +42,8 @@ taken_leaves : {A : Type 0} (F : List ℕ → A → Type 0) (lines : List Line) 
 taken_leaves F lines None rest h = record { before = []; are = h.0 }
 taken_leaves F lines (Some a) rest h = one_leaves F lines a rest h
 
-header_leaves : AlwaysLeaves IsHeader
-header_leaves lines header rest h =
+header_leaves_rest : AlwaysLeaves IsHeader
+header_leaves_rest lines header rest h =
     let o = h.opening_is in
     both_leave (one_leaves (IsExactly (codes "v=0")) lines (codes "v=0") o.after_version o.version_is)
     (both_leave (one_leaves IsOrigin o.after_version header.id o.after_origin o.origin_is)
@@ -64,7 +64,7 @@ section_leaves lines m rest h =
 
 pub session_leaves : AlwaysLeaves IsSession
 session_leaves lines session rest h =
-    both_leave (header_leaves lines (record { id = session.id; bw = session.bw }) h.after_header h.header_is)
+    both_leave (header_leaves_rest lines (record { id = session.id; bw = session.bw }) h.after_header h.header_is)
     (lines_leave IsSessionLine h.after_header session.attrs rest h.attributes_are.0)
 
 pub reading_leaves : AlwaysLeaves IsReading

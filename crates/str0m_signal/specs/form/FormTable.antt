@@ -2,7 +2,7 @@
 use Rattle.std.specs.Prelude.{◌≡◌, ◌⊎◌, ◌++◌, ◌∷◌, [], ℕ, Bool, true, false, List, Option, Some, None, ◌==◌, ◌||◌, if◌then◌else◌}
 use Rattle.str0m_signal.specs.Prelude.{IsNum, IsRest, Parted, is_rest, num, when, ◌<|>◌, ◌>>=◌}
 use Rattle.str0m_signal.specs.form.FormReading.{alone, behind, text_read, two_read, tailed_read, parted_read}
-use Rattle.str0m_signal.specs.form.Forms.{Behind, IsText, Two, Tailed}
+use Rattle.str0m_signal.specs.form.Forms.{Behind, IsText, Two, IsBeforeTail}
 
 -- ---- parts of a text
 
@@ -20,7 +20,7 @@ abbrev pub two : {A B : Type 0} → ℕ → Piece A → Piece B → Piece (A × 
 two c first second = record { Is = Two c first.Is second.Is; read = two_read c first.read second.read }
 
 abbrev pub tailed : {A : Type 0} → ℕ → Piece A → Piece A
-tailed c piece = record { Is = Tailed c piece.Is; read = tailed_read c piece.read }
+tailed c piece = record { Is = IsBeforeTail c piece.Is; read = tailed_read c piece.read }
 
 -- two texts, with a space between them
 abbrev pub two_texts : Piece (List ℕ × List ℕ)

@@ -19,5 +19,5 @@ abbrev pub IsTail : ℕ → List ℕ → Type 0
 IsTail c text = (text ≡ []) ⊎ ((rest : List ℕ) × (text ≡ c ∷ rest) × IsRest rest)
 
 -- what stands before the first c, with its value, and such a tail
-abbrev pub Tailed : {A : Type 0} → ℕ → (List ℕ → A → Type 0) → List ℕ → A → Type 0
-Tailed c F text x = (front : List ℕ) × (tail : List ℕ) × (text ≡ front ++ tail) × Lacks c front × F front x × IsTail c tail
+abbrev pub IsBeforeTail : {A : Type 0} → ℕ → (List ℕ → A → Type 0) → List ℕ → A → Type 0
+IsBeforeTail c F text x = (front : List ℕ) × (tail : List ℕ) × (text ≡ front ++ tail) × Lacks c front × F front x × IsTail c tail

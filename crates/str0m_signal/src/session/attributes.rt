@@ -142,7 +142,7 @@ fn take_line<'a, A: Attribute>(
 const SPARE_LINES: usize = 8;
 
 /// The attributes as they are held, which is for longer than they are read: room for many further lines is given back.
-fn held<A: Drop>(mut attributes: Vec<A>) -> Items<A>
+fn without_spare_room<A: Drop>(mut attributes: Vec<A>) -> Items<A>
     ensures { result ≡ attributes.items }
 {
     if attributes.capacity().saturating_sub(attributes.len()) > SPARE_LINES {
@@ -163,5 +163,5 @@ pub(crate) fn attribute_run<A: Attribute>(
     while let Some(after) = take_line(alloc, rest, &mut attributes)? {
         rest = after;
     }
-    Ok((held(attributes), rest))
+    Ok((without_spare_room(attributes), rest))
 }
