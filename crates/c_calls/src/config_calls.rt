@@ -8,7 +8,7 @@ ghost use Rattle.std.specs.Prelude.{◌≡◌, ◌≢◌, ◌↔◌, ◌⊎◌, 
 
 use crate::said::{DONE, NO_MEMORY, NO_UTF8, WRONG_ARGUMENT};
 use c_parts::config_handle::ConfigHandle;
-use c_parts::row::{codec_at, unless};
+use c_parts::row::{codec_at, said_unless};
 use std::alloc::{AllocError, Global};
 use std::str;
 use str0m_signal::{Codec, CodecConfig, FormatParams, Frequency, Pt};
@@ -165,8 +165,15 @@ pub extern "C" fn zaxp_config_add(
         Err(code) => return code,
     };
     let mut config = handle.take(alloc);
-    let (pt, resend) = (Pt::from(pt), unless(255, rtx).map(Pt::from));
-    let added = config.add_config(pt, resend, codec, clock_rate, unless(0, channels), format);
+    let (pt, resend) = (Pt::from(pt), said_unless(255, rtx).map(Pt::from));
+    let added = config.add_config(
+        pt,
+        resend,
+        codec,
+        clock_rate,
+        said_unless(0, channels),
+        format,
+    );
     handle.put(config);
     match added {
         Ok(()) => DONE,
