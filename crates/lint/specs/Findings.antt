@@ -1,7 +1,7 @@
 -- What findings say of a text.
 use Rattle.lint.specs.Code.{is_refusal, is_end, is_unread_code, is_change}
 use Rattle.lint.specs.Kept.{is_unread, kept_at, kept_flags}
-use Rattle.lint.specs.Lines.{attribute_numbers, unread_lines, IsNumbered}
+use Rattle.lint.specs.Lines.{attribute_numbers, unread_lines}
 use Rattle.lint.specs.Prelude.{Line, Reading, Sdp, lines_of, sdp_text}
 use Rattle.lint.specs.Told.{NothingLost, told_of}
 use Rattle.lint.specs.declared.code.Code.{Code}
@@ -115,8 +115,3 @@ pub record AreFindingsOf (text : List ℕ) (findings : List Finding) : Type 0 wh
   pub unread : (sdp : Sdp) (rest : List ℕ) → Reading text (sdp, rest) → ends findings ≡ unread_lines text rest
   pub kept_are : (sdp : Sdp) (rest : List ℕ) → Reading text (sdp, rest) → lines_kept findings ≡ kept_numbers text sdp
   pub silent : AreSilent findings ↔ NothingLost text
-
--- ---- findings that name a line of their text
-
-abbrev pub IsWithinLines : ℕ → Finding → Type 0
-IsWithinLines last finding = IsNumbered last finding.line

@@ -1,5 +1,6 @@
 -- The lines of a text as the findings number them.
 use Rattle.lint.specs.Prelude.{EndsIn, Line, lines_of, strip}
+use Rattle.lint.specs.declared.finding.Finding.{Finding}
 use Rattle.std.specs.Borrow.{Bor}
 use Rattle.std.specs.Prelude.{◌≡◌, ◌⊎◌, ◌+◌, ◌-◌, ◌≤◌, ℕ, Bool, List, [], ◌∷◌, ◌++◌, Option, Some, None, codes, length, max, if◌then◌else◌, is_some}
 
@@ -19,6 +20,10 @@ last_line text = max 1 (length (lines_of text))
 -- the number of a line, counted from 1
 abbrev pub IsNumbered : ℕ → ℕ → Type 0
 IsNumbered last n = (1 ≤ n) × (n ≤ last)
+
+-- the finding names a line of its text
+abbrev pub IsWithinLines : ℕ → Finding → Type 0
+IsWithinLines last finding = IsNumbered last finding.line
 
 -- an attribute line begins with `a=` (RFC 8866, section 5.13)
 abbrev pub begins_attribute : List ℕ → Bool

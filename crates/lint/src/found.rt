@@ -1,7 +1,7 @@
 //! What a text loses, and why it is refused, line by line.
-ghost use Rattle.lint.specs.Findings.{AreFindingsOf, AreSilent, IsNoWant, ReadsAs, TellsUnread, ends, lines_kept, is_refused, IsWithinLines};
+ghost use Rattle.lint.specs.Findings.{AreFindingsOf, AreSilent, IsNoWant, ReadsAs, TellsUnread, ends, lines_kept, is_refused};
 ghost use Rattle.lint.specs.Kept.{kept_at, kept_flags};
-ghost use Rattle.lint.specs.Lines.{attribute_numbers, last_line, unread_lines};
+ghost use Rattle.lint.specs.Lines.{IsWithinLines, attribute_numbers, last_line, unread_lines};
 ghost use Rattle.lint.specs.Prelude.{AtMostOne, Reading, Sdp, lines_of};
 ghost use Rattle.lint.specs.Told.{NothingLost};
 ghost use Rattle.std.specs.Prelude.{◌≡◌, ◌↔◌, ℕ, List, [], true, All, IfOk, OnOk};

@@ -1,5 +1,5 @@
 //! The findings while they are gathered.
-ghost use Rattle.lint.specs.Findings.{IsWithinLines};
+ghost use Rattle.lint.specs.Lines.{IsWithinLines};
 ghost use Rattle.std.specs.Prelude.{◌≡◌, ◌<◌, ◌≤◌, ◌^◌, [], All, max};
 
 use crate::finding::Finding;
