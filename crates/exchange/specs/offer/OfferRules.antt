@@ -1,13 +1,18 @@
 -- The rules that an offer of this side keeps, beside the last exchange.
-use Rattle.exchange.specs.Prelude.{MediaLine, MediaType, PayloadParams, first, is_listed, is_media, kind_rows, media_creds, media_fingerprint, media_setup, section_direction, types}
+use Rattle.exchange.specs.Prelude.{AreDistinct, MediaLine, MediaType, PayloadParams, first, is_listed, is_media, kind_rows, media_creds, media_fingerprint, media_setup, section_direction, section_mids, types, versioned_text}
+use Rattle.exchange.specs.declared.offer.Offer.{Offer}
 use Rattle.exchange.specs.declared.state.exchange.Exchange.{Exchange}
 use Rattle.exchange.specs.declared.state.own_side.SectionDirection.{SectionDirection}
+use Rattle.exchange.specs.declared.state.signaling_state.SignalingState.TheVariants.{Stable}
+use Rattle.exchange.specs.offer.FreshNames.{AreFresh}
+use Rattle.exchange.specs.offer.MadeOffer.{MakesOffer, ready_with}
 use Rattle.exchange.specs.offer.Rules.{HasShapeOf}
-use Rattle.exchange.specs.section.Places.{IsOver}
+use Rattle.exchange.specs.section.Places.{FollowsPlaces, IsOver}
 use Rattle.exchange.specs.section.Stopped.{name_of}
 use Rattle.exchange.specs.state.OwnSide.{direction_among}
-use Rattle.exchange.specs.state.State.{taken_names}
-use Rattle.std.specs.Prelude.{◌≡◌, ◌⊎◌, ◌+◌, ℕ, true, false, List, [], ◌∷◌, Some, MatchOption, filter_map}
+use Rattle.exchange.specs.state.ReadBack.{IsReadBack}
+use Rattle.exchange.specs.state.State.{sections_of, state_of, taken_names}
+use Rattle.std.specs.Prelude.{All, ◌≡◌, ◌⊎◌, ◌+◌, ℕ, true, false, List, [], ◌∷◌, Some, MatchOption, filter_map, length}
 use Rattle.str0m_sdp.specs.declared.attribute.media_type.MediaType.TheVariants.{Audio, Video}
 use Rattle.str0m_sdp.specs.declared.attribute.setup.Setup.TheVariants.{ActPass}
 use Rattle.str0m_values.specs.declared.media_kind.MediaKind.TheVariants as kind
@@ -52,3 +57,19 @@ pub record KeepsOffered (old : Exchange) (ready : List SectionDirection) (m : Me
 
 abbrev pub IsOffered : Exchange → List SectionDirection → MediaLine → Type 0
 IsOffered old ready m = m.disabled ≡ false → KeepsOffered old ready m
+
+-- ---- the whole
+
+-- this side makes the offer, which keeps the rules beside the last exchange, and is read back whole
+pub record IsOfferedWith (old : Exchange) (offer : Offer) : Type 0 where
+  pub stable : state_of old ≡ Stable
+  pub names : (to : ℕ) × AreFresh (taken_names old) 0 offer.added to
+  pub as_many : length offer.added ≡ length old.added
+  pub new : All (IsNewName old) offer.added
+  pub says : MakesOffer old offer.added offer.sdp
+  pub places : KeepsPlaces old 0 (sections_of old.local) offer.sdp.media_lines
+  pub follows : FollowsPlaces old.names (sections_of old.local) offer.sdp.media_lines
+  pub rules : All (IsOffered old (ready_with old offer.added)) offer.sdp.media_lines
+  pub different : AreDistinct (section_mids (sections_of old.local)) → AreDistinct (section_mids offer.sdp.media_lines)
+  pub read_back : IsReadBack offer.sdp (versioned_text offer.version offer.sdp)
+  pub version : offer.version ≡ old.version

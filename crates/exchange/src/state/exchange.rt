@@ -6,7 +6,7 @@ ghost use Rattle.exchange.specs.declared.state.signaling_state.SignalingState.Th
 ghost use Rattle.exchange.specs.offer.Added.{with_channels, with_media};
 ghost use Rattle.exchange.specs.offer.FreshNames.{AreFresh};
 ghost use Rattle.exchange.specs.offer.MadeOffer.{MakesOffer, placed_as, ready_with};
-ghost use Rattle.exchange.specs.offer.OfferRules.{IsNewName, IsOffered, KeepsPlaces};
+ghost use Rattle.exchange.specs.offer.OfferRules.{IsNewName, IsOffered, IsOfferedWith, KeepsPlaces};
 ghost use Rattle.exchange.specs.state.Exchange.{RefusesChannels, RefusesMedia, RefusesToOffer};
 ghost use Rattle.exchange.specs.state.ExchangeFollows.{Follows, IsSound};
 ghost use Rattle.exchange.specs.state.OwnSide.{with_entry};
@@ -46,6 +46,13 @@ pub struct Exchange {
     pub(crate) added: Items<Added>,
     /// The names that sections have had, in exchanges that are done.
     pub(crate) names: Items<Mid>,
+}
+
+/// An offer of this side that isn't in force yet, and what of it is to wait for the answer.
+#[derive(Drop)]
+struct Offering {
+    offer: Offer,
+    pending: Pending,
 }
 
 /// The room that most printed descriptions fit in, in bytes: no answer depends on it.
@@ -300,6 +307,18 @@ impl Exchange {
         ensures refused { IfErr result (RefusesToOffer self.old) }
         ensures unchanged { OnErr result (self.new ≡ self.old) }
     {
+        let made = self.offering()?;
+        self.pending = Some(made.pending);
+        self.version = next_version(self.version);
+        Ok(made.offer)
+    }
+
+    /// The offer of what was added, and of what goes on of the last exchange.
+    fn offering(&self) -> Result<Offering, ExchangeError>
+        ensures made { IfOk result (λ it. IsOfferedWith self.now it.offer) }
+        ensures waits { IfOk result (λ it. it.pending ≡ record { sdp = it.offer.sdp; placed = placed_as self.now it.offer.added }) }
+        ensures refused { IfErr result (RefusesToOffer self.now) }
+    {
         self.check_stable()?;
         let (alloc, version) = (*self.config.allocator(), self.version);
         let taken = taken_names(self)?;
@@ -311,9 +330,7 @@ impl Exchange {
         let placed = placed_as(self, added.as_slice())?;
         let pending = Pending { sdp: copy, placed };
         let offer = Offer::new(sdp, version, added);
-        self.pending = Some(pending);
-        self.version = next_version(version);
-        Ok(offer)
+        Ok(Offering { offer, pending })
     }
 
     /// An error where an offer of this side waits for its answer.
