@@ -7,7 +7,9 @@ ghost use Rattle.std.specs.Prelude.{◌≡◌, ◌-◌, ◌^◌, MatchOption};
 
 use crate::answers::answered;
 use crate::task::{done, negotiated};
-use crate::tasks::{Candidates, Consistency, Defaults, Mark, Print, Rounds, Rows, Sources};
+use crate::tasks::{
+    Candidates, Consistency, Defaults, Exchanges, Mark, Print, Rounds, Rows, Sources,
+};
 use std::alloc::Global;
 
 /// The number as C gets it.
@@ -59,6 +61,14 @@ pub extern "C" fn bench_negotiate(alloc: Global, text: &[u8], more: u32) -> u64
     ensures { TellsNumber (HasRounds text.now) result }
 {
     told(negotiated(alloc, text, more))
+}
+
+/// Reads the text, makes an exchange in which nothing is said, and answers how many sections the text has.
+#[unsafe(no_mangle)]
+pub extern "C" fn bench_exchange(alloc: Global, text: &[u8], more: u32) -> u64
+    ensures { TellsNumber (HasAnswer text.now sections) result }
+{
+    told(done::<Exchanges>(alloc, text, more))
 }
 
 /// Answers the text as an offer, in an exchange of its own each time, and answers how many sections the answer has.
