@@ -2,6 +2,7 @@
 is read line by line, with a pattern for each key, as sdp-transform does.
 The forms are those of docs/GRAMMAR.md, as they print; nothing of the library is asked."""
 import ipaddress
+import json
 import re
 
 NUMBER = re.compile(r"0|[1-9]\d*")
@@ -164,8 +165,20 @@ def feedback(section, row):
     return [it for it in WORDS if it in said or (it != WORDS[0] and row["codec"] in VIDEO)]
 
 
-def fault(found, text, rows):
-    """What is wrong with JSON, parsed, of a description that prints this text, and whose rows are these lines; empty where it is right."""
+def in_order(members):
+    """The members of an object, which has each key once, in the order of their bytes."""
+    keys = [key.encode() for key, _ in members]
+    if keys != sorted(set(keys)):
+        raise ValueError(f"the keys {keys} aren't in order")
+    return dict(members)
+
+
+def fault(written, text, rows):
+    """What is wrong with JSON of a description that prints this text, and whose rows are these lines; empty where it is right."""
+    try:
+        found = json.loads(written, object_pairs_hook=in_order)
+    except ValueError as error:
+        return f"it isn't read: {error}"
     lines = ""
     for section in found["media"]:
         for row in section.pop("rows"):

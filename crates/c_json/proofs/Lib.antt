@@ -1,1 +1,2 @@
 pub mod DescriptionWritten
+pub mod JsonWriterLaws
