@@ -1,6 +1,7 @@
 -- Each token that may come next leads to the levels behind it.
 use Rattle.c_json.specs.Description.{IsJsonText}
-use Rattle.c_json.specs.JsonWriter.{Level, object, named, list, closed, valued, step, open_levels, InObject, InList, WantsValue, MayBe}
+use Rattle.c_json.specs.JsonWriter.{Level, object, named, list, closed, valued, after_token, open_levels, InObject, InList, WantsValue}
+use Rattle.c_json.specs.JsonWriter.{MayBe}
 use Rattle.c_json.specs.JsonWriter.{IsJsonValue, AreMembers, AreItems, IsFront, Leads, IsBegun}
 use Rattle.json.specs.Json as json
 use Rattle.json.specs.Lex.{tokens}
@@ -155,7 +156,7 @@ put_key (object ∷ ls) ts k (outer, members, front, are, is) inside = (
 put_key (named ∷ ls) ts k leads inside = absurd inside
 put_key (list ∷ ls) ts k leads inside = absurd inside
 
-put_token : (ls : List Level) (ts : List Token) (t : Token) → Leads ls ts → MayBe ls t → Leads (step ls t) (ts ++ t ∷ [])
+put_token : (ls : List Level) (ts : List Token) (t : Token) → Leads ls ts → MayBe ls t → Leads (after_token ls t) (ts ++ t ∷ [])
 put_token ls ts begin_object leads may = begin_members ls ts leads may
 put_token ls ts end_object leads may = end_members ls ts leads may
 put_token ls ts begin_array leads may = begin_items ls ts leads may
@@ -182,16 +183,16 @@ may_be_printed ls null may = tt
 may_be_printed ls bad may = absurd may
 
 -- the levels behind one more token
-pub levels_push : (old new : List Token) (t : Token) → new ≡ old ++ t ∷ [] → open_levels new ≡ step (open_levels old) t
-levels_push old new t is = ap open_levels is ∙ fold_push step [] old t
+pub levels_push : (old new : List Token) (t : Token) → new ≡ old ++ t ∷ [] → open_levels new ≡ after_token (open_levels old) t
+levels_push old new t is = ap open_levels is ∙ fold_push after_token [] old t
 
-led : (old new : List Token) (t : Token) → new ≡ old ++ t ∷ [] → Leads (step (open_levels old) t) (old ++ t ∷ [])
+led : (old new : List Token) (t : Token) → new ≡ old ++ t ∷ [] → Leads (after_token (open_levels old) t) (old ++ t ∷ [])
     → Leads (open_levels new) new
 led old new t is leads = subst (λ ts. Leads (open_levels ts) ts) (sym is)
-    (subst (λ ls. Leads ls (old ++ t ∷ [])) (sym (fold_push step [] old t)) leads)
+    (subst (λ ls. Leads ls (old ++ t ∷ [])) (sym (fold_push after_token [] old t)) leads)
 
 begun_behind : {E : Type 0} (r : Result (Unit {0}) E) (old new : Written) (t : Token) → Writes r old new t → IsBegun old.before old.tokens
-    → Leads (step (open_levels old.tokens) t) (old.tokens ++ t ∷ []) → IsBegun new.before new.tokens
+    → Leads (after_token (open_levels old.tokens) t) (old.tokens ++ t ∷ []) → IsBegun new.before new.tokens
 begun_behind (Ok done) old new t writes is leads = record {
   empty = writes.room.0 ∙ is.empty;
   leads = led old.tokens new.tokens t writes.ok leads;

@@ -25,20 +25,20 @@ valued (named ∷ ls) = object ∷ ls
 valued (list ∷ ls) = list ∷ ls
 
 -- behind a token
-abbrev pub step : List Level → Token → List Level
-step ls begin_object = object ∷ valued ls
-step ls end_object = closed ls
-step ls begin_array = list ∷ valued ls
-step ls end_array = closed ls
-step ls (key k) = named ∷ closed ls
-step ls (string s) = valued ls
-step ls (number s) = valued ls
-step ls (boolean b) = valued ls
-step ls null = valued ls
-step ls bad = ls
+abbrev pub after_token : List Level → Token → List Level
+after_token ls begin_object = object ∷ valued ls
+after_token ls end_object = closed ls
+after_token ls begin_array = list ∷ valued ls
+after_token ls end_array = closed ls
+after_token ls (key k) = named ∷ closed ls
+after_token ls (string s) = valued ls
+after_token ls (number s) = valued ls
+after_token ls (boolean b) = valued ls
+after_token ls null = valued ls
+after_token ls bad = ls
 
 abbrev pub open_levels : List Token → List Level
-open_levels = fold step []
+open_levels = fold after_token []
 
 -- a member may come next
 abbrev pub InObject : List Level → Type 0

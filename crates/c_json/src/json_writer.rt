@@ -1,7 +1,7 @@
 //! JSON as it is written: objects and lists, one in another, each member and each item straight into the text.
 
 ghost use Rattle.c_json.specs.Description.{IsJsonText};
-ghost use Rattle.c_json.specs.JsonWriter.{object, list, closed, valued, step, InObject, InList, WantsValue, MayBe};
+ghost use Rattle.c_json.specs.JsonWriter.{object, list, closed, valued, after_token, InObject, InList, WantsValue, MayBe};
 ghost use Rattle.json.specs.Reads.{token_of};
 ghost use Rattle.std.specs.Prelude.{◌≡◌, ◌∷◌, [], IfOk, OnOk};
 ghost use Rattle.std.specs.String.{string_bytes};
@@ -59,7 +59,7 @@ impl JsonWriter {
     #[inline(always)]
     fn put(&mut self, token: Token<'_>) -> Result<(), AllocError>
         requires { MayBe self.old (token_of token) }
-        ensures { OnOk result (self.new ≡ step self.old (token_of token.entry)) }
+        ensures { OnOk result (self.new ≡ after_token self.old (token_of token.entry)) }
     {
         self.out.token(token)?;
         Ok(())
