@@ -163,13 +163,13 @@ zax_status zax_rows(zax_session *session, size_t section, zax_row *room, size_t 
 zax_status zax_row_codec(zax_session *session, size_t section, size_t row, char *room, size_t cap, size_t *needed)
 {
     BEGIN(session, room, cap, needed);
-    return (zax_status)zaxp_session_codec(&session->handle, section, row, ROOM(uint8_t, room, cap), cap, needed);
+    return (zax_status)zaxp_session_text(&session->handle, section, ROW_CODEC, row, ROOM(uint8_t, room, cap), cap, needed);
 }
 
 zax_status zax_row_fmtp(zax_session *session, size_t section, size_t row, char *room, size_t cap, size_t *needed)
 {
     BEGIN(session, room, cap, needed);
-    return (zax_status)zaxp_session_format(&session->handle, section, row, ROOM(uint8_t, room, cap), cap, needed);
+    return (zax_status)zaxp_session_text(&session->handle, section, ROW_FORMAT, row, ROOM(uint8_t, room, cap), cap, needed);
 }
 
 zax_status zax_is_writable(zax_session *session, size_t section, int *writable)
@@ -306,13 +306,13 @@ zax_status zax_config_rows(zax_config *config, zax_row *room, size_t cap, size_t
 zax_status zax_config_row_codec(zax_config *config, size_t row, char *room, size_t cap, size_t *needed)
 {
     BEGIN(config, room, cap, needed);
-    return (zax_status)zaxp_config_codec(&config->handle, row, ROOM(uint8_t, room, cap), cap, needed);
+    return (zax_status)zaxp_config_text(&config->handle, ROW_CODEC, row, ROOM(uint8_t, room, cap), cap, needed);
 }
 
 zax_status zax_config_row_fmtp(zax_config *config, size_t row, char *room, size_t cap, size_t *needed)
 {
     BEGIN(config, room, cap, needed);
-    return (zax_status)zaxp_config_format(&config->handle, row, ROOM(uint8_t, room, cap), cap, needed);
+    return (zax_status)zaxp_config_text(&config->handle, ROW_FORMAT, row, ROOM(uint8_t, room, cap), cap, needed);
 }
 
 zax_status zax_answer(zax_config *config, zax_session *own, size_t section)
@@ -540,13 +540,13 @@ zax_status zax_exchange_rows(zax_exchange *exchange, zax_row *room, size_t cap, 
 zax_status zax_exchange_row_codec(zax_exchange *exchange, size_t row, char *room, size_t cap, size_t *needed)
 {
     BEGIN(exchange, room, cap, needed);
-    return (zax_status)zaxp_exchange_codec(&exchange->handle, row, ROOM(uint8_t, room, cap), cap, needed);
+    return (zax_status)zaxp_exchange_text(&exchange->handle, ROW_CODEC, row, ROOM(uint8_t, room, cap), cap, needed);
 }
 
 zax_status zax_exchange_row_fmtp(zax_exchange *exchange, size_t row, char *room, size_t cap, size_t *needed)
 {
     BEGIN(exchange, room, cap, needed);
-    return (zax_status)zaxp_exchange_format(&exchange->handle, row, ROOM(uint8_t, room, cap), cap, needed);
+    return (zax_status)zaxp_exchange_text(&exchange->handle, ROW_FORMAT, row, ROOM(uint8_t, room, cap), cap, needed);
 }
 
 zax_status zax_exchange_state(zax_exchange *exchange, uint32_t *state)

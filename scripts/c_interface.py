@@ -144,7 +144,18 @@ def numbers():
         yield f"ZAX_{name.upper()}", number
     for name, number in re.findall(r"^c_outcome \(?Err \(?(\w+).*cause = (\d+)", row, re.M):
         yield f"ZAX_{CAUSES[name]}", number
+    found = (CALLS / "specs" / "SectionCalls.antt").read_text("utf-8")
+    yield from ((f"ROW_{name.upper()}", number) for number, name in enumerate(choices(found, "row_text_numbered")))
     yield from numbers_of_exchanges()
+
+
+def choices(text, name):
+    """What a definition makes of each number from 0 on, which it asks for in order."""
+    asked = re.search(rf"^{name} n = (.*)$", text, re.M)[1]
+    tested = re.findall(r"nat_eq n (\d+) then ([\w. ]+?) else", asked)
+    if [number for number, _ in tested] != [str(it) for it in range(len(tested))]:
+        raise SystemExit(f"{name} asks for other numbers than those from 0 on, in order")
+    return [*(chosen for _, chosen in tested), re.search(r"else ([\w. ]+)\)*$", asked)[1]]
 
 
 def numbers_of_exchanges():

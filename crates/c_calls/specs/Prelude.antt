@@ -2,10 +2,9 @@
 pub use Rattle.c_json.specs.Description.{IsJsonText}
 pub use Rattle.c_parts.specs.Parts.{IsFull}
 pub use Rattle.c_parts.specs.Reading.{RefusesReading}
-pub use Rattle.c_parts.specs.Row.{c_outcome, c_row, codec_at, said_unless}
+pub use Rattle.c_parts.specs.Row.{c_outcome, c_row, c_rows, codec_at, said_unless}
 pub use Rattle.c_parts.specs.Section.{c_section}
 pub use Rattle.c_parts.specs.Side.{RefusesBoth, RefusesOwn, SaysOwn, direction_numbered, kind_numbered, own_texts}
-pub use Rattle.c_parts.specs.declared.row.Row.{Row}
 pub use Rattle.c_parts.specs.declared.section.Section.{Section}
 pub use Rattle.c_parts.specs.declared.side.OwnNumbers.{OwnNumbers}
 pub use Rattle.c_parts.specs.declared.side.OwnTexts.{OwnTexts}

@@ -4,13 +4,12 @@ ghost use Rattle.c_calls.specs.Common.{Of};
 ghost use Rattle.c_calls.specs.ExchangeCalls.{AcceptsOffer, BeginsExchange, Goes, state_number};
 ghost use Rattle.c_calls.specs.Prelude.{IsFull, IsSound, RefusesOffer, RefusesOwn, SaysOwn, c_row, own_texts, state_of};
 ghost use Rattle.c_calls.specs.Said.{Says};
-ghost use Rattle.c_calls.specs.SectionCalls.{text_in};
+ghost use Rattle.c_calls.specs.SectionCalls.{row_text_numbered, text_in};
 ghost use Rattle.c_calls.specs.Told.{done};
-ghost use Rattle.c_calls.specs.declared.row_calls.RowText.TheVariants.{Codec, Format};
 ghost use Rattle.c_parts.specs.Fault.{RefusesBytes, ToldFault, ToldAt};
 ghost use Rattle.std.specs.Prelude.{◌≡◌, ◌≢◌, IfErr, IfOk, None, OnErr, Some, map};
 
-use crate::row_calls::{RowText, put_row_text, put_rows};
+use crate::row_calls::{put_row_text, put_rows, row_text_numbered};
 use crate::said::{DONE, NO_MEMORY};
 use crate::told::tell;
 use c_parts::config_handle::ConfigHandle;
@@ -209,11 +208,12 @@ pub extern "C" fn zaxp_exchange_rows(
     code
 }
 
-/// The name of the codec of a row of its configuration.
+/// A text of a row of its configuration, by its number (`enum row_text`).
 #[unsafe(no_mangle)]
-pub extern "C" fn zaxp_exchange_codec(
+pub extern "C" fn zaxp_exchange_text(
     alloc: Global,
     handle: &mut ExchangeHandle,
+    what: u8,
     row: usize,
     room: &mut [u8],
     needed: &mut usize,
@@ -221,44 +221,11 @@ pub extern "C" fn zaxp_exchange_codec(
     requires { IsFull handle.old.inner }
     ensures same { handle.new.inner ≡ handle.old.inner }
     ensures says { Of handle.old.inner (λ it.
-        Says (text_in Codec it.config.params.items row) (room.old, needed.old) (result, room.new, needed.new)) }
+        Says (text_in (row_text_numbered what) it.config.params.items row) (room.old, needed.old) (result, room.new, needed.new)) }
 {
     let exchange = handle.take(alloc);
-    let code = put_row_text(
-        alloc,
-        exchange.config().params(),
-        row,
-        RowText::Codec,
-        room,
-        needed,
-    );
-    handle.put(exchange);
-    code
-}
-
-/// What the format of a row of its configuration says.
-#[unsafe(no_mangle)]
-pub extern "C" fn zaxp_exchange_format(
-    alloc: Global,
-    handle: &mut ExchangeHandle,
-    row: usize,
-    room: &mut [u8],
-    needed: &mut usize,
-) -> u32
-    requires { IsFull handle.old.inner }
-    ensures same { handle.new.inner ≡ handle.old.inner }
-    ensures says { Of handle.old.inner (λ it.
-        Says (text_in Format it.config.params.items row) (room.old, needed.old) (result, room.new, needed.new)) }
-{
-    let exchange = handle.take(alloc);
-    let code = put_row_text(
-        alloc,
-        exchange.config().params(),
-        row,
-        RowText::Format,
-        room,
-        needed,
-    );
+    let what = row_text_numbered(what);
+    let code = put_row_text(alloc, exchange.config().params(), row, what, room, needed);
     handle.put(exchange);
     code
 }

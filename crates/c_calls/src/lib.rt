@@ -10,6 +10,7 @@
 //! - `row_calls`: Calls of rows, of a section and of a configuration.
 //! - `said`: What a call answers.
 //! - `section_calls`: Calls of sections.
+//! - `section_lists`: Calls that write what a section lists.
 //! - `session_calls`: Calls of descriptions.
 //! - `told`: What a call of an exchange tells where it is refused.
 //! - `transport_calls`: Calls of the transport that a description speaks of.
@@ -24,6 +25,7 @@ mod round_calls;
 mod row_calls;
 mod said;
 mod section_calls;
+mod section_lists;
 mod session_calls;
 mod told;
 mod transport_calls;

@@ -9,6 +9,7 @@
 //! - `room`: Texts and lists that go into room which the caller gives.
 //! - `row`: Rows and outcomes as C holds them.
 //! - `section`: Sections as C holds them.
+//! - `section_item`: What C gets of a section as a list of structs.
 //! - `session_handle`: A description on the heap, as C holds it.
 //! - `side`: What this side says of itself, as C says it.
 #![tactic(auto)]
@@ -21,5 +22,6 @@ pub mod reading;
 pub mod room;
 pub mod row;
 pub mod section;
+pub mod section_item;
 pub mod session_handle;
 pub mod side;
