@@ -154,6 +154,18 @@ zax_status zax_section_mid(zax_session *session, size_t section, char *room, siz
     return (zax_status)zaxp_session_mid(&session->handle, section, ROOM(uint8_t, room, cap), cap, needed);
 }
 
+static zax_status section_text(zax_session *session, size_t section, enum section_text what, size_t index, char *room, size_t cap,
+                               size_t *needed)
+{
+    BEGIN(session, room, cap, needed);
+    return (zax_status)zaxp_session_text(&session->handle, section, what, index, ROOM(uint8_t, room, cap), cap, needed);
+}
+
+zax_status zax_section_msid(zax_session *session, size_t section, char *room, size_t cap, size_t *needed)
+{
+    return section_text(session, section, SECTION_MSID, 0, room, cap, needed);
+}
+
 zax_status zax_rows(zax_session *session, size_t section, zax_row *room, size_t cap, size_t *needed)
 {
     BEGIN(session, room, cap, needed);
@@ -162,14 +174,12 @@ zax_status zax_rows(zax_session *session, size_t section, zax_row *room, size_t 
 
 zax_status zax_row_codec(zax_session *session, size_t section, size_t row, char *room, size_t cap, size_t *needed)
 {
-    BEGIN(session, room, cap, needed);
-    return (zax_status)zaxp_session_text(&session->handle, section, ROW_CODEC, row, ROOM(uint8_t, room, cap), cap, needed);
+    return section_text(session, section, ROW_CODEC, row, room, cap, needed);
 }
 
 zax_status zax_row_fmtp(zax_session *session, size_t section, size_t row, char *room, size_t cap, size_t *needed)
 {
-    BEGIN(session, room, cap, needed);
-    return (zax_status)zaxp_session_text(&session->handle, section, ROW_FORMAT, row, ROOM(uint8_t, room, cap), cap, needed);
+    return section_text(session, section, ROW_FORMAT, row, room, cap, needed);
 }
 
 zax_status zax_is_writable(zax_session *session, size_t section, int *writable)

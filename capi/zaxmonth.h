@@ -111,6 +111,10 @@ ZAX_API size_t zax_sections(zax_session *session);
 ZAX_API zax_status zax_section_info(zax_session *session, size_t section, zax_section *info);
 /* The mid of a section; nothing where it has none. */
 ZAX_API zax_status zax_section_mid(zax_session *session, size_t section, char *room, size_t cap, size_t *needed);
+/* The ids of a stream, `-` for none, and of a track with a space between them, by the section's first a=msid line; nothing where it has
+ * none (RFC 8830). */
+ZAX_API zax_status zax_section_msid(zax_session *session, size_t section, char *room, size_t cap, size_t *needed);
+/* The rows of a section. */
 ZAX_API zax_status zax_rows(zax_session *session, size_t section, zax_row *room, size_t cap, size_t *needed);
 /* The name of a row's codec, as an rtpmap line has it; `row` counts those of zax_rows from 0. */
 ZAX_API zax_status zax_row_codec(zax_session *session, size_t section, size_t row, char *room, size_t cap, size_t *needed);

@@ -63,6 +63,8 @@ FAULTS = {
 STATES = {"Stable": "STABLE", "HaveLocalOffer": "HAVE_LOCAL_OFFER"}
 CAUSES = {"TypeTooLarge": "TYPE_TOO_LARGE", "ClaimedTwice": "CLAIMED_TWICE", "Exhausted": "EXHAUSTED", "Memory": "ROUND_MEMORY"}
 SECTIONS = {("kind", "Unknown"): "OTHER_KIND", ("protocol", "Srtp"): "PROTOCOL_RTP", ("protocol", "Sctp"): "PROTOCOL_SCTP", ("setup", "None"): "NO_SETUP"}
+# What each text of a section is in capi/proved_calls.h; those of configurations' rows are the same
+TEXTS = {"Codec": "ROW_CODEC", "Format": "ROW_FORMAT", "Msid": "SECTION_MSID"}
 CODECS = {"Tele": "TELEPHONE_EVENT", "Null": "NULL_CODEC", "AmrWb": "AMR_WB", "other": "UNKNOWN"}
 
 
@@ -144,18 +146,20 @@ def numbers():
         yield f"ZAX_{name.upper()}", number
     for name, number in re.findall(r"^c_outcome \(?Err \(?(\w+).*cause = (\d+)", row, re.M):
         yield f"ZAX_{CAUSES[name]}", number
-    found = (CALLS / "specs" / "SectionCalls.antt").read_text("utf-8")
-    yield from ((f"ROW_{name.upper()}", number) for number, name in enumerate(choices(found, "row_text_numbered")))
+    for file, name in (("SectionTexts", "text_numbered"), ("SectionCalls", "row_text_numbered")):
+        found = choices((CALLS / "specs" / f"{file}.antt").read_text("utf-8"), name)
+        yield from ((TEXTS[it], number) for number, it in enumerate(found))
     yield from numbers_of_exchanges()
 
 
 def choices(text, name):
-    """What a definition makes of each number from 0 on, which it asks for in order."""
+    """What a definition makes of each number from 0 on, which it asks for in order: the last word of it."""
     asked = re.search(rf"^{name} n = (.*)$", text, re.M)[1]
     tested = re.findall(r"nat_eq n (\d+) then ([\w. ]+?) else", asked)
     if [number for number, _ in tested] != [str(it) for it in range(len(tested))]:
         raise SystemExit(f"{name} asks for other numbers than those from 0 on, in order")
-    return [*(chosen for _, chosen in tested), re.search(r"else ([\w. ]+)\)*$", asked)[1]]
+    made = [*(it for _, it in tested), re.search(r"else ([\w. ]+)\)*$", asked)[1]]
+    return [re.search(r"\w+$", it)[0] for it in made]
 
 
 def numbers_of_exchanges():

@@ -127,16 +127,22 @@ def description(text):
     return whole
 
 
+def said(lines, pattern):
+    return [found[1] for line in lines if (found := re.fullmatch(pattern, line))]
+
+
+def streams(lines):
+    """What `texts facts` is to print of a section's streams."""
+    yield (said(lines, MEDIA["msid"][0]) or [""])[0]
+
+
 def facts(text):
-    """What `texts facts` is to print of a printed text: each section in numbers, credentials, fingerprint, candidates."""
+    """What `texts facts` is to print of a printed text: each section in numbers and with its streams, credentials, fingerprint, candidates."""
     parts = [[]]
     for line in text.removesuffix("\r\n").split("\r\n"):
         if line.startswith("m="):
             parts.append([])
         parts[-1].append(line.removeprefix("a="))
-
-    def said(lines, pattern):
-        return [found[1] for line in lines if (found := re.fullmatch(pattern, line))]
 
     for head, *lines in parts[1:]:
         kind, port, protocol, _ = head.removeprefix("m=").split(" ", 3)
@@ -144,6 +150,7 @@ def facts(text):
         setup = (said(lines, BOTH["setup"][0]) or [""])[0]
         numbers = KINDS.get(kind, 3), PROTOCOLS.index(protocol), DIRECTIONS.index(direction), SETUPS.index(setup), int(port == "0")
         yield " ".join(map(str, numbers))
+        yield from streams(lines)
     pairs = ((said(lines, BOTH["iceUfrag"][0]), said(lines, BOTH["icePwd"][0])) for lines in parts)
     yield from next(((ufrags[0], pwds[0]) for ufrags, pwds in pairs if ufrags and pwds), ("", ""))
     hashes = next(filter(None, (said(lines, f"fingerprint:({HASH})") for lines in parts)), [""])

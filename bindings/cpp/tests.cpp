@@ -1,8 +1,10 @@
 // Tests of zaxmonth.hpp; the last line is 'N passed, M failed'.
-//     c++ -std=c++17 tests.cpp $(pkg-config --cflags --libs zaxmonth) -o tests
+//     c++ -std=c++17 tests.cpp $(pkg-config --cflags --libs zaxmonth) -o tests && ./tests ../../scripts/c_tests/streams.sdp
 #include "zaxmonth.hpp"
 
 #include <cstdio>
+#include <fstream>
+#include <iterator>
 
 static int passed, failed;
 
@@ -55,9 +57,22 @@ static void directions()
     is("an offer that resumes", offers(here, there, "a=sendonly"), true);
 }
 
-int main()
+// What a section says of streams; the second says nothing of them.
+static void streams(const char *path)
 {
+    std::ifstream file(path, std::ios::binary);
+    const zaxmonth::Session session(std::string(std::istreambuf_iterator<char>(file), {}));
+    is("a stream and its track", session.msid(0), "stream track one");
+    is("no stream", session.msid(1), "");
+    is("the streams of no section", thrown([&] { session.msid(2); }), ZAX_E_SECTION);
+}
+
+int main(int count, char **words)
+{
+    if (count != 2)
+        return 2;
     directions();
+    streams(words[1]);
     std::printf("%d passed, %d failed\n", passed, failed);
     return failed != 0;
 }

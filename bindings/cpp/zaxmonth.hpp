@@ -76,40 +76,27 @@ class Session {
     // The line at which reading ended; 0 where all was read.
     uint32_t ended_at() const { return ended_at_; }
     size_t sections() const { return zax_sections(get()); }
-    std::string text() const
-    {
-        return detail::filled<std::string>([&](char *room, size_t cap, size_t *needed) { return zax_print(get(), room, cap, needed); });
-    }
-    std::string mid(size_t section) const
-    {
-        return detail::filled<std::string>(
-            [&](char *room, size_t cap, size_t *needed) { return zax_section_mid(get(), section, room, cap, needed); });
-    }
-    std::vector<zax_row> rows(size_t section) const
-    {
-        return detail::filled<std::vector<zax_row>>(
-            [&](zax_row *room, size_t cap, size_t *needed) { return zax_rows(get(), section, room, cap, needed); });
-    }
-    std::string codec(size_t section, size_t row) const
-    {
-        return detail::filled<std::string>(
-            [&](char *room, size_t cap, size_t *needed) { return zax_row_codec(get(), section, row, room, cap, needed); });
-    }
-    std::string fmtp(size_t section, size_t row) const
-    {
-        return detail::filled<std::string>(
-            [&](char *room, size_t cap, size_t *needed) { return zax_row_fmtp(get(), section, row, room, cap, needed); });
-    }
-    std::string json() const
-    {
-        return detail::filled<std::string>([&](char *room, size_t cap, size_t *needed) { return zax_json(get(), room, cap, needed); });
-    }
+    std::string text() const { return said<std::string>(zax_print); }
+    std::string mid(size_t section) const { return said<std::string>(zax_section_mid, section); }
+    // The ids of a stream and of a track with a space between them; empty where the section has none.
+    std::string msid(size_t section) const { return said<std::string>(zax_section_msid, section); }
+    std::vector<zax_row> rows(size_t section) const { return said<std::vector<zax_row>>(zax_rows, section); }
+    std::string codec(size_t section, size_t row) const { return said<std::string>(zax_row_codec, section, row); }
+    std::string fmtp(size_t section, size_t row) const { return said<std::string>(zax_row_fmtp, section, row); }
+    std::string json() const { return said<std::string>(zax_json); }
     zax_session *get() const { return handle_.get(); }
 
   protected:
     explicit Session(zax_session *made) : handle_(made) {}
 
   private:
+    // What a call writes of the description, or of what stands at such places of it.
+    template <class Items, class Call, class... Places> Items said(Call call, Places... places) const
+    {
+        return detail::filled<Items>([&](typename Items::value_type *room, size_t cap, size_t *needed) {
+            return call(get(), places..., room, cap, needed);
+        });
+    }
     struct Free {
         void operator()(zax_session *session) const { zax_session_free(session); }
     };

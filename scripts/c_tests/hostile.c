@@ -1,4 +1,5 @@
-/* Hostile arguments: each call answers a status, writes nothing beyond its room and reads nothing beyond its text.   hostile FILE */
+/* Hostile arguments: each call answers a status, writes nothing beyond its room and reads nothing beyond its text.
+ *     hostile FILE STREAMS        (streams.sdp) */
 #include <zaxmonth.h>
 
 #include <stdio.h>
@@ -43,6 +44,7 @@ typedef zax_status call_t(void *owner, void *room, size_t cap, size_t *needed);
 
 static zax_status print(void *s, void *room, size_t cap, size_t *needed) { return zax_print(s, room, cap, needed); }
 static zax_status mid(void *s, void *room, size_t cap, size_t *needed) { return zax_section_mid(s, 0, room, cap, needed); }
+static zax_status msid(void *s, void *room, size_t cap, size_t *needed) { return zax_section_msid(s, 0, room, cap, needed); }
 static zax_status rows(void *s, void *room, size_t cap, size_t *needed) { return zax_rows(s, 0, room, cap, needed); }
 static zax_status fmtp(void *s, void *room, size_t cap, size_t *needed) { return zax_row_fmtp(s, 0, 0, room, cap, needed); }
 static zax_status codec(void *s, void *room, size_t cap, size_t *needed) { return zax_row_codec(s, 0, 0, room, cap, needed); }
@@ -253,6 +255,31 @@ static void candidates(void)
     zax_session_free(session);
 }
 
+/* What a call writes is this text. */
+static void says(call_t *call, zax_session *session, const char *wanted)
+{
+    char found[256];
+    size_t got;
+    IS(call(session, found, sizeof found, &got), ZAX_OK);
+    IS(got == strlen(wanted) && !memcmp(found, wanted, got), 1);
+}
+
+/* What a section says of streams; the second says nothing of them, and there is no third. */
+static void streams(const char *said, size_t size)
+{
+    zax_session *session;
+    size_t got;
+    IS(zax_read(said, size, &session, NULL), ZAX_OK);
+    IS(zax_sections(session), 2);
+    rooms(msid, session, 1);
+    says(msid, session, "stream track one");
+    IS(zax_section_msid(session, 1, NULL, 0, &got), ZAX_OK);
+    IS(got, 0);
+    IS(zax_section_msid(session, 2, NULL, 0, &got), ZAX_E_SECTION);
+    IS(zax_section_msid(session, (size_t)-1, NULL, 0, &got), ZAX_E_SECTION);
+    zax_session_free(session);
+}
+
 /* How many rows a configuration has; the first of them is written. */
 static size_t listed(zax_config *config, zax_row *first)
 {
@@ -327,14 +354,23 @@ static void configurations(void)
     zax_config_free(config);
 }
 
+static size_t read_file(const char *name, char *to, size_t cap)
+{
+    FILE *file = fopen(name, "rb");
+    if (!file)
+        exit(2);
+    size_t size = fread(to, 1, cap, file);
+    fclose(file);
+    return size;
+}
+
 int main(int count, char **words)
 {
-    FILE *file = count == 2 ? fopen(words[1], "rb") : NULL;
-    if (!file)
+    static char said[1 << 12];
+    if (count != 3)
         return 2;
     text = malloc(1 << 16);
-    length = fread(text, 1, 1 << 15, file);
-    fclose(file);
+    length = read_file(words[1], text, 1 << 15);
     reading();
     wrong_texts();
     zax_session *session;
@@ -353,6 +389,7 @@ int main(int count, char **words)
     rooms(hash, session, 1);
     facts(session);
     candidates();
+    streams(said, read_file(words[2], said, sizeof said));
     rooms(findings, text, 1);
     IS(zax_findings("\xff", 1, NULL, 0, &got), ZAX_E_UTF8);
     IS(zax_findings(text, (size_t)-1, NULL, 0, &got), ZAX_E_ARGUMENT);

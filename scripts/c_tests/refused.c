@@ -1,5 +1,5 @@
 /* Each allocation refused in turn: the answer is ZAX_E_MEMORY, or a round that tells of it; nothing leaks, and what a refused call was
- * given is as it was.   refused FILE      It is linked with --wrap of malloc, calloc, realloc and free. */
+ * given is as it was.   refused FILE STREAMS      It is linked with --wrap of malloc, calloc, realloc and free. */
 #include <zaxmonth.h>
 
 #include "refusing.h"
@@ -8,9 +8,9 @@
 #include <stdlib.h>
 #include <string.h>
 
-static char text[1 << 20], room[1 << 20], before[1 << 20], after[1 << 20];
+static char text[1 << 20], streams[1 << 12], room[1 << 20], before[1 << 20], after[1 << 20];
 static zax_row rows[128], rows_before[128], rows_after[128];
-static size_t length;
+static size_t length, streams_length;
 static long wrong;
 
 /* What a handle holds, with no allocation refused. */
@@ -62,6 +62,20 @@ static int configured(void)
     if (status && config)
         wrong += listed(config, rows_after) != was || memcmp(rows_before, rows_after, was * sizeof *rows);
     zax_config_free(config);
+    return status;
+}
+
+/* What a section says of streams. */
+static int asked(void)
+{
+    zax_session *session = NULL;
+    size_t count;
+    int status = zax_read(streams, streams_length, &session, NULL);
+    if (status)
+        return status;
+    ASKS(session, zax_section_msid(session, 0, room, sizeof room, &count));
+end:
+    zax_session_free(session);
     return status;
 }
 
@@ -121,6 +135,8 @@ static int run(void)
     if (status)
         goto end;
     status = configured();
+    if (!status)
+        status = asked();
     if (status)
         goto end;
     size_t own_was = printed(own, before);
@@ -134,13 +150,22 @@ end:
     return status;
 }
 
+static size_t read_file(const char *name, char *to, size_t cap)
+{
+    FILE *file = fopen(name, "rb");
+    if (!file)
+        exit(2);
+    size_t size = fread(to, 1, cap, file);
+    fclose(file);
+    return size;
+}
+
 int main(int count, char **words)
 {
-    FILE *file = count == 2 ? fopen(words[1], "rb") : NULL;
-    if (!file)
+    if (count != 3)
         return 2;
-    length = fread(text, 1, sizeof text, file);
-    fclose(file);
+    length = read_file(words[1], text, sizeof text);
+    streams_length = read_file(words[2], streams, sizeof streams);
     long begin = live, passed = 0, failed = 0;
     for (long n = 0;; n++) {
         left = n;

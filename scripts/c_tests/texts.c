@@ -60,7 +60,7 @@ static void show_text(zax_status (*call)(zax_session *, char *, size_t, size_t *
     printf("%.*s\n", (int)said, room);
 }
 
-/* Each section in numbers, the credentials of ICE, the fingerprint, and the candidates. */
+/* Each section in numbers and with its streams, the credentials of ICE, the fingerprint, and the candidates. */
 static void show_facts(zax_session *session)
 {
     size_t count, said;
@@ -68,6 +68,8 @@ static void show_facts(zax_session *session)
         zax_section info;
         must(zax_section_info(session, at, &info));
         printf("%d %d %d %d %d\n", info.kind, info.protocol, info.direction, info.setup, info.disabled);
+        must(zax_section_msid(session, at, room, sizeof room, &said));
+        printf("%.*s\n", (int)said, room);
     }
     show_text(zax_ice_ufrag, session);
     show_text(zax_ice_pwd, session);

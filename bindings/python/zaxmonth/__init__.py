@@ -35,6 +35,7 @@ from ._findings import Finding, findings
 from ._handles import Configuration, SessionDescription
 from ._library import ABI, library_version
 from ._rows import Cause, Codec, Feedback, Outcome, Row
+from ._streams import Msid
 
 __version__ = "0.1.0"
 __all__ = [
@@ -51,6 +52,7 @@ __all__ = [
     "Feedback",
     "Finding",
     "MediaKind",
+    "Msid",
     "NoChannels",
     "NoNameLeft",
     "NoRows",

@@ -12,6 +12,7 @@ from typing import Any, Callable, Dict, List, NoReturn, Optional, SupportsIndex,
 from ._errors import ArgumentError, ClosedError, SectionError, Status, Utf8Error, check
 from ._library import JSON, NO_TYPE, RawError, RawOutcome, RawRow, library
 from ._rows import Codec, Outcome, Row
+from ._streams import Msid
 
 Text = Union[str, bytes, bytearray, memoryview]
 _Self = TypeVar("_Self", bound="_Handle")
@@ -169,6 +170,10 @@ class SessionDescription(_Handle):
     def mid(self, section: SupportsIndex) -> str:
         """The mid of a section; empty where it has none. Raises SectionError."""
         return self._text(library.zax_section_mid, _index(section))
+
+    def msid(self, section: SupportsIndex) -> Optional[Msid]:
+        """What the first msid line of a section says; None where it has none. Raises SectionError."""
+        return Msid._of(self._text(library.zax_section_msid, _index(section)))
 
     def rows(self, section: SupportsIndex) -> List[Row]:
         """The rows of a section. Raises SectionError."""

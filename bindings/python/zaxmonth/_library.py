@@ -56,6 +56,7 @@ _CALLS = {
     "zax_print": (c_uint32, (_HANDLE, *_ROOM)),
     "zax_sections": (c_size_t, (_HANDLE,)),
     "zax_section_mid": (c_uint32, (_HANDLE, _INDEX, *_ROOM)),
+    "zax_section_msid": (c_uint32, (_HANDLE, _INDEX, *_ROOM)),
     "zax_rows": (c_uint32, (_HANDLE, _INDEX, *_ROOM)),
     "zax_row_codec": (c_uint32, (_HANDLE, _INDEX, _INDEX, *_ROOM)),
     "zax_row_fmtp": (c_uint32, (_HANDLE, _INDEX, _INDEX, *_ROOM)),

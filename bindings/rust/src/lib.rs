@@ -9,9 +9,11 @@
 mod exchange;
 mod own;
 mod raw;
+mod streams;
 
 pub use exchange::{Description, Exchange, ExchangeError, SignalingState};
 pub use own::{DataChannels, Direction, IceCreds, MediaKind, OwnSide};
+pub use streams::Msid;
 
 use std::ffi::CStr;
 use std::fmt;

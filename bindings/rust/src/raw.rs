@@ -50,6 +50,7 @@ extern "C" {
     pub fn zax_print(session: *mut Session, room: *mut u8, cap: usize, needed: *mut usize) -> u32;
     pub fn zax_sections(session: *mut Session) -> usize;
     pub fn zax_section_mid(session: *mut Session, section: usize, room: *mut u8, cap: usize, needed: *mut usize) -> u32;
+    pub fn zax_section_msid(session: *mut Session, section: usize, room: *mut u8, cap: usize, needed: *mut usize) -> u32;
     pub fn zax_rows(session: *mut Session, section: usize, room: *mut crate::Row, cap: usize, needed: *mut usize) -> u32;
     pub fn zax_row_codec(session: *mut Session, section: usize, row: usize, room: *mut u8, cap: usize, needed: *mut usize) -> u32;
     pub fn zax_row_fmtp(session: *mut Session, section: usize, row: usize, room: *mut u8, cap: usize, needed: *mut usize) -> u32;

@@ -6,6 +6,7 @@ pub mod Prelude
 pub mod RoundCalls
 pub mod Said
 pub mod SectionCalls
+pub mod SectionTexts
 pub mod SessionCalls
 pub mod Told
 pub mod TransportCalls

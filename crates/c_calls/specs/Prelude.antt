@@ -43,11 +43,14 @@ pub use Rattle.str0m_formats.specs.row.KindRows.{kind_rows}
 pub use Rattle.str0m_formats.specs.row.PayloadParams.{new_row, types}
 pub use Rattle.str0m_formats.specs.row.PlainRow.{IsPlain}
 pub use Rattle.str0m_sdp.specs.Common.{distinct, first}
+pub use Rattle.str0m_sdp.specs.attribute.Msid.{msid_text}
 pub use Rattle.str0m_sdp.specs.declared.attribute.media_type.MediaType.{MediaType}
+pub use Rattle.str0m_sdp.specs.declared.attribute.msid.Msid.{Msid}
 pub use Rattle.str0m_sdp.specs.declared.section.media_line.MediaLine.{MediaLine}
 pub use Rattle.str0m_sdp.specs.declared.session.Sdp.{Sdp}
 pub use Rattle.str0m_sdp.specs.section.Consistency.{mid_of}
 pub use Rattle.str0m_sdp.specs.section.MadeSection.{made}
+pub use Rattle.str0m_sdp.specs.section.SectionAccessors.{msid_of}
 pub use Rattle.str0m_sdp.specs.section.SectionRows.{rows}
 pub use Rattle.str0m_sdp.specs.session.Candidates.{all_candidates, same_candidate}
 pub use Rattle.str0m_sdp.specs.session.PreferredFingerprint.{IsPreferred, sdp_fingerprints}

@@ -1,9 +1,9 @@
 -- What calls find in what a handle owns; nothing where there is no such section or row.
-use Rattle.c_calls.specs.Prelude.{MediaLine, PayloadParams, Sdp, Section, c_section, codec_text, params_text, rows}
+use Rattle.c_calls.specs.Prelude.{MediaLine, PayloadParams, Sdp, Section, c_section, codec_text, params_text}
 use Rattle.c_calls.specs.SessionCalls.{mid_or_empty}
 use Rattle.c_calls.specs.declared.row_calls.RowText.{RowText}
 use Rattle.c_calls.specs.declared.row_calls.RowText.TheVariants.{Codec, Format}
-use Rattle.std.specs.Prelude.{ℕ, List, Option, nat_eq, option_and_then, option_map, slice_get, if◌then◌else◌}
+use Rattle.std.specs.Prelude.{ℕ, List, Option, nat_eq, option_map, slice_get, if◌then◌else◌}
 
 -- the mid of a section
 abbrev pub mid_at : Sdp → ℕ → Option (List ℕ)
@@ -22,14 +22,10 @@ abbrev pub row_text : RowText → PayloadParams → List ℕ
 row_text Codec row = codec_text row.spec.codec
 row_text Format row = params_text row.spec.format
 
--- which of them a number is (`enum row_text` of capi/proved_calls.h)
+-- which of them a number is (of `enum section_text` in capi/proved_calls.h)
 abbrev pub row_text_numbered : ℕ → RowText
 row_text_numbered n = if nat_eq n 0 then Codec else Format
 
 -- that of a row among these
 abbrev pub text_in : RowText → List PayloadParams → ℕ → Option (List ℕ)
 text_in what rows row = option_map (row_text what) (slice_get rows row)
-
--- that of a row of a section
-abbrev pub text_at : RowText → Sdp → ℕ → ℕ → Option (List ℕ)
-text_at what sdp at row = option_and_then (λ (section : MediaLine). text_in what (rows section) row) (slice_get sdp.media_lines at)

@@ -208,7 +208,7 @@ pub extern "C" fn zaxp_exchange_rows(
     code
 }
 
-/// A text of a row of its configuration, by its number (`enum row_text`).
+/// A text of a row of its configuration, by its number (`enum section_text`).
 #[unsafe(no_mangle)]
 pub extern "C" fn zaxp_exchange_text(
     alloc: Global,

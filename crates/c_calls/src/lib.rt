@@ -7,10 +7,11 @@
 //! - `finding_calls`: The call of findings.
 //! - `offer_calls`: Calls of exchanges in which this side offers.
 //! - `round_calls`: Calls that negotiate, and that answer with what is agreed.
-//! - `row_calls`: Calls of rows, of a section and of a configuration.
+//! - `row_calls`: Calls of rows, and what is written of a row.
 //! - `said`: What a call answers.
 //! - `section_calls`: Calls of sections.
 //! - `section_lists`: Calls that write what a section lists.
+//! - `section_texts`: Calls that write a text of a section.
 //! - `session_calls`: Calls of descriptions.
 //! - `told`: What a call of an exchange tells where it is refused.
 //! - `transport_calls`: Calls of the transport that a description speaks of.
@@ -26,6 +27,7 @@ mod row_calls;
 mod said;
 mod section_calls;
 mod section_lists;
+mod section_texts;
 mod session_calls;
 mod told;
 mod transport_calls;

@@ -1,17 +1,16 @@
-//! Calls of rows, of a section and of a configuration.
+//! Calls of rows, and what is written of a row.
 
 ghost use Rattle.c_calls.specs.Common.{Of};
 ghost use Rattle.c_calls.specs.Prelude.{IsFull, c_row, rows};
 ghost use Rattle.c_calls.specs.Said.{Says};
-ghost use Rattle.c_calls.specs.SectionCalls.{row_text, row_text_numbered, text_at, text_in};
+ghost use Rattle.c_calls.specs.SectionCalls.{row_text, row_text_numbered, text_in};
 ghost use Rattle.std.specs.Prelude.{◌≡◌, IfOk, Some, map, string_bytes};
 
 use crate::said::{NO_MEMORY, NO_SECTION, put, put_made};
 use c_parts::config_handle::ConfigHandle;
 use c_parts::row::{Row, rows_of};
-use c_parts::session_handle::SessionHandle;
 use std::alloc::{AllocError, Global};
-use str0m_signal::{MediaLine, PayloadParams, Sdp};
+use str0m_signal::{MediaLine, PayloadParams};
 
 /// What a call prints of a row.
 #[derive(Clone, Copy)]
@@ -72,7 +71,7 @@ pub(crate) fn put_row_text(
     }
 }
 
-fn put_section_text(
+pub(crate) fn put_section_row_text(
     alloc: Global,
     section: &MediaLine,
     row: usize,
@@ -86,45 +85,6 @@ fn put_section_text(
         Ok(found) => put_row_text(alloc, found.as_slice(), row, what, room, needed),
         Err(_) => NO_MEMORY,
     }
-}
-
-fn put_text_at(
-    alloc: Global,
-    sdp: &Sdp,
-    at: usize,
-    row: usize,
-    what: RowText,
-    room: &mut [u8],
-    needed: &mut usize,
-) -> u32
-    ensures { Says (text_at what sdp.now at row) (room.old, needed.old) (result, room.new, needed.new) }
-{
-    match sdp.media_lines.get(at) {
-        Some(section) => put_section_text(alloc, section, row, what, room, needed),
-        None => NO_SECTION,
-    }
-}
-
-/// A text of a row of a section, by its number (`enum row_text`).
-#[unsafe(no_mangle)]
-pub extern "C" fn zaxp_session_text(
-    alloc: Global,
-    handle: &mut SessionHandle,
-    at: usize,
-    what: u8,
-    row: usize,
-    room: &mut [u8],
-    needed: &mut usize,
-) -> u32
-    requires { IsFull handle.old.inner }
-    ensures same { handle.new.inner ≡ handle.old.inner }
-    ensures says { Of handle.old.inner (λ sdp.
-        Says (text_at (row_text_numbered what) sdp at row) (room.old, needed.old) (result, room.new, needed.new)) }
-{
-    let sdp = handle.take(alloc);
-    let code = put_text_at(alloc, &sdp, at, row, row_text_numbered(what), room, needed);
-    handle.put(sdp);
-    code
 }
 
 /// The rows of a configuration, each with whether it is locked.
@@ -145,7 +105,7 @@ pub extern "C" fn zaxp_config_rows(
     code
 }
 
-/// A text of a row of a configuration, by its number (`enum row_text`).
+/// A text of a row of a configuration, by its number (`enum section_text`).
 #[unsafe(no_mangle)]
 pub extern "C" fn zaxp_config_text(
     alloc: Global,

@@ -1,0 +1,26 @@
+package zaxmonth
+
+import (
+	"errors"
+	"testing"
+)
+
+// streams is a text that says of streams all that a section can.
+func streams(t testing.TB) *Session { return read(t, text(t, "scripts", "c_tests", "streams.sdp")) }
+
+func TestMsid(t *testing.T) {
+	session := streams(t)
+	is(t, must[Msid](t)(session.Msid(0)), Msid{"stream", "track one"})
+	is(t, must[Msid](t)(session.Msid(1)), Msid{})
+	is(t, must[Msid](t)(read(t, offer(t)).Msid(0)), Msid{"-", "cadf95cb-38b4-4d30-8162-af882e48b3b0"})
+}
+
+func TestStreamsOfASectionThatIsNotThere(t *testing.T) {
+	session := streams(t)
+	for _, section := range []int{2, 99, -1, 1 << 62, -1 << 63} {
+		_, ofMsid := session.Msid(section)
+		for _, err := range []error{ofMsid} {
+			is(t, errors.Is(err, ErrSection), true)
+		}
+	}
+}

@@ -1,0 +1,36 @@
+"""What sections say of streams. What is expected is worked out by hand from scripts/c_tests/streams.sdp, by docs/SECTIONS.md."""
+import unittest
+
+from zaxmonth import ClosedError, Msid, SectionError, SessionDescription
+
+from . import OFFER, TOP
+
+STREAMS = (TOP / "scripts" / "c_tests" / "streams.sdp").read_bytes()
+
+
+class Streams(unittest.TestCase):
+    def setUp(self):
+        self.read = SessionDescription.read(STREAMS)
+        self.calls = (self.read.msid,)
+
+    def test_msid(self):
+        self.assertEqual(self.read.msid(0), Msid("stream", "track one"))
+        self.assertIsNone(self.read.msid(1))
+        self.assertEqual(SessionDescription.read(OFFER).msid(0), Msid("-", "cadf95cb-38b4-4d30-8162-af882e48b3b0"))
+
+    def test_a_section_that_is_not_there(self):
+        for call in self.calls:
+            for section in (2, 99, -1, 2**63, 2**64):
+                with self.subTest(call=call.__name__, section=section), self.assertRaises(SectionError):
+                    call(section)
+
+    def test_a_section_is_named_by_a_number(self):
+        for call in self.calls:
+            with self.subTest(call=call.__name__), self.assertRaises(TypeError):
+                call("0")
+
+    def test_every_call_of_a_closed_description(self):
+        self.read.close()
+        for call in self.calls:
+            with self.subTest(call=call.__name__), self.assertRaises(ClosedError):
+                call(0)

@@ -1,0 +1,18 @@
+//! What sections say of streams. What is expected is worked out by hand from scripts/c_tests/streams.sdp, by docs/SECTIONS.md.
+use zaxmonth::{Msid, Sdp, SdpError};
+
+const STREAMS: &str = include_str!("../../../scripts/c_tests/streams.sdp");
+const OFFER: &str = include_str!("../../../examples/chromium-audio-offer.sdp");
+
+fn ids(stream: &str, track: &str) -> Option<Msid> {
+    Some(Msid { stream_id: stream.into(), track_id: track.into() })
+}
+
+#[test]
+fn a_stream_and_its_track() {
+    let read = Sdp::from_sdp_string(STREAMS).unwrap();
+    assert_eq!(read.msid(0), Ok(ids("stream", "track one")));
+    assert_eq!(read.msid(1), Ok(None));
+    assert_eq!(read.msid(2), Err(SdpError::NoSection));
+    assert_eq!(Sdp::from_sdp_string(OFFER).unwrap().msid(0), Ok(ids("-", "cadf95cb-38b4-4d30-8162-af882e48b3b0")));
+}

@@ -1,0 +1,25 @@
+-- Texts of a section that a call writes.
+use Rattle.c_calls.specs.Prelude.{MediaLine, Msid, Sdp, first, msid_of, msid_text, rows}
+use Rattle.c_calls.specs.SectionCalls.{text_in}
+use Rattle.c_calls.specs.declared.row_calls.RowText.TheVariants.{Codec, Format}
+use Rattle.c_calls.specs.declared.section_texts.SectionText.{SectionText}
+use Rattle.c_calls.specs.declared.section_texts.SectionText.TheVariants as text
+use Rattle.std.specs.Prelude.{ℕ, List, [], Option, Some, None, filter_map, nat_eq, option_and_then, slice_get, if◌then◌else◌}
+
+-- which of them a number is (`enum section_text` of capi/proved_calls.h)
+abbrev pub text_numbered : ℕ → SectionText
+text_numbered n = if nat_eq n 0 then text.Row Codec else (if nat_eq n 1 then text.Row Format else text.Msid)
+
+-- the ids of a stream and a track, as they print; nothing where there are none
+abbrev pub ids_text : Option Msid → List ℕ
+ids_text None = []
+ids_text (Some msid) = msid_text msid
+
+-- the text of a section, by the first line that says it, or of what stands at an index among several; nothing where there is none such
+abbrev pub section_text : SectionText → MediaLine → ℕ → Option (List ℕ)
+section_text (text.Row what) m index = text_in what (rows m) index
+section_text text.Msid m index = Some (ids_text (first (filter_map msid_of m.attrs)))
+
+-- that of the section there
+abbrev pub text_at : SectionText → Sdp → ℕ → ℕ → Option (List ℕ)
+text_at what sdp at index = option_and_then (λ (section : MediaLine). section_text what section index) (slice_get sdp.media_lines at)

@@ -1,0 +1,108 @@
+//! Calls that write a text of a section.
+
+ghost use Rattle.c_calls.specs.Common.{Of};
+ghost use Rattle.c_calls.specs.Prelude.{IsFull, first, msid_of};
+ghost use Rattle.c_calls.specs.Said.{Says};
+ghost use Rattle.c_calls.specs.SectionTexts.{ids_text, section_text, text_at, text_numbered};
+ghost use Rattle.std.specs.Prelude.{◌≡◌, IfOk, Some, filter_map, string_bytes};
+
+use crate::row_calls::{RowText, put_section_row_text};
+use crate::said::{NO_MEMORY, NO_SECTION, put};
+use c_parts::session_handle::SessionHandle;
+use std::alloc::{AllocError, Global};
+use str0m_signal::{MediaLine, Sdp};
+
+/// What a call writes of a section.
+#[derive(Clone, Copy)]
+pub(crate) enum SectionText {
+    /// A text of a row.
+    Row(RowText),
+    /// The ids of its stream and of its track.
+    Msid,
+}
+
+/// Which of them a number is.
+fn text_numbered(number: u8) -> SectionText
+    ensures { result ≡ text_numbered number }
+{
+    match number {
+        0 => SectionText::Row(RowText::Codec),
+        1 => SectionText::Row(RowText::Format),
+        _ => SectionText::Msid,
+    }
+}
+
+/// The ids of a stream and a track that a section says first; nothing where it says none.
+fn ids_text(alloc: Global, section: &MediaLine) -> Result<String, AllocError>
+    ensures { IfOk result (λ text. string_bytes text ≡ ids_text (first (filter_map msid_of section.now.attrs))) }
+{
+    match section.msid()? {
+        Some(msid) => msid.to_string(alloc),
+        None => Ok(String::new(alloc)),
+    }
+}
+
+fn put_ids(alloc: Global, section: &MediaLine, room: &mut [u8], needed: &mut usize) -> u32
+    ensures { Says (Some (ids_text (first (filter_map msid_of section.now.attrs)))) (room.old, needed.old) (result, room.new, needed.new) }
+{
+    match ids_text(alloc, section) {
+        Ok(text) => put(text.as_bytes(), room, needed),
+        Err(_) => NO_MEMORY,
+    }
+}
+
+fn put_section_text(
+    alloc: Global,
+    section: &MediaLine,
+    what: SectionText,
+    index: usize,
+    room: &mut [u8],
+    needed: &mut usize,
+) -> u32
+    ensures { Says (section_text what section.now index) (room.old, needed.old) (result, room.new, needed.new) }
+{
+    match what {
+        SectionText::Row(text) => put_section_row_text(alloc, section, index, text, room, needed),
+        SectionText::Msid => put_ids(alloc, section, room, needed),
+    }
+}
+
+fn put_text_at(
+    alloc: Global,
+    sdp: &Sdp,
+    at: usize,
+    what: SectionText,
+    index: usize,
+    room: &mut [u8],
+    needed: &mut usize,
+) -> u32
+    ensures { Says (text_at what sdp.now at index) (room.old, needed.old) (result, room.new, needed.new) }
+{
+    match sdp.media_lines.get(at) {
+        Some(section) => put_section_text(alloc, section, what, index, room, needed),
+        None => NO_SECTION,
+    }
+}
+
+/// A text of a section by its number (`enum section_text` of capi/proved_calls.h): of what stands at an index, where it is one of several.
+#[unsafe(no_mangle)]
+pub extern "C" fn zaxp_session_text(
+    alloc: Global,
+    handle: &mut SessionHandle,
+    at: usize,
+    what: u8,
+    index: usize,
+    room: &mut [u8],
+    needed: &mut usize,
+) -> u32
+    requires { IsFull handle.old.inner }
+    ensures same { handle.new.inner ≡ handle.old.inner }
+    ensures says { Of handle.old.inner (λ sdp.
+        Says (text_at (text_numbered what) sdp at index) (room.old, needed.old) (result, room.new, needed.new)) }
+{
+    let sdp = handle.take(alloc);
+    let what = text_numbered(what);
+    let code = put_text_at(alloc, &sdp, at, what, index, room, needed);
+    handle.put(sdp);
+    code
+}
