@@ -182,6 +182,17 @@ zax_status zax_row_fmtp(zax_session *session, size_t section, size_t row, char *
     return section_text(session, section, ROW_FORMAT, row, room, cap, needed);
 }
 
+zax_status zax_section_extensions(zax_session *session, size_t section, zax_extension *room, size_t cap, size_t *needed)
+{
+    BEGIN(session, room, cap, needed);
+    return (zax_status)zaxp_session_extensions(&session->handle, section, ROOM(zax_extension, room, cap), cap, needed);
+}
+
+zax_status zax_extension_uri(zax_session *session, size_t section, size_t extension, char *room, size_t cap, size_t *needed)
+{
+    return section_text(session, section, EXTENSION_URI, extension, room, cap, needed);
+}
+
 zax_status zax_is_writable(zax_session *session, size_t section, int *writable)
 {
     bool answer = false;

@@ -31,7 +31,7 @@ typedef enum zax_status {
     ZAX_E_UTF8 = 2,     /* the text isn't UTF-8 */
     ZAX_E_MEMORY = 3,   /* malloc or realloc answered NULL */
     ZAX_E_ROOM = 4,     /* the room is too small */
-    ZAX_E_SECTION = 5,  /* there is no such section, or no such row */
+    ZAX_E_SECTION = 5,  /* there is no such section, or no such item of it, as a row */
     ZAX_E_NOTHING = 6,  /* no row of the section's kind is locked, or rows printed there might not be read again */
     ZAX_E_ARGUMENT = 7, /* a pointer is NULL that may not be, a length is above half of what can be addressed, no row is such, or no mid */
     ZAX_E_STATE = 8,    /* the call is out of turn: an offer of this side is open, or none is */
@@ -89,6 +89,12 @@ typedef struct zax_section {
     uint8_t reserved[3];
 } zax_section;
 
+/* A header extension (RFC 8285). */
+typedef struct zax_extension {
+    uint8_t id; /* its number, by which packets have it */
+    uint8_t reserved[3];
+} zax_extension;
+
 /* Where a call takes one, it may be NULL. */
 typedef struct zax_error {
     uint32_t status;   /* zax_status */
@@ -120,6 +126,9 @@ ZAX_API zax_status zax_rows(zax_session *session, size_t section, zax_row *room,
 ZAX_API zax_status zax_row_codec(zax_session *session, size_t section, size_t row, char *room, size_t cap, size_t *needed);
 /* What its format says, as an fmtp line has it. */
 ZAX_API zax_status zax_row_fmtp(zax_session *session, size_t section, size_t row, char *room, size_t cap, size_t *needed);
+/* The header extensions of a section, in order, and the URI of one of them, counted from 0. */
+ZAX_API zax_status zax_section_extensions(zax_session *session, size_t section, zax_extension *room, size_t cap, size_t *needed);
+ZAX_API zax_status zax_extension_uri(zax_session *session, size_t section, size_t extension, char *room, size_t cap, size_t *needed);
 /* Whether zax_answer may write into the section: `*writable` becomes 0 or 1. */
 ZAX_API zax_status zax_is_writable(zax_session *session, size_t section, int *writable);
 /* The credentials of ICE that the session says, else the first section that says both; nothing where none does. */

@@ -16,7 +16,7 @@ from proved import TOP
 CAPI = TOP / "capi"
 CALLS = TOP / "crates" / "c_calls"
 PARTS = TOP / "crates" / "c_parts"
-ITEMS = {"u8": "uint8_t", "Row": "zax_row", "Outcome": "zax_outcome", "&[u8]": "zax_slice"}
+ITEMS = {"u8": "uint8_t", "Row": "zax_row", "Outcome": "zax_outcome", "SectionExtension": "zax_extension", "&[u8]": "zax_slice"}
 PLAIN = {"usize": "size_t", "u64": "uint64_t", "u32": "uint32_t", "u16": "uint16_t", "u8": "uint8_t", "bool": "bool"}
 HANDLES = {"SessionHandle": "session_handle", "ConfigHandle": "config_handle", "ExchangeHandle": "exchange_handle"}
 # Structs of C's layout: the name in C, and the file of c_parts
@@ -24,6 +24,7 @@ STRUCTS = {
     "Row": ("zax_row", "row"),
     "Outcome": ("zax_outcome", "row"),
     "Section": ("zax_section", "section"),
+    "SectionExtension": ("zax_extension", "extension"),
     "OwnNumbers": ("struct own_numbers", "side"),
 }
 # What each status of specs/Told.antt is in the header, each cause of a refused round, and the codecs whose name there isn't their own
@@ -64,7 +65,7 @@ STATES = {"Stable": "STABLE", "HaveLocalOffer": "HAVE_LOCAL_OFFER"}
 CAUSES = {"TypeTooLarge": "TYPE_TOO_LARGE", "ClaimedTwice": "CLAIMED_TWICE", "Exhausted": "EXHAUSTED", "Memory": "ROUND_MEMORY"}
 SECTIONS = {("kind", "Unknown"): "OTHER_KIND", ("protocol", "Srtp"): "PROTOCOL_RTP", ("protocol", "Sctp"): "PROTOCOL_SCTP", ("setup", "None"): "NO_SETUP"}
 # What each text of a section is in capi/proved_calls.h; those of configurations' rows are the same
-TEXTS = {"Codec": "ROW_CODEC", "Format": "ROW_FORMAT", "Msid": "SECTION_MSID"}
+TEXTS = {"Codec": "ROW_CODEC", "Format": "ROW_FORMAT", "Msid": "SECTION_MSID", "Uri": "EXTENSION_URI"}
 CODECS = {"Tele": "TELEPHONE_EVENT", "Null": "NULL_CODEC", "AmrWb": "AMR_WB", "other": "UNKNOWN"}
 
 

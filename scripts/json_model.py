@@ -134,6 +134,7 @@ def said(lines, pattern):
 def streams(lines):
     """What `texts facts` is to print of a section's streams."""
     yield (said(lines, MEDIA["msid"][0]) or [""])[0]
+    yield from (line.removeprefix("extmap:") for line in lines if re.fullmatch(MEDIA["[ext]"][0], line))
 
 
 def facts(text):

@@ -64,6 +64,12 @@ static void streams(const char *path)
     const zaxmonth::Session session(std::string(std::istreambuf_iterator<char>(file), {}));
     is("a stream and its track", session.msid(0), "stream track one");
     is("no stream", session.msid(1), "");
+    const auto extensions = session.extensions(0);
+    is("header extensions", extensions.size(), 3u);
+    is("the number of one", extensions.at(1).id, 14);
+    is("its URI", session.extension_uri(0, 1), "urn:ietf:params:rtp-hdrext:sdes:rtp-stream-id");
+    is("no header extensions", session.extensions(1).size(), 0u);
+    is("the URI of none", thrown([&] { session.extension_uri(0, 3); }), ZAX_E_SECTION);
     is("the streams of no section", thrown([&] { session.msid(2); }), ZAX_E_SECTION);
 }
 

@@ -29,7 +29,7 @@ namespace detail {
 
 inline void check(zax_status status, const char *message = "")
 {
-    static const char *const said[] = {"", "the text describes no session", "the text is not UTF-8", "", "", "there is no such section or row",
+    static const char *const said[] = {"", "the text describes no session", "the text is not UTF-8", "", "", "there is no such section or item",
                                        "nothing is agreed that could be printed there", "an argument is none that the library takes"};
     if (status == ZAX_E_MEMORY)
         throw std::bad_alloc();
@@ -83,6 +83,8 @@ class Session {
     std::vector<zax_row> rows(size_t section) const { return said<std::vector<zax_row>>(zax_rows, section); }
     std::string codec(size_t section, size_t row) const { return said<std::string>(zax_row_codec, section, row); }
     std::string fmtp(size_t section, size_t row) const { return said<std::string>(zax_row_fmtp, section, row); }
+    std::vector<zax_extension> extensions(size_t section) const { return said<std::vector<zax_extension>>(zax_section_extensions, section); }
+    std::string extension_uri(size_t section, size_t extension) const { return said<std::string>(zax_extension_uri, section, extension); }
     std::string json() const { return said<std::string>(zax_json); }
     zax_session *get() const { return handle_.get(); }
 

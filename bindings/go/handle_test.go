@@ -35,6 +35,7 @@ func callsOf(session *Session) map[string]error {
 	_, found["JSON"] = session.JSON()
 	_, found["Mid"] = session.Mid(0)
 	_, found["Msid"] = session.Msid(0)
+	_, found["Extensions"] = session.Extensions(0)
 	_, found["Rows"] = session.Rows(0)
 	return found
 }
@@ -153,7 +154,7 @@ func TestNothingIsLeftBehind(t *testing.T) {
 			session, rows := read(t, from), config(t)
 			must[[]Outcome](t)(rows.Negotiate(from))
 			is(t, rows.Answer(session, 0), nil)
-			is(t, len(callsOf(session)), 6)
+			is(t, len(callsOf(session)), 7)
 			if closes {
 				session.Close()
 				rows.Close()

@@ -19,3 +19,28 @@ func (s *Session) Msid(section int) (Msid, error) {
 	stream, track, _ := strings.Cut(string(said), " ")
 	return Msid{stream, track}, err
 }
+
+// An Extension is a header extension that a section maps (RFC 8285).
+type Extension struct {
+	ID  uint8 // its number, by which packets have it
+	URI string
+}
+
+// Extensions are the header extensions of a section, in order. Errors: ErrSection.
+func (s *Session) Extensions(section int) (found []Extension, err error) {
+	at := C.size_t(section)
+	err = s.handle.use(func(it *C.zax_session) error {
+		found, err = itemsOf(
+			func(room *C.zax_extension, size C.size_t, needed *C.size_t) C.zax_status {
+				return C.zax_section_extensions(it, at, room, size, needed)
+			},
+			func(raw *C.zax_extension, said []string) Extension {
+				return Extension{uint8(raw.id), said[0]}
+			},
+			func(i C.size_t, room *C.char, size C.size_t, needed *C.size_t) C.zax_status {
+				return C.zax_extension_uri(it, at, i, room, size, needed)
+			})
+		return err
+	})
+	return found, err
+}

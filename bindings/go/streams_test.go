@@ -15,11 +15,22 @@ func TestMsid(t *testing.T) {
 	is(t, must[Msid](t)(read(t, offer(t)).Msid(0)), Msid{"-", "cadf95cb-38b4-4d30-8162-af882e48b3b0"})
 }
 
+func TestExtensions(t *testing.T) {
+	session := streams(t)
+	is(t, must[[]Extension](t)(session.Extensions(0)), []Extension{
+		{3, "urn:ietf:params:rtp-hdrext:sdes:mid"},
+		{14, "urn:ietf:params:rtp-hdrext:sdes:rtp-stream-id"},
+		{255, "urn:x"},
+	})
+	is(t, must[[]Extension](t)(session.Extensions(1)), []Extension{})
+}
+
 func TestStreamsOfASectionThatIsNotThere(t *testing.T) {
 	session := streams(t)
 	for _, section := range []int{2, 99, -1, 1 << 62, -1 << 63} {
 		_, ofMsid := session.Msid(section)
-		for _, err := range []error{ofMsid} {
+		_, ofExtensions := session.Extensions(section)
+		for _, err := range []error{ofMsid, ofExtensions} {
 			is(t, errors.Is(err, ErrSection), true)
 		}
 	}

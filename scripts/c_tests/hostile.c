@@ -45,6 +45,8 @@ typedef zax_status call_t(void *owner, void *room, size_t cap, size_t *needed);
 static zax_status print(void *s, void *room, size_t cap, size_t *needed) { return zax_print(s, room, cap, needed); }
 static zax_status mid(void *s, void *room, size_t cap, size_t *needed) { return zax_section_mid(s, 0, room, cap, needed); }
 static zax_status msid(void *s, void *room, size_t cap, size_t *needed) { return zax_section_msid(s, 0, room, cap, needed); }
+static zax_status extensions(void *s, void *room, size_t cap, size_t *needed) { return zax_section_extensions(s, 0, room, cap, needed); }
+static zax_status uri(void *s, void *room, size_t cap, size_t *needed) { return zax_extension_uri(s, 0, 1, room, cap, needed); }
 static zax_status rows(void *s, void *room, size_t cap, size_t *needed) { return zax_rows(s, 0, room, cap, needed); }
 static zax_status fmtp(void *s, void *room, size_t cap, size_t *needed) { return zax_row_fmtp(s, 0, 0, room, cap, needed); }
 static zax_status codec(void *s, void *room, size_t cap, size_t *needed) { return zax_row_codec(s, 0, 0, room, cap, needed); }
@@ -264,6 +266,29 @@ static void says(call_t *call, zax_session *session, const char *wanted)
     IS(got == strlen(wanted) && !memcmp(found, wanted, got), 1);
 }
 
+/* The header extensions of a section. */
+static void extended(zax_session *session)
+{
+    zax_extension found[4];
+    size_t got;
+    rooms(extensions, session, sizeof(zax_extension));
+    IS(zax_section_extensions(session, 0, found, 4, &got), ZAX_OK);
+    IS(got, 3);
+    IS(found[0].id == 3 && found[1].id == 14 && found[2].id == 255, 1);
+    IS(found[0].reserved[0] | found[1].reserved[1] | found[2].reserved[2], 0);
+    rooms(uri, session, 1);
+    says(uri, session, "urn:ietf:params:rtp-hdrext:sdes:rtp-stream-id");
+    IS(zax_extension_uri(session, 0, 2, NULL, 0, &got), ZAX_E_ROOM);
+    IS(got, 5);
+    IS(zax_extension_uri(session, 0, 3, NULL, 0, &got), ZAX_E_SECTION);
+    IS(zax_extension_uri(session, 0, (size_t)-1, NULL, 0, &got), ZAX_E_SECTION);
+    IS(zax_extension_uri(session, 2, 0, NULL, 0, &got), ZAX_E_SECTION);
+    IS(zax_section_extensions(session, 1, NULL, 0, &got), ZAX_OK);
+    IS(got, 0);
+    IS(zax_section_extensions(session, 2, found, 4, &got), ZAX_E_SECTION);
+    IS(zax_section_extensions(session, (size_t)-1, found, 4, &got), ZAX_E_SECTION);
+}
+
 /* What a section says of streams; the second says nothing of them, and there is no third. */
 static void streams(const char *said, size_t size)
 {
@@ -277,6 +302,7 @@ static void streams(const char *said, size_t size)
     IS(got, 0);
     IS(zax_section_msid(session, 2, NULL, 0, &got), ZAX_E_SECTION);
     IS(zax_section_msid(session, (size_t)-1, NULL, 0, &got), ZAX_E_SECTION);
+    extended(session);
     zax_session_free(session);
 }
 

@@ -7,6 +7,7 @@
 
 static char text[1 << 20], room[1 << 20], codec[64];
 static zax_row rows[4096];
+static zax_extension extensions[4096];
 
 static void must(zax_status status)
 {
@@ -60,6 +61,18 @@ static void show_text(zax_status (*call)(zax_session *, char *, size_t, size_t *
     printf("%.*s\n", (int)said, room);
 }
 
+static void show_streams(zax_session *session, size_t at)
+{
+    size_t count, said;
+    must(zax_section_msid(session, at, room, sizeof room, &said));
+    printf("%.*s\n", (int)said, room);
+    must(zax_section_extensions(session, at, extensions, 4096, &count));
+    for (size_t i = 0; i < count; i++) {
+        must(zax_extension_uri(session, at, i, room, sizeof room, &said));
+        printf("%d %.*s\n", extensions[i].id, (int)said, room);
+    }
+}
+
 /* Each section in numbers and with its streams, the credentials of ICE, the fingerprint, and the candidates. */
 static void show_facts(zax_session *session)
 {
@@ -68,8 +81,7 @@ static void show_facts(zax_session *session)
         zax_section info;
         must(zax_section_info(session, at, &info));
         printf("%d %d %d %d %d\n", info.kind, info.protocol, info.direction, info.setup, info.disabled);
-        must(zax_section_msid(session, at, room, sizeof room, &said));
-        printf("%.*s\n", (int)said, room);
+        show_streams(session, at);
     }
     show_text(zax_ice_ufrag, session);
     show_text(zax_ice_pwd, session);

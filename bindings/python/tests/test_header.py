@@ -4,13 +4,14 @@ import unittest
 from ctypes import POINTER, c_char, c_char_p, c_int, c_size_t, c_uint8, c_uint16, c_uint32, c_uint64, c_void_p
 
 from zaxmonth import ABI, Cause, Codec, Direction, Feedback, MediaKind, SignalingState, Status
-from zaxmonth._library import _CALLS, NO_TYPE, RawError, RawOutcome, RawOwn, RawRow, RawSlice
+from zaxmonth._library import _CALLS, NO_TYPE, RawError, RawExtension, RawOutcome, RawOwn, RawRow, RawSlice
 
 from . import TOP
 
 HEADER = re.sub(r"/\*.*?\*/", "", (TOP / "capi" / "zaxmonth.h").read_text(), flags=re.S)
 KINDS = {
     "const char *": c_char_p,
+    "char ": c_char,
     "size_t ": c_size_t,
     "uint32_t ": c_uint32,
     "uint64_t ": c_uint64,
@@ -34,7 +35,7 @@ KINDS = {
     "zax_config **": POINTER(c_void_p),
     "zax_exchange **": POINTER(c_void_p),
 }
-HANDLES_AND_ROOMS = ("zax_session *", "zax_config *", "zax_exchange *", "char *", "zax_row *", "zax_outcome *", "zax_section *")
+HANDLES_AND_ROOMS = ("zax_session *", "zax_config *", "zax_exchange *", "char *", "zax_row *", "zax_outcome *", "zax_section *", "zax_extension *")
 KINDS.update(dict.fromkeys(HANDLES_AND_ROOMS, c_void_p))
 
 
@@ -50,7 +51,7 @@ def numbers(first):
 def fields(struct):
     inside = re.search(rf"typedef struct {struct} \{{(.*?)\}}", HEADER, re.S)[1]
     for kind, name, size in re.findall(r"((?:const )?\w+ \*?)(\w+)(?:\[(\d+)\])?;", inside):
-        yield name, c_char * int(size) if size else KINDS[kind]
+        yield name, KINDS[kind] * int(size) if size else KINDS[kind]
 
 
 def declared():
@@ -78,6 +79,7 @@ class Header(unittest.TestCase):
 
     def test_structs(self):
         structs = {"zax_row": RawRow, "zax_outcome": RawOutcome, "zax_error": RawError, "zax_slice": RawSlice, "zax_own": RawOwn}
+        structs.update({"zax_extension": RawExtension})
         for struct, raw in structs.items():
             self.assertEqual(list(raw._fields_), list(fields(struct)))
 

@@ -1,7 +1,7 @@
 """What sections say of streams. What is expected is worked out by hand from scripts/c_tests/streams.sdp, by docs/SECTIONS.md."""
 import unittest
 
-from zaxmonth import ClosedError, Msid, SectionError, SessionDescription
+from zaxmonth import ClosedError, Extension, Msid, SectionError, SessionDescription
 
 from . import OFFER, TOP
 
@@ -11,12 +11,17 @@ STREAMS = (TOP / "scripts" / "c_tests" / "streams.sdp").read_bytes()
 class Streams(unittest.TestCase):
     def setUp(self):
         self.read = SessionDescription.read(STREAMS)
-        self.calls = (self.read.msid,)
+        self.calls = (self.read.msid, self.read.extensions)
 
     def test_msid(self):
         self.assertEqual(self.read.msid(0), Msid("stream", "track one"))
         self.assertIsNone(self.read.msid(1))
         self.assertEqual(SessionDescription.read(OFFER).msid(0), Msid("-", "cadf95cb-38b4-4d30-8162-af882e48b3b0"))
+
+    def test_extensions(self):
+        uris = {3: "urn:ietf:params:rtp-hdrext:sdes:mid", 14: "urn:ietf:params:rtp-hdrext:sdes:rtp-stream-id", 255: "urn:x"}
+        self.assertEqual(self.read.extensions(0), [Extension(*it) for it in uris.items()])
+        self.assertEqual(self.read.extensions(1), [])
 
     def test_a_section_that_is_not_there(self):
         for call in self.calls:

@@ -35,7 +35,7 @@ from ._findings import Finding, findings
 from ._handles import Configuration, SessionDescription
 from ._library import ABI, library_version
 from ._rows import Cause, Codec, Feedback, Outcome, Row
-from ._streams import Msid
+from ._streams import Extension, Msid
 
 __version__ = "0.1.0"
 __all__ = [
@@ -49,6 +49,7 @@ __all__ = [
     "Direction",
     "Error",
     "Exchange",
+    "Extension",
     "Feedback",
     "Finding",
     "MediaKind",

@@ -10,13 +10,15 @@ from ctypes import byref, c_char, c_size_t, c_void_p
 from typing import Any, Callable, Dict, List, NoReturn, Optional, SupportsIndex, Tuple, TypeVar, Union
 
 from ._errors import ArgumentError, ClosedError, SectionError, Status, Utf8Error, check
-from ._library import JSON, NO_TYPE, RawError, RawOutcome, RawRow, library
+from ._library import JSON, NO_TYPE, RawError, RawExtension, RawOutcome, RawRow, library
 from ._rows import Codec, Outcome, Row
-from ._streams import Msid
+from ._streams import Extension, Msid
 
 Text = Union[str, bytes, bytearray, memoryview]
 _Self = TypeVar("_Self", bound="_Handle")
-_ROWS, _LETTERS = 128, 1024  # room that suffices as a rule
+_Item = TypeVar("_Item")
+_Call = Callable[..., int]
+_ITEMS, _LETTERS = 128, 1024  # room that suffices as a rule
 _JSON = json.JSONDecoder()
 _NO_ROOM = Status.ROOM.value  # (an enum is asked for its value slowly)
 
@@ -113,11 +115,15 @@ class _Handle:
             room, length = self._filled(call, c_char, letters, *places)
         return str(memoryview(room)[:length], "utf-8")
 
-    def _rows(self, call: Callable[..., int], texts: Tuple[Callable[..., int], ...], *places: int) -> List[Row]:
-        """The rows that a call writes, with the texts of each that others write: the name of its codec, its format."""
+    def _items(self, made: Callable[..., _Item], kind: type, call: _Call, texts: Tuple[_Call, ...], *places: int) -> List[_Item]:
+        """The items that a call writes, of each what is made of it and of the texts that other calls write."""
         with self._lock:
-            room, count = self._filled(call, RawRow, _ROWS, *places)
-            return [Row._of(room[i], *(self._text(text, *places, i) for text in texts)) for i in range(count)]
+            room, count = self._filled(call, kind, _ITEMS, *places)
+            return [made(room[i], *(self._text(text, *places, i) for text in texts)) for i in range(count)]
+
+    def _rows(self, call: _Call, texts: Tuple[_Call, ...], *places: int) -> List[Row]:
+        """The rows that a call writes, with the texts of each that others write: the name of its codec, its format."""
+        return self._items(Row._of, RawRow, call, texts, *places)
 
 
 def _in_range(number: int, most: int) -> int:
@@ -174,6 +180,11 @@ class SessionDescription(_Handle):
     def msid(self, section: SupportsIndex) -> Optional[Msid]:
         """What the first msid line of a section says; None where it has none. Raises SectionError."""
         return Msid._of(self._text(library.zax_section_msid, _index(section)))
+
+    def extensions(self, section: SupportsIndex) -> List[Extension]:
+        """The header extensions of a section, in order. Raises SectionError."""
+        calls = library.zax_section_extensions, (library.zax_extension_uri,)
+        return self._items(Extension._of, RawExtension, *calls, _index(section))
 
     def rows(self, section: SupportsIndex) -> List[Row]:
         """The rows of a section. Raises SectionError."""

@@ -18,6 +18,10 @@ class RawRow(Structure):
     ]
 
 
+class RawExtension(Structure):
+    _fields_ = [("id", c_uint8), ("reserved", c_uint8 * 3)]
+
+
 class RawOutcome(Structure):
     _fields_ = [("cause", c_uint8), ("pt", c_uint8)]
 
@@ -57,6 +61,8 @@ _CALLS = {
     "zax_sections": (c_size_t, (_HANDLE,)),
     "zax_section_mid": (c_uint32, (_HANDLE, _INDEX, *_ROOM)),
     "zax_section_msid": (c_uint32, (_HANDLE, _INDEX, *_ROOM)),
+    "zax_section_extensions": (c_uint32, (_HANDLE, _INDEX, *_ROOM)),
+    "zax_extension_uri": (c_uint32, (_HANDLE, _INDEX, _INDEX, *_ROOM)),
     "zax_rows": (c_uint32, (_HANDLE, _INDEX, *_ROOM)),
     "zax_row_codec": (c_uint32, (_HANDLE, _INDEX, _INDEX, *_ROOM)),
     "zax_row_fmtp": (c_uint32, (_HANDLE, _INDEX, _INDEX, *_ROOM)),

@@ -37,6 +37,13 @@ pub struct Own {
 }
 
 #[repr(C)]
+#[derive(Clone, Default)]
+pub struct Extension {
+    pub id: u8,
+    pub reserved: [u8; 3],
+}
+
+#[repr(C)]
 pub struct Error {
     pub status: u32,
     pub line: u32,
@@ -51,6 +58,8 @@ extern "C" {
     pub fn zax_sections(session: *mut Session) -> usize;
     pub fn zax_section_mid(session: *mut Session, section: usize, room: *mut u8, cap: usize, needed: *mut usize) -> u32;
     pub fn zax_section_msid(session: *mut Session, section: usize, room: *mut u8, cap: usize, needed: *mut usize) -> u32;
+    pub fn zax_section_extensions(session: *mut Session, section: usize, room: *mut Extension, cap: usize, needed: *mut usize) -> u32;
+    pub fn zax_extension_uri(session: *mut Session, section: usize, extension: usize, room: *mut u8, cap: usize, needed: *mut usize) -> u32;
     pub fn zax_rows(session: *mut Session, section: usize, room: *mut crate::Row, cap: usize, needed: *mut usize) -> u32;
     pub fn zax_row_codec(session: *mut Session, section: usize, row: usize, room: *mut u8, cap: usize, needed: *mut usize) -> u32;
     pub fn zax_row_fmtp(session: *mut Session, section: usize, row: usize, room: *mut u8, cap: usize, needed: *mut usize) -> u32;

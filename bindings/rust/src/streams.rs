@@ -16,4 +16,13 @@ impl Sdp {
         let said = filled(|room, cap, needed| unsafe { raw::zax_section_msid(self.0.as_ptr(), section, room, cap, needed) }).map(text_of)?;
         Ok(said.split_once(' ').map(|(stream, track)| Msid { stream_id: stream.to_owned(), track_id: track.to_owned() }))
     }
+
+    /// The header extensions of a section, in order: their numbers, by which packets have them, and their URIs (RFC 8285).
+    pub fn extmaps(&self, section: usize) -> Result<Vec<(u8, String)>, SdpError> {
+        let session = self.0.as_ptr();
+        // SAFETY: as above, of room for so many items, or bytes below.
+        let found = filled(|room, cap, needed| unsafe { raw::zax_section_extensions(session, section, room, cap, needed) })?;
+        let uri = |i| filled(|room, cap, needed| unsafe { raw::zax_extension_uri(session, section, i, room, cap, needed) }).map(text_of);
+        found.iter().enumerate().map(|(i, it)| Ok((it.id, uri(i)?))).collect()
+    }
 }

@@ -16,3 +16,12 @@ fn a_stream_and_its_track() {
     assert_eq!(read.msid(2), Err(SdpError::NoSection));
     assert_eq!(Sdp::from_sdp_string(OFFER).unwrap().msid(0), Ok(ids("-", "cadf95cb-38b4-4d30-8162-af882e48b3b0")));
 }
+
+#[test]
+fn header_extensions() {
+    let read = Sdp::from_sdp_string(STREAMS).unwrap();
+    let (mid, rid) = ("urn:ietf:params:rtp-hdrext:sdes:mid", "urn:ietf:params:rtp-hdrext:sdes:rtp-stream-id");
+    assert_eq!(read.extmaps(0).unwrap(), [(3, mid.to_owned()), (14, rid.to_owned()), (255, "urn:x".to_owned())]);
+    assert_eq!(read.extmaps(1), Ok(Vec::new()));
+    assert_eq!(read.extmaps(2), Err(SdpError::NoSection));
+}

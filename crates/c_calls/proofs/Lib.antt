@@ -1,2 +1,3 @@
+pub mod LineTextsPassed
 pub mod OfferCallsFilled
 pub mod SaidPutting

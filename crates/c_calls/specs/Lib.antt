@@ -2,6 +2,7 @@ pub mod Common
 pub mod ConfigCalls
 pub mod ExchangeCalls
 pub mod FindingCalls
+pub mod LineTexts
 pub mod Prelude
 pub mod RoundCalls
 pub mod Said

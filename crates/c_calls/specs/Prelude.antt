@@ -1,5 +1,6 @@
 -- What definitions and clauses cite of the crates below, passed on from one place. Declares nothing.
 pub use Rattle.c_json.specs.Description.{IsJsonText}
+pub use Rattle.c_parts.specs.Extension.{c_extensions}
 pub use Rattle.c_parts.specs.Parts.{IsFull}
 pub use Rattle.c_parts.specs.Reading.{RefusesReading}
 pub use Rattle.c_parts.specs.Row.{c_outcome, c_row, c_rows, codec_at, said_unless}
@@ -44,6 +45,7 @@ pub use Rattle.str0m_formats.specs.row.PayloadParams.{new_row, types}
 pub use Rattle.str0m_formats.specs.row.PlainRow.{IsPlain}
 pub use Rattle.str0m_sdp.specs.Common.{distinct, first}
 pub use Rattle.str0m_sdp.specs.attribute.Msid.{msid_text}
+pub use Rattle.str0m_sdp.specs.declared.attribute.MediaAttribute.{MediaAttribute}
 pub use Rattle.str0m_sdp.specs.declared.attribute.media_type.MediaType.{MediaType}
 pub use Rattle.str0m_sdp.specs.declared.attribute.msid.Msid.{Msid}
 pub use Rattle.str0m_sdp.specs.declared.section.media_line.MediaLine.{MediaLine}

@@ -4,7 +4,7 @@ use Rattle.c_parts.specs.Room.{begun_with}
 use Rattle.std.specs.Prelude.{◌≡◌, ◌⊎◌, ℕ, List, length, Option, Some, None, nat_le, if◌then◌else◌}
 
 -- the status, the room and the count after a call, from the room and the count before it and what it finds: that is put into the room
--- where it fits, and is counted in any case; where there is no such section or row, both stay
+-- where it fits, and is counted in any case; where there is no such section or item, both stay
 abbrev pub put_into : {X : Type 0} → List X × ℕ → Option (List X) → ℕ × List X × ℕ
 put_into before None = (no_section, before.0, before.1)
 put_into before (Some items) =

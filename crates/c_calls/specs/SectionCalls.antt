@@ -1,4 +1,4 @@
--- What calls find in what a handle owns; nothing where there is no such section or row.
+-- What calls find in what a handle owns; nothing where there is no such section or item.
 use Rattle.c_calls.specs.Prelude.{MediaLine, PayloadParams, Sdp, Section, c_section, codec_text, params_text}
 use Rattle.c_calls.specs.SessionCalls.{mid_or_empty}
 use Rattle.c_calls.specs.declared.row_calls.RowText.{RowText}

@@ -1,6 +1,8 @@
 -- Texts of a section that a call writes.
+use Rattle.c_calls.specs.LineTexts.{text_of_line}
 use Rattle.c_calls.specs.Prelude.{MediaLine, Msid, Sdp, first, msid_of, msid_text, rows}
 use Rattle.c_calls.specs.SectionCalls.{text_in}
+use Rattle.c_calls.specs.declared.line_texts.LineText.TheVariants.{Uri}
 use Rattle.c_calls.specs.declared.row_calls.RowText.TheVariants.{Codec, Format}
 use Rattle.c_calls.specs.declared.section_texts.SectionText.{SectionText}
 use Rattle.c_calls.specs.declared.section_texts.SectionText.TheVariants as text
@@ -8,7 +10,7 @@ use Rattle.std.specs.Prelude.{ℕ, List, [], Option, Some, None, filter_map, nat
 
 -- which of them a number is (`enum section_text` of capi/proved_calls.h)
 abbrev pub text_numbered : ℕ → SectionText
-text_numbered n = if nat_eq n 0 then text.Row Codec else (if nat_eq n 1 then text.Row Format else text.Msid)
+text_numbered n = if nat_eq n 0 then text.Row Codec else (if nat_eq n 1 then text.Row Format else (if nat_eq n 2 then text.Msid else text.Line Uri))
 
 -- the ids of a stream and a track, as they print; nothing where there are none
 abbrev pub ids_text : Option Msid → List ℕ
@@ -19,6 +21,7 @@ ids_text (Some msid) = msid_text msid
 abbrev pub section_text : SectionText → MediaLine → ℕ → Option (List ℕ)
 section_text (text.Row what) m index = text_in what (rows m) index
 section_text text.Msid m index = Some (ids_text (first (filter_map msid_of m.attrs)))
+section_text (text.Line what) m index = slice_get (filter_map (text_of_line what) m.attrs) index
 
 -- that of the section there
 abbrev pub text_at : SectionText → Sdp → ℕ → ℕ → Option (List ℕ)

@@ -5,6 +5,7 @@
 //! - `config_calls`: Calls that make, change and free configurations.
 //! - `exchange_calls`: Calls of exchanges: one side is made, and it answers offers.
 //! - `finding_calls`: The call of findings.
+//! - `line_texts`: What calls write of the lines of a section.
 //! - `offer_calls`: Calls of exchanges in which this side offers.
 //! - `round_calls`: Calls that negotiate, and that answer with what is agreed.
 //! - `row_calls`: Calls of rows, and what is written of a row.
@@ -21,6 +22,7 @@ mod candidate_calls;
 mod config_calls;
 mod exchange_calls;
 mod finding_calls;
+mod line_texts;
 mod offer_calls;
 mod round_calls;
 mod row_calls;

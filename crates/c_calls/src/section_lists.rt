@@ -1,12 +1,13 @@
 //! Calls that write what a section lists.
 
 ghost use Rattle.c_calls.specs.Common.{Of};
-ghost use Rattle.c_calls.specs.Prelude.{IsFull, c_rows};
+ghost use Rattle.c_calls.specs.Prelude.{IsFull, c_extensions, c_rows};
 ghost use Rattle.c_calls.specs.Said.{Says};
 ghost use Rattle.c_calls.specs.SectionCalls.{list_at};
 ghost use Rattle.std.specs.Prelude.{◌≡◌, Some};
 
 use crate::said::{NO_MEMORY, NO_SECTION, put};
+use c_parts::extension::SectionExtension;
 use c_parts::row::Row;
 use c_parts::section_item::SectionItem;
 use c_parts::session_handle::SessionHandle;
@@ -74,4 +75,20 @@ pub extern "C" fn zaxp_session_rows(
     ensures says { Of handle.old.inner (λ sdp. Says (list_at c_rows sdp at) (room.old, needed.old) (result, room.new, needed.new)) }
 {
     list::<Row>(alloc, handle, at, room, needed)
+}
+
+/// The header extensions of a section.
+#[unsafe(no_mangle)]
+pub extern "C" fn zaxp_session_extensions(
+    alloc: Global,
+    handle: &mut SessionHandle,
+    at: usize,
+    room: &mut [SectionExtension],
+    needed: &mut usize,
+) -> u32
+    requires { IsFull handle.old.inner }
+    ensures same { handle.new.inner ≡ handle.old.inner }
+    ensures says { Of handle.old.inner (λ sdp. Says (list_at c_extensions sdp at) (room.old, needed.old) (result, room.new, needed.new)) }
+{
+    list::<SectionExtension>(alloc, handle, at, room, needed)
 }

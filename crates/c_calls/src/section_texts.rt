@@ -6,6 +6,7 @@ ghost use Rattle.c_calls.specs.Said.{Says};
 ghost use Rattle.c_calls.specs.SectionTexts.{ids_text, section_text, text_at, text_numbered};
 ghost use Rattle.std.specs.Prelude.{◌≡◌, IfOk, Some, filter_map, string_bytes};
 
+use crate::line_texts::{LineText, put_line_text};
 use crate::row_calls::{RowText, put_section_row_text};
 use crate::said::{NO_MEMORY, NO_SECTION, put};
 use c_parts::session_handle::SessionHandle;
@@ -19,6 +20,8 @@ pub(crate) enum SectionText {
     Row(RowText),
     /// The ids of its stream and of its track.
     Msid,
+    /// What a line says, among those that say it.
+    Line(LineText),
 }
 
 /// Which of them a number is.
@@ -28,7 +31,8 @@ fn text_numbered(number: u8) -> SectionText
     match number {
         0 => SectionText::Row(RowText::Codec),
         1 => SectionText::Row(RowText::Format),
-        _ => SectionText::Msid,
+        2 => SectionText::Msid,
+        _ => SectionText::Line(LineText::Uri),
     }
 }
 
@@ -64,6 +68,13 @@ fn put_section_text(
     match what {
         SectionText::Row(text) => put_section_row_text(alloc, section, index, text, room, needed),
         SectionText::Msid => put_ids(alloc, section, room, needed),
+        SectionText::Line(text) => put_line_text(
+            section.attrs.as_slice(),
+            index,
+            text,
+            room,
+            needed,
+        ),
     }
 }
 

@@ -1,5 +1,6 @@
 pub mod ConfigHandle
 pub mod ExchangeHandle
+pub mod Extension
 pub mod Fault
 pub mod Parts
 pub mod Reading

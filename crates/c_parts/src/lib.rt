@@ -3,6 +3,7 @@
 //!
 //! - `config_handle`: A configuration on the heap, as C holds it.
 //! - `exchange_handle`: One side of an exchange of offers and answers on the heap, as C holds it.
+//! - `extension`: Header extensions as C holds them.
 //! - `fault`: Why a call of an exchange of offers and answers is refused.
 //! - `parts`: A box as its pointer and its allocator.
 //! - `reading`: A text that C gives, read.
@@ -16,6 +17,7 @@
 
 pub mod config_handle;
 pub mod exchange_handle;
+pub mod extension;
 pub mod fault;
 mod parts;
 pub mod reading;
