@@ -193,6 +193,33 @@ zax_status zax_extension_uri(zax_session *session, size_t section, size_t extens
     return section_text(session, section, EXTENSION_URI, extension, room, cap, needed);
 }
 
+zax_status zax_section_rids(zax_session *session, size_t section, zax_rid *room, size_t cap, size_t *needed)
+{
+    BEGIN(session, room, cap, needed);
+    return (zax_status)zaxp_session_rids(&session->handle, section, ROOM(zax_rid, room, cap), cap, needed);
+}
+
+zax_status zax_rid_name(zax_session *session, size_t section, size_t rid, char *room, size_t cap, size_t *needed)
+{
+    return section_text(session, section, RID_NAME, rid, room, cap, needed);
+}
+
+zax_status zax_rid_restrictions(zax_session *session, size_t section, size_t rid, char *room, size_t cap, size_t *needed)
+{
+    return section_text(session, section, RID_RESTRICTIONS, rid, room, cap, needed);
+}
+
+zax_status zax_section_layers(zax_session *session, size_t section, zax_layer *room, size_t cap, size_t *needed)
+{
+    BEGIN(session, room, cap, needed);
+    return (zax_status)zaxp_session_layers(&session->handle, section, ROOM(zax_layer, room, cap), cap, needed);
+}
+
+zax_status zax_layer_name(zax_session *session, size_t section, size_t layer, char *room, size_t cap, size_t *needed)
+{
+    return section_text(session, section, LAYER_NAME, layer, room, cap, needed);
+}
+
 zax_status zax_is_writable(zax_session *session, size_t section, int *writable)
 {
     bool answer = false;

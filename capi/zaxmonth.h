@@ -95,6 +95,19 @@ typedef struct zax_extension {
     uint8_t reserved[3];
 } zax_extension;
 
+/* A stream that may be restricted (RFC 8851). */
+typedef struct zax_rid {
+    uint8_t direction; /* ZAX_SENDONLY or ZAX_RECVONLY */
+    uint8_t reserved[3];
+} zax_rid;
+
+/* A layer of simulcast (RFC 8853). */
+typedef struct zax_layer {
+    uint8_t direction; /* ZAX_SENDONLY or ZAX_RECVONLY */
+    uint8_t paused;    /* 0 or 1: whether `~` stands before its name */
+    uint8_t reserved[2];
+} zax_layer;
+
 /* Where a call takes one, it may be NULL. */
 typedef struct zax_error {
     uint32_t status;   /* zax_status */
@@ -129,6 +142,15 @@ ZAX_API zax_status zax_row_fmtp(zax_session *session, size_t section, size_t row
 /* The header extensions of a section, in order, and the URI of one of them, counted from 0. */
 ZAX_API zax_status zax_section_extensions(zax_session *session, size_t section, zax_extension *room, size_t cap, size_t *needed);
 ZAX_API zax_status zax_extension_uri(zax_session *session, size_t section, size_t extension, char *room, size_t cap, size_t *needed);
+/* The streams of a section that may be restricted, in order; of one of them, counted from 0, its name, and its payload types and
+ * restrictions as its line has them: `pt=96,97;max-width=320`, nothing where it has none. */
+ZAX_API zax_status zax_section_rids(zax_session *session, size_t section, zax_rid *room, size_t cap, size_t *needed);
+ZAX_API zax_status zax_rid_name(zax_session *session, size_t section, size_t rid, char *room, size_t cap, size_t *needed);
+ZAX_API zax_status zax_rid_restrictions(zax_session *session, size_t section, size_t rid, char *room, size_t cap, size_t *needed);
+/* The layers that a section sends, and then those that it receives, in order, of several alternatives the first; and the name of one of
+ * them, counted from 0, which is that of a rid. */
+ZAX_API zax_status zax_section_layers(zax_session *session, size_t section, zax_layer *room, size_t cap, size_t *needed);
+ZAX_API zax_status zax_layer_name(zax_session *session, size_t section, size_t layer, char *room, size_t cap, size_t *needed);
 /* Whether zax_answer may write into the section: `*writable` becomes 0 or 1. */
 ZAX_API zax_status zax_is_writable(zax_session *session, size_t section, int *writable);
 /* The credentials of ICE that the session says, else the first section that says both; nothing where none does. */

@@ -16,7 +16,8 @@ from proved import TOP
 CAPI = TOP / "capi"
 CALLS = TOP / "crates" / "c_calls"
 PARTS = TOP / "crates" / "c_parts"
-ITEMS = {"u8": "uint8_t", "Row": "zax_row", "Outcome": "zax_outcome", "SectionExtension": "zax_extension", "&[u8]": "zax_slice"}
+SECTION_ITEMS = {"Row": "zax_row", "SectionExtension": "zax_extension", "SectionRid": "zax_rid", "SectionLayer": "zax_layer"}
+ITEMS = {"u8": "uint8_t", "Outcome": "zax_outcome", "&[u8]": "zax_slice", **SECTION_ITEMS}
 PLAIN = {"usize": "size_t", "u64": "uint64_t", "u32": "uint32_t", "u16": "uint16_t", "u8": "uint8_t", "bool": "bool"}
 HANDLES = {"SessionHandle": "session_handle", "ConfigHandle": "config_handle", "ExchangeHandle": "exchange_handle"}
 # Structs of C's layout: the name in C, and the file of c_parts
@@ -25,6 +26,8 @@ STRUCTS = {
     "Outcome": ("zax_outcome", "row"),
     "Section": ("zax_section", "section"),
     "SectionExtension": ("zax_extension", "extension"),
+    "SectionRid": ("zax_rid", "rid"),
+    "SectionLayer": ("zax_layer", "layer"),
     "OwnNumbers": ("struct own_numbers", "side"),
 }
 # What each status of specs/Told.antt is in the header, each cause of a refused round, and the codecs whose name there isn't their own
@@ -65,7 +68,15 @@ STATES = {"Stable": "STABLE", "HaveLocalOffer": "HAVE_LOCAL_OFFER"}
 CAUSES = {"TypeTooLarge": "TYPE_TOO_LARGE", "ClaimedTwice": "CLAIMED_TWICE", "Exhausted": "EXHAUSTED", "Memory": "ROUND_MEMORY"}
 SECTIONS = {("kind", "Unknown"): "OTHER_KIND", ("protocol", "Srtp"): "PROTOCOL_RTP", ("protocol", "Sctp"): "PROTOCOL_SCTP", ("setup", "None"): "NO_SETUP"}
 # What each text of a section is in capi/proved_calls.h; those of configurations' rows are the same
-TEXTS = {"Codec": "ROW_CODEC", "Format": "ROW_FORMAT", "Msid": "SECTION_MSID", "Uri": "EXTENSION_URI"}
+TEXTS = {
+    "Codec": "ROW_CODEC",
+    "Format": "ROW_FORMAT",
+    "Msid": "SECTION_MSID",
+    "Uri": "EXTENSION_URI",
+    "RidName": "RID_NAME",
+    "Restrictions": "RID_RESTRICTIONS",
+    "Layer": "LAYER_NAME",
+}
 CODECS = {"Tele": "TELEPHONE_EVENT", "Null": "NULL_CODEC", "AmrWb": "AMR_WB", "other": "UNKNOWN"}
 
 
@@ -155,7 +166,7 @@ def numbers():
 
 def choices(text, name):
     """What a definition makes of each number from 0 on, which it asks for in order: the last word of it."""
-    asked = re.search(rf"^{name} n = (.*)$", text, re.M)[1]
+    asked = " ".join(re.search(rf"^{name} n =((?: .*\n| *\n)+)", text, re.M)[1].split())
     tested = re.findall(r"nat_eq n (\d+) then ([\w. ]+?) else", asked)
     if [number for number, _ in tested] != [str(it) for it in range(len(tested))]:
         raise SystemExit(f"{name} asks for other numbers than those from 0 on, in order")

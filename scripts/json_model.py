@@ -69,6 +69,7 @@ KINDS = {"audio": 0, "video": 1, "application": 2}
 PROTOCOLS = ("UDP/TLS/RTP/SAVPF", "UDP/DTLS/SCTP")
 DIRECTIONS = ("sendrecv", "sendonly", "recvonly", "inactive")
 SETUPS = ("", "actpass", "active", "passive")
+WAYS = {"send": DIRECTIONS.index("sendonly"), "recv": DIRECTIONS.index("recvonly")}
 HASH = r"\S+ [0-9A-F]{2}(?::[0-9A-F]{2})*"
 HASHES = {"sha-256": 0, "sha-1": 1}  # (RFC 8122, section 5.1: how they are preferred)
 WORDS = ("transport-cc", "nack", "nack pli", "ccm fir", "goog-remb")  # of rows, as docs/C.md has them
@@ -135,6 +136,11 @@ def streams(lines):
     """What `texts facts` is to print of a section's streams."""
     yield (said(lines, MEDIA["msid"][0]) or [""])[0]
     yield from (line.removeprefix("extmap:") for line in lines if re.fullmatch(MEDIA["[ext]"][0], line))
+    for rid in filter(None, (re.fullmatch(MEDIA["[rids]"][0], it) for it in lines)):
+        yield f"{WAYS[rid[2]]} {rid[1]} {rid[3] or ''}"
+    for line in [it for it in (re.fullmatch(MEDIA["simulcast"][0], it) for it in lines) if it][-1:]:
+        sides = [(line[1], line[2]), (line[3], line[4])]
+        yield from (f"{WAYS[way]} {int(it.startswith('~'))} {it.removeprefix('~')}" for way, names in sides if way for it in names.split(";"))
 
 
 def facts(text):

@@ -70,6 +70,16 @@ static void streams(const char *path)
     is("its URI", session.extension_uri(0, 1), "urn:ietf:params:rtp-hdrext:sdes:rtp-stream-id");
     is("no header extensions", session.extensions(1).size(), 0u);
     is("the URI of none", thrown([&] { session.extension_uri(0, 3); }), ZAX_E_SECTION);
+    const auto rids = session.rids(0);
+    is("rids", rids.size(), 3u);
+    is("one that is received", rids.at(2).direction, ZAX_RECVONLY);
+    is("its name", session.rid_name(0, 2), "back");
+    is("what another is restricted to", session.rid_restrictions(0, 1), "pt=96,97;max-width=320;max-fps=15");
+    const auto layers = session.layers(0);
+    is("layers", layers.size(), 3u);
+    is("one that is paused", layers.at(1).paused, 1);
+    is("the name of a layer", session.layer_name(0, 1), "lo");
+    is("no rids and no layers", session.rids(1).size() + session.layers(1).size(), 0u);
     is("the streams of no section", thrown([&] { session.msid(2); }), ZAX_E_SECTION);
 }
 

@@ -85,6 +85,11 @@ class Session {
     std::string fmtp(size_t section, size_t row) const { return said<std::string>(zax_row_fmtp, section, row); }
     std::vector<zax_extension> extensions(size_t section) const { return said<std::vector<zax_extension>>(zax_section_extensions, section); }
     std::string extension_uri(size_t section, size_t extension) const { return said<std::string>(zax_extension_uri, section, extension); }
+    std::vector<zax_rid> rids(size_t section) const { return said<std::vector<zax_rid>>(zax_section_rids, section); }
+    std::string rid_name(size_t section, size_t rid) const { return said<std::string>(zax_rid_name, section, rid); }
+    std::string rid_restrictions(size_t section, size_t rid) const { return said<std::string>(zax_rid_restrictions, section, rid); }
+    std::vector<zax_layer> layers(size_t section) const { return said<std::vector<zax_layer>>(zax_section_layers, section); }
+    std::string layer_name(size_t section, size_t layer) const { return said<std::string>(zax_layer_name, section, layer); }
     std::string json() const { return said<std::string>(zax_json); }
     zax_session *get() const { return handle_.get(); }
 

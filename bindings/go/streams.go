@@ -44,3 +44,58 @@ func (s *Session) Extensions(section int) (found []Extension, err error) {
 	})
 	return found, err
 }
+
+// A Rid is a stream that may be restricted (RFC 8851).
+type Rid struct {
+	Name         string
+	Direction    Direction // SendOnly or RecvOnly
+	Restrictions string    // "pt=96,97;max-width=320"; empty where it has none
+}
+
+// Rids are the streams of a section that may be restricted, in order. Errors: ErrSection.
+func (s *Session) Rids(section int) (found []Rid, err error) {
+	at := C.size_t(section)
+	err = s.handle.use(func(it *C.zax_session) error {
+		found, err = itemsOf(
+			func(room *C.zax_rid, size C.size_t, needed *C.size_t) C.zax_status {
+				return C.zax_section_rids(it, at, room, size, needed)
+			},
+			func(raw *C.zax_rid, said []string) Rid {
+				return Rid{said[0], Direction(raw.direction), said[1]}
+			},
+			func(i C.size_t, room *C.char, size C.size_t, needed *C.size_t) C.zax_status {
+				return C.zax_rid_name(it, at, i, room, size, needed)
+			},
+			func(i C.size_t, room *C.char, size C.size_t, needed *C.size_t) C.zax_status {
+				return C.zax_rid_restrictions(it, at, i, room, size, needed)
+			})
+		return err
+	})
+	return found, err
+}
+
+// A Layer is a layer of simulcast (RFC 8853).
+type Layer struct {
+	Name      string    // that of a Rid
+	Direction Direction // SendOnly or RecvOnly
+	Paused    bool
+}
+
+// Layers are the layers that a section sends, and then those that it receives, in order. Errors: ErrSection.
+func (s *Session) Layers(section int) (found []Layer, err error) {
+	at := C.size_t(section)
+	err = s.handle.use(func(it *C.zax_session) error {
+		found, err = itemsOf(
+			func(room *C.zax_layer, size C.size_t, needed *C.size_t) C.zax_status {
+				return C.zax_section_layers(it, at, room, size, needed)
+			},
+			func(raw *C.zax_layer, said []string) Layer {
+				return Layer{said[0], Direction(raw.direction), raw.paused != 0}
+			},
+			func(i C.size_t, room *C.char, size C.size_t, needed *C.size_t) C.zax_status {
+				return C.zax_layer_name(it, at, i, room, size, needed)
+			})
+		return err
+	})
+	return found, err
+}

@@ -25,12 +25,30 @@ func TestExtensions(t *testing.T) {
 	is(t, must[[]Extension](t)(session.Extensions(1)), []Extension{})
 }
 
+func TestRids(t *testing.T) {
+	session := streams(t)
+	is(t, must[[]Rid](t)(session.Rids(0)), []Rid{
+		{"hi", SendOnly, ""},
+		{"lo", SendOnly, "pt=96,97;max-width=320;max-fps=15"},
+		{"back", RecvOnly, "max-height=90"},
+	})
+	is(t, must[[]Rid](t)(session.Rids(1)), []Rid{})
+}
+
+func TestLayers(t *testing.T) {
+	session := streams(t)
+	is(t, must[[]Layer](t)(session.Layers(0)), []Layer{{"hi", SendOnly, false}, {"lo", SendOnly, true}, {"back", RecvOnly, false}})
+	is(t, must[[]Layer](t)(session.Layers(1)), []Layer{})
+}
+
 func TestStreamsOfASectionThatIsNotThere(t *testing.T) {
 	session := streams(t)
 	for _, section := range []int{2, 99, -1, 1 << 62, -1 << 63} {
 		_, ofMsid := session.Msid(section)
 		_, ofExtensions := session.Extensions(section)
-		for _, err := range []error{ofMsid, ofExtensions} {
+		_, ofRids := session.Rids(section)
+		_, ofLayers := session.Layers(section)
+		for _, err := range []error{ofMsid, ofExtensions, ofRids, ofLayers} {
 			is(t, errors.Is(err, ErrSection), true)
 		}
 	}

@@ -47,6 +47,14 @@ static zax_status mid(void *s, void *room, size_t cap, size_t *needed) { return 
 static zax_status msid(void *s, void *room, size_t cap, size_t *needed) { return zax_section_msid(s, 0, room, cap, needed); }
 static zax_status extensions(void *s, void *room, size_t cap, size_t *needed) { return zax_section_extensions(s, 0, room, cap, needed); }
 static zax_status uri(void *s, void *room, size_t cap, size_t *needed) { return zax_extension_uri(s, 0, 1, room, cap, needed); }
+static zax_status rids(void *s, void *room, size_t cap, size_t *needed) { return zax_section_rids(s, 0, room, cap, needed); }
+static zax_status rid(void *s, void *room, size_t cap, size_t *needed) { return zax_rid_name(s, 0, 1, room, cap, needed); }
+static zax_status unrestricted(void *s, void *room, size_t cap, size_t *needed) { return zax_rid_restrictions(s, 0, 0, room, cap, needed); }
+static zax_status restricted(void *s, void *room, size_t cap, size_t *needed) { return zax_rid_restrictions(s, 0, 1, room, cap, needed); }
+static zax_status without_types(void *s, void *room, size_t cap, size_t *needed) { return zax_rid_restrictions(s, 0, 2, room, cap, needed); }
+static zax_status layers(void *s, void *room, size_t cap, size_t *needed) { return zax_section_layers(s, 0, room, cap, needed); }
+static zax_status layer(void *s, void *room, size_t cap, size_t *needed) { return zax_layer_name(s, 0, 1, room, cap, needed); }
+static zax_status last_layer(void *s, void *room, size_t cap, size_t *needed) { return zax_layer_name(s, 0, 2, room, cap, needed); }
 static zax_status rows(void *s, void *room, size_t cap, size_t *needed) { return zax_rows(s, 0, room, cap, needed); }
 static zax_status fmtp(void *s, void *room, size_t cap, size_t *needed) { return zax_row_fmtp(s, 0, 0, room, cap, needed); }
 static zax_status codec(void *s, void *room, size_t cap, size_t *needed) { return zax_row_codec(s, 0, 0, room, cap, needed); }
@@ -289,6 +297,55 @@ static void extended(zax_session *session)
     IS(zax_section_extensions(session, (size_t)-1, found, 4, &got), ZAX_E_SECTION);
 }
 
+/* The streams of a section that may be restricted. */
+static void restrictions(zax_session *session)
+{
+    zax_rid found[4];
+    size_t got;
+    rooms(rids, session, sizeof(zax_rid));
+    IS(zax_section_rids(session, 0, found, 4, &got), ZAX_OK);
+    IS(got, 3);
+    IS(found[0].direction == ZAX_SENDONLY && found[1].direction == ZAX_SENDONLY && found[2].direction == ZAX_RECVONLY, 1);
+    IS(found[0].reserved[0] | found[1].reserved[1] | found[2].reserved[2], 0);
+    rooms(rid, session, 1);
+    says(rid, session, "lo");
+    rooms(unrestricted, session, 1);
+    says(unrestricted, session, "");
+    rooms(restricted, session, 1);
+    says(restricted, session, "pt=96,97;max-width=320;max-fps=15");
+    rooms(without_types, session, 1);
+    says(without_types, session, "max-height=90");
+    IS(zax_rid_name(session, 0, 3, NULL, 0, &got), ZAX_E_SECTION);
+    IS(zax_rid_name(session, 0, (size_t)-1, NULL, 0, &got), ZAX_E_SECTION);
+    IS(zax_rid_restrictions(session, 0, 3, NULL, 0, &got), ZAX_E_SECTION);
+    IS(zax_rid_restrictions(session, 2, 0, NULL, 0, &got), ZAX_E_SECTION);
+    IS(zax_section_rids(session, 1, NULL, 0, &got), ZAX_OK);
+    IS(got, 0);
+    IS(zax_section_rids(session, 2, found, 4, &got), ZAX_E_SECTION);
+}
+
+/* The layers of a section: those that it sends are the first, wherever they stand. */
+static void layered(zax_session *session)
+{
+    zax_layer found[4];
+    size_t got;
+    rooms(layers, session, sizeof(zax_layer));
+    IS(zax_section_layers(session, 0, found, 4, &got), ZAX_OK);
+    IS(got, 3);
+    IS(found[0].direction == ZAX_SENDONLY && found[1].direction == ZAX_SENDONLY && found[2].direction == ZAX_RECVONLY, 1);
+    IS(found[0].paused == 0 && found[1].paused == 1 && found[2].paused == 0, 1);
+    IS(found[0].reserved[0] | found[1].reserved[1] | found[2].reserved[0], 0);
+    rooms(layer, session, 1);
+    says(layer, session, "lo");
+    says(last_layer, session, "back");
+    IS(zax_layer_name(session, 0, 3, NULL, 0, &got), ZAX_E_SECTION);
+    IS(zax_layer_name(session, 0, (size_t)-1, NULL, 0, &got), ZAX_E_SECTION);
+    IS(zax_layer_name(session, 1, 0, NULL, 0, &got), ZAX_E_SECTION);
+    IS(zax_section_layers(session, 1, NULL, 0, &got), ZAX_OK);
+    IS(got, 0);
+    IS(zax_section_layers(session, 2, found, 4, &got), ZAX_E_SECTION);
+}
+
 /* What a section says of streams; the second says nothing of them, and there is no third. */
 static void streams(const char *said, size_t size)
 {
@@ -303,6 +360,8 @@ static void streams(const char *said, size_t size)
     IS(zax_section_msid(session, 2, NULL, 0, &got), ZAX_E_SECTION);
     IS(zax_section_msid(session, (size_t)-1, NULL, 0, &got), ZAX_E_SECTION);
     extended(session);
+    restrictions(session);
+    layered(session);
     zax_session_free(session);
 }
 

@@ -11,6 +11,8 @@
 static char text[1 << 20], streams[1 << 12], room[1 << 20], before[1 << 20], after[1 << 20];
 static zax_row rows[128], rows_before[128], rows_after[128];
 static zax_extension extensions[8];
+static zax_rid rids[8];
+static zax_layer layers[8];
 static size_t length, streams_length;
 static long wrong;
 
@@ -77,6 +79,11 @@ static int asked(void)
     ASKS(session, zax_section_msid(session, 0, room, sizeof room, &count));
     ASKS(session, zax_section_extensions(session, 0, extensions, 8, &count));
     ASKS(session, zax_extension_uri(session, 0, 0, room, sizeof room, &count));
+    ASKS(session, zax_section_rids(session, 0, rids, 8, &count));
+    ASKS(session, zax_rid_name(session, 0, 1, room, sizeof room, &count));
+    ASKS(session, zax_rid_restrictions(session, 0, 1, room, sizeof room, &count));
+    ASKS(session, zax_section_layers(session, 0, layers, 8, &count));
+    ASKS(session, zax_layer_name(session, 0, 1, room, sizeof room, &count));
 end:
     zax_session_free(session);
     return status;

@@ -8,6 +8,8 @@
 static char text[1 << 20], room[1 << 20], codec[64];
 static zax_row rows[4096];
 static zax_extension extensions[4096];
+static zax_rid rids[4096];
+static zax_layer layers[4096];
 
 static void must(zax_status status)
 {
@@ -70,6 +72,18 @@ static void show_streams(zax_session *session, size_t at)
     for (size_t i = 0; i < count; i++) {
         must(zax_extension_uri(session, at, i, room, sizeof room, &said));
         printf("%d %.*s\n", extensions[i].id, (int)said, room);
+    }
+    must(zax_section_rids(session, at, rids, 4096, &count));
+    for (size_t i = 0; i < count; i++) {
+        must(zax_rid_name(session, at, i, room, sizeof room, &said));
+        printf("%d %.*s", rids[i].direction, (int)said, room);
+        must(zax_rid_restrictions(session, at, i, room, sizeof room, &said));
+        printf(" %.*s\n", (int)said, room);
+    }
+    must(zax_section_layers(session, at, layers, 4096, &count));
+    for (size_t i = 0; i < count; i++) {
+        must(zax_layer_name(session, at, i, room, sizeof room, &said));
+        printf("%d %d %.*s\n", layers[i].direction, layers[i].paused, (int)said, room);
     }
 }
 

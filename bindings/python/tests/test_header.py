@@ -4,7 +4,7 @@ import unittest
 from ctypes import POINTER, c_char, c_char_p, c_int, c_size_t, c_uint8, c_uint16, c_uint32, c_uint64, c_void_p
 
 from zaxmonth import ABI, Cause, Codec, Direction, Feedback, MediaKind, SignalingState, Status
-from zaxmonth._library import _CALLS, NO_TYPE, RawError, RawExtension, RawOutcome, RawOwn, RawRow, RawSlice
+from zaxmonth._library import _CALLS, NO_TYPE, RawError, RawExtension, RawLayer, RawOutcome, RawOwn, RawRid, RawRow, RawSlice
 
 from . import TOP
 
@@ -35,8 +35,8 @@ KINDS = {
     "zax_config **": POINTER(c_void_p),
     "zax_exchange **": POINTER(c_void_p),
 }
-HANDLES_AND_ROOMS = ("zax_session *", "zax_config *", "zax_exchange *", "char *", "zax_row *", "zax_outcome *", "zax_section *", "zax_extension *")
-KINDS.update(dict.fromkeys(HANDLES_AND_ROOMS, c_void_p))
+HANDLES, ITEMS = ("session", "config", "exchange"), ("row", "outcome", "section", "extension", "rid", "layer")
+KINDS.update(dict.fromkeys(["char *", *(f"zax_{it} *" for it in HANDLES + ITEMS)], c_void_p))
 
 
 def numbers(first):
@@ -79,7 +79,7 @@ class Header(unittest.TestCase):
 
     def test_structs(self):
         structs = {"zax_row": RawRow, "zax_outcome": RawOutcome, "zax_error": RawError, "zax_slice": RawSlice, "zax_own": RawOwn}
-        structs.update({"zax_extension": RawExtension})
+        structs.update({"zax_extension": RawExtension, "zax_rid": RawRid, "zax_layer": RawLayer})
         for struct, raw in structs.items():
             self.assertEqual(list(raw._fields_), list(fields(struct)))
 

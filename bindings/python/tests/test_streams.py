@@ -1,7 +1,7 @@
 """What sections say of streams. What is expected is worked out by hand from scripts/c_tests/streams.sdp, by docs/SECTIONS.md."""
 import unittest
 
-from zaxmonth import ClosedError, Extension, Msid, SectionError, SessionDescription
+from zaxmonth import ClosedError, Direction, Extension, Layer, Msid, Rid, SectionError, SessionDescription
 
 from . import OFFER, TOP
 
@@ -11,7 +11,7 @@ STREAMS = (TOP / "scripts" / "c_tests" / "streams.sdp").read_bytes()
 class Streams(unittest.TestCase):
     def setUp(self):
         self.read = SessionDescription.read(STREAMS)
-        self.calls = (self.read.msid, self.read.extensions)
+        self.calls = (self.read.msid, self.read.extensions, self.read.rids, self.read.layers)
 
     def test_msid(self):
         self.assertEqual(self.read.msid(0), Msid("stream", "track one"))
@@ -22,6 +22,16 @@ class Streams(unittest.TestCase):
         uris = {3: "urn:ietf:params:rtp-hdrext:sdes:mid", 14: "urn:ietf:params:rtp-hdrext:sdes:rtp-stream-id", 255: "urn:x"}
         self.assertEqual(self.read.extensions(0), [Extension(*it) for it in uris.items()])
         self.assertEqual(self.read.extensions(1), [])
+
+    def test_rids(self):
+        hi, lo = Rid("hi", Direction.SENDONLY, ""), Rid("lo", Direction.SENDONLY, "pt=96,97;max-width=320;max-fps=15")
+        self.assertEqual(self.read.rids(0), [hi, lo, Rid("back", Direction.RECVONLY, "max-height=90")])
+        self.assertEqual(self.read.rids(1), [])
+
+    def test_layers(self):
+        sent = [Layer("hi", Direction.SENDONLY, False), Layer("lo", Direction.SENDONLY, True)]
+        self.assertEqual(self.read.layers(0), [*sent, Layer("back", Direction.RECVONLY, False)])
+        self.assertEqual(self.read.layers(1), [])
 
     def test_a_section_that_is_not_there(self):
         for call in self.calls:

@@ -30,12 +30,12 @@ from ._errors import (
     UnreadLine,
     Utf8Error,
 )
-from ._exchange import DataChannels, Direction, Exchange, MediaKind, OwnSide, SignalingState, VersionedDescription
+from ._exchange import DataChannels, Exchange, MediaKind, OwnSide, SignalingState, VersionedDescription
 from ._findings import Finding, findings
 from ._handles import Configuration, SessionDescription
 from ._library import ABI, library_version
 from ._rows import Cause, Codec, Feedback, Outcome, Row
-from ._streams import Extension, Msid
+from ._streams import Direction, Extension, Layer, Msid, Rid
 
 __version__ = "0.1.0"
 __all__ = [
@@ -52,6 +52,7 @@ __all__ = [
     "Extension",
     "Feedback",
     "Finding",
+    "Layer",
     "MediaKind",
     "Msid",
     "NoChannels",
@@ -63,6 +64,7 @@ __all__ = [
     "OwnSide",
     "OwnSideError",
     "ParseError",
+    "Rid",
     "RoomError",
     "Row",
     "SectionError",

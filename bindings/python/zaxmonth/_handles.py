@@ -10,9 +10,9 @@ from ctypes import byref, c_char, c_size_t, c_void_p
 from typing import Any, Callable, Dict, List, NoReturn, Optional, SupportsIndex, Tuple, TypeVar, Union
 
 from ._errors import ArgumentError, ClosedError, SectionError, Status, Utf8Error, check
-from ._library import JSON, NO_TYPE, RawError, RawExtension, RawOutcome, RawRow, library
+from ._library import JSON, NO_TYPE, RawError, RawExtension, RawLayer, RawOutcome, RawRid, RawRow, library
 from ._rows import Codec, Outcome, Row
-from ._streams import Extension, Msid
+from ._streams import Extension, Layer, Msid, Rid
 
 Text = Union[str, bytes, bytearray, memoryview]
 _Self = TypeVar("_Self", bound="_Handle")
@@ -185,6 +185,16 @@ class SessionDescription(_Handle):
         """The header extensions of a section, in order. Raises SectionError."""
         calls = library.zax_section_extensions, (library.zax_extension_uri,)
         return self._items(Extension._of, RawExtension, *calls, _index(section))
+
+    def rids(self, section: SupportsIndex) -> List[Rid]:
+        """The streams of a section that may be restricted, in order. Raises SectionError."""
+        calls = library.zax_section_rids, (library.zax_rid_name, library.zax_rid_restrictions)
+        return self._items(Rid._of, RawRid, *calls, _index(section))
+
+    def layers(self, section: SupportsIndex) -> List[Layer]:
+        """The layers that a section sends, and then those that it receives, in order. Raises SectionError."""
+        calls = library.zax_section_layers, (library.zax_layer_name,)
+        return self._items(Layer._of, RawLayer, *calls, _index(section))
 
     def rows(self, section: SupportsIndex) -> List[Row]:
         """The rows of a section. Raises SectionError."""

@@ -22,6 +22,14 @@ class RawExtension(Structure):
     _fields_ = [("id", c_uint8), ("reserved", c_uint8 * 3)]
 
 
+class RawRid(Structure):
+    _fields_ = [("direction", c_uint8), ("reserved", c_uint8 * 3)]
+
+
+class RawLayer(Structure):
+    _fields_ = [("direction", c_uint8), ("paused", c_uint8), ("reserved", c_uint8 * 2)]
+
+
 class RawOutcome(Structure):
     _fields_ = [("cause", c_uint8), ("pt", c_uint8)]
 
@@ -63,6 +71,11 @@ _CALLS = {
     "zax_section_msid": (c_uint32, (_HANDLE, _INDEX, *_ROOM)),
     "zax_section_extensions": (c_uint32, (_HANDLE, _INDEX, *_ROOM)),
     "zax_extension_uri": (c_uint32, (_HANDLE, _INDEX, _INDEX, *_ROOM)),
+    "zax_section_rids": (c_uint32, (_HANDLE, _INDEX, *_ROOM)),
+    "zax_rid_name": (c_uint32, (_HANDLE, _INDEX, _INDEX, *_ROOM)),
+    "zax_rid_restrictions": (c_uint32, (_HANDLE, _INDEX, _INDEX, *_ROOM)),
+    "zax_section_layers": (c_uint32, (_HANDLE, _INDEX, *_ROOM)),
+    "zax_layer_name": (c_uint32, (_HANDLE, _INDEX, _INDEX, *_ROOM)),
     "zax_rows": (c_uint32, (_HANDLE, _INDEX, *_ROOM)),
     "zax_row_codec": (c_uint32, (_HANDLE, _INDEX, _INDEX, *_ROOM)),
     "zax_row_fmtp": (c_uint32, (_HANDLE, _INDEX, _INDEX, *_ROOM)),

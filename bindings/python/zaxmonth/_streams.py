@@ -1,10 +1,20 @@
 """What a section says of streams, as values."""
 from __future__ import annotations
 
+import enum
 from dataclasses import dataclass
 from typing import Optional
 
-from ._library import RawExtension
+from ._library import RawExtension, RawLayer, RawRid
+
+
+class Direction(enum.Enum):
+    """What a side is ready for in a section."""
+
+    SENDRECV = 0
+    SENDONLY = 1
+    RECVONLY = 2
+    INACTIVE = 3
 
 
 @dataclass(frozen=True)
@@ -29,3 +39,29 @@ class Extension:
     @classmethod
     def _of(cls, raw: RawExtension, uri: str) -> Extension:
         return cls(raw.id, uri)
+
+
+@dataclass(frozen=True)
+class Rid:
+    """A stream that may be restricted (RFC 8851)."""
+
+    name: str
+    direction: Direction  # SENDONLY or RECVONLY
+    restrictions: str  # "pt=96,97;max-width=320"; empty where it has none
+
+    @classmethod
+    def _of(cls, raw: RawRid, name: str, restrictions: str) -> Rid:
+        return cls(name, Direction(raw.direction), restrictions)
+
+
+@dataclass(frozen=True)
+class Layer:
+    """A layer of simulcast (RFC 8853)."""
+
+    name: str  # that of a rid
+    direction: Direction  # SENDONLY or RECVONLY
+    paused: bool
+
+    @classmethod
+    def _of(cls, raw: RawLayer, name: str) -> Layer:
+        return cls(name, Direction(raw.direction), bool(raw.paused))

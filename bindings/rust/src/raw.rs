@@ -44,6 +44,21 @@ pub struct Extension {
 }
 
 #[repr(C)]
+#[derive(Clone, Default)]
+pub struct Rid {
+    pub direction: u8,
+    pub reserved: [u8; 3],
+}
+
+#[repr(C)]
+#[derive(Clone, Default)]
+pub struct Layer {
+    pub direction: u8,
+    pub paused: u8,
+    pub reserved: [u8; 2],
+}
+
+#[repr(C)]
 pub struct Error {
     pub status: u32,
     pub line: u32,
@@ -60,6 +75,11 @@ extern "C" {
     pub fn zax_section_msid(session: *mut Session, section: usize, room: *mut u8, cap: usize, needed: *mut usize) -> u32;
     pub fn zax_section_extensions(session: *mut Session, section: usize, room: *mut Extension, cap: usize, needed: *mut usize) -> u32;
     pub fn zax_extension_uri(session: *mut Session, section: usize, extension: usize, room: *mut u8, cap: usize, needed: *mut usize) -> u32;
+    pub fn zax_section_rids(session: *mut Session, section: usize, room: *mut Rid, cap: usize, needed: *mut usize) -> u32;
+    pub fn zax_rid_name(session: *mut Session, section: usize, rid: usize, room: *mut u8, cap: usize, needed: *mut usize) -> u32;
+    pub fn zax_rid_restrictions(session: *mut Session, section: usize, rid: usize, room: *mut u8, cap: usize, needed: *mut usize) -> u32;
+    pub fn zax_section_layers(session: *mut Session, section: usize, room: *mut Layer, cap: usize, needed: *mut usize) -> u32;
+    pub fn zax_layer_name(session: *mut Session, section: usize, layer: usize, room: *mut u8, cap: usize, needed: *mut usize) -> u32;
     pub fn zax_rows(session: *mut Session, section: usize, room: *mut crate::Row, cap: usize, needed: *mut usize) -> u32;
     pub fn zax_row_codec(session: *mut Session, section: usize, row: usize, room: *mut u8, cap: usize, needed: *mut usize) -> u32;
     pub fn zax_row_fmtp(session: *mut Session, section: usize, row: usize, room: *mut u8, cap: usize, needed: *mut usize) -> u32;

@@ -1,5 +1,5 @@
 //! What a section says of streams.
-use crate::{filled, raw, text_of, Sdp, SdpError};
+use crate::{filled, raw, text_of, Direction, Sdp, SdpError};
 
 /// The ids of a stream and of a track in it (RFC 8830, section 2).
 #[derive(Clone, Debug, PartialEq, Eq)]
@@ -7,6 +7,34 @@ pub struct Msid {
     /// `-` for none.
     pub stream_id: String,
     pub track_id: String,
+}
+
+/// A stream that may be restricted (RFC 8851).
+#[derive(Clone, Debug, PartialEq, Eq)]
+pub struct Rid {
+    pub name: String,
+    /// `SendOnly` or `RecvOnly`.
+    pub direction: Direction,
+    /// `pt=96,97;max-width=320`; empty where it has none.
+    pub restrictions: String,
+}
+
+/// A layer of simulcast, by the name of a rid (RFC 8853).
+#[derive(Clone, Debug, PartialEq, Eq)]
+pub struct SimulcastLayer {
+    pub name: String,
+    pub active: bool,
+}
+
+/// The layers that are sent and received, in order.
+#[derive(Clone, Debug, Default, PartialEq, Eq)]
+pub struct Simulcast {
+    pub send: Vec<SimulcastLayer>,
+    pub recv: Vec<SimulcastLayer>,
+}
+
+fn way(direction: u8) -> Direction {
+    if direction == Direction::SendOnly as u8 { Direction::SendOnly } else { Direction::RecvOnly }
 }
 
 impl Sdp {
@@ -24,5 +52,30 @@ impl Sdp {
         let found = filled(|room, cap, needed| unsafe { raw::zax_section_extensions(session, section, room, cap, needed) })?;
         let uri = |i| filled(|room, cap, needed| unsafe { raw::zax_extension_uri(session, section, i, room, cap, needed) }).map(text_of);
         found.iter().enumerate().map(|(i, it)| Ok((it.id, uri(i)?))).collect()
+    }
+
+    /// The streams of a section that may be restricted, in order.
+    pub fn rids(&self, section: usize) -> Result<Vec<Rid>, SdpError> {
+        let session = self.0.as_ptr();
+        // SAFETY: as above.
+        let found = filled(|room, cap, needed| unsafe { raw::zax_section_rids(session, section, room, cap, needed) })?;
+        let name = |i| filled(|room, cap, needed| unsafe { raw::zax_rid_name(session, section, i, room, cap, needed) }).map(text_of);
+        let said = |i| filled(|room, cap, needed| unsafe { raw::zax_rid_restrictions(session, section, i, room, cap, needed) }).map(text_of);
+        let rid = |(i, it): (usize, &raw::Rid)| Ok(Rid { name: name(i)?, direction: way(it.direction), restrictions: said(i)? });
+        found.iter().enumerate().map(rid).collect()
+    }
+
+    /// The layers of a section; of several alternatives the first.
+    pub fn simulcast(&self, section: usize) -> Result<Simulcast, SdpError> {
+        let session = self.0.as_ptr();
+        // SAFETY: as above.
+        let found = filled(|room, cap, needed| unsafe { raw::zax_section_layers(session, section, room, cap, needed) })?;
+        let name = |i| filled(|room, cap, needed| unsafe { raw::zax_layer_name(session, section, i, room, cap, needed) }).map(text_of);
+        let mut layers = Simulcast::default();
+        for (i, it) in found.iter().enumerate() {
+            let layer = SimulcastLayer { name: name(i)?, active: it.paused == 0 };
+            if way(it.direction) == Direction::SendOnly { layers.send.push(layer) } else { layers.recv.push(layer) }
+        }
+        Ok(layers)
     }
 }

@@ -1,5 +1,5 @@
 //! What sections say of streams. What is expected is worked out by hand from scripts/c_tests/streams.sdp, by docs/SECTIONS.md.
-use zaxmonth::{Msid, Sdp, SdpError};
+use zaxmonth::{Direction, Msid, Rid, Sdp, SdpError, Simulcast, SimulcastLayer};
 
 const STREAMS: &str = include_str!("../../../scripts/c_tests/streams.sdp");
 const OFFER: &str = include_str!("../../../examples/chromium-audio-offer.sdp");
@@ -24,4 +24,22 @@ fn header_extensions() {
     assert_eq!(read.extmaps(0).unwrap(), [(3, mid.to_owned()), (14, rid.to_owned()), (255, "urn:x".to_owned())]);
     assert_eq!(read.extmaps(1), Ok(Vec::new()));
     assert_eq!(read.extmaps(2), Err(SdpError::NoSection));
+}
+
+#[test]
+fn restricted_streams() {
+    let read = Sdp::from_sdp_string(STREAMS).unwrap();
+    let rid = |name: &str, direction, said: &str| Rid { name: name.into(), direction, restrictions: said.into() };
+    let lo = rid("lo", Direction::SendOnly, "pt=96,97;max-width=320;max-fps=15");
+    assert_eq!(read.rids(0).unwrap(), [rid("hi", Direction::SendOnly, ""), lo, rid("back", Direction::RecvOnly, "max-height=90")]);
+    assert_eq!((read.rids(1), read.rids(2)), (Ok(Vec::new()), Err(SdpError::NoSection)));
+}
+
+#[test]
+fn layers_of_simulcast() {
+    let read = Sdp::from_sdp_string(STREAMS).unwrap();
+    let layer = |name: &str, active| SimulcastLayer { name: name.into(), active };
+    let layers = Simulcast { send: vec![layer("hi", true), layer("lo", false)], recv: vec![layer("back", true)] };
+    assert_eq!(read.simulcast(0), Ok(layers));
+    assert_eq!((read.simulcast(1), read.simulcast(2)), (Ok(Simulcast::default()), Err(SdpError::NoSection)));
 }

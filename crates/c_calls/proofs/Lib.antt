@@ -1,3 +1,4 @@
 pub mod LineTextsPassed
+pub mod LineTextsRid
 pub mod OfferCallsFilled
 pub mod SaidPutting

@@ -1,8 +1,10 @@
 -- What definitions and clauses cite of the crates below, passed on from one place. Declares nothing.
 pub use Rattle.c_json.specs.Description.{IsJsonText}
 pub use Rattle.c_parts.specs.Extension.{c_extensions}
+pub use Rattle.c_parts.specs.Layer.{c_layers}
 pub use Rattle.c_parts.specs.Parts.{IsFull}
 pub use Rattle.c_parts.specs.Reading.{RefusesReading}
+pub use Rattle.c_parts.specs.Rid.{c_rids}
 pub use Rattle.c_parts.specs.Row.{c_outcome, c_row, c_rows, codec_at, said_unless}
 pub use Rattle.c_parts.specs.Section.{c_section}
 pub use Rattle.c_parts.specs.Side.{RefusesBoth, RefusesOwn, SaysOwn, direction_numbered, kind_numbered, own_texts}
@@ -43,16 +45,19 @@ pub use Rattle.str0m_formats.specs.row.DefaultRows.{default_rows, enabled_rows, 
 pub use Rattle.str0m_formats.specs.row.KindRows.{kind_rows}
 pub use Rattle.str0m_formats.specs.row.PayloadParams.{new_row, types}
 pub use Rattle.str0m_formats.specs.row.PlainRow.{IsPlain}
-pub use Rattle.str0m_sdp.specs.Common.{distinct, first}
+pub use Rattle.str0m_sdp.specs.Common.{distinct, first, last}
 pub use Rattle.str0m_sdp.specs.attribute.Msid.{msid_text}
+pub use Rattle.str0m_sdp.specs.attribute.Rid.{pts_part, restrictions_part}
 pub use Rattle.str0m_sdp.specs.declared.attribute.MediaAttribute.{MediaAttribute}
 pub use Rattle.str0m_sdp.specs.declared.attribute.media_type.MediaType.{MediaType}
 pub use Rattle.str0m_sdp.specs.declared.attribute.msid.Msid.{Msid}
+pub use Rattle.str0m_sdp.specs.declared.attribute.simulcast.Simulcast.{Simulcast}
+pub use Rattle.str0m_sdp.specs.declared.attribute.simulcast.SimulcastLayer.{SimulcastLayer}
 pub use Rattle.str0m_sdp.specs.declared.section.media_line.MediaLine.{MediaLine}
 pub use Rattle.str0m_sdp.specs.declared.session.Sdp.{Sdp}
 pub use Rattle.str0m_sdp.specs.section.Consistency.{mid_of}
 pub use Rattle.str0m_sdp.specs.section.MadeSection.{made}
-pub use Rattle.str0m_sdp.specs.section.SectionAccessors.{msid_of}
+pub use Rattle.str0m_sdp.specs.section.SectionAccessors.{msid_of, simulcast_of}
 pub use Rattle.str0m_sdp.specs.section.SectionRows.{rows}
 pub use Rattle.str0m_sdp.specs.session.Candidates.{all_candidates, same_candidate}
 pub use Rattle.str0m_sdp.specs.session.PreferredFingerprint.{IsPreferred, sdp_fingerprints}

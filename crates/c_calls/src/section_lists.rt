@@ -1,13 +1,15 @@
 //! Calls that write what a section lists.
 
 ghost use Rattle.c_calls.specs.Common.{Of};
-ghost use Rattle.c_calls.specs.Prelude.{IsFull, c_extensions, c_rows};
+ghost use Rattle.c_calls.specs.Prelude.{IsFull, c_extensions, c_layers, c_rids, c_rows};
 ghost use Rattle.c_calls.specs.Said.{Says};
 ghost use Rattle.c_calls.specs.SectionCalls.{list_at};
 ghost use Rattle.std.specs.Prelude.{◌≡◌, Some};
 
 use crate::said::{NO_MEMORY, NO_SECTION, put};
 use c_parts::extension::SectionExtension;
+use c_parts::layer::SectionLayer;
+use c_parts::rid::SectionRid;
 use c_parts::row::Row;
 use c_parts::section_item::SectionItem;
 use c_parts::session_handle::SessionHandle;
@@ -91,4 +93,36 @@ pub extern "C" fn zaxp_session_extensions(
     ensures says { Of handle.old.inner (λ sdp. Says (list_at c_extensions sdp at) (room.old, needed.old) (result, room.new, needed.new)) }
 {
     list::<SectionExtension>(alloc, handle, at, room, needed)
+}
+
+/// The rid lines of a section.
+#[unsafe(no_mangle)]
+pub extern "C" fn zaxp_session_rids(
+    alloc: Global,
+    handle: &mut SessionHandle,
+    at: usize,
+    room: &mut [SectionRid],
+    needed: &mut usize,
+) -> u32
+    requires { IsFull handle.old.inner }
+    ensures same { handle.new.inner ≡ handle.old.inner }
+    ensures says { Of handle.old.inner (λ sdp. Says (list_at c_rids sdp at) (room.old, needed.old) (result, room.new, needed.new)) }
+{
+    list::<SectionRid>(alloc, handle, at, room, needed)
+}
+
+/// The layers that a section sends, and then those that it receives.
+#[unsafe(no_mangle)]
+pub extern "C" fn zaxp_session_layers(
+    alloc: Global,
+    handle: &mut SessionHandle,
+    at: usize,
+    room: &mut [SectionLayer],
+    needed: &mut usize,
+) -> u32
+    requires { IsFull handle.old.inner }
+    ensures same { handle.new.inner ≡ handle.old.inner }
+    ensures says { Of handle.old.inner (λ sdp. Says (list_at c_layers sdp at) (room.old, needed.old) (result, room.new, needed.new)) }
+{
+    list::<SectionLayer>(alloc, handle, at, room, needed)
 }

@@ -1,17 +1,17 @@
 //! Calls that write a text of a section.
 
 ghost use Rattle.c_calls.specs.Common.{Of};
-ghost use Rattle.c_calls.specs.Prelude.{IsFull, first, msid_of};
-ghost use Rattle.c_calls.specs.Said.{Says};
-ghost use Rattle.c_calls.specs.SectionTexts.{ids_text, section_text, text_at, text_numbered};
-ghost use Rattle.std.specs.Prelude.{◌≡◌, IfOk, Some, filter_map, string_bytes};
+ghost use Rattle.c_calls.specs.Prelude.{IsFull, first, last, msid_of, simulcast_of};
+ghost use Rattle.c_calls.specs.Said.{Puts, Says};
+ghost use Rattle.c_calls.specs.SectionTexts.{ids_text, layer_name, layers_both_ways, section_text, text_at, text_numbered};
+ghost use Rattle.std.specs.Prelude.{◌≡◌, ◌++◌, IfOk, Some, filter_map, option_copied, option_map, slice_get, string_bytes};
 
 use crate::line_texts::{LineText, put_line_text};
 use crate::row_calls::{RowText, put_section_row_text};
 use crate::said::{NO_MEMORY, NO_SECTION, put};
 use c_parts::session_handle::SessionHandle;
 use std::alloc::{AllocError, Global};
-use str0m_signal::{MediaLine, Sdp};
+use str0m_signal::{MediaLine, Sdp, Simulcast, SimulcastLayer};
 
 /// What a call writes of a section.
 #[derive(Clone, Copy)]
@@ -22,6 +22,8 @@ pub(crate) enum SectionText {
     Msid,
     /// What a line says, among those that say it.
     Line(LineText),
+    /// The name of a layer.
+    Layer,
 }
 
 /// Which of them a number is.
@@ -32,7 +34,10 @@ fn text_numbered(number: u8) -> SectionText
         0 => SectionText::Row(RowText::Codec),
         1 => SectionText::Row(RowText::Format),
         2 => SectionText::Msid,
-        _ => SectionText::Line(LineText::Uri),
+        3 => SectionText::Line(LineText::Uri),
+        4 => SectionText::Line(LineText::RidName),
+        5 => SectionText::Line(LineText::Restrictions),
+        _ => SectionText::Layer,
     }
 }
 
@@ -55,6 +60,35 @@ fn put_ids(alloc: Global, section: &MediaLine, room: &mut [u8], needed: &mut usi
     }
 }
 
+/// The layer at an index: those that are sent are counted first.
+fn layer_at(simulcast: &Simulcast, index: usize) -> Option<&SimulcastLayer>
+    ensures { option_copied result ≡ slice_get (simulcast.now.send.0 ++ simulcast.now.recv.0) index }
+{
+    let (sent, received) = (&simulcast.send.0, &simulcast.recv.0);
+    let sent = sent.as_slice().iter();
+    sent.chain(received.as_slice().iter()).nth(index)
+}
+
+fn put_name(simulcast: &Simulcast, index: usize, room: &mut [u8], needed: &mut usize) -> u32
+    ensures { Puts (option_map layer_name (slice_get (layers_both_ways (Some simulcast.now)) index)) (room.old, needed.old) (result, room.new, needed.new) }
+{
+    match layer_at(simulcast, index) {
+        Some(layer) => put(layer.restriction_id.0.as_str().as_bytes(), room, needed),
+        None => NO_SECTION,
+    }
+}
+
+fn put_layer_name(section: &MediaLine, index: usize, room: &mut [u8], needed: &mut usize) -> u32
+    ensures { Says (option_map layer_name (slice_get (layers_both_ways (last (filter_map simulcast_of section.now.attrs))) index))
+        (room.old, needed.old) (result, room.new, needed.new) }
+{
+    match section.simulcast() {
+        Ok(Some(simulcast)) => put_name(&simulcast, index, room, needed),
+        Ok(None) => NO_SECTION,
+        Err(_) => NO_MEMORY,
+    }
+}
+
 fn put_section_text(
     alloc: Global,
     section: &MediaLine,
@@ -68,13 +102,11 @@ fn put_section_text(
     match what {
         SectionText::Row(text) => put_section_row_text(alloc, section, index, text, room, needed),
         SectionText::Msid => put_ids(alloc, section, room, needed),
-        SectionText::Line(text) => put_line_text(
-            section.attrs.as_slice(),
-            index,
-            text,
-            room,
-            needed,
-        ),
+        SectionText::Line(text) => {
+            let lines = section.attrs.as_slice();
+            put_line_text(alloc, lines, index, text, room, needed)
+        }
+        SectionText::Layer => put_layer_name(section, index, room, needed),
     }
 }
 

@@ -2,8 +2,10 @@ pub mod ConfigHandle
 pub mod ExchangeHandle
 pub mod Extension
 pub mod Fault
+pub mod Layer
 pub mod Parts
 pub mod Reading
+pub mod Rid
 pub mod Room
 pub mod Row
 pub mod Section

@@ -5,8 +5,10 @@
 //! - `exchange_handle`: One side of an exchange of offers and answers on the heap, as C holds it.
 //! - `extension`: Header extensions as C holds them.
 //! - `fault`: Why a call of an exchange of offers and answers is refused.
+//! - `layer`: Layers of simulcast as C holds them.
 //! - `parts`: A box as its pointer and its allocator.
 //! - `reading`: A text that C gives, read.
+//! - `rid`: Streams that may be restricted, as C holds them.
 //! - `room`: Texts and lists that go into room which the caller gives.
 //! - `row`: Rows and outcomes as C holds them.
 //! - `section`: Sections as C holds them.
@@ -19,8 +21,10 @@ pub mod config_handle;
 pub mod exchange_handle;
 pub mod extension;
 pub mod fault;
+pub mod layer;
 mod parts;
 pub mod reading;
+pub mod rid;
 pub mod room;
 pub mod row;
 pub mod section;

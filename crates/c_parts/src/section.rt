@@ -38,7 +38,7 @@ fn protocol_of(proto: Proto) -> u8
     }
 }
 
-fn direction_of(direction: Direction) -> u8
+pub(crate) fn direction_of(direction: Direction) -> u8
     ensures { result ≡ direction_number direction }
 {
     match direction {
