@@ -12,7 +12,10 @@ struct handle {
 };
 
 /* The texts of a section, of which the first two are those of a row. */
-enum section_text { ROW_CODEC, ROW_FORMAT, SECTION_MSID, EXTENSION_URI, RID_NAME, RID_RESTRICTIONS, LAYER_NAME };
+enum section_text {
+    ROW_CODEC, ROW_FORMAT, SECTION_MSID, EXTENSION_URI, RID_NAME, RID_RESTRICTIONS, LAYER_NAME, SOURCE_CNAME, SOURCE_STREAM, SOURCE_TRACK,
+    GROUP_SEMANTICS
+};
 
 uint32_t zaxp_session_read(const uint8_t *text, size_t text_length, struct handle *handle, size_t *unread, uint8_t *message,
                            size_t message_cap, size_t *message_length);
@@ -24,6 +27,8 @@ uint32_t zaxp_session_rows(struct handle *handle, size_t at, zax_row *room, size
 uint32_t zaxp_session_extensions(struct handle *handle, size_t at, zax_extension *room, size_t room_cap, size_t *needed);
 uint32_t zaxp_session_rids(struct handle *handle, size_t at, zax_rid *room, size_t room_cap, size_t *needed);
 uint32_t zaxp_session_layers(struct handle *handle, size_t at, zax_layer *room, size_t room_cap, size_t *needed);
+uint32_t zaxp_session_sources(struct handle *handle, size_t at, zax_source *room, size_t room_cap, size_t *needed);
+uint32_t zaxp_session_source_groups(struct handle *handle, size_t at, zax_group_source *room, size_t room_cap, size_t *needed);
 uint32_t zaxp_session_text(struct handle *handle, size_t at, uint8_t what, size_t index, uint8_t *room, size_t room_cap,
                            size_t *needed);
 uint32_t zaxp_session_json(struct handle *handle, uint8_t *room, size_t room_cap, size_t *needed);

@@ -220,6 +220,38 @@ zax_status zax_layer_name(zax_session *session, size_t section, size_t layer, ch
     return section_text(session, section, LAYER_NAME, layer, room, cap, needed);
 }
 
+zax_status zax_section_sources(zax_session *session, size_t section, zax_source *room, size_t cap, size_t *needed)
+{
+    BEGIN(session, room, cap, needed);
+    return (zax_status)zaxp_session_sources(&session->handle, section, ROOM(zax_source, room, cap), cap, needed);
+}
+
+zax_status zax_source_cname(zax_session *session, size_t section, size_t source, char *room, size_t cap, size_t *needed)
+{
+    return section_text(session, section, SOURCE_CNAME, source, room, cap, needed);
+}
+
+zax_status zax_source_stream(zax_session *session, size_t section, size_t source, char *room, size_t cap, size_t *needed)
+{
+    return section_text(session, section, SOURCE_STREAM, source, room, cap, needed);
+}
+
+zax_status zax_source_track(zax_session *session, size_t section, size_t source, char *room, size_t cap, size_t *needed)
+{
+    return section_text(session, section, SOURCE_TRACK, source, room, cap, needed);
+}
+
+zax_status zax_section_source_groups(zax_session *session, size_t section, zax_group_source *room, size_t cap, size_t *needed)
+{
+    BEGIN(session, room, cap, needed);
+    return (zax_status)zaxp_session_source_groups(&session->handle, section, ROOM(zax_group_source, room, cap), cap, needed);
+}
+
+zax_status zax_group_semantics(zax_session *session, size_t section, size_t group, char *room, size_t cap, size_t *needed)
+{
+    return section_text(session, section, GROUP_SEMANTICS, group, room, cap, needed);
+}
+
 zax_status zax_is_writable(zax_session *session, size_t section, int *writable)
 {
     bool answer = false;

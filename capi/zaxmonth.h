@@ -108,6 +108,21 @@ typedef struct zax_layer {
     uint8_t reserved[2];
 } zax_layer;
 
+/* A source of RTP packets (RFC 5576). */
+typedef struct zax_source {
+    uint32_t ssrc;
+    uint32_t repairs;  /* the source whose packets it sends again, by a group FID of both; 0 where it does so of none */
+    uint8_t is_repair; /* 0 or 1: whether it does */
+    uint8_t reserved[3];
+} zax_source;
+
+/* A source in a group (RFC 5576, section 4.2). */
+typedef struct zax_group_source {
+    size_t group; /* counted from 0 */
+    uint32_t ssrc;
+    uint32_t reserved;
+} zax_group_source;
+
 /* Where a call takes one, it may be NULL. */
 typedef struct zax_error {
     uint32_t status;   /* zax_status */
@@ -151,6 +166,15 @@ ZAX_API zax_status zax_rid_restrictions(zax_session *session, size_t section, si
  * them, counted from 0, which is that of a rid. */
 ZAX_API zax_status zax_section_layers(zax_session *session, size_t section, zax_layer *room, size_t cap, size_t *needed);
 ZAX_API zax_status zax_layer_name(zax_session *session, size_t section, size_t layer, char *room, size_t cap, size_t *needed);
+/* The sources of a section, in order; of one of them, counted from 0, the name of the endpoint that sends it, and the ids of its stream and
+ * its track; nothing where the section doesn't say them. */
+ZAX_API zax_status zax_section_sources(zax_session *session, size_t section, zax_source *room, size_t cap, size_t *needed);
+ZAX_API zax_status zax_source_cname(zax_session *session, size_t section, size_t source, char *room, size_t cap, size_t *needed);
+ZAX_API zax_status zax_source_stream(zax_session *session, size_t section, size_t source, char *room, size_t cap, size_t *needed);
+ZAX_API zax_status zax_source_track(zax_session *session, size_t section, size_t source, char *room, size_t cap, size_t *needed);
+/* The sources that a section groups, group by group, and what those of one of the groups have in common, as `FID`. */
+ZAX_API zax_status zax_section_source_groups(zax_session *session, size_t section, zax_group_source *room, size_t cap, size_t *needed);
+ZAX_API zax_status zax_group_semantics(zax_session *session, size_t section, size_t group, char *room, size_t cap, size_t *needed);
 /* Whether zax_answer may write into the section: `*writable` becomes 0 or 1. */
 ZAX_API zax_status zax_is_writable(zax_session *session, size_t section, int *writable);
 /* The credentials of ICE that the session says, else the first section that says both; nothing where none does. */

@@ -16,7 +16,14 @@ from proved import TOP
 CAPI = TOP / "capi"
 CALLS = TOP / "crates" / "c_calls"
 PARTS = TOP / "crates" / "c_parts"
-SECTION_ITEMS = {"Row": "zax_row", "SectionExtension": "zax_extension", "SectionRid": "zax_rid", "SectionLayer": "zax_layer"}
+SECTION_ITEMS = {
+    "Row": "zax_row",
+    "SectionExtension": "zax_extension",
+    "SectionRid": "zax_rid",
+    "SectionLayer": "zax_layer",
+    "SectionSource": "zax_source",
+    "SourceInGroup": "zax_group_source",
+}
 ITEMS = {"u8": "uint8_t", "Outcome": "zax_outcome", "&[u8]": "zax_slice", **SECTION_ITEMS}
 PLAIN = {"usize": "size_t", "u64": "uint64_t", "u32": "uint32_t", "u16": "uint16_t", "u8": "uint8_t", "bool": "bool"}
 HANDLES = {"SessionHandle": "session_handle", "ConfigHandle": "config_handle", "ExchangeHandle": "exchange_handle"}
@@ -28,6 +35,8 @@ STRUCTS = {
     "SectionExtension": ("zax_extension", "extension"),
     "SectionRid": ("zax_rid", "rid"),
     "SectionLayer": ("zax_layer", "layer"),
+    "SectionSource": ("zax_source", "source"),
+    "SourceInGroup": ("zax_group_source", "source_group"),
     "OwnNumbers": ("struct own_numbers", "side"),
 }
 # What each status of specs/Told.antt is in the header, each cause of a refused round, and the codecs whose name there isn't their own
@@ -76,6 +85,10 @@ TEXTS = {
     "RidName": "RID_NAME",
     "Restrictions": "RID_RESTRICTIONS",
     "Layer": "LAYER_NAME",
+    "Cname": "SOURCE_CNAME",
+    "Stream": "SOURCE_STREAM",
+    "Track": "SOURCE_TRACK",
+    "Semantics": "GROUP_SEMANTICS",
 }
 CODECS = {"Tele": "TELEPHONE_EVENT", "Null": "NULL_CODEC", "AmrWb": "AMR_WB", "other": "UNKNOWN"}
 

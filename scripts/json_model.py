@@ -143,6 +143,24 @@ def streams(lines):
         yield from (f"{WAYS[way]} {int(it.startswith('~'))} {it.removeprefix('~')}" for way, names in sides if way for it in names.split(";"))
 
 
+def sources(lines):
+    """What it is to print of a section's sources and their groups (RFC 5576): a group FID of two says that the second repairs the first."""
+    grouped = [(it[1], it[2].split(" ")) for it in (re.fullmatch(MEDIA["[ssrcGroups]"][0], line) for line in lines) if it]
+    described = [it.groups() for it in (re.fullmatch(MEDIA["[ssrcs]"][0], line) for line in lines) if it]
+    repaired = {pair[1]: pair[0] for kind, pair in grouped if kind.upper() == "FID" and len(pair) == 2}
+    for ssrc in dict.fromkeys([*(it[0] for it in described), *repaired]):
+        said = {name.lower(): value for of, name, value in described if of == ssrc}
+        ids = [ids_of(value) for of, name, value in described if of == ssrc and name.lower() == "msid"]
+        stream, track = ((pieces or [""])[-1] for pieces in ([it[0] for it in ids], [it[1] for it in ids if len(it) > 1]))
+        yield f"{ssrc} {repaired.get(ssrc, 0)} {int(ssrc in repaired)} [{said.get('cname', '')}] [{stream}] [{track}]"
+    yield from (f"{i} {kind} {ssrc}" for i, (kind, ssrcs) in enumerate(grouped) for ssrc in ssrcs)
+
+
+def ids_of(value):
+    """The id of a stream and, where a space stands behind it, that of its track; `-` is none."""
+    return ["" if it.strip() == "-" else it.strip() for it in value.split(" ")[:2]]
+
+
 def facts(text):
     """What `texts facts` is to print of a printed text: each section in numbers and with its streams, credentials, fingerprint, candidates."""
     parts = [[]]
@@ -158,6 +176,7 @@ def facts(text):
         numbers = KINDS.get(kind, 3), PROTOCOLS.index(protocol), DIRECTIONS.index(direction), SETUPS.index(setup), int(port == "0")
         yield " ".join(map(str, numbers))
         yield from streams(lines)
+        yield from sources(lines)
     pairs = ((said(lines, BOTH["iceUfrag"][0]), said(lines, BOTH["icePwd"][0])) for lines in parts)
     yield from next(((ufrags[0], pwds[0]) for ufrags, pwds in pairs if ufrags and pwds), ("", ""))
     hashes = next(filter(None, (said(lines, f"fingerprint:({HASH})") for lines in parts)), [""])

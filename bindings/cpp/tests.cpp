@@ -80,6 +80,16 @@ static void streams(const char *path)
     is("one that is paused", layers.at(1).paused, 1);
     is("the name of a layer", session.layer_name(0, 1), "lo");
     is("no rids and no layers", session.rids(1).size() + session.layers(1).size(), 0u);
+    const auto sources = session.sources(0);
+    is("sources", sources.size(), 3u);
+    is("what a source repairs", sources.at(2).repairs, 11u);
+    is("its endpoint", session.source_cname(0, 0), "end point");
+    is("its stream and its track", session.source_stream(0, 0) + " " + session.source_track(0, 0), "stream track");
+    const auto groups = session.source_groups(0);
+    is("sources in groups", groups.size(), 4u);
+    is("one in the second", groups.at(3).group * 100 + groups.at(3).ssrc, 112u);
+    is("what that is", session.group_semantics(0, 1), "SIM");
+    is("no sources", session.sources(1).size() + session.source_groups(1).size(), 0u);
     is("the streams of no section", thrown([&] { session.msid(2); }), ZAX_E_SECTION);
 }
 

@@ -90,6 +90,15 @@ class Session {
     std::string rid_restrictions(size_t section, size_t rid) const { return said<std::string>(zax_rid_restrictions, section, rid); }
     std::vector<zax_layer> layers(size_t section) const { return said<std::vector<zax_layer>>(zax_section_layers, section); }
     std::string layer_name(size_t section, size_t layer) const { return said<std::string>(zax_layer_name, section, layer); }
+    std::vector<zax_source> sources(size_t section) const { return said<std::vector<zax_source>>(zax_section_sources, section); }
+    std::string source_cname(size_t section, size_t source) const { return said<std::string>(zax_source_cname, section, source); }
+    std::string source_stream(size_t section, size_t source) const { return said<std::string>(zax_source_stream, section, source); }
+    std::string source_track(size_t section, size_t source) const { return said<std::string>(zax_source_track, section, source); }
+    std::vector<zax_group_source> source_groups(size_t section) const
+    {
+        return said<std::vector<zax_group_source>>(zax_section_source_groups, section);
+    }
+    std::string group_semantics(size_t section, size_t group) const { return said<std::string>(zax_group_semantics, section, group); }
     std::string json() const { return said<std::string>(zax_json); }
     zax_session *get() const { return handle_.get(); }
 

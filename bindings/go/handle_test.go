@@ -38,6 +38,8 @@ func callsOf(session *Session) map[string]error {
 	_, found["Extensions"] = session.Extensions(0)
 	_, found["Rids"] = session.Rids(0)
 	_, found["Layers"] = session.Layers(0)
+	_, found["Sources"] = session.Sources(0)
+	_, found["SourceGroups"] = session.SourceGroups(0)
 	_, found["Rows"] = session.Rows(0)
 	return found
 }
@@ -156,7 +158,7 @@ func TestNothingIsLeftBehind(t *testing.T) {
 			session, rows := read(t, from), config(t)
 			must[[]Outcome](t)(rows.Negotiate(from))
 			is(t, rows.Answer(session, 0), nil)
-			is(t, len(callsOf(session)), 9)
+			is(t, len(callsOf(session)), 11)
 			if closes {
 				session.Close()
 				rows.Close()

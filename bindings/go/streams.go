@@ -99,3 +99,72 @@ func (s *Session) Layers(section int) (found []Layer, err error) {
 	})
 	return found, err
 }
+
+// A Source is a source of RTP packets (RFC 5576). A text is empty where the section doesn't say it.
+type Source struct {
+	SSRC     uint32
+	Repairs  uint32 // the source whose packets it sends again, where IsRepair
+	IsRepair bool
+	CNAME    string // the name of the endpoint that sends it
+	Stream   string // the id of its stream
+	Track    string
+}
+
+func sourceOf(raw *C.zax_source, said []string) Source {
+	return Source{uint32(raw.ssrc), uint32(raw.repairs), raw.is_repair != 0, said[0], said[1], said[2]}
+}
+
+// Sources are the sources of a section, in order. Errors: ErrSection.
+func (s *Session) Sources(section int) (found []Source, err error) {
+	at := C.size_t(section)
+	err = s.handle.use(func(it *C.zax_session) error {
+		found, err = itemsOf(
+			func(room *C.zax_source, size C.size_t, needed *C.size_t) C.zax_status {
+				return C.zax_section_sources(it, at, room, size, needed)
+			},
+			sourceOf,
+			func(i C.size_t, room *C.char, size C.size_t, needed *C.size_t) C.zax_status {
+				return C.zax_source_cname(it, at, i, room, size, needed)
+			},
+			func(i C.size_t, room *C.char, size C.size_t, needed *C.size_t) C.zax_status {
+				return C.zax_source_stream(it, at, i, room, size, needed)
+			},
+			func(i C.size_t, room *C.char, size C.size_t, needed *C.size_t) C.zax_status {
+				return C.zax_source_track(it, at, i, room, size, needed)
+			})
+		return err
+	})
+	return found, err
+}
+
+// A SourceGroup is sources that belong together (RFC 5576, section 4.2).
+type SourceGroup struct {
+	Semantics string // what they have in common, as "FID"
+	SSRCs     []uint32
+}
+
+// SourceGroups are the groups of a section's sources, in order. Errors: ErrSection.
+func (s *Session) SourceGroups(section int) (found []SourceGroup, err error) {
+	at := C.size_t(section)
+	err = s.handle.use(func(it *C.zax_session) error {
+		semantics := itemText(func(i C.size_t, room *C.char, size C.size_t, needed *C.size_t) C.zax_status {
+			return C.zax_group_semantics(it, at, i, room, size, needed)
+		})
+		members, err := filled(128, func(room *C.zax_group_source, size C.size_t, needed *C.size_t) C.zax_status {
+			return C.zax_section_source_groups(it, at, room, size, needed)
+		})
+		for i, member := range members {
+			if i == 0 || member.group != members[i-1].group {
+				said, err := semantics.of(int(member.group))
+				if err != nil {
+					return err
+				}
+				found = append(found, SourceGroup{Semantics: said})
+			}
+			group := &found[len(found)-1]
+			group.SSRCs = append(group.SSRCs, uint32(member.ssrc))
+		}
+		return err
+	})
+	return found, err
+}

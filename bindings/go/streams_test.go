@@ -41,6 +41,22 @@ func TestLayers(t *testing.T) {
 	is(t, must[[]Layer](t)(session.Layers(1)), []Layer{})
 }
 
+func TestSources(t *testing.T) {
+	session := streams(t)
+	is(t, must[[]Source](t)(session.Sources(0)), []Source{
+		{11, 0, false, "end point", "stream", "track"},
+		{12, 0, false, "other", "", ""},
+		{4294967295, 11, true, "", "", ""},
+	})
+	is(t, must[[]Source](t)(session.Sources(1)), []Source{})
+}
+
+func TestSourceGroups(t *testing.T) {
+	session := streams(t)
+	is(t, must[[]SourceGroup](t)(session.SourceGroups(0)), []SourceGroup{{"FID", []uint32{11, 4294967295}}, {"SIM", []uint32{11, 12}}})
+	is(t, len(must[[]SourceGroup](t)(session.SourceGroups(1))), 0)
+}
+
 func TestStreamsOfASectionThatIsNotThere(t *testing.T) {
 	session := streams(t)
 	for _, section := range []int{2, 99, -1, 1 << 62, -1 << 63} {
@@ -48,7 +64,9 @@ func TestStreamsOfASectionThatIsNotThere(t *testing.T) {
 		_, ofExtensions := session.Extensions(section)
 		_, ofRids := session.Rids(section)
 		_, ofLayers := session.Layers(section)
-		for _, err := range []error{ofMsid, ofExtensions, ofRids, ofLayers} {
+		_, ofSources := session.Sources(section)
+		_, ofGroups := session.SourceGroups(section)
+		for _, err := range []error{ofMsid, ofExtensions, ofRids, ofLayers, ofSources, ofGroups} {
 			is(t, errors.Is(err, ErrSection), true)
 		}
 	}

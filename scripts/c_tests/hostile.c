@@ -55,6 +55,14 @@ static zax_status without_types(void *s, void *room, size_t cap, size_t *needed)
 static zax_status layers(void *s, void *room, size_t cap, size_t *needed) { return zax_section_layers(s, 0, room, cap, needed); }
 static zax_status layer(void *s, void *room, size_t cap, size_t *needed) { return zax_layer_name(s, 0, 1, room, cap, needed); }
 static zax_status last_layer(void *s, void *room, size_t cap, size_t *needed) { return zax_layer_name(s, 0, 2, room, cap, needed); }
+static zax_status sources(void *s, void *room, size_t cap, size_t *needed) { return zax_section_sources(s, 0, room, cap, needed); }
+static zax_status cname(void *s, void *room, size_t cap, size_t *needed) { return zax_source_cname(s, 0, 0, room, cap, needed); }
+static zax_status stream(void *s, void *room, size_t cap, size_t *needed) { return zax_source_stream(s, 0, 0, room, cap, needed); }
+static zax_status track(void *s, void *room, size_t cap, size_t *needed) { return zax_source_track(s, 0, 0, room, cap, needed); }
+static zax_status second_cname(void *s, void *room, size_t cap, size_t *needed) { return zax_source_cname(s, 0, 1, room, cap, needed); }
+static zax_status no_stream(void *s, void *room, size_t cap, size_t *needed) { return zax_source_stream(s, 0, 1, room, cap, needed); }
+static zax_status groups(void *s, void *room, size_t cap, size_t *needed) { return zax_section_source_groups(s, 0, room, cap, needed); }
+static zax_status semantics(void *s, void *room, size_t cap, size_t *needed) { return zax_group_semantics(s, 0, 1, room, cap, needed); }
 static zax_status rows(void *s, void *room, size_t cap, size_t *needed) { return zax_rows(s, 0, room, cap, needed); }
 static zax_status fmtp(void *s, void *room, size_t cap, size_t *needed) { return zax_row_fmtp(s, 0, 0, room, cap, needed); }
 static zax_status codec(void *s, void *room, size_t cap, size_t *needed) { return zax_row_codec(s, 0, 0, room, cap, needed); }
@@ -346,6 +354,57 @@ static void layered(zax_session *session)
     IS(zax_section_layers(session, 2, found, 4, &got), ZAX_E_SECTION);
 }
 
+/* The sources of a section: the last has no line of its own, but repairs the first. */
+static void described(zax_session *session)
+{
+    zax_source found[4];
+    size_t got;
+    rooms(sources, session, sizeof(zax_source));
+    IS(zax_section_sources(session, 0, found, 4, &got), ZAX_OK);
+    IS(got, 3);
+    IS(found[0].ssrc == 11 && found[1].ssrc == 12 && found[2].ssrc == 4294967295, 1);
+    IS(found[0].is_repair == 0 && found[1].is_repair == 0 && found[2].is_repair == 1, 1);
+    IS(found[0].repairs == 0 && found[1].repairs == 0 && found[2].repairs == 11, 1);
+    IS(found[0].reserved[0] | found[1].reserved[1] | found[2].reserved[2], 0);
+    rooms(cname, session, 1);
+    says(cname, session, "end point");
+    rooms(stream, session, 1);
+    says(stream, session, "stream");
+    rooms(track, session, 1);
+    says(track, session, "track");
+    says(second_cname, session, "other");
+    rooms(no_stream, session, 1);
+    says(no_stream, session, "");
+    IS(zax_source_cname(session, 0, 2, NULL, 0, &got), ZAX_OK);
+    IS(zax_source_cname(session, 0, 3, NULL, 0, &got), ZAX_E_SECTION);
+    IS(zax_source_stream(session, 0, (size_t)-1, NULL, 0, &got), ZAX_E_SECTION);
+    IS(zax_source_track(session, 2, 0, NULL, 0, &got), ZAX_E_SECTION);
+    IS(zax_section_sources(session, 1, NULL, 0, &got), ZAX_OK);
+    IS(got, 0);
+    IS(zax_section_sources(session, 2, found, 4, &got), ZAX_E_SECTION);
+}
+
+/* The groups of a section's sources. */
+static void grouped(zax_session *session)
+{
+    zax_group_source found[8];
+    size_t got;
+    rooms(groups, session, sizeof(zax_group_source));
+    IS(zax_section_source_groups(session, 0, found, 8, &got), ZAX_OK);
+    IS(got, 4);
+    IS(found[0].group == 0 && found[1].group == 0 && found[2].group == 1 && found[3].group == 1, 1);
+    IS(found[0].ssrc == 11 && found[1].ssrc == 4294967295 && found[2].ssrc == 11 && found[3].ssrc == 12, 1);
+    IS(found[0].reserved | found[3].reserved, 0);
+    rooms(semantics, session, 1);
+    says(semantics, session, "SIM");
+    IS(zax_group_semantics(session, 0, 2, NULL, 0, &got), ZAX_E_SECTION);
+    IS(zax_group_semantics(session, 0, (size_t)-1, NULL, 0, &got), ZAX_E_SECTION);
+    IS(zax_group_semantics(session, 1, 0, NULL, 0, &got), ZAX_E_SECTION);
+    IS(zax_section_source_groups(session, 1, NULL, 0, &got), ZAX_OK);
+    IS(got, 0);
+    IS(zax_section_source_groups(session, 2, found, 8, &got), ZAX_E_SECTION);
+}
+
 /* What a section says of streams; the second says nothing of them, and there is no third. */
 static void streams(const char *said, size_t size)
 {
@@ -362,6 +421,8 @@ static void streams(const char *said, size_t size)
     extended(session);
     restrictions(session);
     layered(session);
+    described(session);
+    grouped(session);
     zax_session_free(session);
 }
 

@@ -13,6 +13,8 @@ static zax_row rows[128], rows_before[128], rows_after[128];
 static zax_extension extensions[8];
 static zax_rid rids[8];
 static zax_layer layers[8];
+static zax_source sources[8];
+static zax_group_source groups[8];
 static size_t length, streams_length;
 static long wrong;
 
@@ -84,6 +86,12 @@ static int asked(void)
     ASKS(session, zax_rid_restrictions(session, 0, 1, room, sizeof room, &count));
     ASKS(session, zax_section_layers(session, 0, layers, 8, &count));
     ASKS(session, zax_layer_name(session, 0, 1, room, sizeof room, &count));
+    ASKS(session, zax_section_sources(session, 0, sources, 8, &count));
+    ASKS(session, zax_source_cname(session, 0, 0, room, sizeof room, &count));
+    ASKS(session, zax_source_stream(session, 0, 0, room, sizeof room, &count));
+    ASKS(session, zax_source_track(session, 0, 0, room, sizeof room, &count));
+    ASKS(session, zax_section_source_groups(session, 0, groups, 8, &count));
+    ASKS(session, zax_group_semantics(session, 0, 0, room, sizeof room, &count));
 end:
     zax_session_free(session);
     return status;

@@ -10,6 +10,8 @@ static zax_row rows[4096];
 static zax_extension extensions[4096];
 static zax_rid rids[4096];
 static zax_layer layers[4096];
+static zax_source sources[4096];
+static zax_group_source groups[4096];
 
 static void must(zax_status status)
 {
@@ -87,6 +89,28 @@ static void show_streams(zax_session *session, size_t at)
     }
 }
 
+typedef zax_status item_text(zax_session *, size_t section, size_t item, char *room, size_t cap, size_t *needed);
+
+static void show_sources(zax_session *session, size_t at)
+{
+    static item_text *const texts[] = {zax_source_cname, zax_source_stream, zax_source_track};
+    size_t count, said;
+    must(zax_section_sources(session, at, sources, 4096, &count));
+    for (size_t i = 0; i < count; i++) {
+        printf("%u %u %d", sources[i].ssrc, sources[i].repairs, sources[i].is_repair);
+        for (size_t j = 0; j < 3; j++) {
+            must(texts[j](session, at, i, room, sizeof room, &said));
+            printf(" [%.*s]", (int)said, room);
+        }
+        printf("\n");
+    }
+    must(zax_section_source_groups(session, at, groups, 4096, &count));
+    for (size_t i = 0; i < count; i++) {
+        must(zax_group_semantics(session, at, groups[i].group, room, sizeof room, &said));
+        printf("%zu %.*s %u\n", groups[i].group, (int)said, room, groups[i].ssrc);
+    }
+}
+
 /* Each section in numbers and with its streams, the credentials of ICE, the fingerprint, and the candidates. */
 static void show_facts(zax_session *session)
 {
@@ -96,6 +120,7 @@ static void show_facts(zax_session *session)
         must(zax_section_info(session, at, &info));
         printf("%d %d %d %d %d\n", info.kind, info.protocol, info.direction, info.setup, info.disabled);
         show_streams(session, at);
+        show_sources(session, at);
     }
     show_text(zax_ice_ufrag, session);
     show_text(zax_ice_pwd, session);

@@ -4,7 +4,7 @@ import unittest
 from ctypes import POINTER, c_char, c_char_p, c_int, c_size_t, c_uint8, c_uint16, c_uint32, c_uint64, c_void_p
 
 from zaxmonth import ABI, Cause, Codec, Direction, Feedback, MediaKind, SignalingState, Status
-from zaxmonth._library import _CALLS, NO_TYPE, RawError, RawExtension, RawLayer, RawOutcome, RawOwn, RawRid, RawRow, RawSlice
+from zaxmonth._library import _CALLS, NO_TYPE, RawError, RawExtension, RawGroupSource, RawLayer, RawOutcome, RawOwn, RawRid, RawRow, RawSlice, RawSource
 
 from . import TOP
 
@@ -35,7 +35,7 @@ KINDS = {
     "zax_config **": POINTER(c_void_p),
     "zax_exchange **": POINTER(c_void_p),
 }
-HANDLES, ITEMS = ("session", "config", "exchange"), ("row", "outcome", "section", "extension", "rid", "layer")
+HANDLES, ITEMS = ("session", "config", "exchange"), ("row", "outcome", "section", "extension", "rid", "layer", "source", "group_source")
 KINDS.update(dict.fromkeys(["char *", *(f"zax_{it} *" for it in HANDLES + ITEMS)], c_void_p))
 
 
@@ -79,7 +79,8 @@ class Header(unittest.TestCase):
 
     def test_structs(self):
         structs = {"zax_row": RawRow, "zax_outcome": RawOutcome, "zax_error": RawError, "zax_slice": RawSlice, "zax_own": RawOwn}
-        structs.update({"zax_extension": RawExtension, "zax_rid": RawRid, "zax_layer": RawLayer})
+        structs.update({"zax_extension": RawExtension, "zax_rid": RawRid, "zax_layer": RawLayer, "zax_source": RawSource})
+        structs.update({"zax_group_source": RawGroupSource})
         for struct, raw in structs.items():
             self.assertEqual(list(raw._fields_), list(fields(struct)))
 

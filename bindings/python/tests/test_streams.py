@@ -1,7 +1,7 @@
 """What sections say of streams. What is expected is worked out by hand from scripts/c_tests/streams.sdp, by docs/SECTIONS.md."""
 import unittest
 
-from zaxmonth import ClosedError, Direction, Extension, Layer, Msid, Rid, SectionError, SessionDescription
+from zaxmonth import ClosedError, Direction, Extension, Layer, Msid, Rid, SectionError, SessionDescription, Source, SourceGroup
 
 from . import OFFER, TOP
 
@@ -11,7 +11,8 @@ STREAMS = (TOP / "scripts" / "c_tests" / "streams.sdp").read_bytes()
 class Streams(unittest.TestCase):
     def setUp(self):
         self.read = SessionDescription.read(STREAMS)
-        self.calls = (self.read.msid, self.read.extensions, self.read.rids, self.read.layers)
+        read = self.read
+        self.calls = (read.msid, read.extensions, read.rids, read.layers, read.sources, read.source_groups)
 
     def test_msid(self):
         self.assertEqual(self.read.msid(0), Msid("stream", "track one"))
@@ -32,6 +33,15 @@ class Streams(unittest.TestCase):
         sent = [Layer("hi", Direction.SENDONLY, False), Layer("lo", Direction.SENDONLY, True)]
         self.assertEqual(self.read.layers(0), [*sent, Layer("back", Direction.RECVONLY, False)])
         self.assertEqual(self.read.layers(1), [])
+
+    def test_sources(self):
+        described = [Source(11, None, "end point", "stream", "track"), Source(12, None, "other", "", "")]
+        self.assertEqual(self.read.sources(0), [*described, Source(4294967295, 11, "", "", "")])
+        self.assertEqual(self.read.sources(1), [])
+
+    def test_source_groups(self):
+        self.assertEqual(self.read.source_groups(0), [SourceGroup("FID", (11, 4294967295)), SourceGroup("SIM", (11, 12))])
+        self.assertEqual(self.read.source_groups(1), [])
 
     def test_a_section_that_is_not_there(self):
         for call in self.calls:

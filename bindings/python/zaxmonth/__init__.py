@@ -35,7 +35,7 @@ from ._findings import Finding, findings
 from ._handles import Configuration, SessionDescription
 from ._library import ABI, library_version
 from ._rows import Cause, Codec, Feedback, Outcome, Row
-from ._streams import Direction, Extension, Layer, Msid, Rid
+from ._streams import Direction, Extension, Layer, Msid, Rid, Source, SourceGroup
 
 __version__ = "0.1.0"
 __all__ = [
@@ -70,6 +70,8 @@ __all__ = [
     "SectionError",
     "SessionDescription",
     "SignalingState",
+    "Source",
+    "SourceGroup",
     "StateError",
     "Status",
     "UnfitSection",

@@ -10,9 +10,9 @@ from ctypes import byref, c_char, c_size_t, c_void_p
 from typing import Any, Callable, Dict, List, NoReturn, Optional, SupportsIndex, Tuple, TypeVar, Union
 
 from ._errors import ArgumentError, ClosedError, SectionError, Status, Utf8Error, check
-from ._library import JSON, NO_TYPE, RawError, RawExtension, RawLayer, RawOutcome, RawRid, RawRow, library
+from ._library import JSON, NO_TYPE, RawError, RawExtension, RawGroupSource, RawLayer, RawOutcome, RawRid, RawRow, RawSource, library
 from ._rows import Codec, Outcome, Row
-from ._streams import Extension, Layer, Msid, Rid
+from ._streams import Extension, Layer, Msid, Rid, Source, SourceGroup
 
 Text = Union[str, bytes, bytearray, memoryview]
 _Self = TypeVar("_Self", bound="_Handle")
@@ -195,6 +195,19 @@ class SessionDescription(_Handle):
         """The layers that a section sends, and then those that it receives, in order. Raises SectionError."""
         calls = library.zax_section_layers, (library.zax_layer_name,)
         return self._items(Layer._of, RawLayer, *calls, _index(section))
+
+    def sources(self, section: SupportsIndex) -> List[Source]:
+        """The sources of a section, in order. Raises SectionError."""
+        calls = library.zax_section_sources, (library.zax_source_cname, library.zax_source_stream, library.zax_source_track)
+        return self._items(Source._of, RawSource, *calls, _index(section))
+
+    def source_groups(self, section: SupportsIndex) -> List[SourceGroup]:
+        """The groups of a section's sources, in order. Raises SectionError."""
+        at, found = _index(section), {}
+        with self._lock:
+            for group, ssrc in self._items(lambda it: (it.group, it.ssrc), RawGroupSource, library.zax_section_source_groups, (), at):
+                found.setdefault(group, []).append(ssrc)
+            return [SourceGroup(self._text(library.zax_group_semantics, at, group), tuple(ssrcs)) for group, ssrcs in found.items()]
 
     def rows(self, section: SupportsIndex) -> List[Row]:
         """The rows of a section. Raises SectionError."""

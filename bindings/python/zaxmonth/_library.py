@@ -30,6 +30,14 @@ class RawLayer(Structure):
     _fields_ = [("direction", c_uint8), ("paused", c_uint8), ("reserved", c_uint8 * 2)]
 
 
+class RawSource(Structure):
+    _fields_ = [("ssrc", c_uint32), ("repairs", c_uint32), ("is_repair", c_uint8), ("reserved", c_uint8 * 3)]
+
+
+class RawGroupSource(Structure):
+    _fields_ = [("group", c_size_t), ("ssrc", c_uint32), ("reserved", c_uint32)]
+
+
 class RawOutcome(Structure):
     _fields_ = [("cause", c_uint8), ("pt", c_uint8)]
 
@@ -76,6 +84,12 @@ _CALLS = {
     "zax_rid_restrictions": (c_uint32, (_HANDLE, _INDEX, _INDEX, *_ROOM)),
     "zax_section_layers": (c_uint32, (_HANDLE, _INDEX, *_ROOM)),
     "zax_layer_name": (c_uint32, (_HANDLE, _INDEX, _INDEX, *_ROOM)),
+    "zax_section_sources": (c_uint32, (_HANDLE, _INDEX, *_ROOM)),
+    "zax_source_cname": (c_uint32, (_HANDLE, _INDEX, _INDEX, *_ROOM)),
+    "zax_source_stream": (c_uint32, (_HANDLE, _INDEX, _INDEX, *_ROOM)),
+    "zax_source_track": (c_uint32, (_HANDLE, _INDEX, _INDEX, *_ROOM)),
+    "zax_section_source_groups": (c_uint32, (_HANDLE, _INDEX, *_ROOM)),
+    "zax_group_semantics": (c_uint32, (_HANDLE, _INDEX, _INDEX, *_ROOM)),
     "zax_rows": (c_uint32, (_HANDLE, _INDEX, *_ROOM)),
     "zax_row_codec": (c_uint32, (_HANDLE, _INDEX, _INDEX, *_ROOM)),
     "zax_row_fmtp": (c_uint32, (_HANDLE, _INDEX, _INDEX, *_ROOM)),

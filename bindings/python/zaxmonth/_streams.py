@@ -3,9 +3,9 @@ from __future__ import annotations
 
 import enum
 from dataclasses import dataclass
-from typing import Optional
+from typing import Optional, Tuple
 
-from ._library import RawExtension, RawLayer, RawRid
+from ._library import RawExtension, RawLayer, RawRid, RawSource
 
 
 class Direction(enum.Enum):
@@ -65,3 +65,26 @@ class Layer:
     @classmethod
     def _of(cls, raw: RawLayer, name: str) -> Layer:
         return cls(name, Direction(raw.direction), bool(raw.paused))
+
+
+@dataclass(frozen=True)
+class Source:
+    """A source of RTP packets (RFC 5576). A text is empty where the section doesn't say it."""
+
+    ssrc: int
+    repairs: Optional[int]  # the source whose packets it sends again
+    cname: str  # the name of the endpoint that sends it
+    stream: str  # the id of its stream
+    track: str
+
+    @classmethod
+    def _of(cls, raw: RawSource, cname: str, stream: str, track: str) -> Source:
+        return cls(raw.ssrc, raw.repairs if raw.is_repair else None, cname, stream, track)
+
+
+@dataclass(frozen=True)
+class SourceGroup:
+    """Sources that belong together (RFC 5576, section 4.2)."""
+
+    semantics: str  # what they have in common, as "FID"
+    ssrcs: Tuple[int, ...]

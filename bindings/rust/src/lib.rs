@@ -13,7 +13,7 @@ mod streams;
 
 pub use exchange::{Description, Exchange, ExchangeError, SignalingState};
 pub use own::{DataChannels, Direction, IceCreds, MediaKind, OwnSide};
-pub use streams::{Msid, Rid, Simulcast, SimulcastLayer};
+pub use streams::{Msid, Rid, Simulcast, SimulcastLayer, SsrcInfo};
 
 use std::ffi::CStr;
 use std::fmt;

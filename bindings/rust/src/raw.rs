@@ -59,6 +59,23 @@ pub struct Layer {
 }
 
 #[repr(C)]
+#[derive(Clone, Default)]
+pub struct Source {
+    pub ssrc: u32,
+    pub repairs: u32,
+    pub is_repair: u8,
+    pub reserved: [u8; 3],
+}
+
+#[repr(C)]
+#[derive(Clone, Default)]
+pub struct GroupSource {
+    pub group: usize,
+    pub ssrc: u32,
+    pub reserved: u32,
+}
+
+#[repr(C)]
 pub struct Error {
     pub status: u32,
     pub line: u32,
@@ -80,6 +97,12 @@ extern "C" {
     pub fn zax_rid_restrictions(session: *mut Session, section: usize, rid: usize, room: *mut u8, cap: usize, needed: *mut usize) -> u32;
     pub fn zax_section_layers(session: *mut Session, section: usize, room: *mut Layer, cap: usize, needed: *mut usize) -> u32;
     pub fn zax_layer_name(session: *mut Session, section: usize, layer: usize, room: *mut u8, cap: usize, needed: *mut usize) -> u32;
+    pub fn zax_section_sources(session: *mut Session, section: usize, room: *mut Source, cap: usize, needed: *mut usize) -> u32;
+    pub fn zax_source_cname(session: *mut Session, section: usize, source: usize, room: *mut u8, cap: usize, needed: *mut usize) -> u32;
+    pub fn zax_source_stream(session: *mut Session, section: usize, source: usize, room: *mut u8, cap: usize, needed: *mut usize) -> u32;
+    pub fn zax_source_track(session: *mut Session, section: usize, source: usize, room: *mut u8, cap: usize, needed: *mut usize) -> u32;
+    pub fn zax_section_source_groups(session: *mut Session, section: usize, room: *mut GroupSource, cap: usize, needed: *mut usize) -> u32;
+    pub fn zax_group_semantics(session: *mut Session, section: usize, group: usize, room: *mut u8, cap: usize, needed: *mut usize) -> u32;
     pub fn zax_rows(session: *mut Session, section: usize, room: *mut crate::Row, cap: usize, needed: *mut usize) -> u32;
     pub fn zax_row_codec(session: *mut Session, section: usize, row: usize, room: *mut u8, cap: usize, needed: *mut usize) -> u32;
     pub fn zax_row_fmtp(session: *mut Session, section: usize, row: usize, room: *mut u8, cap: usize, needed: *mut usize) -> u32;

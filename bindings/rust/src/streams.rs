@@ -33,6 +33,18 @@ pub struct Simulcast {
     pub recv: Vec<SimulcastLayer>,
 }
 
+/// What a section says of a source of RTP packets (RFC 5576).
+#[derive(Clone, Debug, Default, PartialEq, Eq)]
+pub struct SsrcInfo {
+    pub ssrc: u32,
+    /// The source whose packets it sends again.
+    pub repairs: Option<u32>,
+    /// The name of the endpoint that sends it.
+    pub cname: Option<String>,
+    pub stream_id: Option<String>,
+    pub track_id: Option<String>,
+}
+
 fn way(direction: u8) -> Direction {
     if direction == Direction::SendOnly as u8 { Direction::SendOnly } else { Direction::RecvOnly }
 }
@@ -77,5 +89,36 @@ impl Sdp {
             if way(it.direction) == Direction::SendOnly { layers.send.push(layer) } else { layers.recv.push(layer) }
         }
         Ok(layers)
+    }
+
+    /// What is said of each source of a section, in order.
+    pub fn ssrc_info(&self, section: usize) -> Result<Vec<SsrcInfo>, SdpError> {
+        let session = self.0.as_ptr();
+        // SAFETY: as above.
+        let found = filled(|room, cap, needed| unsafe { raw::zax_section_sources(session, section, room, cap, needed) })?;
+        let said = |i, call: unsafe extern "C" fn(*mut raw::Session, usize, usize, *mut u8, usize, *mut usize) -> u32| {
+            let text = filled(|room, cap, needed| unsafe { call(session, section, i, room, cap, needed) }).map(text_of)?;
+            Ok((!text.is_empty()).then_some(text))
+        };
+        let info = |(i, it): (usize, &raw::Source)| {
+            Ok(SsrcInfo {
+                ssrc: it.ssrc,
+                repairs: (it.is_repair != 0).then_some(it.repairs),
+                cname: said(i, raw::zax_source_cname)?,
+                stream_id: said(i, raw::zax_source_stream)?,
+                track_id: said(i, raw::zax_source_track)?,
+            })
+        };
+        found.iter().enumerate().map(info).collect()
+    }
+
+    /// The groups of a section's sources, in order: what they have in common, as `FID`, and their numbers (RFC 5576, section 4.2).
+    pub fn ssrc_groups(&self, section: usize) -> Result<Vec<(String, Vec<u32>)>, SdpError> {
+        let session = self.0.as_ptr();
+        // SAFETY: as above.
+        let found = filled(|room, cap, needed| unsafe { raw::zax_section_source_groups(session, section, room, cap, needed) })?;
+        let semantics = |i| filled(|room, cap, needed| unsafe { raw::zax_group_semantics(session, section, i, room, cap, needed) }).map(text_of);
+        let ssrcs = |it: &[raw::GroupSource]| it.iter().map(|member| member.ssrc).collect();
+        found.chunk_by(|one, next| one.group == next.group).map(|it| Ok((semantics(it[0].group)?, ssrcs(it)))).collect()
     }
 }

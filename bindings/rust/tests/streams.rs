@@ -1,5 +1,5 @@
 //! What sections say of streams. What is expected is worked out by hand from scripts/c_tests/streams.sdp, by docs/SECTIONS.md.
-use zaxmonth::{Direction, Msid, Rid, Sdp, SdpError, Simulcast, SimulcastLayer};
+use zaxmonth::{Direction, Msid, Rid, Sdp, SdpError, Simulcast, SimulcastLayer, SsrcInfo};
 
 const STREAMS: &str = include_str!("../../../scripts/c_tests/streams.sdp");
 const OFFER: &str = include_str!("../../../examples/chromium-audio-offer.sdp");
@@ -42,4 +42,22 @@ fn layers_of_simulcast() {
     let layers = Simulcast { send: vec![layer("hi", true), layer("lo", false)], recv: vec![layer("back", true)] };
     assert_eq!(read.simulcast(0), Ok(layers));
     assert_eq!((read.simulcast(1), read.simulcast(2)), (Ok(Simulcast::default()), Err(SdpError::NoSection)));
+}
+
+#[test]
+fn sources() {
+    let read = Sdp::from_sdp_string(STREAMS).unwrap();
+    let said = |text: &str| Some(text.to_owned());
+    let first = SsrcInfo { ssrc: 11, repairs: None, cname: said("end point"), stream_id: said("stream"), track_id: said("track") };
+    let second = SsrcInfo { ssrc: 12, cname: said("other"), ..SsrcInfo::default() };
+    let repair = SsrcInfo { ssrc: u32::MAX, repairs: Some(11), ..SsrcInfo::default() };
+    assert_eq!(read.ssrc_info(0).unwrap(), [first, second, repair]);
+    assert_eq!((read.ssrc_info(1), read.ssrc_info(2)), (Ok(Vec::new()), Err(SdpError::NoSection)));
+}
+
+#[test]
+fn groups_of_sources() {
+    let read = Sdp::from_sdp_string(STREAMS).unwrap();
+    assert_eq!(read.ssrc_groups(0).unwrap(), [("FID".to_owned(), vec![11, u32::MAX]), ("SIM".to_owned(), vec![11, 12])]);
+    assert_eq!((read.ssrc_groups(1), read.ssrc_groups(2)), (Ok(Vec::new()), Err(SdpError::NoSection)));
 }

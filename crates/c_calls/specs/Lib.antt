@@ -9,5 +9,6 @@ pub mod Said
 pub mod SectionCalls
 pub mod SectionTexts
 pub mod SessionCalls
+pub mod SourceTexts
 pub mod Told
 pub mod TransportCalls

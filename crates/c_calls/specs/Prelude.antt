@@ -8,6 +8,8 @@ pub use Rattle.c_parts.specs.Rid.{c_rids}
 pub use Rattle.c_parts.specs.Row.{c_outcome, c_row, c_rows, codec_at, said_unless}
 pub use Rattle.c_parts.specs.Section.{c_section}
 pub use Rattle.c_parts.specs.Side.{RefusesBoth, RefusesOwn, SaysOwn, direction_numbered, kind_numbered, own_texts}
+pub use Rattle.c_parts.specs.Source.{c_sources}
+pub use Rattle.c_parts.specs.SourceGroup.{c_source_groups}
 pub use Rattle.c_parts.specs.declared.section.Section.{Section}
 pub use Rattle.c_parts.specs.declared.side.OwnNumbers.{OwnNumbers}
 pub use Rattle.c_parts.specs.declared.side.OwnTexts.{OwnTexts}
@@ -54,11 +56,13 @@ pub use Rattle.str0m_sdp.specs.declared.attribute.msid.Msid.{Msid}
 pub use Rattle.str0m_sdp.specs.declared.attribute.simulcast.Simulcast.{Simulcast}
 pub use Rattle.str0m_sdp.specs.declared.attribute.simulcast.SimulcastLayer.{SimulcastLayer}
 pub use Rattle.str0m_sdp.specs.declared.section.media_line.MediaLine.{MediaLine}
+pub use Rattle.str0m_sdp.specs.declared.section.ssrc_info.SsrcInfo.{SsrcInfo}
 pub use Rattle.str0m_sdp.specs.declared.session.Sdp.{Sdp}
 pub use Rattle.str0m_sdp.specs.section.Consistency.{mid_of}
 pub use Rattle.str0m_sdp.specs.section.MadeSection.{made}
 pub use Rattle.str0m_sdp.specs.section.SectionAccessors.{msid_of, simulcast_of}
 pub use Rattle.str0m_sdp.specs.section.SectionRows.{rows}
+pub use Rattle.str0m_sdp.specs.section.SsrcInfo.{infos}
 pub use Rattle.str0m_sdp.specs.session.Candidates.{all_candidates, same_candidate}
 pub use Rattle.str0m_sdp.specs.session.PreferredFingerprint.{IsPreferred, sdp_fingerprints}
 pub use Rattle.str0m_sdp.specs.session.Session.{sdp_text, versioned_text}

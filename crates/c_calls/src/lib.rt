@@ -14,6 +14,7 @@
 //! - `section_lists`: Calls that write what a section lists.
 //! - `section_texts`: Calls that write a text of a section.
 //! - `session_calls`: Calls of descriptions.
+//! - `source_texts`: What calls write of the sources of a section.
 //! - `told`: What a call of an exchange tells where it is refused.
 //! - `transport_calls`: Calls of the transport that a description speaks of.
 #![tactic(auto)]
@@ -31,5 +32,6 @@ mod section_calls;
 mod section_lists;
 mod section_texts;
 mod session_calls;
+mod source_texts;
 mod told;
 mod transport_calls;

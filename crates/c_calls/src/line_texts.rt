@@ -19,6 +19,8 @@ pub(crate) enum LineText {
     RidName,
     /// Its payload types and restrictions.
     Restrictions,
+    /// What the sources of a group have in common.
+    Semantics,
 }
 
 /// Whether the line says it.
@@ -29,6 +31,7 @@ fn has_text(line: &MediaAttribute, what: LineText) -> bool
         LineText::Uri => matches!(line, MediaAttribute::ExtMap { .. }),
         LineText::RidName => matches!(line, MediaAttribute::Rid { .. }),
         LineText::Restrictions => matches!(line, MediaAttribute::Rid { .. }),
+        LineText::Semantics => matches!(line, MediaAttribute::SsrcGroup { .. }),
     }
 }
 
@@ -85,6 +88,9 @@ fn put_line(
             put(id.0.as_str().as_bytes(), room, needed)
         }
         (LineText::Restrictions, _) => put_restrictions(alloc, line, room, needed),
+        (LineText::Semantics, MediaAttribute::SsrcGroup { semantics, .. }) => {
+            put(semantics.as_str().as_bytes(), room, needed)
+        }
         _ => NO_SECTION,
     }
 }

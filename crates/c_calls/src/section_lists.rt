@@ -1,7 +1,7 @@
 //! Calls that write what a section lists.
 
 ghost use Rattle.c_calls.specs.Common.{Of};
-ghost use Rattle.c_calls.specs.Prelude.{IsFull, c_extensions, c_layers, c_rids, c_rows};
+ghost use Rattle.c_calls.specs.Prelude.{IsFull, c_extensions, c_layers, c_rids, c_rows, c_source_groups, c_sources};
 ghost use Rattle.c_calls.specs.Said.{Says};
 ghost use Rattle.c_calls.specs.SectionCalls.{list_at};
 ghost use Rattle.std.specs.Prelude.{◌≡◌, Some};
@@ -13,6 +13,8 @@ use c_parts::rid::SectionRid;
 use c_parts::row::Row;
 use c_parts::section_item::SectionItem;
 use c_parts::session_handle::SessionHandle;
+use c_parts::source::SectionSource;
+use c_parts::source_group::SourceInGroup;
 use std::alloc::Global;
 use str0m_signal::{MediaLine, Sdp};
 
@@ -125,4 +127,36 @@ pub extern "C" fn zaxp_session_layers(
     ensures says { Of handle.old.inner (λ sdp. Says (list_at c_layers sdp at) (room.old, needed.old) (result, room.new, needed.new)) }
 {
     list::<SectionLayer>(alloc, handle, at, room, needed)
+}
+
+/// The sources of a section.
+#[unsafe(no_mangle)]
+pub extern "C" fn zaxp_session_sources(
+    alloc: Global,
+    handle: &mut SessionHandle,
+    at: usize,
+    room: &mut [SectionSource],
+    needed: &mut usize,
+) -> u32
+    requires { IsFull handle.old.inner }
+    ensures same { handle.new.inner ≡ handle.old.inner }
+    ensures says { Of handle.old.inner (λ sdp. Says (list_at c_sources sdp at) (room.old, needed.old) (result, room.new, needed.new)) }
+{
+    list::<SectionSource>(alloc, handle, at, room, needed)
+}
+
+/// The sources that a section groups, each with the number of its group.
+#[unsafe(no_mangle)]
+pub extern "C" fn zaxp_session_source_groups(
+    alloc: Global,
+    handle: &mut SessionHandle,
+    at: usize,
+    room: &mut [SourceInGroup],
+    needed: &mut usize,
+) -> u32
+    requires { IsFull handle.old.inner }
+    ensures same { handle.new.inner ≡ handle.old.inner }
+    ensures says { Of handle.old.inner (λ sdp. Says (list_at c_source_groups sdp at) (room.old, needed.old) (result, room.new, needed.new)) }
+{
+    list::<SourceInGroup>(alloc, handle, at, room, needed)
 }

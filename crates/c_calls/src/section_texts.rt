@@ -9,6 +9,7 @@ ghost use Rattle.std.specs.Prelude.{◌≡◌, ◌++◌, IfOk, Some, filter_map,
 use crate::line_texts::{LineText, put_line_text};
 use crate::row_calls::{RowText, put_section_row_text};
 use crate::said::{NO_MEMORY, NO_SECTION, put};
+use crate::source_texts::{SourceText, put_source_text};
 use c_parts::session_handle::SessionHandle;
 use std::alloc::{AllocError, Global};
 use str0m_signal::{MediaLine, Sdp, Simulcast, SimulcastLayer};
@@ -24,6 +25,8 @@ pub(crate) enum SectionText {
     Line(LineText),
     /// The name of a layer.
     Layer,
+    /// What is said of a source.
+    Source(SourceText),
 }
 
 /// Which of them a number is.
@@ -37,7 +40,11 @@ fn text_numbered(number: u8) -> SectionText
         3 => SectionText::Line(LineText::Uri),
         4 => SectionText::Line(LineText::RidName),
         5 => SectionText::Line(LineText::Restrictions),
-        _ => SectionText::Layer,
+        6 => SectionText::Layer,
+        7 => SectionText::Source(SourceText::Cname),
+        8 => SectionText::Source(SourceText::Stream),
+        9 => SectionText::Source(SourceText::Track),
+        _ => SectionText::Line(LineText::Semantics),
     }
 }
 
@@ -107,6 +114,7 @@ fn put_section_text(
             put_line_text(alloc, lines, index, text, room, needed)
         }
         SectionText::Layer => put_layer_name(section, index, room, needed),
+        SectionText::Source(text) => put_source_text(section, index, text, room, needed),
     }
 }
 

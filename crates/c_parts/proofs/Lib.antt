@@ -6,3 +6,4 @@ pub mod PartsSteps
 pub mod ReadingRefusals
 pub mod SessionHandleAsBox
 pub mod SideListed
+pub mod SourceGroupCounting

@@ -11,3 +11,5 @@ pub mod Row
 pub mod Section
 pub mod SessionHandle
 pub mod Side
+pub mod Source
+pub mod SourceGroup

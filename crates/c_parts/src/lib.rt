@@ -15,6 +15,8 @@
 //! - `section_item`: What C gets of a section as a list of structs.
 //! - `session_handle`: A description on the heap, as C holds it.
 //! - `side`: What this side says of itself, as C says it.
+//! - `source`: Sources of RTP packets as C holds them.
+//! - `source_group`: Groups of sources as C holds them.
 #![tactic(auto)]
 
 pub mod config_handle;
@@ -31,3 +33,5 @@ pub mod section;
 pub mod section_item;
 pub mod session_handle;
 pub mod side;
+pub mod source;
+pub mod source_group;
