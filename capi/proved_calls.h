@@ -36,6 +36,7 @@ uint32_t zaxp_session_is_writable(struct handle *handle, size_t at, bool *writab
 uint32_t zaxp_session_ice_ufrag(struct handle *handle, uint8_t *room, size_t room_cap, size_t *needed);
 uint32_t zaxp_session_ice_pwd(struct handle *handle, uint8_t *room, size_t room_cap, size_t *needed);
 uint32_t zaxp_session_fingerprint(struct handle *handle, uint8_t *room, size_t room_cap, size_t *needed);
+uint8_t zaxp_session_setup(struct handle *handle);
 uint32_t zaxp_session_candidates(struct handle *handle, size_t *count);
 uint32_t zaxp_session_candidate(struct handle *handle, size_t index, uint8_t *room, size_t room_cap, size_t *needed);
 void zaxp_session_free(struct handle *handle);

@@ -281,6 +281,14 @@ zax_status zax_fingerprint(zax_session *session, char *room, size_t cap, size_t 
     return (zax_status)zaxp_session_fingerprint(&session->handle, ROOM(uint8_t, room, cap), cap, needed);
 }
 
+zax_status zax_session_setup(zax_session *session, uint32_t *setup)
+{
+    if (!session || !is_full(&session->handle) || !setup)
+        return ZAX_E_ARGUMENT;
+    *setup = zaxp_session_setup(&session->handle);
+    return ZAX_OK;
+}
+
 zax_status zax_candidates(zax_session *session, size_t *count)
 {
     if (!session || !is_full(&session->handle) || !count)

@@ -182,6 +182,8 @@ ZAX_API zax_status zax_ice_ufrag(zax_session *session, char *room, size_t cap, s
 ZAX_API zax_status zax_ice_pwd(zax_session *session, char *room, size_t cap, size_t *needed);
 /* The fingerprint of the session, else of the first section that has one, as `sha-256 AB:CD`; nothing where none has. */
 ZAX_API zax_status zax_fingerprint(zax_session *session, char *room, size_t cap, size_t *needed);
+/* The role in the DTLS handshake (zax_setup) of the session, else of the first section that says one; ZAX_NO_SETUP where none does. */
+ZAX_API zax_status zax_session_setup(zax_session *session, uint32_t *setup);
 /* How many candidates there are, each counted once, and the text of one of them, from 0, without `a=`. */
 ZAX_API zax_status zax_candidates(zax_session *session, size_t *count);
 ZAX_API zax_status zax_candidate(zax_session *session, size_t index, char *room, size_t cap, size_t *needed);

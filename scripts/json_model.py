@@ -162,7 +162,7 @@ def ids_of(value):
 
 
 def facts(text):
-    """What `texts facts` is to print of a printed text: each section in numbers and with its streams, credentials, fingerprint, candidates."""
+    """What `texts facts` is to print of a printed text: each section in numbers and with its streams, credentials, fingerprint, role, candidates."""
     parts = [[]]
     for line in text.removesuffix("\r\n").split("\r\n"):
         if line.startswith("m="):
@@ -181,6 +181,8 @@ def facts(text):
     yield from next(((ufrags[0], pwds[0]) for ufrags, pwds in pairs if ufrags and pwds), ("", ""))
     hashes = next(filter(None, (said(lines, f"fingerprint:({HASH})") for lines in parts)), [""])
     yield min(hashes, key=lambda it: HASHES.get(it.split(" ")[0].lower(), 2))
+    roles = [role for lines in parts for role in said(lines, BOTH["setup"][0])]
+    yield str(SETUPS.index((roles or [""])[0]))
     found = [it for lines in parts for line in lines if (it := re.fullmatch(CANDIDATE, line))]
     yield from dict.fromkeys(it[0] for it in found if all(is_address(part) for part in (it[5], it[8]) if part))
 

@@ -246,6 +246,29 @@ static void facts(zax_session *session)
     IS(writable, 1);
 }
 
+/* The role in the handshake is that of the session, else of the first section that says one. */
+static void roles(void)
+{
+    static const char begin[] = "v=0\r\no=- 1 2 IN IP4 0.0.0.0\r\ns=-\r\nt=0 0\r\n", own[] = "a=setup:passive\r\n";
+    static const char none[] = "m=audio 9 UDP/TLS/RTP/SAVPF 0\r\nc=IN IP4 0.0.0.0\r\na=mid:0\r\na=sendrecv\r\n";
+    static const char active[] = "m=audio 9 UDP/TLS/RTP/SAVPF 0\r\nc=IN IP4 0.0.0.0\r\na=mid:1\r\na=sendrecv\r\na=setup:active\r\n";
+    static const struct { const char *own; const char *other; uint32_t setup; } said[] = {
+        {"", none, ZAX_NO_SETUP}, {"", active, ZAX_ACTIVE}, {own, active, ZAX_PASSIVE}};
+    for (size_t i = 0; i < sizeof said / sizeof *said; i++) {
+        char all[512];
+        zax_session *session;
+        uint32_t setup = 7;
+        int size = snprintf(all, sizeof all, "%s%s%s%s", begin, said[i].own, none, said[i].other == none ? "" : said[i].other);
+        IS(zax_read(all, (size_t)size, &session, NULL), ZAX_OK);
+        IS(zax_session_setup(session, NULL), ZAX_E_ARGUMENT);
+        IS(zax_session_setup(NULL, &setup), ZAX_E_ARGUMENT);
+        IS(setup, 7);
+        IS(zax_session_setup(session, &setup), ZAX_OK);
+        IS(setup, said[i].setup);
+        zax_session_free(session);
+    }
+}
+
 /* A candidate that stands twice is one. */
 static void candidates(void)
 {
@@ -534,6 +557,7 @@ int main(int count, char **words)
     rooms(pwd, session, 1);
     rooms(hash, session, 1);
     facts(session);
+    roles();
     candidates();
     streams(said, read_file(words[2], said, sizeof said));
     rooms(findings, text, 1);

@@ -106,6 +106,7 @@ static int run(void)
     zax_section info;
     size_t count;
     int writable;
+    uint32_t setup;
     int status = zax_read(text, length, &session, &error);
     if (status) {
         wrong += session != NULL || error.status != (uint32_t)status;
@@ -126,6 +127,7 @@ static int run(void)
     ASKS(session, zax_ice_ufrag(session, room, sizeof room, &count));
     ASKS(session, zax_ice_pwd(session, room, sizeof room, &count));
     ASKS(session, zax_fingerprint(session, room, sizeof room, &count));
+    ASKS(session, zax_session_setup(session, &setup));
     ASKS(session, zax_candidates(session, &count));
     if (count > 0)
         ASKS(session, zax_candidate(session, 0, room, sizeof room, &count));

@@ -115,6 +115,7 @@ static void show_sources(zax_session *session, size_t at)
 static void show_facts(zax_session *session)
 {
     size_t count, said;
+    uint32_t setup;
     for (size_t at = 0; at < zax_sections(session); at++) {
         zax_section info;
         must(zax_section_info(session, at, &info));
@@ -125,6 +126,8 @@ static void show_facts(zax_session *session)
     show_text(zax_ice_ufrag, session);
     show_text(zax_ice_pwd, session);
     show_text(zax_fingerprint, session);
+    must(zax_session_setup(session, &setup));
+    printf("%u\n", setup);
     must(zax_candidates(session, &count));
     for (size_t i = 0; i < count; i++) {
         must(zax_candidate(session, i, room, sizeof room, &said));

@@ -6,7 +6,7 @@ pub use Rattle.c_parts.specs.Parts.{IsFull}
 pub use Rattle.c_parts.specs.Reading.{RefusesReading}
 pub use Rattle.c_parts.specs.Rid.{c_rids}
 pub use Rattle.c_parts.specs.Row.{c_outcome, c_row, c_rows, codec_at, said_unless}
-pub use Rattle.c_parts.specs.Section.{c_section}
+pub use Rattle.c_parts.specs.Section.{c_section, setup_number}
 pub use Rattle.c_parts.specs.Side.{RefusesBoth, RefusesOwn, SaysOwn, direction_numbered, kind_numbered, own_texts}
 pub use Rattle.c_parts.specs.Source.{c_sources}
 pub use Rattle.c_parts.specs.SourceGroup.{c_source_groups}
@@ -67,7 +67,7 @@ pub use Rattle.str0m_sdp.specs.session.Candidates.{all_candidates, same_candidat
 pub use Rattle.str0m_sdp.specs.session.PreferredFingerprint.{IsPreferred, sdp_fingerprints}
 pub use Rattle.str0m_sdp.specs.session.Session.{sdp_text, versioned_text}
 pub use Rattle.str0m_sdp.specs.session.SessionConsistency.{AreDistinct, section_mids}
-pub use Rattle.str0m_sdp.specs.session.Transport.{sdp_creds}
+pub use Rattle.str0m_sdp.specs.session.Transport.{sdp_creds, sdp_setup}
 pub use Rattle.str0m_signal.specs.back.Writable.{Writable}
 pub use Rattle.str0m_signal.specs.session.Locked.{locked_of_kind}
 pub use Rattle.str0m_signal.specs.session.Negotiation.{NegotiatedText}

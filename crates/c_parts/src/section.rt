@@ -49,7 +49,7 @@ pub(crate) fn direction_of(direction: Direction) -> u8
     }
 }
 
-fn setup_of(setup: Option<Setup>) -> u8
+pub fn setup_of(setup: Option<Setup>) -> u8
     ensures { result ≡ setup_number setup }
 {
     match setup {
