@@ -1,5 +1,6 @@
 // Tests of zaxmonth.hpp; the last line is 'N passed, M failed'.
-//     c++ -std=c++17 tests.cpp $(pkg-config --cflags --libs zaxmonth) -o tests && ./tests ../../scripts/c_tests/streams.sdp
+//     c++ -std=c++17 tests.cpp $(pkg-config --cflags --libs zaxmonth) -o tests
+//     ./tests ../../examples/chromium-audio-offer.sdp ../../scripts/c_tests/streams.sdp
 #include "zaxmonth.hpp"
 
 #include <cstdio>
@@ -57,11 +58,34 @@ static void directions()
     is("an offer that resumes", offers(here, there, "a=sendonly"), true);
 }
 
+static zaxmonth::Session read(const char *path)
+{
+    std::ifstream file(path, std::ios::binary);
+    return zaxmonth::Session(std::string(std::istreambuf_iterator<char>(file), {}));
+}
+
+// What a description says of its sections and of its transport.
+static void facts(const char *path, const char *without)
+{
+    const auto session = read(path), other = read(without);
+    const auto section = session.section(0);
+    is("what a section carries", section.kind + section.protocol + section.disabled, ZAX_AUDIO);
+    is("its direction and its role", section.direction * 10 + section.setup, ZAX_SENDRECV * 10 + ZAX_ACTPASS);
+    is("whether it is writable", session.is_writable(0), true);
+    is("no section", thrown([&] { session.section(1); }), ZAX_E_SECTION);
+    is("credentials", session.ice_ufrag() + " " + session.ice_pwd(), "yf/6 7g8S/bjynZu683rC6kNE6Y/l");
+    is("a fingerprint", session.fingerprint().substr(0, 13), "sha-256 89:EB");
+    is("the role of a session", session.setup(), ZAX_ACTPASS);
+    is("candidates", session.candidates().size(), 4u);
+    is("one of them", session.candidates().at(1), "candidate:1435511020 1 udp 2122194687 198.51.100.7 43652 typ host");
+    is("no transport", other.ice_ufrag() + other.ice_pwd() + other.fingerprint(), "");
+    is("no role and no candidates", other.setup() + other.candidates().size(), 0u);
+}
+
 // What a section says of streams; the second says nothing of them.
 static void streams(const char *path)
 {
-    std::ifstream file(path, std::ios::binary);
-    const zaxmonth::Session session(std::string(std::istreambuf_iterator<char>(file), {}));
+    const auto session = read(path);
     is("a stream and its track", session.msid(0), "stream track one");
     is("no stream", session.msid(1), "");
     const auto extensions = session.extensions(0);
@@ -95,10 +119,11 @@ static void streams(const char *path)
 
 int main(int count, char **words)
 {
-    if (count != 2)
+    if (count != 3)
         return 2;
     directions();
-    streams(words[1]);
+    facts(words[1], words[2]);
+    streams(words[2]);
     std::printf("%d passed, %d failed\n", passed, failed);
     return failed != 0;
 }

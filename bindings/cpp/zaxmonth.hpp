@@ -99,6 +99,26 @@ class Session {
         return said<std::vector<zax_group_source>>(zax_section_source_groups, section);
     }
     std::string group_semantics(size_t section, size_t group) const { return said<std::string>(zax_group_semantics, section, group); }
+    // What a section is, in numbers.
+    zax_section section(size_t section) const { return answered<zax_section>([&](zax_section *to) { return zax_section_info(get(), section, to); }); }
+    // Whether Config::answer may write into the section.
+    bool is_writable(size_t section) const { return answered<int>([&](int *to) { return zax_is_writable(get(), section, to); }) != 0; }
+    // Of the session, else of the first section that says it; empty, or ZAX_NO_SETUP, where none does.
+    std::string ice_ufrag() const { return said<std::string>(zax_ice_ufrag); }
+    std::string ice_pwd() const { return said<std::string>(zax_ice_pwd); }
+    std::string fingerprint() const { return said<std::string>(zax_fingerprint); }
+    zax_setup setup() const
+    {
+        return static_cast<zax_setup>(answered<uint32_t>([&](uint32_t *to) { return zax_session_setup(get(), to); }));
+    }
+    // Each once, without "a=".
+    std::vector<std::string> candidates() const
+    {
+        std::vector<std::string> found(answered<size_t>([&](size_t *to) { return zax_candidates(get(), to); }));
+        for (size_t i = 0; i < found.size(); i++)
+            found[i] = said<std::string>(zax_candidate, i);
+        return found;
+    }
     std::string json() const { return said<std::string>(zax_json); }
     zax_session *get() const { return handle_.get(); }
 
@@ -112,6 +132,12 @@ class Session {
         return detail::filled<Items>([&](typename Items::value_type *room, size_t cap, size_t *needed) {
             return call(get(), places..., room, cap, needed);
         });
+    }
+    template <class Answer, class Call> static Answer answered(Call call)
+    {
+        Answer found{};
+        detail::check(call(&found));
+        return found;
     }
     struct Free {
         void operator()(zax_session *session) const { zax_session_free(session); }

@@ -10,14 +10,7 @@ from ._errors import check
 from ._handles import Configuration, SessionDescription, Text, _bytes_of, _Handle
 from ._library import RawError, RawOwn, RawSlice, library
 from ._rows import Row
-from ._streams import Direction
-
-
-class MediaKind(enum.Enum):
-    """What media a section carries."""
-
-    AUDIO = 0
-    VIDEO = 1
+from ._sections import Direction, MediaKind
 
 
 class SignalingState(enum.Enum):

@@ -6,12 +6,14 @@ import json
 import operator
 import sys
 import threading
-from ctypes import byref, c_char, c_size_t, c_void_p
+from ctypes import byref, c_char, c_int, c_size_t, c_uint32, c_void_p
 from typing import Any, Callable, Dict, List, NoReturn, Optional, SupportsIndex, Tuple, TypeVar, Union
 
 from ._errors import ArgumentError, ClosedError, SectionError, Status, Utf8Error, check
-from ._library import JSON, NO_TYPE, RawError, RawExtension, RawGroupSource, RawLayer, RawOutcome, RawRid, RawRow, RawSource, library
+from ._library import JSON, NO_TYPE, RawError, RawOutcome, RawRow, library
+from ._library import RawExtension, RawGroupSource, RawLayer, RawRid, RawSection, RawSource
 from ._rows import Codec, Outcome, Row
+from ._sections import Section, Setup
 from ._streams import Extension, Layer, Msid, Rid, Source, SourceGroup
 
 Text = Union[str, bytes, bytearray, memoryview]
@@ -110,6 +112,12 @@ class _Handle:
                 return room, needed.value
             size = _size_above(needed.value)
 
+    def _answered(self, call: _Call, place: Any, *places: int) -> Any:
+        """The place, in which a call writes its answer."""
+        with self._lock:
+            check(call(self._open(), *places, byref(place)))
+        return place
+
     def _text(self, call: Callable[..., int], *places: int, letters: int = _LETTERS) -> str:
         with self._lock:
             room, length = self._filled(call, c_char, letters, *places)
@@ -172,6 +180,36 @@ class SessionDescription(_Handle):
         """How many sections there are; a section is named by its number, from 0."""
         with self._lock:
             return library.zax_sections(self._open())
+
+    def section(self, section: SupportsIndex) -> Section:
+        """What a section is. Raises SectionError."""
+        return Section._of(self._answered(library.zax_section_info, RawSection(), _index(section)))
+
+    def is_writable(self, section: SupportsIndex) -> bool:
+        """Whether `Configuration.answer` may write into a section. Raises SectionError or OutOfMemory."""
+        return bool(self._answered(library.zax_is_writable, c_int(), _index(section)).value)
+
+    def ice_ufrag(self) -> str:
+        """The user fragment of ICE of the session, else of the first section that says fragment and password; empty where none does."""
+        return self._text(library.zax_ice_ufrag)
+
+    def ice_pwd(self) -> str:
+        """The password that belongs to `ice_ufrag`."""
+        return self._text(library.zax_ice_pwd)
+
+    def fingerprint(self) -> str:
+        """The fingerprint of the session, else of the first section that has one, as `sha-256 AB:CD`; empty where none has."""
+        return self._text(library.zax_fingerprint)
+
+    def setup(self) -> Setup:
+        """The role of the session, else of the first section that says one."""
+        return Setup(self._answered(library.zax_session_setup, c_uint32()).value)
+
+    def candidates(self) -> List[str]:
+        """The candidates, each once, without `a=`."""
+        with self._lock:
+            count = self._answered(library.zax_candidates, c_size_t()).value
+            return [self._text(library.zax_candidate, i) for i in range(count)]
 
     def mid(self, section: SupportsIndex) -> str:
         """The mid of a section; empty where it has none. Raises SectionError."""

@@ -18,6 +18,10 @@ class RawRow(Structure):
     ]
 
 
+class RawSection(Structure):
+    _fields_ = [(name, c_uint8) for name in ("kind", "protocol", "direction", "setup", "disabled")] + [("reserved", c_uint8 * 3)]
+
+
 class RawExtension(Structure):
     _fields_ = [("id", c_uint8), ("reserved", c_uint8 * 3)]
 
@@ -75,6 +79,14 @@ _CALLS = {
     "zax_session_free": (None, (_HANDLE,)),
     "zax_print": (c_uint32, (_HANDLE, *_ROOM)),
     "zax_sections": (c_size_t, (_HANDLE,)),
+    "zax_section_info": (c_uint32, (_HANDLE, _INDEX, c_void_p)),
+    "zax_is_writable": (c_uint32, (_HANDLE, _INDEX, POINTER(c_int))),
+    "zax_ice_ufrag": (c_uint32, (_HANDLE, *_ROOM)),
+    "zax_ice_pwd": (c_uint32, (_HANDLE, *_ROOM)),
+    "zax_fingerprint": (c_uint32, (_HANDLE, *_ROOM)),
+    "zax_session_setup": (c_uint32, (_HANDLE, POINTER(c_uint32))),
+    "zax_candidates": (c_uint32, (_HANDLE, POINTER(c_size_t))),
+    "zax_candidate": (c_uint32, (_HANDLE, _INDEX, *_ROOM)),
     "zax_section_mid": (c_uint32, (_HANDLE, _INDEX, *_ROOM)),
     "zax_section_msid": (c_uint32, (_HANDLE, _INDEX, *_ROOM)),
     "zax_section_extensions": (c_uint32, (_HANDLE, _INDEX, *_ROOM)),

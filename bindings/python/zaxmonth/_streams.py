@@ -1,20 +1,11 @@
 """What a section says of streams, as values."""
 from __future__ import annotations
 
-import enum
 from dataclasses import dataclass
 from typing import Optional, Tuple
 
 from ._library import RawExtension, RawLayer, RawRid, RawSource
-
-
-class Direction(enum.Enum):
-    """What a side is ready for in a section."""
-
-    SENDRECV = 0
-    SENDONLY = 1
-    RECVONLY = 2
-    INACTIVE = 3
+from ._sections import Direction
 
 
 @dataclass(frozen=True)

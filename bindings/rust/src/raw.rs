@@ -37,6 +37,17 @@ pub struct Own {
 }
 
 #[repr(C)]
+#[derive(Default)]
+pub struct Section {
+    pub kind: u8,
+    pub protocol: u8,
+    pub direction: u8,
+    pub setup: u8,
+    pub disabled: u8,
+    pub reserved: [u8; 3],
+}
+
+#[repr(C)]
 #[derive(Clone, Default)]
 pub struct Extension {
     pub id: u8,
@@ -88,6 +99,14 @@ extern "C" {
     pub fn zax_session_free(session: *mut Session);
     pub fn zax_print(session: *mut Session, room: *mut u8, cap: usize, needed: *mut usize) -> u32;
     pub fn zax_sections(session: *mut Session) -> usize;
+    pub fn zax_section_info(session: *mut Session, section: usize, info: *mut Section) -> u32;
+    pub fn zax_is_writable(session: *mut Session, section: usize, writable: *mut c_int) -> u32;
+    pub fn zax_ice_ufrag(session: *mut Session, room: *mut u8, cap: usize, needed: *mut usize) -> u32;
+    pub fn zax_ice_pwd(session: *mut Session, room: *mut u8, cap: usize, needed: *mut usize) -> u32;
+    pub fn zax_fingerprint(session: *mut Session, room: *mut u8, cap: usize, needed: *mut usize) -> u32;
+    pub fn zax_session_setup(session: *mut Session, setup: *mut u32) -> u32;
+    pub fn zax_candidates(session: *mut Session, count: *mut usize) -> u32;
+    pub fn zax_candidate(session: *mut Session, index: usize, room: *mut u8, cap: usize, needed: *mut usize) -> u32;
     pub fn zax_section_mid(session: *mut Session, section: usize, room: *mut u8, cap: usize, needed: *mut usize) -> u32;
     pub fn zax_section_msid(session: *mut Session, section: usize, room: *mut u8, cap: usize, needed: *mut usize) -> u32;
     pub fn zax_section_extensions(session: *mut Session, section: usize, room: *mut Extension, cap: usize, needed: *mut usize) -> u32;

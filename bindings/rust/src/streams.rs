@@ -45,10 +45,6 @@ pub struct SsrcInfo {
     pub track_id: Option<String>,
 }
 
-fn way(direction: u8) -> Direction {
-    if direction == Direction::SendOnly as u8 { Direction::SendOnly } else { Direction::RecvOnly }
-}
-
 impl Sdp {
     /// What the first msid line of a section says; `None` where it has none.
     pub fn msid(&self, section: usize) -> Result<Option<Msid>, SdpError> {
@@ -73,7 +69,7 @@ impl Sdp {
         let found = filled(|room, cap, needed| unsafe { raw::zax_section_rids(session, section, room, cap, needed) })?;
         let name = |i| filled(|room, cap, needed| unsafe { raw::zax_rid_name(session, section, i, room, cap, needed) }).map(text_of);
         let said = |i| filled(|room, cap, needed| unsafe { raw::zax_rid_restrictions(session, section, i, room, cap, needed) }).map(text_of);
-        let rid = |(i, it): (usize, &raw::Rid)| Ok(Rid { name: name(i)?, direction: way(it.direction), restrictions: said(i)? });
+        let rid = |(i, it): (usize, &raw::Rid)| Ok(Rid { name: name(i)?, direction: Direction::of(it.direction), restrictions: said(i)? });
         found.iter().enumerate().map(rid).collect()
     }
 
@@ -86,7 +82,7 @@ impl Sdp {
         let mut layers = Simulcast::default();
         for (i, it) in found.iter().enumerate() {
             let layer = SimulcastLayer { name: name(i)?, active: it.paused == 0 };
-            if way(it.direction) == Direction::SendOnly { layers.send.push(layer) } else { layers.recv.push(layer) }
+            if Direction::of(it.direction) == Direction::SendOnly { layers.send.push(layer) } else { layers.recv.push(layer) }
         }
         Ok(layers)
     }
