@@ -436,7 +436,7 @@ static int is_own(const zax_own *own)
 {
     return own && is_text(own->ice_ufrag) && is_text(own->ice_pwd) && is_text(own->fingerprint) && is_text(own->stream_id) &&
            are_texts(own->extensions, own->extension_count) && are_texts(own->candidates, own->candidate_count) &&
-           own->audio <= ZAX_INACTIVE && own->video <= ZAX_INACTIVE;
+           own->audio <= ZAX_INACTIVE && own->video <= ZAX_INACTIVE && !own->reserved[0] && !own->reserved[1];
 }
 
 /* What a status says where there was no memory, or no room, for a message. */
@@ -489,7 +489,7 @@ zax_status zax_exchange_new(const zax_own *own, zax_config *config, zax_exchange
         return told(error, ZAX_E_ARGUMENT, "no place for the exchange");
     *exchange = NULL;
     if (!is_own(own) || !config || !is_full(&config->handle))
-        return told(error, ZAX_E_ARGUMENT, "no configuration, no text or no direction");
+        return told(error, ZAX_E_ARGUMENT, "no configuration, no text, no direction, or reserved bytes that aren't 0");
     zax_exchange *made = calloc(1, sizeof *made);
     if (!made)
         return told(error, ZAX_E_MEMORY, "out of memory");

@@ -245,6 +245,7 @@ typedef struct zax_own {
     uint8_t audio;              /* zax_direction: what it is ready for */
     uint8_t video;
     uint8_t receives_simulcast; /* 0 or 1 */
+    uint8_t reserved[2];        /* 0: others are refused */
 } zax_own;
 
 /* One side, with the rows of a configuration. Where it succeeds it takes the configuration and frees that handle, which is not used

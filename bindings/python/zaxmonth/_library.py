@@ -65,6 +65,7 @@ class RawOwn(Structure):
         ("max_message_size", c_uint64),
         ("sctp_port", c_uint16),
         *((name, c_uint8) for name in ("has_channels", "audio", "video", "receives_simulcast")),
+        ("reserved", c_uint8 * 2),
     ]
 
 

@@ -68,6 +68,7 @@ impl OwnSide {
             audio: self.audio as u8,
             video: self.video as u8,
             receives_simulcast: self.receives_simulcast.into(),
+            reserved: [0; 2],
         }
     }
 }

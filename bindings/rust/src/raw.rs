@@ -34,6 +34,7 @@ pub struct Own {
     pub audio: u8,
     pub video: u8,
     pub receives_simulcast: u8,
+    pub reserved: [u8; 2],
 }
 
 #[repr(C)]
