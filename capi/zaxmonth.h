@@ -18,8 +18,9 @@ extern "C" {
 #endif
 
 #define ZAX_VERSION "0.1.0"
-/* While it is 0 anything here may change; from 1 on, while the number stays, what stands here changes by addition alone. */
-#define ZAX_ABI 0
+/* While the number stays, what stands here changes by addition alone (docs/C.md): calls, structs and numbers come, and none goes or changes.
+ * So a number that a caller doesn't know is one of a later version; bytes named reserved are 0 until one gives them a meaning. */
+#define ZAX_ABI 1
 #define ZAX_API __attribute__((visibility("default")))
 
 typedef struct zax_session zax_session; /* a description */

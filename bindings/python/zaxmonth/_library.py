@@ -5,7 +5,7 @@ import ctypes
 import os
 from ctypes import POINTER, Structure, c_char, c_char_p, c_int, c_size_t, c_uint8, c_uint16, c_uint32, c_uint64, c_void_p
 
-ABI = 0  # ZAX_ABI of the header that this package is written for
+ABI = 1  # ZAX_ABI of the header that this package is written for
 VARIABLE = "ZAXMONTH_LIBRARY"
 SONAME = f"libzaxmonth.so.{ABI}"
 NO_TYPE = 255
