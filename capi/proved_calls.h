@@ -11,6 +11,12 @@ struct handle {
     void *ptr;
 };
 
+/* The texts of a section, of which the first two are those of a row. */
+enum section_text {
+    ROW_CODEC, ROW_FORMAT, SECTION_MSID, EXTENSION_URI, RID_NAME, RID_RESTRICTIONS, LAYER_NAME, SOURCE_CNAME, SOURCE_STREAM, SOURCE_TRACK,
+    GROUP_SEMANTICS
+};
+
 uint32_t zaxp_session_read(const uint8_t *text, size_t text_length, struct handle *handle, size_t *unread, uint8_t *message,
                            size_t message_cap, size_t *message_length);
 size_t zaxp_session_sections(struct handle *handle);
@@ -18,13 +24,19 @@ uint32_t zaxp_session_print(struct handle *handle, uint8_t *room, size_t room_ca
 uint32_t zaxp_session_section(struct handle *handle, size_t at, zax_section *info);
 uint32_t zaxp_session_mid(struct handle *handle, size_t at, uint8_t *room, size_t room_cap, size_t *needed);
 uint32_t zaxp_session_rows(struct handle *handle, size_t at, zax_row *room, size_t room_cap, size_t *needed);
-uint32_t zaxp_session_codec(struct handle *handle, size_t at, size_t row, uint8_t *room, size_t room_cap, size_t *needed);
-uint32_t zaxp_session_format(struct handle *handle, size_t at, size_t row, uint8_t *room, size_t room_cap, size_t *needed);
+uint32_t zaxp_session_extensions(struct handle *handle, size_t at, zax_extension *room, size_t room_cap, size_t *needed);
+uint32_t zaxp_session_rids(struct handle *handle, size_t at, zax_rid *room, size_t room_cap, size_t *needed);
+uint32_t zaxp_session_layers(struct handle *handle, size_t at, zax_layer *room, size_t room_cap, size_t *needed);
+uint32_t zaxp_session_sources(struct handle *handle, size_t at, zax_source *room, size_t room_cap, size_t *needed);
+uint32_t zaxp_session_source_groups(struct handle *handle, size_t at, zax_group_source *room, size_t room_cap, size_t *needed);
+uint32_t zaxp_session_text(struct handle *handle, size_t at, uint8_t what, size_t index, uint8_t *room, size_t room_cap,
+                           size_t *needed);
 uint32_t zaxp_session_json(struct handle *handle, uint8_t *room, size_t room_cap, size_t *needed);
 uint32_t zaxp_session_is_writable(struct handle *handle, size_t at, bool *writable);
 uint32_t zaxp_session_ice_ufrag(struct handle *handle, uint8_t *room, size_t room_cap, size_t *needed);
 uint32_t zaxp_session_ice_pwd(struct handle *handle, uint8_t *room, size_t room_cap, size_t *needed);
 uint32_t zaxp_session_fingerprint(struct handle *handle, uint8_t *room, size_t room_cap, size_t *needed);
+uint8_t zaxp_session_setup(struct handle *handle);
 uint32_t zaxp_session_candidates(struct handle *handle, size_t *count);
 uint32_t zaxp_session_candidate(struct handle *handle, size_t index, uint8_t *room, size_t room_cap, size_t *needed);
 void zaxp_session_free(struct handle *handle);
@@ -37,8 +49,7 @@ uint32_t zaxp_config_add(struct handle *handle, uint8_t pt, uint8_t rtx, uint8_t
 uint32_t zaxp_config_negotiate(struct handle *handle, const uint8_t *text, size_t text_length, zax_outcome *room, size_t room_cap,
                                size_t *needed, uint8_t *message, size_t message_cap, size_t *message_length);
 uint32_t zaxp_config_rows(struct handle *handle, zax_row *room, size_t room_cap, size_t *needed);
-uint32_t zaxp_config_codec(struct handle *handle, size_t row, uint8_t *room, size_t room_cap, size_t *needed);
-uint32_t zaxp_config_format(struct handle *handle, size_t row, uint8_t *room, size_t room_cap, size_t *needed);
+uint32_t zaxp_config_text(struct handle *handle, uint8_t what, size_t row, uint8_t *room, size_t room_cap, size_t *needed);
 uint32_t zaxp_config_answer(struct handle *handle, struct handle *own, size_t at);
 void zaxp_config_free(struct handle *handle);
 
@@ -74,8 +85,7 @@ uint32_t zaxp_exchange_restart_ice(struct handle *handle, const uint8_t *ufrag, 
 uint32_t zaxp_exchange_set_direction(struct handle *handle, const uint8_t *mid, size_t mid_length, uint8_t direction);
 uint32_t zaxp_session_print_version(struct handle *handle, uint64_t version, uint8_t *room, size_t room_cap, size_t *needed);
 uint32_t zaxp_exchange_rows(struct handle *handle, zax_row *room, size_t room_cap, size_t *needed);
-uint32_t zaxp_exchange_codec(struct handle *handle, size_t row, uint8_t *room, size_t room_cap, size_t *needed);
-uint32_t zaxp_exchange_format(struct handle *handle, size_t row, uint8_t *room, size_t room_cap, size_t *needed);
+uint32_t zaxp_exchange_text(struct handle *handle, uint8_t what, size_t row, uint8_t *room, size_t room_cap, size_t *needed);
 uint32_t zaxp_exchange_state(struct handle *handle);
 
 #endif

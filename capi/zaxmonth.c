@@ -154,6 +154,18 @@ zax_status zax_section_mid(zax_session *session, size_t section, char *room, siz
     return (zax_status)zaxp_session_mid(&session->handle, section, ROOM(uint8_t, room, cap), cap, needed);
 }
 
+static zax_status section_text(zax_session *session, size_t section, enum section_text what, size_t index, char *room, size_t cap,
+                               size_t *needed)
+{
+    BEGIN(session, room, cap, needed);
+    return (zax_status)zaxp_session_text(&session->handle, section, what, index, ROOM(uint8_t, room, cap), cap, needed);
+}
+
+zax_status zax_section_msid(zax_session *session, size_t section, char *room, size_t cap, size_t *needed)
+{
+    return section_text(session, section, SECTION_MSID, 0, room, cap, needed);
+}
+
 zax_status zax_rows(zax_session *session, size_t section, zax_row *room, size_t cap, size_t *needed)
 {
     BEGIN(session, room, cap, needed);
@@ -162,14 +174,82 @@ zax_status zax_rows(zax_session *session, size_t section, zax_row *room, size_t 
 
 zax_status zax_row_codec(zax_session *session, size_t section, size_t row, char *room, size_t cap, size_t *needed)
 {
-    BEGIN(session, room, cap, needed);
-    return (zax_status)zaxp_session_codec(&session->handle, section, row, ROOM(uint8_t, room, cap), cap, needed);
+    return section_text(session, section, ROW_CODEC, row, room, cap, needed);
 }
 
 zax_status zax_row_fmtp(zax_session *session, size_t section, size_t row, char *room, size_t cap, size_t *needed)
 {
+    return section_text(session, section, ROW_FORMAT, row, room, cap, needed);
+}
+
+zax_status zax_section_extensions(zax_session *session, size_t section, zax_extension *room, size_t cap, size_t *needed)
+{
     BEGIN(session, room, cap, needed);
-    return (zax_status)zaxp_session_format(&session->handle, section, row, ROOM(uint8_t, room, cap), cap, needed);
+    return (zax_status)zaxp_session_extensions(&session->handle, section, ROOM(zax_extension, room, cap), cap, needed);
+}
+
+zax_status zax_extension_uri(zax_session *session, size_t section, size_t extension, char *room, size_t cap, size_t *needed)
+{
+    return section_text(session, section, EXTENSION_URI, extension, room, cap, needed);
+}
+
+zax_status zax_section_rids(zax_session *session, size_t section, zax_rid *room, size_t cap, size_t *needed)
+{
+    BEGIN(session, room, cap, needed);
+    return (zax_status)zaxp_session_rids(&session->handle, section, ROOM(zax_rid, room, cap), cap, needed);
+}
+
+zax_status zax_rid_name(zax_session *session, size_t section, size_t rid, char *room, size_t cap, size_t *needed)
+{
+    return section_text(session, section, RID_NAME, rid, room, cap, needed);
+}
+
+zax_status zax_rid_restrictions(zax_session *session, size_t section, size_t rid, char *room, size_t cap, size_t *needed)
+{
+    return section_text(session, section, RID_RESTRICTIONS, rid, room, cap, needed);
+}
+
+zax_status zax_section_layers(zax_session *session, size_t section, zax_layer *room, size_t cap, size_t *needed)
+{
+    BEGIN(session, room, cap, needed);
+    return (zax_status)zaxp_session_layers(&session->handle, section, ROOM(zax_layer, room, cap), cap, needed);
+}
+
+zax_status zax_layer_name(zax_session *session, size_t section, size_t layer, char *room, size_t cap, size_t *needed)
+{
+    return section_text(session, section, LAYER_NAME, layer, room, cap, needed);
+}
+
+zax_status zax_section_sources(zax_session *session, size_t section, zax_source *room, size_t cap, size_t *needed)
+{
+    BEGIN(session, room, cap, needed);
+    return (zax_status)zaxp_session_sources(&session->handle, section, ROOM(zax_source, room, cap), cap, needed);
+}
+
+zax_status zax_source_cname(zax_session *session, size_t section, size_t source, char *room, size_t cap, size_t *needed)
+{
+    return section_text(session, section, SOURCE_CNAME, source, room, cap, needed);
+}
+
+zax_status zax_source_stream(zax_session *session, size_t section, size_t source, char *room, size_t cap, size_t *needed)
+{
+    return section_text(session, section, SOURCE_STREAM, source, room, cap, needed);
+}
+
+zax_status zax_source_track(zax_session *session, size_t section, size_t source, char *room, size_t cap, size_t *needed)
+{
+    return section_text(session, section, SOURCE_TRACK, source, room, cap, needed);
+}
+
+zax_status zax_section_source_groups(zax_session *session, size_t section, zax_group_source *room, size_t cap, size_t *needed)
+{
+    BEGIN(session, room, cap, needed);
+    return (zax_status)zaxp_session_source_groups(&session->handle, section, ROOM(zax_group_source, room, cap), cap, needed);
+}
+
+zax_status zax_group_semantics(zax_session *session, size_t section, size_t group, char *room, size_t cap, size_t *needed)
+{
+    return section_text(session, section, GROUP_SEMANTICS, group, room, cap, needed);
 }
 
 zax_status zax_is_writable(zax_session *session, size_t section, int *writable)
@@ -199,6 +279,14 @@ zax_status zax_fingerprint(zax_session *session, char *room, size_t cap, size_t 
 {
     BEGIN(session, room, cap, needed);
     return (zax_status)zaxp_session_fingerprint(&session->handle, ROOM(uint8_t, room, cap), cap, needed);
+}
+
+zax_status zax_session_setup(zax_session *session, uint32_t *setup)
+{
+    if (!session || !is_full(&session->handle) || !setup)
+        return ZAX_E_ARGUMENT;
+    *setup = zaxp_session_setup(&session->handle);
+    return ZAX_OK;
 }
 
 zax_status zax_candidates(zax_session *session, size_t *count)
@@ -306,13 +394,13 @@ zax_status zax_config_rows(zax_config *config, zax_row *room, size_t cap, size_t
 zax_status zax_config_row_codec(zax_config *config, size_t row, char *room, size_t cap, size_t *needed)
 {
     BEGIN(config, room, cap, needed);
-    return (zax_status)zaxp_config_codec(&config->handle, row, ROOM(uint8_t, room, cap), cap, needed);
+    return (zax_status)zaxp_config_text(&config->handle, ROW_CODEC, row, ROOM(uint8_t, room, cap), cap, needed);
 }
 
 zax_status zax_config_row_fmtp(zax_config *config, size_t row, char *room, size_t cap, size_t *needed)
 {
     BEGIN(config, room, cap, needed);
-    return (zax_status)zaxp_config_format(&config->handle, row, ROOM(uint8_t, room, cap), cap, needed);
+    return (zax_status)zaxp_config_text(&config->handle, ROW_FORMAT, row, ROOM(uint8_t, room, cap), cap, needed);
 }
 
 zax_status zax_answer(zax_config *config, zax_session *own, size_t section)
@@ -348,7 +436,7 @@ static int is_own(const zax_own *own)
 {
     return own && is_text(own->ice_ufrag) && is_text(own->ice_pwd) && is_text(own->fingerprint) && is_text(own->stream_id) &&
            are_texts(own->extensions, own->extension_count) && are_texts(own->candidates, own->candidate_count) &&
-           own->audio <= ZAX_INACTIVE && own->video <= ZAX_INACTIVE;
+           own->audio <= ZAX_INACTIVE && own->video <= ZAX_INACTIVE && !own->reserved[0] && !own->reserved[1];
 }
 
 /* What a status says where there was no memory, or no room, for a message. */
@@ -401,7 +489,7 @@ zax_status zax_exchange_new(const zax_own *own, zax_config *config, zax_exchange
         return told(error, ZAX_E_ARGUMENT, "no place for the exchange");
     *exchange = NULL;
     if (!is_own(own) || !config || !is_full(&config->handle))
-        return told(error, ZAX_E_ARGUMENT, "no configuration, no text or no direction");
+        return told(error, ZAX_E_ARGUMENT, "no configuration, no text, no direction, or reserved bytes that aren't 0");
     zax_exchange *made = calloc(1, sizeof *made);
     if (!made)
         return told(error, ZAX_E_MEMORY, "out of memory");
@@ -540,13 +628,13 @@ zax_status zax_exchange_rows(zax_exchange *exchange, zax_row *room, size_t cap, 
 zax_status zax_exchange_row_codec(zax_exchange *exchange, size_t row, char *room, size_t cap, size_t *needed)
 {
     BEGIN(exchange, room, cap, needed);
-    return (zax_status)zaxp_exchange_codec(&exchange->handle, row, ROOM(uint8_t, room, cap), cap, needed);
+    return (zax_status)zaxp_exchange_text(&exchange->handle, ROW_CODEC, row, ROOM(uint8_t, room, cap), cap, needed);
 }
 
 zax_status zax_exchange_row_fmtp(zax_exchange *exchange, size_t row, char *room, size_t cap, size_t *needed)
 {
     BEGIN(exchange, room, cap, needed);
-    return (zax_status)zaxp_exchange_format(&exchange->handle, row, ROOM(uint8_t, room, cap), cap, needed);
+    return (zax_status)zaxp_exchange_text(&exchange->handle, ROW_FORMAT, row, ROOM(uint8_t, room, cap), cap, needed);
 }
 
 zax_status zax_exchange_state(zax_exchange *exchange, uint32_t *state)

@@ -18,8 +18,9 @@ extern "C" {
 #endif
 
 #define ZAX_VERSION "0.1.0"
-/* While it is 0 anything here may change; from 1 on, while the number stays, what stands here changes by addition alone. */
-#define ZAX_ABI 0
+/* While the number stays, what stands here changes by addition alone (docs/C.md): calls, structs and numbers come, and none goes or changes.
+ * So a number that a caller doesn't know is one of a later version; bytes named reserved are 0 until one gives them a meaning. */
+#define ZAX_ABI 1
 #define ZAX_API __attribute__((visibility("default")))
 
 typedef struct zax_session zax_session; /* a description */
@@ -31,7 +32,7 @@ typedef enum zax_status {
     ZAX_E_UTF8 = 2,     /* the text isn't UTF-8 */
     ZAX_E_MEMORY = 3,   /* malloc or realloc answered NULL */
     ZAX_E_ROOM = 4,     /* the room is too small */
-    ZAX_E_SECTION = 5,  /* there is no such section, or no such row */
+    ZAX_E_SECTION = 5,  /* there is no such section, or no such item of it, as a row */
     ZAX_E_NOTHING = 6,  /* no row of the section's kind is locked, or rows printed there might not be read again */
     ZAX_E_ARGUMENT = 7, /* a pointer is NULL that may not be, a length is above half of what can be addressed, no row is such, or no mid */
     ZAX_E_STATE = 8,    /* the call is out of turn: an offer of this side is open, or none is */
@@ -89,6 +90,40 @@ typedef struct zax_section {
     uint8_t reserved[3];
 } zax_section;
 
+/* A header extension (RFC 8285). */
+typedef struct zax_extension {
+    uint8_t id; /* its number, by which packets have it */
+    uint8_t reserved[3];
+} zax_extension;
+
+/* A stream that may be restricted (RFC 8851). */
+typedef struct zax_rid {
+    uint8_t direction; /* ZAX_SENDONLY or ZAX_RECVONLY */
+    uint8_t reserved[3];
+} zax_rid;
+
+/* A layer of simulcast (RFC 8853). */
+typedef struct zax_layer {
+    uint8_t direction; /* ZAX_SENDONLY or ZAX_RECVONLY */
+    uint8_t paused;    /* 0 or 1: whether `~` stands before its name */
+    uint8_t reserved[2];
+} zax_layer;
+
+/* A source of RTP packets (RFC 5576). */
+typedef struct zax_source {
+    uint32_t ssrc;
+    uint32_t repairs;  /* the source whose packets it sends again, by a group FID of both; 0 where it does so of none */
+    uint8_t is_repair; /* 0 or 1: whether it does */
+    uint8_t reserved[3];
+} zax_source;
+
+/* A source in a group (RFC 5576, section 4.2). */
+typedef struct zax_group_source {
+    size_t group; /* counted from 0 */
+    uint32_t ssrc;
+    uint32_t reserved;
+} zax_group_source;
+
 /* Where a call takes one, it may be NULL. */
 typedef struct zax_error {
     uint32_t status;   /* zax_status */
@@ -111,11 +146,36 @@ ZAX_API size_t zax_sections(zax_session *session);
 ZAX_API zax_status zax_section_info(zax_session *session, size_t section, zax_section *info);
 /* The mid of a section; nothing where it has none. */
 ZAX_API zax_status zax_section_mid(zax_session *session, size_t section, char *room, size_t cap, size_t *needed);
+/* The ids of a stream, `-` for none, and of a track with a space between them, by the section's first a=msid line; nothing where it has
+ * none (RFC 8830). */
+ZAX_API zax_status zax_section_msid(zax_session *session, size_t section, char *room, size_t cap, size_t *needed);
+/* The rows of a section. */
 ZAX_API zax_status zax_rows(zax_session *session, size_t section, zax_row *room, size_t cap, size_t *needed);
 /* The name of a row's codec, as an rtpmap line has it; `row` counts those of zax_rows from 0. */
 ZAX_API zax_status zax_row_codec(zax_session *session, size_t section, size_t row, char *room, size_t cap, size_t *needed);
 /* What its format says, as an fmtp line has it. */
 ZAX_API zax_status zax_row_fmtp(zax_session *session, size_t section, size_t row, char *room, size_t cap, size_t *needed);
+/* The header extensions of a section, in order, and the URI of one of them, counted from 0. */
+ZAX_API zax_status zax_section_extensions(zax_session *session, size_t section, zax_extension *room, size_t cap, size_t *needed);
+ZAX_API zax_status zax_extension_uri(zax_session *session, size_t section, size_t extension, char *room, size_t cap, size_t *needed);
+/* The streams of a section that may be restricted, in order; of one of them, counted from 0, its name, and its payload types and
+ * restrictions as its line has them: `pt=96,97;max-width=320`, nothing where it has none. */
+ZAX_API zax_status zax_section_rids(zax_session *session, size_t section, zax_rid *room, size_t cap, size_t *needed);
+ZAX_API zax_status zax_rid_name(zax_session *session, size_t section, size_t rid, char *room, size_t cap, size_t *needed);
+ZAX_API zax_status zax_rid_restrictions(zax_session *session, size_t section, size_t rid, char *room, size_t cap, size_t *needed);
+/* The layers that a section sends, and then those that it receives, in order, of several alternatives the first; and the name of one of
+ * them, counted from 0, which is that of a rid. */
+ZAX_API zax_status zax_section_layers(zax_session *session, size_t section, zax_layer *room, size_t cap, size_t *needed);
+ZAX_API zax_status zax_layer_name(zax_session *session, size_t section, size_t layer, char *room, size_t cap, size_t *needed);
+/* The sources of a section, in order; of one of them, counted from 0, the name of the endpoint that sends it, and the ids of its stream and
+ * its track; nothing where the section doesn't say them. */
+ZAX_API zax_status zax_section_sources(zax_session *session, size_t section, zax_source *room, size_t cap, size_t *needed);
+ZAX_API zax_status zax_source_cname(zax_session *session, size_t section, size_t source, char *room, size_t cap, size_t *needed);
+ZAX_API zax_status zax_source_stream(zax_session *session, size_t section, size_t source, char *room, size_t cap, size_t *needed);
+ZAX_API zax_status zax_source_track(zax_session *session, size_t section, size_t source, char *room, size_t cap, size_t *needed);
+/* The sources that a section groups, group by group, and what those of one of the groups have in common, as `FID`. */
+ZAX_API zax_status zax_section_source_groups(zax_session *session, size_t section, zax_group_source *room, size_t cap, size_t *needed);
+ZAX_API zax_status zax_group_semantics(zax_session *session, size_t section, size_t group, char *room, size_t cap, size_t *needed);
 /* Whether zax_answer may write into the section: `*writable` becomes 0 or 1. */
 ZAX_API zax_status zax_is_writable(zax_session *session, size_t section, int *writable);
 /* The credentials of ICE that the session says, else the first section that says both; nothing where none does. */
@@ -123,6 +183,8 @@ ZAX_API zax_status zax_ice_ufrag(zax_session *session, char *room, size_t cap, s
 ZAX_API zax_status zax_ice_pwd(zax_session *session, char *room, size_t cap, size_t *needed);
 /* The fingerprint of the session, else of the first section that has one, as `sha-256 AB:CD`; nothing where none has. */
 ZAX_API zax_status zax_fingerprint(zax_session *session, char *room, size_t cap, size_t *needed);
+/* The role in the DTLS handshake (zax_setup) of the session, else of the first section that says one; ZAX_NO_SETUP where none does. */
+ZAX_API zax_status zax_session_setup(zax_session *session, uint32_t *setup);
 /* How many candidates there are, each counted once, and the text of one of them, from 0, without `a=`. */
 ZAX_API zax_status zax_candidates(zax_session *session, size_t *count);
 ZAX_API zax_status zax_candidate(zax_session *session, size_t index, char *room, size_t cap, size_t *needed);
@@ -184,6 +246,7 @@ typedef struct zax_own {
     uint8_t audio;              /* zax_direction: what it is ready for */
     uint8_t video;
     uint8_t receives_simulcast; /* 0 or 1 */
+    uint8_t reserved[2];        /* 0: others are refused */
 } zax_own;
 
 /* One side, with the rows of a configuration. Where it succeeds it takes the configuration and frees that handle, which is not used

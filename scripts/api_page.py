@@ -14,7 +14,7 @@ CRATES = ("str0m_values", "str0m_formats", "str0m_sdp", "str0m_signal", "exchang
 PAGE = TOP / "docs" / "API.md"
 HEAD = """# Every type and call
 
-For who looks one up: what is public in the libraries, a crate a chapter, as its sources say it. Made by `scripts/api_page.py --write`. What a call
+For whoever looks one up: what is public in the libraries, a crate a chapter, as its sources say it. Made by `scripts/api_page.py --write`. What a call
 promises exactly, its clauses, stands at its definition in `crates/NAME/src`. A call whose result may be an `AllocError` or a `Memory` is one that may
 need memory.
 """

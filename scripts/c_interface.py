@@ -16,7 +16,15 @@ from proved import TOP
 CAPI = TOP / "capi"
 CALLS = TOP / "crates" / "c_calls"
 PARTS = TOP / "crates" / "c_parts"
-ITEMS = {"u8": "uint8_t", "Row": "zax_row", "Outcome": "zax_outcome", "&[u8]": "zax_slice"}
+SECTION_ITEMS = {
+    "Row": "zax_row",
+    "SectionExtension": "zax_extension",
+    "SectionRid": "zax_rid",
+    "SectionLayer": "zax_layer",
+    "SectionSource": "zax_source",
+    "SourceInGroup": "zax_group_source",
+}
+ITEMS = {"u8": "uint8_t", "Outcome": "zax_outcome", "&[u8]": "zax_slice", **SECTION_ITEMS}
 PLAIN = {"usize": "size_t", "u64": "uint64_t", "u32": "uint32_t", "u16": "uint16_t", "u8": "uint8_t", "bool": "bool"}
 HANDLES = {"SessionHandle": "session_handle", "ConfigHandle": "config_handle", "ExchangeHandle": "exchange_handle"}
 # Structs of C's layout: the name in C, and the file of c_parts
@@ -24,9 +32,14 @@ STRUCTS = {
     "Row": ("zax_row", "row"),
     "Outcome": ("zax_outcome", "row"),
     "Section": ("zax_section", "section"),
+    "SectionExtension": ("zax_extension", "extension"),
+    "SectionRid": ("zax_rid", "rid"),
+    "SectionLayer": ("zax_layer", "layer"),
+    "SectionSource": ("zax_source", "source"),
+    "SourceInGroup": ("zax_group_source", "source_group"),
     "OwnNumbers": ("struct own_numbers", "side"),
 }
-# What each status of specs/Status.antt is in the header, each cause of a refused round, and the codecs whose name there isn't their own
+# What each status of specs/Told.antt is in the header, each cause of a refused round, and the codecs whose name there isn't their own
 STATUSES = {
     "done": "OK",
     "no_session": "E_PARSE",
@@ -63,6 +76,20 @@ FAULTS = {
 STATES = {"Stable": "STABLE", "HaveLocalOffer": "HAVE_LOCAL_OFFER"}
 CAUSES = {"TypeTooLarge": "TYPE_TOO_LARGE", "ClaimedTwice": "CLAIMED_TWICE", "Exhausted": "EXHAUSTED", "Memory": "ROUND_MEMORY"}
 SECTIONS = {("kind", "Unknown"): "OTHER_KIND", ("protocol", "Srtp"): "PROTOCOL_RTP", ("protocol", "Sctp"): "PROTOCOL_SCTP", ("setup", "None"): "NO_SETUP"}
+# What each text of a section is in capi/proved_calls.h; those of configurations' rows are the same
+TEXTS = {
+    "Codec": "ROW_CODEC",
+    "Format": "ROW_FORMAT",
+    "Msid": "SECTION_MSID",
+    "Uri": "EXTENSION_URI",
+    "RidName": "RID_NAME",
+    "Restrictions": "RID_RESTRICTIONS",
+    "Layer": "LAYER_NAME",
+    "Cname": "SOURCE_CNAME",
+    "Stream": "SOURCE_STREAM",
+    "Track": "SOURCE_TRACK",
+    "Semantics": "GROUP_SEMANTICS",
+}
 CODECS = {"Tele": "TELEPHONE_EVENT", "Null": "NULL_CODEC", "AmrWb": "AMR_WB", "other": "UNKNOWN"}
 
 
@@ -132,7 +159,7 @@ def same_struct(ours, theirs, own):
 
 def numbers():
     """The names of the header with the numbers that the definitions give them."""
-    statuses = dict(re.findall(r"^(\w+) = (\d+)$", (CALLS / "specs" / "Status.antt").read_text("utf-8"), re.M))
+    statuses = dict(re.findall(r"^(\w+) = (\d+)$", (CALLS / "specs" / "Told.antt").read_text("utf-8"), re.M))
     yield from ((f"ZAX_{STATUSES[name]}", number) for name, number in statuses.items())
     row = (PARTS / "specs" / "Row.antt").read_text("utf-8")
     for name, number in re.findall(r"^codec_number (\w+) = (\d+)$", row, re.M):
@@ -144,7 +171,20 @@ def numbers():
         yield f"ZAX_{name.upper()}", number
     for name, number in re.findall(r"^c_outcome \(?Err \(?(\w+).*cause = (\d+)", row, re.M):
         yield f"ZAX_{CAUSES[name]}", number
+    for file, name in (("SectionTexts", "text_numbered"), ("SectionCalls", "row_text_numbered")):
+        found = choices((CALLS / "specs" / f"{file}.antt").read_text("utf-8"), name)
+        yield from ((TEXTS[it], number) for number, it in enumerate(found))
     yield from numbers_of_exchanges()
+
+
+def choices(text, name):
+    """What a definition makes of each number from 0 on, which it asks for in order: the last word of it."""
+    asked = " ".join(re.search(rf"^{name} n =((?: .*\n| *\n)+)", text, re.M)[1].split())
+    tested = re.findall(r"nat_eq n (\d+) then ([\w. ]+?) else", asked)
+    if [number for number, _ in tested] != [str(it) for it in range(len(tested))]:
+        raise SystemExit(f"{name} asks for other numbers than those from 0 on, in order")
+    made = [*(it for _, it in tested), re.search(r"else ([\w. ]+)\)*$", asked)[1]]
+    return [re.search(r"\w+$", it)[0] for it in made]
 
 
 def numbers_of_exchanges():
@@ -154,7 +194,7 @@ def numbers_of_exchanges():
     side = (PARTS / "specs" / "Side.antt").read_text("utf-8")
     for number, name in re.findall(r"nat_eq n (\d+) then (\w+)", side):
         yield f"ZAX_{name.upper()}", number
-    exchanged = (CALLS / "specs" / "Exchanged.antt").read_text("utf-8")
+    exchanged = (CALLS / "specs" / "ExchangeCalls.antt").read_text("utf-8")
     for name, number in re.findall(r"^state_number (\w+) = (\d+)$", exchanged, re.M):
         yield f"ZAX_{STATES[name]}", number
 

@@ -13,7 +13,7 @@ from dataclasses import dataclass
 from case_files import read_cases
 from proved import TOP
 
-CASES, TESTS = ("plain_cases", "cases"), ("tests",)
+CASES, TESTS = ("format_cases", "cases"), ("tests",)
 COMMON = ("clone", "push")  # methods that values of std have, too
 BLOCK = re.compile(r"^(?:impl(?:<[^{]*?>)? (?:(?P<trait>\w+)[^{]*? for )?(?P<type>\w+)[^{]*)\{$", re.MULTILINE)
 FUNCTION = re.compile(r"^ *(?P<public>pub )?(?P<inner>pub\(\w+\) )?(?:const )?fn (?P<name>\w+)(?:<.*?>)?\(", re.MULTILINE)
@@ -154,7 +154,7 @@ def runs():
 def faults():
     """The public calls that may need memory and that nothing makes."""
     own = [it for it in functions("str0m_*", "exchange") if it.is_public]
-    wants = {"AllocError", *(it for crate in ("str0m_*", "exchange") for file in TOP.glob(f"crates/{crate}/src/*.rt") for it in WANT.findall(file.read_text()))}
+    wants = {"AllocError", *(it for crate in ("str0m_*", "exchange") for file in TOP.glob(f"crates/{crate}/src/**/*.rt") for it in WANT.findall(file.read_text()))}
     names, made_by = [it.name for it in own], list(runs())
     for call in own:
         if call.result.startswith("Result<") and wants & set(re.findall(r"\w+", call.result)):

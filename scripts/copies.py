@@ -48,8 +48,8 @@ def copy_of(edit, texts, number):
     if edit.is_wide or len(edit.functions) > 1 or len(paths) > 1:
         return None
     path, home, is_own = paths.pop(), function.split("::"), f"proofs/{function.replace('::', '/')}/"
-    name, of_closure = f"{home[-1]}_copy{number}", f"proofs/{home[0]}/fn/"
-    if any(it.startswith(of_closure) and home[-1] in it.split("/") for it in texts):
+    name, of_closures = f"{home[-1]}_copy{number}", tuple(f"proofs/{'/'.join(home[:count])}/fn/" for count in range(1, len(home)))
+    if any(it.startswith(of_closures) and home[-1] in it.split("/") for it in texts):
         return None
 
     def edited(item):

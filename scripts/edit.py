@@ -7,6 +7,7 @@ import proved
 CRATES = proved.TOP / "crates"
 FUNCTION = re.compile(r"(?P<indent>\s*)(?:pub(?:\([^)]*\))? )?(?:const |extern \"C\" )?fn (?P<name>\w+)")
 TABLE = re.compile(r"^ *(?:pub(?:\([^)]*\))? )?const (?P<name>\w+):.*?;$", re.M | re.S)
+LIST = re.compile(r"(?:pub mod \w+\n)+")
 NAMED = re.compile(r"\bRattle\.(\w+)\.(?:specs|proofs)\.[\w.]+|\bcrate(?:::\w+)+")
 BLOCK = re.compile(r"(?:impl(?:<(?P<own>.*?)>)? (?:(?P<trait>.+?) for )?(?P<type>.+?)|.*\btrait (?P<decl>\w+).*?)(?: where .*)?\{")
 
@@ -82,9 +83,16 @@ def file_named(word, texts):
     modules = parts[1:] if parts[0] in ("specs", "proofs") else parts
     modules = modules[1:] if modules[0] in ("declared", "contracts") else modules
     tried = ["/".join(parts[:count]) + ".antt" for count in range(len(parts), 1, -1)]
-    # (what is declared in a source, and the goals of its functions, have no file of their own)
+    # (what is declared in a source, and the goals of its functions, have no file of their own; a room has one that lists its modules)
     tried += ["/".join(["src", *modules[:count]]) + ".rt" for count in range(len(modules), 0, -1)]
-    return next((it for it in tried if it in texts), None)
+    return next((it for it in tried if it in texts and not LIST.fullmatch(texts[it])), None)
+
+
+def source_of(path, texts):
+    """The source whose functions a file of proofs/ is about: the folders after the modules are those of a function; None of a file of lemmas."""
+    folders = path.split("/")[1:-1]
+    tried = ["/".join(["src", *folders[:count]]) + ".rt" for count in range(len(folders) - 1, 0, -1)]
+    return next((it for it in tried if it in texts), None) if path.startswith("proofs/") else None
 
 
 def cone_of(path, texts, crate):
@@ -95,9 +103,9 @@ def cone_of(path, texts, crate):
     for file, text in texts.items():
         words = [it[0] for it in NAMED.finditer(text) if it[1] in (None, crate)]
         names[file] = {file_named(it, texts) for it in words}
-        if file.startswith("src/"):
-            own = f"proofs/{file[4:-3]}/"
-            names[file] |= {it for it in texts if it.startswith(own)}
+    for file in texts:
+        if source_of(file, texts):
+            names[source_of(file, texts)].add(file)
     cone, more = set(), {path}
     while more:
         cone |= more

@@ -9,8 +9,8 @@ from pathlib import Path
 
 from proved import TOP
 
-USE = re.compile(r"^( *)(pub )?(?:ghost )?use Rattle\.(\w+)\.(specs|proofs)\.([\w.-]+?)(?:\.\{([^}]*)\}| as (\S+?))?;?$", re.M)
-IN_CODE = re.compile(r"\bcrate::(specs|proofs)::([\w:-]+)")
+USE = re.compile(r"^( *)(pub )?(?:ghost )?use Rattle\.(\w+)\.(specs|proofs)(?:\.([\w.-]+?))?(?:\.\{([^}]*)\}| as (\S+?))?;?$", re.M)
+IN_CODE = re.compile(r"\b(\w+)::(specs|proofs)::([\w:-]+)")
 CONSTRUCTOR = re.compile(r"^  ([^\s:(]+) :", re.M)
 WRITTEN = {"Given", "Goals", "Answers", "Invariants", "Ends", "Entry", "Statement", "Code"}  # (of a function, by rattle)
 OF_TYPES = {"TheLaws", "TheSendSync"}  # (of a type, by rattle)
@@ -64,6 +64,11 @@ def public_modules(crate):
     return set(re.findall(r"^pub mod (\w+);", text_of(crates() / crate / "src/lib.rt") or "", re.M))
 
 
+@lru_cache(None)
+def private_modules(crate):
+    return set(re.findall(r"^mod (\w+);", text_of(crates() / crate / "src/lib.rt") or "", re.M))
+
+
 def source_of(crate, words):
     """The file of code whose module the first of the words name, and the words after it."""
     for count in range(len(words), 0, -1):
@@ -96,16 +101,18 @@ def fault_of_declared(crate, words, names, is_foreign):
 
 def fault_of(own, crate, part, words, names):
     """What is wrong with an import of these names from a module; None where nothing is."""
-    if words[0] == "declared":
+    if words[:1] == ["declared"]:
         return fault_of_declared(crate, words[1:], names, own != crate)
-    if words[0] == "contracts":
+    if words[:1] == ["contracts"]:
         file, _ = source_of(crate, words[1:])
         return None if file else f"no file of code {'.'.join(words[1:])}"
-    file = (crates() / crate / part).joinpath(*words).with_suffix(".antt")
-    if text_of(file) is None and words[-1] in WRITTEN:
+    file = (crates() / crate / part).joinpath(*(words or ["Lib"])).with_suffix(".antt")
+    if words and text_of(file) is None and words[-1] in WRITTEN:
         return None if functions(crate).intersection(words[1:-1]) else f"no function {'.'.join(words[:-1])}"
-    if text_of(file) is None and words[-1] in OF_TYPES:
+    if words and text_of(file) is None and words[-1] in OF_TYPES:
         return fault_of_declared(crate, words[:-1], [], own != crate)
+    if own != crate and part == "proofs" and words and words[0] in private_modules(crate):
+        return f"{words[0]} is private: proofs/Lib.antt passes on what other crates name of its laws"
     if text_of(file) is None and not names and len(words) > 1:  # (a name alone, without braces)
         file, names = file.parent.with_suffix(".antt"), [(words[-1], words[-1])]
     if text_of(file) is None:
@@ -127,23 +134,24 @@ def faults_of_uses(file, crate, text):
     body = USE.sub("", text)
     for use in USE.finditer(text):
         _, is_public, of, part, path, names, alias = use.groups()
-        pairs, words = listed(names or ""), path.split(".")
+        pairs, words = listed(names or ""), path.split(".") if path else []
         fault = fault_of(crate, of, part, words, pairs) if (crates() / of).is_dir() else None
         if fault:
-            yield f"{of}.{part}.{path}: {fault}"
+            yield f"{'.'.join([of, part, *words])}: {fault}"
         own = [it for _, it in pairs] if names is not None else [alias or words[-1]]
         idle = [] if is_public or file.suffix == ".rt" else [it for it in own if not is_used(it, body)]
         if idle:
-            yield f"imports {', '.join(idle)} of {of}.{part}.{path}, and doesn't use it"
+            yield f"imports {', '.join(idle)} of {'.'.join([of, part, *words])}, and doesn't use it"
 
 
 def faults_of_paths(crate, text):
     """What is wrong with the definitions and lemmas that code names by their paths."""
-    for part, path in IN_CODE.findall(text):
+    for of, part, path in IN_CODE.findall(text):
         *module, name = path.split("::")
-        fault = fault_of(crate, crate, part, module, [(name, name)])
+        of = crate if of == "crate" else of
+        fault = fault_of(crate, of, part, module, [(name, name)]) if (crates() / of).is_dir() else None
         if fault:
-            yield f"crate::{part}::{path}: {fault}"
+            yield f"{of}::{part}::{path}: {fault}"
 
 
 def faults_of(file):
@@ -154,15 +162,17 @@ def faults_of(file):
 
 
 def unlisted(lib):
-    """The modules that a root lists and has not, or has and doesn't list."""
+    """The modules that a root or a room lists and has not, or has and doesn't list."""
     listed_here = set(re.findall(r"^pub mod (\w+)$", text_of(lib), re.M))
-    there = {it.stem for it in lib.parent.glob("*.antt")} - {"Lib"}
+    folder = lib.parent if lib.stem == "Lib" else lib.with_suffix("")
+    # (of laws `rattle` finds the rooms by the modules of code)
+    there = {it.stem for it in folder.glob("*.antt") if it.stem[0].isupper() or "specs" in it.parts} - {"Lib"}
     for name in sorted(listed_here ^ there):
         yield f"{lib.relative_to(crates())}: {name} is {'listed, and not there' if name in listed_here else 'there, and not listed'}"
 
 
 def faults():
-    for lib in sorted(crates().glob("*/*/Lib.antt")):
+    for lib in sorted(it for it in crates().glob("*/*/*.antt") if it.stem == "Lib" or it.stem[0].islower()):
         yield from unlisted(lib)
     for file in sorted(it for part in ("src", "specs", "proofs") for it in crates().glob(f"*/{part}/**/*") if it.suffix in (".rt", ".antt")):
         yield from faults_of(file)

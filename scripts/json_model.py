@@ -2,6 +2,7 @@
 is read line by line, with a pattern for each key, as sdp-transform does.
 The forms are those of docs/GRAMMAR.md, as they print; nothing of the library is asked."""
 import ipaddress
+import json
 import re
 
 NUMBER = re.compile(r"0|[1-9]\d*")
@@ -68,6 +69,7 @@ KINDS = {"audio": 0, "video": 1, "application": 2}
 PROTOCOLS = ("UDP/TLS/RTP/SAVPF", "UDP/DTLS/SCTP")
 DIRECTIONS = ("sendrecv", "sendonly", "recvonly", "inactive")
 SETUPS = ("", "actpass", "active", "passive")
+WAYS = {"send": DIRECTIONS.index("sendonly"), "recv": DIRECTIONS.index("recvonly")}
 HASH = r"\S+ [0-9A-F]{2}(?::[0-9A-F]{2})*"
 HASHES = {"sha-256": 0, "sha-1": 1}  # (RFC 8122, section 5.1: how they are preferred)
 WORDS = ("transport-cc", "nack", "nack pli", "ccm fir", "goog-remb")  # of rows, as docs/C.md has them
@@ -126,16 +128,46 @@ def description(text):
     return whole
 
 
+def said(lines, pattern):
+    return [found[1] for line in lines if (found := re.fullmatch(pattern, line))]
+
+
+def streams(lines):
+    """What `texts facts` is to print of a section's streams."""
+    yield (said(lines, MEDIA["msid"][0]) or [""])[0]
+    yield from (line.removeprefix("extmap:") for line in lines if re.fullmatch(MEDIA["[ext]"][0], line))
+    for rid in filter(None, (re.fullmatch(MEDIA["[rids]"][0], it) for it in lines)):
+        yield f"{WAYS[rid[2]]} {rid[1]} {rid[3] or ''}"
+    for line in [it for it in (re.fullmatch(MEDIA["simulcast"][0], it) for it in lines) if it][-1:]:
+        sides = [(line[1], line[2]), (line[3], line[4])]
+        yield from (f"{WAYS[way]} {int(it.startswith('~'))} {it.removeprefix('~')}" for way, names in sides if way for it in names.split(";"))
+
+
+def sources(lines):
+    """What it is to print of a section's sources and their groups (RFC 5576): a group FID of two says that the second repairs the first."""
+    grouped = [(it[1], it[2].split(" ")) for it in (re.fullmatch(MEDIA["[ssrcGroups]"][0], line) for line in lines) if it]
+    described = [it.groups() for it in (re.fullmatch(MEDIA["[ssrcs]"][0], line) for line in lines) if it]
+    repaired = {pair[1]: pair[0] for kind, pair in grouped if kind.upper() == "FID" and len(pair) == 2}
+    for ssrc in dict.fromkeys([*(it[0] for it in described), *repaired]):
+        said = {name.lower(): value for of, name, value in described if of == ssrc}
+        ids = [ids_of(value) for of, name, value in described if of == ssrc and name.lower() == "msid"]
+        stream, track = ((pieces or [""])[-1] for pieces in ([it[0] for it in ids], [it[1] for it in ids if len(it) > 1]))
+        yield f"{ssrc} {repaired.get(ssrc, 0)} {int(ssrc in repaired)} [{said.get('cname', '')}] [{stream}] [{track}]"
+    yield from (f"{i} {kind} {ssrc}" for i, (kind, ssrcs) in enumerate(grouped) for ssrc in ssrcs)
+
+
+def ids_of(value):
+    """The id of a stream and, where a space stands behind it, that of its track; `-` is none."""
+    return ["" if it.strip() == "-" else it.strip() for it in value.split(" ")[:2]]
+
+
 def facts(text):
-    """What `texts facts` is to print of a printed text: each section in numbers, credentials, fingerprint, candidates."""
+    """What `texts facts` is to print of a printed text: each section in numbers and with its streams, credentials, fingerprint, role, candidates."""
     parts = [[]]
     for line in text.removesuffix("\r\n").split("\r\n"):
         if line.startswith("m="):
             parts.append([])
         parts[-1].append(line.removeprefix("a="))
-
-    def said(lines, pattern):
-        return [found[1] for line in lines if (found := re.fullmatch(pattern, line))]
 
     for head, *lines in parts[1:]:
         kind, port, protocol, _ = head.removeprefix("m=").split(" ", 3)
@@ -143,10 +175,14 @@ def facts(text):
         setup = (said(lines, BOTH["setup"][0]) or [""])[0]
         numbers = KINDS.get(kind, 3), PROTOCOLS.index(protocol), DIRECTIONS.index(direction), SETUPS.index(setup), int(port == "0")
         yield " ".join(map(str, numbers))
+        yield from streams(lines)
+        yield from sources(lines)
     pairs = ((said(lines, BOTH["iceUfrag"][0]), said(lines, BOTH["icePwd"][0])) for lines in parts)
     yield from next(((ufrags[0], pwds[0]) for ufrags, pwds in pairs if ufrags and pwds), ("", ""))
     hashes = next(filter(None, (said(lines, f"fingerprint:({HASH})") for lines in parts)), [""])
     yield min(hashes, key=lambda it: HASHES.get(it.split(" ")[0].lower(), 2))
+    roles = [role for lines in parts for role in said(lines, BOTH["setup"][0])]
+    yield str(SETUPS.index((roles or [""])[0]))
     found = [it for lines in parts for line in lines if (it := re.fullmatch(CANDIDATE, line))]
     yield from dict.fromkeys(it[0] for it in found if all(is_address(part) for part in (it[5], it[8]) if part))
 
@@ -164,8 +200,20 @@ def feedback(section, row):
     return [it for it in WORDS if it in said or (it != WORDS[0] and row["codec"] in VIDEO)]
 
 
-def fault(found, text, rows):
-    """What is wrong with JSON, parsed, of a description that prints this text, and whose rows are these lines; empty where it is right."""
+def in_order(members):
+    """The members of an object, which has each key once, in the order of their bytes."""
+    keys = [key.encode() for key, _ in members]
+    if keys != sorted(set(keys)):
+        raise ValueError(f"the keys {keys} aren't in order")
+    return dict(members)
+
+
+def fault(written, text, rows):
+    """What is wrong with JSON of a description that prints this text, and whose rows are these lines; empty where it is right."""
+    try:
+        found = json.loads(written, object_pairs_hook=in_order)
+    except ValueError as error:
+        return f"it isn't read: {error}"
     lines = ""
     for section in found["media"]:
         for row in section.pop("rows"):

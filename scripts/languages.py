@@ -20,7 +20,7 @@ DATA = TOP / "data"
 EXAMPLES = TOP / "examples"
 BINDINGS = TOP / "bindings"
 OFFER = EXAMPLES / "chromium-audio-offer.sdp"
-OWN = TESTS / "short.sdp"
+OWN, STREAMS = TESTS / "short.sdp", TESTS / "streams.sdp"
 STRICT = ["-Wall", "-Wextra", "-Werror"]
 
 
@@ -105,7 +105,7 @@ def in_c(tried):
 def in_cpp(tried):
     compiler = ["c++", "-std=c++17"]
     tests = compiled(tried, compiler, BINDINGS / "cpp" / "tests.cpp")
-    tried.passes("cpp", [tests], lambda said: sum(map(int, re.findall(r"^(\d+) passed, 0 failed$", said, re.M))))
+    tried.passes("cpp", [tests, OFFER, STREAMS], lambda said: sum(map(int, re.findall(r"^(\d+) passed, 0 failed$", said, re.M))))
     tried.prints("rows.cpp", [compiled(tried, compiler, BINDINGS / "cpp" / "rows.cpp"), OFFER], "rows.txt")
     tried.answers("exchange.cpp", [compiled(tried, compiler, BINDINGS / "cpp" / "exchange.cpp")])
 

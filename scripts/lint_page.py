@@ -1,5 +1,5 @@
 #!/usr/bin/env python3
-"""Whether docs/LINT.md says of each code what the table of crates/lint says (src/rows.rt), which `sdplint --explain` prints, too.
+"""Whether docs/LINT.md says of each code what the table of crates/lint says (src/table.rt), which `sdplint --explain` prints, too.
 
     scripts/lint_page.py --write   writes the page's tables from it
 
@@ -10,7 +10,7 @@ import sys
 
 from proved import TOP
 
-TABLE = TOP / "crates" / "lint" / "src" / "rows.rt"
+TABLE = TOP / "crates" / "lint" / "src" / "table.rt"
 CODES = TOP / "crates" / "lint" / "src" / "code.rt"
 PAGE = TOP / "docs" / "LINT.md"
 MARK = "<!-- codes -->\n"
@@ -37,14 +37,14 @@ def severities():
 
 
 def cases_of(enum):
-    """The cases of an enum, in the order of their rows."""
+    """The cases of an enum, in the order of their entries."""
     return re.findall(r"^    (\w+),$", re.search(rf"^pub enum {enum} \{{\n(.*?)^\}}", CODES.read_text("utf-8"), re.M | re.S)[1], re.M)
 
 
 def tables():
-    """The rows of each table, as texts by their fields."""
-    for name, body in re.findall(r"^pub static (\w+): \[Row; \d+\] = \[\n(.*?)^\];", TABLE.read_text("utf-8"), re.M | re.S):
-        row = r"Row \{\s*" + r"\s*".join(rf'{it}: "((?:[^"\\]|\\.)*)",' for it in FIELDS)
+    """The entries of each table, as texts by their fields."""
+    for name, body in re.findall(r"^pub static (\w+): \[Entry; \d+\] = \[\n(.*?)^\];", TABLE.read_text("utf-8"), re.M | re.S):
+        row = r"Entry \{\s*" + r"\s*".join(rf'{it}: "((?:[^"\\]|\\.)*)",' for it in FIELDS)
         yield name, [dict(zip(FIELDS, (ESCAPE.sub(r"\1", text) for text in found))) for found in re.findall(row, body)]
 
 

@@ -1,5 +1,5 @@
 #!/usr/bin/env python3
-"""Whether no line of a proof has more than 140 characters. No part of ./test, since some have more yet.
+"""Whether no line of a proof has more than 140 characters.
 
     scripts/long_lines.py --mend   breaks those that have, and lays the files out by `rt fmt`
 

@@ -73,7 +73,7 @@ def missing(block, file):
 
 def code_of(*crates):
     folders = [it for name in crates for it in sorted((TOP / "crates").glob(name))]
-    return {file: file.read_text() for crate in folders for file in sorted((crate / "src").glob("*.rt"))}
+    return {file: file.read_text() for crate in folders for file in sorted((crate / "src").rglob("*.rt"))}
 
 
 def block_faults(block, files):

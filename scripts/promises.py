@@ -14,7 +14,7 @@ ITEM = re.compile(r"^- (?:.+\n(?:  .+\n)*)", re.M)
 
 
 def edits(crate):
-    return {it.stem for folder in ("edits", "must-fail") for it in (TOP / "crates" / crate / folder).glob("*.edit")}
+    return {it.stem for folder in ("edits", "must-fail") for it in (TOP / "crates" / crate / folder).rglob("*.edit")}
 
 
 def unknown(names, crate):

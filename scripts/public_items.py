@@ -10,7 +10,7 @@ from calls_made import closing
 from proved import TOP
 
 MODULES = re.compile(r"^pub mod (\w+);", re.M)
-PASSED_ON = re.compile(r"^pub use (\w+)::(?:\w+::)*(\w+|\{.*?\});", re.M | re.S)
+PASSED_ON = re.compile(r"^pub use ((?:\w+::)+)(\w+|\{.*?\});", re.M | re.S)
 ITEM = re.compile(r"(pub (?:const )?)(struct|enum|trait|type|fn|const|static) (\w+)")
 IMPL = re.compile(r"impl(?:<.*?>)? (?:(?P<trait>[\w:]+(?:<.*>)?) for )?(?P<type>.+?) \{")
 FUNCTION = re.compile(r"(?:pub )?(?:const )?fn (\w+)")
@@ -135,13 +135,14 @@ class Library:
 
     def __init__(self, crate):
         source = TOP / "crates" / crate / "src"
-        read = {it.stem: items(it.read_text("utf-8")) for it in sorted(source.glob("*.rt"))}
+        read = {it.stem: items(it.read_text("utf-8")) for it in sorted(source.rglob("*.rt"))}
         root = (source / "lib.rt").read_text("utf-8")
         self.comment = head(root)
         self.modules = {name: list(read[name][0].values()) for name in MODULES.findall(root)}
         self.comments = {name: head((source / f"{name}.rt").read_text("utf-8")) for name in self.modules}
         self.own, self.passed_on, self.others = {}, {}, []
-        for module, names in PASSED_ON.findall(root):
+        for path, names in PASSED_ON.findall(root):
+            module = path.split("::")[-2]
             for name in re.findall(r"\w+", names):
                 if module in read:
                     self.own[name] = read[module][0][name]

@@ -13,7 +13,7 @@ TABLES = {  # (of each table the rows' texts)
     "str0m_values/src/candidate_label.rt": CONSTANT,
     "str0m_values/src/direction_label.rt": CONSTANT,
     "str0m_formats/src/codec.rt": r'Codec::\w+ => "([^"]+)"',
-    "str0m_formats/src/format_key.rt": r'(?:^pub\(crate\) const \w+: &str = |FormatKey::\w+, )"([^"]+)"',
+    "str0m_formats/src/format/format_key.rt": r'(?:^pub\(crate\) const \w+: &str = |FormatKey::\w+, )"([^"]+)"',
     "str0m_sdp/src/label.rt": CONSTANT,
 }
 MOST = 2

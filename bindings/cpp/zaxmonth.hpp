@@ -29,7 +29,7 @@ namespace detail {
 
 inline void check(zax_status status, const char *message = "")
 {
-    static const char *const said[] = {"", "the text describes no session", "the text is not UTF-8", "", "", "there is no such section or row",
+    static const char *const said[] = {"", "the text describes no session", "the text is not UTF-8", "", "", "there is no such section or item",
                                        "nothing is agreed that could be printed there", "an argument is none that the library takes"};
     if (status == ZAX_E_MEMORY)
         throw std::bad_alloc();
@@ -76,40 +76,69 @@ class Session {
     // The line at which reading ended; 0 where all was read.
     uint32_t ended_at() const { return ended_at_; }
     size_t sections() const { return zax_sections(get()); }
-    std::string text() const
+    std::string text() const { return said<std::string>(zax_print); }
+    std::string mid(size_t section) const { return said<std::string>(zax_section_mid, section); }
+    // The ids of a stream and of a track with a space between them; empty where the section has none.
+    std::string msid(size_t section) const { return said<std::string>(zax_section_msid, section); }
+    std::vector<zax_row> rows(size_t section) const { return said<std::vector<zax_row>>(zax_rows, section); }
+    std::string codec(size_t section, size_t row) const { return said<std::string>(zax_row_codec, section, row); }
+    std::string fmtp(size_t section, size_t row) const { return said<std::string>(zax_row_fmtp, section, row); }
+    std::vector<zax_extension> extensions(size_t section) const { return said<std::vector<zax_extension>>(zax_section_extensions, section); }
+    std::string extension_uri(size_t section, size_t extension) const { return said<std::string>(zax_extension_uri, section, extension); }
+    std::vector<zax_rid> rids(size_t section) const { return said<std::vector<zax_rid>>(zax_section_rids, section); }
+    std::string rid_name(size_t section, size_t rid) const { return said<std::string>(zax_rid_name, section, rid); }
+    std::string rid_restrictions(size_t section, size_t rid) const { return said<std::string>(zax_rid_restrictions, section, rid); }
+    std::vector<zax_layer> layers(size_t section) const { return said<std::vector<zax_layer>>(zax_section_layers, section); }
+    std::string layer_name(size_t section, size_t layer) const { return said<std::string>(zax_layer_name, section, layer); }
+    std::vector<zax_source> sources(size_t section) const { return said<std::vector<zax_source>>(zax_section_sources, section); }
+    std::string source_cname(size_t section, size_t source) const { return said<std::string>(zax_source_cname, section, source); }
+    std::string source_stream(size_t section, size_t source) const { return said<std::string>(zax_source_stream, section, source); }
+    std::string source_track(size_t section, size_t source) const { return said<std::string>(zax_source_track, section, source); }
+    std::vector<zax_group_source> source_groups(size_t section) const
     {
-        return detail::filled<std::string>([&](char *room, size_t cap, size_t *needed) { return zax_print(get(), room, cap, needed); });
+        return said<std::vector<zax_group_source>>(zax_section_source_groups, section);
     }
-    std::string mid(size_t section) const
+    std::string group_semantics(size_t section, size_t group) const { return said<std::string>(zax_group_semantics, section, group); }
+    // What a section is, in numbers.
+    zax_section section(size_t section) const { return answered<zax_section>([&](zax_section *to) { return zax_section_info(get(), section, to); }); }
+    // Whether Config::answer may write into the section.
+    bool is_writable(size_t section) const { return answered<int>([&](int *to) { return zax_is_writable(get(), section, to); }) != 0; }
+    // Of the session, else of the first section that says it; empty, or ZAX_NO_SETUP, where none does.
+    std::string ice_ufrag() const { return said<std::string>(zax_ice_ufrag); }
+    std::string ice_pwd() const { return said<std::string>(zax_ice_pwd); }
+    std::string fingerprint() const { return said<std::string>(zax_fingerprint); }
+    zax_setup setup() const
     {
-        return detail::filled<std::string>(
-            [&](char *room, size_t cap, size_t *needed) { return zax_section_mid(get(), section, room, cap, needed); });
+        return static_cast<zax_setup>(answered<uint32_t>([&](uint32_t *to) { return zax_session_setup(get(), to); }));
     }
-    std::vector<zax_row> rows(size_t section) const
+    // Each once, without "a=".
+    std::vector<std::string> candidates() const
     {
-        return detail::filled<std::vector<zax_row>>(
-            [&](zax_row *room, size_t cap, size_t *needed) { return zax_rows(get(), section, room, cap, needed); });
+        std::vector<std::string> found(answered<size_t>([&](size_t *to) { return zax_candidates(get(), to); }));
+        for (size_t i = 0; i < found.size(); i++)
+            found[i] = said<std::string>(zax_candidate, i);
+        return found;
     }
-    std::string codec(size_t section, size_t row) const
-    {
-        return detail::filled<std::string>(
-            [&](char *room, size_t cap, size_t *needed) { return zax_row_codec(get(), section, row, room, cap, needed); });
-    }
-    std::string fmtp(size_t section, size_t row) const
-    {
-        return detail::filled<std::string>(
-            [&](char *room, size_t cap, size_t *needed) { return zax_row_fmtp(get(), section, row, room, cap, needed); });
-    }
-    std::string json() const
-    {
-        return detail::filled<std::string>([&](char *room, size_t cap, size_t *needed) { return zax_json(get(), room, cap, needed); });
-    }
+    std::string json() const { return said<std::string>(zax_json); }
     zax_session *get() const { return handle_.get(); }
 
   protected:
     explicit Session(zax_session *made) : handle_(made) {}
 
   private:
+    // What a call writes of the description, or of what stands at such places of it.
+    template <class Items, class Call, class... Places> Items said(Call call, Places... places) const
+    {
+        return detail::filled<Items>([&](typename Items::value_type *room, size_t cap, size_t *needed) {
+            return call(get(), places..., room, cap, needed);
+        });
+    }
+    template <class Answer, class Call> static Answer answered(Call call)
+    {
+        Answer found{};
+        detail::check(call(&found));
+        return found;
+    }
     struct Free {
         void operator()(zax_session *session) const { zax_session_free(session); }
     };

@@ -5,26 +5,6 @@ import "C"
 
 import "io"
 
-// A Kind is what media a section carries.
-type Kind uint8
-
-// The kinds of media.
-const (
-	Audio Kind = C.ZAX_AUDIO
-	Video Kind = C.ZAX_VIDEO
-)
-
-// A Direction is what a side is ready for in a section.
-type Direction uint8
-
-// The directions; SendRecv is the zero value.
-const (
-	SendRecv Direction = C.ZAX_SENDRECV
-	SendOnly Direction = C.ZAX_SENDONLY
-	RecvOnly Direction = C.ZAX_RECVONLY
-	Inactive Direction = C.ZAX_INACTIVE
-)
-
 // A State is whether an offer of this side waits for its answer (RFC 8829, section 3.2).
 type State uint32
 

@@ -153,7 +153,7 @@ func TestOwnSidesThatAreRefused(t *testing.T) {
 		"zaxmonth: fingerprint: ":              func(own *OwnSide) { own.Fingerprint = "" },
 		"zaxmonth: candidate: ":                func(own *OwnSide) { own.Candidates = []string{"word"} },
 		"zaxmonth: text is not UTF-8":          func(own *OwnSide) { own.Extensions = []string{"", "\xff"} },
-		"zaxmonth: no configuration, no text ": func(own *OwnSide) { own.Audio = 4 },
+		"zaxmonth: no configuration, no text,": func(own *OwnSide) { own.Audio = 4 },
 	} {
 		own := ownSide(t)
 		change(&own)

@@ -34,6 +34,19 @@ func callsOf(session *Session) map[string]error {
 	_, found["WriteTo"] = session.WriteTo(&strings.Builder{})
 	_, found["JSON"] = session.JSON()
 	_, found["Mid"] = session.Mid(0)
+	_, found["Msid"] = session.Msid(0)
+	_, found["Extensions"] = session.Extensions(0)
+	_, found["Rids"] = session.Rids(0)
+	_, found["Layers"] = session.Layers(0)
+	_, found["Sources"] = session.Sources(0)
+	_, found["SourceGroups"] = session.SourceGroups(0)
+	_, found["Section"] = session.Section(0)
+	_, found["IsWritable"] = session.IsWritable(0)
+	_, found["ICEUfrag"] = session.ICEUfrag()
+	_, found["ICEPwd"] = session.ICEPwd()
+	_, found["Fingerprint"] = session.Fingerprint()
+	_, found["Setup"] = session.Setup()
+	_, found["Candidates"] = session.Candidates()
 	_, found["Rows"] = session.Rows(0)
 	return found
 }
@@ -152,7 +165,7 @@ func TestNothingIsLeftBehind(t *testing.T) {
 			session, rows := read(t, from), config(t)
 			must[[]Outcome](t)(rows.Negotiate(from))
 			is(t, rows.Answer(session, 0), nil)
-			is(t, len(callsOf(session)), 5)
+			is(t, len(callsOf(session)), 18)
 			if closes {
 				session.Close()
 				rows.Close()

@@ -121,34 +121,36 @@ func rowOf(raw *C.zax_row, name, fmtp string) Row {
 	}
 }
 
-// A rowText is a call that writes a text of a row into room.
-type rowText func(C.size_t, *C.char, C.size_t, *C.size_t) C.zax_status
+// An itemText is a call that writes a text of a row, or of another item, into room.
+type itemText func(C.size_t, *C.char, C.size_t, *C.size_t) C.zax_status
 
-// of is what the call writes of a row.
-func (call rowText) of(row int) (string, error) {
+// of is what the call writes of an item.
+func (call itemText) of(item int) (string, error) {
 	said, err := textOf(func(room *C.char, size C.size_t, needed *C.size_t) C.zax_status {
-		return call(C.size_t(row), room, size, needed)
+		return call(C.size_t(item), room, size, needed)
 	})
 	return string(said), err
 }
 
-// rowsOf is the rows that a call writes, with the names of their codecs and their formats, which two others say.
-func rowsOf(call func(*C.zax_row, C.size_t, *C.size_t) C.zax_status, codec, fmtp rowText) ([]Row, error) {
+// itemsOf is the items that a call writes, each made of what it is and of the texts that other calls write of it.
+func itemsOf[R, T any](call func(*R, C.size_t, *C.size_t) C.zax_status, made func(*R, []string) T, texts ...itemText) ([]T, error) {
 	raw, err := filled(128, call)
 	if err != nil {
 		return nil, err
 	}
-	rows := make([]Row, len(raw))
+	items, said := make([]T, len(raw)), make([]string, len(texts))
 	for i := range raw {
-		name, err := codec.of(i)
-		if err != nil {
-			return nil, err
+		for j, text := range texts {
+			if said[j], err = text.of(i); err != nil {
+				return nil, err
+			}
 		}
-		format, err := fmtp.of(i)
-		if err != nil {
-			return nil, err
-		}
-		rows[i] = rowOf(&raw[i], name, format)
+		items[i] = made(&raw[i], said)
 	}
-	return rows, nil
+	return items, nil
+}
+
+// rowsOf is the rows that a call writes, with the names of their codecs and their formats, which two others say.
+func rowsOf(call func(*C.zax_row, C.size_t, *C.size_t) C.zax_status, codec, fmtp itemText) ([]Row, error) {
+	return itemsOf(call, func(raw *C.zax_row, said []string) Row { return rowOf(raw, said[0], said[1]) }, codec, fmtp)
 }

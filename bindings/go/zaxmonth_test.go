@@ -89,7 +89,7 @@ func TestRowsOfAnOffer(t *testing.T) {
 	})
 }
 
-func TestRowsOfPictures(t *testing.T) {
+func TestRowsOfVideo(t *testing.T) {
 	session := read(t, twoSections(t))
 	is(t, session.Sections(), 2)
 	is(t, must[string](t)(session.Mid(1)), "1")

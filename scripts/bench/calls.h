@@ -12,6 +12,7 @@ uint64_t bench_rows(const uint8_t *text, size_t length, uint32_t more);
 uint64_t bench_defaults(const uint8_t *text, size_t length, uint32_t more);
 uint64_t bench_rounds(const uint8_t *text, size_t length, uint32_t more);
 uint64_t bench_negotiate(const uint8_t *text, size_t length, uint32_t more);
+uint64_t bench_exchange(const uint8_t *text, size_t length, uint32_t more);
 uint64_t bench_answer(const uint8_t *text, size_t length, uint32_t more);
 uint64_t bench_print(const uint8_t *text, size_t length, uint32_t more);
 uint64_t bench_sources(const uint8_t *text, size_t length, uint32_t more);

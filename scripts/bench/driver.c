@@ -41,6 +41,7 @@ static const struct call CALLS[] = {
     {"defaults", bench_defaults, 1},
     {"rounds", bench_rounds, 1},
     {"negotiate", bench_negotiate, 0},
+    {"exchange", bench_exchange, 1},
     {"answer", bench_answer, 0},
     {"print", bench_print, 1},
     {"sources", bench_sources, 1},

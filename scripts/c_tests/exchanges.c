@@ -159,6 +159,11 @@ static void hostile_own(void)
     said = own;
     said.audio = 4;
     new_is(&said, ZAX_E_ARGUMENT, NULL);
+    for (int i = 0; i < 2; i++) {
+        said = own;
+        said.reserved[i] = 1;
+        new_is(&said, ZAX_E_ARGUMENT, NULL);
+    }
     said = own;
     said.ice_ufrag = (zax_slice)SLICE("\xff");
     new_is(&said, ZAX_E_UTF8, "text is not UTF-8");

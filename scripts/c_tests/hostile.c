@@ -1,4 +1,5 @@
-/* Hostile arguments: each call answers a status, writes nothing beyond its room and reads nothing beyond its text.   hostile FILE */
+/* Hostile arguments: each call answers a status, writes nothing beyond its room and reads nothing beyond its text.
+ *     hostile FILE STREAMS        (streams.sdp) */
 #include <zaxmonth.h>
 
 #include <stdio.h>
@@ -43,6 +44,25 @@ typedef zax_status call_t(void *owner, void *room, size_t cap, size_t *needed);
 
 static zax_status print(void *s, void *room, size_t cap, size_t *needed) { return zax_print(s, room, cap, needed); }
 static zax_status mid(void *s, void *room, size_t cap, size_t *needed) { return zax_section_mid(s, 0, room, cap, needed); }
+static zax_status msid(void *s, void *room, size_t cap, size_t *needed) { return zax_section_msid(s, 0, room, cap, needed); }
+static zax_status extensions(void *s, void *room, size_t cap, size_t *needed) { return zax_section_extensions(s, 0, room, cap, needed); }
+static zax_status uri(void *s, void *room, size_t cap, size_t *needed) { return zax_extension_uri(s, 0, 1, room, cap, needed); }
+static zax_status rids(void *s, void *room, size_t cap, size_t *needed) { return zax_section_rids(s, 0, room, cap, needed); }
+static zax_status rid(void *s, void *room, size_t cap, size_t *needed) { return zax_rid_name(s, 0, 1, room, cap, needed); }
+static zax_status unrestricted(void *s, void *room, size_t cap, size_t *needed) { return zax_rid_restrictions(s, 0, 0, room, cap, needed); }
+static zax_status restricted(void *s, void *room, size_t cap, size_t *needed) { return zax_rid_restrictions(s, 0, 1, room, cap, needed); }
+static zax_status without_types(void *s, void *room, size_t cap, size_t *needed) { return zax_rid_restrictions(s, 0, 2, room, cap, needed); }
+static zax_status layers(void *s, void *room, size_t cap, size_t *needed) { return zax_section_layers(s, 0, room, cap, needed); }
+static zax_status layer(void *s, void *room, size_t cap, size_t *needed) { return zax_layer_name(s, 0, 1, room, cap, needed); }
+static zax_status last_layer(void *s, void *room, size_t cap, size_t *needed) { return zax_layer_name(s, 0, 2, room, cap, needed); }
+static zax_status sources(void *s, void *room, size_t cap, size_t *needed) { return zax_section_sources(s, 0, room, cap, needed); }
+static zax_status cname(void *s, void *room, size_t cap, size_t *needed) { return zax_source_cname(s, 0, 0, room, cap, needed); }
+static zax_status stream(void *s, void *room, size_t cap, size_t *needed) { return zax_source_stream(s, 0, 0, room, cap, needed); }
+static zax_status track(void *s, void *room, size_t cap, size_t *needed) { return zax_source_track(s, 0, 0, room, cap, needed); }
+static zax_status second_cname(void *s, void *room, size_t cap, size_t *needed) { return zax_source_cname(s, 0, 1, room, cap, needed); }
+static zax_status no_stream(void *s, void *room, size_t cap, size_t *needed) { return zax_source_stream(s, 0, 1, room, cap, needed); }
+static zax_status groups(void *s, void *room, size_t cap, size_t *needed) { return zax_section_source_groups(s, 0, room, cap, needed); }
+static zax_status semantics(void *s, void *room, size_t cap, size_t *needed) { return zax_group_semantics(s, 0, 1, room, cap, needed); }
 static zax_status rows(void *s, void *room, size_t cap, size_t *needed) { return zax_rows(s, 0, room, cap, needed); }
 static zax_status fmtp(void *s, void *room, size_t cap, size_t *needed) { return zax_row_fmtp(s, 0, 0, room, cap, needed); }
 static zax_status codec(void *s, void *room, size_t cap, size_t *needed) { return zax_row_codec(s, 0, 0, room, cap, needed); }
@@ -226,6 +246,29 @@ static void facts(zax_session *session)
     IS(writable, 1);
 }
 
+/* The role in the handshake is that of the session, else of the first section that says one. */
+static void roles(void)
+{
+    static const char begin[] = "v=0\r\no=- 1 2 IN IP4 0.0.0.0\r\ns=-\r\nt=0 0\r\n", own[] = "a=setup:passive\r\n";
+    static const char none[] = "m=audio 9 UDP/TLS/RTP/SAVPF 0\r\nc=IN IP4 0.0.0.0\r\na=mid:0\r\na=sendrecv\r\n";
+    static const char active[] = "m=audio 9 UDP/TLS/RTP/SAVPF 0\r\nc=IN IP4 0.0.0.0\r\na=mid:1\r\na=sendrecv\r\na=setup:active\r\n";
+    static const struct { const char *own; const char *other; uint32_t setup; } said[] = {
+        {"", none, ZAX_NO_SETUP}, {"", active, ZAX_ACTIVE}, {own, active, ZAX_PASSIVE}};
+    for (size_t i = 0; i < sizeof said / sizeof *said; i++) {
+        char all[512];
+        zax_session *session;
+        uint32_t setup = 7;
+        int size = snprintf(all, sizeof all, "%s%s%s%s", begin, said[i].own, none, said[i].other == none ? "" : said[i].other);
+        IS(zax_read(all, (size_t)size, &session, NULL), ZAX_OK);
+        IS(zax_session_setup(session, NULL), ZAX_E_ARGUMENT);
+        IS(zax_session_setup(NULL, &setup), ZAX_E_ARGUMENT);
+        IS(setup, 7);
+        IS(zax_session_setup(session, &setup), ZAX_OK);
+        IS(setup, said[i].setup);
+        zax_session_free(session);
+    }
+}
+
 /* A candidate that stands twice is one. */
 static void candidates(void)
 {
@@ -250,6 +293,159 @@ static void candidates(void)
     IS(got, 0);
     IS(zax_fingerprint(session, found, sizeof found, &got), ZAX_OK);
     IS(got, 0);
+    zax_session_free(session);
+}
+
+/* What a call writes is this text. */
+static void says(call_t *call, zax_session *session, const char *wanted)
+{
+    char found[256];
+    size_t got;
+    IS(call(session, found, sizeof found, &got), ZAX_OK);
+    IS(got == strlen(wanted) && !memcmp(found, wanted, got), 1);
+}
+
+/* The header extensions of a section. */
+static void extended(zax_session *session)
+{
+    zax_extension found[4];
+    size_t got;
+    rooms(extensions, session, sizeof(zax_extension));
+    IS(zax_section_extensions(session, 0, found, 4, &got), ZAX_OK);
+    IS(got, 3);
+    IS(found[0].id == 3 && found[1].id == 14 && found[2].id == 255, 1);
+    IS(found[0].reserved[0] | found[1].reserved[1] | found[2].reserved[2], 0);
+    rooms(uri, session, 1);
+    says(uri, session, "urn:ietf:params:rtp-hdrext:sdes:rtp-stream-id");
+    IS(zax_extension_uri(session, 0, 2, NULL, 0, &got), ZAX_E_ROOM);
+    IS(got, 5);
+    IS(zax_extension_uri(session, 0, 3, NULL, 0, &got), ZAX_E_SECTION);
+    IS(zax_extension_uri(session, 0, (size_t)-1, NULL, 0, &got), ZAX_E_SECTION);
+    IS(zax_extension_uri(session, 2, 0, NULL, 0, &got), ZAX_E_SECTION);
+    IS(zax_section_extensions(session, 1, NULL, 0, &got), ZAX_OK);
+    IS(got, 0);
+    IS(zax_section_extensions(session, 2, found, 4, &got), ZAX_E_SECTION);
+    IS(zax_section_extensions(session, (size_t)-1, found, 4, &got), ZAX_E_SECTION);
+}
+
+/* The streams of a section that may be restricted. */
+static void restrictions(zax_session *session)
+{
+    zax_rid found[4];
+    size_t got;
+    rooms(rids, session, sizeof(zax_rid));
+    IS(zax_section_rids(session, 0, found, 4, &got), ZAX_OK);
+    IS(got, 3);
+    IS(found[0].direction == ZAX_SENDONLY && found[1].direction == ZAX_SENDONLY && found[2].direction == ZAX_RECVONLY, 1);
+    IS(found[0].reserved[0] | found[1].reserved[1] | found[2].reserved[2], 0);
+    rooms(rid, session, 1);
+    says(rid, session, "lo");
+    rooms(unrestricted, session, 1);
+    says(unrestricted, session, "");
+    rooms(restricted, session, 1);
+    says(restricted, session, "pt=96,97;max-width=320;max-fps=15");
+    rooms(without_types, session, 1);
+    says(without_types, session, "max-height=90");
+    IS(zax_rid_name(session, 0, 3, NULL, 0, &got), ZAX_E_SECTION);
+    IS(zax_rid_name(session, 0, (size_t)-1, NULL, 0, &got), ZAX_E_SECTION);
+    IS(zax_rid_restrictions(session, 0, 3, NULL, 0, &got), ZAX_E_SECTION);
+    IS(zax_rid_restrictions(session, 2, 0, NULL, 0, &got), ZAX_E_SECTION);
+    IS(zax_section_rids(session, 1, NULL, 0, &got), ZAX_OK);
+    IS(got, 0);
+    IS(zax_section_rids(session, 2, found, 4, &got), ZAX_E_SECTION);
+}
+
+/* The layers of a section: those that it sends are the first, wherever they stand. */
+static void layered(zax_session *session)
+{
+    zax_layer found[4];
+    size_t got;
+    rooms(layers, session, sizeof(zax_layer));
+    IS(zax_section_layers(session, 0, found, 4, &got), ZAX_OK);
+    IS(got, 3);
+    IS(found[0].direction == ZAX_SENDONLY && found[1].direction == ZAX_SENDONLY && found[2].direction == ZAX_RECVONLY, 1);
+    IS(found[0].paused == 0 && found[1].paused == 1 && found[2].paused == 0, 1);
+    IS(found[0].reserved[0] | found[1].reserved[1] | found[2].reserved[0], 0);
+    rooms(layer, session, 1);
+    says(layer, session, "lo");
+    says(last_layer, session, "back");
+    IS(zax_layer_name(session, 0, 3, NULL, 0, &got), ZAX_E_SECTION);
+    IS(zax_layer_name(session, 0, (size_t)-1, NULL, 0, &got), ZAX_E_SECTION);
+    IS(zax_layer_name(session, 1, 0, NULL, 0, &got), ZAX_E_SECTION);
+    IS(zax_section_layers(session, 1, NULL, 0, &got), ZAX_OK);
+    IS(got, 0);
+    IS(zax_section_layers(session, 2, found, 4, &got), ZAX_E_SECTION);
+}
+
+/* The sources of a section: the last has no line of its own, but repairs the first. */
+static void described(zax_session *session)
+{
+    zax_source found[4];
+    size_t got;
+    rooms(sources, session, sizeof(zax_source));
+    IS(zax_section_sources(session, 0, found, 4, &got), ZAX_OK);
+    IS(got, 3);
+    IS(found[0].ssrc == 11 && found[1].ssrc == 12 && found[2].ssrc == 4294967295, 1);
+    IS(found[0].is_repair == 0 && found[1].is_repair == 0 && found[2].is_repair == 1, 1);
+    IS(found[0].repairs == 0 && found[1].repairs == 0 && found[2].repairs == 11, 1);
+    IS(found[0].reserved[0] | found[1].reserved[1] | found[2].reserved[2], 0);
+    rooms(cname, session, 1);
+    says(cname, session, "end point");
+    rooms(stream, session, 1);
+    says(stream, session, "stream");
+    rooms(track, session, 1);
+    says(track, session, "track");
+    says(second_cname, session, "other");
+    rooms(no_stream, session, 1);
+    says(no_stream, session, "");
+    IS(zax_source_cname(session, 0, 2, NULL, 0, &got), ZAX_OK);
+    IS(zax_source_cname(session, 0, 3, NULL, 0, &got), ZAX_E_SECTION);
+    IS(zax_source_stream(session, 0, (size_t)-1, NULL, 0, &got), ZAX_E_SECTION);
+    IS(zax_source_track(session, 2, 0, NULL, 0, &got), ZAX_E_SECTION);
+    IS(zax_section_sources(session, 1, NULL, 0, &got), ZAX_OK);
+    IS(got, 0);
+    IS(zax_section_sources(session, 2, found, 4, &got), ZAX_E_SECTION);
+}
+
+/* The groups of a section's sources. */
+static void grouped(zax_session *session)
+{
+    zax_group_source found[8];
+    size_t got;
+    rooms(groups, session, sizeof(zax_group_source));
+    IS(zax_section_source_groups(session, 0, found, 8, &got), ZAX_OK);
+    IS(got, 4);
+    IS(found[0].group == 0 && found[1].group == 0 && found[2].group == 1 && found[3].group == 1, 1);
+    IS(found[0].ssrc == 11 && found[1].ssrc == 4294967295 && found[2].ssrc == 11 && found[3].ssrc == 12, 1);
+    IS(found[0].reserved | found[3].reserved, 0);
+    rooms(semantics, session, 1);
+    says(semantics, session, "SIM");
+    IS(zax_group_semantics(session, 0, 2, NULL, 0, &got), ZAX_E_SECTION);
+    IS(zax_group_semantics(session, 0, (size_t)-1, NULL, 0, &got), ZAX_E_SECTION);
+    IS(zax_group_semantics(session, 1, 0, NULL, 0, &got), ZAX_E_SECTION);
+    IS(zax_section_source_groups(session, 1, NULL, 0, &got), ZAX_OK);
+    IS(got, 0);
+    IS(zax_section_source_groups(session, 2, found, 8, &got), ZAX_E_SECTION);
+}
+
+/* What a section says of streams; the second says nothing of them, and there is no third. */
+static void streams(const char *said, size_t size)
+{
+    zax_session *session;
+    size_t got;
+    IS(zax_read(said, size, &session, NULL), ZAX_OK);
+    IS(zax_sections(session), 2);
+    rooms(msid, session, 1);
+    says(msid, session, "stream track one");
+    IS(zax_section_msid(session, 1, NULL, 0, &got), ZAX_OK);
+    IS(got, 0);
+    IS(zax_section_msid(session, 2, NULL, 0, &got), ZAX_E_SECTION);
+    IS(zax_section_msid(session, (size_t)-1, NULL, 0, &got), ZAX_E_SECTION);
+    extended(session);
+    restrictions(session);
+    layered(session);
+    described(session);
+    grouped(session);
     zax_session_free(session);
 }
 
@@ -327,14 +523,23 @@ static void configurations(void)
     zax_config_free(config);
 }
 
+static size_t read_file(const char *name, char *to, size_t cap)
+{
+    FILE *file = fopen(name, "rb");
+    if (!file)
+        exit(2);
+    size_t size = fread(to, 1, cap, file);
+    fclose(file);
+    return size;
+}
+
 int main(int count, char **words)
 {
-    FILE *file = count == 2 ? fopen(words[1], "rb") : NULL;
-    if (!file)
+    static char said[1 << 12];
+    if (count != 3)
         return 2;
     text = malloc(1 << 16);
-    length = fread(text, 1, 1 << 15, file);
-    fclose(file);
+    length = read_file(words[1], text, 1 << 15);
     reading();
     wrong_texts();
     zax_session *session;
@@ -352,7 +557,9 @@ int main(int count, char **words)
     rooms(pwd, session, 1);
     rooms(hash, session, 1);
     facts(session);
+    roles();
     candidates();
+    streams(said, read_file(words[2], said, sizeof said));
     rooms(findings, text, 1);
     IS(zax_findings("\xff", 1, NULL, 0, &got), ZAX_E_UTF8);
     IS(zax_findings(text, (size_t)-1, NULL, 0, &got), ZAX_E_ARGUMENT);

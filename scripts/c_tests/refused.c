@@ -1,5 +1,5 @@
 /* Each allocation refused in turn: the answer is ZAX_E_MEMORY, or a round that tells of it; nothing leaks, and what a refused call was
- * given is as it was.   refused FILE      It is linked with --wrap of malloc, calloc, realloc and free. */
+ * given is as it was.   refused FILE STREAMS      It is linked with --wrap of malloc, calloc, realloc and free. */
 #include <zaxmonth.h>
 
 #include "refusing.h"
@@ -8,9 +8,14 @@
 #include <stdlib.h>
 #include <string.h>
 
-static char text[1 << 20], room[1 << 20], before[1 << 20], after[1 << 20];
+static char text[1 << 20], streams[1 << 12], room[1 << 20], before[1 << 20], after[1 << 20];
 static zax_row rows[128], rows_before[128], rows_after[128];
-static size_t length;
+static zax_extension extensions[8];
+static zax_rid rids[8];
+static zax_layer layers[8];
+static zax_source sources[8];
+static zax_group_source groups[8];
+static size_t length, streams_length;
 static long wrong;
 
 /* What a handle holds, with no allocation refused. */
@@ -65,6 +70,33 @@ static int configured(void)
     return status;
 }
 
+/* What a section says of streams. */
+static int asked(void)
+{
+    zax_session *session = NULL;
+    size_t count;
+    int status = zax_read(streams, streams_length, &session, NULL);
+    if (status)
+        return status;
+    ASKS(session, zax_section_msid(session, 0, room, sizeof room, &count));
+    ASKS(session, zax_section_extensions(session, 0, extensions, 8, &count));
+    ASKS(session, zax_extension_uri(session, 0, 0, room, sizeof room, &count));
+    ASKS(session, zax_section_rids(session, 0, rids, 8, &count));
+    ASKS(session, zax_rid_name(session, 0, 1, room, sizeof room, &count));
+    ASKS(session, zax_rid_restrictions(session, 0, 1, room, sizeof room, &count));
+    ASKS(session, zax_section_layers(session, 0, layers, 8, &count));
+    ASKS(session, zax_layer_name(session, 0, 1, room, sizeof room, &count));
+    ASKS(session, zax_section_sources(session, 0, sources, 8, &count));
+    ASKS(session, zax_source_cname(session, 0, 0, room, sizeof room, &count));
+    ASKS(session, zax_source_stream(session, 0, 0, room, sizeof room, &count));
+    ASKS(session, zax_source_track(session, 0, 0, room, sizeof room, &count));
+    ASKS(session, zax_section_source_groups(session, 0, groups, 8, &count));
+    ASKS(session, zax_group_semantics(session, 0, 0, room, sizeof room, &count));
+end:
+    zax_session_free(session);
+    return status;
+}
+
 static int run(void)
 {
     zax_session *session = NULL, *own = NULL;
@@ -74,6 +106,7 @@ static int run(void)
     zax_section info;
     size_t count;
     int writable;
+    uint32_t setup;
     int status = zax_read(text, length, &session, &error);
     if (status) {
         wrong += session != NULL || error.status != (uint32_t)status;
@@ -94,6 +127,7 @@ static int run(void)
     ASKS(session, zax_ice_ufrag(session, room, sizeof room, &count));
     ASKS(session, zax_ice_pwd(session, room, sizeof room, &count));
     ASKS(session, zax_fingerprint(session, room, sizeof room, &count));
+    ASKS(session, zax_session_setup(session, &setup));
     ASKS(session, zax_candidates(session, &count));
     if (count > 0)
         ASKS(session, zax_candidate(session, 0, room, sizeof room, &count));
@@ -121,6 +155,8 @@ static int run(void)
     if (status)
         goto end;
     status = configured();
+    if (!status)
+        status = asked();
     if (status)
         goto end;
     size_t own_was = printed(own, before);
@@ -134,13 +170,22 @@ end:
     return status;
 }
 
+static size_t read_file(const char *name, char *to, size_t cap)
+{
+    FILE *file = fopen(name, "rb");
+    if (!file)
+        exit(2);
+    size_t size = fread(to, 1, cap, file);
+    fclose(file);
+    return size;
+}
+
 int main(int count, char **words)
 {
-    FILE *file = count == 2 ? fopen(words[1], "rb") : NULL;
-    if (!file)
+    if (count != 3)
         return 2;
-    length = fread(text, 1, sizeof text, file);
-    fclose(file);
+    length = read_file(words[1], text, sizeof text);
+    streams_length = read_file(words[2], streams, sizeof streams);
     long begin = live, passed = 0, failed = 0;
     for (long n = 0;; n++) {
         left = n;

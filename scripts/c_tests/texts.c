@@ -7,6 +7,11 @@
 
 static char text[1 << 20], room[1 << 20], codec[64];
 static zax_row rows[4096];
+static zax_extension extensions[4096];
+static zax_rid rids[4096];
+static zax_layer layers[4096];
+static zax_source sources[4096];
+static zax_group_source groups[4096];
 
 static void must(zax_status status)
 {
@@ -60,18 +65,69 @@ static void show_text(zax_status (*call)(zax_session *, char *, size_t, size_t *
     printf("%.*s\n", (int)said, room);
 }
 
-/* Each section in numbers, the credentials of ICE, the fingerprint, and the candidates. */
+static void show_streams(zax_session *session, size_t at)
+{
+    size_t count, said;
+    must(zax_section_msid(session, at, room, sizeof room, &said));
+    printf("%.*s\n", (int)said, room);
+    must(zax_section_extensions(session, at, extensions, 4096, &count));
+    for (size_t i = 0; i < count; i++) {
+        must(zax_extension_uri(session, at, i, room, sizeof room, &said));
+        printf("%d %.*s\n", extensions[i].id, (int)said, room);
+    }
+    must(zax_section_rids(session, at, rids, 4096, &count));
+    for (size_t i = 0; i < count; i++) {
+        must(zax_rid_name(session, at, i, room, sizeof room, &said));
+        printf("%d %.*s", rids[i].direction, (int)said, room);
+        must(zax_rid_restrictions(session, at, i, room, sizeof room, &said));
+        printf(" %.*s\n", (int)said, room);
+    }
+    must(zax_section_layers(session, at, layers, 4096, &count));
+    for (size_t i = 0; i < count; i++) {
+        must(zax_layer_name(session, at, i, room, sizeof room, &said));
+        printf("%d %d %.*s\n", layers[i].direction, layers[i].paused, (int)said, room);
+    }
+}
+
+typedef zax_status item_text(zax_session *, size_t section, size_t item, char *room, size_t cap, size_t *needed);
+
+static void show_sources(zax_session *session, size_t at)
+{
+    static item_text *const texts[] = {zax_source_cname, zax_source_stream, zax_source_track};
+    size_t count, said;
+    must(zax_section_sources(session, at, sources, 4096, &count));
+    for (size_t i = 0; i < count; i++) {
+        printf("%u %u %d", sources[i].ssrc, sources[i].repairs, sources[i].is_repair);
+        for (size_t j = 0; j < 3; j++) {
+            must(texts[j](session, at, i, room, sizeof room, &said));
+            printf(" [%.*s]", (int)said, room);
+        }
+        printf("\n");
+    }
+    must(zax_section_source_groups(session, at, groups, 4096, &count));
+    for (size_t i = 0; i < count; i++) {
+        must(zax_group_semantics(session, at, groups[i].group, room, sizeof room, &said));
+        printf("%zu %.*s %u\n", groups[i].group, (int)said, room, groups[i].ssrc);
+    }
+}
+
+/* Each section in numbers and with its streams, the credentials of ICE, the fingerprint, and the candidates. */
 static void show_facts(zax_session *session)
 {
     size_t count, said;
+    uint32_t setup;
     for (size_t at = 0; at < zax_sections(session); at++) {
         zax_section info;
         must(zax_section_info(session, at, &info));
         printf("%d %d %d %d %d\n", info.kind, info.protocol, info.direction, info.setup, info.disabled);
+        show_streams(session, at);
+        show_sources(session, at);
     }
     show_text(zax_ice_ufrag, session);
     show_text(zax_ice_pwd, session);
     show_text(zax_fingerprint, session);
+    must(zax_session_setup(session, &setup));
+    printf("%u\n", setup);
     must(zax_candidates(session, &count));
     for (size_t i = 0; i < count; i++) {
         must(zax_candidate(session, i, room, sizeof room, &said));

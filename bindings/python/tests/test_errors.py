@@ -106,10 +106,10 @@ class Libraries(unittest.TestCase):
         return done.stderr.splitlines()[-1] if done.returncode else ""
 
     def test_versions(self):
-        self.assertEqual((zaxmonth.ABI, zaxmonth.library_version()), (0, zaxmonth.__version__))
+        self.assertEqual((zaxmonth.ABI, zaxmonth.library_version()), (1, zaxmonth.__version__))
 
     def test_a_file_that_is_not_there(self):
-        said = self.imported("/nonexistent/libzaxmonth.so.0")
+        said = self.imported("/nonexistent/libzaxmonth.so.1")
         self.assertRegex(said, r"^ImportError: libzaxmonth isn't found \(/nonexistent.*\): ZAXMONTH_LIBRARY names its file, ")
 
     def test_another_library(self):
@@ -122,4 +122,4 @@ class Libraries(unittest.TestCase):
             made = Path(room, "libzaxmonth.so.3")
             source = b"unsigned zax_abi(void) { return 3; }"
             subprocess.run(["cc", "-shared", "-fPIC", "-x", "c", "-", "-o", made], input=source, check=True)
-            self.assertEqual(self.imported(made), f"ImportError: {made} has ABI 3, and this package is written for ABI 0")
+            self.assertEqual(self.imported(made), f"ImportError: {made} has ABI 3, and this package is written for ABI 1")

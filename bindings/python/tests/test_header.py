@@ -3,14 +3,16 @@ import re
 import unittest
 from ctypes import POINTER, c_char, c_char_p, c_int, c_size_t, c_uint8, c_uint16, c_uint32, c_uint64, c_void_p
 
-from zaxmonth import ABI, Cause, Codec, Direction, Feedback, MediaKind, SignalingState, Status
+from zaxmonth import ABI, Cause, Codec, Direction, Feedback, MediaKind, Protocol, Setup, SignalingState, Status
 from zaxmonth._library import _CALLS, NO_TYPE, RawError, RawOutcome, RawOwn, RawRow, RawSlice
+from zaxmonth._library import RawExtension, RawGroupSource, RawLayer, RawRid, RawSection, RawSource
 
 from . import TOP
 
 HEADER = re.sub(r"/\*.*?\*/", "", (TOP / "capi" / "zaxmonth.h").read_text(), flags=re.S)
 KINDS = {
     "const char *": c_char_p,
+    "char ": c_char,
     "size_t ": c_size_t,
     "uint32_t ": c_uint32,
     "uint64_t ": c_uint64,
@@ -34,8 +36,8 @@ KINDS = {
     "zax_config **": POINTER(c_void_p),
     "zax_exchange **": POINTER(c_void_p),
 }
-HANDLES_AND_ROOMS = ("zax_session *", "zax_config *", "zax_exchange *", "char *", "zax_row *", "zax_outcome *", "zax_section *")
-KINDS.update(dict.fromkeys(HANDLES_AND_ROOMS, c_void_p))
+HANDLES, ITEMS = ("session", "config", "exchange"), ("row", "outcome", "section", "extension", "rid", "layer", "source", "group_source")
+KINDS.update(dict.fromkeys(["char *", *(f"zax_{it} *" for it in HANDLES + ITEMS)], c_void_p))
 
 
 def numbers(first):
@@ -50,7 +52,7 @@ def numbers(first):
 def fields(struct):
     inside = re.search(rf"typedef struct {struct} \{{(.*?)\}}", HEADER, re.S)[1]
     for kind, name, size in re.findall(r"((?:const )?\w+ \*?)(\w+)(?:\[(\d+)\])?;", inside):
-        yield name, c_char * int(size) if size else KINDS[kind]
+        yield name, KINDS[kind] * int(size) if size else KINDS[kind]
 
 
 def declared():
@@ -69,8 +71,9 @@ class Header(unittest.TestCase):
         causes = {f"ZAX_{it.name}": it.value for it in Cause if it is not Cause.OTHER}
         causes["ZAX_ROUND_MEMORY"] = causes.pop("ZAX_MEMORY")
         self.assertEqual(causes, numbers("ZAX_ACCEPTED"))
-        kinds = {f"ZAX_{it.name}": it.value for it in MediaKind}
-        self.assertLessEqual(kinds.items(), numbers("ZAX_AUDIO").items())
+        self.assertEqual({f"ZAX_{it.name}": it.value for it in MediaKind}, numbers("ZAX_AUDIO"))
+        self.assertEqual({f"ZAX_PROTOCOL_{it.name}": it.value for it in Protocol}, numbers("ZAX_PROTOCOL_RTP"))
+        self.assertEqual({f"ZAX_{it.name}": it.value for it in Setup}, numbers("ZAX_NO_SETUP"))
         self.assertEqual({f"ZAX_{it.name}": it.value for it in Direction}, numbers("ZAX_SENDRECV"))
         self.assertEqual({f"ZAX_{it.name}": it.value for it in SignalingState}, numbers("ZAX_STABLE"))
         self.assertEqual({"ZAX_NO_TYPE": NO_TYPE}, numbers("ZAX_NO_TYPE"))
@@ -78,10 +81,11 @@ class Header(unittest.TestCase):
 
     def test_structs(self):
         structs = {"zax_row": RawRow, "zax_outcome": RawOutcome, "zax_error": RawError, "zax_slice": RawSlice, "zax_own": RawOwn}
+        structs.update({"zax_section": RawSection, "zax_extension": RawExtension, "zax_rid": RawRid, "zax_layer": RawLayer})
+        structs.update({"zax_source": RawSource, "zax_group_source": RawGroupSource})
         for struct, raw in structs.items():
             self.assertEqual(list(raw._fields_), list(fields(struct)))
 
     def test_calls(self):
         calls = dict(declared())
-        self.assertGreaterEqual(len(calls), len(_CALLS))
-        self.assertEqual(_CALLS, {name: calls.get(name) for name in _CALLS})
+        self.assertEqual(_CALLS, calls)

@@ -30,11 +30,13 @@ from ._errors import (
     UnreadLine,
     Utf8Error,
 )
-from ._exchange import DataChannels, Direction, Exchange, MediaKind, OwnSide, SignalingState, VersionedDescription
+from ._exchange import DataChannels, Exchange, OwnSide, SignalingState, VersionedDescription
 from ._findings import Finding, findings
 from ._handles import Configuration, SessionDescription
 from ._library import ABI, library_version
 from ._rows import Cause, Codec, Feedback, Outcome, Row
+from ._sections import Direction, MediaKind, Protocol, Section, Setup
+from ._streams import Extension, Layer, Msid, Rid, Source, SourceGroup
 
 __version__ = "0.1.0"
 __all__ = [
@@ -48,9 +50,12 @@ __all__ = [
     "Direction",
     "Error",
     "Exchange",
+    "Extension",
     "Feedback",
     "Finding",
+    "Layer",
     "MediaKind",
+    "Msid",
     "NoChannels",
     "NoNameLeft",
     "NoRows",
@@ -60,11 +65,17 @@ __all__ = [
     "OwnSide",
     "OwnSideError",
     "ParseError",
+    "Protocol",
+    "Rid",
     "RoomError",
     "Row",
+    "Section",
     "SectionError",
     "SessionDescription",
+    "Setup",
     "SignalingState",
+    "Source",
+    "SourceGroup",
     "StateError",
     "Status",
     "UnfitSection",

@@ -10,22 +10,7 @@ from ._errors import check
 from ._handles import Configuration, SessionDescription, Text, _bytes_of, _Handle
 from ._library import RawError, RawOwn, RawSlice, library
 from ._rows import Row
-
-
-class MediaKind(enum.Enum):
-    """What media a section carries."""
-
-    AUDIO = 0
-    VIDEO = 1
-
-
-class Direction(enum.Enum):
-    """What a side is ready for in a section."""
-
-    SENDRECV = 0
-    SENDONLY = 1
-    RECVONLY = 2
-    INACTIVE = 3
+from ._sections import Direction, MediaKind
 
 
 class SignalingState(enum.Enum):

@@ -6,16 +6,21 @@ import json
 import operator
 import sys
 import threading
-from ctypes import byref, c_char, c_size_t, c_void_p
+from ctypes import byref, c_char, c_int, c_size_t, c_uint32, c_void_p
 from typing import Any, Callable, Dict, List, NoReturn, Optional, SupportsIndex, Tuple, TypeVar, Union
 
 from ._errors import ArgumentError, ClosedError, SectionError, Status, Utf8Error, check
 from ._library import JSON, NO_TYPE, RawError, RawOutcome, RawRow, library
+from ._library import RawExtension, RawGroupSource, RawLayer, RawRid, RawSection, RawSource
 from ._rows import Codec, Outcome, Row
+from ._sections import Section, Setup
+from ._streams import Extension, Layer, Msid, Rid, Source, SourceGroup
 
 Text = Union[str, bytes, bytearray, memoryview]
 _Self = TypeVar("_Self", bound="_Handle")
-_ROWS, _LETTERS = 128, 1024  # room that suffices as a rule
+_Item = TypeVar("_Item")
+_Call = Callable[..., int]
+_ITEMS, _LETTERS = 128, 1024  # room that suffices as a rule
 _JSON = json.JSONDecoder()
 _NO_ROOM = Status.ROOM.value  # (an enum is asked for its value slowly)
 
@@ -107,16 +112,26 @@ class _Handle:
                 return room, needed.value
             size = _size_above(needed.value)
 
+    def _answered(self, call: _Call, place: Any, *places: int) -> Any:
+        """The place, in which a call writes its answer."""
+        with self._lock:
+            check(call(self._open(), *places, byref(place)))
+        return place
+
     def _text(self, call: Callable[..., int], *places: int, letters: int = _LETTERS) -> str:
         with self._lock:
             room, length = self._filled(call, c_char, letters, *places)
         return str(memoryview(room)[:length], "utf-8")
 
-    def _rows(self, call: Callable[..., int], texts: Tuple[Callable[..., int], ...], *places: int) -> List[Row]:
-        """The rows that a call writes, with the texts of each that others write: the name of its codec, its format."""
+    def _items(self, made: Callable[..., _Item], kind: type, call: _Call, texts: Tuple[_Call, ...], *places: int) -> List[_Item]:
+        """The items that a call writes, of each what is made of it and of the texts that other calls write."""
         with self._lock:
-            room, count = self._filled(call, RawRow, _ROWS, *places)
-            return [Row._of(room[i], *(self._text(text, *places, i) for text in texts)) for i in range(count)]
+            room, count = self._filled(call, kind, _ITEMS, *places)
+            return [made(room[i], *(self._text(text, *places, i) for text in texts)) for i in range(count)]
+
+    def _rows(self, call: _Call, texts: Tuple[_Call, ...], *places: int) -> List[Row]:
+        """The rows that a call writes, with the texts of each that others write: the name of its codec, its format."""
+        return self._items(Row._of, RawRow, call, texts, *places)
 
 
 def _in_range(number: int, most: int) -> int:
@@ -166,9 +181,71 @@ class SessionDescription(_Handle):
         with self._lock:
             return library.zax_sections(self._open())
 
+    def section(self, section: SupportsIndex) -> Section:
+        """What a section is. Raises SectionError."""
+        return Section._of(self._answered(library.zax_section_info, RawSection(), _index(section)))
+
+    def is_writable(self, section: SupportsIndex) -> bool:
+        """Whether `Configuration.answer` may write into a section. Raises SectionError or OutOfMemory."""
+        return bool(self._answered(library.zax_is_writable, c_int(), _index(section)).value)
+
+    def ice_ufrag(self) -> str:
+        """The user fragment of ICE of the session, else of the first section that says fragment and password; empty where none does."""
+        return self._text(library.zax_ice_ufrag)
+
+    def ice_pwd(self) -> str:
+        """The password that belongs to `ice_ufrag`."""
+        return self._text(library.zax_ice_pwd)
+
+    def fingerprint(self) -> str:
+        """The fingerprint of the session, else of the first section that has one, as `sha-256 AB:CD`; empty where none has."""
+        return self._text(library.zax_fingerprint)
+
+    def setup(self) -> Setup:
+        """The role of the session, else of the first section that says one."""
+        return Setup(self._answered(library.zax_session_setup, c_uint32()).value)
+
+    def candidates(self) -> List[str]:
+        """The candidates, each once, without `a=`."""
+        with self._lock:
+            count = self._answered(library.zax_candidates, c_size_t()).value
+            return [self._text(library.zax_candidate, i) for i in range(count)]
+
     def mid(self, section: SupportsIndex) -> str:
         """The mid of a section; empty where it has none. Raises SectionError."""
         return self._text(library.zax_section_mid, _index(section))
+
+    def msid(self, section: SupportsIndex) -> Optional[Msid]:
+        """What the first msid line of a section says; None where it has none. Raises SectionError."""
+        return Msid._of(self._text(library.zax_section_msid, _index(section)))
+
+    def extensions(self, section: SupportsIndex) -> List[Extension]:
+        """The header extensions of a section, in order. Raises SectionError."""
+        calls = library.zax_section_extensions, (library.zax_extension_uri,)
+        return self._items(Extension._of, RawExtension, *calls, _index(section))
+
+    def rids(self, section: SupportsIndex) -> List[Rid]:
+        """The streams of a section that may be restricted, in order. Raises SectionError."""
+        calls = library.zax_section_rids, (library.zax_rid_name, library.zax_rid_restrictions)
+        return self._items(Rid._of, RawRid, *calls, _index(section))
+
+    def layers(self, section: SupportsIndex) -> List[Layer]:
+        """The layers that a section sends, and then those that it receives, in order. Raises SectionError."""
+        calls = library.zax_section_layers, (library.zax_layer_name,)
+        return self._items(Layer._of, RawLayer, *calls, _index(section))
+
+    def sources(self, section: SupportsIndex) -> List[Source]:
+        """The sources of a section, in order. Raises SectionError."""
+        calls = library.zax_section_sources, (library.zax_source_cname, library.zax_source_stream, library.zax_source_track)
+        return self._items(Source._of, RawSource, *calls, _index(section))
+
+    def source_groups(self, section: SupportsIndex) -> List[SourceGroup]:
+        """The groups of a section's sources, in order. Raises SectionError."""
+        at, found = _index(section), {}
+        with self._lock:
+            for group, ssrc in self._items(lambda it: (it.group, it.ssrc), RawGroupSource, library.zax_section_source_groups, (), at):
+                found.setdefault(group, []).append(ssrc)
+            return [SourceGroup(self._text(library.zax_group_semantics, at, group), tuple(ssrcs)) for group, ssrcs in found.items()]
 
     def rows(self, section: SupportsIndex) -> List[Row]:
         """The rows of a section. Raises SectionError."""

@@ -5,7 +5,7 @@ import ctypes
 import os
 from ctypes import POINTER, Structure, c_char, c_char_p, c_int, c_size_t, c_uint8, c_uint16, c_uint32, c_uint64, c_void_p
 
-ABI = 0  # ZAX_ABI of the header that this package is written for
+ABI = 1  # ZAX_ABI of the header that this package is written for
 VARIABLE = "ZAXMONTH_LIBRARY"
 SONAME = f"libzaxmonth.so.{ABI}"
 NO_TYPE = 255
@@ -16,6 +16,30 @@ class RawRow(Structure):
     _fields_ = [("clock_rate", c_uint32)] + [
         (name, c_uint8) for name in ("pt", "rtx", "red", "channels", "codec", "feedback", "locked", "reserved")
     ]
+
+
+class RawSection(Structure):
+    _fields_ = [(name, c_uint8) for name in ("kind", "protocol", "direction", "setup", "disabled")] + [("reserved", c_uint8 * 3)]
+
+
+class RawExtension(Structure):
+    _fields_ = [("id", c_uint8), ("reserved", c_uint8 * 3)]
+
+
+class RawRid(Structure):
+    _fields_ = [("direction", c_uint8), ("reserved", c_uint8 * 3)]
+
+
+class RawLayer(Structure):
+    _fields_ = [("direction", c_uint8), ("paused", c_uint8), ("reserved", c_uint8 * 2)]
+
+
+class RawSource(Structure):
+    _fields_ = [("ssrc", c_uint32), ("repairs", c_uint32), ("is_repair", c_uint8), ("reserved", c_uint8 * 3)]
+
+
+class RawGroupSource(Structure):
+    _fields_ = [("group", c_size_t), ("ssrc", c_uint32), ("reserved", c_uint32)]
 
 
 class RawOutcome(Structure):
@@ -41,6 +65,7 @@ class RawOwn(Structure):
         ("max_message_size", c_uint64),
         ("sctp_port", c_uint16),
         *((name, c_uint8) for name in ("has_channels", "audio", "video", "receives_simulcast")),
+        ("reserved", c_uint8 * 2),
     ]
 
 
@@ -55,7 +80,29 @@ _CALLS = {
     "zax_session_free": (None, (_HANDLE,)),
     "zax_print": (c_uint32, (_HANDLE, *_ROOM)),
     "zax_sections": (c_size_t, (_HANDLE,)),
+    "zax_section_info": (c_uint32, (_HANDLE, _INDEX, c_void_p)),
+    "zax_is_writable": (c_uint32, (_HANDLE, _INDEX, POINTER(c_int))),
+    "zax_ice_ufrag": (c_uint32, (_HANDLE, *_ROOM)),
+    "zax_ice_pwd": (c_uint32, (_HANDLE, *_ROOM)),
+    "zax_fingerprint": (c_uint32, (_HANDLE, *_ROOM)),
+    "zax_session_setup": (c_uint32, (_HANDLE, POINTER(c_uint32))),
+    "zax_candidates": (c_uint32, (_HANDLE, POINTER(c_size_t))),
+    "zax_candidate": (c_uint32, (_HANDLE, _INDEX, *_ROOM)),
     "zax_section_mid": (c_uint32, (_HANDLE, _INDEX, *_ROOM)),
+    "zax_section_msid": (c_uint32, (_HANDLE, _INDEX, *_ROOM)),
+    "zax_section_extensions": (c_uint32, (_HANDLE, _INDEX, *_ROOM)),
+    "zax_extension_uri": (c_uint32, (_HANDLE, _INDEX, _INDEX, *_ROOM)),
+    "zax_section_rids": (c_uint32, (_HANDLE, _INDEX, *_ROOM)),
+    "zax_rid_name": (c_uint32, (_HANDLE, _INDEX, _INDEX, *_ROOM)),
+    "zax_rid_restrictions": (c_uint32, (_HANDLE, _INDEX, _INDEX, *_ROOM)),
+    "zax_section_layers": (c_uint32, (_HANDLE, _INDEX, *_ROOM)),
+    "zax_layer_name": (c_uint32, (_HANDLE, _INDEX, _INDEX, *_ROOM)),
+    "zax_section_sources": (c_uint32, (_HANDLE, _INDEX, *_ROOM)),
+    "zax_source_cname": (c_uint32, (_HANDLE, _INDEX, _INDEX, *_ROOM)),
+    "zax_source_stream": (c_uint32, (_HANDLE, _INDEX, _INDEX, *_ROOM)),
+    "zax_source_track": (c_uint32, (_HANDLE, _INDEX, _INDEX, *_ROOM)),
+    "zax_section_source_groups": (c_uint32, (_HANDLE, _INDEX, *_ROOM)),
+    "zax_group_semantics": (c_uint32, (_HANDLE, _INDEX, _INDEX, *_ROOM)),
     "zax_rows": (c_uint32, (_HANDLE, _INDEX, *_ROOM)),
     "zax_row_codec": (c_uint32, (_HANDLE, _INDEX, _INDEX, *_ROOM)),
     "zax_row_fmtp": (c_uint32, (_HANDLE, _INDEX, _INDEX, *_ROOM)),

@@ -9,9 +9,13 @@
 mod exchange;
 mod own;
 mod raw;
+mod sections;
+mod streams;
 
 pub use exchange::{Description, Exchange, ExchangeError, SignalingState};
-pub use own::{DataChannels, Direction, IceCreds, MediaKind, OwnSide};
+pub use own::{DataChannels, IceCreds, OwnSide};
+pub use sections::{Direction, MediaKind, MediaType, Proto, Section, Setup};
+pub use streams::{Msid, Rid, Simulcast, SimulcastLayer, SsrcInfo};
 
 use std::ffi::CStr;
 use std::fmt;

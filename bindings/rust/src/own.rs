@@ -1,22 +1,5 @@
 //! What this side says of itself.
-use crate::raw;
-
-/// What media a section carries.
-#[derive(Clone, Copy, Debug, PartialEq, Eq)]
-pub enum MediaKind {
-    Audio = 0,
-    Video = 1,
-}
-
-/// What a side is ready for in a section.
-#[derive(Clone, Copy, Debug, Default, PartialEq, Eq)]
-pub enum Direction {
-    #[default]
-    SendRecv = 0,
-    SendOnly = 1,
-    RecvOnly = 2,
-    Inactive = 3,
-}
+use crate::{raw, Direction};
 
 /// The credentials of an ICE agent.
 #[derive(Clone, Debug, Default, PartialEq, Eq)]
@@ -85,6 +68,7 @@ impl OwnSide {
             audio: self.audio as u8,
             video: self.video as u8,
             receives_simulcast: self.receives_simulcast.into(),
+            reserved: [0; 2],
         }
     }
 }

@@ -34,6 +34,57 @@ pub struct Own {
     pub audio: u8,
     pub video: u8,
     pub receives_simulcast: u8,
+    pub reserved: [u8; 2],
+}
+
+#[repr(C)]
+#[derive(Default)]
+pub struct Section {
+    pub kind: u8,
+    pub protocol: u8,
+    pub direction: u8,
+    pub setup: u8,
+    pub disabled: u8,
+    pub reserved: [u8; 3],
+}
+
+#[repr(C)]
+#[derive(Clone, Default)]
+pub struct Extension {
+    pub id: u8,
+    pub reserved: [u8; 3],
+}
+
+#[repr(C)]
+#[derive(Clone, Default)]
+pub struct Rid {
+    pub direction: u8,
+    pub reserved: [u8; 3],
+}
+
+#[repr(C)]
+#[derive(Clone, Default)]
+pub struct Layer {
+    pub direction: u8,
+    pub paused: u8,
+    pub reserved: [u8; 2],
+}
+
+#[repr(C)]
+#[derive(Clone, Default)]
+pub struct Source {
+    pub ssrc: u32,
+    pub repairs: u32,
+    pub is_repair: u8,
+    pub reserved: [u8; 3],
+}
+
+#[repr(C)]
+#[derive(Clone, Default)]
+pub struct GroupSource {
+    pub group: usize,
+    pub ssrc: u32,
+    pub reserved: u32,
 }
 
 #[repr(C)]
@@ -49,7 +100,29 @@ extern "C" {
     pub fn zax_session_free(session: *mut Session);
     pub fn zax_print(session: *mut Session, room: *mut u8, cap: usize, needed: *mut usize) -> u32;
     pub fn zax_sections(session: *mut Session) -> usize;
+    pub fn zax_section_info(session: *mut Session, section: usize, info: *mut Section) -> u32;
+    pub fn zax_is_writable(session: *mut Session, section: usize, writable: *mut c_int) -> u32;
+    pub fn zax_ice_ufrag(session: *mut Session, room: *mut u8, cap: usize, needed: *mut usize) -> u32;
+    pub fn zax_ice_pwd(session: *mut Session, room: *mut u8, cap: usize, needed: *mut usize) -> u32;
+    pub fn zax_fingerprint(session: *mut Session, room: *mut u8, cap: usize, needed: *mut usize) -> u32;
+    pub fn zax_session_setup(session: *mut Session, setup: *mut u32) -> u32;
+    pub fn zax_candidates(session: *mut Session, count: *mut usize) -> u32;
+    pub fn zax_candidate(session: *mut Session, index: usize, room: *mut u8, cap: usize, needed: *mut usize) -> u32;
     pub fn zax_section_mid(session: *mut Session, section: usize, room: *mut u8, cap: usize, needed: *mut usize) -> u32;
+    pub fn zax_section_msid(session: *mut Session, section: usize, room: *mut u8, cap: usize, needed: *mut usize) -> u32;
+    pub fn zax_section_extensions(session: *mut Session, section: usize, room: *mut Extension, cap: usize, needed: *mut usize) -> u32;
+    pub fn zax_extension_uri(session: *mut Session, section: usize, extension: usize, room: *mut u8, cap: usize, needed: *mut usize) -> u32;
+    pub fn zax_section_rids(session: *mut Session, section: usize, room: *mut Rid, cap: usize, needed: *mut usize) -> u32;
+    pub fn zax_rid_name(session: *mut Session, section: usize, rid: usize, room: *mut u8, cap: usize, needed: *mut usize) -> u32;
+    pub fn zax_rid_restrictions(session: *mut Session, section: usize, rid: usize, room: *mut u8, cap: usize, needed: *mut usize) -> u32;
+    pub fn zax_section_layers(session: *mut Session, section: usize, room: *mut Layer, cap: usize, needed: *mut usize) -> u32;
+    pub fn zax_layer_name(session: *mut Session, section: usize, layer: usize, room: *mut u8, cap: usize, needed: *mut usize) -> u32;
+    pub fn zax_section_sources(session: *mut Session, section: usize, room: *mut Source, cap: usize, needed: *mut usize) -> u32;
+    pub fn zax_source_cname(session: *mut Session, section: usize, source: usize, room: *mut u8, cap: usize, needed: *mut usize) -> u32;
+    pub fn zax_source_stream(session: *mut Session, section: usize, source: usize, room: *mut u8, cap: usize, needed: *mut usize) -> u32;
+    pub fn zax_source_track(session: *mut Session, section: usize, source: usize, room: *mut u8, cap: usize, needed: *mut usize) -> u32;
+    pub fn zax_section_source_groups(session: *mut Session, section: usize, room: *mut GroupSource, cap: usize, needed: *mut usize) -> u32;
+    pub fn zax_group_semantics(session: *mut Session, section: usize, group: usize, room: *mut u8, cap: usize, needed: *mut usize) -> u32;
     pub fn zax_rows(session: *mut Session, section: usize, room: *mut crate::Row, cap: usize, needed: *mut usize) -> u32;
     pub fn zax_row_codec(session: *mut Session, section: usize, row: usize, room: *mut u8, cap: usize, needed: *mut usize) -> u32;
     pub fn zax_row_fmtp(session: *mut Session, section: usize, row: usize, room: *mut u8, cap: usize, needed: *mut usize) -> u32;

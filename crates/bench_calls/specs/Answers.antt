@@ -1,13 +1,13 @@
 -- The numbers that the calls answer.
+use Rattle.exchange.specs.answer.Offered.{IsOffer}
 use Rattle.std.specs.Prelude.{◌≡◌, ◌≢◌, ◌-◌, ◌^◌, ℕ, List, length}
-use Rattle.str0m_formats.specs.DefaultRows.{usual_rows}
-use Rattle.str0m_formats.specs.Runs.{Outcome}
-use Rattle.str0m_formats.specs.declared.payload_params.PayloadParams.{PayloadParams}
-use Rattle.str0m_sdp.specs.Session.{sdp_text}
+use Rattle.str0m_formats.specs.declared.row.payload_params.PayloadParams.{PayloadParams}
+use Rattle.str0m_formats.specs.round.RoundsRuns.{Outcome}
+use Rattle.str0m_formats.specs.row.DefaultRows.{usual_rows}
 use Rattle.str0m_sdp.specs.declared.session.Sdp.{Sdp}
-use Rattle.str0m_signal.specs.Negotiation.{NegotiatedText}
-use Rattle.str0m_signal.specs.Reading.{Described}
-use Rattle.exchange.specs.Offered.{IsOffer}
+use Rattle.str0m_sdp.specs.session.Session.{sdp_text}
+use Rattle.str0m_signal.specs.session.Negotiation.{NegotiatedText}
+use Rattle.str0m_signal.specs.session.Reader.{Described}
 
 abbrev pub sections : Sdp → ℕ
 sections sdp = length sdp.media_lines
@@ -29,5 +29,5 @@ abbrev pub HasAnswered : List ℕ → ℕ → Type 0
 HasAnswered text told = (offer : Sdp) × IsOffer text offer × (told ≡ sections offer)
 
 -- a call tells what is said of its number, or else the greatest of 64 bits: that there is no description, or no memory
-abbrev pub Tells : (ℕ → Type 0) → ℕ → Type 0
-Tells holds told = told ≢ 2 ^ 64 - 1 → holds told
+abbrev pub TellsNumber : (ℕ → Type 0) → ℕ → Type 0
+TellsNumber holds told = told ≢ 2 ^ 64 - 1 → holds told

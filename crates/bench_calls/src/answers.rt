@@ -1,7 +1,7 @@
 //! Answers to offers, each in an exchange of its own.
 
-ghost use Rattle.std.specs.Prelude.{IfOk, IfSome};
 ghost use Rattle.bench_calls.specs.Answers.{HasAnswered};
+ghost use Rattle.std.specs.Prelude.{IfOk, IfSome};
 
 use exchange::{DataChannels, Exchange, ExchangeError, OwnSide};
 use std::alloc::{AllocError, Global};
@@ -39,12 +39,17 @@ fn own_side(alloc: Global) -> Result<OwnSide, AllocError> {
     })
 }
 
-/// Answers an offer with the default configuration; how many sections the answer has.
+/// An exchange of that side with the default configuration, in which nothing was said yet.
+pub(crate) fn new_exchange(alloc: Global) -> Result<Exchange, AllocError> {
+    let config = CodecConfig::new_with_defaults(alloc)?;
+    Ok(Exchange::new(own_side(alloc)?, config))
+}
+
+/// Answers an offer in an exchange of its own; how many sections the answer has.
 fn sections_answered(alloc: Global, offer: &str) -> Result<usize, ExchangeError>
     ensures { IfOk result (HasAnswered offer.now) }
 {
-    let config = CodecConfig::new_with_defaults(alloc)?;
-    let mut exchange = Exchange::new(own_side(alloc)?, config);
+    let mut exchange = new_exchange(alloc)?;
     let answer = exchange.accept_offer(offer)?;
     Ok(answer.media_lines.len())
 }

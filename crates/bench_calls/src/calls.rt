@@ -2,12 +2,14 @@
 //! the text describes no session, or where memory was refused. C passes nothing for the allocator, and a text by its
 //! pointer and its length.
 
+ghost use Rattle.bench_calls.specs.Answers.{HasAnswer, HasAnswered, HasRounds, TellsNumber, sections, text_length};
 ghost use Rattle.std.specs.Prelude.{◌≡◌, ◌-◌, ◌^◌, MatchOption};
-ghost use Rattle.bench_calls.specs.Answers.{HasAnswer, HasAnswered, HasRounds, Tells, sections, text_length};
 
 use crate::answers::answered;
 use crate::task::{done, negotiated};
-use crate::tasks::{Candidates, Consistency, Defaults, Mark, Print, Rounds, Rows, Sources};
+use crate::tasks::{
+    Candidates, Consistency, Defaults, Exchanges, Mark, Print, Rounds, Rows, Sources,
+};
 use std::alloc::Global;
 
 /// The number as C gets it.
@@ -23,7 +25,7 @@ fn told(answer: Option<usize>) -> u64
 /// Reads the text, and answers how many sections it has. Its last allocation is of one byte, and is made when the text is read.
 #[unsafe(no_mangle)]
 pub extern "C" fn bench_read(alloc: Global, text: &[u8]) -> u64
-    ensures { Tells (HasAnswer text.now sections) result }
+    ensures { TellsNumber (HasAnswer text.now sections) result }
 {
     told(done::<Mark>(alloc, text, 0))
 }
@@ -31,7 +33,7 @@ pub extern "C" fn bench_read(alloc: Global, text: &[u8]) -> u64
 /// Reads the text, makes the rows of all sections, and answers how many sections it has.
 #[unsafe(no_mangle)]
 pub extern "C" fn bench_rows(alloc: Global, text: &[u8], more: u32) -> u64
-    ensures { Tells (HasAnswer text.now sections) result }
+    ensures { TellsNumber (HasAnswer text.now sections) result }
 {
     told(done::<Rows>(alloc, text, more))
 }
@@ -39,7 +41,7 @@ pub extern "C" fn bench_rows(alloc: Global, text: &[u8], more: u32) -> u64
 /// Reads the text, makes the configuration with the default rows, and answers how many sections the text has.
 #[unsafe(no_mangle)]
 pub extern "C" fn bench_defaults(alloc: Global, text: &[u8], more: u32) -> u64
-    ensures { Tells (HasAnswer text.now sections) result }
+    ensures { TellsNumber (HasAnswer text.now sections) result }
 {
     told(done::<Defaults>(alloc, text, more))
 }
@@ -48,7 +50,7 @@ pub extern "C" fn bench_defaults(alloc: Global, text: &[u8], more: u32) -> u64
 /// and answers how many sections the text has.
 #[unsafe(no_mangle)]
 pub extern "C" fn bench_rounds(alloc: Global, text: &[u8], more: u32) -> u64
-    ensures { Tells (HasAnswer text.now sections) result }
+    ensures { TellsNumber (HasAnswer text.now sections) result }
 {
     told(done::<Rounds>(alloc, text, more))
 }
@@ -56,15 +58,23 @@ pub extern "C" fn bench_rounds(alloc: Global, text: &[u8], more: u32) -> u64
 /// Negotiates with the text, which is read each time, and answers how many rounds that were.
 #[unsafe(no_mangle)]
 pub extern "C" fn bench_negotiate(alloc: Global, text: &[u8], more: u32) -> u64
-    ensures { Tells (HasRounds text.now) result }
+    ensures { TellsNumber (HasRounds text.now) result }
 {
     told(negotiated(alloc, text, more))
+}
+
+/// Reads the text, makes an exchange in which nothing is said, and answers how many sections the text has.
+#[unsafe(no_mangle)]
+pub extern "C" fn bench_exchange(alloc: Global, text: &[u8], more: u32) -> u64
+    ensures { TellsNumber (HasAnswer text.now sections) result }
+{
+    told(done::<Exchanges>(alloc, text, more))
 }
 
 /// Answers the text as an offer, in an exchange of its own each time, and answers how many sections the answer has.
 #[unsafe(no_mangle)]
 pub extern "C" fn bench_answer(alloc: Global, text: &[u8], more: u32) -> u64
-    ensures { Tells (HasAnswered text.now) result }
+    ensures { TellsNumber (HasAnswered text.now) result }
 {
     told(answered(alloc, text, more))
 }
@@ -72,7 +82,7 @@ pub extern "C" fn bench_answer(alloc: Global, text: &[u8], more: u32) -> u64
 /// Reads the text, prints the description, and answers how many bytes were printed.
 #[unsafe(no_mangle)]
 pub extern "C" fn bench_print(alloc: Global, text: &[u8], more: u32) -> u64
-    ensures { Tells (HasAnswer text.now text_length) result }
+    ensures { TellsNumber (HasAnswer text.now text_length) result }
 {
     told(done::<Print>(alloc, text, more))
 }
@@ -80,7 +90,7 @@ pub extern "C" fn bench_print(alloc: Global, text: &[u8], more: u32) -> u64
 /// Reads the text, gathers what is said of the sources of all sections, and answers how many sections it has.
 #[unsafe(no_mangle)]
 pub extern "C" fn bench_sources(alloc: Global, text: &[u8], more: u32) -> u64
-    ensures { Tells (HasAnswer text.now sections) result }
+    ensures { TellsNumber (HasAnswer text.now sections) result }
 {
     told(done::<Sources>(alloc, text, more))
 }
@@ -88,7 +98,7 @@ pub extern "C" fn bench_sources(alloc: Global, text: &[u8], more: u32) -> u64
 /// Reads the text, gathers the candidates, each once, and answers how many sections it has.
 #[unsafe(no_mangle)]
 pub extern "C" fn bench_candidates(alloc: Global, text: &[u8], more: u32) -> u64
-    ensures { Tells (HasAnswer text.now sections) result }
+    ensures { TellsNumber (HasAnswer text.now sections) result }
 {
     told(done::<Candidates>(alloc, text, more))
 }
@@ -96,7 +106,7 @@ pub extern "C" fn bench_candidates(alloc: Global, text: &[u8], more: u32) -> u64
 /// Reads the text, asks whether the description is consistent, and answers how many sections it has.
 #[unsafe(no_mangle)]
 pub extern "C" fn bench_consistency(alloc: Global, text: &[u8], more: u32) -> u64
-    ensures { Tells (HasAnswer text.now sections) result }
+    ensures { TellsNumber (HasAnswer text.now sections) result }
 {
     told(done::<Consistency>(alloc, text, more))
 }

@@ -1,10 +1,10 @@
 //! A task that is timed, over a text.
 
-ghost use Rattle.std.specs.Prelude.{◌≡◌, IfOk, IfSome, length, ℕ};
-ghost use Rattle.str0m_formats.specs.DefaultRows.{usual_rows};
-ghost use Rattle.str0m_sdp.specs.declared.session.Sdp.{Sdp};
 ghost use Rattle.bench_calls.specs.Answers.{HasAnswer, HasRounds};
-ghost use Rattle.str0m_signal.specs.Reading.{Described};
+ghost use Rattle.std.specs.Prelude.{◌≡◌, IfOk, IfSome, length, ℕ};
+ghost use Rattle.str0m_formats.specs.row.DefaultRows.{usual_rows};
+ghost use Rattle.str0m_sdp.specs.declared.session.Sdp.{Sdp};
+ghost use Rattle.str0m_signal.specs.session.Reader.{Described};
 
 use std::alloc::{AllocError, Global};
 use std::str;

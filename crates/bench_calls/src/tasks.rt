@@ -2,6 +2,7 @@
 
 ghost use Rattle.bench_calls.specs.Answers.{sections, text_length};
 
+use crate::answers::new_exchange;
 use crate::task::Task;
 use std::alloc::AllocError;
 use str0m_signal::{CodecConfig, MediaLine, NegotiationError, SdpError, SdpOffer};
@@ -43,6 +44,19 @@ impl Task for Defaults {
     fn run(offer: &SdpOffer) -> Result<usize, AllocError> {
         let sections = &offer.media_lines;
         let _made = CodecConfig::new_with_defaults(*sections.allocator())?;
+        Ok(sections.len())
+    }
+}
+
+/// An exchange in which nothing is said. Answers how many sections there are.
+pub(crate) struct Exchanges;
+
+impl Task for Exchanges {
+    ghost answer = { sections };
+
+    fn run(offer: &SdpOffer) -> Result<usize, AllocError> {
+        let sections = &offer.media_lines;
+        let _made = new_exchange(*sections.allocator())?;
         Ok(sections.len())
     }
 }

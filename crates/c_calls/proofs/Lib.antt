@@ -1,2 +1,4 @@
-pub mod Filled
-pub mod Putting
+pub mod LineTextsPassed
+pub mod LineTextsRid
+pub mod OfferCallsFilled
+pub mod SaidPutting

@@ -1,15 +1,11 @@
 //! Calls of candidates.
 
-ghost use Rattle.std.specs.Prelude.{◌≡◌, ◌≢◌, ◌⊎◌, IfOk, length, map};
-ghost use Rattle.std.specs.List.{slice_get};
-ghost use Rattle.c_parts.specs.Full.{IsFull};
-ghost use Rattle.c_calls.specs.Held.{Of};
-ghost use Rattle.c_calls.specs.Says.{Says};
-ghost use Rattle.c_calls.specs.Status.{done, no_memory};
-ghost use Rattle.c_calls.specs.TransportFound.{candidate_texts, lent};
-ghost use Rattle.str0m_sdp.specs.Candidates.{all_candidates, same_candidate};
-ghost use Rattle.str0m_sdp.specs.Lists.{distinct};
-ghost use Rattle.str0m_values.specs.Candidate.{candidate_text};
+ghost use Rattle.c_calls.specs.Common.{Of};
+ghost use Rattle.c_calls.specs.Prelude.{IsFull, all_candidates, candidate_text, distinct, same_candidate};
+ghost use Rattle.c_calls.specs.Said.{Says};
+ghost use Rattle.c_calls.specs.Told.{done, no_memory};
+ghost use Rattle.c_calls.specs.TransportCalls.{candidate_texts, lent};
+ghost use Rattle.std.specs.Prelude.{◌≡◌, ◌≢◌, ◌⊎◌, IfOk, length, map, slice_get};
 
 use crate::said::{DONE, NO_MEMORY, NO_SECTION, put_made};
 use c_parts::session_handle::SessionHandle;

@@ -1,18 +1,14 @@
 //! Calls that make, change and free configurations.
 
-ghost use Rattle.std.specs.Prelude.{◌≡◌, ◌≢◌, ◌↔◌, ◌⊎◌, [], IfErr, IfNone, IfOk, IfSome, None, OnErr, OnOk, Some};
-ghost use Rattle.std.specs.Str.{IsUtf8};
-ghost use Rattle.c_parts.specs.Full.{IsFull};
-ghost use Rattle.c_parts.specs.Row.{codec_at};
-ghost use Rattle.c_calls.specs.Configured.{HasNoDefaults, IsAdded, IsEnabled, IsNoKind, defaults_of};
-ghost use Rattle.c_calls.specs.Held.{Of};
-ghost use Rattle.c_calls.specs.Status.{done, no_memory, no_utf8, wrong_argument};
-ghost use Rattle.str0m_formats.specs.DefaultRows.{enabled_rows, usual_rows};
-ghost use Rattle.str0m_formats.specs.FormatLine.{IsFormatOfLine};
+ghost use Rattle.c_calls.specs.Common.{Of};
+ghost use Rattle.c_calls.specs.ConfigCalls.{HasNoDefaults, IsAdded, IsEnabled, IsNoKind, defaults_of};
+ghost use Rattle.c_calls.specs.Prelude.{IsFormatOfLine, IsFull, codec_at, enabled_rows, usual_rows};
+ghost use Rattle.c_calls.specs.Told.{done, no_memory, no_utf8, wrong_argument};
+ghost use Rattle.std.specs.Prelude.{◌≡◌, ◌≢◌, ◌↔◌, ◌⊎◌, [], IfErr, IfNone, IfOk, IfSome, None, OnErr, OnOk, Some, IsUtf8};
 
 use crate::said::{DONE, NO_MEMORY, NO_UTF8, WRONG_ARGUMENT};
 use c_parts::config_handle::ConfigHandle;
-use c_parts::row::{codec_at, unless};
+use c_parts::row::{codec_at, said_unless};
 use std::alloc::{AllocError, Global};
 use std::str;
 use str0m_signal::{Codec, CodecConfig, FormatParams, Frequency, Pt};
@@ -169,8 +165,15 @@ pub extern "C" fn zaxp_config_add(
         Err(code) => return code,
     };
     let mut config = handle.take(alloc);
-    let (pt, resend) = (Pt::from(pt), unless(255, rtx).map(Pt::from));
-    let added = config.add_config(pt, resend, codec, clock_rate, unless(0, channels), format);
+    let (pt, resend) = (Pt::from(pt), said_unless(255, rtx).map(Pt::from));
+    let added = config.add_config(
+        pt,
+        resend,
+        codec,
+        clock_rate,
+        said_unless(0, channels),
+        format,
+    );
     handle.put(config);
     match added {
         Ok(()) => DONE,

@@ -1,21 +1,15 @@
 //! Calls of exchanges: one side is made, and it answers offers.
 
+ghost use Rattle.c_calls.specs.Common.{Of};
+ghost use Rattle.c_calls.specs.ExchangeCalls.{AcceptsOffer, BeginsExchange, Goes, state_number};
+ghost use Rattle.c_calls.specs.Prelude.{IsFull, IsSound, RefusesOffer, RefusesOwn, SaysOwn, c_row, own_texts, state_of};
+ghost use Rattle.c_calls.specs.Said.{Says};
+ghost use Rattle.c_calls.specs.SectionCalls.{row_text_numbered, text_in};
+ghost use Rattle.c_calls.specs.Told.{done};
+ghost use Rattle.c_parts.specs.Fault.{RefusesBytes, ToldFault, ToldAt};
 ghost use Rattle.std.specs.Prelude.{◌≡◌, ◌≢◌, IfErr, IfOk, None, OnErr, Some, map};
-ghost use Rattle.c_parts.specs.Fault.{RefusesBytes, Told, ToldAt};
-ghost use Rattle.c_parts.specs.Full.{IsFull};
-ghost use Rattle.c_parts.specs.Row.{c_row};
-ghost use Rattle.c_parts.specs.Side.{RefusesOwn, SaysOwn, own_texts};
-ghost use Rattle.c_calls.specs.Exchanged.{AcceptsOffer, Begins, Goes, state_number};
-ghost use Rattle.c_calls.specs.Found.{text_in};
-ghost use Rattle.c_calls.specs.Held.{Of};
-ghost use Rattle.c_calls.specs.Says.{Says};
-ghost use Rattle.c_calls.specs.Status.{done};
-ghost use Rattle.c_calls.specs.declared.row_calls.RowText.TheVariants.{Codec, Format};
-ghost use Rattle.exchange.specs.Exchange.{RefusesOffer};
-ghost use Rattle.exchange.specs.Follows.{IsSound};
-ghost use Rattle.exchange.specs.State.{state_of};
 
-use crate::row_calls::{RowText, put_rows, put_text};
+use crate::row_calls::{put_row_text, put_rows, row_text_numbered};
 use crate::said::{DONE, NO_MEMORY};
 use crate::told::tell;
 use c_parts::config_handle::ConfigHandle;
@@ -87,14 +81,14 @@ pub extern "C" fn zaxp_exchange_new(
 ) -> u32
     requires handle { handle.old.inner ≡ None }
     requires config { IsFull config.old.inner }
-    ensures made { result ≡ done → Begins numbers.now
+    ensures made { result ≡ done → BeginsExchange numbers.now
         (own_texts ice_ufrag.entry ice_pwd.entry fingerprint.entry stream_id.entry extensions.entry candidates.entry)
         config.old.inner handle.new.inner }
     ensures sound { result ≡ done → Of handle.new.inner IsSound }
     ensures taken { result ≡ done → config.new.inner ≡ None }
     ensures empty { result ≢ done → handle.new.inner ≡ None }
     ensures kept { result ≢ done → config.new.inner ≡ config.old.inner }
-    ensures refused { result ≢ done → Told (RefusesOwn
+    ensures refused { result ≢ done → ToldFault (RefusesOwn
         (own_texts ice_ufrag.entry ice_pwd.entry fingerprint.entry stream_id.entry extensions.entry candidates.entry)) result }
 {
     let texts = OwnTexts {
@@ -214,11 +208,12 @@ pub extern "C" fn zaxp_exchange_rows(
     code
 }
 
-/// The name of the codec of a row of its configuration.
+/// A text of a row of its configuration, by its number (`enum section_text`).
 #[unsafe(no_mangle)]
-pub extern "C" fn zaxp_exchange_codec(
+pub extern "C" fn zaxp_exchange_text(
     alloc: Global,
     handle: &mut ExchangeHandle,
+    what: u8,
     row: usize,
     room: &mut [u8],
     needed: &mut usize,
@@ -226,44 +221,11 @@ pub extern "C" fn zaxp_exchange_codec(
     requires { IsFull handle.old.inner }
     ensures same { handle.new.inner ≡ handle.old.inner }
     ensures says { Of handle.old.inner (λ it.
-        Says (text_in Codec it.config.params.items row) (room.old, needed.old) (result, room.new, needed.new)) }
+        Says (text_in (row_text_numbered what) it.config.params.items row) (room.old, needed.old) (result, room.new, needed.new)) }
 {
     let exchange = handle.take(alloc);
-    let code = put_text(
-        alloc,
-        exchange.config().params(),
-        row,
-        RowText::Codec,
-        room,
-        needed,
-    );
-    handle.put(exchange);
-    code
-}
-
-/// What the format of a row of its configuration says.
-#[unsafe(no_mangle)]
-pub extern "C" fn zaxp_exchange_format(
-    alloc: Global,
-    handle: &mut ExchangeHandle,
-    row: usize,
-    room: &mut [u8],
-    needed: &mut usize,
-) -> u32
-    requires { IsFull handle.old.inner }
-    ensures same { handle.new.inner ≡ handle.old.inner }
-    ensures says { Of handle.old.inner (λ it.
-        Says (text_in Format it.config.params.items row) (room.old, needed.old) (result, room.new, needed.new)) }
-{
-    let exchange = handle.take(alloc);
-    let code = put_text(
-        alloc,
-        exchange.config().params(),
-        row,
-        RowText::Format,
-        room,
-        needed,
-    );
+    let what = row_text_numbered(what);
+    let code = put_row_text(alloc, exchange.config().params(), row, what, room, needed);
     handle.put(exchange);
     code
 }

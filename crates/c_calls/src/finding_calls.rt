@@ -1,8 +1,8 @@
 //! The call of findings.
 
-ghost use Rattle.c_calls.specs.Findings.{SaysFindings};
-ghost use Rattle.c_calls.specs.Says.{SaysSome};
-ghost use Rattle.c_json.specs.JsonText.{IsJsonText};
+ghost use Rattle.c_calls.specs.FindingCalls.{SaysFindings};
+ghost use Rattle.c_calls.specs.Prelude.{IsJsonText};
+ghost use Rattle.c_calls.specs.Said.{SaysSome};
 
 use crate::said::{NO_MEMORY, NO_UTF8, put};
 use c_json::findings_text;

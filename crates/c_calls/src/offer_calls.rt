@@ -1,17 +1,11 @@
 //! Calls of exchanges in which this side offers.
 
-ghost use Rattle.std.specs.Prelude.{◌≡◌, ◌≢◌, ◌<◌, ◌≤◌, ◌↔◌, ◌⊎◌, [], IfErr, IfOk, None, OnErr, OnOk, Some, length, true};
-ghost use Rattle.std.specs.Str.{IsUtf8};
-ghost use Rattle.c_parts.specs.Fault.{Refuses, RefusesBytes, Told, ToldAt};
-ghost use Rattle.c_parts.specs.Full.{IsFull};
-ghost use Rattle.c_parts.specs.Side.{RefusesBoth, direction_numbered, kind_numbered};
-ghost use Rattle.c_calls.specs.Exchanged.{AcceptsAnswer, CreatesOffer, Goes, turned};
-ghost use Rattle.c_calls.specs.Held.{Of};
-ghost use Rattle.c_calls.specs.Status.{done, no_memory, no_utf8, wrong_argument};
-ghost use Rattle.exchange.specs.AcceptedAnswer.{RefusesAnswer};
-ghost use Rattle.exchange.specs.AddedTo.{with_channels, with_media};
-ghost use Rattle.exchange.specs.Exchange.{RefusesChannels, RefusesMedia, RefusesToOffer};
-ghost use Rattle.str0m_formats.specs.KindRows.{kind_rows};
+ghost use Rattle.c_calls.specs.Common.{Of};
+ghost use Rattle.c_calls.specs.ExchangeCalls.{AcceptsAnswer, CreatesOffer, Goes, turned};
+ghost use Rattle.c_calls.specs.Prelude.{IsFull, RefusesAnswer, RefusesBoth, RefusesChannels, RefusesMedia, RefusesToOffer, direction_numbered, kind_numbered, kind_rows, with_channels, with_media};
+ghost use Rattle.c_calls.specs.Told.{done, no_memory, no_utf8, wrong_argument};
+ghost use Rattle.c_parts.specs.Fault.{RefusesCall, RefusesBytes, ToldFault, ToldAt};
+ghost use Rattle.std.specs.Prelude.{◌≡◌, ◌≢◌, ◌<◌, ◌≤◌, ◌↔◌, ◌⊎◌, [], IfErr, IfOk, None, OnErr, OnOk, Some, length, true, IsUtf8};
 
 use crate::exchange_calls::place_for_description;
 use crate::said::{DONE, NO_MEMORY, NO_UTF8, WRONG_ARGUMENT};
@@ -57,7 +51,7 @@ pub extern "C" fn zaxp_exchange_create_offer(
         handle.old.inner handle.new.inner offer.new.inner }
     ensures same { result ≢ done → handle.new.inner ≡ handle.old.inner }
     ensures empty { result ≢ done → offer.new.inner ≡ None }
-    ensures refused { result ≢ done → Of handle.old.inner (λ before. Told (Refuses (RefusesToOffer before)) result) }
+    ensures refused { result ≢ done → Of handle.old.inner (λ before. ToldFault (RefusesCall (RefusesToOffer before)) result) }
 {
     let Ok(mut place) = place_for_description(alloc) else {
         return NO_MEMORY;
@@ -143,7 +137,7 @@ pub extern "C" fn zaxp_exchange_add_media(
         kind_rows (kind_numbered kind) true before.config.params.items ≢ []) }
     ensures same { result ≢ done → handle.new.inner ≡ handle.old.inner }
     ensures refused { result ≢ done → Of handle.old.inner (λ before.
-        Told (Refuses (RefusesMedia before (kind_numbered kind))) result) }
+        ToldFault (RefusesCall (RefusesMedia before (kind_numbered kind))) result) }
 {
     let mut exchange = handle.take(alloc);
     let done = exchange.add_media(kind_numbered(kind), direction_numbered(direction));
@@ -167,7 +161,7 @@ pub extern "C" fn zaxp_exchange_add_channels(
         handle.new.inner ≡ Some (with_channels before)) }
     ensures has_channels { result ≡ done → Of handle.old.inner (λ before. before.own.channels ≢ None) }
     ensures same { result ≢ done → handle.new.inner ≡ handle.old.inner }
-    ensures refused { result ≢ done → Of handle.old.inner (λ before. Told (Refuses (RefusesChannels before)) result) }
+    ensures refused { result ≢ done → Of handle.old.inner (λ before. ToldFault (RefusesCall (RefusesChannels before)) result) }
 {
     let mut exchange = handle.take(alloc);
     let done = exchange.add_channels();
@@ -200,7 +194,7 @@ pub extern "C" fn zaxp_exchange_restart_ice(
       own = record before.own { creds = record { ufrag = ufrag.now; pass = pwd.now } };
     })) }
     ensures same { result ≢ done → handle.new.inner ≡ handle.old.inner }
-    ensures refused { result ≢ done → Told (RefusesBoth ufrag.now pwd.now) result }
+    ensures refused { result ≢ done → ToldFault (RefusesBoth ufrag.now pwd.now) result }
 {
     match creds_of(alloc, ufrag, pwd) {
         Ok(creds) => {

@@ -1,21 +1,11 @@
 //! Calls that negotiate, and that answer with what is agreed.
 
-ghost use Rattle.std.specs.Prelude.{◌≡◌, ◌≢◌, ◌↔◌, ◌⊎◌, [], IfErr, IfNone, IfOk, IfSome, OnErr, OnOk, List, None, Some, ℕ, length, map};
-ghost use Rattle.std.specs.List.{slice_get};
-ghost use Rattle.std.specs.Str.{IsUtf8};
-ghost use Rattle.c_parts.specs.Full.{IsFull};
-ghost use Rattle.c_parts.specs.Refused.{RefusesText};
-ghost use Rattle.c_parts.specs.Row.{c_outcome};
-ghost use Rattle.c_calls.specs.Answered.{Answered, CantAnswer, CantList, Lists, of_type};
-ghost use Rattle.c_calls.specs.Held.{Of};
-ghost use Rattle.c_calls.specs.Ran.{Ran, RanHeld, front};
-ghost use Rattle.c_calls.specs.Status.{done, no_memory, no_section, no_session, no_utf8, nothing_agreed};
-ghost use Rattle.str0m_sdp.specs.SectionOf.{made};
-ghost use Rattle.str0m_sdp.specs.declared.media_line.MediaLine.{MediaLine};
-ghost use Rattle.str0m_sdp.specs.declared.session.Sdp.{Sdp};
-ghost use Rattle.str0m_signal.specs.Answers.{Refuses};
-ghost use Rattle.str0m_signal.specs.Reading.{Described};
-ghost use Rattle.str0m_signal.specs.Writable.{Writable};
+ghost use Rattle.c_calls.specs.Common.{Of};
+ghost use Rattle.c_calls.specs.Prelude.{Described, IsFull, MediaLine, RefusesReading, Sdp, Writable, c_outcome, made};
+ghost use Rattle.c_calls.specs.RoundCalls.{Answered, CantAnswer, CantList, Lists, locked_of_type, RanRounds, RanHeld, cut_to_room};
+ghost use Rattle.c_calls.specs.Told.{done, no_memory, no_section, no_session, no_utf8, nothing_agreed};
+ghost use Rattle.std.specs.Prelude.{◌≡◌, ◌≢◌, ◌↔◌, ◌⊎◌, [], IfErr, IfNone, IfOk, IfSome, OnErr, OnOk, List, None, Some, ℕ, length, map, slice_get, IsUtf8};
+ghost use Rattle.str0m_signal.specs.session.ReaderAnswers.{Refuses};
 
 use crate::said::{DONE, NO_MEMORY, NO_SECTION, NOTHING, refuse};
 use c_parts::config_handle::ConfigHandle;
@@ -42,7 +32,7 @@ fn fill(room: &mut [Outcome], outcomes: &[Result<(), NegotiationError>])
 /// Writes as many of the first outcomes as there is room for.
 fn put_outcomes(outcomes: &[Result<(), NegotiationError>], room: &mut [Outcome], needed: &mut usize)
     ensures needed { needed.new ≡ length outcomes.now }
-    ensures written { room.new ≡ front (map c_outcome outcomes.now) room.old }
+    ensures written { room.new ≡ cut_to_room (map c_outcome outcomes.now) room.old }
 {
     *needed = outcomes.len();
     if outcomes.len() <= room.len() {
@@ -60,7 +50,7 @@ fn negotiated_text(
     room: &mut [Outcome],
     needed: &mut usize,
 ) -> Result<(), SdpError>
-    ensures ran { OnOk result (Ran text.now config.old config.new room.old room.new needed.new) }
+    ensures ran { OnOk result (RanRounds text.now config.old config.new room.old room.new needed.new) }
     ensures same { OnErr result (config.new ≡ config.old) }
     ensures kept { OnErr result (room.new ≡ room.old) }
     ensures uncounted { OnErr result (needed.new ≡ needed.old) }
@@ -77,11 +67,11 @@ fn negotiated(
     room: &mut [Outcome],
     needed: &mut usize,
 ) -> Result<(), Refusal>
-    ensures ran { OnOk result (Ran bytes.now config.old config.new room.old room.new needed.new) }
+    ensures ran { OnOk result (RanRounds bytes.now config.old config.new room.old room.new needed.new) }
     ensures same { OnErr result (config.new ≡ config.old) }
     ensures kept { OnErr result (room.new ≡ room.old) }
     ensures uncounted { OnErr result (needed.new ≡ needed.old) }
-    ensures refused { IfErr result (λ refusal. RefusesText refusal bytes.now) }
+    ensures refused { IfErr result (λ refusal. RefusesReading refusal bytes.now) }
 {
     match str::from_utf8(bytes) {
         Ok(text) => match negotiated_text(config, text, room, needed) {
@@ -122,7 +112,7 @@ pub extern "C" fn zaxp_config_negotiate(
 }
 
 fn agreed(config: &CodecConfig, typ: &MediaType) -> Result<Vec<PayloadParams>, AllocError>
-    ensures { IfOk result (λ rows. rows.items ≡ of_type typ.now config.now.params.items) }
+    ensures { IfOk result (λ rows. rows.items ≡ locked_of_type typ.now config.now.params.items) }
 {
     match typ {
         MediaType::Audio => locked_rows(config, MediaKind::Audio),
@@ -132,16 +122,16 @@ fn agreed(config: &CodecConfig, typ: &MediaType) -> Result<Vec<PayloadParams>, A
 }
 
 /// The section there with the locked rows of its kind; `None` where there is no such row, or where it can't be written.
-fn answered(
+fn answered_section(
     config: &CodecConfig,
     own: &Sdp,
     at: usize,
     frame: &MediaLine,
 ) -> Result<Option<MediaLine>, AllocError>
-    ensures made { IfOk result (λ found. IfSome found (λ section. Writable own.now at × (of_type frame.now.typ config.now.params.items ≢ [])
-        × (section ≡ made frame.now (of_type frame.now.typ config.now.params.items)))) }
+    ensures made { IfOk result (λ found. IfSome found (λ section. Writable own.now at × (locked_of_type frame.now.typ config.now.params.items ≢ [])
+        × (section ≡ made frame.now (locked_of_type frame.now.typ config.now.params.items)))) }
     ensures none { IfOk result (λ found. IfNone found
-        ((of_type frame.now.typ config.now.params.items ≡ []) ⊎ (Writable own.now at → ⊥))) }
+        ((locked_of_type frame.now.typ config.now.params.items ≡ []) ⊎ (Writable own.now at → ⊥))) }
 {
     let rows = agreed(config, &frame.typ)?;
     if rows.is_empty() {
@@ -161,7 +151,7 @@ fn answer(config: &CodecConfig, own: &mut Sdp, at: usize) -> u32
     ensures nothing { result ≡ nothing_agreed → CantList config.now.params.items own.old at }
 {
     let made = match own.media_lines.get(at) {
-        Some(frame) => answered(config, own, at, frame),
+        Some(frame) => answered_section(config, own, at, frame),
         None => return NO_SECTION,
     };
     match made {

@@ -1,12 +1,9 @@
 //! What a call answers.
 
-ghost use Rattle.std.specs.Prelude.{◌≡◌, ◌≢◌, IfOk, Some, List, ℕ, string_bytes};
-ghost use Rattle.std.specs.Str.{IsUtf8};
-ghost use Rattle.c_parts.specs.Refused.{RefusesText};
-ghost use Rattle.c_calls.specs.Says.{Puts, Says};
-ghost use Rattle.c_calls.specs.Status.{done, no_session, no_utf8};
-ghost use Rattle.str0m_sdp.specs.declared.session.Sdp.{Sdp};
-ghost use Rattle.str0m_signal.specs.Reading.{Described};
+ghost use Rattle.c_calls.specs.Prelude.{Described, RefusesReading, Sdp};
+ghost use Rattle.c_calls.specs.Said.{Puts, Says};
+ghost use Rattle.c_calls.specs.Told.{done, no_session, no_utf8};
+ghost use Rattle.std.specs.Prelude.{◌≡◌, ◌≢◌, IfOk, Some, List, ℕ, string_bytes, IsUtf8};
 
 use c_parts::reading::Refusal;
 use c_parts::room::copied;
@@ -27,7 +24,7 @@ pub(crate) const NOTHING: u32 = 6;
 pub(crate) const WRONG_ARGUMENT: u32 = 7;
 
 /// Writes items into the caller's room where they fit, and always how many there are.
-#[tactic(auto, using(crate::proofs::Putting::put_fits, crate::proofs::Putting::put_full))]
+#[tactic(auto, using(crate::proofs::SaidPutting::put_fits, crate::proofs::SaidPutting::put_full))]
 pub(crate) fn put<T: Copy>(items: &[T], room: &mut [T], needed: &mut usize) -> u32
     ensures { Puts (Some items.now) (room.old, needed.old) (result, room.new, needed.new) }
 {
@@ -57,8 +54,8 @@ pub(crate) fn refuse(
     message_length: &mut usize,
 ) -> u32
     ensures refused { result ≢ done }
-    ensures no_session { (text : List ℕ) → RefusesText refusal.now text → result ≡ no_session → (sdp : Sdp) → Described text sdp → ⊥ }
-    ensures no_text { (text : List ℕ) → RefusesText refusal.now text → result ≡ no_utf8 → IsUtf8 text → ⊥ }
+    ensures no_session { (text : List ℕ) → RefusesReading refusal.now text → result ≡ no_session → (sdp : Sdp) → Described text sdp → ⊥ }
+    ensures no_text { (text : List ℕ) → RefusesReading refusal.now text → result ≡ no_utf8 → IsUtf8 text → ⊥ }
 {
     if let Ok(text) = refusal.message(alloc) {
         let _ = copied(text.as_bytes(), message, message_length);

@@ -1,13 +1,11 @@
 //! Calls of sections.
 
-ghost use Rattle.std.specs.Prelude.{◌≡◌, ◌≢◌, ◌↔◌, ◌⊎◌, IfOk, IsTrue, None};
-ghost use Rattle.std.specs.List.{slice_get};
-ghost use Rattle.c_parts.specs.Full.{IsFull};
-ghost use Rattle.c_calls.specs.Found.{section_at};
-ghost use Rattle.c_calls.specs.Held.{Of};
-ghost use Rattle.c_calls.specs.Says.{Gives};
-ghost use Rattle.c_calls.specs.Status.{done, no_memory, no_section};
-ghost use Rattle.str0m_signal.specs.Writable.{Writable};
+ghost use Rattle.c_calls.specs.Common.{Of};
+ghost use Rattle.c_calls.specs.Prelude.{IsFull, Writable};
+ghost use Rattle.c_calls.specs.Said.{GivesOne};
+ghost use Rattle.c_calls.specs.SectionCalls.{section_at};
+ghost use Rattle.c_calls.specs.Told.{done, no_memory, no_section};
+ghost use Rattle.std.specs.Prelude.{◌≡◌, ◌≢◌, ◌↔◌, ◌⊎◌, IfOk, IsTrue, None, slice_get};
 
 use crate::said::{DONE, NO_MEMORY, NO_SECTION};
 use c_parts::section::{Section, section_info};
@@ -16,7 +14,7 @@ use std::alloc::Global;
 use str0m_signal::{Sdp, is_writable};
 
 fn give_section(sdp: &Sdp, at: usize, info: &mut Section) -> u32
-    ensures { Gives (section_at sdp.now at) info.old (result, info.new) }
+    ensures { GivesOne (section_at sdp.now at) info.old (result, info.new) }
 {
     match sdp.media_lines.get(at) {
         Some(section) => {
@@ -37,7 +35,7 @@ pub extern "C" fn zaxp_session_section(
 ) -> u32
     requires { IsFull handle.old.inner }
     ensures same { handle.new.inner ≡ handle.old.inner }
-    ensures given { Of handle.old.inner (λ sdp. Gives (section_at sdp at) info.old (result, info.new)) }
+    ensures given { Of handle.old.inner (λ sdp. GivesOne (section_at sdp at) info.old (result, info.new)) }
 {
     let sdp = handle.take(alloc);
     let code = give_section(&sdp, at, info);

@@ -1,17 +1,12 @@
 //! Calls of descriptions.
 
-ghost use Rattle.std.specs.Prelude.{◌≡◌, ◌≢◌, None, Some, List, ℕ, length};
-ghost use Rattle.std.specs.Str.{IsUtf8};
-ghost use Rattle.c_parts.specs.Full.{IsFull};
-ghost use Rattle.c_calls.specs.Found.{mid_at};
-ghost use Rattle.c_calls.specs.Held.{Of};
-ghost use Rattle.c_calls.specs.Mid.{mid_named, mid_text};
-ghost use Rattle.c_calls.specs.Says.{Puts, Says, SaysSome};
-ghost use Rattle.c_json.specs.JsonText.{IsJsonText};
-ghost use Rattle.c_calls.specs.Status.{done, no_session, no_utf8};
-ghost use Rattle.str0m_sdp.specs.Session.{sdp_text, versioned_text};
-ghost use Rattle.str0m_sdp.specs.declared.session.Sdp.{Sdp};
-ghost use Rattle.str0m_signal.specs.Reading.{Described, Reading};
+ghost use Rattle.c_calls.specs.Common.{Of};
+ghost use Rattle.c_calls.specs.Prelude.{Described, IsFull, IsJsonText, Reading, Sdp, sdp_text, versioned_text};
+ghost use Rattle.c_calls.specs.Said.{Puts, Says, SaysSome};
+ghost use Rattle.c_calls.specs.SectionCalls.{mid_at};
+ghost use Rattle.c_calls.specs.SessionCalls.{mid_named, mid_or_empty};
+ghost use Rattle.c_calls.specs.Told.{done, no_session, no_utf8};
+ghost use Rattle.std.specs.Prelude.{◌≡◌, ◌≢◌, None, Some, List, ℕ, length, IsUtf8};
 
 use crate::said::{DONE, NO_MEMORY, NO_SECTION, put, put_made, refuse};
 use c_json::json_text;
@@ -150,7 +145,7 @@ fn mid_named(section: &MediaLine) -> Option<Mid>
 }
 
 fn put_mid(section: &MediaLine, room: &mut [u8], needed: &mut usize) -> u32
-    ensures { Puts (Some (mid_text section.now)) (room.old, needed.old) (result, room.new, needed.new) }
+    ensures { Puts (Some (mid_or_empty section.now)) (room.old, needed.old) (result, room.new, needed.new) }
 {
     match mid_named(section) {
         Some(mid) => put(mid.as_str().as_bytes(), room, needed),

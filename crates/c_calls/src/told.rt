@@ -1,8 +1,8 @@
 //! What a call of an exchange tells where it is refused.
 
+ghost use Rattle.c_calls.specs.Told.{done};
+ghost use Rattle.c_parts.specs.Fault.{error_code, fault_code, line_of_fault};
 ghost use Rattle.std.specs.Prelude.{◌≡◌, ◌≢◌};
-ghost use Rattle.c_calls.specs.Status.{done};
-ghost use Rattle.c_parts.specs.Fault.{error_code, fault_code, fault_line};
 
 use c_parts::fault::Fault;
 use c_parts::room::copied;
@@ -19,7 +19,7 @@ pub(crate) fn tell(
 ) -> u32
     ensures code { result ≡ fault_code fault.now }
     ensures refused { result ≢ done }
-    ensures line { line.new ≡ fault_line fault.now }
+    ensures line { line.new ≡ line_of_fault fault.now }
 {
     *line = fault.line();
     if let Ok(text) = fault.message(alloc) {

@@ -1,13 +1,13 @@
 //! Calls of the transport that a description speaks of.
 
+ghost use Rattle.c_calls.specs.Common.{Of};
+ghost use Rattle.c_calls.specs.Prelude.{IsFull, sdp_creds, sdp_setup, setup_number};
+ghost use Rattle.c_calls.specs.Said.{Says, SaysSome};
+ghost use Rattle.c_calls.specs.TransportCalls.{IsPreferredText, pwd_of, ufrag_of};
 ghost use Rattle.std.specs.Prelude.{◌≡◌, IfOk, Some, string_bytes};
-ghost use Rattle.c_parts.specs.Full.{IsFull};
-ghost use Rattle.c_calls.specs.Held.{Of};
-ghost use Rattle.c_calls.specs.Says.{Says, SaysSome};
-ghost use Rattle.c_calls.specs.TransportFound.{IsPreferredText, pwd_of, ufrag_of};
-ghost use Rattle.str0m_sdp.specs.Transport.{sdp_creds};
 
 use crate::said::{NO_MEMORY, put};
+use c_parts::section::setup_of;
 use c_parts::session_handle::SessionHandle;
 use std::alloc::{AllocError, Global};
 use str0m_signal::Sdp;
@@ -103,4 +103,17 @@ pub extern "C" fn zaxp_session_fingerprint(
     let code = put_fingerprint(alloc, &sdp, room, needed);
     handle.put(sdp);
     code
+}
+
+/// The role in the DTLS handshake that the description says, as a number.
+#[unsafe(no_mangle)]
+pub extern "C" fn zaxp_session_setup(alloc: Global, handle: &mut SessionHandle) -> u8
+    requires { IsFull handle.old.inner }
+    ensures same { handle.new.inner ≡ handle.old.inner }
+    ensures setup { Of handle.old.inner (λ sdp. result ≡ setup_number (sdp_setup sdp)) }
+{
+    let sdp = handle.take(alloc);
+    let setup = setup_of(sdp.setup());
+    handle.put(sdp);
+    setup
 }

@@ -1,1 +1,2 @@
-pub mod JsonText
+pub mod Description
+pub mod JsonWriter

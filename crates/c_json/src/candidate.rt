@@ -1,34 +1,48 @@
 //! Candidates (RFC 8839, section 5.1).
 
-use crate::members::Members;
-use std::alloc::{AllocError, Global};
-use str0m_signal::Candidate;
+ghost use Rattle.c_json.specs.JsonWriter.{InList, InObject};
+ghost use Rattle.std.specs.Prelude.{◌≡◌, OnOk};
 
-/// Adds the parts that each candidate has.
-fn add_parts(members: &mut Members, candidate: &Candidate) -> Result<(), AllocError> {
-    let addr = candidate.addr();
-    members.text("foundation", candidate.foundation())?;
-    members.number("component", u64::from(candidate.component_id()))?;
-    members.shown("transport", &candidate.proto())?;
-    members.number("priority", u64::from(candidate.prio()))?;
-    members.shown("ip", &addr.ip)?;
-    members.number("port", u64::from(addr.port))?;
-    members.shown("type", &candidate.kind())
+use crate::json_writer::JsonWriter;
+use std::alloc::AllocError;
+use str0m_signal::{Candidate, SocketAddr};
+use str0m_values::Worded;
+
+/// Where it was found from.
+fn add_related(json: &mut JsonWriter, related: Option<SocketAddr>) -> Result<(), AllocError>
+    requires { InObject json.old }
+    ensures { OnOk result (json.new ≡ json.old) }
+{
+    let Some(addr) = related else {
+        return Ok(());
+    };
+    json.shown("raddr", &addr.ip)?;
+    json.number("rport", u64::from(addr.port))
+}
+
+fn add_parts(json: &mut JsonWriter, found: &Candidate) -> Result<(), AllocError>
+    requires { InObject json.old }
+    ensures { OnOk result (json.new ≡ json.old) }
+{
+    let addr = found.addr();
+    json.number("component", u64::from(found.component_id()))?;
+    json.text("foundation", found.foundation())?;
+    json.shown("ip", &addr.ip)?;
+    json.number("port", u64::from(addr.port))?;
+    json.number("priority", u64::from(found.prio()))?;
+    add_related(json, found.raddr())?;
+    json.maybe_text("tcptype", found.tcptype().map(|tcptype| tcptype.word()))?;
+    json.text("transport", found.proto().word())?;
+    json.text("type", found.kind().word())?;
+    json.maybe_text("ufrag", found.ufrag())
 }
 
 /// A candidate, with those of its further parts that it has.
-pub(crate) fn candidate(alloc: Global, found: &Candidate) -> Result<Members, AllocError> {
-    let mut members = Members::new(alloc);
-    add_parts(&mut members, found)?;
-    if let Some(addr) = found.raddr() {
-        members.shown("raddr", &addr.ip)?;
-        members.number("rport", u64::from(addr.port))?;
-    }
-    if let Some(tcptype) = found.tcptype() {
-        members.shown("tcptype", &tcptype)?;
-    }
-    if let Some(ufrag) = found.ufrag() {
-        members.text("ufrag", ufrag)?;
-    }
-    Ok(members)
+pub(crate) fn add_candidate(json: &mut JsonWriter, found: &Candidate) -> Result<(), AllocError>
+    requires { InList json.old }
+    ensures { OnOk result (json.new ≡ json.old) }
+{
+    json.begin_item()?;
+    add_parts(json, found)?;
+    json.end_object()
 }

@@ -1,6 +1,6 @@
 //! What is found in a text.
+ghost use Rattle.c_json.specs.Description.{IsJsonText};
 ghost use Rattle.std.specs.Prelude.{IfOk, string_bytes};
-ghost use Rattle.c_json.specs.JsonText.{IsJsonText};
 
 use lint::{Finding, findings};
 use serde_json::{Value, json};
@@ -13,7 +13,7 @@ const STANDARD_INPUT: &str = "-";
 pub fn record(alloc: Global, file: &str, finding: &Finding) -> Result<Value, AllocError> {
     let (line, column) = (finding.line as u64, finding.column as u64);
     let severity = finding.code.severity().word();
-    let (code, message) = (finding.code.row().name, finding.sentence.as_str());
+    let (code, message) = (finding.code.entry().name, finding.sentence.as_str());
     json!(in alloc; {
         "file": file,
         "line": line,
@@ -37,7 +37,7 @@ fn records(alloc: Global, text: &str) -> Result<Value, AllocError> {
 
 /// What is found in a text, as JSON without spaces: what `sdplint --format json` writes of it as standard input, without the end of
 /// the line. The only error is that memory was refused.
-#[tactic(auto, using(crate::proofs::Written::is_json_text))]
+#[tactic(auto, using(crate::proofs::DescriptionWritten::is_json_text))]
 pub fn findings_text(alloc: Global, text: &str) -> Result<String, AllocError>
     ensures { IfOk result (λ text. IsJsonText (string_bytes text)) }
 {

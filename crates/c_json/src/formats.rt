@@ -1,80 +1,73 @@
 //! What a section says of payload types and header extensions.
 
-use crate::members::Members;
+ghost use Rattle.c_json.specs.JsonWriter.{InList};
+ghost use Rattle.std.specs.Prelude.{◌≡◌, OnOk};
+
+use crate::json_writer::JsonWriter;
 use crate::words::{content, first_word};
 use std::alloc::{AllocError, Global};
 use str0m_sdp::label;
 use str0m_signal::{Extension, MediaAttribute, Pt, RtpMap};
-
-fn of_type(alloc: Global, pt: Pt) -> Result<Members, AllocError> {
-    let mut members = Members::new(alloc);
-    members.number("payload", u64::from(pt.value()))?;
-    Ok(members)
-}
+use str0m_values::Worded;
 
 /// Adds the codec of a payload type (RFC 8866, section 6.6).
-pub(crate) fn add_rtp_map(
-    alloc: Global,
-    members: &mut Members,
-    pt: Pt,
-    map: &RtpMap,
-) -> Result<(), AllocError> {
-    let mut rtp = of_type(alloc, pt)?;
-    rtp.shown("codec", &map.codec)?;
-    rtp.number("rate", u64::from(map.clock_rate.get()))?;
-    if let Some(channels) = map.channels {
-        rtp.number("encoding", u64::from(channels))?;
-    }
-    members.append_object("rtp", rtp)
+pub(crate) fn add_rtp_map(json: &mut JsonWriter, pt: Pt, map: &RtpMap) -> Result<(), AllocError>
+    requires { InList json.old }
+    ensures { OnOk result (json.new ≡ json.old) }
+{
+    json.begin_item()?;
+    json.text("codec", map.codec.word())?;
+    json.maybe_number("encoding", map.channels.map(|channels| u64::from(channels)))?;
+    json.number("payload", u64::from(pt.value()))?;
+    json.number("rate", u64::from(map.clock_rate.get()))?;
+    json.end_object()
 }
 
 /// Adds feedback for a payload type (RFC 4585, section 4.2).
-pub(crate) fn add_feedback(
-    alloc: Global,
-    members: &mut Members,
-    pt: Pt,
-    said: &str,
-) -> Result<(), AllocError> {
-    let mut feedback = of_type(alloc, pt)?;
-    match said.split_once(' ') {
-        Some((kind, more)) => {
-            feedback.text("type", kind)?;
-            feedback.text("subtype", more)?;
-        }
-        None => feedback.text("type", said)?,
-    }
-    members.append_object("rtcpFb", feedback)
+pub(crate) fn add_feedback(json: &mut JsonWriter, pt: Pt, said: &str) -> Result<(), AllocError>
+    requires { InList json.old }
+    ensures { OnOk result (json.new ≡ json.old) }
+{
+    let (kind, more) = match said.split_once(' ') {
+        Some((kind, more)) => (kind, Some(more)),
+        None => (said, None),
+    };
+    json.begin_item()?;
+    json.number("payload", u64::from(pt.value()))?;
+    json.maybe_text("subtype", more)?;
+    json.text("type", kind)?;
+    json.end_object()
 }
 
-/// Adds the parameters of a payload type, where some are printed (RFC 8866, section 6.15).
+/// Adds the parameters of a payload type as they print (RFC 8866, section 6.15).
 pub(crate) fn add_fmtp(
     alloc: Global,
-    members: &mut Members,
+    json: &mut JsonWriter,
     pt: Pt,
     attr: &MediaAttribute,
-) -> Result<(), AllocError> {
+) -> Result<(), AllocError>
+    requires { InList json.old }
+    ensures { OnOk result (json.new ≡ json.old) }
+{
     let line = attr.to_string(alloc)?;
-    let Some(text) = content(line.as_str(), label::FMTP) else {
-        return Ok(());
-    };
-    let (_, config) = first_word(text);
-    let mut fmtp = of_type(alloc, pt)?;
-    fmtp.text("config", config)?;
-    members.append_object("fmtp", fmtp)
+    let (_, config) = first_word(content(line.as_str(), label::FMTP).unwrap_or(""));
+    json.begin_item()?;
+    json.text("config", config)?;
+    json.number("payload", u64::from(pt.value()))?;
+    json.end_object()
 }
 
-/// Adds a header extension that is listed (RFC 8285, section 5).
+/// Adds a header extension (RFC 8285, section 5).
 pub(crate) fn add_extension(
-    alloc: Global,
-    members: &mut Members,
+    json: &mut JsonWriter,
     id: u8,
     ext: &Extension,
-) -> Result<(), AllocError> {
-    if !ext.is_serialized() {
-        return Ok(());
-    }
-    let mut found = Members::new(alloc);
-    found.number("value", u64::from(id))?;
-    found.text("uri", ext.as_uri())?;
-    members.append_object("ext", found)
+) -> Result<(), AllocError>
+    requires { InList json.old }
+    ensures { OnOk result (json.new ≡ json.old) }
+{
+    json.begin_item()?;
+    json.text("uri", ext.as_uri())?;
+    json.number("value", u64::from(id))?;
+    json.end_object()
 }

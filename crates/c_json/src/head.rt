@@ -1,8 +1,35 @@
 //! What stands in front of the attributes of a session or of a section, as it prints (RFC 8866, sections 5.1 to 5.14).
 
-use crate::members::Members;
-use crate::words::first_word;
+ghost use Rattle.c_json.specs.JsonWriter.{InObject};
+ghost use Rattle.std.specs.Prelude.{◌≡◌, OnOk};
+
+use crate::json_writer::JsonWriter;
+use crate::words::{first_word, line};
 use std::alloc::{AllocError, Global};
+use str0m_signal::{Items, MediaLine, Session};
+
+/// The lines of a session in front of its attributes.
+pub(crate) fn session_head(alloc: Global, session: &Session) -> Result<String, AllocError> {
+    let head = Session {
+        id: session.id,
+        bw: session.bw.clone()?,
+        attrs: Items::empty(alloc),
+    };
+    head.to_string(alloc)
+}
+
+/// The lines of a section in front of its attributes.
+pub(crate) fn section_head(alloc: Global, section: &MediaLine) -> Result<String, AllocError> {
+    let head = MediaLine {
+        typ: section.typ.clone()?,
+        disabled: section.disabled,
+        proto: section.proto,
+        pts: section.pts.clone()?,
+        bw: section.bw.clone()?,
+        attrs: Items::empty(alloc),
+    };
+    head.to_string(alloc)
+}
 
 /// An address with its type of network and its version of IP (RFC 8866, section 5.7).
 #[derive(Clone, Copy)]
@@ -24,100 +51,116 @@ fn read_address(text: &str) -> Option<NetAddress<'_>> {
 }
 
 /// Adds such an address to what has a port or a session.
-fn add_address(members: &mut Members, at: &NetAddress<'_>) -> Result<(), AllocError> {
-    members.text("netType", at.net_type)?;
-    members.number_or_text("ipVer", at.version)?;
-    members.text("address", at.address)
+fn add_address(json: &mut JsonWriter, found: Option<NetAddress<'_>>) -> Result<(), AllocError>
+    requires { InObject json.old }
+    ensures { OnOk result (json.new ≡ json.old) }
+{
+    let Some(at) = found else {
+        return Ok(());
+    };
+    json.text("address", at.address)?;
+    json.number_or_text("ipVer", at.version)?;
+    json.text("netType", at.net_type)
 }
 
-fn add_origin(alloc: Global, members: &mut Members, text: &str) -> Result<(), AllocError> {
+/// Adds who made the session, and when (RFC 8866, section 5.2).
+pub(crate) fn add_origin(json: &mut JsonWriter, head: &str) -> Result<(), AllocError>
+    requires { InObject json.old }
+    ensures { OnOk result (json.new ≡ json.old) }
+{
+    let Some(text) = line(head, "o=") else {
+        return Ok(());
+    };
     let (username, rest) = first_word(text);
     let (id, rest) = first_word(rest);
     let (version, rest) = first_word(rest);
-    let mut origin = Members::new(alloc);
-    origin.text("username", username)?;
-    origin.number_or_text("sessionId", id)?;
-    origin.number_or_text("sessionVersion", version)?;
-    if let Some(at) = read_address(rest) {
-        add_address(&mut origin, &at)?;
-    }
-    members.put("origin", origin.into_value())
+    json.begin_object("origin")?;
+    add_address(json, read_address(rest))?;
+    json.number_or_text("sessionId", id)?;
+    json.number_or_text("sessionVersion", version)?;
+    json.text("username", username)?;
+    json.end_object()
 }
 
-fn add_timing(alloc: Global, members: &mut Members, text: &str) -> Result<(), AllocError> {
-    let (start, stop) = first_word(text);
-    let mut timing = Members::new(alloc);
-    timing.number_or_text("start", start)?;
-    timing.number_or_text("stop", stop)?;
-    members.put("timing", timing.into_value())
-}
-
-fn add_media(members: &mut Members, text: &str) -> Result<(), AllocError> {
-    let (kind, rest) = first_word(text);
-    let (port, rest) = first_word(rest);
-    let (protocol, payloads) = first_word(rest);
-    members.text("type", kind)?;
-    members.number_or_text("port", port)?;
-    members.text("protocol", protocol)?;
-    members.text("payloads", payloads)
-}
-
-fn add_connection(alloc: Global, members: &mut Members, text: &str) -> Result<(), AllocError> {
-    let Some(at) = read_address(text) else {
+/// Adds from when to when the session is (RFC 8866, section 5.9).
+pub(crate) fn add_timing(json: &mut JsonWriter, head: &str) -> Result<(), AllocError>
+    requires { InObject json.old }
+    ensures { OnOk result (json.new ≡ json.old) }
+{
+    let Some(text) = line(head, "t=") else {
         return Ok(());
     };
-    let mut found = Members::new(alloc);
-    found.number_or_text("version", at.version)?;
-    found.text("ip", at.address)?;
-    members.put("connection", found.into_value())
+    let (start, stop) = first_word(text);
+    json.begin_object("timing")?;
+    json.number_or_text("start", start)?;
+    json.number_or_text("stop", stop)?;
+    json.end_object()
 }
 
-fn add_bandwidth(alloc: Global, members: &mut Members, text: &str) -> Result<(), AllocError> {
+/// Adds the version of the protocol (RFC 8866, section 5.1).
+pub(crate) fn add_version(json: &mut JsonWriter, head: &str) -> Result<(), AllocError>
+    requires { InObject json.old }
+    ensures { OnOk result (json.new ≡ json.old) }
+{
+    json.number_or_text("version", line(head, "v=").unwrap_or(""))
+}
+
+/// Adds what the section carries (RFC 8866, section 5.14), but for its type.
+pub(crate) fn add_formats(json: &mut JsonWriter, head: &str) -> Result<(), AllocError>
+    requires { InObject json.old }
+    ensures { OnOk result (json.new ≡ json.old) }
+{
+    let (_, rest) = first_word(line(head, "m=").unwrap_or(""));
+    let (port, rest) = first_word(rest);
+    let (protocol, payloads) = first_word(rest);
+    json.text("payloads", payloads)?;
+    json.number_or_text("port", port)?;
+    json.text("protocol", protocol)
+}
+
+/// Adds the address that the section has by its `c=` line (RFC 8866, section 5.7).
+pub(crate) fn add_connection(json: &mut JsonWriter, head: &str) -> Result<(), AllocError>
+    requires { InObject json.old }
+    ensures { OnOk result (json.new ≡ json.old) }
+{
+    let Some(at) = read_address(line(head, "c=").unwrap_or("")) else {
+        return Ok(());
+    };
+    json.begin_object("connection")?;
+    json.text("ip", at.address)?;
+    json.number_or_text("version", at.version)?;
+    json.end_object()
+}
+
+/// Adds the proposed bandwidth, as the item of a list (RFC 8866, section 5.8).
+pub(crate) fn add_bandwidth(json: &mut JsonWriter, head: &str) -> Result<(), AllocError>
+    requires { InObject json.old }
+    ensures { OnOk result (json.new ≡ json.old) }
+{
+    let Some(text) = line(head, "b=") else {
+        return Ok(());
+    };
     let (kind, limit) = text.split_once(':').unwrap_or((text, ""));
-    let mut bandwidth = Members::new(alloc);
-    bandwidth.text("type", kind)?;
-    bandwidth.number_or_text("limit", limit)?;
-    members.append_object("bandwidth", bandwidth)
-}
-
-fn add_line(
-    alloc: Global,
-    members: &mut Members,
-    letter: &str,
-    text: &str,
-) -> Result<(), AllocError> {
-    match letter {
-        "v" => members.number_or_text("version", text),
-        "o" => add_origin(alloc, members, text),
-        "s" => members.text("name", text),
-        "t" => add_timing(alloc, members, text),
-        "m" => add_media(members, text),
-        "c" => add_connection(alloc, members, text),
-        "b" => add_bandwidth(alloc, members, text),
-        _ => Ok(()),
-    }
-}
-
-/// Adds what the lines of a printed session or section say that aren't attributes.
-pub(crate) fn add_head(alloc: Global, members: &mut Members, text: &str) -> Result<(), AllocError> {
-    for line in text.lines() {
-        if let Some((letter, text)) = line.split_once('=') {
-            add_line(alloc, members, letter, text)?;
-        }
-    }
-    Ok(())
+    json.begin_list("bandwidth")?;
+    json.begin_item()?;
+    json.number_or_text("limit", limit)?;
+    json.text("type", kind)?;
+    json.end_object()?;
+    json.end_list()
 }
 
 /// Adds where RTCP goes (RFC 3605, section 2.1). What has another form is a port as a whole.
-pub(crate) fn add_rtcp(alloc: Global, members: &mut Members, text: &str) -> Result<(), AllocError> {
+pub(crate) fn add_rtcp(json: &mut JsonWriter, said: Option<&str>) -> Result<(), AllocError>
+    requires { InObject json.old }
+    ensures { OnOk result (json.new ≡ json.old) }
+{
+    let Some(text) = said else {
+        return Ok(());
+    };
     let (port, rest) = first_word(text);
-    let mut rtcp = Members::new(alloc);
-    match read_address(rest) {
-        Some(at) => {
-            rtcp.number_or_text("port", port)?;
-            add_address(&mut rtcp, &at)?;
-        }
-        None => rtcp.number_or_text("port", text)?,
-    }
-    members.put("rtcp", rtcp.into_value())
+    let at = read_address(rest);
+    json.begin_object("rtcp")?;
+    add_address(json, at)?;
+    json.number_or_text("port", if at.is_some() { port } else { text })?;
+    json.end_object()
 }

@@ -1,18 +1,13 @@
 //! The rows of a section.
 
-use crate::members::Members;
-use serde_json::Value;
-use std::alloc::{AllocError, Global};
+ghost use Rattle.c_json.specs.JsonWriter.{InList, InObject};
+ghost use Rattle.std.specs.Prelude.{◌≡◌, OnOk};
+
+use crate::json_writer::JsonWriter;
+use std::alloc::AllocError;
 use str0m_sdp::label;
 use str0m_signal::{MediaLine, PayloadParams, Pt};
-
-/// Adds a number, or null where there is none.
-fn add_or_null(members: &mut Members, key: &str, number: Option<u8>) -> Result<(), AllocError> {
-    match number {
-        Some(number) => members.number(key, u64::from(number)),
-        None => members.put(key, Value::Null),
-    }
-}
+use str0m_values::Worded;
 
 fn value_of(pt: Option<Pt>) -> Option<u8> {
     match pt {
@@ -22,7 +17,10 @@ fn value_of(pt: Option<Pt>) -> Option<u8> {
 }
 
 /// The feedback that is on, as rtcp-fb lines say it.
-fn feedback(alloc: Global, row: &PayloadParams) -> Result<Value, AllocError> {
+fn add_row_feedback(json: &mut JsonWriter, row: &PayloadParams) -> Result<(), AllocError>
+    requires { InObject json.old }
+    ensures { OnOk result (json.new ≡ json.old) }
+{
     let said = [
         (row.fb_transport_cc(), label::TRANSPORT_CC),
         (row.fb_nack(), label::NACK),
@@ -30,35 +28,41 @@ fn feedback(alloc: Global, row: &PayloadParams) -> Result<Value, AllocError> {
         (row.fb_fir(), label::FIR),
         (row.fb_remb(), label::REMB),
     ];
-    let mut words = Vec::new(alloc);
+    json.begin_list("feedback")?;
     for (is_on, word) in said {
         if is_on {
-            words.push(Value::try_from_str(alloc, word)?)?;
+            json.item(word)?;
         }
     }
-    Ok(Value::Array(words))
+    json.end_list()
 }
 
-fn row(alloc: Global, row: &PayloadParams) -> Result<Value, AllocError> {
+fn add_row(json: &mut JsonWriter, row: &PayloadParams) -> Result<(), AllocError>
+    requires { InList json.old }
+    ensures { OnOk result (json.new ≡ json.old) }
+{
     let spec = row.spec();
-    let mut members = Members::new(alloc);
-    members.number("pt", u64::from(row.pt().value()))?;
-    members.shown("codec", &spec.codec)?;
-    members.number("rate", u64::from(spec.clock_rate.get()))?;
-    add_or_null(&mut members, "channels", spec.channels)?;
-    add_or_null(&mut members, "rtx", value_of(row.resend()))?;
-    add_or_null(&mut members, "red", value_of(row.red()))?;
-    members.shown("fmtp", &spec.format)?;
-    members.put("feedback", feedback(alloc, row)?)?;
-    Ok(members.into_value())
+    json.begin_item()?;
+    json.number_or_null("channels", spec.channels)?;
+    json.text("codec", spec.codec.word())?;
+    add_row_feedback(json, row)?;
+    json.shown("fmtp", &spec.format)?;
+    json.number("pt", u64::from(row.pt().value()))?;
+    json.number("rate", u64::from(spec.clock_rate.get()))?;
+    json.number_or_null("red", value_of(row.red()))?;
+    json.number_or_null("rtx", value_of(row.resend()))?;
+    json.end_object()
 }
 
-/// The rows of a section, in order.
-pub(crate) fn rows(alloc: Global, section: &MediaLine) -> Result<Value, AllocError> {
-    let found = section.rtp_params()?;
-    let mut rows = Vec::new(alloc);
-    for one in found.iter() {
-        rows.push(row(alloc, one)?)?;
+/// Adds the rows of a section, in order.
+pub(crate) fn add_rows(json: &mut JsonWriter, section: &MediaLine) -> Result<(), AllocError>
+    requires { InObject json.old }
+    ensures { OnOk result (json.new ≡ json.old) }
+{
+    let rows = section.rtp_params()?;
+    json.begin_list("rows")?;
+    for row in rows.iter() {
+        add_row(json, row)?;
     }
-    Ok(Value::Array(rows))
+    json.end_list()
 }

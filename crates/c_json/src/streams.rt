@@ -1,83 +1,96 @@
 //! What a section says of streams and sources.
 
-use crate::members::{Members, spaced};
+ghost use Rattle.c_json.specs.JsonWriter.{InList, InObject};
+ghost use Rattle.std.specs.Prelude.{◌≡◌, OnOk};
+
+use crate::json_writer::JsonWriter;
 use crate::words::{content, first_word};
 use std::alloc::{AllocError, Global};
 use str0m_sdp::label;
-use str0m_signal::{Items, MediaAttribute, Ssrc, Text};
+use str0m_signal::{MediaAttribute, Simulcast, Ssrc, Text};
 
-/// Adds a stream that may be restricted (RFC 8851, section 4).
+/// The text, where it isn't empty.
+fn some_text(text: &str) -> Option<&str> {
+    if text.is_empty() { None } else { Some(text) }
+}
+
+/// Adds a stream that may be restricted, as its line prints (RFC 8851, section 4).
 pub(crate) fn add_rid(
     alloc: Global,
-    members: &mut Members,
+    json: &mut JsonWriter,
     attr: &MediaAttribute,
-) -> Result<(), AllocError> {
+) -> Result<(), AllocError>
+    requires { InList json.old }
+    ensures { OnOk result (json.new ≡ json.old) }
+{
     let line = attr.to_string(alloc)?;
-    let Some(text) = content(line.as_str(), label::RID) else {
-        return Ok(());
-    };
-    let (id, rest) = first_word(text);
+    let (id, rest) = first_word(content(line.as_str(), label::RID).unwrap_or(""));
     let (direction, params) = first_word(rest);
-    let mut rid = Members::new(alloc);
-    rid.text("id", id)?;
-    rid.text("direction", direction)?;
-    if !params.is_empty() {
-        rid.text("params", params)?;
-    }
-    members.append_object("rids", rid)
+    json.begin_item()?;
+    json.text("direction", direction)?;
+    json.text("id", id)?;
+    json.maybe_text("params", some_text(params))?;
+    json.end_object()
 }
 
-/// Adds the layers that are sent and received, where some are printed (RFC 8853, section 5.1).
+/// Whether a line says these layers.
+pub(crate) fn are_layers_printed(layers: &Simulcast) -> bool {
+    let has_layers = !layers.send.is_empty() || !layers.recv.is_empty();
+    has_layers && !layers.is_munged
+}
+
+/// Adds the layers that are sent and received, as their line prints (RFC 8853, section 5.1).
 pub(crate) fn add_layers(
     alloc: Global,
-    members: &mut Members,
-    attr: &MediaAttribute,
-) -> Result<(), AllocError> {
-    let line = attr.to_string(alloc)?;
-    let Some(text) = content(line.as_str(), label::SIMULCAST) else {
+    json: &mut JsonWriter,
+    said: Option<&MediaAttribute>,
+) -> Result<(), AllocError>
+    requires { InObject json.old }
+    ensures { OnOk result (json.new ≡ json.old) }
+{
+    let Some(attr) = said else {
         return Ok(());
     };
-    let (direction, rest) = first_word(text);
-    let (list, rest) = first_word(rest);
-    let mut layers = Members::new(alloc);
-    layers.text("dir1", direction)?;
-    layers.text("list1", list)?;
-    if !rest.is_empty() {
-        let (direction, list) = first_word(rest);
-        layers.text("dir2", direction)?;
-        layers.text("list2", list)?;
-    }
-    members.put("simulcast", layers.into_value())
+    let line = attr.to_string(alloc)?;
+    let (first, rest) = first_word(content(line.as_str(), label::SIMULCAST).unwrap_or(""));
+    let (first_list, rest) = first_word(rest);
+    let (second, second_list) = first_word(rest);
+    json.begin_object("simulcast")?;
+    json.text("dir1", first)?;
+    json.maybe_text("dir2", some_text(second))?;
+    json.text("list1", first_list)?;
+    json.maybe_text("list2", some_text(second_list))?;
+    json.end_object()
 }
 
-/// Adds sources that belong together, where there are some (RFC 5576, section 4.2).
+/// Adds sources that belong together (RFC 5576, section 4.2).
 pub(crate) fn add_source_group(
-    alloc: Global,
-    members: &mut Members,
+    json: &mut JsonWriter,
     semantics: &Text,
-    ssrcs: &Items<Ssrc>,
-) -> Result<(), AllocError> {
-    let ssrcs = ssrcs.as_slice();
-    if ssrcs.is_empty() {
-        return Ok(());
-    }
-    let mut group = Members::new(alloc);
-    group.text("semantics", semantics.as_str())?;
-    group.put("ssrcs", spaced(alloc, ssrcs)?)?;
-    members.append_object("ssrcGroups", group)
+    ssrcs: &[Ssrc],
+) -> Result<(), AllocError>
+    requires { InList json.old }
+    ensures { OnOk result (json.new ≡ json.old) }
+{
+    json.begin_item()?;
+    json.text("semantics", semantics.as_str())?;
+    json.spaced("ssrcs", ssrcs)?;
+    json.end_object()
 }
 
 /// Adds what is said of a source (RFC 5576, section 4.1).
 pub(crate) fn add_source(
-    alloc: Global,
-    members: &mut Members,
+    json: &mut JsonWriter,
     ssrc: Ssrc,
     attribute: &Text,
     value: &Text,
-) -> Result<(), AllocError> {
-    let mut source = Members::new(alloc);
-    source.number("id", u64::from(*ssrc))?;
-    source.text("attribute", attribute.as_str())?;
-    source.text("value", value.as_str())?;
-    members.append_object("ssrcs", source)
+) -> Result<(), AllocError>
+    requires { InList json.old }
+    ensures { OnOk result (json.new ≡ json.old) }
+{
+    json.begin_item()?;
+    json.text("attribute", attribute.as_str())?;
+    json.number("id", u64::from(*ssrc))?;
+    json.text("value", value.as_str())?;
+    json.end_object()
 }

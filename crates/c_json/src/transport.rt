@@ -1,51 +1,80 @@
 //! What sessions and sections both say: of their transport, and lines that are kept unread.
 
-use crate::candidate::candidate;
-use crate::members::Members;
-use std::alloc::{AllocError, Global};
-use str0m_sdp::label;
-use str0m_signal::{Candidate, Fingerprint, FingerprintFmt, Setup, Text};
+ghost use Rattle.c_json.specs.JsonWriter.{InList, InObject};
+ghost use Rattle.std.specs.Prelude.{◌≡◌, OnOk};
 
-/// What an attribute of either says.
+use crate::json_writer::JsonWriter;
+use std::alloc::AllocError;
+use str0m_signal::{Fingerprint, FingerprintFmt, Setup};
+use str0m_values::Worded;
+
+/// What the last line says that has the key.
 #[derive(Clone, Copy)]
-pub(crate) enum Said<'a> {
-    IceUfrag(&'a Text),
-    IcePwd(&'a Text),
-    IceOptions(&'a Text),
-    Fingerprint(&'a Fingerprint),
-    Setup(&'a Setup),
-    Candidate(&'a Candidate),
-    EndOfCandidates,
-    Unread(&'a Text),
+pub(crate) struct Transport<'a> {
+    pub(crate) end_of_candidates: Option<&'a str>,
+    pub(crate) fingerprint: Option<&'a Fingerprint>,
+    pub(crate) ice_options: Option<&'a str>,
+    pub(crate) ice_pwd: Option<&'a str>,
+    pub(crate) ice_ufrag: Option<&'a str>,
+    pub(crate) setup: Option<Setup>,
 }
 
-fn add_fingerprint(
-    alloc: Global,
-    members: &mut Members,
-    hash: &Fingerprint,
-) -> Result<(), AllocError> {
-    let mut fingerprint = Members::new(alloc);
-    fingerprint.text("type", hash.hash_func.as_str())?;
-    fingerprint.shown("hash", &FingerprintFmt(hash.bytes.as_slice()))?;
-    members.put("fingerprint", fingerprint.into_value())
-}
-
-fn add_unread(alloc: Global, members: &mut Members, text: &str) -> Result<(), AllocError> {
-    let mut unread = Members::new(alloc);
-    unread.text("value", text)?;
-    members.append_object("invalid", unread)
-}
-
-/// Adds it.
-pub(crate) fn add(alloc: Global, members: &mut Members, said: Said<'_>) -> Result<(), AllocError> {
-    match said {
-        Said::IceUfrag(text) => members.text("iceUfrag", text.as_str()),
-        Said::IcePwd(text) => members.text("icePwd", text.as_str()),
-        Said::IceOptions(text) => members.text("iceOptions", text.as_str()),
-        Said::Fingerprint(hash) => add_fingerprint(alloc, members, hash),
-        Said::Setup(setup) => members.shown("setup", setup),
-        Said::Candidate(found) => members.append_object("candidates", candidate(alloc, found)?),
-        Said::EndOfCandidates => members.text("endOfCandidates", label::END_OF_CANDIDATES),
-        Said::Unread(text) => add_unread(alloc, members, text.as_str()),
+impl<'a> Transport<'a> {
+    /// What no line says.
+    pub(crate) fn unsaid() -> Transport<'a> {
+        Transport {
+            end_of_candidates: None,
+            fingerprint: None,
+            ice_options: None,
+            ice_pwd: None,
+            ice_ufrag: None,
+            setup: None,
+        }
     }
+
+    pub(crate) fn add_end_of_candidates(&self, json: &mut JsonWriter) -> Result<(), AllocError>
+        requires { InObject json.old }
+        ensures { OnOk result (json.new ≡ json.old) }
+    {
+        json.maybe_text("endOfCandidates", self.end_of_candidates)
+    }
+
+    pub(crate) fn add_fingerprint(&self, json: &mut JsonWriter) -> Result<(), AllocError>
+        requires { InObject json.old }
+        ensures { OnOk result (json.new ≡ json.old) }
+    {
+        let Some(fingerprint) = self.fingerprint else {
+            return Ok(());
+        };
+        json.begin_object("fingerprint")?;
+        json.shown("hash", &FingerprintFmt(fingerprint.bytes.as_slice()))?;
+        json.text("type", fingerprint.hash_func.as_str())?;
+        json.end_object()
+    }
+
+    pub(crate) fn add_ice(&self, json: &mut JsonWriter) -> Result<(), AllocError>
+        requires { InObject json.old }
+        ensures { OnOk result (json.new ≡ json.old) }
+    {
+        json.maybe_text("iceOptions", self.ice_options)?;
+        json.maybe_text("icePwd", self.ice_pwd)?;
+        json.maybe_text("iceUfrag", self.ice_ufrag)
+    }
+
+    pub(crate) fn add_setup(&self, json: &mut JsonWriter) -> Result<(), AllocError>
+        requires { InObject json.old }
+        ensures { OnOk result (json.new ≡ json.old) }
+    {
+        json.maybe_text("setup", self.setup.map(|setup| setup.word()))
+    }
+}
+
+/// Adds a line that is kept unread.
+pub(crate) fn add_unread(json: &mut JsonWriter, text: &str) -> Result<(), AllocError>
+    requires { InList json.old }
+    ensures { OnOk result (json.new ≡ json.old) }
+{
+    json.begin_item()?;
+    json.text("value", text)?;
+    json.end_object()
 }

@@ -11,3 +11,13 @@ pub(crate) fn content<'a>(line: &'a str, label: &str) -> Option<&'a str> {
         .strip_prefix(label)?
         .strip_suffix("\r\n")
 }
+
+/// What stands in the first line that begins so.
+pub(crate) fn line<'a>(text: &'a str, beginning: &str) -> Option<&'a str> {
+    for line in text.lines() {
+        if let Some(said) = line.strip_prefix(beginning) {
+            return Some(said);
+        }
+    }
+    None
+}

@@ -1,8 +1,9 @@
-pub mod ConfigAsBox
-pub mod Crossing
-pub mod ExchangeAsBox
-pub mod Fullness
-pub mod Listed
-pub mod Refusals
-pub mod SessionAsBox
-pub mod Steps
+pub mod ConfigHandleAsBox
+pub mod ExchangeHandleAsBox
+pub mod PartsCrossing
+pub mod PartsFullness
+pub mod PartsSteps
+pub mod ReadingRefusals
+pub mod SessionHandleAsBox
+pub mod SideListed
+pub mod SourceGroupCounting

@@ -1,10 +1,9 @@
 -- Why a call of an exchange of offers and answers is refused, as C is told.
-use Rattle.std.specs.Prelude.{◌≡◌, ℕ, List}
-use Rattle.std.specs.Str.{IsUtf8}
-use Rattle.exchange.specs.declared.exchange_error.ExchangeError.{ExchangeError}
-use Rattle.exchange.specs.declared.exchange_error.ExchangeError.TheVariants.{NotRead, Unread, WrongState, DoesNotFit, NoRows, NoChannels, NoName, NotPrintable, Memory}
 use Rattle.c_parts.specs.declared.fault.Fault.{Fault}
 use Rattle.c_parts.specs.declared.fault.Fault.TheVariants.{NotUtf8, NoFingerprint, NoCandidate, Refused}
+use Rattle.exchange.specs.declared.state.exchange_error.ExchangeError.{ExchangeError}
+use Rattle.exchange.specs.declared.state.exchange_error.ExchangeError.TheVariants.{NotRead, Unread, WrongState, DoesNotFit, NoRows, NoChannels, NoName, NotPrintable, Memory}
+use Rattle.std.specs.Prelude.{◌≡◌, ℕ, List, IsUtf8}
 
 -- the number of an error (`zax_status`)
 abbrev pub error_code : ExchangeError → ℕ
@@ -29,22 +28,22 @@ abbrev pub error_line : ExchangeError → ℕ
 error_line (Unread line content) = line
 error_line _ = 0
 
-abbrev pub fault_line : Fault → ℕ
-fault_line (Refused error) = error_line error
-fault_line _ = 0
+abbrev pub line_of_fault : Fault → ℕ
+line_of_fault (Refused error) = error_line error
+line_of_fault _ = 0
 
 -- a call is refused for a fault that is so, and tells its number
-abbrev pub Told : (Fault → Type 0) → ℕ → Type 0
-Told P status = (fault : Fault) × P fault × (status ≡ fault_code fault)
+abbrev pub ToldFault : (Fault → Type 0) → ℕ → Type 0
+ToldFault P status = (fault : Fault) × P fault × (status ≡ fault_code fault)
 
 -- its number, and its line
 abbrev pub ToldAt : (Fault → Type 0) → ℕ → ℕ → Type 0
-ToldAt P status line = (fault : Fault) × P fault × (status ≡ fault_code fault) × (line ≡ fault_line fault)
+ToldAt P status line = (fault : Fault) × P fault × (status ≡ fault_code fault) × (line ≡ line_of_fault fault)
 
 -- what a call refuses that takes no text
-abbrev pub Refuses : (ExchangeError → Type 0) → Fault → Type 0
-Refuses P (Refused error) = P error
-Refuses P _ = ⊥
+abbrev pub RefusesCall : (ExchangeError → Type 0) → Fault → Type 0
+RefusesCall P (Refused error) = P error
+RefusesCall P _ = ⊥
 
 -- what a call refuses that takes a text
 abbrev pub RefusesBytes : List ℕ → (ExchangeError → Type 0) → Fault → Type 0

@@ -1,13 +1,15 @@
 -- Rows and outcomes as C holds them.
-use Rattle.std.specs.Prelude.{ℕ, ◌+◌, ◌==◌, Bool, true, false, Option, Some, None, Ok, Err, find, if◌then◌else◌}
-use Rattle.str0m_formats.specs.Runs.{Outcome as RoundOutcome}
-use Rattle.str0m_formats.specs.declared.codec.Codec.{Codec}
-use Rattle.str0m_formats.specs.declared.codec.Codec.TheVariants.{Opus, PCMU, PCMA, G722, CN, AmrWb, H264, H265, H266, Vp8, Vp9, Av1, Tele, Rtx, Red, Null}
-use Rattle.str0m_formats.specs.declared.negotiation_error.NegotiationError.TheVariants.{TypeTooLarge, ClaimedTwice, Exhausted, Memory}
-use Rattle.str0m_formats.specs.declared.payload_params.PayloadParams.{PayloadParams}
 use Rattle.c_parts.specs.declared.row.Outcome.{Outcome}
 use Rattle.c_parts.specs.declared.row.Row.{Row}
 use Rattle.c_parts.specs.declared.row.TheConstants.{NUMBERED}
+use Rattle.std.specs.Prelude.{ℕ, ◌+◌, ◌==◌, Bool, true, false, List, Option, Some, None, Ok, Err, find, map, if◌then◌else◌}
+use Rattle.str0m_formats.specs.declared.codec.Codec.{Codec}
+use Rattle.str0m_formats.specs.declared.codec.Codec.TheVariants.{Opus, PCMU, PCMA, G722, CN, AmrWb, H264, H265, H266, Vp8, Vp9, Av1, Tele, Rtx, Red, Null}
+use Rattle.str0m_formats.specs.declared.round.negotiation_error.NegotiationError.TheVariants.{TypeTooLarge, ClaimedTwice, Exhausted, Memory}
+use Rattle.str0m_formats.specs.declared.row.payload_params.PayloadParams.{PayloadParams}
+use Rattle.str0m_formats.specs.round.RoundsRuns.{Outcome as RoundOutcome}
+use Rattle.str0m_sdp.specs.declared.section.media_line.MediaLine.{MediaLine}
+use Rattle.str0m_sdp.specs.section.SectionRows.{rows}
 
 -- the number of a codec (`zax_codec`): 0 of one that isn't known, and of one that the header has no number for
 abbrev pub codec_number : Codec → ℕ
@@ -39,8 +41,8 @@ number_or other (Some n) = n
 number_or other None = other
 
 -- what such a number says
-abbrev pub unless : ℕ → ℕ → Option ℕ
-unless none number = if number == none then None else Some number
+abbrev pub said_unless : ℕ → ℕ → Option ℕ
+said_unless none number = if number == none then None else Some number
 
 -- the bit of what is on
 abbrev pub bit : ℕ → Bool → ℕ
@@ -64,6 +66,10 @@ c_row row = record {
   locked = bit 1 row.locked;
   reserved = 0;
 }
+
+-- the rows of a section
+abbrev pub c_rows : MediaLine → List Row
+c_rows section = map c_row (rows section)
 
 -- an outcome (`zax_outcome`): its cause, and the type at fault, or 255
 abbrev pub c_outcome : RoundOutcome → Outcome

@@ -1,19 +1,19 @@
 -- A section as C holds it.
-use Rattle.std.specs.Prelude.{ℕ, [], ◌∷◌, Option, Some, None, filter_map}
-use Rattle.str0m_values.specs.declared.direction.Direction.{Direction}
-use Rattle.str0m_values.specs.declared.direction.Direction.TheVariants.{SendRecv, SendOnly, RecvOnly, Inactive}
-use Rattle.str0m_sdp.specs.Lists.{first}
-use Rattle.str0m_sdp.specs.SectionDirection.{section_direction}
-use Rattle.str0m_sdp.specs.Transport.{media_setup}
-use Rattle.str0m_sdp.specs.declared.media_line.MediaLine.{MediaLine}
-use Rattle.str0m_sdp.specs.declared.media_type.MediaType.{MediaType}
-use Rattle.str0m_sdp.specs.declared.media_type.MediaType.TheVariants.{Audio, Video, Application, Unknown}
-use Rattle.str0m_sdp.specs.declared.proto.Proto.{Proto}
-use Rattle.str0m_sdp.specs.declared.proto.Proto.TheVariants.{Srtp, Sctp}
-use Rattle.str0m_sdp.specs.declared.setup.Setup.{Setup}
-use Rattle.str0m_sdp.specs.declared.setup.Setup.TheVariants.{ActPass, Active, Passive}
 use Rattle.c_parts.specs.Row.{bit}
 use Rattle.c_parts.specs.declared.section.Section.{Section}
+use Rattle.std.specs.Prelude.{ℕ, [], ◌∷◌, Option, Some, None, filter_map}
+use Rattle.str0m_sdp.specs.Common.{first}
+use Rattle.str0m_sdp.specs.declared.attribute.media_type.MediaType.{MediaType}
+use Rattle.str0m_sdp.specs.declared.attribute.media_type.MediaType.TheVariants.{Audio, Video, Application, Unknown}
+use Rattle.str0m_sdp.specs.declared.attribute.proto.Proto.{Proto}
+use Rattle.str0m_sdp.specs.declared.attribute.proto.Proto.TheVariants.{Srtp, Sctp}
+use Rattle.str0m_sdp.specs.declared.attribute.setup.Setup.{Setup}
+use Rattle.str0m_sdp.specs.declared.attribute.setup.Setup.TheVariants.{ActPass, Active, Passive}
+use Rattle.str0m_sdp.specs.declared.section.media_line.MediaLine.{MediaLine}
+use Rattle.str0m_sdp.specs.section.SectionDirection.{section_direction}
+use Rattle.str0m_sdp.specs.session.Transport.{media_setup}
+use Rattle.str0m_values.specs.declared.direction.Direction.{Direction}
+use Rattle.str0m_values.specs.declared.direction.Direction.TheVariants.{SendRecv, SendOnly, RecvOnly, Inactive}
 
 -- what it carries (`zax_kind`)
 abbrev pub kind_number : MediaType → ℕ

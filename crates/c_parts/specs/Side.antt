@@ -1,8 +1,15 @@
 -- What this side says of itself, as C says it.
-use Rattle.std.specs.Prelude.{◌≡◌, ℕ, Bool, not, List, [], Option, None, Some, All, map, nat_eq, if◌then◌else◌}
+use Rattle.c_parts.specs.declared.fault.Fault.{Fault}
+use Rattle.c_parts.specs.declared.fault.Fault.TheVariants.{NotUtf8, NoFingerprint, NoCandidate, Refused}
+use Rattle.c_parts.specs.declared.side.OwnNumbers.{OwnNumbers}
+use Rattle.c_parts.specs.declared.side.OwnTexts.{OwnTexts}
+use Rattle.exchange.specs.declared.state.exchange_error.ExchangeError.TheVariants.{Memory}
+use Rattle.exchange.specs.declared.state.own_side.DataChannels.{DataChannels}
+use Rattle.exchange.specs.declared.state.own_side.OwnSide.{OwnSide}
+use Rattle.exchange.specs.section.Trickled.{IsTrickled}
 use Rattle.std.specs.Borrow.{Bor}
 use Rattle.std.specs.List.{AllZip}
-use Rattle.std.specs.Str.{IsUtf8}
+use Rattle.std.specs.Prelude.{◌≡◌, ℕ, Bool, not, List, [], Option, None, Some, All, map, nat_eq, if◌then◌else◌, IsUtf8}
 use Rattle.str0m_values.specs.Fingerprint.{IsFingerprint}
 use Rattle.str0m_values.specs.declared.candidate.Candidate.{Candidate}
 use Rattle.str0m_values.specs.declared.direction.Direction.{Direction}
@@ -10,14 +17,6 @@ use Rattle.str0m_values.specs.declared.direction.Direction.TheVariants.{SendRecv
 use Rattle.str0m_values.specs.declared.fingerprint.Fingerprint.{Fingerprint}
 use Rattle.str0m_values.specs.declared.media_kind.MediaKind.{MediaKind}
 use Rattle.str0m_values.specs.declared.media_kind.MediaKind.TheVariants.{Audio, Video}
-use Rattle.exchange.specs.Trickled.{IsTrickled}
-use Rattle.exchange.specs.declared.exchange_error.ExchangeError.TheVariants.{Memory}
-use Rattle.exchange.specs.declared.own_side.DataChannels.{DataChannels}
-use Rattle.exchange.specs.declared.own_side.OwnSide.{OwnSide}
-use Rattle.c_parts.specs.declared.fault.Fault.{Fault}
-use Rattle.c_parts.specs.declared.fault.Fault.TheVariants.{NotUtf8, NoFingerprint, NoCandidate, Refused}
-use Rattle.c_parts.specs.declared.side.OwnNumbers.{OwnNumbers}
-use Rattle.c_parts.specs.declared.side.OwnTexts.{OwnTexts}
 
 -- the direction of a number (`zax_direction`)
 abbrev pub direction_numbered : ℕ → Direction
@@ -32,13 +31,13 @@ abbrev pub is_on : ℕ → Bool
 is_on n = not (nat_eq n 0)
 
 -- where data channels are reached, where there are some
-abbrev pub channels_of : OwnNumbers → Option DataChannels
-channels_of numbers =
+abbrev pub own_channels_of : OwnNumbers → Option DataChannels
+own_channels_of numbers =
     if is_on numbers.has_channels then Some (record { port = numbers.sctp_port; max_message_size = numbers.max_message_size }) else None
 
 -- the texts of a list
-abbrev pub listed : List (Bor (List ℕ)) → List (List ℕ)
-listed texts = map (λ text. text.now) texts
+abbrev pub listed_texts : List (Bor (List ℕ)) → List (List ℕ)
+listed_texts texts = map (λ text. text.now) texts
 
 -- the texts that a call takes one by one
 abbrev pub own_texts : (ice_ufrag ice_pwd fingerprint stream_id : Bor (List ℕ)) (extensions candidates : Bor (List (Bor (List ℕ))))
@@ -62,9 +61,9 @@ pub record SaysOwn (numbers : OwnNumbers) (texts : OwnTexts) (own : OwnSide) : T
   pub video : own.video ≡ direction_numbered numbers.video
   pub directions : own.directions ≡ []
   pub stream_id : own.stream_id ≡ texts.stream_id.now
-  pub extensions : own.extensions ≡ listed texts.extensions.now
-  pub candidates : AllZip IsTrickled (listed texts.candidates.now) own.candidates
-  pub channels : own.channels ≡ channels_of numbers
+  pub extensions : own.extensions ≡ listed_texts texts.extensions.now
+  pub candidates : AllZip IsTrickled (listed_texts texts.candidates.now) own.candidates
+  pub channels : own.channels ≡ own_channels_of numbers
   pub receives_simulcast : own.receives_simulcast ≡ is_on numbers.receives_simulcast
 
 -- all of the texts are UTF-8
@@ -73,8 +72,8 @@ pub record AreUtf8 (texts : OwnTexts) : Type 0 where
   pub pwd : IsUtf8 texts.ice_pwd.now
   pub fingerprint : IsUtf8 texts.fingerprint.now
   pub stream_id : IsUtf8 texts.stream_id.now
-  pub extensions : All IsUtf8 (listed texts.extensions.now)
-  pub candidates : All IsUtf8 (listed texts.candidates.now)
+  pub extensions : All IsUtf8 (listed_texts texts.extensions.now)
+  pub candidates : All IsUtf8 (listed_texts texts.candidates.now)
 
 -- why one of two texts isn't taken
 abbrev pub RefusesBoth : List ℕ → List ℕ → Fault → Type 0
@@ -117,5 +116,5 @@ RefusesFingerprint text NoCandidate = ⊥
 abbrev pub RefusesOwn : OwnTexts → Fault → Type 0
 RefusesOwn texts NotUtf8 = AreUtf8 texts → ⊥
 RefusesOwn texts NoFingerprint = (fingerprint : Fingerprint) → IsFingerprint texts.fingerprint.now fingerprint → ⊥
-RefusesOwn texts NoCandidate = AreNotTrickled (listed texts.candidates.now)
+RefusesOwn texts NoCandidate = AreNotTrickled (listed_texts texts.candidates.now)
 RefusesOwn texts (Refused error) = error ≡ Memory

@@ -1,9 +1,9 @@
 //! One side of an exchange of offers and answers on the heap, as C holds it.
 
+ghost use Rattle.c_parts.specs.ExchangeHandle.{exchange_owns, exchange_coded};
+ghost use Rattle.c_parts.specs.Parts.{IsFull};
+ghost use Rattle.exchange.specs.declared.state.exchange.Exchange.{Exchange};
 ghost use Rattle.std.specs.Prelude.{◌≡◌, Option, None, Some};
-ghost use Rattle.exchange.specs.declared.exchange.Exchange.{Exchange};
-ghost use Rattle.c_parts.specs.ExchangeOwned.{handle_owns, inner_coded};
-ghost use Rattle.c_parts.specs.Full.{IsFull};
 
 use crate::parts::Parts;
 use exchange::Exchange;
@@ -16,11 +16,11 @@ use std::marker::Model;
 pub struct ExchangeHandle {
     ptr: *mut u8,
     alloc: Global,
-    pub ghost inner: { Option Exchange } by { inner_coded },
+    pub ghost inner: { Option Exchange } by { exchange_coded },
 }
 
 impl Model for ExchangeHandle {
-    ghost also_owns = { λ h. handle_owns h.alloc h.ptr h.inner };
+    ghost also_owns = { λ h. exchange_owns h.alloc h.ptr h.inner };
 }
 
 impl ExchangeHandle {
@@ -85,10 +85,10 @@ impl ExchangeHandle {
 unsafe impl Send for ExchangeHandle {}
 
 /// Asks the prover for that.
-fn send_is_proved<T: Send>(sent: T) -> T {
+fn exchange_send_is_proved<T: Send>(sent: T) -> T {
     sent
 }
 
-pub fn sent(handle: ExchangeHandle) -> ExchangeHandle {
-    send_is_proved(handle)
+pub fn sent_exchange(handle: ExchangeHandle) -> ExchangeHandle {
+    exchange_send_is_proved(handle)
 }

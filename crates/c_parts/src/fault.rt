@@ -1,10 +1,9 @@
 //! Why a call of an exchange of offers and answers is refused.
 
-ghost use Rattle.std.specs.Prelude.{◌≡◌, IfErr, IfOk};
-ghost use Rattle.std.specs.Str.{IsUtf8};
-ghost use Rattle.c_parts.specs.Fault.{error_code, error_line, fault_code, fault_line};
+ghost use Rattle.c_parts.specs.Fault.{error_code, error_line, fault_code, line_of_fault};
 ghost use Rattle.c_parts.specs.declared.fault.Fault.TheVariants.{Refused};
-ghost use Rattle.exchange.specs.declared.exchange_error.ExchangeError.TheVariants.{Memory};
+ghost use Rattle.exchange.specs.declared.state.exchange_error.ExchangeError.TheVariants.{Memory};
+ghost use Rattle.std.specs.Prelude.{◌≡◌, IfErr, IfOk, IsUtf8};
 
 use exchange::ExchangeError;
 use std::alloc::{AllocError, Global};
@@ -78,7 +77,7 @@ impl Fault {
 
     /// The line at fault, from 1; 0 where it isn't a line.
     pub fn line(&self) -> usize
-        ensures { result ≡ fault_line self.now }
+        ensures { result ≡ line_of_fault self.now }
     {
         match self {
             Fault::Refused(error) => error_line(error),

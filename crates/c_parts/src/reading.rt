@@ -1,11 +1,10 @@
 //! A text that C gives, read.
 
-ghost use Rattle.std.specs.Prelude.{◌≡◌, ◌≢◌, IfErr, IfOk, List, length, ℕ};
-ghost use Rattle.std.specs.Str.{IsUtf8};
+ghost use Rattle.c_parts.specs.Reading.{RefusesReading};
+ghost use Rattle.std.specs.Prelude.{◌≡◌, ◌≢◌, IfErr, IfOk, List, length, ℕ, IsUtf8};
 ghost use Rattle.str0m_sdp.specs.declared.session.Sdp.{Sdp};
-ghost use Rattle.str0m_signal.specs.Answers.{Refuses};
-ghost use Rattle.str0m_signal.specs.Reading.{Described, Reading};
-ghost use Rattle.c_parts.specs.Refused.{RefusesText};
+ghost use Rattle.str0m_signal.specs.session.Reader.{Described, Reading};
+ghost use Rattle.str0m_signal.specs.session.ReaderAnswers.{Refuses};
 
 use std::alloc::{AllocError, Global};
 use std::str;
@@ -31,7 +30,7 @@ fn read_text(alloc: Global, text: &str) -> Result<(Sdp, usize), SdpError>
 /// The description that the bytes begin with, and how many bytes after it are unread.
 pub fn read(alloc: Global, bytes: &[u8]) -> Result<(Sdp, usize), Refusal>
     ensures read { IfOk result (λ read. (rest : List ℕ) × Reading bytes.now (read.0, rest) × (read.1 ≡ length rest)) }
-    ensures refused { IfErr result (λ refusal. RefusesText refusal bytes.now) }
+    ensures refused { IfErr result (λ refusal. RefusesReading refusal bytes.now) }
 {
     match str::from_utf8(bytes) {
         Ok(text) => match read_text(alloc, text) {
@@ -46,8 +45,8 @@ impl Refusal {
     /// Its number in C.
     pub fn code(&self) -> u32
         ensures refused { result ≢ 0 }
-        ensures no_session { (text : List ℕ) → RefusesText self.now text → result ≡ 1 → (sdp : Sdp) → Described text sdp → ⊥ }
-        ensures no_text { (text : List ℕ) → RefusesText self.now text → result ≡ 2 → IsUtf8 text → ⊥ }
+        ensures no_session { (text : List ℕ) → RefusesReading self.now text → result ≡ 1 → (sdp : Sdp) → Described text sdp → ⊥ }
+        ensures no_text { (text : List ℕ) → RefusesReading self.now text → result ≡ 2 → IsUtf8 text → ⊥ }
     {
         match self {
             Refusal::NotUtf8 => 2,

@@ -1,7 +1,7 @@
 //! Texts and lists that go into room which the caller gives.
 
-ghost use Rattle.std.specs.Prelude.{◌≡◌, ◌≤◌, ◌↔◌, IsTrue, false, length};
 ghost use Rattle.c_parts.specs.Room.{begun_with};
+ghost use Rattle.std.specs.Prelude.{◌≡◌, ◌≤◌, ◌↔◌, IsTrue, false, length};
 
 /// Copies the items to the beginning of the room, where they fit; answers whether they do. `needed` becomes their count.
 pub fn copied<T: Copy>(items: &[T], room: &mut [T], needed: &mut usize) -> bool

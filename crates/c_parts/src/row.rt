@@ -1,10 +1,11 @@
 //! Rows and outcomes as C holds them.
 
+ghost use Rattle.c_parts.specs.Row.{bit, c_outcome, c_row, c_rows, codec_at, codec_number, feedback_bits, number_or, said_unless};
 ghost use Rattle.std.specs.Prelude.{◌≡◌, ◌≤◌, IfOk, length, map};
-ghost use Rattle.c_parts.specs.Row.{bit, c_outcome, c_row, codec_at, codec_number, feedback_bits, number_or, unless};
 
+use crate::section_item::SectionItem;
 use std::alloc::{AllocError, Global};
-use str0m_signal::{Codec, NegotiationError, PayloadParams, Pt};
+use str0m_signal::{Codec, MediaLine, NegotiationError, PayloadParams, Pt};
 
 /// A row.
 #[repr(C)]
@@ -103,8 +104,8 @@ pub fn codec_at(number: u8) -> Option<Codec>
 }
 
 /// The number, unless it stands for none.
-pub fn unless(none: u8, number: u8) -> Option<u8>
-    ensures { result ≡ unless none number }
+pub fn said_unless(none: u8, number: u8) -> Option<u8>
+    ensures { result ≡ said_unless none number }
 {
     if number == none { None } else { Some(number) }
 }
@@ -149,6 +150,16 @@ pub fn rows_of(alloc: Global, rows: &[PayloadParams]) -> Result<Vec<Row>, AllocE
         made.push(row_of(row))?;
     }
     Ok(made)
+}
+
+/// The rows of a section.
+impl SectionItem for Row {
+    ghost listed = { c_rows };
+
+    fn all_of(alloc: Global, section: &MediaLine) -> Result<Vec<Row>, AllocError> {
+        let found = section.rtp_params()?;
+        rows_of(alloc, found.as_slice())
+    }
 }
 
 pub fn outcome_of(outcome: &Result<(), NegotiationError>) -> Outcome

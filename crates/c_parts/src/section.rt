@@ -1,7 +1,7 @@
 //! Sections as C holds them.
 
-ghost use Rattle.std.specs.Prelude.{◌≡◌};
 ghost use Rattle.c_parts.specs.Section.{c_section, direction_number, kind_number, protocol_number, setup_number};
+ghost use Rattle.std.specs.Prelude.{◌≡◌};
 
 use crate::row::flag;
 use str0m_signal::{Direction, MediaLine, MediaType, Proto, Setup};
@@ -38,7 +38,7 @@ fn protocol_of(proto: Proto) -> u8
     }
 }
 
-fn direction_of(direction: Direction) -> u8
+pub(crate) fn direction_of(direction: Direction) -> u8
     ensures { result ≡ direction_number direction }
 {
     match direction {
@@ -49,7 +49,7 @@ fn direction_of(direction: Direction) -> u8
     }
 }
 
-fn setup_of(setup: Option<Setup>) -> u8
+pub fn setup_of(setup: Option<Setup>) -> u8
     ensures { result ≡ setup_number setup }
 {
     match setup {

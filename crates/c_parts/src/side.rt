@@ -1,13 +1,12 @@
 //! What this side says of itself, as C says it.
 
-ghost use Rattle.std.specs.Prelude.{◌≡◌, IfErr, IfOk};
-ghost use Rattle.std.specs.List.{AllZip};
-ghost use Rattle.str0m_values.specs.Fingerprint.{IsFingerprint};
-ghost use Rattle.exchange.specs.Trickled.{IsTrickled};
-ghost use Rattle.exchange.specs.declared.exchange_error.ExchangeError.TheVariants.{Memory};
 ghost use Rattle.c_parts.specs.Fault.{RefusesBytes};
-ghost use Rattle.c_parts.specs.Side.{RefusesCandidate, RefusesCandidates, RefusesFingerprint, RefusesList, RefusesOwn};
-ghost use Rattle.c_parts.specs.Side.{SaysOwn, channels_of, direction_numbered, kind_numbered, listed};
+ghost use Rattle.c_parts.specs.Side.{RefusesCandidate, RefusesCandidates, RefusesFingerprint, RefusesList, RefusesOwn, SaysOwn, own_channels_of, direction_numbered, kind_numbered, listed_texts};
+ghost use Rattle.exchange.specs.declared.state.exchange_error.ExchangeError.TheVariants.{Memory};
+ghost use Rattle.exchange.specs.section.Trickled.{IsTrickled};
+ghost use Rattle.std.specs.List.{AllZip};
+ghost use Rattle.std.specs.Prelude.{◌≡◌, IfErr, IfOk};
+ghost use Rattle.str0m_values.specs.Fingerprint.{IsFingerprint};
 
 use crate::fault::Fault;
 use exchange::{DataChannels, ExchangeError, OwnSide, trickled_candidate};
@@ -64,8 +63,8 @@ pub fn kind_numbered(number: u8) -> MediaKind
     }
 }
 
-fn channels_of(numbers: &OwnNumbers) -> Option<DataChannels>
-    ensures { result ≡ channels_of numbers.now }
+fn own_channels_of(numbers: &OwnNumbers) -> Option<DataChannels>
+    ensures { result ≡ own_channels_of numbers.now }
 {
     if numbers.has_channels == 0 {
         return None;
@@ -88,8 +87,8 @@ pub fn text_of(alloc: Global, bytes: &[u8]) -> Result<Text, Fault>
 }
 
 fn texts_of(alloc: Global, list: &[&[u8]]) -> Result<Items<Text>, Fault>
-    ensures read { IfOk result (λ texts. texts ≡ listed list.now) }
-    ensures refused { IfErr result (RefusesList (listed list.now)) }
+    ensures read { IfOk result (λ texts. texts ≡ listed_texts list.now) }
+    ensures refused { IfErr result (RefusesList (listed_texts list.now)) }
 {
     let mut texts = Items::empty(alloc);
     for bytes in list {
@@ -144,8 +143,8 @@ fn candidate_of(alloc: Global, bytes: &[u8]) -> Result<Candidate, Fault>
 }
 
 fn candidates_of(alloc: Global, lines: &[&[u8]]) -> Result<Items<Candidate>, Fault>
-    ensures read { IfOk result (λ candidates. AllZip IsTrickled (listed lines.now) candidates) }
-    ensures refused { IfErr result (RefusesCandidates (listed lines.now)) }
+    ensures read { IfOk result (λ candidates. AllZip IsTrickled (listed_texts lines.now) candidates) }
+    ensures refused { IfErr result (RefusesCandidates (listed_texts lines.now)) }
 {
     let mut candidates = Items::empty(alloc);
     for line in lines {
@@ -174,7 +173,7 @@ pub fn own_side(alloc: Global, numbers: &OwnNumbers, texts: &OwnTexts<'_>) -> Re
         stream_id: text_of(alloc, texts.stream_id)?,
         extensions: texts_of(alloc, texts.extensions)?,
         candidates: candidates_of(alloc, texts.candidates)?,
-        channels: channels_of(numbers),
+        channels: own_channels_of(numbers),
         receives_simulcast: numbers.receives_simulcast != 0,
     })
 }

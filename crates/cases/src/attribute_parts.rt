@@ -1,6 +1,6 @@
 //! What lines of mappings, formats and rids say, part by part.
 
-use plain_cases::Answer;
+use format_cases::Answer;
 use str0m_signal::{FormatParam, MediaAttribute, Pt, RtpMap};
 
 /// What the word asks of the attribute.

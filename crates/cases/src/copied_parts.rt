@@ -2,7 +2,7 @@
 
 use crate::lines::push_printed;
 use crate::spoken::fail;
-use plain_cases::Answer;
+use format_cases::Answer;
 use std::alloc::AllocError;
 use std::fmt::Display;
 use str0m_signal::{
@@ -15,14 +15,14 @@ use str0m_signal::{
 pub(crate) fn copied(answer: &mut Answer, text: &str) {
     match &sdp_parser(answer.alloc(), text) {
         Ok((sdp, _)) => {
-            of_session(answer, &sdp.session);
+            copies_of_session(answer, &sdp.session);
             of_sections(answer, sdp.media_lines.as_slice());
         }
         Err(error) => fail(answer, error),
     }
 }
 
-fn of_session(answer: &mut Answer, session: &Session) {
+fn copies_of_session(answer: &mut Answer, session: &Session) {
     if let Some(bandwidth) = &session.bw {
         of_bandwidth(answer, bandwidth);
     }

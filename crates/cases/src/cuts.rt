@@ -1,7 +1,7 @@
 //! The beginnings of one text, as offers.
 
 use crate::spoken::push_refused;
-use plain_cases::Answer;
+use format_cases::Answer;
 use std::str;
 use str0m_signal::{MediaAttribute, MediaLine, SdpError, SdpOffer};
 

@@ -5,7 +5,7 @@ use crate::lines::{push_printed, push_rest};
 use crate::section_shown::{append_section, append_session};
 use crate::spoken::{behind_header, push_refused};
 use crate::{copied_parts, cuts, without_memory};
-use plain_cases::Answer;
+use format_cases::Answer;
 use std::alloc::AllocError;
 use str0m_signal::{
     MediaLine, Sdp, SdpAnswer, SdpError, SdpOffer, Session, VersionedSdp, sdp_parser,
@@ -19,7 +19,7 @@ const VERSION: u64 = 1234567890123;
 pub(crate) fn answers(answer: &mut Answer, word: &str, text: &str) -> bool {
     match word {
         "header" => header(answer, text),
-        "description" | "copied" | "versioned" => description(answer, word, text),
+        "description" | "copied" | "versioned" => asked_description(answer, word, text),
         "offer-text" => offer(answer, text),
         "answer-text" => answer_printed(answer, text),
         "cut" => cuts::cut(answer, text),
@@ -36,7 +36,7 @@ fn of_lines(answer: &mut Answer, word: &str, lines: &str) -> bool {
     match word {
         "header-with" => header(answer, text.as_str()),
         "description-with" | "consistent" | "section-printed" | "m-line" => {
-            description(answer, word, text.as_str());
+            asked_description(answer, word, text.as_str());
         }
         _ => return false,
     }
@@ -60,7 +60,7 @@ fn header_of(answer: &mut Answer, read: &Result<(Session, &str), SdpError>) {
 }
 
 /// What the word asks of the description that the text begins with.
-fn description(answer: &mut Answer, word: &str, text: &str) {
+fn asked_description(answer: &mut Answer, word: &str, text: &str) {
     let read = sdp_parser(answer.alloc(), text);
     description_of(answer, word, &read);
 }
@@ -74,7 +74,7 @@ fn description_of(answer: &mut Answer, word: &str, read: &Result<(Sdp, &str), Sd
 
 fn show_description(answer: &mut Answer, word: &str, sdp: &Sdp, rest: &str) {
     match word {
-        "copied" => show_copy(answer, &sdp.clone()),
+        "copied" => show_whole_copy(answer, &sdp.clone()),
         "versioned" => push_printed(
             answer,
             &VersionedSdp {
@@ -96,7 +96,7 @@ fn show_description(answer: &mut Answer, word: &str, sdp: &Sdp, rest: &str) {
 }
 
 /// What a copy of the description prints: all of its parts are copied with it.
-fn show_copy(answer: &mut Answer, copy: &Result<Sdp, AllocError>) {
+fn show_whole_copy(answer: &mut Answer, copy: &Result<Sdp, AllocError>) {
     if let Some(copy) = answer.made(copy) {
         push_printed(answer, copy);
     }
@@ -113,7 +113,7 @@ fn show_first(answer: &mut Answer, sections: &[MediaLine]) {
 /// The m-line of the first section.
 fn show_m_line(answer: &mut Answer, sections: &[MediaLine]) {
     if let Some(section) = sections.first() {
-        push_made(answer, &section.m_line());
+        push_made_text(answer, &section.m_line());
     }
     answer.or_word("no section");
 }
@@ -126,7 +126,7 @@ fn offer(answer: &mut Answer, text: &str) {
 
 fn offer_of(answer: &mut Answer, read: &Result<SdpOffer, SdpError>) {
     match read {
-        Ok(offer) => push_made(answer, &offer.to_sdp_string()),
+        Ok(offer) => push_made_text(answer, &offer.to_sdp_string()),
         Err(error) => push_refused(answer, error),
     }
 }
@@ -139,12 +139,12 @@ fn answer_printed(answer: &mut Answer, text: &str) {
 
 fn answer_of(answer: &mut Answer, read: &Result<SdpAnswer, SdpError>) {
     match read {
-        Ok(read) => push_made(answer, &read.to_sdp_string()),
+        Ok(read) => push_made_text(answer, &read.to_sdp_string()),
         Err(error) => push_refused(answer, error),
     }
 }
 
-fn push_made(answer: &mut Answer, printed: &Result<String, AllocError>) {
+fn push_made_text(answer: &mut Answer, printed: &Result<String, AllocError>) {
     if let Some(printed) = answer.made(printed) {
         push_escaped(answer, printed.as_str());
     }

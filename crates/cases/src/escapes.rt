@@ -1,18 +1,18 @@
 //! Texts of several lines as one, and answers of several lines.
 
-use plain_cases::Answer;
+use format_cases::Answer;
 
 /// The text that a case writes with `\r`, `\n`, `\t` and `\\`.
-pub(crate) fn push_unescaped(plain: &mut Answer, text: &str) {
+pub(crate) fn push_unescaped(unescaped: &mut Answer, text: &str) {
     let mut is_escaped = false;
     for character in text.chars() {
         if is_escaped {
-            plain.show(&meaning(character));
+            unescaped.show(&meaning(character));
             is_escaped = false;
         } else if character == '\\' {
             is_escaped = true;
         } else {
-            plain.show(&character);
+            unescaped.show(&character);
         }
     }
 }

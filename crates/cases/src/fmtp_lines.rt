@@ -2,7 +2,7 @@
 
 use crate::said_rows::{printed, show_format};
 use crate::spoken::section;
-use plain_cases::Answer;
+use format_cases::Answer;
 use std::alloc::{AllocError, Global};
 use str0m_signal::{Codec, FormatParam, FormatParams, Items, MediaAttribute};
 

@@ -1,6 +1,6 @@
 //! Attributes that hold a given text in one field, also a text that no line is read as.
 
-use plain_cases::Answer;
+use format_cases::Answer;
 use str0m_signal::{
     Candidate, CandidateKind, Extension, Fingerprint, IpAddr, Items, MediaAttribute, Mid, Msid,
     Protocol, Pt, RestrictionId, SessionAttribute, Simulcast, SimulcastGroups, SimulcastLayer,
@@ -114,15 +114,15 @@ fn source(answer: &mut Answer, attr: &str, value: &str) -> MediaAttribute {
 fn in_rid(answer: &mut Answer, field: &str, text: &str) -> MediaAttribute {
     let none = Items::empty(answer.alloc());
     match field {
-        "rid" => rid(answer, text, "send", none),
-        "rid-way" => rid(answer, "1", "x\r\na=mid:9", none),
+        "rid" => rid_of(answer, text, "send", none),
+        "rid-way" => rid_of(answer, "1", "x\r\na=mid:9", none),
         "rid-key" => {
             let restriction = noted(answer, text, "2");
-            rid(answer, "1", "send", restriction)
+            rid_of(answer, "1", "send", restriction)
         }
         "rid-value" => {
             let restriction = noted(answer, "2", text);
-            rid(answer, "1", "send", restriction)
+            rid_of(answer, "1", "send", restriction)
         }
         _ => in_line(field, text_of(answer, text)),
     }
@@ -142,7 +142,7 @@ fn in_line(field: &str, held: Text) -> MediaAttribute {
     }
 }
 
-fn rid(
+fn rid_of(
     answer: &mut Answer,
     name: &str,
     direction: &'static str,

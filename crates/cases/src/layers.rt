@@ -1,7 +1,7 @@
 //! Layers with what is noted of them, which no line of a description makes; and values that hold nothing.
 
 use crate::random_names;
-use plain_cases::Answer;
+use format_cases::Answer;
 use std::alloc::{AllocError, Global};
 use str0m_signal::{Items, RestrictionId, SimulcastLayer, Text};
 
@@ -9,7 +9,7 @@ use str0m_signal::{Items, RestrictionId, SimulcastLayer, Text};
 pub(crate) fn answers(answer: &mut Answer, asked: &str, text: &str) -> bool {
     let alloc = answer.alloc();
     match asked {
-        "layer" => copied(answer, &layer(alloc, text)),
+        "layer" => copied(answer, &layer_of(alloc, text)),
         "empty" => empty(answer),
         "random-msid" => random_names::drawn(answer, text),
         _ => return false,
@@ -18,7 +18,7 @@ pub(crate) fn answers(answer: &mut Answer, asked: &str, text: &str) -> bool {
 }
 
 /// What is noted of a layer, as `KEY=VALUE`.
-fn noted(alloc: Global, text: &str) -> Result<Items<(Text, Text)>, AllocError> {
+fn noted_by(alloc: Global, text: &str) -> Result<Items<(Text, Text)>, AllocError> {
     let (key, value) = text.split_once('=').unwrap_or((text, ""));
     let key = Text::from_str(alloc, key)?;
     let value = Text::from_str(alloc, value)?;
@@ -28,10 +28,10 @@ fn noted(alloc: Global, text: &str) -> Result<Items<(Text, Text)>, AllocError> {
 }
 
 /// A paused layer, as `NAME KEY=VALUE`.
-fn layer(alloc: Global, text: &str) -> Result<SimulcastLayer, AllocError> {
+fn layer_of(alloc: Global, text: &str) -> Result<SimulcastLayer, AllocError> {
     let (name, note) = text.split_once(' ').unwrap_or((text, ""));
     let restriction_id = RestrictionId::new(Text::from_str(alloc, name)?, false);
-    let attributes = Some(noted(alloc, note)?);
+    let attributes = Some(noted_by(alloc, note)?);
     Ok(SimulcastLayer {
         restriction_id,
         attributes,

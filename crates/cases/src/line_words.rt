@@ -2,7 +2,7 @@
 //! names that no line is read as.
 
 use crate::{descriptions, layers, lines};
-use plain_cases::Answer;
+use format_cases::Answer;
 
 /// Answers what the word asks of the text; whether it is one of these words.
 pub(crate) fn answers(answer: &mut Answer, word: &str, text: &str) -> bool {

@@ -3,7 +3,7 @@
 use crate::attribute_parts::push_part;
 use crate::escapes::push_escaped;
 use crate::spoken::push_refused;
-use plain_cases::Answer;
+use format_cases::Answer;
 use std::fmt::{Debug, Display};
 use str0m_signal::{
     Candidate, MediaAttribute, SdpError, SessionAttribute, candidate_attribute,
@@ -16,8 +16,8 @@ pub(crate) fn answers(answer: &mut Answer, word: &str, text: &str) -> bool {
         "media" | "is-direction" | "rtpmap" | "fmtp-line" | "rid-line" => {
             media(answer, word, text);
         }
-        "session" => session(answer, text),
-        "candidate-line" => candidate(answer, text),
+        "session" => session_line(answer, text),
+        "candidate-line" => candidate_line(answer, text),
         _ => return false,
     }
     true
@@ -45,7 +45,7 @@ fn media_read(answer: &mut Answer, word: &str, attribute: &MediaAttribute, rest:
     }
 }
 
-fn session(answer: &mut Answer, text: &str) {
+fn session_line(answer: &mut Answer, text: &str) {
     let read = session_attribute_line(answer.alloc(), text);
     session_of(answer, &read);
 }
@@ -60,7 +60,7 @@ fn session_of(answer: &mut Answer, read: &Result<(SessionAttribute, &str), SdpEr
     }
 }
 
-fn candidate(answer: &mut Answer, text: &str) {
+fn candidate_line(answer: &mut Answer, text: &str) {
     let read = candidate_attribute(answer.alloc(), text);
     candidate_of(answer, &read);
 }

@@ -2,7 +2,7 @@
 
 use crate::escapes::push_escaped;
 use crate::spoken::{description, section};
-use plain_cases::Answer;
+use format_cases::Answer;
 use str0m_signal::{MediaLine, PayloadParams, Pt, section_of};
 
 /// Answers what the word asks of the text; whether it is one of these words.

@@ -32,13 +32,13 @@ mod without_memory;
 mod writable;
 
 use crate::escapes::{push_indented, push_unescaped};
-use plain_cases::Answer;
+use format_cases::Answer;
 use std::alloc::{AllocError, Global};
 use std::io;
 
 /// Answers what the word asks of the text.
 fn answer_to(answer: &mut Answer, word: &str, text: &str) {
-    let is_known = plain_cases::answers(answer, word, text)
+    let is_known = format_cases::answers(answer, word, text)
         || line_words::answers(answer, word, text)
         || said_words::answers(answer, word, text)
         || back_words::answers(answer, word, text);
@@ -46,10 +46,10 @@ fn answer_to(answer: &mut Answer, word: &str, text: &str) {
 }
 
 /// The text of a case as it is meant.
-fn plain(alloc: Global, text: &str) -> Result<String, AllocError> {
-    let mut plain = Answer::new(alloc);
-    push_unescaped(&mut plain, text);
-    plain.finish()
+fn unescaped(alloc: Global, text: &str) -> Result<String, AllocError> {
+    let mut meant = Answer::new(alloc);
+    push_unescaped(&mut meant, text);
+    meant.finish()
 }
 
 /// The answer as it stands after `=>`.
@@ -68,7 +68,7 @@ fn answered(alloc: Global, word: &str, text: &str) -> Result<String, AllocError>
 /// The case as it is written: its line, and its answer under it.
 fn written(alloc: Global, line: &str) -> Result<String, AllocError> {
     let (word, text) = line.split_once(' ').unwrap_or((line, ""));
-    let text = plain(alloc, text)?;
+    let text = unescaped(alloc, text)?;
     let answer = answered(alloc, word, text.as_str())?;
     let answer = indented(alloc, answer.as_str())?;
     format!(in alloc; "{line}\n=>{answer}")

@@ -1,7 +1,7 @@
 //! Rounds of negotiation with a whole text.
 
 use crate::spoken::{behind_header, fail, push_refused};
-use plain_cases::{Answer, configuration, is_same, show_rows};
+use format_cases::{Answer, configuration, is_same, show_rows};
 use str0m_signal::{
     CodecConfig, MediaKind, NegotiationError, SdpError, locked_rows, negotiate_text,
 };

@@ -1,8 +1,8 @@
 //! Names that are drawn at random, here of a counter.
-ghost use Rattle.std.specs.Prelude.{ℕ, ◌+◌, ◌%◌, ◌^◌};
 ghost use Rattle.rand_core.specs.Steps.{stream_of, steps_u32};
+ghost use Rattle.std.specs.Prelude.{ℕ, ◌+◌, ◌%◌, ◌^◌};
 
-use plain_cases::Answer;
+use format_cases::Answer;
 use rand_core::utils::NextWord;
 use rand_core::{Rng, utils};
 use std::marker::Model;

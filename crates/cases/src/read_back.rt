@@ -4,7 +4,7 @@ use crate::made_sections::push_made;
 use crate::negotiated::show_outcomes;
 use crate::spoken::{description, fail};
 use crate::writable::changed;
-use plain_cases::{Answer, configuration, show_rows};
+use format_cases::{Answer, configuration, show_rows};
 use str0m_signal::{
     CodecConfig, PayloadParams, Sdp, SdpError, is_writable, negotiate_text, sdp_parser, section_of,
 };
@@ -60,12 +60,12 @@ fn come_back_at(answer: &mut Answer, sdp: &Sdp, index: &str, rows: &[PayloadPara
 /// Runs the rounds of the text: what each comes to, and whether the rows that they leave come back from each of its
 /// audio and video sections.
 fn negotiated_back(answer: &mut Answer, config: &mut CodecConfig, text: &str) {
-    negotiated(answer, config, text);
+    negotiated_and_back(answer, config, text);
     let read = sdp_parser(answer.alloc(), text);
     add_back(answer, &read, config.params());
 }
 
-fn negotiated(answer: &mut Answer, config: &mut CodecConfig, text: &str) {
+fn negotiated_and_back(answer: &mut Answer, config: &mut CodecConfig, text: &str) {
     match &negotiate_text(config, text) {
         Ok(outcomes) => show_outcomes(answer, outcomes.as_slice()),
         Err(error) => fail(answer, error),
@@ -76,7 +76,7 @@ fn negotiated(answer: &mut Answer, config: &mut CodecConfig, text: &str) {
 /// section that the lines describe: what each round comes to, what the section prints, and whether the row comes back.
 fn first_back(answer: &mut Answer, config: &mut CodecConfig, text: &str) {
     let (lines, text) = text.split_once(" | ").unwrap_or((text, ""));
-    negotiated(answer, config, text);
+    negotiated_and_back(answer, config, text);
     if let (Some(sdp), Some(first)) = (&description(answer, lines), config.params().first()) {
         answer.item("\n");
         push_made_of_first(answer, sdp, &[*first]);

@@ -1,6 +1,6 @@
 //! The lines that describe rows, after one that was there before.
 
-use plain_cases::{Answer, rows_of};
+use format_cases::{Answer, rows_of};
 use str0m_signal::{AsMediaAttrs, Items, MediaAttribute, PayloadParams};
 
 /// `row-lines ROWS`; whether it is this word.

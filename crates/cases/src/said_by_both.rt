@@ -1,6 +1,6 @@
 //! What sessions, sections and descriptions may all say: a line of the answer for each, none where nothing is said.
 
-use plain_cases::Answer;
+use format_cases::Answer;
 use std::alloc::AllocError;
 use str0m_signal::{Candidates, Fingerprint, IceCreds, Setup};
 

@@ -3,7 +3,7 @@
 use crate::escapes::push_escaped;
 use crate::said_by_both::{add_credentials, add_fingerprint, add_flag, add_foundations, add_setup};
 use crate::spoken::section;
-use plain_cases::Answer;
+use format_cases::Answer;
 use str0m_signal::{Direction, MediaLine, Simulcast};
 
 /// Answers what the word asks of the text; whether it is one of these words.

@@ -2,7 +2,7 @@
 
 use crate::said_by_both::{add_credentials, add_fingerprint, add_flag, add_foundations, add_setup};
 use crate::spoken::{description, fail, session};
-use plain_cases::Answer;
+use format_cases::Answer;
 use str0m_signal::{DistinctCandidates, Sdp, SdpError, Session};
 
 /// Answers what the word asks of the text; whether it is one of these words.

@@ -1,14 +1,14 @@
 //! Roles in setting up the transport (RFC 8842, section 5.2), and what m-lines carry.
 
 use crate::spoken::{description, session};
-use plain_cases::Answer;
+use format_cases::Answer;
 use str0m_signal::{MediaLine, Setup};
 
 /// Answers what the word asks of the text; whether it is one of these words.
 pub(crate) fn answers(answer: &mut Answer, word: &str, text: &str) -> bool {
     match word {
         "roles" => roles(answer, text),
-        "role-answered" => answered(answer, text),
+        "role-answered" => answering_role(answer, text),
         "carries" => carries(answer, text),
         _ => return false,
     }
@@ -25,7 +25,7 @@ fn roles(answer: &mut Answer, text: &str) {
 }
 
 /// The role that answers this one, or one that isn't said.
-fn answered(answer: &mut Answer, word: &str) {
+fn answering_role(answer: &mut Answer, word: &str) {
     let offered = role(answer, word);
     answer.push(Setup::answer(offered).setup_line());
 }

@@ -1,7 +1,7 @@
 //! The rows that sections describe, as `sdpshow rows` prints them without the mid.
 
 use crate::spoken::{behind_header, fail, section};
-use plain_cases::Answer;
+use format_cases::Answer;
 use std::fmt::Display;
 use str0m_signal::{
     CodecSpec, FormatParams, MediaAttribute, MediaLine, PayloadParams, RtpMap, Sdp, SdpError,
@@ -29,12 +29,12 @@ fn rows(answer: &mut Answer, text: &str) {
 
 fn rows_read(answer: &mut Answer, read: &Result<(Sdp, &str), SdpError>) {
     match read {
-        Ok((sdp, rest)) => show_sections(answer, sdp, rest),
+        Ok((sdp, rest)) => show_section_rows(answer, sdp, rest),
         Err(error) => fail(answer, error),
     }
 }
 
-fn show_sections(answer: &mut Answer, sdp: &Sdp, rest: &str) {
+fn show_section_rows(answer: &mut Answer, sdp: &Sdp, rest: &str) {
     for section in sdp.media_lines.as_slice() {
         answer.item("\n");
         show_rows(answer, section);

@@ -1,7 +1,7 @@
 //! What sections say of their sources (RFC 5576), and ids that say that there is no stream.
 
 use crate::spoken::section;
-use plain_cases::Answer;
+use format_cases::Answer;
 use str0m_signal::{SsrcInfo, Text, is_no_stream};
 
 /// Answers what the word asks of the text; whether it is one of these words.

@@ -1,7 +1,7 @@
 //! Answers cases of what sessions and sections say.
 
 use crate::{fmtp_lines, said_by_sections, said_by_sessions, said_roles, said_rows, said_sources};
-use plain_cases::Answer;
+use format_cases::Answer;
 
 /// Answers what the word asks of the text; whether it is one of these words.
 pub(crate) fn answers(answer: &mut Answer, word: &str, text: &str) -> bool {

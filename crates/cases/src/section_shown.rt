@@ -1,7 +1,7 @@
 //! What sessions and sections hold, a line for each part.
 
 use crate::lines::{push_printed, show};
-use plain_cases::Answer;
+use format_cases::Answer;
 use str0m_signal::{Bandwidth, MediaLine, Proto, Pt, Session};
 
 /// What begins the line of a part under its head.

@@ -1,6 +1,6 @@
 //! Descriptions, sessions and sections that cases are made of. Of a text that makes none the answer says why.
 
-use plain_cases::Answer;
+use format_cases::Answer;
 use str0m_signal::{
     MediaLine, Sdp, SdpError, Session, media_attribute_line, sdp_parser, session_parser,
 };

@@ -1,7 +1,7 @@
 //! Descriptions that are read while nothing else is given memory.
 
 use crate::spoken::behind_header;
-use plain_cases::Answer;
+use format_cases::Answer;
 use std::alloc::{AllocError, Global};
 use str0m_signal::{SdpError, sdp_parser};
 

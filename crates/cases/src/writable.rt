@@ -3,7 +3,7 @@
 use crate::escapes::push_escaped;
 use crate::held_texts::{in_section, in_session, one, text_of};
 use crate::spoken::description;
-use plain_cases::Answer;
+use format_cases::Answer;
 use str0m_signal::{
     Bandwidth, FormatParam, Items, MediaAttribute, MediaLine, MediaType, Mid, Proto, Pt, Sdp,
     SdpOffer, Session, SessionAttribute, is_writable,
@@ -163,16 +163,16 @@ fn bandwidth(answer: &mut Answer, text: &str) -> Bandwidth {
 
 fn attribute(answer: &mut Answer, word: &str, text: &str) -> MediaAttribute {
     match word {
-        "events" => fmtp(answer, FormatParam::TelephoneEvents(15)),
-        "red" => fmtp(answer, FormatParam::Red(Pt::from(111))),
-        "distance" => fmtp(answer, FormatParam::SpropMaxDonDiff(40_000)),
-        "unknown" => fmtp(answer, FormatParam::Unknown),
+        "events" => fmtp_of(answer, FormatParam::TelephoneEvents(15)),
+        "red" => fmtp_of(answer, FormatParam::Red(Pt::from(111))),
+        "distance" => fmtp_of(answer, FormatParam::SpropMaxDonDiff(40_000)),
+        "unknown" => fmtp_of(answer, FormatParam::Unknown),
         field => in_section(answer, field, text),
     }
 }
 
 /// An fmtp line of the payload type 96 with this value alone.
-fn fmtp(answer: &mut Answer, value: FormatParam) -> MediaAttribute {
+fn fmtp_of(answer: &mut Answer, value: FormatParam) -> MediaAttribute {
     MediaAttribute::Fmtp {
         pt: Pt::from(96),
         values: one(answer, value),

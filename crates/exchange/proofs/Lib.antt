@@ -1,32 +1,3 @@
-pub mod AcceptedLaws
-pub mod AnswerLaws
-pub mod BundleLaws
-pub mod CopyLaws
-pub mod Equal
-pub mod FeedbackLaws
-pub mod FitsLaws
-pub mod FollowLaws
-pub mod FreshLaws
-pub mod InForceLaws
-pub mod LayerLaws
-pub mod ListLaws
-pub mod OfferFollows
-pub mod OfferNameLaws
-pub mod OfferRuleLaws
-pub mod OfferedLaws
-pub mod OwnNameLaws
-pub mod PlaceLaws
-pub mod PlainAnswers
-pub mod ReadBackLaws
-pub mod RejectedLaws
-pub mod RestartLaws
-pub mod RoundLaws
-pub mod RoundNameLaws
-pub mod RowLaws
-pub mod RowTypes
-pub mod RuleLaws
-pub mod StoppedLaws
-pub mod TrackLaws
-pub mod TrickledLaws
-pub mod TypeLaws
-pub mod UnreadLaws
+pub mod Common
+-- What crates above name of the laws of rooms, which are private as their code is.
+pub use Rattle.exchange.proofs.state.ExchangeFollowLaws.{follows_self, follows_then}

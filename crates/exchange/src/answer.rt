@@ -1,10 +1,27 @@
 //! Answers with their versions.
+ghost use Rattle.exchange.specs.Prelude.{versioned_text};
 ghost use Rattle.std.specs.Prelude.{◌≡◌, Some};
-ghost use Rattle.str0m_sdp.specs.Session.{versioned_text};
 
 use std::fmt;
 use std::ops::Deref;
 use str0m_signal::{Sdp, VersionedSdp};
+
+pub(crate) mod accepted;
+pub(crate) mod accepted_offer;
+pub(crate) mod answered_section;
+pub(crate) mod answered_session;
+pub(crate) mod bundle;
+pub(crate) mod bundled;
+pub(crate) mod choice;
+pub(crate) mod in_bundle;
+pub(crate) mod in_force;
+pub(crate) mod layers;
+pub(crate) mod offered;
+pub(crate) mod offered_feedback;
+pub(crate) mod offered_lines;
+pub(crate) mod rejected_section;
+pub(crate) mod rows;
+pub(crate) mod turned_layers;
 
 /// A description that answers an offer, with its version: of two answers of one session the later has the greater
 /// (RFC 3264, section 8). It derefs to its description.

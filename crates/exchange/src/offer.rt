@@ -1,10 +1,24 @@
 //! Offers with their versions.
+ghost use Rattle.exchange.specs.Prelude.{versioned_text};
 ghost use Rattle.std.specs.Prelude.{◌≡◌, Some};
-ghost use Rattle.str0m_sdp.specs.Session.{versioned_text};
 
 use std::fmt;
 use std::ops::Deref;
 use str0m_signal::{Items, Mid, Sdp, VersionedSdp};
+
+pub(crate) mod accepted_answer;
+pub(crate) mod added;
+pub(crate) mod fits;
+pub(crate) mod fits_section;
+pub(crate) mod fresh_names;
+pub(crate) mod made_offer;
+pub(crate) mod names;
+pub(crate) mod offer_extensions;
+pub(crate) mod offer_places;
+pub(crate) mod offer_section;
+pub(crate) mod own_names;
+pub(crate) mod pending;
+pub(crate) mod rule;
 
 /// A description that this side offers, with its version: of two descriptions of one session the later has the greater
 /// (RFC 3264, section 8). It derefs to its description.

@@ -1,4 +1,5 @@
-pub mod AttributeLaws
+pub mod AttributeLinesLaws
+pub mod Common
 pub mod FateLaws
 pub mod FindingsLaws
 pub mod LineLaws

@@ -1,38 +1,48 @@
 -- The first line of a text, by where its line feed stands.
-use Rattle.std.proofs.Common.{◌≡◌, ◌<◌, ◌-◌, ◌+◌, ℕ, List, [], ◌∷◌, ◌++◌, Option, Some, None, length, take, MatchOption, unwrap_or, refl, sym, ap, ◌∙◌, inl, inr, arith, lit<}
-use Rattle.std.specs.Borrow.{Bor}
-use Rattle.std.specs.Str.Pattern.{FindsCharSuffix}
-use Rattle.std.proofs.lemmas.List.{append_assoc, append-nil}
-use Rattle.str0m_values.proofs.CutLaws.{cut_found, cut_none_lacks, Lacks-append}
-use Rattle.str0m_values.specs.Cuts.{cut}
-use Rattle.str0m_values.specs.Parts.{Lacks}
-use Rattle.str0m_signal.proofs.LineLaws.{line_here, without_suffix}
-use Rattle.str0m_signal.specs.LineReading.{lines_of}
+use Rattle.lint.proofs.Common.{◌≡◌, ◌<◌, ◌-◌, ◌+◌, ℕ, List, [], ◌∷◌, ◌++◌, Option, Some, None, length, take, MatchOption, unwrap_or, refl}
+use Rattle.lint.proofs.Common.{sym, ap, ◌∙◌, inl, inr, arith, lit<, append_assoc, append-nil, Bor, cut}
 use Rattle.lint.specs.Lines.{IsWithoutReturn}
+use Rattle.std.specs.Str.Pattern.{FindsCharSuffix}
+use Rattle.str0m_signal.proofs.{line_here, without_suffix}
+use Rattle.str0m_signal.specs.line.LinesReading.{lines_of}
+use Rattle.str0m_values.proofs.CutLaws.{cut_found, cut_none_lacks, Lacks-append}
+use Rattle.str0m_values.specs.CutsParts.{Lacks}
 
 pub without_return : (line : Bor (List ℕ)) (r : Option (Bor (List ℕ))) (result : Bor (List ℕ))
-    → MatchOption r (FindsCharSuffix 13 line.now None) (λ x. (n : ℕ) × FindsCharSuffix 13 line.now (Some n) × (x.now ≡ take (length line.now - n) line.now) × (length x.now + n ≡ length line.now))
+    → MatchOption r (FindsCharSuffix 13 line.now None) (λ x. (n : ℕ) × FindsCharSuffix 13 line.now (Some n)
+    × (x.now ≡ take (length line.now - n) line.now) × (length x.now + n ≡ length line.now))
     → result ≡ unwrap_or r line → IsWithoutReturn line.now result.now
 without_return line r result cases is = rw is (without_suffix 13 (lit< tt) line r cases)
 
 -- some end after the content, and the rest of the lines
-abbrev pub Begins : List ℕ → List ℕ → List ℕ → Type 0
-Begins text content rest = (ending : List ℕ) × (lines_of text ≡ record { content = content; ending = ending } ∷ lines_of rest)
+abbrev pub BeginsWithLine : List ℕ → List ℕ → List ℕ → Type 0
+BeginsWithLine text content rest = (ending : List ℕ) × (lines_of text ≡ record { content = content; ending = ending } ∷ lines_of rest)
 
-pub line_at_feed : (text front rest content : List ℕ) → Some (front, rest) ≡ cut 10 text → IsWithoutReturn front content → Begins text content rest
+pub line_at_feed : (text front rest content : List ℕ) → Some (front, rest) ≡ cut 10 text → IsWithoutReturn front content
+    → BeginsWithLine text content rest
 line_at_feed text front rest content found (inl returned) =
     let at = cut_found 10 text front rest (sym found) in
-    let whole : text ≡ content ++ ((13 ∷ 10 ∷ []) ++ rest) = at.0 ∙ ap (λ (t : List ℕ). t ++ (10 ∷ rest)) returned ∙ append_assoc content (13 ∷ []) (10 ∷ rest) in
-    let inside : Lacks 10 content = Lacks-append 10 content (13 ∷ []) (rw returned at at.1) in
-    (13 ∷ 10 ∷ [], line_here text (record { content = content; ending = 13 ∷ 10 ∷ [] }) rest whole (record { inside = inside; ends = inr (inl refl) }))
+    let whole : text ≡ content ++ ((13 ∷ 10 ∷ []) ++ rest) = at.0 ∙ ap (λ (t : List ℕ). t ++ (10 ∷ rest)) returned
+    ∙ append_assoc content (13 ∷ []) (10 ∷ rest) in
+    let inside : Lacks 10 content = Lacks-append 10 content (13 ∷ []) (rw returned at at.1) in (
+      13 ∷ 10 ∷ [],
+      line_here text (record { content = content; ending = 13 ∷ 10 ∷ [] }) rest whole
+          (record { inside = inside; ends = inr (inl refl) }),
+    )
 line_at_feed text front rest content found (inr plain) =
     let at = cut_found 10 text front rest (sym found) in
-    let whole : text ≡ content ++ ((10 ∷ []) ++ rest) = at.0 ∙ ap (λ (t : List ℕ). t ++ (10 ∷ rest)) (sym plain.0) in
-    (10 ∷ [], line_here text (record { content = content; ending = 10 ∷ [] }) rest whole (record { inside = rw (plain.0) at.1; ends = inl (refl, rw (plain.0) plain.1) }))
+    let whole : text ≡ content ++ ((10 ∷ []) ++ rest) = at.0 ∙ ap (λ (t : List ℕ). t ++ (10 ∷ rest)) (sym plain.0) in (
+      10 ∷ [],
+      line_here text (record { content = content; ending = 10 ∷ [] }) rest whole
+          (record { inside = rw (plain.0) at.1; ends = inl (refl, rw (plain.0) plain.1) }),
+    )
 
-pub line_at_end : (text : List ℕ) → None ≡ cut 10 text → 0 < length text → Begins text text []
-line_at_end text none some =
-    ([], line_here text (record { content = text; ending = [] }) [] (sym (append-nil text)) (record { inside = cut_none_lacks 10 text (sym none); ends = inr (inr (refl, refl, some)) }))
+pub line_at_end : (text : List ℕ) → None ≡ cut 10 text → 0 < length text → BeginsWithLine text text []
+line_at_end text none some = (
+  [],
+  line_here text (record { content = text; ending = [] }) [] (sym (append-nil text))
+      (record { inside = cut_none_lacks 10 text (sym none); ends = inr (inr (refl, refl, some)) }),
+)
 
 pub no_line : (text : List ℕ) → length text ≡ 0 → lines_of text ≡ []
 unfolding lines_of

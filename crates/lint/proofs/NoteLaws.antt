@@ -1,37 +1,33 @@
 -- What one more finding changes.
-use Rattle.std.proofs.Common.{◌≡◌, ◌||◌, ℕ, Bool, true, false, cond, List, [], ◌∷◌, ◌++◌, Some, None, min, max, refl, ap, ◌∙◌, arith}
-use Rattle.std.specs.List.{cons_option, list_any}
-use Rattle.std.proofs.lemmas.List.{append-nil}
-use Rattle.std.proofs.lemmas.List.Elements.{filter_map-append}
-use Rattle.std.proofs.lemmas.List.Folds.{list_any-append}
-use Rattle.lint.specs.Code.{is_refusal, is_end, is_kept, is_change}
-use Rattle.lint.specs.Findings.{AddsOne, Ends, Keeps, OnlyChanges, SaysElse, ends, is_changed, is_refused, kept, line_if, lines_of_kind}
+use Rattle.lint.proofs.Common.{◌≡◌, ◌||◌, ℕ, Bool, true, false, cond, List, [], ◌∷◌, ◌++◌, Some, None, min, max, refl, ap, ◌∙◌, arith}
+use Rattle.lint.proofs.Common.{append-nil, filter_map-append, cons_option, list_any, or_false}
+use Rattle.lint.specs.Code.{is_refusal, is_end, is_unread_code, is_change}
+use Rattle.lint.specs.Findings.{AddsOne, Ends, KeepsUnread, OnlyChanges, SaysElse, ends, is_changed, is_refused, lines_kept, line_if}
+use Rattle.lint.specs.Findings.{lines_of_kind}
 use Rattle.lint.specs.Lines.{IsNumbered}
+use Rattle.lint.specs.declared.code.Change.{Change}
 use Rattle.lint.specs.declared.code.Code.{Code}
 use Rattle.lint.specs.declared.code.Code.TheVariants.{Refused, Unread, Malformed, Unknown, Unseen, Changed, Contradiction, Round}
-use Rattle.lint.specs.declared.code.Change.{Change}
 use Rattle.lint.specs.declared.code.Conflict.{Conflict}
 use Rattle.lint.specs.declared.code.Refusal.{Refusal}
 use Rattle.lint.specs.declared.code.Unfit.{Unfit}
 use Rattle.lint.specs.declared.code.Unseen.{Unseen as What}
 use Rattle.lint.specs.declared.finding.Finding.{Finding}
 use Rattle.lint.specs.declared.notes.Notes.{Notes}
+use Rattle.std.proofs.lemmas.List.Folds.{list_any-append}
 
 -- one item, or none
-abbrev one_if : Bool → ℕ → List ℕ
-one_if b n = cond b (n ∷ []) []
+abbrev line_once : Bool → ℕ → List ℕ
+line_once b n = cond b (n ∷ []) []
 
-alone : (b : Bool) (n : ℕ) → cons_option (cond b (Some n) None) [] ≡ one_if b n
-alone true n = refl
-alone false n = refl
+one_alone : (b : Bool) (n : ℕ) → cons_option (cond b (Some n) None) [] ≡ line_once b n
+one_alone true n = refl
+one_alone false n = refl
 
-one_more : (is : Code → Bool) (old : List Finding) (f : Finding) → lines_of_kind is (old ++ f ∷ []) ≡ lines_of_kind is old ++ one_if (is f.code) f.line
-one_more is old f =
-    filter_map-append (line_if is) old (f ∷ []) ∙ ap (λ (t : List ℕ). lines_of_kind is old ++ t) (alone (is f.code) f.line)
-
-or_false : (b : Bool) → (b || false) ≡ b
-or_false true = refl
-or_false false = refl
+one_finding_more : (is : Code → Bool) (old : List Finding) (f : Finding)
+    → lines_of_kind is (old ++ f ∷ []) ≡ lines_of_kind is old ++ line_once (is f.code) f.line
+one_finding_more is old f =
+    filter_map-append (line_if is) old (f ∷ []) ∙ ap (λ (t : List ℕ). lines_of_kind is old ++ t) (one_alone (is f.code) f.line)
 
 or_true : (b : Bool) → (b || true) ≡ true
 or_true true = refl
@@ -39,11 +35,11 @@ or_true false = refl
 
 -- the lines of a kind with one more finding of a code
 added_lines : (is : Code → Bool) (line : ℕ) (code : Code) (old new : Notes) → AddsOne line code old new
-    → lines_of_kind is new.findings ≡ lines_of_kind is old.findings ++ one_if (is code) (min (max line 1) old.last)
+    → lines_of_kind is new.findings ≡ lines_of_kind is old.findings ++ line_once (is code) (min (max line 1) old.last)
 added_lines is line code old new (f, e, c, l) =
-    ap (lines_of_kind is) e ∙ one_more is old.findings f
-    ∙ ap (λ (k : Code). lines_of_kind is old.findings ++ one_if (is k) f.line) c
-    ∙ ap (λ (n : ℕ). lines_of_kind is old.findings ++ one_if (is code) n) l
+    ap (lines_of_kind is) e ∙ one_finding_more is old.findings f
+    ∙ ap (λ (k : Code). lines_of_kind is old.findings ++ line_once (is k) f.line) c
+    ∙ ap (λ (n : ℕ). lines_of_kind is old.findings ++ line_once (is code) n) l
 
 -- whether some finding is of a kind, with one more of a code
 added_any : (is : Code → Bool) (line : ℕ) (code : Code) (old new : Notes) → AddsOne line code old new
@@ -53,67 +49,75 @@ added_any is line code old new (f, e, c, l) =
     ∙ ap (λ (b : Bool). list_any (λ finding. is finding.code) old.findings || b) (or_false (is f.code))
     ∙ ap (λ (k : Code). list_any (λ finding. is finding.code) old.findings || is k) c
 
-added_refusal : (line : ℕ) (code : Code) (old new : Notes) → AddsOne line code old new → is_refused new.findings ≡ (is_refused old.findings || is_refusal code)
+added_refusal : (line : ℕ) (code : Code) (old new : Notes) → AddsOne line code old new
+    → is_refused new.findings ≡ (is_refused old.findings || is_refusal code)
 added_refusal = added_any is_refusal
 
-added_change : (line : ℕ) (code : Code) (old new : Notes) → AddsOne line code old new → is_changed new.findings ≡ (is_changed old.findings || is_change code)
+added_change : (line : ℕ) (code : Code) (old new : Notes) → AddsOne line code old new
+    → is_changed new.findings ≡ (is_changed old.findings || is_change code)
 added_change = added_any is_change
 
 -- a finding of a kind of which no clause counts the lines
-pub keeps_none : (line : ℕ) (what : What) (old new : Notes) → AddsOne line (Unseen what) old new → new.last ≡ old.last → Keeps [] old new
+pub keeps_none : (line : ℕ) (what : What) (old new : Notes) → AddsOne line (Unseen what) old new → new.last ≡ old.last
+    → KeepsUnread [] old new
 keeps_none line what old new a last = record {
-  kept_are = added_lines is_kept line (Unseen what) old new a;
+  kept_are = added_lines is_unread_code line (Unseen what) old new a;
   ends_stay = added_lines is_end line (Unseen what) old new a ∙ append-nil (ends old.findings);
   refused_stays = added_refusal line (Unseen what) old new a ∙ or_false (is_refused old.findings);
   changed_stays = added_change line (Unseen what) old new a ∙ or_false (is_changed old.findings);
   last_stays = last;
 }
 
-numbered : (last line : ℕ) → IsNumbered last line → min (max line 1) last ≡ line
-numbered last line h = omega arith
+clamped : (last line : ℕ) → IsNumbered last line → min (max line 1) last ≡ line
+clamped last line h = omega arith
 
 -- a line that is kept unread
-pub keeps_one : (line : ℕ) (code : Code) (old new : Notes) → is_kept code ≡ true → IsNumbered old.last line → AddsOne line code old new → new.last ≡ old.last
-    → Keeps (line ∷ []) old new
-keeps_one line (Malformed misfit) old new is here a last = record {
-  kept_are = added_lines is_kept line (Malformed misfit) old new a ∙ ap (λ (n : ℕ). kept old.findings ++ n ∷ []) (numbered old.last line here);
+pub unread_line_is_kept : (line : ℕ) (code : Code) (old new : Notes) → is_unread_code code ≡ true → IsNumbered old.last line
+    → AddsOne line code old new → new.last ≡ old.last
+    → KeepsUnread (line ∷ []) old new
+unread_line_is_kept line (Malformed misfit) old new is here a last = record {
+  kept_are = added_lines is_unread_code line (Malformed misfit) old new a
+      ∙ ap (λ (n : ℕ). lines_kept old.findings ++ n ∷ []) (clamped old.last line here);
   ends_stay = added_lines is_end line (Malformed misfit) old new a ∙ append-nil (ends old.findings);
   refused_stays = added_refusal line (Malformed misfit) old new a ∙ or_false (is_refused old.findings);
   changed_stays = added_change line (Malformed misfit) old new a ∙ or_false (is_changed old.findings);
   last_stays = last;
 }
-keeps_one line (Unknown unknown) old new is here a last = record {
-  kept_are = added_lines is_kept line (Unknown unknown) old new a ∙ ap (λ (n : ℕ). kept old.findings ++ n ∷ []) (numbered old.last line here);
+unread_line_is_kept line (Unknown unknown) old new is here a last = record {
+  kept_are = added_lines is_unread_code line (Unknown unknown) old new a
+      ∙ ap (λ (n : ℕ). lines_kept old.findings ++ n ∷ []) (clamped old.last line here);
   ends_stay = added_lines is_end line (Unknown unknown) old new a ∙ append-nil (ends old.findings);
   refused_stays = added_refusal line (Unknown unknown) old new a ∙ or_false (is_refused old.findings);
   changed_stays = added_change line (Unknown unknown) old new a ∙ or_false (is_changed old.findings);
   last_stays = last;
 }
-keeps_one line (Refused refusal) old new is here a last = absurd cc
-keeps_one line (Unread unfit) old new is here a last = absurd cc
-keeps_one line (Unseen what) old new is here a last = absurd cc
-keeps_one line (Changed change) old new is here a last = absurd cc
-keeps_one line (Contradiction conflict) old new is here a last = absurd cc
-keeps_one line (Round fate) old new is here a last = absurd cc
+unread_line_is_kept line (Refused refusal) old new is here a last = absurd cc
+unread_line_is_kept line (Unread unfit) old new is here a last = absurd cc
+unread_line_is_kept line (Unseen what) old new is here a last = absurd cc
+unread_line_is_kept line (Changed change) old new is here a last = absurd cc
+unread_line_is_kept line (Contradiction conflict) old new is here a last = absurd cc
+unread_line_is_kept line (Round fate) old new is here a last = absurd cc
 
 -- the line at which reading ends
-pub ends_one : (line : ℕ) (unfit : Unfit) (old new : Notes) → IsNumbered old.last line → AddsOne line (Unread unfit) old new → new.last ≡ old.last
+pub ends_one : (line : ℕ) (unfit : Unfit) (old new : Notes) → IsNumbered old.last line → AddsOne line (Unread unfit) old new
+    → new.last ≡ old.last
     → Ends line old new
 ends_one line unfit old new here a last = record {
-  ends_are = added_lines is_end line (Unread unfit) old new a ∙ ap (λ (n : ℕ). ends old.findings ++ n ∷ []) (numbered old.last line here);
-  kept_stay = added_lines is_kept line (Unread unfit) old new a ∙ append-nil (kept old.findings);
+  ends_are = added_lines is_end line (Unread unfit) old new a ∙ ap (λ (n : ℕ). ends old.findings ++ n ∷ []) (clamped old.last line here);
+  kept_stay = added_lines is_unread_code line (Unread unfit) old new a ∙ append-nil (lines_kept old.findings);
   refused_stays = added_refusal line (Unread unfit) old new a ∙ or_false (is_refused old.findings);
   last_stays = last;
 }
 
 -- the text is refused
-pub refuses : (line : ℕ) (refusal : Refusal) (old new : Notes) → AddsOne line (Refused refusal) old new → is_refused new.findings ≡ true
-refuses line refusal old new a = added_refusal line (Refused refusal) old new a ∙ or_true (is_refused old.findings)
+pub note_refuses : (line : ℕ) (refusal : Refusal) (old new : Notes) → AddsOne line (Refused refusal) old new
+    → is_refused new.findings ≡ true
+note_refuses line refusal old new a = added_refusal line (Refused refusal) old new a ∙ or_true (is_refused old.findings)
 
 -- a line that is printed otherwise
 pub changes_one : (line : ℕ) (change : Change) (old new : Notes) → AddsOne line (Changed change) old new → OnlyChanges old new
 changes_one line change old new a = record {
-  kept_stay = added_lines is_kept line (Changed change) old new a ∙ append-nil (kept old.findings);
+  kept_stay = added_lines is_unread_code line (Changed change) old new a ∙ append-nil (lines_kept old.findings);
   ends_stay = added_lines is_end line (Changed change) old new a ∙ append-nil (ends old.findings);
   refused_stays = added_refusal line (Changed change) old new a ∙ or_false (is_refused old.findings);
 }
@@ -135,7 +139,7 @@ changes_more old mid new c d = record {
 pub else_one : (line : ℕ) (conflict : Conflict) (old new : Notes) → AddsOne line (Contradiction conflict) old new → SaysElse old new
 else_one line conflict old new a = record {
   only = record {
-    kept_stay = added_lines is_kept line (Contradiction conflict) old new a ∙ append-nil (kept old.findings);
+    kept_stay = added_lines is_unread_code line (Contradiction conflict) old new a ∙ append-nil (lines_kept old.findings);
     ends_stay = added_lines is_end line (Contradiction conflict) old new a ∙ append-nil (ends old.findings);
     refused_stays = added_refusal line (Contradiction conflict) old new a ∙ or_false (is_refused old.findings);
   };

@@ -1,13 +1,13 @@
 -- What codes say.
-use Rattle.std.specs.Prelude.{ℕ, Bool, true, false, List, codes}
-use Rattle.lint.specs.declared.code.Code.{Code}
-use Rattle.lint.specs.declared.code.Code.TheVariants.{Refused, Unread, Malformed, Unknown, Unseen, Changed, Contradiction, Round}
 use Rattle.lint.specs.declared.code.Change.{Change}
 use Rattle.lint.specs.declared.code.Change.TheVariants.{HeaderLine, Protocol, Candidate, Spelling}
+use Rattle.lint.specs.declared.code.Code.{Code}
+use Rattle.lint.specs.declared.code.Code.TheVariants.{Refused, Unread, Malformed, Unknown, Unseen, Changed, Contradiction, Round}
 use Rattle.lint.specs.declared.code.Fate.{Fate}
 use Rattle.lint.specs.declared.code.Fate.TheVariants.{RefusedRound}
 use Rattle.lint.specs.declared.code.Severity.{Severity}
 use Rattle.lint.specs.declared.code.Severity.TheVariants.{Error, Warning, Note}
+use Rattle.std.specs.Prelude.{ℕ, Bool, true, false, List, codes}
 
 -- of a change, a note where the other side can't tell, else a warning
 abbrev pub severity_of_change : Change → Severity
@@ -49,10 +49,10 @@ is_end (Unread unfit) = true
 is_end _ = false
 
 -- an attribute line is kept unread
-abbrev pub is_kept : Code → Bool
-is_kept (Malformed misfit) = true
-is_kept (Unknown unknown) = true
-is_kept _ = false
+abbrev pub is_unread_code : Code → Bool
+is_unread_code (Malformed misfit) = true
+is_unread_code (Unknown unknown) = true
+is_unread_code _ = false
 
 -- a line is printed otherwise than it stands
 abbrev pub is_change : Code → Bool

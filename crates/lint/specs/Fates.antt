@@ -1,48 +1,34 @@
 -- What comes of rounds with the sections of a text.
-use Rattle.std.specs.Prelude.{◌≡◌, ◌==◌, ℕ, Bool, true, false, ◌&&◌, ◌||◌, not, Option, Some, None, Ok, Err, List, [], ◌∷◌, ◌++◌, if◌then◌else◌, filter_map, map, option_map, is_some}
-use Rattle.std.specs.List.{list_any}
-use Rattle.str0m_values.specs.Direction.{receives}
-use Rattle.str0m_formats.specs.Choices.{IsChoice, points_with}
-use Rattle.str0m_formats.specs.Runs.{Outcome, Ran}
-use Rattle.str0m_formats.specs.Scores.{same_codec, score}
-use Rattle.str0m_formats.specs.declared.codec.Codec.{Codec}
-use Rattle.str0m_formats.specs.declared.negotiation_error.NegotiationError.TheVariants.{TypeTooLarge, ClaimedTwice, Exhausted, Memory}
-use Rattle.str0m_formats.specs.declared.payload_params.PayloadParams.{PayloadParams}
-use Rattle.str0m_sdp.specs.MediaType.{is_media}
-use Rattle.str0m_sdp.specs.SectionDirection.{section_direction}
-use Rattle.str0m_sdp.specs.SectionRows.{rows}
-use Rattle.str0m_sdp.specs.declared.media_line.MediaLine.{MediaLine}
-use Rattle.str0m_sdp.specs.declared.session.Sdp.{Sdp}
-use Rattle.str0m_signal.specs.Reading.{Reading}
+use Rattle.lint.specs.Prelude.{Codec, IsChoice, MediaLine, Outcome, PayloadParams, Ran, Reading, Sdp, is_media, points_with, receives, rows, same_codec, score, section_direction}
 use Rattle.lint.specs.declared.code.Code.{Code}
 use Rattle.lint.specs.declared.code.Code.TheVariants.{Round}
 use Rattle.lint.specs.declared.code.Fate.{Fate}
 use Rattle.lint.specs.declared.code.Fate.TheVariants.{Locked, NoCodec, OtherFormat, OtherRow, TakenType, RefusedRound}
 use Rattle.lint.specs.declared.finding.Finding.{Finding}
 use Rattle.lint.specs.declared.notes.Notes.{Notes}
+use Rattle.std.specs.List.{list_any}
+use Rattle.std.specs.Prelude.{◌≡◌, ◌==◌, ℕ, Bool, true, false, ◌&&◌, ◌||◌, not, Option, Some, None, Ok, Err, List, [], ◌∷◌, ◌++◌, if◌then◌else◌, filter_map, map, option_map, is_some}
+use Rattle.str0m_formats.specs.declared.round.negotiation_error.NegotiationError.TheVariants.{TypeTooLarge, ClaimedTwice, Exhausted, Memory}
+use Rattle.str0m_sdp.specs.section.Companions.{is_type}
 
 -- some row of these fits it
-abbrev pub fits : List PayloadParams → PayloadParams → Bool
-fits ours theirs = list_any (λ row. is_some (score row.spec theirs.spec)) ours
+abbrev pub fits_some : List PayloadParams → PayloadParams → Bool
+fits_some ours theirs = list_any (λ row. is_some (score row.spec theirs.spec)) ours
 
 abbrev pub has_codec : List PayloadParams → Codec → Bool
 has_codec ours codec = list_any (λ row. same_codec row.spec.codec codec) ours
-
-abbrev pub is_type : ℕ → Option ℕ → Bool
-is_type pt None = false
-is_type pt (Some t) = t == pt
 
 -- a row has this payload type, in whatever role
 abbrev pub has_type : PayloadParams → ℕ → Bool
 has_type row pt = row.pt == pt || (is_type pt row.resend || is_type pt row.red)
 
 -- a locked row that doesn't fit has the type
-unfoldable pub holds : PayloadParams → PayloadParams → Bool
-holds theirs row = row.locked && (has_type row theirs.pt && not (is_some (score row.spec theirs.spec)))
+unfoldable pub blocks : PayloadParams → PayloadParams → Bool
+blocks theirs row = row.locked && (has_type row theirs.pt && not (is_some (score row.spec theirs.spec)))
 
 -- the remote receives, and such a row has the type
-abbrev pub is_taken : Bool → List PayloadParams → PayloadParams → Bool
-is_taken receives after theirs = receives && list_any (holds theirs) after
+abbrev pub is_type_taken : Bool → List PayloadParams → PayloadParams → Bool
+is_type_taken receives after theirs = receives && list_any (blocks theirs) after
 
 -- the type of the remote row with which a row goes: none where it stays open; where it was open and the remote receives, its own
 -- type now, since it has that of its choice then; else that of its choice
@@ -69,7 +55,7 @@ ArePartners remote receives (old ∷ before) [] partners = partners ≡ []
 abbrev pub accepted_fate : Bool → List PayloadParams → List (Option ℕ) → PayloadParams → Fate
 accepted_fate receives after partners theirs =
     if list_any (is_type theirs.pt) partners then Locked
-    else if is_taken receives after theirs then TakenType
+    else if is_type_taken receives after theirs then TakenType
     else OtherRow
 
 -- of a row that fits; nothing where the round is refused for something else
@@ -83,7 +69,7 @@ fitting_fate receives after (Err Memory) partners theirs = None
 -- what comes of a remote row
 abbrev pub fate : List PayloadParams → Bool → List PayloadParams → Outcome → List (Option ℕ) → PayloadParams → Option Fate
 fate before receives after outcome partners theirs =
-    if fits before theirs then fitting_fate receives after outcome partners theirs
+    if fits_some before theirs then fitting_fate receives after outcome partners theirs
     else if has_codec before theirs.spec.codec then Some OtherFormat
     else Some NoCodec
 
@@ -91,15 +77,15 @@ abbrev pub some_of : Option Fate → List Fate
 some_of None = []
 some_of (Some it) = it ∷ []
 
-abbrev pub refusal : Outcome → List Fate
-refusal (Ok done) = []
-refusal (Err cause) = RefusedRound ∷ []
+abbrev pub refusal_fate : Outcome → List Fate
+refusal_fate (Ok done) = []
+refusal_fate (Err cause) = RefusedRound ∷ []
 
 -- what is said of a round, in order: of the round, where it is refused, and of each row of the remote
 pub record AreFatesOf (before remote : List PayloadParams) (receives : Bool) (outcome : Outcome) (after : List PayloadParams) (fates : List Fate) : Type 0 where
   pub partners : List (Option ℕ)
   pub partners_are : ArePartners remote receives before after partners
-  pub fates_are : fates ≡ refusal outcome ++ filter_map (fate before receives after outcome partners) remote
+  pub fates_are : fates ≡ refusal_fate outcome ++ filter_map (fate before receives after outcome partners) remote
 
 -- a round with what is said of it
 pub record RoundSays (m : MediaLine) (before : List PayloadParams) (fates : List Fate) (after : List PayloadParams) : Type 0 where

@@ -1,22 +1,18 @@
 -- What findings say of a text.
-use Rattle.std.specs.Prelude.{◌≡◌, ◌↔◌, ◌+◌, ℕ, Bool, true, false, List, [], ◌∷◌, ◌++◌, Option, Some, None, filter_map, map, max, min, if◌then◌else◌}
-use Rattle.std.specs.Borrow.{Bor}
-use Rattle.std.specs.List.{list_any}
-use Rattle.str0m_sdp.specs.declared.error.SdpError.{SdpError}
-use Rattle.str0m_sdp.specs.declared.error.SdpError.TheVariants.{ParseError, Inconsistent, Memory}
-use Rattle.str0m_sdp.specs.declared.session.Sdp.{Sdp}
-use Rattle.str0m_sdp.specs.Session.{sdp_text}
-use Rattle.str0m_signal.specs.Lines.{Line}
-use Rattle.str0m_signal.specs.LineReading.{lines_of}
-use Rattle.str0m_signal.specs.Reading.{Reading}
-use Rattle.lint.specs.declared.code.Code.{Code}
-use Rattle.lint.specs.declared.finding.Finding.{Finding}
-use Rattle.lint.specs.declared.notes.Notes.{Notes}
-use Rattle.lint.specs.declared.mark.Mark.{Mark}
-use Rattle.lint.specs.Code.{is_refusal, is_end, is_kept, is_change}
+use Rattle.lint.specs.Code.{is_refusal, is_end, is_unread_code, is_change}
 use Rattle.lint.specs.Kept.{is_unread, kept_at, kept_flags}
 use Rattle.lint.specs.Lines.{attribute_numbers, unread_lines}
-use Rattle.lint.specs.Told.{NothingLost, told}
+use Rattle.lint.specs.Prelude.{Line, Reading, Sdp, lines_of, sdp_text}
+use Rattle.lint.specs.Told.{NothingLost, told_of}
+use Rattle.lint.specs.declared.code.Code.{Code}
+use Rattle.lint.specs.declared.finding.Finding.{Finding}
+use Rattle.lint.specs.declared.mark.Mark.{Mark}
+use Rattle.lint.specs.declared.notes.Notes.{Notes}
+use Rattle.std.specs.Borrow.{Bor}
+use Rattle.std.specs.List.{list_any}
+use Rattle.std.specs.Prelude.{◌≡◌, ◌↔◌, ◌+◌, ℕ, Bool, true, false, List, [], ◌∷◌, ◌++◌, Option, Some, None, filter_map, map, max, min, if◌then◌else◌}
+use Rattle.str0m_sdp.specs.declared.session.error.SdpError.{SdpError}
+use Rattle.str0m_sdp.specs.declared.session.error.SdpError.TheVariants.{ParseError, Inconsistent, Memory}
 
 -- the line of a finding whose code is such a one
 abbrev pub line_if : (Code → Bool) → Finding → Option ℕ
@@ -31,8 +27,8 @@ abbrev pub ends : List Finding → List ℕ
 ends findings = lines_of_kind is_end findings
 
 -- those that are said to be kept unread
-abbrev pub kept : List Finding → List ℕ
-kept findings = lines_of_kind is_kept findings
+abbrev pub lines_kept : List Finding → List ℕ
+lines_kept findings = lines_of_kind is_unread_code findings
 
 -- the text is said to be refused
 abbrev pub is_refused : List Finding → Bool
@@ -55,8 +51,8 @@ AddsOne line code old new =
 
 -- such findings are added, in order: of lines that are kept unread, of these alone, and none that refuses the text, ends the reading or says
 -- that a line is printed otherwise
-pub record Keeps (lines : List ℕ) (old new : Notes) : Type 0 where
-  pub kept_are : kept new.findings ≡ kept old.findings ++ lines
+pub record KeepsUnread (lines : List ℕ) (old new : Notes) : Type 0 where
+  pub kept_are : lines_kept new.findings ≡ lines_kept old.findings ++ lines
   pub ends_stay : ends new.findings ≡ ends old.findings
   pub refused_stays : is_refused new.findings ≡ is_refused old.findings
   pub changed_stays : is_changed new.findings ≡ is_changed old.findings
@@ -64,7 +60,7 @@ pub record Keeps (lines : List ℕ) (old new : Notes) : Type 0 where
 
 -- findings are added of lines that are printed otherwise, and no others
 pub record OnlyChanges (old new : Notes) : Type 0 where
-  pub kept_stay : kept new.findings ≡ kept old.findings
+  pub kept_stay : lines_kept new.findings ≡ lines_kept old.findings
   pub ends_stay : ends new.findings ≡ ends old.findings
   pub refused_stays : is_refused new.findings ≡ is_refused old.findings
 
@@ -76,7 +72,7 @@ pub record SaysElse (old new : Notes) : Type 0 where
 -- one finding is added: reading ends at this line
 pub record Ends (line : ℕ) (old new : Notes) : Type 0 where
   pub ends_are : ends new.findings ≡ ends old.findings ++ line ∷ []
-  pub kept_stay : kept new.findings ≡ kept old.findings
+  pub kept_stay : lines_kept new.findings ≡ lines_kept old.findings
   pub refused_stays : is_refused new.findings ≡ is_refused old.findings
   pub last_stays : new.last ≡ old.last
 
@@ -86,18 +82,18 @@ kept_numbers text sdp = kept_at (kept_flags sdp) (attribute_numbers 1 (lines_of 
 
 -- of a text that is read so, with this rest, findings are added of the lines that are kept unread, and of the end where there is a rest; where
 -- there is none, some line is said to be printed otherwise exactly where the lines don't say what is printed
-pub record Tells (text : List ℕ) (sdp : Sdp) (rest : List ℕ) (old new : Notes) : Type 0 where
-  pub kept_are : kept new.findings ≡ kept old.findings ++ kept_numbers text sdp
+pub record TellsUnread (text : List ℕ) (sdp : Sdp) (rest : List ℕ) (old new : Notes) : Type 0 where
+  pub kept_are : lines_kept new.findings ≡ lines_kept old.findings ++ kept_numbers text sdp
   pub ends_are : ends new.findings ≡ ends old.findings ++ unread_lines text rest
   pub refused_stays : is_refused new.findings ≡ is_refused old.findings
-  pub changed : rest ≡ [] → is_changed old.findings ≡ false → (is_changed new.findings ≡ false) ↔ (told text ≡ told (sdp_text sdp))
+  pub changed : rest ≡ [] → is_changed old.findings ≡ false → (is_changed new.findings ≡ false) ↔ (told_of text ≡ told_of (sdp_text sdp))
   pub last_stays : new.last ≡ old.last
 
 -- what is said of a line, by the attributes that were left before it and those that are left after it: the numbers of lines that are kept
 -- unread begin with the line's own, if it is one
 pub record NotesLine (number : ℕ) (content : List ℕ) (left more : List Mark) (old new : Notes) : Type 0 where
   pub own : List ℕ
-  pub keeps : Keeps own old new
+  pub keeps : KeepsUnread own old new
   pub rest_are : (ending : List ℕ) (lines : List Line)
       → kept_at (map is_unread left) (attribute_numbers number (record { content = content; ending = ending } ∷ lines))
       ≡ own ++ kept_at (map is_unread more) (attribute_numbers (number + 1) lines)
@@ -117,5 +113,5 @@ IsNoWant Memory = ⊥
 pub record AreFindingsOf (text : List ℕ) (findings : List Finding) : Type 0 where
   pub refused : (is_refused findings ≡ true) ↔ ((v : Sdp × List ℕ) → Reading text v → ⊥)
   pub unread : (sdp : Sdp) (rest : List ℕ) → Reading text (sdp, rest) → ends findings ≡ unread_lines text rest
-  pub kept_are : (sdp : Sdp) (rest : List ℕ) → Reading text (sdp, rest) → kept findings ≡ kept_numbers text sdp
+  pub kept_are : (sdp : Sdp) (rest : List ℕ) → Reading text (sdp, rest) → lines_kept findings ≡ kept_numbers text sdp
   pub silent : AreSilent findings ↔ NothingLost text

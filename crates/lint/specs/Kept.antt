@@ -1,14 +1,12 @@
 -- The attribute lines that are kept unread.
-use Rattle.std.specs.Prelude.{ℕ, Bool, true, false, List, [], ◌∷◌, ◌++◌, map}
-use Rattle.std.specs.List.{flat_map}
+use Rattle.lint.specs.Prelude.{MediaLine, Sdp}
+use Rattle.lint.specs.declared.mark.Mark.{Mark}
+use Rattle.lint.specs.declared.mark.Mark.TheVariants.{Kept}
+use Rattle.std.specs.Prelude.{ℕ, Bool, true, false, List, [], ◌∷◌, ◌++◌, map, flat_map}
 use Rattle.str0m_sdp.specs.declared.attribute.MediaAttribute.{MediaAttribute}
 use Rattle.str0m_sdp.specs.declared.attribute.MediaAttribute.TheVariants as media
 use Rattle.str0m_sdp.specs.declared.attribute.SessionAttribute.{SessionAttribute}
 use Rattle.str0m_sdp.specs.declared.attribute.SessionAttribute.TheVariants as session
-use Rattle.str0m_sdp.specs.declared.media_line.MediaLine.{MediaLine}
-use Rattle.str0m_sdp.specs.declared.session.Sdp.{Sdp}
-use Rattle.lint.specs.declared.mark.Mark.{Mark}
-use Rattle.lint.specs.declared.mark.Mark.TheVariants.{Kept}
 
 abbrev pub is_unread_of_session : SessionAttribute → Bool
 is_unread_of_session (session.Unused text) = true

@@ -3,5 +3,5 @@ pub mod Fates
 pub mod Findings
 pub mod Kept
 pub mod Lines
+pub mod Prelude
 pub mod Told
-pub mod Within

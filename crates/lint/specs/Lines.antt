@@ -1,9 +1,8 @@
 -- The lines of a text as the findings number them.
-use Rattle.std.specs.Prelude.{◌≡◌, ◌⊎◌, ◌+◌, ◌-◌, ◌≤◌, ℕ, Bool, List, [], ◌∷◌, ◌++◌, Option, Some, None, codes, length, max, if◌then◌else◌, is_some}
+use Rattle.lint.specs.Prelude.{EndsIn, Line, lines_of, strip}
+use Rattle.lint.specs.declared.finding.Finding.{Finding}
 use Rattle.std.specs.Borrow.{Bor}
-use Rattle.str0m_values.specs.Cuts.{strip}
-use Rattle.str0m_signal.specs.Lines.{Line, EndsIn}
-use Rattle.str0m_signal.specs.LineReading.{lines_of}
+use Rattle.std.specs.Prelude.{◌≡◌, ◌⊎◌, ◌+◌, ◌-◌, ◌≤◌, ℕ, Bool, List, [], ◌∷◌, ◌++◌, Option, Some, None, codes, length, max, if◌then◌else◌, is_some}
 
 -- the line without the carriage return that ends it, if one does
 abbrev pub IsWithoutReturn : List ℕ → List ℕ → Type 0
@@ -21,6 +20,10 @@ last_line text = max 1 (length (lines_of text))
 -- the number of a line, counted from 1
 abbrev pub IsNumbered : ℕ → ℕ → Type 0
 IsNumbered last n = (1 ≤ n) × (n ≤ last)
+
+-- the finding names a line of its text
+abbrev pub IsWithinLines : ℕ → Finding → Type 0
+IsWithinLines last finding = IsNumbered last finding.line
 
 -- an attribute line begins with `a=` (RFC 8866, section 5.13)
 abbrev pub begins_attribute : List ℕ → Bool

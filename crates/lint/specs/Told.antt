@@ -1,14 +1,8 @@
 -- What the lines of a text say, but for what printing fixes.
-use Rattle.std.specs.Prelude.{◌≡◌, ℕ, Bool, false, List, [], ◌∷◌, Option, Some, None, codes, is_some, if◌then◌else◌}
-use Rattle.std.specs.Str.{bytes_eq}
-use Rattle.str0m_values.specs.Cuts.{cut, strip, ◌>>=◌}
-use Rattle.str0m_sdp.specs.declared.session.Sdp.{Sdp}
-use Rattle.str0m_sdp.specs.Session.{sdp_text}
-use Rattle.str0m_signal.specs.Lines.{Line}
-use Rattle.str0m_signal.specs.LineReading.{lines_of}
-use Rattle.str0m_signal.specs.Reading.{Reading}
+use Rattle.lint.specs.Prelude.{Line, Reading, Sdp, cut, lines_of, sdp_text, strip, ◌>>=◌}
 use Rattle.lint.specs.declared.told.Next.{Next}
 use Rattle.lint.specs.declared.told.Told.{Told as Shown}
+use Rattle.std.specs.Prelude.{◌≡◌, ℕ, Bool, false, List, [], ◌∷◌, Option, Some, None, codes, is_some, if◌then◌else◌, bytes_eq}
 
 -- of an m-line its type with `m=`, whether its port is 0, and what stands after the port; of another line the whole of it
 pub record Told : Type 0 where
@@ -42,18 +36,18 @@ lines_told (line ∷ lines) =
     if is_some (strip (codes "c=") line.content) then lines_told lines else line_told line.content ∷ lines_told lines
 
 -- what the lines of a text say, in order
-abbrev pub told : List ℕ → List Told
-told text = lines_told (lines_of text)
+abbrev pub told_of : List ℕ → List Told
+told_of text = lines_told (lines_of text)
 
 -- nothing is lost of a text: it is read to its end, and its lines say what is printed of it
 abbrev pub NothingLost : List ℕ → Type 0
-NothingLost text = (sdp : Sdp) × Reading text (sdp, []) × (told text ≡ told (sdp_text sdp))
+NothingLost text = (sdp : Sdp) × Reading text (sdp, []) × (told_of text ≡ told_of (sdp_text sdp))
 
 -- what the private record of the code says
-abbrev pub shown : Shown → Told
-shown line = record { kind = line.kind.now; stopped = line.stopped; rest = line.rest.now }
+abbrev pub shown_told : Shown → Told
+shown_told line = record { kind = line.kind.now; stopped = line.stopped; rest = line.rest.now }
 
 -- no line of the text is told; or this one is the first, and the text after it is left
 abbrev pub NextTold : List ℕ → Option Next → Type 0
-NextTold text None = told text ≡ []
-NextTold text (Some next) = told text ≡ shown next.line ∷ told next.rest.now
+NextTold text None = told_of text ≡ []
+NextTold text (Some next) = told_of text ≡ shown_told next.line ∷ told_of next.rest.now

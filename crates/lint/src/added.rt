@@ -1,6 +1,6 @@
 //! Findings that are added to the others, and whether there is one of a kind.
-ghost use Rattle.std.specs.Prelude.{◌≡◌, OnOk};
 ghost use Rattle.lint.specs.Findings.{AddsOne, is_changed};
+ghost use Rattle.std.specs.Prelude.{◌≡◌, OnOk};
 
 use crate::code::Code;
 use crate::finding::Finding;
@@ -17,8 +17,8 @@ impl Notes {
         ensures one { OnOk result (AddsOne place.line code self.old self.new) }
         ensures last { self.new.last ≡ self.old.last }
     {
-        let row = code.row();
-        let (title, remedy) = (row.title, row.remedy);
+        let entry = code.entry();
+        let (title, remedy) = (entry.title, entry.remedy);
         let colon = if detail.is_empty() { "" } else { ": " };
         let sentence = format!(in self.alloc; "{title}{colon}{detail}; {remedy}")?;
         let finding = Finding {

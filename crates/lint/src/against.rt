@@ -1,15 +1,11 @@
 //! What would come of a text in rounds of negotiation, line by line.
-ghost use Rattle.std.specs.Prelude.{◌≡◌, ℕ, List, [], All, IfOk, OnOk, map};
-ghost use Rattle.str0m_formats.specs.declared.payload_params.PayloadParams.{PayloadParams};
-ghost use Rattle.str0m_sdp.specs.declared.session.Sdp.{Sdp};
-ghost use Rattle.str0m_signal.specs.Answers.{AtMostOne};
-ghost use Rattle.str0m_signal.specs.Reading.{Reading};
 ghost use Rattle.lint.specs.Fates.{AddsFates, RoundsSay, SaysRounds, codes};
 ghost use Rattle.lint.specs.Findings.{ReadsAs};
-ghost use Rattle.lint.specs.Lines.{last_line};
-ghost use Rattle.lint.specs.Within.{IsWithin};
+ghost use Rattle.lint.specs.Lines.{IsWithinLines, last_line};
+ghost use Rattle.lint.specs.Prelude.{AtMostOne, PayloadParams, Reading, Sdp};
 ghost use Rattle.lint.specs.declared.code.Code.TheVariants.{Round};
 ghost use Rattle.lint.specs.declared.code.Fate.{Fate};
+ghost use Rattle.std.specs.Prelude.{◌≡◌, ℕ, List, [], All, IfOk, OnOk, map};
 
 use crate::finding::Report;
 use crate::found::read;
@@ -21,7 +17,7 @@ use str0m_formats::CodecConfig;
 use str0m_sdp::Sdp;
 
 /// Says what comes of the rounds with a description that is read of a text.
-fn note_described(
+fn note_outcomes(
     notes: &mut Notes,
     text: &str,
     sdp: &Sdp,
@@ -36,7 +32,7 @@ fn note_described(
 }
 
 /// Says what comes of the rounds with a text by what was read of it.
-fn note_found(
+fn note_reading(
     notes: &mut Notes,
     text: &str,
     found: Option<(Sdp, &str)>,
@@ -47,7 +43,7 @@ fn note_found(
     ensures last { notes.new.last ≡ notes.old.last }
 {
     match found {
-        Some((sdp, _)) => note_described(notes, text, &sdp, ours),
+        Some((sdp, _)) => note_outcomes(notes, text, &sdp, ours),
         None => Ok(()),
     }
 }
@@ -61,7 +57,7 @@ fn note_found(
 ///
 /// The only error is that memory was refused.
 pub fn rounds(alloc: Global, text: &str, ours: &CodecConfig) -> Result<Report, AllocError>
-    ensures numbered { IfOk result (λ report. All (IsWithin (last_line text.now)) report.findings) }
+    ensures numbered { IfOk result (λ report. All (IsWithinLines (last_line text.now)) report.findings) }
     ensures refused { IfOk result (λ report. ((v : Sdp × List ℕ) → Reading text.now v → ⊥) → report.findings ≡ []) }
     ensures said { IfOk result (λ report. (sdp : Sdp) (rest : List ℕ) → Reading text.now (sdp, rest)
         → (fates : List Fate) × (codes report.findings ≡ map Round fates)
@@ -69,7 +65,7 @@ pub fn rounds(alloc: Global, text: &str, ours: &CodecConfig) -> Result<Report, A
 {
     let mut notes = Notes::new(alloc, line_count(text));
     let found = read(alloc, text)?;
-    note_found(&mut notes, text, found, ours)?;
+    note_reading(&mut notes, text, found, ours)?;
     let findings = notes.into_findings();
     Ok(Report { findings })
 }

@@ -1,9 +1,9 @@
 //! What is found on attribute lines.
-ghost use Rattle.std.specs.Prelude.{◌≡◌, ◌+◌, ◌≤◌, IfOk, OnOk, [], ◌∷◌, length, map, if◌then◌else◌};
-ghost use Rattle.str0m_signal.specs.LineReading.{lines_of};
-ghost use Rattle.lint.specs.Findings.{Keeps, NotesLine};
+ghost use Rattle.lint.specs.Findings.{KeepsUnread, NotesLine};
 ghost use Rattle.lint.specs.Kept.{is_unread, kept_at};
 ghost use Rattle.lint.specs.Lines.{IsNumbered, attribute_numbers};
+ghost use Rattle.lint.specs.Prelude.{lines_of};
+ghost use Rattle.std.specs.Prelude.{◌≡◌, ◌+◌, ◌≤◌, IfOk, OnOk, [], ◌∷◌, length, map, if◌then◌else◌};
 
 use crate::code::Code;
 use crate::kept::why_kept;
@@ -23,7 +23,7 @@ fn note_attribute(
     mark: Mark,
 ) -> Result<(), AllocError>
     ensures keeps { IsNumbered notes.old.last number
-        → OnOk result (Keeps (if is_unread mark then number ∷ [] else []) notes.old notes.new) }
+        → OnOk result (KeepsUnread (if is_unread mark then number ∷ [] else []) notes.old notes.new) }
     ensures last { notes.new.last ≡ notes.old.last }
 {
     match mark {
@@ -69,7 +69,7 @@ pub(crate) fn note_attributes(
     marks: &[Mark],
 ) -> Result<(), AllocError>
     ensures keeps { before + length (lines_of text.now) ≤ notes.old.last
-        → OnOk result (Keeps (kept_at (map is_unread marks.now) (attribute_numbers (before + 1) (lines_of text.now))) notes.old notes.new) }
+        → OnOk result (KeepsUnread (kept_at (map is_unread marks.now) (attribute_numbers (before + 1) (lines_of text.now))) notes.old notes.new) }
     ensures last { notes.new.last ≡ notes.old.last }
 {
     let mut left = marks;

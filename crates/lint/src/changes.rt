@@ -1,7 +1,7 @@
 //! Lines that are printed otherwise than they stand.
-ghost use Rattle.std.specs.Prelude.{◌≡◌, ◌↔◌, OnOk, false, true};
 ghost use Rattle.lint.specs.Findings.{OnlyChanges, is_changed};
-ghost use Rattle.lint.specs.Told.{told};
+ghost use Rattle.lint.specs.Told.{told_of};
+ghost use Rattle.std.specs.Prelude.{◌≡◌, ◌↔◌, OnOk, false, true};
 
 use crate::code::{Change, Code};
 use crate::fork::{fork, is_respelled};
@@ -63,7 +63,7 @@ fn note_change(
 }
 
 /// Says what is lost of an attribute line, the next of those that are left. Returns what is left then.
-fn note_attribute<'a>(
+fn note_lost_attribute<'a>(
     notes: &mut Notes,
     number: usize,
     line: &str,
@@ -126,7 +126,7 @@ fn note_media<'a>(
 }
 
 /// Says what is lost of a line. Returns what is left then.
-fn note_line<'a>(
+fn note_lost<'a>(
     notes: &mut Notes,
     number: usize,
     line: &str,
@@ -136,7 +136,7 @@ fn note_line<'a>(
     ensures last { notes.new.last ≡ notes.old.last }
 {
     match line.get(..2) {
-        Some("a=") => note_attribute(notes, number, line, left),
+        Some("a=") => note_lost_attribute(notes, number, line, left),
         Some("m=") => note_media(notes, number, line, left),
         Some("i=" | "u=" | "e=" | "p=" | "z=" | "k=") => {
             note_change(notes, number, line, (line, ""), Change::HeaderLine)?;
@@ -162,7 +162,7 @@ pub(crate) fn note_printed(
     let mut passed = before;
     while let Some((line, after)) = next_line(rest) {
         passed = passed.saturating_add(1);
-        left = note_line(notes, passed, line, left)?;
+        left = note_lost(notes, passed, line, left)?;
         rest = after;
     }
     Ok(())
@@ -193,7 +193,7 @@ pub(crate) fn note_changes(
 ) -> Result<(), AllocError>
     ensures only { OnOk result (OnlyChanges notes.old notes.new) }
     ensures changed { is_changed notes.old.findings ≡ false
-        → OnOk result ((is_changed notes.new.findings ≡ false) ↔ (told text.now ≡ told printed.now)) }
+        → OnOk result ((is_changed notes.new.findings ≡ false) ↔ (told_of text.now ≡ told_of printed.now)) }
     ensures last { notes.new.last ≡ notes.old.last }
 {
     let Some(first) = first_change(text, printed) else {

@@ -1,9 +1,9 @@
 //! The codes of findings: what is wrong, by kind.
-ghost use Rattle.std.specs.Prelude.{◌≡◌};
 ghost use Rattle.lint.specs.Code.{is_change, severity_of, severity_of_change, severity_of_fate, severity_word};
+ghost use Rattle.std.specs.Prelude.{◌≡◌};
 
-use crate::rows;
-use crate::rows::Row;
+use crate::table;
+use crate::table::Entry;
 
 /// How much a finding matters.
 #[derive(Clone, Copy, Debug, PartialEq, Eq)]
@@ -278,17 +278,17 @@ impl Code {
         matches!(self, Code::Changed(_))
     }
 
-    /// The row of the table of codes: name, title, remedy, explanation, source and example.
-    pub fn row(self) -> &'static Row {
+    /// The entry of the table of codes: name, title, remedy, explanation, source and example.
+    pub fn entry(self) -> &'static Entry {
         match self {
-            Code::Refused(refusal) => &rows::REFUSALS[refusal as usize],
-            Code::Unread(unfit) => &rows::UNFITS[unfit as usize],
-            Code::Malformed(misfit) => &rows::MISFITS[misfit as usize],
-            Code::Unknown(unknown) => &rows::UNKNOWNS[unknown as usize],
-            Code::Unseen(unseen) => &rows::UNSEENS[unseen as usize],
-            Code::Changed(change) => &rows::CHANGES[change as usize],
-            Code::Contradiction(conflict) => &rows::CONFLICTS[conflict as usize],
-            Code::Round(fate) => &rows::FATES[fate as usize],
+            Code::Refused(refusal) => &table::REFUSALS[refusal as usize],
+            Code::Unread(unfit) => &table::UNFITS[unfit as usize],
+            Code::Malformed(misfit) => &table::MISFITS[misfit as usize],
+            Code::Unknown(unknown) => &table::UNKNOWNS[unknown as usize],
+            Code::Unseen(unseen) => &table::UNSEENS[unseen as usize],
+            Code::Changed(change) => &table::CHANGES[change as usize],
+            Code::Contradiction(conflict) => &table::CONFLICTS[conflict as usize],
+            Code::Round(fate) => &table::FATES[fate as usize],
         }
     }
 }

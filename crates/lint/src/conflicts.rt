@@ -1,6 +1,6 @@
 //! What lines of a description say against each other.
-ghost use Rattle.std.specs.Prelude.{◌≡◌, OnOk};
 ghost use Rattle.lint.specs.Findings.{SaysElse};
+ghost use Rattle.std.specs.Prelude.{◌≡◌, OnOk};
 
 use crate::code::{Code, Conflict};
 use crate::groups::{note_grouping, note_groups};
@@ -83,7 +83,7 @@ fn note_type(notes: &mut Notes, number: usize, conflict: Conflict, pt: Pt) -> Re
 /// What the lines of a section are looked at with: the numbers of its m-line and of the lines of its attributes, and whether rows may be
 /// written into it and into another one.
 #[derive(Clone, Copy)]
-struct Section<'a> {
+struct SectionLines<'a> {
     line: &'a MediaLine,
     numbers: &'a [usize],
     some_take_rows: bool,
@@ -91,7 +91,11 @@ struct Section<'a> {
 }
 
 /// Says what an m-line says against the lines of its section.
-fn note_head(notes: &mut Notes, section: Section<'_>, types: &Types<'_>) -> Result<(), AllocError>
+fn note_head(
+    notes: &mut Notes,
+    section: SectionLines<'_>,
+    types: &Types<'_>,
+) -> Result<(), AllocError>
     ensures others { OnOk result (SaysElse notes.old notes.new) }
     ensures last { notes.new.last ≡ notes.old.last }
 {
@@ -111,7 +115,7 @@ fn note_head(notes: &mut Notes, section: Section<'_>, types: &Types<'_>) -> Resu
 }
 
 /// Says what a line of a section says against the others.
-fn note_attribute(
+fn note_line_conflict(
     notes: &mut Notes,
     number: usize,
     types: &Types<'_>,
@@ -147,7 +151,7 @@ fn note_stream(
 }
 
 /// Says what the lines of a section say against each other.
-fn note_section(notes: &mut Notes, section: Section<'_>) -> Result<(), AllocError>
+fn note_section(notes: &mut Notes, section: SectionLines<'_>) -> Result<(), AllocError>
     ensures others { OnOk result (SaysElse notes.old notes.new) }
     ensures last { notes.new.last ≡ notes.old.last }
 {
@@ -156,7 +160,7 @@ fn note_section(notes: &mut Notes, section: Section<'_>) -> Result<(), AllocErro
     let numbers = behind(section.numbers, 1);
     for (i, attribute) in section.line.attrs.as_slice().iter().enumerate() {
         let number = number_at(numbers, i);
-        note_attribute(notes, number, &types, attribute)?;
+        note_line_conflict(notes, number, &types, attribute)?;
         if section.some_take_rows {
             note_stream(notes, number, attribute)?;
         }
@@ -201,7 +205,7 @@ fn note_sections(
                 note_mid(notes, number, Conflict::RepeatedMid, *mid)?;
             }
         }
-        let section = Section {
+        let section = SectionLines {
             line,
             numbers,
             some_take_rows: taking > 0,

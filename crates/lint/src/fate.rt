@@ -1,7 +1,8 @@
 //! What comes of a row of the other side in a round.
-ghost use Rattle.std.specs.Prelude.{◌≡◌, IfOk, length};
+ghost use Rattle.lint.specs.Fates.{ArePartners, IsPartner, accepted_fate, fate, fits_some, fitting_fate, has_codec, has_type, blocks, is_type_taken};
 ghost use Rattle.std.specs.List.{list_any};
-ghost use Rattle.lint.specs.Fates.{ArePartners, IsPartner, accepted_fate, fate, fits, fitting_fate, has_codec, has_type, holds, is_taken, is_type};
+ghost use Rattle.std.specs.Prelude.{◌≡◌, IfOk, length};
+ghost use Rattle.str0m_sdp.specs.section.Companions.{is_type};
 
 use crate::code::Fate;
 use std::alloc::{AllocError, Global};
@@ -20,8 +21,8 @@ pub(crate) struct Ran<'a> {
 }
 
 /// Whether a row of these fits.
-fn fits(rows: &[PayloadParams], theirs: &PayloadParams) -> bool
-    ensures { result ≡ fits rows.now theirs.now }
+fn fits_some(rows: &[PayloadParams], theirs: &PayloadParams) -> bool
+    ensures { result ≡ fits_some rows.now theirs.now }
 {
     rows.iter().any(|row| row.match_score(theirs).is_some())
 }
@@ -51,18 +52,18 @@ pub(crate) fn has_type(row: &PayloadParams, pt: Pt) -> bool
 }
 
 /// Whether a row is locked, doesn't fit, and has the type.
-#[tactic(auto, unfolding(crate::specs::Fates::holds))]
-fn holds(row: &PayloadParams, theirs: &PayloadParams) -> bool
-    ensures { result ≡ holds theirs.now row.now }
+#[tactic(auto, unfolding(crate::specs::Fates::blocks))]
+fn blocks(row: &PayloadParams, theirs: &PayloadParams) -> bool
+    ensures { result ≡ blocks theirs.now row.now }
 {
     row.locked() && has_type(row, theirs.pt()) && row.match_score(theirs).is_none()
 }
 
 /// Whether a locked row that doesn't fit this one has its type.
 fn is_held(rows: &[PayloadParams], theirs: &PayloadParams) -> bool
-    ensures { result ≡ list_any (holds theirs.now) rows.now }
+    ensures { result ≡ list_any (blocks theirs.now) rows.now }
 {
-    rows.iter().any(|row| holds(row, theirs))
+    rows.iter().any(|row| blocks(row, theirs))
 }
 
 /// Whether a row goes with that of this type.
@@ -105,7 +106,7 @@ impl<'a> Ran<'a> {
 
     /// Whether the other side receives, and a locked row that doesn't fit this one has its type.
     fn is_taken(&self, theirs: &PayloadParams) -> bool
-        ensures { result ≡ is_taken self.now.receives self.now.after.now theirs.now }
+        ensures { result ≡ is_type_taken self.now.receives self.now.after.now theirs.now }
     {
         self.receives && is_held(self.after, theirs)
     }
@@ -144,7 +145,7 @@ impl<'a> Ran<'a> {
     pub(crate) fn fate(&self, partners: &[Option<Pt>], theirs: &PayloadParams) -> Option<Fate>
         ensures { result ≡ fate self.now.before.now self.now.receives self.now.after.now self.now.outcome partners.now theirs.now }
     {
-        if fits(self.before, theirs) {
+        if fits_some(self.before, theirs) {
             self.fitting(partners, theirs)
         } else if has_codec(self.before, theirs.spec().codec) {
             Some(Fate::OtherFormat)

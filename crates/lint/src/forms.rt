@@ -194,7 +194,7 @@ fn is_name(text: &str) -> bool {
 }
 
 /// What is said where the part isn't of this kind.
-fn fault(is: bool, misfit: Misfit) -> Option<Misfit> {
+fn misfit_unless(is: bool, misfit: Misfit) -> Option<Misfit> {
     if is { None } else { Some(misfit) }
 }
 
@@ -211,25 +211,28 @@ impl Kind {
             Kind::Text | Kind::Any => None,
             Kind::PayloadType => match text {
                 "*" => Some(Misfit::AllTypes),
-                _ => fault(num_u8(text, 127).is_some(), Misfit::PayloadType),
+                _ => misfit_unless(num_u8(text, 127).is_some(), Misfit::PayloadType),
             },
-            Kind::Extension => fault(
+            Kind::Extension => misfit_unless(
                 num_u8(before(text, Separator::Slash), 255).is_some(),
                 Misfit::Number,
             ),
-            Kind::Channels => fault(num_u8(text, 255).is_some(), Misfit::Number),
-            Kind::Port => fault(num_u16(text).is_some(), Misfit::Number),
-            Kind::Number => fault(num_u32(text).is_some(), Misfit::Number),
-            Kind::Size => fault(text.parse::<u64>().is_ok(), Misfit::Number),
+            Kind::Channels => misfit_unless(num_u8(text, 255).is_some(), Misfit::Number),
+            Kind::Port => misfit_unless(num_u16(text).is_some(), Misfit::Number),
+            Kind::Number => misfit_unless(num_u32(text).is_some(), Misfit::Number),
+            Kind::Size => misfit_unless(text.parse::<u64>().is_ok(), Misfit::Number),
             Kind::Rate => match num_u32(text) {
-                Some(rate) => fault(rate > 0, Misfit::ClockRate),
+                Some(rate) => misfit_unless(rate > 0, Misfit::ClockRate),
                 None => Some(Misfit::ClockRate),
             },
-            Kind::Address => fault(IpAddr::from_text(text).is_some(), Misfit::HostName),
-            Kind::Role => fault(case_of(&SETUPS, text).is_some(), Misfit::Role),
-            Kind::Name => fault(is_name(text), Misfit::StreamName),
-            Kind::Direction => fault(text == "send" || text == "recv", Misfit::StreamDirection),
-            Kind::HexPair => fault(text.len() == 2 && hex_u8(text).is_some(), Misfit::Hash),
+            Kind::Address => misfit_unless(IpAddr::from_text(text).is_some(), Misfit::HostName),
+            Kind::Role => misfit_unless(case_of(&SETUPS, text).is_some(), Misfit::Role),
+            Kind::Name => misfit_unless(is_name(text), Misfit::StreamName),
+            Kind::Direction => misfit_unless(
+                text == "send" || text == "recv",
+                Misfit::StreamDirection,
+            ),
+            Kind::HexPair => misfit_unless(text.len() == 2 && hex_u8(text).is_some(), Misfit::Hash),
         }
     }
 }

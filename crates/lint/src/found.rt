@@ -1,14 +1,10 @@
 //! What a text loses, and why it is refused, line by line.
-ghost use Rattle.std.specs.Prelude.{◌≡◌, ◌↔◌, ℕ, List, [], true, All, IfOk, OnOk};
-ghost use Rattle.str0m_sdp.specs.declared.session.Sdp.{Sdp};
-ghost use Rattle.str0m_signal.specs.Answers.{AtMostOne};
-ghost use Rattle.str0m_signal.specs.LineReading.{lines_of};
-ghost use Rattle.str0m_signal.specs.Reading.{Reading};
-ghost use Rattle.lint.specs.Findings.{AreFindingsOf, AreSilent, IsNoWant, ReadsAs, Tells, ends, kept, is_refused};
-ghost use Rattle.lint.specs.Within.{IsWithin};
+ghost use Rattle.lint.specs.Findings.{AreFindingsOf, AreSilent, IsNoWant, ReadsAs, TellsUnread, ends, lines_kept, is_refused};
 ghost use Rattle.lint.specs.Kept.{kept_at, kept_flags};
-ghost use Rattle.lint.specs.Lines.{attribute_numbers, last_line, unread_lines};
+ghost use Rattle.lint.specs.Lines.{IsWithinLines, attribute_numbers, last_line, unread_lines};
+ghost use Rattle.lint.specs.Prelude.{AtMostOne, Reading, Sdp, lines_of};
 ghost use Rattle.lint.specs.Told.{NothingLost};
+ghost use Rattle.std.specs.Prelude.{◌≡◌, ◌↔◌, ℕ, List, [], true, All, IfOk, OnOk};
 
 use crate::attribute_lines::note_attributes;
 use crate::changes::note_changes;
@@ -25,7 +21,7 @@ use str0m_signal::sdp_parser;
 
 /// Says what is lost of a text that is read so, with this rest.
 fn note_read(notes: &mut Notes, text: &str, sdp: &Sdp, rest: &str) -> Result<(), AllocError>
-    ensures tells { notes.old.last ≡ last_line text.now → OnOk result (Tells text.now sdp.now rest.now notes.old notes.new) }
+    ensures tells { notes.old.last ≡ last_line text.now → OnOk result (TellsUnread text.now sdp.now rest.now notes.old notes.new) }
     ensures last { notes.new.last ≡ notes.old.last }
 {
     let marks = all_marks(notes.alloc(), sdp)?;
@@ -46,7 +42,7 @@ fn note_read(notes: &mut Notes, text: &str, sdp: &Sdp, rest: &str) -> Result<(),
 
 /// Says what there is to be said of a text that is read so, with this rest.
 fn note_described(notes: &mut Notes, text: &str, sdp: &Sdp, rest: &str) -> Result<(), AllocError>
-    ensures tells { notes.old.last ≡ last_line text.now → OnOk result (Tells text.now sdp.now rest.now notes.old notes.new) }
+    ensures tells { notes.old.last ≡ last_line text.now → OnOk result (TellsUnread text.now sdp.now rest.now notes.old notes.new) }
     ensures last { notes.new.last ≡ notes.old.last }
 {
     note_read(notes, text, sdp, rest)?;
@@ -104,11 +100,11 @@ fn note_found(notes: &mut Notes, text: &str, found: Option<(Sdp, &str)>) -> Resu
 ///
 /// The only error is that memory was refused.
 pub fn findings(alloc: Global, text: &str) -> Result<Report, AllocError>
-    ensures numbered { IfOk result (λ report. All (IsWithin (last_line text.now)) report.findings) }
+    ensures numbered { IfOk result (λ report. All (IsWithinLines (last_line text.now)) report.findings) }
     ensures refused { IfOk result (λ report. (is_refused report.findings ≡ true) ↔ ((v : Sdp × List ℕ) → Reading text.now v → ⊥)) }
     ensures unread { IfOk result (λ report. (sdp : Sdp) (rest : List ℕ) → Reading text.now (sdp, rest) → ends report.findings ≡ unread_lines text.now rest) }
     ensures kept { IfOk result (λ report. (sdp : Sdp) (rest : List ℕ) → Reading text.now (sdp, rest)
-        → kept report.findings ≡ kept_at (kept_flags sdp) (attribute_numbers 1 (lines_of text.now))) }
+        → lines_kept report.findings ≡ kept_at (kept_flags sdp) (attribute_numbers 1 (lines_of text.now))) }
     ensures silent { IfOk result (λ report. AreSilent report.findings ↔ NothingLost text.now) }
 {
     let mut notes = Notes::new(alloc, line_count(text));

@@ -1,6 +1,6 @@
 //! What the groups of a session say against its sections.
-ghost use Rattle.std.specs.Prelude.{◌≡◌, OnOk};
 ghost use Rattle.lint.specs.Findings.{SaysElse};
+ghost use Rattle.std.specs.Prelude.{◌≡◌, OnOk};
 
 use crate::code::Conflict;
 use crate::conflicts::{note_conflict, note_mid, number_at};
@@ -61,8 +61,8 @@ fn first_group(attributes: &[SessionAttribute]) -> Option<(usize, &[Mid])> {
     None
 }
 
-/// What the description's sections say against each other and the first group, in the words of `assert_consistency`.
-fn fault(sdp: &Sdp) -> Result<Option<String>, AllocError> {
+/// What the description's sections say against each other and the first group, as `assert_consistency` has it.
+fn group_fault(sdp: &Sdp) -> Result<Option<String>, AllocError> {
     match sdp.assert_consistency() {
         Ok(()) => Ok(None),
         Err(SdpError::Memory) => Err(AllocError),
@@ -76,7 +76,7 @@ fn note_listing(notes: &mut Notes, number: usize, sdp: &Sdp) -> Result<(), Alloc
     ensures others { OnOk result (SaysElse notes.old notes.new) }
     ensures last { notes.new.last ≡ notes.old.last }
 {
-    match fault(sdp)? {
+    match group_fault(sdp)? {
         Some(message) => note_conflict(notes, number, Conflict::OtherGroup, message.as_str()),
         None => Ok(()),
     }

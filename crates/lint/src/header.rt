@@ -1,6 +1,6 @@
 //! Which line of a header is at fault.
-ghost use Rattle.std.specs.Prelude.{◌≡◌, true, OnOk};
 ghost use Rattle.lint.specs.Findings.{is_refused};
+ghost use Rattle.std.specs.Prelude.{◌≡◌, true, OnOk};
 
 use crate::code::{Code, Refusal};
 use crate::fields::{is_bandwidth, is_field, is_info, is_origin};
@@ -25,7 +25,7 @@ fn first_characters(text: &str) -> Option<Refusal> {
 
 /// Which line of a header stands at a place.
 #[derive(Clone, Copy)]
-enum Step {
+enum HeaderLine {
     Version,
     Origin,
     Name,
@@ -33,15 +33,15 @@ enum Step {
     Timing,
 }
 
-impl Step {
+impl HeaderLine {
     /// The place after the line, where it is one that may stand at this place.
-    fn behind(self, line: &str) -> Option<Step> {
+    fn behind(self, line: &str) -> Option<HeaderLine> {
         match self {
-            Step::Version if line == "v=0" => Some(Step::Origin),
-            Step::Origin if is_origin(line) => Some(Step::Name),
-            Step::Name if is_field(line, "s=") => Some(Step::Fields),
-            Step::Fields if is_info(line) => Some(Step::Fields),
-            Step::Fields if is_bandwidth(line) => Some(Step::Timing),
+            HeaderLine::Version if line == "v=0" => Some(HeaderLine::Origin),
+            HeaderLine::Origin if is_origin(line) => Some(HeaderLine::Name),
+            HeaderLine::Name if is_field(line, "s=") => Some(HeaderLine::Fields),
+            HeaderLine::Fields if is_info(line) => Some(HeaderLine::Fields),
+            HeaderLine::Fields if is_bandwidth(line) => Some(HeaderLine::Timing),
             _ => None,
         }
     }
@@ -49,18 +49,18 @@ impl Step {
     /// What is said where another line stands there.
     fn refusal(self) -> Refusal {
         match self {
-            Step::Version => Refusal::Version,
-            Step::Origin => Refusal::Origin,
-            Step::Name => Refusal::Name,
-            Step::Fields | Step::Timing => Refusal::Timing,
+            HeaderLine::Version => Refusal::Version,
+            HeaderLine::Origin => Refusal::Origin,
+            HeaderLine::Name => Refusal::Name,
+            HeaderLine::Fields | HeaderLine::Timing => Refusal::Timing,
         }
     }
 }
 
 /// The first line that may not stand where it does: what is said of it, how many lines stand before it, and the line, if the text has
 /// it.
-fn fault(text: &str) -> (Refusal, usize, Option<&str>) {
-    let mut step = Step::Version;
+fn header_fault(text: &str) -> (Refusal, usize, Option<&str>) {
+    let mut step = HeaderLine::Version;
     let mut before = 0usize;
     let mut rest = text;
     while let Some((line, after)) = next_line(rest) {
@@ -95,7 +95,7 @@ pub(crate) fn note_header(notes: &mut Notes, text: &str) -> Result<(), AllocErro
         let place = Place { line: 1, column: 1 };
         return notes.add(place, Code::Refused(refusal), "");
     }
-    let (refusal, before, line) = fault(text);
+    let (refusal, before, line) = header_fault(text);
     let detail = standing(notes.alloc(), line)?;
     let place = Place {
         line: before.saturating_add(1),

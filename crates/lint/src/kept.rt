@@ -1,6 +1,6 @@
 //! Why attribute lines are kept unread.
+ghost use Rattle.lint.specs.Code.{is_unread_code};
 ghost use Rattle.std.specs.Prelude.{◌≡◌, true};
-ghost use Rattle.lint.specs.Code.{is_kept};
 
 use crate::code::{Code, Misfit, Unknown};
 use crate::forms::{Form, Level, name_of};
@@ -32,7 +32,7 @@ fn misfit<'a>(form: Form, text: &'a str) -> (Misfit, Part<'a>) {
 
 /// Why the text after `a=` is kept unread on this level.
 pub(crate) fn why_kept<'a>(level: Level, text: &'a str) -> Reason<'a>
-    ensures { is_kept result.code ≡ true }
+    ensures { is_unread_code result.code ≡ true }
 {
     let name = name_of(text);
     let named = Part {

@@ -1,7 +1,7 @@
 //! The lines of a text, and how many there are.
-ghost use Rattle.std.specs.Prelude.{◌≡◌, ◌<◌, IfSome, [], length};
-ghost use Rattle.str0m_signal.specs.LineReading.{lines_of};
 ghost use Rattle.lint.specs.Lines.{IsWithoutReturn, NextLine};
+ghost use Rattle.lint.specs.Prelude.{lines_of};
+ghost use Rattle.std.specs.Prelude.{◌≡◌, ◌<◌, IfSome, [], length};
 
 use str0m_values::Separator;
 use str0m_values::cuts::cut;

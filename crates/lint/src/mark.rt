@@ -1,6 +1,6 @@
 //! What is to be said of the attributes of a description, in the order of their lines.
-ghost use Rattle.std.specs.Prelude.{◌≡◌, ◌++◌, IfOk, OnOk, map};
 ghost use Rattle.lint.specs.Kept.{is_unread, is_unread_of_section, is_unread_of_session, kept_of_section, kept_of_session, kept_flags};
+ghost use Rattle.std.specs.Prelude.{◌≡◌, ◌++◌, IfOk, OnOk, map};
 
 use crate::code::{Change, Unseen};
 use crate::forms::Level;

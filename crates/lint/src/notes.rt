@@ -1,6 +1,6 @@
 //! The findings while they are gathered.
+ghost use Rattle.lint.specs.Lines.{IsWithinLines};
 ghost use Rattle.std.specs.Prelude.{◌≡◌, ◌<◌, ◌≤◌, ◌^◌, [], All, max};
-ghost use Rattle.lint.specs.Within.{IsWithin};
 
 use crate::finding::Finding;
 use std::alloc::Global;
@@ -14,7 +14,7 @@ pub(crate) struct Notes {
     pub(crate) findings: Items<Finding>,
     ghost some_line: { 1 ≤ last },
     ghost bounded: { last < 2 ^ 64 },
-    ghost within: { All (IsWithin last) findings },
+    ghost within: { All (IsWithinLines last) findings },
 }
 
 impl Notes {
@@ -37,7 +37,7 @@ impl Notes {
     /// The findings.
     pub(crate) fn into_findings(self) -> Items<Finding>
         ensures all { result ≡ self.findings }
-        ensures within { All (IsWithin self.last) result }
+        ensures within { All (IsWithinLines self.last) result }
     {
         let Notes {
             alloc: _,

@@ -1,6 +1,6 @@
 //! Why a text is refused.
-ghost use Rattle.std.specs.Prelude.{◌≡◌, true, OnOk};
 ghost use Rattle.lint.specs.Findings.{is_refused};
+ghost use Rattle.std.specs.Prelude.{◌≡◌, true, OnOk};
 
 use crate::attribute_lines::note_attributes;
 use crate::changes::note_printed;
@@ -40,7 +40,11 @@ fn note_inner_end(
 }
 
 /// Says what is at fault in a section after so many lines, whose attributes are said already.
-fn note_section(notes: &mut Notes, before: usize, section: &Section<'_>) -> Result<(), AllocError>
+fn note_refused_section(
+    notes: &mut Notes,
+    before: usize,
+    section: &Section<'_>,
+) -> Result<(), AllocError>
     ensures refused { OnOk result (is_refused notes.new.findings ≡ true) }
     ensures last { notes.new.last ≡ notes.old.last }
 {
@@ -74,7 +78,7 @@ fn note_lines(
 }
 
 /// Says which section of those that the text begins with contradicts itself, and what stands in it and those before it.
-fn note_sections(notes: &mut Notes, before: usize, text: &str) -> Result<(), AllocError>
+fn note_refused_sections(notes: &mut Notes, before: usize, text: &str) -> Result<(), AllocError>
     ensures refused { OnOk result (is_refused notes.new.findings ≡ true) }
     ensures last { notes.new.last ≡ notes.old.last }
 {
@@ -85,7 +89,7 @@ fn note_sections(notes: &mut Notes, before: usize, text: &str) -> Result<(), All
         let lead = before.saturating_add(found.lead);
         note_lines(notes, before, text_before(rest, found.rest), &found)?;
         if found.line.check_consistent()?.is_some() {
-            return note_section(notes, before, &found);
+            return note_refused_section(notes, before, &found);
         }
         before = lead.saturating_add(found.line.attrs.len());
         rest = found.rest;
@@ -117,7 +121,7 @@ pub(crate) fn note_refused(notes: &mut Notes, text: &str) -> Result<(), AllocErr
         Ok((session, rest)) => {
             note_session(notes, text_before(text, rest), &session)?;
             let before = line_count(text).saturating_sub(line_count(rest));
-            note_sections(notes, before, rest)
+            note_refused_sections(notes, before, rest)
         }
         Err(SdpError::Memory) => Err(AllocError),
         Err(_) => note_header(notes, text),

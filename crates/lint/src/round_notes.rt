@@ -1,7 +1,7 @@
 //! What is said of rounds.
-ghost use Rattle.std.specs.Prelude.{◌≡◌, Err, List, OnOk, Some, filter_map};
-ghost use Rattle.lint.specs.Fates.{AddsFates, RoundSays, RoundsSay, fate, refusal, some_of};
+ghost use Rattle.lint.specs.Fates.{AddsFates, RoundSays, RoundsSay, fate, refusal_fate, some_of};
 ghost use Rattle.lint.specs.declared.code.Fate.{Fate};
+ghost use Rattle.std.specs.Prelude.{◌≡◌, Err, List, OnOk, Some, filter_map};
 
 use crate::code::{Code, Fate};
 use crate::difference::nearest;
@@ -150,7 +150,7 @@ fn note_rows(
 
 /// Says that a round is refused for this cause.
 fn note_cause(notes: &mut Notes, line: usize, cause: NegotiationError) -> Result<(), AllocError>
-    ensures said { OnOk result (AddsFates (refusal (Err cause)) notes.old notes.new) }
+    ensures said { OnOk result (AddsFates (refusal_fate (Err cause)) notes.old notes.new) }
     ensures last { notes.new.last ≡ notes.old.last }
 {
     if let NegotiationError::Memory = cause {
@@ -168,7 +168,7 @@ fn note_refusal(
     line: usize,
     outcome: Result<(), NegotiationError>,
 ) -> Result<(), AllocError>
-    ensures said { OnOk result (AddsFates (refusal outcome) notes.old notes.new) }
+    ensures said { OnOk result (AddsFates (refusal_fate outcome) notes.old notes.new) }
     ensures last { notes.new.last ≡ notes.old.last }
 {
     match outcome {

@@ -1,6 +1,6 @@
 //! What the lines of a text say, but for what printing fixes.
+ghost use Rattle.lint.specs.Told.{NextTold, line_told, ported, shown_told, told_of, whole};
 ghost use Rattle.std.specs.Prelude.{◌≡◌, ◌<◌, ◌↔◌, IsTrue, IfSome, MatchOption, length, option_map};
-ghost use Rattle.lint.specs.Told.{NextTold, line_told, ported, shown, told, whole};
 
 use crate::lines::next_line;
 use str0m_values::Separator;
@@ -16,7 +16,7 @@ pub(crate) struct Told<'a> {
 
 impl<'a> Told<'a> {
     fn whole(line: &'a str) -> Told<'a>
-        ensures { shown result ≡ whole line.now }
+        ensures { shown_told result ≡ whole line.now }
     {
         Told {
             kind: "",
@@ -27,7 +27,7 @@ impl<'a> Told<'a> {
 
     /// An m-line by its parts, where a space stands before and after its port.
     fn ported(line: &'a str) -> Option<Told<'a>>
-        ensures { option_map shown result ≡ ported line.now }
+        ensures { option_map shown_told result ≡ ported line.now }
     {
         let (kind, behind) = cut(line, Separator::Space)?;
         let (port, rest) = cut(behind, Separator::Space)?;
@@ -41,7 +41,7 @@ impl<'a> Told<'a> {
 
     /// What a line says: printing fixes origin and name of a session, and each port but 0.
     pub(crate) fn of(line: &'a str) -> Told<'a>
-        ensures { shown result ≡ line_told line.now }
+        ensures { shown_told result ≡ line_told line.now }
     {
         if strip(line, "o=").is_some() {
             return Told::whole("o=");
@@ -60,7 +60,7 @@ impl<'a> Told<'a> {
 
     /// Whether two lines say the same.
     pub(crate) fn is_same(self, other: Told<'_>) -> bool
-        ensures { IsTrue result ↔ (shown self.entry ≡ shown other.entry) }
+        ensures { IsTrue result ↔ (shown_told self.entry ≡ shown_told other.entry) }
     {
         self.kind == other.kind && self.stopped == other.stopped && self.rest == other.rest
     }
@@ -98,7 +98,7 @@ fn next_told(text: &str) -> Option<Next<'_>>
 /// The number of the first line of a text that says something else than what is printed of it, counted without what printing fixes;
 /// that of its last line where more is printed. None where both say the same.
 pub(crate) fn first_change(text: &str, printed: &str) -> Option<usize>
-    ensures { MatchOption result (told text.now ≡ told printed.now) (λ line. told text.now ≡ told printed.now → ⊥) }
+    ensures { MatchOption result (told_of text.now ≡ told_of printed.now) (λ line. told_of text.now ≡ told_of printed.now → ⊥) }
 {
     let mut passed = 0usize;
     let (mut left, mut right) = (text, printed);

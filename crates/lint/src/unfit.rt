@@ -1,7 +1,7 @@
 //! Why a line fits nowhere.
-ghost use Rattle.std.specs.Prelude.{◌≡◌, OnOk, ◌∷◌, []};
 ghost use Rattle.lint.specs.Findings.{Ends};
 ghost use Rattle.lint.specs.Lines.{IsNumbered};
+ghost use Rattle.std.specs.Prelude.{◌≡◌, OnOk, ◌∷◌, []};
 
 use crate::code::{Code, Unfit};
 use crate::lines::{column_of, next_line};

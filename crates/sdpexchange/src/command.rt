@@ -1,4 +1,4 @@
-//! The words that the program takes.
+//! The arguments that the program takes.
 
 use clap::{Arg, ArgAction, ArgMatches, Command, value_parser};
 use std::alloc::{AllocError, Global};
@@ -145,7 +145,7 @@ fn valued<'a>(arg: Arg<'a>, value: &'a str, takes: Takes) -> Arg<'a> {
     }
 }
 
-/// The program's words.
+/// The program's arguments.
 pub(crate) fn command<'a>(alloc: Global) -> Result<Command<'a>, AllocError> {
     let steps = Arg::new(alloc, "step")
         .value_name("STEP")
@@ -155,7 +155,7 @@ pub(crate) fn command<'a>(alloc: Global) -> Result<Command<'a>, AllocError> {
         .version("0.25.0")
         .about("Takes the steps of a session, and writes the last answer or offer of this side")
         .arg(steps)?;
-    for (name, value, takes, help) in OPTIONS {
+    for &(name, value, takes, help) in &OPTIONS {
         let arg = Arg::new(alloc, name).long(name).help(help);
         let arg = match takes {
             Takes::Nothing => arg.action(ArgAction::SetTrue),

@@ -37,7 +37,7 @@ pub(crate) enum Fault {
         file: Text,
         error: ExchangeError,
     },
-    /// The words or the answer can't be handed over.
+    /// The arguments or the answer can't be handed over.
     #[error("{0}")]
     Stream(io::Error),
     /// Memory was refused.

@@ -68,7 +68,7 @@ fn text_of_session(rt: &HostRuntime, matches: &ArgMatches<'_>) -> Result<String,
     said_last(rt, matches, &mut exchange)
 }
 
-fn words(rt: &HostRuntime) -> io::Result<Vec<String>> {
+fn arguments(rt: &HostRuntime) -> io::Result<Vec<String>> {
     let mut words = Vec::new(rt.alloc());
     for word in env::args(rt)? {
         words.push(word)?;
@@ -78,7 +78,7 @@ fn words(rt: &HostRuntime) -> io::Result<Vec<String>> {
 
 /// Runs the program; answers its exit status.
 fn run(rt: &HostRuntime) -> Result<u8, Fault> {
-    let words = words(rt)?;
+    let words = arguments(rt)?;
     let command = command(rt.alloc())?;
     let matches = match command.try_get_matches_from(words.as_slice()) {
         Ok(matches) => matches,

@@ -1,4 +1,4 @@
-//! The words that the program takes.
+//! The arguments that the program takes.
 
 use clap::{Arg, ArgAction, ArgMatches, Command};
 use std::alloc::{AllocError, Global};
@@ -16,34 +16,41 @@ fn option<'a>(alloc: Global, name: &'a str, default: &'a str, help: &'a str) -> 
         .help(help)
 }
 
-/// The program's words.
-pub(crate) fn command<'a>(alloc: Global) -> Result<Command<'a>, AllocError> {
+/// An option that takes one value, and has none where it isn't given.
+fn bare_option<'a>(alloc: Global, name: &'a str, value: &'a str, help: &'a str) -> Arg<'a> {
+    Arg::new(alloc, name)
+        .long(name)
+        .value_name(value)
+        .action(ArgAction::Set)
+        .help(help)
+}
+
+/// The option that has rounds run against the default rows.
+fn against_default<'a>(alloc: Global) -> Result<Arg<'a>, AllocError> {
+    Arg::new(alloc, "against-default")
+        .long("against-default")
+        .action(ArgAction::SetTrue)
+        .help("the same against the default rows")
+        .conflicts_with("against")
+}
+
+/// The program without its options.
+fn bare_command<'a>(alloc: Global) -> Result<Command<'a>, AllocError> {
     let files = Arg::new(alloc, "file")
         .value_name("FILE")
         .action(ArgAction::Append)
         .default_value("-")
         .help("files of session descriptions; '-' is standard input");
-    let explain = Arg::new(alloc, "explain")
-        .long("explain")
-        .value_name("CODE")
-        .action(ArgAction::Set)
-        .help("say what a code means, where it comes from and what to do, with an example");
-    let against = Arg::new(alloc, "against")
-        .long("against")
-        .value_name("FILE")
-        .action(ArgAction::Set)
-        .help(
-            "say what would come of rounds with each file as the other side, against the rows of this description",
-        );
-    let against_default = Arg::new(alloc, "against-default")
-        .long("against-default")
-        .action(ArgAction::SetTrue)
-        .help("the same against the default rows")
-        .conflicts_with("against")?;
     Command::new(alloc, "sdplint")
         .version("0.25.0")
         .about("Says what session descriptions lose, and why they are refused, line by line")
-        .arg(files)?
+        .arg(files)
+}
+
+/// The program's arguments. Each option is made where no other waits: what waits is dropped on each way out, and proved there.
+pub(crate) fn command<'a>(alloc: Global) -> Result<Command<'a>, AllocError> {
+    let against_default = against_default(alloc)?;
+    bare_command(alloc)?
         .arg(option(alloc, "format", "text", "how findings are written").value_parser(
             FORMATS.as_slice(),
         ))?
@@ -54,9 +61,19 @@ pub(crate) fn command<'a>(alloc: Global) -> Result<Command<'a>, AllocError> {
             "the least severity that is shown, and counts for the status",
         )
         .value_parser(LEVELS.as_slice()))?
-        .arg(against)?
+        .arg(bare_option(
+            alloc,
+            "against",
+            "FILE",
+            "say what would come of rounds with each file as the other side, against the rows of this description",
+        ))?
         .arg(against_default)?
-        .arg(explain)
+        .arg(bare_option(
+            alloc,
+            "explain",
+            "CODE",
+            "say what a code means, where it comes from and what to do, with an example",
+        ))
 }
 
 /// The value of an option; empty where it isn't given.

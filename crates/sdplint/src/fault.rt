@@ -20,7 +20,7 @@ pub(crate) enum Fault {
     /// No code has this name.
     #[error("--explain: no code is called {name}: docs/LINT.md has them all")]
     NoCode { name: Text },
-    /// The words or the findings can't be handed over.
+    /// The arguments or the findings can't be handed over.
     #[error("{0}")]
     Stream(io::Error),
     /// Memory was refused.

@@ -114,7 +114,7 @@ impl Output {
         let (line, column) = (finding.line, finding.column);
         let severity = finding.code.severity();
         let (begin, end) = colour(self.format, severity);
-        let (severity, code) = (severity.word(), finding.code.row().name);
+        let (severity, code) = (severity.word(), finding.code.entry().name);
         writeln!(
             self.text,
             "{file}:{line}:{column}: {begin}{severity}{end}: {finding} [{code}]"

@@ -1,12 +1,14 @@
 //! Findings as SARIF 2.1.0.
 
-use lint::{CHANGES, CONFLICTS, FATES, Finding, MISFITS, REFUSALS, Row, UNFITS, UNKNOWNS, UNSEENS};
+use lint::{
+    CHANGES, CONFLICTS, Entry, FATES, Finding, MISFITS, REFUSALS, UNFITS, UNKNOWNS, UNSEENS,
+};
 use percent_encoding::{AsciiSet, NON_ALPHANUMERIC, utf8_percent_encode};
 use serde_json::{Value, json};
 use std::alloc::{AllocError, Global};
 
-/// All rows of the table of codes.
-pub(crate) fn tables() -> [&'static [Row]; 8] {
+/// All entries of the table of codes.
+pub(crate) fn tables() -> [&'static [Entry]; 8] {
     [
         REFUSALS.as_slice(),
         UNFITS.as_slice(),
@@ -44,7 +46,7 @@ pub(crate) fn sarif_result(
 ) -> Result<Value, AllocError> {
     let (line, column) = (finding.line as u64, finding.column as u64);
     let level = finding.code.severity().word();
-    let (code, message) = (finding.code.row().name, finding.sentence.as_str());
+    let (code, message) = (finding.code.entry().name, finding.sentence.as_str());
     let uri = uri(alloc, file)?;
     json!(in alloc; {
         "ruleId": code,
@@ -60,8 +62,13 @@ pub(crate) fn sarif_result(
 }
 
 /// A code as a rule of SARIF (section 3.49).
-fn rule(alloc: Global, row: &Row) -> Result<Value, AllocError> {
-    let (id, title, explanation, remedy) = (row.name, row.title, row.explanation, row.remedy);
+fn rule(alloc: Global, entry: &Entry) -> Result<Value, AllocError> {
+    let (id, title, explanation, remedy) = (
+        entry.name,
+        entry.title,
+        entry.explanation,
+        entry.remedy,
+    );
     json!(in alloc; {
         "id": id,
         "shortDescription": {"text": title},
@@ -70,9 +77,9 @@ fn rule(alloc: Global, row: &Row) -> Result<Value, AllocError> {
     })
 }
 
-fn add_rules(alloc: Global, rules: &mut Vec<Value>, table: &[Row]) -> Result<(), AllocError> {
-    for row in table {
-        rules.push(rule(alloc, row)?)?;
+fn add_rules(alloc: Global, rules: &mut Vec<Value>, table: &[Entry]) -> Result<(), AllocError> {
+    for entry in table {
+        rules.push(rule(alloc, entry)?)?;
     }
     Ok(())
 }
@@ -85,16 +92,28 @@ fn rules(alloc: Global) -> Result<Value, AllocError> {
     Ok(Value::Array(rules))
 }
 
+/// The program as the driver of a run of SARIF (section 3.19).
+fn driver(alloc: Global) -> Result<Value, AllocError> {
+    let rules = rules(alloc)?;
+    json!(in alloc; {"name": "sdplint", "version": "0.25.0", "rules": rules})
+}
+
+/// A run of SARIF (section 3.14).
+fn sarif_run(alloc: Global, results: Vec<Value>) -> Result<Value, AllocError> {
+    let (driver, results) = (driver(alloc)?, Value::Array(results));
+    json!(in alloc; {
+        "tool": {"driver": driver},
+        "columnKind": "unicodeCodePoints",
+        "results": results
+    })
+}
+
 /// A log of SARIF with one run (section 3.13).
 pub(crate) fn log(alloc: Global, results: Vec<Value>) -> Result<Value, AllocError> {
-    let (rules, results) = (rules(alloc)?, Value::Array(results));
+    let run = sarif_run(alloc, results)?;
     json!(in alloc; {
         "$schema": "https://json.schemastore.org/sarif-2.1.0.json",
         "version": "2.1.0",
-        "runs": [{
-            "tool": {"driver": {"name": "sdplint", "version": "0.25.0", "rules": rules}},
-            "columnKind": "unicodeCodePoints",
-            "results": results
-        }]
+        "runs": [run]
     })
 }

@@ -9,8 +9,8 @@ use std::io::ErrorKind;
 use std::process::ExitCode;
 use std::{env, io};
 
-/// The words after the program's name.
-fn words(rt: &HostRuntime) -> io::Result<Vec<String>> {
+/// What stands after the program's name.
+fn arguments(rt: &HostRuntime) -> io::Result<Vec<String>> {
     let mut words = Vec::new(rt.alloc());
     for word in env::args(rt)?.skip(1) {
         words.push(word)?;
@@ -19,7 +19,7 @@ fn words(rt: &HostRuntime) -> io::Result<Vec<String>> {
 }
 
 fn main(rt: HostRuntime) -> ExitCode {
-    let ending = match words(&rt) {
+    let ending = match arguments(&rt) {
         Ok(words) => run(
             rt.alloc(),
             words.as_slice(),

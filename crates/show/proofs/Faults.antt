@@ -1,14 +1,14 @@
 -- What a fault says of the input.
-use Rattle.std.proofs.Common.{◌≡◌, ℕ, List, Option, Some, None, IfSome, Result, Ok, Err, IfErr, subst, sym}
-use Rattle.std.specs.Str.{IsUtf8}
-use Rattle.str0m_sdp.specs.declared.error.SdpError.{SdpError}
-use Rattle.str0m_sdp.specs.declared.error.SdpError.TheVariants.{ParseError, Inconsistent, Memory}
-use Rattle.str0m_signal.specs.Answers.{Refuses}
-use Rattle.str0m_signal.specs.Reading.{Described}
 use Rattle.show.specs.Faults.{IsNoText, IsFaultOfReading, IsFaultOfInput, IsFaultOf}
-use Rattle.show.specs.Show.{Describes}
+use Rattle.show.specs.Run.{Describes}
 use Rattle.show.specs.declared.fault.Fault.{Fault}
 use Rattle.show.specs.declared.fault.Fault.TheVariants.{Refused, NotUtf8, Unreadable, Unwritable}
+use Rattle.std.proofs.Common.{◌≡◌, ℕ, List, Option, Some, None, IfSome, Result, Ok, Err, IfErr, subst, sym}
+use Rattle.std.specs.Str.{IsUtf8}
+use Rattle.str0m_sdp.specs.declared.session.error.SdpError.{SdpError}
+use Rattle.str0m_sdp.specs.declared.session.error.SdpError.TheVariants.{ParseError, Inconsistent, Memory}
+use Rattle.str0m_signal.specs.session.Reader.{Described}
+use Rattle.str0m_signal.specs.session.ReaderAnswers.{Refuses}
 
 -- what was read whole, and is no text
 pub no_text : (held : Option (List ℕ)) (bytes : List ℕ) → IfSome held (λ known. bytes ≡ known) → (IsUtf8 bytes → ⊥) → IsNoText held

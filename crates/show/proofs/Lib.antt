@@ -1,3 +1,3 @@
 pub mod Faults
-pub mod OutcomeLines
-pub mod Shows
+pub mod NegotiationLinesLaws
+pub mod RunShows

@@ -1,25 +1,24 @@
 -- Why a run of the program fails, and the line that says so.
-use Rattle.std.specs.Prelude.{◌≡◌, ◌++◌, ℕ, List, Option, IfSome, codes}
-use Rattle.std.specs.Str.{IsUtf8}
-use Rattle.str0m_sdp.specs.declared.error.SdpError.{SdpError}
-use Rattle.str0m_sdp.specs.declared.error.SdpError.TheVariants.{ParseError, Inconsistent, Memory}
-use Rattle.str0m_sdp.specs.Error.{error_text}
-use Rattle.str0m_sdp.specs.declared.session.Sdp.{Sdp}
-use Rattle.str0m_signal.specs.Reading.{Described}
-use Rattle.show.specs.Show.{Describes}
+use Rattle.show.specs.Run.{Describes}
 use Rattle.show.specs.declared.fault.Fault.{Fault}
 use Rattle.show.specs.declared.fault.Fault.TheVariants.{Refused, NotUtf8, Unreadable, Unwritable}
+use Rattle.std.specs.Prelude.{◌≡◌, ◌++◌, ℕ, List, Option, IfSome, codes, IsUtf8}
+use Rattle.str0m_sdp.specs.declared.session.Sdp.{Sdp}
+use Rattle.str0m_sdp.specs.declared.session.error.SdpError.{SdpError}
+use Rattle.str0m_sdp.specs.declared.session.error.SdpError.TheVariants.{ParseError, Inconsistent, Memory}
+use Rattle.str0m_sdp.specs.session.Error.{error_text}
+use Rattle.str0m_signal.specs.session.Reader.{Described}
 
--- what is said of it; of a refusal, its own words
-abbrev pub fault_text : Fault → List ℕ
-fault_text (Refused refusal) = error_text refusal
-fault_text NotUtf8 = codes "input is not UTF-8"
-fault_text Unreadable = codes "cannot read input"
-fault_text Unwritable = codes "cannot write output"
+-- what is said of it; of a refusal, its own text
+abbrev pub shown_fault : Fault → List ℕ
+shown_fault (Refused refusal) = error_text refusal
+shown_fault NotUtf8 = codes "input is not UTF-8"
+shown_fault Unreadable = codes "cannot read input"
+shown_fault Unwritable = codes "cannot write output"
 
 -- the line that says it
 abbrev pub fault_line : Fault → List ℕ
-fault_line fault = fault_text fault ++ codes "\n"
+fault_line fault = shown_fault fault ++ codes "\n"
 
 -- the line that says how the program is called
 abbrev pub usage_line : List ℕ

@@ -1,4 +1,4 @@
 pub mod Faults
 pub mod NegotiationLines
 pub mod RowLines
-pub mod Show
+pub mod Run

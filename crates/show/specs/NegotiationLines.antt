@@ -1,13 +1,11 @@
 -- The lines of `sdpshow negotiate`.
-use Rattle.std.specs.Prelude.{◌≡◌, ℕ, ◌+◌, Bool, true, false, List, [], ◌∷◌, ◌++◌, Ok, Err, codes}
-use Rattle.std.specs.List.{flat_map}
-use Rattle.std.specs.Fmt.{decimal}
-use Rattle.str0m_formats.specs.Causes.{cause_text}
-use Rattle.str0m_formats.specs.DefaultRows.{usual_rows}
-use Rattle.str0m_formats.specs.Runs.{Outcome}
-use Rattle.str0m_formats.specs.declared.payload_params.PayloadParams.{PayloadParams}
-use Rattle.str0m_signal.specs.Negotiation.{NegotiatedText}
 use Rattle.show.specs.RowLines.{row_line}
+use Rattle.std.specs.Prelude.{◌≡◌, ℕ, ◌+◌, Bool, true, false, List, [], ◌∷◌, ◌++◌, Ok, Err, codes, decimal, flat_map}
+use Rattle.str0m_formats.specs.declared.row.payload_params.PayloadParams.{PayloadParams}
+use Rattle.str0m_formats.specs.round.NegotiationError.{cause_text}
+use Rattle.str0m_formats.specs.round.RoundsRuns.{Outcome}
+use Rattle.str0m_formats.specs.row.DefaultRows.{usual_rows}
+use Rattle.str0m_signal.specs.session.Negotiation.{NegotiatedText}
 
 -- what the round of a number came to
 abbrev pub outcome_line : ℕ → Outcome → List ℕ
@@ -19,13 +17,13 @@ abbrev pub outcome_lines : ℕ → List Outcome → List ℕ
 outcome_lines n [] = []
 outcome_lines n (outcome ∷ outcomes) = outcome_line n outcome ++ outcome_lines (n + 1) outcomes
 
-abbrev pub state_text : Bool → List ℕ
-state_text true = codes "locked"
-state_text false = codes "open"
+abbrev pub lock_text : Bool → List ℕ
+lock_text true = codes "locked"
+lock_text false = codes "open"
 
 -- a row as the rows of a section are shown, with its state in place of the mid
 abbrev pub state_line : PayloadParams → List ℕ
-state_line row = row_line (state_text row.locked) row
+state_line row = row_line (lock_text row.locked) row
 
 -- the outcomes of all rounds, counted from 1, and the rows that they leave
 abbrev pub negotiation_text : List Outcome → List PayloadParams → List ℕ

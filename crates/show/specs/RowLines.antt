@@ -1,16 +1,13 @@
 -- The lines of `sdpshow rows`.
-use Rattle.std.specs.Prelude.{ℕ, List, [], ◌∷◌, ◌++◌, Option, Some, None, codes, filter_map}
-use Rattle.std.specs.Option.{unwrap_or}
-use Rattle.std.specs.List.{flat_map}
-use Rattle.std.specs.Fmt.{decimal}
-use Rattle.str0m_formats.specs.FormatParams.{params_text}
-use Rattle.str0m_formats.specs.declared.payload_params.PayloadParams.{PayloadParams}
-use Rattle.str0m_sdp.specs.Lists.{first}
-use Rattle.str0m_sdp.specs.RtpMap.{rtp_map_text}
-use Rattle.str0m_sdp.specs.Consistency.{mid_of}
-use Rattle.str0m_sdp.specs.SectionRows.{rows}
-use Rattle.str0m_sdp.specs.declared.media_line.MediaLine.{MediaLine}
+use Rattle.std.specs.Prelude.{ℕ, List, [], ◌∷◌, ◌++◌, Option, Some, None, codes, filter_map, decimal, flat_map, unwrap_or}
+use Rattle.str0m_formats.specs.declared.row.payload_params.PayloadParams.{PayloadParams}
+use Rattle.str0m_formats.specs.format.FormatParams.{params_text}
+use Rattle.str0m_sdp.specs.Common.{first}
+use Rattle.str0m_sdp.specs.attribute.RtpMap.{rtp_map_text}
+use Rattle.str0m_sdp.specs.declared.section.media_line.MediaLine.{MediaLine}
 use Rattle.str0m_sdp.specs.declared.session.Sdp.{Sdp}
+use Rattle.str0m_sdp.specs.section.Consistency.{mid_of}
+use Rattle.str0m_sdp.specs.section.SectionRows.{rows}
 
 -- a text, and `-` for one that is absent or empty
 abbrev pub or_dash : List ℕ → List ℕ
@@ -27,8 +24,8 @@ abbrev pub codec_text_of : PayloadParams → List ℕ
 codec_text_of row = rtp_map_text (record { codec = row.spec.codec; clock_rate = row.spec.clock_rate; channels = row.spec.channels })
 
 -- the mid of the section, the primary, RTX and RED type, the codec, and what the format says
-abbrev pub line_text : List ℕ → PayloadParams → List ℕ → List ℕ
-line_text mid row format =
+abbrev pub row_fields : List ℕ → PayloadParams → List ℕ → List ℕ
+row_fields mid row format =
     mid ++ (codes " " ++ (decimal row.pt ++ (codes " " ++ (type_text row.resend ++ (codes " " ++ (type_text row.red
     ++ (codes " " ++ (codec_text_of row ++ (codes " " ++ (format ++ (10 ∷ [])))))))))))
 
@@ -37,7 +34,7 @@ abbrev pub mid_text : MediaLine → List ℕ
 mid_text m = unwrap_or (first (filter_map mid_of m.attrs)) (codes "-")
 
 abbrev pub row_line : List ℕ → PayloadParams → List ℕ
-row_line mid row = line_text mid row (or_dash (params_text row.spec.format))
+row_line mid row = row_fields mid row (or_dash (params_text row.spec.format))
 
 abbrev pub section_lines : MediaLine → List ℕ
 section_lines m = flat_map (row_line (mid_text m)) (rows m)

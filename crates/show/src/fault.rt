@@ -1,8 +1,8 @@
 //! Why a run of the program fails.
 
-ghost use Rattle.std.specs.Prelude.{◌≡◌};
-ghost use Rattle.str0m_sdp.specs.declared.error.SdpError.TheVariants.{Memory};
 ghost use Rattle.show.specs.declared.fault.Fault.TheVariants.{Refused};
+ghost use Rattle.std.specs.Prelude.{◌≡◌};
+ghost use Rattle.str0m_sdp.specs.declared.session.error.SdpError.TheVariants.{Memory};
 
 use std::alloc::AllocError;
 use std::fmt;
@@ -43,10 +43,10 @@ impl From<AllocError> for Fault {
 }
 
 impl fmt::Display for Fault {
+    ghost use Rattle.show.specs.Faults.{shown_fault};
     ghost use Rattle.std.specs.Prelude.{Some};
-    ghost use Rattle.show.specs.Faults.{fault_text};
 
-    ghost output = { λ fault. Some (fault_text fault) };
+    ghost output = { λ fault. Some (shown_fault fault) };
 
     fn fmt<W: fmt::Write>(&self, f: &mut fmt::Formatter<W>) -> fmt::Result {
         match self {

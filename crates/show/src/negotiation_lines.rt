@@ -1,10 +1,8 @@
 //! The lines of `sdpshow negotiate`.
-ghost use Rattle.std.specs.Prelude.{◌≡◌, ◌++◌, IfErr, IfOk, OnOk, Some};
-ghost use Rattle.std.specs.List.{flat_map};
-ghost use Rattle.std.specs.String.{string_bytes};
-ghost use Rattle.str0m_signal.specs.Answers.{Refuses};
-ghost use Rattle.str0m_signal.specs.Reading.{Described};
-ghost use Rattle.show.specs.NegotiationLines.{PrintsRounds, outcome_line, outcome_lines, state_line, state_text};
+ghost use Rattle.show.specs.NegotiationLines.{PrintsRounds, outcome_line, outcome_lines, state_line, lock_text};
+ghost use Rattle.std.specs.Prelude.{◌≡◌, ◌++◌, IfErr, IfOk, OnOk, Some, flat_map, string_bytes};
+ghost use Rattle.str0m_signal.specs.session.Reader.{Described};
+ghost use Rattle.str0m_signal.specs.session.ReaderAnswers.{Refuses};
 
 use crate::row_lines::row_line;
 use std::alloc::{AllocError, Global};
@@ -49,8 +47,8 @@ fn outcome_lines(
     Ok(text)
 }
 
-fn state_text(is_locked: bool) -> &'static str
-    ensures { result.now ≡ state_text is_locked }
+fn lock_text(is_locked: bool) -> &'static str
+    ensures { result.now ≡ lock_text is_locked }
 {
     if is_locked { "locked" } else { "open" }
 }
@@ -60,7 +58,7 @@ fn append_states(alloc: Global, text: &mut String, rows: &[PayloadParams]) -> Re
     ensures { OnOk result (string_bytes text.new ≡ string_bytes text.old ++ flat_map state_line rows.now) }
 {
     for row in rows {
-        let line = row_line(alloc, state_text(row.locked()), row)?;
+        let line = row_line(alloc, lock_text(row.locked()), row)?;
         text.push_str(line.as_str())?;
     }
     Ok(())

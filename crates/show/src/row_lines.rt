@@ -1,7 +1,6 @@
 //! The lines of `sdpshow rows`.
-ghost use Rattle.std.specs.Prelude.{◌≡◌, ◌++◌, IfOk, OnOk, Some};
-ghost use Rattle.std.specs.String.{string_bytes};
-ghost use Rattle.show.specs.RowLines.{or_dash, type_text, mid_text, line_text, row_line, section_lines, rows_text};
+ghost use Rattle.show.specs.RowLines.{or_dash, type_text, mid_text, row_fields, row_line, section_lines, rows_text};
+ghost use Rattle.std.specs.Prelude.{◌≡◌, ◌++◌, IfOk, OnOk, Some, string_bytes};
 
 use std::alloc::{AllocError, Global};
 use std::fmt;
@@ -38,7 +37,7 @@ struct RowLine<'a> {
 }
 
 impl<'a> fmt::Display for RowLine<'a> {
-    ghost output = { λ line. Some (line_text line.mid.now line.row.now line.format.now) };
+    ghost output = { λ line. Some (row_fields line.mid.now line.row.now line.format.now) };
 
     fn fmt<W: fmt::Write>(&self, f: &mut fmt::Formatter<W>) -> fmt::Result {
         let (mid, row, format) = (self.mid, self.row, self.format);

@@ -1,15 +1,13 @@
 //! The program over any reader and any two writers.
-ghost use Rattle.std.specs.Prelude.{◌≡◌, ◌↔◌, ◌⊎◌, ℕ, List, None, IfErr, IfOk, IfSome, OnOk, OnErr, map};
-ghost use Rattle.std.specs.String.{string_bytes};
-ghost use Rattle.std.specs.Io.KnownBytes.{Appends, IsAtEnd};
-ghost use Rattle.std.specs.Str.{IsUtf8};
-ghost use Rattle.str0m_sdp.specs.Session.{sdp_text};
-ghost use Rattle.str0m_signal.specs.Answers.{Refuses};
-ghost use Rattle.str0m_signal.specs.Reading.{Described};
 ghost use Rattle.show.specs.Faults.{fault_line, usage_line, IsFaultOf, IsFaultOfInput, IsFaultOfReading};
 ghost use Rattle.show.specs.RowLines.{rows_text};
-ghost use Rattle.show.specs.Show.{asked, asked_by, Prints, PrintsBy, Shows, ShowsAsked, Describes};
+ghost use Rattle.show.specs.Run.{asked, asked_by, Prints, PrintsBy, Shows, ShowsAsked, Describes};
 ghost use Rattle.show.specs.declared.fault.Fault.TheVariants.{NotUtf8, Unwritable};
+ghost use Rattle.std.specs.Io.KnownBytes.{Appends, IsAtEnd};
+ghost use Rattle.std.specs.Prelude.{◌≡◌, ◌↔◌, ◌⊎◌, ℕ, List, None, IfErr, IfOk, IfSome, OnOk, OnErr, map, IsUtf8, string_bytes};
+ghost use Rattle.str0m_sdp.specs.session.Session.{sdp_text};
+ghost use Rattle.str0m_signal.specs.session.Reader.{Described};
+ghost use Rattle.str0m_signal.specs.session.ReaderAnswers.{Refuses};
 
 use crate::fault::Fault;
 use crate::negotiation_lines::negotiation_text;
@@ -77,7 +75,7 @@ fn asked_by(word: &str) -> Option<Shown>
     }
 }
 
-/// What the words ask for: that one word alone.
+/// What the arguments ask for: that one word alone.
 fn asked(words: &[String]) -> Option<Shown>
     ensures { result ≡ asked (map string_bytes words.now) }
 {
@@ -181,7 +179,7 @@ fn show<R: Read, W: Write>(
     write_whole(output, printed.as_str())
 }
 
-/// Runs the program: the words after its name, what it reads, what it writes, and what it says of
+/// Runs the program: the arguments after its name, what it reads, what it writes, and what it says of
 /// faults. Answers the exit status, and whether the line that goes with it could be written.
 ///
 /// The word `text`, `rows` or `negotiate` alone reads the whole input as UTF-8. `text` prints the
@@ -190,12 +188,12 @@ fn show<R: Read, W: Write>(
 /// for what is absent. `negotiate` runs a round of the default configuration for each audio and video
 /// section, and prints `round N ok` or `round N refused: CAUSE`, counted from 1, then the rows of the
 /// configuration, with `locked` or `open` in place of the mid; a round that is refused is no fault of
-/// the run. Nothing is read before the words are compared, and nothing is written before the output is
+/// the run. Nothing is read before the arguments are compared, and nothing is written before the output is
 /// whole.
 ///
 /// Status 0: it is printed, and nothing is said. Status 1, and one line that says why: the text is
 /// no description, is not UTF-8 or can't be read, a growth was refused, or the output can't be
-/// written. Status 2, and one line that says how the program is called: the words are others. Where
+/// written. Status 2, and one line that says how the program is called: the arguments are others. Where
 /// that line can't be written, the status is the same.
 pub fn run<R: Read, W: Write, F: Write>(
     alloc: Global,
@@ -206,7 +204,7 @@ pub fn run<R: Read, W: Write, F: Write>(
 ) -> Ending
     ensures statuses { (result.status ≡ 0) ⊎ (result.status ≡ 1) ⊎ (result.status ≡ 2) }
 
-    // Status 2 is for other words, and then nothing is read or written.
+    // Status 2 is for other arguments, and then nothing is read or written.
     ensures usage { (result.status ≡ 2) ↔ (asked (map string_bytes words.now) ≡ None) }
     ensures unread { result.status ≡ 2 → input.new ≡ input.old }
     ensures unwritten { result.status ≡ 2 → output.new ≡ output.old }

@@ -1,65 +1,24 @@
-pub mod CodecNames
 pub mod Common
-pub mod Joined
-pub mod KeyedParams
-pub mod LineLaws
-pub mod Listed
-pub mod Lookup
-pub mod MergedKeys
-pub mod ModeBounds
-pub mod Modes
-pub mod Only
-pub mod PairsAgain
-pub mod PairsLaws
-pub mod PlacesLaws
-pub mod ParamEqual
-pub mod ParamLaws
-pub mod ParamReadingLaws
-pub mod Plain
-pub mod Printed
-pub mod PrintedLine
-pub mod PrintedPairs
-pub mod RoundTrip
-pub mod Rows
-pub mod SetAll
-pub mod Shown
-pub mod TripleLaws
-pub mod FormatEqual
-pub mod RowEqual
-pub mod ScoreRules
-pub mod ScoreLaws
-pub mod Sets
-pub mod Ranges
-pub mod MaskBits
-pub mod ChoiceSteps
-pub mod Passes
-pub mod RowSets
-pub mod FirstPass
-pub mod ClaimSteps
-pub mod SecondPass
-pub mod WholeRound
-pub mod OneOutcome
-pub mod RunSteps
-pub mod RowSteps
-pub mod RowCounts
-pub mod OpenRows
-pub mod Invariants
-pub mod Counting
-pub mod LockedStays
-pub mod SpecSteps
-pub mod StaticTypes
-pub mod Telephone
-pub mod Levels
-pub mod Matched
-pub mod DerivedEqual
-pub mod Distinct
-pub mod SmallTypes
-pub mod PlainRounds
-pub mod PlainFormats
-pub mod MemoryAlone
-pub mod Promised
-pub mod RunLaws
-pub mod Asked
-pub mod DefaultRows
-pub mod RedDistances
-pub mod Times
+-- What crates above name of the laws of rooms, which are private as their code is.
+pub use Rattle.str0m_formats.proofs.codec.CodecNames.{read_as, read_only}
+pub use Rattle.str0m_formats.proofs.codec.CodecSpecStatic.{needs_none, static_is, static_small}
+pub use Rattle.str0m_formats.proofs.format.FormatKeyAgain.{IsKeyed, keyed_or_hidden}
+pub use Rattle.str0m_formats.proofs.format.FormatLineAgain.{linked, printed_pairs}
+pub use Rattle.str0m_formats.proofs.format.FormatLinePairs.{IsLineOf, IsOwn, all_both, format_said, line_of_pairs, params_print}
+pub use Rattle.str0m_formats.proofs.format.FormatParamAgain.{decimal_reads, parsed_printed}
+pub use Rattle.str0m_formats.proofs.format.FormatParamEqual.{param_Decides}
+pub use Rattle.str0m_formats.proofs.format.FormatParamLaws.{parsed}
+pub use Rattle.str0m_formats.proofs.format.FormatParamsDerived.{Equality, eq_along, eq_word, equality}
+pub use Rattle.str0m_formats.proofs.format.FormatParamsShown.{IsSolidPair, decimal_solid, joined_pair}
+pub use Rattle.str0m_formats.proofs.format.MergedPairsKeys.{Pairs}
+pub use Rattle.str0m_formats.proofs.format.MergedPairsLaws.{bytes_itself}
+pub use Rattle.str0m_formats.proofs.format.PairsAgain.{IsPairsLine, pairs_again}
+pub use Rattle.str0m_formats.proofs.format.PairsLaws.{pairs_read_is, pairs_read_only}
+pub use Rattle.str0m_formats.proofs.format.PairsSolid.{IsSolid, solid_lacks}
+pub use Rattle.str0m_formats.proofs.round.ClaimedSets.{slice_get_item}
+pub use Rattle.str0m_formats.proofs.round.ClaimedTimes.{one_if, times-append, times-cons, times-none, times-some}
+pub use Rattle.str0m_formats.proofs.round.RoundsLocked.{stays-same, stays-then}
+pub use Rattle.str0m_formats.proofs.round.RoundsPasses.{at_place}
+pub use Rattle.str0m_formats.proofs.round.RoundsRunSteps.{ran_from}
+pub use Rattle.str0m_formats.proofs.round.RoundsWhole.{row_before}
+pub use Rattle.str0m_formats.proofs.row.PlainRowFormats.{can_be_read_back}

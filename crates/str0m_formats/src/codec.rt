@@ -1,10 +1,12 @@
 //! Codecs.
 ghost use Rattle.std.specs.Prelude.{◌≡◌, ◌↔◌, IsTrue, Some};
-ghost use Rattle.str0m_formats.specs.Codec.{codec_text, content, static_row, audio, video, events, media_kind, codec_of, IsReadAs, printed_and_read};
-ghost use Rattle.str0m_formats.specs.CodecSpec.{is_at, static_codec};
+ghost use Rattle.str0m_formats.specs.codec.Codec.{codec_text, content, static_entry, audio, video, events, media_kind, codec_of, IsReadAs, printed_and_read};
+ghost use Rattle.str0m_formats.specs.codec.CodecSpec.{is_at, static_codec};
 
 use std::fmt;
 use str0m_values::{Frequency, MediaKind, Pt, Worded, case_alike, case_of};
+
+pub(crate) mod codec_spec;
 
 /// A codec, or what else an `a=rtpmap` line may name (RFC 8866, section 6.6).
 #[derive(Clone, Copy, Debug, PartialEq, Eq)]
@@ -109,7 +111,7 @@ impl Codec {
 impl Codec {
     /// The payload type that stands for it, and the rate at which it samples then.
     pub(crate) fn static_type(self) -> Option<(u8, Frequency)>
-        ensures { result ≡ static_row self }
+        ensures { result ≡ static_entry self }
     {
         match self {
             Codec::PCMU => Some((0, Frequency::EIGHT_KHZ)),
@@ -121,7 +123,7 @@ impl Codec {
     }
 
     fn has_static_type(self, pt: u8) -> bool
-        ensures { result ≡ is_at pt (static_row self) }
+        ensures { result ≡ is_at pt (static_entry self) }
     {
         match self.static_type() {
             Some((own, _)) => own == pt,
@@ -168,7 +170,7 @@ impl Worded for Codec {
     }
 }
 
-#[tactic(auto, unfolding(crate::specs::Codec::codec_of, str0m_values::specs::Words::case_alike))]
+#[tactic(auto, unfolding(crate::specs::codec::Codec::codec_of, str0m_values::specs::Words::case_alike))]
 fn same(name: &str) -> Codec
     ensures { result ≡ codec_of name.now }
 {
@@ -190,7 +192,7 @@ fn named(name: &str) -> Codec
 impl From<&str> for Codec {
     ghost from_gives = { λ name codec. IsReadAs name.now codec };
 
-    #[tactic(auto, using(crate::proofs::CodecNames::read_as))]
+    #[tactic(auto, using(crate::proofs::codec::CodecNames::read_as))]
     fn from(name: &str) -> Codec
         ensures read { IsReadAs name.now result }
 

@@ -1,43 +1,18 @@
-pub mod AlikeLaws
-pub mod Apart
-pub mod AttributeEqual
-pub mod CandidateEqual
-pub mod CandidateKeyLaws
 pub mod Common
-pub mod CompanionLaws
-pub mod Copies
-pub mod DistinctLaws
-pub mod FaultLaws
-pub mod FeedbackLaws
-pub mod FilterMapLaws
-pub mod Finding
-pub mod FmtpAnswers
-pub mod FmtpLineLaws
-pub mod FrameAnswers
-pub mod GatherLaws
-pub mod Holders
-pub mod ListLaws
-pub mod MappingLaws
-pub mod OrderedMids
-pub mod Own
-pub mod Parts
-pub mod Preferred
-pub mod RandomIdLaws
-pub mod ReadSection
-pub mod ReadValues
-pub mod RowAnswers
-pub mod RowBoundLaws
-pub mod RowQuestions
-pub mod RowReads
-pub mod RowsAgain
-pub mod RowsBack
-pub mod SectionConsistent
-pub mod SectionRowLaws
-pub mod SessionFaultLaws
-pub mod SessionLaws
-pub mod SourceLaws
-pub mod SsrcLaws
-pub mod TypeLineLaws
-pub mod TypeMarks
-pub mod TypeTableLaws
-pub mod VersionLaws
+-- What crates above name of the laws of rooms, which are private as their code is.
+pub use Rattle.str0m_sdp.proofs.attribute.AttributeEqual.{media_Decides, session_Decides}
+pub use Rattle.str0m_sdp.proofs.section.MadeSectionConsistent.{frame_agrees}
+pub use Rattle.str0m_sdp.proofs.section.MadeSectionRead.{DescribesRows}
+pub use Rattle.str0m_sdp.proofs.section.MadeSectionValues.{describes_read_back, format_line_printed, pairs_line_read, values_printed}
+pub use Rattle.str0m_sdp.proofs.section.MadeSectionValues.{values_read}
+pub use Rattle.str0m_sdp.proofs.section.MappingsFilterMap.{all_mapped, map_more, one_mapped}
+pub use Rattle.str0m_sdp.proofs.section.RowAttributesReads.{fmtp_lines, reads, red_reads}
+pub use Rattle.str0m_sdp.proofs.section.SectionAccessorsFinding.{first_by_find_map, first_from_find_map}
+pub use Rattle.str0m_sdp.proofs.section.SectionAccessorsLists.{filter_map_more, filter_map_same}
+pub use Rattle.str0m_sdp.proofs.section.SectionDirectionHolders.{mid_counted}
+pub use Rattle.str0m_sdp.proofs.section.SectionRowsBoundLaws.{rows_bounded}
+pub use Rattle.str0m_sdp.proofs.section.SectionRowsParts.{count-append, or_false, uncounted}
+pub use Rattle.str0m_sdp.proofs.section.TypeTablesMarks.{any_more, any_same}
+pub use Rattle.str0m_sdp.proofs.session.DistinctCandidatesLaws.{distinct_push}
+pub use Rattle.str0m_sdp.proofs.session.OrderedMids.{holds_before, holds_behind}
+pub use Rattle.str0m_sdp.proofs.session.SessionLaws.{mids_apart}

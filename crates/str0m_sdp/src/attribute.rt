@@ -1,23 +1,37 @@
 //! The attributes of sessions and of sections.
 ghost use Rattle.std.specs.Prelude.{◌≡◌, IfOk, Some, refl};
-ghost use Rattle.str0m_sdp.specs.Attribute.{session_attribute_text, media_attribute_text, direction_attribute};
-ghost use Rattle.str0m_sdp.specs.Attribute.{session_words, media_words, word_read};
-ghost use Rattle.str0m_sdp.specs.AttributeLine.{line_text};
+ghost use Rattle.str0m_sdp.specs.attribute.Attribute.{session_attribute_text, media_attribute_text, direction_attribute, session_words, media_words, word_read};
+ghost use Rattle.str0m_sdp.specs.form.AttributeLine.{line_text};
 
-use crate::attribute_line::Line;
+use crate::attribute::msid::Msid;
+use crate::attribute::rtp_map::RtpMap;
+use crate::attribute::setup::Setup;
+use crate::attribute::simulcast::{RestrictionId, Simulcast};
+use crate::form::attribute_line::Line;
+use crate::form::numbered_line::NumberedLine;
+use crate::form::printed::Printed;
+use crate::form::structured_line::StructuredLine;
+use crate::form::word::Word;
 use crate::label;
-use crate::msid::Msid;
-use crate::numbered_line::NumberedLine;
-use crate::printed::Printed;
-use crate::rtp_map::RtpMap;
-use crate::setup::Setup;
-use crate::simulcast::{RestrictionId, Simulcast};
-use crate::structured_line::StructuredLine;
-use crate::word::Word;
 use std::alloc::AllocError;
 use std::fmt;
 use str0m_formats::FormatParam;
 use str0m_values::{Candidate, Direction, Extension, Fingerprint, Items, Mid, Pt, Ssrc, Text};
+
+pub(crate) mod bandwidth;
+pub(crate) mod ext_map;
+pub(crate) mod feedback;
+pub(crate) mod fmtp;
+pub(crate) mod group;
+pub(crate) mod media_type;
+pub(crate) mod msid;
+pub(crate) mod proto;
+pub(crate) mod random_msid;
+pub(crate) mod rid;
+pub(crate) mod rtp_map;
+pub(crate) mod setup;
+pub(crate) mod simulcast;
+pub(crate) mod ssrc_group;
 
 /// An attribute line of a session (RFC 8866, section 5.13).
 #[derive(Clone, Debug, PartialEq, Eq, Drop)]

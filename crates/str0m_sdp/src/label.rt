@@ -1,4 +1,4 @@
-//! The words of descriptions: labels of attributes, as they stand after `a=`, with the colon where a value follows (RFC 8866,
+//! The labels of attributes, as they stand after `a=`, with the colon where a value follows (RFC 8866,
 //! section 6; an attribute without a value is its label alone), media types, protocols and feedback.
 
 pub use str0m_values::direction_label::{INACTIVE, RECV_ONLY, SEND_ONLY, SEND_RECV};

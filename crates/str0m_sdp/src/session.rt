@@ -1,15 +1,27 @@
 //! Session descriptions.
-ghost use Rattle.std.specs.Prelude.{◌≡◌, IfOk, Some, refl};
-ghost use Rattle.std.specs.Fmt.{decimal};
-ghost use Rattle.str0m_sdp.specs.Session.{origin_line, session_lines, session_text, sdp_text, versioned_origin, versioned_text};
+ghost use Rattle.std.specs.Prelude.{◌≡◌, IfOk, Some, refl, decimal};
+ghost use Rattle.str0m_sdp.specs.session.Session.{origin_line, session_lines, session_text, sdp_text, versioned_origin, versioned_text};
 
 use crate::attribute::SessionAttribute;
-use crate::bandwidth::{Bandwidth, BandwidthLine};
-use crate::media_line::MediaLine;
-use crate::printed::{Each, Printed};
+use crate::attribute::bandwidth::{Bandwidth, BandwidthLine};
+use crate::form::printed::{Each, Printed};
+use crate::section::media_line::MediaLine;
 use std::alloc::AllocError;
 use std::fmt;
 use str0m_values::{Items, SessionId};
+
+pub(crate) mod candidate_key;
+pub(crate) mod candidates;
+pub(crate) mod distinct_candidates;
+pub(crate) mod error;
+pub(crate) mod fault;
+pub(crate) mod ordered_mids;
+pub(crate) mod preferred_fingerprint;
+pub(crate) mod sdp_accessors;
+pub(crate) mod seen_candidates;
+pub(crate) mod session_accessors;
+pub(crate) mod session_consistency;
+pub(crate) mod transport;
 
 /// A session description (RFC 8866, section 5).
 #[derive(Clone, Debug, PartialEq, Eq, Drop)]
@@ -33,7 +45,7 @@ pub struct Session {
 
 impl Sdp {
     /// A copy that equals its source; the only error is that memory was refused.
-    #[tactic(auto, using(crate::proofs::Copies::sdp_copied))]
+    #[tactic(auto, using(crate::proofs::attribute::AttributeCopies::sdp_copied))]
     pub fn clone(&self) -> Result<Sdp, AllocError>
         ensures { IfOk result (λ sdp. sdp ≡ self.now) }
     {
@@ -43,7 +55,7 @@ impl Sdp {
 
 impl Session {
     /// A copy that equals its source; the only error is that memory was refused.
-    #[tactic(auto, using(crate::proofs::Copies::session_copied))]
+    #[tactic(auto, using(crate::proofs::attribute::AttributeCopies::session_copied))]
     pub fn clone(&self) -> Result<Session, AllocError>
         ensures { IfOk result (λ session. session ≡ self.now) }
     {

@@ -1,41 +1,51 @@
 //! Session descriptions read by the line grammar, and offers and answers made of them.
+//!
+//! - `back`: What is printed, read again.
+//!   - `attributes_back`: Attributes of sessions and of sections, printed and read again.
+//!   - `read_back`: What is printed, read again line by line.
+//!   - `section_back`: The lines of a section, printed and read again.
+//!   - `writable`: Whether rows may be printed in a session and are read again.
+//! - `form`: The forms of attribute lines, and how each is read.
+//!   - `candidate_line`: Lines with a candidate.
+//!   - `ext_map`: Lines of header extensions.
+//!   - `fingerprint`: Lines with the fingerprint of a certificate.
+//!   - `fmtp`: Lines with the parameters of a format.
+//!   - `groups`: Lines of a session that list names.
+//!   - `media_attribute`: The attributes of a section.
+//!   - `rid`: Lines of streams that may be restricted.
+//!   - `rtp_map`: Lines that map a payload type to a codec.
+//!   - `session_attribute`: The attributes of a session.
+//!   - `simulcast`: Lines of streams in several layers.
+//!   - `sources`: Lines of sources and of feedback.
+//! - `line`: Lines, and the pieces of which they are read.
+//!   - `bare_values`: The values of fmtp lines that have no keys.
+//!   - `fields`: What fields of several lines share.
+//!   - `heads`: The m-lines of sections.
+//!   - `lines`: The lines of a text.
+//!   - `pairs`: Pairs of a key and a value, parted by `;`.
+//!   - `parts`: Lists whose items have a character between them.
+//!   - `words`: The items of lists.
+//! - `session`: Descriptions whole: their parts, their readers, and rounds over their texts.
+//!   - `attributes`: Attribute lines, and runs of them.
+//!   - `bandwidth`: Lines with a bandwidth.
+//!   - `header`: The header of a description.
+//!   - `locked`: The rows that rounds have locked.
+//!   - `negotiation`: Rounds of negotiation over a whole text.
+//!   - `offer`: Offers and answers: the description that one side proposes, and the one that settles it (RFC 3264).
+//!   - `reader`: The readers of whole texts and of single lines.
+//!   - `section`: The sections of a description.
 #![tactic(auto)]
 
-mod attributes;
-mod attributes_back;
-mod bandwidth;
-mod bare_values;
-mod candidate_line;
-mod ext_map;
-mod fields;
-mod fingerprint;
-mod fmtp;
-mod groups;
-mod header;
-mod heads;
-mod lines;
-mod locked;
-mod media_attribute;
-mod negotiation;
-mod offer;
-mod pairs;
-mod parts;
-mod read_back;
-mod reader;
-mod rid;
-mod rtp_map;
-mod section;
-mod section_back;
-mod session_attribute;
-mod simulcast;
-mod sources;
-mod words;
-mod writable;
+mod back;
+mod form;
+mod line;
+mod session;
 
-pub use locked::locked_rows;
-pub use negotiation::negotiate_text;
-pub use offer::{SdpAnswer, SdpOffer};
-pub use reader::{
+pub use back::writable::is_writable;
+pub use session::locked::locked_rows;
+pub use session::negotiation::negotiate_text;
+pub use session::offer::{SdpAnswer, SdpOffer};
+pub use session::reader::{
     candidate_attribute, media_attribute_line, sdp_parser, session_attribute_line, session_parser,
 };
 pub use str0m_formats::{
@@ -55,4 +65,3 @@ pub use str0m_values::{
     IceCreds, IpAddr, Items, Leveled, MediaKind, Mid, NoProfileLevel, Numbered, ProfileTierLevel,
     Protocol, Pt, Rid, SessionId, SocketAddr, Ssrc, TcpType, Text, lower_level,
 };
-pub use writable::is_writable;

@@ -1,17 +1,18 @@
 -- A text is read as an address exactly where it stands for it.
-use Rattle.str0m_values.proofs.Common.{rules, ◌≡◌, ℕ, List, [], ◌∷◌, ◌++◌, length, Option, Some, None, refl, sym, ap, arith, append-nil, option_map, ipv6_segments, ne_eqb, ipv4_octets}
+use Rattle.std.proofs.NetLemmas.Ipv4.{read_ipv4_complete, read_ipv4_sound}
+use Rattle.std.proofs.NetLemmas.Ipv6.{read_ipv6_complete, read_ipv6_sound, EndsGroups-nil, IsDotted-not_colon_hex}
 use Rattle.std.specs.Net.Grammar as net
 use Rattle.std.specs.Net.Reader.{Read, whole_value, read_ipv4, read_ipv6}
 use Rattle.std.specs.declared.net.ip_addr.IpAddr.{IpAddr as NetIpAddr}
 use Rattle.std.specs.declared.net.ip_addr.IpAddr.TheVariants as NetIp
-use Rattle.std.proofs.NetLemmas.Ipv4.{read_ipv4_complete, read_ipv4_sound}
-use Rattle.std.proofs.NetLemmas.Ipv6.{read_ipv6_complete, read_ipv6_sound, EndsGroups-nil, IsDotted-not_colon_hex}
-use Rattle.str0m_values.specs.declared.address.IpAddr.{IpAddr}
-use Rattle.str0m_values.specs.declared.address.IpAddr.TheVariants.{V4, V6}
+use Rattle.str0m_values.proofs.AddressLaws.{v4_from, v4_to, v6_from, v6_to}
+use Rattle.str0m_values.proofs.Common.{rules, ◌≡◌, ℕ, List, [], ◌∷◌, ◌++◌, length, Option, Some, None, refl, sym, ap, arith, append-nil}
+use Rattle.str0m_values.proofs.Common.{option_map, ipv6_segments, ne_eqb, ipv4_octets}
+use Rattle.str0m_values.proofs.CutsBothWays.{Reads, or_some, some_is, reads_none}
 use Rattle.str0m_values.specs.Address.{IsIpText}
 use Rattle.str0m_values.specs.AddressReading.{own_address, ip_read}
-use Rattle.str0m_values.proofs.AddressLaws.{v4_from, v4_to, v6_from, v6_to}
-use Rattle.str0m_values.proofs.BothWays.{Reads, or_some, some_is, reads_none}
+use Rattle.str0m_values.specs.declared.address.IpAddr.{IpAddr}
+use Rattle.str0m_values.specs.declared.address.IpAddr.TheVariants.{V4, V6}
 
 -- ---- std's reading of the front of a text, where it is the whole
 
@@ -30,7 +31,8 @@ v4_both : Reads net.IsDotted (λ text. whole_value (read_ipv4 text))
 v4_both = search (rules, whole_both, read_ipv4_sound, read_ipv4_complete)
 
 v6_both : Reads net.IsColonHex (λ text. whole_value (read_ipv6 text))
-v6_both = whole_both net.IsColonHex read_ipv6 (λ text groups rest. read_ipv6_sound text groups rest) (λ text groups h. read_ipv6_complete text groups [] h EndsGroups-nil)
+v6_both = whole_both net.IsColonHex read_ipv6 (λ text groups rest. read_ipv6_sound text groups rest)
+    (λ text groups h. read_ipv6_complete text groups [] h EndsGroups-nil)
 
 -- ---- both kinds
 
@@ -46,7 +48,10 @@ unfolding ip_read
 ip_complete text (V4 octets) h = rw (v4_both.complete text octets (v4_to text octets h)) refl
 ip_complete text (V6 groups) h =
     let spelled = v6_to text groups h in
-    rw (reads_none v4_both text (λ octets dotted. IsDotted-not_colon_hex text octets groups dotted spelled), v6_both.complete text groups spelled) refl
+    rw (
+      reads_none v4_both text (λ octets dotted. IsDotted-not_colon_hex text octets groups dotted spelled),
+      v6_both.complete text groups spelled,
+    ) refl
 
 pub ip_both : Reads IsIpText ip_read
 ip_both = record { sound = ip_sound; complete = ip_complete }
@@ -63,8 +68,8 @@ net_of (V6 groups) = NetIp.V6 (record { segments = groups })
 net_to : (text : List ℕ) (a : IpAddr) → IsIpText text a → net.IsIpText text (net_of a)
 net_to text a h = grind (arith, v4_to, v6_to)
 
-pub parsed_ok : (text : List ℕ) (a : NetIpAddr) → net.IsIpText text a → Some (own_address a) ≡ ip_read text
-parsed_ok text a h = sym (ip_complete text (own_address a) (own_from text a h))
+pub ip_parsed_ok : (text : List ℕ) (a : NetIpAddr) → net.IsIpText text a → Some (own_address a) ≡ ip_read text
+ip_parsed_ok text a h = sym (ip_complete text (own_address a) (own_from text a h))
 
-pub parsed_err : (text : List ℕ) → ((a : NetIpAddr) → net.IsIpText text a → ⊥) → None ≡ ip_read text
-parsed_err text none = sym (reads_none ip_both text (λ a is. none (net_of a) (net_to text a is)))
+pub ip_parsed_err : (text : List ℕ) → ((a : NetIpAddr) → net.IsIpText text a → ⊥) → None ≡ ip_read text
+ip_parsed_err text none = sym (reads_none ip_both text (λ a is. none (net_of a) (net_to text a is)))

@@ -1,8 +1,10 @@
 -- The grammar of addresses here and that of std say the same.
-use Rattle.str0m_values.proofs.Common.{◌≡◌, ◌⊎◌, ℕ, ◌+◌, ◌-◌, ◌*◌, Bool, true, false, List, [], ◌∷◌, ◌++◌, length, replicate, refl, sym, ap, ◌∙◌, subst, arith, inl, inr, append-nil, append_assoc, length-append, codes, length-replicate, IsTrue, segments_of}
 use Rattle.std.specs.Net.Grammar as net
-use Rattle.str0m_values.specs.Joined.{Parted}
-use Rattle.str0m_values.specs.Address.{IsOctet, IsV4Text, IsGroup, IsOneGroup, pairs, IsV4Tail, IsEnd, AreGroups, AreAnyGroups, IsShortened, IsV6Text}
+use Rattle.str0m_values.proofs.Common.{◌≡◌, ◌⊎◌, ℕ, ◌+◌, ◌-◌, ◌*◌, Bool, true, false, List, [], ◌∷◌, ◌++◌, length, replicate, refl, sym, ap}
+use Rattle.str0m_values.proofs.Common.{◌∙◌, subst, arith, inl, inr, append-nil, append_assoc, length-append, codes, length-replicate}
+use Rattle.str0m_values.proofs.Common.{IsTrue, segments_of}
+use Rattle.str0m_values.specs.Address.{Parted, IsOctet, IsV4Text, IsHexGroup, IsOneGroup, octet_pairs, IsV4Tail, IsEnd, AreGroups}
+use Rattle.str0m_values.specs.Address.{AreAnyGroups, IsShortened, IsV6Text}
 
 -- ---- V4
 
@@ -22,31 +24,32 @@ v4_to text (a ∷ b ∷ c ∷ []) h = absurd (omega (arith, h.1))
 
 -- ---- groups
 
-group_from : (text : List ℕ) (n : ℕ) → net.IsGroup text n → IsGroup text n
+group_from : (text : List ℕ) (n : ℕ) → net.IsGroup text n → IsHexGroup text n
 group_from text n h = record { numeral = h.0.0; value = h.0.1; short = h.1 }
 
-group_to : (text : List ℕ) (n : ℕ) → IsGroup text n → net.IsGroup text n
+group_to : (text : List ℕ) (n : ℕ) → IsHexGroup text n → net.IsGroup text n
 group_to text n h = ((h.numeral, h.value), h.short)
 
-pairs_from : (octets : List ℕ) → segments_of octets ≡ pairs octets
+pairs_from : (octets : List ℕ) → segments_of octets ≡ octet_pairs octets
 pairs_from [] = refl
 pairs_from (a ∷ []) = refl
 pairs_from (a ∷ b ∷ octets) = ap (λ (groups : List ℕ). (a * 256 + b) ∷ groups) (pairs_from octets)
 
 -- what may end groups, with and without a V4 address
-record Ends (v4 : Bool) (Last : List ℕ → List ℕ → Type 0) : Type 0 where
+record GroupEnds (v4 : Bool) (Last : List ℕ → List ℕ → Type 0) : Type 0 where
   one : (text groups : List ℕ) → IsOneGroup text groups → Last text groups
   tail : IsTrue v4 → (text groups : List ℕ) → IsV4Tail text groups → Last text groups
   only : (text groups : List ℕ) → Last text groups → IsOneGroup text groups ⊎ (IsTrue v4 × IsV4Tail text groups)
 
-plain_ends : Ends false IsOneGroup
-plain_ends = grind arith
+one_group_ends : GroupEnds false IsOneGroup
+one_group_ends = grind arith
 
-all_ends : Ends true IsEnd
+all_ends : GroupEnds true IsEnd
 all_ends = grind arith
 
-module _ {v4 : Bool} {Last : List ℕ → List ℕ → Type 0} (ends : Ends v4 Last) where
-  groups_from : (lead text : List ℕ) (n : ℕ) (groups : List ℕ) → net.IsGroupsAfter v4 lead text (n ∷ groups) → (body : List ℕ) × (text ≡ lead ++ body) × AreGroups Last body (n ∷ groups)
+module _ {v4 : Bool} {Last : List ℕ → List ℕ → Type 0} (ends : GroupEnds v4 Last) where
+  groups_from : (lead text : List ℕ) (n : ℕ) (groups : List ℕ) → net.IsGroupsAfter v4 lead text (n ∷ groups)
+      → (body : List ℕ) × (text ≡ lead ++ body) × AreGroups Last body (n ∷ groups)
   groups_from lead text n groups (inr h) = (h.0, h.3, inl (ends.tail h.2 h.0 (n ∷ groups) (h.1, v4_from h.0 h.1 h.4, h.5 ∙ pairs_from h.1)))
   groups_from lead text n [] (inl h) = grind (arith, append-nil, group_from)
   groups_from lead text n (m ∷ groups) (inl h) = grind (arith, groups_from (codes ":") h.1 m groups h.4, append_assoc, group_from)
@@ -54,7 +57,8 @@ module _ {v4 : Bool} {Last : List ℕ → List ℕ → Type 0} (ends : Ends v4 L
   one_to : (lead text : List ℕ) (groups : List ℕ) → IsOneGroup text groups → net.IsGroupsAfter v4 lead (lead ++ text) groups
   one_to lead text groups h = grind (arith, append-nil, group_to)
 
-  tail_to : (lead text : List ℕ) (n : ℕ) (groups : List ℕ) → IsTrue v4 → IsV4Tail text (n ∷ groups) → net.IsGroupsAfter v4 lead (lead ++ text) (n ∷ groups)
+  tail_to : (lead text : List ℕ) (n : ℕ) (groups : List ℕ) → IsTrue v4 → IsV4Tail text (n ∷ groups)
+      → net.IsGroupsAfter v4 lead (lead ++ text) (n ∷ groups)
   tail_to lead text n groups allowed h = inr (text, h.0, allowed, refl, v4_to text h.0 h.1, h.2 ∙ sym (pairs_from h.0))
 
   groups_to : (lead text : List ℕ) (groups : List ℕ) → AreGroups Last text groups → net.IsGroupsAfter v4 lead (lead ++ text) groups
@@ -84,7 +88,7 @@ short_from text groups h =
         back = h.tail;
         zeros = zeros;
         joined = h.spelled ∙ append_assoc h.head_text (codes "::") h.tail_text;
-        front_is = any_from plain_ends h.head_text h.head h.head_groups;
+        front_is = any_from one_group_ends h.head_text h.head h.head_groups;
         back_is = any_from all_ends h.tail_text h.tail h.tail_groups;
         some = omega (arith, h.room);
         groups_are = whole;
@@ -94,7 +98,8 @@ short_from text groups h =
 
 short_to : (text groups : List ℕ) → IsShortened text groups → length groups ≡ 8 → net.IsElided text groups
 short_to text groups h eight =
-    let count : length h.front + (h.zeros + length h.back) ≡ 8 = omega (arith, ap length h.groups_are, length-append {A = ℕ}, length-replicate {A = ℕ}) in
+    let count : length h.front + (h.zeros + length h.back) ≡ 8 =
+    omega (arith, ap length h.groups_are, length-append {A = ℕ}, length-replicate {A = ℕ}) in
     let zeros : h.zeros ≡ 8 - length h.front - length h.back = omega arith in
     record {
       head_text = h.front_text;
@@ -102,16 +107,19 @@ short_to text groups h eight =
       head = h.front;
       tail = h.back;
       spelled = h.joined ∙ sym (append_assoc h.front_text (codes "::") h.back_text);
-      head_groups = any_to plain_ends h.front_text h.front h.front_is;
+      head_groups = any_to one_group_ends h.front_text h.front h.front_is;
       tail_groups = any_to all_ends h.back_text h.back h.back_is;
       room = omega (arith, h.some);
-      value = h.groups_are ∙ ap (λ (k : ℕ). h.front ++ (replicate k 0 ++ h.back)) zeros ∙ sym (append_assoc h.front (replicate (8 - length h.front - length h.back) 0) h.back);
+      value = h.groups_are ∙ ap (λ (k : ℕ). h.front ++ (replicate k 0 ++ h.back)) zeros
+          ∙ sym (append_assoc h.front (replicate (8 - length h.front - length h.back) 0) h.back);
     }
 
 pub v6_from : (text groups : List ℕ) → net.IsColonHex text groups → IsV6Text text groups
 v6_from text [] (inl h) = absurd (omega (arith, h.1))
-v6_from text (n ∷ groups) (inl h) = let all = groups_from all_ends [] text n groups h.0 in (inl (subst (λ (t : List ℕ). AreGroups IsEnd t (n ∷ groups)) (sym all.1) all.2), h.1)
+v6_from text (n ∷ groups) (inl h) = let all = groups_from all_ends [] text n groups h.0 in
+    (inl (subst (λ (t : List ℕ). AreGroups IsEnd t (n ∷ groups)) (sym all.1) all.2), h.1)
 v6_from text groups (inr h) = let all = short_from text groups h in (inr all.0, all.1)
 
 pub v6_to : (text groups : List ℕ) → IsV6Text text groups → net.IsColonHex text groups
-v6_to text groups h = elim h.0 [ inl all ↦ inl (groups_to all_ends [] text groups all, h.1) | inr short ↦ inr (short_to text groups short h.1) ]
+v6_to text groups h = elim h.0
+    [ inl all ↦ inl (groups_to all_ends [] text groups all, h.1) | inr short ↦ inr (short_to text groups short h.1) ]

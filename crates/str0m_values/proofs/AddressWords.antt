@@ -1,10 +1,11 @@
 -- The text of an address is a word.
-use Rattle.str0m_values.proofs.Common.{◌≡◌, ◌≢◌, ℕ, ◌<◌, ◌≤◌, ◌+◌, ◌^◌, List, [], ◌∷◌, ◌++◌, length, ap, ◌∙◌, inl, inr, arith, lit≤, length-append, codes, decimal, digit_value, IsNumeral, AllDigits, decimal_is_IsNumeral}
+use Rattle.str0m_values.proofs.Common.{◌≡◌, ◌≢◌, ℕ, ◌<◌, ◌≤◌, ◌+◌, ◌^◌, List, [], ◌∷◌, ◌++◌, length, ap, ◌∙◌, inl, inr, arith, lit≤}
+use Rattle.str0m_values.proofs.Common.{length-append, codes, decimal, digit_value, IsNumeral, AllDigits, decimal_is_IsNumeral}
+use Rattle.str0m_values.specs.Address.{Parted, IsOctet, IsV4Text, IsHexGroup, IsOneGroup, IsEnd, AreGroups, AreAnyGroups, IsShortened}
+use Rattle.str0m_values.specs.Address.{IsIpText}
+use Rattle.str0m_values.specs.CutsParts.{Lacks, IsRest, IsWord}
 use Rattle.str0m_values.specs.declared.address.IpAddr.{IpAddr}
 use Rattle.str0m_values.specs.declared.address.IpAddr.TheVariants.{V4, V6}
-use Rattle.str0m_values.specs.Parts.{Lacks, IsRest, IsWord}
-use Rattle.str0m_values.specs.Joined.{Parted}
-use Rattle.str0m_values.specs.Address.{IsOctet, IsV4Text, IsGroup, IsOneGroup, IsEnd, AreGroups, AreAnyGroups, IsShortened, IsIpText}
 
 pub lacks_both : (c : ℕ) (xs ys : List ℕ) → Lacks c xs → Lacks c ys → Lacks c (xs ++ ys)
 lacks_both c [] ys h k = k
@@ -26,19 +27,21 @@ numeral_word radix text low h = (h.0, digits_lack_other 32 radix text (omega ari
 pub decimal_word : (n : ℕ) → n < 2 ^ 64 → IsWord (decimal n)
 decimal_word n small = numeral_word 10 (decimal n) (lit≤ tt) (decimal_is_IsNumeral n small).0
 
-parted_word : (c : ℕ) (F : List ℕ → ℕ → Type 0) → c ≢ 32 → ((text : List ℕ) (x : ℕ) → F text x → IsWord text) → (text : List ℕ) (xs : List ℕ) → Parted c F text xs → IsWord text
+parted_word : (c : ℕ) (F : List ℕ → ℕ → Type 0) → c ≢ 32 → ((text : List ℕ) (x : ℕ) → F text x → IsWord text)
+    → (text : List ℕ) (xs : List ℕ) → Parted c F text xs → IsWord text
 parted_word c F other word text [] h = absurd h
 parted_word c F other word text (x ∷ []) h = word text x h
 parted_word c F other word text (x ∷ y ∷ ys) h =
     grind (arith, word_then h.0 c h.1 (word h.0 x h.3) other, parted_word c F other word h.1 (y ∷ ys) h.4)
 
 v4_word : (text octets : List ℕ) → IsV4Text text octets → IsWord text
-v4_word text octets h = parted_word 46 IsOctet (λ e. absurd (omega arith)) (λ t n o. rw o.0 (decimal_word n (omega (arith, o.1)))) text octets h.0
+v4_word text octets h = parted_word 46 IsOctet (λ e. absurd (omega arith)) (λ t n o. rw o.0 (decimal_word n (omega (arith, o.1)))) text
+    octets h.0
 
 colon : ◌≢◌ {A = ℕ} 58 32
 colon e = absurd (omega arith)
 
-group_word : (text : List ℕ) (n : ℕ) → IsGroup text n → IsWord text
+group_word : (text : List ℕ) (n : ℕ) → IsHexGroup text n → IsWord text
 group_word text n h = numeral_word 16 text (lit≤ tt) h.numeral
 
 one_word : (text groups : List ℕ) → IsOneGroup text groups → IsWord text
@@ -61,7 +64,8 @@ short_word text groups h =
     let front = any_lacks IsOneGroup one_word h.front_text h.front h.front_is in
     let back = any_lacks IsEnd end_word h.back_text h.back h.back_is in
     let lacks : Lacks 32 text = rw h.joined (lacks_both 32 h.front_text (codes "::" ++ h.back_text) front (colon, (colon, back))) in
-    let len : length text ≡ length h.front_text + length (codes "::" ++ h.back_text) = ap length h.joined ∙ length-append h.front_text (codes "::" ++ h.back_text) in
+    let len : length text ≡ length h.front_text + length (codes "::" ++ h.back_text) =
+    ap length h.joined ∙ length-append h.front_text (codes "::" ++ h.back_text) in
     let rest : IsRest text = omega arith in
     (rest, lacks)
 

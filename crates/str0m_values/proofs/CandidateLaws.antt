@@ -1,20 +1,23 @@
 -- A text is read as a candidate exactly where it stands for it.
-use Rattle.str0m_values.proofs.Common.{rules, ◌≡◌, ℕ, cond, List, [], ◌∷◌, ◌++◌, Option, Some, None, refl, ap, ◌∙◌, inl, inr, append_assoc, append-nil, subst, arith, codes}
+use Rattle.str0m_values.proofs.CandidateParts.{num_both, socket_front, related_front, tcp_front, EndsNames, names_front}
+use Rattle.str0m_values.proofs.CandidateWords.{protocol_both, kind_both}
+use Rattle.str0m_values.proofs.Common.{rules, ◌≡◌, ℕ, cond, List, [], ◌∷◌, ◌++◌, Option, Some, None, refl, ap, ◌∙◌, inl, inr, append_assoc}
+use Rattle.str0m_values.proofs.Common.{append-nil, subst, arith, codes}
+use Rattle.str0m_values.proofs.CutsBothWays.{Reads, some_is}
+use Rattle.str0m_values.proofs.CutsNumLaws.{rest_true}
+use Rattle.str0m_values.proofs.LabelLaws.{bound, bind_is, IsWordEnd, EndsWithout, Starts, starts_all, starts_optional, Front}
+use Rattle.str0m_values.proofs.LabelLaws.{labelled_front, part_front, optional_front}
+use Rattle.str0m_values.specs.Candidate.{IsSocket, IsRelated, AreIceNames, IsCandidateText}
+use Rattle.str0m_values.specs.CandidateKind.{IsKindText}
+use Rattle.str0m_values.specs.CandidateReading.{Lead, Extras, protocol_read, candidate_kind_read, socket_read, related_read, tcp_part_read}
+use Rattle.str0m_values.specs.CandidateReading.{ice_names_read, lead_read, last_read, extras_read, candidate_of, candidate_read}
+use Rattle.str0m_values.specs.Cuts.{num, is_rest}
+use Rattle.str0m_values.specs.CutsParts.{IsNum}
+use Rattle.str0m_values.specs.LabelReading.{labelled_read, part_read, optional_read}
+use Rattle.str0m_values.specs.Labels.{IsSame, IsLabelled, IsOptional, IsLeftOut}
+use Rattle.str0m_values.specs.Protocol.{IsProtocolText, IsTcpTypeText}
 use Rattle.str0m_values.specs.declared.address.SocketAddr.{SocketAddr}
 use Rattle.str0m_values.specs.declared.candidate.Candidate.{Candidate}
-use Rattle.str0m_values.specs.Cuts.{num, is_rest}
-use Rattle.str0m_values.specs.Labels.{IsSame, IsLabelled, IsOptional, IsLeftOut}
-use Rattle.str0m_values.specs.LabelReading.{labelled_read, part_read, optional_read}
-use Rattle.str0m_values.specs.Parts.{IsNum}
-use Rattle.str0m_values.specs.CandidateKind.{IsKindText}
-use Rattle.str0m_values.specs.Protocol.{IsProtocolText, IsTcpTypeText}
-use Rattle.str0m_values.specs.Candidate.{IsSocket, IsRelated, AreNames, IsCandidateText}
-use Rattle.str0m_values.specs.CandidateReading.{Lead, Extras, protocol_read, kind_read, socket_read, related_read, tcp_part_read, names_read, lead_read, last_read, extras_read, candidate_of, candidate_read}
-use Rattle.str0m_values.proofs.BothWays.{Reads, some_is}
-use Rattle.str0m_values.proofs.NumLaws.{rest_true}
-use Rattle.str0m_values.proofs.CandidateWords.{protocol_both, kind_both}
-use Rattle.str0m_values.proofs.LabelLaws.{bound, bind_is, Ends, EndsWithout, Starts, starts_all, starts_optional, Front, labelled_front, part_front, optional_front}
-use Rattle.str0m_values.proofs.CandidateParts.{num_both, socket_front, related_front, tcp_front, EndsNames, names_front}
 use Rattle.str0m_values.specs.declared.candidate_label.TheConstants as candidate_label
 
 -- ---- what may follow a part
@@ -32,15 +35,22 @@ from_generation = candidate_label.GENERATION.now ∷ from_names
 abbrev from_tcp_type : List (List ℕ)
 from_tcp_type = candidate_label.TCP_TYPE.now ∷ from_generation
 
-starts_names : (part rest : List ℕ) (x : Option (List ℕ)) → AreNames part x → Starts from_cost rest → Starts from_names (part ++ rest)
+starts_names : (part rest : List ℕ) (x : Option (List ℕ)) → AreIceNames part x → Starts from_cost rest → Starts from_names (part ++ rest)
 starts_names part rest x (inl h) s =
-    grind (arith, append_assoc h.0 h.1 rest, starts_optional IsSame candidate_label.UFRAG.now from_cost h.1 rest x h.4 s, starts_optional IsSame candidate_label.NETWORK_ID.now (candidate_label.UFRAG.now ∷ from_cost) h.0 (h.1 ++ rest) h.3.0 h.3.1 (starts_optional IsSame candidate_label.UFRAG.now from_cost h.1 rest x h.4 s))
+    grind (
+      arith,
+      append_assoc h.0 h.1 rest,
+      starts_optional IsSame candidate_label.UFRAG.now from_cost h.1 rest x h.4 s,
+      starts_optional IsSame candidate_label.NETWORK_ID.now (candidate_label.UFRAG.now ∷ from_cost) h.0 (h.1 ++ rest) h.3.0 h.3.1
+          (starts_optional IsSame candidate_label.UFRAG.now from_cost h.1 rest x h.4 s),
+    )
 starts_names part rest x (inr h) s = grind arith
 
-ends_labelled : {B : Type 0} (F : List ℕ → B → Type 0) (label part rest : List ℕ) (x : B) → ((more : List ℕ) → Ends (label ++ more)) → IsLabelled label F part x → Ends (part ++ rest)
+ends_labelled : {B : Type 0} (F : List ℕ → B → Type 0) (label part rest : List ℕ) (x : B) → ((more : List ℕ) → IsWordEnd (label ++ more))
+    → IsLabelled label F part x → IsWordEnd (part ++ rest)
 ends_labelled F label part rest x spaced h = rw (h.1, append_assoc label h.0 rest) (spaced (h.0 ++ rest))
 
-ends_socket : (part rest : List ℕ) (x : SocketAddr) → IsSocket (codes " ") (codes " ") part x → Ends (part ++ rest)
+ends_socket : (part rest : List ℕ) (x : SocketAddr) → IsSocket (codes " ") (codes " ") part x → IsWordEnd (part ++ rest)
 ends_socket part rest x h = grind arith
 
 -- ---- the parts in front of the address
@@ -79,7 +89,7 @@ lead_sound text x e =
       priority_is = p₄.2;
     })
 
-lead_complete : (text : List ℕ) (x : Lead) (rest : List ℕ) → IsLead text x rest → Ends rest → lead_read text ≡ Some (x, rest)
+lead_complete : (text : List ℕ) (x : Lead) (rest : List ℕ) → IsLead text x rest → IsWordEnd rest → lead_read text ≡ Some (x, rest)
 lead_complete text x rest h ends =
     let r₄ : List ℕ = h.priority ++ rest in
     let r₃ : List ℕ = h.protocol ++ r₄ in
@@ -106,13 +116,13 @@ record IsLast (text : List ℕ) (x : Option (List ℕ)) : Type 0 where
   cost : List ℕ
   joined : text ≡ generation ++ (names ++ cost)
   generation_is : IsLeftOut candidate_label.GENERATION.now generation
-  names_are : AreNames names x
+  names_are : AreIceNames names x
   cost_is : IsLeftOut candidate_label.NETWORK_COST.now cost
 
 last_sound : (text : List ℕ) (x : Option (List ℕ)) → last_read text ≡ Some x → IsLast text x
 last_sound text x e =
     bound (optional_read candidate_label.GENERATION.now text) _ _ e λ generation e₁ k₁.
-    bound (names_read generation.1) _ _ k₁ λ names e₂ k₂.
+    bound (ice_names_read generation.1) _ _ k₁ λ names e₂ k₂.
     bound (optional_read candidate_label.NETWORK_COST.now names.1) _ _ k₂ λ cost e₃ last.
     let done = nothing_left cost.1 names.0 x last in
     let p₁ = (optional_front candidate_label.GENERATION.now).sound text generation e₁ in
@@ -132,7 +142,8 @@ last_sound text x e =
 cost_starts : (cost : List ℕ) → IsLeftOut candidate_label.NETWORK_COST.now cost → Starts from_cost cost
 cost_starts cost h = grind arith
 
-cost_complete : (cost : List ℕ) (h : IsLeftOut candidate_label.NETWORK_COST.now cost) → optional_read candidate_label.NETWORK_COST.now cost ≡ Some (h.0, [])
+cost_complete : (cost : List ℕ) (h : IsLeftOut candidate_label.NETWORK_COST.now cost)
+    → optional_read candidate_label.NETWORK_COST.now cost ≡ Some (h.0, [])
 cost_complete cost h = grind (arith, append-nil cost, optional_front candidate_label.NETWORK_COST.now)
 
 names_start : (text : List ℕ) (x : Option (List ℕ)) (h : IsLast text x) → Starts from_names (h.names ++ h.cost)
@@ -140,14 +151,20 @@ names_start text x h = starts_names h.names h.cost x h.names_are (cost_starts h.
 
 last_starts : (text : List ℕ) (x : Option (List ℕ)) → IsLast text x → Starts from_generation text
 last_starts text x h =
-    search (rules, starts_optional IsSame candidate_label.GENERATION.now from_names h.generation (h.names ++ h.cost) h.generation_is.0 h.generation_is.1, names_start text x h)
+    search (
+      rules,
+      starts_optional IsSame candidate_label.GENERATION.now from_names h.generation (h.names ++ h.cost) h.generation_is.0
+          h.generation_is.1,
+      names_start text x h,
+    )
 
 last_complete : (text : List ℕ) (x : Option (List ℕ)) → IsLast text x → last_read text ≡ Some x
 last_complete text x h =
     let r₂ : List ℕ = h.names ++ h.cost in
     let b₁ : EndsWithout candidate_label.GENERATION.now r₂ = starts_all (EndsWithout candidate_label.GENERATION.now) from_names (refl, refl)
     (λ m. (refl, refl), (λ m. (refl, refl), (λ m. (refl, refl), tt))) r₂ (names_start text x h) in
-    let b₂ : EndsNames h.cost = starts_all EndsNames from_cost (refl, refl, refl) (λ m. (refl, refl, refl), tt) h.cost (cost_starts h.cost h.cost_is) in
+    let b₂ : EndsNames h.cost = starts_all EndsNames from_cost (refl, refl, refl) (λ m. (refl, refl, refl), tt) h.cost
+    (cost_starts h.cost h.cost_is) in
     ap last_read h.joined
     ∙ bind_is _ _ _ _ ((optional_front candidate_label.GENERATION.now).complete h.generation h.generation_is.0 r₂ h.generation_is.1 b₁)
     (bind_is _ _ _ _ (names_front.complete h.names x h.cost h.names_are b₂) (bind_is _ _ _ _ (cost_complete h.cost h.cost_is) refl))
@@ -183,18 +200,32 @@ extras_sound text x e =
 
 tcp_type_starts : (text : List ℕ) (x : Extras) (h : IsExtras text x) → Starts from_tcp_type (h.tcp_type ++ h.last)
 tcp_type_starts text x h =
-    search (rules, starts_optional IsTcpTypeText candidate_label.TCP_TYPE.now from_generation h.tcp_type h.last x.tcptype h.tcp_type_is, last_starts h.last x.ufrag h.last_is)
+    search (
+      rules,
+      starts_optional IsTcpTypeText candidate_label.TCP_TYPE.now from_generation h.tcp_type h.last x.tcptype h.tcp_type_is,
+      last_starts h.last x.ufrag h.last_is,
+    )
 
-extras_end : (text : List ℕ) (x : Extras) → IsExtras text x → Ends text
+extras_end : (text : List ℕ) (x : Extras) → IsExtras text x → IsWordEnd text
 extras_end text x h = grind arith
 
 extras_complete : (text : List ℕ) (x : Extras) → IsExtras text x → extras_read text ≡ Some x
 extras_complete text x h =
-    grind (arith, starts_all (EndsWithout candidate_label.TCP_TYPE.now) from_generation, starts_all (EndsWithout candidate_label.RELATED_ADDRESS.now) from_tcp_type, tcp_type_starts text x h, last_starts h.last x.ufrag h.last_is, bind_is, related_front, tcp_front, last_complete h.last x.ufrag h.last_is)
+    grind (
+      arith,
+      starts_all (EndsWithout candidate_label.TCP_TYPE.now) from_generation,
+      starts_all (EndsWithout candidate_label.RELATED_ADDRESS.now) from_tcp_type,
+      tcp_type_starts text x h,
+      last_starts h.last x.ufrag h.last_is,
+      bind_is,
+      related_front,
+      tcp_front,
+      last_complete h.last x.ufrag h.last_is,
+    )
 
 -- ---- the whole text
 
-spaced_socket : Front (IsSocket (codes " ") (codes " ")) Ends (socket_read (codes " ") (codes " "))
+spaced_socket : Front (IsSocket (codes " ") (codes " ")) IsWordEnd (socket_read (codes " ") (codes " "))
 spaced_socket = socket_front (codes " ") (codes " ") (λ more. refl)
 
 -- what is read stands for the candidate
@@ -202,7 +233,7 @@ candidate_sound : (text : List ℕ) (c : Candidate) → candidate_read text ≡ 
 candidate_sound text c e =
     bound (lead_read text) _ _ e λ lead e₁ k₁.
     bound (socket_read (codes " ") (codes " ") lead.1) _ _ k₁ λ address e₂ k₂.
-    bound (part_read candidate_label.TYPE.now kind_read address.1) _ _ k₂ λ kind e₃ k₃.
+    bound (part_read candidate_label.TYPE.now candidate_kind_read address.1) _ _ k₂ λ kind e₃ k₃.
     bound (extras_read kind.1) _ _ k₃ λ extras e₄ same.
     let l = lead_sound text lead e₁ in
     let a = spaced_socket.sound lead.1 address e₂ in
@@ -221,7 +252,8 @@ candidate_sound text c e =
       names = x.last_is.names;
       cost = x.last_is.cost;
       joined = l.joined ∙ ap (λ (t : List ℕ). l.foundation ++ (l.component ++ (l.protocol ++ (l.priority ++ t))))
-          (a.1 ∙ ap (λ (t : List ℕ). a.0 ++ t) (k.1 ∙ ap (λ (t : List ℕ). k.0 ++ t) (x.joined ∙ ap (λ (t : List ℕ). x.related ++ (x.tcp_type ++ t)) x.last_is.joined)));
+          (a.1 ∙ ap (λ (t : List ℕ). a.0 ++ t)
+          (k.1 ∙ ap (λ (t : List ℕ). k.0 ++ t) (x.joined ∙ ap (λ (t : List ℕ). x.related ++ (x.tcp_type ++ t)) x.last_is.joined)));
       foundation_is = l.foundation_is;
       component_is = l.component_is;
       protocol_is = l.protocol_is;
@@ -273,7 +305,8 @@ candidate_complete text c h =
       last_is = last-is;
     } in
     bind_is _ _ _ _ (lead_complete text lead r₁ lead-is (ends_socket h.address r₂ c.addr h.address_is))
-    (bind_is _ _ _ _ (spaced_socket.complete h.address c.addr r₂ h.address_is (ends_labelled IsKindText candidate_label.TYPE.now h.kind r₃ c.kind (λ m. refl) h.kind_is))
+    (bind_is _ _ _ _ (spaced_socket.complete h.address c.addr r₂ h.address_is
+    (ends_labelled IsKindText candidate_label.TYPE.now h.kind r₃ c.kind (λ m. refl) h.kind_is))
     (bind_is _ _ _ _ ((part_front candidate_label.TYPE.now kind_both).complete h.kind c.kind r₃ h.kind_is (extras_end r₃ extras extras-are))
     (bind_is _ _ _ _ (extras_complete r₃ extras extras-are) refl)))
 

@@ -1,19 +1,22 @@
 -- What is printed of a candidate stands for it.
-use Rattle.str0m_values.proofs.Common.{◌≡◌, ◌≢◌, ℕ, ◌<◌, ◌≤◌, ◌^◌, List, [], ◌∷◌, ◌++◌, get_or, Option, Some, None, refl, sym, inl, arith, subst, append-nil, append_assoc, lit<, codes, decimal, IfSome, digit_value, IsNumeral, decimal_is_IsNumeral, without_leading_plus_none}
+use Rattle.str0m_values.proofs.AddressText.{ip_printed}
+use Rattle.str0m_values.proofs.AddressWords.{decimal_word, ip_word}
+use Rattle.str0m_values.proofs.Common.{◌≡◌, ◌≢◌, ℕ, ◌<◌, ◌≤◌, ◌^◌, List, [], ◌∷◌, ◌++◌, get_or, Option, Some, None, refl, sym, inl, arith}
+use Rattle.str0m_values.proofs.Common.{subst, append-nil, append_assoc, lit<, codes, decimal, IfSome, digit_value, IsNumeral}
+use Rattle.str0m_values.proofs.Common.{decimal_is_IsNumeral, without_leading_plus_none}
+use Rattle.str0m_values.specs.Address.{ip_text}
+use Rattle.str0m_values.specs.Candidate.{IsSocket, IsRelated, IsCandidateText, socket_text, related_text, candidate_text, IsSocketInRange}
+use Rattle.str0m_values.specs.Candidate.{IsPrintable}
+use Rattle.str0m_values.specs.CandidateKind.{kind_text}
+use Rattle.str0m_values.specs.CutsParts.{IsWord, IsNum}
+use Rattle.str0m_values.specs.Labels.{IsSame, IsLabelled, IsOptional, optional_text}
+use Rattle.str0m_values.specs.Protocol.{IsProtocolText, IsTcpTypeText, protocol_text, tcp_type_text}
 use Rattle.str0m_values.specs.declared.address.SocketAddr.{SocketAddr}
 use Rattle.str0m_values.specs.declared.candidate.Candidate.{Candidate}
 use Rattle.str0m_values.specs.declared.candidate_kind.CandidateKind.{CandidateKind}
+use Rattle.str0m_values.specs.declared.candidate_label.TheConstants as candidate_label
 use Rattle.str0m_values.specs.declared.protocol.Protocol.{Protocol}
 use Rattle.str0m_values.specs.declared.protocol.TcpType.{TcpType}
-use Rattle.str0m_values.specs.Parts.{IsWord, IsNum}
-use Rattle.str0m_values.specs.Labels.{IsSame, IsLabelled, IsOptional, optional_text}
-use Rattle.str0m_values.specs.Address.{ip_text}
-use Rattle.str0m_values.specs.CandidateKind.{kind_text}
-use Rattle.str0m_values.specs.Protocol.{IsProtocolText, IsTcpTypeText, protocol_text, tcp_type_text}
-use Rattle.str0m_values.specs.Candidate.{IsSocket, IsRelated, IsCandidateText, socket_text, related_text, candidate_text, IsSocketInRange, IsPrintable}
-use Rattle.str0m_values.proofs.AddressText.{printed}
-use Rattle.str0m_values.proofs.AddressWords.{decimal_word, ip_word}
-use Rattle.str0m_values.specs.declared.candidate_label.TheConstants as candidate_label
 
 -- ---- numbers and words
 
@@ -38,9 +41,10 @@ kind_word k = grind arith
 number_part : (label : List ℕ) (limit n : ℕ) → n ≤ limit → limit < 2 ^ 64 → IsLabelled label (IsNum limit) (label ++ decimal n) n
 number_part label limit n fits small = (decimal n, refl, decimal_word n (omega arith), number_text limit n fits small)
 
-socket_part : (ip_label port_label : List ℕ) (a : SocketAddr) → IsSocketInRange a → IsSocket ip_label port_label (socket_text ip_label port_label a) a
+socket_part : (ip_label port_label : List ℕ) (a : SocketAddr) → IsSocketInRange a
+    → IsSocket ip_label port_label (socket_text ip_label port_label a) a
 socket_part ip_label port_label a h =
-    let ip-is = printed a.ip h.0 in (
+    let ip-is = ip_printed a.ip h.0 in (
       ip_label ++ ip_text a.ip,
       port_label ++ decimal a.port,
       sym (append_assoc ip_label (ip_text a.ip) (port_label ++ decimal a.port)),
@@ -52,11 +56,13 @@ related_part : (o : Option SocketAddr) → IfSome o IsSocketInRange → IsRelate
 related_part None h = refl
 related_part (Some a) h = socket_part candidate_label.RELATED_ADDRESS.now candidate_label.RELATED_PORT.now a h
 
-tcp_type_part : (o : Option TcpType) → IsOptional candidate_label.TCP_TYPE.now IsTcpTypeText (optional_text candidate_label.TCP_TYPE.now tcp_type_text o) o
+tcp_type_part : (o : Option TcpType)
+    → IsOptional candidate_label.TCP_TYPE.now IsTcpTypeText (optional_text candidate_label.TCP_TYPE.now tcp_type_text o) o
 tcp_type_part None = refl
 tcp_type_part (Some t) = (tcp_type_text t, refl, (tcp_type_word t).0, (tcp_type_word t).1)
 
-ufrag_part : (o : Option (List ℕ)) → IfSome o IsWord → IsOptional candidate_label.UFRAG.now IsSame (optional_text candidate_label.UFRAG.now (λ t. t) o) o
+ufrag_part : (o : Option (List ℕ)) → IfSome o IsWord
+    → IsOptional candidate_label.UFRAG.now IsSame (optional_text candidate_label.UFRAG.now (λ t. t) o) o
 ufrag_part o h = grind arith
 
 pub printed_candidate : (c : Candidate) → IsPrintable c → IsCandidateText (candidate_text c) c

@@ -1,23 +1,25 @@
 -- The words for protocols, TCP types and kinds of candidates, read both ways.
 use Rattle.str0m_values.proofs.Common.{arith, ◌≡◌, Some, str_to_ascii_lowercase}
-use Rattle.str0m_values.specs.declared.protocol.TheConstants.{PROTOCOLS, TCP_TYPES}
+use Rattle.str0m_values.proofs.CutsBothWays.{Reads}
+use Rattle.str0m_values.proofs.WordsOfCases.{reads_alike, reads_words}
+use Rattle.str0m_values.specs.CandidateKind.{kind_text, IsKindText}
+use Rattle.str0m_values.specs.CandidateReading.{protocol_read, tcp_type_read, candidate_kind_read}
+use Rattle.str0m_values.specs.Protocol.{protocol_text, tcp_type_text, IsProtocolText, IsTcpTypeText}
+use Rattle.str0m_values.specs.Words.{case_alike, case_of}
+use Rattle.str0m_values.specs.declared.candidate_kind.CandidateKind.{CandidateKind}
+use Rattle.str0m_values.specs.declared.candidate_kind.TheConstants.{KINDS}
 use Rattle.str0m_values.specs.declared.protocol.Protocol.{Protocol}
 use Rattle.str0m_values.specs.declared.protocol.TcpType.{TcpType}
-use Rattle.str0m_values.specs.declared.candidate_kind.TheConstants.{KINDS}
-use Rattle.str0m_values.specs.declared.candidate_kind.CandidateKind.{CandidateKind}
-use Rattle.str0m_values.specs.Protocol.{protocol_text, tcp_type_text, IsProtocolText, IsTcpTypeText}
-use Rattle.str0m_values.specs.CandidateKind.{kind_text, IsKindText}
-use Rattle.str0m_values.specs.CandidateReading.{protocol_read, tcp_type_read, kind_read}
-use Rattle.str0m_values.specs.Words.{case_alike, case_of}
-use Rattle.str0m_values.proofs.WordsOfCases.{reads_alike, reads_words}
-use Rattle.str0m_values.proofs.BothWays.{Reads}
+use Rattle.str0m_values.specs.declared.protocol.TheConstants.{PROTOCOLS, TCP_TYPES}
 
 -- each case by its own word, which is in lower case
-protocol_own : (p : Protocol) → (str_to_ascii_lowercase (protocol_text p) ≡ protocol_text p) × (case_alike protocol_text PROTOCOLS (protocol_text p) ≡ Some p)
+protocol_own : (p : Protocol) → (str_to_ascii_lowercase (protocol_text p) ≡ protocol_text p)
+    × (case_alike protocol_text PROTOCOLS (protocol_text p) ≡ Some p)
 unfolding case_alike
 protocol_own p = grind arith
 
-tcp_type_own : (t : TcpType) → (str_to_ascii_lowercase (tcp_type_text t) ≡ tcp_type_text t) × (case_alike tcp_type_text TCP_TYPES (tcp_type_text t) ≡ Some t)
+tcp_type_own : (t : TcpType) → (str_to_ascii_lowercase (tcp_type_text t) ≡ tcp_type_text t)
+    × (case_alike tcp_type_text TCP_TYPES (tcp_type_text t) ≡ Some t)
 unfolding case_alike
 tcp_type_own t = grind arith
 
@@ -31,5 +33,5 @@ protocol_both = reads_alike protocol_text PROTOCOLS (λ p. (protocol_own p).0) (
 pub tcp_type_both : Reads IsTcpTypeText tcp_type_read
 tcp_type_both = reads_alike tcp_type_text TCP_TYPES (λ t. (tcp_type_own t).0) (λ t. (tcp_type_own t).1)
 
-pub kind_both : Reads IsKindText kind_read
+pub kind_both : Reads IsKindText candidate_kind_read
 kind_both = reads_words kind_text KINDS kind_own

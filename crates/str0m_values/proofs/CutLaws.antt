@@ -1,10 +1,14 @@
 -- What a cut at a character, and what follows a prefix, are.
-use Rattle.str0m_values.proofs.Common.{◌≡◌, ◌≢◌, ℕ, suc, inl, inr, ◌<◌, ◌≤◌, ◌+◌, true, not, List, [], ◌∷◌, ◌++◌, length, get_or, drop, take, Option, Some, None, refl, sym, ap, ◌∙◌, arith, append-nil, option_map, is_some, eq-eqb, ne_eqb, cases_eq, both_ways, and_parts, some_pair_parts, none-some, drop-append_seam, take-append_seam, IsUtf8, IsCharBoundary, MatchOption, not-true, false_from_ne_true, length-append, IsCharBoundary-from_take}
+use Rattle.std.proofs.lemmas.Str.Pattern.{IsSplitOnceResult, split_parts}
 use Rattle.std.specs.Borrow.{Bor}
 use Rattle.std.specs.Str.Pattern.{FindsTextPrefix}
-use Rattle.std.proofs.lemmas.Str.Pattern.{IsSplitOnceResult, split_parts}
-use Rattle.str0m_values.specs.Parts.{Lacks}
+use Rattle.str0m_values.proofs.Common.{◌≡◌, ◌≢◌, ℕ, suc, inl, inr, ◌<◌, ◌≤◌, ◌+◌, true, not, List, [], ◌∷◌, ◌++◌, length, get_or, drop}
+use Rattle.str0m_values.proofs.Common.{take, Option, Some, None, refl, sym, ap, ◌∙◌, arith, append-nil, option_map, is_some, eq-eqb, ne_eqb}
+use Rattle.str0m_values.proofs.Common.{cases_eq, both_ways, and_parts, some_pair_parts, none-some, drop-append_seam, take-append_seam}
+use Rattle.str0m_values.proofs.Common.{IsUtf8, IsCharBoundary, MatchOption, not-true, false_from_ne_true, length-append}
+use Rattle.str0m_values.proofs.Common.{IsCharBoundary-from_take}
 use Rattle.str0m_values.specs.Cuts.{cut, before_cut, strip, parts, front, before, lacks}
+use Rattle.str0m_values.specs.CutsParts.{Lacks}
 
 pub cut_none : (c : ℕ) (text : List ℕ) → Lacks c text → cut c text ≡ None
 cut_none c [] h = refl
@@ -14,7 +18,8 @@ pub cut_at : (c : ℕ) (a b : List ℕ) → Lacks c a → cut c (a ++ (c ∷ b))
 cut_at c [] b h = rw (eq-eqb c c refl) refl
 cut_at c (x ∷ xs) b h = rw (ne_eqb x c h.0) (ap (before_cut x) (cut_at c xs b h.1))
 
-before_cut_some : (x : ℕ) (o : Option (List ℕ × List ℕ)) (a b : List ℕ) → before_cut x o ≡ Some (a, b) → (rest : List ℕ) × (o ≡ Some (rest, b)) × (x ∷ rest ≡ a)
+before_cut_some : (x : ℕ) (o : Option (List ℕ × List ℕ)) (a b : List ℕ) → before_cut x o ≡ Some (a, b)
+    → (rest : List ℕ) × (o ≡ Some (rest, b)) × (x ∷ rest ≡ a)
 before_cut_some x o a b e = grind arith
 
 pub cut_found : (c : ℕ) (text a b : List ℕ) → cut c text ≡ Some (a, b) → (text ≡ a ++ (c ∷ b)) × Lacks c a
@@ -41,7 +46,8 @@ pub Lacks-by_index : (c : ℕ) (text : List ℕ) → ((i : ℕ) → i < length t
 Lacks-by_index c [] h = tt
 Lacks-by_index c (x ∷ xs) h = (h 0 (omega arith), Lacks-by_index c xs (λ i lt. h (suc i) (omega arith)))
 
-pub cut_from_split : (c : ℕ) (text : List ℕ) (r : Option (Bor (List ℕ) × Bor (List ℕ))) → IsSplitOnceResult c text r → c < 128 → parts r ≡ cut c text
+pub cut_from_split : (c : ℕ) (text : List ℕ) (r : Option (Bor (List ℕ) × Bor (List ℕ))) → IsSplitOnceResult c text r → c < 128
+    → parts r ≡ cut c text
 cut_from_split c text r h lt = grind (arith, cut_none, Lacks-by_index, split_parts, cut_at)
 
 -- ---- prefixes
@@ -57,10 +63,14 @@ strip_found (p ∷ ps) (x ∷ xs) rest e = grind (arith, cases_eq, eq-eqb, strip
 
 pub strip_none : (p text : List ℕ) → ((rest : List ℕ) → text ≢ p ++ rest) → strip p text ≡ None
 strip_none p text h =
-    let cases : (o : Option (List ℕ)) → strip p text ≡ o → o ≡ None = λ o e. elim o as (λ v. strip p text ≡ v → v ≡ None) [ None ↦ λ _. refl | Some rest ↦ λ f. absurd (h rest (strip_found p text rest f)) ] e in
+    let cases : (o : Option (List ℕ)) → strip p text ≡ o → o ≡ None =
+    λ o e. elim o as (λ v. strip p text ≡ v → v ≡ None)
+    [ None ↦ λ _. refl | Some rest ↦ λ f. absurd (h rest (strip_found p text rest f)) ] e in
     cases (strip p text) refl
 
-pub strip_from_prefix : (p text : List ℕ) (r : Option (Bor (List ℕ))) → MatchOption r (FindsTextPrefix p text None) (λ x. (n : ℕ) × FindsTextPrefix p text (Some n) × (x.now ≡ drop n text) × (length x.now + n ≡ length text)) → option_map (λ x. x.now) r ≡ strip p text
+pub strip_from_prefix : (p text : List ℕ) (r : Option (Bor (List ℕ)))
+    → MatchOption r (FindsTextPrefix p text None) (λ x. (n : ℕ) × FindsTextPrefix p text (Some n) × (x.now ≡ drop n text)
+    × (length x.now + n ≡ length text)) → option_map (λ x. x.now) r ≡ strip p text
 strip_from_prefix p text r h = grind (arith, strip_none, strip_at)
 
 -- ---- a character that stands nowhere

@@ -1,13 +1,25 @@
 -- The texts of addresses (RFC 4291 section 2.2), and the one that is printed (RFC 5952 section 4).
-use Rattle.std.specs.Prelude.{◌≡◌, ◌⊎◌, ℕ, ◌+◌, ◌*◌, ◌^◌, ◌<◌, ◌≤◌, ◌==◌, nat_lt, max, List, [], ◌∷◌, ◌++◌, length, take, drop, map, replicate, codes, if◌then◌else◌}
 use Rattle.std.specs.List.{AllByRecursion, prefix_len}
-use Rattle.std.specs.Fmt.{decimal}
 use Rattle.std.specs.Net.Text.{hex}
+use Rattle.std.specs.Prelude.{◌≡◌, ◌⊎◌, ℕ, ◌+◌, ◌*◌, ◌^◌, ◌<◌, ◌≤◌, ◌==◌, nat_lt, max, List, [], ◌∷◌, ◌++◌, length, take, drop, map, replicate, codes, if◌then◌else◌, decimal}
 use Rattle.std.specs.Str.Parse.{IsNumeral, digits_value}
 use Rattle.str0m_values.specs.declared.address.IpAddr.{IpAddr}
 use Rattle.str0m_values.specs.declared.address.IpAddr.TheVariants.{V4, V6}
 use Rattle.str0m_values.specs.declared.address.SocketAddr.{SocketAddr}
-use Rattle.str0m_values.specs.Joined.{Parted, joined}
+
+-- ---- parts with a character between them
+
+-- the texts with c between them
+abbrev pub joined_by : ℕ → List (List ℕ) → List ℕ
+joined_by c [] = []
+joined_by c (text ∷ []) = text
+joined_by c (text ∷ more ∷ texts) = text ++ (c ∷ joined_by c (more ∷ texts))
+
+-- one or more parts with c between them, each with its value by F
+abbrev pub Parted : {B : Type 0} → ℕ → (List ℕ → B → Type 0) → List ℕ → List B → Type 0
+Parted c F text [] = ⊥
+Parted c F text (x ∷ []) = F text x
+Parted c F text (x ∷ y ∷ ys) = (part : List ℕ) × (rest : List ℕ) × (text ≡ part ++ (c ∷ rest)) × F part x × Parted c F rest (y ∷ ys)
 
 -- ---- what a text stands for
 
@@ -20,23 +32,23 @@ abbrev pub IsV4Text : List ℕ → List ℕ → Type 0
 IsV4Text text octets = Parted 46 IsOctet text octets × (length octets ≡ 4)
 
 -- one to four hex digits
-pub record IsGroup (text : List ℕ) (n : ℕ) : Type 0 where
+pub record IsHexGroup (text : List ℕ) (n : ℕ) : Type 0 where
   pub numeral : IsNumeral 16 text
   pub value : digits_value 16 text ≡ n
   pub short : length text ≤ 4
 
 -- one group
 abbrev pub IsOneGroup : List ℕ → List ℕ → Type 0
-IsOneGroup text groups = (n : ℕ) × IsGroup text n × (groups ≡ n ∷ [])
+IsOneGroup text groups = (n : ℕ) × IsHexGroup text n × (groups ≡ n ∷ [])
 
 -- each two octets as a group
-abbrev pub pairs : List ℕ → List ℕ
-pairs (a ∷ b ∷ octets) = (a * 256 + b) ∷ pairs octets
-pairs octets = []
+abbrev pub octet_pairs : List ℕ → List ℕ
+octet_pairs (a ∷ b ∷ octets) = (a * 256 + b) ∷ octet_pairs octets
+octet_pairs octets = []
 
 -- a V4 address for the last two groups
 abbrev pub IsV4Tail : List ℕ → List ℕ → Type 0
-IsV4Tail text groups = (octets : List ℕ) × IsV4Text text octets × (groups ≡ pairs octets)
+IsV4Tail text groups = (octets : List ℕ) × IsV4Text text octets × (groups ≡ octet_pairs octets)
 
 -- what ends an address
 abbrev pub IsEnd : List ℕ → List ℕ → Type 0
@@ -47,7 +59,7 @@ abbrev pub AreGroups : (List ℕ → List ℕ → Type 0) → List ℕ → List 
 AreGroups Last text [] = ⊥
 AreGroups Last text (n ∷ groups) =
     Last text (n ∷ groups)
-    ⊎ ((group : List ℕ) × (rest : List ℕ) × (text ≡ group ++ (codes ":" ++ rest)) × IsGroup group n × AreGroups Last rest groups)
+    ⊎ ((group : List ℕ) × (rest : List ℕ) × (text ≡ group ++ (codes ":" ++ rest)) × IsHexGroup group n × AreGroups Last rest groups)
 
 -- the same, or nothing
 abbrev pub AreAnyGroups : (List ℕ → List ℕ → Type 0) → List ℕ → List ℕ → Type 0
@@ -78,11 +90,11 @@ IsIpText text (V6 groups) = IsV6Text text groups
 
 -- octets in decimal
 abbrev pub v4_text : List ℕ → List ℕ
-v4_text octets = joined 46 (map decimal octets)
+v4_text octets = joined_by 46 (map decimal octets)
 
 -- groups in lower-case hex without leading zeros
 abbrev pub groups_text : List ℕ → List ℕ
-groups_text groups = joined 58 (map hex groups)
+groups_text groups = joined_by 58 (map hex groups)
 
 -- how many zero groups stand at the front
 abbrev pub zeros_at_front : List ℕ → ℕ

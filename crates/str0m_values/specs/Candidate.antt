@@ -1,13 +1,12 @@
 -- The text of a candidate, which stands after `a=` (RFC 8839 section 5.1; for tcptype RFC 6544 section 4.5).
-use Rattle.std.specs.Prelude.{◌≡◌, ◌⊎◌, ◌<◌, ◌^◌, IfSome, ℕ, List, [], ◌++◌, Option, Some, None, codes}
-use Rattle.std.specs.Fmt.{decimal}
-use Rattle.str0m_values.specs.declared.address.SocketAddr.{SocketAddr}
-use Rattle.str0m_values.specs.declared.candidate.Candidate.{Candidate}
-use Rattle.str0m_values.specs.Parts.{IsWord, IsNum}
-use Rattle.str0m_values.specs.Labels.{IsSame, IsLabelled, IsOptional, IsLeftOut, optional_text}
+use Rattle.std.specs.Prelude.{◌≡◌, ◌⊎◌, ◌<◌, ◌^◌, IfSome, ℕ, List, [], ◌++◌, Option, Some, None, codes, decimal}
 use Rattle.str0m_values.specs.Address.{IsIpText, IsInRange, ip_text}
 use Rattle.str0m_values.specs.CandidateKind.{IsKindText, kind_text}
+use Rattle.str0m_values.specs.CutsParts.{IsWord, IsNum}
+use Rattle.str0m_values.specs.Labels.{IsSame, IsLabelled, IsOptional, IsLeftOut, optional_text}
 use Rattle.str0m_values.specs.Protocol.{IsProtocolText, IsTcpTypeText, protocol_text, tcp_type_text}
+use Rattle.str0m_values.specs.declared.address.SocketAddr.{SocketAddr}
+use Rattle.str0m_values.specs.declared.candidate.Candidate.{Candidate}
 use Rattle.str0m_values.specs.declared.candidate_label.TheConstants as candidate_label
 
 -- ---- what a text stands for
@@ -23,8 +22,8 @@ IsRelated text None = text ≡ []
 IsRelated text (Some addr) = IsSocket candidate_label.RELATED_ADDRESS.now candidate_label.RELATED_PORT.now text addr
 
 -- a network's id and a name fragment, each of them or not; where both stand, in any order
-abbrev pub AreNames : List ℕ → Option (List ℕ) → Type 0
-AreNames text ufrag =
+abbrev pub AreIceNames : List ℕ → Option (List ℕ) → Type 0
+AreIceNames text ufrag =
     ((network : List ℕ) × (name : List ℕ) × (text ≡ network ++ name) × IsLeftOut candidate_label.NETWORK_ID.now network × IsOptional candidate_label.UFRAG.now IsSame name ufrag)
     ⊎ ((name : List ℕ) × (network : List ℕ) × (word : List ℕ) × (fragment : List ℕ) × (text ≡ name ++ network)
     × IsLabelled candidate_label.UFRAG.now IsSame name fragment × IsLabelled candidate_label.NETWORK_ID.now IsSame network word × (ufrag ≡ Some fragment))
@@ -52,7 +51,7 @@ pub record IsCandidateText (text : List ℕ) (c : Candidate) : Type 0 where
   pub related_is : IsRelated related c.raddr
   pub tcp_type_is : IsOptional candidate_label.TCP_TYPE.now IsTcpTypeText tcp_type c.tcptype
   pub generation_is : IsLeftOut candidate_label.GENERATION.now generation
-  pub names_are : AreNames names c.ufrag
+  pub names_are : AreIceNames names c.ufrag
   pub cost_is : IsLeftOut candidate_label.NETWORK_COST.now cost
 
 -- ---- what is printed

@@ -1,19 +1,19 @@
 -- Reading of a candidate's text as functions. The relations are in Candidate.
 use Rattle.std.specs.Prelude.{ℕ, List, Option, Some, None, ◌||◌, is_some, is_none, if◌then◌else◌, codes}
+use Rattle.str0m_values.specs.AddressReading.{ip_read}
+use Rattle.str0m_values.specs.CandidateKind.{kind_text}
+use Rattle.str0m_values.specs.Cuts.{◌>>=◌, strip, is_rest, num}
+use Rattle.str0m_values.specs.LabelReading.{labelled_read, part_read, optional_read, word_value_read}
+use Rattle.str0m_values.specs.Protocol.{protocol_text, tcp_type_text}
+use Rattle.str0m_values.specs.Words.{case_alike, case_of}
+use Rattle.str0m_values.specs.declared.address.SocketAddr.{SocketAddr}
+use Rattle.str0m_values.specs.declared.candidate.Candidate.{Candidate}
+use Rattle.str0m_values.specs.declared.candidate_kind.CandidateKind.{CandidateKind}
+use Rattle.str0m_values.specs.declared.candidate_kind.TheConstants.{KINDS}
+use Rattle.str0m_values.specs.declared.candidate_label.TheConstants as candidate_label
 use Rattle.str0m_values.specs.declared.protocol.Protocol.{Protocol}
 use Rattle.str0m_values.specs.declared.protocol.TcpType.{TcpType}
 use Rattle.str0m_values.specs.declared.protocol.TheConstants.{PROTOCOLS, TCP_TYPES}
-use Rattle.str0m_values.specs.declared.candidate_kind.CandidateKind.{CandidateKind}
-use Rattle.str0m_values.specs.declared.candidate_kind.TheConstants.{KINDS}
-use Rattle.str0m_values.specs.declared.address.SocketAddr.{SocketAddr}
-use Rattle.str0m_values.specs.declared.candidate.Candidate.{Candidate}
-use Rattle.str0m_values.specs.Cuts.{◌>>=◌, strip, is_rest, num}
-use Rattle.str0m_values.specs.LabelReading.{labelled_read, part_read, optional_read, value_read}
-use Rattle.str0m_values.specs.AddressReading.{ip_read}
-use Rattle.str0m_values.specs.CandidateKind.{kind_text}
-use Rattle.str0m_values.specs.Protocol.{protocol_text, tcp_type_text}
-use Rattle.str0m_values.specs.Words.{case_alike, case_of}
-use Rattle.str0m_values.specs.declared.candidate_label.TheConstants as candidate_label
 
 abbrev pub protocol_read : List ℕ → Option Protocol
 protocol_read word = case_alike protocol_text PROTOCOLS word
@@ -21,8 +21,8 @@ protocol_read word = case_alike protocol_text PROTOCOLS word
 abbrev pub tcp_type_read : List ℕ → Option TcpType
 tcp_type_read word = case_alike tcp_type_text TCP_TYPES word
 
-abbrev pub kind_read : List ℕ → Option CandidateKind
-kind_read word = case_of kind_text KINDS word
+abbrev pub candidate_kind_read : List ℕ → Option CandidateKind
+candidate_kind_read word = case_of kind_text KINDS word
 
 -- an address and a port, each after its label, and what stands after them
 abbrev pub socket_read : List ℕ → List ℕ → List ℕ → Option (SocketAddr × List ℕ)
@@ -40,12 +40,12 @@ related_read text =
 abbrev pub tcp_part_read : List ℕ → Option (Option TcpType × List ℕ)
 tcp_part_read text = do
   word ← optional_read candidate_label.TCP_TYPE.now text
-  tcp_type ← value_read tcp_type_read word.0
+  tcp_type ← word_value_read tcp_type_read word.0
   Some (tcp_type, word.1)
 
 -- a network's id is looked for after the name fragment where none stood before it
-abbrev pub names_read : List ℕ → Option (Option (List ℕ) × List ℕ)
-names_read text = do
+abbrev pub ice_names_read : List ℕ → Option (Option (List ℕ) × List ℕ)
+ice_names_read text = do
   network ← optional_read candidate_label.NETWORK_ID.now text
   name ← optional_read candidate_label.UFRAG.now network.1
   if is_some network.0 || is_none name.0 then Some name
@@ -70,7 +70,7 @@ lead_read text = do
 abbrev pub last_read : List ℕ → Option (Option (List ℕ))
 last_read text = do
   generation ← optional_read candidate_label.GENERATION.now text
-  names ← names_read generation.1
+  names ← ice_names_read generation.1
   cost ← optional_read candidate_label.NETWORK_COST.now names.1
   if is_rest cost.1 then None else Some names.0
 
@@ -105,6 +105,6 @@ abbrev pub candidate_read : List ℕ → Option Candidate
 candidate_read text = do
   lead ← lead_read text
   address ← socket_read (codes " ") (codes " ") lead.1
-  kind ← part_read candidate_label.TYPE.now kind_read address.1
+  kind ← part_read candidate_label.TYPE.now candidate_kind_read address.1
   extras ← extras_read kind.1
   Some (candidate_of lead.0 address.0 kind.0 extras)

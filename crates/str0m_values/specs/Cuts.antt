@@ -1,8 +1,8 @@
--- Reading as functions on texts: what the readers of lines compute. The relations of the grammar are in Parts.
-use Rattle.std.specs.Prelude.{ℕ, Bool, true, List, [], ◌∷◌, Option, Some, None, ◌==◌, ◌&&◌, not, nat_le, nat_lt, length, if◌then◌else◌}
-use Rattle.std.specs.Str.{all_ascii_digits}
-use Rattle.std.specs.Str.Parse.{digits_value, without_leading_plus}
+-- Reading as functions on texts: what the readers of lines compute. The relations of the grammar are in CutsParts.
 use Rattle.std.specs.Borrow.{Bor}
+use Rattle.std.specs.Prelude.{ℕ, Bool, true, List, [], ◌∷◌, Option, Some, None, ◌==◌, ◌&&◌, not, nat_le, nat_lt, length, if◌then◌else◌, ◌≡◌, ◌≢◌, ◌<◌, get_or, IfSome}
+use Rattle.std.specs.Str.{all_ascii_digits}
+use Rattle.std.specs.Str.Parse.{digits_value, without_leading_plus, IsNumeral}
 
 infixl 10 ◌>>=◌
 abbrev pub ◌>>=◌ : {A B : Type 0} → Option A → (A → Option B) → Option B
@@ -63,3 +63,24 @@ before c text = front text (cut c text)
 abbrev pub lacks : ℕ → List ℕ → Bool
 lacks c [] = true
 lacks c (x ∷ xs) = not (x == c) && lacks c xs
+
+-- ---- what going over the bytes of a field finds
+
+-- c stands at none of the first n places
+abbrev pub LacksAt : ℕ → List ℕ → ℕ → Type 0
+LacksAt c text n = (k : ℕ) → k < n → get_or text k 0 ≢ c
+
+-- c first stands at place i
+abbrev pub IsFirstAt : ℕ → List ℕ → ℕ → Type 0
+IsFirstAt c text i = (i < length text) × (get_or text i 0 ≡ c) × LacksAt c text i
+
+-- the digits write n
+abbrev pub IsWrittenAs : List ℕ → ℕ → Type 0
+IsWrittenAs digits n = IsNumeral 10 digits × (n ≡ digits_value 10 digits)
+
+-- ---- a reading that answers an Option: both ways, and one value at most
+
+-- the answer is the one value with P, and None where no value has it
+pub record IsTheOnly {A : Type 0} (P : A → Type 0) (answer : Option A) : Type 0 where
+  pub found : IfSome answer P
+  pub only : (x : A) → P x → answer ≡ Some x

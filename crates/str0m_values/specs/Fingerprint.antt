@@ -1,9 +1,9 @@
 -- Fingerprints of certificates in texts (RFC 8122, section 5).
-use Rattle.std.specs.Prelude.{◌≡◌, ◌<◌, ◌==◌, ◌/◌, ◌%◌, ⊤, ℕ, true, List, [], ◌∷◌, ◌++◌, length, All, Any, Result, Ok, Err, codes, if◌then◌else◌}
-use Rattle.std.specs.List.{AllZip, flat_map, slice_split}
-use Rattle.std.specs.Str.{str_eq_ignore_ascii_case}
 use Rattle.std.specs.Fmt.{digit_glyph}
-use Rattle.str0m_values.specs.Parts.{Lacks, IsNumber}
+use Rattle.std.specs.List.{AllZip, slice_split}
+use Rattle.std.specs.Prelude.{◌≡◌, ◌<◌, ◌==◌, ◌/◌, ◌%◌, ⊤, ℕ, true, List, [], ◌∷◌, ◌++◌, length, All, Any, Result, Ok, Err, codes, if◌then◌else◌, flat_map}
+use Rattle.std.specs.Str.{str_eq_ignore_ascii_case}
+use Rattle.str0m_values.specs.CutsParts.{Lacks, IsNumber}
 use Rattle.str0m_values.specs.declared.fingerprint.Fingerprint.{Fingerprint}
 use Rattle.str0m_values.specs.declared.fingerprint.FingerprintError.{FingerprintError}
 use Rattle.str0m_values.specs.declared.fingerprint.FingerprintError.TheVariants.{NoSpace, BadByte, Memory}
@@ -35,16 +35,16 @@ abbrev pub pieces_of : List ℕ → List (List ℕ)
 pieces_of text = slice_split (λ b. b == 58) text
 
 -- the piece is the byte, in hexadecimal as std reads it
-abbrev pub IsByte : List ℕ → ℕ → Type 0
-IsByte piece byte = IsNumber 16 255 piece byte
+abbrev pub IsHexByte : List ℕ → ℕ → Type 0
+IsHexByte piece byte = IsNumber 16 255 piece byte
 
 -- the text is read as this fingerprint
 abbrev pub IsFingerprint : List ℕ → Fingerprint → Type 0
-IsFingerprint text f = (rest : List ℕ) × IsNamed text f.hash_func rest × AllZip IsByte (pieces_of rest) f.bytes
+IsFingerprint text f = (rest : List ℕ) × IsNamed text f.hash_func rest × AllZip IsHexByte (pieces_of rest) f.bytes
 
 -- some piece of the text is no byte
 abbrev pub HasBadPiece : List ℕ → Type 0
-HasBadPiece text = Any (λ piece. (byte : ℕ) → ¬ (IsByte piece byte)) (pieces_of text)
+HasBadPiece text = Any (λ piece. (byte : ℕ) → ¬ (IsHexByte piece byte)) (pieces_of text)
 
 -- some piece after the first space is no byte
 abbrev pub HasBadByte : List ℕ → Type 0
@@ -57,17 +57,17 @@ Gives f (Err e) = e ≡ Memory
 
 -- what the bytes of a text are read as, or why they aren't
 abbrev pub IsBytesReading : List ℕ → Result (List ℕ) FingerprintError → Type 0
-IsBytesReading text (Ok bytes) = AllZip IsByte (pieces_of text) bytes
+IsBytesReading text (Ok bytes) = AllZip IsHexByte (pieces_of text) bytes
 IsBytesReading text (Err NoSpace) = ⊥
 IsBytesReading text (Err BadByte) = HasBadPiece text
 IsBytesReading text (Err Memory) = ⊤
 
 -- what a text is read as, or why it isn't; memory is asked for only after a space
-abbrev pub IsReading : List ℕ → Result Fingerprint FingerprintError → Type 0
-IsReading text (Ok f) = IsFingerprint text f
-IsReading text (Err NoSpace) = Lacks 32 text
-IsReading text (Err BadByte) = HasBadByte text
-IsReading text (Err Memory) = ¬ (Lacks 32 text)
+abbrev pub IsFingerprintReading : List ℕ → Result Fingerprint FingerprintError → Type 0
+IsFingerprintReading text (Ok f) = IsFingerprint text f
+IsFingerprintReading text (Err NoSpace) = Lacks 32 text
+IsFingerprintReading text (Err BadByte) = HasBadByte text
+IsFingerprintReading text (Err Memory) = ¬ (Lacks 32 text)
 
 -- ---- printed and read
 

@@ -1,10 +1,10 @@
 -- Profiles and levels of H264 as the three bytes of a profile-level-id name them (RFC 6184, section 8.1).
 use Rattle.std.specs.Prelude.{◌^◌, ◌/◌, ◌%◌, ◌==◌, ◌&&◌, ◌||◌, ℕ, Bool, not, nat_lt, bit_and, if◌then◌else◌, List, [], ◌∷◌, find, Option, Some, None, option_map}
 use Rattle.str0m_values.specs.Cuts.{◌>>=◌}
-use Rattle.str0m_values.specs.declared.h264.H264Profile.{H264Profile}
-use Rattle.str0m_values.specs.declared.h264.H264Profile.TheVariants.{ConstrainedBaseline, Baseline, Main, High, ConstrainedHigh, PredictiveHigh444}
 use Rattle.str0m_values.specs.declared.h264.H264Level.{H264Level}
 use Rattle.str0m_values.specs.declared.h264.H264Level.TheVariants as level
+use Rattle.str0m_values.specs.declared.h264.H264Profile.{H264Profile}
+use Rattle.str0m_values.specs.declared.h264.H264Profile.TheVariants.{ConstrainedBaseline, Baseline, Main, High, ConstrainedHigh, PredictiveHigh444}
 use Rattle.str0m_values.specs.declared.h264.H264ProfileLevel.{H264ProfileLevel}
 
 -- ---- profiles
@@ -37,30 +37,30 @@ profile_of idc iop = option_map (λ pattern. pattern.0) (find (fits idc iop) pat
 -- ---- levels
 
 -- the third byte that names each level, and the level's place among them
-abbrev pub level_row : H264Level → ℕ × ℕ
-level_row level.L1 = (10, 0)
-level_row level.L1B = (11, 1)
-level_row level.L1_1 = (11, 2)
-level_row level.L1_2 = (12, 3)
-level_row level.L1_3 = (13, 4)
-level_row level.L2 = (20, 5)
-level_row level.L2_1 = (21, 6)
-level_row level.L2_2 = (22, 7)
-level_row level.L3 = (30, 8)
-level_row level.L3_1 = (31, 9)
-level_row level.L3_2 = (32, 10)
-level_row level.L4 = (40, 11)
-level_row level.L4_1 = (41, 12)
-level_row level.L4_2 = (42, 13)
-level_row level.L5 = (50, 14)
-level_row level.L5_1 = (51, 15)
-level_row level.L5_2 = (52, 16)
+abbrev pub h264_level_entry : H264Level → ℕ × ℕ
+h264_level_entry level.L1 = (10, 0)
+h264_level_entry level.L1B = (11, 1)
+h264_level_entry level.L1_1 = (11, 2)
+h264_level_entry level.L1_2 = (12, 3)
+h264_level_entry level.L1_3 = (13, 4)
+h264_level_entry level.L2 = (20, 5)
+h264_level_entry level.L2_1 = (21, 6)
+h264_level_entry level.L2_2 = (22, 7)
+h264_level_entry level.L3 = (30, 8)
+h264_level_entry level.L3_1 = (31, 9)
+h264_level_entry level.L3_2 = (32, 10)
+h264_level_entry level.L4 = (40, 11)
+h264_level_entry level.L4_1 = (41, 12)
+h264_level_entry level.L4_2 = (42, 13)
+h264_level_entry level.L5 = (50, 14)
+h264_level_entry level.L5_1 = (51, 15)
+h264_level_entry level.L5_2 = (52, 16)
 
 abbrev pub level_idc : H264Level → ℕ
-level_idc level = (level_row level).0
+level_idc level = (h264_level_entry level).0
 
 abbrev pub level_ordinal : H264Level → ℕ
-level_ordinal level = (level_row level).1
+level_ordinal level = (h264_level_entry level).1
 
 -- 11 names 1b in place of 1.1 where this bit of the second byte is set in these profiles
 abbrev pub marks_1b : ℕ → ℕ → Bool

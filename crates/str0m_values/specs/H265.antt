@@ -1,14 +1,14 @@
 -- Profiles, tiers and levels of H265 (RFC 7798, section 7.1), in one table each.
 use Rattle.std.specs.Prelude.{ℕ}
+use Rattle.str0m_values.specs.ProfileTierLevel.{Tables}
+use Rattle.str0m_values.specs.declared.h265.H265Level.{H265Level}
+use Rattle.str0m_values.specs.declared.h265.H265Level.TheVariants as level
 use Rattle.str0m_values.specs.declared.h265.H265Profile.{H265Profile}
 use Rattle.str0m_values.specs.declared.h265.H265Profile.TheVariants as profile
 use Rattle.str0m_values.specs.declared.h265.H265Tier.{H265Tier}
 use Rattle.str0m_values.specs.declared.h265.H265Tier.TheVariants as tier
-use Rattle.str0m_values.specs.declared.h265.H265Level.{H265Level}
-use Rattle.str0m_values.specs.declared.h265.H265Level.TheVariants as level
-use Rattle.str0m_values.specs.declared.h265.TheConstants.{PROFILES, TIERS, LEVELS}
+use Rattle.str0m_values.specs.declared.h265.TheConstants.{H265_PROFILES, H265_TIERS, H265_LEVELS}
 use Rattle.str0m_values.specs.declared.profile_tier_level.ProfileTierLevel.{ProfileTierLevel}
-use Rattle.str0m_values.specs.ProfileTierLevel.{Tables}
 
 abbrev pub H265ProfileTierLevel : Type 0
 H265ProfileTierLevel = ProfileTierLevel H265Profile H265Tier H265Level
@@ -33,30 +33,30 @@ tier_flag tier.Main = 0
 tier_flag tier.High = 1
 
 -- the number of each level, and its place among them
-abbrev pub level_row : H265Level → ℕ × ℕ
-level_row level.L1 = (30, 0)
-level_row level.L2 = (60, 1)
-level_row level.L2_1 = (63, 2)
-level_row level.L3 = (90, 3)
-level_row level.L3_1 = (93, 4)
-level_row level.L4 = (120, 5)
-level_row level.L4_1 = (123, 6)
-level_row level.L5 = (150, 7)
-level_row level.L5_1 = (153, 8)
-level_row level.L5_2 = (156, 9)
-level_row level.L6 = (180, 10)
-level_row level.L6_1 = (183, 11)
-level_row level.L6_2 = (186, 12)
+abbrev pub h265_level_entry : H265Level → ℕ × ℕ
+h265_level_entry level.L1 = (30, 0)
+h265_level_entry level.L2 = (60, 1)
+h265_level_entry level.L2_1 = (63, 2)
+h265_level_entry level.L3 = (90, 3)
+h265_level_entry level.L3_1 = (93, 4)
+h265_level_entry level.L4 = (120, 5)
+h265_level_entry level.L4_1 = (123, 6)
+h265_level_entry level.L5 = (150, 7)
+h265_level_entry level.L5_1 = (153, 8)
+h265_level_entry level.L5_2 = (156, 9)
+h265_level_entry level.L6 = (180, 10)
+h265_level_entry level.L6_1 = (183, 11)
+h265_level_entry level.L6_2 = (186, 12)
 
 abbrev pub level_id : H265Level → ℕ
-level_id level = (level_row level).0
+level_id level = (h265_level_entry level).0
 
 abbrev pub level_ordinal : H265Level → ℕ
-level_ordinal level = (level_row level).1
+level_ordinal level = (h265_level_entry level).1
 
 -- the numbers that an absent part stands for, and those of the fallback
 abbrev pub defaults : ℕ × ℕ × ℕ
 defaults = (1, 0, 93)
 
-abbrev pub tables : Tables H265Profile H265Tier H265Level
-tables = record { profile_id = profile_id; tier_flag = tier_flag; level_id = level_id; profiles = PROFILES; tiers = TIERS; levels = LEVELS; defaults = defaults }
+abbrev pub h265_tables : Tables H265Profile H265Tier H265Level
+h265_tables = record { profile_id = profile_id; tier_flag = tier_flag; level_id = level_id; profiles = H265_PROFILES; tiers = H265_TIERS; levels = H265_LEVELS; defaults = defaults }

@@ -1,14 +1,14 @@
 -- Profiles, tiers and levels of H266 (RFC 9328, section 7.2), in one table each.
 use Rattle.std.specs.Prelude.{ℕ}
+use Rattle.str0m_values.specs.ProfileTierLevel.{Tables}
+use Rattle.str0m_values.specs.declared.h266.H266Level.{H266Level}
+use Rattle.str0m_values.specs.declared.h266.H266Level.TheVariants as level
 use Rattle.str0m_values.specs.declared.h266.H266Profile.{H266Profile}
 use Rattle.str0m_values.specs.declared.h266.H266Profile.TheVariants as profile
 use Rattle.str0m_values.specs.declared.h266.H266Tier.{H266Tier}
 use Rattle.str0m_values.specs.declared.h266.H266Tier.TheVariants as tier
-use Rattle.str0m_values.specs.declared.h266.H266Level.{H266Level}
-use Rattle.str0m_values.specs.declared.h266.H266Level.TheVariants as level
-use Rattle.str0m_values.specs.declared.h266.TheConstants.{PROFILES, TIERS, LEVELS}
+use Rattle.str0m_values.specs.declared.h266.TheConstants.{H266_PROFILES, H266_TIERS, H266_LEVELS}
 use Rattle.str0m_values.specs.declared.profile_tier_level.ProfileTierLevel.{ProfileTierLevel}
-use Rattle.str0m_values.specs.ProfileTierLevel.{Tables}
 
 abbrev pub H266ProfileTierLevel : Type 0
 H266ProfileTierLevel = ProfileTierLevel H266Profile H266Tier H266Level
@@ -28,31 +28,31 @@ tier_flag tier.Main = 0
 tier_flag tier.High = 1
 
 -- the number of each level, and its place among them
-abbrev pub level_row : H266Level → ℕ × ℕ
-level_row level.L1 = (16, 0)
-level_row level.L2 = (32, 1)
-level_row level.L2_1 = (35, 2)
-level_row level.L3 = (48, 3)
-level_row level.L3_1 = (51, 4)
-level_row level.L4 = (64, 5)
-level_row level.L4_1 = (67, 6)
-level_row level.L5 = (80, 7)
-level_row level.L5_1 = (83, 8)
-level_row level.L5_2 = (86, 9)
-level_row level.L6 = (96, 10)
-level_row level.L6_1 = (99, 11)
-level_row level.L6_2 = (102, 12)
-level_row level.L6_3 = (105, 13)
+abbrev pub h266_level_entry : H266Level → ℕ × ℕ
+h266_level_entry level.L1 = (16, 0)
+h266_level_entry level.L2 = (32, 1)
+h266_level_entry level.L2_1 = (35, 2)
+h266_level_entry level.L3 = (48, 3)
+h266_level_entry level.L3_1 = (51, 4)
+h266_level_entry level.L4 = (64, 5)
+h266_level_entry level.L4_1 = (67, 6)
+h266_level_entry level.L5 = (80, 7)
+h266_level_entry level.L5_1 = (83, 8)
+h266_level_entry level.L5_2 = (86, 9)
+h266_level_entry level.L6 = (96, 10)
+h266_level_entry level.L6_1 = (99, 11)
+h266_level_entry level.L6_2 = (102, 12)
+h266_level_entry level.L6_3 = (105, 13)
 
 abbrev pub level_id : H266Level → ℕ
-level_id level = (level_row level).0
+level_id level = (h266_level_entry level).0
 
 abbrev pub level_ordinal : H266Level → ℕ
-level_ordinal level = (level_row level).1
+level_ordinal level = (h266_level_entry level).1
 
 -- the numbers that an absent part stands for, and those of the fallback
 abbrev pub defaults : ℕ × ℕ × ℕ
 defaults = (1, 0, 51)
 
-abbrev pub tables : Tables H266Profile H266Tier H266Level
-tables = record { profile_id = profile_id; tier_flag = tier_flag; level_id = level_id; profiles = PROFILES; tiers = TIERS; levels = LEVELS; defaults = defaults }
+abbrev pub h266_tables : Tables H266Profile H266Tier H266Level
+h266_tables = record { profile_id = profile_id; tier_flag = tier_flag; level_id = level_id; profiles = H266_PROFILES; tiers = H266_TIERS; levels = H266_LEVELS; defaults = defaults }

@@ -3,15 +3,15 @@ use Rattle.std.specs.Prelude.{List, ℕ, Option, Some, None}
 use Rattle.str0m_values.specs.Cuts.{◌>>=◌, before, strip, when, is_rest}
 
 -- the word at the front, and what stands after it
-abbrev pub word_read : List ℕ → Option (List ℕ × List ℕ)
-word_read text = do
+abbrev pub front_word_read : List ℕ → Option (List ℕ × List ℕ)
+front_word_read text = do
   word ← when (is_rest (before 32 text)) (before 32 text)
   rest ← strip word text
   Some (word, rest)
 
 -- the word after a label, and what stands after it
 abbrev pub labelled_read : List ℕ → List ℕ → Option (List ℕ × List ℕ)
-labelled_read label text = strip label text >>= word_read
+labelled_read label text = strip label text >>= front_word_read
 
 -- the same with the word's value
 abbrev pub part_read : {B : Type 0} → List ℕ → (List ℕ → Option B) → List ℕ → Option (B × List ℕ)
@@ -23,12 +23,12 @@ part_read label f text = do
 -- the word where the label stands, else nothing, and what stands after it
 abbrev pub optional_after : List ℕ → Option (List ℕ) → Option (Option (List ℕ) × List ℕ)
 optional_after text None = Some (None, text)
-optional_after text (Some body) = word_read body >>= λ word. Some (Some word.0, word.1)
+optional_after text (Some body) = front_word_read body >>= λ word. Some (Some word.0, word.1)
 
 abbrev pub optional_read : List ℕ → List ℕ → Option (Option (List ℕ) × List ℕ)
 optional_read label text = optional_after text (strip label text)
 
 -- the value of a word that is there
-abbrev pub value_read : {B : Type 0} → (List ℕ → Option B) → Option (List ℕ) → Option (Option B)
-value_read f None = Some None
-value_read f (Some word) = f word >>= λ x. Some (Some x)
+abbrev pub word_value_read : {B : Type 0} → (List ℕ → Option B) → Option (List ℕ) → Option (Option B)
+word_value_read f None = Some None
+word_value_read f (Some word) = f word >>= λ x. Some (Some x)

@@ -1,6 +1,6 @@
 -- Words after labels, as the parts of a line.
 use Rattle.std.specs.Prelude.{◌≡◌, ℕ, List, [], ◌++◌, Option, Some, None}
-use Rattle.str0m_values.specs.Parts.{IsWord}
+use Rattle.str0m_values.specs.CutsParts.{IsWord}
 
 -- a text stands for itself
 abbrev pub IsSame : List ℕ → List ℕ → Type 0

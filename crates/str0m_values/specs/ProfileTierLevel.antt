@@ -1,7 +1,7 @@
 -- A profile, a tier and a level of a codec, by the numbers that stand for each.
-use Rattle.std.specs.Prelude.{◌≡◌, ◌==◌, ℕ, List, find, Option, option_map}
 use Rattle.std.specs.Borrow.{Bor}
-use Rattle.str0m_values.specs.Parts.{IsGiven, lay}
+use Rattle.std.specs.Prelude.{◌≡◌, ◌==◌, ℕ, List, find, Option, option_map}
+use Rattle.str0m_values.specs.CutsParts.{IsGiven, lay}
 use Rattle.str0m_values.specs.declared.profile_tier_level.ProfileTierLevel.{ProfileTierLevel}
 
 -- the triple has these numbers
@@ -24,7 +24,7 @@ HasNumbersOfTexts profile_id tier_flag level_id defaults profile tier level =
 
 -- the value beside a number in a table
 abbrev pub value_in : {A : Type 0} → List (A × ℕ) → ℕ → Option A
-value_in rows n = option_map (λ row. row.0) (find (λ row. row.1 == n) rows)
+value_in rows n = option_map (λ it. it.0) (find (λ it. it.1 == n) rows)
 
 -- the number of each profile, tier and level of a codec, the tables of them, and the numbers that absent texts stand for
 pub record Tables (P T L : Type 0) : Type 0 where

@@ -1,8 +1,7 @@
 -- A text that lies in sixteen bytes of its own.
-use Rattle.std.specs.Prelude.{◌≡◌, ◌⊎◌, ℕ, ◌-◌, ◌<◌, ◌≤◌, List, ◌++◌, length, take, drop, replicate, nat_le, if◌then◌else◌}
-use Rattle.std.specs.Str.{IsCharBoundary}
-use Rattle.std.specs.Fmt.Cut.{floor_char_boundary}
 use Rattle.std.proofs.Common.{arith, ◌∙◌, ap, sym, take-append-drop, length-take-le}
+use Rattle.std.specs.Fmt.Cut.{floor_char_boundary}
+use Rattle.std.specs.Prelude.{◌≡◌, ◌⊎◌, ℕ, ◌-◌, ◌<◌, ◌≤◌, List, ◌++◌, length, take, drop, replicate, nat_le, if◌then◌else◌, IsCharBoundary}
 
 -- kept is the longest beginning of the text that has at most room bytes and ends between characters
 pub record IsLongestBeginning (room : ℕ) (text kept : List ℕ) : Type 0 where

@@ -1,6 +1,5 @@
 -- The bytes of a text, wherever they lie.
-use Rattle.std.specs.Prelude.{ℕ, List}
-use Rattle.std.specs.String.{string_bytes}
+use Rattle.std.specs.Prelude.{ℕ, List, string_bytes}
 use Rattle.str0m_values.specs.declared.text.Letters.{Letters}
 use Rattle.str0m_values.specs.declared.text.Letters.TheVariants.{Short, Long}
 

@@ -1,6 +1,6 @@
 -- Words that stand for the cases of an enumeration.
-use Rattle.std.specs.Prelude.{ℕ, List, Option, find}
-use Rattle.std.specs.Str.{bytes_eq, str_eq_ignore_ascii_case}
+use Rattle.std.specs.Prelude.{ℕ, List, Option, find, bytes_eq}
+use Rattle.std.specs.Str.{str_eq_ignore_ascii_case}
 
 -- the case of this very word, among those that are listed
 unfoldable pub case_of : {A : Type 0} → (A → List ℕ) → List A → List ℕ → Option A

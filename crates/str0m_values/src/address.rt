@@ -1,6 +1,6 @@
 //! IP addresses.
 ghost use Rattle.std.specs.Prelude.{◌≡◌, Some};
-ghost use Rattle.str0m_values.specs.Only.{IsTheOnly};
+ghost use Rattle.str0m_values.specs.Cuts.{IsTheOnly};
 
 use std::fmt;
 use std::net::{self, IpAddr as NetIpAddr};

@@ -1,7 +1,5 @@
 //! Candidates.
-ghost use Rattle.std.specs.Prelude.{◌≡◌, IfOk, Some, option_map};
-ghost use Rattle.std.specs.String.{string_bytes};
-ghost use Rattle.std.specs.Str.{IsUtf8};
+ghost use Rattle.std.specs.Prelude.{◌≡◌, IfOk, Some, option_map, IsUtf8, string_bytes};
 ghost use Rattle.str0m_values.specs.declared.candidate_label.TheConstants as candidate_label;
 
 use crate::address::SocketAddr;
@@ -229,8 +227,8 @@ impl<'a> fmt::Display for Fragment<'a> {
 struct CandidateParts<'a>(&'a Candidate);
 
 impl<'a> fmt::Display for CandidateParts<'a> {
-    ghost use Rattle.std.specs.Prelude.{◌++◌, codes};
     ghost use Rattle.std.specs.Fmt.{decimal};
+    ghost use Rattle.std.specs.Prelude.{codes, ◌++◌};
     ghost use Rattle.str0m_values.specs.Candidate.{socket_text};
     ghost use Rattle.str0m_values.specs.CandidateKind.{kind_text};
     ghost use Rattle.str0m_values.specs.Protocol.{protocol_text};
@@ -261,8 +259,8 @@ impl<'a> fmt::Display for CandidateParts<'a> {
 struct CandidateName<'a>(&'a Candidate);
 
 impl<'a> fmt::Display for CandidateName<'a> {
-    ghost use Rattle.std.specs.Prelude.{◌++◌, codes};
     ghost use Rattle.std.specs.Fmt.{decimal};
+    ghost use Rattle.std.specs.Prelude.{codes, ◌++◌};
 
     ghost output = { λ name. Some (candidate_label.CANDIDATE.now ++ (name.0.now.foundation ++ (codes " " ++ decimal name.0.now.component_id))) };
 
@@ -283,8 +281,8 @@ struct Transport {
 }
 
 impl fmt::Display for Transport {
-    ghost use Rattle.std.specs.Prelude.{◌++◌, codes};
     ghost use Rattle.std.specs.Fmt.{decimal};
+    ghost use Rattle.std.specs.Prelude.{codes, ◌++◌};
     ghost use Rattle.str0m_values.specs.Protocol.{protocol_text};
 
     ghost output = { λ it. Some (codes " " ++ (protocol_text it.proto ++ (codes " " ++ decimal it.prio))) };

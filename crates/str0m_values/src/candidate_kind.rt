@@ -1,7 +1,7 @@
 //! Where the address of a candidate comes from.
 ghost use Rattle.std.specs.Prelude.{◌≡◌, Some};
 ghost use Rattle.str0m_values.specs.CandidateKind.{kind_text};
-ghost use Rattle.str0m_values.specs.CandidateReading.{kind_read};
+ghost use Rattle.str0m_values.specs.CandidateReading.{candidate_kind_read};
 
 use crate::words::{Worded, case_of};
 use std::fmt;
@@ -42,7 +42,7 @@ impl Worded for CandidateKind {
 impl CandidateKind {
     /// The kind of a word, which is in lower case.
     pub(crate) fn from_word(word: &str) -> Option<CandidateKind>
-        ensures { result ≡ kind_read word.now }
+        ensures { result ≡ candidate_kind_read word.now }
     {
         case_of(&KINDS, word)
     }

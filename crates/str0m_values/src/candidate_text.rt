@@ -1,12 +1,11 @@
 //! The text of a candidate, for the readers of lines.
 ghost use Rattle.std.specs.Prelude.{◌≡◌, IfOk, Some, option_map, codes};
-ghost use Rattle.str0m_values.specs.declared.candidate.Candidate.{Candidate};
-ghost use Rattle.str0m_values.specs.Only.{IsTheOnly};
-ghost use Rattle.str0m_values.specs.Cuts.{num};
-ghost use Rattle.str0m_values.specs.LabelReading.{part_read};
 ghost use Rattle.str0m_values.specs.Candidate.{IsCandidateText, IsPrintable, candidate_text};
-ghost use Rattle.str0m_values.specs.Found.{seen_lead, seen_extras, seen};
-ghost use Rattle.str0m_values.specs.CandidateReading.{protocol_read, kind_read, socket_read, related_read, tcp_part_read, names_read, lead_read, last_read, extras_read, candidate_read};
+ghost use Rattle.str0m_values.specs.CandidateReading.{protocol_read, candidate_kind_read, socket_read, related_read, tcp_part_read, ice_names_read, lead_read, last_read, extras_read, candidate_read};
+ghost use Rattle.str0m_values.specs.CandidateText.{seen_lead, seen_extras, seen_candidate};
+ghost use Rattle.str0m_values.specs.Cuts.{IsTheOnly, num};
+ghost use Rattle.str0m_values.specs.LabelReading.{part_read};
+ghost use Rattle.str0m_values.specs.declared.candidate.Candidate.{Candidate};
 ghost use Rattle.str0m_values.specs.declared.candidate_label.TheConstants as candidate_label;
 
 use crate::address::{IpAddr, SocketAddr};
@@ -78,7 +77,7 @@ fn socket<'a>(text: &'a str, ip_label: &str, port_label: &str) -> Option<(Socket
 }
 
 fn kind(text: &str) -> Option<(CandidateKind, &str)>
-    ensures { option_map (λ x. (x.0, x.1.now)) result ≡ part_read candidate_label.TYPE.now kind_read text.now }
+    ensures { option_map (λ x. (x.0, x.1.now)) result ≡ part_read candidate_label.TYPE.now candidate_kind_read text.now }
 {
     let (word, rest) = labelled(text, candidate_label::TYPE)?;
     Some((CandidateKind::from_word(word)?, rest))
@@ -111,7 +110,7 @@ fn tcp_type(text: &str) -> Option<(Option<TcpType>, &str)>
 
 /// The username fragment; a network's id may stand on either side of it, and on one alone.
 fn names(text: &str) -> Option<(Option<&str>, &str)>
-    ensures { option_map (λ x. (option_map (λ w. w.now) x.0, x.1.now)) result ≡ names_read text.now }
+    ensures { option_map (λ x. (option_map (λ w. w.now) x.0, x.1.now)) result ≡ ice_names_read text.now }
 {
     let (network, rest) = optional(text, candidate_label::NETWORK_ID)?;
     let (ufrag, rest) = optional(rest, candidate_label::UFRAG)?;
@@ -168,7 +167,7 @@ fn behind_kind(text: &str) -> Option<Extras<'_>>
 
 /// The candidate of a text, without a copy of its texts.
 fn find(text: &str) -> Option<Found<'_>>
-    ensures { option_map seen result ≡ candidate_read text.now }
+    ensures { option_map seen_candidate result ≡ candidate_read text.now }
 {
     let (lead, rest) = before_address(text)?;
     let (addr, rest) = socket(rest, " ", " ")?;

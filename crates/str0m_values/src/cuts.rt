@@ -2,10 +2,8 @@
 //!
 ghost use Rattle.std.specs.Prelude.{◌≡◌, not, option_map, ◌≤◌, length, MatchOption, IfSome};
 ghost use Rattle.std.specs.Str.{str_eq_ignore_ascii_case};
-ghost use Rattle.str0m_values.specs.Cuts.{cut, before, strip, num, parts, lacks};
-ghost use Rattle.str0m_values.specs.Near.{IsFirstAt, LacksAt, IsWrittenAs};
-ghost use Rattle.str0m_values.specs.Only.{IsTheOnly};
-ghost use Rattle.str0m_values.specs.Parts.{IsNumber, IsNumOr};
+ghost use Rattle.str0m_values.specs.Cuts.{cut, before, strip, num, parts, lacks, IsFirstAt, LacksAt, IsWrittenAs, IsTheOnly};
+ghost use Rattle.str0m_values.specs.CutsParts.{IsNumber, IsNumOr};
 ghost use Rattle.str0m_values.specs.Separator.{code};
 
 use crate::separator::Separator;

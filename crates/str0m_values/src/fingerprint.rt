@@ -1,9 +1,8 @@
 //! Fingerprints of certificates.
-ghost use Rattle.std.specs.Prelude.{◌≡◌, ◌<◌, ◌∷◌, ◌↔◌, IfOk, IsErr, IsErrOf, IsTrue, Some, true};
 ghost use Rattle.std.specs.Fmt.{digit_glyph};
-ghost use Rattle.std.specs.List.{flat_map};
-ghost use Rattle.str0m_values.specs.Parts.{Lacks};
-ghost use Rattle.str0m_values.specs.Fingerprint.{IsFingerprint, HasBadByte, IsBytesReading, IsReading, Gives, CanBeReadBack, fingerprint_text, hex_pair, pairs_text, preference_of};
+ghost use Rattle.std.specs.Prelude.{◌≡◌, ◌<◌, ◌∷◌, ◌↔◌, IfOk, IsErr, IsErrOf, IsTrue, Some, true, flat_map};
+ghost use Rattle.str0m_values.specs.CutsParts.{Lacks};
+ghost use Rattle.str0m_values.specs.Fingerprint.{IsFingerprint, HasBadByte, IsBytesReading, IsFingerprintReading, Gives, CanBeReadBack, fingerprint_text, hex_pair, pairs_text, preference_of};
 ghost use Rattle.str0m_values.specs.declared.fingerprint.Fingerprint.{Fingerprint};
 ghost use Rattle.str0m_values.specs.declared.fingerprint.FingerprintError.TheVariants.{NoSpace, BadByte, Memory};
 
@@ -103,7 +102,7 @@ impl Fingerprint {
 }
 
 fn read(alloc: Global, text: &str) -> Result<Fingerprint, FingerprintError>
-    ensures { IsReading text.now result }
+    ensures { IsFingerprintReading text.now result }
 {
     let Some((name, rest)) = cut(text, Separator::Space) else {
         return Err(FingerprintError::NoSpace);

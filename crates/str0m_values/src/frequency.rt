@@ -1,8 +1,7 @@
 //! Clock rates.
-ghost use Rattle.std.specs.Prelude.{◌≡◌, ◌<◌, ◌^◌, ◌↔◌, ◌∷◌, [], ℕ, IsSome, IfSome, Some};
-ghost use Rattle.std.specs.Fmt.{decimal};
+ghost use Rattle.std.specs.Prelude.{◌≡◌, ◌<◌, ◌^◌, ◌↔◌, ◌∷◌, [], ℕ, IsSome, IfSome, Some, decimal};
+ghost use Rattle.str0m_values.specs.Cuts.{IsTheOnly};
 ghost use Rattle.str0m_values.specs.Frequency.{IsRate};
-ghost use Rattle.str0m_values.specs.Only.{IsTheOnly};
 
 use crate::cuts::num_u32;
 use std::fmt;

@@ -1,7 +1,7 @@
 //! Profiles and levels of H264.
-ghost use Rattle.std.specs.Prelude.{◌≡◌, ◌≤◌, ℕ, count_by, map};
 ghost use Rattle.std.specs.List.{range_with_len};
 ghost use Rattle.std.specs.Ordering.{nat_cmp};
+ghost use Rattle.std.specs.Prelude.{◌≡◌, ◌≤◌, ℕ, count_by, map};
 ghost use Rattle.std.specs.Result.{result_ok};
 ghost use Rattle.str0m_values.specs.H264.{fits, level_of, level_ordinal, levels, lower_level, marks_1b, named, patterns, profile_level_of, profile_level_of_bytes, profile_of};
 

@@ -1,7 +1,7 @@
 //! Profiles, tiers and levels of H265.
-ghost use Rattle.std.specs.Prelude.{◌≡◌, None, Some, nat_lt};
 ghost use Rattle.std.specs.Ordering.{nat_cmp};
-ghost use Rattle.str0m_values.specs.Only.{IsTheOnly};
+ghost use Rattle.std.specs.Prelude.{◌≡◌, None, Some, nat_lt};
+ghost use Rattle.str0m_values.specs.Cuts.{IsTheOnly};
 ghost use Rattle.str0m_values.specs.H265.{profile_id, tier_flag, level_id, level_ordinal, defaults};
 ghost use Rattle.str0m_values.specs.ProfileTierLevel.{HasNumbers, HasNumbersOfTexts};
 
@@ -52,7 +52,7 @@ pub enum H265Level {
 pub type H265ProfileTierLevel = ProfileTierLevel<H265Profile, H265Tier, H265Level>;
 
 /// The number of each profile, which stands for it in `profile-id`.
-const PROFILES: [(H265Profile, u8); 11] = [
+const H265_PROFILES: [(H265Profile, u8); 11] = [
     (H265Profile::Main, 1),
     (H265Profile::Main10, 2),
     (H265Profile::MainStillPicture, 3),
@@ -71,7 +71,7 @@ impl H265Profile {
     pub fn to_id(self) -> u8
         ensures { result ≡ profile_id self }
     {
-        PROFILES[self as usize].1
+        H265_PROFILES[self as usize].1
     }
 }
 
@@ -83,19 +83,19 @@ impl Numbered for H265Profile {
     }
 
     fn of_number(number: u8) -> Option<H265Profile> {
-        value_in(&PROFILES, number)
+        value_in(&H265_PROFILES, number)
     }
 }
 
 /// The number of each tier, which stands for it in `tier-flag`.
-const TIERS: [(H265Tier, u8); 2] = [(H265Tier::Main, 0), (H265Tier::High, 1)];
+const H265_TIERS: [(H265Tier, u8); 2] = [(H265Tier::Main, 0), (H265Tier::High, 1)];
 
 impl H265Tier {
     /// The number that stands for the tier in `tier-flag`.
     pub fn to_id(self) -> u8
         ensures { result ≡ tier_flag self }
     {
-        TIERS[self as usize].1
+        H265_TIERS[self as usize].1
     }
 }
 
@@ -107,12 +107,12 @@ impl Numbered for H265Tier {
     }
 
     fn of_number(number: u8) -> Option<H265Tier> {
-        value_in(&TIERS, number)
+        value_in(&H265_TIERS, number)
     }
 }
 
 /// The number of each level, which stands for it in `level-id`.
-const LEVELS: [(H265Level, u8); 13] = [
+const H265_LEVELS: [(H265Level, u8); 13] = [
     (H265Level::L1, 30),
     (H265Level::L2, 60),
     (H265Level::L2_1, 63),
@@ -133,7 +133,7 @@ impl H265Level {
     pub fn to_id(self) -> u8
         ensures { result ≡ level_id self }
     {
-        LEVELS[self as usize].1
+        H265_LEVELS[self as usize].1
     }
 
     /// The place of the level among the levels, from 0.
@@ -158,7 +158,7 @@ impl Numbered for H265Level {
     }
 
     fn of_number(number: u8) -> Option<H265Level> {
-        value_in(&LEVELS, number)
+        value_in(&H265_LEVELS, number)
     }
 }
 
@@ -171,7 +171,7 @@ impl Leveled for H265Level {
 }
 
 /// What a description means that says nothing.
-const FALLBACK: H265ProfileTierLevel = ProfileTierLevel {
+const H265_FALLBACK: H265ProfileTierLevel = ProfileTierLevel {
     profile: H265Profile::Main,
     tier: H265Tier::Main,
     level: H265Level::L3_1,
@@ -179,7 +179,7 @@ const FALLBACK: H265ProfileTierLevel = ProfileTierLevel {
 
 impl H265ProfileTierLevel {
     /// What a description means that says nothing: Main profile, Main tier, level 3.1.
-    pub const FALLBACK: H265ProfileTierLevel = FALLBACK;
+    pub const FALLBACK: H265ProfileTierLevel = H265_FALLBACK;
 
     /// The triple of the values of `profile-id`, `tier-flag` and `level-id`, where an absent one
     /// takes that of the fallback. `None` where one is no number of 8 bits, or stands in no table.
@@ -189,8 +189,8 @@ impl H265ProfileTierLevel {
         level: Option<&str>,
     ) -> Option<H265ProfileTierLevel>
         ensures triple { IsTheOnly (HasNumbersOfTexts profile_id tier_flag level_id defaults profile.entry tier.entry level.entry) result }
-        ensures fallback { HasNumbers profile_id tier_flag level_id defaults.0 defaults.1 defaults.2 FALLBACK }
-        ensures absent { profile.entry ≡ None → tier.entry ≡ None → level.entry ≡ None → result ≡ Some FALLBACK }
+        ensures fallback { HasNumbers profile_id tier_flag level_id defaults.0 defaults.1 defaults.2 H265_FALLBACK }
+        ensures absent { profile.entry ≡ None → tier.entry ≡ None → level.entry ≡ None → result ≡ Some H265_FALLBACK }
     {
         ProfileTierLevel::of_texts(profile, tier, level, H265ProfileTierLevel::FALLBACK)
     }

@@ -1,7 +1,7 @@
 //! Profiles, tiers and levels of H266.
-ghost use Rattle.std.specs.Prelude.{◌≡◌, None, Some, nat_lt};
 ghost use Rattle.std.specs.Ordering.{nat_cmp};
-ghost use Rattle.str0m_values.specs.Only.{IsTheOnly};
+ghost use Rattle.std.specs.Prelude.{◌≡◌, None, Some, nat_lt};
+ghost use Rattle.str0m_values.specs.Cuts.{IsTheOnly};
 ghost use Rattle.str0m_values.specs.H266.{profile_id, tier_flag, level_id, level_ordinal, defaults};
 ghost use Rattle.str0m_values.specs.ProfileTierLevel.{HasNumbers, HasNumbersOfTexts};
 
@@ -48,7 +48,7 @@ pub enum H266Level {
 pub type H266ProfileTierLevel = ProfileTierLevel<H266Profile, H266Tier, H266Level>;
 
 /// The number of each profile, which stands for it in `profile-id`.
-const PROFILES: [(H266Profile, u8); 6] = [
+const H266_PROFILES: [(H266Profile, u8); 6] = [
     (H266Profile::Main10, 1),
     (H266Profile::MultilayerMain10, 17),
     (H266Profile::Main10_444, 33),
@@ -62,7 +62,7 @@ impl H266Profile {
     pub fn to_id(self) -> u8
         ensures { result ≡ profile_id self }
     {
-        PROFILES[self as usize].1
+        H266_PROFILES[self as usize].1
     }
 }
 
@@ -74,19 +74,19 @@ impl Numbered for H266Profile {
     }
 
     fn of_number(number: u8) -> Option<H266Profile> {
-        value_in(&PROFILES, number)
+        value_in(&H266_PROFILES, number)
     }
 }
 
 /// The number of each tier, which stands for it in `tier-flag`.
-const TIERS: [(H266Tier, u8); 2] = [(H266Tier::Main, 0), (H266Tier::High, 1)];
+const H266_TIERS: [(H266Tier, u8); 2] = [(H266Tier::Main, 0), (H266Tier::High, 1)];
 
 impl H266Tier {
     /// The number that stands for the tier in `tier-flag`.
     pub fn to_id(self) -> u8
         ensures { result ≡ tier_flag self }
     {
-        TIERS[self as usize].1
+        H266_TIERS[self as usize].1
     }
 }
 
@@ -98,12 +98,12 @@ impl Numbered for H266Tier {
     }
 
     fn of_number(number: u8) -> Option<H266Tier> {
-        value_in(&TIERS, number)
+        value_in(&H266_TIERS, number)
     }
 }
 
 /// The number of each level, which stands for it in `level-id`.
-const LEVELS: [(H266Level, u8); 14] = [
+const H266_LEVELS: [(H266Level, u8); 14] = [
     (H266Level::L1, 16),
     (H266Level::L2, 32),
     (H266Level::L2_1, 35),
@@ -125,7 +125,7 @@ impl H266Level {
     pub fn to_id(self) -> u8
         ensures { result ≡ level_id self }
     {
-        LEVELS[self as usize].1
+        H266_LEVELS[self as usize].1
     }
 
     /// The place of the level among the levels, from 0.
@@ -150,7 +150,7 @@ impl Numbered for H266Level {
     }
 
     fn of_number(number: u8) -> Option<H266Level> {
-        value_in(&LEVELS, number)
+        value_in(&H266_LEVELS, number)
     }
 }
 
@@ -163,7 +163,7 @@ impl Leveled for H266Level {
 }
 
 /// What a description means that says nothing.
-const FALLBACK: H266ProfileTierLevel = ProfileTierLevel {
+const H266_FALLBACK: H266ProfileTierLevel = ProfileTierLevel {
     profile: H266Profile::Main10,
     tier: H266Tier::Main,
     level: H266Level::L3_1,
@@ -171,7 +171,7 @@ const FALLBACK: H266ProfileTierLevel = ProfileTierLevel {
 
 impl H266ProfileTierLevel {
     /// What a description means that says nothing: Main 10 profile, Main tier, level 3.1.
-    pub const FALLBACK: H266ProfileTierLevel = FALLBACK;
+    pub const FALLBACK: H266ProfileTierLevel = H266_FALLBACK;
 
     /// The triple of the values of `profile-id`, `tier-flag` and `level-id`, where an absent one
     /// takes that of the fallback. `None` where one is no number of 8 bits, or stands in no table.
@@ -181,8 +181,8 @@ impl H266ProfileTierLevel {
         level: Option<&str>,
     ) -> Option<H266ProfileTierLevel>
         ensures triple { IsTheOnly (HasNumbersOfTexts profile_id tier_flag level_id defaults profile.entry tier.entry level.entry) result }
-        ensures fallback { HasNumbers profile_id tier_flag level_id defaults.0 defaults.1 defaults.2 FALLBACK }
-        ensures absent { profile.entry ≡ None → tier.entry ≡ None → level.entry ≡ None → result ≡ Some FALLBACK }
+        ensures fallback { HasNumbers profile_id tier_flag level_id defaults.0 defaults.1 defaults.2 H266_FALLBACK }
+        ensures absent { profile.entry ≡ None → tier.entry ≡ None → level.entry ≡ None → result ≡ Some H266_FALLBACK }
     {
         ProfileTierLevel::of_texts(profile, tier, level, H266ProfileTierLevel::FALLBACK)
     }

@@ -1,6 +1,5 @@
 //! The names of media sections, and of the streams in them.
-ghost use Rattle.std.specs.Prelude.{◌≡◌, ◌≤◌, List, ℕ, Some, length};
-ghost use Rattle.std.specs.Str.{IsUtf8};
+ghost use Rattle.std.specs.Prelude.{◌≡◌, ◌≤◌, List, ℕ, Some, length, IsUtf8};
 ghost use Rattle.str0m_values.specs.ShortText.{IsLongestBeginning};
 
 use crate::short_text::ShortText;

@@ -1,14 +1,14 @@
 //! Words after labels.
 ghost use Rattle.std.specs.Prelude.{◌≡◌, option_map};
 ghost use Rattle.str0m_values.specs.Cuts.{parts};
-ghost use Rattle.str0m_values.specs.LabelReading.{word_read, labelled_read, optional_read};
+ghost use Rattle.str0m_values.specs.LabelReading.{front_word_read, labelled_read, optional_read};
 
 use crate::cuts::{before, strip};
 use crate::separator::Separator;
 
 /// The word at the front of a text, and what stands after it.
 pub(crate) fn word(text: &str) -> Option<(&str, &str)>
-    ensures { parts result ≡ word_read text.now }
+    ensures { parts result ≡ front_word_read text.now }
 {
     let word = before(text, Separator::Space);
     if word.is_empty() {

@@ -1,4 +1,33 @@
-//! Plain values that session descriptions speak of, and the parts that their lines are made of.
+//! Values that session descriptions speak of, and the parts that their lines are made of.
+//!
+//! - `address`: IP addresses.
+//! - `candidate`: Candidates.
+//! - `candidate_kind`: Where the address of a candidate comes from.
+//! - `candidate_label`: What stands in front of each part of a candidate.
+//! - `candidate_text`: The text of a candidate, for the readers of lines.
+//! - `cuts`: The parts of a line: what the readers of the crates above cut texts with.
+//! - `direction`: The ways in which media flow.
+//! - `direction_label`: The words of directions, as attributes of a section say them (RFC 8866, section 6.7).
+//! - `extension`: Header extensions of RTP.
+//! - `fingerprint`: Fingerprints of certificates.
+//! - `frequency`: Clock rates.
+//! - `h264`: Profiles and levels of H264.
+//! - `h265`: Profiles, tiers and levels of H265.
+//! - `h266`: Profiles, tiers and levels of H266.
+//! - `ice_creds`: The credentials of an ICE agent.
+//! - `identifier`: The names of media sections, and of the streams in them.
+//! - `items`: A list of values that contracts see as the list of its items.
+//! - `labels`: Words after labels.
+//! - `media_kind`: Kinds of media.
+//! - `payload_type`: Payload types.
+//! - `profile_tier_level`: What H265 and H266 say of a stream: a profile, a tier and a level.
+//! - `protocol`: The transports that carry a candidate.
+//! - `separator`: The characters that lines are cut at.
+//! - `session_id`: The numbers of sessions.
+//! - `short_text`: Texts of at most sixteen bytes, kept in place.
+//! - `ssrc`: Synchronization sources.
+//! - `text`: A text that contracts see as its bytes.
+//! - `words`: Enumerations each of whose cases has a word.
 #![tactic(auto)]
 
 mod address;

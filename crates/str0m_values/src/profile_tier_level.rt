@@ -1,6 +1,6 @@
 //! What H265 and H266 say of a stream: a profile, a tier and a level.
 ghost use Rattle.std.specs.Prelude.{◌≡◌, ℕ};
-ghost use Rattle.str0m_values.specs.Only.{IsTheOnly};
+ghost use Rattle.str0m_values.specs.Cuts.{IsTheOnly};
 ghost use Rattle.str0m_values.specs.ProfileTierLevel.{HasNumbers, HasNumbersOfTexts, value_in};
 
 use crate::cuts::num_u8_or;

@@ -1,7 +1,7 @@
 //! The transports that carry a candidate.
 ghost use Rattle.std.specs.Prelude.{◌≡◌, Some};
-ghost use Rattle.str0m_values.specs.Protocol.{protocol_text, tcp_type_text};
 ghost use Rattle.str0m_values.specs.CandidateReading.{protocol_read, tcp_type_read};
+ghost use Rattle.str0m_values.specs.Protocol.{protocol_text, tcp_type_text};
 
 use crate::words::{Worded, case_alike};
 use std::fmt;

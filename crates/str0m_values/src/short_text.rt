@@ -1,10 +1,9 @@
 //! Texts of at most sixteen bytes, kept in place.
-ghost use Rattle.std.specs.Prelude.{◌≡◌, ◌==◌, ◌-◌, ◌≤◌, List, ℕ, Some, length, take, drop, replicate};
-ghost use Rattle.std.specs.Str.{IsUtf8};
-ghost use Rattle.std.specs.Hash as fed;
-ghost use Rattle.std.specs.Cmp.Rules.{comparing, hashing};
-ghost use Rattle.std.specs.Cmp.Lexicographic.{pointwise};
 ghost use Rattle.std.proofs.Common.{rules};
+ghost use Rattle.std.specs.Cmp.Lexicographic.{pointwise};
+ghost use Rattle.std.specs.Cmp.Rules.{comparing, hashing};
+ghost use Rattle.std.specs.Hash as fed;
+ghost use Rattle.std.specs.Prelude.{◌≡◌, ◌==◌, ◌-◌, ◌≤◌, List, ℕ, Some, length, take, drop, replicate, IsUtf8};
 ghost use Rattle.str0m_values.specs.ShortText.{IsLongestBeginning};
 
 use std::hash::{Hash, Hasher};
@@ -19,7 +18,7 @@ pub(crate) struct ShortText {
 }
 
 impl Model for ShortText {
-    ghost use Rattle.std.specs.Prelude.{◌≡◌, ◌-◌, ◌≤◌, List, ℕ, length, take, drop, replicate};
+    ghost use Rattle.std.specs.Prelude.{List, drop, length, replicate, take, ℕ, ◌-◌, ◌≡◌, ◌≤◌};
     ghost use Rattle.std.specs.Str.{IsUtf8};
     ghost use Rattle.str0m_values.specs.ShortText.{cells_of, cells_of-take, length-cells};
 

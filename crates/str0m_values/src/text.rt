@@ -1,11 +1,9 @@
 //! A text that contracts see as its bytes.
-ghost use Rattle.std.specs.Prelude.{◌≡◌, ◌==◌, ◌≤◌, List, ℕ, IfOk, IsOk, IsTrue, ◌↔◌, length, Some, []};
-ghost use Rattle.std.specs.String.{string_bytes, string_len};
-ghost use Rattle.std.specs.Str.{IsUtf8};
-ghost use Rattle.std.specs.Hash as fed;
-ghost use Rattle.std.specs.Cmp.Rules.{comparing, hashing};
 ghost use Rattle.std.proofs.Common.{rules};
 ghost use Rattle.std.specs.Cmp.Lexicographic.{pointwise};
+ghost use Rattle.std.specs.Cmp.Rules.{comparing, hashing};
+ghost use Rattle.std.specs.Hash as fed;
+ghost use Rattle.std.specs.Prelude.{◌≡◌, ◌==◌, ◌≤◌, List, ℕ, IfOk, IsOk, IsTrue, ◌↔◌, length, Some, [], IsUtf8, string_bytes, string_len};
 
 use arrayvec::ArrayString;
 use std::alloc::{AllocError, Global};
@@ -16,12 +14,12 @@ use std::ops::{AsDeref, DerefStr};
 
 /// The most bytes that are kept in place: with their number they take as much room as a `String`. Most texts of a description
 /// have fewer.
-const SHORT: usize = 16;
+const IN_PLACE: usize = 16;
 
 /// Where the bytes of a text lie: in place, or in memory of their own.
 #[derive(Drop)]
 enum Letters {
-    Short(ArrayString<SHORT>),
+    Short(ArrayString<IN_PLACE>),
     Long(String),
 }
 

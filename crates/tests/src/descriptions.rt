@@ -8,7 +8,7 @@ use str0m_signal::{
 };
 
 /// A header with nothing that may be left out.
-const HEADER: &str = "v=0\r\no=- 1 1 IN IP4 127.0.0.1\r\ns=-\r\nt=0 0\r\n";
+const BARE_HEADER: &str = "v=0\r\no=- 1 1 IN IP4 127.0.0.1\r\ns=-\r\nt=0 0\r\n";
 
 /// Opus' text, a line that fits nowhere, and the text again.
 fn twice(alloc: Global) -> Result<String, AllocError> {
@@ -131,7 +131,7 @@ fn differs_by_an_attribute(sdp: &Sdp) -> Result<bool, AllocError> {
 #[test]
 fn descriptions_differ_by_their_parts(rt: HostRuntime) -> Result<(), Fail> {
     let sdp = read(rt.alloc(), OPUS)?;
-    assert!(rt; is_another(rt.alloc(), HEADER, &sdp)?);
+    assert!(rt; is_another(rt.alloc(), BARE_HEADER, &sdp)?);
     assert!(rt; differs_by_an_attribute(&sdp)?);
     Ok(())
 }

@@ -30,10 +30,10 @@ fn each_outcome_has_the_name_of_its_section(rt: HostRuntime) -> Result<(), Fail>
     let mut config = CodecConfig::new_with_defaults(rt.alloc())?;
     let outcomes = negotiate_text(&mut config, CALL)?;
     assert_eq!(rt; names.len(), outcomes.len());
-    let sound = names.get(0).ok_or("sound")?.ok_or("name")?;
-    assert_eq!(rt; sound.as_str(), "sound");
-    let picture = names.get(1).ok_or("picture")?.ok_or("name")?;
-    assert_eq!(rt; picture.as_str(), "picture");
+    let audio = names.get(0).ok_or("audio")?.ok_or("name")?;
+    assert_eq!(rt; audio.as_str(), "audio");
+    let video = names.get(1).ok_or("video")?.ok_or("name")?;
+    assert_eq!(rt; video.as_str(), "video");
     Ok(())
 }
 

@@ -11,7 +11,7 @@ pub(crate) const HEADER: &str = "v=0\r\no=- 7 2 IN IP4 127.0.0.1\r\ns=-\r\nt=0 0
 /// The header, printed.
 pub(crate) const PRINTED: &str = "v=0\r\no=str0m-0.25.0 7 2 IN IP4 0.0.0.0\r\ns=-\r\nt=0 0\r\n";
 
-pub(crate) fn owned(alloc: Global, words: &[&str]) -> Result<Vec<String>, AllocError> {
+pub(crate) fn arguments(alloc: Global, words: &[&str]) -> Result<Vec<String>, AllocError> {
     let mut all = Vec::new(alloc);
     for word in words {
         all.push(String::from_str(alloc, word)?)?;
@@ -45,7 +45,7 @@ pub(crate) fn run_over<R: Read>(
     words: &[&str],
     input: &mut R,
 ) -> Result<Ran, AllocError> {
-    let words = owned(alloc, words)?;
+    let words = arguments(alloc, words)?;
     let mut written = Vec::new(alloc);
     let mut said = Vec::new(alloc);
     let ending = run(alloc, words.as_slice(), input, &mut written, &mut said);

@@ -1,6 +1,6 @@
 //! Runs of the program where input or output fails.
 
-use crate::program::{HEADER, PRINTED, Ran, USAGE, owned, run_over};
+use crate::program::{HEADER, PRINTED, Ran, USAGE, arguments, run_over};
 use show::run::run;
 use std::alloc::{AllocError, Global};
 use std::io;
@@ -63,7 +63,7 @@ fn with_room(alloc: Global, room: usize) -> Full {
     }
 }
 
-/// A word, what is read before an error of which kind, the status, and what is said.
+/// An argument, what is read before an error of which kind, the status, and what is said.
 const UNREADABLE: [(&str, &str, ErrorKind, u8, &str); 4] = [
     (
         "text",
@@ -89,7 +89,7 @@ const UNREADABLE: [(&str, &str, ErrorKind, u8, &str); 4] = [
     ("show", "", ErrorKind::PermissionDenied, 2, USAGE),
 ];
 
-/// Words are compared before anything is read, and input that ends in an error is not shown.
+/// Arguments are compared before anything is read, and input that ends in an error is not shown.
 #[test]
 fn input_that_cannot_be_read(rt: HostRuntime) -> Result<(), Fail> {
     for (word, bytes, kind, status, said) in &UNREADABLE {
@@ -115,7 +115,7 @@ fn run_into(
     mut output: Full,
     faults_room: usize,
 ) -> Result<Ran, AllocError> {
-    let words = owned(alloc, &[word])?;
+    let words = arguments(alloc, &[word])?;
     let mut input = HEADER.as_bytes();
     let mut faults = with_room(alloc, faults_room);
     let ending = run(

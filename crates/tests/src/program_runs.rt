@@ -1,4 +1,4 @@
-//! Runs of the program, by its words and what it reads.
+//! Runs of the program, by its arguments and what it reads.
 
 use crate::program::{PRINTED, USAGE, run_over};
 use std::test::Fail;
@@ -19,7 +19,7 @@ const MIXED_PRINTED: &str =
     "v=0\r\no=str0m-0.25.0 1 2 IN IP4 0.0.0.0\r\ns=-\r\nt=0 0\r\na=extmap-allow-mixed\r\n";
 
 /// A section of one row.
-const OPUS: &[u8] =
+const OPUS_BYTES: &[u8] =
     b"v=0\r\no=- 7 2 IN IP4 127.0.0.1\r\ns=-\r\nt=0 0\r\nm=audio 9 UDP/TLS/RTP/SAVPF 111\r\nc=IN IP4 0.0.0.0\r\na=setup:actpass\r\na=mid:0\r\na=sendrecv\r\na=rtpmap:111 opus/48000/2\r\na=fmtp:111 minptime=10;useinbandfec=1\r\n";
 
 /// A section that takes a payload type which the default rows give to a retransmission.
@@ -43,7 +43,7 @@ const STATIC: &[u8] =
     b"v=0\r\no=- 1 1 IN IP4 127.0.0.1\r\ns=-\r\nt=0 0\r\na=group:BUNDLE 0\r\nm=audio 9 UDP/TLS/RTP/SAVPF 0 8 9 13\r\nc=IN IP4 0.0.0.0\r\na=setup:actpass\r\na=sendrecv\r\na=mid:0\r\n";
 
 /// A video section with a row and its retransmissions.
-const PICTURES: &[u8] =
+const VIDEO: &[u8] =
     b"v=0\r\no=- 1 1 IN IP4 127.0.0.1\r\ns=-\r\nt=0 0\r\nm=video 9 UDP/TLS/RTP/SAVPF 96 97\r\nc=IN IP4 0.0.0.0\r\na=mid:1\r\na=sendrecv\r\na=rtpmap:96 VP8/90000\r\na=rtpmap:97 rtx/90000\r\na=fmtp:97 apt=96\r\n";
 
 /// A section of telephone events that says no range.
@@ -54,7 +54,7 @@ const TELEPHONE: &[u8] =
 const CHECKSUMS: &[u8] =
     b"v=0\r\no=- 1 1 IN IP4 127.0.0.1\r\ns=-\r\nt=0 0\r\nm=audio 9 UDP/TLS/RTP/SAVPF 122\r\nc=IN IP4 0.0.0.0\r\na=mid:0\r\na=sendrecv\r\na=rtpmap:122 AMR-WB/16000\r\na=fmtp:122 crc=1\r\n";
 
-/// Words, what is read, the status, and what is written and said.
+/// Arguments, what is read, the status, and what is written and said.
 const RUNS: [(&[&str], &[u8], u8, &str, &str); 32] = [
     (&[], b"", 2, "", USAGE),
     (&[""], b"", 2, "", USAGE),
@@ -79,7 +79,7 @@ const RUNS: [(&[&str], &[u8], u8, &str, &str); 32] = [
     (&["rows"], SECTIONS, 0, ROWS, ""),
     (
         &["rows"],
-        OPUS,
+        OPUS_BYTES,
         0,
         "0 111 - - opus/48000/2 minptime=10;useinbandfec=1\n",
         "",
@@ -91,7 +91,7 @@ const RUNS: [(&[&str], &[u8], u8, &str, &str); 32] = [
         "0 0 - - PCMU/8000 -\n0 8 - - PCMA/8000 -\n0 9 - - G722/16000 -\n0 13 - - CN/8000 -\n",
         "",
     ),
-    (&["rows"], PICTURES, 0, "1 96 97 - VP8/90000 -\n", ""),
+    (&["rows"], VIDEO, 0, "1 96 97 - VP8/90000 -\n", ""),
     (
         &["rows"],
         TELEPHONE,

@@ -5,7 +5,7 @@ use std::test::Fail;
 use str0m_signal::{Direction, MediaLine, MediaType, Proto, RestrictionId, Setup, Ssrc, SsrcInfo};
 
 #[test]
-fn types_begin_as_sound_over_rtp(rt: HostRuntime) -> Result<(), Fail> {
+fn types_begin_as_audio_over_rtp(rt: HostRuntime) -> Result<(), Fail> {
     assert_eq!(rt; MediaType::default(), MediaType::Audio);
     assert_eq!(rt; Proto::default(), Proto::Srtp);
     assert_eq!(rt; Setup::default(), Setup::ActPass);
@@ -21,7 +21,7 @@ fn is_unknown(info: &SsrcInfo) -> bool {
         && info.track_id.is_none()
 }
 
-fn is_copied(info: &SsrcInfo) -> Result<bool, AllocError> {
+fn is_info_copied(info: &SsrcInfo) -> Result<bool, AllocError> {
     let copy = info.clone()?;
     Ok(copy == *info)
 }
@@ -30,7 +30,7 @@ fn is_copied(info: &SsrcInfo) -> Result<bool, AllocError> {
 fn a_source_begins_with_nothing_known(rt: HostRuntime) -> Result<(), Fail> {
     let info = SsrcInfo::default();
     assert!(rt; is_unknown(&info), "{info:?}");
-    assert!(rt; is_copied(&info)?);
+    assert!(rt; is_info_copied(&info)?);
     Ok(())
 }
 

@@ -1,12 +1,11 @@
 -- What negotiating with a later offer comes to.
-use Rattle.std.specs.Prelude.{◌≡◌, ◌<◌, ℕ, Result, Ok, Err, Option, Some, None, List, MatchOption}
-use Rattle.std.specs.List.{slice_get}
-use Rattle.str0m_formats.specs.Runs.{Outcome}
-use Rattle.str0m_formats.specs.declared.negotiation_error.NegotiationError.{NegotiationError}
-use Rattle.str0m_formats.specs.declared.payload_params.PayloadParams.{PayloadParams}
-use Rattle.str0m_signal.specs.Answers.{Refuses}
-use Rattle.str0m_signal.specs.Negotiation.{NegotiatedText}
-use Rattle.str0m_signal.specs.Reading.{Described}
+use Rattle.std.specs.Prelude.{◌≡◌, ◌<◌, ℕ, Result, Ok, Err, Option, Some, None, List, MatchOption, slice_get}
+use Rattle.str0m_formats.specs.declared.round.negotiation_error.NegotiationError.{NegotiationError}
+use Rattle.str0m_formats.specs.declared.row.payload_params.PayloadParams.{PayloadParams}
+use Rattle.str0m_formats.specs.round.RoundsRuns.{Outcome}
+use Rattle.str0m_signal.specs.session.Negotiation.{NegotiatedText}
+use Rattle.str0m_signal.specs.session.Reader.{Described}
+use Rattle.str0m_signal.specs.session.ReaderAnswers.{Refuses}
 use Rattle.uses.specs.declared.call_error.CallError.{CallError}
 use Rattle.uses.specs.declared.call_error.CallError.TheVariants.{NotRead, Refused, Memory}
 
@@ -22,13 +21,13 @@ IsFirstRefusal outcomes refused = MatchOption refused
     × ((k : ℕ) (outcome : Outcome) → k < i → slice_get outcomes k ≡ Some outcome → refusal outcome ≡ None))
 
 -- the text's rounds lead from the rows before them to the rows after them, and this is the first refusal among them
-abbrev pub Negotiates : List ℕ → List PayloadParams → Option NegotiationError → List PayloadParams → Type 0
-Negotiates text before refused after =
+abbrev pub NegotiatesUntil : List ℕ → List PayloadParams → Option NegotiationError → List PayloadParams → Type 0
+NegotiatesUntil text before refused after =
     (outcomes : List Outcome) × NegotiatedText text before outcomes after × IsFirstRefusal outcomes refused
 
 -- Ok where no round was refused, else the first refusal; what isn't read changes nothing
 abbrev pub ComesTo : List ℕ → List PayloadParams → Result (Unit {0}) CallError → List PayloadParams → Type 0
-ComesTo text before (Ok done) after = Negotiates text before None after
-ComesTo text before (Err (Refused cause)) after = Negotiates text before (Some cause) after
+ComesTo text before (Ok done) after = NegotiatesUntil text before None after
+ComesTo text before (Err (Refused cause)) after = NegotiatesUntil text before (Some cause) after
 ComesTo text before (Err (NotRead error)) after = Refuses error (Described text) × (after ≡ before)
 ComesTo text before (Err Memory) after = ⊥

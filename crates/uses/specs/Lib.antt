@@ -1,3 +1,3 @@
-pub mod Agreed
+pub mod Answer
 pub mod LaterRound
 pub mod OwnSection

@@ -1,14 +1,14 @@
 -- A section of one's own, and the description around it.
 use Rattle.std.specs.Prelude.{ℕ, false, List, [], ◌∷◌, None, codes}
-use Rattle.str0m_values.specs.declared.fingerprint.Fingerprint.{Fingerprint}
-use Rattle.str0m_values.specs.declared.ice_creds.IceCreds.{IceCreds}
 use Rattle.str0m_sdp.specs.declared.attribute.MediaAttribute.TheVariants as media
 use Rattle.str0m_sdp.specs.declared.attribute.SessionAttribute.TheVariants as session
-use Rattle.str0m_sdp.specs.declared.media_line.MediaLine.{MediaLine}
-use Rattle.str0m_sdp.specs.declared.media_type.MediaType.TheVariants.{Audio}
-use Rattle.str0m_sdp.specs.declared.proto.Proto.TheVariants.{Srtp}
+use Rattle.str0m_sdp.specs.declared.attribute.media_type.MediaType.TheVariants.{Audio}
+use Rattle.str0m_sdp.specs.declared.attribute.proto.Proto.TheVariants.{Srtp}
+use Rattle.str0m_sdp.specs.declared.attribute.setup.Setup.TheVariants.{ActPass}
+use Rattle.str0m_sdp.specs.declared.section.media_line.MediaLine.{MediaLine}
 use Rattle.str0m_sdp.specs.declared.session.Sdp.{Sdp}
-use Rattle.str0m_sdp.specs.declared.setup.Setup.TheVariants.{ActPass}
+use Rattle.str0m_values.specs.declared.fingerprint.Fingerprint.{Fingerprint}
+use Rattle.str0m_values.specs.declared.ice_creds.IceCreds.{IceCreds}
 
 -- audio both ways under a name, with the credentials and the fingerprint of the transport
 abbrev pub own_frame : List ℕ → IceCreds → Fingerprint → MediaLine

@@ -1,19 +1,17 @@
 //! An offer that is answered.
 
-ghost use Rattle.std.specs.Prelude.{◌≡◌, ◌≢◌, ◌<◌, [], IfErr, IfOk, IfSome, List, None, Some, length, slice_set};
-ghost use Rattle.std.specs.List.{slice_get};
-ghost use Rattle.std.specs.String.{string_bytes};
-ghost use Rattle.str0m_sdp.specs.SectionOf.{made};
-ghost use Rattle.str0m_sdp.specs.Session.{sdp_text};
-ghost use Rattle.str0m_sdp.specs.declared.error.SdpError.TheVariants.{Memory};
-ghost use Rattle.str0m_sdp.specs.declared.media_line.MediaLine.{MediaLine};
-ghost use Rattle.str0m_formats.specs.Runs.{Outcome};
-ghost use Rattle.str0m_signal.specs.Answers.{Refuses};
-ghost use Rattle.str0m_signal.specs.Negotiation.{NegotiatedText};
-ghost use Rattle.str0m_signal.specs.ReadBack.{MayBePrinted, ReadsBack, with_rows};
-ghost use Rattle.str0m_signal.specs.Reading.{Described};
-ghost use Rattle.str0m_signal.specs.Writable.{Writable};
-ghost use Rattle.uses.specs.Agreed.{agreed, of_type};
+ghost use Rattle.std.specs.Prelude.{◌≡◌, ◌≢◌, ◌<◌, [], IfErr, IfOk, IfSome, List, None, Some, length, slice_set, slice_get, string_bytes};
+ghost use Rattle.str0m_formats.specs.round.RoundsRuns.{Outcome};
+ghost use Rattle.str0m_sdp.specs.declared.section.media_line.MediaLine.{MediaLine};
+ghost use Rattle.str0m_sdp.specs.declared.session.error.SdpError.TheVariants.{Memory};
+ghost use Rattle.str0m_sdp.specs.section.MadeSection.{made};
+ghost use Rattle.str0m_sdp.specs.session.Session.{sdp_text};
+ghost use Rattle.str0m_signal.specs.back.ReadBack.{MayBePrinted, ReadsBack, with_rows};
+ghost use Rattle.str0m_signal.specs.back.Writable.{Writable};
+ghost use Rattle.str0m_signal.specs.session.Negotiation.{NegotiatedText};
+ghost use Rattle.str0m_signal.specs.session.Reader.{Described};
+ghost use Rattle.str0m_signal.specs.session.ReaderAnswers.{Refuses};
+ghost use Rattle.uses.specs.Answer.{agreed, agreed_of_type};
 
 use std::alloc::AllocError;
 use str0m_signal::{
@@ -60,7 +58,7 @@ pub(crate) fn printable_section(
 
 /// The locked rows of what sections of this type carry.
 fn rows_of_type(config: &CodecConfig, typ: &MediaType) -> Result<Vec<PayloadParams>, AllocError>
-    ensures rows { IfOk result (λ rows. rows.items ≡ of_type typ.now config.now.params.items) }
+    ensures rows { IfOk result (λ rows. rows.items ≡ agreed_of_type typ.now config.now.params.items) }
     ensures printable { MayBePrinted config.now.params.items → IfOk result (λ rows. rows.items ≢ [] → MayBePrinted rows.items) }
 {
     match typ {

@@ -1,13 +1,13 @@
 //! The codecs that both sides have.
 
 ghost use Rattle.std.specs.Prelude.{◌≡◌, IfErr, IfOk, List};
-ghost use Rattle.str0m_formats.specs.DefaultRows.{usual_rows};
-ghost use Rattle.str0m_formats.specs.Runs.{Outcome};
-ghost use Rattle.str0m_formats.specs.declared.payload_params.PayloadParams.{PayloadParams};
-ghost use Rattle.str0m_signal.specs.Answers.{Refuses};
-ghost use Rattle.str0m_signal.specs.LockedRows.{locked_of_kind};
-ghost use Rattle.str0m_signal.specs.Negotiation.{NegotiatedText};
-ghost use Rattle.str0m_signal.specs.Reading.{Described};
+ghost use Rattle.str0m_formats.specs.declared.row.payload_params.PayloadParams.{PayloadParams};
+ghost use Rattle.str0m_formats.specs.round.RoundsRuns.{Outcome};
+ghost use Rattle.str0m_formats.specs.row.DefaultRows.{usual_rows};
+ghost use Rattle.str0m_signal.specs.session.Locked.{locked_of_kind};
+ghost use Rattle.str0m_signal.specs.session.Negotiation.{NegotiatedText};
+ghost use Rattle.str0m_signal.specs.session.Reader.{Described};
+ghost use Rattle.str0m_signal.specs.session.ReaderAnswers.{Refuses};
 
 use std::alloc::Global;
 use str0m_signal::{CodecConfig, MediaKind, PayloadParams, SdpError, locked_rows, negotiate_text};

@@ -1,8 +1,8 @@
 //! A later round: an offer that is sent again.
 
 ghost use Rattle.std.specs.Prelude.{◌≡◌};
-ghost use Rattle.str0m_formats.specs.Promises.{LockedStay};
-ghost use Rattle.str0m_signal.specs.ReadBack.{MayBePrinted};
+ghost use Rattle.str0m_formats.specs.round.RoundsPromises.{LockedStay};
+ghost use Rattle.str0m_signal.specs.back.ReadBack.{MayBePrinted};
 ghost use Rattle.uses.specs.LaterRound.{ComesTo, IsFirstRefusal, refusal};
 
 use crate::call_error::CallError;

@@ -1,11 +1,10 @@
 //! What an offer holds.
 
-ghost use Rattle.std.specs.Prelude.{◌≡◌, IfErr, IfOk, MatchOption, None, Some};
-ghost use Rattle.std.specs.List.{slice_get};
-ghost use Rattle.str0m_sdp.specs.SectionRows.{rows};
-ghost use Rattle.str0m_sdp.specs.declared.media_line.MediaLine.{MediaLine};
-ghost use Rattle.str0m_signal.specs.Answers.{Refuses};
-ghost use Rattle.str0m_signal.specs.Reading.{Described};
+ghost use Rattle.std.specs.Prelude.{◌≡◌, IfErr, IfOk, MatchOption, None, Some, slice_get};
+ghost use Rattle.str0m_sdp.specs.declared.section.media_line.MediaLine.{MediaLine};
+ghost use Rattle.str0m_sdp.specs.section.SectionRows.{rows};
+ghost use Rattle.str0m_signal.specs.session.Reader.{Described};
+ghost use Rattle.str0m_signal.specs.session.ReaderAnswers.{Refuses};
 
 use std::alloc::{AllocError, Global};
 use str0m_signal::{PayloadParams, Sdp, SdpError, SdpOffer};

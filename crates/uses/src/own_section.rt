@@ -1,12 +1,10 @@
 //! A section of one's own, made of nothing but values.
 
-ghost use Rattle.std.specs.Prelude.{◌≡◌, IfOk, IfSome, None, Some};
-ghost use Rattle.std.specs.List.{slice_get};
-ghost use Rattle.std.specs.String.{string_bytes};
-ghost use Rattle.str0m_sdp.specs.Session.{sdp_text};
-ghost use Rattle.str0m_sdp.specs.declared.media_line.MediaLine.{MediaLine};
-ghost use Rattle.str0m_signal.specs.ReadBack.{MayBePrinted, ReadsBack, with_rows};
-ghost use Rattle.str0m_signal.specs.Writable.{Writable};
+ghost use Rattle.std.specs.Prelude.{◌≡◌, IfOk, IfSome, None, Some, slice_get, string_bytes};
+ghost use Rattle.str0m_sdp.specs.declared.section.media_line.MediaLine.{MediaLine};
+ghost use Rattle.str0m_sdp.specs.session.Session.{sdp_text};
+ghost use Rattle.str0m_signal.specs.back.ReadBack.{MayBePrinted, ReadsBack, with_rows};
+ghost use Rattle.str0m_signal.specs.back.Writable.{Writable};
 ghost use Rattle.uses.specs.OwnSection.{own_frame, own_sdp};
 
 use crate::answer::{printable_section, with_section};

@@ -1,6 +1,6 @@
 //! A session as a list of calls.
 
-ghost use Rattle.exchange.specs.Follows.{Follows, IsSound};
+ghost use Rattle.exchange.specs.state.ExchangeFollows.{Follows, IsSound};
 
 use exchange::Exchange;
 use str0m_signal::{Direction, IceCreds, MediaKind, Mid};
@@ -61,7 +61,7 @@ fn take(exchange: &mut Exchange, step: &Step<'_>)
 /// Makes these calls one after another, whatever each answers. So over any list of calls of a session no m-section moves
 /// (`follows`), no name is used for two of them, neither of one exchange (`sound`) nor of different ones (`follows`), and types
 /// that are agreed on stay (RFC 3264, section 8; RFC 8829, section 5.2.2).
-#[tactic(auto, using(exchange::proofs::FollowLaws::follows_self, exchange::proofs::FollowLaws::follows_then))]
+#[tactic(auto, using(exchange::proofs::follows_self, exchange::proofs::follows_then))]
 pub fn run(exchange: &mut Exchange, steps: &[Step<'_>])
     ensures sound { IsSound exchange.old → IsSound exchange.new }
     ensures follows { IsSound exchange.old → Follows exchange.old exchange.new }

@@ -1,10 +1,10 @@
 //! A text that is checked before it is stored.
 
 ghost use Rattle.std.specs.Prelude.{◌≡◌, ◌↔◌, IfErr, IfOk, IsTrue};
-ghost use Rattle.str0m_sdp.specs.Session.{sdp_text};
-ghost use Rattle.str0m_sdp.specs.SessionConsistency.{ConsistentSdp};
-ghost use Rattle.str0m_signal.specs.Answers.{Refuses};
-ghost use Rattle.str0m_signal.specs.Reading.{Reading};
+ghost use Rattle.str0m_sdp.specs.session.Session.{sdp_text};
+ghost use Rattle.str0m_sdp.specs.session.SessionConsistency.{ConsistentSdp};
+ghost use Rattle.str0m_signal.specs.session.Reader.{Reading};
+ghost use Rattle.str0m_signal.specs.session.ReaderAnswers.{Refuses};
 
 use std::alloc::{AllocError, Global};
 use str0m_signal::{Sdp, SdpError, sdp_parser};

@@ -1,9 +1,9 @@
-use Rattle.std.specs.Prelude.{◌≡◌, ◌++◌}
-use Rattle.str0m_sdp.specs.Candidates.{all_candidates, same_candidate}
-use Rattle.str0m_sdp.specs.DistinctCandidates.{distinct_left}
-use Rattle.str0m_sdp.specs.Lists.{distinct}
-use Rattle.c_calls.specs.TransportFound.{lent}
 use Rattle.c_calls.proofs.candidate_calls.gathered.Given as goal
+use Rattle.c_calls.specs.TransportCalls.{lent}
+use Rattle.std.specs.Prelude.{◌≡◌, ◌++◌}
+use Rattle.str0m_sdp.specs.Common.{distinct}
+use Rattle.str0m_sdp.specs.session.Candidates.{all_candidates, same_candidate}
+use Rattle.str0m_sdp.specs.session.DistinctCandidates.{distinct_left}
 
 -- those so far, with those that are still to come
 abbrev pub invariant-loop-candidate : goal.invariant-loop-candidate

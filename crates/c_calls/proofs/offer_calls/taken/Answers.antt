@@ -1,6 +1,6 @@
-use Rattle.std.proofs.Common.{ℕ, List, subst}
-use Rattle.c_calls.specs.Exchanged.{AcceptsAnswer}
 use Rattle.c_calls.proofs.offer_calls.taken.Goals as goal
+use Rattle.c_calls.specs.ExchangeCalls.{AcceptsAnswer}
+use Rattle.std.proofs.Common.{ℕ, List, subst}
 
 -- the text is the bytes
 pub returns-in-Ok-accept_answer-clause-taken : goal.returns-in-Ok-accept_answer-clause-taken

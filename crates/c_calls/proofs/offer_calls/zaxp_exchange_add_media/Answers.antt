@@ -1,20 +1,23 @@
+use Rattle.c_calls.proofs.offer_calls.zaxp_exchange_add_media.Goals as goal
+use Rattle.c_calls.specs.Common.{Of}
+use Rattle.c_parts.specs.Fault.{RefusesCall, ToldFault}
+use Rattle.c_parts.specs.Side.{kind_numbered}
+use Rattle.c_parts.specs.declared.fault.Fault.TheVariants.{Refused}
+use Rattle.exchange.specs.declared.state.exchange.Exchange.{Exchange}
+use Rattle.exchange.specs.state.Exchange.{RefusesMedia}
 use Rattle.std.proofs.Common.{subst, sym}
 use Rattle.std.specs.Prelude.{Option}
 use Rattle.str0m_values.specs.declared.media_kind.MediaKind.{MediaKind}
-use Rattle.exchange.specs.Exchange.{RefusesMedia}
-use Rattle.exchange.specs.declared.exchange.Exchange.{Exchange}
-use Rattle.c_parts.specs.Fault.{Refuses, Told}
-use Rattle.c_parts.specs.Side.{kind_numbered}
-use Rattle.c_parts.specs.declared.fault.Fault.TheVariants.{Refused}
-use Rattle.c_calls.specs.Held.{Of}
-use Rattle.c_calls.proofs.offer_calls.zaxp_exchange_add_media.Goals as goal
 
 -- the fault is the error of the exchange
 pub returns-in-Err-clause-refused : goal.returns-in-Err-clause-refused
 returns-in-Err-clause-refused c = λ failed.
-    subst (λ (inner : Option Exchange). Of inner (λ before. Told (Refuses (RefusesMedia before (kind_numbered c.args.kind))) c.tell_error.result)) (sym c.take-exchange.ensures.0) (
+    subst (λ (inner : Option Exchange). Of inner
+    (λ before. ToldFault (RefusesCall (RefusesMedia before (kind_numbered c.args.kind))) c.tell_error.result))
+    (sym c.take-exchange.ensures.0) (
       Refused c.in-Err.error,
       subst (λ (before : Exchange). RefusesMedia before (kind_numbered c.args.kind) c.in-Err.error) c.deref_mut.ensures.value
-          (subst (λ (kind : MediaKind). RefusesMedia c.deref_mut.result.now kind c.in-Err.error) c.kind_numbered.ensures c.in-Err.ensures.refused),
+          (subst (λ (kind : MediaKind). RefusesMedia c.deref_mut.result.now kind c.in-Err.error) c.kind_numbered.ensures
+          c.in-Err.ensures.refused),
       c.tell_error.ensures.code,
     )

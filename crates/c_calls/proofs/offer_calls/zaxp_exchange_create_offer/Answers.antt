@@ -1,13 +1,13 @@
+use Rattle.c_calls.proofs.OfferCallsFilled.{of_full}
+use Rattle.c_calls.proofs.offer_calls.zaxp_exchange_create_offer.Goals as goal
+use Rattle.c_calls.specs.Common.{Of}
+use Rattle.c_parts.specs.Fault.{RefusesCall, ToldFault}
+use Rattle.c_parts.specs.declared.fault.Fault.TheVariants.{Refused}
+use Rattle.exchange.specs.declared.state.exchange.Exchange.{Exchange}
+use Rattle.exchange.specs.declared.state.exchange_error.ExchangeError.TheVariants.{Memory}
+use Rattle.exchange.specs.state.Exchange.{RefusesToOffer}
 use Rattle.std.proofs.Common.{refl, subst, sym}
 use Rattle.std.specs.Prelude.{Option}
-use Rattle.exchange.specs.Exchange.{RefusesToOffer}
-use Rattle.exchange.specs.declared.exchange.Exchange.{Exchange}
-use Rattle.exchange.specs.declared.exchange_error.ExchangeError.TheVariants.{Memory}
-use Rattle.c_parts.specs.Fault.{Refuses, Told}
-use Rattle.c_parts.specs.declared.fault.Fault.TheVariants.{Refused}
-use Rattle.c_calls.proofs.Filled.{of_full}
-use Rattle.c_calls.specs.Held.{Of}
-use Rattle.c_calls.proofs.offer_calls.zaxp_exchange_create_offer.Goals as goal
 
 -- no memory was left for a place
 pub returns-in_default-clause-refused : goal.returns-in_default-clause-refused
@@ -16,5 +16,10 @@ returns-in_default-clause-refused c = λ failed. of_full _ c.args.handle.now.inn
 -- the fault is the error of the exchange
 pub returns-in-Err-clause-refused : goal.returns-in-Err-clause-refused
 returns-in-Err-clause-refused c = λ failed.
-    subst (λ (inner : Option Exchange). Of inner (λ before. Told (Refuses (RefusesToOffer before)) c.tell_error.result)) (sym c.take-exchange.ensures.0)
-    (Refused c.in-Err.error, subst (λ (before : Exchange). RefusesToOffer before c.in-Err.error) c.deref_mut.ensures.value c.in-Err.ensures.refused, c.tell_error.ensures.code)
+    subst (λ (inner : Option Exchange). Of inner (λ before. ToldFault (RefusesCall (RefusesToOffer before)) c.tell_error.result))
+    (sym c.take-exchange.ensures.0) (
+      Refused c.in-Err.error,
+      subst (λ (before : Exchange). RefusesToOffer before c.in-Err.error) c.deref_mut.ensures.value
+          c.in-Err.ensures.refused,
+      c.tell_error.ensures.code,
+    )

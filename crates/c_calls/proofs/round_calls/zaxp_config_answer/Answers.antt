@@ -1,6 +1,6 @@
-use Rattle.std.proofs.Common.{◌≡◌, Some}
-use Rattle.c_calls.specs.Answered.{CantList}
 use Rattle.c_calls.proofs.round_calls.zaxp_config_answer.Goals as goal
+use Rattle.c_calls.specs.RoundCalls.{CantList}
+use Rattle.std.proofs.Common.{◌≡◌, Some}
 
 pub returns-clause-nothing : goal.returns-clause-nothing
 returns-clause-nothing c = λ is.

@@ -1,4 +1,4 @@
-use Rattle.c_parts.proofs.Refusals.{described}
+use Rattle.c_parts.proofs.ReadingRefusals.{described}
 use Rattle.c_parts.proofs.reading.read_text.Goals as goal
 
 pub returns-in-Err-clause-refused : goal.returns-in-Err-clause-refused

@@ -1,7 +1,5 @@
-use Rattle.std.proofs.Common.{◌≡◌, ◌+◌, ◌≤◌, length}
-use Rattle.str0m_signal.proofs.Common.{Utf8, shadow}
-use Rattle.str0m_signal.specs.LineReading.{lines_of}
-use Rattle.lint.proofs.AttributeLaws.{SoFar}
+use Rattle.lint.proofs.AttributeLinesLaws.{SoFar}
+use Rattle.lint.proofs.Common.{◌≡◌, ◌+◌, ◌≤◌, length, Utf8, shadow, lines_of}
 use Rattle.lint.proofs.attribute_lines.note_attributes.Given as goal
 
 -- what is said so far, and what is to be said of the rest, is what is to be said of the text

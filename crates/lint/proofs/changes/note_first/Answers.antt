@@ -1,7 +1,7 @@
-use Rattle.std.proofs.lemmas.Result.{on_ok_weaker}
-use Rattle.lint.specs.declared.code.Change.TheVariants.{Spelling}
+use Rattle.lint.proofs.Common.{on_ok_weaker}
 use Rattle.lint.proofs.NoteLaws.{changes_one, says_change}
 use Rattle.lint.proofs.changes.note_first.Goals as goal
+use Rattle.lint.specs.declared.code.Change.TheVariants.{Spelling}
 
 pub returns-clause-only : goal.returns-clause-only
 returns-clause-only c =

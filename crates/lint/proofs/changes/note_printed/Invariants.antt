@@ -1,7 +1,6 @@
-use Rattle.std.proofs.Common.{◌≡◌, length}
-use Rattle.str0m_signal.proofs.Common.{Utf8, shadow}
-use Rattle.lint.specs.Findings.{OnlyChanges}
+use Rattle.lint.proofs.Common.{◌≡◌, length, Utf8, shadow}
 use Rattle.lint.proofs.changes.note_printed.Given as goal
+use Rattle.lint.specs.Findings.{OnlyChanges}
 
 abbrev pub invariant-loop-line : goal.invariant-loop-line
 invariant-loop-line l = shadow (Utf8 l.rest) × (l.notes.last ≡ l.initial.notes.last) × OnlyChanges l.initial.notes l.notes

@@ -1,5 +1,4 @@
-use Rattle.std.proofs.Common.{length}
-use Rattle.str0m_signal.proofs.Common.{Utf8, shadow}
+use Rattle.lint.proofs.Common.{length, Utf8, shadow}
 use Rattle.lint.proofs.conflicts.lines_of.Given as goal
 
 abbrev pub invariant-loop-line : goal.invariant-loop-line

@@ -1,4 +1,4 @@
-use Rattle.std.proofs.lemmas.Result.{on_ok_weaker}
+use Rattle.lint.proofs.Common.{on_ok_weaker}
 use Rattle.lint.proofs.NoteLaws.{else_one}
 use Rattle.lint.proofs.conflicts.note_conflict.Goals as goal
 

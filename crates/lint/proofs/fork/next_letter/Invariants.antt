@@ -1,4 +1,4 @@
-use Rattle.std.proofs.Common.{◌≤◌, length}
+use Rattle.lint.proofs.Common.{◌≤◌, length}
 use Rattle.lint.proofs.fork.next_letter.Given as goal
 
 abbrev pub invariant-loop-byte : goal.invariant-loop-byte

@@ -1,4 +1,4 @@
-use Rattle.std.proofs.Common.{max, ap, ◌∙◌}
+use Rattle.lint.proofs.Common.{max, ap, ◌∙◌}
 use Rattle.lint.proofs.found.findings.Goals as goal
 
 pub returns-clause-refused : goal.returns-clause-refused

@@ -1,4 +1,4 @@
-use Rattle.std.proofs.lemmas.Result.{on_ok_weaker}
+use Rattle.lint.proofs.Common.{on_ok_weaker}
 use Rattle.lint.proofs.FindingsLaws.{said_read, said_refused}
 use Rattle.lint.proofs.found.note_found.Goals as goal
 
@@ -12,4 +12,5 @@ returns-in-Some-clause-said c = λ none last one reads.
 pub returns-in-None-clause-said : goal.returns-in-None-clause-said
 returns-in-None-clause-said c = λ none last one reads.
     let refused = rw c.in-None.is at reads in
-    on_ok_weaker c.note_refused.result (λ is. said_refused c.args.text.now c.note_refused.new.notes.findings is refused) c.note_refused.ensures.refused
+    on_ok_weaker c.note_refused.result (λ is. said_refused c.args.text.now c.note_refused.new.notes.findings is refused)
+    c.note_refused.ensures.refused

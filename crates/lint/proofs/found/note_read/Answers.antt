@@ -1,12 +1,10 @@
-use Rattle.std.proofs.Common.{◌≡◌, ◌+◌, ◌≤◌, [], Bool, List, map, length, ap, ◌∙◌, sym, subst, arith, rules}
-use Rattle.std.proofs.lemmas.Result.{on_ok_weaker}
-use Rattle.str0m_sdp.specs.Session.{sdp_text}
-use Rattle.str0m_signal.specs.LineReading.{lines_of}
-use Rattle.lint.specs.Findings.{Keeps}
-use Rattle.lint.specs.Kept.{is_unread, kept_at, kept_flags}
-use Rattle.lint.specs.Lines.{IsNumbered, attribute_numbers}
+use Rattle.lint.proofs.Common.{◌≡◌, ◌+◌, ◌≤◌, [], Bool, List, map, length, ap, ◌∙◌, sym, subst, arith, rules, on_ok_weaker, sdp_text}
+use Rattle.lint.proofs.Common.{lines_of}
 use Rattle.lint.proofs.FindingsLaws.{empty_rest, first_unread, same_as_printed, some_lines, tells_rest, tells_whole, unread_numbered}
 use Rattle.lint.proofs.found.note_read.Goals as goal
+use Rattle.lint.specs.Findings.{KeepsUnread}
+use Rattle.lint.specs.Kept.{is_unread, kept_at, kept_flags}
+use Rattle.lint.specs.Lines.{IsNumbered, attribute_numbers}
 
 pub returns-then-is_empty-clause-tells : goal.returns-then-is_empty-clause-tells
 returns-then-is_empty-clause-tells c = λ last.
@@ -16,12 +14,15 @@ returns-then-is_empty-clause-tells c = λ last.
     let mid = c.note_attributes.new.notes in
     let new = c.note_changes.new.notes in
     let fits : 0 + length (lines_of text) ≤ old.last = omega (arith, last) in
-    let flags : map is_unread c.as_slice.result.now ≡ kept_flags sdp = ap (map is_unread) c.as_slice.ensures.value ∙ c.in_ok-marks.ensures in
-    let keeps : Keeps (kept_at (kept_flags sdp) (attribute_numbers 1 (lines_of text))) old mid =
-    subst (λ (fs : List Bool). Keeps (kept_at fs (attribute_numbers 1 (lines_of text))) old mid) flags (c.in_ok-note_attributes.ensures.keeps fits) in
+    let flags : map is_unread c.as_slice.result.now ≡ kept_flags sdp =
+    ap (map is_unread) c.as_slice.ensures.value ∙ c.in_ok-marks.ensures in
+    let keeps : KeepsUnread (kept_at (kept_flags sdp) (attribute_numbers 1 (lines_of text))) old mid =
+    subst (λ (fs : List Bool). KeepsUnread (kept_at fs (attribute_numbers 1 (lines_of text))) old mid) flags
+    (c.in_ok-note_attributes.ensures.keeps fits) in
     let none : c.args.rest.now ≡ [] = empty_rest c.args.rest.now (sym c.is_empty.ensures ∙ c.if-is_empty.true) in
     let printed : c.as_str.result.now ≡ sdp_text sdp = search rules in
-    let changed = same_as_printed text c.text_before.result.now c.as_str.result.now sdp mid new (c.text_before.ensures none) printed c.in_ok-note_changes.ensures.changed in
+    let changed = same_as_printed text c.text_before.result.now c.as_str.result.now sdp mid new (c.text_before.ensures none) printed
+    c.in_ok-note_changes.ensures.changed in
     tells_whole text sdp c.args.rest.now old mid new none keeps c.in_ok-note_changes.ensures.only changed c.in_ok-note_changes.ensures.last
 
 pub returns-clause-tells : goal.returns-clause-tells
@@ -32,14 +33,18 @@ returns-clause-tells c = λ last.
     let mid = c.note_attributes.new.notes in
     let late = c.note_changes.new.notes in
     let fits : 0 + length (lines_of text) ≤ old.last = omega (arith, last) in
-    let flags : map is_unread c.as_slice.result.now ≡ kept_flags c.args.sdp.now = ap (map is_unread) c.as_slice.ensures.value ∙ c.in_ok-marks.ensures in
-    let keeps : Keeps (kept_at (kept_flags c.args.sdp.now) (attribute_numbers 1 (lines_of text))) old mid =
-    subst (λ (fs : List Bool). Keeps (kept_at fs (attribute_numbers 1 (lines_of text))) old mid) flags (c.in_ok-note_attributes.ensures.keeps fits) in
+    let flags : map is_unread c.as_slice.result.now ≡ kept_flags c.args.sdp.now =
+    ap (map is_unread) c.as_slice.ensures.value ∙ c.in_ok-marks.ensures in
+    let keeps : KeepsUnread (kept_at (kept_flags c.args.sdp.now) (attribute_numbers 1 (lines_of text))) old mid =
+    subst (λ (fs : List Bool). KeepsUnread (kept_at fs (attribute_numbers 1 (lines_of text))) old mid) flags
+    (c.in_ok-note_attributes.ensures.keeps fits) in
     let some = sym c.is_empty.ensures ∙ c.if-is_empty.false in
     let numbered = unread_numbered text rest some in
     let is : c.saturating_add.result ≡ first_unread text rest = omega (arith, some_lines rest some) in
     let stays = c.in_ok-note_changes.ensures.last in
-    let here : IsNumbered late.last c.saturating_add.result = (omega (arith, is), omega (arith, is, stays, keeps.last_stays, last, numbered.1)) in
+    let here : IsNumbered late.last c.saturating_add.result =
+    (omega (arith, is), omega (arith, is, stays, keeps.last_stays, last, numbered.1)) in
     on_ok_weaker c.note_end.result
-    (λ e. tells_rest text c.args.sdp.now rest c.saturating_add.result old mid late c.note_end.new.notes some is keeps c.in_ok-note_changes.ensures.only stays e)
+    (λ e. tells_rest text c.args.sdp.now rest c.saturating_add.result old mid late c.note_end.new.notes some is keeps
+    c.in_ok-note_changes.ensures.only stays e)
     (c.note_end.ensures.ends here)

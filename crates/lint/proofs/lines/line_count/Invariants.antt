@@ -1,6 +1,4 @@
-use Rattle.std.proofs.Common.{◌≡◌, ◌+◌, ◌≤◌, length}
-use Rattle.str0m_signal.proofs.Common.{Utf8, shadow}
-use Rattle.str0m_signal.specs.LineReading.{lines_of}
+use Rattle.lint.proofs.Common.{◌≡◌, ◌+◌, ◌≤◌, length, Utf8, shadow, lines_of}
 use Rattle.lint.proofs.lines.line_count.Given as goal
 
 -- the lines so far and those of the rest are those of the text

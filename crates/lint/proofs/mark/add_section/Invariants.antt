@@ -1,6 +1,6 @@
-use Rattle.std.proofs.Common.{◌≡◌, ◌++◌, map, take}
-use Rattle.lint.specs.Kept.{is_unread, is_unread_of_section}
+use Rattle.lint.proofs.Common.{◌≡◌, ◌++◌, map, take}
 use Rattle.lint.proofs.mark.add_section.Given as goal
+use Rattle.lint.specs.Kept.{is_unread, is_unread_of_section}
 
 abbrev pub invariant-loop-attribute : goal.invariant-loop-attribute
 invariant-loop-attribute l =

@@ -1,7 +1,6 @@
-use Rattle.std.proofs.Common.{◌≡◌, ◌++◌, map, take}
-use Rattle.std.specs.List.{flat_map}
-use Rattle.lint.specs.Kept.{is_unread, kept_of_section, kept_of_session}
+use Rattle.lint.proofs.Common.{◌≡◌, ◌++◌, map, take, flat_map}
 use Rattle.lint.proofs.mark.all_marks.Given as goal
+use Rattle.lint.specs.Kept.{is_unread, kept_of_section, kept_of_session}
 
 abbrev pub invariant-loop-section : goal.invariant-loop-section
 invariant-loop-section l =

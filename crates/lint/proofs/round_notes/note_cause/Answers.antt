@@ -1,7 +1,7 @@
-use Rattle.std.proofs.lemmas.Result.{on_ok_weaker}
+use Rattle.lint.proofs.Common.{on_ok_weaker}
 use Rattle.lint.proofs.FateLaws.{adds_one}
-use Rattle.lint.specs.declared.code.Fate.TheVariants.{RefusedRound}
 use Rattle.lint.proofs.round_notes.note_cause.Goals as goal
+use Rattle.lint.specs.declared.code.Fate.TheVariants.{RefusedRound}
 
 pub returns-clause-said : goal.returns-clause-said
 returns-clause-said c =

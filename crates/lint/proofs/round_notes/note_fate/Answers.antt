@@ -1,4 +1,4 @@
-use Rattle.std.proofs.lemmas.Result.{on_ok_weaker}
+use Rattle.lint.proofs.Common.{on_ok_weaker}
 use Rattle.lint.proofs.FateLaws.{adds_one}
 use Rattle.lint.proofs.round_notes.note_fate.Goals as goal
 

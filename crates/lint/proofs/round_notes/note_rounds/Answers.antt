@@ -1,10 +1,8 @@
-use Rattle.std.proofs.Common.{◌≡◌, ◌+◌, ◌<◌, true, false, length, get_or, take, subst, sym, ◌∙◌, ap, arith, rules}
-use Rattle.str0m_formats.specs.declared.codec_config.CodecConfig.{CodecConfig}
-use Rattle.str0m_sdp.specs.MediaType.{is_media}
-use Rattle.lint.specs.declared.notes.Notes.{Notes}
+use Rattle.lint.proofs.Common.{◌≡◌, ◌+◌, ◌<◌, true, false, length, get_or, take, subst, sym, ◌∙◌, ap, arith, rules, CodecConfig, is_media}
 use Rattle.lint.proofs.FateLaws.{SaidSoFar, round_step, skip_step}
 use Rattle.lint.proofs.round_notes.note_rounds.Goals.{then-is_media+in_ok-note_round, else-is_media}
 use Rattle.lint.proofs.round_notes.note_rounds.Goals as goal
+use Rattle.lint.specs.declared.notes.Notes.{Notes}
 
 pub loop-section-preserved : goal.loop-section-preserved
 loop-section-preserved c =
@@ -21,7 +19,8 @@ loop-section-preserved c =
           let one : is_media m.typ ≡ true = search rules in
           let notes : w.note_round.new.notes ≡ c.if-is_media.notes = search rules in
           let config : w.note_round.new.config ≡ c.if-is_media.config = search rules in
-          let so_far = round_step all i m old now.notes w.note_round.new.notes ours now.config.params.items w.note_round.new.config.params.items inside is one now.invariant.1 w.in_ok-note_round.ensures.said in (
+          let so_far = round_step all i m old now.notes w.note_round.new.notes ours now.config.params.items
+          w.note_round.new.config.params.items inside is one now.invariant.1 w.in_ok-note_round.ensures.said in (
             ap (λ (n : Notes). n.last) (sym notes) ∙ w.in_ok-note_round.ensures.last ∙ now.invariant.0,
             subst (λ (n : Notes). SaidSoFar old n (take (i + 1) all) ours c.if-is_media.config.params.items) notes
                 (subst (λ (f : CodecConfig). SaidSoFar old w.note_round.new.notes (take (i + 1) all) ours f.params.items) config so_far),

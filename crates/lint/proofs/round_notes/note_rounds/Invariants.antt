@@ -1,4 +1,4 @@
-use Rattle.std.proofs.Common.{◌≡◌, take}
+use Rattle.lint.proofs.Common.{◌≡◌, take}
 use Rattle.lint.proofs.FateLaws.{SaidSoFar}
 use Rattle.lint.proofs.round_notes.note_rounds.Given as goal
 

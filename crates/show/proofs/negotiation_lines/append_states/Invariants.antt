@@ -1,8 +1,8 @@
+use Rattle.show.proofs.negotiation_lines.append_states.Given as goal
+use Rattle.show.specs.NegotiationLines.{state_line}
 use Rattle.std.proofs.Common.{◌≡◌, ◌++◌, take}
 use Rattle.std.specs.List.{flat_map}
 use Rattle.std.specs.String.{string_bytes}
-use Rattle.show.specs.NegotiationLines.{state_line}
-use Rattle.show.proofs.negotiation_lines.append_states.Given as goal
 
 -- the lines of the rows so far are appended
 abbrev pub invariant-loop-row : goal.invariant-loop-row

@@ -1,7 +1,7 @@
+use Rattle.show.proofs.negotiation_lines.outcome_lines.Given as goal
+use Rattle.show.specs.NegotiationLines.{outcome_lines}
 use Rattle.std.proofs.Common.{◌≡◌, take}
 use Rattle.std.specs.String.{string_bytes}
-use Rattle.show.specs.NegotiationLines.{outcome_lines}
-use Rattle.show.proofs.negotiation_lines.outcome_lines.Given as goal
 
 -- the lines of the outcomes so far are there
 abbrev pub invariant-loop-i : goal.invariant-loop-i

@@ -1,9 +1,10 @@
+use Rattle.show.proofs.row_lines.append_rows.Given as goal
+use Rattle.show.specs.RowLines.{row_line}
 use Rattle.std.proofs.Common.{◌≡◌, ◌++◌, take}
 use Rattle.std.specs.List.{flat_map}
 use Rattle.std.specs.String.{string_bytes}
-use Rattle.show.specs.RowLines.{row_line}
-use Rattle.show.proofs.row_lines.append_rows.Given as goal
 
 -- the lines of the rows so far are appended
 abbrev pub invariant-loop-row : goal.invariant-loop-row
-invariant-loop-row l = string_bytes l.text ≡ string_bytes l.initial.text ++ flat_map (row_line (string_bytes l.mid)) (take l.row-index l.row-items)
+invariant-loop-row l = string_bytes l.text ≡ string_bytes l.initial.text
+    ++ flat_map (row_line (string_bytes l.mid)) (take l.row-index l.row-items)

@@ -1,8 +1,8 @@
+use Rattle.show.proofs.row_lines.rows_text.Given as goal
+use Rattle.show.specs.RowLines.{section_lines}
 use Rattle.std.proofs.Common.{◌≡◌, take}
 use Rattle.std.specs.List.{flat_map}
 use Rattle.std.specs.String.{string_bytes}
-use Rattle.show.specs.RowLines.{section_lines}
-use Rattle.show.proofs.row_lines.rows_text.Given as goal
 
 -- the lines of the sections so far are there
 abbrev pub invariant-loop-section : goal.invariant-loop-section

@@ -1,5 +1,5 @@
 use Rattle.str0m_formats.proofs.Common.{sym}
-use Rattle.str0m_formats.proofs.CodecNames.{written_is}
+use Rattle.str0m_formats.proofs.codec.CodecNames.{written_is}
 use Rattle.str0m_formats.proofs.codec.named.Goals as goal
 
 pub returns-in-Some : goal.returns-in-Some

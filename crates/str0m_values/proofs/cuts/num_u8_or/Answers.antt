@@ -1,4 +1,4 @@
-use Rattle.str0m_values.proofs.NumLaws.{num_only}
+use Rattle.str0m_values.proofs.CutsNumLaws.{num_only}
 use Rattle.str0m_values.proofs.cuts.num_u8_or.Goals as goal
 
 pub returns-in-Some : goal.returns-in-Some

@@ -1,6 +1,6 @@
-use Rattle.str0m_values.proofs.Common.{arith, get_or, digit_from_value, digit_value_digit}
 use Rattle.std.proofs.lemmas.Int.Digits.{digits_more, digits_value_more}
-use Rattle.str0m_values.proofs.NearLaws.{eighteen_digits}
+use Rattle.str0m_values.proofs.Common.{arith, get_or, digit_from_value, digit_value_digit}
+use Rattle.str0m_values.proofs.CutsNearLaws.{eighteen_digits}
 use Rattle.str0m_values.proofs.cuts.short_number.Goals as goal
 
 pub overflow_mul-number : goal.overflow_mul-number

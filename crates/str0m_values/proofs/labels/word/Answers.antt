@@ -7,4 +7,5 @@ range_from-requires c = λ _.
     rw c.before-word.ensures (before_ends 32 c.args.text.now c.utf8.text (rw (← c.before-word.ensures) c.before-word.utf8))
 
 pub returns : goal.returns
-returns c = rw (c.range_from.ensures.value, c.before-word.ensures) (word_before c.args.text.now (rw (← c.before-word.ensures) c.if-is_empty.ensures))
+returns c = rw (c.range_from.ensures.value, c.before-word.ensures)
+    (word_before c.args.text.now (rw (← c.before-word.ensures) c.if-is_empty.ensures))

@@ -1,4 +1,4 @@
-use Rattle.exchange.specs.Follows.{Follows, IsSound}
+use Rattle.exchange.specs.state.ExchangeFollows.{Follows, IsSound}
 use Rattle.uses.proofs.session.run.Given as goal
 
 -- the calls so far

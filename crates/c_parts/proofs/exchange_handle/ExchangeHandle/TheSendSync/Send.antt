@@ -1,13 +1,13 @@
 -- A handle may go to another thread where what it owns may.
-use denote.Struct.Struct.{exits_of}
-use denote.Struct.Owning.{shape, fields, to}
-use denote.Param.Send.{IsSend, AllSend, owning_send, struct_send, sendable}
+use Rattle.c_parts.proofs.PartsCrossing.{owned_keyless}
+use Rattle.c_parts.specs.contracts.exchange_handle.ExchangeHandle.{the_row, the_type}
+use Rattle.exchange.proofs.state.exchange.Exchange.TheSendSync.{the_send as inner}
+use Rattle.exchange.specs.contracts.state.exchange.Exchange as Inner
 use Rattle.std_alloc.proofs.SendSync.{quiet}
 use Rattle.std_heap.proofs.Global.TheSendSync as heap
-use Rattle.exchange.specs.contracts.exchange.Exchange as Inner
-use Rattle.exchange.proofs.exchange.Exchange.TheSendSync.{the_send as inner}
-use Rattle.c_parts.proofs.Crossing.{owned_keyless}
-use Rattle.c_parts.specs.contracts.exchange_handle.ExchangeHandle.{the_row, the_type}
+use denote.Param.Send.{IsSend, AllSend, owning_send, struct_send, sendable}
+use denote.Struct.Owning.{shape, fields, to}
+use denote.Struct.Struct.{exits_of}
 
 pub send : IsSend the_row
 send =

@@ -1,13 +1,13 @@
 -- A handle may go to another thread where what it owns may.
-use denote.Struct.Struct.{exits_of}
-use denote.Struct.Owning.{shape, fields, to}
-use denote.Param.Send.{IsSend, AllSend, owning_send, struct_send, sendable}
+use Rattle.c_parts.proofs.PartsCrossing.{owned_keyless}
+use Rattle.c_parts.specs.contracts.session_handle.SessionHandle.{the_row, the_type}
 use Rattle.std_alloc.proofs.SendSync.{quiet}
 use Rattle.std_heap.proofs.Global.TheSendSync as heap
-use Rattle.str0m_sdp.specs.contracts.session.Sdp as Inner
 use Rattle.str0m_sdp.proofs.session.Sdp.TheSendSync.{the_send as inner}
-use Rattle.c_parts.proofs.Crossing.{owned_keyless}
-use Rattle.c_parts.specs.contracts.session_handle.SessionHandle.{the_row, the_type}
+use Rattle.str0m_sdp.specs.contracts.session.Sdp as Inner
+use denote.Param.Send.{IsSend, AllSend, owning_send, struct_send, sendable}
+use denote.Struct.Owning.{shape, fields, to}
+use denote.Struct.Struct.{exits_of}
 
 pub send : IsSend the_row
 send =

@@ -1,5 +1,4 @@
-use Rattle.std.proofs.Common.{arith}
-use Rattle.std.proofs.lemmas.List.{take_all}
+use Rattle.lint.proofs.Common.{arith, take_all}
 use Rattle.lint.proofs.FateLaws.{partners_step}
 use Rattle.lint.proofs.fate.Ran.partners.Goals as goal
 

@@ -1,4 +1,4 @@
-use Rattle.str0m_signal.proofs.Common.{Utf8, shadow}
+use Rattle.lint.proofs.Common.{Utf8, shadow}
 use Rattle.lint.proofs.forms.Form.misfit.Given as goal
 
 abbrev pub invariant-loop-step : goal.invariant-loop-step

@@ -1,5 +1,5 @@
-use Rattle.str0m_sdp.proofs.SessionFaultLaws.{sdp_if_ok, unless_some}
 use Rattle.str0m_sdp.proofs.session.Sdp.assert_consistency.Goals as goal
+use Rattle.str0m_sdp.proofs.session.SessionFaultLaws.{sdp_if_ok, unless_some}
 
 pub returns-in-None-clause-exact : goal.returns-in-None-clause-exact
 returns-in-None-clause-exact c =

@@ -1,7 +1,7 @@
-use Rattle.str0m_values.proofs.Common.{◌∙◌, ap, sym, hex_groups_text, ipv6_segments, has_written_of_eq}
-use Rattle.str0m_values.specs.Address.{ip_text}
 use Rattle.str0m_values.proofs.AddressText.{same_v6}
+use Rattle.str0m_values.proofs.Common.{◌∙◌, ap, sym, hex_groups_text, ipv6_segments, has_written_of_eq}
 use Rattle.str0m_values.proofs.address.IpAddrDisplay.fmt.Goals as goal
+use Rattle.str0m_values.specs.Address.{ip_text}
 
 pub returns-in-V6-clause-writes : goal.returns-in-V6-clause-writes
 returns-in-V6-clause-writes g c = λ plain ok.

@@ -1,28 +1,32 @@
 use Rattle.str0m_values.proofs.Common.{◌≡◌, ◌<◌, ℕ, List, Option, Some, None, refl, sym, ◌∙◌, ap, arith, IfSome, ◌↔◌, IsSome}
-use Rattle.str0m_values.specs.Cuts.{num}
-use Rattle.str0m_values.specs.Only.{IsTheOnly}
-use Rattle.str0m_values.specs.Frequency.{IsRate}
-use Rattle.str0m_values.specs.Parts.{IsNum}
-use Rattle.str0m_values.proofs.NumLaws.{num_found, num_reads}
-use Rattle.str0m_values.proofs.BothWays.{some_is}
+use Rattle.str0m_values.proofs.CutsBothWays.{some_is}
+use Rattle.str0m_values.proofs.CutsNumLaws.{num_found, num_reads}
 use Rattle.str0m_values.proofs.frequency.Frequency.from_str.Goals as goal
+use Rattle.str0m_values.specs.Cuts.{num, IsTheOnly}
+use Rattle.str0m_values.specs.CutsParts.{IsNum}
+use Rattle.str0m_values.specs.Frequency.{IsRate}
 
-unread : (text : List ℕ) → None ≡ num 4294967295 text → IsTheOnly (IsRate text) None
-unread text e = record { found = tt; only = λ n is. let reads = num_reads 4294967295 text n is.0 in absurd cc }
+no_rate : (text : List ℕ) → None ≡ num 4294967295 text → IsTheOnly (IsRate text) None
+no_rate text e = record { found = tt; only = λ n is. let reads = num_reads 4294967295 text n is.0 in absurd cc }
 
 -- a rate is the number read
-same : (text : List ℕ) (n m : ℕ) → Some n ≡ num 4294967295 text → IsNum 4294967295 text m → n ≡ m
-same text n m e is = some_is n m (e ∙ num_reads 4294967295 text m is)
+same_rate : (text : List ℕ) (n m : ℕ) → Some n ≡ num 4294967295 text → IsNum 4294967295 text m → n ≡ m
+same_rate text n m e is = some_is n m (e ∙ num_reads 4294967295 text m is)
 
-rate : (text : List ℕ) (n : ℕ) (r : Option ℕ) → Some n ≡ num 4294967295 text → IfSome r (λ f. f ≡ n) → (IsSome r ↔ (0 < n)) → IsTheOnly (IsRate text) r
-rate text n None e value positive =
-    record { found = tt; only = λ m is. let equal = same text n m e is.0 in let above : 0 < n = omega arith in let there = positive.1 above in absurd cc }
-rate text n (Some f) e value positive =
+rate_read : (text : List ℕ) (n : ℕ) (r : Option ℕ) → Some n ≡ num 4294967295 text → IfSome r (λ f. f ≡ n) → (IsSome r ↔ (0 < n))
+    → IsTheOnly (IsRate text) r
+rate_read text n None e value positive =
+    record {
+      found = tt;
+      only = λ m is. let equal = same_rate text n m e is.0 in let above : 0 < n = omega arith in
+          let there = positive.1 above in absurd cc;
+    }
+rate_read text n (Some f) e value positive =
     let is : IsNum 4294967295 text n = num_found 4294967295 text n (sym e) in
-    record { found = (rw value is, rw value (positive.0 refl)); only = λ m is. ap (λ k. Some k) (value ∙ same text n m e is.0) }
+    record { found = (rw value is, rw value (positive.0 refl)); only = λ m is. ap (λ k. Some k) (value ∙ same_rate text n m e is.0) }
 
 pub returns-in_err-num_u32 : goal.returns-in_err-num_u32
-returns-in_err-num_u32 c = rw c.from_residual.ensures (unread c.args.text.now c.in_err-num_u32.ensures)
+returns-in_err-num_u32 c = rw c.from_residual.ensures (no_rate c.args.text.now c.in_err-num_u32.ensures)
 
 pub returns : goal.returns
-returns c = rate c.args.text.now c.in_ok-num_u32.field-0 c.new.result c.in_ok-num_u32.ensures c.new.ensures.rate c.new.ensures.positive
+returns c = rate_read c.args.text.now c.in_ok-num_u32.field-0 c.new.result c.in_ok-num_u32.ensures c.new.ensures.rate c.new.ensures.positive

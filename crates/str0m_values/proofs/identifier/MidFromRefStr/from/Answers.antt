@@ -1,4 +1,4 @@
-use Rattle.str0m_values.proofs.Beginnings.{whole_where_room}
+use Rattle.str0m_values.proofs.IdentifierBeginnings.{whole_where_room}
 use Rattle.str0m_values.proofs.identifier.MidFromRefStr.from.Goals as goal
 
 pub returns : goal.returns

@@ -1,5 +1,5 @@
-use Rattle.str0m_values.proofs.Common.{arith, IsUtf8-had}
 use Rattle.std.proofs.lemmas.Grind.{common_steps}
+use Rattle.str0m_values.proofs.Common.{arith, IsUtf8-had}
 use Rattle.str0m_values.proofs.short_text.ShortText.as_str.Goals as goal
 
 pub unwrap-requires : goal.unwrap-requires

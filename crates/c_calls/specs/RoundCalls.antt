@@ -1,0 +1,52 @@
+-- A section of one's own that lists what is agreed.
+use Rattle.c_calls.specs.Prelude.{CodecConfig, MediaLine, MediaType, NegotiatedText, Outcome, PayloadParams, Sdp, Writable, c_outcome, locked_of_kind, made}
+use Rattle.c_parts.specs.declared.row.Outcome as c
+use Rattle.std.specs.Prelude.{◌≡◌, ◌≢◌, ◌⊎◌, ℕ, List, [], Option, Some, slice_set, ◌++◌, None, drop, length, map, take, slice_get}
+use Rattle.str0m_sdp.specs.declared.attribute.media_type.MediaType.TheVariants.{Audio, Video}
+use Rattle.str0m_values.specs.declared.media_kind.MediaKind.TheVariants as kind
+
+-- of a section's type: those of its kind that are locked; none where it carries no media
+abbrev pub locked_of_type : MediaType → List PayloadParams → List PayloadParams
+locked_of_type Audio rows = locked_of_kind kind.Audio rows
+locked_of_type Video rows = locked_of_kind kind.Video rows
+locked_of_type _ rows = []
+
+-- the section there, which is writable, has the locked rows of its kind, of which there are some, and nothing else has changed
+abbrev pub Lists : List PayloadParams → Sdp → ℕ → Sdp → Type 0
+Lists rows before at after =
+    (frame : MediaLine) × (slice_get before.media_lines at ≡ Some frame) × Writable before at × (locked_of_type frame.typ rows ≢ [])
+    × (after ≡ record before { media_lines = slice_set before.media_lines at (made frame (locked_of_type frame.typ rows)) })
+
+-- nothing can be listed in the section there: no row of its kind is locked, or rows printed there might not be read again
+abbrev pub CantList : List PayloadParams → Sdp → ℕ → Type 0
+CantList rows own at =
+    (frame : MediaLine) × (slice_get own.media_lines at ≡ Some frame) × ((locked_of_type frame.typ rows ≡ []) ⊎ (Writable own at → ⊥))
+
+-- a section that lists what is agreed, of what two handles own
+abbrev pub Answered : Option CodecConfig → Option Sdp → ℕ → Option Sdp → Type 0
+Answered (Some config) (Some before) at (Some after) = Lists config.params.items before at after
+Answered _ _ at _ = ⊥
+
+-- nothing can be listed there, of what two handles own
+abbrev pub CantAnswer : Option CodecConfig → Option Sdp → ℕ → Type 0
+CantAnswer (Some config) (Some own) at = CantList config.params.items own at
+CantAnswer _ _ at = ⊥
+
+-- ---- rounds that were run for a caller
+
+-- as many of the first items as there is room for; after them the room is as it was
+abbrev pub cut_to_room : {X : Type 0} → List X → List X → List X
+cut_to_room items before = take (length before) items ++ drop (length items) before
+
+-- the rounds of the text lead from one configuration to the other, in which nothing but the rows has changed; their outcomes are
+-- counted, and stand in the room
+abbrev pub RanRounds : List ℕ → CodecConfig → CodecConfig → List c.Outcome → List c.Outcome → ℕ → Type 0
+RanRounds text before after room_before room_after needed =
+    (outcomes : List Outcome) × NegotiatedText text before.params.items outcomes after.params.items
+    × (after ≡ record before { params = after.params }) × (needed ≡ length outcomes) × (room_after ≡ cut_to_room (map c_outcome outcomes) room_before)
+
+-- the same of what a handle owns
+abbrev pub RanHeld : List ℕ → Option CodecConfig → Option CodecConfig → List c.Outcome → List c.Outcome → ℕ → Type 0
+RanHeld text (Some before) (Some after) = RanRounds text before after
+RanHeld text None after = λ room_before room_after needed. ⊥
+RanHeld text (Some before) None = λ room_before room_after needed. ⊥

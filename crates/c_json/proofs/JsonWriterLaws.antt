@@ -1,0 +1,253 @@
+-- Each token that may come next leads to the levels behind it.
+use Rattle.c_json.specs.Description.{IsJsonText}
+use Rattle.c_json.specs.JsonWriter.{Level, object, named, list, closed, valued, after_token, open_levels, InObject, InList, WantsValue}
+use Rattle.c_json.specs.JsonWriter.{MayBe}
+use Rattle.c_json.specs.JsonWriter.{IsJsonValue, AreMembers, AreItems, IsFront, Leads, IsBegun}
+use Rattle.json.specs.Json as json
+use Rattle.json.specs.Lex.{tokens}
+use Rattle.json.specs.Print.{print, IsPrintable}
+use Rattle.json.specs.Token.{Token, begin_object, end_object, begin_array, end_array, key, string, number, boolean, null, bad}
+use Rattle.json.specs.Tree.{items_tokens, members_tokens}
+use Rattle.json.specs.Written.{Written, Writes}
+use Rattle.serde_json.proofs.Numbers.{number_of-decimal}
+use Rattle.serde_json.proofs.Texts.{unless_float-number_of}
+use Rattle.serde_json.specs.Data as serde
+use Rattle.serde_json.specs.Data.{unsigned}
+use Rattle.std.proofs.Common.{◌≡◌, ℕ, ◌^◌, ◌<◌, List, [], ◌∷◌, ◌++◌, Result, Ok, Err, decimal, refl, sym, ap, ap₂, ◌∙◌, subst, append_assoc}
+use Rattle.std.proofs.lemmas.List.Sums.{fold_push}
+
+-- ---- values, members and items
+
+text_value : (s : List ℕ) → IsJsonValue (string s ∷ [])
+text_value s = record { value = serde.string s; written = json.string s; tokens = refl; same = refl }
+
+null_value : IsJsonValue (null ∷ [])
+null_value = record { value = serde.null; written = json.null; tokens = refl; same = refl }
+
+boolean_value : (b : _) → IsJsonValue (boolean b ∷ [])
+boolean_value b = record { value = serde.boolean b; written = json.boolean b; tokens = refl; same = refl }
+
+number_value : (n : ℕ) → n < 2 ^ 64 → IsJsonValue (number (decimal n) ∷ [])
+number_value n fits = record {
+  value = serde.number (unsigned n);
+  written = json.number (decimal n);
+  tokens = refl;
+  same = ap json.number (unless_float-number_of (decimal n) (unsigned n) (number_of-decimal n fits));
+}
+
+no_members : AreMembers []
+no_members rest more same = record { members = more; written = rest; tokens = refl; same = same }
+
+member : (ts vs : List Token) (k : List ℕ) → AreMembers ts → IsJsonValue vs → AreMembers (ts ++ key k ∷ vs)
+member ts vs k before value rest more same =
+    let whole = before (json.member k value.written rest) (serde.member k value.value more) (ap₂ (json.member k) value.same same) in
+    record {
+      members = whole.members;
+      written = whole.written;
+      tokens = whole.tokens ∙ ap (λ v. ts ++ key k ∷ (v ++ members_tokens rest)) (sym value.tokens)
+          ∙ sym (append_assoc ts (key k ∷ vs) (members_tokens rest));
+      same = whole.same;
+    }
+
+no_items : AreItems []
+no_items rest more same = record { items = more; written = rest; tokens = refl; same = same }
+
+item : (ts vs : List Token) → AreItems ts → IsJsonValue vs → AreItems (ts ++ vs)
+item ts vs before value rest more same =
+    let whole = before (json.item value.written rest) (serde.item value.value more) (ap₂ json.item value.same same) in
+    record {
+      items = whole.items;
+      written = whole.written;
+      tokens = whole.tokens ∙ ap (λ v. ts ++ (v ++ items_tokens rest)) (sym value.tokens) ∙ sym (append_assoc ts vs (items_tokens rest));
+      same = whole.same;
+    }
+
+object_value : (ts : List Token) → AreMembers ts → IsJsonValue (begin_object ∷ (ts ++ end_object ∷ []))
+object_value ts are =
+    let whole = are json.no_members serde.no_members refl in
+    record {
+      value = serde.object whole.members;
+      written = json.object whole.written;
+      tokens = ap (λ t. begin_object ∷ t) (sym whole.tokens);
+      same = ap json.object whole.same;
+    }
+
+list_value : (ts : List Token) → AreItems ts → IsJsonValue (begin_array ∷ (ts ++ end_array ∷ []))
+list_value ts are =
+    let whole = are json.no_items serde.no_items refl in
+    record {
+      value = serde.array whole.items;
+      written = json.array whole.written;
+      tokens = ap (λ t. begin_array ∷ t) (sym whole.tokens);
+      same = ap json.array whole.same;
+    }
+
+-- ---- a value within levels
+
+put_within : (ls : List Level) (ts vs : List Token) → IsFront ls ts → IsJsonValue vs → Leads ls (ts ++ vs)
+put_within [] ts vs front value = record {
+  value = value.value;
+  written = value.written;
+  tokens = ap (λ t. t ++ vs) front ∙ value.tokens;
+  same = value.same;
+}
+put_within (object ∷ ls) ts vs (outer, members, k, front, are, is) value = (
+  outer,
+  members ++ key k ∷ vs,
+  front,
+  member members vs k are value,
+  ap (λ t. t ++ vs) is ∙ append_assoc outer (begin_object ∷ (members ++ key k ∷ [])) vs
+      ∙ ap (λ t. outer ++ begin_object ∷ t) (append_assoc members (key k ∷ []) vs),
+)
+put_within (named ∷ ls) ts vs front value = absurd front
+put_within (list ∷ ls) ts vs (outer, items, front, are, is) value = (
+  outer,
+  items ++ vs,
+  front,
+  item items vs are value,
+  ap (λ t. t ++ vs) is ∙ append_assoc outer (begin_array ∷ items) vs,
+)
+
+put_scalar : (ls : List Level) (ts : List Token) (t : Token) → Leads ls ts → WantsValue ls → IsJsonValue (t ∷ [])
+    → Leads (valued ls) (ts ++ t ∷ [])
+put_scalar [] ts t leads wants value = absurd wants
+put_scalar (object ∷ ls) ts t leads wants value = absurd wants
+put_scalar (named ∷ ls) ts t leads wants value = put_within (object ∷ ls) ts (t ∷ []) leads value
+put_scalar (list ∷ ls) ts t leads wants value = put_within (list ∷ ls) ts (t ∷ []) leads value
+
+begin_members : (ls : List Level) (ts : List Token) → Leads ls ts → WantsValue ls → Leads (object ∷ valued ls) (ts ++ begin_object ∷ [])
+begin_members [] ts leads wants = absurd wants
+begin_members (object ∷ ls) ts leads wants = absurd wants
+begin_members (named ∷ ls) ts leads wants = (ts, [], leads, no_members, refl)
+begin_members (list ∷ ls) ts leads wants = (ts, [], leads, no_members, refl)
+
+begin_items : (ls : List Level) (ts : List Token) → Leads ls ts → WantsValue ls → Leads (list ∷ valued ls) (ts ++ begin_array ∷ [])
+begin_items [] ts leads wants = absurd wants
+begin_items (object ∷ ls) ts leads wants = absurd wants
+begin_items (named ∷ ls) ts leads wants = (ts, [], leads, no_items, refl)
+begin_items (list ∷ ls) ts leads wants = (ts, [], leads, no_items, refl)
+
+end_members : (ls : List Level) (ts : List Token) → Leads ls ts → InObject ls → Leads (closed ls) (ts ++ end_object ∷ [])
+end_members [] ts leads inside = absurd inside
+end_members (object ∷ ls) ts (outer, members, front, are, is) inside =
+    subst (Leads ls) (sym (ap (λ t. t ++ end_object ∷ []) is ∙ append_assoc outer (begin_object ∷ members) (end_object ∷ [])))
+    (put_within ls outer (begin_object ∷ (members ++ end_object ∷ [])) front (object_value members are))
+end_members (named ∷ ls) ts leads inside = absurd inside
+end_members (list ∷ ls) ts leads inside = absurd inside
+
+end_items : (ls : List Level) (ts : List Token) → Leads ls ts → InList ls → Leads (closed ls) (ts ++ end_array ∷ [])
+end_items [] ts leads inside = absurd inside
+end_items (object ∷ ls) ts leads inside = absurd inside
+end_items (named ∷ ls) ts leads inside = absurd inside
+end_items (list ∷ ls) ts (outer, items, front, are, is) inside =
+    subst (Leads ls) (sym (ap (λ t. t ++ end_array ∷ []) is ∙ append_assoc outer (begin_array ∷ items) (end_array ∷ [])))
+    (put_within ls outer (begin_array ∷ (items ++ end_array ∷ [])) front (list_value items are))
+
+put_key : (ls : List Level) (ts : List Token) (k : List ℕ) → Leads ls ts → InObject ls → Leads (named ∷ closed ls) (ts ++ key k ∷ [])
+put_key [] ts k leads inside = absurd inside
+put_key (object ∷ ls) ts k (outer, members, front, are, is) inside = (
+  outer,
+  members,
+  k,
+  front,
+  are,
+  ap (λ t. t ++ key k ∷ []) is ∙ append_assoc outer (begin_object ∷ members) (key k ∷ []),
+)
+put_key (named ∷ ls) ts k leads inside = absurd inside
+put_key (list ∷ ls) ts k leads inside = absurd inside
+
+put_token : (ls : List Level) (ts : List Token) (t : Token) → Leads ls ts → MayBe ls t → Leads (after_token ls t) (ts ++ t ∷ [])
+put_token ls ts begin_object leads may = begin_members ls ts leads may
+put_token ls ts end_object leads may = end_members ls ts leads may
+put_token ls ts begin_array leads may = begin_items ls ts leads may
+put_token ls ts end_array leads may = end_items ls ts leads may
+put_token ls ts (key k) leads may = put_key ls ts k leads may
+put_token ls ts (string s) leads may = put_scalar ls ts (string s) leads may (text_value s)
+put_token ls ts (number s) leads may = absurd may
+put_token ls ts (boolean b) leads may = put_scalar ls ts (boolean b) leads may (boolean_value b)
+put_token ls ts null leads may = put_scalar ls ts null leads may null_value
+put_token ls ts bad leads may = absurd may
+
+-- ---- for the writer
+
+pub may_be_printed : (ls : List Level) (t : Token) → MayBe ls t → IsPrintable t
+may_be_printed ls begin_object may = tt
+may_be_printed ls end_object may = tt
+may_be_printed ls begin_array may = tt
+may_be_printed ls end_array may = tt
+may_be_printed ls (key k) may = tt
+may_be_printed ls (string s) may = tt
+may_be_printed ls (number s) may = absurd may
+may_be_printed ls (boolean b) may = tt
+may_be_printed ls null may = tt
+may_be_printed ls bad may = absurd may
+
+-- the levels behind one more token
+pub levels_push : (old new : List Token) (t : Token) → new ≡ old ++ t ∷ [] → open_levels new ≡ after_token (open_levels old) t
+levels_push old new t is = ap open_levels is ∙ fold_push after_token [] old t
+
+led : (old new : List Token) (t : Token) → new ≡ old ++ t ∷ [] → Leads (after_token (open_levels old) t) (old ++ t ∷ [])
+    → Leads (open_levels new) new
+led old new t is leads = subst (λ ts. Leads (open_levels ts) ts) (sym is)
+    (subst (λ ls. Leads ls (old ++ t ∷ [])) (sym (fold_push after_token [] old t)) leads)
+
+begun_behind : {E : Type 0} (r : Result (Unit {0}) E) (old new : Written) (t : Token) → Writes r old new t → IsBegun old.before old.tokens
+    → Leads (after_token (open_levels old.tokens) t) (old.tokens ++ t ∷ []) → IsBegun new.before new.tokens
+begun_behind (Ok done) old new t writes is leads = record {
+  empty = writes.room.0 ∙ is.empty;
+  leads = led old.tokens new.tokens t writes.ok leads;
+}
+begun_behind (Err error) old new t writes is leads = record {
+  empty = writes.room.0 ∙ is.empty;
+  leads = subst (λ ts. Leads (open_levels ts) ts) (sym writes.err) is.leads;
+}
+
+pub begun_token : {E : Type 0} (r : Result (Unit {0}) E) (old new : Written) (t : Token) → Writes r old new t
+    → IsBegun old.before old.tokens → MayBe (open_levels old.tokens) t
+    → IsBegun new.before new.tokens
+begun_token r old new t writes is may = begun_behind r old new t writes is (put_token (open_levels old.tokens) old.tokens t is.leads may)
+
+pub begun_number : {E : Type 0} (r : Result (Unit {0}) E) (old new : Written) (n : ℕ) → n < 2 ^ 64 → Writes r old new (number (decimal n))
+    → IsBegun old.before old.tokens
+    → WantsValue (open_levels old.tokens) → IsBegun new.before new.tokens
+begun_number r old new n fits writes is wants = begun_behind r old new _ writes is
+    (put_scalar (open_levels old.tokens) old.tokens _ is.leads wants (number_value n fits))
+
+-- an object alone
+pub begun_object : (before : List ℕ) (ts : List Token) → before ≡ [] → ts ≡ begin_object ∷ [] → IsBegun before ts
+begun_object before ts empty is = record {
+  empty = empty;
+  leads = subst (λ t. Leads (open_levels t) t) (sym is) ([], [], refl, no_members, refl);
+}
+
+-- a member, and an item, lead where they began
+pub behind_member : (ls : List Level) → InObject ls → object ∷ closed ls ≡ ls
+behind_member [] inside = absurd inside
+behind_member (object ∷ ls) inside = refl
+behind_member (named ∷ ls) inside = absurd inside
+behind_member (list ∷ ls) inside = absurd inside
+
+pub behind_item : (ls : List Level) → InList ls → valued ls ≡ ls
+behind_item [] inside = absurd inside
+behind_item (object ∷ ls) inside = absurd inside
+behind_item (named ∷ ls) inside = absurd inside
+behind_item (list ∷ ls) inside = refl
+
+pub item_wanted : (ls : List Level) → InList ls → WantsValue ls
+item_wanted [] inside = absurd inside
+item_wanted (object ∷ ls) inside = absurd inside
+item_wanted (named ∷ ls) inside = absurd inside
+item_wanted (list ∷ ls) inside = tt
+
+-- ---- for the text
+
+json_value_text : (text : List ℕ) (ts : List Token) → text ≡ print ts → tokens (print ts) ≡ ts → IsJsonValue ts → IsJsonText text
+json_value_text text ts is read value =
+    let same : tokens text ≡ ts = ap tokens is ∙ read in
+    (value.value, (value.written, same ∙ value.tokens, value.same), is ∙ ap print (sym same))
+
+-- where nothing is open any more, the text is that of a value
+pub whole_json_text : (before text : List ℕ) (ts : List Token) → IsBegun before ts → open_levels ts ≡ [] → text ≡ before ++ print ts
+    → tokens (print ts) ≡ ts → IsJsonText text
+whole_json_text before text ts begun none is read = json_value_text text ts (is ∙ ap (λ b. b ++ print ts) begun.empty) read
+    (subst (λ ls. Leads ls ts) none begun.leads)

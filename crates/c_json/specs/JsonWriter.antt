@@ -1,0 +1,126 @@
+-- The objects and lists that are open where JSON is written, the innermost first.
+use Rattle.json.specs.Json as json
+use Rattle.json.specs.Token.{Token, begin_object, end_object, begin_array, end_array, key, string, number, boolean, null, bad}
+use Rattle.json.specs.Tree.{json_tokens, items_tokens, members_tokens}
+use Rattle.serde_json.specs.Data.{Data, Items, Members}
+use Rattle.serde_json.specs.Written.{blank, blank_items, blank_members, outline, items_outline, members_outline}
+use Rattle.std.specs.Prelude.{◌≡◌, ℕ, List, [], ◌∷◌, ◌++◌, fold}
+
+-- an object, one whose last key waits for its value, or a list
+pub data Level : Type 0 where
+  object : Level
+  named : Level
+  list : Level
+
+-- without the innermost one
+abbrev pub closed : List Level → List Level
+closed [] = []
+closed (l ∷ ls) = ls
+
+-- behind a value
+abbrev pub valued : List Level → List Level
+valued [] = []
+valued (object ∷ ls) = object ∷ ls
+valued (named ∷ ls) = object ∷ ls
+valued (list ∷ ls) = list ∷ ls
+
+-- behind a token
+abbrev pub after_token : List Level → Token → List Level
+after_token ls begin_object = object ∷ valued ls
+after_token ls end_object = closed ls
+after_token ls begin_array = list ∷ valued ls
+after_token ls end_array = closed ls
+after_token ls (key k) = named ∷ closed ls
+after_token ls (string s) = valued ls
+after_token ls (number s) = valued ls
+after_token ls (boolean b) = valued ls
+after_token ls null = valued ls
+after_token ls bad = ls
+
+abbrev pub open_levels : List Token → List Level
+open_levels = fold after_token []
+
+-- a member may come next
+abbrev pub InObject : List Level → Type 0
+InObject [] = ⊥
+InObject (object ∷ ls) = Unit {0}
+InObject (named ∷ ls) = ⊥
+InObject (list ∷ ls) = ⊥
+
+-- an item may come next
+abbrev pub InList : List Level → Type 0
+InList [] = ⊥
+InList (object ∷ ls) = ⊥
+InList (named ∷ ls) = ⊥
+InList (list ∷ ls) = Unit {0}
+
+-- a value may come next
+abbrev pub WantsValue : List Level → Type 0
+WantsValue [] = ⊥
+WantsValue (object ∷ ls) = ⊥
+WantsValue (named ∷ ls) = Unit {0}
+WantsValue (list ∷ ls) = Unit {0}
+
+-- the token may come next; a number has a call of its own
+abbrev pub MayBe : List Level → Token → Type 0
+MayBe ls begin_object = WantsValue ls
+MayBe ls end_object = InObject ls
+MayBe ls begin_array = WantsValue ls
+MayBe ls end_array = InList ls
+MayBe ls (key k) = InObject ls
+MayBe ls (string s) = WantsValue ls
+MayBe ls (number s) = ⊥
+MayBe ls (boolean b) = WantsValue ls
+MayBe ls null = WantsValue ls
+MayBe ls bad = ⊥
+
+-- ---- which tokens lead to such levels
+
+-- the tokens of a value
+pub record IsJsonValue (ts : List Token) : Type 0 where
+  pub value : Data
+  pub written : json.Json
+  pub tokens : ts ≡ json_tokens written
+  pub same : blank written ≡ outline value
+
+-- members that some others end
+pub record BeginsMembers (ts : List Token) (rest : json.Members) : Type 0 where
+  pub members : Members
+  pub written : json.Members
+  pub tokens : members_tokens written ≡ ts ++ members_tokens rest
+  pub same : blank_members written ≡ members_outline members
+
+-- the tokens of members: whichever come behind, these and those are members
+abbrev pub AreMembers : List Token → Type 0
+AreMembers ts = (rest : json.Members) (more : Members) → blank_members rest ≡ members_outline more → BeginsMembers ts rest
+
+-- items that some others end
+pub record BeginsItems (ts : List Token) (rest : json.Items) : Type 0 where
+  pub items : Items
+  pub written : json.Items
+  pub tokens : items_tokens written ≡ ts ++ items_tokens rest
+  pub same : blank_items written ≡ items_outline items
+
+-- the same of items
+abbrev pub AreItems : List Token → Type 0
+AreItems ts = (rest : json.Items) (more : Items) → blank_items rest ≡ items_outline more → BeginsItems ts rest
+
+-- the tokens in front of a value that stands within these levels
+abbrev pub IsFront : List Level → List Token → Type 0
+IsFront [] ts = ts ≡ []
+IsFront (object ∷ ls) ts =
+    (outer : List Token) × (members : List Token) × (k : List ℕ) × IsFront ls outer × AreMembers members × (ts ≡ outer ++ begin_object ∷ (members ++ key k ∷ []))
+IsFront (named ∷ ls) ts = ⊥
+IsFront (list ∷ ls) ts = (outer : List Token) × (items : List Token) × IsFront ls outer × AreItems items × (ts ≡ outer ++ begin_array ∷ items)
+
+-- the tokens that lead there; where none is open any more, a value
+abbrev pub Leads : List Level → List Token → Type 0
+Leads [] ts = IsJsonValue ts
+Leads (object ∷ ls) ts = (outer : List Token) × (members : List Token) × IsFront ls outer × AreMembers members × (ts ≡ outer ++ begin_object ∷ members)
+Leads (named ∷ ls) ts = IsFront (object ∷ ls) ts
+Leads (list ∷ ls) ts = IsFront (list ∷ ls) ts
+
+-- what is written leads to its levels, in a room that was empty
+pub record IsBegun (before : List ℕ) (tokens : List Token) : Type 0 where
+  pub empty : before ≡ []
+  pub leads : Leads (open_levels tokens) tokens

@@ -1,8 +1,0 @@
--- What is full holds something.
-use Rattle.std.proofs.Common.{◌≡◌, refl}
-use Rattle.std.specs.Prelude.{Option, None, Some}
-use Rattle.c_parts.specs.Full.{IsFull}
-
-pub full_is : {X : Type 0} (o : Option X) → IsFull o → (x : X) × (o ≡ Some x)
-full_is None full = absurd full
-full_is (Some x) full = (x, refl)

@@ -1,0 +1,12 @@
+-- What is refused describes no session.
+use Rattle.std.specs.Prelude.{ℕ, List}
+use Rattle.str0m_sdp.specs.declared.session.error.SdpError.{SdpError}
+use Rattle.str0m_sdp.specs.declared.session.error.SdpError.TheVariants.{ParseError, Inconsistent, Memory}
+use Rattle.str0m_signal.specs.session.Reader.{Described, Reading}
+use Rattle.str0m_signal.specs.session.ReaderAnswers.{Refuses}
+
+-- where no value and no rest are a reading of the text, it describes none
+pub described : (error : SdpError) (text : List ℕ) → Refuses error (Reading text) → Refuses error (Described text)
+described (ParseError message) text refused = λ sdp found. refused (sdp, found.0) found.1
+described (Inconsistent message) text refused = refused
+described Memory text refused = refused

@@ -1,7 +1,0 @@
-use Rattle.std.proofs.Common.{◌≡◌, take, map}
-use Rattle.exchange.specs.Accepted.{candidate_line}
-use Rattle.exchange.proofs.accepted.candidate_lines.Given as goal
-
--- the lines of the candidates so far
-abbrev pub invariant-loop-candidate : goal.invariant-loop-candidate
-invariant-loop-candidate l = l.lines.items ≡ map candidate_line (take l.candidate-index l.candidate-items)

@@ -1,7 +1,0 @@
-use Rattle.std.proofs.Common.{not, rules}
-use Rattle.std.proofs.lemmas.List.Elements.{filter_from_retain}
-use Rattle.str0m_sdp.specs.SectionOf.{is_of_type}
-use Rattle.exchange.proofs.accepted.keep_frame.Goals as goal
-
-pub returns : goal.returns
-returns c = filter_from_retain _ (λ attr. not (is_of_type attr)) (λ p x b q is. search rules) _ c.args.lines.now.items _ c.retain.ensures.filtered

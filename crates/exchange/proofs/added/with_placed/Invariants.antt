@@ -1,7 +1,0 @@
-use Rattle.std.proofs.Common.{◌≡◌, ◌++◌, filter_map, take}
-use Rattle.exchange.specs.Added.{direction_of}
-use Rattle.exchange.proofs.added.with_placed.Given as goal
-
--- the directions of what is placed so far, after the others
-abbrev pub invariant-loop-it : goal.invariant-loop-it
-invariant-loop-it l = l.after.items ≡ l.entries ++ filter_map direction_of (take l.it-index l.placed)

@@ -1,0 +1,16 @@
+pub mod AcceptedLaws
+pub mod AcceptedOfferLaws
+pub mod AnswerLaws
+pub mod BundleLaws
+pub mod InForceLaws
+pub mod LayerLaws
+pub mod OfferedFeedbackLaws
+pub mod OfferedLaws
+pub mod OfferedRoundLaws
+pub mod OfferedUnreadLaws
+pub mod RejectedSectionLaws
+pub mod RowLaws
+pub mod RowTypes
+pub mod RowsListLaws
+pub mod RowsPlain
+pub mod RowsTypeLaws

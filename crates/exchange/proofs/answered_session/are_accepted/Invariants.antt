@@ -1,7 +1,0 @@
-use Rattle.std.proofs.Common.{◌≡◌, take, map}
-use Rattle.exchange.specs.AnsweredSession.{is_accepted}
-use Rattle.exchange.proofs.answered_session.are_accepted.Given as goal
-
--- the answers for the sections so far
-abbrev pub invariant-loop-section : goal.invariant-loop-section
-invariant-loop-section l = l.accepted.items ≡ map is_accepted (take l.section-index l.sections)

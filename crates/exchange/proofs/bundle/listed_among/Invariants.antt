@@ -1,7 +1,0 @@
-use Rattle.std.proofs.Common.{◌≡◌, Some, filter, take}
-use Rattle.str0m_sdp.specs.SessionConsistency.{is_listed}
-use Rattle.exchange.proofs.bundle.listed_among.Given as goal
-
--- those so far that are listed
-abbrev pub invariant-loop-mid : goal.invariant-loop-mid
-invariant-loop-mid l = l.mids.items ≡ filter (λ mid. is_listed l.names (Some mid)) (take l.mid-index l.group)

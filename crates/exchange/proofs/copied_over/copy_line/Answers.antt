@@ -1,6 +1,0 @@
-use Rattle.std.proofs.Common.{sym, ◌∙◌}
-use Rattle.exchange.proofs.CopyLaws.{same_unless}
-use Rattle.exchange.proofs.copied_over.copy_line.Goals as goal
-
-pub returns-else-may_differ : goal.returns-else-may_differ
-returns-else-may_differ c = same_unless c.args.source.now c.args.line.now (sym c.may_differ.ensures ∙ c.if-may_differ.false) c.requires

@@ -1,8 +1,0 @@
-use Rattle.std.specs.Prelude.{◌≡◌, length, take}
-use Rattle.exchange.proofs.CopyLaws.{FromOn}
-use Rattle.exchange.proofs.copied_over.copy_sections.Given as goal
-use Rattle.exchange.specs.ReadBack.{IsSectionReadAs}
-
--- the sections so far are equal, there are as many as there were, and the others are as they were
-abbrev pub invariant-loop-i : goal.invariant-loop-i
-invariant-loop-i l = (take l.i l.sections.items ≡ take l.i l.sources) × (length l.sections.items ≡ length l.sources) × FromOn IsSectionReadAs l.sources l.sections.items l.i

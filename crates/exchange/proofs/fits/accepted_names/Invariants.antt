@@ -1,7 +1,0 @@
-use Rattle.std.proofs.Common.{◌≡◌, filter_map, take}
-use Rattle.exchange.specs.Fits.{accepted_name}
-use Rattle.exchange.proofs.fits.accepted_names.Given as goal
-
--- the names of the accepted sections so far
-abbrev pub invariant-loop-section : goal.invariant-loop-section
-invariant-loop-section l = l.names.items ≡ filter_map accepted_name (take l.section-index l.sections)

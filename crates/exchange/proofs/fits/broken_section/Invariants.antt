@@ -1,7 +1,0 @@
-use Rattle.std.proofs.Common.{ℕ, ◌<◌}
-use Rattle.exchange.specs.Fits.{FitsAt}
-use Rattle.exchange.proofs.fits.broken_section.Given as goal
-
--- the sections so far keep every rule
-abbrev pub invariant-loop-section : goal.invariant-loop-section
-invariant-loop-section l = (k : ℕ) → k < l.section → FitsAt l.ours.params.items l.offer l.answer k

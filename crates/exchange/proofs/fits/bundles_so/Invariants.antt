@@ -1,7 +1,0 @@
-use Rattle.std.proofs.Common.{All, take}
-use Rattle.exchange.specs.Fits.{IsBundledSo}
-use Rattle.exchange.proofs.fits.bundles_so.Given as goal
-
--- the names so far are those of accepted sections that the offer's group lists
-abbrev pub invariant-loop-mid : goal.invariant-loop-mid
-invariant-loop-mid l = All (IsBundledSo l.offer l.answer) (take l.mid-index l.listed)

@@ -1,7 +1,0 @@
-use Rattle.std.proofs.Common.{All, take}
-use Rattle.exchange.specs.Fits.{Keeps}
-use Rattle.exchange.proofs.fits_section.broken_rule.Given as goal
-
--- the rules so far are kept
-abbrev pub invariant-loop-rule : goal.invariant-loop-rule
-invariant-loop-rule l = All (Keeps l.ours.params.items l.answer l.offered l.answered) (take l.rule-index l.rule-items)

@@ -1,7 +1,0 @@
-use Rattle.std.proofs.Common.{◌≡◌, ◌<◌, ◌≤◌, ℕ, true}
-use Rattle.exchange.specs.FreshNames.{is_taken}
-use Rattle.exchange.proofs.fresh_names.next_free.Given as goal
-
--- the numbers so far are taken
-abbrev pub invariant-loop-number : goal.invariant-loop-number
-invariant-loop-number l = (k : ℕ) → l.from ≤ k → k < l.number → is_taken l.taken k ≡ true

@@ -1,7 +1,0 @@
-use Rattle.std.proofs.Common.{◌≡◌, filter_map, take}
-use Rattle.exchange.specs.Layers.{answered_rid}
-use Rattle.exchange.proofs.layers.answered_rids.Given as goal
-
--- the answers to the lines so far
-abbrev pub invariant-loop-line : goal.invariant-loop-line
-invariant-loop-line l = l.rids.items ≡ filter_map (answered_rid l.sent l.rows) (take l.line-index l.lines)

@@ -1,7 +1,0 @@
-use Rattle.std.proofs.Common.{◌≡◌, filter, take}
-use Rattle.exchange.specs.Layers.{is_answered}
-use Rattle.exchange.proofs.layers.received_layers.Given as goal
-
--- those so far that are answered
-abbrev pub invariant-loop-layer : goal.invariant-loop-layer
-invariant-loop-layer l = l.layers.items ≡ filter (is_answered l.rids) (take l.layer-index l.sent)

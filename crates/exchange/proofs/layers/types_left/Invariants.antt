@@ -1,7 +1,0 @@
-use Rattle.std.proofs.Common.{◌≡◌, take}
-use Rattle.exchange.specs.Layers.{types_left}
-use Rattle.exchange.proofs.layers.types_left.Given as goal
-
--- those so far that are left
-abbrev pub invariant-loop-pt : goal.invariant-loop-pt
-invariant-loop-pt l = l.left.items ≡ types_left l.rows (take l.pt-index l.pts)

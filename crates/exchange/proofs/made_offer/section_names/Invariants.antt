@@ -1,7 +1,0 @@
-use Rattle.std.proofs.Common.{◌≡◌, take}
-use Rattle.str0m_sdp.specs.SessionConsistency.{section_mids}
-use Rattle.exchange.proofs.made_offer.section_names.Given as goal
-
--- the names so far
-abbrev pub invariant-loop-section : goal.invariant-loop-section
-invariant-loop-section l = l.names.items ≡ section_mids (take l.section-index l.sections)

@@ -1,7 +1,0 @@
-use Rattle.std.proofs.Common.{take}
-use Rattle.exchange.specs.OfferPlaces.{FillsPlaces}
-use Rattle.exchange.proofs.offer_places.filled_places.Given as goal
-
--- the places so far, and what is left of what is added
-abbrev pub invariant-loop-at : goal.invariant-loop-at
-invariant-loop-at l = FillsPlaces l.exchange l.ready 0 (take l.at l.places) l.fn.added l.sections.items l.left

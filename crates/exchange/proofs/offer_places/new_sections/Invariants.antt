@@ -1,7 +1,0 @@
-use Rattle.std.proofs.Common.{◌≡◌, map, take}
-use Rattle.exchange.specs.OfferSection.{new_section}
-use Rattle.exchange.proofs.offer_places.new_sections.Given as goal
-
--- the sections so far
-abbrev pub invariant-loop-it : goal.invariant-loop-it
-invariant-loop-it l = l.sections.items ≡ map (new_section l.exchange l.ready l.extensions) (take l.it-index l.placed)

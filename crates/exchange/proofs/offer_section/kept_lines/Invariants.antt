@@ -1,7 +1,0 @@
-use Rattle.std.proofs.Common.{◌≡◌, filter, option_copied, take}
-use Rattle.exchange.specs.OfferSection.{is_kept}
-use Rattle.exchange.proofs.offer_section.kept_lines.Given as goal
-
--- those so far that it goes on saying
-abbrev pub invariant-loop-line : goal.invariant-loop-line
-invariant-loop-line l = l.lines.items ≡ filter (is_kept (option_copied l.theirs)) (take l.line-index l.mine.attrs)

@@ -1,7 +1,0 @@
-use Rattle.std.proofs.Common.{take}
-use Rattle.exchange.specs.Offered.{AreRoundsOf}
-use Rattle.exchange.proofs.offered.rounds_of.Given as goal
-
--- the rounds of the sections so far
-abbrev pub invariant-loop-section : goal.invariant-loop-section
-invariant-loop-section l = AreRoundsOf l.offer (take l.section-index l.sections) l.rounds.items

@@ -1,7 +1,0 @@
-use Rattle.std.proofs.Common.{take}
-use Rattle.exchange.specs.OfferedFeedback.{IsGathered}
-use Rattle.exchange.proofs.offered_feedback.gathered.Given as goal
-
--- what the lines so far offer
-abbrev pub invariant-loop-attr : goal.invariant-loop-attr
-invariant-loop-attr l = IsGathered (take l.attr-index l.attrs) l.of_types l.of_all

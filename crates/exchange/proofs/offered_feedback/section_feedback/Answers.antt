@@ -1,7 +1,0 @@
-use Rattle.std.proofs.Common.{List, subst}
-use Rattle.str0m_sdp.specs.declared.attribute.MediaAttribute.{MediaAttribute}
-use Rattle.exchange.specs.OfferedFeedback.{IsGathered}
-use Rattle.exchange.proofs.offered_feedback.section_feedback.Goals as goal
-
-pub returns : goal.returns
-returns c = subst (λ (attrs : List MediaAttribute). IsGathered attrs c.gathered.result.of_types c.gathered.result.of_all) c.as_slice.ensures c.gathered.ensures

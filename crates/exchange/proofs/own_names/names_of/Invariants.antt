@@ -1,7 +1,0 @@
-use Rattle.std.proofs.Common.{◌≡◌, map, take}
-use Rattle.exchange.specs.Stopped.{name_of}
-use Rattle.exchange.proofs.own_names.names_of.Given as goal
-
--- the names so far
-abbrev pub invariant-loop-section : goal.invariant-loop-section
-invariant-loop-section l = l.names.items ≡ map name_of (take l.section-index l.sections)

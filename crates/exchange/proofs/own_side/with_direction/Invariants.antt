@@ -1,7 +1,0 @@
-use Rattle.std.proofs.Common.{◌≡◌, filter, not, take}
-use Rattle.exchange.specs.OwnSide.{is_of}
-use Rattle.exchange.proofs.own_side.with_direction.Given as goal
-
--- those so far that are of another name
-abbrev pub invariant-loop-entry : goal.invariant-loop-entry
-invariant-loop-entry l = l.after.items ≡ filter (λ entry. not (is_of l.mid entry)) (take l.entry-index l.entries)

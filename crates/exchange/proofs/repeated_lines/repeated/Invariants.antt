@@ -1,7 +1,0 @@
-use Rattle.std.proofs.Common.{◌≡◌, filter, take}
-use Rattle.exchange.specs.RepeatedLines.{is_repeated}
-use Rattle.exchange.proofs.repeated_lines.repeated.Given as goal
-
--- those so far that are repeated
-abbrev pub invariant-loop-line : goal.invariant-loop-line
-invariant-loop-line l = l.lines.items ≡ filter (is_repeated l.known) (take l.line-index l.offered.attrs)

@@ -1,7 +1,0 @@
-use Rattle.std.proofs.Common.{ℕ, ◌<◌}
-use Rattle.exchange.specs.Restart.{IsRestartedAt}
-use Rattle.exchange.proofs.restart.is_ice_restart.Given as goal
-
--- none that was passed is restarted
-abbrev pub invariant-loop-at : goal.invariant-loop-at
-invariant-loop-at l = (k : ℕ) → k < l.at → IsRestartedAt l.before l.now k → ⊥

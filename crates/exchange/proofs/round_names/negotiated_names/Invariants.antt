@@ -1,8 +1,0 @@
-use Rattle.std.proofs.Common.{◌≡◌, filter, map, take}
-use Rattle.exchange.specs.RoundNames.{has_round}
-use Rattle.exchange.specs.Stopped.{name_of}
-use Rattle.exchange.proofs.round_names.negotiated_names.Given as goal
-
--- the names of those so far that have a round
-abbrev pub invariant-loop-section : goal.invariant-loop-section
-invariant-loop-section l = l.names.items ≡ map name_of (filter has_round (take l.section-index l.sections))

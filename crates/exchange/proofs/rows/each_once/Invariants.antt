@@ -1,7 +1,0 @@
-use Rattle.std.proofs.Common.{◌≡◌, ◌==◌, take}
-use Rattle.str0m_sdp.specs.Lists.{distinct}
-use Rattle.exchange.proofs.rows.each_once.Given as goal
-
--- the types so far, each once
-abbrev pub invariant-loop-pt : goal.invariant-loop-pt
-invariant-loop-pt l = l.once.items ≡ distinct ◌==◌ (take l.pt-index l.listed)

@@ -1,0 +1,5 @@
+pub mod PlaceLaws
+pub mod RestartLaws
+pub mod RoundNameLaws
+pub mod StoppedLaws
+pub mod TrickledLaws

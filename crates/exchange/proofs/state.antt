@@ -1,0 +1,4 @@
+pub mod CopiedOverLaws
+pub mod ExchangeFollowLaws
+pub mod ReadBackEqual
+pub mod ReadBackLaws

@@ -1,0 +1,15 @@
+pub mod Accepted
+pub mod AcceptedOffer
+pub mod AnsweredSection
+pub mod AnsweredSession
+pub mod Bundle
+pub mod Bundled
+pub mod Choice
+pub mod InBundle
+pub mod InForce
+pub mod Layers
+pub mod Offered
+pub mod OfferedFeedback
+pub mod RejectedSection
+pub mod Rows
+pub mod TurnedLayers

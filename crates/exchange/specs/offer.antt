@@ -1,0 +1,12 @@
+pub mod AcceptedAnswer
+pub mod Added
+pub mod Fits
+pub mod FreshNames
+pub mod MadeOffer
+pub mod Names
+pub mod OfferExtensions
+pub mod OfferPlaces
+pub mod OfferRules
+pub mod OfferSection
+pub mod OwnNames
+pub mod Rules

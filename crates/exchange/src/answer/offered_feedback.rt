@@ -1,0 +1,140 @@
+//! The feedback that a section offers for each payload type, by one pass over its lines.
+ghost use Rattle.exchange.specs.answer.OfferedFeedback.{IsGathered, TellsOf, either_offered, named_offered, none_offered, offered_feedback, with_offered, value_for_all};
+ghost use Rattle.std.specs.Prelude.{◌≡◌, ◌<◌, get_or, set, option_copied};
+
+use str0m_sdp::label::{FIR, NACK, PLI, REMB, TRANSPORT_CC};
+use str0m_signal::{MediaAttribute, MediaLine, Pt};
+use str0m_values::cuts::strip;
+
+/// As many payload types as have a place in a table: eight bits hold their numbers.
+const TYPES: usize = 256;
+
+/// What is offered for a payload type.
+#[derive(Clone, Copy)]
+pub(crate) struct OfferedFeedback {
+    pub(crate) transport_cc: bool,
+    pub(crate) fir: bool,
+    pub(crate) nack: bool,
+    pub(crate) pli: bool,
+    pub(crate) remb: bool,
+}
+
+/// What a section offers, by payload type.
+#[derive(Drop)]
+pub(crate) struct SectionFeedback {
+    /// By lines of the type.
+    of_types: [OfferedFeedback; TYPES],
+    /// By lines of all types.
+    of_all: OfferedFeedback,
+}
+
+/// The value of a line that offers feedback for all types.
+fn value_for_all(attr: &MediaAttribute) -> Option<&str>
+    ensures { option_copied result ≡ value_for_all attr.now }
+{
+    match attr {
+        MediaAttribute::Unused(text) => strip(text.as_str(), "rtcp-fb:* "),
+        _ => None,
+    }
+}
+
+impl OfferedFeedback {
+    fn none() -> OfferedFeedback
+        ensures { result ≡ none_offered }
+    {
+        OfferedFeedback {
+            transport_cc: false,
+            fir: false,
+            nack: false,
+            pli: false,
+            remb: false,
+        }
+    }
+
+    fn named(words: &str) -> OfferedFeedback
+        ensures { result ≡ named_offered words.now }
+    {
+        OfferedFeedback {
+            transport_cc: words == TRANSPORT_CC,
+            fir: words == FIR,
+            nack: words == NACK,
+            pli: words == PLI,
+            remb: words == REMB,
+        }
+    }
+
+    /// What either of both names.
+    fn or(self, other: OfferedFeedback) -> OfferedFeedback
+        ensures { result ≡ either_offered self other }
+    {
+        OfferedFeedback {
+            transport_cc: self.transport_cc || other.transport_cc,
+            fir: self.fir || other.fir,
+            nack: self.nack || other.nack,
+            pli: self.pli || other.pli,
+            remb: self.remb || other.remb,
+        }
+    }
+
+    /// With what a line offers for all types.
+    fn with_line(self, attr: &MediaAttribute) -> OfferedFeedback
+        ensures { result ≡ with_offered self (value_for_all attr.now) }
+    {
+        match value_for_all(attr) {
+            Some(words) => self.or(OfferedFeedback::named(words)),
+            None => self,
+        }
+    }
+}
+
+/// The place of a payload type in a table of all.
+fn place(pt: Pt) -> usize
+    ensures is { result ≡ pt }
+    ensures within { result < 256 }
+{
+    usize::from(pt.value())
+}
+
+/// Adds what the value of a line names to the feedback of its payload type.
+fn add_value(table: &mut [OfferedFeedback; TYPES], pt: Pt, words: &str)
+    ensures added { table.new ≡ set table.old pt (either_offered (get_or table.old pt none_offered) (named_offered words.now)) }
+    ensures within { pt < 256 }
+{
+    let place = place(pt);
+    table[place] = table[place].or(OfferedFeedback::named(words));
+}
+
+/// What these lines offer.
+fn gathered(attrs: &[MediaAttribute]) -> SectionFeedback
+    ensures { IsGathered attrs.now result.of_types result.of_all }
+{
+    let nothing = OfferedFeedback::none();
+    let mut of_types = [nothing; TYPES];
+    let mut of_all = nothing;
+    for attr in attrs {
+        match attr {
+            MediaAttribute::RtcpFb { pt, value } => add_value(&mut of_types, *pt, value.as_str()),
+            _ => of_all = of_all.with_line(attr),
+        }
+    }
+    SectionFeedback { of_types, of_all }
+}
+
+/// What a section offers.
+pub(crate) fn section_feedback(section: &MediaLine) -> SectionFeedback
+    ensures { TellsOf section.now result }
+{
+    gathered(section.attrs.as_slice())
+}
+
+impl SectionFeedback {
+    /// What the section offers for a payload type, by lines of its own or of all types.
+    #[tactic(auto, using(crate::proofs::answer::OfferedFeedbackLaws::feedback_told))]
+    pub(crate) fn for_type(&self, section: &MediaLine, pt: Pt) -> OfferedFeedback
+        requires { TellsOf section.now self.now }
+        ensures { result ≡ offered_feedback section.now.attrs pt }
+    {
+        let own = self.of_types[place(pt)];
+        own.or(self.of_all)
+    }
+}

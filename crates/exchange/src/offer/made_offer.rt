@@ -1,0 +1,134 @@
+//! The offer that this side makes.
+ghost use Rattle.exchange.specs.Prelude.{AreDistinct, section_mids};
+ghost use Rattle.exchange.specs.offer.MadeOffer.{MakesOffer, bundled_names, offer_session, placed_as, ready_with};
+ghost use Rattle.exchange.specs.offer.OfferExtensions.{extension_lines};
+ghost use Rattle.exchange.specs.offer.OfferRules.{IsNewName, IsOffered, KeepsPlaces};
+ghost use Rattle.exchange.specs.offer.OfferSection.{new_section};
+ghost use Rattle.exchange.specs.section.Places.{FollowsPlaces};
+ghost use Rattle.exchange.specs.state.State.{sections_of, session_of, taken_names};
+ghost use Rattle.std.specs.Prelude.{◌≡◌, All, IfOk, map};
+
+use crate::answer::answered_session::{are_accepted, group_lines, mixed_lines};
+use crate::answer::bundle::accepted_names;
+use crate::offer::added::{Placed, placed_under, with_placed};
+use crate::offer::offer_extensions::extension_lines;
+use crate::offer::offer_places::{filled_places, new_sections};
+use crate::section::places::sections_of;
+use crate::section::stopped::name_of;
+use crate::state::exchange::Exchange;
+use crate::state::own_side::SectionDirection;
+use std::alloc::{AllocError, Global};
+use str0m_signal::{Items, MediaLine, Mid, Sdp, Session, SessionAttribute};
+
+/// The lines of this side's session there.
+fn session_of(local: &Option<Sdp>) -> &[SessionAttribute]
+    ensures { result.now ≡ session_of local.now }
+{
+    match local {
+        Some(sdp) => sdp.session.attrs.as_slice(),
+        None => &[],
+    }
+}
+
+/// The names of sections, in order.
+fn section_names(alloc: Global, sections: &[MediaLine]) -> Result<Vec<Mid>, AllocError>
+    ensures { IfOk result (λ names. names.items ≡ section_mids sections.now) }
+{
+    let mut names = Vec::new(alloc);
+    for section in sections {
+        if let Some(name) = name_of(section) {
+            names.push(name)?;
+        }
+    }
+    Ok(names)
+}
+
+/// The names that sections of the session have, or have had.
+pub(crate) fn taken_names(exchange: &Exchange) -> Result<Vec<Mid>, AllocError>
+    ensures { IfOk result (λ names. names.items ≡ taken_names exchange.now) }
+{
+    let alloc = *exchange.config.allocator();
+    let mut names = section_names(alloc, sections_of(&exchange.local))?;
+    names.extend_from_slice(exchange.names.as_slice())?;
+    Ok(names)
+}
+
+/// The names of the sections with a port, in order.
+fn bundled_names(alloc: Global, sections: &[MediaLine]) -> Result<Items<Mid>, AllocError>
+    ensures { IfOk result (λ names. names ≡ bundled_names sections.now) }
+{
+    let accepted = are_accepted(alloc, sections)?;
+    let names = accepted_names(alloc, sections, accepted.as_slice())?;
+    Ok(Items::from(names))
+}
+
+/// The session's part of an offer with these sections.
+fn offer_session(exchange: &Exchange, sections: &[MediaLine]) -> Result<Session, AllocError>
+    ensures { IfOk result (λ session. session ≡ offer_session exchange.now sections.now) }
+{
+    let alloc = *exchange.config.allocator();
+    let names = bundled_names(alloc, sections)?;
+    let mut attrs = group_lines(alloc, names)?;
+    attrs.append(&mut mixed_lines(alloc, session_of(&exchange.local))?)?;
+    Ok(Session {
+        id: exchange.own.session_id,
+        bw: None,
+        attrs: Items::from(attrs),
+    })
+}
+
+/// What was added, under these names.
+pub(crate) fn placed_as(exchange: &Exchange, names: &[Mid]) -> Result<Items<Placed>, AllocError>
+    ensures { IfOk result (λ placed. placed ≡ placed_as exchange.now names.now) }
+{
+    let alloc = *exchange.config.allocator();
+    let placed = placed_under(alloc, names, exchange.added.as_slice())?;
+    Ok(Items::from(placed))
+}
+
+/// The sections of what is placed, in the directions of these entries.
+fn sections_added(
+    exchange: &Exchange,
+    ready: &[SectionDirection],
+    placed: &[Placed],
+) -> Result<Vec<MediaLine>, AllocError>
+    ensures { IfOk result (λ sections. sections.items ≡ map (new_section exchange.now ready.now
+        (extension_lines (sections_of exchange.now.local) exchange.now.own.extensions)) placed.now) }
+{
+    let alloc = *exchange.config.allocator();
+    let known = exchange.own.extensions.as_slice();
+    let extensions = extension_lines(alloc, sections_of(&exchange.local), known)?;
+    new_sections(exchange, ready, extensions.as_slice(), placed)
+}
+
+/// The offer in which what was added has these names.
+fn offer_under(exchange: &Exchange, names: &[Mid]) -> Result<Sdp, AllocError>
+    ensures { IfOk result (MakesOffer exchange.now names.now) }
+{
+    let alloc = *exchange.config.allocator();
+    let placed = placed_as(exchange, names)?;
+    let ready = with_placed(alloc, exchange.own.directions.as_slice(), placed.as_slice())?;
+    let added = sections_added(exchange, ready.as_slice(), placed.as_slice())?;
+    let places = sections_of(&exchange.local);
+    let sections = filled_places(exchange, ready.as_slice(), places, added.as_slice())?;
+    let session = offer_session(exchange, sections.as_slice())?;
+    Ok(Sdp {
+        session,
+        media_lines: Items::from(sections),
+    })
+}
+
+/// The offer in which what was added has these names, which are new and different: it keeps the rules.
+#[tactic(auto, using(crate::proofs::offer::OfferRuleLaws::offer_places, crate::proofs::offer::OfferNameLaws::offer_names, crate::proofs::offer::OfferFollows::offer_follows))]
+pub(crate) fn made_offer(exchange: &Exchange, names: &[Mid]) -> Result<Sdp, AllocError>
+    requires new { All (IsNewName exchange.now) names.now }
+    requires different { AreDistinct names.now }
+    ensures makes { IfOk result (MakesOffer exchange.now names.now) }
+    ensures places { IfOk result (λ offer. KeepsPlaces exchange.now 0 (sections_of exchange.now.local) offer.media_lines) }
+    ensures follows { IfOk result (λ offer. FollowsPlaces exchange.now.names (sections_of exchange.now.local) offer.media_lines) }
+    ensures rules { IfOk result (λ offer. All (IsOffered exchange.now (ready_with exchange.now names.now)) offer.media_lines) }
+    ensures different { AreDistinct (section_mids (sections_of exchange.now.local)) → IfOk result (λ offer. AreDistinct (section_mids offer.media_lines)) }
+{
+    let offer = offer_under(exchange, names)?;
+    Ok(offer)
+}

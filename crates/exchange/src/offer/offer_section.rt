@@ -1,0 +1,260 @@
+//! The sections of an offer.
+ghost use Rattle.exchange.specs.Prelude.{kind_rows};
+ghost use Rattle.exchange.specs.offer.OfferSection.{asked_lines, flow_lines, is_extension, is_mux, is_own, is_rsize, is_said, is_same, kept_lines, new_section, next_section, offered_channels, offered_media, section_with, type_of};
+ghost use Rattle.std.specs.List.{list_any};
+ghost use Rattle.std.specs.Prelude.{◌≡◌, ◌≢◌, [], IfOk, false, true, option_copied};
+
+use crate::answer::accepted::{candidate_lines, channel_lines, first_lines, push_msid};
+use crate::answer::rejected_section::rejected;
+use crate::offer::added::{Added, Placed};
+use crate::section::stopped::name_of;
+use crate::state::exchange::Exchange;
+use crate::state::own_side::{OwnSide, SectionDirection};
+use std::alloc::{AllocError, Global};
+use str0m_sdp::label::EXTMAP_ALLOW_MIXED;
+use str0m_signal::{
+    CodecConfig, Direction, Extension, Items, MediaAttribute, MediaKind, MediaLine, MediaType, Mid,
+    PayloadParams, Proto, Setup, section_of,
+};
+
+fn section_with(
+    alloc: Global,
+    typ: MediaType,
+    proto: Proto,
+    lines: Vec<MediaAttribute>,
+) -> MediaLine
+    ensures { result ≡ section_with typ proto lines.items }
+{
+    let mut section = MediaLine::new(alloc);
+    section.typ = typ;
+    section.proto = proto;
+    section.attrs = Items::from(lines);
+    section
+}
+
+fn type_of(kind: MediaKind) -> MediaType
+    ensures { result ≡ type_of kind }
+{
+    match kind {
+        MediaKind::Audio => MediaType::Audio,
+        MediaKind::Video => MediaType::Video,
+    }
+}
+
+/// The rows of a kind for an offer.
+fn rows_of(config: &CodecConfig, kind: MediaKind) -> Result<Vec<PayloadParams>, AllocError>
+    ensures { IfOk result (λ rows. rows.items ≡ kind_rows kind true config.now.params.items) }
+{
+    let mut rows = Vec::new(*config.allocator());
+    let mut left = config.all_for_kind(kind, true);
+    while let Some(row) = left.next() {
+        rows.extend_from_slice(&[*row])?;
+    }
+    Ok(rows)
+}
+
+/// Whether there is a row of the kind.
+pub(crate) fn has_rows(config: &CodecConfig, kind: MediaKind) -> bool
+    ensures some { result ≡ true → kind_rows kind true config.now.params.items ≢ [] }
+    ensures none { result ≡ false → kind_rows kind true config.now.params.items ≡ [] }
+{
+    config.all_for_kind(kind, true).next().is_some()
+}
+
+/// What media says but for its rows, after its name and its transport.
+fn flow_lines(
+    alloc: Global,
+    own: &OwnSide,
+    mid: Mid,
+    direction: Direction,
+    mut asked: Vec<MediaAttribute>,
+) -> Result<Vec<MediaAttribute>, AllocError>
+    ensures { IfOk result (λ lines. lines.items ≡ flow_lines own.now mid direction asked.items) }
+{
+    let mut lines = vec![in alloc; MediaAttribute::from(direction)]?;
+    lines.append(&mut candidate_lines(alloc, own)?)?;
+    lines.append(&mut asked)?;
+    push_msid(&mut lines, own, direction, mid)?;
+    Ok(lines)
+}
+
+/// Media over RTP under a name, with the rows of its kind and these lines of what both sides have to agree on.
+fn offered_media(
+    exchange: &Exchange,
+    ready: &[SectionDirection],
+    kind: MediaKind,
+    mid: Mid,
+    asked: Vec<MediaAttribute>,
+) -> Result<MediaLine, AllocError>
+    ensures { IfOk result (λ section. section ≡ offered_media exchange.now ready.now kind mid asked.items) }
+{
+    let (own, config) = (&exchange.own, &exchange.config);
+    let alloc = *config.allocator();
+    let typ = type_of(kind);
+    let direction = own.direction_among(ready, Some(mid), &typ);
+    let mut lines = first_lines(alloc, own, mid, Setup::ActPass)?;
+    lines.append(&mut flow_lines(alloc, own, mid, direction, asked)?)?;
+    let frame = section_with(alloc, typ, Proto::Srtp, lines);
+    let rows = rows_of(config, kind)?;
+    section_of(&frame, rows.as_slice())
+}
+
+/// Data channels under a name; what rejects `instead` where this side takes none.
+fn offered_channels(
+    alloc: Global,
+    own: &OwnSide,
+    instead: &MediaLine,
+    mid: Mid,
+) -> Result<MediaLine, AllocError>
+    ensures { IfOk result (λ section. section ≡ offered_channels own.now instead.now mid own.now.channels) }
+{
+    let Some(channels) = own.channels else {
+        return rejected(alloc, instead);
+    };
+    let mut lines = first_lines(alloc, own, mid, Setup::ActPass)?;
+    lines.append(&mut channel_lines(alloc, channels)?)?;
+    lines.append(&mut candidate_lines(alloc, own)?)?;
+    Ok(section_with(alloc, MediaType::Application, Proto::Sctp, lines))
+}
+
+/// The lines that a new section of media asks for.
+fn asked_lines(
+    alloc: Global,
+    extensions: &[MediaAttribute],
+) -> Result<Vec<MediaAttribute>, AllocError>
+    ensures { IfOk result (λ lines. lines.items ≡ asked_lines extensions.now) }
+{
+    let mut lines = vec![in alloc; MediaAttribute::RtcpMux, MediaAttribute::RtcpRsize]?;
+    for line in extensions {
+        lines.push(line.clone()?)?;
+    }
+    Ok(lines)
+}
+
+/// The section of what is added, in the directions of these entries.
+pub(crate) fn new_section(
+    exchange: &Exchange,
+    ready: &[SectionDirection],
+    extensions: &[MediaAttribute],
+    placed: &Placed,
+) -> Result<MediaLine, AllocError>
+    ensures { IfOk result (λ section. section ≡ new_section exchange.now ready.now extensions.now placed.now) }
+{
+    let alloc = *exchange.config.allocator();
+    let mid = placed.mid;
+    match placed.added {
+        Added::Media(kind, _) => {
+            let asked = asked_lines(alloc, extensions)?;
+            offered_media(exchange, ready, kind, mid, asked)
+        }
+        Added::Channels => {
+            let name = vec![in alloc; MediaAttribute::Mid(mid)]?;
+            let instead = section_with(alloc, MediaType::Application, Proto::Sctp, name);
+            offered_channels(alloc, &exchange.own, &instead, mid)
+        }
+    }
+}
+
+fn is_mux(line: &MediaAttribute) -> bool
+    ensures { result ≡ is_mux line.now }
+{
+    matches!(line, MediaAttribute::RtcpMux)
+}
+
+fn is_rsize(line: &MediaAttribute) -> bool
+    ensures { result ≡ is_rsize line.now }
+{
+    matches!(line, MediaAttribute::RtcpRsize)
+}
+
+fn is_extension(number: u8, ext: &Extension, line: &MediaAttribute) -> bool
+    ensures { result ≡ is_extension number ext.now.uri line.now }
+{
+    match line {
+        MediaAttribute::ExtMap { id, ext: other } => {
+            *id == number && other.as_uri() == ext.as_uri()
+        }
+        _ => false,
+    }
+}
+
+/// Whether both are one line of those that both sides have to say.
+fn is_same(line: &MediaAttribute, other: &MediaAttribute) -> bool
+    ensures { result ≡ is_same line.now other.now }
+{
+    match line {
+        MediaAttribute::RtcpMux => is_mux(other),
+        MediaAttribute::RtcpRsize => is_rsize(other),
+        MediaAttribute::ExtMap { id, ext } => is_extension(*id, ext, other),
+        _ => false,
+    }
+}
+
+fn says(section: &MediaLine, line: &MediaAttribute) -> bool
+    ensures { result ≡ list_any (is_same line.now) section.now.attrs }
+{
+    let attrs = section.attrs.as_slice();
+    attrs.iter().any(|other| is_same(line, other))
+}
+
+fn is_said(theirs: Option<&MediaLine>, line: &MediaAttribute) -> bool
+    ensures { result ≡ is_said (option_copied theirs.entry) line.now }
+{
+    match theirs {
+        Some(theirs) => says(theirs, line),
+        None => false,
+    }
+}
+
+/// Whether this side says the line alone: of its layers, or that extensions of both lengths may be mixed.
+fn is_own(line: &MediaAttribute) -> bool
+    ensures { result ≡ is_own line.now }
+{
+    match line {
+        MediaAttribute::Rid { .. } | MediaAttribute::Simulcast(_) => true,
+        MediaAttribute::Unused(text) => text.as_str() == EXTMAP_ALLOW_MIXED,
+        _ => false,
+    }
+}
+
+/// The lines of this side's section that it goes on saying.
+fn kept_lines(
+    alloc: Global,
+    theirs: Option<&MediaLine>,
+    mine: &MediaLine,
+) -> Result<Vec<MediaAttribute>, AllocError>
+    ensures { IfOk result (λ lines. lines.items ≡ kept_lines (option_copied theirs.entry) mine.now) }
+{
+    let mut lines = Vec::new(alloc);
+    for line in mine.attrs.as_slice() {
+        if is_said(theirs, line) || is_own(line) {
+            lines.push(line.clone()?)?;
+        }
+    }
+    Ok(lines)
+}
+
+/// The section in which this side's section of the last exchange goes on, in the directions of these entries.
+pub(crate) fn next_section(
+    exchange: &Exchange,
+    ready: &[SectionDirection],
+    theirs: Option<&MediaLine>,
+    mine: &MediaLine,
+) -> Result<MediaLine, AllocError>
+    ensures { IfOk result (λ section. section ≡ next_section exchange.now ready.now (option_copied theirs.entry) mine.now) }
+{
+    let alloc = *exchange.config.allocator();
+    let Some(mid) = name_of(mine) else {
+        return rejected(alloc, mine);
+    };
+    let kind = match (&mine.typ, mine.proto) {
+        (MediaType::Audio, Proto::Srtp) => MediaKind::Audio,
+        (MediaType::Video, Proto::Srtp) => MediaKind::Video,
+        (MediaType::Application, Proto::Sctp) => {
+            return offered_channels(alloc, &exchange.own, mine, mid);
+        }
+        _ => return rejected(alloc, mine),
+    };
+    let kept = kept_lines(alloc, theirs, mine)?;
+    offered_media(exchange, ready, kind, mid, kept)
+}

@@ -1,0 +1,151 @@
+//! The places of sections over several exchanges.
+ghost use Rattle.exchange.specs.Prelude.{Holds};
+ghost use Rattle.exchange.specs.section.Places.{HasNameAt, HoldsGroup, IsFree, IsOver, StaysInPlace, StaysInPlaceAt, StaysInPlaces, MovesAt};
+ghost use Rattle.exchange.specs.section.Stopped.{IsStoppedAt};
+ghost use Rattle.exchange.specs.state.State.{sections_of};
+ghost use Rattle.std.specs.Prelude.{◌≡◌, ◌↔◌, IfOk, IsSomeAnd, IsTrue, MatchOption};
+
+use crate::answer::in_bundle::ordered_bundle;
+use crate::offer::names::{is_held, ordered};
+use crate::section::stopped::{is_stopped_at, name_of};
+use std::alloc::{AllocError, Global};
+use std::collections::BTreeSet;
+use str0m_signal::{MediaLine, Mid, Sdp};
+
+/// The sections of a description; none before the first.
+pub(crate) fn sections_of(sdp: &Option<Sdp>) -> &[MediaLine]
+    ensures { result.now ≡ sections_of sdp.now }
+{
+    match sdp {
+        Some(sdp) => sdp.media_lines.as_slice(),
+        None => &[],
+    }
+}
+
+/// The names of the other side's first `BUNDLE` group in order; none before its first description.
+pub(crate) fn remote_bundle(
+    alloc: Global,
+    remote: &Option<Sdp>,
+) -> Result<BTreeSet<&str>, AllocError>
+    ensures { IfOk result (HoldsGroup remote.now) }
+{
+    match remote {
+        Some(sdp) => ordered_bundle(alloc, sdp),
+        None => Ok(BTreeSet::new(alloc)),
+    }
+}
+
+fn is_stopped_by(remote: &Option<Sdp>, group: &BTreeSet<&str>, at: usize) -> bool
+    requires { HoldsGroup remote.now group.now }
+    ensures { IsTrue result ↔ IsSomeAnd remote.now (λ sdp. IsStoppedAt sdp at) }
+{
+    match remote {
+        Some(sdp) => is_stopped_at(group, sdp, at),
+        None => false,
+    }
+}
+
+/// Whether the place of a section of this side is over: it has port 0, or the other side has stopped its own. `group` has the
+/// names of the other side's group in order.
+pub(crate) fn is_over(
+    remote: &Option<Sdp>,
+    group: &BTreeSet<&str>,
+    at: usize,
+    mine: &MediaLine,
+) -> bool
+    requires { HoldsGroup remote.now group.now }
+    ensures { IsTrue result ↔ IsOver remote.now at mine.now }
+{
+    mine.disabled || is_stopped_by(remote, group, at)
+}
+
+fn is_free(local: &[MediaLine], remote: &Option<Sdp>, group: &BTreeSet<&str>, at: usize) -> bool
+    requires { HoldsGroup remote.now group.now }
+    ensures { IsTrue result ↔ IsFree local.now remote.now at }
+{
+    match local.get(at) {
+        Some(mine) => is_over(remote, group, at, mine),
+        None => true,
+    }
+}
+
+pub(crate) fn are_same_names(name: Option<Mid>, other: Option<Mid>) -> bool
+    ensures { IsTrue result ↔ (name ≡ other) }
+{
+    match (name, other) {
+        (Some(name), Some(other)) => name == other,
+        (None, None) => true,
+        _ => false,
+    }
+}
+
+fn has_name_at(sections: &[MediaLine], at: usize, section: &MediaLine) -> bool
+    ensures { IsTrue result ↔ HasNameAt sections.now at section.now }
+{
+    match sections.get(at) {
+        Some(earlier) => are_same_names(name_of(section), name_of(earlier)),
+        None => false,
+    }
+}
+
+/// Whether a section has the name of its place, or a new one where the place is free.
+fn keeps_place(
+    had: &[Mid],
+    names: &BTreeSet<&str>,
+    local: &[MediaLine],
+    remote: &Option<Sdp>,
+    group: &BTreeSet<&str>,
+    at: usize,
+    section: &MediaLine,
+) -> bool
+    requires names { Holds names.now had.now }
+    requires group { HoldsGroup remote.now group.now }
+    ensures { IsTrue result ↔ StaysInPlace had.now local.now remote.now at section.now }
+{
+    has_name_at(local, at, section)
+        || (is_free(local, remote, group, at) && !is_held(names, name_of(section)))
+}
+
+fn keeps_place_at(
+    had: &[Mid],
+    names: &BTreeSet<&str>,
+    local: &[MediaLine],
+    remote: &Option<Sdp>,
+    group: &BTreeSet<&str>,
+    offer: &Sdp,
+    at: usize,
+) -> bool
+    requires names { Holds names.now had.now }
+    requires group { HoldsGroup remote.now group.now }
+    ensures { IsTrue result ↔ StaysInPlaceAt had.now local.now remote.now offer.now at }
+{
+    match offer.media_lines.get(at) {
+        Some(section) => keeps_place(had, names, local, remote, group, at, section),
+        None => true,
+    }
+}
+
+/// The first section of an offer that isn't in its place after the last exchange, with these sections of this side
+/// and this description of the other, where sections have had these names; where it has too few sections, their number.
+pub(crate) fn first_moved(
+    alloc: Global,
+    had: &[Mid],
+    local: &[MediaLine],
+    remote: &Option<Sdp>,
+    offer: &Sdp,
+) -> Result<Option<usize>, AllocError>
+    ensures { IfOk result (λ found. MatchOption found (StaysInPlaces had.now local.now remote.now offer.now) (MovesAt had.now local.now remote.now offer.now)) }
+{
+    let names = ordered(alloc, had)?;
+    let group = remote_bundle(alloc, remote)?;
+    let many = offer.media_lines.len();
+    for at in 0..many {
+        if !keeps_place_at(had, &names, local, remote, &group, offer, at) {
+            return Ok(Some(at));
+        }
+    }
+    if many < local.len() {
+        return Ok(Some(many));
+    }
+    Ok(None)
+}

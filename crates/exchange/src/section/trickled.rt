@@ -1,0 +1,63 @@
+//! Candidates as they are trickled.
+
+ghost use Rattle.exchange.specs.Prelude.{Answers, AtMostOne, FirstLine, IsCandidateLine, IsRefusal};
+ghost use Rattle.exchange.specs.section.Trickled.{IsTrickled, as_line};
+ghost use Rattle.std.specs.Prelude.{◌≡◌, IfOk, [], string_bytes};
+
+use std::alloc::{AllocError, Global};
+use str0m_signal::{Candidate, SdpError, candidate_attribute};
+
+/// The text as a line of a description.
+fn as_line(alloc: Global, text: &str) -> Result<String, AllocError>
+    ensures { IfOk result (λ line. string_bytes line ≡ as_line text.now) }
+{
+    if text.starts_with("a=") {
+        return String::from_str(alloc, text);
+    }
+    format!(in alloc; "a={text}")
+}
+
+fn refusal(alloc: Global, message: &str) -> SdpError
+    ensures { IsRefusal result }
+{
+    match String::from_str(alloc, message) {
+        Ok(message) => SdpError::ParseError(message),
+        Err(_) => SdpError::Memory,
+    }
+}
+
+/// The candidate, where nothing stands after it.
+fn alone(alloc: Global, candidate: Candidate, rest: &str) -> Result<Candidate, SdpError>
+    ensures { Answers (λ read. read) result (λ read. (read ≡ candidate) × (rest.now ≡ [])) }
+{
+    if rest.is_empty() {
+        Ok(candidate)
+    } else {
+        Err(refusal(alloc, "text behind the candidate"))
+    }
+}
+
+/// The candidate of a text that is one line and nothing more.
+fn only_candidate(alloc: Global, line: &str) -> Result<Candidate, SdpError>
+    ensures { Answers (λ candidate. candidate) result (λ candidate. FirstLine IsCandidateLine line.now (candidate, [])) }
+{
+    match candidate_attribute(alloc, line) {
+        Ok((candidate, rest)) => alone(alloc, candidate, rest),
+        Err(error) => Err(error),
+    }
+}
+
+/// Reads a candidate as browsers trickle it (RFC 8838; RFC 8839, section 5.1): the text of one
+/// `candidate:` line, with `a=` in front of it or without, and with a line end or without.
+///
+/// # Errors
+///
+/// `ParseError` exactly where the text is no such line, or where something stands after it; so of the
+/// empty text, by which browsers say that no candidate follows. `Memory` where a growth was refused.
+pub fn trickled_candidate(alloc: Global, text: &str) -> Result<Candidate, SdpError>
+    ensures read { Answers (λ candidate. candidate) result (IsTrickled text.now) }
+    ensures one { AtMostOne (IsTrickled text.now) }
+{
+    let line = as_line(alloc, text)?;
+    only_candidate(alloc, line.as_str())
+}

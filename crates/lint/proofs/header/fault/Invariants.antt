@@ -1,9 +1,0 @@
-use Rattle.std.proofs.Common.{length}
-use Rattle.str0m_signal.proofs.Common.{Utf8, shadow}
-use Rattle.lint.proofs.header.fault.Given as goal
-
-abbrev pub invariant-loop-line : goal.invariant-loop-line
-invariant-loop-line l = shadow (Utf8 l.rest)
-
-abbrev pub decreases-loop-line : goal.decreases-loop-line
-decreases-loop-line l = length l.rest

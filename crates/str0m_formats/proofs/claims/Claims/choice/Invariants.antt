@@ -1,9 +1,0 @@
-use Rattle.str0m_formats.proofs.Common.{take}
-use Rattle.str0m_formats.specs.Choices.{points_for, seen}
-use Rattle.str0m_formats.proofs.ChoiceSteps.{IsChoiceSoFar}
-use Rattle.str0m_formats.proofs.claims.Claims.choice.Given as goal
-
--- the choice among the rows so far
-abbrev pub invariant-loop-theirs : goal.invariant-loop-theirs
-invariant-loop-theirs g l =
-    IsChoiceSoFar (points_for (g.C.Claimed.holds l.self.claimed) l.self.receives l.row) (take l.theirs-index l.remote) (seen l.best)

@@ -1,0 +1,3 @@
+pub mod CodecLookup
+pub mod CodecNames
+pub mod CodecSpecStatic

@@ -1,8 +1,0 @@
-use Rattle.str0m_formats.proofs.Common.{take}
-use Rattle.str0m_formats.specs.Choices.{points_with, seen}
-use Rattle.str0m_formats.proofs.ChoiceSteps.{IsChoiceSoFar}
-use Rattle.str0m_formats.proofs.codec_config.CodecConfig.match_params.Given as goal
-
--- the choice among the rows so far
-abbrev pub invariant-loop-row : goal.invariant-loop-row
-invariant-loop-row l = IsChoiceSoFar (points_with l.params) (take l.row-index l.row-items) (seen l.best)

@@ -1,8 +1,0 @@
-use Rattle.str0m_formats.proofs.Common.{ap, ◌∙◌, rules}
-use Rattle.std.proofs.lemmas.Fn.{filter_same}
-use Rattle.str0m_formats.specs.DefaultRows.{others}
-use Rattle.str0m_formats.proofs.DefaultRows.{put_ok}
-use Rattle.str0m_formats.proofs.codec_config.CodecConfig.put.Goals as goal
-
-pub returns-clause-ok : goal.returns-clause-ok
-returns-clause-ok c = put_ok _ c.args.codec c.args.self.now.params.items _ _ _ (filter_same _ _ _ (λ x b f' k. search rules) _ _ c.retain.ensures.filtered ∙ ap (others c.args.codec) c.make_room.ensures.rows) c.extend_from_slice.ensures.items

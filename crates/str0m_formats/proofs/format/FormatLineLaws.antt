@@ -1,0 +1,86 @@
+-- What the loops over lines keep.
+use Rattle.indexmap.proofs.SetLemmas.{AllZip-push}
+use Rattle.str0m_formats.proofs.Common.{arith, ◌≡◌, ◌<◌, ◌+◌, ◌||◌, ℕ, Bool, List, [], ◌∷◌, ◌++◌, length, get_or, take, Option, Some, None}
+use Rattle.str0m_formats.proofs.Common.{refl, sym, ap, subst, ◌∙◌, AllZip, cons_option, list_any, Bor, take_more, append_assoc, append-nil}
+use Rattle.str0m_formats.proofs.Common.{map-append, filter_map-append}
+use Rattle.str0m_formats.specs.declared.codec.Codec.TheVariants.{AmrWb}
+use Rattle.str0m_formats.specs.declared.format.format_param.FormatParam.{FormatParam}
+use Rattle.str0m_formats.specs.declared.format.format_params.FormatParams.{FormatParams}
+use Rattle.str0m_formats.specs.format.FormatLine.{pair_in, bare_in, pairs_in, bares_in, pieces, IsFormatOfBares, IsFormatOfLine}
+use Rattle.str0m_formats.specs.format.FormatLine.{is_unsupported, asks_absent, kept, values_of, line_values}
+use Rattle.str0m_formats.specs.format.FormatParam.{IsBare, pair_texts}
+use Rattle.str0m_formats.specs.format.FormatParams.{empty, set, set_all}
+use Rattle.str0m_formats.specs.format.Pairs.{AreRead}
+
+pub set_all-append : (xs ys : List FormatParam) (p : FormatParams) → set_all p (xs ++ ys) ≡ set_all (set_all p xs) ys
+set_all-append [] ys p = refl
+set_all-append (x ∷ xs) ys p = set_all-append xs ys (set x p)
+
+pub asks : (lines : List (Bor (List FormatParam))) (answer : Bool) → answer ≡ list_any (λ line. list_any is_unsupported line.now) lines
+    → answer ≡ asks_absent AmrWb (line_values lines)
+unfolding asks_absent
+asks lines answer e = e ∙ sym (go lines)
+  where
+    go : (lines : List (Bor (List FormatParam))) → list_any (λ line. list_any is_unsupported line) (line_values lines)
+        ≡ list_any (λ line. list_any is_unsupported line.now) lines
+    go [] = refl
+    go (line ∷ lines) = ap (λ b. list_any is_unsupported line.now || b) (go lines)
+
+pub pairs_more : (pieces : List (List ℕ)) (piece : List ℕ) → pairs_in (pieces ++ piece ∷ []) ≡ pairs_in pieces
+    ++ cons_option (pair_in piece) []
+unfolding pairs_in
+pairs_more pieces piece = filter_map-append pair_in pieces (piece ∷ [])
+
+pub bares_more : (pieces : List (List ℕ)) (piece : List ℕ) → bares_in (pieces ++ piece ∷ []) ≡ bares_in pieces
+    ++ cons_option (bare_in piece) []
+unfolding bares_in
+bares_more pieces piece = filter_map-append bare_in pieces (piece ∷ [])
+
+values-push : (lines : List (List FormatParam)) (line : List FormatParam) → values_of (lines ++ line ∷ []) ≡ values_of lines ++ kept line
+values-push [] line = append-nil (kept line)
+values-push (l ∷ lines) line = grind (arith, values-push lines line, append_assoc)
+
+-- one more line
+pub values_more : (lines : List (Bor (List FormatParam))) (i : ℕ) (d : Bor (List FormatParam)) → i < length lines
+    → set_all (set_all empty (values_of (line_values (take i lines)))) (kept (get_or lines i d).now)
+    ≡ set_all empty (values_of (line_values (take (i + 1) lines)))
+values_more lines i d lt =
+    sym (set_all-append (values_of (line_values (take i lines))) (kept (get_or lines i d).now) empty)
+    ∙ ap (set_all empty) (sym (values-push (line_values (take i lines)) (get_or lines i d).now)
+    ∙ ap values_of (sym (map-append (λ line. line.now) (take i lines) (get_or lines i d ∷ []))
+    ∙ ap line_values (sym (take_more lines i d lt))))
+
+-- ---- pieces
+
+-- a piece with a key
+pub piece_pairs_given : (items : List (Bor (List ℕ) × Bor (List ℕ))) (pair : Bor (List ℕ) × Bor (List ℕ)) (pieces : List (List ℕ))
+    (piece : List ℕ) → pair_texts items ≡ pairs_in pieces → Some (pair.0.now, pair.1.now) ≡ pair_in piece
+    → pair_texts (items ++ pair ∷ []) ≡ pairs_in (pieces ++ piece ∷ [])
+piece_pairs_given items pair pieces piece h e = grind (arith, map-append, pairs_more)
+
+-- a piece without one
+pub pairs_absent : (items : List (Bor (List ℕ) × Bor (List ℕ))) (pieces : List (List ℕ)) (piece : List ℕ)
+    → pair_texts items ≡ pairs_in pieces → None ≡ pair_in piece → pair_texts items ≡ pairs_in (pieces ++ piece ∷ [])
+pairs_absent items pieces piece h e = grind (arith, append-nil, pairs_more)
+
+pub bares_none : IsFormatOfBares [] empty
+unfolding bares_in
+bares_none = record { bares = []; bares_are = tt; format = refl }
+
+pub bares_given : (pieces : List (List ℕ)) (piece text : List ℕ) (p : FormatParams) (param : FormatParam) → IsFormatOfBares pieces p
+    → Some text ≡ bare_in piece → IsBare text param → IsFormatOfBares (pieces ++ piece ∷ []) (set param p)
+bares_given pieces piece text p param h e is = record {
+  bares = h.bares ++ param ∷ [];
+  bares_are = subst (λ (ts : List (List ℕ)). AllZip IsBare ts (h.bares ++ param ∷ []))
+      (ap (λ (o : Option (List ℕ)). bares_in pieces ++ cons_option o []) e ∙ sym (bares_more pieces piece))
+      (AllZip-push IsBare (bares_in pieces) h.bares text param h.bares_are is);
+  format = ap (set param) h.format ∙ sym (set_all-append h.bares (param ∷ []) empty);
+}
+
+pub bares_absent : (pieces : List (List ℕ)) (piece : List ℕ) (p : FormatParams) → IsFormatOfBares pieces p → None ≡ bare_in piece
+    → IsFormatOfBares (pieces ++ piece ∷ []) p
+bares_absent pieces piece p h e = grind (arith, append-nil, bares_more)
+
+pub line_of : (line : List ℕ) (params : List FormatParam) (p q : FormatParams) → IsFormatOfBares (pieces line) p
+    → AreRead (pairs_in (pieces line)) params → q ≡ set_all p params → IsFormatOfLine line q
+line_of line params p q h are e = grind (arith, set_all-append)

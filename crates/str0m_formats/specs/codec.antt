@@ -1,0 +1,2 @@
+pub mod Codec
+pub mod CodecSpec

@@ -1,0 +1,10 @@
+pub mod FormatKey
+pub mod FormatLine
+pub mod FormatParam
+pub mod FormatParamReading
+pub mod FormatParams
+pub mod MergedPairs
+pub mod Pairs
+pub mod PairsReading
+pub mod PairsTriple
+pub mod ParamText

@@ -1,0 +1,44 @@
+-- How the pairs of a format line are read together.
+use Rattle.indexmap.specs.IndexMap.{insert_all}
+use Rattle.std.specs.List.{list_any, cons_option}
+use Rattle.std.specs.Map.{lookup}
+use Rattle.std.specs.Prelude.{◌≡◌, ◌||◌, ℕ, Bool, not, List, [], map, filter, Option, MatchBool, bytes_eq}
+use Rattle.std.specs.Str.{str_eq_ignore_ascii_case, str_to_ascii_lowercase}
+use Rattle.str0m_formats.specs.declared.format.format_key.TheConstants.{PROFILE_ID, TIER_FLAG, LEVEL_ID}
+use Rattle.str0m_formats.specs.declared.format.format_param.FormatParam.{FormatParam}
+use Rattle.str0m_formats.specs.format.FormatParam.{AreParsed}
+use Rattle.str0m_formats.specs.format.PairsTriple.{Texts, IsTripleParam}
+
+-- a key that only a profile, tier and level have
+abbrev pub is_mark : List ℕ → Bool
+is_mark key = str_eq_ignore_ascii_case key TIER_FLAG.now || str_eq_ignore_ascii_case key LEVEL_ID.now
+
+unfoldable pub has_mark : List (List ℕ × List ℕ) → Bool
+has_mark pairs = list_any (λ pair. is_mark pair.0) pairs
+
+-- each key once, in lower case, where it first stands, with its last value
+unfoldable pub merged : List (List ℕ × List ℕ) → List (List ℕ × List ℕ)
+merged pairs = insert_all bytes_eq [] (map (λ pair. (str_to_ascii_lowercase pair.0, pair.1)) pairs)
+
+-- the value of a key
+abbrev pub value_of : List ℕ → List (List ℕ × List ℕ) → Option (List ℕ)
+value_of key pairs = lookup (bytes_eq key) pairs
+
+abbrev pub texts_of : List (List ℕ × List ℕ) → Texts
+texts_of pairs = (value_of PROFILE_ID.now pairs, value_of TIER_FLAG.now pairs, value_of LEVEL_ID.now pairs)
+
+-- one of the three keys of a profile, tier and level
+abbrev pub is_part : List ℕ → Bool
+is_part key = bytes_eq key PROFILE_ID.now || (bytes_eq key TIER_FLAG.now || bytes_eq key LEVEL_ID.now)
+
+abbrev pub others : List (List ℕ × List ℕ) → List (List ℕ × List ℕ)
+others pairs = filter (λ pair. not (is_part pair.0)) pairs
+
+-- the profile, tier and level of the pairs where they name one, and then the parameter of each other pair
+abbrev pub AreJoined : List (List ℕ × List ℕ) → List FormatParam → Type 0
+AreJoined pairs params = (triple : Option FormatParam) × (rest : List FormatParam) × IsTripleParam (texts_of pairs) triple
+    × AreParsed (others pairs) rest × (params ≡ cons_option triple rest)
+
+-- where a key is one that only a profile, tier and level have, the pairs are merged and read together, else each on its own
+abbrev pub AreRead : List (List ℕ × List ℕ) → List FormatParam → Type 0
+AreRead pairs params = MatchBool (has_mark pairs) (AreJoined (merged pairs) params) (AreParsed pairs params)

@@ -1,0 +1,18 @@
+-- How the value after a key prints, as the printer takes it.
+use Rattle.std.specs.Prelude.{ℕ, List, [], ◌++◌, codes, Option, Some, None, decimal}
+use Rattle.str0m_formats.specs.declared.format.format_key.FormatKey.{FormatKey}
+use Rattle.str0m_formats.specs.declared.format.param_text.Value.{Value}
+use Rattle.str0m_formats.specs.declared.format.param_text.Value.TheVariants.{Flag, Number, SixDigits, Modes}
+use Rattle.str0m_formats.specs.format.FormatKey.{key_text}
+use Rattle.str0m_formats.specs.format.FormatParam.{flag_text, six_digits, mode_list}
+
+abbrev pub shown : Value → List ℕ
+shown (Flag b) = flag_text b
+shown (Number n) = decimal n
+shown (SixDigits n) = six_digits n
+shown (Modes mask) = mode_list mask
+
+-- what a key and its value print; nothing where there is none
+abbrev pub keyed_text : Option (FormatKey × Value) → List ℕ
+keyed_text None = []
+keyed_text (Some (key, value)) = key_text key ++ codes "=" ++ shown value

@@ -1,0 +1,10 @@
+pub mod Choices
+pub mod ClaimMask
+pub mod Claimed
+pub mod Claims
+pub mod MatchScore
+pub mod Narrowing
+pub mod NegotiationError
+pub mod Rounds
+pub mod RoundsPromises
+pub mod RoundsRuns

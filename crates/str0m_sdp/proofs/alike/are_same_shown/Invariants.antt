@@ -1,7 +1,0 @@
-use Rattle.str0m_sdp.proofs.Common.{◌≡◌, drop, ◌↔◌}
-use Rattle.str0m_sdp.specs.Alike.{shown}
-use Rattle.str0m_sdp.proofs.alike.are_same_shown.Given as goal
-
--- the same is shown of all where the same is shown of what is left of both
-abbrev pub invariant-loop-value : goal.invariant-loop-value
-invariant-loop-value l = (shown (drop l.value-index l.fn.values) ≡ shown l.left) ↔ (shown l.fn.values ≡ shown l.fn.others)

@@ -1,0 +1,4 @@
+pub mod AttributeCopies
+pub mod AttributeEqual
+pub mod FeedbackLaws
+pub mod RandomMsidLaws

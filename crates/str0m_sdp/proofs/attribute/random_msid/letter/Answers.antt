@@ -1,0 +1,13 @@
+use Rattle.str0m_sdp.proofs.Common.{ℕ, ◌≡◌, ◌<◌, rules, subst, sym}
+use Rattle.str0m_sdp.proofs.attribute.RandomMsidLaws.{letter_of-ascii}
+use Rattle.str0m_sdp.proofs.attribute.random_msid.letter.Goals as goal
+use Rattle.str0m_sdp.specs.attribute.RandomMsid.{letter_of}
+
+pub returns-clause-value : goal.returns-clause-value
+unfolding letter_of
+returns-clause-value c = search rules
+
+pub returns-clause-ascii : goal.returns-clause-ascii
+unfolding letter_of
+returns-clause-ascii c =
+    let same : c.from.result ≡ letter_of c.args.word = search rules in subst (λ (n : ℕ). n < 128) (sym same) (letter_of-ascii c.args.word)

@@ -1,7 +1,0 @@
-use Rattle.str0m_sdp.proofs.Common.{◌≡◌, take, filter_map}
-use Rattle.str0m_sdp.specs.Mappings.{mapping}
-use Rattle.str0m_sdp.proofs.mappings.mappings.Given as goal
-
--- the mappings of the lines so far
-abbrev pub invariant-loop-attr : goal.invariant-loop-attr
-invariant-loop-attr l = l.rows.items ≡ filter_map mapping (take l.attr-index l.attrs)

@@ -1,9 +1,0 @@
-use Rattle.str0m_sdp.proofs.Common.{ap, filter_map, ◌∙◌}
-use Rattle.str0m_sdp.specs.PreferredFingerprint.{preferred}
-use Rattle.str0m_sdp.specs.Transport.{media_fingerprint}
-use Rattle.str0m_sdp.proofs.Preferred.{preferred_copied}
-use Rattle.str0m_sdp.proofs.media_line.MediaLine.fingerprint.Goals as goal
-
-pub returns : goal.returns
-returns c = preferred_copied c.copied_fingerprint.result _ _ c.copied_fingerprint.ensures
-    (c.preferred.ensures ∙ ap (λ attrs. preferred (filter_map media_fingerprint attrs)) c.as_slice.ensures)

@@ -1,7 +1,0 @@
-use Rattle.str0m_sdp.proofs.Common.{take}
-use Rattle.str0m_sdp.specs.OrderedMids.{Holds}
-use Rattle.str0m_sdp.proofs.ordered_mids.names_of.Given as goal
-
--- the mids so far by name
-abbrev pub invariant-loop-mid : goal.invariant-loop-mid
-invariant-loop-mid l = Holds l.names (take l.mid-index l.mids)

@@ -1,8 +1,0 @@
-use Rattle.str0m_sdp.proofs.Common.{rules, tests, YieldsList-from_slice}
-use Rattle.str0m_sdp.specs.Transport.{creds_at, media_creds}
-use Rattle.str0m_sdp.specs.declared.media_line.MediaLine.{MediaLine}
-use Rattle.str0m_sdp.proofs.Finding.{first_from_find_map}
-use Rattle.str0m_sdp.proofs.sdp_accessors.creds_among.Goals as goal
-
-pub returns : goal.returns
-returns c = first_from_find_map creds_at (λ (m : MediaLine). media_creds m.attrs) (YieldsList-from_slice c.args.lines.now cc) (λ x r q k. search (rules, tests)) c.find_map.result c.find_map.ensures.runs

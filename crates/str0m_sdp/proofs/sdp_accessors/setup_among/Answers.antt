@@ -1,9 +1,0 @@
-use Rattle.str0m_sdp.proofs.Common.{rules, tests, YieldsList-from_slice, filter_map}
-use Rattle.str0m_sdp.specs.Lists.{first}
-use Rattle.str0m_sdp.specs.Transport.{media_setup}
-use Rattle.str0m_sdp.specs.declared.media_line.MediaLine.{MediaLine}
-use Rattle.str0m_sdp.proofs.Finding.{first_by_find_map}
-use Rattle.str0m_sdp.proofs.sdp_accessors.setup_among.Goals as goal
-
-pub returns : goal.returns
-returns c = first_by_find_map (λ (m : MediaLine). first (filter_map media_setup m.attrs)) (YieldsList-from_slice c.args.lines.now cc) (λ x r q k. search (rules, tests)) c.find_map.result c.find_map.ensures.runs

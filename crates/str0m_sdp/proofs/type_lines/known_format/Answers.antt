@@ -1,9 +1,0 @@
-use Rattle.str0m_sdp.proofs.Common.{rules, ap, sym, ◌∙◌, same_true, format_of_fmtp}
-use Rattle.str0m_formats.specs.contracts.codec.Codec.{the_type}
-use Rattle.str0m_sdp.specs.TypeLines.{IsKnown}
-use Rattle.str0m_sdp.proofs.type_lines.known_format.Goals as goal
-
-pub returns-then-eq : goal.returns-then-eq
-unfolding IsKnown
-returns-then-eq c = λ lines all.
-    all c.loop-it.it-index _ c.loop-it-test.true ∙ ap (λ codec. format_of_fmtp codec lines) (same_true the_type (search rules) _ _ (sym c.if-eq.ensures))

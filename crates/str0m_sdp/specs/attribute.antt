@@ -1,0 +1,16 @@
+pub mod Attribute
+pub mod AttributeFits
+pub mod Bandwidth
+pub mod ExtMap
+pub mod Feedback
+pub mod Fmtp
+pub mod Group
+pub mod MediaType
+pub mod Msid
+pub mod Proto
+pub mod RandomMsid
+pub mod Rid
+pub mod RtpMap
+pub mod Setup
+pub mod Simulcast
+pub mod SsrcGroup

@@ -1,0 +1,2 @@
+pub mod AttributeLine
+pub mod Printed

@@ -1,0 +1,16 @@
+pub mod Alike
+pub mod Companions
+pub mod Consistency
+pub mod FmtpLines
+pub mod MadeSection
+pub mod Mappings
+pub mod MediaLine
+pub mod RowAttributes
+pub mod SectionAccessors
+pub mod SectionDirection
+pub mod SectionRows
+pub mod SectionRowsFacts
+pub mod Sources
+pub mod SsrcInfo
+pub mod SsrcInfoReading
+pub mod TypeLines

@@ -1,0 +1,85 @@
+-- Which sections are consistent.
+use Rattle.std.specs.Prelude.{◌≡◌, ◌≢◌, ◌≤◌, ◌⊎◌, ◌==◌, ℕ, Bool, true, false, List, [], ◌∷◌, Option, Some, None, IfSome, MatchOption, All, count_by, if◌then◌else◌}
+use Rattle.str0m_formats.specs.declared.format.format_param.FormatParam.TheVariants.{Apt}
+use Rattle.str0m_sdp.specs.Prelude.{CodecSpec, FormatParam, IsStatic, ◌<|>◌}
+use Rattle.str0m_sdp.specs.declared.attribute.MediaAttribute.{MediaAttribute}
+use Rattle.str0m_sdp.specs.declared.attribute.MediaAttribute.TheVariants.{Setup, Mid, RecvOnly, SendRecv, SendOnly, Inactive, RtpMap, Fmtp}
+use Rattle.str0m_sdp.specs.declared.attribute.proto.Proto.TheVariants.{Srtp}
+use Rattle.str0m_sdp.specs.declared.section.media_line.MediaLine.{MediaLine}
+
+abbrev pub is_mid : MediaAttribute → Bool
+is_mid (Mid mid) = true
+is_mid _ = false
+
+-- the name that an attribute gives its section (RFC 5888, section 4)
+abbrev pub mid_of : MediaAttribute → Option (List ℕ)
+mid_of (Mid mid) = Some mid
+mid_of _ = None
+
+abbrev pub is_setup : MediaAttribute → Bool
+is_setup (Setup setup) = true
+is_setup _ = false
+
+-- the four directions (RFC 8866, section 6.7)
+abbrev pub is_direction : MediaAttribute → Bool
+is_direction RecvOnly = true
+is_direction SendRecv = true
+is_direction SendOnly = true
+is_direction Inactive = true
+is_direction _ = false
+
+-- a mapping of this payload type (RFC 8866, section 6.6)
+abbrev pub maps : ℕ → MediaAttribute → Bool
+maps pt (RtpMap n value) = n == pt
+maps pt _ = false
+
+-- the payload type stands for a codec without a mapping (RFC 3551, section 6)
+abbrev pub NeedsNoMapping : ℕ → Type 0
+NeedsNoMapping pt = (spec : CodecSpec) × IsStatic pt spec
+
+-- one mapping, or none where the type needs none
+abbrev pub IsMapped : List MediaAttribute → ℕ → Type 0
+IsMapped attrs pt = (count_by (maps pt) attrs ≡ 1) ⊎ ((count_by (maps pt) attrs ≡ 0) × NeedsNoMapping pt)
+
+-- over Srtp one direction, and some type unless the section is disabled
+abbrev pub FitsProto : MediaLine → Type 0
+FitsProto m = m.proto ≡ Srtp → (count_by is_direction m.attrs ≡ 1) × (m.disabled ≡ false → m.pts ≢ [])
+
+-- the primary type that a value of an fmtp line names (RFC 4588, section 8.1)
+abbrev pub apt_of : FormatParam → Option ℕ
+apt_of (Apt pt) = Some pt
+apt_of _ = None
+
+-- the first that the values name
+abbrev pub apt_among : List FormatParam → Option ℕ
+apt_among [] = None
+apt_among (value ∷ values) = apt_of value <|> apt_among values
+
+-- the first that an fmtp line of the payload type names
+abbrev pub apt_in : ℕ → MediaAttribute → Option ℕ
+apt_in pt (Fmtp n values) = if n == pt then apt_among values else None
+apt_in pt _ = None
+
+abbrev pub first_apt : ℕ → List MediaAttribute → Option ℕ
+first_apt pt [] = None
+first_apt pt (attr ∷ attrs) = apt_in pt attr <|> first_apt pt attrs
+
+-- the value names no other type than this one
+abbrev pub NamesNoOther : ℕ → FormatParam → Type 0
+NamesNoOther first value = IfSome (apt_of value) (λ other. first ≡ other)
+
+-- no value of an fmtp line names another primary type than the first that is named for its payload type
+abbrev pub AgreesOnApt : List MediaAttribute → MediaAttribute → Type 0
+AgreesOnApt attrs (Fmtp pt values) = IfSome (first_apt pt attrs) (λ first. All (NamesNoOther first) values)
+AgreesOnApt attrs _ = Unit {0}
+
+pub record Consistent (m : MediaLine) : Type 0 where
+  pub mid : count_by is_mid m.attrs ≡ 1
+  pub setup : count_by is_setup m.attrs ≤ 1
+  pub proto : FitsProto m
+  pub mapped : All (IsMapped m.attrs) m.pts
+  pub apt : All (AgreesOnApt m.attrs) m.attrs
+
+-- none where P holds, and a value where it doesn't
+abbrev pub NoneIff : {A : Type 0} → Option A → Type 0 → Type 0
+NoneIff o P = MatchOption o P (λ _. ¬ P)

@@ -1,0 +1,13 @@
+pub mod CandidateKey
+pub mod Candidates
+pub mod DistinctCandidates
+pub mod Error
+pub mod Fault
+pub mod OrderedMids
+pub mod PreferredFingerprint
+pub mod SdpAccessors
+pub mod SeenCandidates
+pub mod Session
+pub mod SessionConsistency
+pub mod SessionFault
+pub mod Transport

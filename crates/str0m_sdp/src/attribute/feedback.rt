@@ -1,0 +1,84 @@
+//! The feedback that a section speaks of, by payload type.
+ghost use Rattle.std.specs.Prelude.{◌≡◌, ◌<◌, get_or, set};
+
+use crate::label::{FIR, NACK, PLI, REMB, TRANSPORT_CC};
+use crate::section::type_tables::{TYPES, place};
+use str0m_formats::PayloadParams;
+use str0m_values::Pt;
+
+/// The feedback that goes with a payload type.
+#[derive(Clone, Copy)]
+pub(crate) struct Feedback {
+    pub(crate) transport_cc: bool,
+    pub(crate) fir: bool,
+    pub(crate) nack: bool,
+    pub(crate) pli: bool,
+    pub(crate) remb: bool,
+}
+
+impl Feedback {
+    ghost use Rattle.str0m_sdp.specs.attribute.Feedback.{empty_feedback, named_feedback, either_feedback, with_feedback};
+
+    pub(crate) fn none() -> Feedback
+        ensures { result ≡ empty_feedback }
+    {
+        Feedback {
+            transport_cc: false,
+            fir: false,
+            nack: false,
+            pli: false,
+            remb: false,
+        }
+    }
+
+    /// What the value of an rtcp-fb line names.
+    fn named(value: &str) -> Feedback
+        ensures { result ≡ named_feedback value.now }
+    {
+        Feedback {
+            transport_cc: value == TRANSPORT_CC,
+            fir: value == FIR,
+            nack: value == NACK,
+            pli: value == PLI,
+            remb: value == REMB,
+        }
+    }
+
+    /// What either of both names.
+    fn or(self, other: Feedback) -> Feedback
+        ensures { result ≡ either_feedback self other }
+    {
+        Feedback {
+            transport_cc: self.transport_cc || other.transport_cc,
+            fir: self.fir || other.fir,
+            nack: self.nack || other.nack,
+            pli: self.pli || other.pli,
+            remb: self.remb || other.remb,
+        }
+    }
+
+    /// The row with this feedback.
+    pub(crate) fn switched_on(self, mut row: PayloadParams) -> PayloadParams
+        ensures { result ≡ with_feedback self row }
+    {
+        // A new row has transport-cc on, though in a section only a line says it: so it is set. The
+        // other four a new row has on where its codec carries video: lines only add to them.
+        row.set_fb_transport_cc(self.transport_cc);
+        row.set_fb_fir(row.fb_fir() || self.fir);
+        row.set_fb_nack(row.fb_nack() || self.nack);
+        row.set_fb_pli(row.fb_pli() || self.pli);
+        row.set_fb_remb(row.fb_remb() || self.remb);
+        row
+    }
+}
+
+ghost use Rattle.str0m_sdp.specs.attribute.Feedback.{empty_feedback, named_feedback, either_feedback};
+
+/// Adds what the value of an rtcp-fb line names to the feedback of its payload type.
+pub(crate) fn note_feedback(table: &mut [Feedback; TYPES], pt: Pt, value: &str)
+    ensures noted { table.new ≡ set table.old pt (either_feedback (get_or table.old pt empty_feedback) (named_feedback value.now)) }
+    ensures within { pt < 256 }
+{
+    let place = place(pt);
+    table[place] = table[place].or(Feedback::named(value));
+}

@@ -1,0 +1,113 @@
+//! What a payload type stands for.
+ghost use Rattle.std.specs.Prelude.{◌≡◌, Some, refl};
+ghost use Rattle.str0m_sdp.specs.attribute.RtpMap.{rtp_map_text, channels_text, sampling_rate, channels_of, spec_of_map, map_of_spec};
+
+use crate::form::printed::Printed;
+use std::fmt;
+use str0m_formats::{Codec, CodecSpec, FormatParams};
+use str0m_values::{Frequency, Worded};
+
+/// The codec of a payload type, its clock rate and its channels (RFC 8866, section 6.6).
+#[derive(Clone, Copy, Debug, PartialEq, Eq)]
+pub struct RtpMap {
+    /// The codec, by the name in the mapping.
+    pub codec: Codec,
+    /// The clock rate of RTP timestamps, in Hz.
+    pub clock_rate: Frequency,
+    /// How many channels audio has, 0 to 255; `None` where the mapping doesn't count them.
+    pub channels: Option<u8>,
+}
+
+/// The mapping as it stands after the payload type of an rtpmap line.
+impl fmt::Display for RtpMap {
+    ghost output = { λ map. Some (rtp_map_text map) };
+
+    fn fmt<W: fmt::Write>(&self, f: &mut fmt::Formatter<W>) -> fmt::Result {
+        let hertz = self.clock_rate.get();
+        f.write_str(self.codec.word())?;
+        f.write_str("/")?;
+        fmt::Display::fmt(&hertz, f)?;
+        Channels(self.channels).fmt(f)
+    }
+}
+
+impl Printed for RtpMap {
+    ghost text = { rtp_map_text };
+
+    ghost prints = { λ _. refl };
+}
+
+/// How many channels a mapping counts, after `/`; nothing where it counts none.
+#[derive(Drop)]
+struct Channels(Option<u8>);
+
+impl fmt::Display for Channels {
+    ghost output = { λ channels. Some (channels_text channels.0) };
+
+    fn fmt<W: fmt::Write>(&self, f: &mut fmt::Formatter<W>) -> fmt::Result {
+        match self.0 {
+            None => Ok(()),
+            Some(channels) => {
+                f.write_str("/")?;
+                fmt::Display::fmt(&channels, f)
+            }
+        }
+    }
+}
+
+/// The rate at which the codec samples.
+fn sampling_rate(codec: Codec, clock_rate: Frequency) -> Frequency
+    ensures { result ≡ sampling_rate codec clock_rate }
+{
+    let [_, sixteen, _, _] = Frequency::named();
+    match codec {
+        Codec::G722 => sixteen,
+        _ => clock_rate,
+    }
+}
+
+/// The channels of the codec, without a count that says no more than none does.
+fn channels_of(codec: Codec, channels: Option<u8>) -> Option<u8>
+    ensures { result ≡ channels_of codec channels }
+{
+    match (codec, channels) {
+        (Codec::G722, Some(1)) => None,
+        _ => channels,
+    }
+}
+
+/// The codec that a mapping names, with its rate and channels, and the default format.
+///
+/// G722 samples at 16 kHz though its mapping says 8 kHz for historical reasons (RFC 3551, section
+/// 4.5.2), and where its mapping counts one channel, the spec counts none.
+impl From<RtpMap> for CodecSpec {
+    ghost from_gives = { λ map spec. spec ≡ spec_of_map map };
+
+    fn from(map: RtpMap) -> CodecSpec {
+        CodecSpec {
+            codec: map.codec,
+            clock_rate: sampling_rate(map.codec, map.clock_rate),
+            channels: channels_of(map.codec, map.channels),
+            format: FormatParams::default(),
+        }
+    }
+}
+
+/// The mapping that names a codec (RFC 8866, section 6.6), at its clock rate in RTP, which for G722
+/// is 8 kHz (RFC 3551, section 4.5.2). Its format stands in fmtp lines.
+impl From<CodecSpec> for RtpMap {
+    ghost from_gives = { λ spec map. map ≡ map_of_spec spec };
+
+    fn from(spec: CodecSpec) -> RtpMap {
+        let CodecSpec {
+            codec,
+            channels,
+            ..
+        } = spec;
+        RtpMap {
+            codec,
+            clock_rate: spec.rtp_clock_rate(),
+            channels,
+        }
+    }
+}

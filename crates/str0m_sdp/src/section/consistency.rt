@@ -1,0 +1,174 @@
+//! Which sections are consistent.
+ghost use Rattle.std.specs.Prelude.{◌≡◌, ◌<◌, ◌↔◌, IsSome, Some, count_by, filter_map};
+ghost use Rattle.str0m_sdp.specs.Common.{first};
+ghost use Rattle.str0m_sdp.specs.section.Consistency.{is_mid, mid_of, is_setup, is_direction};
+ghost use Rattle.str0m_sdp.specs.session.Fault.{err_if, only_mid, setup_fault, proto_fault, mapping_fault, map_fault, value_fault, values_fault, apt_fault, first_fault};
+
+use crate::attribute::MediaAttribute;
+use crate::attribute::proto::Proto;
+use crate::section::mappings::static_spec;
+use crate::section::media_line::MediaLine;
+use crate::section::type_tables::{apt_of, count_maps, first_apts, place};
+use crate::session::fault::{Clash, Fault};
+use str0m_formats::FormatParam;
+use str0m_values::{Mid, Pt};
+
+fn count_mids(attrs: &[MediaAttribute]) -> usize
+    ensures { result ≡ count_by is_mid attrs.now }
+{
+    attrs.iter().filter(|a| a.is_mid()).count()
+}
+
+fn count_setups(attrs: &[MediaAttribute]) -> usize
+    ensures { result ≡ count_by is_setup attrs.now }
+{
+    attrs.iter().filter(|a| a.is_setup()).count()
+}
+
+fn count_directions(attrs: &[MediaAttribute]) -> usize
+    ensures { result ≡ count_by is_direction attrs.now }
+{
+    attrs.iter().filter(|a| a.is_direction()).count()
+}
+
+/// The first mid, where there is one.
+pub(crate) fn first_mid(attrs: &[MediaAttribute]) -> Option<Mid>
+    ensures mid { result ≡ first (filter_map mid_of attrs.now) }
+    ensures found { IsSome result ↔ (0 < count_by is_mid attrs.now) }
+{
+    attrs.iter().find_map(|attr| attr.as_mid())
+}
+
+/// The mid where there is exactly one.
+fn only_mid(attrs: &[MediaAttribute]) -> Result<Mid, Fault>
+    ensures { result ≡ only_mid attrs.now }
+{
+    let Some(mid) = first_mid(attrs) else {
+        return Err(Fault::MissingMid);
+    };
+    if count_mids(attrs) > 1 {
+        return Err(Fault::SecondMid);
+    }
+    Ok(mid)
+}
+
+fn check_setups(attrs: &[MediaAttribute], mid: Mid) -> Result<(), Fault>
+    ensures { result ≡ err_if (setup_fault attrs.now mid) }
+{
+    if count_setups(attrs) > 1 {
+        return Err(Fault::SecondSetup(mid));
+    }
+    Ok(())
+}
+
+fn check_proto(m: &MediaLine, mid: Mid) -> Result<(), Fault>
+    ensures { result ≡ err_if (proto_fault m.now mid m.now.proto) }
+{
+    match m.proto {
+        Proto::Sctp => Ok(()),
+        Proto::Srtp => {
+            if count_directions(m.attrs.as_slice()) != 1 {
+                return Err(Fault::Directions(mid));
+            }
+            if m.disabled || !m.pts.as_slice().is_empty() {
+                return Ok(());
+            }
+            Err(Fault::MissingType(mid))
+        }
+    }
+}
+
+/// Of a payload type that has this many mappings.
+fn check_map(count: usize, pt: Pt, mid: Mid) -> Result<(), Fault>
+    ensures { result ≡ err_if (mapping_fault count mid pt) }
+{
+    match count {
+        0 => if static_spec(pt).is_some() {
+            Ok(())
+        } else {
+            Err(Fault::MissingMap { mid, pt })
+        },
+        1 => Ok(()),
+        _ => Err(Fault::SecondMap { mid, pt }),
+    }
+}
+
+fn check_maps(attrs: &[MediaAttribute], pts: &[Pt], mid: Mid) -> Result<(), Fault>
+    ensures { result ≡ err_if (first (filter_map (map_fault attrs.now mid) pts.now)) }
+{
+    // A section without types, as each of data channels, needs no table.
+    if pts.is_empty() {
+        return Ok(());
+    }
+    let counts = count_maps(attrs);
+    let mut left = pts;
+    while let Some((pt, more)) = left.split_first() {
+        check_map(counts[place(*pt)], *pt, mid)?;
+        left = more;
+    }
+    Ok(())
+}
+
+fn check_value(value: FormatParam, first: Pt, pt: Pt, mid: Mid) -> Result<(), Fault>
+    ensures { result ≡ err_if (value_fault mid pt first value) }
+{
+    let Some(other) = apt_of(value) else {
+        return Ok(());
+    };
+    if other == first {
+        return Ok(());
+    }
+    Err(Fault::Apts(Clash {
+        mid,
+        pt,
+        first,
+        other,
+    }))
+}
+
+fn check_values(values: &[FormatParam], first: Pt, pt: Pt, mid: Mid) -> Result<(), Fault>
+    ensures { result ≡ err_if (values_fault mid pt values.now (Some first)) }
+{
+    let mut left = values;
+    while let Some((value, more)) = left.split_first() {
+        check_value(*value, first, pt, mid)?;
+        left = more;
+    }
+    Ok(())
+}
+
+/// Of an fmtp line, where this is the first primary type that is named for its payload type.
+fn check_apt(first: Option<Pt>, values: &[FormatParam], pt: Pt, mid: Mid) -> Result<(), Fault>
+    ensures { result ≡ err_if (values_fault mid pt values.now first) }
+{
+    match first {
+        Some(first) => check_values(values, first, pt, mid),
+        None => Ok(()),
+    }
+}
+
+fn check_apts(attrs: &[MediaAttribute], mid: Mid) -> Result<(), Fault>
+    ensures { result ≡ err_if (first (filter_map (apt_fault attrs.now mid) attrs.now)) }
+{
+    let firsts = first_apts(attrs);
+    let mut left = attrs;
+    while let Some((attr, more)) = left.split_first() {
+        if let MediaAttribute::Fmtp { pt, values } = attr {
+            check_apt(firsts[place(*pt)], values.as_slice(), *pt, mid)?;
+        }
+        left = more;
+    }
+    Ok(())
+}
+
+/// The first fault of a section, as the error.
+pub(crate) fn check(m: &MediaLine) -> Result<(), Fault>
+    ensures { result ≡ err_if (first_fault m.now) }
+{
+    let attrs = m.attrs.as_slice();
+    let mid = only_mid(attrs)?;
+    check_setups(attrs, mid)?;
+    check_proto(m, mid)?;
+    check_maps(attrs, m.pts.as_slice(), mid)?;
+    check_apts(attrs, mid)
+}

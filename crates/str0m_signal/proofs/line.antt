@@ -1,0 +1,12 @@
+pub mod BareValuesLaws
+pub mod LinesAgain
+pub mod LinesChainLaws
+pub mod LinesEndLaws
+pub mod LinesLaws
+pub mod LinesPrinted
+pub mod PairLaws
+pub mod PairsOneByOne
+pub mod PartLaws
+pub mod WordsAgain
+pub mod WordsCharacterStarts
+pub mod WordsLaws

@@ -1,0 +1,93 @@
+-- Printed texts are their lines, these are read one after another, and a run stops where another letter begins.
+use Rattle.str0m_signal.proofs.Common.{arith, ◌≡◌, ◌≢◌, inl, inr, get_or, ℕ, List, [], ◌∷◌, ◌++◌, refl, sym, ap, ◌∙◌, subst, codes}
+use Rattle.str0m_signal.proofs.Common.{flat_map, append_assoc, Lacks, line_end}
+use Rattle.str0m_signal.proofs.session.AttributesPrinted.{LinesReadAs}
+use Rattle.str0m_signal.specs.line.Lines.{Line, joined, AreLines, Lines, OneLine, IsAttributeLine, Chain, Stops}
+use Rattle.str0m_signal.specs.session.Section.{IsField, IsBandwidth}
+
+-- a line of this content that ends as printed lines do
+abbrev pub printed_line : List ℕ → Line
+printed_line content = record { content = content; ending = line_end }
+
+-- the lines end as printed lines do, and hold no end within
+abbrev pub ArePrinted : List Line → Type 0
+ArePrinted [] = Unit {0}
+ArePrinted (line ∷ lines) = (line.ending ≡ line_end) × Lacks 10 line.content × Lacks 13 line.content × ArePrinted lines
+
+pub joined-append : (xs ys : List Line) → joined (xs ++ ys) ≡ joined xs ++ joined ys
+joined-append [] ys = refl
+joined-append (x ∷ xs) ys = grind (arith, joined-append xs ys, append_assoc)
+
+pub printed-append : (xs ys : List Line) → ArePrinted xs → ArePrinted ys → ArePrinted (xs ++ ys)
+printed-append [] ys h k = k
+printed-append (x ∷ xs) ys h k = (h.0, h.1, h.2, printed-append xs ys h.3 k)
+
+printed_lines : (lines : List Line) → ArePrinted lines → AreLines lines
+printed_lines [] h = tt
+printed_lines (line ∷ lines) h = (record { inside = h.1; ends = inr (inl h.0) }, printed_lines lines h.3)
+
+-- a text that is joined of such lines has these lines
+pub lines_printed : (text : List ℕ) (lines : List Line) → text ≡ joined lines → ArePrinted lines → Lines text lines
+lines_printed text lines e h = (e, printed_lines lines h)
+
+-- ---- what stands next
+
+-- the first line is none, or begins with another character
+abbrev pub Apart : ℕ → List Line → Type 0
+Apart c [] = Unit {0}
+Apart c (line ∷ lines) = (text : List ℕ) → line.content ≢ c ∷ text
+
+pub apart-append : (c : ℕ) (xs ys : List Line) → Apart c xs → Apart c ys → Apart c (xs ++ ys)
+apart-append c xs ys h k = grind arith
+
+pub apart : (c d : ℕ) (text : List ℕ) (line : Line) (lines : List Line) → line.content ≡ d ∷ text → c ≢ d → Apart c (line ∷ lines)
+apart c d text line lines e other = λ more f. other (ap (λ (l : List ℕ). get_or l 0 0) (sym f ∙ e))
+
+-- nothing that begins with the character stands there
+pub stops : {A : Type 0} (F : List ℕ → A → Type 0) (c : ℕ)
+    → ((content : List ℕ) (a : A) → F content a → (text : List ℕ) × (content ≡ c ∷ text)) → (lines : List Line) → Apart c lines
+    → Stops (OneLine F) lines
+stops F c begins o h a after one = grind arith
+
+pub no_field : (c : ℕ) (lines : List Line) → Apart c lines → Stops (OneLine (IsField (c ∷ 61 ∷ []))) lines
+no_field c = stops (IsField (c ∷ 61 ∷ [])) c (λ content a h. (61 ∷ a, h.0))
+
+pub no_bandwidth : (lines : List Line) → Apart 98 lines → Stops (OneLine IsBandwidth) lines
+no_bandwidth = stops IsBandwidth 98 (λ content a h. (61 ∷ (a.typ ++ (codes ":" ++ a.val)), h.0))
+
+pub no_attribute : {A : Type 0} (F : List ℕ → A → Type 0) (lines : List Line) → Apart 97 lines → Stops (OneLine (IsAttributeLine F)) lines
+no_attribute F = stops (IsAttributeLine F) 97 (λ content a h. (61 ∷ h.0, h.1))
+
+-- ---- attributes
+
+-- what a list of attributes prints: its lines, and how they are read in front of others
+pub record SaidLines {X A : Type 0} (text : X → List ℕ) (F : List ℕ → A → Type 0) (xs : List X) (reads : List A) : Type 0 where
+  pub lines : List Line
+  pub printed : ArePrinted lines
+  pub are : flat_map text xs ≡ joined lines
+  pub chain : (rest : List Line) → Chain (OneLine (IsAttributeLine F)) (lines ++ rest) reads rest
+  pub letter : (c : ℕ) → c ≢ 97 → Apart c lines
+
+pub said : {X A : Type 0} (text : X → List ℕ) (F : List ℕ → A → Type 0) (xs : List X) (reads : List A)
+    → LinesReadAs text (IsAttributeLine F) xs reads → SaidLines text F xs reads
+said text F [] reads h = record {
+  lines = [];
+  printed = tt;
+  are = refl;
+  chain = λ rest. subst (λ rs. Chain (OneLine (IsAttributeLine F)) rest rs rest) (sym h) refl;
+  letter = λ c other. tt;
+}
+said text F (x ∷ xs) reads (inl nothing) = grind (arith, said text F xs reads nothing.1)
+said text F (x ∷ xs) reads (inr (a, reads', e, (content, whole, no_lf, no_cr, form), later)) =
+    let more = said text F xs reads' later in
+    record {
+      lines = printed_line content ∷ more.lines;
+      printed = (refl, no_lf, no_cr, more.printed);
+      are =
+          ap (λ (t : List ℕ). t ++ flat_map text xs) whole ∙ append_assoc content line_end (flat_map text xs)
+          ∙ ap (λ (t : List ℕ). content ++ (line_end ++ t)) more.are;
+      chain = λ rest.
+          subst (λ rs. Chain (OneLine (IsAttributeLine F)) (printed_line content ∷ (more.lines ++ rest)) rs rest) (sym e)
+          (more.lines ++ rest, (printed_line content, refl, no_cr, form), more.chain rest);
+      letter = λ c other. apart c 97 (61 ∷ form.0) (printed_line content) more.lines form.1 other;
+    }

@@ -1,9 +1,0 @@
-use Rattle.str0m_signal.proofs.Common.{◌≡◌, length, Utf8, shadow}
-use Rattle.str0m_signal.specs.FmtpReading.{skip_blanks}
-use Rattle.str0m_signal.proofs.pairs.skip_blanks.Given as goal
-
-abbrev pub invariant-loop-more : goal.invariant-loop-more
-invariant-loop-more l = shadow (Utf8 l.rest) × (skip_blanks l.rest ≡ skip_blanks l.fn.text)
-
-abbrev pub decreases-loop-more : goal.decreases-loop-more
-decreases-loop-more l = length l.rest

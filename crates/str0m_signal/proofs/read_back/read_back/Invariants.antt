@@ -1,8 +1,0 @@
-use Rattle.str0m_signal.proofs.Common.{Some, take, IsTheOnly}
-use Rattle.str0m_signal.specs.Writable.{AreReadAs, IsReadBy}
-use Rattle.str0m_signal.proofs.read_back.read_back.Given as goal
-
--- the attributes so far come back as these
-abbrev pub invariant-loop-attr : goal.invariant-loop-attr
-invariant-loop-attr g l =
-    IsTheOnly (AreReadAs g.A.Printed.text (IsReadBy g.A.Attribute.reading) g.A.ReadBack.GoesWith (take l.attr-index l.fn.attrs)) (Some l.reads.items)

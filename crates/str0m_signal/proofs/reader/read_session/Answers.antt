@@ -1,9 +1,0 @@
-use Rattle.str0m_signal.specs.LineReading.{lines_of}
-use Rattle.str0m_signal.specs.Reading.{IsSession}
-use Rattle.str0m_signal.proofs.AnswerLaws.{refused}
-use Rattle.str0m_signal.proofs.reader.read_session.Goals as goal
-
-pub returns-in_default : goal.returns-in_default
-returns-in_default c =
-    let none = rw c.in_default.is at c.in_ok-head.ensures in
-    refused c.refusal.result (λ v. IsSession (lines_of c.args.text.now) v.0 v.1) c.refusal.ensures (λ v is. none _ _ is.header_is)

@@ -1,8 +1,0 @@
-use Rattle.str0m_signal.proofs.Common.{IfOk-weaker}
-use Rattle.str0m_signal.proofs.ReadBackLaws.{printed_by}
-use Rattle.str0m_signal.proofs.SectionLaws.{bandwidth_both}
-use Rattle.str0m_signal.proofs.section_back.bandwidth_line_back.Goals as goal
-
-pub returns-in-Some : goal.returns-in-Some
-returns-in-Some c =
-    IfOk-weaker c.bandwidth.result _ _ (λ found is. printed_by bandwidth_both c.args.text.now c.in-Some.line.now found c.in-Some.ensures is) c.bandwidth.ensures

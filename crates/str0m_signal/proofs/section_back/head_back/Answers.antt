@@ -1,9 +1,0 @@
-use Rattle.str0m_signal.proofs.Common.{option_map, IfOk-weaker}
-use Rattle.str0m_signal.specs.Heads.{media_head}
-use Rattle.str0m_signal.proofs.ReadBackLaws.{printed_by}
-use Rattle.str0m_signal.proofs.SectionLaws.{head_both}
-use Rattle.str0m_signal.proofs.section_back.head_back.Goals as goal
-
-pub returns-in-Some : goal.returns-in-Some
-returns-in-Some c =
-    IfOk-weaker c.head.result _ _ (λ found is. printed_by head_both c.args.text.now c.in-Some.line.now (option_map media_head found) c.in-Some.ensures is) c.head.ensures

@@ -1,0 +1,15 @@
+pub mod AttributesPrinted
+pub mod HeaderLaws
+pub mod LockedPicked
+pub mod NegotiationLaws
+pub mod ReaderAnswerLaws
+pub mod ReaderBoundLaws
+pub mod ReaderLaws
+pub mod ReaderLineNumbers
+pub mod ReaderPrinted
+pub mod ReaderRestLaws
+pub mod SectionAgain
+pub mod SectionLaws
+pub mod SectionLines
+pub mod Sections
+pub mod SessionLines

@@ -1,0 +1,37 @@
+-- Some of the rows that may be printed may be printed, where there is one.
+use Rattle.str0m_formats.proofs.{times-append}
+use Rattle.str0m_signal.proofs.Common.{◌≡◌, ◌≢◌, ◌≤◌, ℕ, Bool, true, false, cond, filter, List, [], ◌∷◌, arith, AllByRecursion}
+use Rattle.str0m_signal.proofs.Common.{recursion_from_All, types, types_of, PayloadParams, IsPlain, All-from_recursion, times}
+use Rattle.str0m_signal.specs.back.ReadBack.{MayBePrinted}
+
+module _ (pick : PayloadParams → Bool) where
+  picked_hold : (P : PayloadParams → Type 0) (rows : List PayloadParams) → AllByRecursion P rows → AllByRecursion P (filter pick rows)
+  picked_hold P [] h = tt
+  picked_hold P (row ∷ rows) h = go (pick row) (picked_hold P rows h.1) where
+    go : (b : Bool) → AllByRecursion P (filter pick rows) → AllByRecursion P (cond b (row ∷ filter pick rows) (filter pick rows))
+    go true more = (h.0, more)
+    go false more = more
+
+  -- each type stands at most as often
+  fewer : (rows : List PayloadParams) (t : ℕ) → times (types (filter pick rows)) t ≤ times (types rows) t
+  fewer [] t = omega arith
+  fewer (row ∷ rows) t = go (pick row) (fewer rows t) where
+    go : (b : Bool) → times (types (filter pick rows)) t ≤ times (types rows) t
+        → times (types (cond b (row ∷ filter pick rows) (filter pick rows))) t ≤ times (types (row ∷ rows)) t
+    go true more = omega (
+      arith,
+      more,
+      times-append (types_of row) (types (filter pick rows)) t,
+      times-append (types_of row) (types rows) t,
+    )
+    go false more = omega (arith, more, times-append (types_of row) (types rows) t)
+
+  picked_printable : (rows : List PayloadParams) → MayBePrinted rows → filter pick rows ≢ [] → MayBePrinted (filter pick rows)
+  picked_printable rows may some = record {
+    some = some;
+    plain = All-from_recursion IsPlain (filter pick rows) (picked_hold IsPlain rows (recursion_from_All IsPlain rows may.plain));
+    distinct = λ t. omega (arith, fewer rows t, may.distinct t);
+  }
+
+  pub printable_as : (rows picked : List PayloadParams) → MayBePrinted rows → picked ≡ filter pick rows → picked ≢ [] → MayBePrinted picked
+  printable_as rows picked may e some = grind (arith, picked_printable)

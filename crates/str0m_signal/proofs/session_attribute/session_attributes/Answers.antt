@@ -1,8 +1,0 @@
-use Rattle.str0m_signal.proofs.Common.{IfOk-weaker}
-use Rattle.str0m_signal.specs.LineReading.{lines_of}
-use Rattle.str0m_signal.proofs.ChainLaws.{run_of}
-use Rattle.str0m_signal.proofs.SessionAgain.{session_line_both}
-use Rattle.str0m_signal.proofs.session_attribute.session_attributes.Goals as goal
-
-pub returns : goal.returns
-returns c = IfOk-weaker c.attribute_run.result _ _ (λ found run. run_of session_line_both (lines_of c.args.text.now) found.0 (lines_of found.1.now) run) c.attribute_run.ensures

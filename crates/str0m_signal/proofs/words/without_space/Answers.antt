@@ -1,7 +1,0 @@
-use Rattle.str0m_signal.proofs.Common.{arith}
-use Rattle.str0m_signal.proofs.LineLaws.{without_suffix}
-use Rattle.str0m_signal.proofs.WordsLaws.{space_gone}
-use Rattle.str0m_signal.proofs.words.without_space.Goals as goal
-
-pub returns : goal.returns
-returns c = rw c.unwrap_or.ensures (space_gone c.args.text.now _ (without_suffix 32 (omega arith) c.args.text c.strip_suffix.result c.strip_suffix.ensures.cases))

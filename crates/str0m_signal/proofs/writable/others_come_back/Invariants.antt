@@ -1,6 +1,0 @@
-use Rattle.str0m_signal.proofs.WritableLaws.{OthersBefore}
-use Rattle.str0m_signal.proofs.writable.others_come_back.Given as goal
-
--- the sections so far come back
-abbrev pub invariant-loop-i : goal.invariant-loop-i
-invariant-loop-i l = OthersBefore l.sections l.own l.i

@@ -1,0 +1,17 @@
+pub mod CandidateLine
+pub mod Fmtp
+pub mod FmtpReading
+pub mod FormReading
+pub mod FormTable
+pub mod FormTransport
+pub mod Forms
+pub mod MediaAttribute
+pub mod MediaAttributeReading
+pub mod Rid
+pub mod RidReading
+pub mod RidStreamName
+pub mod RtpMap
+pub mod RtpMapReading
+pub mod SessionAttribute
+pub mod Simulcast
+pub mod SimulcastReading

@@ -1,0 +1,5 @@
+pub mod Heads
+pub mod Lines
+pub mod LinesReading
+pub mod Words
+pub mod WordsReading

@@ -1,0 +1,62 @@
+//! Lines with the parameters of a format.
+
+ghost use Rattle.std.specs.Prelude.{◌≡◌, IfOk, Some};
+ghost use Rattle.str0m_signal.specs.form.FmtpReading.{pairs_form_read, fmtp_values_read};
+ghost use Rattle.str0m_signal.specs.form.MediaAttribute.{fmtp};
+
+use crate::line::bare_values::bare;
+use crate::line::pairs::{pairs, skip_blanks};
+use std::alloc::{AllocError, Global};
+use str0m_formats::FormatParam;
+use str0m_sdp::{MediaAttribute, label};
+use str0m_values::cuts::{before, num_u8, strip};
+use str0m_values::{Items, Pt, Separator};
+
+/// The values of pairs after a space.
+fn pairs_form(alloc: Global, more: &str) -> Result<Option<Items<FormatParam>>, AllocError>
+    ensures { IfOk result (λ found. found ≡ pairs_form_read more.now) }
+{
+    let Some(text) = strip(more, " ") else {
+        return Ok(None);
+    };
+    match pairs(alloc, skip_blanks(text))? {
+        Some(pairs) => {
+            let values = FormatParam::parse_pairs(alloc, pairs.as_slice())?;
+            Ok(Some(Items::from(values)))
+        }
+        None => Ok(None),
+    }
+}
+
+/// The values after the payload type.
+fn values(alloc: Global, more: &str) -> Result<Items<FormatParam>, AllocError>
+    ensures { IfOk result (λ values. Some values ≡ fmtp_values_read more.now) }
+{
+    if let Some(values) = pairs_form(alloc, more)? {
+        return Ok(values);
+    }
+    let mut values = Vec::new(alloc);
+    values.push(bare(more))?;
+    Ok(Items::from(values))
+}
+
+/// The fmtp line of the text after `a=`.
+pub(crate) fn fmtp(alloc: Global, text: &str) -> Result<Option<MediaAttribute>, AllocError>
+    ensures { IfOk result (λ found. found ≡ fmtp.read text.now) }
+{
+    let Some(body) = strip(text, label::FMTP) else {
+        return Ok(None);
+    };
+    let number = before(body, Separator::Space);
+    let Some(pt) = num_u8(number, 127) else {
+        return Ok(None);
+    };
+    let Some(more) = strip(body, number) else {
+        return Ok(None);
+    };
+    let values = values(alloc, more)?;
+    Ok(Some(MediaAttribute::Fmtp {
+        pt: Pt::new_with_value(pt),
+        values,
+    }))
+}

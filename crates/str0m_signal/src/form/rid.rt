@@ -1,0 +1,247 @@
+//! Lines of streams that may be restricted.
+ghost use Rattle.std.specs.Prelude.{◌≡◌, ◌∷◌, ◌++◌, [], IfOk, option_map, is_some, true};
+ghost use Rattle.str0m_sdp.specs.declared.attribute.MediaAttribute.TheVariants.{Rid};
+ghost use Rattle.str0m_sdp.specs.declared.label.TheConstants as label;
+ghost use Rattle.str0m_signal.specs.Prelude.{parts, when};
+ghost use Rattle.str0m_signal.specs.form.FormReading.{behind, two_read};
+ghost use Rattle.str0m_signal.specs.form.MediaAttribute.{rid};
+ghost use Rattle.str0m_signal.specs.form.RidReading.{lists_of, next_read, restriction_read, restrictions_read, restricted_read, typed_read, lists_read, more_read, direction_read};
+ghost use Rattle.str0m_signal.specs.form.RidStreamName.{is_stream_name};
+
+use crate::form::simulcast::is_stream_name;
+use crate::line::pairs::{key, skip_blanks, value};
+use crate::line::parts::parts;
+use crate::line::words::Number;
+use std::alloc::{AllocError, Global};
+use str0m_sdp::{MediaAttribute, RestrictionId, Word, label};
+use str0m_values::cuts::{cut, strip};
+use str0m_values::{Items, Pt, Separator, Text};
+
+/// What stands after a value: the end, or `;` and more.
+fn next(text: &str) -> Option<Option<&str>>
+    ensures { option_map (λ o. option_map (λ x. x.now) o) result ≡ next_read text.now }
+{
+    if text.is_empty() {
+        return Some(None);
+    }
+    let more = strip(text, ";")?;
+    Some(Some(more))
+}
+
+/// The restriction at the front of the text, and what stands after it.
+fn restriction(text: &str) -> Option<(&str, &str, Option<&str>)>
+    ensures { option_map (λ x. ((x.0.now, x.1.now), option_map (λ y. y.now) x.2)) result ≡ restriction_read text.now }
+{
+    let (front, behind) = cut(skip_blanks(text), Separator::Equals)?;
+    let key = key(front)?;
+    let (value, behind) = value(behind)?;
+    let more = next(behind)?;
+    Some((key, value, more))
+}
+
+/// Whether the text is restrictions.
+fn are_restrictions(text: &str) -> bool
+    ensures { result ≡ is_some (restrictions_read text.now) }
+{
+    let mut rest = text;
+    loop {
+        let Some((_, _, next)) = restriction(rest) else {
+            return false;
+        };
+        let Some(more) = next else {
+            return true;
+        };
+        rest = more;
+    }
+}
+
+/// Puts copies of a key and its value after the others.
+fn keep_pair(
+    alloc: Global,
+    key: &str,
+    value: &str,
+    pairs: &mut Vec<(Text, Text)>,
+) -> Result<(), AllocError>
+    ensures { IfOk result (λ _. pairs.new.items ≡ pairs.old.items ++ (key.now, value.now) ∷ []) }
+{
+    let key = Text::from_str(alloc, key)?;
+    let value = Text::from_str(alloc, value)?;
+    pairs.push((key, value))?;
+    Ok(())
+}
+
+/// The restrictions of the text. Memory is taken for those that stand before one that can't be read, too.
+fn restrictions(alloc: Global, text: &str) -> Result<Option<Items<(Text, Text)>>, AllocError>
+    ensures { IfOk result (λ found. found ≡ restrictions_read text.now) }
+{
+    let mut pairs = Vec::new(alloc);
+    let mut rest = text;
+    loop {
+        let Some((key, value, next)) = restriction(rest) else {
+            return Ok(None);
+        };
+        keep_pair(alloc, key, value, &mut pairs)?;
+        let Some(more) = next else {
+            return Ok(Some(Items::from(pairs)));
+        };
+        rest = more;
+    }
+}
+
+/// Whether the text is nothing or restrictions.
+fn is_restricted(text: &str) -> bool
+    ensures { result ≡ is_some (restricted_read text.now) }
+{
+    if text.is_empty() {
+        true
+    } else {
+        are_restrictions(text)
+    }
+}
+
+/// The restrictions of the text, or none where it is nothing. Memory is taken as `restrictions` takes it.
+fn read_restricted(alloc: Global, text: &str) -> Result<Option<Items<(Text, Text)>>, AllocError>
+    ensures { IfOk result (λ found. found ≡ restricted_read text.now) }
+{
+    if text.is_empty() {
+        Ok(Some(Items::empty(alloc)))
+    } else {
+        restrictions(alloc, text)
+    }
+}
+
+/// The same, but memory is asked for only where all can be read.
+fn restricted(alloc: Global, text: &str) -> Result<Option<Items<(Text, Text)>>, AllocError>
+    ensures { IfOk result (λ found. found ≡ restricted_read text.now) }
+{
+    if is_restricted(text) {
+        read_restricted(alloc, text)
+    } else {
+        Ok(None)
+    }
+}
+
+/// The payload types that the stream may have, and its other restrictions.
+#[derive(Drop)]
+struct Lists {
+    types: Items<Pt>,
+    restrictions: Items<(Text, Text)>,
+}
+
+/// The lists after `pt=`. Memory is asked for only where both can be read.
+fn typed(alloc: Global, text: &str) -> Result<Option<Lists>, AllocError>
+    ensures { IfOk result (λ found. option_map lists_of found ≡ typed_read text.now) }
+{
+    let Some((front, behind)) = cut(text, Separator::Semicolon) else {
+        return match parts::<Number<127>>(alloc, text, Separator::Comma)? {
+            Some(types) => {
+                let restrictions = Items::empty(alloc);
+                Ok(Some(Lists {
+                    types,
+                    restrictions,
+                }))
+            }
+            None => Ok(None),
+        };
+    };
+    if !is_restricted(behind) {
+        return Ok(None);
+    }
+    let Some(types) = parts::<Number<127>>(alloc, front, Separator::Comma)? else {
+        return Ok(None);
+    };
+    let Some(restrictions) = read_restricted(alloc, behind)? else {
+        return Ok(None);
+    };
+    Ok(Some(Lists {
+        types,
+        restrictions,
+    }))
+}
+
+/// The lists after the direction and a space.
+fn listed(alloc: Global, text: &str) -> Result<Option<Lists>, AllocError>
+    ensures { IfOk result (λ found. option_map lists_of found ≡ lists_read text.now) }
+{
+    if let Some(body) = strip(text, "pt=") {
+        return typed(alloc, body);
+    }
+    match restricted(alloc, text)? {
+        Some(restrictions) => {
+            let types = Items::empty(alloc);
+            Ok(Some(Lists {
+                types,
+                restrictions,
+            }))
+        }
+        None => Ok(None),
+    }
+}
+
+/// The lists after the direction.
+fn more(alloc: Global, text: &str) -> Result<Option<Lists>, AllocError>
+    ensures { IfOk result (λ found. option_map lists_of found ≡ more_read text.now) }
+{
+    if text.is_empty() {
+        let types = Items::empty(alloc);
+        let restrictions = Items::empty(alloc);
+        return Ok(Some(Lists {
+            types,
+            restrictions,
+        }));
+    }
+    match strip(text, " ") {
+        Some(body) => listed(alloc, body),
+        None => Ok(None),
+    }
+}
+
+/// The word at the front of the text, and what stands after it.
+fn direction(text: &str) -> Option<(&'static str, &str)>
+    ensures { parts result ≡ direction_read text.now }
+{
+    if let Some(behind) = strip(text, "send") {
+        return Some(("send", behind));
+    }
+    let behind = strip(text, "recv")?;
+    Some(("recv", behind))
+}
+
+/// The name of the stream, its direction, and what stands after them.
+fn fields(text: &str) -> Option<(&str, &'static str, &str)>
+    ensures { option_map (λ x. (x.0.now, (x.1.now, x.2.now))) result ≡ behind label.RID.now (two_read 32 (λ name. when (is_stream_name name) name) direction_read) text.now }
+{
+    let body = strip(text, label::RID)?;
+    let (name, directed) = cut(body, Separator::Space)?;
+    if !is_stream_name(name) {
+        return None;
+    }
+    let (word, behind) = direction(directed)?;
+    Some((name, word, behind))
+}
+
+/// The rid line of these parts.
+fn made(name: Text, word: &'static str, lists: Lists) -> MediaAttribute
+    ensures { result ≡ Rid (record { 0 = name; 1 = true }) word.now lists.types lists.restrictions }
+{
+    MediaAttribute::Rid {
+        id: RestrictionId(name, true),
+        direction: Word(word),
+        pt: lists.types,
+        restriction: lists.restrictions,
+    }
+}
+
+/// The rid line of the text after `a=`.
+pub(crate) fn rid(alloc: Global, text: &str) -> Result<Option<MediaAttribute>, AllocError>
+    ensures { IfOk result (λ found. found ≡ rid.read text.now) }
+{
+    let Some((name, word, behind)) = fields(text) else {
+        return Ok(None);
+    };
+    let Some(lists) = more(alloc, behind)? else {
+        return Ok(None);
+    };
+    let name = Text::from_str(alloc, name)?;
+    Ok(Some(made(name, word, lists)))
+}

@@ -1,0 +1,97 @@
+//! What fields of several lines share.
+
+ghost use Rattle.std.specs.Prelude.{◌≡◌, IfOk, option_map};
+ghost use Rattle.str0m_signal.specs.Prelude.{beginning_of, code, num, parts};
+ghost use Rattle.str0m_signal.specs.form.FormReading.{behind, text_read, two_read};
+ghost use Rattle.str0m_signal.specs.form.FormTable.{two_texts};
+ghost use Rattle.str0m_signal.specs.form.MediaAttributeReading.{role_read};
+ghost use Rattle.str0m_signal.specs.line.LinesReading.{lines_of, line_read, both_left};
+ghost use Rattle.str0m_signal.specs.session.SectionReading.{field_read};
+
+use crate::line::lines::clean_line;
+use std::alloc::{AllocError, Global};
+use str0m_sdp::{SETUPS, Setup};
+use str0m_values::cuts::{cut, strip};
+use str0m_values::{Mid, Separator, Text, case_of};
+
+/// What follows `label`, where that is not nothing.
+pub(crate) fn field<'a>(line: &'a str, label: &str) -> Option<&'a str>
+    ensures { option_map (λ x. x.now) result ≡ field_read label.now line.now }
+{
+    let text = strip(line, label)?;
+    if text.is_empty() { None } else { Some(text) }
+}
+
+/// What follows `label` in the first line, and what follows that line.
+pub(crate) fn read_field<'a>(text: &'a str, label: &str) -> Option<(&'a str, &'a str)>
+    ensures { option_map both_left result ≡ line_read (field_read label.now) (lines_of text.now) }
+{
+    let (line, rest) = clean_line(text)?;
+    Some((field(line, label)?, rest))
+}
+
+/// A copy of what follows `label`, where that is not nothing.
+pub(crate) fn kept(alloc: Global, text: &str, label: &str) -> Result<Option<Text>, AllocError>
+    ensures { IfOk result (λ found. found ≡ behind label.now text_read text.now) }
+{
+    match field(text, label) {
+        Some(body) => Ok(Some(Text::from_str(alloc, body)?)),
+        None => Ok(None),
+    }
+}
+
+/// The texts before and after the first `at`, where neither is nothing.
+pub(crate) fn two_texts(text: &str, at: Separator) -> Option<(&str, &str)>
+    ensures { parts result ≡ two_read (code at) text_read text_read text.now }
+{
+    let (first, second) = cut(text, at)?;
+    if first.is_empty() {
+        return None;
+    }
+    if second.is_empty() {
+        return None;
+    }
+    Some((first, second))
+}
+
+/// Copies of the two texts that follow `label` with a space between them, where neither is nothing.
+#[inline(always)]
+pub(crate) fn both_kept(
+    alloc: Global,
+    text: &str,
+    label: &str,
+) -> Result<Option<(Text, Text)>, AllocError>
+    ensures { IfOk result (λ found. found ≡ behind label.now two_texts.read text.now) }
+{
+    let Some(body) = strip(text, label) else {
+        return Ok(None);
+    };
+    let Some((first, second)) = two_texts(body, Separator::Space) else {
+        return Ok(None);
+    };
+    let first = Text::from_str(alloc, first)?;
+    let second = Text::from_str(alloc, second)?;
+    Ok(Some((first, second)))
+}
+
+/// The number of 64 bits that std reads in decimal.
+pub(crate) fn num_u64(text: &str) -> Option<u64>
+    ensures { result ≡ num 18446744073709551615 text.now }
+{
+    text.parse::<u64>().ok()
+}
+
+/// A name, as far as it is kept.
+#[tactic(auto, using(str0m_values::proofs::IdentifierBeginnings::beginning_only))]
+pub(crate) fn short(name: &str) -> Mid
+    ensures { result ≡ beginning_of 16 name.now }
+{
+    Mid::from(name)
+}
+
+/// The setup that a word says.
+pub(crate) fn role(word: &str) -> Option<Setup>
+    ensures { result ≡ role_read word.now }
+{
+    case_of(&SETUPS, word)
+}

@@ -1,0 +1,135 @@
+//! The m-lines of sections.
+
+ghost use Rattle.std.specs.Prelude.{◌≡◌, IfOk, codes, is_some, option_map, bytes_eq};
+ghost use Rattle.str0m_signal.specs.line.Heads.{kind_is, media_head};
+ghost use Rattle.str0m_signal.specs.session.SectionReading.{unknown_read, media_kind_read, proto_read, types_read, head_read};
+
+use crate::line::parts::parts;
+use crate::line::words::Number;
+use std::alloc::{AllocError, Global};
+use str0m_sdp::label::{APPLICATION, AUDIO, OLD_SCTP, SCTP, SRTP, VIDEO};
+use str0m_sdp::{MediaType, Proto};
+use str0m_values::cuts::{cut, strip};
+use str0m_values::{Items, Pt, Separator, Text};
+
+/// What an m-line says.
+#[derive(Debug, Drop)]
+pub(crate) struct MediaHead {
+    pub(crate) typ: MediaType,
+    pub(crate) disabled: bool,
+    pub(crate) proto: Proto,
+    pub(crate) pts: Items<Pt>,
+}
+
+/// A media type that isn't copied out of its line yet.
+#[derive(Clone, Copy, Debug)]
+enum Kind<'a> {
+    Audio,
+    Video,
+    Application,
+    Unknown(&'a str),
+}
+
+impl<'a> Kind<'a> {
+    fn to_media_type(self, alloc: Global) -> Result<MediaType, AllocError>
+        ensures { IfOk result (λ typ. typ ≡ kind_is self.entry) }
+    {
+        match self {
+            Kind::Audio => Ok(MediaType::Audio),
+            Kind::Video => Ok(MediaType::Video),
+            Kind::Application => Ok(MediaType::Application),
+            Kind::Unknown(text) => Ok(MediaType::Unknown(Text::from_str(alloc, text)?)),
+        }
+    }
+}
+
+fn unknown(text: &str) -> Option<Kind<'_>>
+    ensures { option_map kind_is result ≡ unknown_read text.now }
+{
+    if strip(text, AUDIO).is_some()
+        || strip(text, VIDEO).is_some()
+        || strip(text, APPLICATION).is_some()
+        || text.is_empty()
+    {
+        return None;
+    }
+    Some(Kind::Unknown(text))
+}
+
+fn kind_of(text: &str) -> Option<Kind<'_>>
+    ensures { option_map kind_is result ≡ media_kind_read text.now }
+{
+    match text {
+        AUDIO => Some(Kind::Audio),
+        VIDEO => Some(Kind::Video),
+        APPLICATION => Some(Kind::Application),
+        _ => unknown(text),
+    }
+}
+
+fn proto(text: &str) -> Option<Proto>
+    ensures { result ≡ proto_read text.now }
+{
+    match text {
+        SRTP => Some(Proto::Srtp),
+        OLD_SCTP | SCTP => Some(Proto::Sctp),
+        _ => None,
+    }
+}
+
+/// Whether a section on this port is disabled.
+fn is_disabled(port: &str) -> bool
+    ensures { result ≡ bytes_eq port.now (codes "0") }
+{
+    port == "0"
+}
+
+/// The types of an m-line. Memory is asked for only where they are numbers.
+fn types(alloc: Global, text: &str) -> Result<Option<Items<Pt>>, AllocError>
+    ensures { IfOk result (λ found. found ≡ types_read text.now) }
+{
+    if let Some(numbers) = parts::<Number<255>>(alloc, text, Separator::Space)? {
+        return Ok(Some(numbers));
+    }
+    if strip(text, " ").is_some() {
+        return Ok(None);
+    }
+    Ok(Some(Items::empty(alloc)))
+}
+
+/// The m-line of a section. Memory is asked for only where it is one.
+pub(crate) fn head(alloc: Global, line: &str) -> Result<Option<MediaHead>, AllocError>
+    ensures { IfOk result (λ found. option_map media_head found ≡ head_read line.now) }
+{
+    let Some(body) = strip(line, "m=") else {
+        return Ok(None);
+    };
+    let Some((kind_text, body)) = cut(body, Separator::Space) else {
+        return Ok(None);
+    };
+    let Some((port, body)) = cut(body, Separator::Space) else {
+        return Ok(None);
+    };
+    let Some((protocol, body)) = cut(body, Separator::Space) else {
+        return Ok(None);
+    };
+    let Some(kind) = kind_of(kind_text) else {
+        return Ok(None);
+    };
+    if port.is_empty() {
+        return Ok(None);
+    }
+    let Some(proto) = proto(protocol) else {
+        return Ok(None);
+    };
+    let Some(pts) = types(alloc, body)? else {
+        return Ok(None);
+    };
+    let typ = kind.to_media_type(alloc)?;
+    Ok(Some(MediaHead {
+        typ,
+        disabled: is_disabled(port),
+        proto,
+        pts,
+    }))
+}

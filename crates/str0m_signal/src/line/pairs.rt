@@ -1,0 +1,126 @@
+//! Pairs of a key and a value, parted by `;`.
+
+ghost use Rattle.std.specs.List.{list_any};
+ghost use Rattle.std.specs.Prelude.{◌≡◌, IfOk, option_map};
+ghost use Rattle.str0m_signal.specs.Prelude.{pair_texts, parts};
+ghost use Rattle.str0m_signal.specs.form.FmtpReading.{IsValueEnd, ends_value, is_blank, fmtp_value_read, skip_blanks, fmtp_next_read, fmtp_key_read, pair_read, pairs_read};
+
+use std::alloc::{AllocError, Global};
+use str0m_values::Separator;
+use str0m_values::cuts::{cut, strip};
+
+fn ends_value(byte: u8) -> bool
+    ensures { result ≡ ends_value byte }
+{
+    byte == b';' || byte == b' ' || byte == b'\t'
+}
+
+/// Where a value ends. Most are short: to go over them takes less than to call a search.
+fn value_end(bytes: &[u8]) -> usize
+    ensures { IsValueEnd bytes.now result }
+{
+    for i in 0..bytes.len() {
+        if ends_value(bytes[i]) {
+            return i;
+        }
+    }
+    bytes.len()
+}
+
+/// A value, which ends at `;`, space or tab, and what follows it.
+pub(crate) fn value(text: &str) -> Option<(&str, &str)>
+    ensures { parts result ≡ fmtp_value_read text.now }
+{
+    let at = value_end(text.as_bytes());
+    if at == 0 {
+        None
+    } else {
+        Some(text.split_at(at))
+    }
+}
+
+/// The text without the blanks at its front.
+pub(crate) fn skip_blanks(text: &str) -> &str
+    ensures { result.now ≡ skip_blanks text.now }
+{
+    let mut rest = text;
+    loop {
+        if let Some(more) = strip(rest, " ") {
+            rest = more;
+        } else if let Some(more) = strip(rest, "\t") {
+            rest = more;
+        } else {
+            return rest;
+        }
+    }
+}
+
+/// Whether there is a space or a tab.
+fn has_blank(bytes: &[u8]) -> bool
+    ensures { result ≡ list_any is_blank bytes.now }
+{
+    bytes.iter().any(|byte| is_blank(*byte))
+}
+
+fn is_blank(byte: u8) -> bool
+    ensures { result ≡ is_blank byte }
+{
+    byte == b' ' || byte == b'\t'
+}
+
+/// A key: one or more characters other than space and tab.
+#[tactic(auto, using(crate::proofs::line::PairLaws::key_is))]
+pub(crate) fn key(text: &str) -> Option<&str>
+    ensures { option_map (λ x. x.now) result ≡ fmtp_key_read text.now }
+{
+    if has_blank(text.as_bytes()) {
+        return None;
+    }
+    if text.is_empty() { None } else { Some(text) }
+}
+
+/// What stands after a value and its blanks: the end, or `;` and more.
+fn fmtp_next(text: &str) -> Option<Option<&str>>
+    ensures { option_map (λ o. option_map (λ x. x.now) o) result ≡ fmtp_next_read text.now }
+{
+    if text.is_empty() {
+        return Some(None);
+    }
+    let more = skip_blanks(strip(text, ";")?);
+    if more.is_empty() {
+        Some(None)
+    } else {
+        Some(Some(more))
+    }
+}
+
+fn pair(text: &str) -> Option<(&str, &str, Option<&str>)>
+    ensures { option_map (λ x. ((x.0.now, x.1.now), option_map (λ y. y.now) x.2)) result ≡ pair_read text.now }
+{
+    let (front, behind) = cut(text, Separator::Equals)?;
+    let key = key(front)?;
+    let (value, behind) = value(behind)?;
+    let more = fmtp_next(skip_blanks(behind))?;
+    Some((key, value, more))
+}
+
+/// The pairs of a text, as slices of it.
+pub(crate) fn pairs<'a>(
+    alloc: Global,
+    text: &'a str,
+) -> Result<Option<Vec<(&'a str, &'a str)>>, AllocError>
+    ensures { IfOk result (λ found. option_map (λ list. pair_texts list.items) found ≡ pairs_read text.now) }
+{
+    let mut pairs = Vec::new(alloc);
+    let mut rest = text;
+    loop {
+        let Some((key, value, next)) = pair(rest) else {
+            return Ok(None);
+        };
+        pairs.push((key, value))?;
+        let Some(more) = next else {
+            return Ok(Some(pairs));
+        };
+        rest = more;
+    }
+}
