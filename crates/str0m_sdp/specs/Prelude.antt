@@ -16,7 +16,7 @@ pub use Rattle.str0m_formats.specs.row.PayloadParams.{has_video, new_row, types,
 pub use Rattle.str0m_formats.specs.row.PlainRowBounds.{AreModes, FitsType, IsBounded, IsByte, IsDistance}
 pub use Rattle.str0m_values.specs.Candidate.{IsSocketInRange, candidate_text}
 pub use Rattle.str0m_values.specs.Cuts.{before, cut, when, ◌<|>◌, ◌>>=◌}
-pub use Rattle.str0m_values.specs.Fingerprint.{fingerprint_text, preference_of}
+pub use Rattle.str0m_values.specs.Fingerprint.{fingerprint_text, hash_preference_of}
 pub use Rattle.str0m_values.specs.declared.address.IpAddr.{IpAddr}
 pub use Rattle.str0m_values.specs.declared.address.SocketAddr.{SocketAddr}
 pub use Rattle.str0m_values.specs.declared.candidate.Candidate.{Candidate}

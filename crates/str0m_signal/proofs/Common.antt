@@ -68,23 +68,26 @@ pub use Rattle.str0m_signal.specs.Prelude.{bandwidth_text, is_media, setup_text,
 pub use Rattle.str0m_signal.specs.Prelude.{Proto, RestrictionId, SimulcastLayer, MediaLine, Sdp, line_end, Consistent, is_mid, is_setup}
 pub use Rattle.str0m_signal.specs.Prelude.{is_direction, is_of_type, made, HasBoundedRows, sdp_text, Parted, IsCandidateText, before, cut}
 pub use Rattle.str0m_signal.specs.Prelude.{is_rest, lacks, num, strip, when, ◌<|>◌, ◌>>=◌, IsTheOnly, FirstFit, IsNum, IsPt, IsRest, IsWord}
-pub use Rattle.str0m_signal.specs.Prelude.{Lacks, IsWithout, code, beginning_of, IsLongestBeginning}
-pub use Rattle.str0m_values.proofs.AddressWords.{lacks_both}
+pub use Rattle.str0m_signal.specs.Prelude.{Lacks, IsWithout, separator_code, beginning_of, IsLongestBeginning}
+pub use Rattle.str0m_values.proofs.AddressWords.{address_lacks_both}
 pub use Rattle.str0m_values.proofs.CandidateLaws.{candidate_both}
-pub use Rattle.str0m_values.proofs.CandidateParts.{num_both}
+pub use Rattle.str0m_values.proofs.CandidateParts.{candidate_num_both}
 pub use Rattle.str0m_values.proofs.CutLaws.{before_front, cut_at, cut_found, cut_none, cut_none_lacks, Lacks-append, lacks_from, lacks_true}
 pub use Rattle.str0m_values.proofs.CutLaws.{strip_at, strip_found, before_lacks, strip_none}
 pub use Rattle.str0m_values.proofs.CutsBothWays.{bind_some, if_some, or_some, reads_first, some_is, Sound, sound_or, reads_either, Reads}
 pub use Rattle.str0m_values.proofs.CutsBothWays.{one_value, none_reads, reads_none}
-pub use Rattle.str0m_values.proofs.CutsNumLaws.{digits_lack, num_found, num_reads, number_lacks, parsed_whole, rest_true, when_some}
-pub use Rattle.str0m_values.proofs.CutsNumLaws.{when_true}
-pub use Rattle.str0m_values.proofs.FingerprintPairs.{glyph_value}
-pub use Rattle.str0m_values.proofs.IdentifierBeginnings.{beginning_is, beginning_only}
+pub use Rattle.str0m_values.proofs.CutsNumLaws.{num_digits_lack, num_found, num_reads, num_number_lacks, num_parsed_whole, num_rest_true}
+pub use Rattle.str0m_values.proofs.CutsNumLaws.{num_when_some}
+pub use Rattle.str0m_values.proofs.CutsNumLaws.{num_when_true}
+pub use Rattle.str0m_values.proofs.FingerprintPairs.{fingerprint_hex_glyph_value}
+pub use Rattle.str0m_values.proofs.ShortTextBeginnings.{beginning_is, beginning_only}
 pub use Rattle.str0m_values.proofs.WordsOfCases.{reads_words}
-pub use Rattle.str0m_values.specs.Address.{IsOctet, IsHexGroup, IsOneGroup, IsEnd, AreGroups, AreAnyGroups, IsIpText, octet_pairs, ip_text}
-pub use Rattle.str0m_values.specs.Candidate.{candidate_text, IsSocket, IsRelated, AreIceNames, IsSocketInRange, IsPrintable, socket_text}
-pub use Rattle.str0m_values.specs.Candidate.{related_text, extras_text}
+pub use Rattle.str0m_values.specs.Address.{IsOctet, IsHexGroup, IsOneHexGroup, IsAddressEnd, AreHexGroups, AreAnyHexGroups, IsIpText}
+pub use Rattle.str0m_values.specs.Address.{octet_pairs, ip_text}
+pub use Rattle.str0m_values.specs.Candidate.{candidate_text, IsSocket, IsRelatedAddress, AreIceNames, IsSocketInRange, IsPrintableCandidate}
+pub use Rattle.str0m_values.specs.Candidate.{socket_text}
+pub use Rattle.str0m_values.specs.Candidate.{related_text, candidate_extras_text}
 pub use Rattle.str0m_values.specs.Cuts.{front}
-pub use Rattle.str0m_values.specs.Fingerprint.{hex_pair, pairs_text, fingerprint_text}
+pub use Rattle.str0m_values.specs.Fingerprint.{hex_pair, hex_pairs_text, fingerprint_text}
 pub use denote.Shadow.{shadow}
 pub use denote.Text.{Utf8}

@@ -30,7 +30,7 @@ pub use Rattle.str0m_values.specs.Candidate.{IsCandidateText}
 pub use Rattle.str0m_values.specs.CandidateReading.{candidate_read}
 pub use Rattle.str0m_values.specs.Cuts.{IsTheOnly, before, cut, is_rest, lacks, num, parts, strip, when, ◌<|>◌, ◌>>=◌}
 pub use Rattle.str0m_values.specs.CutsParts.{FirstFit, IsNum, IsPt, IsRest, IsWithout, IsWord, Lacks}
-pub use Rattle.str0m_values.specs.Separator.{code}
+pub use Rattle.str0m_values.specs.Separator.{separator_code}
 pub use Rattle.str0m_values.specs.ShortText.{IsLongestBeginning, beginning_of}
 pub use Rattle.str0m_values.specs.Words.{case_of}
 pub use Rattle.str0m_values.specs.declared.candidate.Candidate.{Candidate}

@@ -16,7 +16,7 @@ pub mod FingerprintLaws
 pub mod FingerprintPairs
 pub mod FingerprintZipLaws
 pub mod H264Patterns
-pub mod IdentifierBeginnings
+pub mod ShortTextBeginnings
 pub mod LabelLaws
 pub mod ShortTextCells
 pub mod WordLaws

@@ -1,9 +1,9 @@
 -- The text of a candidate, which stands after `a=` (RFC 8839 section 5.1; for tcptype RFC 6544 section 4.5).
 use Rattle.std.specs.Prelude.{◌≡◌, ◌⊎◌, ◌<◌, ◌^◌, IfSome, ℕ, List, [], ◌++◌, Option, Some, None, codes, decimal}
-use Rattle.str0m_values.specs.Address.{IsIpText, IsInRange, ip_text}
+use Rattle.str0m_values.specs.Address.{IsIpText, IsAddressInRange, ip_text}
 use Rattle.str0m_values.specs.CandidateKind.{IsKindText, kind_text}
 use Rattle.str0m_values.specs.CutsParts.{IsWord, IsNum}
-use Rattle.str0m_values.specs.Labels.{IsSame, IsLabelled, IsOptional, IsLeftOut, optional_text}
+use Rattle.str0m_values.specs.Labels.{IsSame, IsLabelled, IsOptional, IsOptionalUnkept, optional_text}
 use Rattle.str0m_values.specs.Protocol.{IsProtocolText, IsTcpTypeText, protocol_text, tcp_type_text}
 use Rattle.str0m_values.specs.declared.address.SocketAddr.{SocketAddr}
 use Rattle.str0m_values.specs.declared.candidate.Candidate.{Candidate}
@@ -17,14 +17,14 @@ IsSocket ip_label port_label text addr =
     (ip : List ℕ) × (port : List ℕ) × (text ≡ ip ++ port) × IsLabelled ip_label IsIpText ip addr.ip × IsLabelled port_label (IsNum 65535) port addr.port
 
 -- nothing, or ` raddr ` address ` rport ` port
-abbrev pub IsRelated : List ℕ → Option SocketAddr → Type 0
-IsRelated text None = text ≡ []
-IsRelated text (Some addr) = IsSocket candidate_label.RELATED_ADDRESS.now candidate_label.RELATED_PORT.now text addr
+abbrev pub IsRelatedAddress : List ℕ → Option SocketAddr → Type 0
+IsRelatedAddress text None = text ≡ []
+IsRelatedAddress text (Some addr) = IsSocket candidate_label.RELATED_ADDRESS.now candidate_label.RELATED_PORT.now text addr
 
 -- a network's id and a name fragment, each of them or not; where both stand, in any order
 abbrev pub AreIceNames : List ℕ → Option (List ℕ) → Type 0
 AreIceNames text ufrag =
-    ((network : List ℕ) × (name : List ℕ) × (text ≡ network ++ name) × IsLeftOut candidate_label.NETWORK_ID.now network × IsOptional candidate_label.UFRAG.now IsSame name ufrag)
+    ((network : List ℕ) × (name : List ℕ) × (text ≡ network ++ name) × IsOptionalUnkept candidate_label.NETWORK_ID.now network × IsOptional candidate_label.UFRAG.now IsSame name ufrag)
     ⊎ ((name : List ℕ) × (network : List ℕ) × (word : List ℕ) × (fragment : List ℕ) × (text ≡ name ++ network)
     × IsLabelled candidate_label.UFRAG.now IsSame name fragment × IsLabelled candidate_label.NETWORK_ID.now IsSame network word × (ufrag ≡ Some fragment))
 
@@ -48,11 +48,11 @@ pub record IsCandidateText (text : List ℕ) (c : Candidate) : Type 0 where
   pub priority_is : IsLabelled (codes " ") (IsNum 4294967295) priority c.prio
   pub address_is : IsSocket (codes " ") (codes " ") address c.addr
   pub kind_is : IsLabelled candidate_label.TYPE.now IsKindText kind c.kind
-  pub related_is : IsRelated related c.raddr
+  pub related_is : IsRelatedAddress related c.raddr
   pub tcp_type_is : IsOptional candidate_label.TCP_TYPE.now IsTcpTypeText tcp_type c.tcptype
-  pub generation_is : IsLeftOut candidate_label.GENERATION.now generation
+  pub generation_is : IsOptionalUnkept candidate_label.GENERATION.now generation
   pub names_are : AreIceNames names c.ufrag
-  pub cost_is : IsLeftOut candidate_label.NETWORK_COST.now cost
+  pub cost_is : IsOptionalUnkept candidate_label.NETWORK_COST.now cost
 
 -- ---- what is printed
 
@@ -65,20 +65,20 @@ related_text None = []
 related_text (Some addr) = socket_text candidate_label.RELATED_ADDRESS.now candidate_label.RELATED_PORT.now addr
 
 -- the parts that stand after the kind
-abbrev pub extras_text : Candidate → List ℕ
-extras_text c = related_text c.raddr ++ (optional_text candidate_label.TCP_TYPE.now tcp_type_text c.tcptype ++ optional_text candidate_label.UFRAG.now (λ t. t) c.ufrag)
+abbrev pub candidate_extras_text : Candidate → List ℕ
+candidate_extras_text c = related_text c.raddr ++ (optional_text candidate_label.TCP_TYPE.now tcp_type_text c.tcptype ++ optional_text candidate_label.UFRAG.now (λ t. t) c.ufrag)
 
 abbrev pub candidate_text : Candidate → List ℕ
 candidate_text c =
     candidate_label.CANDIDATE.now ++ (c.foundation ++ (codes " " ++ (decimal c.component_id ++ (codes " " ++ (protocol_text c.proto ++ (codes " " ++ (decimal c.prio
-    ++ (socket_text (codes " ") (codes " ") c.addr ++ (candidate_label.TYPE.now ++ (kind_text c.kind ++ extras_text c))))))))))
+    ++ (socket_text (codes " ") (codes " ") c.addr ++ (candidate_label.TYPE.now ++ (kind_text c.kind ++ candidate_extras_text c))))))))))
 
 -- what its types keep
 abbrev pub IsSocketInRange : SocketAddr → Type 0
-IsSocketInRange addr = IsInRange addr.ip × (addr.port < 2 ^ 16)
+IsSocketInRange addr = IsAddressInRange addr.ip × (addr.port < 2 ^ 16)
 
 -- a candidate whose numbers keep to their types and whose texts are words
-pub record IsPrintable (c : Candidate) : Type 0 where
+pub record IsPrintableCandidate (c : Candidate) : Type 0 where
   pub foundation : IsWord c.foundation
   pub component_id : c.component_id < 2 ^ 16
   pub prio : c.prio < 2 ^ 32

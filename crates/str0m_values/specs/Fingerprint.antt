@@ -15,24 +15,24 @@ abbrev pub hex_pair : ℕ → List ℕ
 hex_pair byte = digit_glyph true (byte / 16) ∷ digit_glyph true (byte % 16) ∷ []
 
 -- bytes as such pairs, with `:` before each but the first
-abbrev pub pairs_text : List ℕ → List ℕ
-pairs_text [] = []
-pairs_text (first ∷ more) = hex_pair first ++ flat_map (λ byte. 58 ∷ hex_pair byte) more
+abbrev pub hex_pairs_text : List ℕ → List ℕ
+hex_pairs_text [] = []
+hex_pairs_text (first ∷ more) = hex_pair first ++ flat_map (λ byte. 58 ∷ hex_pair byte) more
 
 -- the name, a space, and the bytes
 abbrev pub fingerprint_text : Fingerprint → List ℕ
-fingerprint_text f = f.hash_func ++ (32 ∷ pairs_text f.bytes)
+fingerprint_text f = f.hash_func ++ (32 ∷ hex_pairs_text f.bytes)
 
 -- ---- read
 
 -- the text is a name that holds no space, a space, and a rest
-pub record IsNamed (text name rest : List ℕ) : Type 0 where
+pub record IsHashNamed (text name rest : List ℕ) : Type 0 where
   pub whole : text ≡ name ++ (32 ∷ rest)
   pub word : Lacks 32 name
 
 -- what stands between the `:`s
-abbrev pub pieces_of : List ℕ → List (List ℕ)
-pieces_of text = slice_split (λ b. b == 58) text
+abbrev pub hash_pieces : List ℕ → List (List ℕ)
+hash_pieces text = slice_split (λ b. b == 58) text
 
 -- the piece is the byte, in hexadecimal as std reads it
 abbrev pub IsHexByte : List ℕ → ℕ → Type 0
@@ -40,33 +40,33 @@ IsHexByte piece byte = IsNumber 16 255 piece byte
 
 -- the text is read as this fingerprint
 abbrev pub IsFingerprint : List ℕ → Fingerprint → Type 0
-IsFingerprint text f = (rest : List ℕ) × IsNamed text f.hash_func rest × AllZip IsHexByte (pieces_of rest) f.bytes
+IsFingerprint text f = (rest : List ℕ) × IsHashNamed text f.hash_func rest × AllZip IsHexByte (hash_pieces rest) f.bytes
 
 -- some piece of the text is no byte
-abbrev pub HasBadPiece : List ℕ → Type 0
-HasBadPiece text = Any (λ piece. (byte : ℕ) → ¬ (IsHexByte piece byte)) (pieces_of text)
+abbrev pub HasBadHashPiece : List ℕ → Type 0
+HasBadHashPiece text = Any (λ piece. (byte : ℕ) → ¬ (IsHexByte piece byte)) (hash_pieces text)
 
 -- some piece after the first space is no byte
-abbrev pub HasBadByte : List ℕ → Type 0
-HasBadByte text = (name : List ℕ) × (rest : List ℕ) × IsNamed text name rest × HasBadPiece rest
+abbrev pub HasBadHashByte : List ℕ → Type 0
+HasBadHashByte text = (name : List ℕ) × (rest : List ℕ) × IsHashNamed text name rest × HasBadHashPiece rest
 
 -- the answer is this fingerprint, memory aside
-abbrev pub Gives : Fingerprint → Result Fingerprint FingerprintError → Type 0
-Gives f (Ok g) = g ≡ f
-Gives f (Err e) = e ≡ Memory
+abbrev pub GivesFingerprint : Fingerprint → Result Fingerprint FingerprintError → Type 0
+GivesFingerprint f (Ok g) = g ≡ f
+GivesFingerprint f (Err e) = e ≡ Memory
 
 -- what the bytes of a text are read as, or why they aren't
-abbrev pub IsBytesReading : List ℕ → Result (List ℕ) FingerprintError → Type 0
-IsBytesReading text (Ok bytes) = AllZip IsHexByte (pieces_of text) bytes
-IsBytesReading text (Err NoSpace) = ⊥
-IsBytesReading text (Err BadByte) = HasBadPiece text
-IsBytesReading text (Err Memory) = ⊤
+abbrev pub IsHashBytesReading : List ℕ → Result (List ℕ) FingerprintError → Type 0
+IsHashBytesReading text (Ok bytes) = AllZip IsHexByte (hash_pieces text) bytes
+IsHashBytesReading text (Err NoSpace) = ⊥
+IsHashBytesReading text (Err BadByte) = HasBadHashPiece text
+IsHashBytesReading text (Err Memory) = ⊤
 
 -- what a text is read as, or why it isn't; memory is asked for only after a space
 abbrev pub IsFingerprintReading : List ℕ → Result Fingerprint FingerprintError → Type 0
 IsFingerprintReading text (Ok f) = IsFingerprint text f
 IsFingerprintReading text (Err NoSpace) = Lacks 32 text
-IsFingerprintReading text (Err BadByte) = HasBadByte text
+IsFingerprintReading text (Err BadByte) = HasBadHashByte text
 IsFingerprintReading text (Err Memory) = ¬ (Lacks 32 text)
 
 -- ---- printed and read
@@ -80,7 +80,7 @@ pub record CanBeReadBack (f : Fingerprint) : Type 0 where
 -- ---- preferred
 
 -- the place of a hash function in the order of preference
-abbrev pub preference_of : List ℕ → ℕ
-preference_of name =
+abbrev pub hash_preference_of : List ℕ → ℕ
+hash_preference_of name =
     if str_eq_ignore_ascii_case name (codes "sha-256") then 0
     else (if str_eq_ignore_ascii_case name (codes "sha-1") then 1 else 2)

@@ -14,8 +14,8 @@ abbrev pub labelled_read : List ℕ → List ℕ → Option (List ℕ × List �
 labelled_read label text = strip label text >>= front_word_read
 
 -- the same with the word's value
-abbrev pub part_read : {B : Type 0} → List ℕ → (List ℕ → Option B) → List ℕ → Option (B × List ℕ)
-part_read label f text = do
+abbrev pub labelled_value_read : {B : Type 0} → List ℕ → (List ℕ → Option B) → List ℕ → Option (B × List ℕ)
+labelled_value_read label f text = do
   word ← labelled_read label text
   x ← f word.0
   Some (x, word.1)

@@ -16,8 +16,8 @@ IsOptional label F part None = part ≡ []
 IsOptional label F part (Some x) = IsLabelled label F part x
 
 -- the same with any word, which isn't kept
-abbrev pub IsLeftOut : List ℕ → List ℕ → Type 0
-IsLeftOut label part = (word : Option (List ℕ)) × IsOptional label IsSame part word
+abbrev pub IsOptionalUnkept : List ℕ → List ℕ → Type 0
+IsOptionalUnkept label part = (word : Option (List ℕ)) × IsOptional label IsSame part word
 
 -- a label and a value's text, or nothing
 abbrev pub optional_text : {B : Type 0} → List ℕ → (B → List ℕ) → Option B → List ℕ

@@ -4,7 +4,7 @@ ghost use Rattle.std.specs.Prelude.{◌≡◌, not, option_map, ◌≤◌, lengt
 ghost use Rattle.std.specs.Str.{str_eq_ignore_ascii_case};
 ghost use Rattle.str0m_values.specs.Cuts.{cut, before, strip, num, parts, lacks, IsFirstAt, LacksAt, IsWrittenAs, IsTheOnly};
 ghost use Rattle.str0m_values.specs.CutsParts.{IsNumber, IsNumOr};
-ghost use Rattle.str0m_values.specs.Separator.{code};
+ghost use Rattle.str0m_values.specs.Separator.{separator_code};
 
 use crate::separator::Separator;
 
@@ -14,7 +14,7 @@ const NEAR: usize = 20;
 
 /// Where the byte first stands among the first `limit` bytes.
 #[inline(always)]
-fn near(bytes: &[u8], wanted: u8, limit: usize) -> Option<usize>
+fn near_cut(bytes: &[u8], wanted: u8, limit: usize) -> Option<usize>
     ensures { MatchOption result (length bytes.now ≤ limit → LacksAt wanted bytes.now (length bytes.now)) (IsFirstAt wanted bytes.now) }
 {
     for i in 0..bytes.len().min(limit) {
@@ -28,10 +28,10 @@ fn near(bytes: &[u8], wanted: u8, limit: usize) -> Option<usize>
 /// The parts before and after the first `at`; `None` where it doesn't stand in the text.
 #[inline]
 pub fn cut(text: &str, at: Separator) -> Option<(&str, &str)>
-    ensures { parts result ≡ cut (code at) text.now }
+    ensures { parts result ≡ cut (separator_code at) text.now }
 {
     let wanted = at.character();
-    match near(text.as_bytes(), wanted as u8, NEAR) {
+    match near_cut(text.as_bytes(), wanted as u8, NEAR) {
         Some(place) => Some((&text[..place], &text[place + 1..])),
         None => if text.len() <= NEAR {
             None
@@ -43,7 +43,7 @@ pub fn cut(text: &str, at: Separator) -> Option<(&str, &str)>
 
 /// The text before the first `at`, or the whole of it.
 pub fn before(text: &str, at: Separator) -> &str
-    ensures { result.now ≡ before (code at) text.now }
+    ensures { result.now ≡ before (separator_code at) text.now }
 {
     match cut(text, at) {
         Some((front, _)) => front,
@@ -53,7 +53,7 @@ pub fn before(text: &str, at: Separator) -> &str
 
 /// Whether the separator stands in the text.
 pub fn has(text: &str, at: Separator) -> bool
-    ensures { result ≡ not (lacks (code at) text.now) }
+    ensures { result ≡ not (lacks (separator_code at) text.now) }
 {
     cut(text, at).is_some()
 }

@@ -2,7 +2,7 @@
 ghost use Rattle.std.specs.Fmt.{digit_glyph};
 ghost use Rattle.std.specs.Prelude.{◌≡◌, ◌<◌, ◌∷◌, ◌↔◌, IfOk, IsErr, IsErrOf, IsTrue, Some, true, flat_map};
 ghost use Rattle.str0m_values.specs.CutsParts.{Lacks};
-ghost use Rattle.str0m_values.specs.Fingerprint.{IsFingerprint, HasBadByte, IsBytesReading, IsFingerprintReading, Gives, CanBeReadBack, fingerprint_text, hex_pair, pairs_text, preference_of};
+ghost use Rattle.str0m_values.specs.Fingerprint.{IsFingerprint, HasBadHashByte, IsHashBytesReading, IsFingerprintReading, GivesFingerprint, CanBeReadBack, fingerprint_text, hex_pair, hex_pairs_text, hash_preference_of};
 ghost use Rattle.str0m_values.specs.declared.fingerprint.Fingerprint.{Fingerprint};
 ghost use Rattle.str0m_values.specs.declared.fingerprint.FingerprintError.TheVariants.{NoSpace, BadByte, Memory};
 
@@ -63,19 +63,19 @@ impl Fingerprint {
     /// there is no room for what was read so far.
     pub fn from_str(alloc: Global, text: &str) -> Result<Fingerprint, FingerprintError>
         ensures reads { IfOk result (IsFingerprint text.now) }
-        ensures only { (f : Fingerprint) → IsFingerprint text.now f → Gives f result }
+        ensures only { (f : Fingerprint) → IsFingerprint text.now f → GivesFingerprint f result }
         ensures no_space { IsErrOf result NoSpace ↔ Lacks 32 text.now }
-        ensures bad_byte { IsErrOf result BadByte → HasBadByte text.now }
-        ensures refuses { HasBadByte text.now → IsErr result }
+        ensures bad_byte { IsErrOf result BadByte → HasBadHashByte text.now }
+        ensures refuses { HasBadHashByte text.now → IsErr result }
 
         // What is printed reads as itself.
-        ensures itself { (f : Fingerprint) → CanBeReadBack f → text.now ≡ fingerprint_text f → Gives f result }
+        ensures itself { (f : Fingerprint) → CanBeReadBack f → text.now ≡ fingerprint_text f → GivesFingerprint f result }
 
         // Equal fingerprints hash alike.
         ensures alike { (f g : Fingerprint) → IsTrue (⟦<Fingerprint as PartialEq>⟧.eq f g) →
             ⟦<Fingerprint as Hash>⟧.hash_input f ≡ ⟦<Fingerprint as Hash>⟧.hash_input g }
     {
-        read(alloc, text)
+        read_fingerprint(alloc, text)
     }
 
     /// A copy that equals its source. The only error is that memory was refused.
@@ -88,7 +88,7 @@ impl Fingerprint {
     /// Where the hash stands in the order of preference: 0 for `sha-256`, 1 for `sha-1`, without
     /// regard to ASCII case, and 2 for all others. A least one is preferred (RFC 8122, section 5.1).
     pub fn hash_preference(&self) -> u8
-        ensures { result ≡ preference_of self.now.hash_func }
+        ensures { result ≡ hash_preference_of self.now.hash_func }
     {
         let name = self.hash_func.as_str();
         if is_same_text(name, "sha-256") {
@@ -101,19 +101,19 @@ impl Fingerprint {
     }
 }
 
-fn read(alloc: Global, text: &str) -> Result<Fingerprint, FingerprintError>
+fn read_fingerprint(alloc: Global, text: &str) -> Result<Fingerprint, FingerprintError>
     ensures { IsFingerprintReading text.now result }
 {
     let Some((name, rest)) = cut(text, Separator::Space) else {
         return Err(FingerprintError::NoSpace);
     };
-    let bytes = read_bytes(alloc, rest)?;
+    let bytes = read_hash_bytes(alloc, rest)?;
     let hash_func = Text::from_str(alloc, name)?;
     Ok(Fingerprint { hash_func, bytes })
 }
 
-fn read_bytes(alloc: Global, text: &str) -> Result<Items<u8>, FingerprintError>
-    ensures { IsBytesReading text.now result }
+fn read_hash_bytes(alloc: Global, text: &str) -> Result<Items<u8>, FingerprintError>
+    ensures { IsHashBytesReading text.now result }
 {
     let mut bytes = Items::empty(alloc);
     for piece in text.split(':') {
@@ -141,7 +141,7 @@ impl fmt::Display for Fingerprint {
 pub struct FingerprintFmt<'a>(pub &'a [u8]);
 
 impl<'a> fmt::Display for FingerprintFmt<'a> {
-    ghost output = { λ b. Some (pairs_text b.0.now) };
+    ghost output = { λ b. Some (hex_pairs_text b.0.now) };
 
     fn fmt<W: fmt::Write>(&self, f: &mut fmt::Formatter<W>) -> fmt::Result {
         let Some((first, more)) = self.0.split_first() else {
@@ -180,17 +180,17 @@ impl fmt::Display for FourPairs {
         let [a, b, c, d] = self.0;
         let text = [
             b':',
-            digit(a / 16),
-            digit(a % 16),
+            hash_digit(a / 16),
+            hash_digit(a % 16),
             b':',
-            digit(b / 16),
-            digit(b % 16),
+            hash_digit(b / 16),
+            hash_digit(b % 16),
             b':',
-            digit(c / 16),
-            digit(c % 16),
+            hash_digit(c / 16),
+            hash_digit(c % 16),
             b':',
-            digit(d / 16),
-            digit(d % 16),
+            hash_digit(d / 16),
+            hash_digit(d % 16),
         ];
         match str::from_utf8(&text) {
             Ok(text) => f.write_str(text),
@@ -216,7 +216,7 @@ impl<'a> fmt::Display for LastPairs<'a> {
 }
 
 /// The upper-case hex digit of a number below 16.
-fn digit(number: u8) -> u8
+fn hash_digit(number: u8) -> u8
     ensures { number < 16 → result ≡ digit_glyph true number }
 {
     let low = number % 16;
@@ -236,7 +236,7 @@ impl fmt::Display for HexPair {
 
     fn fmt<W: fmt::Write>(&self, f: &mut fmt::Formatter<W>) -> fmt::Result {
         let byte = self.0;
-        let pair = [digit(byte / 16), digit(byte % 16)];
+        let pair = [hash_digit(byte / 16), hash_digit(byte % 16)];
         match str::from_utf8(&pair) {
             Ok(pair) => f.write_str(pair),
             Err(_) => Err(fmt::Error),

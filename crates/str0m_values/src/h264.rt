@@ -3,7 +3,7 @@ ghost use Rattle.std.specs.List.{range_with_len};
 ghost use Rattle.std.specs.Ordering.{nat_cmp};
 ghost use Rattle.std.specs.Prelude.{◌≡◌, ◌≤◌, ℕ, count_by, map};
 ghost use Rattle.std.specs.Result.{result_ok};
-ghost use Rattle.str0m_values.specs.H264.{fits, level_of, level_ordinal, levels, lower_level, marks_1b, named, patterns, profile_level_of, profile_level_of_bytes, profile_of};
+ghost use Rattle.str0m_values.specs.H264.{fits_pattern, h264_level_of, level_ordinal, h264_levels, lower_level, marks_level_1b, named, h264_patterns, profile_level_of, profile_level_of_bytes, h264_profile_of};
 
 use self::H264Profile::{
     Baseline, ConstrainedBaseline, ConstrainedHigh, High, Main, PredictiveHigh444,
@@ -65,7 +65,7 @@ impl H264Level {
         // Levels are in the order of their places, which are those of the table.
         ensures order { (a b : H264Level) →
             ⟦<H264Level as Ord>⟧.cmp a b ≡ nat_cmp (level_ordinal a) (level_ordinal b) }
-        ensures places { map level_ordinal levels ≡ range_with_len 0 17 }
+        ensures places { map level_ordinal h264_levels ≡ range_with_len 0 17 }
     {
         self as usize
     }
@@ -125,8 +125,8 @@ fn profile_level_of_bytes(idc: u8, iop: u8, level_idc: u8) -> Option<H264Profile
     ensures { result ≡ profile_level_of_bytes idc iop level_idc }
 {
     Some(H264ProfileLevel {
-        profile: profile_of(idc, iop)?,
-        level: level_of(idc, iop, level_idc)?,
+        profile: h264_profile_of(idc, iop)?,
+        level: h264_level_of(idc, iop, level_idc)?,
     })
 }
 
@@ -143,11 +143,11 @@ const PATTERNS: [(H264Profile, u8, u8, u8); 9] = [
     (PredictiveHigh444, 0xf4, 0b1111_1111, 0b0000_0000),
 ];
 
-fn profile_of(idc: u8, iop: u8) -> Option<H264Profile>
-    ensures first { result ≡ profile_of idc iop }
+fn h264_profile_of(idc: u8, iop: u8) -> Option<H264Profile>
+    ensures first { result ≡ h264_profile_of idc iop }
 
     // No two bytes fit two patterns.
-    ensures one { (idc iop : ℕ) → count_by (fits idc iop) patterns ≤ 1 }
+    ensures one { (idc iop : ℕ) → count_by (fits_pattern idc iop) h264_patterns ≤ 1 }
 {
     PATTERNS
         .iter()
@@ -155,8 +155,8 @@ fn profile_of(idc: u8, iop: u8) -> Option<H264Profile>
         .map(|(profile, _, _, _)| *profile)
 }
 
-fn level_of(idc: u8, iop: u8, level_idc: u8) -> Option<H264Level>
-    ensures { result ≡ level_of idc iop level_idc }
+fn h264_level_of(idc: u8, iop: u8, level_idc: u8) -> Option<H264Level>
+    ensures { result ≡ h264_level_of idc iop level_idc }
 {
     match level_idc {
         10 => Some(H264Level::L1),
@@ -182,7 +182,7 @@ fn level_of(idc: u8, iop: u8, level_idc: u8) -> Option<H264Level>
 
 /// Whether 11 names level 1b, in place of 1.1.
 fn is_1b(idc: u8, iop: u8) -> bool
-    ensures { result ≡ marks_1b idc iop }
+    ensures { result ≡ marks_level_1b idc iop }
 {
     (idc == 0x42 || idc == 0x4d || idc == 0x58) && iop & 0x10 == 0x10
 }

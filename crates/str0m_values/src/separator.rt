@@ -1,6 +1,6 @@
 //! The characters that lines are cut at.
 ghost use Rattle.std.specs.Prelude.{◌≡◌, ◌<◌};
-ghost use Rattle.str0m_values.specs.Separator.{code};
+ghost use Rattle.str0m_values.specs.Separator.{separator_code};
 
 /// A character that stands between the parts of a line (RFC 8866, section 9). Each is ASCII, so that a cut always
 /// falls between two characters.
@@ -29,7 +29,7 @@ pub enum Separator {
 impl Separator {
     /// The character itself.
     pub(crate) fn character(self) -> char
-        ensures is { result ≡ code self }
+        ensures is { result ≡ separator_code self }
         ensures ascii { result < 128 }
     {
         match self {

@@ -7,8 +7,8 @@ use Rattle.str0m_formats.specs.declared.codec.Codec.{Codec}
 use Rattle.str0m_formats.specs.declared.codec.TheConstants.{NAMED}
 use Rattle.str0m_formats.specs.declared.codec.codec_spec.CodecSpec.{CodecSpec}
 use Rattle.str0m_formats.specs.round.MatchScore.{same_codec}
-use Rattle.str0m_values.proofs.LabelLaws.{bind_is}
-use Rattle.str0m_values.proofs.WordsOfCases.{found_passes}
+use Rattle.str0m_values.proofs.LabelLaws.{label_option_bind_is}
+use Rattle.str0m_values.proofs.WordsOfCases.{case_found_passes}
 
 abbrev is_it : Codec → Option Codec → Bool
 is_it codec None = false
@@ -30,10 +30,10 @@ static_both = record {
   sound = λ pt spec e.
       let codec = bind_some (static_codec pt) (λ codec. option_map (λ row. spec_at codec row.1) (static_entry codec)) spec e in
       static_entry_is pt codec.0 (static_entry codec.0) spec refl
-      (found_passes (λ codec. is_at pt (static_entry codec)) NAMED codec.0 codec.1) codec.2;
+      (case_found_passes (λ codec. is_at pt (static_entry codec)) NAMED codec.0 codec.1) codec.2;
   complete = λ pt spec is.
       let said : spec_at spec.codec spec.clock_rate ≡ spec = rw (is.1, is.2) refl in
-      bind_is (static_codec pt) spec.codec _ (Some spec) (it_is spec.codec (static_codec pt) (static_own pt spec is).0)
+      label_option_bind_is (static_codec pt) spec.codec _ (Some spec) (it_is spec.codec (static_codec pt) (static_own pt spec is).0)
       (ap (option_map (λ row. spec_at spec.codec row.1)) is.0 ∙ ap (λ (s : CodecSpec). Some s) said);
 }
 

@@ -3,7 +3,8 @@ use Rattle.str0m_formats.proofs.Common.{rules, ◌≡◌, ◌<◌, ◌≤◌, �
 use Rattle.str0m_formats.proofs.Common.{map, filter, Option, Some, None, IfSome, Result, option_map, refl, sym, ap, subst, ◌∙◌, arith}
 use Rattle.str0m_formats.proofs.Common.{codes, decimal, AllByRecursion, AllZip, cons_option, flat_map, join_with_byte, list_all}
 use Rattle.str0m_formats.proofs.Common.{digits_value, and_parts, false_from_ne_true, decimal_is_IsNumeral, append_assoc, append-nil}
-use Rattle.str0m_formats.proofs.Common.{map-append, filter_map-append, none-some, IfOk, lacks, filter_map, lacks_both, cut_at, cut_none}
+use Rattle.str0m_formats.proofs.Common.{map-append, filter_map-append, none-some, IfOk, lacks, filter_map, address_lacks_both, cut_at}
+use Rattle.str0m_formats.proofs.Common.{cut_none}
 use Rattle.str0m_formats.proofs.Common.{lacks_true, lacks_from, H265ProfileTierLevel as h265_triple, H266ProfileTierLevel as h266_triple}
 use Rattle.str0m_formats.proofs.format.FormatLineLaws.{set_all-append}
 use Rattle.str0m_formats.proofs.format.FormatParamsSet.{filled, are_fresh, set_each}
@@ -97,7 +98,7 @@ free_pairs (pair ∷ pairs) h =
     grind (
       arith,
       lacks_free 59 (joined_pair pair),
-      lacks_both 59 pair.0 (61 ∷ pair.1),
+      address_lacks_both 59 pair.0 (61 ∷ pair.1),
       solid_lacks 59 pair.1,
       solid_lacks 59 pair.0,
       free_pairs pairs h.1,

@@ -1,7 +1,7 @@
 -- What a key and its value read as.
 use Rattle.str0m_formats.proofs.Common.{rules, arith, ◌≡◌, ℕ, List, [], ◌∷◌, map, Option, Some, None, refl, sym, ap, ◌∙◌, inl, inr, codes}
 use Rattle.str0m_formats.proofs.Common.{unwrap_or, to_ascii_lowercase, bytes_eq, none-some, bytes_eq-Decides, IsTheOnly, ◌>>=◌, num_only}
-use Rattle.str0m_formats.proofs.Common.{num_reads, when_true, some_is, only_read, one_answer, IfSome, option_map}
+use Rattle.str0m_formats.proofs.Common.{num_reads, num_when_true, some_is, only_read, one_answer, IfSome, option_map}
 use Rattle.str0m_formats.proofs.codec.CodecLookup.{find_passes, if_some_map, case_at}
 use Rattle.str0m_formats.proofs.codec.CodecNames.{same_text}
 use Rattle.str0m_formats.proofs.format.FormatParamModes.{modes_only}
@@ -34,7 +34,7 @@ kind_complete flag text b h = ap (λ b. Some b) (one_answer (is_one text) b (byt
 kind_complete (number limit) text n h = num_reads limit text n h
 kind_complete hex text n h = hex_both.complete text n h
 kind_complete modes text mask h = (modes_only text).only mask h
-kind_complete (exactly own) text x h = when_true (bytes_eq text own) (tt {0}) ((bytes_eq-Decides text own).1 h)
+kind_complete (exactly own) text x h = num_when_true (bytes_eq text own) (tt {0}) ((bytes_eq-Decides text own).1 h)
 kind_complete anything text x h = refl
 
 kind_sound : (k : Kind) (text : List ℕ) → IfSome (kind_read k text) (ReadsKind k text)

@@ -17,7 +17,7 @@ use Rattle.str0m_formats.specs.declared.format.format_param.FormatParam.TheVaria
 use Rattle.str0m_formats.specs.format.FormatParam.{IsParsed, AreParsed, triple_text, param_text}
 use Rattle.str0m_formats.specs.format.FormatParamReading.{param_of}
 use Rattle.str0m_formats.specs.format.Pairs.{has_mark, merged, others, is_part, AreJoined, AreRead}
-use Rattle.str0m_formats.specs.format.PairsReading.{Tables, h265_tables, h266_tables, params_read, triple_read}
+use Rattle.str0m_formats.specs.format.PairsReading.{ProfileTables, h265_tables, h266_tables, params_read, triple_read}
 
 -- the parameters print as pairs that are read as them
 pub record IsPairsLine (shown : List FormatParam) : Type 0 where
@@ -139,7 +139,7 @@ triple_line q a b c params text plain read h = record {
 numbers_solid : (k m n : ℕ) → k ≤ 255 → m ≤ 255 → n ≤ 255 → AllByRecursion IsSolidPair (triple_pairs (decimal k) (decimal m) (decimal n))
 numbers_solid k m n p q r = grind (arith, solid_from, decimal_solid, decimal_nonempty)
 
-shows_triple : {P T L : Type 0} (tables : Tables P T L) (q : FormatParam) (t : ProfileTierLevel P T L) (params : List FormatParam)
+shows_triple : {P T L : Type 0} (tables : ProfileTables P T L) (q : FormatParam) (t : ProfileTierLevel P T L) (params : List FormatParam)
     → param_text q ≡ triple_text (tables.profile_id t.profile) (tables.tier_flag t.tier) (tables.level_id t.level)
     → AreBytes tables t → triple_read (texts_shown tables t) ≡ Some q → AreOthers params → IsPairsLine (q ∷ params)
 shows_triple tables q t params text small read h = grind (arith, triple_line, numbers_solid)

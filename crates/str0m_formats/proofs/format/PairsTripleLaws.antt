@@ -1,7 +1,7 @@
 -- The triple of three values is read both ways.
 use Rattle.str0m_formats.proofs.Common.{◌≡◌, ◌≤◌, ℕ, List, Option, Some, None, refl, sym, subst, ◌∙◌, inl, inr, arith, rules, Bor, decimal}
 use Rattle.str0m_formats.proofs.Common.{none-some, IsTheOnly, ◌<|>◌, ProfileTierLevel, num_found, num_reads, only_read, bind_some, some_is}
-use Rattle.str0m_formats.proofs.Common.{reads_none, option_map, IsGiven, lay, none_reads, Reads}
+use Rattle.str0m_formats.proofs.Common.{reads_none, option_map, IsGivenNumber, lay, none_reads, Reads}
 use Rattle.str0m_formats.proofs.format.FormatParamAgain.{decimal_reads}
 use Rattle.str0m_formats.proofs.format.FormatParamOnly.{only_same}
 use Rattle.str0m_formats.specs.declared.format.format_param.FormatParam.{FormatParam}
@@ -12,10 +12,10 @@ use Rattle.str0m_values.specs.H265 as h265
 use Rattle.str0m_values.specs.H265.{H265ProfileTierLevel as h265_triple}
 use Rattle.str0m_values.specs.H266 as h266
 use Rattle.str0m_values.specs.H266.{H266ProfileTierLevel as h266_triple}
-use Rattle.str0m_values.specs.ProfileTierLevel.{HasGivenNumbers, HasNumbersOfTexts, Tables, value_in}
+use Rattle.str0m_values.specs.ProfileTierLevel.{HasGivenNumbers, HasNumbersOfTexts, ProfileTables, value_in}
 use Rattle.str0m_values.specs.declared.h266.H266Level.{H266Level}
 
-given_both : (default : ℕ) → Reads (IsGiven 255 default) (given_read default)
+given_both : (default : ℕ) → Reads (IsGivenNumber 255 default) (given_read default)
 given_both default = grind (arith, some_is, num_found, num_reads)
 
 -- beside each number stands the only value that has it
@@ -24,12 +24,12 @@ record IsTable {A : Type 0} (number_of : A → ℕ) (rows : List (A × ℕ)) : T
   byte : (value : A) → number_of value ≤ 255
 
 value_both : {A : Type 0} {id : A → ℕ} {rows : List (A × ℕ)} (default : ℕ) → IsTable id rows
-    → Reads (λ text a. IsGiven 255 default text (id a)) (table_read rows default)
+    → Reads (λ text a. IsGivenNumber 255 default text (id a)) (table_read rows default)
 value_both {A} {id} {rows} default table = grind (arith, bind_some, given_both default)
 
 -- ---- a codec's triples, by its tables
 
-record AreTables {P T L : Type 0} (tables : Tables P T L) : Type 0 where
+record AreTables {P T L : Type 0} (tables : ProfileTables P T L) : Type 0 where
   profiles : IsTable tables.profile_id tables.profiles
   tiers : IsTable tables.tier_flag tables.tiers
   levels : IsTable tables.level_id tables.levels
@@ -41,17 +41,17 @@ h266_are : AreTables h266_tables
 h266_are = grind arith
 
 -- the numbers of a triple, as they print
-abbrev pub AreBytes : {P T L : Type 0} → Tables P T L → ProfileTierLevel P T L → Type 0
+abbrev pub AreBytes : {P T L : Type 0} → ProfileTables P T L → ProfileTierLevel P T L → Type 0
 AreBytes tables t = (tables.profile_id t.profile ≤ 255) × (tables.tier_flag t.tier ≤ 255) × (tables.level_id t.level ≤ 255)
 
-abbrev pub texts_shown : {P T L : Type 0} → Tables P T L → ProfileTierLevel P T L → Texts
+abbrev pub texts_shown : {P T L : Type 0} → ProfileTables P T L → ProfileTierLevel P T L → Texts
 texts_shown tables t = (
   Some (decimal (tables.profile_id t.profile)),
   Some (decimal (tables.tier_flag t.tier)),
   Some (decimal (tables.level_id t.level)),
 )
 
-module _ {P T L : Type 0} (tables : Tables P T L) (are : AreTables tables) where
+module _ {P T L : Type 0} (tables : ProfileTables P T L) (are : AreTables tables) where
   abbrev IsOfTables : Texts → ProfileTierLevel P T L → Type 0
   IsOfTables texts = HasGivenNumbers tables.profile_id tables.tier_flag tables.level_id tables.defaults texts.0 texts.1 texts.2
 

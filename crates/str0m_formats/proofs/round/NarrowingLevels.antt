@@ -11,7 +11,7 @@ use Rattle.str0m_formats.specs.round.MatchScore.{same_spec, same_codec, same_num
 use Rattle.str0m_formats.specs.round.Narrowing.{narrowed, levels_differ}
 use Rattle.str0m_formats.specs.round.Rounds.{Leaves}
 use Rattle.str0m_formats.specs.round.RoundsPromises.{NamesNoHigher, LevelsNarrow}
-use Rattle.str0m_values.specs.H264.{named, level_ordinal, lower_of, lower_level}
+use Rattle.str0m_values.specs.H264.{named, level_ordinal, lower_level_of, lower_level}
 
 -- ---- formats that fit name one profile
 
@@ -56,7 +56,7 @@ stays_named had id e = record { level = had; named_so = e; profile = refl; no_hi
 lower_named : (had : H264ProfileLevel) (own other : Option ℕ) → named own ≡ Some had
     → ((theirs : H264ProfileLevel) → named other ≡ Some theirs → had.profile ≡ theirs.profile) → NamesNoHigher had (lower_level own other)
 lower_named had own other e same = go (named own) (named other) e refl where
-  go : (x y : Option H264ProfileLevel) → x ≡ Some had → named other ≡ y → NamesNoHigher had (lower_of own other x y)
+  go : (x y : Option H264ProfileLevel) → x ≡ Some had → named other ≡ y → NamesNoHigher had (lower_level_of own other x y)
   go None y h k = absurd (cc)
   go (Some x) None h k = stays_named had own e
   go (Some x) (Some y) h k = at (nat_lt (level_ordinal y.level) (level_ordinal x.level)) refl where

@@ -4,7 +4,7 @@ use Rattle.str0m_sdp.proofs.Common.{arith, ◌≡◌, List, [], ◌∷◌, ◌++
 use Rattle.str0m_sdp.proofs.Common.{option_or, IfOk, best_of, get_or_default}
 use Rattle.str0m_sdp.specs.Common.{first}
 use Rattle.str0m_sdp.specs.session.PreferredFingerprint.{is_preferred, IsPreferred, better_of, preferred, first_filled}
-use Rattle.str0m_values.specs.Fingerprint.{preference_of}
+use Rattle.str0m_values.specs.Fingerprint.{hash_preference_of}
 use Rattle.str0m_values.specs.declared.fingerprint.Fingerprint.{Fingerprint}
 
 -- one more after the others
@@ -22,7 +22,7 @@ preferred_more (first ∷ prints) print = ap (λ best. Some best) (along first p
 pub preferred_is : (prints : List Fingerprint) → IsPreferred prints (preferred prints)
 preferred_is [] = refl
 preferred_is (print ∷ prints) =
-    let best = IsFirstBest-from_best_of (IsStrictWeakOrder-by_number (λ (f : Fingerprint). preference_of f.hash_func)) print prints in
+    let best = IsFirstBest-from_best_of (IsStrictWeakOrder-by_number (λ (f : Fingerprint). hash_preference_of f.hash_func)) print prints in
     (best.0, best.1, get_or_default (print ∷ prints) best.0 _ print best.1.0 ∙ best.2)
 
 -- where one list holds none, the preferred is that of the others

@@ -1,14 +1,14 @@
 -- Which of several fingerprints is preferred (RFC 8122, section 5.1).
 use Rattle.std.specs.List.{IsFirstBest, best_of}
 use Rattle.std.specs.Prelude.{◌≡◌, ℕ, Bool, List, [], ◌∷◌, Option, Some, None, MatchOption, filter_map, get_or, length, map, nat_lt, if◌then◌else◌}
-use Rattle.str0m_sdp.specs.Prelude.{Fingerprint, preference_of}
+use Rattle.str0m_sdp.specs.Prelude.{Fingerprint, hash_preference_of}
 use Rattle.str0m_sdp.specs.declared.section.media_line.MediaLine.{MediaLine}
 use Rattle.str0m_sdp.specs.declared.session.Sdp.{Sdp}
 use Rattle.str0m_sdp.specs.session.Transport.{session_fingerprint, media_fingerprint}
 
 -- a hash function that stands before the other in the order of preference
 abbrev pub is_preferred : Fingerprint → Fingerprint → Bool
-is_preferred one other = nat_lt (preference_of one.hash_func) (preference_of other.hash_func)
+is_preferred one other = nat_lt (hash_preference_of one.hash_func) (hash_preference_of other.hash_func)
 
 -- none of none; else one to which no other is preferred, and which is preferred to each before it
 abbrev pub IsPreferred : List Fingerprint → Option Fingerprint → Type 0

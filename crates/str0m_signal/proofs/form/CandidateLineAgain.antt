@@ -3,15 +3,18 @@ use Rattle.std.proofs.Math.Nat.{pow-le-pow_right}
 use Rattle.std.proofs.lemmas.Int.Digits.{digits_value-lt}
 use Rattle.str0m_signal.proofs.Common.{rules, ◌≡◌, ◌≢◌, ◌≤◌, ◌<◌, ◌^◌, ℕ, zero, suc, List, [], ◌∷◌, ◌++◌, Option, Some, None, IfSome, refl}
 use Rattle.str0m_signal.proofs.Common.{sym, subst, arith, lit<, lit≤, inl, inr, codes, digit_value, decimal, AllByRecursion}
-use Rattle.str0m_signal.proofs.Common.{IsCandidateText, candidate_text, Parted, Lacks, IsWord, some_is, Lacks-append, lacks_both, replicate}
-use Rattle.str0m_signal.proofs.Common.{AllDigits, IsOctet, IsHexGroup, IsOneGroup, IsEnd, AreGroups, AreAnyGroups, IsIpText, IsSocket}
-use Rattle.str0m_signal.proofs.Common.{IsRelated, AreIceNames, IsSocketInRange, IsPrintable, socket_text, related_text, extras_text}
+use Rattle.str0m_signal.proofs.Common.{IsCandidateText, candidate_text, Parted, Lacks, IsWord, some_is, Lacks-append, address_lacks_both}
+use Rattle.str0m_signal.proofs.Common.{replicate}
+use Rattle.str0m_signal.proofs.Common.{AllDigits, IsOctet, IsHexGroup, IsOneHexGroup, IsAddressEnd, AreHexGroups, AreAnyHexGroups, IsIpText}
+use Rattle.str0m_signal.proofs.Common.{IsSocket}
+use Rattle.str0m_signal.proofs.Common.{IsRelatedAddress, AreIceNames, IsSocketInRange, IsPrintableCandidate, socket_text, related_text}
+use Rattle.str0m_signal.proofs.Common.{candidate_extras_text}
 use Rattle.str0m_signal.proofs.Common.{octet_pairs, ip_text}
 use Rattle.str0m_signal.proofs.form.FmtpPrinted.{behind_lacks}
 use Rattle.str0m_signal.proofs.session.AttributesPrinted.{HoldsNoEnd, no_end, no_ends, decimal_lacks, decimal_no_end}
-use Rattle.str0m_values.proofs.AddressText.{ip_printed}
+use Rattle.str0m_values.proofs.AddressText.{address_ip_printed}
 use Rattle.str0m_values.proofs.CandidateText.{printed_candidate}
-use Rattle.str0m_values.specs.Address.{IsInRange}
+use Rattle.str0m_values.specs.Address.{IsAddressInRange}
 use Rattle.str0m_values.specs.CandidateKind.{kind_text}
 use Rattle.str0m_values.specs.Labels.{IsSame, IsLabelled, optional_text}
 use Rattle.str0m_values.specs.Protocol.{protocol_text, tcp_type_text}
@@ -50,31 +53,31 @@ zeros_small : (n : ℕ) → AreSmall (2 ^ 16) (replicate n 0)
 zeros_small zero = tt
 zeros_small (suc n) = (lit< tt, zeros_small n)
 
-one_small : (text groups : List ℕ) → IsOneGroup text groups → AreSmall (2 ^ 16) groups
+one_small : (text groups : List ℕ) → IsOneHexGroup text groups → AreSmall (2 ^ 16) groups
 one_small text groups (n, group, e) = subst (AreSmall (2 ^ 16)) (sym e) (small_group text n group, tt)
 
-end_small : (text groups : List ℕ) → IsEnd text groups → AreSmall (2 ^ 16) groups
+end_small : (text groups : List ℕ) → IsAddressEnd text groups → AreSmall (2 ^ 16) groups
 end_small text groups (inl one) = one_small text groups one
 end_small text groups (inr (octets, is, e)) = subst (AreSmall (2 ^ 16)) (sym e) (pairs_small octets (octets_small text octets is.0))
 
 module _ (Last : List ℕ → List ℕ → Type 0) (last_small : (text groups : List ℕ) → Last text groups → AreSmall (2 ^ 16) groups) where
-  groups_small : (text groups : List ℕ) → AreGroups Last text groups → AreSmall (2 ^ 16) groups
+  groups_small : (text groups : List ℕ) → AreHexGroups Last text groups → AreSmall (2 ^ 16) groups
   groups_small text [] h = absurd h
   groups_small text (n ∷ groups) (inl h) = last_small text (n ∷ groups) h
   groups_small text (n ∷ groups) (inr h) = (small_group h.0 n h.3, groups_small h.1 groups h.4)
 
-  any_small : (text groups : List ℕ) → AreAnyGroups Last text groups → AreSmall (2 ^ 16) groups
+  any_small : (text groups : List ℕ) → AreAnyHexGroups Last text groups → AreSmall (2 ^ 16) groups
   any_small text groups o = grind (arith, groups_small)
 
-ip_in_range : (text : List ℕ) (a : IpAddr) → IsIpText text a → IsInRange a
+ip_in_range : (text : List ℕ) (a : IpAddr) → IsIpText text a → IsAddressInRange a
 ip_in_range text (V4 octets) h = (h.1, octets_small text octets h.0)
-ip_in_range text (V6 groups) (inl all, eight) = (eight, groups_small IsEnd end_small text groups all)
+ip_in_range text (V6 groups) (inl all, eight) = (eight, groups_small IsAddressEnd end_small text groups all)
 ip_in_range text (V6 groups) (inr short, eight) = (
   eight,
   subst (AreSmall (2 ^ 16)) (sym short.groups_are)
-      (all_small (2 ^ 16) short.front _ (any_small IsOneGroup one_small short.front_text short.front short.front_is)
+      (all_small (2 ^ 16) short.front _ (any_small IsOneHexGroup one_small short.front_text short.front short.front_is)
       (all_small (2 ^ 16) (replicate short.zeros 0) short.back (zeros_small short.zeros)
-      (any_small IsEnd end_small short.back_text short.back short.back_is))),
+      (any_small IsAddressEnd end_small short.back_text short.back short.back_is))),
 )
 
 -- ---- addresses hold digits, dots and colons
@@ -89,38 +92,38 @@ module _ (c : ℕ) (far : 16 ≤ digit_value c) (no_dot : 46 ≢ c) (no_colon : 
   octets_lack text (n ∷ []) h = subst (Lacks c) (sym h.0) (decimal_lacks c n (omega arith) (omega (arith, h.1)))
   octets_lack text (n ∷ (m ∷ ms)) h =
       subst (Lacks c) (sym h.2)
-      (lacks_both c h.0 (46 ∷ h.1) (subst (Lacks c) (sym h.3.0) (decimal_lacks c n (omega arith) (omega (arith, h.3.1))))
+      (address_lacks_both c h.0 (46 ∷ h.1) (subst (Lacks c) (sym h.3.0) (decimal_lacks c n (omega arith) (omega (arith, h.3.1))))
       (no_dot, octets_lack h.1 (m ∷ ms) h.4))
 
-  one_lacks : (text groups : List ℕ) → IsOneGroup text groups → Lacks c text
+  one_lacks : (text groups : List ℕ) → IsOneHexGroup text groups → Lacks c text
   one_lacks text groups (n, group, e) = hex_lack text group.numeral.1
 
-  end_lacks : (text groups : List ℕ) → IsEnd text groups → Lacks c text
+  end_lacks : (text groups : List ℕ) → IsAddressEnd text groups → Lacks c text
   end_lacks text groups (inl one) = one_lacks text groups one
   end_lacks text groups (inr (octets, is, e)) = octets_lack text octets is.0
 
   module _ (Last : List ℕ → List ℕ → Type 0) (last_lacks : (text groups : List ℕ) → Last text groups → Lacks c text) where
-    groups_lack : (text groups : List ℕ) → AreGroups Last text groups → Lacks c text
+    groups_lack : (text groups : List ℕ) → AreHexGroups Last text groups → Lacks c text
     groups_lack text [] h = absurd h
     groups_lack text (n ∷ groups) (inl h) = last_lacks text (n ∷ groups) h
     groups_lack text (n ∷ groups) (inr h) =
-        subst (Lacks c) (sym h.2) (lacks_both c h.0 (58 ∷ h.1) (hex_lack h.0 h.3.numeral.1) (no_colon, groups_lack h.1 groups h.4))
+        subst (Lacks c) (sym h.2) (address_lacks_both c h.0 (58 ∷ h.1) (hex_lack h.0 h.3.numeral.1) (no_colon, groups_lack h.1 groups h.4))
 
-    any_lack : (text groups : List ℕ) → AreAnyGroups Last text groups → Lacks c text
+    any_lack : (text groups : List ℕ) → AreAnyHexGroups Last text groups → Lacks c text
     any_lack text groups (inl none) = subst (Lacks c) (sym none.0) tt
     any_lack text groups (inr some) = groups_lack text groups some
 
   ip_lacks : (text : List ℕ) (a : IpAddr) → IsIpText text a → Lacks c text
   ip_lacks text (V4 octets) h = octets_lack text octets h.0
-  ip_lacks text (V6 groups) (inl all, eight) = groups_lack IsEnd end_lacks text groups all
+  ip_lacks text (V6 groups) (inl all, eight) = groups_lack IsAddressEnd end_lacks text groups all
   ip_lacks text (V6 groups) (inr short, eight) =
       subst (Lacks c) (sym short.joined)
-      (lacks_both c short.front_text _ (any_lack IsOneGroup one_lacks short.front_text short.front short.front_is)
-      (no_colon, (no_colon, any_lack IsEnd end_lacks short.back_text short.back short.back_is)))
+      (address_lacks_both c short.front_text _ (any_lack IsOneHexGroup one_lacks short.front_text short.front short.front_is)
+      (no_colon, (no_colon, any_lack IsAddressEnd end_lacks short.back_text short.back short.back_is)))
 
-ip_no_end : (a : IpAddr) → IsInRange a → HoldsNoEnd (ip_text a)
+ip_no_end : (a : IpAddr) → IsAddressInRange a → HoldsNoEnd (ip_text a)
 ip_no_end a h =
-    let is = ip_printed a h in (
+    let is = address_ip_printed a h in (
       ip_lacks 10 (lit≤ tt) (λ e. absurd (omega (arith, e))) (λ e. absurd (omega (arith, e))) (ip_text a) a is,
       ip_lacks 13 (lit≤ tt) (λ e. absurd (omega (arith, e))) (λ e. absurd (omega (arith, e))) (ip_text a) a is,
     )
@@ -130,7 +133,7 @@ ip_no_end a h =
 socket_in_range : (ip_label port_label text : List ℕ) (a : SocketAddr) → IsSocket ip_label port_label text a → IsSocketInRange a
 socket_in_range ip_label port_label text a (ip, port, e, ip_is, port_is) = grind (arith, ip_in_range)
 
-related_in_range : (o : Option SocketAddr) (text : List ℕ) → IsRelated text o → IfSome o IsSocketInRange
+related_in_range : (o : Option SocketAddr) (text : List ℕ) → IsRelatedAddress text o → IfSome o IsSocketInRange
 related_in_range None text h = tt
 related_in_range (Some a) text h = socket_in_range candidate_label.RELATED_ADDRESS.now candidate_label.RELATED_PORT.now text a h
 
@@ -140,7 +143,7 @@ same_word label part x (word, e, is, same) = subst IsWord (sym same) is
 name_word : (o : Option (List ℕ)) (text : List ℕ) → AreIceNames text o → IfSome o IsWord
 name_word o text h = grind arith
 
-printable : (text : List ℕ) (c : Candidate) → IsCandidateText text c → IsPrintable c
+printable : (text : List ℕ) (c : Candidate) → IsCandidateText text c → IsPrintableCandidate c
 printable text c h = search (rules, same_word, socket_in_range, related_in_range, name_word)
 
 -- ---- line ends
@@ -169,11 +172,11 @@ fragment_lacks : (c : ℕ) (o : Option (List ℕ)) (text : List ℕ) → AreIceN
     → Lacks c (optional_text candidate_label.UFRAG.now (λ t. t) o)
 fragment_lacks c None text h none label = tt
 fragment_lacks c (Some x) text (inl (network, name, e, left_out, is)) none label =
-    lacks_both c candidate_label.UFRAG.now x label
+    address_lacks_both c candidate_label.UFRAG.now x label
     (word_lacks c candidate_label.UFRAG.now name x is (behind_lacks c network name (subst (Lacks c) e none)))
 fragment_lacks c (Some x) text (inr (name, network, word, fragment, e, is, network_is, same)) none label =
     let own : x ≡ fragment = some_is x fragment same in
-    lacks_both c candidate_label.UFRAG.now x label
+    address_lacks_both c candidate_label.UFRAG.now x label
     (subst (Lacks c) (sym own) (word_lacks c candidate_label.UFRAG.now name fragment is
     (Lacks-append c name network (subst (Lacks c) e none))))
 
@@ -215,7 +218,7 @@ candidate_again text c quiet h =
           (no_ends (decimal c.prio) _ (decimal_no_end c.prio (omega (arith, is.prio)))
           (no_ends (socket_text (codes " ") (codes " ") c.addr) _ (socket_no_end (codes " ") (codes " ") c.addr space space is.addr)
           (no_ends candidate_label.TYPE.now _ (no_end candidate_label.TYPE.now refl refl)
-          (no_ends (kind_text c.kind) (extras_text c) (kind_no_end c.kind)
+          (no_ends (kind_text c.kind) (candidate_extras_text c) (kind_no_end c.kind)
           (no_ends (related_text c.raddr) _ (related_no_end c.raddr is.raddr)
           (no_ends (optional_text candidate_label.TCP_TYPE.now tcp_type_text c.tcptype) _ (tcp_type_no_end c.tcptype)
           (fragments_lack 10 text c h quiet.0 label.0, fragments_lack 13 text c h quiet.1 label.1))))))))))))),

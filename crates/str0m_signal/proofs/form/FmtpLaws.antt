@@ -4,8 +4,10 @@ use Rattle.str0m_signal.proofs.Common.{◌≡◌, ◌⊎◌, ℕ, suc, ◌<◌, 
 use Rattle.str0m_signal.proofs.Common.{ap, subst, ◌∙◌, arith, inl, inr, length-append, codes, ne_eqb, ltb-true, lt-ltb, cases_eq, both_ways}
 use Rattle.str0m_signal.proofs.Common.{append-nil, some_pair_parts, FormatParam, Lacks, IsRest, Bor, pair_texts, pairs_read_is, params_read}
 use Rattle.str0m_signal.proofs.Common.{FirstFit, lacks, ◌>>=◌, cut, strip, when, is_rest, num, before, cut_at, cut_found, strip_found}
-use Rattle.str0m_signal.proofs.Common.{strip_at, when_some, lacks_true, lacks_from, Lacks-append, bind_some, some_is, if_some, reads_first}
-use Rattle.str0m_signal.proofs.Common.{rest_true, number_lacks, num_found, num_reads, before_front, Reads, AreRead, pairs_read_only, front}
+use Rattle.str0m_signal.proofs.Common.{strip_at, num_when_some, lacks_true, lacks_from, Lacks-append, bind_some, some_is, if_some}
+use Rattle.str0m_signal.proofs.Common.{reads_first}
+use Rattle.str0m_signal.proofs.Common.{num_rest_true, num_number_lacks, num_found, num_reads, before_front, Reads, AreRead, pairs_read_only}
+use Rattle.str0m_signal.proofs.Common.{front}
 use Rattle.str0m_signal.proofs.Common.{before_lacks}
 use Rattle.str0m_signal.proofs.line.BareValuesLaws.{bare_both}
 use Rattle.str0m_signal.proofs.line.PairLaws.{value_given, EndsValue, IsBlank-skip}
@@ -25,13 +27,13 @@ before_keeps c d text h = go (cut c text) refl
     go (Some p) e = Lacks-append d p.0 (c ∷ p.1) (rw (cut_found c text p.0 p.1 e).0 at h)
 
 pub value_found : (text value rest : List ℕ) → fmtp_value_read text ≡ Some (value, rest) → (text ≡ value ++ rest) × IsValue value
-value_found text value rest e = grind (arith, bind_some, when_some, some_pair_parts, before_keeps, before_lacks, ltb-true, strip_found)
+value_found text value rest e = grind (arith, bind_some, num_when_some, some_pair_parts, before_keeps, before_lacks, ltb-true, strip_found)
 
 pub key_found : (text key : List ℕ) → Lacks 61 text → fmtp_key_read text ≡ Some key → (text ≡ key) × IsKey key
-key_found text key equals e = grind (arith, if_some, when_some, ltb-true, lacks_from)
+key_found text key equals e = grind (arith, if_some, num_when_some, ltb-true, lacks_from)
 
 pub key_given : (key : List ℕ) → IsKey key → fmtp_key_read key ≡ Some key
-key_given key h = rw (lacks_true 32 key h.2, lacks_true 9 key h.3, rest_true key h.0) refl
+key_given key h = rw (lacks_true 32 key h.2, lacks_true 9 key h.3, num_rest_true key h.0) refl
 
 -- blanks, and then nothing or another character
 pub record Skips (text : List ℕ) : Type 0 where
@@ -75,7 +77,7 @@ rest_empty (y ∷ ys) e = absurd (both_ways (is_rest (y ∷ ys)) e (lt-ltb 0 (le
 fmtp_next_found : (text : List ℕ) (next : Option (List ℕ)) → fmtp_next_read text ≡ Some next → FollowsValue text next
 fmtp_next_found [] next e = subst (FollowsValue []) (some_is None next e) (inl refl)
 fmtp_next_found (x ∷ xs) next e =
-    let filled : is_rest (x ∷ xs) ≡ true = rest_true (x ∷ xs) (omega arith) in
+    let filled : is_rest (x ∷ xs) ≡ true = num_rest_true (x ∷ xs) (omega arith) in
     let e' : (strip (codes ";") (x ∷ xs) >>= λ t. Some (when (is_rest (skip_blanks t)) (skip_blanks t))) ≡ Some next = rw filled at e in
     let a = bind_some (strip (codes ";") (x ∷ xs)) (λ t. Some (when (is_rest (skip_blanks t)) (skip_blanks t))) next e' in
     let behind = strip_found (codes ";") (x ∷ xs) a.0 a.1 in
@@ -142,15 +144,15 @@ end_ends : (end : List ℕ) → IsFmtpEnd end → EndsValue end
 end_ends end h = elim h [ inl e ↦ subst EndsValue (sym e) tt | inr k ↦ subst EndsValue (sym k.1) (inl refl) ]
 
 end_read : (end : List ℕ) → IsFmtpEnd end → fmtp_next_read (skip_blanks end) ≡ Some None
-end_read end h = grind (arith, rest_true, blanks_gone)
+end_read end h = grind (arith, num_rest_true, blanks_gone)
 
 next_more : (after more : List ℕ) → AreBlanks after → StartsUnblank more → fmtp_next_read (59 ∷ (after ++ more)) ≡ Some (Some more)
 next_more after more h starts =
     rw (
-      rest_true (59 ∷ (after ++ more)) (omega arith),
+      num_rest_true (59 ∷ (after ++ more)) (omega arith),
       IsBlank-skip after more h,
       starts_kept more starts,
-      rest_true more (starts_filled more starts),
+      num_rest_true more (starts_filled more starts),
     ) refl
 
 pub pair_given : (text : List ℕ) (pair : List ℕ × List ℕ) (next : Option (List ℕ)) → IsPair text pair next
@@ -264,7 +266,7 @@ fmtp_fields_both = record { sound = found; complete = given }
 
     given : (text : List ℕ) (fields : ℕ × List FormatParam) → IsFmtp text fields.0 fields.1 → fmtp_fields_read text ≡ Some fields
     given text fields h =
-        let lacks = number_lacks 32 h.number (omega arith) (λ e. absurd (omega arith)) h.number_is.numeral in
+        let lacks = num_number_lacks 32 h.number (omega arith) (λ e. absurd (omega arith)) h.number_is.numeral in
         ap fmtp_fields_read h.joined ∙ rw (
           before_word h.number h.more lacks h.word_ends,
           num_reads 127 h.number fields.0 h.number_is,

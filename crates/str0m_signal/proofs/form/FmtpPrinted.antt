@@ -9,7 +9,7 @@ use Rattle.str0m_signal.proofs.Common.{arith, lit<, lit≤, inl, inr, codes, All
 use Rattle.str0m_signal.proofs.Common.{digits_value, lt-ltb, decimal_is_IsNumeral, decimal_nonempty, append_assoc, append-nil, FirstFit}
 use Rattle.str0m_signal.proofs.Common.{Lacks, IsRest, IsNum, param_text, FormatParam, BareRange, BarePtList, Apt, pairs_read_is}
 use Rattle.str0m_signal.proofs.Common.{IsSolidPair, joined_pair, media_attribute_text, is_shown, shown_line, attribute_line, Fmtp}
-use Rattle.str0m_signal.proofs.Common.{lacks_both, decimal_solid, parsed_printed}
+use Rattle.str0m_signal.proofs.Common.{address_lacks_both, decimal_solid, parsed_printed}
 use Rattle.str0m_signal.proofs.form.FmtpLaws.{key_starts}
 use Rattle.str0m_signal.proofs.session.AttributesPrinted.{HoldsNoEnd, no_ends, no_end, num_is, decimal_lacks, decimal_no_end}
 use Rattle.str0m_signal.proofs.session.AttributesPrinted.{attribute_printed}
@@ -76,7 +76,7 @@ list_is n small = inr (no_pairs body no_equals, inl (n, n, [], (body, refl, (dec
 
   no_equals : Lacks 61 body
   no_equals =
-      lacks_both 61 (decimal n) (codes "/" ++ decimal n) (decimal_lacks 61 n (lit≤ tt) (omega arith))
+      address_lacks_both 61 (decimal n) (codes "/" ++ decimal n) (decimal_lacks 61 n (lit≤ tt) (omega arith))
       ((λ e. absurd (omega (arith, e))), decimal_lacks 61 n (lit≤ tt) (omega arith))
 
 -- ---- a range of events

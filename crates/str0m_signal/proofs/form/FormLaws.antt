@@ -1,8 +1,9 @@
 -- The pieces that forms share are read both ways.
-use Rattle.str0m_signal.proofs.Common.{◌≢◌, ◌≤◌, arith, cases_eq, eq-eqb, ne_eqb, digits_lack, digits_value, IsNumeral, ◌≡◌, ℕ, List, []}
+use Rattle.str0m_signal.proofs.Common.{◌≢◌, ◌≤◌, arith, cases_eq, eq-eqb, ne_eqb, num_digits_lack, digits_value, IsNumeral, ◌≡◌, ℕ, List}
+use Rattle.str0m_signal.proofs.Common.{[]}
 use Rattle.str0m_signal.proofs.Common.{◌∷◌, ◌++◌, length, Option, Some, None, refl, sym, ap, ◌∙◌, inl, inr, ltb-true, ◌>>=◌, cut, when}
 use Rattle.str0m_signal.proofs.Common.{is_rest, num, IsNum, bind_some, some_is, cut_none, cut_none_lacks, cut_at, cut_found, strip_at}
-use Rattle.str0m_signal.proofs.Common.{strip_found, when_some, num_found, num_reads, rest_true, Reads, append-nil}
+use Rattle.str0m_signal.proofs.Common.{strip_found, num_when_some, num_found, num_reads, num_rest_true, Reads, append-nil}
 use Rattle.str0m_signal.specs.form.FormReading.{behind, digits_read, text_read, two_read, tail_after, tailed_read}
 use Rattle.str0m_signal.specs.form.Forms.{Behind, IsText, Two, IsBeforeTail}
 
@@ -32,7 +33,7 @@ digits_both limit = record { sound = found; complete = given }
     given : (text : List ℕ) (n : ℕ) → AreDigits limit text n → digits_read limit text ≡ Some n
     given [] n h = absurd (omega (arith, h.0.0))
     given (x ∷ xs) n h =
-        let other : x ≢ 43 = (digits_lack 43 (x ∷ xs) (omega arith) h.0.1).0 in
+        let other : x ≢ 43 = (num_digits_lack 43 (x ∷ xs) (omega arith) h.0.1).0 in
         let is : IsNum limit (x ∷ xs) n = record { numeral = rw (ne_eqb x 43 other) h.0; value = rw (ne_eqb x 43 other) h.1; fits = h.2 } in
         rw (ne_eqb 43 x (λ same. other (sym same))) (num_reads limit (x ∷ xs) n is)
 
@@ -61,7 +62,7 @@ tailed_both {A} {F} {f} c reads = record { sound = λ text x e. found text x (cu
     found text x None cut-is e = (text, [], sym (append-nil text), cut_none_lacks c text cut-is, reads.sound text x e, inl refl)
     found text x (Some p) cut-is e =
         let a = bind_some (f p.0) (λ v. when (is_rest p.1) v) x e in
-        let w = when_some (is_rest p.1) a.0 x a.2 in
+        let w = num_when_some (is_rest p.1) a.0 x a.2 in
         let cut-found = cut_found c text p.0 p.1 cut-is in
         rw (← w.1) (p.0, c ∷ p.1, cut-found.0, cut-found.1, reads.sound p.0 a.0 a.1, inr (p.1, refl, ltb-true 0 (length p.1) w.0))
 
@@ -73,5 +74,5 @@ tailed_both {A} {F} {f} c reads = record { sound = λ text x e. found text x (cu
               ap (tailed_read c f) whole ∙ rw (cut_none c h.0 h.3) (reads.complete h.0 x h.4)
           | inr tail ↦
               let whole : text ≡ h.0 ++ (c ∷ tail.0) = h.2 ∙ ap (λ (t : List ℕ). h.0 ++ t) tail.1 in
-              ap (tailed_read c f) whole ∙ rw (cut_at c h.0 tail.0 h.3, reads.complete h.0 x h.4, rest_true tail.0 tail.2) refl
+              ap (tailed_read c f) whole ∙ rw (cut_at c h.0 tail.0 h.3, reads.complete h.0 x h.4, num_rest_true tail.0 tail.2) refl
         ]

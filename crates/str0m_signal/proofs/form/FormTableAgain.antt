@@ -1,5 +1,6 @@
 -- The attributes of a table are printed as they were read: from the laws of each form.
-use Rattle.str0m_signal.proofs.Common.{num_both, ◌≡◌, ◌≤◌, ◌<◌, ◌^◌, ℕ, Bool, true, List, [], ◌∷◌, ◌++◌, map, refl, sym, subst, lit≤, inl}
+use Rattle.str0m_signal.proofs.Common.{candidate_num_both, ◌≡◌, ◌≤◌, ◌<◌, ◌^◌, ℕ, Bool, true, List, [], ◌∷◌, ◌++◌, map, refl, sym, subst}
+use Rattle.str0m_signal.proofs.Common.{lit≤, inl}
 use Rattle.str0m_signal.proofs.Common.{inr, digit_value, decimal, attribute_line}
 use Rattle.str0m_signal.proofs.form.FormLaws.{text_both, two_both, tailed_both}
 use Rattle.str0m_signal.proofs.form.FormPiecesAgain.{Again, text_again, num_again, two_again, tailed_again, behind_again}
@@ -21,7 +22,7 @@ pub text_kept : Kept a_text (λ x. x)
 text_kept = record { reads = text_both; again = text_again }
 
 pub number_kept : (limit : ℕ) → limit < 2 ^ 64 → Kept (number limit) decimal
-number_kept limit small = record { reads = num_both limit; again = num_again limit small }
+number_kept limit small = record { reads = candidate_num_both limit; again = num_again limit small }
 
 pub two_kept : {A B : Type 0} {first : Piece A} {second : Piece B} {p : A → List ℕ} {q : B → List ℕ} (c : ℕ) → 16 ≤ digit_value c
     → Kept first p → Kept second q → Kept (two c first second) (λ pair. p pair.0 ++ (c ∷ q pair.1))

@@ -1,7 +1,7 @@
 -- A table of forms is read exactly where one of its forms holds: from a law of each form, and from its labels.
 use Rattle.str0m_signal.proofs.Common.{arith, ◌≡◌, ◌⊎◌, ℕ, Bool, true, false, ◌&&◌, ◌||◌, ◌==◌, List, [], ◌∷◌, ◌++◌, Option, Some, None}
 use Rattle.str0m_signal.proofs.Common.{refl, sym, ap, ◌∙◌, inl, inr, list_all, list_any, cases_eq, cases_Bool, eq-eqb, ne_eqb, and_parts}
-use Rattle.str0m_signal.proofs.Common.{false≢true, bytes_eq-Decides, ◌<|>◌, or_some, when_some, when_true, append_assoc, append-nil}
+use Rattle.str0m_signal.proofs.Common.{false≢true, bytes_eq-Decides, ◌<|>◌, or_some, num_when_some, num_when_true, append_assoc, append-nil}
 use Rattle.str0m_signal.proofs.Common.{if◌then◌else◌, reads_none, Reads}
 use Rattle.str0m_signal.proofs.form.FormLaws.{behind_both}
 use Rattle.str0m_signal.specs.form.FormTable.{Piece, Form, own, made_as, labelled, word, AnyOf, labels_of, first_read, any, words_of}
@@ -47,7 +47,7 @@ pub labelled_lawful : {A B : Type 0} {piece : Piece A} (label : List ℕ) (make 
 labelled_lawful label make reads = made_lawful make (own_lawful label (behind_both label reads) (λ text x h. (h.0, h.1)))
 
 word_lawful : {A : Type 0} (name : List ℕ) (x : A) → Lawful (word name x)
-word_lawful name x = grind (arith, when_some, bytes_eq-Decides, when_true, append-nil)
+word_lawful name x = grind (arith, num_when_some, bytes_eq-Decides, num_when_true, append-nil)
 
 pub unused_reads : {A : Type 0} (make : List ℕ → A) → Reads (IsUnused make) (unused_read make)
 unused_reads {A} make = grind arith

@@ -9,7 +9,8 @@ use Rattle.str0m_signal.proofs.Common.{refl, ap, ◌∙◌, subst, sym, lit<, li
 use Rattle.str0m_signal.proofs.Common.{media_attribute_text, is_shown, attribute_line, KeepsToLine, setup_text, MediaAttribute, Fmtp}
 use Rattle.str0m_signal.proofs.Common.{RestrictionId, SimulcastLayer, candidate_text, candidate_both, IsCandidateText, Parted}
 use Rattle.str0m_signal.proofs.Common.{IsLongestBeginning, decimal, join_by, length, ltb-true, Lacks, IsNum, is_rest, beginning_of}
-use Rattle.str0m_signal.proofs.Common.{beginning_is, beginning_only, lacks_from, rest_true, when_some, when_true, IsReadAs, RtpMap}
+use Rattle.str0m_signal.proofs.Common.{beginning_is, beginning_only, lacks_from, num_rest_true, num_when_some, num_when_true, IsReadAs}
+use Rattle.str0m_signal.proofs.Common.{RtpMap}
 use Rattle.str0m_signal.proofs.Common.{Simulcast, filter, sides_text, unless_munged, Fingerprint, Setup, Mid, Candidate, SsrcGroup, Unused}
 use Rattle.str0m_signal.proofs.Common.{fingerprint_text, media_words, ActPass, SETUPS, reads_words}
 use Rattle.str0m_signal.proofs.form.CandidateLineAgain.{candidate_again}
@@ -117,10 +118,10 @@ OtherForm = Whole FitsAgain media_attribute_text is_other
 
 name_readable : Readable name
 name_readable = record {
-  sound = λ text mid e. let w = when_some (is_rest text) (beginning_of 16 text) mid e in
+  sound = λ text mid e. let w = num_when_some (is_rest text) (beginning_of 16 text) mid e in
       rw (← w.1) (ltb-true 0 (length text) w.0, beginning_is 16 text);
   complete = λ text mid h.
-      when_true (is_rest text) (beginning_of 16 text) (rest_true text h.0)
+      num_when_true (is_rest text) (beginning_of 16 text) (num_rest_true text h.0)
       ∙ ap (λ (t : List ℕ). Some t) (sym (beginning_only 16 text mid h.1));
 }
 

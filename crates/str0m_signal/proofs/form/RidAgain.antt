@@ -2,7 +2,7 @@
 use Rattle.str0m_sdp.specs.attribute.Rid.{restriction_text, pts_part, restrictions_part}
 use Rattle.str0m_signal.proofs.Common.{rules, ◌≡◌, ◌≢◌, ◌≤◌, ℕ, List, [], ◌∷◌, ◌++◌, refl, sym, subst, ap, ◌∙◌, arith, lit<, lit≤, inl, inr}
 use Rattle.str0m_signal.proofs.Common.{codes, digit_value, decimal, join_by, append_assoc, append-nil, RestrictionId, SimulcastLayer}
-use Rattle.str0m_signal.proofs.Common.{Parted, Lacks, IsRest, IsPt, Lacks-append, lacks_both, id_text, layer_text, layers_text}
+use Rattle.str0m_signal.proofs.Common.{Parted, Lacks, IsRest, IsPt, Lacks-append, address_lacks_both, id_text, layer_text, layers_text}
 use Rattle.str0m_signal.proofs.form.FmtpPrinted.{behind_lacks}
 use Rattle.str0m_signal.proofs.form.FormPiecesAgain.{Again, num_again, two_again, behind_again, parted_again}
 use Rattle.str0m_signal.proofs.line.PartLaws.{cons_parts}
@@ -104,7 +104,7 @@ typed_lacks c far text n ns (pair ∷ pairs) (inl h) lacks = absurd (let e = h.1
 typed_lacks c far text n ns (pair ∷ pairs) (inr h) lacks =
     let whole : Lacks c (h.0 ++ (59 ∷ h.1)) = subst (Lacks c) h.2 lacks in
     let behind = behind_lacks c h.0 (59 ∷ h.1) whole in
-    lacks_both c (join_by decimal (codes ",") (n ∷ ns)) (59 ∷ restrictions_text (pair ∷ pairs))
+    address_lacks_both c (join_by decimal (codes ",") (n ∷ ns)) (59 ∷ restrictions_text (pair ∷ pairs))
     (pts_again.lacks c far h.0 (n ∷ ns) h.4 (Lacks-append c h.0 (59 ∷ h.1) whole))
     (behind.0, restrictions_lack c far h.1 (pair ∷ pairs) h.5 behind.1)
 
@@ -148,7 +148,7 @@ directed_again = record {
   form = λ text fields h. ((more_text fields.1, refl, h.0.2, more_form h.0.0 fields.1 h.0.3 h.1), h.1);
   lacks = λ c far text fields h lacks.
       let whole : Lacks c (fields.0 ++ h.0.0) = subst (Lacks c) h.0.1 lacks in
-      lacks_both c fields.0 (more_text fields.1) (Lacks-append c fields.0 h.0.0 whole)
+      address_lacks_both c fields.0 (more_text fields.1) (Lacks-append c fields.0 h.0.0 whole)
       (more_lacks c far h.0.0 fields.1 h.0.3 (behind_lacks c fields.0 h.0.0 whole));
 }
 
@@ -184,7 +184,7 @@ side_lacks : (text : List ℕ) (layers : List SimulcastLayer) → IsSide text la
 side_lacks text [] h = absurd h
 side_lacks text (layer ∷ []) h = grind (arith, append-nil, name_lacks)
 side_lacks text (layer ∷ (next ∷ layers)) h =
-    lacks_both 32 (layer_text layer) (59 ∷ layers_text (next ∷ layers)) (name_lacks h.0 layer.restriction_id h.3.0 h.3.1)
+    address_lacks_both 32 (layer_text layer) (59 ∷ layers_text (next ∷ layers)) (name_lacks h.0 layer.restriction_id h.3.0 h.3.1)
     ((λ e. absurd (omega (arith, e))), side_lacks h.1 (next ∷ layers) h.4)
 
 -- what stands after the label
@@ -230,7 +230,7 @@ sides_lack c far other text (s ∷ send) (r ∷ recv) (inr (body, e, (first, sec
     let parts : Lacks c (first ++ (32 ∷ second)) = subst (Lacks c) f (behind_lacks c (codes "recv ") body whole) in
     let behind = behind_lacks c first (32 ∷ second) parts in
     let sent_lacks = behind_lacks c (codes "send ") sent_text (subst (Lacks c) g behind.1) in
-    lacks_both c (codes "send ") _ other.0
-    (lacks_both c (layers_text (s ∷ send)) _ (side_again.lacks c far sent_text (s ∷ send) sent sent_lacks)
-    (lacks_both c (codes " recv ") _ other.1
+    address_lacks_both c (codes "send ") _ other.0
+    (address_lacks_both c (layers_text (s ∷ send)) _ (side_again.lacks c far sent_text (s ∷ send) sent sent_lacks)
+    (address_lacks_both c (codes " recv ") _ other.1
     (side_again.lacks c far first (r ∷ recv) received (Lacks-append c first (32 ∷ second) parts))))

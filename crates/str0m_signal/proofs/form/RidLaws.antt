@@ -1,8 +1,8 @@
 -- The line of a stream that may be restricted is read exactly where its form holds.
 use Rattle.str0m_signal.proofs.Common.{◌≡◌, ℕ, suc, ◌<◌, List, [], ◌∷◌, ◌++◌, length, Option, Some, None, refl, sym, ap, subst, ◌∙◌, arith}
 use Rattle.str0m_signal.proofs.Common.{inl, inr, length-append, codes, some_pair_parts, none-some, append-nil, ◌>>=◌, cut, strip, Parted}
-use Rattle.str0m_signal.proofs.Common.{Lacks, IsPt, bind_some, some_is, cut_none, cut_at, cut_found, strip_at, strip_found, when_some}
-use Rattle.str0m_signal.proofs.Common.{number_lacks, rest_true, num_both, Reads, append_assoc, strip_none, Pairs}
+use Rattle.str0m_signal.proofs.Common.{Lacks, IsPt, bind_some, some_is, cut_none, cut_at, cut_found, strip_at, strip_found, num_when_some}
+use Rattle.str0m_signal.proofs.Common.{num_number_lacks, num_rest_true, candidate_num_both, Reads, append_assoc, strip_none, Pairs}
 use Rattle.str0m_signal.proofs.form.FmtpLaws.{value_found, key_found, key_given, skips, starts_kept, key_starts}
 use Rattle.str0m_signal.proofs.form.FormLaws.{two_both}
 use Rattle.str0m_signal.proofs.form.SimulcastLaws.{name_from, name_true, parted_lacks}
@@ -32,7 +32,7 @@ tail_of (Some more) = 59 ∷ more
 next_found : (text : List ℕ) (next : Option (List ℕ)) → next_read text ≡ Some next → text ≡ tail_of next
 next_found [] next e = ap tail_of (some_is None next e)
 next_found (x ∷ xs) next e =
-    let e' : (strip (codes ";") (x ∷ xs) >>= λ more. Some (Some more)) ≡ Some next = rw (rest_true (x ∷ xs) (omega arith)) at e in
+    let e' : (strip (codes ";") (x ∷ xs) >>= λ more. Some (Some more)) ≡ Some next = rw (num_rest_true (x ∷ xs) (omega arith)) at e in
     let a = bind_some (strip (codes ";") (x ∷ xs)) (λ more. Some (Some more)) next e' in
     strip_found (codes ";") (x ∷ xs) a.0 a.1 ∙ ap tail_of (some_is (Some a.0) next a.2)
 
@@ -134,21 +134,22 @@ restricted_both = record { sound = found; complete = given }
     found : (text : List ℕ) (pairs : Pairs) → restricted_read text ≡ Some pairs → AreRestrictions text pairs
     found [] pairs e = subst (AreRestrictions []) (some_is [] pairs e) refl
     found (x ∷ xs) pairs e =
-        let e' : restrictions_read (x ∷ xs) ≡ Some pairs = rw (rest_true (x ∷ xs) (omega arith)) at e in
+        let e' : restrictions_read (x ∷ xs) ≡ Some pairs = rw (num_rest_true (x ∷ xs) (omega arith)) at e in
         some_of (x ∷ xs) pairs (restrictions_found (x ∷ xs) pairs e')
 
     given : (text : List ℕ) (pairs : Pairs) → AreRestrictions text pairs → restricted_read text ≡ Some pairs
     given text [] h = rw h refl
     given [] (p ∷ ps) h = absurd (none-some (p ∷ ps) (sym none_restrict ∙ restrictions_given [] (p ∷ ps) h))
-    given (x ∷ xs) (p ∷ ps) h = rw (rest_true (x ∷ xs) (omega arith)) (restrictions_given (x ∷ xs) (p ∷ ps) h)
+    given (x ∷ xs) (p ∷ ps) h = rw (num_rest_true (x ∷ xs) (omega arith)) (restrictions_given (x ∷ xs) (p ∷ ps) h)
 
 -- ---- payload types
 
 pts_both : Reads (Parted 44 IsPt) pts_read
-pts_both = parted_both 44 (num_both 127) (λ text n h. number_lacks 44 text (omega arith) (λ e. absurd (omega arith)) h.numeral)
+pts_both = parted_both 44 (candidate_num_both 127)
+    (λ text n h. num_number_lacks 44 text (omega arith) (λ e. absurd (omega arith)) h.numeral)
 
 types_semicolon : (text types : List ℕ) → Parted 44 IsPt text types → Lacks 59 text
-types_semicolon text types h = grind (arith, parted_lacks, number_lacks)
+types_semicolon text types h = grind (arith, parted_lacks, num_number_lacks)
 
 -- ---- the lists
 
@@ -181,7 +182,7 @@ lists_both = record {
 }
 
 more_found : (text : List ℕ) (lists : List ℕ × Pairs) → more_read text ≡ Some lists → IsMore text lists
-more_found text lists e = grind (arith, some_is, rest_true, bind_some, strip_found, lists_both)
+more_found text lists e = grind (arith, some_is, num_rest_true, bind_some, strip_found, lists_both)
 
 more_both : Reads IsMore more_read
 more_both = record {
@@ -189,14 +190,14 @@ more_both = record {
   complete = λ text lists h.
       elim h [
         | inl k ↦ rw k.0 (ap (λ (l : List ℕ × Pairs). Some l) (sym k.1))
-        | inr k ↦ ap more_read k.1 ∙ rw (rest_true (32 ∷ k.0) (omega arith)) (lists_both.complete k.0 lists k.2)
+        | inr k ↦ ap more_read k.1 ∙ rw (num_rest_true (32 ∷ k.0) (omega arith)) (lists_both.complete k.0 lists k.2)
       ];
 }
 
 -- ---- the line
 
 active_both : Reads IsActive active_read
-active_both = grind (arith, when_some, name_from, name_true)
+active_both = grind (arith, num_when_some, name_from, name_true)
 
 direction_found : (text word behind : List ℕ) → direction_read text ≡ Some (word, behind) → (text ≡ word ++ behind) × IsDirection word
 direction_found text word behind e = grind arith

@@ -3,13 +3,14 @@ use Rattle.str0m_sdp.specs.declared.attribute.rtp_map.RtpMap.{RtpMap as Mapping}
 use Rattle.str0m_sdp.specs.declared.label.TheConstants as label
 use Rattle.str0m_signal.proofs.Common.{◌≡◌, ℕ, ◌<◌, List, ◌∷◌, ◌++◌, length, Option, Some, None, refl, ap, subst, ◌∙◌, arith, ltb-true}
 use Rattle.str0m_signal.proofs.Common.{lt-ltb, append-nil, some_pair_parts, Lacks, IsNum, ◌>>=◌, cut, strip, when, is_rest, num, cut_none}
-use Rattle.str0m_signal.proofs.Common.{cut_none_lacks, cut_at, cut_found, strip_found, when_some, num_found, num_reads, number_lacks}
-use Rattle.str0m_signal.proofs.Common.{rest_true, bind_some, some_is, Codec, codec_of, read_as, Reads, IsReadAs, IsWithout, read_only}
+use Rattle.str0m_signal.proofs.Common.{cut_none_lacks, cut_at, cut_found, strip_found, num_when_some, num_found, num_reads}
+use Rattle.str0m_signal.proofs.Common.{num_number_lacks}
+use Rattle.str0m_signal.proofs.Common.{num_rest_true, bind_some, some_is, Codec, codec_of, read_as, Reads, IsReadAs, IsWithout, read_only}
 use Rattle.str0m_signal.specs.form.RtpMap.{IsChannels, IsRtpMap}
 use Rattle.str0m_signal.specs.form.RtpMapReading.{frequency_read, clock_read, mapping_read, rtpmap_fields_read}
 
 pub frequency_sound : (text : List ℕ) (hertz : ℕ) → frequency_read text ≡ Some hertz → IsNum 4294967295 text hertz × (0 < hertz)
-frequency_sound text hertz e = grind (arith, bind_some, when_some, ltb-true, num_found)
+frequency_sound text hertz e = grind (arith, bind_some, num_when_some, ltb-true, num_found)
 
 pub frequency_complete : (text : List ℕ) (hertz : ℕ) → IsNum 4294967295 text hertz → 0 < hertz → frequency_read text ≡ Some hertz
 frequency_complete text hertz h positive = rw (num_reads 4294967295 text hertz h, lt-ltb 0 hertz positive) refl
@@ -62,7 +63,7 @@ rtpmap_found text fields e =
     >>= λ clock. Some (record { codec = codec_of name; clock_rate = clock.0; channels = clock.1 })) m.0 c.2 in
     let k = bind_some (clock_read c.0.1 (cut 47 c.0.1))
     (λ clock. Some (record { codec = codec_of w.0; clock_rate = clock.0; channels = clock.1 })) m.0 w.2 in
-    let name = when_some (is_rest c.0.0) c.0.0 w.0 w.1 in
+    let name = num_when_some (is_rest c.0.0) c.0.0 w.0 w.1 in
     let clock = clock_sound c.0.1 k.0.0 k.0.1 (cut 47 c.0.1) refl k.1 in
     let head = strip_found label.RTPMAP.now text a.0 a.1 in
     let cut_at_space = cut_found 32 a.0 b.0.0 b.0.1 b.1 in
@@ -87,11 +88,11 @@ rtpmap_given : (text : List ℕ) (fields : ℕ × Mapping) → IsRtpMap text fie
 rtpmap_given text fields h =
     grind (
       arith,
-      number_lacks 32 h.number,
+      num_number_lacks 32 h.number,
       channels_lack h.channels h.clock,
       cut_at 47 h.codec,
       cut_at 32 h.number,
-      rest_true h.codec h.codec_is.0.0,
+      num_rest_true h.codec h.codec_is.0.0,
       read_only h.codec,
       num_reads 127 h.number,
     )

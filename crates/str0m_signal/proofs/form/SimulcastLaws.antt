@@ -3,8 +3,9 @@ use Rattle.str0m_sdp.specs.declared.attribute.simulcast.Simulcast.{Simulcast}
 use Rattle.str0m_signal.proofs.Common.{rules, ◌≡◌, ◌≢◌, ℕ, Bool, true, List, [], ◌∷◌, ◌++◌, Option, Some, None, refl, sym, ap, subst, ◌∙◌}
 use Rattle.str0m_signal.proofs.Common.{arith, inl, inr, codes, is_some, ltb-true, and_parts, and_from, RestrictionId, SimulcastLayer}
 use Rattle.str0m_signal.proofs.Common.{name_text, ◌>>=◌, cut, strip, when, lacks, Parted, Lacks, IsRest, Sound, bind_some, some_is}
-use Rattle.str0m_signal.proofs.Common.{sound_or, cut_none, cut_at, cut_found, strip_found, lacks_true, lacks_from, when_some, when_true}
-use Rattle.str0m_signal.proofs.Common.{rest_true, Reads, chars}
+use Rattle.str0m_signal.proofs.Common.{sound_or, cut_none, cut_at, cut_found, strip_found, lacks_true, lacks_from, num_when_some}
+use Rattle.str0m_signal.proofs.Common.{num_when_true}
+use Rattle.str0m_signal.proofs.Common.{num_rest_true, Reads, chars}
 use Rattle.str0m_signal.proofs.form.FormLaws.{behind_both}
 use Rattle.str0m_signal.proofs.line.PartLaws.{parted_both}
 use Rattle.str0m_signal.specs.form.FormReading.{behind, parted_read}
@@ -20,14 +21,18 @@ pub name_from : (text : List ℕ) → is_stream_name text ≡ true → IsStreamN
 name_from text e = grind (arith, and_parts, is_name_character, chars, ltb-true, lacks_from)
 
 pub name_true : (text : List ℕ) → IsStreamName text → is_stream_name text ≡ true
-name_true text h = grind (arith, and_from, rest_true, is_name_character, chars, lacks_true)
+name_true text h = grind (arith, and_from, num_rest_true, is_name_character, chars, lacks_true)
 
 -- ---- alternatives
 
 alternative_found : (text : List ℕ) (id : RestrictionId) (o : Option (List ℕ)) → strip (codes "~") text ≡ o
     → alternative_after text o ≡ Some id → IsAlternative text id
-alternative_found text id None is e = grind (arith, when_some (is_stream_name text) (record { 0 = text; 1 = true }) id e, name_from text)
-alternative_found text id (Some name) is e = grind (arith, when_some, strip_found, name_from)
+alternative_found text id None is e = grind (
+  arith,
+  num_when_some (is_stream_name text) (record { 0 = text; 1 = true }) id e,
+  name_from text,
+)
+alternative_found text id (Some name) is e = grind (arith, num_when_some, strip_found, name_from)
 
 no_tilde : (text : List ℕ) → IsRest text → Lacks 126 text → strip (codes "~") text ≡ None
 no_tilde text filled h = grind arith
@@ -72,7 +77,7 @@ first_found : (text : List ℕ) (id : RestrictionId) (o : Option (List ℕ × Li
 first_found text id None is e = ([], alternative_both.sound text id e)
 first_found text id (Some p) is e =
     let a = bind_some (alternative_read p.0) (λ x. when (is_some (parted_read 44 alternative_read p.1)) x) id e in
-    let w = when_some (is_some (parted_read 44 alternative_read p.1)) a.0 id a.2 in
+    let w = num_when_some (is_some (parted_read 44 alternative_read p.1)) a.0 id a.2 in
     let first : IsAlternative p.0 id = alternative_both.sound p.0 id (a.1 ∙ ap (λ (x : RestrictionId). Some x) w.1) in
     let found = cut_found 44 text p.0 p.1 is in
     others_of (parted_read 44 alternative_read p.1) refl w.0 p.0 found.0 first
@@ -89,7 +94,7 @@ first_found text id (Some p) is e =
 
 first_given : (text : List ℕ) (id : RestrictionId) (others : List RestrictionId) → Parted 44 IsAlternative text (id ∷ others)
     → first_after text (cut 44 text) ≡ Some id
-first_given text id others h = grind (arith, cut_none, alternative_comma, alternative_both, cut_at, when_true, alternatives_both)
+first_given text id others h = grind (arith, cut_none, alternative_comma, alternative_both, cut_at, num_when_true, alternatives_both)
 
 layer_both : Reads IsLayer layer_read
 layer_both = record {

@@ -1,7 +1,7 @@
 -- The values without keys of an fmtp line are read exactly where they stand.
 use Rattle.str0m_signal.proofs.Common.{ℕ, List, [], ◌∷◌, Option, Some, refl, sym, ap, ◌∙◌, arith, codes, FormatParam, BareRange, BarePtList}
 use Rattle.str0m_signal.proofs.Common.{◌>>=◌, strip, num, FirstFit, Parted, Lacks, IsNum, bind_some, some_is, reads_first, cut_at}
-use Rattle.str0m_signal.proofs.Common.{strip_found, number_lacks, num_reads, num_both, Reads, IsEventRange, Unknown}
+use Rattle.str0m_signal.proofs.Common.{strip_found, num_number_lacks, num_reads, candidate_num_both, Reads, IsEventRange, Unknown}
 use Rattle.str0m_signal.proofs.form.FormLaws.{digits_both, two_both, behind_both}
 use Rattle.str0m_signal.proofs.line.PartLaws.{parted_both}
 use Rattle.str0m_signal.specs.form.Fmtp.{IsListForm, IsRangeForm, IsAnything}
@@ -12,10 +12,10 @@ use Rattle.str0m_signal.specs.form.Forms.{Two}
 -- ---- lists
 
 num_lacks : (text : List ℕ) (n : ℕ) → IsNum 255 text n → Lacks 47 text
-num_lacks text n h = number_lacks 47 text (omega arith) (λ e. absurd (omega arith)) h.numeral
+num_lacks text n h = num_number_lacks 47 text (omega arith) (λ e. absurd (omega arith)) h.numeral
 
 slashed_both : Reads (Parted 47 (IsNum 255)) (parted_read 47 (num 255))
-slashed_both = parted_both 47 (num_both 255) num_lacks
+slashed_both = parted_both 47 (candidate_num_both 255) num_lacks
 
 -- two or more numbers, by the first of them
 abbrev IsFirstNumber : List ℕ → ℕ → Type 0
@@ -25,7 +25,7 @@ first_both : Reads IsFirstNumber first_number_read
 first_both = record {
   sound = λ text first e.
       let a = bind_some (two_read 47 (num 255) (parted_read 47 (num 255)) text) (λ numbers. Some numbers.0) first e in
-      rw (← some_is a.0.0 first a.2) (listed text a.0.0 a.0.1 ((two_both 47 (num_both 255) slashed_both).sound text a.0 a.1));
+      rw (← some_is a.0.0 first a.2) (listed text a.0.0 a.0.1 ((two_both 47 (candidate_num_both 255) slashed_both).sound text a.0 a.1));
   complete = λ text first h.
       ap first_number_read h.2.2 ∙ rw (
         cut_at 47 h.2.0 h.2.1 (num_lacks h.2.0 first h.2.3),

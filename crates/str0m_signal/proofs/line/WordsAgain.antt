@@ -1,7 +1,7 @@
 -- Words, names and bytes are printed as they were read.
 use Rattle.str0m_signal.proofs.Common.{◌≡◌, ◌≤◌, ◌<◌, ◌/◌, ◌%◌, ℕ, true, List, [], ◌∷◌, ◌++◌, refl, sym, subst, arith, lit≤, inl, inr}
 use Rattle.str0m_signal.proofs.Common.{codes, digit_value, AllByRecursion, flat_map, join_by, append-nil, Parted, Lacks, IsRest}
-use Rattle.str0m_signal.proofs.Common.{IsLongestBeginning, Lacks-append, digit_glyph, hex_pair, pairs_text, glyph_value}
+use Rattle.str0m_signal.proofs.Common.{IsLongestBeginning, Lacks-append, digit_glyph, hex_pair, hex_pairs_text, fingerprint_hex_glyph_value}
 use Rattle.str0m_signal.proofs.form.FmtpPrinted.{behind_lacks}
 use Rattle.str0m_signal.proofs.form.FormPiecesAgain.{Again, text_again, two_again, parted_again}
 use Rattle.str0m_signal.proofs.line.WordsCharacterStarts.{StartsWithin, front_starts, behind_starts, kept_some}
@@ -40,7 +40,7 @@ pair_small : (text : List ℕ) (byte : ℕ) → IsHexPair text byte → (byte / 
 pair_small text byte (high, low, e, first, second, sum) = (omega arith, omega arith)
 
 hex_pair_again : Again IsHexPair hex_pair
-hex_pair_again = grind (arith, pair_small, glyph_value, glyph_lacks)
+hex_pair_again = grind (arith, pair_small, fingerprint_hex_glyph_value, glyph_lacks)
 
 abbrev pub fingerprint_pair : List ℕ × List ℕ → List ℕ
 fingerprint_pair hash = hash.0 ++ (32 ∷ join_by hex_pair (codes ":") hash.1)
@@ -48,7 +48,7 @@ fingerprint_pair hash = hash.0 ++ (32 ∷ join_by hex_pair (codes ":") hash.1)
 pub hash_again : Again (Two 32 IsText (Parted 58 IsHexPair)) fingerprint_pair
 hash_again = two_again 32 (lit≤ tt) text_again (parted_again hex_pair_again 58)
 
-pub pairs_are_joined : (bytes : List ℕ) → join_by hex_pair (codes ":") bytes ≡ pairs_text bytes
+pub pairs_are_joined : (bytes : List ℕ) → join_by hex_pair (codes ":") bytes ≡ hex_pairs_text bytes
 pairs_are_joined bytes = grind arith
 
 -- ---- groups

@@ -2,7 +2,8 @@
 use Rattle.str0m_signal.proofs.Common.{rules, ◌≡◌, ◌≢◌, ◌⊎◌, ◌<◌, ◌≤◌, ◌+◌, ℕ, List, [], ◌∷◌, ◌++◌, Option, Some, None, refl, sym, ap, ◌∙◌}
 use Rattle.str0m_signal.proofs.Common.{arith, inl, inr, codes, digit_value, lt-ltb, eq-eqb, ne_eqb, cases_eq, ◌>>=◌, cut, strip, lacks, num}
 use Rattle.str0m_signal.proofs.Common.{Parted, Lacks, IsRest, IsNum, beginning_is, beginning_only, bind_some, if_some, some_is, cut_none}
-use Rattle.str0m_signal.proofs.Common.{cut_none_lacks, cut_at, cut_found, strip_found, lacks_true, lacks_from, number_lacks, num_both}
+use Rattle.str0m_signal.proofs.Common.{cut_none_lacks, cut_at, cut_found, strip_found, lacks_true, lacks_from, num_number_lacks}
+use Rattle.str0m_signal.proofs.Common.{candidate_num_both}
 use Rattle.str0m_signal.proofs.Common.{Reads, append-nil}
 use Rattle.str0m_signal.proofs.form.FormLaws.{text_both, two_both}
 use Rattle.str0m_signal.proofs.line.PartLaws.{parted_both}
@@ -51,7 +52,8 @@ pub hex_pairs_both : Reads (Parted 58 IsHexPair) (parted_read 58 hex_pair_read)
 hex_pairs_both = parted_both 58 hex_pair_both hex_pair_lacks
 
 pub sources_both : Reads (Parted 32 (IsNum 4294967295)) (parted_read 32 (num 4294967295))
-sources_both = parted_both 32 (num_both 4294967295) (λ text n h. number_lacks 32 text (omega arith) (λ e. absurd (omega arith)) h.numeral)
+sources_both = parted_both 32 (candidate_num_both 4294967295)
+    (λ text n h. num_number_lacks 32 text (omega arith) (λ e. absurd (omega arith)) h.numeral)
 
 -- ---- a space at the end
 

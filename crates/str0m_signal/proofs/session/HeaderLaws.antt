@@ -2,8 +2,9 @@
 use Rattle.std.proofs.Math.Seq.{drop-append_seam}
 use Rattle.str0m_signal.proofs.Common.{rules, ◌≡◌, ℕ, List, [], ◌∷◌, ◌++◌, length, Some, refl, sym, ap, subst, ◌∙◌, arith, inl, inr, codes}
 use Rattle.str0m_signal.proofs.Common.{ltb-true, bytes_eq-Decides, some_pair_parts, Lacks, ◌>>=◌, cut, strip, when, is_rest, cut_at}
-use Rattle.str0m_signal.proofs.Common.{cut_found, strip_found, when_some, when_true, bind_some, some_is, AllByRecursion, drop, digits_lack}
-use Rattle.str0m_signal.proofs.Common.{rest_true, reads_either, Reads}
+use Rattle.str0m_signal.proofs.Common.{cut_found, strip_found, num_when_some, num_when_true, bind_some, some_is, AllByRecursion, drop}
+use Rattle.str0m_signal.proofs.Common.{num_digits_lack}
+use Rattle.str0m_signal.proofs.Common.{num_rest_true, reads_either, Reads}
 use Rattle.str0m_signal.proofs.form.FormLaws.{digits_both}
 use Rattle.str0m_signal.proofs.line.LinesLaws.{line_found, line_given}
 use Rattle.str0m_signal.proofs.session.SectionLaws.{field_both}
@@ -14,7 +15,7 @@ use Rattle.str0m_signal.specs.session.HeaderReading.{exact_read, origin_read, on
 use Rattle.str0m_signal.specs.session.Section.{IsField}
 
 pub exact_both : (word : List ℕ) → Reads (IsExactly word) (exact_read word)
-exact_both word = grind (arith, when_some, bytes_eq-Decides, when_true)
+exact_both word = grind (arith, num_when_some, bytes_eq-Decides, num_when_true)
 
 -- at most 64 bits
 origin_digits : Reads IsDigits (digits_read 18446744073709551615)
@@ -40,8 +41,8 @@ origin_both = record { sound = found; complete = given }
         >>= λ more. Some id) id w.2 in
         let v = bind_some (digits_read 18446744073709551615 d.0.0) (λ id. when (is_rest d.0.1) d.0.1 >>= λ more. Some id) id d.2 in
         let m = bind_some (when (is_rest d.0.1) d.0.1) (λ more. Some v.0) id v.2 in
-        let word = when_some (is_rest n.0.0) n.0.0 w.0 w.1 in
-        let more = when_some (is_rest d.0.1) d.0.1 m.0 m.1 in
+        let word = num_when_some (is_rest n.0.0) n.0.0 w.0 w.1 in
+        let more = num_when_some (is_rest d.0.1) d.0.1 m.0 m.1 in
         let name = cut_found 32 a.0 n.0.0 n.0.1 n.1 in
         let number = cut_found 32 n.0.1 d.0.0 d.0.1 d.1 in
         record {
@@ -58,13 +59,13 @@ origin_both = record { sound = found; complete = given }
     given : (content : List ℕ) (id : ℕ) → IsOrigin content id → origin_read content ≡ Some id
     given content id h =
         let behind = h.number ++ (32 ∷ h.more) in
-        let lacks : Lacks 32 h.number = digits_lack 32 h.number (omega arith) h.number_is.numeral.1 in
+        let lacks : Lacks 32 h.number = num_digits_lack 32 h.number (omega arith) h.number_is.numeral.1 in
         ap origin_read h.joined ∙ rw (
           cut_at 32 h.name behind h.name_is.1,
-          rest_true h.name h.name_is.0,
+          num_rest_true h.name h.name_is.0,
           cut_at 32 h.number h.more lacks,
           origin_digits.complete h.number id h.number_is,
-          rest_true h.more h.more_is,
+          num_rest_true h.more h.more_is,
         ) refl
 
 one_behind : (letter : List ℕ) → length letter ≡ 2 → (content text : List ℕ) → IsField letter content text → text ≡ drop 2 content

@@ -5,8 +5,10 @@ use Rattle.str0m_sdp.specs.declared.attribute.media_type.MediaType.TheVariants.{
 use Rattle.str0m_signal.proofs.Common.{rules, ◌≡◌, ℕ, Bool, false, cond, List, [], ◌∷◌, ◌++◌, length, Option, Some, None, refl, sym, ap}
 use Rattle.str0m_signal.proofs.Common.{subst, ◌∙◌, arith, codes, is_some, bytes_eq, ltb-true, both_ways, append-nil, Parted}
 use Rattle.str0m_signal.proofs.Common.{bytes_eq-Decides, Bandwidth, AUDIO, VIDEO, MediaType, Proto, IsRest, IsNum, FirstFit, ◌>>=◌, cut}
-use Rattle.str0m_signal.proofs.Common.{strip, when, is_rest, cut_at, cut_found, strip_at, strip_found, when_some, Sound, bind_some, some_is}
-use Rattle.str0m_signal.proofs.Common.{sound_or, reads_first, number_lacks, rest_true, num_both, Reads, false_from_ne_true, APPLICATION}
+use Rattle.str0m_signal.proofs.Common.{strip, when, is_rest, cut_at, cut_found, strip_at, strip_found, num_when_some, Sound, bind_some}
+use Rattle.str0m_signal.proofs.Common.{some_is}
+use Rattle.str0m_signal.proofs.Common.{sound_or, reads_first, num_number_lacks, num_rest_true, candidate_num_both, Reads}
+use Rattle.str0m_signal.proofs.Common.{false_from_ne_true, APPLICATION}
 use Rattle.str0m_signal.proofs.line.PartLaws.{parted_both}
 use Rattle.str0m_signal.specs.session.Section.{IsField, IsBandwidth, Begins, IsKind, IsProto, NoTypes, Head, IsHead}
 use Rattle.str0m_signal.specs.session.SectionReading.{field_read, bandwidth_read, unknown_read, media_kind_read, proto_read, numbers_read}
@@ -14,7 +16,7 @@ use Rattle.str0m_signal.specs.session.SectionReading.{no_types_read, types_read,
 use Rattle.str0m_values.proofs.WordLaws.{word_sound}
 
 pub field_both : (letter : List ℕ) → Reads (IsField letter) (field_read letter)
-field_both letter = grind (arith, bind_some, when_some, ltb-true, strip_found, strip_at, rest_true)
+field_both letter = grind (arith, bind_some, num_when_some, ltb-true, strip_found, strip_at, num_rest_true)
 
 pub bandwidth_both : Reads IsBandwidth bandwidth_read
 bandwidth_both = record { sound = found; complete = given }
@@ -28,8 +30,8 @@ bandwidth_both = record { sound = found; complete = given }
         let t = bind_some (when (is_rest b.0.0) b.0.0) (λ typ. when (is_rest b.0.1) b.0.1 >>= λ val. Some (record { typ = typ; val = val }))
         bw b.2 in
         let v = bind_some (when (is_rest b.0.1) b.0.1) (λ val. Some (record { typ = t.0; val = val })) bw t.2 in
-        let typ = when_some (is_rest b.0.0) b.0.0 t.0 t.1 in
-        let val = when_some (is_rest b.0.1) b.0.1 v.0 v.1 in
+        let typ = num_when_some (is_rest b.0.0) b.0.0 t.0 t.1 in
+        let val = num_when_some (is_rest b.0.1) b.0.1 v.0 v.1 in
         let fields = cut_found 58 a.0 b.0.0 b.0.1 b.1 in
         let made : Bandwidth = record { typ = b.0.0; val = b.0.1 } in
         let same : made ≡ bw = ap (λ (t : List ℕ). let m : Bandwidth = record { typ = t; val = b.0.1 } in m) typ.1
@@ -42,7 +44,8 @@ bandwidth_both = record { sound = found; complete = given }
         )
 
     given : (content : List ℕ) (bw : Bandwidth) → IsBandwidth content bw → bandwidth_read content ≡ Some bw
-    given content bw h = ap bandwidth_read h.0 ∙ rw (cut_at 58 bw.typ bw.val h.1.1, rest_true bw.typ h.1.0, rest_true bw.val h.2) refl
+    given content bw h = ap bandwidth_read h.0 ∙ rw (cut_at 58 bw.typ bw.val h.1.1, num_rest_true bw.typ h.1.0, num_rest_true bw.val h.2)
+        refl
 
 -- ---- kinds and protocols
 
@@ -68,7 +71,7 @@ unknown_sound = record {
       let v = cond_none (is_some (strip VIDEO.now text))
       (cond (is_some (strip APPLICATION.now text)) None (when (is_rest text) (Unknown text))) kind a.1 in
       let p = cond_none (is_some (strip APPLICATION.now text)) (when (is_rest text) (Unknown text)) kind v.1 in
-      let w = when_some (is_rest text) (Unknown text) kind p.1 in
+      let w = num_when_some (is_rest text) (Unknown text) kind p.1 in
       subst (IsKind text) w.1 (
         refl,
         ltb-true 0 (length text) w.0,
@@ -85,7 +88,7 @@ media_kind_complete : (text : List ℕ) (kind : MediaType) → IsKind text kind 
 media_kind_complete text Audio h = rw h refl
 media_kind_complete text Video h = rw h refl
 media_kind_complete text Application h = rw h refl
-media_kind_complete text (Unknown name) h = search (rules, word_not, begun_not, rest_true)
+media_kind_complete text (Unknown name) h = search (rules, word_not, begun_not, num_rest_true)
 
 kind_filled : (text : List ℕ) (kind : MediaType) → IsKind text kind → IsRest text
 kind_filled text kind h = grind arith
@@ -102,7 +105,8 @@ proto_filled text proto h = grind arith
 -- ---- types
 
 pub numbers_both : Reads (Parted 32 (IsNum 255)) numbers_read
-numbers_both = parted_both 32 (num_both 255) (λ text n h. number_lacks 32 text (omega arith) (λ e. absurd (omega arith)) h.numeral)
+numbers_both = parted_both 32 (candidate_num_both 255)
+    (λ text n h. num_number_lacks 32 text (omega arith) (λ e. absurd (omega arith)) h.numeral)
 
 no_types_both : Reads NoTypes no_types_read
 no_types_both = record {
@@ -143,7 +147,7 @@ head_found content head e =
     >>= λ pts. Some (record { typ = t.0; disabled = bytes_eq n.0 (codes "0"); proto = proto; pts = pts })) head n.2 in
     let y = bind_some (types_read r.0.1) (λ pts. Some (record { typ = t.0; disabled = bytes_eq n.0 (codes "0"); proto = o.0; pts = pts }))
     head o.2 in
-    let number = when_some (is_rest p.0.0) p.0.0 n.0 n.1 in
+    let number = num_when_some (is_rest p.0.0) p.0.0 n.0 n.1 in
     let kind = cut_found 32 a.0 k.0.0 k.0.1 k.1 in
     let port = cut_found 32 k.0.1 p.0.0 p.0.1 p.1 in
     let protocol = cut_found 32 p.0.1 r.0.0 r.0.1 r.1 in
@@ -177,7 +181,7 @@ head_given content head h =
       cut_at 32 h.port behind_port h.port_is.0.1,
       cut_at 32 h.protocol h.types h.protocol_is.0.1,
       media_kind_complete h.kind head.typ h.kind_is.1,
-      rest_true h.port h.port_is.0.0,
+      num_rest_true h.port h.port_is.0.0,
       proto_complete h.protocol head.proto h.protocol_is.1,
       types_both.complete h.types head.pts h.types_are,
     )

@@ -1,7 +1,7 @@
 //! What fields of several lines share.
 
 ghost use Rattle.std.specs.Prelude.{◌≡◌, IfOk, option_map};
-ghost use Rattle.str0m_signal.specs.Prelude.{beginning_of, code, num, parts};
+ghost use Rattle.str0m_signal.specs.Prelude.{beginning_of, separator_code, num, parts};
 ghost use Rattle.str0m_signal.specs.form.FormReading.{behind, text_read, two_read};
 ghost use Rattle.str0m_signal.specs.form.FormTable.{two_texts};
 ghost use Rattle.str0m_signal.specs.form.MediaAttributeReading.{role_read};
@@ -42,7 +42,7 @@ pub(crate) fn kept(alloc: Global, text: &str, label: &str) -> Result<Option<Text
 
 /// The texts before and after the first `at`, where neither is nothing.
 pub(crate) fn two_texts(text: &str, at: Separator) -> Option<(&str, &str)>
-    ensures { parts result ≡ two_read (code at) text_read text_read text.now }
+    ensures { parts result ≡ two_read (separator_code at) text_read text_read text.now }
 {
     let (first, second) = cut(text, at)?;
     if first.is_empty() {
@@ -82,7 +82,7 @@ pub(crate) fn num_u64(text: &str) -> Option<u64>
 }
 
 /// A name, as far as it is kept.
-#[tactic(auto, using(str0m_values::proofs::IdentifierBeginnings::beginning_only))]
+#[tactic(auto, using(str0m_values::proofs::ShortTextBeginnings::beginning_only))]
 pub(crate) fn short(name: &str) -> Mid
     ensures { result ≡ beginning_of 16 name.now }
 {

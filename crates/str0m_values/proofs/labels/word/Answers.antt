@@ -1,5 +1,5 @@
 use Rattle.str0m_values.proofs.CutLaws.{before_ends}
-use Rattle.str0m_values.proofs.LabelLaws.{word_before}
+use Rattle.str0m_values.proofs.LabelLaws.{label_word_before}
 use Rattle.str0m_values.proofs.labels.word.Goals as goal
 
 pub range_from-requires : goal.range_from-requires
@@ -8,4 +8,4 @@ range_from-requires c = λ _.
 
 pub returns : goal.returns
 returns c = rw (c.range_from.ensures.value, c.before-word.ensures)
-    (word_before c.args.text.now (rw (← c.before-word.ensures) c.if-is_empty.ensures))
+    (label_word_before c.args.text.now (rw (← c.before-word.ensures) c.if-is_empty.ensures))

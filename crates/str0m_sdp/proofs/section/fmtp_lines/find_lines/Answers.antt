@@ -11,7 +11,7 @@ loop-number-preserved c =
     let lt = c.loop-number-test.true in
     let is = c.loop-number-item.is in
     elim c.if-is_of.branch [
-      | goal.then-is_of+in_ok-push w ↦
+      | goal.then-is_line_of_type+in_ok-push w ↦
           rw (w.found-is, w.in_ok-push.ensures.items)
           (found_own lines found i c.args.pt item lt is (sym c.is_of.ensures ∙ w.if-is_of.true) c.loop-number.invariant)
       | goal.else-is_of w ↦

@@ -7,21 +7,28 @@ use Rattle.str0m_values.proofs.Common.{append-nil}
 use Rattle.str0m_values.specs.ShortText.{IsLongestBeginning, beginning_of}
 
 -- where a character ends at i or before it, the last such place
-record IsLastSeam (text : List ℕ) (i at : ℕ) : Type 0 where
+record IsLastCharacterSeam (text : List ℕ) (i at : ℕ) : Type 0 where
   bound : at ≤ i
   seam : (at ≡ 0) ⊎ IsCharBoundary text at
   last : (j : ℕ) → at < j → j ≤ i → IsCharBoundary text j → ⊥
 
-starts : (b : ℕ) → is_char_start b ≡ true → 128 ≤ b → 192 ≤ b
-starts b e high = grind (arith, ltb-true, leb-true)
+character_starts : (b : ℕ) → is_char_start b ≡ true → 128 ≤ b → 192 ≤ b
+character_starts b e high = grind (arith, ltb-true, leb-true)
 
-no_start_inside : (b : ℕ) → is_char_start b ≡ false → (128 ≤ b → 192 ≤ b) → ⊥
-no_start_inside b e h = grind arith
+no_character_starts_inside : (b : ℕ) → is_char_start b ≡ false → (128 ≤ b → 192 ≤ b) → ⊥
+no_character_starts_inside b e h = grind arith
 
-floor_is : (text : List ℕ) (i : ℕ) → i < length text → IsLastSeam text i (floor_char_boundary text i)
+character_floor_is : (text : List ℕ) (i : ℕ) → i < length text → IsLastCharacterSeam text i (floor_char_boundary text i)
 unfolding floor_char_boundary
-floor_is text zero within = record { bound = omega arith; seam = inl refl; last = λ j above below is. absurd (omega arith) }
-floor_is text (suc i) within = grind (arith, cases_Bool, starts, floor_is text i, cases_lt, no_start_inside)
+character_floor_is text zero within = record { bound = omega arith; seam = inl refl; last = λ j above below is. absurd (omega arith) }
+character_floor_is text (suc i) within = grind (
+  arith,
+  cases_Bool,
+  character_starts,
+  character_floor_is text i,
+  cases_lt,
+  no_character_starts_inside,
+)
 
 -- the function gives a longest beginning
 pub beginning_is : (room : ℕ) (text : List ℕ) → IsLongestBeginning room text (beginning_of room text)
@@ -38,7 +45,7 @@ beginning_is room text =
           })
       | inr long ↦
           let within : room < length text = leb-false (length text) room long in
-          let at = floor_is text room within in
+          let at = character_floor_is text room within in
           let len : length (take (floor_char_boundary text room) text) ≡ floor_char_boundary text room =
           length-take-le (floor_char_boundary text room) text (omega (arith, at.bound)) in
           rw long (record {
@@ -49,15 +56,16 @@ beginning_is room text =
           })
     ]
 
-no_longer : (room : ℕ) (text a b : List ℕ) → IsLongestBeginning room text a → IsLongestBeginning room text b → length a < length b → ⊥
-no_longer room text a b h k below = grind arith
+beginning_no_longer : (room : ℕ) (text a b : List ℕ) → IsLongestBeginning room text a → IsLongestBeginning room text b → length a < length b
+    → ⊥
+beginning_no_longer room text a b h k below = grind arith
 
 one_beginning : (room : ℕ) (text a b : List ℕ) → IsLongestBeginning room text a → IsLongestBeginning room text b → a ≡ b
 one_beginning room text a b h k =
     let same : length a ≡ length b = elim (cases_lt (length a) (length b)) [
-      | inl below ↦ absurd (no_longer room text a b h k below)
+      | inl below ↦ absurd (beginning_no_longer room text a b h k below)
       | inr rest ↦ elim (cases_lt (length b) (length a)) [
-        | inl above ↦ absurd (no_longer room text b a k h above)
+        | inl above ↦ absurd (beginning_no_longer room text b a k h above)
         | inr more ↦ omega arith
       ]
     ] in
@@ -73,9 +81,9 @@ beginning_only room text kept h = one_beginning room text kept (beginning_of roo
 -- ---- a text that has room is its own longest beginning
 
 -- a beginning that isn't the whole of a text is shorter
-shorter : (text kept rest : List ℕ) → text ≡ kept ++ rest → (length kept < length text → ⊥) → kept ≡ text
-shorter text kept [] e whole = sym (e ∙ append-nil kept)
-shorter text kept (x ∷ xs) e whole = grind (arith, length-append)
+shorter_beginning : (text kept rest : List ℕ) → text ≡ kept ++ rest → (length kept < length text → ⊥) → kept ≡ text
+shorter_beginning text kept [] e whole = sym (e ∙ append-nil kept)
+shorter_beginning text kept (x ∷ xs) e whole = grind (arith, length-append)
 
-pub whole_where_room : (room : ℕ) (text kept : List ℕ) → IsLongestBeginning room text kept → length text ≤ room → kept ≡ text
-whole_where_room room text kept h fits = grind (arith, shorter)
+pub beginning_whole_where_room : (room : ℕ) (text kept : List ℕ) → IsLongestBeginning room text kept → length text ≤ room → kept ≡ text
+beginning_whole_where_room room text kept h fits = grind (arith, shorter_beginning)

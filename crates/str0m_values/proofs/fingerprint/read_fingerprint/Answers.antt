@@ -1,7 +1,7 @@
 use Rattle.str0m_values.proofs.Common.{sym}
 use Rattle.str0m_values.proofs.CutLaws.{cut_none_lacks, cut_found}
-use Rattle.str0m_values.proofs.FingerprintLaws.{bytes_refused, was_err, named_space}
-use Rattle.str0m_values.proofs.fingerprint.read.Goals as goal
+use Rattle.str0m_values.proofs.FingerprintLaws.{fingerprint_hash_bytes_refused, fingerprint_result_was_err, fingerprint_hash_name_space}
+use Rattle.str0m_values.proofs.fingerprint.read_fingerprint.Goals as goal
 use Rattle.str0m_values.specs.declared.fingerprint.FingerprintError.TheVariants.{Memory}
 
 pub returns-in_default : goal.returns-in_default
@@ -10,15 +10,15 @@ returns-in_default c = cut_none_lacks 32 c.args.text.now (sym c.in_default.ensur
 pub returns-in_err-bytes : goal.returns-in_err-bytes
 returns-in_err-bytes c =
     let found = cut_found 32 c.args.text.now c.in-Some.name.now c.in-Some.rest.now (sym c.in-Some.ensures) in
-    rw (was_err c.from_residual.result _ c.from_residual.ensures)
-    (bytes_refused c.args.text.now c.in-Some.name.now c.in-Some.rest.now c.in_err-bytes.field-0.0
+    rw (fingerprint_result_was_err c.from_residual.result _ c.from_residual.ensures)
+    (fingerprint_hash_bytes_refused c.args.text.now c.in-Some.name.now c.in-Some.rest.now c.in_err-bytes.field-0.0
     (record { whole = found.0; word = found.1 }) c.in_err-bytes.ensures)
 
 pub returns-in_err-hash_func : goal.returns-in_err-hash_func
 returns-in_err-hash_func c =
     let found = cut_found 32 c.args.text.now c.in-Some.name.now c.in-Some.rest.now (sym c.in-Some.ensures) in
-    rw (was_err c.from_residual-in_err-hash_func.result Memory c.from_residual-in_err-hash_func.ensures)
-    (named_space c.args.text.now c.in-Some.name.now c.in-Some.rest.now (record { whole = found.0; word = found.1 }))
+    rw (fingerprint_result_was_err c.from_residual-in_err-hash_func.result Memory c.from_residual-in_err-hash_func.ensures)
+    (fingerprint_hash_name_space c.args.text.now c.in-Some.name.now c.in-Some.rest.now (record { whole = found.0; word = found.1 }))
 
 pub returns : goal.returns
 returns c =

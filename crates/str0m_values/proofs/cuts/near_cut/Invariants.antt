@@ -1,4 +1,4 @@
-use Rattle.str0m_values.proofs.cuts.near.Given as goal
+use Rattle.str0m_values.proofs.cuts.near_cut.Given as goal
 use Rattle.str0m_values.specs.Cuts.{LacksAt}
 
 abbrev pub invariant-loop-i : goal.invariant-loop-i
