@@ -1,8 +1,9 @@
 -- The names that proofs cite from elsewhere, passed on from one place. Declares nothing.
 pub use Rattle.exchange.specs.Prelude.{Alike, AllDistinct, Answers, AnswersDirection, AreDistinct, AtMostOne, Candidate, Consistent}
-pub use Rattle.exchange.specs.Prelude.{Direction, Fingerprint, FirstLine, HasBoundedRows, HasVideoFeedback, Holds, IceCreds}
+pub use Rattle.exchange.specs.Prelude.{Direction, Fingerprint, FirstLine, HasBoundedRows, HasPlainVideoFeedback, Holds, IceCreds}
 pub use Rattle.exchange.specs.Prelude.{IsCandidateLine, IsFromLine, IsPlain, IsPreferred, IsReading, Line, Lines, LockedStay}
-pub use Rattle.exchange.specs.Prelude.{MediaAttribute, MediaKind, MediaLine, MediaType, Negotiated, Outcome, PayloadParams, Proto, Reached}
+pub use Rattle.exchange.specs.Prelude.{MediaAttribute, MediaKind, MediaLine, MediaType, Negotiated, Outcome, PayloadParams, Proto}
+pub use Rattle.exchange.specs.Prelude.{RunReached}
 pub use Rattle.exchange.specs.Prelude.{Reading, Refuses, Sdp, Session, SessionAttribute, Setup, SimulcastLayer, bundled_of, creds}
 pub use Rattle.exchange.specs.Prelude.{direction_attribute, distinct, first, first_filled, has, is_held, is_listed, is_media, is_mid}
 pub use Rattle.exchange.specs.Prelude.{is_of_type, kind_rows, locked_types, made, maps, media_pwd, media_ufrag, mid_of, receives, row_attrs}
@@ -33,8 +34,9 @@ pub use Rattle.std.proofs.lemmas.Slice.Zip.{AllZip-long, AllZip-right}
 pub use Rattle.std.specs.BTreeSet.{Updates, contains}
 pub use Rattle.std.specs.Cmp.Lexicographic.{pointwise, slice_cmp}
 pub use Rattle.std.specs.List.{AllZip, cons_option, list_any}
-pub use Rattle.str0m_formats.proofs.{bytes_itself, slice_get_item, one_if, times-append, times-cons, times-none, stays-same, stays-then}
-pub use Rattle.str0m_formats.proofs.{at_place, row_before}
+pub use Rattle.str0m_formats.proofs.{merged_bytes_itself, claimed_slice_get_item, one_time_if, times-append, times-cons, times-none}
+pub use Rattle.str0m_formats.proofs.{stays-same, stays-then}
+pub use Rattle.str0m_formats.proofs.{pass_at_place, row_before}
 pub use Rattle.str0m_formats.specs.declared.format.format_param.FormatParam.{FormatParam}
 pub use Rattle.str0m_formats.specs.declared.round.rounds.Round.{Round}
 pub use Rattle.str0m_formats.specs.declared.row.codec_config.CodecConfig.{CodecConfig}

@@ -2,10 +2,10 @@
 pub use Rattle.str0m_formats.specs.declared.row.payload_params.PayloadParams.{PayloadParams}
 pub use Rattle.str0m_formats.specs.round.Claimed.{AllDistinct, has}
 pub use Rattle.str0m_formats.specs.round.RoundsPromises.{LockedStay, RunPromises}
-pub use Rattle.str0m_formats.specs.round.RoundsRuns.{Outcome, Reached}
+pub use Rattle.str0m_formats.specs.round.RoundsRuns.{Outcome, RunReached}
 pub use Rattle.str0m_formats.specs.row.KindRows.{kind_rows}
 pub use Rattle.str0m_formats.specs.row.PayloadParams.{locked_types, types, types_of}
-pub use Rattle.str0m_formats.specs.row.PlainRow.{HasVideoFeedback, IsPlain}
+pub use Rattle.str0m_formats.specs.row.PlainRow.{HasPlainVideoFeedback, IsPlain}
 pub use Rattle.str0m_sdp.specs.Common.{distinct, first, last}
 pub use Rattle.str0m_sdp.specs.attribute.Attribute.{direction_attribute}
 pub use Rattle.str0m_sdp.specs.attribute.MediaType.{is_media}

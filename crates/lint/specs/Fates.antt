@@ -1,5 +1,5 @@
 -- What comes of rounds with the sections of a text.
-use Rattle.lint.specs.Prelude.{Codec, IsChoice, MediaLine, Outcome, PayloadParams, Ran, Reading, Sdp, is_media, points_with, receives, rows, same_codec, score, section_direction}
+use Rattle.lint.specs.Prelude.{Codec, IsChoice, MediaLine, Outcome, PayloadParams, Ran, Reading, Sdp, is_media, choice_points_with, receives, rows, same_codec, spec_score, section_direction}
 use Rattle.lint.specs.declared.code.Code.{Code}
 use Rattle.lint.specs.declared.code.Code.TheVariants.{Round}
 use Rattle.lint.specs.declared.code.Fate.{Fate}
@@ -13,7 +13,7 @@ use Rattle.str0m_sdp.specs.section.Companions.{is_type}
 
 -- some row of these fits it
 abbrev pub fits_some : List PayloadParams → PayloadParams → Bool
-fits_some ours theirs = list_any (λ row. is_some (score row.spec theirs.spec)) ours
+fits_some ours theirs = list_any (λ row. is_some (spec_score row.spec theirs.spec)) ours
 
 abbrev pub has_codec : List PayloadParams → Codec → Bool
 has_codec ours codec = list_any (λ row. same_codec row.spec.codec codec) ours
@@ -24,7 +24,7 @@ has_type row pt = row.pt == pt || (is_type pt row.resend || is_type pt row.red)
 
 -- a locked row that doesn't fit has the type
 unfoldable pub blocks : PayloadParams → PayloadParams → Bool
-blocks theirs row = row.locked && (has_type row theirs.pt && not (is_some (score row.spec theirs.spec)))
+blocks theirs row = row.locked && (has_type row theirs.pt && not (is_some (spec_score row.spec theirs.spec)))
 
 -- the remote receives, and such a row has the type
 abbrev pub is_type_taken : Bool → List PayloadParams → PayloadParams → Bool
@@ -40,7 +40,7 @@ partner_type receives old new choice =
 
 pub record IsPartner (remote : List PayloadParams) (receives : Bool) (old new : PayloadParams) (partner : Option ℕ) : Type 0 where
   pub choice : Option PayloadParams
-  pub is_choice : IsChoice (points_with old) remote choice
+  pub is_choice : IsChoice (choice_points_with old) remote choice
   pub is : partner ≡ partner_type receives old new choice
 
 -- of each row before a round and after it, in order

@@ -1,5 +1,5 @@
 -- What definitions and clauses cite of the crates below, passed on from one place. Declares nothing.
-pub use Rattle.str0m_formats.specs.codec.Codec.{codec_text, content}
+pub use Rattle.str0m_formats.specs.codec.Codec.{codec_text, codec_content}
 pub use Rattle.str0m_formats.specs.codec.CodecSpec.{IsStatic, rtp_rate, static_spec}
 pub use Rattle.str0m_formats.specs.declared.codec.Codec.{Codec}
 pub use Rattle.str0m_formats.specs.declared.codec.codec_spec.CodecSpec.{CodecSpec}
@@ -7,13 +7,13 @@ pub use Rattle.str0m_formats.specs.declared.format.format_param.FormatParam.{For
 pub use Rattle.str0m_formats.specs.declared.format.format_params.FormatParams.{FormatParams}
 pub use Rattle.str0m_formats.specs.declared.row.payload_params.PayloadParams.{PayloadParams}
 pub use Rattle.str0m_formats.specs.format.FormatLine.{format_of_fmtp, line_values}
-pub use Rattle.str0m_formats.specs.format.FormatParam.{entry, kind, param_text}
-pub use Rattle.str0m_formats.specs.format.FormatParams.{empty, params_of}
+pub use Rattle.str0m_formats.specs.format.FormatParam.{param_entry, key_kind, param_text}
+pub use Rattle.str0m_formats.specs.format.FormatParams.{empty_format, params_of}
 pub use Rattle.str0m_formats.specs.round.Choices.{has_events}
 pub use Rattle.str0m_formats.specs.round.Claimed.{has}
 pub use Rattle.str0m_formats.specs.row.KindRows.{has_audio}
 pub use Rattle.str0m_formats.specs.row.PayloadParams.{has_video, new_row, types, types_of}
-pub use Rattle.str0m_formats.specs.row.PlainRowBounds.{AreModes, FitsType, IsBounded, IsByte, IsDistance}
+pub use Rattle.str0m_formats.specs.row.PlainRowBounds.{ArePlainModes, FitsType, IsBounded, IsByte, IsPlainDistance}
 pub use Rattle.str0m_values.specs.Candidate.{IsSocketInRange, candidate_text}
 pub use Rattle.str0m_values.specs.Cuts.{before, cut, when, ◌<|>◌, ◌>>=◌}
 pub use Rattle.str0m_values.specs.Fingerprint.{fingerprint_text, hash_preference_of}

@@ -25,19 +25,20 @@ pub use Rattle.std.specs.Prelude.{codes, is_some, IsTrue, ◌↔◌, IsErrAnd, c
 pub use Rattle.std.specs.Prelude.{unwrap_or}
 pub use Rattle.std.specs.Str.{bytes_eq, IsCharBoundary, IsUtf8, encode_utf8_all, chars}
 pub use Rattle.std.specs.Str.Parse.{digits_value, IsNumeral, AllDigits}
-pub use Rattle.str0m_formats.proofs.{read_as, read_only, printed_pairs, linked, parsed_printed, decimal_reads, IsSolidPair, joined_pair}
-pub use Rattle.str0m_formats.proofs.{decimal_solid, Pairs, pairs_read_is, pairs_read_only}
-pub use Rattle.str0m_formats.specs.codec.Codec.{printed_and_read, content, other, codec_text}
+pub use Rattle.str0m_formats.proofs.{codec_read_as, codec_read_only, line_printed_pairs, line_linked_texts, printed_param_parsed}
+pub use Rattle.str0m_formats.proofs.{param_decimal_reads, IsSolidPair, shown_joined_pair}
+pub use Rattle.str0m_formats.proofs.{shown_decimal_solid, KeyPairs, pairs_read_is, pairs_read_only}
+pub use Rattle.str0m_formats.specs.codec.Codec.{codec_printed_and_read, codec_content, other, codec_text}
 pub use Rattle.str0m_formats.specs.declared.codec.Codec.{Codec}
 pub use Rattle.str0m_formats.specs.declared.format.format_param.FormatParam.TheVariants.{Apt, BarePtList, BareRange, Red, TelephoneEvents}
 pub use Rattle.str0m_formats.specs.declared.format.format_param.FormatParam.TheVariants.{Unknown}
 pub use Rattle.str0m_formats.specs.declared.round.rounds.Round.{Round}
-pub use Rattle.str0m_formats.specs.format.FormatParam.{param_text, IsParsed, AreParsed}
-pub use Rattle.str0m_formats.specs.format.Pairs.{has_mark, AreRead, AreJoined, merged}
+pub use Rattle.str0m_formats.specs.format.FormatParam.{param_text, IsParsedParam, AreParsedParams}
+pub use Rattle.str0m_formats.specs.format.Pairs.{has_triple_mark, ArePairsRead, AreJoinedPairs, merged}
 pub use Rattle.str0m_formats.specs.format.PairsReading.{params_read}
 pub use Rattle.str0m_formats.specs.round.Claimed.{times}
-pub use Rattle.str0m_formats.specs.round.Narrowing.{telephone_max}
-pub use Rattle.str0m_formats.specs.row.PayloadParams.{types_of, AllSmall}
+pub use Rattle.str0m_formats.specs.round.Narrowing.{narrowed_telephone_max}
+pub use Rattle.str0m_formats.specs.row.PayloadParams.{types_of, AllTypesSmall}
 pub use Rattle.str0m_formats.specs.row.PlainRowBounds.{HoldsRowNumbers, IsBounded, IsByte}
 pub use Rattle.str0m_sdp.proofs.{values_printed, describes_read_back, pairs_line_read, values_read, format_line_printed, reads, fmtp_lines}
 pub use Rattle.str0m_sdp.proofs.{red_reads}
@@ -62,7 +63,8 @@ pub use Rattle.str0m_sdp.specs.section.RowAttributes.{row_attrs, feedback_line, 
 pub use Rattle.str0m_sdp.specs.section.RowAttributes.{rtx_lines, rtx_attrs, red_lines, red_attrs}
 pub use Rattle.str0m_sdp.specs.section.SectionRows.{KeepsToLine, IsInBounds, KeepsToLines}
 pub use Rattle.str0m_sdp.specs.session.Session.{origin_line, session_text}
-pub use Rattle.str0m_signal.specs.Prelude.{codec_of, IsReadAs, FormatParam, PayloadParams, pair_texts, IsEventRange, AllDistinct, types}
+pub use Rattle.str0m_signal.specs.Prelude.{codec_of, IsReadAsCodec, FormatParam, PayloadParams, pair_texts, IsEventRange, AllDistinct}
+pub use Rattle.str0m_signal.specs.Prelude.{types}
 pub use Rattle.str0m_signal.specs.Prelude.{IsPlain, media_attribute_text, session_attribute_text, media_words, session_words}
 pub use Rattle.str0m_signal.specs.Prelude.{bandwidth_text, is_media, setup_text, MediaAttribute, SessionAttribute, Bandwidth, MediaType}
 pub use Rattle.str0m_signal.specs.Prelude.{Proto, RestrictionId, SimulcastLayer, MediaLine, Sdp, line_end, Consistent, is_mid, is_setup}

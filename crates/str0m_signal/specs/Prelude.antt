@@ -1,5 +1,5 @@
 -- What definitions and clauses cite of the crates below, passed on from one place. Declares nothing.
-pub use Rattle.str0m_formats.specs.codec.Codec.{IsReadAs, codec_of}
+pub use Rattle.str0m_formats.specs.codec.Codec.{IsReadAsCodec, codec_of}
 pub use Rattle.str0m_formats.specs.declared.format.format_param.FormatParam.{FormatParam}
 pub use Rattle.str0m_formats.specs.declared.row.payload_params.PayloadParams.{PayloadParams}
 pub use Rattle.str0m_formats.specs.format.FormatParam.{IsEventRange, pair_texts}

@@ -6,7 +6,7 @@ use Rattle.exchange.proofs.Common.{Audio, Video, Unknown, Proto, Srtp, Sctp, Med
 use Rattle.exchange.proofs.answer.RowsListLaws.{found, is_some_find}
 use Rattle.exchange.specs.answer.RejectedSection.{direction_over, first_type, line_that, listed_alone, rejecting}
 use Rattle.str0m_formats.specs.declared.codec.Codec.TheVariants.{PCMU}
-use Rattle.str0m_formats.specs.format.FormatParams.{empty}
+use Rattle.str0m_formats.specs.format.FormatParams.{empty_format}
 use Rattle.str0m_sdp.specs.declared.attribute.MediaAttribute.TheVariants as media
 use Rattle.str0m_sdp.specs.section.Consistency.{AgreesOnApt, IsMapped, NeedsNoMapping, is_direction, is_setup}
 
@@ -135,7 +135,7 @@ module _ (offered : MediaLine) (is : Consistent offered) where
 
   needs_no_mapping : (pts : List ℕ) → offered.pts ≡ pts → is_some (find (maps (first_type pts)) offered.attrs) ≡ false
       → NeedsNoMapping (first_type pts)
-  needs_no_mapping [] e none = (record { codec = PCMU; clock_rate = 8000; channels = None; format = empty }, (refl, refl, refl))
+  needs_no_mapping [] e none = (record { codec = PCMU; clock_rate = 8000; channels = None; format = empty_format }, (refl, refl, refl))
   needs_no_mapping (t ∷ ts) e none = go (All-head (IsMapped offered.attrs) t ts (subst (All (IsMapped offered.attrs)) e is.mapped)) where
     go : IsMapped offered.attrs t → NeedsNoMapping t
     go (inl one) = absurd (false≢true (sym none ∙ there_is (maps t) offered.attrs one))

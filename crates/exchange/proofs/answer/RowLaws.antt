@@ -7,7 +7,7 @@ use Rattle.exchange.proofs.answer.RowsListLaws.{All-distinct, All-filter_map, co
 use Rattle.exchange.proofs.answer.RowsListLaws.{marks, times-filter}
 use Rattle.exchange.specs.answer.Rows.{IsAgreed, Belongs, SaysWhatIsOffered, agreed_type, answer_to, answer_under, answered_rows}
 use Rattle.exchange.specs.answer.Rows.{as_answered, is_answered, is_carried_in, matches, own_types}
-use Rattle.str0m_formats.specs.round.MatchScore.{score}
+use Rattle.str0m_formats.specs.round.MatchScore.{spec_score}
 
 -- ---- one row
 
@@ -74,7 +74,7 @@ matched own section theirs ours known offered h =
         carried = carried.0;
         same_type = sym same;
         listed = subst (Contains section.pts) (sym same) listed;
-        match = there (score ours.spec theirs.spec) carried.1;
+        match = there (spec_score ours.spec theirs.spec) carried.1;
         said = refl;
       };
       under = under_own_type section theirs ours ∙ same;
@@ -168,7 +168,7 @@ has_answer own section ours b = ap (λ (o : Option PayloadParams). is_some (o >>
 
       passes : matches section.typ b.theirs ours ≡ true
       passes = and_both b.locked (and_both (eq-eqb _ _ (sym (eqb-true _ _ is_under)))
-          (and_both b.carried (some (score ours.spec b.theirs.spec) b.match)))
+          (and_both b.carried (some (spec_score ours.spec b.theirs.spec) b.match)))
 
 pub all_stand : (own : List PayloadParams) (section : MediaLine) (answer : List PayloadParams) → answer ≡ answered_rows own section
     → (ours : PayloadParams) → Belongs own section ours → Contains (own_types answer) ours.pt

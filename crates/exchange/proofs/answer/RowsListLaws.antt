@@ -3,7 +3,7 @@ use Rattle.exchange.proofs.Common.{arith, ◌≡◌, ◌<◌, ◌+◌, ◌≤◌
 use Rattle.exchange.proofs.Common.{take, get_or, Option, Some, None, All, IfSome, filter, filter_map, find, map, refl, sym, ap, ◌∙◌}
 use Rattle.exchange.proofs.Common.{eqb-true, eq-eqb, false≢true, take_at_read, All-cons, All-nil, All-head, All-tail, All-filter}
 use Rattle.exchange.proofs.Common.{Contains-append_right, list_any_at, list_any, Contains, cons_option, is_some, times-cons, times-none}
-use Rattle.exchange.proofs.Common.{one_if, times, has, distinct, one_mapped}
+use Rattle.exchange.proofs.Common.{one_time_if, times, has, distinct, one_mapped}
 use Rattle.std.proofs.lemmas.Bool.Decides.{nat_tests}
 use Rattle.str0m_sdp.proofs.{distinct_push}
 
@@ -57,13 +57,13 @@ distinct-once (x ∷ xs) t = go (x == t) refl (distinct-once xs t) where
       let none : times (filter (λ y. not (x == y)) (distinct ◌==◌ xs)) t ≡ 0 =
       times-none (filter (λ y. not (x == y)) (distinct ◌==◌ xs)) t
       (ap (has (filter (λ y. not (x == y)) (distinct ◌==◌ xs))) (sym (eqb-true x t e)) ∙ filtered_out x (distinct ◌==◌ xs)) in
-      omega (arith, none, times-cons x (filter (λ y. not (x == y)) (distinct ◌==◌ xs)) t, one_if (x == t) true e)
+      omega (arith, none, times-cons x (filter (λ y. not (x == y)) (distinct ◌==◌ xs)) t, one_time_if (x == t) true e)
   go false e rec = omega (
     arith,
     rec,
     times-filter (λ y. not (x == y)) (distinct ◌==◌ xs) t,
     times-cons x (filter (λ y. not (x == y)) (distinct ◌==◌ xs)) t,
-    one_if (x == t) false e,
+    one_time_if (x == t) false e,
   )
 
 -- ---- what is found

@@ -1,12 +1,13 @@
 -- A plain row of this side stays plain in an answer, where it keeps the feedback of video.
 use Rattle.exchange.proofs.Common.{◌≡◌, ◌&&◌, ◌==◌, ◌||◌, ℕ, Bool, true, false, List, Option, Some, None, All, if◌then◌else◌, find, nat_lt}
 use Rattle.exchange.proofs.Common.{option_to_list, refl, subst, sym, ap, ◌∙◌, false≢true, or_parts, All-contains, All-weaker}
-use Rattle.exchange.proofs.Common.{list_any-append, list_any, is_some, PayloadParams, has, types_of, HasVideoFeedback, IsPlain, MediaLine}
+use Rattle.exchange.proofs.Common.{list_any-append, list_any, is_some, PayloadParams, has, types_of, HasPlainVideoFeedback, IsPlain}
+use Rattle.exchange.proofs.Common.{MediaLine}
 use Rattle.exchange.proofs.answer.RowLaws.{all_agreed}
 use Rattle.exchange.proofs.answer.RowsListLaws.{is_some_find}
 use Rattle.exchange.specs.answer.Rows.{IsAgreed, KeepsPlain, agreed_type, answered_rows, as_answered}
-use Rattle.str0m_formats.specs.codec.Codec.{content, video}
-use Rattle.str0m_formats.specs.row.PayloadParams.{AllSmall}
+use Rattle.str0m_formats.specs.codec.Codec.{codec_content, video}
+use Rattle.str0m_formats.specs.row.PayloadParams.{AllTypesSmall}
 
 abbrev is_large : ℕ → Bool
 is_large = nat_lt 127
@@ -33,8 +34,8 @@ agreed_small listed (Some a) (Some b) small = go (a == b && has listed a) where
 both_small : (a b : Bool) → a ≡ false → b ≡ false → (a || b) ≡ false
 both_small a b e f = ap (λ (x : Bool). x || b) e ∙ f
 
-answered_small : (section : MediaLine) (theirs ours : PayloadParams) → AllSmall (types_of ours)
-    → AllSmall (types_of (as_answered section theirs ours))
+answered_small : (section : MediaLine) (theirs ours : PayloadParams) → AllTypesSmall (types_of ours)
+    → AllTypesSmall (types_of (as_answered section theirs ours))
 unfolding as_answered
 answered_small section theirs ours small =
     let resend = agreed_type section.pts ours.resend theirs.resend in
@@ -48,7 +49,8 @@ answered_small section theirs ours small =
     ∙ both_small _ _ (agreed_small section.pts ours.resend theirs.resend others.0) (agreed_small section.pts ours.red theirs.red others.1)))
 
 answer_plain : (section : MediaLine) (theirs ours : PayloadParams) → IsPlain ours
-    → (content ours.spec.codec ≡ video → HasVideoFeedback (as_answered section theirs ours)) → IsPlain (as_answered section theirs ours)
+    → (codec_content ours.spec.codec ≡ video → HasPlainVideoFeedback (as_answered section theirs ours))
+    → IsPlain (as_answered section theirs ours)
 unfolding as_answered
 answer_plain section theirs ours plain as_video = record {
   carried = plain.carried;

@@ -1,6 +1,6 @@
 -- How often a type stands in rows that are made of a list of rows, one of each at most.
 use Rattle.exchange.proofs.Common.{arith, ◌≡◌, ◌+◌, ◌≤◌, ◌==◌, ℕ, Bool, true, false, cond, List, [], ◌∷◌, Option, Some, None, IfSome}
-use Rattle.exchange.proofs.Common.{filter, filter_map, find, refl, sym, ap, eq-eqb, cons_option, times-append, times-cons, one_if}
+use Rattle.exchange.proofs.Common.{filter, filter_map, find, refl, sym, ap, eq-eqb, cons_option, times-append, times-cons, one_time_if}
 use Rattle.exchange.proofs.Common.{PayloadParams, AllDistinct, times, locked_types, types, types_of}
 
 -- how often t stands in a row, and in a row that is found
@@ -44,7 +44,7 @@ module _ (t : ℕ) (test : ℕ → PayloadParams → Bool) (tied : (pt : ℕ) (r
   never row [] gone = refl
   never row (pt ∷ pts) gone = go (test pt row) refl (never row pts (omega (arith, gone, times-cons pt pts row.pt))) where
     go : (b : Bool) → test pt row ≡ b → hits row pts ≡ 0 → cond b (weight t row) 0 + hits row pts ≡ 0
-    go true e rec = let one = one_if (pt == row.pt) true (eq-eqb _ _ (sym (tied pt row e).0)) in
+    go true e rec = let one = one_time_if (pt == row.pt) true (eq-eqb _ _ (sym (tied pt row e).0)) in
         absurd (omega (arith, gone, times-cons pt pts row.pt, one))
     go false e rec = omega (arith, rec)
 
@@ -54,7 +54,7 @@ module _ (t : ℕ) (test : ℕ → PayloadParams → Bool) (tied : (pt : ℕ) (r
     go : (b : Bool) → test pt row ≡ b → (times pts row.pt ≤ 1 → hits row pts ≤ own_weight row)
         → cond b (weight t row) 0 + hits row pts ≤ own_weight row
     go true e rec =
-        let one = one_if (pt == row.pt) true (eq-eqb _ _ (sym (tied pt row e).0)) in
+        let one = one_time_if (pt == row.pt) true (eq-eqb _ _ (sym (tied pt row e).0)) in
         let none = never row pts (omega (arith, few, times-cons pt pts row.pt, one)) in
         let mine : own_weight row ≡ weight t row = ap (λ (b : Bool). cond b (weight t row) 0) (tied pt row e).1 in
         omega (arith, none, mine)

@@ -2,7 +2,7 @@
 -- has had.
 use Rattle.exchange.proofs.Common.{arith, ◌≡◌, ◌+◌, ◌++◌, ◌||◌, ◌⊎◌, ℕ, suc, zero, Bool, true, false, List, [], ◌∷◌, map, Option, Some, All}
 use Rattle.exchange.proofs.Common.{inl, inr, subst, sym, ap, ◌∙◌, true≢false, All-cons, All-head, All-nil, All-tail, same_Some, slice_get}
-use Rattle.exchange.proofs.Common.{MediaAttribute, MediaLine, Sdp, is_listed, section_mids, at_place}
+use Rattle.exchange.proofs.Common.{MediaAttribute, MediaLine, Sdp, is_listed, section_mids, pass_at_place}
 use Rattle.exchange.proofs.offer.OfferRuleLaws.{new_section_name, next_shape}
 use Rattle.exchange.proofs.offer.RuleLaws.{rejecting_shape}
 use Rattle.exchange.proofs.state.ExchangeFollowLaws.{listed_more}
@@ -72,7 +72,7 @@ places_so : (names : List (List ℕ)) (old : Exchange) (ready : List SectionDire
     → All (IsNew names) added → FillsPlaces old ready at places added said left → FollowsPlaces names places (said ++ left)
 places_so names old ready at [] added [] left new fills = record {
   as_many = omega arith;
-  each = λ k m there. inr (at_place (IsNew names) left k m (subst (All (IsNew names)) (sym fills) new) there);
+  each = λ k m there. inr (pass_at_place (IsNew names) left k m (subst (All (IsNew names)) (sym fills) new) there);
 }
 places_so names old ready at [] added (said ∷ behind) left new fills = absurd fills
 places_so names old ready at (mine ∷ more) added [] left new fills = absurd fills

@@ -2,7 +2,8 @@
 use Rattle.exchange.proofs.Common.{arith, ◌≡◌, ◌≢◌, ◌<◌, ◌≤◌, ◌+◌, ◌++◌, ◌||◌, ℕ, Bool, true, false, not, List, [], ◌∷◌, length, take}
 use Rattle.exchange.proofs.Common.{get_or, Option, Some, None, bytes_eq, map, option_map, refl, subst, sym, ap, ◌∙◌, false≢true, length-map}
 use Rattle.exchange.proofs.Common.{take_all, list_any_at, all_pairs_push, get_or_from_slice_get, slice_get-map, slice_get_within}
-use Rattle.exchange.proofs.Common.{bytes_eq-Decides, BTreeSet, Updates, contains, Bor, slice_cmp, slice_get, nat_cmp, slice_get_item}
+use Rattle.exchange.proofs.Common.{bytes_eq-Decides, BTreeSet, Updates, contains, Bor, slice_cmp, slice_get, nat_cmp}
+use Rattle.exchange.proofs.Common.{claimed_slice_get_item}
 use Rattle.exchange.proofs.Common.{filter_map_more, filter_map_same, holds_before, MediaLine, Holds, is_held, AreDistinct, is_listed}
 use Rattle.exchange.proofs.Common.{section_mid, section_mids}
 use Rattle.exchange.proofs.state.ExchangeFollowLaws.{listed_more}
@@ -52,7 +53,7 @@ stands_at : (sections : List MediaLine) (names : List (Option (List ℕ))) (at :
 stands_at sections names at name are lt is =
     standing sections at name (slice_get sections at) refl
     (sym (slice_get-map name_of sections at) ∙ ap (λ (all : List (Option (List ℕ))). slice_get all at) (sym are)
-    ∙ slice_get_item names at name lt is)
+    ∙ claimed_slice_get_item names at name lt is)
 
 -- ---- steps
 

@@ -3,7 +3,7 @@ use Rattle.exchange.proofs.Common.{arith, ◌≡◌, ◌≢◌, ◌||◌, ◌++�
 use Rattle.exchange.proofs.Common.{All, IfSome, IsSomeAnd, MatchOption, filter_map, inl, inr, refl, subst, sym, ap, ◌∙◌, true≢false}
 use Rattle.exchange.proofs.Common.{All-cons, All-nil, All-weaker, list_any-append, same_Some, AllZip-long, AllZip-right, AllZip}
 use Rattle.exchange.proofs.Common.{cons_option, slice_get, stays-same, stays-then, row_before, CodecConfig, PayloadParams, LockedStay}
-use Rattle.exchange.proofs.Common.{StaysLocked, MediaLine, Sdp, AreDistinct, is_listed, section_mids, bytes_itself}
+use Rattle.exchange.proofs.Common.{StaysLocked, MediaLine, Sdp, AreDistinct, is_listed, section_mids, merged_bytes_itself}
 use Rattle.exchange.specs.declared.offer.pending.Pending.{Pending}
 use Rattle.exchange.specs.declared.state.exchange.Exchange.{Exchange}
 use Rattle.exchange.specs.declared.state.signaling_state.SignalingState.TheVariants.{Stable}
@@ -144,7 +144,7 @@ first_known : (names rest : List (List ℕ)) (o : Option (List ℕ)) (b : Bool) 
     → (b || is_listed (cons_option (cond b None o) rest) o) ≡ true
 first_known names rest None b is some = absurd (some refl)
 first_known names rest (Some mid) true is some = refl
-first_known names rest (Some mid) false is some = either_true _ _ (bytes_itself mid)
+first_known names rest (Some mid) false is some = either_true _ _ (merged_bytes_itself mid)
 
 later_known : (rest : List (List ℕ)) (o name : Option (List ℕ)) → is_listed rest name ≡ true → is_listed (cons_option o rest) name ≡ true
 later_known rest None name there = there

@@ -1,9 +1,9 @@
 -- The rows that answer a section, and what it says of each.
-use Rattle.exchange.specs.Prelude.{HasVideoFeedback, IsPlain, MediaAttribute, MediaLine, MediaType, PayloadParams, distinct, has, is_carried, rows, strip, ◌>>=◌}
+use Rattle.exchange.specs.Prelude.{HasPlainVideoFeedback, IsPlain, MediaAttribute, MediaLine, MediaType, PayloadParams, distinct, has, is_carried, rows, strip, ◌>>=◌}
 use Rattle.std.specs.List.{list_any}
 use Rattle.std.specs.Prelude.{◌≡◌, ◌≢◌, ◌==◌, ◌&&◌, ℕ, Bool, true, false, List, Option, Some, None, codes, bytes_eq, find, filter_map, map, option_map, is_some, if◌then◌else◌, Contains, IfSome}
-use Rattle.str0m_formats.specs.codec.Codec.{content, video}
-use Rattle.str0m_formats.specs.round.MatchScore.{score}
+use Rattle.str0m_formats.specs.codec.Codec.{codec_content, video}
+use Rattle.str0m_formats.specs.round.MatchScore.{spec_score}
 use Rattle.str0m_sdp.specs.declared.attribute.MediaAttribute.TheVariants.{RtcpFb, Unused}
 use Rattle.str0m_sdp.specs.declared.attribute.media_type.MediaType.TheVariants.{Audio, Video}
 use Rattle.str0m_sdp.specs.declared.label.TheConstants.{TRANSPORT_CC, REMB, FIR, NACK, PLI}
@@ -60,7 +60,7 @@ is_carried_in _ row = false
 -- a row of this side answers an offered one: it is locked, under the same type, of what the section carries, and they match
 abbrev pub matches : MediaType → PayloadParams → PayloadParams → Bool
 matches typ theirs ours =
-    ours.locked && (ours.pt == theirs.pt && (is_carried_in typ ours && is_some (score ours.spec theirs.spec)))
+    ours.locked && (ours.pt == theirs.pt && (is_carried_in typ ours && is_some (spec_score ours.spec theirs.spec)))
 
 -- what an answer says of an offered row
 abbrev pub answer_to : List PayloadParams → MediaLine → PayloadParams → Option PayloadParams
@@ -93,7 +93,7 @@ pub record IsAgreed (own : List PayloadParams) (section : MediaLine) (row : Payl
   pub carried : is_carried_in section.typ ours ≡ true
   pub same_type : theirs.pt ≡ ours.pt
   pub listed : Contains section.pts ours.pt
-  pub match : score ours.spec theirs.spec ≢ None
+  pub match : spec_score ours.spec theirs.spec ≢ None
   pub said : row ≡ as_answered section theirs ours
 
 -- such a row of this side belongs in the answer: where the section offers several rows of its type, the first counts
@@ -104,7 +104,7 @@ pub record Belongs (own : List PayloadParams) (section : MediaLine) (ours : Payl
   pub locked : ours.locked ≡ true
   pub carried : is_carried_in section.typ ours ≡ true
   pub listed : Contains section.pts ours.pt
-  pub match : score ours.spec theirs.spec ≢ None
+  pub match : spec_score ours.spec theirs.spec ≢ None
 
 -- RTX and RED types stand in the m-line, and each feedback in a line of the type or of all types
 pub record SaysWhatIsOffered (section : MediaLine) (row : PayloadParams) : Type 0 where
@@ -118,4 +118,4 @@ pub record SaysWhatIsOffered (section : MediaLine) (row : PayloadParams) : Type 
 
 -- the row is plain where it still has the feedback that every plain row of video has
 abbrev pub KeepsPlain : PayloadParams → Type 0
-KeepsPlain row = (content row.spec.codec ≡ video → HasVideoFeedback row) → IsPlain row
+KeepsPlain row = (codec_content row.spec.codec ≡ video → HasPlainVideoFeedback row) → IsPlain row

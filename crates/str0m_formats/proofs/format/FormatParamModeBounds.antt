@@ -3,12 +3,12 @@ use Rattle.str0m_formats.proofs.Common.{◌≡◌, ◌<◌, ◌≤◌, ◌+◌, 
 use Rattle.str0m_formats.proofs.Common.{bit_at, bit_and, slice_split, cases_lt, and_pow, bit_at-lt, bit_at-zero, same_from_bits, ◌/◌, ◌==◌}
 use Rattle.str0m_formats.proofs.Common.{get_or_default, length-slice_split, bit_at_cat_high}
 use Rattle.str0m_formats.proofs.format.FormatParamModes.{bit_at_set}
-use Rattle.str0m_formats.specs.format.FormatParam.{IsMask, IsModeSet}
-use Rattle.str0m_formats.specs.row.PlainRowBounds.{AreModes}
+use Rattle.str0m_formats.specs.format.FormatParam.{IsModeMask, IsModeSet}
+use Rattle.str0m_formats.specs.row.PlainRowBounds.{ArePlainModes}
 
 -- a number without the bits from the ninth on
-below_ninth : (n : ℕ) → ((k : ℕ) → 9 ≤ k → bit_at n k ≡ 0) → n ≤ 511
-below_ninth n clear =
+mode_below_ninth : (n : ℕ) → ((k : ℕ) → 9 ≤ k → bit_at n k ≡ 0) → n ≤ 511
+mode_below_ninth n clear =
     let high = n / 512 in
     let low = n % 512 in
     let whole : n ≡ high * 2 ^ 9 + low = omega arith in
@@ -19,8 +19,8 @@ below_ninth n clear =
     omega arith
 
 -- a set of modes has one at least, and none above 8
-mask_within : (pieces : List (List ℕ)) (mask : ℕ) → 0 < length pieces → IsMask pieces mask → AreModes mask
-mask_within pieces mask some is = (positive, below_ninth mask clear)
+mode_mask_within : (pieces : List (List ℕ)) (mask : ℕ) → 0 < length pieces → IsModeMask pieces mask → ArePlainModes mask
+mode_mask_within pieces mask some is = (positive, mode_below_ninth mask clear)
   where
     first : List ℕ
     first = get_or pieces 0 []
@@ -46,7 +46,7 @@ mask_within pieces mask some is = (positive, below_ninth mask clear)
               absurd (omega (arith, any.4.fits))
         ]
 
-pub modes_within : (text : List ℕ) (mask : ℕ) → IsModeSet text mask → AreModes mask
+pub modes_within : (text : List ℕ) (mask : ℕ) → IsModeSet text mask → ArePlainModes mask
 unfolding IsModeSet
 modes_within text mask is =
-    mask_within (slice_split (λ b. b == 44) text) mask (omega (arith, length-slice_split (λ b. b == 44) text)) is
+    mode_mask_within (slice_split (λ b. b == 44) text) mask (omega (arith, length-slice_split (λ b. b == 44) text)) is

@@ -7,9 +7,9 @@ use Rattle.str0m_formats.proofs.Common.{bit_at_set_same, bit_at_set_other, same_
 use Rattle.str0m_formats.proofs.Common.{◌>>=◌, num, trim, slice_split, append_assoc, append-nil, Any, IsBitSet, w16, get_or_append_left}
 use Rattle.str0m_formats.proofs.Common.{pow_pos, bit_or}
 use Rattle.str0m_formats.proofs.format.FormatParamOnly.{only_same}
-use Rattle.str0m_formats.proofs.format.ParamTextPrinted.{shifted_one}
-use Rattle.str0m_formats.specs.format.FormatParam.{IsMode, IsMask, IsModeSet}
-use Rattle.str0m_formats.specs.format.FormatParamReading.{modes_from, modes_read}
+use Rattle.str0m_formats.proofs.format.ParamTextPrinted.{printed_mode_shifted_one}
+use Rattle.str0m_formats.specs.format.FormatParam.{IsModePiece, IsModeMask, IsModeSet}
+use Rattle.str0m_formats.specs.format.FormatParamReading.{modes_from, param_modes_read}
 
 pub Any-more : {X : Type 0} (P : X → Type 0) (xs : List X) (y : X) → Any P xs → Any P (xs ++ y ∷ [])
 Any-more P xs y (k, x, lt, is, p) = (k, x, omega (arith, length-append xs (y ∷ [])), get_or_append_left xs (y ∷ []) x k lt ∙ is, p)
@@ -31,27 +31,27 @@ pub bit_at_set : (n k : ℕ) → bit_at n k ≡ 1 → IsBitSet n k
 bit_at_set n k h = grind (arith, and_pow, pow_pos)
 
 -- a piece names one mode
-pub mode_same : (piece : List ℕ) (m n : ℕ) → IsMode piece m → IsMode piece n → m ≡ n
+pub mode_same : (piece : List ℕ) (m n : ℕ) → IsModePiece piece m → IsModePiece piece n → m ≡ n
 mode_same piece m n a b = sym a.value ∙ b.value
 
-pub mask_none : IsMask [] 0
-mask_none = grind arith
+pub mode_mask_none : IsModeMask [] 0
+mode_mask_none = grind arith
 
-pub mask_push : (pieces : List (List ℕ)) (piece : List ℕ) (mask mode : ℕ) → IsMask pieces mask → IsMode piece mode
-    → IsMask (pieces ++ piece ∷ []) (bit_or mask (1 * 2 ^ mode % 2 ^ 16))
-mask_push pieces piece mask mode h is_mode = record {
-  modes = All-push (λ piece. (mode : ℕ) × IsMode piece mode) pieces piece h.modes (mode, is_mode);
+pub mode_mask_push : (pieces : List (List ℕ)) (piece : List ℕ) (mask mode : ℕ) → IsModeMask pieces mask → IsModePiece piece mode
+    → IsModeMask (pieces ++ piece ∷ []) (bit_or mask (1 * 2 ^ mode % 2 ^ 16))
+mode_mask_push pieces piece mask mode h is_mode = record {
+  modes = All-push (λ piece. (mode : ℕ) × IsModePiece piece mode) pieces piece h.modes (mode, is_mode);
   bits = λ k. (
     λ set. elim (eqb_tells k mode) [
-      | inl same ↦ Any-push (λ p. IsMode p k) pieces piece (subst (λ n. IsMode piece n) (sym same.1) is_mode)
-      | inr other ↦ Any-more (λ p. IsMode p k) pieces piece
+      | inl same ↦ Any-push (λ p. IsModePiece p k) pieces piece (subst (λ n. IsModePiece piece n) (sym same.1) is_mode)
+      | inr other ↦ Any-more (λ p. IsModePiece p k) pieces piece
           ((h.bits k).0 (bit_at_set mask k (sym (bit_at_set_other w16 mask mode (omega (arith, is_mode.fits)) k other.1)
           ∙ bit_set_at _ k set)))
     ],
     λ any. elim (eqb_tells k mode) [
       | inl same ↦ bit_at_set _ k (rw same.1 (bit_at_set_same w16 mask mode (omega (arith, is_mode.fits))))
       | inr other ↦ bit_at_set _ k (bit_at_set_other w16 mask mode (omega (arith, is_mode.fits)) k other.1
-          ∙ bit_set_at mask k ((h.bits k).1 (elim (Any-cases (λ p. IsMode p k) pieces piece any) [
+          ∙ bit_set_at mask k ((h.bits k).1 (elim (Any-cases (λ p. IsModePiece p k) pieces piece any) [
             | inl before ↦ before
             | inr here ↦ absurd (other.1 (mode_same piece k mode here is_mode))
           ])))
@@ -60,9 +60,9 @@ mask_push pieces piece mask mode h is_mode = record {
 }
 
 -- the same pieces give the same mask
-pub mask_same : (pieces : List (List ℕ)) (m n : ℕ) → IsMask pieces m → IsMask pieces n → m ≡ n
-mask_same pieces m n g h =
-    let into : (a b : ℕ) → IsMask pieces a → IsMask pieces b → (k : ℕ) → bit_at a k ≡ 1 → bit_at b k ≡ 1 =
+pub mode_mask_same : (pieces : List (List ℕ)) (m n : ℕ) → IsModeMask pieces m → IsModeMask pieces n → m ≡ n
+mode_mask_same pieces m n g h =
+    let into : (a b : ℕ) → IsModeMask pieces a → IsModeMask pieces b → (k : ℕ) → bit_at a k ≡ 1 → bit_at b k ≡ 1 =
     λ a b x y k e. bit_set_at b k ((y.bits k).1 ((x.bits k).0 (bit_at_set a k e))) in
     same_from_bits m n (λ k. elim (cases_lt (bit_at m k) 1) [
       | inl below ↦ elim (cases_lt (bit_at n k) 1) [
@@ -74,39 +74,40 @@ mask_same pieces m n g h =
     ])
 
 -- a piece that names no mode
-pub mask_fails : (pieces : List (List ℕ)) (piece : List ℕ) (k : ℕ) → (k < length pieces) × (piece ≡ get_or pieces k piece)
-    → IsTheOnly (IsMode piece) None → (mask : ℕ) → IsMask pieces mask → ⊥
-mask_fails pieces piece k at none mask h =
+pub mode_mask_fails : (pieces : List (List ℕ)) (piece : List ℕ) (k : ℕ) → (k < length pieces) × (piece ≡ get_or pieces k piece)
+    → IsTheOnly (IsModePiece piece) None → (mask : ℕ) → IsModeMask pieces mask → ⊥
+mode_mask_fails pieces piece k at none mask h =
     let is_mode = h.modes k piece at.0 in
     let e : (let nothing : Option ℕ = None in nothing ≡ Some is_mode.0) =
-    none.only is_mode.0 (subst (λ p. IsMode p is_mode.0) (sym at.1) is_mode.1) in
+    none.only is_mode.0 (subst (λ p. IsModePiece p is_mode.0) (sym at.1) is_mode.1) in
     cc
 
 -- after pieces whose mask is known, the rest is read as the one mask of them all
-modes_from_only : (done more : List (List ℕ)) (mask : ℕ) → IsMask done mask → IsTheOnly (IsMask (done ++ more)) (modes_from mask more)
-modes_from_only done [] mask h = rw (append-nil done) (record { found = h; only = λ m k. ap Some (mask_same done mask m h k) })
+modes_from_only : (done more : List (List ℕ)) (mask : ℕ) → IsModeMask done mask
+    → IsTheOnly (IsModeMask (done ++ more)) (modes_from mask more)
+modes_from_only done [] mask h = rw (append-nil done) (record { found = h; only = λ m k. ap Some (mode_mask_same done mask m h k) })
 modes_from_only done (piece ∷ more) mask h = step done piece more mask h (num 8 (trim piece)) (num_only 8 (trim piece))
     (modes_from_only (done ++ piece ∷ []) more)
   where
-    step : (done : List (List ℕ)) (piece : List ℕ) (more : List (List ℕ)) (mask : ℕ) → IsMask done mask → (o : Option ℕ)
-        → IsTheOnly (IsMode piece) o → ((all : ℕ) → IsMask (done ++ piece ∷ []) all
-        → IsTheOnly (IsMask ((done ++ piece ∷ []) ++ more)) (modes_from all more))
-        → IsTheOnly (IsMask (done ++ piece ∷ more)) (o >>= λ mode. modes_from (bit_or mask (2 ^ mode)) more)
+    step : (done : List (List ℕ)) (piece : List ℕ) (more : List (List ℕ)) (mask : ℕ) → IsModeMask done mask → (o : Option ℕ)
+        → IsTheOnly (IsModePiece piece) o → ((all : ℕ) → IsModeMask (done ++ piece ∷ []) all
+        → IsTheOnly (IsModeMask ((done ++ piece ∷ []) ++ more)) (modes_from all more))
+        → IsTheOnly (IsModeMask (done ++ piece ∷ more)) (o >>= λ mode. modes_from (bit_or mask (2 ^ mode)) more)
     step done piece more mask h None none then = record {
       found = tt;
-      only = λ m k. absurd (mask_fails (done ++ piece ∷ more) piece (length done)
+      only = λ m k. absurd (mode_mask_fails (done ++ piece ∷ more) piece (length done)
           (omega (arith, length-append done (piece ∷ more)), sym (get_or-append_seam done piece more piece)) none m k);
     }
     step done piece more mask h (Some mode) is then =
-        let pushed : IsMask (done ++ piece ∷ []) (bit_or mask (2 ^ mode)) =
-        subst (λ (b : ℕ). IsMask (done ++ piece ∷ []) (bit_or mask b)) (shifted_one mode (omega (arith, is.found.fits)))
-        (mask_push done piece mask mode h is.found) in
-        subst (λ (ps : List (List ℕ)). IsTheOnly (IsMask ps) (modes_from (bit_or mask (2 ^ mode)) more))
+        let pushed : IsModeMask (done ++ piece ∷ []) (bit_or mask (2 ^ mode)) =
+        subst (λ (b : ℕ). IsModeMask (done ++ piece ∷ []) (bit_or mask b)) (printed_mode_shifted_one mode (omega (arith, is.found.fits)))
+        (mode_mask_push done piece mask mode h is.found) in
+        subst (λ (ps : List (List ℕ)). IsTheOnly (IsModeMask ps) (modes_from (bit_or mask (2 ^ mode)) more))
         (append_assoc done (piece ∷ []) more) (then (bit_or mask (2 ^ mode)) pushed)
 
-pub modes_only : (text : List ℕ) → IsTheOnly (IsModeSet text) (modes_read text)
-unfolding IsModeSet modes_read
-modes_only text = modes_from_only [] (slice_split (λ b. b == 44) text) 0 mask_none
+pub modes_only : (text : List ℕ) → IsTheOnly (IsModeSet text) (param_modes_read text)
+unfolding IsModeSet param_modes_read
+modes_only text = modes_from_only [] (slice_split (λ b. b == 44) text) 0 mode_mask_none
 
-pub modes_are : (text : List ℕ) (answer : Option ℕ) → IsTheOnly (IsModeSet text) answer → answer ≡ modes_read text
-modes_are text answer h = only_same answer (modes_read text) h (modes_only text)
+pub modes_are : (text : List ℕ) (answer : Option ℕ) → IsTheOnly (IsModeSet text) answer → answer ≡ param_modes_read text
+modes_are text answer h = only_same answer (param_modes_read text) h (modes_only text)

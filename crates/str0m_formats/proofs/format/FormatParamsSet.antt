@@ -7,21 +7,22 @@ use Rattle.str0m_formats.specs.declared.format.format_params.Field.{Field}
 use Rattle.str0m_formats.specs.declared.format.format_params.Field.TheVariants as field
 use Rattle.str0m_formats.specs.declared.format.format_params.FormatParams.{FormatParams}
 use Rattle.str0m_formats.specs.declared.format.format_params.TheConstants.{FIELDS}
-use Rattle.str0m_formats.specs.format.FormatParams.{FieldContent, get, put, param_in, set, set_all, empty, param_at, params_of}
+use Rattle.str0m_formats.specs.format.FormatParams.{FieldContent, get_field, put_field, field_param, set_param, set_all_params}
+use Rattle.str0m_formats.specs.format.FormatParams.{empty_format, field_param_at, params_of}
 
 -- ---- one field
 
-set_put : (f : Field) (x : FieldContent f) (p : FormatParams) → set (param_in f x) p ≡ put f (Some x) p
+set_put : (f : Field) (x : FieldContent f) (p : FormatParams) → set_param (field_param f x) p ≡ put_field f (Some x) p
 set_put (field.Key key.Apt) x p = refl
 set_put f x p = refl
 
-put_get : (f : Field) (p : FormatParams) → put f (get f p) p ≡ p
+put_get : (f : Field) (p : FormatParams) → put_field f (get_field f p) p ≡ p
 put_get (field.Key key.Apt) p = refl
 put_get f p = refl
 
-pub param_is : (f : Field) (p : FormatParams) → param_at f p ≡ option_map (param_in f) (get f p)
-param_is (field.Key key.Apt) p = refl
-param_is f p = refl
+pub field_param_is : (f : Field) (p : FormatParams) → field_param_at f p ≡ option_map (field_param f) (get_field f p)
+field_param_is (field.Key key.Apt) p = refl
+field_param_is f p = refl
 
 none_from_test : {A : Type 0} (o : Option A) → is_none o ≡ true → o ≡ None
 none_from_test o e = grind arith
@@ -29,28 +30,29 @@ none_from_test o e = grind arith
 -- ---- one field after another
 
 -- the format p, with these fields of q
-abbrev pub filled : List Field → FormatParams → FormatParams → FormatParams
-filled [] q p = p
-filled (f ∷ fs) q p = filled fs q (put f (get f q) p)
+abbrev pub fields_filled : List Field → FormatParams → FormatParams → FormatParams
+fields_filled [] q p = p
+fields_filled (f ∷ fs) q p = fields_filled fs q (put_field f (get_field f q) p)
 
 -- none of these fields is given when its turn comes
-abbrev pub are_fresh : List Field → FormatParams → FormatParams → Bool
-are_fresh [] q p = true
-are_fresh (f ∷ fs) q p = is_none (get f p) && are_fresh fs q (put f (get f q) p)
+abbrev pub are_fields_fresh : List Field → FormatParams → FormatParams → Bool
+are_fields_fresh [] q p = true
+are_fields_fresh (f ∷ fs) q p = is_none (get_field f p) && are_fields_fresh fs q (put_field f (get_field f q) p)
 
-set_next : (f : Field) (q p : FormatParams) (rest : List FormatParam) → is_none (get f p) ≡ true
-    → set_all p (cons_option (param_at f q) rest) ≡ set_all (put f (get f q) p) rest
-set_next f q p rest none = ap (λ o. set_all p (cons_option o rest)) (param_is f q) ∙ go (get f q)
+set_next : (f : Field) (q p : FormatParams) (rest : List FormatParam) → is_none (get_field f p) ≡ true
+    → set_all_params p (cons_option (field_param_at f q) rest) ≡ set_all_params (put_field f (get_field f q) p) rest
+set_next f q p rest none = ap (λ o. set_all_params p (cons_option o rest)) (field_param_is f q) ∙ go (get_field f q)
   where
-    go : (o : Option (FieldContent f)) → set_all p (cons_option (option_map (param_in f) o) rest) ≡ set_all (put f o p) rest
-    go None = ap (λ p. set_all p rest) (sym (ap (λ o. put f o p) (sym (none_from_test (get f p) none)) ∙ put_get f p))
-    go (Some x) = ap (λ p. set_all p rest) (set_put f x p)
+    go : (o : Option (FieldContent f)) → set_all_params p (cons_option (option_map (field_param f) o) rest)
+        ≡ set_all_params (put_field f o p) rest
+    go None = ap (λ p. set_all_params p rest) (sym (ap (λ o. put_field f o p) (sym (none_from_test (get_field f p) none)) ∙ put_get f p))
+    go (Some x) = ap (λ p. set_all_params p rest) (set_put f x p)
 
-pub set_each : (fs : List Field) (q p : FormatParams) → are_fresh fs q p ≡ true
-    → set_all p (filter_map (λ f. param_at f q) fs) ≡ filled fs q p
+pub set_each : (fs : List Field) (q p : FormatParams) → are_fields_fresh fs q p ≡ true
+    → set_all_params p (filter_map (λ f. field_param_at f q) fs) ≡ fields_filled fs q p
 set_each [] q p fresh = refl
 set_each (f ∷ fs) q p fresh = grind (arith, and_parts, set_next, set_each fs q)
 
-pub set_again : (p : FormatParams) (params : List FormatParam) → params ≡ params_of p → set_all empty params ≡ p
+pub set_again : (p : FormatParams) (params : List FormatParam) → params ≡ params_of p → set_all_params empty_format params ≡ p
 unfolding params_of
-set_again p params e = ap (set_all empty) e ∙ set_each FIELDS p empty refl
+set_again p params e = ap (set_all_params empty_format) e ∙ set_each FIELDS p empty_format refl

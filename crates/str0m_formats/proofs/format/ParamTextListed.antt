@@ -6,8 +6,8 @@ use Rattle.str0m_formats.specs.declared.format.format_param.FormatParam.{FormatP
 use Rattle.str0m_formats.specs.declared.format.format_params.Field.{Field}
 use Rattle.str0m_formats.specs.declared.format.format_params.FormatParams.{FormatParams}
 use Rattle.str0m_formats.specs.declared.format.format_params.TheConstants.{FIELDS}
-use Rattle.str0m_formats.specs.format.FormatParam.{param_text, part_if}
-use Rattle.str0m_formats.specs.format.FormatParams.{param_at, params_text, params_of}
+use Rattle.str0m_formats.specs.format.FormatParam.{param_text, separator_if}
+use Rattle.str0m_formats.specs.format.FormatParams.{field_param_at, params_text, params_of}
 
 unfoldable pub listed : {A : Type 0} → ℕ → (A → List ℕ) → List A → List ℕ
 listed c text xs = join_with_byte c (map text xs)
@@ -17,7 +17,7 @@ has_some [] = false
 has_some (x ∷ xs) = true
 
 pub listed_push : {A : Type 0} (c : ℕ) (text : A → List ℕ) (xs : List A) (x : A)
-    → listed c text (xs ++ x ∷ []) ≡ listed c text xs ++ (part_if c (has_some xs) ++ text x)
+    → listed c text (xs ++ x ∷ []) ≡ listed c text xs ++ (separator_if c (has_some xs) ++ text x)
 unfolding listed has_some
 listed_push c text [] x = refl
 listed_push c text (y ∷ []) x = refl
@@ -31,20 +31,20 @@ has_some_push (y ∷ xs) x = refl
 -- ---- the parameters of the first n fields
 
 unfoldable pub params_to : FormatParams → ℕ → List FormatParam
-params_to p n = filter_map (λ field. param_at field p) (take n FIELDS)
+params_to p n = filter_map (λ field. field_param_at field p) (take n FIELDS)
 
 params_next : (p : FormatParams) (n : ℕ) (f : Field) → n < length FIELDS
-    → params_to p (n + 1) ≡ params_to p n ++ filter_map (λ field. param_at field p) (get_or FIELDS n f ∷ [])
+    → params_to p (n + 1) ≡ params_to p n ++ filter_map (λ field. field_param_at field p) (get_or FIELDS n f ∷ [])
 unfolding params_to
 params_next p n f lt = grind (arith, take_more FIELDS n f lt, filter_map-append)
 
 -- a field that is given
 pub params_push : (p : FormatParams) (n : ℕ) (f : Field) (param : FormatParam) → n < length FIELDS
-    → param_at (get_or FIELDS n f) p ≡ Some param → params_to p (n + 1) ≡ params_to p n ++ param ∷ []
+    → field_param_at (get_or FIELDS n f) p ≡ Some param → params_to p (n + 1) ≡ params_to p n ++ param ∷ []
 params_push p n f param lt given = params_next p n f lt ∙ ap (λ o. params_to p n ++ cons_option o []) given
 
 -- a field that is not
-pub params_pass : (p : FormatParams) (n : ℕ) (f : Field) → n < length FIELDS → param_at (get_or FIELDS n f) p ≡ None
+pub params_pass : (p : FormatParams) (n : ℕ) (f : Field) → n < length FIELDS → field_param_at (get_or FIELDS n f) p ≡ None
     → params_to p (n + 1) ≡ params_to p n
 params_pass p n f lt absent = params_next p n f lt ∙ ap (λ o. params_to p n ++ cons_option o []) absent ∙ append-nil (params_to p n)
 

@@ -3,58 +3,61 @@ use Rattle.str0m_formats.proofs.Common.{◌≡◌, ◌==◌, ℕ, ◌+◌, ◌<�
 use Rattle.str0m_formats.proofs.Common.{get_or, Result, Ok, Err, refl, sym, ap, ◌∙◌, subst, arith, append_assoc, append-nil, take_more}
 use Rattle.str0m_formats.proofs.Common.{filter-append, flat_map-append, eqb-true, take-append-drop}
 use Rattle.str0m_formats.proofs.round.ClaimedSets.{type-is}
-use Rattle.str0m_formats.proofs.round.ClaimedTimes.{times-cons, times-nil, times-append, times-none, one_if}
+use Rattle.str0m_formats.proofs.round.ClaimedTimes.{times-cons, times-nil, times-append, times-none, one_time_if}
 use Rattle.str0m_formats.proofs.row.PayloadParamsSets.{has-append, locked_types-push, open_types-push}
 use Rattle.str0m_formats.specs.declared.round.negotiation_error.NegotiationError.{NegotiationError}
 use Rattle.str0m_formats.specs.declared.round.negotiation_error.NegotiationError.TheVariants.{ClaimedTwice}
 use Rattle.str0m_formats.specs.declared.row.payload_params.PayloadParams.{PayloadParams}
-use Rattle.str0m_formats.specs.round.Claimed.{TypeSet, has, with_type, either, times, AllDistinct}
+use Rattle.str0m_formats.specs.round.Claimed.{TypeSet, has, with_type, either_set, times, AllDistinct}
 use Rattle.str0m_formats.specs.round.Claims.{claim_each}
-use Rattle.str0m_formats.specs.round.Rounds.{and_then, IsFirstRepeat}
+use Rattle.str0m_formats.specs.round.Rounds.{then_in_round, IsFirstRepeat}
 use Rattle.str0m_formats.specs.row.PayloadParams.{types_of, types, locked_types, open_types}
 
-pub claim_each-append : (set : TypeSet) (xs ys : List ℕ) → claim_each set (xs ++ ys) ≡ and_then (claim_each set xs) (λ s. claim_each s ys)
+pub claim_each-append : (set : TypeSet) (xs ys : List ℕ) → claim_each set (xs ++ ys)
+    ≡ then_in_round (claim_each set xs) (λ s. claim_each s ys)
 unfolding claim_each
 claim_each-append set [] ys = refl
 claim_each-append set (x ∷ xs) ys = grind (arith, claim_each-append (with_type set x) xs ys)
 
 claim_next : (set : TypeSet) (xs ys : List ℕ) (mid : TypeSet) (r : Result TypeSet NegotiationError) → claim_each set xs ≡ Ok mid
     → claim_each mid ys ≡ r → claim_each set (xs ++ ys) ≡ r
-claim_next set xs ys mid r h k = claim_each-append set xs ys ∙ ap (λ s. and_then s (λ s'. claim_each s' ys)) h ∙ k
+claim_next set xs ys mid r h k = claim_each-append set xs ys ∙ ap (λ s. then_in_round s (λ s'. claim_each s' ys)) h ∙ k
 
 -- rows so far, and one more
-rows_more : (rows : List PayloadParams) (i : ℕ) (row : PayloadParams) → i < length rows → row ≡ get_or rows i row
+claim_rows_more : (rows : List PayloadParams) (i : ℕ) (row : PayloadParams) → i < length rows → row ≡ get_or rows i row
     → take (i + 1) rows ≡ take i rows ++ row ∷ []
-rows_more rows i row h e = take_more rows i row h ∙ ap (λ r. take i rows ++ r ∷ []) (sym e)
+claim_rows_more rows i row h e = take_more rows i row h ∙ ap (λ r. take i rows ++ r ∷ []) (sym e)
 
-pub locked_more : (rows : List PayloadParams) (i : ℕ) (row : PayloadParams) (b : Bool) → i < length rows → row ≡ get_or rows i row
+pub claim_locked_more : (rows : List PayloadParams) (i : ℕ) (row : PayloadParams) (b : Bool) → i < length rows → row ≡ get_or rows i row
     → row.locked ≡ b → locked_types (take (i + 1) rows) ≡ locked_types (take i rows) ++ cond b (types_of row) []
-locked_more rows i row b h e l = grind (arith, rows_more rows i row h e, locked_types-push (take i rows) row)
+claim_locked_more rows i row b h e l = grind (arith, claim_rows_more rows i row h e, locked_types-push (take i rows) row)
 
-pub open_more : (rows : List PayloadParams) (i : ℕ) (row : PayloadParams) (b : Bool) → i < length rows → row ≡ get_or rows i row
+pub claim_open_more : (rows : List PayloadParams) (i : ℕ) (row : PayloadParams) (b : Bool) → i < length rows → row ≡ get_or rows i row
     → row.locked ≡ b → open_types (take (i + 1) rows) ≡ open_types (take i rows) ++ cond b [] (types_of row)
-open_more rows i row b h e l = grind (arith, rows_more rows i row h e, open_types-push (take i rows) row)
+claim_open_more rows i row b h e l = grind (arith, claim_rows_more rows i row h e, open_types-push (take i rows) row)
 
 pub claims_locked : (rows : List PayloadParams) (i : ℕ) (row : PayloadParams) (set : TypeSet) (r : Result TypeSet NegotiationError)
     → i < length rows → row ≡ get_or rows i row → row.locked ≡ true → claim_each (has []) (locked_types (take i rows)) ≡ Ok set
     → claim_each set (types_of row) ≡ r → claim_each (has []) (locked_types (take (i + 1) rows)) ≡ r
 claims_locked rows i row set r h e l k n =
-    grind (arith, locked_more rows i row true h e l, claim_next (has []) (locked_types (take i rows)) (types_of row) set r k n)
+    grind (arith, claim_locked_more rows i row true h e l, claim_next (has []) (locked_types (take i rows)) (types_of row) set r k n)
 
 pub claims_open : (rows : List PayloadParams) (i : ℕ) (row : PayloadParams) (set : TypeSet) → i < length rows → row ≡ get_or rows i row
     → row.locked ≡ false → claim_each (has []) (locked_types (take i rows)) ≡ Ok set
     → claim_each (has []) (locked_types (take (i + 1) rows)) ≡ Ok set
-claims_open rows i row set h e l k = grind (arith, locked_more rows i row false h e l, append-nil (locked_types (take i rows)))
+claims_open rows i row set h e l k = grind (arith, claim_locked_more rows i row false h e l, append-nil (locked_types (take i rows)))
 
-pub unlocked_locked : (rows : List PayloadParams) (i : ℕ) (row : PayloadParams) (set : TypeSet) → i < length rows → row ≡ get_or rows i row
+pub claim_unlocked_locked : (rows : List PayloadParams) (i : ℕ) (row : PayloadParams) (set : TypeSet) → i < length rows
+    → row ≡ get_or rows i row
     → row.locked ≡ true → set ≡ has (open_types (take i rows)) → set ≡ has (open_types (take (i + 1) rows))
-unlocked_locked rows i row set h e l k = k ∙ ap has (sym (open_more rows i row true h e l ∙ append-nil (open_types (take i rows))))
+claim_unlocked_locked rows i row set h e l k = k
+    ∙ ap has (sym (claim_open_more rows i row true h e l ∙ append-nil (open_types (take i rows))))
 
-pub unlocked_open : (rows : List PayloadParams) (i : ℕ) (row : PayloadParams) (set new : TypeSet) → i < length rows
-    → row ≡ get_or rows i row → row.locked ≡ false → set ≡ has (open_types (take i rows)) → new ≡ either set (has (types_of row))
+pub claim_unlocked_open : (rows : List PayloadParams) (i : ℕ) (row : PayloadParams) (set new : TypeSet) → i < length rows
+    → row ≡ get_or rows i row → row.locked ≡ false → set ≡ has (open_types (take i rows)) → new ≡ either_set set (has (types_of row))
     → new ≡ has (open_types (take (i + 1) rows))
-unlocked_open rows i row set new h e l k n =
-    grind (arith, open_more rows i row false h e l, has-append (open_types (take i rows)) (types_of row))
+claim_unlocked_open rows i row set new h e l k n =
+    grind (arith, claim_open_more rows i row false h e l, has-append (open_types (take i rows)) (types_of row))
 
 -- what is refused among some rows is refused among all of them
 pub claims_refused : (rows : List PayloadParams) (i : ℕ) (cause : NegotiationError)
@@ -64,7 +67,7 @@ claims_refused rows i cause h =
     ∙ ap (λ xs. claim_each (has []) (types xs)) (filter-append (λ r. r.locked) (take i rows) (drop i rows))
     ∙ ap (claim_each (has [])) (flat_map-append types_of _ _)
     ∙ claim_each-append (has []) (locked_types (take i rows)) (locked_types (drop i rows))
-    ∙ ap (λ s. and_then s (λ s'. claim_each s' (locked_types (drop i rows)))) h
+    ∙ ap (λ s. then_in_round s (λ s'. claim_each s' (locked_types (drop i rows)))) h
 
 -- ---- what claiming each type means
 
@@ -74,9 +77,9 @@ AllDistinct-push xs y d h = λ t. go t (y == t) refl where
   go t true e =
       let same : y ≡ t = eqb-true y t e in
       let none : times xs t ≡ 0 = times-none xs t (ap (has xs) (sym same) ∙ h) in
-      omega (arith, times-append xs (y ∷ []) t, times-cons y [] t, times-nil t, none, one_if (y == t) true e)
+      omega (arith, times-append xs (y ∷ []) t, times-cons y [] t, times-nil t, none, one_time_if (y == t) true e)
   go t false e =
-      omega (arith, times-append xs (y ∷ []) t, times-cons y [] t, times-nil t, d t, one_if (y == t) false e)
+      omega (arith, times-append xs (y ∷ []) t, times-cons y [] t, times-nil t, d t, one_time_if (y == t) false e)
 
 with_type-push : (xs : List ℕ) (y : ℕ) → with_type (has xs) y ≡ has (xs ++ y ∷ [])
 with_type-push xs y = type-is (has xs) y ∙ sym (has-append xs (y ∷ []))

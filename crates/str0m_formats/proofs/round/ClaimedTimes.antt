@@ -4,8 +4,8 @@ use Rattle.str0m_formats.proofs.Common.{◌≡◌, ◌==◌, ℕ, ◌+◌, ◌�
 use Rattle.str0m_formats.proofs.Common.{ap, ◌∙◌, arith, list_all, false≢true, and_parts, or_parts, not-true, eqb-true, zero-add}
 use Rattle.str0m_formats.specs.round.Claimed.{has, times}
 
-pub one_if : (b c : Bool) → b ≡ c → cond {A = ℕ} b 1 0 ≡ cond {A = ℕ} c 1 0
-one_if b c e = ap (λ x. cond {A = ℕ} x 1 0) e
+pub one_time_if : (b c : Bool) → b ≡ c → cond {A = ℕ} b 1 0 ≡ cond {A = ℕ} c 1 0
+one_time_if b c e = ap (λ x. cond {A = ℕ} x 1 0) e
 
 pub times-cons : (x : ℕ) (xs : List ℕ) (t : ℕ) → times (x ∷ xs) t ≡ cond {A = ℕ} (x == t) 1 0 + times xs t
 times-cons x xs t = sum_by-append (λ y. cond (y == t) 1 0) (x ∷ []) xs ∙ ap (λ n. n + times xs t) (zero-add (cond {A = ℕ} (x == t) 1 0))
@@ -18,13 +18,13 @@ times-append xs ys t = sum_by-append (λ x. cond (x == t) 1 0) xs ys
 
 pub times-none : (xs : List ℕ) (t : ℕ) → has xs t ≡ false → times xs t ≡ 0
 times-none [] t h = refl
-times-none (x ∷ xs) t h = grind (arith, or_parts, times-cons, one_if, times-none xs t)
+times-none (x ∷ xs) t h = grind (arith, or_parts, times-cons, one_time_if, times-none xs t)
 
 pub times-some : (xs : List ℕ) (t : ℕ) → has xs t ≡ true → 1 ≤ times xs t
 times-some [] t h = absurd (false≢true h)
 times-some (x ∷ xs) t h = go (x == t) refl h (times-some xs t) where
   go : (b : Bool) → (x == t) ≡ b → (b || has xs t) ≡ true → (has xs t ≡ true → 1 ≤ times xs t) → 1 ≤ times (x ∷ xs) t
-  go true e k rest = omega (arith, times-cons x xs t, one_if (x == t) true e)
+  go true e k rest = omega (arith, times-cons x xs t, one_time_if (x == t) true e)
   go false e k rest = let one = rest k in omega (arith, times-cons x xs t, one)
 
 -- the test that no number stands in the list twice
@@ -46,6 +46,6 @@ once_within own (x ∷ xs) h d t =
     go true e mine new rest =
         let same : x ≡ t = eqb-true x t e in
         let none : times xs t ≡ 0 = times-none xs t (ap (has xs) (sym same) ∙ not-true (has xs x) new) in
-        let owned : cond {A = ℕ} (own t) 1 0 ≡ 1 = one_if (own t) true (ap own (sym same) ∙ mine) in
-        omega (arith, times-cons x xs t, one_if (x == t) true e, none, owned)
-    go false e mine new rest = omega (arith, times-cons x xs t, one_if (x == t) false e, rest)
+        let owned : cond {A = ℕ} (own t) 1 0 ≡ 1 = one_time_if (own t) true (ap own (sym same) ∙ mine) in
+        omega (arith, times-cons x xs t, one_time_if (x == t) true e, none, owned)
+    go false e mine new rest = omega (arith, times-cons x xs t, one_time_if (x == t) false e, rest)

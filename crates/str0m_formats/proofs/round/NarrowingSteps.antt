@@ -6,9 +6,9 @@ use Rattle.str0m_formats.proofs.round.RoundsRowSteps.{row_steps}
 use Rattle.str0m_formats.proofs.round.SettlingPass.{settled_parts, settled-same}
 use Rattle.str0m_formats.specs.declared.codec.codec_spec.CodecSpec.{CodecSpec}
 use Rattle.str0m_formats.specs.declared.row.payload_params.PayloadParams.{PayloadParams}
-use Rattle.str0m_formats.specs.round.Choices.{IsChoice, points_for}
+use Rattle.str0m_formats.specs.round.Choices.{IsChoice, choice_points_for}
 use Rattle.str0m_formats.specs.round.Claimed.{TypeSet}
-use Rattle.str0m_formats.specs.round.MatchScore.{score}
+use Rattle.str0m_formats.specs.round.MatchScore.{spec_score}
 use Rattle.str0m_formats.specs.round.Narrowing.{narrowed}
 use Rattle.str0m_formats.specs.round.Rounds.{placed, settled_row, Leaves}
 use Rattle.str0m_formats.specs.round.RoundsPromises.{AtEachRow}
@@ -22,9 +22,9 @@ settled-spec locked taken unlocked row new h = go row.locked refl where
 
 -- what holds of a spec and itself, and of a spec and what one that it fits narrows it to
 module _ (Holds : CodecSpec → CodecSpec → Type 0) (same : (spec : CodecSpec) → Holds spec spec)
-    (narrow : (own chosen : CodecSpec) → score own chosen ≢ None → Holds own (narrowed own chosen)) where
+    (narrow : (own chosen : CodecSpec) → spec_score own chosen ≢ None → Holds own (narrowed own chosen)) where
   placed-holds : (taken unlocked : TypeSet) (remote : List PayloadParams) (receives : Bool) (row new : PayloadParams)
-      (choice : Option PayloadParams) → IsChoice (points_for taken receives row) remote choice
+      (choice : Option PayloadParams) → IsChoice (choice_points_for taken receives row) remote choice
       → placed taken unlocked receives row choice ≡ Ok new → Holds row.spec new.spec
   placed-holds taken unlocked remote receives row new None none h =
       let P : PayloadParams → Type 0 = λ r. Holds row.spec r.spec in

@@ -7,36 +7,38 @@ use Rattle.str0m_formats.proofs.round.ClaimSteps.{AllDistinct-push}
 use Rattle.str0m_formats.proofs.round.ClaimedSets.{free-small, type-is, two-are}
 use Rattle.str0m_formats.proofs.round.ClaimedTimes.{times-append, times-cons, times-nil, times-none, times-some}
 use Rattle.str0m_formats.proofs.round.FirstPass.{locked_to-locks, placed-locked, placed-open_row, placed-no_choice, locked_parts}
-use Rattle.str0m_formats.proofs.round.RoundsPasses.{none_within}
-use Rattle.str0m_formats.proofs.round.RoundsRowCounts.{Standing, standing_step, times_where-drop, times-split}
+use Rattle.str0m_formats.proofs.round.RoundsPasses.{pass_none_within}
+use Rattle.str0m_formats.proofs.round.RoundsRowCounts.{StandingTimes, standing_step, times_where-drop, times-split}
 use Rattle.str0m_formats.proofs.round.RoundsRowSteps.{role-given, rtx-given, red-given}
 use Rattle.str0m_formats.proofs.round.RoundsWhole.{row_before}
 use Rattle.str0m_formats.proofs.round.SettlingPass.{settled-locked, settled-same, settled_parts}
 use Rattle.str0m_formats.proofs.round.SettlingRows.{row-apart}
 use Rattle.str0m_formats.proofs.row.PayloadParamsSets.{has-append}
-use Rattle.str0m_formats.specs.codec.Codec.{Content, audio, content}
+use Rattle.str0m_formats.specs.codec.Codec.{CodecContent, audio, codec_content}
 use Rattle.str0m_formats.specs.declared.row.payload_params.PayloadParams.{PayloadParams}
-use Rattle.str0m_formats.specs.round.Claimed.{TypeSet, has, with_type, with_option, either, free, times, AllDistinct}
-use Rattle.str0m_formats.specs.round.Rounds.{red_type, only_audio, locked_to, placed, taken_by, taken_after, AllBegun, Leaves}
+use Rattle.str0m_formats.specs.round.Claimed.{TypeSet, has, with_type, with_option, either_set, free, times, AllDistinct}
+use Rattle.str0m_formats.specs.round.Rounds.{red_type, only_audio_red, locked_to, placed, types_taken_by, types_taken_after, AllBegun}
+use Rattle.str0m_formats.specs.round.Rounds.{Leaves}
 use Rattle.str0m_formats.specs.round.RoundsPromises.{LockedStandAlone}
 use Rattle.str0m_formats.specs.row.PayloadParams.{types_of, types, locked_types, open_types}
 
 -- ---- the types of a row that is locked are new, and differ
 
-abbrev IsUntaken : TypeSet → ℕ → Type 0
-IsUntaken taken t = taken t ≡ false
+abbrev IsUntakenType : TypeSet → ℕ → Type 0
+IsUntakenType taken t = taken t ≡ false
 
-free-new : (taken unlocked : TypeSet) (t : ℕ) → free (either taken unlocked) ≡ Some t → IsUntaken taken t
-free-new taken unlocked t e = (or_parts (taken t) (unlocked t) (free-small (either taken unlocked) t e).1).0
+free-new : (taken unlocked : TypeSet) (t : ℕ) → free (either_set taken unlocked) ≡ Some t → IsUntakenType taken t
+free-new taken unlocked t e = (or_parts (taken t) (unlocked t) (free-small (either_set taken unlocked) t e).1).0
 
-untaken_itself : (taken : TypeSet) (o : Option ℕ) → IfSome o (λ t. taken t ≡ false → IsUntaken taken t)
+untaken_itself : (taken : TypeSet) (o : Option ℕ) → IfSome o (λ t. taken t ≡ false → IsUntakenType taken t)
 untaken_itself taken o = grind arith
 
 -- a primary, then an RTX and a RED that are new beside what came before: each stands once, and none is taken
 abbrev NewTypes : TypeSet → List ℕ → Type 0
 NewTypes taken new = AllDistinct new × ((t : ℕ) → taken t ≡ true → times new t ≡ 0)
 
-new_push : (taken : TypeSet) (ls : List ℕ) (x : ℕ) → NewTypes taken ls → IsUntaken (either taken (has ls)) x → NewTypes taken (ls ++ x ∷ [])
+new_push : (taken : TypeSet) (ls : List ℕ) (x : ℕ) → NewTypes taken ls → IsUntakenType (either_set taken (has ls)) x
+    → NewTypes taken (ls ++ x ∷ [])
 new_push taken ls x n fresh =
     let parts = or_parts (taken x) (has ls x) fresh in
     (AllDistinct-push ls x n.0 parts.1, λ t h. go t h (x == t) refl parts.0) where
@@ -46,7 +48,8 @@ new_push taken ls x n fresh =
           let none : cond {A = ℕ} (x == t) 1 0 ≡ 0 = ap (λ b. cond {A = ℕ} b 1 0) e in
           omega (arith, times-append ls (x ∷ []) t, times-cons x [] t, times-nil t, none, n.1 t h)
 
-new_option : (taken set : TypeSet) (ls : List ℕ) (o : Option ℕ) → NewTypes taken ls → set ≡ either taken (has ls) → IfSome o (IsUntaken set)
+new_option : (taken set : TypeSet) (ls : List ℕ) (o : Option ℕ) → NewTypes taken ls → set ≡ either_set taken (has ls)
+    → IfSome o (IsUntakenType set)
     → NewTypes taken (ls ++ option_to_list o)
 new_option taken set ls None n is h = subst (NewTypes taken) (sym (append-nil ls)) n
 new_option taken set ls (Some x) n is h = new_push taken ls x n (ap (λ s. s x) (sym is) ∙ h)
@@ -57,24 +60,25 @@ locked_to-new taken unlocked receives row choice new h =
     let parts = locked_parts taken unlocked receives row choice new h in
     let one = with_type taken parts.pt in
     let two = with_option one parts.resend in
-    let pt : IsUntaken taken parts.pt =
-    IfOk-at_ok (IsUntaken taken) parts.pt_is
-    (role-given (IsUntaken taken) taken unlocked (free-new taken unlocked) receives choice.pt (Some row.pt) (λ new. new) (λ new. new))
+    let pt : IsUntakenType taken parts.pt =
+    IfOk-at_ok (IsUntakenType taken) parts.pt_is
+    (role-given (IsUntakenType taken) taken unlocked (free-new taken unlocked) receives choice.pt (Some row.pt) (λ new. new) (λ new. new))
     in
-    let resend : IfSome parts.resend (IsUntaken one) =
-    IfOk-at_ok (λ o. IfSome o (IsUntaken one)) parts.resend_is
-    (rtx-given (IsUntaken one) one unlocked (free-new one unlocked) receives choice.resend row.resend (untaken_itself one choice.resend)
+    let resend : IfSome parts.resend (IsUntakenType one) =
+    IfOk-at_ok (λ o. IfSome o (IsUntakenType one)) parts.resend_is
+    (rtx-given (IsUntakenType one) one unlocked (free-new one unlocked) receives choice.resend row.resend (untaken_itself one choice.resend)
     (untaken_itself one row.resend)) in
-    let red : IfSome (red_type two unlocked receives choice.red row.red) (IsUntaken two) =
-    red-given (IsUntaken two) two unlocked (free-new two unlocked) receives choice.red row.red (untaken_itself two choice.red) in
+    let red : IfSome (red_type two unlocked receives choice.red row.red) (IsUntakenType two) =
+    red-given (IsUntakenType two) two unlocked (free-new two unlocked) receives choice.red row.red (untaken_itself two choice.red) in
     let New : PayloadParams → Type 0 = λ r. NewTypes taken (types_of r) in
     let primary : NewTypes taken (parts.pt ∷ []) =
     new_push taken [] parts.pt ((λ t. omega (arith, times-nil t)), (λ t k. refl)) (or-false (taken parts.pt) ∙ pt) in
     let pair : NewTypes taken (parts.pt ∷ option_to_list parts.resend) =
     new_option taken one (parts.pt ∷ []) parts.resend primary (type-is taken parts.pt) resend in
     subst New parts.all (new_option taken two (parts.pt ∷ option_to_list parts.resend) _ pair (two-are taken parts.pt parts.resend)
-    (kept two _ red (content row.spec.codec))) where
-      kept : (set : TypeSet) (o : Option ℕ) → IfSome o (IsUntaken set) → (c : Content) → IfSome (only_audio c o) (IsUntaken set)
+    (kept two _ red (codec_content row.spec.codec))) where
+      kept : (set : TypeSet) (o : Option ℕ) → IfSome o (IsUntakenType set) → (c : CodecContent)
+          → IfSome (only_audio_red c o) (IsUntakenType set)
       kept set o f audio = f
       kept set o f _ = tt
 
@@ -82,7 +86,7 @@ locked_to-new taken unlocked receives row choice new h =
 
 -- the locked rows among the rows done and the rows to come
 abbrev LockedStanding : List PayloadParams → List PayloadParams → ℕ → ℕ → ℕ
-LockedStanding before mid i t = Standing (λ r. r.locked) before mid i t
+LockedStanding before mid i t = StandingTimes (λ r. r.locked) before mid i t
 
 placed-new : (taken unlocked : TypeSet) (receives : Bool) (row new : PayloadParams) (choice : Option PayloadParams)
     → placed taken unlocked receives row choice ≡ Ok new → row.locked ≡ false
@@ -93,10 +97,11 @@ placed-new taken unlocked receives row new (Some c) h l =
     inr (locked_to-locks taken unlocked receives row c new locks, locked_to-new taken unlocked receives row c new locks)
 
 -- where nothing that is new is taken, what stands stays at most once
-standing_new : (before mid : List PayloadParams) (i t : ℕ) (new : List ℕ) → NewTypes (taken_by before (take i mid)) new
+standing_new : (before mid : List PayloadParams) (i t : ℕ) (new : List ℕ) → NewTypes (types_taken_by before (take i mid)) new
     → LockedStanding before mid i t ≤ 1 → LockedStanding before mid i t + times new t ≤ 1
-standing_new before mid i t new n h = go (cases_Bool (taken_by before (take i mid) t)) where
-  go : (taken_by before (take i mid) t ≡ true) ⊎ (taken_by before (take i mid) t ≡ false) → LockedStanding before mid i t + times new t ≤ 1
+standing_new before mid i t new n h = go (cases_Bool (types_taken_by before (take i mid) t)) where
+  go : (types_taken_by before (take i mid) t ≡ true) ⊎ (types_taken_by before (take i mid) t ≡ false)
+      → LockedStanding before mid i t + times new t ≤ 1
   go (inl e) = omega (arith, n.1 t e, h)
   go (inr e) =
       let none = times-none (locked_types before ++ locked_types (take i mid)) t e in
@@ -124,7 +129,7 @@ standing_next before remote receives mid m i h t rec = at (slice_get mid i) refl
       let none : times (cond old.locked (types_of old) []) t ≡ 0 = ap (λ b. times (cond b (types_of old) []) t) e in
       either_way none (placed-new _ _ receives old new became.choice became.placed_so e) where
         either_way : times (cond old.locked (types_of old) []) t ≡ 0
-            → (new ≡ old) ⊎ ((new.locked ≡ true) × NewTypes (taken_by before (take i mid)) (types_of new))
+            → (new ≡ old) ⊎ ((new.locked ≡ true) × NewTypes (types_taken_by before (take i mid)) (types_of new))
             → LockedStanding before mid (suc i) t ≤ 1
         either_way none (inl same) =
             let none_new : times (cond new.locked (types_of new) []) t ≡ 0 =
@@ -142,7 +147,7 @@ standing_next before remote receives mid m i h t rec = at (slice_get mid i) refl
             )
 
   at : (o : Option PayloadParams) → slice_get mid i ≡ o → LockedStanding before mid (suc i) t ≤ 1
-  at None e = absurd (none_within mid i h e)
+  at None e = absurd (pass_none_within mid i h e)
   at (Some new) e = let old = row_before before mid i new m.whole e in now old.0 new old.1 e old.0.locked refl
 
 standing_once : (before remote : List PayloadParams) (receives : Bool) (mid : List PayloadParams) → AllBegun before remote receives mid
@@ -215,7 +220,7 @@ locked_alone before remote receives after r t h =
     let open_row = open_none after t (λ i row at_row is_open.
     let between = row_before r.mid after i row r.whole at_row in
     let s = r.second.each i between.0 row between.1 at_row in
-    row-apart locked (taken_after r.mid (take i after)) (has (open_types before)) between.0 row
+    row-apart locked (types_taken_after r.mid (take i after)) (has (open_types before)) between.0 row
     (settled_parts _ _ _ between.0 row s (sym (settled-locked _ _ _ between.0 row s) ∙ is_open)) t l
     (ap (λ f. f t) (has-append (locked_types r.mid) (open_types (take i after)))
     ∙ or_left (locked t) (has (open_types (take i after)) t) l)) in

@@ -3,15 +3,15 @@ use Rattle.str0m_formats.proofs.Common.{arith, ◌≡◌, ◌≢◌, ℕ, Bool, 
 use Rattle.str0m_formats.proofs.Common.{subst, fun_ext, Contains}
 use Rattle.str0m_formats.proofs.round.FirstPass.{and_then-ok, same_Ok, locked_to-locks, placed-open_row, placed-no_choice, locked_parts}
 use Rattle.str0m_formats.proofs.round.RoundsLocked.{locked_stay}
-use Rattle.str0m_formats.proofs.round.RoundsPasses.{split_has}
+use Rattle.str0m_formats.proofs.round.RoundsPasses.{pass_split_has}
 use Rattle.str0m_formats.proofs.round.RoundsRowSteps.{RowSteps, row_steps}
 use Rattle.str0m_formats.proofs.round.SettlingPass.{settled-locked, settled-same}
 use Rattle.str0m_formats.specs.codec.Codec.{is_amr_wb}
 use Rattle.str0m_formats.specs.declared.codec.Codec.TheVariants.{AmrWb}
 use Rattle.str0m_formats.specs.declared.row.payload_params.PayloadParams.{PayloadParams}
-use Rattle.str0m_formats.specs.round.Choices.{IsBest, IsChoice, points_for}
+use Rattle.str0m_formats.specs.round.Choices.{IsBestRow, IsChoice, choice_points_for}
 use Rattle.str0m_formats.specs.round.Claimed.{TypeSet}
-use Rattle.str0m_formats.specs.round.MatchScore.{score}
+use Rattle.str0m_formats.specs.round.MatchScore.{spec_score}
 use Rattle.str0m_formats.specs.round.Rounds.{role_type, rtx_type, placed, Leaves}
 use Rattle.str0m_formats.specs.round.RoundsPromises.{IsMatched, MatchedAreLocked, HasTypesOf, LockedAtBest}
 
@@ -26,19 +26,20 @@ may_leave-false : (receives : Bool) (row : PayloadParams) → (receives ≡ true
 may_leave-false receives row h = grind arith
 
 points-score : (taken : TypeSet) (receives : Bool) (row theirs : PayloadParams) → may_leave receives row ≡ false
-    → points_for taken receives row theirs ≡ score row.spec theirs.spec
-unfolding points_for
+    → choice_points_for taken receives row theirs ≡ spec_score row.spec theirs.spec
+unfolding choice_points_for
 points-score taken receives row theirs h = grind arith
 
-pub some_score : (taken : TypeSet) (receives : Bool) (row theirs : PayloadParams) (n : ℕ) → points_for taken receives row theirs ≡ Some n
-    → score row.spec theirs.spec ≢ None
-unfolding points_for
+pub some_score : (taken : TypeSet) (receives : Bool) (row theirs : PayloadParams) (n : ℕ)
+    → choice_points_for taken receives row theirs ≡ Some n
+    → spec_score row.spec theirs.spec ≢ None
+unfolding choice_points_for
 some_score taken receives row theirs n h = grind arith
 
 -- ---- each matched row is locked
 
 chosen_locks : (taken unlocked : TypeSet) (remote : List PayloadParams) (receives : Bool) (row new : PayloadParams)
-    (choice : Option PayloadParams) → IsChoice (points_for taken receives row) remote choice
+    (choice : Option PayloadParams) → IsChoice (choice_points_for taken receives row) remote choice
     → placed taken unlocked receives row choice ≡ Ok new
     → row.locked ≡ false → IsMatched remote row → may_leave receives row ≡ false → new.locked ≡ true
 chosen_locks taken unlocked remote receives row new choice none h l m a = grind (arith, points-score, locked_to-locks, placed-open_row)
@@ -70,11 +71,11 @@ rtx-received taken unlocked asked own new h = grind (arith, same_Ok, and_then-ok
 -- what is said of a newly locked row
 abbrev AtBest : List PayloadParams → PayloadParams → PayloadParams → Type 0
 AtBest remote old new =
-    (best : PayloadParams) × HasTypesOf new best × Contains remote best × (score old.spec best.spec ≢ None)
-    × (old.spec.codec ≢ AmrWb → IsBest (λ theirs. score old.spec theirs.spec) remote best)
+    (best : PayloadParams) × HasTypesOf new best × Contains remote best × (spec_score old.spec best.spec ≢ None)
+    × (old.spec.codec ≢ AmrWb → IsBestRow (λ theirs. spec_score old.spec theirs.spec) remote best)
 
 placed-at_best : (taken unlocked : TypeSet) (remote : List PayloadParams) (row new : PayloadParams) (choice : Option PayloadParams)
-    → IsChoice (points_for taken true row) remote choice → placed taken unlocked true row choice ≡ Ok new
+    → IsChoice (choice_points_for taken true row) remote choice → placed taken unlocked true row choice ≡ Ok new
     → row.locked ≡ false → new.locked ≡ true → AtBest remote row new
 placed-at_best taken unlocked remote row new None none h l k = grind (arith, placed-no_choice)
 placed-at_best taken unlocked remote row new (Some c) best h l k =
@@ -83,10 +84,10 @@ placed-at_best taken unlocked remote row new (Some c) best h l k =
     ∙ sym (role-received taken unlocked c.pt (Some row.pt) parts.pt parts.pt_is) in
     let resend : new.resend ≡ c.resend = ap (λ r. r.resend) (sym parts.all)
     ∙ sym (rtx-received _ unlocked c.resend row.resend parts.resend parts.resend_is) in
-    let Best : (PayloadParams → Option ℕ) → Type 0 = λ points. IsBest points remote c in (
+    let Best : (PayloadParams → Option ℕ) → Type 0 = λ points. IsBestRow points remote c in (
       c,
       (primary, resend),
-      split_has remote best.before c best.after best.split,
+      pass_split_has remote best.before c best.after best.split,
       some_score taken true row c best.most best.has_most,
       λ not_amr. subst Best (fun_ext
           (λ theirs. points-score taken true row theirs (may_leave-false true row (λ _ amr. absurd (not_amr amr))))) best,

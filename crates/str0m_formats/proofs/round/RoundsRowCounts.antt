@@ -2,7 +2,7 @@
 use Rattle.str0m_formats.proofs.Common.{rules, zero, suc, ◌≡◌, ℕ, ◌+◌, ◌≤◌, Bool, true, false, not, cond, List, [], ◌∷◌, ◌++◌, length, take}
 use Rattle.str0m_formats.proofs.Common.{drop, Some, filter, refl, ap, ◌∙◌, arith, slice_get, same_Some, none-some, length-append}
 use Rattle.str0m_formats.proofs.round.ClaimedTimes.{times-append, times-nil}
-use Rattle.str0m_formats.proofs.round.RoundsPasses.{take_suc}
+use Rattle.str0m_formats.proofs.round.RoundsPasses.{pass_take_suc}
 use Rattle.str0m_formats.proofs.row.PayloadParamsSets.{types_where-push}
 use Rattle.str0m_formats.specs.declared.row.payload_params.PayloadParams.{PayloadParams}
 use Rattle.str0m_formats.specs.round.Claimed.{times}
@@ -30,18 +30,18 @@ times_where-drop test [] (suc i) t = omega arith
 times_where-drop test (r ∷ rows) (suc i) t = omega (arith, times_where-drop test rows i t, times_where-cons test r rows t)
 
 -- among the rows done and the rows to come
-abbrev pub Standing : (PayloadParams → Bool) → List PayloadParams → List PayloadParams → ℕ → ℕ → ℕ
-Standing test rows done i t = times (types (filter test (take i done))) t + times (types (filter test (drop i rows))) t
+abbrev pub StandingTimes : (PayloadParams → Bool) → List PayloadParams → List PayloadParams → ℕ → ℕ → ℕ
+StandingTimes test rows done i t = times (types (filter test (take i done))) t + times (types (filter test (drop i rows))) t
 
 -- what stands changes by the one row
 pub standing_step : (test : PayloadParams → Bool) (rows done : List PayloadParams) (i t : ℕ) (old new : PayloadParams)
     → slice_get rows i ≡ Some old → slice_get done i ≡ Some new
-    → Standing test rows done (suc i) t + times (cond (test old) (types_of old) []) t ≡ Standing test rows done i t
+    → StandingTimes test rows done (suc i) t + times (cond (test old) (types_of old) []) t ≡ StandingTimes test rows done i t
     + times (cond (test new) (types_of new) []) t
 standing_step test rows done i t old new at_old at_new =
     let front : times (types (filter test (take (suc i) done))) t ≡ times (types (filter test (take i done))) t
     + times (cond (test new) (types_of new) []) t =
-    ap (λ xs. times (types (filter test xs)) t) (take_suc done i new at_new) ∙ times_where-push test (take i done) new t in
+    ap (λ xs. times (types (filter test xs)) t) (pass_take_suc done i new at_new) ∙ times_where-push test (take i done) new t in
     let back : times (types (filter test (drop i rows))) t ≡ times (cond (test old) (types_of old) []) t
     + times (types (filter test (drop (suc i) rows))) t =
     ap (λ xs. times (types (filter test xs)) t) (drop_suc rows i old at_old) ∙ times_where-cons test old (drop (suc i) rows) t in

@@ -5,16 +5,16 @@ use Rattle.str0m_formats.proofs.Common.{slice_get_within, true≢false, false≢
 use Rattle.str0m_formats.proofs.round.ClaimSteps.{claimed_all, claimed_twice}
 use Rattle.str0m_formats.proofs.round.ClaimedTimes.{times-nil}
 use Rattle.str0m_formats.proofs.round.FirstPass.{placed-locked, placed-open}
-use Rattle.str0m_formats.proofs.round.RoundsPasses.{none_within}
+use Rattle.str0m_formats.proofs.round.RoundsPasses.{pass_none_within}
 use Rattle.str0m_formats.proofs.row.PayloadParamsSets.{has-append, locked_types-at, open_types-at}
 use Rattle.str0m_formats.specs.declared.round.negotiation_error.NegotiationError.{NegotiationError}
 use Rattle.str0m_formats.specs.declared.round.negotiation_error.NegotiationError.TheVariants.{TypeTooLarge}
 use Rattle.str0m_formats.specs.declared.row.payload_params.PayloadParams.{PayloadParams}
 use Rattle.str0m_formats.specs.round.Claimed.{TypeSet, has, AllDistinct}
 use Rattle.str0m_formats.specs.round.Claims.{claim_each}
-use Rattle.str0m_formats.specs.round.Rounds.{taken_by, Begun, MayBegin, AllBegun, Settled, StopsSettling, Leaves, Refused, too_large}
+use Rattle.str0m_formats.specs.round.Rounds.{types_taken_by, Begun, MayBegin, AllBegun, Settled, StopsSettling, Leaves, Refused, too_large}
 use Rattle.str0m_formats.specs.round.Rounds.{twice_before, in_second}
-use Rattle.str0m_formats.specs.row.PayloadParams.{AllSmall, types_of, types, locked_types, open_types}
+use Rattle.str0m_formats.specs.row.PayloadParams.{AllTypesSmall, types_of, types, locked_types, open_types}
 
 -- no type stands in an empty list
 distinct_nil : AllDistinct []
@@ -23,7 +23,7 @@ distinct_nil = λ t. omega (arith, times-nil t)
 -- the row before the round, at a place of the first pass
 pub row_before : {A B : Type 0} (xs : List A) (ys : List B) (i : ℕ) (y : B) → length ys ≡ length xs → slice_get ys i ≡ Some y
     → (x : A) × (slice_get xs i ≡ Some x)
-row_before {A} xs ys i y whole at_y = grind (arith, none_within xs i, slice_get_within ys i y at_y)
+row_before {A} xs ys i y whole at_y = grind (arith, pass_none_within xs i, slice_get_within ys i y at_y)
 
 -- an open row of the first pass is the row before the round
 pub begun_open : (before remote : List PayloadParams) (receives : Bool) (mid : List PayloadParams) (i : ℕ) (row : PayloadParams)
@@ -66,7 +66,7 @@ locked_types-from (r ∷ rows) t h = go (locked_types-from rows t) r.locked refl
 
 -- after the whole first pass the types taken are those of the rows that are locked then
 pub taken_whole : (before remote : List PayloadParams) (receives : Bool) (mid : List PayloadParams) → Begun before remote receives mid
-    → length mid ≡ length before → taken_by before mid ≡ has (locked_types mid)
+    → length mid ≡ length before → types_taken_by before mid ≡ has (locked_types mid)
 taken_whole before remote receives mid begun whole = has-append (locked_types before) (locked_types mid)
     ∙ fun_ext (λ t. go t (has (locked_types before) t) refl) where
       covered : (t : ℕ) → has (locked_types before) t ≡ true → has (locked_types mid) t ≡ true
@@ -89,7 +89,7 @@ pub open_before : (before remote : List PayloadParams) (receives : Bool) (mid : 
 open_before before remote receives mid unlocked begun whole same =
     grind (arith, open_types-at before, begun_open before remote receives mid)
 
-pub may_begin : (before remote : List PayloadParams) (set : TypeSet) → AllSmall (types before ++ types remote)
+pub may_begin : (before remote : List PayloadParams) (set : TypeSet) → AllTypesSmall (types before ++ types remote)
     → claim_each (has []) (locked_types before) ≡ Ok set → MayBegin before remote
 may_begin before remote set small h = record { small = small; once = (claimed_all [] (locked_types before) set distinct_nil h).1 }
 
@@ -98,7 +98,8 @@ pub claimed_is_locked : (before : List PayloadParams) (set : TypeSet) → claim_
 claimed_is_locked before set h = (claimed_all [] (locked_types before) set distinct_nil h).0
 
 pub refused_before : (before remote : List PayloadParams) (receives : Bool) (cause : NegotiationError)
-    → AllSmall (types before ++ types remote) → claim_each (has []) (locked_types before) ≡ Err cause → Refused before remote receives cause
+    → AllTypesSmall (types before ++ types remote) → claim_each (has []) (locked_types before) ≡ Err cause
+    → Refused before remote receives cause
 refused_before before remote receives cause small h = grind (arith, claimed_twice, distinct_nil, twice_before)
 
 pub refused_large : (before remote : List PayloadParams) (receives : Bool) (cause : NegotiationError)
@@ -107,13 +108,13 @@ pub refused_large : (before remote : List PayloadParams) (receives : Bool) (caus
 refused_large before remote receives cause h = grind (arith, too_large)
 
 all_begun : (before remote : List PayloadParams) (receives claims_receive : Bool) (mid : List PayloadParams) (set : TypeSet)
-    → AllSmall (types before ++ types remote) → claim_each (has []) (locked_types before) ≡ Ok set → claims_receive ≡ receives
+    → AllTypesSmall (types before ++ types remote) → claim_each (has []) (locked_types before) ≡ Ok set → claims_receive ≡ receives
     → Begun before remote claims_receive mid → length mid ≡ length before → AllBegun before remote receives mid
 all_begun before remote receives claims_receive mid set small h r begun whole = grind (arith, may_begin before remote set small h)
 
 pub round_done : (before remote : List PayloadParams) (receives claims_receive : Bool) (mid after : List PayloadParams)
     (set unlocked : TypeSet) (result : Result (Unit {0}) NegotiationError)
-    → AllSmall (types before ++ types remote) → claim_each (has []) (locked_types before) ≡ Ok set → claims_receive ≡ receives
+    → AllTypesSmall (types before ++ types remote) → claim_each (has []) (locked_types before) ≡ Ok set → claims_receive ≡ receives
     → Begun before remote claims_receive mid → length mid ≡ length before → unlocked ≡ has (open_types before)
     → OnOk result (Settled unlocked mid after) → length after ≡ length mid → IfErr result (StopsSettling unlocked mid)
     → OnOk result (Leaves before remote receives after) × IfErr result (Refused before remote receives)

@@ -5,15 +5,15 @@ use Rattle.str0m_formats.specs.codec.Codec.{static_entry, rtp_clock}
 use Rattle.str0m_formats.specs.declared.codec.Codec.{Codec}
 use Rattle.str0m_formats.specs.declared.codec.TheConstants.{NAMED}
 use Rattle.str0m_formats.specs.declared.codec.codec_spec.CodecSpec.{CodecSpec}
-use Rattle.str0m_formats.specs.format.FormatParams.{empty}
+use Rattle.str0m_formats.specs.format.FormatParams.{empty_format}
 
 -- the payload type stands for the spec: its codec at that rate, and nothing else said
 abbrev pub IsStatic : ℕ → CodecSpec → Type 0
-IsStatic pt spec = (static_entry spec.codec ≡ Some (pt, spec.clock_rate)) × (spec.channels ≡ None) × (spec.format ≡ empty)
+IsStatic pt spec = (static_entry spec.codec ≡ Some (pt, spec.clock_rate)) × (spec.channels ≡ None) × (spec.format ≡ empty_format)
 
 -- a codec of which nothing is said but its rate
 abbrev pub spec_at : Codec → ℕ → CodecSpec
-spec_at codec rate = record { codec = codec; clock_rate = rate; channels = None; format = empty }
+spec_at codec rate = record { codec = codec; clock_rate = rate; channels = None; format = empty_format }
 
 abbrev pub is_at : ℕ → Option (ℕ × ℕ) → Bool
 is_at pt None = false

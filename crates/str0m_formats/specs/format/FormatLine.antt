@@ -10,82 +10,82 @@ use Rattle.str0m_formats.specs.declared.codec.Codec.TheVariants.{Tele}
 use Rattle.str0m_formats.specs.declared.format.format_param.FormatParam.{FormatParam}
 use Rattle.str0m_formats.specs.declared.format.format_param.FormatParam.TheVariants.{TelephoneEvents, BareRange, AmrWbUnsupported}
 use Rattle.str0m_formats.specs.declared.format.format_params.FormatParams.{FormatParams}
-use Rattle.str0m_formats.specs.format.FormatParam.{IsBare}
-use Rattle.str0m_formats.specs.format.FormatParams.{empty, set_all}
-use Rattle.str0m_formats.specs.format.Pairs.{AreRead}
-use Rattle.str0m_formats.specs.round.Narrowing.{telephone_max}
+use Rattle.str0m_formats.specs.format.FormatParam.{IsBareParam}
+use Rattle.str0m_formats.specs.format.FormatParams.{empty_format, set_all_params}
+use Rattle.str0m_formats.specs.format.Pairs.{ArePairsRead}
+use Rattle.str0m_formats.specs.round.Narrowing.{narrowed_telephone_max}
 
 -- ---- a line
 
-abbrev pub pieces : List ℕ → List (List ℕ)
-pieces line = slice_split (λ b. b == 59) line
+abbrev pub line_pieces : List ℕ → List (List ℕ)
+line_pieces line = slice_split (λ b. b == 59) line
 
 -- the key and the value of a piece, trimmed: what stands before its first `=`, and from there to the second
-abbrev pub pair_in : List ℕ → Option (List ℕ × List ℕ)
-pair_in piece = option_map (λ parts. (trim parts.0, trim (before 61 parts.1))) (cut 61 piece)
+abbrev pub line_piece_pair : List ℕ → Option (List ℕ × List ℕ)
+line_piece_pair piece = option_map (λ parts. (trim parts.0, trim (before 61 parts.1))) (cut 61 piece)
 
 -- the value of a piece without a key, trimmed
-abbrev pub bare_in : List ℕ → Option (List ℕ)
-bare_in piece = when (lacks 61 piece) (trim piece)
+abbrev pub line_piece_bare : List ℕ → Option (List ℕ)
+line_piece_bare piece = when (lacks 61 piece) (trim piece)
 
-unfoldable pub pairs_in : List (List ℕ) → List (List ℕ × List ℕ)
-pairs_in pieces = filter_map pair_in pieces
+unfoldable pub line_piece_pairs : List (List ℕ) → List (List ℕ × List ℕ)
+line_piece_pairs line_pieces = filter_map line_piece_pair line_pieces
 
-unfoldable pub bares_in : List (List ℕ) → List (List ℕ)
-bares_in pieces = filter_map bare_in pieces
+unfoldable pub line_piece_bares : List (List ℕ) → List (List ℕ)
+line_piece_bares line_pieces = filter_map line_piece_bare line_pieces
 
 -- what the pieces without a key say
 pub record IsFormatOfBares (pieces : List (List ℕ)) (p : FormatParams) : Type 0 where
   pub bares : List FormatParam
-  pub bares_are : AllZip IsBare (bares_in pieces) bares
-  pub format : p ≡ set_all empty bares
+  pub bares_are : AllZip IsBareParam (line_piece_bares pieces) bares
+  pub format : p ≡ set_all_params empty_format bares
 
 -- the pieces without a key are set first, then what the pairs read as, together
 pub record IsFormatOfLine (line : List ℕ) (p : FormatParams) : Type 0 where
   pub bares : List FormatParam
   pub params : List FormatParam
-  pub bares_are : AllZip IsBare (bares_in (pieces line)) bares
-  pub params_are : AreRead (pairs_in (pieces line)) params
-  pub format : p ≡ set_all empty (bares ++ params)
+  pub bares_are : AllZip IsBareParam (line_piece_bares (line_pieces line)) bares
+  pub params_are : ArePairsRead (line_piece_pairs (line_pieces line)) params
+  pub format : p ≡ set_all_params empty_format (bares ++ params)
 
 -- ---- the fmtp lines of a payload type
 
-unfoldable pub is_event : FormatParam → Bool
-is_event (TelephoneEvents n) = true
-is_event _ = false
+unfoldable pub is_line_event : FormatParam → Bool
+is_line_event (TelephoneEvents n) = true
+is_line_event _ = false
 
-unfoldable pub is_unsupported : FormatParam → Bool
-is_unsupported AmrWbUnsupported = true
-is_unsupported _ = false
+unfoldable pub is_line_unsupported : FormatParam → Bool
+is_line_unsupported AmrWbUnsupported = true
+is_line_unsupported _ = false
 
-abbrev pub range_end : FormatParam → Option ℕ
-range_end (TelephoneEvents n) = Some n
-range_end (BareRange n) = Some n
-range_end _ = None
+abbrev pub line_event_range_end : FormatParam → Option ℕ
+line_event_range_end (TelephoneEvents n) = Some n
+line_event_range_end (BareRange n) = Some n
+line_event_range_end _ = None
 
 -- the highest event: that of a format which says none without a line, else that of one line that is one range
-abbrev pub events_end : List (List FormatParam) → Option ℕ
-events_end [] = Some (telephone_max empty)
-events_end ((param ∷ []) ∷ []) = range_end param
-events_end _ = None
+abbrev pub line_events_end : List (List FormatParam) → Option ℕ
+line_events_end [] = Some (narrowed_telephone_max empty_format)
+line_events_end ((param ∷ []) ∷ []) = line_event_range_end param
+line_events_end _ = None
 
 -- the values without ranges of events
-abbrev pub kept : List FormatParam → List FormatParam
-kept params = filter (λ param. not (is_event param)) params
+abbrev pub line_without_event_ranges : List FormatParam → List FormatParam
+line_without_event_ranges params = filter (λ param. not (is_line_event param)) params
 
 -- the values of all lines, without ranges of events
-abbrev pub values_of : List (List FormatParam) → List FormatParam
-values_of [] = []
-values_of (line ∷ lines) = kept line ++ values_of lines
+abbrev pub values_of_lines : List (List FormatParam) → List FormatParam
+values_of_lines [] = []
+values_of_lines (line ∷ lines) = line_without_event_ranges line ++ values_of_lines lines
 
 -- whether a line of AMR-WB asks for what isn't there
-unfoldable pub asks_absent : Codec → List (List FormatParam) → Bool
-asks_absent codec lines = is_amr_wb codec && list_any (λ line. list_any is_unsupported line) lines
+unfoldable pub line_asks_absent : Codec → List (List FormatParam) → Bool
+line_asks_absent codec lines = is_amr_wb codec && list_any (λ line. list_any is_line_unsupported line) lines
 
 -- the format that the lines say of the codec, where they don't ask for what isn't there
 abbrev pub format_of_fmtp : Codec → List (List FormatParam) → Option FormatParams
-format_of_fmtp Tele lines = option_map (λ max. record empty { telephone_event_max = Some max }) (events_end lines)
-format_of_fmtp codec lines = if asks_absent codec lines then None else Some (set_all empty (values_of lines))
+format_of_fmtp Tele lines = option_map (λ max. record empty_format { telephone_event_max = Some max }) (line_events_end lines)
+format_of_fmtp codec lines = if line_asks_absent codec lines then None else Some (set_all_params empty_format (values_of_lines lines))
 
 -- lines without where they lie in memory
 abbrev pub line_values : List (Bor (List FormatParam)) → List (List FormatParam)

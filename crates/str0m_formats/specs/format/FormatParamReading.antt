@@ -11,57 +11,57 @@ use Rattle.str0m_formats.specs.declared.format.format_key.TheConstants.{KEYS}
 use Rattle.str0m_formats.specs.declared.format.format_param.FormatParam.{FormatParam}
 use Rattle.str0m_formats.specs.declared.format.format_param.FormatParam.TheVariants.{TelephoneEvents, Unknown}
 use Rattle.str0m_formats.specs.format.FormatKey.{key_text}
-use Rattle.str0m_formats.specs.format.FormatParam.{Kind, flag, number, hex, modes, exactly, anything, Held, kind, keyed}
+use Rattle.str0m_formats.specs.format.FormatParam.{KeyKind, flag, number, hex, modes, exactly, anything, HeldValue, key_kind, keyed_param}
 
-abbrev pub all_digits : ℕ → List ℕ → Bool
-all_digits radix [] = true
-all_digits radix (c ∷ cs) = nat_lt (digit_value c) radix && all_digits radix cs
+abbrev pub param_all_digits : ℕ → List ℕ → Bool
+param_all_digits radix [] = true
+param_all_digits radix (c ∷ cs) = nat_lt (digit_value c) radix && param_all_digits radix cs
 
 -- the number that std reads in this radix, where it is at most limit
-unfoldable pub number_read : ℕ → ℕ → List ℕ → Option ℕ
-number_read radix limit text = let digits = without_leading_plus text in
-    when ((is_rest digits && all_digits radix digits) && nat_le (digits_value radix digits) limit) (digits_value radix digits)
+unfoldable pub param_number_read : ℕ → ℕ → List ℕ → Option ℕ
+param_number_read radix limit text = let digits = without_leading_plus text in
+    when ((is_rest digits && param_all_digits radix digits) && nat_le (digits_value radix digits) limit) (digits_value radix digits)
 
-unfoldable pub hex_read : List ℕ → Option ℕ
-hex_read text = number_read 16 4294967295 text <|> num 4294967295 text
+unfoldable pub param_hex_read : List ℕ → Option ℕ
+param_hex_read text = param_number_read 16 4294967295 text <|> num 4294967295 text
 
 -- the mask with the bits of the modes that the pieces name
 abbrev pub modes_from : ℕ → List (List ℕ) → Option ℕ
 modes_from mask [] = Some mask
 modes_from mask (piece ∷ pieces) = num 8 (trim piece) >>= λ mode. modes_from (bit_or mask (2 ^ mode)) pieces
 
-unfoldable pub modes_read : List ℕ → Option ℕ
-modes_read text = modes_from 0 (slice_split (λ b. b == 44) text)
+unfoldable pub param_modes_read : List ℕ → Option ℕ
+param_modes_read text = modes_from 0 (slice_split (λ b. b == 44) text)
 
-abbrev pub keys : List FormatKey
-keys = map (λ it. it.0) KEYS
+abbrev pub format_keys : List FormatKey
+format_keys = map (λ it. it.0) KEYS
 
-unfoldable pub key_read : List ℕ → Option FormatKey
-key_read text = find (λ key. str_eq_ignore_ascii_case text (key_text key)) keys
+unfoldable pub param_key_read : List ℕ → Option FormatKey
+param_key_read text = find (λ key. str_eq_ignore_ascii_case text (key_text key)) format_keys
 
-abbrev pub is_one : List ℕ → Bool
-is_one value = bytes_eq value (codes "1")
+abbrev pub is_flag_one : List ℕ → Bool
+is_flag_one value = bytes_eq value (codes "1")
 
 -- the value of a kind
-abbrev pub kind_read : (kind : Kind) → List ℕ → Option (Held kind)
-kind_read flag text = Some (is_one text)
-kind_read (number limit) text = num limit text
-kind_read hex text = hex_read text
-kind_read modes text = modes_read text
-kind_read (exactly own) text = when (bytes_eq text own) (tt {0})
-kind_read anything text = Some (tt {0})
+abbrev pub param_kind_read : (kind : KeyKind) → List ℕ → Option (HeldValue kind)
+param_kind_read flag text = Some (is_flag_one text)
+param_kind_read (number limit) text = num limit text
+param_kind_read hex text = param_hex_read text
+param_kind_read modes text = param_modes_read text
+param_kind_read (exactly own) text = when (bytes_eq text own) (tt {0})
+param_kind_read anything text = Some (tt {0})
 
 -- the parameter of a value after a key, by cases, so that it computes at each key and at no variable
 abbrev param_read : FormatKey → List ℕ → Option FormatParam
-param_read key text = option_map (keyed key) (kind_read (kind key) text)
+param_read key text = option_map (keyed_param key) (param_kind_read (key_kind key) text)
 
-abbrev pub value_read : FormatKey → List ℕ → Option FormatParam
-value_read Apt text = param_read Apt text
-value_read key text = param_read key text
+abbrev pub key_value_read : FormatKey → List ℕ → Option FormatParam
+key_value_read Apt text = param_read Apt text
+key_value_read key text = param_read key text
 
 -- what a key and its value read as
-unfoldable pub param_of : List ℕ × List ℕ → FormatParam
-param_of pair = unwrap_or (key_read pair.0 >>= λ key. value_read key pair.1) Unknown
+unfoldable pub param_of_pair : List ℕ × List ℕ → FormatParam
+param_of_pair pair = unwrap_or (param_key_read pair.0 >>= λ key. key_value_read key pair.1) Unknown
 
 -- what the last event of a range stands for
 abbrev pub bare_param : Option ℕ → FormatParam

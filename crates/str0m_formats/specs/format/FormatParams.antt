@@ -9,112 +9,112 @@ use Rattle.str0m_formats.specs.declared.format.format_params.Field.{Field}
 use Rattle.str0m_formats.specs.declared.format.format_params.Field.TheVariants as field
 use Rattle.str0m_formats.specs.declared.format.format_params.FormatParams.{FormatParams}
 use Rattle.str0m_formats.specs.declared.format.format_params.TheConstants.{FIELDS}
-use Rattle.str0m_formats.specs.format.FormatParam.{Held, kind, keyed, entry, InRange, param_text}
+use Rattle.str0m_formats.specs.format.FormatParam.{HeldValue, key_kind, keyed_param, param_entry, InKindRange, param_text}
 use Rattle.str0m_values.specs.H265.{H265ProfileTierLevel as h265_triple}
 use Rattle.str0m_values.specs.H266.{H266ProfileTierLevel as h266_triple}
 
 -- what the field of a format holds: the value of its key, a profile, tier and level, or the highest event
 abbrev pub FieldContent : Field → Type 0
-FieldContent (field.Key key) = Held (kind key)
+FieldContent (field.Key key) = HeldValue (key_kind key)
 FieldContent field.H265ProfileTierLevel = h265_triple
 FieldContent field.H266ProfileTierLevel = h266_triple
 FieldContent field.TelephoneEvents = ℕ
 
 -- what the field holds; a key without a field holds nothing
-abbrev pub get : (field : Field) → FormatParams → Option (FieldContent field)
-get (field.Key key.MinPTime) p = p.min_p_time
-get (field.Key key.Stereo) p = p.stereo
-get (field.Key key.SpropStereo) p = p.sprop_stereo
-get (field.Key key.UseInbandFec) p = p.use_inband_fec
-get (field.Key key.UseDtx) p = p.use_dtx
-get (field.Key key.LevelAsymmetryAllowed) p = p.level_asymmetry_allowed
-get (field.Key key.PacketizationMode) p = p.packetization_mode
-get (field.Key key.ProfileLevelId) p = p.profile_level_id
-get (field.Key key.ProfileId) p = p.profile_id
-get (field.Key key.Profile) p = p.profile
-get (field.Key key.LevelIdx) p = p.level_idx
-get (field.Key key.Tier) p = p.tier
-get (field.Key key.SpropMaxDonDiff) p = p.sprop_max_don_diff
-get (field.Key key.OctetAlign) p = p.octet_align
-get (field.Key key.ModeSet) p = p.mode_set
-get field.H265ProfileTierLevel p = p.h265_profile_tier_level
-get field.H266ProfileTierLevel p = p.h266_profile_tier_level
-get field.TelephoneEvents p = p.telephone_event_max
-get f p = None
+abbrev pub get_field : (field : Field) → FormatParams → Option (FieldContent field)
+get_field (field.Key key.MinPTime) p = p.min_p_time
+get_field (field.Key key.Stereo) p = p.stereo
+get_field (field.Key key.SpropStereo) p = p.sprop_stereo
+get_field (field.Key key.UseInbandFec) p = p.use_inband_fec
+get_field (field.Key key.UseDtx) p = p.use_dtx
+get_field (field.Key key.LevelAsymmetryAllowed) p = p.level_asymmetry_allowed
+get_field (field.Key key.PacketizationMode) p = p.packetization_mode
+get_field (field.Key key.ProfileLevelId) p = p.profile_level_id
+get_field (field.Key key.ProfileId) p = p.profile_id
+get_field (field.Key key.Profile) p = p.profile
+get_field (field.Key key.LevelIdx) p = p.level_idx
+get_field (field.Key key.Tier) p = p.tier
+get_field (field.Key key.SpropMaxDonDiff) p = p.sprop_max_don_diff
+get_field (field.Key key.OctetAlign) p = p.octet_align
+get_field (field.Key key.ModeSet) p = p.mode_set
+get_field field.H265ProfileTierLevel p = p.h265_profile_tier_level
+get_field field.H266ProfileTierLevel p = p.h266_profile_tier_level
+get_field field.TelephoneEvents p = p.telephone_event_max
+get_field f p = None
 
 -- the format with this in the field
-abbrev pub put : (field : Field) → Option (FieldContent field) → FormatParams → FormatParams
-put (field.Key key.MinPTime) o p = record p { min_p_time = o }
-put (field.Key key.Stereo) o p = record p { stereo = o }
-put (field.Key key.SpropStereo) o p = record p { sprop_stereo = o }
-put (field.Key key.UseInbandFec) o p = record p { use_inband_fec = o }
-put (field.Key key.UseDtx) o p = record p { use_dtx = o }
-put (field.Key key.LevelAsymmetryAllowed) o p = record p { level_asymmetry_allowed = o }
-put (field.Key key.PacketizationMode) o p = record p { packetization_mode = o }
-put (field.Key key.ProfileLevelId) o p = record p { profile_level_id = o }
-put (field.Key key.ProfileId) o p = record p { profile_id = o }
-put (field.Key key.Profile) o p = record p { profile = o }
-put (field.Key key.LevelIdx) o p = record p { level_idx = o }
-put (field.Key key.Tier) o p = record p { tier = o }
-put (field.Key key.SpropMaxDonDiff) o p = record p { sprop_max_don_diff = o }
-put (field.Key key.OctetAlign) o p = record p { octet_align = o }
-put (field.Key key.ModeSet) o p = record p { mode_set = o }
-put field.H265ProfileTierLevel o p = record p { h265_profile_tier_level = o }
-put field.H266ProfileTierLevel o p = record p { h266_profile_tier_level = o }
-put field.TelephoneEvents o p = record p { telephone_event_max = o }
-put f o p = p
+abbrev pub put_field : (field : Field) → Option (FieldContent field) → FormatParams → FormatParams
+put_field (field.Key key.MinPTime) o p = record p { min_p_time = o }
+put_field (field.Key key.Stereo) o p = record p { stereo = o }
+put_field (field.Key key.SpropStereo) o p = record p { sprop_stereo = o }
+put_field (field.Key key.UseInbandFec) o p = record p { use_inband_fec = o }
+put_field (field.Key key.UseDtx) o p = record p { use_dtx = o }
+put_field (field.Key key.LevelAsymmetryAllowed) o p = record p { level_asymmetry_allowed = o }
+put_field (field.Key key.PacketizationMode) o p = record p { packetization_mode = o }
+put_field (field.Key key.ProfileLevelId) o p = record p { profile_level_id = o }
+put_field (field.Key key.ProfileId) o p = record p { profile_id = o }
+put_field (field.Key key.Profile) o p = record p { profile = o }
+put_field (field.Key key.LevelIdx) o p = record p { level_idx = o }
+put_field (field.Key key.Tier) o p = record p { tier = o }
+put_field (field.Key key.SpropMaxDonDiff) o p = record p { sprop_max_don_diff = o }
+put_field (field.Key key.OctetAlign) o p = record p { octet_align = o }
+put_field (field.Key key.ModeSet) o p = record p { mode_set = o }
+put_field field.H265ProfileTierLevel o p = record p { h265_profile_tier_level = o }
+put_field field.H266ProfileTierLevel o p = record p { h266_profile_tier_level = o }
+put_field field.TelephoneEvents o p = record p { telephone_event_max = o }
+put_field f o p = p
 
 -- the parameter of what the field holds
-abbrev pub param_in : (field : Field) → FieldContent field → FormatParam
-param_in (field.Key key) x = keyed key x
-param_in field.H265ProfileTierLevel t = H265ProfileTierLevel t
-param_in field.H266ProfileTierLevel t = H266ProfileTierLevel t
-param_in field.TelephoneEvents n = TelephoneEvents n
+abbrev pub field_param : (field : Field) → FieldContent field → FormatParam
+field_param (field.Key key) x = keyed_param key x
+field_param field.H265ProfileTierLevel t = H265ProfileTierLevel t
+field_param field.H266ProfileTierLevel t = H266ProfileTierLevel t
+field_param field.TelephoneEvents n = TelephoneEvents n
 
-abbrev put_entry : Option ((key : FormatKey) × Held (kind key)) → FormatParams → FormatParams
+abbrev put_entry : Option ((key : FormatKey) × HeldValue (key_kind key)) → FormatParams → FormatParams
 put_entry None p = p
-put_entry (Some e) p = put (field.Key e.0) (Some e.1) p
+put_entry (Some e) p = put_field (field.Key e.0) (Some e.1) p
 
 -- the format, with the value of the parameter in its field; a parameter without a field changes nothing
-abbrev pub set : FormatParam → FormatParams → FormatParams
-set (H265ProfileTierLevel t) p = put field.H265ProfileTierLevel (Some t) p
-set (H266ProfileTierLevel t) p = put field.H266ProfileTierLevel (Some t) p
-set (TelephoneEvents n) p = put field.TelephoneEvents (Some n) p
-set param p = put_entry (entry param) p
+abbrev pub set_param : FormatParam → FormatParams → FormatParams
+set_param (H265ProfileTierLevel t) p = put_field field.H265ProfileTierLevel (Some t) p
+set_param (H266ProfileTierLevel t) p = put_field field.H266ProfileTierLevel (Some t) p
+set_param (TelephoneEvents n) p = put_field field.TelephoneEvents (Some n) p
+set_param param p = put_entry (param_entry param) p
 
 -- the format, with the values of the parameters in their fields, one after another
-abbrev pub set_all : FormatParams → List FormatParam → FormatParams
-set_all p params = fold (λ q param. set param q) p params
+abbrev pub set_all_params : FormatParams → List FormatParam → FormatParams
+set_all_params p params = fold (λ q param. set_param param q) p params
 
 -- the format that says nothing
-abbrev pub empty : FormatParams
-empty = record { min_p_time = None; stereo = None; sprop_stereo = None; use_inband_fec = None; use_dtx = None; level_asymmetry_allowed = None; packetization_mode = None; profile_level_id = None; profile_id = None; profile = None; level_idx = None; tier = None; h265_profile_tier_level = None; h266_profile_tier_level = None; sprop_max_don_diff = None; telephone_event_max = None; octet_align = None; mode_set = None }
+abbrev pub empty_format : FormatParams
+empty_format = record { min_p_time = None; stereo = None; sprop_stereo = None; use_inband_fec = None; use_dtx = None; level_asymmetry_allowed = None; packetization_mode = None; profile_level_id = None; profile_id = None; profile = None; level_idx = None; tier = None; h265_profile_tier_level = None; h266_profile_tier_level = None; sprop_max_don_diff = None; telephone_event_max = None; octet_align = None; mode_set = None }
 
 abbrev param_given : Field → FormatParams → Option FormatParam
-param_given f p = option_map (param_in f) (get f p)
+param_given f p = option_map (field_param f) (get_field f p)
 
 -- the parameter of a field, where it is given; by cases, so that it computes at each field and at no variable
-abbrev pub param_at : Field → FormatParams → Option FormatParam
-param_at (field.Key key.Apt) p = param_given (field.Key key.Apt) p
-param_at f p = param_given f p
+abbrev pub field_param_at : Field → FormatParams → Option FormatParam
+field_param_at (field.Key key.Apt) p = param_given (field.Key key.Apt) p
+field_param_at f p = param_given f p
 
 -- the parameters of the fields that are given, in the order in which the fields stand
 unfoldable pub params_of : FormatParams → List FormatParam
-params_of p = filter_map (λ field. param_at field p) FIELDS
+params_of p = filter_map (λ field. field_param_at field p) FIELDS
 
 -- what a format prints: the texts of its parameters, parted by `;`
 unfoldable pub params_text : FormatParams → List ℕ
 params_text p = join_with_byte 59 (map param_text (params_of p))
 
 -- what the field holds reads back as it prints
-abbrev pub IsWithin : (field : Field) → FieldContent field → Type 0
-IsWithin (field.Key key) x = InRange (kind key) x
-IsWithin field.TelephoneEvents n = n ≤ 255
-IsWithin f x = Unit {0}
+abbrev pub IsFieldWithin : (field : Field) → FieldContent field → Type 0
+IsFieldWithin (field.Key key) x = InKindRange (key_kind key) x
+IsFieldWithin field.TelephoneEvents n = n ≤ 255
+IsFieldWithin f x = Unit {0}
 
 -- the format reads back as it prints: the values of its fields do, modes 1 to 511 and the distance up to 32767 among
 -- them, and it holds one profile, tier and level at most, and no `profile-id` beside it
 pub record CanBeReadBack (p : FormatParams) : Type 0 where
-  pub values : (f : Field) → IfSome (get f p) (IsWithin f)
+  pub values : (f : Field) → IfSome (get_field f p) (IsFieldWithin f)
   pub triples : (p.h265_profile_tier_level ≡ None) ⊎ (p.h266_profile_tier_level ≡ None)
   pub profile : (p.profile_id ≡ None) ⊎ ((p.h265_profile_tier_level ≡ None) × (p.h266_profile_tier_level ≡ None))

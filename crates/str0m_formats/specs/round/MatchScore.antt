@@ -4,7 +4,7 @@ use Rattle.std.specs.Int.{abs_diff}
 use Rattle.std.specs.Option.{option_eq}
 use Rattle.std.specs.Prelude.{◌≡◌, ◌≢◌, ◌-◌, ◌%◌, ◌^◌, ◌==◌, ◌&&◌, not, ℕ, Bool, false, if◌then◌else◌, Option, Some, None, nat_eq, unwrap_or, option_map}
 use Rattle.str0m_formats.specs.Prelude.{H264Profile, H264ProfileLevel, H265ProfileTierLevel, H266ProfileTierLevel, ProfileTierLevel, when}
-use Rattle.str0m_formats.specs.codec.Codec.{Rule, codec_rule, by_flags, by_level, by_h265, by_h266, by_modes, by_profile, by_av1, by_events, by_equality}
+use Rattle.str0m_formats.specs.codec.Codec.{CodecRule, codec_rule, by_flags, by_level, by_h265, by_h266, by_modes, by_profile, by_av1, by_events, by_equality}
 use Rattle.str0m_formats.specs.contracts.codec.Codec as codec
 use Rattle.str0m_formats.specs.contracts.codec.codec_spec.CodecSpecPartialEq.TheImpl as spec
 use Rattle.str0m_formats.specs.declared.codec.Codec.{Codec}
@@ -37,25 +37,25 @@ abbrev pub same_option : Option Bool → Option Bool → Bool
 same_option a b = option_eq beq a b
 
 -- numbers, of which an absent one stands for n, and flags, of which an absent one is false
-abbrev pub same_or : ℕ → Option ℕ → Option ℕ → Bool
-same_or n a b = unwrap_or a n == unwrap_or b n
+abbrev pub same_number_or : ℕ → Option ℕ → Option ℕ → Bool
+same_number_or n a b = unwrap_or a n == unwrap_or b n
 
 abbrev pub same_flag : Option Bool → Option Bool → Bool
 same_flag a b = beq (unwrap_or a false) (unwrap_or b false)
 
 -- ---- Opus (RFC 7587, section 6.1): what each difference costs
 
-abbrev pub unless : Bool → ℕ → ℕ
-unless is_same cost = if is_same then 0 else cost
+abbrev pub unless_cost : Bool → ℕ → ℕ
+unless_cost is_same cost = if is_same then 0 else cost
 
 abbrev pub opus_score : FormatParams → FormatParams → ℕ
 opus_score a b =
     100
-    - unless (same_number a.min_p_time b.min_p_time) 1
-    - unless (same_option a.use_inband_fec b.use_inband_fec) 2
-    - unless (same_option a.use_dtx b.use_dtx) 4
-    - unless (same_flag a.stereo b.stereo) 8
-    - unless (same_flag a.sprop_stereo b.sprop_stereo) 8
+    - unless_cost (same_number a.min_p_time b.min_p_time) 1
+    - unless_cost (same_option a.use_inband_fec b.use_inband_fec) 2
+    - unless_cost (same_option a.use_dtx b.use_dtx) 4
+    - unless_cost (same_flag a.stereo b.stereo) 8
+    - unless_cost (same_flag a.sprop_stereo b.sprop_stereo) 8
 
 -- ---- AMR-WB (RFC 4867, section 8.2): one channel on both sides, the same alignment, and modes that don't differ
 
@@ -86,7 +86,7 @@ h264_level_score _ _ = None
 
 abbrev pub h264_score : FormatParams → FormatParams → Option ℕ
 h264_score a b =
-    if same_or 0 a.packetization_mode b.packetization_mode
+    if same_number_or 0 a.packetization_mode b.packetization_mode
     then h264_level_score (h264.named a.profile_level_id) (h264.named b.profile_level_id)
     else None
 
@@ -125,16 +125,16 @@ tiered_score numbers a b = profile_score (numbers a) (numbers b) a.profile_id b.
 -- and tier
 
 abbrev pub vp9_score : FormatParams → FormatParams → Option ℕ
-vp9_score a b = when (same_or 0 a.profile_id b.profile_id) 100
+vp9_score a b = when (same_number_or 0 a.profile_id b.profile_id) 100
 
 abbrev pub av1_score : FormatParams → FormatParams → Option ℕ
-av1_score a b = when (same_or 0 a.profile b.profile && (same_or 5 a.level_idx b.level_idx && same_or 0 a.tier b.tier)) 100
+av1_score a b = when (same_number_or 0 a.profile b.profile && (same_number_or 5 a.level_idx b.level_idx && same_number_or 0 a.tier b.tier)) 100
 
 -- ---- all codecs
 
 -- two formats of one codec, by its rule; telephone events and AMR-WB go by more than their formats, and what has no rule of its own
 -- fits only where the specs are equal
-abbrev pub rule_score : Rule → FormatParams → FormatParams → Option ℕ
+abbrev pub rule_score : CodecRule → FormatParams → FormatParams → Option ℕ
 rule_score by_flags a b = Some (opus_score a b)
 rule_score by_level a b = h264_score a b
 rule_score by_h265 a b = tiered_score (λ format. option_map h265_triple format.h265_profile_tier_level) a b
@@ -165,8 +165,8 @@ pub record IsScore (a b : CodecSpec) (score : Option ℕ) : Type 0 where
   pub alike : (a ≡ b → a.codec ≡ AmrWb) → a.codec ≡ b.codec → a.clock_rate ≡ b.clock_rate → score ≡ codec_score a.codec a b
 
 -- the score as a function
-unfoldable pub score : CodecSpec → CodecSpec → Option ℕ
-score a b =
+unfoldable pub spec_score : CodecSpec → CodecSpec → Option ℕ
+spec_score a b =
     if same_spec a b && not (same_codec a.codec AmrWb) then Some 100
     else if same_codec a.codec b.codec && a.clock_rate == b.clock_rate then codec_score a.codec a b
     else None

@@ -2,7 +2,7 @@
 use Rattle.std.specs.Option.{option_or}
 use Rattle.std.specs.Prelude.{◌&&◌, ℕ, Bool, false, Option, Some, None, unwrap_or, min, nat_lt, if◌then◌else◌}
 use Rattle.str0m_formats.specs.Prelude.{ProfileTierLevel, lower_level}
-use Rattle.str0m_formats.specs.codec.Codec.{Rule, codec_rule, by_flags, by_level, by_h265, by_h266, by_modes, by_profile, by_av1, by_events, by_equality}
+use Rattle.str0m_formats.specs.codec.Codec.{CodecRule, codec_rule, by_flags, by_level, by_h265, by_h266, by_modes, by_profile, by_av1, by_events, by_equality}
 use Rattle.str0m_formats.specs.declared.codec.Codec.{Codec}
 use Rattle.str0m_formats.specs.declared.codec.codec_spec.CodecSpec.{CodecSpec}
 use Rattle.str0m_formats.specs.declared.format.format_params.FormatParams.{FormatParams}
@@ -10,50 +10,50 @@ use Rattle.str0m_values.specs.H265 as h265
 use Rattle.str0m_values.specs.H266 as h266
 
 -- the highest telephone event of a format; where it gives none, 16, the default of `str0m` (RFC 4733 itself has 0 to 15)
-abbrev pub telephone_max : FormatParams → ℕ
-telephone_max format = unwrap_or format.telephone_event_max 16
+abbrev pub narrowed_telephone_max : FormatParams → ℕ
+narrowed_telephone_max format = unwrap_or format.telephone_event_max 16
 
 -- the triple of the choice, its level the lower of both by their places where the row has one (RFC 7798, section 7.2.2; RFC 9328,
 -- section 7.3.2)
-abbrev pub lower_triple : {P T L : Type 0} → (L → ℕ) → Option (ProfileTierLevel P T L) → Option (ProfileTierLevel P T L) → Option (ProfileTierLevel P T L)
-lower_triple place (Some own) (Some chosen) =
+abbrev pub narrowed_triple : {P T L : Type 0} → (L → ℕ) → Option (ProfileTierLevel P T L) → Option (ProfileTierLevel P T L) → Option (ProfileTierLevel P T L)
+narrowed_triple place (Some own) (Some chosen) =
     if nat_lt (place own.level) (place chosen.level) then Some (record chosen { level = own.level }) else Some chosen
-lower_triple place None (Some chosen) = Some chosen
-lower_triple place _ None = None
+narrowed_triple place None (Some chosen) = Some chosen
+narrowed_triple place _ None = None
 
 -- the profile id of the choice, which stands only where it has no triple
-abbrev pub id_beside : {Triple : Type 0} → Option Triple → Option ℕ → Option ℕ
-id_beside (Some triple) id = None
-id_beside None id = id
+abbrev pub profile_id_beside : {Triple : Type 0} → Option Triple → Option ℕ → Option ℕ
+profile_id_beside (Some triple) id = None
+profile_id_beside None id = id
 
 -- whether each side may send at a level of its own, as it may where both say so (RFC 6184, section 8.1)
-abbrev pub levels_differ : FormatParams → FormatParams → Bool
-levels_differ own chosen = unwrap_or own.level_asymmetry_allowed false && unwrap_or chosen.level_asymmetry_allowed false
+abbrev pub narrowing_levels_differ : FormatParams → FormatParams → Bool
+narrowing_levels_differ own chosen = unwrap_or own.level_asymmetry_allowed false && unwrap_or chosen.level_asymmetry_allowed false
 
 -- the profile-level-id of a row: its own where levels may differ, else that of the lower level (RFC 6184, section 8.2.2)
-abbrev pub lower_h264 : FormatParams → FormatParams → Option ℕ
-lower_h264 own chosen =
-    if levels_differ own chosen then own.profile_level_id else lower_level own.profile_level_id chosen.profile_level_id
+abbrev pub narrowed_h264 : FormatParams → FormatParams → Option ℕ
+narrowed_h264 own chosen =
+    if narrowing_levels_differ own chosen then own.profile_level_id else lower_level own.profile_level_id chosen.profile_level_id
 
 -- a row's spec once it is matched, by the rule of its codec
-abbrev pub narrowed_by : Rule → CodecSpec → CodecSpec → CodecSpec
+abbrev pub narrowed_by : CodecRule → CodecSpec → CodecSpec → CodecSpec
 narrowed_by by_events own chosen = record own {
-  format = record own.format { telephone_event_max = Some (min (telephone_max own.format) (telephone_max chosen.format)) };
+  format = record own.format { telephone_event_max = Some (min (narrowed_telephone_max own.format) (narrowed_telephone_max chosen.format)) };
 }
 narrowed_by by_level own chosen = record own {
-  format = record own.format { profile_level_id = lower_h264 own.format chosen.format };
+  format = record own.format { profile_level_id = narrowed_h264 own.format chosen.format };
 }
 narrowed_by by_h265 own chosen = record own {
   format = record own.format {
-    h265_profile_tier_level = lower_triple h265.level_ordinal own.format.h265_profile_tier_level chosen.format.h265_profile_tier_level;
-    profile_id = id_beside chosen.format.h265_profile_tier_level chosen.format.profile_id;
+    h265_profile_tier_level = narrowed_triple h265.level_ordinal own.format.h265_profile_tier_level chosen.format.h265_profile_tier_level;
+    profile_id = profile_id_beside chosen.format.h265_profile_tier_level chosen.format.profile_id;
     sprop_max_don_diff = option_or chosen.format.sprop_max_don_diff own.format.sprop_max_don_diff;
   };
 }
 narrowed_by by_h266 own chosen = record own {
   format = record own.format {
-    h266_profile_tier_level = lower_triple h266.level_ordinal own.format.h266_profile_tier_level chosen.format.h266_profile_tier_level;
-    profile_id = id_beside chosen.format.h266_profile_tier_level chosen.format.profile_id;
+    h266_profile_tier_level = narrowed_triple h266.level_ordinal own.format.h266_profile_tier_level chosen.format.h266_profile_tier_level;
+    profile_id = profile_id_beside chosen.format.h266_profile_tier_level chosen.format.profile_id;
     sprop_max_don_diff = option_or chosen.format.sprop_max_don_diff own.format.sprop_max_don_diff;
   };
 }

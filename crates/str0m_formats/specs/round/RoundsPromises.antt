@@ -6,13 +6,13 @@ use Rattle.str0m_formats.specs.declared.round.negotiation_error.NegotiationError
 use Rattle.str0m_formats.specs.declared.round.rounds.Round.{Round}
 use Rattle.str0m_formats.specs.declared.row.codec_config.CodecConfig.{CodecConfig}
 use Rattle.str0m_formats.specs.declared.row.payload_params.PayloadParams.{PayloadParams}
-use Rattle.str0m_formats.specs.round.Choices.{IsBest}
+use Rattle.str0m_formats.specs.round.Choices.{IsBestRow}
 use Rattle.str0m_formats.specs.round.Claimed.{has, times, AllDistinct}
-use Rattle.str0m_formats.specs.round.MatchScore.{score}
-use Rattle.str0m_formats.specs.round.Narrowing.{telephone_max}
+use Rattle.str0m_formats.specs.round.MatchScore.{spec_score}
+use Rattle.str0m_formats.specs.round.Narrowing.{narrowed_telephone_max}
 use Rattle.str0m_formats.specs.round.Rounds.{Leaves, Refused, LeavesOnly, RefusedOnly}
-use Rattle.str0m_formats.specs.round.RoundsRuns.{Outcome, Reached, AtEachOk}
-use Rattle.str0m_formats.specs.row.PayloadParams.{types, locked_types, AllSmall}
+use Rattle.str0m_formats.specs.round.RoundsRuns.{Outcome, RunReached, AtEachOk}
+use Rattle.str0m_formats.specs.row.PayloadParams.{types, locked_types, AllTypesSmall}
 use Rattle.str0m_formats.specs.row.PlainRow.{IsPlain}
 use Rattle.str0m_formats.specs.row.PlainRowBounds.{IsBounded}
 
@@ -37,7 +37,7 @@ LockedStay = AtEachRow (λ old new. old.locked ≡ true → StaysLocked old new)
 
 -- some remote row has a score for the row
 abbrev pub IsMatched : List PayloadParams → PayloadParams → Type 0
-IsMatched remote row = (theirs : PayloadParams) × Contains remote theirs × (score row.spec theirs.spec ≢ None)
+IsMatched remote row = (theirs : PayloadParams) × Contains remote theirs × (spec_score row.spec theirs.spec ≢ None)
 
 -- each row that some remote row matches is locked, but for AMR-WB where the remote receives
 abbrev pub MatchedAreLocked : List PayloadParams → Bool → List PayloadParams → List PayloadParams → Type 0
@@ -52,13 +52,13 @@ HasTypesOf row theirs = (row.pt ≡ theirs.pt) × (row.resend ≡ theirs.resend)
 -- those of a remote row that matches it
 abbrev pub LockedAtBest : List PayloadParams → List PayloadParams → List PayloadParams → Type 0
 LockedAtBest remote = AtEachRow (λ old new. old.locked ≡ false → new.locked ≡ true →
-    (best : PayloadParams) × HasTypesOf new best × Contains remote best × (score old.spec best.spec ≢ None)
-    × (old.spec.codec ≢ AmrWb → IsBest (λ theirs. score old.spec theirs.spec) remote best))
+    (best : PayloadParams) × HasTypesOf new best × Contains remote best × (spec_score old.spec best.spec ≢ None)
+    × (old.spec.codec ≢ AmrWb → IsBestRow (λ theirs. spec_score old.spec theirs.spec) remote best))
 
 -- a telephone row stays one, and its maximum doesn't grow
 abbrev pub TelephoneNarrows : List PayloadParams → List PayloadParams → Type 0
 TelephoneNarrows = AtEachRow (λ old new. old.spec.codec ≡ Tele
-    → (new.spec.codec ≡ Tele) × (telephone_max new.spec.format ≤ telephone_max old.spec.format))
+    → (new.spec.codec ≡ Tele) × (narrowed_telephone_max new.spec.format ≤ narrowed_telephone_max old.spec.format))
 
 -- the id names a level that is no higher, and is of the same profile
 pub record NamesNoHigher (had : H264ProfileLevel) (id : Option ℕ) : Type 0 where
@@ -89,7 +89,7 @@ pub record Promises (before remote : List PayloadParams) (receives : Bool) (afte
 
 -- types on both sides have seven bits, and no two locked rows share one
 abbrev pub KeepsBounds : List PayloadParams → List PayloadParams → Type 0
-KeepsBounds rows remote = AllSmall (types rows ++ types remote) × AllDistinct (locked_types rows)
+KeepsBounds rows remote = AllTypesSmall (types rows ++ types remote) × AllDistinct (locked_types rows)
 
 -- a round is accepted, or refused for memory alone
 abbrev pub OnlyForMemory : Outcome → Type 0
@@ -124,11 +124,11 @@ pub record RunPromises (before : List PayloadParams) (rounds : List Round) (outc
   -- fourteen rows never exhaust the types that may be given
   pub room : length before ≤ 14 → All (λ outcome. outcome ≢ Err Exhausted) outcomes
   -- and where besides no other side receives, and types have seven bits, it can only be out of memory
-  pub bounded : length before ≤ 14 → AllSmall (types before) → AllDistinct (locked_types before)
-      → All (λ round. AllSmall (types round.remote.items)) rounds → All (λ round. receives round.direction ≡ false) rounds
+  pub bounded : length before ≤ 14 → AllTypesSmall (types before) → AllDistinct (locked_types before)
+      → All (λ round. AllTypesSmall (types round.remote.items)) rounds → All (λ round. receives round.direction ≡ false) rounds
       → All OnlyForMemory outcomes
 
 -- every run that begins with these rows, of whatever rounds and with whatever outcomes, keeps its promises
 abbrev pub EveryRunPromises : List PayloadParams → Type 0
 EveryRunPromises before = (rounds : List Round) (outcomes : List Outcome) (after : List PayloadParams)
-    → Reached before rounds outcomes after → RunPromises before rounds outcomes after
+    → RunReached before rounds outcomes after → RunPromises before rounds outcomes after

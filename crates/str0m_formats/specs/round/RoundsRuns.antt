@@ -20,12 +20,12 @@ Ran before remote receives (Err (ClaimedTwice t)) after = Refused before remote 
 Ran before remote receives (Err Exhausted) after = Refused before remote receives Exhausted × (after ≡ before)
 
 -- one outcome for each round, in order, from the rows before them to the rows after them
-abbrev pub Reached : List PayloadParams → List Round → List Outcome → List PayloadParams → Type 0
-Reached before [] [] after = after ≡ before
-Reached before (round ∷ rounds) (outcome ∷ outcomes) after =
-    (mid : List PayloadParams) × Ran before round.remote.items (receives round.direction) outcome mid × Reached mid rounds outcomes after
-Reached before [] (outcome ∷ outcomes) after = ⊥
-Reached before (round ∷ rounds) [] after = ⊥
+abbrev pub RunReached : List PayloadParams → List Round → List Outcome → List PayloadParams → Type 0
+RunReached before [] [] after = after ≡ before
+RunReached before (round ∷ rounds) (outcome ∷ outcomes) after =
+    (mid : List PayloadParams) × Ran before round.remote.items (receives round.direction) outcome mid × RunReached mid rounds outcomes after
+RunReached before [] (outcome ∷ outcomes) after = ⊥
+RunReached before (round ∷ rounds) [] after = ⊥
 
 -- what holds of the rows before and after each accepted round
 abbrev pub AtEachOk : (List PayloadParams → List PayloadParams → Bool → List PayloadParams → Type 0) → List PayloadParams → List Round → List Outcome → List PayloadParams → Type 0

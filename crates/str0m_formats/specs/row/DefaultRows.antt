@@ -7,10 +7,10 @@ use Rattle.str0m_formats.specs.declared.codec.Codec.TheVariants.{Opus, PCMU, PCM
 use Rattle.str0m_formats.specs.declared.format.format_params.FormatParams.{FormatParams}
 use Rattle.str0m_formats.specs.declared.row.codec_config.CodecConfig.{CodecConfig}
 use Rattle.str0m_formats.specs.declared.row.payload_params.PayloadParams.{PayloadParams}
-use Rattle.str0m_formats.specs.format.FormatParams.{empty}
+use Rattle.str0m_formats.specs.format.FormatParams.{empty_format}
 use Rattle.str0m_formats.specs.round.Claimed.{AllDistinct}
 use Rattle.str0m_formats.specs.round.MatchScore.{same_codec}
-use Rattle.str0m_formats.specs.row.CodecConfig.{video_spec, h264_row, h265_row, h266_row}
+use Rattle.str0m_formats.specs.row.CodecConfig.{configured_video_spec, configured_h264_row, configured_h265_row, configured_h266_row}
 use Rattle.str0m_formats.specs.row.PayloadParams.{new_row, types}
 use Rattle.str0m_values.specs.declared.h265.H265Level.TheVariants as h265_level
 use Rattle.str0m_values.specs.declared.h265.H265Profile.TheVariants as h265_profile
@@ -25,16 +25,16 @@ audio_row codec pt rate channels format = new_row pt None (record { codec = code
 
 -- a video row with its RTX
 abbrev pub video_row : Codec → ℕ → ℕ → FormatParams → PayloadParams
-video_row codec pt resend format = new_row pt (Some resend) (video_spec codec format)
+video_row codec pt resend format = new_row pt (Some resend) (configured_video_spec codec format)
 
 -- a RED, where it is asked for
-abbrev pub red_if : Bool → ℕ → Option ℕ
-red_if use_red pt = if use_red then Some pt else None
+abbrev pub red_type_if : Bool → ℕ → Option ℕ
+red_type_if use_red pt = if use_red then Some pt else None
 
 -- the row of a codec under its static type, at the rate that goes with it
 abbrev pub static_rows_at : Codec → Option ℕ → Option (ℕ × ℕ) → List PayloadParams
 static_rows_at codec red None = []
-static_rows_at codec red (Some (pt, rate)) = record (audio_row codec pt rate None empty) { red = red } ∷ []
+static_rows_at codec red (Some (pt, rate)) = record (audio_row codec pt rate None empty_format) { red = red } ∷ []
 
 abbrev pub static_rows : Codec → Option ℕ → List PayloadParams
 static_rows codec red = static_rows_at codec red (static_entry codec)
@@ -42,22 +42,22 @@ static_rows codec red = static_rows_at codec red (static_entry codec)
 -- the default rows of each codec: payload type and RTX, rate in Hz, channels, format; and the RED that may be asked for
 -- (profile-level-ids: RFC 6184, section 8.1)
 abbrev pub default_rows : Codec → Bool → List PayloadParams
-default_rows Opus use_red = record (audio_row Opus 111 48000 (Some 2) (record empty { min_p_time = Some 10; use_inband_fec = Some true })) { red = red_if use_red 63 } ∷ []
-default_rows PCMU use_red = static_rows PCMU (red_if use_red 61)
-default_rows PCMA use_red = static_rows PCMA (red_if use_red 60)
-default_rows G722 use_red = static_rows G722 (red_if use_red 62)
+default_rows Opus use_red = record (audio_row Opus 111 48000 (Some 2) (record empty_format { min_p_time = Some 10; use_inband_fec = Some true })) { red = red_type_if use_red 63 } ∷ []
+default_rows PCMU use_red = static_rows PCMU (red_type_if use_red 61)
+default_rows PCMA use_red = static_rows PCMA (red_type_if use_red 60)
+default_rows G722 use_red = static_rows G722 (red_type_if use_red 62)
 default_rows CN _ = static_rows CN None
-default_rows AmrWb _ = audio_row AmrWb 122 16000 (Some 1) (record empty { octet_align = Some true }) ∷ []
-default_rows Vp8 _ = video_row Vp8 96 97 empty ∷ []
+default_rows AmrWb _ = audio_row AmrWb 122 16000 (Some 1) (record empty_format { octet_align = Some true }) ∷ []
+default_rows Vp8 _ = video_row Vp8 96 97 empty_format ∷ []
 default_rows H264 _ =
-    h264_row 127 (Some 121) true 0x42001F ∷ h264_row 125 (Some 107) false 0x42001F
-    ∷ h264_row 108 (Some 109) true 0x42E01F ∷ h264_row 124 (Some 120) false 0x42E01F
-    ∷ h264_row 123 (Some 119) true 0x4D001F ∷ h264_row 35 (Some 36) false 0x4D001F
-    ∷ h264_row 114 (Some 115) true 0x64001F ∷ []
-default_rows H265 _ = h265_row 102 (Some 103) (record { profile = h265_profile.Main; tier = h265_tier.Main; level = h265_level.L6 }) ∷ []
-default_rows H266 _ = h266_row 104 (Some 105) (record { profile = h266_profile.Main10; tier = h266_tier.Main; level = h266_level.L6 }) ∷ []
-default_rows Vp9 _ = video_row Vp9 98 99 (record empty { profile_id = Some 0 }) ∷ video_row Vp9 100 101 (record empty { profile_id = Some 2 }) ∷ []
-default_rows Av1 _ = video_row Av1 45 46 empty ∷ []
+    configured_h264_row 127 (Some 121) true 0x42001F ∷ configured_h264_row 125 (Some 107) false 0x42001F
+    ∷ configured_h264_row 108 (Some 109) true 0x42E01F ∷ configured_h264_row 124 (Some 120) false 0x42E01F
+    ∷ configured_h264_row 123 (Some 119) true 0x4D001F ∷ configured_h264_row 35 (Some 36) false 0x4D001F
+    ∷ configured_h264_row 114 (Some 115) true 0x64001F ∷ []
+default_rows H265 _ = configured_h265_row 102 (Some 103) (record { profile = h265_profile.Main; tier = h265_tier.Main; level = h265_level.L6 }) ∷ []
+default_rows H266 _ = configured_h266_row 104 (Some 105) (record { profile = h266_profile.Main10; tier = h266_tier.Main; level = h266_level.L6 }) ∷ []
+default_rows Vp9 _ = video_row Vp9 98 99 (record empty_format { profile_id = Some 0 }) ∷ video_row Vp9 100 101 (record empty_format { profile_id = Some 2 }) ∷ []
+default_rows Av1 _ = video_row Av1 45 46 empty_format ∷ []
 default_rows Tele _ = []
 default_rows Rtx _ = []
 default_rows Red _ = []
@@ -65,12 +65,12 @@ default_rows Null _ = []
 default_rows Unknown _ = []
 
 -- the rows of all other codecs
-abbrev pub except : Codec → List PayloadParams → List PayloadParams
-except codec rows = filter (λ row. not (same_codec row.spec.codec codec)) rows
+abbrev pub rows_except : Codec → List PayloadParams → List PayloadParams
+rows_except codec rows = filter (λ row. not (same_codec row.spec.codec codec)) rows
 
 -- the rows of the codec are taken out, and its default rows come last where it is enabled
 abbrev pub enabled_rows : Codec → Bool → Bool → List PayloadParams → List PayloadParams
-enabled_rows codec enabled use_red rows = except codec rows ++ (if enabled then default_rows codec use_red else [])
+enabled_rows codec enabled use_red rows = rows_except codec rows ++ (if enabled then default_rows codec use_red else [])
 
 -- a row of the table, with or without its RED
 abbrev pub IsDefault : PayloadParams → Type 0
@@ -89,7 +89,7 @@ abbrev pub usual_rows : List PayloadParams
 usual_rows = flat_map (λ codec. default_rows codec false) default_codecs
 
 -- what a call does that enables or disables a codec: refused memory changes nothing, and disabling needs none
-pub record Enables (codec : Codec) (enabled use_red : Bool) (old new : CodecConfig) (result : Result (Unit {0}) AllocError) : Type 0 where
+pub record EnablesDefaultRows (codec : Codec) (enabled use_red : Bool) (old new : CodecConfig) (result : Result (Unit {0}) AllocError) : Type 0 where
   pub ok : OnOk result (new.params.items ≡ enabled_rows codec enabled use_red old.params.items)
   pub err : OnErr result (new ≡ old)
   pub without : enabled ≡ false → IsOk result

@@ -1,13 +1,13 @@
 -- Rows: which a call makes, when two are the same, and the payload types that they hold.
 use Rattle.std.specs.Prelude.{◌≡◌, find, nat_lt, ℕ, Bool, true, false, not, Option, None, List, ◌∷◌, ◌++◌, filter, flat_map, option_to_list}
-use Rattle.str0m_formats.specs.codec.Codec.{Content, content, video}
+use Rattle.str0m_formats.specs.codec.Codec.{CodecContent, codec_content, video}
 use Rattle.str0m_formats.specs.declared.codec.Codec.TheVariants.{Null}
 use Rattle.str0m_formats.specs.declared.codec.codec_spec.CodecSpec.{CodecSpec}
 use Rattle.str0m_formats.specs.declared.row.payload_params.PayloadParams.{PayloadParams}
-use Rattle.str0m_formats.specs.format.FormatParams.{empty}
+use Rattle.str0m_formats.specs.format.FormatParams.{empty_format}
 
 -- whether it carries video
-abbrev pub has_video : Content → Bool
+abbrev pub has_video : CodecContent → Bool
 has_video video = true
 has_video _ = false
 
@@ -19,16 +19,16 @@ new_row pt resend spec = record {
   red = None;
   spec = spec;
   fb_transport_cc = true;
-  fb_fir = has_video (content spec.codec);
-  fb_nack = has_video (content spec.codec);
-  fb_pli = has_video (content spec.codec);
-  fb_remb = has_video (content spec.codec);
+  fb_fir = has_video (codec_content spec.codec);
+  fb_nack = has_video (codec_content spec.codec);
+  fb_pli = has_video (codec_content spec.codec);
+  fb_remb = has_video (codec_content spec.codec);
   locked = false;
 }
 
 -- a row that only probes
 abbrev pub probe_row : ℕ → PayloadParams
-probe_row pt = new_row pt None (record { codec = Null; clock_rate = 90000; channels = None; format = empty })
+probe_row pt = new_row pt None (record { codec = Null; clock_rate = 90000; channels = None; format = empty_format })
 
 -- the same in all but whether they are locked
 abbrev pub SameRow : PayloadParams → PayloadParams → Type 0
@@ -49,5 +49,5 @@ abbrev pub open_types : List PayloadParams → List ℕ
 open_types rows = types (filter (λ row. not row.locked) rows)
 
 -- none of the types is above 127
-abbrev pub AllSmall : List ℕ → Type 0
-AllSmall types = find (nat_lt 127) types ≡ None
+abbrev pub AllTypesSmall : List ℕ → Type 0
+AllTypesSmall types = find (nat_lt 127) types ≡ None

@@ -4,23 +4,23 @@ use Rattle.str0m_formats.specs.declared.format.format_key.FormatKey.{FormatKey}
 use Rattle.str0m_formats.specs.declared.format.format_params.Field.TheVariants as field
 use Rattle.str0m_formats.specs.declared.format.format_params.FormatParams.{FormatParams}
 use Rattle.str0m_formats.specs.declared.row.payload_params.PayloadParams.{PayloadParams}
-use Rattle.str0m_formats.specs.format.FormatParam.{Kind, number, hex, modes, Held, kind}
-use Rattle.str0m_formats.specs.format.FormatParams.{get}
-use Rattle.str0m_formats.specs.row.PayloadParams.{AllSmall, types_of}
+use Rattle.str0m_formats.specs.format.FormatParam.{KeyKind, number, hex, modes, HeldValue, key_kind}
+use Rattle.str0m_formats.specs.format.FormatParams.{get_field}
+use Rattle.str0m_formats.specs.row.PayloadParams.{AllTypesSmall, types_of}
 
 -- some of the modes 0 to 8, a bit each (RFC 4867, section 8.2)
-abbrev pub AreModes : ℕ → Type 0
-AreModes mask = (0 < mask) × (mask ≤ 511)
+abbrev pub ArePlainModes : ℕ → Type 0
+ArePlainModes mask = (0 < mask) × (mask ≤ 511)
 
 -- a distance in decoding order (RFC 7798, section 7.1)
-abbrev pub IsDistance : ℕ → Type 0
-IsDistance n = n ≤ 32767
+abbrev pub IsPlainDistance : ℕ → Type 0
+IsPlainDistance n = n ≤ 32767
 
 -- the types of a row have seven bits, its modes and its distance keep to their ranges
 pub record IsBounded (row : PayloadParams) : Type 0 where
-  pub types : AllSmall (types_of row)
-  pub modes : IfSome row.spec.format.mode_set AreModes
-  pub distance : IfSome row.spec.format.sprop_max_don_diff IsDistance
+  pub types : AllTypesSmall (types_of row)
+  pub modes : IfSome row.spec.format.mode_set ArePlainModes
+  pub distance : IfSome row.spec.format.sprop_max_don_diff IsPlainDistance
 
 -- a number of eight bits, and one of 32
 abbrev pub IsByte : ℕ → Type 0
@@ -34,7 +34,7 @@ abbrev pub most : ℕ → ℕ
 most limit = if nat_le limit 255 then 255 else if nat_le limit 65535 then 65535 else 4294967295
 
 -- the value of a kind fits the type in which it is held
-abbrev pub FitsType : (kind : Kind) → Held kind → Type 0
+abbrev pub FitsType : (kind : KeyKind) → HeldValue kind → Type 0
 FitsType (number limit) n = n ≤ most limit
 FitsType hex n = n ≤ most 4294967295
 FitsType modes mask = mask ≤ most 511
@@ -42,7 +42,7 @@ FitsType kind x = Unit {0}
 
 -- the numbers of a format fit the types of its fields, as they do in every format that a program holds
 pub record HoldsNumbers (p : FormatParams) : Type 0 where
-  pub keys : (key : FormatKey) → IfSome (get (field.Key key) p) (FitsType (kind key))
+  pub keys : (key : FormatKey) → IfSome (get_field (field.Key key) p) (FitsType (key_kind key))
   pub telephone_event_max : IfSome p.telephone_event_max IsByte
 
 -- so do the numbers of a row: a clock rate of 32 bits that isn't zero, and channels of eight

@@ -1,7 +1,7 @@
 //! The keys of format parameters, and their texts.
 ghost use Rattle.std.specs.Prelude.{◌≡◌, IfSome};
 ghost use Rattle.str0m_formats.specs.format.FormatKey.{key_text};
-ghost use Rattle.str0m_formats.specs.format.FormatParamReading.{key_read};
+ghost use Rattle.str0m_formats.specs.format.FormatParamReading.{param_key_read};
 
 use str0m_values::cuts::is_same_text;
 
@@ -81,7 +81,7 @@ impl FormatKey {
 
     /// The key of this text, without regard to ASCII case.
     pub(crate) fn named(text: &str) -> Option<FormatKey>
-        ensures { result ≡ key_read text.now }
+        ensures { result ≡ param_key_read text.now }
     {
         // Nearly all keys stand in their own case, and texts are compared faster with it than without.
         match FormatKey::written(text) {
@@ -90,9 +90,9 @@ impl FormatKey {
         }
     }
 
-    #[tactic(auto, unfolding(crate::specs::format::FormatParamReading::key_read))]
+    #[tactic(auto, unfolding(crate::specs::format::FormatParamReading::param_key_read))]
     fn same(text: &str) -> Option<FormatKey>
-        ensures { result ≡ key_read text.now }
+        ensures { result ≡ param_key_read text.now }
     {
         KEYS.iter()
             .map(|row| row.0)

@@ -3,10 +3,10 @@ ghost use Rattle.std.specs.List.{list_any};
 ghost use Rattle.std.specs.Prelude.{◌≡◌, ◌∷◌, [], IfOk, option_map};
 ghost use Rattle.str0m_formats.specs.declared.codec.Codec.TheVariants.{AmrWb};
 ghost use Rattle.str0m_formats.specs.declared.format.format_params.FormatParams.{FormatParams};
-ghost use Rattle.str0m_formats.specs.format.FormatLine.{pieces, pair_in, bare_in, pairs_in, IsFormatOfLine, IsFormatOfBares, is_event, is_unsupported, events_end, asks_absent, kept, values_of, format_of_fmtp, line_values};
+ghost use Rattle.str0m_formats.specs.format.FormatLine.{line_pieces, line_piece_pair, line_piece_bare, line_piece_pairs, IsFormatOfLine, IsFormatOfBares, is_line_event, is_line_unsupported, line_events_end, line_asks_absent, line_without_event_ranges, values_of_lines, format_of_fmtp, line_values};
 ghost use Rattle.str0m_formats.specs.format.FormatParam.{pair_texts};
-ghost use Rattle.str0m_formats.specs.format.FormatParams.{empty, set_all, params_text, CanBeReadBack};
-ghost use Rattle.str0m_formats.specs.round.Narrowing.{telephone_max};
+ghost use Rattle.str0m_formats.specs.format.FormatParams.{empty_format, set_all_params, params_text, CanBeReadBack};
+ghost use Rattle.str0m_formats.specs.round.Narrowing.{narrowed_telephone_max};
 
 use crate::codec::Codec;
 use crate::format::format_param::FormatParam;
@@ -16,16 +16,16 @@ use str0m_values::Separator;
 use str0m_values::cuts::{before, cut, has};
 
 /// The key and the value of a piece, trimmed.
-fn pair_in(piece: &str) -> Option<(&str, &str)>
-    ensures { option_map (λ pair. (pair.0.now, pair.1.now)) result ≡ pair_in piece.now }
+fn line_piece_pair(piece: &str) -> Option<(&str, &str)>
+    ensures { option_map (λ pair. (pair.0.now, pair.1.now)) result ≡ line_piece_pair piece.now }
 {
     let (key, rest) = cut(piece, Separator::Equals)?;
     Some((key.trim(), before(rest, Separator::Equals).trim()))
 }
 
 /// The value of a piece without a key, trimmed.
-fn bare_in(piece: &str) -> Option<&str>
-    ensures { option_map (λ text. text.now) result ≡ bare_in piece.now }
+fn line_piece_bare(piece: &str) -> Option<&str>
+    ensures { option_map (λ text. text.now) result ≡ line_piece_bare piece.now }
 {
     if has(piece, Separator::Equals) {
         return None;
@@ -34,12 +34,12 @@ fn bare_in(piece: &str) -> Option<&str>
 }
 
 /// The pairs of the pieces of a line.
-fn pairs_in<'a>(alloc: Global, line: &'a str) -> Result<Vec<(&'a str, &'a str)>, AllocError>
-    ensures { IfOk result (λ pairs. pair_texts pairs.items ≡ pairs_in (pieces line.now)) }
+fn line_piece_pairs<'a>(alloc: Global, line: &'a str) -> Result<Vec<(&'a str, &'a str)>, AllocError>
+    ensures { IfOk result (λ pairs. pair_texts pairs.items ≡ line_piece_pairs (line_pieces line.now)) }
 {
     let mut pairs = Vec::new(alloc);
     for piece in line.split(';') {
-        if let Some(pair) = pair_in(piece) {
+        if let Some(pair) = line_piece_pair(piece) {
             pairs.push(pair)?;
         }
     }
@@ -47,12 +47,12 @@ fn pairs_in<'a>(alloc: Global, line: &'a str) -> Result<Vec<(&'a str, &'a str)>,
 }
 
 /// What the pieces of a line without a key say.
-fn bares_in(line: &str) -> FormatParams
-    ensures { IsFormatOfBares (pieces line.now) result }
+fn line_piece_bares(line: &str) -> FormatParams
+    ensures { IsFormatOfBares (line_pieces line.now) result }
 {
     let mut format = FormatParams::default();
     for piece in line.split(';') {
-        if let Some(value) = bare_in(piece) {
+        if let Some(value) = line_piece_bare(piece) {
             format.set_param(&FormatParam::parse_telephone_events(value));
         }
     }
@@ -63,16 +63,16 @@ fn bares_in(line: &str) -> FormatParams
 fn format_in(alloc: Global, line: &str) -> Result<FormatParams, AllocError>
     ensures { IfOk result (IsFormatOfLine line.now) }
 {
-    let pairs = pairs_in(alloc, line)?;
+    let pairs = line_piece_pairs(alloc, line)?;
     let params = FormatParam::parse_pairs(alloc, pairs.as_slice())?;
-    let mut format = bares_in(line);
+    let mut format = line_piece_bares(line);
     format.set_all(params.as_slice());
     Ok(format)
 }
 
 impl FormatParams {
     fn set_all(&mut self, params: &[FormatParam])
-        ensures { self.new ≡ set_all self.old params.now }
+        ensures { self.new ≡ set_all_params self.old params.now }
     {
         for param in params {
             self.set_param(param);
@@ -81,10 +81,10 @@ impl FormatParams {
 
     /// Takes over the values of an fmtp line, but for ranges of events.
     fn set_values(&mut self, line: &[FormatParam])
-        ensures { self.new ≡ set_all self.old (kept line.now) }
+        ensures { self.new ≡ set_all_params self.old (line_without_event_ranges line.now) }
     {
         for param in line {
-            if !is_event(*param) {
+            if !is_line_event(*param) {
                 self.set_param(param);
             }
         }
@@ -113,7 +113,7 @@ impl FormatParams {
 
     /// The highest telephone event, `DEFAULT_TELEPHONE_EVENT_MAX` where the format doesn't say it.
     pub fn highest_event(&self) -> u8
-        ensures { result ≡ telephone_max self.now }
+        ensures { result ≡ narrowed_telephone_max self.now }
     {
         self.telephone_event_max
             .unwrap_or(FormatParams::DEFAULT_TELEPHONE_EVENT_MAX)
@@ -126,80 +126,80 @@ impl FormatParams {
     /// for ranges of events; a line of AMR-WB is refused where it asks for `crc`, `robust-sorting`,
     /// any `interleaving` or a `mode-change-period` of 2 (RFC 4867, section 8.2). `None` where it is
     /// refused.
-    #[tactic(auto, unfolding(crate::specs::format::FormatLine::asks_absent))]
+    #[tactic(auto, unfolding(crate::specs::format::FormatLine::line_asks_absent))]
     pub fn from_sdp_fmtp(codec: Codec, lines: &[&[FormatParam]]) -> Option<FormatParams>
         ensures format { result ≡ format_of_fmtp codec (line_values lines.now) }
         ensures default { FormatParams.DEFAULT_TELEPHONE_EVENT_MAX ≡ 16 }
     {
         match codec {
             Codec::Tele => Some(FormatParams {
-                telephone_event_max: Some(events_end(lines)?),
+                telephone_event_max: Some(line_events_end(lines)?),
                 ..FormatParams::default()
             }),
-            Codec::AmrWb => amr_wb(lines),
-            _ => Some(from_values(lines)),
+            Codec::AmrWb => amr_wb_format(lines),
+            _ => Some(format_of_values(lines)),
         }
     }
 }
 
-#[tactic(auto, unfolding(crate::specs::format::FormatLine::is_event))]
-fn is_event(param: FormatParam) -> bool
-    ensures { result ≡ is_event param }
+#[tactic(auto, unfolding(crate::specs::format::FormatLine::is_line_event))]
+fn is_line_event(param: FormatParam) -> bool
+    ensures { result ≡ is_line_event param }
 {
     matches!(param, FormatParam::TelephoneEvents(_))
 }
 
-#[tactic(auto, unfolding(crate::specs::format::FormatLine::is_unsupported))]
-fn is_unsupported(param: &FormatParam) -> bool
-    ensures { result ≡ is_unsupported param.now }
+#[tactic(auto, unfolding(crate::specs::format::FormatLine::is_line_unsupported))]
+fn is_line_unsupported(param: &FormatParam) -> bool
+    ensures { result ≡ is_line_unsupported param.now }
 {
     matches!(param, FormatParam::AmrWbUnsupported)
 }
 
-fn has_unsupported(line: &[FormatParam]) -> bool
-    ensures { result ≡ list_any is_unsupported line.now }
+fn has_line_unsupported(line: &[FormatParam]) -> bool
+    ensures { result ≡ list_any is_line_unsupported line.now }
 {
-    line.iter().any(|param| is_unsupported(param))
+    line.iter().any(|param| is_line_unsupported(param))
 }
 
-fn any_unsupported(lines: &[&[FormatParam]]) -> bool
-    ensures { result ≡ list_any (λ line. list_any is_unsupported line.now) lines.now }
+fn any_line_unsupported(lines: &[&[FormatParam]]) -> bool
+    ensures { result ≡ list_any (λ line. list_any is_line_unsupported line.now) lines.now }
 {
-    lines.iter().any(|line| has_unsupported(line))
+    lines.iter().any(|line| has_line_unsupported(line))
 }
 
 /// Whether a line asks for what isn't there of AMR-WB.
-#[tactic(auto, using(crate::proofs::format::FormatLineLaws::asks))]
-fn asks_unsupported(lines: &[&[FormatParam]]) -> bool
-    ensures { result ≡ asks_absent AmrWb (line_values lines.now) }
+#[tactic(auto, using(crate::proofs::format::FormatLineLaws::asks_absent_answer))]
+fn line_asks_unsupported(lines: &[&[FormatParam]]) -> bool
+    ensures { result ≡ line_asks_absent AmrWb (line_values lines.now) }
 {
-    any_unsupported(lines)
+    any_line_unsupported(lines)
 }
 
 /// What lines of AMR-WB say, where they don't ask for what isn't there.
-fn amr_wb(lines: &[&[FormatParam]]) -> Option<FormatParams>
+fn amr_wb_format(lines: &[&[FormatParam]]) -> Option<FormatParams>
     ensures { result ≡ format_of_fmtp AmrWb (line_values lines.now) }
 {
-    if asks_unsupported(lines) {
+    if line_asks_unsupported(lines) {
         return None;
     }
-    Some(from_values(lines))
+    Some(format_of_values(lines))
 }
 
 /// The highest event of the lines of telephone events.
-fn events_end(lines: &[&[FormatParam]]) -> Option<u8>
-    ensures { result ≡ events_end (line_values lines.now) }
+fn line_events_end(lines: &[&[FormatParam]]) -> Option<u8>
+    ensures { result ≡ line_events_end (line_values lines.now) }
 {
     match lines {
         [] => Some(FormatParams::DEFAULT_TELEPHONE_EVENT_MAX),
-        [line] => range_end(line),
+        [line] => line_event_range_end(line),
         _ => None,
     }
 }
 
 /// The end of the range that is all of a line.
-fn range_end(line: &[FormatParam]) -> Option<u8>
-    ensures { result ≡ events_end (line.now ∷ []) }
+fn line_event_range_end(line: &[FormatParam]) -> Option<u8>
+    ensures { result ≡ line_events_end (line.now ∷ []) }
 {
     match line {
         [FormatParam::BareRange(max) | FormatParam::TelephoneEvents(max)] => Some(*max),
@@ -207,8 +207,8 @@ fn range_end(line: &[FormatParam]) -> Option<u8>
     }
 }
 
-fn from_values(lines: &[&[FormatParam]]) -> FormatParams
-    ensures { result ≡ set_all empty (values_of (line_values lines.now)) }
+fn format_of_values(lines: &[&[FormatParam]]) -> FormatParams
+    ensures { result ≡ set_all_params empty_format (values_of_lines (line_values lines.now)) }
 {
     let mut format = FormatParams::default();
     for line in lines {

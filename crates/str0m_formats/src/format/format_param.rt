@@ -3,9 +3,9 @@ ghost use Rattle.std.specs.Prelude.{◌≡◌, IfOk, codes, option_map, bytes_eq
 ghost use Rattle.str0m_formats.specs.Prelude.{IsNum, IsTheOnly, num, when};
 ghost use Rattle.str0m_formats.specs.declared.format.format_param.FormatParam.{FormatParam};
 ghost use Rattle.str0m_formats.specs.declared.format.format_param.FormatParam.TheVariants.{AmrWbUnsupported};
-ghost use Rattle.str0m_formats.specs.format.FormatParam.{IsMode, IsModeSet, IsParsed, IsEventRange, IsBare, IsPrinted, pair_texts, entry, entry_text};
-ghost use Rattle.str0m_formats.specs.format.FormatParamReading.{number_read, hex_read, modes_read, value_read, param_of, bare_param};
-ghost use Rattle.str0m_formats.specs.format.Pairs.{AreRead};
+ghost use Rattle.str0m_formats.specs.format.FormatParam.{IsModePiece, IsModeSet, IsParsedParam, IsEventRange, IsBareParam, IsPrintedParam, pair_texts, param_entry, param_entry_text};
+ghost use Rattle.str0m_formats.specs.format.FormatParamReading.{param_number_read, param_hex_read, param_modes_read, key_value_read, param_of_pair, bare_param};
+ghost use Rattle.str0m_formats.specs.format.Pairs.{ArePairsRead};
 ghost use Rattle.str0m_formats.specs.format.ParamText.{keyed_text};
 
 use crate::format::format_key::FormatKey;
@@ -74,38 +74,38 @@ pub enum FormatParam {
     Unknown,
 }
 
-fn is_text(text: &str, other: &str) -> bool
+fn is_key_text(text: &str, other: &str) -> bool
     ensures { result ≡ bytes_eq text.now other.now }
 {
     text == other
 }
 
-fn is_one(value: &str) -> bool
+fn is_flag_one(value: &str) -> bool
     ensures { result ≡ bytes_eq value.now (codes "1") }
 {
-    is_text(value, "1")
+    is_key_text(value, "1")
 }
 
-#[tactic(auto, using(crate::proofs::format::FormatParamReadingLaws::hex_is))]
-fn hex(text: &str) -> Option<u32>
-    ensures { result ≡ number_read 16 4294967295 text.now }
+#[tactic(auto, using(crate::proofs::format::FormatParamReadingLaws::param_hex_read_is))]
+fn hex_number(text: &str) -> Option<u32>
+    ensures { result ≡ param_number_read 16 4294967295 text.now }
 {
     hex_u32(text)
 }
 
 /// The number in hexadecimal, or in decimal where it is none in hexadecimal.
-#[tactic(auto, unfolding(crate::specs::format::FormatParamReading::hex_read))]
+#[tactic(auto, unfolding(crate::specs::format::FormatParamReading::param_hex_read))]
 fn hex_else_decimal(text: &str) -> Option<u32>
-    ensures { result ≡ hex_read text.now }
+    ensures { result ≡ param_hex_read text.now }
 {
-    match hex(text) {
+    match hex_number(text) {
         Some(n) => Some(n),
         None => num_u32(text),
     }
 }
 
 /// The number in decimal, where it is at most 32767.
-fn distance(text: &str) -> Option<u16>
+fn param_distance(text: &str) -> Option<u16>
     ensures { result ≡ num 32767 text.now }
 {
     match text.parse::<u16>() {
@@ -114,8 +114,8 @@ fn distance(text: &str) -> Option<u16>
     }
 }
 
-fn mode(piece: &str) -> Option<u8>
-    ensures { IsTheOnly (IsMode piece.now) result }
+fn mode_of_piece(piece: &str) -> Option<u8>
+    ensures { IsTheOnly (IsModePiece piece.now) result }
 {
     num_u8(piece.trim(), 8)
 }
@@ -126,15 +126,15 @@ fn mode_mask(text: &str) -> Option<u16>
 {
     let mut mask = 0u16;
     for piece in text.split(',') {
-        mask |= 1 << mode(piece)?;
+        mask |= 1 << mode_of_piece(piece)?;
     }
     Some(mask)
 }
 
 /// The modes that are parted by commas, as a mask.
 #[tactic(auto, using(crate::proofs::format::FormatParamModes::modes_are))]
-fn modes(text: &str) -> Option<u16>
-    ensures { result ≡ modes_read text.now }
+fn mode_set(text: &str) -> Option<u16>
+    ensures { result ≡ param_modes_read text.now }
 {
     mode_mask(text)
 }
@@ -142,16 +142,16 @@ fn modes(text: &str) -> Option<u16>
 impl FormatKey {
     /// The parameter of a value after the key.
     fn param(self, value: &str) -> Option<FormatParam>
-        ensures { result ≡ value_read self value.now }
+        ensures { result ≡ key_value_read self value.now }
     {
         match self {
             FormatKey::MinPTime => Some(FormatParam::MinPTime(num_u8(value, 255)?)),
-            FormatKey::Stereo => Some(FormatParam::Stereo(is_one(value))),
-            FormatKey::SpropStereo => Some(FormatParam::SpropStereo(is_one(value))),
-            FormatKey::UseInbandFec => Some(FormatParam::UseInbandFec(is_one(value))),
-            FormatKey::UseDtx => Some(FormatParam::UseDtx(is_one(value))),
+            FormatKey::Stereo => Some(FormatParam::Stereo(is_flag_one(value))),
+            FormatKey::SpropStereo => Some(FormatParam::SpropStereo(is_flag_one(value))),
+            FormatKey::UseInbandFec => Some(FormatParam::UseInbandFec(is_flag_one(value))),
+            FormatKey::UseDtx => Some(FormatParam::UseDtx(is_flag_one(value))),
             FormatKey::LevelAsymmetryAllowed => {
-                Some(FormatParam::LevelAsymmetryAllowed(is_one(value)))
+                Some(FormatParam::LevelAsymmetryAllowed(is_flag_one(value)))
             }
             FormatKey::PacketizationMode => {
                 Some(FormatParam::PacketizationMode(num_u8(value, 255)?))
@@ -163,13 +163,15 @@ impl FormatKey {
             FormatKey::Profile => Some(FormatParam::Profile(num_u8(value, 255)?)),
             FormatKey::LevelIdx => Some(FormatParam::LevelIdx(num_u8(value, 255)?)),
             FormatKey::Tier => Some(FormatParam::Tier(num_u8(value, 255)?)),
-            FormatKey::SpropMaxDonDiff => Some(FormatParam::SpropMaxDonDiff(distance(value)?)),
-            FormatKey::OctetAlign => Some(FormatParam::OctetAlign(is_one(value))),
-            FormatKey::ModeSet => Some(FormatParam::ModeSet(modes(value)?)),
+            FormatKey::SpropMaxDonDiff => Some(FormatParam::SpropMaxDonDiff(param_distance(
+                value,
+            )?)),
+            FormatKey::OctetAlign => Some(FormatParam::OctetAlign(is_flag_one(value))),
+            FormatKey::ModeSet => Some(FormatParam::ModeSet(mode_set(value)?)),
             FormatKey::Apt => Some(FormatParam::Apt(Pt::new_with_value(num_u8(value, 255)?))),
-            FormatKey::Crc => unsupported(is_one(value)),
-            FormatKey::RobustSorting => unsupported(is_one(value)),
-            FormatKey::ModeChangePeriod => unsupported(is_text(value, "2")),
+            FormatKey::Crc => unsupported_param(is_flag_one(value)),
+            FormatKey::RobustSorting => unsupported_param(is_flag_one(value)),
+            FormatKey::ModeChangePeriod => unsupported_param(is_key_text(value, "2")),
             FormatKey::Interleaving => Some(FormatParam::AmrWbUnsupported),
         }
     }
@@ -178,7 +180,7 @@ impl FormatKey {
 impl FormatParam {
     /// The key and the value of a parameter; none where it has no key.
     pub(crate) fn entry(self) -> Option<(FormatKey, Value)>
-        ensures { keyed_text result ≡ entry_text (entry self) }
+        ensures { keyed_text result ≡ param_entry_text (param_entry self) }
     {
         let (key, value) = match self {
             FormatParam::MinPTime(n) => (FormatKey::MinPTime, Value::Number(u32::from(n))),
@@ -210,7 +212,7 @@ impl FormatParam {
     }
 }
 
-fn unsupported(is_asked: bool) -> Option<FormatParam>
+fn unsupported_param(is_asked: bool) -> Option<FormatParam>
     ensures { result ≡ option_map (λ x. AmrWbUnsupported) (when is_asked (tt {0})) }
 {
     if is_asked {
@@ -221,9 +223,9 @@ fn unsupported(is_asked: bool) -> Option<FormatParam>
 }
 
 /// The parameter of a key and its value.
-#[tactic(auto, unfolding(crate::specs::format::FormatParamReading::param_of))]
+#[tactic(auto, unfolding(crate::specs::format::FormatParamReading::param_of_pair))]
 pub(crate) fn param(key: &str, value: &str) -> FormatParam
-    ensures { result ≡ param_of (key.now, value.now) }
+    ensures { result ≡ param_of_pair (key.now, value.now) }
 {
     match FormatKey::named(key) {
         Some(key) => key.param(value).unwrap_or(FormatParam::Unknown),
@@ -231,14 +233,14 @@ pub(crate) fn param(key: &str, value: &str) -> FormatParam
     }
 }
 
-#[tactic(auto, using(crate::proofs::format::FormatParamLaws::parsed))]
-fn parsed(key: &str, value: &str) -> FormatParam
-    ensures { IsParsed (key.now, value.now) result }
+#[tactic(auto, using(crate::proofs::format::FormatParamLaws::param_parsed))]
+fn parsed_param(key: &str, value: &str) -> FormatParam
+    ensures { IsParsedParam (key.now, value.now) result }
 {
     param(key, value)
 }
 
-fn byte(text: &str) -> Option<u8>
+fn byte_number(text: &str) -> Option<u8>
     ensures { IsTheOnly (IsNum 255 text.now) result }
 {
     num_u8(text, 255)
@@ -249,12 +251,12 @@ fn last_event(value: &str) -> Option<u8>
     ensures { IsTheOnly (IsEventRange value.now) result }
 {
     match value.strip_prefix("0-") {
-        Some(end) if !end.starts_with('+') => byte(end),
+        Some(end) if !end.starts_with('+') => byte_number(end),
         _ => None,
     }
 }
 
-fn events(last: Option<u8>) -> FormatParam
+fn events_param(last: Option<u8>) -> FormatParam
     ensures { result ≡ bare_param last }
 {
     match last {
@@ -268,21 +270,21 @@ impl FormatParam {
     /// 6.15). Numbers read as std reads them; a flag is true exactly for `1`. What doesn't read is
     /// `Unknown`.
     pub fn parse(key: &str, value: &str) -> FormatParam
-        ensures parsed { IsParsed (key.now, value.now) result }
+        ensures parsed { IsParsedParam (key.now, value.now) result }
 
         // What a parameter prints reads as that parameter.
-        ensures printed { (param : FormatParam) → IsPrinted param (key.now, value.now) → result ≡ param }
+        ensures printed { (param : FormatParam) → IsPrintedParam param (key.now, value.now) → result ≡ param }
     {
-        parsed(key, value)
+        parsed_param(key, value)
     }
 
     /// Reads a value without a key: `0-X`, with X in digits and at most 255, is a range of
     /// telephone events (RFC 4733, section 2.4). What doesn't read is `Unknown`.
-    #[tactic(auto, using(crate::proofs::format::FormatParamLaws::bare_of))]
+    #[tactic(auto, using(crate::proofs::format::FormatParamLaws::param_bare_event_of))]
     pub fn parse_telephone_events(value: &str) -> FormatParam
-        ensures { IsBare value.now result }
+        ensures { IsBareParam value.now result }
     {
-        events(last_event(value))
+        events_param(last_event(value))
     }
 
     /// Reads keys and their values. Where a key is `tier-flag` or `level-id`, which only H265 and
@@ -290,12 +292,12 @@ impl FormatParam {
     /// values; the profile, tier and level of H265, else of H266, that they name comes first (RFC
     /// 7798, section 7.1; RFC 9328, section 7.2), and their three keys are passed over. Otherwise each
     /// pair is read on its own, in order. The only error is that memory was refused.
-    #[tactic(auto, using(crate::proofs::format::PairsLaws::are_read))]
+    #[tactic(auto, using(crate::proofs::format::PairsLaws::are_pairs_read))]
     pub fn parse_pairs(
         alloc: Global,
         pairs: &[(&str, &str)],
     ) -> Result<Vec<FormatParam>, AllocError>
-        ensures { IfOk result (λ params. AreRead (pair_texts pairs.now) params.items) }
+        ensures { IfOk result (λ params. ArePairsRead (pair_texts pairs.now) params.items) }
     {
         params(alloc, pairs)
     }

@@ -1,8 +1,8 @@
 //! Formats: the parameters of a codec, each in a field.
 ghost use Rattle.std.specs.Prelude.{◌≡◌, ◌++◌, IfOk, Some};
 ghost use Rattle.str0m_formats.specs.declared.format.format_params.Field.TheVariants as field;
-ghost use Rattle.str0m_formats.specs.format.FormatParam.{param_text, part_if};
-ghost use Rattle.str0m_formats.specs.format.FormatParams.{set_all, empty, set, param_at, params_of, params_text};
+ghost use Rattle.str0m_formats.specs.format.FormatParam.{param_text, separator_if};
+ghost use Rattle.str0m_formats.specs.format.FormatParams.{set_all_params, empty_format, set_param, field_param_at, params_of, params_text};
 
 use crate::format::format_key::FormatKey;
 use crate::format::format_param::FormatParam;
@@ -83,7 +83,7 @@ pub struct FormatParams {
 }
 
 impl Default for FormatParams {
-    ghost is_default = { λ params. params ≡ empty };
+    ghost is_default = { λ params. params ≡ empty_format };
 
     /// The format that says nothing.
     fn default() -> FormatParams {
@@ -115,7 +115,7 @@ impl FormatParams {
     /// which is a bare range or list, an `apt`, a RED, what isn't supported and what isn't known,
     /// changes nothing.
     pub fn set_param(&mut self, param: &FormatParam)
-        ensures { self.new ≡ set param.now self.old }
+        ensures { self.new ≡ set_param param.now self.old }
     {
         match *param {
             FormatParam::MinPTime(n) => self.min_p_time = Some(n),
@@ -142,7 +142,7 @@ impl FormatParams {
 
     /// The parameter of the field of a key, where it is given.
     fn keyed(self, key: FormatKey) -> Option<FormatParam>
-        ensures { result ≡ param_at (field.Key key) self }
+        ensures { result ≡ field_param_at (field.Key key) self }
     {
         match key {
             FormatKey::MinPTime => Some(FormatParam::MinPTime(self.min_p_time?)),
@@ -172,7 +172,7 @@ impl FormatParams {
 
     /// The parameter of a field, where it is given.
     fn param(self, field: Field) -> Option<FormatParam>
-        ensures { result ≡ param_at field self }
+        ensures { result ≡ field_param_at field self }
     {
         match field {
             Field::Key(key) => self.keyed(key),
@@ -205,7 +205,7 @@ impl FormatParams {
         ensures items { IfOk result (λ params. params.items ≡ params_of self) }
 
         // Set one after another, they give the format back.
-        ensures again { IfOk result (λ params. set_all empty params.items ≡ self) }
+        ensures again { IfOk result (λ params. set_all_params empty_format params.items ≡ self) }
     {
         self.given(alloc)
     }
@@ -219,7 +219,7 @@ struct ListedParam {
 }
 
 impl fmt::Display for ListedParam {
-    ghost output = { λ item. Some (part_if 59 item.started ++ param_text item.param) };
+    ghost output = { λ item. Some (separator_if 59 item.started ++ param_text item.param) };
 
     fn fmt<W: fmt::Write>(&self, f: &mut fmt::Formatter<W>) -> fmt::Result {
         let param = self.param;

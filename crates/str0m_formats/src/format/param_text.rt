@@ -1,7 +1,7 @@
 //! How parameters of formats print.
 ghost use Rattle.std.specs.Prelude.{◌≡◌, ◌++◌, Some, codes, decimal};
-ghost use Rattle.str0m_formats.specs.format.FormatParam.{entry, entry_text, flag_text, mode_list, param_text, part_if, six_digits, triple_text};
-ghost use Rattle.str0m_formats.specs.format.ParamText.{shown};
+ghost use Rattle.str0m_formats.specs.format.FormatParam.{param_entry, param_entry_text, param_flag_text, param_mode_list, param_text, separator_if, six_hex_digits, param_triple_text};
+ghost use Rattle.str0m_formats.specs.format.ParamText.{shown_value};
 
 use crate::format::format_param::FormatParam;
 use std::fmt;
@@ -12,7 +12,7 @@ use str0m_values::{Numbered, ProfileTierLevel, Pt};
 struct Flag(bool);
 
 impl fmt::Display for Flag {
-    ghost output = { λ flag. Some (flag_text flag.0) };
+    ghost output = { λ flag. Some (param_flag_text flag.0) };
 
     fn fmt<W: fmt::Write>(&self, f: &mut fmt::Formatter<W>) -> fmt::Result {
         if self.0 {
@@ -28,9 +28,9 @@ impl fmt::Display for Flag {
 struct SixDigits(u32);
 
 impl fmt::Display for SixDigits {
-    ghost output = { λ n. Some (six_digits n.0) };
+    ghost output = { λ n. Some (six_hex_digits n.0) };
 
-    #[tactic(auto, using(crate::proofs::format::ParamTextPrinted::padded_six))]
+    #[tactic(auto, using(crate::proofs::format::ParamTextPrinted::printed_padded_six))]
     fn fmt<W: fmt::Write>(&self, f: &mut fmt::Formatter<W>) -> fmt::Result {
         let n = self.0;
         write!(f, "{n:06x}")
@@ -62,7 +62,7 @@ impl Triple {
 }
 
 impl fmt::Display for Triple {
-    ghost output = { λ t. Some (triple_text t.profile t.tier t.level) };
+    ghost output = { λ t. Some (param_triple_text t.profile t.tier t.level) };
 
     fn fmt<W: fmt::Write>(&self, f: &mut fmt::Formatter<W>) -> fmt::Result {
         let profile = self.profile;
@@ -80,7 +80,7 @@ struct ListedMode {
 }
 
 impl fmt::Display for ListedMode {
-    ghost output = { λ item. Some (part_if 44 item.started ++ decimal item.mode) };
+    ghost output = { λ item. Some (separator_if 44 item.started ++ decimal item.mode) };
 
     fn fmt<W: fmt::Write>(&self, f: &mut fmt::Formatter<W>) -> fmt::Result {
         let mode = self.mode;
@@ -97,7 +97,7 @@ impl fmt::Display for ListedMode {
 struct ModeList(u16);
 
 impl fmt::Display for ModeList {
-    ghost output = { λ list. Some (mode_list list.0) };
+    ghost output = { λ list. Some (param_mode_list list.0) };
 
     fn fmt<W: fmt::Write>(&self, f: &mut fmt::Formatter<W>) -> fmt::Result {
         let mask = self.0;
@@ -123,7 +123,7 @@ pub(crate) enum Value {
 }
 
 impl fmt::Display for Value {
-    ghost output = { λ value. Some (shown value) };
+    ghost output = { λ value. Some (shown_value value) };
 
     fn fmt<W: fmt::Write>(&self, f: &mut fmt::Formatter<W>) -> fmt::Result {
         match *self {
@@ -140,7 +140,7 @@ impl fmt::Display for Value {
 struct Keyed(FormatParam);
 
 impl fmt::Display for Keyed {
-    ghost output = { λ param. Some (entry_text (entry param.0)) };
+    ghost output = { λ param. Some (param_entry_text (param_entry param.0)) };
 
     fn fmt<W: fmt::Write>(&self, f: &mut fmt::Formatter<W>) -> fmt::Result {
         match self.0.entry() {

@@ -35,7 +35,7 @@ const FROM_77_TO_78: u128 = 0b11 << 77;
 const FROM_35_TO_71: u128 = 0x1f_ffff_ffff << 35;
 
 /// The type of the least bit that is set.
-fn least_type(bits: u128) -> Option<Pt>
+fn least_bit_type(bits: u128) -> Option<Pt>
     ensures { result ≡ least_bit bits }
 {
     if bits == 0 {
@@ -77,10 +77,10 @@ impl ClaimMask {
         ensures { result ≡ free (λ t. bit_set self.now t || bit_set unlocked.now t) }
     {
         let free = !(self.bits() | unlocked.bits());
-        least_type(free & FROM_96_TO_127)
-            .or(least_type(free & FROM_80_TO_95))
-            .or(least_type(free & FROM_77_TO_78))
-            .or(least_type(free & FROM_35_TO_71))
+        least_bit_type(free & FROM_96_TO_127)
+            .or(least_bit_type(free & FROM_80_TO_95))
+            .or(least_bit_type(free & FROM_77_TO_78))
+            .or(least_bit_type(free & FROM_35_TO_71))
     }
 }
 

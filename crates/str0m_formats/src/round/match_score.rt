@@ -1,6 +1,6 @@
 //! How well two specs fit.
 ghost use Rattle.std.specs.Prelude.{◌≡◌, ◌≤◌, IfSome, option_map};
-ghost use Rattle.str0m_formats.specs.round.MatchScore.{same_flag, unless, opus_score, is_mono, mode_score, amr_wb_score, level_score, h264_level_score, h264_score, profile_numbers, profile_number, triple_score, profile_score, vp9_score, av1_score, format_score, codec_score, same_spec, score};
+ghost use Rattle.str0m_formats.specs.round.MatchScore.{same_flag, unless_cost, opus_score, is_mono, mode_score, amr_wb_score, level_score, h264_level_score, h264_score, profile_numbers, profile_number, triple_score, profile_score, vp9_score, av1_score, format_score, codec_score, same_spec, spec_score};
 
 use crate::codec::Codec;
 use crate::codec::codec_spec::CodecSpec;
@@ -30,7 +30,7 @@ fn is_same_flag(own: Option<bool>, other: Option<bool>) -> bool
 
 /// What a difference costs.
 fn cost_unless(is_same: bool, cost: usize) -> usize
-    ensures cost { result ≡ unless is_same cost }
+    ensures cost { result ≡ unless_cost is_same cost }
     ensures bound { result ≤ cost }
 {
     if is_same { 0 } else { cost }
@@ -132,7 +132,7 @@ fn profile_numbers<P: Numbered, T: Numbered, L: Leveled>(
 }
 
 /// The profile of a triple, else the last byte of a profile id, else the first profile.
-fn profile(triple: Option<ProfileNumbers>, id: Option<u32>) -> u8
+fn profile_number(triple: Option<ProfileNumbers>, id: Option<u32>) -> u8
     ensures { result ≡ profile_number triple id }
 {
     match (triple, id) {
@@ -162,7 +162,7 @@ fn profile_score(
 {
     match (own, other) {
         (Some(mine), Some(theirs)) => triple_score(mine, theirs),
-        _ if profile(own, own_id) == profile(other, other_id) => Some(SAME_PROFILE),
+        _ if profile_number(own, own_id) == profile_number(other, other_id) => Some(SAME_PROFILE),
         _ => None,
     }
 }
@@ -233,8 +233,8 @@ fn codec_score(own: &CodecSpec, other: &CodecSpec) -> Option<usize>
 
 /// Whether two specs are equal. Most that meet are of two codecs, or of H264 in two profiles, levels or modes: that is looked
 /// at first, since the whole of two formats takes several times as long.
-#[tactic(auto, using(crate::proofs::format::FormatParamsEqual::other_codec, crate::proofs::format::FormatParamsEqual::other_level, crate::proofs::format::FormatParamsEqual::other_mode))]
-fn is_same(own: &CodecSpec, other: &CodecSpec) -> bool
+#[tactic(auto, using(crate::proofs::format::FormatParamsEqual::specs_of_other_codec, crate::proofs::format::FormatParamsEqual::specs_of_other_level, crate::proofs::format::FormatParamsEqual::specs_of_other_mode))]
+fn is_same_spec(own: &CodecSpec, other: &CodecSpec) -> bool
     ensures { result ≡ same_spec own.now other.now }
 {
     own.codec == other.codec
@@ -244,12 +244,12 @@ fn is_same(own: &CodecSpec, other: &CodecSpec) -> bool
 }
 
 /// The score of two specs: the first rule that applies. Equal ones fit in full, but for AMR-WB.
-#[tactic(auto, unfolding(crate::specs::round::MatchScore::score))]
+#[tactic(auto, unfolding(crate::specs::round::MatchScore::spec_score))]
 pub(crate) fn spec_score(own: &CodecSpec, other: &CodecSpec) -> Option<usize>
-    ensures score { result ≡ score own.now other.now }
+    ensures score { result ≡ spec_score own.now other.now }
     ensures bound { IfSome result (λ n. n ≤ 100) }
 {
-    if is_same(own, other) && own.codec != Codec::AmrWb {
+    if is_same_spec(own, other) && own.codec != Codec::AmrWb {
         return Some(FULL);
     }
     if own.codec == other.codec && own.clock_rate == other.clock_rate {

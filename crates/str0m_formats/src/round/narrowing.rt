@@ -1,7 +1,7 @@
 //! What the row that a row is matched with changes in its format.
 ghost use Rattle.std.specs.Prelude.{◌≡◌};
 ghost use Rattle.str0m_formats.specs.declared.codec.Codec.TheVariants.{AmrWb, H264, H265, H266, Tele};
-ghost use Rattle.str0m_formats.specs.round.Narrowing.{narrowed, narrowed_as, levels_differ, lower_triple, id_beside};
+ghost use Rattle.str0m_formats.specs.round.Narrowing.{narrowed, narrowed_as, narrowing_levels_differ, narrowed_triple, profile_id_beside};
 
 use crate::codec::Codec;
 use crate::codec::codec_spec::CodecSpec;
@@ -9,11 +9,11 @@ use crate::format::format_params::FormatParams;
 use str0m_values::{Leveled, Numbered, ProfileTierLevel, lower_level};
 
 /// The triple of the choice, its level the lower of both where the row has one.
-fn lower_triple<P: Numbered, T: Numbered, L: Leveled>(
+fn narrowed_triple<P: Numbered, T: Numbered, L: Leveled>(
     own: Option<ProfileTierLevel<P, T, L>>,
     chosen: Option<ProfileTierLevel<P, T, L>>,
 ) -> Option<ProfileTierLevel<P, T, L>>
-    ensures { result ≡ lower_triple L.place_of own chosen }
+    ensures { result ≡ narrowed_triple L.place_of own chosen }
 {
     match (own, chosen) {
         (Some(own), Some(chosen)) => {
@@ -28,8 +28,8 @@ fn lower_triple<P: Numbered, T: Numbered, L: Leveled>(
 }
 
 /// The profile id, where no triple says it.
-fn id_beside<Triple: Copy>(triple: Option<Triple>, id: Option<u32>) -> Option<u32>
-    ensures { result ≡ id_beside triple id }
+fn profile_id_beside<Triple: Copy>(triple: Option<Triple>, id: Option<u32>) -> Option<u32>
+    ensures { result ≡ profile_id_beside triple id }
 {
     match triple {
         Some(_) => None,
@@ -47,8 +47,8 @@ fn narrow_events(own: &mut CodecSpec, chosen: &CodecSpec)
 }
 
 /// Whether each side may send at a level of its own.
-fn levels_differ(own: &FormatParams, chosen: &FormatParams) -> bool
-    ensures { result ≡ levels_differ own.now chosen.now }
+fn narrowing_levels_differ(own: &FormatParams, chosen: &FormatParams) -> bool
+    ensures { result ≡ narrowing_levels_differ own.now chosen.now }
 {
     own.level_asymmetry_allowed.unwrap_or(false) && chosen.level_asymmetry_allowed.unwrap_or(false)
 }
@@ -57,7 +57,7 @@ fn levels_differ(own: &FormatParams, chosen: &FormatParams) -> bool
 fn narrow_h264(own: &mut CodecSpec, chosen: &CodecSpec)
     ensures { own.new ≡ narrowed_as H264 own.old chosen.now }
 {
-    if !levels_differ(&own.format, &chosen.format) {
+    if !narrowing_levels_differ(&own.format, &chosen.format) {
         own.format.profile_level_id = lower_level(
             own.format.profile_level_id,
             chosen.format.profile_level_id,
@@ -71,8 +71,8 @@ fn narrow_h265(own: &mut CodecSpec, chosen: &CodecSpec)
     ensures { own.new ≡ narrowed_as H265 own.old chosen.now }
 {
     let theirs = &chosen.format;
-    own.format.profile_id = id_beside(theirs.h265_profile_tier_level, theirs.profile_id);
-    own.format.h265_profile_tier_level = lower_triple(
+    own.format.profile_id = profile_id_beside(theirs.h265_profile_tier_level, theirs.profile_id);
+    own.format.h265_profile_tier_level = narrowed_triple(
         own.format.h265_profile_tier_level,
         theirs.h265_profile_tier_level,
     );
@@ -84,8 +84,8 @@ fn narrow_h266(own: &mut CodecSpec, chosen: &CodecSpec)
     ensures { own.new ≡ narrowed_as H266 own.old chosen.now }
 {
     let theirs = &chosen.format;
-    own.format.profile_id = id_beside(theirs.h266_profile_tier_level, theirs.profile_id);
-    own.format.h266_profile_tier_level = lower_triple(
+    own.format.profile_id = profile_id_beside(theirs.h266_profile_tier_level, theirs.profile_id);
+    own.format.h266_profile_tier_level = narrowed_triple(
         own.format.h266_profile_tier_level,
         theirs.h266_profile_tier_level,
     );

@@ -3,18 +3,18 @@ ghost use Rattle.std.specs.List.{list_any};
 ghost use Rattle.std.specs.List.Sorted.{IsStrictlyIncreasing};
 ghost use Rattle.std.specs.Prelude.{◌≡◌, ◌==◌, ◌+◌, ◌≤◌, ◌++◌, ◌∷◌, [], All, IfOk, IsOk, List, ℕ, OnErr, OnOk, option_copied, vec_capacity, vec_len};
 ghost use Rattle.str0m_formats.specs.Prelude.{H265ProfileTierLevel, H266ProfileTierLevel, receives};
-ghost use Rattle.str0m_formats.specs.round.Choices.{FirstAccepted, IsChoice, IsMatchedType, highest_event, points_with};
+ghost use Rattle.str0m_formats.specs.round.Choices.{FirstAccepted, IsChoice, IsMatchedType, highest_event, choice_points_with};
 ghost use Rattle.str0m_formats.specs.round.Claimed.{AllDistinct};
-ghost use Rattle.str0m_formats.specs.row.CodecConfig.{video_spec, h264_row, h265_row, h266_row, IsTripleOr, IsH265Triple, IsH266Triple};
+ghost use Rattle.str0m_formats.specs.row.CodecConfig.{configured_video_spec, configured_h264_row, configured_h265_row, configured_h266_row, IsTripleOrFallback, IsConfiguredH265Triple, IsConfiguredH266Triple};
 ghost use Rattle.str0m_formats.specs.row.DefaultRows.{AreDefault};
 ghost use Rattle.str0m_formats.specs.row.KindRows.{kind_rows, rows_left};
 ghost use Rattle.str0m_formats.specs.row.PayloadParams.{new_row, types};
-ghost use Rattle.str0m_formats.specs.row.RedDistances.{AreKept};
+ghost use Rattle.str0m_formats.specs.row.RedDistances.{AreDistancesKept};
 
 use crate::codec::Codec;
 use crate::codec::codec_spec::CodecSpec;
 use crate::format::format_params::FormatParams;
-use crate::round::choices::{better, is_event_row};
+use crate::round::choices::{better_row, is_event_row};
 use crate::row::kind_rows::{KindRows, some_share_rate};
 use crate::row::payload_params::PayloadParams;
 use crate::row::red_distances::RedDistances;
@@ -40,8 +40,8 @@ pub struct CodecConfig {
 const LEAST_ROOM: usize = 4;
 
 /// A video codec: at 90 kHz, and without channels.
-pub(crate) fn video_spec(codec: Codec, format: FormatParams) -> CodecSpec
-    ensures { result ≡ video_spec codec format }
+pub(crate) fn configured_video_spec(codec: Codec, format: FormatParams) -> CodecSpec
+    ensures { result ≡ configured_video_spec codec format }
 {
     CodecSpec {
         codec,
@@ -51,13 +51,13 @@ pub(crate) fn video_spec(codec: Codec, format: FormatParams) -> CodecSpec
     }
 }
 
-pub(crate) fn h264_row(
+pub(crate) fn configured_h264_row(
     pt: Pt,
     resend: Option<Pt>,
     packetization_mode: bool,
     profile_level_id: u32,
 ) -> PayloadParams
-    ensures { result ≡ h264_row pt resend packetization_mode profile_level_id }
+    ensures { result ≡ configured_h264_row pt resend packetization_mode profile_level_id }
 {
     let format = FormatParams {
         level_asymmetry_allowed: Some(true),
@@ -65,37 +65,45 @@ pub(crate) fn h264_row(
         profile_level_id: Some(profile_level_id),
         ..FormatParams::default()
     };
-    PayloadParams::new(pt, resend, video_spec(Codec::H264, format))
+    PayloadParams::new(pt, resend, configured_video_spec(Codec::H264, format))
 }
 
-pub(crate) fn h265_row(pt: Pt, resend: Option<Pt>, triple: H265ProfileTierLevel) -> PayloadParams
-    ensures { result ≡ h265_row pt resend triple }
+pub(crate) fn configured_h265_row(
+    pt: Pt,
+    resend: Option<Pt>,
+    triple: H265ProfileTierLevel,
+) -> PayloadParams
+    ensures { result ≡ configured_h265_row pt resend triple }
 {
     let format = FormatParams {
         h265_profile_tier_level: Some(triple),
         ..FormatParams::default()
     };
-    PayloadParams::new(pt, resend, video_spec(Codec::H265, format))
+    PayloadParams::new(pt, resend, configured_video_spec(Codec::H265, format))
 }
 
-pub(crate) fn h266_row(pt: Pt, resend: Option<Pt>, triple: H266ProfileTierLevel) -> PayloadParams
-    ensures { result ≡ h266_row pt resend triple }
+pub(crate) fn configured_h266_row(
+    pt: Pt,
+    resend: Option<Pt>,
+    triple: H266ProfileTierLevel,
+) -> PayloadParams
+    ensures { result ≡ configured_h266_row pt resend triple }
 {
     let format = FormatParams {
         h266_profile_tier_level: Some(triple),
         ..FormatParams::default()
     };
-    PayloadParams::new(pt, resend, video_spec(Codec::H266, format))
+    PayloadParams::new(pt, resend, configured_video_spec(Codec::H266, format))
 }
 
 /// The triple of three numbers; where one of them stands in no table, the fallback.
-fn triple_or<P: Numbered, T: Numbered, L: Numbered>(
+fn triple_or_fallback<P: Numbered, T: Numbered, L: Numbered>(
     profile: u8,
     tier: u8,
     level: u8,
     fallback: ProfileTierLevel<P, T, L>,
 ) -> ProfileTierLevel<P, T, L>
-    ensures { IsTripleOr P.number_of T.number_of L.number_of
+    ensures { IsTripleOrFallback P.number_of T.number_of L.number_of
         (P.number_of fallback.profile, T.number_of fallback.tier, L.number_of fallback.level) profile tier level result }
 {
     ProfileTierLevel::new(profile, tier, level).unwrap_or(fallback)
@@ -156,11 +164,11 @@ impl CodecConfig {
     /// The row that matches these parameters best: the last of those of greatest score. `None` where
     /// no row matches.
     pub fn match_params(&self, params: PayloadParams) -> Option<&PayloadParams>
-        ensures { IsChoice (points_with params) self.now.params.items (option_copied result) }
+        ensures { IsChoice (choice_points_with params) self.now.params.items (option_copied result) }
     {
         let mut best = None;
         for row in self.params.as_slice() {
-            best = better(best, row, row.match_score(&params));
+            best = better_row(best, row, row.match_score(&params));
         }
         match best {
             Some((row, _)) => Some(row),
@@ -249,7 +257,7 @@ impl CodecConfig {
     /// added where it is missing: a receiver takes the nearest level for the packet before. Whether
     /// rows have a RED isn't changed, nor is any row.
     pub fn set_red_distances(&mut self, distances: &[u32])
-        ensures kept { AreKept distances.now self.new.red_distances }
+        ensures kept { AreDistancesKept distances.now self.new.red_distances }
         ensures rows { self.new.params ≡ self.old.params }
     {
         self.red_distances = RedDistances::kept(distances);
@@ -325,11 +333,11 @@ impl CodecConfig {
         packetization_mode: bool,
         profile_level_id: u32,
     ) -> Result<(), AllocError>
-        ensures ok { OnOk result (self.new.params.items ≡ self.old.params.items ++ h264_row pt resend packetization_mode profile_level_id ∷ []) }
+        ensures ok { OnOk result (self.new.params.items ≡ self.old.params.items ++ configured_h264_row pt resend packetization_mode profile_level_id ∷ []) }
         ensures err { OnErr result (self.new ≡ self.old) }
         ensures distances { self.new.red_distances ≡ self.old.red_distances }
     {
-        self.add_row(h264_row(pt, resend, packetization_mode, profile_level_id))
+        self.add_row(configured_h264_row(pt, resend, packetization_mode, profile_level_id))
     }
 
     /// Adds a row of H265 at the end, at 90 kHz, with this profile, tier and level (RFC 7798, section
@@ -345,13 +353,13 @@ impl CodecConfig {
         tier: u8,
         level: u8,
     ) -> Result<(), AllocError>
-        ensures ok { OnOk result ((triple : H265ProfileTierLevel) × IsH265Triple profile tier level triple
-            × (self.new.params.items ≡ self.old.params.items ++ h265_row pt resend triple ∷ [])) }
+        ensures ok { OnOk result ((triple : H265ProfileTierLevel) × IsConfiguredH265Triple profile tier level triple
+            × (self.new.params.items ≡ self.old.params.items ++ configured_h265_row pt resend triple ∷ [])) }
         ensures err { OnErr result (self.new ≡ self.old) }
         ensures distances { self.new.red_distances ≡ self.old.red_distances }
     {
-        let triple = triple_or(profile, tier, level, H265ProfileTierLevel::FALLBACK);
-        self.add_row(h265_row(pt, resend, triple))
+        let triple = triple_or_fallback(profile, tier, level, H265ProfileTierLevel::FALLBACK);
+        self.add_row(configured_h265_row(pt, resend, triple))
     }
 
     /// Adds a row of H266 at the end, at 90 kHz, with this profile, tier and level (RFC 9328, section
@@ -367,13 +375,13 @@ impl CodecConfig {
         tier: u8,
         level: u8,
     ) -> Result<(), AllocError>
-        ensures ok { OnOk result ((triple : H266ProfileTierLevel) × IsH266Triple profile tier level triple
-            × (self.new.params.items ≡ self.old.params.items ++ h266_row pt resend triple ∷ [])) }
+        ensures ok { OnOk result ((triple : H266ProfileTierLevel) × IsConfiguredH266Triple profile tier level triple
+            × (self.new.params.items ≡ self.old.params.items ++ configured_h266_row pt resend triple ∷ [])) }
         ensures err { OnErr result (self.new ≡ self.old) }
         ensures distances { self.new.red_distances ≡ self.old.red_distances }
     {
-        let triple = triple_or(profile, tier, level, H266ProfileTierLevel::FALLBACK);
-        self.add_row(h266_row(pt, resend, triple))
+        let triple = triple_or_fallback(profile, tier, level, H266ProfileTierLevel::FALLBACK);
+        self.add_row(configured_h266_row(pt, resend, triple))
     }
 }
 

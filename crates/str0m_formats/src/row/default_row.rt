@@ -1,14 +1,16 @@
 //! The default rows of each codec, one by one.
 ghost use Rattle.std.specs.Prelude.{◌≡◌, ◌∷◌, [], true, false, Some, None};
 ghost use Rattle.str0m_formats.specs.declared.codec.Codec.{Codec};
-ghost use Rattle.str0m_formats.specs.format.FormatParams.{empty};
-ghost use Rattle.str0m_formats.specs.row.CodecConfig.{h264_row};
-ghost use Rattle.str0m_formats.specs.row.DefaultRows.{audio_row, video_row, red_if, default_rows};
+ghost use Rattle.str0m_formats.specs.format.FormatParams.{empty_format};
+ghost use Rattle.str0m_formats.specs.row.CodecConfig.{configured_h264_row};
+ghost use Rattle.str0m_formats.specs.row.DefaultRows.{audio_row, video_row, red_type_if, default_rows};
 
 use crate::codec::Codec;
 use crate::codec::codec_spec::CodecSpec;
 use crate::format::format_params::FormatParams;
-use crate::row::codec_config::{h264_row, h265_row, h266_row, video_spec};
+use crate::row::codec_config::{
+    configured_h264_row, configured_h265_row, configured_h266_row, configured_video_spec,
+};
 use crate::row::payload_params::PayloadParams;
 use str0m_values::{
     Frequency, H265Level, H265Profile, H265ProfileTierLevel, H265Tier, H266Level, H266Profile,
@@ -39,13 +41,13 @@ fn video_row(codec: Codec, pt: u8, resend: u8, format: FormatParams) -> PayloadP
     PayloadParams::new(
         Pt::new_with_value(pt),
         Some(Pt::new_with_value(resend)),
-        video_spec(codec, format),
+        configured_video_spec(codec, format),
     )
 }
 
 /// This RED, where it is asked for (RFC 2198, section 5).
-pub(crate) fn red_if(use_red: bool, pt: u8) -> Option<Pt>
-    ensures { result ≡ red_if use_red pt }
+pub(crate) fn red_type_if(use_red: bool, pt: u8) -> Option<Pt>
+    ensures { result ≡ red_type_if use_red pt }
 {
     if use_red {
         Some(Pt::new_with_value(pt))
@@ -60,9 +62,9 @@ fn default_h264_row(
     packetization_mode: bool,
     profile_level_id: u32,
 ) -> PayloadParams
-    ensures { result ≡ h264_row pt (Some resend) packetization_mode profile_level_id }
+    ensures { result ≡ configured_h264_row pt (Some resend) packetization_mode profile_level_id }
 {
-    h264_row(
+    configured_h264_row(
         Pt::new_with_value(pt),
         Some(Pt::new_with_value(resend)),
         packetization_mode,
@@ -86,14 +88,14 @@ pub(crate) fn h264_rows() -> [PayloadParams; 7]
 
 /// A video row of which nothing more is said.
 pub(crate) fn bare_video_row(codec: Codec, pt: u8, resend: u8) -> PayloadParams
-    ensures { result ≡ video_row codec pt resend empty }
+    ensures { result ≡ video_row codec pt resend empty_format }
 {
     video_row(codec, pt, resend, FormatParams::default())
 }
 
 /// A row of VP9 with this profile (RFC 9628, section 6).
 pub(crate) fn vp9_row(pt: u8, resend: u8, profile: u32) -> PayloadParams
-    ensures { result ≡ video_row Codec.Vp9 pt resend (record empty { profile_id = Some profile }) }
+    ensures { result ≡ video_row Codec.Vp9 pt resend (record empty_format { profile_id = Some profile }) }
 {
     let format = FormatParams {
         profile_id: Some(profile),
@@ -117,7 +119,7 @@ pub(crate) fn opus_row(use_red: bool) -> PayloadParams
         Some(2),
         format,
     );
-    row.with_red(red_if(use_red, 63))
+    row.with_red(red_type_if(use_red, 63))
 }
 
 pub(crate) fn amr_wb_row() -> PayloadParams
@@ -138,7 +140,7 @@ pub(crate) fn default_h265_row() -> PayloadParams
         tier: H265Tier::Main,
         level: H265Level::L6,
     };
-    h265_row(
+    configured_h265_row(
         Pt::new_with_value(102),
         Some(Pt::new_with_value(103)),
         triple,
@@ -153,7 +155,7 @@ pub(crate) fn default_h266_row() -> PayloadParams
         tier: H266Tier::Main,
         level: H266Level::L6,
     };
-    h266_row(
+    configured_h266_row(
         Pt::new_with_value(104),
         Some(Pt::new_with_value(105)),
         triple,

@@ -2,7 +2,7 @@
 ghost use Rattle.std.specs.Prelude.{◌≡◌, ◌++◌, ◌∷◌, [], false, IfOk, OnOk, OnErr, IsOk, length};
 ghost use Rattle.str0m_formats.specs.declared.codec.Codec.{Codec};
 ghost use Rattle.str0m_formats.specs.round.Claimed.{AllDistinct};
-ghost use Rattle.str0m_formats.specs.row.DefaultRows.{default_rows, static_rows, except, AreDefault, Enables, usual_rows};
+ghost use Rattle.str0m_formats.specs.row.DefaultRows.{default_rows, static_rows, rows_except, AreDefault, EnablesDefaultRows, usual_rows};
 ghost use Rattle.str0m_formats.specs.row.PayloadParams.{types};
 
 use crate::codec::Codec;
@@ -10,7 +10,7 @@ use crate::format::format_params::FormatParams;
 use crate::row::codec_config::CodecConfig;
 use crate::row::default_row::{
     amr_wb_row, audio_row, bare_video_row, default_h265_row, default_h266_row, h264_rows, opus_row,
-    red_if, vp9_row,
+    red_type_if, vp9_row,
 };
 use crate::row::payload_params::PayloadParams;
 use std::alloc::{AllocError, Global};
@@ -39,7 +39,7 @@ impl CodecConfig {
 
     /// Takes out all rows of the codec, and puts these last.
     fn put(&mut self, codec: Codec, rows: &[PayloadParams]) -> Result<(), AllocError>
-        ensures ok { OnOk result (self.new.params.items ≡ except codec self.old.params.items ++ rows.now) }
+        ensures ok { OnOk result (self.new.params.items ≡ rows_except codec self.old.params.items ++ rows.now) }
         ensures err { OnErr result (self.new ≡ self.old) }
         ensures none { length rows.now ≡ 0 → IsOk result }
         ensures distances { self.new.red_distances ≡ self.old.red_distances }
@@ -52,7 +52,7 @@ impl CodecConfig {
 
     /// Takes out all rows of the codec, and puts its row under its static type last, with this RED.
     fn put_static(&mut self, codec: Codec, red: Option<Pt>) -> Result<(), AllocError>
-        ensures ok { OnOk result (self.new.params.items ≡ except codec self.old.params.items ++ static_rows codec red) }
+        ensures ok { OnOk result (self.new.params.items ≡ rows_except codec self.old.params.items ++ static_rows codec red) }
         ensures err { OnErr result (self.new ≡ self.old) }
         ensures distances { self.new.red_distances ≡ self.old.red_distances }
     {
@@ -67,15 +67,15 @@ impl CodecConfig {
 
     /// Takes out all rows of the codec, and puts its default rows last.
     fn put_defaults(&mut self, codec: Codec, use_red: bool) -> Result<(), AllocError>
-        ensures ok { OnOk result (self.new.params.items ≡ except codec self.old.params.items ++ default_rows codec use_red) }
+        ensures ok { OnOk result (self.new.params.items ≡ rows_except codec self.old.params.items ++ default_rows codec use_red) }
         ensures err { OnErr result (self.new ≡ self.old) }
         ensures distances { self.new.red_distances ≡ self.old.red_distances }
     {
         match codec {
             Codec::Opus => self.put(codec, &[opus_row(use_red)]),
-            Codec::PCMU => self.put_static(codec, red_if(use_red, 61)),
-            Codec::PCMA => self.put_static(codec, red_if(use_red, 60)),
-            Codec::G722 => self.put_static(codec, red_if(use_red, 62)),
+            Codec::PCMU => self.put_static(codec, red_type_if(use_red, 61)),
+            Codec::PCMA => self.put_static(codec, red_type_if(use_red, 60)),
+            Codec::G722 => self.put_static(codec, red_type_if(use_red, 62)),
             Codec::CN => self.put_static(codec, None),
             Codec::AmrWb => self.put(codec, &[amr_wb_row()]),
             Codec::Vp8 => self.put(codec, &[bare_video_row(codec, 96, 97)]),
@@ -90,7 +90,7 @@ impl CodecConfig {
 
     /// Takes out all rows of the codec and, where it is enabled, puts its default rows last.
     fn enable(&mut self, codec: Codec, enabled: bool, use_red: bool) -> Result<(), AllocError>
-        ensures { Enables codec enabled use_red self.old self.new result }
+        ensures { EnablesDefaultRows codec enabled use_red self.old self.new result }
     {
         if enabled {
             self.put_defaults(codec, use_red)
@@ -104,7 +104,7 @@ impl CodecConfig {
     /// All rows of the codec are taken out; where it is enabled, its default rows come last. The only
     /// error is that memory was refused, which changes nothing; without `enabled` there is none.
     pub fn enable_pcmu(&mut self, enabled: bool, use_red: bool) -> Result<(), AllocError>
-        ensures { Enables Codec.PCMU enabled use_red self.old self.new result }
+        ensures { EnablesDefaultRows Codec.PCMU enabled use_red self.old self.new result }
     {
         self.enable(Codec::PCMU, enabled, use_red)
     }
@@ -114,7 +114,7 @@ impl CodecConfig {
     /// All rows of the codec are taken out; where it is enabled, its default rows come last. The only
     /// error is that memory was refused, which changes nothing; without `enabled` there is none.
     pub fn enable_pcma(&mut self, enabled: bool, use_red: bool) -> Result<(), AllocError>
-        ensures { Enables Codec.PCMA enabled use_red self.old self.new result }
+        ensures { EnablesDefaultRows Codec.PCMA enabled use_red self.old self.new result }
     {
         self.enable(Codec::PCMA, enabled, use_red)
     }
@@ -125,7 +125,7 @@ impl CodecConfig {
     /// All rows of the codec are taken out; where it is enabled, its default rows come last. The only
     /// error is that memory was refused, which changes nothing; without `enabled` there is none.
     pub fn enable_g722(&mut self, enabled: bool, use_red: bool) -> Result<(), AllocError>
-        ensures { Enables Codec.G722 enabled use_red self.old self.new result }
+        ensures { EnablesDefaultRows Codec.G722 enabled use_red self.old self.new result }
     {
         self.enable(Codec::G722, enabled, use_red)
     }
@@ -136,7 +136,7 @@ impl CodecConfig {
     /// All rows of the codec are taken out; where it is enabled, its default rows come last. The only
     /// error is that memory was refused, which changes nothing; without `enabled` there is none.
     pub fn enable_opus(&mut self, enabled: bool, use_red: bool) -> Result<(), AllocError>
-        ensures { Enables Codec.Opus enabled use_red self.old self.new result }
+        ensures { EnablesDefaultRows Codec.Opus enabled use_red self.old self.new result }
     {
         self.enable(Codec::Opus, enabled, use_red)
     }
@@ -147,7 +147,7 @@ impl CodecConfig {
     /// All rows of the codec are taken out; where it is enabled, its default rows come last. The only
     /// error is that memory was refused, which changes nothing; without `enabled` there is none.
     pub fn enable_comfort_noise(&mut self, enabled: bool) -> Result<(), AllocError>
-        ensures { Enables Codec.CN enabled false self.old self.new result }
+        ensures { EnablesDefaultRows Codec.CN enabled false self.old self.new result }
     {
         self.enable(Codec::CN, enabled, false)
     }
@@ -158,7 +158,7 @@ impl CodecConfig {
     /// All rows of the codec are taken out; where it is enabled, its default rows come last. The only
     /// error is that memory was refused, which changes nothing; without `enabled` there is none.
     pub fn enable_amr_wb(&mut self, enabled: bool) -> Result<(), AllocError>
-        ensures { Enables Codec.AmrWb enabled false self.old self.new result }
+        ensures { EnablesDefaultRows Codec.AmrWb enabled false self.old self.new result }
     {
         self.enable(Codec::AmrWb, enabled, false)
     }
@@ -168,7 +168,7 @@ impl CodecConfig {
     /// All rows of the codec are taken out; where it is enabled, its default rows come last. The only
     /// error is that memory was refused, which changes nothing; without `enabled` there is none.
     pub fn enable_vp8(&mut self, enabled: bool) -> Result<(), AllocError>
-        ensures { Enables Codec.Vp8 enabled false self.old self.new result }
+        ensures { EnablesDefaultRows Codec.Vp8 enabled false self.old self.new result }
     {
         self.enable(Codec::Vp8, enabled, false)
     }
@@ -179,7 +179,7 @@ impl CodecConfig {
     /// All rows of the codec are taken out; where it is enabled, its default rows come last. The only
     /// error is that memory was refused, which changes nothing; without `enabled` there is none.
     pub fn enable_h264(&mut self, enabled: bool) -> Result<(), AllocError>
-        ensures { Enables Codec.H264 enabled false self.old self.new result }
+        ensures { EnablesDefaultRows Codec.H264 enabled false self.old self.new result }
     {
         self.enable(Codec::H264, enabled, false)
     }
@@ -190,7 +190,7 @@ impl CodecConfig {
     /// All rows of the codec are taken out; where it is enabled, its default rows come last. The only
     /// error is that memory was refused, which changes nothing; without `enabled` there is none.
     pub fn enable_h265(&mut self, enabled: bool) -> Result<(), AllocError>
-        ensures { Enables Codec.H265 enabled false self.old self.new result }
+        ensures { EnablesDefaultRows Codec.H265 enabled false self.old self.new result }
     {
         self.enable(Codec::H265, enabled, false)
     }
@@ -201,7 +201,7 @@ impl CodecConfig {
     /// All rows of the codec are taken out; where it is enabled, its default rows come last. The only
     /// error is that memory was refused, which changes nothing; without `enabled` there is none.
     pub fn enable_h266(&mut self, enabled: bool) -> Result<(), AllocError>
-        ensures { Enables Codec.H266 enabled false self.old self.new result }
+        ensures { EnablesDefaultRows Codec.H266 enabled false self.old self.new result }
     {
         self.enable(Codec::H266, enabled, false)
     }
@@ -212,7 +212,7 @@ impl CodecConfig {
     /// All rows of the codec are taken out; where it is enabled, its default rows come last. The only
     /// error is that memory was refused, which changes nothing; without `enabled` there is none.
     pub fn enable_vp9(&mut self, enabled: bool) -> Result<(), AllocError>
-        ensures { Enables Codec.Vp9 enabled false self.old self.new result }
+        ensures { EnablesDefaultRows Codec.Vp9 enabled false self.old self.new result }
     {
         self.enable(Codec::Vp9, enabled, false)
     }
@@ -222,7 +222,7 @@ impl CodecConfig {
     /// All rows of the codec are taken out; where it is enabled, its default rows come last. The only
     /// error is that memory was refused, which changes nothing; without `enabled` there is none.
     pub fn enable_av1(&mut self, enabled: bool) -> Result<(), AllocError>
-        ensures { Enables Codec.Av1 enabled false self.old self.new result }
+        ensures { EnablesDefaultRows Codec.Av1 enabled false self.old self.new result }
     {
         self.enable(Codec::Av1, enabled, false)
     }

@@ -1,7 +1,7 @@
 //! The rows of a kind of media.
 ghost use Rattle.std.specs.Iterator.{YieldsFirstRef, item_count};
 ghost use Rattle.std.specs.Prelude.{◌≡◌};
-ghost use Rattle.str0m_formats.specs.row.KindRows.{is_audio, is_events, rate_of, shares_rate, some_share_rate, is_in_kind};
+ghost use Rattle.str0m_formats.specs.row.KindRows.{is_audio_row, is_events_row, row_rtp_rate, shares_rate, some_share_rate, is_in_kind};
 
 use crate::row::payload_params::PayloadParams;
 use str0m_values::MediaKind;
@@ -17,20 +17,20 @@ pub struct KindRows<'a> {
     pub(crate) narrowed: bool,
 }
 
-fn is_audio(row: &PayloadParams) -> bool
-    ensures { result ≡ is_audio row.now }
+fn is_audio_row(row: &PayloadParams) -> bool
+    ensures { result ≡ is_audio_row row.now }
 {
     row.spec().codec.is_audio()
 }
 
-fn is_events(row: &PayloadParams) -> bool
-    ensures { result ≡ is_events row.now }
+fn is_events_row(row: &PayloadParams) -> bool
+    ensures { result ≡ is_events_row row.now }
 {
     row.spec().codec.is_tele()
 }
 
-fn rate_of(row: &PayloadParams) -> u32
-    ensures { result ≡ rate_of row.now }
+fn row_rtp_rate(row: &PayloadParams) -> u32
+    ensures { result ≡ row_rtp_rate row.now }
 {
     row.spec().rtp_clock_rate().get()
 }
@@ -39,8 +39,7 @@ fn rate_of(row: &PayloadParams) -> u32
 fn shares_rate(rows: &[PayloadParams], row: &PayloadParams) -> bool
     ensures { result ≡ shares_rate rows.now row.now }
 {
-    rows.iter()
-        .any(|other| is_audio(other) && rate_of(other) == rate_of(row))
+    rows.iter().any(|other| is_audio_row(other) && row_rtp_rate(other) == row_rtp_rate(row))
 }
 
 /// Whether some row of events has the RTP clock rate of some audio row.
@@ -48,7 +47,7 @@ pub(crate) fn some_share_rate(rows: &[PayloadParams]) -> bool
     ensures { result ≡ some_share_rate rows.now }
 {
     rows.iter()
-        .any(|row| is_events(row) && shares_rate(rows, row))
+        .any(|row| is_events_row(row) && shares_rate(rows, row))
 }
 
 fn is_in_kind(kind: MediaKind, narrowed: bool, rows: &[PayloadParams], row: &PayloadParams) -> bool
@@ -57,7 +56,7 @@ fn is_in_kind(kind: MediaKind, narrowed: bool, rows: &[PayloadParams], row: &Pay
     match kind {
         MediaKind::Video => row.spec().codec.is_video(),
         MediaKind::Audio => {
-            is_audio(row) || (is_events(row) && (!narrowed || shares_rate(rows, row)))
+            is_audio_row(row) || (is_events_row(row) && (!narrowed || shares_rate(rows, row)))
         }
     }
 }

@@ -1,7 +1,7 @@
 //! Rows: a codec with the payload types that it is sent under.
 ghost use Rattle.std.specs.Cmp.{IsEquivalence};
 ghost use Rattle.std.specs.Prelude.{◌≡◌, ◌↔◌, IsTrue, IfSome, ◌≤◌};
-ghost use Rattle.str0m_formats.specs.round.MatchScore.{IsScore, IsSelfScore, score};
+ghost use Rattle.str0m_formats.specs.round.MatchScore.{IsScore, IsSelfScore, spec_score};
 ghost use Rattle.str0m_formats.specs.row.PayloadParams.{new_row, probe_row, SameRow};
 
 use crate::codec::Codec;
@@ -208,15 +208,15 @@ impl PayloadParams {
     /// - All others: `None`.
     #[tactic(auto, using(crate::proofs::format::FormatParamsEqual::spec_Decides, crate::proofs::round::MatchScoreRules::score_rules, crate::proofs::round::MatchScoreLaws::score_flips, crate::proofs::round::MatchScoreLaws::score_itself))]
     pub fn match_score(&self, other: &PayloadParams) -> Option<usize>
-        ensures score { result ≡ score self.now.spec other.now.spec }
+        ensures score { result ≡ spec_score self.now.spec other.now.spec }
         ensures rules { IsScore self.now.spec other.now.spec result }
         ensures bound { IfSome result (λ n. n ≤ 100) }
-        ensures symmetric { result ≡ score other.now.spec self.now.spec }
+        ensures symmetric { result ≡ spec_score other.now.spec self.now.spec }
         ensures itself { self.now.spec ≡ other.now.spec → IsSelfScore self.now.spec result }
 
         // Any two rows of these specs have this score, whatever their payload types are.
         ensures blind { (a b : PayloadParams) →
-            a.spec ≡ self.now.spec → b.spec ≡ other.now.spec → result ≡ score a.spec b.spec }
+            a.spec ≡ self.now.spec → b.spec ≡ other.now.spec → result ≡ spec_score a.spec b.spec }
 
         // The test of the first rule, `==`, tells whether two specs are equal.
         ensures equality { (a b : CodecSpec) →

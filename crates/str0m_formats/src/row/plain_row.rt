@@ -1,13 +1,13 @@
 //! Plain rows: those that the lines of a section say whole.
 ghost use Rattle.std.specs.Prelude.{◌≡◌, ◌↔◌, IsTrue, None};
 ghost use Rattle.str0m_formats.specs.declared.codec.Codec.TheVariants.{G722};
-ghost use Rattle.str0m_formats.specs.row.PlainRow.{IsPlain, IsPlainG722, HasVideoFeedback, HasPlainTriples, SaysEventsAlone};
+ghost use Rattle.str0m_formats.specs.row.PlainRow.{IsPlain, IsPlainG722, HasPlainVideoFeedback, HasPlainTriples, PlainSaysEventsAlone};
 ghost use Rattle.str0m_formats.specs.row.PlainRowBounds.{IsBounded};
 
 use crate::codec::Codec;
 use crate::codec::codec_spec::CodecSpec;
 use crate::format::format_params::FormatParams;
-use crate::round::beginning::first_large_of;
+use crate::round::beginning::beginning_large_type_of;
 use crate::row::payload_params::PayloadParams;
 
 impl PayloadParams {
@@ -27,24 +27,24 @@ impl PayloadParams {
         ensures { IsTrue result ↔ IsPlain self.now }
     {
         let codec = self.spec.codec;
-        is_bounded(self)
+        is_plain_bounded(self)
             && has_plain_triples(self.spec)
             && if codec.is_audio() {
                 is_plain_audio(self.spec)
             } else if codec.is_video() {
                 is_plain_video(self)
             } else {
-                codec.is_tele() && self.red.is_none() && says_events_alone(self.spec.format)
+                codec.is_tele() && self.red.is_none() && plain_says_events_alone(self.spec.format)
             }
     }
 }
 
 /// Whether the types have seven bits, and the modes and the distance keep to their ranges.
-fn is_bounded(row: &PayloadParams) -> bool
+fn is_plain_bounded(row: &PayloadParams) -> bool
     ensures { IsTrue result ↔ IsBounded row.now }
 {
     let format = row.spec.format;
-    first_large_of(row).is_none()
+    beginning_large_type_of(row).is_none()
         && format
             .mode_set
             .is_none_or(|modes| 0 < modes && modes <= 511)
@@ -74,7 +74,7 @@ fn is_plain_audio(spec: CodecSpec) -> bool
 
 /// Whether a video codec has the feedback of video, no RED and no maximum of events.
 fn is_plain_video(row: &PayloadParams) -> bool
-    ensures { IsTrue result ↔ (row.now.red ≡ None) × (row.now.spec.format.telephone_event_max ≡ None) × HasVideoFeedback row.now }
+    ensures { IsTrue result ↔ (row.now.red ≡ None) × (row.now.spec.format.telephone_event_max ≡ None) × HasPlainVideoFeedback row.now }
 {
     row.red.is_none()
         && row.spec.format.telephone_event_max.is_none()
@@ -86,8 +86,8 @@ fn is_plain_video(row: &PayloadParams) -> bool
 
 /// Whether a format has a maximum of events and says nothing else.
 #[tactic(auto, using(crate::proofs::format::FormatParamsEqual::format_Decides))]
-fn says_events_alone(format: FormatParams) -> bool
-    ensures { IsTrue result ↔ SaysEventsAlone format }
+fn plain_says_events_alone(format: FormatParams) -> bool
+    ensures { IsTrue result ↔ PlainSaysEventsAlone format }
 {
     match format.telephone_event_max {
         None => false,

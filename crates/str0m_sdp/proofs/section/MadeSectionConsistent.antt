@@ -1,9 +1,10 @@
 -- A section of plain, distinct rows is consistent, and each of its RTX and RED lines names one primary type.
 use Rattle.str0m_formats.specs.declared.codec.Codec.TheVariants as codec
 use Rattle.str0m_sdp.proofs.Common.{◌≡◌, ◌≢◌, ◌≤◌, inl, ℕ, Bool, true, false, List, [], ◌∷◌, ◌++◌, Option, Some, IfSome, All, refl, sym, ap}
-use Rattle.str0m_sdp.proofs.Common.{◌∙◌, subst, arith, AllByRecursion, flat_map, All-from_recursion, content, other, types, same_codec, has}
+use Rattle.str0m_sdp.proofs.Common.{◌∙◌, subst, arith, AllByRecursion, flat_map, All-from_recursion, codec_content, other, types}
+use Rattle.str0m_sdp.proofs.Common.{same_codec, has}
 use Rattle.str0m_sdp.proofs.Common.{AllDistinct, Codec, FormatParam, Apt, BarePtList, PayloadParams, IsPlain, count_by, true≢false}
-use Rattle.str0m_sdp.proofs.Common.{times-some, all_both}
+use Rattle.str0m_sdp.proofs.Common.{times-some, line_all_of_both}
 use Rattle.str0m_sdp.proofs.section.MadeSectionFrame.{HasNoTypes, NameNoType, NamesNoType}
 use Rattle.str0m_sdp.proofs.section.MappingsBack.{IsSaid, section, each_type}
 use Rattle.str0m_sdp.proofs.section.RowAttributesQuestions.{lines, attrs_of, apt_is, maps_are}
@@ -37,7 +38,7 @@ IfSome_all o P f = grind arith
 no_other : (first : ℕ) (v : List FormatParam) → AllByRecursion NamesNoType v → All (NamesNoOther first) v
 no_other first v h = grind (arith, All-from_recursion, weaker, NamesNoType)
 
-no_companion : (c : Codec) → content c ≢ other → (same_codec c codec.Rtx ≡ false) × (same_codec c codec.Red ≡ false)
+no_companion : (c : Codec) → codec_content c ≢ other → (same_codec c codec.Rtx ≡ false) × (same_codec c codec.Red ≡ false)
 no_companion c h = grind arith
 
 pub frame_agrees : (attrs : List MediaAttribute) (attr : MediaAttribute) → is_of_type attr ≡ false → AgreesOnApt attrs attr
@@ -75,7 +76,7 @@ module _ (values : PayloadParams → List (List FormatParam)) where
     pub agree : All (AgreesOnApt (attrs_of values frame.attrs rows)) (attrs_of values frame.attrs rows)
     agree =
         All-from_recursion (AgreesOnApt attrs) attrs
-        (all_both (AgreesOnApt attrs) frame.attrs (flat_map (lines values) rows)
+        (line_all_of_both (AgreesOnApt attrs) frame.attrs (flat_map (lines values) rows)
         (weaker _ (AgreesOnApt attrs) (frame_agrees attrs) frame.attrs bare)
         (over_lines (AgreesOnApt attrs) (lines values) rows (each_among _ rows one)))
       where
@@ -128,7 +129,7 @@ module _ (values : PayloadParams → List (List FormatParam)) where
     pub names_one : AllByRecursion IsPlain rows → All (NamesOne (section values frame rows)) (section values frame rows).attrs
     names_one plain =
         All-from_recursion (NamesOne m) (attrs_of values frame.attrs rows)
-        (all_both (NamesOne m) frame.attrs (flat_map (lines values) rows) (weaker _ (NamesOne m) (frame_names m) frame.attrs bare)
+        (line_all_of_both (NamesOne m) frame.attrs (flat_map (lines values) rows) (weaker _ (NamesOne m) (frame_names m) frame.attrs bare)
         (over_lines (NamesOne m) (lines values) rows (each_among _ rows one)))
       where
         m : MediaLine
@@ -163,7 +164,7 @@ module _ (values : PayloadParams → List (List FormatParam)) where
                 ap (λ xs. is_mapped_to codec.Rtx (mapped (section values frame xs)) n) e
                 ∙ red_mapped values frame bare before row after plain' d' codec.Rtx n is ∙ refl
 
-            carried : content row.spec.codec ≢ other
+            carried : codec_content row.spec.codec ≢ other
             carried = (taken_apart IsPlain before row after plain').1.carried
 
             of_pt : (c : Codec) → same_codec row.spec.codec c ≡ false → is_mapped_to c (mapped m) row.pt ≡ false

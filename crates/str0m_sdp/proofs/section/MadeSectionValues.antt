@@ -1,12 +1,13 @@
 -- What the fmtp lines of a plain row read as: its format, and no payload type.
-use Rattle.str0m_formats.proofs.{printed_pairs, IsOwn, IsLineOf, format_said, line_of_pairs, can_be_read_back}
+use Rattle.str0m_formats.proofs.{line_printed_pairs, IsOwnParam, IsLineOf, format_said, line_of_pairs, can_be_read_back}
 use Rattle.str0m_formats.specs.declared.codec.Codec.TheVariants as codec
-use Rattle.str0m_formats.specs.format.FormatLine.{asks_absent}
-use Rattle.str0m_formats.specs.format.Pairs.{has_mark}
+use Rattle.str0m_formats.specs.format.FormatLine.{line_asks_absent}
+use Rattle.str0m_formats.specs.format.Pairs.{has_triple_mark}
 use Rattle.str0m_formats.specs.format.PairsReading.{params_read}
-use Rattle.str0m_formats.specs.round.Narrowing.{telephone_max}
+use Rattle.str0m_formats.specs.round.Narrowing.{narrowed_telephone_max}
 use Rattle.str0m_sdp.proofs.Common.{rules, arith, ◌≡◌, ◌≢◌, ℕ, false, List, [], ◌∷◌, Some, refl, All, get_or, AllByRecursion, types}
-use Rattle.str0m_sdp.proofs.Common.{AllDistinct, content, events, format_of_fmtp, empty, IsPlain, Codec, FormatParam, FormatParams}
+use Rattle.str0m_sdp.proofs.Common.{AllDistinct, codec_content, events, format_of_fmtp, empty_format, IsPlain, Codec, FormatParam}
+use Rattle.str0m_sdp.proofs.Common.{FormatParams}
 use Rattle.str0m_sdp.proofs.Common.{PayloadParams, HoldsRowNumbers, BareRange}
 use Rattle.str0m_sdp.proofs.section.MadeSectionFrame.{NamesNoType, NameNoType}
 use Rattle.str0m_sdp.proofs.section.MadeSectionRead.{IsBareFrame, DescribesRows, describes}
@@ -22,28 +23,28 @@ pairs_line_read (pair ∷ pairs) = params_read (pair ∷ pairs) ∷ []
 
 -- the range of telephone events, and what the pairs of any other codec read as
 abbrev pub values_read : Codec → FormatParams → List (List ℕ × List ℕ) → List (List FormatParam)
-values_read codec.Tele format pairs = (BareRange (telephone_max format) ∷ []) ∷ []
+values_read codec.Tele format pairs = (BareRange (narrowed_telephone_max format) ∷ []) ∷ []
 values_read _ format pairs = pairs_line_read pairs
 
-names_none : (param : FormatParam) → IsOwn param → NamesNoType param
+names_none : (param : FormatParam) → IsOwnParam param → NamesNoType param
 names_none param own = grind arith
 
-all_name_none : (params : List FormatParam) → AllByRecursion IsOwn params → AllByRecursion NamesNoType params
+all_name_none : (params : List FormatParam) → AllByRecursion IsOwnParam params → AllByRecursion NamesNoType params
 all_name_none [] own = tt
 all_name_none (param ∷ params) own = (names_none param own.0, all_name_none params own.1)
 
-line_names_none : (pairs : List (List ℕ × List ℕ)) → AllByRecursion IsOwn (params_read pairs) → NameNoType (pairs_line_read pairs)
+line_names_none : (pairs : List (List ℕ × List ℕ)) → AllByRecursion IsOwnParam (params_read pairs) → NameNoType (pairs_line_read pairs)
 line_names_none pairs own = grind (arith, all_name_none)
 
-none_refused : (c : Codec) → asks_absent c [] ≡ false
-unfolding asks_absent
+none_refused : (c : Codec) → line_asks_absent c [] ≡ false
+unfolding line_asks_absent
 none_refused c = grind arith
 
-nothing_said : (c : Codec) → c ≢ codec.Tele → format_of_fmtp c [] ≡ Some empty
+nothing_said : (c : Codec) → c ≢ codec.Tele → format_of_fmtp c [] ≡ Some empty_format
 nothing_said c other = grind (arith, none_refused)
 
 no_params : params_read [] ≡ []
-unfolding params_read has_mark
+unfolding params_read has_triple_mark
 no_params = refl
 
 line_says : (c : Codec) (format : FormatParams) (pairs : List (List ℕ × List ℕ)) → c ≢ codec.Tele → IsLineOf format pairs
@@ -80,16 +81,16 @@ describes_printed pairs m frame rows f attrs pts plain d line some = search (rul
 
 -- ---- the pairs that a format prints
 
-not_events : (c : Codec) → c ≢ codec.Tele → content c ≢ events
+not_events : (c : Codec) → c ≢ codec.Tele → codec_content c ≢ events
 not_events c other = grind arith
 
 pub format_line_printed : (row : PayloadParams) → IsPlain row → HoldsRowNumbers row → row.spec.codec ≢ codec.Tele
-    → IsLineOf row.spec.format (printed_pairs row.spec.format)
+    → IsLineOf row.spec.format (line_printed_pairs row.spec.format)
 format_line_printed row p holds other = grind (arith, line_of_pairs, can_be_read_back, not_events)
 
 -- what the fmtp lines of a row read as where they are printed
 abbrev pub values_printed : PayloadParams → List (List FormatParam)
-values_printed row = values_by (λ r. printed_pairs r.spec.format) row
+values_printed row = values_by (λ r. line_printed_pairs r.spec.format) row
 
 -- plain rows whose numbers keep to their types' ranges, none of whose types stands twice, are described by a section whose
 -- types are theirs and whose lines are those of a frame and what theirs read as
@@ -97,5 +98,5 @@ pub describes_read_back : (m : MediaLine) (frame : List MediaAttribute) (rows : 
     → m.attrs ≡ attrs_of values_printed frame rows → m.pts ≡ types rows → All IsPlain rows → All HoldsRowNumbers rows
     → AllDistinct (types rows) → rows ≢ [] → DescribesRows m rows
 describes_read_back m frame rows f attrs pts plain holds d some =
-    describes_printed (λ r. printed_pairs r.spec.format) m frame rows f attrs pts plain d
+    describes_printed (λ r. line_printed_pairs r.spec.format) m frame rows f attrs pts plain d
     (λ k e lt. format_line_printed (get_or rows k e) (plain k e lt) (holds k e lt)) some

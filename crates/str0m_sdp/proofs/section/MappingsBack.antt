@@ -3,7 +3,7 @@ use Rattle.str0m_formats.specs.declared.codec.Codec.TheVariants as codec
 use Rattle.str0m_sdp.proofs.Common.{◌≡◌, ◌==◌, ℕ, true, false, not, List, [], ◌∷◌, ◌++◌, Option, Some, nat_eq, refl, arith, AllByRecursion}
 use Rattle.str0m_sdp.proofs.Common.{flat_map, list_any, or_left, or_right, append-nil, list_any-append, format_of_fmtp, types_of, types}
 use Rattle.str0m_sdp.proofs.Common.{same_codec, has, AllDistinct, Codec, CodecSpec, FormatParam, PayloadParams, IsPlain, IsPlainG722}
-use Rattle.str0m_sdp.proofs.Common.{times-some, all_both}
+use Rattle.str0m_sdp.proofs.Common.{times-some, line_all_of_both}
 use Rattle.str0m_sdp.proofs.section.MadeSectionFrame.{HasNoTypes, NameNoType}
 use Rattle.str0m_sdp.proofs.section.RowAttributesAnswers.{NamesItself, row_entries, rtx_entry, red_entry, flipped}
 use Rattle.str0m_sdp.proofs.section.RowAttributesQuestions.{attrs_of, mappings_are, maps_are}
@@ -34,7 +34,7 @@ module _ (c : Codec) (t : ℕ) (row : PayloadParams) where
   entries_apart h = grind arith
 
   pub entry_pt : Roles row → t ≡ row.pt → list_any (is_of c t) (row_entries row) ≡ same_codec row.spec.codec c
-  entry_pt r same = grind (arith, none_passes, all_both, rtx_fails, red_fails, self, or_false)
+  entry_pt r same = grind (arith, none_passes, line_all_of_both, rtx_fails, red_fails, self, or_false)
 
   pub entry_rtx : Roles row → row.resend ≡ Some t → list_any (is_of c t) (row_entries row) ≡ same_codec codec.Rtx c
   entry_rtx r is = grind (arith, flipped, list_any-append, none_passes, red_fails, or_false, self)

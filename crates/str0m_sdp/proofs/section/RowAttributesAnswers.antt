@@ -2,8 +2,9 @@
 use Rattle.str0m_formats.specs.declared.codec.Codec.TheVariants as codec
 use Rattle.str0m_sdp.proofs.Common.{arith, ◌≡◌, ◌==◌, ◌&&◌, ◌||◌, ℕ, Bool, true, false, List, [], ◌∷◌, ◌++◌, Option, Some, None}
 use Rattle.str0m_sdp.proofs.Common.{option_to_list, refl, sym, ap, ◌∙◌, AllByRecursion, list_any, ne_eqb, append-nil, list_any-append, when}
-use Rattle.str0m_sdp.proofs.Common.{has, types_of, rtp_rate, empty, Codec, CodecSpec, Apt, BarePtList, FormatParam, PayloadParams, bytes_eq}
-use Rattle.str0m_sdp.proofs.Common.{filter_map, eqb-false, all_both}
+use Rattle.str0m_sdp.proofs.Common.{has, types_of, rtp_rate, empty_format, Codec, CodecSpec, Apt, BarePtList, FormatParam, PayloadParams}
+use Rattle.str0m_sdp.proofs.Common.{bytes_eq}
+use Rattle.str0m_sdp.proofs.Common.{filter_map, eqb-false, line_all_of_both}
 use Rattle.str0m_sdp.proofs.section.MadeSectionFrame.{NameNoType, NamesNoType}
 use Rattle.str0m_sdp.proofs.section.RowAttributesReads.{fmtp_lines, red_reads, reads, each, all_feedback, all_fmtp, all_rtx, all_red, quiet}
 use Rattle.str0m_sdp.proofs.section.RowAttributesReads.{append_said, parts_said}
@@ -135,9 +136,9 @@ feedback_own row vs words =
     quiet_rest : list_any (is_feedback row.pt words) rest ≡ false
     quiet_rest =
         none_passes (is_feedback row.pt words) rest
-        (all_both (λ a. is_feedback row.pt words a ≡ false) _ _
+        (line_all_of_both (λ a. is_feedback row.pt words a ≡ false) _ _
         (all_fmtp (λ a. is_feedback row.pt words a ≡ false) row vs (always _ (λ v. refl) vs))
-        (all_both (λ a. is_feedback row.pt words a ≡ false) _ _
+        (line_all_of_both (λ a. is_feedback row.pt words a ≡ false) _ _
         (all_rtx (λ a. is_feedback row.pt words a ≡ false) row row.resend (λ n e. (λ m. refl, refl)))
         (all_red (λ a. is_feedback row.pt words a ≡ false) row row.red (λ n e. (λ m. refl, refl)))))
 
@@ -146,7 +147,8 @@ feedback_own row vs words =
 abbrev pub rtx_entry : PayloadParams → Option ℕ → List (ℕ × CodecSpec)
 rtx_entry row None = []
 rtx_entry row (Some pt) =
-    (pt, record { codec = codec.Rtx; clock_rate = rtp_rate row.spec.codec row.spec.clock_rate; channels = None; format = empty }) ∷ []
+    (pt, record { codec = codec.Rtx; clock_rate = rtp_rate row.spec.codec row.spec.clock_rate; channels = None; format = empty_format })
+    ∷ []
 
 abbrev pub red_entry : PayloadParams → Option ℕ → List (ℕ × CodecSpec)
 red_entry row None = []
@@ -156,23 +158,23 @@ red_entry row (Some pt) = (
     codec = codec.Red;
     clock_rate = rtp_rate row.spec.codec row.spec.clock_rate;
     channels = row.spec.channels;
-    format = empty;
+    format = empty_format;
   },
 ) ∷ []
 
 -- the types of a row with what each stands for: the row's codec with nothing said of its format, RTX, RED
 abbrev pub row_entries : PayloadParams → List (ℕ × CodecSpec)
-row_entries row = (row.pt, record row.spec { format = empty }) ∷ (rtx_entry row row.resend ++ red_entry row row.red)
+row_entries row = (row.pt, record row.spec { format = empty_format }) ∷ (rtx_entry row row.resend ++ red_entry row row.red)
 
 -- the mapping that is printed names the row's codec at its rate and with its channels
 abbrev pub NamesItself : CodecSpec → Type 0
-NamesItself spec = spec_of_map (map_of_spec spec) ≡ record spec { format = empty }
+NamesItself spec = spec_of_map (map_of_spec spec) ≡ record spec { format = empty_format }
 
 pub mapping_own : (row : PayloadParams) (vs : List (List FormatParam)) → NamesItself row.spec
     → filter_map mapping (reads row vs) ≡ row_entries row
 mapping_own row vs same =
     append_said mapping (RtpMap row.pt (map_of_spec row.spec) ∷ []) (feedback_attrs row ++ after_feedback)
-    ((row.pt, record row.spec { format = empty }) ∷ []) (rtx_entry row row.resend ++ red_entry row row.red)
+    ((row.pt, record row.spec { format = empty_format }) ∷ []) (rtx_entry row row.resend ++ red_entry row row.red)
     (ap (λ spec. (row.pt, spec) ∷ []) same)
     (append_said mapping (feedback_attrs row) after_feedback [] _
     (quiet mapping (feedback_attrs row) (all_feedback (λ a. mapping a ≡ None) row (λ w. refl)))

@@ -4,9 +4,10 @@ use Rattle.str0m_formats.specs.round.Choices.{has_events}
 use Rattle.str0m_formats.specs.row.KindRows.{has_audio}
 use Rattle.str0m_sdp.proofs.Common.{arith, ◌≡◌, ◌≢◌, ◌&&◌, ◌||◌, ℕ, Bool, true, false, cond, List, [], ◌∷◌, ◌++◌, map, Option, Some, None}
 use Rattle.str0m_sdp.proofs.Common.{refl, sym, ap, ◌∙◌, subst, option_map, or_left, or_right, AllByRecursion, AllZip, flat_map, cons_option}
-use Rattle.str0m_sdp.proofs.Common.{filter_map-append, filter-append, content, events, other, format_of_fmtp, empty, types_of, types}
+use Rattle.str0m_sdp.proofs.Common.{filter_map-append, filter-append, codec_content, events, other, format_of_fmtp, empty_format, types_of}
+use Rattle.str0m_sdp.proofs.Common.{types}
 use Rattle.str0m_sdp.proofs.Common.{SameRow, same_codec, has, AllDistinct, Codec, FormatParam, PayloadParams, IsPlain, ◌==◌, filter}
-use Rattle.str0m_sdp.proofs.Common.{filter_map, Content, audio, video, has_video}
+use Rattle.str0m_sdp.proofs.Common.{filter_map, CodecContent, audio, video, has_video}
 use Rattle.str0m_sdp.proofs.section.MadeSectionFrame.{HasNoTypes, NameNoType}
 use Rattle.str0m_sdp.proofs.section.MappingsBack.{IsSaid, unlocked, section, mapped_is, mapped_among, entry_pt, entry_rtx, entry_red}
 use Rattle.str0m_sdp.proofs.section.RowAttributesAnswers.{row_entries, rtx_entry, red_entry}
@@ -28,22 +29,22 @@ has_primary : (before : List PayloadParams) (row : PayloadParams) (after : List 
 has_primary [] row after = or_left (row.pt == row.pt) _ (self row.pt)
 has_primary (r ∷ before) row after = or_right (r.pt == row.pt) _ (has_primary before row after)
 
-video_or : (c : Content) (b : Bool) → (c ≡ video → b ≡ true) → (has_video c || b) ≡ b
+video_or : (c : CodecContent) (b : Bool) → (c ≡ video → b ≡ true) → (has_video c || b) ≡ b
 video_or c b h = grind arith
 
-picked : (c : Content) (found mine : Bool) → found ≡ mine → (c ≡ video → mine ≡ true) → (has_video c || found) ≡ mine
+picked : (c : CodecContent) (found mine : Bool) → found ≡ mine → (c ≡ video → mine ≡ true) → (has_video c || found) ≡ mine
 picked c found mine e h = ap (λ b. has_video c || b) e ∙ video_or c mine h
 
-kept_content : (c : Content) (there : Bool) → c ≢ other → there ≡ true
+kept_content : (c : CodecContent) (there : Bool) → c ≢ other → there ≡ true
     → (has_audio c || (has_video c || (has_events c && there))) ≡ true
 kept_content c there h k = grind arith
 
 -- audio alone has RED
-no_red : (c : Content) → (c ≡ audio → ⊥) → (red : Option ℕ) → (red ≢ None → c ≡ audio) → None ≡ red
+no_red : (c : CodecContent) → (c ≡ audio → ⊥) → (red : Option ℕ) → (red ≢ None → c ≡ audio) → None ≡ red
 no_red c apart None h = refl
 no_red c apart (Some n) h = absurd (apart (h (λ e. cc)))
 
-only_audio_has : (c : Content) (red found : Option ℕ) → (red ≢ None → c ≡ audio) → found ≡ red → cond (has_audio c) found None ≡ red
+only_audio_has : (c : CodecContent) (red found : Option ℕ) → (red ≢ None → c ≡ audio) → found ≡ red → cond (has_audio c) found None ≡ red
 only_audio_has audio red found h e = e
 only_audio_has video red found h e = no_red video (λ same. cc) red h
 only_audio_has events red found h e = no_red events (λ same. cc) red h
@@ -100,33 +101,34 @@ module _ (values : PayloadParams → List (List FormatParam)) (frame : MediaLine
 
       pub red_type_is : red_companion (section values frame (before ++ row ∷ after)) row.pt row.spec.codec ≡ row.red
       red_type_is =
-          only_audio_has (content row.spec.codec) row.red _ own_plain.redundant
+          only_audio_has (codec_content row.spec.codec) row.red _ own_plain.redundant
           (red_is values frame.attrs bare before row after d (mapped (section values frame (before ++ row ∷ after))) silent
           (λ n e. red_mapped codec.Red n e ∙ refl))
 
       same_row : row_with (section values frame (before ++ row ∷ after)) row.pt
-          (record row.spec { format = empty }) row.spec.format ≡ unlocked row
+          (record row.spec { format = empty_format }) row.spec.format ≡ unlocked row
       same_row = λ i. record {
         pt = row.pt;
         resend = rtx_type_is i;
         red = red_type_is i;
         spec = row.spec;
         fb_transport_cc = fb.transport_cc i;
-        fb_fir = picked (content row.spec.codec) _ row.fb_fir fb.fir (λ v. (own_plain.as_video v).fir) i;
-        fb_nack = picked (content row.spec.codec) _ row.fb_nack fb.nack (λ v. (own_plain.as_video v).nack) i;
-        fb_pli = picked (content row.spec.codec) _ row.fb_pli fb.pli (λ v. (own_plain.as_video v).pli) i;
-        fb_remb = picked (content row.spec.codec) _ row.fb_remb fb.remb (λ v. (own_plain.as_video v).remb) i;
+        fb_fir = picked (codec_content row.spec.codec) _ row.fb_fir fb.fir (λ v. (own_plain.as_video v).fir) i;
+        fb_nack = picked (codec_content row.spec.codec) _ row.fb_nack fb.nack (λ v. (own_plain.as_video v).nack) i;
+        fb_pli = picked (codec_content row.spec.codec) _ row.fb_pli fb.pli (λ v. (own_plain.as_video v).pli) i;
+        fb_remb = picked (codec_content row.spec.codec) _ row.fb_remb fb.remb (λ v. (own_plain.as_video v).remb) i;
         locked = false;
       } where
         fb : SayFeedback (attrs_of values frame.attrs (before ++ row ∷ after)) row
         fb = feedback_is values frame.attrs bare before row after d
 
       -- the row of its primary type
-      pub row_again : row_at (section values frame (before ++ row ∷ after)) (row.pt, record row.spec { format = empty })
+      pub row_again : row_at (section values frame (before ++ row ∷ after)) (row.pt, record row.spec { format = empty_format })
           ≡ Some (unlocked row)
       unfolding row_at
       row_again =
-          ap (λ o. option_map (row_with (section values frame (before ++ row ∷ after)) row.pt (record row.spec { format = empty })) o)
+          ap (λ o. option_map (row_with (section values frame (before ++ row ∷ after)) row.pt (record row.spec { format = empty_format }))
+          o)
           (ap (λ vs. format_of_fmtp row.spec.codec vs) (values_are values frame.attrs bare before row after d) ∙ said_here.format)
           ∙ ap (λ r. Some r) same_row
 
@@ -135,11 +137,11 @@ module _ (values : PayloadParams → List (List FormatParam)) (frame : MediaLine
           (filter (is_kept (section values frame (before ++ row ∷ after))) (row_entries row)) ≡ unlocked row ∷ []
       one_row =
           ap (λ b. filter_map (row_at m)
-          (cond b ((row.pt, record row.spec { format = empty }) ∷ filter (is_kept m)
+          (cond b ((row.pt, record row.spec { format = empty_format }) ∷ filter (is_kept m)
           (rtx_entry row row.resend ++ red_entry row row.red)) (filter (is_kept m) (rtx_entry row row.resend ++ red_entry row row.red))))
-          (kept_content (content row.spec.codec) (has (types (before ++ row ∷ after)) row.pt) own_plain.carried
+          (kept_content (codec_content row.spec.codec) (has (types (before ++ row ∷ after)) row.pt) own_plain.carried
           (has_types before row after row.pt (has_pt row)))
-          ∙ ap (λ es. filter_map (row_at m) ((row.pt, record row.spec { format = empty }) ∷ es)) (no_others m row row.resend row.red)
+          ∙ ap (λ es. filter_map (row_at m) ((row.pt, record row.spec { format = empty_format }) ∷ es)) (no_others m row row.resend row.red)
           ∙ ap (λ o. cons_option o []) row_again
         where
           m : MediaLine

@@ -1,9 +1,11 @@
 -- Where lines keep to their ranges, rows do.
-use Rattle.str0m_formats.specs.format.FormatParams.{set}
+use Rattle.str0m_formats.specs.format.FormatParams.{set_param}
 use Rattle.str0m_sdp.proofs.Common.{rules, arith, ◌≡◌, ◌≤◌, ◌++◌, ℕ, Bool, cond, not, List, [], ◌∷◌, Option, Some, None, All, IfSome}
 use Rattle.str0m_sdp.proofs.Common.{filter, find, nat_eq, option_to_list, filter_map, All-nil, All-head, All-tail, IsBounded, static_spec}
-use Rattle.str0m_sdp.proofs.Common.{format_of_fmtp, empty, set_all, Codec, CodecSpec, FormatParam, FormatParams, nat_lt, option_map}
-use Rattle.str0m_sdp.proofs.Common.{All-append, All-filter, AreModes, IsDistance, events_end, is_event, kept, values_of, static_small}
+use Rattle.str0m_sdp.proofs.Common.{format_of_fmtp, empty_format, set_all_params, Codec, CodecSpec, FormatParam, FormatParams, nat_lt}
+use Rattle.str0m_sdp.proofs.Common.{option_map}
+use Rattle.str0m_sdp.proofs.Common.{All-append, All-filter, ArePlainModes, IsPlainDistance, line_events_end, is_line_event}
+use Rattle.str0m_sdp.proofs.Common.{line_without_event_ranges, values_of_lines, static_small}
 use Rattle.str0m_sdp.proofs.section.MappingsFilterMap.{all_mapped, last_of_all}
 use Rattle.str0m_sdp.specs.Common.{distinct}
 use Rattle.str0m_sdp.specs.declared.attribute.MediaAttribute.{MediaAttribute}
@@ -19,32 +21,32 @@ IsType n = n ≤ 127
 
 -- the fields of a format that have ranges keep to them
 abbrev Within : FormatParams → Type 0
-Within p = IfSome p.mode_set AreModes × IfSome p.sprop_max_don_diff IsDistance
+Within p = IfSome p.mode_set ArePlainModes × IfSome p.sprop_max_don_diff IsPlainDistance
 
-set_within : (param : FormatParam) (p : FormatParams) → IsInBounds param → Within p → Within (set param p)
+set_within : (param : FormatParam) (p : FormatParams) → IsInBounds param → Within p → Within (set_param param p)
 set_within param p range within = grind arith
 
-all_within : (params : List FormatParam) (p : FormatParams) → All IsInBounds params → Within p → Within (set_all p params)
+all_within : (params : List FormatParam) (p : FormatParams) → All IsInBounds params → Within p → Within (set_all_params p params)
 all_within [] p ranges within = within
 all_within (param ∷ params) p ranges within =
-    all_within params (set param p) (All-tail IsInBounds param params ranges)
+    all_within params (set_param param p) (All-tail IsInBounds param params ranges)
     (set_within param p (All-head IsInBounds param params ranges) within)
 
-values_within : (lines : List (List FormatParam)) → All (All IsInBounds) lines → All IsInBounds (values_of lines)
+values_within : (lines : List (List FormatParam)) → All (All IsInBounds) lines → All IsInBounds (values_of_lines lines)
 values_within [] ranges = All-nil IsInBounds
 values_within (line ∷ lines) ranges =
-    All-append IsInBounds (kept line) (values_of lines)
-    (All-filter (λ param. not (is_event param)) IsInBounds line (All-head (All IsInBounds) line lines ranges))
+    All-append IsInBounds (line_without_event_ranges line) (values_of_lines lines)
+    (All-filter (λ param. not (is_line_event param)) IsInBounds line (All-head (All IsInBounds) line lines ranges))
     (values_within lines (All-tail (All IsInBounds) line lines ranges))
 
-events_within : (max : Option ℕ) → IfSome (option_map (λ n. record empty { telephone_event_max = Some n }) max) Within
+events_within : (max : Option ℕ) → IfSome (option_map (λ n. record empty_format { telephone_event_max = Some n }) max) Within
 events_within max = grind arith
 
 unless_refused : (b : Bool) (p : FormatParams) → Within p → IfSome (cond b None (Some p)) Within
 unless_refused b p within = grind arith
 
 format_within : (codec : Codec) (lines : List (List FormatParam)) → All (All IsInBounds) lines → IfSome (format_of_fmtp codec lines) Within
-format_within codec lines ranges = grind (arith, events_within, events_end, unless_refused, all_within, values_within)
+format_within codec lines ranges = grind (arith, events_within, line_events_end, unless_refused, all_within, values_within)
 
 line_within : (pt : ℕ) (attr : MediaAttribute) → KeepsToLine attr → IfSome (values_in pt attr) (All IsInBounds)
 line_within pt attr keeps = grind arith

@@ -2,7 +2,7 @@
 use Rattle.str0m_sdp.proofs.Common.{◌≡◌, ℕ, ◌<◌, ◌≤◌, Bool, true, false, not, List, [], ◌∷◌, Option, Some, None, length, filter_map}
 use Rattle.str0m_sdp.proofs.Common.{count_by, All, refl, arith, ◌↔◌, nat_lt, AllByRecursion, cons_option, ne_eqb, lt-ltb}
 use Rattle.str0m_sdp.proofs.Common.{All-from_recursion, recursion_from_All, FormatParam, ◌<|>◌, when, ◌⊎◌, ◌==◌, ◌&&◌, ◌≢◌, is_some, Ok}
-use Rattle.str0m_sdp.proofs.Common.{Err, IfSome, cases_lt, needs_none}
+use Rattle.str0m_sdp.proofs.Common.{Err, IfSome, cases_lt, static_needs_none}
 use Rattle.str0m_sdp.proofs.section.SectionDirectionHolders.{mid_counted}
 use Rattle.str0m_sdp.specs.Common.{first}
 use Rattle.str0m_sdp.specs.declared.attribute.MediaAttribute.{MediaAttribute}
@@ -58,7 +58,7 @@ unmapped_none : {E : Type 0} (known : Bool) (fault : E) (P : Type 0) → ((known
 unmapped_none known fault P is = grind arith
 
 mapping_none : (mid : List ℕ) (pt count : ℕ) → (mapping_fault count mid pt ≡ None) ↔ ((count ≡ 1) ⊎ ((count ≡ 0) × NeedsNoMapping pt))
-mapping_none mid pt count = grind (arith, cases_lt, lt-ltb, ne_eqb, needs_none)
+mapping_none mid pt count = grind (arith, cases_lt, lt-ltb, ne_eqb, static_needs_none)
 
 not_one : (count : ℕ) → (not (count == 1) ≡ false) ↔ (count ≡ 1)
 not_one count = grind arith

@@ -2,7 +2,7 @@
 -- numbers and bytes without a limit, so what is promised of every value is promised of those that fit.
 use Rattle.std.specs.Prelude.{◌<◌, ◌≤◌, ◌^◌, ℕ, List, length, All, IfSome, IsUtf8}
 use Rattle.str0m_formats.specs.declared.format.format_param.FormatParam.TheVariants as param
-use Rattle.str0m_sdp.specs.Prelude.{Candidate, Fingerprint, FitsType, FormatParam, IsByte, IsSocketInRange, entry, kind}
+use Rattle.str0m_sdp.specs.Prelude.{Candidate, Fingerprint, FitsType, FormatParam, IsByte, IsSocketInRange, param_entry, key_kind}
 use Rattle.str0m_sdp.specs.declared.attribute.bandwidth.Bandwidth.{Bandwidth}
 use Rattle.str0m_sdp.specs.declared.attribute.rtp_map.RtpMap.{RtpMap}
 use Rattle.str0m_sdp.specs.declared.attribute.simulcast.SimulcastLayer.{SimulcastLayer}
@@ -54,7 +54,7 @@ FitsParam (param.TelephoneEvents n) = IsByte n
 FitsParam (param.BareRange n) = IsByte n
 FitsParam (param.BarePtList pt) = IsByte pt
 FitsParam (param.Red pt) = IsByte pt
-FitsParam param = IfSome (entry param) (λ e. FitsType (kind e.0) e.1)
+FitsParam param = IfSome (param_entry param) (λ e. FitsType (key_kind e.0) e.1)
 
 abbrev pub FitsLayer : SimulcastLayer → Type 0
 FitsLayer layer = IsUtf8 layer.restriction_id.0 × IfSome layer.attributes (All AreTexts)

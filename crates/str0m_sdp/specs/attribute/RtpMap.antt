@@ -1,7 +1,7 @@
 -- The mapping of a payload type: as it prints, and as the codec that it names.
 use Rattle.std.specs.Prelude.{ℕ, List, [], ◌++◌, ◌==◌, Option, Some, None, codes, if◌then◌else◌, decimal}
 use Rattle.str0m_formats.specs.declared.codec.Codec.TheVariants.{G722}
-use Rattle.str0m_sdp.specs.Prelude.{Codec, CodecSpec, codec_text, empty, rtp_rate}
+use Rattle.str0m_sdp.specs.Prelude.{Codec, CodecSpec, codec_text, empty_format, rtp_rate}
 use Rattle.str0m_sdp.specs.declared.attribute.rtp_map.RtpMap.{RtpMap}
 
 abbrev pub channels_text : Option ℕ → List ℕ
@@ -35,7 +35,7 @@ spec_of_map map = record {
   codec = map.codec;
   clock_rate = sampling_rate map.codec map.clock_rate;
   channels = channels_of map.codec map.channels;
-  format = empty;
+  format = empty_format;
 }
 
 -- the mapping that names a codec, at its clock rate in RTP (RFC 3551, section 4.5.2)

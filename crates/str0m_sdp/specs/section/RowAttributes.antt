@@ -2,7 +2,7 @@
 use Rattle.std.specs.Prelude.{◌≡◌, ℕ, Bool, true, false, List, [], ◌∷◌, ◌++◌, Option, Some, None}
 use Rattle.str0m_formats.specs.declared.codec.Codec.TheVariants as codec
 use Rattle.str0m_formats.specs.declared.format.format_param.FormatParam.TheVariants.{TelephoneEvents, Apt, Red}
-use Rattle.str0m_formats.specs.round.Narrowing.{telephone_max}
+use Rattle.str0m_formats.specs.round.Narrowing.{narrowed_telephone_max}
 use Rattle.str0m_sdp.specs.Prelude.{Codec, FormatParam, FormatParams, PayloadParams, params_of, rtp_rate}
 use Rattle.str0m_sdp.specs.attribute.RtpMap.{map_of_spec}
 use Rattle.str0m_sdp.specs.declared.attribute.MediaAttribute.{MediaAttribute}
@@ -31,7 +31,7 @@ fmtp_line pt (value ∷ values) = Fmtp pt (value ∷ values) ∷ []
 
 -- the values of a format: of telephone events the highest (RFC 4733, section 2.4.1), else the parameters that are given
 abbrev pub format_values : Codec → FormatParams → List FormatParam
-format_values codec.Tele format = TelephoneEvents (telephone_max format) ∷ []
+format_values codec.Tele format = TelephoneEvents (narrowed_telephone_max format) ∷ []
 format_values _ format = params_of format
 
 abbrev pub format_attrs : PayloadParams → List MediaAttribute

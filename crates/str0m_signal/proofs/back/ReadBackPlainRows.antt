@@ -1,22 +1,25 @@
 -- The lines of plain rows, whose numbers keep to their types' ranges, read as values that say the rows' formats again.
 use Rattle.str0m_formats.specs.declared.codec.Codec.TheVariants as codec
 use Rattle.str0m_signal.proofs.Common.{◌≡◌, ◌≢◌, ◌≤◌, ℕ, List, [], ◌∷◌, ◌++◌, IfSome, refl, sym, ◌∙◌, arith, AllByRecursion}
-use Rattle.str0m_signal.proofs.Common.{HoldsRowNumbers, telephone_max, types_of, types, Codec, PayloadParams, values_printed, reads}
-use Rattle.str0m_signal.proofs.Common.{row_attrs, IsPlain, content, other, AllSmall, values_read, format_line_printed, printed_pairs}
+use Rattle.str0m_signal.proofs.Common.{HoldsRowNumbers, narrowed_telephone_max, types_of, types, Codec, PayloadParams, values_printed}
+use Rattle.str0m_signal.proofs.Common.{reads}
+use Rattle.str0m_signal.proofs.Common.{row_attrs, IsPlain, codec_content, other, AllTypesSmall, values_read, format_line_printed}
+use Rattle.str0m_signal.proofs.Common.{line_printed_pairs}
 use Rattle.str0m_signal.proofs.back.ReadBackRowLines.{ReadAs, IsRateInRange, KeepsToRow, events_read, pairs_row_read}
 use Rattle.str0m_signal.proofs.session.SectionLines.{AreTypes}
 
 -- ---- small types
 
-small_first : (n : ℕ) (ns : List ℕ) → AllSmall (n ∷ ns) → (n ≤ 127) × AllSmall ns
+small_first : (n : ℕ) (ns : List ℕ) → AllTypesSmall (n ∷ ns) → (n ≤ 127) × AllTypesSmall ns
 small_first n ns h = grind arith
 
-pub each_small : (ns : List ℕ) → AllSmall ns → AllByRecursion (λ n. n ≤ 127) ns
+pub each_small : (ns : List ℕ) → AllTypesSmall ns → AllByRecursion (λ n. n ≤ 127) ns
 each_small [] h = tt
 each_small (n ∷ ns) h = let p = small_first n ns h in (p.0, each_small ns p.1)
 
 -- a row whose codec carries audio, video or events, and whose numbers keep to their ranges
-pub keeps_row : (row : PayloadParams) → AllSmall (types_of row) → content row.spec.codec ≢ other → IsRateInRange row.spec.clock_rate
+pub keeps_row : (row : PayloadParams) → AllTypesSmall (types_of row) → codec_content row.spec.codec ≢ other
+    → IsRateInRange row.spec.clock_rate
     → IfSome row.spec.channels (λ n. n ≤ 255) → KeepsToRow row
 keeps_row row small carried rate channels = grind arith
 
@@ -36,14 +39,14 @@ types_fit (row ∷ rows) h = grind (arith, both_types, types_wider, each_small, 
 
 -- a maximum of events is a number of eight bits
 maximum_fits : (row : PayloadParams) → IsPlain row → HoldsRowNumbers row → row.spec.codec ≡ codec.Tele
-    → telephone_max row.spec.format ≤ 255
+    → narrowed_telephone_max row.spec.format ≤ 255
 maximum_fits row p holds tele = grind arith
 
 of_codec : (row : PayloadParams) → KeepsToRow row → IsPlain row → HoldsRowNumbers row → (c : Codec) → row.spec.codec ≡ c
-    → ReadAs (row_attrs row) (reads row (values_read c row.spec.format (printed_pairs row.spec.format)))
+    → ReadAs (row_attrs row) (reads row (values_read c row.spec.format (line_printed_pairs row.spec.format)))
 of_codec row held p holds codec.Tele e = events_read row held e (maximum_fits row p holds e)
 of_codec row held p holds c e =
-    pairs_row_read row held other_codec (printed_pairs row.spec.format) (format_line_printed row p holds other_codec) where
+    pairs_row_read row held other_codec (line_printed_pairs row.spec.format) (format_line_printed row p holds other_codec) where
       other_codec : row.spec.codec ≢ codec.Tele
       other_codec = λ tele. let t = sym e ∙ tele in cc
 

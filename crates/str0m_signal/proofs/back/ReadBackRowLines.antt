@@ -1,16 +1,18 @@
 -- The printed lines of a row have their forms, and read as the row's lines.
-use Rattle.str0m_formats.proofs.{IsLineOf, params_print}
+use Rattle.str0m_formats.proofs.{IsLineOf, line_params_print}
 use Rattle.str0m_formats.specs.codec.CodecSpec.{rtp_rate}
 use Rattle.str0m_formats.specs.declared.codec.Codec.TheVariants as codec
 use Rattle.str0m_formats.specs.declared.format.format_params.FormatParams.{FormatParams}
 use Rattle.str0m_formats.specs.format.FormatParams.{params_of}
 use Rattle.str0m_sdp.specs.declared.attribute.rtp_map.RtpMap.{RtpMap as Mapping}
 use Rattle.str0m_signal.proofs.Common.{◌≡◌, ◌≢◌, ◌<◌, ◌≤◌, ℕ, Bool, List, [], ◌∷◌, ◌++◌, map, Option, Some, None, IfSome, refl, sym, ap}
-use Rattle.str0m_signal.proofs.Common.{subst, arith, lit<, AllByRecursion, flat_map, IsRest, param_text, telephone_max, Codec, FormatParam}
-use Rattle.str0m_signal.proofs.Common.{TelephoneEvents, BareRange, BarePtList, Red, PayloadParams, IsSolidPair, joined_pair}
+use Rattle.str0m_signal.proofs.Common.{subst, arith, lit<, AllByRecursion, flat_map, IsRest, param_text, narrowed_telephone_max, Codec}
+use Rattle.str0m_signal.proofs.Common.{FormatParam}
+use Rattle.str0m_signal.proofs.Common.{TelephoneEvents, BareRange, BarePtList, Red, PayloadParams, IsSolidPair, shown_joined_pair}
 use Rattle.str0m_signal.proofs.Common.{media_attribute_text, row_attrs, MediaAttribute, Fmtp, reads, feedback_line, feedback_attrs}
 use Rattle.str0m_signal.proofs.Common.{fmtp_line, format_values, format_attrs, rtx_lines, rtx_attrs, red_lines, red_attrs, map_of_spec}
-use Rattle.str0m_signal.proofs.Common.{pairs_line_read, fmtp_lines, red_reads, RtpMap, linked, TRANSPORT_CC, REMB, FIR, NACK, PLI}
+use Rattle.str0m_signal.proofs.Common.{pairs_line_read, fmtp_lines, red_reads, RtpMap, line_linked_texts, TRANSPORT_CC, REMB, FIR, NACK}
+use Rattle.str0m_signal.proofs.Common.{PLI}
 use Rattle.str0m_signal.proofs.form.FmtpPrinted.{AreShown, apt_printed, list_printed, range_printed, pairs_printed}
 use Rattle.str0m_signal.proofs.form.RtpMapPrinted.{KeepsToMapping, mapping_printed, feedback_printed}
 use Rattle.str0m_signal.proofs.session.AttributesPrinted.{LinesReadAs, one_read, both_read, HoldsNoEnd, no_end}
@@ -98,7 +100,7 @@ module _ (row : PayloadParams) (keeps : KeepsToRow row) where
 -- ---- the lines of a format
 
 pub params_printed : (pt : ℕ) (params : List FormatParam) (pairs : List (List ℕ × List ℕ)) → pt ≤ 127 → AreShown params
-    → AllByRecursion IsSolidPair pairs → linked (map param_text params) ≡ linked (map joined_pair pairs)
+    → AllByRecursion IsSolidPair pairs → line_linked_texts (map param_text params) ≡ line_linked_texts (map shown_joined_pair pairs)
     → (params ≢ [] → pairs ≢ []) → (params ≡ [] → pairs ≡ [])
     → ReadAs (fmtp_line pt params) (fmtp_lines pt (pairs_line_read pairs))
 params_printed pt params pairs small shown plain e some none = grind (arith, pairs_printed)
@@ -106,16 +108,17 @@ params_printed pt params pairs small shown plain e some none = grind (arith, pai
 -- ---- rows of each codec
 
 -- telephone events: a range up to the highest
-pub events_read : (row : PayloadParams) → KeepsToRow row → row.spec.codec ≡ codec.Tele → telephone_max row.spec.format ≤ 255
-    → ReadAs (row_attrs row) (reads row ((BareRange (telephone_max row.spec.format) ∷ []) ∷ []))
+pub events_read : (row : PayloadParams) → KeepsToRow row → row.spec.codec ≡ codec.Tele → narrowed_telephone_max row.spec.format ≤ 255
+    → ReadAs (row_attrs row) (reads row ((BareRange (narrowed_telephone_max row.spec.format) ∷ []) ∷ []))
 events_read row keeps tele fits =
-    let values = (BareRange (telephone_max row.spec.format) ∷ []) ∷ [] in
-    let range = TelephoneEvents (telephone_max row.spec.format) ∷ [] in
+    let values = (BareRange (narrowed_telephone_max row.spec.format) ∷ []) ∷ [] in
+    let range = TelephoneEvents (narrowed_telephone_max row.spec.format) ∷ [] in
     row_read row keeps values
     (subst (λ (params : List FormatParam). ReadAs (fmtp_line row.pt params) (fmtp_lines row.pt values))
     (sym (ap (λ (c : Codec). format_values c row.spec.format) tele))
-    (one (Fmtp row.pt range) (Fmtp row.pt (BareRange (telephone_max row.spec.format) ∷ []))
-    (range_printed row.pt (telephone_max row.spec.format) (TelephoneEvents (telephone_max row.spec.format)) refl keeps.pt fits)))
+    (one (Fmtp row.pt range) (Fmtp row.pt (BareRange (narrowed_telephone_max row.spec.format) ∷ []))
+    (range_printed row.pt (narrowed_telephone_max row.spec.format) (TelephoneEvents (narrowed_telephone_max row.spec.format)) refl keeps.pt
+    fits)))
 
 format_of : (c : Codec) (p : FormatParams) → c ≢ codec.Tele → format_values c p ≡ params_of p
 format_of c p other = grind arith
@@ -129,7 +132,7 @@ pairs_row_read row keeps other pairs line =
     row_read row keeps values
     (subst (λ (params : List FormatParam). ReadAs (fmtp_line row.pt params) (fmtp_lines row.pt values))
     (sym (format_of row.spec.codec row.spec.format other))
-    (params_printed row.pt (params_of row.spec.format) pairs keeps.pt (params_print row.spec.format) line.plain line.text line.some
+    (params_printed row.pt (params_of row.spec.format) pairs keeps.pt (line_params_print row.spec.format) line.plain line.text line.some
     line.none))
 
 -- ---- rows one after another

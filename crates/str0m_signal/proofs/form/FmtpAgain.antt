@@ -2,7 +2,8 @@
 use Rattle.str0m_formats.proofs.{IsPairsLine, pairs_again}
 use Rattle.str0m_signal.proofs.Common.{rules, ◌≡◌, ◌≢◌, ◌⊎◌, ◌≤◌, ℕ, List, [], ◌∷◌, map, filter, refl, subst, arith, inl, inr}
 use Rattle.str0m_signal.proofs.Common.{AllByRecursion, join_with_byte, cases_Bool, ltb-true, param_text, params_read, FormatParam}
-use Rattle.str0m_signal.proofs.Common.{BarePtList, BareRange, IsSolidPair, joined_pair, media_attribute_text, is_shown, shown_line, Fmtp}
+use Rattle.str0m_signal.proofs.Common.{BarePtList, BareRange, IsSolidPair, shown_joined_pair, media_attribute_text, is_shown, shown_line}
+use Rattle.str0m_signal.proofs.Common.{Fmtp}
 use Rattle.str0m_signal.proofs.Common.{IsRest}
 use Rattle.str0m_signal.proofs.form.FmtpPrinted.{AreShown, FmtpValues, all_shown, list_shown, list_printed, range_printed, pairs_printed}
 use Rattle.str0m_signal.specs.back.Writable.{IsPrintedAs}
@@ -19,7 +20,7 @@ abbrev IsShownLine : ℕ → List FormatParam → Type 0
 IsShownLine pt shown = IsPrintedAs IsMediaLine (shown_line pt shown) (Fmtp pt shown)
 
 of_pairs : (pt : ℕ) (v : FormatParam) (vs : List FormatParam) (pairs : List (List ℕ × List ℕ)) → pt ≤ 127 → AreShown (v ∷ vs)
-    → AllByRecursion IsSolidPair pairs → join_with_byte 59 (map param_text (v ∷ vs)) ≡ join_with_byte 59 (map joined_pair pairs)
+    → AllByRecursion IsSolidPair pairs → join_with_byte 59 (map param_text (v ∷ vs)) ≡ join_with_byte 59 (map shown_joined_pair pairs)
     → params_read pairs ≡ v ∷ vs → pairs ≢ [] → IsShownLine pt (v ∷ vs)
 of_pairs pt v vs [] small shows plain text read some = absurd (some refl)
 of_pairs pt v vs (p ∷ ps) small shows plain text read some =

@@ -6,7 +6,8 @@ use Rattle.str0m_signal.proofs.Common.{append-nil, some_pair_parts, FormatParam,
 use Rattle.str0m_signal.proofs.Common.{FirstFit, lacks, ◌>>=◌, cut, strip, when, is_rest, num, before, cut_at, cut_found, strip_found}
 use Rattle.str0m_signal.proofs.Common.{strip_at, num_when_some, lacks_true, lacks_from, Lacks-append, bind_some, some_is, if_some}
 use Rattle.str0m_signal.proofs.Common.{reads_first}
-use Rattle.str0m_signal.proofs.Common.{num_rest_true, num_number_lacks, num_found, num_reads, before_front, Reads, AreRead, pairs_read_only}
+use Rattle.str0m_signal.proofs.Common.{num_rest_true, num_number_lacks, num_found, num_reads, before_front, Reads, ArePairsRead}
+use Rattle.str0m_signal.proofs.Common.{pairs_read_only}
 use Rattle.str0m_signal.proofs.Common.{front}
 use Rattle.str0m_signal.proofs.Common.{before_lacks}
 use Rattle.str0m_signal.proofs.line.BareValuesLaws.{bare_both}
@@ -205,7 +206,7 @@ pairs_both = record {
       let p = bind_some (pairs_read (skip_blanks a.0)) (λ pairs. Some (params_read pairs)) values a.2 in
       let s = skips a.0 in
       let r = pairs_found (skip_blanks a.0) p.0 p.1 in
-      let values_are : AreRead p.0 values = subst (AreRead p.0) (some_is (params_read p.0) values p.2) (pairs_read_is p.0) in (
+      let values_are : ArePairsRead p.0 values = subst (ArePairsRead p.0) (some_is (params_read p.0) values p.2) (pairs_read_is p.0) in (
         s.blanks,
         skip_blanks a.0,
         p.0,
@@ -222,7 +223,7 @@ pairs_both = record {
 }
 
 pub pairs_form_of : (more text : List ℕ) (pairs : List (List ℕ × List ℕ)) (values : List FormatParam) → Some text ≡ strip (codes " ") more
-    → Some pairs ≡ pairs_read (skip_blanks text) → AreRead pairs values → Some values ≡ pairs_form_read more
+    → Some pairs ≡ pairs_read (skip_blanks text) → ArePairsRead pairs values → Some values ≡ pairs_form_read more
 pairs_form_of more text pairs values at read are = grind (arith, pairs_read_only)
 
 values_both : Reads (FirstFit IsPairsForm (FirstFit IsListForm (FirstFit IsRangeForm IsAnything))) fmtp_values_read

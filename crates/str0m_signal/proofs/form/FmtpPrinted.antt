@@ -1,15 +1,15 @@
 -- Printed fmtp lines have their forms: pairs, `apt=N`, `N/N` and `0-N`.
-use Rattle.str0m_formats.proofs.{parsed, IsSolid, solid_lacks}
-use Rattle.str0m_formats.specs.format.FormatParamReading.{param_of}
-use Rattle.str0m_formats.specs.format.Pairs.{has_mark}
+use Rattle.str0m_formats.proofs.{param_parsed, IsSolid, solid_lacks}
+use Rattle.str0m_formats.specs.format.FormatParamReading.{param_of_pair}
+use Rattle.str0m_formats.specs.format.Pairs.{has_triple_mark}
 use Rattle.str0m_formats.specs.format.PairsReading.{params_read}
 use Rattle.str0m_sdp.specs.declared.label.TheConstants as label
 use Rattle.str0m_signal.proofs.Common.{◌≡◌, ◌≤◌, ℕ, List, [], ◌∷◌, ◌++◌, map, filter, length, length-append, refl, sym, ap, ◌∙◌, subst}
 use Rattle.str0m_signal.proofs.Common.{arith, lit<, lit≤, inl, inr, codes, AllByRecursion, join_with_byte, join_by, decimal, IsNumeral}
 use Rattle.str0m_signal.proofs.Common.{digits_value, lt-ltb, decimal_is_IsNumeral, decimal_nonempty, append_assoc, append-nil, FirstFit}
 use Rattle.str0m_signal.proofs.Common.{Lacks, IsRest, IsNum, param_text, FormatParam, BareRange, BarePtList, Apt, pairs_read_is}
-use Rattle.str0m_signal.proofs.Common.{IsSolidPair, joined_pair, media_attribute_text, is_shown, shown_line, attribute_line, Fmtp}
-use Rattle.str0m_signal.proofs.Common.{address_lacks_both, decimal_solid, parsed_printed}
+use Rattle.str0m_signal.proofs.Common.{IsSolidPair, shown_joined_pair, media_attribute_text, is_shown, shown_line, attribute_line, Fmtp}
+use Rattle.str0m_signal.proofs.Common.{address_lacks_both, shown_decimal_solid, printed_param_parsed}
 use Rattle.str0m_signal.proofs.form.FmtpLaws.{key_starts}
 use Rattle.str0m_signal.proofs.session.AttributesPrinted.{HoldsNoEnd, no_ends, no_end, num_is, decimal_lacks, decimal_no_end}
 use Rattle.str0m_signal.proofs.session.AttributesPrinted.{attribute_printed}
@@ -109,30 +109,30 @@ value_is : (pair : List ℕ × List ℕ) → IsSolidPair pair → IsValue pair.1
 value_is pair h = (h.3, solid_lacks 59 pair.1 refl h.1, solid_lacks 32 pair.1 refl h.1, solid_lacks 9 pair.1 refl h.1)
 
 starts_joined : (q : List ℕ × List ℕ) (qs : List (List ℕ × List ℕ)) → IsSolidPair q
-    → StartsUnblank (join_with_byte 59 (map joined_pair (q ∷ qs)))
+    → StartsUnblank (join_with_byte 59 (map shown_joined_pair (q ∷ qs)))
 starts_joined q [] h = key_starts q.0 (61 ∷ q.1) (solid_key q h)
 starts_joined q (r ∷ qs) h =
-    rw (append_assoc q.0 (61 ∷ q.1) (59 ∷ join_with_byte 59 (map joined_pair (r ∷ qs))))
-    (key_starts q.0 ((61 ∷ q.1) ++ (59 ∷ join_with_byte 59 (map joined_pair (r ∷ qs)))) (solid_key q h))
+    rw (append_assoc q.0 (61 ∷ q.1) (59 ∷ join_with_byte 59 (map shown_joined_pair (r ∷ qs))))
+    (key_starts q.0 ((61 ∷ q.1) ++ (59 ∷ join_with_byte 59 (map shown_joined_pair (r ∷ qs)))) (solid_key q h))
 
 -- solid pairs, joined, are read as these pairs
 pub are_pairs : (p : List ℕ × List ℕ) (ps : List (List ℕ × List ℕ)) → AllByRecursion IsSolidPair (p ∷ ps)
-    → ArePairs (join_with_byte 59 (map joined_pair (p ∷ ps))) (p ∷ ps)
+    → ArePairs (join_with_byte 59 (map shown_joined_pair (p ∷ ps))) (p ∷ ps)
 are_pairs p [] h = ([], [], ap (λ (t : List ℕ). p.0 ++ (61 ∷ t)) (sym (append-nil p.1)), solid_key p h.0, value_is p h.0, tt, inl refl)
 are_pairs p (q ∷ qs) h = grind (arith, append_assoc, solid_key, value_is, starts_joined, are_pairs q qs h.1)
 
 pub pairs_are : (p : List ℕ × List ℕ) (ps : List (List ℕ × List ℕ)) → AllByRecursion IsSolidPair (p ∷ ps)
-    → FmtpValues (codes " " ++ join_with_byte 59 (map joined_pair (p ∷ ps))) (params_read (p ∷ ps))
-pairs_are p ps h = inl ([], join_with_byte 59 (map joined_pair (p ∷ ps)), p ∷ ps, refl, tt, are_pairs p ps h, pairs_read_is (p ∷ ps))
+    → FmtpValues (codes " " ++ join_with_byte 59 (map shown_joined_pair (p ∷ ps))) (params_read (p ∷ ps))
+pairs_are p ps h = inl ([], join_with_byte 59 (map shown_joined_pair (p ∷ ps)), p ∷ ps, refl, tt, are_pairs p ps h, pairs_read_is (p ∷ ps))
 
 solid_no_end : (text : List ℕ) → IsSolid text → HoldsNoEnd text
 solid_no_end text h = (solid_lacks 10 text refl h, solid_lacks 13 text refl h)
 
-pair_no_end : (pair : List ℕ × List ℕ) → IsSolidPair pair → HoldsNoEnd (joined_pair pair)
+pair_no_end : (pair : List ℕ × List ℕ) → IsSolidPair pair → HoldsNoEnd (shown_joined_pair pair)
 pair_no_end pair h = grind (arith, no_ends, solid_no_end, no_end)
 
 pub pairs_no_end : (p : List ℕ × List ℕ) (ps : List (List ℕ × List ℕ)) → AllByRecursion IsSolidPair (p ∷ ps)
-    → HoldsNoEnd (join_with_byte 59 (map joined_pair (p ∷ ps)))
+    → HoldsNoEnd (join_with_byte 59 (map shown_joined_pair (p ∷ ps)))
 pairs_no_end p [] h = pair_no_end p h.0
 pairs_no_end p (q ∷ qs) h = grind (arith, no_ends, pair_no_end, no_end, pairs_no_end q qs h.1)
 
@@ -142,13 +142,14 @@ abbrev pub apt_pair : ℕ → List ℕ × List ℕ
 apt_pair n = (codes "apt", decimal n)
 
 apt_solid : (n : ℕ) → n ≤ 255 → IsSolidPair (apt_pair n)
-apt_solid n small = ((refl, (refl, (refl, tt))), decimal_solid n (omega arith), lit< tt, decimal_nonempty n (omega arith))
+apt_solid n small = ((refl, (refl, (refl, tt))), shown_decimal_solid n (omega arith), lit< tt, decimal_nonempty n (omega arith))
 
 apt_read : (n : ℕ) → n ≤ 255 → params_read (apt_pair n ∷ []) ≡ Apt n ∷ []
-unfolding params_read has_mark
+unfolding params_read has_triple_mark
 apt_read n small =
     ap (λ (p : FormatParam). p ∷ [])
-    (parsed_printed (codes "apt") (decimal n) (param_of (apt_pair n)) (parsed (codes "apt") (decimal n)) (Apt n) (refl, refl, small))
+    (printed_param_parsed (codes "apt") (decimal n) (param_of_pair (apt_pair n)) (param_parsed (codes "apt") (decimal n)) (Apt n)
+    (refl, refl, small))
 
 pub apt_value_is : (n : ℕ) → n ≤ 255 → FmtpValues (codes " " ++ (codes "apt=" ++ decimal n)) (Apt n ∷ [])
 apt_value_is n small = grind (arith, apt_read n small, pairs_are (apt_pair n) [], apt_solid n small)
@@ -210,8 +211,8 @@ range_printed pt n v text small fits =
 -- a line whose text is that of solid pairs reads as what these read as together
 pub pairs_printed : (pt : ℕ) (v : FormatParam) (vs : List FormatParam) (p : List ℕ × List ℕ) (ps : List (List ℕ × List ℕ))
     → pt ≤ 127 → AreShown (v ∷ vs)
-    → AllByRecursion IsSolidPair (p ∷ ps) → join_with_byte 59 (map param_text (v ∷ vs)) ≡ join_with_byte 59 (map joined_pair (p ∷ ps))
+    → AllByRecursion IsSolidPair (p ∷ ps) → join_with_byte 59 (map param_text (v ∷ vs)) ≡ join_with_byte 59 (map shown_joined_pair (p ∷ ps))
     → IsPrintedAs IsMediaLine (media_attribute_text (Fmtp pt (v ∷ vs))) (Fmtp pt (params_read (p ∷ ps)))
 pairs_printed pt v vs p ps small shown plain e =
-    line_values_printed pt v vs (join_with_byte 59 (map joined_pair (p ∷ ps))) (params_read (p ∷ ps)) small shown e
+    line_values_printed pt v vs (join_with_byte 59 (map shown_joined_pair (p ∷ ps))) (params_read (p ∷ ps)) small shown e
     (pairs_no_end p ps plain) (pairs_are p ps plain)

@@ -5,11 +5,11 @@ use Rattle.str0m_sdp.specs.declared.attribute.setup.Setup.{Setup as Role}
 use Rattle.str0m_sdp.specs.declared.attribute.simulcast.Simulcast.{Simulcast as TheSimulcast}
 use Rattle.str0m_sdp.specs.declared.label.TheConstants as label
 use Rattle.str0m_signal.proofs.Common.{arith, ◌≡◌, ◌⊎◌, ◌≤◌, ℕ, Bool, true, false, false≢true, List, [], ◌∷◌, ◌++◌, Option, Some, IfSome}
-use Rattle.str0m_signal.proofs.Common.{refl, ap, ◌∙◌, subst, sym, lit<, lit≤, inl, inr, codes, printed_and_read, Codec}
+use Rattle.str0m_signal.proofs.Common.{refl, ap, ◌∙◌, subst, sym, lit<, lit≤, inl, inr, codes, codec_printed_and_read, Codec}
 use Rattle.str0m_signal.proofs.Common.{media_attribute_text, is_shown, attribute_line, KeepsToLine, setup_text, MediaAttribute, Fmtp}
 use Rattle.str0m_signal.proofs.Common.{RestrictionId, SimulcastLayer, candidate_text, candidate_both, IsCandidateText, Parted}
 use Rattle.str0m_signal.proofs.Common.{IsLongestBeginning, decimal, join_by, length, ltb-true, Lacks, IsNum, is_rest, beginning_of}
-use Rattle.str0m_signal.proofs.Common.{beginning_is, beginning_only, lacks_from, num_rest_true, num_when_some, num_when_true, IsReadAs}
+use Rattle.str0m_signal.proofs.Common.{beginning_is, beginning_only, lacks_from, num_rest_true, num_when_some, num_when_true, IsReadAsCodec}
 use Rattle.str0m_signal.proofs.Common.{RtpMap}
 use Rattle.str0m_signal.proofs.Common.{Simulcast, filter, sides_text, unless_munged, Fingerprint, Setup, Mid, Candidate, SsrcGroup, Unused}
 use Rattle.str0m_signal.proofs.Common.{fingerprint_text, media_words, ActPass, SETUPS, reads_words}
@@ -243,7 +243,7 @@ other_again = any_again other_forms (laws_of OtherForm OtherAgain (λ form law. 
 -- ---- mappings, formats, and all
 
 -- what a codec's text was read as is read of its own text again
-read_codec : (text : List ℕ) (c : Codec) → IsReadAs text c → printed_and_read c ≡ c
+read_codec : (text : List ℕ) (c : Codec) → IsReadAsCodec text c → codec_printed_and_read c ≡ c
 read_codec text c h = grind arith
 
 channels_fit : (channels : Option ℕ) (text : List ℕ) → IsChannels text channels → IfSome channels (λ n. n ≤ 255)

@@ -2,7 +2,7 @@
 use Rattle.str0m_signal.proofs.Common.{◌≡◌, ℕ, suc, ◌<◌, List, [], ◌∷◌, ◌++◌, length, Option, Some, None, refl, sym, ap, subst, ◌∙◌, arith}
 use Rattle.str0m_signal.proofs.Common.{inl, inr, length-append, codes, some_pair_parts, none-some, append-nil, ◌>>=◌, cut, strip, Parted}
 use Rattle.str0m_signal.proofs.Common.{Lacks, IsPt, bind_some, some_is, cut_none, cut_at, cut_found, strip_at, strip_found, num_when_some}
-use Rattle.str0m_signal.proofs.Common.{num_number_lacks, num_rest_true, candidate_num_both, Reads, append_assoc, strip_none, Pairs}
+use Rattle.str0m_signal.proofs.Common.{num_number_lacks, num_rest_true, candidate_num_both, Reads, append_assoc, strip_none, KeyPairs}
 use Rattle.str0m_signal.proofs.form.FmtpLaws.{value_found, key_found, key_given, skips, starts_kept, key_starts}
 use Rattle.str0m_signal.proofs.form.FormLaws.{two_both}
 use Rattle.str0m_signal.proofs.form.SimulcastLaws.{name_from, name_true, parted_lacks}
@@ -100,22 +100,22 @@ restriction_shorter text pair more e = grind (arith, restriction_found text pair
 
 -- ---- restrictions
 
-found_parted : (pairs : Pairs) (text : List ℕ) → OneByOne Stands text pairs → Parted 59 IsRestriction text pairs
+found_parted : (pairs : KeyPairs) (text : List ℕ) → OneByOne Stands text pairs → Parted 59 IsRestriction text pairs
 found_parted [] text h = h
 found_parted (p ∷ []) text h = h
 found_parted (p ∷ (q ∷ qs)) text h = (h.1.0, h.0, h.1.1, h.1.2, found_parted (q ∷ qs) h.0 h.2)
 
-parted_stands : (pairs : Pairs) (text : List ℕ) → Parted 59 IsRestriction text pairs → OneByOne Stands text pairs
+parted_stands : (pairs : KeyPairs) (text : List ℕ) → Parted 59 IsRestriction text pairs → OneByOne Stands text pairs
 parted_stands [] text h = h
 parted_stands (p ∷ []) text h = h
 parted_stands (p ∷ (q ∷ qs)) text h = (h.1, (h.0, h.2, h.3), parted_stands (q ∷ qs) h.1 h.4)
 
-restrictions_found : (text : List ℕ) (pairs : Pairs) → restrictions_read text ≡ Some pairs → Parted 59 IsRestriction text pairs
+restrictions_found : (text : List ℕ) (pairs : KeyPairs) → restrictions_read text ≡ Some pairs → Parted 59 IsRestriction text pairs
 restrictions_found text pairs e =
     found_parted pairs text (all_found restriction_read restriction_shorter Stands restriction_found restriction_given (suc (length text))
     text pairs e)
 
-restrictions_given : (text : List ℕ) (pairs : Pairs) → Parted 59 IsRestriction text pairs → restrictions_read text ≡ Some pairs
+restrictions_given : (text : List ℕ) (pairs : KeyPairs) → Parted 59 IsRestriction text pairs → restrictions_read text ≡ Some pairs
 restrictions_given text pairs h =
     all_given restriction_read restriction_shorter Stands restriction_found restriction_given pairs (suc (length text)) text
     (parted_stands pairs text h) (omega arith)
@@ -127,17 +127,17 @@ none_restrict = refl
 restricted_both : Reads AreRestrictions restricted_read
 restricted_both = record { sound = found; complete = given }
   where
-    some_of : (text : List ℕ) (pairs : Pairs) → Parted 59 IsRestriction text pairs → AreRestrictions text pairs
+    some_of : (text : List ℕ) (pairs : KeyPairs) → Parted 59 IsRestriction text pairs → AreRestrictions text pairs
     some_of text [] h = absurd h
     some_of text (p ∷ ps) h = h
 
-    found : (text : List ℕ) (pairs : Pairs) → restricted_read text ≡ Some pairs → AreRestrictions text pairs
+    found : (text : List ℕ) (pairs : KeyPairs) → restricted_read text ≡ Some pairs → AreRestrictions text pairs
     found [] pairs e = subst (AreRestrictions []) (some_is [] pairs e) refl
     found (x ∷ xs) pairs e =
         let e' : restrictions_read (x ∷ xs) ≡ Some pairs = rw (num_rest_true (x ∷ xs) (omega arith)) at e in
         some_of (x ∷ xs) pairs (restrictions_found (x ∷ xs) pairs e')
 
-    given : (text : List ℕ) (pairs : Pairs) → AreRestrictions text pairs → restricted_read text ≡ Some pairs
+    given : (text : List ℕ) (pairs : KeyPairs) → AreRestrictions text pairs → restricted_read text ≡ Some pairs
     given text [] h = rw h refl
     given [] (p ∷ ps) h = absurd (none-some (p ∷ ps) (sym none_restrict ∙ restrictions_given [] (p ∷ ps) h))
     given (x ∷ xs) (p ∷ ps) h = rw (num_rest_true (x ∷ xs) (omega arith)) (restrictions_given (x ∷ xs) (p ∷ ps) h)
@@ -153,7 +153,7 @@ types_semicolon text types h = grind (arith, parted_lacks, num_number_lacks)
 
 -- ---- the lists
 
-typed_found : (text : List ℕ) (lists : List ℕ × Pairs) (o : Option (List ℕ × List ℕ)) → cut 59 text ≡ o → typed_after text o ≡ Some lists
+typed_found : (text : List ℕ) (lists : List ℕ × KeyPairs) (o : Option (List ℕ × List ℕ)) → cut 59 text ≡ o → typed_after text o ≡ Some lists
     → AreTyped text lists
 typed_found text lists None is e = grind (arith, bind_some, some_is, pts_both)
 typed_found text lists (Some p) is e =
@@ -165,7 +165,7 @@ typed_found text lists (Some p) is e =
 typed_both : Reads AreTyped typed_read
 typed_both = grind (arith, typed_found, cut_none, types_semicolon, pts_both, cut_at, restricted_both)
 
-lists_found : (text : List ℕ) (lists : List ℕ × Pairs) (o : Option (List ℕ)) → strip (codes "pt=") text ≡ o
+lists_found : (text : List ℕ) (lists : List ℕ × KeyPairs) (o : Option (List ℕ)) → strip (codes "pt=") text ≡ o
     → lists_after text o ≡ Some lists → AreLists text lists
 lists_found text lists None is e = grind (arith, bind_some, none-some, strip_at, some_is, restricted_both)
 lists_found text lists (Some typed) is e = inl (typed, strip_found (codes "pt=") text typed is, typed_both.sound typed lists e)
@@ -181,7 +181,7 @@ lists_both = record {
       ];
 }
 
-more_found : (text : List ℕ) (lists : List ℕ × Pairs) → more_read text ≡ Some lists → IsMore text lists
+more_found : (text : List ℕ) (lists : List ℕ × KeyPairs) → more_read text ≡ Some lists → IsMore text lists
 more_found text lists e = grind (arith, some_is, num_rest_true, bind_some, strip_found, lists_both)
 
 more_both : Reads IsMore more_read
@@ -189,7 +189,7 @@ more_both = record {
   sound = more_found;
   complete = λ text lists h.
       elim h [
-        | inl k ↦ rw k.0 (ap (λ (l : List ℕ × Pairs). Some l) (sym k.1))
+        | inl k ↦ rw k.0 (ap (λ (l : List ℕ × KeyPairs). Some l) (sym k.1))
         | inr k ↦ ap more_read k.1 ∙ rw (num_rest_true (32 ∷ k.0) (omega arith)) (lists_both.complete k.0 lists k.2)
       ];
 }

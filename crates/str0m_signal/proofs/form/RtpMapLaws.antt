@@ -5,7 +5,8 @@ use Rattle.str0m_signal.proofs.Common.{◌≡◌, ℕ, ◌<◌, List, ◌∷◌,
 use Rattle.str0m_signal.proofs.Common.{lt-ltb, append-nil, some_pair_parts, Lacks, IsNum, ◌>>=◌, cut, strip, when, is_rest, num, cut_none}
 use Rattle.str0m_signal.proofs.Common.{cut_none_lacks, cut_at, cut_found, strip_found, num_when_some, num_found, num_reads}
 use Rattle.str0m_signal.proofs.Common.{num_number_lacks}
-use Rattle.str0m_signal.proofs.Common.{num_rest_true, bind_some, some_is, Codec, codec_of, read_as, Reads, IsReadAs, IsWithout, read_only}
+use Rattle.str0m_signal.proofs.Common.{num_rest_true, bind_some, some_is, Codec, codec_of, codec_read_as, Reads, IsReadAsCodec, IsWithout}
+use Rattle.str0m_signal.proofs.Common.{codec_read_only}
 use Rattle.str0m_signal.specs.form.RtpMap.{IsChannels, IsRtpMap}
 use Rattle.str0m_signal.specs.form.RtpMapReading.{frequency_read, clock_read, mapping_read, rtpmap_fields_read}
 
@@ -77,7 +78,11 @@ rtpmap_found text fields e =
       joined = head ∙ ap (λ (t : List ℕ). label.RTPMAP.now ++ t) (cut_at_space.0
           ∙ ap (λ (t : List ℕ). b.0.0 ++ (32 ∷ t)) (codec.0 ∙ ap (λ (t : List ℕ). c.0.0 ++ (47 ∷ t)) clock.joined));
       number_is = num_found 127 b.0.0 n.0 n.1;
-      codec_is = ((ltb-true 0 (length c.0.0) name.0, codec.1), subst (λ (t : List ℕ). IsReadAs c.0.0 (codec_of t)) name.1 (read_as c.0.0));
+      codec_is = (
+        (ltb-true 0 (length c.0.0) name.0, codec.1),
+        subst (λ (t : List ℕ). IsReadAsCodec c.0.0 (codec_of t)) name.1
+            (codec_read_as c.0.0),
+      );
       clock_is = clock.number_is;
       channels_is = clock.more_is;
     } in
@@ -93,7 +98,7 @@ rtpmap_given text fields h =
       cut_at 47 h.codec,
       cut_at 32 h.number,
       num_rest_true h.codec h.codec_is.0.0,
-      read_only h.codec,
+      codec_read_only h.codec,
       num_reads 127 h.number,
     )
 

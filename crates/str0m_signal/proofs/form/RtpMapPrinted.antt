@@ -4,8 +4,8 @@ use Rattle.str0m_formats.specs.declared.codec.Codec.TheVariants as codec
 use Rattle.str0m_sdp.specs.declared.attribute.rtp_map.RtpMap.{RtpMap as Mapping}
 use Rattle.str0m_sdp.specs.declared.label.TheConstants as label
 use Rattle.str0m_signal.proofs.Common.{◌≡◌, ◌<◌, ◌≤◌, ℕ, List, ◌++◌, Option, Some, None, IfSome, refl, subst, arith, lit<, lit≤, inl, inr}
-use Rattle.str0m_signal.proofs.Common.{codes, decimal, decimal_nonempty, Lacks, IsRest, IsPt, printed_and_read, Codec, read_as}
-use Rattle.str0m_signal.proofs.Common.{media_attribute_text, RtcpFb, channels_text, rtp_map_text, RtpMap, codec_text, IsReadAs}
+use Rattle.str0m_signal.proofs.Common.{codes, decimal, decimal_nonempty, Lacks, IsRest, IsPt, codec_printed_and_read, Codec, codec_read_as}
+use Rattle.str0m_signal.proofs.Common.{media_attribute_text, RtcpFb, channels_text, rtp_map_text, RtpMap, codec_text, IsReadAsCodec}
 use Rattle.str0m_signal.proofs.session.AttributesPrinted.{HoldsNoEnd, no_ends, no_end, num_is, decimal_lacks, decimal_no_end}
 use Rattle.str0m_signal.proofs.session.AttributesPrinted.{attribute_printed}
 use Rattle.str0m_signal.specs.back.Writable.{IsPrintedAs}
@@ -15,13 +15,13 @@ use Rattle.str0m_signal.specs.form.RtpMap.{IsChannels, IsRtpMap}
 
 -- ---- the name of a codec
 
-printed_codec : (c : Codec) → codec_of (codec_text c) ≡ printed_and_read c
+printed_codec : (c : Codec) → codec_of (codec_text c) ≡ codec_printed_and_read c
 unfolding codec_of
 printed_codec c = grind arith
 
 -- the name of a codec reads as it, but for Null
-pub codec_is : (c : Codec) → IsReadAs (codec_text c) (printed_and_read c)
-codec_is c = subst (IsReadAs (codec_text c)) (printed_codec c) (read_as (codec_text c))
+pub codec_is : (c : Codec) → IsReadAsCodec (codec_text c) (codec_printed_and_read c)
+codec_is c = subst (IsReadAsCodec (codec_text c)) (printed_codec c) (codec_read_as (codec_text c))
 
 pub record IsMappingName (name : List ℕ) : Type 0 where
   pub filled : IsRest name
@@ -42,7 +42,7 @@ channels_no_end channels small = grind (arith, no_ends, no_end, decimal_no_end)
 
 -- a mapping as it is read: Null by its name is Unknown
 abbrev pub mapping_as_read : Mapping → Mapping
-mapping_as_read value = record value { codec = printed_and_read value.codec }
+mapping_as_read value = record value { codec = codec_printed_and_read value.codec }
 
 -- numbers as an rtpmap line holds them
 pub record KeepsToMapping (value : Mapping) : Type 0 where

@@ -1,15 +1,15 @@
 -- Pairs that stand one after the other are read one by one, exactly where each stands.
 use Rattle.str0m_signal.proofs.Common.{◌≡◌, ℕ, zero, suc, ◌<◌, List, [], ◌∷◌, length, Option, Some, None, refl, subst, arith, ◌>>=◌}
-use Rattle.str0m_signal.proofs.Common.{bind_some, some_is, Pairs}
+use Rattle.str0m_signal.proofs.Common.{bind_some, some_is, KeyPairs}
 use Rattle.str0m_signal.specs.form.Fmtp.{OneByOne}
 use Rattle.str0m_signal.specs.form.FmtpReading.{pairs_after, pairs_at}
 
 -- what is read of the rest of a text is in Q
-abbrev pub Left : (List ℕ → Option ((List ℕ × List ℕ) × Option (List ℕ))) → (Option Pairs → Type 0) → List ℕ → Type 0
+abbrev pub Left : (List ℕ → Option ((List ℕ × List ℕ) × Option (List ℕ))) → (Option KeyPairs → Type 0) → List ℕ → Type 0
 Left read Q rest = (k : ℕ) × (length rest < k) × Q (pairs_at read k rest)
 
 -- so are these, once this was read of it
-abbrev pub NextPair : (List ℕ → Option ((List ℕ × List ℕ) × Option (List ℕ))) → (Option Pairs → Type 0)
+abbrev pub NextPair : (List ℕ → Option ((List ℕ × List ℕ) × Option (List ℕ))) → (Option KeyPairs → Type 0)
     → Option ((List ℕ × List ℕ) × Option (List ℕ)) → Type 0
 NextPair read Q None = Q None
 NextPair read Q (Some (pair, None)) = Q (Some (pair ∷ []))
@@ -18,7 +18,7 @@ NextPair read Q (Some (pair, Some more)) = Left read (λ o. Q (o >>= λ pairs. S
 module _ (read : List ℕ → Option ((List ℕ × List ℕ) × Option (List ℕ)))
     (shorter : (text : List ℕ) (pair : List ℕ × List ℕ) (more : List ℕ) → read text ≡ Some (pair, Some more) → length more < length text)
   where
-    pair_step : (Q : Option Pairs → Type 0) (rest : List ℕ) (k : ℕ) (o : Option ((List ℕ × List ℕ) × Option (List ℕ)))
+    pair_step : (Q : Option KeyPairs → Type 0) (rest : List ℕ) (k : ℕ) (o : Option ((List ℕ × List ℕ) × Option (List ℕ)))
         → read rest ≡ o → length rest < k → Q (pairs_at read k rest) → NextPair read Q o
     unfolding pairs_at
     pair_step Q rest zero o e lt so_far = absurd (omega arith)
@@ -29,7 +29,7 @@ module _ (read : List ℕ → Option ((List ℕ × List ℕ) × Option (List ℕ
         let one : pairs_at read (suc k) rest ≡ (pairs_at read k more >>= λ pairs. Some (pair ∷ pairs)) = rw e refl in
         (k, omega (arith, shorter rest pair more e), subst Q one so_far)
 
-    pub next_of : (Q : Option Pairs → Type 0) (rest : List ℕ) (o : Option ((List ℕ × List ℕ) × Option (List ℕ))) → read rest ≡ o
+    pub next_of : (Q : Option KeyPairs → Type 0) (rest : List ℕ) (o : Option ((List ℕ × List ℕ) × Option (List ℕ))) → read rest ≡ o
         → Left read Q rest → NextPair read Q o
     next_of Q rest o e left = pair_step Q rest left.0 o e left.1 left.2
 
@@ -37,12 +37,12 @@ module _ (read : List ℕ → Option ((List ℕ × List ℕ) × Option (List ℕ
         (sound : (text : List ℕ) (pair : List ℕ × List ℕ) (next : Option (List ℕ)) → read text ≡ Some (pair, next) → F text pair next)
         (complete : (text : List ℕ) (pair : List ℕ × List ℕ) (next : Option (List ℕ)) → F text pair next → read text ≡ Some (pair, next))
       where
-        pair_more : (text : List ℕ) (p : List ℕ × List ℕ) (more : List ℕ) (qs : Pairs) → F text p (Some more) → OneByOne F more qs
+        pair_more : (text : List ℕ) (p : List ℕ × List ℕ) (more : List ℕ) (qs : KeyPairs) → F text p (Some more) → OneByOne F more qs
             → OneByOne F text (p ∷ qs)
         pair_more text p more [] h k = absurd k
         pair_more text p more (q ∷ qs) h k = (more, h, k)
 
-        pub all_found : (n : ℕ) (text : List ℕ) (pairs : Pairs) → pairs_at read n text ≡ Some pairs → OneByOne F text pairs
+        pub all_found : (n : ℕ) (text : List ℕ) (pairs : KeyPairs) → pairs_at read n text ≡ Some pairs → OneByOne F text pairs
         unfolding pairs_at
         all_found zero text pairs e = absurd cc
         all_found (suc n) text pairs e =
@@ -50,14 +50,14 @@ module _ (read : List ℕ → Option ((List ℕ × List ℕ) × Option (List ℕ
             go a.0.0 a.0.1 (sound text a.0.0 a.0.1 a.1) a.2 (all_found n)
           where
             go : (p : List ℕ × List ℕ) (next : Option (List ℕ)) → F text p next → pairs_after (pairs_at read n) p next ≡ Some pairs
-                → ((more : List ℕ) (ps : Pairs) → pairs_at read n more ≡ Some ps → OneByOne F more ps)
+                → ((more : List ℕ) (ps : KeyPairs) → pairs_at read n more ≡ Some ps → OneByOne F more ps)
                 → OneByOne F text pairs
             go p None h e again = subst (OneByOne F text) (some_is (p ∷ []) pairs e) h
             go p (Some more) h e again =
                 let b = bind_some (pairs_at read n more) (λ ps. Some (p ∷ ps)) pairs e in
                 subst (OneByOne F text) (some_is (p ∷ b.0) pairs b.2) (pair_more text p more b.0 h (again more b.0 b.1))
 
-        pub all_given : (pairs : Pairs) (n : ℕ) (text : List ℕ) → OneByOne F text pairs → length text < n
+        pub all_given : (pairs : KeyPairs) (n : ℕ) (text : List ℕ) → OneByOne F text pairs → length text < n
             → pairs_at read n text ≡ Some pairs
         unfolding pairs_at
         all_given pairs zero text h lt = absurd (omega arith)

@@ -1,7 +1,7 @@
 -- Printed attribute lines and their parts.
 use Rattle.str0m_signal.proofs.Common.{◌≡◌, ◌⊎◌, ◌≤◌, ◌<◌, ◌^◌, ℕ, true, List, [], ◌∷◌, ◌++◌, refl, sym, subst, arith, lit≤, inl, inr}
 use Rattle.str0m_signal.proofs.Common.{codes, digit_value, decimal, decimal_is_IsNumeral, lacks, Lacks, IsNum, lacks_from, num_digits_lack}
-use Rattle.str0m_signal.proofs.Common.{attribute_line, MediaAttribute, address_lacks_both, decimal_reads}
+use Rattle.str0m_signal.proofs.Common.{attribute_line, MediaAttribute, address_lacks_both, param_decimal_reads}
 use Rattle.str0m_signal.specs.back.Writable.{IsPrintedAs}
 use Rattle.str0m_signal.specs.form.FormTable.{any}
 use Rattle.str0m_signal.specs.form.MediaAttribute.{media_forms, MediaForm, IsMediaLine}
@@ -40,7 +40,7 @@ no_end text e f = (lacks_from 10 text e, lacks_from 13 text f)
 -- ---- numbers
 
 pub num_is : (limit n : ℕ) → n ≤ limit → limit < 2 ^ 64 → IsNum limit (decimal n) n
-num_is limit n small fits = decimal_reads limit n small (omega arith)
+num_is limit n small fits = param_decimal_reads limit n small (omega arith)
 
 -- digits hold no character that isn't one
 pub decimal_lacks : (c n : ℕ) → 10 ≤ digit_value c → n < 2 ^ 64 → Lacks c (decimal n)

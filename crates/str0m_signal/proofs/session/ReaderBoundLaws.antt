@@ -1,10 +1,11 @@
 -- The numbers of what was read keep to their ranges.
 use Rattle.str0m_formats.proofs.{IsKeyed, keyed_or_hidden}
-use Rattle.str0m_formats.specs.format.PairsTriple.{Texts, IsTripleParam}
+use Rattle.str0m_formats.specs.format.PairsTriple.{TripleTexts, IsTripleParam}
 use Rattle.str0m_sdp.proofs.{rows_bounded}
 use Rattle.str0m_signal.proofs.Common.{rules, ◌≡◌, ◌⊎◌, arith, param_text, ℕ, Bool, List, [], ◌∷◌, get_or, Option, Result, Ok, Err, All}
 use Rattle.str0m_signal.proofs.Common.{IfOk, inl, inr, subst, sym, MatchBool, Bor, cons_option, All-nil, FormatParam, KeepsToLine}
-use Rattle.str0m_signal.proofs.Common.{HasBoundedRows, MediaAttribute, SdpError, MediaLine, Sdp, FirstFit, IsParsed, AreParsed, AreJoined}
+use Rattle.str0m_signal.proofs.Common.{HasBoundedRows, MediaAttribute, SdpError, MediaLine, Sdp, FirstFit, IsParsedParam, AreParsedParams}
+use Rattle.str0m_signal.proofs.Common.{AreJoinedPairs}
 use Rattle.str0m_signal.proofs.Common.{merged, IsInBounds, KeepsToLines}
 use Rattle.str0m_signal.proofs.form.MediaAttributeAgain.{other_whole, other_again}
 use Rattle.str0m_signal.specs.form.Fmtp.{IsPairsForm, IsListForm, IsRangeForm, IsAnything}
@@ -20,21 +21,22 @@ use Rattle.str0m_signal.specs.session.ReaderAnswers.{Answers, unread}
 keyed_within : (param : FormatParam) → IsKeyed param ⊎ (param_text param ≡ []) → IsInBounds param
 keyed_within param h = grind arith
 
-parsed_within : (pair : List ℕ × List ℕ) (param : FormatParam) → IsParsed pair param → IsInBounds param
+parsed_within : (pair : List ℕ × List ℕ) (param : FormatParam) → IsParsedParam pair param → IsInBounds param
 parsed_within pair param is = keyed_within param (keyed_or_hidden pair param is)
 
-params_within : (pairs : List (List ℕ × List ℕ)) (params : List FormatParam) → AreParsed pairs params → All IsInBounds params
+params_within : (pairs : List (List ℕ × List ℕ)) (params : List FormatParam) → AreParsedParams pairs params → All IsInBounds params
 params_within [] [] are = All-nil IsInBounds
 params_within [] (param ∷ params) are = absurd are
 params_within (pair ∷ pairs) [] are = absurd are
 params_within (pair ∷ pairs) (param ∷ params) are = grind (arith, parsed_within pair param are.0, params_within pairs params are.1)
 
-triple_within : (texts : Texts) (triple : Option FormatParam) (rest : List FormatParam) → IsTripleParam texts triple → All IsInBounds rest
+triple_within : (texts : TripleTexts) (triple : Option FormatParam) (rest : List FormatParam) → IsTripleParam texts triple
+    → All IsInBounds rest
     → All IsInBounds (cons_option triple rest)
 triple_within texts triple rest o all = grind arith
 
 read_within : (marked : Bool) (pairs : List (List ℕ × List ℕ)) (params : List FormatParam)
-    → MatchBool marked (AreJoined (merged pairs) params) (AreParsed pairs params) → All IsInBounds params
+    → MatchBool marked (AreJoinedPairs (merged pairs) params) (AreParsedParams pairs params) → All IsInBounds params
 read_within marked pairs params are = grind (arith, triple_within, params_within)
 
 fmtp_within : (more : List ℕ) (values : List FormatParam)

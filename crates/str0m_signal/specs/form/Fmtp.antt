@@ -2,7 +2,7 @@
 use Rattle.std.specs.List.{AllByRecursion}
 use Rattle.std.specs.Prelude.{◌≡◌, ◌⊎◌, ℕ, List, [], ◌∷◌, ◌++◌, Option, Some, None, codes}
 use Rattle.str0m_formats.specs.declared.format.format_param.FormatParam.TheVariants.{BareRange, BarePtList, Unknown}
-use Rattle.str0m_formats.specs.format.Pairs.{AreRead}
+use Rattle.str0m_formats.specs.format.Pairs.{ArePairsRead}
 use Rattle.str0m_sdp.specs.declared.label.TheConstants as label
 use Rattle.str0m_signal.specs.Prelude.{FirstFit, FormatParam, IsEventRange, IsNum, IsPt, IsRest, Lacks, Parted}
 use Rattle.str0m_signal.specs.form.Forms.{Behind}
@@ -49,7 +49,7 @@ ArePairs = OneByOne IsPair
 -- SP and pairs, blanks before them
 abbrev pub IsPairsForm : List ℕ → List FormatParam → Type 0
 IsPairsForm more values = (blanks : List ℕ) × (text : List ℕ) × (pairs : List (List ℕ × List ℕ)) × (more ≡ codes " " ++ (blanks ++ text))
-    × AreBlanks blanks × ArePairs text pairs × AreRead pairs values
+    × AreBlanks blanks × ArePairs text pairs × ArePairsRead pairs values
 
 -- SP and two or more payload types, parted by `/`: the first of them (RFC 2198, section 5)
 abbrev pub IsListForm : List ℕ → List FormatParam → Type 0

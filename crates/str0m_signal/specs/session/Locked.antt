@@ -1,13 +1,13 @@
 -- The rows that rounds have locked.
 use Rattle.std.specs.Prelude.{Bool, ◌&&◌, ◌||◌, List, filter}
-use Rattle.str0m_formats.specs.row.KindRows.{is_audio, is_video, is_events}
+use Rattle.str0m_formats.specs.row.KindRows.{is_audio_row, is_video_row, is_events_row}
 use Rattle.str0m_signal.specs.Prelude.{MediaKind, PayloadParams}
 use Rattle.str0m_values.specs.declared.media_kind.MediaKind.TheVariants.{Audio, Video}
 
 -- whether sections of the kind carry what the row is of
 abbrev pub is_carried : MediaKind → PayloadParams → Bool
-is_carried Video row = is_video row
-is_carried Audio row = is_audio row || is_events row
+is_carried Video row = is_video_row row
+is_carried Audio row = is_audio_row row || is_events_row row
 
 -- the locked rows of a kind, in order
 abbrev pub locked_of_kind : MediaKind → List PayloadParams → List PayloadParams

@@ -10,7 +10,7 @@ use str0m_sdp::{MediaAttribute, RtpMap, label};
 use str0m_values::cuts::{cut, num_u8, num_u32, strip};
 use str0m_values::{Frequency, Pt, Separator};
 
-#[tactic(auto, using(str0m_formats::proofs::read_only))]
+#[tactic(auto, using(str0m_formats::proofs::codec_read_only))]
 fn codec(name: &str) -> Codec
     ensures { result ≡ codec_of name.now }
 {

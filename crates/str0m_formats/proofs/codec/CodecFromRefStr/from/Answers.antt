@@ -1,5 +1,5 @@
 use Rattle.str0m_formats.proofs.codec.CodecFromRefStr.from.Goals as goal
-use Rattle.str0m_formats.proofs.codec.CodecNames.{read_printed}
+use Rattle.str0m_formats.proofs.codec.CodecNames.{printed_codec_read}
 
 pub returns-clause-printed : goal.returns-clause-printed
-returns-clause-printed c = read_printed c.args.name.now c.named.result c.named.ensures
+returns-clause-printed c = printed_codec_read c.args.name.now c.codec_named.result c.codec_named.ensures

@@ -4,14 +4,14 @@ use Rattle.str0m_formats.proofs.Common.{rules, tests, Option, Some, None, option
 use Rattle.str0m_formats.proofs.Common.{YieldsList-at}
 use Rattle.str0m_formats.proofs.format.format_key.FormatKey.same.Goals as goal
 use Rattle.str0m_formats.specs.format.FormatKey.{key_text}
-use Rattle.str0m_formats.specs.format.FormatParamReading.{key_read}
+use Rattle.str0m_formats.specs.format.FormatParamReading.{param_key_read}
 
 mapped_itself : {A : Type 0} (o : Option A) → o ≡ option_map (λ x. x) o
 mapped_itself None = refl
 mapped_itself (Some x) = refl
 
 pub returns : goal.returns
-unfolding key_read
+unfolding param_key_read
 returns c =
     mapped_itself c.find.result
     ∙ find_from_yields_List (λ key. str_eq_ignore_ascii_case c.args.text.now (key_text key)) _ _ c.find.result c.find.ensures.ran

@@ -4,7 +4,7 @@ use Rattle.str0m_formats.proofs.format.ParamTextListed.{listed_all}
 use Rattle.str0m_formats.proofs.format.format_params.FormatParamsDisplay.fmt.Goals as goal
 use Rattle.str0m_formats.proofs.format.format_params.FormatParamsDisplay.fmt.Goals.{in-Some+in_ok-write, in_default}
 use Rattle.str0m_formats.specs.declared.format.format_params.TheConstants.{FIELDS}
-use Rattle.str0m_formats.specs.format.FormatParam.{param_text, part_if}
+use Rattle.str0m_formats.specs.format.FormatParam.{param_text, separator_if}
 
 pub loop-field-init : goal.loop-field-init
 unfolding has_some params_to listed
@@ -21,7 +21,8 @@ loop-field-preserved g c =
             λ plain.
                 let written = c.loop-field.invariant.1 plain in
                 rw w.f-is (has_written_of_eq _ _ _ _ _
-                (ap (λ b. listed 59 param_text (params_to p n) ++ (part_if 59 b ++ param_text w.in-Some.param)) c.loop-field.invariant.0
+                (ap (λ b. listed 59 param_text (params_to p n) ++ (separator_if 59 b ++ param_text w.in-Some.param))
+                c.loop-field.invariant.0
                 ∙ sym (listed_push 59 param_text (params_to p n) w.in-Some.param) ∙ sym (ap (listed 59 param_text) next))
                 (has_written_append _ _ _ _ _ _ written (w.in_ok-write.ensures.writes written.plain refl))),
           ))

@@ -13,10 +13,10 @@ returns c =
       c.or-3.ensures,
       c.or-2.ensures,
       c.or.ensures,
-      c.least_type.ensures,
-      c.least_type-2.ensures,
-      c.least_type-3.ensures,
-      c.least_type-4.ensures,
+      c.least_bit_type.ensures,
+      c.least_bit_type-2.ensures,
+      c.least_bit_type-3.ensures,
+      c.least_bit_type-4.ensures,
     )
     (free-from_masks a b _ refl c.bits.type_inv c.bits-2.type_inv) in
     all

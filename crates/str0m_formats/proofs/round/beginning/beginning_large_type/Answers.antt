@@ -1,0 +1,16 @@
+use Rattle.str0m_formats.proofs.Common.{find, nat_lt, ap, ◌∙◌, rules}
+use Rattle.str0m_formats.proofs.round.ClaimedRanges.{find-flat_map_here, find-flat_map_more}
+use Rattle.str0m_formats.proofs.round.beginning.beginning_large_type.Goals as goal
+use Rattle.str0m_formats.specs.row.PayloadParams.{types_of}
+
+pub returns-then-is_some : goal.returns-then-is_some
+returns-then-is_some c =
+    find-flat_map_here (nat_lt 127) types_of c.args.rows.now c.loop-row.row-index c.row-item.result c.beginning_large_type_of-large.result
+    c.loop-row-test.true
+    (c.beginning_large_type_of-large.ensures ∙ ap (λ r. find (nat_lt 127) (types_of r)) c.row-item.is) (search rules) ∙ c.loop-row.invariant
+
+pub loop-row-preserved : goal.loop-row-preserved
+loop-row-preserved c =
+    find-flat_map_more (nat_lt 127) types_of c.args.rows.now c.loop-row.row-index c.row-item.result c.beginning_large_type_of-large.result
+    c.loop-row-test.true
+    (c.beginning_large_type_of-large.ensures ∙ ap (λ r. find (nat_lt 127) (types_of r)) c.row-item.is) (search rules) ∙ c.loop-row.invariant
